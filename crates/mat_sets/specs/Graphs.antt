@@ -1,0 +1,33 @@
+-- Graphs whose edges or arcs are numbered, walks along them, and spanning arborescences (Schrijver, chapters 1 and 52).
+use Rattle.std.specs.Prelude.{◌≡◌, ℕ, suc, ◌<◌, ◌⊎◌, List, [], ◌∷◌, length, slice_index_or}
+use Rattle.mat_sets.specs.Sets.{IsSet, IsSubset}
+
+-- the two ends of edge e; for an arc first its tail and then its head
+abbrev pub ends_of : List (ℕ × ℕ) → ℕ → ℕ × ℕ
+ends_of edges e = slice_index_or edges e (0, 0)
+
+-- edge e has the ends v and u, in either order
+abbrev pub Joins : (ℕ → ℕ × ℕ) → ℕ → ℕ → ℕ → Type 0
+Joins ends e v u = (((ends e).0 ≡ v) × ((ends e).1 ≡ u)) ⊎ (((ends e).0 ≡ u) × ((ends e).1 ≡ v))
+
+-- a walk from v to w along these edges, one after the other, each in either direction
+abbrev pub Walk : (ℕ → ℕ × ℕ) → List ℕ → ℕ → ℕ → Type 0
+Walk ends [] v w = v ≡ w
+Walk ends (e ∷ edges) v w = (u : ℕ) × Joins ends e v u × Walk ends edges u w
+
+-- a walk from v to w along these arcs, one after the other, each from its tail to its head
+abbrev pub DirectedWalk : (ℕ → ℕ × ℕ) → List ℕ → ℕ → ℕ → Type 0
+DirectedWalk ends [] v w = v ≡ w
+DirectedWalk ends (a ∷ arcs) v w = ((ends a).0 ≡ v) × DirectedWalk ends arcs (ends a).1 w
+
+-- a directed walk from v to w along members of a set of arcs
+pub record Reaches (ends : ℕ → ℕ × ℕ) (arcs : List ℕ) (v w : ℕ) : Type 0 where
+  pub along : List ℕ
+  pub inside : IsSubset along arcs
+  pub walk : DirectedWalk ends along v w
+
+-- a spanning arborescence: one arc fewer than there are vertices, along which the root reaches each vertex
+pub record IsSpanningArborescence (vertices count : ℕ) (ends : ℕ → ℕ × ℕ) (root : ℕ) (arcs : List ℕ) : Type 0 where
+  pub set : IsSet count arcs
+  pub size : suc (length arcs) ≡ vertices
+  pub reached : (v : ℕ) → v < vertices → Reaches ends arcs root v

@@ -1,0 +1,6 @@
+pub mod Sets
+pub mod Sums
+pub mod Families
+pub mod Places
+pub mod Walks
+pub mod Graphs

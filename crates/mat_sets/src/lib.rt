@@ -1,0 +1,2 @@
+//! Sets of numbers as strictly rising lists, lists of them, and the theory of finite sets that matroids stand on.
+#![tactic(auto)]
