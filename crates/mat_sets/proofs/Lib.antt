@@ -1,0 +1,9 @@
+pub mod Members
+pub mod Sums
+pub mod Cardinalities
+pub mod Places
+pub mod Steps
+pub mod Merge
+pub mod Ground
+pub mod Search
+pub mod Exchange

@@ -1,0 +1,172 @@
+-- Members of strictly rising lists, and of the sets made of them.
+use Rattle.std.proofs.Common.{◌≡◌, ℕ, suc, ◌<◌, ◌≤◌, Bool, true, false, cond, not, ◌&&◌, ◌||◌, eqb, ltb, List, [], ◌∷◌, refl, sym, ap, ◌∙◌, subst, inl, inr, arith}
+use Rattle.std.proofs.lemmas.Bool.{lt-ltb, le-ltb, eq-eqb, ne_eqb, cases_order, cases_eq, both_ways, or_from, and_right}
+use Rattle.std.specs.List.{filter}
+use Rattle.mat_sets.specs.Sets.{is_member, RisesFrom, IsRising, rising_insert, with_one, minus, intersection, without_one, union}
+
+-- ---- order
+
+pub rises-weaken : (lo hi : ℕ) (t : List ℕ) → lo ≤ hi → RisesFrom hi t → RisesFrom lo t
+rises-weaken lo hi [] h r = tt
+rises-weaken lo hi (x ∷ t) h r = (omega arith, r.1)
+
+-- nothing below the first bound is a member
+pub is_member-below : (k lo : ℕ) (t : List ℕ) → k < lo → RisesFrom lo t → is_member k t ≡ false
+is_member-below k lo [] h r = refl
+is_member-below k lo (x ∷ t) h r =
+    let first : lo ≤ x = r.0 in
+    or_from (eqb k x) (is_member k t) (ne_eqb k x (omega arith)) (is_member-below k (suc x) t (omega arith) r.1)
+
+pub is_member-head : (x : ℕ) (t : List ℕ) → is_member x (x ∷ t) ≡ true
+is_member-head x t = rw (eq-eqb x x refl)
+
+-- ---- same members, same list
+
+-- the members but for the head
+tails_agree : (x : ℕ) (a b : List ℕ) → RisesFrom (suc x) a → RisesFrom (suc x) b → ((k : ℕ) → is_member k (x ∷ a) ≡ is_member k (x ∷ b)) → (k : ℕ) → is_member k a ≡ is_member k b
+tails_agree x a b r s e k =
+    elim (cases_eq k x) [
+      | inl same ↦ is_member-below k (suc x) a (omega arith) r ∙ sym (is_member-below k (suc x) b (omega arith) s)
+      | inr other ↦ rw (ne_eqb k x other) at (e k)
+    ]
+
+pub same_members_from : (lo hi : ℕ) (a b : List ℕ) → RisesFrom lo a → RisesFrom hi b → ((k : ℕ) → is_member k a ≡ is_member k b) → a ≡ b
+same_members_from lo hi [] [] r s e = refl
+same_members_from lo hi [] (y ∷ b) r s e = absurd (both_ways _ (sym (e y)) (is_member-head y b))
+same_members_from lo hi (x ∷ a) [] r s e = absurd (both_ways _ (e x) (is_member-head x a))
+same_members_from lo hi (x ∷ a) (y ∷ b) r s e =
+    elim (cases_order x y) [
+      | inl same ↦
+          let s' = subst (λ z. RisesFrom (suc z) b) (sym same) s.1 in
+          let e' = subst (λ z. (k : ℕ) → is_member k (x ∷ a) ≡ is_member k (z ∷ b)) (sym same) e in
+          let rest : a ≡ b = same_members_from (suc x) (suc x) a b r.1 s' (tails_agree x a b r.1 s' e') in
+          cc
+      | inr (inl less) ↦ absurd (both_ways (is_member x (y ∷ b)) (is_member-below x y (y ∷ b) less (omega arith, s.1)) (sym (e x) ∙ is_member-head x a))
+      | inr (inr more) ↦ absurd (both_ways (is_member y (x ∷ a)) (is_member-below y x (x ∷ a) more (omega arith, r.1)) (e y ∙ is_member-head y b))
+    ]
+
+pub same_members : (a b : List ℕ) → IsRising a → IsRising b → ((k : ℕ) → is_member k a ≡ is_member k b) → a ≡ b
+same_members a b r s e = same_members_from 0 0 a b r.rises s.rises e
+
+-- ---- what a filter keeps
+
+filter_step : (p : ℕ → Bool) (k x : ℕ) (t u : List ℕ) (b : Bool) → p x ≡ b → is_member k u ≡ (is_member k t && p k) → is_member k (cond b (x ∷ u) u) ≡ (is_member k (x ∷ t) && p k)
+filter_step p k x t u b e ih =
+    elim (cases_eq k x) [
+      | inl same ↦ let e' : p k ≡ b = ap p same ∙ e in rw (eq-eqb k x same, e') (filter_head k x t u b same (rw e' at ih))
+      | inr other ↦ rw (ne_eqb k x other) (filter_other k x u b other ∙ ih)
+    ]
+  where
+    filter_other : (k x : ℕ) (u : List ℕ) (b : Bool) → (k ≡ x → ⊥) → is_member k (cond b (x ∷ u) u) ≡ is_member k u
+    filter_other k x u true other = rw (ne_eqb k x other)
+    filter_other k x u false other = refl
+
+    filter_head : (k x : ℕ) (t u : List ℕ) (b : Bool) → k ≡ x → is_member k u ≡ (is_member k t && b) → is_member k (cond b (x ∷ u) u) ≡ b
+    filter_head k x t u true same ih = rw (eq-eqb k x same)
+    filter_head k x t u false same ih = ih ∙ and_right (is_member k t) false refl
+
+pub is_member-filter : (p : ℕ → Bool) (k : ℕ) (t : List ℕ) → is_member k (filter p t) ≡ (is_member k t && p k)
+is_member-filter p k [] = refl
+is_member-filter p k (x ∷ t) = filter_step p k x t (filter p t) (p x) refl (is_member-filter p k t)
+
+pub rises-filter : (p : ℕ → Bool) (lo : ℕ) (t : List ℕ) → RisesFrom lo t → RisesFrom lo (filter p t)
+rises-filter p lo [] r = tt
+rises-filter p lo (x ∷ t) r =
+    elim (p x) as (λ b. RisesFrom lo (cond b (x ∷ filter p t) (filter p t))) [
+      | true ↦ (r.0, rises-filter p (suc x) t r.1)
+      | false ↦ rises-filter p lo t (rises-weaken lo (suc x) t (omega arith) r.1)
+    ]
+
+-- ---- one more
+
+add_step : (k x y : ℕ) (t u : List ℕ) → is_member k u ≡ (eqb k x || is_member k t) → is_member k (cond (ltb x y) (x ∷ y ∷ t) (y ∷ cond (eqb x y) t u)) ≡ (eqb k x || is_member k (y ∷ t))
+add_step k x y t u ih =
+    elim (cases_order x y) [
+      | inl same ↦ rw (le-ltb x y (omega arith), eq-eqb x y same) (sym (or_same k x y (is_member k t) same))
+      | inr (inl less) ↦ rw (lt-ltb x y less)
+      | inr (inr more) ↦ rw (le-ltb x y (omega arith), ne_eqb x y (omega arith), ih) (or_swap (eqb k y) (eqb k x) (is_member k t))
+    ]
+  where
+    or_swap : (a b c : Bool) → (a || (b || c)) ≡ (b || (a || c))
+    or_swap true true c = refl
+    or_swap true false c = refl
+    or_swap false true c = refl
+    or_swap false false c = refl
+
+    or_same : (k x y : ℕ) (c : Bool) → x ≡ y → (eqb k x || (eqb k y || c)) ≡ (eqb k y || c)
+    or_same k x y c same = rw same (or_twice (eqb k y) c)
+      where
+        or_twice : (a c : Bool) → (a || (a || c)) ≡ (a || c)
+        or_twice true c = refl
+        or_twice false c = refl
+
+pub is_member-rising_insert : (k x : ℕ) (t : List ℕ) → is_member k (rising_insert x t) ≡ (eqb k x || is_member k t)
+is_member-rising_insert k x [] = refl
+is_member-rising_insert k x (y ∷ t) = add_step k x y t (rising_insert x t) (is_member-rising_insert k x t)
+
+pub rises-rising_insert : (x lo : ℕ) (t : List ℕ) → lo ≤ x → RisesFrom lo t → RisesFrom lo (rising_insert x t)
+rises-rising_insert x lo [] h r = (h, tt)
+rises-rising_insert x lo (y ∷ t) h r =
+    elim (cases_order x y) [
+      | inl same ↦ rw (le-ltb x y (omega arith), eq-eqb x y same) r
+      | inr (inl less) ↦ rw (lt-ltb x y less) (h, (omega arith, r.1))
+      | inr (inr more) ↦ rw (le-ltb x y (omega arith), ne_eqb x y (omega arith)) (r.0, rises-rising_insert x (suc y) t (omega arith) r.1)
+    ]
+
+-- ---- the operations
+
+pub is_member-with_one : (k x : ℕ) (a : List ℕ) → is_member k (with_one a x) ≡ (eqb k x || is_member k a)
+unfolding with_one
+is_member-with_one k x a = is_member-rising_insert k x a
+
+pub is_member-without_one : (k x : ℕ) (a : List ℕ) → is_member k (without_one a x) ≡ (is_member k a && not (eqb k x))
+unfolding without_one
+is_member-without_one k x a = is_member-filter (λ z. not (eqb z x)) k a
+
+pub is_member-minus : (k : ℕ) (a b : List ℕ) → is_member k (minus a b) ≡ (is_member k a && not (is_member k b))
+unfolding minus
+is_member-minus k a b = is_member-filter (λ z. not (is_member z b)) k a
+
+pub is_member-intersection : (k : ℕ) (a b : List ℕ) → is_member k (intersection a b) ≡ (is_member k a && is_member k b)
+unfolding intersection
+is_member-intersection k a b = is_member-filter (λ z. is_member z b) k a
+
+pub is_member-union : (k : ℕ) (a b : List ℕ) → is_member k (union a b) ≡ (is_member k a || is_member k b)
+unfolding union
+is_member-union k [] b = refl
+is_member-union k (x ∷ t) b = rw (is_member-rising_insert k x (union t b), is_member-union k t b) (or_assoc (eqb k x) (is_member k t) (is_member k b))
+  where
+    or_assoc : (a b c : Bool) → (a || (b || c)) ≡ ((a || b) || c)
+    or_assoc true b c = refl
+    or_assoc false b c = refl
+
+pub ruleset set_mem = (is_member-with_one, is_member-without_one, is_member-minus, is_member-intersection, is_member-union)
+
+pub IsRising-nil : IsRising []
+IsRising-nil = record { rises = tt }
+
+pub IsRising-with_one : (a : List ℕ) (x : ℕ) → IsRising a → IsRising (with_one a x)
+unfolding with_one
+IsRising-with_one a x r = record { rises = rises-rising_insert x 0 a (omega arith) r.rises }
+
+pub IsRising-without_one : (a : List ℕ) (x : ℕ) → IsRising a → IsRising (without_one a x)
+unfolding without_one
+IsRising-without_one a x r = record { rises = rises-filter (λ z. not (eqb z x)) 0 a r.rises }
+
+pub IsRising-minus : (a b : List ℕ) → IsRising a → IsRising (minus a b)
+unfolding minus
+IsRising-minus a b r = record { rises = rises-filter (λ z. not (is_member z b)) 0 a r.rises }
+
+pub IsRising-intersection : (a b : List ℕ) → IsRising a → IsRising (intersection a b)
+unfolding intersection
+IsRising-intersection a b r = record { rises = rises-filter (λ z. is_member z b) 0 a r.rises }
+
+rises-union : (a b : List ℕ) → RisesFrom 0 b → RisesFrom 0 (union a b)
+unfolding union
+rises-union [] b r = r
+rises-union (x ∷ t) b r = rises-rising_insert x 0 (union t b) (omega arith) (rises-union t b r)
+
+pub IsRising-union : (a b : List ℕ) → IsRising b → IsRising (union a b)
+IsRising-union a b r = record { rises = rises-union a b r.rises }
+
+pub ruleset set_rises = (IsRising-nil, IsRising-with_one, IsRising-without_one, IsRising-minus, IsRising-intersection, IsRising-union)
