@@ -7,3 +7,4 @@ pub mod Merge
 pub mod Ground
 pub mod Search
 pub mod Exchange
+pub mod SetTests

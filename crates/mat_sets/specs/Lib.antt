@@ -4,3 +4,5 @@ pub mod Families
 pub mod Places
 pub mod Walks
 pub mod Graphs
+pub mod Search
+pub mod SetTests

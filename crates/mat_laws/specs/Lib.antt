@@ -1,0 +1,4 @@
+pub mod Matroids
+pub mod Ranks
+pub mod Heaviest
+pub mod Ladders

@@ -1,0 +1,6 @@
+//! The trait of matroids with its laws, and what follows from them.
+#![tactic(auto)]
+
+mod matroid;
+
+pub use matroid::Matroid;
