@@ -1,0 +1,5 @@
+pub mod CommandLines
+pub mod Answers
+pub mod Outcomes
+pub mod Commands
+pub mod Moves
