@@ -1,6 +1,6 @@
 //! Numbers as words.
 
-ghost use Rattle.std.specs.Prelude.{◌≡◌, ◌≤◌, ◌+◌, ◌-◌, ◌*◌, ◌<◌, ◌^◌, ◌++◌, min, Some, None, Ok, if◌then◌else◌, OnOk, OnErr, IfSome, IsTrue, pos, neg_ℤ, drop, List, ℕ, ℤ, IfOk, ◌≤ℤ◌};
+ghost use Rattle.std.specs.Prelude.{◌≡◌, ◌≤◌, ◌+◌, ◌-◌, ◌*◌, ◌<◌, ◌↔◌, ◌^◌, ◌++◌, min, Some, None, Ok, if◌then◌else◌, OnOk, OnErr, IfSome, IsTrue, pos, neg_ℤ, drop, List, ℕ, ℤ, IfOk, ◌≤ℤ◌};
 ghost use Rattle.mat_words.specs.Numbers.{numeral, decimal, is_counting, value_of, number_in, in_range, number_of, magnitude_bound};
 ghost use Rattle.mat_words.specs.Words.{is_word};
 
@@ -185,4 +185,58 @@ pub fn number_laws()
     ensures spelled { (word : List ℕ) (z : ℤ) → number_of word ≡ Some z → word ≡ numeral z }
     ensures read { (z : ℤ) → number_of (numeral z) ≡ Some z }
     ensures word { (z : ℤ) → IsTrue (is_word (numeral z)) }
+    // A word is read as a number in a range exactly where it is its spelling and the range holds it.
+    ensures exact {
+        (low : ℤ) (high : ℤ) (z : ℤ) (word : List ℕ)
+            → (number_in low high word ≡ Ok z) ↔ ((word ≡ numeral z) × (low ≤ℤ z) × (z ≤ℤ high))
+    }
 {}
+
+#[cfg(test)]
+mod tests {
+    use super::*;
+    use std::test::Fail;
+
+    #[test]
+    fn spells_numbers(rt: HostRuntime) -> Result<(), Fail> {
+        let cases: [(i128, &[u8]); 7] = [
+            (0, b"0"),
+            (-1, b"-1"),
+            (1000000000000, b"1000000000000"),
+            (18446744073709551615, b"18446744073709551615"),
+            (18446744073709551616, b"18446744073709551616"),
+            (i128::MAX, b"170141183460469231731687303715884105727"),
+            (i128::MIN, b"-170141183460469231731687303715884105728"),
+        ];
+        for (n, want) in cases {
+            let mut out = Vec::new(rt.alloc());
+            out.push(b'>')?;
+            put_number(&mut out, n)?;
+            assert_eq!(rt; out.len(), want.len() + 1, "at {n}");
+            assert!(rt; out.as_slice() == [b">".as_slice(), want].concat(rt.alloc())?.as_slice(), "at {n}");
+            assert_eq!(rt; read_number(want, i128::MIN, i128::MAX), Ok(n));
+        }
+        Ok(())
+    }
+
+    #[test]
+    fn reads_numbers(rt: HostRuntime) {
+        let misspelled: [&[u8]; 9] = [b"00", b"01", b"+1", b"-0", b"-", b"", b"12x", b"--1", b" 1"];
+        for word in misspelled {
+            assert_eq!(rt; read_number(word, -5, 5), Err(NumberFault::Spelling));
+        }
+        let outside: [&[u8]; 5] = [
+            b"6",
+            b"-6",
+            b"123456789012345678901234567890123456789012345678901234567890",
+            b"-123456789012345678901234567890123456789012345678901234567890",
+            b"340282366920938463463374607431768211457",
+        ];
+        for word in outside {
+            assert_eq!(rt; read_number(word, -5, 5), Err(NumberFault::Range));
+        }
+        assert_eq!(rt; read_number(b"5", -5, 5), Ok(5));
+        assert_eq!(rt; read_number(b"-5", -5, 5), Ok(-5));
+        assert_eq!(rt; read_number(b"0", -5, 5), Ok(0));
+    }
+}
