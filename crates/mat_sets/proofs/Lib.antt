@@ -1,9 +1,8 @@
 pub mod Members
 pub mod Sums
 pub mod Cardinalities
-pub mod Places
-pub mod Steps
-pub mod Merge
+pub mod Subsets
 pub mod Ground
+pub mod Steps
 pub mod Search
-pub mod Exchange
+pub mod Places
