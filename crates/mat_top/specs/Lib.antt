@@ -3,3 +3,4 @@ pub mod Answers
 pub mod Outcomes
 pub mod Commands
 pub mod Moves
+pub mod Refusals
