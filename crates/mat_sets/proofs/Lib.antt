@@ -5,4 +5,5 @@ pub mod Subsets
 pub mod Ground
 pub mod Steps
 pub mod Search
+pub mod Decisions
 pub mod Places

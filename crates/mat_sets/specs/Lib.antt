@@ -2,5 +2,6 @@ pub mod Sets
 pub mod Sums
 pub mod Families
 pub mod Places
+pub mod Search
 pub mod Walks
 pub mod Graphs
