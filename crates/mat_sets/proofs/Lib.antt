@@ -7,3 +7,5 @@ pub mod Steps
 pub mod Search
 pub mod Decisions
 pub mod Places
+pub mod Levels
+pub mod Reach
