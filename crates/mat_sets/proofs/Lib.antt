@@ -6,4 +6,7 @@ pub mod Ground
 pub mod Steps
 pub mod Search
 pub mod SetTests
+pub mod Decisions
 pub mod Places
+pub mod Levels
+pub mod Reach

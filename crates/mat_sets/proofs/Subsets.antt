@@ -88,3 +88,6 @@ same_size_subset a b r s h l =
           let grown : IsSubset (with_one a found.0) b = record { inside = λ k m. let f = found.1 in grind (arith, set_members, h.inside k) } in
           absurd (omega (arith, length-with_one a found.0 r found.2, length-subset _ b (IsRising-with_one a found.0 r) s grown))
     ]
+
+pub subsets_equal : (a b : List ℕ) → IsRising a → IsRising b → IsSubset a b → IsSubset b a → a ≡ b
+subsets_equal a b r s h g = same_members a b r s (λ k. grind (arith, h.inside k, g.inside k))

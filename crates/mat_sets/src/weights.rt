@@ -1,6 +1,10 @@
 //! Weights of elements, and the weight of a set.
 ghost use Rattle.std.specs.Prelude.{◌≡◌, ◌<◌, ◌≤◌, ◌^◌, length, slice_index_or, pos, ◌≤ℤ◌, neg_ℤ};
+ghost use Rattle.std.proofs.Common.{rules};
+ghost use Rattle.std.specs.Cmp.Lexicographic.{pointwise};
+ghost use Rattle.std.specs.Cmp.Rules.{comparing};
 ghost use Rattle.std.specs.List.{All};
+ghost use Rattle.std.specs.Ordering.{int_eq};
 ghost use Rattle.mat_sets.specs.Sets.{AllBelow, IsRising};
 ghost use Rattle.mat_sets.specs.Sums.{weight};
 
@@ -19,6 +23,20 @@ impl Model for Weights {
     ghost Value = { List ℤ };
 
     ghost view = { λ a. a.items.items };
+}
+
+impl PartialEq for Weights {
+    ghost eq = { pointwise int_eq };
+
+    ghost laws = { Prim.search (comparing, rules) };
+
+    fn eq(&self, other: &Weights) -> bool {
+        self.items.as_slice() == other.items.as_slice()
+    }
+}
+
+impl Eq for Weights {
+    ghost laws = { Prim.search (comparing, rules) };
 }
 
 impl Weights {
