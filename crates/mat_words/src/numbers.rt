@@ -186,36 +186,39 @@ pub fn number_laws()
     ensures read { (z : ℤ) → number_of (numeral z) ≡ Some z }
     ensures word { (z : ℤ) → IsTrue (is_word (numeral z)) }
     // A word is read as a number in a range exactly where it is its spelling and the range holds it.
-    ensures exact {
-        (low : ℤ) (high : ℤ) (z : ℤ) (word : List ℕ)
-            → (number_in low high word ≡ Ok z) ↔ ((word ≡ numeral z) × (low ≤ℤ z) × (z ≤ℤ high))
-    }
+    ensures exact { (low : ℤ) (high : ℤ) (z : ℤ) (word : List ℕ)
+        → (number_in low high word ≡ Ok z) ↔ ((word ≡ numeral z) × (low ≤ℤ z) × (z ≤ℤ high)) }
 {}
 
 #[cfg(test)]
 mod tests {
     use super::*;
+    use std::alloc::Global;
     use std::test::Fail;
+
+    // The spelling of a number, behind what a text has already.
+    fn marked(alloc: Global, n: i128) -> Result<Vec<u8>, AllocError> {
+        let mut out = b"> ".to_vec(alloc)?;
+        put_number(&mut out, n)?;
+        Ok(out)
+    }
 
     #[test]
     fn spells_numbers(rt: HostRuntime) -> Result<(), Fail> {
-        let cases: [(i128, &[u8]); 7] = [
-            (0, b"0"),
-            (-1, b"-1"),
-            (1000000000000, b"1000000000000"),
-            (18446744073709551615, b"18446744073709551615"),
-            (18446744073709551616, b"18446744073709551616"),
-            (i128::MAX, b"170141183460469231731687303715884105727"),
-            (i128::MIN, b"-170141183460469231731687303715884105728"),
-        ];
-        for (n, want) in cases {
-            let mut out = Vec::new(rt.alloc());
-            out.push(b'>')?;
-            put_number(&mut out, n)?;
-            assert_eq!(rt; out.len(), want.len() + 1, "at {n}");
-            assert!(rt; out.as_slice() == [b">".as_slice(), want].concat(rt.alloc())?.as_slice(), "at {n}");
-            assert_eq!(rt; read_number(want, i128::MIN, i128::MAX), Ok(n));
-        }
+        let alloc = rt.alloc();
+        assert!(rt; marked(alloc, 0)?.as_slice() == b"> 0".as_slice());
+        assert!(rt; marked(alloc, -1)?.as_slice() == b"> -1".as_slice());
+        assert!(rt; marked(alloc, 1000000000000)?.as_slice() == b"> 1000000000000".as_slice());
+        assert!(rt;
+            marked(alloc, 18446744073709551615)?.as_slice() == b"> 18446744073709551615".as_slice()
+        );
+        assert!(rt;
+            marked(alloc, 18446744073709551616)?.as_slice() == b"> 18446744073709551616".as_slice()
+        );
+        let highest = b"> 170141183460469231731687303715884105727".as_slice();
+        assert!(rt; marked(alloc, i128::MAX)?.as_slice() == highest);
+        let lowest = b"> -170141183460469231731687303715884105728".as_slice();
+        assert!(rt; marked(alloc, i128::MIN)?.as_slice() == lowest);
         Ok(())
     }
 
