@@ -1,5 +1,5 @@
 -- Sizes and sums of the sets made of others, and induction over sets.
-use Rattle.std.proofs.Common.{List, [], arith, false, length, neg_ℤ, pos, refl, subst, suc, true, zero, ℕ, ℤ, ◌*◌, ◌++◌, ◌+ℤ◌, ◌+◌, ◌-◌, ◌<◌, ◌∷◌, ◌≡◌, ◌≤ℤ◌, ◌≤◌}
+use Rattle.std.proofs.Common.{List, [], arith, false, length, neg_ℤ, pos, refl, subst, suc, true, zero, ℕ, ℤ, ◌*◌, ◌++◌, ◌+ℤ◌, ◌+◌, ◌<◌, ◌∷◌, ◌≡◌, ◌≤ℤ◌, ◌≤◌}
 use Rattle.std.proofs.lemmas.Bool.{lt-ltb}
 use Rattle.std.proofs.lemmas.Int.{ints}
 use Rattle.mat_sets.specs.Families.{indicator}

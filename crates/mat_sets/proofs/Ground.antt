@@ -1,5 +1,5 @@
 -- Sets on n elements: the set of all numbers below n, complements, and unions with a list in any order.
-use Rattle.std.proofs.Common.{List, [], ap, arith, eqb, false, inl, inr, leb, length, ltb, refl, suc, sym, true, zero, ℕ, ℤ, ◌&&◌, ◌++◌, ◌+ℤ◌, ◌+◌, ◌-◌, ◌<◌, ◌||◌, ◌∙◌, ◌∷◌, ◌≡◌, ◌≢◌, ◌≤◌}
+use Rattle.std.proofs.Common.{List, [], ap, arith, eqb, false, inl, inr, leb, length, ltb, refl, suc, sym, true, zero, ℕ, ℤ, ◌&&◌, ◌++◌, ◌+ℤ◌, ◌+◌, ◌<◌, ◌||◌, ◌∙◌, ◌∷◌, ◌≡◌, ◌≤◌}
 use Rattle.std.proofs.Math.Numerals.{add-one}
 use Rattle.std.proofs.lemmas.Bool.{and_right, both_ways, cases_lt, cases_order, eq-eqb, eqb-true, false≢true, le-leb, le-ltb, lt-leb, lt-ltb, ltb-true, ne_eqb, or_cases}
 use Rattle.std.proofs.lemmas.Int.{ints}

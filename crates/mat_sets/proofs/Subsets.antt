@@ -1,5 +1,5 @@
 -- Subsets, and how their sizes compare.
-use Rattle.std.proofs.Common.{Bool, List, [], ap, arith, false, inl, inr, length, not, pos, refl, true, ℕ, ℤ, ◌-◌, ◌<◌, ◌∷◌, ◌≡◌, ◌≤ℤ◌, ◌≤◌, ◌⊎◌}
+use Rattle.std.proofs.Common.{Bool, List, [], ap, arith, false, inl, inr, length, not, pos, refl, true, ℕ, ℤ, ◌<◌, ◌∷◌, ◌≡◌, ◌≤ℤ◌, ◌≤◌, ◌⊎◌}
 use Rattle.std.proofs.lemmas.Bool.{both_ways, cases_Bool}
 use Rattle.std.proofs.lemmas.Int.{ints}
 use Rattle.mat_sets.specs.Sets.{IsRising, IsSubset, intersection, is_member, minus, union, with_one, without_one}

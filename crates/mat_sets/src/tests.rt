@@ -1,5 +1,5 @@
 //! Each call once, with ample memory.
-use crate::{weight_of, ElemSet, NotRising, Pairs, SetList, Weights};
+use crate::{ElemSet, NotRising, Pairs, SetList, Weights, weight_of};
 use std::test::Fail;
 
 #[test]
@@ -21,7 +21,10 @@ fn a_set_is_built_changed_and_compared(rt: HostRuntime) -> Result<(), Fail> {
     assert!(rt; copy != set);
     assert_eq!(rt; copy.minus(alloc, &set)?.as_slice(), [5].as_slice());
     assert_eq!(rt; copy.without(alloc, 3)?.as_slice(), [5, 7].as_slice());
-    assert_eq!(rt; ElemSet::all_below(alloc, 4)?.as_slice(), [0, 1, 2, 3].as_slice());
+    assert_eq!(rt;
+        ElemSet::all_below(alloc, 4)?.as_slice(),
+        [0, 1, 2, 3].as_slice()
+    );
     Ok(())
 }
 
