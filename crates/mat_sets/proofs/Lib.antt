@@ -7,6 +7,7 @@ pub mod Steps
 pub mod Equalities
 pub mod Families
 pub mod Search
+pub mod SetTests
 pub mod Decisions
 pub mod Places
 pub mod Levels

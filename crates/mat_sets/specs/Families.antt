@@ -1,5 +1,5 @@
 -- Families of sets, as lists of sets.
-use Rattle.std.specs.Prelude.{ℕ, ◌+◌, Bool, if◌then◌else◌, List, [], ◌∷◌, ℤ, pos, ◌+ℤ◌}
+use Rattle.std.specs.Prelude.{ℕ, ◌+◌, ◌≤◌, Bool, if◌then◌else◌, List, [], ◌∷◌, ℤ, pos, ◌+ℤ◌}
 use Rattle.mat_sets.specs.Sets.{is_member, IsRising, union}
 use Rattle.mat_sets.specs.Sums.{sum_of}
 
@@ -16,6 +16,10 @@ indicator b = if b then 1 else 0
 unfoldable pub multiplicity : ℕ → List (List ℕ) → ℕ
 multiplicity x [] = 0
 multiplicity x (a ∷ family) = indicator (is_member x a) + multiplicity x family
+
+-- no two sets of the family share a member: each number stands in at most one
+pub record AreDisjoint (family : List (List ℕ)) : Type 0 where
+  pub once : (x : ℕ) → multiplicity x family ≤ 1
 
 -- the sum of f over the members of each set, all together
 unfoldable pub family_sum : (ℕ → ℤ) → List (List ℕ) → ℤ

@@ -5,3 +5,4 @@ pub mod Places
 pub mod Search
 pub mod Walks
 pub mod Graphs
+pub mod SetTests
