@@ -1,9 +1,9 @@
 -- Sizes and sums of the sets made of others, and induction over sets.
-use Rattle.std.proofs.Common.{List, [], arith, false, length, neg_ℤ, pos, refl, subst, suc, true, zero, ℕ, ℤ, ◌*◌, ◌+ℤ◌, ◌+◌, ◌-◌, ◌<◌, ◌∷◌, ◌≡◌, ◌≤ℤ◌, ◌≤◌}
+use Rattle.std.proofs.Common.{List, [], arith, false, length, neg_ℤ, pos, refl, subst, suc, true, zero, ℕ, ℤ, ◌*◌, ◌++◌, ◌+ℤ◌, ◌+◌, ◌<◌, ◌∷◌, ◌≡◌, ◌≤ℤ◌, ◌≤◌}
 use Rattle.std.proofs.lemmas.Bool.{lt-ltb}
 use Rattle.std.proofs.lemmas.Int.{ints}
 use Rattle.mat_sets.specs.Families.{indicator}
-use Rattle.mat_sets.specs.Sets.{IsRising, RisesFrom, intersection, is_member, minus, rising_insert, union, with_one, without_one}
+use Rattle.mat_sets.specs.Sets.{IsRising, IsSubset, RisesFrom, intersection, is_member, minus, rising_insert, union, with_one, without_one}
 use Rattle.mat_sets.specs.Sums.{sum_of}
 use Rattle.mat_sets.proofs.Members.{IsRising-intersection, IsRising-minus, IsRising-nil, IsRising-union, IsRising-with_one, IsRising-without_one, RisesFrom-weaken, is_member-head, missing_below, set_members}
 use Rattle.mat_sets.proofs.Sums.{balance, sizes}
@@ -24,6 +24,12 @@ bits-with a x h k = grind (arith, set_members)
 
 bits-without : (a : List ℕ) (x : ℕ) → is_member x a ≡ true → (k : ℕ) → indicator (is_member k (without_one a x)) + indicator (is_member k (x ∷ [])) ≡ indicator (is_member k a) + indicator (is_member k [])
 bits-without a x h k = grind (arith, set_members)
+
+bits-minus_subset : (a b : List ℕ) → IsSubset b a → (k : ℕ) → indicator (is_member k (minus a b)) + indicator (is_member k b) ≡ indicator (is_member k a) + indicator (is_member k [])
+bits-minus_subset a b h k = grind (arith, set_members, h.inside k)
+
+bits-apart : (a b : List ℕ) → ((x : ℕ) → is_member x a ≡ true → is_member x b ≡ false) → (k : ℕ) → indicator (is_member k (union a b)) + indicator (is_member k []) ≡ indicator (is_member k a) + indicator (is_member k b)
+bits-apart a b h k = grind (arith, set_members, h k)
 
 -- ---- sizes
 
@@ -72,6 +78,14 @@ pub sum_of-plus : (f g h : ℕ → ℤ) (a : List ℕ) → ((k : ℕ) → is_mem
 sum_of-plus f g h [] e = refl
 sum_of-plus f g h (x ∷ t) e = omega (arith, ints, e x (is_member-head x t), sum_of-plus f g h t (λ k m. e k (grind arith)))
 
+pub sum_of-same : (f g : ℕ → ℤ) (a : List ℕ) → ((k : ℕ) → is_member k a ≡ true → f k ≡ g k) → sum_of f a ≡ sum_of g a
+sum_of-same f g [] e = refl
+sum_of-same f g (x ∷ xs) e = omega (arith, ints, e x (is_member-head x xs), sum_of-same f g xs (λ k m. e k (grind arith)))
+
+pub sum_of-append : (f : ℕ → ℤ) (xs ys : List ℕ) → sum_of f (xs ++ ys) ≡ sum_of f xs +ℤ sum_of f ys
+sum_of-append f [] ys = omega (arith, ints)
+sum_of-append f (x ∷ xs) ys = omega (arith, ints, sum_of-append f xs ys)
+
 pub sum_of-le : (f g : ℕ → ℤ) (a : List ℕ) → ((k : ℕ) → is_member k a ≡ true → f k ≤ℤ g k) → sum_of f a ≤ℤ sum_of g a
 sum_of-le f g [] e = omega (arith, ints)
 sum_of-le f g (x ∷ t) e = omega (arith, ints, e x (is_member-head x t), sum_of-le f g t (λ k m. e k (grind arith)))
@@ -83,6 +97,20 @@ sum_of-high f m (x ∷ t) h = omega (arith, ints, h x (is_member-head x t), sum_
 pub sum_of-low : (f : ℕ → ℤ) (m : ℕ) (a : List ℕ) → ((k : ℕ) → is_member k a ≡ true → neg_ℤ (pos m) ≤ℤ f k) → neg_ℤ (pos (m * length a)) ≤ℤ sum_of f a
 sum_of-low f m [] h = omega (arith, ints)
 sum_of-low f m (x ∷ t) h = omega (arith, ints, h x (is_member-head x t), sum_of-low f m t (λ k q. h k (grind arith)))
+
+-- ---- a subset, and sets apart
+
+pub length-minus_subset : (a b : List ℕ) → IsRising a → IsRising b → IsSubset b a → length (minus a b) + length b ≡ length a
+length-minus_subset a b r s h = let e = sizes _ b a [] (IsRising-minus a b r) s r IsRising-nil (bits-minus_subset a b h) in omega arith
+
+pub sum_of-minus_subset : (f : ℕ → ℤ) (a b : List ℕ) → IsRising a → IsRising b → IsSubset b a → sum_of f (minus a b) +ℤ sum_of f b ≡ sum_of f a
+sum_of-minus_subset f a b r s h = let e = balance f _ b a [] (IsRising-minus a b r) s r IsRising-nil (bits-minus_subset a b h) in omega (arith, ints)
+
+pub length-union_apart : (a b : List ℕ) → IsRising a → IsRising b → ((x : ℕ) → is_member x a ≡ true → is_member x b ≡ false) → length (union a b) ≡ length a + length b
+length-union_apart a b r s h = let e = sizes _ [] a b (IsRising-union a b s) IsRising-nil r s (bits-apart a b h) in omega arith
+
+pub sum_of-union_apart : (f : ℕ → ℤ) (a b : List ℕ) → IsRising a → IsRising b → ((x : ℕ) → is_member x a ≡ true → is_member x b ≡ false) → sum_of f (union a b) ≡ sum_of f a +ℤ sum_of f b
+sum_of-union_apart f a b r s h = let e = balance f _ [] a b (IsRising-union a b s) IsRising-nil r s (bits-apart a b h) in omega (arith, ints)
 
 -- ---- induction
 

@@ -1,5 +1,5 @@
 -- What is decided at each number, list or subset is decided of some of them.
-use Rattle.std.proofs.Common.{List, [], ap, arith, eqb, false, inl, inr, length, refl, subst, suc, true, zero, ℕ, ◌-◌, ◌<◌, ◌∷◌, ◌≡◌, ◌≤◌, ◌⊎◌}
+use Rattle.std.proofs.Common.{List, [], ap, arith, eqb, false, inl, inr, length, refl, subst, suc, true, zero, ℕ, ◌<◌, ◌∷◌, ◌≡◌, ◌≤◌, ◌⊎◌}
 use Rattle.std.proofs.lemmas.Bool.{both_ways, cases_eq, ne_eqb, or_right}
 use Rattle.mat_sets.specs.Sets.{AllBelow, IsRising, IsSubset, RisesFrom, is_member}
 use Rattle.mat_sets.proofs.Members.{IsRising-nil, RisesFrom-weaken, is_member-head, member_from}

@@ -1,13 +1,13 @@
 -- Sets on n elements: the set of all numbers below n, complements, and unions with a list in any order.
-use Rattle.std.proofs.Common.{List, [], ap, arith, eqb, false, inl, inr, leb, length, ltb, refl, suc, sym, true, zero, ℕ, ℤ, ◌&&◌, ◌++◌, ◌+ℤ◌, ◌+◌, ◌-◌, ◌<◌, ◌||◌, ◌∙◌, ◌∷◌, ◌≡◌, ◌≤◌}
+use Rattle.std.proofs.Common.{List, [], ap, arith, eqb, false, inl, inr, leb, length, ltb, refl, suc, sym, true, zero, ℕ, ℤ, ◌&&◌, ◌++◌, ◌+ℤ◌, ◌+◌, ◌<◌, ◌||◌, ◌∙◌, ◌∷◌, ◌≡◌, ◌≤◌}
 use Rattle.std.proofs.Math.Numerals.{add-one}
-use Rattle.std.proofs.lemmas.Bool.{and_right, both_ways, cases_lt, cases_order, eq-eqb, eqb-true, le-leb, le-ltb, lt-leb, lt-ltb, ltb-true, ne_eqb, or_cases}
+use Rattle.std.proofs.lemmas.Bool.{and_right, both_ways, cases_lt, cases_order, eq-eqb, eqb-true, false≢true, le-leb, le-ltb, lt-leb, lt-ltb, ltb-true, ne_eqb, or_cases}
 use Rattle.std.proofs.lemmas.Int.{ints}
 use Rattle.mat_sets.specs.Sets.{AllBelow, AreDistinct, IsRising, IsSet, IsSubset, RisesFrom, all_below, counted_from, intersection, is_member, minus, rising_insert, union, with_one, without_one}
 use Rattle.mat_sets.specs.Sums.{sum_of}
 use Rattle.mat_sets.proofs.Cardinalities.{length-minus-intersection, length-with_one, sum_of-with_one}
-use Rattle.mat_sets.proofs.Members.{IsRising-intersection, IsRising-minus, IsRising-nil, IsRising-union, IsRising-with_one, IsRising-without_one, is_member-head, is_member-union, is_member-with_one, same_members, set_members}
-use Rattle.mat_sets.proofs.Subsets.{intersection-left, minus-IsSubset, without_one-IsSubset}
+use Rattle.mat_sets.proofs.Members.{IsRising-intersection, IsRising-minus, IsRising-nil, IsRising-union, IsRising-with_one, IsRising-without_one, is_member-head, is_member-union, is_member-with_one, missing_below, same_members, set_members}
+use Rattle.mat_sets.proofs.Subsets.{intersection-left, length-subset, minus-IsSubset, union-IsSubset, without_one-IsSubset}
 use Rattle.mat_sets.proofs.Sums.{AllBelow-weaken}
 
 -- ---- each item is below n
@@ -157,6 +157,24 @@ sum_of-union_distinct f [] b r d apart = omega (arith, ints)
 sum_of-union_distinct f (x ∷ t) b r d apart =
     let fresh : is_member x (union t b) ≡ false = let h = apart x (is_member-head x t) in let d0 = d.0 in rw (is_member-union x t b, d0, h) in
     omega (arith, ints, sum_of-with_one f (union t b) x (IsRising-union t b r) fresh, sum_of-union_distinct f t b r d.1 (λ k m. apart k (grind arith)))
+
+pub AreDistinct-rising : (a : List ℕ) → IsRising a → AreDistinct a
+AreDistinct-rising a r = from_rising 0 a r.rises
+  where
+    from_rising : (lo : ℕ) (a : List ℕ) → RisesFrom lo a → AreDistinct a
+    from_rising lo [] r = tt
+    from_rising lo (x ∷ xs) r = (missing_below x (suc x) xs (omega arith) r.1, from_rising (suc x) xs r.1)
+
+-- the set of its items
+pub length-distinct : (xs : List ℕ) → AreDistinct xs → length (union xs []) ≡ length xs
+length-distinct xs d = omega (arith, length-union_distinct xs [] IsRising-nil d (λ k m. refl))
+
+pub length-distinct_subset : (xs a : List ℕ) → AreDistinct xs → IsRising a → IsSubset xs a → length xs ≤ length a
+length-distinct_subset xs a d r s =
+    omega (arith, length-distinct xs d, length-subset (union xs []) a (IsRising-union xs [] IsRising-nil) r (union-IsSubset xs [] a s (record { inside = λ k m. absurd (false≢true m) })))
+
+pub length-distinct_below : (n : ℕ) (xs : List ℕ) → AreDistinct xs → AllBelow n xs → length xs ≤ n
+length-distinct_below n xs d b = omega (arith, length-distinct_subset xs (all_below n) d (IsRising-all_below n) (IsSubset-all_below n xs b), length-all_below n)
 
 -- ---- an exchange along two lists: ys go out, and xs come in
 

@@ -1,7 +1,7 @@
 -- The search for a walk with fewest vertices. Each vertex gets a level, the number of arcs of a shortest walk from a start.
 -- Levels rise by at most one along an arc, so a walk to a goal whose level is its number of arcs is shortest, and its
 -- vertices have the levels 0, 1, and so on. The levels are found one after the other, until a goal or nothing new is found.
-use Rattle.std.proofs.Common.{Bool, List, [], ap, arith, cond, eqb, false, get_or, inl, inr, leb, length, not, pos, refl, subst, suc, sym, true, zero, ℕ, ◌&&◌, ◌+◌, ◌-◌, ◌<◌, ◌∙◌, ◌∷◌, ◌≡◌, ◌≤◌, ◌⊎◌}
+use Rattle.std.proofs.Common.{Bool, List, [], ap, arith, cond, eqb, false, get_or, inl, inr, leb, length, not, refl, subst, suc, sym, true, zero, ℕ, ◌&&◌, ◌+◌, ◌<◌, ◌∙◌, ◌∷◌, ◌≡◌, ◌≤◌, ◌⊎◌}
 use Rattle.std.proofs.lemmas.Bool.{and_from, and_parts, both_ways, cases_Bool, cases_eq, cases_lt, cond-false, cond-true, eq-eqb, eqb-true, false_from_ne_true, le-leb, leb-false, lt-leb, not-true}
 use Rattle.std.proofs.lemmas.Bool.Decides.{nat_tests}
 use Rattle.mat_sets.specs.Search.{some_below, those_below}
@@ -233,7 +233,8 @@ module _ {n : ℕ} {arc : ℕ → ℕ → Bool} {start goal : ℕ → Bool} wher
       let reached = those_below n (λ v. leb (level v) k) in
       let inside : (v : ℕ) → v < n → level v ≤ k → is_member v reached ≡ true = λ v lt le. (let a = is_member-those_below v n (λ z. leb (level z) k) in let b = le-leb (level v) k le in grind (arith, nat_tests)) in
       let outside : (v : ℕ) → is_member v reached ≡ true → (v < n) × (level v ≤ k) = λ v h. (let a = is_member-those_below v n (λ z. leb (level z) k) in (grind (arith, nat_tests), grind (arith, nat_tests))) in
-        record { reach = record {
+      record {
+        reach = record {
           set = IsSet-those_below n (λ v. leb (level v) k);
           starts = λ v lt s. (let e = p.starts v lt s in inside v lt (omega arith));
           closed = λ u v h lt a. (let o = outside u h in elim (cases_eq (level u) k) [
@@ -242,28 +243,29 @@ module _ {n : ℕ} {arc : ℕ → ℕ → Bool} {start goal : ℕ → Bool} wher
           ]);
           walks = λ v h. (let o = outside v h in let t = indexed_walk_to k level w (level v) v o.0 refl o.1 in (listed t.0 (suc (level v)), walk_from (λ z. eqb z v) (level v) v t.0 t.1 (eq-eqb v v refl)));
         };
-        misses = λ v h. (let o = outside v h in false_from_ne_true _ (λ g. (let a = w.early v o.0 g in none v o.0 g (omega (arith, o.1))))); }
+        misses = λ v h. (let o = outside v h in false_from_ne_true _ (λ g. (let a = w.early v o.0 g in none v o.0 g (omega (arith, o.1)))));
+      }
 
   pub fewer_above : (k : ℕ) (level : ℕ → ℕ) → AreLevels n arc start goal k level → (x : ℕ) → x < n → k < level x → follows_level n arc k level x ≡ true → count_above n (suc k) (next_level n arc k level) < count_above n k level
   fewer_above k level w x lt l t =
       length-those_below_less n x (λ v. not (leb (next_level n arc k level v) (suc k))) (λ v. not (leb (level v) k))
-              (λ z m c.
-                  elim (next_level_is n arc k level z (w.most z m)) [
-                    | inl d ↦ (let f = leb-false (next_level n arc k level z) (suc k) (not-true _ c) in absurd (omega (arith, d.0, d.1)))
-                    | inr d ↦ elim d [
-                      | inl d ↦ ap not (lt-leb (level z) k (omega (arith, d.0)))
-                      | inr d ↦ ap not (lt-leb (level z) k (omega (arith, d.0)))
-                    ]
-                  ])
-              lt
-              (elim (next_level_is n arc k level x (w.most x lt)) [
-                | inl d ↦ absurd (omega (arith, d.0))
-                | inr d ↦ elim d [
-                  | inl d ↦ ap not (le-leb (next_level n arc k level x) (suc k) (omega (arith, d.2)))
-                  | inr d ↦ absurd (both_ways _ d.1 t)
-                ]
-              ])
-              (ap not (lt-leb (level x) k l))
+      (λ z m c.
+      elim (next_level_is n arc k level z (w.most z m)) [
+        | inl d ↦ (let f = leb-false (next_level n arc k level z) (suc k) (not-true _ c) in absurd (omega (arith, d.0, d.1)))
+        | inr d ↦ elim d [
+          | inl d ↦ ap not (lt-leb (level z) k (omega (arith, d.0)))
+          | inr d ↦ ap not (lt-leb (level z) k (omega (arith, d.0)))
+        ]
+      ])
+      lt
+      (elim (next_level_is n arc k level x (w.most x lt)) [
+        | inl d ↦ absurd (omega (arith, d.0))
+        | inr d ↦ elim d [
+          | inl d ↦ ap not (le-leb (next_level n arc k level x) (suc k) (omega (arith, d.2)))
+          | inr d ↦ absurd (both_ways _ d.1 t)
+        ]
+      ])
+      (ap not (lt-leb (level x) k l))
 
   one_level_more : (k : ℕ) (level : ℕ → ℕ) → AreLevels n arc start goal k level → (Outcome n arc start goal) ⊎ (AreLevels n arc start goal (suc k) (next_level n arc k level) × (count_above n (suc k) (next_level n arc k level) < count_above n k level))
   one_level_more k level w = elim (cases_Bool (some_below n (λ v. goal v && eqb (level v) k))) [
@@ -277,10 +279,13 @@ module _ {n : ℕ} {arc : ℕ → ℕ → Bool} {start goal : ℕ → Bool} wher
               let s = and_parts (not (leb (level q.0) k)) (follows_level n arc k level q.0) q.2 in
               let l = leb-false (level q.0) k (not-true _ s.0) in
               inr (next_levels k level w none, fewer_above k level w q.0 q.1 l s.1))
-          | inr b ↦ inl (inr (those_below n (λ v. leb (level v) k), missed_goals k level w none (λ v lt t. elim (cases_lt k (level v)) [
-            | inl more ↦ absurd (both_ways _ b (some_below_from n v (λ z. not (leb (level z) k) && follows_level n arc k level z) lt (and_from (not (leb (level v) k)) (follows_level n arc k level v) (ap not (lt-leb (level v) k more)) t)))
-            | inr le ↦ le
-          ])))
+          | inr b ↦ inl (inr (
+            those_below n (λ v. leb (level v) k),
+            missed_goals k level w none (λ v lt t. elim (cases_lt k (level v)) [
+              | inl more ↦ absurd (both_ways _ b (some_below_from n v (λ z. not (leb (level z) k) && follows_level n arc k level z) lt (and_from (not (leb (level v) k)) (follows_level n arc k level v) (ap not (lt-leb (level v) k more)) t)))
+              | inr le ↦ le
+            ]),
+          ))
         ])
   ]
 

@@ -4,6 +4,8 @@ pub mod Cardinalities
 pub mod Subsets
 pub mod Ground
 pub mod Steps
+pub mod Equalities
+pub mod Families
 pub mod Search
 pub mod SetTests
 pub mod Decisions

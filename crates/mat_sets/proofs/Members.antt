@@ -1,6 +1,6 @@
 -- Members of rising lists, and of the sets made of others. Two rising lists with the same members are one list, and
 -- each operation has one law that says its members: so an equation of sets is proved member by member.
-use Rattle.std.proofs.Common.{Bool, List, [], ap, arith, cond, eqb, false, get_or, inl, inr, length, ltb, not, refl, subst, suc, sym, true, zero, ℕ, ◌&&◌, ◌+◌, ◌-◌, ◌<◌, ◌||◌, ◌∙◌, ◌∷◌, ◌≡◌, ◌≤◌}
+use Rattle.std.proofs.Common.{Bool, List, [], ap, arith, cond, eqb, false, get_or, inl, inr, length, ltb, not, refl, subst, suc, sym, true, zero, ℕ, ◌&&◌, ◌++◌, ◌+◌, ◌<◌, ◌||◌, ◌∙◌, ◌∷◌, ◌≡◌, ◌≤◌}
 use Rattle.std.proofs.Math.Numerals.{add-one}
 use Rattle.std.proofs.lemmas.Bool.{and_right, both_ways, cases_eq, cases_lt, cases_order, eq-eqb, le-ltb, lt-ltb, ne_eqb, or_from, or_right}
 use Rattle.std.specs.List.{filter}
@@ -47,6 +47,26 @@ is_member-get_or (y ∷ t) (suc i) x h e = or_right (eqb x y) (is_member x t) (i
 pub is_member-nowhere : (xs : List ℕ) (x : ℕ) → ((k : ℕ) → k < length xs → get_or xs k 0 ≡ x → ⊥) → is_member x xs ≡ false
 is_member-nowhere [] x h = refl
 is_member-nowhere (y ∷ t) x h = or_from (eqb x y) (is_member x t) (ne_eqb x y (λ e. h 0 (omega arith) (sym e))) (is_member-nowhere t x (λ k l. h (suc k) (omega arith)))
+
+-- a member stands somewhere
+pub place_of_member : (x : ℕ) (xs : List ℕ) → is_member x xs ≡ true → (i : ℕ) × (i < length xs) × (get_or xs i 0 ≡ x)
+place_of_member x [] m = absurd (both_ways false refl m)
+place_of_member x (y ∷ ys) m = elim (cases_eq x y) [
+  | inl e ↦ (0, omega arith, sym e)
+  | inr d ↦ (let w = place_of_member x ys (rw (ne_eqb x y d) at m) in let l = w.1 in (suc w.0, omega arith, w.2))
+]
+
+-- what holds at each place holds of each member
+pub members_by_place : (P : ℕ → Type 0) (xs : List ℕ) → ((i : ℕ) → i < length xs → P (get_or xs i 0)) → (x : ℕ) → is_member x xs ≡ true → P x
+members_by_place P xs h x m = let w = place_of_member x xs m in subst P w.2 (h w.0 w.1)
+
+pub is_member-append : (x : ℕ) (xs ys : List ℕ) → is_member x (xs ++ ys) ≡ (is_member x xs || is_member x ys)
+is_member-append x [] ys = refl
+is_member-append x (y ∷ xs) ys = rw (is_member-append x xs ys) (or_assoc (eqb x y) (is_member x xs) (is_member x ys))
+  where
+    or_assoc : (a b c : Bool) → (a || (b || c)) ≡ ((a || b) || c)
+    or_assoc true b c = refl
+    or_assoc false b c = refl
 
 pub IsRising-index : (xs : List ℕ) → IsRising xs → IsStrictlyIncreasing xs
 IsRising-index xs r k h = RisesFrom-index 0 xs k (k + 1) r.rises (omega arith) h

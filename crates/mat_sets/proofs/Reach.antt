@@ -1,5 +1,5 @@
 -- What walks from the starts reach (Schrijver, chapter 6).
-use Rattle.std.proofs.Common.{Bool, List, arith, eqb, false, get_or, inl, inr, length, subst, suc, true, zero, ℕ, ◌-◌, ◌<◌, ◌≡◌, ◌≢◌, ◌⊎◌}
+use Rattle.std.proofs.Common.{Bool, List, arith, eqb, false, get_or, inl, inr, length, subst, suc, true, zero, ℕ, ◌<◌, ◌≡◌, ◌⊎◌}
 use Rattle.std.proofs.lemmas.Bool.{both_ways, eqb-true, false≢true}
 use Rattle.mat_sets.specs.Sets.{IsSubset, is_member}
 use Rattle.mat_sets.specs.Walks.{IsChordless, IsReachedSet, IsShortestWalk, IsWalk}

@@ -1,6 +1,6 @@
 -- Tests that look through finitely many numbers, lists or subsets: where the test holds there is one that passes, and
 -- where it fails none does. The set of the numbers below n that pass.
-use Rattle.std.proofs.Common.{Bool, List, [], ap, arith, eqb, false, inl, inr, length, ltb, refl, subst, suc, sym, true, zero, ℕ, ◌&&◌, ◌-◌, ◌<◌, ◌∙◌, ◌∷◌, ◌≡◌, ◌≢◌, ◌≤◌}
+use Rattle.std.proofs.Common.{Bool, List, [], ap, arith, eqb, false, inl, inr, length, ltb, refl, subst, suc, sym, true, zero, ℕ, ◌&&◌, ◌<◌, ◌∙◌, ◌∷◌, ◌≡◌, ◌≤◌}
 use Rattle.std.proofs.lemmas.Bool.{and_from, and_parts, and_right, both_ways, cases_eq, false_from_ne_true, false≢true, lt-ltb, ltb-true, ne_eqb, or_cases, or_left, or_right}
 use Rattle.std.proofs.lemmas.Bool.Decides.{nat_tests}
 use Rattle.mat_sets.specs.Search.{some_below, some_list, some_subset, those_below}
@@ -122,7 +122,7 @@ length-those_below_less n x few many h l f m =
     let r : IsRising a = (IsSet-those_below n few).rising in
     let out : is_member x a ≡ false = is_member-those_below x n few ∙ ap (λ z. ltb x n && z) f ∙ and_right (ltb x n) false refl in
     let sub : IsSubset (with_one a x) b = with_one-IsSubset a b x (record { inside = λ y k. (let p = and_parts (ltb y n) (few y) (sym (is_member-those_below y n few) ∙ k) in is_member-those_below y n many ∙ and_from (ltb y n) (many y) p.0 (h y (ltb-true y n p.0) p.1)) })
-        (is_member-those_below x n many ∙ and_from (ltb x n) (many x) (lt-ltb x n l) m) in
+    (is_member-those_below x n many ∙ and_from (ltb x n) (many x) (lt-ltb x n l) m) in
     omega (arith, length-subset (with_one a x) b (IsRising-with_one a x r) (IsSet-those_below n many).rising sub, length-with_one a x r out)
 
 pub length-those_below_most : (n : ℕ) (test : ℕ → Bool) → length (those_below n test) ≤ n

@@ -1,11 +1,11 @@
 -- Steps of loops over the members of a set or the sets of a family, for `using(..)`.
-use Rattle.std.proofs.Common.{Bool, List, [], ap, arith, cond, drop, drop-cons, eqb, false, get_or, length, length-append, refl, suc, take, true, zero, ℕ, ◌++◌, ◌+◌, ◌-◌, ◌<◌, ◌||◌, ◌∙◌, ◌∷◌, ◌≡◌, ◌≤◌}
+use Rattle.std.proofs.Common.{Bool, List, [], ap, arith, cond, drop, drop-cons, eqb, false, get_or, length, length-append, refl, suc, sym, take, true, zero, ℕ, ◌++◌, ◌+◌, ◌<◌, ◌||◌, ◌∙◌, ◌∷◌, ◌≡◌, ◌≤◌}
 use Rattle.std.proofs.Math.Numerals.{add-one}
-use Rattle.std.proofs.lemmas.Bool.{both_ways, ne_eqb, or_from}
+use Rattle.std.proofs.lemmas.Bool.{both_ways, eqb-false, ne_eqb, or_from, or_parts}
 use Rattle.std.proofs.lemmas.List.Elements.{filter_more}
 use Rattle.std.specs.List.{filter}
 use Rattle.mat_sets.specs.Families.{AllRising, family_union, indicator, multiplicity}
-use Rattle.mat_sets.specs.Sets.{IsRising, IsSubset, RisesFrom, intersection, is_member, union, with_one}
+use Rattle.mat_sets.specs.Sets.{AllBelow, AreDistinct, IsRising, IsSubset, RisesFrom, intersection, is_member, union, with_one}
 use Rattle.mat_sets.proofs.Members.{IsRising-nil, IsRising-union, IsRising-with_one, RisesFrom-at, intersection-none, is_member-get_or, minus-none, same_members, set_members}
 use Rattle.mat_sets.proofs.Sums.{AllBelow-at}
 
@@ -51,6 +51,24 @@ is_member-take_next xs i r h = fresh 0 xs i r.rises h
 pub take-with_one : (xs : List ℕ) (i : ℕ) → IsRising xs → i < length xs → take (i + 1) xs ≡ with_one (take i xs) (get_or xs i 0)
 take-with_one xs i r h = same_members _ _ (IsRising-take xs (i + 1) r) (IsRising-with_one _ _ (IsRising-take xs i r)) (λ k. grind (arith, is_member-take_more xs i k h, set_members))
 
+-- ---- bounds and repetitions
+
+pub AllBelow-none : (n : ℕ) → AllBelow n []
+AllBelow-none n = tt
+
+pub AllBelow-more : (n : ℕ) (xs : List ℕ) (i : ℕ) → i < length xs → AllBelow n (take i xs) → get_or xs i 0 < n → AllBelow n (take (i + 1) xs)
+AllBelow-more n [] i h b l = absurd (omega arith)
+AllBelow-more n (x ∷ xs) zero h b l = (l, tt)
+AllBelow-more n (x ∷ xs) (suc i) h b l = rw (add-one (suc i)) (b.0, rw (add-one i) at (AllBelow-more n xs i (omega arith) b.1 l))
+
+pub AreDistinct-more : (xs : List ℕ) (i : ℕ) → i < length xs → AreDistinct (take i xs) → is_member (get_or xs i 0) (take i xs) ≡ false → AreDistinct (take (i + 1) xs)
+AreDistinct-more [] i h d m = absurd (omega arith)
+AreDistinct-more (x ∷ xs) zero h d m = (refl, tt)
+AreDistinct-more (x ∷ xs) (suc i) h d m = rw (add-one (suc i)) (apart x xs i (omega arith) d.0 (or_parts (eqb (get_or xs i 0) x) (is_member (get_or xs i 0) (take i xs)) m).0, rw (add-one i) at (AreDistinct-more xs i (omega arith) d.1 (or_parts (eqb (get_or xs i 0) x) (is_member (get_or xs i 0) (take i xs)) m).1))
+  where
+    apart : (x : ℕ) (xs : List ℕ) (i : ℕ) → i < length xs → is_member x (take i xs) ≡ false → eqb (get_or xs i 0) x ≡ false → is_member x (take (suc i) xs) ≡ false
+    apart x xs i h m e = rw (add-one i) at (is_member-take_more xs i x h ∙ or_from (is_member x (take i xs)) (eqb x (get_or xs i 0)) m (ne_eqb x (get_or xs i 0) (λ s. eqb-false (get_or xs i 0) x e (sym s))))
+
 -- ---- sets made member by member
 
 pub union-none : (a : List ℕ) → IsRising a → union a [] ≡ a
@@ -93,15 +111,6 @@ multiplicity-more k [] i h = absurd (omega arith)
 multiplicity-more k (a ∷ t) zero h = omega arith
 multiplicity-more k (a ∷ t) (suc i) h = rw (add-one (suc i)) (let ih = rw (add-one i) at (multiplicity-more k t i (omega arith)) in omega arith)
 
-pub multiplicity-le : (k : ℕ) (sets : List (List ℕ)) → multiplicity k sets ≤ length sets
-unfolding multiplicity
-multiplicity-le k [] = omega arith
-multiplicity-le k (a ∷ t) = let ih = multiplicity-le k t in one (is_member k a) ih
-  where
-    one : {m n : ℕ} (b : Bool) → m ≤ n → indicator b + m ≤ suc n
-    one true h = omega arith
-    one false h = omega arith
-
 pub family_union-none : (sets : List (List ℕ)) (i : ℕ) → length sets ≤ i → family_union (drop i sets) ≡ []
 unfolding family_union
 family_union-none [] zero h = refl
@@ -113,7 +122,7 @@ pub family_union-less : (sets : List (List ℕ)) (i : ℕ) → i < length sets �
 unfolding family_union
 family_union-less sets i h = rw (add-one i, drop-cons sets i [])
 
-pub ruleset set_steps = (intersection-none, minus-none, union-none, union-more, intersection-more, IsSubset-none, IsSubset-more, not-IsSubset, multiplicity-none, multiplicity-more, family_union-none, family_union-less, AllBelow-at)
+pub ruleset set_steps = (intersection-none, minus-none, union-none, union-more, intersection-more, IsSubset-none, IsSubset-more, not-IsSubset, AllBelow-none, AllBelow-more, AreDistinct-more, multiplicity-none, multiplicity-more, family_union-none, family_union-less, AllBelow-at)
 
 pub AllRising-none : AllRising []
 AllRising-none = tt
