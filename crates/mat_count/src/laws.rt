@@ -5,12 +5,12 @@ ghost use Rattle.mat_count.specs.Counts.{is_within_caps, IsWithinCaps, is_counte
 ghost use Rattle.mat_count.specs.Laminar.{crosses, Crosses, IsLaminarFamily};
 
 /// The test of caps holds exactly where the set has at most its cap of members in each listed set.
-pub fn counting()
+pub fn within_caps_means()
     ensures { (sets : List (List ℕ)) (caps X : List ℕ) → length caps ≡ length sets → (is_within_caps sets caps X ≡ true) ↔ IsWithinCaps sets caps X }
 {}
 
 /// Two sets cross exactly where they share a member and each has a member that the other has not.
-pub fn crossing()
+pub fn crosses_means()
     ensures { (A B : List ℕ) → (crosses A B ≡ true) ↔ Crosses A B }
 {}
 

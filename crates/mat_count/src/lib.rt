@@ -5,6 +5,6 @@ mod laws;
 mod partition;
 mod uniform;
 
-pub use laws::{crossing, counting, laminar_laws};
+pub use laws::{crosses_means, laminar_laws, within_caps_means};
 pub use partition::Partition;
 pub use uniform::Uniform;

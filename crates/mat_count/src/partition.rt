@@ -1,10 +1,10 @@
 //! Partition matroids.
-ghost use Rattle.std.specs.Prelude.{◌≡◌, ◌↔◌, ℕ, ◌<◌, ◌≤◌, List, [], Option, Some, None, length, slice_index, slice_index_or, if◌then◌else◌, IfOk, IsTrue};
+ghost use Rattle.std.specs.Prelude.{◌≡◌, ◌↔◌, ℕ, ◌<◌, ◌≤◌, length, slice_index, IfOk, IsTrue};
 ghost use Rattle.std.specs.List.{All};
-ghost use Rattle.mat_sets.specs.Sets.{is_member, intersection, AllBelow};
+ghost use Rattle.mat_sets.specs.Sets.{AllBelow, IsRising};
 ghost use Rattle.mat_sets.specs.Families.{AreDisjoint};
 ghost use Rattle.mat_count.specs.Counts.{is_counted};
-ghost use Rattle.mat_count.specs.Partitions.{CappedClasses, IsPartition, IsClassTable};
+ghost use Rattle.mat_count.specs.Partitions.{CappedClasses, IsPartition, IsClassTable, IsEntered, CountsMembers};
 ghost use Rattle.mat_count.specs.PartitionLaws.{partition_laws};
 
 use mat_laws::Matroid;
@@ -33,9 +33,10 @@ impl Model for Partition {
 }
 
 // Enters the class at this place for each of its members.
+#[tactic(auto, using(crate::proofs::ClassTables::entering))]
 fn enter(class_of: &mut [Option<usize>], class: &ElemSet, place: usize)
     requires { AllBelow (length class_of.old) class.now }
-    ensures { (e : ℕ) → e < length class_of.old → slice_index_or class_of.new e None ≡ (if is_member e class.now then Some place else slice_index_or class_of.old e None) }
+    ensures { IsEntered class_of.old class.now place class_of.new }
 {
     for i in 0..class.len() {
         class_of[class.get(i) as usize] = Some(place);
@@ -43,6 +44,7 @@ fn enter(class_of: &mut [Option<usize>], class: &ElemSet, place: usize)
 }
 
 // The class of each element, if it stands in one.
+#[tactic(auto, using(crate::proofs::ClassTables::tables))]
 fn class_table(
     alloc: Global,
     count: u32,
@@ -60,6 +62,7 @@ fn class_table(
 }
 
 // How many members the set has in each class.
+#[tactic(auto, using(crate::proofs::ClassTables::counting))]
 fn members_by_class(
     alloc: Global,
     classes: &SetList,
@@ -68,8 +71,8 @@ fn members_by_class(
 ) -> Result<Vec<usize>, AllocError>
     requires table { IsClassTable (length class_of.now) classes.now class_of.now }
     requires below { AllBelow (length class_of.now) set.now }
-    ensures long { IfOk result (λ v. length v.items ≡ length classes.now) }
-    ensures numbers { IfOk result (λ v. (i : ℕ) → i < length classes.now → slice_index v.items i ≡ length (intersection set.now (slice_index_or classes.now i []))) }
+    ensures numbers { IfOk result (λ v. CountsMembers classes.now set.now v.items) }
+    ensures rises { IfOk result (λ _. IsRising set.now) }
 {
     let mut numbers: Vec<usize> = vec![in alloc; 0; classes.len()]?;
     for i in 0..set.len() {
