@@ -1,0 +1,10 @@
+//! Matroids that bound how many elements a set may have.
+#![tactic(auto)]
+
+mod laws;
+mod partition;
+mod uniform;
+
+pub use laws::{crosses_means, laminar_laws, within_caps_means};
+pub use partition::Partition;
+pub use uniform::Uniform;
