@@ -1,16 +1,9 @@
 -- Certificates as plain data, their ranges, and the one text of each.
 use Rattle.std.specs.Prelude.{◌≡◌, ℕ, suc, ◌+◌, ◌-◌, ◌<◌, ◌≤◌, ◌^◌, List, [], ◌∷◌, ◌++◌, length, map, codes, ℤ, pos, neg_ℤ, ◌≤ℤ◌, All}
-use Rattle.std.specs.List.{flat_map}
 use Rattle.mat_sets.specs.Sets.{IsSet}
 use Rattle.mat_words.specs.Numbers.{numeral}
 use Rattle.mat_words.specs.Lines.{text_of}
-
--- a rung with its printed weight, its set and the two halves of its split
-pub record PricedRung : Type 0 where
-  pub weight : ℤ
-  pub set : List ℕ
-  pub first : List ℤ
-  pub second : List ℤ
+use Rattle.mat_cert.specs.declared.answer.PricedRung.{PricedRung}
 
 -- an answer, by its command
 pub data Certificate : Type 0 where
@@ -29,10 +22,14 @@ set_line keyword set = keyword ∷ map (λ x. numeral (pos x)) set
 abbrev pub numbers_line : List ℕ → List ℤ → Line
 numbers_line keyword numbers = keyword ∷ map numeral numbers
 
+-- the first line of rung k
+abbrev pub rung_line : ℕ → ℤ → Line
+rung_line k weight = codes "rung" ∷ numeral (pos k) ∷ numeral weight ∷ []
+
 -- the four lines of rung k
 abbrev pub rung_lines : ℕ → PricedRung → List Line
 rung_lines k rung =
-    (codes "rung" ∷ numeral (pos k) ∷ numeral rung.weight ∷ []) ∷ set_line (codes "set") rung.set
+    rung_line k rung.weight ∷ set_line (codes "set") rung.set
     ∷ numbers_line (codes "first") rung.first ∷ numbers_line (codes "second") rung.second ∷ []
 
 -- the lines of the rungs, of which the first is rung k
@@ -44,12 +41,20 @@ rungs_lines k (rung ∷ rungs) = rung_lines k rung ++ rungs_lines (suc k) rungs
 abbrev pub last_rung : List PricedRung → ℕ
 last_rung rungs = length rungs - 1
 
+-- the two lines that begin an `intersect` certificate on n elements with rungs 0 to k
+abbrev pub intersect_header : ℕ → ℕ → List Line
+intersect_header n k =
+    (codes "certificate" ∷ codes "1" ∷ [])
+    ∷ (codes "answer" ∷ codes "intersect" ∷ numeral (pos n) ∷ numeral (pos k) ∷ []) ∷ []
+
+-- the line that ends a certificate
+abbrev pub end_line : Line
+end_line = codes "end" ∷ []
+
 -- the lines of a certificate
 abbrev pub certificate_lines : Certificate → List Line
 certificate_lines (intersect n rungs cut) =
-    (codes "certificate" ∷ codes "1" ∷ [])
-    ∷ (codes "answer" ∷ codes "intersect" ∷ numeral (pos n) ∷ numeral (pos (last_rung rungs)) ∷ [])
-    ∷ rungs_lines 0 rungs ++ set_line (codes "cut") cut ∷ (codes "end" ∷ []) ∷ []
+    intersect_header n (last_rung rungs) ++ rungs_lines 0 rungs ++ set_line (codes "cut") cut ∷ end_line ∷ []
 
 -- the one text of a certificate
 unfoldable pub certificate_text : Certificate → List ℕ
@@ -80,7 +85,7 @@ pub record IsRangedLadder (n : ℕ) (rungs : List PricedRung) (cut : List ℕ) :
   pub some : 0 < length rungs
   pub long : length rungs ≤ n + 1
   pub each : AreRangedRungs n 0 rungs
-  pub cut : IsSet n cut
+  pub cut_set : IsSet n cut
 
 -- the numbers and lists of a certificate are within the ranges of the format
 abbrev pub IsRanged : Certificate → Type 0
