@@ -63,7 +63,8 @@ IsSet-intersection n a b s = IsSet-subset n _ a (IsRising-intersection a b s.ris
 pub IsSet-union : (n : ℕ) (a b : List ℕ) → AllBelow n a → IsSet n b → IsSet n (union a b)
 IsSet-union n a b h s = IsSet-from n _ (IsRising-union a b s.rising) (λ x m. either_below n a b x h s (sym (is_member-union x a b) ∙ m))
   where
-    either_below : (n : ℕ) (a b : List ℕ) (x : ℕ) → AllBelow n a → IsSet n b → (is_member x a || is_member x b) ≡ true → x < n
+    either_below : (n : ℕ) (a b : List ℕ) (x : ℕ) → AllBelow n a → IsSet n b → (is_member x a || is_member x b) ≡ true
+        → x < n
     either_below n a b x h s m = elim (or_cases (is_member x a) (is_member x b) m) [ inl k ↦ AllBelow-member n a x h k | inr k ↦ below_member s k ]
 
 -- ---- all numbers below n
@@ -128,19 +129,22 @@ pub ruleset set_bounds = (IsSet-nil, IsSet-with_one, IsSet-without_one, IsSet-mi
 intersection-inside : (a e : List ℕ) → IsRising a → IsRising e → IsSubset a e → intersection e a ≡ a
 intersection-inside a e r q s = same_members _ _ (IsRising-intersection e a q) r (λ k. grind (arith, set_members, s.inside k))
 
-pub length-complement : (n : ℕ) (a : List ℕ) → IsRising a → AllBelow n a → length (minus (all_below n) a) + length a ≡ n
+pub length-complement : (n : ℕ) (a : List ℕ) → IsRising a → AllBelow n a
+    → length (minus (all_below n) a) + length a ≡ n
 length-complement n a r b =
     let e = IsRising-all_below n in
     omega (arith, length-minus-intersection (all_below n) a e, ap length (intersection-inside a (all_below n) r e (IsSubset-all_below n a b)), length-all_below n)
 
-pub complement-twice : (n : ℕ) (a : List ℕ) → IsRising a → AllBelow n a → minus (all_below n) (minus (all_below n) a) ≡ a
+pub complement-twice : (n : ℕ) (a : List ℕ) → IsRising a → AllBelow n a
+    → minus (all_below n) (minus (all_below n) a) ≡ a
 complement-twice n a r b =
     let s = IsSubset-all_below n a b in
     same_members _ _ (IsRising-minus _ _ (IsRising-all_below n)) r (λ k. grind (arith, set_members, s.inside k))
 
 -- ---- a list without repetition, in any order
 
-pub length-union_distinct : (xs b : List ℕ) → IsRising b → AreDistinct xs → ((k : ℕ) → is_member k xs ≡ true → is_member k b ≡ false) → length (union xs b) ≡ length xs + length b
+pub length-union_distinct : (xs b : List ℕ) → IsRising b → AreDistinct xs
+    → ((k : ℕ) → is_member k xs ≡ true → is_member k b ≡ false) → length (union xs b) ≡ length xs + length b
 unfolding union with_one
 length-union_distinct [] b r d apart = omega arith
 length-union_distinct (x ∷ t) b r d apart =
@@ -151,7 +155,8 @@ length-union_distinct (x ∷ t) b r d apart =
     added : (a : List ℕ) (x : ℕ) → IsRising a → is_member x a ≡ false → length (rising_insert x a) ≡ suc (length a)
     added a x r h = length-with_one a x r h
 
-pub sum_of-union_distinct : (f : ℕ → ℤ) (xs b : List ℕ) → IsRising b → AreDistinct xs → ((k : ℕ) → is_member k xs ≡ true → is_member k b ≡ false) → sum_of f (union xs b) ≡ sum_of f xs +ℤ sum_of f b
+pub sum_of-union_distinct : (f : ℕ → ℤ) (xs b : List ℕ) → IsRising b → AreDistinct xs
+    → ((k : ℕ) → is_member k xs ≡ true → is_member k b ≡ false) → sum_of f (union xs b) ≡ sum_of f xs +ℤ sum_of f b
 unfolding union with_one
 sum_of-union_distinct f [] b r d apart = omega (arith, ints)
 sum_of-union_distinct f (x ∷ t) b r d apart =
@@ -184,17 +189,22 @@ exchange_back a ys r s = same_members _ _ (IsRising-union ys _ (IsRising-minus a
 apart_out : (a ys : List ℕ) (k : ℕ) → is_member k ys ≡ true → is_member k (minus a ys) ≡ false
 apart_out a ys k h = grind (arith, set_members)
 
-apart_in : (a xs ys : List ℕ) (k : ℕ) → (is_member k xs ≡ true → is_member k a ≡ false) → is_member k xs ≡ true → is_member k (minus a ys) ≡ false
+apart_in : (a xs ys : List ℕ) (k : ℕ) → (is_member k xs ≡ true → is_member k a ≡ false) → is_member k xs ≡ true
+    → is_member k (minus a ys) ≡ false
 apart_in a xs ys k o h = let e = o h in grind (arith, set_members)
 
-pub length-exchange : (a xs ys : List ℕ) → IsRising a → AreDistinct xs → AreDistinct ys → IsSubset ys a → ((k : ℕ) → is_member k xs ≡ true → is_member k a ≡ false) → length (union xs (minus a ys)) + length ys ≡ length a + length xs
+pub length-exchange : (a xs ys : List ℕ) → IsRising a → AreDistinct xs → AreDistinct ys → IsSubset ys a
+    → ((k : ℕ) → is_member k xs ≡ true → is_member k a ≡ false)
+    → length (union xs (minus a ys)) + length ys ≡ length a + length xs
 length-exchange a xs ys r dx dy s o =
     let rest = IsRising-minus a ys r in
     let came = length-union_distinct xs (minus a ys) rest dx (λ k. apart_in a xs ys k (o k)) in
     let went = length-union_distinct ys (minus a ys) rest dy (apart_out a ys) in
     omega (arith, came, went, ap length (exchange_back a ys r s))
 
-pub sum_of-exchange : (f : ℕ → ℤ) (a xs ys : List ℕ) → IsRising a → AreDistinct xs → AreDistinct ys → IsSubset ys a → ((k : ℕ) → is_member k xs ≡ true → is_member k a ≡ false) → sum_of f (union xs (minus a ys)) +ℤ sum_of f ys ≡ sum_of f a +ℤ sum_of f xs
+pub sum_of-exchange : (f : ℕ → ℤ) (a xs ys : List ℕ) → IsRising a → AreDistinct xs → AreDistinct ys → IsSubset ys a
+    → ((k : ℕ) → is_member k xs ≡ true → is_member k a ≡ false)
+    → sum_of f (union xs (minus a ys)) +ℤ sum_of f ys ≡ sum_of f a +ℤ sum_of f xs
 sum_of-exchange f a xs ys r dx dy s o =
     let rest = IsRising-minus a ys r in
     let came = sum_of-union_distinct f xs (minus a ys) rest dx (λ k. apart_in a xs ys k (o k)) in

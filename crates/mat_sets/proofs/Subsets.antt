@@ -48,7 +48,8 @@ pub ruleset subsets = (IsSubset-refl, IsSubset-with_one, with_one-IsSubset, with
 -- ---- a member that passes, or none
 
 -- some number in a passes, or none does
-pub find_member : (p : ℕ → Bool) (a : List ℕ) → ((e : ℕ) × (is_member e a ≡ true) × (p e ≡ true)) ⊎ ((k : ℕ) → is_member k a ≡ true → p k ≡ false)
+pub find_member : (p : ℕ → Bool) (a : List ℕ)
+    → ((e : ℕ) × (is_member e a ≡ true) × (p e ≡ true)) ⊎ ((k : ℕ) → is_member k a ≡ true → p k ≡ false)
 find_member p [] = inr (λ k h. absurd (both_ways false refl h))
 find_member p (x ∷ t) =
     elim (cases_Bool (p x)) [
@@ -75,7 +76,8 @@ length-subset a b r s h =
     let flip : intersection b a ≡ a = same_members _ _ (IsRising-intersection b a s) r (λ k. grind (arith, set_members)) in
     omega (arith, length-minus-intersection b a s, ap length flip)
 
-pub larger_has : (a b : List ℕ) → IsRising a → IsRising b → length a < length b → (e : ℕ) × (is_member e b ≡ true) × (is_member e a ≡ false)
+pub larger_has : (a b : List ℕ) → IsRising a → IsRising b → length a < length b
+    → (e : ℕ) × (is_member e b ≡ true) × (is_member e a ≡ false)
 larger_has a b r s l =
     elim (subset_or b a) [
       | inl h ↦ absurd (omega (arith, length-subset b a s r h))
@@ -97,7 +99,8 @@ subsets_equal a b r s h g = same_members a b r s (λ k. grind (arith, h.inside k
 -- ---- sums
 
 -- where no number counts negative, more members give more
-pub sum_of-subset : (f : ℕ → ℤ) (a b : List ℕ) → IsRising a → IsRising b → IsSubset a b → ((k : ℕ) → is_member k b ≡ true → pos 0 ≤ℤ f k) → sum_of f a ≤ℤ sum_of f b
+pub sum_of-subset : (f : ℕ → ℤ) (a b : List ℕ) → IsRising a → IsRising b → IsSubset a b
+    → ((k : ℕ) → is_member k b ≡ true → pos 0 ≤ℤ f k) → sum_of f a ≤ℤ sum_of f b
 sum_of-subset f a b r s h p = omega (arith, ints, sum_of-minus_subset f b a s r h, not_negative f (minus b a) (λ k m. p k (inside_left b a k m)))
   where
     inside_left : (b a : List ℕ) (k : ℕ) → is_member k (minus b a) ≡ true → is_member k b ≡ true
