@@ -10,3 +10,4 @@ pub mod Decisions
 pub mod Places
 pub mod Levels
 pub mod Reach
+pub mod Changes
