@@ -1,5 +1,5 @@
 -- Tables of the classes of elements, and the numbers that are read off them: each loop begins well, and goes on well.
-use Rattle.std.proofs.Common.{◌≡◌, ℕ, ◌+◌, ◌<◌, ◌≤◌, ◌≢◌, ◌↔◌, Bool, true, false, cond, ◌||◌, ◌&&◌, not, eqb, List, [], ◌∷◌, ◌++◌, length, get_or, set, take, drop, length-take, replicate, Option, Some, None, refl, sym, ap, ◌∙◌, inl, inr, arith}
+use Rattle.std.proofs.Common.{◌≡◌, ℕ, ◌+◌, ◌<◌, ◌≤◌, ◌≢◌, ◌↔◌, Bool, true, false, cond, ◌||◌, not, eqb, List, [], ◌++◌, length, get_or, set, take, drop, length-take, replicate, Option, Some, None, refl, sym, ap, ◌∙◌, inl, inr, arith}
 use Rattle.std.proofs.lemmas.Bool.{cases_Bool, cases_eq, cases_lt, cases_order, both_ways, eq-eqb, ne_eqb, and_parts, false_from_ne_true}
 use Rattle.std.proofs.lemmas.List.{get_or-take, get_or_past, get_or-set_same, get_or-set_other, get_or-replicate, get_or_default, length-set, length-replicate}
 use Rattle.std.proofs.lemmas.List.Filters.{length-filter_both}
@@ -23,10 +23,12 @@ pub IsEntered-none : (table : List (Option ℕ)) (class : List ℕ) (place : ℕ
 IsEntered-none table class place = record { at = λ e l. refl }
 
 pub IsEntered-more : (before table : List (Option ℕ)) (class : List ℕ) (place i : ℕ) → i < length class → length table ≡ length before → get_or class i 0 < length before → IsEntered before (take i class) place table → IsEntered before (take (i + 1) class) place (set table (get_or class i 0) (Some place))
-IsEntered-more before table class place i inside long small entered = record { at = λ e l. elim (cases_eq e (get_or class i 0)) [
-  | inl same ↦ here e same (is_member e (take i class)) (is_member-take_more class i e inside)
-  | inr other ↦ there e other l (is_member e (take i class)) (is_member-take_more class i e inside) (entered.at e l)
-] }
+IsEntered-more before table class place i inside long small entered = record {
+  at = λ e l. elim (cases_eq e (get_or class i 0)) [
+    | inl same ↦ here e same (is_member e (take i class)) (is_member-take_more class i e inside)
+    | inr other ↦ there e other l (is_member e (take i class)) (is_member-take_more class i e inside) (entered.at e l)
+  ];
+}
   where
     here : (e : ℕ) → e ≡ get_or class i 0 → (b : Bool) → is_member e (take (i + 1) class) ≡ (b || eqb e (get_or class i 0)) → get_or (set table (get_or class i 0) (Some place)) e None ≡ cond (is_member e (take (i + 1) class)) (Some place) (get_or before e None)
     here e same true is = rw (is, same) (get_or-set_same table (get_or class i 0) (Some place) None (omega arith))

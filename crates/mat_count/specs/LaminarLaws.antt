@@ -1,12 +1,12 @@
 -- Where no two listed sets cross, the sets within the caps are the independent sets of a matroid.
 -- Idea of the exchange: if each element of J outside I stands in a set that I fills, then I has at least as many members
 -- as J in each filled set, and so in their union, since filled sets are nested or apart; and outside the union J lies in I.
-use Rattle.std.proofs.Common.{◌≡◌, ℕ, zero, suc, ◌<◌, ◌≤◌, ◌+◌, Bool, true, false, cond, not, ◌&&◌, ◌||◌, leb, ltb, List, [], ◌∷◌, length, get_or, ◌⊎◌, inl, inr, refl, sym, ap, ◌∙◌, arith}
-use Rattle.std.proofs.lemmas.Bool.{cases_Bool, cases_lt, and_parts, and_from, both_ways, leb-true, le-leb, lt-leb, ltb-true, lt-ltb, not-true, not_from_false, false_from_ne_true}
+use Rattle.std.proofs.Common.{◌≡◌, ℕ, zero, suc, ◌<◌, ◌≤◌, ◌+◌, true, false, cond, not, ◌&&◌, leb, ltb, List, [], ◌∷◌, length, get_or, ◌⊎◌, inl, inr, refl, ap, ◌∙◌, arith}
+use Rattle.std.proofs.lemmas.Bool.{cases_Bool, cases_lt, and_parts, and_from, both_ways, leb-true, le-leb, ltb-true, lt-ltb, not-true, false_from_ne_true}
 use Rattle.mat_sets.specs.Sets.{is_member, IsRising, IsSubset, with_one, minus, intersection, union}
 use Rattle.mat_sets.specs.SetTests.{is_set}
 use Rattle.mat_sets.specs.Families.{indicator, family_union}
-use Rattle.mat_sets.proofs.Members.{same_members, set_mem, is_member-head, is_member-union, is_member-minus, IsRising-nil, IsRising-union, IsRising-intersection, IsRising-minus, IsRising-with_one}
+use Rattle.mat_sets.proofs.Members.{same_members, set_mem, is_member-head, is_member-union, IsRising-nil, IsRising-intersection, IsRising-minus, IsRising-with_one}
 use Rattle.mat_sets.proofs.Sums.{sizes}
 use Rattle.mat_sets.proofs.Cardinalities.{length-subset, length-minus-intersection, length-with_one, find_in, subset_or}
 use Rattle.mat_sets.proofs.Ground.{below-is_member, below-subset}

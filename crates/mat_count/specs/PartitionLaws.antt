@@ -1,12 +1,12 @@
 -- Classes that share no member do not cross, so that partition matroids are laminar ones.
 use Rattle.std.proofs.Common.{◌≡◌, ℕ, zero, suc, ◌<◌, ◌≤◌, ◌≢◌, Bool, true, false, List, [], ◌∷◌, length, get_or, inl, inr, refl, ap, sym, ◌∙◌, arith}
 use Rattle.std.proofs.lemmas.List.{get_or_past}
-use Rattle.std.proofs.lemmas.Bool.{both_ways, cases_Bool, cases_order, cases_lt, false_from_ne_true}
+use Rattle.std.proofs.lemmas.Bool.{both_ways, cases_order, cases_lt, false_from_ne_true}
 use Rattle.mat_sets.specs.Sets.{is_member}
 use Rattle.mat_sets.specs.Families.{indicator, multiplicity, AreDisjoint}
 use Rattle.mat_laws.specs.Matroids.{IsMatroid}
 use Rattle.mat_count.specs.Counts.{is_counted}
-use Rattle.mat_count.specs.Laminar.{crosses, IsLaminarFamily}
+use Rattle.mat_count.specs.Laminar.{IsLaminarFamily}
 use Rattle.mat_count.specs.LaminarLaws.{Crosses-from_test, counted_laws}
 use Rattle.mat_count.specs.Partitions.{IsPartition}
 

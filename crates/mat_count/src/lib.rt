@@ -3,6 +3,8 @@
 
 mod laws;
 mod partition;
+#[cfg(test)]
+mod tests;
 mod uniform;
 
 pub use laws::{crosses_means, laminar_laws, within_caps_means};

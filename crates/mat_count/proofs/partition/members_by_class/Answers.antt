@@ -1,4 +1,4 @@
-use Rattle.std.proofs.Common.{ap, arith, length, ◌<◌, ◌≤◌, get_or}
+use Rattle.std.proofs.Common.{ap, arith, length, ◌<◌}
 use Rattle.mat_sets.proofs.Sums.{below-at}
 use Rattle.mat_count.proofs.ClassTables.{CountsMembers-named, CountsMembers-free, named-inside, number-small}
 use Rattle.mat_count.proofs.partition.members_by_class.Goals as goal
