@@ -22,6 +22,10 @@ set_line keyword set = keyword ∷ map (λ x. numeral (pos x)) set
 abbrev pub numbers_line : List ℕ → List ℤ → Line
 numbers_line keyword numbers = keyword ∷ map numeral numbers
 
+-- the bytes are the text of a line of a keyword and numbers
+abbrev pub IsNumbersLine : List ℕ → List ℤ → List ℕ → Type 0
+IsNumbersLine keyword numbers bytes = bytes ≡ text_of (numbers_line keyword numbers ∷ [])
+
 -- the first line of rung k
 abbrev pub rung_line : ℕ → ℤ → Line
 rung_line k weight = codes "rung" ∷ numeral (pos k) ∷ numeral weight ∷ []

@@ -2,7 +2,7 @@
 ghost use Rattle.std.specs.Prelude.{◌≡◌, ◌++◌, ◌∷◌, [], codes, pos, IfOk, OnOk};
 ghost use Rattle.mat_words.specs.Numbers.{numeral};
 ghost use Rattle.mat_words.specs.Lines.{text_of};
-ghost use Rattle.mat_cert.specs.Certificates.{certificate_text, intersect, intersect_header, numbers_line, rung_line, rung_lines, rungs_lines, set_line};
+ghost use Rattle.mat_cert.specs.Certificates.{IsNumbersLine, certificate_text, intersect, intersect_header, numbers_line, rung_line, rung_lines, rungs_lines, set_line};
 ghost use Rattle.mat_cert.specs.Views.{certificate_of};
 
 use crate::answer::{Answer, PricedRung};
@@ -54,23 +54,70 @@ fn put_rung_line(out: &mut Vec<u8>, k: usize, weight: i128) -> Result<(), AllocE
     Ok(())
 }
 
-// Appends the four lines of rung k.
-fn put_rung(out: &mut Vec<u8>, k: usize, rung: &PricedRung) -> Result<(), AllocError>
+// A line of numbers with its text, at hand for the next rung, whose numbers are often the same.
+#[derive(Drop)]
+struct WrittenLine<'a> {
+    numbers: &'a [i128],
+    text: Vec<u8>,
+}
+
+// The line of a keyword and no numbers.
+fn empty_line<'a>(alloc: Global, keyword: &[u8]) -> Result<WrittenLine<'a>, AllocError>
+    ensures { IfOk result (λ line. IsNumbersLine keyword.now line.numbers.now line.text.items) }
+{
+    let mut text = Vec::new(alloc);
+    put_numbers_line(&mut text, keyword, &[])?;
+    Ok(WrittenLine { numbers: &[], text })
+}
+
+// The line of these numbers. It is written anew only where they are others than those of the line before.
+fn renewed_line<'a>(
+    before: WrittenLine<'a>,
+    keyword: &[u8],
+    numbers: &'a [i128],
+) -> Result<WrittenLine<'a>, AllocError>
+    requires { IsNumbersLine keyword.now before.numbers.now before.text.items }
+    ensures numbers { IfOk result (λ line. line.numbers.now ≡ numbers.now) }
+    ensures text { IfOk result (λ line. IsNumbersLine keyword.now numbers.now line.text.items) }
+{
+    if before.numbers == numbers {
+        return Ok(before);
+    }
+    let mut text = before.text;
+    text.clear();
+    put_numbers_line(&mut text, keyword, numbers)?;
+    Ok(WrittenLine { numbers, text })
+}
+
+// Appends the four lines of rung k, of which the last two were written before.
+fn put_rung(
+    out: &mut Vec<u8>,
+    k: usize,
+    rung: &PricedRung,
+    first: &[u8],
+    second: &[u8],
+) -> Result<(), AllocError>
+    requires first { IsNumbersLine (codes "first") rung.now.first first.now }
+    requires second { IsNumbersLine (codes "second") rung.now.second second.now }
     ensures { OnOk result (out.new.items ≡ out.old.items ++ text_of (rung_lines k rung.now)) }
 {
     put_rung_line(out, k, rung.weight)?;
     put_set_line(out, b"set", rung.set.as_slice())?;
-    put_numbers_line(out, b"first", rung.first.as_slice())?;
-    put_numbers_line(out, b"second", rung.second.as_slice())?;
+    out.extend_from_slice(first)?;
+    out.extend_from_slice(second)?;
     Ok(())
 }
 
 // Appends the lines of all rungs.
-fn put_rungs(out: &mut Vec<u8>, rungs: &[PricedRung]) -> Result<(), AllocError>
+fn put_rungs(alloc: Global, out: &mut Vec<u8>, rungs: &[PricedRung]) -> Result<(), AllocError>
     ensures { OnOk result (out.new.items ≡ out.old.items ++ text_of (rungs_lines 0 rungs.now)) }
 {
+    let mut first = empty_line(alloc, b"first")?;
+    let mut second = empty_line(alloc, b"second")?;
     for (k, rung) in rungs.iter().enumerate() {
-        put_rung(out, k, rung)?;
+        first = renewed_line(first, b"first", rung.first.as_slice())?;
+        second = renewed_line(second, b"second", rung.second.as_slice())?;
+        put_rung(out, k, rung, &first.text, &second.text)?;
     }
     Ok(())
 }
@@ -97,13 +144,13 @@ fn intersect_text(
 {
     let mut out = Vec::new(alloc);
     put_intersect_header(&mut out, count, rungs.len().saturating_sub(1))?;
-    put_rungs(&mut out, rungs)?;
+    put_rungs(alloc, &mut out, rungs)?;
     put_set_line(&mut out, b"cut", cut.as_slice())?;
     out.extend_from_slice(b"end\n")?;
     Ok(out)
 }
 
-/// The one text of an answer, whatever its numbers and lengths are. It takes memory for the text alone.
+/// The one text of an answer, whatever its numbers and lengths are. It takes memory for the text and for two of its lines.
 pub fn write_answer(alloc: Global, answer: &Answer) -> Result<Vec<u8>, AllocError>
     ensures { IfOk result (λ v. v.items ≡ certificate_text (certificate_of answer.now)) }
 {
