@@ -1,0 +1,11 @@
+//! What the program asks of files and of sinks: traits whose calls count their faults, objects in
+//! memory that fail where they are told to or never, and the real files and streams.
+#![tactic(auto)]
+
+mod mem_shelf;
+mod named_file;
+mod traits;
+
+pub use mem_shelf::MemShelf;
+pub use named_file::NamedFile;
+pub use traits::{Failed, Shelf, Sink};
