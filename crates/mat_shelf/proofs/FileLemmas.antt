@@ -1,13 +1,13 @@
 -- Files by name: a raised count changes neither what is held nor what is open, and lets no count fall.
-use Rattle.std.proofs.Common.{◌≡◌, ℕ, zero, suc, ◌+◌, ◌-◌, ◌^◌, ◌≤◌, ◌<◌, min, Bool, true, false, cond, List, [], ◌∷◌, length, get_or, set, drop, Option, Some, None, refl, sym, ap, ◌∙◌, arith, inl, inr}
-use Rattle.std.specs.Prelude.{slice_get, option_map, position}
+use Rattle.std.proofs.Common.{◌≡◌, ℕ, zero, suc, ◌≤◌, ◌<◌, Bool, true, false, cond, List, [], ◌∷◌, length, get_or, set, Option, Some, None, refl, sym, ap, ◌∙◌, arith, inl, inr}
+use Rattle.std.specs.Prelude.{position}
 use Rattle.std.specs.List.{position_or_len}
 use Rattle.std.proofs.lemmas.Grind.{common_steps}
 use Rattle.std.proofs.lemmas.List.Sums.{fails_before_first}
 use Rattle.std.proofs.lemmas.Bool.{cases_lt, cases_Bool}
 use Rattle.std.proofs.lemmas.List.Quantifiers.{position-Some}
 use Rattle.mat_shelf.specs.Faults.{Rose, next_count, last_count}
-use Rattle.mat_shelf.specs.Files.{FileState, OpenFile, has_name, held_in, count_in, with_fault, files_with_fault, other_with_fault, open_at}
+use Rattle.mat_shelf.specs.Files.{FileState, has_name, held_in, count_in, with_fault, files_with_fault, other_with_fault, open_at}
 
 -- i is the place of the first file of this name
 pub record IsPlaceOf (files : List FileState) (name : List ℕ) (i : ℕ) (f : FileState) : Type 0 where

@@ -1,5 +1,5 @@
 -- Files in memory, and the shelves that are made of them.
-use Rattle.std.specs.Prelude.{◌≡◌, ℕ, ◌⊎◌, List, [], ◌∷◌, drop, length, min, unwrap_or, Bool, Option, Some, None, Contains, IfSome, bytes_eq, option_map, slice_get, is_some, if◌then◌else◌}
+use Rattle.std.specs.Prelude.{◌≡◌, ℕ, ◌⊎◌, List, [], ◌∷◌, drop, length, min, unwrap_or, Bool, Option, Some, None, Contains, bytes_eq, option_map, slice_get, is_some, if◌then◌else◌}
 use Rattle.mat_shelf.specs.Faults.{next_count}
 
 -- a file: its name, what it holds, and how often a call for it failed

@@ -1,5 +1,5 @@
 -- Sinks in memory.
-use Rattle.std.specs.Prelude.{◌≡◌, ℕ, ◌+◌, ◌-◌, ◌<◌, ◌≤◌, ◌⊎◌, min, nat_le, List, ◌++◌, take, length, Option, Some, None, Contains, if◌then◌else◌}
+use Rattle.std.specs.Prelude.{ℕ, ◌+◌, ◌-◌, ◌<◌, ◌≤◌, ◌⊎◌, min, nat_le, List, ◌++◌, take, length, Option, Some, None, Contains, if◌then◌else◌}
 use Rattle.mat_shelf.specs.Faults.{next_count}
 
 -- A sink in memory: what it took, the most bytes that it takes in all and in a call, the numbers
@@ -37,3 +37,7 @@ after_failed_put s = record s { calls = next_count s.calls; faults = next_count 
 abbrev pub told_after : Option (List ℕ) → ℕ → List ℕ → Option (List ℕ)
 told_after None room piece = None
 told_after (Some bytes) room piece = if nat_le (length bytes + length piece) room then Some (bytes ++ piece) else None
+
+-- the sink after a piece was put
+abbrev pub after_sure_put : SureSinkState → List ℕ → SureSinkState
+after_sure_put s piece = record s { told = told_after s.told s.room piece }

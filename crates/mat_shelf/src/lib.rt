@@ -3,9 +3,13 @@
 #![tactic(auto)]
 
 mod mem_shelf;
+mod mem_sink;
 mod named_file;
+mod sure_sink;
 mod traits;
 
 pub use mem_shelf::MemShelf;
+pub use mem_sink::MemSink;
 pub use named_file::NamedFile;
+pub use sure_sink::SureSink;
 pub use traits::{Failed, Shelf, Sink};
