@@ -78,8 +78,9 @@ missing_from files name f e =
 pub held_in-files_with_fault : (files : List FileState) (m n : List ℕ) → held_in (files_with_fault files m) n ≡ held_in files n
 held_in-files_with_fault [] m n = refl
 held_in-files_with_fault (f ∷ fs) m n = elim (cases_Bool (has_name m f)) [
-    inl same ↦ rw same refl
-  | inr other ↦ rw other (ap (λ (r : Option (List ℕ)). cond (has_name n f) (Some f.bytes) r) (held_in-files_with_fault fs m n)) ]
+  | inl same ↦ rw same refl
+  | inr other ↦ rw other (ap (λ (r : Option (List ℕ)). cond (has_name n f) (Some f.bytes) r) (held_in-files_with_fault fs m n))
+]
 
 -- a raised count leaves the file that is open
 pub open_at-files_with_fault : (files : List FileState) (m : List ℕ) (place : Option ℕ) (from : ℕ) → open_at (files_with_fault files m) place from ≡ open_at files place from
@@ -87,15 +88,17 @@ open_at-files_with_fault files m None from = refl
 open_at-files_with_fault [] m (Some i) from = refl
 open_at-files_with_fault (f ∷ fs) m (Some zero) from = elim (cases_Bool (has_name m f)) [ inl same ↦ rw same refl | inr other ↦ rw other refl ]
 open_at-files_with_fault (f ∷ fs) m (Some (suc i)) from = elim (cases_Bool (has_name m f)) [
-    inl same ↦ rw same refl
-  | inr other ↦ rw other (open_at-files_with_fault fs m (Some i) from) ]
+  | inl same ↦ rw same refl
+  | inr other ↦ rw other (open_at-files_with_fault fs m (Some i) from)
+]
 
 -- the count of the call's name is raised
 pub count_in-raised : (files : List FileState) (other : ℕ) (m : List ℕ) → count_in (files_with_fault files m) (other_with_fault files other m) m ≡ next_count (count_in files other m)
 count_in-raised [] other m = refl
 count_in-raised (f ∷ fs) other m = elim (cases_Bool (has_name m f)) [
-    inl same ↦ rw same (rw same refl)
-  | inr differs ↦ rw differs (rw differs (count_in-raised fs other m)) ]
+  | inl same ↦ rw same (rw same refl)
+  | inr differs ↦ rw differs (rw differs (count_in-raised fs other m))
+]
 
 le_cond : (b : Bool) (x y u v : ℕ) → x ≤ u → y ≤ v → cond b x y ≤ cond b u v
 le_cond true x y u v p q = p
@@ -105,12 +108,13 @@ le_cond false x y u v p q = q
 pub count_in-grows : (files : List FileState) (other : ℕ) (m n : List ℕ) → count_in files other m ≤ last_count → count_in files other n ≤ count_in (files_with_fault files m) (other_with_fault files other m) n
 count_in-grows [] other m n fits = omega arith
 count_in-grows (f ∷ fs) other m n fits = elim (cases_Bool (has_name m f)) [
-    inl same ↦
+  | inl same ↦
       let at : f.faults ≤ last_count = rw same at fits in
       rw same (le_cond (has_name n f) f.faults (count_in fs other n) (next_count f.faults) (count_in fs other n) (omega arith) (omega arith))
   | inr differs ↦
       let at : count_in fs other m ≤ last_count = rw differs at fits in
-      rw differs (le_cond (has_name n f) f.faults (count_in fs other n) f.faults (count_in (files_with_fault fs m) (other_with_fault fs other m) n) (omega arith) (count_in-grows fs other m n at)) ]
+      rw differs (le_cond (has_name n f) f.faults (count_in fs other n) f.faults (count_in (files_with_fault fs m) (other_with_fault fs other m) n) (omega arith) (count_in-grows fs other m n at))
+]
 
 pub next_count-rose : (n : ℕ) → n ≤ last_count → Rose n (next_count n)
 next_count-rose n fits = elim (cases_lt n last_count) [ inl lt ↦ inl (omega arith) | inr ge ↦ inr (omega arith) ]
@@ -130,7 +134,8 @@ fault_at files read other name place i f same found at is =
     record {
       files_after = files_with_fault-place files name i f first ∙ ap (λ (g : FileState). set files i (with_fault g)) (sym is);
       other_after = rw (held_in-place files name i f first) refl;
-      count = count_in-place files other name i f first ∙ ap (λ (g : FileState). g.faults) (sym is) }
+      count = count_in-place files other name i f first ∙ ap (λ (g : FileState). g.faults) (sym is);
+    }
 
 -- what a count of the fault leaves, where no file has this name
 pub record IsFaultOfOther (files : List FileState) (other : ℕ) (name : List ℕ) : Type 0 where
@@ -145,4 +150,5 @@ fault_of_other files read other name place same found at =
     record {
       files_after = files_with_fault-missing files name f missing;
       other_after = rw (held_in-missing files name f missing) refl;
-      count = count_in-missing files other name f missing }
+      count = count_in-missing files other name f missing;
+    }

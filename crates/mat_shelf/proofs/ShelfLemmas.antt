@@ -1,10 +1,11 @@
 -- What a call of a shelf in memory leaves, by the state that it leaves.
-use Rattle.std.proofs.Common.{◌≡◌, ℕ, zero, suc, ◌≤◌, ◌<◌, true, false, List, [], ◌∷◌, length, get_or, drop, Option, Some, None, refl, arith}
-use Rattle.std.specs.Prelude.{option_map, position, IsSome, IfOk, OnOk, OnErr, Result, Ok, Err}
+use Rattle.std.proofs.Common.{List, None, Option, Some, [], ap, arith, drop, false, get_or, inl, inr, length, refl, suc, sym, true, zero, ℕ, ◌<◌, ◌∙◌, ◌∷◌, ◌≡◌, ◌≤◌}
+use Rattle.std.specs.Prelude.{unwrap_or, option_map, position, IsSome, IfOk, OnOk, OnErr, Result, Ok, Err}
 use Rattle.std.proofs.lemmas.Slice.Eq.{bytes_eq-Decides}
 use Rattle.std.proofs.lemmas.Option.{slice_get-get_or, slice_get_read}
 use Rattle.mat_shelf.specs.Faults.{Rose, last_count}
-use Rattle.mat_shelf.specs.Files.{FileState, MemShelfState, has_name, held_in, count_in, open_at, left_of, IsReading, after_open, after_failed_open, after_read, after_failed_read}
+use Rattle.std.proofs.lemmas.Bool.{cases_Bool}
+use Rattle.mat_shelf.specs.Files.{held_or, bytes_at, FileState, MemShelfState, has_name, held_in, count_in, open_at, left_of, IsReading, after_open, after_failed_open, after_read, after_failed_read}
 use Rattle.mat_shelf.proofs.FileLemmas.{place_from, missing_from, held_in-place, held_in-missing, held_in-files_with_fault, count_in-grows, count_in-rose}
 
 -- the file of this name is opened with all that it holds
@@ -62,3 +63,21 @@ count_in-after_read (Err _) s t name other ok err fits = rw err (count_in-grows 
 pub rose-after_read : {E : Type 0} (r : Result ℕ E) (s t : MemShelfState) (name : List ℕ) → OnErr r (t ≡ after_failed_read s name) → OnErr r (count_in s.files s.other_faults name ≤ last_count) → OnErr r (Rose (count_in s.files s.other_faults name) (count_in t.files t.other_faults name))
 rose-after_read (Ok _) s t name err fits = tt
 rose-after_read (Err _) s t name err fits = rw err (count_in-rose s.files s.other_faults name fits)
+
+held_or-held_in : (files : List FileState) (other name : List ℕ) → held_or files other name ≡ unwrap_or (held_in files name) other
+held_or-held_in [] other name = refl
+held_or-held_in (f ∷ fs) other name = elim (cases_Bool (has_name name f)) [
+  | inl same ↦ rw same refl
+  | inr differs ↦ rw differs (held_or-held_in fs other name)
+]
+
+-- the bytes at the place of a name are what the name holds
+pub bytes_at-place : (files read : List FileState) (other name : List ℕ) (place : Option ℕ) → read ≡ files → place ≡ position (has_name name) read → bytes_at files other place ≡ held_or files other name
+bytes_at-place files read other name None same found =
+    let missing : position (has_name name) files ≡ None = ap (λ (xs : List FileState). position (has_name name) xs) (sym same) ∙ sym found in
+    rw (held_or-held_in files other name, held_in-not_found files name missing) refl
+bytes_at-place files read other name (Some i) same found =
+    let f : FileState = record { name = []; bytes = []; faults = 0 } in
+    let at : position (has_name name) files ≡ Some i = ap (λ (xs : List FileState). position (has_name name) xs) (sym same) ∙ sym found in
+    let first = place_from files name i f at in
+    rw (held_or-held_in files other name, held_in-place files name i f first, slice_get-get_or files i f first.inside) refl

@@ -90,20 +90,23 @@ after_failed_open s name = record s {
   files = files_with_fault s.files name;
   calls = next_count s.calls;
   opened = None;
-  other_faults = other_with_fault s.files s.other_faults name }
+  other_faults = other_with_fault s.files s.other_faults name;
+}
 
 -- the shelf after an opening of this name: all that the file holds is left
 abbrev pub after_open : MemShelfState → List ℕ → MemShelfState
 after_open s name = record s {
   calls = next_count s.calls;
-  opened = option_map (λ bytes. record { name = name; left = bytes }) (held_in s.files name) }
+  opened = option_map (λ bytes. record { name = name; left = bytes }) (held_in s.files name);
+}
 
 -- the shelf after a read that failed: it is a fault of this name
 abbrev pub after_failed_read : MemShelfState → List ℕ → MemShelfState
 after_failed_read s name = record s {
   files = files_with_fault s.files name;
   calls = next_count s.calls;
-  other_faults = other_with_fault s.files s.other_faults name }
+  other_faults = other_with_fault s.files s.other_faults name;
+}
 
 -- the file that is open, c bytes of what was left dropped
 abbrev pub dropped : ℕ → OpenFile → OpenFile
@@ -117,4 +120,22 @@ read_count s room = min (min s.step room) (length (unwrap_or (left_of s.opened) 
 abbrev pub after_read : MemShelfState → ℕ → MemShelfState
 after_read s c = record s {
   calls = next_count s.calls;
-  opened = option_map (dropped c) s.opened }
+  opened = option_map (dropped c) s.opened;
+}
+
+-- the bytes of the file at a place, or those of every other name
+abbrev pub bytes_at : List FileState → List ℕ → Option ℕ → List ℕ
+bytes_at files other None = other
+bytes_at files other (Some place) = unwrap_or (option_map (λ f. f.bytes) (slice_get files place)) other
+
+-- the shelf that never fails after an opening of this name: all that the name holds is left
+abbrev pub after_sure_open : SureShelfState → List ℕ → SureShelfState
+after_sure_open s name = record s { left = held_or s.files s.other name }
+
+-- how many bytes a read into a buffer of this length gives
+abbrev pub sure_read_count : SureShelfState → ℕ → ℕ
+sure_read_count s room = min room (length s.left)
+
+-- the shelf that never fails after a read into a buffer of this length
+abbrev pub after_sure_read : SureShelfState → ℕ → SureShelfState
+after_sure_read s room = record s { left = drop (sure_read_count s room) s.left }

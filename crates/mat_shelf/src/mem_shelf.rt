@@ -33,12 +33,13 @@ impl Model for MemShelf {
     ghost Value = { MemShelfState };
 
     ghost view = { λ s. record {
-        files = s.files.items;
-        step = s.step;
-        fail = s.fail.items;
-        calls = s.calls;
-        opened = open_at s.files.items s.place s.from;
-        other_faults = s.other_faults } };
+      files = s.files.items;
+      step = s.step;
+      fail = s.fail.items;
+      calls = s.calls;
+      opened = open_at s.files.items s.place s.from;
+      other_faults = s.other_faults;
+    } };
 
     ghost invariant = { λ s. 0 < s.step };
 }
@@ -154,5 +155,42 @@ impl Shelf for MemShelf {
         ensures cause { OnErr result (Rose (count_in self.old.files self.old.other_faults name.now) (count_in self.new.files self.new.other_faults name.now)) }
     {
         self.read_file(name, into)
+    }
+}
+
+#[cfg(test)]
+mod tests {
+    use super::*;
+    use std::test::Fail;
+
+    #[test]
+    fn a_step_of_one_gives_a_file_byte_by_byte(rt: HostRuntime) -> Result<(), Fail> {
+        let alloc = rt.alloc();
+        let name = String::from_str(alloc, "f")?;
+        let bytes = b"abc".to_vec(alloc)?;
+        let files = vec![in alloc; NamedFile::new(name, bytes)]?;
+        let mut shelf = MemShelf::new(files, 1, Vec::new(alloc));
+        assert!(rt; shelf.open("f").is_ok());
+        for wanted in b"abc" {
+            let mut into = [0; 4];
+            assert_eq!(rt; shelf.read("f", &mut into), Ok(1));
+            assert_eq!(rt; into[0], *wanted);
+        }
+        assert_eq!(rt; shelf.read("f", &mut [0; 4]), Ok(0));
+        Ok(())
+    }
+
+    #[test]
+    fn a_missing_name_is_counted_with_all_other_names(rt: HostRuntime) -> Result<(), Fail> {
+        let alloc = rt.alloc();
+        let name = String::from_str(alloc, "f")?;
+        let bytes = b"abc".to_vec(alloc)?;
+        let files = vec![in alloc; NamedFile::new(name, bytes)]?;
+        let mut shelf = MemShelf::new(files, 9, vec![in alloc; 2]?);
+        assert!(rt; shelf.open("f").is_ok());
+        assert_eq!(rt; shelf.read("f", &mut [0; 4]), Err(Failed));
+        assert_eq!(rt; shelf.open("g"), Err(Failed));
+        assert_eq!(rt; shelf.other_faults, 1);
+        Ok(())
     }
 }

@@ -29,12 +29,13 @@ impl Model for MemSink {
     ghost Value = { MemSinkState };
 
     ghost view = { λ s. record {
-        taken = s.taken.items;
-        room = s.room;
-        step = s.step;
-        fail = s.fail.items;
-        calls = s.calls;
-        faults = s.faults } };
+      taken = s.taken.items;
+      room = s.room;
+      step = s.step;
+      fail = s.fail.items;
+      calls = s.calls;
+      faults = s.faults;
+    } };
 
     ghost invariant = { λ s. (0 < s.step) × (vec_len s.taken ≤ s.room) × (s.room ≤ vec_capacity s.taken) };
 }
@@ -100,5 +101,24 @@ impl Sink for MemSink {
         let count = piece.len().min(self.step).min(left);
         self.taken.extend_from_slice(&piece[..count]).unwrap();
         Ok(count)
+    }
+}
+
+#[cfg(test)]
+mod tests {
+    use super::*;
+    use std::test::Fail;
+
+    #[test]
+    fn a_step_of_one_takes_two_bytes_before_the_third_call_fails(
+        rt: HostRuntime,
+    ) -> Result<(), Fail> {
+        let alloc = rt.alloc();
+        let mut sink = MemSink::new(alloc, 100, 1, vec![in alloc; 3]?)?;
+        assert_eq!(rt; sink.put(b"certificate".as_slice()), Ok(1));
+        assert_eq!(rt; sink.put(b"ertificate".as_slice()), Ok(1));
+        assert_eq!(rt; sink.put(b"rtificate".as_slice()), Err(Failed));
+        assert_eq!(rt; sink.taken(), b"ce".as_slice());
+        Ok(())
     }
 }

@@ -64,9 +64,6 @@ impl Sink for SureSink {
         ensures bound { IfOk result (λ c. c ≤ length piece.now) }
         ensures some { IfOk result (λ c. 0 < length piece.now → 0 < c) }
         ensures appended { IfOk result (λ c. Appended self.old.told (take c piece.now) self.new.told) }
-        ensures unchanged { OnErr result (self.new.told ≡ self.old.told) }
-        ensures grows { 0 ≤ 0 }
-        ensures cause { OnErr result (Rose 0 0) }
     {
         if piece.len() > self.room - self.taken.len() {
             self.is_over = true;
@@ -75,5 +72,21 @@ impl Sink for SureSink {
             self.taken.extend_from_slice(piece).unwrap();
         }
         Ok(piece.len())
+    }
+}
+
+#[cfg(test)]
+mod tests {
+    use super::*;
+    use std::test::Fail;
+
+    #[test]
+    fn pieces_are_taken_whole(rt: HostRuntime) -> Result<(), Fail> {
+        let mut sink = SureSink::new(rt.alloc(), 4)?;
+        assert_eq!(rt; sink.put(b"yes".as_slice()), Ok(3));
+        assert_eq!(rt; sink.put(b"!".as_slice()), Ok(1));
+        assert_eq!(rt; sink.taken(), b"yes!".as_slice());
+        assert_eq!(rt; sink.put(b"more".as_slice()), Ok(4));
+        Ok(())
     }
 }

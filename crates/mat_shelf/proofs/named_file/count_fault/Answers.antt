@@ -1,11 +1,12 @@
-use Rattle.std.proofs.Common.{arith, sym, refl}
+use Rattle.std.proofs.Common.{arith, sym, ap, ◌∙◌, slice_set}
+use Rattle.mat_shelf.specs.Files.{FileState}
 use Rattle.mat_shelf.proofs.FileLemmas.{fault_at, fault_of_other}
 use Rattle.mat_shelf.proofs.named_file.count_fault.Goals as goal
 
 pub returns-in-Some-clause-files : goal.returns-in-Some-clause-files
 returns-in-Some-clause-files c =
     let fault = fault_at c.args.files.now.items c.deref.result.now c.args.other.now c.args.name.now c.place_of.result c.in-Some.place c.index_mut-file.result.now c.deref.ensures.value c.place_of.ensures c.in-Some.is c.index_mut-file.ensures.value in
-    rw (c.count_fault.ensures.raised, fault.files_after) refl
+    ap (λ (f : FileState). slice_set c.args.files.now.items c.in-Some.place f) c.count_fault.ensures.raised ∙ sym fault.files_after
 
 pub returns-in-Some-clause-other : goal.returns-in-Some-clause-other
 returns-in-Some-clause-other c =

@@ -13,13 +13,13 @@ index-file-requires c =
     omega (arith, open_place_inside c.self.inside.files.items c.in-Some.place c.self.inside.from c.args.name.now (rw (← c.self.view_is, c.in-Some.is) at c.requires))
 
 pub returns-clause-count : goal.returns-clause-count
-returns-clause-count c = 
+returns-clause-count c =
     let inside : c.in-Some.place < length c.self.inside.files.items = open_place_inside c.self.inside.files.items c.in-Some.place c.self.inside.from c.args.name.now (rw (← c.self.view_is, c.in-Some.is) at c.requires) in
     let left : left_of (open_at c.self.inside.files.items c.self.inside.place c.self.inside.from) ≡ Some (drop c.self.inside.from c.bytes.result.now) = left_of-open_at c.self.inside.files.items c.self.inside.place c.in-Some.place c.self.inside.from c.index-file.result.now c.bytes.result.now c.in-Some.is inside c.index-file.ensures c.bytes.ensures in
     rw (← c.self.view_is, left) c.copy_from-count.ensures.count
 
 pub returns-clause-given : goal.returns-clause-given
-returns-clause-given c = 
+returns-clause-given c =
     let inside : c.in-Some.place < length c.self.inside.files.items = open_place_inside c.self.inside.files.items c.in-Some.place c.self.inside.from c.args.name.now (rw (← c.self.view_is, c.in-Some.is) at c.requires) in
     let left : left_of (open_at c.self.inside.files.items c.self.inside.place c.self.inside.from) ≡ Some (drop c.self.inside.from c.bytes.result.now) = left_of-open_at c.self.inside.files.items c.self.inside.place c.in-Some.place c.self.inside.from c.index-file.result.now c.bytes.result.now c.in-Some.is inside c.index-file.ensures c.bytes.ensures in
     rw (← c.self.view_is, left) c.copy_from-count.ensures.copied
