@@ -7,7 +7,7 @@ use Rattle.std.proofs.lemmas.List.Sums.{fails_before_first}
 use Rattle.std.proofs.lemmas.Bool.{cases_lt, cases_Bool}
 use Rattle.std.proofs.lemmas.List.Quantifiers.{position-Some}
 use Rattle.mat_shelf.specs.Faults.{Rose, next_count, last_count}
-use Rattle.mat_shelf.specs.Files.{FileState, has_name, held_in, count_in, with_fault, files_with_fault, other_with_fault, open_at}
+use Rattle.mat_shelf.specs.Files.{HaveDifferentNames, FileState, has_name, held_in, count_in, with_fault, files_with_fault, other_with_fault, open_at}
 
 -- i is the place of the first file of this name
 pub record IsPlaceOf (files : List FileState) (name : List ℕ) (i : ℕ) (f : FileState) : Type 0 where
@@ -152,3 +152,10 @@ fault_of_other files read other name place same found at =
       other_after = rw (held_in-missing files name f missing) refl;
       count = count_in-missing files other name f missing;
     }
+
+-- one file, or two files of different names, for callers that make a shelf
+pub HaveDifferentNames-one : (files : List FileState) (f : FileState) → files ≡ f ∷ [] → HaveDifferentNames files
+HaveDifferentNames-one files f e = rw e (refl, tt)
+
+pub HaveDifferentNames-two : (files : List FileState) (f g : FileState) → files ≡ f ∷ g ∷ [] → has_name f.name g ≡ false → HaveDifferentNames files
+HaveDifferentNames-two files f g e different = rw (e, different) (refl, (refl, tt))

@@ -39,6 +39,11 @@ abbrev pub held_in : List FileState → List ℕ → Option (List ℕ)
 held_in [] name = None
 held_in (f ∷ fs) name = if has_name name f then Some f.bytes else held_in fs name
 
+-- no two of the files have the same name: no file after one has its name
+abbrev pub HaveDifferentNames : List FileState → Type 0
+HaveDifferentNames [] = Unit {0}
+HaveDifferentNames (f ∷ fs) = (held_in fs f.name ≡ None) × HaveDifferentNames fs
+
 -- what the file of this name holds, or what every other name holds
 abbrev pub held_or : List FileState → List ℕ → List ℕ → List ℕ
 held_or [] other name = other

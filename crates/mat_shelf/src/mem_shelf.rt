@@ -1,10 +1,9 @@
 //! A shelf in memory whose calls fail by their numbers.
 
-ghost use Rattle.std.specs.Prelude.{◌≡◌, ◌≤◌, ◌<◌, ◌↔◌, ◌⊎◌, ℕ, List, None, [], length, map, min, Contains, take, IsErr, IsSome, OnOk, OnErr, IfOk, IfSome, bytes_eq};
-ghost use Rattle.std.specs.List.{IsDistinct};
+ghost use Rattle.std.specs.Prelude.{◌≡◌, ◌≤◌, ◌<◌, ◌↔◌, ◌⊎◌, ℕ, List, None, [], length, min, Contains, take, IsErr, IsSome, OnOk, OnErr, IfOk, IfSome};
 ghost use Rattle.mat_shelf.specs.Faults.{Rose, last_count};
 ghost use Rattle.mat_shelf.specs.Reading.{Gave};
-ghost use Rattle.mat_shelf.specs.Files.{held_in, count_in, left_of, IsReading, FailsNext, FailsToOpen, after_open, after_failed_open, after_read, after_failed_read, read_count};
+ghost use Rattle.mat_shelf.specs.Files.{HaveDifferentNames, held_in, count_in, left_of, IsReading, FailsNext, FailsToOpen, after_open, after_failed_open, after_read, after_failed_read, read_count};
 
 use crate::named_file::{NamedFile, copy_from, count_fault, place_of};
 use crate::traits::{Failed, Shelf};
@@ -47,7 +46,7 @@ impl Model for MemShelf {
 impl MemShelf {
     /// A shelf of these files with nothing open, whose calls with the numbers in `fail` fail.
     pub fn new(files: Vec<NamedFile>, step: usize, fail: Vec<u64>) -> MemShelf
-        requires different { IsDistinct bytes_eq (map (λ f. f.name) files.items) }
+        requires different { HaveDifferentNames files.items }
         requires steps { 0 < step }
         ensures { result ≡ record { files = files.items; step = step; fail = fail.items; calls = 0; opened = None; other_faults = 0 } }
     {
@@ -161,31 +160,30 @@ impl Shelf for MemShelf {
 #[cfg(test)]
 mod tests {
     use super::*;
+    use crate::named_file::tests::one_file;
     use std::test::Fail;
 
     #[test]
     fn a_step_of_one_gives_a_file_byte_by_byte(rt: HostRuntime) -> Result<(), Fail> {
         let alloc = rt.alloc();
-        let name = String::from_str(alloc, "f")?;
-        let bytes = b"abc".to_vec(alloc)?;
-        let files = vec![in alloc; NamedFile::new(name, bytes)]?;
+        let files = one_file(alloc, "f", b"abc".as_slice())?;
         let mut shelf = MemShelf::new(files, 1, Vec::new(alloc));
         assert!(rt; shelf.open("f").is_ok());
-        for wanted in b"abc" {
-            let mut into = [0; 4];
-            assert_eq!(rt; shelf.read("f", &mut into), Ok(1));
-            assert_eq!(rt; into[0], *wanted);
-        }
-        assert_eq!(rt; shelf.read("f", &mut [0; 4]), Ok(0));
+        let mut into = [0; 4];
+        assert_eq!(rt; shelf.read("f", &mut into), Ok(1));
+        assert_eq!(rt; into[0], b'a');
+        assert_eq!(rt; shelf.read("f", &mut into), Ok(1));
+        assert_eq!(rt; into[0], b'b');
+        assert_eq!(rt; shelf.read("f", &mut into), Ok(1));
+        assert_eq!(rt; into, *b"c\0\0\0");
+        assert_eq!(rt; shelf.read("f", &mut into), Ok(0));
         Ok(())
     }
 
     #[test]
     fn a_missing_name_is_counted_with_all_other_names(rt: HostRuntime) -> Result<(), Fail> {
         let alloc = rt.alloc();
-        let name = String::from_str(alloc, "f")?;
-        let bytes = b"abc".to_vec(alloc)?;
-        let files = vec![in alloc; NamedFile::new(name, bytes)]?;
+        let files = one_file(alloc, "f", b"abc".as_slice())?;
         let mut shelf = MemShelf::new(files, 9, vec![in alloc; 2]?);
         assert!(rt; shelf.open("f").is_ok());
         assert_eq!(rt; shelf.read("f", &mut [0; 4]), Err(Failed));

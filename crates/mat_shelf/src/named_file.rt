@@ -1,8 +1,8 @@
 //! Files of the objects in memory.
 
-ghost use Rattle.std.specs.Prelude.{◌≡◌, ◌+◌, ◌^◌, ◌<◌, ◌≤◌, position, min, length, take, drop, string_bytes};
+ghost use Rattle.std.specs.Prelude.{◌≡◌, ◌+◌, ◌^◌, ◌<◌, ◌≤◌, position, min, length, take, drop, string_bytes, bytes_eq, IfOk};
 ghost use Rattle.mat_shelf.specs.Faults.{last_count};
-ghost use Rattle.mat_shelf.specs.Files.{has_name, with_fault, files_with_fault, other_with_fault, count_in};
+ghost use Rattle.mat_shelf.specs.Files.{HaveDifferentNames, has_name, with_fault, files_with_fault, other_with_fault, count_in};
 
 use std::marker::Model;
 
@@ -93,4 +93,24 @@ pub(crate) fn copy_from(bytes: &[u8], from: usize, most: usize, into: &mut [u8])
     let count = (bytes.len() - from).min(most).min(into.len());
     into[..count].copy_from_slice(&bytes[from..from + count]);
     count
+}
+
+#[cfg(test)]
+pub(crate) mod tests {
+    use super::*;
+    use std::alloc::{AllocError, Global};
+
+    /// A list of one file, of which the tests make a shelf.
+    pub(crate) fn one_file(
+        alloc: Global,
+        name: &str,
+        bytes: &[u8],
+    ) -> Result<Vec<NamedFile>, AllocError>
+        ensures { IfOk result (λ files. HaveDifferentNames files.items) }
+    {
+        let file = NamedFile::new(String::from_str(alloc, name)?, bytes.to_vec(alloc)?);
+        let mut files = Vec::new(alloc);
+        files.push(file)?;
+        Ok(files)
+    }
 }

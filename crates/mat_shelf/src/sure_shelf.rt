@@ -1,10 +1,9 @@
 //! A shelf in memory that never fails.
 
-ghost use Rattle.std.specs.Prelude.{◌≡◌, ◌≤◌, ℕ, List, Some, [], length, map, take, IfOk, IfSome, OnErr, bytes_eq};
-ghost use Rattle.std.specs.List.{IsDistinct};
+ghost use Rattle.std.specs.Prelude.{◌≡◌, ◌≤◌, ℕ, List, Some, [], length, take, IfOk, IfSome, OnErr};
 ghost use Rattle.mat_shelf.specs.Faults.{Rose};
 ghost use Rattle.mat_shelf.specs.Reading.{Gave};
-ghost use Rattle.mat_shelf.specs.Files.{bytes_at, held_or, sure_read_count, after_sure_open, after_sure_read};
+ghost use Rattle.mat_shelf.specs.Files.{HaveDifferentNames, bytes_at, held_or, sure_read_count, after_sure_open, after_sure_read};
 
 use crate::named_file::{NamedFile, copy_from, place_of};
 use crate::traits::{Failed, Shelf};
@@ -38,7 +37,7 @@ impl Model for SureShelf {
 impl SureShelf {
     /// A shelf of these files, on which every other name holds `other`.
     pub fn new(files: Vec<NamedFile>, other: Vec<u8>) -> SureShelf
-        requires { IsDistinct bytes_eq (map (λ f. f.name) files.items) }
+        requires { HaveDifferentNames files.items }
         ensures { result ≡ record { files = files.items; other = other.items; left = [] } }
     {
         let from = other.len();
@@ -102,13 +101,13 @@ impl Shelf for SureShelf {
 #[cfg(test)]
 mod tests {
     use super::*;
+    use crate::named_file::tests::one_file;
     use std::test::Fail;
 
     #[test]
     fn every_other_name_holds_the_same_bytes(rt: HostRuntime) -> Result<(), Fail> {
         let alloc = rt.alloc();
-        let name = String::from_str(alloc, "f")?;
-        let files = vec![in alloc; NamedFile::new(name, b"abc".to_vec(alloc)?)]?;
+        let files = one_file(alloc, "f", b"abc".as_slice())?;
         let mut shelf = SureShelf::new(files, b"zz".to_vec(alloc)?);
         let mut into = [0; 4];
         assert_eq!(rt; shelf.read("f", &mut into), Ok(0));
