@@ -1,4 +1,4 @@
--- Files in memory, and the shelves that are made of them.
+-- Files, and the shelves that are made of them.
 use Rattle.std.specs.Prelude.{◌≡◌, ℕ, ◌⊎◌, List, [], ◌∷◌, drop, length, min, unwrap_or, Bool, Option, Some, None, Contains, bytes_eq, option_map, slice_get, is_some, if◌then◌else◌}
 use Rattle.mat_shelf.specs.Faults.{next_count}
 
@@ -29,6 +29,11 @@ pub record SureShelfState : Type 0 where
   pub files : List FileState
   pub other : List ℕ
   pub left : List ℕ
+
+-- The real files: how many calls failed, and whether something is open.
+pub record FileShelfState : Type 0 where
+  pub faults : ℕ
+  pub is_open : Bool
 
 -- the file has this name
 abbrev pub has_name : List ℕ → FileState → Bool
