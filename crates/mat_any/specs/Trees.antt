@@ -11,9 +11,9 @@ pub data Tree : Type 0 where
   partition : ℕ → List (List ℕ) → List ℕ → Tree
 
 -- the number of elements
-abbrev pub elements : Tree → ℕ
-elements (uniform n cap) = n
-elements (partition n classes caps) = n
+abbrev pub element_count : Tree → ℕ
+element_count (uniform n cap) = n
+element_count (partition n classes caps) = n
 
 -- the test of independence
 abbrev pub is_independent : Tree → List ℕ → Bool

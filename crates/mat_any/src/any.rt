@@ -1,5 +1,5 @@
 //! A matroid of any kind.
-ghost use Rattle.mat_any.specs.Trees.{elements, is_independent, IsSound};
+ghost use Rattle.mat_any.specs.Trees.{element_count, is_independent, IsSound};
 ghost use Rattle.mat_any.specs.TreeLaws.{tree_laws};
 ghost use Rattle.mat_any.specs.Views.{tree_of};
 
@@ -16,7 +16,7 @@ pub enum AnyMatroid {
 }
 
 impl Matroid for AnyMatroid {
-    ghost ground_size = { λ m. elements (tree_of m) };
+    ghost ground_size = { λ m. element_count (tree_of m) };
 
     ghost sound = { λ m. IsSound (tree_of m) };
 

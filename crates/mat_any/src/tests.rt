@@ -1,5 +1,5 @@
 //! Small examples.
-ghost use Rattle.mat_any.specs.Trees.{elements, IsSound};
+ghost use Rattle.mat_any.specs.Trees.{element_count, IsSound};
 ghost use Rattle.mat_any.specs.Views.{tree_of};
 ghost use Rattle.std.specs.Prelude.{◌≡◌, IfOk};
 
@@ -12,7 +12,7 @@ use std::test::Fail;
 
 // On two elements, neither of the first class, which is 0 alone.
 fn without_first(alloc: Global) -> Result<AnyMatroid, AllocError>
-    ensures count { IfOk result (λ m. elements (tree_of m) ≡ 2) }
+    ensures count { IfOk result (λ m. element_count (tree_of m) ≡ 2) }
     ensures sound { IfOk result (λ m. IsSound (tree_of m)) }
 {
     let classes = SetList::new(vec![in alloc; ElemSet::all_below(alloc, 1)?]?);

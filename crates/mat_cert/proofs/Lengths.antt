@@ -13,7 +13,7 @@ use Rattle.mat_sets.proofs.Ground.{length-complement}
 use Rattle.mat_words.specs.Lines.{text_of}
 use Rattle.mat_words.specs.Numbers.{numeral}
 use Rattle.mat_cert.specs.declared.answer.PricedRung.{PricedRung}
-use Rattle.mat_cert.specs.Certificates.{AreRangedRungs, Certificate, IsPrintable, IsRanged, IsRangedLadder, IsRangedRung, certificate_lines, certificate_text, end_line, intersect, intersect_header, last_rung, numbers_line, rung_line, rung_lines, rungs_lines, set_line}
+use Rattle.mat_cert.specs.Certificates.{AreRangedRungs, Certificate, IsCertificateNumber, IsRanged, IsRangedLadder, IsRangedRung, certificate_lines, certificate_text, end_line, intersect, intersect_header, last_rung, numbers_line, rung_line, rung_lines, rungs_lines, set_line}
 
 -- a numeral of at most k digits has at most k + 1 bytes
 pub length-numeral : (k : ℕ) (z : ℤ) → 0 < k → neg_ℤ (pos (10 ^ k)) <ℤ z → z <ℤ pos (10 ^ k) → length (numeral z) ≤ k + 1
@@ -61,7 +61,7 @@ IsShort w = length w ≤ 40
 abbrev IsShortHere : List (List ℕ) → Type 0
 IsShortHere words = IsShortLine 501 40 words
 
-length-printable : (z : ℤ) → IsPrintable z → IsShort (numeral z)
+length-printable : (z : ℤ) → IsCertificateNumber z → IsShort (numeral z)
 length-printable z range = length-numeral 39 z (omega arith) (omega (arith, ints)) (omega (arith, ints))
 
 length-small : (x : ℕ) → x ≤ 501 → IsShort (numeral (pos x))
@@ -80,15 +80,15 @@ short_set_line n keyword set few short is_set = record {
   short = All-cons IsShort keyword (map (λ x. numeral (pos x)) set) short (short_members n set few is_set.below);
 }
 
-short_numbers_line : (keyword : List ℕ) (numbers : List ℤ) → IsShort keyword → length numbers ≤ 500 → All IsPrintable numbers → IsShortHere (numbers_line keyword numbers)
+short_numbers_line : (keyword : List ℕ) (numbers : List ℤ) → IsShort keyword → length numbers ≤ 500 → All IsCertificateNumber numbers → IsShortHere (numbers_line keyword numbers)
 short_numbers_line keyword numbers short few range = record {
   few = omega (arith, length-map numbers numeral);
   short =
       All-cons IsShort keyword (map numeral numbers) short
-      (All-map IsShort numeral numbers (All-weaker IsPrintable (λ z. IsShort (numeral z)) length-printable numbers range));
+      (All-map IsShort numeral numbers (All-weaker IsCertificateNumber (λ z. IsShort (numeral z)) length-printable numbers range));
 }
 
-short_rung_line : (k : ℕ) (weight : ℤ) → k ≤ 501 → IsPrintable weight → IsShortHere (rung_line k weight)
+short_rung_line : (k : ℕ) (weight : ℤ) → k ≤ 501 → IsCertificateNumber weight → IsShortHere (rung_line k weight)
 short_rung_line k weight few range = record {
   few = omega arith;
   short =

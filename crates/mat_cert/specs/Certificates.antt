@@ -1,8 +1,9 @@
 -- Certificates as plain data, their ranges, and the one text of each.
 use Rattle.std.specs.Prelude.{◌≡◌, ℕ, suc, ◌+◌, ◌-◌, ◌<◌, ◌≤◌, ◌^◌, List, [], ◌∷◌, ◌++◌, length, map, codes, ℤ, pos, neg_ℤ, ◌≤ℤ◌, All}
 use Rattle.mat_sets.specs.Sets.{IsSet}
-use Rattle.mat_words.specs.Numbers.{numeral}
-use Rattle.mat_words.specs.Lines.{text_of}
+use Rattle.mat_sets.specs.Sums.{IsWithin}
+use Rattle.mat_words.specs.Numbers.{numeral, numerals}
+use Rattle.mat_words.specs.Lines.{Line, text_of}
 use Rattle.mat_cert.specs.declared.answer.PricedRung.{PricedRung}
 
 -- an answer, by its command
@@ -10,13 +11,9 @@ pub data Certificate : Type 0 where
   -- the number of elements, the rungs from size 0 on, and the cut
   intersect : ℕ → List PricedRung → List ℕ → Certificate
 
--- a line is a list of words
-abbrev pub Line : Type 0
-Line = List (List ℕ)
-
 -- a line of a keyword and a set
 abbrev pub set_line : List ℕ → List ℕ → Line
-set_line keyword set = keyword ∷ map (λ x. numeral (pos x)) set
+set_line keyword set = keyword ∷ numerals set
 
 -- a line of a keyword and one number for each element
 abbrev pub numbers_line : List ℕ → List ℤ → Line
@@ -65,18 +62,18 @@ unfoldable pub certificate_text : Certificate → List ℕ
 certificate_text certificate = text_of (certificate_lines certificate)
 
 -- a number that a certificate may hold as a weight or in a split
-abbrev pub IsPrintable : ℤ → Type 0
-IsPrintable z = (neg_ℤ (pos (10 ^ 30)) ≤ℤ z) × (z ≤ℤ pos (10 ^ 30))
+abbrev pub IsCertificateNumber : ℤ → Type 0
+IsCertificateNumber z = IsWithin (10 ^ 30) z
 
 -- rung k of a certificate on n elements is in range
 pub record IsRangedRung (n k : ℕ) (rung : PricedRung) : Type 0 where
-  pub weight : IsPrintable rung.weight
+  pub weight : IsCertificateNumber rung.weight
   pub set : IsSet n rung.set
   pub size : length rung.set ≡ k
   pub first_length : length rung.first ≡ n
-  pub first : All IsPrintable rung.first
+  pub first : All IsCertificateNumber rung.first
   pub second_length : length rung.second ≡ n
-  pub second : All IsPrintable rung.second
+  pub second : All IsCertificateNumber rung.second
 
 -- the rungs from rung k on are in range
 abbrev pub AreRangedRungs : ℕ → ℕ → List PricedRung → Type 0

@@ -2,7 +2,7 @@
 use Rattle.std.proofs.Common.{◌≡◌, ℕ, ◌+◌, List, [], ◌++◌, take, drop, Option, Some, None, refl, sym, ap, subst, ◌∙◌, append_assoc}
 use Rattle.std.proofs.lemmas.List.{take-append-drop, append-nil}
 use Rattle.std.proofs.Math.Seq.{take-add}
-use Rattle.mat_shelf.specs.Writing.{Appended, AppendedFront}
+use Rattle.mat_shelf.specs.Writing.{Appended, AppendedPrefix}
 
 some_same : (x y : List ℕ) → Some x ≡ Some y → x ≡ y
 some_same x y e = cc
@@ -26,19 +26,19 @@ Appended-take a b c text i k p q =
     subst (λ (t : List ℕ). Appended a t c) (sym (take-add i k text)) (Appended-then a (take i text) b (take k (drop i text)) c p q)
 
 -- the first i bytes are a front of the text
-pub AppendedFront-take : (a b : Option (List ℕ)) (text : List ℕ) (i : ℕ) → Appended a (take i text) b → AppendedFront a text b
-AppendedFront-take a b text i p = (take i text, drop i text, sym (take-append-drop i text), p)
+pub AppendedPrefix-take : (a b : Option (List ℕ)) (text : List ℕ) (i : ℕ) → Appended a (take i text) b → AppendedPrefix a text b
+AppendedPrefix-take a b text i p = (take i text, drop i text, sym (take-append-drop i text), p)
 
 -- the whole text is a front of itself
-pub AppendedFront-whole : (a b : Option (List ℕ)) (text : List ℕ) → Appended a text b → AppendedFront a text b
-AppendedFront-whole a b text p = (text, [], sym (append-nil text), p)
+pub AppendedPrefix-whole : (a b : Option (List ℕ)) (text : List ℕ) → Appended a text b → AppendedPrefix a text b
+AppendedPrefix-whole a b text p = (text, [], sym (append-nil text), p)
 
 -- a piece, and then a front of what follows it
-pub AppendedFront-then : (a b c : Option (List ℕ)) (x y : List ℕ) → Appended a x b → AppendedFront b y c → AppendedFront a (x ++ y) c
-AppendedFront-then a b c x y p (front, rest, e, q) =
+pub AppendedPrefix-then : (a b c : Option (List ℕ)) (x y : List ℕ) → Appended a x b → AppendedPrefix b y c → AppendedPrefix a (x ++ y) c
+AppendedPrefix-then a b c x y p (front, rest, e, q) =
     (x ++ front, rest, ap (λ (t : List ℕ). x ++ t) e ∙ sym (append_assoc x front rest), Appended-then a x b front c p q)
 
 -- a front of a text is a front of what the text begins
-pub AppendedFront-append : (a b : Option (List ℕ)) (x y : List ℕ) → AppendedFront a x b → AppendedFront a (x ++ y) b
-AppendedFront-append a b x y (front, rest, e, p) =
+pub AppendedPrefix-append : (a b : Option (List ℕ)) (x y : List ℕ) → AppendedPrefix a x b → AppendedPrefix a (x ++ y) b
+AppendedPrefix-append a b x y (front, rest, e, p) =
     (front, rest ++ y, ap (λ (t : List ℕ). t ++ y) e ∙ append_assoc front rest y, p)

@@ -6,6 +6,6 @@ abbrev pub Appended : Option (List ℕ) → List ℕ → Option (List ℕ) → T
 Appended old piece new = IfSome new (λ v. (w : List ℕ) × (old ≡ Some w) × (v ≡ w ++ piece))
 
 -- a front of the text was appended
-abbrev pub AppendedFront : Option (List ℕ) → List ℕ → Option (List ℕ) → Type 0
-AppendedFront old text new =
+abbrev pub AppendedPrefix : Option (List ℕ) → List ℕ → Option (List ℕ) → Type 0
+AppendedPrefix old text new =
     (front : List ℕ) × (rest : List ℕ) × (text ≡ front ++ rest) × Appended old front new

@@ -60,11 +60,12 @@ impl<R: Files + Input> Shelf for FileShelf<'_, R> {
     /// Fails where the system cannot open the file.
     fn open(&mut self, name: &str) -> Result<(), Failed>
         ensures ok { OnOk result (self.new ≡ record self.old { is_open = true }) }
-        ensures err { OnErr result (self.new ≡ record self.old { faults = next_count self.old.faults }) }
+        ensures err { OnErr result (self.new ≡ record { faults = next_count self.old.faults; is_open = false }) }
 
         ensures grows { self.old.faults ≤ self.new.faults }
         ensures cause { OnErr result (Rose self.old.faults self.new.faults) }
     {
+        self.source = None;
         if name == "-" {
             self.source = Some(Source::Standard(self.runtime.reader()));
             return Ok(());
