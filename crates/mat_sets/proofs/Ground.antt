@@ -1,32 +1,132 @@
--- The ground set, complements, sets made of lists in any order, and bounds on sums.
-use Rattle.std.proofs.Common.{◌≡◌, ℕ, suc, ◌+◌, ◌*◌, ◌<◌, true, false, eqb, List, [], ◌∷◌, length, refl, ap, ◌∙◌, inl, inr, arith, ℤ, pos, neg_ℤ, ◌+ℤ◌, ◌≤ℤ◌}
+-- Sets on n elements: the set of all numbers below n, complements, and unions with a list in any order.
+use Rattle.std.proofs.Common.{List, [], ap, arith, eqb, false, inl, inr, leb, length, ltb, refl, suc, sym, true, zero, ℕ, ℤ, ◌&&◌, ◌++◌, ◌+ℤ◌, ◌+◌, ◌-◌, ◌<◌, ◌||◌, ◌∙◌, ◌∷◌, ◌≡◌, ◌≤◌}
+use Rattle.std.proofs.Math.Numerals.{add-one}
+use Rattle.std.proofs.lemmas.Bool.{and_right, both_ways, cases_lt, cases_order, eq-eqb, eqb-true, le-leb, le-ltb, lt-leb, lt-ltb, ltb-true, ne_eqb, or_cases}
 use Rattle.std.proofs.lemmas.Int.{ints}
-use Rattle.std.proofs.lemmas.Bool.{lt-ltb, eqb-true, both_ways, or_cases}
-use Rattle.mat_sets.specs.Sets.{AreDistinct, is_member, IsRising, IsSubset, AllBelow, rising_insert, with_one, minus, intersection, union, all_below}
+use Rattle.mat_sets.specs.Sets.{AllBelow, AreDistinct, IsRising, IsSet, IsSubset, RisesFrom, all_below, counted_from, intersection, is_member, minus, rising_insert, union, with_one, without_one}
 use Rattle.mat_sets.specs.Sums.{sum_of}
-use Rattle.mat_sets.proofs.Members.{same_members, set_mem, is_member-head, is_member-union, IsRising-union, IsRising-intersection, IsRising-minus}
-use Rattle.mat_sets.proofs.Places.{is_member-all_below, length-all_below, IsRising-all_below}
-use Rattle.mat_sets.proofs.Cardinalities.{sum_of-with_one, length-minus-intersection, length-with_one}
+use Rattle.mat_sets.proofs.Cardinalities.{length-minus-intersection, length-with_one, sum_of-with_one}
+use Rattle.mat_sets.proofs.Members.{IsRising-intersection, IsRising-minus, IsRising-nil, IsRising-union, IsRising-with_one, IsRising-without_one, is_member-head, is_member-union, is_member-with_one, same_members, set_members}
+use Rattle.mat_sets.proofs.Subsets.{intersection-left, minus-IsSubset, without_one-IsSubset}
+use Rattle.mat_sets.proofs.Sums.{AllBelow-weaken}
 
-pub below-is_member : (n : ℕ) (a : List ℕ) (k : ℕ) → AllBelow n a → is_member k a ≡ true → k < n
-below-is_member n [] k b h = absurd (both_ways false refl h)
-below-is_member n (x ∷ t) k b h = elim (or_cases (eqb k x) (is_member k t) h) [
+-- ---- each item is below n
+
+pub AllBelow-member : (n : ℕ) (a : List ℕ) (k : ℕ) → AllBelow n a → is_member k a ≡ true → k < n
+AllBelow-member n [] k b h = absurd (both_ways false refl h)
+AllBelow-member n (x ∷ t) k b h = elim (or_cases (eqb k x) (is_member k t) h) [
   | inl e ↦ omega (arith, eqb-true k x e, b.0)
-  | inr m ↦ below-is_member n t k b.1 m
+  | inr m ↦ AllBelow-member n t k b.1 m
 ]
 
-pub below-from_mem : (n : ℕ) (a : List ℕ) → ((k : ℕ) → is_member k a ≡ true → k < n) → AllBelow n a
-below-from_mem n [] h = tt
-below-from_mem n (x ∷ t) h = (h x (is_member-head x t), below-from_mem n t (λ k m. h k (grind arith)))
+pub AllBelow-from_members : (n : ℕ) (a : List ℕ) → ((k : ℕ) → is_member k a ≡ true → k < n) → AllBelow n a
+AllBelow-from_members n [] h = tt
+AllBelow-from_members n (x ∷ t) h = (h x (is_member-head x t), AllBelow-from_members n t (λ k m. h k (grind arith)))
+
+pub AllBelow-subset : (n : ℕ) (a b : List ℕ) → IsSubset a b → AllBelow n b → AllBelow n a
+AllBelow-subset n a b s h = AllBelow-from_members n a (λ k m. AllBelow-member n b k h (s.inside k m))
+
+-- ---- sets on n elements
+
+-- a member of a set on n elements is below n
+pub below_member : {n : ℕ} {a : List ℕ} {x : ℕ} → IsSet n a → is_member x a ≡ true → x < n
+below_member {n} {a} {x} s m = AllBelow-member n a x s.below m
+
+pub IsSet-from : (n : ℕ) (a : List ℕ) → IsRising a → ((x : ℕ) → is_member x a ≡ true → x < n) → IsSet n a
+IsSet-from n a r h = record { rising = r; below = AllBelow-from_members n a h }
+
+pub IsSet-subset : (n : ℕ) (a b : List ℕ) → IsRising a → IsSubset a b → IsSet n b → IsSet n a
+IsSet-subset n a b r s q = record { rising = r; below = AllBelow-subset n a b s q.below }
+
+pub IsSet-weaken : (m n : ℕ) (a : List ℕ) → m ≤ n → IsSet m a → IsSet n a
+IsSet-weaken m n a h s = record { rising = s.rising; below = AllBelow-weaken m n a h s.below }
+
+pub IsSet-nil : (n : ℕ) → IsSet n []
+IsSet-nil n = record { rising = IsRising-nil; below = tt }
+
+pub IsSet-with_one : (n : ℕ) (a : List ℕ) (x : ℕ) → IsSet n a → x < n → IsSet n (with_one a x)
+IsSet-with_one n a x s h = IsSet-from n _ (IsRising-with_one a x s.rising) (λ y m. either_below n a x y s h (sym (is_member-with_one y x a) ∙ m))
+  where
+    either_below : (n : ℕ) (a : List ℕ) (x y : ℕ) → IsSet n a → x < n → (eqb y x || is_member y a) ≡ true → y < n
+    either_below n a x y s h m = elim (or_cases (eqb y x) (is_member y a) m) [ inl e ↦ omega (arith, eqb-true y x e) | inr k ↦ below_member s k ]
+
+pub IsSet-without_one : (n : ℕ) (a : List ℕ) (x : ℕ) → IsSet n a → IsSet n (without_one a x)
+IsSet-without_one n a x s = IsSet-subset n _ a (IsRising-without_one a x s.rising) (without_one-IsSubset a x) s
+
+pub IsSet-minus : (n : ℕ) (a b : List ℕ) → IsSet n a → IsSet n (minus a b)
+IsSet-minus n a b s = IsSet-subset n _ a (IsRising-minus a b s.rising) (minus-IsSubset a b) s
+
+pub IsSet-intersection : (n : ℕ) (a b : List ℕ) → IsSet n a → IsSet n (intersection a b)
+IsSet-intersection n a b s = IsSet-subset n _ a (IsRising-intersection a b s.rising) (intersection-left a b) s
+
+-- a may be any list
+pub IsSet-union : (n : ℕ) (a b : List ℕ) → AllBelow n a → IsSet n b → IsSet n (union a b)
+IsSet-union n a b h s = IsSet-from n _ (IsRising-union a b s.rising) (λ x m. either_below n a b x h s (sym (is_member-union x a b) ∙ m))
+  where
+    either_below : (n : ℕ) (a b : List ℕ) (x : ℕ) → AllBelow n a → IsSet n b → (is_member x a || is_member x b) ≡ true → x < n
+    either_below n a b x h s m = elim (or_cases (is_member x a) (is_member x b) m) [ inl k ↦ AllBelow-member n a x h k | inr k ↦ below_member s k ]
+
+-- ---- all numbers below n
+
+pub RisesFrom-counted_from : (lo n : ℕ) → RisesFrom lo (counted_from lo n)
+RisesFrom-counted_from lo zero = tt
+RisesFrom-counted_from lo (suc n) = (omega arith, RisesFrom-counted_from (suc lo) n)
+
+counted_step : (lo n : ℕ) → counted_from lo (suc n) ≡ counted_from lo n ++ (lo + n) ∷ []
+counted_step lo zero = ap (λ z. z ∷ []) (omega arith)
+counted_step lo (suc n) = let e : suc lo + n ≡ lo + suc n = omega arith in ap (λ z. lo ∷ z) (rw e at (counted_step (suc lo) n))
+
+pub all_below-more : (n : ℕ) → all_below (n + 1) ≡ all_below n ++ n ∷ []
+unfolding all_below
+all_below-more n = rw add-one (let e : 0 + n ≡ n = omega arith in rw e at (counted_step 0 n))
+
+pub IsRising-all_below : (n : ℕ) → IsRising (all_below n)
+unfolding all_below
+IsRising-all_below n = record { rises = RisesFrom-counted_from 0 n }
+
+pub all_below-none : all_below 0 ≡ []
+unfolding all_below
+all_below-none = refl
+
+is_member-counted_from : (k lo n : ℕ) → is_member k (counted_from lo n) ≡ (leb lo k && ltb k (lo + n))
+is_member-counted_from k lo zero = elim (cases_lt k lo) [
+  | inl p ↦ rw (lt-leb lo k p)
+  | inr q ↦ rw (le-ltb k (lo + 0) (omega arith)) (sym (and_right (leb lo k) false refl))
+]
+is_member-counted_from k lo (suc n) = elim (cases_order k lo) [
+  | inl e ↦ rw (eq-eqb k lo e, le-leb lo k (omega arith), lt-ltb k (lo + suc n) (omega arith))
+  | inr (inl p) ↦ rw (ne_eqb k lo (omega arith), lt-leb lo k p, is_member-counted_from k (suc lo) n, lt-leb (suc lo) k (omega arith))
+  | inr (inr q) ↦
+      let same : suc lo + n ≡ lo + suc n = omega arith in
+      rw (ne_eqb k lo (omega arith), le-leb lo k (omega arith), is_member-counted_from k (suc lo) n, le-leb (suc lo) k (omega arith)) (ap (λ z. ltb k z) same)
+]
+
+pub is_member-all_below : (k n : ℕ) → is_member k (all_below n) ≡ ltb k n
+unfolding all_below
+is_member-all_below k n = let e : 0 + n ≡ n = omega arith in is_member-counted_from k 0 n ∙ rw (le-leb 0 k (omega arith)) (ap (λ z. ltb k z) e)
+
+pub length-all_below : (n : ℕ) → length (all_below n) ≡ n
+unfolding all_below
+length-all_below n = length_counted 0 n
+  where
+    length_counted : (lo n : ℕ) → length (counted_from lo n) ≡ n
+    length_counted lo zero = refl
+    length_counted lo (suc n) = ap suc (length_counted (suc lo) n)
 
 pub IsSubset-all_below : (n : ℕ) (a : List ℕ) → AllBelow n a → IsSubset a (all_below n)
-IsSubset-all_below n a b = record { inside = λ k h. is_member-all_below k n ∙ lt-ltb k n (below-is_member n a k b h) }
+IsSubset-all_below n a b = record { inside = λ k h. is_member-all_below k n ∙ lt-ltb k n (AllBelow-member n a k b h) }
 
-pub below-subset : (n : ℕ) (a b : List ℕ) → IsSubset a b → AllBelow n b → AllBelow n a
-below-subset n a b s h = below-from_mem n a (λ k m. below-is_member n b k h (s.inside k m))
+pub IsSet-all_below : (n : ℕ) → IsSet n (all_below n)
+IsSet-all_below n = record { rising = IsRising-all_below n; below = AllBelow-from_members n (all_below n) (λ x m. ltb-true x n (sym (is_member-all_below x n) ∙ m)) }
+
+pub ruleset counting = (all_below-more, all_below-none, IsRising-all_below, IsSet-all_below)
+
+pub ruleset set_bounds = (IsSet-nil, IsSet-with_one, IsSet-without_one, IsSet-minus, IsSet-intersection, IsSet-union, IsSet-all_below)
+
+-- ---- complements
 
 intersection-inside : (a e : List ℕ) → IsRising a → IsRising e → IsSubset a e → intersection e a ≡ a
-intersection-inside a e r q s = same_members _ _ (IsRising-intersection e a q) r (λ k. grind (arith, set_mem, s.inside k))
+intersection-inside a e r q s = same_members _ _ (IsRising-intersection e a q) r (λ k. grind (arith, set_members, s.inside k))
 
 pub length-complement : (n : ℕ) (a : List ℕ) → IsRising a → AllBelow n a → length (minus (all_below n) a) + length a ≡ n
 length-complement n a r b =
@@ -36,35 +136,50 @@ length-complement n a r b =
 pub complement-twice : (n : ℕ) (a : List ℕ) → IsRising a → AllBelow n a → minus (all_below n) (minus (all_below n) a) ≡ a
 complement-twice n a r b =
     let s = IsSubset-all_below n a b in
-    same_members _ _ (IsRising-minus _ _ (IsRising-all_below n)) r (λ k. grind (arith, set_mem, s.inside k))
+    same_members _ _ (IsRising-minus _ _ (IsRising-all_below n)) r (λ k. grind (arith, set_members, s.inside k))
 
--- ---- a list in any order, as a path has
+-- ---- a list without repetition, in any order
 
-
-pub length-join_list : (xs b : List ℕ) → IsRising b → AreDistinct xs → ((k : ℕ) → is_member k xs ≡ true → is_member k b ≡ false) → length (union xs b) ≡ length xs + length b
+pub length-union_distinct : (xs b : List ℕ) → IsRising b → AreDistinct xs → ((k : ℕ) → is_member k xs ≡ true → is_member k b ≡ false) → length (union xs b) ≡ length xs + length b
 unfolding union with_one
-length-join_list [] b r d apart = omega arith
-length-join_list (x ∷ t) b r d apart =
+length-union_distinct [] b r d apart = omega arith
+length-union_distinct (x ∷ t) b r d apart =
     let fresh : is_member x (union t b) ≡ false = let h = apart x (is_member-head x t) in let d0 = d.0 in rw (is_member-union x t b, d0, h) in
     let one = added (union t b) x (IsRising-union t b r) fresh in
-    omega (arith, one, length-join_list t b r d.1 (λ k m. apart k (grind arith)))
+    omega (arith, one, length-union_distinct t b r d.1 (λ k m. apart k (grind arith)))
   where
     added : (a : List ℕ) (x : ℕ) → IsRising a → is_member x a ≡ false → length (rising_insert x a) ≡ suc (length a)
     added a x r h = length-with_one a x r h
 
-pub sum_of-join_list : (f : ℕ → ℤ) (xs b : List ℕ) → IsRising b → AreDistinct xs → ((k : ℕ) → is_member k xs ≡ true → is_member k b ≡ false) → sum_of f (union xs b) ≡ sum_of f xs +ℤ sum_of f b
+pub sum_of-union_distinct : (f : ℕ → ℤ) (xs b : List ℕ) → IsRising b → AreDistinct xs → ((k : ℕ) → is_member k xs ≡ true → is_member k b ≡ false) → sum_of f (union xs b) ≡ sum_of f xs +ℤ sum_of f b
 unfolding union with_one
-sum_of-join_list f [] b r d apart = omega (arith, ints)
-sum_of-join_list f (x ∷ t) b r d apart =
+sum_of-union_distinct f [] b r d apart = omega (arith, ints)
+sum_of-union_distinct f (x ∷ t) b r d apart =
     let fresh : is_member x (union t b) ≡ false = let h = apart x (is_member-head x t) in let d0 = d.0 in rw (is_member-union x t b, d0, h) in
-    omega (arith, ints, sum_of-with_one f (union t b) x (IsRising-union t b r) fresh, sum_of-join_list f t b r d.1 (λ k m. apart k (grind arith)))
+    omega (arith, ints, sum_of-with_one f (union t b) x (IsRising-union t b r) fresh, sum_of-union_distinct f t b r d.1 (λ k m. apart k (grind arith)))
 
--- ---- bounds on sums
+-- ---- an exchange along two lists: ys go out, and xs come in
 
-pub sum_of-high : (f : ℕ → ℤ) (m : ℕ) (a : List ℕ) → ((k : ℕ) → is_member k a ≡ true → f k ≤ℤ pos m) → sum_of f a ≤ℤ pos (m * length a)
-sum_of-high f m [] h = omega (arith, ints)
-sum_of-high f m (x ∷ t) h = omega (arith, ints, h x (is_member-head x t), sum_of-high f m t (λ k q. h k (grind arith)))
+exchange_back : (a ys : List ℕ) → IsRising a → IsSubset ys a → union ys (minus a ys) ≡ a
+exchange_back a ys r s = same_members _ _ (IsRising-union ys _ (IsRising-minus a ys r)) r (λ k. grind (arith, set_members))
 
-pub sum_of-low : (f : ℕ → ℤ) (m : ℕ) (a : List ℕ) → ((k : ℕ) → is_member k a ≡ true → neg_ℤ (pos m) ≤ℤ f k) → neg_ℤ (pos (m * length a)) ≤ℤ sum_of f a
-sum_of-low f m [] h = omega (arith, ints)
-sum_of-low f m (x ∷ t) h = omega (arith, ints, h x (is_member-head x t), sum_of-low f m t (λ k q. h k (grind arith)))
+apart_out : (a ys : List ℕ) (k : ℕ) → is_member k ys ≡ true → is_member k (minus a ys) ≡ false
+apart_out a ys k h = grind (arith, set_members)
+
+apart_in : (a xs ys : List ℕ) (k : ℕ) → (is_member k xs ≡ true → is_member k a ≡ false) → is_member k xs ≡ true → is_member k (minus a ys) ≡ false
+apart_in a xs ys k o h = let e = o h in grind (arith, set_members)
+
+pub length-exchange : (a xs ys : List ℕ) → IsRising a → AreDistinct xs → AreDistinct ys → IsSubset ys a → ((k : ℕ) → is_member k xs ≡ true → is_member k a ≡ false) → length (union xs (minus a ys)) + length ys ≡ length a + length xs
+length-exchange a xs ys r dx dy s o =
+    let rest = IsRising-minus a ys r in
+    let came = length-union_distinct xs (minus a ys) rest dx (λ k. apart_in a xs ys k (o k)) in
+    let went = length-union_distinct ys (minus a ys) rest dy (apart_out a ys) in
+    omega (arith, came, went, ap length (exchange_back a ys r s))
+
+pub sum_of-exchange : (f : ℕ → ℤ) (a xs ys : List ℕ) → IsRising a → AreDistinct xs → AreDistinct ys → IsSubset ys a → ((k : ℕ) → is_member k xs ≡ true → is_member k a ≡ false) → sum_of f (union xs (minus a ys)) +ℤ sum_of f ys ≡ sum_of f a +ℤ sum_of f xs
+sum_of-exchange f a xs ys r dx dy s o =
+    let rest = IsRising-minus a ys r in
+    let came = sum_of-union_distinct f xs (minus a ys) rest dx (λ k. apart_in a xs ys k (o k)) in
+    let went = sum_of-union_distinct f ys (minus a ys) rest dy (apart_out a ys) in
+    let whole : sum_of f (union ys (minus a ys)) ≡ sum_of f a = ap (sum_of f) (exchange_back a ys r s) in
+    omega (arith, ints, came, went, whole)

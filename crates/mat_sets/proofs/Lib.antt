@@ -1,10 +1,9 @@
 pub mod Members
 pub mod Sums
 pub mod Cardinalities
-pub mod Places
-pub mod Steps
-pub mod Merge
+pub mod Subsets
 pub mod Ground
+pub mod Steps
 pub mod Search
-pub mod Exchange
 pub mod SetTests
+pub mod Places

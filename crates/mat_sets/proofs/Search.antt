@@ -1,9 +1,9 @@
 -- Finite searches: what is decided at each number, list or subset is decided of some of them.
-use Rattle.std.proofs.Common.{◌≡◌, ℕ, zero, suc, ◌<◌, ◌≤◌, true, false, eqb, List, [], ◌∷◌, length, refl, ap, subst, inl, inr, arith, ◌⊎◌}
-use Rattle.std.proofs.lemmas.Bool.{cases_lt, cases_eq, both_ways, ne_eqb, or_right}
-use Rattle.mat_sets.specs.Sets.{is_member, RisesFrom, IsRising, IsSubset, AllBelow}
-use Rattle.mat_sets.proofs.Cardinalities.{length-subset}
-use Rattle.mat_sets.proofs.Members.{IsRising-nil, is_member-head, is_member-below, rises-weaken}
+use Rattle.std.proofs.Common.{List, [], ap, arith, eqb, false, inl, inr, length, refl, subst, suc, true, zero, ℕ, ◌-◌, ◌<◌, ◌∷◌, ◌≡◌, ◌≤◌, ◌⊎◌}
+use Rattle.std.proofs.lemmas.Bool.{both_ways, cases_eq, ne_eqb, or_right}
+use Rattle.mat_sets.specs.Sets.{AllBelow, IsRising, IsSubset, RisesFrom, is_member}
+use Rattle.mat_sets.proofs.Members.{IsRising-nil, RisesFrom-weaken, is_member-head, member_from}
+use Rattle.mat_sets.proofs.Subsets.{length-subset}
 
 abbrev pub Decided : Type 0 → Type 0
 Decided P = P ⊎ (P → ⊥)
@@ -13,12 +13,12 @@ pub record Below (n : ℕ) (P : ℕ → Type 0) : Type 0 where
   pub below : at < n
   pub holds : P at
 
-pub any_below : (n : ℕ) (P : ℕ → Type 0) → ((k : ℕ) → k < n → Decided (P k)) → Decided (Below n P)
-any_below zero P d = inr (λ w. let l = w.below in absurd (omega arith))
-any_below (suc n) P d =
+pub decide_below : (n : ℕ) (P : ℕ → Type 0) → ((k : ℕ) → k < n → Decided (P k)) → Decided (Below n P)
+decide_below zero P d = inr (λ w. let l = w.below in absurd (omega arith))
+decide_below (suc n) P d =
     elim (d n (omega arith)) [
       | inl p ↦ inl (record { at = n; below = omega arith; holds = p })
-      | inr np ↦ elim (any_below n P (λ k l. d k (omega arith))) [
+      | inr np ↦ elim (decide_below n P (λ k l. d k (omega arith))) [
         | inl w ↦ inl (record { at = w.at; below = let l = w.below in omega arith; holds = w.holds })
         | inr none ↦ inr (λ w. elim (cases_eq w.at n) [
           | inl e ↦ np (subst P e w.holds)
@@ -42,14 +42,14 @@ listed_some : (m l : ℕ) (P : List ℕ → Type 0) → (Below m (λ x. Listed m
 listed_some m l P np [] e b p = absurd (omega arith)
 listed_some m l P np (x ∷ t) e b p = np (record { at = x; below = b.0; holds = record { items = t; size = omega arith; below = b.1; holds = p } })
 
-pub any_list : (m l : ℕ) (P : List ℕ → Type 0) → ((a : List ℕ) → Decided (P a)) → Decided (Listed m l P)
-any_list m zero P d =
+pub decide_list : (m l : ℕ) (P : List ℕ → Type 0) → ((a : List ℕ) → Decided (P a)) → Decided (Listed m l P)
+decide_list m zero P d =
     elim (d []) [
       | inl p ↦ inl (record { items = []; size = refl; below = tt; holds = p })
       | inr np ↦ inr (λ w. listed_none m P np w.items w.size w.holds)
     ]
-any_list m (suc l) P d =
-    elim (any_below m (λ x. Listed m l (λ t. P (x ∷ t))) (λ x h. any_list m l (λ t. P (x ∷ t)) (λ t. d (x ∷ t)))) [
+decide_list m (suc l) P d =
+    elim (decide_below m (λ x. Listed m l (λ t. P (x ∷ t))) (λ x h. decide_list m l (λ t. P (x ∷ t)) (λ t. d (x ∷ t)))) [
       | inl w ↦ inl (record { items = w.at ∷ w.holds.items; size = ap suc w.holds.size; below = (w.below, w.holds.below); holds = w.holds.holds })
       | inr none ↦ inr (λ w. listed_some m l P none w.items w.size w.below w.holds)
     ]
@@ -65,12 +65,9 @@ nothing_within : (lo : ℕ) (P : List ℕ → Type 0) → (P [] → ⊥) → (it
 nothing_within lo P np [] s p = np p
 nothing_within lo P np (y ∷ t) s p = both_ways false refl (s.inside y (is_member-head y t))
 
-members_above : (lo k : ℕ) (a : List ℕ) → RisesFrom lo a → is_member k a ≡ true → lo ≤ k
-members_above lo k a r h = elim (cases_lt k lo) [ inl l ↦ absurd (both_ways (is_member k a) (is_member-below k lo a l r) h) | inr g ↦ g ]
-
 -- what rises from above x and lies in x ∷ t lies in t
 within_tail : (x : ℕ) (t a : List ℕ) → RisesFrom (suc x) a → IsSubset a (x ∷ t) → IsSubset a t
-within_tail x t a r s = record { inside = λ k h. let above : suc x ≤ k = members_above (suc x) k a r h in let m = s.inside k h in rw (ne_eqb k x (omega arith)) at m }
+within_tail x t a r s = record { inside = λ k h. let above : suc x ≤ k = member_from (suc x) k a r h in let m = s.inside k h in rw (ne_eqb k x (omega arith)) at m }
 
 -- a subset of x ∷ t without x lies in t; with x, it begins with x
 chosen_parts : (lo x : ℕ) (t : List ℕ) (P : List ℕ → Type 0) → RisesFrom lo (x ∷ t) → (Chosen (suc x) t P → ⊥) → (Chosen (suc x) t (λ u. P (x ∷ u)) → ⊥) → (items : List ℕ) → RisesFrom lo items → IsSubset items (x ∷ t) → P items → ⊥
@@ -83,21 +80,21 @@ chosen_parts lo x t P r np nq (y ∷ u) q s p =
           nq (record { items = u; rises = u_rises; within = within_tail x t u u_rises tail; holds = subst (λ z. P (z ∷ u)) same p })
       | inr other ↦
           let here : is_member y t ≡ true = rw (ne_eqb y x other) at (s.inside y (is_member-head y u)) in
-          let all_rise : RisesFrom (suc x) (y ∷ u) = (members_above (suc x) y t r.1 here, q.1) in
+          let all_rise : RisesFrom (suc x) (y ∷ u) = (member_from (suc x) y t r.1 here, q.1) in
           np (record { items = y ∷ u; rises = all_rise; within = within_tail x t (y ∷ u) all_rise s; holds = p })
     ]
 
-pub any_subset : (lo : ℕ) (x : List ℕ) (P : List ℕ → Type 0) → RisesFrom lo x → ((a : List ℕ) → Decided (P a)) → Decided (Chosen lo x P)
-any_subset lo [] P r d =
+pub decide_subset : (lo : ℕ) (x : List ℕ) (P : List ℕ → Type 0) → RisesFrom lo x → ((a : List ℕ) → Decided (P a)) → Decided (Chosen lo x P)
+decide_subset lo [] P r d =
     elim (d []) [
       | inl p ↦ inl (record { items = []; rises = tt; within = record { inside = λ k h. h }; holds = p })
       | inr np ↦ inr (λ w. nothing_within lo P np w.items w.within w.holds)
     ]
-any_subset lo (x ∷ t) P r d =
-    elim (any_subset (suc x) t (λ u. P (x ∷ u)) r.1 (λ u. d (x ∷ u))) [
+decide_subset lo (x ∷ t) P r d =
+    elim (decide_subset (suc x) t (λ u. P (x ∷ u)) r.1 (λ u. d (x ∷ u))) [
       | inl w ↦ inl (record { items = x ∷ w.items; rises = (r.0, w.rises); within = record { inside = λ k h. let s = w.within.inside k in grind arith }; holds = w.holds })
-      | inr nq ↦ elim (any_subset (suc x) t P r.1 d) [
-        | inl w ↦ inl (record { items = w.items; rises = rises-weaken lo (suc x) w.items (let h = r.0 in omega arith) w.rises; within = record { inside = λ k h. or_right _ _ (w.within.inside k h) }; holds = w.holds })
+      | inr nq ↦ elim (decide_subset (suc x) t P r.1 d) [
+        | inl w ↦ inl (record { items = w.items; rises = RisesFrom-weaken lo (suc x) w.items (let h = r.0 in omega arith) w.rises; within = record { inside = λ k h. or_right _ _ (w.within.inside k h) }; holds = w.holds })
         | inr np ↦ inr (λ w. chosen_parts lo x t P r np nq w.items w.rises w.within w.holds)
       ]
     ]
@@ -111,7 +108,7 @@ pub record Largest (x : List ℕ) (P : List ℕ → Type 0) : Type 0 where
   pub most : (a : List ℕ) → IsRising a → IsSubset a x → P a → length a ≤ length items
 
 of_size : (x : List ℕ) (P : List ℕ → Type 0) → IsRising x → ((a : List ℕ) → Decided (P a)) → (n : ℕ) → Decided (Chosen 0 x (λ a. P a × (length a ≡ n)))
-of_size x P r d n = any_subset 0 x (λ a. P a × (length a ≡ n)) r.rises (λ a.
+of_size x P r d n = decide_subset 0 x (λ a. P a × (length a ≡ n)) r.rises (λ a.
     elim (d a) [
       | inr np ↦ inr (λ w. np w.0)
       | inl p ↦ elim (cases_eq (length a) n) [ inl e ↦ inl (p, e) | inr o ↦ inr (λ w. o w.1) ]

@@ -1,28 +1,63 @@
--- Steps of loops over the members of a set, for `using(mat_sets::proofs::Steps::set_steps)`.
-use Rattle.std.proofs.Common.{◌≡◌, ℕ, zero, suc, ◌+◌, ◌<◌, ◌≤◌, Bool, true, false, cond, ◌||◌, eqb, List, [], ◌∷◌, ◌++◌, length-append, drop, drop-cons, length, get_or, take, refl, ap, ◌∙◌, arith}
-use Rattle.std.specs.List.{filter}
-use Rattle.std.proofs.lemmas.List.Elements.{filter_more}
-use Rattle.std.proofs.lemmas.Bool.{both_ways}
+-- Steps of loops over the members of a set or the sets of a family, for `using(..)`.
+use Rattle.std.proofs.Common.{Bool, List, [], ap, arith, cond, drop, drop-cons, eqb, false, get_or, length, length-append, refl, suc, take, true, zero, ℕ, ◌++◌, ◌+◌, ◌-◌, ◌<◌, ◌||◌, ◌∙◌, ◌∷◌, ◌≡◌, ◌≤◌}
 use Rattle.std.proofs.Math.Numerals.{add-one}
-use Rattle.mat_sets.specs.Families.{AllRising, multiplicity, family_union, indicator}
-use Rattle.mat_sets.specs.Sets.{is_member, IsRising, IsSubset, with_one, minus, intersection, union}
-use Rattle.mat_sets.proofs.Members.{same_members, set_mem, IsRising-nil, IsRising-union, IsRising-with_one}
-use Rattle.mat_sets.proofs.Places.{is_member-get_or, is_member-take_more, IsRising-take}
-use Rattle.mat_sets.proofs.Sums.{below-at, balance, sizes}
+use Rattle.std.proofs.lemmas.Bool.{both_ways, ne_eqb, or_from}
+use Rattle.std.proofs.lemmas.List.Elements.{filter_more}
+use Rattle.std.specs.List.{filter}
+use Rattle.mat_sets.specs.Families.{AllRising, family_union, indicator, multiplicity}
+use Rattle.mat_sets.specs.Sets.{IsRising, IsSubset, RisesFrom, intersection, is_member, union, with_one}
+use Rattle.mat_sets.proofs.Members.{IsRising-nil, IsRising-union, IsRising-with_one, RisesFrom-at, intersection-none, is_member-get_or, minus-none, same_members, set_members}
+use Rattle.mat_sets.proofs.Sums.{AllBelow-at}
 
-pub intersection-none : (b : List ℕ) → intersection [] b ≡ []
-unfolding intersection
-intersection-none b = refl
+-- ---- the members before a place
 
-pub minus-none : (b : List ℕ) → minus [] b ≡ []
-unfolding minus
-minus-none b = refl
+pub is_member-take_more : (xs : List ℕ) (i k : ℕ) → i < length xs → is_member k (take (i + 1) xs) ≡ (is_member k (take i xs) || eqb k (get_or xs i 0))
+is_member-take_more [] i k h = absurd (omega arith)
+is_member-take_more (x ∷ t) zero k h = or_none (eqb k x)
+  where
+    or_none : (a : Bool) → (a || false) ≡ a
+    or_none true = refl
+    or_none false = refl
+is_member-take_more (x ∷ t) (suc i) k h = rw (add-one (suc i)) (rest (rw (add-one i) at (is_member-take_more t i k (omega arith))))
+  where
+    rest : is_member k (take (suc i) t) ≡ (is_member k (take i t) || eqb k (get_or t i 0)) → (eqb k x || is_member k (take (suc i) t)) ≡ ((eqb k x || is_member k (take i t)) || eqb k (get_or t i 0))
+    rest e = rw e (or_assoc (eqb k x) (is_member k (take i t)) (eqb k (get_or t i 0)))
+      where
+        or_assoc : (a b c : Bool) → (a || (b || c)) ≡ ((a || b) || c)
+        or_assoc true b c = refl
+        or_assoc false b c = refl
+
+RisesFrom-take : (lo : ℕ) (xs : List ℕ) (i : ℕ) → RisesFrom lo xs → RisesFrom lo (take i xs)
+RisesFrom-take lo [] zero r = tt
+RisesFrom-take lo [] (suc i) r = tt
+RisesFrom-take lo (x ∷ t) zero r = tt
+RisesFrom-take lo (x ∷ t) (suc i) r = (r.0, RisesFrom-take (suc x) t i r.1)
+
+pub IsRising-take : (xs : List ℕ) (i : ℕ) → IsRising xs → IsRising (take i xs)
+IsRising-take xs i r = record { rises = RisesFrom-take 0 xs i r.rises }
+
+-- the next member is not among those before it
+pub is_member-take_next : (xs : List ℕ) (i : ℕ) → IsRising xs → i < length xs → is_member (get_or xs i 0) (take i xs) ≡ false
+is_member-take_next xs i r h = fresh 0 xs i r.rises h
+  where
+    fresh : (lo : ℕ) (xs : List ℕ) (i : ℕ) → RisesFrom lo xs → i < length xs → is_member (get_or xs i 0) (take i xs) ≡ false
+    fresh lo [] i r h = absurd (omega arith)
+    fresh lo (x ∷ t) zero r h = refl
+    fresh lo (x ∷ t) (suc i) r h =
+        let above : suc x ≤ get_or t i 0 = RisesFrom-at (suc x) t i r.1 (omega arith) in
+        or_from (eqb (get_or t i 0) x) (is_member (get_or t i 0) (take i t)) (ne_eqb (get_or t i 0) x (omega arith)) (fresh (suc x) t i r.1 (omega arith))
+
+-- the next member is one more
+pub take-with_one : (xs : List ℕ) (i : ℕ) → IsRising xs → i < length xs → take (i + 1) xs ≡ with_one (take i xs) (get_or xs i 0)
+take-with_one xs i r h = same_members _ _ (IsRising-take xs (i + 1) r) (IsRising-with_one _ _ (IsRising-take xs i r)) (λ k. grind (arith, is_member-take_more xs i k h, set_members))
+
+-- ---- sets made member by member
 
 pub union-none : (a : List ℕ) → IsRising a → union a [] ≡ a
-union-none a r = same_members _ _ (IsRising-union a [] IsRising-nil) r (λ k. grind (arith, set_mem))
+union-none a r = same_members _ _ (IsRising-union a [] IsRising-nil) r (λ k. grind (arith, set_members))
 
 pub union-more : (a b : List ℕ) (i : ℕ) → IsRising a → IsRising b → i < length b → union a (take (i + 1) b) ≡ with_one (union a (take i b)) (get_or b i 0)
-union-more a b i r s h = same_members _ _ (IsRising-union _ _ (IsRising-take b (i + 1) s)) (IsRising-with_one _ _ (IsRising-union _ _ (IsRising-take b i s))) (λ k. grind (arith, set_mem, is_member-take_more b i k h))
+union-more a b i r s h = same_members _ _ (IsRising-union _ _ (IsRising-take b (i + 1) s)) (IsRising-with_one _ _ (IsRising-union _ _ (IsRising-take b i s))) (λ k. grind (arith, set_members, is_member-take_more b i k h))
 
 length_pushed : (u : List ℕ) (x : ℕ) (b : Bool) → length (u ++ cond b (x ∷ []) []) ≡ length u + indicator b
 length_pushed u x true = length-append u (x ∷ [])
@@ -78,7 +113,7 @@ pub family_union-less : (sets : List (List ℕ)) (i : ℕ) → i < length sets �
 unfolding family_union
 family_union-less sets i h = rw (add-one i, drop-cons sets i [])
 
-pub ruleset set_steps = (intersection-none, minus-none, union-none, union-more, intersection-more, IsSubset-none, IsSubset-more, not-IsSubset, multiplicity-none, multiplicity-more, family_union-none, family_union-less, below-at)
+pub ruleset set_steps = (intersection-none, minus-none, union-none, union-more, intersection-more, IsSubset-none, IsSubset-more, not-IsSubset, multiplicity-none, multiplicity-more, family_union-none, family_union-less, AllBelow-at)
 
 pub AllRising-none : AllRising []
 AllRising-none = tt

@@ -1,12 +1,13 @@
--- Sums over strictly rising lists.
-use Rattle.std.proofs.Common.{◌≡◌, ℕ, zero, suc, ◌+◌, ◌<◌, ◌≤◌, max, Bool, true, false, cond, eqb, take, get_or, List, [], ◌∷◌, length, refl, sym, ap, ◌∙◌, inl, inr, arith, ℤ, pos, ◌+ℤ◌, suc-add, zero-add}
+-- Sums over rising lists. A sum over a set is a sum over the numbers below a bound, each as often as it stands in the
+-- set; so two families in which each number stands equally often have one sum.
+use Rattle.std.proofs.Common.{Bool, List, [], ap, arith, cond, eqb, false, get_or, inl, inr, length, max, pos, refl, suc, suc-add, sym, take, true, zero, zero-add, ℕ, ℤ, ◌+ℤ◌, ◌+◌, ◌-◌, ◌<◌, ◌∙◌, ◌∷◌, ◌≡◌, ◌≤◌}
 use Rattle.std.proofs.Math.Numerals.{add-one}
+use Rattle.std.proofs.lemmas.Bool.{cases_eq, eq-eqb, ne_eqb}
 use Rattle.std.proofs.lemmas.Int.{ints}
-use Rattle.std.proofs.lemmas.Bool.{cases_eq, ne_eqb, eq-eqb}
-use Rattle.mat_sets.specs.Families.{indicator, multiplicity, family_sum, AllRising}
-use Rattle.mat_sets.specs.Sets.{is_member, RisesFrom, IsRising, AllBelow}
+use Rattle.mat_sets.specs.Families.{AllRising, family_sum, indicator, multiplicity}
+use Rattle.mat_sets.specs.Sets.{AllBelow, IsRising, RisesFrom, is_member}
 use Rattle.mat_sets.specs.Sums.{sum_of}
-use Rattle.mat_sets.proofs.Members.{is_member-below}
+use Rattle.mat_sets.proofs.Members.{missing_below}
 
 -- z, m times
 pub times : ℕ → ℤ → ℤ
@@ -74,7 +75,7 @@ pub sum_of-total : (f : ℕ → ℤ) (n lo : ℕ) (a : List ℕ) → RisesFrom l
 sum_of-total f n lo [] r b = sym (total-none f n)
 sum_of-total f n lo (x ∷ t) r b =
     let split : total f (λ k. indicator (is_member k (x ∷ t))) n ≡ total f (λ k. indicator (eqb k x) + indicator (is_member k t)) n =
-    total-same f (λ k. indicator (is_member k (x ∷ t))) (λ k. indicator (eqb k x) + indicator (is_member k t)) n (λ k l. indicator-cons k x t (is_member-below x (suc x) t (omega arith) r.1)) in
+    total-same f (λ k. indicator (is_member k (x ∷ t))) (λ k. indicator (eqb k x) + indicator (is_member k t)) n (λ k l. indicator-cons k x t (missing_below x (suc x) t (omega arith) r.1)) in
     let rest = sum_of-total f n (suc x) t r.1 b.1 in
     omega (arith, ints, split, rest, total-add f (λ k. indicator (eqb k x)) (λ k. indicator (is_member k t)) n, total-one f x n b.0)
 
@@ -84,39 +85,39 @@ pub above_all : List ℕ → ℕ
 above_all [] = 0
 above_all (x ∷ t) = max (suc x) (above_all t)
 
-pub below-weaken : (m n : ℕ) (a : List ℕ) → m ≤ n → AllBelow m a → AllBelow n a
-below-weaken m n [] h b = tt
-below-weaken m n (x ∷ t) h b = (omega arith, below-weaken m n t h b.1)
+pub AllBelow-weaken : (m n : ℕ) (a : List ℕ) → m ≤ n → AllBelow m a → AllBelow n a
+AllBelow-weaken m n [] h b = tt
+AllBelow-weaken m n (x ∷ t) h b = (omega arith, AllBelow-weaken m n t h b.1)
 
-pub below-above_all : (a : List ℕ) (n : ℕ) → above_all a ≤ n → AllBelow n a
+pub AllBelow-above_all : (a : List ℕ) (n : ℕ) → above_all a ≤ n → AllBelow n a
 unfolding above_all
-below-above_all [] n h = tt
-below-above_all (x ∷ t) n h = (omega arith, below-above_all t n (omega arith))
+AllBelow-above_all [] n h = tt
+AllBelow-above_all (x ∷ t) n h = (omega arith, AllBelow-above_all t n (omega arith))
 
 -- ---- families of sets
 
 pub above_each : List (List ℕ) → ℕ
 above_each [] = 0
-above_each (a ∷ as') = max (above_all a) (above_each as')
+above_each (a ∷ family) = max (above_all a) (above_each family)
 
-family_sum-total : (f : ℕ → ℤ) (n : ℕ) (as' : List (List ℕ)) → AllRising as' → above_each as' ≤ n → family_sum f as' ≡ total f (λ k. multiplicity k as') n
+family_sum-total : (f : ℕ → ℤ) (n : ℕ) (family : List (List ℕ)) → AllRising family → above_each family ≤ n → family_sum f family ≡ total f (λ k. multiplicity k family) n
 unfolding family_sum multiplicity above_each
 family_sum-total f n [] r h = sym (total-none f n)
-family_sum-total f n (a ∷ as') r h =
-    let one = sum_of-total f n 0 a r.0.rises (below-above_all a n (omega arith)) in
-    let rest = family_sum-total f n as' r.1 (omega arith) in
-    omega (arith, ints, one, rest, total-add f (λ k. indicator (is_member k a)) (λ k. multiplicity k as') n)
+family_sum-total f n (a ∷ family) r h =
+    let one = sum_of-total f n 0 a r.0.rises (AllBelow-above_all a n (omega arith)) in
+    let rest = family_sum-total f n family r.1 (omega arith) in
+    omega (arith, ints, one, rest, total-add f (λ k. indicator (is_member k a)) (λ k. multiplicity k family) n)
 
 -- THE LAW: two families of sets in which each number stands equally often have one sum
-pub balance_all : (f : ℕ → ℤ) (as' bs : List (List ℕ)) → AllRising as' → AllRising bs → ((k : ℕ) → multiplicity k as' ≡ multiplicity k bs) → family_sum f as' ≡ family_sum f bs
-balance_all f as' bs r s e =
-    let n = above_each as' + above_each bs in
-    family_sum-total f n as' r (omega arith) ∙ total-same f (λ k. multiplicity k as') (λ k. multiplicity k bs) n (λ k l. e k) ∙ sym (family_sum-total f n bs s (omega arith))
+pub family_balance : (f : ℕ → ℤ) (family bs : List (List ℕ)) → AllRising family → AllRising bs → ((k : ℕ) → multiplicity k family ≡ multiplicity k bs) → family_sum f family ≡ family_sum f bs
+family_balance f family bs r s e =
+    let n = above_each family + above_each bs in
+    family_sum-total f n family r (omega arith) ∙ total-same f (λ k. multiplicity k family) (λ k. multiplicity k bs) n (λ k l. e k) ∙ sym (family_sum-total f n bs s (omega arith))
 
 pub balance : (f : ℕ → ℤ) (a b c d : List ℕ) → IsRising a → IsRising b → IsRising c → IsRising d → ((k : ℕ) → indicator (is_member k a) + indicator (is_member k b) ≡ indicator (is_member k c) + indicator (is_member k d)) → sum_of f a +ℤ sum_of f b ≡ sum_of f c +ℤ sum_of f d
 unfolding family_sum multiplicity
 balance f a b c d ra rb rc rd e =
-    let h = balance_all f (a ∷ b ∷ []) (c ∷ d ∷ []) (ra, (rb, tt)) (rc, (rd, tt)) (λ k. let e' = e k in omega arith) in
+    let h = family_balance f (a ∷ b ∷ []) (c ∷ d ∷ []) (ra, (rb, tt)) (rc, (rd, tt)) (λ k. let e' = e k in omega arith) in
     omega (arith, ints, h)
 
 -- ---- how many members
@@ -137,9 +138,9 @@ sum_of-more f [] i h = absurd (omega arith)
 sum_of-more f (x ∷ t) zero h = omega (arith, ints)
 sum_of-more f (x ∷ t) (suc i) h = rw (add-one (suc i)) (let ih = sum_of-more f t i (omega arith) in let ih' = rw (add-one i) at ih in omega (arith, ints, ih'))
 
-pub below-at : (n : ℕ) (xs : List ℕ) (i : ℕ) → AllBelow n xs → i < length xs → get_or xs i 0 < n
-below-at n [] i b h = absurd (omega arith)
-below-at n (x ∷ t) zero b h = b.0
-below-at n (x ∷ t) (suc i) b h = below-at n t i b.1 (omega arith)
+pub AllBelow-at : (n : ℕ) (xs : List ℕ) (i : ℕ) → AllBelow n xs → i < length xs → get_or xs i 0 < n
+AllBelow-at n [] i b h = absurd (omega arith)
+AllBelow-at n (x ∷ t) zero b h = b.0
+AllBelow-at n (x ∷ t) (suc i) b h = AllBelow-at n t i b.1 (omega arith)
 
-pub ruleset summing = (sum_of-more, below-at)
+pub ruleset summing = (sum_of-more, AllBelow-at)

@@ -1,51 +1,12 @@
-// Lists that callers see as the list of their items.
+//! Lists of pairs and of sets, seen as the list of their items.
+ghost use Rattle.std.specs.Prelude.{◌≡◌, ◌<◌, length, slice_index_or, []};
 ghost use Rattle.mat_sets.specs.Families.{AllRising};
 ghost use Rattle.mat_sets.specs.Sets.{IsRising};
-ghost use Rattle.std.specs.Prelude.{◌≡◌, ℕ, ◌<◌, List, length, slice_index_or, ℤ, pos, []};
 
 use crate::elem_set::ElemSet;
 use std::marker::Model;
 
-#[derive(Debug, Drop)]
-pub struct Weights {
-    items: Vec<i128>,
-}
-
-impl Model for Weights {
-    ghost use Rattle.std.specs.Prelude.{ℤ, List};
-
-    ghost Value = { List ℤ };
-
-    ghost view = { λ a. a.items.items };
-}
-
-impl Weights {
-    pub fn new(items: Vec<i128>) -> Weights
-        ensures { result ≡ items.items }
-    {
-        Weights { items }
-    }
-
-    pub fn len(&self) -> usize
-        ensures { result ≡ length self.now }
-    {
-        self.items.len()
-    }
-
-    pub fn get(&self, i: usize) -> i128
-        requires { i < length self.now }
-        ensures { result ≡ slice_index_or self.now i (pos 0) }
-    {
-        self.items[i]
-    }
-
-    pub fn as_slice(&self) -> &[i128]
-        ensures { result.now ≡ self.now }
-    {
-        self.items.as_slice()
-    }
-}
-
+/// A list of pairs, such as the ends of the edges of a graph or the cells of a table.
 #[derive(Debug, Drop)]
 pub struct Pairs {
     items: Vec<(u32, u32)>,
@@ -60,26 +21,37 @@ impl Model for Pairs {
 }
 
 impl Pairs {
+    /// The list of these pairs. It takes no memory.
     pub fn new(items: Vec<(u32, u32)>) -> Pairs
         ensures { result ≡ items.items }
     {
         Pairs { items }
     }
 
+    /// How many pairs there are.
     pub fn len(&self) -> usize
         ensures { result ≡ length self.now }
     {
         self.items.len()
     }
 
+    /// The pair at place i.
     pub fn get(&self, i: usize) -> (u32, u32)
         requires { i < length self.now }
         ensures { result ≡ slice_index_or self.now i (0, 0) }
     {
         self.items[i]
     }
+
+    /// The pairs in order.
+    pub fn as_slice(&self) -> &[(u32, u32)]
+        ensures { result.now ≡ self.now }
+    {
+        self.items.as_slice()
+    }
 }
 
+/// A list of sets.
 #[derive(Debug, Drop)]
 pub struct SetList {
     items: Vec<ElemSet>,
@@ -97,10 +69,12 @@ impl Model for SetList {
 }
 
 impl SetList {
+    /// The list of these sets. It takes no memory.
     // The loop only tells the proof what each set keeps.
     #[tactic(auto, using(crate::proofs::Steps::family_steps))]
     pub fn new(items: Vec<ElemSet>) -> SetList
-        ensures { result ≡ items.items }
+        ensures items { result ≡ items.items }
+        ensures rise { AllRising result }
     {
         for set in &items {
             set.rises();
@@ -108,6 +82,7 @@ impl SetList {
         SetList { items }
     }
 
+    /// How many sets there are.
     pub fn len(&self) -> usize
         ensures count { result ≡ length self.now }
         ensures rise { AllRising self.now }
@@ -115,12 +90,22 @@ impl SetList {
         self.items.len()
     }
 
+    /// The set at place i.
     #[tactic(auto, using(crate::proofs::Steps::family_steps))]
     pub fn get(&self, i: usize) -> &ElemSet
         requires { i < length self.now }
         ensures item { result.now ≡ slice_index_or self.now i [] }
         ensures rises { IsRising (slice_index_or self.now i []) }
+        ensures rise { AllRising self.now }
     {
         &self.items[i]
+    }
+
+    /// The sets in order.
+    pub fn as_slice(&self) -> &[ElemSet]
+        ensures items { result.now ≡ self.now }
+        ensures rise { AllRising self.now }
+    {
+        self.items.as_slice()
     }
 }

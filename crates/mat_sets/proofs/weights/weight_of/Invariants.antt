@@ -1,6 +1,6 @@
 use Rattle.std.proofs.Common.{◌≡◌, ◌*◌, ◌^◌, take, pos, neg_ℤ, ◌≤ℤ◌}
 use Rattle.mat_sets.specs.Sums.{weight}
-use Rattle.mat_sets.proofs.elem_set.weight_of.Given as goal
+use Rattle.mat_sets.proofs.weights.weight_of.Given as goal
 
 abbrev pub invariant-loop-x : goal.invariant-loop-x
 invariant-loop-x l = record {
