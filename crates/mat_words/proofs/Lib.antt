@@ -1,0 +1,5 @@
+pub mod Splitting
+pub mod LineLemmas
+pub mod WordLemmas
+pub mod DigitLemmas
+pub mod NumberLemmas

@@ -1,0 +1,9 @@
+use Rattle.std.proofs.Common.{drop}
+use Rattle.mat_words.proofs.DigitLemmas.{IsPartWritten}
+use Rattle.mat_words.proofs.numbers.decimal_into.Given as goal
+
+abbrev pub invariant-loop-left : goal.invariant-loop-left
+invariant-loop-left l = IsPartWritten l.n l.left l.at 40 l.buffer (drop 40 l.fn.buffer)
+
+abbrev pub decreases-loop-left : goal.decreases-loop-left
+decreases-loop-left l = l.left

@@ -1,0 +1,64 @@
+//! The lines of a text.
+
+ghost use Rattle.std.specs.Prelude.{◌≡◌, ◌≤◌, [], ◌∷◌, ◌<◌, ◌+◌, ◌++◌, ◌⊎◌, length, map, MatchOption, IfSome, ℕ, List};
+ghost use Rattle.std.specs.List.{join_with_byte};
+ghost use Rattle.mat_words.specs.Lines.{lines_of, text_of, AreLines, HasNoNewline, IsNextLine, IsCut};
+
+/// The place of the next byte 10 at `from` or after it, in one pass from there. None where there is none. It takes no memory.
+pub fn next_line(text: &[u8], from: usize) -> Option<usize>
+    requires { from ≤ length text.now }
+    ensures { IsNextLine text.now from result }
+{
+    for i in from..text.len() {
+        if text[i] == 10 {
+            return Some(i);
+        }
+    }
+    None
+}
+
+/// The first line, without its byte 10, and what stands after that byte. None where no byte 10 is left. It takes no memory.
+#[tactic(auto, using(crate::proofs::Splitting::some_parts))]
+pub fn split_line(text: &[u8]) -> Option<(&[u8], &[u8])>
+    ensures lines { MatchOption result (lines_of text.now ≡ text.now ∷ [])
+        (λ x. lines_of text.now ≡ x.0.now ∷ lines_of x.1.now) }
+    ensures more { IfSome result (λ x. 0 < length (lines_of x.1.now)) }
+    ensures shorter { IfSome result (λ x. length x.0.now + length x.1.now < length text.now) }
+{
+    match next_line(text, 0) {
+        None => None,
+        Some(at) => Some((&text[..at], &text[at + 1..])),
+    }
+}
+
+/// What holds of every text: it has no byte 10 or is cut behind its first line, and the lines of a text that was written are those again.
+pub fn line_laws()
+    // A line that stands in front of a text is its first line.
+    ensures first { (line : List ℕ) (rest : List ℕ) → HasNoNewline line
+        → lines_of (line ++ 10 ∷ rest) ≡ line ∷ lines_of rest }
+    // A text is cut behind its first line, or has none.
+    ensures cut { (text : List ℕ) → ((HasNoNewline text) × (lines_of text ≡ text ∷ []))
+        ⊎ ((before : List ℕ) × (after : List ℕ) × IsCut text before after) }
+    // The lines of a text that was written are those that were written, whatever follows it.
+    ensures written { (lines : List (List (List ℕ))) (rest : List ℕ) → AreLines lines
+        → lines_of (text_of lines ++ rest) ≡ map (join_with_byte 32) lines ++ lines_of rest }
+    // Different lists of lines have different texts.
+    ensures one_text { (first : List (List (List ℕ))) (second : List (List (List ℕ))) → AreLines first → AreLines second
+        → text_of first ≡ text_of second → first ≡ second }
+{}
+
+#[cfg(test)]
+mod tests {
+    use super::*;
+
+    #[test]
+    fn walks_the_lines_of_a_text(rt: HostRuntime) {
+        let text = b"a b\n\nend".as_slice();
+        assert_eq!(rt; next_line(text, 0), Some(3));
+        assert_eq!(rt; next_line(text, 4), Some(4));
+        assert_eq!(rt; next_line(text, 5), None);
+        assert!(rt; split_line(text) == Some((b"a b".as_slice(), b"\nend".as_slice())));
+        assert!(rt; split_line(b"\nend") == Some((b"".as_slice(), b"end".as_slice())));
+        assert!(rt; split_line(b"end").is_none());
+    }
+}

@@ -1,0 +1,104 @@
+//! The words of a line.
+
+ghost use Rattle.std.specs.Prelude.{◌≡◌, ◌<◌, ◌≤◌, ◌↔◌, [], ◌∷◌, length, slice_get, MatchOption, IsTrue, Some, None, ℕ, List};
+ghost use Rattle.std.specs.List.{slice_split, list_all, join_with_byte};
+ghost use Rattle.mat_words.specs.Words.{words_of, is_space, is_word, is_well_spaced, IsWellSpaced};
+ghost use Rattle.mat_words.specs.Lines.{HasNoNewline};
+
+/// The part of a line in front of its first space, and what stands after that space: None where there is no space, and so the part is
+/// the last. Of a well spaced line that isn't empty, the parts are the words. It takes no memory.
+pub fn split_word(line: &[u8]) -> (&[u8], Option<&[u8]>)
+    ensures { MatchOption result.1 (slice_split is_space line.now ≡ result.0.now ∷ [])
+        (λ rest. slice_split is_space line.now ≡ result.0.now ∷ slice_split is_space rest.now) }
+{
+    for (i, b) in line.iter().enumerate() {
+        if *b == 32 {
+            return (&line[..i], Some(&line[i + 1..]));
+        }
+    }
+    (line, None)
+}
+
+/// Whether a line is well spaced, in one pass. It takes no memory.
+pub fn well_spaced(line: &[u8]) -> bool
+    ensures { result ≡ is_well_spaced line.now }
+{
+    let mut at_start = true;
+    for b in line {
+        if *b == 32 {
+            if at_start {
+                return false;
+            }
+            at_start = true;
+        } else {
+            if *b < 33 || *b > 126 {
+                return false;
+            }
+            at_start = false;
+        }
+    }
+    !at_start || line.is_empty()
+}
+
+/// The i-th word of a well spaced line, counted from 0. None where the line has at most i words. It takes no memory, and a pass over
+/// the words up to that one: to go over all, use [`split_word`].
+pub fn word_at(line: &[u8], i: usize) -> Option<&[u8]>
+    requires { IsTrue (is_well_spaced line.now) }
+    ensures { MatchOption result (length (words_of line.now) ≤ i)
+        (λ word. slice_get (words_of line.now) i ≡ Some word.now) }
+{
+    if line.is_empty() {
+        return None;
+    }
+    let mut rest = line;
+    for _ in 0..i {
+        match split_word(rest).1 {
+            Some(after) => rest = after,
+            None => return None,
+        }
+    }
+    Some(split_word(rest).0)
+}
+
+/// What holds of every line: the test of a well spaced line says what the sentence says, and words that are joined are those of the line.
+pub fn word_laws()
+    ensures sentence { (line : List ℕ) → IsTrue (is_well_spaced line) ↔ IsWellSpaced line }
+    // A well spaced line is its words, joined.
+    ensures words { (line : List ℕ) → IsTrue (is_well_spaced line) → join_with_byte 32 (words_of line) ≡ line }
+    // One or more words, joined, are a well spaced line that isn't empty, has no byte 10, and has those words.
+    ensures joined { (words : List (List ℕ)) → 0 < length words → IsTrue (list_all is_word words)
+        → (words_of (join_with_byte 32 words) ≡ words)
+        × (0 < length (join_with_byte 32 words))
+        × IsTrue (is_well_spaced (join_with_byte 32 words))
+        × HasNoNewline (join_with_byte 32 words) }
+{}
+
+#[cfg(test)]
+mod tests {
+    use super::*;
+
+    #[test]
+    fn walks_the_words_of_a_line(rt: HostRuntime) {
+        let line = b"edge 3 14".as_slice();
+        assert!(rt; well_spaced(line));
+        let (first, rest) = split_word(line);
+        assert!(rt; first == b"edge".as_slice());
+        assert!(rt; rest == Some(b"3 14".as_slice()));
+        assert!(rt; split_word(b"14").1.is_none());
+        assert!(rt; well_spaced(b""));
+        let others: [&[u8]; 6] = [b" a", b"a ", b" ", b"a  b", b"a\tb", b"a\x7f"];
+        for line in others {
+            assert!(rt; !well_spaced(line));
+        }
+    }
+
+    #[test]
+    fn finds_the_word_at_a_place(rt: HostRuntime) {
+        let line = b"edge 3 14".as_slice();
+        assert!(rt; well_spaced(line));
+        assert!(rt; word_at(line, 0) == Some(b"edge".as_slice()));
+        assert!(rt; word_at(line, 2) == Some(b"14".as_slice()));
+        assert!(rt; word_at(line, 3).is_none());
+        assert!(rt; word_at(b"", 0).is_none());
+    }
+}
