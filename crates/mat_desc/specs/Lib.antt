@@ -1,2 +1,5 @@
 pub mod Instances
 pub mod Grammar
+pub mod Faults
+pub mod Reading
+pub mod Views

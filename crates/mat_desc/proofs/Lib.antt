@@ -1,0 +1,9 @@
+pub mod Repeats
+pub mod ElementLists
+pub mod Closing
+pub mod Classes
+pub mod ReadingSteps
+pub mod WordLaws
+pub mod LineLaws
+pub mod ElementLaws
+pub mod ClassLaws

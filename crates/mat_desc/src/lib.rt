@@ -1,0 +1,12 @@
+//! Descriptions of problems: the text format, and its reader, which names the first fault of a text that spells no problem.
+#![tactic(auto)]
+
+mod cursor;
+mod keywords;
+mod matroid;
+mod problem;
+mod reading;
+mod refusal;
+
+pub use problem::{Problem, read_problem};
+pub use refusal::{DescKind, DescRefusal};
