@@ -1,6 +1,7 @@
 -- Matroids that bound how many elements a set may have, and how many in each of listed sets (Schrijver, chapter 39).
-use Rattle.std.specs.Prelude.{◌≡◌, ℕ, ◌<◌, ◌≤◌, Bool, true, ◌&&◌, nat_le, List, [], ◌∷◌, length, slice_index_or}
-use Rattle.mat_sets.specs.Sets.{is_member, is_set, intersection}
+use Rattle.std.specs.Prelude.{ℕ, ◌<◌, ◌≤◌, Bool, true, ◌&&◌, nat_le, List, [], ◌∷◌, length, slice_index_or}
+use Rattle.mat_sets.specs.Sets.{intersection}
+use Rattle.mat_sets.specs.SetTests.{is_set}
 
 -- the uniform matroid: at most `cap` elements
 abbrev pub is_uniform : ℕ → ℕ → List ℕ → Bool
