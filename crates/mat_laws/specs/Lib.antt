@@ -1,4 +1,5 @@
 pub mod Matroids
 pub mod Ranks
+pub mod Exchanges
 pub mod Heaviest
 pub mod Ladders

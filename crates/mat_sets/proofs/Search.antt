@@ -1,129 +1,145 @@
--- Finite searches: what is decided at each number, list or subset is decided of some of them.
-use Rattle.std.proofs.Common.{List, [], ap, arith, eqb, false, inl, inr, length, refl, subst, suc, true, zero, ℕ, ◌-◌, ◌<◌, ◌∷◌, ◌≡◌, ◌≤◌, ◌⊎◌}
-use Rattle.std.proofs.lemmas.Bool.{both_ways, cases_eq, ne_eqb, or_right}
-use Rattle.mat_sets.specs.Sets.{AllBelow, IsRising, IsSubset, RisesFrom, is_member}
-use Rattle.mat_sets.proofs.Members.{IsRising-nil, RisesFrom-weaken, is_member-head, member_from}
-use Rattle.mat_sets.proofs.Subsets.{length-subset}
+-- Tests that look through finitely many numbers, lists or subsets: where the test holds there is one that passes, and
+-- where it fails none does. The set of the numbers below n that pass.
+use Rattle.std.proofs.Common.{Bool, List, [], ap, arith, eqb, false, inl, inr, length, ltb, refl, subst, suc, sym, true, zero, ℕ, ◌&&◌, ◌<◌, ◌∙◌, ◌∷◌, ◌≡◌, ◌≤◌}
+use Rattle.std.proofs.lemmas.Bool.{and_from, and_parts, and_right, both_ways, cases_eq, false_from_ne_true, false≢true, lt-ltb, ltb-true, ne_eqb, or_cases, or_left, or_right}
+use Rattle.std.proofs.lemmas.Bool.Decides.{nat_tests}
+use Rattle.mat_sets.specs.Search.{some_below, some_list, some_subset, those_below}
+use Rattle.mat_sets.specs.Sets.{AllBelow, IsRising, IsSet, IsSubset, RisesFrom, all_below, is_member, with_one}
+use Rattle.mat_sets.proofs.Cardinalities.{length-with_one}
+use Rattle.mat_sets.proofs.Ground.{IsRising-all_below, IsSet-from, IsSubset-all_below, is_member-all_below, length-all_below}
+use Rattle.mat_sets.proofs.Members.{IsRising-with_one, RisesFrom-filter, RisesFrom-weaken, is_member-filter, is_member-head, member_from}
+use Rattle.mat_sets.proofs.Subsets.{IsSubset-refl, length-subset, with_one-IsSubset}
 
-abbrev pub Decided : Type 0 → Type 0
-Decided P = P ⊎ (P → ⊥)
+-- ---- numbers
 
-pub record Below (n : ℕ) (P : ℕ → Type 0) : Type 0 where
-  pub at : ℕ
-  pub below : at < n
-  pub holds : P at
+pub some_below_gives : (n : ℕ) (test : ℕ → Bool) → some_below n test ≡ true → (x : ℕ) × (x < n) × (test x ≡ true)
+unfolding some_below
+some_below_gives zero test h = absurd (false≢true h)
+some_below_gives (suc n) test h = elim (or_cases (test n) (some_below n test) h)
+    [ inl a ↦ (n, omega arith, a) | inr b ↦ (let w = some_below_gives n test b in let l = w.1 in (w.0, omega arith, w.2)) ]
 
-pub decide_below : (n : ℕ) (P : ℕ → Type 0) → ((k : ℕ) → k < n → Decided (P k)) → Decided (Below n P)
-decide_below zero P d = inr (λ w. let l = w.below in absurd (omega arith))
-decide_below (suc n) P d =
-    elim (d n (omega arith)) [
-      | inl p ↦ inl (record { at = n; below = omega arith; holds = p })
-      | inr np ↦ elim (decide_below n P (λ k l. d k (omega arith))) [
-        | inl w ↦ inl (record { at = w.at; below = let l = w.below in omega arith; holds = w.holds })
-        | inr none ↦ inr (λ w. elim (cases_eq w.at n) [
-          | inl e ↦ np (subst P e w.holds)
-          | inr o ↦ none (record { at = w.at; below = let l = w.below in omega arith; holds = w.holds })
-        ])
-      ]
-    ]
+pub some_below_from : (n x : ℕ) (test : ℕ → Bool) → x < n → test x ≡ true → some_below n test ≡ true
+unfolding some_below
+some_below_from zero x test l h = absurd (omega arith)
+some_below_from (suc n) x test l h = elim (cases_eq x n)
+    [ inl e ↦ or_left (test n) (some_below n test) (sym (ap test e) ∙ h) | inr d ↦ or_right (test n) (some_below n test) (some_below_from n x test (omega arith) h) ]
 
--- a list of l numbers below m that has P
-pub record Listed (m l : ℕ) (P : List ℕ → Type 0) : Type 0 where
-  pub items : List ℕ
-  pub size : length items ≡ l
-  pub below : AllBelow m items
-  pub holds : P items
+pub some_below_none : (n x : ℕ) (test : ℕ → Bool) → some_below n test ≡ false → x < n → test x ≡ false
+some_below_none n x test h l = false_from_ne_true (test x) (λ p. both_ways _ h (some_below_from n x test l p))
 
-listed_none : (m : ℕ) (P : List ℕ → Type 0) → (P [] → ⊥) → (items : List ℕ) → length items ≡ 0 → P items → ⊥
-listed_none m P np [] e p = np p
-listed_none m P np (x ∷ t) e p = absurd (omega arith)
+-- ---- lists
 
-listed_some : (m l : ℕ) (P : List ℕ → Type 0) → (Below m (λ x. Listed m l (λ t. P (x ∷ t))) → ⊥) → (items : List ℕ) → length items ≡ suc l → AllBelow m items → P items → ⊥
-listed_some m l P np [] e b p = absurd (omega arith)
-listed_some m l P np (x ∷ t) e b p = np (record { at = x; below = b.0; holds = record { items = t; size = omega arith; below = b.1; holds = p } })
+pub some_list_gives : (k n : ℕ) (test : List ℕ → Bool) → some_list k n test ≡ true
+    → (xs : List ℕ) × (length xs ≡ k) × AllBelow n xs × (test xs ≡ true)
+unfolding some_list
+some_list_gives zero n test h = ([], refl, tt, h)
+some_list_gives (suc k) n test h =
+    let a = some_below_gives n (λ x. some_list k n (λ xs. test (x ∷ xs))) h in
+    let b = some_list_gives k n (λ xs. test (a.0 ∷ xs)) a.2 in
+    (a.0 ∷ b.0, ap suc b.1, (a.1, b.2), b.3)
 
-pub decide_list : (m l : ℕ) (P : List ℕ → Type 0) → ((a : List ℕ) → Decided (P a)) → Decided (Listed m l P)
-decide_list m zero P d =
-    elim (d []) [
-      | inl p ↦ inl (record { items = []; size = refl; below = tt; holds = p })
-      | inr np ↦ inr (λ w. listed_none m P np w.items w.size w.holds)
-    ]
-decide_list m (suc l) P d =
-    elim (decide_below m (λ x. Listed m l (λ t. P (x ∷ t))) (λ x h. decide_list m l (λ t. P (x ∷ t)) (λ t. d (x ∷ t)))) [
-      | inl w ↦ inl (record { items = w.at ∷ w.holds.items; size = ap suc w.holds.size; below = (w.below, w.holds.below); holds = w.holds.holds })
-      | inr none ↦ inr (λ w. listed_some m l P none w.items w.size w.below w.holds)
-    ]
+pub some_list_from : (n : ℕ) (xs : List ℕ) (test : List ℕ → Bool) → AllBelow n xs → test xs ≡ true
+    → some_list (length xs) n test ≡ true
+unfolding some_list
+some_list_from n [] test b h = h
+some_list_from n (x ∷ xs) test b h = some_below_from n x (λ y. some_list (length xs) n (λ ys. test (y ∷ ys))) b.0 (some_list_from n xs (λ ys. test (x ∷ ys)) b.1 h)
 
--- a subset of x, from lo on, that has P
-pub record Chosen (lo : ℕ) (x : List ℕ) (P : List ℕ → Type 0) : Type 0 where
-  pub items : List ℕ
-  pub rises : RisesFrom lo items
-  pub within : IsSubset items x
-  pub holds : P items
+pub some_list_none : (n : ℕ) (xs : List ℕ) (test : List ℕ → Bool) → some_list (length xs) n test ≡ false
+    → AllBelow n xs → test xs ≡ false
+some_list_none n xs test h b = false_from_ne_true (test xs) (λ p. both_ways _ h (some_list_from n xs test b p))
 
-nothing_within : (lo : ℕ) (P : List ℕ → Type 0) → (P [] → ⊥) → (items : List ℕ) → IsSubset items [] → P items → ⊥
-nothing_within lo P np [] s p = np p
-nothing_within lo P np (y ∷ t) s p = both_ways false refl (s.inside y (is_member-head y t))
+-- ---- subsets
 
--- what rises from above x and lies in x ∷ t lies in t
-within_tail : (x : ℕ) (t a : List ℕ) → RisesFrom (suc x) a → IsSubset a (x ∷ t) → IsSubset a t
-within_tail x t a r s = record { inside = λ k h. let above : suc x ≤ k = member_from (suc x) k a r h in let m = s.inside k h in rw (ne_eqb k x (omega arith)) at m }
+-- what rises from above x and lies in x ∷ xs lies in xs
+pub within_tail : (x : ℕ) (xs a : List ℕ) → RisesFrom (suc x) a → IsSubset a (x ∷ xs) → IsSubset a xs
+within_tail x xs a r s = record { inside = λ k h. let above : suc x ≤ k = member_from (suc x) k a r h in let m = s.inside k h in rw (ne_eqb k x (omega arith)) at m }
 
--- a subset of x ∷ t without x lies in t; with x, it begins with x
-chosen_parts : (lo x : ℕ) (t : List ℕ) (P : List ℕ → Type 0) → RisesFrom lo (x ∷ t) → (Chosen (suc x) t P → ⊥) → (Chosen (suc x) t (λ u. P (x ∷ u)) → ⊥) → (items : List ℕ) → RisesFrom lo items → IsSubset items (x ∷ t) → P items → ⊥
-chosen_parts lo x t P r np nq [] q s p = np (record { items = []; rises = tt; within = record { inside = λ k h. absurd (both_ways false refl h) }; holds = p })
-chosen_parts lo x t P r np nq (y ∷ u) q s p =
-    elim (cases_eq y x) [
-      | inl same ↦
-          let u_rises : RisesFrom (suc x) u = subst (λ z. RisesFrom (suc z) u) same q.1 in
-          let tail : IsSubset u (x ∷ t) = record { inside = λ k h. s.inside k (or_right (eqb k y) (is_member k u) h) } in
-          nq (record { items = u; rises = u_rises; within = within_tail x t u u_rises tail; holds = subst (λ z. P (z ∷ u)) same p })
-      | inr other ↦
-          let here : is_member y t ≡ true = rw (ne_eqb y x other) at (s.inside y (is_member-head y u)) in
-          let all_rise : RisesFrom (suc x) (y ∷ u) = (member_from (suc x) y t r.1 here, q.1) in
-          np (record { items = y ∷ u; rises = all_rise; within = within_tail x t (y ∷ u) all_rise s; holds = p })
-    ]
-
-pub decide_subset : (lo : ℕ) (x : List ℕ) (P : List ℕ → Type 0) → RisesFrom lo x → ((a : List ℕ) → Decided (P a)) → Decided (Chosen lo x P)
-decide_subset lo [] P r d =
-    elim (d []) [
-      | inl p ↦ inl (record { items = []; rises = tt; within = record { inside = λ k h. h }; holds = p })
-      | inr np ↦ inr (λ w. nothing_within lo P np w.items w.within w.holds)
-    ]
-decide_subset lo (x ∷ t) P r d =
-    elim (decide_subset (suc x) t (λ u. P (x ∷ u)) r.1 (λ u. d (x ∷ u))) [
-      | inl w ↦ inl (record { items = x ∷ w.items; rises = (r.0, w.rises); within = record { inside = λ k h. let s = w.within.inside k in grind arith }; holds = w.holds })
-      | inr nq ↦ elim (decide_subset (suc x) t P r.1 d) [
-        | inl w ↦ inl (record { items = w.items; rises = RisesFrom-weaken lo (suc x) w.items (let h = r.0 in omega arith) w.rises; within = record { inside = λ k h. or_right _ _ (w.within.inside k h) }; holds = w.holds })
-        | inr np ↦ inr (λ w. chosen_parts lo x t P r np nq w.items w.rises w.within w.holds)
-      ]
-    ]
-
--- a largest subset of x that has P, where some has it
-pub record Largest (x : List ℕ) (P : List ℕ → Type 0) : Type 0 where
-  pub items : List ℕ
-  pub rises : IsRising items
-  pub within : IsSubset items x
-  pub holds : P items
-  pub most : (a : List ℕ) → IsRising a → IsSubset a x → P a → length a ≤ length items
-
-of_size : (x : List ℕ) (P : List ℕ → Type 0) → IsRising x → ((a : List ℕ) → Decided (P a)) → (n : ℕ) → Decided (Chosen 0 x (λ a. P a × (length a ≡ n)))
-of_size x P r d n = decide_subset 0 x (λ a. P a × (length a ≡ n)) r.rises (λ a.
-    elim (d a) [
-      | inr np ↦ inr (λ w. np w.0)
-      | inl p ↦ elim (cases_eq (length a) n) [ inl e ↦ inl (p, e) | inr o ↦ inr (λ w. o w.1) ]
-    ])
-
-pub largest : (x : List ℕ) (P : List ℕ → Type 0) → IsRising x → ((a : List ℕ) → Decided (P a)) → P [] → Largest x P
-largest x P r d p = down (length x) (λ a q s h. length-subset a x q r s)
+subset_found : (lo : ℕ) (xs : List ℕ) (test : List ℕ → Bool) → RisesFrom lo xs → some_subset xs test ≡ true
+    → (a : List ℕ) × RisesFrom lo a × IsSubset a xs × (test a ≡ true)
+unfolding some_subset
+subset_found lo [] test r h = ([], tt, IsSubset-refl [], h)
+subset_found lo (x ∷ xs) test r h = elim (or_cases (some_subset xs (λ a. test (x ∷ a))) (some_subset xs test) h) [
+  | inl p ↦ (let w = subset_found (suc x) xs (λ a. test (x ∷ a)) r.1 p in
+      (x ∷ w.0, (r.0, w.1), record { inside = λ k m. (let q = w.2.inside k in both_heads x k xs w.0 q m) }, w.3))
+  | inr p ↦ (let w = subset_found (suc x) xs test r.1 p in
+      let l : lo ≤ x = r.0 in
+      (w.0, RisesFrom-weaken lo (suc x) w.0 (omega arith) w.1, record { inside = λ k m. or_right (eqb k x) (is_member k xs) (w.2.inside k m) }, w.3))
+]
   where
-    down : (n : ℕ) → ((a : List ℕ) → IsRising a → IsSubset a x → P a → length a ≤ n) → Largest x P
-    down zero most = record { items = []; rises = IsRising-nil; within = record { inside = λ k h. absurd (both_ways false refl h) }; holds = p; most = most }
-    down (suc n) most =
-        elim (of_size x P r d (suc n)) [
-          | inl w ↦ record { items = w.items; rises = record { rises = w.rises }; within = w.within; holds = w.holds.0; most = λ a q s h. let e = w.holds.1 in let m = most a q s h in omega arith }
-          | inr none ↦ down n (λ a q s h.
-              let m = most a q s h in
-              let other : length a ≡ suc n → ⊥ = λ e. none (record { items = a; rises = q.rises; within = s; holds = (h, e) }) in
-              omega arith)
-        ]
+    both_heads : (x k : ℕ) (xs a : List ℕ) → (is_member k a ≡ true → is_member k xs ≡ true)
+        → is_member k (x ∷ a) ≡ true → is_member k (x ∷ xs) ≡ true
+    both_heads x k xs a q m = grind (arith, nat_tests)
+
+pub some_subset_gives : (xs : List ℕ) (test : List ℕ → Bool) → IsRising xs → some_subset xs test ≡ true
+    → (a : List ℕ) × IsRising a × IsSubset a xs × (test a ≡ true)
+some_subset_gives xs test r h = let w = subset_found 0 xs test r.rises h in (w.0, record { rises = w.1 }, w.2, w.3)
+
+subset_counts : (lo : ℕ) (xs a : List ℕ) (test : List ℕ → Bool) → RisesFrom lo xs → RisesFrom lo a → IsSubset a xs
+    → test a ≡ true → some_subset xs test ≡ true
+unfolding some_subset
+subset_counts lo [] [] test r q s h = h
+subset_counts lo [] (y ∷ ys) test r q s h = absurd (false≢true (s.inside y (is_member-head y ys)))
+subset_counts lo (x ∷ xs) [] test r q s h = or_right (some_subset xs (λ a. test (x ∷ a))) (some_subset xs test) (subset_counts (suc x) xs [] test r.1 tt (record { inside = λ k m. absurd (false≢true m) }) h)
+subset_counts lo (x ∷ xs) (y ∷ ys) test r q s h =
+    elim (cases_eq y x) [
+      | inl e ↦
+          let rises : RisesFrom (suc x) ys = subst (λ z. RisesFrom (suc z) ys) e q.1 in
+          let tail : IsSubset ys (x ∷ xs) = record { inside = λ k m. s.inside k (or_right (eqb k y) (is_member k ys) m) } in
+          or_left (some_subset xs (λ a. test (x ∷ a))) (some_subset xs test)
+          (subset_counts (suc x) xs ys (λ a. test (x ∷ a)) r.1 rises (within_tail x xs ys rises tail) (ap (λ z. test (z ∷ ys)) (sym e) ∙ h))
+      | inr d ↦
+          let here : is_member y xs ≡ true = rw (ne_eqb y x d) at (s.inside y (is_member-head y ys)) in
+          let rises : RisesFrom (suc x) (y ∷ ys) = (member_from (suc x) y xs r.1 here, q.1) in
+          or_right (some_subset xs (λ a. test (x ∷ a))) (some_subset xs test) (subset_counts (suc x) xs (y ∷ ys) test r.1 rises (within_tail x xs (y ∷ ys) rises s) h)
+    ]
+
+pub some_subset_from : (xs a : List ℕ) (test : List ℕ → Bool) → IsRising xs → IsRising a → IsSubset a xs
+    → test a ≡ true → some_subset xs test ≡ true
+some_subset_from xs a test r q s h = subset_counts 0 xs a test r.rises q.rises s h
+
+pub some_subset_none : (xs a : List ℕ) (test : List ℕ → Bool) → some_subset xs test ≡ false → IsRising xs → IsRising a
+    → IsSubset a xs → test a ≡ false
+some_subset_none xs a test h r q s = false_from_ne_true (test a) (λ p. both_ways _ h (some_subset_from xs a test r q s p))
+
+-- ---- the numbers below n that pass
+
+pub is_member-those_below : (x n : ℕ) (test : ℕ → Bool) → is_member x (those_below n test) ≡ (ltb x n && test x)
+unfolding those_below
+is_member-those_below x n test = is_member-filter test x (all_below n) ∙ ap (λ b. b && test x) (is_member-all_below x n)
+
+pub IsSet-those_below : (n : ℕ) (test : ℕ → Bool) → IsSet n (those_below n test)
+unfolding those_below
+IsSet-those_below n test = IsSet-from n _ (record { rises = RisesFrom-filter test 0 (all_below n) (IsRising-all_below n).rises })
+    (λ x m. ltb-true x n (and_left (ltb x n) (test x) (sym (is_member-those_below x n test) ∙ m)))
+  where
+    and_left : (a b : Bool) → (a && b) ≡ true → a ≡ true
+    and_left true b h = refl
+    and_left false b h = h
+
+-- what holds of fewer numbers has a smaller set
+pub length-those_below : (n : ℕ) (few many : ℕ → Bool) → ((x : ℕ) → x < n → few x ≡ true → many x ≡ true)
+    → length (those_below n few) ≤ length (those_below n many)
+length-those_below n few many h =
+    length-subset _ _ (IsSet-those_below n few).rising (IsSet-those_below n many).rising (record { inside = λ x m. narrower n few many x (h x) (sym (is_member-those_below x n few) ∙ m) })
+  where
+    narrower : (n : ℕ) (few many : ℕ → Bool) (x : ℕ) → (x < n → few x ≡ true → many x ≡ true)
+        → (ltb x n && few x) ≡ true → is_member x (those_below n many) ≡ true
+    narrower n few many x h m = let p = and_parts (ltb x n) (few x) m in is_member-those_below x n many ∙ and_from (ltb x n) (many x) p.0 (h (ltb-true x n p.0) p.1)
+
+pub length-those_below_less : (n x : ℕ) (few many : ℕ → Bool) → ((y : ℕ) → y < n → few y ≡ true → many y ≡ true)
+    → x < n → few x ≡ false → many x ≡ true → length (those_below n few) < length (those_below n many)
+length-those_below_less n x few many h l f m =
+    let a = those_below n few in
+    let b = those_below n many in
+    let r : IsRising a = (IsSet-those_below n few).rising in
+    let out : is_member x a ≡ false = is_member-those_below x n few ∙ ap (λ z. ltb x n && z) f ∙ and_right (ltb x n) false refl in
+    let sub : IsSubset (with_one a x) b = with_one-IsSubset a b x (record { inside = λ y k. (let p = and_parts (ltb y n) (few y) (sym (is_member-those_below y n few) ∙ k) in is_member-those_below y n many ∙ and_from (ltb y n) (many y) p.0 (h y (ltb-true y n p.0) p.1)) })
+    (is_member-those_below x n many ∙ and_from (ltb x n) (many x) (lt-ltb x n l) m) in
+    omega (arith, length-subset (with_one a x) b (IsRising-with_one a x r) (IsSet-those_below n many).rising sub, length-with_one a x r out)
+
+pub length-those_below_most : (n : ℕ) (test : ℕ → Bool) → length (those_below n test) ≤ n
+length-those_below_most n test =
+    let s = IsSet-those_below n test in
+    omega (arith, length-subset _ _ s.rising (IsRising-all_below n) (IsSubset-all_below n _ s.below), length-all_below n)
+
+pub ruleset those_members = (is_member-those_below, IsSet-those_below)

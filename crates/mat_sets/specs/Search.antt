@@ -1,5 +1,10 @@
 -- Tests that look through finitely many numbers, lists or subsets.
-use Rattle.std.specs.Prelude.{ℕ, zero, suc, Bool, true, false, ◌||◌, List, [], ◌∷◌}
+use Rattle.std.specs.Prelude.{ℕ, zero, suc, Bool, false, ◌||◌, List, [], ◌∷◌, filter}
+use Rattle.mat_sets.specs.Sets.{all_below}
+
+-- the set of the numbers below n that pass
+unfoldable pub those_below : ℕ → (ℕ → Bool) → List ℕ
+those_below n test = filter test (all_below n)
 
 -- whether some number below n passes
 unfoldable pub some_below : ℕ → (ℕ → Bool) → Bool
@@ -11,7 +16,7 @@ unfoldable pub some_list : ℕ → ℕ → (List ℕ → Bool) → Bool
 some_list zero n test = test []
 some_list (suc k) n test = some_below n (λ x. some_list k n (λ xs. test (x ∷ xs)))
 
--- whether some sublist of a list passes; where the list is a set, these are its subsets
+-- whether some subset of a set passes
 unfoldable pub some_subset : List ℕ → (List ℕ → Bool) → Bool
 some_subset [] test = test []
-some_subset (x ∷ xs) test = some_subset xs (λ s. test (x ∷ s)) || some_subset xs test
+some_subset (x ∷ xs) test = some_subset xs (λ a. test (x ∷ a)) || some_subset xs test

@@ -1,5 +1,8 @@
 //! A set of numbers, seen as a strictly rising list.
 ghost use Rattle.std.specs.Prelude.{◌≡◌, ◌==◌, ◌<◌, List, [], length, slice_index, not, IfOk, OnErr, MatchResult};
+ghost use Rattle.std.proofs.Common.{rules};
+ghost use Rattle.std.specs.Cmp.Lexicographic.{pointwise};
+ghost use Rattle.std.specs.Cmp.Rules.{comparing};
 ghost use Rattle.mat_sets.specs.Places.{IsFirstFall};
 ghost use Rattle.mat_sets.specs.Sets.{all_below, is_member, minus, with_one, without_one, IsRising, IsSet};
 
@@ -23,6 +26,20 @@ impl Model for ElemSet {
     ghost view = { λ a. a.items.items };
 
     ghost invariant = { λ a. IsRising a.items.items };
+}
+
+impl PartialEq for ElemSet {
+    ghost eq = { pointwise ◌==◌ };
+
+    ghost laws = { Prim.search (comparing, rules) };
+
+    fn eq(&self, other: &ElemSet) -> bool {
+        self.items.as_slice() == other.items.as_slice()
+    }
+}
+
+impl Eq for ElemSet {
+    ghost laws = { Prim.search (comparing, rules) };
 }
 
 /// The first place whose item is not above the one before it.

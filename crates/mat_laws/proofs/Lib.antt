@@ -1,0 +1,6 @@
+pub mod Independent
+pub mod Maximal
+pub mod RankLaws
+pub mod Symmetric
+pub mod LocallyHeaviest
+pub mod Triangular

@@ -1,0 +1,41 @@
+-- Maximal independent subsets of one set have one size, which is its rank; what spans a set bounds what is independent in it.
+use Rattle.std.proofs.Common.{◌≡◌, ℕ, ◌≤◌, Bool, true, false, ◌||◌, List, length, inl, inr, refl, arith}
+use Rattle.std.proofs.lemmas.Bool.{cases_lt, or_cases, both_ways}
+use Rattle.mat_sets.specs.Sets.{is_member, IsSubset, with_one}
+use Rattle.mat_laws.specs.Matroids.{IsMatroid, IsMaximal}
+use Rattle.mat_laws.specs.Ranks.{IsRank}
+
+module _ {n : ℕ} {p : List ℕ → Bool} (laws : IsMatroid n p) where
+  -- where no member of X outside I can be added to I, no independent subset of I ∪ X is larger
+  pub span : (I X : List ℕ) → p I ≡ true → ((x : ℕ) → is_member x X ≡ true → is_member x I ≡ false → p (with_one I x) ≡ false)
+      → (J : List ℕ) → p J ≡ true → ((k : ℕ) → is_member k J ≡ true → (is_member k I || is_member k X) ≡ true) → length J ≤ length I
+  span I X i full J j inside =
+      elim (cases_lt (length I) (length J)) [
+        | inl less ↦ (let a = laws.augmentation I J i j less in
+            elim (or_cases (is_member a.element I) (is_member a.element X) (inside a.element a.inside)) [
+              | inl m ↦ absurd (both_ways _ a.outside m)
+              | inr m ↦ absurd (both_ways _ (full a.element m a.outside) a.augmented)
+            ])
+        | inr le ↦ le
+      ]
+
+  -- no independent subset of X is larger than a maximal one
+  pub IsMaximal-largest : (X A : List ℕ) → IsMaximal p X A → (J : List ℕ) → p J ≡ true → IsSubset J X → length J ≤ length A
+  IsMaximal-largest X A m J j s =
+      elim (cases_lt (length A) (length J)) [
+        | inl less ↦ (let a = laws.augmentation A J m.passes j less in
+            absurd (both_ways _ (m.full a.element (s.inside a.element a.inside) a.outside) a.augmented))
+        | inr le ↦ le
+      ]
+
+  pub IsMaximal-one_size : (X A B : List ℕ) → IsMaximal p X A → IsMaximal p X B → length A ≡ length B
+  IsMaximal-one_size X A B a b =
+      omega (arith, IsMaximal-largest X A a B b.passes b.inside, IsMaximal-largest X B b A a.passes a.inside)
+
+  -- the size of a maximal independent subset is the rank
+  pub IsRank-maximal : (X A : List ℕ) → IsMaximal p X A → IsRank p X (length A)
+  IsRank-maximal X A m = record { largest = A; passes = m.passes; inside = m.inside; size = refl; most = λ J j s. IsMaximal-largest X A m J j s }
+
+-- a set has one rank
+pub IsRank-unique : (p : List ℕ → Bool) (X : List ℕ) (r s : ℕ) → IsRank p X r → IsRank p X s → r ≡ s
+IsRank-unique p X r s a b = omega (arith, a.most b.largest b.passes b.inside, b.most a.largest a.passes a.inside, a.size, b.size)

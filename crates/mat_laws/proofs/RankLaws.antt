@@ -1,0 +1,71 @@
+-- The rank is the largest size of an independent subset; a largest one is maximal.
+use Rattle.std.proofs.Common.{◌≡◌, ℕ, suc, zero, ◌≤◌, Bool, true, ◌&&◌, eqb, List, [], length, inl, inr, refl, sym, ap, ◌∙◌, arith}
+use Rattle.std.proofs.lemmas.Bool.{cases_Bool, cases_eq, eqb-true, eq-eqb, both_ways, false_from_ne_true, and_parts, and_from}
+use Rattle.mat_sets.specs.Sets.{IsRising, with_one}
+use Rattle.mat_sets.proofs.Members.{IsRising-nil}
+use Rattle.mat_sets.proofs.Subsets.{length-subset, with_one-IsSubset}
+use Rattle.mat_sets.proofs.Cardinalities.{length-with_one}
+use Rattle.mat_sets.proofs.Search.{some_subset_gives, some_subset_from}
+use Rattle.mat_sets.proofs.Steps.{IsSubset-none}
+use Rattle.mat_laws.specs.Matroids.{IsMatroid, IsMaximal}
+use Rattle.mat_laws.specs.Ranks.{IsRank, largest_up_to, has_independent, rank}
+use Rattle.mat_laws.proofs.Independent.{rising}
+use Rattle.mat_laws.proofs.Maximal.{IsRank-maximal, IsRank-unique}
+
+-- ---- the largest number that passes
+
+largest_up_to-passes : (n : ℕ) (test : ℕ → Bool) → test 0 ≡ true → test (largest_up_to n test) ≡ true
+unfolding largest_up_to
+largest_up_to-passes zero test h = h
+largest_up_to-passes (suc n) test h = elim (cases_Bool (test (suc n))) [ inl a ↦ rw (a, a) refl | inr a ↦ rw a (largest_up_to-passes n test h) ]
+
+largest_up_to-most : (n k : ℕ) (test : ℕ → Bool) → k ≤ n → test k ≡ true → k ≤ largest_up_to n test
+unfolding largest_up_to
+largest_up_to-most zero k test l h = omega arith
+largest_up_to-most (suc n) k test l h =
+    elim (cases_Bool (test (suc n))) [
+      | inl a ↦ rw a l
+      | inr a ↦ rw a (elim (cases_eq k (suc n)) [
+        | inl same ↦ absurd (both_ways _ a (ap test (sym same) ∙ h))
+        | inr other ↦ largest_up_to-most n k test (omega arith) h
+      ])
+    ]
+
+-- ---- the rank
+
+-- a largest independent subset is maximal
+pub IsMaximal-largest_subset : {n : ℕ} {p : List ℕ → Bool} → IsMatroid n p → (X : List ℕ) (r : ℕ) (rank_of_X : IsRank p X r) → IsMaximal p X rank_of_X.largest
+IsMaximal-largest_subset laws X r h = record {
+  passes = h.passes;
+  inside = h.inside;
+  full = λ x m o. false_from_ne_true _ (λ more.
+      let size = length-with_one h.largest x (rising laws h.largest h.passes) o in
+      let most = h.most (with_one h.largest x) more (with_one-IsSubset h.largest X x h.inside m) in
+      let no : ⊥ = absurd (omega (arith, h.size)) in no);
+}
+
+module _ {n : ℕ} {p : List ℕ → Bool} (laws : IsMatroid n p) where
+  -- the rank is the largest size of an independent subset
+  pub rank_is : (X : List ℕ) → IsRising X → IsRank p X (rank p X)
+  unfolding rank
+  rank_is X r =
+      let start : has_independent p X 0 ≡ true = some_subset_from X [] (λ I. p I && eqb (length I) 0) r IsRising-nil (IsSubset-none X) (and_from (p []) true laws.empty refl) in
+      let w = some_subset_gives X (λ I. p I && eqb (length I) (largest_up_to (length X) (has_independent p X))) r (largest_up_to-passes (length X) (has_independent p X) start) in
+      let parts = and_parts (p w.0) (eqb (length w.0) (largest_up_to (length X) (has_independent p X))) w.3 in
+      record {
+        largest = w.0;
+        passes = parts.0;
+        inside = w.2;
+        size = eqb-true _ _ parts.1;
+        most = λ I i s. (let q = rising laws I i in
+            largest_up_to-most (length X) (length I) (has_independent p X) (length-subset I X q r s)
+            (some_subset_from X I (λ J. p J && eqb (length J) (length I)) r q s (and_from (p I) (eqb (length I) (length I)) i (eq-eqb _ _ refl))));
+      }
+
+  -- what is a rank of X is the rank
+  pub rank-unique : (X : List ℕ) (r : ℕ) → IsRising X → IsRank p X r → r ≡ rank p X
+  rank-unique X r q h = IsRank-unique p X r (rank p X) h (rank_is X q)
+
+  -- the rank is the size of each maximal independent subset
+  pub rank-maximal : (X A : List ℕ) → IsRising X → IsMaximal p X A → rank p X ≡ length A
+  rank-maximal X A q m = IsRank-unique p X (rank p X) (length A) (rank_is X q) (IsRank-maximal laws X A m)

@@ -1,0 +1,22 @@
+-- Exchanges of elements at independent sets (Schrijver, chapter 39).
+use Rattle.std.specs.Prelude.{◌≡◌, ◌≢◌, ℕ, ◌<◌, Bool, true, false, List, length, slice_index}
+use Rattle.mat_sets.specs.Sets.{is_member, with_one, without_one}
+
+-- a member of B outside A for which x can be exchanged at both: A - x + partner and B - partner + x are independent
+pub record HasSymmetricPartner (independent : List ℕ → Bool) (A B : List ℕ) (x : ℕ) : Type 0 where
+  pub partner : ℕ
+  pub inside : is_member partner B ≡ true
+  pub outside : is_member partner A ≡ false
+  pub first : independent (with_one (without_one A x) partner) ≡ true
+  pub second : independent (with_one (without_one B partner) x) ≡ true
+
+-- pairs of a member y of I and an element x outside, all different, of which each x can take the place of its own y
+-- and of no later one
+pub record IsTriangular (independent : List ℕ → Bool) (I ys xs : List ℕ) : Type 0 where
+  pub lengths : length ys ≡ length xs
+  pub inside : (i : ℕ) → i < length ys → is_member (slice_index ys i) I ≡ true
+  pub outside : (i : ℕ) → i < length ys → is_member (slice_index xs i) I ≡ false
+  pub ys_differ : (i j : ℕ) → i < j → j < length ys → slice_index ys i ≢ slice_index ys j
+  pub xs_differ : (i j : ℕ) → i < j → j < length ys → slice_index xs i ≢ slice_index xs j
+  pub own : (i : ℕ) → i < length ys → independent (with_one (without_one I (slice_index ys i)) (slice_index xs i)) ≡ true
+  pub none_later : (i j : ℕ) → i < j → j < length ys → independent (with_one (without_one I (slice_index ys j)) (slice_index xs i)) ≡ false

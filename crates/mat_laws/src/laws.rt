@@ -1,0 +1,55 @@
+//! What the laws of a matroid imply, for every test of independence that obeys them. Each law is the contract of a
+//! function that does nothing.
+
+ghost use Rattle.std.specs.Prelude.{◌≡◌, ◌≤◌, ◌||◌, ℕ, ℤ, List, Bool, true, false, length};
+ghost use Rattle.mat_sets.specs.Sets.{is_member, IsRising, with_one, minus, union};
+ghost use Rattle.mat_laws.specs.Matroids.{IsMatroid, IsMaximal};
+ghost use Rattle.mat_laws.specs.Ranks.{IsRank, rank};
+ghost use Rattle.mat_laws.specs.Exchanges.{HasSymmetricPartner, IsTriangular};
+ghost use Rattle.mat_laws.specs.Heaviest.{IsHeaviest, IsLocallyHeaviest};
+
+/// The rank of a set is the largest size of an independent subset (Schrijver, chapter 39).
+pub fn rank_is_largest()
+    ensures { (n : ℕ) (independent : List ℕ → Bool) → IsMatroid n independent
+        → (X : List ℕ) → IsRising X → IsRank independent X (rank independent X) }
+{}
+
+/// All maximal independent subsets of a set have one size, its rank (Schrijver, chapter 39).
+pub fn maximal_has_rank()
+    ensures { (n : ℕ) (independent : List ℕ → Bool) → IsMatroid n independent
+        → (X I : List ℕ) → IsRising X → IsMaximal independent X I → length I ≡ rank independent X }
+{}
+
+/// Where no member of X outside an independent I can be added to I, I spans X: no independent subset of I ∪ X is
+/// larger than I (Schrijver, chapter 39).
+pub fn span()
+    ensures { (n : ℕ) (independent : List ℕ → Bool) → IsMatroid n independent
+        → (I X : List ℕ) → independent I ≡ true
+        → ((x : ℕ) → is_member x X ≡ true → is_member x I ≡ false → independent (with_one I x) ≡ false)
+        → (J : List ℕ) → independent J ≡ true
+        → ((x : ℕ) → is_member x J ≡ true → (is_member x I || is_member x X) ≡ true)
+        → length J ≤ length I }
+{}
+
+/// Symmetric exchange (Schrijver, chapter 39): for bases A and B, and x in A outside B, some y in B outside A has both
+/// A - x + y and B - y + x independent. So too for any two independent sets of one size.
+pub fn symmetric_exchange()
+    ensures { (n : ℕ) (independent : List ℕ → Bool) → IsMatroid n independent
+        → (A B : List ℕ) (x : ℕ) → independent A ≡ true → independent B ≡ true → length A ≡ length B
+        → is_member x A ≡ true → is_member x B ≡ false → HasSymmetricPartner independent A B x }
+{}
+
+/// An independent set that no exchange of one element makes heavier is heaviest of its size (Schrijver, chapter 40).
+pub fn locally_heaviest_is_heaviest()
+    ensures { (n : ℕ) (independent : List ℕ → Bool) → IsMatroid n independent
+        → (w : ℕ → ℤ) (I : List ℕ) → IsLocallyHeaviest independent w I → IsHeaviest independent w I }
+{}
+
+/// Triangular exchange (Schrijver, chapter 39, on unique perfect matchings of the exchange graph): where of a list of
+/// pairs each element x can take the place of its own y in the independent set I, and of no later one, all can be
+/// exchanged at once.
+pub fn triangular_exchange()
+    ensures { (n : ℕ) (independent : List ℕ → Bool) → IsMatroid n independent
+        → (I ys xs : List ℕ) → independent I ≡ true → IsTriangular independent I ys xs
+        → independent (union xs (minus I ys)) ≡ true }
+{}

@@ -1,0 +1,6 @@
+pub mod CommandLines
+pub mod Answers
+pub mod Outcomes
+pub mod Commands
+pub mod WholeFiles
+pub mod Refusals

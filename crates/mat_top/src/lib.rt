@@ -1,0 +1,13 @@
+//! The top call: words, files and streams in, a status out.
+#![tactic(auto)]
+
+mod command;
+mod notes;
+mod reading;
+mod solve;
+mod status;
+mod top_call;
+mod writing;
+
+pub use status::Status;
+pub use top_call::run;
