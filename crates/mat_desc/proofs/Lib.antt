@@ -7,3 +7,6 @@ pub mod WordLaws
 pub mod LineLaws
 pub mod ElementLaws
 pub mod ClassLaws
+pub mod MatroidLaws
+pub mod InstanceLaws
+pub mod ProblemLaws

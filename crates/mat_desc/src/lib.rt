@@ -3,10 +3,15 @@
 
 mod cursor;
 mod keywords;
+mod laws;
 mod matroid;
 mod problem;
 mod reading;
 mod refusal;
 
+pub use laws::reading_laws;
 pub use problem::{Problem, read_problem};
 pub use refusal::{DescKind, DescRefusal};
+
+#[cfg(test)]
+mod tests;

@@ -1,8 +1,11 @@
 //! Problems, and reading them.
 
-ghost use Rattle.std.specs.Prelude.{◌≡◌, ◌≤◌, length};
+ghost use Rattle.std.specs.Prelude.{◌≡◌, ◌≤◌, length, IfOk};
 ghost use Rattle.mat_desc.specs.Faults.{Gives};
+ghost use Rattle.mat_desc.specs.Grammar.{IsValid, Spells};
+ghost use Rattle.mat_desc.specs.Instances.{Instance};
 ghost use Rattle.mat_desc.specs.Reading.{version_at, end_at, closed_at, pair_at, instance_at, description_at, read_of};
+ghost use Rattle.mat_desc.specs.Soundness.{IsSoundInstance};
 ghost use Rattle.mat_desc.specs.Views.{lines_left, words_left, instance_of};
 
 use crate::cursor::{Lines, Words};
@@ -128,10 +131,23 @@ fn description(alloc: Global, lines: Lines<'_>) -> Result<Problem, DescRefusal>
     Ok(problem)
 }
 
-/// The problem that a text spells.
+/// The problem that a text of at most 4194304 bytes spells, in one pass over the text.
+///
+/// [`DescRefusal::Fault`] comes exactly where the text spells no problem, and names the first fault. [`DescRefusal::Memory`] is want of
+/// memory.
 pub fn read_problem(alloc: Global, text: &[u8]) -> Result<Problem, DescRefusal>
     requires { length text.now ≤ 4194304 }
-    ensures { Gives instance_of result (read_of text.now) }
+
+    // The answer is what the reading of the text gives: its problem, or its first fault.
+    ensures exact { Gives instance_of result (read_of text.now) }
+
+    // A problem that is read is spelled by the text, and one that is spelled is read.
+    ensures found { IfOk result (λ problem. Spells text.now (instance_of problem)) }
+    ensures only { (instance : Instance) → Spells text.now instance → Gives instance_of result (Ok instance) }
+
+    // The problem is in range, and its matroids are sound and on the elements that the weights are of.
+    ensures valid { IfOk result (λ problem. IsValid (instance_of problem)) }
+    ensures sound { IfOk result (λ problem. IsSoundInstance (instance_of problem)) }
 {
     description(alloc, Lines { line: 1, text })
 }
