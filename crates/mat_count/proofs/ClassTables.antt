@@ -8,10 +8,10 @@ use Rattle.std.proofs.Math.Seq.{take-append_seam}
 use Rattle.mat_sets.specs.Sets.{is_member, IsRising, AllBelow, intersection}
 use Rattle.mat_sets.specs.SetTests.{is_set}
 use Rattle.mat_sets.proofs.SetTests.{is_set-true}
+use Rattle.mat_sets.proofs.Steps.{intersection-more, is_member-take_more}
+use Rattle.mat_sets.proofs.Sums.{AllBelow-at}
+use Rattle.mat_sets.proofs.Members.{intersection-none}
 use Rattle.mat_sets.specs.Families.{AreDisjoint, indicator}
-use Rattle.mat_sets.proofs.Places.{is_member-take_more}
-use Rattle.mat_sets.proofs.Sums.{below-at}
-use Rattle.mat_sets.proofs.Steps.{intersection-more, intersection-none}
 use Rattle.mat_count.specs.Partitions.{names, IsPartition, IsClassTable, IsEntered, CountsMembers}
 use Rattle.mat_count.specs.Counts.{is_within_caps, is_counted}
 use Rattle.mat_count.specs.LaminarLaws.{IsWithinCaps-from_test, test_from-IsWithinCaps}
@@ -38,7 +38,7 @@ IsEntered-more before table class place i inside long small entered = record {
     there e other l true is was = rw is (get_or-set_other table (get_or class i 0) e (Some place) None other ∙ was)
     there e other l false is was = rw (is, ne_eqb e (get_or class i 0) other) (get_or-set_other table (get_or class i 0) e (Some place) None other ∙ was)
 
-pub ruleset entering = (IsEntered-none, IsEntered-more, below-at)
+pub ruleset entering = (IsEntered-none, IsEntered-more, AllBelow-at)
 
 -- ---- entering each class in turn
 
@@ -103,7 +103,7 @@ pub CountsMembers-named : (count : ℕ) (classes : List (List ℕ)) (table : Lis
 CountsMembers-named count classes table X numbers after i x place number inside below item right is read written counts = record {
   long = ap length written ∙ length-set numbers place (number + 1) ∙ counts.long;
   at = λ k l.
-      let small : x < count = omega (arith, below-at count X i below inside) in
+      let small : x < count = omega (arith, AllBelow-at count X i below inside) in
       let named : eqb place k ≡ is_member x (get_or classes k []) = sym (ap (λ entry. names entry k) is) ∙ right.right x k small in
       let more = intersection-more X (get_or classes k []) i inside ∙ ap (λ z. length (intersection (take i X) (get_or classes k [])) + indicator (is_member z (get_or classes k []))) (sym item) in
       let long = counts.long in
@@ -130,7 +130,7 @@ pub CountsMembers-free : (count : ℕ) (classes : List (List ℕ)) (table : List
 CountsMembers-free count classes table X numbers i x inside below item right unnamed counts = record {
   long = counts.long;
   at = λ k l.
-      let small : get_or X i 0 < count = below-at count X i below inside in
+      let small : get_or X i 0 < count = AllBelow-at count X i below inside in
       let free : is_member (get_or X i 0) (get_or classes k []) ≡ false = sym (right.right (get_or X i 0) k small) ∙ ap (λ z. names (get_or table z None) k) (sym item) ∙ none (get_or table x None) k unnamed in
       let more = intersection-more X (get_or classes k []) i inside in
       let was = counts.at k l in
@@ -156,7 +156,7 @@ number-small classes X numbers i place number inside read counts =
     let same = get_or_default numbers place number 0 (omega arith) in
     omega (arith, counts.at place inside, length-intersection (take i X) (get_or classes place []), length-take i X)
 
-pub ruleset counting = (CountsMembers-none, named-inside, below-at)
+pub ruleset counting = (CountsMembers-none, named-inside, AllBelow-at)
 
 -- ---- the answer
 

@@ -6,11 +6,11 @@ use Rattle.std.proofs.lemmas.Bool.{cases_Bool, cases_lt, and_parts, and_from, bo
 use Rattle.mat_sets.specs.Sets.{is_member, IsRising, IsSubset, with_one, minus, intersection, union}
 use Rattle.mat_sets.specs.SetTests.{is_set}
 use Rattle.mat_sets.specs.Families.{indicator, family_union}
-use Rattle.mat_sets.proofs.Members.{same_members, set_mem, is_member-head, is_member-union, IsRising-nil, IsRising-intersection, IsRising-minus, IsRising-with_one}
+use Rattle.mat_sets.proofs.Members.{IsRising-intersection, IsRising-minus, IsRising-nil, IsRising-with_one, intersection-none, is_member-head, is_member-union, same_members, set_members}
 use Rattle.mat_sets.proofs.Sums.{sizes}
-use Rattle.mat_sets.proofs.Cardinalities.{length-subset, length-minus-intersection, length-with_one, find_in, subset_or}
-use Rattle.mat_sets.proofs.Ground.{below-is_member, below-subset}
-use Rattle.mat_sets.proofs.Steps.{intersection-none}
+use Rattle.mat_sets.proofs.Subsets.{find_member, length-subset, subset_or}
+use Rattle.mat_sets.proofs.Cardinalities.{length-minus-intersection, length-with_one}
+use Rattle.mat_sets.proofs.Ground.{AllBelow-member, AllBelow-subset}
 use Rattle.mat_sets.proofs.SetTests.{IsSet-from_test, is_set-true}
 use Rattle.mat_laws.specs.Matroids.{IsMatroid}
 use Rattle.mat_count.specs.Counts.{is_within_caps, IsWithinCaps, is_counted}
@@ -42,20 +42,20 @@ Crosses-from_test A B h =
       shared = shared.0;
       first = first.0;
       second = second.0;
-      shared_in_first = grind (arith, set_mem);
-      shared_in_second = grind (arith, set_mem);
-      first_inside = grind (arith, set_mem);
-      first_outside = grind (arith, set_mem);
-      second_inside = grind (arith, set_mem);
-      second_outside = grind (arith, set_mem);
+      shared_in_first = grind (arith, set_members);
+      shared_in_second = grind (arith, set_members);
+      first_inside = grind (arith, set_members);
+      first_outside = grind (arith, set_members);
+      second_inside = grind (arith, set_members);
+      second_outside = grind (arith, set_members);
     }
 
 pub test_from-Crosses : (A B : List ℕ) → Crosses A B → crosses A B ≡ true
 unfolding crosses
 test_from-Crosses A B c =
-    let shared : is_member c.shared (intersection A B) ≡ true = grind (arith, set_mem) in
-    let first : is_member c.first (minus A B) ≡ true = grind (arith, set_mem) in
-    let second : is_member c.second (minus B A) ≡ true = grind (arith, set_mem) in
+    let shared : is_member c.shared (intersection A B) ≡ true = grind (arith, set_members) in
+    let first : is_member c.first (minus A B) ≡ true = grind (arith, set_members) in
+    let second : is_member c.second (minus B A) ≡ true = grind (arith, set_members) in
     and_from (ltb 0 (length (intersection A B))) (ltb 0 (length (minus A B)) && ltb 0 (length (minus B A))) (has_some _ _ shared)
     (and_from (ltb 0 (length (minus A B))) (ltb 0 (length (minus B A))) (has_some _ _ first) (has_some _ _ second))
 
@@ -116,19 +116,19 @@ apart T S e f never e_in e_out f_in f_out x x_in = false_from_ne_true _ (λ both
 
 -- how many members of X stand in S, after T is taken away
 counted_inside : (S T X : List ℕ) → IsRising X → IsSubset S T → intersection (minus X T) S ≡ []
-counted_inside S T X rising inside = same_members _ _ (IsRising-intersection _ S (IsRising-minus X T rising)) IsRising-nil (λ k. grind (arith, set_mem, inside.inside k))
+counted_inside S T X rising inside = same_members _ _ (IsRising-intersection _ S (IsRising-minus X T rising)) IsRising-nil (λ k. grind (arith, set_members, inside.inside k))
 
 counted_apart : (S T X : List ℕ) → IsRising X → ((x : ℕ) → is_member x T ≡ true → is_member x S ≡ false) → intersection (minus X T) S ≡ intersection X S
-counted_apart S T X rising apart = same_members _ _ (IsRising-intersection _ S (IsRising-minus X T rising)) (IsRising-intersection X S rising) (λ k. let h = apart k in grind (arith, set_mem))
+counted_apart S T X rising apart = same_members _ _ (IsRising-intersection _ S (IsRising-minus X T rising)) (IsRising-intersection X S rising) (λ k. let h = apart k in grind (arith, set_members))
 
 counted_union : (T U X : List ℕ) → IsRising X → length (intersection X (union T U)) ≡ length (intersection X T) + length (intersection (minus X T) U)
 counted_union T U X rising =
-    let bits : (k : ℕ) → indicator (is_member k (intersection X (union T U))) + indicator (is_member k []) ≡ indicator (is_member k (intersection X T)) + indicator (is_member k (intersection (minus X T) U)) = λ k. grind (arith, set_mem) in
+    let bits : (k : ℕ) → indicator (is_member k (intersection X (union T U))) + indicator (is_member k []) ≡ indicator (is_member k (intersection X T)) + indicator (is_member k (intersection (minus X T) U)) = λ k. grind (arith, set_members) in
     let both = sizes _ [] _ _ (IsRising-intersection X _ rising) IsRising-nil (IsRising-intersection X T rising) (IsRising-intersection _ U (IsRising-minus X T rising)) bits in
     omega arith
 
 counted_within : (T U X : List ℕ) → IsRising X → IsSubset T U → intersection X (union T U) ≡ intersection X U
-counted_within T U X rising inside = same_members _ _ (IsRising-intersection X _ rising) (IsRising-intersection X U rising) (λ k. grind (arith, set_mem, inside.inside k))
+counted_within T U X rising inside = same_members _ _ (IsRising-intersection X _ rising) (IsRising-intersection X U rising) (λ k. grind (arith, set_members, inside.inside k))
 
 -- J has at most as many members in S as I
 abbrev AtMost : List ℕ → List ℕ → List ℕ → Type 0
@@ -139,9 +139,9 @@ lies_in_or : (T : List ℕ) (sets : List (List ℕ)) → IsSubset T (family_unio
 unfolding family_union
 lies_in_or T [] = inr tt
 lies_in_or T (S ∷ sets) = elim (subset_or T S) [
-  | inl inside ↦ inl (record { inside = λ k h. let m = inside.inside k h in grind (arith, set_mem) })
+  | inl inside ↦ inl (record { inside = λ k h. let m = inside.inside k h in grind (arith, set_members) })
   | inr found ↦ elim (lies_in_or T sets) [
-    | inl inside ↦ inl (record { inside = λ k h. let m = inside.inside k h in grind (arith, set_mem) })
+    | inl inside ↦ inl (record { inside = λ k h. let m = inside.inside k h in grind (arith, set_members) })
     | inr none ↦ inr (found, none)
   ]
 ]
@@ -165,7 +165,7 @@ less_taken (S ∷ sets) T I J r s never out most = (
 most_in_union : (sets : List (List ℕ)) (I J : List ℕ) → IsRising I → IsRising J → Nested sets → Each (AtMost I J) sets → AtMost I J (family_union sets)
 unfolding family_union
 most_in_union [] I J r s nested most =
-    let none : intersection J [] ≡ [] = same_members _ _ (IsRising-intersection J [] s) IsRising-nil (λ k. grind (arith, set_mem)) in
+    let none : intersection J [] ≡ [] = same_members _ _ (IsRising-intersection J [] s) IsRising-nil (λ k. grind (arith, set_members)) in
     omega (arith, ap length none)
 most_in_union (T ∷ sets) I J r s nested most = elim (lies_in_or T sets) [
   | inl inside ↦ (
@@ -232,21 +232,21 @@ within-subset (S ∷ sets) [] I J r s inside h = refl
 within-subset (S ∷ sets) (cap ∷ caps) I J r s inside h =
     let parts = and_parts (leb (length (intersection J S)) cap) (is_within_caps sets caps J) h in
     let low = leb-true (length (intersection J S)) cap parts.0 in
-    let less : IsSubset (intersection I S) (intersection J S) = record { inside = λ k m. grind (arith, set_mem, inside.inside k) } in
+    let less : IsSubset (intersection I S) (intersection J S) = record { inside = λ k m. grind (arith, set_members, inside.inside k) } in
     let fewer = length-subset _ _ (IsRising-intersection I S r) (IsRising-intersection J S s) less in
     and_from (leb (length (intersection I S)) cap) (is_within_caps sets caps I) (le-leb (length (intersection I S)) cap (omega arith)) (within-subset sets caps I J r s inside parts.1)
 
 counted_more : (S X : List ℕ) (x : ℕ) → IsRising X → is_member x X ≡ false → is_member x S ≡ true → length (intersection (with_one X x) S) ≡ suc (length (intersection X S))
 counted_more S X x rising out inside =
     let same : intersection (with_one X x) S ≡ with_one (intersection X S) x = same_members _ _ (IsRising-intersection _ S (IsRising-with_one X x rising)) (IsRising-with_one _ x (IsRising-intersection X S rising)) (λ k. more k) in
-    let new : is_member x (intersection X S) ≡ false = grind (arith, set_mem) in
+    let new : is_member x (intersection X S) ≡ false = grind (arith, set_members) in
     ap length same ∙ length-with_one (intersection X S) x (IsRising-intersection X S rising) new
   where
     more : (k : ℕ) → is_member k (intersection (with_one X x) S) ≡ is_member k (with_one (intersection X S) x)
-    more k = grind (arith, set_mem)
+    more k = grind (arith, set_members)
 
 counted_same : (S X : List ℕ) (x : ℕ) → IsRising X → is_member x S ≡ false → intersection (with_one X x) S ≡ intersection X S
-counted_same S X x rising out = same_members _ _ (IsRising-intersection _ S (IsRising-with_one X x rising)) (IsRising-intersection X S rising) (λ k. grind (arith, set_mem))
+counted_same S X x rising out = same_members _ _ (IsRising-intersection _ S (IsRising-with_one X x rising)) (IsRising-intersection X S rising) (λ k. grind (arith, set_members))
 
 -- an element that stands in no filled set can be added
 within-with_one : (sets : List (List ℕ)) (caps I : List ℕ) (x : ℕ) → IsRising I → is_member x I ≡ false → is_member x (family_union (filled sets caps I)) ≡ false → is_within_caps sets caps I ≡ true → is_within_caps sets caps (with_one I x) ≡ true
@@ -274,7 +274,7 @@ within-with_one (S ∷ sets) (cap ∷ caps) I x r out free h =
 
     free_later : is_member x (family_union (cond (leb cap (length (intersection I S))) (S ∷ filled sets caps I) (filled sets caps I))) ≡ false → is_member x (family_union (filled sets caps I)) ≡ false
     free_later free = elim (cases_Bool (leb cap (length (intersection I S)))) [
-      | inl full ↦ (let here = rw full at free in grind (arith, set_mem))
+      | inl full ↦ (let here = rw full at free in grind (arith, set_members))
       | inr room ↦ rw room at free
     ]
 
@@ -282,11 +282,11 @@ within-with_one (S ∷ sets) (cap ∷ caps) I x r out free h =
 
 -- if each element of J outside I stands in U, then outside U the set J lies in I
 rest_inside : (I J U : List ℕ) → ((k : ℕ) → is_member k J ≡ true → (not (is_member k I) && not (is_member k U)) ≡ false) → IsSubset (minus J U) (minus I U)
-rest_inside I J U all = record { inside = λ k h. let a = all k in grind (arith, set_mem) }
+rest_inside I J U all = record { inside = λ k h. let a = all k in grind (arith, set_members) }
 
 -- two sets of which the second is the larger: some of its elements stands outside the first and outside U
 free_element : (I J U : List ℕ) → IsRising I → IsRising J → length I < length J → AtMost I J U → (x : ℕ) × (is_member x J ≡ true) × (is_member x I ≡ false) × (is_member x U ≡ false)
-free_element I J U r s less most = elim (find_in (λ x. not (is_member x I) && not (is_member x U)) J) [
+free_element I J U r s less most = elim (find_member (λ x. not (is_member x I) && not (is_member x U)) J) [
   | inl found ↦ (let parts = and_parts (not (is_member found.0 I)) (not (is_member found.0 U)) found.2 in (found.0, found.1, not-true _ parts.0, not-true _ parts.1))
   | inr all ↦ absurd (
       let outside = length-subset (minus J U) (minus I U) (IsRising-minus J U s) (IsRising-minus I U r) (rest_inside I J U all) in
@@ -301,7 +301,7 @@ counted_laws n sets caps family = record {
   subsets = λ I J rising inside passes.
       let tests = and_parts (is_set n J) (is_within_caps sets caps J) passes in
       let set = IsSet-from_test n J tests.0 in
-      and_from (is_set n I) (is_within_caps sets caps I) (is_set-true n I rising (below-subset n I J inside set.below)) (within-subset sets caps I J rising set.rising inside tests.1);
+      and_from (is_set n I) (is_within_caps sets caps I) (is_set-true n I rising (AllBelow-subset n I J inside set.below)) (within-subset sets caps I J rising set.rising inside tests.1);
   augmentation = λ I J passes others less.
       let first = and_parts (is_set n I) (is_within_caps sets caps I) passes in
       let second = and_parts (is_set n J) (is_within_caps sets caps J) others in
@@ -315,7 +315,7 @@ counted_laws n sets caps family = record {
         inside = found.1;
         outside = found.2;
         augmented = and_from (is_set n (with_one I found.0)) (is_within_caps sets caps (with_one I found.0))
-            (is_set-with_one n I found.0 set (below-is_member n J found.0 other.below found.1))
+            (is_set-with_one n I found.0 set (AllBelow-member n J found.0 other.below found.1))
             (within-with_one sets caps I found.0 set.rising found.2 found.3 first.1);
       };
   sets = λ I passes. IsSet-from_test n I (and_parts (is_set n I) (is_within_caps sets caps I) passes).0;

@@ -1,5 +1,5 @@
 use Rattle.std.proofs.Common.{ap, arith, length, ◌<◌}
-use Rattle.mat_sets.proofs.Sums.{below-at}
+use Rattle.mat_sets.proofs.Sums.{AllBelow-at}
 use Rattle.mat_count.proofs.ClassTables.{CountsMembers-named, CountsMembers-free, named-inside, number-small}
 use Rattle.mat_count.proofs.partition.members_by_class.Goals as goal
 use Rattle.mat_count.proofs.partition.members_by_class.Goals.{in-Some, in_default}
@@ -9,7 +9,7 @@ overflow_add-index_mut c =
     let classes = c.args.classes.now in
     let table = c.args.class_of.now in
     let set = c.args.set.now in
-    let known : c.get.result < length table = omega (arith, c.get.ensures.item, below-at (length table) set c.loop-i.i c.requires.below (omega arith)) in
+    let known : c.get.result < length table = omega (arith, c.get.ensures.item, AllBelow-at (length table) set c.loop-i.i c.requires.below (omega arith)) in
     let inside = named-inside (length table) classes table c.get.result c.in-Some.place known c.requires.table c.in-Some.is in
     let small = number-small classes set c.loop-i.numbers.items c.loop-i.i c.in-Some.place c.index_mut.result.now inside c.index_mut.ensures.value c.loop-i.invariant in
     omega arith
