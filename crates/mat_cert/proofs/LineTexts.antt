@@ -4,10 +4,10 @@ use Rattle.std.proofs.Common.{◌≡◌, ℕ, ◌+◌, ◌<◌, ◌≤◌, suc, 
 use Rattle.std.specs.List.{flat_map, join_with_byte}
 use Rattle.std.proofs.lemmas.List.{append_assoc, append-nil, take_more, take_all, length-take}
 use Rattle.std.proofs.lemmas.List.Folds.{flat_map-map}
-use Rattle.mat_words.specs.Lines.{text_of}
+use Rattle.mat_words.specs.Lines.{Line, text_of}
 use Rattle.mat_words.proofs.LineLemmas.{text_of-append}
 use Rattle.mat_cert.specs.declared.answer.PricedRung.{PricedRung}
-use Rattle.mat_cert.specs.Certificates.{Line, certificate_text, end_line, intersect, intersect_header, last_rung, rung_lines, rungs_lines, set_line}
+use Rattle.mat_cert.specs.Certificates.{certificate_text, end_line, intersect, intersect_header, last_rung, rung_lines, rungs_lines, set_line}
 
 -- words that are joined are the first and each further one behind a space
 join_with_byte-cons : (w : List ℕ) (ws : List (List ℕ)) → join_with_byte 32 (w ∷ ws) ≡ w ++ flat_map (λ v. 32 ∷ v) ws

@@ -8,12 +8,13 @@ use Rattle.mat_sets.specs.Sets.{is_member, IsRising, AllBelow, IsSet, AreDistinc
 use Rattle.mat_sets.specs.Families.{indicator, multiplicity, AreDisjoint}
 use Rattle.mat_sets.proofs.Ground.{AllBelow-member, AllBelow-from_members}
 use Rattle.mat_words.specs.Words.{is_word}
-use Rattle.mat_words.specs.Numbers.{numeral}
+use Rattle.mat_words.specs.Numbers.{numerals, numeral}
 use Rattle.mat_words.proofs.NumberLemmas.{numeral_word}
 use Rattle.mat_count.specs.Partitions.{IsPartition}
+use Rattle.mat_words.specs.Lines.{Line}
 use Rattle.mat_desc.specs.Faults.{Fault, ◌>>=◌, WordsLeft, LinesLeft}
 use Rattle.mat_desc.specs.Reading.{keyed_at, count_at, elements_at, class_at, classes_at}
-use Rattle.mat_desc.specs.Grammar.{Line, numerals, Lists, ClassLines, AreClasses}
+use Rattle.mat_desc.specs.Grammar.{Lists, ClassLines, AreClasses}
 use Rattle.mat_desc.proofs.ReadingSteps.{found, found-same, bind_found}
 use Rattle.mat_desc.proofs.WordLaws.{count_found, count_again, numerals_words}
 use Rattle.mat_desc.proofs.LineLaws.{AreLeft, keyed_found, keyed_again}

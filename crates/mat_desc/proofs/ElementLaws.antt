@@ -4,11 +4,11 @@ use Rattle.std.proofs.lemmas.Bool.{cases_Bool, eq-eqb, eqb-true, ne_eqb}
 use Rattle.mat_sets.specs.Sets.{is_member, IsRising, AllBelow, IsSet, AreDistinct, with_one}
 use Rattle.mat_sets.proofs.Members.{is_member-with_one, IsRising-with_one, IsRising-nil, same_members}
 use Rattle.mat_sets.proofs.Ground.{AllBelow-member, IsSet-from}
-use Rattle.mat_words.specs.Numbers.{numeral}
+use Rattle.mat_words.specs.Numbers.{numerals, numeral}
 use Rattle.mat_desc.specs.declared.refusal.DescKind.TheVariants.{Repeated}
 use Rattle.mat_desc.specs.Faults.{Fault, ◌>>=◌, WordsLeft}
 use Rattle.mat_desc.specs.Reading.{count_at, elements_from}
-use Rattle.mat_desc.specs.Grammar.{numerals, Lists}
+use Rattle.mat_desc.specs.Grammar.{Lists}
 use Rattle.mat_desc.proofs.ReadingSteps.{found, found-same, bind_found, refused_found}
 use Rattle.mat_desc.proofs.WordLaws.{count_found, count_again}
 

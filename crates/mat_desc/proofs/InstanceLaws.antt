@@ -6,7 +6,7 @@ use Rattle.std.proofs.lemmas.Bool.{and_from, and_parts, eqb-true}
 use Rattle.std.proofs.lemmas.List.{append-nil}
 use Rattle.std.proofs.lemmas.List.Splits.{join_with_byte-slice_split}
 use Rattle.std.proofs.lemmas.Slice.Eq.{bytes_eq-Decides}
-use Rattle.mat_words.specs.Lines.{lines_of, text_of}
+use Rattle.mat_words.specs.Lines.{Line, lines_of, text_of}
 use Rattle.mat_words.specs.Words.{is_word}
 use Rattle.mat_words.specs.Numbers.{numeral}
 use Rattle.mat_words.proofs.NumberLemmas.{numeral_word}
@@ -17,7 +17,7 @@ use Rattle.mat_desc.specs.declared.keywords.Form.TheVariants as forms
 use Rattle.mat_desc.specs.Faults.{Fault, ◌>>=◌, WordsLeft, LinesLeft}
 use Rattle.mat_desc.specs.Reading.{line_at, word_at, count_at, weight_at, ended_at, repeat_at, keyed_at, version_at, weights_at, end_at, is_closed, closed_at, matroid_at, pair_at, form_of, form_at, instance_at, description_at, read_of}
 use Rattle.mat_desc.specs.Instances.{Instance, pair}
-use Rattle.mat_desc.specs.Grammar.{Line, AreWeights, IsValid, InstanceLines, Spells}
+use Rattle.mat_desc.specs.Grammar.{AreWeights, IsValid, InstanceLines, Spells}
 use Rattle.mat_desc.proofs.ReadingSteps.{found, found-same, bind_found, test_found}
 use Rattle.mat_desc.proofs.WordLaws.{word_found, ended_found, ended_again, count_found, count_again, weights_found, weights_again, weights_words}
 use Rattle.mat_desc.proofs.LineLaws.{AreLeft, line_found, line_again, keyed_found, keyed_again}

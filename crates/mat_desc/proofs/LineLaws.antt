@@ -4,7 +4,7 @@ use Rattle.std.specs.Prelude.{bytes_eq}
 use Rattle.std.specs.List.{list_all, join_with_byte}
 use Rattle.std.proofs.lemmas.Bool.{ne_eqb, and_from, not-false}
 use Rattle.std.proofs.lemmas.Slice.Eq.{bytes_eq-Decides}
-use Rattle.mat_words.specs.Lines.{lines_of, text_of, is_newline}
+use Rattle.mat_words.specs.Lines.{Line, lines_of, text_of, is_newline}
 use Rattle.mat_words.specs.Words.{is_space, is_word, words_of, is_well_spaced}
 use Rattle.mat_words.proofs.LineLemmas.{written_line}
 use Rattle.mat_words.proofs.Splitting.{some_parts}
@@ -12,7 +12,6 @@ use Rattle.mat_words.proofs.WordLemmas.{joined_words, joined_laws}
 use Rattle.mat_desc.specs.declared.refusal.DescKind.TheVariants.{EndsEarly, BadByte, TooFewWords, UnknownWord}
 use Rattle.mat_desc.specs.Faults.{Fault, ◌>>=◌, WordsLeft, LinesLeft}
 use Rattle.mat_desc.specs.Reading.{line_from, line_at, word_at, keyed_at}
-use Rattle.mat_desc.specs.Grammar.{Line}
 use Rattle.mat_desc.proofs.ReadingSteps.{found, found-same, bind_found, test_found, refused_found}
 use Rattle.mat_desc.proofs.WordLaws.{word_found}
 

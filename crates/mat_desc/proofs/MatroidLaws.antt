@@ -10,11 +10,12 @@ use Rattle.mat_words.specs.Words.{is_word}
 use Rattle.mat_words.specs.Numbers.{numeral}
 use Rattle.mat_words.proofs.NumberLemmas.{numeral_word}
 use Rattle.mat_any.specs.Trees.{Tree, uniform, partition}
+use Rattle.mat_words.specs.Lines.{Line}
 use Rattle.mat_desc.specs.declared.keywords.Keyword.{Keyword}
 use Rattle.mat_desc.specs.declared.keywords.Keyword.TheVariants as keywords
 use Rattle.mat_desc.specs.Faults.{Fault, ◌>>=◌, WordsLeft, LinesLeft}
 use Rattle.mat_desc.specs.Reading.{line_at, word_at, count_at, ended_at, classes_at, uniform_at, partition_at, keyword_of, kind_at, matroid_at}
-use Rattle.mat_desc.specs.Grammar.{Line, IsValidMatroid, AreClasses, MatroidLines}
+use Rattle.mat_desc.specs.Grammar.{IsValidMatroid, AreClasses, MatroidLines}
 use Rattle.mat_desc.proofs.ReadingSteps.{found, found-same, bind_found}
 use Rattle.mat_desc.proofs.WordLaws.{word_found, ended_found, ended_again, count_found, count_again}
 use Rattle.mat_desc.proofs.LineLaws.{AreLeft, line_found, line_again}

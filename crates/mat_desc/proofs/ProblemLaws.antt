@@ -3,7 +3,7 @@ use Rattle.std.proofs.Common.{◌≡◌, ℕ, List, length, ◌⊎◌, inl, inr,
 use Rattle.std.specs.List.{All}
 use Rattle.std.proofs.lemmas.List.Elements.{All-weaker}
 use Rattle.mat_sets.specs.Sets.{IsSet, AllBelow}
-use Rattle.mat_any.specs.Trees.{Tree, uniform, partition, elements, IsSound}
+use Rattle.mat_any.specs.Trees.{Tree, uniform, partition, element_count, IsSound}
 use Rattle.mat_desc.specs.declared.refusal.DescRefusal.{DescRefusal}
 use Rattle.mat_desc.specs.declared.refusal.DescRefusal.TheVariants as refusals
 use Rattle.mat_desc.specs.Faults.{Fault, Fails, Gives}
@@ -14,7 +14,7 @@ use Rattle.mat_desc.specs.Soundness.{IsSoundInstance}
 use Rattle.mat_desc.proofs.InstanceLaws.{description_found, description_again}
 
 -- a matroid in range is sound
-IsSound-valid : (n : ℕ) (tree : Tree) → IsValidTree n tree → IsSound tree × (elements tree ≡ n)
+IsSound-valid : (n : ℕ) (tree : Tree) → IsValidTree n tree → IsSound tree × (element_count tree ≡ n)
 IsSound-valid n (uniform m cap) valid = (tt, valid.0)
 IsSound-valid n (partition m classes caps) valid =
     (record {

@@ -6,14 +6,14 @@ use Rattle.std.proofs.lemmas.Int.{ints}
 use Rattle.std.proofs.lemmas.Bool.{eqb-true, and_from}
 use Rattle.std.proofs.lemmas.List.Elements.{All-nil, All-cons, All-head, All-tail}
 use Rattle.mat_words.specs.Words.{is_word}
-use Rattle.mat_words.specs.Numbers.{numeral, number_in}
+use Rattle.mat_words.specs.Numbers.{numerals, numeral, number_in}
 use Rattle.mat_words.specs.declared.numbers.NumberFault.{NumberFault}
 use Rattle.mat_words.specs.declared.numbers.NumberFault.TheVariants.{Spelling, Range}
 use Rattle.mat_words.proofs.NumberLemmas.{number_taken, number_again, numeral_word}
 use Rattle.mat_desc.specs.declared.refusal.DescKind.TheVariants.{TooManyWords}
 use Rattle.mat_desc.specs.Faults.{Fault, ◌>>=◌, WordsLeft}
 use Rattle.mat_desc.specs.Reading.{word_at, number_as, number_at, count_at, weight_at, ended_at, repeat_at}
-use Rattle.mat_desc.specs.Grammar.{numerals, IsWeight}
+use Rattle.mat_desc.specs.Grammar.{IsWeight}
 use Rattle.mat_desc.proofs.ReadingSteps.{found, found-same, bind_found, test_found}
 
 -- ---- one word
