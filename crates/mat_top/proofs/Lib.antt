@@ -1,3 +1,5 @@
 pub mod Words
 pub mod ReadingLemmas
 pub mod FreeLadder
+pub mod Refusing
+pub mod Ending

@@ -1,7 +1,8 @@
 -- Reads one after the other: what the file holds is what was read and what is left.
 use Rattle.std.proofs.Common.{◌≡◌, ℕ, ◌+◌, ◌≤◌, ◌<◌, List, [], ◌++◌, length, take, drop, Option, Some, None, refl, sym, ap, ◌∙◌, append_assoc, arith, inl, inr}
 use Rattle.std.specs.Prelude.{IfSome}
-use Rattle.std.proofs.lemmas.List.{take-append-drop, append-nil, length-append, drop_append}
+use Rattle.std.proofs.lemmas.List.{take-append-drop, append-nil, length-append}
+use Rattle.std.proofs.Math.Seq.{drop-append_seam}
 use Rattle.mat_shelf.specs.Reading.{Gave}
 use Rattle.mat_top.specs.WholeFiles.{HasLeft, GoesOn, IsAtEnd}
 
@@ -48,4 +49,4 @@ too_long (Some all) left bytes limit long short (rest, e, f) =
     (rw f (omega (arith, length-append bytes rest)), e ∙ ap (λ (t : List ℕ). Some t) (sym (ap (drop (limit + 1)) f ∙ behind size)))
   where
     behind : length bytes ≡ limit + 1 → drop (limit + 1) (bytes ++ rest) ≡ rest
-    behind size = ?
+    behind size = rw (← size) (drop-append_seam bytes rest)

@@ -4,7 +4,8 @@ use Rattle.mat_sets.specs.Sums.{weight, AreWithin}
 use Rattle.mat_laws.specs.Ladders.{IsRung, IsCut, split_bound}
 use Rattle.mat_any.specs.Trees.{is_independent}
 use Rattle.mat_desc.specs.Instances.{Instance, pair}
-use Rattle.mat_cert.specs.Certificates.{Certificate, intersect, PricedRung, last_rung, certificate_text, IsRanged}
+use Rattle.mat_cert.specs.Certificates.{Certificate, intersect, last_rung, certificate_text, IsRanged}
+use Rattle.mat_cert.specs.declared.answer.PricedRung.{PricedRung}
 
 -- a rung of k elements is right, and its printed weight is that of its set
 pub record IsPricedRung (n : ℕ) (p q : List ℕ → Bool) (w : List ℤ) (k : ℕ) (rung : PricedRung) : Type 0 where

@@ -5,3 +5,4 @@ pub mod Commands
 pub mod WholeFiles
 pub mod Refusals
 pub mod FreeLadders
+pub mod Solving

@@ -4,7 +4,7 @@ ghost use Rattle.std.specs.Prelude.{◌≡◌, ◌≤◌, ◌<◌, ◌^◌, ◌+
 ghost use Rattle.mat_top.specs.WholeFiles.{WasRead, NotRead, NotTaken, GoesOn, IsAtEnd};
 
 use mat_shelf::Shelf;
-use std::alloc::Global;
+use std::alloc::{AllocError, Global};
 
 /// Why a file was not read.
 #[derive(Debug, Drop)]
@@ -19,6 +19,13 @@ pub enum Unread {
 
 // The most bytes that one read asks for.
 const PIECE: usize = 65_536;
+
+// A buffer of as many bytes.
+fn buffer_of(alloc: Global, count: usize) -> Result<Vec<u8>, AllocError>
+    ensures { IfOk result (λ v. vec_len v ≡ count) }
+{
+    vec![in alloc; 0; count]
+}
 
 // One read, whose bytes are added: false at the end of the file.
 fn read_some<F: Shelf>(
@@ -68,7 +75,7 @@ pub fn read_all<F: Shelf>(
         return Err(Unread::Fault);
     }
     let mut bytes = Vec::new(alloc);
-    let Ok(mut buffer) = vec![in alloc; 0u8; PIECE] else {
+    let Ok(mut buffer) = buffer_of(alloc, PIECE) else {
         return Err(Unread::Memory);
     };
     while bytes.len() <= limit {

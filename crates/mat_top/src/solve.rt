@@ -1,36 +1,26 @@
 //! The ladder of a pair whose second matroid is free.
 
-ghost use Rattle.std.specs.Prelude.{◌≡◌, ◌≤◌, ◌<◌, ◌↔◌, ◌^◌, ℕ, [], length, map, slice_index_or, IsTrue, IfOk};
+ghost use Rattle.std.specs.Prelude.{◌≡◌, ◌≤◌, ◌^◌, ℕ, length, map, IfOk};
 ghost use Rattle.mat_sets.specs.Sets.{AllBelow};
 ghost use Rattle.mat_sets.specs.Sums.{AreWithin};
+ghost use Rattle.mat_any.specs.Trees.{element_count, uniform, IsSound};
+ghost use Rattle.mat_any.specs.Views.{tree_of};
+ghost use Rattle.mat_desc.specs.Instances.{pair};
 ghost use Rattle.mat_desc.specs.Views.{instance_of};
 ghost use Rattle.mat_desc.specs.Grammar.{IsValid};
 ghost use Rattle.mat_desc.specs.Soundness.{IsSoundInstance};
 ghost use Rattle.mat_cert.specs.Views.{certificate_of};
 ghost use Rattle.mat_top.specs.Answers.{IsSolution};
+ghost use Rattle.mat_top.specs.Solving.{IsSolved};
 ghost use Rattle.mat_top.specs.FreeLadders.{free_rung, AreFitting};
-ghost use Rattle.mat_top.specs.Outcomes.{IsBuilt};
 
 use mat_any::AnyMatroid;
 use mat_cert::{Answer, PricedRung};
 use mat_desc::Problem;
 use mat_greedy::heaviest_each;
+use mat_laws::Matroid;
 use mat_sets::{ElemSet, SetList, Weights, weight_of};
 use std::alloc::{AllocError, Global};
-
-/// Whether the problem is one that is solved: its second matroid is free, which means uniform with a cap of at least the number
-/// of elements. It takes no memory.
-pub fn is_built(problem: &Problem) -> bool
-    ensures { IsTrue result ↔ IsBuilt (instance_of problem.now) }
-{
-    let Problem::Pair {
-        weights, second, ..
-    } = problem;
-    match second {
-        AnyMatroid::Uniform(uniform) => weights.len() <= uniform.cap() as usize,
-        AnyMatroid::Partition(_) => false,
-    }
-}
 
 // The rung of a set.
 fn rung_of(alloc: Global, set: &ElemSet, weights: &[i128]) -> Result<PricedRung, AllocError>
@@ -64,15 +54,18 @@ fn rungs_of(alloc: Global, sets: &SetList, weights: &[i128]) -> Result<Vec<Price
     Ok(rungs)
 }
 
-/// A right answer to a problem that is solved: greedy's sets, under the whole weights for the first matroid and none for the
-/// second, and the empty set as cut. The only error is want of memory.
-pub fn solve(alloc: Global, problem: &Problem) -> Result<Answer, AllocError>
-    requires valid { IsValid (instance_of problem.now) }
-    requires sound { IsSoundInstance (instance_of problem.now) }
-    requires built { IsBuilt (instance_of problem.now) }
-    ensures { IfOk result (λ answer. IsSolution (instance_of problem.now) (certificate_of answer)) }
+// Greedy's sets as rungs, under the whole weights for this matroid and none for a free one, and the empty set as cut.
+fn free_ladder(alloc: Global, first: &AnyMatroid, weights: &Weights) -> Result<Answer, AllocError>
+    requires sound { IsSound (tree_of first.now) }
+    requires lengths { element_count (tree_of first.now) ≡ length weights.now }
+    requires few { length weights.now ≤ 500 }
+    requires small { AreWithin (10 ^ 12) weights.now }
+    ensures {
+        IfOk result (λ answer. (m cap : ℕ) → m ≡ length weights.now → length weights.now ≤ cap
+            → IsSolution (pair weights.now (tree_of first.now) (uniform m cap)) (certificate_of answer))
+    }
 {
-    let Problem::Pair { weights, first, .. } = problem;
+    first.lawful();
     let sets = heaviest_each(alloc, first, weights.as_slice())?;
     let rungs = rungs_of(alloc, &sets, weights.as_slice())?;
     Ok(Answer::Intersect {
@@ -80,4 +73,43 @@ pub fn solve(alloc: Global, problem: &Problem) -> Result<Answer, AllocError>
         rungs,
         cut: ElemSet::new(alloc),
     })
+}
+
+// A right answer to a pair whose second matroid is free, and none to any other.
+fn solve_pair(
+    alloc: Global,
+    weights: &Weights,
+    first: &AnyMatroid,
+    second: &AnyMatroid,
+) -> Result<Option<Answer>, AllocError>
+    requires valid { IsValid (pair weights.now (tree_of first.now) (tree_of second.now)) }
+    requires sound { IsSoundInstance (pair weights.now (tree_of first.now) (tree_of second.now)) }
+    ensures { IfOk result (IsSolved (pair weights.now (tree_of first.now) (tree_of second.now))) }
+{
+    match second {
+        AnyMatroid::Uniform(uniform) => {
+            if weights.len() > uniform.cap() as usize {
+                return Ok(None);
+            }
+            let answer = free_ladder(alloc, first, weights)?;
+            Ok(Some(answer))
+        }
+        AnyMatroid::Partition(_) => Ok(None),
+    }
+}
+
+/// A right answer to a problem that is solved: its second matroid is free, which means uniform with a cap of at least the number
+/// of elements. None to any other. The only error is want of memory.
+pub fn solve(alloc: Global, problem: &Problem) -> Result<Option<Answer>, AllocError>
+    requires valid { IsValid (instance_of problem.now) }
+    requires sound { IsSoundInstance (instance_of problem.now) }
+    ensures { IfOk result (IsSolved (instance_of problem.now)) }
+{
+    match problem {
+        Problem::Pair {
+            weights,
+            first,
+            second,
+        } => solve_pair(alloc, weights, first, second),
+    }
 }

@@ -5,12 +5,12 @@ ghost use Rattle.mat_shelf.specs.Faults.{Rose};
 ghost use Rattle.mat_desc.specs.Instances.{Instance};
 ghost use Rattle.mat_top.specs.CommandLines.{CommandLine, command_line};
 ghost use Rattle.mat_top.specs.Outcomes.{Tells, IsStatus, IsOutcome, IsWritten, CallReaches, IsNote, IsNoted, IsAnswerTo, certificate_limit, description_limit};
-ghost use Rattle.mat_top.specs.Refusals.{IsCause, IsRefusal};
+ghost use Rattle.mat_top.specs.Refusals.{IsCause, IsRefusal, IsPut, IsEnded};
 
 use crate::command::{Command, command_of};
 use crate::notes::put_note;
 use crate::reading::{Unread, read_all};
-use crate::solve::{is_built, solve};
+use crate::solve::solve;
 use crate::status::Status;
 use crate::writing::put_all;
 use mat_cert::write_answer;
@@ -33,11 +33,10 @@ fn answer_to(alloc: Global, bytes: &[u8]) -> Result<Vec<u8>, Status>
         Err(DescRefusal::Memory) => return Err(Status::Memory),
         Err(DescRefusal::Fault { .. }) => return Err(Status::NotBuilt),
     };
-    if !is_built(&problem) {
-        return Err(Status::NotBuilt);
-    }
-    let Ok(answer) = solve(alloc, &problem) else {
-        return Err(Status::Memory);
+    let answer = match solve(alloc, &problem) {
+        Ok(Some(answer)) => answer,
+        Ok(None) => return Err(Status::NotBuilt),
+        Err(_) => return Err(Status::Memory),
     };
     match write_answer(alloc, &answer) {
         Ok(text) => Ok(text),
@@ -60,6 +59,33 @@ fn answer<F: Shelf>(alloc: Global, files: &mut F, file: &str) -> Result<Vec<u8>,
         Err(Unread::Memory) => return Err(Status::Memory),
     };
     answer_to(alloc, &bytes)
+}
+
+// Writes the text of an answer, and tells how that ended.
+fn written<O: Sink>(out: &mut O, text: &[u8]) -> Status
+    ensures grows { O.faults out.old ≤ O.faults out.new }
+    ensures put { IsPut text.now (O.written out.old) (O.faults out.old) (O.written out.new) (O.faults out.new) result }
+{
+    match put_all(out, text) {
+        Ok(()) => Status::Done,
+        Err(_) => Status::WriteFault,
+    }
+}
+
+// Solves the problem of the file of this name and writes the answer, and tells how that ended.
+fn intersect<F: Shelf, O: Sink>(alloc: Global, files: &mut F, out: &mut O, file: &str) -> Status
+    ensures held { (name : List ℕ) → F.held files.new name ≡ F.held files.old name }
+    ensures grows { (name : List ℕ) → F.faults files.old name ≤ F.faults files.new name }
+    ensures out_grows { O.faults out.old ≤ O.faults out.new }
+    ensures ended {
+        IsEnded (F.held files.old file.now) (F.faults files.old file.now) (F.faults files.new file.now)
+            (O.written out.old) (O.faults out.old) (O.written out.new) (O.faults out.new) result
+    }
+{
+    match answer(alloc, files, file) {
+        Ok(text) => written(out, &text),
+        Err(status) => status,
+    }
 }
 
 /// Does what the words ask for: reads its file from the shelf, writes the answer to `out` and, where it is refused, a note to
@@ -122,10 +148,7 @@ pub fn run<F: Shelf, O: Sink, N: Sink>(
         put_note(notes, Status::Usage);
         return Status::Usage;
     };
-    let status = match answer(alloc, files, file) {
-        Ok(text) => written(out, &text),
-        Err(status) => status,
-    };
+    let status = intersect(alloc, files, out, file);
     put_note(notes, status);
     status
 }
