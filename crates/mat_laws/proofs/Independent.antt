@@ -1,8 +1,9 @@
 -- First consequences of the laws: subsets, and growing to a size by repeated augmentation.
-use Rattle.std.proofs.Common.{◌≡◌, ℕ, suc, zero, ◌+◌, ◌-◌, ◌≤◌, Bool, true, ◌||◌, List, length, arith}
-use Rattle.std.proofs.lemmas.Bool.{or_left}
+use Rattle.std.proofs.Common.{◌≡◌, ℕ, suc, zero, ◌+◌, ◌-◌, ◌≤◌, Bool, true, false, ◌||◌, List, length, arith}
+use Rattle.std.proofs.lemmas.Bool.{both_ways, false_from_ne_true, or_left}
 use Rattle.mat_sets.specs.Sets.{is_member, IsRising, IsSubset, AllBelow, with_one, without_one}
-use Rattle.mat_sets.proofs.Members.{set_members, IsRising-without_one}
+use Rattle.mat_sets.proofs.Members.{set_members, IsRising-with_one, IsRising-without_one}
+use Rattle.mat_sets.proofs.Changes.{with_one-both}
 use Rattle.mat_sets.proofs.Subsets.{IsSubset-refl, without_one-IsSubset}
 use Rattle.mat_sets.proofs.Cardinalities.{length-with_one}
 use Rattle.mat_laws.specs.Matroids.{IsMatroid}
@@ -48,3 +49,7 @@ module _ {n : ℕ} {p : List ℕ → Bool} (laws : IsMatroid n p) where
   -- the smaller of two independent sets grows by members of the other to its size
   pub grow_to_size : (I J : List ℕ) → p I ≡ true → p J ≡ true → length I ≤ length J → (set : List ℕ) × IsGrown p I J set
   grow_to_size I J i j l = grow_by (length J - length I) I J i j (omega arith)
+
+  -- what cannot be added to a set cannot be added to a larger one
+  pub full_in_larger : (I J : List ℕ) (x : ℕ) → IsRising I → IsSubset I J → p (with_one I x) ≡ false → p (with_one J x) ≡ false
+  full_in_larger I J x r s fails = false_from_ne_true _ (λ ok. both_ways _ fails (laws.subsets (with_one I x) (with_one J x) (IsRising-with_one I x r) (with_one-both I J x s) ok))

@@ -7,6 +7,7 @@ use Rattle.std.proofs.lemmas.Bool.{cases_Bool, cases_lt, eqb-true, or_right, and
 use Rattle.mat_sets.specs.Sets.{is_member, IsRising, IsSubset, with_one, without_one, minus}
 use Rattle.mat_sets.proofs.Members.{set_members, is_member-filter, RisesFrom-filter, is_member-minus, IsRising-with_one, IsRising-without_one}
 use Rattle.mat_sets.proofs.Subsets.{find_member, length-subset, same_size_subset}
+use Rattle.mat_sets.proofs.Changes.{with_one-both}
 use Rattle.mat_sets.proofs.Cardinalities.{length-with_one, length-without_one, length-exchange_one}
 use Rattle.mat_laws.specs.Matroids.{IsMatroid}
 use Rattle.mat_laws.specs.Exchanges.{HasSymmetricPartner}
@@ -50,9 +51,6 @@ still_inside k u x A C S m u_in other h = grind (arith, set_members)
 
 outside_first : (y x : ℕ) (A B : List ℕ) → is_member y B ≡ true → is_member y (without_one A x) ≡ false → is_member x B ≡ false → is_member y A ≡ false
 outside_first y x A B m out x_out = grind (arith, set_members)
-
-with_more : (C S : List ℕ) (x : ℕ) → IsSubset C S → IsSubset (with_one C x) (with_one S x)
-with_more C S x s = record { inside = λ k m. grind (arith, set_members, s.inside k) }
 
 pub exchange-IsSubset : (B : List ℕ) (x y : ℕ) → IsSubset (with_one (without_one B y) x) (with_one B x)
 exchange-IsSubset B x y = record { inside = λ k m. grind (arith, set_members) }
@@ -117,7 +115,7 @@ module _ {n : ℕ} {p : List ℕ → Bool} (laws : IsMatroid n p) where
       elim (cases_Bool (eqb u.element x)) [
         | inl same ↦
             let with_x : p (with_one S x) ≡ true = ap (λ v. p (with_one S v)) (sym (eqb-true u.element x same)) ∙ u.augmented in
-            both_ways _ (replaceable_full B x b out full) (laws.subsets (with_one C x) (with_one S x) (IsRising-with_one C x rc) (with_more C S x g.1.holds) with_x)
+            both_ways _ (replaceable_full B x b out full) (laws.subsets (with_one C x) (with_one S x) (IsRising-with_one C x rc) (with_one-both C S x g.1.holds) with_x)
         | inr other ↦
             let most = small (with_one S u.element) u.augmented (λ k m. still_inside k u.element x A C S m u.inside other (g.1.inside k)) in
             omega (arith, g.1.size, length-with_one S u.element (rising laws S g.1.passes) u.outside)

@@ -4,6 +4,7 @@ use Rattle.std.proofs.Common.{◌≡◌, ℕ, suc, zero, ◌<◌, Bool, true, fa
 use Rattle.std.proofs.lemmas.Bool.{cases_Bool, eqb-true, ne_eqb, or_from, both_ways}
 use Rattle.mat_sets.specs.Sets.{is_member, IsRising, IsSubset, with_one, without_one, minus, union}
 use Rattle.mat_sets.proofs.Members.{set_members, same_members, IsRising-with_one, IsRising-without_one, IsRising-minus, IsRising-union}
+use Rattle.mat_sets.proofs.Changes.{with_one-swapped, with_one-returned, without_one-two, without_one-with_one}
 use Rattle.mat_sets.proofs.Cardinalities.{length-with_one}
 use Rattle.mat_laws.specs.Matroids.{IsMatroid}
 use Rattle.mat_laws.specs.Exchanges.{IsTriangular}
@@ -12,23 +13,6 @@ use Rattle.mat_laws.proofs.Symmetric.{IsRising-exchange}
 
 same_tests : (a b : Bool) → (a ≡ true → b ≡ true) → (b ≡ true → a ≡ true) → a ≡ b
 same_tests a b f g = grind arith
-
--- ---- sets with one member more or less, in either order
-
-with_one-swapped : (K : List ℕ) (a b : ℕ) → IsRising K → with_one (with_one K b) a ≡ with_one (with_one K a) b
-with_one-swapped K a b r =
-    same_members _ _ (IsRising-with_one _ a (IsRising-with_one K b r)) (IsRising-with_one _ b (IsRising-with_one K a r)) (λ k. grind (arith, set_members))
-
-with_one-returned : (I : List ℕ) (y : ℕ) → IsRising I → is_member y I ≡ true → with_one (without_one I y) y ≡ I
-with_one-returned I y r m = same_members _ _ (IsRising-with_one _ y (IsRising-without_one I y r)) r (λ k. grind (arith, set_members))
-
-without_one-two : (I : List ℕ) (y v : ℕ) → IsRising I → is_member y I ≡ true → eqb v y ≡ false → without_one I v ≡ with_one (without_one (without_one I y) v) y
-without_one-two I y v r m differ =
-    same_members _ _ (IsRising-without_one I v r) (IsRising-with_one _ y (IsRising-without_one _ v (IsRising-without_one I y r))) (λ k. grind (arith, set_members))
-
-without_one-with_one : (L : List ℕ) (x v : ℕ) → IsRising L → eqb x v ≡ false → without_one (with_one L x) v ≡ with_one (without_one L v) x
-without_one-with_one L x v r differ =
-    same_members _ _ (IsRising-without_one _ v (IsRising-with_one L x r)) (IsRising-with_one _ x (IsRising-without_one L v r)) (λ k. grind (arith, set_members))
 
 pub apart_by : (I : List ℕ) (x y : ℕ) → is_member x I ≡ false → is_member y I ≡ true → eqb x y ≡ false
 apart_by I x y o i = grind arith

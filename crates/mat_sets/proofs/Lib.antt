@@ -13,3 +13,4 @@ pub mod Places
 pub mod Levels
 pub mod Reach
 pub mod Walking
+pub mod Changes

@@ -4,3 +4,4 @@ pub mod Outcomes
 pub mod Commands
 pub mod WholeFiles
 pub mod Refusals
+pub mod FreeLadders

@@ -1,0 +1,7 @@
+//! Heaviest independent sets of a matroid, one of each size, by the greedy algorithm.
+#![tactic(auto)]
+
+mod greedy;
+mod order;
+
+pub use greedy::{heaviest_each, heaviest_of};
