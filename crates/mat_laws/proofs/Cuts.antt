@@ -1,6 +1,6 @@
 -- Where a search for an exchange is stuck, the parts of an independent set are maximal in the two sides of a cut. What x can take the
 -- place of lies in the part, and x cannot be added to it; so x cannot be added to the part.
-use Rattle.std.proofs.Common.{◌≡◌, ℕ, ◌+◌, Bool, true, false, not, ◌&&◌, List, length, sym, ◌∙◌, arith}
+use Rattle.std.proofs.Common.{◌≡◌, ℕ, ◌+◌, Bool, true, false, not, List, length, sym, ◌∙◌, arith}
 use Rattle.std.proofs.lemmas.Bool.{and_parts, not-true}
 use Rattle.mat_sets.specs.Sets.{is_member, IsRising, IsSubset, with_one, without_one, minus, intersection}
 use Rattle.mat_sets.proofs.Members.{set_members, is_member-minus, IsRising-minus, IsRising-intersection}

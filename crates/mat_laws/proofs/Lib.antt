@@ -7,3 +7,4 @@ pub mod LocallyHeaviest
 pub mod Cuts
 pub mod HeaviestSteps
 pub mod Triangular
+pub mod PathSides

@@ -1,6 +1,4 @@
-use Rattle.std.proofs.Common.{◌≡◌, ◌≤◌, ◌∙◌, length, refl, ap, subst, sym, arith}
-use Rattle.mat_sets.specs.Sets.{IsRising, union}
-use Rattle.mat_laws.specs.Matroids.{IsMaximal}
+use Rattle.std.proofs.Common.{◌∙◌, subst, sym, arith}
 use Rattle.mat_laws.specs.Ranks.{IsRank}
 use Rattle.mat_laws.proofs.Independent.{size_bound}
 use Rattle.mat_laws.proofs.Maximal.{IsRank-maximal}

@@ -1,4 +1,4 @@
-use Rattle.std.proofs.Common.{◌<◌, refl, subst, sym, get_or}
+use Rattle.std.proofs.Common.{refl, subst, sym}
 use Rattle.mat_sets.specs.Sets.{AllBelow, union}
 use Rattle.mat_sets.proofs.Sums.{AllBelow-at}
 use Rattle.mat_laws.specs.Matroids.{IsMaximal}
