@@ -1,6 +1,7 @@
 -- Matroids that bound how many elements a set may have, and how many in each of listed sets (Schrijver, chapter 39).
-use Rattle.std.specs.Prelude.{◌≡◌, ℕ, ◌<◌, ◌≤◌, Bool, true, ◌&&◌, nat_le, List, [], ◌∷◌, length, slice_index_or}
-use Rattle.mat_sets.specs.Sets.{is_member, is_set, intersection}
+use Rattle.std.specs.Prelude.{ℕ, ◌<◌, ◌≤◌, Bool, true, ◌&&◌, nat_le, List, [], ◌∷◌, length, slice_index_or}
+use Rattle.mat_sets.specs.Sets.{intersection}
+use Rattle.mat_sets.specs.SetTests.{is_set}
 
 -- the uniform matroid: at most `cap` elements
 abbrev pub is_uniform : ℕ → ℕ → List ℕ → Bool
@@ -12,7 +13,7 @@ is_within_caps [] caps X = true
 is_within_caps (S ∷ sets) [] X = true
 is_within_caps (S ∷ sets) (cap ∷ caps) X = nat_le (length (intersection X S)) cap && is_within_caps sets caps X
 
--- the same in words: for each listed set, X has at most that set's cap of members in it
+-- the same in words, where there are as many caps as sets: for each listed set, X has at most that set's cap of members in it
 pub record IsWithinCaps (sets : List (List ℕ)) (caps X : List ℕ) : Type 0 where
   pub at : (i : ℕ) → i < length sets → length (intersection X (slice_index_or sets i [])) ≤ slice_index_or caps i 0
 

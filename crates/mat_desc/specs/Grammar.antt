@@ -1,9 +1,10 @@
 -- Which problems a description may state, and which texts spell one.
 use Rattle.std.specs.Prelude.{◌≡◌, ℕ, ◌≤◌, ◌^◌, List, [], ◌∷◌, length, map, codes, ℤ, pos, neg_ℤ, ◌≤ℤ◌, All}
 use Rattle.mat_sets.specs.Sets.{is_member, IsSet, AreDistinct}
+use Rattle.mat_sets.specs.Sums.{IsWithin}
 use Rattle.mat_sets.specs.Families.{AreDisjoint}
-use Rattle.mat_words.specs.Numbers.{numeral}
-use Rattle.mat_words.specs.Lines.{text_of}
+use Rattle.mat_words.specs.Numbers.{numeral, numerals}
+use Rattle.mat_words.specs.Lines.{Line, text_of}
 use Rattle.mat_any.specs.Trees.{Tree, uniform, partition, depth}
 use Rattle.mat_desc.specs.Instances.{Instance, pair}
 
@@ -28,7 +29,7 @@ IsValidMatroid n tree = IsValidTree n tree × (depth tree ≤ 16)
 
 -- a weight or a cost
 abbrev pub IsWeight : ℤ → Type 0
-IsWeight w = (neg_ℤ (pos (10 ^ 12)) ≤ℤ w) × (w ≤ℤ pos (10 ^ 12))
+IsWeight w = IsWithin (10 ^ 12) w
 
 -- the weights of at most 500 elements
 abbrev pub AreWeights : List ℤ → Type 0
@@ -39,14 +40,6 @@ abbrev pub IsValid : Instance → Type 0
 IsValid (pair weights first second) = AreWeights weights × IsValidMatroid (length weights) first × IsValidMatroid (length weights) second
 
 -- ---- the lines that spell it
-
--- a line is a list of words
-abbrev pub Line : Type 0
-Line = List (List ℕ)
-
--- the numerals of elements
-abbrev pub numerals : List ℕ → Line
-numerals xs = map (λ x. numeral (pos x)) xs
 
 -- xs lists the members of the set, each once, in any order
 pub record Lists (xs set : List ℕ) : Type 0 where

@@ -1,2 +1,6 @@
 pub mod Instances
 pub mod Grammar
+pub mod Faults
+pub mod Reading
+pub mod Views
+pub mod Soundness

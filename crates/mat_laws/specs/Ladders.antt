@@ -1,5 +1,5 @@
 -- Ladders of heaviest common independent sets with split weights, and the cut that ends them (Frank 1981; Schrijver, chapter 41).
-use Rattle.std.specs.Prelude.{◌≡◌, ℕ, ◌+◌, ◌*◌, ◌^◌, ◌<◌, Bool, List, length, ℤ, pos, ◌+ℤ◌, ◌≤ℤ◌, neg_ℤ}
+use Rattle.std.specs.Prelude.{◌≡◌, ℕ, ◌+◌, ◌*◌, ◌^◌, ◌<◌, Bool, List, length, ℤ, ◌+ℤ◌}
 use Rattle.mat_sets.specs.Sets.{IsSet, minus, all_below}
 use Rattle.mat_sets.specs.Sums.{weight_at}
 use Rattle.mat_laws.specs.Ranks.{rank}
@@ -24,7 +24,3 @@ pub record IsCut (n : ℕ) (p q : List ℕ → Bool) (k : ℕ) (cut : List ℕ) 
 -- the bound on the numbers of a split of weights of at most 10^12 on n elements
 abbrev pub split_bound : ℕ → ℕ
 split_bound n = 2 * 10 ^ 12 * (n + 1) * n * (n + 1) + 10 ^ 12
-
--- each of the numbers of elements below n is at least -bound and at most bound
-abbrev pub AreWithin : ℕ → ℕ → List ℤ → Type 0
-AreWithin n bound w = (e : ℕ) → e < n → (neg_ℤ (pos bound) ≤ℤ weight_at w e) × (weight_at w e ≤ℤ pos bound)

@@ -1,14 +1,16 @@
 -- What is decided at each number, list or subset is decided of some of them.
-use Rattle.std.proofs.Common.{List, [], ap, arith, eqb, false, inl, inr, length, refl, subst, suc, true, zero, ℕ, ◌-◌, ◌<◌, ◌∷◌, ◌≡◌, ◌≤◌, ◌⊎◌}
+use Rattle.std.proofs.Common.{List, [], ap, arith, eqb, false, inl, inr, length, refl, subst, suc, true, zero, ℕ, ◌<◌, ◌∷◌, ◌≡◌, ◌≤◌, ◌⊎◌}
 use Rattle.std.proofs.lemmas.Bool.{both_ways, cases_eq, ne_eqb, or_right}
 use Rattle.mat_sets.specs.Sets.{AllBelow, IsRising, IsSubset, RisesFrom, is_member}
 use Rattle.mat_sets.proofs.Members.{IsRising-nil, RisesFrom-weaken, is_member-head, member_from}
 use Rattle.mat_sets.proofs.Search.{within_tail}
 use Rattle.mat_sets.proofs.Subsets.{length-subset}
 
+-- it holds, or it does not
 abbrev pub Decided : Type 0 → Type 0
 Decided P = P ⊎ (P → ⊥)
 
+-- a number below n that has P
 pub record Below (n : ℕ) (P : ℕ → Type 0) : Type 0 where
   pub at : ℕ
   pub below : at < n
@@ -39,7 +41,8 @@ listed_none : (m : ℕ) (P : List ℕ → Type 0) → (P [] → ⊥) → (items 
 listed_none m P np [] e p = np p
 listed_none m P np (x ∷ t) e p = absurd (omega arith)
 
-listed_some : (m l : ℕ) (P : List ℕ → Type 0) → (Below m (λ x. Listed m l (λ t. P (x ∷ t))) → ⊥) → (items : List ℕ) → length items ≡ suc l → AllBelow m items → P items → ⊥
+listed_some : (m l : ℕ) (P : List ℕ → Type 0) → (Below m (λ x. Listed m l (λ t. P (x ∷ t))) → ⊥) → (items : List ℕ)
+    → length items ≡ suc l → AllBelow m items → P items → ⊥
 listed_some m l P np [] e b p = absurd (omega arith)
 listed_some m l P np (x ∷ t) e b p = np (record { at = x; below = b.0; holds = record { items = t; size = omega arith; below = b.1; holds = p } })
 
@@ -67,7 +70,9 @@ nothing_within lo P np [] s p = np p
 nothing_within lo P np (y ∷ t) s p = both_ways false refl (s.inside y (is_member-head y t))
 
 -- a subset of x ∷ t without x lies in t; with x, it begins with x
-chosen_parts : (lo x : ℕ) (t : List ℕ) (P : List ℕ → Type 0) → RisesFrom lo (x ∷ t) → (Chosen (suc x) t P → ⊥) → (Chosen (suc x) t (λ u. P (x ∷ u)) → ⊥) → (items : List ℕ) → RisesFrom lo items → IsSubset items (x ∷ t) → P items → ⊥
+chosen_parts : (lo x : ℕ) (t : List ℕ) (P : List ℕ → Type 0) → RisesFrom lo (x ∷ t) → (Chosen (suc x) t P → ⊥)
+    → (Chosen (suc x) t (λ u. P (x ∷ u)) → ⊥) → (items : List ℕ) → RisesFrom lo items → IsSubset items (x ∷ t)
+    → P items → ⊥
 chosen_parts lo x t P r np nq [] q s p = np (record { items = []; rises = tt; within = record { inside = λ k h. absurd (both_ways false refl h) }; holds = p })
 chosen_parts lo x t P r np nq (y ∷ u) q s p =
     elim (cases_eq y x) [
@@ -81,7 +86,8 @@ chosen_parts lo x t P r np nq (y ∷ u) q s p =
           np (record { items = y ∷ u; rises = all_rise; within = within_tail x t (y ∷ u) all_rise s; holds = p })
     ]
 
-pub decide_subset : (lo : ℕ) (x : List ℕ) (P : List ℕ → Type 0) → RisesFrom lo x → ((a : List ℕ) → Decided (P a)) → Decided (Chosen lo x P)
+pub decide_subset : (lo : ℕ) (x : List ℕ) (P : List ℕ → Type 0) → RisesFrom lo x → ((a : List ℕ) → Decided (P a))
+    → Decided (Chosen lo x P)
 decide_subset lo [] P r d =
     elim (d []) [
       | inl p ↦ inl (record { items = []; rises = tt; within = record { inside = λ k h. h }; holds = p })
@@ -104,7 +110,8 @@ pub record Largest (x : List ℕ) (P : List ℕ → Type 0) : Type 0 where
   pub holds : P items
   pub most : (a : List ℕ) → IsRising a → IsSubset a x → P a → length a ≤ length items
 
-of_size : (x : List ℕ) (P : List ℕ → Type 0) → IsRising x → ((a : List ℕ) → Decided (P a)) → (n : ℕ) → Decided (Chosen 0 x (λ a. P a × (length a ≡ n)))
+of_size : (x : List ℕ) (P : List ℕ → Type 0) → IsRising x → ((a : List ℕ) → Decided (P a)) → (n : ℕ)
+    → Decided (Chosen 0 x (λ a. P a × (length a ≡ n)))
 of_size x P r d n = decide_subset 0 x (λ a. P a × (length a ≡ n)) r.rises (λ a.
     elim (d a) [
       | inr np ↦ inr (λ w. np w.0)

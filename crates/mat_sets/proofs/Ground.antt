@@ -1,13 +1,13 @@
 -- Sets on n elements: the set of all numbers below n, complements, and unions with a list in any order.
-use Rattle.std.proofs.Common.{List, [], ap, arith, eqb, false, inl, inr, leb, length, ltb, refl, suc, sym, true, zero, ℕ, ℤ, ◌&&◌, ◌++◌, ◌+ℤ◌, ◌+◌, ◌-◌, ◌<◌, ◌||◌, ◌∙◌, ◌∷◌, ◌≡◌, ◌≤◌}
+use Rattle.std.proofs.Common.{List, [], ap, arith, eqb, false, inl, inr, leb, length, ltb, refl, suc, sym, true, zero, ℕ, ℤ, ◌&&◌, ◌++◌, ◌+ℤ◌, ◌+◌, ◌<◌, ◌||◌, ◌∙◌, ◌∷◌, ◌≡◌, ◌≤◌}
 use Rattle.std.proofs.Math.Numerals.{add-one}
-use Rattle.std.proofs.lemmas.Bool.{and_right, both_ways, cases_lt, cases_order, eq-eqb, eqb-true, le-leb, le-ltb, lt-leb, lt-ltb, ltb-true, ne_eqb, or_cases}
+use Rattle.std.proofs.lemmas.Bool.{and_right, both_ways, cases_lt, cases_order, eq-eqb, eqb-true, false≢true, le-leb, le-ltb, lt-leb, lt-ltb, ltb-true, ne_eqb, or_cases}
 use Rattle.std.proofs.lemmas.Int.{ints}
 use Rattle.mat_sets.specs.Sets.{AllBelow, AreDistinct, IsRising, IsSet, IsSubset, RisesFrom, all_below, counted_from, intersection, is_member, minus, rising_insert, union, with_one, without_one}
 use Rattle.mat_sets.specs.Sums.{sum_of}
 use Rattle.mat_sets.proofs.Cardinalities.{length-minus-intersection, length-with_one, sum_of-with_one}
-use Rattle.mat_sets.proofs.Members.{IsRising-intersection, IsRising-minus, IsRising-nil, IsRising-union, IsRising-with_one, IsRising-without_one, is_member-head, is_member-union, is_member-with_one, same_members, set_members}
-use Rattle.mat_sets.proofs.Subsets.{intersection-left, minus-IsSubset, without_one-IsSubset}
+use Rattle.mat_sets.proofs.Members.{IsRising-intersection, IsRising-minus, IsRising-nil, IsRising-union, IsRising-with_one, IsRising-without_one, is_member-head, is_member-union, is_member-with_one, missing_below, same_members, set_members}
+use Rattle.mat_sets.proofs.Subsets.{intersection-left, length-subset, minus-IsSubset, union-IsSubset, without_one-IsSubset}
 use Rattle.mat_sets.proofs.Sums.{AllBelow-weaken}
 
 -- ---- each item is below n
@@ -63,7 +63,8 @@ IsSet-intersection n a b s = IsSet-subset n _ a (IsRising-intersection a b s.ris
 pub IsSet-union : (n : ℕ) (a b : List ℕ) → AllBelow n a → IsSet n b → IsSet n (union a b)
 IsSet-union n a b h s = IsSet-from n _ (IsRising-union a b s.rising) (λ x m. either_below n a b x h s (sym (is_member-union x a b) ∙ m))
   where
-    either_below : (n : ℕ) (a b : List ℕ) (x : ℕ) → AllBelow n a → IsSet n b → (is_member x a || is_member x b) ≡ true → x < n
+    either_below : (n : ℕ) (a b : List ℕ) (x : ℕ) → AllBelow n a → IsSet n b → (is_member x a || is_member x b) ≡ true
+        → x < n
     either_below n a b x h s m = elim (or_cases (is_member x a) (is_member x b) m) [ inl k ↦ AllBelow-member n a x h k | inr k ↦ below_member s k ]
 
 -- ---- all numbers below n
@@ -128,19 +129,22 @@ pub ruleset set_bounds = (IsSet-nil, IsSet-with_one, IsSet-without_one, IsSet-mi
 intersection-inside : (a e : List ℕ) → IsRising a → IsRising e → IsSubset a e → intersection e a ≡ a
 intersection-inside a e r q s = same_members _ _ (IsRising-intersection e a q) r (λ k. grind (arith, set_members, s.inside k))
 
-pub length-complement : (n : ℕ) (a : List ℕ) → IsRising a → AllBelow n a → length (minus (all_below n) a) + length a ≡ n
+pub length-complement : (n : ℕ) (a : List ℕ) → IsRising a → AllBelow n a
+    → length (minus (all_below n) a) + length a ≡ n
 length-complement n a r b =
     let e = IsRising-all_below n in
     omega (arith, length-minus-intersection (all_below n) a e, ap length (intersection-inside a (all_below n) r e (IsSubset-all_below n a b)), length-all_below n)
 
-pub complement-twice : (n : ℕ) (a : List ℕ) → IsRising a → AllBelow n a → minus (all_below n) (minus (all_below n) a) ≡ a
+pub complement-twice : (n : ℕ) (a : List ℕ) → IsRising a → AllBelow n a
+    → minus (all_below n) (minus (all_below n) a) ≡ a
 complement-twice n a r b =
     let s = IsSubset-all_below n a b in
     same_members _ _ (IsRising-minus _ _ (IsRising-all_below n)) r (λ k. grind (arith, set_members, s.inside k))
 
 -- ---- a list without repetition, in any order
 
-pub length-union_distinct : (xs b : List ℕ) → IsRising b → AreDistinct xs → ((k : ℕ) → is_member k xs ≡ true → is_member k b ≡ false) → length (union xs b) ≡ length xs + length b
+pub length-union_distinct : (xs b : List ℕ) → IsRising b → AreDistinct xs
+    → ((k : ℕ) → is_member k xs ≡ true → is_member k b ≡ false) → length (union xs b) ≡ length xs + length b
 unfolding union with_one
 length-union_distinct [] b r d apart = omega arith
 length-union_distinct (x ∷ t) b r d apart =
@@ -151,12 +155,31 @@ length-union_distinct (x ∷ t) b r d apart =
     added : (a : List ℕ) (x : ℕ) → IsRising a → is_member x a ≡ false → length (rising_insert x a) ≡ suc (length a)
     added a x r h = length-with_one a x r h
 
-pub sum_of-union_distinct : (f : ℕ → ℤ) (xs b : List ℕ) → IsRising b → AreDistinct xs → ((k : ℕ) → is_member k xs ≡ true → is_member k b ≡ false) → sum_of f (union xs b) ≡ sum_of f xs +ℤ sum_of f b
+pub sum_of-union_distinct : (f : ℕ → ℤ) (xs b : List ℕ) → IsRising b → AreDistinct xs
+    → ((k : ℕ) → is_member k xs ≡ true → is_member k b ≡ false) → sum_of f (union xs b) ≡ sum_of f xs +ℤ sum_of f b
 unfolding union with_one
 sum_of-union_distinct f [] b r d apart = omega (arith, ints)
 sum_of-union_distinct f (x ∷ t) b r d apart =
     let fresh : is_member x (union t b) ≡ false = let h = apart x (is_member-head x t) in let d0 = d.0 in rw (is_member-union x t b, d0, h) in
     omega (arith, ints, sum_of-with_one f (union t b) x (IsRising-union t b r) fresh, sum_of-union_distinct f t b r d.1 (λ k m. apart k (grind arith)))
+
+pub AreDistinct-rising : (a : List ℕ) → IsRising a → AreDistinct a
+AreDistinct-rising a r = from_rising 0 a r.rises
+  where
+    from_rising : (lo : ℕ) (a : List ℕ) → RisesFrom lo a → AreDistinct a
+    from_rising lo [] r = tt
+    from_rising lo (x ∷ xs) r = (missing_below x (suc x) xs (omega arith) r.1, from_rising (suc x) xs r.1)
+
+-- the set of its items
+pub length-distinct : (xs : List ℕ) → AreDistinct xs → length (union xs []) ≡ length xs
+length-distinct xs d = omega (arith, length-union_distinct xs [] IsRising-nil d (λ k m. refl))
+
+pub length-distinct_subset : (xs a : List ℕ) → AreDistinct xs → IsRising a → IsSubset xs a → length xs ≤ length a
+length-distinct_subset xs a d r s =
+    omega (arith, length-distinct xs d, length-subset (union xs []) a (IsRising-union xs [] IsRising-nil) r (union-IsSubset xs [] a s (record { inside = λ k m. absurd (false≢true m) })))
+
+pub length-distinct_below : (n : ℕ) (xs : List ℕ) → AreDistinct xs → AllBelow n xs → length xs ≤ n
+length-distinct_below n xs d b = omega (arith, length-distinct_subset xs (all_below n) d (IsRising-all_below n) (IsSubset-all_below n xs b), length-all_below n)
 
 -- ---- an exchange along two lists: ys go out, and xs come in
 
@@ -166,17 +189,22 @@ exchange_back a ys r s = same_members _ _ (IsRising-union ys _ (IsRising-minus a
 apart_out : (a ys : List ℕ) (k : ℕ) → is_member k ys ≡ true → is_member k (minus a ys) ≡ false
 apart_out a ys k h = grind (arith, set_members)
 
-apart_in : (a xs ys : List ℕ) (k : ℕ) → (is_member k xs ≡ true → is_member k a ≡ false) → is_member k xs ≡ true → is_member k (minus a ys) ≡ false
+apart_in : (a xs ys : List ℕ) (k : ℕ) → (is_member k xs ≡ true → is_member k a ≡ false) → is_member k xs ≡ true
+    → is_member k (minus a ys) ≡ false
 apart_in a xs ys k o h = let e = o h in grind (arith, set_members)
 
-pub length-exchange : (a xs ys : List ℕ) → IsRising a → AreDistinct xs → AreDistinct ys → IsSubset ys a → ((k : ℕ) → is_member k xs ≡ true → is_member k a ≡ false) → length (union xs (minus a ys)) + length ys ≡ length a + length xs
+pub length-exchange : (a xs ys : List ℕ) → IsRising a → AreDistinct xs → AreDistinct ys → IsSubset ys a
+    → ((k : ℕ) → is_member k xs ≡ true → is_member k a ≡ false)
+    → length (union xs (minus a ys)) + length ys ≡ length a + length xs
 length-exchange a xs ys r dx dy s o =
     let rest = IsRising-minus a ys r in
     let came = length-union_distinct xs (minus a ys) rest dx (λ k. apart_in a xs ys k (o k)) in
     let went = length-union_distinct ys (minus a ys) rest dy (apart_out a ys) in
     omega (arith, came, went, ap length (exchange_back a ys r s))
 
-pub sum_of-exchange : (f : ℕ → ℤ) (a xs ys : List ℕ) → IsRising a → AreDistinct xs → AreDistinct ys → IsSubset ys a → ((k : ℕ) → is_member k xs ≡ true → is_member k a ≡ false) → sum_of f (union xs (minus a ys)) +ℤ sum_of f ys ≡ sum_of f a +ℤ sum_of f xs
+pub sum_of-exchange : (f : ℕ → ℤ) (a xs ys : List ℕ) → IsRising a → AreDistinct xs → AreDistinct ys → IsSubset ys a
+    → ((k : ℕ) → is_member k xs ≡ true → is_member k a ≡ false)
+    → sum_of f (union xs (minus a ys)) +ℤ sum_of f ys ≡ sum_of f a +ℤ sum_of f xs
 sum_of-exchange f a xs ys r dx dy s o =
     let rest = IsRising-minus a ys r in
     let came = sum_of-union_distinct f xs (minus a ys) rest dx (λ k. apart_in a xs ys k (o k)) in

@@ -1,7 +1,7 @@
 -- The search for a walk with fewest vertices. Each vertex gets a level, the number of arcs of a shortest walk from a start.
 -- Levels rise by at most one along an arc, so a walk to a goal whose level is its number of arcs is shortest, and its
 -- vertices have the levels 0, 1, and so on. The levels are found one after the other, until a goal or nothing new is found.
-use Rattle.std.proofs.Common.{Bool, List, [], ap, arith, cond, eqb, false, get_or, inl, inr, leb, length, not, pos, refl, subst, suc, sym, true, zero, ℕ, ◌&&◌, ◌+◌, ◌-◌, ◌<◌, ◌∙◌, ◌∷◌, ◌≡◌, ◌≤◌, ◌⊎◌}
+use Rattle.std.proofs.Common.{Bool, List, [], ap, arith, cond, eqb, false, get_or, inl, inr, leb, length, not, refl, subst, suc, sym, true, zero, ℕ, ◌&&◌, ◌+◌, ◌<◌, ◌∙◌, ◌∷◌, ◌≡◌, ◌≤◌, ◌⊎◌}
 use Rattle.std.proofs.lemmas.Bool.{and_from, and_parts, both_ways, cases_Bool, cases_eq, cases_lt, cond-false, cond-true, eq-eqb, eqb-true, false_from_ne_true, le-leb, leb-false, lt-leb, not-true}
 use Rattle.std.proofs.lemmas.Bool.Decides.{nat_tests}
 use Rattle.mat_sets.specs.Search.{some_below, those_below}
@@ -29,7 +29,9 @@ pub record IsPotential (n : ℕ) (arc : ℕ → ℕ → Bool) (start : ℕ → B
   pub rises : (u v : ℕ) → u < n → v < n → arc u v ≡ true → level v ≤ suc (level u)
 
 module _ {n : ℕ} {arc : ℕ → ℕ → Bool} {start goal : ℕ → Bool} where
-  between : (level : ℕ → ℕ) (vertices : List ℕ) → IsPotential n arc start level → IsWalk n arc start goal vertices → (i j : ℕ) → i ≤ j → j < length vertices → level (get_or vertices j 0) + i ≤ level (get_or vertices i 0) + j
+  -- along a walk the level rises by at most one at each arc
+  between : (level : ℕ → ℕ) (vertices : List ℕ) → IsPotential n arc start level → IsWalk n arc start goal vertices
+      → (i j : ℕ) → i ≤ j → j < length vertices → level (get_or vertices j 0) + i ≤ level (get_or vertices i 0) + j
   between level vertices p w i zero le lt = let e : i ≡ 0 = omega arith in subst (λ k. level (get_or vertices 0 0) + k ≤ level (get_or vertices k 0) + 0) (sym e) (omega arith)
   between level vertices p w i (suc j) le lt = elim (cases_eq i (suc j)) [
     | inl e ↦ subst (λ k. level (get_or vertices (suc j) 0) + k ≤ level (get_or vertices k 0) + suc j) (sym e) (omega arith)
@@ -38,13 +40,16 @@ module _ {n : ℕ} {arc : ℕ → ℕ → Bool} {start goal : ℕ → Bool} wher
         omega arith)
   ]
 
-  at_most : (level : ℕ → ℕ) (vertices : List ℕ) → IsPotential n arc start level → IsWalk n arc start goal vertices → (j : ℕ) → j < length vertices → level (get_or vertices j 0) ≤ j
+  at_most : (level : ℕ → ℕ) (vertices : List ℕ) → IsPotential n arc start level → IsWalk n arc start goal vertices
+      → (j : ℕ) → j < length vertices → level (get_or vertices j 0) ≤ j
   at_most level vertices p w j lt =
       let a = between level vertices p w 0 j (omega arith) lt in
       let b = p.starts (get_or vertices 0 0) (w.below 0 (omega arith)) w.first in
       omega arith
 
-  pub shortest_by : (level : ℕ → ℕ) (vertices : List ℕ) → IsPotential n arc start level → (w : IsWalk n arc start goal vertices)
+  -- no walk is shorter than one whose goal has the number of its arcs as its level
+  pub shortest_by : (level : ℕ → ℕ) (vertices : List ℕ) → IsPotential n arc start level
+      → (w : IsWalk n arc start goal vertices)
       → ((v : ℕ) → v < n → goal v ≡ true → w.arcs ≤ level v) → IsShortestWalk n arc start goal vertices
   shortest_by level vertices p w far = record {
     walk = w;
@@ -56,7 +61,9 @@ module _ {n : ℕ} {arc : ℕ → ℕ → Bool} {start goal : ℕ → Bool} wher
         omega arith;
   }
 
-  level_is : (level : ℕ → ℕ) (vertices : List ℕ) → IsPotential n arc start level → (w : IsWalk n arc start goal vertices)
+  -- on such a walk the vertex at place i has the level i
+  level_is : (level : ℕ → ℕ) (vertices : List ℕ) → IsPotential n arc start level
+      → (w : IsWalk n arc start goal vertices)
       → ((v : ℕ) → v < n → goal v ≡ true → w.arcs ≤ level v) → (i : ℕ) → i < length vertices → level (get_or vertices i 0) ≡ i
   level_is level vertices p w far i lt =
       let l = w.long in
@@ -65,7 +72,8 @@ module _ {n : ℕ} {arc : ℕ → ℕ → Bool} {start goal : ℕ → Bool} wher
       let c = far (get_or vertices w.arcs 0) (w.below w.arcs (omega arith)) w.last in
       omega arith
 
-  pub chordless_by : (level : ℕ → ℕ) (vertices : List ℕ) → IsPotential n arc start level → (w : IsWalk n arc start goal vertices)
+  pub chordless_by : (level : ℕ → ℕ) (vertices : List ℕ) → IsPotential n arc start level
+      → (w : IsWalk n arc start goal vertices)
       → ((v : ℕ) → v < n → goal v ≡ true → w.arcs ≤ level v) → IsChordless n arc start goal vertices
   chordless_by level vertices p w far =
       let l = w.long in
@@ -78,7 +86,7 @@ module _ {n : ℕ} {arc : ℕ → ℕ → Bool} {start goal : ℕ → Bool} wher
             let c = p.rises (get_or vertices i 0) (get_or vertices j 0) (w.below i (omega arith)) (w.below j h) s in absurd (omega arith)));
       }
 
--- the levels up to k: a vertex that is not walks in k steps is_member level k + 1
+-- the levels up to k: a vertex that no walk of at most k arcs leads to has the level k + 1
 pub record AreLevels (n : ℕ) (arc : ℕ → ℕ → Bool) (start goal : ℕ → Bool) (k : ℕ) (level : ℕ → ℕ) : Type 0 where
   pub potential : IsPotential n arc start level
   pub roots : (v : ℕ) → v < n → level v ≡ 0 → start v ≡ true
@@ -93,7 +101,8 @@ record IsIndexedWalk (n : ℕ) (arc : ℕ → ℕ → Bool) (start : ℕ → Boo
   below : (i : ℕ) → i < suc m → f i < n
   steps : (i : ℕ) → i < m → arc (f i) (f (suc i)) ≡ true
 
-walk_from : {n : ℕ} {arc : ℕ → ℕ → Bool} {start : ℕ → Bool} (goal : ℕ → Bool) (m v : ℕ) (f : ℕ → ℕ) → IsIndexedWalk n arc start m v f → goal v ≡ true → IsWalk n arc start goal (listed f (suc m))
+walk_from : {n : ℕ} {arc : ℕ → ℕ → Bool} {start : ℕ → Bool} (goal : ℕ → Bool) (m v : ℕ) (f : ℕ → ℕ)
+    → IsIndexedWalk n arc start m v f → goal v ≡ true → IsWalk n arc start goal (listed f (suc m))
 walk_from {n} {arc} {start} goal m v f t g =
     let l = length-listed f (suc m) in
     record {
@@ -105,7 +114,9 @@ walk_from {n} {arc} {start} goal m v f t g =
       steps = λ i h. ap (λ x. arc x (get_or (listed f (suc m)) (suc i) 0)) (listed_at f (suc m) i (omega arith)) ∙ ap (arc (f i)) (listed_at f (suc m) (suc i) (omega arith)) ∙ t.steps i (omega arith);
     }
 
-indexed_walk_more : {n : ℕ} {arc : ℕ → ℕ → Bool} {start : ℕ → Bool} (m u v : ℕ) (f : ℕ → ℕ) → IsIndexedWalk n arc start m u f → v < n → arc u v ≡ true → IsIndexedWalk n arc start (suc m) v (λ i. cond (leb i m) (f i) v)
+indexed_walk_more : {n : ℕ} {arc : ℕ → ℕ → Bool} {start : ℕ → Bool} (m u v : ℕ) (f : ℕ → ℕ)
+    → IsIndexedWalk n arc start m u f → v < n → arc u v ≡ true
+    → IsIndexedWalk n arc start (suc m) v (λ i. cond (leb i m) (f i) v)
 indexed_walk_more {n} {arc} {start} m u v f t lt a =
     let g : ℕ → ℕ = λ i. cond (leb i m) (f i) v in
     let old : (i : ℕ) → i ≤ m → g i ≡ f i = λ i h. cond-true (leb i m) (f i) v (le-leb i m h) in
@@ -124,23 +135,27 @@ indexed_walk_more {n} {arc} {start} m u v f t lt a =
     }
 
 module _ {n : ℕ} {arc : ℕ → ℕ → Bool} {start goal : ℕ → Bool} where
-  indexed_walk_to : (k : ℕ) (level : ℕ → ℕ) → AreLevels n arc start goal k level → (m v : ℕ) → v < n → level v ≡ m → m ≤ k → (f : ℕ → ℕ) × IsIndexedWalk n arc start m v f
+  indexed_walk_to : (k : ℕ) (level : ℕ → ℕ) → AreLevels n arc start goal k level → (m v : ℕ) → v < n → level v ≡ m
+      → m ≤ k → (f : ℕ → ℕ) × IsIndexedWalk n arc start m v f
   indexed_walk_to k level w zero v lt e le = (λ _. v, record { first = w.roots v lt e; last = refl; below = λ i h. lt; steps = λ i h. absurd (omega arith) })
   indexed_walk_to k level w (suc m) v lt e le =
       let q = w.parents v m lt e (omega arith) in
       let t = indexed_walk_to k level w m q.0 q.1 q.2 (omega arith) in
       (λ i. cond (leb i m) (t.0 i) v, indexed_walk_more m q.0 v t.0 t.1 lt q.3)
 
--- whether v is next_level to a vertex of level k
+-- whether an arc leads to v from a vertex of level k
 abbrev pub follows_level : (n : ℕ) (arc : ℕ → ℕ → Bool) → ℕ → (ℕ → ℕ) → ℕ → Bool
 follows_level n arc k level v = some_below n (λ u. eqb (level u) k && arc u v)
 
+-- the level of v, where levels up to k + 1 are told
 abbrev pub next_level : (n : ℕ) (arc : ℕ → ℕ → Bool) → ℕ → (ℕ → ℕ) → ℕ → ℕ
 next_level n arc k level v = cond (leb (level v) k) (level v) (cond (follows_level n arc k level v) (suc k) (suc (suc k)))
 
+-- the three ways in which v gets its level
 abbrev pub IsNextLevel : (n : ℕ) (arc : ℕ → ℕ → Bool) → ℕ → (ℕ → ℕ) → ℕ → Type 0
 IsNextLevel n arc k level v = ((level v ≤ k) × (next_level n arc k level v ≡ level v)) ⊎ (((level v ≡ suc k) × (follows_level n arc k level v ≡ true) × (next_level n arc k level v ≡ suc k)) ⊎ ((level v ≡ suc k) × (follows_level n arc k level v ≡ false) × (next_level n arc k level v ≡ suc (suc k))))
 
+-- how many vertices have a level above k
 abbrev pub count_above : ℕ → ℕ → (ℕ → ℕ) → ℕ
 count_above n k level = length (those_below n (λ v. not (leb (level v) k)))
 
@@ -151,17 +166,21 @@ pub record IsWalkWithLevels (n : ℕ) (arc : ℕ → ℕ → Bool) (start goal :
   pub potential : IsPotential n arc start level
   pub far : (v : ℕ) → v < n → goal v ≡ true → walk.arcs ≤ level v
 
+-- the reached set, without a goal
 pub record MissesGoals (n : ℕ) (arc : ℕ → ℕ → Bool) (start goal : ℕ → Bool) (reached : List ℕ) : Type 0 where
   pub reach : IsReachedSet n arc start reached
   pub misses : (v : ℕ) → is_member v reached ≡ true → goal v ≡ false
 
+-- what the search finds
 abbrev Outcome : (n : ℕ) (arc : ℕ → ℕ → Bool) (start goal : ℕ → Bool) → Type 0
 Outcome n arc start goal = ((vertices : List ℕ) × IsWalkWithLevels n arc start goal vertices) ⊎ ((reached : List ℕ) × MissesGoals n arc start goal reached)
 
-pub follows : (n : ℕ) (arc : ℕ → ℕ → Bool) (k : ℕ) (level : ℕ → ℕ) (u v : ℕ) → u < n → level u ≡ k → arc u v ≡ true → follows_level n arc k level v ≡ true
+pub follows : (n : ℕ) (arc : ℕ → ℕ → Bool) (k : ℕ) (level : ℕ → ℕ) (u v : ℕ) → u < n → level u ≡ k → arc u v ≡ true
+    → follows_level n arc k level v ≡ true
 follows n arc k level u v lt e a = some_below_from n u (λ z. eqb (level z) k && arc z v) lt (and_from (eqb (level u) k) (arc u v) (eq-eqb (level u) k e) a)
 
-pub next_level_is : (n : ℕ) (arc : ℕ → ℕ → Bool) (k : ℕ) (level : ℕ → ℕ) (v : ℕ) → level v ≤ suc k → IsNextLevel n arc k level v
+pub next_level_is : (n : ℕ) (arc : ℕ → ℕ → Bool) (k : ℕ) (level : ℕ → ℕ) (v : ℕ) → level v ≤ suc k
+    → IsNextLevel n arc k level v
 next_level_is n arc k level v m = elim (cases_lt k (level v)) [
   | inr le ↦ inl (le, cond-true (leb (level v) k) (level v) (cond (follows_level n arc k level v) (suc k) (suc (suc k))) (le-leb (level v) k le))
   | inl lt ↦ (let e = cond-false (leb (level v) k) (level v) (cond (follows_level n arc k level v) (suc k) (suc (suc k))) (lt-leb (level v) k lt) in
@@ -173,14 +192,18 @@ next_level_is n arc k level v m = elim (cases_lt k (level v)) [
 
 module _ {n : ℕ} {arc : ℕ → ℕ → Bool} {start goal : ℕ → Bool} where
   -- a goal at level k is nearest
-  found_goal : (k : ℕ) (level : ℕ → ℕ) (v : ℕ) → AreLevels n arc start goal k level → v < n → goal v ≡ true → level v ≡ k → (vertices : List ℕ) × IsWalkWithLevels n arc start goal vertices
+  found_goal : (k : ℕ) (level : ℕ → ℕ) (v : ℕ) → AreLevels n arc start goal k level → v < n → goal v ≡ true
+      → level v ≡ k → (vertices : List ℕ) × IsWalkWithLevels n arc start goal vertices
   unfolding walk_from
   found_goal k level v w lt g e =
       let t = indexed_walk_to k level w k v lt e (omega arith) in
       let f = t.0 in
       (listed f (suc k), record { walk = walk_from goal k v f t.1 g; level = level; potential = w.potential; far = w.early })
 
-  pub next_levels : (k : ℕ) (level : ℕ → ℕ) → AreLevels n arc start goal k level → ((v : ℕ) → v < n → goal v ≡ true → level v ≡ k → ⊥) → AreLevels n arc start goal (suc k) (next_level n arc k level)
+  -- where no goal has level k, the levels up to k + 1 are found from those up to k
+  pub next_levels : (k : ℕ) (level : ℕ → ℕ) → AreLevels n arc start goal k level
+      → ((v : ℕ) → v < n → goal v ≡ true → level v ≡ k → ⊥)
+      → AreLevels n arc start goal (suc k) (next_level n arc k level)
   next_levels k level w none =
       let p = w.potential in
       let is : (v : ℕ) → v < n → IsNextLevel n arc k level v = λ v lt. next_level_is n arc k level v (w.most v lt) in
@@ -226,14 +249,17 @@ module _ {n : ℕ} {arc : ℕ → ℕ → Bool} {start goal : ℕ → Bool} wher
         ]);
       }
 
-  pub missed_goals : (k : ℕ) (level : ℕ → ℕ) → AreLevels n arc start goal k level → ((v : ℕ) → v < n → goal v ≡ true → level v ≡ k → ⊥)
+  -- where nothing follows level k, the vertices up to level k are the reached set
+  pub missed_goals : (k : ℕ) (level : ℕ → ℕ) → AreLevels n arc start goal k level
+      → ((v : ℕ) → v < n → goal v ≡ true → level v ≡ k → ⊥)
       → ((v : ℕ) → v < n → follows_level n arc k level v ≡ true → level v ≤ k) → MissesGoals n arc start goal (those_below n (λ v. leb (level v) k))
   missed_goals k level w none only =
       let p = w.potential in
       let reached = those_below n (λ v. leb (level v) k) in
       let inside : (v : ℕ) → v < n → level v ≤ k → is_member v reached ≡ true = λ v lt le. (let a = is_member-those_below v n (λ z. leb (level z) k) in let b = le-leb (level v) k le in grind (arith, nat_tests)) in
       let outside : (v : ℕ) → is_member v reached ≡ true → (v < n) × (level v ≤ k) = λ v h. (let a = is_member-those_below v n (λ z. leb (level z) k) in (grind (arith, nat_tests), grind (arith, nat_tests))) in
-        record { reach = record {
+      record {
+        reach = record {
           set = IsSet-those_below n (λ v. leb (level v) k);
           starts = λ v lt s. (let e = p.starts v lt s in inside v lt (omega arith));
           closed = λ u v h lt a. (let o = outside u h in elim (cases_eq (level u) k) [
@@ -242,30 +268,36 @@ module _ {n : ℕ} {arc : ℕ → ℕ → Bool} {start goal : ℕ → Bool} wher
           ]);
           walks = λ v h. (let o = outside v h in let t = indexed_walk_to k level w (level v) v o.0 refl o.1 in (listed t.0 (suc (level v)), walk_from (λ z. eqb z v) (level v) v t.0 t.1 (eq-eqb v v refl)));
         };
-        misses = λ v h. (let o = outside v h in false_from_ne_true _ (λ g. (let a = w.early v o.0 g in none v o.0 g (omega (arith, o.1))))); }
+        misses = λ v h. (let o = outside v h in false_from_ne_true _ (λ g. (let a = w.early v o.0 g in none v o.0 g (omega (arith, o.1)))));
+      }
 
-  pub fewer_above : (k : ℕ) (level : ℕ → ℕ) → AreLevels n arc start goal k level → (x : ℕ) → x < n → k < level x → follows_level n arc k level x ≡ true → count_above n (suc k) (next_level n arc k level) < count_above n k level
+  -- each further level leaves fewer vertices above it
+  pub fewer_above : (k : ℕ) (level : ℕ → ℕ) → AreLevels n arc start goal k level → (x : ℕ) → x < n → k < level x
+      → follows_level n arc k level x ≡ true
+      → count_above n (suc k) (next_level n arc k level) < count_above n k level
   fewer_above k level w x lt l t =
       length-those_below_less n x (λ v. not (leb (next_level n arc k level v) (suc k))) (λ v. not (leb (level v) k))
-              (λ z m c.
-                  elim (next_level_is n arc k level z (w.most z m)) [
-                    | inl d ↦ (let f = leb-false (next_level n arc k level z) (suc k) (not-true _ c) in absurd (omega (arith, d.0, d.1)))
-                    | inr d ↦ elim d [
-                      | inl d ↦ ap not (lt-leb (level z) k (omega (arith, d.0)))
-                      | inr d ↦ ap not (lt-leb (level z) k (omega (arith, d.0)))
-                    ]
-                  ])
-              lt
-              (elim (next_level_is n arc k level x (w.most x lt)) [
-                | inl d ↦ absurd (omega (arith, d.0))
-                | inr d ↦ elim d [
-                  | inl d ↦ ap not (le-leb (next_level n arc k level x) (suc k) (omega (arith, d.2)))
-                  | inr d ↦ absurd (both_ways _ d.1 t)
-                ]
-              ])
-              (ap not (lt-leb (level x) k l))
+      (λ z m c.
+      elim (next_level_is n arc k level z (w.most z m)) [
+        | inl d ↦ (let f = leb-false (next_level n arc k level z) (suc k) (not-true _ c) in absurd (omega (arith, d.0, d.1)))
+        | inr d ↦ elim d [
+          | inl d ↦ ap not (lt-leb (level z) k (omega (arith, d.0)))
+          | inr d ↦ ap not (lt-leb (level z) k (omega (arith, d.0)))
+        ]
+      ])
+      lt
+      (elim (next_level_is n arc k level x (w.most x lt)) [
+        | inl d ↦ absurd (omega (arith, d.0))
+        | inr d ↦ elim d [
+          | inl d ↦ ap not (le-leb (next_level n arc k level x) (suc k) (omega (arith, d.2)))
+          | inr d ↦ absurd (both_ways _ d.1 t)
+        ]
+      ])
+      (ap not (lt-leb (level x) k l))
 
-  one_level_more : (k : ℕ) (level : ℕ → ℕ) → AreLevels n arc start goal k level → (Outcome n arc start goal) ⊎ (AreLevels n arc start goal (suc k) (next_level n arc k level) × (count_above n (suc k) (next_level n arc k level) < count_above n k level))
+  -- either the search ends at level k, or it goes on
+  one_level_more : (k : ℕ) (level : ℕ → ℕ) → AreLevels n arc start goal k level
+      → (Outcome n arc start goal) ⊎ (AreLevels n arc start goal (suc k) (next_level n arc k level) × (count_above n (suc k) (next_level n arc k level) < count_above n k level))
   one_level_more k level w = elim (cases_Bool (some_below n (λ v. goal v && eqb (level v) k))) [
     | inl a ↦ (let q = some_below_gives n (λ v. goal v && eqb (level v) k) a in
         let s = and_parts (goal q.0) (eqb (level q.0) k) q.2 in
@@ -277,14 +309,19 @@ module _ {n : ℕ} {arc : ℕ → ℕ → Bool} {start goal : ℕ → Bool} wher
               let s = and_parts (not (leb (level q.0) k)) (follows_level n arc k level q.0) q.2 in
               let l = leb-false (level q.0) k (not-true _ s.0) in
               inr (next_levels k level w none, fewer_above k level w q.0 q.1 l s.1))
-          | inr b ↦ inl (inr (those_below n (λ v. leb (level v) k), missed_goals k level w none (λ v lt t. elim (cases_lt k (level v)) [
-            | inl more ↦ absurd (both_ways _ b (some_below_from n v (λ z. not (leb (level z) k) && follows_level n arc k level z) lt (and_from (not (leb (level v) k)) (follows_level n arc k level v) (ap not (lt-leb (level v) k more)) t)))
-            | inr le ↦ le
-          ])))
+          | inr b ↦ inl (inr (
+            those_below n (λ v. leb (level v) k),
+            missed_goals k level w none (λ v lt t. elim (cases_lt k (level v)) [
+              | inl more ↦ absurd (both_ways _ b (some_below_from n v (λ z. not (leb (level z) k) && follows_level n arc k level z) lt (and_from (not (leb (level v) k)) (follows_level n arc k level v) (ap not (lt-leb (level v) k more)) t)))
+              | inr le ↦ le
+            ]),
+          ))
         ])
   ]
 
-  outcome_by : (d k : ℕ) (level : ℕ → ℕ) → AreLevels n arc start goal k level → count_above n k level ≤ d → Outcome n arc start goal
+  -- at most d further levels
+  outcome_by : (d k : ℕ) (level : ℕ → ℕ) → AreLevels n arc start goal k level → count_above n k level ≤ d
+      → Outcome n arc start goal
   outcome_by zero k level w h = elim (one_level_more k level w) [ inl r ↦ r | inr m ↦ absurd (omega (arith, m.1)) ]
   outcome_by (suc d) k level w h = elim (one_level_more k level w) [ inl r ↦ r | inr m ↦ outcome_by d (suc k) (next_level n arc k level) m.0 (omega (arith, m.1)) ]
 

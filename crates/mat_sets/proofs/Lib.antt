@@ -4,10 +4,13 @@ pub mod Cardinalities
 pub mod Subsets
 pub mod Ground
 pub mod Steps
+pub mod Equalities
+pub mod Families
 pub mod Search
 pub mod SetTests
 pub mod Decisions
 pub mod Places
 pub mod Levels
 pub mod Reach
+pub mod Walking
 pub mod Changes

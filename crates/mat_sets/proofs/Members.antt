@@ -1,6 +1,6 @@
 -- Members of rising lists, and of the sets made of others. Two rising lists with the same members are one list, and
 -- each operation has one law that says its members: so an equation of sets is proved member by member.
-use Rattle.std.proofs.Common.{Bool, List, [], ap, arith, cond, eqb, false, get_or, inl, inr, length, ltb, not, refl, subst, suc, sym, true, zero, ℕ, ◌&&◌, ◌+◌, ◌-◌, ◌<◌, ◌||◌, ◌∙◌, ◌∷◌, ◌≡◌, ◌≤◌}
+use Rattle.std.proofs.Common.{Bool, List, [], ap, arith, cond, eqb, false, get_or, inl, inr, length, ltb, not, refl, subst, suc, sym, true, zero, ℕ, ◌&&◌, ◌++◌, ◌+◌, ◌<◌, ◌||◌, ◌∙◌, ◌∷◌, ◌≡◌, ◌≤◌}
 use Rattle.std.proofs.Math.Numerals.{add-one}
 use Rattle.std.proofs.lemmas.Bool.{and_right, both_ways, cases_eq, cases_lt, cases_order, eq-eqb, le-ltb, lt-ltb, ne_eqb, or_from, or_right}
 use Rattle.std.specs.List.{filter}
@@ -31,7 +31,8 @@ RisesFrom-at lo [] j r h = absurd (omega arith)
 RisesFrom-at lo (x ∷ t) zero r h = r.0
 RisesFrom-at lo (x ∷ t) (suc j) r h = omega (arith, r.0, RisesFrom-at (suc x) t j r.1 (omega arith))
 
-pub RisesFrom-index : (lo : ℕ) (xs : List ℕ) (i j : ℕ) → RisesFrom lo xs → i < j → j < length xs → get_or xs i 0 < get_or xs j 0
+pub RisesFrom-index : (lo : ℕ) (xs : List ℕ) (i j : ℕ) → RisesFrom lo xs → i < j → j < length xs
+    → get_or xs i 0 < get_or xs j 0
 RisesFrom-index lo [] i j r l h = absurd (omega arith)
 RisesFrom-index lo (x ∷ t) i zero r l h = absurd (omega arith)
 RisesFrom-index lo (x ∷ t) zero (suc j) r l h = omega (arith, RisesFrom-at (suc x) t j r.1 (omega arith))
@@ -44,14 +45,37 @@ is_member-get_or [] i x h e = absurd (omega arith)
 is_member-get_or (y ∷ t) zero x h e = rw (eq-eqb x y (sym e))
 is_member-get_or (y ∷ t) (suc i) x h e = or_right (eqb x y) (is_member x t) (is_member-get_or t i x (omega arith) e)
 
-pub is_member-nowhere : (xs : List ℕ) (x : ℕ) → ((k : ℕ) → k < length xs → get_or xs k 0 ≡ x → ⊥) → is_member x xs ≡ false
+pub is_member-nowhere : (xs : List ℕ) (x : ℕ) → ((k : ℕ) → k < length xs → get_or xs k 0 ≡ x → ⊥)
+    → is_member x xs ≡ false
 is_member-nowhere [] x h = refl
 is_member-nowhere (y ∷ t) x h = or_from (eqb x y) (is_member x t) (ne_eqb x y (λ e. h 0 (omega arith) (sym e))) (is_member-nowhere t x (λ k l. h (suc k) (omega arith)))
+
+-- a member stands somewhere
+pub place_of_member : (x : ℕ) (xs : List ℕ) → is_member x xs ≡ true → (i : ℕ) × (i < length xs) × (get_or xs i 0 ≡ x)
+place_of_member x [] m = absurd (both_ways false refl m)
+place_of_member x (y ∷ ys) m = elim (cases_eq x y) [
+  | inl e ↦ (0, omega arith, sym e)
+  | inr d ↦ (let w = place_of_member x ys (rw (ne_eqb x y d) at m) in let l = w.1 in (suc w.0, omega arith, w.2))
+]
+
+-- what holds at each place holds of each member
+pub members_by_place : (P : ℕ → Type 0) (xs : List ℕ) → ((i : ℕ) → i < length xs → P (get_or xs i 0)) → (x : ℕ)
+    → is_member x xs ≡ true → P x
+members_by_place P xs h x m = let w = place_of_member x xs m in subst P w.2 (h w.0 w.1)
+
+pub is_member-append : (x : ℕ) (xs ys : List ℕ) → is_member x (xs ++ ys) ≡ (is_member x xs || is_member x ys)
+is_member-append x [] ys = refl
+is_member-append x (y ∷ xs) ys = rw (is_member-append x xs ys) (or_assoc (eqb x y) (is_member x xs) (is_member x ys))
+  where
+    or_assoc : (a b c : Bool) → (a || (b || c)) ≡ ((a || b) || c)
+    or_assoc true b c = refl
+    or_assoc false b c = refl
 
 pub IsRising-index : (xs : List ℕ) → IsRising xs → IsStrictlyIncreasing xs
 IsRising-index xs r k h = RisesFrom-index 0 xs k (k + 1) r.rises (omega arith) h
 
-rises_by_index : (lo : ℕ) (xs : List ℕ) → (0 < length xs → lo ≤ get_or xs 0 0) → ((k : ℕ) → suc k < length xs → get_or xs k 0 < get_or xs (suc k) 0) → RisesFrom lo xs
+rises_by_index : (lo : ℕ) (xs : List ℕ) → (0 < length xs → lo ≤ get_or xs 0 0)
+    → ((k : ℕ) → suc k < length xs → get_or xs k 0 < get_or xs (suc k) 0) → RisesFrom lo xs
 rises_by_index lo [] f h = tt
 rises_by_index lo (x ∷ t) f h = (f (omega arith), rises_by_index (suc x) t (λ l. h 0 (omega arith)) (λ k l. h (suc k) (omega arith)))
 
@@ -61,14 +85,16 @@ IsRising-from_index xs h = record { rises = rises_by_index 0 xs (λ l. omega ari
 -- ---- the same members, the same list
 
 -- the members but for the head
-tails_agree : (x : ℕ) (a b : List ℕ) → RisesFrom (suc x) a → RisesFrom (suc x) b → ((k : ℕ) → is_member k (x ∷ a) ≡ is_member k (x ∷ b)) → (k : ℕ) → is_member k a ≡ is_member k b
+tails_agree : (x : ℕ) (a b : List ℕ) → RisesFrom (suc x) a → RisesFrom (suc x) b
+    → ((k : ℕ) → is_member k (x ∷ a) ≡ is_member k (x ∷ b)) → (k : ℕ) → is_member k a ≡ is_member k b
 tails_agree x a b r s e k =
     elim (cases_eq k x) [
       | inl same ↦ missing_below k (suc x) a (omega arith) r ∙ sym (missing_below k (suc x) b (omega arith) s)
       | inr other ↦ rw (ne_eqb k x other) at (e k)
     ]
 
-pub same_members_from : (lo hi : ℕ) (a b : List ℕ) → RisesFrom lo a → RisesFrom hi b → ((k : ℕ) → is_member k a ≡ is_member k b) → a ≡ b
+pub same_members_from : (lo hi : ℕ) (a b : List ℕ) → RisesFrom lo a → RisesFrom hi b
+    → ((k : ℕ) → is_member k a ≡ is_member k b) → a ≡ b
 same_members_from lo hi [] [] r s e = refl
 same_members_from lo hi [] (y ∷ b) r s e = absurd (both_ways _ (sym (e y)) (is_member-head y b))
 same_members_from lo hi (x ∷ a) [] r s e = absurd (both_ways _ (e x) (is_member-head x a))
@@ -88,7 +114,8 @@ same_members a b r s e = same_members_from 0 0 a b r.rises s.rises e
 
 -- ---- what a filter keeps, and what one more item adds
 
-filter_step : (p : ℕ → Bool) (k x : ℕ) (t u : List ℕ) (b : Bool) → p x ≡ b → is_member k u ≡ (is_member k t && p k) → is_member k (cond b (x ∷ u) u) ≡ (is_member k (x ∷ t) && p k)
+filter_step : (p : ℕ → Bool) (k x : ℕ) (t u : List ℕ) (b : Bool) → p x ≡ b → is_member k u ≡ (is_member k t && p k)
+    → is_member k (cond b (x ∷ u) u) ≡ (is_member k (x ∷ t) && p k)
 filter_step p k x t u b e ih =
     elim (cases_eq k x) [
       | inl same ↦ let e' : p k ≡ b = ap p same ∙ e in rw (eq-eqb k x same, e') (filter_head k x t u b same (rw e' at ih))
@@ -99,7 +126,8 @@ filter_step p k x t u b e ih =
     filter_other k x u true other = rw (ne_eqb k x other)
     filter_other k x u false other = refl
 
-    filter_head : (k x : ℕ) (t u : List ℕ) (b : Bool) → k ≡ x → is_member k u ≡ (is_member k t && b) → is_member k (cond b (x ∷ u) u) ≡ b
+    filter_head : (k x : ℕ) (t u : List ℕ) (b : Bool) → k ≡ x → is_member k u ≡ (is_member k t && b)
+        → is_member k (cond b (x ∷ u) u) ≡ b
     filter_head k x t u true same ih = rw (eq-eqb k x same)
     filter_head k x t u false same ih = ih ∙ and_right (is_member k t) false refl
 
@@ -115,7 +143,8 @@ RisesFrom-filter p lo (x ∷ t) r =
       | false ↦ RisesFrom-filter p lo t (RisesFrom-weaken lo (suc x) t (omega arith) r.1)
     ]
 
-add_step : (k x y : ℕ) (t u : List ℕ) → is_member k u ≡ (eqb k x || is_member k t) → is_member k (cond (ltb x y) (x ∷ y ∷ t) (y ∷ cond (eqb x y) t u)) ≡ (eqb k x || is_member k (y ∷ t))
+add_step : (k x y : ℕ) (t u : List ℕ) → is_member k u ≡ (eqb k x || is_member k t)
+    → is_member k (cond (ltb x y) (x ∷ y ∷ t) (y ∷ cond (eqb x y) t u)) ≡ (eqb k x || is_member k (y ∷ t))
 add_step k x y t u ih =
     elim (cases_order x y) [
       | inl same ↦ rw (le-ltb x y (omega arith), eq-eqb x y same) (sym (or_same k x y (is_member k t) same))
@@ -163,7 +192,8 @@ pub is_member-minus : (k : ℕ) (a b : List ℕ) → is_member k (minus a b) ≡
 unfolding minus
 is_member-minus k a b = is_member-filter (λ z. not (is_member z b)) k a
 
-pub is_member-intersection : (k : ℕ) (a b : List ℕ) → is_member k (intersection a b) ≡ (is_member k a && is_member k b)
+pub is_member-intersection : (k : ℕ) (a b : List ℕ)
+    → is_member k (intersection a b) ≡ (is_member k a && is_member k b)
 unfolding intersection
 is_member-intersection k a b = is_member-filter (λ z. is_member z b) k a
 

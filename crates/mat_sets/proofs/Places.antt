@@ -13,7 +13,8 @@ use Rattle.mat_sets.specs.Places.{IsGap, IsPlace}
 use Rattle.mat_sets.specs.Sets.{IsRising, RisesFrom, is_member, minus, rising_insert, with_one, without_one}
 use Rattle.mat_sets.proofs.Members.{RisesFrom-at, RisesFrom-index, is_member-get_or, is_member-nowhere, minus-none, with_one-member, without_one-missing}
 
-insert-rising_insert : (xs : List ℕ) (i x : ℕ) → i ≤ length xs → ((k : ℕ) → k < i → get_or xs k 0 < x) → ((k : ℕ) → i ≤ k → k < length xs → x < get_or xs k 0) → insert xs i x ≡ rising_insert x xs
+insert-rising_insert : (xs : List ℕ) (i x : ℕ) → i ≤ length xs → ((k : ℕ) → k < i → get_or xs k 0 < x)
+    → ((k : ℕ) → i ≤ k → k < length xs → x < get_or xs k 0) → insert xs i x ≡ rising_insert x xs
 insert-rising_insert [] zero x h b a = refl
 insert-rising_insert [] (suc i) x h b a = absurd (omega arith)
 insert-rising_insert (y ∷ t) zero x h b a = rw (lt-ltb x y (a 0 (omega arith) (omega arith)))
@@ -21,7 +22,8 @@ insert-rising_insert (y ∷ t) (suc i) x h b a =
     let low : y < x = b 0 (omega arith) in
     rw (le-ltb x y (omega arith), ne_eqb x y (omega arith)) (ap (λ z. y ∷ z) (insert-rising_insert t i x (omega arith) (λ k l. b (suc k) (omega arith)) (λ k l m. a (suc k) (omega arith) (omega arith))))
 
-remove-filter : (lo : ℕ) (xs : List ℕ) (i x : ℕ) → RisesFrom lo xs → i < length xs → get_or xs i 0 ≡ x → remove xs i ≡ filter (λ k. not (eqb k x)) xs
+remove-filter : (lo : ℕ) (xs : List ℕ) (i x : ℕ) → RisesFrom lo xs → i < length xs → get_or xs i 0 ≡ x
+    → remove xs i ≡ filter (λ k. not (eqb k x)) xs
 remove-filter lo [] i x r h e = absurd (omega arith)
 remove-filter lo (y ∷ t) zero x r h e = rw (eq-eqb y x e) (sym (nothing_out (suc y) t x r.1 (omega arith)))
   where
@@ -42,21 +44,26 @@ place_here xs x i r h e =
     let m = is_member-get_or xs i x h e in
     record { inside = h; found = m; removed = remove-filter 0 xs i x r.rises h e; kept = with_one-member xs x r m }
 
-gap_here : (xs : List ℕ) (x i : ℕ) → IsRising xs → i ≤ length xs → ((k : ℕ) → k < i → get_or xs k 0 < x) → ((k : ℕ) → i ≤ k → k < length xs → x < get_or xs k 0) → IsGap xs x i
+gap_here : (xs : List ℕ) (x i : ℕ) → IsRising xs → i ≤ length xs → ((k : ℕ) → k < i → get_or xs k 0 < x)
+    → ((k : ℕ) → i ≤ k → k < length xs → x < get_or xs k 0) → IsGap xs x i
 unfolding with_one
 gap_here xs x i r h b a =
     let m : is_member x xs ≡ false = is_member-nowhere xs x (λ k l e. elim (cases_lt k i) [ inl p ↦ absurd (omega (arith, b k p)) | inr q ↦ absurd (omega (arith, a k q l)) ]) in
     record { inside = h; missing = m; inserted = insert-rising_insert xs i x h b a; kept = without_one-missing xs x r m }
 
-pub placed : (xs : List ℕ) (x : ℕ) (r : Result ℕ ℕ) → IsRising xs → IsBinarySearchResult (λ y. nat_cmp y x) xs r → MatchResult r (IsPlace xs x) (IsGap xs x)
+pub placed : (xs : List ℕ) (x : ℕ) (r : Result ℕ ℕ) → IsRising xs → IsBinarySearchResult (λ y. nat_cmp y x) xs r
+    → MatchResult r (IsPlace xs x) (IsGap xs x)
 placed xs x r s h = read r (searched xs x r h (λ i j l m. elim (cases_eq i j) [ inl e ↦ omega (arith, ap (λ k. get_or xs k 0) e) | inr o ↦ omega (arith, RisesFrom-index 0 xs i j s.rises (omega arith) m) ]))
   where
-    read : (r : Result ℕ ℕ) → MatchResult r (λ i. (i < length xs) × (get_or xs i 0 ≡ x)) (λ i. (i ≤ length xs) × ((k : ℕ) → k < i → get_or xs k 0 < x) × ((k : ℕ) → i ≤ k → k < length xs → x < get_or xs k 0)) → MatchResult r (IsPlace xs x) (IsGap xs x)
+    read : (r : Result ℕ ℕ)
+        → MatchResult r (λ i. (i < length xs) × (get_or xs i 0 ≡ x)) (λ i. (i ≤ length xs) × ((k : ℕ) → k < i → get_or xs k 0 < x) × ((k : ℕ) → i ≤ k → k < length xs → x < get_or xs k 0))
+        → MatchResult r (IsPlace xs x) (IsGap xs x)
     read (Ok i) h = place_here xs x i s h.0 h.1
     read (Err i) h = gap_here xs x i s h.0 h.1 h.2
 
 -- x is above all
-pub gap_at_end : (xs : List ℕ) (x : ℕ) → IsRising xs → (0 < length xs → get_or xs (length xs - 1) 0 < x) → IsGap xs x (length xs)
+pub gap_at_end : (xs : List ℕ) (x : ℕ) → IsRising xs → (0 < length xs → get_or xs (length xs - 1) 0 < x)
+    → IsGap xs x (length xs)
 gap_at_end xs x r h = gap_here xs x (length xs) r (omega arith) (λ k l. below k l) (λ k l m. absurd (omega arith))
   where
     below : (k : ℕ) → k < length xs → get_or xs k 0 < x
@@ -67,13 +74,15 @@ gap_at_end xs x r h = gap_here xs x (length xs) r (omega arith) (λ k l. below k
 
 -- ---- a list that is read from the front
 
-rises_step : (lo : ℕ) (xs : List ℕ) (i : ℕ) → suc i < length xs → RisesFrom lo (take (suc i) xs) → get_or xs i 0 < get_or xs (suc i) 0 → RisesFrom lo (take (suc (suc i)) xs)
+rises_step : (lo : ℕ) (xs : List ℕ) (i : ℕ) → suc i < length xs → RisesFrom lo (take (suc i) xs)
+    → get_or xs i 0 < get_or xs (suc i) 0 → RisesFrom lo (take (suc (suc i)) xs)
 rises_step lo [] i h r l = absurd (omega arith)
 rises_step lo (x ∷ []) i h r l = absurd (omega arith)
 rises_step lo (x ∷ y ∷ t) zero h r l = (r.0, (omega arith, tt))
 rises_step lo (x ∷ y ∷ t) (suc i) h r l = (r.0, rises_step (suc x) (y ∷ t) i (omega arith) r.1 l)
 
-pub IsRising-more : (xs : List ℕ) (i : ℕ) → 0 < i → i < length xs → IsRising (take i xs) → get_or xs (i - 1) 0 < get_or xs i 0 → IsRising (take (i + 1) xs)
+pub IsRising-more : (xs : List ℕ) (i : ℕ) → 0 < i → i < length xs → IsRising (take i xs)
+    → get_or xs (i - 1) 0 < get_or xs i 0 → IsRising (take (i + 1) xs)
 IsRising-more xs zero p h r l = absurd (omega arith)
 IsRising-more xs (suc i) p h r l =
     let e : suc i - 1 ≡ i = omega arith in
@@ -84,7 +93,8 @@ pub ruleset rising_steps = (IsRising-more)
 -- ---- the difference, by one walk along both sets
 
 -- x is not in b: all before j are below x, and the one at j is above
-pub missing_at : (b : List ℕ) (x j : ℕ) → IsRising b → ((k : ℕ) → k < j → get_or b k 0 < x) → (j < length b → x < get_or b j 0) → is_member x b ≡ false
+pub missing_at : (b : List ℕ) (x j : ℕ) → IsRising b → ((k : ℕ) → k < j → get_or b k 0 < x)
+    → (j < length b → x < get_or b j 0) → is_member x b ≡ false
 missing_at b x j r low high = is_member-nowhere b x (λ k l e.
     elim (cases_lt k j) [
       | inl p ↦ absurd (omega (arith, low k p))
@@ -94,7 +104,8 @@ missing_at b x j r low high = is_member-nowhere b x (λ k l e.
       ]
     ])
 
-pub minus-skip : (a b : List ℕ) (i : ℕ) → i < length a → is_member (get_or a i 0) b ≡ true → minus (take (i + 1) a) b ≡ minus (take i a) b
+pub minus-skip : (a b : List ℕ) (i : ℕ) → i < length a → is_member (get_or a i 0) b ≡ true
+    → minus (take (i + 1) a) b ≡ minus (take i a) b
 unfolding minus
 minus-skip a b i h m = filter_more (λ k. not (is_member k b)) a i 0 h ∙ rw m (append_none (filter (λ k. not (is_member k b)) (take i a)))
   where
@@ -102,7 +113,8 @@ minus-skip a b i h m = filter_more (λ k. not (is_member k b)) a i 0 h ∙ rw m 
     append_none [] = refl
     append_none (x ∷ t) = ap (λ z. x ∷ z) (append_none t)
 
-pub minus-take : (a b : List ℕ) (i : ℕ) → i < length a → is_member (get_or a i 0) b ≡ false → minus (take (i + 1) a) b ≡ minus (take i a) b ++ get_or a i 0 ∷ []
+pub minus-take : (a b : List ℕ) (i : ℕ) → i < length a → is_member (get_or a i 0) b ≡ false
+    → minus (take (i + 1) a) b ≡ minus (take i a) b ++ get_or a i 0 ∷ []
 unfolding minus
 minus-take a b i h m = filter_more (λ k. not (is_member k b)) a i 0 h ∙ rw m
 

@@ -1,6 +1,6 @@
 -- Tests that look through finitely many numbers, lists or subsets: where the test holds there is one that passes, and
 -- where it fails none does. The set of the numbers below n that pass.
-use Rattle.std.proofs.Common.{Bool, List, [], ap, arith, eqb, false, inl, inr, length, ltb, refl, subst, suc, sym, true, zero, ℕ, ◌&&◌, ◌-◌, ◌<◌, ◌∙◌, ◌∷◌, ◌≡◌, ◌≢◌, ◌≤◌}
+use Rattle.std.proofs.Common.{Bool, List, [], ap, arith, eqb, false, inl, inr, length, ltb, refl, subst, suc, sym, true, zero, ℕ, ◌&&◌, ◌<◌, ◌∙◌, ◌∷◌, ◌≡◌, ◌≤◌}
 use Rattle.std.proofs.lemmas.Bool.{and_from, and_parts, and_right, both_ways, cases_eq, false_from_ne_true, false≢true, lt-ltb, ltb-true, ne_eqb, or_cases, or_left, or_right}
 use Rattle.std.proofs.lemmas.Bool.Decides.{nat_tests}
 use Rattle.mat_sets.specs.Search.{some_below, some_list, some_subset, those_below}
@@ -29,7 +29,8 @@ some_below_none n x test h l = false_from_ne_true (test x) (λ p. both_ways _ h 
 
 -- ---- lists
 
-pub some_list_gives : (k n : ℕ) (test : List ℕ → Bool) → some_list k n test ≡ true → (xs : List ℕ) × (length xs ≡ k) × AllBelow n xs × (test xs ≡ true)
+pub some_list_gives : (k n : ℕ) (test : List ℕ → Bool) → some_list k n test ≡ true
+    → (xs : List ℕ) × (length xs ≡ k) × AllBelow n xs × (test xs ≡ true)
 unfolding some_list
 some_list_gives zero n test h = ([], refl, tt, h)
 some_list_gives (suc k) n test h =
@@ -37,12 +38,14 @@ some_list_gives (suc k) n test h =
     let b = some_list_gives k n (λ xs. test (a.0 ∷ xs)) a.2 in
     (a.0 ∷ b.0, ap suc b.1, (a.1, b.2), b.3)
 
-pub some_list_from : (n : ℕ) (xs : List ℕ) (test : List ℕ → Bool) → AllBelow n xs → test xs ≡ true → some_list (length xs) n test ≡ true
+pub some_list_from : (n : ℕ) (xs : List ℕ) (test : List ℕ → Bool) → AllBelow n xs → test xs ≡ true
+    → some_list (length xs) n test ≡ true
 unfolding some_list
 some_list_from n [] test b h = h
 some_list_from n (x ∷ xs) test b h = some_below_from n x (λ y. some_list (length xs) n (λ ys. test (y ∷ ys))) b.0 (some_list_from n xs (λ ys. test (x ∷ ys)) b.1 h)
 
-pub some_list_none : (n : ℕ) (xs : List ℕ) (test : List ℕ → Bool) → some_list (length xs) n test ≡ false → AllBelow n xs → test xs ≡ false
+pub some_list_none : (n : ℕ) (xs : List ℕ) (test : List ℕ → Bool) → some_list (length xs) n test ≡ false
+    → AllBelow n xs → test xs ≡ false
 some_list_none n xs test h b = false_from_ne_true (test xs) (λ p. both_ways _ h (some_list_from n xs test b p))
 
 -- ---- subsets
@@ -51,7 +54,8 @@ some_list_none n xs test h b = false_from_ne_true (test xs) (λ p. both_ways _ h
 pub within_tail : (x : ℕ) (xs a : List ℕ) → RisesFrom (suc x) a → IsSubset a (x ∷ xs) → IsSubset a xs
 within_tail x xs a r s = record { inside = λ k h. let above : suc x ≤ k = member_from (suc x) k a r h in let m = s.inside k h in rw (ne_eqb k x (omega arith)) at m }
 
-subset_found : (lo : ℕ) (xs : List ℕ) (test : List ℕ → Bool) → RisesFrom lo xs → some_subset xs test ≡ true → (a : List ℕ) × RisesFrom lo a × IsSubset a xs × (test a ≡ true)
+subset_found : (lo : ℕ) (xs : List ℕ) (test : List ℕ → Bool) → RisesFrom lo xs → some_subset xs test ≡ true
+    → (a : List ℕ) × RisesFrom lo a × IsSubset a xs × (test a ≡ true)
 unfolding some_subset
 subset_found lo [] test r h = ([], tt, IsSubset-refl [], h)
 subset_found lo (x ∷ xs) test r h = elim (or_cases (some_subset xs (λ a. test (x ∷ a))) (some_subset xs test) h) [
@@ -62,13 +66,16 @@ subset_found lo (x ∷ xs) test r h = elim (or_cases (some_subset xs (λ a. test
       (w.0, RisesFrom-weaken lo (suc x) w.0 (omega arith) w.1, record { inside = λ k m. or_right (eqb k x) (is_member k xs) (w.2.inside k m) }, w.3))
 ]
   where
-    both_heads : (x k : ℕ) (xs a : List ℕ) → (is_member k a ≡ true → is_member k xs ≡ true) → is_member k (x ∷ a) ≡ true → is_member k (x ∷ xs) ≡ true
+    both_heads : (x k : ℕ) (xs a : List ℕ) → (is_member k a ≡ true → is_member k xs ≡ true)
+        → is_member k (x ∷ a) ≡ true → is_member k (x ∷ xs) ≡ true
     both_heads x k xs a q m = grind (arith, nat_tests)
 
-pub some_subset_gives : (xs : List ℕ) (test : List ℕ → Bool) → IsRising xs → some_subset xs test ≡ true → (a : List ℕ) × IsRising a × IsSubset a xs × (test a ≡ true)
+pub some_subset_gives : (xs : List ℕ) (test : List ℕ → Bool) → IsRising xs → some_subset xs test ≡ true
+    → (a : List ℕ) × IsRising a × IsSubset a xs × (test a ≡ true)
 some_subset_gives xs test r h = let w = subset_found 0 xs test r.rises h in (w.0, record { rises = w.1 }, w.2, w.3)
 
-subset_counts : (lo : ℕ) (xs a : List ℕ) (test : List ℕ → Bool) → RisesFrom lo xs → RisesFrom lo a → IsSubset a xs → test a ≡ true → some_subset xs test ≡ true
+subset_counts : (lo : ℕ) (xs a : List ℕ) (test : List ℕ → Bool) → RisesFrom lo xs → RisesFrom lo a → IsSubset a xs
+    → test a ≡ true → some_subset xs test ≡ true
 unfolding some_subset
 subset_counts lo [] [] test r q s h = h
 subset_counts lo [] (y ∷ ys) test r q s h = absurd (false≢true (s.inside y (is_member-head y ys)))
@@ -86,10 +93,12 @@ subset_counts lo (x ∷ xs) (y ∷ ys) test r q s h =
           or_right (some_subset xs (λ a. test (x ∷ a))) (some_subset xs test) (subset_counts (suc x) xs (y ∷ ys) test r.1 rises (within_tail x xs (y ∷ ys) rises s) h)
     ]
 
-pub some_subset_from : (xs a : List ℕ) (test : List ℕ → Bool) → IsRising xs → IsRising a → IsSubset a xs → test a ≡ true → some_subset xs test ≡ true
+pub some_subset_from : (xs a : List ℕ) (test : List ℕ → Bool) → IsRising xs → IsRising a → IsSubset a xs
+    → test a ≡ true → some_subset xs test ≡ true
 some_subset_from xs a test r q s h = subset_counts 0 xs a test r.rises q.rises s h
 
-pub some_subset_none : (xs a : List ℕ) (test : List ℕ → Bool) → some_subset xs test ≡ false → IsRising xs → IsRising a → IsSubset a xs → test a ≡ false
+pub some_subset_none : (xs a : List ℕ) (test : List ℕ → Bool) → some_subset xs test ≡ false → IsRising xs → IsRising a
+    → IsSubset a xs → test a ≡ false
 some_subset_none xs a test h r q s = false_from_ne_true (test a) (λ p. both_ways _ h (some_subset_from xs a test r q s p))
 
 -- ---- the numbers below n that pass
@@ -108,21 +117,24 @@ IsSet-those_below n test = IsSet-from n _ (record { rises = RisesFrom-filter tes
     and_left false b h = h
 
 -- what holds of fewer numbers has a smaller set
-pub length-those_below : (n : ℕ) (few many : ℕ → Bool) → ((x : ℕ) → x < n → few x ≡ true → many x ≡ true) → length (those_below n few) ≤ length (those_below n many)
+pub length-those_below : (n : ℕ) (few many : ℕ → Bool) → ((x : ℕ) → x < n → few x ≡ true → many x ≡ true)
+    → length (those_below n few) ≤ length (those_below n many)
 length-those_below n few many h =
     length-subset _ _ (IsSet-those_below n few).rising (IsSet-those_below n many).rising (record { inside = λ x m. narrower n few many x (h x) (sym (is_member-those_below x n few) ∙ m) })
   where
-    narrower : (n : ℕ) (few many : ℕ → Bool) (x : ℕ) → (x < n → few x ≡ true → many x ≡ true) → (ltb x n && few x) ≡ true → is_member x (those_below n many) ≡ true
+    narrower : (n : ℕ) (few many : ℕ → Bool) (x : ℕ) → (x < n → few x ≡ true → many x ≡ true)
+        → (ltb x n && few x) ≡ true → is_member x (those_below n many) ≡ true
     narrower n few many x h m = let p = and_parts (ltb x n) (few x) m in is_member-those_below x n many ∙ and_from (ltb x n) (many x) p.0 (h (ltb-true x n p.0) p.1)
 
-pub length-those_below_less : (n x : ℕ) (few many : ℕ → Bool) → ((y : ℕ) → y < n → few y ≡ true → many y ≡ true) → x < n → few x ≡ false → many x ≡ true → length (those_below n few) < length (those_below n many)
+pub length-those_below_less : (n x : ℕ) (few many : ℕ → Bool) → ((y : ℕ) → y < n → few y ≡ true → many y ≡ true)
+    → x < n → few x ≡ false → many x ≡ true → length (those_below n few) < length (those_below n many)
 length-those_below_less n x few many h l f m =
     let a = those_below n few in
     let b = those_below n many in
     let r : IsRising a = (IsSet-those_below n few).rising in
     let out : is_member x a ≡ false = is_member-those_below x n few ∙ ap (λ z. ltb x n && z) f ∙ and_right (ltb x n) false refl in
     let sub : IsSubset (with_one a x) b = with_one-IsSubset a b x (record { inside = λ y k. (let p = and_parts (ltb y n) (few y) (sym (is_member-those_below y n few) ∙ k) in is_member-those_below y n many ∙ and_from (ltb y n) (many y) p.0 (h y (ltb-true y n p.0) p.1)) })
-        (is_member-those_below x n many ∙ and_from (ltb x n) (many x) (lt-ltb x n l) m) in
+    (is_member-those_below x n many ∙ and_from (ltb x n) (many x) (lt-ltb x n l) m) in
     omega (arith, length-subset (with_one a x) b (IsRising-with_one a x r) (IsSet-those_below n many).rising sub, length-with_one a x r out)
 
 pub length-those_below_most : (n : ℕ) (test : ℕ → Bool) → length (those_below n test) ≤ n

@@ -1,5 +1,5 @@
 -- The test of a set holds exactly of the sets.
-use Rattle.std.proofs.Common.{◌≡◌, ℕ, suc, ◌<◌, ◌≤◌, Bool, true, ◌&&◌, leb, ltb, List, [], ◌∷◌, refl, sym, ◌∙◌}
+use Rattle.std.proofs.Common.{◌≡◌, ℕ, suc, true, ◌&&◌, leb, ltb, List, [], ◌∷◌, refl}
 use Rattle.std.proofs.lemmas.Bool.{and_parts, and_from, leb-true, ltb-true, le-leb, lt-ltb}
 use Rattle.mat_sets.specs.Sets.{RisesFrom, IsRising, AllBelow, IsSet}
 use Rattle.mat_sets.specs.SetTests.{rises_within, is_set}

@@ -1,8 +1,10 @@
 -- Subsets, and how their sizes compare.
-use Rattle.std.proofs.Common.{Bool, List, [], ap, arith, false, inl, inr, length, not, refl, true, ℕ, ◌-◌, ◌<◌, ◌∷◌, ◌≡◌, ◌≤◌, ◌⊎◌}
+use Rattle.std.proofs.Common.{Bool, List, [], ap, arith, false, inl, inr, length, not, pos, refl, true, ℕ, ℤ, ◌<◌, ◌∷◌, ◌≡◌, ◌≤ℤ◌, ◌≤◌, ◌⊎◌}
 use Rattle.std.proofs.lemmas.Bool.{both_ways, cases_Bool}
+use Rattle.std.proofs.lemmas.Int.{ints}
 use Rattle.mat_sets.specs.Sets.{IsRising, IsSubset, intersection, is_member, minus, union, with_one, without_one}
-use Rattle.mat_sets.proofs.Cardinalities.{length-minus-intersection, length-with_one}
+use Rattle.mat_sets.specs.Sums.{sum_of}
+use Rattle.mat_sets.proofs.Cardinalities.{length-minus-intersection, length-with_one, sum_of-minus_subset}
 use Rattle.mat_sets.proofs.Members.{IsRising-intersection, IsRising-union, IsRising-with_one, is_member-head, same_members, set_members}
 
 pub IsSubset-refl : (a : List ℕ) → IsSubset a a
@@ -46,7 +48,8 @@ pub ruleset subsets = (IsSubset-refl, IsSubset-with_one, with_one-IsSubset, with
 -- ---- a member that passes, or none
 
 -- some number in a passes, or none does
-pub find_member : (p : ℕ → Bool) (a : List ℕ) → ((e : ℕ) × (is_member e a ≡ true) × (p e ≡ true)) ⊎ ((k : ℕ) → is_member k a ≡ true → p k ≡ false)
+pub find_member : (p : ℕ → Bool) (a : List ℕ)
+    → ((e : ℕ) × (is_member e a ≡ true) × (p e ≡ true)) ⊎ ((k : ℕ) → is_member k a ≡ true → p k ≡ false)
 find_member p [] = inr (λ k h. absurd (both_ways false refl h))
 find_member p (x ∷ t) =
     elim (cases_Bool (p x)) [
@@ -73,7 +76,8 @@ length-subset a b r s h =
     let flip : intersection b a ≡ a = same_members _ _ (IsRising-intersection b a s) r (λ k. grind (arith, set_members)) in
     omega (arith, length-minus-intersection b a s, ap length flip)
 
-pub larger_has : (a b : List ℕ) → IsRising a → IsRising b → length a < length b → (e : ℕ) × (is_member e b ≡ true) × (is_member e a ≡ false)
+pub larger_has : (a b : List ℕ) → IsRising a → IsRising b → length a < length b
+    → (e : ℕ) × (is_member e b ≡ true) × (is_member e a ≡ false)
 larger_has a b r s l =
     elim (subset_or b a) [
       | inl h ↦ absurd (omega (arith, length-subset b a s r h))
@@ -91,3 +95,17 @@ same_size_subset a b r s h l =
 
 pub subsets_equal : (a b : List ℕ) → IsRising a → IsRising b → IsSubset a b → IsSubset b a → a ≡ b
 subsets_equal a b r s h g = same_members a b r s (λ k. grind (arith, h.inside k, g.inside k))
+
+-- ---- sums
+
+-- where no number counts negative, more members give more
+pub sum_of-subset : (f : ℕ → ℤ) (a b : List ℕ) → IsRising a → IsRising b → IsSubset a b
+    → ((k : ℕ) → is_member k b ≡ true → pos 0 ≤ℤ f k) → sum_of f a ≤ℤ sum_of f b
+sum_of-subset f a b r s h p = omega (arith, ints, sum_of-minus_subset f b a s r h, not_negative f (minus b a) (λ k m. p k (inside_left b a k m)))
+  where
+    inside_left : (b a : List ℕ) (k : ℕ) → is_member k (minus b a) ≡ true → is_member k b ≡ true
+    inside_left b a k m = grind (arith, set_members)
+
+    not_negative : (f : ℕ → ℤ) (a : List ℕ) → ((k : ℕ) → is_member k a ≡ true → pos 0 ≤ℤ f k) → pos 0 ≤ℤ sum_of f a
+    not_negative f [] p = omega (arith, ints)
+    not_negative f (x ∷ xs) p = omega (arith, ints, p x (is_member-head x xs), not_negative f xs (λ k m. p k (grind arith)))

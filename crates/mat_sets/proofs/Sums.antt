@@ -1,6 +1,6 @@
 -- Sums over rising lists. A sum over a set is a sum over the numbers below a bound, each as often as it stands in the
 -- set; so two families in which each number stands equally often have one sum.
-use Rattle.std.proofs.Common.{Bool, List, [], ap, arith, cond, eqb, false, get_or, inl, inr, length, max, pos, refl, suc, suc-add, sym, take, true, zero, zero-add, ℕ, ℤ, ◌+ℤ◌, ◌+◌, ◌-◌, ◌<◌, ◌∙◌, ◌∷◌, ◌≡◌, ◌≤◌}
+use Rattle.std.proofs.Common.{Bool, List, [], ap, arith, cond, eqb, false, get_or, inl, inr, length, max, pos, refl, suc, suc-add, sym, take, true, zero, zero-add, ℕ, ℤ, ◌+ℤ◌, ◌+◌, ◌<◌, ◌∙◌, ◌∷◌, ◌≡◌, ◌≤◌}
 use Rattle.std.proofs.Math.Numerals.{add-one}
 use Rattle.std.proofs.lemmas.Bool.{cases_eq, eq-eqb, ne_eqb}
 use Rattle.std.proofs.lemmas.Int.{ints}
@@ -61,7 +61,8 @@ total-one f x (suc n) h =
     ]
 
 -- one more than a set that does not hold x
-indicator-cons : (k x : ℕ) (t : List ℕ) → is_member x t ≡ false → indicator (is_member k (x ∷ t)) ≡ indicator (eqb k x) + indicator (is_member k t)
+indicator-cons : (k x : ℕ) (t : List ℕ) → is_member x t ≡ false
+    → indicator (is_member k (x ∷ t)) ≡ indicator (eqb k x) + indicator (is_member k t)
 indicator-cons k x t e =
     elim (cases_eq k x) [
       | inl same ↦
@@ -71,7 +72,8 @@ indicator-cons k x t e =
     ]
 
 -- a sum over a set is a sum over the numbers below a bound
-pub sum_of-total : (f : ℕ → ℤ) (n lo : ℕ) (a : List ℕ) → RisesFrom lo a → AllBelow n a → sum_of f a ≡ total f (λ k. indicator (is_member k a)) n
+pub sum_of-total : (f : ℕ → ℤ) (n lo : ℕ) (a : List ℕ) → RisesFrom lo a → AllBelow n a
+    → sum_of f a ≡ total f (λ k. indicator (is_member k a)) n
 sum_of-total f n lo [] r b = sym (total-none f n)
 sum_of-total f n lo (x ∷ t) r b =
     let split : total f (λ k. indicator (is_member k (x ∷ t))) n ≡ total f (λ k. indicator (eqb k x) + indicator (is_member k t)) n =
@@ -100,7 +102,8 @@ pub above_each : List (List ℕ) → ℕ
 above_each [] = 0
 above_each (a ∷ family) = max (above_all a) (above_each family)
 
-family_sum-total : (f : ℕ → ℤ) (n : ℕ) (family : List (List ℕ)) → AllRising family → above_each family ≤ n → family_sum f family ≡ total f (λ k. multiplicity k family) n
+family_sum-total : (f : ℕ → ℤ) (n : ℕ) (family : List (List ℕ)) → AllRising family → above_each family ≤ n
+    → family_sum f family ≡ total f (λ k. multiplicity k family) n
 unfolding family_sum multiplicity above_each
 family_sum-total f n [] r h = sym (total-none f n)
 family_sum-total f n (a ∷ family) r h =
@@ -109,12 +112,15 @@ family_sum-total f n (a ∷ family) r h =
     omega (arith, ints, one, rest, total-add f (λ k. indicator (is_member k a)) (λ k. multiplicity k family) n)
 
 -- THE LAW: two families of sets in which each number stands equally often have one sum
-pub family_balance : (f : ℕ → ℤ) (family bs : List (List ℕ)) → AllRising family → AllRising bs → ((k : ℕ) → multiplicity k family ≡ multiplicity k bs) → family_sum f family ≡ family_sum f bs
+pub family_balance : (f : ℕ → ℤ) (family bs : List (List ℕ)) → AllRising family → AllRising bs
+    → ((k : ℕ) → multiplicity k family ≡ multiplicity k bs) → family_sum f family ≡ family_sum f bs
 family_balance f family bs r s e =
     let n = above_each family + above_each bs in
     family_sum-total f n family r (omega arith) ∙ total-same f (λ k. multiplicity k family) (λ k. multiplicity k bs) n (λ k l. e k) ∙ sym (family_sum-total f n bs s (omega arith))
 
-pub balance : (f : ℕ → ℤ) (a b c d : List ℕ) → IsRising a → IsRising b → IsRising c → IsRising d → ((k : ℕ) → indicator (is_member k a) + indicator (is_member k b) ≡ indicator (is_member k c) + indicator (is_member k d)) → sum_of f a +ℤ sum_of f b ≡ sum_of f c +ℤ sum_of f d
+pub balance : (f : ℕ → ℤ) (a b c d : List ℕ) → IsRising a → IsRising b → IsRising c → IsRising d
+    → ((k : ℕ) → indicator (is_member k a) + indicator (is_member k b) ≡ indicator (is_member k c) + indicator (is_member k d))
+    → sum_of f a +ℤ sum_of f b ≡ sum_of f c +ℤ sum_of f d
 unfolding family_sum multiplicity
 balance f a b c d ra rb rc rd e =
     let h = family_balance f (a ∷ b ∷ []) (c ∷ d ∷ []) (ra, (rb, tt)) (rc, (rd, tt)) (λ k. let e' = e k in omega arith) in
@@ -126,14 +132,17 @@ pub sum_of-ones : (a : List ℕ) → sum_of (λ k. pos 1) a ≡ pos (length a)
 sum_of-ones [] = refl
 sum_of-ones (x ∷ t) = omega (arith, ints, sum_of-ones t)
 
-pub sizes : (a b c d : List ℕ) → IsRising a → IsRising b → IsRising c → IsRising d → ((k : ℕ) → indicator (is_member k a) + indicator (is_member k b) ≡ indicator (is_member k c) + indicator (is_member k d)) → length a + length b ≡ length c + length d
+pub sizes : (a b c d : List ℕ) → IsRising a → IsRising b → IsRising c → IsRising d
+    → ((k : ℕ) → indicator (is_member k a) + indicator (is_member k b) ≡ indicator (is_member k c) + indicator (is_member k d))
+    → length a + length b ≡ length c + length d
 sizes a b c d ra rb rc rd e =
     let h = balance (λ k. pos 1) a b c d ra rb rc rd e in
     omega (arith, ints, h, sum_of-ones a, sum_of-ones b, sum_of-ones c, sum_of-ones d)
 
 -- ---- a sum that is read from the front
 
-pub sum_of-more : (f : ℕ → ℤ) (xs : List ℕ) (i : ℕ) → i < length xs → sum_of f (take (i + 1) xs) ≡ sum_of f (take i xs) +ℤ f (get_or xs i 0)
+pub sum_of-more : (f : ℕ → ℤ) (xs : List ℕ) (i : ℕ) → i < length xs
+    → sum_of f (take (i + 1) xs) ≡ sum_of f (take i xs) +ℤ f (get_or xs i 0)
 sum_of-more f [] i h = absurd (omega arith)
 sum_of-more f (x ∷ t) zero h = omega (arith, ints)
 sum_of-more f (x ∷ t) (suc i) h = rw (add-one (suc i)) (let ih = sum_of-more f t i (omega arith) in let ih' = rw (add-one i) at ih in omega (arith, ints, ih'))

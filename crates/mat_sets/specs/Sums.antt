@@ -1,5 +1,5 @@
 -- Sums of numbers over the members of a set.
-use Rattle.std.specs.Prelude.{ℕ, List, [], ◌∷◌, slice_index_or, ℤ, pos, ◌+ℤ◌}
+use Rattle.std.specs.Prelude.{ℕ, List, [], ◌∷◌, slice_index_or, ℤ, pos, ◌+ℤ◌, ◌≤ℤ◌, neg_ℤ, All}
 
 -- the sum of f over the items
 abbrev pub sum_of : (ℕ → ℤ) → List ℕ → ℤ
@@ -13,3 +13,11 @@ weight_at w x = slice_index_or w x (pos 0)
 -- the weight of a set: the sum of w over its members
 abbrev pub weight : List ℤ → List ℕ → ℤ
 weight w xs = sum_of (weight_at w) xs
+
+-- the number is at least -bound and at most bound
+abbrev pub IsWithin : ℕ → ℤ → Type 0
+IsWithin bound z = (neg_ℤ (pos bound) ≤ℤ z) × (z ≤ℤ pos bound)
+
+-- each number is at least -bound and at most bound
+abbrev pub AreWithin : ℕ → List ℤ → Type 0
+AreWithin bound numbers = All (IsWithin bound) numbers

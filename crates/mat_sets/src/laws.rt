@@ -11,7 +11,7 @@ pub fn finite_reach()
     ensures { (n : ℕ) (arc : ℕ → ℕ → Bool) (start goal : ℕ → Bool)
         → ((vertices : List ℕ) × IsShortestWalk n arc start goal vertices)
         ⊎ ((reached : List ℕ) × IsReachedSet n arc start reached
-            × ((v : ℕ) → is_member v reached ≡ true → goal v ≡ false)) }
+        × ((v : ℕ) → is_member v reached ≡ true → goal v ≡ false)) }
 {}
 
 /// A walk with fewest vertices has no vertex twice, no start but its first, no goal but its last, and no chord

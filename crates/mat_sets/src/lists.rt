@@ -1,5 +1,9 @@
 //! Lists of pairs and of sets, seen as the list of their items.
-ghost use Rattle.std.specs.Prelude.{◌≡◌, ◌<◌, length, slice_index_or, []};
+ghost use Rattle.std.specs.Prelude.{◌≡◌, ◌==◌, ◌<◌, length, slice_index_or, []};
+ghost use Rattle.std.proofs.Common.{rules};
+ghost use Rattle.std.specs.Cmp.Lexicographic.{pointwise};
+ghost use Rattle.std.specs.Cmp.Rules.{comparing};
+ghost use Rattle.std.specs.Ordering.{eq_of_both, on};
 ghost use Rattle.mat_sets.specs.Families.{AllRising};
 ghost use Rattle.mat_sets.specs.Sets.{IsRising};
 
@@ -18,6 +22,20 @@ impl Model for Pairs {
     ghost Value = { List (ℕ × ℕ) };
 
     ghost view = { λ a. a.items.items };
+}
+
+impl PartialEq for Pairs {
+    ghost eq = { pointwise (eq_of_both (on (λ p. p.0) ◌==◌) (on (λ p. p.1) ◌==◌)) };
+
+    ghost laws = { Prim.search (comparing, rules) };
+
+    fn eq(&self, other: &Pairs) -> bool {
+        self.items.as_slice() == other.items.as_slice()
+    }
+}
+
+impl Eq for Pairs {
+    ghost laws = { Prim.search (comparing, rules) };
 }
 
 impl Pairs {
@@ -66,6 +84,20 @@ impl Model for SetList {
     ghost view = { λ a. a.items.items };
 
     ghost invariant = { λ a. AllRising a.items.items };
+}
+
+impl PartialEq for SetList {
+    ghost eq = { pointwise (pointwise ◌==◌) };
+
+    ghost laws = { Prim.search (comparing, rules) };
+
+    fn eq(&self, other: &SetList) -> bool {
+        self.items.as_slice() == other.items.as_slice()
+    }
+}
+
+impl Eq for SetList {
+    ghost laws = { Prim.search (comparing, rules) };
 }
 
 impl SetList {

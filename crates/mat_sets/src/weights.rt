@@ -1,12 +1,11 @@
 //! Weights of elements, and the weight of a set.
-ghost use Rattle.std.specs.Prelude.{◌≡◌, ◌<◌, ◌≤◌, ◌^◌, length, slice_index_or, pos, ◌≤ℤ◌, neg_ℤ};
+ghost use Rattle.std.specs.Prelude.{◌≡◌, ◌<◌, ◌≤◌, ◌^◌, length, slice_index_or, pos};
 ghost use Rattle.std.proofs.Common.{rules};
 ghost use Rattle.std.specs.Cmp.Lexicographic.{pointwise};
 ghost use Rattle.std.specs.Cmp.Rules.{comparing};
-ghost use Rattle.std.specs.List.{All};
 ghost use Rattle.std.specs.Ordering.{int_eq};
 ghost use Rattle.mat_sets.specs.Sets.{AllBelow, IsRising};
-ghost use Rattle.mat_sets.specs.Sums.{weight};
+ghost use Rattle.mat_sets.specs.Sums.{weight, AreWithin};
 
 use crate::elem_set::ElemSet;
 use std::marker::Model;
@@ -75,7 +74,7 @@ impl Weights {
 pub fn weight_of(set: &ElemSet, weights: &[i128]) -> i128
     requires inside { AllBelow (length weights.now) set.now }
     requires few { length set.now ≤ 500 }
-    requires small { All (λ w. (neg_ℤ (pos (10 ^ 30)) ≤ℤ w) × (w ≤ℤ pos (10 ^ 30))) weights.now }
+    requires small { AreWithin (10 ^ 30) weights.now }
     ensures sum { result ≡ weight weights.now set.now }
     ensures rises { IsRising set.now }
 {

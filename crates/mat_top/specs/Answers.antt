@@ -1,8 +1,8 @@
 -- Right answers.
 use Rattle.std.specs.Prelude.{◌≡◌, ℕ, ◌<◌, ◌≤◌, Bool, List, length, ℤ, Option, Some, slice_get}
-use Rattle.mat_sets.specs.Sums.{weight}
-use Rattle.mat_laws.specs.Ladders.{IsRung, IsCut, split_bound, AreWithin}
-use Rattle.mat_any.specs.Trees.{Tree, uniform, partition, is_independent}
+use Rattle.mat_sets.specs.Sums.{weight, AreWithin}
+use Rattle.mat_laws.specs.Ladders.{IsRung, IsCut, split_bound}
+use Rattle.mat_any.specs.Trees.{is_independent}
 use Rattle.mat_desc.specs.Instances.{Instance, pair}
 use Rattle.mat_cert.specs.Certificates.{Certificate, intersect, PricedRung, last_rung, certificate_text, IsRanged}
 
@@ -24,7 +24,7 @@ IsRight (pair w first second) (intersect n rungs cut) = (n ≡ length w) × IsRi
 -- each number of its splits is within the bound for as many elements
 abbrev pub HasBoundedSplits : Certificate → Type 0
 HasBoundedSplits (intersect n rungs cut) = (k : ℕ) (rung : PricedRung) → slice_get rungs k ≡ Some rung
-    → AreWithin n (split_bound n) rung.first × AreWithin n (split_bound n) rung.second
+    → AreWithin (split_bound n) rung.first × AreWithin (split_bound n) rung.second
 
 -- an answer that a solving command may print
 pub record IsSolution (instance : Instance) (certificate : Certificate) : Type 0 where
@@ -37,12 +37,3 @@ pub record IsSolutionText (instance : Instance) (text : List ℕ) : Type 0 where
   pub certificate : Certificate
   pub solution : IsSolution instance certificate
   pub whole : text ≡ certificate_text certificate
-
--- the second matroid is free: uniform, with a cap of at least the number of elements
-abbrev pub IsFree : ℕ → Tree → Type 0
-IsFree n (uniform m cap) = n ≤ cap
-IsFree n (partition m classes caps) = ⊥
-
--- the problems that are solved so far: the first matroid is uniform or a partition, and the second is free
-abbrev pub IsBuilt : Instance → Type 0
-IsBuilt (pair w first second) = IsFree (length w) second

@@ -15,7 +15,3 @@ with_file command file =
 -- the command that the words are, or nothing
 unfoldable pub command_line : List (List ℕ) → Option CommandLine
 command_line words = if length words == 2 then with_file (slice_index_or words 0 []) (slice_index_or words 1 []) else None
-
--- the file that the command opens first
-abbrev pub first_file : CommandLine → List ℕ
-first_file (intersect file) = file

@@ -2,5 +2,6 @@ pub mod CommandLines
 pub mod Answers
 pub mod Outcomes
 pub mod Commands
-pub mod Moves
+pub mod WholeFiles
 pub mod Refusals
+pub mod FreeLadders

@@ -6,14 +6,14 @@ use crate::status::Status;
 use crate::writing::put_all;
 use mat_shelf::Sink;
 
-// Writes a line, or a front of it where the sink fails.
+// Writes a line, or a prefix of it where the sink fails.
 fn put_line<N: Sink>(notes: &mut N, line: &[u8])
     ensures { IsNoted line.now (N.written notes.old) (N.faults notes.old) (N.written notes.new) (N.faults notes.new) }
 {
     let _ = put_all(notes, line);
 }
 
-/// Writes the note of a status, or a front of it where the sink fails; on Done there is none. It takes no memory.
+/// Writes the note of a status, or a prefix of it where the sink fails; on Done there is none. It takes no memory.
 pub fn put_note<N: Sink>(notes: &mut N, status: Status)
     ensures { IsNoted (note_of status) (N.written notes.old) (N.faults notes.old) (N.written notes.new) (N.faults notes.new) }
 {

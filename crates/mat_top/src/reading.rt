@@ -1,7 +1,7 @@
 //! Reading a whole file.
 
 ghost use Rattle.std.specs.Prelude.{◌≡◌, ◌≤◌, ◌<◌, ◌^◌, ◌+◌, ℕ, List, true, false, length, vec_len, OnOk, IfOk, IfErr, MatchResult};
-ghost use Rattle.mat_top.specs.Moves.{WasRead, NotRead, NotTaken, GoesOn, IsAtEnd};
+ghost use Rattle.mat_top.specs.WholeFiles.{WasRead, NotRead, NotTaken, GoesOn, IsAtEnd};
 
 use mat_shelf::Shelf;
 use std::alloc::Global;
@@ -34,7 +34,7 @@ fn read_some<F: Shelf>(
     ensures reading { F.reading files.new name.now }
     ensures left { OnOk result (GoesOn (F.left files.old) bytes.old.items bytes.new.items (F.left files.new)) }
     ensures more { IfOk result (λ more. more ≡ true → (vec_len bytes.old < vec_len bytes.new) × (vec_len bytes.new ≤ vec_len bytes.old + length into.old)) }
-    ensures end { IfOk result (λ more. more ≡ false → (bytes.new.items ≡ bytes.old.items) × IsAtEnd (F.left files.old) bytes.old.items) }
+    ensures end { IfOk result (λ more. more ≡ false → (bytes.new.items ≡ bytes.old.items) × IsAtEnd (F.left files.old)) }
     ensures cause { IfErr result (λ e. NotTaken (F.faults files.old name.now) (F.faults files.new name.now) e) }
 {
     match files.read(name, into) {
@@ -49,7 +49,7 @@ fn read_some<F: Shelf>(
     }
 }
 
-/// All bytes of a file that has at most as many as the limit. `TooLong` comes once one byte more was read.
+/// All bytes of a file that has at most as many as the limit. `TooLong` comes once one byte more was read, and then no more is.
 pub fn read_all<F: Shelf>(
     alloc: Global,
     files: &mut F,
@@ -61,7 +61,7 @@ pub fn read_all<F: Shelf>(
     ensures grows { (other : List ℕ) → F.faults files.old other ≤ F.faults files.new other }
     ensures read {
         MatchResult result (λ v. WasRead (F.held files.old name.now) limit v.items)
-            (λ e. NotRead (F.held files.old name.now) limit (F.faults files.old name.now) (F.faults files.new name.now) e)
+            (λ e. NotRead (F.held files.old name.now) limit (F.left files.new) (F.faults files.old name.now) (F.faults files.new name.now) e)
     }
 {
     if files.open(name).is_err() {

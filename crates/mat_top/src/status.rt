@@ -1,7 +1,7 @@
 //! How a call ends.
 
 ghost use Rattle.std.specs.Prelude.{◌≡◌};
-ghost use Rattle.mat_top.specs.Outcomes.{number_of};
+ghost use Rattle.mat_top.specs.Outcomes.{status_number};
 
 /// How a call ended.
 #[derive(Clone, Copy, Debug, PartialEq, Eq)]
@@ -16,14 +16,14 @@ pub enum Status {
     WriteFault,
     /// There was not enough memory.
     Memory,
-    /// The description spells no problem of a form that is solved so far.
+    /// The description spells no problem that is solved.
     NotBuilt,
 }
 
 impl Status {
     /// The number by which the program ends.
     pub fn number(self) -> u8
-        ensures { result ≡ number_of self }
+        ensures { result ≡ status_number self }
     {
         match self {
             Status::Done => 0,

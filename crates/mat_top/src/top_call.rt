@@ -4,7 +4,7 @@ ghost use Rattle.std.specs.Prelude.{◌≡◌, ◌≤◌, ◌<◌, ◌↔◌, �
 ghost use Rattle.mat_shelf.specs.Faults.{Rose};
 ghost use Rattle.mat_desc.specs.Instances.{Instance};
 ghost use Rattle.mat_top.specs.CommandLines.{CommandLine, command_line};
-ghost use Rattle.mat_top.specs.Outcomes.{Tells, IsStatus, IsOutcome, IsWritten, Reaches, note_of, IsNoted, IsAnswerTo, certificate_limit, description_limit};
+ghost use Rattle.mat_top.specs.Outcomes.{Tells, IsStatus, IsOutcome, IsWritten, CallReaches, IsNote, IsNoted, IsAnswerTo, certificate_limit, description_limit};
 ghost use Rattle.mat_top.specs.Refusals.{IsCause, IsRefusal};
 
 use crate::command::{Command, command_of};
@@ -68,7 +68,7 @@ fn answer<F: Shelf>(alloc: Global, files: &mut F, file: &str) -> Result<Vec<u8>,
 /// Usage comes exactly where the words are no command, ReadFault only where the shelf's count of faults rose for the file, and
 /// WriteFault only where the count of `out` rose. Where the shelf tells the file, each other status but Memory is the one of the
 /// table in docs/DEFINITIONS.md. Nothing is written to `out` but on Done, when it is the whole answer, and on WriteFault, when
-/// it is a front of it.
+/// it is a prefix of it.
 pub fn run<F: Shelf, O: Sink, N: Sink>(
     alloc: Global,
     words: &[String],
@@ -87,7 +87,7 @@ pub fn run<F: Shelf, O: Sink, N: Sink>(
 
     // Faults have a cause: a count that rose.
     ensures read_fault {
-        result ≡ Status.ReadFault → (name : List ℕ) × Reaches (command_line (map string_bytes words.now)) name
+        result ≡ Status.ReadFault → (name : List ℕ) × CallReaches (F.held files.old) (command_line (map string_bytes words.now)) name
             × Rose (F.faults files.old name) (F.faults files.new name)
     }
     ensures write_fault { result ≡ Status.WriteFault → Rose (O.faults out.old) (O.faults out.new) }
@@ -98,20 +98,21 @@ pub fn run<F: Shelf, O: Sink, N: Sink>(
             → IsStatus (F.held files.old) (command_line (map string_bytes words.now)) result
     }
 
-    // The answer is written whole, or a front of it, or nothing.
+    // The answer is written whole, or a prefix of it, or nothing.
     ensures written {
         IsWritten (F.held files.old) (command_line (map string_bytes words.now)) (O.written out.old) (O.written out.new) result
     }
 
-    // The note of the status is written, or a front of it where the sink fails.
+    // The note of the status is written, or a prefix of it where the sink fails.
     ensures noted {
-        IsNoted (note_of result) (N.written notes.old) (N.faults notes.old) (N.written notes.new) (N.faults notes.new)
+        (note : List ℕ) × IsNote (F.held files.old) (command_line (map string_bytes words.now)) result note
+            × IsNoted note (N.written notes.old) (N.faults notes.old) (N.written notes.new) (N.faults notes.new)
     }
 
     // Where the files are told and no count rose, the outcome is reached, or memory ran out.
     ensures complete {
         Tells (F.held files.old) (command_line (map string_bytes words.now))
-            → ((name : List ℕ) → Reaches (command_line (map string_bytes words.now)) name
+            → ((name : List ℕ) → CallReaches (F.held files.old) (command_line (map string_bytes words.now)) name
                 → ¬ (Rose (F.faults files.old name) (F.faults files.new name)))
             → ¬ (Rose (O.faults out.old) (O.faults out.new))
             → IsOutcome (F.held files.old) (command_line (map string_bytes words.now)) result ⊎ (result ≡ Status.Memory)

@@ -2,15 +2,15 @@
 
 ghost use Rattle.std.specs.Prelude.{◌≤◌, OnOk, OnErr};
 ghost use Rattle.mat_shelf.specs.Faults.{Rose};
-ghost use Rattle.mat_shelf.specs.Writing.{Appended, AppendedFront};
+ghost use Rattle.mat_shelf.specs.Writing.{Appended, AppendedPrefix};
 
 use mat_shelf::{Failed, Sink};
 
-/// Writes all of a text, or a front of it where the sink fails. It takes no memory.
+/// Writes all of a text, or a prefix of it where the sink fails. It takes no memory.
 pub fn put_all<O: Sink>(sink: &mut O, text: &[u8]) -> Result<(), Failed>
     ensures grows { O.faults sink.old ≤ O.faults sink.new }
     ensures ok { OnOk result (Appended (O.written sink.old) text.now (O.written sink.new)) }
-    ensures err { OnErr result (AppendedFront (O.written sink.old) text.now (O.written sink.new)) }
+    ensures err { OnErr result (AppendedPrefix (O.written sink.old) text.now (O.written sink.new)) }
     ensures cause { OnErr result (Rose (O.faults sink.old) (O.faults sink.new)) }
 {
     let mut at = 0;

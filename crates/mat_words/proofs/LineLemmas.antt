@@ -5,7 +5,7 @@ use Rattle.std.proofs.lemmas.Bool.{ne_eqb, eq-eqb, cases_eq}
 use Rattle.std.proofs.lemmas.List.{append_assoc, append-nil, append_cancel_right}
 use Rattle.std.proofs.lemmas.List.Elements.{All-nil, All-cons, All-head, All-tail, All-weaker}
 use Rattle.std.proofs.lemmas.List.Splits.{slice_split_at}
-use Rattle.mat_words.specs.Lines.{is_newline, lines_of, text_of, HasNoNewline, AreLines, IsCut}
+use Rattle.mat_words.specs.Lines.{is_newline, lines_of, text_of, HasNoNewline, AreLines, IsFirstLine}
 use Rattle.mat_words.specs.Words.{is_word, words_of}
 use Rattle.mat_words.proofs.WordLemmas.{words_again, joined_no_newline}
 
@@ -14,7 +14,7 @@ pub first_line : (line rest : List ℕ) → HasNoNewline line → lines_of (line
 first_line line rest h = slice_split_at is_newline line 10 rest (All-weaker (λ b. b ≢ 10) (λ b. is_newline b ≡ false) (λ b ne. ne_eqb b 10 ne) line h) refl
 
 -- a text has no byte 10, or is cut behind its first line
-pub cut_or_last : (text : List ℕ) → ((HasNoNewline text) × (lines_of text ≡ text ∷ [])) ⊎ ((before : List ℕ) × (after : List ℕ) × IsCut text before after)
+pub cut_or_last : (text : List ℕ) → ((HasNoNewline text) × (lines_of text ≡ text ∷ [])) ⊎ ((before : List ℕ) × (after : List ℕ) × IsFirstLine text before after)
 cut_or_last [] = inl (All-nil (λ b. b ≢ 10), refl)
 cut_or_last (b ∷ bs) =
     elim (cases_eq b 10) [

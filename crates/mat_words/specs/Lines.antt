@@ -21,16 +21,20 @@ IsNextLine text from (Some at) = (from ≤ at) × (at < length text) × (slice_i
 IsNextLine text from None = (k : ℕ) → from ≤ k → k < length text → slice_index text k ≢ 10
 
 -- a text is cut behind its first line
-pub record IsCut (text before after : List ℕ) : Type 0 where
+pub record IsFirstLine (text before after : List ℕ) : Type 0 where
   pub whole : text ≡ before ++ 10 ∷ after
   pub first : HasNoNewline before
   pub lines : lines_of text ≡ before ∷ lines_of after
 
+-- a line is a list of words
+abbrev pub Line : Type 0
+Line = List (List ℕ)
+
 -- each of these is a line that may be written: one or more words
-abbrev pub AreLines : List (List (List ℕ)) → Type 0
+abbrev pub AreLines : List Line → Type 0
 AreLines lines = All (λ words. (0 < length words) × IsTrue (list_all is_word words)) lines
 
--- The text of a list of lines, each given as its words: one space between words, and byte 10 after each line.
-abbrev pub text_of : List (List (List ℕ)) → List ℕ
+-- The text of a list of lines: one space between words, and byte 10 after each line.
+abbrev pub text_of : List Line → List ℕ
 text_of [] = []
 text_of (words ∷ lines) = join_with_byte 32 words ++ 10 ∷ text_of lines

@@ -2,6 +2,7 @@
 use Rattle.std.specs.Prelude.{ℕ, zero, suc, ◌-◌, ◌+◌, ◌^◌, Bool, false, ◌&&◌, ◌==◌, nat_le, if◌then◌else◌, List, [], ◌∷◌, length, map, Option, Some, None, Result, Ok, Err, ℤ, pos, negsuc, neg_ℤ, int_le}
 use Rattle.std.specs.List.{list_all}
 use Rattle.std.specs.Int.Digits.{digits_of, number_from_digits}
+use Rattle.mat_words.specs.Lines.{Line}
 use Rattle.mat_words.specs.declared.numbers.NumberFault.{NumberFault}
 use Rattle.mat_words.specs.declared.numbers.NumberFault.TheVariants.{Spelling, Range}
 
@@ -14,6 +15,10 @@ abbrev pub numeral : ℤ → List ℕ
 numeral (pos zero) = 48 ∷ []
 numeral (pos (suc n)) = decimal (suc n)
 numeral (negsuc n) = 45 ∷ decimal (suc n)
+
+-- the numerals of numbers from 0 on, as the words of a line
+abbrev pub numerals : List ℕ → Line
+numerals xs = map (λ x. numeral (pos x)) xs
 
 -- whether a byte is a digit
 abbrev pub is_digit : ℕ → Bool

@@ -2,7 +2,7 @@
 
 ghost use Rattle.std.specs.Prelude.{◌≡◌, ◌≤◌, [], ◌∷◌, ◌<◌, ◌+◌, ◌++◌, ◌⊎◌, length, map, MatchOption, IfSome, ℕ, List};
 ghost use Rattle.std.specs.List.{join_with_byte};
-ghost use Rattle.mat_words.specs.Lines.{lines_of, text_of, AreLines, HasNoNewline, IsNextLine, IsCut};
+ghost use Rattle.mat_words.specs.Lines.{lines_of, text_of, AreLines, HasNoNewline, IsNextLine, IsFirstLine};
 
 /// The place of the next byte 10 at `from` or after it, in one pass from there. None where there is none. It takes no memory.
 pub fn next_line(text: &[u8], from: usize) -> Option<usize>
@@ -38,7 +38,7 @@ pub fn line_laws()
         → lines_of (line ++ 10 ∷ rest) ≡ line ∷ lines_of rest }
     // A text is cut behind its first line, or has none.
     ensures cut { (text : List ℕ) → ((HasNoNewline text) × (lines_of text ≡ text ∷ []))
-        ⊎ ((before : List ℕ) × (after : List ℕ) × IsCut text before after) }
+        ⊎ ((before : List ℕ) × (after : List ℕ) × IsFirstLine text before after) }
     // The lines of a text that was written are those that were written, whatever follows it.
     ensures written { (lines : List (List (List ℕ))) (rest : List ℕ) → AreLines lines
         → lines_of (text_of lines ++ rest) ≡ map (join_with_byte 32) lines ++ lines_of rest }

@@ -1,0 +1,40 @@
+//! A matroid of any kind.
+ghost use Rattle.mat_any.specs.Trees.{element_count, is_independent, IsSound};
+ghost use Rattle.mat_any.specs.TreeLaws.{tree_laws};
+ghost use Rattle.mat_any.specs.Views.{tree_of};
+
+use mat_count::{Partition, Uniform};
+use mat_laws::Matroid;
+use mat_sets::ElemSet;
+use std::alloc::{AllocError, Global};
+
+/// A matroid of any kind. Contracts see the tree of its kinds.
+#[derive(Debug, Drop)]
+pub enum AnyMatroid {
+    Uniform(Uniform),
+    Partition(Partition),
+}
+
+impl Matroid for AnyMatroid {
+    ghost ground_size = { λ m. element_count (tree_of m) };
+
+    ghost sound = { λ m. IsSound (tree_of m) };
+
+    ghost indep = { λ m. is_independent (tree_of m) };
+
+    ghost laws = { λ m. tree_laws (tree_of m) };
+
+    fn size(&self) -> u32 {
+        match self {
+            AnyMatroid::Uniform(matroid) => matroid.size(),
+            AnyMatroid::Partition(matroid) => matroid.size(),
+        }
+    }
+
+    fn independent(&self, alloc: Global, set: &ElemSet) -> Result<bool, AllocError> {
+        match self {
+            AnyMatroid::Uniform(matroid) => matroid.independent(alloc, set),
+            AnyMatroid::Partition(matroid) => matroid.independent(alloc, set),
+        }
+    }
+}

@@ -1,0 +1,5 @@
+use Rattle.mat_count.specs.LaminarLaws.{counted_laws}
+use Rattle.mat_count.proofs.laws.laminar_laws.Goals as goal
+
+pub returns : goal.returns
+returns c = counted_laws

@@ -1,0 +1,12 @@
+//! Matroids that bound how many elements a set may have.
+#![tactic(auto)]
+
+mod laws;
+mod partition;
+#[cfg(test)]
+mod tests;
+mod uniform;
+
+pub use laws::{crosses_means, laminar_laws, within_caps_means};
+pub use partition::Partition;
+pub use uniform::Uniform;

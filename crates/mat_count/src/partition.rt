@@ -1,0 +1,159 @@
+//! Partition matroids.
+ghost use Rattle.std.specs.Prelude.{◌≡◌, ◌↔◌, ℕ, ◌<◌, ◌≤◌, length, slice_index, IfOk, IsTrue};
+ghost use Rattle.std.specs.List.{All};
+ghost use Rattle.mat_sets.specs.Sets.{AllBelow, IsRising};
+ghost use Rattle.mat_sets.specs.Families.{AreDisjoint};
+ghost use Rattle.mat_count.specs.Counts.{is_counted};
+ghost use Rattle.mat_count.specs.Partitions.{CappedClasses, IsPartition, IsClassTable, IsEntered, CountsMembers};
+ghost use Rattle.mat_count.specs.PartitionLaws.{partition_laws};
+
+use mat_laws::Matroid;
+use mat_sets::{ElemSet, SetList};
+use std::alloc::{AllocError, Global};
+use std::marker::Model;
+
+/// The matroid in which a set is independent where it has at most its cap of members in each class; classes share no
+/// member, and an element that stands in no class is free (Schrijver, chapter 39).
+#[derive(Debug, Drop)]
+pub struct Partition {
+    count: u32,
+    classes: SetList,
+    caps: Vec<u32>,
+    class_of: Vec<Option<usize>>,
+}
+
+impl Model for Partition {
+    ghost use Rattle.mat_count.specs.Partitions.{CappedClasses, IsClassTable};
+
+    ghost Value = { CappedClasses };
+
+    ghost view = { λ p. record { count = p.count; classes = p.classes; caps = p.caps.items } };
+
+    ghost invariant = { λ p. IsClassTable p.count p.classes p.class_of.items };
+}
+
+// Enters the class at this place for each of its members.
+#[tactic(auto, using(crate::proofs::ClassTables::entering))]
+fn enter(class_of: &mut [Option<usize>], class: &ElemSet, place: usize)
+    requires { AllBelow (length class_of.old) class.now }
+    ensures { IsEntered class_of.old class.now place class_of.new }
+{
+    for i in 0..class.len() {
+        class_of[class.get(i) as usize] = Some(place);
+    }
+}
+
+// The class of each element, if it stands in one.
+#[tactic(auto, using(crate::proofs::ClassTables::tables))]
+fn class_table(
+    alloc: Global,
+    count: u32,
+    classes: &SetList,
+) -> Result<Vec<Option<usize>>, AllocError>
+    requires inside { All (AllBelow count) classes.now }
+    requires disjoint { AreDisjoint classes.now }
+    ensures { IfOk result (λ t. IsClassTable count classes.now t.items) }
+{
+    let mut class_of = vec![in alloc; None; count as usize]?;
+    for place in 0..classes.len() {
+        enter(&mut class_of, classes.get(place), place);
+    }
+    Ok(class_of)
+}
+
+// How many members the set has in each class.
+#[tactic(auto, using(crate::proofs::ClassTables::counting))]
+fn members_by_class(
+    alloc: Global,
+    classes: &SetList,
+    class_of: &[Option<usize>],
+    set: &ElemSet,
+) -> Result<Vec<usize>, AllocError>
+    requires table { IsClassTable (length class_of.now) classes.now class_of.now }
+    requires below { AllBelow (length class_of.now) set.now }
+    ensures numbers { IfOk result (λ v. CountsMembers classes.now set.now v.items) }
+    ensures rises { IfOk result (λ _. IsRising set.now) }
+{
+    let mut numbers: Vec<usize> = vec![in alloc; 0; classes.len()]?;
+    for i in 0..set.len() {
+        if let Some(place) = class_of[set.get(i) as usize] {
+            numbers[place] += 1;
+        }
+    }
+    Ok(numbers)
+}
+
+// Whether each number is at most its cap.
+fn are_within(numbers: &[usize], caps: &[u32]) -> bool
+    requires { length numbers.now ≡ length caps.now }
+    ensures { IsTrue result ↔ ((i : ℕ) → i < length caps.now → slice_index numbers.now i ≤ slice_index caps.now i) }
+{
+    for i in 0..caps.len() {
+        if numbers[i] > caps[i] as usize {
+            return false;
+        }
+    }
+    true
+}
+
+impl Partition {
+    /// The partition matroid of this many elements, these classes and their caps. The only error is want of memory.
+    pub fn new(
+        alloc: Global,
+        count: u32,
+        classes: SetList,
+        caps: Vec<u32>,
+    ) -> Result<Partition, AllocError>
+        requires { IsPartition count classes caps.items }
+        ensures value { IfOk result (λ p. p ≡ record { count = count; classes = classes; caps = caps.items }) }
+        ensures sound { IfOk result (λ p. IsPartition p.count p.classes p.caps) }
+    {
+        let class_of = class_table(alloc, count, &classes)?;
+        Ok(Partition {
+            count,
+            classes,
+            caps,
+            class_of,
+        })
+    }
+
+    /// The number of elements.
+    pub fn count(&self) -> u32
+        ensures { result ≡ self.now.count }
+    {
+        self.count
+    }
+
+    /// The classes, as they were handed in.
+    pub fn classes(&self) -> &SetList
+        ensures { result.now ≡ self.now.classes }
+    {
+        &self.classes
+    }
+
+    /// The cap of each class, as they were handed in.
+    pub fn caps(&self) -> &[u32]
+        ensures { result.now ≡ self.now.caps }
+    {
+        self.caps.as_slice()
+    }
+}
+
+impl Matroid for Partition {
+    ghost ground_size = { λ m. m.count };
+
+    ghost sound = { λ m. IsPartition m.count m.classes m.caps };
+
+    ghost indep = { λ m. is_counted m.count m.classes m.caps };
+
+    ghost laws = { λ m h. partition_laws m.count m.classes m.caps h };
+
+    fn size(&self) -> u32 {
+        self.count
+    }
+
+    fn independent(&self, alloc: Global, set: &ElemSet) -> Result<bool, AllocError> {
+        let numbers = members_by_class(alloc, &self.classes, &self.class_of, set)?;
+        Ok(are_within(&numbers, &self.caps))
+    }
+}

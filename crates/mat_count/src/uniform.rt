@@ -1,0 +1,57 @@
+//! Uniform matroids.
+ghost use Rattle.std.specs.Prelude.{◌≡◌};
+ghost use Rattle.mat_count.specs.Counts.{is_uniform};
+ghost use Rattle.mat_count.specs.UniformLaws.{uniform_laws};
+
+use mat_laws::Matroid;
+use mat_sets::ElemSet;
+use std::alloc::{AllocError, Global};
+
+/// The matroid on `count` elements in which a set is independent where it has at most `cap` elements
+/// (Schrijver, chapter 39).
+#[derive(Debug, Drop)]
+pub struct Uniform {
+    count: u32,
+    cap: u32,
+}
+
+impl Uniform {
+    /// The uniform matroid of this many elements with this cap, which may be any number.
+    pub fn new(count: u32, cap: u32) -> Uniform
+        ensures { result ≡ record { count = count; cap = cap } }
+    {
+        Uniform { count, cap }
+    }
+
+    /// The number of elements.
+    pub fn count(&self) -> u32
+        ensures { result ≡ self.now.count }
+    {
+        self.count
+    }
+
+    /// How many elements an independent set may have.
+    pub fn cap(&self) -> u32
+        ensures { result ≡ self.now.cap }
+    {
+        self.cap
+    }
+}
+
+impl Matroid for Uniform {
+    ghost ground_size = { λ m. m.count };
+
+    ghost sound = { λ m. Unit {0} };
+
+    ghost indep = { λ m. is_uniform m.count m.cap };
+
+    ghost laws = { λ m h. uniform_laws m.count m.cap };
+
+    fn size(&self) -> u32 {
+        self.count
+    }
+
+    fn independent(&self, _alloc: Global, set: &ElemSet) -> Result<bool, AllocError> {
+        Ok(set.len() <= self.cap as usize)
+    }
+}

@@ -1,0 +1,50 @@
+-- Class lines that are read one after the other, as a loop reads them.
+use Rattle.std.proofs.Common.{◌≡◌, ℕ, zero, suc, ◌-◌, ◌+◌, ◌≤◌, ◌<◌, List, [], ◌∷◌, ◌++◌, Result, Ok, Err, refl, sym, ap, ap₂, ◌∙◌, append_assoc, arith}
+use Rattle.std.proofs.lemmas.List.{append-nil}
+use Rattle.mat_desc.specs.declared.refusal.DescRefusal.{DescRefusal}
+use Rattle.mat_desc.specs.declared.refusal.DescRefusal.TheVariants as refusals
+use Rattle.mat_desc.specs.Faults.{◌>>=◌, Fault, Fails, LinesLeft}
+use Rattle.mat_desc.specs.Reading.{class_at, classes_at}
+
+-- classes and caps, and the lines behind them
+abbrev pub ClassesRead : Type 0
+ClassesRead = Result (List (List ℕ) × List ℕ × LinesLeft) Fault
+
+-- what was read before, in front of what is still read
+abbrev pub with_front : List (List ℕ) → List ℕ → ClassesRead → ClassesRead
+with_front classes caps reading = reading >>= λ x. Ok (classes ++ x.0, caps ++ x.1, x.2)
+
+with_front-cons : (classes : List (List ℕ)) (caps : List ℕ) (class : List ℕ) (cap : ℕ) (reading : ClassesRead)
+    → with_front classes caps (reading >>= λ x. Ok (class ∷ x.0, cap ∷ x.1, x.2)) ≡ with_front (classes ++ class ∷ []) (caps ++ cap ∷ []) reading
+with_front-cons classes caps class cap (Ok x) = simp append_assoc
+with_front-cons classes caps class cap (Err fault) = refl
+
+-- one more class was read
+pub classes_more : (n many i : ℕ) (taken : List ℕ) (p : LinesLeft) (classes : List (List ℕ)) (caps : List ℕ) (cap : ℕ) (class taken_more : List ℕ) (after : LinesLeft) (total : ClassesRead)
+    → i < many → class_at n taken p ≡ Ok (cap, class, taken_more, after) → with_front classes caps (classes_at n (many - i) taken p) ≡ total
+    → with_front (classes ++ class ∷ []) (caps ++ cap ∷ []) (classes_at n (many - (i + 1)) taken_more after) ≡ total
+unfolding classes_at
+classes_more n many i taken p classes caps cap class taken_more after total lt read so_far =
+    let left : many - i ≡ suc (many - (i + 1)) = omega arith in
+    let step : with_front classes caps (classes_at n (many - i) taken p) ≡ with_front (classes ++ class ∷ []) (caps ++ cap ∷ []) (classes_at n (many - (i + 1)) taken_more after) =
+      rw (left, read) (with_front-cons classes caps class cap (classes_at n (many - (i + 1)) taken_more after)) in
+    sym step ∙ so_far
+
+-- the next class fails
+pub classes_fail : (refusal : DescRefusal) (n many i : ℕ) (taken : List ℕ) (p : LinesLeft) (classes : List (List ℕ)) (caps : List ℕ) (total : ClassesRead)
+    → i < many → Fails refusal (class_at n taken p) → with_front classes caps (classes_at n (many - i) taken p) ≡ total → Fails refusal total
+unfolding classes_at
+classes_fail refusals.Memory n many i taken p classes caps total lt failed so_far = tt
+classes_fail (refusals.Fault kind line) n many i taken p classes caps total lt failed so_far =
+    let left : many - i ≡ suc (many - (i + 1)) = omega arith in
+    let step : with_front classes caps (classes_at n (many - i) taken p) ≡ Err (kind, line) = rw (left, failed) refl in
+    sym so_far ∙ step
+
+-- all classes are read
+pub classes_done : (n many i : ℕ) (taken : List ℕ) (p : LinesLeft) (classes : List (List ℕ)) (caps : List ℕ) (total : ClassesRead)
+    → many ≤ i → with_front classes caps (classes_at n (many - i) taken p) ≡ total → total ≡ Ok (classes, caps, p)
+unfolding classes_at
+classes_done n many i taken p classes caps total le so_far =
+    let left : many - i ≡ 0 = omega arith in
+    let step : with_front classes caps (classes_at n (many - i) taken p) ≡ Ok (classes, caps, p) = rw left (ap₂ (λ (a : List (List ℕ)) (b : List ℕ). Ok (a, b, p)) (append-nil classes) (append-nil caps)) in
+    sym so_far ∙ step

@@ -1,0 +1,242 @@
+-- Whole descriptions: a text that is read spells the problem that was read, and a text that spells a problem is read as that problem.
+use Rattle.std.proofs.Common.{◌≡◌, ℕ, zero, suc, ◌+◌, ◌≤◌, ◌<◌, ℤ, Bool, true, false, cond, ◌&&◌, ◌⊎◌, eqb, List, [], ◌∷◌, ◌++◌, length, map, pos, Option, Some, None, Result, Ok, Err, refl, sym, ap, subst, ◌∙◌, arith, inl, inr}
+use Rattle.std.specs.Prelude.{codes, bytes_eq, ◌↔◌}
+use Rattle.std.specs.List.{list_all, join_with_byte}
+use Rattle.std.proofs.lemmas.Bool.{and_from, and_parts, eqb-true}
+use Rattle.std.proofs.lemmas.List.{append-nil}
+use Rattle.std.proofs.lemmas.List.Splits.{join_with_byte-slice_split}
+use Rattle.std.proofs.lemmas.Slice.Eq.{bytes_eq-Decides}
+use Rattle.mat_words.specs.Lines.{Line, lines_of, text_of}
+use Rattle.mat_words.specs.Words.{is_word}
+use Rattle.mat_words.specs.Numbers.{numeral}
+use Rattle.mat_words.proofs.NumberLemmas.{numeral_word}
+use Rattle.mat_any.specs.Trees.{Tree}
+use Rattle.mat_desc.specs.declared.refusal.DescKind.TheVariants.{Version, TooManyLines}
+use Rattle.mat_desc.specs.declared.keywords.Form.{Form}
+use Rattle.mat_desc.specs.declared.keywords.Form.TheVariants as forms
+use Rattle.mat_desc.specs.Faults.{Fault, ◌>>=◌, WordsLeft, LinesLeft}
+use Rattle.mat_desc.specs.Reading.{line_at, word_at, count_at, weight_at, ended_at, repeat_at, keyed_at, version_at, weights_at, end_at, is_closed, closed_at, matroid_at, pair_at, form_of, form_at, instance_at, description_at, read_of}
+use Rattle.mat_desc.specs.Instances.{Instance, pair}
+use Rattle.mat_desc.specs.Grammar.{AreWeights, IsValid, InstanceLines, Spells}
+use Rattle.mat_desc.proofs.ReadingSteps.{found, found-same, bind_found, test_found}
+use Rattle.mat_desc.proofs.WordLaws.{word_found, ended_found, ended_again, count_found, count_again, weights_found, weights_again, weights_words}
+use Rattle.mat_desc.proofs.LineLaws.{AreLeft, line_found, line_again, keyed_found, keyed_again}
+use Rattle.mat_desc.proofs.MatroidLaws.{matroid_found, matroid_again}
+
+-- ---- the lines round a problem
+
+abbrev version_line : Line
+version_line = codes "matroids" ∷ codes "1" ∷ []
+
+abbrev end_line : Line
+end_line = codes "end" ∷ []
+
+-- a line of a keyword and no words
+abbrev last_words : Line
+last_words = []
+
+version_found : (p q : LinesLeft) → version_at p ≡ Ok q → (rest : List Line) → AreLeft rest q → AreLeft (version_line ∷ rest) p
+unfolding version_at
+version_found p q e rest left =
+    let line = bind_found (keyed_at (codes "matroids") p) (λ line. word_at line.0 >>= λ word. cond (bytes_eq word.0 (codes "1")) (ended_at word.1 >>= λ end. Ok line.1) (Err (Version, p.line))) q e in
+    let word = bind_found (word_at line.0.0) (λ word. cond (bytes_eq word.0 (codes "1")) (ended_at word.1 >>= λ end. Ok line.0.1) (Err (Version, p.line))) q line.2 in
+    let test = test_found (bytes_eq word.0.0 (codes "1")) (Version, p.line) (ended_at word.0.1 >>= λ end. Ok line.0.1) q word.2 in
+    let end = bind_found (ended_at word.0.1) (λ end. Ok line.0.1) q test.1 in
+    let one : word.0.0 ≡ codes "1" = (bytes_eq-Decides word.0.0 (codes "1")).0 test.0 in
+    let last = ended_found word.0.1 end.0 end.1 in
+    let words : line.0.0.words ≡ codes "1" ∷ [] = word_found line.0.0 word.0.0 word.0.1 word.1 ∙ rw (one, last) refl in
+    let behind : AreLeft rest line.0.1 = subst (λ (x : LinesLeft). AreLeft rest x) (sym (found-same line.0.1 q end.2)) left in
+    subst (λ (ws : Line). AreLeft ((codes "matroids" ∷ ws) ∷ rest) p) words (keyed_found (codes "matroids") p line.0.0 line.0.1 line.1 rest behind)
+
+version_again : (p : LinesLeft) (rest : List Line) → AreLeft (version_line ∷ rest) p → (q : LinesLeft) × (version_at p ≡ Ok q) × AreLeft rest q
+unfolding version_at word_at
+version_again p rest left =
+    let line = keyed_again (codes "matroids") p (codes "1" ∷ []) rest refl refl left in
+    (line.0, rw (line.1, ended_again p.line) refl, line.2)
+
+end_found : (p q : LinesLeft) → end_at p ≡ Ok q → (rest : List Line) → AreLeft rest q → AreLeft (end_line ∷ rest) p
+unfolding end_at
+end_found p q e rest left =
+    let line = bind_found (keyed_at (codes "end") p) (λ line. ended_at line.0 >>= λ end. Ok line.1) q e in
+    let end = bind_found (ended_at line.0.0) (λ end. Ok line.0.1) q line.2 in
+    let behind : AreLeft rest line.0.1 = subst (λ (x : LinesLeft). AreLeft rest x) (sym (found-same line.0.1 q end.2)) left in
+    subst (λ (ws : Line). AreLeft ((codes "end" ∷ ws) ∷ rest) p) (ended_found line.0.0 end.0 end.1) (keyed_found (codes "end") p line.0.0 line.0.1 line.1 rest behind)
+
+end_again : (p : LinesLeft) (rest : List Line) → AreLeft (end_line ∷ rest) p → (q : LinesLeft) × (end_at p ≡ Ok q) × AreLeft rest q
+unfolding end_at
+end_again p rest left =
+    let line = keyed_again (codes "end") p [] rest refl refl left in
+    (line.0, rw (line.1, ended_again p.line) refl, line.2)
+
+no_items : {A : Type 0} (xs : List A) → length xs ≡ 0 → xs ≡ []
+no_items [] e = refl
+no_items (x ∷ xs) e = absurd (omega arith)
+
+one_empty : (lines : List (List ℕ)) → is_closed lines ≡ true → lines ≡ [] ∷ []
+one_empty [] e = absurd cc
+one_empty (line ∷ lines) e =
+    let both = and_parts (eqb (length line) 0) (eqb (length lines) 0) e in
+    rw (no_items line (eqb-true (length line) 0 both.0), no_items lines (eqb-true (length lines) 0 both.1)) refl
+
+closed_found : (p : LinesLeft) (u : Unit {0}) → closed_at p ≡ Ok u → AreLeft [] p
+unfolding closed_at
+closed_found p u e = record { same = one_empty p.lines (test_found (is_closed p.lines) (TooManyLines, p.line) (Ok tt) u e).0 }
+
+closed_again : (p : LinesLeft) → AreLeft [] p → closed_at p ≡ Ok tt
+unfolding closed_at
+closed_again p left = rw left.same refl
+
+-- ---- weights
+
+-- a weights line was read
+record IsWeightsLineRead (n : ℕ) (p : LinesLeft) (weights : List ℤ) (q : LinesLeft) : Type 0 where
+  count : length weights ≡ n
+  valid : n ≤ 500 → AreWeights weights
+  spelled : (rest : List Line) → AreLeft rest q → AreLeft ((codes "weights" ∷ map numeral weights) ∷ rest) p
+
+weights_line_found : (n : ℕ) (p : LinesLeft) (weights : List ℤ) (q : LinesLeft) → weights_at n p ≡ Ok (weights, q) → IsWeightsLineRead n p weights q
+unfolding weights_at
+weights_line_found n p weights q e =
+    let line = bind_found (keyed_at (codes "weights") p) (λ line. repeat_at weight_at n line.0 >>= λ weights. ended_at weights.1 >>= λ end. Ok (weights.0, line.1)) (weights, q) e in
+    let all = bind_found (repeat_at weight_at n line.0.0) (λ weights. ended_at weights.1 >>= λ end. Ok (weights.0, line.0.1)) (weights, q) line.2 in
+    let end = bind_found (ended_at all.0.1) (λ end. Ok (all.0.0, line.0.1)) (weights, q) all.2 in
+    let same = found-same (all.0.0, line.0.1) (weights, q) end.2 in
+    let read = weights_found n line.0.0 all.0.0 all.0.1 all.1 in
+    let last = ended_found all.0.1 end.0 end.1 in
+    let one : IsWeightsLineRead n p all.0.0 line.0.1 = record {
+        count = read.count;
+        valid = λ few. (omega (arith, read.count), read.each);
+        spelled = λ rest left. subst (λ (ws : Line). AreLeft ((codes "weights" ∷ ws) ∷ rest) p) (weights_words_only all.0.0 line.0.0.words all.0.1.words read.cut last) (keyed_found (codes "weights") p line.0.0 line.0.1 line.1 rest left);
+      } in
+    subst (λ (r : List ℤ × LinesLeft). IsWeightsLineRead n p r.0 r.1) same one
+  where
+    weights_words_only : (all : List ℤ) (words after : List (List ℕ)) → words ≡ map numeral all ++ after → after ≡ [] → words ≡ map numeral all
+    weights_words_only all words after cut none = cut ∙ rw none (append-nil (map numeral all))
+
+weights_line_again : (p : LinesLeft) (weights : List ℤ) (rest : List Line) → AreWeights weights → AreLeft ((codes "weights" ∷ map numeral weights) ∷ rest) p
+    → (q : LinesLeft) × (weights_at (length weights) p ≡ Ok (weights, q)) × AreLeft rest q
+unfolding weights_at
+weights_line_again p weights rest valid left =
+    let line = keyed_again (codes "weights") p (map numeral weights) rest refl (weights_words weights) left in
+    (line.0, rw (line.1, weights_again p.line weights valid.1, ended_again p.line) refl, line.2)
+
+-- ---- forms
+
+-- the word that names a form
+abbrev form_spelling : Form → List ℕ
+form_spelling forms.Pair = codes "pair"
+
+some_form : (a b : Form) → Some a ≡ Some b → a ≡ b
+some_form a b e = cc
+
+form_found : (word : List ℕ) (form : Form) → form_of word ≡ Some form → word ≡ form_spelling form
+form_found word form e = first (bytes_eq word (codes "pair")) refl e
+  where
+    first : (a : Bool) → bytes_eq word (codes "pair") ≡ a → cond a (Some forms.Pair) None ≡ Some form → word ≡ form_spelling form
+    first true p h = (bytes_eq-Decides word (codes "pair")).0 p ∙ ap form_spelling (some_form forms.Pair form h)
+    first false p h = absurd cc
+
+-- a problem was read from the words behind the form's word on
+record IsFormRead (form : Form) (words : WordsLeft) (lines : LinesLeft) (instance : Instance) (q : LinesLeft) : Type 0 where
+  valid : IsValid instance
+  spelled : AreLeft (end_line ∷ []) q → (more : List Line) × AreLeft more lines × InstanceLines instance (version_line ∷ (form_spelling form ∷ words.words) ∷ more)
+
+pair_found : (words : WordsLeft) (lines : LinesLeft) (instance : Instance) (q : LinesLeft) → pair_at words lines ≡ Ok (instance, q) → IsFormRead forms.Pair words lines instance q
+unfolding pair_at
+pair_found words lines instance q e =
+    let count = bind_found (count_at 0 501 words) (λ count. ended_at count.1 >>= λ end. weights_at count.0 lines >>= λ weights. matroid_at count.0 weights.1 >>= λ first. matroid_at count.0 first.1 >>= λ second. Ok (pair weights.0 first.0 second.0, second.1)) (instance, q) e in
+    let end = bind_found (ended_at count.0.1) (λ end. weights_at count.0.0 lines >>= λ weights. matroid_at count.0.0 weights.1 >>= λ first. matroid_at count.0.0 first.1 >>= λ second. Ok (pair weights.0 first.0 second.0, second.1)) (instance, q) count.2 in
+    let weights = bind_found (weights_at count.0.0 lines) (λ weights. matroid_at count.0.0 weights.1 >>= λ first. matroid_at count.0.0 first.1 >>= λ second. Ok (pair weights.0 first.0 second.0, second.1)) (instance, q) end.2 in
+    let first = bind_found (matroid_at count.0.0 weights.0.1) (λ first. matroid_at count.0.0 first.1 >>= λ second. Ok (pair weights.0.0 first.0 second.0, second.1)) (instance, q) weights.2 in
+    let second = bind_found (matroid_at count.0.0 first.0.1) (λ second. Ok (pair weights.0.0 first.0.0 second.0, second.1)) (instance, q) first.2 in
+    let same = found-same (pair weights.0.0 first.0.0 second.0.0, second.0.1) (instance, q) second.2 in
+    let number = count_found 0 501 words count.0.0 count.0.1 count.1 in
+    let last = ended_found count.0.1 end.0 end.1 in
+    let all = weights_line_found count.0.0 lines weights.0.0 weights.0.1 weights.1 in
+    let one = matroid_found count.0.0 weights.0.1 first.0.0 first.0.1 first.1 in
+    let two = matroid_found count.0.0 first.0.1 second.0.0 second.0.1 second.1 in
+    let few : count.0.0 ≤ 500 = omega (arith, number.most) in
+    let line : words.words ≡ numeral (pos (length weights.0.0)) ∷ [] = number.cut ∙ ap (λ (t : Line). numeral (pos count.0.0) ∷ t) last ∙ ap (λ (k : ℕ). numeral (pos k) ∷ []) (sym all.count) in
+    let whole : IsFormRead forms.Pair words lines (pair weights.0.0 first.0.0 second.0.0) second.0.1 = record {
+        valid = (all.valid few, rw all.count one.valid, rw all.count two.valid);
+        spelled = λ left.
+          let behind = two.spelled (end_line ∷ []) left in
+          let before = one.spelled behind.0 behind.1 in
+          ((codes "weights" ∷ map numeral weights.0.0) ∷ before.0, all.spelled before.0 before.1,
+            (before.0, behind.0, ap (λ (t : Line). version_line ∷ (codes "pair" ∷ t) ∷ (codes "weights" ∷ map numeral weights.0.0) ∷ before.0) line, before.2, behind.2));
+      } in
+    subst (λ (r : Instance × LinesLeft). IsFormRead forms.Pair words lines r.0 r.1) same whole
+
+any_form_found : (line : ℕ) (form : Form) (words : WordsLeft) (lines : LinesLeft) (instance : Instance) (q : LinesLeft) → form_at line (Some form) words lines ≡ Ok (instance, q) → IsFormRead form words lines instance q
+any_form_found line forms.Pair words lines instance q e = pair_found words lines instance q e
+
+-- ---- whole texts
+
+-- a problem was read from its form line on
+record IsInstanceRead (p : LinesLeft) (instance : Instance) (q : LinesLeft) : Type 0 where
+  valid : IsValid instance
+  spelled : AreLeft (end_line ∷ []) q → (lines : List Line) × AreLeft lines p × InstanceLines instance (version_line ∷ lines)
+
+instance_found : (p : LinesLeft) (instance : Instance) (q : LinesLeft) → instance_at p ≡ Ok (instance, q) → IsInstanceRead p instance q
+unfolding instance_at
+instance_found p instance q e =
+    let line = bind_found (line_at p) (λ line. word_at line.0 >>= λ word. form_at p.line (form_of word.0) word.1 line.1) (instance, q) e in
+    let word = bind_found (word_at line.0.0) (λ word. form_at p.line (form_of word.0) word.1 line.0.1) (instance, q) line.2 in
+    form word.0.0 word.0.1 line.0.0 line.0.1 (form_of word.0.0) refl word.2 (word_found line.0.0 word.0.0 word.0.1 word.1) (line_found p line.0.0 line.0.1 line.1)
+  where
+    form : (first : List ℕ) (words line : WordsLeft) (lines : LinesLeft) (o : Option Form) → form_of first ≡ o → form_at p.line o words lines ≡ Ok (instance, q)
+        → line.words ≡ first ∷ words.words → ((rest : List Line) → AreLeft rest lines → AreLeft (line.words ∷ rest) p) → IsInstanceRead p instance q
+    form first words line lines None is h cut written = absurd cc
+    form first words line lines (Some named) is h cut written =
+        let read = any_form_found p.line named words lines instance q h in
+        let whole : line.words ≡ form_spelling named ∷ words.words = cut ∙ ap (λ (t : List ℕ). t ∷ words.words) (form_found first named is) in
+        record {
+          valid = read.valid;
+          spelled = λ left.
+            let behind = read.spelled left in
+            ((form_spelling named ∷ words.words) ∷ behind.0, subst (λ (t : Line). AreLeft (t ∷ behind.0) p) whole (written behind.0 behind.1), behind.2);
+        }
+
+-- texts with the same lines are the same
+same_text : (first second : List ℕ) → lines_of first ≡ lines_of second → first ≡ second
+same_text first second e = sym (join_with_byte-slice_split 10 first) ∙ ap (join_with_byte 10) e ∙ join_with_byte-slice_split 10 second
+
+pub description_found : (text : List ℕ) (instance : Instance) → read_of text ≡ Ok instance → Spells text instance
+unfolding description_at
+description_found text instance e =
+    let p : LinesLeft = record { line = 1; lines = lines_of text } in
+    let form = bind_found (version_at p) (λ form. instance_at form >>= λ instance. end_at instance.1 >>= λ rest. closed_at rest >>= λ close. Ok instance.0) instance e in
+    let body = bind_found (instance_at form.0) (λ instance. end_at instance.1 >>= λ rest. closed_at rest >>= λ close. Ok instance.0) instance form.2 in
+    let rest = bind_found (end_at body.0.1) (λ rest. closed_at rest >>= λ close. Ok body.0.0) instance body.2 in
+    let close = bind_found (closed_at rest.0) (λ close. Ok body.0.0) instance rest.2 in
+    let same = found-same body.0.0 instance close.2 in
+    let read = instance_found form.0 body.0.0 body.0.1 body.1 in
+    let ended = end_found body.0.1 rest.0 rest.1 [] (closed_found rest.0 close.0 close.1) in
+    let behind = read.spelled ended in
+    let whole = version_found p form.0 form.1 behind.0 behind.1 in
+    let spelled : Spells text body.0.0 = record { valid = read.valid; lines = version_line ∷ behind.0; spelled = behind.2; whole = same_text text (text_of (version_line ∷ behind.0)) whole.same } in
+    subst (λ (i : Instance). Spells text i) same spelled
+
+instance_again : (p : LinesLeft) (instance : Instance) (lines : List Line) → IsValid instance → InstanceLines instance lines → AreLeft lines p
+    → (form : LinesLeft) × (q : LinesLeft) × (version_at p ≡ Ok form) × (instance_at form ≡ Ok (instance, q)) × AreLeft (end_line ∷ []) q
+unfolding instance_at word_at pair_at
+instance_again p (pair weights first second) lines valid spelled left =
+    let n = length weights in
+    let whole = subst (λ (ls : List Line). AreLeft ls p) spelled.2 left in
+    let head = version_again p ((codes "pair" ∷ numeral (pos (length weights)) ∷ []) ∷ (codes "weights" ∷ map numeral weights) ∷ spelled.0) whole in
+    let number_word : list_all is_word (codes "pair" ∷ numeral (pos (length weights)) ∷ []) ≡ true = and_from (is_word (numeral (pos (length weights)))) true (numeral_word (pos (length weights))) refl in
+    let line = line_again head.0 (codes "pair" ∷ numeral (pos (length weights)) ∷ []) ((codes "weights" ∷ map numeral weights) ∷ spelled.0) (omega arith) number_word head.2 in
+    let number = count_again 0 501 head.0.line (length weights) [] (omega arith) (omega (arith, valid.0.0)) in
+    let all = weights_line_again line.0 weights spelled.0 valid.0 line.2 in
+    let one = matroid_again (length weights) all.0 first spelled.0 spelled.1 valid.1 spelled.3 all.2 in
+    let two = matroid_again (length weights) one.0 second spelled.1 (end_line ∷ []) valid.2 spelled.4 one.2 in
+    (head.0, two.0, head.1, rw (line.1, number, ended_again head.0.line, all.1, one.1, two.1) refl, two.2)
+
+pub description_again : (text : List ℕ) (instance : Instance) → Spells text instance → read_of text ≡ Ok instance
+unfolding description_at
+description_again text instance s =
+    let p : LinesLeft = record { line = 1; lines = lines_of text } in
+    let left : AreLeft s.lines p = record { same = ap lines_of s.whole } in
+    let read = instance_again p instance s.lines s.valid s.spelled left in
+    let end = end_again read.1 [] read.4 in
+    rw (read.2, read.3, end.1, closed_again end.0 end.2) refl

@@ -1,0 +1,12 @@
+pub mod Repeats
+pub mod ElementLists
+pub mod Closing
+pub mod Classes
+pub mod ReadingSteps
+pub mod WordLaws
+pub mod LineLaws
+pub mod ElementLaws
+pub mod ClassLaws
+pub mod MatroidLaws
+pub mod InstanceLaws
+pub mod ProblemLaws

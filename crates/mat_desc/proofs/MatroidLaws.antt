@@ -1,0 +1,133 @@
+-- The lines of a matroid: what is read is spelled so, and what is spelled so is read. Each kind has a law in both directions for what
+-- stands behind its keyword.
+use Rattle.std.proofs.Common.{◌≡◌, ℕ, zero, suc, ◌+◌, ◌≤◌, ◌<◌, Bool, true, false, cond, List, [], ◌∷◌, length, pos, Option, Some, None, Result, Ok, Err, refl, sym, ap, subst, ◌∙◌, arith, inl, inr}
+use Rattle.std.specs.Prelude.{codes, bytes_eq}
+use Rattle.std.specs.List.{list_all}
+use Rattle.std.proofs.lemmas.Bool.{cases_Bool, and_from}
+use Rattle.std.proofs.lemmas.Slice.Eq.{bytes_eq-Decides}
+use Rattle.mat_sets.specs.Families.{indicator, multiplicity}
+use Rattle.mat_words.specs.Words.{is_word}
+use Rattle.mat_words.specs.Numbers.{numeral}
+use Rattle.mat_words.proofs.NumberLemmas.{numeral_word}
+use Rattle.mat_any.specs.Trees.{Tree, uniform, partition}
+use Rattle.mat_words.specs.Lines.{Line}
+use Rattle.mat_desc.specs.declared.keywords.Keyword.{Keyword}
+use Rattle.mat_desc.specs.declared.keywords.Keyword.TheVariants as keywords
+use Rattle.mat_desc.specs.Faults.{Fault, ◌>>=◌, WordsLeft, LinesLeft}
+use Rattle.mat_desc.specs.Reading.{line_at, word_at, count_at, ended_at, classes_at, uniform_at, partition_at, keyword_of, kind_at, matroid_at}
+use Rattle.mat_desc.specs.Grammar.{IsValidMatroid, AreClasses, MatroidLines}
+use Rattle.mat_desc.proofs.ReadingSteps.{found, found-same, bind_found}
+use Rattle.mat_desc.proofs.WordLaws.{word_found, ended_found, ended_again, count_found, count_again}
+use Rattle.mat_desc.proofs.LineLaws.{AreLeft, line_found, line_again}
+use Rattle.mat_desc.proofs.ClassLaws.{classes_read, classes_again, classes_valid}
+
+-- ---- keywords
+
+-- the word that a keyword is
+abbrev pub spelling_of : Keyword → List ℕ
+spelling_of keywords.Uniform = codes "uniform"
+spelling_of keywords.Partition = codes "partition"
+
+word_equal : (word key : List ℕ) → bytes_eq word key ≡ true → word ≡ key
+word_equal word key e = (bytes_eq-Decides word key).0 e
+
+some_same : (a b : Keyword) → Some a ≡ Some b → a ≡ b
+some_same a b e = cc
+
+pub keyword_found : (word : List ℕ) (keyword : Keyword) → keyword_of word ≡ Some keyword → word ≡ spelling_of keyword
+keyword_found word keyword e = first (bytes_eq word (codes "uniform")) (bytes_eq word (codes "partition")) refl refl e
+  where
+    first : (a b : Bool) → bytes_eq word (codes "uniform") ≡ a → bytes_eq word (codes "partition") ≡ b → cond a (Some keywords.Uniform) (cond b (Some keywords.Partition) None) ≡ Some keyword → word ≡ spelling_of keyword
+    first true b p q h = word_equal word (codes "uniform") p ∙ ap spelling_of (some_same keywords.Uniform keyword h)
+    first false true p q h = word_equal word (codes "partition") q ∙ ap spelling_of (some_same keywords.Partition keyword h)
+    first false false p q h = absurd cc
+
+-- ---- one kind
+
+-- a matroid was read from the words behind its keyword on
+pub record IsKindRead (n : ℕ) (keyword : Keyword) (words : WordsLeft) (lines : LinesLeft) (tree : Tree) (q : LinesLeft) : Type 0 where
+  pub valid : IsValidMatroid n tree
+  pub spelled : (rest : List Line) → AreLeft rest q → (more : List Line) × AreLeft more lines × MatroidLines tree ((spelling_of keyword ∷ words.words) ∷ more) rest
+
+uniform_found : (n : ℕ) (words : WordsLeft) (lines : LinesLeft) (tree : Tree) (q : LinesLeft) → uniform_at n words lines ≡ Ok (tree, q) → IsKindRead n keywords.Uniform words lines tree q
+unfolding uniform_at
+uniform_found n words lines tree q e =
+    let cap = bind_found (count_at 0 501 words) (λ cap. ended_at cap.1 >>= λ end. Ok (uniform n cap.0, lines)) (tree, q) e in
+    let end = bind_found (ended_at cap.0.1) (λ end. Ok (uniform n cap.0.0, lines)) (tree, q) cap.2 in
+    let same = found-same (uniform n cap.0.0, lines) (tree, q) end.2 in
+    let number = count_found 0 501 words cap.0.0 cap.0.1 cap.1 in
+    let last = ended_found cap.0.1 end.0 end.1 in
+    let line : words.words ≡ numeral (pos cap.0.0) ∷ [] = number.cut ∙ ap (λ (t : Line). numeral (pos cap.0.0) ∷ t) last in
+    let one : IsKindRead n keywords.Uniform words lines (uniform n cap.0.0) lines = record {
+        valid = ((refl, omega (arith, number.most)), omega arith);
+        spelled = λ rest left. (rest, left, ap (λ (t : Line). (codes "uniform" ∷ t) ∷ rest) line);
+      } in
+    subst (λ (r : Tree × LinesLeft). IsKindRead n keywords.Uniform words lines r.0 r.1) same one
+
+partition_found : (n : ℕ) (words : WordsLeft) (lines : LinesLeft) (tree : Tree) (q : LinesLeft) → partition_at n words lines ≡ Ok (tree, q) → IsKindRead n keywords.Partition words lines tree q
+unfolding partition_at
+partition_found n words lines tree q e =
+    let many = bind_found (count_at 0 501 words) (λ many. ended_at many.1 >>= λ end. classes_at n many.0 [] lines >>= λ classes. Ok (partition n classes.0 classes.1, classes.2)) (tree, q) e in
+    let end = bind_found (ended_at many.0.1) (λ end. classes_at n many.0.0 [] lines >>= λ classes. Ok (partition n classes.0 classes.1, classes.2)) (tree, q) many.2 in
+    let classes = bind_found (classes_at n many.0.0 [] lines) (λ classes. Ok (partition n classes.0 classes.1, classes.2)) (tree, q) end.2 in
+    let same = found-same (partition n classes.0.0 classes.0.1, classes.0.2) (tree, q) classes.2 in
+    let number = count_found 0 501 words many.0.0 many.0.1 many.1 in
+    let last = ended_found many.0.1 end.0 end.1 in
+    let read = classes_read n many.0.0 [] lines classes.0.0 classes.0.1 classes.0.2 classes.1 in
+    let few : many.0.0 ≤ 500 = omega (arith, number.most) in
+    let line : words.words ≡ numeral (pos (length classes.0.0)) ∷ [] = number.cut ∙ ap (λ (t : Line). numeral (pos many.0.0) ∷ t) last ∙ ap (λ (k : ℕ). numeral (pos k) ∷ []) (sym read.count) in
+    let one : IsKindRead n keywords.Partition words lines (partition n classes.0.0 classes.0.1) classes.0.2 = record {
+        valid = ((refl, classes_valid n many.0.0 lines classes.0.0 classes.0.1 classes.0.2 few read), omega arith);
+        spelled = λ rest left.
+          let behind = read.spelled rest left in
+          (behind.0, behind.2, (behind.0, ap (λ (t : Line). (codes "partition" ∷ t) ∷ behind.0) line, behind.1));
+      } in
+    subst (λ (r : Tree × LinesLeft). IsKindRead n keywords.Partition words lines r.0 r.1) same one
+
+kind_found : (n line : ℕ) (keyword : Keyword) (words : WordsLeft) (lines : LinesLeft) (tree : Tree) (q : LinesLeft) → kind_at n line (Some keyword) words lines ≡ Ok (tree, q) → IsKindRead n keyword words lines tree q
+kind_found n line keywords.Uniform words lines tree q e = uniform_found n words lines tree q e
+kind_found n line keywords.Partition words lines tree q e = partition_found n words lines tree q e
+
+-- ---- any matroid
+
+-- a matroid was read
+pub record IsMatroidRead (n : ℕ) (p : LinesLeft) (tree : Tree) (q : LinesLeft) : Type 0 where
+  pub valid : IsValidMatroid n tree
+  pub spelled : (rest : List Line) → AreLeft rest q → (lines : List Line) × AreLeft lines p × MatroidLines tree lines rest
+
+pub matroid_found : (n : ℕ) (p : LinesLeft) (tree : Tree) (q : LinesLeft) → matroid_at n p ≡ Ok (tree, q) → IsMatroidRead n p tree q
+unfolding matroid_at
+matroid_found n p tree q e =
+    let line = bind_found (line_at p) (λ line. word_at line.0 >>= λ word. kind_at n p.line (keyword_of word.0) word.1 line.1) (tree, q) e in
+    let word = bind_found (word_at line.0.0) (λ word. kind_at n p.line (keyword_of word.0) word.1 line.0.1) (tree, q) line.2 in
+    kind word.0.0 word.0.1 line.0.0 line.0.1 (keyword_of word.0.0) refl word.2 (word_found line.0.0 word.0.0 word.0.1 word.1) (line_found p line.0.0 line.0.1 line.1)
+  where
+    kind : (first : List ℕ) (words line : WordsLeft) (lines : LinesLeft) (o : Option Keyword) → keyword_of first ≡ o → kind_at n p.line o words lines ≡ Ok (tree, q)
+        → line.words ≡ first ∷ words.words → ((rest : List Line) → AreLeft rest lines → AreLeft (line.words ∷ rest) p) → IsMatroidRead n p tree q
+    kind first words line lines None is h cut written = absurd cc
+    kind first words line lines (Some keyword) is h cut written =
+        let read = kind_found n p.line keyword words lines tree q h in
+        let whole : line.words ≡ spelling_of keyword ∷ words.words = cut ∙ ap (λ (t : List ℕ). t ∷ words.words) (keyword_found first keyword is) in
+        record {
+          valid = read.valid;
+          spelled = λ rest left.
+            let behind = read.spelled rest left in
+            ((spelling_of keyword ∷ words.words) ∷ behind.0, subst (λ (t : Line). AreLeft (t ∷ behind.0) p) whole (written behind.0 behind.1), behind.2);
+        }
+
+pub matroid_again : (n : ℕ) (p : LinesLeft) (tree : Tree) (lines rest : List Line) → IsValidMatroid n tree → MatroidLines tree lines rest → AreLeft lines p
+    → (q : LinesLeft) × (matroid_at n p ≡ Ok (tree, q)) × AreLeft rest q
+unfolding matroid_at word_at uniform_at partition_at multiplicity
+matroid_again n p (uniform m cap) lines rest valid spelled left =
+    let number_word : list_all is_word (codes "uniform" ∷ numeral (pos cap) ∷ []) ≡ true = and_from (is_word (numeral (pos cap))) true (numeral_word (pos cap)) refl in
+    let line = line_again p (codes "uniform" ∷ numeral (pos cap) ∷ []) rest (omega arith) number_word (subst (λ (ls : List Line). AreLeft ls p) spelled left) in
+    let number = count_again 0 501 p.line cap [] (omega arith) (omega (arith, valid.0.1)) in
+    (line.0, rw (line.1, number, ended_again p.line, valid.0.0) refl, line.2)
+matroid_again n p (partition m classes caps) lines rest valid spelled left =
+    let ranged : AreClasses n classes caps = valid.0.1 in
+    let many = length classes in
+    let number_word : list_all is_word (codes "partition" ∷ numeral (pos (length classes)) ∷ []) ≡ true = and_from (is_word (numeral (pos (length classes)))) true (numeral_word (pos (length classes))) refl in
+    let line = line_again p (codes "partition" ∷ numeral (pos (length classes)) ∷ []) spelled.0 (omega arith) number_word (subst (λ (ls : List Line). AreLeft ls p) spelled.1 left) in
+    let number = count_again 0 501 p.line (length classes) [] (omega arith) (omega (arith, ranged.few)) in
+    let read = classes_again n [] line.0 classes caps spelled.0 rest ranged.caps_small ranged.sets (λ x. omega (arith, ranged.disjoint.once x)) spelled.2 line.2 in
+    (read.0, rw (line.1, number, ended_again p.line, read.1, valid.0.0) refl, read.2)

@@ -1,0 +1,81 @@
+-- What is known of a problem that was read.
+use Rattle.std.proofs.Common.{◌≡◌, ℕ, List, length, ◌⊎◌, inl, inr, Result, Ok, Err, IfOk, refl, sym, ap, subst, ◌∙◌}
+use Rattle.std.specs.List.{All}
+use Rattle.std.proofs.lemmas.List.Elements.{All-weaker}
+use Rattle.mat_sets.specs.Sets.{IsSet, AllBelow}
+use Rattle.mat_any.specs.Trees.{Tree, uniform, partition, element_count, IsSound}
+use Rattle.mat_desc.specs.declared.refusal.DescRefusal.{DescRefusal}
+use Rattle.mat_desc.specs.declared.refusal.DescRefusal.TheVariants as refusals
+use Rattle.mat_desc.specs.Faults.{Fault, Fails, Gives}
+use Rattle.mat_desc.specs.Grammar.{IsValidTree, IsValid, Spells}
+use Rattle.mat_desc.specs.Instances.{Instance, pair}
+use Rattle.mat_desc.specs.Reading.{read_of}
+use Rattle.mat_desc.specs.Soundness.{IsSoundInstance}
+use Rattle.mat_desc.proofs.InstanceLaws.{description_found, description_again}
+
+-- a matroid in range is sound
+IsSound-valid : (n : ℕ) (tree : Tree) → IsValidTree n tree → IsSound tree × (element_count tree ≡ n)
+IsSound-valid n (uniform m cap) valid = (tt, valid.0)
+IsSound-valid n (partition m classes caps) valid =
+    (record {
+        capped = valid.1.as_many;
+        inside = subst (λ (k : ℕ). All (AllBelow k) classes) (sym valid.0) (All-weaker (IsSet n) (AllBelow n) (λ class set. set.below) classes valid.1.sets);
+        disjoint = valid.1.disjoint;
+      }, valid.0)
+
+pub IsSoundInstance-valid : (instance : Instance) → IsValid instance → IsSoundInstance instance
+IsSoundInstance-valid (pair weights first second) valid =
+    let one = IsSound-valid (length weights) first valid.1.0 in
+    let two = IsSound-valid (length weights) second valid.2.0 in
+    (one.0, one.1, two.0, two.1)
+
+-- an answer that is as the reading gives
+pub gives_found : {X : Type 0} (view : X → Instance) (text : List ℕ) (result : Result X DescRefusal) → Gives view result (read_of text) → IfOk result (λ x. Spells text (view x))
+gives_found view text (Ok x) gives = description_found text (view x) gives
+gives_found view text (Err refusal) gives = tt
+
+pub gives_only : {X : Type 0} (view : X → Instance) (text : List ℕ) (result : Result X DescRefusal) → Gives view result (read_of text) → (instance : Instance) → Spells text instance → Gives view result (Ok instance)
+gives_only view text (Ok x) gives instance spelled = sym (description_again text instance spelled) ∙ gives
+gives_only view text (Err refusals.Memory) gives instance spelled = tt
+gives_only view text (Err (refusals.Fault kind line)) gives instance spelled = sym (description_again text instance spelled) ∙ gives
+
+pub gives_valid : {X : Type 0} (view : X → Instance) (text : List ℕ) (result : Result X DescRefusal) → Gives view result (read_of text) → IfOk result (λ x. IsValid (view x))
+gives_valid view text (Ok x) gives = (description_found text (view x) gives).valid
+gives_valid view text (Err refusal) gives = tt
+
+pub gives_sound : {X : Type 0} (view : X → Instance) (text : List ℕ) (result : Result X DescRefusal) → Gives view result (read_of text) → IfOk result (λ x. IsSoundInstance (view x))
+gives_sound view text (Ok x) gives = IsSoundInstance-valid (view x) (description_found text (view x) gives).valid
+gives_sound view text (Err refusal) gives = tt
+
+-- ---- any text
+
+abbrev problem : Instance → Result Instance Fault
+problem instance = Ok instance
+
+abbrev no_problem : Fault → Result Instance Fault
+no_problem fault = Err fault
+
+same_problem : (first second : Instance) → problem first ≡ problem second → first ≡ second
+same_problem first second e = cc
+
+same_fault : (first second : Fault) → no_problem first ≡ no_problem second → first ≡ second
+same_fault first second e = cc
+
+pub one_problem : (text : List ℕ) (first second : Instance) → Spells text first → Spells text second → first ≡ second
+one_problem text first second s t = same_problem first second (sym (description_again text first s) ∙ description_again text second t)
+
+pub either : (text : List ℕ) → ((instance : Instance) × Spells text instance) ⊎ ((fault : Fault) × (read_of text ≡ Err fault))
+either text = from (read_of text) refl
+  where
+    from : (r : Result Instance Fault) → read_of text ≡ r → ((instance : Instance) × Spells text instance) ⊎ ((fault : Fault) × (read_of text ≡ Err fault))
+    from (Ok instance) e = inl (instance, description_found text instance e)
+    from (Err fault) e = inr (fault, e)
+
+pub never_both : (text : List ℕ) (instance : Instance) (fault : Fault) → Spells text instance → read_of text ≡ Err fault → ⊥
+never_both text instance fault s e = apart (sym (description_again text instance s) ∙ e)
+  where
+    apart : problem instance ≡ no_problem fault → ⊥
+    apart h = cc
+
+pub one_fault : (text : List ℕ) (first second : Fault) → read_of text ≡ Err first → read_of text ≡ Err second → first ≡ second
+one_fault text first second d e = same_fault first second (sym d ∙ e)

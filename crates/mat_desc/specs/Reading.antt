@@ -1,0 +1,229 @@
+-- Reading a description: the problem that a text spells, or its first fault. Each function takes what is left of the text or of a line, and
+-- the order of its lines is the order in which faults are looked for.
+use Rattle.std.specs.Prelude.{◌≡◌, ℕ, zero, suc, ◌+◌, ◌-ℤ◌, ℤ, pos, nat_abs, neg_ℤ, ◌^◌, Bool, false, not, ◌&&◌, List, [], ◌∷◌, length, Option, Some, None, Result, Ok, Err, ◌==◌, if◌then◌else◌, bytes_eq, codes}
+use Rattle.mat_sets.specs.Sets.{is_member, with_one}
+use Rattle.mat_words.specs.Lines.{lines_of}
+use Rattle.mat_words.specs.Words.{words_of, is_well_spaced}
+use Rattle.mat_words.specs.Numbers.{number_in}
+use Rattle.mat_words.specs.declared.numbers.NumberFault.{NumberFault}
+use Rattle.mat_words.specs.declared.numbers.NumberFault.TheVariants.{Spelling, Range}
+use Rattle.mat_any.specs.Trees.{Tree, uniform, partition}
+use Rattle.mat_desc.specs.declared.refusal.DescKind.TheVariants as kinds
+use Rattle.mat_desc.specs.declared.keywords.Form.{Form}
+use Rattle.mat_desc.specs.declared.keywords.Form.TheVariants as forms
+use Rattle.mat_desc.specs.declared.keywords.Keyword.{Keyword}
+use Rattle.mat_desc.specs.declared.keywords.Keyword.TheVariants as keywords
+use Rattle.mat_desc.specs.Faults.{Fault, ◌>>=◌, WordsLeft, LinesLeft}
+use Rattle.mat_desc.specs.Instances.{Instance, pair}
+
+-- ---- lines
+
+-- the line with number n, which is needed, has to be ended and well spaced and to have words
+abbrev pub line_from : ℕ → List (List ℕ) → Result (WordsLeft × LinesLeft) Fault
+line_from n [] = Err (kinds.EndsEarly, n)
+line_from n (line ∷ lines) =
+    if length lines == 0 then Err (kinds.EndsEarly, n) else
+    (if not (is_well_spaced line) then Err (kinds.BadByte, n) else
+    (if length line == 0 then Err (kinds.TooFewWords, n) else
+    Ok (record { line = n; words = words_of line }, record { line = n + 1; lines = lines })))
+
+-- the words of the next line, and the lines behind it
+unfoldable pub line_at : LinesLeft → Result (WordsLeft × LinesLeft) Fault
+line_at p = line_from p.line p.lines
+
+-- ---- the words of a line
+
+-- the next word of line n, which is needed
+abbrev pub word_from : ℕ → List (List ℕ) → Result (List ℕ × WordsLeft) Fault
+word_from n [] = Err (kinds.TooFewWords, n)
+word_from n (word ∷ words) = Ok (word, record { line = n; words = words })
+
+-- the next word, and the words behind it
+unfoldable pub word_at : WordsLeft → Result (List ℕ × WordsLeft) Fault
+word_at p = word_from p.line p.words
+
+-- the fault of a word where a number is needed
+abbrev pub number_as : ℕ → List (List ℕ) → Result ℤ NumberFault → Result (ℤ × WordsLeft) Fault
+number_as n words (Ok z) = Ok (z, record { line = n; words = words })
+number_as n words (Err Spelling) = Err (kinds.NumberSpelling, n)
+number_as n words (Err Range) = Err (kinds.NumberRange, n)
+
+-- the next word of line n as a number in low..high
+abbrev pub number_from : ℤ → ℤ → ℕ → List (List ℕ) → Result (ℤ × WordsLeft) Fault
+number_from low high n [] = Err (kinds.TooFewWords, n)
+number_from low high n (word ∷ words) = number_as n words (number_in low high word)
+
+-- the next word as a number in low..high
+unfoldable pub number_at : ℤ → ℤ → WordsLeft → Result (ℤ × WordsLeft) Fault
+number_at low high p = number_from low high p.line p.words
+
+-- the next word as a number from low on, below end
+unfoldable pub count_at : ℕ → ℕ → WordsLeft → Result (ℕ × WordsLeft) Fault
+count_at low end p = do
+  number ← number_at (pos low) (pos end -ℤ pos 1) p
+  Ok (nat_abs number.0, number.1)
+
+-- the next word as a weight
+unfoldable pub weight_at : WordsLeft → Result (ℤ × WordsLeft) Fault
+weight_at p = number_at (neg_ℤ (pos (10 ^ 12))) (pos (10 ^ 12)) p
+
+-- no word of line n may be left
+abbrev pub ended_from : ℕ → List (List ℕ) → Result (Unit {0}) Fault
+ended_from n words = if length words == 0 then Ok tt else Err (kinds.TooManyWords, n)
+
+-- no word may be left
+unfoldable pub ended_at : WordsLeft → Result (Unit {0}) Fault
+ended_at p = ended_from p.line p.words
+
+-- as many items, one after the other
+unfoldable pub repeat_at : {A S : Type 0} → (S → Result (A × S) Fault) → ℕ → S → Result (List A × S) Fault
+repeat_at reader zero s = Ok ([], s)
+repeat_at reader (suc n) s = do
+  first ← reader s
+  others ← repeat_at reader n first.1
+  Ok (first.0 ∷ others.0, others.1)
+
+-- The set of the elements below n that are left of line number `line`, and what is taken behind it. An element that is taken, since it stood
+-- in this list before or in an earlier one that shares none with it, is repeated.
+unfoldable pub elements_from : ℕ → ℕ → List ℕ → List ℕ → List (List ℕ) → Result (List ℕ × List ℕ) Fault
+elements_from n line taken set [] = Ok (set, taken)
+elements_from n line taken set (word ∷ words) = do
+  element ← count_at 0 n (record { line = line; words = word ∷ words })
+  if is_member element.0 taken then Err (kinds.Repeated, line) else
+    elements_from n line (with_one taken element.0) (with_one set element.0) words
+
+-- the set of the elements below n that are left of a line, and what is taken behind it
+abbrev pub elements_at : ℕ → List ℕ → WordsLeft → Result (List ℕ × List ℕ) Fault
+elements_at n taken p = elements_from n p.line taken [] p.words
+
+-- ---- lines of a kind
+
+-- a line that begins with this word: the words behind it, and the lines behind it
+unfoldable pub keyed_at : List ℕ → LinesLeft → Result (WordsLeft × LinesLeft) Fault
+keyed_at key p = do
+  line ← line_at p
+  word ← word_at line.0
+  if bytes_eq word.0 key then Ok (word.1, line.1) else Err (kinds.UnknownWord, p.line)
+
+-- the first line, which names the version
+unfoldable pub version_at : LinesLeft → Result LinesLeft Fault
+version_at p = do
+  line ← keyed_at (codes "matroids") p
+  word ← word_at line.0
+  if bytes_eq word.0 (codes "1") then (ended_at word.1 >>= λ end. Ok line.1) else Err (kinds.Version, p.line)
+
+-- the weights line of n elements
+unfoldable pub weights_at : ℕ → LinesLeft → Result (List ℤ × LinesLeft) Fault
+weights_at n p = do
+  line ← keyed_at (codes "weights") p
+  weights ← repeat_at weight_at n line.0
+  end ← ended_at weights.1
+  Ok (weights.0, line.1)
+
+-- the last line
+unfoldable pub end_at : LinesLeft → Result LinesLeft Fault
+end_at p = do
+  line ← keyed_at (codes "end") p
+  end ← ended_at line.0
+  Ok line.1
+
+-- whether no byte is left: no line, and nothing behind the last
+abbrev pub is_closed : List (List ℕ) → Bool
+is_closed [] = false
+is_closed (rest ∷ lines) = (length rest == 0) && (length lines == 0)
+
+-- the end of the text, behind the last line
+unfoldable pub closed_at : LinesLeft → Result (Unit {0}) Fault
+closed_at p = if is_closed p.lines then Ok tt else Err (kinds.TooManyLines, p.line)
+
+-- ---- matroids
+
+-- a class line of a partition of n elements: the cap, the class, what is taken behind it, and the lines behind it
+unfoldable pub class_at : ℕ → List ℕ → LinesLeft → Result (ℕ × List ℕ × List ℕ × LinesLeft) Fault
+class_at n taken p = do
+  line ← keyed_at (codes "class") p
+  cap ← count_at 0 501 line.0
+  elements ← elements_at n taken cap.1
+  Ok (cap.0, elements.0, elements.1, line.1)
+
+-- as many class lines, no two of which share an element: the classes, their caps, and the lines behind them
+unfoldable pub classes_at : ℕ → ℕ → List ℕ → LinesLeft → Result (List (List ℕ) × List ℕ × LinesLeft) Fault
+classes_at n zero taken p = Ok ([], [], p)
+classes_at n (suc many) taken p = do
+  first ← class_at n taken p
+  others ← classes_at n many first.2 first.3
+  Ok (first.1 ∷ others.0, first.0 ∷ others.1, others.2)
+
+-- a uniform matroid on n elements, from the words behind its keyword on
+unfoldable pub uniform_at : ℕ → WordsLeft → LinesLeft → Result (Tree × LinesLeft) Fault
+uniform_at n words lines = do
+  cap ← count_at 0 501 words
+  end ← ended_at cap.1
+  Ok (uniform n cap.0, lines)
+
+-- a partition matroid on n elements, from the words behind its keyword on
+unfoldable pub partition_at : ℕ → WordsLeft → LinesLeft → Result (Tree × LinesLeft) Fault
+partition_at n words lines = do
+  many ← count_at 0 501 words
+  end ← ended_at many.1
+  classes ← classes_at n many.0 [] lines
+  Ok (partition n classes.0 classes.1, classes.2)
+
+-- the keyword of a matroid that a word is, if it is one
+abbrev pub keyword_of : List ℕ → Option Keyword
+keyword_of word = if bytes_eq word (codes "uniform") then Some keywords.Uniform else
+    (if bytes_eq word (codes "partition") then Some keywords.Partition else None)
+
+-- a matroid on n elements, from the words behind its keyword in line number `line` on
+abbrev pub kind_at : ℕ → ℕ → Option Keyword → WordsLeft → LinesLeft → Result (Tree × LinesLeft) Fault
+kind_at n line None words lines = Err (kinds.UnknownWord, line)
+kind_at n line (Some keywords.Uniform) words lines = uniform_at n words lines
+kind_at n line (Some keywords.Partition) words lines = partition_at n words lines
+
+-- a matroid on n elements
+unfoldable pub matroid_at : ℕ → LinesLeft → Result (Tree × LinesLeft) Fault
+matroid_at n p = do
+  line ← line_at p
+  word ← word_at line.0
+  kind_at n p.line (keyword_of word.0) word.1 line.1
+
+-- ---- problems
+
+-- two matroids, from the words behind the form's word on
+unfoldable pub pair_at : WordsLeft → LinesLeft → Result (Instance × LinesLeft) Fault
+pair_at words lines = do
+  count ← count_at 0 501 words
+  end ← ended_at count.1
+  weights ← weights_at count.0 lines
+  first ← matroid_at count.0 weights.1
+  second ← matroid_at count.0 first.1
+  Ok (pair weights.0 first.0 second.0, second.1)
+
+-- the form that a word names, if it names one
+abbrev pub form_of : List ℕ → Option Form
+form_of word = if bytes_eq word (codes "pair") then Some forms.Pair else None
+
+-- a problem, from the words behind the form's word in line number `line` on
+abbrev pub form_at : ℕ → Option Form → WordsLeft → LinesLeft → Result (Instance × LinesLeft) Fault
+form_at line None words lines = Err (kinds.UnknownWord, line)
+form_at line (Some forms.Pair) words lines = pair_at words lines
+
+-- a problem, from its form line on
+unfoldable pub instance_at : LinesLeft → Result (Instance × LinesLeft) Fault
+instance_at p = do
+  line ← line_at p
+  word ← word_at line.0
+  form_at p.line (form_of word.0) word.1 line.1
+
+-- a whole description
+unfoldable pub description_at : LinesLeft → Result Instance Fault
+description_at p = do
+  form ← version_at p
+  instance ← instance_at form
+  rest ← end_at instance.1
+  close ← closed_at rest
+  Ok instance.0
+
+-- what a text says: the problem that it spells, or its first fault
+abbrev pub read_of : List ℕ → Result Instance Fault
+read_of text = description_at (record { line = 1; lines = lines_of text })

@@ -1,0 +1,18 @@
+//! What is left of a text and of a line.
+
+ghost use Rattle.std.specs.Prelude.{◌<◌, ◌+◌, ◌^◌, length};
+
+/// The lines that are left of a text, of which the first has this number.
+#[derive(Clone, Copy)]
+pub struct Lines<'a> {
+    pub line: u32,
+    pub text: &'a [u8],
+    ghost in_range: { line + length text.now < 2 ^ 32 },
+}
+
+/// The words that are left of the line with this number: none, or the parts of these bytes between spaces.
+#[derive(Clone, Copy)]
+pub struct Words<'a> {
+    pub line: u32,
+    pub left: Option<&'a [u8]>,
+}

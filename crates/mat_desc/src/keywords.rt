@@ -1,0 +1,41 @@
+//! The words that begin the line of a form or of a matroid.
+
+ghost use Rattle.std.specs.Prelude.{◌≡◌};
+ghost use Rattle.mat_desc.specs.Reading.{keyword_of, form_of};
+
+/// The form of a problem.
+#[derive(Clone, Copy, Debug, PartialEq, Eq)]
+pub enum Form {
+    Pair,
+}
+
+/// The kind of a matroid.
+#[derive(Clone, Copy, Debug, PartialEq, Eq)]
+pub enum Keyword {
+    Uniform,
+    Partition,
+}
+
+/// The form that a word names.
+pub fn form_from(word: &[u8]) -> Option<Form>
+    ensures { result ≡ form_of word.now }
+{
+    if word == b"pair".as_slice() {
+        Some(Form::Pair)
+    } else {
+        None
+    }
+}
+
+/// The kind that a word names.
+pub fn keyword_from(word: &[u8]) -> Option<Keyword>
+    ensures { result ≡ keyword_of word.now }
+{
+    if word == b"uniform".as_slice() {
+        Some(Keyword::Uniform)
+    } else if word == b"partition".as_slice() {
+        Some(Keyword::Partition)
+    } else {
+        None
+    }
+}

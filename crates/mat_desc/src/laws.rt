@@ -1,0 +1,17 @@
+//! What holds of every text.
+
+ghost use Rattle.std.specs.Prelude.{◌≡◌, ◌↔◌, ◌⊎◌, ℕ, List, Ok, Err};
+ghost use Rattle.mat_desc.specs.Faults.{Fault};
+ghost use Rattle.mat_desc.specs.Grammar.{Spells};
+ghost use Rattle.mat_desc.specs.Instances.{Instance};
+ghost use Rattle.mat_desc.specs.Reading.{read_of};
+
+/// The reading of a text gives exactly the problem that the text spells. So a text spells at most one problem, and it spells one or has
+/// exactly one first fault, and never both.
+pub fn reading_laws()
+    ensures exact { (text : List ℕ) (instance : Instance) → (read_of text ≡ Ok instance) ↔ Spells text instance }
+    ensures one_problem { (text : List ℕ) (first second : Instance) → Spells text first → Spells text second → first ≡ second }
+    ensures either { (text : List ℕ) → ((instance : Instance) × Spells text instance) ⊎ ((fault : Fault) × (read_of text ≡ Err fault)) }
+    ensures never_both { (text : List ℕ) (instance : Instance) (fault : Fault) → Spells text instance → read_of text ≡ Err fault → ⊥ }
+    ensures one_fault { (text : List ℕ) (first second : Fault) → read_of text ≡ Err first → read_of text ≡ Err second → first ≡ second }
+{}

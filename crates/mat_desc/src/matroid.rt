@@ -1,0 +1,122 @@
+//! Reading matroids.
+
+ghost use Rattle.std.specs.Prelude.{◌≡◌, []};
+ghost use Rattle.mat_any.specs.Views.{tree_of};
+ghost use Rattle.mat_desc.specs.Faults.{Gives};
+ghost use Rattle.mat_desc.specs.Reading.{class_at, classes_at, uniform_at, partition_at, matroid_at};
+ghost use Rattle.mat_desc.specs.Views.{lines_left, words_left};
+
+use crate::cursor::{Lines, Words};
+use crate::keywords::{Keyword, keyword_from};
+use crate::reading::{elements_line, ended, keyed_line, next_count, next_line, next_word};
+use crate::refusal::{DescKind, DescRefusal};
+use mat_any::AnyMatroid;
+use mat_count::{Partition, Uniform};
+use mat_sets::{ElemSet, SetList};
+use std::alloc::Global;
+
+/// A class line of a partition of `count` elements: the cap, and the class, whose elements are put among the taken ones.
+#[tactic(auto, unfolding(crate::specs::Reading::class_at))]
+fn class_line<'a>(
+    alloc: Global,
+    count: u32,
+    taken: &mut ElemSet,
+    lines: Lines<'a>,
+) -> Result<(u32, ElemSet, Lines<'a>), DescRefusal>
+    ensures {
+        Gives (λ x. (x.0, x.1, taken.new, lines_left x.2)) result
+            (class_at count taken.old (lines_left lines.entry))
+    }
+{
+    let (words, rest) = keyed_line(lines, b"class")?;
+    let (cap, words) = next_count(words, 0, 501)?;
+    let class = elements_line(alloc, words, count, taken)?;
+    Ok((cap, class, rest))
+}
+
+/// As many class lines: the classes and their caps.
+fn class_lines<'a>(
+    alloc: Global,
+    count: u32,
+    many: u32,
+    lines: Lines<'a>,
+) -> Result<(SetList, Vec<u32>, Lines<'a>), DescRefusal>
+    ensures {
+        Gives (λ x. (x.0, x.1.items, lines_left x.2)) result
+            (classes_at count many [] (lines_left lines.entry))
+    }
+{
+    let mut classes = Vec::new(alloc);
+    let mut caps = Vec::new(alloc);
+    let mut taken = ElemSet::new(alloc);
+    let mut rest = lines;
+    for _ in 0..many {
+        let (cap, class, after) = class_line(alloc, count, &mut taken, rest)?;
+        classes.push(class)?;
+        caps.push(cap)?;
+        rest = after;
+    }
+    Ok((SetList::new(classes), caps, rest))
+}
+
+/// A uniform matroid, from the words behind its keyword on.
+#[tactic(auto, unfolding(crate::specs::Reading::uniform_at))]
+fn uniform<'a>(
+    count: u32,
+    words: Words<'a>,
+    lines: Lines<'a>,
+) -> Result<(AnyMatroid, Lines<'a>), DescRefusal>
+    ensures {
+        Gives (λ x. (tree_of x.0, lines_left x.1)) result
+            (uniform_at count (words_left words.entry) (lines_left lines.entry))
+    }
+{
+    let (cap, words) = next_count(words, 0, 501)?;
+    ended(words)?;
+    Ok((AnyMatroid::Uniform(Uniform::new(count, cap)), lines))
+}
+
+/// A partition matroid, from the words behind its keyword on.
+#[tactic(auto, using(crate::proofs::ClassLaws::classes_sound), unfolding(crate::specs::Reading::partition_at))]
+fn partition<'a>(
+    alloc: Global,
+    count: u32,
+    words: Words<'a>,
+    lines: Lines<'a>,
+) -> Result<(AnyMatroid, Lines<'a>), DescRefusal>
+    ensures {
+        Gives (λ x. (tree_of x.0, lines_left x.1)) result
+            (partition_at count (words_left words.entry) (lines_left lines.entry))
+    }
+{
+    let (many, words) = next_count(words, 0, 501)?;
+    ended(words)?;
+    let (classes, caps, rest) = class_lines(alloc, count, many, lines)?;
+    let matroid = Partition::new(alloc, count, classes, caps)?;
+    Ok((AnyMatroid::Partition(matroid), rest))
+}
+
+/// The next matroid, on `count` elements.
+#[tactic(auto, unfolding(crate::specs::Reading::matroid_at))]
+pub fn next_matroid<'a>(
+    alloc: Global,
+    count: u32,
+    lines: Lines<'a>,
+) -> Result<(AnyMatroid, Lines<'a>), DescRefusal>
+    ensures {
+        Gives (λ x. (tree_of x.0, lines_left x.1)) result
+            (matroid_at count (lines_left lines.entry))
+    }
+{
+    let line = lines.line;
+    let (words, rest) = next_line(lines)?;
+    let (word, words) = next_word(words)?;
+    match keyword_from(word) {
+        None => Err(DescRefusal::Fault {
+            kind: DescKind::UnknownWord,
+            line,
+        }),
+        Some(Keyword::Uniform) => uniform(count, words, rest),
+        Some(Keyword::Partition) => partition(alloc, count, words, rest),
+    }
+}

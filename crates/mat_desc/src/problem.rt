@@ -1,0 +1,153 @@
+//! Problems, and reading them.
+
+ghost use Rattle.std.specs.Prelude.{◌≡◌, ◌≤◌, length, IfOk};
+ghost use Rattle.mat_desc.specs.Faults.{Gives};
+ghost use Rattle.mat_desc.specs.Grammar.{IsValid, Spells};
+ghost use Rattle.mat_desc.specs.Instances.{Instance};
+ghost use Rattle.mat_desc.specs.Reading.{version_at, end_at, closed_at, pair_at, instance_at, description_at, read_of};
+ghost use Rattle.mat_desc.specs.Soundness.{IsSoundInstance};
+ghost use Rattle.mat_desc.specs.Views.{lines_left, words_left, instance_of};
+
+use crate::cursor::{Lines, Words};
+use crate::keywords::{Form, form_from};
+use crate::matroid::next_matroid;
+use crate::reading::{ended, keyed_line, next_count, next_line, next_word, weights_line};
+use crate::refusal::{DescKind, DescRefusal};
+use mat_any::AnyMatroid;
+use mat_sets::Weights;
+use std::alloc::Global;
+
+/// A problem, by its form.
+#[derive(Drop)]
+pub enum Problem {
+    /// Two matroids on the same elements, and a weight for each element.
+    Pair {
+        weights: Weights,
+        first: AnyMatroid,
+        second: AnyMatroid,
+    },
+}
+
+/// The first line, which names the version.
+#[tactic(auto, unfolding(crate::specs::Reading::version_at))]
+fn version_line<'a>(lines: Lines<'a>) -> Result<Lines<'a>, DescRefusal>
+    ensures { Gives lines_left result (version_at (lines_left lines.entry)) }
+{
+    let line = lines.line;
+    let (words, rest) = keyed_line(lines, b"matroids")?;
+    let (word, words) = next_word(words)?;
+    if word != b"1".as_slice() {
+        return Err(DescRefusal::Fault {
+            kind: DescKind::Version,
+            line,
+        });
+    }
+    ended(words)?;
+    Ok(rest)
+}
+
+/// The last line.
+#[tactic(auto, unfolding(crate::specs::Reading::end_at))]
+fn end_line<'a>(lines: Lines<'a>) -> Result<Lines<'a>, DescRefusal>
+    ensures { Gives lines_left result (end_at (lines_left lines.entry)) }
+{
+    let (words, rest) = keyed_line(lines, b"end")?;
+    ended(words)?;
+    Ok(rest)
+}
+
+/// The end of the text.
+#[tactic(auto, using(crate::proofs::Closing::closing), unfolding(crate::specs::Reading::closed_at))]
+fn closed(lines: Lines<'_>) -> Result<(), DescRefusal>
+    ensures { Gives (λ x. x) result (closed_at (lines_left lines.entry)) }
+{
+    if lines.text.is_empty() {
+        Ok(())
+    } else {
+        Err(DescRefusal::Fault {
+            kind: DescKind::TooManyLines,
+            line: lines.line,
+        })
+    }
+}
+
+/// Two weighted matroids, from the words behind the form's word on.
+#[tactic(auto, unfolding(crate::specs::Reading::pair_at))]
+fn pair<'a>(
+    alloc: Global,
+    words: Words<'a>,
+    lines: Lines<'a>,
+) -> Result<(Problem, Lines<'a>), DescRefusal>
+    ensures {
+        Gives (λ x. (instance_of x.0, lines_left x.1)) result
+            (pair_at (words_left words.entry) (lines_left lines.entry))
+    }
+{
+    let (count, words) = next_count(words, 0, 501)?;
+    ended(words)?;
+    let (weights, lines) = weights_line(alloc, count, lines)?;
+    let (first, lines) = next_matroid(alloc, count, lines)?;
+    let (second, lines) = next_matroid(alloc, count, lines)?;
+    let problem = Problem::Pair {
+        weights,
+        first,
+        second,
+    };
+    Ok((problem, lines))
+}
+
+/// A problem, from its form line on.
+#[tactic(auto, unfolding(crate::specs::Reading::instance_at))]
+fn problem_lines<'a>(
+    alloc: Global,
+    lines: Lines<'a>,
+) -> Result<(Problem, Lines<'a>), DescRefusal>
+    ensures {
+        Gives (λ x. (instance_of x.0, lines_left x.1)) result
+            (instance_at (lines_left lines.entry))
+    }
+{
+    let line = lines.line;
+    let (words, rest) = next_line(lines)?;
+    let (word, words) = next_word(words)?;
+    match form_from(word) {
+        None => Err(DescRefusal::Fault {
+            kind: DescKind::UnknownWord,
+            line,
+        }),
+        Some(Form::Pair) => pair(alloc, words, rest),
+    }
+}
+
+/// A whole description.
+#[tactic(auto, unfolding(crate::specs::Reading::description_at))]
+fn description(alloc: Global, lines: Lines<'_>) -> Result<Problem, DescRefusal>
+    ensures { Gives instance_of result (description_at (lines_left lines.entry)) }
+{
+    let lines = version_line(lines)?;
+    let (problem, lines) = problem_lines(alloc, lines)?;
+    let lines = end_line(lines)?;
+    closed(lines)?;
+    Ok(problem)
+}
+
+/// The problem that a text of at most 4194304 bytes spells, in one pass over the text.
+///
+/// [`DescRefusal::Fault`] comes exactly where the text spells no problem, and names the first fault. [`DescRefusal::Memory`] is want of
+/// memory.
+pub fn read_problem(alloc: Global, text: &[u8]) -> Result<Problem, DescRefusal>
+    requires { length text.now ≤ 4194304 }
+
+    // The answer is what the reading of the text gives: its problem, or its first fault.
+    ensures exact { Gives instance_of result (read_of text.now) }
+
+    // A problem that is read is spelled by the text, and one that is spelled is read.
+    ensures found { IfOk result (λ problem. Spells text.now (instance_of problem)) }
+    ensures only { (instance : Instance) → Spells text.now instance → Gives instance_of result (Ok instance) }
+
+    // The problem is in range, and its matroids are sound and on the elements that the weights are of.
+    ensures valid { IfOk result (λ problem. IsValid (instance_of problem)) }
+    ensures sound { IfOk result (λ problem. IsSoundInstance (instance_of problem)) }
+{
+    description(alloc, Lines { line: 1, text })
+}

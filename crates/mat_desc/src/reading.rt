@@ -1,0 +1,207 @@
+//! Reading the lines of a description, and the words of a line.
+
+ghost use Rattle.std.specs.Prelude.{◌≡◌, ◌<◌, ◌≤◌, ◌≤ℤ◌, ◌^◌, neg_ℤ, pos, IfOk};
+ghost use Rattle.mat_desc.specs.Faults.{Gives};
+ghost use Rattle.mat_desc.specs.Reading.{line_at, word_at, number_at, count_at, weight_at, ended_at, repeat_at, elements_at, keyed_at, weights_at};
+ghost use Rattle.mat_desc.specs.Views.{lines_left, words_left};
+
+use crate::cursor::{Lines, Words};
+use crate::refusal::{DescKind, DescRefusal};
+use mat_sets::{ElemSet, Weights};
+use mat_words::{NumberFault, read_number, split_line, split_word, well_spaced};
+use std::alloc::Global;
+
+/// The next line, which has to have words.
+#[tactic(auto, unfolding(crate::specs::Reading::line_at))]
+pub fn next_line<'a>(lines: Lines<'a>) -> Result<(Words<'a>, Lines<'a>), DescRefusal>
+    ensures { Gives (λ x. (words_left x.0, lines_left x.1)) result (line_at (lines_left lines.entry)) }
+{
+    let line = lines.line;
+    let Some((content, rest)) = split_line(lines.text) else {
+        return Err(DescRefusal::Fault {
+            kind: DescKind::EndsEarly,
+            line,
+        });
+    };
+    if !well_spaced(content) {
+        return Err(DescRefusal::Fault {
+            kind: DescKind::BadByte,
+            line,
+        });
+    }
+    if content.is_empty() {
+        return Err(DescRefusal::Fault {
+            kind: DescKind::TooFewWords,
+            line,
+        });
+    }
+    let words = Words {
+        line,
+        left: Some(content),
+    };
+    let lines = Lines {
+        line: line + 1,
+        text: rest,
+    };
+    Ok((words, lines))
+}
+
+/// The next word of a line.
+#[tactic(auto, unfolding(crate::specs::Reading::word_at))]
+pub fn next_word<'a>(words: Words<'a>) -> Result<(&'a [u8], Words<'a>), DescRefusal>
+    ensures { Gives (λ x. (x.0.now, words_left x.1)) result (word_at (words_left words.entry)) }
+{
+    let line = words.line;
+    let Some(left) = words.left else {
+        return Err(DescRefusal::Fault {
+            kind: DescKind::TooFewWords,
+            line,
+        });
+    };
+    let (word, left) = split_word(left);
+    Ok((word, Words { line, left }))
+}
+
+/// The next word of a line as a number in `low..=high`.
+#[tactic(auto, unfolding(crate::specs::Reading::number_at))]
+fn next_number<'a>(
+    words: Words<'a>,
+    low: i128,
+    high: i128,
+) -> Result<(i128, Words<'a>), DescRefusal>
+    ensures value { Gives (λ x. (x.0, words_left x.1)) result (number_at low high (words_left words.entry)) }
+    ensures range { IfOk result (λ x. (low ≤ℤ x.0) × (x.0 ≤ℤ high)) }
+{
+    let line = words.line;
+    let Some(left) = words.left else {
+        return Err(DescRefusal::Fault {
+            kind: DescKind::TooFewWords,
+            line,
+        });
+    };
+    let (word, left) = split_word(left);
+    match read_number(word, low, high) {
+        Ok(number) => Ok((number, Words { line, left })),
+        Err(NumberFault::Spelling) => Err(DescRefusal::Fault {
+            kind: DescKind::NumberSpelling,
+            line,
+        }),
+        Err(NumberFault::Range) => Err(DescRefusal::Fault {
+            kind: DescKind::NumberRange,
+            line,
+        }),
+    }
+}
+
+/// The next word of a line as a number from `low` on, below `end`.
+#[tactic(auto, unfolding(crate::specs::Reading::count_at))]
+pub fn next_count<'a>(
+    words: Words<'a>,
+    low: u32,
+    end: u32,
+) -> Result<(u32, Words<'a>), DescRefusal>
+    ensures value { Gives (λ x. (x.0, words_left x.1)) result (count_at low end (words_left words.entry)) }
+    ensures range { IfOk result (λ x. (low ≤ x.0) × (x.0 < end)) }
+{
+    let (number, words) = next_number(words, low as i128, end as i128 - 1)?;
+    Ok((number as u32, words))
+}
+
+/// The next word of a line as a weight.
+#[tactic(auto, unfolding(crate::specs::Reading::weight_at))]
+fn next_weight<'a>(words: Words<'a>) -> Result<(i128, Words<'a>), DescRefusal>
+    ensures value { Gives (λ x. (x.0, words_left x.1)) result (weight_at (words_left words.entry)) }
+    ensures range { IfOk result (λ x. (neg_ℤ (pos (10 ^ 12)) ≤ℤ x.0) × (x.0 ≤ℤ pos (10 ^ 12))) }
+{
+    next_number(words, -1_000_000_000_000, 1_000_000_000_000)
+}
+
+/// The end of a line.
+#[tactic(auto, using(mat_words::proofs::Splitting::some_parts), unfolding(crate::specs::Reading::ended_at))]
+pub fn ended(words: Words<'_>) -> Result<(), DescRefusal>
+    ensures { Gives (λ x. x) result (ended_at (words_left words.entry)) }
+{
+    match words.left {
+        None => Ok(()),
+        Some(_) => Err(DescRefusal::Fault {
+            kind: DescKind::TooManyWords,
+            line: words.line,
+        }),
+    }
+}
+
+/// The next line, which has to begin with this word.
+#[tactic(auto, unfolding(crate::specs::Reading::keyed_at))]
+pub fn keyed_line<'a>(lines: Lines<'a>, key: &[u8]) -> Result<(Words<'a>, Lines<'a>), DescRefusal>
+    ensures { Gives (λ x. (words_left x.0, lines_left x.1)) result (keyed_at key.now (lines_left lines.entry)) }
+{
+    let line = lines.line;
+    let (words, rest) = next_line(lines)?;
+    let (word, words) = next_word(words)?;
+    if word == key {
+        Ok((words, rest))
+    } else {
+        Err(DescRefusal::Fault {
+            kind: DescKind::UnknownWord,
+            line,
+        })
+    }
+}
+
+/// As many weights, one after the other.
+fn next_weights<'a>(
+    alloc: Global,
+    words: Words<'a>,
+    count: u32,
+) -> Result<(Vec<i128>, Words<'a>), DescRefusal>
+    ensures { Gives (λ x. (x.0.items, words_left x.1)) result (repeat_at weight_at count (words_left words.entry)) }
+{
+    let mut weights = Vec::new(alloc);
+    let mut rest = words;
+    for _ in 0..count {
+        let (weight, after) = next_weight(rest)?;
+        weights.push(weight)?;
+        rest = after;
+    }
+    Ok((weights, rest))
+}
+
+/// The weights line of `count` elements.
+#[tactic(auto, unfolding(crate::specs::Reading::weights_at))]
+pub fn weights_line<'a>(
+    alloc: Global,
+    count: u32,
+    lines: Lines<'a>,
+) -> Result<(Weights, Lines<'a>), DescRefusal>
+    ensures { Gives (λ x. (x.0, lines_left x.1)) result (weights_at count (lines_left lines.entry)) }
+{
+    let (words, rest) = keyed_line(lines, b"weights")?;
+    let (weights, words) = next_weights(alloc, words, count)?;
+    ended(words)?;
+    Ok((Weights::new(weights), rest))
+}
+
+/// The set of the elements below `count` that are left of a line, each put among the taken ones. One that is taken already is repeated.
+pub fn elements_line(
+    alloc: Global,
+    words: Words<'_>,
+    count: u32,
+    taken: &mut ElemSet,
+) -> Result<ElemSet, DescRefusal>
+    ensures { Gives (λ set. (set, taken.new)) result (elements_at count taken.old (words_left words.entry)) }
+{
+    let mut set = ElemSet::new(alloc);
+    let mut rest = words;
+    while rest.left.is_some() {
+        let (element, after) = next_count(rest, 0, count)?;
+        if !taken.add(element)? {
+            return Err(DescRefusal::Fault {
+                kind: DescKind::Repeated,
+                line: rest.line,
+            });
+        }
+        let _ = set.add(element)?;
+        rest = after;
+    }
+    Ok(set)
+}

@@ -1,0 +1,87 @@
+//! Texts that are read, and texts with a fault.
+
+use crate::problem::{Problem, read_problem};
+use crate::refusal::{DescKind, DescRefusal};
+use mat_any::AnyMatroid;
+use std::alloc::{AllocError, Global};
+use std::test::Fail;
+
+/// The kind and the line of the first fault of a text of at most 4194304 bytes, and None where it has none.
+fn fault_of(alloc: Global, text: &[u8]) -> Result<Option<(DescKind, u32)>, AllocError> {
+    if text.len() > 4194304 {
+        return Ok(None);
+    }
+    match read_problem(alloc, text) {
+        Ok(_) => Ok(None),
+        Err(DescRefusal::Fault { kind, line }) => Ok(Some((kind, line))),
+        Err(DescRefusal::Memory) => Err(AllocError),
+    }
+}
+
+#[test]
+fn a_pair_is_read(rt: HostRuntime) -> Result<(), Fail> {
+    let text = b"matroids 1\npair 3\nweights 4 -1 3\npartition 1\nclass 1 0 2\nuniform 3\nend\n";
+    match read_problem(rt.alloc(), text) {
+        Ok(Problem::Pair {
+            weights,
+            first: AnyMatroid::Partition(first),
+            second: AnyMatroid::Uniform(second),
+        }) => {
+            assert_eq!(rt; weights.as_slice(), &[4, -1, 3]);
+            assert_eq!(rt; first.count(), 3);
+            assert_eq!(rt; first.caps(), &[1]);
+            assert_eq!(rt; first.classes().len(), 1);
+            assert_eq!(rt; second.count(), 3);
+            assert_eq!(rt; second.cap(), 3);
+        }
+        _ => assert!(rt; false),
+    }
+    Ok(())
+}
+
+#[test]
+fn first_faults(rt: HostRuntime) -> Result<(), Fail> {
+    let cases: [(&[u8], DescKind, u32); 9] = [
+        (b"matroids 2\n", DescKind::Version, 1),
+        (b"matroids 1\npair 00\n", DescKind::NumberSpelling, 2),
+        (
+            b"matroids 1\npair 0\nweights 1\n",
+            DescKind::TooManyWords,
+            3,
+        ),
+        (
+            b"matroids 1\npair 3\nweights 4 -1\n",
+            DescKind::TooFewWords,
+            3,
+        ),
+        (
+            b"matroids 1\npair 0\nweights\nuniform  0\n",
+            DescKind::BadByte,
+            4,
+        ),
+        (
+            b"matroids 1\npair 0\nweights\nmatroid 0\n",
+            DescKind::UnknownWord,
+            4,
+        ),
+        (
+            b"matroids 1\npair 2\nweights 0 0\npartition 1\nclass 1 0 0\n",
+            DescKind::Repeated,
+            5,
+        ),
+        (
+            b"matroids 1\npair 0\nweights\nuniform 0\nuniform 0\nend",
+            DescKind::EndsEarly,
+            6,
+        ),
+        (
+            b"matroids 1\npair 0\nweights\nuniform 0\nuniform 0\nend\nend\n",
+            DescKind::TooManyLines,
+            7,
+        ),
+    ];
+    for (text, kind, line) in cases.iter() {
+        assert_eq!(rt; fault_of(rt.alloc(), text)?, Some((*kind, *line)));
+    }
+    Ok(())
+}

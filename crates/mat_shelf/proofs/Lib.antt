@@ -1,0 +1,3 @@
+pub mod FileLemmas
+pub mod ShelfLemmas
+pub mod WritingLemmas
