@@ -19,6 +19,7 @@ use Rattle.mat_count.specs.UniformLaws.{is_set-with_one}
 
 -- ---- the tests and their sentences
 
+-- a list is not empty where it has a member
 some_member : (X : List ℕ) → ltb 0 (length X) ≡ true → (x : ℕ) × (is_member x X ≡ true)
 some_member [] h = absurd (let l = ltb-true 0 0 h in omega arith)
 some_member (x ∷ X) h = (x, is_member-head x X)
@@ -183,6 +184,7 @@ most_in_union (T ∷ sets) I J r s nested most = elim (lies_in_or T sets) [
 
 -- ---- the sets that I fills
 
+-- the sets of which I has at least their cap of members
 unfoldable filled : List (List ℕ) → List ℕ → List ℕ → List (List ℕ)
 filled [] caps I = []
 filled (S ∷ sets) [] I = []
@@ -295,6 +297,7 @@ free_element I J U r s less most = elim (find_member (λ x. not (is_member x I) 
       omega arith)
 ]
 
+-- the laws of laminar matroids
 pub counted_laws : (n : ℕ) (sets : List (List ℕ)) (caps : List ℕ) → IsLaminarFamily sets → IsMatroid n (is_counted n sets caps)
 counted_laws n sets caps family = record {
   empty = and_from (is_set n []) (is_within_caps sets caps []) (is_set-true n [] IsRising-nil tt) (within-nil sets caps);

@@ -10,6 +10,7 @@ use Rattle.mat_count.specs.Laminar.{IsLaminarFamily}
 use Rattle.mat_count.specs.LaminarLaws.{Crosses-from_test, counted_laws}
 use Rattle.mat_count.specs.Partitions.{IsPartition}
 
+-- a test that holds counts for one
 one_of : (b : Bool) → b ≡ true → indicator b ≡ 1
 one_of true h = omega arith
 one_of false h = absurd (both_ways false refl h)
@@ -21,6 +22,7 @@ counted_at x [] i l h = absurd (omega arith)
 counted_at x (S ∷ sets) zero l h = let one = one_of (is_member x S) h in omega arith
 counted_at x (S ∷ sets) (suc i) l h = let ih = counted_at x sets i (omega arith) h in omega arith
 
+-- what stands in two sets is counted twice
 counted_twice : (x : ℕ) (sets : List (List ℕ)) (i j : ℕ) → i < j → j < length sets → is_member x (get_or sets i []) ≡ true → is_member x (get_or sets j []) ≡ true → 2 ≤ multiplicity x sets
 unfolding multiplicity
 counted_twice x [] i j before l g h = absurd (omega arith)
@@ -42,6 +44,7 @@ disjoint-apart sets i j x apart other h = false_from_ne_true _ (λ k. let first 
       | inr past ↦ absurd (both_ways false refl (sym (ap (is_member x) (get_or_past sets i [] past)) ∙ h))
     ]
 
+-- disjoint sets do not cross
 pub IsLaminarFamily-from_disjoint : (sets : List (List ℕ)) → AreDisjoint sets → IsLaminarFamily sets
 IsLaminarFamily-from_disjoint sets apart = record {
   nested = λ i j before l. false_from_ne_true _ (λ h.
@@ -50,5 +53,6 @@ IsLaminarFamily-from_disjoint sets apart = record {
       both_ways _ (disjoint-apart sets i j c.shared apart other c.shared_in_first) c.shared_in_second);
 }
 
+-- the laws of partition matroids
 pub partition_laws : (n : ℕ) (classes : List (List ℕ)) (caps : List ℕ) → IsPartition n classes caps → IsMatroid n (is_counted n classes caps)
 partition_laws n classes caps partition = counted_laws n classes caps (IsLaminarFamily-from_disjoint classes partition.disjoint)

@@ -18,6 +18,7 @@ is_set-with_one n X x set small = is_set-true n (with_one X x) (IsRising-with_on
   | inr old ↦ AllBelow-member n X k set.below old
 ]))
 
+-- the laws of uniform matroids
 pub uniform_laws : (n cap : ℕ) → IsMatroid n (is_uniform n cap)
 uniform_laws n cap = record {
   empty = and_from (is_set n []) (leb 0 cap) (is_set-true n [] IsRising-nil tt) (le-leb 0 cap (omega arith));

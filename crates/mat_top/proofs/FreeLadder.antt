@@ -1,21 +1,25 @@
 -- The ladder of a matroid against a free one. The first half of each split is the whole weight, so greedy's sets are heaviest under it; the second half is
 -- zero, under which all sets weigh the same, and a free matroid has all sets; the empty set is a cut, since greedy's last set has the rank's size.
-use Rattle.std.proofs.Common.{◌≡◌, ℕ, zero, suc, ◌+◌, ◌-◌, ◌*◌, ◌^◌, ◌<◌, ◌≤◌, Bool, true, ◌&&◌, leb, List, [], ◌∷◌, length, get_or, Option, Some, refl, sym, ap, ◌∙◌, subst, arith, ℤ, pos, neg_ℤ, ◌+ℤ◌, ◌≤ℤ◌, cc}
+use Rattle.std.proofs.Common.{◌≡◌, ℕ, zero, suc, ◌+◌, ◌-◌, ◌*◌, ◌^◌, ◌<◌, ◌≤◌, Bool, true, ◌&&◌, leb, List, [], ◌∷◌, length, get_or, Option, Some, refl, sym, ap, ◌∙◌, subst, arith, inl, inr, lit≤, ℤ, pos, neg_ℤ, ◌+ℤ◌, ◌≤ℤ◌}
 use Rattle.std.specs.Prelude.{map, replicate, All, slice_get, option_map}
-use Rattle.std.proofs.lemmas.Bool.{and_from, and_parts, le-leb}
+use Rattle.std.proofs.lemmas.Bool.{and_from, le-leb, cases_lt}
 use Rattle.std.proofs.lemmas.Int.{ints}
-use Rattle.std.proofs.lemmas.List.{length-map}
+use Rattle.std.proofs.lemmas.List.{length-map, length-replicate, get_or_past}
 use Rattle.std.proofs.lemmas.List.Elements.{All-get_or, All-replicate}
 use Rattle.std.proofs.lemmas.Option.{slice_get-map, slice_get_within, slice_get-get_or, get_or_from_slice_get}
 use Rattle.mat_sets.specs.Sets.{is_member, IsRising, IsSet, all_below, minus}
 use Rattle.mat_sets.specs.SetTests.{is_set}
 use Rattle.mat_sets.specs.Sums.{sum_of, weight_at, weight, IsWithin, AreWithin}
 use Rattle.mat_sets.proofs.SetTests.{IsSet-from_test, test_from-IsSet}
+use Rattle.mat_sets.proofs.Cardinalities.{sum_of-high, sum_of-low}
+use Rattle.mat_sets.proofs.Ground.{IsSet-nil, IsRising-all_below}
 use Rattle.mat_laws.specs.Matroids.{IsMatroid}
 use Rattle.mat_laws.specs.Ranks.{rank, IsRank}
 use Rattle.mat_laws.specs.Heaviest.{IsHeaviest}
 use Rattle.mat_laws.specs.Ladders.{IsRung, IsCut, split_bound}
+use Rattle.mat_laws.proofs.RankLaws.{rank_is}
 use Rattle.mat_count.specs.Counts.{is_uniform}
+use Rattle.mat_cert.specs.Certificates.{IsRangedRung, AreRangedRungs}
 use Rattle.mat_cert.specs.declared.answer.PricedRung.{PricedRung}
 use Rattle.mat_top.specs.FreeLadders.{free_rung}
 
