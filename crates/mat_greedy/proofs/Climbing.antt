@@ -50,8 +50,10 @@ module _ {n : ℕ} {p : List ℕ → Bool} (laws : IsMatroid n p) where
       zero_is k l = omega arith
 
   -- an element that can be added was not passed, so it weighs no more than the next
-  next_is_heaviest : (weights : List ℤ) (order set : List ℕ) (sets : List (List ℕ)) (i e : ℕ) → n ≡ length weights → IsFallingOrder weights order → i < length order
-      → IsClimbing p (weight_at weights) order i set sets → is_member e set ≡ false → p (with_one set e) ≡ true → weight_at weights e ≤ℤ weight_at weights (get_or order i 0)
+  next_is_heaviest : (weights : List ℤ) (order set : List ℕ) (sets : List (List ℕ)) (i e : ℕ) → n ≡ length weights
+      → IsFallingOrder weights order → i < length order
+      → IsClimbing p (weight_at weights) order i set sets → is_member e set ≡ false → p (with_one set e) ≡ true
+      → weight_at weights e ≤ℤ weight_at weights (get_or order i 0)
   next_is_heaviest weights order set sets i e size falling l g out ok =
       let e_in : is_member e (with_one set e) ≡ true = grind (arith, set_members) in
       let small : e < n = AllBelow-member n (with_one set e) e (below laws (with_one set e) ok) e_in in
@@ -63,9 +65,12 @@ module _ {n : ℕ} {p : List ℕ → Bool} (laws : IsMatroid n p) where
       ]
 
   -- one turn of the loop
-  pub IsClimbing-next : (weights : List ℤ) (order set : List ℕ) (sets : List (List ℕ)) (i x : ℕ) → n ≡ length weights → IsFallingOrder weights order → i < length order → x ≡ get_or order i 0
-      → IsClimbing p (weight_at weights) order i set sets → (added : Bool) (set' : List ℕ) (sets' : List (List ℕ)) → added ≡ (not (is_member x set) && p (with_one set x))
-      → set' ≡ (if added then with_one set x else set) → sets' ≡ (if added then sets ++ set' ∷ [] else sets) → IsClimbing p (weight_at weights) order (i + 1) set' sets'
+  pub IsClimbing-next : (weights : List ℤ) (order set : List ℕ) (sets : List (List ℕ)) (i x : ℕ) → n ≡ length weights
+      → IsFallingOrder weights order → i < length order → x ≡ get_or order i 0
+      → IsClimbing p (weight_at weights) order i set sets → (added : Bool) (set' : List ℕ) (sets' : List (List ℕ))
+      → added ≡ (not (is_member x set) && p (with_one set x))
+      → set' ≡ (if added then with_one set x else set) → sets' ≡ (if added then sets ++ set' ∷ [] else sets)
+      → IsClimbing p (weight_at weights) order (i + 1) set' sets'
   IsClimbing-next weights order set sets i x size falling l at g false set' sets' e set_is sets_is =
       rw (sets_is, set_is) (record { growing = IsGrowing-next laws [] order set i x l at g.growing false set e refl; heaviest = g.heaviest; count = g.count; each = g.each })
   IsClimbing-next weights order set sets i x size falling l at g true set' sets' e set_is sets_is =
@@ -89,7 +94,8 @@ module _ {n : ℕ} {p : List ℕ → Bool} (laws : IsMatroid n p) where
         ];
       })
 
-  pub IsClimbing-end : (weights : List ℤ) (order set : List ℕ) (sets : List (List ℕ)) (i : ℕ) → n ≡ length weights → IsFallingOrder weights order → length order ≤ i
+  pub IsClimbing-end : (weights : List ℤ) (order set : List ℕ) (sets : List (List ℕ)) (i : ℕ) → n ≡ length weights
+      → IsFallingOrder weights order → length order ≤ i
       → IsClimbing p (weight_at weights) order i set sets → AreHeaviestEach n p (weight_at weights) sets
   IsClimbing-end weights order set sets i size falling l g = record {
     count = g.count ∙ ap suc (sym (rank-maximal laws (all_below n) set (IsRising-all_below n) maximal));

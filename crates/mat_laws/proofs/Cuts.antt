@@ -28,7 +28,8 @@ out_of_reach y I R m o = grind (arith, set_members)
 minus-both : (E I R : List ℕ) → IsSubset I E → IsSubset (minus I R) (minus E R)
 minus-both E I R s = record { inside = λ k m. grind (arith, set_members, s.inside k) }
 
-inside_part : (y : ℕ) (I S : List ℕ) (q : Bool) → is_member y I ≡ true → q ≡ true → (is_member y I ≡ true → is_member y S ≡ false → q ≡ false) → is_member y S ≡ true
+inside_part : (y : ℕ) (I S : List ℕ) (q : Bool) → is_member y I ≡ true → q ≡ true
+    → (is_member y I ≡ true → is_member y S ≡ false → q ≡ false) → is_member y S ≡ true
 inside_part y I S q m ok none = grind arith
 
 module _ {n : ℕ} {p : List ℕ → Bool} (laws : IsMatroid n p) where
@@ -36,7 +37,8 @@ module _ {n : ℕ} {p : List ℕ → Bool} (laws : IsMatroid n p) where
   pub maximal_part : (I S T : List ℕ) → p I ≡ true → IsRising S → IsSubset S I → IsSubset S T
       → ((x : ℕ) → is_member x T ≡ true → is_member x S ≡ false → is_member x I ≡ false)
       → ((x : ℕ) → is_member x T ≡ true → is_member x I ≡ false → p (with_one I x) ≡ false)
-      → ((x y : ℕ) → is_member x T ≡ true → is_member x I ≡ false → is_member y I ≡ true → is_member y S ≡ false → p (with_one (without_one I y) x) ≡ false) → IsMaximal p T S
+      → ((x y : ℕ) → is_member x T ≡ true → is_member x I ≡ false → is_member y I ≡ true → is_member y S ≡ false → p (with_one (without_one I y) x) ≡ false)
+      → IsMaximal p T S
   maximal_part I S T ok r in_I in_T outside no_addition no_exchange = record {
     passes = laws.subsets S I r in_I ok;
     inside = in_T;
@@ -78,7 +80,8 @@ module _ {n : ℕ} {p : List ℕ → Bool} (laws : IsMatroid n p) where
       (λ x y m o i out. no_exchange x y o m i (out_of_reach y I R i out)))
 
 -- a search that is stuck at the reach R: the ranks of the two sides add up to the size of the common independent set
-pub cut_of_stuck : {n : ℕ} {p q : List ℕ → Bool} → IsMatroid n p → IsMatroid n q → (E I R : List ℕ) → p I ≡ true → q I ≡ true → IsRising E → IsRising R → IsSubset I E
+pub cut_of_stuck : {n : ℕ} {p q : List ℕ → Bool} → IsMatroid n p → IsMatroid n q → (E I R : List ℕ) → p I ≡ true → q I ≡ true → IsRising E
+    → IsRising R → IsSubset I E
     → ((x : ℕ) → is_member x E ≡ true → is_member x I ≡ false → is_member x R ≡ false → p (with_one I x) ≡ false)
     → ((x : ℕ) → is_member x I ≡ false → is_member x R ≡ true → q (with_one I x) ≡ false)
     → ((x y : ℕ) → is_member x E ≡ true → is_member x I ≡ false → is_member x R ≡ false → is_member y I ≡ true → is_member y R ≡ true → p (with_one (without_one I y) x) ≡ false)

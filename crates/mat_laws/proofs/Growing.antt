@@ -54,7 +54,8 @@ module _ {n : ℕ} {p : List ℕ → Bool} (laws : IsMatroid n p) where
         refused = λ k h o. still_refused k (get_or within k 0) refl h o;
       }
     where
-      still_refused : (k y : ℕ) → y ≡ get_or within k 0 → k < i + 1 → is_member y (with_one set x) ≡ false → p (with_one (with_one set x) y) ≡ false
+      still_refused : (k y : ℕ) → y ≡ get_or within k 0 → k < i + 1 → is_member y (with_one set x) ≡ false
+          → p (with_one (with_one set x) y) ≡ false
       still_refused k y e h o = elim (cases_lt k i) [
         | inl less ↦
             let o' : is_member y set ≡ false = grind (arith, set_members) in
@@ -67,11 +68,13 @@ module _ {n : ℕ} {p : List ℕ → Bool} (laws : IsMatroid n p) where
 
   -- one turn of the loop
   pub IsGrowing-next : (from within set : List ℕ) (i x : ℕ) → i < length within → x ≡ get_or within i 0 → IsGrowing p from within i set
-      → (added : Bool) (set' : List ℕ) → added ≡ (not (is_member x set) && p (with_one set x)) → set' ≡ (if added then with_one set x else set) → IsGrowing p from within (i + 1) set'
+      → (added : Bool) (set' : List ℕ) → added ≡ (not (is_member x set) && p (with_one set x))
+      → set' ≡ (if added then with_one set x else set) → IsGrowing p from within (i + 1) set'
   IsGrowing-next from within set i x l at g true set' e set_is = rw set_is (IsGrowing-added from within set i x l at g (sym e))
   IsGrowing-next from within set i x l at g false set' e set_is = rw set_is (IsGrowing-passed p from within set i x at g (sym e))
 
-pub IsGrowing-end : (p : List ℕ → Bool) (from within set : List ℕ) (i : ℕ) → length within ≤ i → IsGrowing p from within i set → IsMaximal p (union from within) set
+pub IsGrowing-end : (p : List ℕ → Bool) (from within set : List ℕ) (i : ℕ) → length within ≤ i → IsGrowing p from within i set
+    → IsMaximal p (union from within) set
 IsGrowing-end p from within set i l g = record {
   passes = g.passes;
   inside = g.inside;
@@ -83,6 +86,7 @@ IsGrowing-end p from within set i l g = record {
 }
 
 -- what grew from the empty set is a maximal independent subset of the other
-pub maximal_from_none : (p : List ℕ → Bool) (from within set : List ℕ) → from ≡ [] → IsMaximal p (union from within) set → IsMaximal p within set
+pub maximal_from_none : (p : List ℕ → Bool) (from within set : List ℕ) → from ≡ [] → IsMaximal p (union from within) set
+    → IsMaximal p within set
 unfolding union
 maximal_from_none p from within set none m = subst (λ X. IsMaximal p X set) (ap (λ f. union f within) none) m

@@ -16,7 +16,8 @@ pub record IsGrown (independent : List ℕ → Bool) (I J set : List ℕ) : Type
   pub inside : (k : ℕ) → is_member k set ≡ true → (is_member k I || is_member k J) ≡ true
   pub size : length set ≡ length J
 
-grown_inside : (k e : ℕ) (I J : List ℕ) → is_member e J ≡ true → (is_member k (with_one I e) || is_member k J) ≡ true → (is_member k I || is_member k J) ≡ true
+grown_inside : (k e : ℕ) (I J : List ℕ) → is_member e J ≡ true → (is_member k (with_one I e) || is_member k J) ≡ true
+    → (is_member k I || is_member k J) ≡ true
 grown_inside k e I J m h = grind (arith, set_members)
 
 module _ {n : ℕ} {p : List ℕ → Bool} (laws : IsMatroid n p) where

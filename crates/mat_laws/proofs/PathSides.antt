@@ -171,7 +171,8 @@ module _ {n : ℕ} {p : List ℕ → Bool} (laws : IsMatroid n p) where
         none = λ i j hi hj d le tie. same i j hi hj ∙ t.none (skip l i) (skip l j) (up i hi) (up j hj) (skip-apart l i j d) le (λ e. skip-rises l i j (tie e));
       }
 
-  exchanged_in_order : (m : ℕ) (I : List ℕ) (y x : ℕ → ℕ) (key : ℕ → ℤ) → p I ≡ true → IsOrdered p I m y x key → (set : List ℕ) × IsExchanged p I m y x set
+  exchanged_in_order : (m : ℕ) (I : List ℕ) (y x : ℕ → ℕ) (key : ℕ → ℤ) → p I ≡ true → IsOrdered p I m y x key
+      → (set : List ℕ) × IsExchanged p I m y x set
   exchanged_in_order zero I y x key ok t = (I, record { passes = ok; size = refl; members = λ k. grind arith; weighs = λ w e. refl })
   exchanged_in_order (suc m) I y x key ok t =
       let lightest = last_of key m in
@@ -222,7 +223,8 @@ unfolding values_of
 is_member-values_of x zero k = refl
 is_member-values_of x (suc m) k = let rest = is_member-values_of x m k in grind arith
 
-none_addable : (p : List ℕ → Bool) (I : List ℕ) (v : ℕ) (x : ℕ → ℕ) (m : ℕ) → ((i : ℕ) → i < m → p (with_one I (x i)) ≡ false) → is_value x m v ≡ true → p (with_one I v) ≡ false
+none_addable : (p : List ℕ → Bool) (I : List ℕ) (v : ℕ) (x : ℕ → ℕ) (m : ℕ) → ((i : ℕ) → i < m → p (with_one I (x i)) ≡ false)
+    → is_value x m v ≡ true → p (with_one I v) ≡ false
 none_addable p I v x zero h k = absurd (false≢true k)
 none_addable p I v x (suc m) h k =
     elim (or_cases (is_value x m v) (eqb v (x m)) k) [
@@ -230,7 +232,8 @@ none_addable p I v x (suc m) h k =
       | inr e ↦ ap (λ q. p (with_one I q)) (eqb-true v (x m) e) ∙ h m (omega arith)
     ]
 
-inside_spanned : (k e : ℕ) (set I xs : List ℕ) (a b : Bool) → is_member k (with_one set e) ≡ true → is_member e I ≡ true → is_member k set ≡ (a || (is_member k I && b)) → a ≡ is_member k xs → (is_member k I || is_member k xs) ≡ true
+inside_spanned : (k e : ℕ) (set I xs : List ℕ) (a b : Bool) → is_member k (with_one set e) ≡ true → is_member e I ≡ true
+    → is_member k set ≡ (a || (is_member k I && b)) → a ≡ is_member k xs → (is_member k I || is_member k xs) ≡ true
 inside_spanned k e set I xs a b m e_in f g = grind (arith, set_members)
 
 absent : (a b c d : Bool) → a ≡ (b || (c && d)) → b ≡ false → c ≡ false → a ≡ false
@@ -241,7 +244,8 @@ member_of_larger e s I m d = grind (arith, set_members)
 
 module _ {n : ℕ} {p : List ℕ → Bool} (laws : IsMatroid n p) where
   -- no x can be added to I
-  path_blocked : (w : ℕ → ℤ) (I : List ℕ) (s m : ℕ) (y x : ℕ → ℕ) → IsPathSide p w I s m y x → (i : ℕ) → i < m → p (with_one I (x i)) ≡ false
+  path_blocked : (w : ℕ → ℤ) (I : List ℕ) (s m : ℕ) (y x : ℕ → ℕ) → IsPathSide p w I s m y x → (i : ℕ) → i < m
+      → p (with_one I (x i)) ≡ false
   path_blocked w I s m y x t i h = false_from_ne_true _ (λ ok.
       let less = t.no_source i h ok in
       let light = addable_is_lightest laws w I s (y i) t.heaviest (t.inside i h) t.source_outside t.source_adds in
@@ -264,7 +268,8 @@ module _ {n : ℕ} {p : List ℕ → Bool} (laws : IsMatroid n p) where
   }
 
   -- the source can be added to the exchanged set
-  source_joins : (w : ℕ → ℤ) (I set : List ℕ) (s m : ℕ) (y x : ℕ → ℕ) → IsPathSide p w I s m y x → IsExchanged p I m y x set → p (with_one set s) ≡ true
+  source_joins : (w : ℕ → ℤ) (I set : List ℕ) (s m : ℕ) (y x : ℕ → ℕ) → IsPathSide p w I s m y x → IsExchanged p I m y x set
+      → p (with_one set s) ≡ true
   source_joins w I set s m y x t f =
       let ok = t.heaviest.passes in
       let long = length-with_one I s (rising laws I ok) t.source_outside in
