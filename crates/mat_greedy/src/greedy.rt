@@ -1,7 +1,7 @@
 //! The greedy algorithm on a matroid.
 
-ghost use Rattle.std.specs.Prelude.{◌≡◌, ◌<◌, ◌&&◌, ℕ, List, length, not, if◌then◌else◌, IfOk, IfSome, IsNone, ◌↔◌};
-ghost use Rattle.mat_sets.specs.Sets.{AllBelow, all_below, is_member, with_one};
+ghost use Rattle.std.specs.Prelude.{◌≡◌, ◌<◌, length, IfOk, IfSome, IsNone, ◌↔◌};
+ghost use Rattle.mat_sets.specs.Sets.{all_below};
 ghost use Rattle.mat_sets.specs.Sums.{weight_at};
 ghost use Rattle.mat_laws.specs.Ranks.{rank};
 ghost use Rattle.mat_laws.specs.Heaviest.{IsHeaviest};
@@ -11,31 +11,6 @@ use crate::order::order_by_weight;
 use mat_laws::Matroid;
 use mat_sets::{ElemSet, SetList};
 use std::alloc::{AllocError, Global};
-
-// Adds x where it is not yet there and the set stays independent, and tells whether it did. One question of
-// independence. After an error the set is of no more use.
-#[tactic(auto, using(mat_sets::proofs::Changes::set_changes, mat_sets::proofs::Members::set_rises))]
-fn add_if_independent<M: Matroid>(
-    alloc: Global,
-    m: &M,
-    set: &mut ElemSet,
-    x: u32,
-) -> Result<bool, AllocError>
-    requires sound { M.sound m.now }
-    requires set { AllBelow (M.ground_size m.now) set.old }
-    requires below { x < M.ground_size m.now }
-    ensures added { IfOk result (λ added. added ≡ (not (is_member x set.old) && M.indep m.now (with_one set.old x))) }
-    ensures set { IfOk result (λ added. set.new ≡ (if added then with_one set.old x else set.old)) }
-{
-    if !set.add(x)? {
-        return Ok(false);
-    }
-    if m.independent(alloc, set)? {
-        return Ok(true);
-    }
-    set.take_out(x);
-    Ok(false)
-}
 
 /// A heaviest independent set of each size from 0 to the rank, by the greedy algorithm (Schrijver, chapter 40): the set
 /// of k + 1 elements is the set of k elements with a heaviest element whose addition keeps it independent. At most as
@@ -55,7 +30,7 @@ pub fn heaviest_each<M: Matroid>(
     let mut sets = Vec::new(alloc);
     sets.push(set.copy(alloc)?)?;
     for x in &order {
-        if add_if_independent(alloc, m, &mut set, *x)? {
+        if m.add_if_independent(alloc, &mut set, *x)? {
             sets.push(set.copy(alloc)?)?;
         }
     }

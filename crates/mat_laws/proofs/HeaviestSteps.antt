@@ -19,7 +19,8 @@ module _ {n : ℕ} {p : List ℕ → Bool} (laws : IsMatroid n p) where
   IsHeaviest-nil w = record { passes = laws.empty; most = λ Y y e. weightless w Y e }
 
   -- where no element that can be added to I weighs more than top, an independent set of one more element weighs at most top more
-  pub one_more_weighs : (w : ℕ → ℤ) (I J : List ℕ) (top : ℤ) → IsHeaviest p w I → ((e : ℕ) → is_member e I ≡ false → p (with_one I e) ≡ true → w e ≤ℤ top)
+  pub one_more_weighs : (w : ℕ → ℤ) (I J : List ℕ) (top : ℤ) → IsHeaviest p w I
+      → ((e : ℕ) → is_member e I ≡ false → p (with_one I e) ≡ true → w e ≤ℤ top)
       → p J ≡ true → length J ≡ suc (length I) → sum_of w J ≤ℤ (sum_of w I +ℤ top)
   one_more_weighs w I J top best most j size =
       let a = laws.augmentation I J best.passes j (omega arith) in

@@ -5,6 +5,7 @@ use Rattle.mat_sets.specs.Sets.{is_member, IsRising, IsSubset, AllBelow, with_on
 use Rattle.mat_sets.proofs.Members.{set_members, IsRising-with_one, IsRising-without_one}
 use Rattle.mat_sets.proofs.Changes.{with_one-both}
 use Rattle.mat_sets.proofs.Subsets.{IsSubset-refl, without_one-IsSubset}
+use Rattle.mat_sets.proofs.Ground.{length-complement}
 use Rattle.mat_sets.proofs.Cardinalities.{length-with_one}
 use Rattle.mat_laws.specs.Matroids.{IsMatroid}
 
@@ -15,7 +16,8 @@ pub record IsGrown (independent : List ℕ → Bool) (I J set : List ℕ) : Type
   pub inside : (k : ℕ) → is_member k set ≡ true → (is_member k I || is_member k J) ≡ true
   pub size : length set ≡ length J
 
-grown_inside : (k e : ℕ) (I J : List ℕ) → is_member e J ≡ true → (is_member k (with_one I e) || is_member k J) ≡ true → (is_member k I || is_member k J) ≡ true
+grown_inside : (k e : ℕ) (I J : List ℕ) → is_member e J ≡ true → (is_member k (with_one I e) || is_member k J) ≡ true
+    → (is_member k I || is_member k J) ≡ true
 grown_inside k e I J m h = grind (arith, set_members)
 
 module _ {n : ℕ} {p : List ℕ → Bool} (laws : IsMatroid n p) where
@@ -26,6 +28,10 @@ module _ {n : ℕ} {p : List ℕ → Bool} (laws : IsMatroid n p) where
   -- and its members are below n
   pub below : (I : List ℕ) → p I ≡ true → AllBelow n I
   below I h = (laws.sets I h).below
+
+  -- and it has at most n
+  pub size_bound : (I : List ℕ) → p I ≡ true → length I ≤ n
+  size_bound I h = omega (arith, length-complement n I (rising I h) (below I h))
 
   -- an independent set less one member is independent
   pub less_one : (I : List ℕ) (x : ℕ) → p I ≡ true → p (without_one I x) ≡ true

@@ -1,7 +1,10 @@
 pub mod Independent
 pub mod Maximal
+pub mod Growing
 pub mod RankLaws
 pub mod Symmetric
 pub mod LocallyHeaviest
+pub mod Cuts
 pub mod HeaviestSteps
 pub mod Triangular
+pub mod PathSides

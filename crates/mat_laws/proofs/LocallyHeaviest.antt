@@ -14,7 +14,8 @@ use Rattle.mat_laws.proofs.Independent.{rising}
 use Rattle.mat_laws.proofs.Symmetric.{symmetric_exchange, IsRising-exchange, exchange-IsSubset}
 
 -- after J - x + y, with x outside I and y in I, the elements outside I are those before but x
-outside_after : (I J : List ℕ) (x y : ℕ) → IsRising J → is_member y I ≡ true → is_member x I ≡ false → minus (with_one (without_one J x) y) I ≡ without_one (minus J I) x
+outside_after : (I J : List ℕ) (x y : ℕ) → IsRising J → is_member y I ≡ true → is_member x I ≡ false
+    → minus (with_one (without_one J x) y) I ≡ without_one (minus J I) x
 outside_after I J x y r y_in x_out =
     same_members _ _ (IsRising-minus _ I (IsRising-exchange J y x r)) (IsRising-without_one _ x (IsRising-minus J I r)) (λ k. at k)
   where
@@ -36,7 +37,8 @@ none_outside I J e = record { inside = λ k m. at k m (no_member (minus J I) e k
     at k m h = grind (arith, set_members)
 
 module _ {n : ℕ} {p : List ℕ → Bool} (laws : IsMatroid n p) where
-  lighter : (w : ℕ → ℤ) (I : List ℕ) → IsLocallyHeaviest p w I → (d : ℕ) (J : List ℕ) → length (minus J I) ≡ d → p J ≡ true → length J ≡ length I → sum_of w J ≤ℤ sum_of w I
+  lighter : (w : ℕ → ℤ) (I : List ℕ) → IsLocallyHeaviest p w I → (d : ℕ) (J : List ℕ) → length (minus J I) ≡ d → p J ≡ true
+      → length J ≡ length I → sum_of w J ≤ℤ sum_of w I
   lighter w I best zero J e j size =
       let same : J ≡ I = same_size_subset J I (rising laws J j) (rising laws I best.passes) (none_outside I J e) (omega arith) in
       rw same (omega (arith, ints))
@@ -70,14 +72,16 @@ module _ {n : ℕ} {p : List ℕ → Bool} (laws : IsMatroid n p) where
       })
 
   -- at a heaviest set, what can take the place of y weighs no more than y
-  pub exchange_gains_nothing : (w : ℕ → ℤ) (I : List ℕ) (x y : ℕ) → IsHeaviest p w I → is_member y I ≡ true → is_member x I ≡ false → p (with_one (without_one I y) x) ≡ true → w x ≤ℤ w y
+  pub exchange_gains_nothing : (w : ℕ → ℤ) (I : List ℕ) (x y : ℕ) → IsHeaviest p w I → is_member y I ≡ true → is_member x I ≡ false
+      → p (with_one (without_one I y) x) ≡ true → w x ≤ℤ w y
   exchange_gains_nothing w I x y best m o ok =
       let r = rising laws I best.passes in
       let most = best.most (with_one (without_one I y) x) ok (length-exchange_one I x y r m o) in
       omega (arith, ints, sum_of-exchange_one w I x y r m o)
 
   -- what can be added to a heaviest set weighs no more than any member
-  pub addable_is_lightest : (w : ℕ → ℤ) (I : List ℕ) (x y : ℕ) → IsHeaviest p w I → is_member y I ≡ true → is_member x I ≡ false → p (with_one I x) ≡ true → w x ≤ℤ w y
+  pub addable_is_lightest : (w : ℕ → ℤ) (I : List ℕ) (x y : ℕ) → IsHeaviest p w I → is_member y I ≡ true → is_member x I ≡ false
+      → p (with_one I x) ≡ true → w x ≤ℤ w y
   addable_is_lightest w I x y best m o ok =
       exchange_gains_nothing w I x y best m o
       (laws.subsets _ (with_one I x) (IsRising-exchange I x y (rising laws I best.passes)) (exchange-IsSubset I x y) ok)

@@ -34,7 +34,8 @@ largest_up_to-most (suc n) k test l h =
 -- ---- the rank
 
 -- a largest independent subset is maximal
-pub IsMaximal-largest_subset : {n : ℕ} {p : List ℕ → Bool} → IsMatroid n p → (X : List ℕ) (r : ℕ) (rank_of_X : IsRank p X r) → IsMaximal p X rank_of_X.largest
+pub IsMaximal-largest_subset : {n : ℕ} {p : List ℕ → Bool} → IsMatroid n p → (X : List ℕ) (r : ℕ) (rank_of_X : IsRank p X r)
+    → IsMaximal p X rank_of_X.largest
 IsMaximal-largest_subset laws X r h = record {
   passes = h.passes;
   inside = h.inside;

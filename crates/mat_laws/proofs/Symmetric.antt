@@ -1,7 +1,7 @@
 -- Symmetric exchange. Let C be the members y of B that x can take the place of. x cannot be added to C (else C + x grows inside
 -- B + x to the size of B, and so misses exactly one y of B: but then y is in C). Were there no partner, no member of C could be
 -- added to A - x, so C grows inside (A - x) ∪ C to the size of A - x at most; then A would give it one more, and x to C.
-use Rattle.std.proofs.Common.{◌≡◌, ℕ, ◌<◌, ◌≤◌, Bool, true, false, not, ◌||◌, ◌&&◌, eqb, List, length, inl, inr, sym, ap, ◌∙◌, arith}
+use Rattle.std.proofs.Common.{◌≡◌, ℕ, ◌<◌, ◌≤◌, Bool, true, false, not, ◌||◌, ◌&&◌, eqb, List, length, inl, inr, sym, ap, ◌∙◌, subst, arith}
 use Rattle.std.specs.List.{filter}
 use Rattle.std.proofs.lemmas.Bool.{cases_Bool, cases_lt, eqb-true, or_right, and_parts, and_from, both_ways, false_from_ne_true, not-true, false≢true}
 use Rattle.mat_sets.specs.Sets.{is_member, IsRising, IsSubset, with_one, without_one, minus}
@@ -15,14 +15,15 @@ use Rattle.mat_laws.proofs.Independent.{rising, less_one, grow_to_size}
 use Rattle.mat_laws.proofs.Maximal.{span}
 
 -- the members of B that x can take the place of
-replaceable_by : (List ℕ → Bool) → List ℕ → ℕ → List ℕ
+pub replaceable_by : (List ℕ → Bool) → List ℕ → ℕ → List ℕ
 replaceable_by p B x = filter (λ y. p (with_one (without_one B y) x)) B
 
-is_member-replaceable : (p : List ℕ → Bool) (B : List ℕ) (x k : ℕ) → is_member k (replaceable_by p B x) ≡ (is_member k B && p (with_one (without_one B k) x))
+pub is_member-replaceable : (p : List ℕ → Bool) (B : List ℕ) (x k : ℕ)
+    → is_member k (replaceable_by p B x) ≡ (is_member k B && p (with_one (without_one B k) x))
 unfolding replaceable_by
 is_member-replaceable p B x k = is_member-filter (λ y. p (with_one (without_one B y) x)) k B
 
-IsRising-replaceable : (p : List ℕ → Bool) (B : List ℕ) (x : ℕ) → IsRising B → IsRising (replaceable_by p B x)
+pub IsRising-replaceable : (p : List ℕ → Bool) (B : List ℕ) (x : ℕ) → IsRising B → IsRising (replaceable_by p B x)
 unfolding replaceable_by
 IsRising-replaceable p B x r = record { rises = RisesFrom-filter (λ y. p (with_one (without_one B y) x)) 0 B r.rises }
 
@@ -32,25 +33,33 @@ IsSubset-replaceable p B x = record { inside = λ k m. let h = is_member-replace
 -- ---- steps about members
 
 -- what grew from C + x inside C ∪ B and misses y lies in B - y + x
-inside_target : (k x y : ℕ) (C B S : List ℕ) (q : Bool) → is_member k S ≡ true → (is_member k (with_one C x) || is_member k B) ≡ true → is_member k C ≡ (is_member k B && q) → not (is_member y S) ≡ true
+inside_target : (k x y : ℕ) (C B S : List ℕ) (q : Bool) → is_member k S ≡ true → (is_member k (with_one C x) || is_member k B) ≡ true
+    → is_member k C ≡ (is_member k B && q) → not (is_member y S) ≡ true
     → is_member k (with_one (without_one B y) x) ≡ true
 inside_target k x y C B S q m within c missed = grind (arith, set_members)
 
 -- a set that holds x and each member of B holds B + x
-whole_inside : (k x : ℕ) (B S : List ℕ) → is_member k (with_one B x) ≡ true → is_member x S ≡ true → (is_member k B ≡ true → not (is_member k S) ≡ false) → is_member k S ≡ true
+whole_inside : (k x : ℕ) (B S : List ℕ) → is_member k (with_one B x) ≡ true → is_member x S ≡ true
+    → (is_member k B ≡ true → not (is_member k S) ≡ false) → is_member k S ≡ true
 whole_inside k x B S m x_in all = grind (arith, set_members)
 
 -- where no member of B outside A is a partner, a replaceable member outside A - x cannot be added to A - x
-not_addable : (y x : ℕ) (A B C : List ℕ) (q r : Bool) → is_member y C ≡ (is_member y B && q) → is_member y C ≡ true → is_member y (without_one A x) ≡ false → is_member x B ≡ false
+not_addable : (y x : ℕ) (A B C : List ℕ) (q r : Bool) → is_member y C ≡ (is_member y B && q) → is_member y C ≡ true
+    → is_member y (without_one A x) ≡ false → is_member x B ≡ false
     → (is_member y (minus B A) ≡ true → (q && r) ≡ false) → r ≡ false
 not_addable y x A B C q r c m out x_out none = grind (arith, set_members)
 
-still_inside : (k u x : ℕ) (A C S : List ℕ) → is_member k (with_one S u) ≡ true → is_member u A ≡ true → eqb u x ≡ false → (is_member k S ≡ true → (is_member k C || is_member k (without_one A x)) ≡ true)
+still_inside : (k u x : ℕ) (A C S : List ℕ) → is_member k (with_one S u) ≡ true → is_member u A ≡ true → eqb u x ≡ false
+    → (is_member k S ≡ true → (is_member k C || is_member k (without_one A x)) ≡ true)
     → (is_member k (without_one A x) || is_member k C) ≡ true
 still_inside k u x A C S m u_in other h = grind (arith, set_members)
 
-outside_first : (y x : ℕ) (A B : List ℕ) → is_member y B ≡ true → is_member y (without_one A x) ≡ false → is_member x B ≡ false → is_member y A ≡ false
+outside_first : (y x : ℕ) (A B : List ℕ) → is_member y B ≡ true → is_member y (without_one A x) ≡ false → is_member x B ≡ false
+    → is_member y A ≡ false
 outside_first y x A B m out x_out = grind (arith, set_members)
+
+same_added : (p : List ℕ → Bool) (S : List ℕ) (u x : ℕ) → eqb u x ≡ true → p (with_one S u) ≡ true → p (with_one S x) ≡ true
+same_added p S u x same ok = subst (λ v. p (with_one S v) ≡ true) (eqb-true u x same) ok
 
 pub exchange-IsSubset : (B : List ℕ) (x y : ℕ) → IsSubset (with_one (without_one B y) x) (with_one B x)
 exchange-IsSubset B x y = record { inside = λ k m. grind (arith, set_members) }
@@ -61,7 +70,8 @@ IsRising-exchange B x y r = IsRising-with_one _ x (IsRising-without_one B y r)
 module _ {n : ℕ} {p : List ℕ → Bool} (laws : IsMatroid n p) where
   -- what grew from C + x by B cannot hold all of B, nor miss one member of it
   missed_one : (B S : List ℕ) (x y : ℕ) → p B ≡ true → is_member x B ≡ false → p S ≡ true → IsSubset (with_one (replaceable_by p B x) x) S
-      → ((k : ℕ) → is_member k S ≡ true → (is_member k (with_one (replaceable_by p B x) x) || is_member k B) ≡ true) → length S ≡ length B → is_member y B ≡ true → not (is_member y S) ≡ true → ⊥
+      → ((k : ℕ) → is_member k S ≡ true → (is_member k (with_one (replaceable_by p B x) x) || is_member k B) ≡ true) → length S ≡ length B
+      → is_member y B ≡ true → not (is_member y S) ≡ true → ⊥
   missed_one B S x y b out s holds inside size y_in missed =
       let r = rising laws B b in
       let target = with_one (without_one B y) x in
@@ -73,7 +83,8 @@ module _ {n : ℕ} {p : List ℕ → Bool} (laws : IsMatroid n p) where
       false≢true (sym (ap not kept) ∙ missed)
 
   -- where x cannot be added to B, it cannot be added to the members that it can take the place of
-  replaceable_full : (B : List ℕ) (x : ℕ) → p B ≡ true → is_member x B ≡ false → p (with_one B x) ≡ false → p (with_one (replaceable_by p B x) x) ≡ false
+  pub replaceable_full : (B : List ℕ) (x : ℕ) → p B ≡ true → is_member x B ≡ false → p (with_one B x) ≡ false
+      → p (with_one (replaceable_by p B x) x) ≡ false
   replaceable_full B x b out none = false_from_ne_true _ (λ more.
       let C = replaceable_by p B x in
       let r = rising laws B b in
@@ -97,7 +108,8 @@ module _ {n : ℕ} {p : List ℕ → Bool} (laws : IsMatroid n p) where
       ])
 
   -- where x cannot be added to B, some member of B is a partner
-  some_partner : (A B : List ℕ) (x : ℕ) → p A ≡ true → p B ≡ true → length A ≡ length B → is_member x A ≡ true → is_member x B ≡ false → p (with_one B x) ≡ false
+  some_partner : (A B : List ℕ) (x : ℕ) → p A ≡ true → p B ≡ true → length A ≡ length B → is_member x A ≡ true → is_member x B ≡ false
+      → p (with_one B x) ≡ false
       → ((y : ℕ) → is_member y (minus B A) ≡ true → (p (with_one (without_one B y) x) && p (with_one (without_one A x) y)) ≡ false) → ⊥
   some_partner A B x a b e x_in out full none =
       let C = replaceable_by p B x in
@@ -114,7 +126,7 @@ module _ {n : ℕ} {p : List ℕ → Bool} (laws : IsMatroid n p) where
       let u = laws.augmentation S A g.1.passes a (omega (arith, g.1.size)) in
       elim (cases_Bool (eqb u.element x)) [
         | inl same ↦
-            let with_x : p (with_one S x) ≡ true = ap (λ v. p (with_one S v)) (sym (eqb-true u.element x same)) ∙ u.augmented in
+            let with_x : p (with_one S x) ≡ true = same_added p S u.element x same u.augmented in
             both_ways _ (replaceable_full B x b out full) (laws.subsets (with_one C x) (with_one S x) (IsRising-with_one C x rc) (with_one-both C S x g.1.holds) with_x)
         | inr other ↦
             let most = small (with_one S u.element) u.augmented (λ k m. still_inside k u.element x A C S m u.inside other (g.1.inside k)) in
@@ -122,7 +134,8 @@ module _ {n : ℕ} {p : List ℕ → Bool} (laws : IsMatroid n p) where
       ]
 
   -- two independent sets of one size: each x of the first has a partner in the second, both ways
-  pub symmetric_exchange : (A B : List ℕ) (x : ℕ) → p A ≡ true → p B ≡ true → length A ≡ length B → is_member x A ≡ true → is_member x B ≡ false → HasSymmetricPartner p A B x
+  pub symmetric_exchange : (A B : List ℕ) (x : ℕ) → p A ≡ true → p B ≡ true → length A ≡ length B → is_member x A ≡ true
+      → is_member x B ≡ false → HasSymmetricPartner p A B x
   symmetric_exchange A B x a b e x_in out =
       elim (cases_Bool (p (with_one B x))) [
         | inl free ↦ (let size = length-without_one A x (rising laws A a) x_in in

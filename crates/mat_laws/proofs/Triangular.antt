@@ -19,7 +19,8 @@ apart_by I x y o i = grind arith
 
 -- ---- one exchange
 
-is_other : (e t u v : ℕ) (K : List ℕ) → is_member e (with_one (with_one K v) u) ≡ true → is_member e (with_one K t) ≡ false → eqb e u ≡ false → eqb e v ≡ true
+is_other : (e t u v : ℕ) (K : List ℕ) → is_member e (with_one (with_one K v) u) ≡ true → is_member e (with_one K t) ≡ false
+    → eqb e u ≡ false → eqb e v ≡ true
 is_other e t u v K i o differ = grind (arith, set_members)
 
 less_middle : (K : List ℕ) (t w : ℕ) → IsSubset (with_one K t) (with_one (with_one K w) t)
@@ -27,8 +28,10 @@ less_middle K t w = record { inside = λ k m. grind (arith, set_members) }
 
 module _ {n : ℕ} {p : List ℕ → Bool} (laws : IsMatroid n p) where
   -- K + u + v is independent, K + v + t is not and K + w + t is: then K + u + t is, since v is of no use to K + t
-  takes_other_place : (K : List ℕ) (u v w t : ℕ) → IsRising K → is_member u (with_one K v) ≡ false → is_member v K ≡ false → is_member t K ≡ false
-      → p (with_one (with_one K v) u) ≡ true → p (with_one (with_one K v) t) ≡ false → p (with_one (with_one K w) t) ≡ true → p (with_one (with_one K u) t) ≡ true
+  takes_other_place : (K : List ℕ) (u v w t : ℕ) → IsRising K → is_member u (with_one K v) ≡ false → is_member v K ≡ false
+      → is_member t K ≡ false
+      → p (with_one (with_one K v) u) ≡ true → p (with_one (with_one K v) t) ≡ false → p (with_one (with_one K w) t) ≡ true
+      → p (with_one (with_one K u) t) ≡ true
   takes_other_place K u v w t r u_out v_out t_out uv vt wt =
       let small : p (with_one K t) ≡ true = laws.subsets (with_one K t) (with_one (with_one K w) t) (IsRising-with_one K t r) (less_middle K t w) wt in
       let a = length-with_one K t r t_out in
@@ -46,7 +49,8 @@ module _ {n : ℕ} {p : List ℕ → Bool} (laws : IsMatroid n p) where
       ]
 
   -- after x took the place of y, which x' could not take: x' can take the place of the same other members as before
-  pub exchanges_unchanged : (I : List ℕ) (x y x' y' : ℕ) → p I ≡ true → is_member y I ≡ true → is_member y' I ≡ true → eqb y' y ≡ false → is_member x I ≡ false → is_member x' I ≡ false
+  pub exchanges_unchanged : (I : List ℕ) (x y x' y' : ℕ) → p I ≡ true → is_member y I ≡ true → is_member y' I ≡ true → eqb y' y ≡ false
+      → is_member x I ≡ false → is_member x' I ≡ false
       → p (with_one (without_one I y) x) ≡ true → p (with_one (without_one I y) x') ≡ false
       → p (with_one (without_one (with_one (without_one I y) x) y') x') ≡ p (with_one (without_one I y') x')
   exchanges_unchanged I x y x' y' ok y_in y'_in differ x_out x'_out own none =
@@ -99,17 +103,20 @@ pub still_out : (I : List ℕ) (k y x : ℕ) → is_member k I ≡ false → eqb
 still_out I k y x i d = grind (arith, set_members)
 
 -- an element outside I is none of the values, which are all members
-pub not_value : (f : ℕ → ℕ) (m k : ℕ) (I : List ℕ) → is_member k I ≡ false → ((i : ℕ) → i < m → is_member (f i) I ≡ true) → is_value f m k ≡ false
+pub not_value : (f : ℕ → ℕ) (m k : ℕ) (I : List ℕ) → is_member k I ≡ false → ((i : ℕ) → i < m → is_member (f i) I ≡ true)
+    → is_value f m k ≡ false
 not_value f zero k I o all = refl
 not_value f (suc m) k I o all =
     or_from (is_value f m k) (eqb k (f m)) (not_value f m k I o (λ i l. all i (omega arith))) (apart_by I k (f m) o (all m (omega arith)))
 
 -- the last exchange joins those before it, member by member
-pub last_exchange : (after xs now ys here mid before gone : Bool) → after ≡ (xs || (now && not ys)) → now ≡ (here || mid) → mid ≡ (before && not gone) → (here ≡ true → ys ≡ false) → after ≡ ((xs || here) || (before && not (ys || gone)))
+pub last_exchange : (after xs now ys here mid before gone : Bool) → after ≡ (xs || (now && not ys)) → now ≡ (here || mid)
+    → mid ≡ (before && not gone) → (here ≡ true → ys ≡ false) → after ≡ ((xs || here) || (before && not (ys || gone)))
 last_exchange after xs now ys here mid before gone a b c d = grind arith
 
 module _ {n : ℕ} {p : List ℕ → Bool} (laws : IsMatroid n p) where
-  fewer_pairs : (I : List ℕ) (m : ℕ) (y x : ℕ → ℕ) → p I ≡ true → AreTriangular p I (suc m) y x → AreTriangular p (with_one (without_one I (y m)) (x m)) m y x
+  fewer_pairs : (I : List ℕ) (m : ℕ) (y x : ℕ → ℕ) → p I ≡ true → AreTriangular p I (suc m) y x
+      → AreTriangular p (with_one (without_one I (y m)) (x m)) m y x
   fewer_pairs I m y x ok t =
       let top : m < suc m = omega arith in
       let up : (i : ℕ) → i < m → i < suc m = λ i l. omega arith in
@@ -136,7 +143,8 @@ IsRising-all_exchanged zero I y x r = r
 IsRising-all_exchanged (suc m) I y x r = IsRising-all_exchanged m (with_one (without_one I (y m)) (x m)) y x (IsRising-exchange I (x m) (y m) r)
 
 -- the members after the exchanges
-is_member-all_exchanged : (m : ℕ) (I : List ℕ) (y x : ℕ → ℕ) (k : ℕ) → ((i : ℕ) → i < m → is_member (y i) I ≡ true) → ((i : ℕ) → i < m → is_member (x i) I ≡ false)
+is_member-all_exchanged : (m : ℕ) (I : List ℕ) (y x : ℕ → ℕ) (k : ℕ) → ((i : ℕ) → i < m → is_member (y i) I ≡ true)
+    → ((i : ℕ) → i < m → is_member (x i) I ≡ false)
     → ((i j : ℕ) → i < j → j < m → eqb (y i) (y j) ≡ false) → ((i j : ℕ) → i < j → j < m → eqb (x i) (x j) ≡ false)
     → is_member k (all_exchanged y x m I) ≡ (is_value x m k || (is_member k I && not (is_value y m k)))
 unfolding all_exchanged

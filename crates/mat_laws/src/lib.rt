@@ -1,7 +1,9 @@
 //! The trait of matroids with its laws, and what follows from them.
 #![tactic(auto)]
 
+mod bases;
 pub mod laws;
 mod matroid;
 
+pub use bases::{grow_base, rank_of};
 pub use matroid::Matroid;

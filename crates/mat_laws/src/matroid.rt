@@ -1,8 +1,8 @@
 //! The trait of matroids.
 
-ghost use Rattle.std.specs.Prelude.{◌≡◌, ℕ, List, Bool, IfOk};
-ghost use Rattle.mat_sets.specs.Sets.{AllBelow};
-ghost use Rattle.mat_laws.specs.Matroids.{IsMatroid};
+ghost use Rattle.std.specs.Prelude.{◌≡◌, ◌<◌, ◌&&◌, ℕ, List, Bool, true, not, if◌then◌else◌, IfOk, OnErr};
+ghost use Rattle.mat_sets.specs.Sets.{AllBelow, IsSubset, is_member, with_one, union};
+ghost use Rattle.mat_laws.specs.Matroids.{IsMatroid, IsMaximal};
 
 use mat_sets::ElemSet;
 use std::alloc::{AllocError, Global};
@@ -36,6 +36,54 @@ pub trait Matroid: Sync + Drop {
         requires { sound self.now }
         ensures { IsMatroid (ground_size self.now) (indep self.now) }
     {}
+
+    /// Adds x where it is not yet there and the set stays independent, and tells whether it did. The only error is want
+    /// of memory.
+    #[tactic(auto, using(mat_sets::proofs::Changes::set_changes, mat_sets::proofs::Members::set_rises))]
+    fn add_if_independent(
+        &self,
+        alloc: Global,
+        set: &mut ElemSet,
+        x: u32,
+    ) -> Result<bool, AllocError>
+        requires sound { sound self.now }
+        requires set { AllBelow (ground_size self.now) set.old }
+        requires below { x < ground_size self.now }
+        ensures added { IfOk result (λ added. added ≡ (not (is_member x set.old) && indep self.now (with_one set.old x))) }
+        ensures set { IfOk result (λ added. set.new ≡ (if added then with_one set.old x else set.old)) }
+        ensures err { OnErr result (set.new ≡ set.old) }
+    {
+        if !set.add(x)? {
+            return Ok(false);
+        }
+        let answer = self.independent(alloc, set);
+        if !matches!(answer, Ok(true)) {
+            set.take_out(x);
+        }
+        answer
+    }
+
+    /// A maximal independent subset of `from` ∪ `within` that holds `from`: the members of `within` are added one after
+    /// the other, where the set stays independent. The only error is want of memory.
+    fn grown_base(
+        &self,
+        alloc: Global,
+        from: &ElemSet,
+        within: &ElemSet,
+    ) -> Result<ElemSet, AllocError>
+        requires sound { sound self.now }
+        requires start { indep self.now from.now ≡ true }
+        requires below { AllBelow (ground_size self.now) within.now }
+        ensures maximal { IfOk result (λ base. IsMaximal (indep self.now) (union from.now within.now) base) }
+        ensures holds { IfOk result (λ base. IsSubset from.now base) }
+    {
+        self.lawful();
+        let mut base = from.copy(alloc)?;
+        for x in within.as_slice() {
+            self.add_if_independent(alloc, &mut base, *x)?;
+        }
+        Ok(base)
+    }
 
     ghost laws: { (m : Self) → sound m → IsMatroid (ground_size m) (indep m) };
 }

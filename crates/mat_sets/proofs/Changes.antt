@@ -18,11 +18,13 @@ pub without_one-added : (a : List ℕ) (x : ℕ) → IsRising a → is_member x 
 without_one-added a x r m = same_members _ _ (IsRising-without_one _ x (IsRising-with_one a x r)) r (λ k. grind (arith, set_members))
 
 -- a - y is a - x - y + x
-pub without_one-two : (a : List ℕ) (x y : ℕ) → IsRising a → is_member x a ≡ true → eqb y x ≡ false → without_one a y ≡ with_one (without_one (without_one a x) y) x
+pub without_one-two : (a : List ℕ) (x y : ℕ) → IsRising a → is_member x a ≡ true → eqb y x ≡ false
+    → without_one a y ≡ with_one (without_one (without_one a x) y) x
 without_one-two a x y r m differ =
     same_members _ _ (IsRising-without_one a y r) (IsRising-with_one _ x (IsRising-without_one _ y (IsRising-without_one a x r))) (λ k. grind (arith, set_members))
 
-pub without_one-with_one : (a : List ℕ) (x y : ℕ) → IsRising a → eqb x y ≡ false → without_one (with_one a x) y ≡ with_one (without_one a y) x
+pub without_one-with_one : (a : List ℕ) (x y : ℕ) → IsRising a → eqb x y ≡ false
+    → without_one (with_one a x) y ≡ with_one (without_one a y) x
 without_one-with_one a x y r differ =
     same_members _ _ (IsRising-without_one _ y (IsRising-with_one a x r)) (IsRising-with_one _ x (IsRising-without_one a y r)) (λ k. grind (arith, set_members))
 

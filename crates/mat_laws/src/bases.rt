@@ -1,0 +1,44 @@
+//! Bases and ranks of sets of elements.
+
+ghost use Rattle.std.specs.Prelude.{◌≡◌, true, IfOk};
+ghost use Rattle.mat_sets.specs.Sets.{AllBelow, IsSubset, union};
+ghost use Rattle.mat_laws.specs.Matroids.{IsMaximal};
+ghost use Rattle.mat_laws.specs.Ranks.{IsRank, rank};
+
+use crate::matroid::Matroid;
+use mat_sets::ElemSet;
+use std::alloc::{AllocError, Global};
+
+/// A maximal independent subset of `from` ∪ `within` that holds the independent set `from`. At most as many questions
+/// of independence as `within` has members. The only error is want of memory.
+pub fn grow_base<M: Matroid>(
+    alloc: Global,
+    m: &M,
+    from: &ElemSet,
+    within: &ElemSet,
+) -> Result<ElemSet, AllocError>
+    requires sound { M.sound m.now }
+    requires start { M.indep m.now from.now ≡ true }
+    requires below { AllBelow (M.ground_size m.now) within.now }
+    ensures maximal { IfOk result (λ base. IsMaximal (M.indep m.now) (union from.now within.now) base) }
+    ensures holds { IfOk result (λ base. IsSubset from.now base) }
+{
+    m.grown_base(alloc, from, within)
+}
+
+/// The rank of a set of elements: the largest size of an independent subset (Schrijver, chapter 39). At most as many
+/// questions of independence as the set has members. The only error is want of memory.
+pub fn rank_of<M: Matroid>(alloc: Global, m: &M, within: &ElemSet) -> Result<u32, AllocError>
+    requires sound { M.sound m.now }
+    requires below { AllBelow (M.ground_size m.now) within.now }
+    ensures largest { IfOk result (λ r. IsRank (M.indep m.now) within.now r) }
+    ensures rank { IfOk result (λ r. r ≡ rank (M.indep m.now) within.now) }
+{
+    m.lawful();
+    let size = m.size();
+    within.rises();
+    let base = m.grown_base(alloc, &ElemSet::new(alloc), within)?;
+    let rank = base.len();
+    prove!(rank <= size as usize);
+    Ok(rank as u32)
+}
