@@ -2,7 +2,7 @@
 -- line stands behind a space.
 use Rattle.std.proofs.Common.{◌≡◌, ℕ, ◌+◌, ◌<◌, ◌≤◌, suc, codes, List, [], ◌∷◌, ◌++◌, length, map, take, get_or, sym, ap, ◌∙◌, arith, zero-add}
 use Rattle.std.specs.List.{flat_map, join_with_byte}
-use Rattle.std.proofs.lemmas.List.{append_assoc, append-nil, take_more, take_all, length-take}
+use Rattle.std.proofs.lemmas.List.{append_assoc, append-nil, flat_map_more, take_more, take_all, length-take}
 use Rattle.std.proofs.lemmas.List.Folds.{flat_map-map}
 use Rattle.mat_words.specs.Lines.{Line, text_of}
 use Rattle.mat_words.proofs.LineLemmas.{text_of-append}
@@ -26,6 +26,14 @@ rungs_lines_push k (r ∷ rs) rung =
     let same : length rs + suc k ≡ suc (length rs) + k = omega arith in
     ap (λ (t : List Line). rung_lines k r ++ t) (rungs_lines_push (suc k) rs rung ∙ ap (λ (i : ℕ). rungs_lines (suc k) rs ++ rung_lines i rung) same)
     ∙ sym (append_assoc (rung_lines k r) (rungs_lines (suc k) rs) (rung_lines (suc (length rs) + k) rung))
+
+-- the text after one more item of a line was written
+pub item_written : {A : Type 0} (f : A → List ℕ) (start : List ℕ) (xs : List A) (i : ℕ) (d : A) (out new : List ℕ) → i < length xs
+    → out ≡ start ++ flat_map (λ x. 32 ∷ f x) (take i xs) → new ≡ out ++ 32 ∷ f (get_or xs i d)
+    → new ≡ start ++ flat_map (λ x. 32 ∷ f x) (take (i + 1) xs)
+item_written f start xs i d out new inside loop last =
+    last ∙ ap (λ (t : List ℕ). t ++ 32 ∷ f (get_or xs i d)) loop ∙ flat_map_more (λ x. 32 ∷ f x) start (take i xs) (get_or xs i d)
+    ∙ ap (λ t. start ++ flat_map (λ x. 32 ∷ f x) t) (sym (take_more xs i d inside))
 
 -- the text after a line was written, item after item
 pub line_written : {A : Type 0} (f : A → List ℕ) (old w : List ℕ) (xs : List A) (n : ℕ) (out new : List ℕ) → length xs ≤ n
