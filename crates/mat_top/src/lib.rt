@@ -11,3 +11,6 @@ mod writing;
 
 pub use status::Status;
 pub use top_call::run;
+
+#[cfg(test)]
+mod tests;

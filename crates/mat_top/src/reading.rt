@@ -66,10 +66,8 @@ pub fn read_all<F: Shelf>(
     requires { limit < 2 ^ 32 }
     ensures held { (other : List ℕ) → F.held files.new other ≡ F.held files.old other }
     ensures grows { (other : List ℕ) → F.faults files.old other ≤ F.faults files.new other }
-    ensures read {
-        MatchResult result (λ v. WasRead (F.held files.old name.now) limit v.items)
-            (λ e. NotRead (F.held files.old name.now) limit (F.left files.new) (F.faults files.old name.now) (F.faults files.new name.now) e)
-    }
+    ensures read { MatchResult result (λ v. WasRead (F.held files.old name.now) limit v.items)
+        (λ e. NotRead (F.held files.old name.now) limit (F.left files.new) (F.faults files.old name.now) (F.faults files.new name.now) e) }
 {
     if files.open(name).is_err() {
         return Err(Unread::Fault);

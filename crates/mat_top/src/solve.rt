@@ -60,10 +60,8 @@ fn free_ladder(alloc: Global, first: &AnyMatroid, weights: &Weights) -> Result<A
     requires lengths { element_count (tree_of first.now) ≡ length weights.now }
     requires few { length weights.now ≤ 500 }
     requires small { AreWithin (10 ^ 12) weights.now }
-    ensures {
-        IfOk result (λ answer. (m cap : ℕ) → m ≡ length weights.now → length weights.now ≤ cap
-            → IsSolution (pair weights.now (tree_of first.now) (uniform m cap)) (certificate_of answer))
-    }
+    ensures { IfOk result (λ answer. (m cap : ℕ) → m ≡ length weights.now → length weights.now ≤ cap
+        → IsSolution (pair weights.now (tree_of first.now) (uniform m cap)) (certificate_of answer)) }
 {
     first.lawful();
     let sets = heaviest_each(alloc, first, weights.as_slice())?;

@@ -77,10 +77,8 @@ fn intersect<F: Shelf, O: Sink>(alloc: Global, files: &mut F, out: &mut O, file:
     ensures held { (name : List ℕ) → F.held files.new name ≡ F.held files.old name }
     ensures grows { (name : List ℕ) → F.faults files.old name ≤ F.faults files.new name }
     ensures out_grows { O.faults out.old ≤ O.faults out.new }
-    ensures ended {
-        IsEnded (F.held files.old file.now) (F.faults files.old file.now) (F.faults files.new file.now)
-            (O.written out.old) (O.faults out.old) (O.written out.new) (O.faults out.new) result
-    }
+    ensures ended { IsEnded (F.held files.old file.now) (F.faults files.old file.now) (F.faults files.new file.now)
+        (O.written out.old) (O.faults out.old) (O.written out.new) (O.faults out.new) result }
 {
     match answer(alloc, files, file) {
         Ok(text) => written(out, &text),
@@ -112,37 +110,27 @@ pub fn run<F: Shelf, O: Sink, N: Sink>(
     ensures unopened { result ≡ Status.Usage → files.new ≡ files.old }
 
     // Faults have a cause: a count that rose.
-    ensures read_fault {
-        result ≡ Status.ReadFault → (name : List ℕ) × CallReaches (F.held files.old) (command_line (map string_bytes words.now)) name
-            × Rose (F.faults files.old name) (F.faults files.new name)
-    }
+    ensures read_fault { result ≡ Status.ReadFault → (name : List ℕ) × CallReaches (F.held files.old) (command_line (map string_bytes words.now)) name
+        × Rose (F.faults files.old name) (F.faults files.new name) }
     ensures write_fault { result ≡ Status.WriteFault → Rose (O.faults out.old) (O.faults out.new) }
 
     // Where the files are told, the status is that of the outcome.
-    ensures status {
-        Tells (F.held files.old) (command_line (map string_bytes words.now))
-            → IsStatus (F.held files.old) (command_line (map string_bytes words.now)) result
-    }
+    ensures status { Tells (F.held files.old) (command_line (map string_bytes words.now))
+        → IsStatus (F.held files.old) (command_line (map string_bytes words.now)) result }
 
     // The answer is written whole, or a prefix of it, or nothing.
-    ensures written {
-        IsWritten (F.held files.old) (command_line (map string_bytes words.now)) (O.written out.old) (O.written out.new) result
-    }
+    ensures written { IsWritten (F.held files.old) (command_line (map string_bytes words.now)) (O.written out.old) (O.written out.new) result }
 
     // The note of the status is written, or a prefix of it where the sink fails.
-    ensures noted {
-        (note : List ℕ) × IsNote (F.held files.old) (command_line (map string_bytes words.now)) result note
-            × IsNoted note (N.written notes.old) (N.faults notes.old) (N.written notes.new) (N.faults notes.new)
-    }
+    ensures noted { (note : List ℕ) × IsNote (F.held files.old) (command_line (map string_bytes words.now)) result note
+        × IsNoted note (N.written notes.old) (N.faults notes.old) (N.written notes.new) (N.faults notes.new) }
 
     // Where the files are told and no count rose, the outcome is reached, or memory ran out.
-    ensures complete {
-        Tells (F.held files.old) (command_line (map string_bytes words.now))
-            → ((name : List ℕ) → CallReaches (F.held files.old) (command_line (map string_bytes words.now)) name
-                → ¬ (Rose (F.faults files.old name) (F.faults files.new name)))
-            → ¬ (Rose (O.faults out.old) (O.faults out.new))
-            → IsOutcome (F.held files.old) (command_line (map string_bytes words.now)) result ⊎ (result ≡ Status.Memory)
-    }
+    ensures complete { Tells (F.held files.old) (command_line (map string_bytes words.now))
+        → ((name : List ℕ) → CallReaches (F.held files.old) (command_line (map string_bytes words.now)) name
+        → ¬ (Rose (F.faults files.old name) (F.faults files.new name)))
+        → ¬ (Rose (O.faults out.old) (O.faults out.new))
+        → IsOutcome (F.held files.old) (command_line (map string_bytes words.now)) result ⊎ (result ≡ Status.Memory) }
 {
     let Some(Command::Intersect { file }) = command_of(words) else {
         put_note(notes, Status::Usage);

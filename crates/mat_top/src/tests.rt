@@ -1,0 +1,275 @@
+//! The top call over shelves and sinks in memory: small problems with known answers, refusals, and faults at known calls.
+
+ghost use Rattle.std.specs.Prelude.{IfOk};
+ghost use Rattle.mat_shelf.specs.Files.{HaveDifferentNames};
+
+use crate::{Status, run};
+use mat_count::Uniform;
+use mat_greedy::{heaviest_each, heaviest_of};
+use mat_laws::{Matroid, grow_base, rank_of};
+use mat_sets::ElemSet;
+use mat_shelf::{MemShelf, MemSink, NamedFile, SureShelf, SureSink};
+use std::alloc::{AllocError, Global};
+use std::test::Fail;
+
+const EMPTY_PAIR: &str = "matroids 1\npair 0\nweights\nuniform 0\nuniform 0\nend\n";
+
+const EMPTY_ANSWER: &[u8] =
+    b"certificate 1\nanswer intersect 0 0\nrung 0 0\nset\nfirst\nsecond\ncut\nend\n";
+
+const ONE_CLASS: &str =
+    "matroids 1\npair 3\nweights 4 -1 3\npartition 1\nclass 1 0 2\nuniform 3\nend\n";
+
+const TWO_UNIFORMS: &str =
+    "matroids 1\npair 4\nweights 1000000000000 -1000000000000 1000000000000 -1000000000000\nuniform 4\nuniform 4\nend\n";
+
+const TWO_PARTITIONS: &str =
+    "matroids 1\npair 4\nweights 5 4 4 1\npartition 2\nclass 1 0 1\nclass 1 2 3\npartition 2\nclass 1 0 2\nclass 1 1 3\nend\n";
+
+const SMALL_CAP: &str = "matroids 1\npair 2\nweights 1 1\nuniform 2\nuniform 0\nend\n";
+
+fn words_of(alloc: Global, words: &[&str]) -> Result<Vec<String>, AllocError> {
+    let mut all = Vec::new(alloc);
+    for word in words {
+        all.push(String::from_str(alloc, word)?)?;
+    }
+    Ok(all)
+}
+
+// The one file `f`.
+fn one_file(alloc: Global, text: &str) -> Result<Vec<NamedFile>, AllocError>
+    ensures { IfOk result (λ files. HaveDifferentNames files.items) }
+{
+    let bytes = text.as_bytes().to_vec(alloc)?;
+    let file = NamedFile::new(String::from_str(alloc, "f")?, bytes);
+    let mut files = Vec::new(alloc);
+    files.push(file)?;
+    Ok(files)
+}
+
+// How a call over the file `f` with this text ends, where the calls of the shelf with the numbers in `fail` fail.
+fn ended(
+    alloc: Global,
+    words: &[&str],
+    text: &str,
+    fail: Vec<u64>,
+    out: &mut MemSink,
+    notes: &mut MemSink,
+) -> Result<Status, AllocError> {
+    let words = words_of(alloc, words)?;
+    let mut shelf = MemShelf::new(one_file(alloc, text)?, 7, fail);
+    Ok(run(alloc, &words, &mut shelf, out, notes))
+}
+
+fn large_sink(alloc: Global) -> Result<MemSink, AllocError> {
+    MemSink::new(alloc, 4096, 4096, Vec::new(alloc))
+}
+
+fn has_line(text: &[u8], line: &[u8]) -> bool {
+    text.split(|b| *b == b'\n').any(|part| part == line)
+}
+
+#[test]
+fn no_elements_have_one_rung(rt: HostRuntime) -> Result<(), Fail> {
+    let alloc = rt.alloc();
+    let mut out = large_sink(alloc)?;
+    let mut notes = large_sink(alloc)?;
+    let words = ["intersect", "f"];
+    let status = ended(
+        alloc,
+        &words,
+        EMPTY_PAIR,
+        Vec::new(alloc),
+        &mut out,
+        &mut notes,
+    )?;
+    assert_eq!(rt; status, Status::Done);
+    assert_eq!(rt; out.taken(), EMPTY_ANSWER);
+    assert!(rt; notes.taken().is_empty());
+    Ok(())
+}
+
+#[test]
+fn a_class_of_two_lets_one_of_them_in(rt: HostRuntime) -> Result<(), Fail> {
+    let alloc = rt.alloc();
+    let mut out = large_sink(alloc)?;
+    let mut notes = large_sink(alloc)?;
+    let words = ["intersect", "f"];
+    let status = ended(
+        alloc,
+        &words,
+        ONE_CLASS,
+        Vec::new(alloc),
+        &mut out,
+        &mut notes,
+    )?;
+    assert_eq!(rt; status, Status::Done);
+    assert!(rt; has_line(out.taken(), b"answer intersect 3 2".as_slice()));
+    assert!(rt; has_line(out.taken(), b"rung 1 4".as_slice()));
+    assert!(rt; has_line(out.taken(), b"rung 2 3".as_slice()));
+    assert!(rt; has_line(out.taken(), b"set 0 1".as_slice()));
+    assert!(rt; has_line(out.taken(), b"cut".as_slice()));
+    Ok(())
+}
+
+#[test]
+fn the_largest_weights_are_added(rt: HostRuntime) -> Result<(), Fail> {
+    let alloc = rt.alloc();
+    let mut out = large_sink(alloc)?;
+    let mut notes = large_sink(alloc)?;
+    let words = ["intersect", "f"];
+    let status = ended(
+        alloc,
+        &words,
+        TWO_UNIFORMS,
+        Vec::new(alloc),
+        &mut out,
+        &mut notes,
+    )?;
+    assert_eq!(rt; status, Status::Done);
+    assert!(rt; has_line(out.taken(), b"rung 1 1000000000000".as_slice()));
+    assert!(rt; has_line(out.taken(), b"rung 2 2000000000000".as_slice()));
+    assert!(rt; has_line(out.taken(), b"rung 3 1000000000000".as_slice()));
+    assert!(rt; has_line(out.taken(), b"rung 4 0".as_slice()));
+    Ok(())
+}
+
+#[test]
+fn a_second_matroid_that_is_not_free_is_not_built(rt: HostRuntime) -> Result<(), Fail> {
+    let alloc = rt.alloc();
+    for text in [TWO_PARTITIONS, SMALL_CAP, "x"] {
+        let mut out = large_sink(alloc)?;
+        let mut notes = large_sink(alloc)?;
+        let words = ["intersect", "f"];
+        let status = ended(alloc, &words, text, Vec::new(alloc), &mut out, &mut notes)?;
+        assert_eq!(rt; status, Status::NotBuilt);
+        assert!(rt; out.taken().is_empty());
+        assert_eq!(rt; notes.taken(), b"refused: not built\n".as_slice());
+    }
+    Ok(())
+}
+
+#[test]
+fn words_that_are_no_command_are_usage(rt: HostRuntime) -> Result<(), Fail> {
+    let alloc = rt.alloc();
+    let lines: [&[&str]; 6] = [
+        &[],
+        &["intersect"],
+        &["intersect", "--workers"],
+        &["intersect", "--workers", "17", "f"],
+        &["trees", "0", "f"],
+        &["sample", "pair", "0", "1"],
+    ];
+    for words in lines {
+        let mut out = large_sink(alloc)?;
+        let mut notes = large_sink(alloc)?;
+        let status = ended(
+            alloc,
+            words,
+            EMPTY_PAIR,
+            Vec::new(alloc),
+            &mut out,
+            &mut notes,
+        )?;
+        assert_eq!(rt; status, Status::Usage);
+        assert!(rt; out.taken().is_empty());
+        assert_eq!(rt; notes.taken(), b"refused: usage\n".as_slice());
+    }
+    Ok(())
+}
+
+#[test]
+fn a_failed_read_and_a_missing_file_are_read_faults(rt: HostRuntime) -> Result<(), Fail> {
+    let alloc = rt.alloc();
+    let mut out = large_sink(alloc)?;
+    let mut notes = large_sink(alloc)?;
+    let fail = vec![in alloc; 2]?;
+    let status = ended(
+        alloc,
+        &["intersect", "f"],
+        EMPTY_PAIR,
+        fail,
+        &mut out,
+        &mut notes,
+    )?;
+    assert_eq!(rt; status, Status::ReadFault);
+    let fail = Vec::new(alloc);
+    let status = ended(
+        alloc,
+        &["intersect", "g"],
+        EMPTY_PAIR,
+        fail,
+        &mut out,
+        &mut notes,
+    )?;
+    assert_eq!(rt; status, Status::ReadFault);
+    assert!(rt; out.taken().is_empty());
+    assert_eq!(rt;
+        notes.taken(),
+        b"refused: read fault\nrefused: read fault\n".as_slice()
+    );
+    Ok(())
+}
+
+#[test]
+fn a_failed_write_leaves_a_prefix(rt: HostRuntime) -> Result<(), Fail> {
+    let alloc = rt.alloc();
+    let words = ["intersect", "f"];
+    let mut notes = MemSink::new(alloc, 100, 100, vec![in alloc; 1]?)?;
+    let mut out = MemSink::new(alloc, 100, 1, Vec::new(alloc))?;
+    let status = ended(
+        alloc,
+        &words,
+        EMPTY_PAIR,
+        Vec::new(alloc),
+        &mut out,
+        &mut notes,
+    )?;
+    assert_eq!(rt; status, Status::Done);
+    assert_eq!(rt; out.taken(), EMPTY_ANSWER);
+    let mut out = MemSink::new(alloc, 100, 1, vec![in alloc; 3]?)?;
+    let status = ended(
+        alloc,
+        &words,
+        EMPTY_PAIR,
+        Vec::new(alloc),
+        &mut out,
+        &mut notes,
+    )?;
+    assert_eq!(rt; status, Status::WriteFault);
+    assert_eq!(rt; out.taken(), b"ce".as_slice());
+    assert!(rt; notes.taken().is_empty());
+    Ok(())
+}
+
+#[test]
+fn objects_that_never_fail_give_the_answer(rt: HostRuntime) -> Result<(), Fail> {
+    let alloc = rt.alloc();
+    let words = words_of(alloc, &["intersect", "any"])?;
+    let mut shelf = SureShelf::new(Vec::new(alloc), EMPTY_PAIR.as_bytes().to_vec(alloc)?);
+    let mut out = SureSink::new(alloc, 100)?;
+    let mut notes = SureSink::new(alloc, 100)?;
+    let status = run(alloc, &words, &mut shelf, &mut out, &mut notes);
+    assert_eq!(rt; status, Status::Done);
+    assert_eq!(rt; out.taken(), EMPTY_ANSWER);
+    assert!(rt; notes.taken().is_empty());
+    Ok(())
+}
+
+#[test]
+fn two_of_four_elements_are_independent(rt: HostRuntime) -> Result<(), Fail> {
+    let alloc = rt.alloc();
+    let matroid = Uniform::new(4, 2);
+    let weights = [5, 7, -2, 7];
+    let sets = heaviest_each(alloc, &matroid, &weights)?;
+    assert_eq!(rt; sets.len(), 3);
+    assert_eq!(rt; sets.get(2).as_slice(), [1, 3].as_slice());
+    assert!(rt; heaviest_of(alloc, &matroid, &weights, 2)?.is_some());
+    assert!(rt; heaviest_of(alloc, &matroid, &weights, 3)?.is_none());
+    let all = ElemSet::all_below(alloc, 4)?;
+    assert_eq!(rt; rank_of(alloc, &matroid, &all)?, 2);
+    matroid.lawful();
+    let base = grow_base(alloc, &matroid, &ElemSet::new(alloc), &all)?;
+    assert_eq!(rt; base.as_slice(), [0, 1].as_slice());
+    Ok(())
+}
