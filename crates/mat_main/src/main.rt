@@ -6,15 +6,22 @@ mod help;
 use crate::help::{HELP, VERSION};
 use mat_shelf::{FileShelf, StreamSink};
 use mat_top::{Status, run};
+use std::alloc::AllocError;
 use std::io::Write;
 use std::process::ExitCode;
 use std::{env, io};
 
-// The words after the program's name.
-fn words_of(rt: &HostRuntime) -> io::Result<Vec<String>> {
+// The words after the program's name: none where they are not UTF-8, which are no command either.
+fn words_of(rt: &HostRuntime) -> Result<Vec<String>, AllocError> {
     let mut words = Vec::new(rt.alloc());
-    for word in env::args(rt)?.skip(1) {
-        words.push(word)?;
+    match env::args(rt) {
+        Ok(args) => {
+            for word in args.skip(1) {
+                words.push(word)?;
+            }
+        }
+        Err(e) if e.kind() == io::ErrorKind::OutOfMemory => return Err(AllocError),
+        Err(_) => {}
     }
     Ok(words)
 }
