@@ -1,7 +1,7 @@
 -- The words of a line: the test of a well spaced line as one walk from left to right, the sentence that it decides, and lines that are
 -- joined from words. The walk's state says whether a word is to begin at the next byte.
 use Rattle.std.proofs.Common.{◌≡◌, ◌≢◌, ℕ, zero, suc, ◌+◌, ◌-◌, ◌<◌, ◌≤◌, Bool, true, false, ◌&&◌, not, cond, eqb, leb, List, [], ◌∷◌, ◌++◌, length, get_or, drop, refl, sym, ap, subst, inl, inr, ◌∙◌, arith, zero-add, Option, Some, None}
-use Rattle.std.specs.List.{slice_split, onto_first, list_all, join_with_byte, AllByRecursion, slice_get}
+use Rattle.std.specs.List.{onto_first, list_all, join_with_byte, AllByRecursion, slice_get}
 use Rattle.std.specs.Option.{MatchOption}
 use Rattle.std.proofs.lemmas.Bool.{ne_eqb, eq-eqb, cases_eq, and_parts, and_from, leb-true, le-leb}
 use Rattle.std.proofs.lemmas.Grind.{common_steps}
@@ -9,9 +9,9 @@ use Rattle.std.proofs.lemmas.List.{drop_more, drop_all}
 use Rattle.std.proofs.lemmas.List.Elements.{All-from_recursion}
 use Rattle.std.proofs.lemmas.List.Splits.{slice_split_none, slice_split_at, join_with_byte-slice_split}
 use Rattle.mat_words.specs.Lines.{HasNoNewline}
-use Rattle.mat_words.specs.Words.{is_space, is_letter, is_word, words_of, is_well_spaced, IsWellSpaced}
+use Rattle.mat_words.specs.Words.{is_space, is_letter, parts_of, is_word, words_of, is_well_spaced, IsWellSpaced}
 
--- whether the parts are words, read from left to right: at the start of one or not
+-- the walk: whether what is left is words, where a word is to begin at its start, or may go on there
 abbrev pub spaced_from : Bool → List ℕ → Bool
 spaced_from start [] = not start
 spaced_from start (b ∷ bs) = cond (is_space b) (not start && spaced_from true bs) (is_letter b && spaced_from false bs)
@@ -22,37 +22,42 @@ goes_on start [] = true
 goes_on true (w ∷ ws) = list_all is_word (w ∷ ws)
 goes_on false (w ∷ ws) = list_all is_letter w && list_all is_word ws
 
+-- one more byte before the first part
 goes_on-onto : (b : ℕ) (start : Bool) (parts : List (List ℕ)) → goes_on start (onto_first b parts) ≡ is_letter b && goes_on false parts
 goes_on-onto b true [] = grind arith
 goes_on-onto b false [] = grind arith
 goes_on-onto b true (w ∷ ws) = grind arith
 goes_on-onto b false (w ∷ ws) = grind arith
 
+-- where a word is to begin, the parts are words
 goes_on-true : (parts : List (List ℕ)) → goes_on true parts ≡ list_all is_word parts
 goes_on-true [] = refl
 goes_on-true (w ∷ ws) = refl
 
-step : (space : Bool) (b : ℕ) (start : Bool) (rest : List (List ℕ)) (x y : Bool) → x ≡ goes_on true rest → y ≡ goes_on false rest
+-- the walk and the parts agree before a byte where they do after it
+spaced_step : (space : Bool) (b : ℕ) (start : Bool) (rest : List (List ℕ)) (x y : Bool) → x ≡ goes_on true rest → y ≡ goes_on false rest
     → cond space (not start && x) (is_letter b && y) ≡ goes_on start (cond space ([] ∷ rest) (onto_first b rest))
-step true b true rest x y p q = refl
-step true b false rest x y p q = p ∙ goes_on-true rest
-step false b start rest x y p q = ap (λ (v : Bool). is_letter b && v) q ∙ sym (goes_on-onto b start rest)
+spaced_step true b true rest x y p q = refl
+spaced_step true b false rest x y p q = p ∙ goes_on-true rest
+spaced_step false b start rest x y p q = ap (λ (v : Bool). is_letter b && v) q ∙ sym (goes_on-onto b start rest)
 
-pub spaced_is : (start : Bool) (bs : List ℕ) → spaced_from start bs ≡ goes_on start (slice_split is_space bs)
+-- the walk says what the parts say
+pub spaced_is : (start : Bool) (bs : List ℕ) → spaced_from start bs ≡ goes_on start (parts_of bs)
 spaced_is true [] = refl
 spaced_is false [] = refl
-spaced_is start (b ∷ bs) = step (is_space b) b start (slice_split is_space bs) (spaced_from true bs) (spaced_from false bs) (spaced_is true bs) (spaced_is false bs)
+spaced_is start (b ∷ bs) = spaced_step (is_space b) b start (parts_of bs) (spaced_from true bs) (spaced_from false bs) (spaced_is true bs) (spaced_is false bs)
 
-well_is : (line : List ℕ) → 0 < length line → spaced_from true line ≡ is_well_spaced line
-well_is [] lt = absurd (omega arith)
-well_is (b ∷ bs) lt = spaced_is true (b ∷ bs) ∙ goes_on-true (slice_split is_space (b ∷ bs))
+-- the walk over a whole line is the test
+well_spaced_is : (line : List ℕ) → 0 < length line → spaced_from true line ≡ is_well_spaced line
+well_spaced_is [] lt = absurd (omega arith)
+well_spaced_is (b ∷ bs) lt = spaced_is true (b ∷ bs) ∙ goes_on-true (parts_of (b ∷ bs))
 
 -- no word ends here
 pub stops_at_space : (line : List ℕ) (i : ℕ) → i < length line → get_or line i 0 ≡ 32 → spaced_from true (drop i line) ≡ spaced_from true line → false ≡ is_well_spaced line
 stops_at_space line i lt here so_far =
     let cut : drop i line ≡ get_or line i 0 ∷ drop (i + 1) line = drop_more line i 0 lt in
     let one : spaced_from true (drop i line) ≡ false = rw (cut, here) refl in
-    sym one ∙ so_far ∙ well_is line (omega arith)
+    sym one ∙ so_far ∙ well_spaced_is line (omega arith)
 
 -- a byte that stands in no word
 pub stops_at_other : (line : List ℕ) (i : ℕ) (start : Bool) → i < length line → get_or line i 0 ≢ 32 → is_letter (get_or line i 0) ≡ false
@@ -61,19 +66,19 @@ stops_at_other line i start lt space letter so_far =
     let cut : drop i line ≡ get_or line i 0 ∷ drop (i + 1) line = drop_more line i 0 lt in
     let apart : eqb (get_or line i 0) 32 ≡ false = grind (arith, common_steps) in
     let one : spaced_from start (drop i line) ≡ false = rw (cut, apart, letter) refl in
-    sym one ∙ so_far ∙ well_is line (omega arith)
+    sym one ∙ so_far ∙ well_spaced_is line (omega arith)
 
 -- at the end of the line
-pub ends : (line : List ℕ) (i : ℕ) (start : Bool) → length line ≤ i → spaced_from start (drop i line) ≡ spaced_from true line → cond start (eqb (length line) 0) true ≡ is_well_spaced line
-ends [] i true le so_far = refl
-ends [] i false le so_far = refl
-ends (b ∷ bs) i true le so_far =
+pub at_line_end : (line : List ℕ) (i : ℕ) (start : Bool) → length line ≤ i → spaced_from start (drop i line) ≡ spaced_from true line → cond start (eqb (length line) 0) true ≡ is_well_spaced line
+at_line_end [] i true le so_far = refl
+at_line_end [] i false le so_far = refl
+at_line_end (b ∷ bs) i true le so_far =
     let one : spaced_from true (drop i (b ∷ bs)) ≡ false = rw (drop_all i (b ∷ bs) le) refl in
     let some : eqb (length (b ∷ bs)) 0 ≡ false = ne_eqb (length (b ∷ bs)) 0 (λ e. omega arith) in
-    some ∙ sym one ∙ so_far ∙ well_is (b ∷ bs) (omega arith)
-ends (b ∷ bs) i false le so_far =
+    some ∙ sym one ∙ so_far ∙ well_spaced_is (b ∷ bs) (omega arith)
+at_line_end (b ∷ bs) i false le so_far =
     let one : spaced_from false (drop i (b ∷ bs)) ≡ true = rw (drop_all i (b ∷ bs) le) refl in
-    sym one ∙ so_far ∙ well_is (b ∷ bs) (omega arith)
+    sym one ∙ so_far ∙ well_spaced_is (b ∷ bs) (omega arith)
 
 -- ---- words that are joined
 
@@ -91,7 +96,7 @@ word_letters [] h = absurd cc
 word_letters (b ∷ bs) h = h
 
 -- the parts of words that are joined are those words
-parts_again : (w : List ℕ) (ws : List (List ℕ)) → list_all is_word (w ∷ ws) ≡ true → slice_split is_space (join_with_byte 32 (w ∷ ws)) ≡ w ∷ ws
+parts_again : (w : List ℕ) (ws : List (List ℕ)) → list_all is_word (w ∷ ws) ≡ true → parts_of (join_with_byte 32 (w ∷ ws)) ≡ w ∷ ws
 parts_again w [] h =
     let p = and_parts (is_word w) true h in
     slice_split_none is_space w (All-from_recursion (λ x. is_space x ≡ false) w (letters_apart 32 (omega arith) w (word_letters w p.0)))
@@ -106,6 +111,7 @@ words_again [] ws h = absurd cc
 words_again (b ∷ bs) [] h = (parts_again (b ∷ bs) [] h, omega arith)
 words_again (b ∷ bs) (v ∷ vs) h = (parts_again (b ∷ bs) (v ∷ vs) h, omega arith)
 
+-- what stands in neither of two lists stands in none of their join
 apart_append : (xs ys : List ℕ) → AllByRecursion (λ x. eqb x 10 ≡ false) xs → AllByRecursion (λ x. eqb x 10 ≡ false) ys → AllByRecursion (λ x. eqb x 10 ≡ false) (xs ++ ys)
 apart_append [] ys p q = q
 apart_append (x ∷ xs) ys p q = (p.0, apart_append xs ys p.1 q)
@@ -117,10 +123,12 @@ joined_apart w (v ∷ vs) h =
     let p = and_parts (is_word w) (list_all is_word (v ∷ vs)) h in
     apart_append w (32 ∷ join_with_byte 32 (v ∷ vs)) (letters_apart 10 (omega arith) w (word_letters w p.0)) (refl, joined_apart v vs p.1)
 
+-- the test of a byte 10 as a fact
 no_newline : (xs : List ℕ) → AllByRecursion (λ x. eqb x 10 ≡ false) xs → AllByRecursion (λ x. x ≢ 10) xs
 no_newline [] h = tt
 no_newline (x ∷ xs) h = (λ e. absurd (cc (eq-eqb x 10 e, h.0)), no_newline xs h.1)
 
+-- the same, in the words of the law
 pub joined_no_newline : (w : List ℕ) (ws : List (List ℕ)) → list_all is_word (w ∷ ws) ≡ true → HasNoNewline (join_with_byte 32 (w ∷ ws))
 joined_no_newline w ws h = All-from_recursion (λ x. x ≢ 10) (join_with_byte 32 (w ∷ ws)) (no_newline (join_with_byte 32 (w ∷ ws)) (joined_apart w ws h))
 
@@ -149,14 +157,17 @@ record IsSpacedFrom (start : Bool) (bs : List ℕ) : Type 0 where
   pub last : 0 < length bs → get_or bs (length bs - 1) 0 ≢ 32
   pub single : (k : ℕ) → suc k < length bs → get_or bs k 0 ≡ 32 → get_or bs (suc k) 0 ≢ 32
 
+-- what holds of the first place and of each one after it
 at_each : (P : ℕ → Type 0) → P 0 → ((k : ℕ) → P (suc k)) → (k : ℕ) → P k
 at_each P here after zero = here
 at_each P here after (suc k) = after k
 
+-- the last byte, with a byte put before
 last_on : (b : ℕ) (bs : List ℕ) → 0 < length bs → get_or (b ∷ bs) (length (b ∷ bs) - 1) 0 ≡ get_or bs (length bs - 1) 0
 last_on b [] some = absurd (omega arith)
 last_on b (c ∷ cs) some = let e : length (b ∷ c ∷ cs) - 1 ≡ suc (length (c ∷ cs) - 1) = omega arith in ap (λ (k : ℕ). get_or (b ∷ c ∷ cs) k 0) e
 
+-- it is no space where neither a lone byte nor the last of the others is
 last_of : (b : ℕ) (bs : List ℕ) → (length bs ≡ 0 → b ≢ 32) → (0 < length bs → get_or bs (length bs - 1) 0 ≢ 32) → get_or (b ∷ bs) (length (b ∷ bs) - 1) 0 ≢ 32
 last_of b [] alone more = alone refl
 last_of b (c ∷ cs) alone more = λ e. more (omega arith) (sym (last_on b (c ∷ cs) (omega arith)) ∙ e)
@@ -171,10 +182,12 @@ said_before start next b bs rest low high first alone space = record {
   single = at_each (λ k. suc k < length (b ∷ bs) → get_or (b ∷ bs) k 0 ≡ 32 → get_or (b ∷ bs) (suc k) 0 ≢ 32) (λ lt e. rest.first (space e)) (λ k lt e. rest.single k (omega arith) e);
 }
 
+-- no word is to begin where the walk went on over a space
 not_start : (start : Bool) → not start ≡ true → start ≡ true → ⊥
 not_start true h e = absurd cc
 not_start false h e = absurd cc
 
+-- what the test of a letter says
 letter_bounds : (b : ℕ) → is_letter b ≡ true → (33 ≤ b) × (b ≤ 126)
 letter_bounds b h = let p = and_parts (leb 33 b) (leb b 126) h in (leb-true 33 b p.0, leb-true b 126 p.1)
 
@@ -217,6 +230,7 @@ said_after start next b (c ∷ cs) whole space = record {
   single = λ k lt. whole.single (suc k) (omega arith);
 }
 
+-- the walk may go on over a space where no word is to begin
 no_start : (start : Bool) → (start ≡ true → ⊥) → not start ≡ true
 no_start true h = absurd (h refl)
 no_start false h = refl
@@ -243,7 +257,7 @@ well_spaced_says [] h = record {
   single = λ k lt. absurd (omega arith);
 }
 well_spaced_says (b ∷ bs) h =
-    let whole = walk_says true (b ∷ bs) (well_is (b ∷ bs) (omega arith) ∙ h) in
+    let whole = walk_says true (b ∷ bs) (well_spaced_is (b ∷ bs) (omega arith) ∙ h) in
     record {
       printable = whole.printable;
       first = λ lt. whole.first refl;
@@ -255,7 +269,7 @@ well_spaced_says (b ∷ bs) h =
 pub well_spaced_from : (line : List ℕ) → IsWellSpaced line → is_well_spaced line ≡ true
 well_spaced_from [] whole = refl
 well_spaced_from (b ∷ bs) whole =
-    sym (well_is (b ∷ bs) (omega arith)) ∙ walk_accepts true (b ∷ bs) (record {
+    sym (well_spaced_is (b ∷ bs) (omega arith)) ∙ walk_accepts true (b ∷ bs) (record {
       printable = whole.printable;
       some = λ e. omega arith;
       first = λ e. whole.first (omega arith);
@@ -267,8 +281,8 @@ well_spaced_from (b ∷ bs) whole =
 
 -- k words of the line stand before the rest
 pub record IsPassed (line rest : List ℕ) (k : ℕ) : Type 0 where
-  pub count : length (words_of line) ≡ k + length (slice_split is_space rest)
-  pub same : (j : ℕ) → slice_get (words_of line) (k + j) ≡ slice_get (slice_split is_space rest) j
+  pub count : length (words_of line) ≡ k + length (parts_of rest)
+  pub same : (j : ℕ) → slice_get (words_of line) (k + j) ≡ slice_get (parts_of rest) j
 
 -- at the start none does
 pub none_passed : (line : List ℕ) → 0 < length line → IsPassed line line 0
@@ -276,20 +290,20 @@ none_passed [] some = absurd (omega arith)
 none_passed (b ∷ bs) some = record { count = omega arith; same = λ j. rw zero-add refl }
 
 -- one more word is passed
-pub word_passed : (line rest w after : List ℕ) (k : ℕ) → slice_split is_space rest ≡ w ∷ slice_split is_space after → IsPassed line rest k → IsPassed line after (k + 1)
+pub word_passed : (line rest w after : List ℕ) (k : ℕ) → parts_of rest ≡ w ∷ parts_of after → IsPassed line rest k → IsPassed line after (k + 1)
 word_passed line rest w after k e so_far = record {
   count = so_far.count ∙ rw e (omega arith);
   same = λ j. let shift : k + 1 + j ≡ k + suc j = omega arith in rw shift (so_far.same (suc j) ∙ rw e refl);
 }
 
 -- the rest is the last word
-pub last_passed : (line rest w : List ℕ) (k i : ℕ) → slice_split is_space rest ≡ w ∷ [] → IsPassed line rest k → k < i → length (words_of line) ≤ i
+pub last_passed : (line rest w : List ℕ) (k i : ℕ) → parts_of rest ≡ w ∷ [] → IsPassed line rest k → k < i → length (words_of line) ≤ i
 last_passed line rest w k i e so_far lt =
     let n : length (words_of line) ≡ k + 1 = so_far.count ∙ rw e refl in
     omega arith
 
 -- the first word of the rest is the k-th of the line
 pub word_found : {X : Type 0} (f : X → List ℕ) (o : Option X) (line rest w : List ℕ) (k i : ℕ)
-    → MatchOption o (slice_split is_space rest ≡ w ∷ []) (λ x. slice_split is_space rest ≡ w ∷ slice_split is_space (f x)) → IsPassed line rest k → k ≡ i → slice_get (words_of line) i ≡ Some w
+    → MatchOption o (parts_of rest ≡ w ∷ []) (λ x. parts_of rest ≡ w ∷ parts_of (f x)) → IsPassed line rest k → k ≡ i → slice_get (words_of line) i ≡ Some w
 word_found f None line rest w k i e so_far same = let at : k + 0 ≡ i = omega arith in sym (ap (slice_get (words_of line)) at) ∙ so_far.same 0 ∙ rw e refl
 word_found f (Some x) line rest w k i e so_far same = let at : k + 0 ≡ i = omega arith in sym (ap (slice_get (words_of line)) at) ∙ so_far.same 0 ∙ rw e refl

@@ -15,10 +15,14 @@ abbrev pub is_word : List ℕ → Bool
 is_word [] = false
 is_word (b ∷ bs) = list_all is_letter (b ∷ bs)
 
+-- the parts of a line that single spaces part, of which there is at least one
+abbrev pub parts_of : List ℕ → List (List ℕ)
+parts_of line = slice_split is_space line
+
 -- the words of a line: its parts between single spaces, and none where it is empty
 abbrev pub words_of : List ℕ → List (List ℕ)
 words_of [] = []
-words_of (b ∷ bs) = slice_split is_space (b ∷ bs)
+words_of (b ∷ bs) = parts_of (b ∷ bs)
 
 -- whether a line is well spaced: each of its parts between single spaces is a word
 abbrev pub is_well_spaced : List ℕ → Bool

@@ -18,12 +18,15 @@ pub enum NumberFault {
 // 2 ^ 127 + 1, above the absolute value of every i128.
 const MAGNITUDE_BOUND: u128 = 170141183460469231731687303715884105729;
 
-// One more digit, as far as the bound.
+// One more digit, as far as the bound. Up to 19 digits are put together in 64 bits, which is faster.
 fn append_digit(n: u128, digit: u8) -> u128
     requires bounded { n ≤ magnitude_bound }
     requires digit { digit < 10 }
     ensures { result ≡ min (n * 10 + digit) magnitude_bound }
 {
+    if n < 1000000000000000000 {
+        return (n as u64 * 10 + digit as u64) as u128;
+    }
     if n > MAGNITUDE_BOUND / 10 {
         return MAGNITUDE_BOUND;
     }

@@ -1,15 +1,16 @@
 //! The words of a line.
 
-ghost use Rattle.std.specs.Prelude.{◌≡◌, ◌<◌, ◌≤◌, ◌↔◌, [], ◌∷◌, length, slice_get, MatchOption, IsTrue, Some, None, ℕ, List};
-ghost use Rattle.std.specs.List.{slice_split, list_all, join_with_byte};
-ghost use Rattle.mat_words.specs.Words.{words_of, is_space, is_word, is_well_spaced, IsWellSpaced};
+ghost use Rattle.std.specs.Prelude.{◌≡◌, ◌<◌, ◌≤◌, ◌+◌, ◌↔◌, [], ◌∷◌, length, slice_get, MatchOption, IfSome, IsTrue, Some, None, ℕ, List};
+ghost use Rattle.std.specs.List.{list_all, join_with_byte};
+ghost use Rattle.mat_words.specs.Words.{words_of, parts_of, is_word, is_well_spaced, IsWellSpaced};
 ghost use Rattle.mat_words.specs.Lines.{HasNoNewline};
 
 /// The part of a line in front of its first space, and what stands after that space: None where there is no space, and so the part is
 /// the last. Of a well spaced line that isn't empty, the parts are the words. It takes no memory.
 pub fn split_word(line: &[u8]) -> (&[u8], Option<&[u8]>)
-    ensures { MatchOption result.1 (slice_split is_space line.now ≡ result.0.now ∷ [])
-        (λ rest. slice_split is_space line.now ≡ result.0.now ∷ slice_split is_space rest.now) }
+    ensures parts { MatchOption result.1 (parts_of line.now ≡ result.0.now ∷ [])
+        (λ rest. parts_of line.now ≡ result.0.now ∷ parts_of rest.now) }
+    ensures shorter { IfSome result.1 (λ rest. length result.0.now + length rest.now < length line.now) }
 {
     for (i, b) in line.iter().enumerate() {
         if *b == 32 {
