@@ -2,5 +2,7 @@
 #![tactic(auto)]
 
 mod any;
+#[cfg(test)]
+mod tests;
 
 pub use any::AnyMatroid;
