@@ -1,4 +1,4 @@
-use Rattle.std.proofs.Common.{◌≡◌, length, []}
+use Rattle.std.proofs.Common.{◌≡◌, length}
 use Rattle.mat_desc.specs.Reading.{elements_from, elements_at}
 use Rattle.mat_desc.specs.Views.{parts_left, words_left}
 use Rattle.mat_desc.proofs.reading.elements_line.Given as goal
