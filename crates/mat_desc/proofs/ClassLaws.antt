@@ -1,10 +1,10 @@
 -- Class lines: what is read is spelled so, and what is spelled so is read.
-use Rattle.std.proofs.Common.{◌≡◌, ℕ, zero, suc, ◌+◌, ◌≤◌, ◌<◌, Bool, true, false, cond, ◌||◌, eqb, List, [], ◌∷◌, length, map, pos, Result, Ok, Err, refl, sym, ap, ap₂, subst, ◌∙◌, arith, inl, inr}
+use Rattle.std.proofs.Common.{◌≡◌, ℕ, zero, suc, ◌+◌, ◌≤◌, Bool, true, false, ◌||◌, List, [], ◌∷◌, length, pos, Ok, refl, sym, ap, subst, ◌∙◌, arith}
 use Rattle.std.specs.Prelude.{codes}
 use Rattle.std.specs.List.{All, list_all}
-use Rattle.std.proofs.lemmas.Bool.{cases_Bool, and_from}
+use Rattle.std.proofs.lemmas.Bool.{and_from}
 use Rattle.std.proofs.lemmas.List.Elements.{All-nil, All-cons, All-head, All-tail, All-weaker}
-use Rattle.mat_sets.specs.Sets.{is_member, IsRising, AllBelow, IsSet, AreDistinct}
+use Rattle.mat_sets.specs.Sets.{is_member, AllBelow, IsSet}
 use Rattle.mat_sets.specs.Families.{indicator, multiplicity, AreDisjoint}
 use Rattle.mat_sets.proofs.Ground.{AllBelow-member, AllBelow-from_members}
 use Rattle.mat_words.specs.Words.{is_word}
@@ -12,13 +12,13 @@ use Rattle.mat_words.specs.Numbers.{numerals, numeral}
 use Rattle.mat_words.proofs.NumberLemmas.{numeral_word}
 use Rattle.mat_count.specs.Partitions.{IsPartition}
 use Rattle.mat_words.specs.Lines.{Line}
-use Rattle.mat_desc.specs.Faults.{Fault, ◌>>=◌, WordsLeft, LinesLeft}
+use Rattle.mat_desc.specs.Faults.{◌>>=◌, LinesLeft}
 use Rattle.mat_desc.specs.Reading.{keyed_at, count_at, elements_at, class_at, classes_at}
 use Rattle.mat_desc.specs.Grammar.{Lists, ClassLines, AreClasses}
-use Rattle.mat_desc.proofs.ReadingSteps.{found, found-same, bind_found}
-use Rattle.mat_desc.proofs.WordLaws.{count_found, count_again, numerals_words}
+use Rattle.mat_desc.proofs.ReadingSteps.{found-same, bind_found}
+use Rattle.mat_desc.proofs.WordLaws.{cut_then, count_found, count_again, numerals_words}
 use Rattle.mat_desc.proofs.LineLaws.{AreLeft, keyed_found, keyed_again}
-use Rattle.mat_desc.proofs.ElementLaws.{with_each, is_member-with_each, AreElementsRead, elements_found, elements_again, members_made, members_left, Lists-made, IsSet-made, made-listed}
+use Rattle.mat_desc.proofs.ElementLaws.{with_each, is_member-with_each, elements_found, elements_again, members_made, members_left, Lists-made, IsSet-made, made-listed}
 
 -- the line of a class
 abbrev class_line : ℕ → List ℕ → Line
@@ -43,16 +43,16 @@ class_read n taken p cap class left q e =
     let same = found-same (caps.0.0, elements.0.0, elements.0.1, line.0.1) (cap, class, left, q) elements.2 in
     let number = count_found 0 501 line.0.0 caps.0.0 caps.0.1 caps.1 in
     let read = elements_found n caps.0.1.line taken [] caps.0.1.words elements.0.0 elements.0.1 elements.1 in
-    let words : line.0.0.words ≡ numeral (pos caps.0.0) ∷ numerals read.xs = number.cut ∙ ap (λ (t : Line). numeral (pos caps.0.0) ∷ t) read.cut in
+    let words : line.0.0.words ≡ numeral (pos caps.0.0) ∷ numerals read.xs = cut_then (numeral (pos caps.0.0)) line.0.0.words caps.0.1.words (numerals read.xs) number.cut read.cut in
     let one : IsClassRead n taken p caps.0.0 elements.0.0 elements.0.1 line.0.1 = record {
-        xs = read.xs;
-        lists = subst (λ (s : List ℕ). Lists read.xs s) (sym read.set_made) (Lists-made read.xs read.distinct);
-        small = omega (arith, number.most);
-        set = subst (λ (s : List ℕ). IsSet n s) (sym read.set_made) (IsSet-made n read.xs read.below);
-        fresh = λ x h. read.fresh x (sym (members_made taken read.xs elements.0.0 read.set_made x) ∙ h);
-        taken_left = members_left taken read.xs elements.0.0 elements.0.1 read.set_made read.taken_left;
-        spelled = λ rest behind. subst (λ (ws : Line). AreLeft ((codes "class" ∷ ws) ∷ rest) p) words (keyed_found (codes "class") p line.0.0 line.0.1 line.1 rest behind);
-      } in
+      xs = read.xs;
+      lists = subst (λ (s : List ℕ). Lists read.xs s) (sym read.set_made) (Lists-made read.xs read.distinct);
+      small = omega (arith, number.most);
+      set = subst (λ (s : List ℕ). IsSet n s) (sym read.set_made) (IsSet-made n read.xs read.below);
+      fresh = λ x h. read.fresh x (sym (members_made taken read.xs elements.0.0 read.set_made x) ∙ h);
+      taken_left = members_left taken read.xs elements.0.0 elements.0.1 read.set_made read.taken_left;
+      spelled = λ rest behind. subst (λ (ws : Line). AreLeft ((codes "class" ∷ ws) ∷ rest) p) words (keyed_found (codes "class") p line.0.0 line.0.1 line.1 rest behind);
+    } in
     subst (λ (r : ℕ × List ℕ × List ℕ × LinesLeft). IsClassRead n taken p r.0 r.1 r.2 r.3) same one
 
 class_again : (n : ℕ) (taken : List ℕ) (p : LinesLeft) (cap : ℕ) (class xs : List ℕ) (rest : List Line) → cap ≤ 500 → IsSet n class → Lists xs class
@@ -106,13 +106,13 @@ unfolding classes_at multiplicity
 classes_read n zero taken p classes caps q e =
     let same = found-same ([], [], p) (classes, caps, q) e in
     let none : AreClassesRead n 0 taken p [] [] p = record {
-        count = refl;
-        as_many = refl;
-        small = All-nil (λ cap. cap ≤ 500);
-        sets = All-nil (IsSet n);
-        apart = λ x. indicator_small (is_member x taken);
-        spelled = λ rest left. (rest, refl, left);
-      } in
+      count = refl;
+      as_many = refl;
+      small = All-nil (λ cap. cap ≤ 500);
+      sets = All-nil (IsSet n);
+      apart = λ x. indicator_small (is_member x taken);
+      spelled = λ rest left. (rest, refl, left);
+    } in
     subst (λ (r : List (List ℕ) × List ℕ × LinesLeft). AreClassesRead n 0 taken p r.0 r.1 r.2) same none
 classes_read n (suc many) taken p classes caps q e =
     let first = bind_found (class_at n taken p) (λ first. classes_at n many first.2 first.3 >>= λ others. Ok (first.1 ∷ others.0, first.0 ∷ others.1, others.2)) (classes, caps, q) e in
@@ -121,15 +121,15 @@ classes_read n (suc many) taken p classes caps q e =
     let one = class_read n taken p first.0.0 first.0.1 first.0.2 first.0.3 first.1 in
     let more = classes_read n many first.0.2 first.0.3 others.0.0 others.0.1 others.0.2 others.1 in
     let all : AreClassesRead n (suc many) taken p (first.0.1 ∷ others.0.0) (first.0.0 ∷ others.0.1) others.0.2 = record {
-        count = ap suc more.count;
-        as_many = ap suc more.as_many;
-        small = All-cons (λ cap. cap ≤ 500) first.0.0 others.0.1 one.small more.small;
-        sets = All-cons (IsSet n) first.0.1 others.0.0 one.set more.sets;
-        apart = λ x. apart_found (is_member x first.0.1) (is_member x taken) (is_member x first.0.2) (multiplicity x others.0.0) (one.fresh x) (one.taken_left x) (more.apart x);
-        spelled = λ rest left.
+      count = ap suc more.count;
+      as_many = ap suc more.as_many;
+      small = All-cons (λ cap. cap ≤ 500) first.0.0 others.0.1 one.small more.small;
+      sets = All-cons (IsSet n) first.0.1 others.0.0 one.set more.sets;
+      apart = λ x. apart_found (is_member x first.0.1) (is_member x taken) (is_member x first.0.2) (multiplicity x others.0.0) (one.fresh x) (one.taken_left x) (more.apart x);
+      spelled = λ rest left.
           let behind = more.spelled rest left in
           (class_line first.0.0 one.xs ∷ behind.0, (one.xs, behind.0, one.lists, refl, behind.1), one.spelled behind.0 behind.2);
-      } in
+    } in
     subst (λ (r : List (List ℕ) × List ℕ × LinesLeft). AreClassesRead n (suc many) taken p r.0 r.1 r.2) same all
 
 pub classes_again : (n : ℕ) (taken : List ℕ) (p : LinesLeft) (classes : List (List ℕ)) (caps : List ℕ) (lines rest : List Line) → All (λ cap. cap ≤ 500) caps → All (IsSet n) classes

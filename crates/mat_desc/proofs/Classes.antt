@@ -1,5 +1,5 @@
 -- Class lines that are read one after the other, as a loop reads them.
-use Rattle.std.proofs.Common.{◌≡◌, ℕ, zero, suc, ◌-◌, ◌+◌, ◌≤◌, ◌<◌, List, [], ◌∷◌, ◌++◌, Result, Ok, Err, refl, sym, ap, ap₂, ◌∙◌, append_assoc, arith}
+use Rattle.std.proofs.Common.{◌≡◌, ℕ, suc, ◌-◌, ◌+◌, ◌≤◌, ◌<◌, List, [], ◌∷◌, ◌++◌, Result, Ok, Err, refl, sym, ap₂, ◌∙◌, append_assoc, arith}
 use Rattle.std.proofs.lemmas.List.{append-nil}
 use Rattle.mat_desc.specs.declared.refusal.DescRefusal.{DescRefusal}
 use Rattle.mat_desc.specs.declared.refusal.DescRefusal.TheVariants as refusals
@@ -27,7 +27,7 @@ unfolding classes_at
 classes_more n many i taken p classes caps cap class taken_more after total lt read so_far =
     let left : many - i ≡ suc (many - (i + 1)) = omega arith in
     let step : with_front classes caps (classes_at n (many - i) taken p) ≡ with_front (classes ++ class ∷ []) (caps ++ cap ∷ []) (classes_at n (many - (i + 1)) taken_more after) =
-      rw (left, read) (with_front-cons classes caps class cap (classes_at n (many - (i + 1)) taken_more after)) in
+    rw (left, read) (with_front-cons classes caps class cap (classes_at n (many - (i + 1)) taken_more after)) in
     sym step ∙ so_far
 
 -- the next class fails

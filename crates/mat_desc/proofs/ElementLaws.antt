@@ -1,15 +1,14 @@
 -- Lists of elements: what is read is spelled so, and what is spelled so is read.
-use Rattle.std.proofs.Common.{◌≡◌, ℕ, zero, suc, ◌+◌, ◌≤◌, ◌<◌, Bool, true, false, cond, ◌||◌, eqb, List, [], ◌∷◌, length, map, pos, Result, Ok, Err, refl, sym, ap, ap₂, subst, ◌∙◌, arith, inl, inr}
-use Rattle.std.proofs.lemmas.Bool.{cases_Bool, eq-eqb, eqb-true, ne_eqb}
+use Rattle.std.proofs.Common.{◌≡◌, ℕ, Bool, true, false, cond, ◌||◌, eqb, List, [], ◌∷◌, pos, Ok, Err, refl, sym, ap, subst, ◌∙◌, arith, inl, inr}
+use Rattle.std.proofs.lemmas.Bool.{cases_Bool, eq-eqb, eqb-true}
 use Rattle.mat_sets.specs.Sets.{is_member, IsRising, AllBelow, IsSet, AreDistinct, with_one}
 use Rattle.mat_sets.proofs.Members.{is_member-with_one, IsRising-with_one, IsRising-nil, same_members}
 use Rattle.mat_sets.proofs.Ground.{AllBelow-member, IsSet-from}
 use Rattle.mat_words.specs.Numbers.{numerals, numeral}
 use Rattle.mat_desc.specs.declared.refusal.DescKind.TheVariants.{Repeated}
-use Rattle.mat_desc.specs.Faults.{Fault, ◌>>=◌, WordsLeft}
 use Rattle.mat_desc.specs.Reading.{count_at, elements_from}
 use Rattle.mat_desc.specs.Grammar.{Lists}
-use Rattle.mat_desc.proofs.ReadingSteps.{found, found-same, bind_found, refused_found}
+use Rattle.mat_desc.proofs.ReadingSteps.{found-same, bind_found, refused_found}
 use Rattle.mat_desc.proofs.WordLaws.{count_found, count_again}
 
 -- the set with each of the items added
@@ -57,6 +56,7 @@ fresh_first x xs taken free later = (apart, each)
       | inl stands ↦ let both = or_false (eqb x x) (is_member x taken) (sym (is_member-with_one x x taken) ∙ later x stands) in absurd (cc (eq-eqb x x refl, both.0))
       | inr free ↦ free
     ]
+
     each : (y : ℕ) → is_member y (x ∷ xs) ≡ true → is_member y taken ≡ false
     each y stands = elim (cases_Bool (eqb y x)) [
       | inl same ↦ subst (λ (z : ℕ). is_member z taken ≡ false) (sym (eqb-true y x same)) free

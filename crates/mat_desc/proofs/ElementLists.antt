@@ -1,5 +1,5 @@
 -- The elements of a line, as a loop reads them.
-use Rattle.std.proofs.Common.{◌≡◌, ℕ, zero, suc, ◌-◌, ◌+◌, ◌≤◌, ◌<◌, ℤ, pos, ◌-ℤ◌, nat_abs, Bool, true, false, cond, List, [], ◌∷◌, length, Result, Ok, Err, refl, sym, ap, subst, ◌∙◌, arith}
+use Rattle.std.proofs.Common.{◌≡◌, ℕ, ◌<◌, ℤ, pos, ◌-ℤ◌, nat_abs, true, false, List, [], ◌∷◌, length, Result, Ok, Err, refl, sym, ap, arith}
 use Rattle.std.specs.Prelude.{Option, Some, None, is_some}
 use Rattle.std.specs.Borrow.{Bor}
 use Rattle.mat_sets.specs.Sets.{is_member, with_one}
@@ -13,7 +13,7 @@ use Rattle.mat_desc.specs.declared.refusal.DescRefusal.{DescRefusal}
 use Rattle.mat_desc.specs.declared.refusal.DescRefusal.TheVariants as refusals
 use Rattle.mat_desc.specs.Faults.{◌>>=◌, Fault, Fails, WordsLeft}
 use Rattle.mat_desc.specs.Reading.{number_as, number_at, count_at, elements_from}
-use Rattle.mat_desc.specs.Views.{parts_of}
+use Rattle.mat_desc.specs.Views.{parts_left}
 
 -- one word was read, and the rest is left
 pub record IsFirstRead (n : ℕ) (words : List (List ℕ)) (q : WordsLeft) : Type 0 where
@@ -78,10 +78,10 @@ pub elements_done : (end n : ℕ) (taken set : List ℕ) (total : Result (List �
 unfolding elements_from
 elements_done end n taken set total so_far = sym so_far
 
-pub some_left : (o : Option (Bor (List ℕ))) → is_some o ≡ true → 0 < length (parts_of o)
+pub some_left : (o : Option (Bor (List ℕ))) → is_some o ≡ true → 0 < length (parts_left o)
 some_left None h = absurd cc
 some_left (Some bytes) h = some_parts is_space bytes.now
 
-pub none_left : (o : Option (Bor (List ℕ))) → is_some o ≡ false → parts_of o ≡ []
+pub none_left : (o : Option (Bor (List ℕ))) → is_some o ≡ false → parts_left o ≡ []
 none_left None h = refl
 none_left (Some bytes) h = absurd cc

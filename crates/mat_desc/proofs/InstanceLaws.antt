@@ -1,6 +1,6 @@
 -- Whole descriptions: a text that is read spells the problem that was read, and a text that spells a problem is read as that problem.
-use Rattle.std.proofs.Common.{◌≡◌, ℕ, zero, suc, ◌+◌, ◌≤◌, ◌<◌, ℤ, Bool, true, false, cond, ◌&&◌, ◌⊎◌, eqb, List, [], ◌∷◌, ◌++◌, length, map, pos, Option, Some, None, Result, Ok, Err, refl, sym, ap, subst, ◌∙◌, arith, inl, inr}
-use Rattle.std.specs.Prelude.{codes, bytes_eq, ◌↔◌}
+use Rattle.std.proofs.Common.{◌≡◌, ℕ, ◌≤◌, ℤ, Bool, true, false, cond, eqb, List, [], ◌∷◌, ◌++◌, length, map, pos, Option, Some, None, Ok, Err, refl, sym, ap, subst, ◌∙◌, arith}
+use Rattle.std.specs.Prelude.{codes, bytes_eq}
 use Rattle.std.specs.List.{list_all, join_with_byte}
 use Rattle.std.proofs.lemmas.Bool.{and_from, and_parts, eqb-true}
 use Rattle.std.proofs.lemmas.List.{append-nil}
@@ -10,16 +10,15 @@ use Rattle.mat_words.specs.Lines.{Line, lines_of, text_of}
 use Rattle.mat_words.specs.Words.{is_word}
 use Rattle.mat_words.specs.Numbers.{numeral}
 use Rattle.mat_words.proofs.NumberLemmas.{numeral_word}
-use Rattle.mat_any.specs.Trees.{Tree}
 use Rattle.mat_desc.specs.declared.refusal.DescKind.TheVariants.{Version, TooManyLines}
 use Rattle.mat_desc.specs.declared.keywords.Form.{Form}
 use Rattle.mat_desc.specs.declared.keywords.Form.TheVariants as forms
-use Rattle.mat_desc.specs.Faults.{Fault, ◌>>=◌, WordsLeft, LinesLeft}
+use Rattle.mat_desc.specs.Faults.{◌>>=◌, WordsLeft, LinesLeft}
 use Rattle.mat_desc.specs.Reading.{line_at, word_at, count_at, weight_at, ended_at, repeat_at, keyed_at, version_at, weights_at, end_at, is_closed, closed_at, matroid_at, pair_at, form_of, form_at, instance_at, description_at, read_of}
 use Rattle.mat_desc.specs.Instances.{Instance, pair}
 use Rattle.mat_desc.specs.Grammar.{AreWeights, IsValid, InstanceLines, Spells}
-use Rattle.mat_desc.proofs.ReadingSteps.{found, found-same, bind_found, test_found}
-use Rattle.mat_desc.proofs.WordLaws.{word_found, ended_found, ended_again, count_found, count_again, weights_found, weights_again, weights_words}
+use Rattle.mat_desc.proofs.ReadingSteps.{found-same, bind_found, test_found}
+use Rattle.mat_desc.proofs.WordLaws.{count_line, word_found, ended_found, ended_again, count_found, count_again, weights_found, weights_again, weights_words}
 use Rattle.mat_desc.proofs.LineLaws.{AreLeft, line_found, line_again, keyed_found, keyed_again}
 use Rattle.mat_desc.proofs.MatroidLaws.{matroid_found, matroid_again}
 
@@ -30,10 +29,6 @@ version_line = codes "matroids" ∷ codes "1" ∷ []
 
 abbrev end_line : Line
 end_line = codes "end" ∷ []
-
--- a line of a keyword and no words
-abbrev last_words : Line
-last_words = []
 
 version_found : (p q : LinesLeft) → version_at p ≡ Ok q → (rest : List Line) → AreLeft rest q → AreLeft (version_line ∷ rest) p
 unfolding version_at
@@ -104,10 +99,10 @@ weights_line_found n p weights q e =
     let read = weights_found n line.0.0 all.0.0 all.0.1 all.1 in
     let last = ended_found all.0.1 end.0 end.1 in
     let one : IsWeightsLineRead n p all.0.0 line.0.1 = record {
-        count = read.count;
-        valid = λ few. (omega (arith, read.count), read.each);
-        spelled = λ rest left. subst (λ (ws : Line). AreLeft ((codes "weights" ∷ ws) ∷ rest) p) (weights_words_only all.0.0 line.0.0.words all.0.1.words read.cut last) (keyed_found (codes "weights") p line.0.0 line.0.1 line.1 rest left);
-      } in
+      count = read.count;
+      valid = λ few. (omega (arith, read.count), read.each);
+      spelled = λ rest left. subst (λ (ws : Line). AreLeft ((codes "weights" ∷ ws) ∷ rest) p) (weights_words_only all.0.0 line.0.0.words all.0.1.words read.cut last) (keyed_found (codes "weights") p line.0.0 line.0.1 line.1 rest left);
+    } in
     subst (λ (r : List ℤ × LinesLeft). IsWeightsLineRead n p r.0 r.1) same one
   where
     weights_words_only : (all : List ℤ) (words after : List (List ℕ)) → words ≡ map numeral all ++ after → after ≡ [] → words ≡ map numeral all
@@ -156,15 +151,17 @@ pair_found words lines instance q e =
     let one = matroid_found count.0.0 weights.0.1 first.0.0 first.0.1 first.1 in
     let two = matroid_found count.0.0 first.0.1 second.0.0 second.0.1 second.1 in
     let few : count.0.0 ≤ 500 = omega (arith, number.most) in
-    let line : words.words ≡ numeral (pos (length weights.0.0)) ∷ [] = number.cut ∙ ap (λ (t : Line). numeral (pos count.0.0) ∷ t) last ∙ ap (λ (k : ℕ). numeral (pos k) ∷ []) (sym all.count) in
+    let line : words.words ≡ numeral (pos (length weights.0.0)) ∷ [] = count_line count.0.0 (length weights.0.0) words.words count.0.1.words number.cut last all.count in
     let whole : IsFormRead forms.Pair words lines (pair weights.0.0 first.0.0 second.0.0) second.0.1 = record {
-        valid = (all.valid few, rw all.count one.valid, rw all.count two.valid);
-        spelled = λ left.
+      valid = (all.valid few, rw all.count one.valid, rw all.count two.valid);
+      spelled = λ left.
           let behind = two.spelled (end_line ∷ []) left in
-          let before = one.spelled behind.0 behind.1 in
-          ((codes "weights" ∷ map numeral weights.0.0) ∷ before.0, all.spelled before.0 before.1,
-            (before.0, behind.0, ap (λ (t : Line). version_line ∷ (codes "pair" ∷ t) ∷ (codes "weights" ∷ map numeral weights.0.0) ∷ before.0) line, before.2, behind.2));
-      } in
+          let before = one.spelled behind.0 behind.1 in (
+            (codes "weights" ∷ map numeral weights.0.0) ∷ before.0,
+            all.spelled before.0 before.1,
+            (before.0, behind.0, ap (λ (t : Line). version_line ∷ (codes "pair" ∷ t) ∷ (codes "weights" ∷ map numeral weights.0.0) ∷ before.0) line, before.2, behind.2),
+          );
+    } in
     subst (λ (r : Instance × LinesLeft). IsFormRead forms.Pair words lines r.0 r.1) same whole
 
 any_form_found : (line : ℕ) (form : Form) (words : WordsLeft) (lines : LinesLeft) (instance : Instance) (q : LinesLeft) → form_at line (Some form) words lines ≡ Ok (instance, q) → IsFormRead form words lines instance q
@@ -193,8 +190,8 @@ instance_found p instance q e =
         record {
           valid = read.valid;
           spelled = λ left.
-            let behind = read.spelled left in
-            ((form_spelling named ∷ words.words) ∷ behind.0, subst (λ (t : Line). AreLeft (t ∷ behind.0) p) whole (written behind.0 behind.1), behind.2);
+              let behind = read.spelled left in
+              ((form_spelling named ∷ words.words) ∷ behind.0, subst (λ (t : Line). AreLeft (t ∷ behind.0) p) whole (written behind.0 behind.1), behind.2);
         }
 
 -- texts with the same lines are the same
@@ -221,7 +218,6 @@ instance_again : (p : LinesLeft) (instance : Instance) (lines : List Line) → I
     → (form : LinesLeft) × (q : LinesLeft) × (version_at p ≡ Ok form) × (instance_at form ≡ Ok (instance, q)) × AreLeft (end_line ∷ []) q
 unfolding instance_at word_at pair_at
 instance_again p (pair weights first second) lines valid spelled left =
-    let n = length weights in
     let whole = subst (λ (ls : List Line). AreLeft ls p) spelled.2 left in
     let head = version_again p ((codes "pair" ∷ numeral (pos (length weights)) ∷ []) ∷ (codes "weights" ∷ map numeral weights) ∷ spelled.0) whole in
     let number_word : list_all is_word (codes "pair" ∷ numeral (pos (length weights)) ∷ []) ≡ true = and_from (is_word (numeral (pos (length weights)))) true (numeral_word (pos (length weights))) refl in

@@ -1,5 +1,5 @@
 -- The lines of a text: what is read is spelled so, and what is spelled so is read.
-use Rattle.std.proofs.Common.{◌≡◌, ℕ, zero, suc, ◌+◌, ◌-◌, ◌≤◌, ◌<◌, Bool, true, false, not, cond, eqb, List, [], ◌∷◌, ◌++◌, length, Result, Ok, Err, refl, sym, ap, subst, ◌∙◌, arith}
+use Rattle.std.proofs.Common.{◌≡◌, ℕ, ◌+◌, ◌<◌, true, false, not, cond, eqb, List, [], ◌∷◌, length, Result, Ok, Err, refl, sym, ap, subst, ◌∙◌, arith}
 use Rattle.std.specs.Prelude.{bytes_eq}
 use Rattle.std.specs.List.{list_all, join_with_byte}
 use Rattle.std.proofs.lemmas.Bool.{ne_eqb, and_from, not-false}
@@ -12,7 +12,7 @@ use Rattle.mat_words.proofs.WordLemmas.{joined_words, joined_laws}
 use Rattle.mat_desc.specs.declared.refusal.DescKind.TheVariants.{EndsEarly, BadByte, TooFewWords, UnknownWord}
 use Rattle.mat_desc.specs.Faults.{Fault, ◌>>=◌, WordsLeft, LinesLeft}
 use Rattle.mat_desc.specs.Reading.{line_from, line_at, word_at, keyed_at}
-use Rattle.mat_desc.proofs.ReadingSteps.{found, found-same, bind_found, test_found, refused_found}
+use Rattle.mat_desc.proofs.ReadingSteps.{found-same, bind_found, test_found, refused_found}
 use Rattle.mat_desc.proofs.WordLaws.{word_found}
 
 -- what is left of the text is the text of these lines
@@ -62,7 +62,6 @@ pub line_again : (p : LinesLeft) (words : Line) (rest : List Line) → 0 < lengt
     → (q : LinesLeft) × (line_at p ≡ Ok (record { line = p.line; words = words }, q)) × AreLeft rest q
 unfolding line_at
 line_again p words rest some spelled left =
-    let l = join_with_byte 32 words in
     let written = (written_line words (text_of rest) some spelled).0 in
     let laws = joined_laws words some spelled in
     let more : eqb (length (lines_of (text_of rest))) 0 ≡ false = ne_eqb (length (lines_of (text_of rest))) 0 (λ e. omega (arith, some_parts is_newline (text_of rest))) in

@@ -1,11 +1,11 @@
 -- The lines of a matroid: what is read is spelled so, and what is spelled so is read. Each kind has a law in both directions for what
 -- stands behind its keyword.
-use Rattle.std.proofs.Common.{◌≡◌, ℕ, zero, suc, ◌+◌, ◌≤◌, ◌<◌, Bool, true, false, cond, List, [], ◌∷◌, length, pos, Option, Some, None, Result, Ok, Err, refl, sym, ap, subst, ◌∙◌, arith, inl, inr}
+use Rattle.std.proofs.Common.{◌≡◌, ℕ, ◌≤◌, Bool, true, false, cond, List, [], ◌∷◌, length, pos, Option, Some, None, Ok, refl, ap, subst, ◌∙◌, arith}
 use Rattle.std.specs.Prelude.{codes, bytes_eq}
 use Rattle.std.specs.List.{list_all}
-use Rattle.std.proofs.lemmas.Bool.{cases_Bool, and_from}
+use Rattle.std.proofs.lemmas.Bool.{and_from}
 use Rattle.std.proofs.lemmas.Slice.Eq.{bytes_eq-Decides}
-use Rattle.mat_sets.specs.Families.{indicator, multiplicity}
+use Rattle.mat_sets.specs.Families.{multiplicity}
 use Rattle.mat_words.specs.Words.{is_word}
 use Rattle.mat_words.specs.Numbers.{numeral}
 use Rattle.mat_words.proofs.NumberLemmas.{numeral_word}
@@ -13,11 +13,11 @@ use Rattle.mat_any.specs.Trees.{Tree, uniform, partition}
 use Rattle.mat_words.specs.Lines.{Line}
 use Rattle.mat_desc.specs.declared.keywords.Keyword.{Keyword}
 use Rattle.mat_desc.specs.declared.keywords.Keyword.TheVariants as keywords
-use Rattle.mat_desc.specs.Faults.{Fault, ◌>>=◌, WordsLeft, LinesLeft}
+use Rattle.mat_desc.specs.Faults.{◌>>=◌, WordsLeft, LinesLeft}
 use Rattle.mat_desc.specs.Reading.{line_at, word_at, count_at, ended_at, classes_at, uniform_at, partition_at, keyword_of, kind_at, matroid_at}
 use Rattle.mat_desc.specs.Grammar.{IsValidMatroid, AreClasses, MatroidLines}
-use Rattle.mat_desc.proofs.ReadingSteps.{found, found-same, bind_found}
-use Rattle.mat_desc.proofs.WordLaws.{word_found, ended_found, ended_again, count_found, count_again}
+use Rattle.mat_desc.proofs.ReadingSteps.{found-same, bind_found}
+use Rattle.mat_desc.proofs.WordLaws.{cut_then, count_line, word_found, ended_found, ended_again, count_found, count_again}
 use Rattle.mat_desc.proofs.LineLaws.{AreLeft, line_found, line_again}
 use Rattle.mat_desc.proofs.ClassLaws.{classes_read, classes_again, classes_valid}
 
@@ -57,11 +57,11 @@ uniform_found n words lines tree q e =
     let same = found-same (uniform n cap.0.0, lines) (tree, q) end.2 in
     let number = count_found 0 501 words cap.0.0 cap.0.1 cap.1 in
     let last = ended_found cap.0.1 end.0 end.1 in
-    let line : words.words ≡ numeral (pos cap.0.0) ∷ [] = number.cut ∙ ap (λ (t : Line). numeral (pos cap.0.0) ∷ t) last in
+    let line : words.words ≡ numeral (pos cap.0.0) ∷ [] = cut_then (numeral (pos cap.0.0)) words.words cap.0.1.words [] number.cut last in
     let one : IsKindRead n keywords.Uniform words lines (uniform n cap.0.0) lines = record {
-        valid = ((refl, omega (arith, number.most)), omega arith);
-        spelled = λ rest left. (rest, left, ap (λ (t : Line). (codes "uniform" ∷ t) ∷ rest) line);
-      } in
+      valid = ((refl, omega (arith, number.most)), omega arith);
+      spelled = λ rest left. (rest, left, ap (λ (t : Line). (codes "uniform" ∷ t) ∷ rest) line);
+    } in
     subst (λ (r : Tree × LinesLeft). IsKindRead n keywords.Uniform words lines r.0 r.1) same one
 
 partition_found : (n : ℕ) (words : WordsLeft) (lines : LinesLeft) (tree : Tree) (q : LinesLeft) → partition_at n words lines ≡ Ok (tree, q) → IsKindRead n keywords.Partition words lines tree q
@@ -75,13 +75,13 @@ partition_found n words lines tree q e =
     let last = ended_found many.0.1 end.0 end.1 in
     let read = classes_read n many.0.0 [] lines classes.0.0 classes.0.1 classes.0.2 classes.1 in
     let few : many.0.0 ≤ 500 = omega (arith, number.most) in
-    let line : words.words ≡ numeral (pos (length classes.0.0)) ∷ [] = number.cut ∙ ap (λ (t : Line). numeral (pos many.0.0) ∷ t) last ∙ ap (λ (k : ℕ). numeral (pos k) ∷ []) (sym read.count) in
+    let line : words.words ≡ numeral (pos (length classes.0.0)) ∷ [] = count_line many.0.0 (length classes.0.0) words.words many.0.1.words number.cut last read.count in
     let one : IsKindRead n keywords.Partition words lines (partition n classes.0.0 classes.0.1) classes.0.2 = record {
-        valid = ((refl, classes_valid n many.0.0 lines classes.0.0 classes.0.1 classes.0.2 few read), omega arith);
-        spelled = λ rest left.
+      valid = ((refl, classes_valid n many.0.0 lines classes.0.0 classes.0.1 classes.0.2 few read), omega arith);
+      spelled = λ rest left.
           let behind = read.spelled rest left in
           (behind.0, behind.2, (behind.0, ap (λ (t : Line). (codes "partition" ∷ t) ∷ behind.0) line, behind.1));
-      } in
+    } in
     subst (λ (r : Tree × LinesLeft). IsKindRead n keywords.Partition words lines r.0 r.1) same one
 
 kind_found : (n line : ℕ) (keyword : Keyword) (words : WordsLeft) (lines : LinesLeft) (tree : Tree) (q : LinesLeft) → kind_at n line (Some keyword) words lines ≡ Ok (tree, q) → IsKindRead n keyword words lines tree q
@@ -111,8 +111,8 @@ matroid_found n p tree q e =
         record {
           valid = read.valid;
           spelled = λ rest left.
-            let behind = read.spelled rest left in
-            ((spelling_of keyword ∷ words.words) ∷ behind.0, subst (λ (t : Line). AreLeft (t ∷ behind.0) p) whole (written behind.0 behind.1), behind.2);
+              let behind = read.spelled rest left in
+              ((spelling_of keyword ∷ words.words) ∷ behind.0, subst (λ (t : Line). AreLeft (t ∷ behind.0) p) whole (written behind.0 behind.1), behind.2);
         }
 
 pub matroid_again : (n : ℕ) (p : LinesLeft) (tree : Tree) (lines rest : List Line) → IsValidMatroid n tree → MatroidLines tree lines rest → AreLeft lines p
@@ -125,7 +125,6 @@ matroid_again n p (uniform m cap) lines rest valid spelled left =
     (line.0, rw (line.1, number, ended_again p.line, valid.0.0) refl, line.2)
 matroid_again n p (partition m classes caps) lines rest valid spelled left =
     let ranged : AreClasses n classes caps = valid.0.1 in
-    let many = length classes in
     let number_word : list_all is_word (codes "partition" ∷ numeral (pos (length classes)) ∷ []) ≡ true = and_from (is_word (numeral (pos (length classes)))) true (numeral_word (pos (length classes))) refl in
     let line = line_again p (codes "partition" ∷ numeral (pos (length classes)) ∷ []) spelled.0 (omega arith) number_word (subst (λ (ls : List Line). AreLeft ls p) spelled.1 left) in
     let number = count_again 0 501 p.line (length classes) [] (omega arith) (omega (arith, ranged.few)) in

@@ -1,12 +1,12 @@
 -- What is known of a problem that was read.
-use Rattle.std.proofs.Common.{◌≡◌, ℕ, List, length, ◌⊎◌, inl, inr, Result, Ok, Err, IfOk, refl, sym, ap, subst, ◌∙◌}
+use Rattle.std.proofs.Common.{◌≡◌, ℕ, List, length, ◌⊎◌, inl, inr, Result, Ok, Err, IfOk, refl, sym, subst, ◌∙◌}
 use Rattle.std.specs.List.{All}
 use Rattle.std.proofs.lemmas.List.Elements.{All-weaker}
 use Rattle.mat_sets.specs.Sets.{IsSet, AllBelow}
 use Rattle.mat_any.specs.Trees.{Tree, uniform, partition, element_count, IsSound}
 use Rattle.mat_desc.specs.declared.refusal.DescRefusal.{DescRefusal}
 use Rattle.mat_desc.specs.declared.refusal.DescRefusal.TheVariants as refusals
-use Rattle.mat_desc.specs.Faults.{Fault, Fails, Gives}
+use Rattle.mat_desc.specs.Faults.{Fault, Gives}
 use Rattle.mat_desc.specs.Grammar.{IsValidTree, IsValid, Spells}
 use Rattle.mat_desc.specs.Instances.{Instance, pair}
 use Rattle.mat_desc.specs.Reading.{read_of}
@@ -16,12 +16,14 @@ use Rattle.mat_desc.proofs.InstanceLaws.{description_found, description_again}
 -- a matroid in range is sound
 IsSound-valid : (n : ℕ) (tree : Tree) → IsValidTree n tree → IsSound tree × (element_count tree ≡ n)
 IsSound-valid n (uniform m cap) valid = (tt, valid.0)
-IsSound-valid n (partition m classes caps) valid =
-    (record {
-        capped = valid.1.as_many;
-        inside = subst (λ (k : ℕ). All (AllBelow k) classes) (sym valid.0) (All-weaker (IsSet n) (AllBelow n) (λ class set. set.below) classes valid.1.sets);
-        disjoint = valid.1.disjoint;
-      }, valid.0)
+IsSound-valid n (partition m classes caps) valid = (
+  record {
+    capped = valid.1.as_many;
+    inside = subst (λ (k : ℕ). All (AllBelow k) classes) (sym valid.0) (All-weaker (IsSet n) (AllBelow n) (λ class set. set.below) classes valid.1.sets);
+    disjoint = valid.1.disjoint;
+  },
+  valid.0,
+)
 
 pub IsSoundInstance-valid : (instance : Instance) → IsValid instance → IsSoundInstance instance
 IsSoundInstance-valid (pair weights first second) valid =

@@ -1,5 +1,5 @@
 -- Items that are read one after the other, as a loop reads them: the items so far, in front of what is still read, are what is read in all.
-use Rattle.std.proofs.Common.{◌≡◌, ◌^◌, ℕ, zero, suc, ◌-◌, ◌+◌, ◌≤◌, ◌<◌, ℤ, pos, neg_ℤ, ◌≤ℤ◌, List, [], ◌∷◌, ◌++◌, Result, Ok, Err, refl, sym, ap, ◌∙◌, append_assoc, arith}
+use Rattle.std.proofs.Common.{◌≡◌, ◌^◌, ℕ, suc, ◌-◌, ◌+◌, ◌≤◌, ◌<◌, ℤ, pos, neg_ℤ, ◌≤ℤ◌, List, [], ◌∷◌, ◌++◌, Result, Ok, Err, refl, sym, ap, ◌∙◌, append_assoc, arith}
 use Rattle.std.proofs.lemmas.Int.{ints}
 use Rattle.std.proofs.lemmas.List.{append-nil}
 use mir.Val.{to_z, of_z}
@@ -29,7 +29,7 @@ unfolding repeat_at
 repeat_more reader front count i s item after total lt read so_far =
     let left : count - i ≡ suc (count - (i + 1)) = omega arith in
     let step : with_front front (repeat_at reader (count - i) s) ≡ with_front (front ++ item ∷ []) (repeat_at reader (count - (i + 1)) after) =
-      rw (left, read) (with_front-cons front item (repeat_at reader (count - (i + 1)) after)) in
+    rw (left, read) (with_front-cons front item (repeat_at reader (count - (i + 1)) after)) in
     sym step ∙ so_far
 
 -- the next item fails

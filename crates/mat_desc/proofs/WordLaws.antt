@@ -1,5 +1,5 @@
 -- The words of a line: what is read is spelled so, and what is spelled so is read.
-use Rattle.std.proofs.Common.{◌≡◌, ℕ, zero, suc, ◌+◌, ◌-◌, ◌≤◌, ◌<◌, ◌^◌, ℤ, pos, negsuc, ◌-ℤ◌, nat_abs, neg_ℤ, Bool, true, false, eqb, List, [], ◌∷◌, ◌++◌, length, map, Result, Ok, Err, refl, sym, ap, subst, ◌∙◌, arith}
+use Rattle.std.proofs.Common.{◌≡◌, ℕ, zero, suc, ◌≤◌, ◌<◌, ◌^◌, ℤ, pos, ◌-ℤ◌, nat_abs, neg_ℤ, true, eqb, List, [], ◌∷◌, ◌++◌, length, map, Result, Ok, Err, refl, ap, subst, ◌∙◌, arith}
 use Rattle.std.specs.Prelude.{◌≤ℤ◌}
 use Rattle.std.specs.List.{All, list_all}
 use Rattle.std.proofs.lemmas.Int.{ints}
@@ -11,10 +11,10 @@ use Rattle.mat_words.specs.declared.numbers.NumberFault.{NumberFault}
 use Rattle.mat_words.specs.declared.numbers.NumberFault.TheVariants.{Spelling, Range}
 use Rattle.mat_words.proofs.NumberLemmas.{number_taken, number_again, numeral_word}
 use Rattle.mat_desc.specs.declared.refusal.DescKind.TheVariants.{TooManyWords}
-use Rattle.mat_desc.specs.Faults.{Fault, ◌>>=◌, WordsLeft}
+use Rattle.mat_desc.specs.Faults.{◌>>=◌, WordsLeft}
 use Rattle.mat_desc.specs.Reading.{word_at, number_as, number_at, count_at, weight_at, ended_at, repeat_at}
 use Rattle.mat_desc.specs.Grammar.{IsWeight}
-use Rattle.mat_desc.proofs.ReadingSteps.{found, found-same, bind_found, test_found}
+use Rattle.mat_desc.proofs.ReadingSteps.{found-same, bind_found, test_found}
 
 -- ---- one word
 
@@ -40,6 +40,14 @@ pub ended_again : (n : ℕ) → ended_at (record { line = n; words = [] }) ≡ O
 unfolding ended_at
 ended_again n = refl
 
+-- a word in front of what is left
+pub cut_then : (word : List ℕ) (words after rest : List (List ℕ)) → words ≡ word ∷ after → after ≡ rest → words ≡ word ∷ rest
+cut_then word words after rest cut same = cut ∙ ap (λ (t : List (List ℕ)). word ∷ t) same
+
+-- a number that is as many as were counted
+pub count_line : (x y : ℕ) (words after : List (List ℕ)) → words ≡ numeral (pos x) ∷ after → after ≡ [] → y ≡ x → words ≡ numeral (pos y) ∷ []
+count_line x y words after cut none same = rw (same, ← none) cut
+
 -- ---- numbers
 
 -- a word was read as a number in low..high: it is the numeral
@@ -61,6 +69,7 @@ number_found low high w z q e = from w.words refl e
         record { cut = is ∙ rw (taken.0, value, rest) refl; least = subst (λ (x : ℤ). low ≤ℤ x) value taken.1; most = subst (λ (x : ℤ). x ≤ℤ high) value taken.2 }
     read v vs is (Err Spelling) was h = absurd cc
     read v vs is (Err Range) was h = absurd cc
+
     from : (words : List (List ℕ)) → w.words ≡ words → number_at low high (record { line = w.line; words = words }) ≡ Ok (z, q) → IsNumberRead low high w z q
     from [] is h = absurd cc
     from (v ∷ vs) is h = read v vs is (number_in low high v) refl h

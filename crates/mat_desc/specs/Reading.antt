@@ -1,6 +1,6 @@
 -- Reading a description: the problem that a text spells, or its first fault. Each function takes what is left of the text or of a line, and
 -- the order of its lines is the order in which faults are looked for.
-use Rattle.std.specs.Prelude.{◌≡◌, ℕ, zero, suc, ◌+◌, ◌-ℤ◌, ℤ, pos, nat_abs, neg_ℤ, ◌^◌, Bool, false, not, ◌&&◌, List, [], ◌∷◌, length, Option, Some, None, Result, Ok, Err, ◌==◌, if◌then◌else◌, bytes_eq, codes}
+use Rattle.std.specs.Prelude.{ℕ, zero, suc, ◌+◌, ◌-ℤ◌, ℤ, pos, nat_abs, neg_ℤ, ◌^◌, Bool, false, not, ◌&&◌, List, [], ◌∷◌, length, Option, Some, None, Result, Ok, Err, ◌==◌, if◌then◌else◌, bytes_eq, codes}
 use Rattle.mat_sets.specs.Sets.{is_member, with_one}
 use Rattle.mat_words.specs.Lines.{lines_of}
 use Rattle.mat_words.specs.Words.{words_of, is_well_spaced}
@@ -90,7 +90,7 @@ elements_from n line taken set [] = Ok (set, taken)
 elements_from n line taken set (word ∷ words) = do
   element ← count_at 0 n (record { line = line; words = word ∷ words })
   if is_member element.0 taken then Err (kinds.Repeated, line) else
-    elements_from n line (with_one taken element.0) (with_one set element.0) words
+      elements_from n line (with_one taken element.0) (with_one set element.0) words
 
 -- the set of the elements below n that are left of a line, and what is taken behind it
 abbrev pub elements_at : ℕ → List ℕ → WordsLeft → Result (List ℕ × List ℕ) Fault

@@ -1,9 +1,8 @@
 -- What contracts see of cursors and problems.
 use Rattle.std.specs.Prelude.{List, ℕ, [], Option, Some, None}
-use Rattle.std.specs.List.{slice_split}
 use Rattle.std.specs.Borrow.{Bor}
 use Rattle.mat_words.specs.Lines.{lines_of}
-use Rattle.mat_words.specs.Words.{is_space}
+use Rattle.mat_words.specs.Words.{parts_of}
 use Rattle.mat_desc.specs.declared.cursor.Lines.{Lines}
 use Rattle.mat_desc.specs.declared.cursor.Words.{Words}
 use Rattle.mat_desc.specs.declared.problem.Problem.{Problem}
@@ -12,14 +11,14 @@ use Rattle.mat_any.specs.Views.{tree_of}
 use Rattle.mat_desc.specs.Instances.{Instance, pair}
 use Rattle.mat_desc.specs.Faults.{WordsLeft, LinesLeft}
 
--- the parts between the spaces, and none where nothing is left
-abbrev pub parts_of : Option (Bor (List ℕ)) → List (List ℕ)
-parts_of None = []
-parts_of (Some bytes) = slice_split is_space bytes.now
+-- the words that stand in what is left of a line, and none where nothing is left
+abbrev pub parts_left : Option (Bor (List ℕ)) → List (List ℕ)
+parts_left None = []
+parts_left (Some bytes) = parts_of bytes.now
 
 -- the words that are left of a line
 abbrev pub words_left : Words → WordsLeft
-words_left w = record { line = w.line; words = parts_of w.left }
+words_left w = record { line = w.line; words = parts_left w.left }
 
 -- the lines that are left of a text
 abbrev pub lines_left : Lines → LinesLeft

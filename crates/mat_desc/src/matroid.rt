@@ -23,10 +23,8 @@ fn class_line<'a>(
     taken: &mut ElemSet,
     lines: Lines<'a>,
 ) -> Result<(u32, ElemSet, Lines<'a>), DescRefusal>
-    ensures {
-        Gives (λ x. (x.0, x.1, taken.new, lines_left x.2)) result
-            (class_at count taken.old (lines_left lines.entry))
-    }
+    ensures { Gives (λ x. (x.0, x.1, taken.new, lines_left x.2)) result
+        (class_at count taken.old (lines_left lines.entry)) }
 {
     let (words, rest) = keyed_line(lines, b"class")?;
     let (cap, words) = next_count(words, 0, 501)?;
@@ -41,10 +39,8 @@ fn class_lines<'a>(
     many: u32,
     lines: Lines<'a>,
 ) -> Result<(SetList, Vec<u32>, Lines<'a>), DescRefusal>
-    ensures {
-        Gives (λ x. (x.0, x.1.items, lines_left x.2)) result
-            (classes_at count many [] (lines_left lines.entry))
-    }
+    ensures { Gives (λ x. (x.0, x.1.items, lines_left x.2)) result
+        (classes_at count many [] (lines_left lines.entry)) }
 {
     let mut classes = Vec::new(alloc);
     let mut caps = Vec::new(alloc);
@@ -66,10 +62,8 @@ fn uniform<'a>(
     words: Words<'a>,
     lines: Lines<'a>,
 ) -> Result<(AnyMatroid, Lines<'a>), DescRefusal>
-    ensures {
-        Gives (λ x. (tree_of x.0, lines_left x.1)) result
-            (uniform_at count (words_left words.entry) (lines_left lines.entry))
-    }
+    ensures { Gives (λ x. (tree_of x.0, lines_left x.1)) result
+        (uniform_at count (words_left words.entry) (lines_left lines.entry)) }
 {
     let (cap, words) = next_count(words, 0, 501)?;
     ended(words)?;
@@ -84,10 +78,8 @@ fn partition<'a>(
     words: Words<'a>,
     lines: Lines<'a>,
 ) -> Result<(AnyMatroid, Lines<'a>), DescRefusal>
-    ensures {
-        Gives (λ x. (tree_of x.0, lines_left x.1)) result
-            (partition_at count (words_left words.entry) (lines_left lines.entry))
-    }
+    ensures { Gives (λ x. (tree_of x.0, lines_left x.1)) result
+        (partition_at count (words_left words.entry) (lines_left lines.entry)) }
 {
     let (many, words) = next_count(words, 0, 501)?;
     ended(words)?;
@@ -103,10 +95,8 @@ pub fn next_matroid<'a>(
     count: u32,
     lines: Lines<'a>,
 ) -> Result<(AnyMatroid, Lines<'a>), DescRefusal>
-    ensures {
-        Gives (λ x. (tree_of x.0, lines_left x.1)) result
-            (matroid_at count (lines_left lines.entry))
-    }
+    ensures { Gives (λ x. (tree_of x.0, lines_left x.1)) result
+        (matroid_at count (lines_left lines.entry)) }
 {
     let line = lines.line;
     let (words, rest) = next_line(lines)?;

@@ -78,10 +78,8 @@ fn pair<'a>(
     words: Words<'a>,
     lines: Lines<'a>,
 ) -> Result<(Problem, Lines<'a>), DescRefusal>
-    ensures {
-        Gives (λ x. (instance_of x.0, lines_left x.1)) result
-            (pair_at (words_left words.entry) (lines_left lines.entry))
-    }
+    ensures { Gives (λ x. (instance_of x.0, lines_left x.1)) result
+        (pair_at (words_left words.entry) (lines_left lines.entry)) }
 {
     let (count, words) = next_count(words, 0, 501)?;
     ended(words)?;
@@ -98,14 +96,9 @@ fn pair<'a>(
 
 /// A problem, from its form line on.
 #[tactic(auto, unfolding(crate::specs::Reading::instance_at))]
-fn problem_lines<'a>(
-    alloc: Global,
-    lines: Lines<'a>,
-) -> Result<(Problem, Lines<'a>), DescRefusal>
-    ensures {
-        Gives (λ x. (instance_of x.0, lines_left x.1)) result
-            (instance_at (lines_left lines.entry))
-    }
+fn problem_lines<'a>(alloc: Global, lines: Lines<'a>) -> Result<(Problem, Lines<'a>), DescRefusal>
+    ensures { Gives (λ x. (instance_of x.0, lines_left x.1)) result
+        (instance_at (lines_left lines.entry)) }
 {
     let line = lines.line;
     let (words, rest) = next_line(lines)?;

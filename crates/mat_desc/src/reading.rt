@@ -95,11 +95,7 @@ fn next_number<'a>(
 
 /// The next word of a line as a number from `low` on, below `end`.
 #[tactic(auto, unfolding(crate::specs::Reading::count_at))]
-pub fn next_count<'a>(
-    words: Words<'a>,
-    low: u32,
-    end: u32,
-) -> Result<(u32, Words<'a>), DescRefusal>
+pub fn next_count<'a>(words: Words<'a>, low: u32, end: u32) -> Result<(u32, Words<'a>), DescRefusal>
     ensures value { Gives (λ x. (x.0, words_left x.1)) result (count_at low end (words_left words.entry)) }
     ensures range { IfOk result (λ x. (low ≤ x.0) × (x.0 < end)) }
 {

@@ -21,20 +21,30 @@ fn fault_of(alloc: Global, text: &[u8]) -> Result<Option<(DescKind, u32)>, Alloc
 #[test]
 fn a_pair_is_read(rt: HostRuntime) -> Result<(), Fail> {
     let text = b"matroids 1\npair 3\nweights 4 -1 3\npartition 1\nclass 1 0 2\nuniform 3\nend\n";
-    match read_problem(rt.alloc(), text) {
-        Ok(Problem::Pair {
-            weights,
-            first: AnyMatroid::Partition(first),
-            second: AnyMatroid::Uniform(second),
-        }) => {
-            assert_eq!(rt; weights.as_slice(), &[4, -1, 3]);
-            assert_eq!(rt; first.count(), 3);
-            assert_eq!(rt; first.caps(), &[1]);
-            assert_eq!(rt; first.classes().len(), 1);
-            assert_eq!(rt; second.count(), 3);
-            assert_eq!(rt; second.cap(), 3);
+    let Ok(problem) = read_problem(rt.alloc(), text) else {
+        assert!(rt; false);
+        return Ok(());
+    };
+    let Problem::Pair {
+        weights,
+        first,
+        second,
+    } = problem;
+    assert_eq!(rt; weights.as_slice(), [4, -1, 3].as_slice());
+    match first {
+        AnyMatroid::Partition(partition) => {
+            assert_eq!(rt; partition.count(), 3);
+            assert_eq!(rt; partition.caps(), [1].as_slice());
+            assert_eq!(rt; partition.classes().len(), 1);
         }
-        _ => assert!(rt; false),
+        AnyMatroid::Uniform(_) => assert!(rt; false),
+    }
+    match second {
+        AnyMatroid::Uniform(uniform) => {
+            assert_eq!(rt; uniform.count(), 3);
+            assert_eq!(rt; uniform.cap(), 3);
+        }
+        AnyMatroid::Partition(_) => assert!(rt; false),
     }
     Ok(())
 }

@@ -1,5 +1,4 @@
-use Rattle.std.proofs.Common.{◌≡◌, ◌∙◌, sym, ap, []}
-use Rattle.std.specs.Prelude.{Ok}
+use Rattle.std.proofs.Common.{[]}
 use Rattle.std.proofs.lemmas.Result.{err_from_is_err_and}
 use Rattle.mat_desc.specs.Reading.{classes_at}
 use Rattle.mat_desc.specs.Views.{lines_left}
