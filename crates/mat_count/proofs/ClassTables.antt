@@ -12,10 +12,10 @@ use Rattle.mat_sets.proofs.Steps.{intersection-more, is_member-take_more}
 use Rattle.mat_sets.proofs.Sums.{AllBelow-at}
 use Rattle.mat_sets.proofs.Members.{intersection-none}
 use Rattle.mat_sets.specs.Families.{AreDisjoint, indicator}
+use Rattle.mat_sets.proofs.Families.{disjoint-apart}
 use Rattle.mat_count.specs.Partitions.{names, IsPartition, IsClassTable, IsEntered, CountsMembers}
 use Rattle.mat_count.specs.Counts.{is_within_caps, is_counted}
 use Rattle.mat_count.specs.LaminarLaws.{IsWithinCaps-from_test, test_from-IsWithinCaps}
-use Rattle.mat_count.specs.PartitionLaws.{disjoint-apart}
 
 -- ---- entering one class
 

@@ -11,11 +11,10 @@ use Rattle.mat_sets.proofs.Sums.{sizes}
 use Rattle.mat_sets.proofs.Subsets.{find_member, length-subset, subset_or}
 use Rattle.mat_sets.proofs.Cardinalities.{length-minus-intersection, length-with_one}
 use Rattle.mat_sets.proofs.Ground.{AllBelow-member, AllBelow-subset}
-use Rattle.mat_sets.proofs.SetTests.{IsSet-from_test, is_set-true}
+use Rattle.mat_sets.proofs.SetTests.{IsSet-from_test, is_set-true, is_set-with_one}
 use Rattle.mat_laws.specs.Matroids.{IsMatroid}
 use Rattle.mat_count.specs.Counts.{is_within_caps, IsWithinCaps, is_counted}
 use Rattle.mat_count.specs.Laminar.{crosses, Crosses, IsLaminarFamily}
-use Rattle.mat_count.specs.UniformLaws.{is_set-with_one}
 
 -- ---- the tests and their sentences
 

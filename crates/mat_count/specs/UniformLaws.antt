@@ -7,16 +7,9 @@ use Rattle.mat_sets.proofs.Members.{IsRising-nil, IsRising-with_one, is_member-w
 use Rattle.mat_sets.proofs.Subsets.{larger_has, length-subset}
 use Rattle.mat_sets.proofs.Cardinalities.{length-with_one}
 use Rattle.mat_sets.proofs.Ground.{AllBelow-from_members, AllBelow-member, AllBelow-subset}
-use Rattle.mat_sets.proofs.SetTests.{IsSet-from_test, is_set-true}
+use Rattle.mat_sets.proofs.SetTests.{IsSet-from_test, is_set-true, is_set-with_one}
 use Rattle.mat_laws.specs.Matroids.{IsMatroid}
 use Rattle.mat_count.specs.Counts.{is_uniform}
-
--- one more element makes a set on n elements
-pub is_set-with_one : (n : ℕ) (X : List ℕ) (x : ℕ) → IsSet n X → x < n → is_set n (with_one X x) ≡ true
-is_set-with_one n X x set small = is_set-true n (with_one X x) (IsRising-with_one X x set.rising) (AllBelow-from_members n (with_one X x) (λ k member. elim (or_cases (eqb k x) (is_member k X) (sym (is_member-with_one k x X) ∙ member)) [
-  | inl same ↦ (let e = eqb-true k x same in omega arith)
-  | inr old ↦ AllBelow-member n X k set.below old
-]))
 
 -- the laws of uniform matroids
 pub uniform_laws : (n cap : ℕ) → IsMatroid n (is_uniform n cap)

@@ -1,7 +1,8 @@
 -- Families of sets: how often a number stands in them, their union and their sums.
-use Rattle.std.proofs.Common.{Bool, List, [], ap, arith, false, get_or, inl, inr, length, pos, refl, suc, sym, true, zero, ℕ, ℤ, ◌++◌, ◌+ℤ◌, ◌+◌, ◌<◌, ◌||◌, ◌∙◌, ◌∷◌, ◌≡◌, ◌≤◌}
-use Rattle.std.proofs.lemmas.Bool.{false≢true, or_cases, or_left, or_right, both_ways, false_from_ne_true}
+use Rattle.std.proofs.Common.{Bool, List, [], ap, arith, false, get_or, inl, inr, length, pos, refl, suc, sym, true, zero, ℕ, ℤ, ◌++◌, ◌+ℤ◌, ◌+◌, ◌<◌, ◌||◌, ◌∙◌, ◌∷◌, ◌≡◌, ◌≢◌, ◌≤◌}
+use Rattle.std.proofs.lemmas.Bool.{false≢true, or_cases, or_left, or_right, both_ways, cases_lt, cases_order, false_from_ne_true}
 use Rattle.std.proofs.lemmas.Int.{ints}
+use Rattle.std.proofs.lemmas.List.{get_or_past}
 use Rattle.std.proofs.lemmas.List.Sums.{sum_by-cons}
 use Rattle.std.specs.List.{sum_by}
 use Rattle.mat_sets.specs.Families.{AllRising, AreDisjoint, family_sum, family_union, indicator, multiplicity}
@@ -112,6 +113,21 @@ AreDisjoint-apart (a ∷ family) zero (suc j) x d h l m = false_from_ne_true _ (
     let here : indicator (is_member x a) ≡ 1 = rw m in
     absurd (omega arith))
 AreDisjoint-apart (a ∷ family) (suc i) (suc j) x d h l m = AreDisjoint-apart family i j x (AreDisjoint-tail a family d) (omega arith) (omega arith) m
+
+-- a member of one of disjoint sets is in no other
+pub disjoint-apart : (sets : List (List ℕ)) (i j x : ℕ) → AreDisjoint sets → i ≢ j
+    → is_member x (get_or sets i []) ≡ true → is_member x (get_or sets j []) ≡ false
+disjoint-apart sets i j x apart other h = false_from_ne_true _ (λ k. elim (cases_order i j) [
+  | inl same ↦ other same
+  | inr (inl before) ↦ both_ways _ (AreDisjoint-apart sets i j x apart before (place j k) h) k
+  | inr (inr after) ↦ both_ways _ (AreDisjoint-apart sets j i x apart after (place i h) k) h
+])
+  where
+    place : (i : ℕ) → is_member x (get_or sets i []) ≡ true → i < length sets
+    place i h = elim (cases_lt i (length sets)) [
+      | inl inside ↦ inside
+      | inr past ↦ absurd (both_ways false refl (sym (ap (is_member x) (get_or_past sets i [] past)) ∙ h))
+    ]
 
 -- ---- sums
 

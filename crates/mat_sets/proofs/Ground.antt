@@ -141,6 +141,10 @@ complement-twice n a r b =
     let s = IsSubset-all_below n a b in
     same_members _ _ (IsRising-minus _ _ (IsRising-all_below n)) r (λ k. grind (arith, set_members, s.inside k))
 
+-- a set on n elements has at most n members
+pub IsSet-length : (n : ℕ) (a : List ℕ) → IsSet n a → length a ≤ n
+IsSet-length n a s = omega (arith, length-complement n a s.rising s.below)
+
 -- ---- a list without repetition, in any order
 
 pub length-union_distinct : (xs b : List ℕ) → IsRising b → AreDistinct xs

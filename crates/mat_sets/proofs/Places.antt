@@ -8,7 +8,7 @@ use Rattle.std.proofs.lemmas.List.Sorted.{searched}
 use Rattle.std.specs.List.{filter, insert, remove}
 use Rattle.std.specs.List.Sorted.{IsBinarySearchResult}
 use Rattle.std.specs.Ordering.{nat_cmp}
-use Rattle.std.specs.Result.{MatchResult}
+use Rattle.std.specs.Result.{MatchResult, is_ok}
 use Rattle.mat_sets.specs.Places.{IsGap, IsPlace}
 use Rattle.mat_sets.specs.Sets.{IsRising, RisesFrom, is_member, minus, rising_insert, with_one, without_one}
 use Rattle.mat_sets.proofs.Members.{RisesFrom-at, RisesFrom-index, is_member-get_or, is_member-nowhere, minus-none, with_one-member, without_one-missing}
@@ -36,20 +36,37 @@ remove-filter lo (y ∷ t) (suc i) x r h e =
     let high : suc y ≤ get_or t i 0 = RisesFrom-at (suc y) t i r.1 (omega arith) in
     rw (ne_eqb y x (omega arith)) (ap (λ z. y ∷ z) (remove-filter (suc y) t i x r.1 (omega arith) e))
 
--- ---- what a binary search says
+-- ---- where x stands
 
-place_here : (xs : List ℕ) (x i : ℕ) → IsRising xs → i < length xs → get_or xs i 0 ≡ x → IsPlace xs x i
+pub is_member-place : (xs : List ℕ) (x i : ℕ) → IsPlace xs x i → is_member x xs ≡ true
+is_member-place xs x i p = is_member-get_or xs i x p.inside p.found
+
+pub remove-place : (xs : List ℕ) (x i : ℕ) → IsRising xs → IsPlace xs x i → remove xs i ≡ without_one xs x
 unfolding without_one
-place_here xs x i r h e =
-    let m = is_member-get_or xs i x h e in
-    record { inside = h; found = m; removed = remove-filter 0 xs i x r.rises h e; kept = with_one-member xs x r m }
+remove-place xs x i r p = remove-filter 0 xs i x r.rises p.inside p.found
 
-gap_here : (xs : List ℕ) (x i : ℕ) → IsRising xs → i ≤ length xs → ((k : ℕ) → k < i → get_or xs k 0 < x)
-    → ((k : ℕ) → i ≤ k → k < length xs → x < get_or xs k 0) → IsGap xs x i
+pub with_one-place : (xs : List ℕ) (x i : ℕ) → IsRising xs → IsPlace xs x i → with_one xs x ≡ xs
+with_one-place xs x i r p = with_one-member xs x r (is_member-place xs x i p)
+
+-- ---- where x would stand
+
+pub is_member-gap : (xs : List ℕ) (x i : ℕ) → IsGap xs x i → is_member x xs ≡ false
+is_member-gap xs x i g = is_member-nowhere xs x (λ k l e. elim (cases_lt k i) [ inl p ↦ absurd (omega (arith, g.below k p)) | inr q ↦ absurd (omega (arith, g.above k q l)) ])
+
+pub insert-gap : (xs : List ℕ) (x i : ℕ) → IsGap xs x i → insert xs i x ≡ with_one xs x
 unfolding with_one
-gap_here xs x i r h b a =
-    let m : is_member x xs ≡ false = is_member-nowhere xs x (λ k l e. elim (cases_lt k i) [ inl p ↦ absurd (omega (arith, b k p)) | inr q ↦ absurd (omega (arith, a k q l)) ]) in
-    record { inside = h; missing = m; inserted = insert-rising_insert xs i x h b a; kept = without_one-missing xs x r m }
+insert-gap xs x i g = insert-rising_insert xs i x g.inside g.below g.above
+
+pub without_one-gap : (xs : List ℕ) (x i : ℕ) → IsRising xs → IsGap xs x i → without_one xs x ≡ xs
+without_one-gap xs x i r g = without_one-missing xs x r (is_member-gap xs x i g)
+
+-- x is a member exactly where the answer is a place
+pub is_ok-place : (xs : List ℕ) (x : ℕ) (r : Result ℕ ℕ) → MatchResult r (IsPlace xs x) (IsGap xs x)
+    → is_ok r ≡ is_member x xs
+is_ok-place xs x (Ok i) p = sym (is_member-place xs x i p)
+is_ok-place xs x (Err i) g = sym (is_member-gap xs x i g)
+
+-- ---- what a binary search says
 
 pub placed : (xs : List ℕ) (x : ℕ) (r : Result ℕ ℕ) → IsRising xs → IsBinarySearchResult (λ y. nat_cmp y x) xs r
     → MatchResult r (IsPlace xs x) (IsGap xs x)
@@ -58,13 +75,13 @@ placed xs x r s h = read r (searched xs x r h (λ i j l m. elim (cases_eq i j) [
     read : (r : Result ℕ ℕ)
         → MatchResult r (λ i. (i < length xs) × (get_or xs i 0 ≡ x)) (λ i. (i ≤ length xs) × ((k : ℕ) → k < i → get_or xs k 0 < x) × ((k : ℕ) → i ≤ k → k < length xs → x < get_or xs k 0))
         → MatchResult r (IsPlace xs x) (IsGap xs x)
-    read (Ok i) h = place_here xs x i s h.0 h.1
-    read (Err i) h = gap_here xs x i s h.0 h.1 h.2
+    read (Ok i) h = record { inside = h.0; found = h.1 }
+    read (Err i) h = record { inside = h.0; below = h.1; above = h.2 }
 
 -- x is above all
 pub gap_at_end : (xs : List ℕ) (x : ℕ) → IsRising xs → (0 < length xs → get_or xs (length xs - 1) 0 < x)
     → IsGap xs x (length xs)
-gap_at_end xs x r h = gap_here xs x (length xs) r (omega arith) (λ k l. below k l) (λ k l m. absurd (omega arith))
+gap_at_end xs x r h = record { inside = omega arith; below = λ k l. below k l; above = λ k l m. absurd (omega arith) }
   where
     below : (k : ℕ) → k < length xs → get_or xs k 0 < x
     below k l = elim (cases_eq k (length xs - 1)) [

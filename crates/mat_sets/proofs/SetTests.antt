@@ -1,8 +1,9 @@
 -- The test of a set holds exactly of the sets.
-use Rattle.std.proofs.Common.{◌≡◌, ℕ, suc, true, ◌&&◌, leb, ltb, List, [], ◌∷◌, refl}
+use Rattle.std.proofs.Common.{◌≡◌, ℕ, ◌<◌, suc, true, ◌&&◌, leb, ltb, List, [], ◌∷◌, refl}
 use Rattle.std.proofs.lemmas.Bool.{and_parts, and_from, leb-true, ltb-true, le-leb, lt-ltb}
-use Rattle.mat_sets.specs.Sets.{RisesFrom, IsRising, AllBelow, IsSet}
+use Rattle.mat_sets.specs.Sets.{RisesFrom, IsRising, AllBelow, IsSet, with_one}
 use Rattle.mat_sets.specs.SetTests.{rises_within, is_set}
+use Rattle.mat_sets.proofs.Ground.{IsSet-with_one}
 
 rises_from_test : (lo n : ℕ) (xs : List ℕ) → rises_within lo n xs ≡ true → RisesFrom lo xs
 rises_from_test lo n [] h = tt
@@ -35,3 +36,7 @@ test_from-IsSet n xs set = test_from 0 n xs set.rising.rises set.below
 -- a list that rises and whose items are below n passes the test
 pub is_set-true : (n : ℕ) (xs : List ℕ) → IsRising xs → AllBelow n xs → is_set n xs ≡ true
 is_set-true n xs rising below = test_from-IsSet n xs (record { rising = rising; below = below })
+
+-- one more element makes a set on n elements
+pub is_set-with_one : (n : ℕ) (X : List ℕ) (x : ℕ) → IsSet n X → x < n → is_set n (with_one X x) ≡ true
+is_set-with_one n X x set small = test_from-IsSet n _ (IsSet-with_one n X x set small)

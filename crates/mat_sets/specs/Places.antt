@@ -1,7 +1,6 @@
 -- Places in a rising list.
-use Rattle.std.specs.Prelude.{◌≡◌, ℕ, ◌-◌, ◌<◌, ◌≤◌, true, false, List, length, take, slice_index}
-use Rattle.std.specs.List.{insert, remove}
-use Rattle.mat_sets.specs.Sets.{is_member, IsRising, with_one, without_one}
+use Rattle.std.specs.Prelude.{◌≡◌, ℕ, ◌-◌, ◌<◌, ◌≤◌, List, length, take, slice_index}
+use Rattle.mat_sets.specs.Sets.{IsRising}
 
 -- k is the first place whose item is not above the one before it
 pub record IsFirstFall (xs : List ℕ) (k : ℕ) : Type 0 where
@@ -12,13 +11,10 @@ pub record IsFirstFall (xs : List ℕ) (k : ℕ) : Type 0 where
 -- x stands at i
 pub record IsPlace (xs : List ℕ) (x i : ℕ) : Type 0 where
   pub inside : i < length xs
-  pub found : is_member x xs ≡ true
-  pub removed : remove xs i ≡ without_one xs x
-  pub kept : with_one xs x ≡ xs
+  pub found : slice_index xs i ≡ x
 
--- x does not stand in xs, and would stand at i
+-- x does not stand in xs: the items before i are below it, and those from i on above it
 pub record IsGap (xs : List ℕ) (x i : ℕ) : Type 0 where
   pub inside : i ≤ length xs
-  pub missing : is_member x xs ≡ false
-  pub inserted : insert xs i x ≡ with_one xs x
-  pub kept : without_one xs x ≡ xs
+  pub below : (k : ℕ) → k < i → slice_index xs k < x
+  pub above : (k : ℕ) → i ≤ k → k < length xs → x < slice_index xs k

@@ -124,7 +124,6 @@ impl ElemSet {
     }
 
     /// Puts x in. True where it was new. A number above all members is pushed at the end. After an error the set is as before.
-    #[tactic(auto, using(crate::proofs::Members::set_rises))]
     pub fn add(&mut self, x: u32) -> Result<bool, AllocError>
         ensures ok { IfOk result (λ new. (new ≡ not (is_member x self.old)) × (self.new ≡ with_one self.old x)) }
         ensures err { OnErr result (self.new ≡ self.old) }
@@ -141,7 +140,6 @@ impl ElemSet {
     }
 
     /// Takes x out. True where it was a member. It takes no memory.
-    #[tactic(auto, using(crate::proofs::Members::set_rises))]
     pub fn take_out(&mut self, x: u32) -> bool
         ensures was { result ≡ is_member x self.old }
         ensures items { self.new ≡ without_one self.old x }
