@@ -1,8 +1,6 @@
 -- Classes that share no member do not cross, so that partition matroids are laminar ones.
-use Rattle.std.proofs.Common.{◌≡◌, ℕ, zero, suc, ◌<◌, ◌≤◌, ◌≢◌, Bool, true, false, List, [], ◌∷◌, length, get_or, inl, inr, refl, ap, sym, ◌∙◌, arith}
-use Rattle.std.proofs.lemmas.List.{get_or_past}
-use Rattle.std.proofs.lemmas.Bool.{both_ways, cases_order, cases_lt, false_from_ne_true}
-use Rattle.mat_sets.specs.Sets.{is_member}
+use Rattle.std.proofs.Common.{ℕ, ◌≢◌, List, [], get_or, arith}
+use Rattle.std.proofs.lemmas.Bool.{both_ways, false_from_ne_true}
 use Rattle.mat_sets.specs.Families.{AreDisjoint}
 use Rattle.mat_sets.proofs.Families.{disjoint-apart}
 use Rattle.mat_laws.specs.Matroids.{IsMatroid}

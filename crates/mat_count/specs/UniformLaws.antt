@@ -1,12 +1,12 @@
 -- The sets of at most so many elements are the independent sets of a matroid.
-use Rattle.std.proofs.Common.{◌≡◌, ℕ, ◌<◌, ◌≤◌, true, eqb, leb, List, [], length, inl, inr, arith, ◌∙◌, sym}
-use Rattle.std.proofs.lemmas.Bool.{and_parts, and_from, leb-true, le-leb, or_cases, eqb-true}
-use Rattle.mat_sets.specs.Sets.{is_member, IsSet, with_one}
+use Rattle.std.proofs.Common.{ℕ, ◌≤◌, leb, [], length, arith}
+use Rattle.std.proofs.lemmas.Bool.{and_parts, and_from, leb-true, le-leb}
+use Rattle.mat_sets.specs.Sets.{with_one}
 use Rattle.mat_sets.specs.SetTests.{is_set}
-use Rattle.mat_sets.proofs.Members.{IsRising-nil, IsRising-with_one, is_member-with_one}
+use Rattle.mat_sets.proofs.Members.{IsRising-nil}
 use Rattle.mat_sets.proofs.Subsets.{larger_has, length-subset}
 use Rattle.mat_sets.proofs.Cardinalities.{length-with_one}
-use Rattle.mat_sets.proofs.Ground.{AllBelow-from_members, AllBelow-member, AllBelow-subset}
+use Rattle.mat_sets.proofs.Ground.{AllBelow-member, AllBelow-subset}
 use Rattle.mat_sets.proofs.SetTests.{IsSet-from_test, is_set-true, is_set-with_one}
 use Rattle.mat_laws.specs.Matroids.{IsMatroid}
 use Rattle.mat_count.specs.Counts.{is_uniform}
