@@ -12,7 +12,7 @@ use Rattle.mat_sets.specs.SetTests.{is_set}
 use Rattle.mat_sets.specs.Sums.{sum_of, weight_at, weight, IsWithin, AreWithin}
 use Rattle.mat_sets.proofs.SetTests.{IsSet-from_test, test_from-IsSet}
 use Rattle.mat_sets.proofs.Cardinalities.{sum_of-high, sum_of-low}
-use Rattle.mat_sets.proofs.Ground.{IsSet-nil, IsRising-all_below, AreDistinct-rising, length-distinct_below}
+use Rattle.mat_sets.proofs.Ground.{IsSet-nil, IsSet-length, IsRising-all_below}
 use Rattle.mat_sets.proofs.Members.{same_members, set_members, IsRising-minus}
 use Rattle.mat_laws.specs.Matroids.{IsMatroid}
 use Rattle.mat_laws.specs.Ranks.{rank, largest_up_to}
@@ -27,10 +27,6 @@ use Rattle.mat_cert.specs.Certificates.{IsRangedRung, AreRangedRungs, intersect}
 use Rattle.mat_cert.specs.declared.answer.PricedRung.{PricedRung}
 use Rattle.mat_top.specs.Answers.{IsSolution}
 use Rattle.mat_top.specs.FreeLadders.{free_rung, AreFitting}
-
--- a set on n elements has at most n
-set_length : (n : ℕ) (X : List ℕ) → IsSet n X → length X ≤ n
-set_length n X set = length-distinct_below n X (AreDistinct-rising X set.rising) set.below
 
 -- ---- a half that is zero
 
@@ -68,7 +64,7 @@ within_set w X all few =
 -- each set on n elements is independent
 free-passes : (n cap : ℕ) (X : List ℕ) → n ≤ cap → IsSet n X → is_uniform n cap X ≡ true
 free-passes n cap X free set =
-    let size = set_length n X set in
+    let size = IsSet-length n X set in
     and_from (is_set n X) (leb (length X) cap) (test_from-IsSet n X set) (le-leb (length X) cap (omega arith))
 
 -- and each is heaviest of its size where nothing has a weight
@@ -95,7 +91,7 @@ pub free_rung-ranged : (n k : ℕ) (p : List ℕ → Bool) (w : List ℤ) (X : L
     → IsRangedRung n k (free_rung w X)
 free_rung-ranged n k p w X laws few long small size heaviest =
     let set : IsSet n X = laws.sets X heaviest.passes in
-    let length_of = set_length n X set in
+    let length_of = IsSet-length n X set in
     record {
       weight = within_set w X small (omega arith);
       set = set;
@@ -138,7 +134,7 @@ rank_few : (n : ℕ) (p : List ℕ → Bool) → IsMatroid n p → rank p (all_b
 rank_few n p laws =
     let most = rank_is laws (all_below n) (IsRising-all_below n) in
     let set : IsSet n most.largest = laws.sets most.largest most.passes in
-    omega (arith, set_length n most.largest set, most.size)
+    omega (arith, IsSet-length n most.largest set, most.size)
 
 -- the empty set has rank 0
 rank-none : (q : List ℕ → Bool) → rank q [] ≡ 0
@@ -190,4 +186,4 @@ pub fitting : (n : ℕ) (p : List ℕ → Bool) (w : List ℤ) (sets : List (Lis
 fitting n p w sets laws few greedy = λ k d lt.
     let e = greedy.each k lt in
     let set : IsSet n (get_or sets k []) = laws.sets (get_or sets k []) e.1.passes in
-    rw (get_or_default sets k d [] lt) (set.below, omega (arith, set_length n (get_or sets k []) set))
+    rw (get_or_default sets k d [] lt) (set.below, omega (arith, IsSet-length n (get_or sets k []) set))
