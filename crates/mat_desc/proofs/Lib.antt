@@ -10,3 +10,5 @@ pub mod ClassLaws
 pub mod MatroidLaws
 pub mod InstanceLaws
 pub mod ProblemLaws
+pub mod Columns
+pub mod ItemLaws
