@@ -162,12 +162,14 @@ list_found words lines instance q e =
     let few : count.0.0 ≤ 500 = omega (arith, number.most) in
     let line : words.words ≡ numeral (pos (length weights.0.0)) ∷ numeral (pos (length matroids.0.0)) ∷ [] = number.cut ∙ rw (length_read.cut, last, all.count, read.count) refl in
     subst (λ (r : Instance × LinesLeft). IsFormRead forms.List words lines r.0 r.1) same (record {
-        valid = (all.valid few, omega (arith, read.count, length_read.least), omega (arith, read.count, length_read.most), rw all.count read.each);
-        spelled = λ left.
-          let behind = read.spelled (end_line ∷ []) left in
-          ((codes "weights" ∷ map numeral weights.0.0) ∷ behind.0, all.spelled behind.0 behind.1,
-            (behind.0, ap (λ (t : Line). version_line ∷ (codes "list" ∷ t) ∷ (codes "weights" ∷ map numeral weights.0.0) ∷ behind.0) line, behind.2));
-      })
+      valid = (all.valid few, omega (arith, read.count, length_read.least), omega (arith, read.count, length_read.most), rw all.count read.each);
+      spelled = λ left.
+          let behind = read.spelled (end_line ∷ []) left in (
+            (codes "weights" ∷ map numeral weights.0.0) ∷ behind.0,
+            all.spelled behind.0 behind.1,
+            (behind.0, ap (λ (t : Line). version_line ∷ (codes "list" ∷ t) ∷ (codes "weights" ∷ map numeral weights.0.0) ∷ behind.0) line, behind.2),
+          );
+    })
 
 graph_found : (words : WordsLeft) (lines : LinesLeft) (instance : Instance) (q : LinesLeft) → graph_at words lines ≡ Ok (instance, q) → IsFormRead forms.Graph words lines instance q
 unfolding graph_at
@@ -183,9 +185,9 @@ graph_found words lines instance q e =
     let read = items_found (edge_at vertices.0.0) edge_line (IsPair vertices.0.0 vertices.0.0) (edge_found vertices.0.0) many.0.0 lines edges.0.0 edges.0.1 edges.1 in
     let line : words.words ≡ numeral (pos vertices.0.0) ∷ numeral (pos (length edges.0.0)) ∷ [] = v.cut ∙ rw (m.cut, last, read.count) refl in
     subst (λ (r : Instance × LinesLeft). IsFormRead forms.Graph words lines r.0 r.1) same (record {
-        valid = (v.least, omega (arith, v.most), (omega (arith, read.count, m.most), read.each));
-        spelled = λ left. (map edge_line edges.0.0 ++ end_line ∷ [], read.spelled (end_line ∷ []) left, ap (λ (t : Line). version_line ∷ (codes "graph" ∷ t) ∷ (map edge_line edges.0.0 ++ end_line ∷ [])) line);
-      })
+      valid = (v.least, omega (arith, v.most), (omega (arith, read.count, m.most), read.each));
+      spelled = λ left. (map edge_line edges.0.0 ++ end_line ∷ [], read.spelled (end_line ∷ []) left, ap (λ (t : Line). version_line ∷ (codes "graph" ∷ t) ∷ (map edge_line edges.0.0 ++ end_line ∷ [])) line);
+    })
 
 -- items of a pair and a weight, as two lists
 record AreColumns (a b : ℕ) (key : List ℕ) (many : ℕ) (lines : LinesLeft) (pairs : List (ℕ × ℕ)) (weights : List ℤ) (q : LinesLeft) : Type 0 where
@@ -231,10 +233,13 @@ rooted_found words lines instance q e =
     let read = columns_found vertices.0.0 vertices.0.0 (codes "arc") many.0.0 lines arcs.0.0 arcs.0.1 arcs.1 in
     let line : words.words ≡ numeral (pos vertices.0.0) ∷ numeral (pos (length (map (λ (arc : (ℕ × ℕ) × ℤ). arc.0) arcs.0.0))) ∷ numeral (pos root.0.0) ∷ [] = v.cut ∙ rw (m.cut, r.cut, last, read.count) refl in
     subst (λ (x : Instance × LinesLeft). IsFormRead forms.Rooted words lines x.0 x.1) same (record {
-        valid = (v.least, omega (arith, v.most), r.most, (omega (arith, read.count, m.most), read.pairs_valid), read.as_many, read.weights_valid);
-        spelled = λ left. (map (weighted_line (codes "arc")) (zip (map (λ (arc : (ℕ × ℕ) × ℤ). arc.0) arcs.0.0) (map (λ (arc : (ℕ × ℕ) × ℤ). arc.1) arcs.0.0)) ++ end_line ∷ [], read.spelled left,
-          ap (λ (t : Line). version_line ∷ (codes "rooted" ∷ t) ∷ (map (weighted_line (codes "arc")) (zip (map (λ (arc : (ℕ × ℕ) × ℤ). arc.0) arcs.0.0) (map (λ (arc : (ℕ × ℕ) × ℤ). arc.1) arcs.0.0)) ++ end_line ∷ [])) line);
-      })
+      valid = (v.least, omega (arith, v.most), r.most, (omega (arith, read.count, m.most), read.pairs_valid), read.as_many, read.weights_valid);
+      spelled = λ left. (
+        map (weighted_line (codes "arc")) (zip (map (λ (arc : (ℕ × ℕ) × ℤ). arc.0) arcs.0.0) (map (λ (arc : (ℕ × ℕ) × ℤ). arc.1) arcs.0.0)) ++ end_line ∷ [],
+        read.spelled left,
+        ap (λ (t : Line). version_line ∷ (codes "rooted" ∷ t) ∷ (map (weighted_line (codes "arc")) (zip (map (λ (arc : (ℕ × ℕ) × ℤ). arc.0) arcs.0.0) (map (λ (arc : (ℕ × ℕ) × ℤ). arc.1) arcs.0.0)) ++ end_line ∷ [])) line,
+      );
+    })
 
 table_found : (words : WordsLeft) (lines : LinesLeft) (instance : Instance) (q : LinesLeft) → table_at words lines ≡ Ok (instance, q) → IsFormRead forms.Table words lines instance q
 unfolding table_at
@@ -252,10 +257,13 @@ table_found words lines instance q e =
     let read = columns_found rows.0.0 columns.0.0 (codes "cell") many.0.0 lines cells.0.0 cells.0.1 cells.1 in
     let line : words.words ≡ numeral (pos rows.0.0) ∷ numeral (pos columns.0.0) ∷ numeral (pos (length (map (λ (cell : (ℕ × ℕ) × ℤ). cell.0) cells.0.0))) ∷ [] = r.cut ∙ rw (c.cut, m.cut, last, read.count) refl in
     subst (λ (x : Instance × LinesLeft). IsFormRead forms.Table words lines x.0 x.1) same (record {
-        valid = (omega (arith, r.most), omega (arith, c.most), (omega (arith, read.count, m.most), read.pairs_valid), read.as_many, read.weights_valid);
-        spelled = λ left. (map (weighted_line (codes "cell")) (zip (map (λ (cell : (ℕ × ℕ) × ℤ). cell.0) cells.0.0) (map (λ (cell : (ℕ × ℕ) × ℤ). cell.1) cells.0.0)) ++ end_line ∷ [], read.spelled left,
-          ap (λ (t : Line). version_line ∷ (codes "table" ∷ t) ∷ (map (weighted_line (codes "cell")) (zip (map (λ (cell : (ℕ × ℕ) × ℤ). cell.0) cells.0.0) (map (λ (cell : (ℕ × ℕ) × ℤ). cell.1) cells.0.0)) ++ end_line ∷ [])) line);
-      })
+      valid = (omega (arith, r.most), omega (arith, c.most), (omega (arith, read.count, m.most), read.pairs_valid), read.as_many, read.weights_valid);
+      spelled = λ left. (
+        map (weighted_line (codes "cell")) (zip (map (λ (cell : (ℕ × ℕ) × ℤ). cell.0) cells.0.0) (map (λ (cell : (ℕ × ℕ) × ℤ). cell.1) cells.0.0)) ++ end_line ∷ [],
+        read.spelled left,
+        ap (λ (t : Line). version_line ∷ (codes "table" ∷ t) ∷ (map (weighted_line (codes "cell")) (zip (map (λ (cell : (ℕ × ℕ) × ℤ). cell.0) cells.0.0) (map (λ (cell : (ℕ × ℕ) × ℤ). cell.1) cells.0.0)) ++ end_line ∷ [])) line,
+      );
+    })
 
 -- items of a pair, a colour and a weight, as three lists
 record AreColouredColumns (v c many : ℕ) (lines : LinesLeft) (edges : List (ℕ × ℕ)) (colours : List ℕ) (weights : List ℤ) (q : LinesLeft) : Type 0 where
@@ -315,10 +323,13 @@ coloured_found words lines instance q e =
     let read = coloured_columns_found vertices.0.0 colours.0.0 many.0.0 lines edges.0.0 edges.0.1 edges.1 in
     let line : words.words ≡ numeral (pos vertices.0.0) ∷ numeral (pos (length (map (λ (edge : (ℕ × ℕ) × (ℕ × ℤ)). edge.0) edges.0.0))) ∷ numeral (pos colours.0.0) ∷ [] = v.cut ∙ rw (m.cut, c.cut, last, read.count) refl in
     subst (λ (x : Instance × LinesLeft). IsFormRead forms.Coloured words lines x.0 x.1) same (record {
-        valid = (v.least, omega (arith, v.most), omega (arith, c.most), (omega (arith, read.count, m.most), read.edges_valid), read.as_many_colours, read.colours_valid, read.as_many_weights, read.weights_valid);
-        spelled = λ left. (map coloured_edge_line (zip (map (λ (edge : (ℕ × ℕ) × (ℕ × ℤ)). edge.0) edges.0.0) (zip (map (λ (edge : (ℕ × ℕ) × (ℕ × ℤ)). edge.1.0) edges.0.0) (map (λ (edge : (ℕ × ℕ) × (ℕ × ℤ)). edge.1.1) edges.0.0))) ++ end_line ∷ [], read.spelled left,
-          ap (λ (t : Line). version_line ∷ (codes "coloured" ∷ t) ∷ (map coloured_edge_line (zip (map (λ (edge : (ℕ × ℕ) × (ℕ × ℤ)). edge.0) edges.0.0) (zip (map (λ (edge : (ℕ × ℕ) × (ℕ × ℤ)). edge.1.0) edges.0.0) (map (λ (edge : (ℕ × ℕ) × (ℕ × ℤ)). edge.1.1) edges.0.0))) ++ end_line ∷ [])) line);
-      })
+      valid = (v.least, omega (arith, v.most), omega (arith, c.most), (omega (arith, read.count, m.most), read.edges_valid), read.as_many_colours, read.colours_valid, read.as_many_weights, read.weights_valid);
+      spelled = λ left. (
+        map coloured_edge_line (zip (map (λ (edge : (ℕ × ℕ) × (ℕ × ℤ)). edge.0) edges.0.0) (zip (map (λ (edge : (ℕ × ℕ) × (ℕ × ℤ)). edge.1.0) edges.0.0) (map (λ (edge : (ℕ × ℕ) × (ℕ × ℤ)). edge.1.1) edges.0.0))) ++ end_line ∷ [],
+        read.spelled left,
+        ap (λ (t : Line). version_line ∷ (codes "coloured" ∷ t) ∷ (map coloured_edge_line (zip (map (λ (edge : (ℕ × ℕ) × (ℕ × ℤ)). edge.0) edges.0.0) (zip (map (λ (edge : (ℕ × ℕ) × (ℕ × ℤ)). edge.1.0) edges.0.0) (map (λ (edge : (ℕ × ℕ) × (ℕ × ℤ)). edge.1.1) edges.0.0))) ++ end_line ∷ [])) line,
+      );
+    })
 
 pub any_form_found : (line : ℕ) (form : Form) (words : WordsLeft) (lines : LinesLeft) (instance : Instance) (q : LinesLeft) → form_at line (Some form) words lines ≡ Ok (instance, q) → IsFormRead form words lines instance q
 any_form_found line forms.Pair words lines instance q e = pair_found words lines instance q e
@@ -348,11 +359,11 @@ any_form_spelled (pair weights first second) lines valid spelled = record {
   cut = spelled.2;
   are_words = numerals_words (length weights ∷ []);
   again = λ n p left.
-    let number = count_again 0 501 n (length weights) [] (omega arith) (omega (arith, valid.0.0)) in
-    let all = weights_line_again p weights spelled.0 valid.0 left in
-    let one = matroid_again (length weights) all.0 first spelled.0 spelled.1 valid.1 spelled.3 all.2 in
-    let two = matroid_again (length weights) one.0 second spelled.1 (end_line ∷ []) valid.2 spelled.4 one.2 in
-    (two.0, rw (number, ended_again n, all.1, one.1, two.1) refl, two.2);
+      let number = count_again 0 501 n (length weights) [] (omega arith) (omega (arith, valid.0.0)) in
+      let all = weights_line_again p weights spelled.0 valid.0 left in
+      let one = matroid_again (length weights) all.0 first spelled.0 spelled.1 valid.1 spelled.3 all.2 in
+      let two = matroid_again (length weights) one.0 second spelled.1 (end_line ∷ []) valid.2 spelled.4 one.2 in
+      (two.0, rw (number, ended_again n, all.1, one.1, two.1) refl, two.2);
 }
 any_form_spelled (list weights matroids) lines valid spelled = record {
   form = forms.List;
@@ -361,11 +372,11 @@ any_form_spelled (list weights matroids) lines valid spelled = record {
   cut = spelled.1;
   are_words = numerals_words (length weights ∷ length matroids ∷ []);
   again = λ n p left.
-    let number = count_again 0 501 n (length weights) (numeral (pos (length matroids)) ∷ []) (omega arith) (omega (arith, valid.0.0)) in
-    let many = count_again 1 65 n (length matroids) [] valid.1 (omega (arith, valid.2)) in
-    let all = weights_line_again p weights spelled.0 valid.0 left in
-    let read = matroids_again (length weights) all.0 matroids spelled.0 (end_line ∷ []) valid.3 spelled.2 all.2 in
-    (read.0, rw (number, many, ended_again n, all.1, read.1) refl, read.2);
+      let number = count_again 0 501 n (length weights) (numeral (pos (length matroids)) ∷ []) (omega arith) (omega (arith, valid.0.0)) in
+      let many = count_again 1 65 n (length matroids) [] valid.1 (omega (arith, valid.2)) in
+      let all = weights_line_again p weights spelled.0 valid.0 left in
+      let read = matroids_again (length weights) all.0 matroids spelled.0 (end_line ∷ []) valid.3 spelled.2 all.2 in
+      (read.0, rw (number, many, ended_again n, all.1, read.1) refl, read.2);
 }
 any_form_spelled (graph vertices edges) lines valid spelled = record {
   form = forms.Graph;
@@ -374,10 +385,10 @@ any_form_spelled (graph vertices edges) lines valid spelled = record {
   cut = spelled;
   are_words = numerals_words (vertices ∷ length edges ∷ []);
   again = λ n p left.
-    let number = count_again 1 501 n vertices (numeral (pos (length edges)) ∷ []) valid.0 (omega (arith, valid.1)) in
-    let many = count_again 0 501 n (length edges) [] (omega arith) (omega (arith, valid.2.0)) in
-    let read = items_again (edge_at vertices) edge_line (IsPair vertices vertices) (edge_again vertices) p edges (end_line ∷ []) valid.2.1 left in
-    (read.0, rw (number, many, ended_again n, read.1) refl, read.2);
+      let number = count_again 1 501 n vertices (numeral (pos (length edges)) ∷ []) valid.0 (omega (arith, valid.1)) in
+      let many = count_again 0 501 n (length edges) [] (omega arith) (omega (arith, valid.2.0)) in
+      let read = items_again (edge_at vertices) edge_line (IsPair vertices vertices) (edge_again vertices) p edges (end_line ∷ []) valid.2.1 left in
+      (read.0, rw (number, many, ended_again n, read.1) refl, read.2);
 }
 any_form_spelled (rooted vertices root arcs costs) lines valid spelled = record {
   form = forms.Rooted;
@@ -386,11 +397,11 @@ any_form_spelled (rooted vertices root arcs costs) lines valid spelled = record 
   cut = spelled;
   are_words = numerals_words (vertices ∷ length arcs ∷ root ∷ []);
   again = λ n p left.
-    let number = count_again 1 501 n vertices (numeral (pos (length arcs)) ∷ numeral (pos root) ∷ []) valid.0 (omega (arith, valid.1)) in
-    let many = count_again 0 501 n (length arcs) (numeral (pos root) ∷ []) (omega arith) (omega (arith, valid.3.0)) in
-    let from = count_again 0 vertices n root [] (omega arith) valid.2 in
-    let read = columns_again vertices vertices (codes "arc") refl p arcs costs valid.3.1 valid.5 valid.4 left in
-    (read.0, rw (number, many, from, ended_again n, read.1, firsts-zip arcs costs valid.4, seconds-zip arcs costs valid.4) refl, read.2);
+      let number = count_again 1 501 n vertices (numeral (pos (length arcs)) ∷ numeral (pos root) ∷ []) valid.0 (omega (arith, valid.1)) in
+      let many = count_again 0 501 n (length arcs) (numeral (pos root) ∷ []) (omega arith) (omega (arith, valid.3.0)) in
+      let from = count_again 0 vertices n root [] (omega arith) valid.2 in
+      let read = columns_again vertices vertices (codes "arc") refl p arcs costs valid.3.1 valid.5 valid.4 left in
+      (read.0, rw (number, many, from, ended_again n, read.1, firsts-zip arcs costs valid.4, seconds-zip arcs costs valid.4) refl, read.2);
 }
 any_form_spelled (coloured vertices colours edges colour_of weights) lines valid spelled = record {
   form = forms.Coloured;
@@ -399,11 +410,11 @@ any_form_spelled (coloured vertices colours edges colour_of weights) lines valid
   cut = spelled;
   are_words = numerals_words (vertices ∷ length edges ∷ colours ∷ []);
   again = λ n p left.
-    let number = count_again 1 501 n vertices (numeral (pos (length edges)) ∷ numeral (pos colours) ∷ []) valid.0 (omega (arith, valid.1)) in
-    let many = count_again 0 501 n (length edges) (numeral (pos colours) ∷ []) (omega arith) (omega (arith, valid.3.0)) in
-    let hues = count_again 0 501 n colours [] (omega arith) (omega (arith, valid.2)) in
-    let read = coloured_columns_again vertices colours p edges colour_of weights valid.3.1 valid.5 valid.7 valid.4 valid.6 left in
-    (read.0, rw (number, many, hues, ended_again n, read.1, edges-zip edges colour_of weights valid.4 valid.6, colours-zip edges colour_of weights valid.4 valid.6, weights-zip edges colour_of weights valid.4 valid.6) refl, read.2);
+      let number = count_again 1 501 n vertices (numeral (pos (length edges)) ∷ numeral (pos colours) ∷ []) valid.0 (omega (arith, valid.1)) in
+      let many = count_again 0 501 n (length edges) (numeral (pos colours) ∷ []) (omega arith) (omega (arith, valid.3.0)) in
+      let hues = count_again 0 501 n colours [] (omega arith) (omega (arith, valid.2)) in
+      let read = coloured_columns_again vertices colours p edges colour_of weights valid.3.1 valid.5 valid.7 valid.4 valid.6 left in
+      (read.0, rw (number, many, hues, ended_again n, read.1, edges-zip edges colour_of weights valid.4 valid.6, colours-zip edges colour_of weights valid.4 valid.6, weights-zip edges colour_of weights valid.4 valid.6) refl, read.2);
 }
 any_form_spelled (table rows columns cells weights) lines valid spelled = record {
   form = forms.Table;
@@ -412,9 +423,9 @@ any_form_spelled (table rows columns cells weights) lines valid spelled = record
   cut = spelled;
   are_words = numerals_words (rows ∷ columns ∷ length cells ∷ []);
   again = λ n p left.
-    let down = count_again 0 501 n rows (numeral (pos columns) ∷ numeral (pos (length cells)) ∷ []) (omega arith) (omega (arith, valid.0)) in
-    let across = count_again 0 501 n columns (numeral (pos (length cells)) ∷ []) (omega arith) (omega (arith, valid.1)) in
-    let many = count_again 0 501 n (length cells) [] (omega arith) (omega (arith, valid.2.0)) in
-    let read = columns_again rows columns (codes "cell") refl p cells weights valid.2.1 valid.4 valid.3 left in
-    (read.0, rw (down, across, many, ended_again n, read.1, firsts-zip cells weights valid.3, seconds-zip cells weights valid.3) refl, read.2);
+      let down = count_again 0 501 n rows (numeral (pos columns) ∷ numeral (pos (length cells)) ∷ []) (omega arith) (omega (arith, valid.0)) in
+      let across = count_again 0 501 n columns (numeral (pos (length cells)) ∷ []) (omega arith) (omega (arith, valid.1)) in
+      let many = count_again 0 501 n (length cells) [] (omega arith) (omega (arith, valid.2.0)) in
+      let read = columns_again rows columns (codes "cell") refl p cells weights valid.2.1 valid.4 valid.3 left in
+      (read.0, rw (down, across, many, ended_again n, read.1, firsts-zip cells weights valid.3, seconds-zip cells weights valid.3) refl, read.2);
 }

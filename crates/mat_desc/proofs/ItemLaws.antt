@@ -43,10 +43,10 @@ items_found {A} reader line Valid one (suc many) p items q e =
     let here = one p first.0.0 first.0.1 first.1 in
     let more = items_found reader line Valid one many first.0.1 others.0.0 others.0.1 others.1 in
     subst (λ (r : List A × LinesLeft). AreItemsRead line Valid (suc many) p r.0 r.1) same (record {
-        count = ap suc more.count;
-        each = All-cons Valid first.0.0 others.0.0 here.valid more.each;
-        spelled = λ rest left. here.spelled (map line others.0.0 ++ rest) (more.spelled rest left);
-      })
+      count = ap suc more.count;
+      each = All-cons Valid first.0.0 others.0.0 here.valid more.each;
+      spelled = λ rest left. here.spelled (map line others.0.0 ++ rest) (more.spelled rest left);
+    })
 
 pub items_again : {A : Type 0} (reader : LinesLeft → Result (A × LinesLeft) Fault) (line : A → Line) (Valid : A → Type 0)
     → ((p : LinesLeft) (item : A) (rest : List Line) → Valid item → AreLeft (line item ∷ rest) p → (q : LinesLeft) × (reader p ≡ Ok (item, q)) × AreLeft rest q)
@@ -78,13 +78,13 @@ matroids_found n (suc many) p trees q e =
     let here = matroid_found n p first.0.0 first.0.1 first.1 in
     let more = matroids_found n many first.0.1 others.0.0 others.0.1 others.1 in
     subst (λ (r : List Tree × LinesLeft). AreMatroidsRead n (suc many) p r.0 r.1) same (record {
-        count = ap suc more.count;
-        each = All-cons (IsValidMatroid n) first.0.0 others.0.0 here.valid more.each;
-        spelled = λ rest left.
+      count = ap suc more.count;
+      each = All-cons (IsValidMatroid n) first.0.0 others.0.0 here.valid more.each;
+      spelled = λ rest left.
           let behind = more.spelled rest left in
           let lines = here.spelled behind.0 behind.1 in
           (lines.0, lines.1, (behind.0, lines.2, behind.2));
-      })
+    })
 
 pub matroids_again : (n : ℕ) (p : LinesLeft) (trees : List Tree) (lines rest : List Line) → All (IsValidMatroid n) trees → MatroidsLines trees lines rest → AreLeft lines p
     → (q : LinesLeft) × (repeat_at (matroid_at n) (length trees) p ≡ Ok (trees, q)) × AreLeft rest q
@@ -129,9 +129,9 @@ edge_found v p edge q e =
     let read = ends_found v v line.0.0 ends.0.0 ends.0.1 ends.1 in
     let last = ended_found ends.0.1 end.0 end.1 in
     subst (λ (r : (ℕ × ℕ) × LinesLeft). IsItemRead edge_line (IsPair v v) p r.0 r.1) same (record {
-        valid = read.valid;
-        spelled = λ rest left. subst (λ (ws : Line). AreLeft ((codes "edge" ∷ ws) ∷ rest) p) (read.cut ∙ rw last refl) (keyed_found (codes "edge") p line.0.0 line.0.1 line.1 rest left);
-      })
+      valid = read.valid;
+      spelled = λ rest left. subst (λ (ws : Line). AreLeft ((codes "edge" ∷ ws) ∷ rest) p) (read.cut ∙ rw last refl) (keyed_found (codes "edge") p line.0.0 line.0.1 line.1 rest left);
+    })
 
 pub edge_again : (v : ℕ) (p : LinesLeft) (edge : ℕ × ℕ) (rest : List Line) → IsPair v v edge → AreLeft (edge_line edge ∷ rest) p → (q : LinesLeft) × (edge_at v p ≡ Ok (edge, q)) × AreLeft rest q
 unfolding edge_at
@@ -155,9 +155,9 @@ weighted_found key a b p item q e =
     let number = number_found (neg_ℤ (pos (10 ^ 12))) (pos (10 ^ 12)) ends.0.1 weight.0.0 weight.0.1 weight.1 in
     let last = ended_found weight.0.1 end.0 end.1 in
     subst (λ (r : ((ℕ × ℕ) × ℤ) × LinesLeft). IsItemRead (weighted_line key) (IsWeighted a b) p r.0 r.1) same (record {
-        valid = (read.valid, (number.least, number.most));
-        spelled = λ rest left. subst (λ (ws : Line). AreLeft ((key ∷ ws) ∷ rest) p) (read.cut ∙ rw (number.cut, last) refl) (keyed_found key p line.0.0 line.0.1 line.1 rest left);
-      })
+      valid = (read.valid, (number.least, number.most));
+      spelled = λ rest left. subst (λ (ws : Line). AreLeft ((key ∷ ws) ∷ rest) p) (read.cut ∙ rw (number.cut, last) refl) (keyed_found key p line.0.0 line.0.1 line.1 rest left);
+    })
 
 pub weighted_again : (key : List ℕ) (a b : ℕ) → is_word key ≡ true → (p : LinesLeft) (item : (ℕ × ℕ) × ℤ) (rest : List Line) → IsWeighted a b item → AreLeft (weighted_line key item ∷ rest) p → (q : LinesLeft) × (weighted_at key a b p ≡ Ok (item, q)) × AreLeft rest q
 unfolding weighted_at weight_at
@@ -183,9 +183,9 @@ coloured_edge_found v c p item q e =
     let number = number_found (neg_ℤ (pos (10 ^ 12))) (pos (10 ^ 12)) colour.0.1 weight.0.0 weight.0.1 weight.1 in
     let last = ended_found weight.0.1 end.0 end.1 in
     subst (λ (r : ((ℕ × ℕ) × (ℕ × ℤ)) × LinesLeft). IsItemRead coloured_edge_line (IsColoured v c) p r.0 r.1) same (record {
-        valid = (read.valid, hue.most, (number.least, number.most));
-        spelled = λ rest left. subst (λ (ws : Line). AreLeft ((codes "edge" ∷ ws) ∷ rest) p) (read.cut ∙ rw (hue.cut, number.cut, last) refl) (keyed_found (codes "edge") p line.0.0 line.0.1 line.1 rest left);
-      })
+      valid = (read.valid, hue.most, (number.least, number.most));
+      spelled = λ rest left. subst (λ (ws : Line). AreLeft ((codes "edge" ∷ ws) ∷ rest) p) (read.cut ∙ rw (hue.cut, number.cut, last) refl) (keyed_found (codes "edge") p line.0.0 line.0.1 line.1 rest left);
+    })
 
 pub coloured_edge_again : (v c : ℕ) (p : LinesLeft) (item : (ℕ × ℕ) × (ℕ × ℤ)) (rest : List Line) → IsColoured v c item → AreLeft (coloured_edge_line item ∷ rest) p → (q : LinesLeft) × (coloured_edge_at v c p ≡ Ok (item, q)) × AreLeft rest q
 unfolding coloured_edge_at weight_at

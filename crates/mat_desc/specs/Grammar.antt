@@ -46,7 +46,6 @@ ArePairs first_bound second_bound pairs = (length pairs ≤ 500) × All (IsPair 
 -- a problem whose numbers and lists are in range
 abbrev pub IsValid : Instance → Type 0
 IsValid (pair weights first second) = AreWeights weights × IsValidMatroid (length weights) first × IsValidMatroid (length weights) second
-
 IsValid (list weights matroids) = AreWeights weights × (1 ≤ length matroids) × (length matroids ≤ 64) × All (IsValidMatroid (length weights)) matroids
 IsValid (graph vertices edges) = (1 ≤ vertices) × (vertices ≤ 500) × ArePairs vertices vertices edges
 IsValid (rooted vertices root arcs costs) = (1 ≤ vertices) × (vertices ≤ 500) × (root < vertices) × ArePairs vertices vertices arcs × (length costs ≡ length arcs) × All IsWeight costs

@@ -29,10 +29,7 @@ fn next_ends<'a>(
 
 /// An edge line.
 #[tactic(auto, unfolding(crate::specs::Reading::edge_at))]
-fn edge_line<'a>(
-    vertices: u32,
-    lines: Lines<'a>,
-) -> Result<((u32, u32), Lines<'a>), DescRefusal>
+fn edge_line<'a>(vertices: u32, lines: Lines<'a>) -> Result<((u32, u32), Lines<'a>), DescRefusal>
     ensures { Gives (λ x. (x.0, lines_left x.1)) result (edge_at vertices (lines_left lines.entry)) }
 {
     let (words, rest) = keyed_line(lines, b"edge")?;

@@ -9,8 +9,8 @@ ghost use Rattle.mat_desc.specs.Soundness.{IsSoundInstance};
 ghost use Rattle.mat_desc.specs.Views.{lines_left, words_left, instance_of};
 
 use crate::cursor::{Lines, Words};
-use crate::keywords::{Form, form_from};
 use crate::item_lines::{coloured_edge_lines, edge_lines, weighted_lines};
+use crate::keywords::{Form, form_from};
 use crate::matroid::{next_matroid, next_matroids};
 use crate::reading::{ended, keyed_line, next_count, next_line, next_word, weights_line};
 use crate::refusal::{DescKind, DescRefusal};
@@ -33,7 +33,10 @@ pub enum Problem {
         matroids: Vec<AnyMatroid>,
     },
     /// A graph: the number of its vertices, and the ends of each edge.
-    Graph { vertices: u32, edges: Pairs },
+    Graph {
+        vertices: u32,
+        edges: Pairs,
+    },
     /// A directed graph with a root: the tail and the head of each arc, and the cost of each.
     Rooted {
         vertices: u32,
@@ -197,8 +200,9 @@ fn coloured<'a>(
     let (many, words) = next_count(words, 0, 501)?;
     let (colours, words) = next_count(words, 0, 501)?;
     ended(words)?;
-    let (edges, colour_of, weights, lines) =
-        coloured_edge_lines(alloc, vertices, colours, many, lines)?;
+    let (edges, colour_of, weights, lines) = coloured_edge_lines(
+        alloc, vertices, colours, many, lines,
+    )?;
     let problem = Problem::Coloured {
         vertices,
         colours,

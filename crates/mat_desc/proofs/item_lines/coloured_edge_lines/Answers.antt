@@ -22,8 +22,7 @@ loop-preserved c =
     let one : length c.loop.colour_of.items ≡ length c.loop.edges.items = c.loop.invariant.1 in
     let two : length c.loop.weights.items ≡ length c.loop.edges.items = c.loop.invariant.2 in
     let front : zip (c.loop.edges.items ++ c.in_ok-ends.ends ∷ []) (zip (c.loop.colour_of.items ++ c.in_ok-ends.colour ∷ []) (c.loop.weights.items ++ weight ∷ [])) ≡ zip c.loop.edges.items (zip c.loop.colour_of.items c.loop.weights.items) ++ (c.in_ok-ends.ends, (c.in_ok-ends.colour, weight)) ∷ [] =
-      zip-push_two c.loop.edges.items c.loop.colour_of.items c.loop.weights.items c.in_ok-ends.ends c.in_ok-ends.colour weight one two in
-    (
+    zip-push_two c.loop.edges.items c.loop.colour_of.items c.loop.weights.items c.in_ok-ends.ends c.in_ok-ends.colour weight one two in (
       rw (c.in_ok-push.ensures.items, c.in_ok-push-2.ensures.items, c.in_ok-push-3.ensures.items, kept, front) (repeat_more (coloured_edge_at c.args.vertices c.args.colours) (zip c.loop.edges.items (zip c.loop.colour_of.items c.loop.weights.items)) c.args.many c.loop.counter (lines_left c.loop.rest) (c.in_ok-ends.ends, (c.in_ok-ends.colour, weight)) (lines_left c.in_ok-ends.after) (repeat_at (coloured_edge_at c.args.vertices c.args.colours) c.args.many (lines_left c.args.lines)) c.loop-test.true c.in_ok-ends.ensures.value c.loop.invariant.0),
       rw (c.in_ok-push.ensures.items, c.in_ok-push-2.ensures.items, length_push, length_push) (omega (arith, one)),
       rw (c.in_ok-push.ensures.items, c.in_ok-push-3.ensures.items, length_push, length_push) (omega (arith, two)),

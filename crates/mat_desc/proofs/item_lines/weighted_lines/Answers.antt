@@ -20,8 +20,7 @@ loop-preserved c =
     let weight = c.in_ok-ends.weight in
     let kept : to_z w128 (of_z w128 weight) ≡ weight = kept_weight weight c.in_ok-ends.ensures.range.0 c.in_ok-ends.ensures.range.1 in
     let same : length c.loop.weights.items ≡ length c.loop.pairs.items = c.loop.invariant.1 in
-    let front : zip (c.loop.pairs.items ++ c.in_ok-ends.ends ∷ []) (c.loop.weights.items ++ weight ∷ []) ≡ zip c.loop.pairs.items c.loop.weights.items ++ (c.in_ok-ends.ends, weight) ∷ [] = zip-push c.loop.pairs.items c.loop.weights.items c.in_ok-ends.ends weight same in
-    (
+    let front : zip (c.loop.pairs.items ++ c.in_ok-ends.ends ∷ []) (c.loop.weights.items ++ weight ∷ []) ≡ zip c.loop.pairs.items c.loop.weights.items ++ (c.in_ok-ends.ends, weight) ∷ [] = zip-push c.loop.pairs.items c.loop.weights.items c.in_ok-ends.ends weight same in (
       rw (c.in_ok-push.ensures.items, c.in_ok-push-2.ensures.items, kept, front) (repeat_more (weighted_at c.args.key.now c.args.first_bound c.args.second_bound) (zip c.loop.pairs.items c.loop.weights.items) c.args.many c.loop.counter (lines_left c.loop.rest) (c.in_ok-ends.ends, weight) (lines_left c.in_ok-ends.after) (repeat_at (weighted_at c.args.key.now c.args.first_bound c.args.second_bound) c.args.many (lines_left c.args.lines)) c.loop-test.true c.in_ok-ends.ensures.value c.loop.invariant.0),
       rw (c.in_ok-push.ensures.items, c.in_ok-push-2.ensures.items, length_push, length_push) (omega (arith, same)),
     )
