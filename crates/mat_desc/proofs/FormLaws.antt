@@ -1,25 +1,20 @@
 -- The lines of a problem, form by form: what is read is spelled so, and what is spelled so is read.
-use Rattle.std.proofs.Common.{◌<◌, ◌≡◌, ℕ, ◌≤◌, ℤ, Bool, true, false, cond, eqb, List, [], ◌∷◌, ◌++◌, length, map, pos, Option, Some, None, Ok, Err, refl, sym, ap, subst, ◌∙◌, arith}
+use Rattle.std.proofs.Common.{◌<◌, ◌≡◌, ℕ, ◌≤◌, ℤ, Bool, true, false, cond, List, [], ◌∷◌, ◌++◌, length, map, pos, Option, Some, None, Ok, refl, sym, ap, subst, ◌∙◌, arith}
 use Rattle.std.specs.Prelude.{codes, bytes_eq}
-use Rattle.std.specs.List.{list_all, join_with_byte}
-use Rattle.std.proofs.lemmas.Bool.{and_from, and_parts, eqb-true}
+use Rattle.std.specs.List.{list_all}
 use Rattle.std.proofs.lemmas.List.{append-nil}
-use Rattle.std.proofs.lemmas.List.Splits.{join_with_byte-slice_split}
 use Rattle.std.proofs.lemmas.Slice.Eq.{bytes_eq-Decides}
-use Rattle.mat_words.specs.Lines.{lines_of, text_of}
 use Rattle.mat_words.specs.Words.{is_word}
 use Rattle.mat_words.specs.Numbers.{numeral}
-use Rattle.mat_words.proofs.NumberLemmas.{numeral_word}
-use Rattle.mat_desc.specs.declared.refusal.DescKind.TheVariants.{Version, TooManyLines}
 use Rattle.mat_desc.specs.declared.keywords.Form.{Form}
 use Rattle.mat_desc.specs.declared.keywords.Form.TheVariants as forms
 use Rattle.mat_desc.specs.Faults.{◌>>=◌, WordsLeft, LinesLeft}
-use Rattle.mat_desc.specs.Reading.{line_at, word_at, count_at, weight_at, ended_at, repeat_at, keyed_at, version_at, weights_at, end_at, is_closed, closed_at, edge_at, weighted_at, coloured_edge_at, matroid_at, pair_at, list_at, graph_at, rooted_at, coloured_at, table_at, form_of, form_at, instance_at, description_at, read_of}
+use Rattle.mat_desc.specs.Reading.{count_at, weight_at, ended_at, repeat_at, keyed_at, weights_at, edge_at, weighted_at, coloured_edge_at, matroid_at, pair_at, list_at, graph_at, rooted_at, coloured_at, table_at, form_of, form_at}
 use Rattle.mat_desc.specs.Instances.{Instance, pair, list, graph, rooted, coloured, table}
-use Rattle.mat_desc.specs.Grammar.{version_line, end_line, edge_line, weighted_line, coloured_edge_line, IsPair, IsWeight, IsValidMatroid, Line, AreWeights, IsValid, InstanceLines, Spells}
-use Rattle.mat_desc.proofs.ReadingSteps.{found-same, bind_found, test_found}
-use Rattle.mat_desc.proofs.WordLaws.{numerals_words, count_line, word_found, ended_found, ended_again, count_found, count_again, weights_found, weights_again, weights_words}
-use Rattle.mat_desc.proofs.LineLaws.{AreLeft, line_found, line_again, keyed_found, keyed_again}
+use Rattle.mat_desc.specs.Grammar.{version_line, end_line, edge_line, weighted_line, coloured_edge_line, IsPair, IsWeight, Line, AreWeights, IsValid, InstanceLines}
+use Rattle.mat_desc.proofs.ReadingSteps.{found-same, bind_found}
+use Rattle.mat_desc.proofs.WordLaws.{numerals_words, count_line, ended_found, ended_again, count_found, count_again, weights_found, weights_again, weights_words}
+use Rattle.mat_desc.proofs.LineLaws.{AreLeft, keyed_found, keyed_again}
 use Rattle.mat_desc.proofs.MatroidLaws.{matroid_found, matroid_again}
 use Rattle.std.specs.List.{All, zip}
 use Rattle.std.proofs.lemmas.List.Elements.{All-weaker}

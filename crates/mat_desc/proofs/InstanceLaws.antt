@@ -1,26 +1,21 @@
 -- Whole descriptions: a text that is read spells the problem that was read, and a text that spells a problem is read as that problem.
-use Rattle.std.proofs.Common.{◌≡◌, ℕ, ◌≤◌, ℤ, Bool, true, false, cond, eqb, List, [], ◌∷◌, ◌++◌, length, map, pos, Option, Some, None, Ok, Err, refl, sym, ap, subst, ◌∙◌, arith}
+use Rattle.std.proofs.Common.{◌≡◌, ℕ, true, cond, eqb, List, [], ◌∷◌, length, Option, Some, None, Ok, Err, refl, sym, ap, subst, ◌∙◌, arith}
 use Rattle.std.specs.Prelude.{codes, bytes_eq}
 use Rattle.std.specs.List.{list_all, join_with_byte}
 use Rattle.std.proofs.lemmas.Bool.{and_from, and_parts, eqb-true}
-use Rattle.std.proofs.lemmas.List.{append-nil}
 use Rattle.std.proofs.lemmas.List.Splits.{join_with_byte-slice_split}
 use Rattle.std.proofs.lemmas.Slice.Eq.{bytes_eq-Decides}
 use Rattle.mat_words.specs.Lines.{lines_of, text_of}
 use Rattle.mat_words.specs.Words.{is_word}
-use Rattle.mat_words.specs.Numbers.{numeral}
-use Rattle.mat_words.proofs.NumberLemmas.{numeral_word}
 use Rattle.mat_desc.specs.declared.refusal.DescKind.TheVariants.{Version, TooManyLines}
 use Rattle.mat_desc.specs.declared.keywords.Form.{Form}
-use Rattle.mat_desc.specs.declared.keywords.Form.TheVariants as forms
 use Rattle.mat_desc.specs.Faults.{◌>>=◌, WordsLeft, LinesLeft}
-use Rattle.mat_desc.specs.Reading.{line_at, word_at, count_at, weight_at, ended_at, repeat_at, keyed_at, version_at, weights_at, end_at, is_closed, closed_at, matroid_at, pair_at, form_of, form_at, instance_at, description_at, read_of}
-use Rattle.mat_desc.specs.Instances.{Instance, pair}
-use Rattle.mat_desc.specs.Grammar.{version_line, end_line, Line, AreWeights, IsValid, InstanceLines, Spells}
+use Rattle.mat_desc.specs.Reading.{line_at, word_at, ended_at, keyed_at, version_at, end_at, is_closed, closed_at, form_of, form_at, instance_at, description_at, read_of}
+use Rattle.mat_desc.specs.Instances.{Instance}
+use Rattle.mat_desc.specs.Grammar.{version_line, end_line, Line, IsValid, InstanceLines, Spells}
 use Rattle.mat_desc.proofs.ReadingSteps.{found-same, bind_found, test_found}
-use Rattle.mat_desc.proofs.WordLaws.{count_line, word_found, ended_found, ended_again, count_found, count_again, weights_found, weights_again, weights_words}
+use Rattle.mat_desc.proofs.WordLaws.{word_found, ended_found, ended_again}
 use Rattle.mat_desc.proofs.LineLaws.{AreLeft, line_found, line_again, keyed_found, keyed_again}
-use Rattle.mat_desc.proofs.MatroidLaws.{matroid_found, matroid_again}
 use Rattle.mat_desc.proofs.FormLaws.{form_spelling, form_found, form_of-form_spelling, form_word, any_form_found, any_form_spelled}
 
 -- ---- the lines round a problem

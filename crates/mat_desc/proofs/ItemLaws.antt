@@ -1,5 +1,5 @@
 -- A line for each item: what is read is spelled so, and what is spelled so is read.
-use Rattle.std.proofs.Common.{◌≡◌, ℕ, zero, suc, ◌+◌, ◌≤◌, ◌<◌, ◌^◌, ℤ, pos, neg_ℤ, Bool, true, false, List, [], ◌∷◌, ◌++◌, length, map, Result, Ok, Err, refl, sym, ap, ap₂, subst, ◌∙◌, arith}
+use Rattle.std.proofs.Common.{◌≡◌, ℕ, zero, suc, ◌<◌, ◌^◌, ℤ, pos, neg_ℤ, true, List, [], ◌∷◌, ◌++◌, length, map, Result, Ok, refl, ap, subst, ◌∙◌, arith}
 use Rattle.std.specs.Prelude.{codes}
 use Rattle.std.specs.List.{All, list_all, zip}
 use Rattle.std.proofs.lemmas.Bool.{and_from}
@@ -11,8 +11,8 @@ use Rattle.mat_any.specs.Trees.{Tree}
 use Rattle.mat_desc.specs.Faults.{Fault, ◌>>=◌, WordsLeft, LinesLeft}
 use Rattle.mat_desc.specs.Reading.{keyed_at, count_at, weight_at, ended_at, repeat_at, ends_at, edge_at, weighted_at, coloured_edge_at, matroid_at}
 use Rattle.mat_desc.specs.Grammar.{Line, IsWeight, IsPair, IsValidMatroid, MatroidsLines, edge_line, weighted_line, coloured_edge_line}
-use Rattle.mat_desc.proofs.ReadingSteps.{found, found-same, bind_found}
-use Rattle.mat_desc.proofs.WordLaws.{cut_then, IsCountRead, count_found, count_again, number_found, number_at_again, ended_found, ended_again}
+use Rattle.mat_desc.proofs.ReadingSteps.{found-same, bind_found}
+use Rattle.mat_desc.proofs.WordLaws.{cut_then, count_found, count_again, number_found, number_at_again, ended_found, ended_again}
 use Rattle.mat_desc.proofs.LineLaws.{AreLeft, keyed_found, keyed_again}
 use Rattle.mat_desc.proofs.MatroidLaws.{matroid_found, matroid_again}
 

@@ -1,4 +1,3 @@
-use Rattle.std.proofs.Common.{◌≡◌}
 use Rattle.std.proofs.lemmas.Result.{err_from_is_err_and}
 use Rattle.mat_desc.specs.Reading.{edge_at, repeat_at}
 use Rattle.mat_desc.specs.Views.{lines_left}

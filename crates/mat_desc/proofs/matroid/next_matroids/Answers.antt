@@ -1,11 +1,10 @@
-use Rattle.std.proofs.Common.{◌≡◌, ◌++◌, ◌∷◌, [], List, map, ap, subst, sym, ◌∙◌}
+use Rattle.std.proofs.Common.{map}
 use Rattle.std.proofs.lemmas.Result.{err_from_is_err_and}
 use Rattle.std.proofs.lemmas.List.{map-append}
-use Rattle.mat_any.specs.Trees.{Tree}
 use Rattle.mat_any.specs.Views.{tree_of}
 use Rattle.mat_desc.specs.Reading.{matroid_at, repeat_at}
 use Rattle.mat_desc.specs.Views.{lines_left}
-use Rattle.mat_desc.proofs.Repeats.{with_front, repeat_more, repeat_fails, repeat_done}
+use Rattle.mat_desc.proofs.Repeats.{repeat_more, repeat_fails, repeat_done}
 use Rattle.mat_desc.proofs.matroid.next_matroids.Goals as goal
 
 pub returns-in_err-matroid : goal.returns-in_err-matroid
