@@ -1,34 +1,24 @@
 -- Whole descriptions: a text that is read spells the problem that was read, and a text that spells a problem is read as that problem.
-use Rattle.std.proofs.Common.{◌≡◌, ℕ, ◌≤◌, ℤ, Bool, true, false, cond, eqb, List, [], ◌∷◌, ◌++◌, length, map, pos, Option, Some, None, Ok, Err, refl, sym, ap, subst, ◌∙◌, arith}
+use Rattle.std.proofs.Common.{◌≡◌, ℕ, true, cond, eqb, List, [], ◌∷◌, length, Option, Some, None, Ok, Err, refl, sym, ap, subst, ◌∙◌, arith}
 use Rattle.std.specs.Prelude.{codes, bytes_eq}
 use Rattle.std.specs.List.{list_all, join_with_byte}
 use Rattle.std.proofs.lemmas.Bool.{and_from, and_parts, eqb-true}
-use Rattle.std.proofs.lemmas.List.{append-nil}
 use Rattle.std.proofs.lemmas.List.Splits.{join_with_byte-slice_split}
 use Rattle.std.proofs.lemmas.Slice.Eq.{bytes_eq-Decides}
 use Rattle.mat_words.specs.Lines.{Line, lines_of, text_of}
 use Rattle.mat_words.specs.Words.{is_word}
-use Rattle.mat_words.specs.Numbers.{numeral}
-use Rattle.mat_words.proofs.NumberLemmas.{numeral_word}
 use Rattle.mat_desc.specs.declared.refusal.DescKind.TheVariants.{Version, TooManyLines}
 use Rattle.mat_desc.specs.declared.keywords.Form.{Form}
-use Rattle.mat_desc.specs.declared.keywords.Form.TheVariants as forms
 use Rattle.mat_desc.specs.Faults.{◌>>=◌, WordsLeft, LinesLeft}
-use Rattle.mat_desc.specs.Reading.{line_at, word_at, count_at, weight_at, ended_at, repeat_at, keyed_at, version_at, weights_at, end_at, is_closed, closed_at, matroid_at, pair_at, form_of, form_at, instance_at, description_at, read_of}
-use Rattle.mat_desc.specs.Instances.{Instance, pair}
-use Rattle.mat_desc.specs.Grammar.{AreWeights, IsValid, InstanceLines, Spells}
+use Rattle.mat_desc.specs.Reading.{line_at, word_at, ended_at, keyed_at, version_at, end_at, is_closed, closed_at, form_of, form_at, instance_at, description_at, read_of}
+use Rattle.mat_desc.specs.Instances.{Instance}
+use Rattle.mat_desc.specs.Grammar.{version_line, end_line, IsValid, InstanceLines, Spells}
 use Rattle.mat_desc.proofs.ReadingSteps.{found-same, bind_found, test_found}
-use Rattle.mat_desc.proofs.WordLaws.{count_line, word_found, ended_found, ended_again, count_found, count_again, weights_found, weights_again, weights_words}
+use Rattle.mat_desc.proofs.WordLaws.{word_found, ended_found, ended_again}
 use Rattle.mat_desc.proofs.LineLaws.{AreLeft, line_found, line_again, keyed_found, keyed_again}
-use Rattle.mat_desc.proofs.MatroidLaws.{matroid_found, matroid_again}
+use Rattle.mat_desc.proofs.FormLaws.{form_spelling, form_found, form_of-form_spelling, form_word, any_form_found, any_form_spelled}
 
 -- ---- the lines round a problem
-
-abbrev version_line : Line
-version_line = codes "matroids" ∷ codes "1" ∷ []
-
-abbrev end_line : Line
-end_line = codes "end" ∷ []
 
 version_found : (p q : LinesLeft) → version_at p ≡ Ok q → (rest : List Line) → AreLeft rest q → AreLeft (version_line ∷ rest) p
 unfolding version_at
@@ -81,92 +71,6 @@ closed_again : (p : LinesLeft) → AreLeft [] p → closed_at p ≡ Ok tt
 unfolding closed_at
 closed_again p left = rw left.same refl
 
--- ---- weights
-
--- a weights line was read
-record IsWeightsLineRead (n : ℕ) (p : LinesLeft) (weights : List ℤ) (q : LinesLeft) : Type 0 where
-  count : length weights ≡ n
-  valid : n ≤ 500 → AreWeights weights
-  spelled : (rest : List Line) → AreLeft rest q → AreLeft ((codes "weights" ∷ map numeral weights) ∷ rest) p
-
-weights_line_found : (n : ℕ) (p : LinesLeft) (weights : List ℤ) (q : LinesLeft) → weights_at n p ≡ Ok (weights, q) → IsWeightsLineRead n p weights q
-unfolding weights_at
-weights_line_found n p weights q e =
-    let line = bind_found (keyed_at (codes "weights") p) (λ line. repeat_at weight_at n line.0 >>= λ weights. ended_at weights.1 >>= λ end. Ok (weights.0, line.1)) (weights, q) e in
-    let all = bind_found (repeat_at weight_at n line.0.0) (λ weights. ended_at weights.1 >>= λ end. Ok (weights.0, line.0.1)) (weights, q) line.2 in
-    let end = bind_found (ended_at all.0.1) (λ end. Ok (all.0.0, line.0.1)) (weights, q) all.2 in
-    let same = found-same (all.0.0, line.0.1) (weights, q) end.2 in
-    let read = weights_found n line.0.0 all.0.0 all.0.1 all.1 in
-    let last = ended_found all.0.1 end.0 end.1 in
-    let one : IsWeightsLineRead n p all.0.0 line.0.1 = record {
-      count = read.count;
-      valid = λ few. (omega (arith, read.count), read.each);
-      spelled = λ rest left. subst (λ (ws : Line). AreLeft ((codes "weights" ∷ ws) ∷ rest) p) (weights_words_only all.0.0 line.0.0.words all.0.1.words read.cut last) (keyed_found (codes "weights") p line.0.0 line.0.1 line.1 rest left);
-    } in
-    subst (λ (r : List ℤ × LinesLeft). IsWeightsLineRead n p r.0 r.1) same one
-  where
-    weights_words_only : (all : List ℤ) (words after : List (List ℕ)) → words ≡ map numeral all ++ after → after ≡ [] → words ≡ map numeral all
-    weights_words_only all words after cut none = cut ∙ rw none (append-nil (map numeral all))
-
-weights_line_again : (p : LinesLeft) (weights : List ℤ) (rest : List Line) → AreWeights weights → AreLeft ((codes "weights" ∷ map numeral weights) ∷ rest) p
-    → (q : LinesLeft) × (weights_at (length weights) p ≡ Ok (weights, q)) × AreLeft rest q
-unfolding weights_at
-weights_line_again p weights rest valid left =
-    let line = keyed_again (codes "weights") p (map numeral weights) rest refl (weights_words weights) left in
-    (line.0, rw (line.1, weights_again p.line weights valid.1, ended_again p.line) refl, line.2)
-
--- ---- forms
-
--- the word that names a form
-abbrev form_spelling : Form → List ℕ
-form_spelling forms.Pair = codes "pair"
-
-some_form : (a b : Form) → Some a ≡ Some b → a ≡ b
-some_form a b e = cc
-
-form_found : (word : List ℕ) (form : Form) → form_of word ≡ Some form → word ≡ form_spelling form
-form_found word form e = first (bytes_eq word (codes "pair")) refl e
-  where
-    first : (a : Bool) → bytes_eq word (codes "pair") ≡ a → cond a (Some forms.Pair) None ≡ Some form → word ≡ form_spelling form
-    first true p h = (bytes_eq-Decides word (codes "pair")).0 p ∙ ap form_spelling (some_form forms.Pair form h)
-    first false p h = absurd cc
-
--- a problem was read from the words behind the form's word on
-record IsFormRead (form : Form) (words : WordsLeft) (lines : LinesLeft) (instance : Instance) (q : LinesLeft) : Type 0 where
-  valid : IsValid instance
-  spelled : AreLeft (end_line ∷ []) q → (more : List Line) × AreLeft more lines × InstanceLines instance (version_line ∷ (form_spelling form ∷ words.words) ∷ more)
-
-pair_found : (words : WordsLeft) (lines : LinesLeft) (instance : Instance) (q : LinesLeft) → pair_at words lines ≡ Ok (instance, q) → IsFormRead forms.Pair words lines instance q
-unfolding pair_at
-pair_found words lines instance q e =
-    let count = bind_found (count_at 0 501 words) (λ count. ended_at count.1 >>= λ end. weights_at count.0 lines >>= λ weights. matroid_at count.0 weights.1 >>= λ first. matroid_at count.0 first.1 >>= λ second. Ok (pair weights.0 first.0 second.0, second.1)) (instance, q) e in
-    let end = bind_found (ended_at count.0.1) (λ end. weights_at count.0.0 lines >>= λ weights. matroid_at count.0.0 weights.1 >>= λ first. matroid_at count.0.0 first.1 >>= λ second. Ok (pair weights.0 first.0 second.0, second.1)) (instance, q) count.2 in
-    let weights = bind_found (weights_at count.0.0 lines) (λ weights. matroid_at count.0.0 weights.1 >>= λ first. matroid_at count.0.0 first.1 >>= λ second. Ok (pair weights.0 first.0 second.0, second.1)) (instance, q) end.2 in
-    let first = bind_found (matroid_at count.0.0 weights.0.1) (λ first. matroid_at count.0.0 first.1 >>= λ second. Ok (pair weights.0.0 first.0 second.0, second.1)) (instance, q) weights.2 in
-    let second = bind_found (matroid_at count.0.0 first.0.1) (λ second. Ok (pair weights.0.0 first.0.0 second.0, second.1)) (instance, q) first.2 in
-    let same = found-same (pair weights.0.0 first.0.0 second.0.0, second.0.1) (instance, q) second.2 in
-    let number = count_found 0 501 words count.0.0 count.0.1 count.1 in
-    let last = ended_found count.0.1 end.0 end.1 in
-    let all = weights_line_found count.0.0 lines weights.0.0 weights.0.1 weights.1 in
-    let one = matroid_found count.0.0 weights.0.1 first.0.0 first.0.1 first.1 in
-    let two = matroid_found count.0.0 first.0.1 second.0.0 second.0.1 second.1 in
-    let few : count.0.0 ≤ 500 = omega (arith, number.most) in
-    let line : words.words ≡ numeral (pos (length weights.0.0)) ∷ [] = count_line count.0.0 (length weights.0.0) words.words count.0.1.words number.cut last all.count in
-    let whole : IsFormRead forms.Pair words lines (pair weights.0.0 first.0.0 second.0.0) second.0.1 = record {
-      valid = (all.valid few, rw all.count one.valid, rw all.count two.valid);
-      spelled = λ left.
-          let behind = two.spelled (end_line ∷ []) left in
-          let before = one.spelled behind.0 behind.1 in (
-            (codes "weights" ∷ map numeral weights.0.0) ∷ before.0,
-            all.spelled before.0 before.1,
-            (before.0, behind.0, ap (λ (t : Line). version_line ∷ (codes "pair" ∷ t) ∷ (codes "weights" ∷ map numeral weights.0.0) ∷ before.0) line, before.2, behind.2),
-          );
-    } in
-    subst (λ (r : Instance × LinesLeft). IsFormRead forms.Pair words lines r.0 r.1) same whole
-
-any_form_found : (line : ℕ) (form : Form) (words : WordsLeft) (lines : LinesLeft) (instance : Instance) (q : LinesLeft) → form_at line (Some form) words lines ≡ Ok (instance, q) → IsFormRead form words lines instance q
-any_form_found line forms.Pair words lines instance q e = pair_found words lines instance q e
-
 -- ---- whole texts
 
 -- a problem was read from its form line on
@@ -216,17 +120,14 @@ description_found text instance e =
 
 instance_again : (p : LinesLeft) (instance : Instance) (lines : List Line) → IsValid instance → InstanceLines instance lines → AreLeft lines p
     → (form : LinesLeft) × (q : LinesLeft) × (version_at p ≡ Ok form) × (instance_at form ≡ Ok (instance, q)) × AreLeft (end_line ∷ []) q
-unfolding instance_at word_at pair_at
-instance_again p (pair weights first second) lines valid spelled left =
-    let whole = subst (λ (ls : List Line). AreLeft ls p) spelled.2 left in
-    let head = version_again p ((codes "pair" ∷ numeral (pos (length weights)) ∷ []) ∷ (codes "weights" ∷ map numeral weights) ∷ spelled.0) whole in
-    let number_word : list_all is_word (codes "pair" ∷ numeral (pos (length weights)) ∷ []) ≡ true = and_from (is_word (numeral (pos (length weights)))) true (numeral_word (pos (length weights))) refl in
-    let line = line_again head.0 (codes "pair" ∷ numeral (pos (length weights)) ∷ []) ((codes "weights" ∷ map numeral weights) ∷ spelled.0) (omega arith) number_word head.2 in
-    let number = count_again 0 501 head.0.line (length weights) [] (omega arith) (omega (arith, valid.0.0)) in
-    let all = weights_line_again line.0 weights spelled.0 valid.0 line.2 in
-    let one = matroid_again (length weights) all.0 first spelled.0 spelled.1 valid.1 spelled.3 all.2 in
-    let two = matroid_again (length weights) one.0 second spelled.1 (end_line ∷ []) valid.2 spelled.4 one.2 in
-    (head.0, two.0, head.1, rw (line.1, number, ended_again head.0.line, all.1, one.1, two.1) refl, two.2)
+unfolding instance_at word_at
+instance_again p instance lines valid spelled left =
+    let form = any_form_spelled instance lines valid spelled in
+    let head = version_again p ((form_spelling form.form ∷ form.words) ∷ form.more) (subst (λ (ls : List Line). AreLeft ls p) form.cut left) in
+    let words = and_from (is_word (form_spelling form.form)) (list_all is_word form.words) (form_word form.form) form.are_words in
+    let line = line_again head.0 (form_spelling form.form ∷ form.words) form.more (omega arith) words head.2 in
+    let read = form.again head.0.line line.0 line.2 in
+    (head.0, read.0, head.1, rw (line.1, form_of-form_spelling form.form, read.1) refl, read.2)
 
 pub description_again : (text : List ℕ) (instance : Instance) → Spells text instance → read_of text ≡ Ok instance
 unfolding description_at

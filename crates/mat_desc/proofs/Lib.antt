@@ -8,5 +8,8 @@ pub mod LineLaws
 pub mod ElementLaws
 pub mod ClassLaws
 pub mod MatroidLaws
+pub mod ItemLaws
+pub mod FormLaws
 pub mod InstanceLaws
 pub mod ProblemLaws
+pub mod Columns

@@ -7,8 +7,8 @@ use Rattle.mat_any.specs.Trees.{Tree, uniform, partition, element_count, IsSound
 use Rattle.mat_desc.specs.declared.refusal.DescRefusal.{DescRefusal}
 use Rattle.mat_desc.specs.declared.refusal.DescRefusal.TheVariants as refusals
 use Rattle.mat_desc.specs.Faults.{Fault, Gives}
-use Rattle.mat_desc.specs.Grammar.{IsValidTree, IsValid, Spells}
-use Rattle.mat_desc.specs.Instances.{Instance, pair}
+use Rattle.mat_desc.specs.Grammar.{IsValidTree, IsValidMatroid, IsValid, Spells}
+use Rattle.mat_desc.specs.Instances.{Instance, pair, list, graph, rooted, coloured, table}
 use Rattle.mat_desc.specs.Reading.{read_of}
 use Rattle.mat_desc.specs.Soundness.{IsSoundInstance}
 use Rattle.mat_desc.proofs.InstanceLaws.{description_found, description_again}
@@ -30,6 +30,12 @@ IsSoundInstance-valid (pair weights first second) valid =
     let one = IsSound-valid (length weights) first valid.1.0 in
     let two = IsSound-valid (length weights) second valid.2.0 in
     (one.0, one.1, two.0, two.1)
+IsSoundInstance-valid (list weights matroids) valid =
+    All-weaker (IsValidMatroid (length weights)) (λ tree. IsSound tree × (element_count tree ≡ length weights)) (λ tree tree_valid. IsSound-valid (length weights) tree tree_valid.0) matroids valid.3
+IsSoundInstance-valid (graph vertices edges) valid = tt
+IsSoundInstance-valid (rooted vertices root arcs costs) valid = tt
+IsSoundInstance-valid (coloured vertices colours edges colour_of weights) valid = tt
+IsSoundInstance-valid (table rows columns cells weights) valid = tt
 
 -- an answer that is as the reading gives
 pub gives_found : {X : Type 0} (view : X → Instance) (text : List ℕ) (result : Result X DescRefusal) → Gives view result (read_of text) → IfOk result (λ x. Spells text (view x))

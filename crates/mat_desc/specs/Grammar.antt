@@ -1,12 +1,13 @@
 -- Which problems a description may state, and which texts spell one.
-use Rattle.std.specs.Prelude.{◌≡◌, ℕ, ◌≤◌, ◌^◌, List, [], ◌∷◌, length, map, codes, ℤ, pos, neg_ℤ, ◌≤ℤ◌, All}
+use Rattle.std.specs.Prelude.{◌≡◌, ℕ, ◌≤◌, ◌^◌, List, [], ◌∷◌, ◌++◌, ◌<◌, length, map, codes, ℤ, pos, neg_ℤ, ◌≤ℤ◌, All}
+use Rattle.std.specs.List.{zip}
 use Rattle.mat_sets.specs.Sets.{is_member, IsSet, AreDistinct}
 use Rattle.mat_sets.specs.Sums.{IsWithin}
 use Rattle.mat_sets.specs.Families.{AreDisjoint}
 use Rattle.mat_words.specs.Numbers.{numeral, numerals}
 use Rattle.mat_words.specs.Lines.{Line, text_of}
 use Rattle.mat_any.specs.Trees.{Tree, uniform, partition, depth}
-use Rattle.mat_desc.specs.Instances.{Instance, pair}
+use Rattle.mat_desc.specs.Instances.{Instance, pair, list, graph, rooted, coloured, table}
 
 -- ---- what may be stated
 
@@ -35,9 +36,23 @@ IsWeight w = IsWithin (10 ^ 12) w
 abbrev pub AreWeights : List ℤ → Type 0
 AreWeights weights = (length weights ≤ 500) × All IsWeight weights
 
+-- one number is below each bound
+abbrev pub IsPair : ℕ → ℕ → ℕ × ℕ → Type 0
+IsPair first_bound second_bound ends = (ends.0 < first_bound) × (ends.1 < second_bound)
+
+-- at most 500 edges, arcs or cells
+abbrev pub ArePairs : ℕ → ℕ → List (ℕ × ℕ) → Type 0
+ArePairs first_bound second_bound pairs = (length pairs ≤ 500) × All (IsPair first_bound second_bound) pairs
+
 -- a problem whose numbers and lists are in range
 abbrev pub IsValid : Instance → Type 0
 IsValid (pair weights first second) = AreWeights weights × IsValidMatroid (length weights) first × IsValidMatroid (length weights) second
+IsValid (list weights matroids) = AreWeights weights × (1 ≤ length matroids) × (length matroids ≤ 64) × All (IsValidMatroid (length weights)) matroids
+IsValid (graph vertices edges) = (1 ≤ vertices) × (vertices ≤ 500) × ArePairs vertices vertices edges
+IsValid (rooted vertices root arcs costs) = (1 ≤ vertices) × (vertices ≤ 500) × (root < vertices) × ArePairs vertices vertices arcs × (length costs ≡ length arcs) × All IsWeight costs
+IsValid (coloured vertices colours edges colour_of weights) = (1 ≤ vertices) × (vertices ≤ 500) × (colours ≤ 500) × ArePairs vertices vertices edges
+    × (length colour_of ≡ length edges) × All (λ colour. colour < colours) colour_of × (length weights ≡ length edges) × All IsWeight weights
+IsValid (table rows columns cells weights) = (rows ≤ 500) × (columns ≤ 500) × ArePairs rows columns cells × (length weights ≡ length cells) × All IsWeight weights
 
 -- ---- the lines that spell it
 
@@ -60,11 +75,45 @@ MatroidLines (uniform n cap) lines rest = lines ≡ (codes "uniform" ∷ numeral
 MatroidLines (partition n classes caps) lines rest = (more : List Line)
     × (lines ≡ (codes "partition" ∷ numeral (pos (length classes)) ∷ []) ∷ more) × ClassLines classes caps more rest
 
+-- the lines of each matroid, and then the rest
+abbrev pub MatroidsLines : List Tree → List Line → List Line → Type 0
+MatroidsLines [] lines rest = lines ≡ rest
+MatroidsLines (matroid ∷ matroids) lines rest = (more : List Line) × MatroidLines matroid lines more × MatroidsLines matroids more rest
+
+-- the line of an edge
+abbrev pub edge_line : ℕ × ℕ → Line
+edge_line edge = codes "edge" ∷ numeral (pos edge.0) ∷ numeral (pos edge.1) ∷ []
+
+-- the line of an arc with its cost, or of a cell with its weight
+abbrev pub weighted_line : List ℕ → (ℕ × ℕ) × ℤ → Line
+weighted_line key item = key ∷ numeral (pos item.0.0) ∷ numeral (pos item.0.1) ∷ numeral item.1 ∷ []
+
+-- the line of an edge with its colour and its weight
+abbrev pub coloured_edge_line : (ℕ × ℕ) × (ℕ × ℤ) → Line
+coloured_edge_line item = codes "edge" ∷ numeral (pos item.0.0) ∷ numeral (pos item.0.1) ∷ numeral (pos item.1.0) ∷ numeral item.1.1 ∷ []
+
+-- the first line and the last
+abbrev pub version_line : Line
+version_line = codes "matroids" ∷ codes "1" ∷ []
+
+abbrev pub end_line : Line
+end_line = codes "end" ∷ []
+
 -- the lines of a problem
 abbrev pub InstanceLines : Instance → List Line → Type 0
 InstanceLines (pair weights first second) lines = (first_lines : List Line) × (second_lines : List Line)
-    × (lines ≡ (codes "matroids" ∷ codes "1" ∷ []) ∷ (codes "pair" ∷ numeral (pos (length weights)) ∷ []) ∷ (codes "weights" ∷ map numeral weights) ∷ first_lines)
-    × MatroidLines first first_lines second_lines × MatroidLines second second_lines ((codes "end" ∷ []) ∷ [])
+    × (lines ≡ version_line ∷ (codes "pair" ∷ numeral (pos (length weights)) ∷ []) ∷ (codes "weights" ∷ map numeral weights) ∷ first_lines)
+    × MatroidLines first first_lines second_lines × MatroidLines second second_lines (end_line ∷ [])
+InstanceLines (list weights matroids) lines = (matroid_lines : List Line)
+    × (lines ≡ version_line ∷ (codes "list" ∷ numeral (pos (length weights)) ∷ numeral (pos (length matroids)) ∷ []) ∷ (codes "weights" ∷ map numeral weights) ∷ matroid_lines)
+    × MatroidsLines matroids matroid_lines (end_line ∷ [])
+InstanceLines (graph vertices edges) lines = lines ≡ version_line ∷ (codes "graph" ∷ numeral (pos vertices) ∷ numeral (pos (length edges)) ∷ []) ∷ (map edge_line edges ++ end_line ∷ [])
+InstanceLines (rooted vertices root arcs costs) lines = lines ≡ version_line ∷ (codes "rooted" ∷ numeral (pos vertices) ∷ numeral (pos (length arcs)) ∷ numeral (pos root) ∷ [])
+    ∷ (map (weighted_line (codes "arc")) (zip arcs costs) ++ end_line ∷ [])
+InstanceLines (coloured vertices colours edges colour_of weights) lines = lines ≡ version_line
+    ∷ (codes "coloured" ∷ numeral (pos vertices) ∷ numeral (pos (length edges)) ∷ numeral (pos colours) ∷ []) ∷ (map coloured_edge_line (zip edges (zip colour_of weights)) ++ end_line ∷ [])
+InstanceLines (table rows columns cells weights) lines = lines ≡ version_line ∷ (codes "table" ∷ numeral (pos rows) ∷ numeral (pos columns) ∷ numeral (pos (length cells)) ∷ [])
+    ∷ (map (weighted_line (codes "cell")) (zip cells weights) ++ end_line ∷ [])
 
 -- the text spells the problem: the problem is in range, and the text is the text of its lines
 pub record Spells (text : List ℕ) (instance : Instance) : Type 0 where

@@ -1,6 +1,6 @@
 -- Reading a description: the problem that a text spells, or its first fault. Each function takes what is left of the text or of a line, and
 -- the order of its lines is the order in which faults are looked for.
-use Rattle.std.specs.Prelude.{ℕ, zero, suc, ◌+◌, ◌-ℤ◌, ℤ, pos, nat_abs, neg_ℤ, ◌^◌, Bool, false, not, ◌&&◌, List, [], ◌∷◌, length, Option, Some, None, Result, Ok, Err, ◌==◌, if◌then◌else◌, bytes_eq, codes}
+use Rattle.std.specs.Prelude.{ℕ, zero, suc, ◌+◌, ◌-ℤ◌, ℤ, pos, nat_abs, neg_ℤ, ◌^◌, Bool, false, not, ◌&&◌, List, [], ◌∷◌, length, Option, Some, None, Result, Ok, Err, ◌==◌, if◌then◌else◌, bytes_eq, codes, map}
 use Rattle.mat_sets.specs.Sets.{is_member, with_one}
 use Rattle.mat_words.specs.Lines.{lines_of}
 use Rattle.mat_words.specs.Words.{words_of, is_well_spaced}
@@ -14,7 +14,7 @@ use Rattle.mat_desc.specs.declared.keywords.Form.TheVariants as forms
 use Rattle.mat_desc.specs.declared.keywords.Keyword.{Keyword}
 use Rattle.mat_desc.specs.declared.keywords.Keyword.TheVariants as keywords
 use Rattle.mat_desc.specs.Faults.{Fault, ◌>>=◌, WordsLeft, LinesLeft}
-use Rattle.mat_desc.specs.Instances.{Instance, pair}
+use Rattle.mat_desc.specs.Instances.{Instance, pair, list, graph, rooted, coloured, table}
 
 -- ---- lines
 
@@ -199,14 +199,107 @@ pair_at words lines = do
   second ← matroid_at count.0 first.1
   Ok (pair weights.0 first.0 second.0, second.1)
 
+-- a list of matroids, from the words behind the form's word on
+unfoldable pub list_at : WordsLeft → LinesLeft → Result (Instance × LinesLeft) Fault
+list_at words lines = do
+  count ← count_at 0 501 words
+  many ← count_at 1 65 count.1
+  end ← ended_at many.1
+  weights ← weights_at count.0 lines
+  matroids ← repeat_at (matroid_at count.0) many.0 weights.1
+  Ok (list weights.0 matroids.0, matroids.1)
+
+-- two numbers, one below each bound
+unfoldable pub ends_at : ℕ → ℕ → WordsLeft → Result ((ℕ × ℕ) × WordsLeft) Fault
+ends_at first_bound second_bound words = do
+  first ← count_at 0 first_bound words
+  second ← count_at 0 second_bound first.1
+  Ok ((first.0, second.0), second.1)
+
+-- an edge line
+unfoldable pub edge_at : ℕ → LinesLeft → Result ((ℕ × ℕ) × LinesLeft) Fault
+edge_at vertices p = do
+  line ← keyed_at (codes "edge") p
+  ends ← ends_at vertices vertices line.0
+  end ← ended_at ends.1
+  Ok (ends.0, line.1)
+
+-- a line of this keyword with two numbers and a weight: an arc with its cost, or a cell with its weight
+unfoldable pub weighted_at : List ℕ → ℕ → ℕ → LinesLeft → Result (((ℕ × ℕ) × ℤ) × LinesLeft) Fault
+weighted_at key first_bound second_bound p = do
+  line ← keyed_at key p
+  ends ← ends_at first_bound second_bound line.0
+  weight ← weight_at ends.1
+  end ← ended_at weight.1
+  Ok ((ends.0, weight.0), line.1)
+
+-- an edge line with a colour and a weight
+unfoldable pub coloured_edge_at : ℕ → ℕ → LinesLeft → Result (((ℕ × ℕ) × (ℕ × ℤ)) × LinesLeft) Fault
+coloured_edge_at vertices colours p = do
+  line ← keyed_at (codes "edge") p
+  ends ← ends_at vertices vertices line.0
+  colour ← count_at 0 colours ends.1
+  weight ← weight_at colour.1
+  end ← ended_at weight.1
+  Ok ((ends.0, (colour.0, weight.0)), line.1)
+
+-- a graph, from the words behind the form's word on
+unfoldable pub graph_at : WordsLeft → LinesLeft → Result (Instance × LinesLeft) Fault
+graph_at words lines = do
+  vertices ← count_at 1 501 words
+  many ← count_at 0 501 vertices.1
+  end ← ended_at many.1
+  edges ← repeat_at (edge_at vertices.0) many.0 lines
+  Ok (graph vertices.0 edges.0, edges.1)
+
+-- a directed graph with a root, from the words behind the form's word on
+unfoldable pub rooted_at : WordsLeft → LinesLeft → Result (Instance × LinesLeft) Fault
+rooted_at words lines = do
+  vertices ← count_at 1 501 words
+  many ← count_at 0 501 vertices.1
+  root ← count_at 0 vertices.0 many.1
+  end ← ended_at root.1
+  arcs ← repeat_at (weighted_at (codes "arc") vertices.0 vertices.0) many.0 lines
+  Ok (rooted vertices.0 root.0 (map (λ arc. arc.0) arcs.0) (map (λ arc. arc.1) arcs.0), arcs.1)
+
+-- a graph with coloured edges, from the words behind the form's word on
+unfoldable pub coloured_at : WordsLeft → LinesLeft → Result (Instance × LinesLeft) Fault
+coloured_at words lines = do
+  vertices ← count_at 1 501 words
+  many ← count_at 0 501 vertices.1
+  colours ← count_at 0 501 many.1
+  end ← ended_at colours.1
+  edges ← repeat_at (coloured_edge_at vertices.0 colours.0) many.0 lines
+  Ok (coloured vertices.0 colours.0 (map (λ edge. edge.0) edges.0) (map (λ edge. edge.1.0) edges.0) (map (λ edge. edge.1.1) edges.0), edges.1)
+
+-- a table of cells, from the words behind the form's word on
+unfoldable pub table_at : WordsLeft → LinesLeft → Result (Instance × LinesLeft) Fault
+table_at words lines = do
+  rows ← count_at 0 501 words
+  columns ← count_at 0 501 rows.1
+  many ← count_at 0 501 columns.1
+  end ← ended_at many.1
+  cells ← repeat_at (weighted_at (codes "cell") rows.0 columns.0) many.0 lines
+  Ok (table rows.0 columns.0 (map (λ cell. cell.0) cells.0) (map (λ cell. cell.1) cells.0), cells.1)
+
 -- the form that a word names, if it names one
 abbrev pub form_of : List ℕ → Option Form
-form_of word = if bytes_eq word (codes "pair") then Some forms.Pair else None
+form_of word = if bytes_eq word (codes "pair") then Some forms.Pair else
+    (if bytes_eq word (codes "list") then Some forms.List else
+    (if bytes_eq word (codes "graph") then Some forms.Graph else
+    (if bytes_eq word (codes "rooted") then Some forms.Rooted else
+    (if bytes_eq word (codes "coloured") then Some forms.Coloured else
+    (if bytes_eq word (codes "table") then Some forms.Table else None)))))
 
 -- a problem, from the words behind the form's word in line number `line` on
 abbrev pub form_at : ℕ → Option Form → WordsLeft → LinesLeft → Result (Instance × LinesLeft) Fault
 form_at line None words lines = Err (kinds.UnknownWord, line)
 form_at line (Some forms.Pair) words lines = pair_at words lines
+form_at line (Some forms.List) words lines = list_at words lines
+form_at line (Some forms.Graph) words lines = graph_at words lines
+form_at line (Some forms.Rooted) words lines = rooted_at words lines
+form_at line (Some forms.Coloured) words lines = coloured_at words lines
+form_at line (Some forms.Table) words lines = table_at words lines
 
 -- a problem, from its form line on
 unfoldable pub instance_at : LinesLeft → Result (Instance × LinesLeft) Fault

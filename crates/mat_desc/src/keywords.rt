@@ -7,6 +7,11 @@ ghost use Rattle.mat_desc.specs.Reading.{keyword_of, form_of};
 #[derive(Clone, Copy, Debug, PartialEq, Eq)]
 pub enum Form {
     Pair,
+    List,
+    Graph,
+    Rooted,
+    Coloured,
+    Table,
 }
 
 /// The kind of a matroid.
@@ -22,6 +27,16 @@ pub fn form_from(word: &[u8]) -> Option<Form>
 {
     if word == b"pair".as_slice() {
         Some(Form::Pair)
+    } else if word == b"list".as_slice() {
+        Some(Form::List)
+    } else if word == b"graph".as_slice() {
+        Some(Form::Graph)
+    } else if word == b"rooted".as_slice() {
+        Some(Form::Rooted)
+    } else if word == b"coloured".as_slice() {
+        Some(Form::Coloured)
+    } else if word == b"table".as_slice() {
+        Some(Form::Table)
     } else {
         None
     }

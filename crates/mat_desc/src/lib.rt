@@ -2,6 +2,7 @@
 #![tactic(auto)]
 
 mod cursor;
+mod item_lines;
 mod keywords;
 mod laws;
 mod matroid;

@@ -1,9 +1,9 @@
 //! Reading matroids.
 
-ghost use Rattle.std.specs.Prelude.{◌≡◌, []};
+ghost use Rattle.std.specs.Prelude.{◌≡◌, [], map};
 ghost use Rattle.mat_any.specs.Views.{tree_of};
 ghost use Rattle.mat_desc.specs.Faults.{Gives};
-ghost use Rattle.mat_desc.specs.Reading.{class_at, classes_at, uniform_at, partition_at, matroid_at};
+ghost use Rattle.mat_desc.specs.Reading.{class_at, classes_at, uniform_at, partition_at, matroid_at, repeat_at};
 ghost use Rattle.mat_desc.specs.Views.{lines_left, words_left};
 
 use crate::cursor::{Lines, Words};
@@ -109,4 +109,24 @@ pub fn next_matroid<'a>(
         Some(Keyword::Uniform) => uniform(count, words, rest),
         Some(Keyword::Partition) => partition(alloc, count, words, rest),
     }
+}
+
+/// As many matroids, on `count` elements each.
+pub fn next_matroids<'a>(
+    alloc: Global,
+    count: u32,
+    many: u32,
+    lines: Lines<'a>,
+) -> Result<(Vec<AnyMatroid>, Lines<'a>), DescRefusal>
+    ensures { Gives (λ x. (map tree_of x.0.items, lines_left x.1)) result
+        (repeat_at (matroid_at count) many (lines_left lines.entry)) }
+{
+    let mut matroids = Vec::new(alloc);
+    let mut rest = lines;
+    for _ in 0..many {
+        let (matroid, after) = next_matroid(alloc, count, rest)?;
+        matroids.push(matroid)?;
+        rest = after;
+    }
+    Ok((matroids, rest))
 }

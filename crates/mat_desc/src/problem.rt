@@ -4,17 +4,18 @@ ghost use Rattle.std.specs.Prelude.{◌≡◌, ◌≤◌, length, IfOk};
 ghost use Rattle.mat_desc.specs.Faults.{Gives};
 ghost use Rattle.mat_desc.specs.Grammar.{IsValid, Spells};
 ghost use Rattle.mat_desc.specs.Instances.{Instance};
-ghost use Rattle.mat_desc.specs.Reading.{version_at, end_at, closed_at, pair_at, instance_at, description_at, read_of};
+ghost use Rattle.mat_desc.specs.Reading.{version_at, end_at, closed_at, pair_at, list_at, graph_at, rooted_at, coloured_at, table_at, instance_at, description_at, read_of};
 ghost use Rattle.mat_desc.specs.Soundness.{IsSoundInstance};
 ghost use Rattle.mat_desc.specs.Views.{lines_left, words_left, instance_of};
 
 use crate::cursor::{Lines, Words};
+use crate::item_lines::{coloured_edge_lines, edge_lines, weighted_lines};
 use crate::keywords::{Form, form_from};
-use crate::matroid::next_matroid;
+use crate::matroid::{next_matroid, next_matroids};
 use crate::reading::{ended, keyed_line, next_count, next_line, next_word, weights_line};
 use crate::refusal::{DescKind, DescRefusal};
 use mat_any::AnyMatroid;
-use mat_sets::Weights;
+use mat_sets::{Pairs, Weights};
 use std::alloc::Global;
 
 /// A problem, by its form.
@@ -25,6 +26,38 @@ pub enum Problem {
         weights: Weights,
         first: AnyMatroid,
         second: AnyMatroid,
+    },
+    /// Matroids on the same elements, and a weight for each element.
+    List {
+        weights: Weights,
+        matroids: Vec<AnyMatroid>,
+    },
+    /// A graph: the number of its vertices, and the ends of each edge.
+    Graph {
+        vertices: u32,
+        edges: Pairs,
+    },
+    /// A directed graph with a root: the tail and the head of each arc, and the cost of each.
+    Rooted {
+        vertices: u32,
+        root: u32,
+        arcs: Pairs,
+        costs: Weights,
+    },
+    /// A graph with a colour and a weight for each edge.
+    Coloured {
+        vertices: u32,
+        colours: u32,
+        edges: Pairs,
+        colour_of: Vec<u32>,
+        weights: Weights,
+    },
+    /// A table: the row and the column of each cell, and the weight of each.
+    Table {
+        rows: u32,
+        columns: u32,
+        cells: Pairs,
+        weights: Weights,
     },
 }
 
@@ -94,6 +127,116 @@ fn pair<'a>(
     Ok((problem, lines))
 }
 
+/// A list of matroids, from the words behind the form's word on.
+#[tactic(auto, unfolding(crate::specs::Reading::list_at))]
+fn list<'a>(
+    alloc: Global,
+    words: Words<'a>,
+    lines: Lines<'a>,
+) -> Result<(Problem, Lines<'a>), DescRefusal>
+    ensures { Gives (λ x. (instance_of x.0, lines_left x.1)) result
+        (list_at (words_left words.entry) (lines_left lines.entry)) }
+{
+    let (count, words) = next_count(words, 0, 501)?;
+    let (many, words) = next_count(words, 1, 65)?;
+    ended(words)?;
+    let (weights, lines) = weights_line(alloc, count, lines)?;
+    let (matroids, lines) = next_matroids(alloc, count, many, lines)?;
+    Ok((Problem::List { weights, matroids }, lines))
+}
+
+/// A graph, from the words behind the form's word on.
+#[tactic(auto, unfolding(crate::specs::Reading::graph_at))]
+fn graph<'a>(
+    alloc: Global,
+    words: Words<'a>,
+    lines: Lines<'a>,
+) -> Result<(Problem, Lines<'a>), DescRefusal>
+    ensures { Gives (λ x. (instance_of x.0, lines_left x.1)) result
+        (graph_at (words_left words.entry) (lines_left lines.entry)) }
+{
+    let (vertices, words) = next_count(words, 1, 501)?;
+    let (many, words) = next_count(words, 0, 501)?;
+    ended(words)?;
+    let (edges, lines) = edge_lines(alloc, vertices, many, lines)?;
+    Ok((Problem::Graph { vertices, edges }, lines))
+}
+
+/// A directed graph with a root, from the words behind the form's word on.
+#[tactic(auto, using(crate::proofs::Columns::columns), unfolding(crate::specs::Reading::rooted_at))]
+fn rooted<'a>(
+    alloc: Global,
+    words: Words<'a>,
+    lines: Lines<'a>,
+) -> Result<(Problem, Lines<'a>), DescRefusal>
+    ensures { Gives (λ x. (instance_of x.0, lines_left x.1)) result
+        (rooted_at (words_left words.entry) (lines_left lines.entry)) }
+{
+    let (vertices, words) = next_count(words, 1, 501)?;
+    let (many, words) = next_count(words, 0, 501)?;
+    let (root, words) = next_count(words, 0, vertices)?;
+    ended(words)?;
+    let (arcs, costs, lines) = weighted_lines(alloc, b"arc", vertices, vertices, many, lines)?;
+    let problem = Problem::Rooted {
+        vertices,
+        root,
+        arcs,
+        costs,
+    };
+    Ok((problem, lines))
+}
+
+/// A graph with coloured edges, from the words behind the form's word on.
+#[tactic(auto, using(crate::proofs::Columns::columns), unfolding(crate::specs::Reading::coloured_at))]
+fn coloured<'a>(
+    alloc: Global,
+    words: Words<'a>,
+    lines: Lines<'a>,
+) -> Result<(Problem, Lines<'a>), DescRefusal>
+    ensures { Gives (λ x. (instance_of x.0, lines_left x.1)) result
+        (coloured_at (words_left words.entry) (lines_left lines.entry)) }
+{
+    let (vertices, words) = next_count(words, 1, 501)?;
+    let (many, words) = next_count(words, 0, 501)?;
+    let (colours, words) = next_count(words, 0, 501)?;
+    ended(words)?;
+    let (edges, colour_of, weights, lines) = coloured_edge_lines(
+        alloc, vertices, colours, many, lines,
+    )?;
+    let problem = Problem::Coloured {
+        vertices,
+        colours,
+        edges,
+        colour_of,
+        weights,
+    };
+    Ok((problem, lines))
+}
+
+/// A table of cells, from the words behind the form's word on.
+#[tactic(auto, using(crate::proofs::Columns::columns), unfolding(crate::specs::Reading::table_at))]
+fn table<'a>(
+    alloc: Global,
+    words: Words<'a>,
+    lines: Lines<'a>,
+) -> Result<(Problem, Lines<'a>), DescRefusal>
+    ensures { Gives (λ x. (instance_of x.0, lines_left x.1)) result
+        (table_at (words_left words.entry) (lines_left lines.entry)) }
+{
+    let (rows, words) = next_count(words, 0, 501)?;
+    let (columns, words) = next_count(words, 0, 501)?;
+    let (many, words) = next_count(words, 0, 501)?;
+    ended(words)?;
+    let (cells, weights, lines) = weighted_lines(alloc, b"cell", rows, columns, many, lines)?;
+    let problem = Problem::Table {
+        rows,
+        columns,
+        cells,
+        weights,
+    };
+    Ok((problem, lines))
+}
+
 /// A problem, from its form line on.
 #[tactic(auto, unfolding(crate::specs::Reading::instance_at))]
 fn problem_lines<'a>(alloc: Global, lines: Lines<'a>) -> Result<(Problem, Lines<'a>), DescRefusal>
@@ -109,6 +252,11 @@ fn problem_lines<'a>(alloc: Global, lines: Lines<'a>) -> Result<(Problem, Lines<
             line,
         }),
         Some(Form::Pair) => pair(alloc, words, rest),
+        Some(Form::List) => list(alloc, words, rest),
+        Some(Form::Graph) => graph(alloc, words, rest),
+        Some(Form::Rooted) => rooted(alloc, words, rest),
+        Some(Form::Coloured) => coloured(alloc, words, rest),
+        Some(Form::Table) => table(alloc, words, rest),
     }
 }
 

@@ -105,7 +105,7 @@ pub fn next_count<'a>(words: Words<'a>, low: u32, end: u32) -> Result<(u32, Word
 
 /// The next word of a line as a weight.
 #[tactic(auto, unfolding(crate::specs::Reading::weight_at))]
-fn next_weight<'a>(words: Words<'a>) -> Result<(i128, Words<'a>), DescRefusal>
+pub fn next_weight<'a>(words: Words<'a>) -> Result<(i128, Words<'a>), DescRefusal>
     ensures value { Gives (λ x. (x.0, words_left x.1)) result (weight_at (words_left words.entry)) }
     ensures range { IfOk result (λ x. (neg_ℤ (pos (10 ^ 12)) ≤ℤ x.0) × (x.0 ≤ℤ pos (10 ^ 12))) }
 {

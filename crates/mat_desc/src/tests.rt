@@ -21,15 +21,17 @@ fn fault_of(alloc: Global, text: &[u8]) -> Result<Option<(DescKind, u32)>, Alloc
 #[test]
 fn a_pair_is_read(rt: HostRuntime) -> Result<(), Fail> {
     let text = b"matroids 1\npair 3\nweights 4 -1 3\npartition 1\nclass 1 0 2\nuniform 3\nend\n";
-    let Ok(problem) = read_problem(rt.alloc(), text) else {
+    let Ok(
+        Problem::Pair {
+            weights,
+            first,
+            second,
+        },
+    ) = read_problem(rt.alloc(), text)
+    else {
         assert!(rt; false);
         return Ok(());
     };
-    let Problem::Pair {
-        weights,
-        first,
-        second,
-    } = problem;
     assert_eq!(rt; weights.as_slice(), [4, -1, 3].as_slice());
     match first {
         AnyMatroid::Partition(partition) => {
@@ -46,6 +48,98 @@ fn a_pair_is_read(rt: HostRuntime) -> Result<(), Fail> {
         }
         AnyMatroid::Partition(_) => assert!(rt; false),
     }
+    Ok(())
+}
+
+#[test]
+fn a_list_is_read(rt: HostRuntime) -> Result<(), Fail> {
+    let text = b"matroids 1\nlist 2 1\nweights -7 0\nuniform 1\nend\n";
+    let Ok(Problem::List { weights, matroids }) = read_problem(rt.alloc(), text) else {
+        assert!(rt; false);
+        return Ok(());
+    };
+    assert_eq!(rt; weights.as_slice(), [-7, 0].as_slice());
+    assert_eq!(rt; matroids.len(), 1);
+    Ok(())
+}
+
+#[test]
+fn a_graph_is_read(rt: HostRuntime) -> Result<(), Fail> {
+    let text = b"matroids 1\ngraph 3 2\nedge 0 1\nedge 2 2\nend\n";
+    let Ok(Problem::Graph { vertices, edges }) = read_problem(rt.alloc(), text) else {
+        assert!(rt; false);
+        return Ok(());
+    };
+    assert_eq!(rt; vertices, 3);
+    assert_eq!(rt; edges.as_slice(), [(0, 1), (2, 2)].as_slice());
+    Ok(())
+}
+
+#[test]
+fn a_rooted_graph_is_read(rt: HostRuntime) -> Result<(), Fail> {
+    let text = b"matroids 1\nrooted 2 1 1\narc 1 0 -5\nend\n";
+    let Ok(
+        Problem::Rooted {
+            vertices,
+            root,
+            arcs,
+            costs,
+        },
+    ) = read_problem(rt.alloc(), text)
+    else {
+        assert!(rt; false);
+        return Ok(());
+    };
+    assert_eq!(rt; vertices, 2);
+    assert_eq!(rt; root, 1);
+    assert_eq!(rt; arcs.as_slice(), [(1, 0)].as_slice());
+    assert_eq!(rt; costs.as_slice(), [-5].as_slice());
+    Ok(())
+}
+
+#[test]
+fn a_coloured_graph_is_read(rt: HostRuntime) -> Result<(), Fail> {
+    let text = b"matroids 1\ncoloured 2 1 3\nedge 1 0 2 9\nend\n";
+    let Ok(
+        Problem::Coloured {
+            vertices,
+            colours,
+            edges,
+            colour_of,
+            weights,
+        },
+    ) = read_problem(rt.alloc(), text)
+    else {
+        assert!(rt; false);
+        return Ok(());
+    };
+    assert_eq!(rt; vertices, 2);
+    assert_eq!(rt; colours, 3);
+    assert_eq!(rt; edges.as_slice(), [(1, 0)].as_slice());
+    assert_eq!(rt; colour_of.as_slice(), [2].as_slice());
+    assert_eq!(rt; weights.as_slice(), [9].as_slice());
+    Ok(())
+}
+
+#[test]
+fn a_table_is_read(rt: HostRuntime) -> Result<(), Fail> {
+    let text = b"matroids 1\ntable 2 3 2\ncell 1 2 4\ncell 0 0 -4\nend\n";
+    let Ok(
+        Problem::Table {
+            rows,
+            columns,
+            cells,
+            weights,
+        },
+    ) = read_problem(rt.alloc(), text)
+    else {
+        assert!(rt; false);
+        return Ok(());
+    };
+    assert_eq!(rt; rows, 2);
+    assert_eq!(rt; columns, 3);
+    assert_eq!(rt; cells.as_slice(), [(1, 2), (0, 0)].as_slice());
+    assert_eq!(rt; weights.as_slice(), [4, -4].as_slice());
     Ok(())
 }
 

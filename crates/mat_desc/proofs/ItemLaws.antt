@@ -1,0 +1,218 @@
+-- A line for each item: what is read is spelled so, and what is spelled so is read.
+use Rattle.std.proofs.Common.{◌≡◌, ℕ, zero, suc, ◌<◌, ◌^◌, ℤ, pos, neg_ℤ, true, List, [], ◌∷◌, ◌++◌, length, map, Result, Ok, refl, ap, subst, ◌∙◌, arith}
+use Rattle.std.specs.Prelude.{codes}
+use Rattle.std.specs.List.{All, list_all, zip}
+use Rattle.std.proofs.lemmas.Bool.{and_from}
+use Rattle.std.proofs.lemmas.List.Elements.{All-nil, All-cons, All-head, All-tail}
+use Rattle.mat_words.specs.Words.{is_word}
+use Rattle.mat_words.specs.Numbers.{numeral}
+use Rattle.mat_words.proofs.NumberLemmas.{numeral_word}
+use Rattle.mat_any.specs.Trees.{Tree}
+use Rattle.mat_words.specs.Lines.{Line}
+use Rattle.mat_desc.specs.Faults.{Fault, ◌>>=◌, WordsLeft, LinesLeft}
+use Rattle.mat_desc.specs.Reading.{keyed_at, count_at, weight_at, ended_at, repeat_at, ends_at, edge_at, weighted_at, coloured_edge_at, matroid_at}
+use Rattle.mat_desc.specs.Grammar.{IsWeight, IsPair, IsValidMatroid, MatroidsLines, edge_line, weighted_line, coloured_edge_line}
+use Rattle.mat_desc.proofs.ReadingSteps.{found-same, bind_found}
+use Rattle.mat_desc.proofs.WordLaws.{cut_then, count_found, count_again, number_found, number_at_again, ended_found, ended_again}
+use Rattle.mat_desc.proofs.LineLaws.{AreLeft, keyed_found, keyed_again}
+use Rattle.mat_desc.proofs.MatroidLaws.{matroid_found, matroid_again}
+
+-- ---- items in a row
+
+-- a line was read as an item
+pub record IsItemRead {A : Type 0} (line : A → Line) (Valid : A → Type 0) (p : LinesLeft) (item : A) (q : LinesLeft) : Type 0 where
+  pub valid : Valid item
+  pub spelled : (rest : List Line) → AreLeft rest q → AreLeft (line item ∷ rest) p
+
+-- as many lines were read as items
+pub record AreItemsRead {A : Type 0} (line : A → Line) (Valid : A → Type 0) (many : ℕ) (p : LinesLeft) (items : List A) (q : LinesLeft) : Type 0 where
+  pub count : length items ≡ many
+  pub each : All Valid items
+  pub spelled : (rest : List Line) → AreLeft rest q → AreLeft (map line items ++ rest) p
+
+pub items_found : {A : Type 0} (reader : LinesLeft → Result (A × LinesLeft) Fault) (line : A → Line) (Valid : A → Type 0)
+    → ((p : LinesLeft) (item : A) (q : LinesLeft) → reader p ≡ Ok (item, q) → IsItemRead line Valid p item q)
+    → (many : ℕ) (p : LinesLeft) (items : List A) (q : LinesLeft) → repeat_at reader many p ≡ Ok (items, q) → AreItemsRead line Valid many p items q
+unfolding repeat_at
+items_found {A} reader line Valid one zero p items q e =
+    let same = found-same ([], p) (items, q) e in
+    subst (λ (r : List A × LinesLeft). AreItemsRead line Valid 0 p r.0 r.1) same (record { count = refl; each = All-nil Valid; spelled = λ rest left. left })
+items_found {A} reader line Valid one (suc many) p items q e =
+    let first = bind_found (reader p) (λ first. repeat_at reader many first.1 >>= λ others. Ok (first.0 ∷ others.0, others.1)) (items, q) e in
+    let others = bind_found (repeat_at reader many first.0.1) (λ others. Ok (first.0.0 ∷ others.0, others.1)) (items, q) first.2 in
+    let same = found-same (first.0.0 ∷ others.0.0, others.0.1) (items, q) others.2 in
+    let here = one p first.0.0 first.0.1 first.1 in
+    let more = items_found reader line Valid one many first.0.1 others.0.0 others.0.1 others.1 in
+    subst (λ (r : List A × LinesLeft). AreItemsRead line Valid (suc many) p r.0 r.1) same (record {
+      count = ap suc more.count;
+      each = All-cons Valid first.0.0 others.0.0 here.valid more.each;
+      spelled = λ rest left. here.spelled (map line others.0.0 ++ rest) (more.spelled rest left);
+    })
+
+pub items_again : {A : Type 0} (reader : LinesLeft → Result (A × LinesLeft) Fault) (line : A → Line) (Valid : A → Type 0)
+    → ((p : LinesLeft) (item : A) (rest : List Line) → Valid item → AreLeft (line item ∷ rest) p → (q : LinesLeft) × (reader p ≡ Ok (item, q)) × AreLeft rest q)
+    → (p : LinesLeft) (items : List A) (rest : List Line) → All Valid items → AreLeft (map line items ++ rest) p → (q : LinesLeft) × (repeat_at reader (length items) p ≡ Ok (items, q)) × AreLeft rest q
+unfolding repeat_at
+items_again reader line Valid one p [] rest valid left = (p, refl, left)
+items_again reader line Valid one p (item ∷ items) rest valid left =
+    let first = one p item (map line items ++ rest) (All-head Valid item items valid) left in
+    let others = items_again reader line Valid one first.0 items rest (All-tail Valid item items valid) first.2 in
+    (others.0, rw (first.1, others.1) refl, others.2)
+
+-- ---- matroids in a row
+
+-- as many matroids were read
+pub record AreMatroidsRead (n many : ℕ) (p : LinesLeft) (trees : List Tree) (q : LinesLeft) : Type 0 where
+  pub count : length trees ≡ many
+  pub each : All (IsValidMatroid n) trees
+  pub spelled : (rest : List Line) → AreLeft rest q → (lines : List Line) × AreLeft lines p × MatroidsLines trees lines rest
+
+pub matroids_found : (n many : ℕ) (p : LinesLeft) (trees : List Tree) (q : LinesLeft) → repeat_at (matroid_at n) many p ≡ Ok (trees, q) → AreMatroidsRead n many p trees q
+unfolding repeat_at
+matroids_found n zero p trees q e =
+    let same = found-same ([], p) (trees, q) e in
+    subst (λ (r : List Tree × LinesLeft). AreMatroidsRead n 0 p r.0 r.1) same (record { count = refl; each = All-nil (IsValidMatroid n); spelled = λ rest left. (rest, left, refl) })
+matroids_found n (suc many) p trees q e =
+    let first = bind_found (matroid_at n p) (λ first. repeat_at (matroid_at n) many first.1 >>= λ others. Ok (first.0 ∷ others.0, others.1)) (trees, q) e in
+    let others = bind_found (repeat_at (matroid_at n) many first.0.1) (λ others. Ok (first.0.0 ∷ others.0, others.1)) (trees, q) first.2 in
+    let same = found-same (first.0.0 ∷ others.0.0, others.0.1) (trees, q) others.2 in
+    let here = matroid_found n p first.0.0 first.0.1 first.1 in
+    let more = matroids_found n many first.0.1 others.0.0 others.0.1 others.1 in
+    subst (λ (r : List Tree × LinesLeft). AreMatroidsRead n (suc many) p r.0 r.1) same (record {
+      count = ap suc more.count;
+      each = All-cons (IsValidMatroid n) first.0.0 others.0.0 here.valid more.each;
+      spelled = λ rest left.
+          let behind = more.spelled rest left in
+          let lines = here.spelled behind.0 behind.1 in
+          (lines.0, lines.1, (behind.0, lines.2, behind.2));
+    })
+
+pub matroids_again : (n : ℕ) (p : LinesLeft) (trees : List Tree) (lines rest : List Line) → All (IsValidMatroid n) trees → MatroidsLines trees lines rest → AreLeft lines p
+    → (q : LinesLeft) × (repeat_at (matroid_at n) (length trees) p ≡ Ok (trees, q)) × AreLeft rest q
+unfolding repeat_at
+matroids_again n p [] lines rest valid spelled left = (p, refl, subst (λ (ls : List Line). AreLeft ls p) spelled left)
+matroids_again n p (tree ∷ trees) lines rest valid spelled left =
+    let first = matroid_again n p tree lines spelled.0 (All-head (IsValidMatroid n) tree trees valid) spelled.1 left in
+    let others = matroids_again n first.0 trees spelled.0 rest (All-tail (IsValidMatroid n) tree trees valid) spelled.2 first.2 in
+    (others.0, rw (first.1, others.1) refl, others.2)
+
+-- ---- edges, arcs and cells
+
+-- two words were read as numbers, one below each bound
+record AreEndsRead (first_bound second_bound : ℕ) (w : WordsLeft) (ends : ℕ × ℕ) (q : WordsLeft) : Type 0 where
+  valid : IsPair first_bound second_bound ends
+  cut : w.words ≡ numeral (pos ends.0) ∷ numeral (pos ends.1) ∷ q.words
+
+ends_found : (a b : ℕ) (w : WordsLeft) (ends : ℕ × ℕ) (q : WordsLeft) → ends_at a b w ≡ Ok (ends, q) → AreEndsRead a b w ends q
+unfolding ends_at
+ends_found a b w ends q e =
+    let first = bind_found (count_at 0 a w) (λ first. count_at 0 b first.1 >>= λ second. Ok ((first.0, second.0), second.1)) (ends, q) e in
+    let second = bind_found (count_at 0 b first.0.1) (λ second. Ok ((first.0.0, second.0), second.1)) (ends, q) first.2 in
+    let same = found-same ((first.0.0, second.0.0), second.0.1) (ends, q) second.2 in
+    let one = count_found 0 a w first.0.0 first.0.1 first.1 in
+    let two = count_found 0 b first.0.1 second.0.0 second.0.1 second.1 in
+    subst (λ (r : (ℕ × ℕ) × WordsLeft). AreEndsRead a b w r.0 r.1) same (record { valid = (one.most, two.most); cut = cut_then (numeral (pos first.0.0)) w.words first.0.1.words (numeral (pos second.0.0) ∷ second.0.1.words) one.cut two.cut })
+
+ends_again : (a b n : ℕ) (ends : ℕ × ℕ) (words : Line) → IsPair a b ends → ends_at a b (record { line = n; words = numeral (pos ends.0) ∷ numeral (pos ends.1) ∷ words }) ≡ Ok (ends, record { line = n; words = words })
+unfolding ends_at
+ends_again a b n ends words valid = rw (count_again 0 a n ends.0 (numeral (pos ends.1) ∷ words) (omega arith) valid.0, count_again 0 b n ends.1 words (omega arith) valid.1) refl
+
+ends_words : (ends : ℕ × ℕ) (words : Line) → list_all is_word words ≡ true → list_all is_word (numeral (pos ends.0) ∷ numeral (pos ends.1) ∷ words) ≡ true
+ends_words ends words h = and_from (is_word (numeral (pos ends.0))) (list_all is_word (numeral (pos ends.1) ∷ words)) (numeral_word (pos ends.0)) (and_from (is_word (numeral (pos ends.1))) (list_all is_word words) (numeral_word (pos ends.1)) h)
+
+pub edge_found : (v : ℕ) (p : LinesLeft) (edge : ℕ × ℕ) (q : LinesLeft) → edge_at v p ≡ Ok (edge, q) → IsItemRead edge_line (IsPair v v) p edge q
+unfolding edge_at
+edge_found v p edge q e =
+    let line = bind_found (keyed_at (codes "edge") p) (λ line. ends_at v v line.0 >>= λ ends. ended_at ends.1 >>= λ end. Ok (ends.0, line.1)) (edge, q) e in
+    let ends = bind_found (ends_at v v line.0.0) (λ ends. ended_at ends.1 >>= λ end. Ok (ends.0, line.0.1)) (edge, q) line.2 in
+    let end = bind_found (ended_at ends.0.1) (λ end. Ok (ends.0.0, line.0.1)) (edge, q) ends.2 in
+    let same = found-same (ends.0.0, line.0.1) (edge, q) end.2 in
+    let read = ends_found v v line.0.0 ends.0.0 ends.0.1 ends.1 in
+    let last = ended_found ends.0.1 end.0 end.1 in
+    subst (λ (r : (ℕ × ℕ) × LinesLeft). IsItemRead edge_line (IsPair v v) p r.0 r.1) same (record {
+      valid = read.valid;
+      spelled = λ rest left. subst (λ (ws : Line). AreLeft ((codes "edge" ∷ ws) ∷ rest) p) (read.cut ∙ rw last refl) (keyed_found (codes "edge") p line.0.0 line.0.1 line.1 rest left);
+    })
+
+pub edge_again : (v : ℕ) (p : LinesLeft) (edge : ℕ × ℕ) (rest : List Line) → IsPair v v edge → AreLeft (edge_line edge ∷ rest) p → (q : LinesLeft) × (edge_at v p ≡ Ok (edge, q)) × AreLeft rest q
+unfolding edge_at
+edge_again v p edge rest valid left =
+    let line = keyed_again (codes "edge") p (numeral (pos edge.0) ∷ numeral (pos edge.1) ∷ []) rest refl (ends_words edge [] refl) left in
+    (line.0, rw (line.1, ends_again v v p.line edge [] valid, ended_again p.line) refl, line.2)
+
+-- an edge, an arc or a cell with a weight
+abbrev pub IsWeighted : ℕ → ℕ → (ℕ × ℕ) × ℤ → Type 0
+IsWeighted a b item = IsPair a b item.0 × IsWeight item.1
+
+pub weighted_found : (key : List ℕ) (a b : ℕ) (p : LinesLeft) (item : (ℕ × ℕ) × ℤ) (q : LinesLeft) → weighted_at key a b p ≡ Ok (item, q) → IsItemRead (weighted_line key) (IsWeighted a b) p item q
+unfolding weighted_at weight_at
+weighted_found key a b p item q e =
+    let line = bind_found (keyed_at key p) (λ line. ends_at a b line.0 >>= λ ends. weight_at ends.1 >>= λ weight. ended_at weight.1 >>= λ end. Ok ((ends.0, weight.0), line.1)) (item, q) e in
+    let ends = bind_found (ends_at a b line.0.0) (λ ends. weight_at ends.1 >>= λ weight. ended_at weight.1 >>= λ end. Ok ((ends.0, weight.0), line.0.1)) (item, q) line.2 in
+    let weight = bind_found (weight_at ends.0.1) (λ weight. ended_at weight.1 >>= λ end. Ok ((ends.0.0, weight.0), line.0.1)) (item, q) ends.2 in
+    let end = bind_found (ended_at weight.0.1) (λ end. Ok ((ends.0.0, weight.0.0), line.0.1)) (item, q) weight.2 in
+    let same = found-same ((ends.0.0, weight.0.0), line.0.1) (item, q) end.2 in
+    let read = ends_found a b line.0.0 ends.0.0 ends.0.1 ends.1 in
+    let number = number_found (neg_ℤ (pos (10 ^ 12))) (pos (10 ^ 12)) ends.0.1 weight.0.0 weight.0.1 weight.1 in
+    let last = ended_found weight.0.1 end.0 end.1 in
+    subst (λ (r : ((ℕ × ℕ) × ℤ) × LinesLeft). IsItemRead (weighted_line key) (IsWeighted a b) p r.0 r.1) same (record {
+      valid = (read.valid, (number.least, number.most));
+      spelled = λ rest left. subst (λ (ws : Line). AreLeft ((key ∷ ws) ∷ rest) p) (read.cut ∙ rw (number.cut, last) refl) (keyed_found key p line.0.0 line.0.1 line.1 rest left);
+    })
+
+pub weighted_again : (key : List ℕ) (a b : ℕ) → is_word key ≡ true → (p : LinesLeft) (item : (ℕ × ℕ) × ℤ) (rest : List Line) → IsWeighted a b item → AreLeft (weighted_line key item ∷ rest) p → (q : LinesLeft) × (weighted_at key a b p ≡ Ok (item, q)) × AreLeft rest q
+unfolding weighted_at weight_at
+weighted_again key a b keyword p item rest valid left =
+    let line = keyed_again key p (numeral (pos item.0.0) ∷ numeral (pos item.0.1) ∷ numeral item.1 ∷ []) rest keyword (ends_words item.0 (numeral item.1 ∷ []) (and_from (is_word (numeral item.1)) true (numeral_word item.1) refl)) left in
+    (line.0, rw (line.1, ends_again a b p.line item.0 (numeral item.1 ∷ []) valid.0, number_at_again (neg_ℤ (pos (10 ^ 12))) (pos (10 ^ 12)) p.line item.1 [] valid.1.0 valid.1.1, ended_again p.line) refl, line.2)
+
+-- an edge with a colour and a weight
+abbrev pub IsColoured : ℕ → ℕ → (ℕ × ℕ) × (ℕ × ℤ) → Type 0
+IsColoured v c item = IsPair v v item.0 × (item.1.0 < c) × IsWeight item.1.1
+
+pub coloured_edge_found : (v c : ℕ) (p : LinesLeft) (item : (ℕ × ℕ) × (ℕ × ℤ)) (q : LinesLeft) → coloured_edge_at v c p ≡ Ok (item, q) → IsItemRead coloured_edge_line (IsColoured v c) p item q
+unfolding coloured_edge_at weight_at
+coloured_edge_found v c p item q e =
+    let line = bind_found (keyed_at (codes "edge") p) (λ line. ends_at v v line.0 >>= λ ends. count_at 0 c ends.1 >>= λ colour. weight_at colour.1 >>= λ weight. ended_at weight.1 >>= λ end. Ok ((ends.0, (colour.0, weight.0)), line.1)) (item, q) e in
+    let ends = bind_found (ends_at v v line.0.0) (λ ends. count_at 0 c ends.1 >>= λ colour. weight_at colour.1 >>= λ weight. ended_at weight.1 >>= λ end. Ok ((ends.0, (colour.0, weight.0)), line.0.1)) (item, q) line.2 in
+    let colour = bind_found (count_at 0 c ends.0.1) (λ colour. weight_at colour.1 >>= λ weight. ended_at weight.1 >>= λ end. Ok ((ends.0.0, (colour.0, weight.0)), line.0.1)) (item, q) ends.2 in
+    let weight = bind_found (weight_at colour.0.1) (λ weight. ended_at weight.1 >>= λ end. Ok ((ends.0.0, (colour.0.0, weight.0)), line.0.1)) (item, q) colour.2 in
+    let end = bind_found (ended_at weight.0.1) (λ end. Ok ((ends.0.0, (colour.0.0, weight.0.0)), line.0.1)) (item, q) weight.2 in
+    let same = found-same ((ends.0.0, (colour.0.0, weight.0.0)), line.0.1) (item, q) end.2 in
+    let read = ends_found v v line.0.0 ends.0.0 ends.0.1 ends.1 in
+    let hue = count_found 0 c ends.0.1 colour.0.0 colour.0.1 colour.1 in
+    let number = number_found (neg_ℤ (pos (10 ^ 12))) (pos (10 ^ 12)) colour.0.1 weight.0.0 weight.0.1 weight.1 in
+    let last = ended_found weight.0.1 end.0 end.1 in
+    subst (λ (r : ((ℕ × ℕ) × (ℕ × ℤ)) × LinesLeft). IsItemRead coloured_edge_line (IsColoured v c) p r.0 r.1) same (record {
+      valid = (read.valid, hue.most, (number.least, number.most));
+      spelled = λ rest left. subst (λ (ws : Line). AreLeft ((codes "edge" ∷ ws) ∷ rest) p) (read.cut ∙ rw (hue.cut, number.cut, last) refl) (keyed_found (codes "edge") p line.0.0 line.0.1 line.1 rest left);
+    })
+
+pub coloured_edge_again : (v c : ℕ) (p : LinesLeft) (item : (ℕ × ℕ) × (ℕ × ℤ)) (rest : List Line) → IsColoured v c item → AreLeft (coloured_edge_line item ∷ rest) p → (q : LinesLeft) × (coloured_edge_at v c p ≡ Ok (item, q)) × AreLeft rest q
+unfolding coloured_edge_at weight_at
+coloured_edge_again v c p item rest valid left =
+    let weight_word : list_all is_word (numeral item.1.1 ∷ []) ≡ true = and_from (is_word (numeral item.1.1)) true (numeral_word item.1.1) refl in
+    let tail_words : list_all is_word (numeral (pos item.1.0) ∷ numeral item.1.1 ∷ []) ≡ true = and_from (is_word (numeral (pos item.1.0))) (list_all is_word (numeral item.1.1 ∷ [])) (numeral_word (pos item.1.0)) weight_word in
+    let line = keyed_again (codes "edge") p (numeral (pos item.0.0) ∷ numeral (pos item.0.1) ∷ numeral (pos item.1.0) ∷ numeral item.1.1 ∷ []) rest refl (ends_words item.0 (numeral (pos item.1.0) ∷ numeral item.1.1 ∷ []) tail_words) left in
+    (line.0, rw (line.1, ends_again v v p.line item.0 (numeral (pos item.1.0) ∷ numeral item.1.1 ∷ []) valid.0, count_again 0 c p.line item.1.0 (numeral item.1.1 ∷ []) (omega arith) valid.1, number_at_again (neg_ℤ (pos (10 ^ 12))) (pos (10 ^ 12)) p.line item.1.1 [] valid.2.0 valid.2.1, ended_again p.line) refl, line.2)
+
+-- ---- lists side by side
+
+pub All-map : {A B : Type 0} (P : A → Type 0) (Q : B → Type 0) (f : A → B) → ((x : A) → P x → Q (f x)) → (xs : List A) → All P xs → All Q (map f xs)
+All-map P Q f h [] all = All-nil Q
+All-map P Q f h (x ∷ xs) all = All-cons Q (f x) (map f xs) (h x (All-head P x xs all)) (All-map P Q f h xs (All-tail P x xs all))
+
+pub All-zip : {A B : Type 0} (P : A → Type 0) (Q : B → Type 0) (xs : List A) (ys : List B) → All P xs → All Q ys → length ys ≡ length xs → All (λ (item : A × B). P item.0 × Q item.1) (zip xs ys)
+All-zip {A} {B} P Q [] [] p q same = All-nil (λ (item : A × B). P item.0 × Q item.1)
+All-zip P Q [] (y ∷ ys) p q same = absurd (omega arith)
+All-zip P Q (x ∷ xs) [] p q same = absurd (omega arith)
+All-zip {A} {B} P Q (x ∷ xs) (y ∷ ys) p q same =
+    All-cons (λ (item : A × B). P item.0 × Q item.1) (x, y) (zip xs ys) (All-head P x xs p, All-head Q y ys q) (All-zip P Q xs ys (All-tail P x xs p) (All-tail Q y ys q) (omega arith))
+
+pub zip-parts : {A B : Type 0} (items : List (A × B)) → zip (map (λ (item : A × B). item.0) items) (map (λ (item : A × B). item.1) items) ≡ items
+zip-parts [] = refl
+zip-parts {A} {B} (item ∷ items) = ap (λ (t : List (A × B)). item ∷ t) (zip-parts items)
+
+pub length-map_same : {A B : Type 0} (f : A → B) (xs : List A) → length (map f xs) ≡ length xs
+length-map_same f [] = refl
+length-map_same f (x ∷ xs) = ap suc (length-map_same f xs)

@@ -1,0 +1,149 @@
+//! Reading a line for each edge, arc or cell.
+
+ghost use Rattle.std.specs.Prelude.{◌≡◌, ◌≤◌, ◌≤ℤ◌, ◌^◌, neg_ℤ, pos, length, IfOk};
+ghost use Rattle.std.specs.List.{zip};
+ghost use Rattle.mat_desc.specs.Faults.{Gives};
+ghost use Rattle.mat_desc.specs.Reading.{ends_at, edge_at, weighted_at, coloured_edge_at, repeat_at};
+ghost use Rattle.mat_desc.specs.Views.{lines_left, words_left};
+
+use crate::cursor::{Lines, Words};
+use crate::reading::{ended, keyed_line, next_count, next_weight};
+use crate::refusal::DescRefusal;
+use mat_sets::{Pairs, Weights};
+use std::alloc::Global;
+
+/// Two numbers, one below each bound.
+#[tactic(auto, unfolding(crate::specs::Reading::ends_at))]
+fn next_ends<'a>(
+    words: Words<'a>,
+    first_bound: u32,
+    second_bound: u32,
+) -> Result<((u32, u32), Words<'a>), DescRefusal>
+    ensures { Gives (λ x. (x.0, words_left x.1)) result
+        (ends_at first_bound second_bound (words_left words.entry)) }
+{
+    let (first, words) = next_count(words, 0, first_bound)?;
+    let (second, words) = next_count(words, 0, second_bound)?;
+    Ok(((first, second), words))
+}
+
+/// An edge line.
+#[tactic(auto, unfolding(crate::specs::Reading::edge_at))]
+fn edge_line<'a>(vertices: u32, lines: Lines<'a>) -> Result<((u32, u32), Lines<'a>), DescRefusal>
+    ensures { Gives (λ x. (x.0, lines_left x.1)) result (edge_at vertices (lines_left lines.entry)) }
+{
+    let (words, rest) = keyed_line(lines, b"edge")?;
+    let (ends, words) = next_ends(words, vertices, vertices)?;
+    ended(words)?;
+    Ok((ends, rest))
+}
+
+/// A line of this keyword with two numbers and a weight.
+#[tactic(auto, unfolding(crate::specs::Reading::weighted_at))]
+fn weighted_line<'a>(
+    key: &[u8],
+    first_bound: u32,
+    second_bound: u32,
+    lines: Lines<'a>,
+) -> Result<((u32, u32), i128, Lines<'a>), DescRefusal>
+    ensures value { Gives (λ x. ((x.0, x.1), lines_left x.2)) result
+        (weighted_at key.now first_bound second_bound (lines_left lines.entry)) }
+    ensures range { IfOk result (λ x. (neg_ℤ (pos (10 ^ 12)) ≤ℤ x.1) × (x.1 ≤ℤ pos (10 ^ 12))) }
+{
+    let (words, rest) = keyed_line(lines, key)?;
+    let (ends, words) = next_ends(words, first_bound, second_bound)?;
+    let (weight, words) = next_weight(words)?;
+    ended(words)?;
+    Ok((ends, weight, rest))
+}
+
+/// An edge line with a colour and a weight.
+#[tactic(auto, unfolding(crate::specs::Reading::coloured_edge_at))]
+fn coloured_edge_line<'a>(
+    vertices: u32,
+    colours: u32,
+    lines: Lines<'a>,
+) -> Result<((u32, u32), u32, i128, Lines<'a>), DescRefusal>
+    ensures value { Gives (λ x. ((x.0, (x.1, x.2)), lines_left x.3)) result
+        (coloured_edge_at vertices colours (lines_left lines.entry)) }
+    ensures range { IfOk result (λ x. (neg_ℤ (pos (10 ^ 12)) ≤ℤ x.2) × (x.2 ≤ℤ pos (10 ^ 12))) }
+{
+    let (words, rest) = keyed_line(lines, b"edge")?;
+    let (ends, words) = next_ends(words, vertices, vertices)?;
+    let (colour, words) = next_count(words, 0, colours)?;
+    let (weight, words) = next_weight(words)?;
+    ended(words)?;
+    Ok((ends, colour, weight, rest))
+}
+
+/// As many edge lines.
+pub fn edge_lines<'a>(
+    alloc: Global,
+    vertices: u32,
+    many: u32,
+    lines: Lines<'a>,
+) -> Result<(Pairs, Lines<'a>), DescRefusal>
+    ensures { Gives (λ x. (x.0, lines_left x.1)) result
+        (repeat_at (edge_at vertices) many (lines_left lines.entry)) }
+{
+    let mut edges = Vec::new(alloc);
+    let mut rest = lines;
+    for _ in 0..many {
+        let (ends, after) = edge_line(vertices, rest)?;
+        edges.push(ends)?;
+        rest = after;
+    }
+    Ok((Pairs::new(edges), rest))
+}
+
+/// As many lines of this keyword with two numbers and a weight.
+pub fn weighted_lines<'a>(
+    alloc: Global,
+    key: &[u8],
+    first_bound: u32,
+    second_bound: u32,
+    many: u32,
+    lines: Lines<'a>,
+) -> Result<(Pairs, Weights, Lines<'a>), DescRefusal>
+    ensures value { Gives (λ x. (zip x.0 x.1, lines_left x.2)) result
+        (repeat_at (weighted_at key.now first_bound second_bound) many (lines_left lines.entry)) }
+    ensures as_many { IfOk result (λ x. length x.1 ≡ length x.0) }
+{
+    let mut pairs = Vec::new(alloc);
+    let mut weights = Vec::new(alloc);
+    let mut rest = lines;
+    for _ in 0..many {
+        let (ends, weight, after) = weighted_line(key, first_bound, second_bound, rest)?;
+        pairs.push(ends)?;
+        weights.push(weight)?;
+        rest = after;
+    }
+    Ok((Pairs::new(pairs), Weights::new(weights), rest))
+}
+
+/// As many edge lines with a colour and a weight.
+pub fn coloured_edge_lines<'a>(
+    alloc: Global,
+    vertices: u32,
+    colours: u32,
+    many: u32,
+    lines: Lines<'a>,
+) -> Result<(Pairs, Vec<u32>, Weights, Lines<'a>), DescRefusal>
+    ensures value { Gives (λ x. (zip x.0 (zip x.1.items x.2), lines_left x.3)) result
+        (repeat_at (coloured_edge_at vertices colours) many (lines_left lines.entry)) }
+    ensures coloured { IfOk result (λ x. length x.1.items ≡ length x.0) }
+    ensures as_many { IfOk result (λ x. length x.2 ≡ length x.0) }
+{
+    let mut edges = Vec::new(alloc);
+    let mut colour_of = Vec::new(alloc);
+    let mut weights = Vec::new(alloc);
+    let mut rest = lines;
+    for _ in 0..many {
+        let (ends, colour, weight, after) = coloured_edge_line(vertices, colours, rest)?;
+        edges.push(ends)?;
+        colour_of.push(colour)?;
+        weights.push(weight)?;
+        rest = after;
+    }
+    Ok((Pairs::new(edges), colour_of, Weights::new(weights), rest))
+}
