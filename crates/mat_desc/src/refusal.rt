@@ -1,6 +1,7 @@
 //! Why a text is no description.
 
 ghost use Rattle.std.specs.Prelude.{◌≡◌};
+ghost use Rattle.mat_desc.specs.Kinds.{kind_number, kind_name};
 ghost use Rattle.mat_desc.specs.declared.refusal.DescRefusal.TheVariants.{Memory};
 
 use std::alloc::{AllocError, AllocFailed};
@@ -33,6 +34,48 @@ pub enum DescKind {
     TooManyLines,
     /// A line is needed, and no byte 10 is left.
     EndsEarly,
+}
+
+impl DescKind {
+    /// The number by which a note tells the kind.
+    pub fn number(self) -> u32
+        ensures { result ≡ kind_number self }
+    {
+        match self {
+            DescKind::BadByte => 1,
+            DescKind::Version => 2,
+            DescKind::UnknownWord => 3,
+            DescKind::NumberSpelling => 4,
+            DescKind::NumberRange => 5,
+            DescKind::TooFewWords => 6,
+            DescKind::TooManyWords => 7,
+            DescKind::Crossing => 8,
+            DescKind::Repeated => 9,
+            DescKind::TooDeep => 10,
+            DescKind::TooManyLines => 11,
+            DescKind::EndsEarly => 12,
+        }
+    }
+
+    /// The name by which a note tells the kind.
+    pub fn name(self) -> &'static str
+        ensures { result.now ≡ kind_name self }
+    {
+        match self {
+            DescKind::BadByte => "BadByte",
+            DescKind::Version => "Version",
+            DescKind::UnknownWord => "UnknownWord",
+            DescKind::NumberSpelling => "NumberSpelling",
+            DescKind::NumberRange => "NumberRange",
+            DescKind::TooFewWords => "TooFewWords",
+            DescKind::TooManyWords => "TooManyWords",
+            DescKind::Crossing => "Crossing",
+            DescKind::Repeated => "Repeated",
+            DescKind::TooDeep => "TooDeep",
+            DescKind::TooManyLines => "TooManyLines",
+            DescKind::EndsEarly => "EndsEarly",
+        }
+    }
 }
 
 /// The first fault of a text that spells no problem, or want of memory.
