@@ -1,77 +1,157 @@
--- How a command ended, as each clause of the top call says it: by cases on the status.
-use Rattle.std.proofs.Common.{◌≡◌, ℕ, ◌<◌, ◌≤◌, List, [], length, Option, Some, None, refl, sym, ap, subst, inl, inr}
+-- How a command ended, as each clause of the top call says it: by cases on the refusal.
+use Rattle.std.proofs.Common.{◌≡◌, ℕ, ◌<◌, ◌≤◌, List, [], length, Option, Some, None, Result, Ok, Err, refl, sym, ap, subst, inl, inr, arith}
 use Rattle.std.specs.Prelude.{◌↔◌, ◌⊎◌, IfSome, IsSome, IsSomeAnd}
 use Rattle.mat_shelf.specs.Faults.{Rose}
 use Rattle.mat_shelf.specs.Writing.{Appended, AppendedPrefix}
+use Rattle.mat_shelf.proofs.WritingLemmas.{Appended-nil}
 use Rattle.mat_top.specs.declared.status.Status.{Status}
 use Rattle.mat_top.specs.declared.status.Status.TheVariants as statuses
-use Rattle.mat_top.specs.CommandLines.{CommandLine, intersect}
-use Rattle.mat_top.specs.Outcomes.{IsNotBuilt, IsAnswerTo, Tells, IsOutcome, IsOutput, CallReaches, IsStatus, IsWritten}
+use Rattle.mat_top.specs.declared.status.Refusal.{Refusal}
+use Rattle.mat_top.specs.declared.status.Refusal.TheVariants as refusals
+use Rattle.mat_top.specs.CommandLines.{CommandLine, description_file}
+use Rattle.mat_top.specs.Statuses.{status_of, note_of}
+use Rattle.mat_top.specs.Outcomes.{IsAnswerTo, IsBytesOutcome, Tells, IsOutcome, CallReaches, IsStatus, IsWritten, IsNote, IsNoted, IsTrueOf}
 use Rattle.mat_top.specs.Refusals.{IsRefusal, IsPut, MayBeWritten, IsEnded}
 
+abbrev pub Ended : Type 0
+Ended = Result (Unit {0}) Refusal
+
+-- the status of an ended command
+abbrev pub status_at : Ended → Status
+status_at (Ok done) = statuses.Done
+status_at (Err refusal) = status_of refusal
+
 -- a text was written, or a prefix of it
-pub ended-put : (held : Option (List ℕ)) (before now : ℕ) (old : Option (List ℕ)) (out_before : ℕ) (new : Option (List ℕ)) (out_now : ℕ) (text : List ℕ) (status : Status)
-    → MayBeWritten held text → IsPut text old out_before new out_now status → IsEnded held before now old out_before new out_now status
-ended-put held before now old out_before new out_now text statuses.Done may put = (text, may, put)
-ended-put held before now old out_before new out_now text statuses.WriteFault may put = (text, may, put.0, put.1)
-ended-put held before now old out_before new out_now text statuses.Usage may put = absurd put
-ended-put held before now old out_before new out_now text statuses.ReadFault may put = absurd put
-ended-put held before now old out_before new out_now text statuses.Memory may put = absurd put
-ended-put held before now old out_before new out_now text statuses.NotBuilt may put = absurd put
+pub ended-put : (line : CommandLine) (held : Option (List ℕ)) (before now : ℕ) (old : Option (List ℕ)) (out_before : ℕ) (new : Option (List ℕ)) (out_now : ℕ) (text : List ℕ) (end : Ended)
+    → MayBeWritten line held text → IsPut text old out_before new out_now end → IsEnded line held before now old out_before new out_now end
+ended-put line held before now old out_before new out_now text (Ok done) may put = (text, may, put)
+ended-put line held before now old out_before new out_now text (Err refusals.WriteFault) may put = (text, may, put.0, put.1)
+ended-put line held before now old out_before new out_now text (Err refusals.Usage) may put = absurd put
+ended-put line held before now old out_before new out_now text (Err (refusals.BadDescription kind number)) may put = absurd put
+ended-put line held before now old out_before new out_now text (Err refusals.ReadFault) may put = absurd put
+ended-put line held before now old out_before new out_now text (Err refusals.Memory) may put = absurd put
+ended-put line held before now old out_before new out_now text (Err refusals.TooLong) may put = absurd put
+ended-put line held before now old out_before new out_now text (Err refusals.WrongShape) may put = absurd put
+ended-put line held before now old out_before new out_now text (Err refusals.NotBuilt) may put = absurd put
 
 -- there was no text
-pub ended-refused : (held : Option (List ℕ)) (before now : ℕ) (old : Option (List ℕ)) (out_before out_now : ℕ) (status : Status) → IsRefusal held before now status → IsEnded held before now old out_before old out_now status
-ended-refused held before now old out_before out_now statuses.Done refusal = absurd refusal
-ended-refused held before now old out_before out_now statuses.WriteFault refusal = absurd refusal
-ended-refused held before now old out_before out_now statuses.Usage refusal = absurd refusal
-ended-refused held before now old out_before out_now statuses.ReadFault refusal = (refusal, refl)
-ended-refused held before now old out_before out_now statuses.Memory refusal = (refusal, refl)
-ended-refused held before now old out_before out_now statuses.NotBuilt refusal = (refusal, refl)
+pub ended-refused : (line : CommandLine) (held : Option (List ℕ)) (before now : ℕ) (old : Option (List ℕ)) (out_before out_now : ℕ) (refusal : Refusal)
+    → IsRefusal line held before now refusal → IsEnded line held before now old out_before old out_now (Err refusal)
+ended-refused line held before now old out_before out_now refusals.WriteFault cause = absurd cause
+ended-refused line held before now old out_before out_now refusals.Usage cause = absurd cause
+ended-refused line held before now old out_before out_now (refusals.BadDescription kind number) cause = (cause, refl)
+ended-refused line held before now old out_before out_now refusals.ReadFault cause = (cause, refl)
+ended-refused line held before now old out_before out_now refusals.Memory cause = (cause, refl)
+ended-refused line held before now old out_before out_now refusals.TooLong cause = (cause, refl)
+ended-refused line held before now old out_before out_now refusals.WrongShape cause = (cause, refl)
+ended-refused line held before now old out_before out_now refusals.NotBuilt cause = (cause, refl)
 
 -- where a file is told, a fact of what is told
-told : (o : Option (List ℕ)) (P : List ℕ → Type 0) → IsSome o → IfSome o P → IsSomeAnd o P
-told None P some h = absurd cc
-told (Some bytes) P some h = h
+told : (o : Option (List ℕ)) (P Q : List ℕ → Type 0) → IsSome o → IfSome o P → ((bytes : List ℕ) → P bytes → Q bytes) → IsSomeAnd o Q
+told None P Q some h f = absurd cc
+told (Some bytes) P Q some h f = f bytes h
 
-told_map : (o : Option (List ℕ)) (P Q : List ℕ → Type 0) → ((bytes : List ℕ) → P bytes → Q bytes) → IfSome o P → IfSome o Q
-told_map None P Q f h = tt
-told_map (Some bytes) P Q f h = f bytes h
+if_told : (o : Option (List ℕ)) (P Q : List ℕ → Type 0) → ((bytes : List ℕ) → P bytes → Q bytes) → IfSome o P → IfSome o Q
+if_told None P Q f h = tt
+if_told (Some bytes) P Q f h = f bytes h
 
-module _ (held : List ℕ → Option (List ℕ)) (file : List ℕ) (before now : ℕ) (old : Option (List ℕ)) (out_before : ℕ) (new : Option (List ℕ)) (out_now : ℕ) where
-  done : (text : List ℕ) → IsSome (held file) → MayBeWritten (held file) text → IsOutcome held (Some (intersect file)) statuses.Done
-  done text some may = told (held file) _ some (told_map (held file) (λ bytes. IsAnswerTo bytes text) _ (λ bytes a. (a.instance, a.solvable)) may.1)
+module _ (held : List ℕ → Option (List ℕ)) (line : CommandLine) (before now : ℕ) (old : Option (List ℕ)) (out_before : ℕ) (new : Option (List ℕ)) (out_now : ℕ) where
+  abbrev Here : Ended → Type 0
+  Here end = IsEnded line (held (description_file line)) before now old out_before new out_now end
+
+  done : (text : List ℕ) → IsSome (held (description_file line)) → MayBeWritten line (held (description_file line)) text → IsOutcome held (Some line) statuses.Done
+  done text some may = told (held (description_file line)) (λ bytes. IsAnswerTo line bytes text) (λ bytes. IsBytesOutcome line bytes statuses.Done) some may.1 (λ bytes a. (a.instance, a.described, a.form, a.built))
 
   -- the outcome is reached, or there is a cause
-  pub ended-outcome : (status : Status) → IsEnded (held file) before now old out_before new out_now status → Tells held (Some (intersect file)) → ¬ (Rose before now) → ¬ (Rose out_before out_now)
-      → IsOutcome held (Some (intersect file)) status ⊎ (status ≡ statuses.Memory)
-  ended-outcome statuses.Done (text, may, put) some calm quiet = inl (done text some may)
-  ended-outcome statuses.WriteFault (text, may, put, rose) some calm quiet = absurd (quiet rose)
-  ended-outcome statuses.Usage e some calm quiet = absurd e.0
-  ended-outcome statuses.ReadFault e some calm quiet = absurd (calm e.0)
-  ended-outcome statuses.Memory e some calm quiet = inr refl
-  ended-outcome statuses.NotBuilt e some calm quiet = inl (told (held file) IsNotBuilt some e.0)
+  pub ended-outcome : (end : Ended) → Here end → Tells held (Some line) → ¬ (Rose before now) → ¬ (Rose out_before out_now)
+      → IsOutcome held (Some line) (status_at end) ⊎ (status_at end ≡ statuses.Memory)
+  ended-outcome (Ok d) (text, may, put) some calm quiet = inl (done text some may)
+  ended-outcome (Err refusals.WriteFault) (text, may, put, rose) some calm quiet = absurd (quiet rose)
+  ended-outcome (Err refusals.Usage) e some calm quiet = absurd e.0
+  ended-outcome (Err refusals.ReadFault) e some calm quiet = absurd (calm e.0)
+  ended-outcome (Err refusals.Memory) e some calm quiet = inr refl
+  ended-outcome (Err (refusals.BadDescription kind number)) e some calm quiet = inl (told (held (description_file line)) _ _ some e.0 (λ bytes f. ((kind, number), f)))
+  ended-outcome (Err refusals.TooLong) e some calm quiet = inl (told (held (description_file line)) _ _ some e.0 (λ bytes f. f))
+  ended-outcome (Err refusals.WrongShape) e some calm quiet = inl (told (held (description_file line)) _ _ some e.0 (λ bytes f. f))
+  ended-outcome (Err refusals.NotBuilt) e some calm quiet = inl (told (held (description_file line)) _ _ some e.0 (λ bytes f. f))
 
-  pub ended-status : (status : Status) → IsEnded (held file) before now old out_before new out_now status → Tells held (Some (intersect file)) → IsStatus held (Some (intersect file)) status
-  ended-status statuses.Done (text, may, put) some = done text some may
-  ended-status statuses.WriteFault (text, may, put, rose) some = done text some may
-  ended-status statuses.Usage e some = absurd e.0
-  ended-status statuses.ReadFault e some = tt
-  ended-status statuses.Memory e some = tt
-  ended-status statuses.NotBuilt e some = told (held file) IsNotBuilt some e.0
+  pub ended-status : (end : Ended) → Here end → Tells held (Some line) → IsStatus held (Some line) (status_at end)
+  ended-status (Ok d) (text, may, put) some = done text some may
+  ended-status (Err refusals.WriteFault) (text, may, put, rose) some = done text some may
+  ended-status (Err refusals.Usage) e some = absurd e.0
+  ended-status (Err refusals.ReadFault) e some = tt
+  ended-status (Err refusals.Memory) e some = tt
+  ended-status (Err (refusals.BadDescription kind number)) e some = told (held (description_file line)) _ _ some e.0 (λ bytes f. ((kind, number), f))
+  ended-status (Err refusals.TooLong) e some = told (held (description_file line)) _ _ some e.0 (λ bytes f. f)
+  ended-status (Err refusals.WrongShape) e some = told (held (description_file line)) _ _ some e.0 (λ bytes f. f)
+  ended-status (Err refusals.NotBuilt) e some = told (held (description_file line)) _ _ some e.0 (λ bytes f. f)
 
-  pub ended-written : (status : Status) → IsEnded (held file) before now old out_before new out_now status → IsWritten held (Some (intersect file)) old new status
-  ended-written statuses.Done (text, may, put) = (text, may, put)
-  ended-written statuses.WriteFault (text, may, put, rose) = (text, may, put)
-  ended-written statuses.Usage e = absurd e.0
-  ended-written statuses.ReadFault e = e.1
-  ended-written statuses.Memory e = e.1
-  ended-written statuses.NotBuilt e = e.1
+  pub ended-written : (end : Ended) → Here end → IsWritten held (Some line) old new (status_at end)
+  ended-written (Ok d) (text, may, put) = (text, may, put)
+  ended-written (Err refusals.WriteFault) (text, may, put, rose) = (text, may, put)
+  ended-written (Err refusals.Usage) e = absurd e.0
+  ended-written (Err refusals.ReadFault) e = e.1
+  ended-written (Err refusals.Memory) e = e.1
+  ended-written (Err (refusals.BadDescription kind number)) e = e.1
+  ended-written (Err refusals.TooLong) e = e.1
+  ended-written (Err refusals.WrongShape) e = e.1
+  ended-written (Err refusals.NotBuilt) e = e.1
 
-  pub ended-read_fault : (status : Status) → IsEnded (held file) before now old out_before new out_now status → status ≡ statuses.ReadFault → Rose before now
-  ended-read_fault status e is = (let f : IsEnded (held file) before now old out_before new out_now statuses.ReadFault = subst (IsEnded (held file) before now old out_before new out_now) is e in f.0)
+  pub ended-read_fault : (end : Ended) → Here end → status_at end ≡ statuses.ReadFault → Rose before now
+  ended-read_fault (Ok d) e is = absurd cc
+  ended-read_fault (Err refusals.WriteFault) e is = absurd cc
+  ended-read_fault (Err refusals.Usage) e is = absurd cc
+  ended-read_fault (Err refusals.ReadFault) e is = e.0
+  ended-read_fault (Err refusals.Memory) e is = absurd cc
+  ended-read_fault (Err (refusals.BadDescription kind number)) e is = absurd cc
+  ended-read_fault (Err refusals.TooLong) e is = absurd cc
+  ended-read_fault (Err refusals.WrongShape) e is = absurd cc
+  ended-read_fault (Err refusals.NotBuilt) e is = absurd cc
 
-  pub ended-write_fault : (status : Status) → IsEnded (held file) before now old out_before new out_now status → status ≡ statuses.WriteFault → Rose out_before out_now
-  ended-write_fault status e is = (let f : IsEnded (held file) before now old out_before new out_now statuses.WriteFault = subst (IsEnded (held file) before now old out_before new out_now) is e in f.3)
+  pub ended-write_fault : (end : Ended) → Here end → status_at end ≡ statuses.WriteFault → Rose out_before out_now
+  ended-write_fault (Ok d) e is = absurd cc
+  ended-write_fault (Err refusals.WriteFault) (text, may, put, rose) is = rose
+  ended-write_fault (Err refusals.Usage) e is = absurd cc
+  ended-write_fault (Err refusals.ReadFault) e is = absurd cc
+  ended-write_fault (Err refusals.Memory) e is = absurd cc
+  ended-write_fault (Err (refusals.BadDescription kind number)) e is = absurd cc
+  ended-write_fault (Err refusals.TooLong) e is = absurd cc
+  ended-write_fault (Err refusals.WrongShape) e is = absurd cc
+  ended-write_fault (Err refusals.NotBuilt) e is = absurd cc
 
-  pub ended-not_usage : (status : Status) → IsEnded (held file) before now old out_before new out_now status → status ≡ statuses.Usage → ⊥
-  ended-not_usage status e is = (let f : IsEnded (held file) before now old out_before new out_now statuses.Usage = subst (IsEnded (held file) before now old out_before new out_now) is e in f.0)
+  pub ended-not_usage : (end : Ended) → Here end → status_at end ≡ statuses.Usage → ⊥
+  ended-not_usage (Ok d) e is = absurd cc
+  ended-not_usage (Err refusals.WriteFault) e is = absurd cc
+  ended-not_usage (Err refusals.Usage) e is = absurd e.0
+  ended-not_usage (Err refusals.ReadFault) e is = absurd cc
+  ended-not_usage (Err refusals.Memory) e is = absurd cc
+  ended-not_usage (Err (refusals.BadDescription kind number)) e is = absurd cc
+  ended-not_usage (Err refusals.TooLong) e is = absurd cc
+  ended-not_usage (Err refusals.WrongShape) e is = absurd cc
+  ended-not_usage (Err refusals.NotBuilt) e is = absurd cc
+
+  -- the refusal tells what is so
+  pub ended-true : (refusal : Refusal) → Here (Err refusal) → IsTrueOf held (Some line) refusal
+  ended-true refusals.WriteFault e = tt
+  ended-true refusals.Usage e = tt
+  ended-true refusals.ReadFault e = tt
+  ended-true refusals.Memory e = tt
+  ended-true (refusals.BadDescription kind number) e = e.0
+  ended-true refusals.TooLong e = tt
+  ended-true refusals.WrongShape e = tt
+  ended-true refusals.NotBuilt e = tt
+
+-- a refusal's note is that of its status
+pub note_is : (held : List ℕ → Option (List ℕ)) (asked : Option CommandLine) (refusal : Refusal) → IsTrueOf held asked refusal → IsNote held asked (status_of refusal) (note_of refusal)
+note_is held asked refusals.WriteFault h = (refusals.WriteFault, refl, refl, h)
+note_is held asked refusals.Usage h = (refusals.Usage, refl, refl, h)
+note_is held asked refusals.ReadFault h = (refusals.ReadFault, refl, refl, h)
+note_is held asked refusals.Memory h = (refusals.Memory, refl, refl, h)
+note_is held asked (refusals.BadDescription kind number) h = (refusals.BadDescription kind number, refl, refl, h)
+note_is held asked refusals.TooLong h = (refusals.TooLong, refl, refl, h)
+note_is held asked refusals.WrongShape h = (refusals.WrongShape, refl, refl, h)
+note_is held asked refusals.NotBuilt h = (refusals.NotBuilt, refl, refl, h)
+
+-- no note at all
+pub noted-nothing : (old : Option (List ℕ)) (count : ℕ) → IsNoted [] old count old count
+noted-nothing old count = record { grows = omega arith; prefix = ([], [], refl, Appended-nil old); whole = λ _. Appended-nil old }

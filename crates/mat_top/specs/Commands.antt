@@ -1,7 +1,9 @@
 -- A command as what its words ask for.
 use Rattle.mat_top.specs.declared.command.Command.{Command}
-use Rattle.mat_top.specs.declared.command.Command.TheVariants.{Intersect}
-use Rattle.mat_top.specs.CommandLines.{CommandLine, intersect}
+use Rattle.mat_top.specs.declared.command.Command.TheVariants.{Show, Intersect}
+use Rattle.mat_top.specs.CommandLines.{CommandLine, show, intersect}
 
+-- what a command asks for
 abbrev pub line_of : Command → CommandLine
+line_of (Show file) = show file.now
 line_of (Intersect file) = intersect file.now

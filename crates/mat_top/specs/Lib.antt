@@ -1,8 +1,8 @@
 pub mod CommandLines
+pub mod Commands
+pub mod Statuses
 pub mod Answers
 pub mod Outcomes
-pub mod Commands
 pub mod WholeFiles
-pub mod Refusals
 pub mod FreeLadders
-pub mod Solving
+pub mod Refusals

@@ -1,13 +1,19 @@
 -- What a call does, where the shelf tells the files that it needs.
-use Rattle.std.specs.Prelude.{◌≡◌, ℕ, ◌<◌, ◌≤◌, ◌⊎◌, List, [], ◌∷◌, ◌++◌, length, codes, Option, Some, None, IsSome, IfSome, IsSomeAnd}
+use Rattle.std.specs.Prelude.{◌≡◌, ℕ, ◌<◌, ◌≤◌, List, [], length, Option, Some, None, IsSome, IfSome, IsSomeAnd, Err}
 use Rattle.mat_shelf.specs.Faults.{Rose}
 use Rattle.mat_shelf.specs.Writing.{Appended, AppendedPrefix}
 use Rattle.mat_any.specs.Trees.{Tree, uniform, partition}
-use Rattle.mat_desc.specs.Instances.{Instance, pair}
+use Rattle.mat_desc.specs.Faults.{Fault}
+use Rattle.mat_desc.specs.Instances.{Instance, pair, list, graph, rooted, coloured, table}
 use Rattle.mat_desc.specs.Grammar.{Spells}
+use Rattle.mat_desc.specs.Reading.{read_of}
+use Rattle.mat_desc.specs.Canonical.{canonical_text}
 use Rattle.mat_top.specs.declared.status.Status.{Status}
 use Rattle.mat_top.specs.declared.status.Status.TheVariants as statuses
-use Rattle.mat_top.specs.CommandLines.{CommandLine, intersect}
+use Rattle.mat_top.specs.declared.status.Refusal.{Refusal}
+use Rattle.mat_top.specs.declared.status.Refusal.TheVariants as refusals
+use Rattle.mat_top.specs.Statuses.{status_of, note_of}
+use Rattle.mat_top.specs.CommandLines.{CommandLine, show, intersect, description_file}
 use Rattle.mat_top.specs.Answers.{IsSolutionText}
 
 -- the most bytes that a description may have
@@ -20,56 +26,100 @@ certificate_limit = 67108864
 
 -- ---- the description
 
+-- the bytes have this first fault
+pub record IsFaulty (bytes : List ℕ) (fault : Fault) : Type 0 where
+  pub within : length bytes ≤ description_limit
+  pub first : read_of bytes ≡ Err fault
+
+-- the bytes spell this problem
+pub record IsDescribed (bytes : List ℕ) (instance : Instance) : Type 0 where
+  pub within : length bytes ≤ description_limit
+  pub spelled : Spells bytes instance
+
+-- the problem is a pair of matroids
+abbrev pub IsPair : Instance → Type 0
+IsPair (pair w first second) = Unit {0}
+IsPair (list w matroids) = ⊥
+IsPair (graph vertices edges) = ⊥
+IsPair (rooted vertices root arcs costs) = ⊥
+IsPair (coloured vertices colours edges colour_of weights) = ⊥
+IsPair (table rows columns cells weights) = ⊥
+
 -- the matroid on n elements is free: uniform, with a cap of at least n
 abbrev pub IsFree : ℕ → Tree → Type 0
 IsFree n (uniform m cap) = n ≤ cap
 IsFree n (partition m classes caps) = ⊥
 
--- the problems that are solved: a uniform or a partition matroid against a free one
-abbrev pub IsBuilt : Instance → Type 0
-IsBuilt (pair w first second) = IsFree (length w) second
+-- the problem is a pair of matroids, and the second is free
+abbrev pub IsFreePair : Instance → Type 0
+IsFreePair (pair w first second) = IsFree (length w) second
+IsFreePair (list w matroids) = ⊥
+IsFreePair (graph vertices edges) = ⊥
+IsFreePair (rooted vertices root arcs costs) = ⊥
+IsFreePair (coloured vertices colours edges colour_of weights) = ⊥
+IsFreePair (table rows columns cells weights) = ⊥
 
--- the bytes spell this problem, and it is one that is solved
-pub record IsSolvable (bytes : List ℕ) (instance : Instance) : Type 0 where
-  pub within : length bytes ≤ description_limit
-  pub spelled : Spells bytes instance
-  pub built : IsBuilt instance
+-- the form of the problem is the command's
+abbrev pub HasForm : CommandLine → Instance → Type 0
+HasForm (show file) instance = Unit {0}
+HasForm (intersect file) instance = IsPair instance
 
--- the bytes are too many, or spell no problem that is solved
-abbrev pub IsNotBuilt : List ℕ → Type 0
-IsNotBuilt bytes = (description_limit < length bytes) ⊎ ((instance : Instance) → Spells bytes instance → IsBuilt instance → ⊥)
+-- the command solves problems of this kind
+abbrev pub IsBuilt : CommandLine → Instance → Type 0
+IsBuilt (show file) instance = Unit {0}
+IsBuilt (intersect file) instance = IsFreePair instance
 
--- the text is that of a right answer to the problem that the bytes spell
-pub record IsAnswerTo (bytes text : List ℕ) : Type 0 where
+-- ---- what is written
+
+-- the text is what the command writes for the problem
+abbrev pub IsTextFor : CommandLine → Instance → List ℕ → Type 0
+IsTextFor (show file) instance text = text ≡ canonical_text instance
+IsTextFor (intersect file) instance text = IsSolutionText instance text
+
+-- the text is what the command writes for the problem that the bytes spell
+pub record IsAnswerTo (line : CommandLine) (bytes text : List ℕ) : Type 0 where
   pub instance : Instance
-  pub solvable : IsSolvable bytes instance
-  pub answer : IsSolutionText instance text
+  pub described : IsDescribed bytes instance
+  pub form : HasForm line instance
+  pub built : IsBuilt line instance
+  pub answer : IsTextFor line instance text
+
+-- the text of a solving command is no longer than a certificate may be
+abbrev pub IsShort : CommandLine → List ℕ → Type 0
+IsShort (show file) text = Unit {0}
+IsShort (intersect file) text = length text ≤ certificate_limit
 
 -- ---- the outcome
 
 -- the shelf tells the files that the outcome needs
 abbrev pub Tells : (List ℕ → Option (List ℕ)) → Option CommandLine → Type 0
 Tells held None = Unit {0}
-Tells held (Some (intersect file)) = IsSome (held file)
+Tells held (Some line) = IsSome (held (description_file line))
 
--- The status is that of the first row of the table that applies: Usage where the words are no command, then NotBuilt where
--- the description spells no problem that is solved, and Done otherwise.
+-- the first row of the table that applies to a command over these bytes, by its status
+abbrev pub IsBytesOutcome : CommandLine → List ℕ → Status → Type 0
+IsBytesOutcome line bytes statuses.TooLong = description_limit < length bytes
+IsBytesOutcome line bytes statuses.BadDescription = (fault : Fault) × IsFaulty bytes fault
+IsBytesOutcome line bytes statuses.WrongShape = (instance : Instance) × IsDescribed bytes instance × (HasForm line instance → ⊥)
+IsBytesOutcome line bytes statuses.NotBuilt = (instance : Instance) × IsDescribed bytes instance × HasForm line instance × (IsBuilt line instance → ⊥)
+IsBytesOutcome line bytes statuses.Done = (instance : Instance) × IsDescribed bytes instance × HasForm line instance × IsBuilt line instance
+IsBytesOutcome line bytes status = ⊥
+
+-- The status is that of the first row of the table that applies: Usage where the words are no command, and else what the
+-- description's bytes say.
 abbrev pub IsOutcome : (List ℕ → Option (List ℕ)) → Option CommandLine → Status → Type 0
-IsOutcome held asked statuses.Usage = asked ≡ None
-IsOutcome held None status = ⊥
-IsOutcome held (Some (intersect file)) statuses.NotBuilt = IsSomeAnd (held file) IsNotBuilt
-IsOutcome held (Some (intersect file)) statuses.Done = IsSomeAnd (held file) (λ bytes. (instance : Instance) × IsSolvable bytes instance)
-IsOutcome held (Some (intersect file)) status = ⊥
+IsOutcome held None status = status ≡ statuses.Usage
+IsOutcome held (Some line) status = IsSomeAnd (held (description_file line)) (λ bytes. IsBytesOutcome line bytes status)
 
--- what may be written where the command is done: where the file is told, the text of a right answer
+-- what may be written where the command is done: where the file is told, what the command writes
 abbrev pub IsOutput : (List ℕ → Option (List ℕ)) → Option CommandLine → List ℕ → Type 0
 IsOutput held None text = ⊥
-IsOutput held (Some (intersect file)) text = (length text ≤ certificate_limit) × IfSome (held file) (λ bytes. IsAnswerTo bytes text)
+IsOutput held (Some line) text = IsShort line text × IfSome (held (description_file line)) (λ bytes. IsAnswerTo line bytes text)
 
 -- the files that the call reaches
 abbrev pub CallReaches : (List ℕ → Option (List ℕ)) → Option CommandLine → List ℕ → Type 0
 CallReaches held None name = ⊥
-CallReaches held (Some (intersect file)) name = name ≡ file
+CallReaches held (Some line) name = name ≡ description_file line
 
 -- ---- the clauses of the top call
 
@@ -87,30 +137,18 @@ IsWritten held asked old new statuses.Done = (text : List ℕ) × IsOutput held 
 IsWritten held asked old new statuses.WriteFault = (text : List ℕ) × IsOutput held asked text × AppendedPrefix old text new
 IsWritten held asked old new status = new ≡ old
 
--- the note of a status: none on Done
-abbrev pub note_of : Status → List ℕ
-note_of statuses.Done = []
-note_of statuses.Usage = codes "refused: usage" ++ 10 ∷ []
-note_of statuses.ReadFault = codes "refused: read fault" ++ 10 ∷ []
-note_of statuses.WriteFault = codes "refused: write fault" ++ 10 ∷ []
-note_of statuses.Memory = codes "refused: memory" ++ 10 ∷ []
-note_of statuses.NotBuilt = codes "refused: not built" ++ 10 ∷ []
+-- a refusal tells what is so: the first fault of a description is that of its bytes, where they are told
+abbrev pub IsTrueOf : (List ℕ → Option (List ℕ)) → Option CommandLine → Refusal → Type 0
+IsTrueOf held (Some line) (refusals.BadDescription kind number) = IfSome (held (description_file line)) (λ bytes. IsFaulty bytes (kind, number))
+IsTrueOf held asked refusal = Unit {0}
 
--- the note of a call that ended so
+-- the note of a call that ended so: none on Done
 abbrev pub IsNote : (List ℕ → Option (List ℕ)) → Option CommandLine → Status → List ℕ → Type 0
-IsNote held asked status note = note ≡ note_of status
+IsNote held asked statuses.Done note = note ≡ []
+IsNote held asked status note = (refusal : Refusal) × (status_of refusal ≡ status) × (note ≡ note_of refusal) × IsTrueOf held asked refusal
 
 -- a prefix of a note was appended, and all of it where the count of faults did not rise
 pub record IsNoted (note : List ℕ) (old : Option (List ℕ)) (before : ℕ) (new : Option (List ℕ)) (now : ℕ) : Type 0 where
   pub grows : before ≤ now
   pub prefix : AppendedPrefix old note new
   pub whole : ¬ (Rose before now) → Appended old note new
-
--- the number by which the program ends
-abbrev pub status_number : Status → ℕ
-status_number statuses.Done = 0
-status_number statuses.Usage = 2
-status_number statuses.ReadFault = 5
-status_number statuses.WriteFault = 6
-status_number statuses.Memory = 7
-status_number statuses.NotBuilt = 10

@@ -1,12 +1,17 @@
 //! Command lines.
 
 ghost use Rattle.std.specs.Prelude.{◌≡◌, map, string_bytes, option_map};
-ghost use Rattle.mat_top.specs.CommandLines.{with_file, command_line};
+ghost use Rattle.mat_top.specs.CommandLines.{with_file, command_line, description_file};
 ghost use Rattle.mat_top.specs.Commands.{line_of};
 
 /// What the words of a command line ask for.
 #[derive(Clone, Copy)]
 pub enum Command<'a> {
+    /// Write the canonical text of the description in the file of this name.
+    Show {
+        /// The name of the description's file.
+        file: &'a str,
+    },
     /// Solve the problem of the file of this name.
     Intersect {
         /// The name of the description's file.
@@ -20,6 +25,8 @@ fn command_with_file<'a>(command: &str, file: &'a str) -> Option<Command<'a>>
 {
     if file == "--workers" {
         None
+    } else if command == "show" {
+        Some(Command::Show { file })
     } else if command == "intersect" {
         Some(Command::Intersect { file })
     } else {
@@ -36,5 +43,17 @@ pub fn command_of(words: &[String]) -> Option<Command<'_>>
         command_with_file(words[0].as_str(), words[1].as_str())
     } else {
         None
+    }
+}
+
+impl<'a> Command<'a> {
+    /// The file of the description.
+    pub fn description(&self) -> &'a str
+        ensures { result.now ≡ description_file (line_of self.now) }
+    {
+        match self {
+            Command::Show { file } => file,
+            Command::Intersect { file } => file,
+        }
     }
 }

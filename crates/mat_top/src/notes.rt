@@ -1,28 +1,80 @@
-//! The note of a status.
+//! The note of a refusal.
 
-ghost use Rattle.mat_top.specs.Outcomes.{note_of, IsNoted};
+ghost use Rattle.std.specs.Prelude.{◌≡◌, ◌≤◌, ◌<◌, [], List, flat_map, OnOk, OnErr};
+ghost use Rattle.mat_shelf.specs.Faults.{Rose};
+ghost use Rattle.mat_shelf.specs.Writing.{Appended, AppendedPrefix};
+ghost use Rattle.mat_top.specs.Statuses.{note_of};
+ghost use Rattle.mat_top.specs.Outcomes.{IsNoted};
 
-use crate::status::Status;
+use crate::status::Refusal;
 use crate::writing::put_all;
-use mat_shelf::Sink;
+use mat_desc::DescKind;
+use mat_shelf::{Failed, Sink};
+use mat_words::spell_into;
 
-// Writes a line, or a prefix of it where the sink fails.
-fn put_line<N: Sink>(notes: &mut N, line: &[u8])
+// Writes pieces one after the other, or a prefix of them where the sink fails.
+fn put_pieces<N: Sink>(notes: &mut N, pieces: &[&[u8]]) -> Result<(), Failed>
+    ensures grows { N.faults notes.old ≤ N.faults notes.new }
+    ensures ok { OnOk result (Appended (N.written notes.old) (flat_map (λ piece. piece.now) pieces.now) (N.written notes.new)) }
+    ensures err { OnErr result (AppendedPrefix (N.written notes.old) (flat_map (λ piece. piece.now) pieces.now) (N.written notes.new)) }
+    ensures cause { OnErr result (Rose (N.faults notes.old) (N.faults notes.new)) }
+{
+    for piece in pieces {
+        if let Err(e) = put_all(notes, piece) {
+            return Err(e);
+        }
+    }
+    Ok(())
+}
+
+// Writes the pieces of a line, or a prefix of them where the sink fails.
+fn put_line<N: Sink>(notes: &mut N, pieces: &[&[u8]])
+    ensures { IsNoted (flat_map (λ piece. piece.now) pieces.now) (N.written notes.old) (N.faults notes.old) (N.written notes.new) (N.faults notes.new) }
+{
+    let _ = put_pieces(notes, pieces);
+}
+
+// Writes a whole line, or a prefix of it where the sink fails.
+fn put_text<N: Sink>(notes: &mut N, line: &[u8])
     ensures { IsNoted line.now (N.written notes.old) (N.faults notes.old) (N.written notes.new) (N.faults notes.new) }
 {
     let _ = put_all(notes, line);
 }
 
-/// Writes the note of a status, or a prefix of it where the sink fails; on Done there is none. It takes no memory.
-pub fn put_note<N: Sink>(notes: &mut N, status: Status)
-    ensures { IsNoted (note_of status) (N.written notes.old) (N.faults notes.old) (N.written notes.new) (N.faults notes.new) }
+// Writes the note of a fault of the description.
+fn put_fault<N: Sink>(notes: &mut N, kind: DescKind, line: u32)
+    ensures { IsNoted (note_of (Refusal.BadDescription kind line)) (N.written notes.old) (N.faults notes.old) (N.written notes.new) (N.faults notes.new) }
 {
-    match status {
-        Status::Done => put_line(notes, b""),
-        Status::Usage => put_line(notes, b"refused: usage\n"),
-        Status::ReadFault => put_line(notes, b"refused: read fault\n"),
-        Status::WriteFault => put_line(notes, b"refused: write fault\n"),
-        Status::Memory => put_line(notes, b"refused: memory\n"),
-        Status::NotBuilt => put_line(notes, b"refused: not built\n"),
+    let mut number = [0; 40];
+    let number_at = spell_into(&mut number, i128::from(kind.number()));
+    let mut place = [0; 40];
+    let place_at = spell_into(&mut place, i128::from(line));
+    put_line(
+        notes,
+        &[
+            b"refused: description ".as_slice(),
+            &number[number_at..],
+            b" ".as_slice(),
+            kind.name().as_bytes(),
+            b" line ".as_slice(),
+            &place[place_at..],
+            b"\n".as_slice(),
+        ],
+    );
+}
+
+/// Writes the note of a refusal, or a prefix of it where the sink fails. It takes no memory.
+pub fn put_note<N: Sink>(notes: &mut N, refusal: Refusal)
+    ensures { IsNoted (note_of refusal) (N.written notes.old) (N.faults notes.old) (N.written notes.new) (N.faults notes.new) }
+{
+    match refusal {
+        Refusal::Usage => put_text(notes, b"refused: usage\n"),
+        Refusal::BadDescription(kind, line) => put_fault(notes, kind, line),
+        Refusal::ReadFault => put_text(notes, b"refused: read fault\n"),
+        Refusal::WriteFault => put_text(notes, b"refused: write fault\n"),
+        Refusal::Memory => put_text(notes, b"refused: memory\n"),
+        Refusal::TooLong => put_text(notes, b"refused: too long\n"),
+        Refusal::WrongShape => put_text(notes, b"refused: wrong shape\n"),
+        Refusal::NotBuilt => put_text(notes, b"refused: not built\n"),
     }
 }

@@ -11,9 +11,10 @@ ghost use Rattle.mat_desc.specs.Grammar.{IsValid};
 ghost use Rattle.mat_desc.specs.Soundness.{IsSoundInstance};
 ghost use Rattle.mat_cert.specs.Views.{certificate_of};
 ghost use Rattle.mat_top.specs.Answers.{IsSolution};
-ghost use Rattle.mat_top.specs.Solving.{IsSolved};
+ghost use Rattle.mat_top.specs.Refusals.{IsSolved};
 ghost use Rattle.mat_top.specs.FreeLadders.{free_rung, AreFitting};
 
+use crate::status::Refusal;
 use mat_any::AnyMatroid;
 use mat_cert::{Answer, PricedRung};
 use mat_desc::Problem;
@@ -73,35 +74,37 @@ fn free_ladder(alloc: Global, first: &AnyMatroid, weights: &Weights) -> Result<A
     })
 }
 
-// A right answer to a pair whose second matroid is free, and none to any other.
+// A right answer to a pair whose second matroid is free, and a refusal of every other.
 fn solve_pair(
     alloc: Global,
     weights: &Weights,
     first: &AnyMatroid,
     second: &AnyMatroid,
-) -> Result<Option<Answer>, AllocError>
+) -> Result<Answer, Refusal>
     requires valid { IsValid (pair weights.now (tree_of first.now) (tree_of second.now)) }
     requires sound { IsSoundInstance (pair weights.now (tree_of first.now) (tree_of second.now)) }
-    ensures { IfOk result (IsSolved (pair weights.now (tree_of first.now) (tree_of second.now))) }
+    ensures { IsSolved (pair weights.now (tree_of first.now) (tree_of second.now)) result }
 {
     match second {
         AnyMatroid::Uniform(uniform) => {
             if weights.len() > uniform.cap() as usize {
-                return Ok(None);
+                return Err(Refusal::NotBuilt);
             }
-            let answer = free_ladder(alloc, first, weights)?;
-            Ok(Some(answer))
+            match free_ladder(alloc, first, weights) {
+                Ok(answer) => Ok(answer),
+                Err(_) => Err(Refusal::Memory),
+            }
         }
-        AnyMatroid::Partition(_) => Ok(None),
+        AnyMatroid::Partition(_) => Err(Refusal::NotBuilt),
     }
 }
 
-/// A right answer to a problem that is solved: its second matroid is free, which means uniform with a cap of at least the number
-/// of elements. None to any other. The only error is want of memory.
-pub fn solve(alloc: Global, problem: &Problem) -> Result<Option<Answer>, AllocError>
+/// A right answer to a pair whose second matroid is free, which means uniform with a cap of at least the number of elements.
+/// `WrongShape` comes where the problem is no pair, `NotBuilt` where its second matroid is not free, and `Memory` is want of memory.
+pub fn solve(alloc: Global, problem: &Problem) -> Result<Answer, Refusal>
     requires valid { IsValid (instance_of problem.now) }
     requires sound { IsSoundInstance (instance_of problem.now) }
-    ensures { IfOk result (IsSolved (instance_of problem.now)) }
+    ensures { IsSolved (instance_of problem.now) result }
 {
     match problem {
         Problem::Pair {
@@ -109,5 +112,10 @@ pub fn solve(alloc: Global, problem: &Problem) -> Result<Option<Answer>, AllocEr
             first,
             second,
         } => solve_pair(alloc, weights, first, second),
+        Problem::List { .. } => Err(Refusal::WrongShape),
+        Problem::Graph { .. } => Err(Refusal::WrongShape),
+        Problem::Rooted { .. } => Err(Refusal::WrongShape),
+        Problem::Coloured { .. } => Err(Refusal::WrongShape),
+        Problem::Table { .. } => Err(Refusal::WrongShape),
     }
 }

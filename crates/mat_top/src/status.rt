@@ -1,7 +1,9 @@
 //! How a call ends.
 
 ghost use Rattle.std.specs.Prelude.{◌≡◌};
-ghost use Rattle.mat_top.specs.Outcomes.{status_number};
+ghost use Rattle.mat_top.specs.Statuses.{status_number, status_of};
+
+use mat_desc::DescKind;
 
 /// How a call ended.
 #[derive(Clone, Copy, Debug, PartialEq, Eq)]
@@ -10,13 +12,19 @@ pub enum Status {
     Done,
     /// The words are no command.
     Usage,
+    /// The description has a fault.
+    BadDescription,
     /// A file could not be opened or read.
     ReadFault,
     /// The answer could not be written whole.
     WriteFault,
     /// There was not enough memory.
     Memory,
-    /// The description spells no problem that is solved.
+    /// A file has more bytes than its limit.
+    TooLong,
+    /// The form of the problem is not the command's.
+    WrongShape,
+    /// The second matroid of the pair is not free.
     NotBuilt,
 }
 
@@ -28,10 +36,52 @@ impl Status {
         match self {
             Status::Done => 0,
             Status::Usage => 2,
+            Status::BadDescription => 3,
             Status::ReadFault => 5,
             Status::WriteFault => 6,
             Status::Memory => 7,
+            Status::TooLong => 8,
+            Status::WrongShape => 9,
             Status::NotBuilt => 10,
+        }
+    }
+}
+
+/// Why a call was refused.
+#[derive(Clone, Copy, Debug)]
+pub enum Refusal {
+    /// The words are no command.
+    Usage,
+    /// The description's first fault, and the number of its line.
+    BadDescription(DescKind, u32),
+    /// A file could not be opened or read.
+    ReadFault,
+    /// The answer could not be written whole.
+    WriteFault,
+    /// There was not enough memory.
+    Memory,
+    /// A file has more bytes than its limit.
+    TooLong,
+    /// The form of the problem is not the command's.
+    WrongShape,
+    /// The second matroid of the pair is not free.
+    NotBuilt,
+}
+
+impl Refusal {
+    /// The status of a call that was refused so.
+    pub fn status(self) -> Status
+        ensures { result ≡ status_of self }
+    {
+        match self {
+            Refusal::Usage => Status::Usage,
+            Refusal::BadDescription(_, _) => Status::BadDescription,
+            Refusal::ReadFault => Status::ReadFault,
+            Refusal::WriteFault => Status::WriteFault,
+            Refusal::Memory => Status::Memory,
+            Refusal::TooLong => Status::TooLong,
+            Refusal::WrongShape => Status::WrongShape,
+            Refusal::NotBuilt => Status::NotBuilt,
         }
     }
 }

@@ -2,87 +2,128 @@
 
 ghost use Rattle.std.specs.Prelude.{◌≡◌, ◌≤◌, ◌<◌, ◌↔◌, ◌⊎◌, ℕ, List, map, string_bytes, length, IfOk, IfErr, IfSome, Some, None};
 ghost use Rattle.mat_shelf.specs.Faults.{Rose};
-ghost use Rattle.mat_desc.specs.Instances.{Instance};
-ghost use Rattle.mat_top.specs.CommandLines.{CommandLine, command_line};
-ghost use Rattle.mat_top.specs.Outcomes.{Tells, IsStatus, IsOutcome, IsWritten, CallReaches, IsNote, IsNoted, IsAnswerTo, certificate_limit, description_limit};
-ghost use Rattle.mat_top.specs.Refusals.{IsCause, IsRefusal, IsPut, IsEnded};
+ghost use Rattle.mat_desc.specs.Grammar.{IsValid};
+ghost use Rattle.mat_desc.specs.Soundness.{IsSoundInstance};
+ghost use Rattle.mat_desc.specs.Views.{instance_of};
+ghost use Rattle.mat_top.specs.CommandLines.{CommandLine, command_line, description_file};
+ghost use Rattle.mat_top.specs.Commands.{line_of};
+ghost use Rattle.mat_top.specs.Outcomes.{Tells, IsStatus, IsOutcome, IsWritten, CallReaches, IsNote, IsNoted, IsAnswerTo, IsShort, description_limit};
+ghost use Rattle.mat_top.specs.Refusals.{HasText, HasNoText, HasSolutionText, IsUnsolved, IsCause, IsRefusal, IsPut, IsEnded};
 
 use crate::command::{Command, command_of};
 use crate::notes::put_note;
 use crate::reading::{Unread, read_all};
 use crate::solve::solve;
-use crate::status::Status;
+use crate::status::{Refusal, Status};
 use crate::writing::put_all;
 use mat_cert::write_answer;
-use mat_desc::{DescRefusal, read_problem};
+use mat_desc::{DescRefusal, Problem, read_problem, write_problem};
 use mat_shelf::{Shelf, Sink};
 use std::alloc::Global;
 
 /// The most bytes that a description may have.
 const DESCRIPTION_LIMIT: usize = 4_194_304;
 
-// The text of the answer to the description in these bytes, or the status of the refusal.
-fn answer_to(alloc: Global, bytes: &[u8]) -> Result<Vec<u8>, Status>
-    requires { length bytes.now ≤ description_limit }
-    ensures text { IfOk result (λ v. IsAnswerTo bytes.now v.items) }
-    ensures short { IfOk result (λ v. length v.items ≤ certificate_limit) }
-    ensures refusal { IfErr result (λ e. IsCause bytes.now e) }
+// The text of a right answer to a pair of matroids.
+fn solution_text(alloc: Global, problem: &Problem) -> Result<Vec<u8>, Refusal>
+    requires valid { IsValid (instance_of problem.now) }
+    requires sound { IsSoundInstance (instance_of problem.now) }
+    ensures text { IfOk result (λ v. HasSolutionText (instance_of problem.now) v.items) }
+    ensures refusal { IfErr result (λ e. IsUnsolved (instance_of problem.now) e) }
 {
-    let problem = match read_problem(alloc, bytes) {
-        Ok(problem) => problem,
-        Err(DescRefusal::Memory) => return Err(Status::Memory),
-        Err(DescRefusal::Fault { .. }) => return Err(Status::NotBuilt),
-    };
-    let answer = match solve(alloc, &problem) {
-        Ok(Some(answer)) => answer,
-        Ok(None) => return Err(Status::NotBuilt),
-        Err(_) => return Err(Status::Memory),
+    let answer = match solve(alloc, problem) {
+        Ok(answer) => answer,
+        Err(refusal) => return Err(refusal),
     };
     match write_answer(alloc, &answer) {
         Ok(text) => Ok(text),
-        Err(_) => Err(Status::Memory),
+        Err(_) => Err(Refusal::Memory),
     }
 }
 
-// The text of the answer to the description in the file of this name, or the status of the refusal.
-fn answer<F: Shelf>(alloc: Global, files: &mut F, file: &str) -> Result<Vec<u8>, Status>
-    ensures held { (other : List ℕ) → F.held files.new other ≡ F.held files.old other }
-    ensures grows { (other : List ℕ) → F.faults files.old other ≤ F.faults files.new other }
-    ensures text { IfOk result (λ v. IfSome (F.held files.old file.now) (λ bytes. IsAnswerTo bytes v.items)) }
-    ensures short { IfOk result (λ v. length v.items ≤ certificate_limit) }
-    ensures refusal { IfErr result (λ e. IsRefusal (F.held files.old file.now) (F.faults files.old file.now) (F.faults files.new file.now) e) }
+// What the command writes for a problem.
+fn text_for(alloc: Global, command: &Command<'_>, problem: &Problem) -> Result<Vec<u8>, Refusal>
+    requires valid { IsValid (instance_of problem.now) }
+    requires sound { IsSoundInstance (instance_of problem.now) }
+    ensures text { IfOk result (λ v. HasText (line_of command.now) (instance_of problem.now) v.items) }
+    ensures refusal { IfErr result (λ e. HasNoText (line_of command.now) (instance_of problem.now) e) }
 {
-    let bytes = match read_all(alloc, files, file, DESCRIPTION_LIMIT) {
-        Ok(bytes) => bytes,
-        Err(Unread::Fault) => return Err(Status::ReadFault),
-        Err(Unread::TooLong) => return Err(Status::NotBuilt),
-        Err(Unread::Memory) => return Err(Status::Memory),
-    };
-    answer_to(alloc, &bytes)
+    match command {
+        Command::Show { .. } => match write_problem(alloc, problem) {
+            Ok(text) => Ok(text),
+            Err(_) => Err(Refusal::Memory),
+        },
+        Command::Intersect { .. } => solution_text(alloc, problem),
+    }
 }
 
-// Writes the text of an answer, and tells how that ended.
-fn written<O: Sink>(out: &mut O, text: &[u8]) -> Status
+// What the command writes for the description in these bytes.
+fn answer_to(alloc: Global, command: &Command<'_>, bytes: &[u8]) -> Result<Vec<u8>, Refusal>
+    requires { length bytes.now ≤ description_limit }
+    ensures text { IfOk result (λ v. IsAnswerTo (line_of command.now) bytes.now v.items) }
+    ensures short { IfOk result (λ v. IsShort (line_of command.now) v.items) }
+    ensures refusal { IfErr result (λ e. IsCause (line_of command.now) bytes.now e) }
+{
+    match read_problem(alloc, bytes) {
+        Ok(problem) => text_for(alloc, command, &problem),
+        Err(DescRefusal::Memory) => Err(Refusal::Memory),
+        Err(DescRefusal::Fault { kind, line }) => Err(Refusal::BadDescription(kind, line)),
+    }
+}
+
+// What the command writes for the description in its file.
+fn answer<F: Shelf>(alloc: Global, files: &mut F, command: &Command<'_>) -> Result<Vec<u8>, Refusal>
+    ensures held { (name : List ℕ) → F.held files.new name ≡ F.held files.old name }
+    ensures grows { (name : List ℕ) → F.faults files.old name ≤ F.faults files.new name }
+    ensures text {
+        IfOk result (λ v. IfSome (F.held files.old (description_file (line_of command.now)))
+            (λ bytes. IsAnswerTo (line_of command.now) bytes v.items))
+    }
+    ensures short { IfOk result (λ v. IsShort (line_of command.now) v.items) }
+    ensures refusal {
+        IfErr result (λ e. IsRefusal (line_of command.now) (F.held files.old (description_file (line_of command.now)))
+            (F.faults files.old (description_file (line_of command.now))) (F.faults files.new (description_file (line_of command.now))) e)
+    }
+{
+    let bytes = match read_all(alloc, files, command.description(), DESCRIPTION_LIMIT) {
+        Ok(bytes) => bytes,
+        Err(Unread::Fault) => return Err(Refusal::ReadFault),
+        Err(Unread::TooLong) => return Err(Refusal::TooLong),
+        Err(Unread::Memory) => return Err(Refusal::Memory),
+    };
+    answer_to(alloc, command, &bytes)
+}
+
+// Writes a text, and tells how that ended.
+fn written<O: Sink>(out: &mut O, text: &[u8]) -> Result<(), Refusal>
     ensures grows { O.faults out.old ≤ O.faults out.new }
     ensures put { IsPut text.now (O.written out.old) (O.faults out.old) (O.written out.new) (O.faults out.new) result }
 {
     match put_all(out, text) {
-        Ok(()) => Status::Done,
-        Err(_) => Status::WriteFault,
+        Ok(()) => Ok(()),
+        Err(_) => Err(Refusal::WriteFault),
     }
 }
 
-// Solves the problem of the file of this name and writes the answer, and tells how that ended.
-fn intersect<F: Shelf, O: Sink>(alloc: Global, files: &mut F, out: &mut O, file: &str) -> Status
+// Does what the command says, and tells how that ended.
+fn perform<F: Shelf, O: Sink>(
+    alloc: Global,
+    files: &mut F,
+    out: &mut O,
+    command: &Command<'_>,
+) -> Result<(), Refusal>
     ensures held { (name : List ℕ) → F.held files.new name ≡ F.held files.old name }
     ensures grows { (name : List ℕ) → F.faults files.old name ≤ F.faults files.new name }
     ensures out_grows { O.faults out.old ≤ O.faults out.new }
-    ensures ended { IsEnded (F.held files.old file.now) (F.faults files.old file.now) (F.faults files.new file.now)
-        (O.written out.old) (O.faults out.old) (O.written out.new) (O.faults out.new) result }
+    ensures ended {
+        IsEnded (line_of command.now) (F.held files.old (description_file (line_of command.now)))
+            (F.faults files.old (description_file (line_of command.now))) (F.faults files.new (description_file (line_of command.now)))
+            (O.written out.old) (O.faults out.old) (O.written out.new) (O.faults out.new) result
+    }
 {
-    match answer(alloc, files, file) {
+    match answer(alloc, files, command) {
         Ok(text) => written(out, &text),
-        Err(status) => status,
+        Err(refusal) => Err(refusal),
     }
 }
 
@@ -91,7 +132,7 @@ fn intersect<F: Shelf, O: Sink>(alloc: Global, files: &mut F, out: &mut O, file:
 ///
 /// Usage comes exactly where the words are no command, ReadFault only where the shelf's count of faults rose for the file, and
 /// WriteFault only where the count of `out` rose. Where the shelf tells the file, each other status but Memory is the one of the
-/// table in docs/DEFINITIONS.md. Nothing is written to `out` but on Done, when it is the whole answer, and on WriteFault, when
+/// table in docs/DEFINITIONS.md: TooLong, BadDescription, WrongShape, NotBuilt or Done. Nothing is written to `out` but on Done, when it is the whole answer, and on WriteFault, when
 /// it is a prefix of it.
 pub fn run<F: Shelf, O: Sink, N: Sink>(
     alloc: Global,
@@ -132,11 +173,15 @@ pub fn run<F: Shelf, O: Sink, N: Sink>(
         → ¬ (Rose (O.faults out.old) (O.faults out.new))
         → IsOutcome (F.held files.old) (command_line (map string_bytes words.now)) result ⊎ (result ≡ Status.Memory) }
 {
-    let Some(Command::Intersect { file }) = command_of(words) else {
-        put_note(notes, Status::Usage);
+    let Some(command) = command_of(words) else {
+        put_note(notes, Refusal::Usage);
         return Status::Usage;
     };
-    let status = intersect(alloc, files, out, file);
-    put_note(notes, status);
-    status
+    match perform(alloc, files, out, &command) {
+        Ok(()) => Status::Done,
+        Err(refusal) => {
+            put_note(notes, refusal);
+            refusal.status()
+        }
+    }
 }
