@@ -155,3 +155,8 @@ note_is held asked refusals.NotBuilt h = (refusals.NotBuilt, refl, refl, h)
 -- no note at all
 pub noted-nothing : (old : Option (List ℕ)) (count : ℕ) → IsNoted [] old count old count
 noted-nothing old count = record { grows = omega arith; prefix = ([], [], refl, Appended-nil old); whole = λ _. Appended-nil old }
+
+-- the note of words that are no command
+pub usage_noted : (held : List ℕ → Option (List ℕ)) (asked : Option CommandLine) → IsNote held asked statuses.Usage (note_of refusals.Usage)
+usage_noted held None = (refusals.Usage, refl, refl, tt)
+usage_noted held (Some line) = (refusals.Usage, refl, refl, tt)

@@ -3,3 +3,4 @@ pub mod ReadingLemmas
 pub mod FreeLadder
 pub mod Refusing
 pub mod Ending
+pub mod Pieces

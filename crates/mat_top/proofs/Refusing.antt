@@ -1,32 +1,55 @@
--- Why a file gives no answer: nothing but what was read is spelled by its bytes.
-use Rattle.std.proofs.Common.{◌≡◌, ℕ, ◌<◌, ◌≤◌, List, length, Option, Some, None, Result, Ok, Err, refl, sym, ap, subst, inl, inr}
+-- Where there is a text for what was read, it is one for the bytes and for the file; and where there is none, why.
+use Rattle.std.proofs.Common.{◌≡◌, ℕ, ◌<◌, ◌≤◌, List, length, Option, Some, None, Err, refl, sym, subst}
 use Rattle.std.specs.Prelude.{IfSome}
 use Rattle.mat_desc.specs.declared.refusal.DescKind.{DescKind}
 use Rattle.mat_desc.specs.declared.refusal.DescRefusal.{DescRefusal}
-use Rattle.mat_desc.specs.declared.refusal.DescRefusal.TheVariants as refusals
-use Rattle.mat_desc.specs.Faults.{Fault, Fails}
+use Rattle.mat_desc.specs.declared.refusal.DescRefusal.TheVariants as faults
+use Rattle.mat_desc.specs.Faults.{Fails}
 use Rattle.mat_desc.specs.Instances.{Instance}
 use Rattle.mat_desc.specs.Grammar.{Spells}
-use Rattle.mat_top.specs.Outcomes.{IsBuilt, IsNotBuilt}
+use Rattle.mat_desc.specs.Reading.{read_of}
+use Rattle.mat_top.specs.declared.status.Refusal.{Refusal}
+use Rattle.mat_top.specs.declared.status.Refusal.TheVariants as refusals
+use Rattle.mat_top.specs.CommandLines.{CommandLine}
+use Rattle.mat_top.specs.Outcomes.{IsFaulty, IsDescribed, IsAnswerTo, description_limit}
+use Rattle.mat_top.specs.Refusals.{HasText, HasNoText, IsCause, IsRefusal}
 
-abbrev read : Instance → Result Instance Fault
-read instance = Ok instance
+-- a text for the problem that the bytes spell
+pub answered : (line : CommandLine) (bytes : List ℕ) (instance : Instance) (text : List ℕ) → length bytes ≤ description_limit → Spells bytes instance → HasText line instance text → IsAnswerTo line bytes text
+answered line bytes instance text within spelled has =
+    record { instance = instance; described = record { within = within; spelled = spelled }; form = has.form; built = has.built; answer = has.answer }
 
--- the bytes spell no problem
-pub none_spelled : (bytes : List ℕ) (refusal : DescRefusal) (kind : DescKind) (line : ℕ) → refusal ≡ refusals.Fault kind line → ((instance : Instance) → Spells bytes instance → Fails refusal (read instance)) → IsNotBuilt bytes
-none_spelled bytes refusal kind line is only = inr (λ instance spelled built. absurd (clash instance (subst (λ r. Fails r (read instance)) is (only instance spelled))))
-  where
-    clash : (instance : Instance) → read instance ≡ Err (kind, line) → ⊥
-    clash instance e = absurd cc
+-- no text for the problem that they spell
+pub unanswered : (line : CommandLine) (bytes : List ℕ) (instance : Instance) (refusal : Refusal) → length bytes ≤ description_limit → Spells bytes instance → HasNoText line instance refusal → IsCause line bytes refusal
+unanswered line bytes instance refusals.Memory within spelled none = tt
+unanswered line bytes instance refusals.WrongShape within spelled none = (instance, record { within = within; spelled = spelled }, none)
+unanswered line bytes instance refusals.NotBuilt within spelled none = (instance, record { within = within; spelled = spelled }, none.0, none.1)
+unanswered line bytes instance refusals.Usage within spelled none = absurd none
+unanswered line bytes instance refusals.ReadFault within spelled none = absurd none
+unanswered line bytes instance refusals.WriteFault within spelled none = absurd none
+unanswered line bytes instance refusals.TooLong within spelled none = absurd none
+unanswered line bytes instance (refusals.BadDescription kind number) within spelled none = absurd none
 
--- the one problem that they spell is not solved
-pub one_spelled : (bytes : List ℕ) (here : Instance) → ¬ IsBuilt here → ((instance : Instance) → Spells bytes instance → read instance ≡ read here) → IsNotBuilt bytes
-one_spelled bytes here unbuilt only = inr (λ instance spelled built. unbuilt (subst IsBuilt (same instance here (only instance spelled)) built))
-  where
-    same : (x y : Instance) → read x ≡ read y → x ≡ y
-    same x y e = cc
+-- a fault of the bytes
+pub faulty : (bytes : List ℕ) (refusal : DescRefusal) (kind : DescKind) (number : ℕ) → length bytes ≤ description_limit → refusal ≡ faults.Fault kind number → Fails refusal (read_of bytes) → IsFaulty bytes (kind, number)
+faulty bytes refusal kind number within is fails = (let first : read_of bytes ≡ Err (kind, number) = subst (λ r. Fails r (read_of bytes)) is fails in record { within = within; first = first })
+
+-- what holds of the bytes that were read holds of the file
+pub of_file : (held : Option (List ℕ)) (bytes : List ℕ) (P : List ℕ → Type 0) → IfSome held (λ all. all ≡ bytes) → P bytes → IfSome held P
+of_file None bytes P same h = tt
+of_file (Some all) bytes P same h = subst P (sym same) h
+
+pub refused : (line : CommandLine) (held : Option (List ℕ)) (bytes : List ℕ) (before now : ℕ) (refusal : Refusal) → IfSome held (λ all. all ≡ bytes) → IsCause line bytes refusal → IsRefusal line held before now refusal
+refused line held bytes before now refusals.Memory same cause = tt
+refused line held bytes before now refusals.WrongShape same cause = of_file held bytes (λ all. IsCause line all refusals.WrongShape) same cause
+refused line held bytes before now refusals.NotBuilt same cause = of_file held bytes (λ all. IsCause line all refusals.NotBuilt) same cause
+refused line held bytes before now (refusals.BadDescription kind number) same cause = of_file held bytes (λ all. IsCause line all (refusals.BadDescription kind number)) same cause
+refused line held bytes before now refusals.Usage same cause = absurd cause
+refused line held bytes before now refusals.ReadFault same cause = absurd cause
+refused line held bytes before now refusals.WriteFault same cause = absurd cause
+refused line held bytes before now refusals.TooLong same cause = absurd cause
 
 -- a file that is too long
-pub too_many : (held : Option (List ℕ)) (P : List ℕ → Type 0) → IfSome held (λ all. (4194304 < length all) × P all) → IfSome held IsNotBuilt
+pub too_many : (held : Option (List ℕ)) (P : List ℕ → Type 0) → IfSome held (λ all. (4194304 < length all) × P all) → IfSome held (λ all. 4194304 < length all)
 too_many None P h = tt
-too_many (Some all) P h = inl h.0
+too_many (Some all) P h = h.0

@@ -3,7 +3,7 @@ use Rattle.std.specs.Prelude.{◌≡◌, ℕ, ◌<◌, ◌≤◌, Bool, List, le
 use Rattle.mat_sets.specs.Sums.{weight, AreWithin}
 use Rattle.mat_laws.specs.Ladders.{IsRung, IsCut, split_bound}
 use Rattle.mat_any.specs.Trees.{is_independent}
-use Rattle.mat_desc.specs.Instances.{Instance, pair}
+use Rattle.mat_desc.specs.Instances.{Instance, pair, list, graph, rooted, coloured, table}
 use Rattle.mat_cert.specs.Certificates.{Certificate, intersect, last_rung, certificate_text, IsRanged}
 use Rattle.mat_cert.specs.declared.answer.PricedRung.{PricedRung}
 
@@ -21,6 +21,11 @@ pub record IsRightLadder (n : ℕ) (p q : List ℕ → Bool) (w : List ℤ) (run
 -- the answer has the problem's number of elements, and is right for it
 abbrev pub IsRight : Instance → Certificate → Type 0
 IsRight (pair w first second) (intersect n rungs cut) = (n ≡ length w) × IsRightLadder n (is_independent first) (is_independent second) w rungs cut
+IsRight (list w matroids) answer = ⊥
+IsRight (graph vertices edges) answer = ⊥
+IsRight (rooted vertices root arcs costs) answer = ⊥
+IsRight (coloured vertices colours edges colour_of weights) answer = ⊥
+IsRight (table rows columns cells weights) answer = ⊥
 
 -- each number of its splits is within the bound for as many elements
 abbrev pub HasBoundedSplits : Certificate → Type 0

@@ -1,8 +1,7 @@
 use Rattle.std.proofs.Common.{arith}
-use Rattle.mat_any.specs.Views.{tree_of}
 use Rattle.mat_top.proofs.solve.solve_pair.Goals as goal
 
-pub returns-in_ok-answer-in-Uniform : goal.returns-in_ok-answer-in-Uniform
-returns-in_ok-answer-in-Uniform c =
+pub returns-in-Ok : goal.returns-in-Ok
+returns-in-Ok c =
     let size = c.requires.sound.3 in
-    rw c.in-Uniform.is (omega arith, c.in_ok-answer-in-Uniform.ensures c.in-Uniform.uniform.count c.in-Uniform.uniform.cap (rw c.in-Uniform.is at size) (omega arith))
+    rw c.in-Uniform.is (tt, omega arith, c.in-Ok.ensures c.in-Uniform.uniform.count c.in-Uniform.uniform.cap (rw c.in-Uniform.is at size) (omega arith))
