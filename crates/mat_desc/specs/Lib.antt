@@ -4,3 +4,4 @@ pub mod Faults
 pub mod Reading
 pub mod Views
 pub mod Soundness
+pub mod Canonical
