@@ -13,3 +13,5 @@ pub mod FormLaws
 pub mod InstanceLaws
 pub mod ProblemLaws
 pub mod Columns
+pub mod Writing
+pub mod CanonicalLaws

@@ -1,8 +1,9 @@
-//! What holds of every text.
+//! What holds of every text, and of every text that is written.
 
 ghost use Rattle.std.specs.Prelude.{◌≡◌, ◌↔◌, ◌⊎◌, ℕ, List, Ok, Err};
+ghost use Rattle.mat_desc.specs.Canonical.{canonical_text};
 ghost use Rattle.mat_desc.specs.Faults.{Fault};
-ghost use Rattle.mat_desc.specs.Grammar.{Spells};
+ghost use Rattle.mat_desc.specs.Grammar.{IsValid, Spells};
 ghost use Rattle.mat_desc.specs.Instances.{Instance};
 ghost use Rattle.mat_desc.specs.Reading.{read_of};
 
@@ -14,4 +15,11 @@ pub fn reading_laws()
     ensures either { (text : List ℕ) → ((instance : Instance) × Spells text instance) ⊎ ((fault : Fault) × (read_of text ≡ Err fault)) }
     ensures never_both { (text : List ℕ) (instance : Instance) (fault : Fault) → Spells text instance → read_of text ≡ Err fault → ⊥ }
     ensures one_fault { (text : List ℕ) (first second : Fault) → read_of text ≡ Err first → read_of text ≡ Err second → first ≡ second }
+{}
+
+/// The canonical text of a problem in range spells that problem. So two texts that spell problems spell the same one exactly where the
+/// canonical texts of their problems are equal.
+pub fn writing_laws()
+    ensures spelled { (instance : Instance) → IsValid instance → Spells (canonical_text instance) instance }
+    ensures equal { (s t : List ℕ) (p q : Instance) → Spells s p → Spells t q → (p ≡ q) ↔ (canonical_text p ≡ canonical_text q) }
 {}

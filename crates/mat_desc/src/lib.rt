@@ -1,4 +1,4 @@
-//! Descriptions of problems: the text format, and its reader, which names the first fault of a text that spells no problem.
+//! Descriptions of problems: the text format, its reader, which names the first fault of a text that spells no problem, and its writer.
 #![tactic(auto)]
 
 mod cursor;
@@ -9,10 +9,12 @@ mod matroid;
 mod problem;
 mod reading;
 mod refusal;
+mod write;
 
-pub use laws::reading_laws;
+pub use laws::{reading_laws, writing_laws};
 pub use problem::{Problem, read_problem};
 pub use refusal::{DescKind, DescRefusal};
+pub use write::write_problem;
 
 #[cfg(test)]
 mod tests;

@@ -2,6 +2,7 @@
 
 use crate::problem::{Problem, read_problem};
 use crate::refusal::{DescKind, DescRefusal};
+use crate::write::write_problem;
 use mat_any::AnyMatroid;
 use std::alloc::{AllocError, Global};
 use std::test::Fail;
@@ -187,5 +188,34 @@ fn first_faults(rt: HostRuntime) -> Result<(), Fail> {
     for (text, kind, line) in cases.iter() {
         assert_eq!(rt; fault_of(rt.alloc(), text)?, Some((*kind, *line)));
     }
+    Ok(())
+}
+
+#[test]
+fn a_class_is_written_in_rising_order(rt: HostRuntime) -> Result<(), Fail> {
+    let alloc = rt.alloc();
+    let text = b"matroids 1\npair 3\nweights 4 -1 3\npartition 1\nclass 1 2 0\nuniform 3\nend\n";
+    let Ok(problem) = read_problem(alloc, text) else {
+        assert!(rt; false);
+        return Ok(());
+    };
+    let written = write_problem(alloc, &problem)?;
+    assert_eq!(rt;
+        written.as_slice(),
+        b"matroids 1\npair 3\nweights 4 -1 3\npartition 1\nclass 1 0 2\nuniform 3\nend\n".as_slice()
+    );
+    Ok(())
+}
+
+#[test]
+fn a_rooted_graph_is_written(rt: HostRuntime) -> Result<(), Fail> {
+    let alloc = rt.alloc();
+    let text = b"matroids 1\nrooted 3 2 1\narc 1 0 -5\narc 1 2 1000000000000\nend\n";
+    let Ok(problem) = read_problem(alloc, text) else {
+        assert!(rt; false);
+        return Ok(());
+    };
+    let written = write_problem(alloc, &problem)?;
+    assert_eq!(rt; written.as_slice(), text.as_slice());
     Ok(())
 }

@@ -1,8 +1,9 @@
 //! The note of a refusal.
 
-ghost use Rattle.std.specs.Prelude.{◌≡◌, ◌≤◌, ◌<◌, [], List, flat_map, OnOk, OnErr};
+ghost use Rattle.std.specs.Prelude.{◌≡◌, ◌≤◌, ◌<◌, drop, pos, flat_map, OnOk, OnErr};
 ghost use Rattle.mat_shelf.specs.Faults.{Rose};
 ghost use Rattle.mat_shelf.specs.Writing.{Appended, AppendedPrefix};
+ghost use Rattle.mat_words.specs.Numbers.{numeral};
 ghost use Rattle.mat_top.specs.Statuses.{note_of};
 ghost use Rattle.mat_top.specs.Outcomes.{IsNoted};
 
@@ -41,14 +42,22 @@ fn put_text<N: Sink>(notes: &mut N, line: &[u8])
     let _ = put_all(notes, line);
 }
 
+// Writes the numeral of a number at the end of a buffer, and tells where it begins.
+fn number_into(buffer: &mut [u8; 40], n: u32) -> usize
+    ensures spelling { drop result buffer.new ≡ numeral (pos n) }
+    ensures within { result < 40 }
+{
+    spell_into(buffer, i128::from(n))
+}
+
 // Writes the note of a fault of the description.
 fn put_fault<N: Sink>(notes: &mut N, kind: DescKind, line: u32)
     ensures { IsNoted (note_of (Refusal.BadDescription kind line)) (N.written notes.old) (N.faults notes.old) (N.written notes.new) (N.faults notes.new) }
 {
     let mut number = [0; 40];
-    let number_at = spell_into(&mut number, i128::from(kind.number()));
+    let number_at = number_into(&mut number, kind.number());
     let mut place = [0; 40];
-    let place_at = spell_into(&mut place, i128::from(line));
+    let place_at = number_into(&mut place, line);
     put_line(
         notes,
         &[

@@ -6,10 +6,8 @@ use Rattle.mat_top.proofs.notes.put_fault.Goals as goal
 
 pub returns : goal.returns
 returns g c =
-    let number_spelled : drop c.spell_into-number_at.result c.spell_into-number_at.new.buffer ≡ numeral (pos (kind_number c.args.kind)) = rw (c.from.ensures, c.number.ensures) at c.spell_into-number_at.ensures.spelling in
-    let place_spelled : drop c.spell_into-place_at.result c.spell_into-place_at.new.buffer ≡ numeral (pos c.args.line) = rw c.from-2.ensures at c.spell_into-place_at.ensures.spelling in
-    let number : take (40 - c.spell_into-number_at.result) (drop c.spell_into-number_at.result c.spell_into-number_at.new.buffer) ≡ numeral (pos (kind_number c.args.kind)) =
-    piece_is c.spell_into-number_at.new.buffer c.spell_into-number_at.result (numeral (pos (kind_number c.args.kind))) c.spell_into-number_at.array_long number_spelled in
-    let place : take (40 - c.spell_into-place_at.result) (drop c.spell_into-place_at.result c.spell_into-place_at.new.buffer) ≡ numeral (pos c.args.line) =
-    piece_is c.spell_into-place_at.new.buffer c.spell_into-place_at.result (numeral (pos c.args.line)) c.spell_into-place_at.array_long place_spelled in
+    let number : take (40 - c.number_into-number_at.result) (drop c.number_into-number_at.result c.number_into-number_at.new.buffer) ≡ numeral (pos (kind_number c.args.kind)) =
+    piece_is c.number_into-number_at.new.buffer c.number_into-number_at.result (numeral (pos (kind_number c.args.kind))) c.number_into-number_at.array_long (rw c.number.ensures at c.number_into-number_at.ensures.spelling) in
+    let place : take (40 - c.number_into-place_at.result) (drop c.number_into-place_at.result c.number_into-place_at.new.buffer) ≡ numeral (pos c.args.line) =
+    piece_is c.number_into-place_at.new.buffer c.number_into-place_at.result (numeral (pos c.args.line)) c.number_into-place_at.array_long c.number_into-place_at.ensures.spelling in
     rw (number, place, c.as_slice.ensures, c.as_slice-2.ensures, c.as_bytes.ensures.value, c.name.ensures, c.as_slice-3.ensures, c.as_slice-4.ensures) at c.put_line.ensures

@@ -1,0 +1,73 @@
+-- The canonical text of a problem in range spells it: a class in rising order lists its own members. So two problems that are spelled are
+-- equal exactly where their canonical texts are.
+use Rattle.std.proofs.Common.{◌≡◌, ◌↔◌, ℕ, suc, List, [], ◌∷◌, ◌++◌, length, refl, sym, ap, subst, ◌∙◌, arith}
+use Rattle.std.specs.List.{All, flat_map}
+use Rattle.std.proofs.lemmas.List.{append_assoc}
+use Rattle.std.proofs.lemmas.List.Elements.{All-head, All-tail}
+use Rattle.mat_sets.specs.Sets.{IsSet}
+use Rattle.mat_sets.proofs.Ground.{AreDistinct-rising}
+use Rattle.mat_words.specs.Lines.{Line}
+use Rattle.mat_any.specs.Trees.{Tree, uniform, partition}
+use Rattle.mat_desc.specs.Instances.{Instance, pair, list, graph, rooted, coloured, table}
+use Rattle.mat_desc.specs.Grammar.{Lists, ClassLines, MatroidLines, MatroidsLines, InstanceLines, IsValidTree, IsValidMatroid, IsValid, Spells, end_line}
+use Rattle.mat_desc.specs.Canonical.{class_lines, matroid_lines, form_lines, canonical_lines, canonical_text}
+use Rattle.mat_desc.proofs.ProblemLaws.{one_problem}
+
+-- a set lists its own members
+set_lists : (n : ℕ) (set : List ℕ) → IsSet n set → Lists set set
+set_lists n set is = record { distinct = AreDistinct-rising set is.rising; members = λ x. refl }
+
+class_lines_spelled : (n : ℕ) (classes : List (List ℕ)) (caps : List ℕ) (rest : List Line) → length caps ≡ length classes → All (IsSet n) classes
+    → ClassLines classes caps (class_lines classes caps ++ rest) rest
+class_lines_spelled n [] [] rest same sets = refl
+class_lines_spelled n [] (cap ∷ caps) rest same sets = absurd (omega arith)
+class_lines_spelled n (set ∷ classes) [] rest same sets = absurd (omega arith)
+class_lines_spelled n (set ∷ classes) (cap ∷ caps) rest same sets = (
+  set,
+  class_lines classes caps ++ rest,
+  set_lists n set (All-head (IsSet n) set classes sets),
+  refl,
+  class_lines_spelled n classes caps rest (omega arith) (All-tail (IsSet n) set classes sets),
+)
+
+matroid_spelled : (n : ℕ) (tree : Tree) (rest : List Line) → IsValidTree n tree → MatroidLines tree (matroid_lines tree ++ rest) rest
+matroid_spelled n (uniform m cap) rest valid = refl
+matroid_spelled n (partition m classes caps) rest valid = (class_lines classes caps ++ rest, refl, class_lines_spelled n classes caps rest valid.1.as_many valid.1.sets)
+
+matroids_spelled : (n : ℕ) (matroids : List Tree) (rest : List Line) → All (IsValidMatroid n) matroids → MatroidsLines matroids (flat_map matroid_lines matroids ++ rest) rest
+matroids_spelled n [] rest valid = refl
+matroids_spelled n (matroid ∷ matroids) rest valid =
+    let behind = flat_map matroid_lines matroids ++ rest in
+    let here = matroid_spelled n matroid behind (All-head (IsValidMatroid n) matroid matroids valid).0 in (
+      behind,
+      subst (λ (ls : List Line). MatroidLines matroid ls behind) (sym (append_assoc (matroid_lines matroid) (flat_map matroid_lines matroids) rest)) here,
+      matroids_spelled n matroids rest (All-tail (IsValidMatroid n) matroid matroids valid),
+    )
+
+lines_spelled : (instance : Instance) → IsValid instance → InstanceLines instance (canonical_lines instance)
+lines_spelled (pair weights first second) valid =
+    let behind = matroid_lines second ++ end_line ∷ [] in
+    let here = matroid_spelled (length weights) first behind valid.1.0 in (
+      (matroid_lines first ++ matroid_lines second) ++ end_line ∷ [],
+      behind,
+      refl,
+      subst (λ (ls : List Line). MatroidLines first ls behind) (sym (append_assoc (matroid_lines first) (matroid_lines second) (end_line ∷ []))) here,
+      matroid_spelled (length weights) second (end_line ∷ []) valid.2.0,
+    )
+lines_spelled (list weights matroids) valid = (flat_map matroid_lines matroids ++ end_line ∷ [], refl, matroids_spelled (length weights) matroids (end_line ∷ []) valid.3)
+lines_spelled (graph vertices edges) valid = refl
+lines_spelled (rooted vertices root arcs costs) valid = refl
+lines_spelled (coloured vertices colours edges colour_of weights) valid = refl
+lines_spelled (table rows columns cells weights) valid = refl
+
+-- the canonical text of a problem spells it
+pub canonical_spelled : (instance : Instance) → IsValid instance → Spells (canonical_text instance) instance
+unfolding canonical_text
+canonical_spelled instance valid = record { valid = valid; lines = canonical_lines instance; spelled = lines_spelled instance valid; whole = refl }
+
+-- problems that are spelled are equal where their canonical texts are
+pub canonical_equal : (s t : List ℕ) (p q : Instance) → Spells s p → Spells t q → (p ≡ q) ↔ (canonical_text p ≡ canonical_text q)
+canonical_equal s t p q first second = (
+  λ e. ap canonical_text e,
+  λ e. one_problem (canonical_text p) p q (canonical_spelled p first.valid) (subst (λ (text : List ℕ). Spells text q) (sym e) (canonical_spelled q second.valid)),
+)

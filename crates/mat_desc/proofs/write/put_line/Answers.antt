@@ -1,0 +1,12 @@
+use Rattle.std.proofs.Common.{◌++◌, ◌∷◌, pos, arith, rules}
+use Rattle.mat_words.specs.Numbers.{numeral}
+use Rattle.mat_desc.proofs.Writing.{item_written, line_written}
+use Rattle.mat_desc.proofs.write.put_line.Goals as goal
+
+pub returns : goal.returns
+returns c =
+    line_written numeral c.args.out.now.items c.args.keyword.now c.args.numbers.now c.loop-z.z-index c.loop-z.out.items _ (omega arith) c.loop-z.invariant (search rules)
+
+pub loop-z-preserved : goal.loop-z-preserved
+loop-z-preserved c =
+    item_written (λ z. 32 ∷ numeral z) (c.args.out.now.items ++ c.args.keyword.now) c.args.numbers.now c.loop-z.z-index (pos 0) c.loop-z.out.items _ (omega arith) c.loop-z.invariant (search rules)

@@ -1,0 +1,8 @@
+use Rattle.std.proofs.Common.{◌≡◌, ◌++◌, ◌∷◌, take}
+use Rattle.std.specs.List.{flat_map}
+use Rattle.mat_words.specs.Numbers.{numeral}
+use Rattle.mat_desc.proofs.write.put_line.Given as goal
+
+-- the keyword stands there, and behind it the numbers so far
+abbrev pub invariant-loop-z : goal.invariant-loop-z
+invariant-loop-z l = l.out.items ≡ (l.fn.out.items ++ l.keyword) ++ flat_map (λ z. 32 ∷ numeral z) (take l.z-index l.numbers)

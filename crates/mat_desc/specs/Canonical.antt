@@ -1,0 +1,43 @@
+-- The text of a problem that is written: each class in rising order, and everything else in its own order.
+use Rattle.std.specs.Prelude.{ℕ, List, [], ◌∷◌, ◌++◌, length, map, codes, ℤ, pos}
+use Rattle.std.specs.List.{zip, flat_map}
+use Rattle.mat_words.specs.Numbers.{numeral, numerals}
+use Rattle.mat_words.specs.Lines.{Line, text_of}
+use Rattle.mat_any.specs.Trees.{Tree, uniform, partition}
+use Rattle.mat_desc.specs.Grammar.{version_line, end_line, edge_line, weighted_line, coloured_edge_line}
+use Rattle.mat_desc.specs.Instances.{Instance, pair, list, graph, rooted, coloured, table}
+
+-- a line of a keyword and numbers
+abbrev pub numbers_line : List ℕ → List ℤ → Line
+numbers_line keyword numbers = keyword ∷ map numeral numbers
+
+-- the line of a class and its cap
+abbrev pub class_line : List ℕ × ℕ → Line
+class_line item = codes "class" ∷ numeral (pos item.1) ∷ numerals item.0
+
+-- a line for each class with its cap
+abbrev pub class_lines : List (List ℕ) → List ℕ → List Line
+class_lines classes caps = map class_line (zip classes caps)
+
+-- the lines of a matroid
+abbrev pub matroid_lines : Tree → List Line
+matroid_lines (uniform n cap) = (codes "uniform" ∷ numeral (pos cap) ∷ []) ∷ []
+matroid_lines (partition n classes caps) = (codes "partition" ∷ numeral (pos (length classes)) ∷ []) ∷ class_lines classes caps
+
+-- the lines between the first and the last: the form line and those that follow it
+abbrev pub form_lines : Instance → List Line
+form_lines (pair weights first second) = (codes "pair" ∷ numeral (pos (length weights)) ∷ []) ∷ numbers_line (codes "weights") weights ∷ (matroid_lines first ++ matroid_lines second)
+form_lines (list weights matroids) = (codes "list" ∷ numeral (pos (length weights)) ∷ numeral (pos (length matroids)) ∷ []) ∷ numbers_line (codes "weights") weights ∷ flat_map matroid_lines matroids
+form_lines (graph vertices edges) = (codes "graph" ∷ numeral (pos vertices) ∷ numeral (pos (length edges)) ∷ []) ∷ map edge_line edges
+form_lines (rooted vertices root arcs costs) = (codes "rooted" ∷ numeral (pos vertices) ∷ numeral (pos (length arcs)) ∷ numeral (pos root) ∷ []) ∷ map (weighted_line (codes "arc")) (zip arcs costs)
+form_lines (coloured vertices colours edges colour_of weights) = (codes "coloured" ∷ numeral (pos vertices) ∷ numeral (pos (length edges)) ∷ numeral (pos colours) ∷ [])
+    ∷ map coloured_edge_line (zip edges (zip colour_of weights))
+form_lines (table rows columns cells weights) = (codes "table" ∷ numeral (pos rows) ∷ numeral (pos columns) ∷ numeral (pos (length cells)) ∷ []) ∷ map (weighted_line (codes "cell")) (zip cells weights)
+
+-- the lines of a problem
+abbrev pub canonical_lines : Instance → List Line
+canonical_lines instance = version_line ∷ (form_lines instance ++ end_line ∷ [])
+
+-- the canonical text of a problem
+unfoldable pub canonical_text : Instance → List ℕ
+canonical_text instance = text_of (canonical_lines instance)

@@ -1,0 +1,332 @@
+//! The canonical text of a problem.
+
+ghost use Rattle.std.specs.Prelude.{◌≡◌, ◌++◌, ◌∷◌, [], codes, map, pos, IfOk, OnOk};
+ghost use Rattle.std.specs.List.{zip, flat_map};
+ghost use Rattle.mat_words.specs.Numbers.{numeral};
+ghost use Rattle.mat_words.specs.Lines.{text_of};
+ghost use Rattle.mat_any.specs.Trees.{partition};
+ghost use Rattle.mat_any.specs.Views.{tree_of};
+ghost use Rattle.mat_desc.specs.Grammar.{edge_line, weighted_line, coloured_edge_line};
+ghost use Rattle.mat_desc.specs.Instances.{pair, list, graph, rooted, coloured, table};
+ghost use Rattle.mat_desc.specs.Canonical.{numbers_line, class_line, class_lines, matroid_lines, form_lines, canonical_text};
+ghost use Rattle.mat_desc.specs.Views.{instance_of};
+
+use crate::problem::Problem;
+use mat_any::AnyMatroid;
+use mat_count::Partition;
+use mat_sets::ElemSet;
+use mat_words::put_number;
+use std::alloc::{AllocError, Global};
+
+/// Appends a number as the next word of a line.
+fn put_number_word(out: &mut Vec<u8>, number: i128) -> Result<(), AllocError>
+    ensures { OnOk result (out.new.items ≡ out.old.items ++ 32 ∷ numeral number) }
+{
+    out.push(b' ')?;
+    put_number(out, number)?;
+    Ok(())
+}
+
+/// Appends a line of a keyword and numbers.
+fn put_line(out: &mut Vec<u8>, keyword: &[u8], numbers: &[i128]) -> Result<(), AllocError>
+    ensures { OnOk result (out.new.items ≡ out.old.items ++ text_of (numbers_line keyword.now numbers.now ∷ [])) }
+{
+    out.extend_from_slice(keyword)?;
+    for z in numbers {
+        put_number_word(out, *z)?;
+    }
+    out.push(b'\n')?;
+    Ok(())
+}
+
+/// Appends the line of a class and its cap.
+fn put_class_line(out: &mut Vec<u8>, class: &[u32], cap: u32) -> Result<(), AllocError>
+    ensures { OnOk result (out.new.items ≡ out.old.items ++ text_of (class_line (class.now, cap) ∷ [])) }
+{
+    out.extend_from_slice(b"class")?;
+    put_number_word(out, i128::from(cap))?;
+    for x in class {
+        put_number_word(out, i128::from(*x))?;
+    }
+    out.push(b'\n')?;
+    Ok(())
+}
+
+/// Appends a line for each class with its cap.
+fn put_class_lines(out: &mut Vec<u8>, classes: &[ElemSet], caps: &[u32]) -> Result<(), AllocError>
+    ensures { OnOk result (out.new.items ≡ out.old.items ++ text_of (class_lines classes.now caps.now)) }
+{
+    for i in 0..classes.len().min(caps.len()) {
+        put_class_line(out, classes[i].as_slice(), caps[i])?;
+    }
+    Ok(())
+}
+
+/// Appends the lines of a partition matroid.
+fn put_partition(out: &mut Vec<u8>, matroid: &Partition) -> Result<(), AllocError>
+    ensures { OnOk result (out.new.items ≡ out.old.items
+        ++ text_of (matroid_lines (partition matroid.now.count matroid.now.classes matroid.now.caps))) }
+{
+    let classes = matroid.classes().as_slice();
+    put_line(out, b"partition", &[classes.len() as i128])?;
+    put_class_lines(out, classes, matroid.caps())?;
+    Ok(())
+}
+
+/// Appends the lines of a matroid.
+fn put_matroid(out: &mut Vec<u8>, matroid: &AnyMatroid) -> Result<(), AllocError>
+    ensures { OnOk result (out.new.items ≡ out.old.items ++ text_of (matroid_lines (tree_of matroid.now))) }
+{
+    match matroid {
+        AnyMatroid::Uniform(uniform) => put_line(out, b"uniform", &[i128::from(uniform.cap())]),
+        AnyMatroid::Partition(partition) => put_partition(out, partition),
+    }
+}
+
+/// Appends the lines of each matroid.
+fn put_matroids(out: &mut Vec<u8>, matroids: &[AnyMatroid]) -> Result<(), AllocError>
+    ensures { OnOk result (out.new.items ≡ out.old.items ++ text_of (flat_map matroid_lines (map tree_of matroids.now))) }
+{
+    for matroid in matroids {
+        put_matroid(out, matroid)?;
+    }
+    Ok(())
+}
+
+/// Appends a line for each edge.
+fn put_edge_lines(out: &mut Vec<u8>, edges: &[(u32, u32)]) -> Result<(), AllocError>
+    ensures { OnOk result (out.new.items ≡ out.old.items ++ text_of (map edge_line edges.now)) }
+{
+    for edge in edges {
+        put_line(out, b"edge", &[i128::from(edge.0), i128::from(edge.1)])?;
+    }
+    Ok(())
+}
+
+/// Appends a line of this keyword with two numbers and a weight.
+fn put_weighted_line(
+    out: &mut Vec<u8>,
+    keyword: &[u8],
+    pair: (u32, u32),
+    weight: i128,
+) -> Result<(), AllocError>
+    ensures { OnOk result (out.new.items ≡ out.old.items ++ text_of (weighted_line keyword.now (pair, weight) ∷ [])) }
+{
+    put_line(
+        out,
+        keyword,
+        &[i128::from(pair.0), i128::from(pair.1), weight],
+    )
+}
+
+/// Appends a line of this keyword for each pair of numbers with its weight.
+fn put_weighted_lines(
+    out: &mut Vec<u8>,
+    keyword: &[u8],
+    pairs: &[(u32, u32)],
+    weights: &[i128],
+) -> Result<(), AllocError>
+    ensures { OnOk result (out.new.items ≡ out.old.items
+        ++ text_of (map (weighted_line keyword.now) (zip pairs.now weights.now))) }
+{
+    for i in 0..pairs.len().min(weights.len()) {
+        put_weighted_line(out, keyword, pairs[i], weights[i])?;
+    }
+    Ok(())
+}
+
+/// Appends the line of an edge with its colour and its weight.
+fn put_coloured_edge_line(
+    out: &mut Vec<u8>,
+    edge: (u32, u32),
+    colour: u32,
+    weight: i128,
+) -> Result<(), AllocError>
+    ensures { OnOk result (out.new.items ≡ out.old.items ++ text_of (coloured_edge_line (edge, (colour, weight)) ∷ [])) }
+{
+    put_line(
+        out,
+        b"edge",
+        &[
+            i128::from(edge.0),
+            i128::from(edge.1),
+            i128::from(colour),
+            weight,
+        ],
+    )
+}
+
+/// Appends a line for each edge with its colour and its weight.
+fn put_coloured_edge_lines(
+    out: &mut Vec<u8>,
+    edges: &[(u32, u32)],
+    colour_of: &[u32],
+    weights: &[i128],
+) -> Result<(), AllocError>
+    ensures { OnOk result (out.new.items ≡ out.old.items
+        ++ text_of (map coloured_edge_line (zip edges.now (zip colour_of.now weights.now)))) }
+{
+    for i in 0..edges.len().min(colour_of.len().min(weights.len())) {
+        put_coloured_edge_line(out, edges[i], colour_of[i], weights[i])?;
+    }
+    Ok(())
+}
+
+/// Appends the lines of two weighted matroids.
+fn put_pair(
+    out: &mut Vec<u8>,
+    weights: &[i128],
+    first: &AnyMatroid,
+    second: &AnyMatroid,
+) -> Result<(), AllocError>
+    ensures { OnOk result (out.new.items ≡ out.old.items
+        ++ text_of (form_lines (pair weights.now (tree_of first.now) (tree_of second.now)))) }
+{
+    put_line(out, b"pair", &[weights.len() as i128])?;
+    put_line(out, b"weights", weights)?;
+    put_matroid(out, first)?;
+    put_matroid(out, second)?;
+    Ok(())
+}
+
+/// Appends the lines of a list of weighted matroids.
+fn put_list(out: &mut Vec<u8>, weights: &[i128], matroids: &[AnyMatroid]) -> Result<(), AllocError>
+    ensures { OnOk result (out.new.items ≡ out.old.items
+        ++ text_of (form_lines (list weights.now (map tree_of matroids.now)))) }
+{
+    put_line(
+        out,
+        b"list",
+        &[weights.len() as i128, matroids.len() as i128],
+    )?;
+    put_line(out, b"weights", weights)?;
+    put_matroids(out, matroids)?;
+    Ok(())
+}
+
+/// Appends the lines of a graph.
+fn put_graph(out: &mut Vec<u8>, vertices: u32, edges: &[(u32, u32)]) -> Result<(), AllocError>
+    ensures { OnOk result (out.new.items ≡ out.old.items ++ text_of (form_lines (graph vertices edges.now))) }
+{
+    put_line(out, b"graph", &[i128::from(vertices), edges.len() as i128])?;
+    put_edge_lines(out, edges)?;
+    Ok(())
+}
+
+/// Appends the lines of a directed graph with a root.
+fn put_rooted(
+    out: &mut Vec<u8>,
+    vertices: u32,
+    root: u32,
+    arcs: &[(u32, u32)],
+    costs: &[i128],
+) -> Result<(), AllocError>
+    ensures { OnOk result (out.new.items ≡ out.old.items
+        ++ text_of (form_lines (rooted vertices root arcs.now costs.now))) }
+{
+    put_line(
+        out,
+        b"rooted",
+        &[i128::from(vertices), arcs.len() as i128, i128::from(root)],
+    )?;
+    put_weighted_lines(out, b"arc", arcs, costs)?;
+    Ok(())
+}
+
+/// Appends the lines of a graph with coloured edges.
+fn put_coloured(
+    out: &mut Vec<u8>,
+    vertices: u32,
+    colours: u32,
+    edges: &[(u32, u32)],
+    colour_of: &[u32],
+    weights: &[i128],
+) -> Result<(), AllocError>
+    ensures { OnOk result (out.new.items ≡ out.old.items
+        ++ text_of (form_lines (coloured vertices colours edges.now colour_of.now weights.now))) }
+{
+    put_line(
+        out,
+        b"coloured",
+        &[
+            i128::from(vertices),
+            edges.len() as i128,
+            i128::from(colours),
+        ],
+    )?;
+    put_coloured_edge_lines(out, edges, colour_of, weights)?;
+    Ok(())
+}
+
+/// Appends the lines of a table.
+fn put_table(
+    out: &mut Vec<u8>,
+    rows: u32,
+    columns: u32,
+    cells: &[(u32, u32)],
+    weights: &[i128],
+) -> Result<(), AllocError>
+    ensures { OnOk result (out.new.items ≡ out.old.items
+        ++ text_of (form_lines (table rows columns cells.now weights.now))) }
+{
+    put_line(
+        out,
+        b"table",
+        &[i128::from(rows), i128::from(columns), cells.len() as i128],
+    )?;
+    put_weighted_lines(out, b"cell", cells, weights)?;
+    Ok(())
+}
+
+/// Appends the form line and the lines that follow it.
+fn put_form(out: &mut Vec<u8>, problem: &Problem) -> Result<(), AllocError>
+    ensures { OnOk result (out.new.items ≡ out.old.items ++ text_of (form_lines (instance_of problem.now))) }
+{
+    match problem {
+        Problem::Pair {
+            weights,
+            first,
+            second,
+        } => put_pair(out, weights.as_slice(), first, second),
+        Problem::List { weights, matroids } => put_list(out, weights.as_slice(), matroids),
+        Problem::Graph { vertices, edges } => put_graph(out, *vertices, edges.as_slice()),
+        Problem::Rooted {
+            vertices,
+            root,
+            arcs,
+            costs,
+        } => put_rooted(out, *vertices, *root, arcs.as_slice(), costs.as_slice()),
+        Problem::Coloured {
+            vertices,
+            colours,
+            edges,
+            colour_of,
+            weights,
+        } => put_coloured(
+            out,
+            *vertices,
+            *colours,
+            edges.as_slice(),
+            colour_of,
+            weights.as_slice(),
+        ),
+        Problem::Table {
+            rows,
+            columns,
+            cells,
+            weights,
+        } => put_table(out, *rows, *columns, cells.as_slice(), weights.as_slice()),
+    }
+}
+
+/// The canonical text of a problem: each class in rising order, and everything else in its own order. It takes memory for the text alone,
+/// and an error is want of it.
+pub fn write_problem(alloc: Global, problem: &Problem) -> Result<Vec<u8>, AllocError>
+    ensures { IfOk result (λ v. v.items ≡ canonical_text (instance_of problem.now)) }
+{
+    let mut out = Vec::new(alloc);
+    out.extend_from_slice(b"matroids 1\n")?;
+    put_form(&mut out, problem)?;
+    out.extend_from_slice(b"end\n")?;
+    Ok(out)
+}
