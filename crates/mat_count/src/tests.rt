@@ -30,10 +30,12 @@ fn exchanges_at_sets_of_two_and_of_one(rt: HostRuntime) -> Result<(), Fail> {
     let alloc = rt.alloc();
     let matroid = Uniform::new(4, 2);
     let two = ElemSet::all_below(alloc, 2)?;
+    assert!(rt; matroid.independent(alloc, &two)?);
     let full = matroid.circuit(alloc, &two, 2)?;
     assert!(rt; !full.addable);
     assert!(rt; full.with == two);
     let one = ElemSet::all_below(alloc, 1)?;
+    assert!(rt; matroid.independent(alloc, &one)?);
     let smaller = matroid.circuit(alloc, &one, 2)?;
     assert!(rt; smaller.addable);
     assert!(rt; smaller.with == one);
