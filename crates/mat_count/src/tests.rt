@@ -24,6 +24,24 @@ fn at_most_two_of_three(rt: HostRuntime) -> Result<(), Fail> {
     Ok(())
 }
 
+#[test]
+#[tactic(auto, unfolding(mat_sets::specs::Sets::all_below))]
+fn exchanges_at_sets_of_two_and_of_one(rt: HostRuntime) -> Result<(), Fail> {
+    let alloc = rt.alloc();
+    let matroid = Uniform::new(4, 2);
+    let two = ElemSet::all_below(alloc, 2)?;
+    assert!(rt; matroid.independent(alloc, &two)?);
+    let full = matroid.circuit(alloc, &two, 2)?;
+    assert!(rt; !full.addable);
+    assert!(rt; full.with == two);
+    let one = ElemSet::all_below(alloc, 1)?;
+    assert!(rt; matroid.independent(alloc, &one)?);
+    let smaller = matroid.circuit(alloc, &one, 2)?;
+    assert!(rt; smaller.addable);
+    assert!(rt; smaller.with == one);
+    Ok(())
+}
+
 // The set of two elements, which may be the same.
 fn set_of(alloc: Global, first: u32, second: u32) -> Result<ElemSet, AllocError>
     ensures { IfOk result (λ s. s ≡ with_one (with_one [] first) second) }

@@ -8,3 +8,4 @@ pub mod Cuts
 pub mod HeaviestSteps
 pub mod Triangular
 pub mod PathSides
+pub mod Rows

@@ -1,5 +1,5 @@
 -- Exchanges of elements at independent sets (Schrijver, chapter 39).
-use Rattle.std.specs.Prelude.{◌≡◌, ◌≢◌, ℕ, ◌<◌, Bool, true, false, List, length, slice_index}
+use Rattle.std.specs.Prelude.{◌≡◌, ◌≢◌, ℕ, ◌<◌, Bool, true, false, List, length, filter, slice_index}
 use Rattle.mat_sets.specs.Sets.{is_member, with_one, without_one}
 
 -- a member of B outside A for which x can be exchanged at both: A - x + partner and B - partner + x are independent
@@ -20,3 +20,9 @@ pub record IsTriangular (independent : List ℕ → Bool) (I ys xs : List ℕ) :
   pub xs_differ : (i j : ℕ) → i < j → j < length ys → slice_index xs i ≢ slice_index xs j
   pub own : (i : ℕ) → i < length ys → independent (with_one (without_one I (slice_index ys i)) (slice_index xs i)) ≡ true
   pub none_later : (i j : ℕ) → i < j → j < length ys → independent (with_one (without_one I (slice_index ys j)) (slice_index xs i)) ≡ false
+
+-- the exchanges of x at an independent set I without x: whether I + x is independent, and the y of I, in rising order,
+-- with I - y + x independent
+pub record IsRow (independent : List ℕ → Bool) (I : List ℕ) (x : ℕ) (addable : Bool) (with : List ℕ) : Type 0 where
+  pub adds : addable ≡ independent (with_one I x)
+  pub trades : with ≡ filter (λ y. independent (with_one (without_one I y) x)) I

@@ -2,8 +2,10 @@
 #![tactic(auto)]
 
 mod bases;
+mod exchange;
 pub mod laws;
 mod matroid;
 
 pub use bases::{grow_base, rank_of};
+pub use exchange::Exchange;
 pub use matroid::Matroid;

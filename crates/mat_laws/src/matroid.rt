@@ -1,9 +1,11 @@
 //! The trait of matroids.
 
-ghost use Rattle.std.specs.Prelude.{◌≡◌, ◌<◌, ◌&&◌, ℕ, List, Bool, true, not, if◌then◌else◌, IfOk, OnErr};
-ghost use Rattle.mat_sets.specs.Sets.{AllBelow, IsSubset, is_member, with_one, union};
+ghost use Rattle.std.specs.Prelude.{◌≡◌, ◌<◌, ◌&&◌, ℕ, List, Bool, true, false, not, if◌then◌else◌, IfOk, OnErr};
+ghost use Rattle.mat_sets.specs.Sets.{AllBelow, IsRising, IsSubset, is_member, with_one, without_one, union};
+ghost use Rattle.mat_laws.specs.Exchanges.{IsRow};
 ghost use Rattle.mat_laws.specs.Matroids.{IsMatroid, IsMaximal};
 
+use crate::exchange::Exchange;
 use mat_sets::ElemSet;
 use std::alloc::{AllocError, Global};
 
@@ -83,6 +85,52 @@ pub trait Matroid: Sync + Drop {
             self.add_if_independent(alloc, &mut base, *x)?;
         }
         Ok(base)
+    }
+
+    /// Whether the set stays independent without its member y. The set is changed and changed back; after an error it
+    /// lacks y. The only error is want of memory.
+    #[tactic(auto, using(mat_sets::proofs::Changes::set_changes, mat_sets::proofs::Members::set_rises))]
+    fn independent_without(
+        &self,
+        alloc: Global,
+        set: &mut ElemSet,
+        y: u32,
+    ) -> Result<bool, AllocError>
+        requires sound { sound self.now }
+        requires set { AllBelow (ground_size self.now) set.old }
+        requires member { is_member y set.old ≡ true }
+        ensures answer { IfOk result (λ b. b ≡ indep self.now (without_one set.old y)) }
+        ensures set { IfOk result (λ b. set.new ≡ set.old) }
+        ensures err { OnErr result (set.new ≡ without_one set.old y) }
+    {
+        set.take_out(y);
+        let answer = self.independent(alloc, set)?;
+        set.add(y)?;
+        Ok(answer)
+    }
+
+    /// The exchanges of an element x outside an independent set: whether it can be added, and for which members it can
+    /// be exchanged (Schrijver, chapter 39). One question of independence, and one more for each member. The only error
+    /// is want of memory.
+    fn circuit(&self, alloc: Global, base: &ElemSet, x: u32) -> Result<Exchange, AllocError>
+        requires sound { sound self.now }
+        requires base { indep self.now base.now ≡ true }
+        requires below { x < ground_size self.now }
+        requires outside { is_member x base.now ≡ false }
+        ensures row { IfOk result (λ e. IsRow (indep self.now) base.now x e.addable e.with) }
+        ensures rises { IfOk result (λ e. IsRising e.with) }
+    {
+        self.lawful();
+        let mut larger = base.copy(alloc)?;
+        larger.add(x)?;
+        let addable = self.independent(alloc, &larger)?;
+        let mut with = ElemSet::new(alloc);
+        for y in base.as_slice() {
+            if self.independent_without(alloc, &mut larger, *y)? {
+                with.add(*y)?;
+            }
+        }
+        Ok(Exchange { addable, with })
     }
 
     ghost laws: { (m : Self) → sound m → IsMatroid (ground_size m) (indep m) };
