@@ -1,6 +1,6 @@
 -- The canonical text of a problem in range spells it: a class in rising order lists its own members. So two problems that are spelled are
 -- equal exactly where their canonical texts are.
-use Rattle.std.proofs.Common.{◌≡◌, ◌↔◌, ℕ, suc, List, [], ◌∷◌, ◌++◌, length, refl, sym, ap, subst, ◌∙◌, arith}
+use Rattle.std.proofs.Common.{◌≡◌, ◌↔◌, ℕ, List, [], ◌∷◌, ◌++◌, length, refl, sym, ap, subst, arith}
 use Rattle.std.specs.List.{All, flat_map}
 use Rattle.std.proofs.lemmas.List.{append_assoc}
 use Rattle.std.proofs.lemmas.List.Elements.{All-head, All-tail}
@@ -10,7 +10,7 @@ use Rattle.mat_words.specs.Lines.{Line}
 use Rattle.mat_any.specs.Trees.{Tree, uniform, partition}
 use Rattle.mat_desc.specs.Instances.{Instance, pair, list, graph, rooted, coloured, table}
 use Rattle.mat_desc.specs.Grammar.{Lists, ClassLines, MatroidLines, MatroidsLines, InstanceLines, IsValidTree, IsValidMatroid, IsValid, Spells, end_line}
-use Rattle.mat_desc.specs.Canonical.{class_lines, matroid_lines, form_lines, canonical_lines, canonical_text}
+use Rattle.mat_desc.specs.Canonical.{class_lines, matroid_lines, canonical_lines, canonical_text}
 use Rattle.mat_desc.proofs.ProblemLaws.{one_problem}
 
 -- a set lists its own members

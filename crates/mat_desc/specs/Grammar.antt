@@ -1,5 +1,5 @@
 -- Which problems a description may state, and which texts spell one.
-use Rattle.std.specs.Prelude.{◌≡◌, ℕ, ◌≤◌, ◌^◌, List, [], ◌∷◌, ◌++◌, ◌<◌, length, map, codes, ℤ, pos, neg_ℤ, ◌≤ℤ◌, All}
+use Rattle.std.specs.Prelude.{◌≡◌, ℕ, ◌≤◌, ◌^◌, List, [], ◌∷◌, ◌++◌, ◌<◌, length, map, codes, ℤ, pos, All}
 use Rattle.std.specs.List.{zip}
 use Rattle.mat_sets.specs.Sets.{is_member, IsSet, AreDistinct}
 use Rattle.mat_sets.specs.Sums.{IsWithin}

@@ -1,4 +1,4 @@
-use Rattle.std.proofs.Common.{arith, rules}
+use Rattle.std.proofs.Common.{rules}
 use Rattle.mat_desc.specs.Canonical.{class_line}
 use Rattle.mat_desc.proofs.Writing.{pair_written, pairs_written}
 use Rattle.mat_desc.proofs.write.put_class_lines.Goals as goal

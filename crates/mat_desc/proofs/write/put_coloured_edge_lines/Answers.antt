@@ -1,4 +1,4 @@
-use Rattle.std.proofs.Common.{arith, rules, pos}
+use Rattle.std.proofs.Common.{rules, pos}
 use Rattle.mat_desc.specs.Grammar.{coloured_edge_line}
 use Rattle.mat_desc.proofs.Writing.{triple_written, triples_written}
 use Rattle.mat_desc.proofs.write.put_coloured_edge_lines.Goals as goal

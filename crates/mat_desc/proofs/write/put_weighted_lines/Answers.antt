@@ -1,4 +1,4 @@
-use Rattle.std.proofs.Common.{arith, rules, pos}
+use Rattle.std.proofs.Common.{rules, pos}
 use Rattle.mat_desc.specs.Grammar.{weighted_line}
 use Rattle.mat_desc.proofs.Writing.{pair_written, pairs_written}
 use Rattle.mat_desc.proofs.write.put_weighted_lines.Goals as goal
