@@ -137,7 +137,7 @@ fn the_largest_weights_are_added(rt: HostRuntime) -> Result<(), Fail> {
 #[test]
 fn a_second_matroid_that_is_not_free_is_not_built(rt: HostRuntime) -> Result<(), Fail> {
     let alloc = rt.alloc();
-    for text in [TWO_PARTITIONS, SMALL_CAP, "x"] {
+    for text in [TWO_PARTITIONS, SMALL_CAP] {
         let mut out = large_sink(alloc)?;
         let mut notes = large_sink(alloc)?;
         let words = ["intersect", "f"];
@@ -150,13 +150,143 @@ fn a_second_matroid_that_is_not_free_is_not_built(rt: HostRuntime) -> Result<(),
 }
 
 #[test]
+fn a_form_that_is_no_pair_is_a_wrong_shape(rt: HostRuntime) -> Result<(), Fail> {
+    let alloc = rt.alloc();
+    let mut out = large_sink(alloc)?;
+    let mut notes = large_sink(alloc)?;
+    let text = "matroids 1\nlist 0 1\nweights\nuniform 0\nend\n";
+    let status = ended(
+        alloc,
+        &["intersect", "f"],
+        text,
+        Vec::new(alloc),
+        &mut out,
+        &mut notes,
+    )?;
+    assert_eq!(rt; status, Status::WrongShape);
+    assert!(rt; out.taken().is_empty());
+    assert_eq!(rt; notes.taken(), b"refused: wrong shape\n".as_slice());
+    Ok(())
+}
+
+#[test]
+fn show_sorts_the_classes(rt: HostRuntime) -> Result<(), Fail> {
+    let alloc = rt.alloc();
+    let mut out = large_sink(alloc)?;
+    let mut notes = large_sink(alloc)?;
+    let text = "matroids 1\npair 3\nweights 4 -1 3\npartition 1\nclass 1 2 0\nuniform 3\nend\n";
+    let status = ended(
+        alloc,
+        &["show", "f"],
+        text,
+        Vec::new(alloc),
+        &mut out,
+        &mut notes,
+    )?;
+    assert_eq!(rt; status, Status::Done);
+    assert_eq!(rt; out.taken(), ONE_CLASS.as_bytes());
+    assert!(rt; notes.taken().is_empty());
+    Ok(())
+}
+
+#[test]
+fn show_gives_a_graph_back(rt: HostRuntime) -> Result<(), Fail> {
+    let alloc = rt.alloc();
+    let mut out = large_sink(alloc)?;
+    let mut notes = large_sink(alloc)?;
+    let text =
+        "matroids 1\ngraph 4 6\nedge 0 1\nedge 0 2\nedge 0 3\nedge 1 2\nedge 1 3\nedge 2 3\nend\n";
+    let status = ended(
+        alloc,
+        &["show", "f"],
+        text,
+        Vec::new(alloc),
+        &mut out,
+        &mut notes,
+    )?;
+    assert_eq!(rt; status, Status::Done);
+    assert_eq!(rt; out.taken(), text.as_bytes());
+    Ok(())
+}
+
+#[test]
+fn a_note_names_the_first_fault_and_its_line(rt: HostRuntime) -> Result<(), Fail> {
+    let alloc = rt.alloc();
+    let faults = [
+        (
+            "matroids 2\npair 0\n",
+            "refused: description 2 Version line 1\n",
+        ),
+        (
+            "matroids 1\npair 00\n",
+            "refused: description 4 NumberSpelling line 2\n",
+        ),
+        (
+            "matroids 1\npair 0\nweights 1\n",
+            "refused: description 7 TooManyWords line 3\n",
+        ),
+        (
+            "matroids 1\npair 0\nweights\nuniform  0\n",
+            "refused: description 1 BadByte line 4\n",
+        ),
+        (
+            "matroids 1\npair 0\nweights\nmatroid\n",
+            "refused: description 3 UnknownWord line 4\n",
+        ),
+        (
+            "matroids 1\npair 3\nweights 4 -1\n",
+            "refused: description 6 TooFewWords line 3\n",
+        ),
+        (
+            "matroids 1\npair 1\nweights -1000000000001\n",
+            "refused: description 5 NumberRange line 3\n",
+        ),
+        ("x", "refused: description 12 EndsEarly line 1\n"),
+    ];
+    for (text, note) in faults {
+        let mut out = large_sink(alloc)?;
+        let mut notes = large_sink(alloc)?;
+        let status = ended(
+            alloc,
+            &["show", "f"],
+            text,
+            Vec::new(alloc),
+            &mut out,
+            &mut notes,
+        )?;
+        assert_eq!(rt; status, Status::BadDescription);
+        assert!(rt; out.taken().is_empty());
+        assert_eq!(rt; notes.taken(), note.as_bytes());
+    }
+    Ok(())
+}
+
+// How `show` ends over a file of as many bytes, which are no description.
+fn shown(alloc: Global, count: usize) -> Result<Status, AllocError> {
+    let words = words_of(alloc, &["show", "any"])?;
+    let mut shelf = SureShelf::new(Vec::new(alloc), vec![in alloc; b'x'; count]?);
+    let mut out = large_sink(alloc)?;
+    let mut notes = large_sink(alloc)?;
+    Ok(run(alloc, &words, &mut shelf, &mut out, &mut notes))
+}
+
+#[test]
+fn one_byte_more_than_the_limit_is_too_long(rt: HostRuntime) -> Result<(), Fail> {
+    let alloc = rt.alloc();
+    assert_eq!(rt; shown(alloc, 4_194_304)?, Status::BadDescription);
+    assert_eq!(rt; shown(alloc, 4_194_305)?, Status::TooLong);
+    Ok(())
+}
+
+#[test]
 fn words_that_are_no_command_are_usage(rt: HostRuntime) -> Result<(), Fail> {
     let alloc = rt.alloc();
-    let lines: [&[&str]; 6] = [
+    let lines: [&[&str]; 7] = [
         &[],
         &["intersect"],
         &["intersect", "--workers"],
         &["intersect", "--workers", "17", "f"],
+        &["show", "--workers"],
         &["trees", "0", "f"],
         &["sample", "pair", "0", "1"],
     ];

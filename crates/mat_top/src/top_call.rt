@@ -75,15 +75,11 @@ fn answer_to(alloc: Global, command: &Command<'_>, bytes: &[u8]) -> Result<Vec<u
 fn answer<F: Shelf>(alloc: Global, files: &mut F, command: &Command<'_>) -> Result<Vec<u8>, Refusal>
     ensures held { (name : List ℕ) → F.held files.new name ≡ F.held files.old name }
     ensures grows { (name : List ℕ) → F.faults files.old name ≤ F.faults files.new name }
-    ensures text {
-        IfOk result (λ v. IfSome (F.held files.old (description_file (line_of command.now)))
-            (λ bytes. IsAnswerTo (line_of command.now) bytes v.items))
-    }
+    ensures text { IfOk result (λ v. IfSome (F.held files.old (description_file (line_of command.now)))
+        (λ bytes. IsAnswerTo (line_of command.now) bytes v.items)) }
     ensures short { IfOk result (λ v. IsShort (line_of command.now) v.items) }
-    ensures refusal {
-        IfErr result (λ e. IsRefusal (line_of command.now) (F.held files.old (description_file (line_of command.now)))
-            (F.faults files.old (description_file (line_of command.now))) (F.faults files.new (description_file (line_of command.now))) e)
-    }
+    ensures refusal { IfErr result (λ e. IsRefusal (line_of command.now) (F.held files.old (description_file (line_of command.now)))
+        (F.faults files.old (description_file (line_of command.now))) (F.faults files.new (description_file (line_of command.now))) e) }
 {
     let bytes = match read_all(alloc, files, command.description(), DESCRIPTION_LIMIT) {
         Ok(bytes) => bytes,
@@ -115,11 +111,9 @@ fn perform<F: Shelf, O: Sink>(
     ensures held { (name : List ℕ) → F.held files.new name ≡ F.held files.old name }
     ensures grows { (name : List ℕ) → F.faults files.old name ≤ F.faults files.new name }
     ensures out_grows { O.faults out.old ≤ O.faults out.new }
-    ensures ended {
-        IsEnded (line_of command.now) (F.held files.old (description_file (line_of command.now)))
-            (F.faults files.old (description_file (line_of command.now))) (F.faults files.new (description_file (line_of command.now)))
-            (O.written out.old) (O.faults out.old) (O.written out.new) (O.faults out.new) result
-    }
+    ensures ended { IsEnded (line_of command.now) (F.held files.old (description_file (line_of command.now)))
+        (F.faults files.old (description_file (line_of command.now))) (F.faults files.new (description_file (line_of command.now)))
+        (O.written out.old) (O.faults out.old) (O.written out.new) (O.faults out.new) result }
 {
     match answer(alloc, files, command) {
         Ok(text) => written(out, &text),
