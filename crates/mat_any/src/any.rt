@@ -4,7 +4,7 @@ ghost use Rattle.mat_any.specs.TreeLaws.{tree_laws};
 ghost use Rattle.mat_any.specs.Views.{tree_of};
 
 use mat_count::{Partition, Uniform};
-use mat_laws::Matroid;
+use mat_laws::{Exchange, Matroid};
 use mat_sets::ElemSet;
 use std::alloc::{AllocError, Global};
 
@@ -35,6 +35,13 @@ impl Matroid for AnyMatroid {
         match self {
             AnyMatroid::Uniform(matroid) => matroid.independent(alloc, set),
             AnyMatroid::Partition(matroid) => matroid.independent(alloc, set),
+        }
+    }
+
+    fn circuit(&self, alloc: Global, base: &ElemSet, x: u32) -> Result<Exchange, AllocError> {
+        match self {
+            AnyMatroid::Uniform(matroid) => matroid.circuit(alloc, base, x),
+            AnyMatroid::Partition(matroid) => matroid.circuit(alloc, base, x),
         }
     }
 }

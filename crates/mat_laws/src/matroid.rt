@@ -152,4 +152,8 @@ impl<M: Matroid> Matroid for &M {
     fn independent(&self, alloc: Global, set: &ElemSet) -> Result<bool, AllocError> {
         (**self).independent(alloc, set)
     }
+
+    fn circuit(&self, alloc: Global, base: &ElemSet, x: u32) -> Result<Exchange, AllocError> {
+        (**self).circuit(alloc, base, x)
+    }
 }

@@ -7,11 +7,12 @@ pub const VERSION: &str = "matbench 0.1.0\n";
 pub const HELP: &str = "\
 matbench: weighted optimisation over matroids, with answers that are proved best
 
-usage: matbench intersect FILE     the heaviest sets of each size that are independent in both matroids
+usage: matbench show FILE          the canonical text of a description
+       matbench intersect FILE     the heaviest sets of each size that are independent in both matroids
        matbench --help             this text
        matbench --version          the version
 
-FILE is the name of a description, or - for standard input. The answer is a certificate on standard output.
+FILE is the name of a description, or - for standard input. The answer is written to standard output.
 
 A description is a text. Each line ends with a newline, and its words have one space between them.
     matroids 1                     the version of the format
@@ -19,14 +20,18 @@ A description is a text. Each line ends with a newline, and its words have one s
     weights W W ..                 a weight for each element, from -1000000000000 to 1000000000000
     partition Q                    the first matroid: Q classes, at most 500 ..
     class CAP E E ..               .. each with at most CAP of its elements in a set; no element in two classes
-    uniform N                      the second matroid: at most so many elements, here all
+    uniform CAP                    the second matroid: sets of at most CAP elements
     end
-The first matroid may be uniform too. The second must be uniform with a cap of at least N.
+Other forms, which show reads: list N M, then weights and M matroids; graph V E, then E lines edge U W;
+rooted V E R, then E lines arc T H COST; coloured V E C, then E lines edge U W COLOUR WEIGHT;
+table R C E, then E lines cell ROW COLUMN WEIGHT. A matroid is uniform or partition.
+intersect takes a pair whose second matroid is uniform with a cap of at least N.
 
 A certificate has for each size K a rung: its weight, its set, and two lists of numbers that add up to the
 weights, under which the set is heaviest of its size in the first and in the second matroid. The last
 line but one is a cut, which shows that no larger set is independent in both.
 
-exit statuses: 0 done, 2 usage, 5 read fault, 6 write fault, 7 not enough memory, 10 not built: the
-description spells no problem that is solved. A refusal writes one line to standard error.
+exit statuses: 0 done, 2 usage, 3 bad description, 5 read fault, 6 write fault, 7 not enough memory,
+8 file too long, 9 wrong shape, 10 not built. A refusal writes one line to standard error; that of a bad
+description names the first fault and its line.
 ";
