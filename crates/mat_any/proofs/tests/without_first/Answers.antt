@@ -19,4 +19,4 @@ partition = record {
 
 pub new-requires : goal.new-requires
 unfolding all_below
-new-requires c = rw (c.new-classes.ensures, c.in_ok-vec.ensures.items, c.in_ok-all_below.ensures, c.in_ok-vec-2.ensures.items) partition
+new-requires c = rw (c.new-classes.ensures.items, c.in_ok-vec.ensures.items, c.in_ok-all_below.ensures.members, c.in_ok-vec-2.ensures.items) partition
