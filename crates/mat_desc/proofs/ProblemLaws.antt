@@ -25,6 +25,7 @@ IsSound-valid n (partition m classes caps) valid = (
   valid.0,
 )
 
+-- each matroid of a problem in range is sound
 pub IsSoundInstance-valid : (instance : Instance) → IsValid instance → IsSoundInstance instance
 IsSoundInstance-valid (pair weights first second) valid =
     let one = IsSound-valid (length weights) first valid.1.0 in

@@ -6,6 +6,7 @@ ghost use Rattle.mat_desc.specs.Faults.{Fault};
 ghost use Rattle.mat_desc.specs.Grammar.{IsValid, Spells};
 ghost use Rattle.mat_desc.specs.Instances.{Instance};
 ghost use Rattle.mat_desc.specs.Reading.{read_of};
+ghost use Rattle.mat_desc.specs.Soundness.{IsSoundInstance};
 
 /// The reading of a text gives exactly the problem that the text spells. So a text spells at most one problem, and it spells one or has
 /// exactly one first fault, and never both.
@@ -22,4 +23,9 @@ pub fn reading_laws()
 pub fn writing_laws()
     ensures spelled { (instance : Instance) → IsValid instance → Spells (canonical_text instance) instance }
     ensures equal { (s t : List ℕ) (p q : Instance) → Spells s p → Spells t q → (p ≡ q) ↔ (canonical_text p ≡ canonical_text q) }
+{}
+
+/// Each matroid of a problem in range is sound, and on as many elements as the problem has weights.
+pub fn soundness_laws()
+    ensures { (instance : Instance) → IsValid instance → IsSoundInstance instance }
 {}

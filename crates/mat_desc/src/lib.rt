@@ -11,7 +11,7 @@ mod reading;
 mod refusal;
 mod write;
 
-pub use laws::{reading_laws, writing_laws};
+pub use laws::{reading_laws, soundness_laws, writing_laws};
 pub use problem::{Problem, read_problem};
 pub use refusal::{DescKind, DescRefusal};
 pub use write::write_problem;

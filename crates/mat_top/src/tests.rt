@@ -214,41 +214,62 @@ fn a_note_names_the_first_fault_and_its_line(rt: HostRuntime) -> Result<(), Fail
     let alloc = rt.alloc();
     let faults = [
         (
-            "matroids 2\npair 0\n",
+            "show",
+            "matroids 2\npair 0\nweights\nuniform 0\nuniform 0\nend\n",
             "refused: description 2 Version line 1\n",
         ),
         (
-            "matroids 1\npair 00\n",
+            "show",
+            "matroids 1\npair 00\nweights\nuniform 0\nuniform 0\nend\n",
             "refused: description 4 NumberSpelling line 2\n",
         ),
         (
-            "matroids 1\npair 0\nweights 1\n",
+            "show",
+            "matroids 1\npair 0\nweights 1\nuniform 0\nuniform 0\nend\n",
             "refused: description 7 TooManyWords line 3\n",
         ),
         (
-            "matroids 1\npair 0\nweights\nuniform  0\n",
+            "show",
+            "matroids 1\npair 0\nweights\nuniform  0\nuniform 0\nend\n",
             "refused: description 1 BadByte line 4\n",
         ),
         (
-            "matroids 1\npair 0\nweights\nmatroid\n",
+            "show",
+            "matroids 1\npair 0\nweights\nmatroid\nuniform 0\nend\n",
             "refused: description 3 UnknownWord line 4\n",
         ),
         (
-            "matroids 1\npair 3\nweights 4 -1\n",
+            "show",
+            "matroids 1\npair 0\nweights\nuniform 0\nuniform 0\nend",
+            "refused: description 12 EndsEarly line 6\n",
+        ),
+        (
+            "show",
+            "matroids 1\npair 0\nweights\nuniform 0\nuniform 0\nend\nend\n",
+            "refused: description 11 TooManyLines line 7\n",
+        ),
+        (
+            "show",
+            "matroids 1\npair 3\nweights 4 -1\npartition 1\nclass 1 0 2\nuniform 3\nend\n",
             "refused: description 6 TooFewWords line 3\n",
         ),
         (
-            "matroids 1\npair 1\nweights -1000000000001\n",
+            "show",
+            "matroids 1\npair 3\nweights 4 -1 3\npartition 1\nclass 1 0 0\nuniform 3\nend\n",
+            "refused: description 9 Repeated line 5\n",
+        ),
+        (
+            "intersect",
+            "matroids 1\npair 4\nweights 1000000000000 -1000000000001 1000000000000 -1000000000000\nuniform 4\nuniform 4\nend\n",
             "refused: description 5 NumberRange line 3\n",
         ),
-        ("x", "refused: description 12 EndsEarly line 1\n"),
     ];
-    for (text, note) in faults {
+    for (command, text, note) in faults {
         let mut out = large_sink(alloc)?;
         let mut notes = large_sink(alloc)?;
         let status = ended(
             alloc,
-            &["show", "f"],
+            &[command, "f"],
             text,
             Vec::new(alloc),
             &mut out,
@@ -281,13 +302,14 @@ fn one_byte_more_than_the_limit_is_too_long(rt: HostRuntime) -> Result<(), Fail>
 #[test]
 fn words_that_are_no_command_are_usage(rt: HostRuntime) -> Result<(), Fail> {
     let alloc = rt.alloc();
-    let lines: [&[&str]; 7] = [
+    let lines: [&[&str]; 8] = [
         &[],
         &["intersect"],
         &["intersect", "--workers"],
         &["intersect", "--workers", "17", "f"],
         &["show", "--workers"],
         &["trees", "0", "f"],
+        &["best", "f", "g"],
         &["sample", "pair", "0", "1"],
     ];
     for words in lines {
