@@ -1,16 +1,21 @@
 -- The members of an independent set I for which x can be exchanged are collected one after the other, with I + x at hand: I - y + x is
 -- I + x - y.
 use Rattle.std.proofs.Common.{◌≡◌, ℕ, ◌+◌, ◌<◌, ◌≤◌, Bool, true, false, ◌||◌, cond, eqb, List, ◌∷◌, length, get_or, drop, refl, subst, sym, ap, ◌∙◌}
-use Rattle.std.proofs.lemmas.Bool.{both_ways, ne_eqb, or_right}
+use Rattle.std.proofs.lemmas.Bool.{both_ways, cond-false, ne_eqb, or_right}
 use Rattle.std.proofs.lemmas.List.{drop_all, drop_more}
 use Rattle.std.specs.List.{filter}
 use Rattle.mat_sets.specs.Sets.{is_member, IsRising, with_one, without_one}
+use Rattle.mat_laws.specs.declared.exchange.Exchange.{Exchange}
+use Rattle.mat_laws.specs.Exchanges.{row_of}
 use Rattle.mat_sets.proofs.Members.{is_member-get_or, is_member-with_one, same_members, IsRising-with_one, RisesFrom-filter}
 use Rattle.mat_sets.proofs.Changes.{without_one-with_one}
 
 -- whether x can be exchanged for y
 abbrev pub exchanged : (List ℕ → Bool) → List ℕ → ℕ → ℕ → Bool
 exchanged independent I x y = independent (with_one (without_one I y) x)
+
+abbrev row_with : Bool → List ℕ → Exchange
+row_with addable with' = record { addable = addable; with = with' }
 
 -- I + x is at hand, and those found and those from place i on are together all members of I for which x can be exchanged
 pub record IsCollecting (independent : List ℕ → Bool) (I : List ℕ) (x i : ℕ) (larger found : List ℕ) : Type 0 where
@@ -83,3 +88,11 @@ module _ {independent : List ℕ → Bool} {I larger found : List ℕ} {x i : �
 
       none : (k : ℕ) → is_member k found ≡ (is_member k found || is_member k (filter (exchanged independent I x) (drop i I)))
       none k = or_false (is_member k found) ∙ ap (λ s. is_member k found || is_member k (filter (exchanged independent I x) s)) (sym (drop_all i I (subst (λ s. length s ≤ i) same l)))
+
+-- the row of x outside I, by its two parts
+pub row_outside : (independent : List ℕ → Bool) (I : List ℕ) (x : ℕ) (row : Exchange) → is_member x I ≡ false
+    → row.addable ≡ independent (with_one I x) → row.with ≡ filter (exchanged independent I x) I → row ≡ row_of independent I x
+row_outside independent I x row o a t = same_row row.addable _ row.with _ a t ∙ sym (cond-false (is_member x I) _ _ o)
+  where
+    same_row : (a b : Bool) (xs ys : List ℕ) → a ≡ b → xs ≡ ys → row_with a xs ≡ row_with b ys
+    same_row a b xs ys d e = ap (λ c. row_with c xs) d ∙ ap (row_with b) e

@@ -1,6 +1,7 @@
 -- Exchanges of elements at independent sets (Schrijver, chapter 39).
-use Rattle.std.specs.Prelude.{◌≡◌, ◌≢◌, ℕ, ◌<◌, Bool, true, false, List, length, filter, slice_index}
-use Rattle.mat_sets.specs.Sets.{is_member, with_one, without_one}
+use Rattle.std.specs.Prelude.{◌≡◌, ◌≢◌, ℕ, ◌<◌, Bool, true, false, if◌then◌else◌, List, [], length, map, filter, slice_index}
+use Rattle.mat_sets.specs.Sets.{is_member, with_one, without_one, all_below}
+use Rattle.mat_laws.specs.declared.exchange.Exchange.{Exchange}
 
 -- a member of B outside A for which x can be exchanged at both: A - x + partner and B - partner + x are independent
 pub record HasSymmetricPartner (independent : List ℕ → Bool) (A B : List ℕ) (x : ℕ) : Type 0 where
@@ -21,8 +22,13 @@ pub record IsTriangular (independent : List ℕ → Bool) (I ys xs : List ℕ) :
   pub own : (i : ℕ) → i < length ys → independent (with_one (without_one I (slice_index ys i)) (slice_index xs i)) ≡ true
   pub none_later : (i j : ℕ) → i < j → j < length ys → independent (with_one (without_one I (slice_index ys j)) (slice_index xs i)) ≡ false
 
--- the exchanges of x at an independent set I without x: whether I + x is independent, and the y of I, in rising order,
--- with I - y + x independent
-pub record IsRow (independent : List ℕ → Bool) (I : List ℕ) (x : ℕ) (addable : Bool) (with : List ℕ) : Type 0 where
-  pub adds : addable ≡ independent (with_one I x)
-  pub trades : with ≡ filter (λ y. independent (with_one (without_one I y) x)) I
+-- the exchanges of an element at an independent set I: of x outside I, whether I + x is independent, and the y of I, in
+-- rising order, with I - y + x independent; a member of I cannot be added and has no exchanges
+abbrev pub row_of : (List ℕ → Bool) → List ℕ → ℕ → Exchange
+row_of independent I x =
+    if is_member x I then record { addable = false; with = [] }
+    else record { addable = independent (with_one I x); with = filter (λ y. independent (with_one (without_one I y) x)) I }
+
+-- the exchanges of each element below n, in order
+abbrev pub rows_of : ℕ → (List ℕ → Bool) → List ℕ → List Exchange
+rows_of n independent I = map (row_of independent I) (all_below n)

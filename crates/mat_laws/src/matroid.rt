@@ -2,7 +2,7 @@
 
 ghost use Rattle.std.specs.Prelude.{◌≡◌, ◌<◌, ◌&&◌, ℕ, List, Bool, true, false, not, if◌then◌else◌, IfOk, OnErr};
 ghost use Rattle.mat_sets.specs.Sets.{AllBelow, IsRising, IsSubset, is_member, with_one, without_one, union};
-ghost use Rattle.mat_laws.specs.Exchanges.{IsRow};
+ghost use Rattle.mat_laws.specs.Exchanges.{row_of};
 ghost use Rattle.mat_laws.specs.Matroids.{IsMatroid, IsMaximal};
 
 use crate::exchange::Exchange;
@@ -117,7 +117,7 @@ pub trait Matroid: Sync + Drop {
         requires base { indep self.now base.now ≡ true }
         requires below { x < ground_size self.now }
         requires outside { is_member x base.now ≡ false }
-        ensures row { IfOk result (λ e. IsRow (indep self.now) base.now x e.addable e.with) }
+        ensures row { IfOk result (λ e. e ≡ row_of (indep self.now) base.now x) }
         ensures rises { IfOk result (λ e. IsRising e.with) }
     {
         self.lawful();

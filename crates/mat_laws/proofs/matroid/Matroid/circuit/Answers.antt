@@ -2,7 +2,7 @@ use Rattle.std.proofs.Common.{◌∙◌, subst, sym, ap}
 use Rattle.mat_sets.specs.Sets.{AllBelow, with_one}
 use Rattle.mat_sets.proofs.Changes.{AllBelow-with_one}
 use Rattle.mat_laws.proofs.Independent.{rising, below}
-use Rattle.mat_laws.proofs.Rows.{IsCollecting-found, IsCollecting-passed, IsCollecting-end, member_of_larger}
+use Rattle.mat_laws.proofs.Rows.{IsCollecting-found, IsCollecting-passed, IsCollecting-end, member_of_larger, row_outside}
 use Rattle.mat_laws.proofs.matroid.Matroid.circuit.Goals as goal
 use Rattle.mat_laws.proofs.matroid.Matroid.circuit.Goals.{then-branch+in_ok-add-2, else-branch}
 
@@ -32,7 +32,6 @@ pub returns-clause-row : goal.returns-clause-row
 returns-clause-row g c =
     let set = c.in_ok-add.ensures.ok.1 ∙ ap (λ s. with_one s c.args.x) c.in_ok-larger.ensures.equal in
     let rises = rising c.lawful.ensures c.args.base.now c.requires.base in
-    record {
-      adds = c.in_ok-addable.ensures ∙ ap (g.Self.Matroid.indep c.args.self.now) set;
-      trades = IsCollecting-end c.loop-y.invariant _ rises c.as_slice-y-items.ensures.items c.loop-y-test.false;
-    }
+    row_outside (g.Self.Matroid.indep c.args.self.now) c.args.base.now c.args.x _ c.requires.outside
+    (c.in_ok-addable.ensures ∙ ap (g.Self.Matroid.indep c.args.self.now) set)
+    (IsCollecting-end c.loop-y.invariant _ rises c.as_slice-y-items.ensures.items c.loop-y-test.false)

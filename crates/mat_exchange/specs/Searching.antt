@@ -1,0 +1,11 @@
+-- What a search along tight arcs finds.
+use Rattle.std.specs.Prelude.{ℕ, ℤ}
+use Rattle.mat_laws.specs.TightPaths.{Exchanges, IsTightPath, IsStuckReach}
+use Rattle.mat_laws.specs.Slacks.{IsLeastSlackOrNone}
+use Rattle.mat_exchange.specs.declared.found.Found.{Found}
+use Rattle.mat_exchange.specs.declared.found.Found.TheVariants.{Path, Stuck}
+
+-- a tight path with fewest vertices, or the reached set without a sink and its least slack
+abbrev pub IsFound : ℕ → Exchanges → Exchanges → (ℕ → ℤ) → (ℕ → ℤ) → Found → Type 0
+IsFound n first second w1 w2 (Path path) = IsTightPath n first second w1 w2 path.items
+IsFound n first second w1 w2 (Stuck reach slack) = IsStuckReach n first second w1 w2 reach × IsLeastSlackOrNone n first second w1 w2 reach slack

@@ -1,0 +1,6 @@
+//! The exchanges of two matroids at a common independent set, the search for a tight path, and the laws of both.
+#![tactic(auto)]
+
+mod found;
+
+pub use found::Found;

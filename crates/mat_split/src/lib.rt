@@ -1,0 +1,8 @@
+//! Heaviest common independent sets of two matroids, with their proof by weight splitting.
+#![tactic(auto)]
+
+mod intersect;
+mod ladder;
+
+pub use intersect::intersect_all;
+pub use ladder::{Ladder, Rung};
