@@ -36,11 +36,10 @@ fn words_of(alloc: Global, words: &[&str]) -> Result<Vec<String>, AllocError> {
     Ok(all)
 }
 
-// The one file `f`.
-fn one_file(alloc: Global, text: &str) -> Result<Vec<NamedFile>, AllocError>
+// The one file `f` with these bytes.
+fn one_file(alloc: Global, bytes: Vec<u8>) -> Result<Vec<NamedFile>, AllocError>
     ensures { IfOk result (λ files. HaveDifferentNames files.items) }
 {
-    let bytes = text.as_bytes().to_vec(alloc)?;
     let file = NamedFile::new(String::from_str(alloc, "f")?, bytes);
     let mut files = Vec::new(alloc);
     files.push(file)?;
@@ -57,7 +56,7 @@ fn ended(
     notes: &mut MemSink,
 ) -> Result<Status, AllocError> {
     let words = words_of(alloc, words)?;
-    let mut shelf = MemShelf::new(one_file(alloc, text)?, 7, fail);
+    let mut shelf = MemShelf::new(one_file(alloc, text.as_bytes().to_vec(alloc)?)?, 7, fail);
     Ok(run(alloc, &words, &mut shelf, out, notes))
 }
 
@@ -282,20 +281,43 @@ fn a_note_names_the_first_fault_and_its_line(rt: HostRuntime) -> Result<(), Fail
     Ok(())
 }
 
-// How `show` ends over a file of as many bytes, which are no description.
-fn shown(alloc: Global, count: usize) -> Result<Status, AllocError> {
-    let words = words_of(alloc, &["show", "any"])?;
-    let mut shelf = SureShelf::new(Vec::new(alloc), vec![in alloc; b'x'; count]?);
-    let mut out = large_sink(alloc)?;
-    let mut notes = large_sink(alloc)?;
-    Ok(run(alloc, &words, &mut shelf, &mut out, &mut notes))
+// How `show` ends over a file of as many bytes `x`, read in large pieces.
+fn shown_bytes(
+    alloc: Global,
+    count: usize,
+    out: &mut MemSink,
+    notes: &mut MemSink,
+) -> Result<Status, AllocError> {
+    let words = words_of(alloc, &["show", "f"])?;
+    let files = one_file(alloc, vec![in alloc; b'x'; count]?)?;
+    let mut shelf = MemShelf::new(files, 1_000_000, Vec::new(alloc));
+    Ok(run(alloc, &words, &mut shelf, out, notes))
 }
 
 #[test]
-fn one_byte_more_than_the_limit_is_too_long(rt: HostRuntime) -> Result<(), Fail> {
+fn the_longest_text_is_judged(rt: HostRuntime) -> Result<(), Fail> {
     let alloc = rt.alloc();
-    assert_eq!(rt; shown(alloc, 4_194_304)?, Status::BadDescription);
-    assert_eq!(rt; shown(alloc, 4_194_305)?, Status::TooLong);
+    let mut out = large_sink(alloc)?;
+    let mut notes = large_sink(alloc)?;
+    let status = shown_bytes(alloc, 4_194_304, &mut out, &mut notes)?;
+    assert_eq!(rt; status, Status::BadDescription);
+    assert!(rt; out.taken().is_empty());
+    assert_eq!(rt;
+        notes.taken(),
+        b"refused: description 12 EndsEarly line 1\n".as_slice()
+    );
+    Ok(())
+}
+
+#[test]
+fn one_byte_more_is_too_long(rt: HostRuntime) -> Result<(), Fail> {
+    let alloc = rt.alloc();
+    let mut out = large_sink(alloc)?;
+    let mut notes = large_sink(alloc)?;
+    let status = shown_bytes(alloc, 4_194_305, &mut out, &mut notes)?;
+    assert_eq!(rt; status, Status::TooLong);
+    assert!(rt; out.taken().is_empty());
+    assert_eq!(rt; notes.taken(), b"refused: too long\n".as_slice());
     Ok(())
 }
 
