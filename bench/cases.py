@@ -1,5 +1,6 @@
 #!/usr/bin/env python3
-"""Prints a large description: `cases.py list` or `cases.py junk`."""
+"""Prints a large description: `cases.py list`, `cases.py junk` or `cases.py partitions N`."""
+import random
 import sys
 
 
@@ -20,4 +21,21 @@ def junk():
     sys.stdout.write('x' * 4194304)
 
 
-{'list': many_classes, 'junk': junk}[sys.argv[1]]()
+def partitions():
+    """Two partitions of N elements into N / 4 classes each, with caps 1 to 3, and weights of all sizes."""
+    n = int(sys.argv[2])
+    numbers = random.Random(n)
+    print('matroids 1')
+    print('pair', n)
+    print('weights', *(numbers.randint(-1, 1) * numbers.randint(0, 10 ** numbers.randint(1, 12)) for _ in range(n)))
+    for _ in range(2):
+        elements = list(range(n))
+        numbers.shuffle(elements)
+        count = n // 4
+        print('partition', count)
+        for c in range(count):
+            print('class', numbers.randint(1, 3), *elements[c::count])
+    print('end')
+
+
+{'list': many_classes, 'junk': junk, 'partitions': partitions}[sys.argv[1]]()

@@ -11,7 +11,8 @@ pub enum Found {
     Stuck {
         /// The elements that tight arcs reach from the sources.
         reach: ElemSet,
-        /// By how much the weights of the reached set can change at least until more is reached; none where no change does.
+        /// The least slack: by how much the weights of the reached set must change until a further element is reached or one of
+        /// them becomes a sink; none where no change does that.
         slack: Option<i128>,
     },
 }

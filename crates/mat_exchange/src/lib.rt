@@ -1,4 +1,4 @@
-//! The exchanges of two matroids at a common independent set, the search for a tight path, and the laws of both.
+//! The exchanges of a matroid at an independent set, the search for a tight path of two matroids, and their laws.
 #![tactic(auto)]
 
 mod found;

@@ -21,6 +21,6 @@ pub record IsCut (n : ℕ) (p q : List ℕ → Bool) (k : ℕ) (cut : List ℕ) 
   pub set : IsSet n cut
   pub ranks : rank p (minus (all_below n) cut) + rank q cut ≡ k
 
--- the bound on the numbers of a split of weights of at most 10^12 on n elements
+-- the bound on the numbers of a split of weights from -10^12 to 10^12 on n elements
 abbrev pub split_bound : ℕ → ℕ
 split_bound n = 2 * 10 ^ 12 * (n + 1) * n * (n + 1) + 10 ^ 12

@@ -4,9 +4,10 @@ use Rattle.std.specs.Prelude.{◌≡◌, ℕ, ◌<◌, true, false, List, ℤ, �
 use Rattle.mat_sets.specs.Sets.{is_member}
 use Rattle.mat_laws.specs.TightPaths.{Exchanges, is_heaviest_addable}
 
--- d is a slack of the set R: of a heaviest addable element of the first matroid and an addable one outside R, of an exchange in
--- the first of a member in R for an element outside R, of an exchange in the second of a member outside R for an element in R,
--- or of a heaviest addable element of the second matroid and an addable one in R
+-- d is a slack of the set R: by how much, under the first weight, a heaviest addable element of the first matroid outweighs an
+-- addable one outside R, or a member in R an element outside R that can take its place in the first; or, under the second weight,
+-- a member outside R an element in R that can take its place in the second, or a heaviest addable element of the second matroid
+-- an addable one in R
 pub data IsSlack (n : ℕ) (first second : Exchanges) (w1 w2 : ℕ → ℤ) (R : List ℕ) (d : ℤ) : Type 0 where
   first_addition : (top x : ℕ) → top < n → x < n → is_heaviest_addable n first w1 top ≡ true → first.adds x ≡ true
       → is_member x R ≡ false → d ≡ w1 top -ℤ w1 x → IsSlack n first second w1 w2 R d

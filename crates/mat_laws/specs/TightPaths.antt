@@ -6,7 +6,7 @@ use Rattle.mat_sets.specs.Search.{some_below}
 use Rattle.mat_sets.specs.Walks.{IsShortestWalk, IsReachedSet}
 use Rattle.mat_laws.specs.declared.exchange.Exchange.{Exchange}
 
--- which elements outside an independent set can be added to it, and for which of its members y which x outside can be exchanged
+-- what can be added to an independent set, and exchanged at it: y and x trade where x outside can take the place of the member y
 pub record Exchanges : Type 0 where
   pub adds : ℕ → Bool
   pub trades : ℕ → ℕ → Bool
@@ -31,8 +31,8 @@ exchanges_in rows = record { adds = λ x. (row_in rows x).addable; trades = λ y
 abbrev pub is_heaviest_addable : ℕ → Exchanges → (ℕ → ℤ) → ℕ → Bool
 is_heaviest_addable n exchanges w x = exchanges.adds x && not (some_below n (λ e. exchanges.adds e && int_lt (w x) (w e)))
 
--- a tight arc leads from a member y to an x outside that can be exchanged for y in the first matroid and weighs as much under
--- the first weight, and from an x outside to a member y for which it can be exchanged in the second, alike
+-- a tight arc leads from a member y to an x outside that can take its place in the first matroid and weighs as much under the
+-- first weight; and from an x outside to a member y whose place it can take in the second, and that weighs as much under the second
 abbrev pub is_tight : Exchanges → Exchanges → (ℕ → ℤ) → (ℕ → ℤ) → ℕ → ℕ → Bool
 is_tight first second w1 w2 u v = (first.trades u v && int_eq (w1 u) (w1 v)) || (second.trades v u && int_eq (w2 u) (w2 v))
 
@@ -46,6 +46,6 @@ pub record IsStuckReach (n : ℕ) (first second : Exchanges) (w1 w2 : ℕ → �
   pub reached : IsReachedSet n (is_tight first second w1 w2) (is_heaviest_addable n first w1) reach
   pub no_sink : (v : ℕ) → is_member v reach ≡ true → is_heaviest_addable n second w2 v ≡ false
 
--- the set after an exchange along a path: the members of I that are not on the path, and the elements of the path outside I
+-- the set after an exchange along a path: the symmetric difference of I and the path
 abbrev pub exchanged_along : List ℕ → List ℕ → List ℕ
 exchanged_along I path = union (minus path I) (minus I path)

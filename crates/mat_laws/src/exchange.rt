@@ -2,11 +2,11 @@
 
 use mat_sets::ElemSet;
 
-/// The exchanges of an element x at an independent set I that it is not in (Schrijver, chapter 39).
+/// The exchanges of an element x at an independent set I (Schrijver, chapter 39). A member of I cannot be added and has none.
 #[derive(Debug, Drop)]
 pub struct Exchange {
-    /// Whether I + x is independent.
+    /// Whether x is outside I and I + x is independent.
     pub addable: bool,
-    /// The members y of I with I - y + x independent.
+    /// For x outside I the members y of I with I - y + x independent.
     pub with: ElemSet,
 }

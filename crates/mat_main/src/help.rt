@@ -20,18 +20,17 @@ A description is a text. Each line ends with a newline, and its words have one s
     weights W W ..                 a weight for each element, from -1000000000000 to 1000000000000
     partition Q                    the first matroid: Q classes, at most 500 ..
     class CAP E E ..               .. each with at most CAP of its elements in a set; no element in two classes
-    uniform CAP                    the second matroid: sets of at most CAP elements
+    uniform CAP                    the second matroid: sets of at most CAP elements (or a partition again)
     end
 Other forms, which show reads: list N M, then weights and M matroids; graph V E, then E lines edge U W;
 rooted V E R, then E lines arc T H COST; coloured V E C, then E lines edge U W COLOUR WEIGHT;
 table R C E, then E lines cell ROW COLUMN WEIGHT. A matroid is uniform or partition.
-intersect takes a pair whose second matroid is uniform with a cap of at least N.
 
 A certificate has for each size K a rung: its weight, its set, and two lists of numbers that add up to the
 weights, under which the set is heaviest of its size in the first and in the second matroid. The last
 line but one is a cut, which shows that no larger set is independent in both.
 
 exit statuses: 0 done, 2 usage, 3 bad description, 5 read fault, 6 write fault, 7 not enough memory,
-8 file too long, 9 wrong shape, 10 not built. A refusal writes one line to standard error; that of a bad
+8 file too long, 9 wrong shape. A refusal writes one line to standard error; that of a bad
 description names the first fault and its line.
 ";

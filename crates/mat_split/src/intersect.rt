@@ -8,9 +8,9 @@ use crate::ladder::Ladder;
 use mat_laws::Matroid;
 use std::alloc::{AllocError, Global};
 
-/// A heaviest common independent set of two matroids for each size that they have, each with a split of the weights that proves
-/// it, and a set that proves that there is no larger one, by weight splitting (Frank 1981; Schrijver, chapter 41). Both matroids have the same
-/// elements, at most 500; each weight is at least -10^12 and at most 10^12. The only error is want of memory.
+/// A heaviest common independent set of two matroids for each size from 0 to the largest, each with a split of the weights that
+/// proves it, and a set that proves that there is no larger one, by weight splitting (Frank 1981; Schrijver, chapter 41). Both
+/// matroids have the same elements, at most 500; each weight is at least -10^12 and at most 10^12. The only error is want of memory.
 pub fn intersect_all<A: Matroid, B: Matroid>(
     alloc: Global,
     a: &A,

@@ -1,8 +1,7 @@
 -- How a command ended, as each clause of the top call says it: by cases on the refusal.
-use Rattle.std.proofs.Common.{◌≡◌, ℕ, ◌<◌, ◌≤◌, List, [], length, Option, Some, None, Result, Ok, Err, refl, sym, ap, subst, inl, inr, arith}
-use Rattle.std.specs.Prelude.{◌↔◌, ◌⊎◌, IfSome, IsSome, IsSomeAnd}
+use Rattle.std.proofs.Common.{◌≡◌, ℕ, List, [], Option, Some, None, Result, Ok, Err, refl, inl, inr, arith}
+use Rattle.std.specs.Prelude.{◌⊎◌, IfSome, IsSome, IsSomeAnd}
 use Rattle.mat_shelf.specs.Faults.{Rose}
-use Rattle.mat_shelf.specs.Writing.{Appended, AppendedPrefix}
 use Rattle.mat_shelf.proofs.WritingLemmas.{Appended-nil}
 use Rattle.mat_top.specs.declared.status.Status.{Status}
 use Rattle.mat_top.specs.declared.status.Status.TheVariants as statuses
@@ -10,7 +9,7 @@ use Rattle.mat_top.specs.declared.status.Refusal.{Refusal}
 use Rattle.mat_top.specs.declared.status.Refusal.TheVariants as refusals
 use Rattle.mat_top.specs.CommandLines.{CommandLine, description_file}
 use Rattle.mat_top.specs.Statuses.{status_of, note_of}
-use Rattle.mat_top.specs.Outcomes.{IsAnswerTo, IsBytesOutcome, Tells, IsOutcome, CallReaches, IsStatus, IsWritten, IsNote, IsNoted, IsTrueOf}
+use Rattle.mat_top.specs.Outcomes.{IsAnswerTo, IsBytesOutcome, Tells, IsOutcome, IsStatus, IsWritten, IsNote, IsNoted, IsTrueOf}
 use Rattle.mat_top.specs.Refusals.{IsRefusal, IsPut, MayBeWritten, IsEnded}
 
 abbrev pub Ended : Type 0
@@ -32,7 +31,6 @@ ended-put line held before now old out_before new out_now text (Err refusals.Rea
 ended-put line held before now old out_before new out_now text (Err refusals.Memory) may put = absurd put
 ended-put line held before now old out_before new out_now text (Err refusals.TooLong) may put = absurd put
 ended-put line held before now old out_before new out_now text (Err refusals.WrongShape) may put = absurd put
-ended-put line held before now old out_before new out_now text (Err refusals.NotBuilt) may put = absurd put
 
 -- there was no text
 pub ended-refused : (line : CommandLine) (held : Option (List ℕ)) (before now : ℕ) (old : Option (List ℕ)) (out_before out_now : ℕ) (refusal : Refusal)
@@ -44,7 +42,6 @@ ended-refused line held before now old out_before out_now refusals.ReadFault cau
 ended-refused line held before now old out_before out_now refusals.Memory cause = (cause, refl)
 ended-refused line held before now old out_before out_now refusals.TooLong cause = (cause, refl)
 ended-refused line held before now old out_before out_now refusals.WrongShape cause = (cause, refl)
-ended-refused line held before now old out_before out_now refusals.NotBuilt cause = (cause, refl)
 
 -- where a file is told, a fact of what is told
 told : (o : Option (List ℕ)) (P Q : List ℕ → Type 0) → IsSome o → IfSome o P → ((bytes : List ℕ) → P bytes → Q bytes) → IsSomeAnd o Q
@@ -60,7 +57,7 @@ module _ (held : List ℕ → Option (List ℕ)) (line : CommandLine) (before no
   Here end = IsEnded line (held (description_file line)) before now old out_before new out_now end
 
   done : (text : List ℕ) → IsSome (held (description_file line)) → MayBeWritten line (held (description_file line)) text → IsOutcome held (Some line) statuses.Done
-  done text some may = told (held (description_file line)) (λ bytes. IsAnswerTo line bytes text) (λ bytes. IsBytesOutcome line bytes statuses.Done) some may.1 (λ bytes a. (a.instance, a.described, a.form, a.built))
+  done text some may = told (held (description_file line)) (λ bytes. IsAnswerTo line bytes text) (λ bytes. IsBytesOutcome line bytes statuses.Done) some may.1 (λ bytes a. (a.instance, a.described, a.form))
 
   -- the outcome is reached, or there is a cause
   pub ended-outcome : (end : Ended) → Here end → Tells held (Some line) → ¬ (Rose before now) → ¬ (Rose out_before out_now)
@@ -73,7 +70,6 @@ module _ (held : List ℕ → Option (List ℕ)) (line : CommandLine) (before no
   ended-outcome (Err (refusals.BadDescription kind number)) e some calm quiet = inl (told (held (description_file line)) _ _ some e.0 (λ bytes f. ((kind, number), f)))
   ended-outcome (Err refusals.TooLong) e some calm quiet = inl (told (held (description_file line)) _ _ some e.0 (λ bytes f. f))
   ended-outcome (Err refusals.WrongShape) e some calm quiet = inl (told (held (description_file line)) _ _ some e.0 (λ bytes f. f))
-  ended-outcome (Err refusals.NotBuilt) e some calm quiet = inl (told (held (description_file line)) _ _ some e.0 (λ bytes f. f))
 
   pub ended-status : (end : Ended) → Here end → Tells held (Some line) → IsStatus held (Some line) (status_at end)
   ended-status (Ok d) (text, may, put) some = done text some may
@@ -84,7 +80,6 @@ module _ (held : List ℕ → Option (List ℕ)) (line : CommandLine) (before no
   ended-status (Err (refusals.BadDescription kind number)) e some = told (held (description_file line)) _ _ some e.0 (λ bytes f. ((kind, number), f))
   ended-status (Err refusals.TooLong) e some = told (held (description_file line)) _ _ some e.0 (λ bytes f. f)
   ended-status (Err refusals.WrongShape) e some = told (held (description_file line)) _ _ some e.0 (λ bytes f. f)
-  ended-status (Err refusals.NotBuilt) e some = told (held (description_file line)) _ _ some e.0 (λ bytes f. f)
 
   pub ended-written : (end : Ended) → Here end → IsWritten held (Some line) old new (status_at end)
   ended-written (Ok d) (text, may, put) = (text, may, put)
@@ -95,7 +90,6 @@ module _ (held : List ℕ → Option (List ℕ)) (line : CommandLine) (before no
   ended-written (Err (refusals.BadDescription kind number)) e = e.1
   ended-written (Err refusals.TooLong) e = e.1
   ended-written (Err refusals.WrongShape) e = e.1
-  ended-written (Err refusals.NotBuilt) e = e.1
 
   pub ended-read_fault : (end : Ended) → Here end → status_at end ≡ statuses.ReadFault → Rose before now
   ended-read_fault (Ok d) e is = absurd cc
@@ -106,7 +100,6 @@ module _ (held : List ℕ → Option (List ℕ)) (line : CommandLine) (before no
   ended-read_fault (Err (refusals.BadDescription kind number)) e is = absurd cc
   ended-read_fault (Err refusals.TooLong) e is = absurd cc
   ended-read_fault (Err refusals.WrongShape) e is = absurd cc
-  ended-read_fault (Err refusals.NotBuilt) e is = absurd cc
 
   pub ended-write_fault : (end : Ended) → Here end → status_at end ≡ statuses.WriteFault → Rose out_before out_now
   ended-write_fault (Ok d) e is = absurd cc
@@ -117,7 +110,6 @@ module _ (held : List ℕ → Option (List ℕ)) (line : CommandLine) (before no
   ended-write_fault (Err (refusals.BadDescription kind number)) e is = absurd cc
   ended-write_fault (Err refusals.TooLong) e is = absurd cc
   ended-write_fault (Err refusals.WrongShape) e is = absurd cc
-  ended-write_fault (Err refusals.NotBuilt) e is = absurd cc
 
   pub ended-not_usage : (end : Ended) → Here end → status_at end ≡ statuses.Usage → ⊥
   ended-not_usage (Ok d) e is = absurd cc
@@ -128,7 +120,6 @@ module _ (held : List ℕ → Option (List ℕ)) (line : CommandLine) (before no
   ended-not_usage (Err (refusals.BadDescription kind number)) e is = absurd cc
   ended-not_usage (Err refusals.TooLong) e is = absurd cc
   ended-not_usage (Err refusals.WrongShape) e is = absurd cc
-  ended-not_usage (Err refusals.NotBuilt) e is = absurd cc
 
   -- the refusal tells what is so
   pub ended-true : (refusal : Refusal) → Here (Err refusal) → IsTrueOf held (Some line) refusal
@@ -139,7 +130,6 @@ module _ (held : List ℕ → Option (List ℕ)) (line : CommandLine) (before no
   ended-true (refusals.BadDescription kind number) e = e.0
   ended-true refusals.TooLong e = tt
   ended-true refusals.WrongShape e = tt
-  ended-true refusals.NotBuilt e = tt
 
 -- a refusal's note is that of its status
 pub note_is : (held : List ℕ → Option (List ℕ)) (asked : Option CommandLine) (refusal : Refusal) → IsTrueOf held asked refusal → IsNote held asked (status_of refusal) (note_of refusal)
@@ -150,7 +140,6 @@ note_is held asked refusals.Memory h = (refusals.Memory, refl, refl, h)
 note_is held asked (refusals.BadDescription kind number) h = (refusals.BadDescription kind number, refl, refl, h)
 note_is held asked refusals.TooLong h = (refusals.TooLong, refl, refl, h)
 note_is held asked refusals.WrongShape h = (refusals.WrongShape, refl, refl, h)
-note_is held asked refusals.NotBuilt h = (refusals.NotBuilt, refl, refl, h)
 
 -- no note at all
 pub noted-nothing : (old : Option (List ℕ)) (count : ℕ) → IsNoted [] old count old count

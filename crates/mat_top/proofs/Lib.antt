@@ -1,6 +1,6 @@
 pub mod Words
 pub mod ReadingLemmas
-pub mod FreeLadder
+pub mod PricedLadder
 pub mod Refusing
 pub mod Ending
 pub mod Pieces

@@ -1,5 +1,5 @@
 -- Where there is a text for what was read, it is one for the bytes and for the file; and where there is none, why.
-use Rattle.std.proofs.Common.{◌≡◌, ℕ, ◌<◌, ◌≤◌, List, length, Option, Some, None, Err, refl, sym, subst}
+use Rattle.std.proofs.Common.{◌≡◌, ℕ, ◌<◌, ◌≤◌, List, length, Option, Some, None, Err, sym, subst}
 use Rattle.std.specs.Prelude.{IfSome}
 use Rattle.mat_desc.specs.declared.refusal.DescKind.{DescKind}
 use Rattle.mat_desc.specs.declared.refusal.DescRefusal.{DescRefusal}
@@ -11,19 +11,18 @@ use Rattle.mat_desc.specs.Reading.{read_of}
 use Rattle.mat_top.specs.declared.status.Refusal.{Refusal}
 use Rattle.mat_top.specs.declared.status.Refusal.TheVariants as refusals
 use Rattle.mat_top.specs.CommandLines.{CommandLine}
-use Rattle.mat_top.specs.Outcomes.{IsFaulty, IsDescribed, IsAnswerTo, description_limit}
+use Rattle.mat_top.specs.Outcomes.{IsFaulty, IsAnswerTo, description_limit}
 use Rattle.mat_top.specs.Refusals.{HasText, HasNoText, IsCause, IsRefusal}
 
 -- a text for the problem that the bytes spell
 pub answered : (line : CommandLine) (bytes : List ℕ) (instance : Instance) (text : List ℕ) → length bytes ≤ description_limit → Spells bytes instance → HasText line instance text → IsAnswerTo line bytes text
 answered line bytes instance text within spelled has =
-    record { instance = instance; described = record { within = within; spelled = spelled }; form = has.form; built = has.built; answer = has.answer }
+    record { instance = instance; described = record { within = within; spelled = spelled }; form = has.form; answer = has.answer }
 
 -- no text for the problem that they spell
 pub unanswered : (line : CommandLine) (bytes : List ℕ) (instance : Instance) (refusal : Refusal) → length bytes ≤ description_limit → Spells bytes instance → HasNoText line instance refusal → IsCause line bytes refusal
 unanswered line bytes instance refusals.Memory within spelled none = tt
 unanswered line bytes instance refusals.WrongShape within spelled none = (instance, record { within = within; spelled = spelled }, none)
-unanswered line bytes instance refusals.NotBuilt within spelled none = (instance, record { within = within; spelled = spelled }, none.0, none.1)
 unanswered line bytes instance refusals.Usage within spelled none = absurd none
 unanswered line bytes instance refusals.ReadFault within spelled none = absurd none
 unanswered line bytes instance refusals.WriteFault within spelled none = absurd none
@@ -42,7 +41,6 @@ of_file (Some all) bytes P same h = subst P (sym same) h
 pub refused : (line : CommandLine) (held : Option (List ℕ)) (bytes : List ℕ) (before now : ℕ) (refusal : Refusal) → IfSome held (λ all. all ≡ bytes) → IsCause line bytes refusal → IsRefusal line held before now refusal
 refused line held bytes before now refusals.Memory same cause = tt
 refused line held bytes before now refusals.WrongShape same cause = of_file held bytes (λ all. IsCause line all refusals.WrongShape) same cause
-refused line held bytes before now refusals.NotBuilt same cause = of_file held bytes (λ all. IsCause line all refusals.NotBuilt) same cause
 refused line held bytes before now (refusals.BadDescription kind number) same cause = of_file held bytes (λ all. IsCause line all (refusals.BadDescription kind number)) same cause
 refused line held bytes before now refusals.Usage same cause = absurd cause
 refused line held bytes before now refusals.ReadFault same cause = absurd cause

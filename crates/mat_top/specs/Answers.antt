@@ -1,5 +1,5 @@
 -- Right answers.
-use Rattle.std.specs.Prelude.{◌≡◌, ℕ, ◌<◌, ◌≤◌, Bool, List, length, ℤ, Option, Some, slice_get}
+use Rattle.std.specs.Prelude.{◌≡◌, ℕ, ◌<◌, Bool, List, length, ℤ, Some, slice_get}
 use Rattle.mat_sets.specs.Sums.{weight, AreWithin}
 use Rattle.mat_laws.specs.Ladders.{IsRung, IsCut, split_bound}
 use Rattle.mat_any.specs.Trees.{is_independent}

@@ -4,5 +4,5 @@ pub mod Statuses
 pub mod Answers
 pub mod Outcomes
 pub mod WholeFiles
-pub mod FreeLadders
+pub mod PricedRungs
 pub mod Refusals

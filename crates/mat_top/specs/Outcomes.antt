@@ -2,7 +2,6 @@
 use Rattle.std.specs.Prelude.{◌≡◌, ℕ, ◌<◌, ◌≤◌, List, [], length, Option, Some, None, IsSome, IfSome, IsSomeAnd, Err}
 use Rattle.mat_shelf.specs.Faults.{Rose}
 use Rattle.mat_shelf.specs.Writing.{Appended, AppendedPrefix}
-use Rattle.mat_any.specs.Trees.{Tree, uniform, partition}
 use Rattle.mat_desc.specs.Faults.{Fault}
 use Rattle.mat_desc.specs.Instances.{Instance, pair, list, graph, rooted, coloured, table}
 use Rattle.mat_desc.specs.Grammar.{Spells}
@@ -45,29 +44,10 @@ IsPair (rooted vertices root arcs costs) = ⊥
 IsPair (coloured vertices colours edges colour_of weights) = ⊥
 IsPair (table rows columns cells weights) = ⊥
 
--- the matroid on n elements is free: uniform, with a cap of at least n
-abbrev pub IsFree : ℕ → Tree → Type 0
-IsFree n (uniform m cap) = n ≤ cap
-IsFree n (partition m classes caps) = ⊥
-
--- the problem is a pair of matroids, and the second is free
-abbrev pub IsFreePair : Instance → Type 0
-IsFreePair (pair w first second) = IsFree (length w) second
-IsFreePair (list w matroids) = ⊥
-IsFreePair (graph vertices edges) = ⊥
-IsFreePair (rooted vertices root arcs costs) = ⊥
-IsFreePair (coloured vertices colours edges colour_of weights) = ⊥
-IsFreePair (table rows columns cells weights) = ⊥
-
 -- the form of the problem is the command's
 abbrev pub HasForm : CommandLine → Instance → Type 0
 HasForm (show file) instance = Unit {0}
 HasForm (intersect file) instance = IsPair instance
-
--- the command solves problems of this kind
-abbrev pub IsBuilt : CommandLine → Instance → Type 0
-IsBuilt (show file) instance = Unit {0}
-IsBuilt (intersect file) instance = IsFreePair instance
 
 -- ---- what is written
 
@@ -81,7 +61,6 @@ pub record IsAnswerTo (line : CommandLine) (bytes text : List ℕ) : Type 0 wher
   pub instance : Instance
   pub described : IsDescribed bytes instance
   pub form : HasForm line instance
-  pub built : IsBuilt line instance
   pub answer : IsTextFor line instance text
 
 -- the text of a solving command is no longer than a certificate may be
@@ -101,8 +80,7 @@ abbrev pub IsBytesOutcome : CommandLine → List ℕ → Status → Type 0
 IsBytesOutcome line bytes statuses.TooLong = description_limit < length bytes
 IsBytesOutcome line bytes statuses.BadDescription = (fault : Fault) × IsFaulty bytes fault
 IsBytesOutcome line bytes statuses.WrongShape = (instance : Instance) × IsDescribed bytes instance × (HasForm line instance → ⊥)
-IsBytesOutcome line bytes statuses.NotBuilt = (instance : Instance) × IsDescribed bytes instance × HasForm line instance × (IsBuilt line instance → ⊥)
-IsBytesOutcome line bytes statuses.Done = (instance : Instance) × IsDescribed bytes instance × HasForm line instance × IsBuilt line instance
+IsBytesOutcome line bytes statuses.Done = (instance : Instance) × IsDescribed bytes instance × HasForm line instance
 IsBytesOutcome line bytes status = ⊥
 
 -- The status is that of the first row of the table that applies: Usage where the words are no command, and else what the

@@ -8,26 +8,24 @@ use Rattle.mat_cert.specs.Views.{certificate_of}
 use Rattle.mat_top.specs.declared.status.Status.TheVariants as statuses
 use Rattle.mat_top.specs.declared.status.Refusal.{Refusal}
 use Rattle.mat_top.specs.declared.status.Refusal.TheVariants as refusals
-use Rattle.mat_top.specs.CommandLines.{CommandLine, description_file}
+use Rattle.mat_top.specs.CommandLines.{CommandLine}
 use Rattle.mat_top.specs.Answers.{IsSolution, IsSolutionText}
-use Rattle.mat_top.specs.Outcomes.{IsPair, IsFreePair, IsFaulty, IsTextFor, HasForm, IsBuilt, IsBytesOutcome, IsAnswerTo, IsShort, description_limit, certificate_limit}
+use Rattle.mat_top.specs.Outcomes.{IsPair, IsFaulty, IsTextFor, HasForm, IsBytesOutcome, IsAnswerTo, IsShort, description_limit, certificate_limit}
 
 -- why a problem is not solved
 abbrev pub IsUnsolved : Instance → Refusal → Type 0
 IsUnsolved instance refusals.Memory = Unit {0}
 IsUnsolved instance refusals.WrongShape = IsPair instance → ⊥
-IsUnsolved instance refusals.NotBuilt = IsPair instance × (IsFreePair instance → ⊥)
 IsUnsolved instance refusal = ⊥
 
--- a right answer to a pair whose second matroid is free, and a refusal of every other problem
+-- a right answer to a pair of matroids, and a refusal of every other problem
 abbrev pub IsSolved : Instance → Result Answer Refusal → Type 0
-IsSolved instance (Ok answer) = IsPair instance × IsFreePair instance × IsSolution instance (certificate_of answer)
+IsSolved instance (Ok answer) = IsPair instance × IsSolution instance (certificate_of answer)
 IsSolved instance (Err refusal) = IsUnsolved instance refusal
 
--- the text is that of a right answer to a pair whose second matroid is free, and no longer than a certificate may be
+-- the text is that of a right answer to a pair of matroids, and no longer than a certificate may be
 pub record HasSolutionText (instance : Instance) (text : List ℕ) : Type 0 where
   pub form : IsPair instance
-  pub built : IsFreePair instance
   pub answer : IsSolutionText instance text
   pub short : length text ≤ certificate_limit
 
@@ -35,13 +33,11 @@ pub record HasSolutionText (instance : Instance) (text : List ℕ) : Type 0 wher
 abbrev pub HasNoText : CommandLine → Instance → Refusal → Type 0
 HasNoText line instance refusals.Memory = Unit {0}
 HasNoText line instance refusals.WrongShape = HasForm line instance → ⊥
-HasNoText line instance refusals.NotBuilt = HasForm line instance × (IsBuilt line instance → ⊥)
 HasNoText line instance refusal = ⊥
 
--- there is a text for a problem: the command is for its form, solves it, and writes this
+-- there is a text for a problem: the command is for its form, and writes this
 pub record HasText (line : CommandLine) (instance : Instance) (text : List ℕ) : Type 0 where
   pub form : HasForm line instance
-  pub built : IsBuilt line instance
   pub answer : IsTextFor line instance text
   pub short : IsShort line text
 
@@ -50,7 +46,6 @@ abbrev pub IsCause : CommandLine → List ℕ → Refusal → Type 0
 IsCause line bytes refusals.Memory = Unit {0}
 IsCause line bytes (refusals.BadDescription kind number) = IsFaulty bytes (kind, number)
 IsCause line bytes refusals.WrongShape = IsBytesOutcome line bytes statuses.WrongShape
-IsCause line bytes refusals.NotBuilt = IsBytesOutcome line bytes statuses.NotBuilt
 IsCause line bytes refusal = ⊥
 
 -- the text may be written: it is short enough and, where the file is told, what the command writes
@@ -64,7 +59,6 @@ IsRefusal line held before now refusals.TooLong = IfSome held (λ bytes. descrip
 IsRefusal line held before now refusals.Memory = Unit {0}
 IsRefusal line held before now (refusals.BadDescription kind number) = IfSome held (λ bytes. IsCause line bytes (refusals.BadDescription kind number))
 IsRefusal line held before now refusals.WrongShape = IfSome held (λ bytes. IsCause line bytes refusals.WrongShape)
-IsRefusal line held before now refusals.NotBuilt = IfSome held (λ bytes. IsCause line bytes refusals.NotBuilt)
 IsRefusal line held before now refusals.Usage = ⊥
 IsRefusal line held before now refusals.WriteFault = ⊥
 

@@ -18,7 +18,6 @@ status_number statuses.WriteFault = 6
 status_number statuses.Memory = 7
 status_number statuses.TooLong = 8
 status_number statuses.WrongShape = 9
-status_number statuses.NotBuilt = 10
 
 -- the status of a call that was refused
 abbrev pub status_of : Refusal → Status
@@ -29,7 +28,6 @@ status_of refusals.WriteFault = statuses.WriteFault
 status_of refusals.Memory = statuses.Memory
 status_of refusals.TooLong = statuses.TooLong
 status_of refusals.WrongShape = statuses.WrongShape
-status_of refusals.NotBuilt = statuses.NotBuilt
 
 -- pieces one after the other
 abbrev pub joined : List (List ℕ) → List ℕ
@@ -45,4 +43,3 @@ note_of refusals.WriteFault = codes "refused: write fault" ++ 10 ∷ []
 note_of refusals.Memory = codes "refused: memory" ++ 10 ∷ []
 note_of refusals.TooLong = codes "refused: too long" ++ 10 ∷ []
 note_of refusals.WrongShape = codes "refused: wrong shape" ++ 10 ∷ []
-note_of refusals.NotBuilt = codes "refused: not built" ++ 10 ∷ []

@@ -84,6 +84,5 @@ pub fn put_note<N: Sink>(notes: &mut N, refusal: Refusal)
         Refusal::Memory => put_text(notes, b"refused: memory\n"),
         Refusal::TooLong => put_text(notes, b"refused: too long\n"),
         Refusal::WrongShape => put_text(notes, b"refused: wrong shape\n"),
-        Refusal::NotBuilt => put_text(notes, b"refused: not built\n"),
     }
 }

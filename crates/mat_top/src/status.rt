@@ -24,8 +24,6 @@ pub enum Status {
     TooLong,
     /// The form of the problem is not the command's.
     WrongShape,
-    /// The second matroid of the pair is not free.
-    NotBuilt,
 }
 
 impl Status {
@@ -42,7 +40,6 @@ impl Status {
             Status::Memory => 7,
             Status::TooLong => 8,
             Status::WrongShape => 9,
-            Status::NotBuilt => 10,
         }
     }
 }
@@ -64,8 +61,6 @@ pub enum Refusal {
     TooLong,
     /// The form of the problem is not the command's.
     WrongShape,
-    /// The second matroid of the pair is not free.
-    NotBuilt,
 }
 
 impl Refusal {
@@ -81,7 +76,6 @@ impl Refusal {
             Refusal::Memory => Status::Memory,
             Refusal::TooLong => Status::TooLong,
             Refusal::WrongShape => Status::WrongShape,
-            Refusal::NotBuilt => Status::NotBuilt,
         }
     }
 }

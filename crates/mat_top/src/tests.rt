@@ -26,6 +26,9 @@ const TWO_UNIFORMS: &str =
 const TWO_PARTITIONS: &str =
     "matroids 1\npair 4\nweights 5 4 4 1\npartition 2\nclass 1 0 1\nclass 1 2 3\npartition 2\nclass 1 0 2\nclass 1 1 3\nend\n";
 
+const EQUAL_WEIGHTS: &str =
+    "matroids 1\npair 4\nweights 0 0 0 0\npartition 2\nclass 1 0 1\nclass 1 2 3\npartition 2\nclass 1 0 2\nclass 1 1 3\nend\n";
+
 const SMALL_CAP: &str = "matroids 1\npair 2\nweights 1 1\nuniform 2\nuniform 0\nend\n";
 
 fn words_of(alloc: Global, words: &[&str]) -> Result<Vec<String>, AllocError> {
@@ -134,17 +137,67 @@ fn the_largest_weights_are_added(rt: HostRuntime) -> Result<(), Fail> {
 }
 
 #[test]
-fn a_second_matroid_that_is_not_free_is_not_built(rt: HostRuntime) -> Result<(), Fail> {
+fn a_row_and_a_column_are_used_once(rt: HostRuntime) -> Result<(), Fail> {
     let alloc = rt.alloc();
-    for text in [TWO_PARTITIONS, SMALL_CAP] {
-        let mut out = large_sink(alloc)?;
-        let mut notes = large_sink(alloc)?;
-        let words = ["intersect", "f"];
-        let status = ended(alloc, &words, text, Vec::new(alloc), &mut out, &mut notes)?;
-        assert_eq!(rt; status, Status::NotBuilt);
-        assert!(rt; out.taken().is_empty());
-        assert_eq!(rt; notes.taken(), b"refused: not built\n".as_slice());
-    }
+    let mut out = large_sink(alloc)?;
+    let mut notes = large_sink(alloc)?;
+    let words = ["intersect", "f"];
+    let status = ended(
+        alloc,
+        &words,
+        TWO_PARTITIONS,
+        Vec::new(alloc),
+        &mut out,
+        &mut notes,
+    )?;
+    assert_eq!(rt; status, Status::Done);
+    assert!(rt; has_line(out.taken(), b"answer intersect 4 2".as_slice()));
+    assert!(rt; has_line(out.taken(), b"rung 0 0".as_slice()));
+    assert!(rt; has_line(out.taken(), b"rung 1 5".as_slice()));
+    assert!(rt; has_line(out.taken(), b"set 0".as_slice()));
+    assert!(rt; has_line(out.taken(), b"rung 2 8".as_slice()));
+    assert!(rt; has_line(out.taken(), b"set 1 2".as_slice()));
+    Ok(())
+}
+
+#[test]
+fn equal_weights_take_a_path_with_fewest_vertices(rt: HostRuntime) -> Result<(), Fail> {
+    let alloc = rt.alloc();
+    let mut out = large_sink(alloc)?;
+    let mut notes = large_sink(alloc)?;
+    let words = ["intersect", "f"];
+    let status = ended(
+        alloc,
+        &words,
+        EQUAL_WEIGHTS,
+        Vec::new(alloc),
+        &mut out,
+        &mut notes,
+    )?;
+    assert_eq!(rt; status, Status::Done);
+    assert!(rt; has_line(out.taken(), b"answer intersect 4 2".as_slice()));
+    assert!(rt; has_line(out.taken(), b"rung 1 0".as_slice()));
+    assert!(rt; has_line(out.taken(), b"rung 2 0".as_slice()));
+    Ok(())
+}
+
+#[test]
+fn a_cap_of_nothing_has_all_elements_as_cut(rt: HostRuntime) -> Result<(), Fail> {
+    let alloc = rt.alloc();
+    let mut out = large_sink(alloc)?;
+    let mut notes = large_sink(alloc)?;
+    let words = ["intersect", "f"];
+    let status = ended(
+        alloc,
+        &words,
+        SMALL_CAP,
+        Vec::new(alloc),
+        &mut out,
+        &mut notes,
+    )?;
+    assert_eq!(rt; status, Status::Done);
+    assert!(rt; has_line(out.taken(), b"answer intersect 2 0".as_slice()));
+    assert!(rt; has_line(out.taken(), b"cut 0 1".as_slice()));
     Ok(())
 }
 

@@ -126,7 +126,7 @@ fn perform<F: Shelf, O: Sink>(
 ///
 /// Usage comes exactly where the words are no command, ReadFault only where the shelf's count of faults rose for the file, and
 /// WriteFault only where the count of `out` rose. Where the shelf tells the file, each other status but Memory is the one of the
-/// table in docs/DEFINITIONS.md: TooLong, BadDescription, WrongShape, NotBuilt or Done. Nothing is written to `out` but on Done, when it is the whole answer, and on WriteFault, when
+/// table in docs/DEFINITIONS.md: TooLong, BadDescription, WrongShape or Done. Nothing is written to `out` but on Done, when it is the whole answer, and on WriteFault, when
 /// it is a prefix of it.
 pub fn run<F: Shelf, O: Sink, N: Sink>(
     alloc: Global,

@@ -2,6 +2,3 @@ use Rattle.mat_top.proofs.notes.put_note.Goals as goal
 
 pub returns-in-TooLong : goal.returns-in-TooLong
 returns-in-TooLong g c = rw c.in-TooLong.is c.put_text-in-TooLong.ensures
-
-pub returns-in-NotBuilt : goal.returns-in-NotBuilt
-returns-in-NotBuilt g c = rw c.in-NotBuilt.is c.put_text-in-NotBuilt.ensures

@@ -1,7 +1,26 @@
-use Rattle.std.proofs.Common.{arith}
+use Rattle.std.proofs.Common.{ℕ, length, refl, subst}
+use Rattle.mat_laws.specs.Matroids.{IsMatroid}
+use Rattle.mat_any.specs.Trees.{is_independent}
+use Rattle.mat_any.specs.Views.{tree_of}
+use Rattle.mat_split.specs.Ladders.{IsLadder}
+use Rattle.mat_top.proofs.PricedLadder.{few_elements, priced_solution}
 use Rattle.mat_top.proofs.solve.solve_pair.Goals as goal
 
-pub returns-in-Ok : goal.returns-in-Ok
-returns-in-Ok c =
-    let size = c.requires.sound.3 in
-    rw c.in-Uniform.is (tt, omega arith, c.in-Ok.ensures c.in-Uniform.uniform.count c.in-Uniform.uniform.cap (rw c.in-Uniform.is at size) (omega arith))
+pub priced_rungs-requires-clause-rungs : goal.priced_rungs-requires-clause-rungs
+priced_rungs-requires-clause-rungs c =
+    let p = is_independent (tree_of c.args.first.now) in
+    let w = c.args.weights.now in
+    let laws : IsMatroid (length w) p = subst (λ (n : ℕ). IsMatroid n p) c.requires.sound.1 c.lawful.ensures in
+    let ladder : IsLadder (length w) p (is_independent (tree_of c.args.second.now)) w c.in_ok-ladder.ladder.rungs.items c.in_ok-ladder.ladder.cut
+    = rw (c.as_slice.ensures, c.requires.sound.1) at c.in_ok-ladder.ensures in
+    rw c.as_slice-2.ensures (few_elements laws c.requires.valid.0.0 c.requires.valid.0.1 c.in_ok-ladder.ladder.rungs.items c.in_ok-ladder.ladder.cut ladder)
+
+pub returns : goal.returns
+returns c =
+    let p = is_independent (tree_of c.args.first.now) in
+    let w = c.args.weights.now in
+    let laws : IsMatroid (length w) p = subst (λ (n : ℕ). IsMatroid n p) c.requires.sound.1 c.lawful.ensures in
+    let ladder : IsLadder (length w) p (is_independent (tree_of c.args.second.now)) w c.in_ok-ladder.ladder.rungs.items c.in_ok-ladder.ladder.cut
+    = rw (c.as_slice.ensures, c.requires.sound.1) at c.in_ok-ladder.ensures in
+    rw (c.in_ok-rungs.ensures, c.as_slice-2.ensures, c.len.ensures)
+    (priced_solution (length w) (tree_of c.args.first.now) (tree_of c.args.second.now) w c.in_ok-ladder.ladder.rungs.items c.in_ok-ladder.ladder.cut refl laws c.requires.valid.0.0 c.requires.valid.0.1 ladder)

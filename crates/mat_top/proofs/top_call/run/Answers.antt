@@ -1,7 +1,5 @@
-use Rattle.std.proofs.Common.{map, sym, Err}
-use Rattle.std.specs.Prelude.{string_bytes}
+use Rattle.std.proofs.Common.{sym, Err}
 use Rattle.mat_top.specs.declared.status.Refusal.TheVariants as refusals
-use Rattle.mat_top.specs.CommandLines.{command_line, description_file}
 use Rattle.mat_top.specs.Commands.{line_of}
 use Rattle.mat_top.specs.Statuses.{note_of}
 use Rattle.mat_top.proofs.Ending.{usage_noted, ended-written}

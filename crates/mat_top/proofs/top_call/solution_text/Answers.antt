@@ -7,7 +7,6 @@ returns-in-Ok-write_answer-clause-text c =
     let solved = c.in-Ok.ensures in
     record {
       form = solved.0;
-      built = solved.1;
-      answer = record { certificate = certificate_of c.in-Ok.answer; solution = solved.2; whole = c.in-Ok-write_answer.ensures };
-      short = rw c.in-Ok-write_answer.ensures (length-certificate_text (certificate_of c.in-Ok.answer) solved.2.ranged);
+      answer = record { certificate = certificate_of c.in-Ok.answer; solution = solved.1; whole = c.in-Ok-write_answer.ensures };
+      short = rw c.in-Ok-write_answer.ensures (length-certificate_text (certificate_of c.in-Ok.answer) solved.1.ranged);
     }
