@@ -1,0 +1,2 @@
+pub mod TightArcs
+pub mod TightPathSteps
