@@ -1,2 +1,4 @@
 pub mod TightArcs
 pub mod TightPathSteps
+pub mod WeightChanges
+pub mod CutsWithoutSlack
