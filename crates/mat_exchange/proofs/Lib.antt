@@ -2,3 +2,4 @@ pub mod TightArcs
 pub mod TightPathSteps
 pub mod WeightChanges
 pub mod CutsWithoutSlack
+pub mod SplitBounds
