@@ -3,3 +3,4 @@ pub mod TightPathSteps
 pub mod WeightChanges
 pub mod CutsWithoutSlack
 pub mod SplitBounds
+pub mod LeastSlacks
