@@ -69,7 +69,9 @@ module _ {n : ℕ} {p q : List ℕ → Bool} (lp : IsMatroid n p) (lq : IsMatroi
   changed_again j w1 w2 R d now stuck slack =
       let change = change_by_least_slack lp lq w1 w2 I R now.at.first now.at.second stuck d slack in
       let plus = change.positive in
-      let split = change_keeps_split_within n (exchanges_at p I) (exchanges_at q I) w w1 w2 m (base + 2 * m * (n + 1) * j) R d small now.at.split stuck.reached slack.slack (omega (arith, ints)) in
+      let split =
+      change_keeps_split_within n (exchanges_at p I) (exchanges_at q I) w w1 w2 m (base + 2 * m * (n + 1) * j) R d small now.at.split
+      stuck.reached slack.slack (omega (arith, ints)) in
       let reached = now.many R stuck in
       record {
         at = record {
@@ -82,7 +84,7 @@ module _ {n : ℕ} {p q : List ℕ → Bool} (lp : IsMatroid n p) (lq : IsMatroi
         few = (let most = IsSet-length n R stuck.reached.set in omega arith);
       }
 
-  -- a search, after which one more change may lead on
+  -- one search finds the next set or the cut, or asks for one more change
   next_or_cut_after : (j : ℕ) (w1 w2 : ℕ → ℤ) → IsChangedTimes n p q w m base I j w1 w2
       → ((v1 v2 : ℕ → ℤ) → IsChangedTimes n p q w m base I (suc j) v1 v2 → NextOrCut n p q w (length I) (base + 2 * m * (n + 1) * (n + 1)))
       → NextOrCut n p q w (length I) (base + 2 * m * (n + 1) * (n + 1))
