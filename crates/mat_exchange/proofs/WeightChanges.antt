@@ -4,6 +4,7 @@ use Rattle.std.proofs.Common.{◌≡◌, ℕ, ◌<◌, Bool, true, false, List, 
 use Rattle.std.proofs.lemmas.Bool.{cases_Bool, cond-true, cond-false, both_ways}
 use Rattle.std.proofs.lemmas.Int.{ints, by_lt_z}
 use Rattle.mat_sets.specs.Sets.{is_member, IsSubset, with_one, without_one}
+use Rattle.mat_sets.specs.Walks.{IsReachedSet}
 use Rattle.mat_sets.proofs.Members.{set_members, IsRising-with_one}
 use Rattle.mat_sets.proofs.Cardinalities.{length-with_one}
 use Rattle.mat_sets.proofs.Subsets.{length-subset, with_one-IsSubset}
@@ -159,12 +160,16 @@ module _ {n : ℕ} {p q : List ℕ → Bool} (lp : IsMatroid n p) (lq : IsMatroi
           (rw (raised-member w2 R d u ur, raised-member w2 R d v vr) (omega (arith, ints))))
     ]
 
+    -- what was reached is reached after the change
+    all_stays : (S : List ℕ) → IsReachedSet n (is_tight (exchanges_at p I) (exchanges_at q I) (lowered w1 R d) (raised w2 R d))
+        (is_heaviest_addable n (exchanges_at p I) (lowered w1 R d)) S → (v : ℕ) → is_member v R ≡ true → is_member v S ≡ true
+    all_stays S reached = reached_by_induction R (λ v. is_member v S) stuck.reached
+        (λ v lv top. reached.starts v lv (source_stays v lv top))
+        (λ u v ur lv us tight. reached.closed u v us lv (arc_stays u v ur (stuck.reached.closed u v ur lv tight) tight))
+
     module _ (S : List ℕ) (later : IsStuckReach n (exchanges_at p I) (exchanges_at q I) (lowered w1 R d) (raised w2 R d) S) where
-      -- what was reached is reached after the change
       reached_stays : (v : ℕ) → is_member v R ≡ true → is_member v S ≡ true
-      reached_stays = reached_by_induction R (λ v. is_member v S) stuck.reached
-          (λ v lv top. later.reached.starts v lv (source_stays v lv top))
-          (λ u v ur lv us tight. later.reached.closed u v us lv (arc_stays u v ur (stuck.reached.closed u v ur lv tight) tight))
+      reached_stays = all_stays S later.reached
 
       -- a source outside R
       new_source : (top x : ℕ) → top < n → x < n → is_heaviest_addable n (exchanges_at p I) w1 top ≡ true
@@ -224,5 +229,6 @@ module _ {n : ℕ} {p q : List ℕ → Bool} (lp : IsMatroid n p) (lq : IsMatroi
     positive = slack_positive d slack.slack;
     first = first_stays_heaviest d slack;
     second = second_stays_heaviest d slack;
+    stays = λ S reached. record { inside = all_stays d slack S reached };
     grows = λ S later. reaches_more d slack S later;
   }

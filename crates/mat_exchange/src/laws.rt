@@ -3,7 +3,7 @@
 ghost use Rattle.std.specs.Prelude.{◌≡◌, ◌<◌, ◌+◌, ◌*◌, ◌≤ℤ◌, ℕ, ℤ, suc, pos, List, Bool, true, length};
 ghost use Rattle.mat_sets.specs.Sets.{IsSet};
 ghost use Rattle.mat_sets.specs.Sums.{IsWithin};
-ghost use Rattle.mat_sets.specs.Walks.{IsReachedSet};
+ghost use Rattle.mat_sets.specs.Walks.{IsReachedSet, IsWalk};
 ghost use Rattle.mat_laws.specs.Matroids.{IsMatroid};
 ghost use Rattle.mat_laws.specs.Heaviest.{IsHeaviest};
 ghost use Rattle.mat_laws.specs.TightPaths.{Exchanges, exchanges_at, exchanged_along, is_heaviest_addable, is_tight, IsTightPath, IsStuckReach};
@@ -20,8 +20,14 @@ pub fn exchange_along_tight_path()
         × IsHeaviest p w1 (exchanged_along I path) × IsHeaviest q w2 (exchanged_along I path) }
 {}
 
+/// Where no sink is among what the sources reach, there is no tight path, also no longer one (Frank 1981).
+pub fn stuck_reach_has_no_path()
+    ensures { (n : ℕ) (first second : Exchanges) (w1 w2 : ℕ → ℤ) (R path : List ℕ) → IsStuckReach n first second w1 w2 R
+        → ¬ IsWalk n (is_tight first second w1 w2) (is_heaviest_addable n first w1) (is_heaviest_addable n second w2) path }
+{}
+
 /// Where no sink is among what the sources reach, the change of the weights by the least slack keeps the set heaviest of its size
-/// in both matroids, and every later search that finds no path reaches more elements (Frank 1981).
+/// in both matroids, what was reached stays reached, and every later search that again finds no path reaches more (Frank 1981).
 pub fn change_by_least_slack()
     ensures { (n : ℕ) (p q : List ℕ → Bool) → IsMatroid n p → IsMatroid n q → (w1 w2 : ℕ → ℤ) (I R : List ℕ) (d : ℤ)
         → IsHeaviest p w1 I → IsHeaviest q w2 I → IsStuckReach n (exchanges_at p I) (exchanges_at q I) w1 w2 R
