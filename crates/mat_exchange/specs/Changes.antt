@@ -1,9 +1,10 @@
 -- Changes of a split of the weights at a reached set: the first weight falls on it, and the second rises (Frank 1981; Schrijver,
 -- chapter 41).
 use Rattle.std.specs.Prelude.{◌≡◌, ℕ, ◌<◌, Bool, if◌then◌else◌, List, length, ℤ, pos, ◌+ℤ◌, ◌-ℤ◌, ◌≤ℤ◌, ◌<ℤ◌}
-use Rattle.mat_sets.specs.Sets.{is_member}
+use Rattle.mat_sets.specs.Sets.{is_member, IsSubset}
+use Rattle.mat_sets.specs.Walks.{IsReachedSet}
 use Rattle.mat_laws.specs.Heaviest.{IsHeaviest}
-use Rattle.mat_laws.specs.TightPaths.{exchanges_at, IsStuckReach}
+use Rattle.mat_laws.specs.TightPaths.{exchanges_at, is_heaviest_addable, is_tight, IsStuckReach}
 
 -- w less d on R
 abbrev pub lowered : (ℕ → ℤ) → List ℕ → ℤ → ℕ → ℤ
@@ -14,11 +15,13 @@ abbrev pub raised : (ℕ → ℤ) → List ℕ → ℤ → ℕ → ℤ
 raised w R d x = if is_member x R then w x +ℤ d else w x
 
 -- what a change by d at R does to a set I that is heaviest of its size in both matroids: d is above 0, I stays heaviest in both,
--- and every later search that finds no path reaches more elements
+-- what was reached stays reached, and every later search that again finds no path reaches more elements
 pub record IsChange (n : ℕ) (p q : List ℕ → Bool) (w1 w2 : ℕ → ℤ) (I R : List ℕ) (d : ℤ) : Type 0 where
   pub positive : pos 0 <ℤ d
   pub first : IsHeaviest p (lowered w1 R d) I
   pub second : IsHeaviest q (raised w2 R d) I
+  pub stays : (S : List ℕ) → IsReachedSet n (is_tight (exchanges_at p I) (exchanges_at q I) (lowered w1 R d) (raised w2 R d))
+      (is_heaviest_addable n (exchanges_at p I) (lowered w1 R d)) S → IsSubset R S
   pub grows : (S : List ℕ) → IsStuckReach n (exchanges_at p I) (exchanges_at q I) (lowered w1 R d) (raised w2 R d) S → length R < length S
 
 -- w1 and w2 add up to w at each element, and w2 is at least 0 and at most h

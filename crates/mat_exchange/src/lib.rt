@@ -2,5 +2,6 @@
 #![tactic(auto)]
 
 mod found;
+pub mod laws;
 
 pub use found::Found;

@@ -3,6 +3,7 @@
 
 mod intersect;
 mod ladder;
+pub mod laws;
 
 pub use intersect::intersect_all;
 pub use ladder::{Ladder, Rung};

@@ -1,0 +1,3 @@
+pub mod BestLadders
+pub mod NextRungs
+pub mod LaddersExist

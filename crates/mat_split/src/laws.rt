@@ -1,0 +1,31 @@
+//! What a ladder proves of two matroids. Each law is the contract of a function that does nothing.
+
+ghost use Rattle.std.specs.Prelude.{◌≡◌, ◌<◌, ◌^◌, ◌+ℤ◌, ℕ, ℤ, List, Bool, true, length, Some, slice_get};
+ghost use Rattle.mat_sets.specs.Sets.{IsSet};
+ghost use Rattle.mat_sets.specs.Sums.{weight, AreWithin};
+ghost use Rattle.mat_laws.specs.Matroids.{IsMatroid};
+ghost use Rattle.mat_split.specs.CommonSets.{IsHeaviestCommon};
+ghost use Rattle.mat_split.specs.Ladders.{IsLadder};
+ghost use Rattle.mat_split.specs.declared.ladder.Rung.{Rung};
+
+/// The set of rung k of a ladder is heaviest among the sets of k elements that are independent in both matroids; every set that is
+/// independent in both has fewer elements than the ladder has rungs; and each set weighs what the two parts of a rung's split give
+/// it together (Frank 1981; the bound by the cut is Edmonds').
+pub fn ladder_is_best()
+    ensures heaviest { (n : ℕ) (p q : List ℕ → Bool) → IsMatroid n p → IsMatroid n q
+        → (w : List ℤ) (rungs : List Rung) (cut : List ℕ) → IsLadder n p q w rungs cut
+        → (k : ℕ) (rung : Rung) → slice_get rungs k ≡ Some rung → IsHeaviestCommon p q w k rung.set }
+    ensures largest { (n : ℕ) (p q : List ℕ → Bool) → IsMatroid n p → IsMatroid n q
+        → (w : List ℤ) (rungs : List Rung) (cut : List ℕ) → IsLadder n p q w rungs cut
+        → (other : List ℕ) → p other ≡ true → q other ≡ true → length other < length rungs }
+    ensures splits { (n : ℕ) (p q : List ℕ → Bool) (w : List ℤ) (rungs : List Rung) (cut : List ℕ) → IsLadder n p q w rungs cut
+        → (k : ℕ) (rung : Rung) → slice_get rungs k ≡ Some rung
+        → (X : List ℕ) → IsSet n X → weight w X ≡ weight rung.first X +ℤ weight rung.second X }
+{}
+
+/// Every pair of matroids on n elements has a ladder, for all weights of at least -10^12 and at most 10^12 (Frank 1981).
+pub fn ladder_exists()
+    ensures { (n : ℕ) (p q : List ℕ → Bool) → IsMatroid n p → IsMatroid n q
+        → (w : List ℤ) → length w ≡ n → AreWithin (10 ^ 12) w
+        → (rungs : List Rung) × (cut : List ℕ) × IsLadder n p q w rungs cut }
+{}
