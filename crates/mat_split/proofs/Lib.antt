@@ -1,3 +1,4 @@
 pub mod BestLadders
 pub mod NextRungs
 pub mod LaddersExist
+pub mod Changing
