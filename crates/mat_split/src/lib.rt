@@ -1,6 +1,7 @@
 //! Heaviest common independent sets of two matroids, with their proof by weight splitting.
 #![tactic(auto)]
 
+mod augment;
 mod augmented;
 mod change;
 mod intersect;

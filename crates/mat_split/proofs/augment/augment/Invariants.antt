@@ -1,0 +1,11 @@
+use Rattle.std.proofs.Common.{◌+◌, ◌-◌}
+use Rattle.mat_split.specs.Augmenting.{weights_of}
+use Rattle.mat_split.proofs.SplitSteps.{IsChanged}
+use Rattle.mat_split.proofs.augment.augment.Given as goal
+
+abbrev pub invariant-changes : goal.invariant-changes
+invariant-changes g l =
+    IsChanged (g.A.Matroid.ground_size l.a) (g.A.Matroid.indep l.a) (g.B.Matroid.indep l.b) (weights_of l.rung) l.rung.set l.changes l.first.items l.second.items
+
+abbrev pub decreases-changes : goal.decreases-changes
+decreases-changes g l = (g.A.Matroid.ground_size l.a + 2) - l.changes
