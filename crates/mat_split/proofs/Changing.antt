@@ -91,7 +91,8 @@ is_member-exchanged_along z I path = grind (arith, set_members)
 
 -- whether an element is in the set, by whether it stood on the path so far, is a member, and is the next vertex
 taken : (so_far member here : Bool) → (here ≡ true → member ≡ true)
-    → (((so_far && not member) || (member && not so_far)) && not here) ≡ (((so_far || (here || false)) && not member) || (member && not (so_far || (here || false))))
+    → (((so_far && not member) || (member && not so_far)) && not here)
+    ≡ (((so_far || (here || false)) && not member) || (member && not (so_far || (here || false))))
 taken true true true h = refl
 taken true true false h = refl
 taken true false true h = absurd (both_ways _ refl (h refl))
@@ -102,7 +103,8 @@ taken false false true h = absurd (both_ways _ refl (h refl))
 taken false false false h = refl
 
 added : (so_far member here : Bool) → (here ≡ true → member ≡ false)
-    → (here || ((so_far && not member) || (member && not so_far))) ≡ (((so_far || (here || false)) && not member) || (member && not (so_far || (here || false))))
+    → (here || ((so_far && not member) || (member && not so_far)))
+    ≡ (((so_far || (here || false)) && not member) || (member && not (so_far || (here || false))))
 added true true true h = absurd (both_ways _ (h refl) refl)
 added true true false h = refl
 added true false true h = refl
@@ -114,7 +116,8 @@ added false false false h = refl
 
 -- along no path nothing is exchanged
 pub exchanged_along_none : (I : List ℕ) → IsRising I → I ≡ exchanged_along I []
-exchanged_along_none I r = same_members I (exchanged_along I []) r (IsRising-exchanged_along I [] r) (λ z. (let a = is_member-exchanged_along z I [] in grind arith))
+exchanged_along_none I r = same_members I (exchanged_along I []) r (IsRising-exchanged_along I [] r)
+    (λ z. (let a = is_member-exchanged_along z I [] in grind arith))
 
 module _ (I path : List ℕ) (i x : ℕ) (r : IsRising I) (l : i < length path) (at : x ≡ get_or path i 0) where
   abbrev pub next : List ℕ
@@ -126,19 +129,31 @@ module _ (I path : List ℕ) (i x : ℕ) (r : IsRising I) (l : i < length path) 
   -- a vertex that is a member is taken out
   pub exchanged_along_member : is_member x I ≡ true → without_one (exchanged_along I (take i path)) x ≡ next
   exchanged_along_member inside =
-      same_members (without_one (exchanged_along I (take i path)) x) next (IsRising-without_one _ x (IsRising-exchanged_along I (take i path) r)) (IsRising-exchanged_along I (take (i + 1) path) r) agree
+      same_members (without_one (exchanged_along I (take i path)) x) next
+      (IsRising-without_one _ x (IsRising-exchanged_along I (take i path) r)) (IsRising-exchanged_along I (take (i + 1) path) r) agree
     where
       agree : (z : ℕ) → is_member z (without_one (exchanged_along I (take i path)) x) ≡ is_member z next
       agree z =
-          rw (is_member-without_one z x (exchanged_along I (take i path)), is_member-exchanged_along z I (take i path), is_member-exchanged_along z I (take (i + 1) path), on_path z)
+          rw (
+            is_member-without_one z x (exchanged_along I (take i path)),
+            is_member-exchanged_along z I (take i path),
+            is_member-exchanged_along z I (take (i + 1) path),
+            on_path z,
+          )
           (taken (is_member z (take i path)) (is_member z I) (eqb z x) (λ e. subst (λ v. is_member v I ≡ true) (sym (eqb-true z x e)) inside))
 
   -- and each other one is added
   pub exchanged_along_other : is_member x I ≡ false → with_one (exchanged_along I (take i path)) x ≡ next
   exchanged_along_other outside =
-      same_members (with_one (exchanged_along I (take i path)) x) next (IsRising-with_one _ x (IsRising-exchanged_along I (take i path) r)) (IsRising-exchanged_along I (take (i + 1) path) r) agree
+      same_members (with_one (exchanged_along I (take i path)) x) next
+      (IsRising-with_one _ x (IsRising-exchanged_along I (take i path) r)) (IsRising-exchanged_along I (take (i + 1) path) r) agree
     where
       agree : (z : ℕ) → is_member z (with_one (exchanged_along I (take i path)) x) ≡ is_member z next
       agree z =
-          rw (is_member-with_one z x (exchanged_along I (take i path)), is_member-exchanged_along z I (take i path), is_member-exchanged_along z I (take (i + 1) path), on_path z)
+          rw (
+            is_member-with_one z x (exchanged_along I (take i path)),
+            is_member-exchanged_along z I (take i path),
+            is_member-exchanged_along z I (take (i + 1) path),
+            on_path z,
+          )
           (added (is_member z (take i path)) (is_member z I) (eqb z x) (λ e. subst (λ v. is_member v I ≡ false) (sym (eqb-true z x e)) outside))

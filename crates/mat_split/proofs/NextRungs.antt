@@ -8,7 +8,6 @@ use Rattle.mat_sets.specs.Sums.{IsWithin}
 use Rattle.mat_sets.proofs.Ground.{IsSet-length}
 use Rattle.mat_sets.proofs.Reach.{finite_reach}
 use Rattle.mat_laws.specs.Matroids.{IsMatroid}
-use Rattle.mat_laws.specs.Heaviest.{IsHeaviest}
 use Rattle.mat_laws.specs.Ladders.{IsCut}
 use Rattle.mat_laws.specs.Slacks.{IsLeastSlack}
 use Rattle.mat_laws.specs.TightPaths.{exchanges_at, exchanged_along, is_heaviest_addable, is_tight, IsTightPath, IsStuckReach}

@@ -1,19 +1,17 @@
 -- What the loop over the sizes keeps: the rungs so far, one for each size, are right and within the bound, and the next one is within its
 -- own. As its set is independent, there are at most n rungs before it.
-use Rattle.std.proofs.Common.{◌≡◌, ℕ, suc, zero, ◌+◌, ◌-◌, ◌*◌, ◌^◌, ◌<◌, ◌≤◌, Bool, List, [], ◌∷◌, ◌++◌, length, ℤ, pos, ◌+ℤ◌, Some, replicate, refl, sym, ap, ◌∙◌, subst, arith, inl, inr}
+use Rattle.std.proofs.Common.{◌≡◌, ℕ, suc, zero, ◌+◌, ◌-◌, ◌*◌, ◌^◌, ◌<◌, ◌≤◌, Bool, List, [], ◌∷◌, ◌++◌, length, ℤ, pos, Some, replicate, refl, sym, ap, ◌∙◌, subst, arith}
 use Rattle.std.proofs.Math.Nat.{mul-le-mul_left}
-use Rattle.std.proofs.lemmas.Int.{ints}
 use Rattle.std.proofs.lemmas.Option.{same_Some, none-some}
-use Rattle.std.proofs.lemmas.List.{get_or_past, get_or-replicate, length-replicate}
+use Rattle.std.proofs.lemmas.List.{length-replicate}
 use Rattle.std.proofs.lemmas.List.Elements.{All-get_or}
-use Rattle.std.proofs.lemmas.Bool.{cases_lt}
 use Rattle.std.specs.Prelude.{slice_get}
 use Rattle.mat_sets.specs.Sums.{IsWithin, AreWithin, weight_at}
 use Rattle.mat_sets.proofs.Ground.{IsSet-length}
 use Rattle.mat_laws.specs.Matroids.{IsMatroid}
 use Rattle.mat_laws.specs.Ladders.{IsCut, split_bound}
 use Rattle.mat_exchange.specs.Changes.{IsSplitWithin}
-use Rattle.mat_split.specs.Augmenting.{IsSplitAt, IsSplitRung, weights_of, size_bound}
+use Rattle.mat_split.specs.Augmenting.{IsSplitRung, weights_of, size_bound}
 use Rattle.mat_split.specs.Ladders.{IsBoundedRung, IsLadder}
 use Rattle.mat_split.specs.declared.ladder.Rung.{Rung}
 use Rattle.mat_split.proofs.LaddersExist.{parts_within, IsSplitAt-nil}
@@ -29,10 +27,12 @@ pub record AreRungs (n : ℕ) (p q : List ℕ → Bool) (w : List ℤ) (rungs : 
   pub next_rung : IsSplitRung n p q (weight_at w) (length rungs) next
 
 -- a split of one weight is a split of another that is the same below n
-IsSplitWithin-same : (n : ℕ) (w v w1 w2 : ℕ → ℤ) (h : ℕ) → ((x : ℕ) → x < n → w x ≡ v x) → IsSplitWithin n w w1 w2 h → IsSplitWithin n v w1 w2 h
+IsSplitWithin-same : (n : ℕ) (w v w1 w2 : ℕ → ℤ) (h : ℕ) → ((x : ℕ) → x < n → w x ≡ v x)
+    → IsSplitWithin n w w1 w2 h → IsSplitWithin n v w1 w2 h
 IsSplitWithin-same n w v w1 w2 h same s = record { adds = λ x l. s.adds x l ∙ same x l; low = s.low; high = s.high }
 
-IsSplitRung-same : (n : ℕ) (p q : List ℕ → Bool) (w v : ℕ → ℤ) (k : ℕ) (rung : Rung) → ((x : ℕ) → x < n → w x ≡ v x) → IsSplitRung n p q w k rung → IsSplitRung n p q v k rung
+IsSplitRung-same : (n : ℕ) (p q : List ℕ → Bool) (w v : ℕ → ℤ) (k : ℕ) (rung : Rung)
+    → ((x : ℕ) → x < n → w x ≡ v x) → IsSplitRung n p q w k rung → IsSplitRung n p q v k rung
 IsSplitRung-same n p q w v k rung same s = record {
   first_length = s.first_length;
   second_length = s.second_length;
@@ -62,8 +62,9 @@ weight_at-zeros (suc n) zero = refl
 weight_at-zeros (suc n) (suc x) = weight_at-zeros n x
 
 -- before the first set
-pub AreRungs-start : {n m : ℕ} {p q : List ℕ → Bool} {w : List ℤ} {none : List Rung} {rung : Rung} → IsMatroid n p → IsMatroid m q → m ≡ n → length w ≡ n → AreWithin (10 ^ 12) w
-    → none ≡ [] → rung.set ≡ [] → rung.first ≡ w → rung.second ≡ replicate (length w) (pos 0) → AreRungs n p q w none rung
+pub AreRungs-start : {n m : ℕ} {p q : List ℕ → Bool} {w : List ℤ} {none : List Rung} {rung : Rung} → IsMatroid n p → IsMatroid m q
+    → m ≡ n → length w ≡ n → AreWithin (10 ^ 12) w → none ≡ [] → rung.set ≡ []
+    → rung.first ≡ w → rung.second ≡ replicate (length w) (pos 0) → AreRungs n p q w none rung
 AreRungs-start {n} {m} {p} {q} {w} {none} {rung} lp lq ground_size long within none_is set_is first_is second_is = rw none_is (record {
   first_laws = lp;
   second_laws = second_laws;
@@ -110,8 +111,9 @@ module _ {n : ℕ} {p q : List ℕ → Bool} {w : List ℤ} {rungs : List Rung} 
   bounded =
       let s = now.next_rung in
       let most = mul-le-mul_left (2 * 10 ^ 12 * (n + 1) * (n + 1)) few_rungs in
-      let within : (x : ℕ) → x < n → IsWithin (split_bound n) (weight_at rung.first x) × IsWithin (split_bound n) (weight_at rung.second x) = λ x l.
-      parts_within n (weight_at w) (weight_at rung.first) (weight_at rung.second) (10 ^ 12) (size_bound n (length rungs)) (split_bound n) x l (now.small x l) s.at.split (omega arith) in
+      let within : (x : ℕ) → x < n → IsWithin (split_bound n) (weight_at rung.first x) × IsWithin (split_bound n) (weight_at rung.second x) =
+      λ x l. parts_within n (weight_at w) (weight_at rung.first) (weight_at rung.second) (10 ^ 12) (size_bound n (length rungs)) (split_bound n) x l
+      (now.small x l) s.at.split (omega arith) in
       record {
         right = record {
           size = s.at.size;
@@ -129,7 +131,8 @@ module _ {n : ℕ} {p q : List ℕ → Bool} {w : List ℤ} {rungs : List Rung} 
   each_with k r e = last_or_before rungs rung r k e (IsBoundedRung n p q w) now.each bounded
 
   -- a rung of one more element is the next
-  pub AreRungs-next : {larger : Rung} {all : List Rung} → all ≡ rungs ++ rung ∷ [] → IsSplitRung n p q (weights_of rung) (suc (length rung.set)) larger
+  pub AreRungs-next : {larger : Rung} {all : List Rung} → all ≡ rungs ++ rung ∷ []
+      → IsSplitRung n p q (weights_of rung) (suc (length rung.set)) larger
       → AreRungs n p q w all larger
   AreRungs-next {larger} {all} pushed s = rw pushed (record {
     first_laws = now.first_laws;
@@ -141,7 +144,8 @@ module _ {n : ℕ} {p q : List ℕ → Bool} {w : List ℤ} {rungs : List Rung} 
   })
 
   -- a cut ends the ladder
-  pub IsLadder-end : {cut : List ℕ} {all : List Rung} → all ≡ rungs ++ rung ∷ [] → IsCut n p q (length rung.set) cut → IsLadder n p q w all cut
+  pub IsLadder-end : {cut : List ℕ} {all : List Rung} → all ≡ rungs ++ rung ∷ [] → IsCut n p q (length rung.set) cut
+      → IsLadder n p q w all cut
   IsLadder-end {cut} {all} pushed c = rw pushed (record {
     some = (let long = length-pushed rungs rung in omega arith);
     each = each_with;

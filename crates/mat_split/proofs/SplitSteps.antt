@@ -1,7 +1,7 @@
 -- What the search for the next set keeps, over lists of weights: what was found after j changes of the two weights leads to the next set,
 -- to the cut, or to one change more. All numbers are far within an `i128`: both weights are within 10^22 and each slack is a difference
 -- of two of them.
-use Rattle.std.proofs.Common.{Vec, Global, take, drop, ◌++◌, ◌≡◌, ℕ, suc, ◌+◌, ◌*◌, ◌^◌, ◌<◌, ◌≤◌, Bool, true, List, length, ℤ, pos, ◌+ℤ◌, ◌≤ℤ◌, Option, Some, None, SFits, rules, to_z, of_z, refl, sym, ap, ◌∙◌, subst, arith, inl, inr}
+use Rattle.std.proofs.Common.{Vec, Global, take, drop, ◌++◌, ◌≡◌, ℕ, suc, ◌+◌, ◌*◌, ◌^◌, ◌<◌, ◌≤◌, Bool, List, length, ℤ, pos, Option, Some, None, SFits, rules, to_z, of_z, sym, ap, ◌∙◌, subst, arith}
 use Rattle.std.proofs.Math.Seq.{take-append_seam}
 use Rattle.std.proofs.lemmas.Nat.{mul-le}
 use Rattle.std.specs.Int.{w128}
@@ -62,10 +62,14 @@ AreWithin-from bound n w long each = All-from_get_or (IsWithin bound) w (pos 0) 
 -- a slack is a difference of two weights
 slack_within : (n : ℕ) (a b : Exchanges) (w1 w2 : ℕ → ℤ) (R : List ℕ) (d : ℤ) (c : ℕ)
     → ((x : ℕ) → x < n → IsWithin c (w1 x) × IsWithin c (w2 x)) → IsSlack n a b w1 w2 R d → IsWithin (2 * c) d
-slack_within n a b w1 w2 R d c small (first_addition t x lt lx top k out e) = (let h = (small t lt).0 in let l = (small x lx).0 in (omega (arith, ints), omega (arith, ints)))
-slack_within n a b w1 w2 R d c small (first_exchange y x ly lx k m out e) = (let h = (small y ly).0 in let l = (small x lx).0 in (omega (arith, ints), omega (arith, ints)))
-slack_within n a b w1 w2 R d c small (second_exchange x y lx ly k m out e) = (let h = (small y ly).1 in let l = (small x lx).1 in (omega (arith, ints), omega (arith, ints)))
-slack_within n a b w1 w2 R d c small (second_addition t x lt lx top k m e) = (let h = (small t lt).1 in let l = (small x lx).1 in (omega (arith, ints), omega (arith, ints)))
+slack_within n a b w1 w2 R d c small (first_addition t x lt lx top k out e) =
+    (let h = (small t lt).0 in let l = (small x lx).0 in (omega (arith, ints), omega (arith, ints)))
+slack_within n a b w1 w2 R d c small (first_exchange y x ly lx k m out e) =
+    (let h = (small y ly).0 in let l = (small x lx).0 in (omega (arith, ints), omega (arith, ints)))
+slack_within n a b w1 w2 R d c small (second_exchange x y lx ly k m out e) =
+    (let h = (small y ly).1 in let l = (small x lx).1 in (omega (arith, ints), omega (arith, ints)))
+slack_within n a b w1 w2 R d c small (second_addition t x lt lx top k m e) =
+    (let h = (small t lt).1 in let l = (small x lx).1 in (omega (arith, ints), omega (arith, ints)))
 
 -- ---- the steps
 
@@ -74,8 +78,8 @@ pub written_back : (items new : List ℤ) (n : ℕ) → length new ≡ n → tak
 written_back items new n long = subst (λ m. take m (new ++ drop (length new) items) ≡ new) long (take-append_seam new (drop (length new) items))
 
 -- before the first change
-pub IsChanged-start : {n m : ℕ} {p q : List ℕ → Bool} {w : ℕ → ℤ} {rung : Rung} {w1 w2 : List ℤ} → IsMatroid n p → IsMatroid m q → m ≡ n → n ≤ 500
-    → ((x : ℕ) → x < n → IsWithin (10 ^ 12) (w x)) → IsSplitRung n p q w (length rung.set) rung
+pub IsChanged-start : {n m : ℕ} {p q : List ℕ → Bool} {w : ℕ → ℤ} {rung : Rung} {w1 w2 : List ℤ} → IsMatroid n p
+    → IsMatroid m q → m ≡ n → n ≤ 500 → ((x : ℕ) → x < n → IsWithin (10 ^ 12) (w x)) → IsSplitRung n p q w (length rung.set) rung
     → w1 ≡ rung.first → w2 ≡ rung.second → IsChanged n p q w rung.set 0 w1 w2
 IsChanged-start {n} {m} {p} {q} {w} {rung} lp lq ground_size few small s e1 e2 = rw (e1, e2) (record {
   first_laws = lp;
@@ -102,10 +106,12 @@ module _ {n : ℕ} {p q : List ℕ → Bool} {w : ℕ → ℤ} {I : List ℕ} {j
 
   -- what the search for a tight path and the change of the weights take
   pub first_within : {d : List ℤ} → d ≡ w1 → AreWithin (10 ^ 30) d
-  first_within same = rw same (AreWithin-from (10 ^ 30) n w1 now.first_length (λ x l. IsWithin-weaken _ _ _ (omega arith) (both_within x l).0))
+  first_within same = rw same (AreWithin-from (10 ^ 30) n w1 now.first_length
+      (λ x l. IsWithin-weaken _ _ _ (omega arith) (both_within x l).0))
 
   pub second_within : {d : List ℤ} → d ≡ w2 → AreWithin (10 ^ 30) d
-  second_within same = rw same (AreWithin-from (10 ^ 30) n w2 now.second_length (λ x l. IsWithin-weaken _ _ _ (omega arith) (both_within x l).1))
+  second_within same = rw same (AreWithin-from (10 ^ 30) n w2 now.second_length
+      (λ x l. IsWithin-weaken _ _ _ (omega arith) (both_within x l).1))
 
   pub first_table : {t : List Exchange} {d : List ℤ} → t ≡ rows_of n p I → d ≡ w1 → IsTableAt (length d) I t
   first_table told same = rw (told, same, now.first_length) (IsTableAt-rows_of now.first_laws I now.times.at.first.passes)
@@ -115,9 +121,19 @@ module _ {n : ℕ} {p q : List ℕ → Bool} {w : ℕ → ℤ} {I : List ℕ} {j
 
   -- what a search of the rows of the two matroids finds, at their exchanges
   pub found_at : {m : ℕ} {t1 t2 : List Exchange} {d1 d2 : List ℤ} (f : Found) → m ≡ n → t1 ≡ rows_of n p I → t2 ≡ rows_of m q I
-      → d1 ≡ w1 → d2 ≡ w2 → IsFound (length d1) (exchanges_in t1) (exchanges_in t2) (weight_at d1) (weight_at d2) f → IsFoundAt n p q I w1 w2 f
+      → d1 ≡ w1 → d2 ≡ w2 → IsFound (length d1) (exchanges_in t1) (exchanges_in t2) (weight_at d1) (weight_at d2) f
+      → IsFoundAt n p q I w1 w2 f
   found_at f ground_size told1 told2 same1 same2 found =
-      rw (told1, told2, ground_size, same1, same2, now.first_length, rows_tell_exchanges now.first_laws I, rows_tell_exchanges now.second_laws I) at found
+      rw (
+        told1,
+        told2,
+        ground_size,
+        same1,
+        same2,
+        now.first_length,
+        rows_tell_exchanges now.first_laws I,
+        rows_tell_exchanges now.second_laws I,
+      ) at found
 
   -- a path leads to a rung of one more element
   pub larger_from_found : (f : Found) {path : Vec ℕ Global} {vertices set : List ℕ} {v1 v2 : List ℤ} → IsFoundAt n p q I w1 w2 f
@@ -125,7 +141,8 @@ module _ {n : ℕ} {p q : List ℕ → Bool} {w : ℕ → ℤ} {I : List ℕ} {j
       → IsSplitRung n p q w (suc (length I)) (record { set = set; first = v1; second = v2 })
   larger_from_found f {path} found is same set_is e1 e2 =
       let tight = subst (IsFoundAt n p q I w1 w2) is found in
-      let next = larger_by_path now.first_laws now.second_laws w (10 ^ 12) (size_bound n (length I)) now.small I j (weight_at w1) (weight_at w2) path.items now.times tight in
+      let next = larger_by_path now.first_laws now.second_laws w (10 ^ 12) (size_bound n (length I)) now.small I j
+      (weight_at w1) (weight_at w2) path.items now.times tight in
       rw (set_is, same, e1, e2) (record {
         first_length = now.first_length;
         second_length = now.second_length;
@@ -136,12 +153,14 @@ module _ {n : ℕ} {p q : List ℕ → Bool} {w : ℕ → ℤ} {I : List ℕ} {j
   pub cut_from_found : (f : Found) {R : List ℕ} {slack : Option ℤ} → IsFoundAt n p q I w1 w2 f → f ≡ Stuck R slack → slack ≡ None
       → IsCut n p q (length I) R
   cut_from_found f {R} {slack} found is none =
-      let stuck : IsFoundAt n p q I w1 w2 (Stuck R None) = subst (λ s. IsFoundAt n p q I w1 w2 (Stuck R s)) none (subst (IsFoundAt n p q I w1 w2) is found) in
+      let stuck : IsFoundAt n p q I w1 w2 (Stuck R None) =
+      subst (λ s. IsFoundAt n p q I w1 w2 (Stuck R s)) none (subst (IsFoundAt n p q I w1 w2) is found) in
       cut_without_slack now.first_laws now.second_laws (weight_at w1) (weight_at w2) I R now.times.at.first.passes now.times.at.second.passes
       stuck.0.reached.set stuck.1
 
   -- otherwise the weights change by the slack
-  module _ {f : Found} {R : List ℕ} {slack : Option ℤ} {d : ℤ} (found : IsFoundAt n p q I w1 w2 f) (is : f ≡ Stuck R slack) (some : slack ≡ Some d) where
+  module _ {f : Found} {R : List ℕ} {slack : Option ℤ} {d : ℤ} (found : IsFoundAt n p q I w1 w2 f)
+      (is : f ≡ Stuck R slack) (some : slack ≡ Some d) where
     stuck_at : IsStuckReach n (exchanges_at p I) (exchanges_at q I) (weight_at w1) (weight_at w2) R
         × IsLeastSlack n (exchanges_at p I) (exchanges_at q I) (weight_at w1) (weight_at w2) R d
     stuck_at = subst (λ s. IsFoundAt n p q I w1 w2 (Stuck R s)) some (subst (IsFoundAt n p q I w1 w2) is found)
@@ -150,7 +169,8 @@ module _ {n : ℕ} {p q : List ℕ → Bool} {w : ℕ → ℤ} {I : List ℕ} {j
     reach_below v long = rw long stuck_at.0.reached.set.below
 
     step_small : IsWithin (10 ^ 31) d
-    step_small = IsWithin-weaken _ _ _ (omega arith) (slack_within n _ _ (weight_at w1) (weight_at w2) R d (10 ^ 22) both_within stuck_at.1.slack)
+    step_small =
+        IsWithin-weaken _ _ _ (omega arith) (slack_within n _ _ (weight_at w1) (weight_at w2) R d (10 ^ 22) both_within stuck_at.1.slack)
 
     step_same : to_z w128 (of_z w128 d) ≡ d
     step_same =
@@ -162,14 +182,15 @@ module _ {n : ℕ} {p q : List ℕ → Bool} {w : ℕ → ℤ} {I : List ℕ} {j
     pub step_within : IsWithin (10 ^ 31) (to_z w128 (of_z w128 d))
     step_within = rw step_same step_small
 
-    pub changed_from_found : {u1 u2 v1 v2 l1 l2 : List ℤ} → u1 ≡ w1 → u2 ≡ w2 → l1 ≡ v1 → l2 ≡ v2 → length v1 ≡ length u1 → length v2 ≡ length u2
+    pub changed_from_found : {u1 u2 v1 v2 l1 l2 : List ℤ} → u1 ≡ w1 → u2 ≡ w2 → l1 ≡ v1 → l2 ≡ v2
+        → length v1 ≡ length u1 → length v2 ≡ length u2
         → ((x : ℕ) → weight_at v1 x ≡ lowered (weight_at u1) R (to_z w128 (of_z w128 d)) x)
         → ((x : ℕ) → weight_at v2 x ≡ raised (weight_at u2) R (to_z w128 (of_z w128 d)) x) → IsChanged n p q w I (j + 1) l1 l2
     changed_from_found {u1} {u2} {v1} {v2} e1 e2 back1 back2 long1 long2 fell rose =
         let first : weight_at v1 ≡ lowered (weight_at w1) R d = fun_ext (λ x. rw (e1, step_same) at (fell x)) in
         let second : weight_at v2 ≡ raised (weight_at w2) R d = fun_ext (λ x. rw (e2, step_same) at (rose x)) in
-        let again = changed_again now.first_laws now.second_laws w (10 ^ 12) (size_bound n (length I)) now.small I j (weight_at w1) (weight_at w2) R d
-        now.times stuck_at.0 stuck_at.1 in
+        let again = changed_again now.first_laws now.second_laws w (10 ^ 12) (size_bound n (length I)) now.small I j
+        (weight_at w1) (weight_at w2) R d now.times stuck_at.0 stuck_at.1 in
         rw (back1, back2) (record {
           first_laws = now.first_laws;
           second_laws = now.second_laws;
@@ -177,5 +198,7 @@ module _ {n : ℕ} {p q : List ℕ → Bool} {w : ℕ → ℤ} {I : List ℕ} {j
           small = now.small;
           first_length = long1 ∙ ap (λ (l : List ℤ). length l) e1 ∙ now.first_length;
           second_length = long2 ∙ ap (λ (l : List ℤ). length l) e2 ∙ now.second_length;
-          times = rw (first, second) (subst (λ i. IsChangedTimes n p q w (10 ^ 12) (size_bound n (length I)) I i (lowered (weight_at w1) R d) (raised (weight_at w2) R d)) (omega arith) again);
+          times = rw (first, second)
+              (subst (λ i. IsChangedTimes n p q w (10 ^ 12) (size_bound n (length I)) I i (lowered (weight_at w1) R d) (raised (weight_at w2) R d))
+              (omega arith) again);
         })

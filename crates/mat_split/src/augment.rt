@@ -38,7 +38,7 @@ pub fn augment<A: Matroid, B: Matroid>(
     let mut first = Vec::from_slice(alloc, rung.first.as_slice())?;
     let mut second = Vec::from_slice(alloc, rung.second.as_slice())?;
     let mut changes: usize = 0;
-    'changes: loop {
+    loop {
         let found = tight_search(alloc, &first_rows, &second_rows, &rung.set, &first, &second)?;
         match found {
             Found::Path(path) => {

@@ -48,7 +48,7 @@ pub fn intersect_all<A: Matroid, B: Matroid>(
     b.lawful();
     let mut rungs = Vec::new(alloc);
     let mut rung = first_rung(alloc, weights)?;
-    'rungs: loop {
+    loop {
         let next = augment(alloc, a, b, &rung, workers)?;
         rungs.push(rung)?;
         match next {

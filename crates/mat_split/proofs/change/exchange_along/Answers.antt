@@ -22,4 +22,5 @@ loop-x-preserved c =
     ]
 
 pub returns-clause-rises : goal.returns-clause-rises
-returns-clause-rises c = rw c.loop-x.invariant (IsRising-exchanged_along c.args.set.now (take c.loop-x.x-index c.args.path.now) c.in_ok-exchanged.ensures.rises)
+returns-clause-rises c =
+    rw c.loop-x.invariant (IsRising-exchanged_along c.args.set.now (take c.loop-x.x-index c.args.path.now) c.in_ok-exchanged.ensures.rises)

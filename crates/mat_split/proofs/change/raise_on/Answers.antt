@@ -8,10 +8,12 @@ use Rattle.mat_split.proofs.Changing.{next_below, next_weight, raised_more, sum_
 use Rattle.mat_split.proofs.change.raise_on.Goals as goal
 
 pub slice_copy_out-weights : goal.slice_copy_out-weights
-slice_copy_out-weights c = next_below _ c.args.reach.now _ _ (rw c.loop-x.invariant.length c.requires.inside) c.as_slice-x-items.ensures.items c.loop-x-test.true
+slice_copy_out-weights c =
+    next_below _ c.args.reach.now _ _ (rw c.loop-x.invariant.length c.requires.inside) c.as_slice-x-items.ensures.items c.loop-x-test.true
 
 pub bounds-weights-x : goal.bounds-weights-x
-bounds-weights-x c = next_below _ c.args.reach.now _ _ (rw c.loop-x.invariant.length c.requires.inside) c.as_slice-x-items.ensures.items c.loop-x-test.true
+bounds-weights-x c =
+    next_below _ c.args.reach.now _ _ (rw c.loop-x.invariant.length c.requires.inside) c.as_slice-x-items.ensures.items c.loop-x-test.true
 
 pub loop-x-preserved : goal.loop-x-preserved
 loop-x-preserved c =
@@ -27,5 +29,6 @@ loop-x-preserved c =
     let step : IsWithin (10 ^ 31) d = subst (IsWithin (10 ^ 31)) (sym (to_z-of_z w128 c.args.step fits)) c.requires.step in
     record {
       length = length-set c.loop-x.weights _ _ ∙ c.loop-x.invariant.length;
-      weights = raised_more w c.loop-x.weights R i d _ below c.loop-x-test.true c.loop-x.invariant.weights (sum_fits _ d small step ∙ ap (λ (a : ℤ). a +ℤ d) old);
+      weights = raised_more w c.loop-x.weights R i d _ below c.loop-x-test.true c.loop-x.invariant.weights
+          (sum_fits _ d small step ∙ ap (λ (a : ℤ). a +ℤ d) old);
     }
