@@ -17,7 +17,8 @@ use Rattle.mat_laws.proofs.HeaviestSteps.{IsHeaviest-nil}
 use Rattle.mat_exchange.specs.Changes.{IsSplitWithin}
 use Rattle.mat_split.specs.Ladders.{IsBoundedRung, IsLadder}
 use Rattle.mat_split.specs.declared.ladder.Rung.{Rung}
-use Rattle.mat_split.proofs.NextRungs.{IsSplitAt, next_or_cut}
+use Rattle.mat_split.specs.Augmenting.{IsSplitAt}
+use Rattle.mat_split.proofs.NextRungs.{next_or_cut}
 
 -- ---- weights as lists
 
@@ -62,7 +63,7 @@ abbrev rung_of : ℕ → List ℕ → (ℕ → ℤ) → (ℕ → ℤ) → Rung
 rung_of n I w1 w2 = record { set = I; first = weights_below n w1; second = weights_below n w2 }
 
 -- both weights of a split are within m of the bound of the second
-parts_within : (n : ℕ) (w w1 w2 : ℕ → ℤ) (m h b x : ℕ) → x < n → IsWithin m (w x) → IsSplitWithin n w w1 w2 h → h + m ≤ b
+pub parts_within : (n : ℕ) (w w1 w2 : ℕ → ℤ) (m h b x : ℕ) → x < n → IsWithin m (w x) → IsSplitWithin n w w1 w2 h → h + m ≤ b
     → IsWithin b (w1 x) × IsWithin b (w2 x)
 parts_within n w w1 w2 m h b x l small s fits =
     let adds = s.adds x l in
@@ -161,7 +162,7 @@ module _ {n : ℕ} {p q : List ℕ → Bool} (lp : IsMatroid n p) (lq : IsMatroi
       ]
 
   -- the empty set, under the whole weight and nothing
-  IsSplitAt-nil : IsSplitAt n p q (weight_at w) 0 (2 * 10 ^ 12 * (n + 1) * (n + 1) * 0) [] (weight_at w) (λ x. pos 0)
+  pub IsSplitAt-nil : IsSplitAt n p q (weight_at w) 0 (2 * 10 ^ 12 * (n + 1) * (n + 1) * 0) [] (weight_at w) (λ x. pos 0)
   IsSplitAt-nil = record {
     size = refl;
     first = IsHeaviest-nil lp (weight_at w);

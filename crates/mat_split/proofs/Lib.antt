@@ -1,3 +1,6 @@
 pub mod BestLadders
 pub mod NextRungs
 pub mod LaddersExist
+pub mod Changing
+pub mod SplitSteps
+pub mod RungSteps

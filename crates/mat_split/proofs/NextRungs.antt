@@ -8,23 +8,16 @@ use Rattle.mat_sets.specs.Sums.{IsWithin}
 use Rattle.mat_sets.proofs.Ground.{IsSet-length}
 use Rattle.mat_sets.proofs.Reach.{finite_reach}
 use Rattle.mat_laws.specs.Matroids.{IsMatroid}
-use Rattle.mat_laws.specs.Heaviest.{IsHeaviest}
 use Rattle.mat_laws.specs.Ladders.{IsCut}
 use Rattle.mat_laws.specs.Slacks.{IsLeastSlack}
 use Rattle.mat_laws.specs.TightPaths.{exchanges_at, exchanged_along, is_heaviest_addable, is_tight, IsTightPath, IsStuckReach}
+use Rattle.mat_split.specs.Augmenting.{IsSplitAt}
 use Rattle.mat_exchange.specs.Changes.{lowered, raised, IsSplitWithin}
 use Rattle.mat_exchange.proofs.TightPathSteps.{exchange_along_tight_path}
 use Rattle.mat_exchange.proofs.WeightChanges.{change_by_least_slack}
 use Rattle.mat_exchange.proofs.CutsWithoutSlack.{cut_without_slack}
 use Rattle.mat_exchange.proofs.SplitBounds.{change_keeps_split_within}
 use Rattle.mat_exchange.proofs.LeastSlacks.{least_slack_or_none}
-
--- a set of k elements, heaviest of its size in both matroids under two weights that add up to w, the second from 0 to h
-pub record IsSplitAt (n : ℕ) (p q : List ℕ → Bool) (w : ℕ → ℤ) (k h : ℕ) (I : List ℕ) (w1 w2 : ℕ → ℤ) : Type 0 where
-  pub size : length I ≡ k
-  pub first : IsHeaviest p w1 I
-  pub second : IsHeaviest q w2 I
-  pub split : IsSplitWithin n w w1 w2 h
 
 -- after j changes at I
 pub record IsChangedTimes (n : ℕ) (p q : List ℕ → Bool) (w : ℕ → ℤ) (m base : ℕ) (I : List ℕ) (j : ℕ) (w1 w2 : ℕ → ℤ) : Type 0 where
@@ -46,24 +39,21 @@ IsSplitWithin-weaken n w w1 w2 h g le s = record { adds = s.adds; low = s.low; h
 module _ {n : ℕ} {p q : List ℕ → Bool} (lp : IsMatroid n p) (lq : IsMatroid n q) (w : ℕ → ℤ) (m base : ℕ)
     (small : (x : ℕ) → x < n → IsWithin m (w x)) (I : List ℕ) where
   -- a tight path leads to a set of one element more
-  next_by_path : (j : ℕ) (w1 w2 : ℕ → ℤ) (path : List ℕ) → IsChangedTimes n p q w m base I j w1 w2
-      → IsTightPath n (exchanges_at p I) (exchanges_at q I) w1 w2 path → SomeSplit n p q w (suc (length I)) (base + 2 * m * (n + 1) * (n + 1))
-  next_by_path j w1 w2 path now tight =
+  pub larger_by_path : (j : ℕ) (w1 w2 : ℕ → ℤ) (path : List ℕ) → IsChangedTimes n p q w m base I j w1 w2
+      → IsTightPath n (exchanges_at p I) (exchanges_at q I) w1 w2 path
+      → IsSplitAt n p q w (suc (length I)) (base + 2 * m * (n + 1) * (n + 1)) (exchanged_along I path) w1 w2
+  larger_by_path j w1 w2 path now tight =
       let step = exchange_along_tight_path lp lq w1 w2 I path now.at.first now.at.second tight in
-      let most = mul-le-mul_left (2 * m * (n + 1)) now.few in (
-        exchanged_along I path,
-        w1,
-        w2,
-        record {
-          size = step.0;
-          first = step.1;
-          second = step.2;
-          split = IsSplitWithin-weaken n w w1 w2 (base + 2 * m * (n + 1) * j) (base + 2 * m * (n + 1) * (n + 1)) (omega arith) now.at.split;
-        },
-      )
+      let most = mul-le-mul_left (2 * m * (n + 1)) now.few in
+      record {
+        size = step.0;
+        first = step.1;
+        second = step.2;
+        split = IsSplitWithin-weaken n w w1 w2 (base + 2 * m * (n + 1) * j) (base + 2 * m * (n + 1) * (n + 1)) (omega arith) now.at.split;
+      }
 
   -- one change more
-  changed_again : (j : ℕ) (w1 w2 : ℕ → ℤ) (R : List ℕ) (d : ℤ) → IsChangedTimes n p q w m base I j w1 w2
+  pub changed_again : (j : ℕ) (w1 w2 : ℕ → ℤ) (R : List ℕ) (d : ℤ) → IsChangedTimes n p q w m base I j w1 w2
       → IsStuckReach n (exchanges_at p I) (exchanges_at q I) w1 w2 R → IsLeastSlack n (exchanges_at p I) (exchanges_at q I) w1 w2 R d
       → IsChangedTimes n p q w m base I (suc j) (lowered w1 R d) (raised w2 R d)
   changed_again j w1 w2 R d now stuck slack =
@@ -91,7 +81,7 @@ module _ {n : ℕ} {p q : List ℕ → Bool} (lp : IsMatroid n p) (lq : IsMatroi
   next_or_cut_after j w1 w2 now later =
       let tight = is_tight (exchanges_at p I) (exchanges_at q I) w1 w2 in
       elim (finite_reach n tight (is_heaviest_addable n (exchanges_at p I) w1) (is_heaviest_addable n (exchanges_at q I) w2)) [
-        | inl path ↦ inl (next_by_path j w1 w2 path.0 now path.1)
+        | inl path ↦ inl (exchanged_along I path.0, w1, w2, larger_by_path j w1 w2 path.0 now path.1)
         | inr reached ↦
             let R = reached.0 in
             let stuck : IsStuckReach n (exchanges_at p I) (exchanges_at q I) w1 w2 R = record { reached = reached.1; no_sink = reached.2 } in

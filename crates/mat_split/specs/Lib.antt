@@ -1,2 +1,3 @@
 pub mod Ladders
 pub mod CommonSets
+pub mod Augmenting

@@ -1,12 +1,30 @@
 //! Weighted matroid intersection.
 
-ghost use Rattle.std.specs.Prelude.{◌≡◌, ◌≤◌, ◌^◌, length, IfOk};
+ghost use Rattle.std.specs.Prelude.{◌≡◌, ◌≤◌, ◌^◌, [], length, replicate, pos, IfOk};
 ghost use Rattle.mat_sets.specs.Sums.{AreWithin};
 ghost use Rattle.mat_split.specs.Ladders.{IsLadder};
 
-use crate::ladder::Ladder;
+use crate::augment::augment;
+use crate::augmented::Augmented;
+use crate::ladder::{Ladder, Rung};
 use mat_laws::Matroid;
+use mat_sets::{ElemSet, Weights};
 use std::alloc::{AllocError, Global};
+
+/// The empty set, under the whole weights for the first matroid and none for the second.
+fn first_rung(alloc: Global, weights: &[i128]) -> Result<Rung, AllocError>
+    ensures set { IfOk result (λ r. r.set ≡ []) }
+    ensures first { IfOk result (λ r. r.first ≡ weights.now) }
+    ensures second { IfOk result (λ r. r.second ≡ replicate (length weights.now) (pos 0)) }
+{
+    let first = Weights::new(Vec::from_slice(alloc, weights)?);
+    let second = Weights::new(vec![in alloc; 0; weights.len()]?);
+    Ok(Rung {
+        set: ElemSet::new(alloc),
+        first,
+        second,
+    })
+}
 
 /// A heaviest common independent set of two matroids for each size from 0 to the largest, each with a split of the weights that
 /// proves it, and a set that proves that there is no larger one, by weight splitting (Frank 1981; Schrijver, chapter 41). Both
@@ -26,5 +44,16 @@ pub fn intersect_all<A: Matroid, B: Matroid>(
     requires small { AreWithin (10 ^ 12) weights.now }
     ensures { IfOk result (λ l. IsLadder (A.ground_size a.now) (A.indep a.now) (B.indep b.now) weights.now l.rungs.items l.cut) }
 {
-    Err(AllocError)
+    a.lawful();
+    b.lawful();
+    let mut rungs = Vec::new(alloc);
+    let mut rung = first_rung(alloc, weights)?;
+    loop {
+        let next = augment(alloc, a, b, &rung, workers)?;
+        rungs.push(rung)?;
+        match next {
+            Augmented::Larger(larger) => rung = larger,
+            Augmented::Last(cut) => return Ok(Ladder { rungs, cut }),
+        }
+    }
 }

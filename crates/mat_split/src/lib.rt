@@ -1,6 +1,9 @@
 //! Heaviest common independent sets of two matroids, with their proof by weight splitting.
 #![tactic(auto)]
 
+mod augment;
+mod augmented;
+mod change;
 mod intersect;
 mod ladder;
 pub mod laws;

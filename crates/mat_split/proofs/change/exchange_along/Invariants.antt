@@ -1,0 +1,6 @@
+use Rattle.std.proofs.Common.{◌≡◌, take}
+use Rattle.mat_laws.specs.TightPaths.{exchanged_along}
+use Rattle.mat_split.proofs.change.exchange_along.Given as goal
+
+abbrev pub invariant-loop-x : goal.invariant-loop-x
+invariant-loop-x l = l.exchanged ≡ exchanged_along l.set (take l.x-index l.path)
