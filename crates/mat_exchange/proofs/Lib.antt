@@ -1,2 +1,3 @@
 pub mod TightArcs
 pub mod TightPathSteps
+pub mod RowExchanges
