@@ -20,7 +20,7 @@ get_or-counted_from lo zero i d h = absurd (omega arith)
 get_or-counted_from lo (suc n) zero d h = omega arith
 get_or-counted_from lo (suc n) (suc i) d h = let rest = get_or-counted_from (suc lo) n i d (omega arith) in omega arith
 
-get_or-all_below : (n i d : ℕ) → i < n → get_or (all_below n) i d ≡ i
+pub get_or-all_below : (n i d : ℕ) → i < n → get_or (all_below n) i d ≡ i
 unfolding all_below
 get_or-all_below n i d h = let e = get_or-counted_from 0 n i d h in omega arith
 

@@ -3,5 +3,7 @@
 
 mod found;
 pub mod laws;
+mod row_table;
 
 pub use found::Found;
+pub use row_table::RowTable;
