@@ -1,11 +1,11 @@
 -- The rows of all elements at an independent set tell its exchanges: each row says what the exchanges of its element are, and no
 -- element past the last row can be added or exchanged, as independent sets lie below n.
-use Rattle.std.proofs.Common.{◌≡◌, ℕ, zero, suc, ◌+◌, ◌<◌, ◌≤◌, Bool, true, false, not, ◌&&◌, List, [], length, get_or, inl, inr, refl, sym, ap, ◌∙◌, subst, arith}
+use Rattle.std.proofs.Common.{◌≡◌, ℕ, zero, suc, ◌+◌, ◌<◌, ◌≤◌, Bool, true, false, not, ◌&&◌, List, [], ◌∷◌, ◌++◌, length, map, get_or, inl, inr, refl, sym, ap, ◌∙◌, subst, arith}
 use Rattle.std.proofs.lemmas.Bool.{and_parts, and_right, cases_Bool, cases_lt, cond-false, cond-true, eq-eqb, false_from_ne_true, not-true}
-use Rattle.std.proofs.lemmas.List.{get_or_past, get_or-map, length-map}
-use Rattle.mat_sets.specs.Sets.{is_member, all_below, counted_from, with_one, without_one}
+use Rattle.std.proofs.lemmas.List.{get_or_past, get_or-map, length-map, map-append}
+use Rattle.mat_sets.specs.Sets.{is_member, AllBelow, all_below, counted_from, with_one, without_one}
 use Rattle.mat_sets.proofs.Members.{set_members, is_member-filter}
-use Rattle.mat_sets.proofs.Ground.{below_member, length-all_below}
+use Rattle.mat_sets.proofs.Ground.{AllBelow-from_members, all_below-more, all_below-none, below_member, length-all_below}
 use Rattle.mat_laws.specs.declared.exchange.Exchange.{Exchange}
 use Rattle.mat_laws.specs.Exchanges.{row_of, rows_of}
 use Rattle.mat_laws.specs.Matroids.{IsMatroid}
@@ -94,3 +94,26 @@ module _ {n : ℕ} {p : List ℕ → Bool} (laws : IsMatroid n p) (I : List ℕ)
     outside = λ y x h. (let a = and_parts (is_member y I) (not (is_member x I) && p (with_one (without_one I y) x)) (sym (trades_agree y x) ∙ h) in
         not-true (is_member x I) (and_parts (not (is_member x I)) (p (with_one (without_one I y) x)) a.1).0);
   }
+
+  -- only members of I stand in the rows
+  pub rows-below : p I ≡ true → (x : ℕ) (rows : List Exchange) → x ≡ n → rows ≡ rows_of x p I → (k : ℕ) → AllBelow (length rows) (row_in rows k).with
+  rows-below ok x rows all e k =
+      let same : rows ≡ rows_of n p I = e ∙ ap (λ m. rows_of m p I) all in
+      let table : IsTableAt n I rows = subst (IsTableAt n I) (sym same) (IsTableAt-rows_of ok) in
+      let row = (row_in rows k).with in
+      subst (λ m. AllBelow m row) (sym table.count) (AllBelow-from_members n row (λ y m. below_member table.set (table.member y k m)))
+
+-- ---- the rows so far
+
+pub rows_of-none : (p : List ℕ → Bool) (I : List ℕ) → rows_of 0 p I ≡ []
+rows_of-none p I = ap (map (row_of p I)) all_below-none
+
+pub length-rows : (n : ℕ) (p : List ℕ → Bool) (I : List ℕ) (rows : List Exchange) → rows ≡ rows_of n p I → length rows ≡ n
+length-rows n p I rows e = ap length e ∙ length-rows_of n p I
+
+rows_of-more : (n : ℕ) (p : List ℕ → Bool) (I : List ℕ) → rows_of (n + 1) p I ≡ rows_of n p I ++ row_of p I n ∷ []
+rows_of-more n p I = ap (map (row_of p I)) (all_below-more n) ∙ map-append (row_of p I) (all_below n) (n ∷ [])
+
+pub rows_of-push : (n : ℕ) (p : List ℕ → Bool) (I : List ℕ) (rows rows' : List Exchange) (row : Exchange) → rows ≡ rows_of n p I
+    → row ≡ row_of p I n → rows' ≡ rows ++ row ∷ [] → rows' ≡ rows_of (n + 1) p I
+rows_of-push n p I rows rows' row e f g = g ∙ ap (λ r. r ++ row ∷ []) e ∙ ap (λ r. rows_of n p I ++ r ∷ []) f ∙ sym (rows_of-more n p I)

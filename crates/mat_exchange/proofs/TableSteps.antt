@@ -9,7 +9,7 @@ use Rattle.mat_sets.proofs.Steps.{is_member-take_more, take-with_one}
 use Rattle.mat_laws.specs.declared.exchange.Exchange.{Exchange}
 use Rattle.mat_laws.specs.TightPaths.{row_in}
 use Rattle.mat_exchange.specs.RowTables.{AreTransposed, IsEntered, row_from, set_at, table_of}
-use Rattle.mat_exchange.proofs.RowTables.{length-table_of, row_in-table_of, set_at-read}
+use Rattle.mat_exchange.proofs.RowTables.{length-table_of, row_in-table_of}
 
 -- ---- empty sets
 

@@ -1,4 +1,3 @@
-use Rattle.std.proofs.Common.{◌≡◌, ◌<◌, ◌≤◌, length}
 use Rattle.mat_exchange.proofs.TableSteps.{AreAddable}
 use Rattle.mat_exchange.proofs.row_table.addable_set.Given as goal
 

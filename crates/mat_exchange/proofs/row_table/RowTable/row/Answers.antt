@@ -1,4 +1,4 @@
-use Rattle.std.proofs.Common.{◌<◌, ◌∙◌, ap, length, rules}
+use Rattle.std.proofs.Common.{◌∙◌, ap, rules}
 use Rattle.mat_sets.specs.Sets.{is_member}
 use Rattle.mat_exchange.proofs.RowTables.{has_row, row_tells, set_at-read}
 use Rattle.mat_exchange.proofs.row_table.RowTable.row.Goals as goal
