@@ -4,3 +4,6 @@ pub mod WeightChanges
 pub mod CutsWithoutSlack
 pub mod SplitBounds
 pub mod LeastSlacks
+pub mod RowExchanges
+pub mod RowTables
+pub mod TableSteps

@@ -5,8 +5,9 @@ ghost use Rattle.mat_sets.specs.Sets.{IsSet};
 ghost use Rattle.mat_sets.specs.Sums.{IsWithin};
 ghost use Rattle.mat_sets.specs.Walks.{IsReachedSet, IsWalk};
 ghost use Rattle.mat_laws.specs.Matroids.{IsMatroid};
+ghost use Rattle.mat_laws.specs.Exchanges.{rows_of};
 ghost use Rattle.mat_laws.specs.Heaviest.{IsHeaviest};
-ghost use Rattle.mat_laws.specs.TightPaths.{Exchanges, exchanges_at, exchanged_along, is_heaviest_addable, is_tight, IsTightPath, IsStuckReach};
+ghost use Rattle.mat_laws.specs.TightPaths.{Exchanges, exchanges_at, exchanges_in, exchanged_along, is_heaviest_addable, is_tight, IsTightPath, IsStuckReach};
 ghost use Rattle.mat_laws.specs.Slacks.{IsSlack, IsLeastSlack};
 ghost use Rattle.mat_laws.specs.Ladders.{IsCut};
 ghost use Rattle.mat_exchange.specs.Changes.{lowered, raised, IsChange, IsSplitWithin};
@@ -51,4 +52,10 @@ pub fn change_keeps_split_within()
         → IsReachedSet n (is_tight first second w1 w2) (is_heaviest_addable n first w1) R
         → IsSlack n first second w1 w2 R d → pos 0 ≤ℤ d
         → IsSplitWithin n w (lowered w1 R d) (raised w2 R d) (h + 2 * m * (n + 1)) }
+{}
+
+/// The rows of all elements at an independent set tell its exchanges.
+pub fn rows_tell_exchanges()
+    ensures { (n : ℕ) (independent : List ℕ → Bool) → IsMatroid n independent
+        → (I : List ℕ) → independent I ≡ true → exchanges_in (rows_of n independent I) ≡ exchanges_at independent I }
 {}
