@@ -5,6 +5,8 @@ mod exchanges;
 mod found;
 pub mod laws;
 mod row_table;
+#[cfg(test)]
+mod tests;
 
 pub use exchanges::rows;
 pub use found::Found;
