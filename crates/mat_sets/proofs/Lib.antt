@@ -7,6 +7,8 @@ pub mod Steps
 pub mod Equalities
 pub mod Families
 pub mod Search
+pub mod Bits
+pub mod BitScan
 pub mod SetTests
 pub mod Decisions
 pub mod Places

@@ -3,6 +3,7 @@ pub mod Sums
 pub mod Families
 pub mod Places
 pub mod Search
+pub mod Bits
 pub mod Walks
 pub mod Graphs
 pub mod SetTests

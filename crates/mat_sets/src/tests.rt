@@ -1,5 +1,5 @@
 //! Each call once, with ample memory.
-use crate::{ElemSet, NotRising, Pairs, SetList, Weights, weight_of};
+use crate::{BitSet, ElemSet, NotRising, Pairs, SetList, Weights, weight_of};
 use std::test::Fail;
 
 #[test]
@@ -58,5 +58,31 @@ fn lists_give_their_items(rt: HostRuntime) -> Result<(), Fail> {
     let sets = SetList::new(vec![in alloc; ElemSet::all_below(alloc, 2)?]?);
     assert_eq!(rt; sets.len(), 1);
     assert_eq!(rt; sets.get(0).as_slice(), [0, 1].as_slice());
+    Ok(())
+}
+
+#[test]
+fn a_set_of_bits_goes_beyond_one_word(rt: HostRuntime) -> Result<(), Fail> {
+    let alloc = rt.alloc();
+    let mut set = BitSet::new(alloc);
+    assert!(rt; !set.contains(0));
+    set.remove(130);
+    set.insert(130)?;
+    set.insert(64)?;
+    set.insert(63)?;
+    assert!(rt; set.contains(63) && set.contains(64) && set.contains(130));
+    assert!(rt; !set.contains(65) && !set.contains(4_000_000_000));
+    let all = BitSet::all_below(alloc, 130)?;
+    assert!(rt; all.contains(0) && all.contains(129) && !all.contains(130));
+    assert_eq!(rt; set.next_common(&all, 0), Some(63));
+    assert_eq!(rt; all.next_common(&set, 64), Some(64));
+    assert_eq!(rt; set.next_common(&all, 65), None);
+    assert_eq!(rt; set.next_common(&set, 65), Some(130));
+    set.remove(130);
+    assert!(rt; !set.contains(130) && set.contains(64));
+    assert_eq!(rt; set.next_common(&set, 65), None);
+    assert_eq!(rt; set.next_common(&set, 4_000_000_000), None);
+    let room = BitSet::with_capacity(alloc, 65)?;
+    assert!(rt; !room.contains(64));
     Ok(())
 }

@@ -1,0 +1,113 @@
+//! A set of numbers kept as bits, seen as a strictly rising list.
+ghost use Rattle.std.specs.Prelude.{◌≡◌, ℕ, ◌&&◌, ◌<◌, ◌≤◌, ◌^◌, [], length, max, IfOk, OnOk, OnErr};
+ghost use Rattle.mat_sets.specs.Bits.{bits_of};
+ghost use Rattle.mat_sets.specs.Search.{IsNextFrom};
+ghost use Rattle.mat_sets.specs.Sets.{all_below, is_member, with_one, without_one};
+
+use std::alloc::{AllocError, Global};
+use std::marker::Model;
+
+/// A set of numbers, one bit for each. Members are found, put in and taken out in constant time, and two sets are
+/// compared 64 numbers at a time.
+#[derive(Debug, Drop)]
+pub struct BitSet {
+    words: Vec<u64>,
+}
+
+impl Model for BitSet {
+    ghost use Rattle.std.specs.Prelude.{ℕ, ◌≤◌, ◌^◌, List, length};
+    ghost use Rattle.mat_sets.specs.Bits.{bits_of};
+
+    ghost Value = { List ℕ };
+
+    ghost view = { λ s. bits_of s.words.items };
+
+    ghost invariant = { λ s. length s.words.items ≤ 2 ^ 26 };
+}
+
+impl BitSet {
+    /// The empty set. It takes no memory; `alloc` is where later members get theirs.
+    pub fn new(alloc: Global) -> BitSet
+        ensures { result ≡ [] }
+    {
+        BitSet {
+            words: Vec::new(alloc),
+        }
+    }
+
+    /// The empty set, with room for the numbers below n.
+    pub fn with_capacity(alloc: Global, n: u32) -> Result<BitSet, AllocError>
+        ensures { IfOk result (λ s. s ≡ []) }
+    {
+        let words = vec![in alloc; 0; n.div_ceil(64) as usize]?;
+        Ok(BitSet { words })
+    }
+
+    /// The set of all numbers below n.
+    pub fn all_below(alloc: Global, n: u32) -> Result<BitSet, AllocError>
+        ensures { IfOk result (λ s. s ≡ all_below n) }
+    {
+        let mut words = vec![in alloc; u64::MAX; (n / 64) as usize]?;
+        words.push((1 << (n % 64)) - 1)?;
+        Ok(BitSet { words })
+    }
+
+    /// Whether x is a member. It takes no memory.
+    pub fn contains(&self, x: u32) -> bool
+        ensures { result ≡ is_member x self.now }
+    {
+        let at = (x / 64) as usize;
+        at < self.words.len() && (self.words[at] >> (x % 64)) & 1 == 1
+    }
+
+    /// Puts x in. After an error the set is as before.
+    pub fn insert(&mut self, x: u32) -> Result<(), AllocError>
+        ensures ok { OnOk result (self.new ≡ with_one self.old x) }
+        ensures err { OnErr result (self.new ≡ self.old) }
+    {
+        let at = (x / 64) as usize;
+        make_room(&mut self.words, at)?;
+        self.words[at] |= 1 << (x % 64);
+        Ok(())
+    }
+
+    /// Takes x out. It takes no memory.
+    pub fn remove(&mut self, x: u32)
+        ensures { self.new ≡ without_one self.old x }
+    {
+        let at = (x / 64) as usize;
+        if at < self.words.len() {
+            self.words[at] &= !(1 << (x % 64));
+        }
+    }
+
+    /// The first number from `from` on that is a member of both sets: the time is that of the words in between. It takes
+    /// no memory.
+    pub fn next_common(&self, other: &BitSet, from: u32) -> Option<u32>
+        ensures { IsNextFrom (λ x. is_member x self.now && is_member x other.now) from result }
+    {
+        let len = self.words.len().min(other.words.len());
+        let mut mask = u64::MAX << (from % 64);
+        for at in (from / 64) as usize..len {
+            let common = self.words[at] & other.words[at] & mask;
+            if common != 0 {
+                return Some(at as u32 * 64 + common.trailing_zeros());
+            }
+            mask = u64::MAX;
+        }
+        None
+    }
+}
+
+/// Makes the words reach place `at`, by words with no bit. After an error they are as before.
+fn make_room(words: &mut Vec<u64>, at: usize) -> Result<(), AllocError>
+    requires { at < 2 ^ 26 }
+    ensures same { bits_of words.new.items ≡ bits_of words.old.items }
+    ensures room { OnOk result (at < length words.new.items) }
+    ensures few { length words.new.items ≤ max (length words.old.items) (2 ^ 26) }
+{
+    if words.len() <= at {
+        words.resize(at + 1, 0)?;
+    }
+    Ok(())
+}
