@@ -1,0 +1,5 @@
+pub mod TightArcs
+pub mod TightPathSteps
+pub mod RowExchanges
+pub mod RowTables
+pub mod TableSteps

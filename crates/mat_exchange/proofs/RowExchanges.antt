@@ -1,0 +1,119 @@
+-- The rows of all elements at an independent set tell its exchanges: each row says what the exchanges of its element are, and no
+-- element past the last row can be added or exchanged, as independent sets lie below n.
+use Rattle.std.proofs.Common.{◌≡◌, ℕ, zero, suc, ◌+◌, ◌<◌, ◌≤◌, Bool, true, false, not, ◌&&◌, List, [], ◌∷◌, ◌++◌, length, map, get_or, inl, inr, refl, sym, ap, ◌∙◌, subst, arith}
+use Rattle.std.proofs.lemmas.Bool.{and_parts, and_right, cases_Bool, cases_lt, cond-false, cond-true, eq-eqb, false_from_ne_true, not-true}
+use Rattle.std.proofs.lemmas.List.{get_or_past, get_or-map, length-map, map-append}
+use Rattle.mat_sets.specs.Sets.{is_member, AllBelow, all_below, counted_from, with_one, without_one}
+use Rattle.mat_sets.proofs.Members.{set_members, is_member-filter}
+use Rattle.mat_sets.proofs.Ground.{AllBelow-from_members, all_below-more, all_below-none, below_member, length-all_below}
+use Rattle.mat_laws.specs.declared.exchange.Exchange.{Exchange}
+use Rattle.mat_laws.specs.Exchanges.{row_of, rows_of}
+use Rattle.mat_laws.specs.Matroids.{IsMatroid}
+use Rattle.mat_laws.specs.TightPaths.{Exchanges, exchanges_at, exchanges_in, row_in}
+use Rattle.mat_exchange.specs.Tables.{IsTableAt}
+use mathlib.Core.Path.{fun_ext}
+
+-- ---- the rows by index
+
+get_or-counted_from : (lo n i d : ℕ) → i < n → get_or (counted_from lo n) i d ≡ lo + i
+get_or-counted_from lo zero i d h = absurd (omega arith)
+get_or-counted_from lo (suc n) zero d h = omega arith
+get_or-counted_from lo (suc n) (suc i) d h = let rest = get_or-counted_from (suc lo) n i d (omega arith) in omega arith
+
+pub get_or-all_below : (n i d : ℕ) → i < n → get_or (all_below n) i d ≡ i
+unfolding all_below
+get_or-all_below n i d h = let e = get_or-counted_from 0 n i d h in omega arith
+
+pub length-rows_of : (n : ℕ) (p : List ℕ → Bool) (I : List ℕ) → length (rows_of n p I) ≡ n
+length-rows_of n p I = length-map (all_below n) (row_of p I) ∙ length-all_below n
+
+pub row_in-rows_of : (n : ℕ) (p : List ℕ → Bool) (I : List ℕ) (x : ℕ) → x < n → row_in (rows_of n p I) x ≡ row_of p I x
+row_in-rows_of n p I x h =
+    get_or-map (row_of p I) (all_below n) x 0 (record { addable = false; with = [] }) (subst (λ l. x < l) (sym (length-all_below n)) h)
+    ∙ ap (row_of p I) (get_or-all_below n x 0 h)
+
+pub row_in-past : (n : ℕ) (p : List ℕ → Bool) (I : List ℕ) (x : ℕ) → n ≤ x → row_in (rows_of n p I) x ≡ record { addable = false; with = [] }
+row_in-past n p I x h = get_or_past (rows_of n p I) x (record { addable = false; with = [] }) (subst (λ l. l ≤ x) (sym (length-rows_of n p I)) h)
+
+-- ---- one row
+
+pub row_of-adds : (p : List ℕ → Bool) (I : List ℕ) (x : ℕ) → (row_of p I x).addable ≡ (exchanges_at p I).adds x
+row_of-adds p I x = elim (cases_Bool (is_member x I)) [
+  | inl i ↦ ap (λ (r : Exchange). r.addable) (cond-true (is_member x I) _ _ i) ∙ sym (ap (λ b. not b && p (with_one I x)) i)
+  | inr o ↦ ap (λ (r : Exchange). r.addable) (cond-false (is_member x I) _ _ o) ∙ sym (ap (λ b. not b && p (with_one I x)) o)
+]
+
+pub row_of-trades : (p : List ℕ → Bool) (I : List ℕ) (y x : ℕ) → is_member y (row_of p I x).with ≡ (exchanges_at p I).trades y x
+row_of-trades p I y x =
+    let test : Bool → Bool = λ b. is_member y I && (not b && p (with_one (without_one I y) x)) in
+    elim (cases_Bool (is_member x I)) [
+      | inl i ↦ ap (λ (r : Exchange). is_member y r.with) (cond-true (is_member x I) _ _ i) ∙ sym (ap test i ∙ and_right (is_member y I) false refl)
+      | inr o ↦ ap (λ (r : Exchange). is_member y r.with) (cond-false (is_member x I) _ _ o) ∙ is_member-filter (λ z. p (with_one (without_one I z) x)) y I ∙ sym (ap test o)
+    ]
+
+-- ---- all rows
+
+exchanges_of : (ℕ → Bool) → (ℕ → ℕ → Bool) → Exchanges
+exchanges_of f g = record { adds = f; trades = g }
+
+same_exchanges : (a b : Exchanges) → ((x : ℕ) → a.adds x ≡ b.adds x) → ((y x : ℕ) → a.trades y x ≡ b.trades y x) → a ≡ b
+unfolding exchanges_of
+same_exchanges a b f g =
+    ap (λ (t : ℕ → Bool). exchanges_of t a.trades) (fun_ext (λ x. f x))
+    ∙ ap (λ (t : ℕ → ℕ → Bool). exchanges_of b.adds t) (fun_ext (λ y. fun_ext (λ x. g y x)))
+
+module _ {n : ℕ} {p : List ℕ → Bool} (laws : IsMatroid n p) (I : List ℕ) where
+  -- nothing from n on is in an independent set
+  none_past : (J : List ℕ) (x : ℕ) → n ≤ x → p (with_one J x) ≡ false
+  none_past J x h = false_from_ne_true _ (λ ok.
+      let l : x < n = below_member (laws.sets (with_one J x) ok) (let e = eq-eqb x x refl in grind (arith, set_members)) in
+      let q : ⊥ = absurd (omega arith) in q)
+
+  adds_agree : (x : ℕ) → (exchanges_in (rows_of n p I)).adds x ≡ (exchanges_at p I).adds x
+  adds_agree x = elim (cases_lt x n) [
+    | inl l ↦ ap (λ (r : Exchange). r.addable) (row_in-rows_of n p I x l) ∙ row_of-adds p I x
+    | inr g ↦ ap (λ (r : Exchange). r.addable) (row_in-past n p I x g) ∙ sym (ap (λ b. not (is_member x I) && b) (none_past I x g) ∙ and_right _ false refl)
+  ]
+
+  trades_agree : (y x : ℕ) → (exchanges_in (rows_of n p I)).trades y x ≡ (exchanges_at p I).trades y x
+  trades_agree y x = elim (cases_lt x n) [
+    | inl l ↦ ap (λ (r : Exchange). is_member y r.with) (row_in-rows_of n p I x l) ∙ row_of-trades p I y x
+    | inr g ↦ ap (λ (r : Exchange). is_member y r.with) (row_in-past n p I x g)
+        ∙ sym (ap (λ b. is_member y I && (not (is_member x I) && b)) (none_past (without_one I y) x g) ∙ ap (λ b. is_member y I && b) (and_right _ false refl) ∙ and_right _ false refl)
+  ]
+
+  pub rows_tell_exchanges : exchanges_in (rows_of n p I) ≡ exchanges_at p I
+  rows_tell_exchanges = same_exchanges (exchanges_in (rows_of n p I)) (exchanges_at p I) adds_agree trades_agree
+
+  -- the rows are a table at I
+  pub IsTableAt-rows_of : p I ≡ true → IsTableAt n I (rows_of n p I)
+  IsTableAt-rows_of ok = record {
+    set = laws.sets I ok;
+    count = length-rows_of n p I;
+    member = λ y x h. (and_parts (is_member y I) (not (is_member x I) && p (with_one (without_one I y) x)) (sym (trades_agree y x) ∙ h)).0;
+    outside = λ y x h. (let a = and_parts (is_member y I) (not (is_member x I) && p (with_one (without_one I y) x)) (sym (trades_agree y x) ∙ h) in
+        not-true (is_member x I) (and_parts (not (is_member x I)) (p (with_one (without_one I y) x)) a.1).0);
+  }
+
+  -- only members of I stand in the rows
+  pub rows-below : p I ≡ true → (x : ℕ) (rows : List Exchange) → x ≡ n → rows ≡ rows_of x p I → (k : ℕ) → AllBelow (length rows) (row_in rows k).with
+  rows-below ok x rows all e k =
+      let same : rows ≡ rows_of n p I = e ∙ ap (λ m. rows_of m p I) all in
+      let table : IsTableAt n I rows = subst (IsTableAt n I) (sym same) (IsTableAt-rows_of ok) in
+      let row = (row_in rows k).with in
+      subst (λ m. AllBelow m row) (sym table.count) (AllBelow-from_members n row (λ y m. below_member table.set (table.member y k m)))
+
+-- ---- the rows so far
+
+pub rows_of-none : (p : List ℕ → Bool) (I : List ℕ) → rows_of 0 p I ≡ []
+rows_of-none p I = ap (map (row_of p I)) all_below-none
+
+pub length-rows : (n : ℕ) (p : List ℕ → Bool) (I : List ℕ) (rows : List Exchange) → rows ≡ rows_of n p I → length rows ≡ n
+length-rows n p I rows e = ap length e ∙ length-rows_of n p I
+
+rows_of-more : (n : ℕ) (p : List ℕ → Bool) (I : List ℕ) → rows_of (n + 1) p I ≡ rows_of n p I ++ row_of p I n ∷ []
+rows_of-more n p I = ap (map (row_of p I)) (all_below-more n) ∙ map-append (row_of p I) (all_below n) (n ∷ [])
+
+pub rows_of-push : (n : ℕ) (p : List ℕ → Bool) (I : List ℕ) (rows rows' : List Exchange) (row : Exchange) → rows ≡ rows_of n p I
+    → row ≡ row_of p I n → rows' ≡ rows ++ row ∷ [] → rows' ≡ rows_of (n + 1) p I
+rows_of-push n p I rows rows' row e f g = g ∙ ap (λ r. r ++ row ∷ []) e ∙ ap (λ r. rows_of n p I ++ r ∷ []) f ∙ sym (rows_of-more n p I)

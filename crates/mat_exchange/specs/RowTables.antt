@@ -1,0 +1,28 @@
+-- Tables of rows that are kept as sets, with the columns beside them.
+use Rattle.std.specs.Prelude.{◌≡◌, ℕ, ◌<◌, true, ◌||◌, ◌&&◌, ◌==◌, List, [], length, map, slice_index_or}
+use Rattle.mat_sets.specs.Sets.{is_member, all_below}
+use Rattle.mat_laws.specs.declared.exchange.Exchange.{Exchange}
+
+-- the set at a place, or none
+abbrev pub set_at : List (List ℕ) → ℕ → List ℕ
+set_at sets x = slice_index_or sets x []
+
+-- the row of x, by the set of the addable elements and the sets of those that each can be exchanged for
+abbrev pub row_from : List ℕ → List (List ℕ) → ℕ → Exchange
+row_from addable rows x = record { addable = is_member x addable; with = set_at rows x }
+
+-- the rows in order
+abbrev pub table_of : List ℕ → List (List ℕ) → List Exchange
+table_of addable rows = map (row_from addable rows) (all_below (length rows))
+
+-- the columns are the transpose of the rows, and only elements that have a row are addable
+pub record AreTransposed (addable : List ℕ) (rows columns : List (List ℕ)) : Type 0 where
+  pub below : (x : ℕ) → is_member x addable ≡ true → x < length rows
+  pub count : length columns ≡ length rows
+  pub transposed : (x y : ℕ) → y < length rows → is_member x (set_at columns y) ≡ is_member y (set_at rows x)
+
+-- x is put into the column of each member of the row, and nothing else is
+pub record IsEntered (x : ℕ) (row : List ℕ) (before after : List (List ℕ)) : Type 0 where
+  pub count : length after ≡ length before
+  pub members : (k y : ℕ) → y < length before
+      → is_member k (set_at after y) ≡ (is_member k (set_at before y) || (k == x && is_member y row))

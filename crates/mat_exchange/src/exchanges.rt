@@ -1,0 +1,50 @@
+//! The exchanges of all elements at an independent set of a matroid.
+ghost use Rattle.std.specs.Prelude.{◌≡◌, ◌<◌, ◌≤◌, true, IfOk};
+ghost use Rattle.mat_laws.specs.Exchanges.{row_of, rows_of};
+
+use crate::row_table::RowTable;
+use mat_laws::{Exchange, Matroid};
+use mat_sets::ElemSet;
+use std::alloc::{AllocError, Global};
+
+/// The exchanges of x: a member has none. For an element outside the set one question to `circuit`.
+fn exchange_of<M: Matroid>(
+    alloc: Global,
+    m: &M,
+    set: &ElemSet,
+    x: u32,
+) -> Result<Exchange, AllocError>
+    requires sound { M.sound m.now }
+    requires independent { M.indep m.now set.now ≡ true }
+    requires below { x < M.ground_size m.now }
+    ensures { IfOk result (λ e. e ≡ row_of (M.indep m.now) set.now x) }
+{
+    if set.contains(x) {
+        return Ok(Exchange {
+            addable: false,
+            with: ElemSet::new(alloc),
+        });
+    }
+    m.circuit(alloc, set, x)
+}
+
+/// The exchanges of all elements at an independent set (Schrijver, chapter 41): for each element outside it one question to
+/// `circuit`. `workers` are not used yet. The only error is want of memory.
+pub fn rows<M: Matroid>(
+    alloc: Global,
+    m: &M,
+    set: &ElemSet,
+    workers: u32,
+) -> Result<RowTable, AllocError>
+    requires sound { M.sound m.now }
+    requires independent { M.indep m.now set.now ≡ true }
+    requires few { M.ground_size m.now ≤ 500 }
+    ensures { IfOk result (λ t. t ≡ rows_of (M.ground_size m.now) (M.indep m.now) set.now) }
+{
+    m.lawful();
+    let mut exchanges = Vec::new(alloc);
+    for x in 0..m.size() {
+        exchanges.push(exchange_of(alloc, m, set, x)?)?;
+    }
+    RowTable::new(alloc, &exchanges)
+}
