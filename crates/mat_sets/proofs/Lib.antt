@@ -14,5 +14,8 @@ pub mod Decisions
 pub mod Places
 pub mod Levels
 pub mod Reach
+pub mod Rounds
+pub mod Traces
+pub mod LevelSearch
 pub mod Walking
 pub mod Changes

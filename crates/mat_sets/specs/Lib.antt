@@ -5,5 +5,7 @@ pub mod Places
 pub mod Search
 pub mod Bits
 pub mod Walks
+pub mod Rounds
+pub mod WalkSearches
 pub mod Graphs
 pub mod SetTests

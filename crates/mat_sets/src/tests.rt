@@ -1,5 +1,8 @@
 //! Each call once, with ample memory.
-use crate::{BitSet, ElemSet, NotRising, Pairs, SetList, Weights, weight_of};
+use crate::{
+    BitSet, ElemSet, NotRising, Pairs, Relation, SetList, WalkSearch, Weights, shortest_walk,
+    weight_of,
+};
 use std::test::Fail;
 
 #[test]
@@ -84,5 +87,71 @@ fn a_set_of_bits_goes_beyond_one_word(rt: HostRuntime) -> Result<(), Fail> {
     assert_eq!(rt; set.next_common(&set, 4_000_000_000), None);
     let room = BitSet::with_capacity(alloc, 65)?;
     assert!(rt; !room.contains(64));
+    Ok(())
+}
+
+/// Arcs that lead 2 or 5 further, from 0 to a goal.
+struct Jumps {
+    size: u32,
+    goal: u32,
+}
+
+impl Relation for Jumps {
+    ghost use Rattle.std.specs.Prelude.{◌≡◌, ◌≤◌, ◌==◌, ◌||◌, ◌+◌};
+
+    ghost count = { λ r. r.size };
+
+    ghost sound = { λ r. r.size ≤ 100 };
+
+    ghost arc = { λ r u v. v == u + 2 || v == u + 5 };
+
+    ghost start = { λ r v. v == 0 };
+
+    ghost goal = { λ r v. v == r.goal };
+
+    fn size(&self) -> u32 {
+        self.size
+    }
+
+    fn is_start(&self, v: u32) -> bool {
+        v == 0
+    }
+
+    fn is_goal(&self, v: u32) -> bool {
+        v == self.goal
+    }
+
+    fn next_arc(&self, u: u32, among: &BitSet, from: u32) -> Option<u32> {
+        if from <= u + 2 && among.contains(u + 2) {
+            Some(u + 2)
+        } else if from <= u + 5 && among.contains(u + 5) {
+            Some(u + 5)
+        } else {
+            None
+        }
+    }
+}
+
+#[test]
+fn a_walk_with_fewest_vertices_is_found(rt: HostRuntime) -> Result<(), Fail> {
+    let alloc = rt.alloc();
+    let found = shortest_walk(alloc, &Jumps { size: 11, goal: 10 })?;
+    let shortest = match found {
+        WalkSearch::Walk(vertices) => vertices.as_slice() == [0, 5, 10].as_slice(),
+        WalkSearch::Reached(_) => false,
+    };
+    assert!(rt; shortest);
+    Ok(())
+}
+
+#[test]
+fn all_that_is_reached_is_found_where_no_walk_is(rt: HostRuntime) -> Result<(), Fail> {
+    let alloc = rt.alloc();
+    let found = shortest_walk(alloc, &Jumps { size: 8, goal: 3 })?;
+    let all = match found {
+        WalkSearch::Walk(_) => false,
+        WalkSearch::Reached(reached) => reached.as_slice() == [0, 2, 4, 5, 6, 7].as_slice(),
+    };
+    assert!(rt; all);
     Ok(())
 }

@@ -1,0 +1,7 @@
+use Rattle.std.proofs.Common.{◌≡◌, not}
+use Rattle.mat_sets.specs.Search.{those_below}
+use Rattle.mat_sets.specs.Sets.{is_member}
+use Rattle.mat_sets.proofs.level_search.others.Given as goal
+
+abbrev pub invariant-loop-v : goal.invariant-loop-v
+invariant-loop-v l = l.outside ≡ those_below l.v (λ v. not (is_member v l.set))
