@@ -29,7 +29,7 @@ fn exchange_of<M: Matroid>(
 }
 
 /// The exchanges of all elements at an independent set (Schrijver, chapter 41): for each element outside it one question to
-/// `circuit`. `workers` are not used yet. The only error is want of memory.
+/// `circuit`, one after the other, whatever the number of workers, from 1 to 16. The only error is want of memory.
 pub fn rows<M: Matroid>(
     alloc: Global,
     m: &M,
@@ -39,6 +39,7 @@ pub fn rows<M: Matroid>(
     requires sound { M.sound m.now }
     requires independent { M.indep m.now set.now ≡ true }
     requires few { M.ground_size m.now ≤ 500 }
+    requires workers { (1 ≤ workers) × (workers ≤ 16) }
     ensures { IfOk result (λ t. t ≡ rows_of (M.ground_size m.now) (M.indep m.now) set.now) }
 {
     m.lawful();

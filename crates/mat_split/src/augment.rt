@@ -27,6 +27,7 @@ pub fn augment<A: Matroid, B: Matroid>(
     requires second_sound { B.sound b.now }
     requires ground { B.ground_size b.now ≡ A.ground_size a.now }
     requires few { A.ground_size a.now ≤ 500 }
+    requires workers { (1 ≤ workers) × (workers ≤ 16) }
     requires small { (e : ℕ) → e < A.ground_size a.now → IsWithin (10 ^ 12) (weights_of rung.now e) }
     requires rung { IsSplitRung (A.ground_size a.now) (A.indep a.now) (B.indep b.now) (weights_of rung.now) (length rung.now.set) rung.now }
     ensures { IfOk result (IsAugmented (A.ground_size a.now) (A.indep a.now) (B.indep b.now) (weights_of rung.now) (length rung.now.set)) }

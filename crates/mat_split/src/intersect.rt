@@ -28,7 +28,8 @@ fn first_rung(alloc: Global, weights: &[i128]) -> Result<Rung, AllocError>
 
 /// A heaviest common independent set of two matroids for each size from 0 to the largest, each with a split of the weights that
 /// proves it, and a set that proves that there is no larger one, by weight splitting (Frank 1981; Schrijver, chapter 41). Both
-/// matroids have the same elements, at most 500; each weight is at least -10^12 and at most 10^12. The only error is want of memory.
+/// matroids have the same elements, at most 500; each weight is at least -10^12 and at most 10^12, and there
+/// are 1 to 16 workers. The only error is want of memory.
 pub fn intersect_all<A: Matroid, B: Matroid>(
     alloc: Global,
     a: &A,
@@ -40,6 +41,7 @@ pub fn intersect_all<A: Matroid, B: Matroid>(
     requires second_sound { B.sound b.now }
     requires ground { B.ground_size b.now ≡ A.ground_size a.now }
     requires few { A.ground_size a.now ≤ 500 }
+    requires workers { (1 ≤ workers) × (workers ≤ 16) }
     requires lengths { length weights.now ≡ A.ground_size a.now }
     requires small { AreWithin (10 ^ 12) weights.now }
     ensures { IfOk result (λ l. IsLadder (A.ground_size a.now) (A.indep a.now) (B.indep b.now) weights.now l.rungs.items l.cut) }
