@@ -13,9 +13,10 @@ use mat_sets::Weights;
 use std::alloc::{AllocError, Global};
 
 /// From a heaviest common independent set to one of one element more, or to the cut that proves that there is none (Frank 1981;
-/// Schrijver, chapter 41). Tight paths are searched for. Where one is found, the set is exchanged along it; where the search is stuck,
-/// the two weights change by the least slack on the reached set, and where it has no slack it is the cut. Each search that is stuck
-/// reaches more elements than the one before, so there are at most n + 1 changes. The only error is want of memory.
+/// Schrijver, chapter 41). Tight paths are searched for. Where one is found, the set is exchanged along it; where the search is
+/// stuck, the two weights change by the least slack on the reached set, and where it has no slack it is the cut. Each stuck search
+/// reaches more elements than the one before, so for n elements there are at most n + 1 changes, each of them in the time of its
+/// search. The only error is want of memory.
 pub fn augment<A: Matroid, B: Matroid>(
     alloc: Global,
     a: &A,
