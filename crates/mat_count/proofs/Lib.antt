@@ -1,1 +1,3 @@
 pub mod ClassTables
+pub mod Filters
+pub mod UniformRows

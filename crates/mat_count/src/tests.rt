@@ -39,6 +39,12 @@ fn exchanges_at_sets_of_two_and_of_one(rt: HostRuntime) -> Result<(), Fail> {
     let smaller = matroid.circuit(alloc, &one, 2)?;
     assert!(rt; smaller.addable);
     assert!(rt; smaller.with == one);
+    let loops = Uniform::new(4, 0);
+    let none = ElemSet::new(alloc);
+    assert!(rt; loops.independent(alloc, &none)?);
+    let nothing = loops.circuit(alloc, &none, 3)?;
+    assert!(rt; !nothing.addable);
+    assert!(rt; nothing.with == none);
     Ok(())
 }
 
