@@ -1,6 +1,6 @@
 -- The exchanges at an independent set of a partition matroid: x puts one more member into its own class alone, and an exchange for y takes
 -- one out of the class of y; so where the class of x is full, y has to stand in it, and else every y will do.
-use Rattle.std.proofs.Common.{◌≡◌, ℕ, suc, ◌+◌, ◌<◌, ◌≤◌, ◌≢◌, Bool, true, false, ◌&&◌, eqb, List, [], length, get_or, ◌⊎◌, inl, inr, refl, sym, ap, ◌∙◌, arith}
+use Rattle.std.proofs.Common.{◌≡◌, ℕ, ◌+◌, ◌<◌, ◌≤◌, ◌≢◌, Bool, true, false, List, [], length, get_or, ◌⊎◌, inl, inr, refl, sym, ap, ◌∙◌, arith}
 use Rattle.std.proofs.lemmas.Bool.{cases_Bool, cases_eq, both_ways, and_parts, and_from, false_from_ne_true}
 use Rattle.mat_sets.specs.Sets.{is_member, IsRising, IsSet, with_one, without_one, intersection}
 use Rattle.mat_sets.specs.SetTests.{is_set}

@@ -1,9 +1,9 @@
 -- The exchanges at an independent set of a partition matroid, as the table of classes tells them: it names the one class in which an element
 -- stands, or none.
-use Rattle.std.proofs.Common.{◌≡◌, ℕ, ◌<◌, ◌≤◌, ◌≢◌, Bool, true, false, eqb, List, [], length, get_or, Option, Some, None, inl, inr, refl, sym, ap, ◌∙◌, subst, arith}
+use Rattle.std.proofs.Common.{◌≡◌, ℕ, ◌<◌, ◌≤◌, true, false, eqb, List, [], length, get_or, Option, Some, None, inl, inr, refl, sym, ap, ◌∙◌, subst, arith}
 use Rattle.std.proofs.lemmas.Bool.{cases_eq, and_parts, both_ways, eq-eqb, ne_eqb}
 use Rattle.std.proofs.lemmas.List.{get_or_default}
-use Rattle.mat_sets.specs.Sets.{is_member, IsSet, AllBelow, intersection}
+use Rattle.mat_sets.specs.Sets.{is_member, AllBelow, intersection}
 use Rattle.mat_sets.specs.SetTests.{is_set}
 use Rattle.mat_sets.proofs.SetTests.{IsSet-from_test}
 use Rattle.mat_laws.specs.declared.exchange.Exchange.{Exchange}
@@ -13,7 +13,7 @@ use Rattle.mat_count.specs.Partitions.{names, CappedClasses, IsPartition, IsClas
 use Rattle.mat_count.specs.ClassMembers.{named_members}
 use Rattle.mat_count.proofs.ClassTables.{named-inside}
 use Rattle.mat_count.proofs.ClassMembers.{named_members-class}
-use Rattle.mat_count.proofs.ClassRows.{IsOutside, IsOutside-from_test, row_with_room, row_at_full}
+use Rattle.mat_count.proofs.ClassRows.{IsOutside-from_test, row_with_room, row_at_full}
 
 -- a row of a sound partition matroid, for an independent set and an element outside
 abbrev pub IsRowOf : List ℕ → ℕ → Exchange → CappedClasses → Type 0
