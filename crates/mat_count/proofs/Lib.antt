@@ -1,1 +1,6 @@
+pub mod ClassMembers
+pub mod ClassRows
 pub mod ClassTables
+pub mod Filters
+pub mod PartitionRows
+pub mod UniformRows

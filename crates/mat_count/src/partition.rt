@@ -4,10 +4,11 @@ ghost use Rattle.std.specs.List.{All};
 ghost use Rattle.mat_sets.specs.Sets.{AllBelow, IsRising};
 ghost use Rattle.mat_sets.specs.Families.{AreDisjoint};
 ghost use Rattle.mat_count.specs.Counts.{is_counted};
+ghost use Rattle.mat_count.specs.ClassMembers.{named_members};
 ghost use Rattle.mat_count.specs.Partitions.{CappedClasses, IsPartition, IsClassTable, IsEntered, CountsMembers};
 ghost use Rattle.mat_count.specs.PartitionLaws.{partition_laws};
 
-use mat_laws::Matroid;
+use mat_laws::{Exchange, Matroid};
 use mat_sets::{ElemSet, SetList};
 use std::alloc::{AllocError, Global};
 use std::marker::Model;
@@ -96,6 +97,26 @@ fn are_within(numbers: &[usize], caps: &[u32]) -> bool
     true
 }
 
+// The members of the set that stand in the class at this place. Each is put in at the end, so that the time is linear.
+fn members_in_class(
+    alloc: Global,
+    class_of: &[Option<usize>],
+    set: &ElemSet,
+    place: usize,
+) -> Result<ElemSet, AllocError>
+    requires { AllBelow (length class_of.now) set.now }
+    ensures members { IfOk result (λ s. s ≡ named_members class_of.now place set.now) }
+    ensures rises { IfOk result (λ s. IsRising s) }
+{
+    let mut members = ElemSet::new(alloc);
+    for y in set.as_slice() {
+        if class_of[*y as usize] == Some(place) {
+            members.add(*y)?;
+        }
+    }
+    Ok(members)
+}
+
 impl Partition {
     /// The partition matroid of this many elements, these classes and their caps. The only error is want of memory.
     pub fn new(
@@ -155,5 +176,25 @@ impl Matroid for Partition {
     fn independent(&self, alloc: Global, set: &ElemSet) -> Result<bool, AllocError> {
         let numbers = members_by_class(alloc, &self.classes, &self.class_of, set)?;
         Ok(are_within(&numbers, &self.caps))
+    }
+
+    /// The exchanges of x: where its class is full it can be exchanged for the members of that class alone, and else it
+    /// can be added, and be exchanged for every member. No question of independence is asked: the time is linear in the
+    /// members of the set. The only error is want of memory.
+    fn circuit(&self, alloc: Global, base: &ElemSet, x: u32) -> Result<Exchange, AllocError> {
+        if let Some(place) = self.class_of[x as usize] {
+            let with = members_in_class(alloc, &self.class_of, base, place)?;
+            if with.len() >= self.caps[place] as usize {
+                return Ok(Exchange {
+                    addable: false,
+                    with,
+                });
+            }
+        }
+        let with = base.copy(alloc)?;
+        Ok(Exchange {
+            addable: true,
+            with,
+        })
     }
 }

@@ -39,6 +39,12 @@ fn exchanges_at_sets_of_two_and_of_one(rt: HostRuntime) -> Result<(), Fail> {
     let smaller = matroid.circuit(alloc, &one, 2)?;
     assert!(rt; smaller.addable);
     assert!(rt; smaller.with == one);
+    let loops = Uniform::new(4, 0);
+    let none = ElemSet::new(alloc);
+    assert!(rt; loops.independent(alloc, &none)?);
+    let nothing = loops.circuit(alloc, &none, 3)?;
+    assert!(rt; !nothing.addable);
+    assert!(rt; nothing.with == none);
     Ok(())
 }
 
@@ -52,22 +58,22 @@ fn set_of(alloc: Global, first: u32, second: u32) -> Result<ElemSet, AllocError>
     Ok(set)
 }
 
-// On four elements, at most one of 0 and 2, and not 1.
-fn example(alloc: Global) -> Result<Partition, AllocError>
+// On four elements, at most so many of 0 and 2, and not 1.
+fn example(alloc: Global, cap: u32) -> Result<Partition, AllocError>
     ensures count { IfOk result (λ p. p.count ≡ 4) }
     ensures sound { IfOk result (λ p. IsPartition p.count p.classes p.caps) }
 {
     let even = set_of(alloc, 0, 2)?;
     let one = set_of(alloc, 1, 1)?;
     let classes = SetList::new(vec![in alloc; even, one]?);
-    Partition::new(alloc, 4, classes, vec![in alloc; 1, 0]?)
+    Partition::new(alloc, 4, classes, vec![in alloc; cap, 0]?)
 }
 
 #[test]
 #[tactic(auto, unfolding(mat_sets::specs::Sets::with_one))]
 fn at_most_the_cap_of_each_class(rt: HostRuntime) -> Result<(), Fail> {
     let alloc = rt.alloc();
-    let matroid = example(alloc)?;
+    let matroid = example(alloc, 1)?;
     assert_eq!(rt; matroid.size(), 4);
     assert_eq!(rt; matroid.count(), 4);
     assert_eq!(rt; matroid.classes().len(), 2);
@@ -75,5 +81,47 @@ fn at_most_the_cap_of_each_class(rt: HostRuntime) -> Result<(), Fail> {
     assert!(rt; matroid.independent(alloc, &set_of(alloc, 0, 3)?)?);
     assert!(rt; !matroid.independent(alloc, &set_of(alloc, 0, 2)?)?);
     assert!(rt; !matroid.independent(alloc, &set_of(alloc, 1, 1)?)?);
+    Ok(())
+}
+
+#[test]
+#[tactic(auto, unfolding(mat_sets::specs::Sets::with_one))]
+fn exchanges_at_a_full_class(rt: HostRuntime) -> Result<(), Fail> {
+    let alloc = rt.alloc();
+    let matroid = example(alloc, 1)?;
+    let base = set_of(alloc, 0, 3)?;
+    assert!(rt; matroid.independent(alloc, &base)?);
+    let full = matroid.circuit(alloc, &base, 2)?;
+    assert!(rt; !full.addable);
+    assert!(rt; full.with == set_of(alloc, 0, 0)?);
+    let dependent = matroid.circuit(alloc, &base, 1)?;
+    assert!(rt; !dependent.addable);
+    assert!(rt; dependent.with.is_empty());
+    Ok(())
+}
+
+#[test]
+#[tactic(auto, unfolding(mat_sets::specs::Sets::with_one))]
+fn exchanges_below_the_cap(rt: HostRuntime) -> Result<(), Fail> {
+    let alloc = rt.alloc();
+    let matroid = example(alloc, 2)?;
+    let base = set_of(alloc, 0, 3)?;
+    assert!(rt; matroid.independent(alloc, &base)?);
+    let below = matroid.circuit(alloc, &base, 2)?;
+    assert!(rt; below.addable);
+    assert!(rt; below.with == base);
+    Ok(())
+}
+
+#[test]
+#[tactic(auto, unfolding(mat_sets::specs::Sets::with_one))]
+fn exchanges_of_an_element_in_no_class(rt: HostRuntime) -> Result<(), Fail> {
+    let alloc = rt.alloc();
+    let matroid = example(alloc, 1)?;
+    let base = set_of(alloc, 2, 2)?;
+    assert!(rt; matroid.independent(alloc, &base)?);
+    let free = matroid.circuit(alloc, &base, 3)?;
+    assert!(rt; free.addable);
+    assert!(rt; free.with == base);
     Ok(())
 }

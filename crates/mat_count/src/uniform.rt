@@ -3,7 +3,7 @@ ghost use Rattle.std.specs.Prelude.{◌≡◌};
 ghost use Rattle.mat_count.specs.Counts.{is_uniform};
 ghost use Rattle.mat_count.specs.UniformLaws.{uniform_laws};
 
-use mat_laws::Matroid;
+use mat_laws::{Exchange, Matroid};
 use mat_sets::ElemSet;
 use std::alloc::{AllocError, Global};
 
@@ -53,5 +53,15 @@ impl Matroid for Uniform {
 
     fn independent(&self, _alloc: Global, set: &ElemSet) -> Result<bool, AllocError> {
         Ok(set.len() <= self.cap as usize)
+    }
+
+    /// The exchanges of x: it can be added exactly below the cap, and be exchanged for every member. No question of
+    /// independence is asked: the time is that of a copy of the set. The only error is want of memory.
+    fn circuit(&self, alloc: Global, base: &ElemSet, _x: u32) -> Result<Exchange, AllocError> {
+        let with = base.copy(alloc)?;
+        Ok(Exchange {
+            addable: base.len() < self.cap as usize,
+            with,
+        })
     }
 }

@@ -10,8 +10,8 @@ apart : (x : ℕ) → multiplicity x ((0 ∷ 2 ∷ []) ∷ (1 ∷ []) ∷ []) �
 unfolding multiplicity
 apart x = grind (arith, nat_tests)
 
-partition : IsPartition 4 ((0 ∷ 2 ∷ []) ∷ (1 ∷ []) ∷ []) (1 ∷ 0 ∷ [])
-partition = record {
+partition : (cap : ℕ) → IsPartition 4 ((0 ∷ 2 ∷ []) ∷ (1 ∷ []) ∷ []) (cap ∷ 0 ∷ [])
+partition cap = record {
   capped = refl;
   inside = All-cons (AllBelow 4) (0 ∷ 2 ∷ []) ((1 ∷ []) ∷ []) (omega arith, (omega arith, tt)) (All-cons (AllBelow 4) (1 ∷ []) [] (omega arith, tt) (All-nil (AllBelow 4)));
   disjoint = record { once = apart };
@@ -19,4 +19,4 @@ partition = record {
 
 pub new-requires : goal.new-requires
 unfolding with_one
-new-requires c = rw (c.new-classes.ensures.items, c.in_ok-vec.ensures.items, c.in_ok-even.ensures, c.in_ok-one.ensures, c.in_ok-vec-2.ensures.items) partition
+new-requires c = rw (c.new-classes.ensures.items, c.in_ok-vec.ensures.items, c.in_ok-even.ensures, c.in_ok-one.ensures, c.in_ok-vec-2.ensures.items) (partition c.args.cap)

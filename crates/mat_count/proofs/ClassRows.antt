@@ -1,0 +1,126 @@
+-- The exchanges at an independent set of a partition matroid: x puts one more member into its own class alone, and an exchange for y takes
+-- one out of the class of y; so where the class of x is full, y has to stand in it, and else every y will do.
+use Rattle.std.proofs.Common.{◌≡◌, ℕ, ◌+◌, ◌<◌, ◌≤◌, ◌≢◌, Bool, true, false, List, [], length, get_or, ◌⊎◌, inl, inr, refl, sym, ap, ◌∙◌, arith}
+use Rattle.std.proofs.lemmas.Bool.{cases_Bool, cases_eq, both_ways, and_parts, and_from, false_from_ne_true}
+use Rattle.mat_sets.specs.Sets.{is_member, IsRising, IsSet, with_one, without_one, intersection}
+use Rattle.mat_sets.specs.SetTests.{is_set}
+use Rattle.mat_sets.specs.Families.{indicator}
+use Rattle.mat_sets.proofs.Members.{IsRising-without_one, set_members}
+use Rattle.mat_sets.proofs.Changes.{with_one-returned}
+use Rattle.mat_sets.proofs.Ground.{IsSet-with_one, IsSet-without_one}
+use Rattle.mat_sets.proofs.SetTests.{IsSet-from_test, test_from-IsSet}
+use Rattle.mat_laws.specs.declared.exchange.Exchange.{Exchange}
+use Rattle.mat_laws.specs.Exchanges.{row_of}
+use Rattle.mat_laws.proofs.Rows.{row_outside}
+use Rattle.mat_count.specs.Counts.{is_within_caps, IsWithinCaps, is_counted}
+use Rattle.mat_count.specs.LaminarLaws.{IsWithinCaps-from_test, test_from-IsWithinCaps, counted_more, counted_same}
+use Rattle.mat_count.proofs.Filters.{filter_same_at, filter_whole}
+
+-- ---- counts in one set
+
+-- one more element
+counted-with_one : (S X : List ℕ) (x : ℕ) → IsRising X → is_member x X ≡ false → length (intersection (with_one X x) S) ≡ length (intersection X S) + indicator (is_member x S)
+counted-with_one S X x rising outside = elim (cases_Bool (is_member x S)) [
+  | inl inside ↦ rw inside (let more = counted_more S X x rising outside inside in omega arith)
+  | inr apart ↦ rw apart (let same = ap length (counted_same S X x rising apart) in omega arith)
+]
+
+-- an exchange
+counted-exchanged : (S I : List ℕ) (x y : ℕ) → IsRising I → is_member x I ≡ false → is_member y I ≡ true
+    → length (intersection (with_one (without_one I y) x) S) + indicator (is_member y S) ≡ length (intersection I S) + indicator (is_member x S)
+counted-exchanged S I x y rising outside inside =
+    let absent : is_member x (without_one I y) ≡ false = grind (arith, set_members) in
+    let gone : is_member y (without_one I y) ≡ false = grind (arith, set_members) in
+    let added = counted-with_one S (without_one I y) x (IsRising-without_one I y rising) absent in
+    let back = counted-with_one S (without_one I y) y (IsRising-without_one I y rising) gone in
+    let same = ap (λ X. length (intersection X S)) (with_one-returned I y rising inside) in
+    omega arith
+
+-- ---- whether an exchanged set is independent
+
+-- a count after one more, or after an exchange, is at most the cap
+fits_added : (a : Bool) (after before cap : ℕ) → after ≡ before + indicator a → before ≤ cap → (a ≡ true → before < cap) → after ≤ cap
+fits_added true after before cap is most room = let less = room refl in omega arith
+fits_added false after before cap is most room = omega arith
+
+fits_exchanged : (a b : Bool) (after before cap : ℕ) → after + indicator b ≡ before + indicator a → before ≤ cap → (a ≡ true → (before < cap) ⊎ (b ≡ true)) → after ≤ cap
+fits_exchanged true true after before cap is most room = omega arith
+fits_exchanged false b after before cap is most room = omega arith
+fits_exchanged true false after before cap is most room = elim (room refl) [
+  | inl less ↦ omega arith
+  | inr never ↦ absurd (both_ways false refl never)
+]
+
+-- a set that passes both tests
+counted : (n : ℕ) (sets : List (List ℕ)) (caps X : List ℕ) → IsSet n X → IsWithinCaps sets caps X → is_counted n sets caps X ≡ true
+counted n sets caps X set within = and_from (is_set n X) (is_within_caps sets caps X) (test_from-IsSet n X set) (test_from-IsWithinCaps sets caps X within)
+
+-- a set that has too many members in one listed set
+not_counted : (n : ℕ) (sets : List (List ℕ)) (caps X : List ℕ) (i : ℕ) → length caps ≡ length sets → i < length sets
+    → get_or caps i 0 < length (intersection X (get_or sets i [])) → is_counted n sets caps X ≡ false
+not_counted n sets caps X i same l many = false_from_ne_true (is_counted n sets caps X) (λ h.
+    let most = (IsWithinCaps-from_test sets caps X same (and_parts (is_set n X) (is_within_caps sets caps X) h).1).at i l in omega arith)
+
+-- an element x outside an independent set I
+pub record IsOutside (n : ℕ) (sets : List (List ℕ)) (caps I : List ℕ) (x : ℕ) : Type 0 where
+  pub same : length caps ≡ length sets
+  pub small : x < n
+  pub set : IsSet n I
+  pub fits : IsWithinCaps sets caps I
+  pub outside : is_member x I ≡ false
+
+pub IsOutside-from_test : (n : ℕ) (sets : List (List ℕ)) (caps I : List ℕ) (x : ℕ) → length caps ≡ length sets → x < n → is_counted n sets caps I ≡ true → is_member x I ≡ false
+    → IsOutside n sets caps I x
+IsOutside-from_test n sets caps I x same small passes outside =
+    let tests = and_parts (is_set n I) (is_within_caps sets caps I) passes in
+    record { same = same; small = small; set = IsSet-from_test n I tests.0; fits = IsWithinCaps-from_test sets caps I same tests.1; outside = outside }
+
+module _ {n : ℕ} {sets : List (List ℕ)} {caps I : List ℕ} {x : ℕ} (o : IsOutside n sets caps I x) where
+  -- I + x where no listed set that holds x is full
+  added_with_room : ((i : ℕ) → i < length sets → is_member x (get_or sets i []) ≡ true → length (intersection I (get_or sets i [])) < get_or caps i 0)
+      → is_counted n sets caps (with_one I x) ≡ true
+  added_with_room room = counted n sets caps (with_one I x) (IsSet-with_one n I x o.set o.small) (record {
+    at = λ i l. fits_added (is_member x (get_or sets i [])) _ _ (get_or caps i 0) (counted-with_one (get_or sets i []) I x o.set.rising o.outside) (o.fits.at i l) (room i l);
+  })
+
+  -- I - y + x where each full listed set that holds x holds y as well
+  exchanged_with_room : (y : ℕ) → is_member y I ≡ true
+      → ((i : ℕ) → i < length sets → is_member x (get_or sets i []) ≡ true → (length (intersection I (get_or sets i [])) < get_or caps i 0) ⊎ (is_member y (get_or sets i []) ≡ true))
+      → is_counted n sets caps (with_one (without_one I y) x) ≡ true
+  exchanged_with_room y inside room = counted n sets caps (with_one (without_one I y) x) (IsSet-with_one n (without_one I y) x (IsSet-without_one n I y o.set) o.small) (record {
+    at = λ i l. fits_exchanged (is_member x (get_or sets i [])) (is_member y (get_or sets i [])) _ _ (get_or caps i 0)
+        (counted-exchanged (get_or sets i []) I x y o.set.rising o.outside inside) (o.fits.at i l) (room i l);
+  })
+
+  -- ---- rows
+
+  -- where no listed set that holds x is full, x can be added, and be exchanged for every member
+  pub row_with_room : (row : Exchange) → ((i : ℕ) → i < length sets → is_member x (get_or sets i []) ≡ true → length (intersection I (get_or sets i [])) < get_or caps i 0)
+      → row.addable ≡ true → row.with ≡ I → row ≡ row_of (is_counted n sets caps) I x
+  row_with_room row room addable all = row_outside (is_counted n sets caps) I x row o.outside (addable ∙ sym (added_with_room room))
+      (all ∙ sym (filter_whole (λ y. is_counted n sets caps (with_one (without_one I y) x)) I (λ y m. exchanged_with_room y m (λ i l h. inl (room i l h)))))
+
+  -- where x stands in one listed set alone, and that is full, x can be exchanged for the members of that set
+  module _ {place : ℕ} (known : place < length sets) (own : is_member x (get_or sets place []) ≡ true)
+      (alone : (i : ℕ) → i < length sets → place ≢ i → is_member x (get_or sets i []) ≡ false) (full : get_or caps place 0 ≤ length (intersection I (get_or sets place []))) where
+    added_at_full : is_counted n sets caps (with_one I x) ≡ false
+    added_at_full = not_counted n sets caps (with_one I x) place o.same known (
+        let more = counted_more (get_or sets place []) I x o.set.rising o.outside own in omega arith)
+
+    exchanged_at_full : (y : ℕ) → is_member y I ≡ true → is_member y (get_or sets place []) ≡ is_counted n sets caps (with_one (without_one I y) x)
+    exchanged_at_full y inside = elim (cases_Bool (is_member y (get_or sets place []))) [
+      | inl member ↦ member ∙ sym (exchanged_with_room y inside (λ i l h. elim (cases_eq place i) [
+        | inl here ↦ inr (ap (λ k. is_member y (get_or sets k [])) (sym here) ∙ member)
+        | inr other ↦ absurd (both_ways _ (alone i l other) h)
+      ]))
+      | inr absent ↦ absent ∙ sym (not_counted n sets caps (with_one (without_one I y) x) place o.same known (
+          let change = counted-exchanged (get_or sets place []) I x y o.set.rising o.outside inside in
+          let one = ap indicator own in
+          let none = ap indicator absent in
+          omega arith))
+    ]
+
+    pub row_at_full : (row : Exchange) → row.addable ≡ false → row.with ≡ intersection I (get_or sets place []) → row ≡ row_of (is_counted n sets caps) I x
+    unfolding intersection
+    row_at_full row addable members = row_outside (is_counted n sets caps) I x row o.outside (addable ∙ sym added_at_full)
+        (members ∙ filter_same_at (λ y. is_member y (get_or sets place [])) (λ y. is_counted n sets caps (with_one (without_one I y) x)) I exchanged_at_full)
