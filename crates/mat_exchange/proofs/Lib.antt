@@ -3,3 +3,6 @@ pub mod TightPathSteps
 pub mod RowExchanges
 pub mod RowTables
 pub mod TableSteps
+pub mod TightArcTests
+pub mod LeastValues
+pub mod SlackSteps
