@@ -7,3 +7,6 @@ pub mod LeastSlacks
 pub mod RowExchanges
 pub mod RowTables
 pub mod TableSteps
+pub mod TightArcTests
+pub mod LeastValues
+pub mod SlackSteps

@@ -2,3 +2,4 @@ pub mod Changes
 pub mod Tables
 pub mod Searching
 pub mod RowTables
+pub mod TightSearches

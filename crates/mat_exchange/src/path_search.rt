@@ -1,0 +1,51 @@
+//! The search for a tight path.
+ghost use Rattle.std.specs.Prelude.{◌≡◌, ◌≤◌, ◌^◌, length, IfOk};
+ghost use Rattle.mat_sets.specs.Sums.{weight_at, AreWithin};
+ghost use Rattle.mat_laws.specs.TightPaths.{exchanges_in};
+ghost use Rattle.mat_exchange.specs.Searching.{IsFound};
+ghost use Rattle.mat_exchange.specs.Tables.{IsTableAt};
+
+use crate::found::Found;
+use crate::row_table::RowTable;
+use crate::slack::least_slack;
+use crate::tight_arcs::{TightArcs, greatest_addable};
+use mat_sets::{ElemSet, WalkSearch, shortest_walk};
+use std::alloc::{AllocError, Global};
+
+/// A tight path with fewest vertices at a common independent set, or all that the sources reach along tight arcs and its least
+/// slack (Frank 1981; Schrijver, chapter 41). The time is that of the numbers in both tables. The only error is want of memory.
+pub fn tight_search(
+    alloc: Global,
+    first: &RowTable,
+    second: &RowTable,
+    set: &ElemSet,
+    w1: &[i128],
+    w2: &[i128],
+) -> Result<Found, AllocError>
+    requires few { length w1.now ≤ 500 }
+    requires lengths { length w2.now ≡ length w1.now }
+    requires first_table { IsTableAt (length w1.now) set.now first.now }
+    requires second_table { IsTableAt (length w1.now) set.now second.now }
+    requires first_small { AreWithin (10 ^ 30) w1.now }
+    requires second_small { AreWithin (10 ^ 30) w2.now }
+    ensures { IfOk result (IsFound (length w1.now) (exchanges_in first.now) (exchanges_in second.now) (weight_at w1.now) (weight_at w2.now)) }
+{
+    let top1 = greatest_addable(first, w1);
+    let top2 = greatest_addable(second, w2);
+    let arcs = TightArcs {
+        set,
+        first,
+        second,
+        w1,
+        w2,
+        top1,
+        top2,
+    };
+    match shortest_walk(alloc, &arcs)? {
+        WalkSearch::Walk(path) => Ok(Found::Path(path)),
+        WalkSearch::Reached(reach) => {
+            let slack = least_slack(alloc, &arcs, &reach)?;
+            Ok(Found::Stuck { reach, slack })
+        }
+    }
+}

@@ -1,0 +1,134 @@
+//! The tight arcs at a common independent set of two matroids.
+ghost use Rattle.std.specs.Prelude.{◌≡◌, ◌<◌, ◌≤◌, ◌^◌, ◌&&◌, ℕ, true, length};
+ghost use Rattle.std.specs.Ordering.{int_eq};
+ghost use Rattle.mat_sets.specs.Search.{IsNextFrom};
+ghost use Rattle.mat_sets.specs.Sets.{is_member};
+ghost use Rattle.mat_sets.specs.Sums.{weight_at, AreWithin};
+ghost use Rattle.mat_laws.specs.TightPaths.{exchanges_in, is_heaviest_addable};
+ghost use Rattle.mat_exchange.specs.TightSearches.{greater_of, IsGreatestAddable};
+
+use crate::row_table::RowTable;
+use mat_sets::{BitSet, ElemSet, Relation};
+
+/// The tight arcs at a set, by the tables of both matroids, the weights, and the greatest weights of the elements that can be
+/// added (Frank 1981).
+#[derive(Drop)]
+pub(crate) struct TightArcs<'a> {
+    pub(crate) set: &'a ElemSet,
+    pub(crate) first: &'a RowTable,
+    pub(crate) second: &'a RowTable,
+    pub(crate) w1: &'a [i128],
+    pub(crate) w2: &'a [i128],
+    pub(crate) top1: Option<i128>,
+    pub(crate) top2: Option<i128>,
+}
+
+impl Relation for TightArcs<'_> {
+    ghost use Rattle.std.specs.Prelude.{length};
+    ghost use Rattle.mat_sets.specs.Sums.{weight_at};
+    ghost use Rattle.mat_laws.specs.TightPaths.{exchanges_in, is_heaviest_addable, is_tight};
+    ghost use Rattle.mat_exchange.specs.TightSearches.{AreTightArcs};
+
+    ghost count = { λ a. length a.w1.now };
+
+    ghost sound = { λ a. AreTightArcs a.set.now a.first.now a.second.now a.w1.now a.w2.now a.top1 a.top2 };
+
+    ghost arc = { λ a. is_tight (exchanges_in a.first.now) (exchanges_in a.second.now) (weight_at a.w1.now) (weight_at a.w2.now) };
+
+    ghost start = { λ a. is_heaviest_addable (length a.w1.now) (exchanges_in a.first.now) (weight_at a.w1.now) };
+
+    ghost goal = { λ a. is_heaviest_addable (length a.w1.now) (exchanges_in a.second.now) (weight_at a.w2.now) };
+
+    fn size(&self) -> u32 {
+        self.w1.len() as u32
+    }
+
+    fn is_start(&self, v: u32) -> bool {
+        is_heaviest(self.first, self.w1, self.top1, v)
+    }
+
+    fn is_goal(&self, v: u32) -> bool {
+        is_heaviest(self.second, self.w2, self.top2, v)
+    }
+
+    fn next_arc(&self, u: u32, among: &BitSet, from: u32) -> Option<u32> {
+        if self.set.contains(u) {
+            next_equal(self.first.column(u), among, self.w1, u, from)
+        } else {
+            next_equal(self.second.row(u), among, self.w2, u, from)
+        }
+    }
+}
+
+/// Whether x can be added and has the greatest weight of those that can.
+fn is_heaviest(table: &RowTable, weights: &[i128], top: Option<i128>, x: u32) -> bool
+    requires table { length table.now ≡ length weights.now }
+    requires small { AreWithin (10 ^ 30) weights.now }
+    requires below { x < length weights.now }
+    requires top { IsGreatestAddable (length weights.now) (exchanges_in table.now) (weight_at weights.now) top }
+    ensures { result ≡ is_heaviest_addable (length weights.now) (exchanges_in table.now) (weight_at weights.now) x }
+{
+    match top {
+        Some(weight) => table.addable(x) && weighs(weights, x, weight),
+        None => false,
+    }
+}
+
+/// Whether x has this weight.
+fn weighs(weights: &[i128], x: u32, weight: i128) -> bool
+    requires { x < length weights.now }
+    ensures { result ≡ int_eq weight (weight_at weights.now x) }
+{
+    weight == weights[x as usize]
+}
+
+/// The greatest weight of the elements that can be added.
+pub(crate) fn greatest_addable(table: &RowTable, weights: &[i128]) -> Option<i128>
+    requires table { length table.now ≡ length weights.now }
+    requires few { length weights.now ≤ 500 }
+    ensures { IsGreatestAddable (length weights.now) (exchanges_in table.now) (weight_at weights.now) result }
+{
+    let mut top = None;
+    for x in 0..weights.len() as u32 {
+        if table.addable(x) {
+            top = greater(top, weights, x);
+        }
+    }
+    top
+}
+
+/// The greater of a weight and that of x.
+fn greater(top: Option<i128>, weights: &[i128], x: u32) -> Option<i128>
+    requires { x < length weights.now }
+    ensures { result ≡ greater_of top (weight_at weights.now x) }
+{
+    let weight = weights[x as usize];
+    match top {
+        Some(most) => Some(if most < weight { weight } else { most }),
+        None => Some(weight),
+    }
+}
+
+/// The first number from `from` on in both sets that weighs as much as u.
+fn next_equal(
+    candidates: &BitSet,
+    among: &BitSet,
+    weights: &[i128],
+    u: u32,
+    from: u32,
+) -> Option<u32>
+    requires few { length weights.now ≤ 500 }
+    requires below { u < length weights.now }
+    requires among { (v : ℕ) → is_member v among.now ≡ true → v < length weights.now }
+    ensures { IsNextFrom (λ v. (is_member v candidates.now && is_member v among.now) && int_eq (weight_at weights.now u) (weight_at weights.now v)) from result }
+{
+    let weight = weights[u as usize];
+    let mut at = from;
+    while let Some(v) = candidates.next_common(among, at) {
+        if weighs(weights, v, weight) {
+            return Some(v);
+        }
+        at = v + 1;
+    }
+    None
+}
