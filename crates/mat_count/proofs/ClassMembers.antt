@@ -18,16 +18,20 @@ IsRising-named : (table : List (Option ℕ)) (place : ℕ) (X : List ℕ) → Is
 IsRising-named table place X r = record { rises = RisesFrom-filter (λ y. names (get_or table y None) place) 0 X r.rises }
 
 -- the members found before a place rise
-pub IsRising-named_members : (table : List (Option ℕ)) (place : ℕ) (X members : List ℕ) (i : ℕ) → IsRising X → members ≡ named_members table place (take i X) → IsRising members
+pub IsRising-named_members : (table : List (Option ℕ)) (place : ℕ) (X members : List ℕ) (i : ℕ) → IsRising X
+    → members ≡ named_members table place (take i X) → IsRising members
 IsRising-named_members table place X members i r found = rw found (IsRising-named table place (take i X) (IsRising-take X i r))
 
 -- the next member stands in the class
-pub named_members-more : (table : List (Option ℕ)) (place : ℕ) (X : List ℕ) (i : ℕ) → IsRising X → i < length X → names (get_or table (get_or X i 0) None) place ≡ true
+pub named_members-more : (table : List (Option ℕ)) (place : ℕ) (X : List ℕ) (i : ℕ) → IsRising X → i < length X
+    → names (get_or table (get_or X i 0) None) place ≡ true
     → with_one (named_members table place (take i X)) (get_or X i 0) ≡ named_members table place (take (i + 1) X)
 named_members-more table place X i r l named =
-    same_members _ _ (IsRising-with_one _ x (IsRising-named table place (take i X) (IsRising-take X i r))) (IsRising-named table place (take (i + 1) X) (IsRising-take X (i + 1) r))
+    same_members _ _ (IsRising-with_one _ x (IsRising-named table place (take i X) (IsRising-take X i r)))
+    (IsRising-named table place (take (i + 1) X) (IsRising-take X (i + 1) r))
     (λ k. is_member-with_one k x (named_members table place (take i X)) ∙ ap (λ b. eqb k x || b) (is_member-filter test k (take i X))
-    ∙ at k (is_member k (take i X)) ∙ ap (λ b. b && test k) (sym (is_member-take_more X i k l)) ∙ sym (is_member-filter test k (take (i + 1) X)))
+    ∙ at k (is_member k (take i X)) ∙ ap (λ b. b && test k) (sym (is_member-take_more X i k l))
+    ∙ sym (is_member-filter test k (take (i + 1) X)))
   where
     x : ℕ
     x = get_or X i 0
@@ -48,7 +52,8 @@ named_members-more table place X i r l named =
     ]
 
 -- the next member stands outside
-pub named_members-passed : (table : List (Option ℕ)) (place : ℕ) (X : List ℕ) (i : ℕ) → i < length X → names (get_or table (get_or X i 0) None) place ≡ false
+pub named_members-passed : (table : List (Option ℕ)) (place : ℕ) (X : List ℕ) (i : ℕ) → i < length X
+    → names (get_or table (get_or X i 0) None) place ≡ false
     → named_members table place (take i X) ≡ named_members table place (take (i + 1) X)
 named_members-passed table place X i l apart =
     sym (filter_more (λ y. names (get_or table y None) place) X i 0 l ∙ rw apart (append-nil (named_members table place (take i X))))
@@ -59,8 +64,10 @@ asked-names None place answer is = is
 asked-names (Some k) place answer is = is
 
 -- what the table names are the members of the class
-pub named_members-class : (count : ℕ) (classes : List (List ℕ)) (table : List (Option ℕ)) (place : ℕ) (X : List ℕ) → AllBelow count X → IsClassTable count classes table
+pub named_members-class : (count : ℕ) (classes : List (List ℕ)) (table : List (Option ℕ)) (place : ℕ) (X : List ℕ) → AllBelow count X
+    → IsClassTable count classes table
     → named_members table place X ≡ intersection X (get_or classes place [])
 unfolding intersection
 named_members-class count classes table place X below right =
-    filter_same_at (λ y. names (get_or table y None) place) (λ y. is_member y (get_or classes place [])) X (λ y m. right.right y place (AllBelow-member count X y below m))
+    filter_same_at (λ y. names (get_or table y None) place) (λ y. is_member y (get_or classes place [])) X
+    (λ y m. right.right y place (AllBelow-member count X y below m))

@@ -19,7 +19,8 @@ use Rattle.mat_count.proofs.Filters.{filter_same_at, filter_whole}
 -- ---- counts in one set
 
 -- one more element
-counted-with_one : (S X : List ℕ) (x : ℕ) → IsRising X → is_member x X ≡ false → length (intersection (with_one X x) S) ≡ length (intersection X S) + indicator (is_member x S)
+counted-with_one : (S X : List ℕ) (x : ℕ) → IsRising X → is_member x X ≡ false
+    → length (intersection (with_one X x) S) ≡ length (intersection X S) + indicator (is_member x S)
 counted-with_one S X x rising outside = elim (cases_Bool (is_member x S)) [
   | inl inside ↦ rw inside (let more = counted_more S X x rising outside inside in omega arith)
   | inr apart ↦ rw apart (let same = ap length (counted_same S X x rising apart) in omega arith)
@@ -27,7 +28,8 @@ counted-with_one S X x rising outside = elim (cases_Bool (is_member x S)) [
 
 -- an exchange
 counted-exchanged : (S I : List ℕ) (x y : ℕ) → IsRising I → is_member x I ≡ false → is_member y I ≡ true
-    → length (intersection (with_one (without_one I y) x) S) + indicator (is_member y S) ≡ length (intersection I S) + indicator (is_member x S)
+    → length (intersection (with_one (without_one I y) x) S) + indicator (is_member y S)
+    ≡ length (intersection I S) + indicator (is_member x S)
 counted-exchanged S I x y rising outside inside =
     let absent : is_member x (without_one I y) ≡ false = grind (arith, set_members) in
     let gone : is_member y (without_one I y) ≡ false = grind (arith, set_members) in
@@ -43,7 +45,8 @@ fits_added : (a : Bool) (after before cap : ℕ) → after ≡ before + indicato
 fits_added true after before cap is most room = let less = room refl in omega arith
 fits_added false after before cap is most room = omega arith
 
-fits_exchanged : (a b : Bool) (after before cap : ℕ) → after + indicator b ≡ before + indicator a → before ≤ cap → (a ≡ true → (before < cap) ⊎ (b ≡ true)) → after ≤ cap
+fits_exchanged : (a b : Bool) (after before cap : ℕ) → after + indicator b ≡ before + indicator a → before ≤ cap
+    → (a ≡ true → (before < cap) ⊎ (b ≡ true)) → after ≤ cap
 fits_exchanged true true after before cap is most room = omega arith
 fits_exchanged false b after before cap is most room = omega arith
 fits_exchanged true false after before cap is most room = elim (room refl) [
@@ -51,15 +54,25 @@ fits_exchanged true false after before cap is most room = elim (room refl) [
   | inr never ↦ absurd (both_ways false refl never)
 ]
 
+-- whether x stands in the listed set at place i, and how many members of X do
+abbrev stands_in : List (List ℕ) → ℕ → ℕ → Bool
+stands_in sets i x = is_member x (get_or sets i [])
+
+abbrev count_in : List (List ℕ) → ℕ → List ℕ → ℕ
+count_in sets i X = length (intersection X (get_or sets i []))
+
 -- a set that passes both tests
-counted : (n : ℕ) (sets : List (List ℕ)) (caps X : List ℕ) → IsSet n X → IsWithinCaps sets caps X → is_counted n sets caps X ≡ true
-counted n sets caps X set within = and_from (is_set n X) (is_within_caps sets caps X) (test_from-IsSet n X set) (test_from-IsWithinCaps sets caps X within)
+counted : (n : ℕ) (sets : List (List ℕ)) (caps X : List ℕ) → IsSet n X → IsWithinCaps sets caps X
+    → is_counted n sets caps X ≡ true
+counted n sets caps X set within =
+    and_from (is_set n X) (is_within_caps sets caps X) (test_from-IsSet n X set) (test_from-IsWithinCaps sets caps X within)
 
 -- a set that has too many members in one listed set
 not_counted : (n : ℕ) (sets : List (List ℕ)) (caps X : List ℕ) (i : ℕ) → length caps ≡ length sets → i < length sets
-    → get_or caps i 0 < length (intersection X (get_or sets i [])) → is_counted n sets caps X ≡ false
+    → get_or caps i 0 < count_in sets i X → is_counted n sets caps X ≡ false
 not_counted n sets caps X i same l many = false_from_ne_true (is_counted n sets caps X) (λ h.
-    let most = (IsWithinCaps-from_test sets caps X same (and_parts (is_set n X) (is_within_caps sets caps X) h).1).at i l in omega arith)
+    let tests = and_parts (is_set n X) (is_within_caps sets caps X) h in
+    let most = (IsWithinCaps-from_test sets caps X same tests.1).at i l in omega arith)
 
 -- an element x outside an independent set I
 pub record IsOutside (n : ℕ) (sets : List (List ℕ)) (caps I : List ℕ) (x : ℕ) : Type 0 where
@@ -69,58 +82,74 @@ pub record IsOutside (n : ℕ) (sets : List (List ℕ)) (caps I : List ℕ) (x :
   pub fits : IsWithinCaps sets caps I
   pub outside : is_member x I ≡ false
 
-pub IsOutside-from_test : (n : ℕ) (sets : List (List ℕ)) (caps I : List ℕ) (x : ℕ) → length caps ≡ length sets → x < n → is_counted n sets caps I ≡ true → is_member x I ≡ false
-    → IsOutside n sets caps I x
+pub IsOutside-from_test : (n : ℕ) (sets : List (List ℕ)) (caps I : List ℕ) (x : ℕ) → length caps ≡ length sets → x < n
+    → is_counted n sets caps I ≡ true → is_member x I ≡ false → IsOutside n sets caps I x
 IsOutside-from_test n sets caps I x same small passes outside =
     let tests = and_parts (is_set n I) (is_within_caps sets caps I) passes in
-    record { same = same; small = small; set = IsSet-from_test n I tests.0; fits = IsWithinCaps-from_test sets caps I same tests.1; outside = outside }
+    record {
+      same = same;
+      small = small;
+      set = IsSet-from_test n I tests.0;
+      fits = IsWithinCaps-from_test sets caps I same tests.1;
+      outside = outside;
+    }
 
 module _ {n : ℕ} {sets : List (List ℕ)} {caps I : List ℕ} {x : ℕ} (o : IsOutside n sets caps I x) where
+  abbrev exchange : ℕ → List ℕ
+  exchange y = with_one (without_one I y) x
+
   -- I + x where no listed set that holds x is full
-  added_with_room : ((i : ℕ) → i < length sets → is_member x (get_or sets i []) ≡ true → length (intersection I (get_or sets i [])) < get_or caps i 0)
+  added_with_room : ((i : ℕ) → i < length sets → stands_in sets i x ≡ true → count_in sets i I < get_or caps i 0)
       → is_counted n sets caps (with_one I x) ≡ true
   added_with_room room = counted n sets caps (with_one I x) (IsSet-with_one n I x o.set o.small) (record {
-    at = λ i l. fits_added (is_member x (get_or sets i [])) _ _ (get_or caps i 0) (counted-with_one (get_or sets i []) I x o.set.rising o.outside) (o.fits.at i l) (room i l);
+    at = λ i l. fits_added (stands_in sets i x) _ _ (get_or caps i 0)
+        (counted-with_one (get_or sets i []) I x o.set.rising o.outside) (o.fits.at i l) (room i l);
   })
 
   -- I - y + x where each full listed set that holds x holds y as well
   exchanged_with_room : (y : ℕ) → is_member y I ≡ true
-      → ((i : ℕ) → i < length sets → is_member x (get_or sets i []) ≡ true → (length (intersection I (get_or sets i [])) < get_or caps i 0) ⊎ (is_member y (get_or sets i []) ≡ true))
-      → is_counted n sets caps (with_one (without_one I y) x) ≡ true
-  exchanged_with_room y inside room = counted n sets caps (with_one (without_one I y) x) (IsSet-with_one n (without_one I y) x (IsSet-without_one n I y o.set) o.small) (record {
-    at = λ i l. fits_exchanged (is_member x (get_or sets i [])) (is_member y (get_or sets i [])) _ _ (get_or caps i 0)
-        (counted-exchanged (get_or sets i []) I x y o.set.rising o.outside inside) (o.fits.at i l) (room i l);
-  })
+      → ((i : ℕ) → i < length sets → stands_in sets i x ≡ true → (count_in sets i I < get_or caps i 0) ⊎ (stands_in sets i y ≡ true))
+      → is_counted n sets caps (exchange y) ≡ true
+  exchanged_with_room y inside room =
+      counted n sets caps (exchange y) (IsSet-with_one n (without_one I y) x (IsSet-without_one n I y o.set) o.small) (record {
+        at = λ i l. fits_exchanged (stands_in sets i x) (stands_in sets i y) _ _ (get_or caps i 0)
+            (counted-exchanged (get_or sets i []) I x y o.set.rising o.outside inside) (o.fits.at i l) (room i l);
+      })
 
   -- ---- rows
 
   -- where no listed set that holds x is full, x can be added, and be exchanged for every member
-  pub row_with_room : (row : Exchange) → ((i : ℕ) → i < length sets → is_member x (get_or sets i []) ≡ true → length (intersection I (get_or sets i [])) < get_or caps i 0)
+  pub row_with_room : (row : Exchange)
+      → ((i : ℕ) → i < length sets → is_member x (get_or sets i []) ≡ true → length (intersection I (get_or sets i [])) < get_or caps i 0)
       → row.addable ≡ true → row.with ≡ I → row ≡ row_of (is_counted n sets caps) I x
-  row_with_room row room addable all = row_outside (is_counted n sets caps) I x row o.outside (addable ∙ sym (added_with_room room))
-      (all ∙ sym (filter_whole (λ y. is_counted n sets caps (with_one (without_one I y) x)) I (λ y m. exchanged_with_room y m (λ i l h. inl (room i l h)))))
+  row_with_room row room addable all =
+      row_outside (is_counted n sets caps) I x row o.outside (addable ∙ sym (added_with_room room))
+      (all ∙ sym (filter_whole (λ y. is_counted n sets caps (exchange y)) I (λ y m. exchanged_with_room y m (λ i l h. inl (room i l h)))))
 
   -- where x stands in one listed set alone, and that is full, x can be exchanged for the members of that set
   module _ {place : ℕ} (known : place < length sets) (own : is_member x (get_or sets place []) ≡ true)
-      (alone : (i : ℕ) → i < length sets → place ≢ i → is_member x (get_or sets i []) ≡ false) (full : get_or caps place 0 ≤ length (intersection I (get_or sets place []))) where
+      (alone : (i : ℕ) → i < length sets → place ≢ i → is_member x (get_or sets i []) ≡ false)
+      (full : get_or caps place 0 ≤ length (intersection I (get_or sets place []))) where
     added_at_full : is_counted n sets caps (with_one I x) ≡ false
     added_at_full = not_counted n sets caps (with_one I x) place o.same known (
         let more = counted_more (get_or sets place []) I x o.set.rising o.outside own in omega arith)
 
-    exchanged_at_full : (y : ℕ) → is_member y I ≡ true → is_member y (get_or sets place []) ≡ is_counted n sets caps (with_one (without_one I y) x)
-    exchanged_at_full y inside = elim (cases_Bool (is_member y (get_or sets place []))) [
+    exchanged_at_full : (y : ℕ) → is_member y I ≡ true → stands_in sets place y ≡ is_counted n sets caps (exchange y)
+    exchanged_at_full y inside = elim (cases_Bool (stands_in sets place y)) [
       | inl member ↦ member ∙ sym (exchanged_with_room y inside (λ i l h. elim (cases_eq place i) [
-        | inl here ↦ inr (ap (λ k. is_member y (get_or sets k [])) (sym here) ∙ member)
+        | inl here ↦ inr (ap (λ k. stands_in sets k y) (sym here) ∙ member)
         | inr other ↦ absurd (both_ways _ (alone i l other) h)
       ]))
-      | inr absent ↦ absent ∙ sym (not_counted n sets caps (with_one (without_one I y) x) place o.same known (
+      | inr absent ↦ absent ∙ sym (not_counted n sets caps (exchange y) place o.same known (
           let change = counted-exchanged (get_or sets place []) I x y o.set.rising o.outside inside in
           let one = ap indicator own in
           let none = ap indicator absent in
           omega arith))
     ]
 
-    pub row_at_full : (row : Exchange) → row.addable ≡ false → row.with ≡ intersection I (get_or sets place []) → row ≡ row_of (is_counted n sets caps) I x
+    pub row_at_full : (row : Exchange) → row.addable ≡ false → row.with ≡ intersection I (get_or sets place [])
+        → row ≡ row_of (is_counted n sets caps) I x
     unfolding intersection
-    row_at_full row addable members = row_outside (is_counted n sets caps) I x row o.outside (addable ∙ sym added_at_full)
-        (members ∙ filter_same_at (λ y. is_member y (get_or sets place [])) (λ y. is_counted n sets caps (with_one (without_one I y) x)) I exchanged_at_full)
+    row_at_full row addable members =
+        row_outside (is_counted n sets caps) I x row o.outside (addable ∙ sym added_at_full)
+        (members ∙ filter_same_at (λ y. stands_in sets place y) (λ y. is_counted n sets caps (exchange y)) I exchanged_at_full)

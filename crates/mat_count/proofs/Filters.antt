@@ -9,7 +9,8 @@ use Rattle.mat_sets.proofs.Members.{is_member-head}
 pub filter_same_at : (p q : ℕ → Bool) (xs : List ℕ) → ((y : ℕ) → is_member y xs ≡ true → p y ≡ q y) → filter p xs ≡ filter q xs
 filter_same_at p q [] h = refl
 filter_same_at p q (x ∷ xs) h =
-    both (p x) (q x) x (filter p xs) (filter q xs) (h x (is_member-head x xs)) (filter_same_at p q xs (λ y m. h y (or_right (eqb y x) (is_member y xs) m)))
+    both (p x) (q x) x (filter p xs) (filter q xs) (h x (is_member-head x xs))
+    (filter_same_at p q xs (λ y m. h y (or_right (eqb y x) (is_member y xs) m)))
   where
     both : (a b : Bool) (x : ℕ) (s t : List ℕ) → a ≡ b → s ≡ t → cond a (x ∷ s) s ≡ cond b (x ∷ t) t
     both a b x s t e f = cc
@@ -17,4 +18,5 @@ filter_same_at p q (x ∷ xs) h =
 -- a test that each item passes keeps them all
 pub filter_whole : (p : ℕ → Bool) (xs : List ℕ) → ((y : ℕ) → is_member y xs ≡ true → p y ≡ true) → filter p xs ≡ xs
 filter_whole p [] h = refl
-filter_whole p (x ∷ xs) h = rw (h x (is_member-head x xs)) (ap (λ t. x ∷ t) (filter_whole p xs (λ y m. h y (or_right (eqb y x) (is_member y xs) m))))
+filter_whole p (x ∷ xs) h =
+    rw (h x (is_member-head x xs)) (ap (λ t. x ∷ t) (filter_whole p xs (λ y m. h y (or_right (eqb y x) (is_member y xs) m))))

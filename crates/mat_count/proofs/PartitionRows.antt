@@ -17,74 +17,76 @@ use Rattle.mat_count.proofs.ClassRows.{IsOutside-from_test, row_with_room, row_a
 
 -- a row of a sound partition matroid, for an independent set and an element outside
 abbrev pub IsRowOf : List ℕ → ℕ → Exchange → CappedClasses → Type 0
-IsRowOf I x row p = IsPartition p.count p.classes p.caps → is_counted p.count p.classes p.caps I ≡ true → x < p.count → is_member x I ≡ false → row ≡ row_of (is_counted p.count p.classes p.caps) I x
-
--- what is needed of the table, for calls
-pub table_holds : (p : CappedClasses) (table : List (Option ℕ)) (I : List ℕ) → IsClassTable p.count p.classes table → is_counted p.count p.classes p.caps I ≡ true → AllBelow (length table) I
-table_holds p table I right passes =
-    subst (λ k. AllBelow k I) (sym right.entries) (IsSet-from_test p.count I (and_parts (is_set p.count I) (is_within_caps p.classes p.caps I) passes).0).below
-
--- an entry that was read
-entry_of : (n : ℕ) (classes : List (List ℕ)) (table : List (Option ℕ)) (x place : ℕ) (entry : Option ℕ) → x < n → IsClassTable n classes table
-    → entry ≡ get_or table x entry → entry ≡ Some place → get_or table x None ≡ Some place
-entry_of n classes table x place entry small right read is =
-    let entries = right.entries in
-    sym (read ∙ get_or_default table x entry None (omega arith)) ∙ is
-
-pub cap_known : (p : CappedClasses) (table : List (Option ℕ)) (x place : ℕ) (entry : Option ℕ) → IsClassTable p.count p.classes table → entry ≡ get_or table x entry → entry ≡ Some place
-    → IsPartition p.count p.classes p.caps → x < p.count → place < length p.caps
-cap_known p table x place entry right read is sound small =
-    let inside = named-inside p.count p.classes table x place small right (entry_of p.count p.classes table x place entry small right read is) in
-    let capped = sound.capped in
-    omega arith
+IsRowOf I x row p = IsPartition p.count p.classes p.caps → is_counted p.count p.classes p.caps I ≡ true → x < p.count
+    → is_member x I ≡ false → row ≡ row_of (is_counted p.count p.classes p.caps) I x
 
 -- the classes in which an element stands
-named-only : (n : ℕ) (classes : List (List ℕ)) (table : List (Option ℕ)) (x place : ℕ) → x < n → IsClassTable n classes table → get_or table x None ≡ Some place
-    → (i : ℕ) → is_member x (get_or classes i []) ≡ eqb place i
+named-only : (n : ℕ) (classes : List (List ℕ)) (table : List (Option ℕ)) (x place : ℕ) → x < n → IsClassTable n classes table
+    → get_or table x None ≡ Some place → (i : ℕ) → is_member x (get_or classes i []) ≡ eqb place i
 named-only n classes table x place small right is i = sym (right.right x i small) ∙ ap (λ entry. names entry i) is
 
-named-none : (n : ℕ) (classes : List (List ℕ)) (table : List (Option ℕ)) (x : ℕ) → x < n → IsClassTable n classes table → ((place : ℕ) → get_or table x None ≡ Some place → ⊥)
-    → (i : ℕ) → is_member x (get_or classes i []) ≡ false
+named-none : (n : ℕ) (classes : List (List ℕ)) (table : List (Option ℕ)) (x : ℕ) → x < n → IsClassTable n classes table
+    → ((place : ℕ) → get_or table x None ≡ Some place → ⊥) → (i : ℕ) → is_member x (get_or classes i []) ≡ false
 named-none n classes table x small right unnamed i = sym (right.right x i small) ∙ none (get_or table x None) unnamed
   where
     none : (entry : Option ℕ) → ((place : ℕ) → entry ≡ Some place → ⊥) → names entry i ≡ false
     none None unnamed = refl
     none (Some place) unnamed = absurd (unnamed place refl)
 
--- an element that stands in no class
-pub row_without_class : (p : CappedClasses) (table : List (Option ℕ)) (I : List ℕ) (x : ℕ) (entry : Option ℕ) (row : Exchange) → IsClassTable p.count p.classes table
-    → entry ≡ get_or table x entry → ((place : ℕ) → entry ≡ Some place → ⊥) → row.addable ≡ true → row.with ≡ I → IsRowOf I x row p
-row_without_class p table I x entry row right read unnamed addable all sound passes small outside =
-    let entries = right.entries in
-    let same = read ∙ get_or_default table x entry None (omega arith) in
-    let none = named-none p.count p.classes table x small right (λ place is. unnamed place (same ∙ is)) in
-    row_with_room (IsOutside-from_test p.count p.classes p.caps I x sound.capped small passes outside) row
-    (λ i l h. absurd (both_ways (is_member x (get_or p.classes i [])) (none i) h)) addable all
+module _ (p : CappedClasses) (table : List (Option ℕ)) (right : IsClassTable p.count p.classes table) where
+  -- an independent set has no item past the table
+  pub table_holds : (I : List ℕ) → is_counted p.count p.classes p.caps I ≡ true → AllBelow (length table) I
+  table_holds I passes =
+      let tests = and_parts (is_set p.count I) (is_within_caps p.classes p.caps I) passes in
+      subst (λ k. AllBelow k I) (sym right.entries) (IsSet-from_test p.count I tests.0).below
 
--- an element of a class that is not full
-pub row_below_cap : (p : CappedClasses) (table : List (Option ℕ)) (I : List ℕ) (x place cap : ℕ) (entry : Option ℕ) (row : Exchange) → IsClassTable p.count p.classes table
-    → entry ≡ get_or table x entry → entry ≡ Some place → cap ≡ get_or p.caps place cap → length (named_members table place I) < cap → row.addable ≡ true → row.with ≡ I → IsRowOf I x row p
-row_below_cap p table I x place cap entry row right read is capped room addable all sound passes small outside =
-    let o = IsOutside-from_test p.count p.classes p.caps I x sound.capped small passes outside in
-    let own = capped ∙ get_or_default p.caps place cap 0 (cap_known p table x place entry right read is sound small) in
-    let class = named_members-class p.count p.classes table place I o.set.below right in
-    let free : length (intersection I (get_or p.classes place [])) < get_or p.caps place 0 = (let same = ap length class in omega arith) in
-    let stands = named-only p.count p.classes table x place small right (entry_of p.count p.classes table x place entry small right read is) in
-    row_with_room o row (λ i l h. elim (cases_eq place i) [
-      | inl same ↦ subst (λ k. length (intersection I (get_or p.classes k [])) < get_or p.caps k 0) same free
-      | inr other ↦ absurd (both_ways (eqb place i) (ne_eqb place i other) (sym (stands i) ∙ h))
-    ]) addable all
+  -- the entry of an element, as it was read
+  module _ (x : ℕ) (entry : Option ℕ) (read : entry ≡ get_or table x entry) where
+    entry_is : x < p.count → get_or table x None ≡ entry
+    entry_is small =
+        let entries = right.entries in
+        sym (read ∙ get_or_default table x entry None (omega arith))
 
--- an element of a full class
-pub row_of_full_class : (p : CappedClasses) (table : List (Option ℕ)) (I : List ℕ) (x place cap : ℕ) (entry : Option ℕ) (row : Exchange) → IsClassTable p.count p.classes table
-    → entry ≡ get_or table x entry → entry ≡ Some place → cap ≡ get_or p.caps place cap → cap ≤ length (named_members table place I) → row.addable ≡ false → row.with ≡ named_members table place I
-    → IsRowOf I x row p
-row_of_full_class p table I x place cap entry row right read is capped full addable members sound passes small outside =
-    let o = IsOutside-from_test p.count p.classes p.caps I x sound.capped small passes outside in
-    let own = capped ∙ get_or_default p.caps place cap 0 (cap_known p table x place entry right read is sound small) in
-    let class = named_members-class p.count p.classes table place I o.set.below right in
-    let filled : get_or p.caps place 0 ≤ length (intersection I (get_or p.classes place [])) = (let same = ap length class in omega arith) in
-    let known = entry_of p.count p.classes table x place entry small right read is in
-    let stands = named-only p.count p.classes table x place small right known in
-    row_at_full o (named-inside p.count p.classes table x place small right known) (stands place ∙ eq-eqb place place refl)
-    (λ i l other. stands i ∙ ne_eqb place i other) filled row addable (members ∙ class)
+    -- an element that stands in no class
+    pub row_without_class : (I : List ℕ) (row : Exchange) → ((place : ℕ) → entry ≡ Some place → ⊥)
+        → row.addable ≡ true → row.with ≡ I → IsRowOf I x row p
+    row_without_class I row unnamed addable all sound passes small outside =
+        let none = named-none p.count p.classes table x small right (λ place is. unnamed place (sym (entry_is small) ∙ is)) in
+        row_with_room (IsOutside-from_test p.count p.classes p.caps I x sound.capped small passes outside) row
+        (λ i l h. absurd (both_ways (is_member x (get_or p.classes i [])) (none i) h)) addable all
+
+    module _ (place : ℕ) (is : entry ≡ Some place) where
+      -- the class that it names is one of those listed, and has a cap
+      pub cap_known : IsPartition p.count p.classes p.caps → x < p.count → place < length p.caps
+      cap_known sound small =
+          let inside = named-inside p.count p.classes table x place small right (entry_is small ∙ is) in
+          let capped = sound.capped in
+          omega arith
+
+      -- an element of a class that is not full
+      pub row_below_cap : (I : List ℕ) (cap : ℕ) (row : Exchange) → cap ≡ get_or p.caps place cap
+          → length (named_members table place I) < cap → row.addable ≡ true → row.with ≡ I → IsRowOf I x row p
+      row_below_cap I cap row capped room addable all sound passes small outside =
+          let o = IsOutside-from_test p.count p.classes p.caps I x sound.capped small passes outside in
+          let own = capped ∙ get_or_default p.caps place cap 0 (cap_known sound small) in
+          let same = ap length (named_members-class p.count p.classes table place I o.set.below right) in
+          let free : length (intersection I (get_or p.classes place [])) < get_or p.caps place 0 = omega arith in
+          let stands = named-only p.count p.classes table x place small right (entry_is small ∙ is) in
+          row_with_room o row (λ i l h. elim (cases_eq place i) [
+            | inl here ↦ subst (λ k. length (intersection I (get_or p.classes k [])) < get_or p.caps k 0) here free
+            | inr other ↦ absurd (both_ways (eqb place i) (ne_eqb place i other) (sym (stands i) ∙ h))
+          ]) addable all
+
+      -- an element of a full class
+      pub row_of_full_class : (I : List ℕ) (cap : ℕ) (row : Exchange) → cap ≡ get_or p.caps place cap
+          → cap ≤ length (named_members table place I) → row.addable ≡ false → row.with ≡ named_members table place I
+          → IsRowOf I x row p
+      row_of_full_class I cap row capped full addable members sound passes small outside =
+          let o = IsOutside-from_test p.count p.classes p.caps I x sound.capped small passes outside in
+          let own = capped ∙ get_or_default p.caps place cap 0 (cap_known sound small) in
+          let class = named_members-class p.count p.classes table place I o.set.below right in
+          let same = ap length class in
+          let filled : get_or p.caps place 0 ≤ length (intersection I (get_or p.classes place [])) = omega arith in
+          let stands = named-only p.count p.classes table x place small right (entry_is small ∙ is) in
+          row_at_full o (named-inside p.count p.classes table x place small right (entry_is small ∙ is))
+          (stands place ∙ eq-eqb place place refl) (λ i l other. stands i ∙ ne_eqb place i other) filled row addable (members ∙ class)

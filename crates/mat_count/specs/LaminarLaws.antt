@@ -237,7 +237,7 @@ within-subset (S ∷ sets) (cap ∷ caps) I J r s inside h =
     let fewer = length-subset _ _ (IsRising-intersection I S r) (IsRising-intersection J S s) less in
     and_from (leb (length (intersection I S)) cap) (is_within_caps sets caps I) (le-leb (length (intersection I S)) cap (omega arith)) (within-subset sets caps I J r s inside parts.1)
 
--- one more member of S, or one more of none of it
+-- how many members of S there are after one more element, which stands in S, or does not
 pub counted_more : (S X : List ℕ) (x : ℕ) → IsRising X → is_member x X ≡ false → is_member x S ≡ true → length (intersection (with_one X x) S) ≡ suc (length (intersection X S))
 counted_more S X x rising out inside =
     let same : intersection (with_one X x) S ≡ with_one (intersection X S) x = same_members _ _ (IsRising-intersection _ S (IsRising-with_one X x rising)) (IsRising-with_one _ x (IsRising-intersection X S rising)) (λ k. more k) in

@@ -178,9 +178,9 @@ impl Matroid for Partition {
         Ok(are_within(&numbers, &self.caps))
     }
 
-    /// The exchanges of x: where its class is full it can be exchanged for the members of that class alone, and else it
-    /// can be added, and be exchanged for every member. No question of independence is asked: the time is linear in the
-    /// members of the set. The only error is want of memory.
+    /// Where the class of x has as many members in the set as its cap, x cannot be added, and can be exchanged for the
+    /// members of that class alone; else it can be added, and exchanged for every member. No question of independence is
+    /// asked: the time is linear in the number of members. The only error is want of memory.
     fn circuit(&self, alloc: Global, base: &ElemSet, x: u32) -> Result<Exchange, AllocError> {
         if let Some(place) = self.class_of[x as usize] {
             let with = members_in_class(alloc, &self.class_of, base, place)?;

@@ -7,22 +7,30 @@ use Rattle.mat_count.proofs.partition.members_in_class.Goals.{then-eq+in_ok-add,
 
 pub bounds-class_of-y : goal.bounds-class_of-y
 bounds-class_of-y c =
-    let inside = rw c.as_slice-y-items.ensures.items at c.loop-y-test.true in
-    rw c.as_slice-y-items.ensures.items (AllBelow-at (length c.args.class_of.now) c.args.set.now c.loop-y.y-index c.requires inside)
+    let items = c.as_slice-y-items.ensures.items in
+    let inside = rw items at c.loop-y-test.true in
+    rw items (AllBelow-at (length c.args.class_of.now) c.args.set.now c.loop-y.y-index c.requires inside)
 
 pub loop-y-preserved : goal.loop-y-preserved
 loop-y-preserved c =
+    let table = c.args.class_of.now in
+    let place = c.args.place in
+    let set = c.args.set.now in
+    let i = c.loop-y.y-index in
     let items = c.as_slice-y-items.ensures.items in
     let inside = rw items at c.loop-y-test.true in
     let asked = rw items at c.eq.ensures in
     elim c.if-eq.branch [
       | then-eq+in_ok-add w ↦ (
-          let added = rw items at (w.members-is ∙ w.in_ok-add.ensures.ok.1) in
-          added ∙ ap (λ s. with_one s (get_or c.args.set.now c.loop-y.y-index 0)) c.loop-y.invariant
-          ∙ named_members-more c.args.class_of.now c.args.place c.args.set.now c.loop-y.y-index c.as_slice-y-items.ensures.rises inside (asked-names _ c.args.place _ (sym asked ∙ w.if-eq.true)))
-      | else-eq w ↦ w.members-is ∙ c.loop-y.invariant
-          ∙ named_members-passed c.args.class_of.now c.args.place c.args.set.now c.loop-y.y-index inside (asked-names _ c.args.place _ (sym asked ∙ w.if-eq.false))
+          let named = asked-names _ place _ (sym asked ∙ w.if-eq.true) in
+          rw items at (w.members-is ∙ w.in_ok-add.ensures.ok.1) ∙ ap (λ s. with_one s (get_or set i 0)) c.loop-y.invariant
+          ∙ named_members-more table place set i c.as_slice-y-items.ensures.rises inside named)
+      | else-eq w ↦ (
+          let apart = asked-names _ place _ (sym asked ∙ w.if-eq.false) in
+          w.members-is ∙ c.loop-y.invariant ∙ named_members-passed table place set i inside apart)
     ]
 
 pub returns-clause-rises : goal.returns-clause-rises
-returns-clause-rises c = IsRising-named_members c.args.class_of.now c.args.place c.args.set.now c.loop-y.members c.loop-y.y-index c.as_slice-y-items.ensures.rises c.loop-y.invariant
+returns-clause-rises c =
+    IsRising-named_members c.args.class_of.now c.args.place c.args.set.now c.loop-y.members c.loop-y.y-index
+    c.as_slice-y-items.ensures.rises c.loop-y.invariant
