@@ -32,7 +32,8 @@ row_in-rows_of n p I x h =
     get_or-map (row_of p I) (all_below n) x 0 (record { addable = false; with = [] }) (subst (λ l. x < l) (sym (length-all_below n)) h)
     ∙ ap (row_of p I) (get_or-all_below n x 0 h)
 
-pub row_in-past : (n : ℕ) (p : List ℕ → Bool) (I : List ℕ) (x : ℕ) → n ≤ x → row_in (rows_of n p I) x ≡ record { addable = false; with = [] }
+pub row_in-past : (n : ℕ) (p : List ℕ → Bool) (I : List ℕ) (x : ℕ) → n ≤ x
+    → row_in (rows_of n p I) x ≡ record { addable = false; with = [] }
 row_in-past n p I x h = get_or_past (rows_of n p I) x (record { addable = false; with = [] }) (subst (λ l. l ≤ x) (sym (length-rows_of n p I)) h)
 
 -- ---- one row
@@ -48,7 +49,8 @@ row_of-trades p I y x =
     let test : Bool → Bool = λ b. is_member y I && (not b && p (with_one (without_one I y) x)) in
     elim (cases_Bool (is_member x I)) [
       | inl i ↦ ap (λ (r : Exchange). is_member y r.with) (cond-true (is_member x I) _ _ i) ∙ sym (ap test i ∙ and_right (is_member y I) false refl)
-      | inr o ↦ ap (λ (r : Exchange). is_member y r.with) (cond-false (is_member x I) _ _ o) ∙ is_member-filter (λ z. p (with_one (without_one I z) x)) y I ∙ sym (ap test o)
+      | inr o ↦ ap (λ (r : Exchange). is_member y r.with) (cond-false (is_member x I) _ _ o)
+          ∙ is_member-filter (λ z. p (with_one (without_one I z) x)) y I ∙ sym (ap test o)
     ]
 
 -- ---- all rows
@@ -72,14 +74,16 @@ module _ {n : ℕ} {p : List ℕ → Bool} (laws : IsMatroid n p) (I : List ℕ)
   adds_agree : (x : ℕ) → (exchanges_in (rows_of n p I)).adds x ≡ (exchanges_at p I).adds x
   adds_agree x = elim (cases_lt x n) [
     | inl l ↦ ap (λ (r : Exchange). r.addable) (row_in-rows_of n p I x l) ∙ row_of-adds p I x
-    | inr g ↦ ap (λ (r : Exchange). r.addable) (row_in-past n p I x g) ∙ sym (ap (λ b. not (is_member x I) && b) (none_past I x g) ∙ and_right _ false refl)
+    | inr g ↦ ap (λ (r : Exchange). r.addable) (row_in-past n p I x g)
+        ∙ sym (ap (λ b. not (is_member x I) && b) (none_past I x g) ∙ and_right _ false refl)
   ]
 
   trades_agree : (y x : ℕ) → (exchanges_in (rows_of n p I)).trades y x ≡ (exchanges_at p I).trades y x
   trades_agree y x = elim (cases_lt x n) [
     | inl l ↦ ap (λ (r : Exchange). is_member y r.with) (row_in-rows_of n p I x l) ∙ row_of-trades p I y x
     | inr g ↦ ap (λ (r : Exchange). is_member y r.with) (row_in-past n p I x g)
-        ∙ sym (ap (λ b. is_member y I && (not (is_member x I) && b)) (none_past (without_one I y) x g) ∙ ap (λ b. is_member y I && b) (and_right _ false refl) ∙ and_right _ false refl)
+        ∙ sym (ap (λ b. is_member y I && (not (is_member x I) && b)) (none_past (without_one I y) x g)
+        ∙ ap (λ b. is_member y I && b) (and_right _ false refl) ∙ and_right _ false refl)
   ]
 
   pub rows_tell_exchanges : exchanges_in (rows_of n p I) ≡ exchanges_at p I
@@ -96,7 +100,8 @@ module _ {n : ℕ} {p : List ℕ → Bool} (laws : IsMatroid n p) (I : List ℕ)
   }
 
   -- only members of I stand in the rows
-  pub rows-below : p I ≡ true → (x : ℕ) (rows : List Exchange) → x ≡ n → rows ≡ rows_of x p I → (k : ℕ) → AllBelow (length rows) (row_in rows k).with
+  pub rows-below : p I ≡ true → (x : ℕ) (rows : List Exchange) → x ≡ n → rows ≡ rows_of x p I
+      → (k : ℕ) → AllBelow (length rows) (row_in rows k).with
   rows-below ok x rows all e k =
       let same : rows ≡ rows_of n p I = e ∙ ap (λ m. rows_of m p I) all in
       let table : IsTableAt n I rows = subst (IsTableAt n I) (sym same) (IsTableAt-rows_of ok) in

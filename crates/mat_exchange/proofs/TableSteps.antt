@@ -124,7 +124,8 @@ IsEntering-next x y i items before columns row row' column rises e h is below mo
         let old = e.entered.members k z l in
         let new = entered_column x y z k columns column below put in
         entered_more (is_member k (set_at columns z)) (is_member k (set_at before z)) (is_member z (take i items)) (eqb k x) (eqb z y) _ new old
-        ∙ ap (λ b. is_member k (set_at before z) || (eqb k x && b)) (ap (λ v. is_member z (take i items) || eqb z v) is ∙ sym (is_member-take_more items i z h));
+        ∙ ap (λ b. is_member k (set_at before z) || (eqb k x && b))
+        (ap (λ v. is_member z (take i items) || eqb z v) is ∙ sym (is_member-take_more items i z h));
   };
 }
 
@@ -187,7 +188,8 @@ module _ (exchanges : List Exchange) (addable : List ℕ) (rows columns : List (
   pub AreTransposed-filled : AreTransposed addable rows columns
   AreTransposed-filled =
       let n = length exchanges in
-      let past : (x : ℕ) → n ≤ x → row_in exchanges x ≡ record { addable = false; with = [] } = λ x g. get_or_past exchanges x (record { addable = false; with = [] }) g in
+      let none : Exchange = record { addable = false; with = [] } in
+      let past : (x : ℕ) → n ≤ x → row_in exchanges x ≡ none = λ x g. get_or_past exchanges x none g in
       record {
         below = λ x m. elim (cases_lt x n) [
           | inl l ↦ subst (λ k. x < k) (sym f.count) l

@@ -7,6 +7,8 @@ pub mod laws;
 mod path_search;
 mod row_table;
 mod slack;
+#[cfg(test)]
+mod tests;
 mod tight_arcs;
 
 pub use exchanges::rows;

@@ -7,8 +7,8 @@ loop-x-init g c = c.new-exchanges.ensures.items ∙ sym (rows_of-none (g.M.Matro
 
 pub loop-x-preserved : goal.loop-x-preserved
 loop-x-preserved g c =
-    rows_of-push c.loop-x.x (g.M.Matroid.indep c.args.m.now) c.args.set.now c.loop-x.exchanges.items c.push.new.self.items c.in_ok-exchange_of.field-0 c.loop-x.invariant
-    c.in_ok-exchange_of.ensures c.in_ok-push.ensures.items
+    rows_of-push c.loop-x.x (g.M.Matroid.indep c.args.m.now) c.args.set.now c.loop-x.exchanges.items c.push.new.self.items
+    c.in_ok-exchange_of.field-0 c.loop-x.invariant c.in_ok-exchange_of.ensures c.in_ok-push.ensures.items
 
 pub new-requires-clause-few : goal.new-requires-clause-few
 new-requires-clause-few g c =

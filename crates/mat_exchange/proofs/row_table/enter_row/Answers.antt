@@ -23,5 +23,6 @@ loop-y-preserved c =
     let below = AllBelow-at _ c.args.with.now i c.requires.below h in
     let count = c.loop-y.invariant.entered.count in
     let inside : y < length c.loop-y.columns = omega arith in
-    IsEntering-next c.args.x y i c.args.with.now c.args.columns.now c.loop-y.columns c.loop-y.row _ _ c.as_slice-y-items.ensures.rises c.loop-y.invariant h is inside
-    c.in_ok-insert.ensures.ok (c.in_ok-insert-2.ensures.ok ∙ ap (λ s. with_one s c.args.x) (get_or_default c.loop-y.columns y c.index-columns-y.result [] inside))
+    IsEntering-next c.args.x y i c.args.with.now c.args.columns.now c.loop-y.columns c.loop-y.row _ _
+    c.as_slice-y-items.ensures.rises c.loop-y.invariant h is inside c.in_ok-insert.ensures.ok
+    (c.in_ok-insert-2.ensures.ok ∙ ap (λ s. with_one s c.args.x) (get_or_default c.loop-y.columns y c.index-columns-y.result [] inside))

@@ -6,4 +6,5 @@ pub returns : goal.returns
 returns c =
     let exchanges = c.args.exchanges.now in
     let all : c.loop-x.x ≡ length exchanges = omega (arith, c.loop-x-test.false, c.loop-x.auto.x-end, c.requires.few) in
-    table_of-filled exchanges _ _ _ (subst (λ x. IsFilled exchanges x c.loop-x.rows.items c.loop-x.columns.items) all c.loop-x.invariant) c.in_ok-addable.ensures
+    table_of-filled exchanges _ _ _
+    (subst (λ x. IsFilled exchanges x c.loop-x.rows.items c.loop-x.columns.items) all c.loop-x.invariant) c.in_ok-addable.ensures
