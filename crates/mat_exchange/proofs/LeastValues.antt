@@ -47,7 +47,8 @@ values_start test f = λ d h. (let p = and_parts (test h.0) (ltb h.0 0) h.1 in l
 pub values_more : (test : ℕ → Bool) (f : ℕ → ℤ) (at v : ℕ) (least : Option ℤ) → IsLeastOf (IsValue (λ x. test x && ltb x at) f) least
     → IsFirstFrom test at v → IsLeastOf (IsValue (λ x. test x && ltb x (v + 1)) f) (lesser_of least (Some (f v)))
 values_more test f at v least g first =
-    least_same (λ d. IsValue (λ x. test x && ltb x at) f d ⊎ (d ≡ f v)) (IsValue (λ x. test x && ltb x (v + 1)) f) (lesser_of least (Some (f v))) to from
+    least_same (λ d. IsValue (λ x. test x && ltb x at) f d ⊎ (d ≡ f v)) (IsValue (λ x. test x && ltb x (v + 1)) f)
+    (lesser_of least (Some (f v))) to from
     (least_either (IsValue (λ x. test x && ltb x at) f) (λ d. d ≡ f v) least (Some (f v)) g (least_one (f v)))
   where
     to : (d : ℤ) → (IsValue (λ x. test x && ltb x at) f d ⊎ (d ≡ f v)) → IsValue (λ x. test x && ltb x (v + 1)) f d

@@ -50,7 +50,8 @@ cut_next n x i items old new l h e =
 
 -- ---- exchanges
 
-module _ (n : ℕ) (set : List ℕ) (first second : List Exchange) (w1 w2 : ℕ → ℤ) (unreached : List ℕ) (u : ℕ) (candidates : List ℕ) (least : Option ℤ) where
+module _ (n : ℕ) (set : List ℕ) (first second : List Exchange) (w1 w2 : ℕ → ℤ) (unreached : List ℕ) (u : ℕ) (candidates : List ℕ)
+    (least : Option ℤ) where
   -- a member is exchanged in the first matroid alone
   pub slack_of_member : IsTableAt n set second → is_member u set ≡ true
       → ((x : ℕ) → is_member x candidates ≡ (exchanges_in first).trades u x)
@@ -89,7 +90,8 @@ module _ (first second : Exchanges) (w1 w2 : ℕ → ℤ) (unreached : List ℕ)
         | inr b ↦ (
           get_or items i 0,
           is_member-take_more items i (get_or items i 0) l
-              ∙ or_right (is_member (get_or items i 0) (take i items)) (eqb (get_or items i 0) (get_or items i 0)) (eq-eqb (get_or items i 0) (get_or items i 0) refl),
+              ∙ or_right (is_member (get_or items i 0) (take i items)) (eqb (get_or items i 0) (get_or items i 0))
+              (eq-eqb (get_or items i 0) (get_or items i 0) refl),
           b,
         )
       ])
@@ -97,7 +99,8 @@ module _ (first second : Exchanges) (w1 w2 : ℕ → ℤ) (unreached : List ℕ)
         | inl a ↦ inl (s.0, a, s.2)
         | inr b ↦ inr (subst (λ u. IsExchangeSlack first second w1 w2 unreached u d) (eqb-true s.0 (get_or items i 0) b) s.2)
       ])
-      (least_either (IsAnyExchangeSlack first second w1 w2 unreached (take i items)) (IsExchangeSlack first second w1 w2 unreached (get_or items i 0)) least one g h)
+      (least_either (IsAnyExchangeSlack first second w1 w2 unreached (take i items))
+      (IsExchangeSlack first second w1 w2 unreached (get_or items i 0)) least one g h)
 
 -- ---- additions
 
@@ -163,8 +166,10 @@ module _ (n : ℕ) (a b : Exchanges) (w1 w2 : ℕ → ℤ) (reach unreached reac
       → IsLeastOf (IsAdditionSlack n a w1 unreached) additions → IsLeastOf (IsAdditionSlack n b w2 reached) others
       → IsLeastSlackOrNone n a b w1 w2 reach (lesser_of exchanges (lesser_of additions others))
   least_of_all exchanges additions others f g h =
-      as_record (lesser_of exchanges (lesser_of additions others)) (least_same IsAny (IsSlack n a b w1 w2 reach) (lesser_of exchanges (lesser_of additions others)) slack_from slack_to
-      (least_either (IsAnyExchangeSlack a b w1 w2 unreached reach) (λ d. IsAdditionSlack n a w1 unreached d ⊎ IsAdditionSlack n b w2 reached d) exchanges (lesser_of additions others) f
+      as_record (lesser_of exchanges (lesser_of additions others)) (least_same IsAny (IsSlack n a b w1 w2 reach)
+      (lesser_of exchanges (lesser_of additions others)) slack_from slack_to
+      (least_either (IsAnyExchangeSlack a b w1 w2 unreached reach)
+      (λ d. IsAdditionSlack n a w1 unreached d ⊎ IsAdditionSlack n b w2 reached d) exchanges (lesser_of additions others) f
       (least_either (IsAdditionSlack n a w1 unreached) (IsAdditionSlack n b w2 reached) additions others g h)))
     where
       as_record : (s : Option ℤ) → IsLeastOf (IsSlack n a b w1 w2 reach) s → IsLeastSlackOrNone n a b w1 w2 reach s

@@ -44,7 +44,8 @@ pub record AreTightArcs (set : List ℕ) (first second : List Exchange) (w1 w2 :
 -- d is the slack of an exchange between u and an element that is not reached
 abbrev pub IsExchangeSlack : Exchanges → Exchanges → (ℕ → ℤ) → (ℕ → ℤ) → List ℕ → ℕ → ℤ → Type 0
 IsExchangeSlack first second w1 w2 unreached u d =
-    IsValue (λ x. first.trades u x && is_member x unreached) (λ x. w1 u -ℤ w1 x) d ⊎ IsValue (λ y. second.trades y u && is_member y unreached) (λ y. w2 y -ℤ w2 u) d
+    IsValue (λ x. first.trades u x && is_member x unreached) (λ x. w1 u -ℤ w1 x) d
+    ⊎ IsValue (λ y. second.trades y u && is_member y unreached) (λ y. w2 y -ℤ w2 u) d
 
 -- d is the slack of an exchange between a reached element and one that is not reached
 abbrev pub IsAnyExchangeSlack : Exchanges → Exchanges → (ℕ → ℤ) → (ℕ → ℤ) → List ℕ → List ℕ → ℤ → Type 0
@@ -53,4 +54,5 @@ IsAnyExchangeSlack first second w1 w2 unreached reached d = (u : ℕ) × (is_mem
 -- d is the slack of a heaviest addable element and another of these
 abbrev pub IsAdditionSlack : ℕ → Exchanges → (ℕ → ℤ) → List ℕ → ℤ → Type 0
 IsAdditionSlack n exchanges w among d =
-    (top : ℕ) × (top < n) × (is_heaviest_addable n exchanges w top ≡ true) × IsValue (λ x. exchanges.adds x && is_member x among) (λ x. w top -ℤ w x) d
+    (top : ℕ) × (top < n) × (is_heaviest_addable n exchanges w top ≡ true)
+    × IsValue (λ x. exchanges.adds x && is_member x among) (λ x. w top -ℤ w x) d

@@ -1,7 +1,11 @@
 //! Each call once, with ample memory.
-use crate::RowTable;
+ghost use Rattle.std.specs.Prelude.{[], IfOk};
+ghost use Rattle.mat_exchange.specs.Tables.{IsTableAt};
+
+use crate::{Found, RowTable, tight_search};
 use mat_laws::Exchange;
 use mat_sets::ElemSet;
+use std::alloc::{AllocError, Global};
 use std::test::Fail;
 
 #[test]
@@ -24,5 +28,68 @@ fn a_table_tells_rows_and_columns(rt: HostRuntime) -> Result<(), Fail> {
     assert!(rt; table.row(0).contains(1) && !table.row(1).contains(0));
     assert!(rt; table.column(1).contains(0) && !table.column(0).contains(1));
     assert!(rt; table.addable_elements().contains(0));
+    Ok(())
+}
+
+/// A table of two elements that can both be added, or cannot, and for which nothing can be exchanged.
+fn loose_table(alloc: Global, addable: bool) -> Result<RowTable, AllocError>
+    ensures { IfOk result (λ t. IsTableAt 2 [] t) }
+{
+    let first = Exchange {
+        addable,
+        with: ElemSet::new(alloc),
+    };
+    let second = Exchange {
+        addable,
+        with: ElemSet::new(alloc),
+    };
+    let exchanges = vec![in alloc; first, second]?;
+    RowTable::new(alloc, &exchanges)
+}
+
+#[test]
+fn a_heaviest_addable_element_is_a_path(rt: HostRuntime) -> Result<(), Fail> {
+    let alloc = rt.alloc();
+    let first = loose_table(alloc, true)?;
+    let second = loose_table(alloc, true)?;
+    let set = ElemSet::new(alloc);
+    let found = tight_search(alloc, &first, &second, &set, &[3, 5], &[1, 1])?;
+    let heaviest = match found {
+        Found::Path(path) => path.as_slice() == [1].as_slice(),
+        Found::Stuck { .. } => false,
+    };
+    assert!(rt; heaviest);
+    Ok(())
+}
+
+#[test]
+fn a_slack_is_told_where_there_is_no_path(rt: HostRuntime) -> Result<(), Fail> {
+    let alloc = rt.alloc();
+    let first = loose_table(alloc, true)?;
+    let second = loose_table(alloc, true)?;
+    let set = ElemSet::new(alloc);
+    let found = tight_search(alloc, &first, &second, &set, &[3, 5], &[9, 1])?;
+    let least = match found {
+        Found::Path(_) => false,
+        Found::Stuck { reach, slack } => {
+            reach.as_slice() == [1].as_slice() && slack.is_some_and(|least| least == 2)
+        }
+    };
+    assert!(rt; least);
+    Ok(())
+}
+
+#[test]
+fn no_slack_is_told_where_nothing_can_be_added(rt: HostRuntime) -> Result<(), Fail> {
+    let alloc = rt.alloc();
+    let first = loose_table(alloc, false)?;
+    let second = loose_table(alloc, false)?;
+    let set = ElemSet::new(alloc);
+    let found = tight_search(alloc, &first, &second, &set, &[3, 5], &[9, 1])?;
+    let none = match found {
+        Found::Path(_) => false,
+        Found::Stuck { reach, slack } => reach.is_empty() && slack.is_none(),
+    };
+    assert!(rt; none);
     Ok(())
 }

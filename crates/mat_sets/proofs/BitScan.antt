@@ -23,8 +23,10 @@ pub record IsScanned (a b : List ℕ) (from at mask : ℕ) : Type 0 where
   pub inside : (i : ℕ) → i < 64 → from ≤ 64 * at + i → bit_at mask i ≡ 1
   pub below : (i : ℕ) → i < 64 → 64 * at + i < from → bit_at mask i ≡ 0
 
-bits_common : (a b : List ℕ) (at mask i : ℕ) → bit_at (common_word a b at mask) i ≡ min (min (bit_at (get_or a at 0) i) (bit_at (get_or b at 0) i)) (bit_at mask i)
-bits_common a b at mask i = bit_at_and (bit_and (get_or a at 0) (get_or b at 0)) mask i ∙ ap (λ z. min z (bit_at mask i)) (bit_at_and (get_or a at 0) (get_or b at 0) i)
+bits_common : (a b : List ℕ) (at mask i : ℕ) → bit_at (common_word a b at mask) i ≡ min
+    (min (bit_at (get_or a at 0) i) (bit_at (get_or b at 0) i)) (bit_at mask i)
+bits_common a b at mask i = bit_at_and (bit_and (get_or a at 0) (get_or b at 0)) mask i
+    ∙ ap (λ z. min z (bit_at mask i)) (bit_at_and (get_or a at 0) (get_or b at 0) i)
 
 in_both_is : (a b : List ℕ) (x : ℕ) → in_both a b x ≡ (eqb (bit_at (get_or a (x / 64) 0) (x % 64)) 1 && eqb (bit_at (get_or b (x / 64) 0) (x % 64)) 1)
 unfolding has_bit
@@ -42,7 +44,8 @@ missed : (a b : List ℕ) (from at mask x : ℕ) → IsScanned a b from at mask 
 missed a b from at mask x s h e z =
     let m = s.inside (x % 64) (omega arith) (omega arith) in
     let c = bits_common a b at mask (x % 64) in
-    in_both_is a b x ∙ rw e (one_is_missing (bit_at (get_or a at 0) (x % 64)) (bit_at (get_or b at 0) (x % 64)) (bit_at-lt _ _) (bit_at-lt _ _) (omega arith))
+    in_both_is a b x ∙ rw e (one_is_missing (bit_at (get_or a at 0) (x % 64)) (bit_at (get_or b at 0) (x % 64)) (bit_at-lt _ _) (bit_at-lt _ _)
+    (omega arith))
 
 pub scan_start : (a b : List ℕ) (from : ℕ) → IsScanned a b from (from / 64) ((2 ^ 64 - 1) * 2 ^ (from % 64) % 2 ^ 64)
 scan_start a b from = rw (ones_shl 64 (from % 64) (omega arith)) (record {
@@ -69,7 +72,8 @@ both_ones p q m hp hq e = and_from (eqb p 1) (eqb q 1) (eq-eqb p 1 (omega arith)
 hit : (a b : List ℕ) (at mask x : ℕ) → x / 64 ≡ at → bit_at (common_word a b at mask) (x % 64) ≡ 1 → in_both a b x ≡ true
 hit a b at mask x e one =
     let c = bits_common a b at mask (x % 64) in
-    in_both_is a b x ∙ rw e (both_ones (bit_at (get_or a at 0) (x % 64)) (bit_at (get_or b at 0) (x % 64)) (bit_at mask (x % 64)) (bit_at-lt _ _) (bit_at-lt _ _) (omega arith))
+    in_both_is a b x ∙ rw e (both_ones (bit_at (get_or a at 0) (x % 64)) (bit_at (get_or b at 0) (x % 64)) (bit_at mask (x % 64)) (bit_at-lt _ _)
+    (bit_at-lt _ _) (omega arith))
 
 -- a bit in what the words have in common counts
 counts : (a b : List ℕ) (from at mask i : ℕ) → IsScanned a b from at mask → i < 64 → bit_at (common_word a b at mask) i ≡ 1 → from ≤ at * 64 + i

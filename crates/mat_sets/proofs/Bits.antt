@@ -73,7 +73,8 @@ has_bit-set_other words at word x n = has_bit_is (set words at word) x ∙ rw (g
 -- the other bits of the word stay
 same_bit : (words : List ℕ) (at word x : ℕ) → at < length words → x / 64 ≡ at
     → bit_at word (x % 64) ≡ bit_at (get_or words at 0) (x % 64) → has_bit (set words at word) x ≡ has_bit words x
-same_bit words at word x l e b = has_bit-set_here words at word x l e ∙ rw b (ap (λ i. eqb (bit_at (get_or words i 0) (x % 64)) 1) (sym e)) ∙ sym (has_bit_is words x)
+same_bit words at word x l e b = has_bit-set_here words at word x l e ∙ rw b (ap (λ i. eqb (bit_at (get_or words i 0) (x % 64)) 1) (sym e))
+    ∙ sym (has_bit_is words x)
 
 has_bit-put : (words : List ℕ) (x k : ℕ) → x / 64 < length words
     → has_bit (set words (x / 64) (bit_or (get_or words (x / 64) 0) (1 * 2 ^ (x % 64) % 2 ^ 64))) k ≡ (eqb k x || has_bit words k)
@@ -90,7 +91,8 @@ has_bit-put words x k l =
     ]
 
 has_bit-cut : (words : List ℕ) (x k : ℕ) → x / 64 < length words
-    → has_bit (set words (x / 64) (bit_and (get_or words (x / 64) 0) (bit_not w64 (1 * 2 ^ (x % 64) % 2 ^ 64)))) k ≡ (has_bit words k && not (eqb k x))
+    → has_bit (set words (x / 64) (bit_and (get_or words (x / 64) 0) (bit_not w64 (1 * 2 ^ (x % 64) % 2 ^ 64)))) k ≡
+    (has_bit words k && not (eqb k x))
 has_bit-cut words x k l =
     let old = get_or words (x / 64) 0 in
     let new = bit_and old (bit_not w64 (1 * 2 ^ (x % 64) % 2 ^ 64)) in
@@ -98,7 +100,8 @@ has_bit-cut words x k l =
     let other : (k ≡ x → ⊥) → has_bit words k ≡ (has_bit words k && not (eqb k x)) = λ d. rw (ne_eqb k x d) (and_true (has_bit words k)) in
     elim (cases_eq (k / 64) (x / 64)) [
       | inl e ↦ elim (cases_eq (k % 64) (x % 64)) [
-        | inl f ↦ has_bit-set_here words (x / 64) new k l e ∙ rw (f, bit_at_clear_same w64 old (x % 64) small, eq-eqb k x (omega arith)) (sym (and_right (has_bit words k) false refl))
+        | inl f ↦ has_bit-set_here words (x / 64) new k l e ∙ rw (f, bit_at_clear_same w64 old (x % 64) small, eq-eqb k x (omega arith))
+            (sym (and_right (has_bit words k) false refl))
         | inr d ↦ same_bit words (x / 64) new k l e (bit_at_clear_other w64 old (x % 64) small (k % 64) (omega arith) d) ∙ other (omega arith)
       ]
       | inr d ↦ has_bit-set_other words (x / 64) new k d ∙ other (omega arith)
@@ -132,10 +135,21 @@ full_words n x =
     let last = (2 ^ (n % 64) - 1) ∷ [] in
     let len : length front ≡ n / 64 = length-replicate (n / 64) (2 ^ 64 - 1) in
     has_bit_is (front ++ last) x ∙ elim (cases_lt (x / 64) (n / 64)) [
-      | inl l ↦ rw (get_or_append_left front last 0 (x / 64) (omega arith), get_or-replicate (n / 64) (x / 64) (2 ^ 64 - 1) 0 l, bit_of_ones 64 (x % 64), lt-ltb (x % 64) 64 (omega arith), lt-ltb x n (omega arith))
+      | inl l ↦ rw (
+        get_or_append_left front last 0 (x / 64) (omega arith),
+        get_or-replicate (n / 64) (x / 64) (2 ^ 64 - 1) 0 l,
+        bit_of_ones 64 (x % 64),
+        lt-ltb (x % 64) 64 (omega arith),
+        lt-ltb x n (omega arith),
+      )
       | inr h ↦ elim (cases_eq (x / 64) (n / 64)) [
         | inl e ↦ rw (e, get_or-append_right front last (n / 64) (n / 64) 0 len (omega arith)) (at_last (n / 64 - n / 64) (omega arith) e)
-        | inr d ↦ rw (get_or-append_right front last (n / 64) (x / 64) 0 len h, get_or_past last (x / 64 - n / 64) 0 (omega arith), bit_at-zero (x % 64), le-ltb x n (omega arith))
+        | inr d ↦ rw (
+          get_or-append_right front last (n / 64) (x / 64) 0 len h,
+          get_or_past last (x / 64 - n / 64) 0 (omega arith),
+          bit_at-zero (x % 64),
+          le-ltb x n (omega arith),
+        )
       ]
     ]
   where
@@ -152,7 +166,8 @@ bits_of-full n = bits_of-same _ _ (IsRising-all_below n) (λ x. full_words n x �
 
 pub read_bit : (words : List ℕ) (x word : ℕ) → x / 64 < length words → word ≡ get_or words (x / 64) word
     → eqb (bit_and (word / 2 ^ (x % 64)) 1) 1 ≡ is_member x (bits_of words)
-read_bit words x word l e = rw (shr_and_one word (x % 64), get_or_read words (x / 64) word l e 0) (sym (is_member-bits_of x words ∙ has_bit_is words x))
+read_bit words x word l e = rw (shr_and_one word (x % 64), get_or_read words (x / 64) word l e 0)
+    (sym (is_member-bits_of x words ∙ has_bit_is words x))
 
 pub missing_past : (words : List ℕ) (x : ℕ) → length words ≤ x / 64 → false ≡ is_member x (bits_of words)
 missing_past words x h = sym (is_member-bits_of x words ∙ has_bit_past words x h)

@@ -181,7 +181,8 @@ module _ {n : ℕ} {arc : ℕ → ℕ → Bool} {start goal : ℕ → Bool} (k :
   pub search_round : IsSearched n arc start goal k unreached frontier before → ((v : ℕ) → is_member v frontier ≡ true → goal v ≡ false)
       → IsRound arc frontier unreached before rest found after → (x : ℕ) → is_member x found ≡ true
       → IsSearched n arc start goal (k + 1) rest found after
-  search_round s none r x m = let e : suc k ≡ k + 1 = omega arith in subst (λ j. IsSearched n arc start goal j rest found after) e (next_search s none r x m)
+  search_round s none r x m = let e : suc k ≡ k + 1 = omega arith in subst (λ j. IsSearched n arc start goal j rest found after) e
+      (next_search s none r x m)
 
 -- ---- the end of the search
 
@@ -204,7 +205,8 @@ some_member (x ∷ xs) h = (x, is_member-head x xs)
 pub search_end : {n : ℕ} {arc : ℕ → ℕ → Bool} {start goal : ℕ → Bool} (k : ℕ) (unreached frontier before rest found after : List ℕ)
     → IsSearched n arc start goal k unreached frontier before → ((v : ℕ) → is_member v frontier ≡ true → goal v ≡ false)
     → IsRound arc frontier unreached before rest found after → length found ≡ 0
-    → IsReachedSet n arc start (those_below n (λ v. not (is_member v rest))) × ((v : ℕ) → is_member v (those_below n (λ v. not (is_member v rest))) ≡ true → goal v ≡ false)
+    → IsReachedSet n arc start (those_below n (λ v. not (is_member v rest)))
+    × ((v : ℕ) → is_member v (those_below n (λ v. not (is_member v rest))) ≡ true → goal v ≡ false)
 search_end {n} {arc} {start} {goal} k unreached frontier before rest found after s none r empty =
     let m = missed_goals k s.level s.levels (no_goal k unreached frontier before rest found after s none) only in
     rw (those_below-same n (λ v. not (is_member v rest)) (λ v. leb (s.level v) k) same) (m.reach, m.misses)
@@ -214,7 +216,8 @@ search_end {n} {arc} {start} {goal} k unreached frontier before rest found after
 
     only : (v : ℕ) → v < n → follows_level n arc k s.level v ≡ true → s.level v ≤ k
     only v l f = elim (cases_lt k (s.level v)) [
-      | inl more ↦ absurd (both_ways _ (nothing v l) (and_from (not (leb (s.level v) k)) (is_next arc frontier v) (ap not (lt-leb (s.level v) k more)) (frontier_follows n arc k s.level frontier v s.front ∙ f)))
+      | inl more ↦ absurd (both_ways _ (nothing v l) (and_from (not (leb (s.level v) k)) (is_next arc frontier v)
+          (ap not (lt-leb (s.level v) k more)) (frontier_follows n arc k s.level frontier v s.front ∙ f)))
       | inr le ↦ le
     ]
 
@@ -236,7 +239,8 @@ search_found {n} {arc} {start} {goal} k unreached frontier before v vertices s m
       below = λ i h. (place i (omega arith)).0;
       first = s.levels.roots (get_or vertices 0 0) (place 0 (omega arith)).0 (place 0 (omega arith)).1;
       last = ap goal t.ends ∙ g;
-      steps = λ i h. (let q = place (suc i) (omega arith) in ap (λ z. arc z (get_or vertices (suc i) 0)) (t.steps i (omega arith)) ∙ s.before_arc (get_or vertices (suc i) 0) i q.0 q.1 (omega arith));
+      steps = λ i h. (let q = place (suc i) (omega arith) in ap (λ z. arc z (get_or vertices (suc i) 0)) (t.steps i (omega arith))
+          ∙ s.before_arc (get_or vertices (suc i) 0) i q.0 q.1 (omega arith));
     }) s.levels.early
   where
     down : (d i : ℕ) → i + d ≡ k → (get_or vertices i 0 < n) × (s.level (get_or vertices i 0) ≡ i)
@@ -246,7 +250,11 @@ search_found {n} {arc} {start} {goal} k unreached frontier before v vertices s m
         rw (same, t.ends) (ltb-true v n p.0, eqb-true (s.level v) k p.1)
     down (suc d) i e =
         let q = down d (suc i) (omega arith) in
-        rw (t.steps i (omega arith)) (s.before_below (get_or vertices (suc i) 0) q.0, s.before_level (get_or vertices (suc i) 0) i q.0 q.1 (omega arith))
+        rw (t.steps i (omega arith)) (
+          s.before_below (get_or vertices (suc i) 0) q.0,
+          s.before_level (get_or vertices (suc i) 0) i q.0 q.1
+              (omega arith),
+        )
 
     place : (i : ℕ) → i ≤ k → (get_or vertices i 0 < n) × (s.level (get_or vertices i 0) ≡ i)
     place i h = down (k - i) i (omega arith)

@@ -105,7 +105,8 @@ AreTaken-more test u from v unreached found before rest more after t f l =
     record {
       rest_is = λ x. elim (cases_eq x v) [
         | inl e ↦ subst (λ z. is_member z (without_one rest v) ≡ (is_member z unreached && not (ltb z (v + 1) && test z))) (sym e)
-            (is_member-without_one v v rest ∙ rw (eq-eqb v v refl) (and_not_true (is_member v rest) ∙ taken_rest (is_member v unreached) (test v) (is_member v rest) from v (t.rest_is v) f.reaches f.passes))
+            (is_member-without_one v v rest ∙ rw (eq-eqb v v refl) (and_not_true (is_member v rest)
+            ∙ taken_rest (is_member v unreached) (test v) (is_member v rest) from v (t.rest_is v) f.reaches f.passes))
         | inr d ↦ is_member-without_one x v rest ∙ rw (ne_eqb x v d) (and_true (is_member x rest)
             ∙ sym (not_others_stay (is_member x unreached) (test x) (is_member x rest) x from v (t.rest_is x) f.reaches d (f.none_before x)))
       ];
@@ -113,11 +114,13 @@ AreTaken-more test u from v unreached found before rest more after t f l =
         | inl e ↦ subst (λ z. is_member z (more ++ v ∷ []) ≡ (is_member z found || (is_member z unreached && (ltb z (v + 1) && test z)))) (sym e)
             (is_member-push v v more ∙ or_right (is_member v more) (eqb v v) (eq-eqb v v refl)
             ∙ taken_more (is_member v found) (is_member v unreached) (test v) (is_member v rest) from v (t.rest_is v) f.reaches f.passes)
-        | inr d ↦ is_member-push x v more ∙ rw (ne_eqb x v d) (or_false (is_member x more) ∙ t.more_is x ∙ ap (λ b. is_member x found || b) (sym (same x d)))
+        | inr d ↦ is_member-push x v more ∙ rw (ne_eqb x v d) (or_false (is_member x more) ∙ t.more_is x
+            ∙ ap (λ b. is_member x found || b) (sym (same x d)))
       ];
       after_is = λ x. elim (cases_eq x v) [
         | inl e ↦ subst (λ z. get_or (set after v u) z 0 ≡ cond (is_member z unreached && (ltb z (v + 1) && test z)) u (get_or before z 0)) (sym e)
-            (get_or-set_same after v u 0 l ∙ taken_after (is_member v unreached) (test v) (is_member v rest) from v u (get_or before v 0) (t.rest_is v) f.reaches f.passes)
+            (get_or-set_same after v u 0 l ∙ taken_after (is_member v unreached) (test v) (is_member v rest) from v u (get_or before v 0)
+            (t.rest_is v) f.reaches f.passes)
         | inr d ↦ get_or-set_other after v x u 0 d ∙ t.after_is x ∙ ap (λ b. cond b u (get_or before x 0)) (sym (same x d))
       ];
       long = length-set after v u ∙ t.long;
@@ -141,8 +144,10 @@ pub AreTaken-end : (test : ℕ → Bool) (u from : ℕ) (unreached found before 
     → AreTaken test u unreached found before rest more after
 AreTaken-end test u from unreached found before rest more after t none = record {
   rest_is = λ x. t.rest_is x ∙ not_same (is_member x unreached) (test x) (is_member x rest) x from (t.rest_is x) (none x);
-  more_is = λ x. t.more_is x ∙ ap (λ b. is_member x found || b) (same (is_member x unreached) (test x) (is_member x rest) x from (t.rest_is x) (none x));
-  after_is = λ x. t.after_is x ∙ ap (λ b. cond b u (get_or before x 0)) (same (is_member x unreached) (test x) (is_member x rest) x from (t.rest_is x) (none x));
+  more_is = λ x. t.more_is x ∙ ap (λ b. is_member x found || b) (same (is_member x unreached) (test x) (is_member x rest) x from (t.rest_is x)
+      (none x));
+  after_is = λ x. t.after_is x ∙ ap (λ b. cond b u (get_or before x 0))
+      (same (is_member x unreached) (test x) (is_member x rest) x from (t.rest_is x) (none x));
   long = t.long;
 }
   where
@@ -193,13 +198,18 @@ AreTaken-rest test u unreached found before rest more after v t m = (and_parts (
 
 pub IsRound-rest : (arc : ℕ → ℕ → Bool) (frontier unreached before rest found after : List ℕ) (v : ℕ)
     → IsRound arc frontier unreached before rest found after → is_member v rest ≡ true → is_member v unreached ≡ true
-IsRound-rest arc frontier unreached before rest found after v r m = (and_parts (is_member v unreached) (not (is_next arc frontier v)) (sym (r.rest_is v) ∙ m)).0
+IsRound-rest arc frontier unreached before rest found after v r m = (and_parts (is_member v unreached) (not (is_next arc frontier v))
+    (sym (r.rest_is v) ∙ m)).0
 
 -- a vertex that u brings, and one that it does not
 brought : (test : ℕ → Bool) (u : ℕ) (unreached found before rest more after : List ℕ)
     → AreTaken test u unreached found before rest more after → (v : ℕ) → (is_member v unreached && test v) ≡ true
     → (get_or after v 0 ≡ u) × (test v ≡ true)
-brought test u unreached found before rest more after t v e = (t.after_is v ∙ ap (λ b. cond b u (get_or before v 0)) e, (and_parts (is_member v unreached) (test v) e).1)
+brought test u unreached found before rest more after t v e = (
+  t.after_is v
+      ∙ ap (λ b. cond b u (get_or before v 0)) e,
+  (and_parts (is_member v unreached) (test v) e).1,
+)
 
 passed : (test : ℕ → Bool) (u : ℕ) (unreached found before rest more after : List ℕ)
     → AreTaken test u unreached found before rest more after → (v : ℕ) → (is_member v unreached && test v) ≡ false
@@ -215,11 +225,13 @@ pub IsRound-more : (arc : ℕ → ℕ → Bool) (us : List ℕ) (u : ℕ) (unrea
     → IsRound arc us unreached before rest found after → AreTaken (arc u) u rest found after less more later
     → IsRound arc (us ++ u ∷ []) unreached before less more later
 IsRound-more arc us u unreached before rest found after less more later r t = record {
-  rest_is = λ v. t.rest_is v ∙ rw (is_next-append arc us u v) (rest_more (is_member v unreached) (is_next arc us v) (arc u v) (is_member v rest) (r.rest_is v));
+  rest_is = λ v. t.rest_is v ∙ rw (is_next-append arc us u v) (rest_more (is_member v unreached) (is_next arc us v) (arc u v) (is_member v rest)
+      (r.rest_is v));
   found_is = λ v. t.more_is v ∙ rw (is_next-append arc us u v)
       (found_more (is_member v unreached) (is_next arc us v) (arc u v) (is_member v rest) (is_member v found) (r.rest_is v) (r.found_is v));
   member = λ v h. elim (cases_Bool (is_member v rest && arc u v)) [
-    | inl e ↦ (let b = new v e in ap (λ z. is_member z (us ++ u ∷ [])) b.0 ∙ is_member-push u u us ∙ or_right (is_member u us) (eqb u u) (eq-eqb u u refl))
+    | inl e ↦ (let b = new v e in ap (λ z. is_member z (us ++ u ∷ [])) b.0 ∙ is_member-push u u us
+        ∙ or_right (is_member u us) (eqb u u) (eq-eqb u u refl))
     | inr e ↦ (let b = old v e in ap (λ z. is_member z (us ++ u ∷ [])) b.0 ∙ is_member-push (get_or after v 0) u us
         ∙ or_left (is_member (get_or after v 0) us) (eqb (get_or after v 0) u) (r.member v (sym b.1 ∙ h)))
   ];

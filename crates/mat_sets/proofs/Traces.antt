@@ -39,7 +39,8 @@ trace_more before arcs last at i u vertices t e is l =
         | inr d ↦ rw (old x (omega arith)) (t.below x (omega arith) b)
       ];
       steps = λ x a b. elim (cases_eq x i) [
-        | inl q ↦ (let s : suc x ≡ at = omega arith in rw (q, new) (is ∙ ap (λ z. get_or before z 0) (sym (old at (omega arith)) ∙ ap (λ z. get_or (set vertices i u) z 0) (omega arith))))
+        | inl q ↦ (let s : suc x ≡ at = omega arith in rw (q, new) (is ∙ ap (λ z. get_or before z 0)
+            (sym (old at (omega arith)) ∙ ap (λ z. get_or (set vertices i u) z 0) (omega arith))))
         | inr d ↦ rw (old x (omega arith), old (suc x) (omega arith)) (t.steps x (omega arith) b)
       ];
     }

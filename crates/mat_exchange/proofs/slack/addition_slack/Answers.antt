@@ -15,5 +15,6 @@ returns-in-Some c =
     let top = subst (IsGreatestAddable (length weights) exchanges (weight_at weights)) c.in-Some.is c.requires.top in
     let within = greatest_within exchanges (10 ^ 30) weights c.in-Some.weight c.requires.small top in
     let fits : FitsSigned w128 c.in-Some.weight = search (rules, arith, ints) in
-    addition_some (length weights) exchanges (weight_at weights) c.args.among.now c.in-Some.weight c.addable_elements.result.now c.least_fall.result top
+    addition_some (length weights) exchanges
+    (weight_at weights) c.args.among.now c.in-Some.weight c.addable_elements.result.now c.least_fall.result top
     c.addable_elements.ensures (rw (to_z-of_z w128 c.in-Some.weight fits) at c.least_fall.ensures)

@@ -5,4 +5,5 @@ use Rattle.mat_exchange.specs.TightSearches.{IsAnyExchangeSlack, IsLeastOf}
 use Rattle.mat_exchange.proofs.slack.exchanges_slack.Given as goal
 
 abbrev pub invariant-loop-u : goal.invariant-loop-u
-invariant-loop-u l = IsLeastOf (IsAnyExchangeSlack (exchanges_in l.arcs.first.now) (exchanges_in l.arcs.second.now) (weight_at l.arcs.w1.now) (weight_at l.arcs.w2.now) l.unreached (take l.u-index l.u-items)) l.least
+invariant-loop-u l = IsLeastOf (IsAnyExchangeSlack (exchanges_in l.arcs.first.now) (exchanges_in l.arcs.second.now) (weight_at l.arcs.w1.now)
+    (weight_at l.arcs.w2.now) l.unreached (take l.u-index l.u-items)) l.least

@@ -11,7 +11,8 @@ loop-x-preserved c =
     let fits : FitsSigned w128 c.args.bottom = search rules in
     let same = to_z-of_z w128 c.args.bottom fits in
     let before = rw same at c.loop-x.invariant in
-    let more = values_more (λ x. is_member x c.args.candidates.now && is_member x c.args.among.now) (λ x. weight_at c.args.weights.now x -ℤ c.args.bottom) c.loop-x.from c.in-Some.x c.loop-x.least before c.in-Some.ensures in
+    let more = values_more (λ x. is_member x c.args.candidates.now && is_member x c.args.among.now)
+    (λ x. weight_at c.args.weights.now x -ℤ c.args.bottom) c.loop-x.from c.in-Some.x c.loop-x.least before c.in-Some.ensures in
     let whole : FitsSigned w128 c.rise.result = search rules in
     rw (c.lesser-least.ensures, to_z-of_z w128 c.rise.result whole, c.rise.ensures, same) more
 
@@ -20,4 +21,5 @@ returns c =
     let fits : FitsSigned w128 c.args.bottom = search rules in
     let same = to_z-of_z w128 c.args.bottom fits in
     let before = rw same at c.loop-x.invariant in
-    values_end (λ x. is_member x c.args.candidates.now && is_member x c.args.among.now) (λ x. weight_at c.args.weights.now x -ℤ c.args.bottom) c.loop-x.from c.loop-x.least before c.in_default.ensures
+    values_end (λ x. is_member x c.args.candidates.now && is_member x c.args.among.now)
+    (λ x. weight_at c.args.weights.now x -ℤ c.args.bottom) c.loop-x.from c.loop-x.least before c.in_default.ensures

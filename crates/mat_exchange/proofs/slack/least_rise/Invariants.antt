@@ -5,7 +5,8 @@ use Rattle.mat_exchange.specs.TightSearches.{IsLeastOf, IsValue}
 use Rattle.mat_exchange.proofs.slack.least_rise.Given as goal
 
 abbrev pub invariant-loop-x : goal.invariant-loop-x
-invariant-loop-x l = IsLeastOf (IsValue (λ x. (is_member x l.candidates && is_member x l.among) && ltb x l.from) (λ x. weight_at l.weights x -ℤ l.bottom)) l.least
+invariant-loop-x l = IsLeastOf (IsValue (λ x. (is_member x l.candidates && is_member x l.among) && ltb x l.from)
+    (λ x. weight_at l.weights x -ℤ l.bottom)) l.least
 
 abbrev pub decreases-loop-x : goal.decreases-loop-x
 decreases-loop-x l = 500 - l.from

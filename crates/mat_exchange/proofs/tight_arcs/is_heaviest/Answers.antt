@@ -15,4 +15,5 @@ returns-then-addable c =
     let within = greatest_within exchanges (10 ^ 30) weights c.in-Some.weight c.requires.small top in
     let fits : FitsSigned w128 c.in-Some.weight = search (rules, arith, ints) in
     let equal = rw (to_z-of_z w128 c.in-Some.weight fits) at c.weighs.ensures in
-    heaviest_at (length weights) exchanges (weight_at weights) c.in-Some.weight c.args.x _ top c.requires.below (sym c.addable.ensures ∙ c.if-addable.true) equal
+    heaviest_at (length weights) exchanges (weight_at weights) c.in-Some.weight c.args.x _ top c.requires.below
+    (sym c.addable.ensures ∙ c.if-addable.true) equal

@@ -7,7 +7,8 @@ use Rattle.mat_exchange.proofs.tight_arcs.next_equal.Given as goal
 abbrev pub invariant-loop-v : goal.invariant-loop-v
 invariant-loop-v l = record {
   later : l.from ≤ l.at;
-  none : (x : ℕ) → l.from ≤ x → x < l.at → ((is_member x l.candidates && is_member x l.among) && int_eq (weight_at l.weights l.u) (weight_at l.weights x)) ≡ false;
+  none : (x : ℕ) → l.from ≤ x → x < l.at → ((is_member x l.candidates && is_member x l.among) && int_eq (weight_at l.weights l.u)
+      (weight_at l.weights x)) ≡ false;
 }
 
 abbrev pub decreases-loop-v : goal.decreases-loop-v

@@ -14,4 +14,5 @@ pub take_arcs-requires-clause-long : goal.take_arcs-requires-clause-long
 take_arcs-requires-clause-long g c = c.loop-u.invariant.long ∙ c.requires.long
 
 pub loop-u-preserved : goal.loop-u-preserved
-loop-u-preserved g c = rw (take_more c.args.frontier.now c.loop-u.u-index 0 (omega arith)) (IsRound-more _ _ _ _ _ _ _ _ _ _ _ c.loop-u.invariant c.in_ok-take_arcs.ensures)
+loop-u-preserved g c = rw (take_more c.args.frontier.now c.loop-u.u-index 0 (omega arith))
+    (IsRound-more _ _ _ _ _ _ _ _ _ _ _ c.loop-u.invariant c.in_ok-take_arcs.ensures)

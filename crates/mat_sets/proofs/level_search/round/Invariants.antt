@@ -3,4 +3,5 @@ use Rattle.mat_sets.specs.Rounds.{IsRound}
 use Rattle.mat_sets.proofs.level_search.round.Given as goal
 
 abbrev pub invariant-loop-u : goal.invariant-loop-u
-invariant-loop-u g l = IsRound (g.R.Relation.arc l.relation) (take l.u-index l.frontier) l.fn.unreached l.fn.before.items l.unreached l.found.items l.before.items
+invariant-loop-u g l = IsRound (g.R.Relation.arc l.relation)
+    (take l.u-index l.frontier) l.fn.unreached l.fn.before.items l.unreached l.found.items l.before.items

@@ -11,7 +11,9 @@ pub returns-then-common-ne0 : goal.returns-then-common-ne0
 returns-then-common-ne0 c =
     let p = get_or_read c.self.inside.words.items c.loop-at.at c.index.result.now (omega arith) c.index.ensures 0 in
     let q = get_or_read c.other.inside.words.items c.loop-at.at c.index-in-loop-at.result.now (omega arith) c.index-in-loop-at.ensures 0 in
-    rw (sym c.self.view_is, sym c.other.view_is) (scan_found c.self.inside.words.items c.other.inside.words.items c.args.from c.loop-at.at c.loop-at.mask _ c.loop-at.invariant (rw (p, q)) (omega arith) (omega (arith, and_le_r (bit_and c.index.result.now c.index-in-loop-at.result.now) c.loop-at.mask)))
+    rw (sym c.self.view_is, sym c.other.view_is)
+    (scan_found c.self.inside.words.items c.other.inside.words.items c.args.from c.loop-at.at c.loop-at.mask _ c.loop-at.invariant
+    (rw (p, q)) (omega arith) (omega (arith, and_le_r (bit_and c.index.result.now c.index-in-loop-at.result.now) c.loop-at.mask)))
 
 pub loop-at-preserved : goal.loop-at-preserved
 loop-at-preserved c =
@@ -20,4 +22,5 @@ loop-at-preserved c =
     scan_more _ _ _ _ c.loop-at.mask c.loop-at.invariant (omega arith) (rw (sym p, sym q) c.if-common-ne0.false)
 
 pub returns : goal.returns
-returns c = rw (sym c.self.view_is, sym c.other.view_is) (scan_end c.self.inside.words.items c.other.inside.words.items _ _ _ c.loop-at.invariant (omega arith))
+returns c = rw (sym c.self.view_is, sym c.other.view_is) (scan_end c.self.inside.words.items c.other.inside.words.items _ _ _ c.loop-at.invariant
+    (omega arith))
