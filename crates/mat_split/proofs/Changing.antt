@@ -1,23 +1,19 @@
 -- Changes member by member, in the order of the list. The next member of a rising list was not met before, so its weight is still as
 -- at the start; and after each vertex of a path the set is the one that is exchanged along the part of the path so far.
-use Rattle.std.proofs.Common.{◌≡◌, ℕ, ◌+◌, ◌<◌, Bool, true, false, ◌||◌, ◌&&◌, not, eqb, cond, List, [], ◌∷◌, length, get_or, take, set, ℤ, pos, ◌+ℤ◌, ◌^◌, to_z, of_z, SFits, rules, ◌≢◌, refl, sym, ap, ◌∙◌, subst, arith, inl, inr}
-use Rattle.std.proofs.lemmas.Bool.{cases_eq, cases_lt, ne_eqb, eq-eqb, eqb-true, both_ways}
+use Rattle.std.proofs.Common.{◌≡◌, ℕ, ◌+◌, ◌<◌, Bool, true, false, ◌||◌, ◌&&◌, not, eqb, cond, List, [], length, get_or, take, set, ℤ, pos, ◌+ℤ◌, ◌^◌, to_z, of_z, SFits, rules, ◌≢◌, refl, sym, ap, ◌∙◌, subst, arith, inl, inr}
+use Rattle.std.proofs.lemmas.Bool.{cases_eq, ne_eqb, eq-eqb, eqb-true, both_ways}
 use Rattle.std.specs.Int.{w128}
 use Rattle.std.proofs.lemmas.Int.{ints, to_z-of_z}
-use Rattle.std.proofs.lemmas.List.Elements.{All-get_or}
-use Rattle.std.proofs.lemmas.List.{get_or_past, take_more, get_or-take, length-take-le, get_or-set_same, get_or-set_other}
+use Rattle.std.proofs.lemmas.List.{get_or-take, length-take-le, get_or-set_same, get_or-set_other}
 use Rattle.mat_sets.specs.Sets.{is_member, minus, with_one, without_one, IsRising, AllBelow}
-use Rattle.mat_sets.specs.Sums.{weight_at, IsWithin, AreWithin}
-use Rattle.mat_sets.proofs.Members.{is_member-append, is_member-nowhere, is_member-get_or, RisesFrom-index, same_members, is_member-with_one, is_member-without_one, set_members, IsRising-with_one, IsRising-without_one, IsRising-union, IsRising-minus}
+use Rattle.mat_sets.specs.Sums.{weight_at, IsWithin}
+use Rattle.mat_sets.proofs.Members.{is_member-nowhere, is_member-get_or, RisesFrom-index, same_members, is_member-with_one, is_member-without_one, set_members, IsRising-with_one, IsRising-without_one, IsRising-union, IsRising-minus}
 use Rattle.mat_sets.proofs.Ground.{AllBelow-member}
+use Rattle.mat_sets.proofs.Steps.{is_member-take_more}
 use Rattle.mat_laws.specs.TightPaths.{exchanged_along}
 use Rattle.mat_exchange.specs.Changes.{raised}
 
 -- ---- the members so far
-
-is_member-take_more : (xs : List ℕ) (i z : ℕ) → i < length xs
-    → is_member z (take (i + 1) xs) ≡ (is_member z (take i xs) || (eqb z (get_or xs i 0) || false))
-is_member-take_more xs i z l = ap (is_member z) (take_more xs i 0 l) ∙ is_member-append z (take i xs) (get_or xs i 0 ∷ [])
 
 next_is_new : (xs : List ℕ) (i : ℕ) → IsRising xs → i < length xs → is_member (get_or xs i 0) (take i xs) ≡ false
 next_is_new xs i r l = is_member-nowhere (take i xs) (get_or xs i 0) nowhere
@@ -35,14 +31,6 @@ pub next_below : (n : ℕ) (R items : List ℕ) (i : ℕ) → AllBelow n R → i
 next_below n R items i below same l = AllBelow-member n items _ (rw same below) (is_member-get_or items i _ l refl)
 
 -- ---- the weights so far
-
--- a weight is within the bound at each number, also past the end of the list
-pub within_at : (bound : ℕ) (w : List ℤ) → AreWithin bound w → (e : ℕ) → IsWithin bound (weight_at w e)
-within_at bound w all e =
-    elim (cases_lt e (length w)) [
-      | inl lt ↦ All-get_or (IsWithin bound) w e (pos 0) lt all
-      | inr ge ↦ rw (get_or_past w e (pos 0) ge) (omega (arith, ints), omega (arith, ints))
-    ]
 
 -- the sum of a weight and a step is an `i128`
 pub sum_fits : (a d : ℤ) → IsWithin (10 ^ 30) a → IsWithin (10 ^ 31) d → to_z w128 (of_z w128 (to_z w128 (of_z w128 a) +ℤ d)) ≡ a +ℤ d
@@ -92,7 +80,7 @@ is_member-exchanged_along z I path = grind (arith, set_members)
 -- whether an element is in the set, by whether it stood on the path so far, is a member, and is the next vertex
 taken : (so_far member here : Bool) → (here ≡ true → member ≡ true)
     → (((so_far && not member) || (member && not so_far)) && not here)
-    ≡ (((so_far || (here || false)) && not member) || (member && not (so_far || (here || false))))
+    ≡ (((so_far || here) && not member) || (member && not (so_far || here)))
 taken true true true h = refl
 taken true true false h = refl
 taken true false true h = absurd (both_ways _ refl (h refl))
@@ -104,7 +92,7 @@ taken false false false h = refl
 
 added : (so_far member here : Bool) → (here ≡ true → member ≡ false)
     → (here || ((so_far && not member) || (member && not so_far)))
-    ≡ (((so_far || (here || false)) && not member) || (member && not (so_far || (here || false))))
+    ≡ (((so_far || here) && not member) || (member && not (so_far || here)))
 added true true true h = absurd (both_ways _ (h refl) refl)
 added true true false h = refl
 added true false true h = refl
@@ -123,7 +111,7 @@ module _ (I path : List ℕ) (i x : ℕ) (r : IsRising I) (l : i < length path) 
   abbrev pub next : List ℕ
   next = exchanged_along I (take (i + 1) path)
 
-  on_path : (z : ℕ) → is_member z (take (i + 1) path) ≡ (is_member z (take i path) || (eqb z x || false))
+  on_path : (z : ℕ) → is_member z (take (i + 1) path) ≡ (is_member z (take i path) || eqb z x)
   on_path z = rw at (is_member-take_more path i z l)
 
   -- a vertex that is a member is taken out

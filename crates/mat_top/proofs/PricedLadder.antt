@@ -12,6 +12,7 @@ use Rattle.mat_sets.specs.Sets.{IsSet}
 use Rattle.mat_sets.specs.Sums.{weight_at, weight, IsWithin, AreWithin}
 use Rattle.mat_sets.proofs.Cardinalities.{sum_of-high, sum_of-low}
 use Rattle.mat_sets.proofs.Ground.{IsSet-length}
+use Rattle.mat_sets.proofs.Sums.{within_at}
 use Rattle.mat_laws.specs.Matroids.{IsMatroid}
 use Rattle.mat_laws.specs.Ladders.{IsCut, split_bound}
 use Rattle.mat_any.specs.Trees.{Tree, is_independent}
@@ -24,14 +25,6 @@ use Rattle.mat_top.specs.Answers.{IsSolution}
 use Rattle.mat_top.specs.PricedRungs.{priced_rung, HaveFewElements}
 
 -- ---- bounds
-
--- a weight is within the bound at each number, also past the end of the list
-within_at : (bound : ℕ) (w : List ℤ) → AreWithin bound w → (e : ℕ) → IsWithin bound (weight_at w e)
-within_at bound w all e =
-    elim (cases_lt e (length w)) [
-      | inl lt ↦ All-get_or (IsWithin bound) w e (pos 0) lt all
-      | inr ge ↦ rw (get_or_past w e (pos 0) ge) (omega (arith, ints), omega (arith, ints))
-    ]
 
 within_more : (a b : ℕ) (z : ℤ) → a ≤ b → IsWithin a z → IsWithin b z
 within_more a b z le (low, high) = (omega (arith, ints), omega (arith, ints))

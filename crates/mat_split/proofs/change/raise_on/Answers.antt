@@ -4,7 +4,8 @@ use Rattle.std.proofs.lemmas.Int.{to_z-of_z}
 use Rattle.std.proofs.lemmas.List.{length-set}
 use Rattle.mat_sets.specs.Sets.{AllBelow, IsRising}
 use Rattle.mat_sets.specs.Sums.{weight_at, IsWithin}
-use Rattle.mat_split.proofs.Changing.{next_below, next_weight, raised_more, sum_fits, within_at}
+use Rattle.mat_split.proofs.Changing.{next_below, next_weight, raised_more, sum_fits}
+use Rattle.mat_sets.proofs.Sums.{within_at}
 use Rattle.mat_split.proofs.change.raise_on.Goals as goal
 
 pub slice_copy_out-weights : goal.slice_copy_out-weights
