@@ -1,0 +1,3 @@
+pub mod Forests
+pub mod ComponentLaws
+pub mod ForestLaws

@@ -1,0 +1,4 @@
+//! Graphic matroids: the forests of a graph.
+#![tactic(auto)]
+
+pub mod laws;
