@@ -1,0 +1,2 @@
+pub mod ParentTables
+pub mod Uniting

@@ -1,4 +1,8 @@
 //! Graphic matroids: the forests of a graph.
 #![tactic(auto)]
 
+mod graphic;
 pub mod laws;
+mod union_find;
+
+pub use graphic::Graphic;
