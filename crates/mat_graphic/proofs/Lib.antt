@@ -1,2 +1,3 @@
 pub mod ParentTables
 pub mod Uniting
+pub mod ComponentCounts
