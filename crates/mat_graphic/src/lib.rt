@@ -3,6 +3,8 @@
 
 mod graphic;
 pub mod laws;
+#[cfg(test)]
+mod tests;
 mod union_find;
 
 pub use graphic::Graphic;
