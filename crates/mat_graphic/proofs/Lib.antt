@@ -1,0 +1,3 @@
+pub mod ParentTables
+pub mod Uniting
+pub mod ComponentCounts

@@ -1,0 +1,4 @@
+pub mod Forests
+pub mod ComponentLaws
+pub mod ForestLaws
+pub mod ParentTables
