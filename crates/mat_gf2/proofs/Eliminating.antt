@@ -46,7 +46,7 @@ unfolding is_linearly_independent
 IsEliminating-start column X = record { basis_of = IsBasisOf-start column X; passes = ap (is_linearly_independent column) (last-none X) }
 
 -- the member e, and those after it
-last-next : (X : List ℕ) (i e : ℕ) → i < length X → e ≡ get_or X (length X - 1 - i) 0 → last (i + 1) X ≡ e ∷ last i X
+pub last-next : (X : List ℕ) (i e : ℕ) → i < length X → e ≡ get_or X (length X - 1 - i) 0 → last (i + 1) X ≡ e ∷ last i X
 last-next X i e l next = last-more i X l ∙ ap (λ x. x ∷ last i X) (sym next)
 
 -- the test for the member e and those after it, by what is left of its column

@@ -4,3 +4,4 @@ pub mod Spans
 pub mod Pivots
 pub mod Gf2Laws
 pub mod Eliminations
+pub mod TaggedColumns

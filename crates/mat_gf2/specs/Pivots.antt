@@ -31,7 +31,7 @@ module _ (column : ℕ → ℕ) where
     | inr s ↦ rw s (IsRising-with_one (pivots X) (leading_bit (remainder column X (column e))) (IsRising-pivots X))
   ]
 
-  no_pivot : (q : ℕ) → is_member q (pivots []) ≡ true → ⊥
+  pub no_pivot : (q : ℕ) → is_member q (pivots []) ≡ true → ⊥
   unfolding pivots
   no_pivot q h = false≢true h
 

@@ -3,8 +3,10 @@ ghost use Rattle.std.specs.Prelude.{◌≡◌, length, IfOk};
 ghost use Rattle.mat_gf2.specs.Columns.{BinaryMatrix, IsBinaryMatrix, column_of, is_gf2};
 ghost use Rattle.mat_gf2.specs.Gf2Laws.{gf2_laws};
 
-use crate::elimination::are_independent;
-use mat_laws::Matroid;
+use crate::elimination::{
+    TaggedColumn, are_independent, marked_members, reduce_tagged, tagged_basis,
+};
+use mat_laws::{Exchange, Matroid};
 use mat_sets::ElemSet;
 use std::alloc::{AllocError, Global};
 use std::marker::Model;
@@ -66,5 +68,29 @@ impl Matroid for Gf2 {
 
     fn independent(&self, alloc: Global, set: &ElemSet) -> Result<bool, AllocError> {
         are_independent(alloc, &self.columns, set)
+    }
+
+    /// The exchanges of x: where its column is a sum of columns of the set, it can be exchanged for the members of that
+    /// sum alone, and else it can be added, and be exchanged for every member. No question of independence is asked: one
+    /// elimination tells the sum, in the time of one exclusive-or for each two members. The only error is want of memory.
+    fn circuit(&self, alloc: Global, base: &ElemSet, x: u32) -> Result<Exchange, AllocError> {
+        let basis = tagged_basis(alloc, &self.columns, base)?;
+        let column = TaggedColumn {
+            column: self.columns[x as usize],
+            tag: 0,
+        };
+        let left = reduce_tagged(&basis, column);
+        if left.column == 0 {
+            let with = marked_members(alloc, base, left.tag)?;
+            return Ok(Exchange {
+                addable: false,
+                with,
+            });
+        }
+        let with = base.copy(alloc)?;
+        Ok(Exchange {
+            addable: true,
+            with,
+        })
     }
 }
