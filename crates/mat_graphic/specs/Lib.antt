@@ -2,3 +2,4 @@ pub mod Forests
 pub mod ComponentLaws
 pub mod ForestLaws
 pub mod ParentTables
+pub mod TrailSearches

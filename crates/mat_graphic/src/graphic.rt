@@ -6,8 +6,9 @@ ghost use Rattle.mat_graphic.specs.Forests.{IsGraph, IsLeastReached, is_forest, 
 ghost use Rattle.mat_graphic.specs.ForestLaws.{graphic_laws};
 ghost use Rattle.mat_graphic.specs.ParentTables.{IsDescending, IsParentTable};
 
+use crate::trail::trail;
 use crate::union_find::{settle, singletons, unite};
-use mat_laws::Matroid;
+use mat_laws::{Exchange, Matroid};
 use mat_sets::{ElemSet, Pairs};
 use std::alloc::{AllocError, Global};
 
@@ -123,5 +124,23 @@ impl Matroid for Graphic {
     fn independent(&self, alloc: Global, set: &ElemSet) -> Result<bool, AllocError> {
         let mut parent = singletons(alloc, self.vertices)?;
         Ok(are_forest(&mut parent, self.edges.as_slice(), set))
+    }
+
+    /// The exchanges of an edge outside a forest: where its ends are in two components it can be added, and exchanged for
+    /// any member; else it can be exchanged for the members of the trail between its ends. One search of the forest.
+    fn circuit(&self, alloc: Global, base: &ElemSet, x: u32) -> Result<Exchange, AllocError> {
+        self.lawful();
+        let edges = self.edges.as_slice();
+        let (first, second) = edges[x as usize];
+        match trail(alloc, self.vertices, edges, base, second, first)? {
+            Some(with) => Ok(Exchange {
+                addable: false,
+                with,
+            }),
+            None => Ok(Exchange {
+                addable: true,
+                with: base.copy(alloc)?,
+            }),
+        }
     }
 }

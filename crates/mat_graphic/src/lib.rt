@@ -5,6 +5,7 @@ mod graphic;
 pub mod laws;
 #[cfg(test)]
 mod tests;
+mod trail;
 mod union_find;
 
 pub use graphic::Graphic;
