@@ -1,6 +1,6 @@
 -- Elimination with tags. The exclusive-or of the columns that a tag marks is linear in the tag, and one bit marks one member; so what is left of a
 -- column differs from it by the sum that its tag marks.
-use Rattle.std.proofs.Common.{◌≡◌, ℕ, suc, zero, ◌+◌, ◌-◌, ◌*◌, ◌^◌, ◌%◌, ◌<◌, ◌≤◌, Bool, true, false, cond, eqb, ltb, List, [], ◌∷◌, ◌++◌, length, get_or, ◌⊎◌, inl, inr, refl, sym, ap, ◌∙◌, arith}
+use Rattle.std.proofs.Common.{◌≡◌, ℕ, suc, zero, ◌+◌, ◌*◌, ◌^◌, ◌%◌, ◌<◌, ◌≤◌, Bool, true, false, cond, eqb, ltb, List, [], ◌∷◌, ◌++◌, length, get_or, ◌⊎◌, inl, inr, refl, sym, ap, ◌∙◌, arith}
 use Rattle.std.proofs.lemmas.Bool.{cases_Bool, or_cases, or_left, or_right}
 use Rattle.std.proofs.lemmas.Nat.{xor_comm}
 use Rattle.std.proofs.lemmas.Nat.Bits.{bit_at_xor, bit_at-zero, bit_at-pow_same, bit_at-pow_other}
@@ -14,7 +14,6 @@ use Rattle.mat_gf2.specs.declared.elimination.TaggedColumn.{TaggedColumn}
 use Rattle.mat_gf2.specs.Columns.{xor_of, reduced, remainder}
 use Rattle.mat_gf2.specs.LeadingBits.{bit_cases, xor_both}
 use Rattle.mat_gf2.specs.TaggedColumns.{marked_from, marked, reduced_tagged, reduced_tagged_by, IsTaggedBasis}
-use Rattle.mat_gf2.proofs.Eliminating.{last, last-none, last-next}
 
 -- ---- what a tag marks
 
@@ -137,32 +136,30 @@ reduced_tagged_by-more : (basis : List TaggedColumn) (b v : TaggedColumn) → re
 reduced_tagged_by-more [] b v = refl
 reduced_tagged_by-more (a ∷ basis) b v = reduced_tagged_by-more basis b (reduced_tagged v a)
 
-pub IsTaggedBasis-start : (column : ℕ → ℕ) (X : List ℕ) → IsTaggedBasis column X (last 0 X) []
+pub IsTaggedBasis-start : (column : ℕ → ℕ) (X : List ℕ) → IsTaggedBasis column X [] []
 unfolding remainder
-IsTaggedBasis-start column X = record { reduces = λ v. sym (ap (λ Y. remainder column Y v.column) (last-none X)); tags = λ v. refl }
+IsTaggedBasis-start column X = record { reduces = λ v. refl; tags = λ v. refl }
 
--- one more column: what is left of the next member's
-pub IsTaggedBasis-more : (column : ℕ → ℕ) (X : List ℕ) (i e : ℕ) (basis : List TaggedColumn) (new left : TaggedColumn) → i < length X → e ≡ get_or X (length X - 1 - i) 0
-    → new.column ≡ column e → new.tag ≡ 2 ^ (length X - 1 - i) → left ≡ reduced_tagged_by basis new → IsTaggedBasis column X (last i X) basis → IsTaggedBasis column X (last (i + 1) X) (basis ++ left ∷ [])
+-- one more column: what is left of the column of e, which the tag of one bit marks
+pub IsTaggedBasis-more : (column : ℕ → ℕ) (X Y : List ℕ) (e : ℕ) (basis : List TaggedColumn) (new left : TaggedColumn)
+    → new.column ≡ column e → xor_of column (marked new.tag X) ≡ column e → left ≡ reduced_tagged_by basis new
+    → IsTaggedBasis column X Y basis → IsTaggedBasis column X (e ∷ Y) (basis ++ left ∷ [])
 unfolding remainder
-IsTaggedBasis-more column X i e basis new left l next own one told h =
-    let Y = last i X in
-    let sum : xor_of column (marked new.tag X) ≡ new.column =
-    ap (λ t. xor_of column (marked t X)) one ∙ marked-one column (length X - 1 - i) X (omega arith) ∙ ap column (sym next) ∙ sym own in
+IsTaggedBasis-more column X Y e basis new left own one told h =
     let right : bit_xor (xor_of column (marked left.tag X)) left.column ≡ 0 =
-    ap (λ u. bit_xor (xor_of column (marked u.tag X)) u.column) told ∙ h.tags new ∙ ap (λ z. bit_xor z new.column) sum ∙ xor_self new.column in
+    ap (λ u. bit_xor (xor_of column (marked u.tag X)) u.column) told ∙ h.tags new ∙ ap (λ z. bit_xor z new.column) (one ∙ sym own) ∙ xor_self new.column in
     let rest : left.column ≡ remainder column Y (column e) = ap (λ u. u.column) told ∙ h.reduces new ∙ ap (remainder column Y) own in
     record {
       reduces = λ v. ap (λ u. u.column) (reduced_tagged_by-more basis left v) ∙ reduced_tagged-column (reduced_tagged_by basis v) left
-          ∙ ap (λ z. reduced z left.column) (h.reduces v) ∙ ap (reduced (remainder column Y v.column)) rest ∙ sym (ap (λ Z. remainder column Z v.column) (last-next X i e l next));
+          ∙ ap (λ z. reduced z left.column) (h.reduces v) ∙ ap (reduced (remainder column Y v.column)) rest;
       tags = λ v. ap (λ u. bit_xor (xor_of column (marked u.tag X)) u.column) (reduced_tagged_by-more basis left v)
           ∙ reduced_tagged-sum column X (reduced_tagged_by basis v) left right ∙ h.tags v;
     }
 
--- the tag of one bit, as the code makes it
-pub one_bit : (count length' i : ℕ) → count ≡ length' → length' ≤ 128 → i < count → 1 * 2 ^ (count - 1 - i) % 2 ^ 128 ≡ 2 ^ (length' - 1 - i)
-one_bit count length' i same few l =
-    let small : count - 1 - i < 128 = omega arith in
-    let less : 2 ^ (count - 1 - i) < 2 ^ 128 = pow-lt small in
-    let one : 1 * 2 ^ (count - 1 - i) ≡ 2 ^ (count - 1 - i) = omega arith in
-    ap (λ k. k % 2 ^ 128) one ∙ mod-eq_of_lt less ∙ ap (λ k. 2 ^ (k - 1 - i)) same
+-- the tag of one bit, as it is made in 128 bits, marks the member at its place
+pub marked-one_bit : (column : ℕ → ℕ) (X : List ℕ) (p e : ℕ) → p < length X → length X ≤ 128 → e ≡ get_or X p 0 → xor_of column (marked (1 * 2 ^ p % 2 ^ 128) X) ≡ column e
+marked-one_bit column X p e l few at =
+    let small : p < 128 = omega arith in
+    let less : 2 ^ p < 2 ^ 128 = pow-lt small in
+    let one : 1 * 2 ^ p ≡ 2 ^ p = omega arith in
+    ap (λ k. xor_of column (marked (k % 2 ^ 128) X)) one ∙ ap (λ k. xor_of column (marked k X)) (mod-eq_of_lt less) ∙ marked-one column p X l ∙ ap column (sym at)

@@ -34,9 +34,8 @@ pub(crate) fn are_independent(
     ensures rises { IfOk result (λ _. IsRising set.now) }
 {
     let mut basis: Vec<u128> = Vec::new(alloc);
-    let count = set.len();
-    for i in 0..count {
-        let left = reduce(&basis, columns[set.get(count - 1 - i) as usize]);
+    for place in (0..set.len()).rev() {
+        let left = reduce(&basis, columns[set.get(place) as usize]);
         if left == 0 {
             return Ok(false);
         }
@@ -82,9 +81,7 @@ pub(crate) fn tagged_basis(
     ensures rises { IfOk result (λ _. IsRising set.now) }
 {
     let mut basis: Vec<TaggedColumn> = Vec::new(alloc);
-    let count = set.len();
-    for i in 0..count {
-        let place = count - 1 - i;
+    for place in (0..set.len()).rev() {
         let column = TaggedColumn {
             column: columns[set.get(place) as usize],
             tag: 1 << place,
