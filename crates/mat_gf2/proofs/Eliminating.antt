@@ -15,13 +15,15 @@ pub drop_length : (X : List ℕ) (count : ℕ) → count ≡ length X → drop c
 drop_length X count same = drop_all count X (omega arith)
 
 -- the member before a place
-pub drop_before : (X : List ℕ) (count place e : ℕ) → count ≡ length X → 0 < place → place ≤ count → e ≡ get_or X (place - 1) 0 → drop (place - 1) X ≡ e ∷ drop place X
+pub drop_before : (X : List ℕ) (count place e : ℕ) → count ≡ length X → 0 < place → place ≤ count → e ≡ get_or X (place - 1) 0
+    → drop (place - 1) X ≡ e ∷ drop place X
 drop_before X count place e same some within at =
     let next : place - 1 + 1 ≡ place = omega arith in
     drop_more X (place - 1) 0 (omega arith) ∙ ap (λ x. x ∷ drop (place - 1 + 1) X) (sym at) ∙ ap (λ k. e ∷ drop k X) next
 
 -- is below n, as all are
-pub below_before : (n : ℕ) (X : List ℕ) (count place e : ℕ) → AllBelow n X → count ≡ length X → 0 < place → place ≤ count → e ≡ get_or X (place - 1) 0 → e < n
+pub below_before : (n : ℕ) (X : List ℕ) (count place e : ℕ) → AllBelow n X → count ≡ length X → 0 < place → place ≤ count
+    → e ≡ get_or X (place - 1) 0 → e < n
 below_before n X count place e below same some within at = subst (λ k. k < n) (sym at) (AllBelow-at n X (place - 1) below (omega arith))
 
 -- ---- elimination
@@ -39,7 +41,8 @@ pub IsEliminating-start : (column : ℕ → ℕ) → IsEliminating column [] []
 unfolding remainder is_linearly_independent
 IsEliminating-start column = record { reduces = λ v. refl; passes = refl }
 
-module _ (column : ℕ → ℕ) (Y : List ℕ) (basis : List ℕ) (e left : ℕ) (told : left ≡ reduced_by basis (column e)) (h : IsEliminating column Y basis) where
+module _ (column : ℕ → ℕ) (Y : List ℕ) (basis : List ℕ) (e left : ℕ) (told : left ≡ reduced_by basis (column e))
+    (h : IsEliminating column Y basis) where
   own : left ≡ remainder column Y (column e)
   own = told ∙ h.reduces (column e)
 
@@ -59,7 +62,8 @@ module _ (column : ℕ → ℕ) (Y : List ℕ) (basis : List ℕ) (e left : ℕ)
   IsEliminating-fails nothing = test-next ∙ ap (λ z. not (eqb z 0)) nothing
 
 -- a list whose last members are dependent is so
-pub dependent_from : (column : ℕ → ℕ) (X : List ℕ) (k : ℕ) → is_linearly_independent column (drop k X) ≡ false → is_linearly_independent column X ≡ false
+pub dependent_from : (column : ℕ → ℕ) (X : List ℕ) (k : ℕ) → is_linearly_independent column (drop k X) ≡ false
+    → is_linearly_independent column X ≡ false
 unfolding is_linearly_independent
 dependent_from column X zero f = f
 dependent_from column [] (suc k) f = f

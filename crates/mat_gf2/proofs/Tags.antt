@@ -57,7 +57,8 @@ module _ (column : ℕ → ℕ) where
   sum_from : ℕ → List ℕ → ℕ → ℕ
   sum_from i X tag = xor_of column (marked_from i tag X)
 
-  sum_from-cons : (i x tag : ℕ) (X : List ℕ) → sum_from i (x ∷ X) tag ≡ cond (eqb (bit_at tag i) 1) (bit_xor (column x) (sum_from (suc i) X tag)) (sum_from (suc i) X tag)
+  sum_from-cons : (i x tag : ℕ) (X : List ℕ)
+      → sum_from i (x ∷ X) tag ≡ cond (eqb (bit_at tag i) 1) (bit_xor (column x) (sum_from (suc i) X tag)) (sum_from (suc i) X tag)
   unfolding sum_from marked_from
   sum_from-cons i x tag X = over (eqb (bit_at tag i) 1) (marked_from (suc i) tag X)
     where
@@ -81,12 +82,16 @@ module _ (column : ℕ → ℕ) where
       both : (c s t : ℕ) → bit_xor (bit_xor c s) (bit_xor c t) ≡ bit_xor s t
       both c s t = ap (λ z. bit_xor z (bit_xor c t)) (xor_comm c s) ∙ ap (bit_xor (bit_xor s c)) (xor_comm c t) ∙ xor_both s t c
 
+      at : (p q r a b : ℕ) → r ≡ (p + q) % 2 → p ≡ a → q ≡ b → r ≡ (a + b) % 2
+      at p q r a b e hp hq = e ∙ ap (λ k. (k + q) % 2) hp ∙ ap (λ k. (a + k) % 2) hq
+
       cases : (p q r s t : ℕ) → r ≡ (p + q) % 2 → (p ≡ 1) ⊎ (p ≡ 0) → (q ≡ 1) ⊎ (q ≡ 0)
-          → cond (eqb r 1) (bit_xor (column x) (bit_xor s t)) (bit_xor s t) ≡ bit_xor (cond (eqb p 1) (bit_xor (column x) s) s) (cond (eqb q 1) (bit_xor (column x) t) t)
-      cases p q r s t e (inl hp) (inl hq) = let z : r ≡ 0 = e ∙ ap (λ k. (k + q) % 2) hp ∙ ap (λ k. (1 + k) % 2) hq in rw (z, hp, hq) (sym (both (column x) s t))
-      cases p q r s t e (inl hp) (inr hq) = let z : r ≡ 1 = e ∙ ap (λ k. (k + q) % 2) hp ∙ ap (λ k. (1 + k) % 2) hq in rw (z, hp, hq) (sym (xor_assoc (column x) s t))
-      cases p q r s t e (inr hp) (inl hq) = let z : r ≡ 1 = e ∙ ap (λ k. (k + q) % 2) hp ∙ ap (λ k. (0 + k) % 2) hq in rw (z, hp, hq) (swap (column x) s t)
-      cases p q r s t e (inr hp) (inr hq) = let z : r ≡ 0 = e ∙ ap (λ k. (k + q) % 2) hp ∙ ap (λ k. (0 + k) % 2) hq in rw (z, hp, hq) refl
+          → cond (eqb r 1) (bit_xor (column x) (bit_xor s t)) (bit_xor s t)
+          ≡ bit_xor (cond (eqb p 1) (bit_xor (column x) s) s) (cond (eqb q 1) (bit_xor (column x) t) t)
+      cases p q r s t e (inl hp) (inl hq) = let z : r ≡ 0 = at p q r 1 1 e hp hq in rw (z, hp, hq) (sym (both (column x) s t))
+      cases p q r s t e (inl hp) (inr hq) = let z : r ≡ 1 = at p q r 1 0 e hp hq in rw (z, hp, hq) (sym (xor_assoc (column x) s t))
+      cases p q r s t e (inr hp) (inl hq) = let z : r ≡ 1 = at p q r 0 1 e hp hq in rw (z, hp, hq) (swap (column x) s t)
+      cases p q r s t e (inr hp) (inr hq) = let z : r ≡ 0 = at p q r 0 0 e hp hq in rw (z, hp, hq) refl
 
   sum_from-one : (i p q : ℕ) (X : List ℕ) → q ≡ i + p → p < length X → sum_from i X (2 ^ q) ≡ column (get_or X p 0)
   unfolding sum_from
@@ -95,7 +100,8 @@ module _ (column : ℕ → ℕ) where
       let same : q ≡ i = omega arith in
       let set : bit_at (2 ^ q) i ≡ 1 = ap (bit_at (2 ^ q)) (sym same) ∙ bit_at-pow_same q in
       sum_from-cons i x (2 ^ q) X ∙ ap (λ b. cond (eqb b 1) (bit_xor (column x) (sum_from (suc i) X (2 ^ q))) (sum_from (suc i) X (2 ^ q))) set
-      ∙ ap (λ P. bit_xor (column x) (xor_of column P)) (marked_from-none (suc i) (2 ^ q) X (λ k m. bit_at-pow_other q k (λ z. absurd (omega arith)))) ∙ xor_zero_r (column x)
+      ∙ ap (λ P. bit_xor (column x) (xor_of column P)) (marked_from-none (suc i) (2 ^ q) X (λ k m. bit_at-pow_other q k (λ z. absurd (omega arith))))
+      ∙ xor_zero_r (column x)
   sum_from-one i (suc p) q (x ∷ X) e l =
       let clear : bit_at (2 ^ q) i ≡ 0 = bit_at-pow_other q i (λ z. absurd (omega arith)) in
       sum_from-cons i x (2 ^ q) X ∙ ap (λ b. cond (eqb b 1) (bit_xor (column x) (sum_from (suc i) X (2 ^ q))) (sum_from (suc i) X (2 ^ q))) clear
@@ -130,9 +136,11 @@ reduced_tagged-sum column X v b right = elim (cases_Bool (ltb (bit_xor v.column 
   where
     four : (a c d f : ℕ) → bit_xor (bit_xor a c) (bit_xor d f) ≡ bit_xor (bit_xor a d) (bit_xor c f)
     four a c d f =
-        xor_assoc a c (bit_xor d f) ∙ ap (bit_xor a) (sym (xor_assoc c d f) ∙ ap (λ z. bit_xor z f) (xor_comm c d) ∙ xor_assoc d c f) ∙ sym (xor_assoc a d (bit_xor c f))
+        xor_assoc a c (bit_xor d f) ∙ ap (bit_xor a) (sym (xor_assoc c d f) ∙ ap (λ z. bit_xor z f) (xor_comm c d) ∙ xor_assoc d c f)
+        ∙ sym (xor_assoc a d (bit_xor c f))
 
-reduced_tagged_by-more : (basis : List TaggedColumn) (b v : TaggedColumn) → reduced_tagged_by (basis ++ b ∷ []) v ≡ reduced_tagged (reduced_tagged_by basis v) b
+reduced_tagged_by-more : (basis : List TaggedColumn) (b v : TaggedColumn)
+    → reduced_tagged_by (basis ++ b ∷ []) v ≡ reduced_tagged (reduced_tagged_by basis v) b
 reduced_tagged_by-more [] b v = refl
 reduced_tagged_by-more (a ∷ basis) b v = reduced_tagged_by-more basis b (reduced_tagged v a)
 
@@ -147,7 +155,8 @@ pub IsTaggedBasis-more : (column : ℕ → ℕ) (X Y : List ℕ) (e : ℕ) (basi
 unfolding remainder
 IsTaggedBasis-more column X Y e basis new left own one told h =
     let right : bit_xor (xor_of column (marked left.tag X)) left.column ≡ 0 =
-    ap (λ u. bit_xor (xor_of column (marked u.tag X)) u.column) told ∙ h.tags new ∙ ap (λ z. bit_xor z new.column) (one ∙ sym own) ∙ xor_self new.column in
+    ap (λ u. bit_xor (xor_of column (marked u.tag X)) u.column) told ∙ h.tags new ∙ ap (λ z. bit_xor z new.column) (one ∙ sym own)
+    ∙ xor_self new.column in
     let rest : left.column ≡ remainder column Y (column e) = ap (λ u. u.column) told ∙ h.reduces new ∙ ap (remainder column Y) own in
     record {
       reduces = λ v. ap (λ u. u.column) (reduced_tagged_by-more basis left v) ∙ reduced_tagged-column (reduced_tagged_by basis v) left
@@ -157,9 +166,11 @@ IsTaggedBasis-more column X Y e basis new left own one told h =
     }
 
 -- the tag of one bit, as it is made in 128 bits, marks the member at its place
-pub marked-one_bit : (column : ℕ → ℕ) (X : List ℕ) (p e : ℕ) → p < length X → length X ≤ 128 → e ≡ get_or X p 0 → xor_of column (marked (1 * 2 ^ p % 2 ^ 128) X) ≡ column e
+pub marked-one_bit : (column : ℕ → ℕ) (X : List ℕ) (p e : ℕ) → p < length X → length X ≤ 128 → e ≡ get_or X p 0
+    → xor_of column (marked (1 * 2 ^ p % 2 ^ 128) X) ≡ column e
 marked-one_bit column X p e l few at =
     let small : p < 128 = omega arith in
     let less : 2 ^ p < 2 ^ 128 = pow-lt small in
     let one : 1 * 2 ^ p ≡ 2 ^ p = omega arith in
-    ap (λ k. xor_of column (marked (k % 2 ^ 128) X)) one ∙ ap (λ k. xor_of column (marked k X)) (mod-eq_of_lt less) ∙ marked-one column p X l ∙ ap column (sym at)
+    ap (λ k. xor_of column (marked (k % 2 ^ 128) X)) one ∙ ap (λ k. xor_of column (marked k X)) (mod-eq_of_lt less) ∙ marked-one column p X l
+    ∙ ap column (sym at)
