@@ -15,7 +15,8 @@ use Rattle.mat_gf2.specs.TaggedColumns.{marked, reduced_tagged_by, IsTaggedBasis
 use Rattle.mat_gf2.proofs.Tags.{IsRising-marked, marked-IsSubset, marked-zero}
 use Rattle.mat_gf2.proofs.Exchanges.{row_of_sum, row_of_left}
 
-module _ (columns base : List ℕ) (x entry : ℕ) (basis : List TaggedColumn) (left : TaggedColumn) (row : Exchange) (passes : is_gf2 (length columns) (column_of columns) base ≡ true)
+module _ (columns base : List ℕ) (x entry : ℕ) (basis : List TaggedColumn) (left : TaggedColumn) (row : Exchange)
+    (passes : is_gf2 (length columns) (column_of columns) base ≡ true)
     (small : x < length columns) (outside : is_member x base ≡ false) (right : IsTaggedBasis (column_of columns) base base basis)
     (read : entry ≡ get_or columns x entry) (told : left ≡ reduced_tagged_by basis (record { column = entry; tag = 0 })) where
   unmarked : TaggedColumn
@@ -35,12 +36,15 @@ module _ (columns base : List ℕ) (x entry : ℕ) (basis : List TaggedColumn) (
       ∙ ap (λ u. bit_xor (xor_of (column_of columns) (marked u.tag base)) u.column) told ∙ right.tags unmarked
       ∙ ap (λ z. bit_xor z entry) (marked-zero (column_of columns) base) ∙ xor_zero_l entry ∙ own
 
-  pub row_of_marked : left.column ≡ 0 → row.addable ≡ false → row.with ≡ marked left.tag base → row ≡ row_of (is_gf2 (length columns) (column_of columns)) base x
+  pub row_of_marked : left.column ≡ 0 → row.addable ≡ false → row.with ≡ marked left.tag base
+      → row ≡ row_of (is_gf2 (length columns) (column_of columns)) base x
   row_of_marked nothing added exchanged =
       row_of_sum (length columns) (column_of columns) base x passes small outside row
-      (record { part = marked left.tag base; rising = IsRising-marked left.tag base rising; inside = marked-IsSubset left.tag base; sum = sum nothing }) added exchanged
+      (record { part = marked left.tag base; rising = IsRising-marked left.tag base rising; inside = marked-IsSubset left.tag base; sum = sum nothing })
+      added exchanged
 
-  pub row_of_addable : (left.column ≡ 0 → ⊥) → row.addable ≡ true → row.with ≡ base → row ≡ row_of (is_gf2 (length columns) (column_of columns)) base x
+  pub row_of_addable : (left.column ≡ 0 → ⊥) → row.addable ≡ true → row.with ≡ base
+      → row ≡ row_of (is_gf2 (length columns) (column_of columns)) base x
   unfolding unmarked
   row_of_addable some added exchanged =
       row_of_left (length columns) (column_of columns) base x passes small outside row

@@ -28,7 +28,8 @@ leading_bit-below v d some l = elim (cases_lt (leading_bit v) d) [
   | inr a ↦ absurd (let low = (leading_bit-is v (omega arith)).low in let more = pow-le d (leading_bit v) a in omega arith)
 ]
 
-pivots-below : (column : ℕ → ℕ) (d : ℕ) (X : List ℕ) → ((e : ℕ) → is_member e X ≡ true → column e < 2 ^ d) → (q : ℕ) → is_member q (pivots column X) ≡ true → q < d
+pivots-below : (column : ℕ → ℕ) (d : ℕ) (X : List ℕ) → ((e : ℕ) → is_member e X ≡ true → column e < 2 ^ d) → (q : ℕ)
+    → is_member q (pivots column X) ≡ true → q < d
 pivots-below column d [] below q h = absurd (no_pivot column q h)
 pivots-below column d (e ∷ X) below q h = elim (pivot-cases column e X q h) [
   | inl p ↦ (let own = below e (is_member-head e X) in
@@ -39,7 +40,8 @@ pivots-below column d (e ∷ X) below q h = elim (pivot-cases column e X q h) [
   | inr m ↦ pivots-below column d X (λ f k. below f (or_right (eqb f e) (is_member f X) k)) q m
 ]
 
-pub independent-few : (dim : ℕ) (columns X : List ℕ) → IsBinaryMatrix dim columns → is_gf2 (length columns) (column_of columns) X ≡ true → length X ≤ 128
+pub independent-few : (dim : ℕ) (columns X : List ℕ) → IsBinaryMatrix dim columns → is_gf2 (length columns) (column_of columns) X ≡ true
+    → length X ≤ 128
 independent-few dim columns X sound passes =
     let column = column_of columns in
     let tests = and_parts (is_set (length columns) X) (is_linearly_independent column X) passes in

@@ -18,7 +18,8 @@ use Rattle.mat_gf2.specs.LeadingBits.{xor_cancel}
 use Rattle.mat_gf2.specs.Spans.{InSpan, xor_of-without_one, in_span-from_remainder, remainder-xor, remainder-own, remainder-sum, dependent-with_sum, IsLinearlyIndependent-from_test, test_from-IsLinearlyIndependent, test_with_one}
 
 -- what a test keeps of I are the members of a part of it, where it agrees with membership there
-kept : (p : ℕ → Bool) (I part : List ℕ) → IsRising I → IsRising part → IsSubset part I → ((y : ℕ) → is_member y I ≡ true → p y ≡ is_member y part) → part ≡ filter p I
+kept : (p : ℕ → Bool) (I part : List ℕ) → IsRising I → IsRising part → IsSubset part I
+    → ((y : ℕ) → is_member y I ≡ true → p y ≡ is_member y part) → part ≡ filter p I
 kept p I part r s inside agrees =
     same_members part (filter p I) s (record { rises = RisesFrom-filter p 0 I r.rises }) (λ k. sym (is_member-filter p k I ∙ elim (cases_Bool (is_member k I)) [
       | inl m ↦ rw m (agrees k m)
@@ -29,7 +30,8 @@ module _ (column : ℕ → ℕ) (I : List ℕ) (x : ℕ) (rising : IsRising I) (
   -- something is left of x without a member of the sublist that makes it
   left_without : (C : InSpan column I (column x)) (y : ℕ) → is_member y C.part ≡ true → remainder column (without_one I y) (column x) ≢ 0
   left_without C y h nothing =
-      dependent-with_sum column (without_one I y) I y (grind (arith, set_members)) (in_span-from_remainder column (without_one I y) (column y) of_y) (C.inside.inside y h)
+      dependent-with_sum column (without_one I y) I y (grind (arith, set_members))
+      (in_span-from_remainder column (without_one I y) (column y) of_y) (C.inside.inside y h)
       (without_one-IsSubset I y) (IsLinearlyIndependent-from_test column I passes)
     where
       others : (z : ℕ) → is_member z (without_one C.part y) ≡ true → remainder column (without_one I y) (column z) ≡ 0
@@ -41,7 +43,8 @@ module _ (column : ℕ → ℕ) (I : List ℕ) (x : ℕ) (rising : IsRising I) (
       of_y : remainder column (without_one I y) (column y) ≡ 0
       of_y = sym (xor_zero_r (remainder column (without_one I y) (column y)))
           ∙ ap (bit_xor (remainder column (without_one I y) (column y))) (sym (remainder-sum column (without_one I y) (without_one C.part y) others))
-          ∙ sym (remainder-xor column (without_one I y) (column y) (xor_of column (without_one C.part y))) ∙ ap (remainder column (without_one I y)) (sym made) ∙ nothing
+          ∙ sym (remainder-xor column (without_one I y) (column y) (xor_of column (without_one C.part y)))
+          ∙ ap (remainder column (without_one I y)) (sym made) ∙ nothing
 
   less_one : (y : ℕ) → is_linearly_independent column (without_one I y) ≡ true
   less_one y = test_from-IsLinearlyIndependent column (without_one I y) (IsRising-without_one I y rising)
@@ -51,34 +54,42 @@ module _ (column : ℕ → ℕ) (I : List ℕ) (x : ℕ) (rising : IsRising I) (
       f = IsLinearlyIndependent-from_test column I passes
 
   -- exchanged for y, by what is left of x without y
-  exchanged_left : (y : ℕ) → remainder column (without_one I y) (column x) ≢ 0 → is_linearly_independent column (with_one (without_one I y) x) ≡ true
+  exchanged_left : (y : ℕ) → remainder column (without_one I y) (column x) ≢ 0
+      → is_linearly_independent column (with_one (without_one I y) x) ≡ true
   exchanged_left y some = test_with_one column (without_one I y) x (IsRising-without_one I y rising) (less_one y) some
 
   -- a set that holds x and the sublist that makes it
-  dependent : (Y : List ℕ) → is_member x I ≡ false → (C : InSpan column I (column x)) → IsSubset C.part Y → is_linearly_independent column (with_one Y x) ≡ false
+  dependent : (Y : List ℕ) → is_member x I ≡ false → (C : InSpan column I (column x)) → IsSubset C.part Y
+      → is_linearly_independent column (with_one Y x) ≡ false
   dependent Y outside C within =
       false_from_ne_true _ (λ passed. dependent-with_sum column C.part (with_one Y x) x (false_from_ne_true _ (λ m. both_ways _ outside (C.inside.inside x m)))
-      (record { part = C.part; rising = C.rising; inside = IsSubset-refl C.part; sum = C.sum }) (grind (arith, set_members)) (IsSubset-trans C.part Y (with_one Y x) within (IsSubset-with_one Y x))
+      (record { part = C.part; rising = C.rising; inside = IsSubset-refl C.part; sum = C.sum }) (grind (arith, set_members))
+      (IsSubset-trans C.part Y (with_one Y x) within (IsSubset-with_one Y x))
       (IsLinearlyIndependent-from_test column (with_one Y x) passed))
 
-  exchanged_sum : (y : ℕ) → is_member x I ≡ false → (C : InSpan column I (column x)) → is_linearly_independent column (with_one (without_one I y) x) ≡ is_member y C.part
+  exchanged_sum : (y : ℕ) → is_member x I ≡ false → (C : InSpan column I (column x))
+      → is_linearly_independent column (with_one (without_one I y) x) ≡ is_member y C.part
   exchanged_sum y outside C = elim (cases_Bool (is_member y C.part)) [
     | inl h ↦ exchanged_left y (left_without C y h) ∙ sym h
     | inr h ↦ dependent (without_one I y) outside C (record { inside = λ z m. apart z m h }) ∙ sym h
   ]
     where
       apart : (z : ℕ) → is_member z C.part ≡ true → is_member y C.part ≡ false → is_member z (without_one I y) ≡ true
-      apart z m h = let differ : eqb z y ≡ false = ne_eqb z y (λ q. both_ways _ h (ap (λ w. is_member w C.part) (sym q) ∙ m)) in grind (arith, set_members, C.inside.inside z)
+      apart z m h = let differ : eqb z y ≡ false = ne_eqb z y (λ q. both_ways _ h (ap (λ w. is_member w C.part) (sym q) ∙ m)) in
+          grind (arith, set_members, C.inside.inside z)
 
 -- without a member of I, less is left to reduce x by
-left_with_less : (column : ℕ → ℕ) (I : List ℕ) (x y : ℕ) → IsRising I → is_linearly_independent column I ≡ true → is_member x I ≡ false → remainder column I (column x) ≢ 0
+left_with_less : (column : ℕ → ℕ) (I : List ℕ) (x y : ℕ) → IsRising I → is_linearly_independent column I ≡ true
+    → is_member x I ≡ false → remainder column I (column x) ≢ 0
     → remainder column (without_one I y) (column x) ≢ 0
 left_with_less column I x y rising passes outside some nothing =
-    dependent-with_sum column (without_one I y) (with_one I x) x (grind (arith, set_members)) (in_span-from_remainder column (without_one I y) (column x) nothing) (grind (arith, set_members))
+    dependent-with_sum column (without_one I y) (with_one I x) x (grind (arith, set_members))
+    (in_span-from_remainder column (without_one I y) (column x) nothing) (grind (arith, set_members))
     (IsSubset-trans (without_one I y) I (with_one I x) (without_one-IsSubset I y) (IsSubset-with_one I x))
     (IsLinearlyIndependent-from_test column (with_one I x) (test_with_one column I x rising passes some))
 
-module _ (n : ℕ) (column : ℕ → ℕ) (I : List ℕ) (x : ℕ) (passes : is_gf2 n column I ≡ true) (small : x < n) (outside : is_member x I ≡ false) (row : Exchange) where
+module _ (n : ℕ) (column : ℕ → ℕ) (I : List ℕ) (x : ℕ) (passes : is_gf2 n column I ≡ true) (small : x < n)
+    (outside : is_member x I ≡ false) (row : Exchange) where
   set : IsSet n I
   set = IsSet-from_test n I (and_parts (is_set n I) (is_linearly_independent column I) passes).0
 

@@ -25,10 +25,12 @@ marked_from-next : (tag : ℕ) (X : List ℕ) (place : ℕ) → place < length X
 unfolding marked_from
 marked_from-next tag X place l =
     ap (marked_from place tag) (drop_more X place 0 l)
-    ∙ ap (λ i. cond (eqb (bit_at tag place) 1) (get_or X place 0 ∷ marked_from i tag (drop (place + 1) X)) (marked_from i tag (drop (place + 1) X))) (sym (add-one place))
+    ∙ ap (λ i. cond (eqb (bit_at tag place) 1) (get_or X place 0 ∷ marked_from i tag (drop (place + 1) X)) (marked_from i tag (drop (place + 1) X)))
+    (sym (add-one place))
 
 -- a marked member is added
-pub IsMarking-found : (tag : ℕ) (X : List ℕ) (place y : ℕ) (members : List ℕ) → place < length X → y ≡ get_or X place 0 → bit_and (tag / 2 ^ place) 1 ≡ 1
+pub IsMarking-found : (tag : ℕ) (X : List ℕ) (place y : ℕ) (members : List ℕ) → place < length X → y ≡ get_or X place 0
+    → bit_and (tag / 2 ^ place) 1 ≡ 1
     → IsMarking tag X place members → IsMarking tag X (place + 1) (with_one members y)
 IsMarking-found tag X place y members l at set h = record {
   rising = IsRising-with_one members y h.rising;
@@ -40,7 +42,8 @@ IsMarking-found tag X place y members l at set h = record {
     rest = marked_from (place + 1) tag (drop (place + 1) X)
 
     next : marked_from place tag (drop place X) ≡ y ∷ rest
-    next = marked_from-next tag X place l ∙ ap (λ b. cond b (get_or X place 0 ∷ rest) rest) (eq-eqb _ 1 (sym (shr_and_one tag place) ∙ set)) ∙ ap (λ z. z ∷ rest) (sym at)
+    next = marked_from-next tag X place l ∙ ap (λ b. cond b (get_or X place 0 ∷ rest) rest) (eq-eqb _ 1 (sym (shr_and_one tag place) ∙ set))
+        ∙ ap (λ z. z ∷ rest) (sym at)
 
     swap : (a b d : Bool) → ((a || b) || d) ≡ (b || (a || d))
     swap true true d = refl
@@ -61,7 +64,8 @@ IsMarking-passed tag X place members l clear h = record {
     next : marked_from place tag (drop place X) ≡ rest
     next = marked_from-next tag X place l ∙ ap (λ b. cond b (get_or X place 0 ∷ rest) rest) (ne_eqb _ 1 (λ q. clear (shr_and_one tag place ∙ q)))
 
-pub IsMarking-end : (tag : ℕ) (X : List ℕ) (place : ℕ) (members : List ℕ) → IsRising X → length X ≤ place → IsMarking tag X place members → members ≡ marked tag X
+pub IsMarking-end : (tag : ℕ) (X : List ℕ) (place : ℕ) (members : List ℕ) → IsRising X → length X ≤ place
+    → IsMarking tag X place members → members ≡ marked tag X
 unfolding marked_from
 IsMarking-end tag X place members rising l h =
     same_members members (marked tag X) h.rising (IsRising-marked tag X rising)

@@ -1,6 +1,6 @@
 -- Elimination with tags. The exclusive-or of the columns that a tag marks is linear in the tag, and one bit marks one member; so what is left of a
 -- column differs from it by the sum that its tag marks.
-use Rattle.std.proofs.Common.{◌≡◌, ℕ, suc, zero, ◌+◌, ◌-◌, ◌*◌, ◌^◌, ◌%◌, ◌<◌, ◌≤◌, Bool, true, false, cond, eqb, ltb, List, [], ◌∷◌, ◌++◌, length, get_or, ◌⊎◌, inl, inr, refl, sym, ap, ◌∙◌, arith}
+use Rattle.std.proofs.Common.{◌≡◌, ℕ, suc, zero, ◌+◌, ◌*◌, ◌^◌, ◌%◌, ◌<◌, ◌≤◌, Bool, true, false, cond, eqb, ltb, List, [], ◌∷◌, ◌++◌, length, get_or, ◌⊎◌, inl, inr, refl, sym, ap, ◌∙◌, arith}
 use Rattle.std.proofs.lemmas.Bool.{cases_Bool, or_cases, or_left, or_right}
 use Rattle.std.proofs.lemmas.Nat.{xor_comm}
 use Rattle.std.proofs.lemmas.Nat.Bits.{bit_at_xor, bit_at-zero, bit_at-pow_same, bit_at-pow_other}
@@ -14,7 +14,6 @@ use Rattle.mat_gf2.specs.declared.elimination.TaggedColumn.{TaggedColumn}
 use Rattle.mat_gf2.specs.Columns.{xor_of, reduced, remainder}
 use Rattle.mat_gf2.specs.LeadingBits.{bit_cases, xor_both}
 use Rattle.mat_gf2.specs.TaggedColumns.{marked_from, marked, reduced_tagged, reduced_tagged_by, IsTaggedBasis}
-use Rattle.mat_gf2.proofs.Eliminating.{last, last-none, last-next}
 
 -- ---- what a tag marks
 
@@ -58,7 +57,8 @@ module _ (column : ℕ → ℕ) where
   sum_from : ℕ → List ℕ → ℕ → ℕ
   sum_from i X tag = xor_of column (marked_from i tag X)
 
-  sum_from-cons : (i x tag : ℕ) (X : List ℕ) → sum_from i (x ∷ X) tag ≡ cond (eqb (bit_at tag i) 1) (bit_xor (column x) (sum_from (suc i) X tag)) (sum_from (suc i) X tag)
+  sum_from-cons : (i x tag : ℕ) (X : List ℕ)
+      → sum_from i (x ∷ X) tag ≡ cond (eqb (bit_at tag i) 1) (bit_xor (column x) (sum_from (suc i) X tag)) (sum_from (suc i) X tag)
   unfolding sum_from marked_from
   sum_from-cons i x tag X = over (eqb (bit_at tag i) 1) (marked_from (suc i) tag X)
     where
@@ -82,12 +82,16 @@ module _ (column : ℕ → ℕ) where
       both : (c s t : ℕ) → bit_xor (bit_xor c s) (bit_xor c t) ≡ bit_xor s t
       both c s t = ap (λ z. bit_xor z (bit_xor c t)) (xor_comm c s) ∙ ap (bit_xor (bit_xor s c)) (xor_comm c t) ∙ xor_both s t c
 
+      at : (p q r a b : ℕ) → r ≡ (p + q) % 2 → p ≡ a → q ≡ b → r ≡ (a + b) % 2
+      at p q r a b e hp hq = e ∙ ap (λ k. (k + q) % 2) hp ∙ ap (λ k. (a + k) % 2) hq
+
       cases : (p q r s t : ℕ) → r ≡ (p + q) % 2 → (p ≡ 1) ⊎ (p ≡ 0) → (q ≡ 1) ⊎ (q ≡ 0)
-          → cond (eqb r 1) (bit_xor (column x) (bit_xor s t)) (bit_xor s t) ≡ bit_xor (cond (eqb p 1) (bit_xor (column x) s) s) (cond (eqb q 1) (bit_xor (column x) t) t)
-      cases p q r s t e (inl hp) (inl hq) = let z : r ≡ 0 = e ∙ ap (λ k. (k + q) % 2) hp ∙ ap (λ k. (1 + k) % 2) hq in rw (z, hp, hq) (sym (both (column x) s t))
-      cases p q r s t e (inl hp) (inr hq) = let z : r ≡ 1 = e ∙ ap (λ k. (k + q) % 2) hp ∙ ap (λ k. (1 + k) % 2) hq in rw (z, hp, hq) (sym (xor_assoc (column x) s t))
-      cases p q r s t e (inr hp) (inl hq) = let z : r ≡ 1 = e ∙ ap (λ k. (k + q) % 2) hp ∙ ap (λ k. (0 + k) % 2) hq in rw (z, hp, hq) (swap (column x) s t)
-      cases p q r s t e (inr hp) (inr hq) = let z : r ≡ 0 = e ∙ ap (λ k. (k + q) % 2) hp ∙ ap (λ k. (0 + k) % 2) hq in rw (z, hp, hq) refl
+          → cond (eqb r 1) (bit_xor (column x) (bit_xor s t)) (bit_xor s t)
+          ≡ bit_xor (cond (eqb p 1) (bit_xor (column x) s) s) (cond (eqb q 1) (bit_xor (column x) t) t)
+      cases p q r s t e (inl hp) (inl hq) = let z : r ≡ 0 = at p q r 1 1 e hp hq in rw (z, hp, hq) (sym (both (column x) s t))
+      cases p q r s t e (inl hp) (inr hq) = let z : r ≡ 1 = at p q r 1 0 e hp hq in rw (z, hp, hq) (sym (xor_assoc (column x) s t))
+      cases p q r s t e (inr hp) (inl hq) = let z : r ≡ 1 = at p q r 0 1 e hp hq in rw (z, hp, hq) (swap (column x) s t)
+      cases p q r s t e (inr hp) (inr hq) = let z : r ≡ 0 = at p q r 0 0 e hp hq in rw (z, hp, hq) refl
 
   sum_from-one : (i p q : ℕ) (X : List ℕ) → q ≡ i + p → p < length X → sum_from i X (2 ^ q) ≡ column (get_or X p 0)
   unfolding sum_from
@@ -96,7 +100,8 @@ module _ (column : ℕ → ℕ) where
       let same : q ≡ i = omega arith in
       let set : bit_at (2 ^ q) i ≡ 1 = ap (bit_at (2 ^ q)) (sym same) ∙ bit_at-pow_same q in
       sum_from-cons i x (2 ^ q) X ∙ ap (λ b. cond (eqb b 1) (bit_xor (column x) (sum_from (suc i) X (2 ^ q))) (sum_from (suc i) X (2 ^ q))) set
-      ∙ ap (λ P. bit_xor (column x) (xor_of column P)) (marked_from-none (suc i) (2 ^ q) X (λ k m. bit_at-pow_other q k (λ z. absurd (omega arith)))) ∙ xor_zero_r (column x)
+      ∙ ap (λ P. bit_xor (column x) (xor_of column P)) (marked_from-none (suc i) (2 ^ q) X (λ k m. bit_at-pow_other q k (λ z. absurd (omega arith))))
+      ∙ xor_zero_r (column x)
   sum_from-one i (suc p) q (x ∷ X) e l =
       let clear : bit_at (2 ^ q) i ≡ 0 = bit_at-pow_other q i (λ z. absurd (omega arith)) in
       sum_from-cons i x (2 ^ q) X ∙ ap (λ b. cond (eqb b 1) (bit_xor (column x) (sum_from (suc i) X (2 ^ q))) (sum_from (suc i) X (2 ^ q))) clear
@@ -131,38 +136,41 @@ reduced_tagged-sum column X v b right = elim (cases_Bool (ltb (bit_xor v.column 
   where
     four : (a c d f : ℕ) → bit_xor (bit_xor a c) (bit_xor d f) ≡ bit_xor (bit_xor a d) (bit_xor c f)
     four a c d f =
-        xor_assoc a c (bit_xor d f) ∙ ap (bit_xor a) (sym (xor_assoc c d f) ∙ ap (λ z. bit_xor z f) (xor_comm c d) ∙ xor_assoc d c f) ∙ sym (xor_assoc a d (bit_xor c f))
+        xor_assoc a c (bit_xor d f) ∙ ap (bit_xor a) (sym (xor_assoc c d f) ∙ ap (λ z. bit_xor z f) (xor_comm c d) ∙ xor_assoc d c f)
+        ∙ sym (xor_assoc a d (bit_xor c f))
 
-reduced_tagged_by-more : (basis : List TaggedColumn) (b v : TaggedColumn) → reduced_tagged_by (basis ++ b ∷ []) v ≡ reduced_tagged (reduced_tagged_by basis v) b
+reduced_tagged_by-more : (basis : List TaggedColumn) (b v : TaggedColumn)
+    → reduced_tagged_by (basis ++ b ∷ []) v ≡ reduced_tagged (reduced_tagged_by basis v) b
 reduced_tagged_by-more [] b v = refl
 reduced_tagged_by-more (a ∷ basis) b v = reduced_tagged_by-more basis b (reduced_tagged v a)
 
-pub IsTaggedBasis-start : (column : ℕ → ℕ) (X : List ℕ) → IsTaggedBasis column X (last 0 X) []
+pub IsTaggedBasis-start : (column : ℕ → ℕ) (X : List ℕ) → IsTaggedBasis column X [] []
 unfolding remainder
-IsTaggedBasis-start column X = record { reduces = λ v. sym (ap (λ Y. remainder column Y v.column) (last-none X)); tags = λ v. refl }
+IsTaggedBasis-start column X = record { reduces = λ v. refl; tags = λ v. refl }
 
--- one more column: what is left of the next member's
-pub IsTaggedBasis-more : (column : ℕ → ℕ) (X : List ℕ) (i e : ℕ) (basis : List TaggedColumn) (new left : TaggedColumn) → i < length X → e ≡ get_or X (length X - 1 - i) 0
-    → new.column ≡ column e → new.tag ≡ 2 ^ (length X - 1 - i) → left ≡ reduced_tagged_by basis new → IsTaggedBasis column X (last i X) basis → IsTaggedBasis column X (last (i + 1) X) (basis ++ left ∷ [])
+-- one more column: what is left of the column of e, which the tag of one bit marks
+pub IsTaggedBasis-more : (column : ℕ → ℕ) (X Y : List ℕ) (e : ℕ) (basis : List TaggedColumn) (new left : TaggedColumn)
+    → new.column ≡ column e → xor_of column (marked new.tag X) ≡ column e → left ≡ reduced_tagged_by basis new
+    → IsTaggedBasis column X Y basis → IsTaggedBasis column X (e ∷ Y) (basis ++ left ∷ [])
 unfolding remainder
-IsTaggedBasis-more column X i e basis new left l next own one told h =
-    let Y = last i X in
-    let sum : xor_of column (marked new.tag X) ≡ new.column =
-    ap (λ t. xor_of column (marked t X)) one ∙ marked-one column (length X - 1 - i) X (omega arith) ∙ ap column (sym next) ∙ sym own in
+IsTaggedBasis-more column X Y e basis new left own one told h =
     let right : bit_xor (xor_of column (marked left.tag X)) left.column ≡ 0 =
-    ap (λ u. bit_xor (xor_of column (marked u.tag X)) u.column) told ∙ h.tags new ∙ ap (λ z. bit_xor z new.column) sum ∙ xor_self new.column in
+    ap (λ u. bit_xor (xor_of column (marked u.tag X)) u.column) told ∙ h.tags new ∙ ap (λ z. bit_xor z new.column) (one ∙ sym own)
+    ∙ xor_self new.column in
     let rest : left.column ≡ remainder column Y (column e) = ap (λ u. u.column) told ∙ h.reduces new ∙ ap (remainder column Y) own in
     record {
       reduces = λ v. ap (λ u. u.column) (reduced_tagged_by-more basis left v) ∙ reduced_tagged-column (reduced_tagged_by basis v) left
-          ∙ ap (λ z. reduced z left.column) (h.reduces v) ∙ ap (reduced (remainder column Y v.column)) rest ∙ sym (ap (λ Z. remainder column Z v.column) (last-next X i e l next));
+          ∙ ap (λ z. reduced z left.column) (h.reduces v) ∙ ap (reduced (remainder column Y v.column)) rest;
       tags = λ v. ap (λ u. bit_xor (xor_of column (marked u.tag X)) u.column) (reduced_tagged_by-more basis left v)
           ∙ reduced_tagged-sum column X (reduced_tagged_by basis v) left right ∙ h.tags v;
     }
 
--- the tag of one bit, as the code makes it
-pub one_bit : (count length' i : ℕ) → count ≡ length' → length' ≤ 128 → i < count → 1 * 2 ^ (count - 1 - i) % 2 ^ 128 ≡ 2 ^ (length' - 1 - i)
-one_bit count length' i same few l =
-    let small : count - 1 - i < 128 = omega arith in
-    let less : 2 ^ (count - 1 - i) < 2 ^ 128 = pow-lt small in
-    let one : 1 * 2 ^ (count - 1 - i) ≡ 2 ^ (count - 1 - i) = omega arith in
-    ap (λ k. k % 2 ^ 128) one ∙ mod-eq_of_lt less ∙ ap (λ k. 2 ^ (k - 1 - i)) same
+-- the tag of one bit, as it is made in 128 bits, marks the member at its place
+pub marked-one_bit : (column : ℕ → ℕ) (X : List ℕ) (p e : ℕ) → p < length X → length X ≤ 128 → e ≡ get_or X p 0
+    → xor_of column (marked (1 * 2 ^ p % 2 ^ 128) X) ≡ column e
+marked-one_bit column X p e l few at =
+    let small : p < 128 = omega arith in
+    let less : 2 ^ p < 2 ^ 128 = pow-lt small in
+    let one : 1 * 2 ^ p ≡ 2 ^ p = omega arith in
+    ap (λ k. xor_of column (marked (k % 2 ^ 128) X)) one ∙ ap (λ k. xor_of column (marked k X)) (mod-eq_of_lt less) ∙ marked-one column p X l
+    ∙ ap column (sym at)

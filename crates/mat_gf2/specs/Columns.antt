@@ -14,7 +14,7 @@ xor_of column (x ∷ X) = bit_xor (column x) (xor_of column X)
 pub record IsLinearlyIndependent (column : ℕ → ℕ) (X : List ℕ) : Type 0 where
   pub nonzero : (s : List ℕ) → IsRising s → IsSubset s X → s ≢ [] → xor_of column s ≢ 0
 
--- v reduced by b: the smaller of v and v + b, so that the highest bit of b is not set in it
+-- v reduced by b: the smaller of v and v + b, in which the highest bit of b is clear
 abbrev pub reduced : ℕ → ℕ → ℕ
 reduced v b = if nat_lt (bit_xor v b) v then bit_xor v b else v
 
@@ -23,7 +23,7 @@ unfoldable pub remainder : (ℕ → ℕ) → List ℕ → ℕ → ℕ
 remainder column [] v = v
 remainder column (e ∷ X) v = reduced (remainder column X v) (remainder column X (column e))
 
--- whether something is left of each column of X by elimination with the columns after it
+-- whether elimination with the columns after it leaves something of each column of X
 unfoldable pub is_linearly_independent : (ℕ → ℕ) → List ℕ → Bool
 is_linearly_independent column [] = true
 is_linearly_independent column (e ∷ X) = is_linearly_independent column X && not (remainder column X (column e) == 0)
@@ -37,7 +37,7 @@ pub record BinaryMatrix : Type 0 where
   pub dim : ℕ
   pub columns : List ℕ
 
--- a column has from 1 to 128 entries, and the columns are numbered by 32 bits
+-- a column has from 1 to 128 entries, its bits, and there are fewer than 2^32 columns
 pub record IsBinaryMatrix (dim : ℕ) (columns : List ℕ) : Type 0 where
   pub some : 1 ≤ dim
   pub most : dim ≤ 128

@@ -31,7 +31,8 @@ nothing_left column I e h = elim (cases_Bool (is_member e I)) [
     none : (a b : Bool) → (not a && not b) ≡ false → a ≡ false → b ≡ true
     none a b h k = grind (arith, nat_tests)
 
-gf2_augments : (n : ℕ) (column : ℕ → ℕ) (I J : List ℕ) → is_gf2 n column I ≡ true → is_gf2 n column J ≡ true → length I < length J → Augments (is_gf2 n column) I J
+gf2_augments : (n : ℕ) (column : ℕ → ℕ) (I J : List ℕ) → is_gf2 n column I ≡ true → is_gf2 n column J ≡ true → length I < length J
+    → Augments (is_gf2 n column) I J
 gf2_augments n column I J i j less =
     let a = and_parts (is_set n I) (is_linearly_independent column I) i in
     let b = and_parts (is_set n J) (is_linearly_independent column J) j in

@@ -72,13 +72,15 @@ module _ (column : ℕ → ℕ) where
       rw s (length-with_one (pivots X) (leading_bit b) (IsRising-pivots X) new ∙ ap suc (length-pivots X a.0))
 
   -- a highest bit that is no pivot is left
-  pub remainder-keeps_leading_bit : (X : List ℕ) (v q : ℕ) → is_member q (pivots X) ≡ false → IsLeadingBit v q → IsLeadingBit (remainder column X v) q
+  pub remainder-keeps_leading_bit : (X : List ℕ) (v q : ℕ) → is_member q (pivots X) ≡ false → IsLeadingBit v q
+      → IsLeadingBit (remainder column X v) q
   unfolding remainder pivots
   remainder-keeps_leading_bit [] v q h t = t
   remainder-keeps_leading_bit (e ∷ X) v q h t = elim (cases_Bool (eqb (remainder column X (column e)) 0)) [
     | inl s ↦ (let k : is_member q (pivots X) ≡ false = rw s at h in
         let kept = remainder-keeps_leading_bit X v q k t in
-        subst (λ z. IsLeadingBit (reduced (remainder column X v) z) q) (sym (eqb-true _ _ s)) (subst (λ z. IsLeadingBit z q) (sym (reduced-by_zero (remainder column X v))) kept))
+        subst (λ z. IsLeadingBit (reduced (remainder column X v) z) q) (sym (eqb-true _ _ s))
+        (subst (λ z. IsLeadingBit z q) (sym (reduced-by_zero (remainder column X v))) kept))
     | inr s ↦ (let b = remainder column X (column e) in
         let k : is_member q (with_one (pivots X) (leading_bit b)) ≡ false = rw s at h in
         let parts = or_parts (eqb q (leading_bit b)) (is_member q (pivots X)) (sym (is_member-with_one q (leading_bit b) (pivots X)) ∙ k) in
@@ -108,7 +110,8 @@ module _ (column : ℕ → ℕ) where
       | inl k ↦ k
       | inr k ↦ absurd (let w = sum_of_pivot J q m in
           let left = remainder-keeps_leading_bit I w.0 q k w.2 in
-          let none : remainder column I w.0 ≡ 0 = ap (remainder column I) (sym w.1.sum) ∙ remainder-sum column I w.1.part (λ x n. h x (w.1.inside.inside x n)) in
+          let none : remainder column I w.0 ≡ 0 =
+          ap (remainder column I) (sym w.1.sum) ∙ remainder-sum column I w.1.part (λ x n. h x (w.1.inside.inside x n)) in
           let set = leading_bit-set (remainder column I w.0) q left in
           let clear = ap (λ z. bit_at z q) none ∙ bit_at-zero q in
           omega arith)

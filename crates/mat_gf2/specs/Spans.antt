@@ -42,7 +42,8 @@ module _ (column : ℕ → ℕ) where
   unfolding with_one
   xor_of-with_one s x h = xor_of-rising_insert x s h
 
-  pub xor_of-without_one : (s : List ℕ) (x : ℕ) → IsRising s → is_member x s ≡ true → xor_of column (without_one s x) ≡ bit_xor (column x) (xor_of column s)
+  pub xor_of-without_one : (s : List ℕ) (x : ℕ) → IsRising s → is_member x s ≡ true
+      → xor_of column (without_one s x) ≡ bit_xor (column x) (xor_of column s)
   xor_of-without_one s x r h =
       let out : is_member x (without_one s x) ≡ false = grind (arith, set_members) in
       sym (xor_cancel (column x) (xor_of column (without_one s x)))
@@ -77,7 +78,8 @@ module _ (column : ℕ → ℕ) where
   in_span-list X [] v h s = subst (InSpan column X) (sym (xor_zero_l v)) s
   in_span-list X (x ∷ t) v h s =
       subst (InSpan column X) (sym (xor_assoc (column x) (xor_of column t) v))
-      (in_span-column X x (bit_xor (xor_of column t) v) (h.inside x (is_member-head x t)) (in_span-list X t v (IsSubset-trans t (x ∷ t) X (tail-IsSubset x t) h) s))
+      (in_span-column X x (bit_xor (xor_of column t) v) (h.inside x (is_member-head x t))
+      (in_span-list X t v (IsSubset-trans t (x ∷ t) X (tail-IsSubset x t) h) s))
 
   pub in_span-xor : (X : List ℕ) (v w : ℕ) → InSpan column X v → InSpan column X w → InSpan column X (bit_xor v w)
   in_span-xor X v w a b = subst (λ z. InSpan column X (bit_xor z w)) a.sum (in_span-list X a.part w a.inside b)
@@ -89,7 +91,8 @@ module _ (column : ℕ → ℕ) where
   unfolding remainder
   remainder-xor [] v w = refl
   remainder-xor (e ∷ X) v w =
-      ap (λ z. reduced z (remainder column X (column e))) (remainder-xor X v w) ∙ reduced-xor (remainder column X v) (remainder column X w) (remainder column X (column e))
+      ap (λ z. reduced z (remainder column X (column e))) (remainder-xor X v w)
+      ∙ reduced-xor (remainder column X v) (remainder column X w) (remainder column X (column e))
 
   pub remainder-zero : (X : List ℕ) → remainder column X 0 ≡ 0
   unfolding remainder
@@ -106,7 +109,8 @@ module _ (column : ℕ → ℕ) where
   ]
 
   -- nor of a sum of columns of which it leaves nothing
-  pub remainder-sum : (X s : List ℕ) → ((x : ℕ) → is_member x s ≡ true → remainder column X (column x) ≡ 0) → remainder column X (xor_of column s) ≡ 0
+  pub remainder-sum : (X s : List ℕ) → ((x : ℕ) → is_member x s ≡ true → remainder column X (column x) ≡ 0)
+      → remainder column X (xor_of column s) ≡ 0
   remainder-sum X [] h = remainder-zero X
   remainder-sum X (x ∷ s) h =
       remainder-xor X (column x) (xor_of column s)

@@ -22,8 +22,9 @@ fn reduce(basis: &[u128], column: u128) -> u128
     left
 }
 
-/// Whether the columns of the set are linearly independent, by one elimination from its last member to its first. The
-/// time is that of one exclusive-or for each two members; of independent columns there are no more than entries.
+/// Whether the columns of the set are linearly independent, by one elimination from its last member to its first: an
+/// exclusive-or for each member and each column of the basis, which are no more than a column has entries. The only
+/// error is want of memory.
 pub(crate) fn are_independent(
     alloc: Global,
     columns: &[u128],
@@ -34,9 +35,8 @@ pub(crate) fn are_independent(
     ensures rises { IfOk result (λ _. IsRising set.now) }
 {
     let mut basis: Vec<u128> = Vec::new(alloc);
-    let count = set.len();
-    for i in 0..count {
-        let left = reduce(&basis, columns[set.get(count - 1 - i) as usize]);
+    for place in (0..set.len()).rev() {
+        let left = reduce(&basis, columns[set.get(place) as usize]);
         if left == 0 {
             return Ok(false);
         }
@@ -45,14 +45,15 @@ pub(crate) fn are_independent(
     Ok(true)
 }
 
-/// A column, and the places of the members of a set of which it is the sum, as the bits of a number.
+/// A column with a tag, whose bits are places of members of a set.
 #[derive(Clone, Copy, Drop)]
 pub(crate) struct TaggedColumn {
     pub(crate) column: u128,
     pub(crate) tag: u128,
 }
 
-/// What is left of a column when it is reduced by each of the basis in turn, with the tag that tells it.
+/// What is left of a column when it is reduced by each of the basis in turn; the tags of those that are added to it are
+/// added to its own.
 pub(crate) fn reduce_tagged(basis: &[TaggedColumn], column: TaggedColumn) -> TaggedColumn
     ensures { result ≡ reduced_tagged_by basis.now column }
 {
@@ -70,7 +71,7 @@ pub(crate) fn reduce_tagged(basis: &[TaggedColumn], column: TaggedColumn) -> Tag
 }
 
 /// A basis of the columns of a set, by one elimination from its last member to its first; each tag marks the members of
-/// which its column is the sum.
+/// which its column is the sum. The only error is want of memory.
 pub(crate) fn tagged_basis(
     alloc: Global,
     columns: &[u128],
@@ -82,9 +83,7 @@ pub(crate) fn tagged_basis(
     ensures rises { IfOk result (λ _. IsRising set.now) }
 {
     let mut basis: Vec<TaggedColumn> = Vec::new(alloc);
-    let count = set.len();
-    for i in 0..count {
-        let place = count - 1 - i;
+    for place in (0..set.len()).rev() {
         let column = TaggedColumn {
             column: columns[set.get(place) as usize],
             tag: 1 << place,
@@ -95,7 +94,7 @@ pub(crate) fn tagged_basis(
     Ok(basis)
 }
 
-/// The members of the set that the tag marks.
+/// The members of the set that the tag marks. The only error is want of memory.
 pub(crate) fn marked_members(alloc: Global, set: &ElemSet, tag: u128) -> Result<ElemSet, AllocError>
     requires { length set.now ≤ 128 }
     ensures members { IfOk result (λ s. s ≡ marked tag set.now) }

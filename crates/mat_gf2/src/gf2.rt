@@ -66,13 +66,15 @@ impl Matroid for Gf2 {
         self.columns.len() as u32
     }
 
+    /// Whether the columns of a set are linearly independent, by one elimination: an exclusive-or for each member and each
+    /// column of the basis, of which there are at most `dim`. The only error is want of memory.
     fn independent(&self, alloc: Global, set: &ElemSet) -> Result<bool, AllocError> {
         are_independent(alloc, &self.columns, set)
     }
 
     /// The exchanges of x: where its column is a sum of columns of the set, it can be exchanged for the members of that
     /// sum alone, and else it can be added, and be exchanged for every member. No question of independence is asked: one
-    /// elimination tells the sum, in the time of one exclusive-or for each two members. The only error is want of memory.
+    /// elimination tells the sum, with an exclusive-or for each two members. The only error is want of memory.
     fn circuit(&self, alloc: Global, base: &ElemSet, x: u32) -> Result<Exchange, AllocError> {
         let basis = tagged_basis(alloc, &self.columns, base)?;
         let column = TaggedColumn {

@@ -1,32 +1,32 @@
-use Rattle.std.proofs.Common.{◌∙◌, ◌+◌, ◌-◌, ◌*◌, ◌^◌, ◌%◌, ◌<◌, sym, ap, subst, refl, length, arith}
+use Rattle.std.proofs.Common.{◌∙◌, ◌-◌, ◌*◌, ◌^◌, ◌%◌, ◌<◌, sym, ap, subst, refl, drop, [], length, arith}
 use Rattle.mat_gf2.specs.declared.elimination.TaggedColumn.{TaggedColumn}
 use Rattle.mat_gf2.specs.Columns.{column_of}
 use Rattle.mat_gf2.specs.TaggedColumns.{reduced_tagged_by, IsTaggedBasis}
-use Rattle.mat_gf2.proofs.Eliminating.{last, last-all, from_end, from_end-below}
-use Rattle.mat_gf2.proofs.Tags.{IsTaggedBasis-start, IsTaggedBasis-more, one_bit}
+use Rattle.mat_gf2.proofs.Eliminating.{drop_length, drop_before, below_before}
+use Rattle.mat_gf2.proofs.Tags.{IsTaggedBasis-start, IsTaggedBasis-more, marked-one_bit}
 use Rattle.mat_gf2.proofs.elimination.tagged_basis.Goals as goal
 
-pub loop-i-init : goal.loop-i-init
-loop-i-init c =
-    let X = c.args.set.now in
-    subst (IsTaggedBasis (column_of c.args.columns.now) X (last 0 X)) (sym c.new-basis.ensures.items) (IsTaggedBasis-start (column_of c.args.columns.now) X)
-
-pub bounds-columns-get : goal.bounds-columns-get
-bounds-columns-get c = from_end-below _ c.args.set.now _ c.loop-i.i c.get.result c.requires.below c.len-count.ensures.count c.get.ensures.item c.loop-i-test.true
-
-pub loop-i-preserved : goal.loop-i-preserved
-loop-i-preserved c =
+pub loop-place-init : goal.loop-place-init
+loop-place-init c =
     let column = column_of c.args.columns.now in
     let X = c.args.set.now in
-    let more : c.loop-i.i < length X = (let count = c.len-count.ensures.count in let test = c.loop-i-test.true in omega arith) in
-    let new : TaggedColumn = record { column = column c.get.result; tag = 1 * 2 ^ (c.len-count.result - 1 - c.loop-i.i) % 2 ^ 128 } in
-    subst (IsTaggedBasis column X (last (c.loop-i.i + 1) X)) (sym c.in_ok-push.ensures.items)
-    (IsTaggedBasis-more column X c.loop-i.i c.get.result c.loop-i.basis.items new c.reduce_tagged-left.result more
-    (from_end X _ _ _ c.len-count.ensures.count c.get.ensures.item) refl (one_bit _ (length X) c.loop-i.i c.len-count.ensures.count c.requires.few c.loop-i-test.true)
-    (c.reduce_tagged-left.ensures ∙ ap (λ basis. reduced_tagged_by basis new) c.deref.ensures.value) c.loop-i.invariant)
+    subst (λ Y. IsTaggedBasis column X Y c.new-basis.result.items) (sym (drop_length X _ c.len-place.ensures.count))
+    (subst (IsTaggedBasis column X []) (sym c.new-basis.ensures.items) (IsTaggedBasis-start column X))
 
-pub returns-clause-basis : goal.returns-clause-basis
-returns-clause-basis c =
+pub bounds-columns-get : goal.bounds-columns-get
+bounds-columns-get c = below_before _ c.args.set.now _ c.loop-place.place c.get.result c.requires.below c.len-place.ensures.count c.loop-place-test.true c.loop-place.auto.place c.get.ensures.item
+
+pub loop-place-preserved : goal.loop-place-preserved
+loop-place-preserved c =
+    let column = column_of c.args.columns.now in
     let X = c.args.set.now in
-    subst (λ Y. IsTaggedBasis (column_of c.args.columns.now) X Y c.loop-i.basis.items)
-    (last-all c.loop-i.i X (let count = c.len-count.ensures.count in let test = c.loop-i-test.false in omega arith)) c.loop-i.invariant
+    let e = c.get.result in
+    let place = c.loop-place.place - 1 in
+    let before = drop_before X _ c.loop-place.place e c.len-place.ensures.count c.loop-place-test.true c.loop-place.auto.place c.get.ensures.item in
+    let inside : place < length X = (let some = c.loop-place-test.true in let most = c.loop-place.auto.place in let count = c.len-place.ensures.count in omega arith) in
+    let new : TaggedColumn = record { column = column e; tag = 1 * 2 ^ place % 2 ^ 128 } in
+    subst (λ Y. IsTaggedBasis column X Y c.push.new.self.items) (sym before)
+    (subst (IsTaggedBasis column X _) (sym c.in_ok-push.ensures.items)
+    (IsTaggedBasis-more column X (drop c.loop-place.place X) e c.loop-place.basis.items new c.reduce_tagged-left.result refl
+    (marked-one_bit column X place e inside c.requires.few c.get.ensures.item)
+    (c.reduce_tagged-left.ensures ∙ ap (λ basis. reduced_tagged_by basis new) c.deref.ensures.value) c.loop-place.invariant))
