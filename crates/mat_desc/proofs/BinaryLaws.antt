@@ -1,12 +1,13 @@
 -- Words of binary digits: the last d digits of a number below 2 ^ d spell it, and a word of d digits has those of the number that it
 -- spells. Both are told of digits that stand behind others, whose number is doubled at each digit.
-use Rattle.std.proofs.Common.{◌≡◌, ℕ, zero, suc, ◌+◌, ◌-◌, ◌*◌, ◌/◌, ◌%◌, ◌^◌, ◌<◌, ◌≤◌, Bool, true, false, ◌&&◌, ◌||◌, eqb, List, [], ◌∷◌, ◌++◌, length, drop, get_or, Ok, refl, sym, ap, ap₂, ◌∙◌, arith}
+use Rattle.std.proofs.Common.{◌≡◌, ℕ, zero, suc, ◌+◌, ◌-◌, ◌*◌, ◌%◌, ◌^◌, ◌<◌, ◌≤◌, Bool, true, false, ◌&&◌, ◌||◌, eqb, refl, sym, ap, ap₂, ◌∙◌, arith}
+use Rattle.std.proofs.Common.{List, [], ◌∷◌, ◌++◌, length, drop, get_or, Ok}
 use Rattle.std.specs.Int.{bit_at}
 use Rattle.std.specs.List.{list_all}
 use Rattle.std.proofs.Math.Nat.{add-mul, mul_assoc, mul_comm, mod-eq_of_lt, pow-succ', pow-le-pow_right}
 use Rattle.std.proofs.lemmas.Bool.{eqb-true, eq-eqb, and_from, and_parts}
 use Rattle.std.proofs.lemmas.List.{append_assoc, append-nil, at_drop_more, at_drop_all}
-use Rattle.std.proofs.lemmas.Nat.{mod-pow-add, mod_below, pow_pos}
+use Rattle.std.proofs.lemmas.Nat.{mod-pow-add, mod_below}
 use Rattle.std.proofs.lemmas.Nat.Bits.{bit_at-lt, bit_at_lowest, bit_at_cat_high}
 use Rattle.mat_words.specs.Words.{is_letter, is_word}
 use Rattle.mat_desc.specs.declared.refusal.DescKind.TheVariants.{NumberSpelling}
@@ -88,23 +89,27 @@ word_spelled (b ∷ word) known =
     let parts = and_parts (eqb b 48 || eqb b 49) (is_binary word) known in
     let digit = digit_small b parts.0 in
     let rest = word_spelled word parts.1 in
+    let low = binary_value 0 word in
     let power : 2 ^ suc (length word) ≡ 2 * 2 ^ length word = pow-succ' 2 (length word) in
     record {
-      below = first_below (b - 48) (2 ^ length word) (2 ^ suc (length word)) (binary_value 0 word) (binary_value (2 * 0 + (b - 48)) word) digit.0 rest.below power (rest.behind (2 * 0 + (b - 48)));
+      below = first_below (b - 48) (2 ^ length word) (2 ^ suc (length word)) low (binary_value (2 * 0 + (b - 48)) word) digit.0 rest.below power (rest.behind (2 * 0 + (b - 48)));
       behind = λ y.
-          first_behind y (b - 48) (2 ^ length word) (2 ^ suc (length word)) (binary_value 0 word) (binary_value (2 * y + (b - 48)) word) (binary_value (2 * 0 + (b - 48)) word)
+          first_behind y (b - 48) (2 ^ length word) (2 ^ suc (length word)) low (binary_value (2 * y + (b - 48)) word) (binary_value (2 * 0 + (b - 48)) word)
           power (rest.behind (2 * y + (b - 48))) (rest.behind (2 * 0 + (b - 48)));
-      digits = λ y. ap₂ (λ (a : ℕ) (t : List ℕ). a ∷ t)
-          (ap (λ z. 48 + bit_at z (length word)) (rest.behind (2 * y + (b - 48))) ∙ ap (λ a. 48 + a) (first_digit y (b - 48) (length word) (binary_value 0 word) digit.0 rest.below) ∙ digit.1)
-          (rest.digits (2 * y + (b - 48)));
+      digits = λ y.
+          let here : bit_at (binary_value (2 * y + (b - 48)) word) (length word) ≡ b - 48 =
+          ap (λ z. bit_at z (length word)) (rest.behind (2 * y + (b - 48))) ∙ first_digit y (b - 48) (length word) low digit.0 rest.below in
+          ap₂ (λ (a : ℕ) (t : List ℕ). a ∷ t) (ap (λ a. 48 + a) here ∙ digit.1) (rest.digits (2 * y + (b - 48)));
     }
   where
+    -- the digit in front is c, behind the digits of y, and its place is worth the power; double is what the place before it is worth
     first_below : (c power double low value : ℕ) → c < 2 → low < power → double ≡ 2 * power → value ≡ (2 * 0 + c) * power + low → value < double
     first_below zero power double low value h lt twice e = omega arith
     first_below (suc zero) power double low value h lt twice e = omega arith
     first_below (suc (suc c)) power double low value h lt twice e = absurd (omega arith)
 
-    first_behind : (y c power double low all own : ℕ) → double ≡ 2 * power → all ≡ (2 * y + c) * power + low → own ≡ (2 * 0 + c) * power + low → all ≡ y * double + own
+    first_behind : (y c power double low all own : ℕ) → double ≡ 2 * power → all ≡ (2 * y + c) * power + low
+        → own ≡ (2 * 0 + c) * power + low → all ≡ y * double + own
     first_behind y c power double low all own twice e f =
         let alone : (2 * 0 + c) * power ≡ c * power = ap (λ t. t * power) (omega arith) in
         rw twice (omega (arith, add-mul (2 * y) c power, doubled y power, alone, e, f))
@@ -119,7 +124,8 @@ word_spelled (b ∷ word) known =
         lowest = omega arith
 
 -- a word of d digits has the digits of the number that it spells
-pub binary-binary_value : (d : ℕ) (word : List ℕ) → length word ≡ d → is_binary word ≡ true → (binary d (binary_value 0 word) ≡ word) × (binary_value 0 word < 2 ^ d)
+pub binary-binary_value : (d : ℕ) (word : List ℕ) → length word ≡ d → is_binary word ≡ true
+    → (binary d (binary_value 0 word) ≡ word) × (binary_value 0 word < 2 ^ d)
 binary-binary_value d word long known =
     let spelled = word_spelled word known in
     (ap (λ k. binary k (binary_value 0 word)) (sym long) ∙ spelled.digits 0, rw (← long) spelled.below)
@@ -138,15 +144,20 @@ binary_found d w z q e = from w.words refl e
     from : (words : List (List ℕ)) → w.words ≡ words → binary_from d w.line words ≡ Ok (z, q) → IsBinaryRead d w z q
     from [] is h = absurd cc
     from (v ∷ vs) is h =
-        let test = test_found (eqb (length v) d && is_binary v) (NumberSpelling, w.line) (Ok (binary_value 0 v, record { line = w.line; words = vs })) (z, q) h in
-        let same = found-same (binary_value 0 v, record { line = w.line; words = vs }) (z, q) test.1 in
+        let read : ℕ × WordsLeft = (binary_value 0 v, record { line = w.line; words = vs }) in
+        let test = test_found (eqb (length v) d && is_binary v) (NumberSpelling, w.line) (Ok read) (z, q) h in
+        let same = found-same read (z, q) test.1 in
         let parts = and_parts (eqb (length v) d) (is_binary v) test.0 in
         let laws = binary-binary_value d v (eqb-true (length v) d parts.0) parts.1 in
         let value : binary_value 0 v ≡ z = ap (λ (p : ℕ × WordsLeft). p.0) same in
         let rest : vs ≡ q.words = ap (λ (p : ℕ × WordsLeft). p.1.words) same in
-        record { cut = is ∙ ap₂ (λ (a : List ℕ) (t : List (List ℕ)). a ∷ t) (sym laws.0 ∙ ap (binary d) value) rest; below = rw (← value) laws.1 }
+        record {
+          cut = is ∙ ap₂ (λ (a : List ℕ) (t : List (List ℕ)). a ∷ t) (sym laws.0 ∙ ap (binary d) value) rest;
+          below = rw (← value) laws.1;
+        }
 
-pub binary_again : (d n z : ℕ) (words : List (List ℕ)) → z < 2 ^ d → binary_at d (record { line = n; words = binary d z ∷ words }) ≡ Ok (z, record { line = n; words = words })
+pub binary_again : (d n z : ℕ) (words : List (List ℕ)) → z < 2 ^ d
+    → binary_at d (record { line = n; words = binary d z ∷ words }) ≡ Ok (z, record { line = n; words = words })
 unfolding binary_at
 binary_again d n z words below =
     let test : (eqb (length (binary d z)) d && is_binary (binary d z)) ≡ true = and_from _ _ (eq-eqb _ _ (length-binary d z)) (is_binary-binary d z) in
@@ -160,10 +171,13 @@ pub record IsReadSoFar (word : List ℕ) (i value : ℕ) : Type 0 where
   pub spelled : binary_value value (drop i word) ≡ binary_value 0 word
   pub below : value < 2 ^ i
 
+-- no digit was read
 pub read_none : (word : List ℕ) → IsReadSoFar word 0 0
 read_none word = record { known = refl; spelled = refl; below = omega arith }
 
-pub read_more : (word : List ℕ) (i value : ℕ) → i < length word → (eqb (get_or word i 0) 48 || eqb (get_or word i 0) 49) ≡ true → IsReadSoFar word i value → IsReadSoFar word (i + 1) (2 * value + (get_or word i 0 - 48))
+-- one more digit was read
+pub read_more : (word : List ℕ) (i value : ℕ) → i < length word → (eqb (get_or word i 0) 48 || eqb (get_or word i 0) 49) ≡ true
+    → IsReadSoFar word i value → IsReadSoFar word (i + 1) (2 * value + (get_or word i 0 - 48))
 read_more word i value lt digit so_far =
     let power : 2 ^ (i + 1) ≡ 2 * 2 ^ i = ap (λ k. 2 ^ k) (omega arith) ∙ pow-succ' 2 i in
     record {
@@ -172,10 +186,13 @@ read_more word i value lt digit so_far =
       below = omega (arith, (digit_small (get_or word i 0) digit).0, power, so_far.below);
     }
 
-pub read_refused : (word : List ℕ) (i value : ℕ) → i < length word → (eqb (get_or word i 0) 48 || eqb (get_or word i 0) 49) ≡ false → IsReadSoFar word i value → is_binary word ≡ false
+-- a byte that is no digit
+pub read_refused : (word : List ℕ) (i value : ℕ) → i < length word → (eqb (get_or word i 0) 48 || eqb (get_or word i 0) 49) ≡ false
+    → IsReadSoFar word i value → is_binary word ≡ false
 read_refused word i value lt refused so_far =
     sym so_far.known ∙ at_drop_more is_binary word i 0 lt ∙ ap (λ (t : Bool). t && is_binary (drop (i + 1) word)) refused
 
+-- all digits were read
 pub read_done : (word : List ℕ) (i value : ℕ) → length word ≤ i → IsReadSoFar word i value → (is_binary word ≡ true) × (value ≡ binary_value 0 word)
 read_done word i value done so_far =
     (sym so_far.known ∙ at_drop_all is_binary word i done, sym (at_drop_all (binary_value value) word i done) ∙ so_far.spelled)
@@ -187,7 +204,8 @@ digit_fits i value b lt below digit =
     omega (arith, room, (digit_small b digit).0)
 
 -- one more digit was written
-pub digit_written : (out : List ℕ) (place z : ℕ) (total : List ℕ) → 0 < place → out ++ binary place z ≡ total → (out ++ (48 + bit_at z (place - 1)) ∷ []) ++ binary (place - 1) z ≡ total
+pub digit_written : (out : List ℕ) (place z : ℕ) (total : List ℕ) → 0 < place → out ++ binary place z ≡ total
+    → (out ++ (48 + bit_at z (place - 1)) ∷ []) ++ binary (place - 1) z ≡ total
 digit_written out zero z total some so_far = absurd (omega arith)
 digit_written out (suc place) z total some so_far =
     let before : suc place - 1 ≡ place = omega arith in

@@ -110,7 +110,8 @@ pub IsGraph-pairs : (v : ℕ) (edges : List (ℕ × ℕ)) → length edges < 2 ^
 IsGraph-pairs v edges few each = record { first = λ e lt. (each e (0, 0) lt).0; second = λ e lt. (each e (0, 0) lt).1; few = few }
 
 -- edges that are read meet the conditions of a graphic matroid
-pub edges_sound : (v many : ℕ) (p : LinesLeft) (edges : List (ℕ × ℕ)) (q : LinesLeft) → many < 2 ^ 32 → repeat_at (edge_at v) many p ≡ Ok (edges, q) → IsGraph v edges
+pub edges_sound : (v many : ℕ) (p : LinesLeft) (edges : List (ℕ × ℕ)) (q : LinesLeft) → many < 2 ^ 32
+    → repeat_at (edge_at v) many p ≡ Ok (edges, q) → IsGraph v edges
 edges_sound v many p edges q few e =
     let read = items_found (edge_at v) edge_line (IsPair v v) (edge_found v) many p edges q e in
     IsGraph-pairs v edges (omega (arith, read.count, few)) read.each
@@ -119,7 +120,8 @@ edges_sound v many p edges q few e =
 abbrev pub IsColumn : ℕ → ℕ → Type 0
 IsColumn dim column = column < 2 ^ dim
 
-pub column_found : (dim : ℕ) (p : LinesLeft) (column : ℕ) (q : LinesLeft) → column_at dim p ≡ Ok (column, q) → IsItemRead (column_line dim) (IsColumn dim) p column q
+pub column_found : (dim : ℕ) (p : LinesLeft) (column : ℕ) (q : LinesLeft) → column_at dim p ≡ Ok (column, q)
+    → IsItemRead (column_line dim) (IsColumn dim) p column q
 unfolding column_at
 column_found dim p column q e =
     let line = bind_found (keyed_at (codes "column") p) (λ line. binary_at dim line.0 >>= λ column. ended_at column.1 >>= λ end. Ok (column.0, line.1)) (column, q) e in
@@ -128,23 +130,29 @@ column_found dim p column q e =
     let same = found-same (word.0.0, line.0.1) (column, q) end.2 in
     let read = binary_found dim line.0.0 word.0.0 word.0.1 word.1 in
     let last = ended_found word.0.1 end.0 end.1 in
+    let words : line.0.0.words ≡ binary dim word.0.0 ∷ [] = cut_then (binary dim word.0.0) line.0.0.words word.0.1.words [] read.cut last in
     subst (λ (r : ℕ × LinesLeft). IsItemRead (column_line dim) (IsColumn dim) p r.0 r.1) same (record {
       valid = read.below;
-      spelled = λ rest left. subst (λ (ws : Line). AreLeft ((codes "column" ∷ ws) ∷ rest) p) (cut_then (binary dim word.0.0) line.0.0.words word.0.1.words [] read.cut last) (keyed_found (codes "column") p line.0.0 line.0.1 line.1 rest left);
+      spelled = λ rest left.
+          subst (λ (ws : Line). AreLeft ((codes "column" ∷ ws) ∷ rest) p) words (keyed_found (codes "column") p line.0.0 line.0.1 line.1 rest left);
     })
 
-pub column_again : (dim : ℕ) → 1 ≤ dim → (p : LinesLeft) (column : ℕ) (rest : List Line) → IsColumn dim column → AreLeft (column_line dim column ∷ rest) p → (q : LinesLeft) × (column_at dim p ≡ Ok (column, q)) × AreLeft rest q
+pub column_again : (dim : ℕ) → 1 ≤ dim → (p : LinesLeft) (column : ℕ) (rest : List Line) → IsColumn dim column
+    → AreLeft (column_line dim column ∷ rest) p → (q : LinesLeft) × (column_at dim p ≡ Ok (column, q)) × AreLeft rest q
 unfolding column_at
 column_again dim some p column rest valid left =
-    let line = keyed_again (codes "column") p (binary dim column ∷ []) rest refl (and_from (is_word (binary dim column)) true (binary_word dim column some) refl) left in
+    let word : list_all is_word (binary dim column ∷ []) ≡ true = and_from (is_word (binary dim column)) true (binary_word dim column some) refl in
+    let line = keyed_again (codes "column") p (binary dim column ∷ []) rest refl word left in
     (line.0, rw (line.1, binary_again dim p.line column [] valid, ended_again p.line) refl, line.2)
 
 -- columns of so many entries are those of a matrix
-pub IsBinaryMatrix-columns : (dim : ℕ) (columns : List ℕ) → 1 ≤ dim → dim ≤ 128 → length columns < 2 ^ 32 → All (IsColumn dim) columns → IsBinaryMatrix dim columns
+pub IsBinaryMatrix-columns : (dim : ℕ) (columns : List ℕ) → 1 ≤ dim → dim ≤ 128 → length columns < 2 ^ 32
+    → All (IsColumn dim) columns → IsBinaryMatrix dim columns
 IsBinaryMatrix-columns dim columns some most few each = record { some = some; most = most; below = λ e lt. each e 0 lt; few = few }
 
 -- columns that are read meet the conditions of a matroid of columns
-pub columns_sound : (dim many : ℕ) (p : LinesLeft) (columns : List ℕ) (q : LinesLeft) → 1 ≤ dim → dim < 129 → many < 2 ^ 32 → repeat_at (column_at dim) many p ≡ Ok (columns, q) → IsBinaryMatrix dim columns
+pub columns_sound : (dim many : ℕ) (p : LinesLeft) (columns : List ℕ) (q : LinesLeft) → 1 ≤ dim → dim < 129 → many < 2 ^ 32
+    → repeat_at (column_at dim) many p ≡ Ok (columns, q) → IsBinaryMatrix dim columns
 columns_sound dim many p columns q some most few e =
     let read = items_found (column_at dim) (column_line dim) (IsColumn dim) (column_found dim) many p columns q e in
     IsBinaryMatrix-columns dim columns some (omega arith) (omega (arith, read.count, few)) read.each

@@ -134,7 +134,7 @@ fn put_matroid(out: &mut Vec<u8>, matroid: &AnyMatroid) -> Result<(), AllocError
         AnyMatroid::Uniform(uniform) => put_line(out, b"uniform", &[i128::from(uniform.cap())]),
         AnyMatroid::Partition(partition) => put_partition(out, partition),
         AnyMatroid::Graphic(graphic) => put_graphic(out, graphic),
-        AnyMatroid::Gf2(columns) => put_gf2(out, columns),
+        AnyMatroid::Gf2(gf2) => put_gf2(out, gf2),
     }
 }
 
