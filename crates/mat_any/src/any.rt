@@ -4,6 +4,8 @@ ghost use Rattle.mat_any.specs.TreeLaws.{tree_laws};
 ghost use Rattle.mat_any.specs.Views.{tree_of};
 
 use mat_count::{Partition, Uniform};
+use mat_gf2::Gf2;
+use mat_graphic::Graphic;
 use mat_laws::{Exchange, Matroid};
 use mat_sets::ElemSet;
 use std::alloc::{AllocError, Global};
@@ -13,6 +15,8 @@ use std::alloc::{AllocError, Global};
 pub enum AnyMatroid {
     Uniform(Uniform),
     Partition(Partition),
+    Graphic(Graphic),
+    Gf2(Gf2),
 }
 
 impl Matroid for AnyMatroid {
@@ -28,6 +32,8 @@ impl Matroid for AnyMatroid {
         match self {
             AnyMatroid::Uniform(matroid) => matroid.size(),
             AnyMatroid::Partition(matroid) => matroid.size(),
+            AnyMatroid::Graphic(matroid) => matroid.size(),
+            AnyMatroid::Gf2(matroid) => matroid.size(),
         }
     }
 
@@ -35,6 +41,8 @@ impl Matroid for AnyMatroid {
         match self {
             AnyMatroid::Uniform(matroid) => matroid.independent(alloc, set),
             AnyMatroid::Partition(matroid) => matroid.independent(alloc, set),
+            AnyMatroid::Graphic(matroid) => matroid.independent(alloc, set),
+            AnyMatroid::Gf2(matroid) => matroid.independent(alloc, set),
         }
     }
 
@@ -42,6 +50,8 @@ impl Matroid for AnyMatroid {
         match self {
             AnyMatroid::Uniform(matroid) => matroid.circuit(alloc, base, x),
             AnyMatroid::Partition(matroid) => matroid.circuit(alloc, base, x),
+            AnyMatroid::Graphic(matroid) => matroid.circuit(alloc, base, x),
+            AnyMatroid::Gf2(matroid) => matroid.circuit(alloc, base, x),
         }
     }
 }

@@ -7,7 +7,7 @@ use Rattle.std.proofs.lemmas.List.Elements.{All-head, All-tail}
 use Rattle.mat_sets.specs.Sets.{IsSet}
 use Rattle.mat_sets.proofs.Ground.{AreDistinct-rising}
 use Rattle.mat_words.specs.Lines.{Line}
-use Rattle.mat_any.specs.Trees.{Tree, uniform, partition}
+use Rattle.mat_any.specs.Trees.{Tree, uniform, partition, graphic, gf2}
 use Rattle.mat_desc.specs.Instances.{Instance, pair, list, graph, rooted, coloured, table}
 use Rattle.mat_desc.specs.Grammar.{Lists, ClassLines, MatroidLines, MatroidsLines, InstanceLines, IsValidTree, IsValidMatroid, IsValid, Spells, end_line}
 use Rattle.mat_desc.specs.Canonical.{class_lines, matroid_lines, canonical_lines, canonical_text}
@@ -33,6 +33,8 @@ class_lines_spelled n (set ∷ classes) (cap ∷ caps) rest same sets = (
 matroid_spelled : (n : ℕ) (tree : Tree) (rest : List Line) → IsValidTree n tree → MatroidLines tree (matroid_lines tree ++ rest) rest
 matroid_spelled n (uniform m cap) rest valid = refl
 matroid_spelled n (partition m classes caps) rest valid = (class_lines classes caps ++ rest, refl, class_lines_spelled n classes caps rest valid.1.as_many valid.1.sets)
+matroid_spelled n (graphic vertices edges) rest valid = refl
+matroid_spelled n (gf2 dim columns) rest valid = refl
 
 matroids_spelled : (n : ℕ) (matroids : List Tree) (rest : List Line) → All (IsValidMatroid n) matroids → MatroidsLines matroids (flat_map matroid_lines matroids ++ rest) rest
 matroids_spelled n [] rest valid = refl

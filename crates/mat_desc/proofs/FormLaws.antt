@@ -17,11 +17,12 @@ use Rattle.mat_desc.proofs.ReadingSteps.{found-same, bind_found}
 use Rattle.mat_desc.proofs.WordLaws.{numerals_words, count_line, ended_found, ended_again, count_found, count_again, weights_found, weights_again, weights_words}
 use Rattle.mat_desc.proofs.LineLaws.{AreLeft, keyed_found, keyed_again}
 use Rattle.mat_desc.proofs.MatroidLaws.{matroid_found, matroid_again}
+use Rattle.mat_desc.proofs.MatroidRows.{matroids_found, matroids_again}
 use Rattle.std.specs.List.{All, zip}
 use Rattle.std.proofs.lemmas.List.Elements.{All-weaker}
 use Rattle.std.proofs.lemmas.Slice.Zip.{firsts-zip, seconds-zip}
 use Rattle.mat_desc.proofs.Columns.{length-zip_same, edges-zip, colours-zip, weights-zip}
-use Rattle.mat_desc.proofs.ItemLaws.{items_found, items_again, matroids_found, matroids_again, edge_found, edge_again, IsWeighted, weighted_found, weighted_again, IsColoured, coloured_edge_found, coloured_edge_again, All-map, All-zip, zip-parts, length-map_same}
+use Rattle.mat_desc.proofs.ItemLaws.{items_found, items_again, edge_found, edge_again, IsWeighted, weighted_found, weighted_again, IsColoured, coloured_edge_found, coloured_edge_again, All-map, All-zip, zip-parts, length-map_same}
 
 -- ---- weights
 

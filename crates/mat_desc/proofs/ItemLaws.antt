@@ -1,5 +1,5 @@
 -- A line for each item: what is read is spelled so, and what is spelled so is read.
-use Rattle.std.proofs.Common.{◌≡◌, ℕ, zero, suc, ◌<◌, ◌^◌, ℤ, pos, neg_ℤ, true, List, [], ◌∷◌, ◌++◌, length, map, Result, Ok, refl, ap, subst, ◌∙◌, arith}
+use Rattle.std.proofs.Common.{◌≡◌, ℕ, zero, suc, ◌<◌, ◌≤◌, ◌^◌, ℤ, pos, neg_ℤ, true, List, [], ◌∷◌, ◌++◌, length, map, Result, Ok, refl, ap, subst, ◌∙◌, arith}
 use Rattle.std.specs.Prelude.{codes}
 use Rattle.std.specs.List.{All, list_all, zip}
 use Rattle.std.proofs.lemmas.Bool.{and_from}
@@ -7,15 +7,17 @@ use Rattle.std.proofs.lemmas.List.Elements.{All-nil, All-cons, All-head, All-tai
 use Rattle.mat_words.specs.Words.{is_word}
 use Rattle.mat_words.specs.Numbers.{numeral}
 use Rattle.mat_words.proofs.NumberLemmas.{numeral_word}
-use Rattle.mat_any.specs.Trees.{Tree}
 use Rattle.mat_words.specs.Lines.{Line}
 use Rattle.mat_desc.specs.Faults.{Fault, ◌>>=◌, WordsLeft, LinesLeft}
-use Rattle.mat_desc.specs.Reading.{keyed_at, count_at, weight_at, ended_at, repeat_at, ends_at, edge_at, weighted_at, coloured_edge_at, matroid_at}
-use Rattle.mat_desc.specs.Grammar.{IsWeight, IsPair, IsValidMatroid, MatroidsLines, edge_line, weighted_line, coloured_edge_line}
+use Rattle.mat_desc.specs.Reading.{keyed_at, count_at, weight_at, ended_at, repeat_at, ends_at, edge_at, column_at, binary_at, weighted_at, coloured_edge_at}
+use Rattle.mat_desc.specs.Binary.{binary}
+use Rattle.mat_desc.specs.Grammar.{IsWeight, IsPair, edge_line, column_line, weighted_line, coloured_edge_line}
 use Rattle.mat_desc.proofs.ReadingSteps.{found-same, bind_found}
 use Rattle.mat_desc.proofs.WordLaws.{cut_then, count_found, count_again, number_found, number_at_again, ended_found, ended_again}
 use Rattle.mat_desc.proofs.LineLaws.{AreLeft, keyed_found, keyed_again}
-use Rattle.mat_desc.proofs.MatroidLaws.{matroid_found, matroid_again}
+use Rattle.mat_desc.proofs.BinaryLaws.{binary_word, binary_found, binary_again}
+use Rattle.mat_graphic.specs.Forests.{IsGraph}
+use Rattle.mat_gf2.specs.Columns.{IsBinaryMatrix}
 
 -- ---- items in a row
 
@@ -59,44 +61,7 @@ items_again reader line Valid one p (item ∷ items) rest valid left =
     let others = items_again reader line Valid one first.0 items rest (All-tail Valid item items valid) first.2 in
     (others.0, rw (first.1, others.1) refl, others.2)
 
--- ---- matroids in a row
-
--- as many matroids were read
-pub record AreMatroidsRead (n many : ℕ) (p : LinesLeft) (trees : List Tree) (q : LinesLeft) : Type 0 where
-  pub count : length trees ≡ many
-  pub each : All (IsValidMatroid n) trees
-  pub spelled : (rest : List Line) → AreLeft rest q → (lines : List Line) × AreLeft lines p × MatroidsLines trees lines rest
-
-pub matroids_found : (n many : ℕ) (p : LinesLeft) (trees : List Tree) (q : LinesLeft) → repeat_at (matroid_at n) many p ≡ Ok (trees, q) → AreMatroidsRead n many p trees q
-unfolding repeat_at
-matroids_found n zero p trees q e =
-    let same = found-same ([], p) (trees, q) e in
-    subst (λ (r : List Tree × LinesLeft). AreMatroidsRead n 0 p r.0 r.1) same (record { count = refl; each = All-nil (IsValidMatroid n); spelled = λ rest left. (rest, left, refl) })
-matroids_found n (suc many) p trees q e =
-    let first = bind_found (matroid_at n p) (λ first. repeat_at (matroid_at n) many first.1 >>= λ others. Ok (first.0 ∷ others.0, others.1)) (trees, q) e in
-    let others = bind_found (repeat_at (matroid_at n) many first.0.1) (λ others. Ok (first.0.0 ∷ others.0, others.1)) (trees, q) first.2 in
-    let same = found-same (first.0.0 ∷ others.0.0, others.0.1) (trees, q) others.2 in
-    let here = matroid_found n p first.0.0 first.0.1 first.1 in
-    let more = matroids_found n many first.0.1 others.0.0 others.0.1 others.1 in
-    subst (λ (r : List Tree × LinesLeft). AreMatroidsRead n (suc many) p r.0 r.1) same (record {
-      count = ap suc more.count;
-      each = All-cons (IsValidMatroid n) first.0.0 others.0.0 here.valid more.each;
-      spelled = λ rest left.
-          let behind = more.spelled rest left in
-          let lines = here.spelled behind.0 behind.1 in
-          (lines.0, lines.1, (behind.0, lines.2, behind.2));
-    })
-
-pub matroids_again : (n : ℕ) (p : LinesLeft) (trees : List Tree) (lines rest : List Line) → All (IsValidMatroid n) trees → MatroidsLines trees lines rest → AreLeft lines p
-    → (q : LinesLeft) × (repeat_at (matroid_at n) (length trees) p ≡ Ok (trees, q)) × AreLeft rest q
-unfolding repeat_at
-matroids_again n p [] lines rest valid spelled left = (p, refl, subst (λ (ls : List Line). AreLeft ls p) spelled left)
-matroids_again n p (tree ∷ trees) lines rest valid spelled left =
-    let first = matroid_again n p tree lines spelled.0 (All-head (IsValidMatroid n) tree trees valid) spelled.1 left in
-    let others = matroids_again n first.0 trees spelled.0 rest (All-tail (IsValidMatroid n) tree trees valid) spelled.2 first.2 in
-    (others.0, rw (first.1, others.1) refl, others.2)
-
--- ---- edges, arcs and cells
+-- ---- edges, columns, arcs and cells
 
 -- two words were read as numbers, one below each bound
 record AreEndsRead (first_bound second_bound : ℕ) (w : WordsLeft) (ends : ℕ × ℕ) (q : WordsLeft) : Type 0 where
@@ -139,6 +104,58 @@ unfolding edge_at
 edge_again v p edge rest valid left =
     let line = keyed_again (codes "edge") p (numeral (pos edge.0) ∷ numeral (pos edge.1) ∷ []) rest refl (ends_words edge [] refl) left in
     (line.0, rw (line.1, ends_again v v p.line edge [] valid, ended_again p.line) refl, line.2)
+
+-- edges with both ends among the vertices are those of a graph
+pub IsGraph-pairs : (v : ℕ) (edges : List (ℕ × ℕ)) → length edges < 2 ^ 32 → All (IsPair v v) edges → IsGraph v edges
+IsGraph-pairs v edges few each = record { first = λ e lt. (each e (0, 0) lt).0; second = λ e lt. (each e (0, 0) lt).1; few = few }
+
+-- edges that are read meet the conditions of a graphic matroid
+pub edges_sound : (v many : ℕ) (p : LinesLeft) (edges : List (ℕ × ℕ)) (q : LinesLeft) → many < 2 ^ 32
+    → repeat_at (edge_at v) many p ≡ Ok (edges, q) → IsGraph v edges
+edges_sound v many p edges q few e =
+    let read = items_found (edge_at v) edge_line (IsPair v v) (edge_found v) many p edges q e in
+    IsGraph-pairs v edges (omega (arith, read.count, few)) read.each
+
+-- a column of so many entries
+abbrev pub IsColumn : ℕ → ℕ → Type 0
+IsColumn dim column = column < 2 ^ dim
+
+pub column_found : (dim : ℕ) (p : LinesLeft) (column : ℕ) (q : LinesLeft) → column_at dim p ≡ Ok (column, q)
+    → IsItemRead (column_line dim) (IsColumn dim) p column q
+unfolding column_at
+column_found dim p column q e =
+    let line = bind_found (keyed_at (codes "column") p) (λ line. binary_at dim line.0 >>= λ column. ended_at column.1 >>= λ end. Ok (column.0, line.1)) (column, q) e in
+    let word = bind_found (binary_at dim line.0.0) (λ column. ended_at column.1 >>= λ end. Ok (column.0, line.0.1)) (column, q) line.2 in
+    let end = bind_found (ended_at word.0.1) (λ end. Ok (word.0.0, line.0.1)) (column, q) word.2 in
+    let same = found-same (word.0.0, line.0.1) (column, q) end.2 in
+    let read = binary_found dim line.0.0 word.0.0 word.0.1 word.1 in
+    let last = ended_found word.0.1 end.0 end.1 in
+    let words : line.0.0.words ≡ binary dim word.0.0 ∷ [] = cut_then (binary dim word.0.0) line.0.0.words word.0.1.words [] read.cut last in
+    subst (λ (r : ℕ × LinesLeft). IsItemRead (column_line dim) (IsColumn dim) p r.0 r.1) same (record {
+      valid = read.below;
+      spelled = λ rest left.
+          subst (λ (ws : Line). AreLeft ((codes "column" ∷ ws) ∷ rest) p) words (keyed_found (codes "column") p line.0.0 line.0.1 line.1 rest left);
+    })
+
+pub column_again : (dim : ℕ) → 1 ≤ dim → (p : LinesLeft) (column : ℕ) (rest : List Line) → IsColumn dim column
+    → AreLeft (column_line dim column ∷ rest) p → (q : LinesLeft) × (column_at dim p ≡ Ok (column, q)) × AreLeft rest q
+unfolding column_at
+column_again dim some p column rest valid left =
+    let word : list_all is_word (binary dim column ∷ []) ≡ true = and_from (is_word (binary dim column)) true (binary_word dim column some) refl in
+    let line = keyed_again (codes "column") p (binary dim column ∷ []) rest refl word left in
+    (line.0, rw (line.1, binary_again dim p.line column [] valid, ended_again p.line) refl, line.2)
+
+-- columns of so many entries are those of a matrix
+pub IsBinaryMatrix-columns : (dim : ℕ) (columns : List ℕ) → 1 ≤ dim → dim ≤ 128 → length columns < 2 ^ 32
+    → All (IsColumn dim) columns → IsBinaryMatrix dim columns
+IsBinaryMatrix-columns dim columns some most few each = record { some = some; most = most; below = λ e lt. each e 0 lt; few = few }
+
+-- columns that are read meet the conditions of a matroid of columns
+pub columns_sound : (dim many : ℕ) (p : LinesLeft) (columns : List ℕ) (q : LinesLeft) → 1 ≤ dim → dim < 129 → many < 2 ^ 32
+    → repeat_at (column_at dim) many p ≡ Ok (columns, q) → IsBinaryMatrix dim columns
+columns_sound dim many p columns q some most few e =
+    let read = items_found (column_at dim) (column_line dim) (IsColumn dim) (column_found dim) many p columns q e in
+    IsBinaryMatrix-columns dim columns some (omega arith) (omega (arith, read.count, few)) read.each
 
 -- an edge, an arc or a cell with a weight
 abbrev pub IsWeighted : ℕ → ℕ → (ℕ × ℕ) × ℤ → Type 0

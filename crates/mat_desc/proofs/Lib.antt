@@ -6,9 +6,11 @@ pub mod ReadingSteps
 pub mod WordLaws
 pub mod LineLaws
 pub mod ElementLaws
+pub mod BinaryLaws
 pub mod ClassLaws
-pub mod MatroidLaws
 pub mod ItemLaws
+pub mod MatroidLaws
+pub mod MatroidRows
 pub mod FormLaws
 pub mod InstanceLaws
 pub mod ProblemLaws

@@ -1,6 +1,6 @@
 -- The lines of a matroid: what is read is spelled so, and what is spelled so is read. Each kind has a law in both directions for what
 -- stands behind its keyword.
-use Rattle.std.proofs.Common.{◌≡◌, ℕ, ◌≤◌, Bool, true, false, cond, List, [], ◌∷◌, length, pos, Option, Some, None, Ok, refl, ap, subst, ◌∙◌, arith}
+use Rattle.std.proofs.Common.{◌≡◌, ℕ, ◌≤◌, Bool, true, false, cond, List, [], ◌∷◌, ◌++◌, length, map, pos, Option, Some, None, Ok, refl, ap, subst, ◌∙◌, arith}
 use Rattle.std.specs.Prelude.{codes, bytes_eq}
 use Rattle.std.specs.List.{list_all}
 use Rattle.std.proofs.lemmas.Bool.{and_from}
@@ -9,17 +9,18 @@ use Rattle.mat_sets.specs.Families.{multiplicity}
 use Rattle.mat_words.specs.Words.{is_word}
 use Rattle.mat_words.specs.Numbers.{numeral}
 use Rattle.mat_words.proofs.NumberLemmas.{numeral_word}
-use Rattle.mat_any.specs.Trees.{Tree, uniform, partition}
+use Rattle.mat_any.specs.Trees.{Tree, uniform, partition, graphic, gf2}
 use Rattle.mat_words.specs.Lines.{Line}
 use Rattle.mat_desc.specs.declared.keywords.Keyword.{Keyword}
 use Rattle.mat_desc.specs.declared.keywords.Keyword.TheVariants as keywords
 use Rattle.mat_desc.specs.Faults.{◌>>=◌, WordsLeft, LinesLeft}
-use Rattle.mat_desc.specs.Reading.{line_at, word_at, count_at, ended_at, classes_at, uniform_at, partition_at, keyword_of, kind_at, matroid_at}
-use Rattle.mat_desc.specs.Grammar.{IsValidMatroid, AreClasses, MatroidLines}
+use Rattle.mat_desc.specs.Reading.{line_at, word_at, count_at, ended_at, repeat_at, classes_at, uniform_at, partition_at, edge_at, graphic_at, column_at, gf2_at, keyword_of, kind_at, matroid_at}
+use Rattle.mat_desc.specs.Grammar.{IsPair, IsValidMatroid, AreClasses, MatroidLines, edge_line, column_line}
 use Rattle.mat_desc.proofs.ReadingSteps.{found-same, bind_found}
 use Rattle.mat_desc.proofs.WordLaws.{cut_then, count_line, word_found, ended_found, ended_again, count_found, count_again}
 use Rattle.mat_desc.proofs.LineLaws.{AreLeft, line_found, line_again}
 use Rattle.mat_desc.proofs.ClassLaws.{classes_read, classes_again, classes_valid}
+use Rattle.mat_desc.proofs.ItemLaws.{items_found, items_again, edge_found, edge_again, IsColumn, column_found, column_again}
 
 -- ---- keywords
 
@@ -27,6 +28,8 @@ use Rattle.mat_desc.proofs.ClassLaws.{classes_read, classes_again, classes_valid
 abbrev pub spelling_of : Keyword → List ℕ
 spelling_of keywords.Uniform = codes "uniform"
 spelling_of keywords.Partition = codes "partition"
+spelling_of keywords.Graphic = codes "graphic"
+spelling_of keywords.Gf2 = codes "gf2"
 
 word_equal : (word key : List ℕ) → bytes_eq word key ≡ true → word ≡ key
 word_equal word key e = (bytes_eq-Decides word key).0 e
@@ -34,13 +37,22 @@ word_equal word key e = (bytes_eq-Decides word key).0 e
 some_same : (a b : Keyword) → Some a ≡ Some b → a ≡ b
 some_same a b e = cc
 
+-- the choice among the keywords
+abbrev choice : Bool → Bool → Bool → Bool → Option Keyword
+choice a b c d = cond a (Some keywords.Uniform) (cond b (Some keywords.Partition) (cond c (Some keywords.Graphic) (cond d (Some keywords.Gf2) None)))
+
 pub keyword_found : (word : List ℕ) (keyword : Keyword) → keyword_of word ≡ Some keyword → word ≡ spelling_of keyword
-keyword_found word keyword e = first (bytes_eq word (codes "uniform")) (bytes_eq word (codes "partition")) refl refl e
+keyword_found word keyword is =
+    first (bytes_eq word (codes "uniform")) (bytes_eq word (codes "partition")) (bytes_eq word (codes "graphic")) (bytes_eq word (codes "gf2"))
+    (word_equal word (codes "uniform")) (word_equal word (codes "partition")) (word_equal word (codes "graphic")) (word_equal word (codes "gf2")) is
   where
-    first : (a b : Bool) → bytes_eq word (codes "uniform") ≡ a → bytes_eq word (codes "partition") ≡ b → cond a (Some keywords.Uniform) (cond b (Some keywords.Partition) None) ≡ Some keyword → word ≡ spelling_of keyword
-    first true b p q h = word_equal word (codes "uniform") p ∙ ap spelling_of (some_same keywords.Uniform keyword h)
-    first false true p q h = word_equal word (codes "partition") q ∙ ap spelling_of (some_same keywords.Partition keyword h)
-    first false false p q h = absurd cc
+    first : (a b c d : Bool) → (a ≡ true → word ≡ codes "uniform") → (b ≡ true → word ≡ codes "partition") → (c ≡ true → word ≡ codes "graphic") → (d ≡ true → word ≡ codes "gf2")
+        → choice a b c d ≡ Some keyword → word ≡ spelling_of keyword
+    first true b c d p q r s h = p refl ∙ ap spelling_of (some_same keywords.Uniform keyword h)
+    first false true c d p q r s h = q refl ∙ ap spelling_of (some_same keywords.Partition keyword h)
+    first false false true d p q r s h = r refl ∙ ap spelling_of (some_same keywords.Graphic keyword h)
+    first false false false true p q r s h = s refl ∙ ap spelling_of (some_same keywords.Gf2 keyword h)
+    first false false false false p q r s h = absurd cc
 
 -- ---- one kind
 
@@ -84,9 +96,45 @@ partition_found n words lines tree q e =
     } in
     subst (λ (r : Tree × LinesLeft). IsKindRead n keywords.Partition words lines r.0 r.1) same one
 
+graphic_found : (n : ℕ) (words : WordsLeft) (lines : LinesLeft) (tree : Tree) (q : LinesLeft) → graphic_at n words lines ≡ Ok (tree, q) → IsKindRead n keywords.Graphic words lines tree q
+unfolding graphic_at
+graphic_found n words lines tree q e =
+    let vertices = bind_found (count_at 1 501 words) (λ vertices. ended_at vertices.1 >>= λ end. repeat_at (edge_at vertices.0) n lines >>= λ edges. Ok (graphic vertices.0 edges.0, edges.1)) (tree, q) e in
+    let end = bind_found (ended_at vertices.0.1) (λ end. repeat_at (edge_at vertices.0.0) n lines >>= λ edges. Ok (graphic vertices.0.0 edges.0, edges.1)) (tree, q) vertices.2 in
+    let edges = bind_found (repeat_at (edge_at vertices.0.0) n lines) (λ edges. Ok (graphic vertices.0.0 edges.0, edges.1)) (tree, q) end.2 in
+    let same = found-same (graphic vertices.0.0 edges.0.0, edges.0.1) (tree, q) edges.2 in
+    let number = count_found 1 501 words vertices.0.0 vertices.0.1 vertices.1 in
+    let last = ended_found vertices.0.1 end.0 end.1 in
+    let read = items_found (edge_at vertices.0.0) edge_line (IsPair vertices.0.0 vertices.0.0) (edge_found vertices.0.0) n lines edges.0.0 edges.0.1 edges.1 in
+    let line : words.words ≡ numeral (pos vertices.0.0) ∷ [] = cut_then (numeral (pos vertices.0.0)) words.words vertices.0.1.words [] number.cut last in
+    let one : IsKindRead n keywords.Graphic words lines (graphic vertices.0.0 edges.0.0) edges.0.1 = record {
+      valid = ((read.count, number.least, omega (arith, number.most), read.each), omega arith);
+      spelled = λ rest left. (map edge_line edges.0.0 ++ rest, read.spelled rest left, ap (λ (t : Line). (codes "graphic" ∷ t) ∷ (map edge_line edges.0.0 ++ rest)) line);
+    } in
+    subst (λ (r : Tree × LinesLeft). IsKindRead n keywords.Graphic words lines r.0 r.1) same one
+
+gf2_found : (n : ℕ) (words : WordsLeft) (lines : LinesLeft) (tree : Tree) (q : LinesLeft) → gf2_at n words lines ≡ Ok (tree, q) → IsKindRead n keywords.Gf2 words lines tree q
+unfolding gf2_at
+gf2_found n words lines tree q e =
+    let dim = bind_found (count_at 1 129 words) (λ dim. ended_at dim.1 >>= λ end. repeat_at (column_at dim.0) n lines >>= λ columns. Ok (gf2 dim.0 columns.0, columns.1)) (tree, q) e in
+    let end = bind_found (ended_at dim.0.1) (λ end. repeat_at (column_at dim.0.0) n lines >>= λ columns. Ok (gf2 dim.0.0 columns.0, columns.1)) (tree, q) dim.2 in
+    let columns = bind_found (repeat_at (column_at dim.0.0) n lines) (λ columns. Ok (gf2 dim.0.0 columns.0, columns.1)) (tree, q) end.2 in
+    let same = found-same (gf2 dim.0.0 columns.0.0, columns.0.1) (tree, q) columns.2 in
+    let number = count_found 1 129 words dim.0.0 dim.0.1 dim.1 in
+    let last = ended_found dim.0.1 end.0 end.1 in
+    let read = items_found (column_at dim.0.0) (column_line dim.0.0) (IsColumn dim.0.0) (column_found dim.0.0) n lines columns.0.0 columns.0.1 columns.1 in
+    let line : words.words ≡ numeral (pos dim.0.0) ∷ [] = cut_then (numeral (pos dim.0.0)) words.words dim.0.1.words [] number.cut last in
+    let one : IsKindRead n keywords.Gf2 words lines (gf2 dim.0.0 columns.0.0) columns.0.1 = record {
+      valid = ((read.count, number.least, omega (arith, number.most), read.each), omega arith);
+      spelled = λ rest left. (map (column_line dim.0.0) columns.0.0 ++ rest, read.spelled rest left, ap (λ (t : Line). (codes "gf2" ∷ t) ∷ (map (column_line dim.0.0) columns.0.0 ++ rest)) line);
+    } in
+    subst (λ (r : Tree × LinesLeft). IsKindRead n keywords.Gf2 words lines r.0 r.1) same one
+
 kind_found : (n line : ℕ) (keyword : Keyword) (words : WordsLeft) (lines : LinesLeft) (tree : Tree) (q : LinesLeft) → kind_at n line (Some keyword) words lines ≡ Ok (tree, q) → IsKindRead n keyword words lines tree q
 kind_found n line keywords.Uniform words lines tree q e = uniform_found n words lines tree q e
 kind_found n line keywords.Partition words lines tree q e = partition_found n words lines tree q e
+kind_found n line keywords.Graphic words lines tree q e = graphic_found n words lines tree q e
+kind_found n line keywords.Gf2 words lines tree q e = gf2_found n words lines tree q e
 
 -- ---- any matroid
 
@@ -117,7 +165,7 @@ matroid_found n p tree q e =
 
 pub matroid_again : (n : ℕ) (p : LinesLeft) (tree : Tree) (lines rest : List Line) → IsValidMatroid n tree → MatroidLines tree lines rest → AreLeft lines p
     → (q : LinesLeft) × (matroid_at n p ≡ Ok (tree, q)) × AreLeft rest q
-unfolding matroid_at word_at uniform_at partition_at multiplicity
+unfolding matroid_at word_at uniform_at partition_at graphic_at gf2_at multiplicity
 matroid_again n p (uniform m cap) lines rest valid spelled left =
     let number_word : list_all is_word (codes "uniform" ∷ numeral (pos cap) ∷ []) ≡ true = and_from (is_word (numeral (pos cap))) true (numeral_word (pos cap)) refl in
     let line = line_again p (codes "uniform" ∷ numeral (pos cap) ∷ []) rest (omega arith) number_word (subst (λ (ls : List Line). AreLeft ls p) spelled left) in
@@ -130,3 +178,15 @@ matroid_again n p (partition m classes caps) lines rest valid spelled left =
     let number = count_again 0 501 p.line (length classes) [] (omega arith) (omega (arith, ranged.few)) in
     let read = classes_again n [] line.0 classes caps spelled.0 rest ranged.caps_small ranged.sets (λ x. omega (arith, ranged.disjoint.once x)) spelled.2 line.2 in
     (read.0, rw (line.1, number, ended_again p.line, read.1, valid.0.0) refl, read.2)
+matroid_again n p (graphic vertices edges) lines rest valid spelled left =
+    let number_word : list_all is_word (codes "graphic" ∷ numeral (pos vertices) ∷ []) ≡ true = and_from (is_word (numeral (pos vertices))) true (numeral_word (pos vertices)) refl in
+    let line = line_again p (codes "graphic" ∷ numeral (pos vertices) ∷ []) (map edge_line edges ++ rest) (omega arith) number_word (subst (λ (ls : List Line). AreLeft ls p) spelled left) in
+    let number = count_again 1 501 p.line vertices [] valid.0.1 (omega (arith, valid.0.2)) in
+    let read = items_again (edge_at vertices) edge_line (IsPair vertices vertices) (edge_again vertices) line.0 edges rest valid.0.3 line.2 in
+    (read.0, rw (line.1, number, ended_again p.line, ← valid.0.0, read.1) refl, read.2)
+matroid_again n p (gf2 dim columns) lines rest valid spelled left =
+    let number_word : list_all is_word (codes "gf2" ∷ numeral (pos dim) ∷ []) ≡ true = and_from (is_word (numeral (pos dim))) true (numeral_word (pos dim)) refl in
+    let line = line_again p (codes "gf2" ∷ numeral (pos dim) ∷ []) (map (column_line dim) columns ++ rest) (omega arith) number_word (subst (λ (ls : List Line). AreLeft ls p) spelled left) in
+    let number = count_again 1 129 p.line dim [] valid.0.1 (omega (arith, valid.0.2)) in
+    let read = items_again (column_at dim) (column_line dim) (IsColumn dim) (column_again dim valid.0.1) line.0 columns rest valid.0.3 line.2 in
+    (read.0, rw (line.1, number, ended_again p.line, ← valid.0.0, read.1) refl, read.2)

@@ -1,9 +1,9 @@
 -- What is known of a problem that was read.
-use Rattle.std.proofs.Common.{◌≡◌, ℕ, List, length, ◌⊎◌, inl, inr, Result, Ok, Err, IfOk, refl, sym, subst, ◌∙◌}
+use Rattle.std.proofs.Common.{◌≡◌, ◌≤◌, ℕ, List, length, ◌⊎◌, inl, inr, Result, Ok, Err, IfOk, refl, sym, subst, ◌∙◌, arith}
 use Rattle.std.specs.List.{All}
 use Rattle.std.proofs.lemmas.List.Elements.{All-weaker}
 use Rattle.mat_sets.specs.Sets.{IsSet, AllBelow}
-use Rattle.mat_any.specs.Trees.{Tree, uniform, partition, element_count, IsSound}
+use Rattle.mat_any.specs.Trees.{Tree, uniform, partition, graphic, gf2, element_count, IsSound}
 use Rattle.mat_desc.specs.declared.refusal.DescRefusal.{DescRefusal}
 use Rattle.mat_desc.specs.declared.refusal.DescRefusal.TheVariants as refusals
 use Rattle.mat_desc.specs.Faults.{Fault, Gives}
@@ -11,12 +11,13 @@ use Rattle.mat_desc.specs.Grammar.{IsValidTree, IsValidMatroid, IsValid, Spells}
 use Rattle.mat_desc.specs.Instances.{Instance, pair, list, graph, rooted, coloured, table}
 use Rattle.mat_desc.specs.Reading.{read_of}
 use Rattle.mat_desc.specs.Soundness.{IsSoundInstance}
+use Rattle.mat_desc.proofs.ItemLaws.{IsGraph-pairs, IsBinaryMatrix-columns}
 use Rattle.mat_desc.proofs.InstanceLaws.{description_found, description_again}
 
 -- a matroid in range is sound
-IsSound-valid : (n : ℕ) (tree : Tree) → IsValidTree n tree → IsSound tree × (element_count tree ≡ n)
-IsSound-valid n (uniform m cap) valid = (tt, valid.0)
-IsSound-valid n (partition m classes caps) valid = (
+IsSound-valid : (n : ℕ) (tree : Tree) → n ≤ 500 → IsValidTree n tree → IsSound tree × (element_count tree ≡ n)
+IsSound-valid n (uniform m cap) few valid = (tt, valid.0)
+IsSound-valid n (partition m classes caps) few valid = (
   record {
     capped = valid.1.as_many;
     inside = subst (λ (k : ℕ). All (AllBelow k) classes) (sym valid.0) (All-weaker (IsSet n) (AllBelow n) (λ class set. set.below) classes valid.1.sets);
@@ -24,15 +25,17 @@ IsSound-valid n (partition m classes caps) valid = (
   },
   valid.0,
 )
+IsSound-valid n (graphic vertices edges) few valid = (IsGraph-pairs vertices edges (omega (arith, valid.0, few)) valid.3, valid.0)
+IsSound-valid n (gf2 dim columns) few valid = (IsBinaryMatrix-columns dim columns valid.1 valid.2 (omega (arith, valid.0, few)) valid.3, valid.0)
 
 -- each matroid of a problem in range is sound
 pub IsSoundInstance-valid : (instance : Instance) → IsValid instance → IsSoundInstance instance
 IsSoundInstance-valid (pair weights first second) valid =
-    let one = IsSound-valid (length weights) first valid.1.0 in
-    let two = IsSound-valid (length weights) second valid.2.0 in
+    let one = IsSound-valid (length weights) first valid.0.0 valid.1.0 in
+    let two = IsSound-valid (length weights) second valid.0.0 valid.2.0 in
     (one.0, one.1, two.0, two.1)
 IsSoundInstance-valid (list weights matroids) valid =
-    All-weaker (IsValidMatroid (length weights)) (λ tree. IsSound tree × (element_count tree ≡ length weights)) (λ tree tree_valid. IsSound-valid (length weights) tree tree_valid.0) matroids valid.3
+    All-weaker (IsValidMatroid (length weights)) (λ tree. IsSound tree × (element_count tree ≡ length weights)) (λ tree tree_valid. IsSound-valid (length weights) tree valid.0.0 tree_valid.0) matroids valid.3
 IsSoundInstance-valid (graph vertices edges) valid = tt
 IsSoundInstance-valid (rooted vertices root arcs costs) valid = tt
 IsSoundInstance-valid (coloured vertices colours edges colour_of weights) valid = tt

@@ -3,8 +3,8 @@ use Rattle.std.specs.Prelude.{ℕ, List, [], ◌∷◌, ◌++◌, length, map, c
 use Rattle.std.specs.List.{zip, flat_map}
 use Rattle.mat_words.specs.Numbers.{numeral, numerals}
 use Rattle.mat_words.specs.Lines.{Line, text_of}
-use Rattle.mat_any.specs.Trees.{Tree, uniform, partition}
-use Rattle.mat_desc.specs.Grammar.{version_line, end_line, edge_line, weighted_line, coloured_edge_line}
+use Rattle.mat_any.specs.Trees.{Tree, uniform, partition, graphic, gf2}
+use Rattle.mat_desc.specs.Grammar.{version_line, end_line, edge_line, column_line, weighted_line, coloured_edge_line}
 use Rattle.mat_desc.specs.Instances.{Instance, pair, list, graph, rooted, coloured, table}
 
 -- a line of a keyword and numbers
@@ -23,6 +23,8 @@ class_lines classes caps = map class_line (zip classes caps)
 abbrev pub matroid_lines : Tree → List Line
 matroid_lines (uniform n cap) = (codes "uniform" ∷ numeral (pos cap) ∷ []) ∷ []
 matroid_lines (partition n classes caps) = (codes "partition" ∷ numeral (pos (length classes)) ∷ []) ∷ class_lines classes caps
+matroid_lines (graphic vertices edges) = (codes "graphic" ∷ numeral (pos vertices) ∷ []) ∷ map edge_line edges
+matroid_lines (gf2 dim columns) = (codes "gf2" ∷ numeral (pos dim) ∷ []) ∷ map (column_line dim) columns
 
 -- the lines between the first and the last: the form line and those that follow it
 abbrev pub form_lines : Instance → List Line

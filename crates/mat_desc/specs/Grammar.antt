@@ -6,7 +6,8 @@ use Rattle.mat_sets.specs.Sums.{IsWithin}
 use Rattle.mat_sets.specs.Families.{AreDisjoint}
 use Rattle.mat_words.specs.Numbers.{numeral, numerals}
 use Rattle.mat_words.specs.Lines.{Line, text_of}
-use Rattle.mat_any.specs.Trees.{Tree, uniform, partition, depth}
+use Rattle.mat_any.specs.Trees.{Tree, uniform, partition, graphic, gf2, depth}
+use Rattle.mat_desc.specs.Binary.{binary}
 use Rattle.mat_desc.specs.Instances.{Instance, pair, list, graph, rooted, coloured, table}
 
 -- ---- what may be stated
@@ -19,10 +20,16 @@ pub record AreClasses (n : ℕ) (classes : List (List ℕ)) (caps : List ℕ) : 
   pub sets : All (IsSet n) classes
   pub disjoint : AreDisjoint classes
 
+-- one number is below each bound
+abbrev pub IsPair : ℕ → ℕ → ℕ × ℕ → Type 0
+IsPair first_bound second_bound ends = (ends.0 < first_bound) × (ends.1 < second_bound)
+
 -- a matroid on n elements whose numbers and lists are in range
 abbrev pub IsValidTree : ℕ → Tree → Type 0
 IsValidTree n (uniform m cap) = (m ≡ n) × (cap ≤ 500)
 IsValidTree n (partition m classes caps) = (m ≡ n) × AreClasses n classes caps
+IsValidTree n (graphic vertices edges) = (length edges ≡ n) × (1 ≤ vertices) × (vertices ≤ 500) × All (IsPair vertices vertices) edges
+IsValidTree n (gf2 dim columns) = (length columns ≡ n) × (1 ≤ dim) × (dim ≤ 128) × All (λ column. column < 2 ^ dim) columns
 
 -- a matroid of a form: at most sixteen matroids stand within one another
 abbrev pub IsValidMatroid : ℕ → Tree → Type 0
@@ -35,10 +42,6 @@ IsWeight w = IsWithin (10 ^ 12) w
 -- the weights of at most 500 elements
 abbrev pub AreWeights : List ℤ → Type 0
 AreWeights weights = (length weights ≤ 500) × All IsWeight weights
-
--- one number is below each bound
-abbrev pub IsPair : ℕ → ℕ → ℕ × ℕ → Type 0
-IsPair first_bound second_bound ends = (ends.0 < first_bound) × (ends.1 < second_bound)
 
 -- at most 500 edges, arcs or cells
 abbrev pub ArePairs : ℕ → ℕ → List (ℕ × ℕ) → Type 0
@@ -69,20 +72,26 @@ ClassLines (set ∷ classes) [] lines rest = ⊥
 ClassLines (set ∷ classes) (cap ∷ caps) lines rest = (xs : List ℕ) × (more : List Line) × Lists xs set
     × (lines ≡ (codes "class" ∷ numeral (pos cap) ∷ numerals xs) ∷ more) × ClassLines classes caps more rest
 
+-- the line of an edge
+abbrev pub edge_line : ℕ × ℕ → Line
+edge_line edge = codes "edge" ∷ numeral (pos edge.0) ∷ numeral (pos edge.1) ∷ []
+
+-- the line of a column of binary digits
+abbrev pub column_line : ℕ → ℕ → Line
+column_line dim column = codes "column" ∷ binary dim column ∷ []
+
 -- the lines of a matroid, and then the rest
 abbrev pub MatroidLines : Tree → List Line → List Line → Type 0
 MatroidLines (uniform n cap) lines rest = lines ≡ (codes "uniform" ∷ numeral (pos cap) ∷ []) ∷ rest
 MatroidLines (partition n classes caps) lines rest = (more : List Line)
     × (lines ≡ (codes "partition" ∷ numeral (pos (length classes)) ∷ []) ∷ more) × ClassLines classes caps more rest
+MatroidLines (graphic vertices edges) lines rest = lines ≡ (codes "graphic" ∷ numeral (pos vertices) ∷ []) ∷ (map edge_line edges ++ rest)
+MatroidLines (gf2 dim columns) lines rest = lines ≡ (codes "gf2" ∷ numeral (pos dim) ∷ []) ∷ (map (column_line dim) columns ++ rest)
 
 -- the lines of each matroid, and then the rest
 abbrev pub MatroidsLines : List Tree → List Line → List Line → Type 0
 MatroidsLines [] lines rest = lines ≡ rest
 MatroidsLines (matroid ∷ matroids) lines rest = (more : List Line) × MatroidLines matroid lines more × MatroidsLines matroids more rest
-
--- the line of an edge
-abbrev pub edge_line : ℕ × ℕ → Line
-edge_line edge = codes "edge" ∷ numeral (pos edge.0) ∷ numeral (pos edge.1) ∷ []
 
 -- the line of an arc with its cost, or of a cell with its weight
 abbrev pub weighted_line : List ℕ → (ℕ × ℕ) × ℤ → Line

@@ -1,3 +1,4 @@
+pub mod Binary
 pub mod Instances
 pub mod Grammar
 pub mod Faults

@@ -7,12 +7,13 @@ use Rattle.mat_words.specs.Words.{words_of, is_well_spaced}
 use Rattle.mat_words.specs.Numbers.{number_in}
 use Rattle.mat_words.specs.declared.numbers.NumberFault.{NumberFault}
 use Rattle.mat_words.specs.declared.numbers.NumberFault.TheVariants.{Spelling, Range}
-use Rattle.mat_any.specs.Trees.{Tree, uniform, partition}
+use Rattle.mat_any.specs.Trees.{Tree, uniform, partition, graphic, gf2}
 use Rattle.mat_desc.specs.declared.refusal.DescKind.TheVariants as kinds
 use Rattle.mat_desc.specs.declared.keywords.Form.{Form}
 use Rattle.mat_desc.specs.declared.keywords.Form.TheVariants as forms
 use Rattle.mat_desc.specs.declared.keywords.Keyword.{Keyword}
 use Rattle.mat_desc.specs.declared.keywords.Keyword.TheVariants as keywords
+use Rattle.mat_desc.specs.Binary.{binary_value, is_binary}
 use Rattle.mat_desc.specs.Faults.{Fault, ◌>>=◌, WordsLeft, LinesLeft}
 use Rattle.mat_desc.specs.Instances.{Instance, pair, list, graph, rooted, coloured, table}
 
@@ -169,16 +170,70 @@ partition_at n words lines = do
   classes ← classes_at n many.0 [] lines
   Ok (partition n classes.0 classes.1, classes.2)
 
+-- two numbers, one below each bound
+unfoldable pub ends_at : ℕ → ℕ → WordsLeft → Result ((ℕ × ℕ) × WordsLeft) Fault
+ends_at first_bound second_bound words = do
+  first ← count_at 0 first_bound words
+  second ← count_at 0 second_bound first.1
+  Ok ((first.0, second.0), second.1)
+
+-- an edge line
+unfoldable pub edge_at : ℕ → LinesLeft → Result ((ℕ × ℕ) × LinesLeft) Fault
+edge_at vertices p = do
+  line ← keyed_at (codes "edge") p
+  ends ← ends_at vertices vertices line.0
+  end ← ended_at ends.1
+  Ok (ends.0, line.1)
+
+-- a graphic matroid on n elements, from the words behind its keyword on
+unfoldable pub graphic_at : ℕ → WordsLeft → LinesLeft → Result (Tree × LinesLeft) Fault
+graphic_at n words lines = do
+  vertices ← count_at 1 501 words
+  end ← ended_at vertices.1
+  edges ← repeat_at (edge_at vertices.0) n lines
+  Ok (graphic vertices.0 edges.0, edges.1)
+
+-- the next word of line n as a binary number of so many digits
+abbrev pub binary_from : ℕ → ℕ → List (List ℕ) → Result (ℕ × WordsLeft) Fault
+binary_from digits n [] = Err (kinds.TooFewWords, n)
+binary_from digits n (word ∷ words) =
+    if (length word == digits) && is_binary word then Ok (binary_value 0 word, record { line = n; words = words })
+    else Err (kinds.NumberSpelling, n)
+
+-- the next word as a binary number of so many digits
+unfoldable pub binary_at : ℕ → WordsLeft → Result (ℕ × WordsLeft) Fault
+binary_at digits p = binary_from digits p.line p.words
+
+-- a column line
+unfoldable pub column_at : ℕ → LinesLeft → Result (ℕ × LinesLeft) Fault
+column_at dim p = do
+  line ← keyed_at (codes "column") p
+  column ← binary_at dim line.0
+  end ← ended_at column.1
+  Ok (column.0, line.1)
+
+-- a matroid of n columns over the field of two elements, from the words behind its keyword on
+unfoldable pub gf2_at : ℕ → WordsLeft → LinesLeft → Result (Tree × LinesLeft) Fault
+gf2_at n words lines = do
+  dim ← count_at 1 129 words
+  end ← ended_at dim.1
+  columns ← repeat_at (column_at dim.0) n lines
+  Ok (gf2 dim.0 columns.0, columns.1)
+
 -- the keyword of a matroid that a word is, if it is one
 abbrev pub keyword_of : List ℕ → Option Keyword
 keyword_of word = if bytes_eq word (codes "uniform") then Some keywords.Uniform else
-    (if bytes_eq word (codes "partition") then Some keywords.Partition else None)
+    (if bytes_eq word (codes "partition") then Some keywords.Partition else
+    (if bytes_eq word (codes "graphic") then Some keywords.Graphic else
+    (if bytes_eq word (codes "gf2") then Some keywords.Gf2 else None)))
 
 -- a matroid on n elements, from the words behind its keyword in line number `line` on
 abbrev pub kind_at : ℕ → ℕ → Option Keyword → WordsLeft → LinesLeft → Result (Tree × LinesLeft) Fault
 kind_at n line None words lines = Err (kinds.UnknownWord, line)
 kind_at n line (Some keywords.Uniform) words lines = uniform_at n words lines
 kind_at n line (Some keywords.Partition) words lines = partition_at n words lines
+kind_at n line (Some keywords.Graphic) words lines = graphic_at n words lines
+kind_at n line (Some keywords.Gf2) words lines = gf2_at n words lines
 
 -- a matroid on n elements
 unfoldable pub matroid_at : ℕ → LinesLeft → Result (Tree × LinesLeft) Fault
@@ -208,21 +263,6 @@ list_at words lines = do
   weights ← weights_at count.0 lines
   matroids ← repeat_at (matroid_at count.0) many.0 weights.1
   Ok (list weights.0 matroids.0, matroids.1)
-
--- two numbers, one below each bound
-unfoldable pub ends_at : ℕ → ℕ → WordsLeft → Result ((ℕ × ℕ) × WordsLeft) Fault
-ends_at first_bound second_bound words = do
-  first ← count_at 0 first_bound words
-  second ← count_at 0 second_bound first.1
-  Ok ((first.0, second.0), second.1)
-
--- an edge line
-unfoldable pub edge_at : ℕ → LinesLeft → Result ((ℕ × ℕ) × LinesLeft) Fault
-edge_at vertices p = do
-  line ← keyed_at (codes "edge") p
-  ends ← ends_at vertices vertices line.0
-  end ← ended_at ends.1
-  Ok (ends.0, line.1)
 
 -- a line of this keyword with two numbers and a weight: an arc with its cost, or a cell with its weight
 unfoldable pub weighted_at : List ℕ → ℕ → ℕ → LinesLeft → Result (((ℕ × ℕ) × ℤ) × LinesLeft) Fault

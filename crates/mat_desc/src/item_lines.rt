@@ -1,11 +1,12 @@
-//! Reading a line for each edge, arc or cell.
+//! Reading a line for each edge, arc, cell or column.
 
 ghost use Rattle.std.specs.Prelude.{◌≡◌, ◌≤◌, ◌≤ℤ◌, ◌^◌, neg_ℤ, pos, length, IfOk};
 ghost use Rattle.std.specs.List.{zip};
 ghost use Rattle.mat_desc.specs.Faults.{Gives};
-ghost use Rattle.mat_desc.specs.Reading.{ends_at, edge_at, weighted_at, coloured_edge_at, repeat_at};
+ghost use Rattle.mat_desc.specs.Reading.{ends_at, edge_at, column_at, weighted_at, coloured_edge_at, repeat_at};
 ghost use Rattle.mat_desc.specs.Views.{lines_left, words_left};
 
+use crate::binary::next_binary;
 use crate::cursor::{Lines, Words};
 use crate::reading::{ended, keyed_line, next_count, next_weight};
 use crate::refusal::DescRefusal;
@@ -36,6 +37,18 @@ fn edge_line<'a>(vertices: u32, lines: Lines<'a>) -> Result<((u32, u32), Lines<'
     let (ends, words) = next_ends(words, vertices, vertices)?;
     ended(words)?;
     Ok((ends, rest))
+}
+
+/// A column line.
+#[tactic(auto, unfolding(crate::specs::Reading::column_at))]
+fn column_line<'a>(dim: u32, lines: Lines<'a>) -> Result<(u128, Lines<'a>), DescRefusal>
+    requires { dim ≤ 128 }
+    ensures { Gives (λ x. (x.0, lines_left x.1)) result (column_at dim (lines_left lines.entry)) }
+{
+    let (words, rest) = keyed_line(lines, b"column")?;
+    let (column, words) = next_binary(words, dim)?;
+    ended(words)?;
+    Ok((column, rest))
 }
 
 /// A line of this keyword with two numbers and a weight.
@@ -94,6 +107,27 @@ pub fn edge_lines<'a>(
         rest = after;
     }
     Ok((Pairs::new(edges), rest))
+}
+
+/// As many column lines.
+pub fn column_lines<'a>(
+    alloc: Global,
+    dim: u32,
+    many: u32,
+    lines: Lines<'a>,
+) -> Result<(Vec<u128>, Lines<'a>), DescRefusal>
+    requires { dim ≤ 128 }
+    ensures { Gives (λ x. (x.0.items, lines_left x.1)) result
+        (repeat_at (column_at dim) many (lines_left lines.entry)) }
+{
+    let mut columns = Vec::new(alloc);
+    let mut rest = lines;
+    for _ in 0..many {
+        let (column, after) = column_line(dim, rest)?;
+        columns.push(column)?;
+        rest = after;
+    }
+    Ok((columns, rest))
 }
 
 /// As many lines of this keyword with two numbers and a weight.

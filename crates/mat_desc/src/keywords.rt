@@ -19,6 +19,8 @@ pub enum Form {
 pub enum Keyword {
     Uniform,
     Partition,
+    Graphic,
+    Gf2,
 }
 
 /// The form that a word names.
@@ -50,6 +52,10 @@ pub fn keyword_from(word: &[u8]) -> Option<Keyword>
         Some(Keyword::Uniform)
     } else if word == b"partition".as_slice() {
         Some(Keyword::Partition)
+    } else if word == b"graphic".as_slice() {
+        Some(Keyword::Graphic)
+    } else if word == b"gf2".as_slice() {
+        Some(Keyword::Gf2)
     } else {
         None
     }

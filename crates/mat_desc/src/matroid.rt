@@ -3,15 +3,18 @@
 ghost use Rattle.std.specs.Prelude.{◌≡◌, [], map};
 ghost use Rattle.mat_any.specs.Views.{tree_of};
 ghost use Rattle.mat_desc.specs.Faults.{Gives};
-ghost use Rattle.mat_desc.specs.Reading.{class_at, classes_at, uniform_at, partition_at, matroid_at, repeat_at};
+ghost use Rattle.mat_desc.specs.Reading.{class_at, classes_at, uniform_at, partition_at, graphic_at, gf2_at, matroid_at, repeat_at};
 ghost use Rattle.mat_desc.specs.Views.{lines_left, words_left};
 
 use crate::cursor::{Lines, Words};
+use crate::item_lines::{column_lines, edge_lines};
 use crate::keywords::{Keyword, keyword_from};
 use crate::reading::{elements_line, ended, keyed_line, next_count, next_line, next_word};
 use crate::refusal::{DescKind, DescRefusal};
 use mat_any::AnyMatroid;
 use mat_count::{Partition, Uniform};
+use mat_gf2::Gf2;
+use mat_graphic::Graphic;
 use mat_sets::{ElemSet, SetList};
 use std::alloc::Global;
 
@@ -88,6 +91,42 @@ fn partition<'a>(
     Ok((AnyMatroid::Partition(matroid), rest))
 }
 
+/// A graphic matroid, from the words behind its keyword on.
+#[tactic(auto, using(crate::proofs::ItemLaws::edges_sound), unfolding(crate::specs::Reading::graphic_at))]
+fn graphic<'a>(
+    alloc: Global,
+    count: u32,
+    words: Words<'a>,
+    lines: Lines<'a>,
+) -> Result<(AnyMatroid, Lines<'a>), DescRefusal>
+    ensures { Gives (λ x. (tree_of x.0, lines_left x.1)) result
+        (graphic_at count (words_left words.entry) (lines_left lines.entry)) }
+{
+    let (vertices, words) = next_count(words, 1, 501)?;
+    ended(words)?;
+    let (edges, rest) = edge_lines(alloc, vertices, count, lines)?;
+    let matroid = Graphic::new(alloc, vertices, edges)?;
+    Ok((AnyMatroid::Graphic(matroid), rest))
+}
+
+/// A matroid of columns over the field of two elements, from the words behind its keyword on.
+#[tactic(auto, using(crate::proofs::ItemLaws::columns_sound), unfolding(crate::specs::Reading::gf2_at))]
+fn gf2<'a>(
+    alloc: Global,
+    count: u32,
+    words: Words<'a>,
+    lines: Lines<'a>,
+) -> Result<(AnyMatroid, Lines<'a>), DescRefusal>
+    ensures { Gives (λ x. (tree_of x.0, lines_left x.1)) result
+        (gf2_at count (words_left words.entry) (lines_left lines.entry)) }
+{
+    let (dim, words) = next_count(words, 1, 129)?;
+    ended(words)?;
+    let (columns, rest) = column_lines(alloc, dim, count, lines)?;
+    let matroid = Gf2::new(alloc, dim, columns)?;
+    Ok((AnyMatroid::Gf2(matroid), rest))
+}
+
 /// The next matroid, on `count` elements.
 #[tactic(auto, unfolding(crate::specs::Reading::matroid_at))]
 pub fn next_matroid<'a>(
@@ -108,6 +147,8 @@ pub fn next_matroid<'a>(
         }),
         Some(Keyword::Uniform) => uniform(count, words, rest),
         Some(Keyword::Partition) => partition(alloc, count, words, rest),
+        Some(Keyword::Graphic) => graphic(alloc, count, words, rest),
+        Some(Keyword::Gf2) => gf2(alloc, count, words, rest),
     }
 }
 

@@ -40,14 +40,14 @@ fn a_pair_is_read(rt: HostRuntime) -> Result<(), Fail> {
             assert_eq!(rt; partition.caps(), [1].as_slice());
             assert_eq!(rt; partition.classes().len(), 1);
         }
-        AnyMatroid::Uniform(_) => assert!(rt; false),
+        _ => assert!(rt; false),
     }
     match second {
         AnyMatroid::Uniform(uniform) => {
             assert_eq!(rt; uniform.count(), 3);
             assert_eq!(rt; uniform.cap(), 3);
         }
-        AnyMatroid::Partition(_) => assert!(rt; false),
+        _ => assert!(rt; false),
     }
     Ok(())
 }
@@ -217,5 +217,140 @@ fn a_rooted_graph_is_written(rt: HostRuntime) -> Result<(), Fail> {
     };
     let written = write_problem(alloc, &problem)?;
     assert_eq!(rt; written.as_slice(), text.as_slice());
+    Ok(())
+}
+
+#[test]
+fn edges_and_columns_are_read(rt: HostRuntime) -> Result<(), Fail> {
+    let text =
+        b"matroids 1\npair 2\nweights 5 -2\ngraphic 3\nedge 2 0\nedge 1 1\ngf2 3\ncolumn 110\ncolumn 001\nend\n";
+    let Ok(Problem::Pair { first, second, .. }) = read_problem(rt.alloc(), text) else {
+        assert!(rt; false);
+        return Ok(());
+    };
+    match first {
+        AnyMatroid::Graphic(graphic) => {
+            assert_eq!(rt; graphic.vertices(), 3);
+            assert_eq!(rt; graphic.edges().as_slice(), [(2, 0), (1, 1)].as_slice());
+        }
+        _ => assert!(rt; false),
+    }
+    match second {
+        AnyMatroid::Gf2(gf2) => {
+            assert_eq!(rt; gf2.dim(), 3);
+            assert_eq!(rt; gf2.columns(), [6, 1].as_slice());
+        }
+        _ => assert!(rt; false),
+    }
+    Ok(())
+}
+
+#[test]
+fn edges_and_columns_are_written(rt: HostRuntime) -> Result<(), Fail> {
+    let alloc = rt.alloc();
+    let text =
+        b"matroids 1\npair 2\nweights 5 -2\ngraphic 3\nedge 2 0\nedge 1 1\ngf2 3\ncolumn 110\ncolumn 001\nend\n";
+    let Ok(problem) = read_problem(alloc, text) else {
+        assert!(rt; false);
+        return Ok(());
+    };
+    let written = write_problem(alloc, &problem)?;
+    assert_eq!(rt; written.as_slice(), text.as_slice());
+    Ok(())
+}
+
+#[test]
+fn a_column_of_128_ones_is_read_and_written(rt: HostRuntime) -> Result<(), Fail> {
+    let alloc = rt.alloc();
+    let mut text = Vec::new(alloc);
+    text.extend_from_slice(b"matroids 1\nlist 1 1\nweights 0\ngf2 128\ncolumn ")?;
+    for _ in 0..128 {
+        text.push(b'1')?;
+    }
+    text.extend_from_slice(b"\nend\n")?;
+    if text.len() > 4194304 {
+        return Ok(());
+    }
+    let Ok(problem) = read_problem(alloc, text.as_slice()) else {
+        assert!(rt; false);
+        return Ok(());
+    };
+    let written = write_problem(alloc, &problem)?;
+    assert_eq!(rt; written.as_slice(), text.as_slice());
+    Ok(())
+}
+
+#[test]
+fn first_faults_of_edges(rt: HostRuntime) -> Result<(), Fail> {
+    let cases: [(&[u8], DescKind, u32); 4] = [
+        (
+            b"matroids 1\npair 0\nweights\ngraphic 0\n",
+            DescKind::NumberRange,
+            4,
+        ),
+        (
+            b"matroids 1\npair 0\nweights\ngraphic 501\n",
+            DescKind::NumberRange,
+            4,
+        ),
+        (
+            b"matroids 1\npair 2\nweights 0 0\ngraphic 3\nedge 0 1\nuniform 1\n",
+            DescKind::UnknownWord,
+            6,
+        ),
+        (
+            b"matroids 1\npair 1\nweights 0\ngraphic 3\nedge 0 3\n",
+            DescKind::NumberRange,
+            5,
+        ),
+    ];
+    for (text, kind, line) in cases.iter() {
+        assert_eq!(rt; fault_of(rt.alloc(), text)?, Some((*kind, *line)));
+    }
+    Ok(())
+}
+
+#[test]
+fn first_faults_of_columns(rt: HostRuntime) -> Result<(), Fail> {
+    let cases: [(&[u8], DescKind, u32); 7] = [
+        (
+            b"matroids 1\npair 0\nweights\ngf2 0\n",
+            DescKind::NumberRange,
+            4,
+        ),
+        (
+            b"matroids 1\npair 0\nweights\ngf2 129\n",
+            DescKind::NumberRange,
+            4,
+        ),
+        (
+            b"matroids 1\npair 1\nweights 0\ngf2 2\n",
+            DescKind::EndsEarly,
+            5,
+        ),
+        (
+            b"matroids 1\npair 1\nweights 0\ngf2 2\ncolumn 12\n",
+            DescKind::NumberSpelling,
+            5,
+        ),
+        (
+            b"matroids 1\npair 1\nweights 0\ngf2 2\ncolumn 101\n",
+            DescKind::NumberSpelling,
+            5,
+        ),
+        (
+            b"matroids 1\npair 1\nweights 0\ngf2 2\ncolumn\n",
+            DescKind::TooFewWords,
+            5,
+        ),
+        (
+            b"matroids 1\npair 1\nweights 0\ngf2 2\ncolumn 10 1\n",
+            DescKind::TooManyWords,
+            5,
+        ),
+    ];
+    for (text, kind, line) in cases.iter() {
+        assert_eq!(rt; fault_of(rt.alloc(), text)?, Some((*kind, *line)));
+    }
     Ok(())
 }

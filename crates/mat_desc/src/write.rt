@@ -4,16 +4,19 @@ ghost use Rattle.std.specs.Prelude.{◌≡◌, ◌++◌, ◌∷◌, [], codes, m
 ghost use Rattle.std.specs.List.{zip, flat_map};
 ghost use Rattle.mat_words.specs.Numbers.{numeral};
 ghost use Rattle.mat_words.specs.Lines.{text_of};
-ghost use Rattle.mat_any.specs.Trees.{partition};
+ghost use Rattle.mat_any.specs.Trees.{partition, graphic, gf2};
 ghost use Rattle.mat_any.specs.Views.{tree_of};
-ghost use Rattle.mat_desc.specs.Grammar.{edge_line, weighted_line, coloured_edge_line};
+ghost use Rattle.mat_desc.specs.Grammar.{edge_line, column_line, weighted_line, coloured_edge_line};
 ghost use Rattle.mat_desc.specs.Instances.{pair, list, graph, rooted, coloured, table};
 ghost use Rattle.mat_desc.specs.Canonical.{numbers_line, class_line, class_lines, matroid_lines, form_lines, canonical_text};
 ghost use Rattle.mat_desc.specs.Views.{instance_of};
 
+use crate::binary::put_binary;
 use crate::problem::Problem;
 use mat_any::AnyMatroid;
 use mat_count::Partition;
+use mat_gf2::Gf2;
+use mat_graphic::Graphic;
 use mat_sets::ElemSet;
 use mat_words::put_number;
 use std::alloc::{AllocError, Global};
@@ -73,6 +76,56 @@ fn put_partition(out: &mut Vec<u8>, matroid: &Partition) -> Result<(), AllocErro
     Ok(())
 }
 
+/// Appends a line for each edge.
+fn put_edge_lines(out: &mut Vec<u8>, edges: &[(u32, u32)]) -> Result<(), AllocError>
+    ensures { OnOk result (out.new.items ≡ out.old.items ++ text_of (map edge_line edges.now)) }
+{
+    for edge in edges {
+        put_line(out, b"edge", &[i128::from(edge.0), i128::from(edge.1)])?;
+    }
+    Ok(())
+}
+
+/// Appends the lines of a graphic matroid.
+fn put_graphic(out: &mut Vec<u8>, matroid: &Graphic) -> Result<(), AllocError>
+    ensures { OnOk result (out.new.items ≡ out.old.items
+        ++ text_of (matroid_lines (graphic matroid.now.vertices matroid.now.edges))) }
+{
+    put_line(out, b"graphic", &[i128::from(matroid.vertices())])?;
+    put_edge_lines(out, matroid.edges().as_slice())?;
+    Ok(())
+}
+
+/// Appends a column line.
+fn put_column_line(out: &mut Vec<u8>, dim: u32, column: u128) -> Result<(), AllocError>
+    ensures { OnOk result (out.new.items ≡ out.old.items ++ text_of (column_line dim column ∷ [])) }
+{
+    out.extend_from_slice(b"column ")?;
+    put_binary(out, dim, column)?;
+    out.push(b'\n')?;
+    Ok(())
+}
+
+/// Appends a line for each column.
+fn put_column_lines(out: &mut Vec<u8>, dim: u32, columns: &[u128]) -> Result<(), AllocError>
+    ensures { OnOk result (out.new.items ≡ out.old.items ++ text_of (map (column_line dim) columns.now)) }
+{
+    for column in columns {
+        put_column_line(out, dim, *column)?;
+    }
+    Ok(())
+}
+
+/// Appends the lines of a matroid of columns over the field of two elements.
+fn put_gf2(out: &mut Vec<u8>, matroid: &Gf2) -> Result<(), AllocError>
+    ensures { OnOk result (out.new.items ≡ out.old.items
+        ++ text_of (matroid_lines (gf2 matroid.now.dim matroid.now.columns))) }
+{
+    put_line(out, b"gf2", &[i128::from(matroid.dim())])?;
+    put_column_lines(out, matroid.dim(), matroid.columns())?;
+    Ok(())
+}
+
 /// Appends the lines of a matroid.
 fn put_matroid(out: &mut Vec<u8>, matroid: &AnyMatroid) -> Result<(), AllocError>
     ensures { OnOk result (out.new.items ≡ out.old.items ++ text_of (matroid_lines (tree_of matroid.now))) }
@@ -80,6 +133,8 @@ fn put_matroid(out: &mut Vec<u8>, matroid: &AnyMatroid) -> Result<(), AllocError
     match matroid {
         AnyMatroid::Uniform(uniform) => put_line(out, b"uniform", &[i128::from(uniform.cap())]),
         AnyMatroid::Partition(partition) => put_partition(out, partition),
+        AnyMatroid::Graphic(graphic) => put_graphic(out, graphic),
+        AnyMatroid::Gf2(gf2) => put_gf2(out, gf2),
     }
 }
 
@@ -89,16 +144,6 @@ fn put_matroids(out: &mut Vec<u8>, matroids: &[AnyMatroid]) -> Result<(), AllocE
 {
     for matroid in matroids {
         put_matroid(out, matroid)?;
-    }
-    Ok(())
-}
-
-/// Appends a line for each edge.
-fn put_edge_lines(out: &mut Vec<u8>, edges: &[(u32, u32)]) -> Result<(), AllocError>
-    ensures { OnOk result (out.new.items ≡ out.old.items ++ text_of (map edge_line edges.now)) }
-{
-    for edge in edges {
-        put_line(out, b"edge", &[i128::from(edge.0), i128::from(edge.1)])?;
     }
     Ok(())
 }

@@ -1,0 +1,47 @@
+-- The lines of matroids that stand one after the other: what is read is spelled so, and what is spelled so is read.
+use Rattle.std.proofs.Common.{◌≡◌, ℕ, zero, suc, List, [], ◌∷◌, length, Ok, refl, ap, subst}
+use Rattle.std.specs.List.{All}
+use Rattle.std.proofs.lemmas.List.Elements.{All-nil, All-cons, All-head, All-tail}
+use Rattle.mat_words.specs.Lines.{Line}
+use Rattle.mat_any.specs.Trees.{Tree}
+use Rattle.mat_desc.specs.Faults.{◌>>=◌, LinesLeft}
+use Rattle.mat_desc.specs.Reading.{repeat_at, matroid_at}
+use Rattle.mat_desc.specs.Grammar.{IsValidMatroid, MatroidsLines}
+use Rattle.mat_desc.proofs.ReadingSteps.{found-same, bind_found}
+use Rattle.mat_desc.proofs.LineLaws.{AreLeft}
+use Rattle.mat_desc.proofs.MatroidLaws.{matroid_found, matroid_again}
+
+-- as many matroids were read
+pub record AreMatroidsRead (n many : ℕ) (p : LinesLeft) (trees : List Tree) (q : LinesLeft) : Type 0 where
+  pub count : length trees ≡ many
+  pub each : All (IsValidMatroid n) trees
+  pub spelled : (rest : List Line) → AreLeft rest q → (lines : List Line) × AreLeft lines p × MatroidsLines trees lines rest
+
+pub matroids_found : (n many : ℕ) (p : LinesLeft) (trees : List Tree) (q : LinesLeft) → repeat_at (matroid_at n) many p ≡ Ok (trees, q) → AreMatroidsRead n many p trees q
+unfolding repeat_at
+matroids_found n zero p trees q e =
+    let same = found-same ([], p) (trees, q) e in
+    subst (λ (r : List Tree × LinesLeft). AreMatroidsRead n 0 p r.0 r.1) same (record { count = refl; each = All-nil (IsValidMatroid n); spelled = λ rest left. (rest, left, refl) })
+matroids_found n (suc many) p trees q e =
+    let first = bind_found (matroid_at n p) (λ first. repeat_at (matroid_at n) many first.1 >>= λ others. Ok (first.0 ∷ others.0, others.1)) (trees, q) e in
+    let others = bind_found (repeat_at (matroid_at n) many first.0.1) (λ others. Ok (first.0.0 ∷ others.0, others.1)) (trees, q) first.2 in
+    let same = found-same (first.0.0 ∷ others.0.0, others.0.1) (trees, q) others.2 in
+    let here = matroid_found n p first.0.0 first.0.1 first.1 in
+    let more = matroids_found n many first.0.1 others.0.0 others.0.1 others.1 in
+    subst (λ (r : List Tree × LinesLeft). AreMatroidsRead n (suc many) p r.0 r.1) same (record {
+      count = ap suc more.count;
+      each = All-cons (IsValidMatroid n) first.0.0 others.0.0 here.valid more.each;
+      spelled = λ rest left.
+          let behind = more.spelled rest left in
+          let lines = here.spelled behind.0 behind.1 in
+          (lines.0, lines.1, (behind.0, lines.2, behind.2));
+    })
+
+pub matroids_again : (n : ℕ) (p : LinesLeft) (trees : List Tree) (lines rest : List Line) → All (IsValidMatroid n) trees → MatroidsLines trees lines rest → AreLeft lines p
+    → (q : LinesLeft) × (repeat_at (matroid_at n) (length trees) p ≡ Ok (trees, q)) × AreLeft rest q
+unfolding repeat_at
+matroids_again n p [] lines rest valid spelled left = (p, refl, subst (λ (ls : List Line). AreLeft ls p) spelled left)
+matroids_again n p (tree ∷ trees) lines rest valid spelled left =
+    let first = matroid_again n p tree lines spelled.0 (All-head (IsValidMatroid n) tree trees valid) spelled.1 left in
+    let others = matroids_again n first.0 trees spelled.0 rest (All-tail (IsValidMatroid n) tree trees valid) spelled.2 first.2 in
+    (others.0, rw (first.1, others.1) refl, others.2)

@@ -1,0 +1,6 @@
+pub mod Circuits
+pub mod Dimensions
+pub mod Eliminating
+pub mod Exchanges
+pub mod Markings
+pub mod Tags

@@ -1,0 +1,15 @@
+//! What the test of linear independence means, and the laws that it obeys.
+ghost use Rattle.std.specs.Prelude.{◌≡◌, ◌↔◌, ℕ, List, true};
+ghost use Rattle.mat_sets.specs.Sets.{IsRising};
+ghost use Rattle.mat_laws.specs.Matroids.{IsMatroid};
+ghost use Rattle.mat_gf2.specs.Columns.{is_linearly_independent, IsLinearlyIndependent, is_gf2};
+
+/// The test by elimination holds exactly of the sets in which no non-empty sublist has columns whose exclusive-or is zero.
+pub fn linear_independence_means()
+    ensures { (column : ℕ → ℕ) (X : List ℕ) → IsRising X → (is_linearly_independent column X ≡ true) ↔ IsLinearlyIndependent column X }
+{}
+
+/// The sets of linearly independent columns are the independent sets of a matroid (Schrijver, chapter 39).
+pub fn gf2_laws()
+    ensures { (n : ℕ) (column : ℕ → ℕ) → IsMatroid n (is_gf2 n column) }
+{}

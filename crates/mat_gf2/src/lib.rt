@@ -1,0 +1,11 @@
+//! Linear matroids over the field of two elements.
+#![tactic(auto)]
+
+mod elimination;
+mod gf2;
+mod laws;
+#[cfg(test)]
+mod tests;
+
+pub use gf2::Gf2;
+pub use laws::{gf2_laws, linear_independence_means};

@@ -1,0 +1,6 @@
+pub mod ParentTables
+pub mod Uniting
+pub mod ComponentCounts
+pub mod EdgeRows
+pub mod TrailTables
+pub mod TrailScans

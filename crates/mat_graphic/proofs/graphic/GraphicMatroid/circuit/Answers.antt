@@ -1,0 +1,18 @@
+use Rattle.std.proofs.Common.{false, true, length, refl, sym}
+use Rattle.mat_sets.specs.Graphs.{ends_of}
+use Rattle.mat_graphic.proofs.EdgeRows.{row-apart, row-trail}
+use Rattle.mat_graphic.proofs.graphic.GraphicMatroid.circuit.Goals as goal
+
+pub returns-in-Some-clause-row : goal.returns-in-Some-clause-row
+returns-in-Some-clause-row c =
+    let edges = c.args.self.now.edges in
+    let told = rw (c.in-Some.is, c.as_slice-edges.ensures) at c.in_ok-with.ensures.trail in
+    let rises = rw c.in-Some.is at c.in_ok-with.ensures.rises in
+    row-trail (length edges) (ends_of edges) c.args.base.now c.args.x (record { addable = false; with = c.in-Some.with }) c.requires.below c.requires.base c.requires.outside rises told refl
+
+pub returns-in_ok-copy-in-None-clause-row : goal.returns-in_ok-copy-in-None-clause-row
+returns-in_ok-copy-in-None-clause-row c =
+    let edges = c.args.self.now.edges in
+    let told = rw (c.in-None.is, c.as_slice-edges.ensures) at c.in_ok-with.ensures.trail in
+    row-apart (length edges) (ends_of edges) c.args.base.now c.args.x (record { addable = true; with = c.in_ok-copy-in-None.field-0 }) c.requires.below c.requires.base c.requires.outside
+    (λ same. told (sym same)) refl c.in_ok-copy-in-None.ensures.equal

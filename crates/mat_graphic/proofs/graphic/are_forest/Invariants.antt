@@ -1,0 +1,14 @@
+use Rattle.std.proofs.Common.{◌≡◌, true, drop}
+use Rattle.mat_sets.specs.Graphs.{ends_of}
+use Rattle.mat_graphic.specs.Forests.{least_reached, is_forest}
+use Rattle.mat_graphic.specs.ParentTables.{IsDescending, IsParentTable}
+use Rattle.mat_graphic.proofs.graphic.are_forest.Given as goal
+
+-- the edges from place i on are united, and are a forest
+abbrev pub invariant-loop-i : goal.invariant-loop-i
+invariant-loop-i l =
+    record {
+      descending : IsDescending l.parent;
+      united : IsParentTable (least_reached (ends_of l.edges) (drop l.i l.set)) l.parent;
+      forest : is_forest (ends_of l.edges) (drop l.i l.set) ≡ true;
+    }

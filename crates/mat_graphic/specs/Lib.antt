@@ -1,0 +1,5 @@
+pub mod Forests
+pub mod ComponentLaws
+pub mod ForestLaws
+pub mod ParentTables
+pub mod TrailSearches

@@ -1,0 +1,50 @@
+-- The search for a trail between two vertices: all vertices that members of a set of edges join to a start are found, each from one found
+-- earlier.
+use Rattle.std.specs.Prelude.{◌≡◌, ℕ, suc, ◌<◌, ◌≤◌, Bool, true, ◌&&◌, ◌==◌, nat_lt, List, length, slice_index, slice_index_or, Option, Some, None}
+use Rattle.mat_sets.specs.Sets.{is_member, AllBelow}
+use Rattle.mat_sets.specs.Search.{IsNextFrom}
+use Rattle.mat_sets.specs.Graphs.{Joins}
+use Rattle.mat_graphic.specs.ComponentLaws.{Trail}
+
+-- whether v stands in the list at i
+abbrev pub stands_at : List ℕ → ℕ → ℕ → Bool
+stands_at list v i = nat_lt i (length list) && slice_index list i == v
+
+-- from place `from` on: where each vertex stands first, and for each place the next one with the same vertex
+pub record ArePlaces (list : List ℕ) (from : ℕ) (first next : List (Option ℕ)) : Type 0 where
+  pub first_is : (v : ℕ) → v < length first → IsNextFrom (stands_at list v) from (slice_index_or first v None)
+  pub next_is : (i : ℕ) → from ≤ i → i < length list → IsNextFrom (stands_at list (slice_index list i)) (suc i) (slice_index_or next i None)
+  pub long : length next ≡ length list
+
+-- the ends of the members of a set, by their places in it
+pub record AreEnds (ends : ℕ → ℕ × ℕ) (X firsts seconds : List ℕ) : Type 0 where
+  pub firsts_long : length firsts ≡ length X
+  pub seconds_long : length seconds ≡ length X
+  pub first : (i : ℕ) → i < length X → slice_index firsts i ≡ (ends (slice_index X i)).0
+  pub second : (i : ℕ) → i < length X → slice_index seconds i ≡ (ends (slice_index X i)).1
+
+-- different vertices in the order in which they were found, with the place of each; each but the first was found from an earlier place
+pub record IsOrder (place : List (Option ℕ)) (order through before : List ℕ) : Type 0 where
+  pub below : AllBelow (length place) order
+  pub placed : (k : ℕ) → k < length order → slice_index_or place (slice_index order k) None ≡ Some k
+  pub known : (v k : ℕ) → v < length place → slice_index_or place v None ≡ Some k → (k < length order) × (slice_index order k ≡ v)
+  pub through_long : length through ≡ length order
+  pub before_long : length before ≡ length order
+  pub earlier : (k : ℕ) → 0 < k → k < length order → slice_index before k < k
+
+-- each vertex but the start was found through a member of X that joins it to the vertex at its earlier place
+pub record IsTree (ends : ℕ → ℕ × ℕ) (X : List ℕ) (start : ℕ) (order through before : List ℕ) : Type 0 where
+  pub some : 0 < length order
+  pub first : slice_index order 0 ≡ start
+  pub member : (k : ℕ) → 0 < k → k < length order → is_member (slice_index through k) X ≡ true
+  pub joined : (k : ℕ) → 0 < k → k < length order → Joins ends (slice_index through k) (slice_index order k) (slice_index order (slice_index before k))
+
+-- ys begins with xs
+pub record IsFront (xs ys : List ℕ) : Type 0 where
+  pub longer : length xs ≤ length ys
+  pub same : (k : ℕ) → k < length xs → slice_index ys k ≡ slice_index xs k
+
+-- the set of the edges of a trail from v to w
+pub record IsTrailSet (ends : ℕ → ℕ × ℕ) (X : List ℕ) (v w : ℕ) (set : List ℕ) : Type 0 where
+  pub trail : Trail ends X v w
+  pub same : (z : ℕ) → is_member z set ≡ is_member z trail.edges

@@ -1,0 +1,146 @@
+//! Graphic matroids.
+ghost use Rattle.std.specs.Prelude.{◌≡◌, ℕ, List, ◌∷◌, ◌<◌, ◌&&◌, length, slice_index, IfOk};
+ghost use Rattle.mat_sets.specs.Graphs.{ends_of};
+ghost use Rattle.mat_sets.specs.Sets.{AllBelow, IsRising};
+ghost use Rattle.mat_graphic.specs.Forests.{IsGraph, IsLeastReached, is_forest, is_graphic, least_reached};
+ghost use Rattle.mat_graphic.specs.ForestLaws.{graphic_laws};
+ghost use Rattle.mat_graphic.specs.ParentTables.{IsDescending, IsParentTable};
+
+use crate::trail::trail;
+use crate::union_find::{settle, singletons, unite};
+use mat_laws::{Exchange, Matroid};
+use mat_sets::{ElemSet, Pairs};
+use std::alloc::{AllocError, Global};
+
+/// The matroid of the edges of a graph in which a set is independent where it is a forest: no walk along a non-empty
+/// list of different members ends where it begins (Schrijver, chapter 39).
+#[derive(Debug, Drop)]
+pub struct Graphic {
+    vertices: u32,
+    edges: Pairs,
+}
+
+// Unites the components of the ends of an edge, and tells whether they were two.
+fn unite_ends(parent: &mut [u32], edges: &[(u32, u32)], e: u32) -> bool
+    requires graph { IsGraph (length parent.old) edges.now }
+    requires below { e < length edges.now }
+    requires descending { IsDescending parent.old }
+    ensures descending { IsDescending parent.new }
+    ensures united { (X : List ℕ) → IsParentTable (least_reached (ends_of edges.now) X) parent.old → IsParentTable (least_reached (ends_of edges.now) (e ∷ X)) parent.new }
+    ensures forest { (X : List ℕ) → IsParentTable (least_reached (ends_of edges.now) X) parent.old → is_forest (ends_of edges.now) (e ∷ X) ≡ (is_forest (ends_of edges.now) X && result) }
+{
+    let (first, second) = edges[e as usize];
+    unite(parent, first, second)
+}
+
+// Unites the components of the ends of each edge of a set, from the last edge to the first.
+fn unite_all(parent: &mut [u32], edges: &[(u32, u32)], set: &ElemSet)
+    requires graph { IsGraph (length parent.old) edges.now }
+    requires below { AllBelow (length edges.now) set.now }
+    requires descending { IsDescending parent.old }
+    requires single { IsParentTable (λ v. v) parent.old }
+    ensures descending { IsDescending parent.new }
+    ensures united { IsParentTable (least_reached (ends_of edges.now) set.now) parent.new }
+    ensures rises { IsRising set.now }
+{
+    for i in (0..set.len()).rev() {
+        unite_ends(parent, edges, set.get(i));
+    }
+}
+
+// Whether a set of edges is a forest: from the last edge to the first, the ends of each are in different components of
+// those after it.
+fn are_forest(parent: &mut [u32], edges: &[(u32, u32)], set: &ElemSet) -> bool
+    requires graph { IsGraph (length parent.old) edges.now }
+    requires below { AllBelow (length edges.now) set.now }
+    requires descending { IsDescending parent.old }
+    requires single { IsParentTable (λ v. v) parent.old }
+    ensures answer { result ≡ is_forest (ends_of edges.now) set.now }
+    ensures rises { IsRising set.now }
+{
+    for i in (0..set.len()).rev() {
+        if !unite_ends(parent, edges, set.get(i)) {
+            return false;
+        }
+    }
+    true
+}
+
+impl Graphic {
+    /// The graphic matroid of the graph with this many vertices and these edges, each the pair of its ends: element e is
+    /// the e-th edge. An edge whose ends are one vertex is a loop, and edges with the same ends are parallel. The only
+    /// error is want of memory.
+    pub fn new(_alloc: Global, vertices: u32, edges: Pairs) -> Result<Graphic, AllocError>
+        requires { IsGraph vertices edges }
+        ensures value { IfOk result (λ g. g ≡ record { vertices = vertices; edges = edges }) }
+        ensures sound { IfOk result (λ g. IsGraph g.vertices g.edges) }
+    {
+        Ok(Graphic { vertices, edges })
+    }
+
+    /// The number of vertices.
+    pub fn vertices(&self) -> u32
+        ensures { result ≡ self.now.vertices }
+    {
+        self.vertices
+    }
+
+    /// The edges, as they were handed in.
+    pub fn edges(&self) -> &Pairs
+        ensures { result.now ≡ self.now.edges }
+    {
+        &self.edges
+    }
+
+    /// For each vertex the least vertex that walks along these edges reach from it. The time is nearly linear in the
+    /// number of vertices and of edges: union-find with path halving, in which the least vertex of a component is its
+    /// root. The only error is want of memory.
+    pub fn components(&self, alloc: Global, edges: &ElemSet) -> Result<Vec<u32>, AllocError>
+        requires sound { IsGraph self.now.vertices self.now.edges }
+        requires below { AllBelow (length self.now.edges) edges.now }
+        ensures long { IfOk result (λ t. length t.items ≡ self.now.vertices) }
+        ensures least { IfOk result (λ t. (v : ℕ) → v < self.now.vertices → IsLeastReached (ends_of self.now.edges) edges.now v (slice_index t.items v)) }
+    {
+        let mut parent = singletons(alloc, self.vertices)?;
+        unite_all(&mut parent, self.edges.as_slice(), edges);
+        settle(&mut parent);
+        Ok(parent)
+    }
+}
+
+impl Matroid for Graphic {
+    ghost ground_size = { λ m. length m.edges };
+
+    ghost sound = { λ m. IsGraph m.vertices m.edges };
+
+    ghost indep = { λ m. is_graphic (length m.edges) (ends_of m.edges) };
+
+    ghost laws = { λ m h. graphic_laws (length m.edges) (ends_of m.edges) };
+
+    fn size(&self) -> u32 {
+        self.edges.len() as u32
+    }
+
+    fn independent(&self, alloc: Global, set: &ElemSet) -> Result<bool, AllocError> {
+        let mut parent = singletons(alloc, self.vertices)?;
+        Ok(are_forest(&mut parent, self.edges.as_slice(), set))
+    }
+
+    /// The exchanges of an edge outside a forest: where its ends are in two components it can be added, and exchanged for
+    /// any member; else it can be exchanged for the members of the trail between its ends. One search of the forest.
+    fn circuit(&self, alloc: Global, base: &ElemSet, x: u32) -> Result<Exchange, AllocError> {
+        self.lawful();
+        let edges = self.edges.as_slice();
+        let (first, second) = edges[x as usize];
+        match trail(alloc, self.vertices, edges, base, second, first)? {
+            Some(with) => Ok(Exchange {
+                addable: false,
+                with,
+            }),
+            None => Ok(Exchange {
+                addable: true,
+                with: base.copy(alloc)?,
+            }),
+        }
+    }
+}
