@@ -13,7 +13,8 @@ pub record IsGraph (vertices : ℕ) (edges : List (ℕ × ℕ)) : Type 0 where
 
 -- X is a forest: no walk along a non-empty list of different members of X ends where it begins
 pub record IsForest (ends : ℕ → ℕ × ℕ) (X : List ℕ) : Type 0 where
-  pub never_closed : (e : ℕ) (edges : List ℕ) (v w : ℕ) → AreDistinct (e ∷ edges) → IsSubset (e ∷ edges) X → Walk ends (e ∷ edges) v w → v ≢ w
+  pub never_closed : (e : ℕ) (edges : List ℕ) (v w : ℕ) → AreDistinct (e ∷ edges) → IsSubset (e ∷ edges) X
+      → Walk ends (e ∷ edges) v w → v ≢ w
 
 -- r is the least vertex of the component of v: a walk along members of X reaches r from v, and none reaches a lower vertex
 pub record IsLeastReached (ends : ℕ → ℕ × ℕ) (X : List ℕ) (v r : ℕ) : Type 0 where
