@@ -1,9 +1,9 @@
 -- Kind trees: what contracts see of any matroid.
 use Rattle.std.specs.Prelude.{ℕ, Bool, List, length}
-use Rattle.mat_sets.specs.Graphs.{ends_of}
+use Rattle.mat_sets.specs.Graphs.{IsGraph, ends_of}
 use Rattle.mat_count.specs.Counts.{is_uniform, is_counted}
 use Rattle.mat_count.specs.Partitions.{IsPartition}
-use Rattle.mat_graphic.specs.Forests.{IsGraph, is_graphic}
+use Rattle.mat_graphic.specs.Forests.{is_graphic}
 use Rattle.mat_gf2.specs.Columns.{IsBinaryMatrix, column_of, is_gf2}
 
 -- a matroid of any kind, as its keyword with numbers, sets and children

@@ -5,11 +5,10 @@ use Rattle.std.proofs.lemmas.List.Elements.{filter_more}
 use Rattle.std.specs.Option.{option_eq}
 use Rattle.mat_sets.specs.Sets.{is_member, IsRising, AllBelow, with_one, intersection}
 use Rattle.mat_sets.proofs.Ground.{AllBelow-member}
-use Rattle.mat_sets.proofs.Members.{same_members, is_member-filter, is_member-with_one, RisesFrom-filter, IsRising-with_one}
+use Rattle.mat_sets.proofs.Members.{filter_same_at, same_members, is_member-filter, is_member-with_one, RisesFrom-filter, IsRising-with_one}
 use Rattle.mat_sets.proofs.Steps.{IsRising-take, is_member-take_more}
 use Rattle.mat_count.specs.Partitions.{names, IsClassTable}
 use Rattle.mat_count.specs.ClassMembers.{named_members}
-use Rattle.mat_count.proofs.Filters.{filter_same_at}
 
 pub named_members-none : (table : List (Option ℕ)) (place : ℕ) (X : List ℕ) → named_members table place (take 0 X) ≡ []
 named_members-none table place X = refl

@@ -5,7 +5,7 @@ use Rattle.std.proofs.lemmas.Bool.{cases_Bool, cases_eq, both_ways, and_parts, a
 use Rattle.mat_sets.specs.Sets.{is_member, IsRising, IsSet, with_one, without_one, intersection}
 use Rattle.mat_sets.specs.SetTests.{is_set}
 use Rattle.mat_sets.specs.Families.{indicator}
-use Rattle.mat_sets.proofs.Members.{IsRising-without_one, set_members}
+use Rattle.mat_sets.proofs.Members.{filter_same_at, IsRising-without_one, set_members}
 use Rattle.mat_sets.proofs.Changes.{with_one-returned}
 use Rattle.mat_sets.proofs.Ground.{IsSet-with_one, IsSet-without_one}
 use Rattle.mat_sets.proofs.SetTests.{IsSet-from_test, test_from-IsSet}
@@ -14,7 +14,7 @@ use Rattle.mat_laws.specs.Exchanges.{row_of}
 use Rattle.mat_laws.proofs.Rows.{row_outside}
 use Rattle.mat_count.specs.Counts.{is_within_caps, IsWithinCaps, is_counted}
 use Rattle.mat_count.specs.LaminarLaws.{IsWithinCaps-from_test, test_from-IsWithinCaps, counted_more, counted_same}
-use Rattle.mat_count.proofs.Filters.{filter_same_at, filter_whole}
+use Rattle.mat_count.proofs.Filters.{filter_whole}
 
 -- ---- counts in one set
 

@@ -1,7 +1,7 @@
 -- Tables of parents: what each loop and each change of an entry keeps, for whatever components the table is of.
-use Rattle.std.proofs.Common.{◌≡◌, ℕ, ◌+◌, ◌<◌, ◌≤◌, ◌≢◌, min, max, true, false, not, eqb, List, [], ◌∷◌, ◌++◌, length, get_or, set, take, drop, ◌⊎◌, inl, inr, refl, sym, ap, ◌∙◌, subst, arith, get_or-set_other, get_or-set_same, length-set, length-append}
+use Rattle.std.proofs.Common.{◌≡◌, ℕ, ◌+◌, ◌<◌, ◌≤◌, ◌≢◌, min, max, true, false, not, eqb, List, [], ◌∷◌, ◌++◌, length, get_or, set, ◌⊎◌, inl, inr, refl, sym, ap, ◌∙◌, subst, arith, get_or-set_other, get_or-set_same, length-set, length-append}
 use Rattle.std.proofs.lemmas.List.{set-get_or, get_or_append_left}
-use Rattle.std.proofs.Math.Seq.{get_or-append_seam, take-append_seam}
+use Rattle.std.proofs.Math.Seq.{get_or-append_seam}
 use Rattle.std.proofs.lemmas.Bool.{cases_eq, cases_lt, eq-eqb, ne_eqb}
 use Rattle.mat_graphic.specs.Forests.{merged}
 use Rattle.mat_graphic.specs.ComponentLaws.{merged_cases, merged-first, merged-second, merged-fixed, merged-same}
@@ -236,7 +236,3 @@ IsSettling-next old i parent l s =
 pub IsSettling-end : (old : List ℕ) (i : ℕ) (parent : List ℕ) → length parent ≤ i → IsSettling old i parent → (least : ℕ → ℕ)
     → IsParentTable least old → (v : ℕ) → v < length parent → get_or parent v 0 ≡ least v
 IsSettling-end old i parent le s least t v l = (s.table least t).1 v (omega arith)
-
--- a slice that was lent and is written back
-pub written_back : (n : ℕ) (new old : List ℕ) → length new ≡ n → take n (new ++ drop (length new) old) ≡ new
-written_back n new old same = ap (λ k. take k (new ++ drop (length new) old)) (sym same) ∙ take-append_seam new (drop (length new) old)

@@ -1,8 +1,8 @@
 //! Graphic matroids.
 ghost use Rattle.std.specs.Prelude.{◌≡◌, ℕ, List, ◌∷◌, ◌<◌, ◌&&◌, length, slice_index, IfOk};
-ghost use Rattle.mat_sets.specs.Graphs.{ends_of};
+ghost use Rattle.mat_sets.specs.Graphs.{IsGraph, ends_of};
 ghost use Rattle.mat_sets.specs.Sets.{AllBelow, IsRising};
-ghost use Rattle.mat_graphic.specs.Forests.{IsGraph, IsLeastReached, is_forest, is_graphic, least_reached};
+ghost use Rattle.mat_graphic.specs.Forests.{IsLeastReached, is_forest, is_graphic, least_reached};
 ghost use Rattle.mat_graphic.specs.ForestLaws.{graphic_laws};
 ghost use Rattle.mat_graphic.specs.ParentTables.{IsDescending, IsParentTable};
 

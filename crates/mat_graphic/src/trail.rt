@@ -1,8 +1,8 @@
 //! A trail between two vertices along members of a set of edges, by a search that asks each found vertex once for its edges.
 ghost use Rattle.std.specs.Prelude.{◌≡◌, ◌≢◌, ◌<◌, ℕ, List, length, slice_index, true, IfOk, OnOk, MatchOption};
-ghost use Rattle.mat_sets.specs.Graphs.{Joins, ends_of};
+ghost use Rattle.mat_sets.specs.Graphs.{IsGraph, Joins, ends_of};
 ghost use Rattle.mat_sets.specs.Sets.{AllBelow, IsRising, is_member};
-ghost use Rattle.mat_graphic.specs.Forests.{IsGraph, least_reached};
+ghost use Rattle.mat_graphic.specs.Forests.{least_reached};
 ghost use Rattle.mat_graphic.specs.TrailSearches.{AreEnds, AreJoined, ArePlaces, IsFront, IsOrder, IsTrailSet, IsTree};
 
 use mat_sets::ElemSet;

@@ -1,9 +1,9 @@
 use Rattle.std.proofs.Common.{◌∙◌, get_or, subst, sym, arith}
 use Rattle.mat_sets.specs.Graphs.{ends_of}
+use Rattle.mat_sets.proofs.Steps.{written_back}
 use Rattle.mat_graphic.specs.Forests.{IsLeastReached, least_reached}
 use Rattle.mat_graphic.specs.ComponentLaws.{least_reached-is}
 use Rattle.mat_graphic.specs.ParentTables.{IsParentTable}
-use Rattle.mat_graphic.proofs.ParentTables.{written_back}
 use Rattle.mat_graphic.proofs.graphic.Graphic.components.Goals as goal
 
 pub returns-clause-least : goal.returns-clause-least
