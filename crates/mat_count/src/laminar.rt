@@ -164,6 +164,23 @@ impl Laminar {
         if let Some((a, b)) = first_pair(&sets) {
             return Err(LaminarFault::Crossing { a, b });
         }
+        let matroid = Laminar::from_family(alloc, count, sets, caps)?;
+        Ok(matroid)
+    }
+
+    /// The laminar matroid of this many elements, these sets and their caps, where it is known that the members are elements
+    /// and that no two sets cross. The only error is want of memory.
+    pub fn from_family(
+        alloc: Global,
+        count: u32,
+        sets: SetList,
+        caps: Vec<u32>,
+    ) -> Result<Laminar, AllocError>
+        requires laminar { IsLaminar count sets caps.items }
+        requires few { length sets < 2 ^ 32 }
+        ensures value { IfOk result (λ l. l ≡ record { count = count; sets = sets; caps = caps.items }) }
+        ensures sound { IfOk result (λ l. IsLaminar l.count l.sets l.caps) }
+    {
         let places = place_table(alloc, count, &sets)?;
         Ok(Laminar {
             count,
