@@ -12,7 +12,7 @@ use Rattle.mat_sets.proofs.Sums.{AllBelow-at}
 use Rattle.mat_sets.proofs.Members.{intersection-none}
 use Rattle.mat_sets.specs.Families.{AreDisjoint, indicator}
 use Rattle.mat_sets.proofs.Families.{disjoint-apart}
-use Rattle.mat_count.specs.Partitions.{names, IsPartition, IsClassTable, IsEntered, CountsMembers}
+use Rattle.mat_count.specs.Partitions.{names, IsClassTable, IsEntered, CountsMembers}
 use Rattle.mat_count.specs.Counts.{is_within_caps, is_counted}
 use Rattle.mat_count.specs.LaminarLaws.{IsWithinCaps-from_test, test_from-IsWithinCaps}
 
@@ -141,7 +141,7 @@ CountsMembers-free count classes table X numbers i x inside below item right unn
     same false is more was = omega arith
 
 -- no number is above how many members were counted
-length-intersection : (X S : List ℕ) → length (intersection X S) ≤ length X
+pub length-intersection : (X S : List ℕ) → length (intersection X S) ≤ length X
 unfolding intersection
 length-intersection X S = omega (arith, length-filter_both (λ x. is_member x S) (λ x. not (is_member x S)) (λ x. refl) X)
 
@@ -156,10 +156,10 @@ pub ruleset counting = (CountsMembers-none, named-inside, AllBelow-at)
 -- ---- the answer
 
 -- the numbers are at most the caps exactly where X is independent
-pub is_counted-from_numbers : (n : ℕ) (classes : List (List ℕ)) (caps X numbers : List ℕ) (within : Bool) → IsPartition n classes caps → IsRising X → AllBelow n X → CountsMembers classes X numbers
+pub is_counted-from_numbers : (n : ℕ) (classes : List (List ℕ)) (caps X numbers : List ℕ) (within : Bool) → length caps ≡ length classes → IsRising X → AllBelow n X → CountsMembers classes X numbers
     → ((within ≡ true) ↔ ((i : ℕ) → i < length caps → get_or numbers i 0 ≤ get_or caps i 0)) → within ≡ is_counted n classes caps X
-is_counted-from_numbers n classes caps X numbers true partition rising below counts means =
-    rw (is_set-true n X rising below) (sym (test_from-IsWithinCaps classes caps X (record { at = λ i l. let number = counts.at i l in let most = means.0 refl i (let capped = partition.capped in omega arith) in omega arith })))
-is_counted-from_numbers n classes caps X numbers false partition rising below counts means = sym (false_from_ne_true (is_counted n classes caps X) (λ passes.
-    let fits = IsWithinCaps-from_test classes caps X partition.capped (and_parts (is_set n X) (is_within_caps classes caps X) passes).1 in
-    both_ways false refl (means.1 (λ i l. let inside : i < length classes = (let capped = partition.capped in omega arith) in let number = counts.at i inside in let most = fits.at i inside in omega arith))))
+is_counted-from_numbers n classes caps X numbers true capped rising below counts means =
+    rw (is_set-true n X rising below) (sym (test_from-IsWithinCaps classes caps X (record { at = λ i l. let number = counts.at i l in let most = means.0 refl i (omega arith) in omega arith })))
+is_counted-from_numbers n classes caps X numbers false capped rising below counts means = sym (false_from_ne_true (is_counted n classes caps X) (λ passes.
+    let fits = IsWithinCaps-from_test classes caps X capped (and_parts (is_set n X) (is_within_caps classes caps X) passes).1 in
+    both_ways false refl (means.1 (λ i l. let inside : i < length classes = omega arith in let number = counts.at i inside in let most = fits.at i inside in omega arith))))

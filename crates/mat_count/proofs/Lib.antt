@@ -1,6 +1,9 @@
 pub mod ClassMembers
 pub mod ClassRows
 pub mod ClassTables
+pub mod CrossingWalks
 pub mod Filters
+pub mod LaminarRows
 pub mod PartitionRows
+pub mod PlaceTables
 pub mod UniformRows

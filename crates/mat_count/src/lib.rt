@@ -1,12 +1,21 @@
 //! Matroids that bound how many elements a set may have.
 #![tactic(auto)]
 
+mod caps;
+mod crossings;
+mod laminar;
+mod laminar_fault;
+#[cfg(test)]
+mod laminar_tests;
 mod laws;
 mod partition;
 #[cfg(test)]
 mod tests;
 mod uniform;
 
+pub use crossings::crossing;
+pub use laminar::Laminar;
+pub use laminar_fault::LaminarFault;
 pub use laws::{crosses_means, laminar_laws, within_caps_means};
 pub use partition::Partition;
 pub use uniform::Uniform;

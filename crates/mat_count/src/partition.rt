@@ -1,5 +1,5 @@
 //! Partition matroids.
-ghost use Rattle.std.specs.Prelude.{◌≡◌, ◌↔◌, ℕ, ◌<◌, ◌≤◌, length, slice_index, IfOk, IsTrue};
+ghost use Rattle.std.specs.Prelude.{◌≡◌, length, IfOk};
 ghost use Rattle.std.specs.List.{All};
 ghost use Rattle.mat_sets.specs.Sets.{AllBelow, IsRising};
 ghost use Rattle.mat_sets.specs.Families.{AreDisjoint};
@@ -8,6 +8,7 @@ ghost use Rattle.mat_count.specs.ClassMembers.{named_members};
 ghost use Rattle.mat_count.specs.Partitions.{CappedClasses, IsPartition, IsClassTable, IsEntered, CountsMembers};
 ghost use Rattle.mat_count.specs.PartitionLaws.{partition_laws};
 
+use crate::caps::are_within;
 use mat_laws::{Exchange, Matroid};
 use mat_sets::{ElemSet, SetList};
 use std::alloc::{AllocError, Global};
@@ -82,19 +83,6 @@ fn members_by_class(
         }
     }
     Ok(numbers)
-}
-
-// Whether each number is at most its cap.
-fn are_within(numbers: &[usize], caps: &[u32]) -> bool
-    requires { length numbers.now ≡ length caps.now }
-    ensures { IsTrue result ↔ ((i : ℕ) → i < length caps.now → slice_index numbers.now i ≤ slice_index caps.now i) }
-{
-    for i in 0..caps.len() {
-        if numbers[i] > caps[i] as usize {
-            return false;
-        }
-    }
-    true
 }
 
 // The members of the set that stand in the class at this place. Each is put in at the end, so that the time is linear.

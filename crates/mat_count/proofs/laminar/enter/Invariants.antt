@@ -1,0 +1,6 @@
+use Rattle.std.proofs.Common.{take}
+use Rattle.mat_count.specs.LaminarMatroids.{IsPlaced}
+use Rattle.mat_count.proofs.laminar.enter.Given as goal
+
+abbrev pub invariant-loop-i : goal.invariant-loop-i
+invariant-loop-i l = IsPlaced l.fn.table (take l.i l.set) l.place l.table

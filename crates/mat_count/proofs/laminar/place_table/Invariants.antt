@@ -1,0 +1,6 @@
+use Rattle.std.proofs.Common.{take}
+use Rattle.mat_count.specs.LaminarMatroids.{IsPlaceTable}
+use Rattle.mat_count.proofs.laminar.place_table.Given as goal
+
+abbrev pub invariant-loop-place : goal.invariant-loop-place
+invariant-loop-place l = IsPlaceTable l.count (take l.place l.sets) l.table.items
