@@ -3,8 +3,8 @@ use Rattle.mat_sets.specs.Sets.{AllBelow, with_one}
 use Rattle.mat_sets.proofs.Changes.{AllBelow-with_one}
 use Rattle.mat_laws.proofs.Independent.{rising, below}
 use Rattle.mat_laws.proofs.Rows.{IsCollecting-found, IsCollecting-passed, IsCollecting-end, member_of_larger, row_outside}
-use Rattle.mat_laws.proofs.matroid.Matroid.circuit.Goals as goal
-use Rattle.mat_laws.proofs.matroid.Matroid.circuit.Goals.{then-branch+in_ok-add-2, else-branch}
+use Rattle.mat_laws.proofs.matroid.Matroid.circuit_by_questions.Goals as goal
+use Rattle.mat_laws.proofs.matroid.Matroid.circuit_by_questions.Goals.{then-branch+in_ok-add-2, else-branch}
 
 pub independent-requires-clause-below : goal.independent-requires-clause-below
 independent-requires-clause-below g c =
