@@ -27,7 +27,7 @@ counted-with_one S X x rising outside = elim (cases_Bool (is_member x S)) [
 ]
 
 -- an exchange
-counted-exchanged : (S I : List ℕ) (x y : ℕ) → IsRising I → is_member x I ≡ false → is_member y I ≡ true
+pub counted-exchanged : (S I : List ℕ) (x y : ℕ) → IsRising I → is_member x I ≡ false → is_member y I ≡ true
     → length (intersection (with_one (without_one I y) x) S) + indicator (is_member y S)
     ≡ length (intersection I S) + indicator (is_member x S)
 counted-exchanged S I x y rising outside inside =
@@ -68,7 +68,7 @@ counted n sets caps X set within =
     and_from (is_set n X) (is_within_caps sets caps X) (test_from-IsSet n X set) (test_from-IsWithinCaps sets caps X within)
 
 -- a set that has too many members in one listed set
-not_counted : (n : ℕ) (sets : List (List ℕ)) (caps X : List ℕ) (i : ℕ) → length caps ≡ length sets → i < length sets
+pub not_counted : (n : ℕ) (sets : List (List ℕ)) (caps X : List ℕ) (i : ℕ) → length caps ≡ length sets → i < length sets
     → get_or caps i 0 < count_in sets i X → is_counted n sets caps X ≡ false
 not_counted n sets caps X i same l many = false_from_ne_true (is_counted n sets caps X) (λ h.
     let tests = and_parts (is_set n X) (is_within_caps sets caps X) h in
@@ -99,7 +99,7 @@ module _ {n : ℕ} {sets : List (List ℕ)} {caps I : List ℕ} {x : ℕ} (o : I
   exchange y = with_one (without_one I y) x
 
   -- I + x where no listed set that holds x is full
-  added_with_room : ((i : ℕ) → i < length sets → stands_in sets i x ≡ true → count_in sets i I < get_or caps i 0)
+  pub added_with_room : ((i : ℕ) → i < length sets → stands_in sets i x ≡ true → count_in sets i I < get_or caps i 0)
       → is_counted n sets caps (with_one I x) ≡ true
   added_with_room room = counted n sets caps (with_one I x) (IsSet-with_one n I x o.set o.small) (record {
     at = λ i l. fits_added (stands_in sets i x) _ _ (get_or caps i 0)
@@ -107,7 +107,7 @@ module _ {n : ℕ} {sets : List (List ℕ)} {caps I : List ℕ} {x : ℕ} (o : I
   })
 
   -- I - y + x where each full listed set that holds x holds y as well
-  exchanged_with_room : (y : ℕ) → is_member y I ≡ true
+  pub exchanged_with_room : (y : ℕ) → is_member y I ≡ true
       → ((i : ℕ) → i < length sets → stands_in sets i x ≡ true → (count_in sets i I < get_or caps i 0) ⊎ (stands_in sets i y ≡ true))
       → is_counted n sets caps (exchange y) ≡ true
   exchanged_with_room y inside room =

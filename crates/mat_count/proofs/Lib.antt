@@ -4,6 +4,7 @@ pub mod ClassTables
 pub mod CrossedSets
 pub mod CrossingWalks
 pub mod Filters
+pub mod LaminarRows
 pub mod PartitionRows
 pub mod PlaceTables
 pub mod UniformRows
