@@ -4,14 +4,16 @@ use Rattle.mat_sets.specs.Graphs.{ends_of}
 use Rattle.mat_laws.specs.Matroids.{IsMatroid}
 use Rattle.mat_count.specs.UniformLaws.{uniform_laws}
 use Rattle.mat_count.specs.PartitionLaws.{partition_laws}
+use Rattle.mat_count.specs.LaminarLaws.{counted_laws}
 use Rattle.mat_graphic.specs.ForestLaws.{graphic_laws}
 use Rattle.mat_gf2.specs.Columns.{column_of}
 use Rattle.mat_gf2.specs.Gf2Laws.{gf2_laws}
-use Rattle.mat_any.specs.Trees.{Tree, uniform, partition, graphic, gf2, element_count, is_independent, IsSound}
+use Rattle.mat_any.specs.Trees.{Tree, uniform, partition, laminar, graphic, gf2, element_count, is_independent, IsSound}
 
 -- by cases on the kind
 pub tree_laws : (t : Tree) → IsSound t → IsMatroid (element_count t) (is_independent t)
 tree_laws (uniform n cap) sound = uniform_laws n cap
 tree_laws (partition n classes caps) sound = partition_laws n classes caps sound
+tree_laws (laminar n sets caps) sound = counted_laws n sets caps sound.family
 tree_laws (graphic vertices edges) sound = graphic_laws (length edges) (ends_of edges)
 tree_laws (gf2 dim columns) sound = gf2_laws (length columns) (column_of columns)

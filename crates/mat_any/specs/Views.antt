@@ -1,11 +1,12 @@
 -- The tree that a matroid of any kind is seen as.
-use Rattle.mat_any.specs.Trees.{Tree, uniform, partition, graphic, gf2}
+use Rattle.mat_any.specs.Trees.{Tree, uniform, partition, laminar, graphic, gf2}
 use Rattle.mat_any.specs.declared.any.AnyMatroid.{AnyMatroid}
-use Rattle.mat_any.specs.declared.any.AnyMatroid.TheVariants.{Uniform, Partition, Graphic, Gf2}
+use Rattle.mat_any.specs.declared.any.AnyMatroid.TheVariants.{Uniform, Partition, Laminar, Graphic, Gf2}
 
 -- the tree of a matroid: its keyword with what its constructor took
 abbrev pub tree_of : AnyMatroid → Tree
 tree_of (Uniform m) = uniform m.count m.cap
 tree_of (Partition m) = partition m.count m.classes m.caps
+tree_of (Laminar m) = laminar m.count m.sets m.caps
 tree_of (Graphic m) = graphic m.vertices m.edges
 tree_of (Gf2 m) = gf2 m.dim m.columns

@@ -3,7 +3,7 @@ ghost use Rattle.mat_any.specs.Trees.{element_count, is_independent, IsSound};
 ghost use Rattle.mat_any.specs.TreeLaws.{tree_laws};
 ghost use Rattle.mat_any.specs.Views.{tree_of};
 
-use mat_count::{Partition, Uniform};
+use mat_count::{Laminar, Partition, Uniform};
 use mat_gf2::Gf2;
 use mat_graphic::Graphic;
 use mat_laws::{Exchange, Matroid};
@@ -15,6 +15,7 @@ use std::alloc::{AllocError, Global};
 pub enum AnyMatroid {
     Uniform(Uniform),
     Partition(Partition),
+    Laminar(Laminar),
     Graphic(Graphic),
     Gf2(Gf2),
 }
@@ -32,6 +33,7 @@ impl Matroid for AnyMatroid {
         match self {
             AnyMatroid::Uniform(matroid) => matroid.size(),
             AnyMatroid::Partition(matroid) => matroid.size(),
+            AnyMatroid::Laminar(matroid) => matroid.size(),
             AnyMatroid::Graphic(matroid) => matroid.size(),
             AnyMatroid::Gf2(matroid) => matroid.size(),
         }
@@ -41,6 +43,7 @@ impl Matroid for AnyMatroid {
         match self {
             AnyMatroid::Uniform(matroid) => matroid.independent(alloc, set),
             AnyMatroid::Partition(matroid) => matroid.independent(alloc, set),
+            AnyMatroid::Laminar(matroid) => matroid.independent(alloc, set),
             AnyMatroid::Graphic(matroid) => matroid.independent(alloc, set),
             AnyMatroid::Gf2(matroid) => matroid.independent(alloc, set),
         }
@@ -50,6 +53,7 @@ impl Matroid for AnyMatroid {
         match self {
             AnyMatroid::Uniform(matroid) => matroid.circuit(alloc, base, x),
             AnyMatroid::Partition(matroid) => matroid.circuit(alloc, base, x),
+            AnyMatroid::Laminar(matroid) => matroid.circuit(alloc, base, x),
             AnyMatroid::Graphic(matroid) => matroid.circuit(alloc, base, x),
             AnyMatroid::Gf2(matroid) => matroid.circuit(alloc, base, x),
         }

@@ -1,5 +1,5 @@
 -- Laminar families: sets of which any two are apart, or one contains the other (Schrijver, chapter 13).
-use Rattle.std.specs.Prelude.{◌≡◌, ℕ, ◌<◌, Bool, true, false, ◌&&◌, nat_lt, List, [], length, slice_index_or}
+use Rattle.std.specs.Prelude.{◌≡◌, ℕ, ◌<◌, Bool, true, false, ◌&&◌, ◌||◌, nat_lt, List, [], ◌∷◌, length, slice_index_or}
 use Rattle.mat_sets.specs.Sets.{is_member, minus, intersection}
 
 -- whether two sets share a member and neither contains the other
@@ -17,6 +17,11 @@ pub record Crosses (A B : List ℕ) : Type 0 where
   pub first_outside : is_member first B ≡ false
   pub second_inside : is_member second B ≡ true
   pub second_outside : is_member second A ≡ false
+
+-- whether some set of the list crosses the set
+unfoldable pub is_crossed : List (List ℕ) → List ℕ → Bool
+is_crossed [] B = false
+is_crossed (A ∷ sets) B = crosses A B || is_crossed sets B
 
 -- no two listed sets cross
 pub record IsLaminarFamily (sets : List (List ℕ)) : Type 0 where

@@ -1,9 +1,9 @@
--- The text of a problem that is written: each class in rising order, and everything else in its own order.
+-- The text of a problem that is written: the elements of each set in rising order, and everything else in its own order.
 use Rattle.std.specs.Prelude.{ℕ, List, [], ◌∷◌, ◌++◌, length, map, codes, ℤ, pos}
 use Rattle.std.specs.List.{zip, flat_map}
 use Rattle.mat_words.specs.Numbers.{numeral, numerals}
 use Rattle.mat_words.specs.Lines.{Line, text_of}
-use Rattle.mat_any.specs.Trees.{Tree, uniform, partition, graphic, gf2}
+use Rattle.mat_any.specs.Trees.{Tree, uniform, partition, laminar, graphic, gf2}
 use Rattle.mat_desc.specs.Grammar.{version_line, end_line, edge_line, column_line, weighted_line, coloured_edge_line}
 use Rattle.mat_desc.specs.Instances.{Instance, pair, list, graph, rooted, coloured, table}
 
@@ -11,18 +11,19 @@ use Rattle.mat_desc.specs.Instances.{Instance, pair, list, graph, rooted, colour
 abbrev pub numbers_line : List ℕ → List ℤ → Line
 numbers_line keyword numbers = keyword ∷ map numeral numbers
 
--- the line of a class and its cap
-abbrev pub class_line : List ℕ × ℕ → Line
-class_line item = codes "class" ∷ numeral (pos item.1) ∷ numerals item.0
+-- the line of this keyword with a set and its cap
+abbrev pub capped_line : List ℕ → List ℕ × ℕ → Line
+capped_line key item = key ∷ numeral (pos item.1) ∷ numerals item.0
 
--- a line for each class with its cap
-abbrev pub class_lines : List (List ℕ) → List ℕ → List Line
-class_lines classes caps = map class_line (zip classes caps)
+-- a line of this keyword for each set with its cap
+abbrev pub capped_lines : List ℕ → List (List ℕ) → List ℕ → List Line
+capped_lines key sets caps = map (capped_line key) (zip sets caps)
 
 -- the lines of a matroid
 abbrev pub matroid_lines : Tree → List Line
 matroid_lines (uniform n cap) = (codes "uniform" ∷ numeral (pos cap) ∷ []) ∷ []
-matroid_lines (partition n classes caps) = (codes "partition" ∷ numeral (pos (length classes)) ∷ []) ∷ class_lines classes caps
+matroid_lines (partition n classes caps) = (codes "partition" ∷ numeral (pos (length classes)) ∷ []) ∷ capped_lines (codes "class") classes caps
+matroid_lines (laminar n sets caps) = (codes "laminar" ∷ numeral (pos (length sets)) ∷ []) ∷ capped_lines (codes "set") sets caps
 matroid_lines (graphic vertices edges) = (codes "graphic" ∷ numeral (pos vertices) ∷ []) ∷ map edge_line edges
 matroid_lines (gf2 dim columns) = (codes "gf2" ∷ numeral (pos dim) ∷ []) ∷ map (column_line dim) columns
 

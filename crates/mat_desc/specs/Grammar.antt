@@ -6,7 +6,8 @@ use Rattle.mat_sets.specs.Sums.{IsWithin}
 use Rattle.mat_sets.specs.Families.{AreDisjoint}
 use Rattle.mat_words.specs.Numbers.{numeral, numerals}
 use Rattle.mat_words.specs.Lines.{Line, text_of}
-use Rattle.mat_any.specs.Trees.{Tree, uniform, partition, graphic, gf2, depth}
+use Rattle.mat_count.specs.Laminar.{IsLaminarFamily}
+use Rattle.mat_any.specs.Trees.{Tree, uniform, partition, laminar, graphic, gf2, depth}
 use Rattle.mat_desc.specs.Binary.{binary}
 use Rattle.mat_desc.specs.Instances.{Instance, pair, list, graph, rooted, coloured, table}
 
@@ -20,6 +21,14 @@ pub record AreClasses (n : ℕ) (classes : List (List ℕ)) (caps : List ℕ) : 
   pub sets : All (IsSet n) classes
   pub disjoint : AreDisjoint classes
 
+-- the sets of a laminar family on n elements with their caps
+pub record AreNestedSets (n : ℕ) (sets : List (List ℕ)) (caps : List ℕ) : Type 0 where
+  pub few : length sets ≤ 500
+  pub as_many : length caps ≡ length sets
+  pub caps_small : All (λ cap. cap ≤ 500) caps
+  pub sets_inside : All (IsSet n) sets
+  pub family : IsLaminarFamily sets
+
 -- one number is below each bound
 abbrev pub IsPair : ℕ → ℕ → ℕ × ℕ → Type 0
 IsPair first_bound second_bound ends = (ends.0 < first_bound) × (ends.1 < second_bound)
@@ -28,6 +37,7 @@ IsPair first_bound second_bound ends = (ends.0 < first_bound) × (ends.1 < secon
 abbrev pub IsValidTree : ℕ → Tree → Type 0
 IsValidTree n (uniform m cap) = (m ≡ n) × (cap ≤ 500)
 IsValidTree n (partition m classes caps) = (m ≡ n) × AreClasses n classes caps
+IsValidTree n (laminar m sets caps) = (m ≡ n) × AreNestedSets n sets caps
 IsValidTree n (graphic vertices edges) = (length edges ≡ n) × (1 ≤ vertices) × (vertices ≤ 500) × All (IsPair vertices vertices) edges
 IsValidTree n (gf2 dim columns) = (length columns ≡ n) × (1 ≤ dim) × (dim ≤ 128) × All (λ column. column < 2 ^ dim) columns
 
@@ -64,13 +74,13 @@ pub record Lists (xs set : List ℕ) : Type 0 where
   pub distinct : AreDistinct xs
   pub members : (x : ℕ) → is_member x xs ≡ is_member x set
 
--- a line for each class, and then the rest
-abbrev pub ClassLines : List (List ℕ) → List ℕ → List Line → List Line → Type 0
-ClassLines [] [] lines rest = lines ≡ rest
-ClassLines [] (cap ∷ caps) lines rest = ⊥
-ClassLines (set ∷ classes) [] lines rest = ⊥
-ClassLines (set ∷ classes) (cap ∷ caps) lines rest = (xs : List ℕ) × (more : List Line) × Lists xs set
-    × (lines ≡ (codes "class" ∷ numeral (pos cap) ∷ numerals xs) ∷ more) × ClassLines classes caps more rest
+-- a line of this keyword for each set with its cap, and then the rest
+abbrev pub CappedLines : List ℕ → List (List ℕ) → List ℕ → List Line → List Line → Type 0
+CappedLines key [] [] lines rest = lines ≡ rest
+CappedLines key [] (cap ∷ caps) lines rest = ⊥
+CappedLines key (set ∷ sets) [] lines rest = ⊥
+CappedLines key (set ∷ sets) (cap ∷ caps) lines rest = (xs : List ℕ) × (more : List Line) × Lists xs set
+    × (lines ≡ (key ∷ numeral (pos cap) ∷ numerals xs) ∷ more) × CappedLines key sets caps more rest
 
 -- the line of an edge
 abbrev pub edge_line : ℕ × ℕ → Line
@@ -84,7 +94,9 @@ column_line dim column = codes "column" ∷ binary dim column ∷ []
 abbrev pub MatroidLines : Tree → List Line → List Line → Type 0
 MatroidLines (uniform n cap) lines rest = lines ≡ (codes "uniform" ∷ numeral (pos cap) ∷ []) ∷ rest
 MatroidLines (partition n classes caps) lines rest = (more : List Line)
-    × (lines ≡ (codes "partition" ∷ numeral (pos (length classes)) ∷ []) ∷ more) × ClassLines classes caps more rest
+    × (lines ≡ (codes "partition" ∷ numeral (pos (length classes)) ∷ []) ∷ more) × CappedLines (codes "class") classes caps more rest
+MatroidLines (laminar n sets caps) lines rest = (more : List Line)
+    × (lines ≡ (codes "laminar" ∷ numeral (pos (length sets)) ∷ []) ∷ more) × CappedLines (codes "set") sets caps more rest
 MatroidLines (graphic vertices edges) lines rest = lines ≡ (codes "graphic" ∷ numeral (pos vertices) ∷ []) ∷ (map edge_line edges ++ rest)
 MatroidLines (gf2 dim columns) lines rest = lines ≡ (codes "gf2" ∷ numeral (pos dim) ∷ []) ∷ (map (column_line dim) columns ++ rest)
 

@@ -1,13 +1,14 @@
 -- Reading a description: the problem that a text spells, or its first fault. Each function takes what is left of the text or of a line, and
 -- the order of its lines is the order in which faults are looked for.
-use Rattle.std.specs.Prelude.{ℕ, zero, suc, ◌+◌, ◌-ℤ◌, ℤ, pos, nat_abs, neg_ℤ, ◌^◌, Bool, false, not, ◌&&◌, List, [], ◌∷◌, length, Option, Some, None, Result, Ok, Err, ◌==◌, if◌then◌else◌, bytes_eq, codes, map}
+use Rattle.std.specs.Prelude.{ℕ, zero, suc, ◌+◌, ◌-ℤ◌, ℤ, pos, nat_abs, neg_ℤ, ◌^◌, Bool, false, not, ◌&&◌, List, [], ◌∷◌, length, Option, Some, None, ◌++◌, Result, Ok, Err, ◌==◌, if◌then◌else◌, bytes_eq, codes, map}
 use Rattle.mat_sets.specs.Sets.{is_member, with_one}
 use Rattle.mat_words.specs.Lines.{lines_of}
 use Rattle.mat_words.specs.Words.{words_of, is_well_spaced}
 use Rattle.mat_words.specs.Numbers.{number_in}
 use Rattle.mat_words.specs.declared.numbers.NumberFault.{NumberFault}
 use Rattle.mat_words.specs.declared.numbers.NumberFault.TheVariants.{Spelling, Range}
-use Rattle.mat_any.specs.Trees.{Tree, uniform, partition, graphic, gf2}
+use Rattle.mat_count.specs.Laminar.{is_crossed}
+use Rattle.mat_any.specs.Trees.{Tree, uniform, partition, laminar, graphic, gf2}
 use Rattle.mat_desc.specs.declared.refusal.DescKind.TheVariants as kinds
 use Rattle.mat_desc.specs.declared.keywords.Form.{Form}
 use Rattle.mat_desc.specs.declared.keywords.Form.TheVariants as forms
@@ -170,6 +171,30 @@ partition_at n words lines = do
   classes ← classes_at n many.0 [] lines
   Ok (partition n classes.0 classes.1, classes.2)
 
+-- a set line of a laminar family on n elements, of which the earlier sets are given: the cap, the set, and the lines behind it
+unfoldable pub nested_set_at : ℕ → List (List ℕ) → LinesLeft → Result (ℕ × List ℕ × LinesLeft) Fault
+nested_set_at n earlier p = do
+  line ← keyed_at (codes "set") p
+  cap ← count_at 0 501 line.0
+  elements ← elements_at n [] cap.1
+  if is_crossed earlier elements.0 then Err (kinds.Crossing, p.line) else Ok (cap.0, elements.0, line.1)
+
+-- as many set lines, no two of which cross: the sets, their caps, and the lines behind them
+unfoldable pub nested_sets_at : ℕ → ℕ → List (List ℕ) → LinesLeft → Result (List (List ℕ) × List ℕ × LinesLeft) Fault
+nested_sets_at n zero earlier p = Ok ([], [], p)
+nested_sets_at n (suc many) earlier p = do
+  first ← nested_set_at n earlier p
+  others ← nested_sets_at n many (earlier ++ first.1 ∷ []) first.2
+  Ok (first.1 ∷ others.0, first.0 ∷ others.1, others.2)
+
+-- a laminar matroid on n elements, from the words behind its keyword on
+unfoldable pub laminar_at : ℕ → WordsLeft → LinesLeft → Result (Tree × LinesLeft) Fault
+laminar_at n words lines = do
+  many ← count_at 0 501 words
+  end ← ended_at many.1
+  sets ← nested_sets_at n many.0 [] lines
+  Ok (laminar n sets.0 sets.1, sets.2)
+
 -- two numbers, one below each bound
 unfoldable pub ends_at : ℕ → ℕ → WordsLeft → Result ((ℕ × ℕ) × WordsLeft) Fault
 ends_at first_bound second_bound words = do
@@ -224,14 +249,16 @@ gf2_at n words lines = do
 abbrev pub keyword_of : List ℕ → Option Keyword
 keyword_of word = if bytes_eq word (codes "uniform") then Some keywords.Uniform else
     (if bytes_eq word (codes "partition") then Some keywords.Partition else
+    (if bytes_eq word (codes "laminar") then Some keywords.Laminar else
     (if bytes_eq word (codes "graphic") then Some keywords.Graphic else
-    (if bytes_eq word (codes "gf2") then Some keywords.Gf2 else None)))
+    (if bytes_eq word (codes "gf2") then Some keywords.Gf2 else None))))
 
 -- a matroid on n elements, from the words behind its keyword in line number `line` on
 abbrev pub kind_at : ℕ → ℕ → Option Keyword → WordsLeft → LinesLeft → Result (Tree × LinesLeft) Fault
 kind_at n line None words lines = Err (kinds.UnknownWord, line)
 kind_at n line (Some keywords.Uniform) words lines = uniform_at n words lines
 kind_at n line (Some keywords.Partition) words lines = partition_at n words lines
+kind_at n line (Some keywords.Laminar) words lines = laminar_at n words lines
 kind_at n line (Some keywords.Graphic) words lines = graphic_at n words lines
 kind_at n line (Some keywords.Gf2) words lines = gf2_at n words lines
 
