@@ -3,9 +3,6 @@ use Rattle.std.specs.Prelude.{ℕ, Bool, List, length}
 use Rattle.mat_sets.specs.Graphs.{IsGraph, ends_of}
 use Rattle.mat_count.specs.Counts.{is_uniform, is_counted}
 use Rattle.mat_count.specs.Partitions.{IsPartition}
-use Rattle.mat_sets.specs.Graphs.{IsGraph, ends_of}
-use Rattle.mat_count.specs.Counts.{is_uniform, is_counted}
-use Rattle.mat_count.specs.Partitions.{IsPartition}
 use Rattle.mat_count.specs.LaminarMatroids.{IsLaminar}
 use Rattle.mat_graphic.specs.Forests.{is_graphic}
 use Rattle.mat_gf2.specs.Columns.{IsBinaryMatrix, column_of, is_gf2}
