@@ -1,6 +1,6 @@
 -- What is independent outside X and cannot grow there is, where it cannot grow by X either, a base that is disjoint from X; and where it
 -- can, it is smaller than a base, so that no base lies outside X.
-use Rattle.std.proofs.Common.{◌≡◌, ℕ, ◌+◌, ◌<◌, ◌≤◌, Bool, true, false, not, ◌&&◌, List, [], length, get_or, subst, inl, inr, refl, sym, ap, ◌∙◌, arith}
+use Rattle.std.proofs.Common.{◌≡◌, ℕ, ◌+◌, ◌<◌, ◌≤◌, Bool, true, false, not, ◌&&◌, List, [], length, get_or, subst, inl, inr, sym, ap, ◌∙◌, arith}
 use Rattle.std.proofs.lemmas.Bool.{cases_Bool, cases_lt, and_parts, and_from, both_ways, false_from_ne_true, lt-ltb, not-true}
 use Rattle.mat_sets.specs.Sets.{is_member, IsSet, IsSubset, with_one, minus, union, all_below}
 use Rattle.mat_sets.proofs.Members.{is_member-minus, place_of_member}
@@ -11,7 +11,8 @@ use Rattle.mat_laws.proofs.Independent.{rising, below}
 use Rattle.mat_laws.proofs.Growing.{maximal_from_none}
 use Rattle.mat_laws.proofs.Maximal.{IsMaximal-largest}
 use Rattle.mat_minors.specs.Minors.{is_dual}
-use Rattle.mat_minors.specs.MinorLaws.{apart_at, apart_from, dual-gives, dual-from, base_largest}
+use Rattle.mat_minors.specs.EmptySets.{apart_at, apart_from}
+use Rattle.mat_minors.specs.DualLaws.{dual-gives, dual-from, base_largest}
 
 -- the set is maximal outside X, and cannot grow by the first i members of X
 pub record IsRefusing (n : ℕ) (p : List ℕ → Bool) (X items : List ℕ) (i : ℕ) (set : List ℕ) : Type 0 where

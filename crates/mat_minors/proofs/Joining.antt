@@ -1,15 +1,13 @@
 -- The union of two sets, by the members of the first put into the second one after the other; and when a set shares no member with another.
-use Rattle.std.proofs.Common.{◌≡◌, ℕ, ◌+◌, ◌<◌, ◌≤◌, Bool, true, false, ◌&&◌, eqb, List, [], ◌∷◌, length, get_or, drop, refl, subst, sym, ap, ◌∙◌, arith}
-use Rattle.std.proofs.lemmas.Bool.{and_parts, false_from_ne_true, eqb-true}
+use Rattle.std.proofs.Common.{◌≡◌, ℕ, ◌+◌, ◌<◌, ◌≤◌, Bool, false, List, [], ◌∷◌, length, get_or, drop, sym, ap, ◌∙◌, arith}
+use Rattle.std.proofs.lemmas.Bool.{false_from_ne_true}
 use Rattle.std.proofs.lemmas.List.{drop_all, drop_more, nil_from_length}
-use Rattle.mat_sets.specs.Sets.{IsRising, minus, intersection, union, with_one, rising_insert}
-use Rattle.mat_sets.specs.SetTests.{is_set}
-use Rattle.mat_sets.specs.Search.{some_subset}
-use Rattle.mat_sets.proofs.Members.{IsRising-with_one, IsRising-union}
+use Rattle.mat_sets.specs.Sets.{IsRising, minus, intersection, union, with_one}
+use Rattle.mat_sets.proofs.Members.{IsRising-with_one}
 use Rattle.mat_sets.proofs.Equalities.{union-with_one}
 use Rattle.mat_sets.proofs.Cardinalities.{length-minus-intersection}
 use Rattle.mat_minors.specs.Minors.{is_contracted}
-use Rattle.mat_minors.specs.MinorLaws.{contracted_disjoint}
+use Rattle.mat_minors.specs.ContractionLaws.{contracted_disjoint}
 
 -- what is to come, joined to what has been put together, is the union
 pub record IsJoining (set more items : List ℕ) (i : ℕ) (both : List ℕ) : Type 0 where

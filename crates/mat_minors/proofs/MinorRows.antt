@@ -3,11 +3,10 @@
 -- elements are left out.
 use Rattle.std.proofs.Common.{◌≡◌, ℕ, ◌<◌, Bool, true, false, not, ◌&&◌, ◌||◌, eqb, leb, ltb, List, [], length, inl, inr, refl, sym, ap, ◌∙◌, arith}
 use Rattle.std.specs.List.{filter}
-use Rattle.std.proofs.lemmas.Bool.{cases_Bool, cases_eq, ne_eqb, eq-eqb, cond-false, and_parts, and_from, or_cases, both_ways, eqb-true, false_from_ne_true, leb-true, le-leb, not-true}
+use Rattle.std.proofs.lemmas.Bool.{cases_eq, ne_eqb, eq-eqb, cond-false, and_parts, or_cases, both_ways, eqb-true, false_from_ne_true}
 use Rattle.std.proofs.lemmas.Bool.Decides.{nat_tests}
 use Rattle.mat_sets.specs.Sets.{is_member, IsRising, IsSet, IsSubset, with_one, without_one, minus, intersection, union}
-use Rattle.mat_sets.specs.SetTests.{is_set}
-use Rattle.mat_sets.proofs.Members.{set_members, same_members, is_member-filter, is_member-minus, is_member-with_one, is_member-without_one, is_member-union, RisesFrom-filter, IsRising-minus, IsRising-union, IsRising-without_one, IsRising-with_one}
+use Rattle.mat_sets.proofs.Members.{set_members, same_members, is_member-filter, is_member-minus, is_member-with_one, is_member-union, RisesFrom-filter, IsRising-minus, IsRising-union, IsRising-without_one}
 use Rattle.mat_sets.proofs.Cardinalities.{length-with_one, length-exchange_one}
 use Rattle.mat_sets.proofs.Subsets.{IsSubset-trans, with_one-IsSubset, without_one-IsSubset}
 use Rattle.mat_sets.proofs.Ground.{IsSet-with_one, IsSet-without_one}
@@ -18,7 +17,8 @@ use Rattle.mat_laws.specs.declared.exchange.Exchange.{Exchange}
 use Rattle.mat_laws.proofs.Independent.{rising}
 use Rattle.mat_laws.proofs.Rows.{exchanged, row_outside}
 use Rattle.mat_minors.specs.Minors.{is_truncated, is_restricted, is_contracted}
-use Rattle.mat_minors.specs.MinorLaws.{no_members, and_when, inside_test, inside_test_from, apart_at, apart_from, union-with_one_left, contraction_at, contracted_disjoint, IsJoined, IsJoined-gives}
+use Rattle.mat_minors.specs.EmptySets.{no_members, and_when, inside_test, inside_test_from, apart_at, apart_from, union-with_one_left}
+use Rattle.mat_minors.specs.ContractionLaws.{contraction_at, contracted_disjoint, IsJoined, IsJoined-gives}
 
 -- ---- filters by tests that agree
 
@@ -153,7 +153,7 @@ module _ {n : ℕ} {p : List ℕ → Bool} (laws : IsMatroid n p) (away B : List
       (exchanges ∙ ap (λ t. minus t B) (with_of p (union X B) x inner outside told)
       ∙ filter_first (exchanged p (union X B) x) (exchanged (is_contracted n away p) X x) X B j.set.rising s (λ y m. apart y m) (λ y m. agrees y (apart y m)))
     where
-      j : IsJoined laws away B X
+      j : IsJoined n p away B X
       j = IsJoined-gives laws away B X set.rising max passes
 
       s : IsRising B

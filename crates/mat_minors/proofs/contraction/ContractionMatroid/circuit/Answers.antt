@@ -1,7 +1,7 @@
-use Rattle.std.proofs.Common.{refl, subst, sym, ap, ◌∙◌}
+use Rattle.std.proofs.Common.{refl, sym, ap, ◌∙◌}
 use Rattle.mat_laws.specs.Exchanges.{row_of}
-use Rattle.mat_sets.specs.Sets.{is_member, minus}
-use Rattle.mat_minors.specs.MinorLaws.{IsJoined-gives}
+use Rattle.mat_sets.specs.Sets.{is_member}
+use Rattle.mat_minors.specs.ContractionLaws.{IsJoined-gives}
 use Rattle.mat_minors.proofs.MinorRows.{contracted_row, contracted_row_outside, outside_joined}
 use Rattle.mat_minors.proofs.contraction.ContractionMatroid.circuit.Goals as goal
 

@@ -1,7 +1,6 @@
-use Rattle.std.proofs.Common.{◌≡◌, ◌≤◌, ◌<◌, length, subst, sym, ap, ◌∙◌, arith}
+use Rattle.std.proofs.Common.{◌≡◌, length, subst, sym, ap, ◌∙◌, arith}
 use Rattle.std.proofs.lemmas.Result.{IfOk-weaker}
-use Rattle.mat_sets.specs.Sets.{AllBelow, minus}
-use Rattle.mat_laws.proofs.Independent.{rising, below}
+use Rattle.mat_sets.specs.Sets.{AllBelow}
 use Rattle.mat_sets.proofs.Ground.{IsSet-union}
 use Rattle.mat_minors.specs.Minors.{is_contracted}
 use Rattle.mat_minors.proofs.Joining.{dependent_where_lost, disjoint_where_kept}
