@@ -1,12 +1,12 @@
 -- Which maximal independent subset of the contracted elements is taken does not matter: grown by a set that is independent together with
 -- one of them, another takes in all of that set and nothing else. So one is taken for all sets.
 use Rattle.std.proofs.Common.{◌≡◌, ℕ, ◌<◌, Bool, true, false, ◌&&◌, ◌||◌, eqb, List, [], length, inl, inr, sym, ap, ◌∙◌, arith}
-use Rattle.std.proofs.lemmas.Bool.{cases_Bool, or_cases, and_parts, and_from, eqb-true, eq-eqb, both_ways, false_from_ne_true}
+use Rattle.std.proofs.lemmas.Bool.{cases_Bool, and_parts, and_from, eqb-true, eq-eqb, both_ways, false_from_ne_true}
 use Rattle.std.proofs.lemmas.List.{nil_from_length}
 use Rattle.mat_sets.specs.Sets.{is_member, IsRising, IsSet, IsSubset, with_one, intersection, union}
 use Rattle.mat_sets.specs.SetTests.{is_set}
 use Rattle.mat_sets.specs.Search.{some_subset}
-use Rattle.mat_sets.proofs.Members.{set_members, is_member-with_one, IsRising-with_one, IsRising-union}
+use Rattle.mat_sets.proofs.Members.{set_members, IsRising-with_one, IsRising-union}
 use Rattle.mat_sets.proofs.Subsets.{with_one-IsSubset, same_size_subset, union-right}
 use Rattle.mat_sets.proofs.Cardinalities.{length-union_apart}
 use Rattle.mat_sets.proofs.Ground.{below_member, IsSet-with_one}
@@ -16,21 +16,30 @@ use Rattle.mat_laws.specs.Matroids.{IsMatroid, IsMaximal, Augments}
 use Rattle.mat_laws.proofs.Independent.{rising, grow_to_size}
 use Rattle.mat_laws.proofs.Maximal.{IsMaximal-one_size}
 use Rattle.mat_minors.specs.Minors.{is_maximal, is_contracted, IsContractedIndependent}
-use Rattle.mat_minors.specs.EmptySets.{and_when, apart_at, apart_from, length-union_list, union-with_one_left}
+use Rattle.mat_minors.specs.DisjointSets.{apart_at, apart_with, length-union_list, union-with_one_left}
 use Rattle.mat_minors.specs.MaximalSubsets.{is_maximal-gives, is_maximal-from}
-
--- what is independent in the contraction has no contracted element
-pub contracted_disjoint : (n : ℕ) (p : List ℕ → Bool) (away X : List ℕ) → is_contracted n away p X ≡ true → intersection X away ≡ []
-contracted_disjoint n p away X h =
-    let joins : List ℕ → Bool = λ B. is_maximal p away B && p (union X B) in
-    let tests = and_parts (is_set n X) (eqb (length (intersection X away)) 0 && some_subset away joins) h in
-    nil_from_length _ (eqb-true _ 0 (and_parts (eqb (length (intersection X away)) 0) (some_subset away joins) tests.1).0)
 
 -- a set that is apart from the contracted elements and independent together with a chosen subset B of them
 pub record IsJoined (n : ℕ) (p : List ℕ → Bool) (away B X : List ℕ) : Type 0 where
   pub set : IsSet n X
   pub disjoint : intersection X away ≡ []
   pub joined : p (union X B) ≡ true
+
+-- what the test of the contraction says
+pub contraction-gives : (n : ℕ) (p : List ℕ → Bool) (away X : List ℕ) → IsRising away → is_contracted n away p X ≡ true → IsContractedIndependent n p away X
+contraction-gives n p away X r h =
+    let joins : List ℕ → Bool = λ B. is_maximal p away B && p (union X B) in
+    let tests = and_parts (is_set n X) (eqb (length (intersection X away)) 0 && some_subset away joins) h in
+    let more = and_parts (eqb (length (intersection X away)) 0) (some_subset away joins) tests.1 in
+    let found = some_subset_gives away joins r more.1 in
+    let both = and_parts (is_maximal p away found.0) (p (union X found.0)) found.3 in
+    record {
+      set = IsSet-from_test n X tests.0;
+      disjoint = nil_from_length _ (eqb-true _ 0 more.0);
+      chosen = found.0;
+      maximal = is_maximal-gives p away found.0 found.2 both.0;
+      joined = both.1;
+    }
 
 module _ {n : ℕ} {p : List ℕ → Bool} (laws : IsMatroid n p) where
   -- C grows by X ∪ B to the size of X ∪ B, and nothing but X can come in
@@ -67,22 +76,7 @@ module _ {n : ℕ} {p : List ℕ → Bool} (laws : IsMatroid n p) where
     | inr fails ↦ fails ∙ sym (false_from_ne_true _ (λ joins. both_ways _ fails (either_joins away C B X c b (apart_at X away none) joins)))
   ]
 
-  -- the test of the contraction, both ways
-  pub contraction-gives : (away X : List ℕ) → IsRising away → is_contracted n away p X ≡ true → IsContractedIndependent n p away X
-  contraction-gives away X r h =
-      let joins : List ℕ → Bool = λ B. is_maximal p away B && p (union X B) in
-      let tests = and_parts (is_set n X) (eqb (length (intersection X away)) 0 && some_subset away joins) h in
-      let more = and_parts (eqb (length (intersection X away)) 0) (some_subset away joins) tests.1 in
-      let found = some_subset_gives away joins r more.1 in
-      let both = and_parts (is_maximal p away found.0) (p (union X found.0)) found.3 in
-      record {
-        set = IsSet-from_test n X tests.0;
-        disjoint = nil_from_length _ (eqb-true _ 0 more.0);
-        chosen = found.0;
-        maximal = is_maximal-gives p away found.0 found.2 both.0;
-        joined = both.1;
-      }
-
+  -- and the other way
   pub contraction-from : (away X : List ℕ) → IsRising away → IsContractedIndependent n p away X → is_contracted n away p X ≡ true
   contraction-from away X r h =
       let joins : List ℕ → Bool = λ B. is_maximal p away B && p (union X B) in
@@ -92,38 +86,17 @@ module _ {n : ℕ} {p : List ℕ → Bool} (laws : IsMatroid n p) where
       (some_subset_from away h.chosen joins r (rising laws h.chosen max.passes) max.inside
       (and_from (is_maximal p away h.chosen) (p (union X h.chosen)) (is_maximal-from p away h.chosen max) h.joined)))
 
-  -- the sets that are independent in the contraction, by one maximal independent subset of the contracted elements
-  pub contraction_at : (away B X : List ℕ) → IsRising away → IsMaximal p away B
-      → is_contracted n away p X ≡ (is_set n X && (eqb (length (intersection X away)) 0 && p (union X B)))
-  contraction_at away B X r b =
-      ap (λ t. is_set n X && t) (and_when (eqb (length (intersection X away)) 0) _ _ (λ h. choice (nil_from_length _ (eqb-true _ 0 h))))
-    where
-      joins : List ℕ → Bool
-      joins C = is_maximal p away C && p (union X C)
-
-      choice : intersection X away ≡ [] → some_subset away joins ≡ p (union X B)
-      choice none = elim (cases_Bool (some_subset away joins)) [
-        | inl some ↦
-            let found = some_subset_gives away joins r some in
-            let both = and_parts (is_maximal p away found.0) (p (union X found.0)) found.3 in
-            some ∙ sym (sym (same_joined away found.0 B X (is_maximal-gives p away found.0 found.2 both.0) b none) ∙ both.1)
-        | inr fails ↦ fails ∙ sym (false_from_ne_true _ (λ joined. both_ways _ fails
-            (some_subset_from away B joins r (rising laws B b.passes) b.inside
-            (and_from (is_maximal p away B) (p (union X B)) (is_maximal-from p away B b) joined))))
-      ]
-
+  -- what is independent in the contraction is so together with each maximal independent subset B of the contracted elements
   pub IsJoined-gives : (away B X : List ℕ) → IsRising away → IsMaximal p away B → is_contracted n away p X ≡ true → IsJoined n p away B X
   IsJoined-gives away B X r b h =
-      let tests = and_parts (is_set n X) (eqb (length (intersection X away)) 0 && p (union X B)) (sym (contraction_at away B X r b) ∙ h) in
-      let more = and_parts (eqb (length (intersection X away)) 0) (p (union X B)) tests.1 in
-      record { set = IsSet-from_test n X tests.0; disjoint = nil_from_length _ (eqb-true _ 0 more.0); joined = more.1 }
+      let c = contraction-gives n p away X r h in
+      record { set = c.set; disjoint = c.disjoint; joined = sym (same_joined away c.chosen B X c.maximal b c.disjoint) ∙ c.joined }
 
   pub IsJoined-from : (away B X : List ℕ) → IsRising away → IsMaximal p away B → IsJoined n p away B X → is_contracted n away p X ≡ true
   IsJoined-from away B X r b h =
-      contraction_at away B X r b
-      ∙ and_from (is_set n X) (eqb (length (intersection X away)) 0 && p (union X B)) (test_from-IsSet n X h.set)
-      (and_from (eqb (length (intersection X away)) 0) (p (union X B)) (eq-eqb _ 0 (ap length h.disjoint)) h.joined)
+      contraction-from away X r (record { set = h.set; disjoint = h.disjoint; chosen = B; maximal = b; joined = h.joined })
 
+  -- the larger of two sets, each with B, has an element that the smaller with B can take
   pub contracted_augmentation : (away B I J : List ℕ) → IsRising away → IsMaximal p away B → IsJoined n p away B I → IsJoined n p away B J
       → length I < length J → Augments (is_contracted n away p) I J
   contracted_augmentation away B I J r b i j less =
@@ -141,10 +114,7 @@ module _ {n : ℕ} {p : List ℕ → Bool} (laws : IsMatroid n p) where
         outside = new;
         augmented = IsJoined-from away B (with_one I x) r b (record {
           set = IsSet-with_one n I x i.set (below_member j.set inside);
-          disjoint = apart_from (with_one I x) away (λ y m. elim (or_cases (eqb y x) (is_member y I) (sym (is_member-with_one y x I) ∙ m)) [
-            | inl same ↦ ap (λ z. is_member z away) (eqb-true y x same) ∙ apart_at J away j.disjoint x inside
-            | inr k ↦ apart_at I away i.disjoint y k
-          ]);
+          disjoint = apart_with I away x i.disjoint (apart_at J away j.disjoint x inside);
           joined = ap p (union-with_one_left I B x s) ∙ found.augmented;
         });
       }

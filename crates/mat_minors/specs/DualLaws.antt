@@ -1,11 +1,11 @@
 -- A base that is disjoint from J loses its members in I and grows, outside I, to a base; where I is the smaller set, that base is too
 -- small to hold all of J - I, so that an element of J - I can be added to I.
-use Rattle.std.proofs.Common.{◌≡◌, ℕ, ◌≤◌, ◌<◌, Bool, true, false, not, ◌||◌, ◌⊎◌, List, length, inl, inr, sym, ap, ◌∙◌, arith}
-use Rattle.std.proofs.lemmas.Bool.{ne_eqb, ltb-true, lt-ltb, or_cases, and_parts, and_from, both_ways, false_from_ne_true, not-true}
+use Rattle.std.proofs.Common.{◌≡◌, ℕ, ◌≤◌, ◌<◌, Bool, true, false, ◌||◌, ◌⊎◌, List, length, inl, inr, sym, ap, ◌∙◌, arith}
+use Rattle.std.proofs.lemmas.Bool.{ne_eqb, ltb-true, lt-ltb, or_cases, and_parts, and_from, both_ways, false_from_ne_true}
 use Rattle.mat_sets.specs.Sets.{is_member, IsSubset, with_one, minus, intersection, union, all_below}
 use Rattle.mat_sets.specs.SetTests.{is_set}
 use Rattle.mat_sets.specs.Search.{some_subset}
-use Rattle.mat_sets.proofs.Members.{is_member-minus, is_member-intersection, is_member-with_one, IsRising-minus, IsRising-intersection, IsRising-union}
+use Rattle.mat_sets.proofs.Members.{is_member-intersection, is_member-with_one, IsRising-minus, IsRising-intersection, IsRising-union}
 use Rattle.mat_sets.proofs.Subsets.{IsSubset-trans, subset_or, union-IsSubset, minus-IsSubset, length-subset}
 use Rattle.mat_sets.proofs.Cardinalities.{length-with_one, length-union_apart, length-minus-intersection}
 use Rattle.mat_sets.proofs.Equalities.{intersection-commute}
@@ -16,9 +16,10 @@ use Rattle.mat_laws.specs.Matroids.{IsMatroid, IsBase, IsMaximal, Augments}
 use Rattle.mat_laws.proofs.Independent.{rising, below, grow_to_size}
 use Rattle.mat_laws.proofs.Maximal.{IsMaximal-largest}
 use Rattle.mat_minors.specs.Minors.{is_maximal, is_dual, IsDualIndependent}
-use Rattle.mat_minors.specs.EmptySets.{apart_at, apart_from}
+use Rattle.mat_minors.specs.DisjointSets.{minus_parts, minus_from, apart_at, apart_from}
 use Rattle.mat_minors.specs.MaximalSubsets.{is_maximal-gives, is_maximal-from}
 
+-- what the test of the dual says
 pub dual-gives : (n : ℕ) (p : List ℕ → Bool) (X : List ℕ) → is_dual n p X ≡ true → IsDualIndependent n p X
 dual-gives n p X h =
     let tests = and_parts (is_set n X) (some_subset (minus (all_below n) X) (is_maximal p (all_below n))) h in
@@ -28,11 +29,11 @@ dual-gives n p X h =
       set = IsSet-from_test n X tests.0;
       base = found.0;
       is_base = record { passes = max.passes; full = λ x small out. max.full x (is_member-all_below x n ∙ lt-ltb x n small) out };
-      disjoint = apart_from found.0 X (λ x m.
-          let both = and_parts (is_member x (all_below n)) (not (is_member x X)) (sym (is_member-minus x (all_below n) X) ∙ found.2.inside x m) in not-true _ both.1);
+      disjoint = apart_from found.0 X (λ x m. (minus_parts (all_below n) X x (found.2.inside x m)).1);
     }
 
 module _ {n : ℕ} {p : List ℕ → Bool} (laws : IsMatroid n p) where
+  -- a base is a maximal independent set of all elements
   pub IsMaximal-base : (B : List ℕ) → IsBase n p B → IsMaximal p (all_below n) B
   IsMaximal-base B b = record {
     passes = b.passes;
@@ -40,13 +41,13 @@ module _ {n : ℕ} {p : List ℕ → Bool} (laws : IsMatroid n p) where
     full = λ x m out. b.full x (ltb-true x n (sym (is_member-all_below x n) ∙ m)) out;
   }
 
+  -- and the other way
   pub dual-from : (X : List ℕ) → IsDualIndependent n p X → is_dual n p X ≡ true
   dual-from X h =
       let B = h.base in
       let max = IsMaximal-base B h.is_base in
       let outside : IsSubset B (minus (all_below n) X) = record {
-        inside = λ x m. is_member-minus x (all_below n) X
-            ∙ and_from (is_member x (all_below n)) (not (is_member x X)) (max.inside.inside x m) (ap not (apart_at B X h.disjoint x m));
+        inside = λ x m. minus_from (all_below n) X x (max.inside.inside x m) (apart_at B X h.disjoint x m);
       } in
       and_from (is_set n X) (some_subset (minus (all_below n) X) (is_maximal p (all_below n))) (test_from-IsSet n X h.set)
       (some_subset_from (minus (all_below n) X) B (is_maximal p (all_below n)) (IsRising-minus (all_below n) X (IsRising-all_below n)) (rising laws B max.passes) outside
@@ -66,7 +67,7 @@ module _ {n : ℕ} {p : List ℕ → Bool} (laws : IsMatroid n p) where
         let no : ⊥ = absurd (omega arith) in no);
   }
 
-  -- a base apart from I that has, of the members of J outside I, not all
+  -- some base is disjoint from I and has not all members of J outside I: the others can be added to I
   pub dual_augmentation : (I J : List ℕ) → IsDualIndependent n p I → IsDualIndependent n p J → length I < length J → Augments (is_dual n p) I J
   dual_augmentation I J i j less =
       let start = minus j.base I in
@@ -81,11 +82,11 @@ module _ {n : ℕ} {p : List ℕ → Bool} (laws : IsMatroid n p) where
       elim (subset_or (minus J I) B) [
         | inr new ↦
             let x = new.0 in
-            let both = and_parts (is_member x J) (not (is_member x I)) (sym (is_member-minus x J I) ∙ new.1) in
+            let both = minus_parts J I x new.1 in
             record {
               element = x;
               inside = both.0;
-              outside = not-true _ both.1;
+              outside = both.1;
               augmented = dual-from (with_one I x) (record {
                 set = IsSet-with_one n I x i.set (below_member j.set both.0);
                 base = B;
@@ -109,7 +110,7 @@ module _ {n : ℕ} {p : List ℕ → Bool} (laws : IsMatroid n p) where
       ]
     where
       out_of_I : (x : ℕ) → (is_member x (minus j.base I) ≡ true) ⊎ (is_member x i.base ≡ true) → is_member x I ≡ false
-      out_of_I x (inl m) = not-true _ (and_parts (is_member x j.base) (not (is_member x I)) (sym (is_member-minus x j.base I) ∙ m)).1
+      out_of_I x (inl m) = (minus_parts j.base I x m).1
       out_of_I x (inr m) = apart_at i.base I i.disjoint x m
 
       apart_from_both : (B : List ℕ) (y x : ℕ) → is_member y I ≡ false → is_member y B ≡ true → is_member x B ≡ false → is_member y (with_one I x) ≡ false
@@ -118,11 +119,9 @@ module _ {n : ℕ} {p : List ℕ → Bool} (laws : IsMatroid n p) where
 
       apart_start : (x : ℕ) → is_member x (minus J I) ≡ true → is_member x (minus j.base I) ≡ false
       apart_start x m = false_from_ne_true _ (λ k.
-          let here = and_parts (is_member x J) (not (is_member x I)) (sym (is_member-minus x J I) ∙ m) in
-          let there = and_parts (is_member x j.base) (not (is_member x I)) (sym (is_member-minus x j.base I) ∙ k) in
-          both_ways _ (apart_at j.base J j.disjoint x there.0) here.0)
+          both_ways _ (apart_at j.base J j.disjoint x (minus_parts j.base I x k).0) (minus_parts J I x m).0)
 
       lost_outside : (x : ℕ) → is_member x (intersection j.base I) ≡ true → is_member x (minus I J) ≡ true
       lost_outside x m =
           let both = and_parts (is_member x j.base) (is_member x I) (sym (is_member-intersection x j.base I) ∙ m) in
-          is_member-minus x I J ∙ and_from (is_member x I) (not (is_member x J)) both.1 (ap not (apart_at j.base J j.disjoint x both.0))
+          minus_from I J x both.1 (apart_at j.base J j.disjoint x both.0)

@@ -1,5 +1,5 @@
 pub mod Minors
-pub mod EmptySets
+pub mod DisjointSets
 pub mod MaximalSubsets
 pub mod ContractionLaws
 pub mod DualLaws

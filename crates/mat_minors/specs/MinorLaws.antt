@@ -9,7 +9,7 @@ use Rattle.mat_sets.proofs.Ground.{is_member-all_below, IsSet-nil, IsSet-subset,
 use Rattle.mat_laws.specs.Matroids.{IsMatroid}
 use Rattle.mat_laws.proofs.Independent.{rising}
 use Rattle.mat_minors.specs.Minors.{is_dual, is_truncated, is_restricted, is_contracted}
-use Rattle.mat_minors.specs.EmptySets.{apart_at, apart_from, inside_test, inside_test_from}
+use Rattle.mat_minors.specs.DisjointSets.{apart_at, apart_from, inside_test, inside_test_from}
 use Rattle.mat_minors.specs.MaximalSubsets.{maximal_in}
 use Rattle.mat_minors.specs.ContractionLaws.{IsJoined-gives, IsJoined-from, contracted_augmentation}
 use Rattle.mat_minors.specs.DualLaws.{dual-gives, dual-from, dual_augmentation}

@@ -9,7 +9,7 @@ use Rattle.mat_minors.proofs.contraction.ContractionMatroid.independent.Goals as
 
 pub returns-then-len : goal.returns-then-len
 returns-then-len g c =
-    sym (dependent_where_lost _ (g.M.Matroid.indep c.args.self.now.inner) c.args.self.now.away c.args.set.now c.in_ok-minus.ensures.rises (omega (arith, c.if-len.true, c.len-2.ensures.count, c.len-3.ensures.count, ap length c.in_ok-minus.ensures.members)))
+    sym (dependent_where_lost _ (g.M.Matroid.indep c.args.self.now.inner) c.args.self.now.away c.args.set.now c.in_ok-minus.ensures.rises c.requires.sound.1.set.rising (omega (arith, c.if-len.true, c.len-2.ensures.count, c.len-3.ensures.count, ap length c.in_ok-minus.ensures.members)))
 
 pub independent-requires-clause-below : goal.independent-requires-clause-below
 independent-requires-clause-below g c =
