@@ -1,10 +1,12 @@
 -- Members of a difference; what it means that a difference or an intersection of two sets is empty; and unions of disjoint sets.
-use Rattle.std.proofs.Common.{◌≡◌, ℕ, ◌+◌, Bool, true, false, not, ◌&&◌, eqb, List, [], ◌∷◌, length, inl, inr, refl, sym, ap, ◌∙◌, arith}
+use Rattle.std.proofs.Common.{◌≡◌, ℕ, ◌+◌, ◌<◌, Bool, true, false, not, ◌&&◌, eqb, List, [], ◌∷◌, length, inl, inr, refl, sym, ap, ◌∙◌, arith}
 use Rattle.std.proofs.lemmas.Bool.{cases_Bool, or_cases, and_parts, and_from, eqb-true, eq-eqb, false≢true, both_ways, false_from_ne_true, not-true}
 use Rattle.std.proofs.lemmas.List.{nil_from_length}
 use Rattle.mat_sets.specs.Sets.{is_member, IsRising, IsSubset, with_one, minus, intersection, union}
-use Rattle.mat_sets.proofs.Members.{set_members, same_members, is_member-with_one, is_member-head, is_member-minus, is_member-intersection, is_member-union, IsRising-nil, IsRising-with_one, IsRising-union}
-use Rattle.mat_sets.proofs.Cardinalities.{length-union_apart}
+use Rattle.mat_sets.proofs.Members.{set_members, same_members, is_member-with_one, is_member-head, is_member-minus, is_member-intersection, is_member-union, IsRising-nil, IsRising-with_one, IsRising-union, IsRising-minus, IsRising-intersection}
+use Rattle.mat_sets.proofs.Subsets.{length-subset, union-IsSubset}
+use Rattle.mat_sets.proofs.Cardinalities.{length-union_apart, length-minus-intersection}
+use Rattle.mat_sets.proofs.Equalities.{intersection-commute}
 
 -- a list with no members is empty
 pub no_members : (xs : List ℕ) → ((x : ℕ) → is_member x xs ≡ true → ⊥) → xs ≡ []
@@ -66,3 +68,26 @@ length-union_list X B r apart =
 -- one more element in the first set
 pub union-with_one_left : (a b : List ℕ) (x : ℕ) → IsRising b → union (with_one a x) b ≡ with_one (union a b) x
 union-with_one_left a b x s = same_members _ _ (IsRising-union (with_one a x) b s) (IsRising-with_one _ x (IsRising-union a b s)) (λ k. grind (arith, set_members))
+
+-- where C is disjoint from J, and J has more elements than I, what holds the members of C and of J outside I has more than C: those of C
+-- that are left out lie in I and outside J, and these are fewer than those of J outside I
+pub larger_than : (I J C B : List ℕ) → IsRising I → IsRising J → IsRising C → IsRising B → intersection C J ≡ [] → IsSubset (minus J I) B
+    → IsSubset (minus C I) B → length I < length J → length C < length B
+larger_than I J C B i j c b none new old less =
+    let both = length-subset (union (minus J I) (minus C I)) B (IsRising-union (minus J I) (minus C I) (IsRising-minus C I c)) b
+    (union-IsSubset (minus J I) (minus C I) B new old) in
+    let sum = length-union_apart (minus J I) (minus C I) (IsRising-minus J I j) (IsRising-minus C I c) apart in
+    let of_J = length-minus-intersection J I j in
+    let of_I = length-minus-intersection I J i in
+    let of_C = length-minus-intersection C I c in
+    let shared = ap length (intersection-commute I J i j) in
+    let lost = length-subset (intersection C I) (minus I J) (IsRising-intersection C I c) (IsRising-minus I J i) (record { inside = left_out }) in
+    omega arith
+  where
+    apart : (x : ℕ) → is_member x (minus J I) ≡ true → is_member x (minus C I) ≡ false
+    apart x m = false_from_ne_true _ (λ k. both_ways _ (apart_at C J none x (minus_parts C I x k).0) (minus_parts J I x m).0)
+
+    left_out : (x : ℕ) → is_member x (intersection C I) ≡ true → is_member x (minus I J) ≡ true
+    left_out x m =
+        let sides = and_parts (is_member x C) (is_member x I) (sym (is_member-intersection x C I) ∙ m) in
+        minus_from I J x sides.1 (apart_at C J none x sides.0)

@@ -2,13 +2,12 @@
 -- small to hold all of J - I, so that an element of J - I can be added to I.
 use Rattle.std.proofs.Common.{◌≡◌, ℕ, ◌≤◌, ◌<◌, Bool, true, false, ◌||◌, ◌⊎◌, List, length, inl, inr, sym, ap, ◌∙◌, arith}
 use Rattle.std.proofs.lemmas.Bool.{ne_eqb, ltb-true, lt-ltb, or_cases, and_parts, and_from, both_ways, false_from_ne_true}
-use Rattle.mat_sets.specs.Sets.{is_member, IsSubset, with_one, minus, intersection, union, all_below}
+use Rattle.mat_sets.specs.Sets.{is_member, IsSubset, with_one, minus, all_below}
 use Rattle.mat_sets.specs.SetTests.{is_set}
 use Rattle.mat_sets.specs.Search.{some_subset}
-use Rattle.mat_sets.proofs.Members.{is_member-intersection, is_member-with_one, IsRising-minus, IsRising-intersection, IsRising-union}
-use Rattle.mat_sets.proofs.Subsets.{IsSubset-trans, subset_or, union-IsSubset, minus-IsSubset, length-subset}
-use Rattle.mat_sets.proofs.Cardinalities.{length-with_one, length-union_apart, length-minus-intersection}
-use Rattle.mat_sets.proofs.Equalities.{intersection-commute}
+use Rattle.mat_sets.proofs.Members.{is_member-with_one, IsRising-minus}
+use Rattle.mat_sets.proofs.Subsets.{IsSubset-trans, subset_or, minus-IsSubset, length-subset}
+use Rattle.mat_sets.proofs.Cardinalities.{length-with_one}
 use Rattle.mat_sets.proofs.Ground.{below_member, is_member-all_below, IsSet-with_one, IsSubset-all_below, IsRising-all_below}
 use Rattle.mat_sets.proofs.SetTests.{IsSet-from_test, test_from-IsSet}
 use Rattle.mat_sets.proofs.Search.{some_subset_gives, some_subset_from}
@@ -16,7 +15,7 @@ use Rattle.mat_laws.specs.Matroids.{IsMatroid, IsBase, IsMaximal, Augments}
 use Rattle.mat_laws.proofs.Independent.{rising, below, grow_to_size}
 use Rattle.mat_laws.proofs.Maximal.{IsMaximal-largest}
 use Rattle.mat_minors.specs.Minors.{is_maximal, is_dual, IsDualIndependent}
-use Rattle.mat_minors.specs.DisjointSets.{minus_parts, minus_from, apart_at, apart_from}
+use Rattle.mat_minors.specs.DisjointSets.{minus_parts, minus_from, apart_at, apart_from, larger_than}
 use Rattle.mat_minors.specs.MaximalSubsets.{is_maximal-gives, is_maximal-from}
 
 -- what the test of the dual says
@@ -95,17 +94,8 @@ module _ {n : ℕ} {p : List ℕ → Bool} (laws : IsMatroid n p) where
               });
             }
         | inl all ↦ absurd (
-            let both = length-subset (union (minus J I) start) B (IsRising-union (minus J I) start (IsRising-minus j.base I rj)) r
-            (union-IsSubset (minus J I) start B all g.1.holds) in
-            let sum = length-union_apart (minus J I) start (IsRising-minus J I j.set.rising) (IsRising-minus j.base I rj) (λ x m. apart_start x m) in
-            let of_J = length-minus-intersection J I j.set.rising in
-            let of_I = length-minus-intersection I J i.set.rising in
-            let of_base = length-minus-intersection j.base I rj in
-            let shared = ap length (intersection-commute I J i.set.rising j.set.rising) in
-            let lost = length-subset (intersection j.base I) (minus I J) (IsRising-intersection j.base I rj) (IsRising-minus I J i.set.rising)
-            (record { inside = λ x m. lost_outside x m }) in
+            let more = larger_than I J j.base B i.set.rising j.set.rising rj r j.disjoint all g.1.holds less in
             let most = base_largest j.base B j.is_base g.1.passes in
-            let least = base_largest B j.base base j.is_base.passes in
             omega arith)
       ]
     where
@@ -116,12 +106,3 @@ module _ {n : ℕ} {p : List ℕ → Bool} (laws : IsMatroid n p) where
       apart_from_both : (B : List ℕ) (y x : ℕ) → is_member y I ≡ false → is_member y B ≡ true → is_member x B ≡ false → is_member y (with_one I x) ≡ false
       apart_from_both B y x out m missing = is_member-with_one y x I
           ∙ ap (λ b. b || is_member y I) (ne_eqb y x (λ same. both_ways _ missing (ap (λ z. is_member z B) (sym same) ∙ m))) ∙ out
-
-      apart_start : (x : ℕ) → is_member x (minus J I) ≡ true → is_member x (minus j.base I) ≡ false
-      apart_start x m = false_from_ne_true _ (λ k.
-          both_ways _ (apart_at j.base J j.disjoint x (minus_parts j.base I x k).0) (minus_parts J I x m).0)
-
-      lost_outside : (x : ℕ) → is_member x (intersection j.base I) ≡ true → is_member x (minus I J) ≡ true
-      lost_outside x m =
-          let both = and_parts (is_member x j.base) (is_member x I) (sym (is_member-intersection x j.base I) ∙ m) in
-          minus_from I J x both.1 (apart_at j.base J j.disjoint x both.0)

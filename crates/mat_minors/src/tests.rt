@@ -66,7 +66,7 @@ fn the_truncation_has_at_most_two_edges(rt: HostRuntime) -> Result<(), Fail> {
 #[test]
 fn the_restriction_has_no_bridge(rt: HostRuntime) -> Result<(), Fail> {
     let alloc = rt.alloc();
-    let triangle = ElemSet::all_below(alloc, 3)?;
+    let triangle = set_of(alloc, 4, &[0, 1, 2])?;
     let matroid = Restriction::new(triangle_and_bridge(alloc)?, triangle);
     assert_eq!(rt; matroid.size(), 4);
     let one = set_of(alloc, 4, &[1])?;
@@ -85,7 +85,7 @@ fn the_restriction_has_no_bridge(rt: HostRuntime) -> Result<(), Fail> {
 #[test]
 fn the_contraction_of_an_edge_makes_two_parallel(rt: HostRuntime) -> Result<(), Fail> {
     let alloc = rt.alloc();
-    let edge = ElemSet::all_below(alloc, 1)?;
+    let edge = set_of(alloc, 4, &[0])?;
     let matroid = Contraction::new(alloc, triangle_and_bridge(alloc)?, edge)?;
     assert_eq!(rt; matroid.size(), 4);
     let two = set_of(alloc, 4, &[1, 3])?;
@@ -104,7 +104,7 @@ fn the_contraction_of_an_edge_makes_two_parallel(rt: HostRuntime) -> Result<(), 
 #[test]
 fn the_contraction_of_the_triangle_has_the_bridge(rt: HostRuntime) -> Result<(), Fail> {
     let alloc = rt.alloc();
-    let triangle = ElemSet::all_below(alloc, 3)?;
+    let triangle = set_of(alloc, 4, &[0, 1, 2])?;
     let matroid = Contraction::new(alloc, triangle_and_bridge(alloc)?, triangle)?;
     assert!(rt; matroid.independent(alloc, &set_of(alloc, 4, &[3])?)?);
     assert!(rt; !matroid.independent(alloc, &set_of(alloc, 4, &[1])?)?);

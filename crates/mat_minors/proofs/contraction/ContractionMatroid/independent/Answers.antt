@@ -14,7 +14,7 @@ returns-then-len g c =
 pub independent-requires-clause-below : goal.independent-requires-clause-below
 independent-requires-clause-below g c =
     let laws = g.met.M.Matroid.laws c.args.self.now.inner c.requires.sound.0 in
-    subst (AllBelow (g.M.Matroid.ground_size c.args.self.now.inner)) (sym c.in_ok-joined.ensures.members)
+    subst (AllBelow (g.M.Matroid.ground_size c.args.self.now.inner)) (sym c.in_ok-joined.ensures)
     (IsSet-union _ c.args.set.now c.args.self.now.chosen c.requires.below (laws.sets c.args.self.now.chosen c.requires.sound.1.maximal.passes)).below
 
 pub returns : goal.returns
@@ -27,4 +27,4 @@ returns g c =
     (omega (arith, c.if-len.false, c.len-2.ensures.count, c.len-3.ensures.count, ap length c.in_ok-minus.ensures.members)) in
     let apart = contracted_apart laws _ _ contraction.set contraction.maximal c.args.set.now (record { rising = rises; below = c.requires.below }) disjoint in
     IfOk-weaker c.independent.result (λ b. b ≡ p c.in_ok-joined.joined) (λ b. b ≡ is_contracted (g.M.Matroid.ground_size c.args.self.now.inner) c.args.self.now.away p c.args.set.now)
-    (λ b told. told ∙ ap p c.in_ok-joined.ensures.members ∙ sym apart) c.independent.ensures
+    (λ b told. told ∙ ap p c.in_ok-joined.ensures ∙ sym apart) c.independent.ensures
