@@ -1,12 +1,13 @@
 -- A walk of the residual graph makes one path more: its entries move on along it, so each vertex of the walk gets before it what led to it,
 -- the first one is a source with none before it, and what was before the last one is a target and before none.
-use Rattle.std.proofs.Common.{◌≡◌, ℕ, zero, suc, ◌+◌, ◌<◌, ◌≤◌, ◌≢◌, true, false, List, length, get_or, Option, Some, None, ◌⊎◌, inl, inr, refl, sym, ap, ◌∙◌, subst, arith}
+use Rattle.std.proofs.Common.{◌≡◌, ℕ, zero, suc, ◌<◌, ◌≢◌, Bool, true, false, List, length, get_or, Option, Some, None, ◌⊎◌, inl, inr, refl, sym, ap, ◌∙◌, subst, arith}
 use Rattle.std.proofs.lemmas.Bool.{both_ways, cases_Bool, cases_eq, cases_lt}
 use Rattle.mat_sets.specs.Sets.{is_member}
-use Rattle.mat_sets.specs.Walks.{IsWalk}
+use Rattle.mat_sets.specs.Walks.{IsShortestWalk, IsWalk}
 use Rattle.mat_sets.proofs.Members.{is_member-get_or, place_of_member}
+use Rattle.mat_sets.proofs.Reach.{shortest_walk_is_chordless}
 use Rattle.mat_flow.specs.LinkTables.{entry_at, entry_before, is_member_there, leads_to, one_if_none, starts_in, IsLinkTable, IsShifted}
-use Rattle.mat_flow.proofs.LinkTables.{none_is_not_some, some_is_one}
+use Rattle.mat_flow.proofs.LinkTables.{none_is_not_some}
 
 module _ (vertices : ℕ) (arcs : List (ℕ × ℕ)) (sources targets : List ℕ) (old new : List (Option ℕ)) (walk : List ℕ)
     (t : IsLinkTable vertices arcs sources targets old)
@@ -14,7 +15,7 @@ module _ (vertices : ℕ) (arcs : List (ℕ × ℕ)) (sources targets : List ℕ
     (differ : (i j : ℕ) → i < j → j < length walk → get_or walk i 0 ≢ get_or walk j 0) (s : IsShifted walk old new) where
   -- an arc leads on from each vertex of the walk but the last, so it has one before it
   leaves : (j : ℕ) → suc j < length walk → entry_at old (get_or walk j 0) ≡ None → ⊥
-  leaves j l none = both_ways true (sym (ap (λ e. leads_to arcs e (get_or walk (suc j) 0)) none) ∙ w.steps j l) refl
+  leaves j l none = both_ways false refl (sym (ap (λ e. leads_to arcs e (get_or walk (suc j) 0)) none) ∙ w.steps j l)
 
   -- where an entry comes from
   abbrev Came : ℕ → Option ℕ → Type 0
@@ -84,7 +85,7 @@ module _ (vertices : ℕ) (arcs : List (ℕ × ℕ)) (sources targets : List ℕ
         both_ways (is_member u targets) not_target (last_target p.0 u p.1 (λ m. none (get_or walk (suc p.0) 0) (s.moved (suc p.0) m ∙ was)) was))
   ]
 
-  pub IsLinkTable-shifted : IsLinkTable vertices arcs sources targets new
+  IsLinkTable-shifted : IsLinkTable vertices arcs sources targets new
   IsLinkTable-shifted = record {
     long = s.long ∙ t.long;
     below = λ v u e. elim (came_from v u e) [ inl p ↦ t.below (get_or walk p.0 0) u p.3 | inr q ↦ t.below v u q.1 ];
@@ -94,14 +95,14 @@ module _ (vertices : ℕ) (arcs : List (ℕ × ℕ)) (sources targets : List ℕ
     ];
     starts = λ v l e. elim (came v None e) [ inl p ↦ new_start v p.0 p.1 p.2 p.3 | inr q ↦ t.starts v l q.1 ];
     ends = λ u l none. elim (cases_Bool (is_member u targets)) [
-      | inl yes ↦ yes
-      | inr no ↦ t.ends u l (new_ends u l none no)
+      | inl is ↦ is
+      | inr not_target ↦ t.ends u l (new_ends u l none not_target)
     ];
     once = λ v x u e f. new_once v x u (came_from v u e) (came_from x u f);
   }
 
   -- one vertex more has none before it
-  pub starts_in-shifted : starts_in new ≡ suc (starts_in old)
+  starts_in-shifted : starts_in new ≡ suc (starts_in old)
   starts_in-shifted =
       let last = last_there (entry_at old (get_or walk w.arcs 0)) w.last in
       let end : entry_before old walk (length walk) ≡ entry_at old (get_or walk w.arcs 0) = ap (entry_before old walk) w.long in
@@ -110,5 +111,27 @@ module _ (vertices : ℕ) (arcs : List (ℕ × ℕ)) (sources targets : List ℕ
       omega arith
     where
       last_there : (entry : Option ℕ) → is_member_there entry targets ≡ true → one_if_none entry ≡ 0
-      last_there None h = absurd (both_ways true h refl)
+      last_there None h = absurd (both_ways false refl h)
       last_there (Some u) h = refl
+
+-- the vertices of a shortest walk differ
+pub walk_differs : (vertices : ℕ) (arc : ℕ → ℕ → Bool) (start goal : ℕ → Bool) (walk lent : List ℕ) → lent ≡ walk
+    → IsShortestWalk vertices arc start goal walk → (i j : ℕ) → i < j → j < length lent → get_or lent i 0 ≢ get_or lent j 0
+walk_differs vertices arc start goal walk lent e shortest =
+    subst (λ w. (i j : ℕ) → i < j → j < length w → get_or w i 0 ≢ get_or w j 0) (sym e)
+    (shortest_walk_is_chordless vertices arc start goal walk shortest).differ
+
+-- a shortest walk makes one path more
+pub augmented : (vertices : ℕ) (arcs : List (ℕ × ℕ)) (sources targets : List ℕ) (old read new : List (Option ℕ)) (walk lent : List ℕ) → read ≡ old
+    → lent ≡ walk → IsLinkTable vertices arcs sources targets old
+    → IsShortestWalk vertices (λ v. leads_to arcs (entry_at read v)) (λ v. is_member v sources) (λ v. is_member_there (entry_at read v) targets) walk
+    → IsShifted lent old new → IsLinkTable vertices arcs sources targets new × (starts_in new ≡ suc (starts_in old))
+augmented vertices arcs sources targets old read new walk lent same e t shortest s =
+    let found = subst (λ b. IsShortestWalk vertices (λ v. leads_to arcs (entry_at b v)) (λ v. is_member v sources)
+        (λ v. is_member_there (entry_at b v) targets) walk) same shortest in
+    let moved : IsShifted walk old new = subst (λ w. IsShifted w old new) e s in
+    let differ = walk_differs vertices (λ v. leads_to arcs (entry_at old v)) (λ v. is_member v sources) (λ v. is_member_there (entry_at old v) targets)
+        walk walk refl found in (
+      IsLinkTable-shifted vertices arcs sources targets old new walk t found.walk differ moved,
+      starts_in-shifted vertices arcs sources targets old new walk t found.walk differ moved,
+    )

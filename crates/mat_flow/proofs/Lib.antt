@@ -3,5 +3,5 @@ pub mod LinkTables
 pub mod Augmenting
 pub mod TrailReading
 pub mod DisjointPaths
---pub mod Frontiers
---pub mod Separators
+pub mod Frontiers
+pub mod Separators

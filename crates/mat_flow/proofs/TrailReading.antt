@@ -1,14 +1,14 @@
 -- The paths that a table holds, read from their starts: going back from a vertex leads to one start in one number of steps, so no vertex
 -- stands twice in a path, and none in two paths with different starts.
-use Rattle.std.proofs.Common.{◌≡◌, ℕ, zero, suc, ◌+◌, ◌<◌, ◌≤◌, ◌≢◌, true, false, List, [], ◌∷◌, ◌++◌, length, get_or, set, Option, Some, None, inl, inr, refl, sym, ap, ◌∙◌, subst, arith, length-set}
+use Rattle.std.proofs.Common.{◌≡◌, ℕ, zero, suc, ◌+◌, ◌<◌, ◌≤◌, ◌≢◌, true, List, [], ◌∷◌, ◌++◌, length, get_or, set, Option, Some, None, inl, inr, refl, sym, ap, ◌∙◌, subst, arith, length-set}
 use Rattle.std.proofs.lemmas.Bool.{cases_eq, cases_lt}
 use Rattle.std.proofs.lemmas.List.{get_or_past, get_or_append_left, get_or_push, length_push}
-use Rattle.mat_sets.specs.Sets.{is_member, AllBelow, AreDistinct}
+use Rattle.mat_sets.specs.Sets.{is_member, AreDistinct}
 use Rattle.mat_sets.proofs.Ground.{AllBelow-from_members, length-distinct_below}
 use Rattle.mat_sets.proofs.Members.{is_member-nowhere, members_by_place, place_of_member}
 use Rattle.mat_flow.specs.LinkTables.{entry_at}
-use Rattle.mat_flow.specs.Trails.{IsReversed, IsTrail, IsTrailAmong}
-use Rattle.mat_flow.proofs.LinkTables.{entry_inside, entry_set, none_is_not_some, some_is_one}
+use Rattle.mat_flow.specs.Trails.{IsReversed, IsTrail}
+use Rattle.mat_flow.proofs.LinkTables.{entry_set, none_is_not_some, some_is_one}
 
 -- ---- lists without repetition
 

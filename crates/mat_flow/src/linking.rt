@@ -33,7 +33,7 @@ fn linking_of(
     requires missed { (v : ℕ) → is_member v reached.now ≡ true → is_member_there (entry_at residual.now.before.now v) residual.now.targets.now ≡ false }
     ensures { IfOk result (λ l. IsLinking residual.now.graph.now.arcs residual.now.sources.now residual.now.targets.now l.paths.items l.separator) }
 {
-    let after = after_table(alloc, residual.before)?;
+    let after = after_table(alloc, residual.graph.vertices(), residual.before)?;
     let paths = paths_among(alloc, residual.before, &after, reached.as_slice())?;
     let separator = frontier(alloc, residual.before, reached)?;
     Ok(Linking { paths, separator })

@@ -1,5 +1,5 @@
 //! The paths that a table holds, read from their starts.
-ghost use Rattle.std.specs.Prelude.{◌≡◌, ◌≢◌, ◌<◌, ◌^◌, ℕ, Some, length, IfOk};
+ghost use Rattle.std.specs.Prelude.{◌≡◌, ◌≢◌, ◌<◌, ℕ, Some, length, IfOk};
 ghost use Rattle.mat_sets.specs.Sets.{AllBelow, IsRising};
 ghost use Rattle.mat_flow.specs.LinkTables.{entry_at};
 ghost use Rattle.mat_flow.specs.Trails.{AreTrails, IsReversed, IsTrail};
@@ -10,16 +10,17 @@ use std::alloc::{AllocError, Global};
 /// The vertex after each vertex, by the vertex before each.
 pub(crate) fn after_table(
     alloc: Global,
+    vertices: u32,
     before: &[Option<u32>],
 ) -> Result<Vec<Option<u32>>, AllocError>
-    requires few { length before.now < 2 ^ 32 }
-    requires below { (v u : ℕ) → entry_at before.now v ≡ Some u → u < length before.now }
+    requires long { length before.now ≡ vertices }
+    requires below { (v u : ℕ) → entry_at before.now v ≡ Some u → u < vertices }
     ensures { IfOk result (λ after. IsReversed before.now after.items) }
 {
-    let mut after = vec![in alloc; None; before.len()]?;
-    for v in 0..before.len() {
-        if let Some(u) = before[v] {
-            after[u as usize] = Some(v as u32);
+    let mut after = vec![in alloc; None; vertices as usize]?;
+    for v in 0..vertices {
+        if let Some(u) = before[v as usize] {
+            after[u as usize] = Some(v);
         }
     }
     Ok(after)

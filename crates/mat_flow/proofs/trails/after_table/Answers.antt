@@ -10,7 +10,7 @@ loop-v-preserved c =
     let v = c.loop-v.v in
     let now : Vec (Option ℕ) Global → Type 0 = λ after. IsReversing before (v + 1) after.items in
     elim c.match-before-v.branch [
-      | in-Some w ↦ (let inside : w.in-Some.u < length c.loop-v.after.items = omega (arith, c.requires.below v w.in-Some.u w.in-Some.is, c.loop-v.invariant.long) in
+      | in-Some w ↦ (let inside : w.in-Some.u < length c.loop-v.after.items = omega (arith, c.requires.long, c.requires.below v w.in-Some.u w.in-Some.is, c.loop-v.invariant.long) in
           subst now (sym w.after-is) (IsReversing-put before v w.in-Some.u c.loop-v.after.items w.in-Some.is inside c.loop-v.invariant))
       | in_default w ↦ subst now (sym w.after-is) (IsReversing-skip before v c.loop-v.after.items (none_from _ w.in_default.not-Some) c.loop-v.invariant)
     ]
