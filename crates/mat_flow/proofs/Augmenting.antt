@@ -128,10 +128,10 @@ pub augmented : (vertices : ℕ) (arcs : List (ℕ × ℕ)) (sources targets : L
     → IsShifted lent old new → IsLinkTable vertices arcs sources targets new × (starts_in new ≡ suc (starts_in old))
 augmented vertices arcs sources targets old read new walk lent same e t shortest s =
     let found = subst (λ b. IsShortestWalk vertices (λ v. leads_to arcs (entry_at b v)) (λ v. is_member v sources)
-        (λ v. is_member_there (entry_at b v) targets) walk) same shortest in
+    (λ v. is_member_there (entry_at b v) targets) walk) same shortest in
     let moved : IsShifted walk old new = subst (λ w. IsShifted w old new) e s in
     let differ = walk_differs vertices (λ v. leads_to arcs (entry_at old v)) (λ v. is_member v sources) (λ v. is_member_there (entry_at old v) targets)
-        walk walk refl found in (
+    walk walk refl found in (
       IsLinkTable-shifted vertices arcs sources targets old new walk t found.walk differ moved,
       starts_in-shifted vertices arcs sources targets old new walk t found.walk differ moved,
     )

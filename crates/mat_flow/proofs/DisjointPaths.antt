@@ -27,6 +27,7 @@ AreDistinct-append (x ∷ xs) ys d e apart = (
   where
     head_member : (x : ℕ) (xs : List ℕ) → is_member x (x ∷ xs) ≡ true
     head_member x xs = is_member-get_or (x ∷ xs) 0 x (omega arith) refl
+
     tail_member : (y x : ℕ) (xs : List ℕ) → is_member y xs ≡ true → is_member y (x ∷ xs) ≡ true
     tail_member y x xs m = grind arith
 

@@ -27,6 +27,7 @@ is_before-more before (v ∷ vs) (suc i) x l =
     or_assoc : (a b c : Bool) → (a || (b || c)) ≡ ((a || b) || c)
     or_assoc true b c = refl
     or_assoc false b c = refl
+
     rest : is_before before (take (suc i) vs) x ≡ (is_before before (take i vs) x || is_there x (entry_at before (get_or vs i 0)))
         → (is_there x (entry_at before v) || is_before before (take (suc i) vs) x)
         ≡ ((is_there x (entry_at before v) || is_before before (take i vs) x) || is_there x (entry_at before (get_or vs i 0)))
@@ -89,9 +90,9 @@ pub IsCutting-cut : (before : List (Option ℕ)) (reached : List ℕ) (i u : ℕ
     → entry_at before (get_or reached i 0) ≡ Some u → IsCutting before reached i rest → IsCutting before reached (i + 1) (without_one rest u)
 IsCutting-cut before reached i u rest rises l once inside some c =
     let fresh : is_before before (take i reached) u ≡ false = false_from_ne_true (is_before before (take i reached) u) (λ h.
-        let w = is_before_gives before (take i reached) u h in
-        both_ways (is_member (get_or reached i 0) (take i reached)) (is_member-take_next reached i rises l)
-        (subst (λ v. is_member v (take i reached) ≡ true) (once w.0 (get_or reached i 0) u w.2 some) w.1)) in
+    let w = is_before_gives before (take i reached) u h in
+    both_ways (is_member (get_or reached i 0) (take i reached)) (is_member-take_next reached i rises l)
+    (subst (λ v. is_member v (take i reached) ≡ true) (once w.0 (get_or reached i 0) u w.2 some) w.1)) in
     let in_rest : is_member u rest ≡ true = c.members u ∙ and_from (is_member u reached) (not (is_before before (take i reached) u)) inside (ap not fresh) in
     record {
       rises = IsRising-without_one rest u c.rises;

@@ -83,8 +83,8 @@ pub IsLinkTable-own : (n : ℕ) (arcs : List (ℕ × ℕ)) (sources targets : Li
     → IsLinkTable n arcs sources targets table
 IsLinkTable-own n arcs sources targets table a =
     let same : (v u : ℕ) → entry_at table v ≡ Some u → (v < n) × (v ≡ u) = λ v u e.
-        (let long = a.long in let inside = entry_inside table v u e in let l : v < n = omega arith in
-        (l, some_is_one v u (sym (a.own v l) ∙ e))) in
+    (let long = a.long in let inside = entry_inside table v u e in let l : v < n = omega arith in
+    (l, some_is_one v u (sym (a.own v l) ∙ e))) in
     record {
       long = a.long;
       below = λ v u e. let s = same v u e in subst (λ w. w < n) s.1 s.0;

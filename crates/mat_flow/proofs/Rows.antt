@@ -41,6 +41,7 @@ has_arc-more (arc ∷ arcs) (suc i) u v l =
     or_assoc : (a b c : Bool) → (a || (b || c)) ≡ ((a || b) || c)
     or_assoc true b c = refl
     or_assoc false b c = refl
+
     rest : has_arc (take (suc i) arcs) u v ≡ (has_arc (take i arcs) u v || (eqb (ends_of arcs i).0 u && eqb (ends_of arcs i).1 v))
         → ((eqb arc.0 u && eqb arc.1 v) || has_arc (take (suc i) arcs) u v)
         ≡ (((eqb arc.0 u && eqb arc.1 v) || has_arc (take i arcs) u v) || (eqb (ends_of arcs i).0 u && eqb (ends_of arcs i).1 v))

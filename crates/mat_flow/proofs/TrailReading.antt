@@ -174,7 +174,7 @@ pub trail_differs : (before after : List (Option ℕ)) (s : ℕ) (path : List �
     → IsTrail after s path → (i j : ℕ) → i < j → j < length path → get_or path i 0 ≢ get_or path j 0
 trail_differs before after s path r none t i j l m e =
     let same = (back_is_one before i j s s (get_or path j 0) none none
-        (subst (LeadsBack before i s) e (trail_back before after s path r t i (omega arith))) (trail_back before after s path r t j m)).0 in
+    (subst (LeadsBack before i s) e (trail_back before after s path r t i (omega arith))) (trail_back before after s path r t j m)).0 in
     omega arith
 
 -- paths with a common vertex have one start

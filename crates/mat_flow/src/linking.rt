@@ -22,11 +22,7 @@ pub struct Linking {
 }
 
 // The paths of a table and their separator, where the sources reach no goal of the residual graph.
-fn linking_of(
-    alloc: Global,
-    residual: &Residual,
-    reached: &ElemSet,
-) -> Result<Linking, AllocError>
+fn linking_of(alloc: Global, residual: &Residual, reached: &ElemSet) -> Result<Linking, AllocError>
     requires sources { AllBelow residual.now.graph.now.vertices residual.now.sources.now }
     requires table { IsLinkTable residual.now.graph.now.vertices residual.now.graph.now.arcs residual.now.sources.now residual.now.targets.now residual.now.before.now }
     requires reached { IsReachedSet residual.now.graph.now.vertices (λ v. leads_to residual.now.graph.now.arcs (entry_at residual.now.before.now v)) (λ v. is_member v residual.now.sources.now) reached.now }

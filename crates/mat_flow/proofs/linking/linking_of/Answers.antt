@@ -24,8 +24,8 @@ returns c =
     let paths = c.in_ok-paths.paths.items in
     let frontier = c.in_ok-separator.ensures.frontier in
     let trails : AreTrails before after reached paths =
-        subst (λ a. AreTrails before a reached paths) c.deref.ensures.value
-        (subst (λ vs. AreTrails before c.deref.result.now vs paths) c.as_slice.ensures.items c.in_ok-paths.ensures) in
+    subst (λ a. AreTrails before a reached paths) c.deref.ensures.value
+    (subst (λ vs. AreTrails before c.deref.result.now vs paths) c.as_slice.ensures.items c.in_ok-paths.ensures) in
     record {
       disjoint = AreDisjointPaths-trails vertices arcs sources targets before after c.requires.table c.in_ok-after.ensures reached paths
           (λ v m. below_member c.requires.reached.set m) trails;
