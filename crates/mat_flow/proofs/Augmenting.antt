@@ -6,12 +6,12 @@ use Rattle.mat_sets.specs.Sets.{is_member}
 use Rattle.mat_sets.specs.Walks.{IsShortestWalk, IsWalk}
 use Rattle.mat_sets.proofs.Members.{is_member-get_or, place_of_member}
 use Rattle.mat_sets.proofs.Reach.{shortest_walk_is_chordless}
-use Rattle.mat_flow.specs.LinkTables.{entry_at, entry_before, is_member_there, leads_to, one_if_none, starts_in, IsLinkTable, IsShifted}
+use Rattle.mat_flow.specs.LinkTables.{entry_at, entry_before, is_member_there, leads_to, one_if_none, residual_arc, residual_goal, starts_in, IsLinkTable, IsShifted}
 use Rattle.mat_flow.proofs.LinkTables.{none_is_not_some}
 
 module _ (vertices : ℕ) (arcs : List (ℕ × ℕ)) (sources targets : List ℕ) (old new : List (Option ℕ)) (walk : List ℕ)
     (t : IsLinkTable vertices arcs sources targets old)
-    (w : IsWalk vertices (λ v. leads_to arcs (entry_at old v)) (λ v. is_member v sources) (λ v. is_member_there (entry_at old v) targets) walk)
+    (w : IsWalk vertices (residual_arc arcs old) (λ v. is_member v sources) (residual_goal targets old) walk)
     (differ : (i j : ℕ) → i < j → j < length walk → get_or walk i 0 ≢ get_or walk j 0) (s : IsShifted walk old new) where
   -- an arc leads on from each vertex of the walk but the last, so it has one before it
   leaves : (j : ℕ) → suc j < length walk → entry_at old (get_or walk j 0) ≡ None → ⊥
@@ -49,7 +49,8 @@ module _ (vertices : ℕ) (arcs : List (ℕ × ℕ)) (sources targets : List ℕ
   new_start v (suc j) l p e = absurd (leaves j l e)
 
   -- what was before the last vertex is a target
-  last_target : (j u : ℕ) → j < length walk → (suc j < length walk → ⊥) → entry_at old (get_or walk j 0) ≡ Some u → is_member u targets ≡ true
+  last_target : (j u : ℕ) → j < length walk → (suc j < length walk → ⊥) → entry_at old (get_or walk j 0) ≡ Some u
+      → is_member u targets ≡ true
   last_target j u l past e =
       let long = w.long in
       let here : w.arcs ≡ j = elim (cases_lt (suc j) (length walk)) [ inl m ↦ absurd (past m) | inr m ↦ omega arith ] in
@@ -65,7 +66,8 @@ module _ (vertices : ℕ) (arcs : List (ℕ × ℕ)) (sources targets : List ℕ
   ]
 
   -- no entry that moved on is one that stayed
-  apart : (v x u j : ℕ) → j < length walk → entry_at old (get_or walk j 0) ≡ Some u → is_member x walk ≡ false → entry_at old x ≡ Some u → v ≡ x
+  apart : (v x u j : ℕ) → j < length walk → entry_at old (get_or walk j 0) ≡ Some u → is_member x walk ≡ false
+      → entry_at old x ≡ Some u → v ≡ x
   apart v x u j l e off f = absurd (both_ways (is_member x walk) off (is_member-get_or walk j x l (t.once (get_or walk j 0) x u e f)))
 
   new_once : (v x u : ℕ) → CameFrom v u → CameFrom x u → v ≡ x
@@ -77,7 +79,8 @@ module _ (vertices : ℕ) (arcs : List (ℕ × ℕ)) (sources targets : List ℕ
   new_once v x u (inr p) (inr q) = t.once v x u p.1 q.1
 
   -- what is before none now is a target, or was before none
-  new_ends : (u : ℕ) → u < vertices → ((v : ℕ) → entry_at new v ≢ Some u) → is_member u targets ≡ false → (v : ℕ) → entry_at old v ≢ Some u
+  new_ends : (u : ℕ) → u < vertices → ((v : ℕ) → entry_at new v ≢ Some u) → is_member u targets ≡ false
+      → (v : ℕ) → entry_at old v ≢ Some u
   new_ends u l none not_target v e = elim (cases_Bool (is_member v walk)) [
     | inr off ↦ none v (s.kept v off ∙ e)
     | inl on ↦ (let p = place_of_member v walk on in
@@ -90,7 +93,8 @@ module _ (vertices : ℕ) (arcs : List (ℕ × ℕ)) (sources targets : List ℕ
     long = s.long ∙ t.long;
     below = λ v u e. elim (came_from v u e) [ inl p ↦ t.below (get_or walk p.0 0) u p.3 | inr q ↦ t.below v u q.1 ];
     joined = λ v u e. elim (came_from v u e) [
-      | inl p ↦ subst (λ x. leads_to arcs (Some u) x ≡ true) p.2 (subst (λ f. leads_to arcs f (get_or walk (suc p.0) 0) ≡ true) p.3 (w.steps p.0 p.1))
+      | inl p ↦ subst (λ x. leads_to arcs (Some u) x ≡ true) p.2
+          (subst (λ f. leads_to arcs f (get_or walk (suc p.0) 0) ≡ true) p.3 (w.steps p.0 p.1))
       | inr q ↦ t.joined v u q.1
     ];
     starts = λ v l e. elim (came v None e) [ inl p ↦ new_start v p.0 p.1 p.2 p.3 | inr q ↦ t.starts v l q.1 ];
@@ -122,16 +126,14 @@ walk_differs vertices arc start goal walk lent e shortest =
     (shortest_walk_is_chordless vertices arc start goal walk shortest).differ
 
 -- a shortest walk makes one path more
-pub augmented : (vertices : ℕ) (arcs : List (ℕ × ℕ)) (sources targets : List ℕ) (old read new : List (Option ℕ)) (walk lent : List ℕ) → read ≡ old
-    → lent ≡ walk → IsLinkTable vertices arcs sources targets old
-    → IsShortestWalk vertices (λ v. leads_to arcs (entry_at read v)) (λ v. is_member v sources) (λ v. is_member_there (entry_at read v) targets) walk
+pub augmented : (vertices : ℕ) (arcs : List (ℕ × ℕ)) (sources targets : List ℕ) (old read new : List (Option ℕ)) (walk lent : List ℕ)
+    → read ≡ old → lent ≡ walk → IsLinkTable vertices arcs sources targets old
+    → IsShortestWalk vertices (residual_arc arcs read) (λ v. is_member v sources) (residual_goal targets read) walk
     → IsShifted lent old new → IsLinkTable vertices arcs sources targets new × (starts_in new ≡ suc (starts_in old))
 augmented vertices arcs sources targets old read new walk lent same e t shortest s =
-    let found = subst (λ b. IsShortestWalk vertices (λ v. leads_to arcs (entry_at b v)) (λ v. is_member v sources)
-    (λ v. is_member_there (entry_at b v) targets) walk) same shortest in
+    let found = subst (λ b. IsShortestWalk vertices (residual_arc arcs b) (λ v. is_member v sources) (residual_goal targets b) walk) same shortest in
     let moved : IsShifted walk old new = subst (λ w. IsShifted w old new) e s in
-    let differ = walk_differs vertices (λ v. leads_to arcs (entry_at old v)) (λ v. is_member v sources) (λ v. is_member_there (entry_at old v) targets)
-    walk walk refl found in (
+    let differ = walk_differs vertices (residual_arc arcs old) (λ v. is_member v sources) (residual_goal targets old) walk walk refl found in (
       IsLinkTable-shifted vertices arcs sources targets old new walk t found.walk differ moved,
       starts_in-shifted vertices arcs sources targets old new walk t found.walk differ moved,
     )

@@ -45,7 +45,8 @@ pub starts_among-more : (before : List (Option ℕ)) (vs : List ℕ) (i : ℕ) �
     → starts_among before (take (i + 1) vs) ≡ starts_among before (take i vs) + one_if_none (entry_at before (get_or vs i 0))
 starts_among-more before [] i l = absurd (omega arith)
 starts_among-more before (v ∷ vs) zero l = omega arith
-starts_among-more before (v ∷ vs) (suc i) l = rw (add-one (suc i)) (let rest = rw (add-one i) at (starts_among-more before vs i (omega arith)) in omega arith)
+starts_among-more before (v ∷ vs) (suc i) l =
+    rw (add-one (suc i)) (let rest = rw (add-one i) at (starts_among-more before vs i (omega arith)) in omega arith)
 
 -- ---- the paths, one after the other
 
@@ -53,7 +54,8 @@ pub none_of : (entry : Option ℕ) → is_some entry ≡ false → entry ≡ Non
 none_of None h = refl
 none_of (Some u) h = absurd (both_ways true h refl)
 
-IsTrailAmong-more : (before after : List (Option ℕ)) (among more path : List ℕ) → ((x : ℕ) → is_member x among ≡ true → is_member x more ≡ true)
+IsTrailAmong-more : (before after : List (Option ℕ)) (among more path : List ℕ)
+    → ((x : ℕ) → is_member x among ≡ true → is_member x more ≡ true)
     → IsTrailAmong before after among path → IsTrailAmong before after more path
 IsTrailAmong-more before after among more path inside t = record {
   start = t.start;
@@ -158,7 +160,8 @@ module _ (vertices : ℕ) (arcs : List (ℕ × ℕ)) (sources targets : List ℕ
       let inside = entry_inside before (get_or path (suc i) 0) (get_or path i 0) turned in
       subst (λ n. get_or path (suc i) 0 < n) t.long inside
 
-  pub trail_between : (s : ℕ) (path : List ℕ) → s < vertices → entry_at before s ≡ None → IsTrail after s path → IsPathBetween arcs sources targets path
+  pub trail_between : (s : ℕ) (path : List ℕ) → s < vertices → entry_at before s ≡ None → IsTrail after s path
+      → IsPathBetween arcs sources targets path
   trail_between s path l none p = record {
     joined = path_by_index arcs path p.some (λ i m. arc_to_other arcs (get_or path i 0) (get_or path (suc i) 0)
         (trail_differs before after s path r none p i (suc i) (omega arith) m)

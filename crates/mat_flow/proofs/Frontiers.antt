@@ -93,7 +93,8 @@ IsCutting-cut before reached i u rest rises l once inside some c =
     let w = is_before_gives before (take i reached) u h in
     both_ways (is_member (get_or reached i 0) (take i reached)) (is_member-take_next reached i rises l)
     (subst (λ v. is_member v (take i reached) ≡ true) (once w.0 (get_or reached i 0) u w.2 some) w.1)) in
-    let in_rest : is_member u rest ≡ true = c.members u ∙ and_from (is_member u reached) (not (is_before before (take i reached) u)) inside (ap not fresh) in
+    let in_rest : is_member u rest ≡ true = c.members u
+    ∙ and_from (is_member u reached) (not (is_before before (take i reached) u)) inside (ap not fresh) in
     record {
       rises = IsRising-without_one rest u c.rises;
       members = λ x. cut_member x u reached rest (is_before before (take i reached) x) _ (c.members x)
@@ -105,7 +106,8 @@ IsCutting-cut before reached i u rest rises l once inside some c =
           omega arith);
     }
 
-pub IsCutting-end : (before : List (Option ℕ)) (reached : List ℕ) (i : ℕ) (rest : List ℕ) → i ≡ length reached → IsCutting before reached i rest
+pub IsCutting-end : (before : List (Option ℕ)) (reached : List ℕ) (i : ℕ) (rest : List ℕ) → i ≡ length reached
+    → IsCutting before reached i rest
     → IsFrontier before reached rest
 IsCutting-end before reached i rest e c =
     let all : take i reached ≡ reached = take_all i reached (omega arith) in

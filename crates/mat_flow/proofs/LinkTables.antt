@@ -10,7 +10,8 @@ use Rattle.mat_flow.specs.LinkTables.{entry_at, entry_before, leads_to, one_if_n
 -- ---- entries
 
 -- the entry that an index reads
-pub entry_of : (table : List (Option ℕ)) (v : ℕ) (entry : Option ℕ) → v < length table → entry ≡ get_or table v entry → entry_at table v ≡ entry
+pub entry_of : (table : List (Option ℕ)) (v : ℕ) (entry : Option ℕ) → v < length table → entry ≡ get_or table v entry
+    → entry_at table v ≡ entry
 entry_of table v entry l read = get_or_default table v None entry l ∙ sym read
 
 -- an entry after a change at i

@@ -15,7 +15,8 @@ use Rattle.mat_flow.specs.Paths.{has_arc}
 pub AreRows-none : AreRows 0 [] []
 AreRows-none = record { count = refl; members = λ u v l. absurd (omega arith) }
 
-pub AreRows-push : (n : ℕ) (rows : List (List ℕ)) (row : List ℕ) → AreRows n [] rows → row ≡ with_one [] n → AreRows (n + 1) [] (rows ++ row ∷ [])
+pub AreRows-push : (n : ℕ) (rows : List (List ℕ)) (row : List ℕ) → AreRows n [] rows → row ≡ with_one [] n
+    → AreRows (n + 1) [] (rows ++ row ∷ [])
 AreRows-push n rows row r e = record {
   count = length-append rows (row ∷ []) ∙ ap (λ m. m + 1) r.count;
   members = λ u v l. let count = r.count in elim (cases_eq u n) [
@@ -47,14 +48,16 @@ has_arc-more (arc ∷ arcs) (suc i) u v l =
         ≡ (((eqb arc.0 u && eqb arc.1 v) || has_arc (take i arcs) u v) || (eqb (ends_of arcs i).0 u && eqb (ends_of arcs i).1 v))
     rest e = rw e (or_assoc (eqb arc.0 u && eqb arc.1 v) (has_arc (take i arcs) u v) (eqb (ends_of arcs i).0 u && eqb (ends_of arcs i).1 v))
 
-head_put : (itself before now : Bool) (v head : ℕ) (row : List ℕ) → is_member v row ≡ (itself || before) → now ≡ (before || (true && eqb head v))
+head_put : (itself before now : Bool) (v head : ℕ) (row : List ℕ) → is_member v row ≡ (itself || before)
+    → now ≡ (before || (true && eqb head v))
     → is_member v (with_one row head) ≡ (itself || now)
 head_put itself before now v head row a b = elim (cases_eq v head) [
   | inl same ↦ (let m = is_member-with_one v head row in let p = eq-eqb v head same in let q = eq-eqb head v (sym same) in grind arith)
   | inr d ↦ (let m = is_member-with_one v head row in let p = ne_eqb v head d in let q = ne_eqb head v (λ e. d (sym e)) in grind arith)
 ]
 
-none_put : (itself before now heads : Bool) (member : Bool) → member ≡ (itself || before) → now ≡ (before || (false && heads)) → member ≡ (itself || now)
+none_put : (itself before now heads : Bool) (member : Bool) → member ≡ (itself || before) → now ≡ (before || (false && heads))
+    → member ≡ (itself || now)
 none_put itself before now heads member a b = grind arith
 
 pub AreRows-more : (n : ℕ) (arcs : List (ℕ × ℕ)) (i : ℕ) (rows : List (List ℕ)) (row : List ℕ) → i < length arcs → (ends_of arcs i).0 < n
@@ -78,7 +81,8 @@ AreRows-more n arcs i rows row l inside e r =
       ];
     }
 
-pub AreRows-all : (n : ℕ) (arcs : List (ℕ × ℕ)) (i : ℕ) (rows : List (List ℕ)) → length arcs ≤ i → AreRows n (take i arcs) rows → AreRows n arcs rows
+pub AreRows-all : (n : ℕ) (arcs : List (ℕ × ℕ)) (i : ℕ) (rows : List (List ℕ)) → length arcs ≤ i
+    → AreRows n (take i arcs) rows → AreRows n arcs rows
 AreRows-all n arcs i rows all r = subst (λ a. AreRows n a rows) (take_all i arcs all) r
 
 -- ---- arcs and vertices

@@ -97,7 +97,8 @@ pub IsReading-next : (after : List (Option ℕ)) (start : ℕ) (path : List ℕ)
 IsReading-next after start path at next e r =
     let some = r.some in
     let long = length_push path next in
-    let kept : (i : ℕ) → i < length path → get_or (path ++ next ∷ []) i 0 ≡ get_or path i 0 = λ i l. get_or_append_left path (next ∷ []) 0 i l in
+    let kept : (i : ℕ) → i < length path → get_or (path ++ next ∷ []) i 0 ≡ get_or path i 0 =
+    λ i l. get_or_append_left path (next ∷ []) 0 i l in
     let last : (i : ℕ) → i ≡ length path → get_or (path ++ next ∷ []) i 0 ≡ next = λ i same. get_or_push path next 0 i (sym same) in
     record {
       some = omega arith;
@@ -109,8 +110,8 @@ IsReading-next after start path at next e r =
       here = λ i l. last i (omega arith);
     }
 
-pub IsReading-end : (after : List (Option ℕ)) (start : ℕ) (path : List ℕ) (at : ℕ) → entry_at after at ≡ None → IsReading after start path at
-    → IsTrail after start path
+pub IsReading-end : (after : List (Option ℕ)) (start : ℕ) (path : List ℕ) (at : ℕ) → entry_at after at ≡ None
+    → IsReading after start path at → IsTrail after start path
 IsReading-end after start path at e r = record {
   some = r.some;
   first = r.first;
@@ -130,7 +131,8 @@ module _ (after : List (Option ℕ)) (start : ℕ) (first : (u : ℕ) → entry_
       (once (get_or path i 0) (get_or path j 0) (get_or path (suc j) 0) (r.steps i (omega arith) ∙ ap Some e) (r.steps j m))
 
   module _ (inside : start < length after) (below : (u v : ℕ) → entry_at after u ≡ Some v → v < length after) where
-    pub reading_below : (path : List ℕ) (at : ℕ) → IsReading after start path at → (i : ℕ) → i < length path → get_or path i 0 < length after
+    pub reading_below : (path : List ℕ) (at : ℕ) → IsReading after start path at → (i : ℕ) → i < length path
+        → get_or path i 0 < length after
     reading_below path at r zero l = subst (λ v. v < length after) (sym r.first) inside
     reading_below path at r (suc i) l = below (get_or path i 0) (get_or path (suc i) 0) (r.steps i l)
 

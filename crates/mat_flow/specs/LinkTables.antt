@@ -29,6 +29,14 @@ abbrev pub one_if_none : Option ℕ → ℕ
 one_if_none None = 1
 one_if_none (Some u) = 0
 
+-- the arcs of the residual graph: from v one leads to the vertex before v, and to the heads of the arcs that leave that one
+abbrev pub residual_arc : List (ℕ × ℕ) → List (Option ℕ) → ℕ → ℕ → Bool
+residual_arc arcs before v w = leads_to arcs (entry_at before v) w
+
+-- the goals of the residual graph: a target is before them
+abbrev pub residual_goal : List ℕ → List (Option ℕ) → ℕ → Bool
+residual_goal targets before v = is_member_there (entry_at before v) targets
+
 -- a table that holds disjoint paths, and maybe closed paths beside them: each vertex is the one before it or the head of an arc from there;
 -- those with none before them are sources, and those before none are targets; and none is before two
 pub record IsLinkTable (vertices : ℕ) (arcs : List (ℕ × ℕ)) (sources targets : List ℕ) (before : List (Option ℕ)) : Type 0 where

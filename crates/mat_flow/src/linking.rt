@@ -2,7 +2,7 @@
 ghost use Rattle.std.specs.Prelude.{◌≡◌, ◌<◌, ℕ, true, false, IfOk};
 ghost use Rattle.mat_sets.specs.Sets.{is_member, AllBelow};
 ghost use Rattle.mat_sets.specs.Walks.{IsReachedSet};
-ghost use Rattle.mat_flow.specs.LinkTables.{entry_at, is_member_there, leads_to, IsLinkTable};
+ghost use Rattle.mat_flow.specs.LinkTables.{residual_arc, residual_goal, IsLinkTable};
 ghost use Rattle.mat_flow.specs.Paths.{IsLinking};
 
 use crate::digraph::Digraph;
@@ -24,10 +24,13 @@ pub struct Linking {
 // The paths of a table and their separator, where the sources reach no goal of the residual graph.
 fn linking_of(alloc: Global, residual: &Residual, reached: &ElemSet) -> Result<Linking, AllocError>
     requires sources { AllBelow residual.now.graph.now.vertices residual.now.sources.now }
-    requires table { IsLinkTable residual.now.graph.now.vertices residual.now.graph.now.arcs residual.now.sources.now residual.now.targets.now residual.now.before.now }
-    requires reached { IsReachedSet residual.now.graph.now.vertices (λ v. leads_to residual.now.graph.now.arcs (entry_at residual.now.before.now v)) (λ v. is_member v residual.now.sources.now) reached.now }
-    requires missed { (v : ℕ) → is_member v reached.now ≡ true → is_member_there (entry_at residual.now.before.now v) residual.now.targets.now ≡ false }
-    ensures { IfOk result (λ l. IsLinking residual.now.graph.now.arcs residual.now.sources.now residual.now.targets.now l.paths.items l.separator) }
+    requires table { IsLinkTable residual.now.graph.now.vertices residual.now.graph.now.arcs residual.now.sources.now
+        residual.now.targets.now residual.now.before.now }
+    requires reached { IsReachedSet residual.now.graph.now.vertices (residual_arc residual.now.graph.now.arcs residual.now.before.now)
+        (λ v. is_member v residual.now.sources.now) reached.now }
+    requires missed { (v : ℕ) → is_member v reached.now ≡ true → residual_goal residual.now.targets.now residual.now.before.now v ≡ false }
+    ensures { IfOk result (λ l. IsLinking residual.now.graph.now.arcs residual.now.sources.now residual.now.targets.now
+        l.paths.items l.separator) }
 {
     let after = after_table(alloc, residual.graph.vertices(), residual.before)?;
     let paths = paths_among(alloc, residual.before, &after, reached.as_slice())?;

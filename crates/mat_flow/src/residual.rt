@@ -1,7 +1,7 @@
 //! The graph in which the walks are sought that make one more path of the given ones.
 ghost use Rattle.std.specs.Prelude.{◌≡◌, ◌<◌, ℕ, length};
 ghost use Rattle.mat_sets.specs.Sets.{is_member};
-ghost use Rattle.mat_flow.specs.LinkTables.{entry_at, leads_to, is_member_there};
+ghost use Rattle.mat_flow.specs.LinkTables.{residual_arc, residual_goal};
 
 use crate::digraph::Digraph;
 use mat_sets::{BitSet, ElemSet, Relation};
@@ -19,17 +19,18 @@ pub(crate) struct Residual<'a> {
 impl Relation for Residual<'_> {
     ghost use Rattle.std.specs.Prelude.{ℕ, ◌≡◌, ◌<◌, length, Some};
     ghost use Rattle.mat_sets.specs.Sets.{is_member};
-    ghost use Rattle.mat_flow.specs.LinkTables.{entry_at, leads_to, is_member_there};
+    ghost use Rattle.mat_flow.specs.LinkTables.{entry_at, residual_arc, residual_goal};
 
     ghost count = { λ r. r.graph.now.vertices };
 
-    ghost sound = { λ r. (length r.before.now ≡ r.graph.now.vertices) × ((v u : ℕ) → entry_at r.before.now v ≡ Some u → u < r.graph.now.vertices) };
+    ghost sound = { λ r. (length r.before.now ≡ r.graph.now.vertices)
+        × ((v u : ℕ) → entry_at r.before.now v ≡ Some u → u < r.graph.now.vertices) };
 
-    ghost arc = { λ r v w. leads_to r.graph.now.arcs (entry_at r.before.now v) w };
+    ghost arc = { λ r. residual_arc r.graph.now.arcs r.before.now };
 
     ghost start = { λ r v. is_member v r.sources.now };
 
-    ghost goal = { λ r v. is_member_there (entry_at r.before.now v) r.targets.now };
+    ghost goal = { λ r. residual_goal r.targets.now r.before.now };
 
     fn size(&self) -> u32 {
         self.graph.vertices()

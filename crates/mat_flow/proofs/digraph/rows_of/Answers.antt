@@ -13,5 +13,6 @@ loop-i-preserved c =
     let inside = c.requires.first i c.loop-i-test.true in
     let within : ends.0 < length rows = omega (arith, c.loop-i.invariant.count) in
     AreRows-more c.args.vertices c.args.arcs.now i rows c.insert.new.self c.loop-i-test.true inside
-    (c.in_ok-insert.ensures.ok ∙ ap (λ row. with_one row ends.1) (c.index_mut.ensures.value ∙ get_or_default rows ends.0 c.index_mut.result.now [] within))
+    (c.in_ok-insert.ensures.ok
+    ∙ ap (λ row. with_one row ends.1) (c.index_mut.ensures.value ∙ get_or_default rows ends.0 c.index_mut.result.now [] within))
     c.loop-i.invariant

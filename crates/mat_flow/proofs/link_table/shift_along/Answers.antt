@@ -8,7 +8,8 @@ loop-v-preserved c =
     let i = c.loop-v.v-index in
     let l = c.loop-v-test.true in
     let inside : get_or walk i 0 < length c.loop-v.before.items = omega (arith, c.requires.below i l, c.loop-v.invariant.long) in
-    IsShifting-next walk c.args.before.now.items i c.loop-v.before.items c.loop-v.carried _ c.requires.differ l inside c.loop-v.invariant c.index-entry.ensures
+    IsShifting-next walk c.args.before.now.items i c.loop-v.before.items c.loop-v.carried _
+    c.requires.differ l inside c.loop-v.invariant c.index-entry.ensures
 
 pub returns : goal.returns
 returns c = IsShifting-end _ _ _ _ _ (omega (arith, c.loop-v-test.false, c.loop-v.auto.v-index-end)) c.loop-v.invariant

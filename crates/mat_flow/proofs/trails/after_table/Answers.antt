@@ -8,9 +8,12 @@ pub loop-v-preserved : goal.loop-v-preserved
 loop-v-preserved c =
     let before = c.args.before.now in
     let v = c.loop-v.v in
+    let r = c.loop-v.invariant in
     let now : Vec (Option ℕ) Global → Type 0 = λ after. IsReversing before (v + 1) after.items in
     elim c.match-before-v.branch [
-      | in-Some w ↦ (let inside : w.in-Some.u < length c.loop-v.after.items = omega (arith, c.requires.long, c.requires.below v w.in-Some.u w.in-Some.is, c.loop-v.invariant.long) in
-          subst now (sym w.after-is) (IsReversing-put before v w.in-Some.u c.loop-v.after.items w.in-Some.is inside c.loop-v.invariant))
-      | in_default w ↦ subst now (sym w.after-is) (IsReversing-skip before v c.loop-v.after.items (none_from _ w.in_default.not-Some) c.loop-v.invariant)
+      | in-Some w ↦ (let u = w.in-Some.u in
+          let some = w.in-Some.is in
+          let inside : u < length c.loop-v.after.items = omega (arith, c.requires.long, c.requires.below v u some, r.long) in
+          subst now (sym w.after-is) (IsReversing-put before v u c.loop-v.after.items some inside r))
+      | in_default w ↦ subst now (sym w.after-is) (IsReversing-skip before v c.loop-v.after.items (none_from _ w.in_default.not-Some) r)
     ]
