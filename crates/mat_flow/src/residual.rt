@@ -1,7 +1,4 @@
 //! The graph in which the walks are sought that make one more path of the given ones.
-ghost use Rattle.std.specs.Prelude.{◌≡◌, ◌<◌, ℕ, length};
-ghost use Rattle.mat_sets.specs.Sets.{is_member};
-ghost use Rattle.mat_flow.specs.LinkTables.{residual_arc, residual_goal};
 
 use crate::digraph::Digraph;
 use mat_sets::{BitSet, ElemSet, Relation};

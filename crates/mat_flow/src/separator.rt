@@ -1,5 +1,5 @@
 //! The separator that shows that there is no path more.
-ghost use Rattle.std.specs.Prelude.{◌≡◌, ◌<◌, ℕ, Some, true, length, IfOk};
+ghost use Rattle.std.specs.Prelude.{◌≡◌, ℕ, Some, true, length, IfOk};
 ghost use Rattle.mat_sets.specs.Sets.{is_member, AllBelow, IsRising};
 ghost use Rattle.mat_flow.specs.LinkTables.{entry_at, IsFrontier};
 
