@@ -1,0 +1,117 @@
+-- The reached vertices that are before no reached vertex: the loop takes the vertex before each reached one out, and as none is before two,
+-- each takes out one more, but for those with none before them.
+use Rattle.std.proofs.Common.{◌≡◌, ℕ, zero, suc, ◌+◌, ◌<◌, Bool, true, false, not, ◌||◌, ◌&&◌, eqb, List, [], ◌∷◌, length, get_or, take, Option, Some, None, inl, inr, refl, sym, ap, ◌∙◌, subst, arith}
+use Rattle.std.proofs.Math.Numerals.{add-one}
+use Rattle.std.proofs.lemmas.Bool.{and_from, both_ways, eqb-true, false_from_ne_true, or_cases, or_right}
+use Rattle.std.proofs.lemmas.List.{take_all}
+use Rattle.mat_sets.specs.Sets.{is_member, IsRising, without_one}
+use Rattle.mat_sets.proofs.Cardinalities.{length-without_one}
+use Rattle.mat_sets.proofs.Members.{is_member-get_or, is_member-without_one, IsRising-without_one}
+use Rattle.mat_sets.proofs.Steps.{is_member-take_next}
+use Rattle.mat_flow.specs.LinkTables.{entry_at, is_before, is_there, one_if_none, starts_among, IsFrontier}
+use Rattle.mat_flow.proofs.DisjointPaths.{starts_among-more}
+
+-- ---- what is before some vertices
+
+pub is_before-more : (before : List (Option ℕ)) (vs : List ℕ) (i x : ℕ) → i < length vs
+    → is_before before (take (i + 1) vs) x ≡ (is_before before (take i vs) x || is_there x (entry_at before (get_or vs i 0)))
+is_before-more before [] i x l = absurd (omega arith)
+is_before-more before (v ∷ vs) zero x l = or_none (is_there x (entry_at before v))
+  where
+    or_none : (a : Bool) → (a || false) ≡ a
+    or_none true = refl
+    or_none false = refl
+is_before-more before (v ∷ vs) (suc i) x l =
+    rw (add-one (suc i)) (rest (rw (add-one i) at (is_before-more before vs i x (omega arith))))
+  where
+    or_assoc : (a b c : Bool) → (a || (b || c)) ≡ ((a || b) || c)
+    or_assoc true b c = refl
+    or_assoc false b c = refl
+
+    rest : is_before before (take (suc i) vs) x ≡ (is_before before (take i vs) x || is_there x (entry_at before (get_or vs i 0)))
+        → (is_there x (entry_at before v) || is_before before (take (suc i) vs) x)
+        ≡ ((is_there x (entry_at before v) || is_before before (take i vs) x) || is_there x (entry_at before (get_or vs i 0)))
+    rest e = rw e (or_assoc (is_there x (entry_at before v)) (is_before before (take i vs) x) (is_there x (entry_at before (get_or vs i 0))))
+
+there_is : (x : ℕ) (entry : Option ℕ) → is_there x entry ≡ true → entry ≡ Some x
+there_is x None h = absurd (both_ways false refl h)
+there_is x (Some u) h = ap Some (sym (eqb-true x u h))
+
+pub is_before_gives : (before : List (Option ℕ)) (vs : List ℕ) (x : ℕ) → is_before before vs x ≡ true
+    → (v : ℕ) × (is_member v vs ≡ true) × (entry_at before v ≡ Some x)
+is_before_gives before [] x h = absurd (both_ways false refl h)
+is_before_gives before (v ∷ vs) x h = elim (or_cases (is_there x (entry_at before v)) (is_before before vs x) h) [
+  | inl here ↦ (v, is_member-get_or (v ∷ vs) 0 v (omega arith) refl, there_is x (entry_at before v) here)
+  | inr later ↦ (let w = is_before_gives before vs x later in (w.0, or_right (eqb w.0 v) (is_member w.0 vs) w.1, w.2))
+]
+
+-- ---- one after the other
+
+-- the vertices before the first i reached ones are taken out
+pub record IsCutting (before : List (Option ℕ)) (reached : List ℕ) (i : ℕ) (rest : List ℕ) : Type 0 where
+  pub rises : IsRising rest
+  pub members : (x : ℕ) → is_member x rest ≡ (is_member x reached && not (is_before before (take i reached) x))
+  pub size : length rest + i ≡ length reached + starts_among before (take i reached)
+
+pub IsCutting-start : (before : List (Option ℕ)) (reached rest : List ℕ) → rest ≡ reached → IsRising reached → IsCutting before reached 0 rest
+IsCutting-start before reached rest e rises = record {
+  rises = subst IsRising (sym e) rises;
+  members = λ x. ap (is_member x) e ∙ all (is_member x reached);
+  size = (let long = ap length e in omega arith);
+}
+  where
+    all : (b : Bool) → b ≡ (b && not false)
+    all true = refl
+    all false = refl
+
+pub IsCutting-skip : (before : List (Option ℕ)) (reached : List ℕ) (i : ℕ) (rest : List ℕ) → i < length reached
+    → entry_at before (get_or reached i 0) ≡ None → IsCutting before reached i rest → IsCutting before reached (i + 1) rest
+IsCutting-skip before reached i rest l none c = record {
+  rises = c.rises;
+  members = λ x. c.members x ∙ ap (λ b. is_member x reached && not b)
+      (same (is_before before (take i reached) x) ∙ ap (λ e. is_before before (take i reached) x || is_there x e) (sym none)
+      ∙ sym (is_before-more before reached i x l));
+  size = (let more = starts_among-more before reached i l in
+      let one : one_if_none (entry_at before (get_or reached i 0)) ≡ 1 = ap one_if_none none in
+      let size = c.size in
+      omega arith);
+}
+  where
+    same : (b : Bool) → b ≡ (b || false)
+    same true = refl
+    same false = refl
+
+cut_member : (x u : ℕ) (reached rest : List ℕ) (b now : Bool) → is_member x rest ≡ (is_member x reached && not b) → now ≡ (b || eqb x u)
+    → is_member x (without_one rest u) ≡ (is_member x reached && not now)
+cut_member x u reached rest b now e f = let m = is_member-without_one x u rest in grind arith
+
+pub IsCutting-cut : (before : List (Option ℕ)) (reached : List ℕ) (i u : ℕ) (rest : List ℕ) → IsRising reached → i < length reached
+    → ((v w x : ℕ) → entry_at before v ≡ Some x → entry_at before w ≡ Some x → v ≡ w) → is_member u reached ≡ true
+    → entry_at before (get_or reached i 0) ≡ Some u → IsCutting before reached i rest → IsCutting before reached (i + 1) (without_one rest u)
+IsCutting-cut before reached i u rest rises l once inside some c =
+    let fresh : is_before before (take i reached) u ≡ false = false_from_ne_true (is_before before (take i reached) u) (λ h.
+    let w = is_before_gives before (take i reached) u h in
+    both_ways (is_member (get_or reached i 0) (take i reached)) (is_member-take_next reached i rises l)
+    (subst (λ v. is_member v (take i reached) ≡ true) (once w.0 (get_or reached i 0) u w.2 some) w.1)) in
+    let in_rest : is_member u rest ≡ true = c.members u
+    ∙ and_from (is_member u reached) (not (is_before before (take i reached) u)) inside (ap not fresh) in
+    record {
+      rises = IsRising-without_one rest u c.rises;
+      members = λ x. cut_member x u reached rest (is_before before (take i reached) x) _ (c.members x)
+          (is_before-more before reached i x l ∙ ap (λ e. is_before before (take i reached) x || is_there x e) some);
+      size = (let more = starts_among-more before reached i l in
+          let none : one_if_none (entry_at before (get_or reached i 0)) ≡ 0 = ap one_if_none some in
+          let less = length-without_one rest u c.rises in_rest in
+          let size = c.size in
+          omega arith);
+    }
+
+pub IsCutting-end : (before : List (Option ℕ)) (reached : List ℕ) (i : ℕ) (rest : List ℕ) → i ≡ length reached
+    → IsCutting before reached i rest
+    → IsFrontier before reached rest
+IsCutting-end before reached i rest e c =
+    let all : take i reached ≡ reached = take_all i reached (omega arith) in
+    record {
+      members = λ x. c.members x ∙ ap (λ vs. is_member x reached && not (is_before before vs x)) all;
+      size = (let size = c.size in let same = ap (starts_among before) all in omega arith);
+    }

@@ -1,0 +1,24 @@
+-- Directed graphs, and the rows that tell quickly where arcs lead (Schrijver, chapter 3).
+use Rattle.std.specs.Prelude.{◌≡◌, ℕ, ◌<◌, ◌||◌, ◌==◌, List, [], length, slice_index_or}
+use Rattle.mat_sets.specs.Graphs.{IsGraph}
+use Rattle.mat_sets.specs.Sets.{is_member}
+use Rattle.mat_flow.specs.Paths.{has_arc}
+
+-- a directed graph: its vertices are the numbers below `vertices`, and each arc leads from its tail to its head
+pub record DirectedGraph : Type 0 where
+  pub vertices : ℕ
+  pub arcs : List (ℕ × ℕ)
+
+-- the set at a place, or none
+abbrev pub row_at : List (List ℕ) → ℕ → List ℕ
+row_at rows u = slice_index_or rows u []
+
+-- the row of each vertex has the vertex itself and the heads of the arcs that leave it
+pub record AreRows (vertices : ℕ) (arcs : List (ℕ × ℕ)) (rows : List (List ℕ)) : Type 0 where
+  pub count : length rows ≡ vertices
+  pub members : (u v : ℕ) → u < vertices → is_member v (row_at rows u) ≡ (v == u || has_arc arcs u v)
+
+-- the ends of the arcs are vertices, and these are the rows of the graph
+pub record IsAdjacency (vertices : ℕ) (arcs : List (ℕ × ℕ)) (rows : List (List ℕ)) : Type 0 where
+  pub graph : IsGraph vertices arcs
+  pub are_rows : AreRows vertices arcs rows

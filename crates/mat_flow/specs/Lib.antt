@@ -1,0 +1,4 @@
+pub mod Paths
+pub mod Digraphs
+pub mod LinkTables
+pub mod Trails

@@ -1,0 +1,32 @@
+//! The table of the vertex before each vertex, which holds disjoint paths, and how it takes one path more.
+ghost use Rattle.std.specs.Prelude.{◌≡◌, ◌≢◌, ◌<◌, ℕ, Some, length, slice_index, IfOk};
+ghost use Rattle.mat_flow.specs.LinkTables.{entry_at, IsShifted};
+
+use std::alloc::{AllocError, Global};
+
+/// The table of no path: each vertex has itself before it.
+pub(crate) fn no_links(alloc: Global, vertices: u32) -> Result<Vec<Option<u32>>, AllocError>
+    ensures long { IfOk result (λ before. length before.items ≡ vertices) }
+    ensures own { IfOk result (λ before. (v : ℕ) → v < vertices → entry_at before.items v ≡ Some v) }
+{
+    let mut before = Vec::with_capacity(alloc, vertices as usize)?;
+    for v in 0..vertices {
+        before.push(Some(v))?;
+    }
+    Ok(before)
+}
+
+/// Moves the entry of each vertex of a walk on to the next one. The first vertex then has none before it, and the vertex
+/// before the last one is before none.
+pub(crate) fn shift_along(before: &mut Vec<Option<u32>>, walk: &[u32])
+    requires below { (i : ℕ) → i < length walk.now → slice_index walk.now i < length before.old.items }
+    requires differ { (i j : ℕ) → i < j → j < length walk.now → slice_index walk.now i ≢ slice_index walk.now j }
+    ensures { IsShifted walk.now before.old.items before.new.items }
+{
+    let mut carried = None;
+    for v in walk {
+        let entry = before[*v as usize];
+        before[*v as usize] = carried;
+        carried = entry;
+    }
+}

@@ -1,0 +1,66 @@
+//! Walks, seen as the list of their vertices.
+ghost use Rattle.std.specs.Prelude.{◌≡◌, ◌==◌, ◌<◌, length, slice_index};
+ghost use Rattle.std.proofs.Common.{rules};
+ghost use Rattle.std.specs.Cmp.Lexicographic.{pointwise};
+ghost use Rattle.std.specs.Cmp.Rules.{comparing};
+
+use std::marker::Model;
+
+/// The vertices of a walk, in its order.
+#[derive(Debug, Drop)]
+pub struct Walk {
+    items: Vec<u32>,
+}
+
+impl Model for Walk {
+    ghost use Rattle.std.specs.Prelude.{ℕ, List};
+
+    ghost Value = { List ℕ };
+
+    ghost view = { λ a. a.items.items };
+}
+
+impl PartialEq for Walk {
+    ghost eq = { pointwise ◌==◌ };
+
+    ghost laws = { Prim.search (comparing, rules) };
+
+    fn eq(&self, other: &Walk) -> bool {
+        self.items.as_slice() == other.items.as_slice()
+    }
+}
+
+impl Eq for Walk {
+    ghost laws = { Prim.search (comparing, rules) };
+}
+
+impl Walk {
+    /// The walk along these vertices. It takes no memory.
+    pub fn new(items: Vec<u32>) -> Walk
+        ensures { result ≡ items.items }
+    {
+        Walk { items }
+    }
+
+    /// How many vertices stand in the walk.
+    pub fn len(&self) -> usize
+        ensures { result ≡ length self.now }
+    {
+        self.items.len()
+    }
+
+    /// The vertex at place i.
+    pub fn get(&self, i: usize) -> u32
+        requires { i < length self.now }
+        ensures { result ≡ slice_index self.now i }
+    {
+        self.items[i]
+    }
+
+    /// The vertices in order.
+    pub fn as_slice(&self) -> &[u32]
+        ensures { result.now ≡ self.now }
+    {
+        self.items.as_slice()
+    }
+}
