@@ -1,6 +1,6 @@
-//! Small examples.
-ghost use Rattle.std.specs.Prelude.{◌≡◌, [], ◌∷◌, IfOk};
-ghost use Rattle.mat_sets.specs.Sets.{with_one};
+//! Small uniform and partition matroids: expected values are worked out by hand.
+ghost use Rattle.std.specs.Prelude.{◌≡◌, ◌<◌, [], ◌∷◌, IfOk};
+ghost use Rattle.mat_sets.specs.Sets.{AllBelow, with_one};
 ghost use Rattle.mat_count.specs.Partitions.{IsPartition};
 
 use crate::{Partition, Uniform};
@@ -9,42 +9,72 @@ use mat_sets::{ElemSet, SetList};
 use std::alloc::{AllocError, Global};
 use std::test::Fail;
 
+// The set of these members, each of which is below n.
+pub(crate) fn set_below(alloc: Global, n: u32, members: &[u32]) -> Result<ElemSet, AllocError>
+    requires { AllBelow n members.now }
+    ensures { IfOk result (λ s. AllBelow n s) }
+{
+    let mut set = ElemSet::new(alloc);
+    for x in members {
+        let _ = set.add(*x)?;
+    }
+    Ok(set)
+}
+
+// Whether the set of these members is independent.
+pub(crate) fn passes<M: Matroid>(
+    alloc: Global,
+    matroid: &M,
+    members: &[u32],
+) -> Result<bool, AllocError>
+    requires sound { M.sound matroid.now }
+    requires below { AllBelow (M.ground_size matroid.now) members.now }
+{
+    let set = set_below(alloc, matroid.size(), members)?;
+    matroid.independent(alloc, &set)
+}
+
+// Whether the set of these members is independent and x stands outside, and can be added like this and be exchanged for those.
+pub(crate) fn has_row<M: Matroid>(
+    alloc: Global,
+    matroid: &M,
+    members: &[u32],
+    x: u32,
+    addable: bool,
+    with: &[u32],
+) -> Result<bool, AllocError>
+    requires sound { M.sound matroid.now }
+    requires below { AllBelow (M.ground_size matroid.now) members.now }
+    requires element { x < M.ground_size matroid.now }
+{
+    let base = set_below(alloc, matroid.size(), members)?;
+    if base.contains(x) || !matroid.independent(alloc, &base)? {
+        return Ok(false);
+    }
+    let row = matroid.circuit(alloc, &base, x)?;
+    Ok(row.addable == addable && row.with.as_slice() == with)
+}
+
 #[test]
-#[tactic(auto, unfolding(mat_sets::specs::Sets::all_below))]
 fn at_most_two_of_three(rt: HostRuntime) -> Result<(), Fail> {
     let alloc = rt.alloc();
     let matroid = Uniform::new(3, 2);
     assert_eq!(rt; matroid.size(), 3);
     assert_eq!(rt; matroid.count(), 3);
     assert_eq!(rt; matroid.cap(), 2);
-    let two = ElemSet::all_below(alloc, 2)?;
-    assert!(rt; matroid.independent(alloc, &two)?);
-    let three = ElemSet::all_below(alloc, 3)?;
-    assert!(rt; !matroid.independent(alloc, &three)?);
+    assert!(rt; passes(alloc, &matroid, &[0, 2])?);
+    assert!(rt; !passes(alloc, &matroid, &[0, 1, 2])?);
     Ok(())
 }
 
 #[test]
-#[tactic(auto, unfolding(mat_sets::specs::Sets::all_below))]
 fn exchanges_at_sets_of_two_and_of_one(rt: HostRuntime) -> Result<(), Fail> {
     let alloc = rt.alloc();
     let matroid = Uniform::new(4, 2);
-    let two = ElemSet::all_below(alloc, 2)?;
-    assert!(rt; matroid.independent(alloc, &two)?);
-    let full = matroid.circuit(alloc, &two, 2)?;
-    assert!(rt; !full.addable);
-    assert!(rt; full.with == two);
-    let one = ElemSet::all_below(alloc, 1)?;
-    assert!(rt; matroid.independent(alloc, &one)?);
-    let smaller = matroid.circuit(alloc, &one, 2)?;
-    assert!(rt; smaller.addable);
-    assert!(rt; smaller.with == one);
+    assert!(rt; has_row(alloc, &matroid, &[0, 1], 2, false, &[0, 1])?);
+    assert!(rt; has_row(alloc, &matroid, &[0], 2, true, &[0])?);
     let loops = Uniform::new(4, 0);
-    let none = ElemSet::new(alloc);
-    assert!(rt; loops.independent(alloc, &none)?);
-    let nothing = loops.circuit(alloc, &none, 3)?;
-    assert!(rt; !nothing.addable);
-    assert!(rt; nothing.with == none);
+    assert!(rt; has_row(alloc, &loops, &[], 3, false, &[])?);
     Ok(())
 }
 
@@ -70,7 +100,6 @@ fn example(alloc: Global, cap: u32) -> Result<Partition, AllocError>
 }
 
 #[test]
-#[tactic(auto, unfolding(mat_sets::specs::Sets::with_one))]
 fn at_most_the_cap_of_each_class(rt: HostRuntime) -> Result<(), Fail> {
     let alloc = rt.alloc();
     let matroid = example(alloc, 1)?;
@@ -78,50 +107,26 @@ fn at_most_the_cap_of_each_class(rt: HostRuntime) -> Result<(), Fail> {
     assert_eq!(rt; matroid.count(), 4);
     assert_eq!(rt; matroid.classes().len(), 2);
     assert_eq!(rt; matroid.caps().len(), 2);
-    assert!(rt; matroid.independent(alloc, &set_of(alloc, 0, 3)?)?);
-    assert!(rt; !matroid.independent(alloc, &set_of(alloc, 0, 2)?)?);
-    assert!(rt; !matroid.independent(alloc, &set_of(alloc, 1, 1)?)?);
+    assert!(rt; passes(alloc, &matroid, &[0, 3])?);
+    assert!(rt; !passes(alloc, &matroid, &[0, 2])?);
+    assert!(rt; !passes(alloc, &matroid, &[1])?);
     Ok(())
 }
 
 #[test]
-#[tactic(auto, unfolding(mat_sets::specs::Sets::with_one))]
 fn exchanges_at_a_full_class(rt: HostRuntime) -> Result<(), Fail> {
     let alloc = rt.alloc();
     let matroid = example(alloc, 1)?;
-    let base = set_of(alloc, 0, 3)?;
-    assert!(rt; matroid.independent(alloc, &base)?);
-    let full = matroid.circuit(alloc, &base, 2)?;
-    assert!(rt; !full.addable);
-    assert!(rt; full.with == set_of(alloc, 0, 0)?);
-    let dependent = matroid.circuit(alloc, &base, 1)?;
-    assert!(rt; !dependent.addable);
-    assert!(rt; dependent.with.is_empty());
+    assert!(rt; has_row(alloc, &matroid, &[0, 3], 2, false, &[0])?);
+    assert!(rt; has_row(alloc, &matroid, &[0, 3], 1, false, &[])?);
     Ok(())
 }
 
 #[test]
-#[tactic(auto, unfolding(mat_sets::specs::Sets::with_one))]
-fn exchanges_below_the_cap(rt: HostRuntime) -> Result<(), Fail> {
+fn exchanges_where_the_class_has_room(rt: HostRuntime) -> Result<(), Fail> {
     let alloc = rt.alloc();
     let matroid = example(alloc, 2)?;
-    let base = set_of(alloc, 0, 3)?;
-    assert!(rt; matroid.independent(alloc, &base)?);
-    let below = matroid.circuit(alloc, &base, 2)?;
-    assert!(rt; below.addable);
-    assert!(rt; below.with == base);
-    Ok(())
-}
-
-#[test]
-#[tactic(auto, unfolding(mat_sets::specs::Sets::with_one))]
-fn exchanges_of_an_element_in_no_class(rt: HostRuntime) -> Result<(), Fail> {
-    let alloc = rt.alloc();
-    let matroid = example(alloc, 1)?;
-    let base = set_of(alloc, 2, 2)?;
-    assert!(rt; matroid.independent(alloc, &base)?);
-    let free = matroid.circuit(alloc, &base, 3)?;
-    assert!(rt; free.addable);
-    assert!(rt; free.with == base);
+    assert!(rt; has_row(alloc, &matroid, &[0, 3], 2, true, &[0, 3])?);
+    assert!(rt; has_row(alloc, &matroid, &[2], 3, true, &[2])?);
     Ok(())
 }

@@ -2,7 +2,7 @@ use Rattle.std.proofs.Common.{subst, sym}
 use Rattle.mat_sets.specs.Sets.{AllBelow}
 use Rattle.mat_sets.proofs.Changes.{AllBelow-with_one}
 use Rattle.mat_sets.proofs.Sums.{AllBelow-at}
-use Rattle.mat_count.proofs.laminar_tests.set_of.Goals as goal
+use Rattle.mat_count.proofs.tests.set_below.Goals as goal
 
 pub loop-x-preserved : goal.loop-x-preserved
 loop-x-preserved c =
