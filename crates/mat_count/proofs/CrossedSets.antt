@@ -1,6 +1,7 @@
 -- A set is crossed by one of a list exactly where the search finds one. So a family in which no two sets cross grows by the sets that none
 -- of it crosses, and by no others.
-use Rattle.std.proofs.Common.{◌≡◌, ℕ, zero, suc, ◌<◌, true, false, ◌||◌, List, [], ◌∷◌, ◌++◌, length, get_or, length-append, Option, Some, None, inl, inr, refl, sym, ap, ap₂, ◌∙◌, arith}
+use Rattle.std.proofs.Common.{◌≡◌, ℕ, zero, suc, ◌<◌, true, false, ◌||◌, List, [], ◌∷◌, ◌++◌, length, get_or, length-append, Option, Some, None, inl, inr}
+use Rattle.std.proofs.Common.{refl, sym, ap, ap₂, ◌∙◌, arith}
 use Rattle.std.specs.Prelude.{MatchOption, is_some}
 use Rattle.std.proofs.lemmas.Bool.{cases_eq, both_ways, false_from_ne_true}
 use Rattle.std.proofs.Math.Bool.{or-true}
@@ -10,7 +11,8 @@ use Rattle.mat_count.specs.Laminar.{crosses, is_crossed, IsLaminarFamily}
 use Rattle.mat_count.specs.LaminarFaults.{IsFirstCrossing, NoneCrosses}
 
 -- no set of the list crosses the next
-crossed_none : (sets : List (List ℕ)) (next : List ℕ) → ((k : ℕ) → k < length sets → crosses (get_or sets k []) next ≡ false) → is_crossed sets next ≡ false
+crossed_none : (sets : List (List ℕ)) (next : List ℕ)
+    → ((k : ℕ) → k < length sets → crosses (get_or sets k []) next ≡ false) → is_crossed sets next ≡ false
 unfolding is_crossed
 crossed_none [] next none = refl
 crossed_none (S ∷ sets) next none =
@@ -24,7 +26,8 @@ crossed_some (S ∷ sets) next zero l h = rw h refl
 crossed_some (S ∷ sets) next (suc a) l h = ap (λ b. crosses S next || b) (crossed_some sets next a (omega arith) h) ∙ or-true (crosses S next)
 
 -- what the search for the first set that crosses the next one tells
-pub is_crossed-search : (found : Option ℕ) (sets : List (List ℕ)) (next : List ℕ) → MatchOption found (NoneCrosses sets next) (λ a. IsFirstCrossing sets next a) → is_crossed sets next ≡ is_some found
+pub is_crossed-search : (found : Option ℕ) (sets : List (List ℕ)) (next : List ℕ)
+    → MatchOption found (NoneCrosses sets next) (λ a. IsFirstCrossing sets next a) → is_crossed sets next ≡ is_some found
 is_crossed-search None sets next h = crossed_none sets next h.none
 is_crossed-search (Some a) sets next h = crossed_some sets next a h.listed h.crossed
 

@@ -26,8 +26,8 @@ abbrev pub capped_at : List ℕ → ℕ → List ℕ → LinesLeft → Result (�
 capped_at key n taken p = keyed_at key p >>= λ line. count_at 0 501 line.0 >>= λ cap. elements_at n taken cap.1 >>= λ elements. Ok (cap.0, elements.0, elements.1, line.1)
 
 -- its steps
-pub capped_steps : (key : List ℕ) (n : ℕ) (taken : List ℕ) (p : LinesLeft) (line : WordsLeft × LinesLeft) (cap : ℕ × WordsLeft) (elements : List ℕ × List ℕ) → keyed_at key p ≡ Ok line
-    → count_at 0 501 line.0 ≡ Ok cap → elements_at n taken cap.1 ≡ Ok elements → capped_at key n taken p ≡ Ok (cap.0, elements.0, elements.1, line.1)
+pub capped_steps : (key : List ℕ) (n : ℕ) (taken : List ℕ) (p : LinesLeft) (line : WordsLeft × LinesLeft) (cap : ℕ × WordsLeft) (elements : List ℕ × List ℕ)
+    → keyed_at key p ≡ Ok line → count_at 0 501 line.0 ≡ Ok cap → elements_at n taken cap.1 ≡ Ok elements → capped_at key n taken p ≡ Ok (cap.0, elements.0, elements.1, line.1)
 capped_steps key n taken p line cap elements e f g = rw (e, f, g) refl
 
 -- such a line was read
@@ -40,8 +40,8 @@ pub record IsCappedRead (key : List ℕ) (n : ℕ) (taken : List ℕ) (p : Lines
   pub taken_left : (x : ℕ) → is_member x left ≡ (is_member x set || is_member x taken)
   pub spelled : (rest : List Line) → AreLeft rest q → AreLeft (listed_line key cap xs ∷ rest) p
 
-pub capped_read : (key : List ℕ) (n : ℕ) (taken : List ℕ) (p : LinesLeft) (cap : ℕ) (set left : List ℕ) (q : LinesLeft) → capped_at key n taken p ≡ Ok (cap, set, left, q)
-    → IsCappedRead key n taken p cap set left q
+pub capped_read : (key : List ℕ) (n : ℕ) (taken : List ℕ) (p : LinesLeft) (cap : ℕ) (set left : List ℕ) (q : LinesLeft)
+    → capped_at key n taken p ≡ Ok (cap, set, left, q) → IsCappedRead key n taken p cap set left q
 capped_read key n taken p cap set left q e =
     let line = bind_found (keyed_at key p) (λ line. count_at 0 501 line.0 >>= λ cap. elements_at n taken cap.1 >>= λ elements. Ok (cap.0, elements.0, elements.1, line.1)) (cap, set, left, q) e in
     let caps = bind_found (count_at 0 501 line.0.0) (λ cap. elements_at n taken cap.1 >>= λ elements. Ok (cap.0, elements.0, elements.1, line.0.1)) (cap, set, left, q) line.2 in
@@ -61,8 +61,8 @@ capped_read key n taken p cap set left q e =
     } in
     subst (λ (r : ℕ × List ℕ × List ℕ × LinesLeft). IsCappedRead key n taken p r.0 r.1 r.2 r.3) same one
 
-pub capped_again : (key : List ℕ) (n : ℕ) (taken : List ℕ) (p : LinesLeft) (cap : ℕ) (set xs : List ℕ) (rest : List Line) → is_word key ≡ true → cap ≤ 500 → IsSet n set → Lists xs set
-    → ((x : ℕ) → is_member x set ≡ true → is_member x taken ≡ false) → AreLeft (listed_line key cap xs ∷ rest) p
+pub capped_again : (key : List ℕ) (n : ℕ) (taken : List ℕ) (p : LinesLeft) (cap : ℕ) (set xs : List ℕ) (rest : List Line)
+    → is_word key ≡ true → cap ≤ 500 → IsSet n set → Lists xs set → ((x : ℕ) → is_member x set ≡ true → is_member x taken ≡ false) → AreLeft (listed_line key cap xs ∷ rest) p
     → (q : LinesLeft) × (capped_at key n taken p ≡ Ok (cap, set, with_each taken xs, q)) × AreLeft rest q
 capped_again key n taken p cap set xs rest keyword small in_range lists fresh left =
     let words : list_all is_word (numeral (pos cap) ∷ numerals xs) ≡ true = and_from (is_word (numeral (pos cap))) (list_all is_word (numerals xs)) (numeral_word (pos cap)) (numerals_words xs) in

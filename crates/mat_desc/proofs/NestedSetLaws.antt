@@ -29,12 +29,14 @@ record IsNestedRead (n : ℕ) (earlier : List (List ℕ)) (p : LinesLeft) (cap :
   spelled : (rest : List Line) → AreLeft rest q → AreLeft (listed_line (codes "set") cap xs ∷ rest) p
 
 -- the steps of a set line, and the test behind them
-nested_steps : (n : ℕ) (earlier : List (List ℕ)) (p : LinesLeft) (line : WordsLeft × LinesLeft) (cap : ℕ × WordsLeft) (elements : List ℕ × List ℕ) → keyed_at (codes "set") p ≡ Ok line
-    → count_at 0 501 line.0 ≡ Ok cap → elements_at n [] cap.1 ≡ Ok elements → is_crossed earlier elements.0 ≡ false → nested_set_at n earlier p ≡ Ok (cap.0, elements.0, line.1)
+nested_steps : (n : ℕ) (earlier : List (List ℕ)) (p : LinesLeft) (line : WordsLeft × LinesLeft) (cap : ℕ × WordsLeft) (elements : List ℕ × List ℕ)
+    → keyed_at (codes "set") p ≡ Ok line → count_at 0 501 line.0 ≡ Ok cap → elements_at n [] cap.1 ≡ Ok elements → is_crossed earlier elements.0 ≡ false
+    → nested_set_at n earlier p ≡ Ok (cap.0, elements.0, line.1)
 unfolding nested_set_at
 nested_steps n earlier p line cap elements e f g free = rw (e, f, g, free) refl
 
-nested_read : (n : ℕ) (earlier : List (List ℕ)) (p : LinesLeft) (cap : ℕ) (set : List ℕ) (q : LinesLeft) → nested_set_at n earlier p ≡ Ok (cap, set, q) → IsNestedRead n earlier p cap set q
+nested_read : (n : ℕ) (earlier : List (List ℕ)) (p : LinesLeft) (cap : ℕ) (set : List ℕ) (q : LinesLeft)
+    → nested_set_at n earlier p ≡ Ok (cap, set, q) → IsNestedRead n earlier p cap set q
 unfolding nested_set_at
 nested_read n earlier p cap set q e =
     let line = bind_found (keyed_at (codes "set") p) (λ line. count_at 0 501 line.0 >>= λ cap. elements_at n [] cap.1 >>= λ elements.
@@ -45,7 +47,8 @@ nested_read n earlier p cap set q e =
     cond (is_crossed earlier elements.0) (Err (Crossing, p.line)) (Ok (caps.0.0, elements.0, line.0.1))) (cap, set, q) caps.2 in
     let test = refused_found (is_crossed earlier elements.0.0) (Crossing, p.line) (Ok (caps.0.0, elements.0.0, line.0.1)) (cap, set, q) elements.2 in
     let same = found-same (caps.0.0, elements.0.0, line.0.1) (cap, set, q) test.1 in
-    let read = capped_read (codes "set") n [] p caps.0.0 elements.0.0 elements.0.1 line.0.1 (capped_steps (codes "set") n [] p line.0 caps.0 elements.0 line.1 caps.1 elements.1) in
+    let steps = capped_steps (codes "set") n [] p line.0 caps.0 elements.0 line.1 caps.1 elements.1 in
+    let read = capped_read (codes "set") n [] p caps.0.0 elements.0.0 elements.0.1 line.0.1 steps in
     let one : IsNestedRead n earlier p caps.0.0 elements.0.0 line.0.1 = record {
       xs = read.xs;
       lists = read.lists;
@@ -56,8 +59,8 @@ nested_read n earlier p cap set q e =
     } in
     subst (λ (r : ℕ × List ℕ × LinesLeft). IsNestedRead n earlier p r.0 r.1 r.2) same one
 
-nested_again : (n : ℕ) (earlier : List (List ℕ)) (p : LinesLeft) (cap : ℕ) (set xs : List ℕ) (rest : List Line) → cap ≤ 500 → IsSet n set → Lists xs set
-    → is_crossed earlier set ≡ false → AreLeft (listed_line (codes "set") cap xs ∷ rest) p
+nested_again : (n : ℕ) (earlier : List (List ℕ)) (p : LinesLeft) (cap : ℕ) (set xs : List ℕ) (rest : List Line)
+    → cap ≤ 500 → IsSet n set → Lists xs set → is_crossed earlier set ≡ false → AreLeft (listed_line (codes "set") cap xs ∷ rest) p
     → (q : LinesLeft) × (nested_set_at n earlier p ≡ Ok (cap, set, q)) × AreLeft rest q
 nested_again n earlier p cap set xs rest small in_range lists free left =
     let whole = capped_again (codes "set") n [] p cap set xs rest refl small in_range lists (λ x h. refl) left in
@@ -98,8 +101,10 @@ nested_sets_read n zero earlier p sets caps q e =
     } in
     subst (λ (r : List (List ℕ) × List ℕ × LinesLeft). AreNestedSetsRead n 0 earlier p r.0 r.1 r.2) same none
 nested_sets_read n (suc many) earlier p sets caps q e =
-    let first = bind_found (nested_set_at n earlier p) (λ first. nested_sets_at n many (earlier ++ first.1 ∷ []) first.2 >>= λ others. Ok (first.1 ∷ others.0, first.0 ∷ others.1, others.2)) (sets, caps, q) e in
-    let others = bind_found (nested_sets_at n many (earlier ++ first.0.1 ∷ []) first.0.2) (λ others. Ok (first.0.1 ∷ others.0, first.0.0 ∷ others.1, others.2)) (sets, caps, q) first.2 in
+    let first = bind_found (nested_set_at n earlier p) (λ first. nested_sets_at n many (earlier ++ first.1 ∷ []) first.2 >>= λ others.
+    Ok (first.1 ∷ others.0, first.0 ∷ others.1, others.2)) (sets, caps, q) e in
+    let others = bind_found (nested_sets_at n many (earlier ++ first.0.1 ∷ []) first.0.2) (λ others.
+    Ok (first.0.1 ∷ others.0, first.0.0 ∷ others.1, others.2)) (sets, caps, q) first.2 in
     let same = found-same (first.0.1 ∷ others.0.0, first.0.0 ∷ others.0.1, others.0.2) (sets, caps, q) others.2 in
     let one = nested_read n earlier p first.0.0 first.0.1 first.0.2 first.1 in
     let more = nested_sets_read n many (earlier ++ first.0.1 ∷ []) first.0.2 others.0.0 others.0.1 others.0.2 others.1 in
@@ -115,8 +120,8 @@ nested_sets_read n (suc many) earlier p sets caps q e =
     } in
     subst (λ (r : List (List ℕ) × List ℕ × LinesLeft). AreNestedSetsRead n (suc many) earlier p r.0 r.1 r.2) same all
 
-pub nested_sets_again : (n : ℕ) (earlier : List (List ℕ)) (p : LinesLeft) (sets : List (List ℕ)) (caps : List ℕ) (lines rest : List Line) → All (λ cap. cap ≤ 500) caps → All (IsSet n) sets
-    → IsLaminarFamily (earlier ++ sets) → CappedLines (codes "set") sets caps lines rest → AreLeft lines p
+pub nested_sets_again : (n : ℕ) (earlier : List (List ℕ)) (p : LinesLeft) (sets : List (List ℕ)) (caps : List ℕ) (lines rest : List Line)
+    → All (λ cap. cap ≤ 500) caps → All (IsSet n) sets → IsLaminarFamily (earlier ++ sets) → CappedLines (codes "set") sets caps lines rest → AreLeft lines p
     → (q : LinesLeft) × (nested_sets_at n (length sets) earlier p ≡ Ok (sets, caps, q)) × AreLeft rest q
 unfolding nested_sets_at
 nested_sets_again n earlier p [] [] lines rest small in_range family spelled left = (p, refl, subst (λ (ls : List Line). AreLeft ls p) spelled left)
@@ -125,26 +130,33 @@ nested_sets_again n earlier p (set ∷ sets) [] lines rest small in_range family
 nested_sets_again n earlier p (set ∷ sets) (cap ∷ caps) lines rest small in_range family spelled left =
     let here = subst (λ (ls : List Line). AreLeft ls p) spelled.3 left in
     let free = IsLaminarFamily-free earlier set sets family in
-    let first = nested_again n earlier p cap set spelled.0 spelled.1 (All-head (λ cap. cap ≤ 500) cap caps small) (All-head (IsSet n) set sets in_range) spelled.2 free here in
+    let first_small = All-head (λ cap. cap ≤ 500) cap caps small in
+    let first_set = All-head (IsSet n) set sets in_range in
+    let first = nested_again n earlier p cap set spelled.0 spelled.1 first_small first_set spelled.2 free here in
     let later = subst IsLaminarFamily (sym (append_assoc earlier (set ∷ []) sets)) family in
-    let others = nested_sets_again n (earlier ++ set ∷ []) first.0 sets caps spelled.1 rest (All-tail (λ cap. cap ≤ 500) cap caps small) (All-tail (IsSet n) set sets in_range) later spelled.4 first.2 in
+    let others_small = All-tail (λ cap. cap ≤ 500) cap caps small in
+    let others_sets = All-tail (IsSet n) set sets in_range in
+    let others = nested_sets_again n (earlier ++ set ∷ []) first.0 sets caps spelled.1 rest others_small others_sets later spelled.4 first.2 in
     (others.0, rw (first.1, others.1) refl, others.2)
 
 -- ---- the sets of a laminar matroid
 
 -- sets that are read meet the conditions of a laminar matroid
-pub nested_sets_sound : (n many : ℕ) (p : LinesLeft) (sets : List (List ℕ)) (caps : List ℕ) (q : LinesLeft) → nested_sets_at n many [] p ≡ Ok (sets, caps, q) → IsLaminar n sets caps
+pub nested_sets_sound : (n many : ℕ) (p : LinesLeft) (sets : List (List ℕ)) (caps : List ℕ) (q : LinesLeft)
+    → nested_sets_at n many [] p ≡ Ok (sets, caps, q) → IsLaminar n sets caps
 nested_sets_sound n many p sets caps q e =
     let read = nested_sets_read n many [] p sets caps q e in
     record { capped = read.as_many; inside = All-weaker (IsSet n) (AllBelow n) (λ set is. is.below) sets read.in_range; family = read.family IsLaminarFamily-nil }
 
 -- they are as many as were asked for
-pub nested_sets_few : (n many : ℕ) (p : LinesLeft) (sets : List (List ℕ)) (caps : List ℕ) (q : LinesLeft) → nested_sets_at n many [] p ≡ Ok (sets, caps, q) → many < 501 → length sets < 2 ^ 32
+pub nested_sets_few : (n many : ℕ) (p : LinesLeft) (sets : List (List ℕ)) (caps : List ℕ) (q : LinesLeft)
+    → nested_sets_at n many [] p ≡ Ok (sets, caps, q) → many < 501 → length sets < 2 ^ 32
 nested_sets_few n many p sets caps q e few = let count = (nested_sets_read n many [] p sets caps q e).count in omega arith
 
 pub ruleset nested_building = (nested_sets_sound, nested_sets_few)
 
-pub nested_sets_valid : (n many : ℕ) (p : LinesLeft) (sets : List (List ℕ)) (caps : List ℕ) (q : LinesLeft) → many ≤ 500 → AreNestedSetsRead n many [] p sets caps q → AreNestedSets n sets caps
+pub nested_sets_valid : (n many : ℕ) (p : LinesLeft) (sets : List (List ℕ)) (caps : List ℕ) (q : LinesLeft)
+    → many ≤ 500 → AreNestedSetsRead n many [] p sets caps q → AreNestedSets n sets caps
 nested_sets_valid n many p sets caps q few read = record {
   few = omega (arith, read.count);
   as_many = read.as_many;
