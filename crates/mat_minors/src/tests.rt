@@ -1,7 +1,7 @@
 //! A triangle and one more edge: expected values are worked out by hand from the closed walks of its edges.
 ghost use Rattle.std.specs.Prelude.{◌≡◌, length, IfOk};
 ghost use Rattle.mat_sets.specs.Sets.{AllBelow};
-ghost use Rattle.mat_graphic.specs.Forests.{IsGraph};
+ghost use Rattle.mat_sets.specs.Graphs.{IsGraph};
 
 use crate::{Contraction, Dual, Restriction, Truncation};
 use mat_graphic::Graphic;
