@@ -3,5 +3,7 @@
 
 mod greedy;
 mod order;
+#[cfg(test)]
+mod tests;
 
 pub use greedy::{heaviest_each, heaviest_of};
