@@ -1,0 +1,5 @@
+pub mod Paths
+pub mod ListParts
+pub mod Routes
+pub mod RouteParts
+pub mod RouteFamilies
