@@ -3,3 +3,5 @@ pub mod ListParts
 pub mod Routes
 pub mod RouteParts
 pub mod RouteFamilies
+pub mod TurnedPaths
+pub mod RouteSearch
