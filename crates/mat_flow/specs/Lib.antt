@@ -5,3 +5,6 @@ pub mod RouteParts
 pub mod RouteFamilies
 pub mod TurnedPaths
 pub mod RouteSearch
+pub mod RouteCrossings
+pub mod RouteExtensions
+pub mod RouteSteps

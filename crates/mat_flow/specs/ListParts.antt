@@ -19,9 +19,12 @@ is_member-right x xs ys m = is_member-append x xs ys ∙ or_right (is_member x x
 pub is_member-middle : (x : ℕ) (xs ys : List ℕ) → is_member x (xs ++ x ∷ ys) ≡ true
 is_member-middle x xs ys = is_member-right x xs (x ∷ ys) (is_member-head x ys)
 
--- a number that is in one list and not in the other is not one that is in the other
+-- what is no member differs from a member
 pub members_differ : (x y : ℕ) (xs : List ℕ) → is_member x xs ≡ false → is_member y xs ≡ true → eqb x y ≡ false
 members_differ x y xs out inside = false_from_ne_true _ (λ same. both_ways _ out (ap (λ z. is_member z xs) (eqb-true x y same) ∙ inside))
+
+pub member_differs : (x y : ℕ) (xs : List ℕ) → is_member x xs ≡ true → is_member y xs ≡ false → eqb x y ≡ false
+member_differs x y xs inside out = false_from_ne_true _ (λ same. both_ways _ out (ap (λ z. is_member z xs) (sym (eqb-true x y same)) ∙ inside))
 
 -- ---- a list split at a member
 
