@@ -1,6 +1,6 @@
 -- A family with more terminals becomes one with fewer: two of its routes go on to further ends over vertices that were terminals, and
 -- the others stay.
-use Rattle.std.proofs.Common.{◌≡◌, ℕ, Bool, true, false, cond, ◌||◌, eqb, List, ◌∷◌, ◌++◌, inl, inr, sym, ap, ◌∙◌, arith}
+use Rattle.std.proofs.Common.{◌≡◌, ℕ, Bool, true, false, ◌||◌, eqb, List, ◌∷◌, ◌++◌, inl, inr, sym, ◌∙◌, arith}
 use Rattle.std.proofs.lemmas.Bool.{both_ways, cases_Bool, cond_both, false_from_ne_true, or_cases, or_from, or_left}
 use Rattle.mat_sets.specs.Sets.{is_member, with_one, IsRising, IsSubset}
 use Rattle.mat_sets.proofs.Members.{is_member-append, set_members}

@@ -5,20 +5,21 @@
 -- separator by induction: fewer vertices are no terminals. If the end that came lies on a part that was cut off, its route goes on over that
 -- part, and the route to the crossing over the other one; if not, the route to the crossing goes on to its old end.
 use Rattle.std.proofs.Common.{◌≡◌, ℕ, zero, suc, ◌<◌, Bool, true, false, not, ◌||◌, eqb, List, [], ◌∷◌, ◌++◌, length, ◌⊎◌, inl, inr, refl, sym, ap, ◌∙◌, subst, arith, append_assoc}
-use Rattle.std.proofs.lemmas.Bool.{and_left, and_right, both_ways, cases_Bool, false_from_ne_true, not_from_false, not_from_true, not-false, not-true, or_from, or_left, or_parts, or_right}
+use Rattle.std.proofs.lemmas.Bool.Decides.{nat_tests}
+use Rattle.std.proofs.lemmas.Bool.{and_from, eq-eqb, false≢true, and_left, both_ways, cases_Bool, false_from_ne_true, not_from_false, not_from_true, not-true, or_from, or_left, or_parts, or_right}
 use Rattle.mat_sets.specs.Search.{those_below}
-use Rattle.mat_sets.specs.Sets.{is_member, with_one, without_one, IsRising, IsSubset}
+use Rattle.mat_sets.specs.Sets.{is_member, with_one, without_one, IsRising}
 use Rattle.mat_sets.proofs.Cardinalities.{length-exchange_one}
 use Rattle.mat_sets.proofs.Changes.{with_one-returned}
-use Rattle.mat_sets.proofs.Members.{IsRising-without_one, is_member-append, is_member-with_one, is_member-without_one, set_members}
+use Rattle.mat_sets.proofs.Members.{IsRising-without_one, is_member-append, is_member-with_one, is_member-without_one}
 use Rattle.mat_sets.proofs.Search.{length-those_below_less}
-use Rattle.mat_flow.specs.ListParts.{AreDistinct-apart, SplitAt, is_member-left, is_member-middle, members_differ, split_at}
+use Rattle.mat_flow.specs.ListParts.{AreDistinct-apart, SplitAt, is_member-left, is_member-middle, is_member-right, is_member-tail, member_differs, members_differ, split_at}
 use Rattle.mat_flow.specs.Paths.{first_of, has_arc}
-use Rattle.mat_flow.specs.RouteCrossings.{Crossing, Meeting, at_free, at_outside, cut_ends, cut_route, cut_routes, cut_terminal, first_meeting, kept_end, on_owner, owner_in_front, owner_route}
+use Rattle.mat_flow.specs.RouteCrossings.{Crossing, Meeting, at_free, at_outside, cut_ends, cut_routes, cut_terminal, first_meeting, kept_end, on_owner, owner_in_front, owner_route}
 use Rattle.mat_flow.specs.RouteExtensions.{IsExtension, IsRoute-extended, IsRoute-kept, terminal_missed, two_extended}
 use Rattle.mat_flow.specs.RouteFamilies.{AreRoutes-with_one}
 use Rattle.mat_flow.specs.RouteParts.{first_of-member}
-use Rattle.mat_flow.specs.Routes.{LeadsBack, IsRoute, AreRoutes, SeparatesRoutes, with_route}
+use Rattle.mat_flow.specs.Routes.{IsRoute, AreRoutes, SeparatesRoutes, with_route}
 use Rattle.mat_flow.specs.RouteSearch.{FoundRoute, find_route}
 
 module _ (arcs : List (ℕ × ℕ)) (sources : List ℕ) (target : ℕ → Bool) where
@@ -231,3 +232,88 @@ module _ (arcs : List (ℕ × ℕ)) (sources : List ℕ) (target terminal : ℕ 
       | inr off ↦ end_elsewhere out off
     ]
   ]
+
+-- ---- the induction
+
+module _ (arcs : List (ℕ × ℕ)) (sources : List ℕ) (target : ℕ → Bool) where
+  -- what holds of the cut family: one end more, or a separator, which is one before the cut too
+  step_uncut : (terminal : ℕ → Bool) (ends : List ℕ) (route : ℕ → List ℕ) (family : AreRoutes arcs sources target terminal ends route)
+      (c : Crossing arcs sources (λ v. target v || terminal v) ends route)
+      → HasOneEndMore arcs sources target (cut_terminal arcs sources target terminal ends route family c) (cut_ends arcs sources target terminal ends route family c)
+      ⊎ HasRouteSeparator arcs sources target (cut_terminal arcs sources target terminal ends route family c) (cut_ends arcs sources target terminal ends route family c)
+      → HasOneEndMore arcs sources target terminal ends ⊎ HasRouteSeparator arcs sources target terminal ends
+  step_uncut terminal ends route family c (inl more) = inl (one_end_more_uncut arcs sources target terminal ends route family c more)
+  step_uncut terminal ends route family c (inr s) = inr (record {
+    separator = s.separator;
+    rises = s.rises;
+    separates = record { meets = λ path leads reaches. s.separates.meets path leads (wider (target (first_of path)) (terminal (first_of path)) _ reaches) };
+    size = s.size ∙ length-exchange_one ends c.at c.owner family.rises c.owned (at_outside arcs sources target terminal ends route family c);
+  })
+    where
+      wider : (a b d : Bool) → (a || b) ≡ true → (a || (b || d)) ≡ true
+      wider true b d h = h
+      wider false b d h = or_left b d h
+
+  -- where a found route meets the family
+  crossing_at : (terminal : ℕ → Bool) (ends : List ℕ) (route : ℕ → List ℕ) (n : ℕ) (f : FoundRoute arcs sources n (λ v. target v || terminal v) ends)
+      → Meeting ends route f.route → (c : Crossing arcs sources (λ v. target v || terminal v) ends route) × (c.at < n)
+  crossing_at terminal ends route n f m =
+      let s = split_at m.at (route m.owner) m.on in (
+        record {
+          end = f.end; front = m.front; at = m.at; rest = m.rest;
+          found = subst (IsRoute arcs sources (λ v. target v || terminal v) f.end) m.splits f.is;
+          reaches = f.reaches;
+          avoids = λ v on. f.avoids v (ap (is_member v) m.splits ∙ on);
+          owner = m.owner; owned = m.owned; owner_front = s.before; owner_rest = s.after; splits = s.splits; clear = m.clear;
+        },
+        f.below m.at (ap (is_member m.at) m.splits ∙ is_member-middle m.at m.front m.rest),
+      )
+
+  -- a found route that meets no route of the family
+  found_added : (terminal : ℕ → Bool) (ends : List ℕ) (route : ℕ → List ℕ) (n : ℕ) → AreRoutes arcs sources target terminal ends route
+      → (f : FoundRoute arcs sources n (λ v. target v || terminal v) ends)
+      → ((v e : ℕ) → is_member v f.route ≡ true → is_member e ends ≡ true → is_member v (route e) ≡ false) → HasOneEndMore arcs sources target terminal ends
+  found_added terminal ends route n family f clear =
+      let i = f.is in
+      record {
+        end = f.end;
+        new = f.avoids f.end (subst (λ z. is_member z f.route ≡ true) i.begins (first_of-member arcs sources f.route i.leads));
+        route = with_route f.end f.route route;
+        routes = AreRoutes-with_one arcs sources target terminal ends route f.end f.route family
+            (record { begins = i.begins; leads = i.leads; distinct = i.distinct; passes = λ v on other. (or_parts (target v) _ (i.passes v on other)).1 })
+            f.reaches clear;
+      }
+
+  module _ (n : ℕ) (heads_below : (u v : ℕ) → has_arc arcs u v ≡ true → v < n) (sources_below : (v : ℕ) → is_member v sources ≡ true → v < n) where
+    -- how many vertices are no terminals
+    count_free : (ℕ → Bool) → ℕ
+    count_free terminal = length (those_below n (λ v. not (terminal v)))
+
+    fewer_free : (terminal : ℕ → Bool) (ends : List ℕ) (route : ℕ → List ℕ) (family : AreRoutes arcs sources target terminal ends route)
+        (c : Crossing arcs sources (λ v. target v || terminal v) ends route) → c.at < n
+        → count_free (cut_terminal arcs sources target terminal ends route family c) < count_free terminal
+    unfolding count_free
+    fewer_free terminal ends route family c below =
+        length-those_below_less n c.at (λ v. not (cut_terminal arcs sources target terminal ends route family c v)) (λ v. not (terminal v))
+        (λ v l free. not_from_false _ (or_parts (terminal v) _ (not-true _ free)).0) below
+        (not_from_true _ (or_right (terminal c.at) _ (is_member-middle c.at c.owner_front c.front)))
+        (not_from_false _ (at_free arcs sources target terminal ends route family c))
+
+    step_by : (fuel : ℕ) (terminal : ℕ → Bool) (ends : List ℕ) (route : ℕ → List ℕ) → AreRoutes arcs sources target terminal ends route
+        → count_free terminal < fuel → HasOneEndMore arcs sources target terminal ends ⊎ HasRouteSeparator arcs sources target terminal ends
+    step_by zero terminal ends route family less = absurd (omega arith)
+    step_by (suc fuel) terminal ends route family less = elim (find_route arcs sources n (λ v. target v || terminal v) ends heads_below sources_below) [
+      | inr none ↦ inr (record { separator = ends; rises = family.rises; separates = none; size = refl })
+      | inl f ↦ elim (first_meeting ends route f.route) [
+        | inr clear ↦ inl (found_added terminal ends route n family f clear)
+        | inl m ↦ (let c = crossing_at terminal ends route n f m in
+            step_uncut terminal ends route family c.0
+            (step_by fuel _ _ _ (cut_routes arcs sources target terminal ends route family c.0)
+            (let fewer = fewer_free terminal ends route family c.0 c.1 in omega arith)))
+      ]
+    ]
+
+    -- one end more, or a separator of as many vertices as there are ends
+    pub routes_step : (ends : List ℕ) (route : ℕ → List ℕ) → AreRoutes arcs sources target (λ v. false) ends route
+        → HasOneEndMore arcs sources target (λ v. false) ends ⊎ HasRouteSeparator arcs sources target (λ v. false) ends
+    routes_step ends route family = step_by (suc (count_free (λ v. false))) (λ v. false) ends route family (omega arith)
