@@ -8,3 +8,6 @@ pub mod RouteSearch
 pub mod RouteCrossings
 pub mod RouteExtensions
 pub mod RouteSteps
+pub mod PathFamilies
+pub mod SimplePaths
+pub mod PathLaws
