@@ -1,6 +1,6 @@
 -- Disjoint paths, as a list of them, are a family of routes back from their last vertices; and a family of routes gives disjoint paths to
 -- any of its ends.
-use Rattle.std.proofs.Common.{◌≡◌, ℕ, ◌<◌, Bool, true, false, ◌&&◌, ◌||◌, eqb, List, [], ◌∷◌, ◌++◌, length, map, reverse, inl, inr, refl, sym, ap, ◌∙◌, subst, arith}
+use Rattle.std.proofs.Common.{◌≡◌, ℕ, ◌<◌, Bool, true, false, ◌&&◌, ◌||◌, eqb, List, [], ◌∷◌, ◌++◌, map, reverse, inl, inr, refl, sym, ap, ◌∙◌, arith}
 use Rattle.std.proofs.lemmas.Bool.{and_parts, both_ways, cond_both, eq-eqb, eqb-true, false_from_ne_true, false≢true, or_cases, or_left, or_right}
 use Rattle.std.proofs.lemmas.List.Elements.{All-cons, All-head, All-nil, All-tail}
 use Rattle.std.specs.List.{All, concat}
@@ -153,8 +153,8 @@ module _ (arcs : List (ℕ × ℕ)) (sources targets : List ℕ) where
         AreDistinct-append (reverse (route e)) (concat (paths_to some)) (AreDistinct-reverse (route e) (family.each e here).distinct)
         (paths_distinct some d.1 (λ f m. inside f (is_member-tail f e some m)))
         (λ v on. false_from_ne_true _ (λ k. (let w = paths_inside some v k in
-          both_ways _ (family.apart w.0 e v (inside w.0 (is_member-tail w.0 e some w.1)) here (member_differs w.0 e some w.1 d.0) w.2)
-          (sym (is_member-reverse v (route e)) ∙ on))))
+        both_ways _ (family.apart w.0 e v (inside w.0 (is_member-tail w.0 e some w.1)) here (member_differs w.0 e some w.1 d.0) w.2)
+        (sym (is_member-reverse v (route e)) ∙ on))))
 
     paths_each : (some : List ℕ) → ((e : ℕ) → is_member e some ≡ true → is_member e ends ≡ true) → All (IsPathBetween arcs sources targets) (paths_to some)
     paths_each [] inside = All-nil (IsPathBetween arcs sources targets)

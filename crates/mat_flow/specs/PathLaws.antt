@@ -4,16 +4,16 @@ use Rattle.std.proofs.Common.{◌≡◌, ℕ, zero, suc, ◌+◌, ◌<◌, ◌�
 use Rattle.std.proofs.lemmas.Bool.{both_ways, eqb-true, false_from_ne_true, false≢true, or_cases, or_left}
 use Rattle.std.proofs.lemmas.List.{length-map}
 use Rattle.std.proofs.lemmas.List.Elements.{All-head, All-nil}
-use Rattle.std.specs.List.{All, concat}
-use Rattle.mat_sets.specs.Sets.{is_member, union, with_one, AreDistinct, IsSubset}
+use Rattle.std.specs.List.{concat}
+use Rattle.mat_sets.specs.Sets.{is_member, union, with_one, AreDistinct}
 use Rattle.mat_sets.proofs.Cardinalities.{length-with_one}
 use Rattle.mat_sets.proofs.Ground.{AreDistinct-rising, length-distinct, length-distinct_subset}
 use Rattle.mat_sets.proofs.Members.{IsRising-nil, IsRising-union, is_member-head, is_member-union, is_member-with_one}
 use Rattle.mat_flow.specs.ListParts.{is_member-left, is_member-right}
 use Rattle.mat_flow.specs.PathFamilies.{AreDisjointPaths-routes, AreDistinct-ends, AreRoutes-paths, IsSeparator-routes, ends_of, heads_below, is_member-ends_of, last_of-paths_to, route_to, sources_below, vertex_bound}
 use Rattle.mat_flow.specs.Paths.{first_of, last_of, AreDisjointPaths, ArePathsApart, HasOnePathMore, HasSeparatorOf, IsLinking, IsPath, IsPathBetween, IsSeparator}
-use Rattle.mat_flow.specs.RouteSteps.{HasOneEndMore, HasRouteSeparator, routes_step}
-use Rattle.mat_flow.specs.SimplePaths.{ArePathsApart-disjoint, ArePathsApart-tail, AreDisjoint-first, SimplePaths, simple_paths}
+use Rattle.mat_flow.specs.RouteSteps.{HasOneEndMore, routes_step}
+use Rattle.mat_flow.specs.SimplePaths.{ArePathsApart-disjoint, ArePathsApart-tail, AreDisjoint-first, simple_paths}
 
 module _ (arcs : List (ℕ × ℕ)) (sources targets : List ℕ) where
   -- ---- one path more
@@ -40,26 +40,26 @@ module _ (arcs : List (ℕ × ℕ)) (sources targets : List ℕ) where
       → HasOnePathMore arcs sources targets paths ⊎ HasSeparatorOf arcs sources targets (length paths)
   one_more_disjoint paths d = elim (routes_step arcs sources (λ v. is_member v targets) (vertex_bound arcs sources) (heads_below arcs sources)
       (sources_below arcs sources) (ends_of paths) (route_to paths) (AreRoutes-paths arcs sources targets paths d)) [
-    | inl m ↦ inl (more_paths paths d m)
-    | inr s ↦ inr (record {
-        separator = s.separator;
-        separates = IsSeparator-routes arcs sources targets s.separator s.rises s.separates;
-        size = s.size ∙ length-ends_of paths d;
-      })
-  ]
+        | inl m ↦ inl (more_paths paths d m)
+        | inr s ↦ inr (record {
+          separator = s.separator;
+          separates = IsSeparator-routes arcs sources targets s.separator s.rises s.separates;
+          size = s.size ∙ length-ends_of paths d;
+        })
+      ]
 
   -- paths that share no vertex become one more, which end where they do and at one further target, or a separator is as large as they are many
   pub one_path_more : (paths : List (List ℕ)) → ArePathsApart arcs sources targets paths
       → HasOnePathMore arcs sources targets paths ⊎ HasSeparatorOf arcs sources targets (length paths)
   one_path_more paths a = let s = simple_paths arcs sources targets paths a in elim (one_more_disjoint s.simple s.disjoint) [
     | inl m ↦ inl (record {
-        larger = m.larger;
-        disjoint = m.disjoint;
-        one_more = m.one_more ∙ ap suc s.size;
-        further = m.further;
-        new = ap (is_member m.further) (sym s.ends) ∙ m.new;
-        ends = λ v. m.ends v ∙ ap (λ l. eqb v m.further || is_member v l) s.ends;
-      })
+      larger = m.larger;
+      disjoint = m.disjoint;
+      one_more = m.one_more ∙ ap suc s.size;
+      further = m.further;
+      new = ap (is_member m.further) (sym s.ends) ∙ m.new;
+      ends = λ v. m.ends v ∙ ap (λ l. eqb v m.further || is_member v l) s.ends;
+    })
     | inr t ↦ inr (record { separator = t.separator; separates = t.separates; size = t.size ∙ s.size })
   ]
 

@@ -26,14 +26,26 @@ pub first_meeting : (ends : List ℕ) (route : ℕ → List ℕ) (path : List �
 first_meeting ends route [] = inr (λ v f m. absurd (false≢true m))
 first_meeting ends route (u ∷ path) = elim (find_member (λ f. is_member u (route f)) ends) [
   | inl found ↦ inl (record {
-      front = []; at = u; rest = path; splits = refl;
-      owner = found.0; owned = found.1; on = found.2; clear = λ v f m. absurd (false≢true m);
-    })
+    front = [];
+    at = u;
+    rest = path;
+    splits = refl;
+    owner = found.0;
+    owned = found.1;
+    on = found.2;
+    clear = λ v f m. absurd (false≢true m);
+  })
   | inr none ↦ elim (first_meeting ends route path) [
     | inl later ↦ inl (record {
-        front = u ∷ later.front; at = later.at; rest = later.rest; splits = ap (λ l. u ∷ l) later.splits;
-        owner = later.owner; owned = later.owned; on = later.on; clear = λ v f m n. either u v f later.front (none f n) (λ k. later.clear v f k n) m;
-      })
+      front = u ∷ later.front;
+      at = later.at;
+      rest = later.rest;
+      splits = ap (λ l. u ∷ l) later.splits;
+      owner = later.owner;
+      owned = later.owned;
+      on = later.on;
+      clear = λ v f m n. either u v f later.front (none f n) (λ k. later.clear v f k n) m;
+    })
     | inr never ↦ inr (λ v f m n. either u v f path (none f n) (λ k. never v f k n) m)
   ]
 ]
@@ -125,11 +137,11 @@ module _ (arcs : List (ℕ × ℕ)) (sources : List ℕ) (target terminal : ℕ 
   cut_routes =
       AreRoutes-with_one arcs sources target cut_terminal (without_one ends c.owner) route c.at (c.at ∷ c.owner_rest)
       (AreRoutes-terminals arcs sources target terminal cut_terminal (without_one ends c.owner) route
-        (AreRoutes-fewer arcs sources target terminal ends (without_one ends c.owner) route family
-          (IsRising-without_one ends c.owner family.rises) (without_one-IsSubset ends c.owner))
-        (λ e m. wider (target e) (terminal e) _ (family.goals e (kept_end e m).0))
-        (λ e v m on other. let k = kept_end e m in
-          or_from (terminal v) _ ((family.each e k.0).passes v on other) (other_missed e v k.0 k.1 on)))
+      (AreRoutes-fewer arcs sources target terminal ends (without_one ends c.owner) route family
+      (IsRising-without_one ends c.owner family.rises) (without_one-IsSubset ends c.owner))
+      (λ e m. wider (target e) (terminal e) _ (family.goals e (kept_end e m).0))
+      (λ e v m on other. let k = kept_end e m in
+      or_from (terminal v) _ ((family.each e k.0).passes v on other) (other_missed e v k.0 k.1 on)))
       (record {
         begins = refl;
         leads = LeadsBack-rest arcs sources c.at c.owner_front c.owner_rest owner_route.leads;

@@ -68,9 +68,9 @@ module _ (arcs : List (ℕ × ℕ)) (sources : List ℕ) (target terminal more :
   two_extended kept e1 m1 e2 m2 front1 front2 rises inside goals x1 x2 differ apart =
       AreRoutes-with_one arcs sources target terminal (with_one kept e1) (with_route e1 (front1 ++ route m1) route) e2 (front2 ++ route m2)
       (AreRoutes-with_one arcs sources target terminal kept route e1 (front1 ++ route m1)
-        (AreRoutes-terminals arcs sources target more terminal kept route (AreRoutes-fewer arcs sources target more ends kept route family rises inside)
-          goals (λ e v m on other. fewer v ((family.each e (inside.inside e m)).passes v on other)))
-        x1.is x1.goal (λ v f on m. meets_none kept e1 m1 front1 x1 v f on (inside.inside f m) (members_differ m1 f kept x1.leaves m)))
+      (AreRoutes-terminals arcs sources target more terminal kept route (AreRoutes-fewer arcs sources target more ends kept route family rises inside)
+      goals (λ e v m on other. fewer v ((family.each e (inside.inside e m)).passes v on other)))
+      x1.is x1.goal (λ v f on m. meets_none kept e1 m1 front1 x1 v f on (inside.inside f m) (members_differ m1 f kept x1.leaves m)))
       x2.is x2.goal
       (λ v f on m. cond_both (eqb f e1) (front1 ++ route m1) (route f) (λ path. is_member v path ≡ false)
       (λ same. is_member-append v front1 (route m1) ∙ or_from _ _ (off_front v on) (meets_none kept e2 m2 front2 x2 v m1 on x1.from differ))

@@ -41,9 +41,9 @@ module _ (arcs : List (ℕ × ℕ)) (sources : List ℕ) (target : ℕ → Bool)
         (λ same. subst (λ v. IsRoute arcs sources terminal v path) (sym (eqb-true e end same)) new) (λ other. r.each e (old e m other));
     apart = λ e f v m n differ. cond_both (eqb e end) path (route e) (λ p. is_member v p ≡ true → is_member v (with_route end path route f) ≡ false)
         (λ same h. cond_both (eqb f end) path (route f) (λ q. is_member v q ≡ false)
-          (λ also. absurd (twice e f differ same also)) (λ other. misses v f h (old f n other)))
+        (λ also. absurd (twice e f differ same also)) (λ other. misses v f h (old f n other)))
         (λ other h. cond_both (eqb f end) path (route f) (λ q. is_member v q ≡ false)
-          (λ same. false_from_ne_true _ (λ k. both_ways _ (misses v e k (old e m other)) h)) (λ too. r.apart e f v (old e m other) (old f n too) differ h));
+        (λ same. false_from_ne_true _ (λ k. both_ways _ (misses v e k (old e m other)) h)) (λ too. r.apart e f v (old e m other) (old f n too) differ h));
   }
     where
       old : (e : ℕ) → is_member e (with_one ends end) ≡ true → eqb e end ≡ false → is_member e ends ≡ true

@@ -98,9 +98,9 @@ module _ (arcs : List (ℕ × ℕ)) (sources : List ℕ) (n : ℕ) (goal : ℕ �
     find_route = elim (finite_reach n free_arc free_source goal) [
       | inl walk ↦ inl (found_route walk.0 walk.1)
       | inr none ↦ inr (record {
-          meets = λ route leads reaches. elim (reached_or_met none.0 none.1 route leads) [
-            | inl inside ↦ absurd (both_ways _ (none.2 (first_of route) inside) reaches)
-            | inr met ↦ met
-          ];
-        })
+        meets = λ route leads reaches. elim (reached_or_met none.0 none.1 route leads) [
+          | inl inside ↦ absurd (both_ways _ (none.2 (first_of route) inside) reaches)
+          | inr met ↦ met
+        ];
+      })
     ]

@@ -94,7 +94,7 @@ module _ (arcs : List (ℕ × ℕ)) (sources : List ℕ) (target terminal : ℕ 
       (false_from_ne_true _ (λ k. (let p = kept_end arcs sources target terminal ends route family c v k in
       let r = family.each v p.0 in
       both_ways _ (family.apart v c.owner v p.0 c.owned p.1
-        (subst (λ z. is_member z (route v) ≡ true) r.begins (first_of-member arcs sources (route v) r.leads))) (on_route v m))))
+      (subst (λ z. is_member z (route v) ≡ true) r.begins (first_of-member arcs sources (route v) r.leads))) (on_route v m))))
 
   front_off : (v : ℕ) → is_member v c.front ≡ true → eqb v more.end ≡ false → is_member v grown ≡ false
   front_off v m other = not_grown v other
@@ -178,8 +178,8 @@ module _ (arcs : List (ℕ × ℕ)) (sources : List ℕ) (target terminal : ℕ 
       let on = ap (is_member more.end) s.splits ∙ is_member-middle more.end s.before s.after in
       one_end_more more.end c.end c.at s.before c.front found_new
       (owner_extension more.end s.before (s.after ++ c.at ∷ c.owner_rest)
-        (regrouped more.end c.owner_front s.before s.after (c.at ∷ c.owner_rest) s.splits)
-        (λ v m. within v more.end c.owner_front s.before s.after s.splits m) s.first end_grown end_parts.1)
+      (regrouped more.end c.owner_front s.before s.after (c.at ∷ c.owner_rest) s.splits)
+      (λ v m. within v more.end c.owner_front s.before s.after s.splits m) s.first end_grown end_parts.1)
       (found_extension c.at c.front c.rest refl (λ v m. m) (parts_apart more.end on) at_grown at_leaves)
       (turned more.end c.at end_parts.0)
       (λ v m. false_from_ne_true _ (λ k. both_ways _ (parts_apart v (within v more.end c.owner_front s.before s.after s.splits k)) m))
@@ -193,8 +193,8 @@ module _ (arcs : List (ℕ × ℕ)) (sources : List ℕ) (target terminal : ℕ 
       one_end_more c.at c.end more.end c.owner_front s.before found_new
       (owner_extension c.at c.owner_front c.owner_rest refl (λ v m. m) out at_grown at_leaves)
       (found_extension more.end s.before (s.after ++ c.at ∷ c.rest)
-        (regrouped more.end c.front s.before s.after (c.at ∷ c.rest) s.splits)
-        (λ v m. within v more.end c.front s.before s.after s.splits m) s.first end_grown end_parts.1)
+      (regrouped more.end c.front s.before s.after (c.at ∷ c.rest) s.splits)
+      (λ v m. within v more.end c.front s.before s.after s.splits m) s.first end_grown end_parts.1)
       end_parts.0
       (λ v m. false_from_ne_true _ (λ k. both_ways _ (parts_apart v k) (within v more.end c.front s.before s.after s.splits m)))
 
@@ -260,11 +260,19 @@ module _ (arcs : List (ℕ × ℕ)) (sources : List ℕ) (target : ℕ → Bool)
   crossing_at terminal ends route n f m =
       let s = split_at m.at (route m.owner) m.on in (
         record {
-          end = f.end; front = m.front; at = m.at; rest = m.rest;
+          end = f.end;
+          front = m.front;
+          at = m.at;
+          rest = m.rest;
           found = subst (IsRoute arcs sources (λ v. target v || terminal v) f.end) m.splits f.is;
           reaches = f.reaches;
           avoids = λ v on. f.avoids v (ap (is_member v) m.splits ∙ on);
-          owner = m.owner; owned = m.owned; owner_front = s.before; owner_rest = s.after; splits = s.splits; clear = m.clear;
+          owner = m.owner;
+          owned = m.owned;
+          owner_front = s.before;
+          owner_rest = s.after;
+          splits = s.splits;
+          clear = m.clear;
         },
         f.below m.at (ap (is_member m.at) m.splits ∙ is_member-middle m.at m.front m.rest),
       )

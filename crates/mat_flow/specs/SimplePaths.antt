@@ -1,9 +1,9 @@
 -- Loops are cut out of a path: it keeps its first and its last vertex, gets no new vertex, and has none twice. So paths that share no
 -- vertex with each other give disjoint paths with the same ends.
-use Rattle.std.proofs.Common.{◌≡◌, ℕ, suc, ◌+◌, ◌<◌, ◌≤◌, Bool, true, false, ◌||◌, eqb, List, [], ◌∷◌, ◌++◌, length, map, inl, inr, refl, sym, ap, ◌∙◌, subst, arith}
+use Rattle.std.proofs.Common.{◌≡◌, ℕ, suc, ◌<◌, true, false, eqb, List, [], ◌∷◌, ◌++◌, length, map, inl, inr, refl, sym, ap, ◌∙◌, subst, arith}
 use Rattle.std.proofs.lemmas.Bool.{both_ways, cases_Bool, false_from_ne_true, false≢true, or_cases, or_left, or_right, or_parts}
 use Rattle.std.proofs.lemmas.List.Elements.{All-cons, All-head, All-nil, All-tail}
-use Rattle.std.specs.List.{All, concat}
+use Rattle.std.specs.List.{concat}
 use Rattle.mat_sets.specs.Families.{AreDisjoint, indicator, multiplicity}
 use Rattle.mat_sets.specs.Sets.{is_member, AreDistinct}
 use Rattle.mat_sets.proofs.Families.{AreDisjoint-tail}
@@ -56,16 +56,16 @@ simple_cons arcs v w rest arc s = elim (cases_Bool (is_member v s.simple)) [
         inside = λ z m. is_member-tail z v (w ∷ rest) (s.inside z (ap (is_member z) p.splits ∙ is_member-right z p.before (v ∷ p.after) m));
       })
   | inr new ↦ record {
-      simple = v ∷ s.simple;
-      joined = IsPath-cons arcs v s.simple (ap (has_arc arcs v) s.first ∙ arc) s.joined;
-      distinct = (new, s.distinct);
-      first = refl;
-      last = last_of-cons arcs v s.simple s.joined ∙ s.last;
-      inside = λ z m. elim (or_cases (eqb z v) (is_member z s.simple) m) [
-        | inl same ↦ or_left (eqb z v) _ same
-        | inr later ↦ or_right (eqb z v) _ (s.inside z later)
-      ];
-    }
+    simple = v ∷ s.simple;
+    joined = IsPath-cons arcs v s.simple (ap (has_arc arcs v) s.first ∙ arc) s.joined;
+    distinct = (new, s.distinct);
+    first = refl;
+    last = last_of-cons arcs v s.simple s.joined ∙ s.last;
+    inside = λ z m. elim (or_cases (eqb z v) (is_member z s.simple) m) [
+      | inl same ↦ or_left (eqb z v) _ same
+      | inr later ↦ or_right (eqb z v) _ (s.inside z later)
+    ];
+  }
 ]
 
 pub simple_path : (arcs : List (ℕ × ℕ)) (path : List ℕ) → IsPath arcs path → SimplePath arcs path
