@@ -1,12 +1,15 @@
 pub mod Paths
 pub mod ListParts
+pub mod DisjointLists
 pub mod Routes
 pub mod RouteParts
 pub mod RouteFamilies
 pub mod TurnedPaths
+pub mod VertexBounds
 pub mod RouteSearch
 pub mod RouteCrossings
 pub mod RouteExtensions
+pub mod RouteReturns
 pub mod RouteSteps
 pub mod PathFamilies
 pub mod SimplePaths

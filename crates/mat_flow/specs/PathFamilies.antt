@@ -14,31 +14,6 @@ use Rattle.mat_flow.specs.RouteFamilies.{AreRoutes-with_one}
 use Rattle.mat_flow.specs.Routes.{AreRoutes, SeparatesRoutes, with_route}
 use Rattle.mat_flow.specs.TurnedPaths.{IsPathTo-reverse, LeadsBack-reverse, first_of-reverse, last_of-member}
 
--- ---- a bound on the vertices of routes
-
--- above the sources and the heads of the arcs
-pub vertex_bound : List (ℕ × ℕ) → List ℕ → ℕ
-vertex_bound arcs sources = above_all (sources ++ map (λ arc. arc.1) arcs)
-
-head_listed : (arcs : List (ℕ × ℕ)) (u v : ℕ) → has_arc arcs u v ≡ true → is_member v (map (λ arc. arc.1) arcs) ≡ true
-head_listed [] u v h = absurd (false≢true h)
-head_listed (arc ∷ arcs) u v h = elim (or_cases (eqb arc.0 u && eqb arc.1 v) (has_arc arcs u v) h) [
-  | inl here ↦ or_left (eqb v arc.1) _ (eq-eqb v arc.1 (sym (eqb-true arc.1 v (and_parts (eqb arc.0 u) (eqb arc.1 v) here).1)))
-  | inr later ↦ or_right (eqb v arc.1) _ (head_listed arcs u v later)
-]
-
-below_bound : (vertices : List ℕ) (v : ℕ) → is_member v vertices ≡ true → v < above_all vertices
-below_bound vertices v m = AllBelow-member (above_all vertices) vertices v (AllBelow-above_all vertices (above_all vertices) (omega arith)) m
-
-pub heads_below : (arcs : List (ℕ × ℕ)) (sources : List ℕ) (u v : ℕ) → has_arc arcs u v ≡ true → v < vertex_bound arcs sources
-unfolding vertex_bound
-heads_below arcs sources u v h =
-    below_bound (sources ++ map (λ arc. arc.1) arcs) v (is_member-right v sources (map (λ arc. arc.1) arcs) (head_listed arcs u v h))
-
-pub sources_below : (arcs : List (ℕ × ℕ)) (sources : List ℕ) (v : ℕ) → is_member v sources ≡ true → v < vertex_bound arcs sources
-unfolding vertex_bound
-sources_below arcs sources v m = below_bound (sources ++ map (λ arc. arc.1) arcs) v (is_member-left v sources (map (λ arc. arc.1) arcs) m)
-
 -- ---- from paths to routes
 
 -- the set of the last vertices
@@ -104,7 +79,7 @@ module _ (arcs : List (ℕ × ℕ)) (sources targets : List ℕ) where
         begins = first_of-reverse arcs sources path p.joined;
         leads = LeadsBack-reverse arcs sources path p.joined p.starts;
         distinct = AreDistinct-reverse path (AreDistinct-front path (concat paths) d.distinct);
-        passes = λ v m other. refl;
+        inner = λ v m other. refl;
       })
       (or_left _ false p.ends)
       (λ v f on m. false_from_ne_true _ (λ k. both_ways _

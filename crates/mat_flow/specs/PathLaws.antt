@@ -9,11 +9,13 @@ use Rattle.mat_sets.specs.Sets.{is_member, union, with_one, AreDistinct}
 use Rattle.mat_sets.proofs.Cardinalities.{length-with_one}
 use Rattle.mat_sets.proofs.Ground.{AreDistinct-rising, length-distinct, length-distinct_subset}
 use Rattle.mat_sets.proofs.Members.{IsRising-nil, IsRising-union, is_member-head, is_member-union, is_member-with_one}
+use Rattle.mat_flow.specs.DisjointLists.{AreDisjoint-first}
 use Rattle.mat_flow.specs.ListParts.{is_member-left, is_member-right}
-use Rattle.mat_flow.specs.PathFamilies.{AreDisjointPaths-routes, AreDistinct-ends, AreRoutes-paths, IsSeparator-routes, ends_of, heads_below, is_member-ends_of, last_of-paths_to, route_to, sources_below, vertex_bound}
+use Rattle.mat_flow.specs.PathFamilies.{AreDisjointPaths-routes, AreDistinct-ends, AreRoutes-paths, IsSeparator-routes, ends_of, is_member-ends_of, last_of-paths_to, route_to}
 use Rattle.mat_flow.specs.Paths.{first_of, last_of, AreDisjointPaths, ArePathsApart, HasOnePathMore, HasSeparatorOf, IsLinking, IsPath, IsPathBetween, IsSeparator}
-use Rattle.mat_flow.specs.RouteSteps.{HasOneEndMore, routes_step}
-use Rattle.mat_flow.specs.SimplePaths.{ArePathsApart-disjoint, ArePathsApart-tail, AreDisjoint-first, simple_paths}
+use Rattle.mat_flow.specs.Routes.{HasOneEndMore}
+use Rattle.mat_flow.specs.RouteSteps.{routes_step}
+use Rattle.mat_flow.specs.SimplePaths.{ArePathsApart-disjoint, ArePathsApart-tail, simple_paths}
 
 module _ (arcs : List (ℕ × ℕ)) (sources targets : List ℕ) where
   -- ---- one path more
@@ -38,8 +40,7 @@ module _ (arcs : List (ℕ × ℕ)) (sources targets : List ℕ) where
 
   one_more_disjoint : (paths : List (List ℕ)) → AreDisjointPaths arcs sources targets paths
       → HasOnePathMore arcs sources targets paths ⊎ HasSeparatorOf arcs sources targets (length paths)
-  one_more_disjoint paths d = elim (routes_step arcs sources (λ v. is_member v targets) (vertex_bound arcs sources) (heads_below arcs sources)
-      (sources_below arcs sources) (ends_of paths) (route_to paths) (AreRoutes-paths arcs sources targets paths d)) [
+  one_more_disjoint paths d = elim (routes_step arcs sources (λ v. is_member v targets) (ends_of paths) (route_to paths) (AreRoutes-paths arcs sources targets paths d)) [
         | inl m ↦ inl (more_paths paths d m)
         | inr s ↦ inr (record {
           separator = s.separator;
@@ -114,11 +115,10 @@ module _ (arcs : List (ℕ × ℕ)) (sources targets : List ℕ) where
       first_inside (v ∷ rest) joined = is_member-head v rest
 
   -- disjoint paths and a separator of as many vertices
-  pub Linked : Type 0
+  abbrev Linked : Type 0
   Linked = (paths : List (List ℕ)) × (separator : List ℕ) × IsLinking arcs sources targets paths separator
 
   linked_from : (fuel : ℕ) (paths : List (List ℕ)) → AreDisjointPaths arcs sources targets paths → length (union sources []) < length paths + fuel → Linked
-  unfolding Linked
   linked_from zero paths d less = absurd (omega (arith, at_most_a_separator (union sources []) paths sources_separate (ArePathsApart-disjoint arcs sources targets paths d)))
   linked_from (suc fuel) paths d less = elim (one_more_disjoint paths d) [
     | inl m ↦ linked_from fuel m.larger m.disjoint (let one = m.one_more in omega arith)
@@ -126,5 +126,4 @@ module _ (arcs : List (ℕ × ℕ)) (sources targets : List ℕ) where
   ]
 
   pub menger : (paths : List (List ℕ)) × (separator : List ℕ) × IsLinking arcs sources targets paths separator
-  unfolding Linked
   menger = linked_from (suc (length (union sources []))) [] (record { each = All-nil (IsPathBetween arcs sources targets); distinct = tt }) (omega arith)

@@ -105,7 +105,7 @@ module _ (arcs : List (ℕ × ℕ)) (sources : List ℕ) (target terminal : ℕ 
 
   -- the crossing was no terminal
   pub at_free : terminal c.at ≡ false
-  at_free = owner_route.passes c.at (is_member-middle c.at c.owner_front c.owner_rest) at_not_owner
+  at_free = owner_route.inner c.at (is_member-middle c.at c.owner_front c.owner_rest) at_not_owner
 
   -- an end that stays
   pub kept_end : (e : ℕ) → is_member e (without_one ends c.owner) ≡ true → (is_member e ends ≡ true) × (eqb e c.owner ≡ false)
@@ -128,7 +128,7 @@ module _ (arcs : List (ℕ × ℕ)) (sources : List ℕ) (target terminal : ℕ 
   rest_missed v m other =
       let off : is_member v c.owner_front ≡ false = false_from_ne_true _ (λ k. both_ways _ (AreDistinct-apart c.owner_front (c.at ∷ c.owner_rest) v owner_route.distinct k) m) in
       let inside = is_member-right v c.owner_front (c.at ∷ c.owner_rest) m in
-      or_from (terminal v) _ (owner_route.passes v inside (members_differ v c.owner c.owner_front off owner_in_front))
+      or_from (terminal v) _ (owner_route.inner v inside (members_differ v c.owner c.owner_front off owner_in_front))
       (missed v off other (false_from_ne_true _ (λ k. both_ways _ (c.clear v c.owner k c.owned) (on_owner v inside))))
 
   -- ---- the cut family
@@ -141,12 +141,12 @@ module _ (arcs : List (ℕ × ℕ)) (sources : List ℕ) (target terminal : ℕ 
       (IsRising-without_one ends c.owner family.rises) (without_one-IsSubset ends c.owner))
       (λ e m. wider (target e) (terminal e) _ (family.goals e (kept_end e m).0))
       (λ e v m on other. let k = kept_end e m in
-      or_from (terminal v) _ ((family.each e k.0).passes v on other) (other_missed e v k.0 k.1 on)))
+      or_from (terminal v) _ ((family.each e k.0).inner v on other) (other_missed e v k.0 k.1 on)))
       (record {
         begins = refl;
         leads = LeadsBack-rest arcs sources c.at c.owner_front c.owner_rest owner_route.leads;
         distinct = AreDistinct-rest c.owner_front (c.at ∷ c.owner_rest) owner_route.distinct;
-        passes = rest_missed;
+        inner = rest_missed;
       })
       (or_right (target c.at) _ (or_right (terminal c.at) _ (is_member-middle c.at c.owner_front c.front)))
       (λ v e on m. let k = kept_end e m in false_from_ne_true _ (λ h. both_ways _ (family.apart e c.owner v k.0 c.owned k.1 h)

@@ -19,10 +19,10 @@ module _ (arcs : List (ℕ × ℕ)) (sources : List ℕ) (target : ℕ → Bool)
       → ((e : ℕ) → is_member e ends ≡ true → (target e || other e) ≡ true)
       → ((e v : ℕ) → is_member e ends ≡ true → is_member v (route e) ≡ true → eqb v e ≡ false → other v ≡ false)
       → AreRoutes arcs sources target other ends route
-  AreRoutes-terminals terminal other ends route r goals passes = record {
+  AreRoutes-terminals terminal other ends route r goals inner = record {
     rises = r.rises;
     goals = goals;
-    each = λ e m. let i = r.each e m in record { begins = i.begins; leads = i.leads; distinct = i.distinct; passes = λ v. passes e v m };
+    each = λ e m. let i = r.each e m in record { begins = i.begins; leads = i.leads; distinct = i.distinct; inner = λ v. inner e v m };
     apart = r.apart;
   }
 

@@ -8,6 +8,7 @@ use Rattle.mat_sets.proofs.Reach.{finite_reach, shortest_walk_is_chordless}
 use Rattle.mat_flow.specs.ListParts.{AreDistinct-index, AreDistinct-reverse, is_member-reverse, is_member-tail}
 use Rattle.mat_flow.specs.Paths.{first_of, has_arc, last_of, IsPath}
 use Rattle.mat_flow.specs.Routes.{LeadsBack, IsRoute, SeparatesRoutes}
+use Rattle.mat_flow.specs.VertexBounds.{heads_below, sources_below, vertex_bound}
 use Rattle.mat_flow.specs.TurnedPaths.{LeadsBack-reverse, first_of-reverse}
 
 -- a list by whose places an arc leads from each vertex to the next is a path
@@ -24,7 +25,7 @@ last_of-index (v ∷ []) (suc k) long = absurd (omega arith)
 last_of-index (v ∷ w ∷ rest) zero long = absurd (omega arith)
 last_of-index (v ∷ w ∷ rest) (suc k) long = last_of-index (w ∷ rest) k (omega arith)
 
-module _ (arcs : List (ℕ × ℕ)) (sources : List ℕ) (n : ℕ) (goal : ℕ → Bool) (avoided : List ℕ) where
+module _ (arcs : List (ℕ × ℕ)) (sources : List ℕ) (goal : ℕ → Bool) (avoided : List ℕ) where
   -- a route to a goal, past no other goal and no avoided vertex
   pub record FoundRoute : Type 0 where
     pub end : ℕ
@@ -32,7 +33,7 @@ module _ (arcs : List (ℕ × ℕ)) (sources : List ℕ) (n : ℕ) (goal : ℕ �
     pub is : IsRoute arcs sources goal end route
     pub reaches : goal end ≡ true
     pub avoids : (v : ℕ) → is_member v route ≡ true → is_member v avoided ≡ false
-    pub below : (v : ℕ) → is_member v route ≡ true → v < n
+    pub below : (v : ℕ) → is_member v route ≡ true → v < vertex_bound arcs sources
 
   -- the arcs and the sources that the search uses
   abbrev free_arc : ℕ → ℕ → Bool
@@ -41,10 +42,10 @@ module _ (arcs : List (ℕ × ℕ)) (sources : List ℕ) (n : ℕ) (goal : ℕ �
   abbrev free_source : ℕ → Bool
   free_source v = is_member v sources && not (is_member v avoided)
 
-  found_route : (vertices : List ℕ) → IsShortestWalk n free_arc free_source goal vertices → FoundRoute
+  found_route : (vertices : List ℕ) → IsShortestWalk (vertex_bound arcs sources) free_arc free_source goal vertices → FoundRoute
   found_route vertices shortest =
       let w = shortest.walk in
-      let c = shortest_walk_is_chordless n free_arc free_source goal vertices shortest in
+      let c = shortest_walk_is_chordless (vertex_bound arcs sources) free_arc free_source goal vertices shortest in
       let joined = IsPath-index arcs vertices w.arcs w.long (λ i l. (and_parts (has_arc arcs (get_or vertices i 0) (get_or vertices (suc i) 0)) _ (w.steps i l)).0) in
       let last = last_of-index vertices w.arcs w.long in
       record {
@@ -54,14 +55,14 @@ module _ (arcs : List (ℕ × ℕ)) (sources : List ℕ) (n : ℕ) (goal : ℕ �
           begins = first_of-reverse arcs sources vertices joined;
           leads = LeadsBack-reverse arcs sources vertices joined (starts vertices w.arcs w.long w.first);
           distinct = AreDistinct-reverse vertices (AreDistinct-index vertices c.differ);
-          passes = λ v m other. (let p = place_of_member v vertices (sym (is_member-reverse v vertices) ∙ m) in
+          inner = λ v m other. (let p = place_of_member v vertices (sym (is_member-reverse v vertices) ∙ m) in
               subst (λ z. goal z ≡ false) p.2 (c.goal_once p.0 (before p.0 w.arcs (length vertices) p.1 w.long
               (λ at. eqb-false v (last_of vertices) other (sym p.2 ∙ ap (λ i. get_or vertices i 0) at ∙ sym last)))));
         };
         reaches = ap goal last ∙ w.last;
         avoids = λ v m. (let p = place_of_member v vertices (sym (is_member-reverse v vertices) ∙ m) in
             subst (λ z. is_member z avoided ≡ false) p.2 (free_at vertices w.first w.steps p.0 p.1));
-        below = λ v m. (let p = place_of_member v vertices (sym (is_member-reverse v vertices) ∙ m) in subst (λ z. z < n) p.2 (w.below p.0 p.1));
+        below = λ v m. (let p = place_of_member v vertices (sym (is_member-reverse v vertices) ∙ m) in subst (λ z. z < vertex_bound arcs sources) p.2 (w.below p.0 p.1));
       }
     where
       before : (i k l : ℕ) → i < l → l ≡ suc k → (i ≡ k → ⊥) → suc i < l
@@ -78,29 +79,28 @@ module _ (arcs : List (ℕ × ℕ)) (sources : List ℕ) (n : ℕ) (goal : ℕ �
       free_at vertices first steps (suc i) l = not-true _ (and_parts (has_arc arcs (get_or vertices i 0) (get_or vertices (suc i) 0)) _ (steps i l)).1
 
   -- the end of a route is reached, or the route meets an avoided vertex
-  module _ (heads_below : (u v : ℕ) → has_arc arcs u v ≡ true → v < n) (sources_below : (v : ℕ) → is_member v sources ≡ true → v < n) where
-    reached_or_met : (reached : List ℕ) → IsReachedSet n free_arc free_source reached → (route : List ℕ) → LeadsBack arcs sources route
-        → (is_member (first_of route) reached ≡ true) ⊎ ((v : ℕ) × (is_member v route ≡ true) × (is_member v avoided ≡ true))
-    reached_or_met reached r [] leads = absurd leads
-    reached_or_met reached r (v ∷ []) leads = elim (cases_Bool (is_member v avoided)) [
-      | inl met ↦ inr (v, is_member-head v [], met)
-      | inr free ↦ inl (r.starts v (sources_below v leads) (and_from (is_member v sources) _ leads (not_from_false _ free)))
+  reached_or_met : (reached : List ℕ) → IsReachedSet (vertex_bound arcs sources) free_arc free_source reached → (route : List ℕ) → LeadsBack arcs sources route
+      → (is_member (first_of route) reached ≡ true) ⊎ ((v : ℕ) × (is_member v route ≡ true) × (is_member v avoided ≡ true))
+  reached_or_met reached r [] leads = absurd leads
+  reached_or_met reached r (v ∷ []) leads = elim (cases_Bool (is_member v avoided)) [
+    | inl met ↦ inr (v, is_member-head v [], met)
+    | inr free ↦ inl (r.starts v (sources_below arcs sources v leads) (and_from (is_member v sources) _ leads (not_from_false _ free)))
+  ]
+  reached_or_met reached r (v ∷ u ∷ rest) leads = elim (reached_or_met reached r (u ∷ rest) leads.1) [
+    | inr met ↦ inr (met.0, is_member-tail met.0 v (u ∷ rest) met.1, met.2)
+    | inl before ↦ elim (cases_Bool (is_member v avoided)) [
+      | inl met ↦ inr (v, is_member-head v (u ∷ rest), met)
+      | inr free ↦ inl (r.closed u v before (heads_below arcs sources u v leads.0) (and_from (has_arc arcs u v) _ leads.0 (not_from_false _ free)))
     ]
-    reached_or_met reached r (v ∷ u ∷ rest) leads = elim (reached_or_met reached r (u ∷ rest) leads.1) [
-      | inr met ↦ inr (met.0, is_member-tail met.0 v (u ∷ rest) met.1, met.2)
-      | inl before ↦ elim (cases_Bool (is_member v avoided)) [
-        | inl met ↦ inr (v, is_member-head v (u ∷ rest), met)
-        | inr free ↦ inl (r.closed u v before (heads_below u v leads.0) (and_from (has_arc arcs u v) _ leads.0 (not_from_false _ free)))
-      ]
-    ]
+  ]
 
-    pub find_route : FoundRoute ⊎ SeparatesRoutes arcs sources goal avoided
-    find_route = elim (finite_reach n free_arc free_source goal) [
-      | inl walk ↦ inl (found_route walk.0 walk.1)
-      | inr none ↦ inr (record {
-        meets = λ route leads reaches. elim (reached_or_met none.0 none.1 route leads) [
-          | inl inside ↦ absurd (both_ways _ (none.2 (first_of route) inside) reaches)
-          | inr met ↦ met
-        ];
-      })
-    ]
+  pub find_route : FoundRoute ⊎ SeparatesRoutes arcs sources goal avoided
+  find_route = elim (finite_reach (vertex_bound arcs sources) free_arc free_source goal) [
+    | inl walk ↦ inl (found_route walk.0 walk.1)
+    | inr none ↦ inr (record {
+      meets = λ route leads reaches. elim (reached_or_met none.0 none.1 route leads) [
+        | inl inside ↦ absurd (both_ways _ (none.2 (first_of route) inside) reaches)
+        | inr met ↦ met
+      ];
+    })
+  ]

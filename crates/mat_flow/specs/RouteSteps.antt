@@ -18,222 +18,11 @@ use Rattle.mat_flow.specs.Paths.{first_of, has_arc}
 use Rattle.mat_flow.specs.RouteCrossings.{Crossing, Meeting, at_free, at_outside, cut_ends, cut_routes, cut_terminal, first_meeting, kept_end, on_owner, owner_in_front, owner_route}
 use Rattle.mat_flow.specs.RouteExtensions.{IsExtension, IsRoute-extended, IsRoute-kept, terminal_missed, two_extended}
 use Rattle.mat_flow.specs.RouteFamilies.{AreRoutes-with_one}
+use Rattle.mat_flow.specs.RouteReturns.{one_end_more_uncut}
+use Rattle.mat_flow.specs.VertexBounds.{vertex_bound}
 use Rattle.mat_flow.specs.RouteParts.{first_of-member}
-use Rattle.mat_flow.specs.Routes.{IsRoute, AreRoutes, SeparatesRoutes, with_route}
+use Rattle.mat_flow.specs.Routes.{HasOneEndMore, HasRouteSeparator, IsRoute, AreRoutes, SeparatesRoutes, with_route}
 use Rattle.mat_flow.specs.RouteSearch.{FoundRoute, find_route}
-
-module _ (arcs : List (ℕ × ℕ)) (sources : List ℕ) (target : ℕ → Bool) where
-  -- routes to these ends and to one more
-  pub record HasOneEndMore (terminal : ℕ → Bool) (ends : List ℕ) : Type 0 where
-    pub end : ℕ
-    pub new : is_member end ends ≡ false
-    pub route : ℕ → List ℕ
-    pub routes : AreRoutes arcs sources target terminal (with_one ends end) route
-
-  -- a separator of as many vertices as there are ends
-  pub record HasRouteSeparator (terminal : ℕ → Bool) (ends : List ℕ) : Type 0 where
-    pub separator : List ℕ
-    pub rises : IsRising separator
-    pub separates : SeparatesRoutes arcs sources (λ v. target v || terminal v) separator
-    pub size : length separator ≡ length ends
-
--- ---- one end more for the cut family
-
-module _ (arcs : List (ℕ × ℕ)) (sources : List ℕ) (target terminal : ℕ → Bool) (ends : List ℕ) (route : ℕ → List ℕ)
-    (family : AreRoutes arcs sources target terminal ends route)
-    (c : Crossing arcs sources (λ v. target v || terminal v) ends route)
-    (more : HasOneEndMore arcs sources target (cut_terminal arcs sources target terminal ends route family c) (cut_ends arcs sources target terminal ends route family c)) where
-  abbrev kept : List ℕ
-  kept = without_one ends c.owner
-
-  abbrev grown : List ℕ
-  grown = with_one (with_one kept c.at) more.end
-
-  abbrev wide : ℕ → Bool
-  wide = cut_terminal arcs sources target terminal ends route family c
-
-  narrow : (v : ℕ) → wide v ≡ false → terminal v ≡ false
-  narrow v h = (or_parts (terminal v) _ h).0
-
-  -- ---- the members of the new ends
-
-  at_grown : is_member c.at grown ≡ true
-  at_grown = is_member-with_one c.at more.end (with_one kept c.at) ∙ or_right (eqb c.at more.end) _
-      (is_member-with_one c.at c.at kept ∙ or_left _ (is_member c.at kept) (eq-eqb c.at c.at refl))
-
-  end_grown : is_member more.end grown ≡ true
-  end_grown = is_member-with_one more.end more.end (with_one kept c.at) ∙ or_left _ (is_member more.end (with_one kept c.at)) (eq-eqb more.end more.end refl)
-
-  kept_grown : (e : ℕ) → is_member e kept ≡ true → is_member e grown ≡ true
-  kept_grown e m = is_member-with_one e more.end (with_one kept c.at) ∙ or_right (eqb e more.end) _
-      (is_member-with_one e c.at kept ∙ or_right (eqb e c.at) _ m)
-
-  not_grown : (v : ℕ) → eqb v more.end ≡ false → eqb v c.at ≡ false → is_member v kept ≡ false → is_member v grown ≡ false
-  not_grown v a b d = is_member-with_one v more.end (with_one kept c.at) ∙ or_from _ _ a (is_member-with_one v c.at kept ∙ or_from _ _ b d)
-
-  end_parts : (eqb more.end c.at ≡ false) × (is_member more.end kept ≡ false)
-  end_parts = or_parts (eqb more.end c.at) _ (sym (is_member-with_one more.end c.at kept) ∙ more.new)
-
-  at_leaves : is_member c.at kept ≡ false
-  at_leaves = is_member-without_one c.at c.owner ends ∙ and_left (is_member c.at ends) _ (at_outside arcs sources target terminal ends route family c)
-
-  -- ---- the parts that were cut off: they share no vertex, are terminals, and hold no new end but one
-
-  owner_is : IsRoute arcs sources terminal c.owner (c.owner_front ++ c.at ∷ c.owner_rest)
-  owner_is = owner_route arcs sources target terminal ends route family c
-
-  on_route : (v : ℕ) → is_member v c.owner_front ≡ true → is_member v (route c.owner) ≡ true
-  on_route v m = on_owner arcs sources target terminal ends route family c v (is_member-left v c.owner_front (c.at ∷ c.owner_rest) m)
-
-  parts_apart : (v : ℕ) → is_member v c.owner_front ≡ true → is_member v c.front ≡ false
-  parts_apart v m = false_from_ne_true _ (λ k. both_ways _ (c.clear v c.owner k c.owned) (on_route v m))
-
-  owner_front_off : (v : ℕ) → is_member v c.owner_front ≡ true → eqb v more.end ≡ false → is_member v grown ≡ false
-  owner_front_off v m other = not_grown v other
-      (or_parts (eqb v c.at) _ (AreDistinct-apart c.owner_front (c.at ∷ c.owner_rest) v owner_is.distinct m)).0
-      (false_from_ne_true _ (λ k. (let p = kept_end arcs sources target terminal ends route family c v k in
-      let r = family.each v p.0 in
-      both_ways _ (family.apart v c.owner v p.0 c.owned p.1
-      (subst (λ z. is_member z (route v) ≡ true) r.begins (first_of-member arcs sources (route v) r.leads))) (on_route v m))))
-
-  front_off : (v : ℕ) → is_member v c.front ≡ true → eqb v more.end ≡ false → is_member v grown ≡ false
-  front_off v m other = not_grown v other
-      (or_parts (eqb v c.at) _ (AreDistinct-apart c.front (c.at ∷ c.rest) v c.found.distinct m)).0
-      (is_member-without_one v c.owner ends ∙ and_left (is_member v ends) _ (c.avoids v (is_member-left v c.front (c.at ∷ c.rest) m)))
-
-  -- ---- extensions over these parts
-
-  owner_extension : (m : ℕ) (part rest : List ℕ) → c.owner_front ++ c.at ∷ c.owner_rest ≡ part ++ m ∷ rest
-      → ((v : ℕ) → is_member v part ≡ true → is_member v c.owner_front ≡ true) → is_member more.end part ≡ false
-      → is_member m grown ≡ true → is_member m kept ≡ false
-      → IsExtension arcs sources target terminal wide narrow grown more.route more.routes kept c.owner m part
-  owner_extension m part rest splits inside out from leaves = record {
-    is = IsRoute-extended arcs sources target terminal wide narrow grown more.route more.routes c.owner m part rest
-        (subst (IsRoute arcs sources terminal c.owner) splits owner_is) from (λ v on. clear v m on from);
-    goal = family.goals c.owner c.owned;
-    from = from;
-    leaves = leaves;
-    clear = clear;
-  }
-    where
-      clear : (v f : ℕ) → is_member v part ≡ true → is_member f grown ≡ true → is_member v (more.route f) ≡ false
-      clear v f on = terminal_missed arcs sources target terminal wide narrow grown more.route more.routes v f
-          (or_right (terminal v) _ (is_member-left v c.owner_front (c.at ∷ c.front) (inside v on)))
-          (owner_front_off v (inside v on) (member_differs v more.end part on out))
-
-  found_extension : (m : ℕ) (part rest : List ℕ) → c.front ++ c.at ∷ c.rest ≡ part ++ m ∷ rest
-      → ((v : ℕ) → is_member v part ≡ true → is_member v c.front ≡ true) → is_member more.end part ≡ false
-      → is_member m grown ≡ true → is_member m kept ≡ false
-      → IsExtension arcs sources target terminal wide narrow grown more.route more.routes kept c.end m part
-  found_extension m part rest splits inside out from leaves = record {
-    is = IsRoute-extended arcs sources target terminal wide narrow grown more.route more.routes c.end m part rest
-        (subst (IsRoute arcs sources terminal c.end) splits found_is) from (λ v on. clear v m on from);
-    goal = c.reaches;
-    from = from;
-    leaves = leaves;
-    clear = clear;
-  }
-    where
-      found_is : IsRoute arcs sources terminal c.end (c.front ++ c.at ∷ c.rest)
-      found_is = let f = c.found in
-          record { begins = f.begins; leads = f.leads; distinct = f.distinct; passes = λ v on other. (or_parts (target v) _ (f.passes v on other)).1 }
-
-      clear : (v f : ℕ) → is_member v part ≡ true → is_member f grown ≡ true → is_member v (more.route f) ≡ false
-      clear v f on = terminal_missed arcs sources target terminal wide narrow grown more.route more.routes v f
-          (or_right (terminal v) _ (is_member-right v c.owner_front (c.at ∷ c.front) (is_member-tail v c.at c.front (inside v on))))
-          (front_off v (inside v on) (member_differs v more.end part on out))
-
-  -- ---- the three cases
-
-  -- two extensions, of which the first ends at the old end again
-  one_end_more : (m1 e m2 : ℕ) (part1 part2 : List ℕ) → is_member e ends ≡ false
-      → IsExtension arcs sources target terminal wide narrow grown more.route more.routes kept c.owner m1 part1
-      → IsExtension arcs sources target terminal wide narrow grown more.route more.routes kept e m2 part2 → eqb m2 m1 ≡ false
-      → ((v : ℕ) → is_member v part2 ≡ true → is_member v part1 ≡ false) → HasOneEndMore arcs sources target terminal ends
-  one_end_more m1 e m2 part1 part2 new x1 x2 differ apart = record {
-    end = e;
-    new = new;
-    route = with_route e (part2 ++ more.route m2) (with_route c.owner (part1 ++ more.route m1) more.route);
-    routes = subst (λ a. AreRoutes arcs sources target terminal (with_one a e) (with_route e (part2 ++ more.route m2) (with_route c.owner (part1 ++ more.route m1) more.route)))
-        (with_one-returned ends c.owner family.rises c.owned)
-        (two_extended arcs sources target terminal wide narrow grown more.route more.routes kept c.owner m1 e m2 part1 part2
-        (IsRising-without_one ends c.owner family.rises) (record { inside = kept_grown })
-        (λ f m. family.goals f (kept_end arcs sources target terminal ends route family c f m).0) x1 x2 differ apart);
-  }
-
-  -- a list that goes on after the part before a member
-  regrouped : (v : ℕ) (xs before after others : List ℕ) → xs ≡ before ++ v ∷ after → xs ++ others ≡ before ++ v ∷ (after ++ others)
-  regrouped v xs before after others splits = ap (λ l. l ++ others) splits ∙ append_assoc before (v ∷ after) others
-
-  within : (u v : ℕ) (xs before after : List ℕ) → xs ≡ before ++ v ∷ after → is_member u before ≡ true → is_member u xs ≡ true
-  within u v xs before after splits m = ap (is_member u) splits ∙ is_member-left u before (v ∷ after) m
-
-  found_new : is_member c.end ends ≡ false
-  found_new = c.avoids c.end (subst (λ z. is_member z (c.front ++ c.at ∷ c.rest) ≡ true) c.found.begins
-      (first_of-member arcs sources (c.front ++ c.at ∷ c.rest) c.found.leads))
-
-  -- the end that came lies on the part of the crossed route
-  end_on_owner : SplitAt more.end c.owner_front → HasOneEndMore arcs sources target terminal ends
-  end_on_owner s =
-      let on = ap (is_member more.end) s.splits ∙ is_member-middle more.end s.before s.after in
-      one_end_more more.end c.end c.at s.before c.front found_new
-      (owner_extension more.end s.before (s.after ++ c.at ∷ c.owner_rest)
-      (regrouped more.end c.owner_front s.before s.after (c.at ∷ c.owner_rest) s.splits)
-      (λ v m. within v more.end c.owner_front s.before s.after s.splits m) s.first end_grown end_parts.1)
-      (found_extension c.at c.front c.rest refl (λ v m. m) (parts_apart more.end on) at_grown at_leaves)
-      (turned more.end c.at end_parts.0)
-      (λ v m. false_from_ne_true _ (λ k. both_ways _ (parts_apart v (within v more.end c.owner_front s.before s.after s.splits k)) m))
-    where
-      turned : (x y : ℕ) → eqb x y ≡ false → eqb y x ≡ false
-      turned x y h = grind (arith, nat_tests)
-
-  -- it lies on the part of the found route
-  end_on_front : is_member more.end c.owner_front ≡ false → SplitAt more.end c.front → HasOneEndMore arcs sources target terminal ends
-  end_on_front out s =
-      one_end_more c.at c.end more.end c.owner_front s.before found_new
-      (owner_extension c.at c.owner_front c.owner_rest refl (λ v m. m) out at_grown at_leaves)
-      (found_extension more.end s.before (s.after ++ c.at ∷ c.rest)
-      (regrouped more.end c.front s.before s.after (c.at ∷ c.rest) s.splits)
-      (λ v m. within v more.end c.front s.before s.after s.splits m) s.first end_grown end_parts.1)
-      end_parts.0
-      (λ v m. false_from_ne_true _ (λ k. both_ways _ (parts_apart v k) (within v more.end c.front s.before s.after s.splits m)))
-
-  -- it was a goal before
-  end_elsewhere : is_member more.end c.owner_front ≡ false → is_member more.end c.front ≡ false → HasOneEndMore arcs sources target terminal ends
-  end_elsewhere out off =
-      one_end_more c.at more.end more.end c.owner_front [] new
-      (owner_extension c.at c.owner_front c.owner_rest refl (λ v m. m) out at_grown at_leaves)
-      (record {
-        is = IsRoute-kept arcs sources target terminal wide narrow grown more.route more.routes more.end end_grown;
-        goal = (let goal = more.routes.goals more.end end_grown in
-            without (target more.end) (terminal more.end) _ goal
-            (is_member-append more.end c.owner_front (c.at ∷ c.front) ∙ or_from _ _ out (or_from _ _ end_parts.0 off)));
-        from = end_grown;
-        leaves = end_parts.1;
-        clear = λ v f m. absurd (false≢true m);
-      })
-      end_parts.0 (λ v m. absurd (false≢true m))
-    where
-      without : (a b d : Bool) → (a || (b || d)) ≡ true → d ≡ false → (a || b) ≡ true
-      without true b d h e = h
-      without false true d h e = h
-      without false false d h e = absurd (both_ways d e h)
-
-      new : is_member more.end ends ≡ false
-      new = false_from_ne_true _ (λ m. both_ways _ end_parts.1 (is_member-without_one more.end c.owner ends
-          ∙ and_from (is_member more.end ends) _ m (not_from_false _
-          (members_differ more.end c.owner c.owner_front out (owner_in_front arcs sources target terminal ends route family c)))))
-
-  pub one_end_more_uncut : HasOneEndMore arcs sources target terminal ends
-  one_end_more_uncut = elim (cases_Bool (is_member more.end c.owner_front)) [
-    | inl on ↦ end_on_owner (split_at more.end c.owner_front on)
-    | inr out ↦ elim (cases_Bool (is_member more.end c.front)) [
-      | inl on ↦ end_on_front out (split_at more.end c.front on)
-      | inr off ↦ end_elsewhere out off
-    ]
-  ]
-
--- ---- the induction
 
 module _ (arcs : List (ℕ × ℕ)) (sources : List ℕ) (target : ℕ → Bool) where
   -- what holds of the cut family: one end more, or a separator, which is one before the cut too
@@ -255,9 +44,9 @@ module _ (arcs : List (ℕ × ℕ)) (sources : List ℕ) (target : ℕ → Bool)
       wider false b d h = or_left b d h
 
   -- where a found route meets the family
-  crossing_at : (terminal : ℕ → Bool) (ends : List ℕ) (route : ℕ → List ℕ) (n : ℕ) (f : FoundRoute arcs sources n (λ v. target v || terminal v) ends)
-      → Meeting ends route f.route → (c : Crossing arcs sources (λ v. target v || terminal v) ends route) × (c.at < n)
-  crossing_at terminal ends route n f m =
+  crossing_at : (terminal : ℕ → Bool) (ends : List ℕ) (route : ℕ → List ℕ) (f : FoundRoute arcs sources (λ v. target v || terminal v) ends)
+      → Meeting ends route f.route → (c : Crossing arcs sources (λ v. target v || terminal v) ends route) × (c.at < vertex_bound arcs sources)
+  crossing_at terminal ends route f m =
       let s = split_at m.at (route m.owner) m.on in (
         record {
           end = f.end;
@@ -278,50 +67,49 @@ module _ (arcs : List (ℕ × ℕ)) (sources : List ℕ) (target : ℕ → Bool)
       )
 
   -- a found route that meets no route of the family
-  found_added : (terminal : ℕ → Bool) (ends : List ℕ) (route : ℕ → List ℕ) (n : ℕ) → AreRoutes arcs sources target terminal ends route
-      → (f : FoundRoute arcs sources n (λ v. target v || terminal v) ends)
+  found_added : (terminal : ℕ → Bool) (ends : List ℕ) (route : ℕ → List ℕ) → AreRoutes arcs sources target terminal ends route
+      → (f : FoundRoute arcs sources (λ v. target v || terminal v) ends)
       → ((v e : ℕ) → is_member v f.route ≡ true → is_member e ends ≡ true → is_member v (route e) ≡ false) → HasOneEndMore arcs sources target terminal ends
-  found_added terminal ends route n family f clear =
+  found_added terminal ends route family f clear =
       let i = f.is in
       record {
         end = f.end;
         new = f.avoids f.end (subst (λ z. is_member z f.route ≡ true) i.begins (first_of-member arcs sources f.route i.leads));
         route = with_route f.end f.route route;
         routes = AreRoutes-with_one arcs sources target terminal ends route f.end f.route family
-            (record { begins = i.begins; leads = i.leads; distinct = i.distinct; passes = λ v on other. (or_parts (target v) _ (i.passes v on other)).1 })
+            (record { begins = i.begins; leads = i.leads; distinct = i.distinct; inner = λ v on other. (or_parts (target v) _ (i.inner v on other)).1 })
             f.reaches clear;
       }
 
-  module _ (n : ℕ) (heads_below : (u v : ℕ) → has_arc arcs u v ≡ true → v < n) (sources_below : (v : ℕ) → is_member v sources ≡ true → v < n) where
-    -- how many vertices are no terminals
-    count_free : (ℕ → Bool) → ℕ
-    count_free terminal = length (those_below n (λ v. not (terminal v)))
+  -- how many vertices are no terminals
+  count_free : (ℕ → Bool) → ℕ
+  count_free terminal = length (those_below (vertex_bound arcs sources) (λ v. not (terminal v)))
 
-    fewer_free : (terminal : ℕ → Bool) (ends : List ℕ) (route : ℕ → List ℕ) (family : AreRoutes arcs sources target terminal ends route)
-        (c : Crossing arcs sources (λ v. target v || terminal v) ends route) → c.at < n
-        → count_free (cut_terminal arcs sources target terminal ends route family c) < count_free terminal
-    unfolding count_free
-    fewer_free terminal ends route family c below =
-        length-those_below_less n c.at (λ v. not (cut_terminal arcs sources target terminal ends route family c v)) (λ v. not (terminal v))
-        (λ v l free. not_from_false _ (or_parts (terminal v) _ (not-true _ free)).0) below
-        (not_from_true _ (or_right (terminal c.at) _ (is_member-middle c.at c.owner_front c.front)))
-        (not_from_false _ (at_free arcs sources target terminal ends route family c))
+  fewer_free : (terminal : ℕ → Bool) (ends : List ℕ) (route : ℕ → List ℕ) (family : AreRoutes arcs sources target terminal ends route)
+      (c : Crossing arcs sources (λ v. target v || terminal v) ends route) → c.at < vertex_bound arcs sources
+      → count_free (cut_terminal arcs sources target terminal ends route family c) < count_free terminal
+  unfolding count_free
+  fewer_free terminal ends route family c below =
+      length-those_below_less (vertex_bound arcs sources) c.at (λ v. not (cut_terminal arcs sources target terminal ends route family c v)) (λ v. not (terminal v))
+      (λ v l free. not_from_false _ (or_parts (terminal v) _ (not-true _ free)).0) below
+      (not_from_true _ (or_right (terminal c.at) _ (is_member-middle c.at c.owner_front c.front)))
+      (not_from_false _ (at_free arcs sources target terminal ends route family c))
 
-    step_by : (fuel : ℕ) (terminal : ℕ → Bool) (ends : List ℕ) (route : ℕ → List ℕ) → AreRoutes arcs sources target terminal ends route
-        → count_free terminal < fuel → HasOneEndMore arcs sources target terminal ends ⊎ HasRouteSeparator arcs sources target terminal ends
-    step_by zero terminal ends route family less = absurd (omega arith)
-    step_by (suc fuel) terminal ends route family less = elim (find_route arcs sources n (λ v. target v || terminal v) ends heads_below sources_below) [
-      | inr none ↦ inr (record { separator = ends; rises = family.rises; separates = none; size = refl })
-      | inl f ↦ elim (first_meeting ends route f.route) [
-        | inr clear ↦ inl (found_added terminal ends route n family f clear)
-        | inl m ↦ (let c = crossing_at terminal ends route n f m in
-            step_uncut terminal ends route family c.0
-            (step_by fuel _ _ _ (cut_routes arcs sources target terminal ends route family c.0)
-            (let fewer = fewer_free terminal ends route family c.0 c.1 in omega arith)))
-      ]
+  step_by : (fuel : ℕ) (terminal : ℕ → Bool) (ends : List ℕ) (route : ℕ → List ℕ) → AreRoutes arcs sources target terminal ends route
+      → count_free terminal < fuel → HasOneEndMore arcs sources target terminal ends ⊎ HasRouteSeparator arcs sources target terminal ends
+  step_by zero terminal ends route family less = absurd (omega arith)
+  step_by (suc fuel) terminal ends route family less = elim (find_route arcs sources (λ v. target v || terminal v) ends) [
+    | inr none ↦ inr (record { separator = ends; rises = family.rises; separates = none; size = refl })
+    | inl f ↦ elim (first_meeting ends route f.route) [
+      | inr clear ↦ inl (found_added terminal ends route family f clear)
+      | inl m ↦ (let c = crossing_at terminal ends route f m in
+          step_uncut terminal ends route family c.0
+          (step_by fuel _ _ _ (cut_routes arcs sources target terminal ends route family c.0)
+          (let fewer = fewer_free terminal ends route family c.0 c.1 in omega arith)))
     ]
+  ]
 
-    -- one end more, or a separator of as many vertices as there are ends
-    pub routes_step : (ends : List ℕ) (route : ℕ → List ℕ) → AreRoutes arcs sources target (λ v. false) ends route
-        → HasOneEndMore arcs sources target (λ v. false) ends ⊎ HasRouteSeparator arcs sources target (λ v. false) ends
-    routes_step ends route family = step_by (suc (count_free (λ v. false))) (λ v. false) ends route family (omega arith)
+  -- one end more, or a separator of as many vertices as there are ends
+  pub routes_step : (ends : List ℕ) (route : ℕ → List ℕ) → AreRoutes arcs sources target (λ v. false) ends route
+      → HasOneEndMore arcs sources target (λ v. false) ends ⊎ HasRouteSeparator arcs sources target (λ v. false) ends
+  routes_step ends route family = step_by (suc (count_free (λ v. false))) (λ v. false) ends route family (omega arith)

@@ -1,8 +1,8 @@
 -- Routes: paths of a directed graph from a source, read back from their end. To cut a path at a vertex is to leave out a front of its
 -- route, and a path that goes on to a further end has a route with a longer front. A family of routes is a set of ends with a route
 -- back from each.
-use Rattle.std.specs.Prelude.{◌≡◌, ℕ, Bool, true, false, ◌||◌, ◌==◌, if◌then◌else◌, List, [], ◌∷◌}
-use Rattle.mat_sets.specs.Sets.{is_member, AreDistinct, IsRising}
+use Rattle.std.specs.Prelude.{◌≡◌, ℕ, Bool, true, false, ◌||◌, ◌==◌, if◌then◌else◌, List, [], ◌∷◌, length}
+use Rattle.mat_sets.specs.Sets.{is_member, with_one, AreDistinct, IsRising}
 use Rattle.mat_flow.specs.Paths.{first_of, has_arc}
 
 -- each vertex has an arc from the next one, and the last is a source
@@ -17,7 +17,7 @@ pub record IsRoute (arcs : List (ℕ × ℕ)) (sources : List ℕ) (terminal : �
   pub begins : first_of route ≡ end
   pub leads : LeadsBack arcs sources route
   pub distinct : AreDistinct route
-  pub passes : (v : ℕ) → is_member v route ≡ true → (v == end) ≡ false → terminal v ≡ false
+  pub inner : (v : ℕ) → is_member v route ≡ true → (v == end) ≡ false → terminal v ≡ false
 
 -- a family of routes: each end is a target or a terminal, and no two routes share a vertex
 pub record AreRoutes (arcs : List (ℕ × ℕ)) (sources : List ℕ) (target terminal : ℕ → Bool) (ends : List ℕ) (route : ℕ → List ℕ) : Type 0 where
@@ -39,3 +39,17 @@ with_terminals terminal vertices v = terminal v || is_member v vertices
 pub record SeparatesRoutes (arcs : List (ℕ × ℕ)) (sources : List ℕ) (goal : ℕ → Bool) (separator : List ℕ) : Type 0 where
   pub meets : (route : List ℕ) → LeadsBack arcs sources route → goal (first_of route) ≡ true
       → (v : ℕ) × (is_member v route ≡ true) × (is_member v separator ≡ true)
+
+-- routes to these ends and to one more
+pub record HasOneEndMore (arcs : List (ℕ × ℕ)) (sources : List ℕ) (target terminal : ℕ → Bool) (ends : List ℕ) : Type 0 where
+  pub end : ℕ
+  pub new : is_member end ends ≡ false
+  pub route : ℕ → List ℕ
+  pub routes : AreRoutes arcs sources target terminal (with_one ends end) route
+
+-- a separator of as many vertices as there are ends
+pub record HasRouteSeparator (arcs : List (ℕ × ℕ)) (sources : List ℕ) (target terminal : ℕ → Bool) (ends : List ℕ) : Type 0 where
+  pub separator : List ℕ
+  pub rises : IsRising separator
+  pub separates : SeparatesRoutes arcs sources (λ v. target v || terminal v) separator
+  pub size : length separator ≡ length ends

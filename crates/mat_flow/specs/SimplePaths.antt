@@ -4,10 +4,10 @@ use Rattle.std.proofs.Common.{◌≡◌, ℕ, suc, ◌<◌, true, false, eqb, Li
 use Rattle.std.proofs.lemmas.Bool.{both_ways, cases_Bool, false_from_ne_true, false≢true, or_cases, or_left, or_right, or_parts}
 use Rattle.std.proofs.lemmas.List.Elements.{All-cons, All-head, All-nil, All-tail}
 use Rattle.std.specs.List.{concat}
-use Rattle.mat_sets.specs.Families.{AreDisjoint, indicator, multiplicity}
 use Rattle.mat_sets.specs.Sets.{is_member, AreDistinct}
 use Rattle.mat_sets.proofs.Families.{AreDisjoint-tail}
 use Rattle.mat_sets.proofs.Members.{is_member-append}
+use Rattle.mat_flow.specs.DisjointLists.{AreDisjoint-distinct, AreDisjoint-first}
 use Rattle.mat_flow.specs.ListParts.{AreDistinct-append, AreDistinct-apart, AreDistinct-rest, is_member-left, is_member-right, is_member-tail, split_at}
 use Rattle.mat_flow.specs.Paths.{first_of, has_arc, last_of, AreDisjointPaths, ArePathsApart, IsPath, IsPathBetween}
 
@@ -72,47 +72,6 @@ pub simple_path : (arcs : List (ℕ × ℕ)) (path : List ℕ) → IsPath arcs p
 simple_path arcs [] joined = absurd joined
 simple_path arcs (v ∷ []) joined = record { simple = v ∷ []; joined = tt; distinct = (refl, tt); first = refl; last = refl; inside = λ z m. m }
 simple_path arcs (v ∷ w ∷ rest) joined = simple_cons arcs v w rest joined.0 (simple_path arcs (w ∷ rest) joined.1)
-
--- ---- lists of which no two share a member
-
--- a member of one of the lists counts
-multiplicity-concat : (v : ℕ) (lists : List (List ℕ)) → is_member v (concat lists) ≡ true → 0 < multiplicity v lists
-unfolding multiplicity
-multiplicity-concat v [] m = absurd (false≢true m)
-multiplicity-concat v (xs ∷ lists) m = elim (or_cases (is_member v xs) (is_member v (concat lists)) (sym (is_member-append v xs (concat lists)) ∙ m)) [
-  | inl here ↦ (let one : indicator (is_member v xs) ≡ 1 = rw here in omega (arith, one))
-  | inr later ↦ (let some = multiplicity-concat v lists later in omega (arith, some))
-]
-
-multiplicity-none : (v : ℕ) (lists : List (List ℕ)) → is_member v (concat lists) ≡ false → multiplicity v lists ≡ 0
-unfolding multiplicity
-multiplicity-none v [] m = refl
-multiplicity-none v (xs ∷ lists) m =
-    let p = or_parts (is_member v xs) (is_member v (concat lists)) (sym (is_member-append v xs (concat lists)) ∙ m) in
-    let none : indicator (is_member v xs) ≡ 0 = rw p.0 in
-    omega (arith, none, multiplicity-none v lists p.1)
-
--- what is in the first is in none of the others
-pub AreDisjoint-first : (xs : List ℕ) (lists : List (List ℕ)) → AreDisjoint (xs ∷ lists) → (v : ℕ) → is_member v xs ≡ true → is_member v (concat lists) ≡ false
-unfolding multiplicity
-AreDisjoint-first xs lists apart v m = false_from_ne_true _ (λ k.
-    let once = apart.once v in
-    let one : indicator (is_member v xs) ≡ 1 = rw m in
-    let more = multiplicity-concat v lists k in
-    absurd (omega (arith, one)))
-
--- lists without repetition all together
-pub AreDisjoint-distinct : (lists : List (List ℕ)) → AreDistinct (concat lists) → AreDisjoint lists
-unfolding multiplicity
-AreDisjoint-distinct [] d = record { once = λ v. omega arith }
-AreDisjoint-distinct (xs ∷ lists) d = record {
-  once = λ v. elim (cases_Bool (is_member v xs)) [
-    | inl here ↦ (let one : indicator (is_member v xs) ≡ 1 = rw here in
-        omega (arith, one, multiplicity-none v lists (AreDistinct-apart xs (concat lists) v d here)))
-    | inr not_here ↦ (let none : indicator (is_member v xs) ≡ 0 = rw not_here in
-        omega (arith, none, (AreDisjoint-distinct lists (AreDistinct-rest xs (concat lists) d)).once v))
-  ];
-}
 
 -- ---- paths of which no two share a vertex
 
