@@ -1,5 +1,5 @@
 -- Lists of which no two share a member, joined end to end.
-use Rattle.std.proofs.Common.{◌≡◌, ℕ, ◌+◌, ◌<◌, ◌≤◌, true, false, List, [], ◌∷◌, inl, inr, refl, sym, ◌∙◌, arith}
+use Rattle.std.proofs.Common.{◌≡◌, ℕ, ◌<◌, true, false, List, [], ◌∷◌, inl, inr, refl, sym, ◌∙◌, arith}
 use Rattle.std.proofs.lemmas.Bool.{cases_Bool, false_from_ne_true, false≢true, or_cases, or_parts}
 use Rattle.std.specs.List.{concat}
 use Rattle.mat_sets.specs.Families.{AreDisjoint, indicator, multiplicity}

@@ -13,4 +13,5 @@ pub mod RouteReturns
 pub mod RouteSteps
 pub mod PathFamilies
 pub mod SimplePaths
+pub mod PathChoices
 pub mod PathLaws

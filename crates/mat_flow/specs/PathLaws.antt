@@ -41,13 +41,13 @@ module _ (arcs : List (ℕ × ℕ)) (sources targets : List ℕ) where
   one_more_disjoint : (paths : List (List ℕ)) → AreDisjointPaths arcs sources targets paths
       → HasOnePathMore arcs sources targets paths ⊎ HasSeparatorOf arcs sources targets (length paths)
   one_more_disjoint paths d = elim (routes_step arcs sources (λ v. is_member v targets) (ends_of paths) (route_to paths) (AreRoutes-paths arcs sources targets paths d)) [
-        | inl m ↦ inl (more_paths paths d m)
-        | inr s ↦ inr (record {
-          separator = s.separator;
-          separates = IsSeparator-routes arcs sources targets s.separator s.rises s.separates;
-          size = s.size ∙ length-ends_of paths d;
-        })
-      ]
+    | inl m ↦ inl (more_paths paths d m)
+    | inr s ↦ inr (record {
+      separator = s.separator;
+      separates = IsSeparator-routes arcs sources targets s.separator s.rises s.separates;
+      size = s.size ∙ length-ends_of paths d;
+    })
+  ]
 
   -- paths that share no vertex become one more, which end where they do and at one further target, or a separator is as large as they are many
   pub one_path_more : (paths : List (List ℕ)) → ArePathsApart arcs sources targets paths

@@ -4,24 +4,20 @@
 -- are cut where they cross, what was cut off becomes terminals, and the family with the crossing for an end has one end more or a
 -- separator by induction: fewer vertices are no terminals. If the end that came lies on a part that was cut off, its route goes on over that
 -- part, and the route to the crossing over the other one; if not, the route to the crossing goes on to its old end.
-use Rattle.std.proofs.Common.{◌≡◌, ℕ, zero, suc, ◌<◌, Bool, true, false, not, ◌||◌, eqb, List, [], ◌∷◌, ◌++◌, length, ◌⊎◌, inl, inr, refl, sym, ap, ◌∙◌, subst, arith, append_assoc}
-use Rattle.std.proofs.lemmas.Bool.Decides.{nat_tests}
-use Rattle.std.proofs.lemmas.Bool.{and_from, eq-eqb, false≢true, and_left, both_ways, cases_Bool, false_from_ne_true, not_from_false, not_from_true, not-true, or_from, or_left, or_parts, or_right}
+use Rattle.std.proofs.Common.{◌≡◌, ℕ, zero, suc, ◌<◌, Bool, true, false, not, ◌||◌, List, length, ◌⊎◌, inl, inr, refl, ap, ◌∙◌, subst, arith}
+use Rattle.std.proofs.lemmas.Bool.{not_from_false, not_from_true, not-true, or_left, or_parts, or_right}
 use Rattle.mat_sets.specs.Search.{those_below}
-use Rattle.mat_sets.specs.Sets.{is_member, with_one, without_one, IsRising}
+use Rattle.mat_sets.specs.Sets.{is_member}
 use Rattle.mat_sets.proofs.Cardinalities.{length-exchange_one}
-use Rattle.mat_sets.proofs.Changes.{with_one-returned}
-use Rattle.mat_sets.proofs.Members.{IsRising-without_one, is_member-append, is_member-with_one, is_member-without_one}
 use Rattle.mat_sets.proofs.Search.{length-those_below_less}
-use Rattle.mat_flow.specs.ListParts.{AreDistinct-apart, SplitAt, is_member-left, is_member-middle, is_member-right, is_member-tail, member_differs, members_differ, split_at}
-use Rattle.mat_flow.specs.Paths.{first_of, has_arc}
-use Rattle.mat_flow.specs.RouteCrossings.{Crossing, Meeting, at_free, at_outside, cut_ends, cut_routes, cut_terminal, first_meeting, kept_end, on_owner, owner_in_front, owner_route}
-use Rattle.mat_flow.specs.RouteExtensions.{IsExtension, IsRoute-extended, IsRoute-kept, terminal_missed, two_extended}
+use Rattle.mat_flow.specs.ListParts.{is_member-middle, split_at}
+use Rattle.mat_flow.specs.Paths.{first_of}
+use Rattle.mat_flow.specs.RouteCrossings.{Crossing, Meeting, at_free, at_outside, cut_ends, cut_routes, cut_terminal, first_meeting}
 use Rattle.mat_flow.specs.RouteFamilies.{AreRoutes-with_one}
 use Rattle.mat_flow.specs.RouteReturns.{one_end_more_uncut}
 use Rattle.mat_flow.specs.VertexBounds.{vertex_bound}
 use Rattle.mat_flow.specs.RouteParts.{first_of-member}
-use Rattle.mat_flow.specs.Routes.{HasOneEndMore, HasRouteSeparator, IsRoute, AreRoutes, SeparatesRoutes, with_route}
+use Rattle.mat_flow.specs.Routes.{HasOneEndMore, HasRouteSeparator, IsRoute, AreRoutes, with_route}
 use Rattle.mat_flow.specs.RouteSearch.{FoundRoute, find_route}
 
 module _ (arcs : List (ℕ × ℕ)) (sources : List ℕ) (target : ℕ → Bool) where
