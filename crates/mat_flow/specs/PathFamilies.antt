@@ -71,7 +71,7 @@ module _ (arcs : List (ℕ × ℕ)) (sources targets : List ℕ) where
   }
   AreRoutes-paths (path ∷ paths) d =
       let p = All-head (IsPathBetween arcs sources targets) path paths d.each in
-      AreRoutes-with_one arcs sources (λ v. is_member v targets) (λ v. false) (ends_of paths) (route_to paths) (last_of path) (reverse path)
+      AreRoutes-with_one (last_of path) (reverse path)
       (AreRoutes-paths paths (record { each = All-tail (IsPathBetween arcs sources targets) path paths d.each; distinct = AreDistinct-rest path (concat paths) d.distinct }))
       (record {
         begins = first_of-reverse arcs sources path p.joined;

@@ -18,8 +18,8 @@ pub record IsExtension (arcs : List (ℕ × ℕ)) (sources : List ℕ) (target t
   pub leaves : is_member m kept ≡ false
   pub clear : (v f : ℕ) → is_member v front ≡ true → is_member f ends ≡ true → is_member v (route f) ≡ false
 
-module _ (arcs : List (ℕ × ℕ)) (sources : List ℕ) (target terminal more : ℕ → Bool) (fewer : (v : ℕ) → more v ≡ false → terminal v ≡ false)
-    (ends : List ℕ) (route : ℕ → List ℕ) (family : AreRoutes arcs sources target more ends route) where
+module _ {arcs : List (ℕ × ℕ)} {sources : List ℕ} {target more : ℕ → Bool} {ends : List ℕ} {route : ℕ → List ℕ}
+    (family : AreRoutes arcs sources target more ends route) (terminal : ℕ → Bool) (fewer : (v : ℕ) → more v ≡ false → terminal v ≡ false) where
   -- a terminal that is no end is on no route
   pub terminal_missed : (v f : ℕ) → more v ≡ true → is_member v ends ≡ false → is_member f ends ≡ true → is_member v (route f) ≡ false
   terminal_missed v f is out m = false_from_ne_true _ (λ on. both_ways _ ((family.each f m).inner v on (members_differ v f ends out m)) is)
@@ -67,10 +67,10 @@ module _ (arcs : List (ℕ × ℕ)) (sources : List ℕ) (target terminal more :
       → AreRoutes arcs sources target terminal (with_one (with_one kept e1) e2)
       (with_route e2 (front2 ++ route m2) (with_route e1 (front1 ++ route m1) route))
   two_extended kept e1 m1 e2 m2 front1 front2 rises inside goals x1 x2 differ apart =
-      AreRoutes-with_one arcs sources target terminal (with_one kept e1) (with_route e1 (front1 ++ route m1) route) e2 (front2 ++ route m2)
-      (AreRoutes-with_one arcs sources target terminal kept route e1 (front1 ++ route m1)
-      (AreRoutes-terminals arcs sources target more terminal kept route (AreRoutes-fewer arcs sources target more ends kept route family rises inside)
-      goals (λ e v m on other. fewer v ((family.each e (inside.inside e m)).inner v on other)))
+      AreRoutes-with_one e2 (front2 ++ route m2)
+      (AreRoutes-with_one e1 (front1 ++ route m1)
+      (AreRoutes-terminals (AreRoutes-fewer family kept rises inside) terminal goals
+      (λ e v m on other. fewer v ((family.each e (inside.inside e m)).inner v on other)))
       x1.is x1.goal (λ v f on m. meets_none kept e1 m1 front1 x1 v f on (inside.inside f m) (members_differ m1 f kept x1.leaves m)))
       x2.is x2.goal
       (λ v f on m. cond_both (eqb f e1) (front1 ++ route m1) (route f) (λ path. is_member v path ≡ false)

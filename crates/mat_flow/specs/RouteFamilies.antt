@@ -5,21 +5,21 @@ use Rattle.mat_sets.specs.Sets.{is_member, with_one, IsRising, IsSubset}
 use Rattle.mat_sets.proofs.Members.{IsRising-with_one, set_members}
 use Rattle.mat_flow.specs.Routes.{IsRoute, AreRoutes, with_route}
 
-module _ (arcs : List (ℕ × ℕ)) (sources : List ℕ) (target : ℕ → Bool) where
-  pub AreRoutes-fewer : (terminal : ℕ → Bool) (ends fewer : List ℕ) (route : ℕ → List ℕ) → AreRoutes arcs sources target terminal ends route
-      → IsRising fewer → IsSubset fewer ends → AreRoutes arcs sources target terminal fewer route
-  AreRoutes-fewer terminal ends fewer route r rises s = record {
+module _ {arcs : List (ℕ × ℕ)} {sources : List ℕ} {target : ℕ → Bool} where
+  pub AreRoutes-fewer : {terminal : ℕ → Bool} {ends : List ℕ} {route : ℕ → List ℕ} → AreRoutes arcs sources target terminal ends route
+      → (fewer : List ℕ) → IsRising fewer → IsSubset fewer ends → AreRoutes arcs sources target terminal fewer route
+  AreRoutes-fewer r fewer rises s = record {
     rises = rises;
     goals = λ e m. r.goals e (s.inside e m);
     each = λ e m. r.each e (s.inside e m);
     apart = λ e f v m n. r.apart e f v (s.inside e m) (s.inside f n);
   }
 
-  pub AreRoutes-terminals : (terminal other : ℕ → Bool) (ends : List ℕ) (route : ℕ → List ℕ) → AreRoutes arcs sources target terminal ends route
-      → ((e : ℕ) → is_member e ends ≡ true → (target e || other e) ≡ true)
+  pub AreRoutes-terminals : {terminal : ℕ → Bool} {ends : List ℕ} {route : ℕ → List ℕ} → AreRoutes arcs sources target terminal ends route
+      → (other : ℕ → Bool) → ((e : ℕ) → is_member e ends ≡ true → (target e || other e) ≡ true)
       → ((e v : ℕ) → is_member e ends ≡ true → is_member v (route e) ≡ true → eqb v e ≡ false → other v ≡ false)
       → AreRoutes arcs sources target other ends route
-  AreRoutes-terminals terminal other ends route r goals inner = record {
+  AreRoutes-terminals r other goals inner = record {
     rises = r.rises;
     goals = goals;
     each = λ e m. let i = r.each e m in record { begins = i.begins; leads = i.leads; distinct = i.distinct; inner = λ v. inner e v m };
@@ -27,11 +27,11 @@ module _ (arcs : List (ℕ × ℕ)) (sources : List ℕ) (target : ℕ → Bool)
   }
 
   -- a route that meets none of the others
-  pub AreRoutes-with_one : (terminal : ℕ → Bool) (ends : List ℕ) (route : ℕ → List ℕ) (end : ℕ) (path : List ℕ)
+  pub AreRoutes-with_one : {terminal : ℕ → Bool} {ends : List ℕ} {route : ℕ → List ℕ} (end : ℕ) (path : List ℕ)
       → AreRoutes arcs sources target terminal ends route → IsRoute arcs sources terminal end path → (target end || terminal end) ≡ true
       → ((v f : ℕ) → is_member v path ≡ true → is_member f ends ≡ true → is_member v (route f) ≡ false)
       → AreRoutes arcs sources target terminal (with_one ends end) (with_route end path route)
-  AreRoutes-with_one terminal ends route end path r new goal misses = record {
+  AreRoutes-with_one {terminal} {ends} {route} end path r new goal misses = record {
     rises = IsRising-with_one ends end r.rises;
     goals = λ e m. elim (cases_Bool (eqb e end)) [
       | inl same ↦ ap (λ v. target v || terminal v) (eqb-true e end same) ∙ goal

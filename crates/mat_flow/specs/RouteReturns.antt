@@ -7,26 +7,22 @@ use Rattle.mat_sets.specs.Sets.{is_member, with_one, without_one}
 use Rattle.mat_sets.proofs.Changes.{with_one-returned}
 use Rattle.mat_sets.proofs.Members.{IsRising-without_one, is_member-append, is_member-with_one, is_member-without_one}
 use Rattle.mat_flow.specs.ListParts.{AreDistinct-apart, SplitAt, is_member-left, is_member-middle, is_member-right, is_member-tail, member_differs, members_differ, split_at}
-use Rattle.mat_flow.specs.RouteCrossings.{Crossing, at_outside, cut_ends, cut_terminal, kept_end, on_owner, owner_in_front, owner_route}
+use Rattle.mat_flow.specs.RouteCrossings.{Crossing, at_outside, cut_ends, cut_vertices, kept_end, on_owner, owner_in_front, owner_route}
 use Rattle.mat_flow.specs.RouteExtensions.{IsExtension, IsRoute-extended, IsRoute-kept, terminal_missed, two_extended}
 use Rattle.mat_flow.specs.RouteParts.{first_of-member}
-use Rattle.mat_flow.specs.Routes.{HasOneEndMore, IsRoute, AreRoutes, with_route}
+use Rattle.mat_flow.specs.Routes.{HasOneEndMore, IsRoute, AreRoutes, with_route, with_terminals}
 
-module _ (arcs : List (ℕ × ℕ)) (sources : List ℕ) (target terminal : ℕ → Bool) (ends : List ℕ) (route : ℕ → List ℕ)
-    (family : AreRoutes arcs sources target terminal ends route)
-    (c : Crossing arcs sources (λ v. target v || terminal v) ends route)
-    (more : HasOneEndMore arcs sources target (cut_terminal arcs sources target terminal ends route family c) (cut_ends arcs sources target terminal ends route family c)) where
+module _ {arcs : List (ℕ × ℕ)} {sources : List ℕ} {target terminal : ℕ → Bool} {ends : List ℕ} {route : ℕ → List ℕ}
+    (family : AreRoutes arcs sources target terminal ends route) (c : Crossing arcs sources (λ v. target v || terminal v) ends route)
+    (more : HasOneEndMore arcs sources target (with_terminals terminal (cut_vertices c)) (cut_ends c)) where
   abbrev kept : List ℕ
   kept = without_one ends c.owner
 
   abbrev grown : List ℕ
   grown = with_one (with_one kept c.at) more.end
 
-  abbrev wide : ℕ → Bool
-  wide = cut_terminal arcs sources target terminal ends route family c
-
-  narrow : (v : ℕ) → wide v ≡ false → terminal v ≡ false
-  narrow v h = (or_parts (terminal v) _ h).0
+  not_terminal : (v : ℕ) → with_terminals terminal (cut_vertices c) v ≡ false → terminal v ≡ false
+  not_terminal v h = (or_parts (terminal v) _ h).0
 
   -- the route to m goes on to e over this part
   abbrev Extended : ℕ → ℕ → List ℕ → Type 0
@@ -52,23 +48,20 @@ module _ (arcs : List (ℕ × ℕ)) (sources : List ℕ) (target terminal : ℕ 
   end_parts = or_parts (eqb more.end c.at) _ (sym (is_member-with_one more.end c.at kept) ∙ more.new)
 
   at_leaves : is_member c.at kept ≡ false
-  at_leaves = is_member-without_one c.at c.owner ends ∙ and_left (is_member c.at ends) _ (at_outside arcs sources target terminal ends route family c)
+  at_leaves = is_member-without_one c.at c.owner ends ∙ and_left (is_member c.at ends) _ (at_outside c)
 
   -- ---- the parts that were cut off: they share no vertex, are terminals, and hold no new end but one
 
-  owner_is : IsRoute arcs sources terminal c.owner (c.owner_front ++ c.at ∷ c.owner_rest)
-  owner_is = owner_route arcs sources target terminal ends route family c
-
   on_route : (v : ℕ) → is_member v c.owner_front ≡ true → is_member v (route c.owner) ≡ true
-  on_route v m = on_owner arcs sources target terminal ends route family c v (is_member-left v c.owner_front (c.at ∷ c.owner_rest) m)
+  on_route v m = on_owner c v (is_member-left v c.owner_front (c.at ∷ c.owner_rest) m)
 
   parts_apart : (v : ℕ) → is_member v c.owner_front ≡ true → is_member v c.front ≡ false
   parts_apart v m = false_from_ne_true _ (λ k. both_ways _ (c.clear v c.owner k c.owned) (on_route v m))
 
   owner_front_off : (v : ℕ) → is_member v c.owner_front ≡ true → eqb v more.end ≡ false → is_member v grown ≡ false
   owner_front_off v m other = not_grown v other
-      (or_parts (eqb v c.at) _ (AreDistinct-apart c.owner_front (c.at ∷ c.owner_rest) v owner_is.distinct m)).0
-      (false_from_ne_true _ (λ k. (let p = kept_end arcs sources target terminal ends route family c v k in
+      (or_parts (eqb v c.at) _ (AreDistinct-apart c.owner_front (c.at ∷ c.owner_rest) v (owner_route family c).distinct m)).0
+      (false_from_ne_true _ (λ k. (let p = kept_end c v k in
       let r = family.each v p.0 in
       both_ways _ (family.apart v c.owner v p.0 c.owned p.1
       (subst (λ z. is_member z (route v) ≡ true) r.begins (first_of-member arcs sources (route v) r.leads))) (on_route v m))))
@@ -85,8 +78,8 @@ module _ (arcs : List (ℕ × ℕ)) (sources : List ℕ) (target terminal : ℕ 
       → is_member m grown ≡ true → is_member m kept ≡ false
       → Extended c.owner m part
   owner_extension m part rest splits inside out from leaves = record {
-    is = IsRoute-extended arcs sources target terminal wide narrow grown more.route more.routes c.owner m part rest
-        (subst (IsRoute arcs sources terminal c.owner) splits owner_is) from (λ v on. clear v m on from);
+    is = IsRoute-extended more.routes terminal not_terminal c.owner m part rest
+        (subst (IsRoute arcs sources terminal c.owner) splits (owner_route family c)) from (λ v on. clear v m on from);
     goal = family.goals c.owner c.owned;
     from = from;
     leaves = leaves;
@@ -94,7 +87,7 @@ module _ (arcs : List (ℕ × ℕ)) (sources : List ℕ) (target terminal : ℕ 
   }
     where
       clear : (v f : ℕ) → is_member v part ≡ true → is_member f grown ≡ true → is_member v (more.route f) ≡ false
-      clear v f on = terminal_missed arcs sources target terminal wide narrow grown more.route more.routes v f
+      clear v f on = terminal_missed more.routes terminal not_terminal v f
           (or_right (terminal v) _ (is_member-left v c.owner_front (c.at ∷ c.front) (inside v on)))
           (owner_front_off v (inside v on) (member_differs v more.end part on out))
 
@@ -103,7 +96,7 @@ module _ (arcs : List (ℕ × ℕ)) (sources : List ℕ) (target terminal : ℕ 
       → is_member m grown ≡ true → is_member m kept ≡ false
       → Extended c.end m part
   found_extension m part rest splits inside out from leaves = record {
-    is = IsRoute-extended arcs sources target terminal wide narrow grown more.route more.routes c.end m part rest
+    is = IsRoute-extended more.routes terminal not_terminal c.end m part rest
         (subst (IsRoute arcs sources terminal c.end) splits found_is) from (λ v on. clear v m on from);
     goal = c.reaches;
     from = from;
@@ -116,7 +109,7 @@ module _ (arcs : List (ℕ × ℕ)) (sources : List ℕ) (target terminal : ℕ 
           record { begins = f.begins; leads = f.leads; distinct = f.distinct; inner = λ v on other. (or_parts (target v) _ (f.inner v on other)).1 }
 
       clear : (v f : ℕ) → is_member v part ≡ true → is_member f grown ≡ true → is_member v (more.route f) ≡ false
-      clear v f on = terminal_missed arcs sources target terminal wide narrow grown more.route more.routes v f
+      clear v f on = terminal_missed more.routes terminal not_terminal v f
           (or_right (terminal v) _ (is_member-right v c.owner_front (c.at ∷ c.front) (is_member-tail v c.at c.front (inside v on))))
           (front_off v (inside v on) (member_differs v more.end part on out))
 
@@ -126,16 +119,16 @@ module _ (arcs : List (ℕ × ℕ)) (sources : List ℕ) (target terminal : ℕ 
   one_end_more : (m1 e m2 : ℕ) (part1 part2 : List ℕ) → is_member e ends ≡ false
       → Extended c.owner m1 part1 → Extended e m2 part2 → eqb m2 m1 ≡ false
       → ((v : ℕ) → is_member v part2 ≡ true → is_member v part1 ≡ false) → HasOneEndMore arcs sources target terminal ends
-  one_end_more m1 e m2 part1 part2 new x1 x2 differ apart = record {
-    end = e;
-    new = new;
-    route = with_route e (part2 ++ more.route m2) (with_route c.owner (part1 ++ more.route m1) more.route);
-    routes = subst (λ a. AreRoutes arcs sources target terminal (with_one a e) (with_route e (part2 ++ more.route m2) (with_route c.owner (part1 ++ more.route m1) more.route)))
-        (with_one-returned ends c.owner family.rises c.owned)
-        (two_extended arcs sources target terminal wide narrow grown more.route more.routes kept c.owner m1 e m2 part1 part2
-        (IsRising-without_one ends c.owner family.rises) (record { inside = kept_grown })
-        (λ f m. family.goals f (kept_end arcs sources target terminal ends route family c f m).0) x1 x2 differ apart);
-  }
+  one_end_more m1 e m2 part1 part2 new x1 x2 differ apart =
+      let routes = with_route e (part2 ++ more.route m2) (with_route c.owner (part1 ++ more.route m1) more.route) in
+      record {
+        end = e;
+        new = new;
+        route = routes;
+        routes = subst (λ a. AreRoutes arcs sources target terminal (with_one a e) routes) (with_one-returned ends c.owner family.rises c.owned)
+            (two_extended more.routes terminal not_terminal kept c.owner m1 e m2 part1 part2 (IsRising-without_one ends c.owner family.rises)
+            (record { inside = kept_grown }) (λ f m. family.goals f (kept_end c f m).0) x1 x2 differ apart);
+      }
 
   -- a list that goes on after the part before a member
   regrouped : (v : ℕ) (xs before after others : List ℕ) → xs ≡ before ++ v ∷ after → xs ++ others ≡ before ++ v ∷ (after ++ others)
@@ -180,7 +173,7 @@ module _ (arcs : List (ℕ × ℕ)) (sources : List ℕ) (target terminal : ℕ 
       one_end_more c.at more.end more.end c.owner_front [] new
       (owner_extension c.at c.owner_front c.owner_rest refl (λ v m. m) out at_grown at_leaves)
       (record {
-        is = IsRoute-kept arcs sources target terminal wide narrow grown more.route more.routes more.end end_grown;
+        is = IsRoute-kept more.routes terminal not_terminal more.end end_grown;
         goal = (let goal = more.routes.goals more.end end_grown in
             without (target more.end) (terminal more.end) _ goal
             (is_member-append more.end c.owner_front (c.at ∷ c.front) ∙ or_from _ _ out (or_from _ _ end_parts.0 off)));
@@ -198,7 +191,7 @@ module _ (arcs : List (ℕ × ℕ)) (sources : List ℕ) (target terminal : ℕ 
       new : is_member more.end ends ≡ false
       new = false_from_ne_true _ (λ m. both_ways _ end_parts.1 (is_member-without_one more.end c.owner ends
           ∙ and_from (is_member more.end ends) _ m (not_from_false _
-          (members_differ more.end c.owner c.owner_front out (owner_in_front arcs sources target terminal ends route family c)))))
+          (members_differ more.end c.owner c.owner_front out (owner_in_front family c)))))
 
   pub one_end_more_uncut : HasOneEndMore arcs sources target terminal ends
   one_end_more_uncut = elim (cases_Bool (is_member more.end c.owner_front)) [

@@ -1,7 +1,7 @@
 -- Routes: paths of a directed graph from a source, read back from their end. To cut a path at a vertex is to leave out a front of its
 -- route, and a path that goes on to a further end has a route with a longer front. A family of routes is a set of ends with a route
 -- back from each.
-use Rattle.std.specs.Prelude.{◌≡◌, ℕ, Bool, true, false, ◌||◌, ◌==◌, if◌then◌else◌, List, [], ◌∷◌, length}
+use Rattle.std.specs.Prelude.{◌≡◌, ℕ, Bool, true, false, ◌||◌, ◌==◌, ◌⊎◌, if◌then◌else◌, List, [], ◌∷◌, length}
 use Rattle.mat_sets.specs.Sets.{is_member, with_one, AreDistinct, IsRising}
 use Rattle.mat_flow.specs.Paths.{first_of, has_arc}
 
@@ -53,3 +53,7 @@ pub record HasRouteSeparator (arcs : List (ℕ × ℕ)) (sources : List ℕ) (ta
   pub rises : IsRising separator
   pub separates : SeparatesRoutes arcs sources (λ v. target v || terminal v) separator
   pub size : length separator ≡ length ends
+
+-- one end more, or such a separator
+abbrev pub IsDecided : List (ℕ × ℕ) → List ℕ → (ℕ → Bool) → (ℕ → Bool) → List ℕ → Type 0
+IsDecided arcs sources target terminal ends = HasOneEndMore arcs sources target terminal ends ⊎ HasRouteSeparator arcs sources target terminal ends
