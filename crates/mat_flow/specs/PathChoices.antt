@@ -46,7 +46,7 @@ module _ (arcs : List (ℕ × ℕ)) (sources targets : List ℕ) where
       let family = AreRoutes-paths arcs sources targets paths d in
       let among : (v : ℕ) → is_member v some ≡ true → is_member v (ends_of paths) ≡ true = λ v m. is_member-ends_of v paths ∙ inside v m in
       record {
-        paths = paths_to arcs sources targets (ends_of paths) (route_to paths) family some;
-        disjoint = AreDisjointPaths-routes arcs sources targets (ends_of paths) (route_to paths) family some distinct among;
-        ends = last_of-paths_to arcs sources targets (ends_of paths) (route_to paths) family some among;
+        paths = paths_to (route_to paths) some;
+        disjoint = AreDisjointPaths-routes arcs sources targets family some distinct among;
+        ends = last_of-paths_to family some among;
       }

@@ -83,64 +83,7 @@ module _ (arcs : List (ℕ × ℕ)) (sources targets : List ℕ) where
       (λ v f on m. false_from_ne_true _ (λ k. both_ways _
       (AreDistinct-apart path (concat paths) v d.distinct (sym (is_member-reverse v path) ∙ on)) (route_to-inside paths f v k)))
 
-  -- ---- from routes to paths
-
-  module _ (ends : List ℕ) (route : ℕ → List ℕ) (family : AreRoutes arcs sources (λ v. is_member v targets) (λ v. false) ends route) where
-    -- the paths to some of the ends
-    abbrev pub paths_to : List ℕ → List (List ℕ)
-    paths_to some = map (λ e. reverse (route e)) some
-
-    path_between : (e : ℕ) → is_member e ends ≡ true → IsPathBetween arcs sources targets (reverse (route e))
-    path_between e m =
-        let r = family.each e m in
-        let p = IsPathTo-reverse arcs sources (route e) r.leads in
-        record {
-          joined = p.joined;
-          starts = p.starts;
-          ends = ap (λ v. is_member v targets) (p.ends ∙ r.begins) ∙ alone (is_member e targets) (family.goals e m);
-        }
-      where
-        alone : (a : Bool) → (a || false) ≡ true → a ≡ true
-        alone true h = refl
-        alone false h = h
-
-    pub last_of-paths_to : (some : List ℕ) → ((e : ℕ) → is_member e some ≡ true → is_member e ends ≡ true) → map last_of (paths_to some) ≡ some
-    last_of-paths_to [] inside = refl
-    last_of-paths_to (e ∷ some) inside =
-        let r = family.each e (inside e (is_member-head e some)) in
-        ap (λ v. v ∷ map last_of (paths_to some)) ((IsPathTo-reverse arcs sources (route e) r.leads).ends ∙ r.begins)
-        ∙ ap (λ l. e ∷ l) (last_of-paths_to some (λ f m. inside f (is_member-tail f e some m)))
-
-    paths_inside : (some : List ℕ) (v : ℕ) → is_member v (concat (paths_to some)) ≡ true → (e : ℕ) × (is_member e some ≡ true) × (is_member v (route e) ≡ true)
-    paths_inside [] v m = absurd (false≢true m)
-    paths_inside (e ∷ some) v m =
-        elim (or_cases (is_member v (reverse (route e))) _ (sym (is_member-append v (reverse (route e)) (concat (paths_to some))) ∙ m)) [
-          | inl here ↦ (e, is_member-head e some, sym (is_member-reverse v (route e)) ∙ here)
-          | inr later ↦ (let w = paths_inside some v later in (w.0, is_member-tail w.0 e some w.1, w.2))
-        ]
-
-    paths_distinct : (some : List ℕ) → AreDistinct some → ((e : ℕ) → is_member e some ≡ true → is_member e ends ≡ true) → AreDistinct (concat (paths_to some))
-    paths_distinct [] d inside = tt
-    paths_distinct (e ∷ some) d inside =
-        let here = inside e (is_member-head e some) in
-        AreDistinct-append (reverse (route e)) (concat (paths_to some)) (AreDistinct-reverse (route e) (family.each e here).distinct)
-        (paths_distinct some d.1 (λ f m. inside f (is_member-tail f e some m)))
-        (λ v on. false_from_ne_true _ (λ k. (let w = paths_inside some v k in
-        both_ways _ (family.apart w.0 e v (inside w.0 (is_member-tail w.0 e some w.1)) here (member_differs w.0 e some w.1 d.0) w.2)
-        (sym (is_member-reverse v (route e)) ∙ on))))
-
-    paths_each : (some : List ℕ) → ((e : ℕ) → is_member e some ≡ true → is_member e ends ≡ true) → All (IsPathBetween arcs sources targets) (paths_to some)
-    paths_each [] inside = All-nil (IsPathBetween arcs sources targets)
-    paths_each (e ∷ some) inside =
-        All-cons (IsPathBetween arcs sources targets) (reverse (route e)) (paths_to some) (path_between e (inside e (is_member-head e some)))
-        (paths_each some (λ f m. inside f (is_member-tail f e some m)))
-
-    pub AreDisjointPaths-routes : (some : List ℕ) → AreDistinct some → ((e : ℕ) → is_member e some ≡ true → is_member e ends ≡ true)
-        → AreDisjointPaths arcs sources targets (paths_to some)
-    AreDisjointPaths-routes some d inside = record { each = paths_each some inside; distinct = paths_distinct some d inside }
-
-  -- ---- separators
-
+  -- what meets each route meets each path
   pub IsSeparator-routes : (separator : List ℕ) → IsRising separator → SeparatesRoutes arcs sources (λ v. is_member v targets || false) separator
       → IsSeparator arcs sources targets separator
   IsSeparator-routes separator rises s = record {
@@ -149,3 +92,68 @@ module _ (arcs : List (ℕ × ℕ)) (sources targets : List ℕ) where
         (or_left _ false (ap (λ v. is_member v targets) (first_of-reverse arcs sources path p.joined) ∙ p.ends)) in
         (m.0, sym (is_member-reverse m.0 path) ∙ m.1, m.2));
   }
+
+-- ---- from routes to paths
+
+-- the routes to these ends, turned round
+abbrev pub paths_to : (ℕ → List ℕ) → List ℕ → List (List ℕ)
+paths_to route ends = map (λ e. reverse (route e)) ends
+
+paths_inside : (route : ℕ → List ℕ) (some : List ℕ) (v : ℕ) → is_member v (concat (paths_to route some)) ≡ true
+    → (e : ℕ) × (is_member e some ≡ true) × (is_member v (route e) ≡ true)
+paths_inside route [] v m = absurd (false≢true m)
+paths_inside route (e ∷ some) v m =
+    elim (or_cases (is_member v (reverse (route e))) _ (sym (is_member-append v (reverse (route e)) (concat (paths_to route some))) ∙ m)) [
+      | inl here ↦ (e, is_member-head e some, sym (is_member-reverse v (route e)) ∙ here)
+      | inr later ↦ (let w = paths_inside route some v later in (w.0, is_member-tail w.0 e some w.1, w.2))
+    ]
+
+module _ {arcs : List (ℕ × ℕ)} {sources : List ℕ} {target terminal : ℕ → Bool} {ends : List ℕ} {route : ℕ → List ℕ}
+    (family : AreRoutes arcs sources target terminal ends route) where
+  pub last_of-paths_to : (some : List ℕ) → ((e : ℕ) → is_member e some ≡ true → is_member e ends ≡ true) → map last_of (paths_to route some) ≡ some
+  last_of-paths_to [] inside = refl
+  last_of-paths_to (e ∷ some) inside =
+      let r = family.each e (inside e (is_member-head e some)) in
+      ap (λ v. v ∷ map last_of (paths_to route some)) ((IsPathTo-reverse arcs sources (route e) r.leads).ends ∙ r.begins)
+      ∙ ap (λ l. e ∷ l) (last_of-paths_to some (λ f m. inside f (is_member-tail f e some m)))
+
+  paths_distinct : (some : List ℕ) → AreDistinct some → ((e : ℕ) → is_member e some ≡ true → is_member e ends ≡ true)
+      → AreDistinct (concat (paths_to route some))
+  paths_distinct [] d inside = tt
+  paths_distinct (e ∷ some) d inside =
+      let here = inside e (is_member-head e some) in
+      AreDistinct-append (reverse (route e)) (concat (paths_to route some)) (AreDistinct-reverse (route e) (family.each e here).distinct)
+      (paths_distinct some d.1 (λ f m. inside f (is_member-tail f e some m)))
+      (λ v on. false_from_ne_true _ (λ k. (let w = paths_inside route some v k in
+      both_ways _ (family.apart w.0 e v (inside w.0 (is_member-tail w.0 e some w.1)) here (member_differs w.0 e some w.1 d.0) w.2)
+      (sym (is_member-reverse v (route e)) ∙ on))))
+
+module _ (arcs : List (ℕ × ℕ)) (sources targets : List ℕ) where
+  path_between : {ends : List ℕ} {route : ℕ → List ℕ} → AreRoutes arcs sources (λ v. is_member v targets) (λ v. false) ends route
+      → (e : ℕ) → is_member e ends ≡ true → IsPathBetween arcs sources targets (reverse (route e))
+  path_between {ends} {route} family e m =
+      let r = family.each e m in
+      let p = IsPathTo-reverse arcs sources (route e) r.leads in
+      record {
+        joined = p.joined;
+        starts = p.starts;
+        ends = ap (λ v. is_member v targets) (p.ends ∙ r.begins) ∙ alone (is_member e targets) (family.goals e m);
+      }
+    where
+      alone : (a : Bool) → (a || false) ≡ true → a ≡ true
+      alone true h = refl
+      alone false h = h
+
+  paths_each : {ends : List ℕ} {route : ℕ → List ℕ} → AreRoutes arcs sources (λ v. is_member v targets) (λ v. false) ends route
+      → (some : List ℕ) → ((e : ℕ) → is_member e some ≡ true → is_member e ends ≡ true)
+      → All (IsPathBetween arcs sources targets) (paths_to route some)
+  paths_each family [] inside = All-nil (IsPathBetween arcs sources targets)
+  paths_each {ends} {route} family (e ∷ some) inside =
+      All-cons (IsPathBetween arcs sources targets) (reverse (route e)) (paths_to route some) (path_between family e (inside e (is_member-head e some)))
+      (paths_each family some (λ f m. inside f (is_member-tail f e some m)))
+
+  -- a family of routes, as disjoint paths to some of its ends
+  pub AreDisjointPaths-routes : {ends : List ℕ} {route : ℕ → List ℕ} → AreRoutes arcs sources (λ v. is_member v targets) (λ v. false) ends route
+      → (some : List ℕ) → AreDistinct some → ((e : ℕ) → is_member e some ≡ true → is_member e ends ≡ true)
+      → AreDisjointPaths arcs sources targets (paths_to route some)
+  AreDisjointPaths-routes family some d inside = record { each = paths_each family some inside; distinct = paths_distinct family some d inside }

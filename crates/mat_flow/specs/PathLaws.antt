@@ -11,7 +11,7 @@ use Rattle.mat_sets.proofs.Ground.{AreDistinct-rising, length-distinct, length-d
 use Rattle.mat_sets.proofs.Members.{IsRising-nil, IsRising-union, is_member-head, is_member-union, is_member-with_one}
 use Rattle.mat_flow.specs.DisjointLists.{AreDisjoint-first}
 use Rattle.mat_flow.specs.ListParts.{is_member-left, is_member-right}
-use Rattle.mat_flow.specs.PathFamilies.{AreDisjointPaths-routes, AreDistinct-ends, AreRoutes-paths, IsSeparator-routes, ends_of, is_member-ends_of, last_of-paths_to, route_to}
+use Rattle.mat_flow.specs.PathFamilies.{AreDisjointPaths-routes, AreDistinct-ends, AreRoutes-paths, IsSeparator-routes, ends_of, is_member-ends_of, last_of-paths_to, paths_to, route_to}
 use Rattle.mat_flow.specs.Paths.{first_of, last_of, AreDisjointPaths, ArePathsApart, HasOnePathMore, HasSeparatorOf, IsLinking, IsPath, IsPathBetween, IsSeparator}
 use Rattle.mat_flow.specs.Routes.{HasOneEndMore}
 use Rattle.mat_flow.specs.RouteSteps.{routes_step}
@@ -27,10 +27,10 @@ module _ (arcs : List (ℕ × ℕ)) (sources targets : List ℕ) where
       → HasOneEndMore arcs sources (λ v. is_member v targets) (λ v. false) (ends_of paths) → HasOnePathMore arcs sources targets paths
   more_paths paths d m =
       let grown = with_one (ends_of paths) m.end in
-      let last = last_of-paths_to arcs sources targets grown m.route m.routes grown (λ e h. h) in
+      let last = last_of-paths_to m.routes grown (λ e h. h) in
       record {
-        larger = map (λ e. reverse (m.route e)) grown;
-        disjoint = AreDisjointPaths-routes arcs sources targets grown m.route m.routes grown (AreDistinct-rising grown m.routes.rises) (λ e h. h);
+        larger = paths_to m.route grown;
+        disjoint = AreDisjointPaths-routes arcs sources targets m.routes grown (AreDistinct-rising grown m.routes.rises) (λ e h. h);
         one_more = length-map grown (λ e. reverse (m.route e)) ∙ length-with_one (ends_of paths) m.end (IsRising-union (map last_of paths) [] IsRising-nil) m.new
             ∙ ap suc (length-ends_of paths d);
         further = m.end;

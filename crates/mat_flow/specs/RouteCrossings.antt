@@ -127,7 +127,7 @@ module _ {arcs : List (ℕ × ℕ)} {sources : List ℕ} {target terminal : ℕ 
   rest_inner : (v : ℕ) → is_member v (c.at ∷ c.owner_rest) ≡ true → eqb v c.at ≡ false → with_terminals terminal (cut_vertices c) v ≡ false
   rest_inner v m other =
       let off : is_member v c.owner_front ≡ false = false_from_ne_true _
-          (λ k. both_ways _ (AreDistinct-apart c.owner_front (c.at ∷ c.owner_rest) v owner_route.distinct k) m) in
+      (λ k. both_ways _ (AreDistinct-apart c.owner_front (c.at ∷ c.owner_rest) v owner_route.distinct k) m) in
       let inside = is_member-right v c.owner_front (c.at ∷ c.owner_rest) m in
       or_from (terminal v) _ (owner_route.inner v inside (members_differ v c.owner c.owner_front off owner_in_front))
       (not_cut c v off other (false_from_ne_true _ (λ k. both_ways _ (c.clear v c.owner k c.owned) (on_owner c v inside))))

@@ -4,7 +4,7 @@
 -- are cut where they cross, what was cut off becomes terminals, and the family with the crossing for an end has one end more or a
 -- separator by induction: fewer vertices are no terminals. If the end that came lies on a part that was cut off, its route goes on over that
 -- part, and the route to the crossing over the other one; if not, the route to the crossing goes on to its old end.
-use Rattle.std.proofs.Common.{◌≡◌, ℕ, zero, suc, ◌<◌, Bool, true, false, not, ◌||◌, List, length, ◌⊎◌, inl, inr, refl, ap, ◌∙◌, subst, arith}
+use Rattle.std.proofs.Common.{◌≡◌, ℕ, zero, suc, ◌<◌, Bool, true, false, not, ◌||◌, List, length, inl, inr, refl, ap, ◌∙◌, subst, arith}
 use Rattle.std.proofs.lemmas.Bool.{not_from_false, not_from_true, not-true, or_left, or_parts, or_right}
 use Rattle.mat_sets.specs.Search.{those_below}
 use Rattle.mat_sets.specs.Sets.{is_member}
