@@ -25,7 +25,8 @@ multiplicity-none v (xs ∷ lists) m =
     omega (arith, none, multiplicity-none v lists p.1)
 
 -- what is in the first is in none of the others
-pub AreDisjoint-first : (xs : List ℕ) (lists : List (List ℕ)) → AreDisjoint (xs ∷ lists) → (v : ℕ) → is_member v xs ≡ true → is_member v (concat lists) ≡ false
+pub AreDisjoint-first : (xs : List ℕ) (lists : List (List ℕ)) → AreDisjoint (xs ∷ lists) → (v : ℕ) → is_member v xs ≡ true
+    → is_member v (concat lists) ≡ false
 unfolding multiplicity
 AreDisjoint-first xs lists apart v m = false_from_ne_true _ (λ k.
     let once = apart.once v in

@@ -84,7 +84,8 @@ reverse-cons x xs = reverse-append (x ∷ []) xs
 pub is_member-reverse : (z : ℕ) (xs : List ℕ) → is_member z (reverse xs) ≡ is_member z xs
 is_member-reverse z [] = refl
 is_member-reverse z (x ∷ xs) =
-    ap (is_member z) (reverse-cons x xs) ∙ is_member-append z (reverse xs) (x ∷ []) ∙ turned (eqb z x) (is_member z (reverse xs)) (is_member z xs) (is_member-reverse z xs)
+    ap (is_member z) (reverse-cons x xs) ∙ is_member-append z (reverse xs) (x ∷ [])
+    ∙ turned (eqb z x) (is_member z (reverse xs)) (is_member z xs) (is_member-reverse z xs)
   where
     turned : (a b c : Bool) → b ≡ c → (b || (a || false)) ≡ (a || c)
     turned true true c e = refl
@@ -95,4 +96,4 @@ is_member-reverse z (x ∷ xs) =
 pub AreDistinct-reverse : (xs : List ℕ) → AreDistinct xs → AreDistinct (reverse xs)
 AreDistinct-reverse [] d = tt
 AreDistinct-reverse (x ∷ xs) d = rw (reverse-cons x xs) (AreDistinct-append (reverse xs) (x ∷ []) (AreDistinct-reverse xs d.1) (refl, tt)
-    (λ z m. or_from (eqb z x) false (false_from_ne_true _ (λ same. both_ways _ d.0 (ap (λ v. is_member v xs) (sym (eqb-true z x same)) ∙ sym (is_member-reverse z xs) ∙ m))) refl))
+    (λ z m. or_from (eqb z x) false (member_differs z x xs (sym (is_member-reverse z xs) ∙ m) d.0) refl))

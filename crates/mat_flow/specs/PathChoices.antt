@@ -11,7 +11,8 @@ use Rattle.mat_flow.specs.Paths.{last_of, AreDisjointPaths, IsPathBetween}
 
 module _ (arcs : List (ℕ × ℕ)) (sources targets : List ℕ) where
   -- paths end at targets
-  pub ends_are_targets : (paths : List (List ℕ)) → All (IsPathBetween arcs sources targets) paths → (v : ℕ) → is_member v (map last_of paths) ≡ true
+  pub ends_are_targets : (paths : List (List ℕ)) → All (IsPathBetween arcs sources targets) paths → (v : ℕ)
+      → is_member v (map last_of paths) ≡ true
       → is_member v targets ≡ true
   ends_are_targets [] all v m = absurd (false≢true m)
   ends_are_targets (path ∷ paths) all v m = elim (or_cases (eqb v (last_of path)) (is_member v (map last_of paths)) m) [
@@ -26,7 +27,8 @@ module _ (arcs : List (ℕ × ℕ)) (sources targets : List ℕ) where
       let p = All-head (IsPathBetween arcs sources targets) path paths all in
       All-cons (IsPathBetween arcs sources others) path paths
       (record { joined = p.joined; starts = p.starts; ends = inside (last_of path) (is_member-head (last_of path) (map last_of paths)) })
-      (for_targets others paths (All-tail (IsPathBetween arcs sources targets) path paths all) (λ v m. inside v (is_member-tail v (last_of path) (map last_of paths) m)))
+      (for_targets others paths (All-tail (IsPathBetween arcs sources targets) path paths all)
+      (λ v m. inside v (is_member-tail v (last_of path) (map last_of paths) m)))
 
   -- the same paths for other targets, among which their ends are
   pub AreDisjointPaths-targets : (others : List ℕ) (paths : List (List ℕ)) → AreDisjointPaths arcs sources targets paths

@@ -56,7 +56,8 @@ module _ (arcs : List (ℕ × ℕ)) (sources targets : List ℕ) where
   AreDistinct-ends (path ∷ paths) d =
       let rest = All-tail (IsPathBetween arcs sources targets) path paths d.each in
       let inside = last_inside path (All-head (IsPathBetween arcs sources targets) path paths d.each) in (
-        false_from_ne_true _ (λ m. both_ways _ (AreDistinct-apart path (concat paths) (last_of path) d.distinct inside) (ends_inside paths rest (last_of path) m)),
+        false_from_ne_true _ (λ m. both_ways _ (AreDistinct-apart path (concat paths) (last_of path) d.distinct inside)
+            (ends_inside paths rest (last_of path) m)),
         AreDistinct-ends paths (record { each = rest; distinct = AreDistinct-rest path (concat paths) d.distinct }),
       )
 
@@ -72,7 +73,10 @@ module _ (arcs : List (ℕ × ℕ)) (sources targets : List ℕ) where
   AreRoutes-paths (path ∷ paths) d =
       let p = All-head (IsPathBetween arcs sources targets) path paths d.each in
       AreRoutes-with_one (last_of path) (reverse path)
-      (AreRoutes-paths paths (record { each = All-tail (IsPathBetween arcs sources targets) path paths d.each; distinct = AreDistinct-rest path (concat paths) d.distinct }))
+      (AreRoutes-paths paths (record {
+        each = All-tail (IsPathBetween arcs sources targets) path paths d.each;
+        distinct = AreDistinct-rest path (concat paths) d.distinct;
+      }))
       (record {
         begins = first_of-reverse arcs sources path p.joined;
         leads = LeadsBack-reverse arcs sources path p.joined p.starts;
@@ -110,7 +114,8 @@ paths_inside route (e ∷ some) v m =
 
 module _ {arcs : List (ℕ × ℕ)} {sources : List ℕ} {target terminal : ℕ → Bool} {ends : List ℕ} {route : ℕ → List ℕ}
     (family : AreRoutes arcs sources target terminal ends route) where
-  pub last_of-paths_to : (some : List ℕ) → ((e : ℕ) → is_member e some ≡ true → is_member e ends ≡ true) → map last_of (paths_to route some) ≡ some
+  pub last_of-paths_to : (some : List ℕ) → ((e : ℕ) → is_member e some ≡ true → is_member e ends ≡ true)
+      → map last_of (paths_to route some) ≡ some
   last_of-paths_to [] inside = refl
   last_of-paths_to (e ∷ some) inside =
       let r = family.each e (inside e (is_member-head e some)) in

@@ -31,7 +31,8 @@ module _ (arcs : List (ℕ × ℕ)) (sources targets : List ℕ) where
       record {
         larger = paths_to m.route grown;
         disjoint = AreDisjointPaths-routes arcs sources targets m.routes grown (AreDistinct-rising grown m.routes.rises) (λ e h. h);
-        one_more = length-map grown (λ e. reverse (m.route e)) ∙ length-with_one (ends_of paths) m.end (IsRising-union (map last_of paths) [] IsRising-nil) m.new
+        one_more = length-map grown (λ e. reverse (m.route e))
+            ∙ length-with_one (ends_of paths) m.end (IsRising-union (map last_of paths) [] IsRising-nil) m.new
             ∙ ap suc (length-ends_of paths d);
         further = m.end;
         new = sym (is_member-ends_of m.end paths) ∙ m.new;
@@ -40,14 +41,16 @@ module _ (arcs : List (ℕ × ℕ)) (sources targets : List ℕ) where
 
   one_more_disjoint : (paths : List (List ℕ)) → AreDisjointPaths arcs sources targets paths
       → HasOnePathMore arcs sources targets paths ⊎ HasSeparatorOf arcs sources targets (length paths)
-  one_more_disjoint paths d = elim (routes_step arcs sources (λ v. is_member v targets) (ends_of paths) (route_to paths) (AreRoutes-paths arcs sources targets paths d)) [
-    | inl m ↦ inl (more_paths paths d m)
-    | inr s ↦ inr (record {
-      separator = s.separator;
-      separates = IsSeparator-routes arcs sources targets s.separator s.rises s.separates;
-      size = s.size ∙ length-ends_of paths d;
-    })
-  ]
+  one_more_disjoint paths d =
+      let family = AreRoutes-paths arcs sources targets paths d in
+      elim (routes_step arcs sources (λ v. is_member v targets) (ends_of paths) (route_to paths) family) [
+        | inl m ↦ inl (more_paths paths d m)
+        | inr s ↦ inr (record {
+          separator = s.separator;
+          separates = IsSeparator-routes arcs sources targets s.separator s.rises s.separates;
+          size = s.size ∙ length-ends_of paths d;
+        })
+      ]
 
   -- paths that share no vertex become one more, which end where they do and at one further target, or a separator is as large as they are many
   pub one_path_more : (paths : List (List ℕ)) → ArePathsApart arcs sources targets paths
@@ -74,7 +77,8 @@ module _ (arcs : List (ℕ × ℕ)) (sources targets : List ℕ) where
     pub members : (v : ℕ) → is_member v vertices ≡ true → is_member v separator ≡ true
     pub inside : (v : ℕ) → is_member v vertices ≡ true → is_member v (concat paths) ≡ true
 
-  met_vertices : (separator : List ℕ) → IsSeparator arcs sources targets separator → (paths : List (List ℕ)) → ArePathsApart arcs sources targets paths
+  met_vertices : (separator : List ℕ) → IsSeparator arcs sources targets separator → (paths : List (List ℕ))
+      → ArePathsApart arcs sources targets paths
       → MetVertices separator paths
   met_vertices separator s [] a = record { vertices = []; size = refl; distinct = tt; members = λ v m. absurd (false≢true m); inside = λ v m. m }
   met_vertices separator s (path ∷ paths) a =
@@ -107,7 +111,11 @@ module _ (arcs : List (ℕ × ℕ)) (sources targets : List ℕ) where
   sources_separate : IsSeparator arcs sources targets (union sources [])
   sources_separate = record {
     rises = IsRising-union sources [] IsRising-nil;
-    meets = λ path p. (first_of path, first_inside path p.joined, is_member-union (first_of path) sources [] ∙ or_left (is_member (first_of path) sources) false p.starts);
+    meets = λ path p. (
+      first_of path,
+      first_inside path p.joined,
+      is_member-union (first_of path) sources [] ∙ or_left (is_member (first_of path) sources) false p.starts,
+    );
   }
     where
       first_inside : (path : List ℕ) → IsPath arcs path → is_member (first_of path) path ≡ true
@@ -118,8 +126,10 @@ module _ (arcs : List (ℕ × ℕ)) (sources targets : List ℕ) where
   abbrev Linked : Type 0
   Linked = (paths : List (List ℕ)) × (separator : List ℕ) × IsLinking arcs sources targets paths separator
 
-  linked_from : (fuel : ℕ) (paths : List (List ℕ)) → AreDisjointPaths arcs sources targets paths → length (union sources []) < length paths + fuel → Linked
-  linked_from zero paths d less = absurd (omega (arith, at_most_a_separator (union sources []) paths sources_separate (ArePathsApart-disjoint arcs sources targets paths d)))
+  linked_from : (fuel : ℕ) (paths : List (List ℕ)) → AreDisjointPaths arcs sources targets paths
+      → length (union sources []) < length paths + fuel → Linked
+  linked_from zero paths d less =
+      absurd (omega (arith, at_most_a_separator (union sources []) paths sources_separate (ArePathsApart-disjoint arcs sources targets paths d)))
   linked_from (suc fuel) paths d less = elim (one_more_disjoint paths d) [
     | inl m ↦ linked_from fuel m.larger m.disjoint (let one = m.one_more in omega arith)
     | inr s ↦ (paths, s.separator, record { disjoint = d; separates = s.separates; as_many = sym s.size })

@@ -99,7 +99,8 @@ module _ {arcs : List (ℕ × ℕ)} {sources : List ℕ} {goal : ℕ → Bool} {
   pub kept_end : (e : ℕ) → is_member e (without_one ends c.owner) ≡ true → (is_member e ends ≡ true) × (eqb e c.owner ≡ false)
   kept_end e m = let p = and_parts (is_member e ends) _ (sym (is_member-without_one e c.owner ends) ∙ m) in (p.0, not-true _ p.1)
 
-  not_cut : (v : ℕ) → is_member v c.owner_front ≡ false → eqb v c.at ≡ false → is_member v c.front ≡ false → is_member v cut_vertices ≡ false
+  not_cut : (v : ℕ) → is_member v c.owner_front ≡ false → eqb v c.at ≡ false → is_member v c.front ≡ false
+      → is_member v cut_vertices ≡ false
   not_cut v a b d = is_member-append v c.owner_front (c.at ∷ c.front) ∙ or_from _ _ a (or_from _ _ b d)
 
 module _ {arcs : List (ℕ × ℕ)} {sources : List ℕ} {target terminal : ℕ → Bool} {ends : List ℕ} {route : ℕ → List ℕ}
@@ -118,7 +119,8 @@ module _ {arcs : List (ℕ × ℕ)} {sources : List ℕ} {target terminal : ℕ 
 
   -- ---- what meets none of the new terminals
 
-  other_uncut : (e v : ℕ) → is_member e ends ≡ true → eqb e c.owner ≡ false → is_member v (route e) ≡ true → is_member v (cut_vertices c) ≡ false
+  other_uncut : (e v : ℕ) → is_member e ends ≡ true → eqb e c.owner ≡ false → is_member v (route e) ≡ true
+      → is_member v (cut_vertices c) ≡ false
   other_uncut e v m other on =
       let off = family.apart e c.owner v m c.owned other on in
       let p = or_parts (is_member v c.owner_front) _ (sym (ap (is_member v) c.splits ∙ is_member-append v c.owner_front (c.at ∷ c.owner_rest)) ∙ off) in
@@ -157,4 +159,5 @@ module _ {arcs : List (ℕ × ℕ)} {sources : List ℕ} {target terminal : ℕ 
       })
       (or_right (target c.at) _ (or_right (terminal c.at) _ (is_member-middle c.at c.owner_front c.front)))
       (λ v e on m. let k = kept_end c e m in
-      false_from_ne_true _ (λ h. both_ways _ (family.apart e c.owner v k.0 c.owned k.1 h) (on_owner c v (is_member-right v c.owner_front (c.at ∷ c.owner_rest) on))))
+      false_from_ne_true _ (λ h. both_ways _ (family.apart e c.owner v k.0 c.owned k.1 h)
+      (on_owner c v (is_member-right v c.owner_front (c.at ∷ c.owner_rest) on))))

@@ -53,16 +53,19 @@ module _ {arcs : List (ℕ × ℕ)} {sources : List ℕ} {target more : ℕ → 
   -- ---- two extensions
 
   -- the extended route meets none that is not its own
-  meets_none : (kept : List ℕ) (e m : ℕ) (front : List ℕ) → IsExtension arcs sources target terminal ends route kept e m front → (v f : ℕ) → is_member v (front ++ route m) ≡ true
+  meets_none : (kept : List ℕ) (e m : ℕ) (front : List ℕ)
+      → IsExtension arcs sources target terminal ends route kept e m front → (v f : ℕ) → is_member v (front ++ route m) ≡ true
       → is_member f ends ≡ true → eqb m f ≡ false → is_member v (route f) ≡ false
-  meets_none kept e m front x v f on inside other = elim (or_cases (is_member v front) (is_member v (route m)) (sym (is_member-append v front (route m)) ∙ on)) [
-    | inl before ↦ x.clear v f before inside
-    | inr after ↦ family.apart m f v x.from inside other after
-  ]
+  meets_none kept e m front x v f on inside other =
+      elim (or_cases (is_member v front) (is_member v (route m)) (sym (is_member-append v front (route m)) ∙ on)) [
+        | inl before ↦ x.clear v f before inside
+        | inr after ↦ family.apart m f v x.from inside other after
+      ]
 
   pub two_extended : (kept : List ℕ) (e1 m1 e2 m2 : ℕ) (front1 front2 : List ℕ) → IsRising kept → IsSubset kept ends
       → ((e : ℕ) → is_member e kept ≡ true → (target e || terminal e) ≡ true)
-      → IsExtension arcs sources target terminal ends route kept e1 m1 front1 → IsExtension arcs sources target terminal ends route kept e2 m2 front2 → eqb m2 m1 ≡ false
+      → IsExtension arcs sources target terminal ends route kept e1 m1 front1
+      → IsExtension arcs sources target terminal ends route kept e2 m2 front2 → eqb m2 m1 ≡ false
       → ((v : ℕ) → is_member v front2 ≡ true → is_member v front1 ≡ false)
       → AreRoutes arcs sources target terminal (with_one (with_one kept e1) e2)
       (with_route e2 (front2 ++ route m2) (with_route e1 (front1 ++ route m1) route))

@@ -34,7 +34,8 @@ module _ (arcs : List (ℕ × ℕ)) (sources : List ℕ) where
   LeadsBack-cut v (u ∷ w ∷ front) rest other leads back = (leads.0, LeadsBack-cut v (w ∷ front) rest other leads.1 back)
 
   -- a route that goes on at v by another
-  pub LeadsBack-on : (v : ℕ) (front rest route : List ℕ) → LeadsBack arcs sources (front ++ v ∷ rest) → first_of route ≡ v → LeadsBack arcs sources route
+  pub LeadsBack-on : (v : ℕ) (front rest route : List ℕ) → LeadsBack arcs sources (front ++ v ∷ rest) → first_of route ≡ v
+      → LeadsBack arcs sources route
       → LeadsBack arcs sources (front ++ route)
   LeadsBack-on v front rest [] leads begins back = absurd back
   LeadsBack-on v front rest (u ∷ other) leads begins back =

@@ -35,7 +35,8 @@ module _ {arcs : List (ℕ × ℕ)} {sources : List ℕ} {target terminal : ℕ 
       (is_member-with_one c.at c.at kept ∙ or_left _ (is_member c.at kept) (eq-eqb c.at c.at refl))
 
   end_grown : is_member more.end grown ≡ true
-  end_grown = is_member-with_one more.end more.end (with_one kept c.at) ∙ or_left _ (is_member more.end (with_one kept c.at)) (eq-eqb more.end more.end refl)
+  end_grown = is_member-with_one more.end more.end (with_one kept c.at)
+      ∙ or_left _ (is_member more.end (with_one kept c.at)) (eq-eqb more.end more.end refl)
 
   kept_grown : (e : ℕ) → is_member e kept ≡ true → is_member e grown ≡ true
   kept_grown e m = is_member-with_one e more.end (with_one kept c.at) ∙ or_right (eqb e more.end) _

@@ -16,7 +16,8 @@ IsPath-index : (arcs : List (ℕ × ℕ)) (path : List ℕ) (k : ℕ) → length
     → ((i : ℕ) → suc i < length path → has_arc arcs (get_or path i 0) (get_or path (suc i) 0) ≡ true) → IsPath arcs path
 IsPath-index arcs [] k long steps = absurd (omega arith)
 IsPath-index arcs (v ∷ []) k long steps = tt
-IsPath-index arcs (v ∷ w ∷ rest) k long steps = (steps 0 (omega arith), IsPath-index arcs (w ∷ rest) (length rest) refl (λ i l. steps (suc i) (omega arith)))
+IsPath-index arcs (v ∷ w ∷ rest) k long steps =
+    (steps 0 (omega arith), IsPath-index arcs (w ∷ rest) (length rest) refl (λ i l. steps (suc i) (omega arith)))
 
 last_of-index : (path : List ℕ) (k : ℕ) → length path ≡ suc k → last_of path ≡ get_or path k 0
 last_of-index [] k long = absurd (omega arith)
@@ -46,7 +47,8 @@ module _ (arcs : List (ℕ × ℕ)) (sources : List ℕ) (goal : ℕ → Bool) (
   found_route vertices shortest =
       let w = shortest.walk in
       let c = shortest_walk_is_chordless (vertex_bound arcs sources) free_arc free_source goal vertices shortest in
-      let joined = IsPath-index arcs vertices w.arcs w.long (λ i l. (and_parts (has_arc arcs (get_or vertices i 0) (get_or vertices (suc i) 0)) _ (w.steps i l)).0) in
+      let joined = IsPath-index arcs vertices w.arcs w.long
+      (λ i l. (and_parts (has_arc arcs (get_or vertices i 0) (get_or vertices (suc i) 0)) _ (w.steps i l)).0) in
       let last = last_of-index vertices w.arcs w.long in
       record {
         end = last_of vertices;
@@ -62,13 +64,15 @@ module _ (arcs : List (ℕ × ℕ)) (sources : List ℕ) (goal : ℕ → Bool) (
         reaches = ap goal last ∙ w.last;
         avoids = λ v m. (let p = place_of_member v vertices (sym (is_member-reverse v vertices) ∙ m) in
             subst (λ z. is_member z avoided ≡ false) p.2 (free_at vertices w.first w.steps p.0 p.1));
-        below = λ v m. (let p = place_of_member v vertices (sym (is_member-reverse v vertices) ∙ m) in subst (λ z. z < vertex_bound arcs sources) p.2 (w.below p.0 p.1));
+        below = λ v m. (let p = place_of_member v vertices (sym (is_member-reverse v vertices) ∙ m) in
+            subst (λ z. z < vertex_bound arcs sources) p.2 (w.below p.0 p.1));
       }
     where
       before : (i k l : ℕ) → i < l → l ≡ suc k → (i ≡ k → ⊥) → suc i < l
       before i k l inside long other = elim (cases_lt (suc i) l) [ inl h ↦ h | inr h ↦ absurd (other (omega arith)) ]
 
-      starts : (vertices : List ℕ) (k : ℕ) → length vertices ≡ suc k → free_source (get_or vertices 0 0) ≡ true → is_member (first_of vertices) sources ≡ true
+      starts : (vertices : List ℕ) (k : ℕ) → length vertices ≡ suc k → free_source (get_or vertices 0 0) ≡ true
+          → is_member (first_of vertices) sources ≡ true
       starts [] k long first = absurd (omega arith)
       starts (v ∷ rest) k long first = (and_parts (is_member v sources) _ first).0
 
@@ -79,7 +83,8 @@ module _ (arcs : List (ℕ × ℕ)) (sources : List ℕ) (goal : ℕ → Bool) (
       free_at vertices first steps (suc i) l = not-true _ (and_parts (has_arc arcs (get_or vertices i 0) (get_or vertices (suc i) 0)) _ (steps i l)).1
 
   -- the end of a route is reached, or the route meets an avoided vertex
-  reached_or_met : (reached : List ℕ) → IsReachedSet (vertex_bound arcs sources) free_arc free_source reached → (route : List ℕ) → LeadsBack arcs sources route
+  reached_or_met : (reached : List ℕ) → IsReachedSet (vertex_bound arcs sources) free_arc free_source reached
+      → (route : List ℕ) → LeadsBack arcs sources route
       → (is_member (first_of route) reached ≡ true) ⊎ ((v : ℕ) × (is_member v route ≡ true) × (is_member v avoided ≡ true))
   reached_or_met reached r [] leads = absurd leads
   reached_or_met reached r (v ∷ []) leads = elim (cases_Bool (is_member v avoided)) [

@@ -63,7 +63,8 @@ module _ (arcs : List (ℕ × ℕ)) (sources : List ℕ) (target : ℕ → Bool)
   -- a found route that meets no route of the family
   found_added : (terminal : ℕ → Bool) (ends : List ℕ) (route : ℕ → List ℕ) → AreRoutes arcs sources target terminal ends route
       → (f : FoundRoute arcs sources (λ v. target v || terminal v) ends)
-      → ((v e : ℕ) → is_member v f.route ≡ true → is_member e ends ≡ true → is_member v (route e) ≡ false) → HasOneEndMore arcs sources target terminal ends
+      → ((v e : ℕ) → is_member v f.route ≡ true → is_member e ends ≡ true → is_member v (route e) ≡ false)
+      → HasOneEndMore arcs sources target terminal ends
   found_added terminal ends route family f clear =
       let i = f.is in
       record {

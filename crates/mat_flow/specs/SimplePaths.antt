@@ -24,7 +24,8 @@ last_of-rest v (u ∷ []) rest = refl
 last_of-rest v (u ∷ w ∷ front) rest = last_of-rest v (w ∷ front) rest
 
 -- one vertex more in front
-IsPath-cons : (arcs : List (ℕ × ℕ)) (v : ℕ) (path : List ℕ) → has_arc arcs v (first_of path) ≡ true → IsPath arcs path → IsPath arcs (v ∷ path)
+IsPath-cons : (arcs : List (ℕ × ℕ)) (v : ℕ) (path : List ℕ) → has_arc arcs v (first_of path) ≡ true → IsPath arcs path
+    → IsPath arcs (v ∷ path)
 IsPath-cons arcs v [] arc joined = absurd joined
 IsPath-cons arcs v (u ∷ path) arc joined = (arc, joined)
 
@@ -44,7 +45,8 @@ pub record SimplePath (arcs : List (ℕ × ℕ)) (path : List ℕ) : Type 0 wher
   pub inside : (v : ℕ) → is_member v simple ≡ true → is_member v path ≡ true
 
 -- v comes before a path: what leads back to v is left out
-simple_cons : (arcs : List (ℕ × ℕ)) (v w : ℕ) (rest : List ℕ) → has_arc arcs v w ≡ true → SimplePath arcs (w ∷ rest) → SimplePath arcs (v ∷ w ∷ rest)
+simple_cons : (arcs : List (ℕ × ℕ)) (v w : ℕ) (rest : List ℕ) → has_arc arcs v w ≡ true → SimplePath arcs (w ∷ rest)
+    → SimplePath arcs (v ∷ w ∷ rest)
 simple_cons arcs v w rest arc s = elim (cases_Bool (is_member v s.simple)) [
   | inl again ↦ (let p = split_at v s.simple again in
       record {
@@ -79,8 +81,10 @@ module _ (arcs : List (ℕ × ℕ)) (sources targets : List ℕ) where
   pub ArePathsApart-disjoint : (paths : List (List ℕ)) → AreDisjointPaths arcs sources targets paths → ArePathsApart arcs sources targets paths
   ArePathsApart-disjoint paths d = record { each = d.each; apart = AreDisjoint-distinct paths d.distinct }
 
-  pub ArePathsApart-tail : (path : List ℕ) (paths : List (List ℕ)) → ArePathsApart arcs sources targets (path ∷ paths) → ArePathsApart arcs sources targets paths
-  ArePathsApart-tail path paths a = record { each = All-tail (IsPathBetween arcs sources targets) path paths a.each; apart = AreDisjoint-tail path paths a.apart }
+  pub ArePathsApart-tail : (path : List ℕ) (paths : List (List ℕ)) → ArePathsApart arcs sources targets (path ∷ paths)
+      → ArePathsApart arcs sources targets paths
+  ArePathsApart-tail path paths a =
+      record { each = All-tail (IsPathBetween arcs sources targets) path paths a.each; apart = AreDisjoint-tail path paths a.apart }
 
   -- disjoint paths that end where these do, one after the other
   pub record SimplePaths (paths : List (List ℕ)) : Type 0 where

@@ -11,7 +11,8 @@ reverse_onto : (v : ℕ) (rest others : List ℕ) → reverse (v ∷ rest) ++ ot
 reverse_onto v rest others = ap (λ l. l ++ others) (reverse-cons v rest) ∙ append_assoc (reverse rest) (v ∷ []) others
 
 module _ (arcs : List (ℕ × ℕ)) (sources : List ℕ) where
-  LeadsBack-onto : (v : ℕ) (rest back : List ℕ) → LeadsBack arcs sources (v ∷ back) → IsPath arcs (v ∷ rest) → LeadsBack arcs sources (reverse rest ++ v ∷ back)
+  LeadsBack-onto : (v : ℕ) (rest back : List ℕ) → LeadsBack arcs sources (v ∷ back) → IsPath arcs (v ∷ rest)
+      → LeadsBack arcs sources (reverse rest ++ v ∷ back)
   LeadsBack-onto v [] back leads joined = leads
   LeadsBack-onto v (u ∷ rest) back leads joined =
       subst (LeadsBack arcs sources) (sym (reverse_onto u rest (v ∷ back))) (LeadsBack-onto u rest (v ∷ back) (joined.0, leads) joined.1)
