@@ -17,14 +17,14 @@ use Rattle.mat_flow.specs.RouteFamilies.{AreRoutes-with_one}
 use Rattle.mat_flow.specs.RouteReturns.{one_end_more_uncut}
 use Rattle.mat_flow.specs.VertexBounds.{vertex_bound}
 use Rattle.mat_flow.specs.RouteParts.{first_of-member}
-use Rattle.mat_flow.specs.Routes.{HasOneEndMore, IsDecided, IsRoute, AreRoutes, with_route, with_terminals}
+use Rattle.mat_flow.specs.Routes.{HasOneEndMore, GrowsOrIsSeparated, IsRoute, AreRoutes, with_route, with_terminals}
 use Rattle.mat_flow.specs.RouteSearch.{FoundRoute, find_route}
 
 module _ (arcs : List (ℕ × ℕ)) (sources : List ℕ) (target : ℕ → Bool) where
   -- what holds of the cut family: one end more, or a separator, which is one before the cut too
   step_uncut : {terminal : ℕ → Bool} {ends : List ℕ} {route : ℕ → List ℕ} → AreRoutes arcs sources target terminal ends route
       → (c : Crossing arcs sources (λ v. target v || terminal v) ends route)
-      → IsDecided arcs sources target (with_terminals terminal (cut_vertices c)) (cut_ends c) → IsDecided arcs sources target terminal ends
+      → GrowsOrIsSeparated arcs sources target (with_terminals terminal (cut_vertices c)) (cut_ends c) → GrowsOrIsSeparated arcs sources target terminal ends
   step_uncut family c (inl more) = inl (one_end_more_uncut family c more)
   step_uncut {terminal} {ends} family c (inr s) = inr (record {
     separator = s.separator;
@@ -91,7 +91,7 @@ module _ (arcs : List (ℕ × ℕ)) (sources : List ℕ) (target : ℕ → Bool)
       (not_from_false _ (at_free family c))
 
   step_by : (fuel : ℕ) (terminal : ℕ → Bool) (ends : List ℕ) (route : ℕ → List ℕ) → AreRoutes arcs sources target terminal ends route
-      → count_free terminal < fuel → IsDecided arcs sources target terminal ends
+      → count_free terminal < fuel → GrowsOrIsSeparated arcs sources target terminal ends
   step_by zero terminal ends route family less = absurd (omega arith)
   step_by (suc fuel) terminal ends route family less = elim (find_route arcs sources (λ v. target v || terminal v) ends) [
     | inr none ↦ inr (record { separator = ends; rises = family.rises; separates = none; size = refl })
@@ -105,5 +105,5 @@ module _ (arcs : List (ℕ × ℕ)) (sources : List ℕ) (target : ℕ → Bool)
 
   -- one end more, or a separator of as many vertices as there are ends
   pub routes_step : (ends : List ℕ) (route : ℕ → List ℕ) → AreRoutes arcs sources target (λ v. false) ends route
-      → IsDecided arcs sources target (λ v. false) ends
+      → GrowsOrIsSeparated arcs sources target (λ v. false) ends
   routes_step ends route family = step_by (suc (count_free (λ v. false))) (λ v. false) ends route family (omega arith)

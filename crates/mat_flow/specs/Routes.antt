@@ -55,5 +55,5 @@ pub record HasRouteSeparator (arcs : List (ℕ × ℕ)) (sources : List ℕ) (ta
   pub size : length separator ≡ length ends
 
 -- one end more, or such a separator
-abbrev pub IsDecided : List (ℕ × ℕ) → List ℕ → (ℕ → Bool) → (ℕ → Bool) → List ℕ → Type 0
-IsDecided arcs sources target terminal ends = HasOneEndMore arcs sources target terminal ends ⊎ HasRouteSeparator arcs sources target terminal ends
+abbrev pub GrowsOrIsSeparated : List (ℕ × ℕ) → List ℕ → (ℕ → Bool) → (ℕ → Bool) → List ℕ → Type 0
+GrowsOrIsSeparated arcs sources target terminal ends = HasOneEndMore arcs sources target terminal ends ⊎ HasRouteSeparator arcs sources target terminal ends
