@@ -1,7 +1,8 @@
-//! Disjoint paths of a directed graph, and the separators that bound their number.
+//! Disjoint paths of a directed graph, and the separators that bound their number (Schrijver, chapter 9).
 #![tactic(auto)]
 
 mod digraph;
+pub mod laws;
 mod link_table;
 mod linking;
 mod residual;

@@ -1,0 +1,31 @@
+//! Laws of disjoint paths and separators in a directed graph, for any lists of arcs, sources and targets.
+ghost use Rattle.std.specs.Prelude.{◌≡◌, ◌≤◌, ◌⊎◌, ℕ, List, length};
+ghost use Rattle.mat_flow.specs.Paths.{AreDisjointPaths, ArePathsApart, HasOnePathMore, HasSeparatorOf, IsLinking, IsSeparator};
+
+/// Where paths from sources to targets share no vertex with each other, there is one disjoint path more, at all their ends and
+/// one further target, or some separator has just as many vertices as they are many (Schrijver, chapter 9; Diestel, chapter 3).
+pub fn one_path_more()
+    ensures { (arcs : List (ℕ × ℕ)) (sources targets : List ℕ) (paths : List (List ℕ))
+        → ArePathsApart arcs sources targets paths
+        → HasOnePathMore arcs sources targets paths ⊎ HasSeparatorOf arcs sources targets (length paths) }
+{}
+
+/// Paths that share no vertex with each other are at most as many as any separator has vertices.
+pub fn at_most_a_separator()
+    ensures { (arcs : List (ℕ × ℕ)) (sources targets separator : List ℕ) (paths : List (List ℕ))
+        → IsSeparator arcs sources targets separator → ArePathsApart arcs sources targets paths
+        → length paths ≤ length separator }
+{}
+
+/// Of disjoint paths no two share a vertex, so the laws of paths that share none are laws of disjoint paths.
+pub fn disjoint_paths_are_apart()
+    ensures { (arcs : List (ℕ × ℕ)) (sources targets : List ℕ) (paths : List (List ℕ))
+        → AreDisjointPaths arcs sources targets paths → ArePathsApart arcs sources targets paths }
+{}
+
+/// Some disjoint paths are as many as some separator has vertices: the largest number of disjoint paths is the least size
+/// of a separator (Menger's theorem; Schrijver, chapter 9).
+pub fn menger()
+    ensures { (arcs : List (ℕ × ℕ)) (sources targets : List ℕ)
+        → (paths : List (List ℕ)) × (separator : List ℕ) × IsLinking arcs sources targets paths separator }
+{}
