@@ -2,6 +2,7 @@
 use Rattle.std.specs.Prelude.{◌≡◌, ℕ, suc, Bool, true, false, ◌&&◌, ◌||◌, ◌==◌, List, [], ◌∷◌, length, map}
 use Rattle.std.specs.List.{All, concat}
 use Rattle.mat_sets.specs.Sets.{is_member, IsRising, AreDistinct}
+use Rattle.mat_sets.specs.Families.{AreDisjoint}
 
 -- whether an arc leads from u to v
 abbrev pub has_arc : List (ℕ × ℕ) → ℕ → ℕ → Bool
@@ -36,7 +37,12 @@ pub record AreDisjointPaths (arcs : List (ℕ × ℕ)) (sources targets : List �
   pub each : All (IsPathBetween arcs sources targets) paths
   pub distinct : AreDistinct (concat paths)
 
--- a separator: a set of vertices that each path from a source to a target meets
+-- paths from sources to targets of which no two share a vertex; one path may meet a vertex twice
+pub record ArePathsApart (arcs : List (ℕ × ℕ)) (sources targets : List ℕ) (paths : List (List ℕ)) : Type 0 where
+  pub each : All (IsPathBetween arcs sources targets) paths
+  pub apart : AreDisjoint paths
+
+-- a separator: a rising list of vertices such that each path from a source to a target meets one of them
 pub record IsSeparator (arcs : List (ℕ × ℕ)) (sources targets separator : List ℕ) : Type 0 where
   pub rises : IsRising separator
   pub meets : (path : List ℕ) → IsPathBetween arcs sources targets path
