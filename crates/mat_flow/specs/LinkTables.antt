@@ -1,6 +1,6 @@
 -- Tables that hold disjoint paths: for each vertex the vertex before it on its path, itself where it is on no path, and None where a path
--- starts at it. Such a table is a matching of the heads of arcs with their tails, and one more path is an augmenting path of that
--- matching (Schrijver, chapters 9 and 16).
+-- starts at it. Such a table is a matching of the vertices with themselves and with the tails of the arcs that enter them; one path more is
+-- an augmenting path of that matching (Schrijver, chapters 9 and 16).
 use Rattle.std.specs.Prelude.{◌≡◌, ◌≢◌, ℕ, zero, suc, ◌+◌, ◌<◌, Bool, true, false, not, ◌&&◌, ◌||◌, ◌==◌, List, [], ◌∷◌, length, slice_index, slice_index_or, Option, Some, None}
 use Rattle.mat_sets.specs.Sets.{is_member}
 use Rattle.mat_flow.specs.Paths.{has_arc}

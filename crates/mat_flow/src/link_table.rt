@@ -4,7 +4,7 @@ ghost use Rattle.mat_flow.specs.LinkTables.{entry_at, IsShifted};
 
 use std::alloc::{AllocError, Global};
 
-/// The table of no path: each vertex has itself before it.
+/// The table of no path: each vertex has itself before it. The only error is want of memory.
 pub(crate) fn no_links(alloc: Global, vertices: u32) -> Result<Vec<Option<u32>>, AllocError>
     ensures long { IfOk result (λ before. length before.items ≡ vertices) }
     ensures own { IfOk result (λ before. (v : ℕ) → v < vertices → entry_at before.items v ≡ Some v) }

@@ -17,7 +17,9 @@ use std::alloc::{AllocError, Global};
 /// Disjoint paths from sources to targets, and a separator of as many vertices, which shows that there are no more.
 #[derive(Debug, Drop)]
 pub struct Linking {
+    /// Paths from sources to targets: no vertex stands in two of them, nor twice in one.
     pub paths: Vec<Walk>,
+    /// A set of vertices that each path from a source to a target meets.
     pub separator: ElemSet,
 }
 
@@ -39,8 +41,9 @@ fn linking_of(alloc: Global, residual: &Residual, reached: &ElemSet) -> Result<L
 }
 
 /// As many disjoint paths from sources to targets as there are, by shortest augmenting walks, and a separator of as many
-/// vertices (Menger's theorem; Schrijver, chapter 9). A vertex that is a source and a target is a path by itself. The time
-/// is at most that of one search of the bits of the graph for each path. The only error is want of memory.
+/// vertices (Menger's theorem; Schrijver, chapter 9). A vertex that is a source and a target may be a path by itself. There is
+/// one search for each path and one more, and each reads the rows of bits of the graph at most once. The only error is want of
+/// memory.
 pub fn linked(
     alloc: Global,
     graph: &Digraph,

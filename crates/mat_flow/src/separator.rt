@@ -6,7 +6,8 @@ ghost use Rattle.mat_flow.specs.LinkTables.{entry_at, IsFrontier};
 use mat_sets::ElemSet;
 use std::alloc::{AllocError, Global};
 
-/// The reached vertices that are before no reached vertex: on each path the last one that is reached.
+/// The reached vertices that are before no reached vertex: on each path the last one that is reached. The only error is want
+/// of memory.
 pub(crate) fn frontier(
     alloc: Global,
     before: &[Option<u32>],

@@ -7,7 +7,7 @@ ghost use Rattle.mat_flow.specs.Trails.{AreTrails, IsReversed, IsTrail};
 use crate::walk::Walk;
 use std::alloc::{AllocError, Global};
 
-/// The vertex after each vertex, by the vertex before each.
+/// The vertex after each vertex, by the vertex before each. The only error is want of memory.
 pub(crate) fn after_table(
     alloc: Global,
     vertices: u32,
@@ -43,7 +43,7 @@ fn path_from(alloc: Global, after: &[Option<u32>], start: u32) -> Result<Walk, A
     Ok(Walk::new(path))
 }
 
-/// The paths from those of these vertices that have none before them.
+/// The paths from those of these vertices that have none before them. The only error is want of memory.
 pub(crate) fn paths_among(
     alloc: Global,
     before: &[Option<u32>],

@@ -6,7 +6,7 @@ ghost use Rattle.std.specs.Cmp.Rules.{comparing};
 
 use std::marker::Model;
 
-/// The vertices of a walk, in its order.
+/// A walk along the arcs of a graph, by its vertices in order.
 #[derive(Debug, Drop)]
 pub struct Walk {
     items: Vec<u32>,
