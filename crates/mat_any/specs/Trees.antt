@@ -63,8 +63,8 @@ IsSound (graphic vertices edges) = IsGraph vertices edges
 IsSound (gf2 dim columns) = IsBinaryMatrix dim columns
 IsSound (dual t) = IsSound t
 IsSound (truncate cap t) = IsSound t
-IsSound (restrict kept t) = IsSound t × IsSet (element_count t) kept
-IsSound (contract away t) = IsSound t × IsSet (element_count t) away
+IsSound (restrict kept t) = IsSet (element_count t) kept × IsSound t
+IsSound (contract away t) = IsSet (element_count t) away × IsSound t
 
 -- how many matroids stand within one another
 abbrev pub depth : Tree → ℕ

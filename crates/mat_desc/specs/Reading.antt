@@ -85,8 +85,8 @@ repeat_at reader (suc n) s = do
   others ← repeat_at reader n first.1
   Ok (first.0 ∷ others.0, others.1)
 
--- The set of the elements below n that are left of line number `line`, and what is taken behind it. An element that is taken, since it stood
--- in this list before or in an earlier one that shares none with it, is repeated.
+-- The set that the words left of line number `line` list, of elements below n, and `taken` with these elements added. An element that
+-- is in `taken` already is repeated.
 unfoldable pub elements_from : ℕ → ℕ → List ℕ → List ℕ → List (List ℕ) → Result (List ℕ × List ℕ) Fault
 elements_from n line taken set [] = Ok (set, taken)
 elements_from n line taken set (word ∷ words) = do
@@ -245,30 +245,34 @@ gf2_at n words lines = do
   columns ← repeat_at (column_at dim.0) n lines
   Ok (gf2 dim.0 columns.0, columns.1)
 
--- the dual of a matroid, which `inner` reads, from the words behind its keyword on
-unfoldable pub dual_at : (LinesLeft → Result (Tree × LinesLeft) Fault) → WordsLeft → LinesLeft → Result (Tree × LinesLeft) Fault
+-- what reads a matroid from a line on, and the lines behind it
+abbrev pub TreeReader : Type 0
+TreeReader = LinesLeft → Result (Tree × LinesLeft) Fault
+
+-- the dual of a matroid, from the words behind its keyword on; `inner` reads the matroid within
+unfoldable pub dual_at : TreeReader → WordsLeft → LinesLeft → Result (Tree × LinesLeft) Fault
 dual_at inner words lines = do
   end ← ended_at words
   t ← inner lines
   Ok (dual t.0, t.1)
 
--- a truncation, likewise
-unfoldable pub truncate_at : (LinesLeft → Result (Tree × LinesLeft) Fault) → WordsLeft → LinesLeft → Result (Tree × LinesLeft) Fault
+-- a truncation, from the words behind its keyword on; `inner` reads the matroid within
+unfoldable pub truncate_at : TreeReader → WordsLeft → LinesLeft → Result (Tree × LinesLeft) Fault
 truncate_at inner words lines = do
   cap ← count_at 0 501 words
   end ← ended_at cap.1
   t ← inner lines
   Ok (truncate cap.0 t.0, t.1)
 
--- a restriction of a matroid on n elements, likewise
-unfoldable pub restrict_at : (LinesLeft → Result (Tree × LinesLeft) Fault) → ℕ → WordsLeft → LinesLeft → Result (Tree × LinesLeft) Fault
+-- a restriction on n elements, from the words behind its keyword on; `inner` reads the matroid within
+unfoldable pub restrict_at : TreeReader → ℕ → WordsLeft → LinesLeft → Result (Tree × LinesLeft) Fault
 restrict_at inner n words lines = do
   kept ← elements_at n [] words
   t ← inner lines
   Ok (restrict kept.0 t.0, t.1)
 
--- a contraction of a matroid on n elements, likewise
-unfoldable pub contract_at : (LinesLeft → Result (Tree × LinesLeft) Fault) → ℕ → WordsLeft → LinesLeft → Result (Tree × LinesLeft) Fault
+-- a contraction on n elements, from the words behind its keyword on; `inner` reads the matroid within
+unfoldable pub contract_at : TreeReader → ℕ → WordsLeft → LinesLeft → Result (Tree × LinesLeft) Fault
 contract_at inner n words lines = do
   away ← elements_at n [] words
   t ← inner lines
@@ -287,7 +291,7 @@ keyword_of word = if bytes_eq word (codes "uniform") then Some keywords.Uniform 
     (if bytes_eq word (codes "contract") then Some keywords.Contract else None))))))))
 
 -- a matroid on n elements, from the words behind its keyword in line number `line` on; `inner` reads a matroid within it
-abbrev pub kind_at : (LinesLeft → Result (Tree × LinesLeft) Fault) → ℕ → ℕ → Option Keyword → WordsLeft → LinesLeft → Result (Tree × LinesLeft) Fault
+abbrev pub kind_at : TreeReader → ℕ → ℕ → Option Keyword → WordsLeft → LinesLeft → Result (Tree × LinesLeft) Fault
 kind_at inner n line None words lines = Err (kinds.UnknownWord, line)
 kind_at inner n line (Some keywords.Uniform) words lines = uniform_at n words lines
 kind_at inner n line (Some keywords.Partition) words lines = partition_at n words lines
@@ -300,7 +304,7 @@ kind_at inner n line (Some keywords.Restrict) words lines = restrict_at inner n 
 kind_at inner n line (Some keywords.Contract) words lines = contract_at inner n words lines
 
 -- A matroid on n elements, in which at most so many matroids stand within one another. Where there is no room for one more, its line is
--- judged no further than its spaces, whatever its keyword is.
+-- still needed, has to be well spaced and to have words, and is then too deep, whatever its words are.
 unfoldable pub matroid_within : ℕ → ℕ → LinesLeft → Result (Tree × LinesLeft) Fault
 matroid_within zero n p = line_at p >>= λ line. Err (kinds.TooDeep, p.line)
 matroid_within (suc room) n p = do
