@@ -1,11 +1,11 @@
 -- Kind trees: what contracts see of any matroid.
 use Rattle.std.specs.Prelude.{ℕ, suc, Bool, List, length}
 use Rattle.mat_sets.specs.Sets.{IsSet}
-use Rattle.mat_sets.specs.Graphs.{ends_of}
+use Rattle.mat_sets.specs.Graphs.{ends_of, IsGraph}
 use Rattle.mat_count.specs.Counts.{is_uniform, is_counted}
 use Rattle.mat_count.specs.Partitions.{IsPartition}
 use Rattle.mat_count.specs.LaminarMatroids.{IsLaminar}
-use Rattle.mat_graphic.specs.Forests.{IsGraph, is_graphic}
+use Rattle.mat_graphic.specs.Forests.{is_graphic}
 use Rattle.mat_gf2.specs.Columns.{IsBinaryMatrix, column_of, is_gf2}
 use Rattle.mat_minors.specs.Minors.{is_dual, is_truncated, is_restricted, is_contracted}
 

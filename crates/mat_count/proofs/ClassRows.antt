@@ -5,7 +5,7 @@ use Rattle.std.proofs.lemmas.Bool.{cases_Bool, cases_eq, both_ways, and_parts, a
 use Rattle.mat_sets.specs.Sets.{is_member, IsRising, IsSet, with_one, without_one, intersection}
 use Rattle.mat_sets.specs.SetTests.{is_set}
 use Rattle.mat_sets.specs.Families.{indicator}
-use Rattle.mat_sets.proofs.Members.{IsRising-without_one, set_members}
+use Rattle.mat_sets.proofs.Members.{filter_same_at, IsRising-without_one, set_members}
 use Rattle.mat_sets.proofs.Changes.{with_one-returned}
 use Rattle.mat_sets.proofs.Ground.{IsSet-with_one, IsSet-without_one}
 use Rattle.mat_sets.proofs.SetTests.{IsSet-from_test, test_from-IsSet}
@@ -14,7 +14,7 @@ use Rattle.mat_laws.specs.Exchanges.{row_of}
 use Rattle.mat_laws.proofs.Rows.{row_outside}
 use Rattle.mat_count.specs.Counts.{is_within_caps, IsWithinCaps, is_counted}
 use Rattle.mat_count.specs.LaminarLaws.{IsWithinCaps-from_test, test_from-IsWithinCaps, counted_more, counted_same}
-use Rattle.mat_count.proofs.Filters.{filter_same_at, filter_whole}
+use Rattle.mat_count.proofs.Filters.{filter_whole}
 
 -- ---- counts in one set
 
@@ -27,7 +27,7 @@ counted-with_one S X x rising outside = elim (cases_Bool (is_member x S)) [
 ]
 
 -- an exchange
-counted-exchanged : (S I : List ℕ) (x y : ℕ) → IsRising I → is_member x I ≡ false → is_member y I ≡ true
+pub counted-exchanged : (S I : List ℕ) (x y : ℕ) → IsRising I → is_member x I ≡ false → is_member y I ≡ true
     → length (intersection (with_one (without_one I y) x) S) + indicator (is_member y S)
     ≡ length (intersection I S) + indicator (is_member x S)
 counted-exchanged S I x y rising outside inside =
@@ -68,7 +68,7 @@ counted n sets caps X set within =
     and_from (is_set n X) (is_within_caps sets caps X) (test_from-IsSet n X set) (test_from-IsWithinCaps sets caps X within)
 
 -- a set that has too many members in one listed set
-not_counted : (n : ℕ) (sets : List (List ℕ)) (caps X : List ℕ) (i : ℕ) → length caps ≡ length sets → i < length sets
+pub not_counted : (n : ℕ) (sets : List (List ℕ)) (caps X : List ℕ) (i : ℕ) → length caps ≡ length sets → i < length sets
     → get_or caps i 0 < count_in sets i X → is_counted n sets caps X ≡ false
 not_counted n sets caps X i same l many = false_from_ne_true (is_counted n sets caps X) (λ h.
     let tests = and_parts (is_set n X) (is_within_caps sets caps X) h in
@@ -99,7 +99,7 @@ module _ {n : ℕ} {sets : List (List ℕ)} {caps I : List ℕ} {x : ℕ} (o : I
   exchange y = with_one (without_one I y) x
 
   -- I + x where no listed set that holds x is full
-  added_with_room : ((i : ℕ) → i < length sets → stands_in sets i x ≡ true → count_in sets i I < get_or caps i 0)
+  pub added_with_room : ((i : ℕ) → i < length sets → stands_in sets i x ≡ true → count_in sets i I < get_or caps i 0)
       → is_counted n sets caps (with_one I x) ≡ true
   added_with_room room = counted n sets caps (with_one I x) (IsSet-with_one n I x o.set o.small) (record {
     at = λ i l. fits_added (stands_in sets i x) _ _ (get_or caps i 0)
@@ -107,7 +107,7 @@ module _ {n : ℕ} {sets : List (List ℕ)} {caps I : List ℕ} {x : ℕ} (o : I
   })
 
   -- I - y + x where each full listed set that holds x holds y as well
-  exchanged_with_room : (y : ℕ) → is_member y I ≡ true
+  pub exchanged_with_room : (y : ℕ) → is_member y I ≡ true
       → ((i : ℕ) → i < length sets → stands_in sets i x ≡ true → (count_in sets i I < get_or caps i 0) ⊎ (stands_in sets i y ≡ true))
       → is_counted n sets caps (exchange y) ≡ true
   exchanged_with_room y inside room =

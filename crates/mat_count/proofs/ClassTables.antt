@@ -1,10 +1,9 @@
 -- Tables of the classes of elements, and the numbers that are read off them: each loop begins well, and goes on well.
-use Rattle.std.proofs.Common.{◌≡◌, ℕ, ◌+◌, ◌<◌, ◌≤◌, ◌≢◌, ◌↔◌, Bool, true, false, cond, ◌||◌, not, eqb, List, [], ◌++◌, length, get_or, set, take, drop, length-take, replicate, Option, Some, None, refl, sym, ap, ◌∙◌, inl, inr, arith}
+use Rattle.std.proofs.Common.{◌≡◌, ℕ, ◌+◌, ◌<◌, ◌≤◌, ◌≢◌, ◌↔◌, Bool, true, false, cond, ◌||◌, not, eqb, List, [], length, get_or, set, take, length-take, replicate, Option, Some, None, refl, sym, ap, ◌∙◌, inl, inr, arith}
 use Rattle.std.proofs.lemmas.Bool.{cases_Bool, cases_eq, cases_lt, cases_order, both_ways, eq-eqb, ne_eqb, and_parts, false_from_ne_true}
 use Rattle.std.proofs.lemmas.List.{get_or-take, get_or_past, get_or-set_same, get_or-set_other, get_or-replicate, get_or_default, length-set, length-replicate}
 use Rattle.std.proofs.lemmas.List.Filters.{length-filter_both}
 use Rattle.std.proofs.lemmas.Grind.{get_or-set_at}
-use Rattle.std.proofs.Math.Seq.{take-append_seam}
 use Rattle.mat_sets.specs.Sets.{is_member, IsRising, AllBelow, intersection}
 use Rattle.mat_sets.specs.SetTests.{is_set}
 use Rattle.mat_sets.proofs.SetTests.{is_set-true}
@@ -72,10 +71,6 @@ IsClassTable-more count classes before table k inside apart was long entered = r
         ])
       ];
 }
-
--- a slice that was lent and is written back
-pub written_back : {X : Type 0} (n : ℕ) (new old : List X) → length new ≡ n → take n (new ++ drop (length new) old) ≡ new
-written_back n new old same = ap (λ k. take k (new ++ drop (length new) old)) (sym same) ∙ take-append_seam new (drop (length new) old)
 
 pub ruleset tables = (IsClassTable-none, IsClassTable-more)
 

@@ -60,27 +60,33 @@ tail_rises : (xs : List ℕ) (i : ℕ) → IsRising xs → i < length xs → Ris
 tail_rises xs i r l = (subst (RisesFrom (get_or xs i 0)) (drop_more xs i 0 l) (rest_rises 0 xs i r.rises l)).1
 
 -- the smaller next item stands in the first list alone
-pub IsWalked-first : (a b : List ℕ) (i j n : ℕ) → IsRising b → i < length a → j < length b → get_or a i 0 < get_or b j 0 → IsWalked a b i j n → IsWalked a b (i + 1) j n
+pub IsWalked-first : (a b : List ℕ) (i j n : ℕ) → IsRising b → i < length a → j < length b → get_or a i 0 < get_or b j 0
+    → IsWalked a b i j n → IsWalked a b (i + 1) j n
 IsWalked-first a b i j n t l m less w =
     let absent = missing_below (get_or a i 0) (get_or b j 0) (drop j b) less (rest_rises 0 b j t.rises m) in
-    let skipped = ap (λ A. length (intersection A (drop j b))) (drop_more a i 0 l) ∙ shared-skipped (get_or a i 0) (drop (i + 1) a) (drop j b) absent in
+    let skipped = ap (λ A. length (intersection A (drop j b))) (drop_more a i 0 l)
+    ∙ shared-skipped (get_or a i 0) (drop (i + 1) a) (drop j b) absent in
     let most = w.most in
     record { most = omega arith; shared = w.shared ∙ ap (λ k. n + k) skipped }
 
 -- or in the second alone
-pub IsWalked-second : (a b : List ℕ) (i j n : ℕ) → IsRising a → i < length a → j < length b → get_or b j 0 < get_or a i 0 → IsWalked a b i j n → IsWalked a b i (j + 1) n
+pub IsWalked-second : (a b : List ℕ) (i j n : ℕ) → IsRising a → i < length a → j < length b → get_or b j 0 < get_or a i 0
+    → IsWalked a b i j n → IsWalked a b i (j + 1) n
 IsWalked-second a b i j n r l m less w =
     let absent = missing_below (get_or b j 0) (get_or a i 0) (drop i a) less (rest_rises 0 a i r.rises l) in
-    let skipped = ap (λ B. length (intersection (drop i a) B)) (drop_more b j 0 m) ∙ shared-other (get_or b j 0) (drop i a) (drop (j + 1) b) absent in
+    let skipped = ap (λ B. length (intersection (drop i a) B)) (drop_more b j 0 m)
+    ∙ shared-other (get_or b j 0) (drop i a) (drop (j + 1) b) absent in
     record { most = w.most; shared = w.shared ∙ ap (λ k. n + k) skipped }
 
 -- or both next items are one
-pub IsWalked-both : (a b : List ℕ) (i j n : ℕ) → IsRising a → i < length a → j < length b → get_or b j 0 ≤ get_or a i 0 → get_or a i 0 ≤ get_or b j 0 → IsWalked a b i j n → IsWalked a b (i + 1) (j + 1) (n + 1)
+pub IsWalked-both : (a b : List ℕ) (i j n : ℕ) → IsRising a → i < length a → j < length b → get_or b j 0 ≤ get_or a i 0
+    → get_or a i 0 ≤ get_or b j 0 → IsWalked a b i j n → IsWalked a b (i + 1) (j + 1) (n + 1)
 IsWalked-both a b i j n r l m low high w =
     let same : get_or a i 0 ≡ get_or b j 0 = omega arith in
     let inside = ap (λ k. is_member k (get_or b j 0 ∷ drop (j + 1) b)) same ∙ is_member-head (get_or b j 0) (drop (j + 1) b) in
     let outside = missing_below (get_or b j 0) (suc (get_or a i 0)) (drop (i + 1) a) (omega arith) (tail_rises a i r l) in
-    let next = ap (λ A. length (intersection A (drop j b))) (drop_more a i 0 l) ∙ ap (λ B. length (intersection (get_or a i 0 ∷ drop (i + 1) a) B)) (drop_more b j 0 m) in
+    let next = ap (λ A. length (intersection A (drop j b))) (drop_more a i 0 l)
+    ∙ ap (λ B. length (intersection (get_or a i 0 ∷ drop (i + 1) a) B)) (drop_more b j 0 m) in
     let one = shared-found (get_or a i 0) (drop (i + 1) a) (get_or b j 0 ∷ drop (j + 1) b) inside in
     let rest = shared-other (get_or b j 0) (drop (i + 1) a) (drop (j + 1) b) outside in
     let most = w.most in
@@ -103,13 +109,15 @@ IsWalked-second_ended a b i j n past w =
 pub ruleset walking = (IsWalked-start)
 
 -- where n members are shared, each set has more exactly where it has one alone
-crosses-from_count : (a b : List ℕ) (n : ℕ) → IsRising a → IsRising b → n ≡ length (intersection a b) → crosses a b ≡ (ltb 0 n && ltb n (min (length a) (length b)))
+crosses-from_count : (a b : List ℕ) (n : ℕ) → IsRising a → IsRising b → n ≡ length (intersection a b)
+    → crosses a b ≡ (ltb 0 n && ltb n (min (length a) (length b)))
 unfolding crosses
 crosses-from_count a b n r t is =
     let first = length-minus-intersection a b r in
     let second = length-minus-intersection b a t in
     let turned = ap length (intersection-commute b a t r) in
-    rw (sym is) (ap (λ z. ltb 0 n && z) (both_tests 0 (length (minus a b)) (length (minus b a)) n (min (length a) (length b)) (λ l m. omega arith) (λ l. omega arith) (λ l. omega arith)))
+    rw (sym is) (ap (λ z. ltb 0 n && z) (both_tests 0 (length (minus a b)) (length (minus b a)) n (min (length a) (length b))
+    (λ l m. omega arith) (λ l. omega arith) (λ l. omega arith)))
   where
     both_tests : (i j k l m : ℕ) → (i < j → i < k → l < m) → (l < m → i < j) → (l < m → i < k) → (ltb i j && ltb i k) ≡ ltb l m
     both_tests i j k l m both first second = elim (cases_lt l m) [
@@ -120,11 +128,14 @@ crosses-from_count a b n r t is =
           absurd (omega arith)))
     ]
 
-pub crosses-some : (a b : List ℕ) (n : ℕ) → IsRising a → IsRising b → n ≡ length (intersection a b) → 0 < n → crosses a b ≡ ltb n (min (length a) (length b))
+pub crosses-some : (a b : List ℕ) (n : ℕ) → IsRising a → IsRising b → n ≡ length (intersection a b) → 0 < n
+    → crosses a b ≡ ltb n (min (length a) (length b))
 crosses-some a b n r t is some = crosses-from_count a b n r t is ∙ ap (λ z. z && ltb n (min (length a) (length b))) (lt-ltb 0 n some)
 
-pub crosses-none : (a b : List ℕ) (n : ℕ) → IsRising a → IsRising b → n ≡ length (intersection a b) → n ≤ 0 → crosses a b ≡ ltb 0 n
-crosses-none a b n r t is none = crosses-from_count a b n r t is ∙ ap (λ z. z && ltb n (min (length a) (length b))) (le-ltb 0 n none) ∙ sym (le-ltb 0 n none)
+pub crosses-none : (a b : List ℕ) (n : ℕ) → IsRising a → IsRising b → n ≡ length (intersection a b) → n ≤ 0
+    → crosses a b ≡ ltb 0 n
+crosses-none a b n r t is none = crosses-from_count a b n r t is ∙ ap (λ z. z && ltb n (min (length a) (length b))) (le-ltb 0 n none)
+    ∙ sym (le-ltb 0 n none)
 
 -- ---- the first pair
 
@@ -138,14 +149,16 @@ before sets b k l = get_or-take b sets k [] l
 pub NestedBefore-none : (sets : List (List ℕ)) → NestedBefore sets 0
 NestedBefore-none sets = λ i j l m. absurd (omega arith)
 
-pub NestedBefore-more : (sets : List (List ℕ)) (b : ℕ) → b < length sets → NoneCrosses (take b sets) (get_or sets b []) → NestedBefore sets b → NestedBefore sets (b + 1)
+pub NestedBefore-more : (sets : List (List ℕ)) (b : ℕ) → b < length sets → NoneCrosses (take b sets) (get_or sets b [])
+    → NestedBefore sets b → NestedBefore sets (b + 1)
 NestedBefore-more sets b inside free nested = λ i j l m. elim (cases_eq j b) [
   | inl same ↦ ap (λ k. crosses (get_or sets i []) (get_or sets k [])) same
       ∙ ap (λ S. crosses S (get_or sets b [])) (sym (before sets b i (omega arith))) ∙ free.none i (omega (arith, length-take b sets))
   | inr other ↦ nested i j l (omega arith)
 ]
 
-pub IsFirstPair-here : (sets : List (List ℕ)) (a b : ℕ) → b < length sets → IsFirstCrossing (take b sets) (get_or sets b []) a → NestedBefore sets b → IsFirstPair sets a b
+pub IsFirstPair-here : (sets : List (List ℕ)) (a b : ℕ) → b < length sets → IsFirstCrossing (take b sets) (get_or sets b []) a
+    → NestedBefore sets b → IsFirstPair sets a b
 IsFirstPair-here sets a b inside found nested =
     let listed = found.listed in
     let less : a < b = omega (arith, length-take b sets) in

@@ -1,22 +1,53 @@
--- Filters of a list by tests that agree at its items, item by item.
-use Rattle.std.proofs.Common.{◌≡◌, ℕ, Bool, true, cond, eqb, List, [], ◌∷◌, refl, ap}
-use Rattle.std.proofs.lemmas.Bool.{or_right}
+-- Filters of a list: by a test that each item passes, and collected item by item in rising order.
+use Rattle.std.proofs.Common.{◌≡◌, ℕ, ◌+◌, ◌<◌, Bool, true, false, ◌&&◌, ◌||◌, cond, eqb, List, [], ◌∷◌, length, get_or, take, refl, sym, ap, ◌∙◌, inl, inr, append-nil}
+use Rattle.std.proofs.lemmas.Bool.{cases_eq, both_ways, ne_eqb, or_right}
+use Rattle.std.proofs.lemmas.List.Elements.{filter_more}
 use Rattle.std.specs.List.{filter}
-use Rattle.mat_sets.specs.Sets.{is_member}
-use Rattle.mat_sets.proofs.Members.{is_member-head}
-
--- tests that agree at the items keep the same items
-pub filter_same_at : (p q : ℕ → Bool) (xs : List ℕ) → ((y : ℕ) → is_member y xs ≡ true → p y ≡ q y) → filter p xs ≡ filter q xs
-filter_same_at p q [] h = refl
-filter_same_at p q (x ∷ xs) h =
-    both (p x) (q x) x (filter p xs) (filter q xs) (h x (is_member-head x xs))
-    (filter_same_at p q xs (λ y m. h y (or_right (eqb y x) (is_member y xs) m)))
-  where
-    both : (a b : Bool) (x : ℕ) (s t : List ℕ) → a ≡ b → s ≡ t → cond a (x ∷ s) s ≡ cond b (x ∷ t) t
-    both a b x s t e f = cc
+use Rattle.mat_sets.specs.Sets.{is_member, IsRising, with_one}
+use Rattle.mat_sets.proofs.Members.{same_members, is_member-head, is_member-filter, is_member-with_one, RisesFrom-filter, IsRising-with_one}
+use Rattle.mat_sets.proofs.Steps.{IsRising-take, is_member-take_more}
 
 -- a test that each item passes keeps them all
 pub filter_whole : (p : ℕ → Bool) (xs : List ℕ) → ((y : ℕ) → is_member y xs ≡ true → p y ≡ true) → filter p xs ≡ xs
 filter_whole p [] h = refl
 filter_whole p (x ∷ xs) h =
     rw (h x (is_member-head x xs)) (ap (λ t. x ∷ t) (filter_whole p xs (λ y m. h y (or_right (eqb y x) (is_member y xs) m))))
+
+-- ---- item by item
+
+pub IsRising-filter : (p : ℕ → Bool) (xs : List ℕ) → IsRising xs → IsRising (filter p xs)
+IsRising-filter p xs r = record { rises = RisesFrom-filter p 0 xs r.rises }
+
+-- those found before a place rise
+pub IsRising-found : (p : ℕ → Bool) (xs found : List ℕ) (i : ℕ) → IsRising xs → found ≡ filter p (take i xs) → IsRising found
+IsRising-found p xs found i r is = rw is (IsRising-filter p (take i xs) (IsRising-take xs i r))
+
+-- the next item passes
+pub filter-found : (p : ℕ → Bool) (xs : List ℕ) (i : ℕ) → IsRising xs → i < length xs → p (get_or xs i 0) ≡ true
+    → with_one (filter p (take i xs)) (get_or xs i 0) ≡ filter p (take (i + 1) xs)
+filter-found p xs i r l passes =
+    same_members _ _ (IsRising-with_one _ x (IsRising-filter p (take i xs) (IsRising-take xs i r)))
+    (IsRising-filter p (take (i + 1) xs) (IsRising-take xs (i + 1) r))
+    (λ k. is_member-with_one k x (filter p (take i xs)) ∙ ap (λ b. eqb k x || b) (is_member-filter p k (take i xs))
+    ∙ at k (is_member k (take i xs)) ∙ ap (λ b. b && p k) (sym (is_member-take_more xs i k l))
+    ∙ sym (is_member-filter p k (take (i + 1) xs)))
+  where
+    x : ℕ
+    x = get_or xs i 0
+
+    swap : (a b c : Bool) → (a ≡ true → c ≡ true) → (a || (b && c)) ≡ ((b || a) && c)
+    swap true true c h = sym (h refl)
+    swap true false c h = sym (h refl)
+    swap false true c h = refl
+    swap false false c h = refl
+
+    at : (k : ℕ) (b : Bool) → (eqb k x || (b && p k)) ≡ ((b || eqb k x) && p k)
+    at k b = elim (cases_eq k x) [
+      | inl same ↦ swap (eqb k x) b (p k) (λ h. ap p same ∙ passes)
+      | inr other ↦ swap (eqb k x) b (p k) (λ h. absurd (both_ways (eqb k x) (ne_eqb k x other) h))
+    ]
+
+-- the next item fails
+pub filter-passed : (p : ℕ → Bool) (xs : List ℕ) (i : ℕ) → i < length xs → p (get_or xs i 0) ≡ false
+    → filter p (take i xs) ≡ filter p (take (i + 1) xs)
+filter-passed p xs i l fails = sym (filter_more p xs i 0 l ∙ rw fails (append-nil (filter p (take i xs))))

@@ -3,6 +3,7 @@ pub mod ClassRows
 pub mod ClassTables
 pub mod CrossingWalks
 pub mod Filters
+pub mod LaminarRows
 pub mod PartitionRows
 pub mod PlaceTables
 pub mod UniformRows

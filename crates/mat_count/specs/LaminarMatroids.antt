@@ -23,4 +23,5 @@ pub record IsPlaceTable (count : ℕ) (sets table : List (List ℕ)) : Type 0 wh
 
 -- the table has this place at each member of the set, besides those that it had before
 pub record IsPlaced (before : List (List ℕ)) (set : List ℕ) (place : ℕ) (table : List (List ℕ)) : Type 0 where
-  pub at : (e i : ℕ) → e < length before → is_member i (slice_index_or table e []) ≡ ((is_member e set && i == place) || is_member i (slice_index_or before e []))
+  pub at : (e i : ℕ) → e < length before
+      → is_member i (slice_index_or table e []) ≡ ((is_member e set && i == place) || is_member i (slice_index_or before e []))

@@ -8,7 +8,7 @@ use mat_sets::ElemSet;
 
 // How many items two rising lists share, by one walk along both.
 #[tactic(auto, using(crate::proofs::CrossingWalks::walking))]
-fn count_shared(a: &[u32], b: &[u32]) -> usize
+pub(crate) fn count_shared(a: &[u32], b: &[u32]) -> usize
     requires a_rises { IsRising a.now }
     requires b_rises { IsRising b.now }
     ensures { result ≡ length (intersection a.now b.now) }

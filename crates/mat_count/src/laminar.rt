@@ -1,5 +1,5 @@
 //! Laminar matroids.
-ghost use Rattle.std.specs.Prelude.{◌≡◌, ◌↔◌, ◌+◌, ℕ, ◌<◌, ◌^◌, length, replicate, slice_index, slice_index_or, [], IfOk, IfErr, IsTrue, IsFalse, MatchOption, ◌-◌};
+ghost use Rattle.std.specs.Prelude.{◌≡◌, ◌↔◌, ◌+◌, ℕ, ◌<◌, ◌^◌, length, replicate, filter, slice_index, slice_index_or, [], IfOk, IfErr, IsTrue, IsFalse, MatchOption, ◌-◌};
 ghost use Rattle.std.specs.List.{All};
 ghost use Rattle.mat_sets.specs.Sets.{is_member, AllBelow, IsRising};
 ghost use Rattle.mat_sets.specs.Families.{indicator};
@@ -7,13 +7,14 @@ ghost use Rattle.mat_count.specs.Counts.{is_counted};
 ghost use Rattle.mat_count.specs.Partitions.{CountsMembers};
 ghost use Rattle.mat_count.specs.Laminar.{IsLaminarFamily};
 ghost use Rattle.mat_count.specs.LaminarMatroids.{CappedSets, IsLaminar, IsPlaceTable, IsPlaced};
+ghost use Rattle.mat_count.specs.LaminarRows.{is_full, has_each};
 ghost use Rattle.mat_count.specs.LaminarFaults.{IsFirstPair, SomeOutside, IsFaultOf};
 ghost use Rattle.mat_count.specs.LaminarLaws.{counted_laws};
 
 use crate::caps::are_within;
-use crate::crossings::crossing;
+use crate::crossings::{count_shared, crossing};
 use crate::laminar_fault::LaminarFault;
-use mat_laws::Matroid;
+use mat_laws::{Exchange, Matroid};
 use mat_sets::{ElemSet, SetList};
 use std::alloc::{AllocError, Global};
 use std::marker::Model;
@@ -143,6 +144,55 @@ fn members_by_set(
     Ok(numbers)
 }
 
+// Those of these places whose sets are full: a set is where its number of members is at least its cap.
+fn full_places(
+    alloc: Global,
+    places: &ElemSet,
+    caps: &[u32],
+    numbers: &[usize],
+) -> Result<ElemSet, AllocError>
+    requires capped { length caps.now ≡ length numbers.now }
+    requires inside { AllBelow (length numbers.now) places.now }
+    ensures places { IfOk result (λ s. s ≡ filter (is_full caps.now numbers.now) places.now) }
+    ensures rises { IfOk result (λ s. IsRising s) }
+{
+    let mut full = ElemSet::new(alloc);
+    for i in places.as_slice() {
+        if numbers[*i as usize] >= caps[*i as usize] as usize {
+            full.add(*i)?;
+        }
+    }
+    Ok(full)
+}
+
+// Whether the table has each of these places at y.
+fn stands_in_each(table: &SetList, places: &ElemSet, y: u32) -> bool
+    requires { y < length table.now }
+    ensures { result ≡ has_each table.now places.now y }
+{
+    count_shared(places.as_slice(), table.get(y as usize).as_slice()) == places.len()
+}
+
+// The members of the set at which the table has each of these places. Each is put in at the end.
+fn members_in_each(
+    alloc: Global,
+    table: &SetList,
+    places: &ElemSet,
+    set: &ElemSet,
+) -> Result<ElemSet, AllocError>
+    requires { AllBelow (length table.now) set.now }
+    ensures members { IfOk result (λ s. s ≡ filter (has_each table.now places.now) set.now) }
+    ensures rises { IfOk result (λ s. IsRising s) }
+{
+    let mut members = ElemSet::new(alloc);
+    for y in set.as_slice() {
+        if stands_in_each(table, places, *y) {
+            members.add(*y)?;
+        }
+    }
+    Ok(members)
+}
+
 impl Laminar {
     /// The laminar matroid of this many elements, these sets and their caps. A member that is no element is told first; then
     /// the first set that an earlier one crosses, with the first that crosses it; then want of memory.
@@ -164,6 +214,23 @@ impl Laminar {
         if let Some((a, b)) = first_pair(&sets) {
             return Err(LaminarFault::Crossing { a, b });
         }
+        let matroid = Laminar::from_family(alloc, count, sets, caps)?;
+        Ok(matroid)
+    }
+
+    /// The laminar matroid of this many elements, these sets and their caps, where it is known that the members are elements
+    /// and that no two sets cross. The only error is want of memory.
+    pub fn from_family(
+        alloc: Global,
+        count: u32,
+        sets: SetList,
+        caps: Vec<u32>,
+    ) -> Result<Laminar, AllocError>
+        requires laminar { IsLaminar count sets caps.items }
+        requires few { length sets < 2 ^ 32 }
+        ensures value { IfOk result (λ l. l ≡ record { count = count; sets = sets; caps = caps.items }) }
+        ensures sound { IfOk result (λ l. IsLaminar l.count l.sets l.caps) }
+    {
         let places = place_table(alloc, count, &sets)?;
         Ok(Laminar {
             count,
@@ -211,5 +278,18 @@ impl Matroid for Laminar {
     fn independent(&self, alloc: Global, set: &ElemSet) -> Result<bool, AllocError> {
         let numbers = members_by_set(alloc, &self.sets, &self.places, set)?;
         Ok(are_within(&numbers, &self.caps))
+    }
+
+    /// An element outside can be added where no listed set that holds it is full, and be exchanged for the members that stand
+    /// in each full one. No question of independence is asked: the time is linear in the number of sets and, for each member,
+    /// in how many sets hold it or the element. The only error is want of memory.
+    fn circuit(&self, alloc: Global, base: &ElemSet, x: u32) -> Result<Exchange, AllocError> {
+        let numbers = members_by_set(alloc, &self.sets, &self.places, base)?;
+        let full = full_places(alloc, self.places.get(x as usize), &self.caps, &numbers)?;
+        let with = members_in_each(alloc, &self.places, &full, base)?;
+        Ok(Exchange {
+            addable: full.is_empty(),
+            with,
+        })
     }
 }

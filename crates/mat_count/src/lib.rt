@@ -5,6 +5,8 @@ mod caps;
 mod crossings;
 mod laminar;
 mod laminar_fault;
+#[cfg(test)]
+mod laminar_tests;
 mod laws;
 mod partition;
 #[cfg(test)]

@@ -16,7 +16,7 @@ use Rattle.mat_desc.proofs.ReadingSteps.{found-same, bind_found}
 use Rattle.mat_desc.proofs.WordLaws.{cut_then, count_found, count_again, number_found, number_at_again, ended_found, ended_again}
 use Rattle.mat_desc.proofs.LineLaws.{AreLeft, keyed_found, keyed_again}
 use Rattle.mat_desc.proofs.BinaryLaws.{binary_word, binary_found, binary_again}
-use Rattle.mat_graphic.specs.Forests.{IsGraph}
+use Rattle.mat_sets.specs.Graphs.{IsGraph}
 use Rattle.mat_gf2.specs.Columns.{IsBinaryMatrix}
 
 -- ---- items in a row

@@ -7,6 +7,6 @@ pub mod LeastSlacks
 pub mod RowExchanges
 pub mod RowTables
 pub mod TableSteps
+pub mod HeaviestAddable
+pub mod SlackParts
 pub mod TightArcTests
-pub mod LeastValues
-pub mod SlackSteps

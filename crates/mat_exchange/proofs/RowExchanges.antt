@@ -1,11 +1,11 @@
 -- The rows of all elements at an independent set tell its exchanges: each row says what the exchanges of its element are, and no
 -- element past the last row can be added or exchanged, as independent sets lie below n.
-use Rattle.std.proofs.Common.{◌≡◌, ℕ, zero, suc, ◌+◌, ◌<◌, ◌≤◌, Bool, true, false, not, ◌&&◌, List, [], ◌∷◌, ◌++◌, length, map, get_or, inl, inr, refl, sym, ap, ◌∙◌, subst, arith}
+use Rattle.std.proofs.Common.{◌≡◌, ℕ, ◌+◌, ◌<◌, ◌≤◌, Bool, true, false, not, ◌&&◌, List, [], ◌∷◌, ◌++◌, length, map, inl, inr, refl, sym, ap, ◌∙◌, subst, arith}
 use Rattle.std.proofs.lemmas.Bool.{and_parts, and_right, cases_Bool, cases_lt, cond-false, cond-true, eq-eqb, false_from_ne_true, not-true}
 use Rattle.std.proofs.lemmas.List.{get_or_past, get_or-map, length-map, map-append}
-use Rattle.mat_sets.specs.Sets.{is_member, AllBelow, all_below, counted_from, with_one, without_one}
+use Rattle.mat_sets.specs.Sets.{is_member, AllBelow, all_below, with_one, without_one}
 use Rattle.mat_sets.proofs.Members.{set_members, is_member-filter}
-use Rattle.mat_sets.proofs.Ground.{AllBelow-from_members, all_below-more, all_below-none, below_member, length-all_below}
+use Rattle.mat_sets.proofs.Ground.{AllBelow-from_members, all_below-more, all_below-none, below_member, get_or-all_below, length-all_below}
 use Rattle.mat_laws.specs.declared.exchange.Exchange.{Exchange}
 use Rattle.mat_laws.specs.Exchanges.{row_of, rows_of}
 use Rattle.mat_laws.specs.Matroids.{IsMatroid}
@@ -14,15 +14,6 @@ use Rattle.mat_exchange.specs.Tables.{IsTableAt}
 use mathlib.Core.Path.{fun_ext}
 
 -- ---- the rows by index
-
-get_or-counted_from : (lo n i d : ℕ) → i < n → get_or (counted_from lo n) i d ≡ lo + i
-get_or-counted_from lo zero i d h = absurd (omega arith)
-get_or-counted_from lo (suc n) zero d h = omega arith
-get_or-counted_from lo (suc n) (suc i) d h = let rest = get_or-counted_from (suc lo) n i d (omega arith) in omega arith
-
-pub get_or-all_below : (n i d : ℕ) → i < n → get_or (all_below n) i d ≡ i
-unfolding all_below
-get_or-all_below n i d h = let e = get_or-counted_from 0 n i d h in omega arith
 
 pub length-rows_of : (n : ℕ) (p : List ℕ → Bool) (I : List ℕ) → length (rows_of n p I) ≡ n
 length-rows_of n p I = length-map (all_below n) (row_of p I) ∙ length-all_below n

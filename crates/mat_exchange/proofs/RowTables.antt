@@ -3,11 +3,10 @@ use Rattle.std.proofs.Common.{◌≡◌, ℕ, ◌<◌, ◌≤◌, false, List, [
 use Rattle.std.proofs.lemmas.Bool.{cases_lt, false_from_ne_true}
 use Rattle.std.proofs.lemmas.List.{get_or_default, get_or_past, get_or-map, length-map}
 use Rattle.mat_sets.specs.Sets.{is_member, all_below}
-use Rattle.mat_sets.proofs.Ground.{length-all_below}
+use Rattle.mat_sets.proofs.Ground.{get_or-all_below, length-all_below}
 use Rattle.mat_laws.specs.declared.exchange.Exchange.{Exchange}
 use Rattle.mat_laws.specs.TightPaths.{row_in, exchanges_in}
 use Rattle.mat_exchange.specs.RowTables.{AreTransposed, row_from, set_at, table_of}
-use Rattle.mat_exchange.proofs.RowExchanges.{get_or-all_below}
 
 -- the set that an index reads
 pub set_at-read : (sets : List (List ℕ)) (x : ℕ) (s : List ℕ) → x < length sets → s ≡ get_or sets x s → s ≡ set_at sets x

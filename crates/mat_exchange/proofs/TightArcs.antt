@@ -13,7 +13,7 @@ use Rattle.mat_laws.specs.TightPaths.{Exchanges, exchanges_at, is_heaviest_addab
 int_lt-gives : (a b : ℤ) → int_lt a b ≡ true → a <ℤ b
 int_lt-gives a b h = grind (arith, ints)
 
-int_lt-none : (a b : ℤ) → int_lt a b ≡ false → b ≤ℤ a
+pub int_lt-none : (a b : ℤ) → int_lt a b ≡ false → b ≤ℤ a
 int_lt-none a b h = grind (arith, ints)
 
 int_le_or_lt : (a b : ℤ) → (a ≤ℤ b) ⊎ (b <ℤ a)

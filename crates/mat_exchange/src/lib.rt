@@ -3,10 +3,14 @@
 
 mod exchanges;
 mod found;
+mod heaviest_addable;
+mod heaviest_common;
 pub mod laws;
 mod path_search;
 mod row_table;
 mod slack;
+#[cfg(test)]
+mod slack_tests;
 #[cfg(test)]
 mod tests;
 mod tight_arcs;

@@ -6,9 +6,10 @@ ghost use Rattle.mat_exchange.specs.Searching.{IsFound};
 ghost use Rattle.mat_exchange.specs.Tables.{IsTableAt};
 
 use crate::found::Found;
+use crate::heaviest_addable::heaviest_addable;
 use crate::row_table::RowTable;
 use crate::slack::least_slack;
-use crate::tight_arcs::{TightArcs, greatest_addable};
+use crate::tight_arcs::TightArcs;
 use mat_sets::{ElemSet, WalkSearch, shortest_walk};
 use std::alloc::{AllocError, Global};
 
@@ -30,8 +31,8 @@ pub fn tight_search(
     requires second_small { AreWithin (10 ^ 30) w2.now }
     ensures { IfOk result (IsFound (length w1.now) (exchanges_in first.now) (exchanges_in second.now) (weight_at w1.now) (weight_at w2.now)) }
 {
-    let top1 = greatest_addable(first, w1);
-    let top2 = greatest_addable(second, w2);
+    let top1 = heaviest_addable(first, w1);
+    let top2 = heaviest_addable(second, w2);
     let arcs = TightArcs {
         set,
         first,
@@ -44,7 +45,7 @@ pub fn tight_search(
     match shortest_walk(alloc, &arcs)? {
         WalkSearch::Walk(path) => Ok(Found::Path(path)),
         WalkSearch::Reached(reach) => {
-            let slack = least_slack(alloc, &arcs, &reach)?;
+            let slack = least_slack(alloc, first, second, &reach, w1, w2)?;
             Ok(Found::Stuck { reach, slack })
         }
     }

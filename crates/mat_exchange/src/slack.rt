@@ -1,59 +1,18 @@
-//! The least slack of the set that tight arcs reach.
-ghost use Rattle.std.specs.Prelude.{◌≡◌, ◌<◌, ◌≤◌, ◌^◌, ◌&&◌, ◌-ℤ◌, ℕ, true, not, length, nat_lt, IfOk};
-ghost use Rattle.mat_sets.specs.Sets.{is_member, IsSet};
+//! The least slack of a reached set.
+ghost use Rattle.std.specs.Prelude.{◌≡◌, ◌<◌, ◌≤◌, ◌^◌, ◌&&◌, ℕ, true, not, nat_lt, length, IfOk, ◌-ℤ◌};
+ghost use Rattle.mat_sets.specs.Sets.{is_member, AllBelow};
 ghost use Rattle.mat_sets.specs.Sums.{weight_at, AreWithin, IsWithin};
+ghost use Rattle.mat_laws.specs.TightPaths.{exchanges_in};
 ghost use Rattle.mat_laws.specs.Slacks.{IsLeastSlackOrNone};
-ghost use Rattle.mat_laws.specs.TightPaths.{exchanges_in, is_heaviest_addable};
-ghost use Rattle.mat_exchange.specs.TightSearches.{lesser_of, AreTightArcs, IsAdditionSlack, IsAnyExchangeSlack, IsExchangeSlack, IsGreatestAddable, IsLeastOf, IsValue};
+ghost use Rattle.mat_exchange.specs.SlackParts.{IsAdditionSlack, IsExchangeSlackAt, IsExchangeSlack, IsLeastOrNone, lesser_of};
 
+use crate::heaviest_addable::heaviest_addable;
+use crate::heaviest_common::heaviest_common;
 use crate::row_table::RowTable;
-use crate::tight_arcs::TightArcs;
 use mat_sets::{BitSet, ElemSet};
 use std::alloc::{AllocError, Global};
 
-/// The least slack of the set that tight arcs reach, or none where it has no slack (Frank 1981). Each reached element is
-/// compared with those that are not reached and that it can be exchanged with.
-pub(crate) fn least_slack(
-    alloc: Global,
-    arcs: &TightArcs<'_>,
-    reach: &ElemSet,
-) -> Result<Option<i128>, AllocError>
-    requires sound { AreTightArcs arcs.now.set.now arcs.now.first.now arcs.now.second.now arcs.now.w1.now arcs.now.w2.now arcs.now.top1 arcs.now.top2 }
-    requires set { IsSet (length arcs.now.w1.now) reach.now }
-    ensures { IfOk result (IsLeastSlackOrNone (length arcs.now.w1.now) (exchanges_in arcs.now.first.now) (exchanges_in arcs.now.second.now) (weight_at arcs.now.w1.now) (weight_at arcs.now.w2.now) reach.now) }
-{
-    let n = arcs.w1.len() as u32;
-    let reached = bits_of_set(alloc, n, reach)?;
-    let unreached = bits_outside(alloc, n, reach)?;
-    let of_exchanges = exchanges_slack(arcs, reach, &unreached);
-    let of_first = addition_slack(arcs.first, &unreached, arcs.w1, arcs.top1);
-    let of_second = addition_slack(arcs.second, &reached, arcs.w2, arcs.top2);
-    Ok(lesser(of_exchanges, lesser(of_first, of_second)))
-}
-
-/// The set as bits, with room for the numbers below n.
-fn bits_of_set(alloc: Global, n: u32, set: &ElemSet) -> Result<BitSet, AllocError>
-    ensures { IfOk result (λ s. (v : ℕ) → is_member v s ≡ is_member v set.now) }
-{
-    let mut bits = BitSet::with_capacity(alloc, n)?;
-    for v in set.as_slice() {
-        bits.insert(*v)?;
-    }
-    Ok(bits)
-}
-
-/// The numbers below n that are not in the set, as bits.
-fn bits_outside(alloc: Global, n: u32, set: &ElemSet) -> Result<BitSet, AllocError>
-    ensures { IfOk result (λ s. (v : ℕ) → is_member v s ≡ (nat_lt v n && not (is_member v set.now))) }
-{
-    let mut bits = BitSet::all_below(alloc, n)?;
-    for v in set.as_slice() {
-        bits.remove(*v);
-    }
-    Ok(bits)
-}
-
-/// The lesser of two numbers, where there are two.
+/// The lesser of two numbers, where there are any.
 fn lesser(a: Option<i128>, b: Option<i128>) -> Option<i128>
     ensures { result ≡ lesser_of a b }
 {
@@ -64,105 +23,118 @@ fn lesser(a: Option<i128>, b: Option<i128>) -> Option<i128>
     }
 }
 
-/// The least slack of an exchange between a reached element and one that is not reached.
-fn exchanges_slack(arcs: &TightArcs<'_>, reach: &ElemSet, unreached: &BitSet) -> Option<i128>
-    requires sound { AreTightArcs arcs.now.set.now arcs.now.first.now arcs.now.second.now arcs.now.w1.now arcs.now.w2.now arcs.now.top1 arcs.now.top2 }
-    requires set { IsSet (length arcs.now.w1.now) reach.now }
-    requires unreached { (v : ℕ) → is_member v unreached.now ≡ true → v < length arcs.now.w1.now }
-    ensures { IsLeastOf (IsAnyExchangeSlack (exchanges_in arcs.now.first.now) (exchanges_in arcs.now.second.now) (weight_at arcs.now.w1.now) (weight_at arcs.now.w2.now) unreached.now reach.now) result }
+/// By how much one weight exceeds another.
+fn excess(weight: i128, other: i128) -> i128
+    requires small { IsWithin (10 ^ 30) weight }
+    requires other_small { IsWithin (10 ^ 30) other }
+    ensures { result ≡ weight -ℤ other }
 {
-    let mut least = None;
-    for u in reach.as_slice() {
-        least = lesser(least, exchange_slack(arcs, unreached, *u));
-    }
-    least
+    weight - other
 }
 
-/// The least slack of an exchange between u and an element that is not reached.
-fn exchange_slack(arcs: &TightArcs<'_>, unreached: &BitSet, u: u32) -> Option<i128>
-    requires sound { AreTightArcs arcs.now.set.now arcs.now.first.now arcs.now.second.now arcs.now.w1.now arcs.now.w2.now arcs.now.top1 arcs.now.top2 }
-    requires below { u < length arcs.now.w1.now }
-    requires unreached { (v : ℕ) → is_member v unreached.now ≡ true → v < length arcs.now.w1.now }
-    ensures { IsLeastOf (IsExchangeSlack (exchanges_in arcs.now.first.now) (exchanges_in arcs.now.second.now) (weight_at arcs.now.w1.now) (weight_at arcs.now.w2.now) unreached.now u) result }
+/// By how much a heaviest addable element outweighs the heaviest addable element of a set.
+fn addition_slack(table: &RowTable, into: &BitSet, weights: &[i128]) -> Option<i128>
+    requires few { length weights.now ≤ 500 }
+    requires count { length table.now ≡ length weights.now }
+    requires small { AreWithin (10 ^ 30) weights.now }
+    requires below { (x : ℕ) → is_member x into.now ≡ true → x < length weights.now }
+    ensures { IsLeastOrNone (IsAdditionSlack (length weights.now) (exchanges_in table.now) (weight_at weights.now) into.now) result }
 {
-    if arcs.set.contains(u) {
-        let weight = arcs.w1[u as usize];
-        least_fall(arcs.first.column(u), unreached, arcs.w1, weight)
-    } else {
-        let weight = arcs.w2[u as usize];
-        least_rise(arcs.second.row(u), unreached, arcs.w2, weight)
-    }
+    let most = heaviest_addable(table, weights)?;
+    let inside = heaviest_common(table.addable_elements(), into, weights)?;
+    Some(excess(most, inside))
 }
 
-/// The least slack of a heaviest addable element and another of these.
-fn addition_slack(
+/// By how much y, where it is in one set, outweighs the heaviest element of another that can be exchanged for it.
+fn exchange_slack_at(
     table: &RowTable,
-    among: &BitSet,
+    y: u32,
+    from: &BitSet,
+    into: &BitSet,
     weights: &[i128],
-    top: Option<i128>,
 ) -> Option<i128>
     requires few { length weights.now ≤ 500 }
+    requires count { length table.now ≡ length weights.now }
     requires small { AreWithin (10 ^ 30) weights.now }
-    requires top { IsGreatestAddable (length weights.now) (exchanges_in table.now) (weight_at weights.now) top }
-    requires among { (v : ℕ) → is_member v among.now ≡ true → v < length weights.now }
-    ensures { IsLeastOf (IsAdditionSlack (length weights.now) (exchanges_in table.now) (weight_at weights.now) among.now) result }
+    requires below { (x : ℕ) → is_member x into.now ≡ true → x < length weights.now }
+    requires replaced { y < length weights.now }
+    ensures { IsLeastOrNone (IsExchangeSlackAt y (exchanges_in table.now) (weight_at weights.now) from.now into.now) result }
 {
-    match top {
-        Some(weight) => least_fall(table.addable_elements(), among, weights, weight),
-        None => None,
+    if !from.contains(y) {
+        return None;
     }
+    let inside = heaviest_common(table.column(y), into, weights)?;
+    Some(excess(weights[y as usize], inside))
 }
 
-/// The least fall of weight to a number in both sets.
-fn least_fall(candidates: &BitSet, among: &BitSet, weights: &[i128], top: i128) -> Option<i128>
+/// The least of these over all y.
+fn exchange_slack(table: &RowTable, from: &BitSet, into: &BitSet, weights: &[i128]) -> Option<i128>
     requires few { length weights.now ≤ 500 }
+    requires count { length table.now ≡ length weights.now }
     requires small { AreWithin (10 ^ 30) weights.now }
-    requires top { IsWithin (10 ^ 30) top }
-    requires among { (v : ℕ) → is_member v among.now ≡ true → v < length weights.now }
-    ensures { IsLeastOf (IsValue (λ x. is_member x candidates.now && is_member x among.now) (λ x. top -ℤ weight_at weights.now x)) result }
+    requires below { (x : ℕ) → is_member x into.now ≡ true → x < length weights.now }
+    ensures { IsLeastOrNone (IsExchangeSlack (length weights.now) (exchanges_in table.now) (weight_at weights.now) from.now into.now) result }
 {
     let mut least = None;
-    let mut from = 0;
-    while let Some(x) = candidates.next_common(among, from) {
-        least = lesser(least, Some(fall(weights, top, x)));
-        from = x + 1;
+    for y in 0..weights.len() as u32 {
+        least = lesser(least, exchange_slack_at(table, y, from, into, weights));
     }
     least
 }
 
-/// The least rise of weight to a number in both sets.
-fn least_rise(candidates: &BitSet, among: &BitSet, weights: &[i128], bottom: i128) -> Option<i128>
-    requires few { length weights.now ≤ 500 }
-    requires small { AreWithin (10 ^ 30) weights.now }
-    requires bottom { IsWithin (10 ^ 30) bottom }
-    requires among { (v : ℕ) → is_member v among.now ≡ true → v < length weights.now }
-    ensures { IsLeastOf (IsValue (λ x. is_member x candidates.now && is_member x among.now) (λ x. weight_at weights.now x -ℤ bottom)) result }
+/// The members of a set of numbers below n, as bits.
+fn bits_of_members(alloc: Global, n: u32, set: &ElemSet) -> Result<BitSet, AllocError>
+    ensures { IfOk result (λ bits. (x : ℕ) → is_member x bits ≡ is_member x set.now) }
 {
-    let mut least = None;
-    let mut from = 0;
-    while let Some(x) = candidates.next_common(among, from) {
-        least = lesser(least, Some(rise(weights, bottom, x)));
-        from = x + 1;
+    let mut members = BitSet::with_capacity(alloc, n)?;
+    for x in set.as_slice() {
+        members.insert(*x)?;
     }
-    least
+    Ok(members)
 }
 
-/// By how much the weight falls to that of x.
-fn fall(weights: &[i128], top: i128, x: u32) -> i128
-    requires below { x < length weights.now }
-    requires small { AreWithin (10 ^ 30) weights.now }
-    requires top { IsWithin (10 ^ 30) top }
-    ensures { result ≡ (top -ℤ weight_at weights.now x) }
+/// The numbers below n that are not in a set, as bits.
+fn bits_of_others(alloc: Global, n: u32, set: &ElemSet) -> Result<BitSet, AllocError>
+    ensures { IfOk result (λ bits. (x : ℕ) → is_member x bits ≡ (nat_lt x n && not (is_member x set.now))) }
 {
-    top - weights[x as usize]
+    let mut others = BitSet::all_below(alloc, n)?;
+    for x in set.as_slice() {
+        others.remove(*x);
+    }
+    Ok(others)
 }
 
-/// By how much the weight rises to that of x.
-fn rise(weights: &[i128], bottom: i128, x: u32) -> i128
-    requires below { x < length weights.now }
-    requires small { AreWithin (10 ^ 30) weights.now }
-    requires bottom { IsWithin (10 ^ 30) bottom }
-    ensures { result ≡ (weight_at weights.now x -ℤ bottom) }
+/// The least slack of a reached set, or none (Frank 1981; Schrijver, chapter 41). An exchange in the first matroid leads from a
+/// reached element to another, and one in the second from another to a reached one. The time is at most that of the pairs of
+/// elements. The only error is want of memory.
+pub(crate) fn least_slack(
+    alloc: Global,
+    first: &RowTable,
+    second: &RowTable,
+    reach: &ElemSet,
+    w1: &[i128],
+    w2: &[i128],
+) -> Result<Option<i128>, AllocError>
+    requires few { length w1.now ≤ 500 }
+    requires lengths { length w2.now ≡ length w1.now }
+    requires first_count { length first.now ≡ length w1.now }
+    requires second_count { length second.now ≡ length w1.now }
+    requires below { AllBelow (length w1.now) reach.now }
+    requires first_small { AreWithin (10 ^ 30) w1.now }
+    requires second_small { AreWithin (10 ^ 30) w2.now }
+    ensures { IfOk result (IsLeastSlackOrNone (length w1.now) (exchanges_in first.now) (exchanges_in second.now)
+        (weight_at w1.now) (weight_at w2.now) reach.now) }
 {
-    weights[x as usize] - bottom
+    let n = w1.len() as u32;
+    let reached = bits_of_members(alloc, n, reach)?;
+    let others = bits_of_others(alloc, n, reach)?;
+    let first_slack = lesser(
+        addition_slack(first, &others, w1),
+        exchange_slack(first, &reached, &others, w1),
+    );
+    let second_slack = lesser(
+        exchange_slack(second, &others, &reached, w2),
+        addition_slack(second, &reached, w2),
+    );
+    Ok(lesser(first_slack, second_slack))
 }

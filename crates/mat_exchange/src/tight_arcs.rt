@@ -1,11 +1,11 @@
 //! The tight arcs at a common independent set of two matroids.
-ghost use Rattle.std.specs.Prelude.{◌≡◌, ◌<◌, ◌≤◌, ◌^◌, ◌&&◌, ℕ, true, length};
+ghost use Rattle.std.specs.Prelude.{◌≡◌, ◌<◌, ◌≤◌, ◌&&◌, ℕ, true, length};
 ghost use Rattle.std.specs.Ordering.{int_eq};
 ghost use Rattle.mat_sets.specs.Search.{IsNextFrom};
 ghost use Rattle.mat_sets.specs.Sets.{is_member};
-ghost use Rattle.mat_sets.specs.Sums.{weight_at, AreWithin};
+ghost use Rattle.mat_sets.specs.Sums.{weight_at};
 ghost use Rattle.mat_laws.specs.TightPaths.{exchanges_in, is_heaviest_addable};
-ghost use Rattle.mat_exchange.specs.TightSearches.{greater_of, IsGreatestAddable};
+ghost use Rattle.mat_exchange.specs.HeaviestAddable.{IsHeaviestWeightOrNone};
 
 use crate::row_table::RowTable;
 use mat_sets::{BitSet, ElemSet, Relation};
@@ -63,9 +63,8 @@ impl Relation for TightArcs<'_> {
 /// Whether x can be added and has the greatest weight of those that can.
 fn is_heaviest(table: &RowTable, weights: &[i128], top: Option<i128>, x: u32) -> bool
     requires table { length table.now ≡ length weights.now }
-    requires small { AreWithin (10 ^ 30) weights.now }
     requires below { x < length weights.now }
-    requires top { IsGreatestAddable (length weights.now) (exchanges_in table.now) (weight_at weights.now) top }
+    requires top { IsHeaviestWeightOrNone (exchanges_in table.now).adds (weight_at weights.now) top }
     ensures { result ≡ is_heaviest_addable (length weights.now) (exchanges_in table.now) (weight_at weights.now) x }
 {
     match top {
@@ -80,33 +79,6 @@ fn weighs(weights: &[i128], x: u32, weight: i128) -> bool
     ensures { result ≡ int_eq weight (weight_at weights.now x) }
 {
     weight == weights[x as usize]
-}
-
-/// The greatest weight of the elements that can be added.
-pub(crate) fn greatest_addable(table: &RowTable, weights: &[i128]) -> Option<i128>
-    requires table { length table.now ≡ length weights.now }
-    requires few { length weights.now ≤ 500 }
-    ensures { IsGreatestAddable (length weights.now) (exchanges_in table.now) (weight_at weights.now) result }
-{
-    let mut top = None;
-    for x in 0..weights.len() as u32 {
-        if table.addable(x) {
-            top = greater(top, weights, x);
-        }
-    }
-    top
-}
-
-/// The greater of a weight and that of x.
-fn greater(top: Option<i128>, weights: &[i128], x: u32) -> Option<i128>
-    requires { x < length weights.now }
-    ensures { result ≡ greater_of top (weight_at weights.now x) }
-{
-    let weight = weights[x as usize];
-    match top {
-        Some(most) => Some(if most < weight { weight } else { most }),
-        None => Some(weight),
-    }
 }
 
 /// The first number from `from` on in both sets that weighs as much as u.

@@ -46,14 +46,23 @@ module _ (ends : ℕ → ℕ × ℕ) where
       start_below n P.edges z (least_reached ends F z) (λ e k. below e (P.inside.inside e k)) P.walk (λ same. lower (sym same)))
 
   -- a forest
-  pub forest_and_components : (n : ℕ) (F : List ℕ) → IsRising F → is_forest ends F ≡ true → AreEndsBelow n F → length F + number_of_components n ends F ≡ n
+  pub forest_and_components : (n : ℕ) (F : List ℕ) → IsRising F → is_forest ends F ≡ true → AreEndsBelow n F
+      → length F + number_of_components n ends F ≡ n
   unfolding number_of_components
   forest_and_components n F r forest below =
       let least = λ (v : ℕ). eqb (least_reached ends F v) v in
-      let same : those_below n least ≡ minus (all_below n) (reaching_lower ends F) = same_members _ _ (IsSet-those_below n least).rising (IsRising-minus _ _ (IsRising-all_below n))
+      let same : those_below n least ≡ minus (all_below n) (reaching_lower ends F) = same_members _ _ (IsSet-those_below n least).rising
+      (IsRising-minus _ _ (IsRising-all_below n))
       (λ k. is_member-those_below k n least
-      ∙ sym (is_member-minus k (all_below n) (reaching_lower ends F) ∙ both (least k) (is_member-all_below k n) (is_member-reaching_lower ends F k))) in
-      omega (arith, ap length same, length-complement n (reaching_lower ends F) (IsRising-reaching_lower ends F) (reaching_lower-below n F r below), length-reaching_lower ends F forest)
+      ∙ sym (is_member-minus k (all_below n) (reaching_lower ends F) ∙ both (least k) (is_member-all_below k n)
+      (is_member-reaching_lower ends F k))) in
+      omega (
+        arith,
+        ap length same,
+        length-complement n (reaching_lower ends F) (IsRising-reaching_lower ends F)
+            (reaching_lower-below n F r below),
+        length-reaching_lower ends F forest,
+      )
     where
       twice : (q : Bool) → not (not q) ≡ q
       twice true = refl
@@ -63,30 +72,37 @@ module _ (ends : ℕ → ℕ × ℕ) where
       both {a} {b} {p} q e f = ap (λ c. c && not p) e ∙ ap (λ c. b && not c) f ∙ ap (λ c. b && c) (twice q)
 
   -- a forest in X that has an edge between the ends of each edge of X has the same components
-  same_components : (F X : List ℕ) (v : ℕ) → IsRising F → IsRising X → IsSubset F X → ((e : ℕ) → is_member e X ≡ true → IsWithin ends F e)
+  same_components : (F X : List ℕ) (v : ℕ) → IsRising F → IsRising X → IsSubset F X
+      → ((e : ℕ) → is_member e X ≡ true → IsWithin ends F e)
       → least_reached ends F v ≡ least_reached ends X v
   same_components F X v rf rx inside within =
       let a = least_reached-is ends F v rf in
       let b = least_reached-is ends X v rx in
       let along = walk_same ends F b.along v (least_reached ends X v) (λ e m. within e (b.inside.inside e m)) b.walk in
-      let back = walk_same ends X a.along v (least_reached ends F v) (λ e m. member_within ends X e (inside.inside e (a.inside.inside e m))) a.walk in
+      let back = walk_same ends X a.along v (least_reached ends F v) (λ e m. member_within ends X e
+      (inside.inside e (a.inside.inside e m))) a.walk in
       omega (arith, along, back, least_reached-le ends F (least_reached ends X v), least_reached-le ends X (least_reached ends F v))
 
   -- the ends of each edge of X are in one component of a largest forest in X
-  within_largest : (m : ℕ) (X : List ℕ) (r : ℕ) → IsSet m X → (k : IsRank (is_graphic m ends) X r) → (e : ℕ) → is_member e X ≡ true → IsWithin ends k.largest e
+  within_largest : (m : ℕ) (X : List ℕ) (r : ℕ) → IsSet m X → (k : IsRank (is_graphic m ends) X r) → (e : ℕ)
+      → is_member e X ≡ true → IsWithin ends k.largest e
   within_largest m X r s k e member = elim (cases_eq (least_reached ends k.largest (ends e).0) (least_reached ends k.largest (ends e).1)) [
     | inl same ↦ same
     | inr apart ↦ absurd (
         let out : is_member e k.largest ≡ false = false_from_ne_true _ (λ inside. apart (member_within ends k.largest e inside)) in
-        both_ways _ ((IsMaximal-largest_subset (graphic_laws m ends) X r k).full e member out) (is_graphic-with_one m ends k.largest e (below_member s member) k.passes apart))
+        both_ways _ ((IsMaximal-largest_subset (graphic_laws m ends) X r k).full e member out)
+        (is_graphic-with_one m ends k.largest e (below_member s member) k.passes apart))
   ]
 
-  pub rank_and_number : (m n : ℕ) (X : List ℕ) → IsSet m X → AreEndsBelow n X → rank (is_graphic m ends) X + number_of_components n ends X ≡ n
+  pub rank_and_number : (m n : ℕ) (X : List ℕ) → IsSet m X → AreEndsBelow n X
+      → rank (is_graphic m ends) X + number_of_components n ends X ≡ n
   unfolding number_of_components
   rank_and_number m n X s below =
       let k = rank_is (graphic_laws m ends) X s.rising in
       let tests = and_parts (is_set m k.largest) (is_forest ends k.largest) k.passes in
       let set = IsSet-from_test m k.largest tests.0 in
-      let same : (v : ℕ) → least_reached ends k.largest v ≡ least_reached ends X v = λ v. same_components k.largest X v set.rising s.rising k.inside (within_largest m X (rank (is_graphic m ends) X) s k) in
-      let counts : number_of_components n ends k.largest ≡ number_of_components n ends X = ap length (those_below-same n _ _ (λ v. ap (λ r. eqb r v) (same v))) in
+      let same : (v : ℕ) → least_reached ends k.largest v ≡ least_reached ends X v = λ v. same_components k.largest X v set.rising s.rising
+      k.inside (within_largest m X (rank (is_graphic m ends) X) s k) in
+      let counts : number_of_components n ends k.largest ≡ number_of_components n ends X = ap length
+      (those_below-same n _ _ (λ v. ap (λ r. eqb r v) (same v))) in
       omega (arith, counts, forest_and_components n k.largest set.rising tests.1 (λ e inside. below e (k.inside.inside e inside)), k.size)

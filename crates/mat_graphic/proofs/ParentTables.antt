@@ -1,14 +1,15 @@
 -- Tables of parents: what each loop and each change of an entry keeps, for whatever components the table is of.
-use Rattle.std.proofs.Common.{◌≡◌, ℕ, ◌+◌, ◌<◌, ◌≤◌, ◌≢◌, min, max, true, false, not, eqb, List, [], ◌∷◌, ◌++◌, length, get_or, set, take, drop, ◌⊎◌, inl, inr, refl, sym, ap, ◌∙◌, subst, arith, get_or-set_other, get_or-set_same, length-set, length-append}
+use Rattle.std.proofs.Common.{◌≡◌, ℕ, ◌+◌, ◌<◌, ◌≤◌, ◌≢◌, min, max, true, false, not, eqb, List, [], ◌∷◌, ◌++◌, length, get_or, set, ◌⊎◌, inl, inr, refl, sym, ap, ◌∙◌, subst, arith, get_or-set_other, get_or-set_same, length-set, length-append}
 use Rattle.std.proofs.lemmas.List.{set-get_or, get_or_append_left}
-use Rattle.std.proofs.Math.Seq.{get_or-append_seam, take-append_seam}
+use Rattle.std.proofs.Math.Seq.{get_or-append_seam}
 use Rattle.std.proofs.lemmas.Bool.{cases_eq, cases_lt, eq-eqb, ne_eqb}
 use Rattle.mat_graphic.specs.Forests.{merged}
 use Rattle.mat_graphic.specs.ComponentLaws.{merged_cases, merged-first, merged-second, merged-fixed, merged-same}
 use Rattle.mat_graphic.specs.ParentTables.{IsDescending, IsParentTable}
 
 -- an entry after a change at i
-at_set : (xs : List ℕ) (i u k : ℕ) → i < length xs → ((k ≡ i) × (get_or (set xs i u) k 0 ≡ u)) ⊎ ((k ≢ i) × (get_or (set xs i u) k 0 ≡ get_or xs k 0))
+at_set : (xs : List ℕ) (i u k : ℕ) → i < length xs
+    → ((k ≡ i) × (get_or (set xs i u) k 0 ≡ u)) ⊎ ((k ≢ i) × (get_or (set xs i u) k 0 ≡ get_or xs k 0))
 at_set xs i u k l = elim (cases_eq k i) [
   | inl e ↦ inl (e, ap (λ j. get_or (set xs i u) j 0) e ∙ rw get_or-set_same refl)
   | inr d ↦ inr (d, rw get_or-set_other refl)
@@ -66,8 +67,10 @@ merged-root p q r other = elim (merged_cases p q r) [
 module _ (least : ℕ → ℕ) where
   either_fixed : (p q : ℕ) → least p ≡ p → least q ≡ q → (least (max p q) ≡ max p q) × (least (min p q) ≡ min p q)
   either_fixed p q hp hq = elim (cases_lt p q) [
-    | inl l ↦ (let high : max p q ≡ q = omega arith in let low : min p q ≡ p = omega arith in (ap least high ∙ hq ∙ sym high, ap least low ∙ hp ∙ sym low))
-    | inr l ↦ (let high : max p q ≡ p = omega arith in let low : min p q ≡ q = omega arith in (ap least high ∙ hp ∙ sym high, ap least low ∙ hq ∙ sym low))
+    | inl l ↦ (let high : max p q ≡ q = omega arith in let low : min p q ≡ p = omega arith in
+        (ap least high ∙ hq ∙ sym high, ap least low ∙ hp ∙ sym low))
+    | inr l ↦ (let high : max p q ≡ p = omega arith in let low : min p q ≡ q = omega arith in
+        (ap least high ∙ hp ∙ sym high, ap least low ∙ hq ∙ sym low))
   ]
 
   -- the higher of two least vertices gets the lower one as its parent
@@ -80,7 +83,8 @@ module _ (least : ℕ → ℕ) where
       let long = length-set parent high low in
       record {
         same = λ k small. elim (at_set parent high low k l) [
-          | inl a ↦ ap (λ v. merged p q (least v)) a.1 ∙ ap (merged p q) own.1 ∙ merged-min p q ∙ sym (merged-max p q) ∙ sym (ap (merged p q) (ap least a.0 ∙ own.0))
+          | inl a ↦ ap (λ v. merged p q (least v)) a.1 ∙ ap (merged p q) own.1 ∙ merged-min p q ∙ sym (merged-max p q) ∙ sym
+              (ap (merged p q) (ap least a.0 ∙ own.0))
           | inr a ↦ ap (λ v. merged p q (least v)) a.1 ∙ ap (merged p q) (t.same k (omega arith))
         ];
         root = λ k small e. elim (at_set parent high low k l) [
@@ -88,17 +92,21 @@ module _ (least : ℕ → ℕ) where
           | inr a ↦ ap (merged p q) (t.root k (omega arith) (sym a.1 ∙ e)) ∙ merged-root p q k a.0
         ];
         fixed = λ v. subst (λ x. merged x q (least (merged x q (least v))) ≡ merged x q (least v)) hp
-            (subst (λ y. merged (least p) y (least (merged (least p) y (least v))) ≡ merged (least p) y (least v)) hq (merged-fixed least p q v (t.fixed p) (t.fixed q) (t.fixed v)));
+            (subst (λ y. merged (least p) y (least (merged (least p) y (least v))) ≡ merged (least p) y (least v)) hq
+            (merged-fixed least p q v (t.fixed p) (t.fixed q) (t.fixed v)));
       }
 
   -- the same with p and q found as the least vertices of the components of a and b
-  pub IsParentTable-joined : (parent : List ℕ) (p q a b : ℕ) → max p q < length parent → p ≢ q → p ≡ least a → q ≡ least b → IsParentTable least parent
+  pub IsParentTable-joined : (parent : List ℕ) (p q a b : ℕ) → max p q < length parent → p ≢ q → p ≡ least a → q ≡ least b
+      → IsParentTable least parent
       → IsParentTable (λ v. merged (least a) (least b) (least v)) (set parent (max p q) (min p q))
   IsParentTable-joined parent p q a b l differ pa qb t =
       let now : ℕ → ℕ → Type 0 = λ x y. IsParentTable (λ v. merged x y (least v)) (set parent (max p q) (min p q)) in
-      subst (λ x. now x (least b)) pa (subst (now p) qb (joined parent p q l differ (ap least pa ∙ t.fixed a ∙ sym pa) (ap least qb ∙ t.fixed b ∙ sym qb) t))
+      subst (λ x. now x (least b)) pa (subst (now p) qb (joined parent p q l differ (ap least pa ∙ t.fixed a ∙ sym pa)
+      (ap least qb ∙ t.fixed b ∙ sym qb) t))
 
-  pub IsParentTable-equal : (other : ℕ → ℕ) (parent : List ℕ) → ((v : ℕ) → other v ≡ least v) → IsParentTable least parent → IsParentTable other parent
+  pub IsParentTable-equal : (other : ℕ → ℕ) (parent : List ℕ) → ((v : ℕ) → other v ≡ least v) → IsParentTable least parent
+      → IsParentTable other parent
   IsParentTable-equal other parent h t = record {
     same = λ k l. h (get_or parent k 0) ∙ t.same k l ∙ sym (h k);
     root = λ k l e. h k ∙ t.root k l e;
@@ -106,9 +114,11 @@ module _ (least : ℕ → ℕ) where
   }
 
   -- where a and b are in one component nothing changes
-  pub IsParentTable-within : (parent : List ℕ) (a b : ℕ) → least a ≡ least b → IsParentTable least parent → IsParentTable (λ v. merged (least a) (least b) (least v)) parent
+  pub IsParentTable-within : (parent : List ℕ) (a b : ℕ) → least a ≡ least b → IsParentTable least parent
+      → IsParentTable (λ v. merged (least a) (least b) (least v)) parent
   IsParentTable-within parent a b e t =
-      IsParentTable-equal (λ v. merged (least a) (least b) (least v)) parent (λ v. ap (λ x. merged (least a) x (least v)) (sym e) ∙ merged-same (least a) (least v)) t
+      IsParentTable-equal (λ v. merged (least a) (least b) (least v)) parent
+      (λ v. ap (λ x. merged (least a) x (least v)) (sym e) ∙ merged-same (least a) (least v)) t
 
 pub apart_test : (p q x y : ℕ) → p ≡ x → q ≡ y → p ≢ q → true ≡ not (eqb x y)
 apart_test p q x y px qy differ = sym (ap not (ne_eqb x y (λ e. differ (px ∙ e ∙ sym qy))))
@@ -128,7 +138,8 @@ pub record IsFinding (old : List ℕ) (start : ℕ) (parent : List ℕ) (v : ℕ
 pub IsFinding-start : (old : List ℕ) (start : ℕ) → IsDescending old → IsFinding old start old start
 IsFinding-start old start d = record { descending = d; long = refl; low = omega arith; table = λ least t. (t, refl) }
 
-pub IsFinding-next : (old : List ℕ) (start : ℕ) (parent : List ℕ) (v : ℕ) → start < length old → get_or parent v 0 ≢ v → IsFinding old start parent v
+pub IsFinding-next : (old : List ℕ) (start : ℕ) (parent : List ℕ) (v : ℕ) → start < length old → get_or parent v 0 ≢ v
+    → IsFinding old start parent v
     → IsFinding old start (set parent v (get_or parent (get_or parent v 0) 0)) (get_or parent (get_or parent v 0) 0)
 IsFinding-next old start parent v l other f =
     let long = f.long in
@@ -141,10 +152,15 @@ IsFinding-next old start parent v l other f =
       descending = IsDescending-set parent v (get_or parent p 0) inside (omega arith) f.descending;
       long = length-set parent v (get_or parent p 0) ∙ long;
       low = omega arith;
-      table = λ least t. (let w = f.table least t in (IsParentTable-halved least parent v inside other f.descending w.0, w.0.same p (omega arith) ∙ w.0.same v inside ∙ w.1));
+      table = λ least t. (let w = f.table least t in (
+        IsParentTable-halved least parent v inside other f.descending w.0,
+        w.0.same p (omega arith)
+            ∙ w.0.same v inside ∙ w.1,
+      ));
     }
 
-pub IsFinding-end : (old : List ℕ) (start : ℕ) (parent : List ℕ) (v : ℕ) → start < length old → get_or parent v 0 ≡ v → IsFinding old start parent v
+pub IsFinding-end : (old : List ℕ) (start : ℕ) (parent : List ℕ) (v : ℕ) → start < length old → get_or parent v 0 ≡ v
+    → IsFinding old start parent v
     → (least : ℕ → ℕ) → IsParentTable least old → IsParentTable least parent × (v ≡ least start)
 IsFinding-end old start parent v l own f least t =
     let w = f.table least t in
@@ -161,7 +177,8 @@ IsSingletons-more parent n a = record {
   long = omega (arith, a.long, length-append parent (n ∷ []));
   own = λ k l. let long = a.long in elim (cases_lt k n) [
     | inl less ↦ get_or_append_left parent (n ∷ []) 0 k (omega arith) ∙ a.own k less
-    | inr le ↦ (let e : k ≡ length parent = omega arith in ap (λ j. get_or (parent ++ n ∷ []) j 0) e ∙ get_or-append_seam parent n [] 0 ∙ sym long ∙ sym e)
+    | inr le ↦ (let e : k ≡ length parent = omega arith in ap (λ j. get_or (parent ++ n ∷ []) j 0) e ∙ get_or-append_seam parent n [] 0
+        ∙ sym long ∙ sym e)
   ];
 }
 
@@ -179,7 +196,8 @@ pub ruleset singletons = (IsSingletons-more, IsSingletons-table, IsSingletons-de
 pub record IsSettling (old : List ℕ) (i : ℕ) (parent : List ℕ) : Type 0 where
   pub descending : IsDescending parent
   pub long : length parent ≡ length old
-  pub table : (least : ℕ → ℕ) → IsParentTable least old → IsParentTable least parent × ((k : ℕ) → k < i → get_or parent k 0 ≡ least k)
+  pub table : (least : ℕ → ℕ) → IsParentTable least old
+      → IsParentTable least parent × ((k : ℕ) → k < i → get_or parent k 0 ≡ least k)
 
 pub IsSettling-start : (old : List ℕ) → IsDescending old → IsSettling old 0 old
 IsSettling-start old d = record { descending = d; long = refl; table = λ least t. (t, λ k l. absurd (omega arith)) }
@@ -187,7 +205,8 @@ IsSettling-start old d = record { descending = d; long = refl; table = λ least 
 settled_table : (least : ℕ → ℕ) (parent : List ℕ) (i : ℕ) → i < length parent → IsDescending parent → IsParentTable least parent
     → IsParentTable least (set parent i (get_or parent (get_or parent i 0) 0))
 settled_table least parent i l d t = elim (cases_eq (get_or parent i 0) i) [
-  | inl own ↦ (let same : set parent i (get_or parent (get_or parent i 0) 0) ≡ parent = ap (λ k. set parent i (get_or parent k 0)) own ∙ set-get_or parent i 0 in
+  | inl own ↦ (let same : set parent i (get_or parent (get_or parent i 0) 0) ≡ parent = ap (λ k. set parent i (get_or parent k 0)) own
+      ∙ set-get_or parent i 0 in
       subst (IsParentTable least) (sym same) t)
   | inr other ↦ IsParentTable-halved least parent i l other d t
 ]
@@ -217,7 +236,3 @@ IsSettling-next old i parent l s =
 pub IsSettling-end : (old : List ℕ) (i : ℕ) (parent : List ℕ) → length parent ≤ i → IsSettling old i parent → (least : ℕ → ℕ)
     → IsParentTable least old → (v : ℕ) → v < length parent → get_or parent v 0 ≡ least v
 IsSettling-end old i parent le s least t v l = (s.table least t).1 v (omega arith)
-
--- a slice that was lent and is written back
-pub written_back : (n : ℕ) (new old : List ℕ) → length new ≡ n → take n (new ++ drop (length new) old) ≡ new
-written_back n new old same = ap (λ k. take k (new ++ drop (length new) old)) (sym same) ∙ take-append_seam new (drop (length new) old)

@@ -12,7 +12,7 @@ use Rattle.mat_sets.proofs.Ground.{AllBelow-from_members, length-distinct_below}
 use Rattle.mat_sets.proofs.Sums.{AllBelow-at}
 use Rattle.mat_graphic.specs.Forests.{least_reached}
 use Rattle.mat_graphic.specs.ComponentLaws.{trail_of_same}
-use Rattle.mat_graphic.specs.TrailSearches.{stands_at, AreEnds, IsOrder, IsTree, IsFront, IsTrailSet}
+use Rattle.mat_graphic.specs.TrailSearches.{AreJoined, stands_at, AreEnds, IsOrder, IsTree, IsFront, IsTrailSet}
 
 -- an item that was read
 pub item_of : (xs : List ℕ) (i x : ℕ) → i < length xs → x ≡ get_or xs i x → get_or xs i 0 ≡ x
@@ -37,20 +37,17 @@ IsFront-member xs ys v f m =
 
 -- ---- going through the places of a vertex
 
--- the premises under which the vertices found make a tree
-abbrev pub AreJoined : (ℕ → ℕ × ℕ) → List ℕ → List ℕ → List ℕ → List ℕ → Type 0
-AreJoined ends X tails heads set =
-    ((i : ℕ) → i < length tails → is_member (get_or set i 0) X ≡ true) × ((i : ℕ) → i < length tails → Joins ends (get_or set i 0) (get_or heads i 0) (get_or tails i 0))
-
 -- the heads at the places of v before `from` are found, and `next` is the next place
-pub record IsScanning (tails heads set old_order old_through old_before : List ℕ) (v n : ℕ) (next : Option ℕ) (place : List (Option ℕ)) (order through before : List ℕ) : Type 0 where
+pub record IsScanning (tails heads set old_order old_through old_before : List ℕ) (v n : ℕ) (next : Option ℕ) (place : List (Option ℕ))
+    (order through before : List ℕ) : Type 0 where
   pub from : ℕ
   pub next_is : IsNextFrom (stands_at tails v) from next
   pub long : length place ≡ n
   pub is_order : IsOrder place order through before
   pub found : (i : ℕ) → i < from → stands_at tails v i ≡ true → is_member (get_or heads i 0) order ≡ true
   pub front : IsFront old_order order
-  pub tree : (ends : ℕ → ℕ × ℕ) (X : List ℕ) (start : ℕ) → AreJoined ends X tails heads set → IsTree ends X start old_order old_through old_before → IsTree ends X start order through before
+  pub tree : (ends : ℕ → ℕ × ℕ) (X : List ℕ) (start : ℕ) → AreJoined ends X tails heads set
+      → IsTree ends X start old_order old_through old_before → IsTree ends X start order through before
 
 -- how many places are left at most
 abbrev pub places_left : ℕ → Option ℕ → ℕ
@@ -71,7 +68,8 @@ IsScanning-start tails heads set order through before v n next place first long 
 }
 
 pub stands_parts : (tails : List ℕ) (v i : ℕ) → stands_at tails v i ≡ true → (i < length tails) × (get_or tails i 0 ≡ v)
-stands_parts tails v i h = let parts = and_parts (ltb i (length tails)) (eqb (get_or tails i 0) v) h in (ltb-true i (length tails) parts.0, eqb-true (get_or tails i 0) v parts.1)
+stands_parts tails v i h = let parts = and_parts (ltb i (length tails)) (eqb (get_or tails i 0) v) h in
+    (ltb-true i (length tails) parts.0, eqb-true (get_or tails i 0) v parts.1)
 
 pub stands_from : (tails : List ℕ) (v i : ℕ) → i < length tails → get_or tails i 0 ≡ v → stands_at tails v i ≡ true
 stands_from tails v i l e = and_from (ltb i (length tails)) (eqb (get_or tails i 0) v) (lt-ltb i (length tails) l) (eq-eqb (get_or tails i 0) v e)
@@ -81,10 +79,12 @@ module _ (tails heads set old_order old_through old_before : List ℕ) (v n i : 
   pub scanned_at : (i < length tails) × (get_or tails i 0 ≡ v)
   scanned_at = stands_parts tails v i s.next_is.passes
 
-  pub IsScanning-next : (at : ℕ) (next : Option ℕ) (place' : List (Option ℕ)) (order' through' before' : List ℕ) → at < length old_order → v ≡ get_or old_order at 0
+  pub IsScanning-next : (at : ℕ) (next : Option ℕ) (place' : List (Option ℕ)) (order' through' before' : List ℕ) → at < length old_order
+      → v ≡ get_or old_order at 0
       → IsNextFrom (stands_at tails (get_or tails i 0)) (suc i) next → length place' ≡ length place → IsOrder place' order' through' before'
       → is_member (get_or heads i 0) order' ≡ true → IsFront order order'
-      → ((ends : ℕ → ℕ × ℕ) (X : List ℕ) (start : ℕ) → is_member (get_or set i 0) X ≡ true → Joins ends (get_or set i 0) (get_or heads i 0) (get_or order at 0)
+      → ((ends : ℕ → ℕ × ℕ) (X : List ℕ) (start : ℕ) → is_member (get_or set i 0) X ≡ true → Joins ends (get_or set i 0)
+      (get_or heads i 0) (get_or order at 0)
       → IsTree ends X start order through before → IsTree ends X start order' through' before')
       → IsScanning tails heads set old_order old_through old_before v n next place' order' through' before'
   IsScanning-next at next place' order' through' before' inside vertex after long' o' visited front' tree' = record {
@@ -103,14 +103,17 @@ module _ (tails heads set old_order old_through old_before : List ℕ) (v n i : 
     tree = λ ends X start joined t.
         (let at_i = scanned_at in
         let here : get_or tails i 0 ≡ get_or order at 0 = at_i.1 ∙ vertex ∙ sym (s.front.same at inside) in
-        tree' ends X start (joined.0 i at_i.0) (subst (Joins ends (get_or set i 0) (get_or heads i 0)) here (joined.1 i at_i.0)) (s.tree ends X start joined t));
+        tree' ends X start (joined.0 i at_i.0) (subst (Joins ends (get_or set i 0) (get_or heads i 0)) here (joined.1 i at_i.0))
+        (s.tree ends X start joined t));
   }
 
-  pub scan_smaller : (next : Option ℕ) → IsNextFrom (stands_at tails (get_or tails i 0)) (suc i) next → places_left (length tails) next < places_left (length tails) (Some i)
+  pub scan_smaller : (next : Option ℕ) → IsNextFrom (stands_at tails (get_or tails i 0)) (suc i) next
+      → places_left (length tails) next < places_left (length tails) (Some i)
   scan_smaller None after = let inside = scanned_at.0 in omega arith
   scan_smaller (Some j) after = let inside = scanned_at.0 in let reaches = after.reaches in omega arith
 
-pub IsScanning-end : (tails heads set old_order old_through old_before : List ℕ) (v n : ℕ) (place : List (Option ℕ)) (order through before : List ℕ)
+pub IsScanning-end : (tails heads set old_order old_through old_before : List ℕ) (v n : ℕ) (place : List (Option ℕ))
+    (order through before : List ℕ)
     → IsScanning tails heads set old_order old_through old_before v n None place order through before
     → (i : ℕ) → i < length tails → get_or tails i 0 ≡ v → is_member (get_or heads i 0) order ≡ true
 IsScanning-end tails heads set old_order old_through old_before v n place order through before s i l e = elim (cases_lt i s.from) [
@@ -132,22 +135,28 @@ number_of None = 0
 number_of (Some k) = k
 
 -- vertices at different places differ
-pub order-differ : (place : List (Option ℕ)) (order through before : List ℕ) → IsOrder place order through before → (i j : ℕ) → i < length order → j < length order
+pub order-differ : (place : List (Option ℕ)) (order through before : List ℕ) → IsOrder place order through before → (i j : ℕ)
+    → i < length order → j < length order
     → get_or order i 0 ≡ get_or order j 0 → i ≡ j
 order-differ place order through before o i j il jl e = ap number_of (sym (o.placed i il) ∙ ap (λ v. get_or place v None) e ∙ o.placed j jl)
 
-pub length-order : (place : List (Option ℕ)) (order through before : List ℕ) → IsOrder place order through before → length order ≤ length place
+pub length-order : (place : List (Option ℕ)) (order through before : List ℕ) → IsOrder place order through before
+    → length order ≤ length place
 length-order place order through before o =
-    length-distinct_below (length place) order (AreDistinct-index order (λ i j l m e. (let same = order-differ place order through before o i j (omega arith) m e in absurd (omega arith)))) o.below
+    length-distinct_below (length place) order (AreDistinct-index order
+    (λ i j l m e. (let same = order-differ place order through before o i j (omega arith) m e in absurd (omega arith)))) o.below
 
 -- each edge of the vertices before place `at` leads to a found vertex
 pub record IsExploring (firsts seconds set : List ℕ) (start n at : ℕ) (place : List (Option ℕ)) (order through before : List ℕ) : Type 0 where
   pub long : length place ≡ n
   pub is_order : IsOrder place order through before
   pub within : at ≤ length order
-  pub forth : (k i : ℕ) → k < at → i < length firsts → get_or firsts i 0 ≡ get_or order k 0 → is_member (get_or seconds i 0) order ≡ true
-  pub back : (k i : ℕ) → k < at → i < length seconds → get_or seconds i 0 ≡ get_or order k 0 → is_member (get_or firsts i 0) order ≡ true
-  pub tree : (ends : ℕ → ℕ × ℕ) (X : List ℕ) → AreJoined ends X firsts seconds set → AreJoined ends X seconds firsts set → IsTree ends X start order through before
+  pub forth : (k i : ℕ) → k < at → i < length firsts → get_or firsts i 0 ≡ get_or order k 0
+      → is_member (get_or seconds i 0) order ≡ true
+  pub back : (k i : ℕ) → k < at → i < length seconds → get_or seconds i 0 ≡ get_or order k 0
+      → is_member (get_or firsts i 0) order ≡ true
+  pub tree : (ends : ℕ → ℕ × ℕ) (X : List ℕ) → AreJoined ends X firsts seconds set → AreJoined ends X seconds firsts set
+      → IsTree ends X start order through before
 
 closed_more : (tails heads order middle order' : List ℕ) (at : ℕ) → at < length order → IsFront order middle → IsFront middle order'
     → ((k i : ℕ) → k < at → i < length tails → get_or tails i 0 ≡ get_or order k 0 → is_member (get_or heads i 0) order ≡ true)
@@ -161,28 +170,35 @@ closed_more tails heads order middle order' at inside f g closed now k i l small
           IsFront-member middle order' (get_or heads i 0) g (now i small (e ∙ ap (λ z. get_or order' z 0) same ∙ front.same at inside)))
     ]
 
-pub IsExploring-next : (firsts seconds set : List ℕ) (start n at : ℕ) (place place1 place2 : List (Option ℕ)) (order through before order1 through1 before1 order2 through2 before2 : List ℕ)
+pub IsExploring-next : (firsts seconds set : List ℕ) (start n at : ℕ) (place place1 place2 : List (Option ℕ))
+    (order through before order1 through1 before1 order2 through2 before2 : List ℕ)
     → at < length order → IsExploring firsts seconds set start n at place order through before
     → length place2 ≡ n → IsOrder place2 order2 through2 before2 → IsFront order order1 → IsFront order1 order2
     → ((i : ℕ) → i < length firsts → get_or firsts i 0 ≡ get_or order at 0 → is_member (get_or seconds i 0) order1 ≡ true)
     → ((i : ℕ) → i < length seconds → get_or seconds i 0 ≡ get_or order1 at 0 → is_member (get_or firsts i 0) order2 ≡ true)
-    → ((ends : ℕ → ℕ × ℕ) (X : List ℕ) → AreJoined ends X firsts seconds set → IsTree ends X start order through before → IsTree ends X start order1 through1 before1)
-    → ((ends : ℕ → ℕ × ℕ) (X : List ℕ) → AreJoined ends X seconds firsts set → IsTree ends X start order1 through1 before1 → IsTree ends X start order2 through2 before2)
+    → ((ends : ℕ → ℕ × ℕ) (X : List ℕ) → AreJoined ends X firsts seconds set → IsTree ends X start order through before
+    → IsTree ends X start order1 through1 before1)
+    → ((ends : ℕ → ℕ × ℕ) (X : List ℕ) → AreJoined ends X seconds firsts set → IsTree ends X start order1 through1 before1
+    → IsTree ends X start order2 through2 before2)
     → IsExploring firsts seconds set start n (at + 1) place2 order2 through2 before2
-IsExploring-next firsts seconds set start n at place place1 place2 order through before order1 through1 before1 order2 through2 before2 inside x long2 o2 f g first second tree1 tree2 = record {
-  long = long2;
-  is_order = o2;
-  within = omega (arith, f.longer, g.longer);
-  forth = closed_more firsts seconds order order1 order2 at inside f g x.forth first;
-  back = closed_more seconds firsts order order2 order2 at inside (IsFront-trans order order1 order2 f g) (IsFront-refl order2) x.back (λ i l e. second i l (e ∙ sym (f.same at inside)));
-  tree = λ ends X forth back. tree2 ends X back (tree1 ends X forth (x.tree ends X forth back));
-}
+IsExploring-next firsts seconds set start n at place place1 place2 order through before order1 through1 before1 order2 through2 before2 inside x
+    long2 o2 f g first second tree1 tree2 = record {
+      long = long2;
+      is_order = o2;
+      within = omega (arith, f.longer, g.longer);
+      forth = closed_more firsts seconds order order1 order2 at inside f g x.forth first;
+      back = closed_more seconds firsts order order2 order2 at inside (IsFront-trans order order1 order2 f g) (IsFront-refl order2) x.back
+          (λ i l e. second i l (e ∙ sym (f.same at inside)));
+      tree = λ ends X forth back. tree2 ends X back (tree1 ends X forth (x.tree ends X forth back));
+    }
 
 -- what is found holds both ends of an edge or none
-pub IsExploring-end : (firsts seconds set : List ℕ) (start n at : ℕ) (place : List (Option ℕ)) (order through before : List ℕ) → length order ≤ at → length firsts ≡ length seconds
+pub IsExploring-end : (firsts seconds set : List ℕ) (start n at : ℕ) (place : List (Option ℕ)) (order through before : List ℕ)
+    → length order ≤ at → length firsts ≡ length seconds
     → IsExploring firsts seconds set start n at place order through before
     → (i : ℕ) → i < length firsts → is_member (get_or firsts i 0) order ≡ is_member (get_or seconds i 0) order
-IsExploring-end firsts seconds set start n at place order through before past same x i l = both (is_member (get_or firsts i 0) order) (is_member (get_or seconds i 0) order)
+IsExploring-end firsts seconds set start n at place order through before past same x i l = both (is_member (get_or firsts i 0) order)
+    (is_member (get_or seconds i 0) order)
     (λ m. let w = place_of_member (get_or firsts i 0) order m in let k = w.1 in x.forth w.0 i (omega arith) l (sym w.2))
     (λ m. let w = place_of_member (get_or seconds i 0) order m in let k = w.1 in x.back w.0 i (omega arith) (omega arith) (sym w.2))
   where
@@ -202,9 +218,11 @@ fresh_last x e P a b = let h = member_last x e P in grind (arith, nat_tests)
 
 AreDistinct-push : (e : ℕ) (P : List ℕ) → AreDistinct P → is_member e P ≡ false → AreDistinct (P ++ e ∷ [])
 AreDistinct-push e [] d out = (refl, tt)
-AreDistinct-push e (x ∷ P) d out = let parts = or_parts (eqb e x) (is_member e P) out in (fresh_last x e P d.0 parts.0, AreDistinct-push e P d.1 parts.1)
+AreDistinct-push e (x ∷ P) d out = let parts = or_parts (eqb e x) (is_member e P) out in
+    (fresh_last x e P d.0 parts.0, AreDistinct-push e P d.1 parts.1)
 
-walk_push : (ends : ℕ → ℕ × ℕ) (edges : List ℕ) (e v w u : ℕ) → Walk ends edges v w → Joins ends e w u → Walk ends (edges ++ e ∷ []) v u
+walk_push : (ends : ℕ → ℕ × ℕ) (edges : List ℕ) (e v w u : ℕ) → Walk ends edges v w → Joins ends e w u
+    → Walk ends (edges ++ e ∷ []) v u
 walk_push ends [] e v w u k j = (u, subst (λ x. Joins ends e x u) (sym k) j, refl)
 walk_push ends (f ∷ edges) e v w u k j = (k.0, k.1, walk_push ends edges e k.0 w u k.2 j)
 
@@ -245,7 +263,8 @@ module _ (ends : ℕ → ℕ × ℕ) (X : List ℕ) (start : ℕ) (place : List 
         distinct = AreDistinct-push e s.front s.distinct (false_from_ne_true _ (λ m. (let w = s.far e m in let above = w.1 in let small = w.2 in
             elim (at_end e w.0 w.3 joins) [
               | inl same ↦ (let k = order-differ place order through before o w.0 at small inside same in absurd (omega arith))
-              | inr same ↦ (let k = order-differ place order through before o w.0 (get_or before at 0) small (omega arith) same in absurd (omega arith))
+              | inr same ↦ (let k = order-differ place order through before o w.0 (get_or before at 0) small (omega arith) same in absurd
+                  (omega arith))
             ])));
         inside = record {
           inside = λ z m. elim (or_cases (is_member z s.front) (eqb z e) (sym (member_last z e s.front) ∙ m))
@@ -255,7 +274,8 @@ module _ (ends : ℕ → ℕ × ℕ) (X : List ℕ) (start : ℕ) (place : List 
           | inl h ↦ (let w = s.far f h in let above = w.1 in (w.0, omega arith, w.2, w.3))
           | inr h ↦ (at, earlier, inside, subst (λ y. EndsAt ends order y at) (sym (eqb-true f e h)) (own_end e joins))
         ];
-        same = λ z. is_member-with_one z e with' ∙ ap (λ b. eqb z e || b) (s.same z) ∙ turned (eqb z e) (is_member z s.front) ∙ sym (member_last z e s.front);
+        same = λ z. is_member-with_one z e with' ∙ ap (λ b. eqb z e || b) (s.same z) ∙ turned (eqb z e) (is_member z s.front) ∙ sym
+            (member_last z e s.front);
       }
     where
       turned : (a b : Bool) → (a || b) ≡ (b || a)
@@ -274,7 +294,8 @@ module _ (ends : ℕ → ℕ × ℕ) (X : List ℕ) (start : ℕ) (place : List 
         | inr a ↦ elim k [ inl b ↦ inr (sym a ∙ b.1) | inr b ↦ inl (sym a ∙ b.1) ]
       ]
 
-  pub IsTracing-end : (begin at : ℕ) (with' : List ℕ) → at ≡ 0 → IsTracing ends X order begin at with' → IsTrailSet ends X (get_or order begin 0) start with'
+  pub IsTracing-end : (begin at : ℕ) (with' : List ℕ) → at ≡ 0 → IsTracing ends X order begin at with'
+      → IsTrailSet ends X (get_or order begin 0) start with'
   IsTracing-end begin at with' none s = record {
     trail = record {
       edges = s.front;
@@ -290,7 +311,8 @@ module _ (ends : ℕ → ℕ × ℕ) (X : List ℕ) (start : ℕ) (place : List 
 AllBelow-index : (n : ℕ) (xs : List ℕ) → ((i : ℕ) → i < length xs → get_or xs i 0 < n) → AllBelow n xs
 AllBelow-index n xs h = AllBelow-from_members n xs (members_by_place (λ x. x < n) xs h)
 
-walk_found : (ends : ℕ → ℕ × ℕ) (order edges : List ℕ) (v w : ℕ) → ((e : ℕ) → is_member e edges ≡ true → is_member (ends e).0 order ≡ is_member (ends e).1 order)
+walk_found : (ends : ℕ → ℕ × ℕ) (order edges : List ℕ) (v w : ℕ)
+    → ((e : ℕ) → is_member e edges ≡ true → is_member (ends e).0 order ≡ is_member (ends e).1 order)
     → is_member v order ≡ true → Walk ends edges v w → is_member w order ≡ true
 walk_found ends order [] v w closed m k = ap (λ x. is_member x order) (sym k) ∙ m
 walk_found ends order (e ∷ edges) v w closed m k =
@@ -313,16 +335,20 @@ module _ (ends : ℕ → ℕ × ℕ) (X firsts seconds : List ℕ) (a : AreEnds 
     λ i l. (let small : i < length X = (let long = a.seconds_long in omega arith) in inl (sym (a.first i small), sym (a.second i small))),
   )
 
-  pub ends_below : (n m : ℕ) → AllBelow m X → ((e : ℕ) → e < m → ((ends e).0 < n) × ((ends e).1 < n)) → AllBelow n firsts × AllBelow n seconds
+  pub ends_below : (n m : ℕ) → AllBelow m X → ((e : ℕ) → e < m → ((ends e).0 < n) × ((ends e).1 < n))
+      → AllBelow n firsts × AllBelow n seconds
   ends_below n m below graph = (
-    AllBelow-index n firsts (λ i l. (let small : i < length X = (let long = a.firsts_long in omega arith) in let e = a.first i small in let h = (graph (get_or X i 0) (member_below i small)).0 in omega arith)),
-    AllBelow-index n seconds (λ i l. (let small : i < length X = (let long = a.seconds_long in omega arith) in let e = a.second i small in let h = (graph (get_or X i 0) (member_below i small)).1 in omega arith)),
+    AllBelow-index n firsts (λ i l. (let small : i < length X = (let long = a.firsts_long in omega arith) in let e = a.first i small in let h =
+        (graph (get_or X i 0) (member_below i small)).0 in omega arith)),
+    AllBelow-index n seconds (λ i l. (let small : i < length X = (let long = a.seconds_long in omega arith) in let e = a.second i small in let h =
+        (graph (get_or X i 0) (member_below i small)).1 in omega arith)),
   )
     where
       member_below : (i : ℕ) → i < length X → get_or X i 0 < m
       member_below i l = AllBelow-at m X i below l
 
-  pub not_joined : (start v : ℕ) (place : List (Option ℕ)) (order through before : List ℕ) → IsRising X → IsOrder place order through before → IsTree ends X start order through before
+  pub not_joined : (start v : ℕ) (place : List (Option ℕ)) (order through before : List ℕ) → IsRising X
+      → IsOrder place order through before → IsTree ends X start order through before
       → ((i : ℕ) → i < length firsts → is_member (get_or firsts i 0) order ≡ is_member (get_or seconds i 0) order)
       → get_or place v None ≡ None → least_reached ends X v ≢ least_reached ends X start
   not_joined start v place order through before r o t closed none same =

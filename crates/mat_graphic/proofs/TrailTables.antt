@@ -23,7 +23,8 @@ stands_not list v i other = rw (ne_eqb (get_or list i 0) v other) (none (ltb i (
     none false = refl
 
 -- where the test fails at i, the next from i on is the next after it
-IsNextFrom-lower : (test : ℕ → Bool) (i : ℕ) (found : Option ℕ) → test i ≡ false → IsNextFrom test (suc i) found → IsNextFrom test i found
+IsNextFrom-lower : (test : ℕ → Bool) (i : ℕ) (found : Option ℕ) → test i ≡ false → IsNextFrom test (suc i) found
+    → IsNextFrom test i found
 IsNextFrom-lower test i None fails none = λ x l. elim (cases_eq x i) [ inl e ↦ ap test e ∙ fails | inr d ↦ none x (omega arith) ]
 IsNextFrom-lower test i (Some v) fails first = record {
   reaches = omega (arith, first.reaches);
@@ -35,21 +36,24 @@ IsNextFrom-here : (test : ℕ → Bool) (i : ℕ) → test i ≡ true → IsNext
 IsNextFrom-here test i h = record { reaches = omega arith; passes = h; none_before = λ x l less. absurd (omega arith) }
 
 -- an entry after a change at i
-at_change : {A : Type 0} (xs : List A) (i : ℕ) (u : A) (k : ℕ) (d : A) → i < length xs → ((k ≡ i) × (get_or (set xs i u) k d ≡ u)) ⊎ ((k ≢ i) × (get_or (set xs i u) k d ≡ get_or xs k d))
+at_change : {A : Type 0} (xs : List A) (i : ℕ) (u : A) (k : ℕ) (d : A) → i < length xs
+    → ((k ≡ i) × (get_or (set xs i u) k d ≡ u)) ⊎ ((k ≢ i) × (get_or (set xs i u) k d ≡ get_or xs k d))
 at_change xs i u k d l = elim (cases_eq k i) [
   | inl e ↦ inl (e, ap (λ j. get_or (set xs i u) j d) e ∙ rw get_or-set_same refl)
   | inr other ↦ inr (other, rw get_or-set_other refl)
 ]
 
 -- the entry of a table
-pub entry_of : (place : List (Option ℕ)) (v : ℕ) (entry : Option ℕ) → v < length place → entry ≡ get_or place v entry → get_or place v None ≡ entry
+pub entry_of : (place : List (Option ℕ)) (v : ℕ) (entry : Option ℕ) → v < length place → entry ≡ get_or place v entry
+    → get_or place v None ≡ entry
 entry_of place v entry l read = get_or_default place v None entry l ∙ sym read
 
 -- ---- the places of each vertex, from the last place to the first
 
 pub ArePlaces-none : (list : List ℕ) (n k : ℕ) → k ≡ length list → ArePlaces list k (replicate n None) (replicate k None)
 ArePlaces-none list n k e = record {
-  first_is = λ v l. subst (IsNextFrom (stands_at list v) k) (sym (get_or-replicate {A = Option ℕ} n v None None (small n v l))) (λ x past. stands_past list v x (omega arith));
+  first_is = λ v l. subst (IsNextFrom (stands_at list v) k) (sym (get_or-replicate {A = Option ℕ} n v None None (small n v l)))
+      (λ x past. stands_past list v x (omega arith));
   next_is = λ i past l. absurd (omega arith);
   long = length-replicate {A = Option ℕ} k None ∙ e;
 }
@@ -57,21 +61,26 @@ ArePlaces-none list n k e = record {
     small : (n v : ℕ) → v < length (replicate {A = Option ℕ} n None) → v < n
     small n v l = let long = length-replicate {A = Option ℕ} n None in omega arith
 
-pub ArePlaces-more : (list : List ℕ) (first next : List (Option ℕ)) (i j v : ℕ) → i ≡ suc j → j < length list → v ≡ get_or list j 0 → v < length first
+pub ArePlaces-more : (list : List ℕ) (first next : List (Option ℕ)) (i j v : ℕ) → i ≡ suc j → j < length list → v ≡ get_or list j 0
+    → v < length first
     → ArePlaces list i first next → ArePlaces list j (set first v (Some j)) (set next j (get_or first v None))
 ArePlaces-more list first next i j v after inside item small p =
     let long = p.long in
     record {
       first_is = λ w l. elim (at_change first v (Some j) w None small) [
         | inl a ↦ subst (IsNextFrom (stands_at list w) j) (sym a.1)
-            (subst (λ z. IsNextFrom (stands_at list z) j (Some j)) (sym (a.0 ∙ item)) (IsNextFrom-here (stands_at list (get_or list j 0)) j (stands_here list j inside)))
-        | inr a ↦ subst (IsNextFrom (stands_at list w) j) (sym a.1) (IsNextFrom-lower (stands_at list w) j (get_or first w None) (stands_not list w j (λ e. a.0 (sym e ∙ sym item)))
-            (subst (λ z. IsNextFrom (stands_at list w) z (get_or first w None)) after (p.first_is w (let same = length-set first v (Some j) in omega arith))))
+            (subst (λ z. IsNextFrom (stands_at list z) j (Some j)) (sym (a.0 ∙ item))
+            (IsNextFrom-here (stands_at list (get_or list j 0)) j (stands_here list j inside)))
+        | inr a ↦ subst (IsNextFrom (stands_at list w) j) (sym a.1) (IsNextFrom-lower (stands_at list w) j (get_or first w None)
+            (stands_not list w j (λ e. a.0 (sym e ∙ sym item)))
+            (subst (λ z. IsNextFrom (stands_at list w) z (get_or first w None)) after
+            (p.first_is w (let same = length-set first v (Some j) in omega arith))))
       ];
       next_is = λ m past l. elim (at_change next j (get_or first v None) m None (omega arith)) [
         | inl a ↦ subst (IsNextFrom (stands_at list (get_or list m 0)) (suc m)) (sym a.1)
             (subst (λ z. IsNextFrom (stands_at list (get_or list z 0)) (suc z) (get_or first v None)) (sym a.0)
-            (subst (λ z. IsNextFrom (stands_at list z) (suc j) (get_or first v None)) item (subst (λ z. IsNextFrom (stands_at list v) z (get_or first v None)) after (p.first_is v small))))
+            (subst (λ z. IsNextFrom (stands_at list z) (suc j) (get_or first v None)) item
+            (subst (λ z. IsNextFrom (stands_at list v) z (get_or first v None)) after (p.first_is v small))))
         | inr a ↦ subst (IsNextFrom (stands_at list (get_or list m 0)) (suc m)) (sym a.1) (p.next_is m (let other = a.0 in omega arith) l)
       ];
       long = length-set next j (get_or first v None) ∙ long;
@@ -86,10 +95,12 @@ pub record AreEndsBefore (ends : ℕ → ℕ × ℕ) (X : List ℕ) (i : ℕ) (f
   pub first : (k : ℕ) → k < i → get_or firsts k 0 ≡ (ends (get_or X k 0)).0
   pub second : (k : ℕ) → k < i → get_or seconds k 0 ≡ (ends (get_or X k 0)).1
 
-pushed : (xs : List ℕ) (i x k : ℕ) (f : ℕ → ℕ) → length xs ≡ i → x ≡ f i → ((j : ℕ) → j < i → get_or xs j 0 ≡ f j) → k < i + 1 → get_or (xs ++ x ∷ []) k 0 ≡ f k
+pushed : (xs : List ℕ) (i x k : ℕ) (f : ℕ → ℕ) → length xs ≡ i → x ≡ f i → ((j : ℕ) → j < i → get_or xs j 0 ≡ f j)
+    → k < i + 1 → get_or (xs ++ x ∷ []) k 0 ≡ f k
 pushed xs i x k f long last before l = elim (cases_lt k i) [
   | inl less ↦ get_or_append_left xs (x ∷ []) 0 k (omega arith) ∙ before k less
-  | inr le ↦ (let e : k ≡ length xs = omega arith in ap (λ j. get_or (xs ++ x ∷ []) j 0) e ∙ get_or-append_seam xs x [] 0 ∙ last ∙ ap f (sym long ∙ sym e))
+  | inr le ↦ (let e : k ≡ length xs = omega arith in ap (λ j. get_or (xs ++ x ∷ []) j 0) e ∙ get_or-append_seam xs x [] 0 ∙ last ∙ ap f
+      (sym long ∙ sym e))
 ]
 
 pub AreEndsBefore-more : (ends : ℕ → ℕ × ℕ) (X : List ℕ) (i : ℕ) (firsts seconds : List ℕ) → AreEndsBefore ends X i firsts seconds
@@ -101,7 +112,8 @@ AreEndsBefore-more ends X i firsts seconds a = record {
   second = λ k l. pushed seconds i (ends (get_or X i 0)).1 k (λ j. (ends (get_or X j 0)).1) a.seconds_long refl a.second l;
 }
 
-pub AreEnds-end : (ends : ℕ → ℕ × ℕ) (X : List ℕ) (i : ℕ) (firsts seconds : List ℕ) → i ≡ length X → AreEndsBefore ends X i firsts seconds → AreEnds ends X firsts seconds
+pub AreEnds-end : (ends : ℕ → ℕ × ℕ) (X : List ℕ) (i : ℕ) (firsts seconds : List ℕ) → i ≡ length X
+    → AreEndsBefore ends X i firsts seconds → AreEnds ends X firsts seconds
 AreEnds-end ends X i firsts seconds e a = record {
   firsts_long = a.firsts_long ∙ e;
   seconds_long = a.seconds_long ∙ e;
@@ -120,16 +132,19 @@ number_of None = 0
 number_of (Some k) = k
 
 module _ (place : List (Option ℕ)) (order through before : List ℕ) (o : IsOrder place order through before) where
-  pub found_before : (v : ℕ) (entry : Option ℕ) → v < length place → entry ≡ get_or place v entry → is_some entry ≡ true → is_member v order ≡ true
+  pub found_before : (v : ℕ) (entry : Option ℕ) → v < length place → entry ≡ get_or place v entry → is_some entry ≡ true
+      → is_member v order ≡ true
   found_before v None l read h = absurd (both_ways false refl h)
   found_before v (Some k) l read h = let known = o.known v k l (entry_of place v (Some k) l read) in is_member-get_or order k v known.0 known.1
 
-  pub not_found : (v : ℕ) (entry : Option ℕ) → v < length place → entry ≡ get_or place v entry → is_some entry ≡ false → get_or place v None ≡ None
+  pub not_found : (v : ℕ) (entry : Option ℕ) → v < length place → entry ≡ get_or place v entry → is_some entry ≡ false
+      → get_or place v None ≡ None
   not_found v None l read h = entry_of place v None l read
   not_found v (Some k) l read h = absurd (both_ways true h refl)
 
   pub found_now : (v : ℕ) → is_member v (order ++ v ∷ []) ≡ true
-  found_now v = is_member-get_or (order ++ v ∷ []) (length order) v (let long = length-append order (v ∷ []) in omega arith) (get_or-append_seam order v [] 0)
+  found_now v = is_member-get_or (order ++ v ∷ []) (length order) v (let long = length-append order (v ∷ []) in omega arith)
+      (get_or-append_seam order v [] 0)
 
   -- an item after a push
   pushed_at : (xs : List ℕ) (x k : ℕ) → length xs ≡ length order → k < length (order ++ x ∷ [])
@@ -142,22 +157,28 @@ module _ (place : List (Option ℕ)) (order through before : List ℕ) (o : IsOr
   ]
 
   module _ (u e at : ℕ) (small : u < length place) (fresh : get_or place u None ≡ None) (inside : at < length order) where
-    placed_more : (k : ℕ) → k < length (order ++ u ∷ []) → get_or (set place u (Some (length order))) (get_or (order ++ u ∷ []) k 0) None ≡ Some k
+    placed_more : (k : ℕ) → k < length (order ++ u ∷ [])
+        → get_or (set place u (Some (length order))) (get_or (order ++ u ∷ []) k 0) None ≡ Some k
     placed_more k l = elim (pushed_at order u k refl l) [
-      | inl a ↦ ap (λ v. get_or (set place u (Some (length order))) v None) a.1 ∙ elim (at_change place u (Some (length order)) (get_or order k 0) None small) [
-        | inl b ↦ absurd (none (sym fresh ∙ ap (λ v. get_or place v None) (sym b.0) ∙ o.placed k a.0))
-        | inr b ↦ b.1 ∙ o.placed k a.0
-      ]
+      | inl a ↦ ap (λ v. get_or (set place u (Some (length order))) v None) a.1 ∙ elim
+          (at_change place u (Some (length order)) (get_or order k 0) None small) [
+            | inl b ↦ absurd (none (sym fresh ∙ ap (λ v. get_or place v None) (sym b.0) ∙ o.placed k a.0))
+            | inr b ↦ b.1 ∙ o.placed k a.0
+          ]
       | inr a ↦ ap (λ v. get_or (set place u (Some (length order))) v None) a.1 ∙ rw get_or-set_same (ap Some (sym a.0))
     ]
       where
         none : {k : ℕ} → None ≡ Some k → ⊥
         none {k} h = both_ways (is_some (Some k)) (ap is_some (sym h)) refl
 
-    known_more : (v k : ℕ) → v < length place → get_or (set place u (Some (length order))) v None ≡ Some k → (k < length (order ++ u ∷ [])) × (get_or (order ++ u ∷ []) k 0 ≡ v)
+    known_more : (v k : ℕ) → v < length place → get_or (set place u (Some (length order))) v None ≡ Some k
+        → (k < length (order ++ u ∷ [])) × (get_or (order ++ u ∷ []) k 0 ≡ v)
     known_more v k l h = elim (at_change place u (Some (length order)) v None small) [
-      | inl a ↦ (let here : k ≡ length order = sym (ap number_of (sym a.1 ∙ h)) in
-          (omega (arith, here, length-append order (u ∷ [])), ap (λ j. get_or (order ++ u ∷ []) j 0) here ∙ get_or-append_seam order u [] 0 ∙ sym a.0))
+      | inl a ↦ (let here : k ≡ length order = sym (ap number_of (sym a.1 ∙ h)) in (
+        omega (arith, here, length-append order (u ∷ [])),
+        ap (λ j. get_or (order ++ u ∷ []) j 0) here ∙ get_or-append_seam order u [] 0
+            ∙ sym a.0,
+      ))
       | inr a ↦ (let known = o.known v k l (sym a.1 ∙ h) in
           let first = known.0 in
           (omega (arith, length-append order (u ∷ [])), get_or_append_left order (u ∷ []) 0 k first ∙ known.1))
@@ -165,13 +186,15 @@ module _ (place : List (Option ℕ)) (order through before : List ℕ) (o : IsOr
 
     IsOrder-more : IsOrder (set place u (Some (length order))) (order ++ u ∷ []) (through ++ e ∷ []) (before ++ at ∷ [])
     IsOrder-more = record {
-      below = subst (λ n. AllBelow n (order ++ u ∷ [])) (sym (length-set place u (Some (length order)))) (AllBelow-push (length place) order u small o.below);
+      below = subst (λ n. AllBelow n (order ++ u ∷ [])) (sym (length-set place u (Some (length order))))
+          (AllBelow-push (length place) order u small o.below);
       placed = placed_more;
       known = λ v k l. known_more v k (let same = length-set place u (Some (length order)) in omega arith);
       through_long = let long = o.through_long in let a = length-append through (e ∷ []) in let b = length-append order (u ∷ []) in omega arith;
       before_long = let long = o.before_long in let a = length-append before (at ∷ []) in let b = length-append order (u ∷ []) in omega arith;
       earlier = λ k positive l. elim (cases_lt k (length order)) [
-        | inl less ↦ (let h = get_or_append_left before (at ∷ []) 0 k (let long = o.before_long in omega arith) in let was = o.earlier k positive less in omega arith)
+        | inl less ↦ (let h = get_or_append_left before (at ∷ []) 0 k
+            (let long = o.before_long in omega arith) in let was = o.earlier k positive less in omega arith)
         | inr le ↦ (let all = length-append order (u ∷ []) in
             let here : k ≡ length before = (let long = o.before_long in omega arith) in
             let h = ap (λ j. get_or (before ++ at ∷ []) j 0) here ∙ get_or-append_seam before at [] 0 in
@@ -179,32 +202,41 @@ module _ (place : List (Option ℕ)) (order through before : List ℕ) (o : IsOr
       ];
     }
 
-    pub IsOrder-last : (k : ℕ) → k ≡ length order → IsOrder (set place u (Some k)) (order ++ u ∷ []) (through ++ e ∷ []) (before ++ at ∷ [])
-    IsOrder-last k same = subst (λ j. IsOrder (set place u (Some j)) (order ++ u ∷ []) (through ++ e ∷ []) (before ++ at ∷ [])) (sym same) IsOrder-more
+    pub IsOrder-last : (k : ℕ) → k ≡ length order
+        → IsOrder (set place u (Some k)) (order ++ u ∷ []) (through ++ e ∷ []) (before ++ at ∷ [])
+    IsOrder-last k same = subst (λ j. IsOrder (set place u (Some j)) (order ++ u ∷ []) (through ++ e ∷ []) (before ++ at ∷ []))
+        (sym same) IsOrder-more
 
-    pub IsTree-more : (ends : ℕ → ℕ × ℕ) (X : List ℕ) (start : ℕ) → is_member e X ≡ true → Joins ends e u (get_or order at 0) → IsTree ends X start order through before
+    pub IsTree-more : (ends : ℕ → ℕ × ℕ) (X : List ℕ) (start : ℕ) → is_member e X ≡ true → Joins ends e u (get_or order at 0)
+        → IsTree ends X start order through before
         → IsTree ends X start (order ++ u ∷ []) (through ++ e ∷ []) (before ++ at ∷ [])
     IsTree-more ends X start member joins t = record {
       some = let some = t.some in let all = length-append order (u ∷ []) in omega arith;
       first = get_or_append_left order (u ∷ []) 0 0 t.some ∙ t.first;
       member = λ k positive l. elim (cases_lt k (length order)) [
-        | inl less ↦ ap (λ z. is_member z X) (get_or_append_left through (e ∷ []) 0 k (let long = o.through_long in omega arith)) ∙ t.member k positive less
+        | inl less ↦ ap (λ z. is_member z X) (get_or_append_left through (e ∷ []) 0 k (let long = o.through_long in omega arith))
+            ∙ t.member k positive less
         | inr le ↦ ap (λ z. is_member z X) (last through e k o.through_long le l) ∙ member
       ];
       joined = λ k positive l. elim (cases_lt k (length order)) [
-        | inl less ↦ joined_at (get_or_append_left through (e ∷ []) 0 k (let long = o.through_long in omega arith)) (get_or_append_left order (u ∷ []) 0 k less)
+        | inl less ↦ joined_at (get_or_append_left through (e ∷ []) 0 k (let long = o.through_long in omega arith))
+            (get_or_append_left order (u ∷ []) 0 k less)
             (ap (λ j. get_or (order ++ u ∷ []) j 0) (get_or_append_left before (at ∷ []) 0 k (let long = o.before_long in omega arith))
-            ∙ get_or_append_left order (u ∷ []) 0 (get_or before k 0) (let was = o.earlier k positive less in omega arith)) (t.joined k positive less)
+            ∙ get_or_append_left order (u ∷ []) 0 (get_or before k 0) (let was = o.earlier k positive less in omega arith))
+            (t.joined k positive less)
         | inr le ↦ joined_at (last through e k o.through_long le l) (last order u k refl le l)
-            (ap (λ j. get_or (order ++ u ∷ []) j 0) (last before at k o.before_long le l) ∙ get_or_append_left order (u ∷ []) 0 at inside) joins
+            (ap (λ j. get_or (order ++ u ∷ []) j 0) (last before at k o.before_long le l) ∙ get_or_append_left order
+            (u ∷ []) 0 at inside) joins
       ];
     }
       where
-        last : (xs : List ℕ) (x k : ℕ) → length xs ≡ length order → length order ≤ k → k < length (order ++ u ∷ []) → get_or (xs ++ x ∷ []) k 0 ≡ x
+        last : (xs : List ℕ) (x k : ℕ) → length xs ≡ length order → length order ≤ k → k < length (order ++ u ∷ [])
+            → get_or (xs ++ x ∷ []) k 0 ≡ x
         last xs x k long le l =
             let all = length-append order (u ∷ []) in
             let here : k ≡ length xs = omega arith in
             ap (λ j. get_or (xs ++ x ∷ []) j 0) here ∙ get_or-append_seam xs x [] 0
 
         joined_at : {f g v x w y : ℕ} → f ≡ g → v ≡ x → w ≡ y → Joins ends g x y → Joins ends f v w
-        joined_at {f} {g} {v} {x} {w} {y} a b c j = subst (λ z. Joins ends z v w) (sym a) (subst (λ z. Joins ends g z w) (sym b) (subst (Joins ends g x) (sym c) j))
+        joined_at {f} {g} {v} {x} {w} {y} a b c j = subst (λ z. Joins ends z v w) (sym a)
+            (subst (λ z. Joins ends g z w) (sym b) (subst (Joins ends g x) (sym c) j))

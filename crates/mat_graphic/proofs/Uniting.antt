@@ -9,20 +9,24 @@ use Rattle.mat_graphic.proofs.ParentTables.{IsParentTable-equal}
 module _ (ends : ℕ → ℕ × ℕ) where
   -- one more edge
   pub table_more : (e : ℕ) (X parent : List ℕ)
-      → IsParentTable (λ v. merged (least_reached ends X (ends e).0) (least_reached ends X (ends e).1) (least_reached ends X v)) parent → IsParentTable (least_reached ends (e ∷ X)) parent
+      → IsParentTable (λ v. merged (least_reached ends X (ends e).0) (least_reached ends X (ends e).1) (least_reached ends X v)) parent
+      → IsParentTable (least_reached ends (e ∷ X)) parent
   unfolding least_reached
   table_more e X parent t = IsParentTable-equal _ (least_reached ends (e ∷ X)) parent (λ v. refl) t
 
-  pub forest_more : (e : ℕ) (X : List ℕ) (apart : Bool) → apart ≡ not (eqb (least_reached ends X (ends e).0) (least_reached ends X (ends e).1))
+  pub forest_more : (e : ℕ) (X : List ℕ) (apart : Bool)
+      → apart ≡ not (eqb (least_reached ends X (ends e).0) (least_reached ends X (ends e).1))
       → is_forest ends (e ∷ X) ≡ (is_forest ends X && apart)
   unfolding is_forest
   forest_more e X apart h = ap (λ b. is_forest ends X && b) (sym h)
 
   -- no edge at all
-  pub table_none : (X parent : List ℕ) (k : ℕ) → k ≡ length X → IsParentTable (λ v. v) parent → IsParentTable (least_reached ends (drop k X)) parent
+  pub table_none : (X parent : List ℕ) (k : ℕ) → k ≡ length X → IsParentTable (λ v. v) parent
+      → IsParentTable (least_reached ends (drop k X)) parent
   unfolding least_reached
   table_none X parent k e t =
-      subst (λ Y. IsParentTable (least_reached ends Y) parent) (sym (drop_all k X (omega arith))) (IsParentTable-equal (λ v. v) (least_reached ends []) parent (λ v. refl) t)
+      subst (λ Y. IsParentTable (least_reached ends Y) parent) (sym (drop_all k X (omega arith)))
+      (IsParentTable-equal (λ v. v) (least_reached ends []) parent (λ v. refl) t)
 
   pub forest_none : (X : List ℕ) (k : ℕ) → k ≡ length X → is_forest ends (drop k X) ≡ true
   unfolding is_forest
@@ -33,10 +37,12 @@ module _ (ends : ℕ → ℕ × ℕ) where
   unfolding is_forest
   not_forest_from zero X h = h
   not_forest_from (suc k) [] h = h
-  not_forest_from (suc k) (x ∷ X) h = ap (λ b. b && not (eqb (least_reached ends X (ends x).0) (least_reached ends X (ends x).1))) (not_forest_from k X h)
+  not_forest_from (suc k) (x ∷ X) h = ap (λ b. b && not (eqb (least_reached ends X (ends x).0) (least_reached ends X (ends x).1)))
+      (not_forest_from k X h)
 
   pub not_forest : (X : List ℕ) (k i e : ℕ) (apart : Bool) → i ≡ k + 1 → i ≤ length X → e ≡ get_or X k 0
       → is_forest ends (e ∷ drop i X) ≡ (is_forest ends (drop i X) && apart) → apart ≡ false → false ≡ is_forest ends X
   not_forest X k i e apart next inside item told fails =
-      sym (not_forest_from k X (ap (is_forest ends) (drop_more X k 0 (omega arith) ∙ ap (λ j. get_or X k 0 ∷ drop j X) (sym next) ∙ ap (λ z. z ∷ drop i X) (sym item))
+      sym (not_forest_from k X (ap (is_forest ends) (drop_more X k 0 (omega arith) ∙ ap (λ j. get_or X k 0 ∷ drop j X) (sym next) ∙ ap
+      (λ z. z ∷ drop i X) (sym item))
       ∙ told ∙ and_right (is_forest ends (drop i X)) apart fails))

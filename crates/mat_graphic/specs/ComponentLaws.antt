@@ -71,8 +71,10 @@ pub merged-fixed : (f : ℕ → ℕ) (a b v : ℕ) → f (f a) ≡ f a → f (f 
     → merged (f a) (f b) (f (merged (f a) (f b) (f v))) ≡ merged (f a) (f b) (f v)
 merged-fixed f a b v ha hb hv = elim (merged_cases (f a) (f b) (f v)) [
   | inl c ↦ elim (min_cases (f a) (f b)) [
-    | inl d ↦ (let e : merged (f a) (f b) (f v) ≡ f a = c.1 ∙ d.1 in ap (λ z. merged (f a) (f b) (f z)) e ∙ ap (merged (f a) (f b)) ha ∙ merged-first (f a) (f b) ∙ sym c.1)
-    | inr d ↦ (let e : merged (f a) (f b) (f v) ≡ f b = c.1 ∙ d.1 in ap (λ z. merged (f a) (f b) (f z)) e ∙ ap (merged (f a) (f b)) hb ∙ merged-second (f a) (f b) ∙ sym c.1)
+    | inl d ↦ (let e : merged (f a) (f b) (f v) ≡ f a = c.1 ∙ d.1 in ap (λ z. merged (f a) (f b) (f z)) e ∙ ap (merged (f a) (f b)) ha
+        ∙ merged-first (f a) (f b) ∙ sym c.1)
+    | inr d ↦ (let e : merged (f a) (f b) (f v) ≡ f b = c.1 ∙ d.1 in ap (λ z. merged (f a) (f b) (f z)) e ∙ ap (merged (f a) (f b)) hb
+        ∙ merged-second (f a) (f b) ∙ sym c.1)
   ]
   | inr c ↦ ap (λ z. merged (f a) (f b) (f z)) c.2 ∙ ap (merged (f a) (f b)) hv
 ]
@@ -85,7 +87,8 @@ differ_turned e x h = grind (arith, nat_tests)
 pub in_tail : (e f : ℕ) (edges : List ℕ) → is_member e (f ∷ edges) ≡ true → eqb e f ≡ false → is_member e edges ≡ true
 in_tail e f edges a b = grind (arith, nat_tests)
 
-missing_joined : (x e : ℕ) (P Q : List ℕ) → is_member x P ≡ false → is_member x Q ≡ false → eqb x e ≡ false → is_member x (P ++ e ∷ Q) ≡ false
+missing_joined : (x e : ℕ) (P Q : List ℕ) → is_member x P ≡ false → is_member x Q ≡ false → eqb x e ≡ false
+    → is_member x (P ++ e ∷ Q) ≡ false
 missing_joined x e P Q a b c = let h = is_member-append x P (e ∷ Q) in grind (arith, nat_tests)
 
 AreDistinct-joined : (e : ℕ) (P Q : List ℕ) → AreDistinct P → AreDistinct Q → is_member e P ≡ false → is_member e Q ≡ false
@@ -110,13 +113,19 @@ module _ (ends : ℕ → ℕ × ℕ) where
   pub least_reached-le : (X : List ℕ) (v : ℕ) → least_reached ends X v ≤ v
   unfolding least_reached
   least_reached-le [] v = omega arith
-  least_reached-le (e ∷ X) v = omega (arith, least_reached-le X v, merged-le (least_reached ends X (ends e).0) (least_reached ends X (ends e).1) (least_reached ends X v))
+  least_reached-le (e ∷ X) v = omega (
+    arith,
+    least_reached-le X v,
+    merged-le (least_reached ends X (ends e).0) (least_reached ends X (ends e).1)
+        (least_reached ends X v),
+  )
 
   pub least_reached-fixed : (X : List ℕ) (v : ℕ) → least_reached ends X (least_reached ends X v) ≡ least_reached ends X v
   unfolding least_reached
   least_reached-fixed [] v = refl
   least_reached-fixed (e ∷ X) v =
-      merged-fixed (least_reached ends X) (ends e).0 (ends e).1 v (least_reached-fixed X (ends e).0) (least_reached-fixed X (ends e).1) (least_reached-fixed X v)
+      merged-fixed (least_reached ends X) (ends e).0 (ends e).1 v (least_reached-fixed X (ends e).0) (least_reached-fixed X (ends e).1)
+      (least_reached-fixed X v)
 
   -- it is the same at both ends of an edge
   abbrev pub IsWithin : List ℕ → ℕ → Type 0
@@ -150,7 +159,8 @@ module _ (ends : ℕ → ℕ × ℕ) where
       ∙ walk_same X edges k.0 w (λ f m. h f (or_right (eqb f e) (is_member f edges) m)) k.2
 
   -- so at the ends of each edge of a walk it is what it is at the start
-  walk_edge : (X edges : List ℕ) (v w f : ℕ) → ((e : ℕ) → is_member e edges ≡ true → IsWithin X e) → Walk ends edges v w → is_member f edges ≡ true
+  walk_edge : (X edges : List ℕ) (v w f : ℕ) → ((e : ℕ) → is_member e edges ≡ true → IsWithin X e) → Walk ends edges v w
+      → is_member f edges ≡ true
       → least_reached ends X (ends f).0 ≡ least_reached ends X v
   walk_edge X [] v w f h k m = absurd (false≢true m)
   walk_edge X (e ∷ edges) v w f h k m =
@@ -169,7 +179,15 @@ module _ (ends : ℕ → ℕ × ℕ) where
 
   abbrev trail_in_more : (e : ℕ) (X : List ℕ) (v w : ℕ) → Trail ends X v w → Trail ends (e ∷ X) v w
   trail_in_more e X v w P =
-      record { edges = P.edges; distinct = P.distinct; inside = record { inside = λ z k. or_right (eqb z e) (is_member z X) (P.inside.inside z k) }; walk = P.walk }
+      record {
+        edges = P.edges;
+        distinct = P.distinct;
+        inside = record {
+          inside = λ z k. or_right (eqb z e) (is_member z X)
+              (P.inside.inside z k);
+        };
+        walk = P.walk;
+      }
 
   -- two trails in different components and an edge between them
   joined_trail : (e : ℕ) (X : List ℕ) (v a b w : ℕ) → is_member e X ≡ false → least_reached ends X v ≢ least_reached ends X w
@@ -184,11 +202,12 @@ module _ (ends : ℕ → ℕ × ℕ) where
             (λ f m. false_from_ne_true _ (λ n. d (sym (walk_edge X P.edges v a f first P.walk m)
             ∙ walk_edge X Q.edges b w f second Q.walk n ∙ walk_same X Q.edges b w second Q.walk)));
         inside = record {
-          inside = λ z m. elim (or_cases (is_member z P.edges) (is_member z (e ∷ Q.edges)) (sym (is_member-append z P.edges (e ∷ Q.edges)) ∙ m)) [
-            | inl h ↦ or_right (eqb z e) (is_member z X) (P.inside.inside z h)
-            | inr h ↦ elim (or_cases (eqb z e) (is_member z Q.edges) h)
-                [ inl k ↦ or_left (eqb z e) (is_member z X) k | inr k ↦ or_right (eqb z e) (is_member z X) (Q.inside.inside z k) ]
-          ];
+          inside = λ z m. elim (or_cases (is_member z P.edges) (is_member z (e ∷ Q.edges))
+              (sym (is_member-append z P.edges (e ∷ Q.edges)) ∙ m)) [
+                | inl h ↦ or_right (eqb z e) (is_member z X) (P.inside.inside z h)
+                | inr h ↦ elim (or_cases (eqb z e) (is_member z Q.edges) h)
+                    [ inl k ↦ or_left (eqb z e) (is_member z X) k | inr k ↦ or_right (eqb z e) (is_member z X) (Q.inside.inside z k) ]
+              ];
         };
         walk = walk_append P.edges (e ∷ Q.edges) v a w P.walk (b, j, Q.walk);
       }
@@ -200,15 +219,16 @@ module _ (ends : ℕ → ℕ × ℕ) where
       let out : is_member e X ≡ false = missing_below e (suc e) X (omega arith) r.1 in
       elim (cases_eq (least_reached ends X v) (least_reached ends X w)) [
         | inl same ↦ trail_in_more e X v w (trail_from (suc e) X v w r.1 same)
-        | inr d ↦ elim (merged_equal (least_reached ends X (ends e).0) (least_reached ends X (ends e).1) (least_reached ends X v) (least_reached ends X w) h) [
-          | inl same ↦ absurd (d same)
-          | inr k ↦ elim k [
-            | inl c ↦ joined_trail e X v (ends e).0 (ends e).1 w out d (inl (refl, refl))
-                (trail_from (suc e) X v (ends e).0 r.1 c.0) (trail_from (suc e) X (ends e).1 w r.1 (sym c.1))
-            | inr c ↦ joined_trail e X v (ends e).1 (ends e).0 w out d (inr (refl, refl))
-                (trail_from (suc e) X v (ends e).1 r.1 c.0) (trail_from (suc e) X (ends e).0 w r.1 (sym c.1))
-          ]
-        ]
+        | inr d ↦ elim (merged_equal (least_reached ends X (ends e).0) (least_reached ends X (ends e).1) (least_reached ends X v)
+            (least_reached ends X w) h) [
+              | inl same ↦ absurd (d same)
+              | inr k ↦ elim k [
+                | inl c ↦ joined_trail e X v (ends e).0 (ends e).1 w out d (inl (refl, refl))
+                    (trail_from (suc e) X v (ends e).0 r.1 c.0) (trail_from (suc e) X (ends e).1 w r.1 (sym c.1))
+                | inr c ↦ joined_trail e X v (ends e).1 (ends e).0 w out d (inr (refl, refl))
+                    (trail_from (suc e) X v (ends e).1 r.1 c.0) (trail_from (suc e) X (ends e).0 w r.1 (sym c.1))
+              ]
+            ]
       ]
 
   -- vertices where it is the same are joined by a trail

@@ -26,7 +26,8 @@ reaching_lower ends (e ∷ X) =
     (with_one (reaching_lower ends X) (max (least_reached ends X (ends e).0) (least_reached ends X (ends e).1)))
 
 -- the higher of p and q is no longer least in its component; any other vertex is so as before
-merged_lower : (p q r z : ℕ) → p ≢ q → (z ≡ p → r ≡ z) → (z ≡ q → r ≡ z) → (eqb z (max p q) || not (eqb r z)) ≡ not (eqb (merged p q r) z)
+merged_lower : (p q r z : ℕ) → p ≢ q → (z ≡ p → r ≡ z) → (z ≡ q → r ≡ z)
+    → (eqb z (max p q) || not (eqb r z)) ≡ not (eqb (merged p q r) z)
 merged_lower p q r z d hp hq = elim (cases_eq z (max p q)) [
   | inl e ↦ rw (eq-eqb z (max p q) e, ne_eqb (merged p q r) z (λ m. high e m)) refl
   | inr o ↦ rw (ne_eqb z (max p q) o) (same o)
@@ -35,7 +36,8 @@ merged_lower p q r z d hp hq = elim (cases_eq z (max p q)) [
     high : z ≡ max p q → merged p q r ≡ z → ⊥
     high e m = elim (cases_lt p q) [
       | inl l ↦ (let own : r ≡ z = hq (omega arith) in elim (merged_cases p q r) [ inl c ↦ omega (arith, c.1) | inr c ↦ c.1 (omega arith) ])
-      | inr l ↦ (let own : r ≡ z = hp (omega arith) in elim (merged_cases p q r) [ inl c ↦ d (omega (arith, c.1)) | inr c ↦ c.0 (omega arith) ])
+      | inr l ↦ (let own : r ≡ z = hp (omega arith) in elim (merged_cases p q r)
+          [ inl c ↦ d (omega (arith, c.1)) | inr c ↦ c.0 (omega arith) ])
     ]
 
     same : z ≢ max p q → not (eqb r z) ≡ not (eqb (merged p q r) z)
@@ -86,18 +88,26 @@ module _ (ends : ℕ → ℕ × ℕ) where
       ]
 
   -- a forest stays one with an edge between two of its components
-  pub IsForest-more : (X : List ℕ) (e : ℕ) (Y : List ℕ) → IsForest ends X → least_reached ends X (ends e).0 ≢ least_reached ends X (ends e).1
+  pub IsForest-more : (X : List ℕ) (e : ℕ) (Y : List ℕ) → IsForest ends X
+      → least_reached ends X (ends e).0 ≢ least_reached ends X (ends e).1
       → ((z : ℕ) → is_member z Y ≡ true → eqb z e ≡ false → is_member z X ≡ true) → IsForest ends Y
   IsForest-more X e Y forest apart others = record {
     never_closed = λ g edges v w d inside k q. elim (cases_Bool (is_member e (g ∷ edges))) [
-      | inl m ↦ absurd (apart (crossed_once X e (g ∷ edges) v w d m (λ h n o. member_within ends X h (others h (inside.inside h n) o)) k (ap (least_reached ends X) q)))
+      | inl m ↦ absurd (apart (crossed_once X e (g ∷ edges) v w d m (λ h n o. member_within ends X h (others h (inside.inside h n) o)) k
+          (ap (least_reached ends X) q)))
       | inr m ↦ forest.never_closed g edges v w d
-          (record { inside = λ z n. others z (inside.inside z n) (ne_eqb z e (λ r. both_ways _ m (ap (λ x. is_member x (g ∷ edges)) (sym r) ∙ n))) }) k q
+          (record {
+            inside = λ z n. others z (inside.inside z n) (ne_eqb z e
+                (λ r. both_ways _ m (ap (λ x. is_member x (g ∷ edges)) (sym r) ∙ n)));
+          }) k q
     ];
   }
 
   pub IsForest-subset : (X Y : List ℕ) → IsSubset X Y → IsForest ends Y → IsForest ends X
-  IsForest-subset X Y s forest = record { never_closed = λ e edges v w d inside k. forest.never_closed e edges v w d (record { inside = λ z m. s.inside z (inside.inside z m) }) k }
+  IsForest-subset X Y s forest = record {
+    never_closed = λ e edges v w d inside k. forest.never_closed e edges v w d
+        (record { inside = λ z m. s.inside z (inside.inside z m) }) k;
+  }
 
   -- what passes the test is a forest
   pub IsForest-from_test : (X : List ℕ) → is_forest ends X ≡ true → IsForest ends X
@@ -146,8 +156,10 @@ module _ (ends : ℕ → ℕ × ℕ) where
       let q = least_reached ends X (ends e).1 in
       let r = least_reached ends X z in
       elim (cases_eq p q) [
-        | inl s ↦ rw (eq-eqb p q s) (is_member-reaching_lower X z ∙ ap (λ k. not (eqb k z)) (sym (ap (λ k. merged p k r) (sym s) ∙ merged-same p r)))
-        | inr d ↦ rw (ne_eqb p q d) (is_member-with_one z (max p q) (reaching_lower ends X) ∙ ap (λ b. eqb z (max p q) || b) (is_member-reaching_lower X z)
+        | inl s ↦ rw (eq-eqb p q s) (is_member-reaching_lower X z ∙ ap (λ k. not (eqb k z))
+            (sym (ap (λ k. merged p k r) (sym s) ∙ merged-same p r)))
+        | inr d ↦ rw (ne_eqb p q d) (is_member-with_one z (max p q) (reaching_lower ends X) ∙ ap (λ b. eqb z (max p q) || b)
+            (is_member-reaching_lower X z)
             ∙ merged_lower p q r z d (own X (ends e).0 z) (own X (ends e).1 z))
       ]
 
@@ -157,7 +169,11 @@ module _ (ends : ℕ → ℕ × ℕ) where
   IsRising-reaching_lower (e ∷ X) =
       let p = least_reached ends X (ends e).0 in
       let q = least_reached ends X (ends e).1 in
-      elim (cases_Bool (eqb p q)) [ inl s ↦ rw s (IsRising-reaching_lower X) | inr s ↦ rw s (IsRising-with_one (reaching_lower ends X) (max p q) (IsRising-reaching_lower X)) ]
+      elim (cases_Bool (eqb p q)) [
+        | inl s ↦ rw s (IsRising-reaching_lower X)
+        | inr s ↦ rw s
+            (IsRising-with_one (reaching_lower ends X) (max p q) (IsRising-reaching_lower X))
+      ]
 
   -- a forest has as many edges as there are vertices from which it reaches a lower one
   pub length-reaching_lower : (X : List ℕ) → is_forest ends X ≡ true → length (reaching_lower ends X) ≡ length X
@@ -172,7 +188,8 @@ module _ (ends : ℕ → ℕ × ℕ) where
         | inl l ↦ own X (ends e).1 (max p q) (omega arith)
         | inr l ↦ own X (ends e).0 (max p q) (omega arith)
       ] in
-      let new = length-with_one (reaching_lower ends X) (max p q) (IsRising-reaching_lower X) (is_member-reaching_lower X (max p q) ∙ ap not (eq-eqb _ _ least)) in
+      let new = length-with_one (reaching_lower ends X) (max p q) (IsRising-reaching_lower X)
+      (is_member-reaching_lower X (max p q) ∙ ap not (eq-eqb _ _ least)) in
       rw apart (omega (arith, new, length-reaching_lower X parts.0))
 
   -- where each edge of J lies within a component of I, J has no more edges than I
@@ -186,7 +203,13 @@ module _ (ends : ℕ → ℕ × ℕ) where
             let differ : least_reached ends J z ≢ z = eqb-false _ _ (not-true _ (sym (is_member-reaching_lower J z) ∙ m)) in
             differ (omega (arith, least_reached-le ends I (least_reached ends J z), least_reached-le ends J z))));
       } in
-      omega (arith, length-subset _ _ (IsRising-reaching_lower J) (IsRising-reaching_lower I) lower, length-reaching_lower I i, length-reaching_lower J j)
+      omega (
+        arith,
+        length-subset _ _ (IsRising-reaching_lower J)
+            (IsRising-reaching_lower I) lower,
+        length-reaching_lower I i,
+        length-reaching_lower J j,
+      )
 
 -- ---- the laws of a matroid
 
@@ -200,11 +223,13 @@ is_graphic-with_one n ends I e small passes apart =
     let tests = and_parts (is_set n I) (is_forest ends I) passes in
     let set = IsSet-from_test n I tests.0 in
     and_from (is_set n (with_one I e)) (is_forest ends (with_one I e)) (is_set-with_one n I e set small)
-    (test_from-IsForest ends (with_one I e) (IsRising-with_one I e set.rising) (IsForest-more ends I e (with_one I e) (IsForest-from_test ends I tests.1) apart (in_with_one e I)))
+    (test_from-IsForest ends (with_one I e) (IsRising-with_one I e set.rising)
+    (IsForest-more ends I e (with_one I e) (IsForest-from_test ends I tests.1) apart (in_with_one e I)))
 
 -- an edge of J between two components of I, or none
 crossing_or : (ends : ℕ → ℕ × ℕ) (I J : List ℕ)
-    → ((e : ℕ) × (is_member e J ≡ true) × (least_reached ends I (ends e).0 ≢ least_reached ends I (ends e).1)) ⊎ ((e : ℕ) → is_member e J ≡ true → IsWithin ends I e)
+    → ((e : ℕ) × (is_member e J ≡ true) × (least_reached ends I (ends e).0 ≢ least_reached ends I (ends e).1)) ⊎
+    ((e : ℕ) → is_member e J ≡ true → IsWithin ends I e)
 crossing_or ends I J = elim (find_member (λ e. not (eqb (least_reached ends I (ends e).0) (least_reached ends I (ends e).1))) J) [
   | inl found ↦ inl (found.0, found.1, eqb-false _ _ (not-true _ found.2))
   | inr none ↦ inr (λ e m. eqb-true _ _ (not-false _ (none e m)))

@@ -1,19 +1,14 @@
 -- Forests and components of a graph, and the graph whose forests are the independent sets of a matroid (Schrijver, chapters 1 and 39).
-use Rattle.std.specs.Prelude.{◌≢◌, ℕ, ◌<◌, ◌≤◌, ◌^◌, min, Bool, true, not, ◌&&◌, ◌||◌, ◌==◌, if◌then◌else◌, List, [], ◌∷◌, length}
+use Rattle.std.specs.Prelude.{◌≢◌, ℕ, ◌≤◌, min, Bool, true, not, ◌&&◌, ◌||◌, ◌==◌, if◌then◌else◌, List, [], ◌∷◌, length}
 use Rattle.mat_sets.specs.Sets.{AreDistinct, IsSubset}
 use Rattle.mat_sets.specs.SetTests.{is_set}
 use Rattle.mat_sets.specs.Search.{those_below}
-use Rattle.mat_sets.specs.Graphs.{ends_of, Walk}
-
--- both ends of each edge are vertices, and there are fewer than 2^32 edges
-pub record IsGraph (vertices : ℕ) (edges : List (ℕ × ℕ)) : Type 0 where
-  pub first : (e : ℕ) → e < length edges → (ends_of edges e).0 < vertices
-  pub second : (e : ℕ) → e < length edges → (ends_of edges e).1 < vertices
-  pub few : length edges < 2 ^ 32
+use Rattle.mat_sets.specs.Graphs.{Walk}
 
 -- X is a forest: no walk along a non-empty list of different members of X ends where it begins
 pub record IsForest (ends : ℕ → ℕ × ℕ) (X : List ℕ) : Type 0 where
-  pub never_closed : (e : ℕ) (edges : List ℕ) (v w : ℕ) → AreDistinct (e ∷ edges) → IsSubset (e ∷ edges) X → Walk ends (e ∷ edges) v w → v ≢ w
+  pub never_closed : (e : ℕ) (edges : List ℕ) (v w : ℕ) → AreDistinct (e ∷ edges) → IsSubset (e ∷ edges) X
+      → Walk ends (e ∷ edges) v w → v ≢ w
 
 -- r is the least vertex of the component of v: a walk along members of X reaches r from v, and none reaches a lower vertex
 pub record IsLeastReached (ends : ℕ → ℕ × ℕ) (X : List ℕ) (v r : ℕ) : Type 0 where

@@ -37,7 +37,14 @@ pub record IsTree (ends : ℕ → ℕ × ℕ) (X : List ℕ) (start : ℕ) (orde
   pub some : 0 < length order
   pub first : slice_index order 0 ≡ start
   pub member : (k : ℕ) → 0 < k → k < length order → is_member (slice_index through k) X ≡ true
-  pub joined : (k : ℕ) → 0 < k → k < length order → Joins ends (slice_index through k) (slice_index order k) (slice_index order (slice_index before k))
+  pub joined : (k : ℕ) → 0 < k → k < length order
+      → Joins ends (slice_index through k) (slice_index order k) (slice_index order (slice_index before k))
+
+-- each member of the set that stands at a place is one of X and joins the head there to the tail there
+abbrev pub AreJoined : (ℕ → ℕ × ℕ) → List ℕ → List ℕ → List ℕ → List ℕ → Type 0
+AreJoined ends X tails heads set =
+    ((i : ℕ) → i < length tails → is_member (slice_index set i) X ≡ true)
+    × ((i : ℕ) → i < length tails → Joins ends (slice_index set i) (slice_index heads i) (slice_index tails i))
 
 -- ys begins with xs
 pub record IsFront (xs ys : List ℕ) : Type 0 where

@@ -1,8 +1,8 @@
 //! Graphic matroids.
 ghost use Rattle.std.specs.Prelude.{◌≡◌, ℕ, List, ◌∷◌, ◌<◌, ◌&&◌, length, slice_index, IfOk};
-ghost use Rattle.mat_sets.specs.Graphs.{ends_of};
+ghost use Rattle.mat_sets.specs.Graphs.{IsGraph, ends_of};
 ghost use Rattle.mat_sets.specs.Sets.{AllBelow, IsRising};
-ghost use Rattle.mat_graphic.specs.Forests.{IsGraph, IsLeastReached, is_forest, is_graphic, least_reached};
+ghost use Rattle.mat_graphic.specs.Forests.{IsLeastReached, is_forest, is_graphic, least_reached};
 ghost use Rattle.mat_graphic.specs.ForestLaws.{graphic_laws};
 ghost use Rattle.mat_graphic.specs.ParentTables.{IsDescending, IsParentTable};
 
@@ -26,8 +26,10 @@ fn unite_ends(parent: &mut [u32], edges: &[(u32, u32)], e: u32) -> bool
     requires below { e < length edges.now }
     requires descending { IsDescending parent.old }
     ensures descending { IsDescending parent.new }
-    ensures united { (X : List ℕ) → IsParentTable (least_reached (ends_of edges.now) X) parent.old → IsParentTable (least_reached (ends_of edges.now) (e ∷ X)) parent.new }
-    ensures forest { (X : List ℕ) → IsParentTable (least_reached (ends_of edges.now) X) parent.old → is_forest (ends_of edges.now) (e ∷ X) ≡ (is_forest (ends_of edges.now) X && result) }
+    ensures united { (X : List ℕ) → IsParentTable (least_reached (ends_of edges.now) X) parent.old
+        → IsParentTable (least_reached (ends_of edges.now) (e ∷ X)) parent.new }
+    ensures forest { (X : List ℕ) → IsParentTable (least_reached (ends_of edges.now) X) parent.old
+        → is_forest (ends_of edges.now) (e ∷ X) ≡ (is_forest (ends_of edges.now) X && result) }
 {
     let (first, second) = edges[e as usize];
     unite(parent, first, second)
@@ -99,7 +101,8 @@ impl Graphic {
         requires sound { IsGraph self.now.vertices self.now.edges }
         requires below { AllBelow (length self.now.edges) edges.now }
         ensures long { IfOk result (λ t. length t.items ≡ self.now.vertices) }
-        ensures least { IfOk result (λ t. (v : ℕ) → v < self.now.vertices → IsLeastReached (ends_of self.now.edges) edges.now v (slice_index t.items v)) }
+        ensures least { IfOk result (λ t. (v : ℕ) → v < self.now.vertices → IsLeastReached (ends_of self.now.edges) edges.now v
+            (slice_index t.items v)) }
     {
         let mut parent = singletons(alloc, self.vertices)?;
         unite_all(&mut parent, self.edges.as_slice(), edges);

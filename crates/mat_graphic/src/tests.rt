@@ -1,7 +1,7 @@
 //! Small graphs: expected values are worked out by hand from closed walks along different edges.
 ghost use Rattle.std.specs.Prelude.{◌≡◌, length, IfOk};
 ghost use Rattle.mat_sets.specs.Sets.{AllBelow};
-ghost use Rattle.mat_graphic.specs.Forests.{IsGraph};
+ghost use Rattle.mat_sets.specs.Graphs.{IsGraph};
 
 use crate::Graphic;
 use mat_laws::Matroid;

@@ -1,9 +1,9 @@
 //! A trail between two vertices along members of a set of edges, by a search that asks each found vertex once for its edges.
 ghost use Rattle.std.specs.Prelude.{◌≡◌, ◌≢◌, ◌<◌, ℕ, List, length, slice_index, true, IfOk, OnOk, MatchOption};
-ghost use Rattle.mat_sets.specs.Graphs.{Joins, ends_of};
+ghost use Rattle.mat_sets.specs.Graphs.{IsGraph, Joins, ends_of};
 ghost use Rattle.mat_sets.specs.Sets.{AllBelow, IsRising, is_member};
-ghost use Rattle.mat_graphic.specs.Forests.{IsGraph, least_reached};
-ghost use Rattle.mat_graphic.specs.TrailSearches.{AreEnds, ArePlaces, IsFront, IsOrder, IsTrailSet, IsTree};
+ghost use Rattle.mat_graphic.specs.Forests.{least_reached};
+ghost use Rattle.mat_graphic.specs.TrailSearches.{AreEnds, AreJoined, ArePlaces, IsFront, IsOrder, IsTrailSet, IsTree};
 
 use mat_sets::ElemSet;
 use std::alloc::{AllocError, Global};
@@ -68,7 +68,8 @@ fn begin(alloc: Global, vertices: u32, start: u32) -> Result<Search, AllocError>
     requires { start < vertices }
     ensures long { IfOk result (λ s. length s.place.items ≡ vertices) }
     ensures order { IfOk result (λ s. IsOrder s.place.items s.order.items s.through.items s.before.items) }
-    ensures tree { IfOk result (λ s. (ends : ℕ → ℕ × ℕ) (X : List ℕ) → IsTree ends X start s.order.items s.through.items s.before.items) }
+    ensures tree { IfOk result (λ s. (ends : ℕ → ℕ × ℕ) (X : List ℕ)
+        → IsTree ends X start s.order.items s.through.items s.before.items) }
 {
     let mut place = vec![in alloc; None; vertices as usize]?;
     place[start as usize] = Some(0);
@@ -89,7 +90,8 @@ fn visit(search: &mut Search, vertex: u32, edge: u32, at: usize) -> Result<(), A
     ensures order { OnOk result (IsOrder search.new.place.items search.new.order.items search.new.through.items search.new.before.items) }
     ensures found { OnOk result (is_member vertex search.new.order.items ≡ true) }
     ensures front { OnOk result (IsFront search.old.order.items search.new.order.items) }
-    ensures tree { OnOk result ((ends : ℕ → ℕ × ℕ) (X : List ℕ) (start : ℕ) → is_member edge X ≡ true → Joins ends edge vertex (slice_index search.old.order.items at)
+    ensures tree { OnOk result ((ends : ℕ → ℕ × ℕ) (X : List ℕ) (start : ℕ) → is_member edge X ≡ true → Joins ends edge vertex
+        (slice_index search.old.order.items at)
         → IsTree ends X start search.old.order.items search.old.through.items search.old.before.items
         → IsTree ends X start search.new.order.items search.new.through.items search.new.before.items) }
 {
@@ -121,10 +123,11 @@ fn scan(
     requires inside { at < length search.old.order.items }
     ensures long { OnOk result (length search.new.place.items ≡ length search.old.place.items) }
     ensures order { OnOk result (IsOrder search.new.place.items search.new.order.items search.new.through.items search.new.before.items) }
-    ensures found { OnOk result ((i : ℕ) → i < length tails.now → slice_index tails.now i ≡ slice_index search.old.order.items at → is_member (slice_index heads.now i) search.new.order.items ≡ true) }
+    ensures found { OnOk result ((i : ℕ) → i < length tails.now → slice_index tails.now i ≡ slice_index search.old.order.items at
+        → is_member (slice_index heads.now i) search.new.order.items ≡ true) }
     ensures front { OnOk result (IsFront search.old.order.items search.new.order.items) }
     ensures tree { OnOk result ((ends : ℕ → ℕ × ℕ) (X : List ℕ) (start : ℕ)
-        → ((i : ℕ) → i < length tails.now → is_member (slice_index set.now i) X ≡ true) × ((i : ℕ) → i < length tails.now → Joins ends (slice_index set.now i) (slice_index heads.now i) (slice_index tails.now i))
+        → AreJoined ends X tails.now heads.now set.now
         → IsTree ends X start search.old.order.items search.old.through.items search.old.before.items
         → IsTree ends X start search.new.order.items search.new.through.items search.new.before.items) }
 {
@@ -153,10 +156,10 @@ fn explore(
     requires start { start < vertices }
     ensures long { IfOk result (λ s. length s.place.items ≡ vertices) }
     ensures order { IfOk result (λ s. IsOrder s.place.items s.order.items s.through.items s.before.items) }
-    ensures closed { IfOk result (λ s. (i : ℕ) → i < length firsts.now → is_member (slice_index firsts.now i) s.order.items ≡ is_member (slice_index seconds.now i) s.order.items) }
+    ensures closed { IfOk result (λ s. (i : ℕ) → i < length firsts.now
+        → is_member (slice_index firsts.now i) s.order.items ≡ is_member (slice_index seconds.now i) s.order.items) }
     ensures tree { IfOk result (λ s. (ends : ℕ → ℕ × ℕ) (X : List ℕ)
-        → ((i : ℕ) → i < length firsts.now → is_member (slice_index set.now i) X ≡ true) × ((i : ℕ) → i < length firsts.now → Joins ends (slice_index set.now i) (slice_index seconds.now i) (slice_index firsts.now i))
-        → ((i : ℕ) → i < length seconds.now → is_member (slice_index set.now i) X ≡ true) × ((i : ℕ) → i < length seconds.now → Joins ends (slice_index set.now i) (slice_index firsts.now i) (slice_index seconds.now i))
+        → AreJoined ends X firsts.now seconds.now set.now → AreJoined ends X seconds.now firsts.now set.now
         → IsTree ends X start s.order.items s.through.items s.before.items) }
 {
     let by_first = places_of(alloc, vertices, firsts)?;
@@ -175,7 +178,8 @@ fn explore(
 fn edges_back(alloc: Global, search: &Search, from: usize) -> Result<ElemSet, AllocError>
     requires order { IsOrder search.now.place.items search.now.order.items search.now.through.items search.now.before.items }
     requires inside { from < length search.now.order.items }
-    ensures trail { IfOk result (λ s. (ends : ℕ → ℕ × ℕ) (X : List ℕ) (start : ℕ) → IsTree ends X start search.now.order.items search.now.through.items search.now.before.items
+    ensures trail { IfOk result (λ s. (ends : ℕ → ℕ × ℕ) (X : List ℕ) (start : ℕ)
+        → IsTree ends X start search.now.order.items search.now.through.items search.now.before.items
         → IsTrailSet ends X (slice_index search.now.order.items from) start s) }
     ensures rises { IfOk result (λ s. IsRising s) }
 {
@@ -203,7 +207,9 @@ pub fn trail(
     requires below { AllBelow (length edges.now) set.now }
     requires from { from < vertices }
     requires to { to < vertices }
-    ensures trail { IfOk result (λ found. MatchOption found (least_reached (ends_of edges.now) set.now from ≢ least_reached (ends_of edges.now) set.now to) (λ s. IsTrailSet (ends_of edges.now) set.now from to s)) }
+    ensures trail { IfOk result (λ found. MatchOption found
+        (least_reached (ends_of edges.now) set.now from ≢ least_reached (ends_of edges.now) set.now to)
+        (λ s. IsTrailSet (ends_of edges.now) set.now from to s)) }
     ensures rises { IfOk result (λ found. MatchOption found (Unit {0}) (λ s. IsRising s)) }
 {
     let members = set.as_slice();

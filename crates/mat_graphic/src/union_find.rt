@@ -19,8 +19,8 @@ pub fn singletons(alloc: Global, vertices: u32) -> Result<Vec<u32>, AllocError>
     Ok(parent)
 }
 
-// The least vertex of the component of `start`. Each parent on the way is replaced by its own (path halving), so that
-// all calls together take a logarithmic time each.
+// The least vertex of the component of `start`. Every other vertex on the way gets the parent of its parent (path
+// halving), so that many calls take logarithmic time each on average.
 pub fn find(parent: &mut [u32], start: u32) -> u32
     requires descending { IsDescending parent.old }
     requires inside { start < length parent.old }
@@ -44,7 +44,8 @@ pub fn unite(parent: &mut [u32], a: u32, b: u32) -> bool
     requires first { a < length parent.old }
     requires second { b < length parent.old }
     ensures descending { IsDescending parent.new }
-    ensures table { (least : ℕ → ℕ) → IsParentTable least parent.old → IsParentTable (λ v. merged (least a) (least b) (least v)) parent.new }
+    ensures table { (least : ℕ → ℕ) → IsParentTable least parent.old
+        → IsParentTable (λ v. merged (least a) (least b) (least v)) parent.new }
     ensures apart { (least : ℕ → ℕ) → IsParentTable least parent.old → result ≡ not (least a == least b) }
 {
     let p = find(parent, a);
@@ -59,7 +60,8 @@ pub fn unite(parent: &mut [u32], a: u32, b: u32) -> bool
 // Makes each parent the least vertex of the component.
 pub fn settle(parent: &mut [u32])
     requires { IsDescending parent.old }
-    ensures { (least : ℕ → ℕ) → IsParentTable least parent.old → (v : ℕ) → v < length parent.new → slice_index parent.new v ≡ least v }
+    ensures { (least : ℕ → ℕ) → IsParentTable least parent.old → (v : ℕ) → v < length parent.new
+        → slice_index parent.new v ≡ least v }
 {
     for v in 0..parent.len() {
         parent[v] = parent[parent[v] as usize];

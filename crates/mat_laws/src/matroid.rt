@@ -109,10 +109,14 @@ pub trait Matroid: Sync + Drop {
         Ok(answer)
     }
 
-    /// The exchanges of an element x outside an independent set: whether it can be added, and for which members it can
-    /// be exchanged (Schrijver, chapter 39). One question of independence, and one more for each member. The only error
-    /// is want of memory.
-    fn circuit(&self, alloc: Global, base: &ElemSet, x: u32) -> Result<Exchange, AllocError>
+    /// The exchanges of an element x outside an independent set, by questions of independence alone: one, and one more for
+    /// each member. The only error is want of memory.
+    fn circuit_by_questions(
+        &self,
+        alloc: Global,
+        base: &ElemSet,
+        x: u32,
+    ) -> Result<Exchange, AllocError>
         requires sound { sound self.now }
         requires base { indep self.now base.now ≡ true }
         requires below { x < ground_size self.now }
@@ -131,6 +135,19 @@ pub trait Matroid: Sync + Drop {
             }
         }
         Ok(Exchange { addable, with })
+    }
+
+    /// The exchanges of an element x outside an independent set: whether it can be added, and for which members it can
+    /// be exchanged (Schrijver, chapter 39). A kind may have a faster body. The only error is want of memory.
+    fn circuit(&self, alloc: Global, base: &ElemSet, x: u32) -> Result<Exchange, AllocError>
+        requires sound { sound self.now }
+        requires base { indep self.now base.now ≡ true }
+        requires below { x < ground_size self.now }
+        requires outside { is_member x base.now ≡ false }
+        ensures row { IfOk result (λ e. e ≡ row_of (indep self.now) base.now x) }
+        ensures rises { IfOk result (λ e. IsRising e.with) }
+    {
+        self.circuit_by_questions(alloc, base, x)
     }
 
     ghost laws: { (m : Self) → sound m → IsMatroid (ground_size m) (indep m) };

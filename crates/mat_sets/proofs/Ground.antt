@@ -1,5 +1,5 @@
 -- Sets on n elements: the set of all numbers below n, complements, and unions with a list in any order.
-use Rattle.std.proofs.Common.{List, [], ap, arith, eqb, false, inl, inr, leb, length, ltb, refl, suc, sym, true, zero, ℕ, ℤ, ◌&&◌, ◌++◌, ◌+ℤ◌, ◌+◌, ◌<◌, ◌||◌, ◌∙◌, ◌∷◌, ◌≡◌, ◌≤◌}
+use Rattle.std.proofs.Common.{List, [], ap, arith, eqb, false, get_or, inl, inr, leb, length, ltb, refl, suc, sym, true, zero, ℕ, ℤ, ◌&&◌, ◌++◌, ◌+ℤ◌, ◌+◌, ◌<◌, ◌||◌, ◌∙◌, ◌∷◌, ◌≡◌, ◌≤◌}
 use Rattle.std.proofs.Math.Numerals.{add-one}
 use Rattle.std.proofs.lemmas.Bool.{and_right, both_ways, cases_lt, cases_order, eq-eqb, eqb-true, false≢true, le-leb, le-ltb, lt-leb, lt-ltb, ltb-true, ne_eqb, or_cases}
 use Rattle.std.proofs.lemmas.Int.{ints}
@@ -113,6 +113,16 @@ length-all_below n = length_counted 0 n
     length_counted : (lo n : ℕ) → length (counted_from lo n) ≡ n
     length_counted lo zero = refl
     length_counted lo (suc n) = ap suc (length_counted (suc lo) n)
+
+-- the item at place i is i
+get_or-counted_from : (lo n i d : ℕ) → i < n → get_or (counted_from lo n) i d ≡ lo + i
+get_or-counted_from lo zero i d h = absurd (omega arith)
+get_or-counted_from lo (suc n) zero d h = omega arith
+get_or-counted_from lo (suc n) (suc i) d h = let rest = get_or-counted_from (suc lo) n i d (omega arith) in omega arith
+
+pub get_or-all_below : (n i d : ℕ) → i < n → get_or (all_below n) i d ≡ i
+unfolding all_below
+get_or-all_below n i d h = let e = get_or-counted_from 0 n i d h in omega arith
 
 pub IsSubset-all_below : (n : ℕ) (a : List ℕ) → AllBelow n a → IsSubset a (all_below n)
 IsSubset-all_below n a b = record { inside = λ k h. is_member-all_below k n ∙ lt-ltb k n (AllBelow-member n a k b h) }

@@ -143,6 +143,16 @@ RisesFrom-filter p lo (x ∷ t) r =
       | false ↦ RisesFrom-filter p lo t (RisesFrom-weaken lo (suc x) t (omega arith) r.1)
     ]
 
+-- tests that agree at the items keep the same items
+pub filter_same_at : (p q : ℕ → Bool) (xs : List ℕ) → ((y : ℕ) → is_member y xs ≡ true → p y ≡ q y) → filter p xs ≡ filter q xs
+filter_same_at p q [] h = refl
+filter_same_at p q (x ∷ xs) h =
+    both (p x) (q x) x (filter p xs) (filter q xs) (h x (is_member-head x xs))
+    (filter_same_at p q xs (λ y m. h y (or_right (eqb y x) (is_member y xs) m)))
+  where
+    both : (a b : Bool) (x : ℕ) (s t : List ℕ) → a ≡ b → s ≡ t → cond a (x ∷ s) s ≡ cond b (x ∷ t) t
+    both a b x s t e f = cc
+
 add_step : (k x y : ℕ) (t u : List ℕ) → is_member k u ≡ (eqb k x || is_member k t)
     → is_member k (cond (ltb x y) (x ∷ y ∷ t) (y ∷ cond (eqb x y) t u)) ≡ (eqb k x || is_member k (y ∷ t))
 add_step k x y t u ih =

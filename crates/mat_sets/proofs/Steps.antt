@@ -1,6 +1,7 @@
--- Steps of loops over the members of a set or the sets of a family, for `using(..)`.
+-- Steps of loops over the members of a set or the sets of a family, for `using(..)`, and what a loop over a lent slice leaves.
 use Rattle.std.proofs.Common.{Bool, List, [], ap, arith, cond, drop, drop-cons, eqb, false, get_or, length, length-append, refl, suc, sym, take, true, zero, ℕ, ◌++◌, ◌+◌, ◌<◌, ◌||◌, ◌∙◌, ◌∷◌, ◌≡◌, ◌≤◌}
 use Rattle.std.proofs.Math.Numerals.{add-one}
+use Rattle.std.proofs.Math.Seq.{take-append_seam}
 use Rattle.std.proofs.lemmas.Bool.{both_ways, eqb-false, ne_eqb, or_from, or_parts}
 use Rattle.std.proofs.lemmas.List.Elements.{filter_more}
 use Rattle.std.specs.List.{filter}
@@ -183,3 +184,8 @@ AllRising-append [] others r s = s
 AllRising-append (a ∷ sets) others r s = (r.0, AllRising-append sets others r.1 s)
 
 pub ruleset family_steps = (AllRising-none, AllRising-more, AllRising-at, AllRising-append)
+
+-- ---- a slice that was lent whole, after it is written back
+
+pub written_back : {A : Type 0} (n : ℕ) (new old : List A) → length new ≡ n → take n (new ++ drop (length new) old) ≡ new
+written_back n new old same = ap (λ k. take k (new ++ drop (length new) old)) (sym same) ∙ take-append_seam new (drop (length new) old)

@@ -1,10 +1,16 @@
 -- Graphs whose edges or arcs are numbered, walks along them, and spanning arborescences (Schrijver, chapters 1 and 52).
-use Rattle.std.specs.Prelude.{◌≡◌, ℕ, suc, ◌<◌, ◌⊎◌, List, [], ◌∷◌, length, slice_index_or}
+use Rattle.std.specs.Prelude.{◌≡◌, ℕ, suc, ◌<◌, ◌^◌, ◌⊎◌, List, [], ◌∷◌, length, slice_index_or}
 use Rattle.mat_sets.specs.Sets.{IsSet, IsSubset}
 
 -- the two ends of edge e; for an arc first its tail and then its head
 abbrev pub ends_of : List (ℕ × ℕ) → ℕ → ℕ × ℕ
 ends_of edges e = slice_index_or edges e (0, 0)
+
+-- both ends of each edge or arc are vertices, and there are fewer than 2^32 edges or arcs
+pub record IsGraph (vertices : ℕ) (edges : List (ℕ × ℕ)) : Type 0 where
+  pub first : (e : ℕ) → e < length edges → (ends_of edges e).0 < vertices
+  pub second : (e : ℕ) → e < length edges → (ends_of edges e).1 < vertices
+  pub few : length edges < 2 ^ 32
 
 -- edge e has the ends v and u, in either order
 abbrev pub Joins : (ℕ → ℕ × ℕ) → ℕ → ℕ → ℕ → Type 0

@@ -1,8 +1,7 @@
 -- What the search for the next set keeps, over lists of weights: what was found after j changes of the two weights leads to the next set,
 -- to the cut, or to one change more. All numbers are far within an `i128`: both weights are within 10^22 and each slack is a difference
 -- of two of them.
-use Rattle.std.proofs.Common.{Vec, Global, take, drop, ◌++◌, ◌≡◌, ℕ, suc, ◌+◌, ◌*◌, ◌^◌, ◌<◌, ◌≤◌, Bool, List, length, ℤ, pos, Option, Some, None, SFits, rules, to_z, of_z, sym, ap, ◌∙◌, subst, arith}
-use Rattle.std.proofs.Math.Seq.{take-append_seam}
+use Rattle.std.proofs.Common.{Vec, Global, ◌≡◌, ℕ, suc, ◌+◌, ◌*◌, ◌^◌, ◌<◌, ◌≤◌, Bool, List, length, ℤ, pos, Option, Some, None, SFits, rules, to_z, of_z, sym, ap, ◌∙◌, subst, arith}
 use Rattle.std.proofs.lemmas.Nat.{mul-le}
 use Rattle.std.specs.Int.{w128}
 use Rattle.std.proofs.lemmas.Int.{ints, to_z-of_z}
@@ -72,10 +71,6 @@ slack_within n a b w1 w2 R d c small (second_addition t x lt lx top k m e) =
     (let h = (small t lt).1 in let l = (small x lx).1 in (omega (arith, ints), omega (arith, ints)))
 
 -- ---- the steps
-
--- a slice of all items is written back whole
-pub written_back : (items new : List ℤ) (n : ℕ) → length new ≡ n → take n (new ++ drop (length new) items) ≡ new
-written_back items new n long = subst (λ m. take m (new ++ drop (length new) items) ≡ new) long (take-append_seam new (drop (length new) items))
 
 -- before the first change
 pub IsChanged-start : {n m : ℕ} {p q : List ℕ → Bool} {w : ℕ → ℤ} {rung : Rung} {w1 w2 : List ℤ} → IsMatroid n p

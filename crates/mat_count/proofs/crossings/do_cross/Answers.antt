@@ -7,9 +7,11 @@ returns-then-shared-gt0 c =
     let shared = rw (c.as_slice.ensures.items, c.as_slice-2.ensures.items) at c.count_shared-shared.ensures in
     let least = rw (c.len.ensures.count, c.len-then-shared-gt0.ensures.count) at c.min.ensures in
     ap (ltb c.count_shared-shared.result) least
-    ∙ sym (crosses-some c.args.a.now c.args.b.now c.count_shared-shared.result c.as_slice.ensures.rises c.as_slice-2.ensures.rises shared c.if-shared-gt0.true)
+    ∙ sym (crosses-some c.args.a.now c.args.b.now c.count_shared-shared.result c.as_slice.ensures.rises c.as_slice-2.ensures.rises
+    shared c.if-shared-gt0.true)
 
 pub returns-else-shared-gt0 : goal.returns-else-shared-gt0
 returns-else-shared-gt0 c =
     let shared = rw (c.as_slice.ensures.items, c.as_slice-2.ensures.items) at c.count_shared-shared.ensures in
-    sym (crosses-none c.args.a.now c.args.b.now c.count_shared-shared.result c.as_slice.ensures.rises c.as_slice-2.ensures.rises shared c.if-shared-gt0.false)
+    sym (crosses-none c.args.a.now c.args.b.now c.count_shared-shared.result c.as_slice.ensures.rises c.as_slice-2.ensures.rises
+    shared c.if-shared-gt0.false)

@@ -1,20 +1,22 @@
-use Rattle.std.proofs.Common.{FitsSigned, arith, length, rules, subst, ◌^◌}
+use Rattle.std.proofs.Common.{◌≡◌, ◌^◌, ◌-ℤ◌, length, sym, subst, arith, to_z, of_z}
 use Rattle.std.specs.Int.{w128}
-use Rattle.std.proofs.lemmas.Int.{ints, to_z-of_z}
+use Rattle.std.proofs.lemmas.Int.{ints}
 use Rattle.mat_sets.specs.Sums.{weight_at}
 use Rattle.mat_laws.specs.TightPaths.{exchanges_in}
-use Rattle.mat_exchange.specs.TightSearches.{IsGreatestAddable}
-use Rattle.mat_exchange.proofs.SlackSteps.{addition_some}
-use Rattle.mat_exchange.proofs.TightArcTests.{greatest_within}
+use Rattle.mat_exchange.specs.SlackParts.{IsAdditionSlack, IsLeast}
+use Rattle.mat_exchange.proofs.SlackParts.{heaviest_within, least_addition}
 use Rattle.mat_exchange.proofs.slack.addition_slack.Goals as goal
 
-pub returns-in-Some : goal.returns-in-Some
-returns-in-Some c =
-    let exchanges = exchanges_in c.args.table.now in
+pub returns : goal.returns
+returns c =
     let weights = c.args.weights.now in
-    let top = subst (IsGreatestAddable (length weights) exchanges (weight_at weights)) c.in-Some.is c.requires.top in
-    let within = greatest_within exchanges (10 ^ 30) weights c.in-Some.weight c.requires.small top in
-    let fits : FitsSigned w128 c.in-Some.weight = search (rules, arith, ints) in
-    addition_some (length weights) exchanges
-    (weight_at weights) c.args.among.now c.in-Some.weight c.addable_elements.result.now c.least_fall.result top
-    c.addable_elements.ensures (rw (to_z-of_z w128 c.in-Some.weight fits) at c.least_fall.ensures)
+    let rows = c.args.table.now in
+    let most = c.in_ok-most.ensures in
+    let inside = c.in_ok-inside.ensures in
+    let most_small = heaviest_within (10 ^ 30) weights _ _ c.requires.small most in
+    let inside_small = heaviest_within (10 ^ 30) weights _ _ c.requires.small inside in
+    let value : to_z w128 (of_z w128 c.excess.result) ≡ c.in_ok-most.most -ℤ c.in_ok-inside.inside =
+    omega (arith, ints, c.excess.ensures, most_small, inside_small) in
+    subst (IsLeast (IsAdditionSlack (length weights) (exchanges_in rows) (weight_at weights) c.args.into.now)) (sym value)
+    (least_addition (length weights) rows (weight_at weights) c.addable_elements.result.now c.args.into.now
+    c.requires.count c.addable_elements.ensures _ _ most inside)

@@ -1,29 +1,21 @@
-use Rattle.std.proofs.Common.{FitsSigned, arith, pos, length, sym, rules, ◌^◌, ◌∙◌}
-use Rattle.std.specs.Int.{w128}
-use Rattle.std.proofs.lemmas.Int.{ints, to_z-of_z}
-use Rattle.mat_sets.specs.Sums.{IsWithin, weight_at}
-use Rattle.mat_exchange.proofs.SlackSteps.{slack_of_member, slack_of_outside}
+use Rattle.std.proofs.Common.{◌≡◌, length, sym, subst, arith}
+use Rattle.mat_sets.specs.Sums.{weight_at}
+use Rattle.mat_laws.specs.TightPaths.{exchanges_in}
+use Rattle.mat_exchange.specs.SlackParts.{IsExchangeSlack, IsLeastOrNone}
+use Rattle.mat_exchange.proofs.SlackParts.{least_exchange_next}
 use Rattle.mat_exchange.proofs.slack.exchange_slack.Goals as goal
 
-pub returns-then-contains : goal.returns-then-contains
-returns-then-contains c =
-    let arcs = c.args.arcs.now in
-    let weight = weight_at arcs.w1.now c.args.u in
-    let within : IsWithin (10 ^ 30) weight = c.requires.sound.first_small c.args.u (pos 0) c.requires.below in
-    let fits : FitsSigned w128 weight = search (rules, arith, ints) in
-    slack_of_member (length arcs.w1.now) arcs.set.now arcs.first.now arcs.second.now (weight_at arcs.w1.now)
-    (weight_at arcs.w2.now) c.args.unreached.now c.args.u c.column.result.now c.least_fall.result
-    c.requires.sound.second_table (sym c.contains.ensures.found ∙ c.if-contains.true) c.column.ensures
-    (rw (to_z-of_z w128 weight fits) at c.least_fall.ensures)
+pub loop-y-preserved : goal.loop-y-preserved
+loop-y-preserved c =
+    let exchanges = exchanges_in c.args.table.now in
+    let w = weight_at c.args.weights.now in
+    let next = least_exchange_next exchanges w c.args.from.now c.args.into.now c.loop-y.y _ _ c.loop-y.invariant c.exchange_slack_at.ensures in
+    subst (IsLeastOrNone (IsExchangeSlack _ exchanges w c.args.from.now c.args.into.now)) (sym c.lesser-least.ensures) next
 
-pub returns-else-contains : goal.returns-else-contains
-returns-else-contains c =
-    let arcs = c.args.arcs.now in
-    let weight = weight_at arcs.w2.now c.args.u in
-    let lengths = c.requires.sound.lengths in
-    let within : IsWithin (10 ^ 30) weight = c.requires.sound.second_small c.args.u (pos 0) (omega (arith, c.requires.below)) in
-    let fits : FitsSigned w128 weight = search (rules, arith, ints) in
-    slack_of_outside (length arcs.w1.now) arcs.set.now arcs.first.now arcs.second.now (weight_at arcs.w1.now)
-    (weight_at arcs.w2.now) c.args.unreached.now c.args.u c.row.result.now c.least_rise.result
-    c.requires.sound.first_table (sym c.contains.ensures.found ∙ c.if-contains.false) c.row.ensures
-    (rw (to_z-of_z w128 weight fits) at c.least_rise.ensures)
+pub returns : goal.returns
+returns c =
+    let n = length c.args.weights.now in
+    let exchanges = exchanges_in c.args.table.now in
+    let w = weight_at c.args.weights.now in
+    let end : c.loop-y.y ≡ n = omega arith in
+    subst (λ k. IsLeastOrNone (IsExchangeSlack k exchanges w c.args.from.now c.args.into.now) c.loop-y.least) end c.loop-y.invariant

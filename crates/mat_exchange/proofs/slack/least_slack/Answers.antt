@@ -1,27 +1,28 @@
-use Rattle.std.proofs.Common.{arith, length, sym, subst, ◌∙◌}
+use Rattle.std.proofs.Common.{length, subst}
 use Rattle.mat_sets.specs.Sums.{weight_at}
-use Rattle.mat_sets.proofs.Ground.{below_member}
 use Rattle.mat_laws.specs.TightPaths.{exchanges_in}
-use Rattle.mat_exchange.specs.TightSearches.{IsAdditionSlack, IsLeastOf}
-use Rattle.mat_exchange.proofs.SlackSteps.{least_of_all}
+use Rattle.mat_exchange.specs.SlackParts.{IsAdditionSlack, IsExchangeSlack, IsLeastOrNone}
+use Rattle.mat_exchange.proofs.SlackParts.{least_of_four, reached_below}
 use Rattle.mat_exchange.proofs.slack.least_slack.Goals as goal
 
-pub addition_slack-of_second-requires-clause-among : goal.addition_slack-of_second-requires-clause-among
-addition_slack-of_second-requires-clause-among c = λ v m.
-    let l = below_member c.requires.set (sym (c.in_ok-reached.ensures v) ∙ m) in
-    let e = c.requires.sound.lengths in
-    omega arith
+pub exchange_slack-requires-2-clause-below : goal.exchange_slack-requires-2-clause-below
+exchange_slack-requires-2-clause-below c =
+    reached_below (length c.args.w1.now) (length c.args.w2.now) c.args.reach.now _ c.requires.below c.requires.lengths c.in_ok-reached.ensures
+
+pub addition_slack-requires-2-clause-below : goal.addition_slack-requires-2-clause-below
+addition_slack-requires-2-clause-below c =
+    reached_below (length c.args.w1.now) (length c.args.w2.now) c.args.reach.now _ c.requires.below c.requires.lengths c.in_ok-reached.ensures
 
 pub returns : goal.returns
 returns c =
-    let arcs = c.args.arcs.now in
-    let n = length arcs.w1.now in
-    let second = exchanges_in arcs.second.now in
+    let n = length c.args.w1.now in
+    let first = exchanges_in c.args.first.now in
+    let second = exchanges_in c.args.second.now in
+    let w1 = weight_at c.args.w1.now in
+    let w2 = weight_at c.args.w2.now in
     let reached = c.in_ok-reached.reached in
-    let weights = weight_at arcs.w2.now in
-    let of_second = subst (λ m. IsLeastOf (IsAdditionSlack m second weights reached) c.addition_slack-of_second.result)
-    c.requires.sound.lengths c.addition_slack-of_second.ensures in
-    rw (c.lesser-2.ensures, c.lesser.ensures) (least_of_all n (exchanges_in arcs.first.now) second (weight_at arcs.w1.now)
-    (weight_at arcs.w2.now) c.args.reach.now
-    c.in_ok-unreached.unreached reached c.requires.set c.in_ok-unreached.ensures c.in_ok-reached.ensures _ _ _
-    c.exchanges_slack-of_exchanges.ensures c.addition_slack-of_first.ensures of_second)
+    let others = c.in_ok-others.others in
+    rw (c.lesser.ensures, c.lesser-first_slack.ensures, c.lesser-second_slack.ensures) (least_of_four n first second w1 w2 c.args.reach.now
+    reached others c.requires.below c.in_ok-reached.ensures c.in_ok-others.ensures _ _ _ _ c.addition_slack.ensures c.exchange_slack.ensures
+    (subst (λ m. IsLeastOrNone (IsExchangeSlack m second w2 others reached) c.exchange_slack-2.result) c.requires.lengths c.exchange_slack-2.ensures)
+    (subst (λ m. IsLeastOrNone (IsAdditionSlack m second w2 reached) c.addition_slack-2.result) c.requires.lengths c.addition_slack-2.ensures))

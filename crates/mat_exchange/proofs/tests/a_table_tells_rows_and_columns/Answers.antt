@@ -1,4 +1,4 @@
-use Rattle.std.proofs.Common.{◌≡◌, ℕ, suc, zero, ◌<◌, Bool, List, [], ◌∷◌, length, ◌∙◌, ap, sym, subst, arith}
+use Rattle.std.proofs.Common.{ℕ, suc, zero, Bool, List, [], ◌∷◌, length, ◌∙◌, ap, sym, subst, arith}
 use Rattle.mat_sets.specs.Sets.{AllBelow, with_one}
 use Rattle.mat_sets.proofs.Changes.{AllBelow-with_one}
 use Rattle.mat_laws.specs.declared.exchange.Exchange.{Exchange}

@@ -13,11 +13,13 @@ loop-i-init c = record {
 
 pub unite_ends-requires-clause-below : goal.unite_ends-requires-clause-below
 unite_ends-requires-clause-below c =
-    let below = AllBelow-at (length c.args.edges.now) c.args.set.now (c.loop-i.i - 1) c.requires.below (omega (arith, c.len-i.ensures.count, c.loop-i-test.true, c.loop-i.auto.i)) in
+    let below = AllBelow-at (length c.args.edges.now) c.args.set.now (c.loop-i.i - 1) c.requires.below
+    (omega (arith, c.len-i.ensures.count, c.loop-i-test.true, c.loop-i.auto.i)) in
     omega (arith, c.get.ensures.item)
 
 pub returns-then-not-unite_ends-clause-answer : goal.returns-then-not-unite_ends-clause-answer
 returns-then-not-unite_ends-clause-answer c =
-    not_forest (ends_of c.args.edges.now) c.args.set.now (c.loop-i.i - 1) c.loop-i.i c.get.result c.unite_ends.result (omega (arith, c.loop-i-test.true))
+    not_forest (ends_of c.args.edges.now) c.args.set.now (c.loop-i.i - 1) c.loop-i.i c.get.result c.unite_ends.result
+    (omega (arith, c.loop-i-test.true))
     (omega (arith, c.len-i.ensures.count, c.loop-i.auto.i)) c.get.ensures.item
     (c.unite_ends.ensures.forest (drop c.loop-i.i c.args.set.now) c.loop-i.invariant.united) c.if-not-unite_ends.true

@@ -12,5 +12,6 @@ loop-i-init c = record {
 
 pub unite_ends-requires-clause-below : goal.unite_ends-requires-clause-below
 unite_ends-requires-clause-below c =
-    let below = AllBelow-at (length c.args.edges.now) c.args.set.now (c.loop-i.i - 1) c.requires.below (omega (arith, c.len-i.ensures.count, c.loop-i-test.true, c.loop-i.auto.i)) in
+    let below = AllBelow-at (length c.args.edges.now) c.args.set.now (c.loop-i.i - 1) c.requires.below
+    (omega (arith, c.len-i.ensures.count, c.loop-i-test.true, c.loop-i.auto.i)) in
     omega (arith, c.get.ensures.item)

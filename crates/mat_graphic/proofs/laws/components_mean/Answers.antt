@@ -5,4 +5,8 @@ use Rattle.mat_graphic.proofs.ComponentCounts.{IsLeastReached-unique}
 use Rattle.mat_graphic.proofs.laws.components_mean.Goals as goal
 
 pub returns : goal.returns
-returns c = λ ends X v r rises. (λ same. subst (IsLeastReached ends X v) same (least_reached-is ends X v rises), IsLeastReached-unique ends X v r rises)
+returns c = λ ends X v r rises. (
+  λ same. subst (IsLeastReached ends X v) same
+      (least_reached-is ends X v rises),
+  IsLeastReached-unique ends X v r rises,
+)

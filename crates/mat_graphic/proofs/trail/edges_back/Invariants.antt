@@ -9,7 +9,9 @@ invariant-loop-at l =
     record {
       rising : IsRising l.with;
       inside : l.at < length l.search.order.items;
-      traced : (ends : ℕ → ℕ × ℕ) (X : List ℕ) (start : ℕ) → IsTree ends X start l.search.order.items l.search.through.items l.search.before.items → IsTracing ends X l.search.order.items l.from l.at l.with;
+      traced : (ends : ℕ → ℕ × ℕ) (X : List ℕ) (start : ℕ)
+          → IsTree ends X start l.search.order.items l.search.through.items l.search.before.items
+          → IsTracing ends X l.search.order.items l.from l.at l.with;
     }
 
 abbrev pub decreases-loop-at : goal.decreases-loop-at

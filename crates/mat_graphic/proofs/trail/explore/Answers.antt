@@ -21,10 +21,12 @@ pub loop-at-preserved : goal.loop-at-preserved
 loop-at-preserved c =
     let first = c.in_ok-scan.ensures in
     let second = c.in_ok-scan-2.ensures in
-    IsExploring-next _ _ _ _ _ _ _ c.scan.new.search.place.items _ _ _ _ _ _ _ _ _ _ (omega (arith, c.loop-at-test.true, c.len.ensures, c.loop-at.search.order.ok.0)) c.loop-at.invariant
+    IsExploring-next _ _ _ _ _ _ _ c.scan.new.search.place.items _ _ _ _ _ _ _ _ _ _
+    (omega (arith, c.loop-at-test.true, c.len.ensures, c.loop-at.search.order.ok.0)) c.loop-at.invariant
     (second.long ∙ first.long ∙ c.loop-at.invariant.long) second.order first.front second.front first.found second.found
     (λ ends X joined t. first.tree ends X c.args.start joined t) (λ ends X joined t. second.tree ends X c.args.start joined t)
 
 pub returns-clause-closed : goal.returns-clause-closed
 returns-clause-closed c =
-    IsExploring-end _ _ _ _ _ _ _ _ _ _ (omega (arith, c.loop-at-test.false, c.len.ensures, c.loop-at.search.order.ok.0)) (c.requires.firsts_long ∙ sym c.requires.seconds_long) c.loop-at.invariant
+    IsExploring-end _ _ _ _ _ _ _ _ _ _ (omega (arith, c.loop-at-test.false, c.len.ensures, c.loop-at.search.order.ok.0))
+    (c.requires.firsts_long ∙ sym c.requires.seconds_long) c.loop-at.invariant

@@ -26,5 +26,6 @@ loop-i-preserved c =
     record {
       long = length-set first v (Some j) ∙ c.loop-i.invariant.long;
       places = subst (λ e. ArePlaces list j (set first v (Some j)) (set c.loop-i.next.items j e)) read
-          (ArePlaces-more list first c.loop-i.next.items c.loop-i.i j v (omega (arith, c.loop-i-test.true)) inside refl small c.loop-i.invariant.places);
+          (ArePlaces-more list first c.loop-i.next.items c.loop-i.i j v
+          (omega (arith, c.loop-i-test.true)) inside refl small c.loop-i.invariant.places);
     }

@@ -21,7 +21,8 @@ loop-next-init c =
     let below = AllBelow-at (length c.args.search.now.place.items) order c.args.at c.requires.order.below c.requires.inside in
     let small : v < length c.args.places.now.first.items = omega (arith, c.requires.vertices) in
     IsScanning-start _ _ _ _ _ _ v _ c.index-next.result.now _
-    (subst (IsNextFrom (stands_at c.args.tails.now v) 0) (entry_of c.args.places.now.first.items v c.index-next.result.now small c.index-next.ensures) (c.requires.places.first_is v small))
+    (subst (IsNextFrom (stands_at c.args.tails.now v) 0)
+    (entry_of c.args.places.now.first.items v c.index-next.result.now small c.index-next.ensures) (c.requires.places.first_is v small))
     refl c.requires.order
 
 pub visit-requires-clause-below : goal.visit-requires-clause-below

@@ -11,19 +11,22 @@ pub explore-requires-clause-firsts : goal.explore-requires-clause-firsts
 explore-requires-clause-firsts c =
     let below = subst (AllBelow (length c.args.edges.now)) (sym c.as_slice-members.ensures.items) c.requires.below in
     subst (AllBelow c.args.vertices) (sym c.deref.ensures.value)
-    (ends_below (ends_of c.args.edges.now) _ _ _ c.in_ok-ends.ensures c.args.vertices (length c.args.edges.now) below (λ e l. (c.requires.graph.first e l, c.requires.graph.second e l))).0
+    (ends_below (ends_of c.args.edges.now) _ _ _ c.in_ok-ends.ensures c.args.vertices (length c.args.edges.now) below
+    (λ e l. (c.requires.graph.first e l, c.requires.graph.second e l))).0
 
 pub explore-requires-clause-seconds : goal.explore-requires-clause-seconds
 explore-requires-clause-seconds c =
     let below = subst (AllBelow (length c.args.edges.now)) (sym c.as_slice-members.ensures.items) c.requires.below in
     subst (AllBelow c.args.vertices) (sym c.deref-2.ensures.value)
-    (ends_below (ends_of c.args.edges.now) _ _ _ c.in_ok-ends.ensures c.args.vertices (length c.args.edges.now) below (λ e l. (c.requires.graph.first e l, c.requires.graph.second e l))).1
+    (ends_below (ends_of c.args.edges.now) _ _ _ c.in_ok-ends.ensures c.args.vertices (length c.args.edges.now) below
+    (λ e l. (c.requires.graph.first e l, c.requires.graph.second e l))).1
 
 pub edges_back-requires-clause-inside : goal.edges_back-requires-clause-inside
 edges_back-requires-clause-inside c =
     let place = c.in_ok-search.search.place.items in
     let small : c.args.from < length place = omega (arith, c.requires.from, c.in_ok-search.ensures.long) in
-    (c.in_ok-search.ensures.order.known c.args.from c.in-Some.place small (entry_of place c.args.from c.index.result.now small c.index.ensures ∙ c.in-Some.is)).0
+    (c.in_ok-search.ensures.order.known c.args.from c.in-Some.place small
+    (entry_of place c.args.from c.index.result.now small c.index.ensures ∙ c.in-Some.is)).0
 
 pub returns-in-Some-clause-trail : goal.returns-in-Some-clause-trail
 returns-in-Some-clause-trail c =
@@ -34,8 +37,10 @@ returns-in-Some-clause-trail c =
     let place = c.in_ok-search.search.place.items in
     let a : AreEnds ends members firsts seconds = rw (c.deref.ensures.value, c.deref-2.ensures.value) c.in_ok-ends.ensures in
     let small : c.args.from < length place = omega (arith, c.requires.from, c.in_ok-search.ensures.long) in
-    let known = c.in_ok-search.ensures.order.known c.args.from c.in-Some.place small (entry_of place c.args.from c.index.result.now small c.index.ensures ∙ c.in-Some.is) in
-    let tree = c.in_ok-search.ensures.tree ends members (ends_joined ends members firsts seconds a) (ends_joined_back ends members firsts seconds a) in
+    let known = c.in_ok-search.ensures.order.known c.args.from c.in-Some.place small
+    (entry_of place c.args.from c.index.result.now small c.index.ensures ∙ c.in-Some.is) in
+    let tree = c.in_ok-search.ensures.tree ends members (ends_joined ends members firsts seconds a)
+    (ends_joined_back ends members firsts seconds a) in
     let set = c.in_ok-edges_back-in-Some.field-0 in
     subst (λ v. IsTrailSet ends c.args.set.now v c.args.to set) known.1
     (subst (λ X. IsTrailSet ends X (get_or c.in_ok-search.search.order.items c.in-Some.place 0) c.args.to set) c.as_slice-members.ensures.items

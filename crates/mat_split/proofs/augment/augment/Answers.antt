@@ -1,5 +1,6 @@
 use Rattle.std.proofs.Common.{◌∙◌, ap, length}
-use Rattle.mat_split.proofs.SplitSteps.{written_back, first_within, second_within, first_table, second_table, found_at, larger_from_found, cut_from_found, reach_below, step_within, changed_from_found}
+use Rattle.mat_sets.proofs.Steps.{written_back}
+use Rattle.mat_split.proofs.SplitSteps.{first_within, second_within, first_table, second_table, found_at, larger_from_found, cut_from_found, reach_below, step_within, changed_from_found}
 use Rattle.mat_split.proofs.augment.augment.Goals as goal
 
 pub tight_search-requires-clause-first_table : goal.tight_search-requires-clause-first_table
@@ -70,8 +71,8 @@ loop-second-preserved g c =
     let found = found_at now c.in_ok-found.found c.requires.ground c.in_ok-first_rows.ensures c.in_ok-second_rows.ensures
     c.deref.ensures.value c.deref-in-loop-second.ensures.value c.in_ok-found.ensures in
     changed_from_found now found c.in-Stuck.is c.in-Some.is c.deref_mut.ensures.value c.deref_mut-in-Stuck.ensures.value
-    (written_back c.loop-second.first.items c.lower_on.new.weights c.loop-second.first.len
+    (written_back c.loop-second.first.len c.lower_on.new.weights c.loop-second.first.items
     (c.lower_on.ensures.length ∙ c.deref_mut.ensures.len))
-    (written_back c.loop-second.second.items c.raise_on.new.weights c.loop-second.second.len
+    (written_back c.loop-second.second.len c.raise_on.new.weights c.loop-second.second.items
     (c.raise_on.ensures.length ∙ c.deref_mut-in-Stuck.ensures.len))
     c.lower_on.ensures.length c.raise_on.ensures.length c.lower_on.ensures.weights c.raise_on.ensures.weights

@@ -8,11 +8,13 @@ returns-in-Some-clause-row c =
     let edges = c.args.self.now.edges in
     let told = rw (c.in-Some.is, c.as_slice-edges.ensures) at c.in_ok-with.ensures.trail in
     let rises = rw c.in-Some.is at c.in_ok-with.ensures.rises in
-    row-trail (length edges) (ends_of edges) c.args.base.now c.args.x (record { addable = false; with = c.in-Some.with }) c.requires.below c.requires.base c.requires.outside rises told refl
+    row-trail (length edges) (ends_of edges) c.args.base.now c.args.x
+    (record { addable = false; with = c.in-Some.with }) c.requires.below c.requires.base c.requires.outside rises told refl
 
 pub returns-in_ok-copy-in-None-clause-row : goal.returns-in_ok-copy-in-None-clause-row
 returns-in_ok-copy-in-None-clause-row c =
     let edges = c.args.self.now.edges in
     let told = rw (c.in-None.is, c.as_slice-edges.ensures) at c.in_ok-with.ensures.trail in
-    row-apart (length edges) (ends_of edges) c.args.base.now c.args.x (record { addable = true; with = c.in_ok-copy-in-None.field-0 }) c.requires.below c.requires.base c.requires.outside
+    row-apart (length edges) (ends_of edges) c.args.base.now c.args.x
+    (record { addable = true; with = c.in_ok-copy-in-None.field-0 }) c.requires.below c.requires.base c.requires.outside
     (λ same. told (sym same)) refl c.in_ok-copy-in-None.ensures.equal

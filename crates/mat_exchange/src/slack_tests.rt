@@ -1,0 +1,105 @@
+//! The least slack at a table of three elements: 1 and 2 can be added to the set {0}, and each can take the place of 0, in both
+//! matroids.
+ghost use Rattle.std.specs.Prelude.{◌≡◌, ◌^◌, length, IfOk};
+ghost use Rattle.mat_sets.specs.Sets.{AllBelow};
+ghost use Rattle.mat_sets.specs.Sums.{AreWithin};
+
+use crate::row_table::RowTable;
+use crate::slack::least_slack;
+use mat_laws::Exchange;
+use mat_sets::ElemSet;
+use std::alloc::{AllocError, Global};
+use std::test::Fail;
+
+/// Those of three elements that are chosen.
+fn chosen(alloc: Global, choice: [bool; 3]) -> Result<ElemSet, AllocError>
+    ensures { IfOk result (AllBelow 3) }
+{
+    let mut set = ElemSet::new(alloc);
+    for x in 0..3 {
+        if choice[x as usize] {
+            set.add(x)?;
+        }
+    }
+    Ok(set)
+}
+
+/// The table at {0} where 1 and 2 can take its place; these can be added where the matroid lets them.
+fn table(alloc: Global, addable: bool) -> Result<RowTable, AllocError>
+    ensures { IfOk result (λ t. length t ≡ 3) }
+{
+    let exchanges = vec![in alloc;
+        Exchange {
+            addable: false,
+            with: chosen(alloc, [false, false, false])?
+        },
+        Exchange {
+            addable,
+            with: chosen(alloc, [true, false, false])?
+        },
+        Exchange {
+            addable,
+            with: chosen(alloc, [true, false, false])?
+        },
+    ]?;
+    RowTable::new(alloc, &exchanges)
+}
+
+/// The least slack of the chosen elements.
+fn slack_of(
+    alloc: Global,
+    reach: [bool; 3],
+    w1: [i128; 3],
+    w2: [i128; 3],
+) -> Result<Option<i128>, AllocError>
+    requires first_small { AreWithin (10 ^ 30) w1 }
+    requires second_small { AreWithin (10 ^ 30) w2 }
+{
+    let first = table(alloc, true)?;
+    let second = table(alloc, true)?;
+    least_slack(alloc, &first, &second, &chosen(alloc, reach)?, &w1, &w2)
+}
+
+// The first weights of 1 and 2 differ by 3, of 0 and 2 by 4, and the second ones of 2 and 1 by 5.
+#[test]
+fn an_addition_in_the_first_is_least(rt: HostRuntime) -> Result<(), Fail> {
+    let slack = slack_of(rt.alloc(), [true, true, false], [8, 7, 4], [0, 1, 6])?;
+    assert_eq!(rt; slack, Some(3));
+    Ok(())
+}
+
+// The first weights of 1 and 2 differ by 3, of 0 and 2 by 2, and the second ones of 2 and 1 by 5.
+#[test]
+fn an_exchange_in_the_first_is_least(rt: HostRuntime) -> Result<(), Fail> {
+    let slack = slack_of(rt.alloc(), [true, true, false], [6, 7, 4], [0, 1, 6])?;
+    assert_eq!(rt; slack, Some(2));
+    Ok(())
+}
+
+// The first weights of 1 and 2 differ by 6, and the second ones of 0 and 1 by 4, of 2 and 1 by 6.
+#[test]
+fn an_exchange_in_the_second_is_least(rt: HostRuntime) -> Result<(), Fail> {
+    let slack = slack_of(rt.alloc(), [false, true, false], [0, 9, 3], [5, 1, 7])?;
+    assert_eq!(rt; slack, Some(4));
+    Ok(())
+}
+
+// The first weights of 1 and 2 differ by 6, and the second ones of 0 and 1 by 4, of 2 and 1 by 3.
+#[test]
+fn an_addition_in_the_second_is_least(rt: HostRuntime) -> Result<(), Fail> {
+    let slack = slack_of(rt.alloc(), [false, true, false], [0, 9, 3], [5, 1, 4])?;
+    assert_eq!(rt; slack, Some(3));
+    Ok(())
+}
+
+// Nothing lies outside the set, and nothing can be added in the second.
+#[test]
+fn no_slack_is_left(rt: HostRuntime) -> Result<(), Fail> {
+    let alloc = rt.alloc();
+    let first = table(alloc, true)?;
+    let second = table(alloc, false)?;
+    let all = chosen(alloc, [true, true, true])?;
+    let slack = least_slack(alloc, &first, &second, &all, &[8, 7, 4], &[0, 1, 6])?;
+    assert_eq!(rt; slack, None);
+    Ok(())
+}
