@@ -1,6 +1,7 @@
 pub mod ClassMembers
 pub mod ClassRows
 pub mod ClassTables
+pub mod CrossedSets
 pub mod CrossingWalks
 pub mod Filters
 pub mod LaminarRows

@@ -1,5 +1,6 @@
--- The canonical text of a problem in range spells it: a class in rising order lists its own members. So two problems that are spelled are
+-- The canonical text of a problem in range spells it: a set in rising order lists its own members. So two problems that are spelled are
 -- equal exactly where their canonical texts are.
+use Rattle.std.specs.Prelude.{codes}
 use Rattle.std.proofs.Common.{◌≡◌, ◌↔◌, ℕ, List, [], ◌∷◌, ◌++◌, length, refl, sym, ap, subst, arith}
 use Rattle.std.specs.List.{All, flat_map}
 use Rattle.std.proofs.lemmas.List.{append_assoc}
@@ -7,32 +8,42 @@ use Rattle.std.proofs.lemmas.List.Elements.{All-head, All-tail}
 use Rattle.mat_sets.specs.Sets.{IsSet}
 use Rattle.mat_sets.proofs.Ground.{AreDistinct-rising}
 use Rattle.mat_words.specs.Lines.{Line}
-use Rattle.mat_any.specs.Trees.{Tree, uniform, partition, graphic, gf2}
+use Rattle.mat_any.specs.Trees.{Tree, uniform, partition, laminar, graphic, gf2}
 use Rattle.mat_desc.specs.Instances.{Instance, pair, list, graph, rooted, coloured, table}
-use Rattle.mat_desc.specs.Grammar.{Lists, ClassLines, MatroidLines, MatroidsLines, InstanceLines, IsValidTree, IsValidMatroid, IsValid, Spells, end_line}
-use Rattle.mat_desc.specs.Canonical.{class_lines, matroid_lines, canonical_lines, canonical_text}
+use Rattle.mat_desc.specs.Grammar.{Lists, CappedLines, MatroidLines, MatroidsLines, InstanceLines, IsValidTree, IsValidMatroid, IsValid, Spells, end_line}
+use Rattle.mat_desc.specs.Canonical.{capped_lines, matroid_lines, canonical_lines, canonical_text}
 use Rattle.mat_desc.proofs.ProblemLaws.{one_problem}
 
 -- a set lists its own members
 set_lists : (n : ℕ) (set : List ℕ) → IsSet n set → Lists set set
 set_lists n set is = record { distinct = AreDistinct-rising set is.rising; members = λ x. refl }
 
-class_lines_spelled : (n : ℕ) (classes : List (List ℕ)) (caps : List ℕ) (rest : List Line) → length caps ≡ length classes → All (IsSet n) classes
-    → ClassLines classes caps (class_lines classes caps ++ rest) rest
-class_lines_spelled n [] [] rest same sets = refl
-class_lines_spelled n [] (cap ∷ caps) rest same sets = absurd (omega arith)
-class_lines_spelled n (set ∷ classes) [] rest same sets = absurd (omega arith)
-class_lines_spelled n (set ∷ classes) (cap ∷ caps) rest same sets = (
+-- the lines of the sets with their caps, by their keyword
+capped_lines_spelled : (key : List ℕ) (n : ℕ) (sets : List (List ℕ)) (caps : List ℕ) (rest : List Line) → length caps ≡ length sets → All (IsSet n) sets
+    → CappedLines key sets caps (capped_lines key sets caps ++ rest) rest
+capped_lines_spelled key n [] [] rest same in_range = refl
+capped_lines_spelled key n [] (cap ∷ caps) rest same in_range = absurd (omega arith)
+capped_lines_spelled key n (set ∷ sets) [] rest same in_range = absurd (omega arith)
+capped_lines_spelled key n (set ∷ sets) (cap ∷ caps) rest same in_range = (
   set,
-  class_lines classes caps ++ rest,
-  set_lists n set (All-head (IsSet n) set classes sets),
+  capped_lines key sets caps ++ rest,
+  set_lists n set (All-head (IsSet n) set sets in_range),
   refl,
-  class_lines_spelled n classes caps rest (omega arith) (All-tail (IsSet n) set classes sets),
+  capped_lines_spelled key n sets caps rest (omega arith) (All-tail (IsSet n) set sets in_range),
 )
 
 matroid_spelled : (n : ℕ) (tree : Tree) (rest : List Line) → IsValidTree n tree → MatroidLines tree (matroid_lines tree ++ rest) rest
 matroid_spelled n (uniform m cap) rest valid = refl
-matroid_spelled n (partition m classes caps) rest valid = (class_lines classes caps ++ rest, refl, class_lines_spelled n classes caps rest valid.1.as_many valid.1.sets)
+matroid_spelled n (partition m classes caps) rest valid = (
+  capped_lines (codes "class") classes caps ++ rest,
+  refl,
+  capped_lines_spelled (codes "class") n classes caps rest valid.1.as_many valid.1.sets,
+)
+matroid_spelled n (laminar m sets caps) rest valid = (
+  capped_lines (codes "set") sets caps ++ rest,
+  refl,
+  capped_lines_spelled (codes "set") n sets caps rest valid.1.as_many valid.1.sets_inside,
+)
 matroid_spelled n (graphic vertices edges) rest valid = refl
 matroid_spelled n (gf2 dim columns) rest valid = refl
 

@@ -1,71 +1,31 @@
 -- Class lines: what is read is spelled so, and what is spelled so is read.
-use Rattle.std.proofs.Common.{◌≡◌, ℕ, zero, suc, ◌+◌, ◌≤◌, Bool, true, false, ◌||◌, List, [], ◌∷◌, length, pos, Ok, refl, sym, ap, subst, ◌∙◌, arith}
+use Rattle.std.proofs.Common.{◌≡◌, ℕ, zero, suc, ◌+◌, ◌≤◌, Bool, true, false, ◌||◌, List, [], ◌∷◌, length, Ok, refl, ap, subst, ◌∙◌, arith}
 use Rattle.std.specs.Prelude.{codes}
-use Rattle.std.specs.List.{All, list_all}
-use Rattle.std.proofs.lemmas.Bool.{and_from}
+use Rattle.std.specs.List.{All}
 use Rattle.std.proofs.lemmas.List.Elements.{All-nil, All-cons, All-head, All-tail, All-weaker}
 use Rattle.mat_sets.specs.Sets.{is_member, AllBelow, IsSet}
 use Rattle.mat_sets.specs.Families.{indicator, multiplicity, AreDisjoint}
-use Rattle.mat_sets.proofs.Ground.{AllBelow-member, AllBelow-from_members}
-use Rattle.mat_words.specs.Words.{is_word}
-use Rattle.mat_words.specs.Numbers.{numerals, numeral}
-use Rattle.mat_words.proofs.NumberLemmas.{numeral_word}
 use Rattle.mat_count.specs.Partitions.{IsPartition}
 use Rattle.mat_words.specs.Lines.{Line}
 use Rattle.mat_desc.specs.Faults.{◌>>=◌, LinesLeft}
-use Rattle.mat_desc.specs.Reading.{keyed_at, count_at, elements_at, class_at, classes_at}
-use Rattle.mat_desc.specs.Grammar.{Lists, ClassLines, AreClasses}
+use Rattle.mat_desc.specs.Reading.{class_at, classes_at}
+use Rattle.mat_desc.specs.Grammar.{Lists, CappedLines, AreClasses}
 use Rattle.mat_desc.proofs.ReadingSteps.{found-same, bind_found}
-use Rattle.mat_desc.proofs.WordLaws.{cut_then, count_found, count_again, numerals_words}
-use Rattle.mat_desc.proofs.LineLaws.{AreLeft, keyed_found, keyed_again}
-use Rattle.mat_desc.proofs.ElementLaws.{with_each, is_member-with_each, elements_found, elements_again, members_made, members_left, Lists-made, IsSet-made, made-listed}
+use Rattle.mat_desc.proofs.LineLaws.{AreLeft}
+use Rattle.mat_desc.proofs.CappedLineLaws.{listed_line, IsCappedRead, capped_read, capped_again}
+use Rattle.mat_desc.proofs.ElementLaws.{with_each, is_member-with_each}
 
--- the line of a class
-abbrev class_line : ℕ → List ℕ → Line
-class_line cap xs = codes "class" ∷ numeral (pos cap) ∷ numerals xs
-
--- a class line was read
-record IsClassRead (n : ℕ) (taken : List ℕ) (p : LinesLeft) (cap : ℕ) (class left : List ℕ) (q : LinesLeft) : Type 0 where
-  xs : List ℕ
-  lists : Lists xs class
-  small : cap ≤ 500
-  set : IsSet n class
-  fresh : (x : ℕ) → is_member x class ≡ true → is_member x taken ≡ false
-  taken_left : (x : ℕ) → is_member x left ≡ (is_member x class || is_member x taken)
-  spelled : (rest : List Line) → AreLeft rest q → AreLeft (class_line cap xs ∷ rest) p
-
-class_read : (n : ℕ) (taken : List ℕ) (p : LinesLeft) (cap : ℕ) (class left : List ℕ) (q : LinesLeft) → class_at n taken p ≡ Ok (cap, class, left, q) → IsClassRead n taken p cap class left q
+-- a class line was read: its elements are fresh, and taken behind it
+class_read : (n : ℕ) (taken : List ℕ) (p : LinesLeft) (cap : ℕ) (class left : List ℕ) (q : LinesLeft) → class_at n taken p ≡ Ok (cap, class, left, q)
+    → IsCappedRead (codes "class") n taken p cap class left q
 unfolding class_at
-class_read n taken p cap class left q e =
-    let line = bind_found (keyed_at (codes "class") p) (λ line. count_at 0 501 line.0 >>= λ cap. elements_at n taken cap.1 >>= λ elements. Ok (cap.0, elements.0, elements.1, line.1)) (cap, class, left, q) e in
-    let caps = bind_found (count_at 0 501 line.0.0) (λ cap. elements_at n taken cap.1 >>= λ elements. Ok (cap.0, elements.0, elements.1, line.0.1)) (cap, class, left, q) line.2 in
-    let elements = bind_found (elements_at n taken caps.0.1) (λ elements. Ok (caps.0.0, elements.0, elements.1, line.0.1)) (cap, class, left, q) caps.2 in
-    let same = found-same (caps.0.0, elements.0.0, elements.0.1, line.0.1) (cap, class, left, q) elements.2 in
-    let number = count_found 0 501 line.0.0 caps.0.0 caps.0.1 caps.1 in
-    let read = elements_found n caps.0.1.line taken [] caps.0.1.words elements.0.0 elements.0.1 elements.1 in
-    let words : line.0.0.words ≡ numeral (pos caps.0.0) ∷ numerals read.xs = cut_then (numeral (pos caps.0.0)) line.0.0.words caps.0.1.words (numerals read.xs) number.cut read.cut in
-    let one : IsClassRead n taken p caps.0.0 elements.0.0 elements.0.1 line.0.1 = record {
-      xs = read.xs;
-      lists = subst (λ (s : List ℕ). Lists read.xs s) (sym read.set_made) (Lists-made read.xs read.distinct);
-      small = omega (arith, number.most);
-      set = subst (λ (s : List ℕ). IsSet n s) (sym read.set_made) (IsSet-made n read.xs read.below);
-      fresh = λ x h. read.fresh x (sym (members_made taken read.xs elements.0.0 read.set_made x) ∙ h);
-      taken_left = members_left taken read.xs elements.0.0 elements.0.1 read.set_made read.taken_left;
-      spelled = λ rest behind. subst (λ (ws : Line). AreLeft ((codes "class" ∷ ws) ∷ rest) p) words (keyed_found (codes "class") p line.0.0 line.0.1 line.1 rest behind);
-    } in
-    subst (λ (r : ℕ × List ℕ × List ℕ × LinesLeft). IsClassRead n taken p r.0 r.1 r.2 r.3) same one
+class_read n taken p cap class left q e = capped_read (codes "class") n taken p cap class left q e
 
 class_again : (n : ℕ) (taken : List ℕ) (p : LinesLeft) (cap : ℕ) (class xs : List ℕ) (rest : List Line) → cap ≤ 500 → IsSet n class → Lists xs class
-    → ((x : ℕ) → is_member x class ≡ true → is_member x taken ≡ false) → AllBelow n xs → AreLeft (class_line cap xs ∷ rest) p
+    → ((x : ℕ) → is_member x class ≡ true → is_member x taken ≡ false) → AreLeft (listed_line (codes "class") cap xs ∷ rest) p
     → (q : LinesLeft) × (class_at n taken p ≡ Ok (cap, class, with_each taken xs, q)) × AreLeft rest q
 unfolding class_at
-class_again n taken p cap class xs rest small set lists fresh below left =
-    let words : list_all is_word (numeral (pos cap) ∷ numerals xs) ≡ true = and_from (is_word (numeral (pos cap))) (list_all is_word (numerals xs)) (numeral_word (pos cap)) (numerals_words xs) in
-    let line = keyed_again (codes "class") p (numeral (pos cap) ∷ numerals xs) rest refl words left in
-    let number = count_again 0 501 p.line cap (numerals xs) (omega arith) (omega arith) in
-    let elements = elements_again n p.line taken [] xs lists.distinct below (λ x h. fresh x (sym (lists.members x) ∙ h)) in
-    let made = made-listed n xs class set lists in
-    (line.0, rw (line.1, number, elements, made) refl, line.2)
+class_again n taken p cap class xs rest small set lists fresh left = capped_again (codes "class") n taken p cap class xs rest refl small set lists fresh left
 
 -- ---- all classes
 
@@ -95,7 +55,7 @@ pub record AreClassesRead (n many : ℕ) (taken : List ℕ) (p : LinesLeft) (cla
   pub small : All (λ cap. cap ≤ 500) caps
   pub sets : All (IsSet n) classes
   pub apart : (x : ℕ) → multiplicity x classes + indicator (is_member x taken) ≤ 1
-  pub spelled : (rest : List Line) → AreLeft rest q → (lines : List Line) × ClassLines classes caps lines rest × AreLeft lines p
+  pub spelled : (rest : List Line) → AreLeft rest q → (lines : List Line) × CappedLines (codes "class") classes caps lines rest × AreLeft lines p
 
 indicator_small : (b : Bool) → 0 + indicator b ≤ 1
 indicator_small true = omega arith
@@ -124,16 +84,16 @@ classes_read n (suc many) taken p classes caps q e =
       count = ap suc more.count;
       as_many = ap suc more.as_many;
       small = All-cons (λ cap. cap ≤ 500) first.0.0 others.0.1 one.small more.small;
-      sets = All-cons (IsSet n) first.0.1 others.0.0 one.set more.sets;
+      sets = All-cons (IsSet n) first.0.1 others.0.0 one.in_range more.sets;
       apart = λ x. apart_found (is_member x first.0.1) (is_member x taken) (is_member x first.0.2) (multiplicity x others.0.0) (one.fresh x) (one.taken_left x) (more.apart x);
       spelled = λ rest left.
           let behind = more.spelled rest left in
-          (class_line first.0.0 one.xs ∷ behind.0, (one.xs, behind.0, one.lists, refl, behind.1), one.spelled behind.0 behind.2);
+          (listed_line (codes "class") first.0.0 one.xs ∷ behind.0, (one.xs, behind.0, one.lists, refl, behind.1), one.spelled behind.0 behind.2);
     } in
     subst (λ (r : List (List ℕ) × List ℕ × LinesLeft). AreClassesRead n (suc many) taken p r.0 r.1 r.2) same all
 
 pub classes_again : (n : ℕ) (taken : List ℕ) (p : LinesLeft) (classes : List (List ℕ)) (caps : List ℕ) (lines rest : List Line) → All (λ cap. cap ≤ 500) caps → All (IsSet n) classes
-    → ((x : ℕ) → multiplicity x classes + indicator (is_member x taken) ≤ 1) → ClassLines classes caps lines rest → AreLeft lines p
+    → ((x : ℕ) → multiplicity x classes + indicator (is_member x taken) ≤ 1) → CappedLines (codes "class") classes caps lines rest → AreLeft lines p
     → (q : LinesLeft) × (classes_at n (length classes) taken p ≡ Ok (classes, caps, q)) × AreLeft rest q
 unfolding classes_at multiplicity
 classes_again n taken p [] [] lines rest small sets apart spelled left = (p, refl, subst (λ (ls : List Line). AreLeft ls p) spelled left)
@@ -143,9 +103,8 @@ classes_again n taken p (class ∷ classes) (cap ∷ caps) lines rest small sets
     let xs = spelled.0 in
     let set = All-head (IsSet n) class classes sets in
     let fresh = λ (x : ℕ). apart_fresh (is_member x class) (is_member x taken) (multiplicity x classes) (apart x) in
-    let below = AllBelow-from_members n xs (λ k h. AllBelow-member n class k set.below (sym (spelled.2.members k) ∙ h)) in
     let here = subst (λ (ls : List Line). AreLeft ls p) spelled.3 left in
-    let first = class_again n taken p cap class xs spelled.1 (All-head (λ cap. cap ≤ 500) cap caps small) set spelled.2 fresh below here in
+    let first = class_again n taken p cap class xs spelled.1 (All-head (λ cap. cap ≤ 500) cap caps small) set spelled.2 fresh here in
     let taken_left = λ (x : ℕ). is_member-with_each x taken xs ∙ ap (λ (b : Bool). b || is_member x taken) (spelled.2.members x) in
     let later = λ (x : ℕ). apart_left (is_member x class) (is_member x taken) (is_member x (with_each taken xs)) (multiplicity x classes) (taken_left x) (apart x) in
     let others = classes_again n (with_each taken xs) first.0 classes caps spelled.1 rest (All-tail (λ cap. cap ≤ 500) cap caps small) (All-tail (IsSet n) class classes sets) later spelled.4 first.2 in

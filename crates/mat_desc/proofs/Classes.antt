@@ -6,21 +6,21 @@ use Rattle.mat_desc.specs.declared.refusal.DescRefusal.TheVariants as refusals
 use Rattle.mat_desc.specs.Faults.{◌>>=◌, Fault, Fails, LinesLeft}
 use Rattle.mat_desc.specs.Reading.{class_at, classes_at}
 
--- classes and caps, and the lines behind them
-abbrev pub ClassesRead : Type 0
-ClassesRead = Result (List (List ℕ) × List ℕ × LinesLeft) Fault
+-- sets and their caps, and the lines behind them
+abbrev pub SetsRead : Type 0
+SetsRead = Result (List (List ℕ) × List ℕ × LinesLeft) Fault
 
 -- what was read before, in front of what is still read
-abbrev pub with_front : List (List ℕ) → List ℕ → ClassesRead → ClassesRead
-with_front classes caps reading = reading >>= λ x. Ok (classes ++ x.0, caps ++ x.1, x.2)
+abbrev pub with_front : List (List ℕ) → List ℕ → SetsRead → SetsRead
+with_front sets caps reading = reading >>= λ x. Ok (sets ++ x.0, caps ++ x.1, x.2)
 
-with_front-cons : (classes : List (List ℕ)) (caps : List ℕ) (class : List ℕ) (cap : ℕ) (reading : ClassesRead)
-    → with_front classes caps (reading >>= λ x. Ok (class ∷ x.0, cap ∷ x.1, x.2)) ≡ with_front (classes ++ class ∷ []) (caps ++ cap ∷ []) reading
-with_front-cons classes caps class cap (Ok x) = simp append_assoc
-with_front-cons classes caps class cap (Err fault) = refl
+pub with_front-cons : (sets : List (List ℕ)) (caps : List ℕ) (set : List ℕ) (cap : ℕ) (reading : SetsRead)
+    → with_front sets caps (reading >>= λ x. Ok (set ∷ x.0, cap ∷ x.1, x.2)) ≡ with_front (sets ++ set ∷ []) (caps ++ cap ∷ []) reading
+with_front-cons sets caps set cap (Ok x) = simp append_assoc
+with_front-cons sets caps set cap (Err fault) = refl
 
 -- one more class was read
-pub classes_more : (n many i : ℕ) (taken : List ℕ) (p : LinesLeft) (classes : List (List ℕ)) (caps : List ℕ) (cap : ℕ) (class taken_more : List ℕ) (after : LinesLeft) (total : ClassesRead)
+pub classes_more : (n many i : ℕ) (taken : List ℕ) (p : LinesLeft) (classes : List (List ℕ)) (caps : List ℕ) (cap : ℕ) (class taken_more : List ℕ) (after : LinesLeft) (total : SetsRead)
     → i < many → class_at n taken p ≡ Ok (cap, class, taken_more, after) → with_front classes caps (classes_at n (many - i) taken p) ≡ total
     → with_front (classes ++ class ∷ []) (caps ++ cap ∷ []) (classes_at n (many - (i + 1)) taken_more after) ≡ total
 unfolding classes_at
@@ -31,7 +31,7 @@ classes_more n many i taken p classes caps cap class taken_more after total lt r
     sym step ∙ so_far
 
 -- the next class fails
-pub classes_fail : (refusal : DescRefusal) (n many i : ℕ) (taken : List ℕ) (p : LinesLeft) (classes : List (List ℕ)) (caps : List ℕ) (total : ClassesRead)
+pub classes_fail : (refusal : DescRefusal) (n many i : ℕ) (taken : List ℕ) (p : LinesLeft) (classes : List (List ℕ)) (caps : List ℕ) (total : SetsRead)
     → i < many → Fails refusal (class_at n taken p) → with_front classes caps (classes_at n (many - i) taken p) ≡ total → Fails refusal total
 unfolding classes_at
 classes_fail refusals.Memory n many i taken p classes caps total lt failed so_far = tt
@@ -41,7 +41,7 @@ classes_fail (refusals.Fault kind line) n many i taken p classes caps total lt f
     sym so_far ∙ step
 
 -- all classes are read
-pub classes_done : (n many i : ℕ) (taken : List ℕ) (p : LinesLeft) (classes : List (List ℕ)) (caps : List ℕ) (total : ClassesRead)
+pub classes_done : (n many i : ℕ) (taken : List ℕ) (p : LinesLeft) (classes : List (List ℕ)) (caps : List ℕ) (total : SetsRead)
     → many ≤ i → with_front classes caps (classes_at n (many - i) taken p) ≡ total → total ≡ Ok (classes, caps, p)
 unfolding classes_at
 classes_done n many i taken p classes caps total le so_far =

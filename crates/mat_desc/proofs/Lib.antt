@@ -2,12 +2,15 @@ pub mod Repeats
 pub mod ElementLists
 pub mod Closing
 pub mod Classes
+pub mod NestedSets
 pub mod ReadingSteps
 pub mod WordLaws
 pub mod LineLaws
 pub mod ElementLaws
 pub mod BinaryLaws
+pub mod CappedLineLaws
 pub mod ClassLaws
+pub mod NestedSetLaws
 pub mod ItemLaws
 pub mod MatroidLaws
 pub mod MatroidRows

@@ -9,17 +9,18 @@ use Rattle.mat_sets.specs.Families.{multiplicity}
 use Rattle.mat_words.specs.Words.{is_word}
 use Rattle.mat_words.specs.Numbers.{numeral}
 use Rattle.mat_words.proofs.NumberLemmas.{numeral_word}
-use Rattle.mat_any.specs.Trees.{Tree, uniform, partition, graphic, gf2}
+use Rattle.mat_any.specs.Trees.{Tree, uniform, partition, laminar, graphic, gf2}
 use Rattle.mat_words.specs.Lines.{Line}
 use Rattle.mat_desc.specs.declared.keywords.Keyword.{Keyword}
 use Rattle.mat_desc.specs.declared.keywords.Keyword.TheVariants as keywords
 use Rattle.mat_desc.specs.Faults.{◌>>=◌, WordsLeft, LinesLeft}
-use Rattle.mat_desc.specs.Reading.{line_at, word_at, count_at, ended_at, repeat_at, classes_at, uniform_at, partition_at, edge_at, graphic_at, column_at, gf2_at, keyword_of, kind_at, matroid_at}
-use Rattle.mat_desc.specs.Grammar.{IsPair, IsValidMatroid, AreClasses, MatroidLines, edge_line, column_line}
+use Rattle.mat_desc.specs.Reading.{line_at, word_at, count_at, ended_at, repeat_at, classes_at, nested_sets_at, uniform_at, partition_at, laminar_at, edge_at, graphic_at, column_at, gf2_at, keyword_of, kind_at, matroid_at}
+use Rattle.mat_desc.specs.Grammar.{IsPair, IsValidMatroid, AreClasses, AreNestedSets, MatroidLines, edge_line, column_line}
 use Rattle.mat_desc.proofs.ReadingSteps.{found-same, bind_found}
 use Rattle.mat_desc.proofs.WordLaws.{cut_then, count_line, word_found, ended_found, ended_again, count_found, count_again}
 use Rattle.mat_desc.proofs.LineLaws.{AreLeft, line_found, line_again}
 use Rattle.mat_desc.proofs.ClassLaws.{classes_read, classes_again, classes_valid}
+use Rattle.mat_desc.proofs.NestedSetLaws.{nested_sets_read, nested_sets_again, nested_sets_valid}
 use Rattle.mat_desc.proofs.ItemLaws.{items_found, items_again, edge_found, edge_again, IsColumn, column_found, column_again}
 
 -- ---- keywords
@@ -28,6 +29,7 @@ use Rattle.mat_desc.proofs.ItemLaws.{items_found, items_again, edge_found, edge_
 abbrev pub spelling_of : Keyword → List ℕ
 spelling_of keywords.Uniform = codes "uniform"
 spelling_of keywords.Partition = codes "partition"
+spelling_of keywords.Laminar = codes "laminar"
 spelling_of keywords.Graphic = codes "graphic"
 spelling_of keywords.Gf2 = codes "gf2"
 
@@ -38,21 +40,23 @@ some_same : (a b : Keyword) → Some a ≡ Some b → a ≡ b
 some_same a b e = cc
 
 -- the choice among the keywords
-abbrev choice : Bool → Bool → Bool → Bool → Option Keyword
-choice a b c d = cond a (Some keywords.Uniform) (cond b (Some keywords.Partition) (cond c (Some keywords.Graphic) (cond d (Some keywords.Gf2) None)))
+abbrev choice : Bool → Bool → Bool → Bool → Bool → Option Keyword
+choice a b c d e =
+    cond a (Some keywords.Uniform) (cond b (Some keywords.Partition) (cond c (Some keywords.Laminar) (cond d (Some keywords.Graphic) (cond e (Some keywords.Gf2) None))))
 
 pub keyword_found : (word : List ℕ) (keyword : Keyword) → keyword_of word ≡ Some keyword → word ≡ spelling_of keyword
 keyword_found word keyword is =
-    first (bytes_eq word (codes "uniform")) (bytes_eq word (codes "partition")) (bytes_eq word (codes "graphic")) (bytes_eq word (codes "gf2"))
-    (word_equal word (codes "uniform")) (word_equal word (codes "partition")) (word_equal word (codes "graphic")) (word_equal word (codes "gf2")) is
+    first (bytes_eq word (codes "uniform")) (bytes_eq word (codes "partition")) (bytes_eq word (codes "laminar")) (bytes_eq word (codes "graphic")) (bytes_eq word (codes "gf2"))
+    (word_equal word (codes "uniform")) (word_equal word (codes "partition")) (word_equal word (codes "laminar")) (word_equal word (codes "graphic")) (word_equal word (codes "gf2")) is
   where
-    first : (a b c d : Bool) → (a ≡ true → word ≡ codes "uniform") → (b ≡ true → word ≡ codes "partition") → (c ≡ true → word ≡ codes "graphic") → (d ≡ true → word ≡ codes "gf2")
-        → choice a b c d ≡ Some keyword → word ≡ spelling_of keyword
-    first true b c d p q r s h = p refl ∙ ap spelling_of (some_same keywords.Uniform keyword h)
-    first false true c d p q r s h = q refl ∙ ap spelling_of (some_same keywords.Partition keyword h)
-    first false false true d p q r s h = r refl ∙ ap spelling_of (some_same keywords.Graphic keyword h)
-    first false false false true p q r s h = s refl ∙ ap spelling_of (some_same keywords.Gf2 keyword h)
-    first false false false false p q r s h = absurd cc
+    first : (a b c d e : Bool) → (a ≡ true → word ≡ codes "uniform") → (b ≡ true → word ≡ codes "partition") → (c ≡ true → word ≡ codes "laminar") → (d ≡ true → word ≡ codes "graphic")
+        → (e ≡ true → word ≡ codes "gf2") → choice a b c d e ≡ Some keyword → word ≡ spelling_of keyword
+    first true b c d e p q r s t h = p refl ∙ ap spelling_of (some_same keywords.Uniform keyword h)
+    first false true c d e p q r s t h = q refl ∙ ap spelling_of (some_same keywords.Partition keyword h)
+    first false false true d e p q r s t h = r refl ∙ ap spelling_of (some_same keywords.Laminar keyword h)
+    first false false false true e p q r s t h = s refl ∙ ap spelling_of (some_same keywords.Graphic keyword h)
+    first false false false false true p q r s t h = t refl ∙ ap spelling_of (some_same keywords.Gf2 keyword h)
+    first false false false false false p q r s t h = absurd cc
 
 -- ---- one kind
 
@@ -96,6 +100,26 @@ partition_found n words lines tree q e =
     } in
     subst (λ (r : Tree × LinesLeft). IsKindRead n keywords.Partition words lines r.0 r.1) same one
 
+laminar_found : (n : ℕ) (words : WordsLeft) (lines : LinesLeft) (tree : Tree) (q : LinesLeft) → laminar_at n words lines ≡ Ok (tree, q) → IsKindRead n keywords.Laminar words lines tree q
+unfolding laminar_at
+laminar_found n words lines tree q e =
+    let many = bind_found (count_at 0 501 words) (λ many. ended_at many.1 >>= λ end. nested_sets_at n many.0 [] lines >>= λ sets. Ok (laminar n sets.0 sets.1, sets.2)) (tree, q) e in
+    let end = bind_found (ended_at many.0.1) (λ end. nested_sets_at n many.0.0 [] lines >>= λ sets. Ok (laminar n sets.0 sets.1, sets.2)) (tree, q) many.2 in
+    let sets = bind_found (nested_sets_at n many.0.0 [] lines) (λ sets. Ok (laminar n sets.0 sets.1, sets.2)) (tree, q) end.2 in
+    let same = found-same (laminar n sets.0.0 sets.0.1, sets.0.2) (tree, q) sets.2 in
+    let number = count_found 0 501 words many.0.0 many.0.1 many.1 in
+    let last = ended_found many.0.1 end.0 end.1 in
+    let read = nested_sets_read n many.0.0 [] lines sets.0.0 sets.0.1 sets.0.2 sets.1 in
+    let few : many.0.0 ≤ 500 = omega (arith, number.most) in
+    let line : words.words ≡ numeral (pos (length sets.0.0)) ∷ [] = count_line many.0.0 (length sets.0.0) words.words many.0.1.words number.cut last read.count in
+    let one : IsKindRead n keywords.Laminar words lines (laminar n sets.0.0 sets.0.1) sets.0.2 = record {
+      valid = ((refl, nested_sets_valid n many.0.0 lines sets.0.0 sets.0.1 sets.0.2 few read), omega arith);
+      spelled = λ rest left.
+          let behind = read.spelled rest left in
+          (behind.0, behind.2, (behind.0, ap (λ (t : Line). (codes "laminar" ∷ t) ∷ behind.0) line, behind.1));
+    } in
+    subst (λ (r : Tree × LinesLeft). IsKindRead n keywords.Laminar words lines r.0 r.1) same one
+
 graphic_found : (n : ℕ) (words : WordsLeft) (lines : LinesLeft) (tree : Tree) (q : LinesLeft) → graphic_at n words lines ≡ Ok (tree, q) → IsKindRead n keywords.Graphic words lines tree q
 unfolding graphic_at
 graphic_found n words lines tree q e =
@@ -133,6 +157,7 @@ gf2_found n words lines tree q e =
 kind_found : (n line : ℕ) (keyword : Keyword) (words : WordsLeft) (lines : LinesLeft) (tree : Tree) (q : LinesLeft) → kind_at n line (Some keyword) words lines ≡ Ok (tree, q) → IsKindRead n keyword words lines tree q
 kind_found n line keywords.Uniform words lines tree q e = uniform_found n words lines tree q e
 kind_found n line keywords.Partition words lines tree q e = partition_found n words lines tree q e
+kind_found n line keywords.Laminar words lines tree q e = laminar_found n words lines tree q e
 kind_found n line keywords.Graphic words lines tree q e = graphic_found n words lines tree q e
 kind_found n line keywords.Gf2 words lines tree q e = gf2_found n words lines tree q e
 
@@ -165,7 +190,7 @@ matroid_found n p tree q e =
 
 pub matroid_again : (n : ℕ) (p : LinesLeft) (tree : Tree) (lines rest : List Line) → IsValidMatroid n tree → MatroidLines tree lines rest → AreLeft lines p
     → (q : LinesLeft) × (matroid_at n p ≡ Ok (tree, q)) × AreLeft rest q
-unfolding matroid_at word_at uniform_at partition_at graphic_at gf2_at multiplicity
+unfolding matroid_at word_at uniform_at partition_at laminar_at graphic_at gf2_at multiplicity
 matroid_again n p (uniform m cap) lines rest valid spelled left =
     let number_word : list_all is_word (codes "uniform" ∷ numeral (pos cap) ∷ []) ≡ true = and_from (is_word (numeral (pos cap))) true (numeral_word (pos cap)) refl in
     let line = line_again p (codes "uniform" ∷ numeral (pos cap) ∷ []) rest (omega arith) number_word (subst (λ (ls : List Line). AreLeft ls p) spelled left) in
@@ -177,6 +202,13 @@ matroid_again n p (partition m classes caps) lines rest valid spelled left =
     let line = line_again p (codes "partition" ∷ numeral (pos (length classes)) ∷ []) spelled.0 (omega arith) number_word (subst (λ (ls : List Line). AreLeft ls p) spelled.1 left) in
     let number = count_again 0 501 p.line (length classes) [] (omega arith) (omega (arith, ranged.few)) in
     let read = classes_again n [] line.0 classes caps spelled.0 rest ranged.caps_small ranged.sets (λ x. omega (arith, ranged.disjoint.once x)) spelled.2 line.2 in
+    (read.0, rw (line.1, number, ended_again p.line, read.1, valid.0.0) refl, read.2)
+matroid_again n p (laminar m sets caps) lines rest valid spelled left =
+    let ranged : AreNestedSets n sets caps = valid.0.1 in
+    let number_word : list_all is_word (codes "laminar" ∷ numeral (pos (length sets)) ∷ []) ≡ true = and_from (is_word (numeral (pos (length sets)))) true (numeral_word (pos (length sets))) refl in
+    let line = line_again p (codes "laminar" ∷ numeral (pos (length sets)) ∷ []) spelled.0 (omega arith) number_word (subst (λ (ls : List Line). AreLeft ls p) spelled.1 left) in
+    let number = count_again 0 501 p.line (length sets) [] (omega arith) (omega (arith, ranged.few)) in
+    let read = nested_sets_again n [] line.0 sets caps spelled.0 rest ranged.caps_small ranged.sets_inside ranged.family spelled.2 line.2 in
     (read.0, rw (line.1, number, ended_again p.line, read.1, valid.0.0) refl, read.2)
 matroid_again n p (graphic vertices edges) lines rest valid spelled left =
     let number_word : list_all is_word (codes "graphic" ∷ numeral (pos vertices) ∷ []) ≡ true = and_from (is_word (numeral (pos vertices))) true (numeral_word (pos vertices)) refl in

@@ -3,7 +3,7 @@ use Rattle.std.proofs.Common.{◌≡◌, ◌≤◌, ℕ, List, length, ◌⊎◌
 use Rattle.std.specs.List.{All}
 use Rattle.std.proofs.lemmas.List.Elements.{All-weaker}
 use Rattle.mat_sets.specs.Sets.{IsSet, AllBelow}
-use Rattle.mat_any.specs.Trees.{Tree, uniform, partition, graphic, gf2, element_count, IsSound}
+use Rattle.mat_any.specs.Trees.{Tree, uniform, partition, laminar, graphic, gf2, element_count, IsSound}
 use Rattle.mat_desc.specs.declared.refusal.DescRefusal.{DescRefusal}
 use Rattle.mat_desc.specs.declared.refusal.DescRefusal.TheVariants as refusals
 use Rattle.mat_desc.specs.Faults.{Fault, Gives}
@@ -22,6 +22,14 @@ IsSound-valid n (partition m classes caps) few valid = (
     capped = valid.1.as_many;
     inside = subst (λ (k : ℕ). All (AllBelow k) classes) (sym valid.0) (All-weaker (IsSet n) (AllBelow n) (λ class set. set.below) classes valid.1.sets);
     disjoint = valid.1.disjoint;
+  },
+  valid.0,
+)
+IsSound-valid n (laminar m sets caps) few valid = (
+  record {
+    capped = valid.1.as_many;
+    inside = subst (λ (k : ℕ). All (AllBelow k) sets) (sym valid.0) (All-weaker (IsSet n) (AllBelow n) (λ set is. is.below) sets valid.1.sets_inside);
+    family = valid.1.family;
   },
   valid.0,
 )

@@ -1,6 +1,6 @@
 -- The text that is written line by line: behind the first word of a line each further word stands behind a space, and the lines of a list
 -- of items are those of one item after the other.
-use Rattle.std.proofs.Common.{◌≡◌, ℕ, ◌+◌, ◌<◌, ◌≤◌, List, [], ◌∷◌, ◌++◌, length, map, min, take, get_or, sym, ap, ◌∙◌, refl, arith, pos, codes}
+use Rattle.std.proofs.Common.{◌≡◌, ℕ, ◌+◌, ◌<◌, ◌≤◌, List, [], ◌∷◌, ◌++◌, length, map, min, take, get_or, sym, ap, ◌∙◌, refl, arith, pos}
 use Rattle.std.specs.List.{flat_map, join_with_byte, zip}
 use Rattle.std.proofs.lemmas.List.{append_assoc, append-nil, flat_map_more, take_more, take_all}
 use Rattle.std.proofs.lemmas.List.Folds.{flat_map-map}
@@ -11,7 +11,7 @@ use Rattle.mat_words.specs.Numbers.{numeral}
 use Rattle.mat_words.proofs.LineLemmas.{text_of-append}
 use Rattle.mat_desc.specs.Grammar.{version_line, end_line}
 use Rattle.mat_desc.specs.Instances.{Instance}
-use Rattle.mat_desc.specs.Canonical.{class_line, form_lines, canonical_text}
+use Rattle.mat_desc.specs.Canonical.{capped_line, form_lines, canonical_text}
 
 -- ---- one line
 
@@ -42,18 +42,18 @@ line_written f old w xs n out new done so_far last =
     last ∙ ap (λ (t : List ℕ). t ++ 10 ∷ []) (whole ∙ append_assoc old w items) ∙ append_assoc old (w ++ items) (10 ∷ [])
     ∙ ap (λ (t : List ℕ). old ++ t) (sym (line_text f w xs))
 
--- the line of a class was written, member by member
-pub class_written : (old class : List ℕ) (cap n : ℕ) (out new : List ℕ) → length class ≤ n
-    → out ≡ ((old ++ codes "class") ++ 32 ∷ numeral (pos cap)) ++ flat_map (λ x. 32 ∷ numeral (pos x)) (take n class) → new ≡ out ++ 10 ∷ []
-    → new ≡ old ++ text_of (class_line (class, cap) ∷ [])
-class_written old class cap n out new done so_far last =
+-- the line of a set and its cap was written, member by member
+pub capped_written : (old key set : List ℕ) (cap n : ℕ) (out new : List ℕ) → length set ≤ n
+    → out ≡ ((old ++ key) ++ 32 ∷ numeral (pos cap)) ++ flat_map (λ x. 32 ∷ numeral (pos x)) (take n set) → new ≡ out ++ 10 ∷ []
+    → new ≡ old ++ text_of (capped_line key (set, cap) ∷ [])
+capped_written old key set cap n out new done so_far last =
     let f = λ (x : ℕ). numeral (pos x) in
-    let start = old ++ codes "class" in
-    let items = flat_map (λ x. 32 ∷ f x) class in
-    let whole : out ≡ start ++ flat_map (λ x. 32 ∷ f x) (take (length (cap ∷ class)) (cap ∷ class)) =
-    so_far ∙ ap (λ t. (start ++ 32 ∷ f cap) ++ flat_map (λ x. 32 ∷ f x) t) (take_all n class done) ∙ append_assoc start (32 ∷ f cap) items
-    ∙ ap (λ t. start ++ flat_map (λ x. 32 ∷ f x) t) (sym (take_all (length (cap ∷ class)) (cap ∷ class) (omega arith))) in
-    line_written f old (codes "class") (cap ∷ class) (length (cap ∷ class)) out new (omega arith) whole last
+    let start = old ++ key in
+    let items = flat_map (λ x. 32 ∷ f x) set in
+    let whole : out ≡ start ++ flat_map (λ x. 32 ∷ f x) (take (length (cap ∷ set)) (cap ∷ set)) =
+    so_far ∙ ap (λ t. (start ++ 32 ∷ f cap) ++ flat_map (λ x. 32 ∷ f x) t) (take_all n set done) ∙ append_assoc start (32 ∷ f cap) items
+    ∙ ap (λ t. start ++ flat_map (λ x. 32 ∷ f x) t) (sym (take_all (length (cap ∷ set)) (cap ∷ set) (omega arith))) in
+    line_written f old key (cap ∷ set) (length (cap ∷ set)) out new (omega arith) whole last
 
 -- ---- many lines
 

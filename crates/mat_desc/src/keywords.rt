@@ -19,6 +19,7 @@ pub enum Form {
 pub enum Keyword {
     Uniform,
     Partition,
+    Laminar,
     Graphic,
     Gf2,
 }
@@ -52,6 +53,8 @@ pub fn keyword_from(word: &[u8]) -> Option<Keyword>
         Some(Keyword::Uniform)
     } else if word == b"partition".as_slice() {
         Some(Keyword::Partition)
+    } else if word == b"laminar".as_slice() {
+        Some(Keyword::Laminar)
     } else if word == b"graphic".as_slice() {
         Some(Keyword::Graphic)
     } else if word == b"gf2".as_slice() {

@@ -1,9 +1,9 @@
 //! Reading matroids.
 
-ghost use Rattle.std.specs.Prelude.{◌≡◌, [], map};
+ghost use Rattle.std.specs.Prelude.{◌≡◌, ◌<◌, ◌^◌, [], length, map};
 ghost use Rattle.mat_any.specs.Views.{tree_of};
 ghost use Rattle.mat_desc.specs.Faults.{Gives};
-ghost use Rattle.mat_desc.specs.Reading.{class_at, classes_at, uniform_at, partition_at, graphic_at, gf2_at, matroid_at, repeat_at};
+ghost use Rattle.mat_desc.specs.Reading.{class_at, classes_at, nested_set_at, nested_sets_at, uniform_at, partition_at, laminar_at, graphic_at, gf2_at, matroid_at, repeat_at};
 ghost use Rattle.mat_desc.specs.Views.{lines_left, words_left};
 
 use crate::cursor::{Lines, Words};
@@ -12,7 +12,7 @@ use crate::keywords::{Keyword, keyword_from};
 use crate::reading::{elements_line, ended, keyed_line, next_count, next_line, next_word};
 use crate::refusal::{DescKind, DescRefusal};
 use mat_any::AnyMatroid;
-use mat_count::{Partition, Uniform};
+use mat_count::{Laminar, Partition, Uniform, crossing};
 use mat_gf2::Gf2;
 use mat_graphic::Graphic;
 use mat_sets::{ElemSet, SetList};
@@ -58,6 +58,54 @@ fn class_lines<'a>(
     Ok((SetList::new(classes), caps, rest))
 }
 
+/// A set line of a laminar family on `count` elements: the cap, and the set, which no earlier one may cross.
+#[tactic(auto, using(crate::proofs::NestedSets::searching), unfolding(crate::specs::Reading::nested_set_at))]
+fn nested_set_line<'a>(
+    alloc: Global,
+    count: u32,
+    earlier: &[ElemSet],
+    lines: Lines<'a>,
+) -> Result<(u32, ElemSet, Lines<'a>), DescRefusal>
+    requires { length earlier.now < 2 ^ 32 }
+    ensures { Gives (λ x. (x.0, x.1, lines_left x.2)) result
+        (nested_set_at count earlier.now (lines_left lines.entry)) }
+{
+    let line = lines.line;
+    let (words, rest) = keyed_line(lines, b"set")?;
+    let (cap, words) = next_count(words, 0, 501)?;
+    let mut taken = ElemSet::new(alloc);
+    let set = elements_line(alloc, words, count, &mut taken)?;
+    if crossing(earlier, &set).is_some() {
+        return Err(DescRefusal::Fault {
+            kind: DescKind::Crossing,
+            line,
+        });
+    }
+    Ok((cap, set, rest))
+}
+
+/// As many set lines, no two of which cross: the sets and their caps.
+fn nested_set_lines<'a>(
+    alloc: Global,
+    count: u32,
+    many: u32,
+    lines: Lines<'a>,
+) -> Result<(SetList, Vec<u32>, Lines<'a>), DescRefusal>
+    ensures { Gives (λ x. (x.0, x.1.items, lines_left x.2)) result
+        (nested_sets_at count many [] (lines_left lines.entry)) }
+{
+    let mut sets = Vec::new(alloc);
+    let mut caps = Vec::new(alloc);
+    let mut rest = lines;
+    for _ in 0..many {
+        let (cap, set, after) = nested_set_line(alloc, count, &sets, rest)?;
+        sets.push(set)?;
+        caps.push(cap)?;
+        rest = after;
+    }
+    Ok((SetList::new(sets), caps, rest))
+}
+
 /// A uniform matroid, from the words behind its keyword on.
 #[tactic(auto, unfolding(crate::specs::Reading::uniform_at))]
 fn uniform<'a>(
@@ -89,6 +137,24 @@ fn partition<'a>(
     let (classes, caps, rest) = class_lines(alloc, count, many, lines)?;
     let matroid = Partition::new(alloc, count, classes, caps)?;
     Ok((AnyMatroid::Partition(matroid), rest))
+}
+
+/// A laminar matroid, from the words behind its keyword on.
+#[tactic(auto, using(crate::proofs::NestedSetLaws::nested_building), unfolding(crate::specs::Reading::laminar_at))]
+fn laminar<'a>(
+    alloc: Global,
+    count: u32,
+    words: Words<'a>,
+    lines: Lines<'a>,
+) -> Result<(AnyMatroid, Lines<'a>), DescRefusal>
+    ensures { Gives (λ x. (tree_of x.0, lines_left x.1)) result
+        (laminar_at count (words_left words.entry) (lines_left lines.entry)) }
+{
+    let (many, words) = next_count(words, 0, 501)?;
+    ended(words)?;
+    let (sets, caps, rest) = nested_set_lines(alloc, count, many, lines)?;
+    let matroid = Laminar::from_family(alloc, count, sets, caps)?;
+    Ok((AnyMatroid::Laminar(matroid), rest))
 }
 
 /// A graphic matroid, from the words behind its keyword on.
@@ -147,6 +213,7 @@ pub fn next_matroid<'a>(
         }),
         Some(Keyword::Uniform) => uniform(count, words, rest),
         Some(Keyword::Partition) => partition(alloc, count, words, rest),
+        Some(Keyword::Laminar) => laminar(alloc, count, words, rest),
         Some(Keyword::Graphic) => graphic(alloc, count, words, rest),
         Some(Keyword::Gf2) => gf2(alloc, count, words, rest),
     }

@@ -146,7 +146,7 @@ fn a_table_is_read(rt: HostRuntime) -> Result<(), Fail> {
 
 #[test]
 fn first_faults(rt: HostRuntime) -> Result<(), Fail> {
-    let cases: [(&[u8], DescKind, u32); 9] = [
+    let cases: [(&[u8], DescKind, u32); 10] = [
         (b"matroids 2\n", DescKind::Version, 1),
         (b"matroids 1\npair 00\n", DescKind::NumberSpelling, 2),
         (
@@ -175,6 +175,11 @@ fn first_faults(rt: HostRuntime) -> Result<(), Fail> {
             5,
         ),
         (
+            b"matroids 1\npair 3\nweights 1 1 1\nlaminar 2\nset 1 0 1\nset 1 1 2\nuniform 3\nend\n",
+            DescKind::Crossing,
+            6,
+        ),
+        (
             b"matroids 1\npair 0\nweights\nuniform 0\nuniform 0\nend",
             DescKind::EndsEarly,
             6,
@@ -192,9 +197,10 @@ fn first_faults(rt: HostRuntime) -> Result<(), Fail> {
 }
 
 #[test]
-fn a_class_is_written_in_rising_order(rt: HostRuntime) -> Result<(), Fail> {
+fn sets_are_written_in_rising_order(rt: HostRuntime) -> Result<(), Fail> {
     let alloc = rt.alloc();
-    let text = b"matroids 1\npair 3\nweights 4 -1 3\npartition 1\nclass 1 2 0\nuniform 3\nend\n";
+    let text =
+        b"matroids 1\npair 3\nweights 4 -1 3\npartition 1\nclass 1 2 0\nlaminar 2\nset 2 2 1 0\nset 1 2 1\nend\n";
     let Ok(problem) = read_problem(alloc, text) else {
         assert!(rt; false);
         return Ok(());
@@ -202,7 +208,7 @@ fn a_class_is_written_in_rising_order(rt: HostRuntime) -> Result<(), Fail> {
     let written = write_problem(alloc, &problem)?;
     assert_eq!(rt;
         written.as_slice(),
-        b"matroids 1\npair 3\nweights 4 -1 3\npartition 1\nclass 1 0 2\nuniform 3\nend\n".as_slice()
+        b"matroids 1\npair 3\nweights 4 -1 3\npartition 1\nclass 1 0 2\nlaminar 2\nset 2 0 1 2\nset 1 1 2\nend\n".as_slice()
     );
     Ok(())
 }

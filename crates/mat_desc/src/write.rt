@@ -4,17 +4,17 @@ ghost use Rattle.std.specs.Prelude.{◌≡◌, ◌++◌, ◌∷◌, [], codes, m
 ghost use Rattle.std.specs.List.{zip, flat_map};
 ghost use Rattle.mat_words.specs.Numbers.{numeral};
 ghost use Rattle.mat_words.specs.Lines.{text_of};
-ghost use Rattle.mat_any.specs.Trees.{partition, graphic, gf2};
+ghost use Rattle.mat_any.specs.Trees.{partition, laminar, graphic, gf2};
 ghost use Rattle.mat_any.specs.Views.{tree_of};
 ghost use Rattle.mat_desc.specs.Grammar.{edge_line, column_line, weighted_line, coloured_edge_line};
 ghost use Rattle.mat_desc.specs.Instances.{pair, list, graph, rooted, coloured, table};
-ghost use Rattle.mat_desc.specs.Canonical.{numbers_line, class_line, class_lines, matroid_lines, form_lines, canonical_text};
+ghost use Rattle.mat_desc.specs.Canonical.{numbers_line, capped_line, capped_lines, matroid_lines, form_lines, canonical_text};
 ghost use Rattle.mat_desc.specs.Views.{instance_of};
 
 use crate::binary::put_binary;
 use crate::problem::Problem;
 use mat_any::AnyMatroid;
-use mat_count::Partition;
+use mat_count::{Laminar, Partition};
 use mat_gf2::Gf2;
 use mat_graphic::Graphic;
 use mat_sets::ElemSet;
@@ -42,25 +42,35 @@ fn put_line(out: &mut Vec<u8>, keyword: &[u8], numbers: &[i128]) -> Result<(), A
     Ok(())
 }
 
-/// Appends the line of a class and its cap.
-fn put_class_line(out: &mut Vec<u8>, class: &[u32], cap: u32) -> Result<(), AllocError>
-    ensures { OnOk result (out.new.items ≡ out.old.items ++ text_of (class_line (class.now, cap) ∷ [])) }
+/// Appends the line of this keyword with a set and its cap.
+fn put_capped_line(
+    out: &mut Vec<u8>,
+    keyword: &[u8],
+    set: &[u32],
+    cap: u32,
+) -> Result<(), AllocError>
+    ensures { OnOk result (out.new.items ≡ out.old.items ++ text_of (capped_line keyword.now (set.now, cap) ∷ [])) }
 {
-    out.extend_from_slice(b"class")?;
+    out.extend_from_slice(keyword)?;
     put_number_word(out, i128::from(cap))?;
-    for x in class {
+    for x in set {
         put_number_word(out, i128::from(*x))?;
     }
     out.push(b'\n')?;
     Ok(())
 }
 
-/// Appends a line for each class with its cap.
-fn put_class_lines(out: &mut Vec<u8>, classes: &[ElemSet], caps: &[u32]) -> Result<(), AllocError>
-    ensures { OnOk result (out.new.items ≡ out.old.items ++ text_of (class_lines classes.now caps.now)) }
+/// Appends a line of this keyword for each set with its cap.
+fn put_capped_lines(
+    out: &mut Vec<u8>,
+    keyword: &[u8],
+    sets: &[ElemSet],
+    caps: &[u32],
+) -> Result<(), AllocError>
+    ensures { OnOk result (out.new.items ≡ out.old.items ++ text_of (capped_lines keyword.now sets.now caps.now)) }
 {
-    for i in 0..classes.len().min(caps.len()) {
-        put_class_line(out, classes[i].as_slice(), caps[i])?;
+    for i in 0..sets.len().min(caps.len()) {
+        put_capped_line(out, keyword, sets[i].as_slice(), caps[i])?;
     }
     Ok(())
 }
@@ -72,7 +82,18 @@ fn put_partition(out: &mut Vec<u8>, matroid: &Partition) -> Result<(), AllocErro
 {
     let classes = matroid.classes().as_slice();
     put_line(out, b"partition", &[classes.len() as i128])?;
-    put_class_lines(out, classes, matroid.caps())?;
+    put_capped_lines(out, b"class", classes, matroid.caps())?;
+    Ok(())
+}
+
+/// Appends the lines of a laminar matroid.
+fn put_laminar(out: &mut Vec<u8>, matroid: &Laminar) -> Result<(), AllocError>
+    ensures { OnOk result (out.new.items ≡ out.old.items
+        ++ text_of (matroid_lines (laminar matroid.now.count matroid.now.sets matroid.now.caps))) }
+{
+    let sets = matroid.sets().as_slice();
+    put_line(out, b"laminar", &[sets.len() as i128])?;
+    put_capped_lines(out, b"set", sets, matroid.caps())?;
     Ok(())
 }
 
@@ -133,6 +154,7 @@ fn put_matroid(out: &mut Vec<u8>, matroid: &AnyMatroid) -> Result<(), AllocError
     match matroid {
         AnyMatroid::Uniform(uniform) => put_line(out, b"uniform", &[i128::from(uniform.cap())]),
         AnyMatroid::Partition(partition) => put_partition(out, partition),
+        AnyMatroid::Laminar(laminar) => put_laminar(out, laminar),
         AnyMatroid::Graphic(graphic) => put_graphic(out, graphic),
         AnyMatroid::Gf2(gf2) => put_gf2(out, gf2),
     }
@@ -364,7 +386,7 @@ fn put_form(out: &mut Vec<u8>, problem: &Problem) -> Result<(), AllocError>
     }
 }
 
-/// The canonical text of a problem: each class in rising order, and everything else in its own order. It takes memory for the text alone,
+/// The canonical text of a problem: the elements of each set in rising order, and everything else in its own order. It takes memory for the text alone,
 /// and an error is want of it.
 pub fn write_problem(alloc: Global, problem: &Problem) -> Result<Vec<u8>, AllocError>
     ensures { IfOk result (λ v. v.items ≡ canonical_text (instance_of problem.now)) }

@@ -1,0 +1,154 @@
+-- Set lines: what is read is spelled so, and what is spelled so is read. The sets that were read before are a laminar family, and remain one
+-- with each further set that none of them crosses.
+use Rattle.std.proofs.Common.{◌≡◌, ℕ, zero, suc, ◌<◌, ◌≤◌, ◌^◌, false, cond, List, [], ◌∷◌, ◌++◌, length, Ok, Err, refl, sym, ap, subst, ◌∙◌, arith}
+use Rattle.std.specs.Prelude.{codes}
+use Rattle.std.specs.List.{All}
+use Rattle.std.proofs.lemmas.List.{append_assoc, append-nil}
+use Rattle.std.proofs.lemmas.List.Elements.{All-nil, All-cons, All-head, All-tail, All-weaker}
+use Rattle.mat_sets.specs.Sets.{AllBelow, IsSet}
+use Rattle.mat_words.specs.Lines.{Line}
+use Rattle.mat_count.specs.Laminar.{is_crossed, IsLaminarFamily}
+use Rattle.mat_count.specs.LaminarMatroids.{IsLaminar}
+use Rattle.mat_count.proofs.CrossedSets.{IsLaminarFamily-nil, IsLaminarFamily-more, IsLaminarFamily-free}
+use Rattle.mat_desc.specs.declared.refusal.DescKind.TheVariants.{Crossing}
+use Rattle.mat_desc.specs.Faults.{◌>>=◌, WordsLeft, LinesLeft}
+use Rattle.mat_desc.specs.Reading.{keyed_at, count_at, elements_at, nested_set_at, nested_sets_at}
+use Rattle.mat_desc.specs.Grammar.{Lists, CappedLines, AreNestedSets}
+use Rattle.mat_desc.proofs.ReadingSteps.{found-same, bind_found, refused_found}
+use Rattle.mat_desc.proofs.LineLaws.{AreLeft}
+use Rattle.mat_desc.proofs.CappedLineLaws.{listed_line, capped_at, capped_steps, capped_read, capped_again}
+use Rattle.mat_desc.proofs.ElementLaws.{with_each}
+
+-- a set line was read: none of the earlier sets crosses it
+record IsNestedRead (n : ℕ) (earlier : List (List ℕ)) (p : LinesLeft) (cap : ℕ) (set : List ℕ) (q : LinesLeft) : Type 0 where
+  xs : List ℕ
+  lists : Lists xs set
+  small : cap ≤ 500
+  in_range : IsSet n set
+  free : is_crossed earlier set ≡ false
+  spelled : (rest : List Line) → AreLeft rest q → AreLeft (listed_line (codes "set") cap xs ∷ rest) p
+
+-- the steps of a set line, and the test behind them
+nested_steps : (n : ℕ) (earlier : List (List ℕ)) (p : LinesLeft) (line : WordsLeft × LinesLeft) (cap : ℕ × WordsLeft) (elements : List ℕ × List ℕ) → keyed_at (codes "set") p ≡ Ok line
+    → count_at 0 501 line.0 ≡ Ok cap → elements_at n [] cap.1 ≡ Ok elements → is_crossed earlier elements.0 ≡ false → nested_set_at n earlier p ≡ Ok (cap.0, elements.0, line.1)
+unfolding nested_set_at
+nested_steps n earlier p line cap elements e f g free = rw (e, f, g, free) refl
+
+nested_read : (n : ℕ) (earlier : List (List ℕ)) (p : LinesLeft) (cap : ℕ) (set : List ℕ) (q : LinesLeft) → nested_set_at n earlier p ≡ Ok (cap, set, q) → IsNestedRead n earlier p cap set q
+unfolding nested_set_at
+nested_read n earlier p cap set q e =
+    let line = bind_found (keyed_at (codes "set") p) (λ line. count_at 0 501 line.0 >>= λ cap. elements_at n [] cap.1 >>= λ elements.
+    cond (is_crossed earlier elements.0) (Err (Crossing, p.line)) (Ok (cap.0, elements.0, line.1))) (cap, set, q) e in
+    let caps = bind_found (count_at 0 501 line.0.0) (λ cap. elements_at n [] cap.1 >>= λ elements.
+    cond (is_crossed earlier elements.0) (Err (Crossing, p.line)) (Ok (cap.0, elements.0, line.0.1))) (cap, set, q) line.2 in
+    let elements = bind_found (elements_at n [] caps.0.1) (λ elements.
+    cond (is_crossed earlier elements.0) (Err (Crossing, p.line)) (Ok (caps.0.0, elements.0, line.0.1))) (cap, set, q) caps.2 in
+    let test = refused_found (is_crossed earlier elements.0.0) (Crossing, p.line) (Ok (caps.0.0, elements.0.0, line.0.1)) (cap, set, q) elements.2 in
+    let same = found-same (caps.0.0, elements.0.0, line.0.1) (cap, set, q) test.1 in
+    let read = capped_read (codes "set") n [] p caps.0.0 elements.0.0 elements.0.1 line.0.1 (capped_steps (codes "set") n [] p line.0 caps.0 elements.0 line.1 caps.1 elements.1) in
+    let one : IsNestedRead n earlier p caps.0.0 elements.0.0 line.0.1 = record {
+      xs = read.xs;
+      lists = read.lists;
+      small = read.small;
+      in_range = read.in_range;
+      free = test.0;
+      spelled = read.spelled;
+    } in
+    subst (λ (r : ℕ × List ℕ × LinesLeft). IsNestedRead n earlier p r.0 r.1 r.2) same one
+
+nested_again : (n : ℕ) (earlier : List (List ℕ)) (p : LinesLeft) (cap : ℕ) (set xs : List ℕ) (rest : List Line) → cap ≤ 500 → IsSet n set → Lists xs set
+    → is_crossed earlier set ≡ false → AreLeft (listed_line (codes "set") cap xs ∷ rest) p
+    → (q : LinesLeft) × (nested_set_at n earlier p ≡ Ok (cap, set, q)) × AreLeft rest q
+nested_again n earlier p cap set xs rest small in_range lists free left =
+    let whole = capped_again (codes "set") n [] p cap set xs rest refl small in_range lists (λ x h. refl) left in
+    (whole.0, judged (with_each [] xs) whole.0 whole.1, whole.2)
+  where
+    judged : (taken : List ℕ) (q : LinesLeft) → capped_at (codes "set") n [] p ≡ Ok (cap, set, taken, q) → nested_set_at n earlier p ≡ Ok (cap, set, q)
+    judged taken q e =
+        let line = bind_found (keyed_at (codes "set") p) (λ line. count_at 0 501 line.0 >>= λ cap. elements_at n [] cap.1 >>= λ elements. Ok (cap.0, elements.0, elements.1, line.1)) (cap, set, taken, q) e in
+        let caps = bind_found (count_at 0 501 line.0.0) (λ cap. elements_at n [] cap.1 >>= λ elements. Ok (cap.0, elements.0, elements.1, line.0.1)) (cap, set, taken, q) line.2 in
+        let elements = bind_found (elements_at n [] caps.0.1) (λ elements. Ok (caps.0.0, elements.0, elements.1, line.0.1)) (cap, set, taken, q) caps.2 in
+        let same = found-same (caps.0.0, elements.0.0, elements.0.1, line.0.1) (cap, set, taken, q) elements.2 in
+        let here = ap (λ (r : ℕ × List ℕ × List ℕ × LinesLeft). is_crossed earlier r.1) same ∙ free in
+        nested_steps n earlier p line.0 caps.0 elements.0 line.1 caps.1 elements.1 here ∙ ap (λ (r : ℕ × List ℕ × List ℕ × LinesLeft). Ok (r.0, r.1, r.3)) same
+
+-- ---- all sets
+
+-- set lines were read, and with the earlier sets, if those are a laminar family, they are one
+pub record AreNestedSetsRead (n many : ℕ) (earlier : List (List ℕ)) (p : LinesLeft) (sets : List (List ℕ)) (caps : List ℕ) (q : LinesLeft) : Type 0 where
+  pub count : length sets ≡ many
+  pub as_many : length caps ≡ length sets
+  pub small : All (λ cap. cap ≤ 500) caps
+  pub in_range : All (IsSet n) sets
+  pub family : IsLaminarFamily earlier → IsLaminarFamily (earlier ++ sets)
+  pub spelled : (rest : List Line) → AreLeft rest q → (lines : List Line) × CappedLines (codes "set") sets caps lines rest × AreLeft lines p
+
+pub nested_sets_read : (n many : ℕ) (earlier : List (List ℕ)) (p : LinesLeft) (sets : List (List ℕ)) (caps : List ℕ) (q : LinesLeft)
+    → nested_sets_at n many earlier p ≡ Ok (sets, caps, q) → AreNestedSetsRead n many earlier p sets caps q
+unfolding nested_sets_at
+nested_sets_read n zero earlier p sets caps q e =
+    let same = found-same ([], [], p) (sets, caps, q) e in
+    let none : AreNestedSetsRead n 0 earlier p [] [] p = record {
+      count = refl;
+      as_many = refl;
+      small = All-nil (λ cap. cap ≤ 500);
+      in_range = All-nil (IsSet n);
+      family = subst IsLaminarFamily (sym (append-nil earlier));
+      spelled = λ rest left. (rest, refl, left);
+    } in
+    subst (λ (r : List (List ℕ) × List ℕ × LinesLeft). AreNestedSetsRead n 0 earlier p r.0 r.1 r.2) same none
+nested_sets_read n (suc many) earlier p sets caps q e =
+    let first = bind_found (nested_set_at n earlier p) (λ first. nested_sets_at n many (earlier ++ first.1 ∷ []) first.2 >>= λ others. Ok (first.1 ∷ others.0, first.0 ∷ others.1, others.2)) (sets, caps, q) e in
+    let others = bind_found (nested_sets_at n many (earlier ++ first.0.1 ∷ []) first.0.2) (λ others. Ok (first.0.1 ∷ others.0, first.0.0 ∷ others.1, others.2)) (sets, caps, q) first.2 in
+    let same = found-same (first.0.1 ∷ others.0.0, first.0.0 ∷ others.0.1, others.0.2) (sets, caps, q) others.2 in
+    let one = nested_read n earlier p first.0.0 first.0.1 first.0.2 first.1 in
+    let more = nested_sets_read n many (earlier ++ first.0.1 ∷ []) first.0.2 others.0.0 others.0.1 others.0.2 others.1 in
+    let all : AreNestedSetsRead n (suc many) earlier p (first.0.1 ∷ others.0.0) (first.0.0 ∷ others.0.1) others.0.2 = record {
+      count = ap suc more.count;
+      as_many = ap suc more.as_many;
+      small = All-cons (λ cap. cap ≤ 500) first.0.0 others.0.1 one.small more.small;
+      in_range = All-cons (IsSet n) first.0.1 others.0.0 one.in_range more.in_range;
+      family = λ before. subst IsLaminarFamily (append_assoc earlier (first.0.1 ∷ []) others.0.0) (more.family (IsLaminarFamily-more earlier first.0.1 before one.free));
+      spelled = λ rest left.
+          let behind = more.spelled rest left in
+          (listed_line (codes "set") first.0.0 one.xs ∷ behind.0, (one.xs, behind.0, one.lists, refl, behind.1), one.spelled behind.0 behind.2);
+    } in
+    subst (λ (r : List (List ℕ) × List ℕ × LinesLeft). AreNestedSetsRead n (suc many) earlier p r.0 r.1 r.2) same all
+
+pub nested_sets_again : (n : ℕ) (earlier : List (List ℕ)) (p : LinesLeft) (sets : List (List ℕ)) (caps : List ℕ) (lines rest : List Line) → All (λ cap. cap ≤ 500) caps → All (IsSet n) sets
+    → IsLaminarFamily (earlier ++ sets) → CappedLines (codes "set") sets caps lines rest → AreLeft lines p
+    → (q : LinesLeft) × (nested_sets_at n (length sets) earlier p ≡ Ok (sets, caps, q)) × AreLeft rest q
+unfolding nested_sets_at
+nested_sets_again n earlier p [] [] lines rest small in_range family spelled left = (p, refl, subst (λ (ls : List Line). AreLeft ls p) spelled left)
+nested_sets_again n earlier p [] (cap ∷ caps) lines rest small in_range family spelled left = absurd spelled
+nested_sets_again n earlier p (set ∷ sets) [] lines rest small in_range family spelled left = absurd spelled
+nested_sets_again n earlier p (set ∷ sets) (cap ∷ caps) lines rest small in_range family spelled left =
+    let here = subst (λ (ls : List Line). AreLeft ls p) spelled.3 left in
+    let free = IsLaminarFamily-free earlier set sets family in
+    let first = nested_again n earlier p cap set spelled.0 spelled.1 (All-head (λ cap. cap ≤ 500) cap caps small) (All-head (IsSet n) set sets in_range) spelled.2 free here in
+    let later = subst IsLaminarFamily (sym (append_assoc earlier (set ∷ []) sets)) family in
+    let others = nested_sets_again n (earlier ++ set ∷ []) first.0 sets caps spelled.1 rest (All-tail (λ cap. cap ≤ 500) cap caps small) (All-tail (IsSet n) set sets in_range) later spelled.4 first.2 in
+    (others.0, rw (first.1, others.1) refl, others.2)
+
+-- ---- the sets of a laminar matroid
+
+-- sets that are read meet the conditions of a laminar matroid
+pub nested_sets_sound : (n many : ℕ) (p : LinesLeft) (sets : List (List ℕ)) (caps : List ℕ) (q : LinesLeft) → nested_sets_at n many [] p ≡ Ok (sets, caps, q) → IsLaminar n sets caps
+nested_sets_sound n many p sets caps q e =
+    let read = nested_sets_read n many [] p sets caps q e in
+    record { capped = read.as_many; inside = All-weaker (IsSet n) (AllBelow n) (λ set is. is.below) sets read.in_range; family = read.family IsLaminarFamily-nil }
+
+-- they are as many as were asked for
+pub nested_sets_few : (n many : ℕ) (p : LinesLeft) (sets : List (List ℕ)) (caps : List ℕ) (q : LinesLeft) → nested_sets_at n many [] p ≡ Ok (sets, caps, q) → many < 501 → length sets < 2 ^ 32
+nested_sets_few n many p sets caps q e few = let count = (nested_sets_read n many [] p sets caps q e).count in omega arith
+
+pub ruleset nested_building = (nested_sets_sound, nested_sets_few)
+
+pub nested_sets_valid : (n many : ℕ) (p : LinesLeft) (sets : List (List ℕ)) (caps : List ℕ) (q : LinesLeft) → many ≤ 500 → AreNestedSetsRead n many [] p sets caps q → AreNestedSets n sets caps
+nested_sets_valid n many p sets caps q few read = record {
+  few = omega (arith, read.count);
+  as_many = read.as_many;
+  caps_small = read.small;
+  sets_inside = read.in_range;
+  family = read.family IsLaminarFamily-nil;
+}
