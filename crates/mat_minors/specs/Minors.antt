@@ -45,3 +45,8 @@ pub record IsContractedIndependent (n : ℕ) (independent : List ℕ → Bool) (
   pub chosen : List ℕ
   pub maximal : IsMaximal independent away chosen
   pub joined : independent (union X chosen) ≡ true
+
+-- what a contraction needs: `away` is a set on n elements, and `chosen` is a maximal independent subset of it
+pub record IsContraction (n : ℕ) (independent : List ℕ → Bool) (away chosen : List ℕ) : Type 0 where
+  pub set : IsSet n away
+  pub maximal : IsMaximal independent away chosen

@@ -1,0 +1,3 @@
+pub mod DualTests
+pub mod Joining
+pub mod MinorRows

@@ -1,0 +1,184 @@
+-- The exchanges at an independent set of a truncation, a restriction or a contraction, by those of the inner matroid: the additional
+-- conditions hold of each set that an exchange makes, or of none; and the members of a maximal independent subset of the contracted
+-- elements are left out.
+use Rattle.std.proofs.Common.{◌≡◌, ℕ, ◌<◌, Bool, true, false, not, ◌&&◌, ◌||◌, eqb, leb, ltb, List, [], length, inl, inr, refl, sym, ap, ◌∙◌, arith}
+use Rattle.std.specs.List.{filter}
+use Rattle.std.proofs.lemmas.Bool.{cases_Bool, cases_eq, ne_eqb, eq-eqb, cond-false, and_parts, and_from, or_cases, both_ways, eqb-true, false_from_ne_true, leb-true, le-leb, not-true}
+use Rattle.std.proofs.lemmas.Bool.Decides.{nat_tests}
+use Rattle.mat_sets.specs.Sets.{is_member, IsRising, IsSet, IsSubset, with_one, without_one, minus, intersection, union}
+use Rattle.mat_sets.specs.SetTests.{is_set}
+use Rattle.mat_sets.proofs.Members.{set_members, same_members, is_member-filter, is_member-minus, is_member-with_one, is_member-without_one, is_member-union, RisesFrom-filter, IsRising-minus, IsRising-union, IsRising-without_one, IsRising-with_one}
+use Rattle.mat_sets.proofs.Cardinalities.{length-with_one, length-exchange_one}
+use Rattle.mat_sets.proofs.Subsets.{IsSubset-trans, with_one-IsSubset, without_one-IsSubset}
+use Rattle.mat_sets.proofs.Ground.{IsSet-with_one, IsSet-without_one}
+use Rattle.mat_sets.proofs.SetTests.{test_from-IsSet}
+use Rattle.mat_laws.specs.Matroids.{IsMatroid, IsMaximal}
+use Rattle.mat_laws.specs.Exchanges.{row_of}
+use Rattle.mat_laws.specs.declared.exchange.Exchange.{Exchange}
+use Rattle.mat_laws.proofs.Independent.{rising}
+use Rattle.mat_laws.proofs.Rows.{exchanged, row_outside}
+use Rattle.mat_minors.specs.Minors.{is_truncated, is_restricted, is_contracted}
+use Rattle.mat_minors.specs.MinorLaws.{no_members, and_when, inside_test, inside_test_from, apart_at, apart_from, union-with_one_left, contraction_at, contracted_disjoint, IsJoined, IsJoined-gives}
+
+-- ---- filters by tests that agree
+
+filter_rises : (f : ℕ → Bool) (I : List ℕ) → IsRising I → IsRising (filter f I)
+filter_rises f I r = record { rises = RisesFrom-filter f 0 I r.rises }
+
+filter_agrees : (f h : ℕ → Bool) (I : List ℕ) → IsRising I → ((y : ℕ) → is_member y I ≡ true → f y ≡ h y) → filter f I ≡ filter h I
+filter_agrees f h I r agree =
+    same_members _ _ (filter_rises f I r) (filter_rises h I r) (λ y. is_member-filter f y I ∙ and_when (is_member y I) (f y) (h y) (agree y) ∙ sym (is_member-filter h y I))
+
+filter_none : (f : ℕ → Bool) (I : List ℕ) → ((y : ℕ) → f y ≡ false) → filter f I ≡ []
+filter_none f I fails = no_members _ (λ y m. both_ways _ (fails y) (and_parts (is_member y I) (f y) (sym (is_member-filter f y I) ∙ m)).1)
+
+-- the two parts of a row
+addable_of : (p : List ℕ → Bool) (I : List ℕ) (x : ℕ) (row : Exchange) → is_member x I ≡ false → row ≡ row_of p I x → row.addable ≡ p (with_one I x)
+addable_of p I x row out e = ap (λ r. r.addable) (e ∙ cond-false (is_member x I) _ _ out)
+
+with_of : (p : List ℕ → Bool) (I : List ℕ) (x : ℕ) (row : Exchange) → is_member x I ≡ false → row ≡ row_of p I x → row.with ≡ filter (exchanged p I x) I
+with_of p I x row out e = ap (λ r. r.with) (e ∙ cond-false (is_member x I) _ _ out)
+
+true_and : (b c : Bool) → c ≡ true → b ≡ (b && c)
+true_and true c e = sym e
+true_and false c e = refl
+
+-- ---- the truncation
+
+module _ {n : ℕ} {p : List ℕ → Bool} (laws : IsMatroid n p) where
+  pub truncated_row : (cap : ℕ) (I : List ℕ) (x : ℕ) (inner row : Exchange) → is_truncated cap p I ≡ true → is_member x I ≡ false
+      → inner ≡ row_of p I x → row.addable ≡ (inner.addable && ltb (length I) cap) → row.with ≡ inner.with
+      → row ≡ row_of (is_truncated cap p) I x
+  truncated_row cap I x inner row passes out told adds exchanges =
+      row_outside (is_truncated cap p) I x row out
+      (adds ∙ ap (λ b. b && ltb (length I) cap) (addable_of p I x inner out told) ∙ ap (λ b. p (with_one I x) && b) room)
+      (exchanges ∙ with_of p I x inner out told ∙ filter_agrees (exchanged p I x) (exchanged (is_truncated cap p) I x) I r
+      (λ y m. true_and (exchanged p I x y) _ (ap (λ k. leb k cap) (length-exchange_one I x y r m out) ∙ tests.1)))
+    where
+      tests : (p I ≡ true) × (leb (length I) cap ≡ true)
+      tests = and_parts (p I) (leb (length I) cap) passes
+
+      r : IsRising I
+      r = rising laws I tests.0
+
+      room : ltb (length I) cap ≡ leb (length (with_one I x)) cap
+      room = sym (ap (λ k. leb k cap) (length-with_one I x r out) ∙ grind (arith, nat_tests))
+
+  -- ---- the restriction
+
+  pub restricted_row : (kept I : List ℕ) (x : ℕ) (row : Exchange) → is_restricted kept p I ≡ true → is_member x I ≡ false → is_member x kept ≡ true
+      → row ≡ row_of p I x → row ≡ row_of (is_restricted kept p) I x
+  restricted_row kept I x row passes out here told =
+      row_outside (is_restricted kept p) I x row out
+      (addable_of p I x row out told ∙ true_and (p (with_one I x)) _ (inside_test_from (with_one I x) kept (with_one-IsSubset I kept x inside here)))
+      (with_of p I x row out told ∙ filter_agrees (exchanged p I x) (exchanged (is_restricted kept p) I x) I (rising laws I tests.0)
+      (λ y m. true_and (exchanged p I x y) _ (inside_test_from (with_one (without_one I y) x) kept
+      (with_one-IsSubset (without_one I y) kept x (IsSubset-trans (without_one I y) I kept (without_one-IsSubset I y) inside) here))))
+    where
+      tests : (p I ≡ true) × (eqb (length (minus I kept)) 0 ≡ true)
+      tests = and_parts (p I) (eqb (length (minus I kept)) 0) passes
+
+      inside : IsSubset I kept
+      inside = inside_test I kept tests.1
+
+has_added : (J : List ℕ) (x : ℕ) → is_member x (with_one J x) ≡ true
+has_added J x = grind (arith, set_members)
+
+-- an element that is not kept has no exchanges
+pub restricted_row_outside : (p : List ℕ → Bool) (kept I : List ℕ) (x : ℕ) (row : Exchange) → is_member x I ≡ false → is_member x kept ≡ false
+    → row.addable ≡ false → row.with ≡ [] → row ≡ row_of (is_restricted kept p) I x
+restricted_row_outside p kept I x row out gone adds exchanges =
+    row_outside (is_restricted kept p) I x row out (adds ∙ sym (fails I)) (exchanges ∙ sym (filter_none (exchanged (is_restricted kept p) I x) I (λ y. fails (without_one I y))))
+  where
+    fails : (J : List ℕ) → is_restricted kept p (with_one J x) ≡ false
+    fails J = false_from_ne_true _ (λ h.
+        let tests = and_parts (p (with_one J x)) (eqb (length (minus (with_one J x) kept)) 0) h in
+        both_ways _ gone ((inside_test (with_one J x) kept tests.1).inside x (has_added J x)))
+
+-- ---- the contraction
+
+without_one-union : (X B : List ℕ) (y : ℕ) → IsRising B → is_member y B ≡ false → union (without_one X y) B ≡ without_one (union X B) y
+without_one-union X B y r out =
+    same_members _ _ (IsRising-union (without_one X y) B r) (IsRising-without_one (union X B) y (IsRising-union X B r)) (λ k. members k)
+  where
+    members : (k : ℕ) → is_member k (union (without_one X y) B) ≡ is_member k (without_one (union X B) y)
+    members k = elim (cases_eq k y) [
+      | inl same ↦ (let b : is_member k B ≡ false = ap (λ z. is_member z B) same ∙ out in grind (arith, set_members))
+      | inr other ↦ (let e = ne_eqb k y other in grind (arith, set_members))
+    ]
+
+apart_with : (X away : List ℕ) (x : ℕ) → intersection X away ≡ [] → is_member x away ≡ false → intersection (with_one X x) away ≡ []
+apart_with X away x none out = apart_from (with_one X x) away (λ y m. elim (or_cases (eqb y x) (is_member y X) (sym (is_member-with_one y x X) ∙ m)) [
+  | inl same ↦ ap (λ z. is_member z away) (eqb-true y x same) ∙ out
+  | inr k ↦ apart_at X away none y k
+])
+
+-- a filter over two sets, the second of which is left out again
+filter_first : (f h : ℕ → Bool) (X B : List ℕ) → IsRising X → IsRising B → ((y : ℕ) → is_member y X ≡ true → is_member y B ≡ false)
+    → ((y : ℕ) → is_member y X ≡ true → f y ≡ h y) → minus (filter f (union X B)) B ≡ filter h X
+filter_first f h X B r s apart agree =
+    same_members _ _ (IsRising-minus _ B (filter_rises f (union X B) (IsRising-union X B s))) (filter_rises h X r) (λ y.
+    is_member-minus y (filter f (union X B)) B
+    ∙ ap (λ b. b && not (is_member y B)) (is_member-filter f y (union X B) ∙ ap (λ b. b && f y) (is_member-union y X B))
+    ∙ sides (is_member y X) (is_member y B) (f y) (h y) (apart y) (agree y) ∙ sym (is_member-filter h y X))
+  where
+    sides : (a b c d : Bool) → (a ≡ true → b ≡ false) → (a ≡ true → c ≡ d) → (((a || b) && c) && not b) ≡ (a && d)
+    sides true b c d out e = let o = out refl in let k = e refl in grind arith
+    sides false true true d out e = refl
+    sides false true false d out e = refl
+    sides false false c d out e = refl
+
+module _ {n : ℕ} {p : List ℕ → Bool} (laws : IsMatroid n p) (away B : List ℕ) (set : IsSet n away) (max : IsMaximal p away B) where
+  -- a set apart from the contracted elements is independent exactly where it is so together with B
+  pub contracted_apart : (Y : List ℕ) → IsSet n Y → intersection Y away ≡ [] → is_contracted n away p Y ≡ p (union Y B)
+  contracted_apart Y is none =
+      let test = test_from-IsSet n Y is in
+      let apart : eqb (length (intersection Y away)) 0 ≡ true = eq-eqb _ 0 (ap length none) in
+      contraction_at laws away B Y set.rising max ∙ rw (test, apart) refl
+
+  outside_chosen : (x : ℕ) → is_member x away ≡ false → is_member x B ≡ false
+  outside_chosen x out = false_from_ne_true _ (λ m. both_ways _ out (max.inside.inside x m))
+
+  -- x is outside X and outside what is chosen of the contracted elements
+  pub outside_joined : (X : List ℕ) (x : ℕ) → is_member x X ≡ false → is_member x away ≡ false → is_member x (union X B) ≡ false
+  outside_joined X x o out = is_member-union x X B ∙ rw (o, outside_chosen x out) refl
+
+  pub contracted_row : (X : List ℕ) (x : ℕ) (inner row : Exchange) → is_contracted n away p X ≡ true → x < n → is_member x X ≡ false
+      → is_member x away ≡ false → inner ≡ row_of p (union X B) x → row.addable ≡ inner.addable → row.with ≡ minus inner.with B
+      → row ≡ row_of (is_contracted n away p) X x
+  contracted_row X x inner row passes small o out told adds exchanges =
+      row_outside (is_contracted n away p) X x row o
+      (adds ∙ addable_of p (union X B) x inner outside told
+      ∙ sym (contracted_apart (with_one X x) (IsSet-with_one n X x j.set small) (apart_with X away x j.disjoint out) ∙ ap p (union-with_one_left X B x s)))
+      (exchanges ∙ ap (λ t. minus t B) (with_of p (union X B) x inner outside told)
+      ∙ filter_first (exchanged p (union X B) x) (exchanged (is_contracted n away p) X x) X B j.set.rising s (λ y m. apart y m) (λ y m. agrees y (apart y m)))
+    where
+      j : IsJoined laws away B X
+      j = IsJoined-gives laws away B X set.rising max passes
+
+      s : IsRising B
+      s = rising laws B max.passes
+
+      outside : is_member x (union X B) ≡ false
+      outside = outside_joined X x o out
+
+      apart : (y : ℕ) → is_member y X ≡ true → is_member y B ≡ false
+      apart y m = outside_chosen y (apart_at X away j.disjoint y m)
+
+      less : (y : ℕ) → intersection (without_one X y) away ≡ []
+      less y = apart_from (without_one X y) away (λ z m. apart_at X away j.disjoint z ((without_one-IsSubset X y).inside z m))
+
+      agrees : (y : ℕ) → is_member y B ≡ false → exchanged p (union X B) x y ≡ exchanged (is_contracted n away p) X x y
+      agrees y fresh =
+          let smaller = without_one X y in
+          sym (contracted_apart (with_one smaller x) (IsSet-with_one n smaller x (IsSet-without_one n X y j.set) small) (apart_with smaller away x (less y) out)
+          ∙ ap p (union-with_one_left smaller B x s ∙ ap (λ t. with_one t x) (without_one-union X B y s fresh)))
+
+-- a contracted element has no exchanges
+pub contracted_row_outside : (n : ℕ) (p : List ℕ → Bool) (away X : List ℕ) (x : ℕ) (row : Exchange) → is_member x X ≡ false
+    → is_member x away ≡ true → row.addable ≡ false → row.with ≡ [] → row ≡ row_of (is_contracted n away p) X x
+contracted_row_outside n p away X x row o gone adds exchanges =
+    row_outside (is_contracted n away p) X x row o (adds ∙ sym (fails X)) (exchanges ∙ sym (filter_none (exchanged (is_contracted n away p) X x) X (λ y. fails (without_one X y))))
+  where
+    fails : (J : List ℕ) → is_contracted n away p (with_one J x) ≡ false
+    fails J = false_from_ne_true _ (λ h. both_ways _ (apart_at (with_one J x) away (contracted_disjoint n p away (with_one J x) h) x (has_added J x)) gone)

@@ -1,0 +1,13 @@
+//! Matroids made of one matroid: its dual, its truncations, restrictions and contractions.
+#![tactic(auto)]
+
+mod contraction;
+mod dual;
+pub mod laws;
+mod restriction;
+mod truncation;
+
+pub use contraction::Contraction;
+pub use dual::Dual;
+pub use restriction::Restriction;
+pub use truncation::Truncation;

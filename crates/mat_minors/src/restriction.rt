@@ -1,0 +1,62 @@
+//! Restrictions.
+ghost use Rattle.std.specs.Prelude.{◌≡◌};
+ghost use Rattle.mat_sets.specs.Sets.{AllBelow};
+ghost use Rattle.mat_minors.specs.Minors.{is_restricted};
+ghost use Rattle.mat_minors.specs.MinorLaws.{restricted_laws};
+
+use mat_laws::{Exchange, Matroid};
+use mat_sets::ElemSet;
+use std::alloc::{AllocError, Global};
+
+/// The restriction of a matroid to some of its elements: its independent sets of these (Schrijver, chapter 39). The
+/// number of elements stays, and the other elements are loops.
+#[derive(Debug, Drop)]
+pub struct Restriction<M: Matroid> {
+    inner: M,
+    kept: ElemSet,
+}
+
+impl<M: Matroid> Restriction<M> {
+    /// The restriction of this matroid to these of its elements.
+    pub fn new(inner: M, kept: ElemSet) -> Restriction<M>
+        requires sound { M.sound inner }
+        requires below { AllBelow (M.ground_size inner) kept }
+        ensures value { result ≡ record { inner = inner; kept = kept } }
+        ensures sound { M.sound result.inner × AllBelow (M.ground_size result.inner) result.kept }
+    {
+        Restriction { inner, kept }
+    }
+}
+
+impl<M: Matroid> Matroid for Restriction<M> {
+    ghost ground_size = { λ m. M.ground_size m.inner };
+
+    ghost sound = { λ m. M.sound m.inner × AllBelow (M.ground_size m.inner) m.kept };
+
+    ghost indep = { λ m. is_restricted m.kept (M.indep m.inner) };
+
+    ghost laws = { λ m h. restricted_laws (M.ground_size m.inner) (M.indep m.inner) m.kept (M.laws m.inner h.0) };
+
+    fn size(&self) -> u32 {
+        self.inner.size()
+    }
+
+    /// Asks the inner matroid once, and not at all where a member is not kept.
+    fn independent(&self, alloc: Global, set: &ElemSet) -> Result<bool, AllocError> {
+        if !set.minus(alloc, &self.kept)?.is_empty() {
+            return Ok(false);
+        }
+        self.inner.independent(alloc, set)
+    }
+
+    /// The exchanges of the inner matroid for an element that is kept, and none for another. Asks for the inner ones once.
+    fn circuit(&self, alloc: Global, base: &ElemSet, x: u32) -> Result<Exchange, AllocError> {
+        if !self.kept.contains(x) {
+            return Ok(Exchange {
+                addable: false,
+                with: ElemSet::new(alloc),
+            });
+        }
+        self.inner.circuit(alloc, base, x)
+    }
+}

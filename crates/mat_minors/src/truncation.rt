@@ -1,0 +1,57 @@
+//! Truncations.
+ghost use Rattle.std.specs.Prelude.{◌≡◌};
+ghost use Rattle.mat_minors.specs.Minors.{is_truncated};
+ghost use Rattle.mat_minors.specs.MinorLaws.{truncated_laws};
+
+use mat_laws::{Exchange, Matroid};
+use mat_sets::ElemSet;
+use std::alloc::{AllocError, Global};
+
+/// The truncation of a matroid: its independent sets of at most `cap` elements (Schrijver, chapter 39).
+#[derive(Debug, Drop)]
+pub struct Truncation<M: Matroid> {
+    inner: M,
+    cap: u32,
+}
+
+impl<M: Matroid> Truncation<M> {
+    /// The truncation of this matroid to this cap, which may be any number.
+    pub fn new(inner: M, cap: u32) -> Truncation<M>
+        requires { M.sound inner }
+        ensures value { result ≡ record { inner = inner; cap = cap } }
+        ensures sound { M.sound result.inner }
+    {
+        Truncation { inner, cap }
+    }
+}
+
+impl<M: Matroid> Matroid for Truncation<M> {
+    ghost ground_size = { λ m. M.ground_size m.inner };
+
+    ghost sound = { λ m. M.sound m.inner };
+
+    ghost indep = { λ m. is_truncated m.cap (M.indep m.inner) };
+
+    ghost laws = { λ m h. truncated_laws (M.ground_size m.inner) (M.indep m.inner) m.cap (M.laws m.inner h) };
+
+    fn size(&self) -> u32 {
+        self.inner.size()
+    }
+
+    /// Asks the inner matroid once, and not at all where the set is larger than the cap.
+    fn independent(&self, alloc: Global, set: &ElemSet) -> Result<bool, AllocError> {
+        if set.len() > self.cap as usize {
+            return Ok(false);
+        }
+        self.inner.independent(alloc, set)
+    }
+
+    /// The exchanges of the inner matroid; an element can be added only below the cap. Asks for the inner ones once.
+    fn circuit(&self, alloc: Global, base: &ElemSet, x: u32) -> Result<Exchange, AllocError> {
+        let inner = self.inner.circuit(alloc, base, x)?;
+        Ok(Exchange {
+            addable: inner.addable && base.len() < self.cap as usize,
+            with: inner.with,
+        })
+    }
+}
