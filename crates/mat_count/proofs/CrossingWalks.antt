@@ -4,12 +4,11 @@ use Rattle.std.proofs.Common.{◌≡◌, ℕ, zero, suc, ◌+◌, ◌<◌, ◌�
 use Rattle.std.proofs.lemmas.Bool.{cases_eq, cases_lt, both_ways, and_parts, false_from_ne_true, ltb-true, ne_eqb, le-ltb, lt-ltb}
 use Rattle.std.proofs.lemmas.List.{drop_more, drop_all, get_or-take}
 use Rattle.mat_sets.specs.Sets.{is_member, IsRising, RisesFrom, minus, intersection}
-use Rattle.mat_sets.proofs.Members.{is_member-head, missing_below}
+use Rattle.mat_sets.proofs.Members.{filter_same_at, is_member-head, missing_below}
 use Rattle.mat_sets.proofs.Cardinalities.{length-minus-intersection}
 use Rattle.mat_sets.proofs.Equalities.{intersection-commute}
 use Rattle.mat_count.specs.Laminar.{crosses, IsLaminarFamily}
 use Rattle.mat_count.specs.LaminarFaults.{IsFirstCrossing, NoneCrosses, IsFirstPair}
-use Rattle.mat_count.proofs.Filters.{filter_same_at}
 
 -- ---- what the next item of a list tells
 
