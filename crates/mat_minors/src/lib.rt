@@ -7,7 +7,7 @@ pub mod laws;
 mod restriction;
 mod truncation;
 
-pub use contraction::Contraction;
+pub use contraction::{union, Contraction};
 pub use dual::Dual;
 pub use restriction::Restriction;
 pub use truncation::Truncation;
