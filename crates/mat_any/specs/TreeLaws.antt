@@ -21,4 +21,4 @@ tree_laws (gf2 dim columns) sound = gf2_laws (length columns) (column_of columns
 tree_laws (dual t) sound = dual_laws (element_count t) (is_independent t) (tree_laws t sound)
 tree_laws (truncate cap t) sound = truncated_laws (element_count t) (is_independent t) cap (tree_laws t sound)
 tree_laws (restrict kept t) sound = restricted_laws (element_count t) (is_independent t) kept (tree_laws t sound.1)
-tree_laws (contract away t) sound = contracted_laws (element_count t) (is_independent t) away sound.0 (tree_laws t sound.1)
+tree_laws (contract away t) sound = contracted_laws (element_count t) (is_independent t) away sound.0.rising (tree_laws t sound.1)
