@@ -81,6 +81,10 @@ fn asks_within_the_kind(rt: HostRuntime) -> Result<(), Fail> {
     assert_eq!(rt; dual_of_dual.size(), 3);
     assert!(rt; dual_of_dual.independent(alloc, &two)?);
     assert!(rt; !dual_of_dual.independent(alloc, &ElemSet::all_below(alloc, 3)?)?);
+    assert!(rt; !two.contains(2));
+    let row = dual_of_dual.circuit(alloc, &two, 2)?;
+    assert!(rt; !row.addable);
+    assert!(rt; row.with == two);
     let contracted = contracted_whole(alloc)?;
     assert!(rt; contracted.independent(alloc, &none)?);
     assert!(rt; !contracted.independent(alloc, &first)?);

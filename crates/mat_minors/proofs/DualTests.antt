@@ -1,9 +1,9 @@
 -- What is independent outside X and cannot grow there is, where it cannot grow by X either, a base that is disjoint from X; and where it
 -- can, it is smaller than a base, so that no base lies outside X.
-use Rattle.std.proofs.Common.{◌≡◌, ℕ, ◌+◌, ◌<◌, ◌≤◌, Bool, true, false, not, ◌&&◌, List, [], length, get_or, subst, inl, inr, refl, sym, ap, ◌∙◌, arith}
-use Rattle.std.proofs.lemmas.Bool.{cases_Bool, cases_lt, and_parts, and_from, both_ways, false_from_ne_true, lt-ltb, not-true}
+use Rattle.std.proofs.Common.{◌≡◌, ℕ, ◌+◌, ◌<◌, ◌≤◌, Bool, true, false, not, ◌&&◌, List, [], length, get_or, subst, inl, inr, sym, ap, ◌∙◌, arith}
+use Rattle.std.proofs.lemmas.Bool.{cases_Bool, cases_lt, and_parts, both_ways, false_from_ne_true, lt-ltb, not-true}
 use Rattle.mat_sets.specs.Sets.{is_member, IsSet, IsSubset, with_one, minus, union, all_below}
-use Rattle.mat_sets.proofs.Members.{is_member-minus, place_of_member}
+use Rattle.mat_sets.proofs.Members.{place_of_member}
 use Rattle.mat_sets.proofs.Cardinalities.{length-with_one}
 use Rattle.mat_sets.proofs.Ground.{is_member-all_below, IsSubset-all_below}
 use Rattle.mat_laws.specs.Matroids.{IsMatroid, IsMaximal}
@@ -11,7 +11,8 @@ use Rattle.mat_laws.proofs.Independent.{rising, below}
 use Rattle.mat_laws.proofs.Growing.{maximal_from_none}
 use Rattle.mat_laws.proofs.Maximal.{IsMaximal-largest}
 use Rattle.mat_minors.specs.Minors.{is_dual}
-use Rattle.mat_minors.specs.MinorLaws.{apart_at, apart_from, dual-gives, dual-from, base_largest}
+use Rattle.mat_minors.specs.DisjointSets.{minus_parts, minus_from, apart_at, apart_from}
+use Rattle.mat_minors.specs.DualLaws.{dual-gives, dual-from, base_largest}
 
 -- the set is maximal outside X, and cannot grow by the first i members of X
 pub record IsRefusing (n : ℕ) (p : List ℕ → Bool) (X items : List ℕ) (i : ℕ) (set : List ℕ) : Type 0 where
@@ -19,7 +20,7 @@ pub record IsRefusing (n : ℕ) (p : List ℕ → Bool) (X items : List ℕ) (i 
   pub refused : (k : ℕ) → k < i → p (with_one set (get_or items k 0)) ≡ false
 
 outside_side : (n : ℕ) (X : List ℕ) (x : ℕ) → is_member x (minus (all_below n) X) ≡ true → is_member x X ≡ false
-outside_side n X x m = not-true _ (and_parts (is_member x (all_below n)) (not (is_member x X)) (sym (is_member-minus x (all_below n) X) ∙ m)).1
+outside_side n X x m = (minus_parts (all_below n) X x m).1
 
 -- a member of X is none of the set
 pub outside_set : (n : ℕ) (p : List ℕ → Bool) (X B : List ℕ) (x : ℕ) → IsMaximal p (minus (all_below n) X) B → is_member x X ≡ true → is_member x B ≡ false
@@ -61,8 +62,7 @@ module _ {n : ℕ} {p : List ℕ → Bool} (laws : IsMatroid n p) where
       full : (x : ℕ) → x < n → is_member x B ≡ false → p (with_one B x) ≡ false
       full x small out = elim (cases_Bool (is_member x X)) [
         | inl m ↦ listed x (ap (is_member x) same ∙ m)
-        | inr o ↦ r.maximal.full x (is_member-minus x (all_below n) X
-            ∙ and_from (is_member x (all_below n)) (not (is_member x X)) (is_member-all_below x n ∙ lt-ltb x n small) (ap not o)) out
+        | inr o ↦ r.maximal.full x (minus_from (all_below n) X x (is_member-all_below x n ∙ lt-ltb x n small) o) out
       ]
 
   -- a member of X can be added
@@ -72,8 +72,7 @@ module _ {n : ℕ} {p : List ℕ → Bool} (laws : IsMatroid n p) where
       let d = dual-gives n p X h in
       let ok = d.is_base.passes in
       let outside : IsSubset d.base (minus (all_below n) X) = record {
-        inside = λ y m. is_member-minus y (all_below n) X ∙ and_from (is_member y (all_below n)) (not (is_member y X))
-            ((IsSubset-all_below n d.base (below laws d.base ok)).inside y m) (ap not (apart_at d.base X d.disjoint y m));
+        inside = λ y m. minus_from (all_below n) X y ((IsSubset-all_below n d.base (below laws d.base ok)).inside y m) (apart_at d.base X d.disjoint y m);
       } in
       let adds = and_parts (not (is_member x B)) (p (with_one B x)) (sym added) in
       let few = IsMaximal-largest laws (minus (all_below n) X) B r.maximal d.base ok outside in

@@ -1,15 +1,13 @@
 -- The union of two sets, by the members of the first put into the second one after the other; and when a set shares no member with another.
-use Rattle.std.proofs.Common.{◌≡◌, ℕ, ◌+◌, ◌<◌, ◌≤◌, Bool, true, false, ◌&&◌, eqb, List, [], ◌∷◌, length, get_or, drop, refl, subst, sym, ap, ◌∙◌, arith}
-use Rattle.std.proofs.lemmas.Bool.{and_parts, false_from_ne_true, eqb-true}
+use Rattle.std.proofs.Common.{◌≡◌, ℕ, ◌+◌, ◌<◌, ◌≤◌, Bool, false, List, [], ◌∷◌, length, get_or, drop, sym, ap, ◌∙◌, arith}
+use Rattle.std.proofs.lemmas.Bool.{false_from_ne_true}
 use Rattle.std.proofs.lemmas.List.{drop_all, drop_more, nil_from_length}
-use Rattle.mat_sets.specs.Sets.{IsRising, minus, intersection, union, with_one, rising_insert}
-use Rattle.mat_sets.specs.SetTests.{is_set}
-use Rattle.mat_sets.specs.Search.{some_subset}
-use Rattle.mat_sets.proofs.Members.{IsRising-with_one, IsRising-union}
+use Rattle.mat_sets.specs.Sets.{IsRising, minus, intersection, union, with_one}
+use Rattle.mat_sets.proofs.Members.{IsRising-with_one}
 use Rattle.mat_sets.proofs.Equalities.{union-with_one}
 use Rattle.mat_sets.proofs.Cardinalities.{length-minus-intersection}
 use Rattle.mat_minors.specs.Minors.{is_contracted}
-use Rattle.mat_minors.specs.MinorLaws.{contracted_disjoint}
+use Rattle.mat_minors.specs.ContractionLaws.{contraction-gives}
 
 -- what is to come, joined to what has been put together, is the union
 pub record IsJoining (set more items : List ℕ) (i : ℕ) (both : List ℕ) : Type 0 where
@@ -40,9 +38,9 @@ pub disjoint_where_kept : (X Y : List ℕ) → IsRising X → length X ≤ lengt
 disjoint_where_kept X Y r l = nil_from_length _ (let e = length-minus-intersection X Y r in omega arith)
 
 -- a set that loses a member is not independent in the contraction
-pub dependent_where_lost : (n : ℕ) (p : List ℕ → Bool) (away X : List ℕ) → IsRising X → length (minus X away) < length X
+pub dependent_where_lost : (n : ℕ) (p : List ℕ → Bool) (away X : List ℕ) → IsRising X → IsRising away → length (minus X away) < length X
     → is_contracted n away p X ≡ false
-dependent_where_lost n p away X r l = false_from_ne_true _ (λ h.
-    let none = ap length (contracted_disjoint n p away X h) in
+dependent_where_lost n p away X r s l = false_from_ne_true _ (λ h.
+    let none = ap length (contraction-gives n p away X s h).disjoint in
     let e = length-minus-intersection X away r in
     let no : ⊥ = absurd (omega arith) in no)

@@ -3,22 +3,21 @@
 -- elements are left out.
 use Rattle.std.proofs.Common.{◌≡◌, ℕ, ◌<◌, Bool, true, false, not, ◌&&◌, ◌||◌, eqb, leb, ltb, List, [], length, inl, inr, refl, sym, ap, ◌∙◌, arith}
 use Rattle.std.specs.List.{filter}
-use Rattle.std.proofs.lemmas.Bool.{cases_Bool, cases_eq, ne_eqb, eq-eqb, cond-false, and_parts, and_from, or_cases, both_ways, eqb-true, false_from_ne_true, leb-true, le-leb, not-true}
+use Rattle.std.proofs.lemmas.Bool.{cases_Bool, cases_eq, ne_eqb, cond-false, and_parts, both_ways, false_from_ne_true}
 use Rattle.std.proofs.lemmas.Bool.Decides.{nat_tests}
 use Rattle.mat_sets.specs.Sets.{is_member, IsRising, IsSet, IsSubset, with_one, without_one, minus, intersection, union}
-use Rattle.mat_sets.specs.SetTests.{is_set}
-use Rattle.mat_sets.proofs.Members.{set_members, same_members, is_member-filter, is_member-minus, is_member-with_one, is_member-without_one, is_member-union, RisesFrom-filter, IsRising-minus, IsRising-union, IsRising-without_one, IsRising-with_one}
+use Rattle.mat_sets.proofs.Members.{set_members, same_members, is_member-filter, is_member-minus, is_member-union, RisesFrom-filter, IsRising-minus, IsRising-union, IsRising-without_one}
 use Rattle.mat_sets.proofs.Cardinalities.{length-with_one, length-exchange_one}
 use Rattle.mat_sets.proofs.Subsets.{IsSubset-trans, with_one-IsSubset, without_one-IsSubset}
 use Rattle.mat_sets.proofs.Ground.{IsSet-with_one, IsSet-without_one}
-use Rattle.mat_sets.proofs.SetTests.{test_from-IsSet}
 use Rattle.mat_laws.specs.Matroids.{IsMatroid, IsMaximal}
 use Rattle.mat_laws.specs.Exchanges.{row_of}
 use Rattle.mat_laws.specs.declared.exchange.Exchange.{Exchange}
 use Rattle.mat_laws.proofs.Independent.{rising}
 use Rattle.mat_laws.proofs.Rows.{exchanged, row_outside}
 use Rattle.mat_minors.specs.Minors.{is_truncated, is_restricted, is_contracted}
-use Rattle.mat_minors.specs.MinorLaws.{no_members, and_when, inside_test, inside_test_from, apart_at, apart_from, union-with_one_left, contraction_at, contracted_disjoint, IsJoined, IsJoined-gives}
+use Rattle.mat_minors.specs.DisjointSets.{no_members, and_when, inside_test, inside_test_from, apart_with, apart_at, apart_from, union-with_one_left}
+use Rattle.mat_minors.specs.ContractionLaws.{contraction-gives, IsJoined, IsJoined-gives, IsJoined-from}
 
 -- ---- filters by tests that agree
 
@@ -107,12 +106,6 @@ without_one-union X B y r out =
       | inr other ↦ (let e = ne_eqb k y other in grind (arith, set_members))
     ]
 
-apart_with : (X away : List ℕ) (x : ℕ) → intersection X away ≡ [] → is_member x away ≡ false → intersection (with_one X x) away ≡ []
-apart_with X away x none out = apart_from (with_one X x) away (λ y m. elim (or_cases (eqb y x) (is_member y X) (sym (is_member-with_one y x X) ∙ m)) [
-  | inl same ↦ ap (λ z. is_member z away) (eqb-true y x same) ∙ out
-  | inr k ↦ apart_at X away none y k
-])
-
 -- a filter over two sets, the second of which is left out again
 filter_first : (f h : ℕ → Bool) (X B : List ℕ) → IsRising X → IsRising B → ((y : ℕ) → is_member y X ≡ true → is_member y B ≡ false)
     → ((y : ℕ) → is_member y X ≡ true → f y ≡ h y) → minus (filter f (union X B)) B ≡ filter h X
@@ -131,10 +124,10 @@ filter_first f h X B r s apart agree =
 module _ {n : ℕ} {p : List ℕ → Bool} (laws : IsMatroid n p) (away B : List ℕ) (set : IsSet n away) (max : IsMaximal p away B) where
   -- a set apart from the contracted elements is independent exactly where it is so together with B
   pub contracted_apart : (Y : List ℕ) → IsSet n Y → intersection Y away ≡ [] → is_contracted n away p Y ≡ p (union Y B)
-  contracted_apart Y is none =
-      let test = test_from-IsSet n Y is in
-      let apart : eqb (length (intersection Y away)) 0 ≡ true = eq-eqb _ 0 (ap length none) in
-      contraction_at laws away B Y set.rising max ∙ rw (test, apart) refl
+  contracted_apart Y is none = elim (cases_Bool (p (union Y B))) [
+    | inl joins ↦ IsJoined-from laws away B Y set.rising max (record { set = is; disjoint = none; joined = joins }) ∙ sym joins
+    | inr fails ↦ false_from_ne_true _ (λ h. both_ways _ fails (IsJoined-gives laws away B Y set.rising max h).joined) ∙ sym fails
+  ]
 
   outside_chosen : (x : ℕ) → is_member x away ≡ false → is_member x B ≡ false
   outside_chosen x out = false_from_ne_true _ (λ m. both_ways _ out (max.inside.inside x m))
@@ -153,7 +146,7 @@ module _ {n : ℕ} {p : List ℕ → Bool} (laws : IsMatroid n p) (away B : List
       (exchanges ∙ ap (λ t. minus t B) (with_of p (union X B) x inner outside told)
       ∙ filter_first (exchanged p (union X B) x) (exchanged (is_contracted n away p) X x) X B j.set.rising s (λ y m. apart y m) (λ y m. agrees y (apart y m)))
     where
-      j : IsJoined laws away B X
+      j : IsJoined n p away B X
       j = IsJoined-gives laws away B X set.rising max passes
 
       s : IsRising B
@@ -175,10 +168,10 @@ module _ {n : ℕ} {p : List ℕ → Bool} (laws : IsMatroid n p) (away B : List
           ∙ ap p (union-with_one_left smaller B x s ∙ ap (λ t. with_one t x) (without_one-union X B y s fresh)))
 
 -- a contracted element has no exchanges
-pub contracted_row_outside : (n : ℕ) (p : List ℕ → Bool) (away X : List ℕ) (x : ℕ) (row : Exchange) → is_member x X ≡ false
+pub contracted_row_outside : (n : ℕ) (p : List ℕ → Bool) (away X : List ℕ) (x : ℕ) (row : Exchange) → IsRising away → is_member x X ≡ false
     → is_member x away ≡ true → row.addable ≡ false → row.with ≡ [] → row ≡ row_of (is_contracted n away p) X x
-contracted_row_outside n p away X x row o gone adds exchanges =
+contracted_row_outside n p away X x row r o gone adds exchanges =
     row_outside (is_contracted n away p) X x row o (adds ∙ sym (fails X)) (exchanges ∙ sym (filter_none (exchanged (is_contracted n away p) X x) X (λ y. fails (without_one X y))))
   where
     fails : (J : List ℕ) → is_contracted n away p (with_one J x) ≡ false
-    fails J = false_from_ne_true _ (λ h. both_ways _ (apart_at (with_one J x) away (contracted_disjoint n p away (with_one J x) h) x (has_added J x)) gone)
+    fails J = false_from_ne_true _ (λ h. both_ways _ (apart_at (with_one J x) away (contraction-gives n p away (with_one J x) r h).disjoint x (has_added J x)) gone)

@@ -1,6 +1,6 @@
 //! Contractions.
 ghost use Rattle.std.specs.Prelude.{◌≡◌, IfOk};
-ghost use Rattle.mat_sets.specs.Sets.{AllBelow, IsRising, union};
+ghost use Rattle.mat_sets.specs.Sets.{AllBelow, union};
 ghost use Rattle.mat_laws.specs.Matroids.{IsMaximal};
 ghost use Rattle.mat_minors.specs.Minors.{is_contracted, IsContraction};
 ghost use Rattle.mat_minors.specs.MinorLaws.{contracted_laws};
@@ -51,7 +51,7 @@ impl<M: Matroid> Matroid for Contraction<M> {
         self.inner.size()
     }
 
-    /// Asks the inner matroid once, and not at all where a member is contracted.
+    /// Asks the inner matroid once, and not at all where a member is contracted. The only error is want of memory.
     fn independent(&self, alloc: Global, set: &ElemSet) -> Result<bool, AllocError> {
         if set.minus(alloc, &self.away)?.len() < set.len() {
             return Ok(false);
@@ -61,7 +61,8 @@ impl<M: Matroid> Matroid for Contraction<M> {
     }
 
     /// The exchanges of the inner matroid at the set together with what was chosen of the contracted elements, for
-    /// members of the set; none for a contracted element. Asks for the inner ones once.
+    /// members of the set; none for a contracted element. Asks for the inner ones at most once. The only error is want of
+    /// memory.
     fn circuit(&self, alloc: Global, base: &ElemSet, x: u32) -> Result<Exchange, AllocError> {
         if self.away.contains(x) {
             return Ok(Exchange {
@@ -80,8 +81,7 @@ impl<M: Matroid> Matroid for Contraction<M> {
 
 /// The members of either set. The only error is want of memory.
 pub fn union(alloc: Global, set: &ElemSet, more: &ElemSet) -> Result<ElemSet, AllocError>
-    ensures members { IfOk result (λ s. s ≡ union set.now more.now) }
-    ensures rises { IfOk result (λ s. IsRising s) }
+    ensures { IfOk result (λ s. s ≡ union set.now more.now) }
 {
     let mut both = more.copy(alloc)?;
     for x in set.as_slice() {

@@ -14,7 +14,7 @@ pub struct Dual<M: Matroid> {
 }
 
 impl<M: Matroid> Dual<M> {
-    /// The dual of this matroid.
+    /// The dual of this matroid. It takes no memory.
     pub fn new(inner: M) -> Dual<M>
         requires { M.sound inner }
         ensures value { result ≡ record { inner = inner } }
@@ -38,7 +38,7 @@ impl<M: Matroid> Matroid for Dual<M> {
     }
 
     /// What is independent outside the set is grown as far as it goes: the set is independent where none of its members
-    /// can be added then. At most as many questions to the inner matroid as it has elements.
+    /// can be added then. At most as many questions to the inner matroid as it has elements. The only error is want of memory.
     fn independent(&self, alloc: Global, set: &ElemSet) -> Result<bool, AllocError> {
         let none = ElemSet::new(alloc);
         let outside = ElemSet::all_below(alloc, self.inner.size())?.minus(alloc, set)?;

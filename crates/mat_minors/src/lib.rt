@@ -5,6 +5,8 @@ mod contraction;
 mod dual;
 pub mod laws;
 mod restriction;
+#[cfg(test)]
+mod tests;
 mod truncation;
 
 pub use contraction::{union, Contraction};

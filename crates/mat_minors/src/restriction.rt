@@ -17,7 +17,7 @@ pub struct Restriction<M: Matroid> {
 }
 
 impl<M: Matroid> Restriction<M> {
-    /// The restriction of this matroid to these of its elements.
+    /// The restriction of this matroid to these of its elements. It takes no memory.
     pub fn new(inner: M, kept: ElemSet) -> Restriction<M>
         requires sound { M.sound inner }
         requires below { AllBelow (M.ground_size inner) kept }
@@ -41,7 +41,7 @@ impl<M: Matroid> Matroid for Restriction<M> {
         self.inner.size()
     }
 
-    /// Asks the inner matroid once, and not at all where a member is not kept.
+    /// Asks the inner matroid once, and not at all where a member is not kept. The only error is want of memory.
     fn independent(&self, alloc: Global, set: &ElemSet) -> Result<bool, AllocError> {
         if !set.minus(alloc, &self.kept)?.is_empty() {
             return Ok(false);
@@ -49,7 +49,8 @@ impl<M: Matroid> Matroid for Restriction<M> {
         self.inner.independent(alloc, set)
     }
 
-    /// The exchanges of the inner matroid for an element that is kept, and none for another. Asks for the inner ones once.
+    /// The exchanges of the inner matroid for an element that is kept, and none for another. Asks for the inner ones
+    /// at most once. The only error is want of memory.
     fn circuit(&self, alloc: Global, base: &ElemSet, x: u32) -> Result<Exchange, AllocError> {
         if !self.kept.contains(x) {
             return Ok(Exchange {

@@ -15,7 +15,7 @@ pub struct Truncation<M: Matroid> {
 }
 
 impl<M: Matroid> Truncation<M> {
-    /// The truncation of this matroid to this cap, which may be any number.
+    /// The truncation of this matroid to this cap, which may be any number. It takes no memory.
     pub fn new(inner: M, cap: u32) -> Truncation<M>
         requires { M.sound inner }
         ensures value { result ≡ record { inner = inner; cap = cap } }
@@ -38,7 +38,7 @@ impl<M: Matroid> Matroid for Truncation<M> {
         self.inner.size()
     }
 
-    /// Asks the inner matroid once, and not at all where the set is larger than the cap.
+    /// Asks the inner matroid once, and not at all where the set is larger than the cap. The only error is want of memory.
     fn independent(&self, alloc: Global, set: &ElemSet) -> Result<bool, AllocError> {
         if set.len() > self.cap as usize {
             return Ok(false);
@@ -46,7 +46,8 @@ impl<M: Matroid> Matroid for Truncation<M> {
         self.inner.independent(alloc, set)
     }
 
-    /// The exchanges of the inner matroid; an element can be added only below the cap. Asks for the inner ones once.
+    /// The exchanges of the inner matroid; an element can be added only below the cap. Asks for the inner ones once. The
+    /// only error is want of memory.
     fn circuit(&self, alloc: Global, base: &ElemSet, x: u32) -> Result<Exchange, AllocError> {
         let inner = self.inner.circuit(alloc, base, x)?;
         Ok(Exchange {

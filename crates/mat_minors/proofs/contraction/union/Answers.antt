@@ -8,8 +8,5 @@ loop-x-init c = IsJoining-start _ _ _ _ c.as_slice-x-items.ensures.items c.in_ok
 pub loop-x-preserved : goal.loop-x-preserved
 loop-x-preserved c = IsJoining-next _ _ _ _ _ _ _ c.loop-x-test.true refl c.loop-x.invariant c.in_ok-add.ensures.ok.1
 
-pub returns-clause-members : goal.returns-clause-members
-returns-clause-members c = IsJoining-end _ _ _ c.loop-x.x-index _ c.loop-x-test.false c.loop-x.invariant
-
-pub returns-clause-rises : goal.returns-clause-rises
-returns-clause-rises c = c.loop-x.invariant.rising
+pub returns : goal.returns
+returns c = IsJoining-end _ _ _ c.loop-x.x-index _ c.loop-x-test.false c.loop-x.invariant

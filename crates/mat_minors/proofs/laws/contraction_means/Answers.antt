@@ -1,5 +1,5 @@
-use Rattle.mat_minors.specs.MinorLaws.{contraction-gives, contraction-from}
+use Rattle.mat_minors.specs.ContractionLaws.{contraction-gives, contraction-from}
 use Rattle.mat_minors.proofs.laws.contraction_means.Goals as goal
 
 pub returns : goal.returns
-returns c = λ n p away X laws r. (contraction-gives laws away X r, contraction-from laws away X r)
+returns c = λ n p away X laws r. (contraction-gives n p away X r, contraction-from laws away X r)
