@@ -86,7 +86,7 @@ dual_independent-returns t c =
 
 pub contraction_independent-returns-then-len : goal.contraction_independent-returns-then-len
 contraction_independent-returns-then-len t c =
-    sym (dependent_where_lost _ (is_independent (tree_of c.args.inner.now)) c.args.away.now c.args.set.now c.in_ok-minus.ensures.rises
+    sym (dependent_where_lost _ (is_independent (tree_of c.args.inner.now)) c.args.away.now c.args.set.now c.in_ok-minus.ensures.rises c.requires.away.rising
     (omega (arith, c.if-len.true, c.len-2.ensures.count, c.len-3.ensures.count, ap length c.in_ok-minus.ensures.members)))
 
 pub contraction_independent-independent-requires : goal.contraction_independent-independent-requires
