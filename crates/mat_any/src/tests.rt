@@ -29,7 +29,8 @@ fn dual_of_dual(alloc: Global) -> Result<AnyMatroid, AllocError>
     Ok(AnyMatroid::Dual(Box::new(alloc, dual)?))
 }
 
-// All three elements of a uniform matroid are contracted, of which no two are left out of a maximal independent subset.
+// The contraction of all three elements of a uniform matroid, two of which are a maximal independent subset: only the empty
+// set is independent.
 #[tactic(auto, unfolding(mat_sets::specs::Sets::all_below))]
 fn contracted_whole(alloc: Global) -> Result<AnyMatroid, AllocError>
     ensures count { IfOk result (λ m. element_count (tree_of m) ≡ 3) }
@@ -41,7 +42,7 @@ fn contracted_whole(alloc: Global) -> Result<AnyMatroid, AllocError>
     })
 }
 
-// The element 0 alone is kept of a uniform matroid that is truncated to nothing.
+// A uniform matroid on three elements, truncated to this cap and restricted to the element 0.
 #[tactic(auto, unfolding(mat_sets::specs::Sets::all_below))]
 fn kept_and_truncated(alloc: Global, cap: u32) -> Result<AnyMatroid, AllocError>
     ensures count { IfOk result (λ m. element_count (tree_of m) ≡ 3) }
