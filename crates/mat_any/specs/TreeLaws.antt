@@ -1,4 +1,4 @@
--- Each sound tree obeys the laws of a matroid.
+-- Each sound tree obeys the laws of a matroid, by induction on the tree.
 use Rattle.std.specs.Prelude.{length}
 use Rattle.mat_sets.specs.Graphs.{ends_of}
 use Rattle.mat_laws.specs.Matroids.{IsMatroid}
@@ -8,7 +8,8 @@ use Rattle.mat_count.specs.LaminarLaws.{counted_laws}
 use Rattle.mat_graphic.specs.ForestLaws.{graphic_laws}
 use Rattle.mat_gf2.specs.Columns.{column_of}
 use Rattle.mat_gf2.specs.Gf2Laws.{gf2_laws}
-use Rattle.mat_any.specs.Trees.{Tree, uniform, partition, laminar, graphic, gf2, element_count, is_independent, IsSound}
+use Rattle.mat_minors.specs.MinorLaws.{dual_laws, truncated_laws, restricted_laws, contracted_laws}
+use Rattle.mat_any.specs.Trees.{Tree, uniform, partition, laminar, graphic, gf2, dual, truncate, restrict, contract, element_count, is_independent, IsSound}
 
 -- by cases on the kind
 pub tree_laws : (t : Tree) → IsSound t → IsMatroid (element_count t) (is_independent t)
@@ -17,3 +18,7 @@ tree_laws (partition n classes caps) sound = partition_laws n classes caps sound
 tree_laws (laminar n sets caps) sound = counted_laws n sets caps sound.family
 tree_laws (graphic vertices edges) sound = graphic_laws (length edges) (ends_of edges)
 tree_laws (gf2 dim columns) sound = gf2_laws (length columns) (column_of columns)
+tree_laws (dual t) sound = dual_laws (element_count t) (is_independent t) (tree_laws t sound)
+tree_laws (truncate cap t) sound = truncated_laws (element_count t) (is_independent t) cap (tree_laws t sound)
+tree_laws (restrict kept t) sound = restricted_laws (element_count t) (is_independent t) kept (tree_laws t sound.1)
+tree_laws (contract away t) sound = contracted_laws (element_count t) (is_independent t) away sound.0.rising (tree_laws t sound.1)

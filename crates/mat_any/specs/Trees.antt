@@ -1,11 +1,13 @@
 -- Kind trees: what contracts see of any matroid.
-use Rattle.std.specs.Prelude.{ℕ, Bool, List, length}
-use Rattle.mat_sets.specs.Graphs.{IsGraph, ends_of}
+use Rattle.std.specs.Prelude.{ℕ, suc, Bool, List, length}
+use Rattle.mat_sets.specs.Sets.{IsSet}
+use Rattle.mat_sets.specs.Graphs.{ends_of, IsGraph}
 use Rattle.mat_count.specs.Counts.{is_uniform, is_counted}
 use Rattle.mat_count.specs.Partitions.{IsPartition}
 use Rattle.mat_count.specs.LaminarMatroids.{IsLaminar}
 use Rattle.mat_graphic.specs.Forests.{is_graphic}
 use Rattle.mat_gf2.specs.Columns.{IsBinaryMatrix, column_of, is_gf2}
+use Rattle.mat_minors.specs.Minors.{is_dual, is_truncated, is_restricted, is_contracted}
 
 -- a matroid of any kind, as its keyword with numbers, sets and children
 pub data Tree : Type 0 where
@@ -19,6 +21,14 @@ pub data Tree : Type 0 where
   graphic : ℕ → List (ℕ × ℕ) → Tree
   -- the number of entries of a column, and the columns as binary numbers
   gf2 : ℕ → List ℕ → Tree
+  -- the dual of a matroid
+  dual : Tree → Tree
+  -- the cap of a truncation, and what is truncated
+  truncate : ℕ → Tree → Tree
+  -- the elements to which a matroid is restricted, and the matroid
+  restrict : List ℕ → Tree → Tree
+  -- the elements that are contracted, and the matroid
+  contract : List ℕ → Tree → Tree
 
 -- the number of elements
 abbrev pub element_count : Tree → ℕ
@@ -27,6 +37,10 @@ element_count (partition n classes caps) = n
 element_count (laminar n sets caps) = n
 element_count (graphic vertices edges) = length edges
 element_count (gf2 dim columns) = length columns
+element_count (dual t) = element_count t
+element_count (truncate cap t) = element_count t
+element_count (restrict kept t) = element_count t
+element_count (contract away t) = element_count t
 
 -- the test of independence
 abbrev pub is_independent : Tree → List ℕ → Bool
@@ -35,14 +49,22 @@ is_independent (partition n classes caps) = is_counted n classes caps
 is_independent (laminar n sets caps) = is_counted n sets caps
 is_independent (graphic vertices edges) = is_graphic (length edges) (ends_of edges)
 is_independent (gf2 dim columns) = is_gf2 (length columns) (column_of columns)
+is_independent (dual t) = is_dual (element_count t) (is_independent t)
+is_independent (truncate cap t) = is_truncated cap (is_independent t)
+is_independent (restrict kept t) = is_restricted kept (is_independent t)
+is_independent (contract away t) = is_contracted (element_count t) away (is_independent t)
 
--- the conditions that the constructors of its matroids set
+-- the conditions that the constructors of its matroids set, within the matroid too
 abbrev pub IsSound : Tree → Type 0
 IsSound (uniform n cap) = Unit {0}
 IsSound (partition n classes caps) = IsPartition n classes caps
 IsSound (laminar n sets caps) = IsLaminar n sets caps
 IsSound (graphic vertices edges) = IsGraph vertices edges
 IsSound (gf2 dim columns) = IsBinaryMatrix dim columns
+IsSound (dual t) = IsSound t
+IsSound (truncate cap t) = IsSound t
+IsSound (restrict kept t) = IsSet (element_count t) kept × IsSound t
+IsSound (contract away t) = IsSet (element_count t) away × IsSound t
 
 -- how many matroids stand within one another
 abbrev pub depth : Tree → ℕ
@@ -51,3 +73,7 @@ depth (partition n classes caps) = 1
 depth (laminar n sets caps) = 1
 depth (graphic vertices edges) = 1
 depth (gf2 dim columns) = 1
+depth (dual t) = suc (depth t)
+depth (truncate cap t) = suc (depth t)
+depth (restrict kept t) = suc (depth t)
+depth (contract away t) = suc (depth t)

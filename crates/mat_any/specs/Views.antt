@@ -1,7 +1,7 @@
 -- The tree that a matroid of any kind is seen as.
-use Rattle.mat_any.specs.Trees.{Tree, uniform, partition, laminar, graphic, gf2}
+use Rattle.mat_any.specs.Trees.{Tree, uniform, partition, laminar, graphic, gf2, dual, truncate, restrict, contract}
 use Rattle.mat_any.specs.declared.any.AnyMatroid.{AnyMatroid}
-use Rattle.mat_any.specs.declared.any.AnyMatroid.TheVariants.{Uniform, Partition, Laminar, Graphic, Gf2}
+use Rattle.mat_any.specs.declared.any.AnyMatroid.TheVariants.{Uniform, Partition, Laminar, Graphic, Gf2, Dual', Truncate', Restrict', Contract'}
 
 -- the tree of a matroid: its keyword with what its constructor took
 abbrev pub tree_of : AnyMatroid → Tree
@@ -10,3 +10,7 @@ tree_of (Partition m) = partition m.count m.classes m.caps
 tree_of (Laminar m) = laminar m.count m.sets m.caps
 tree_of (Graphic m) = graphic m.vertices m.edges
 tree_of (Gf2 m) = gf2 m.dim m.columns
+tree_of (Dual' p inner) = dual (tree_of inner)
+tree_of (Truncate' cap p inner) = truncate cap (tree_of inner)
+tree_of (Restrict' kept p inner) = restrict kept (tree_of inner)
+tree_of (Contract' away p inner) = contract away (tree_of inner)

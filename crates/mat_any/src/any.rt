@@ -3,6 +3,7 @@ ghost use Rattle.mat_any.specs.Trees.{element_count, is_independent, IsSound};
 ghost use Rattle.mat_any.specs.TreeLaws.{tree_laws};
 ghost use Rattle.mat_any.specs.Views.{tree_of};
 
+use crate::independence::{independent, size_of};
 use mat_count::{Laminar, Partition, Uniform};
 use mat_gf2::Gf2;
 use mat_graphic::Graphic;
@@ -18,6 +19,23 @@ pub enum AnyMatroid {
     Laminar(Laminar),
     Graphic(Graphic),
     Gf2(Gf2),
+    /// The dual of a matroid.
+    Dual(Box<AnyMatroid>),
+    /// The independent sets of at most `cap` elements of a matroid.
+    Truncate {
+        cap: u32,
+        inner: Box<AnyMatroid>,
+    },
+    /// The independent sets of kept elements of a matroid.
+    Restrict {
+        kept: ElemSet,
+        inner: Box<AnyMatroid>,
+    },
+    /// The contraction of the elements in `away` of a matroid.
+    Contract {
+        away: ElemSet,
+        inner: Box<AnyMatroid>,
+    },
 }
 
 impl Matroid for AnyMatroid {
@@ -30,23 +48,11 @@ impl Matroid for AnyMatroid {
     ghost laws = { λ m. tree_laws (tree_of m) };
 
     fn size(&self) -> u32 {
-        match self {
-            AnyMatroid::Uniform(matroid) => matroid.size(),
-            AnyMatroid::Partition(matroid) => matroid.size(),
-            AnyMatroid::Laminar(matroid) => matroid.size(),
-            AnyMatroid::Graphic(matroid) => matroid.size(),
-            AnyMatroid::Gf2(matroid) => matroid.size(),
-        }
+        size_of(self)
     }
 
     fn independent(&self, alloc: Global, set: &ElemSet) -> Result<bool, AllocError> {
-        match self {
-            AnyMatroid::Uniform(matroid) => matroid.independent(alloc, set),
-            AnyMatroid::Partition(matroid) => matroid.independent(alloc, set),
-            AnyMatroid::Laminar(matroid) => matroid.independent(alloc, set),
-            AnyMatroid::Graphic(matroid) => matroid.independent(alloc, set),
-            AnyMatroid::Gf2(matroid) => matroid.independent(alloc, set),
-        }
+        independent(alloc, self, set)
     }
 
     fn circuit(&self, alloc: Global, base: &ElemSet, x: u32) -> Result<Exchange, AllocError> {
@@ -56,6 +62,10 @@ impl Matroid for AnyMatroid {
             AnyMatroid::Laminar(matroid) => matroid.circuit(alloc, base, x),
             AnyMatroid::Graphic(matroid) => matroid.circuit(alloc, base, x),
             AnyMatroid::Gf2(matroid) => matroid.circuit(alloc, base, x),
+            AnyMatroid::Dual(_)
+            | AnyMatroid::Truncate { .. }
+            | AnyMatroid::Restrict { .. }
+            | AnyMatroid::Contract { .. } => self.circuit_by_questions(alloc, base, x),
         }
     }
 }

@@ -20,6 +20,41 @@ fn without_first(alloc: Global) -> Result<AnyMatroid, AllocError>
     Ok(AnyMatroid::Partition(partition))
 }
 
+// The dual of the dual of a uniform matroid: the sets of at most two of the three elements.
+fn dual_of_dual(alloc: Global) -> Result<AnyMatroid, AllocError>
+    ensures count { IfOk result (λ m. element_count (tree_of m) ≡ 3) }
+    ensures sound { IfOk result (λ m. IsSound (tree_of m)) }
+{
+    let dual = AnyMatroid::Dual(Box::new(alloc, AnyMatroid::Uniform(Uniform::new(3, 2)))?);
+    Ok(AnyMatroid::Dual(Box::new(alloc, dual)?))
+}
+
+// The contraction of all three elements of a uniform matroid, two of which are a maximal independent subset: only the empty
+// set is independent.
+#[tactic(auto, unfolding(mat_sets::specs::Sets::all_below))]
+fn contracted_whole(alloc: Global) -> Result<AnyMatroid, AllocError>
+    ensures count { IfOk result (λ m. element_count (tree_of m) ≡ 3) }
+    ensures sound { IfOk result (λ m. IsSound (tree_of m)) }
+{
+    Ok(AnyMatroid::Contract {
+        away: ElemSet::all_below(alloc, 3)?,
+        inner: Box::new(alloc, AnyMatroid::Uniform(Uniform::new(3, 2)))?,
+    })
+}
+
+// A uniform matroid on three elements, truncated to this cap and restricted to the element 0.
+#[tactic(auto, unfolding(mat_sets::specs::Sets::all_below))]
+fn kept_and_truncated(alloc: Global, cap: u32) -> Result<AnyMatroid, AllocError>
+    ensures count { IfOk result (λ m. element_count (tree_of m) ≡ 3) }
+    ensures sound { IfOk result (λ m. IsSound (tree_of m)) }
+{
+    let inner = Box::new(alloc, AnyMatroid::Uniform(Uniform::new(3, 2)))?;
+    Ok(AnyMatroid::Restrict {
+        kept: ElemSet::all_below(alloc, 1)?,
+        inner: Box::new(alloc, AnyMatroid::Truncate { cap, inner })?,
+    })
+}
+
 #[test]
 #[tactic(auto, unfolding(mat_sets::specs::Sets::all_below))]
 fn asks_the_kind(rt: HostRuntime) -> Result<(), Fail> {
@@ -33,5 +68,30 @@ fn asks_the_kind(rt: HostRuntime) -> Result<(), Fail> {
     assert_eq!(rt; without_first.size(), 2);
     assert!(rt; without_first.independent(alloc, &none)?);
     assert!(rt; !without_first.independent(alloc, &first)?);
+    Ok(())
+}
+
+#[test]
+#[tactic(auto, unfolding(mat_sets::specs::Sets::all_below))]
+fn asks_within_the_kind(rt: HostRuntime) -> Result<(), Fail> {
+    let alloc = rt.alloc();
+    let none = ElemSet::new(alloc);
+    let first = ElemSet::all_below(alloc, 1)?;
+    let two = ElemSet::all_below(alloc, 2)?;
+    let dual_of_dual = dual_of_dual(alloc)?;
+    assert_eq!(rt; dual_of_dual.size(), 3);
+    assert!(rt; dual_of_dual.independent(alloc, &two)?);
+    assert!(rt; !dual_of_dual.independent(alloc, &ElemSet::all_below(alloc, 3)?)?);
+    assert!(rt; !two.contains(2));
+    let row = dual_of_dual.circuit(alloc, &two, 2)?;
+    assert!(rt; !row.addable);
+    assert!(rt; row.with == two);
+    let contracted = contracted_whole(alloc)?;
+    assert!(rt; contracted.independent(alloc, &none)?);
+    assert!(rt; !contracted.independent(alloc, &first)?);
+    let kept = kept_and_truncated(alloc, 1)?;
+    assert!(rt; kept.independent(alloc, &first)?);
+    assert!(rt; !kept.independent(alloc, &two)?);
+    assert!(rt; !kept_and_truncated(alloc, 0)?.independent(alloc, &first)?);
     Ok(())
 }

@@ -3,7 +3,7 @@ use Rattle.std.specs.Prelude.{ℕ, List, [], ◌∷◌, ◌++◌, length, map, c
 use Rattle.std.specs.List.{zip, flat_map}
 use Rattle.mat_words.specs.Numbers.{numeral, numerals}
 use Rattle.mat_words.specs.Lines.{Line, text_of}
-use Rattle.mat_any.specs.Trees.{Tree, uniform, partition, laminar, graphic, gf2}
+use Rattle.mat_any.specs.Trees.{Tree, uniform, partition, laminar, graphic, gf2, dual, truncate, restrict, contract}
 use Rattle.mat_desc.specs.Grammar.{version_line, end_line, edge_line, column_line, weighted_line, coloured_edge_line}
 use Rattle.mat_desc.specs.Instances.{Instance, pair, list, graph, rooted, coloured, table}
 
@@ -26,6 +26,10 @@ matroid_lines (partition n classes caps) = (codes "partition" ∷ numeral (pos (
 matroid_lines (laminar n sets caps) = (codes "laminar" ∷ numeral (pos (length sets)) ∷ []) ∷ capped_lines (codes "set") sets caps
 matroid_lines (graphic vertices edges) = (codes "graphic" ∷ numeral (pos vertices) ∷ []) ∷ map edge_line edges
 matroid_lines (gf2 dim columns) = (codes "gf2" ∷ numeral (pos dim) ∷ []) ∷ map (column_line dim) columns
+matroid_lines (dual t) = (codes "dual" ∷ []) ∷ matroid_lines t
+matroid_lines (truncate cap t) = (codes "truncate" ∷ numeral (pos cap) ∷ []) ∷ matroid_lines t
+matroid_lines (restrict kept t) = (codes "restrict" ∷ numerals kept) ∷ matroid_lines t
+matroid_lines (contract away t) = (codes "contract" ∷ numerals away) ∷ matroid_lines t
 
 -- the lines between the first and the last: the form line and those that follow it
 abbrev pub form_lines : Instance → List Line

@@ -7,7 +7,7 @@ use Rattle.mat_sets.specs.Families.{AreDisjoint}
 use Rattle.mat_words.specs.Numbers.{numeral, numerals}
 use Rattle.mat_words.specs.Lines.{Line, text_of}
 use Rattle.mat_count.specs.Laminar.{IsLaminarFamily}
-use Rattle.mat_any.specs.Trees.{Tree, uniform, partition, laminar, graphic, gf2, depth}
+use Rattle.mat_any.specs.Trees.{Tree, uniform, partition, laminar, graphic, gf2, dual, truncate, restrict, contract, depth}
 use Rattle.mat_desc.specs.Binary.{binary}
 use Rattle.mat_desc.specs.Instances.{Instance, pair, list, graph, rooted, coloured, table}
 
@@ -40,6 +40,10 @@ IsValidTree n (partition m classes caps) = (m ≡ n) × AreClasses n classes cap
 IsValidTree n (laminar m sets caps) = (m ≡ n) × AreNestedSets n sets caps
 IsValidTree n (graphic vertices edges) = (length edges ≡ n) × (1 ≤ vertices) × (vertices ≤ 500) × All (IsPair vertices vertices) edges
 IsValidTree n (gf2 dim columns) = (length columns ≡ n) × (1 ≤ dim) × (dim ≤ 128) × All (λ column. column < 2 ^ dim) columns
+IsValidTree n (dual t) = IsValidTree n t
+IsValidTree n (truncate cap t) = (cap ≤ 500) × IsValidTree n t
+IsValidTree n (restrict kept t) = IsSet n kept × IsValidTree n t
+IsValidTree n (contract away t) = IsSet n away × IsValidTree n t
 
 -- a matroid of a form: at most sixteen matroids stand within one another
 abbrev pub IsValidMatroid : ℕ → Tree → Type 0
@@ -99,6 +103,12 @@ MatroidLines (laminar n sets caps) lines rest = (more : List Line)
     × (lines ≡ (codes "laminar" ∷ numeral (pos (length sets)) ∷ []) ∷ more) × CappedLines (codes "set") sets caps more rest
 MatroidLines (graphic vertices edges) lines rest = lines ≡ (codes "graphic" ∷ numeral (pos vertices) ∷ []) ∷ (map edge_line edges ++ rest)
 MatroidLines (gf2 dim columns) lines rest = lines ≡ (codes "gf2" ∷ numeral (pos dim) ∷ []) ∷ (map (column_line dim) columns ++ rest)
+MatroidLines (dual t) lines rest = (more : List Line) × (lines ≡ (codes "dual" ∷ []) ∷ more) × MatroidLines t more rest
+MatroidLines (truncate cap t) lines rest = (more : List Line) × (lines ≡ (codes "truncate" ∷ numeral (pos cap) ∷ []) ∷ more) × MatroidLines t more rest
+MatroidLines (restrict kept t) lines rest = (xs : List ℕ) × (more : List Line) × Lists xs kept
+    × (lines ≡ (codes "restrict" ∷ numerals xs) ∷ more) × MatroidLines t more rest
+MatroidLines (contract away t) lines rest = (xs : List ℕ) × (more : List Line) × Lists xs away
+    × (lines ≡ (codes "contract" ∷ numerals xs) ∷ more) × MatroidLines t more rest
 
 -- the lines of each matroid, and then the rest
 abbrev pub MatroidsLines : List Tree → List Line → List Line → Type 0

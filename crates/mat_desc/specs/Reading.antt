@@ -8,7 +8,7 @@ use Rattle.mat_words.specs.Numbers.{number_in}
 use Rattle.mat_words.specs.declared.numbers.NumberFault.{NumberFault}
 use Rattle.mat_words.specs.declared.numbers.NumberFault.TheVariants.{Spelling, Range}
 use Rattle.mat_count.specs.Laminar.{is_crossed}
-use Rattle.mat_any.specs.Trees.{Tree, uniform, partition, laminar, graphic, gf2}
+use Rattle.mat_any.specs.Trees.{Tree, uniform, partition, laminar, graphic, gf2, dual, truncate, restrict, contract}
 use Rattle.mat_desc.specs.declared.refusal.DescKind.TheVariants as kinds
 use Rattle.mat_desc.specs.declared.keywords.Form.{Form}
 use Rattle.mat_desc.specs.declared.keywords.Form.TheVariants as forms
@@ -85,8 +85,8 @@ repeat_at reader (suc n) s = do
   others ← repeat_at reader n first.1
   Ok (first.0 ∷ others.0, others.1)
 
--- The set of the elements below n that are left of line number `line`, and what is taken behind it. An element that is taken, since it stood
--- in this list before or in an earlier one that shares none with it, is repeated.
+-- The set that the words left of line number `line` list, of elements below n, and `taken` with these elements added. An element that
+-- is in `taken` already is repeated.
 unfoldable pub elements_from : ℕ → ℕ → List ℕ → List ℕ → List (List ℕ) → Result (List ℕ × List ℕ) Fault
 elements_from n line taken set [] = Ok (set, taken)
 elements_from n line taken set (word ∷ words) = do
@@ -245,29 +245,76 @@ gf2_at n words lines = do
   columns ← repeat_at (column_at dim.0) n lines
   Ok (gf2 dim.0 columns.0, columns.1)
 
+-- what reads a matroid from a line on, and the lines behind it
+abbrev pub TreeReader : Type 0
+TreeReader = LinesLeft → Result (Tree × LinesLeft) Fault
+
+-- the dual of a matroid, from the words behind its keyword on; `inner` reads the matroid within
+unfoldable pub dual_at : TreeReader → WordsLeft → LinesLeft → Result (Tree × LinesLeft) Fault
+dual_at inner words lines = do
+  end ← ended_at words
+  t ← inner lines
+  Ok (dual t.0, t.1)
+
+-- a truncation, from the words behind its keyword on; `inner` reads the matroid within
+unfoldable pub truncate_at : TreeReader → WordsLeft → LinesLeft → Result (Tree × LinesLeft) Fault
+truncate_at inner words lines = do
+  cap ← count_at 0 501 words
+  end ← ended_at cap.1
+  t ← inner lines
+  Ok (truncate cap.0 t.0, t.1)
+
+-- a restriction on n elements, from the words behind its keyword on; `inner` reads the matroid within
+unfoldable pub restrict_at : TreeReader → ℕ → WordsLeft → LinesLeft → Result (Tree × LinesLeft) Fault
+restrict_at inner n words lines = do
+  kept ← elements_at n [] words
+  t ← inner lines
+  Ok (restrict kept.0 t.0, t.1)
+
+-- a contraction on n elements, from the words behind its keyword on; `inner` reads the matroid within
+unfoldable pub contract_at : TreeReader → ℕ → WordsLeft → LinesLeft → Result (Tree × LinesLeft) Fault
+contract_at inner n words lines = do
+  away ← elements_at n [] words
+  t ← inner lines
+  Ok (contract away.0 t.0, t.1)
+
 -- the keyword of a matroid that a word is, if it is one
 abbrev pub keyword_of : List ℕ → Option Keyword
 keyword_of word = if bytes_eq word (codes "uniform") then Some keywords.Uniform else
     (if bytes_eq word (codes "partition") then Some keywords.Partition else
     (if bytes_eq word (codes "laminar") then Some keywords.Laminar else
     (if bytes_eq word (codes "graphic") then Some keywords.Graphic else
-    (if bytes_eq word (codes "gf2") then Some keywords.Gf2 else None))))
+    (if bytes_eq word (codes "gf2") then Some keywords.Gf2 else
+    (if bytes_eq word (codes "dual") then Some keywords.Dual else
+    (if bytes_eq word (codes "truncate") then Some keywords.Truncate else
+    (if bytes_eq word (codes "restrict") then Some keywords.Restrict else
+    (if bytes_eq word (codes "contract") then Some keywords.Contract else None))))))))
 
--- a matroid on n elements, from the words behind its keyword in line number `line` on
-abbrev pub kind_at : ℕ → ℕ → Option Keyword → WordsLeft → LinesLeft → Result (Tree × LinesLeft) Fault
-kind_at n line None words lines = Err (kinds.UnknownWord, line)
-kind_at n line (Some keywords.Uniform) words lines = uniform_at n words lines
-kind_at n line (Some keywords.Partition) words lines = partition_at n words lines
-kind_at n line (Some keywords.Laminar) words lines = laminar_at n words lines
-kind_at n line (Some keywords.Graphic) words lines = graphic_at n words lines
-kind_at n line (Some keywords.Gf2) words lines = gf2_at n words lines
+-- a matroid on n elements, from the words behind its keyword in line number `line` on; `inner` reads a matroid within it
+abbrev pub kind_at : TreeReader → ℕ → ℕ → Option Keyword → WordsLeft → LinesLeft → Result (Tree × LinesLeft) Fault
+kind_at inner n line None words lines = Err (kinds.UnknownWord, line)
+kind_at inner n line (Some keywords.Uniform) words lines = uniform_at n words lines
+kind_at inner n line (Some keywords.Partition) words lines = partition_at n words lines
+kind_at inner n line (Some keywords.Laminar) words lines = laminar_at n words lines
+kind_at inner n line (Some keywords.Graphic) words lines = graphic_at n words lines
+kind_at inner n line (Some keywords.Gf2) words lines = gf2_at n words lines
+kind_at inner n line (Some keywords.Dual) words lines = dual_at inner words lines
+kind_at inner n line (Some keywords.Truncate) words lines = truncate_at inner words lines
+kind_at inner n line (Some keywords.Restrict) words lines = restrict_at inner n words lines
+kind_at inner n line (Some keywords.Contract) words lines = contract_at inner n words lines
 
--- a matroid on n elements
-unfoldable pub matroid_at : ℕ → LinesLeft → Result (Tree × LinesLeft) Fault
-matroid_at n p = do
+-- A matroid on n elements, in which at most so many matroids stand within one another. Where there is no room for one more, its line is
+-- still needed, has to be well spaced and to have words, and is then too deep, whatever its words are.
+unfoldable pub matroid_within : ℕ → ℕ → LinesLeft → Result (Tree × LinesLeft) Fault
+matroid_within zero n p = line_at p >>= λ line. Err (kinds.TooDeep, p.line)
+matroid_within (suc room) n p = do
   line ← line_at p
   word ← word_at line.0
-  kind_at n p.line (keyword_of word.0) word.1 line.1
+  kind_at (matroid_within room n) n p.line (keyword_of word.0) word.1 line.1
+
+-- a matroid on n elements
+abbrev pub matroid_at : ℕ → LinesLeft → Result (Tree × LinesLeft) Fault
+matroid_at n p = matroid_within 16 n p
 
 -- ---- problems
 

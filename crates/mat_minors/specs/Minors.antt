@@ -10,7 +10,7 @@ use Rattle.mat_laws.specs.Matroids.{IsBase, IsMaximal}
 abbrev pub addable_members : (List ℕ → Bool) → List ℕ → List ℕ → List ℕ
 addable_members independent X I = filter (λ x. independent (with_one I x)) (minus X I)
 
--- whether a subset I of X is a maximal independent one: independent, and no member of X can be added
+-- whether I, a subset of X (which is not tested here), is a maximal independent one: independent, and no member of X can be added
 abbrev pub is_maximal : (List ℕ → Bool) → List ℕ → List ℕ → Bool
 is_maximal independent X I = independent I && (length (addable_members independent X I) == 0)
 

@@ -78,8 +78,8 @@ impl<M: Matroid> Matroid for Contraction<M> {
     }
 }
 
-// The members of either set. The only error is want of memory.
-fn union(alloc: Global, set: &ElemSet, more: &ElemSet) -> Result<ElemSet, AllocError>
+/// The members of either set. The only error is want of memory.
+pub fn union(alloc: Global, set: &ElemSet, more: &ElemSet) -> Result<ElemSet, AllocError>
     ensures { IfOk result (λ s. s ≡ union set.now more.now) }
 {
     let mut both = more.copy(alloc)?;

@@ -1,0 +1,150 @@
+//! Independence in a matroid of any kind, by recursion on the matroids within it.
+ghost use Rattle.std.specs.Prelude.{◌≡◌, ◌<◌, ◌&&◌, not, if◌then◌else◌, IfOk, OnErr};
+ghost use Rattle.mat_sets.specs.Sets.{AllBelow, IsSet, is_member, with_one};
+ghost use Rattle.mat_laws.specs.Matroids.{IsMaximal};
+ghost use Rattle.mat_minors.specs.Minors.{is_dual, is_contracted};
+ghost use Rattle.mat_any.specs.Trees.{element_count, is_independent, IsSound};
+ghost use Rattle.mat_any.specs.Views.{tree_of};
+
+use crate::any::AnyMatroid;
+use mat_laws::Matroid;
+use mat_minors::union;
+use mat_sets::ElemSet;
+use std::alloc::{AllocError, Global};
+
+/// The number of elements of a matroid.
+pub(crate) fn size_of(matroid: &AnyMatroid) -> u32
+    requires { IsSound (tree_of matroid.now) }
+    ensures { result ≡ element_count (tree_of matroid.now) }
+{
+    match matroid {
+        AnyMatroid::Uniform(uniform) => uniform.size(),
+        AnyMatroid::Partition(partition) => partition.size(),
+        AnyMatroid::Laminar(laminar) => laminar.size(),
+        AnyMatroid::Graphic(graphic) => graphic.size(),
+        AnyMatroid::Gf2(gf2) => gf2.size(),
+        AnyMatroid::Dual(inner) => size_of(inner),
+        AnyMatroid::Truncate { inner, .. } => size_of(inner),
+        AnyMatroid::Restrict { inner, .. } => size_of(inner),
+        AnyMatroid::Contract { inner, .. } => size_of(inner),
+    }
+}
+
+/// Whether a set of elements below the size is independent. A truncation or a restriction asks the matroid within it at
+/// most once, a dual or a contraction at most once for each of its elements and once more. The only error is want of memory.
+#[cycle(asking)]
+pub(crate) fn independent(
+    alloc: Global,
+    matroid: &AnyMatroid,
+    set: &ElemSet,
+) -> Result<bool, AllocError>
+    requires sound { IsSound (tree_of matroid.now) }
+    requires below { AllBelow (element_count (tree_of matroid.now)) set.now }
+    ensures { IfOk result (λ b. b ≡ is_independent (tree_of matroid.now) set.now) }
+{
+    match matroid {
+        AnyMatroid::Uniform(uniform) => uniform.independent(alloc, set),
+        AnyMatroid::Partition(partition) => partition.independent(alloc, set),
+        AnyMatroid::Laminar(laminar) => laminar.independent(alloc, set),
+        AnyMatroid::Graphic(graphic) => graphic.independent(alloc, set),
+        AnyMatroid::Gf2(gf2) => gf2.independent(alloc, set),
+        AnyMatroid::Dual(inner) => dual_independent(alloc, inner, set),
+        AnyMatroid::Truncate { cap, inner } => {
+            if set.len() > *cap as usize {
+                return Ok(false);
+            }
+            independent(alloc, inner, set)
+        }
+        AnyMatroid::Restrict { kept, inner } => {
+            if !set.minus(alloc, kept)?.is_empty() {
+                return Ok(false);
+            }
+            independent(alloc, inner, set)
+        }
+        AnyMatroid::Contract { away, inner } => contraction_independent(alloc, inner, away, set),
+    }
+}
+
+// Whether the set is independent in the dual of the matroid: what is independent outside the set is grown as far as it
+// goes, and the set is independent where none of its members can be added then.
+#[cycle(asking)]
+fn dual_independent(alloc: Global, inner: &AnyMatroid, set: &ElemSet) -> Result<bool, AllocError>
+    requires sound { IsSound (tree_of inner.now) }
+    requires below { AllBelow (element_count (tree_of inner.now)) set.now }
+    ensures { IfOk result (λ b. b ≡ is_dual (element_count (tree_of inner.now)) (is_independent (tree_of inner.now)) set.now) }
+{
+    let outside = ElemSet::all_below(alloc, size_of(inner))?.minus(alloc, set)?;
+    let mut base = maximal_subset(alloc, inner, &outside)?;
+    for x in set.as_slice() {
+        if add_if_independent(alloc, inner, &mut base, *x)? {
+            return Ok(false);
+        }
+    }
+    Ok(true)
+}
+
+// Whether the set is independent where the elements of `away` are contracted: it is disjoint from them, and independent
+// together with a maximal independent subset of them.
+#[cycle(asking)]
+fn contraction_independent(
+    alloc: Global,
+    inner: &AnyMatroid,
+    away: &ElemSet,
+    set: &ElemSet,
+) -> Result<bool, AllocError>
+    requires sound { IsSound (tree_of inner.now) }
+    requires away { IsSet (element_count (tree_of inner.now)) away.now }
+    requires below { AllBelow (element_count (tree_of inner.now)) set.now }
+    ensures { IfOk result (λ b. b ≡ is_contracted (element_count (tree_of inner.now)) away.now (is_independent (tree_of inner.now)) set.now) }
+{
+    if set.minus(alloc, away)?.len() < set.len() {
+        return Ok(false);
+    }
+    let chosen = maximal_subset(alloc, inner, away)?;
+    let joined = union(alloc, set, &chosen)?;
+    independent(alloc, inner, &joined)
+}
+
+// A maximal independent subset: the members are added one after the other, where the set stays independent.
+#[cycle(asking)]
+fn maximal_subset(
+    alloc: Global,
+    matroid: &AnyMatroid,
+    within: &ElemSet,
+) -> Result<ElemSet, AllocError>
+    requires sound { IsSound (tree_of matroid.now) }
+    requires below { AllBelow (element_count (tree_of matroid.now)) within.now }
+    ensures { IfOk result (λ base. IsMaximal (is_independent (tree_of matroid.now)) within.now base) }
+{
+    let mut base = ElemSet::new(alloc);
+    for x in within.as_slice() {
+        add_if_independent(alloc, matroid, &mut base, *x)?;
+    }
+    Ok(base)
+}
+
+// Adds x where it is not yet there and the set stays independent, and tells whether it did.
+#[cycle(asking)]
+#[tactic(auto, using(mat_sets::proofs::Changes::set_changes, mat_sets::proofs::Members::set_rises))]
+fn add_if_independent(
+    alloc: Global,
+    matroid: &AnyMatroid,
+    set: &mut ElemSet,
+    x: u32,
+) -> Result<bool, AllocError>
+    requires sound { IsSound (tree_of matroid.now) }
+    requires set { AllBelow (element_count (tree_of matroid.now)) set.old }
+    requires below { x < element_count (tree_of matroid.now) }
+    ensures added { IfOk result (λ added. added ≡ (not (is_member x set.old) && is_independent (tree_of matroid.now) (with_one set.old x))) }
+    ensures set { IfOk result (λ added. set.new ≡ (if added then with_one set.old x else set.old)) }
+    ensures err { OnErr result (set.new ≡ set.old) }
+{
+    if !set.add(x)? {
+        return Ok(false);
+    }
+    let answer = independent(alloc, matroid, set);
+    if !matches!(answer, Ok(true)) {
+        set.take_out(x);
+    }
+    answer
+}
