@@ -1,5 +1,5 @@
 #!/usr/bin/env python3
-"""Prints a large description: `cases.py list`, `cases.py junk` or `cases.py partitions N`."""
+"""Prints a large description: `cases.py list`, `cases.py junk`, or one of `partitions`, `graphic`, `gf2` with a number of elements."""
 import random
 import sys
 
@@ -21,21 +21,51 @@ def junk():
     sys.stdout.write('x' * 4194304)
 
 
-def partitions():
-    """Two partitions of N elements into N / 4 classes each, with caps 1 to 3, and weights of all sizes."""
+def weights_of_all_sizes(numbers, n):
+    """A line of N weights."""
+    print('weights', *(numbers.randint(-1, 1) * numbers.randint(0, 10 ** numbers.randint(1, 12)) for _ in range(n)))
+
+
+def partition(numbers, n):
+    """A partition of N elements into N / 4 classes with caps 1 to 3."""
+    elements = list(range(n))
+    numbers.shuffle(elements)
+    count = n // 4
+    print('partition', count)
+    for c in range(count):
+        print('class', numbers.randint(1, 3), *elements[c::count])
+
+
+def graphic(numbers, n):
+    """A graph of N edges on N / 2 vertices."""
+    vertices = n // 2
+    print('graphic', vertices)
+    for _ in range(n):
+        print('edge', numbers.randrange(vertices), numbers.randrange(vertices))
+
+
+def gf2(numbers, n):
+    """N columns of 128 digits."""
+    print('gf2 128')
+    for _ in range(n):
+        print('column', ''.join(numbers.choice('01') for _ in range(128)))
+
+
+def against_a_partition(first):
+    """A matroid of N elements against a partition."""
     n = int(sys.argv[2])
     numbers = random.Random(n)
     print('matroids 1')
     print('pair', n)
-    print('weights', *(numbers.randint(-1, 1) * numbers.randint(0, 10 ** numbers.randint(1, 12)) for _ in range(n)))
-    for _ in range(2):
-        elements = list(range(n))
-        numbers.shuffle(elements)
-        count = n // 4
-        print('partition', count)
-        for c in range(count):
-            print('class', numbers.randint(1, 3), *elements[c::count])
+    weights_of_all_sizes(numbers, n)
+    first(numbers, n)
+    partition(numbers, n)
     print('end')
 
 
-{'list': many_classes, 'junk': junk, 'partitions': partitions}[sys.argv[1]]()
+MATROIDS = {'partitions': partition, 'graphic': graphic, 'gf2': gf2}
+WHOLE = {'list': many_classes, 'junk': junk}
+if sys.argv[1] in WHOLE:
+    WHOLE[sys.argv[1]]()
+else:
+    against_a_partition(MATROIDS[sys.argv[1]])
