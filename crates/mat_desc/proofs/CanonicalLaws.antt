@@ -8,7 +8,7 @@ use Rattle.std.proofs.lemmas.List.Elements.{All-head, All-tail}
 use Rattle.mat_sets.specs.Sets.{IsSet}
 use Rattle.mat_sets.proofs.Ground.{AreDistinct-rising}
 use Rattle.mat_words.specs.Lines.{Line}
-use Rattle.mat_any.specs.Trees.{Tree, uniform, partition, laminar, graphic, gf2}
+use Rattle.mat_any.specs.Trees.{Tree, uniform, partition, laminar, graphic, gf2, dual, truncate, restrict, contract}
 use Rattle.mat_desc.specs.Instances.{Instance, pair, list, graph, rooted, coloured, table}
 use Rattle.mat_desc.specs.Grammar.{Lists, CappedLines, MatroidLines, MatroidsLines, InstanceLines, IsValidTree, IsValidMatroid, IsValid, Spells, end_line}
 use Rattle.mat_desc.specs.Canonical.{capped_lines, matroid_lines, canonical_lines, canonical_text}
@@ -46,6 +46,10 @@ matroid_spelled n (laminar m sets caps) rest valid = (
 )
 matroid_spelled n (graphic vertices edges) rest valid = refl
 matroid_spelled n (gf2 dim columns) rest valid = refl
+matroid_spelled n (dual t) rest valid = (matroid_lines t ++ rest, refl, matroid_spelled n t rest valid)
+matroid_spelled n (truncate cap t) rest valid = (matroid_lines t ++ rest, refl, matroid_spelled n t rest valid.1)
+matroid_spelled n (restrict kept t) rest valid = (kept, matroid_lines t ++ rest, set_lists n kept valid.0, refl, matroid_spelled n t rest valid.1)
+matroid_spelled n (contract away t) rest valid = (away, matroid_lines t ++ rest, set_lists n away valid.0, refl, matroid_spelled n t rest valid.1)
 
 matroids_spelled : (n : ℕ) (matroids : List Tree) (rest : List Line) → All (IsValidMatroid n) matroids → MatroidsLines matroids (flat_map matroid_lines matroids ++ rest) rest
 matroids_spelled n [] rest valid = refl

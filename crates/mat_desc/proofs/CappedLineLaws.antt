@@ -4,7 +4,6 @@ use Rattle.std.proofs.Common.{◌≡◌, ℕ, ◌≤◌, true, false, ◌||◌, 
 use Rattle.std.specs.List.{list_all}
 use Rattle.std.proofs.lemmas.Bool.{and_from}
 use Rattle.mat_sets.specs.Sets.{is_member, IsSet}
-use Rattle.mat_sets.proofs.Ground.{AllBelow-member, AllBelow-from_members}
 use Rattle.mat_words.specs.Words.{is_word}
 use Rattle.mat_words.specs.Numbers.{numerals, numeral}
 use Rattle.mat_words.specs.Lines.{Line}
@@ -15,7 +14,7 @@ use Rattle.mat_desc.specs.Grammar.{Lists}
 use Rattle.mat_desc.proofs.ReadingSteps.{found-same, bind_found}
 use Rattle.mat_desc.proofs.WordLaws.{cut_then, count_found, count_again, numerals_words}
 use Rattle.mat_desc.proofs.LineLaws.{AreLeft, keyed_found, keyed_again}
-use Rattle.mat_desc.proofs.ElementLaws.{with_each, elements_found, elements_again, members_made, members_left, Lists-made, IsSet-made, made-listed}
+use Rattle.mat_desc.proofs.ElementLaws.{with_each, elements_found, Lists-read, IsSet-read, set_again, members_made, members_left}
 
 -- the line of a cap and of elements in any order
 abbrev pub listed_line : List ℕ → ℕ → List ℕ → Line
@@ -52,9 +51,9 @@ capped_read key n taken p cap set left q e =
     let words : line.0.0.words ≡ numeral (pos caps.0.0) ∷ numerals read.xs = cut_then (numeral (pos caps.0.0)) line.0.0.words caps.0.1.words (numerals read.xs) number.cut read.cut in
     let one : IsCappedRead key n taken p caps.0.0 elements.0.0 elements.0.1 line.0.1 = record {
       xs = read.xs;
-      lists = subst (λ (s : List ℕ). Lists read.xs s) (sym read.set_made) (Lists-made read.xs read.distinct);
+      lists = Lists-read n taken caps.0.1.words elements.0.0 elements.0.1 read;
       small = omega (arith, number.most);
-      in_range = subst (λ (s : List ℕ). IsSet n s) (sym read.set_made) (IsSet-made n read.xs read.below);
+      in_range = IsSet-read n taken caps.0.1.words elements.0.0 elements.0.1 read;
       fresh = λ x h. read.fresh x (sym (members_made taken read.xs elements.0.0 read.set_made x) ∙ h);
       taken_left = members_left taken read.xs elements.0.0 elements.0.1 read.set_made read.taken_left;
       spelled = λ rest behind. subst (λ (ws : Line). AreLeft ((key ∷ ws) ∷ rest) p) words (keyed_found key p line.0.0 line.0.1 line.1 rest behind);
@@ -68,7 +67,5 @@ capped_again key n taken p cap set xs rest keyword small in_range lists fresh le
     let words : list_all is_word (numeral (pos cap) ∷ numerals xs) ≡ true = and_from (is_word (numeral (pos cap))) (list_all is_word (numerals xs)) (numeral_word (pos cap)) (numerals_words xs) in
     let line = keyed_again key p (numeral (pos cap) ∷ numerals xs) rest keyword words left in
     let number = count_again 0 501 p.line cap (numerals xs) (omega arith) (omega arith) in
-    let below = AllBelow-from_members n xs (λ k h. AllBelow-member n set k in_range.below (sym (lists.members k) ∙ h)) in
-    let elements = elements_again n p.line taken [] xs lists.distinct below (λ x h. fresh x (sym (lists.members x) ∙ h)) in
-    let made = made-listed n xs set in_range lists in
-    (line.0, rw (line.1, number, elements, made) refl, line.2)
+    let elements = set_again n p.line taken set xs in_range lists fresh in
+    (line.0, rw (line.1, number, elements) refl, line.2)

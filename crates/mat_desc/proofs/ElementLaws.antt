@@ -3,7 +3,7 @@ use Rattle.std.proofs.Common.{◌≡◌, ℕ, Bool, true, false, cond, ◌||◌,
 use Rattle.std.proofs.lemmas.Bool.{cases_Bool, eq-eqb, eqb-true}
 use Rattle.mat_sets.specs.Sets.{is_member, IsRising, AllBelow, IsSet, AreDistinct, with_one}
 use Rattle.mat_sets.proofs.Members.{is_member-with_one, IsRising-with_one, IsRising-nil, same_members}
-use Rattle.mat_sets.proofs.Ground.{AllBelow-member, IsSet-from}
+use Rattle.mat_sets.proofs.Ground.{AllBelow-member, AllBelow-from_members, IsSet-from}
 use Rattle.mat_words.specs.Numbers.{numerals, numeral}
 use Rattle.mat_desc.specs.declared.refusal.DescKind.TheVariants.{Repeated}
 use Rattle.mat_desc.specs.Reading.{count_at, elements_from}
@@ -135,3 +135,17 @@ IsSet-made n xs below = IsSet-from n (with_each [] xs) (IsRising-with_each [] xs
 -- elements that list a set make it
 pub made-listed : (n : ℕ) (xs set : List ℕ) → IsSet n set → Lists xs set → with_each [] xs ≡ set
 made-listed n xs set is_set lists = same_members (with_each [] xs) set (IsRising-with_each [] xs IsRising-nil) is_set.rising (λ k. is_member-made k xs ∙ lists.members k)
+
+-- elements that were read list the set that they make
+pub Lists-read : (n : ℕ) (taken : List ℕ) (words : List (List ℕ)) (set left : List ℕ) (read : AreElementsRead n taken [] words set left) → Lists read.xs set
+Lists-read n taken words set left read = subst (λ (s : List ℕ). Lists read.xs s) (sym read.set_made) (Lists-made read.xs read.distinct)
+
+pub IsSet-read : (n : ℕ) (taken : List ℕ) (words : List (List ℕ)) (set left : List ℕ) → AreElementsRead n taken [] words set left → IsSet n set
+IsSet-read n taken words set left read = subst (λ (s : List ℕ). IsSet n s) (sym read.set_made) (IsSet-made n read.xs read.below)
+
+-- elements that list a set are read as that set
+pub set_again : (n line : ℕ) (taken set xs : List ℕ) → IsSet n set → Lists xs set → ((x : ℕ) → is_member x set ≡ true → is_member x taken ≡ false)
+    → elements_from n line taken [] (numerals xs) ≡ Ok (set, with_each taken xs)
+set_again n line taken set xs in_range lists fresh =
+    let below = AllBelow-from_members n xs (λ k h. AllBelow-member n set k in_range.below (sym (lists.members k) ∙ h)) in
+    elements_again n line taken [] xs lists.distinct below (λ x h. fresh x (sym (lists.members x) ∙ h)) ∙ rw (made-listed n xs set in_range lists) refl

@@ -12,6 +12,7 @@ pub mod CappedLineLaws
 pub mod ClassLaws
 pub mod NestedSetLaws
 pub mod ItemLaws
+pub mod KindLaws
 pub mod MatroidLaws
 pub mod MatroidRows
 pub mod FormLaws

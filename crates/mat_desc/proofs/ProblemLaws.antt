@@ -3,7 +3,7 @@ use Rattle.std.proofs.Common.{◌≡◌, ◌≤◌, ℕ, List, length, ◌⊎◌
 use Rattle.std.specs.List.{All}
 use Rattle.std.proofs.lemmas.List.Elements.{All-weaker}
 use Rattle.mat_sets.specs.Sets.{IsSet, AllBelow}
-use Rattle.mat_any.specs.Trees.{Tree, uniform, partition, laminar, graphic, gf2, element_count, IsSound}
+use Rattle.mat_any.specs.Trees.{Tree, uniform, partition, laminar, graphic, gf2, dual, truncate, restrict, contract, element_count, IsSound}
 use Rattle.mat_desc.specs.declared.refusal.DescRefusal.{DescRefusal}
 use Rattle.mat_desc.specs.declared.refusal.DescRefusal.TheVariants as refusals
 use Rattle.mat_desc.specs.Faults.{Fault, Gives}
@@ -35,6 +35,14 @@ IsSound-valid n (laminar m sets caps) few valid = (
 )
 IsSound-valid n (graphic vertices edges) few valid = (IsGraph-pairs vertices edges (omega (arith, valid.0, few)) valid.3, valid.0)
 IsSound-valid n (gf2 dim columns) few valid = (IsBinaryMatrix-columns dim columns valid.1 valid.2 (omega (arith, valid.0, few)) valid.3, valid.0)
+IsSound-valid n (dual t) few valid = IsSound-valid n t few valid
+IsSound-valid n (truncate cap t) few valid = IsSound-valid n t few valid.1
+IsSound-valid n (restrict kept t) few valid =
+    let within = IsSound-valid n t few valid.1 in
+    ((subst (λ (k : ℕ). IsSet k kept) (sym within.1) valid.0, within.0), within.1)
+IsSound-valid n (contract away t) few valid =
+    let within = IsSound-valid n t few valid.1 in
+    ((subst (λ (k : ℕ). IsSet k away) (sym within.1) valid.0, within.0), within.1)
 
 -- each matroid of a problem in range is sound
 pub IsSoundInstance-valid : (instance : Instance) → IsValid instance → IsSoundInstance instance

@@ -22,6 +22,10 @@ pub enum Keyword {
     Laminar,
     Graphic,
     Gf2,
+    Dual,
+    Truncate,
+    Restrict,
+    Contract,
 }
 
 /// The form that a word names.
@@ -59,6 +63,14 @@ pub fn keyword_from(word: &[u8]) -> Option<Keyword>
         Some(Keyword::Graphic)
     } else if word == b"gf2".as_slice() {
         Some(Keyword::Gf2)
+    } else if word == b"dual".as_slice() {
+        Some(Keyword::Dual)
+    } else if word == b"truncate".as_slice() {
+        Some(Keyword::Truncate)
+    } else if word == b"restrict".as_slice() {
+        Some(Keyword::Restrict)
+    } else if word == b"contract".as_slice() {
+        Some(Keyword::Contract)
     } else {
         None
     }

@@ -3,7 +3,7 @@
 ghost use Rattle.std.specs.Prelude.{◌≡◌, ◌<◌, ◌^◌, [], length, map};
 ghost use Rattle.mat_any.specs.Views.{tree_of};
 ghost use Rattle.mat_desc.specs.Faults.{Gives};
-ghost use Rattle.mat_desc.specs.Reading.{class_at, classes_at, nested_set_at, nested_sets_at, uniform_at, partition_at, laminar_at, graphic_at, gf2_at, matroid_at, repeat_at};
+ghost use Rattle.mat_desc.specs.Reading.{class_at, classes_at, nested_set_at, nested_sets_at, uniform_at, partition_at, laminar_at, graphic_at, gf2_at, dual_at, truncate_at, restrict_at, contract_at, matroid_within, matroid_at, repeat_at};
 ghost use Rattle.mat_desc.specs.Views.{lines_left, words_left};
 
 use crate::cursor::{Lines, Words};
@@ -193,18 +193,105 @@ fn gf2<'a>(
     Ok((AnyMatroid::Gf2(matroid), rest))
 }
 
-/// The next matroid, on `count` elements.
-#[tactic(auto, unfolding(crate::specs::Reading::matroid_at))]
-pub fn next_matroid<'a>(
+/// The dual of a matroid, from the words behind its keyword on. In the matroid within it there is room for `room` matroids within one another.
+#[cycle(reading)]
+#[tactic(auto, unfolding(crate::specs::Reading::dual_at))]
+fn dual<'a>(
     alloc: Global,
+    room: u32,
+    count: u32,
+    words: Words<'a>,
+    lines: Lines<'a>,
+) -> Result<(AnyMatroid, Lines<'a>), DescRefusal>
+    ensures { Gives (λ x. (tree_of x.0, lines_left x.1)) result
+        (dual_at (matroid_within room count) (words_left words.entry) (lines_left lines.entry)) }
+{
+    ended(words)?;
+    let (inner, rest) = next_matroid_within(alloc, room, count, lines)?;
+    let inner = Box::new(alloc, inner)?;
+    Ok((AnyMatroid::Dual(inner), rest))
+}
+
+/// A truncation, from the words behind its keyword on, with `room` as of a dual.
+#[cycle(reading)]
+#[tactic(auto, unfolding(crate::specs::Reading::truncate_at))]
+fn truncation<'a>(
+    alloc: Global,
+    room: u32,
+    count: u32,
+    words: Words<'a>,
+    lines: Lines<'a>,
+) -> Result<(AnyMatroid, Lines<'a>), DescRefusal>
+    ensures { Gives (λ x. (tree_of x.0, lines_left x.1)) result
+        (truncate_at (matroid_within room count) (words_left words.entry) (lines_left lines.entry)) }
+{
+    let (cap, words) = next_count(words, 0, 501)?;
+    ended(words)?;
+    let (inner, rest) = next_matroid_within(alloc, room, count, lines)?;
+    let inner = Box::new(alloc, inner)?;
+    Ok((AnyMatroid::Truncate { cap, inner }, rest))
+}
+
+/// A restriction, from the words behind its keyword on, with `room` as of a dual.
+#[cycle(reading)]
+#[tactic(auto, unfolding(crate::specs::Reading::restrict_at))]
+fn restriction<'a>(
+    alloc: Global,
+    room: u32,
+    count: u32,
+    words: Words<'a>,
+    lines: Lines<'a>,
+) -> Result<(AnyMatroid, Lines<'a>), DescRefusal>
+    ensures { Gives (λ x. (tree_of x.0, lines_left x.1)) result
+        (restrict_at (matroid_within room count) count (words_left words.entry) (lines_left lines.entry)) }
+{
+    let mut taken = ElemSet::new(alloc);
+    let kept = elements_line(alloc, words, count, &mut taken)?;
+    let (inner, rest) = next_matroid_within(alloc, room, count, lines)?;
+    let inner = Box::new(alloc, inner)?;
+    Ok((AnyMatroid::Restrict { kept, inner }, rest))
+}
+
+/// A contraction, from the words behind its keyword on, with `room` as of a dual.
+#[cycle(reading)]
+#[tactic(auto, unfolding(crate::specs::Reading::contract_at))]
+fn contraction<'a>(
+    alloc: Global,
+    room: u32,
+    count: u32,
+    words: Words<'a>,
+    lines: Lines<'a>,
+) -> Result<(AnyMatroid, Lines<'a>), DescRefusal>
+    ensures { Gives (λ x. (tree_of x.0, lines_left x.1)) result
+        (contract_at (matroid_within room count) count (words_left words.entry) (lines_left lines.entry)) }
+{
+    let mut taken = ElemSet::new(alloc);
+    let away = elements_line(alloc, words, count, &mut taken)?;
+    let (inner, rest) = next_matroid_within(alloc, room, count, lines)?;
+    let inner = Box::new(alloc, inner)?;
+    Ok((AnyMatroid::Contract { away, inner }, rest))
+}
+
+/// The next matroid, on `count` elements, in which at most `room` matroids stand within one another. The recursion goes no deeper than that.
+#[cycle(reading)]
+#[tactic(auto, unfolding(crate::specs::Reading::matroid_within))]
+fn next_matroid_within<'a>(
+    alloc: Global,
+    room: u32,
     count: u32,
     lines: Lines<'a>,
 ) -> Result<(AnyMatroid, Lines<'a>), DescRefusal>
     ensures { Gives (λ x. (tree_of x.0, lines_left x.1)) result
-        (matroid_at count (lines_left lines.entry)) }
+        (matroid_within room count (lines_left lines.entry)) }
 {
     let line = lines.line;
     let (words, rest) = next_line(lines)?;
+    if room == 0 {
+        return Err(DescRefusal::Fault {
+            kind: DescKind::TooDeep,
+            line,
+        });
+    }
     let (word, words) = next_word(words)?;
     match keyword_from(word) {
         None => Err(DescRefusal::Fault {
@@ -216,7 +303,23 @@ pub fn next_matroid<'a>(
         Some(Keyword::Laminar) => laminar(alloc, count, words, rest),
         Some(Keyword::Graphic) => graphic(alloc, count, words, rest),
         Some(Keyword::Gf2) => gf2(alloc, count, words, rest),
+        Some(Keyword::Dual) => dual(alloc, room - 1, count, words, rest),
+        Some(Keyword::Truncate) => truncation(alloc, room - 1, count, words, rest),
+        Some(Keyword::Restrict) => restriction(alloc, room - 1, count, words, rest),
+        Some(Keyword::Contract) => contraction(alloc, room - 1, count, words, rest),
     }
+}
+
+/// The next matroid, on `count` elements.
+pub fn next_matroid<'a>(
+    alloc: Global,
+    count: u32,
+    lines: Lines<'a>,
+) -> Result<(AnyMatroid, Lines<'a>), DescRefusal>
+    ensures { Gives (λ x. (tree_of x.0, lines_left x.1)) result
+        (matroid_at count (lines_left lines.entry)) }
+{
+    next_matroid_within(alloc, 16, count, lines)
 }
 
 /// As many matroids, on `count` elements each.

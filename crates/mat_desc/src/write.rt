@@ -2,7 +2,7 @@
 
 ghost use Rattle.std.specs.Prelude.{◌≡◌, ◌++◌, ◌∷◌, [], codes, map, pos, IfOk, OnOk};
 ghost use Rattle.std.specs.List.{zip, flat_map};
-ghost use Rattle.mat_words.specs.Numbers.{numeral};
+ghost use Rattle.mat_words.specs.Numbers.{numeral, numerals};
 ghost use Rattle.mat_words.specs.Lines.{text_of};
 ghost use Rattle.mat_any.specs.Trees.{partition, laminar, graphic, gf2};
 ghost use Rattle.mat_any.specs.Views.{tree_of};
@@ -37,6 +37,18 @@ fn put_line(out: &mut Vec<u8>, keyword: &[u8], numbers: &[i128]) -> Result<(), A
     out.extend_from_slice(keyword)?;
     for z in numbers {
         put_number_word(out, *z)?;
+    }
+    out.push(b'\n')?;
+    Ok(())
+}
+
+/// Appends a line of a keyword and the members of a set.
+fn put_members_line(out: &mut Vec<u8>, keyword: &[u8], set: &[u32]) -> Result<(), AllocError>
+    ensures { OnOk result (out.new.items ≡ out.old.items ++ text_of ((keyword.now ∷ numerals set.now) ∷ [])) }
+{
+    out.extend_from_slice(keyword)?;
+    for x in set {
+        put_number_word(out, i128::from(*x))?;
     }
     out.push(b'\n')?;
     Ok(())
@@ -147,7 +159,7 @@ fn put_gf2(out: &mut Vec<u8>, matroid: &Gf2) -> Result<(), AllocError>
     Ok(())
 }
 
-/// Appends the lines of a matroid.
+/// Appends the lines of a matroid, and behind its line those of the matroid within it, if there is one.
 fn put_matroid(out: &mut Vec<u8>, matroid: &AnyMatroid) -> Result<(), AllocError>
     ensures { OnOk result (out.new.items ≡ out.old.items ++ text_of (matroid_lines (tree_of matroid.now))) }
 {
@@ -157,6 +169,22 @@ fn put_matroid(out: &mut Vec<u8>, matroid: &AnyMatroid) -> Result<(), AllocError
         AnyMatroid::Laminar(laminar) => put_laminar(out, laminar),
         AnyMatroid::Graphic(graphic) => put_graphic(out, graphic),
         AnyMatroid::Gf2(gf2) => put_gf2(out, gf2),
+        AnyMatroid::Dual(inner) => {
+            put_line(out, b"dual", &[])?;
+            put_matroid(out, inner)
+        }
+        AnyMatroid::Truncate { cap, inner } => {
+            put_line(out, b"truncate", &[i128::from(*cap)])?;
+            put_matroid(out, inner)
+        }
+        AnyMatroid::Restrict { kept, inner } => {
+            put_members_line(out, b"restrict", kept.as_slice())?;
+            put_matroid(out, inner)
+        }
+        AnyMatroid::Contract { away, inner } => {
+            put_members_line(out, b"contract", away.as_slice())?;
+            put_matroid(out, inner)
+        }
     }
 }
 
