@@ -28,6 +28,7 @@ table R C E, then E lines cell ROW COLUMN WEIGHT.
 Other matroids: laminar Q, then Q lines set CAP E E .., of which any two are apart or nested; graphic V, then N
 lines edge U W, whose sets are forests; gf2 D, then N lines column BITS of D digits 0 or 1, whose sets have no
 part that adds up to zero.
+Matroids of the matroid that follows: dual; truncate CAP; restrict E E ..; contract E E ..; at most 16 deep.
 
 A certificate has for each size K a rung: its weight, its set, and two lists of numbers that add up to the
 weights, under which the set is heaviest of its size in the first and in the second matroid. The last
