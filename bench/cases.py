@@ -1,5 +1,5 @@
 #!/usr/bin/env python3
-"""Prints a large description: `cases.py list`, `cases.py junk`, or one of `partitions`, `graphic`, `gf2` with a number of elements."""
+"""Prints a large description: `cases.py list`, `cases.py junk`, or one of `partitions`, `graphic`, `gf2`, `dual` with a number of elements."""
 import random
 import sys
 
@@ -63,7 +63,13 @@ def against_a_partition(first):
     print('end')
 
 
-MATROIDS = {'partitions': partition, 'graphic': graphic, 'gf2': gf2}
+def dual(numbers, n):
+    """The dual of a graph of N edges on N / 2 vertices."""
+    print('dual')
+    graphic(numbers, n)
+
+
+MATROIDS = {'partitions': partition, 'graphic': graphic, 'gf2': gf2, 'dual': dual}
 WHOLE = {'list': many_classes, 'junk': junk}
 if sys.argv[1] in WHOLE:
     WHOLE[sys.argv[1]]()

@@ -25,8 +25,10 @@ A description is a text. Each line ends with a newline, and its words have one s
 Other forms, which show reads: list N M, then weights and M matroids; graph V E, then E lines edge U W;
 rooted V E R, then E lines arc T H COST; coloured V E C, then E lines edge U W COLOUR WEIGHT;
 table R C E, then E lines cell ROW COLUMN WEIGHT.
-Other matroids: graphic V, then N lines edge U W, whose sets are forests; gf2 D, then N lines column BITS of
-D digits 0 or 1, whose sets have no part that adds up to zero.
+Other matroids: laminar Q, then Q lines set CAP E E .., of which any two are apart or nested; graphic V, then N
+lines edge U W, whose sets are forests; gf2 D, then N lines column BITS of D digits 0 or 1, whose sets have no
+part that adds up to zero.
+Matroids of the matroid that follows: dual; truncate CAP; restrict E E ..; contract E E ..; at most 16 deep.
 
 A certificate has for each size K a rung: its weight, its set, and two lists of numbers that add up to the
 weights, under which the set is heaviest of its size in the first and in the second matroid. The last
