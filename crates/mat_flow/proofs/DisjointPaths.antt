@@ -3,33 +3,20 @@
 use Rattle.std.proofs.Common.{◌≡◌, ℕ, zero, suc, ◌+◌, ◌<◌, ◌≤◌, ◌≢◌, Bool, true, false, ◌||◌, eqb, List, [], ◌∷◌, ◌++◌, length, get_or, take, Option, Some, None, is_some, inl, inr, refl, sym, ap, ◌∙◌, subst, arith, append_assoc}
 use Rattle.std.proofs.Math.Numerals.{add-one}
 use Rattle.std.specs.List.{All, concat}
-use Rattle.std.proofs.lemmas.Bool.{both_ways, eqb-true, false_from_ne_true, or_cases, or_from, or_left}
+use Rattle.std.proofs.lemmas.Bool.{both_ways, eqb-true, false_from_ne_true, or_cases, or_left}
 use Rattle.std.proofs.lemmas.List.{length_push, take_all}
 use Rattle.std.proofs.lemmas.List.Elements.{All-head, All-nil, All-push, All-tail, All-weaker}
 use Rattle.mat_sets.specs.Sets.{is_member, AreDistinct, IsRising}
-use Rattle.mat_sets.proofs.Members.{is_member-append, is_member-get_or}
+use Rattle.mat_sets.proofs.Members.{is_member-append}
 use Rattle.mat_sets.proofs.Steps.{is_member-take_more, is_member-take_next}
 use Rattle.mat_flow.specs.LinkTables.{entry_at, leads_to, one_if_none, starts_among, IsLinkTable}
 use Rattle.mat_flow.specs.Paths.{first_of, has_arc, last_of, AreDisjointPaths, IsPath, IsPathBetween}
 use Rattle.mat_flow.specs.Trails.{AreTrails, IsReversed, IsTrail, IsTrailAmong}
 use Rattle.mat_flow.proofs.LinkTables.{entry_inside}
-use Rattle.mat_flow.proofs.TrailReading.{AreDistinct-index, trail_differs, trails_meet}
+use Rattle.mat_flow.specs.ListParts.{AreDistinct-append, AreDistinct-index}
+use Rattle.mat_flow.proofs.TrailReading.{trail_differs, trails_meet}
 
 -- ---- lists joined end to end
-
-AreDistinct-append : (xs ys : List ℕ) → AreDistinct xs → AreDistinct ys → ((x : ℕ) → is_member x xs ≡ true → is_member x ys ≡ false)
-    → AreDistinct (xs ++ ys)
-AreDistinct-append [] ys d e apart = e
-AreDistinct-append (x ∷ xs) ys d e apart = (
-  is_member-append x xs ys ∙ or_from (is_member x xs) (is_member x ys) d.0 (apart x (head_member x xs)),
-  AreDistinct-append xs ys d.1 e (λ y m. apart y (tail_member y x xs m)),
-)
-  where
-    head_member : (x : ℕ) (xs : List ℕ) → is_member x (x ∷ xs) ≡ true
-    head_member x xs = is_member-get_or (x ∷ xs) 0 x (omega arith) refl
-
-    tail_member : (y x : ℕ) (xs : List ℕ) → is_member y xs ≡ true → is_member y (x ∷ xs) ≡ true
-    tail_member y x xs m = grind arith
 
 concat-push : (lists : List (List ℕ)) (xs : List ℕ) → concat (lists ++ xs ∷ []) ≡ concat lists ++ xs
 concat-push [] xs = nothing_after xs

@@ -3,21 +3,15 @@
 use Rattle.std.proofs.Common.{◌≡◌, ℕ, zero, suc, ◌+◌, ◌<◌, ◌≤◌, ◌≢◌, true, List, [], ◌∷◌, ◌++◌, length, get_or, set, Option, Some, None, inl, inr, refl, sym, ap, ◌∙◌, subst, arith, length-set}
 use Rattle.std.proofs.lemmas.Bool.{cases_eq, cases_lt}
 use Rattle.std.proofs.lemmas.List.{get_or_past, get_or_append_left, get_or_push, length_push}
-use Rattle.mat_sets.specs.Sets.{is_member, AreDistinct}
+use Rattle.mat_sets.specs.Sets.{is_member}
 use Rattle.mat_sets.proofs.Ground.{AllBelow-from_members, length-distinct_below}
-use Rattle.mat_sets.proofs.Members.{is_member-nowhere, members_by_place, place_of_member}
+use Rattle.mat_sets.proofs.Members.{members_by_place, place_of_member}
 use Rattle.mat_flow.specs.LinkTables.{entry_at}
 use Rattle.mat_flow.specs.Trails.{IsReversed, IsTrail}
 use Rattle.mat_flow.proofs.LinkTables.{entry_set, none_is_not_some, some_is_one}
+use Rattle.mat_flow.specs.ListParts.{AreDistinct-index}
 
 -- ---- lists without repetition
-
-pub AreDistinct-index : (xs : List ℕ) → ((i j : ℕ) → i < j → j < length xs → get_or xs i 0 ≢ get_or xs j 0) → AreDistinct xs
-AreDistinct-index [] h = tt
-AreDistinct-index (x ∷ xs) h = (
-  is_member-nowhere xs x (λ k l e. h 0 (suc k) (omega arith) (omega arith) (sym e)),
-  AreDistinct-index xs (λ i j l m. h (suc i) (suc j) (omega arith) (omega arith)),
-)
 
 -- ---- the table of the vertex after each vertex
 

@@ -79,11 +79,11 @@ impl Digraph {
     }
 
     /// The arcs, as they were handed in.
-    pub fn arcs(&self) -> &[(u32, u32)]
+    pub fn arcs(&self) -> &Pairs
         ensures arcs { result.now ≡ self.now.arcs }
         ensures graph { IsGraph self.now.vertices self.now.arcs }
     {
-        self.arcs.as_slice()
+        &self.arcs
     }
 
     /// The vertex u and the heads of the arcs that leave it.

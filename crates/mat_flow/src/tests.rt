@@ -34,7 +34,7 @@ fn what_was_handed_in_is_read(rt: HostRuntime) -> Result<(), Fail> {
     let graph = short_and_long(alloc)?;
     assert_eq!(rt; graph.vertices(), 7);
     assert_eq!(rt; graph.arcs().len(), 6);
-    assert_eq!(rt; graph.arcs()[4], (3, 6));
+    assert_eq!(rt; graph.arcs().get(4), (3, 6));
     let walk = Walk::new(vec![in alloc; 3, 6, 5]?);
     assert_eq!(rt; walk.len(), 3);
     assert_eq!(rt; walk.get(1), 6);

@@ -24,7 +24,11 @@ fn triangle(alloc: Global) -> Result<Graphic, AllocError>
     ensures edges { IfOk result (λ g. length g.edges ≡ 3) }
     ensures sound { IfOk result (λ g. IsGraph g.vertices g.edges) }
 {
-    Graphic::new(alloc, 3, Pairs::new(vec![in alloc; (0, 1), (1, 2), (0, 2)]?))
+    Graphic::new(
+        alloc,
+        3,
+        Pairs::new(vec![in alloc; (0, 1), (1, 2), (0, 2)]?),
+    )
 }
 
 // An edge with both ends at one vertex, and two parallel edges.
@@ -32,7 +36,11 @@ fn loop_and_parallel_edges(alloc: Global) -> Result<Graphic, AllocError>
     ensures edges { IfOk result (λ g. length g.edges ≡ 3) }
     ensures sound { IfOk result (λ g. IsGraph g.vertices g.edges) }
 {
-    Graphic::new(alloc, 2, Pairs::new(vec![in alloc; (0, 0), (0, 1), (0, 1)]?))
+    Graphic::new(
+        alloc,
+        2,
+        Pairs::new(vec![in alloc; (0, 0), (0, 1), (0, 1)]?),
+    )
 }
 
 #[test]

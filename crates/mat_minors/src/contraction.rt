@@ -35,6 +35,20 @@ impl<M: Matroid> Contraction<M> {
             chosen,
         })
     }
+
+    /// The matroid that is contracted, as it was handed in.
+    pub fn inner(&self) -> &M
+        ensures { result.now ≡ self.now.inner }
+    {
+        &self.inner
+    }
+
+    /// The elements that are contracted, as they were handed in.
+    pub fn away(&self) -> &ElemSet
+        ensures { result.now ≡ self.now.away }
+    {
+        &self.away
+    }
 }
 
 impl<M: Matroid> Matroid for Contraction<M> {

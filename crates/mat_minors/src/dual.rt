@@ -22,6 +22,13 @@ impl<M: Matroid> Dual<M> {
     {
         Dual { inner }
     }
+
+    /// The matroid of which this is the dual, as it was handed in.
+    pub fn inner(&self) -> &M
+        ensures { result.now ≡ self.now.inner }
+    {
+        &self.inner
+    }
 }
 
 impl<M: Matroid> Matroid for Dual<M> {

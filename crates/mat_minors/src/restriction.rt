@@ -26,6 +26,20 @@ impl<M: Matroid> Restriction<M> {
     {
         Restriction { inner, kept }
     }
+
+    /// The matroid that is restricted, as it was handed in.
+    pub fn inner(&self) -> &M
+        ensures { result.now ≡ self.now.inner }
+    {
+        &self.inner
+    }
+
+    /// The elements that are kept, as they were handed in.
+    pub fn kept(&self) -> &ElemSet
+        ensures { result.now ≡ self.now.kept }
+    {
+        &self.kept
+    }
 }
 
 impl<M: Matroid> Matroid for Restriction<M> {

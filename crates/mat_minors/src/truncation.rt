@@ -23,6 +23,20 @@ impl<M: Matroid> Truncation<M> {
     {
         Truncation { inner, cap }
     }
+
+    /// The matroid that is truncated, as it was handed in.
+    pub fn inner(&self) -> &M
+        ensures { result.now ≡ self.now.inner }
+    {
+        &self.inner
+    }
+
+    /// The largest size of an independent set.
+    pub fn cap(&self) -> u32
+        ensures { result ≡ self.now.cap }
+    {
+        self.cap
+    }
 }
 
 impl<M: Matroid> Matroid for Truncation<M> {
