@@ -23,7 +23,8 @@ outside_side : (n : ℕ) (X : List ℕ) (x : ℕ) → is_member x (minus (all_be
 outside_side n X x m = (minus_parts (all_below n) X x m).1
 
 -- a member of X is none of the set
-pub outside_set : (n : ℕ) (p : List ℕ → Bool) (X B : List ℕ) (x : ℕ) → IsMaximal p (minus (all_below n) X) B → is_member x X ≡ true → is_member x B ≡ false
+pub outside_set : (n : ℕ) (p : List ℕ → Bool) (X B : List ℕ) (x : ℕ) → IsMaximal p (minus (all_below n) X) B → is_member x X ≡ true
+    → is_member x B ≡ false
 outside_set n p X B x max m = false_from_ne_true _ (λ k. both_ways _ (outside_side n X x (max.inside.inside x k)) m)
 
 pub IsRefusing-start : (n : ℕ) (p : List ℕ → Bool) (X items none outside set : List ℕ) → none ≡ [] → outside ≡ minus (all_below n) X
@@ -48,7 +49,8 @@ IsRefusing-next n p X items i x set set' at m r fails same = rw same (record { m
 
 module _ {n : ℕ} {p : List ℕ → Bool} (laws : IsMatroid n p) where
   -- no member of X can be added
-  pub dual_where_refused : (X items B : List ℕ) (i : ℕ) → IsSet n X → items ≡ X → length items ≤ i → IsRefusing n p X items i B → is_dual n p X ≡ true
+  pub dual_where_refused : (X items B : List ℕ) (i : ℕ) → IsSet n X → items ≡ X → length items ≤ i → IsRefusing n p X items i B
+      → is_dual n p X ≡ true
   dual_where_refused X items B i set same l r = dual-from laws X (record {
     set = set;
     base = B;

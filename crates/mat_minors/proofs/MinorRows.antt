@@ -26,16 +26,19 @@ filter_rises f I r = record { rises = RisesFrom-filter f 0 I r.rises }
 
 filter_agrees : (f h : ℕ → Bool) (I : List ℕ) → IsRising I → ((y : ℕ) → is_member y I ≡ true → f y ≡ h y) → filter f I ≡ filter h I
 filter_agrees f h I r agree =
-    same_members _ _ (filter_rises f I r) (filter_rises h I r) (λ y. is_member-filter f y I ∙ and_when (is_member y I) (f y) (h y) (agree y) ∙ sym (is_member-filter h y I))
+    same_members _ _ (filter_rises f I r) (filter_rises h I r)
+    (λ y. is_member-filter f y I ∙ and_when (is_member y I) (f y) (h y) (agree y) ∙ sym (is_member-filter h y I))
 
 filter_none : (f : ℕ → Bool) (I : List ℕ) → ((y : ℕ) → f y ≡ false) → filter f I ≡ []
 filter_none f I fails = no_members _ (λ y m. both_ways _ (fails y) (and_parts (is_member y I) (f y) (sym (is_member-filter f y I) ∙ m)).1)
 
 -- the two parts of a row
-addable_of : (p : List ℕ → Bool) (I : List ℕ) (x : ℕ) (row : Exchange) → is_member x I ≡ false → row ≡ row_of p I x → row.addable ≡ p (with_one I x)
+addable_of : (p : List ℕ → Bool) (I : List ℕ) (x : ℕ) (row : Exchange) → is_member x I ≡ false → row ≡ row_of p I x
+    → row.addable ≡ p (with_one I x)
 addable_of p I x row out e = ap (λ r. r.addable) (e ∙ cond-false (is_member x I) _ _ out)
 
-with_of : (p : List ℕ → Bool) (I : List ℕ) (x : ℕ) (row : Exchange) → is_member x I ≡ false → row ≡ row_of p I x → row.with ≡ filter (exchanged p I x) I
+with_of : (p : List ℕ → Bool) (I : List ℕ) (x : ℕ) (row : Exchange) → is_member x I ≡ false → row ≡ row_of p I x
+    → row.with ≡ filter (exchanged p I x) I
 with_of p I x row out e = ap (λ r. r.with) (e ∙ cond-false (is_member x I) _ _ out)
 
 true_and : (b c : Bool) → c ≡ true → b ≡ (b && c)
@@ -87,7 +90,8 @@ has_added J x = grind (arith, set_members)
 pub restricted_row_outside : (p : List ℕ → Bool) (kept I : List ℕ) (x : ℕ) (row : Exchange) → is_member x I ≡ false → is_member x kept ≡ false
     → row.addable ≡ false → row.with ≡ [] → row ≡ row_of (is_restricted kept p) I x
 restricted_row_outside p kept I x row out gone adds exchanges =
-    row_outside (is_restricted kept p) I x row out (adds ∙ sym (fails I)) (exchanges ∙ sym (filter_none (exchanged (is_restricted kept p) I x) I (λ y. fails (without_one I y))))
+    row_outside (is_restricted kept p) I x row out (adds ∙ sym (fails I))
+    (exchanges ∙ sym (filter_none (exchanged (is_restricted kept p) I x) I (λ y. fails (without_one I y))))
   where
     fails : (J : List ℕ) → is_restricted kept p (with_one J x) ≡ false
     fails J = false_from_ne_true _ (λ h.
@@ -171,7 +175,9 @@ module _ {n : ℕ} {p : List ℕ → Bool} (laws : IsMatroid n p) (away B : List
 pub contracted_row_outside : (n : ℕ) (p : List ℕ → Bool) (away X : List ℕ) (x : ℕ) (row : Exchange) → IsRising away → is_member x X ≡ false
     → is_member x away ≡ true → row.addable ≡ false → row.with ≡ [] → row ≡ row_of (is_contracted n away p) X x
 contracted_row_outside n p away X x row r o gone adds exchanges =
-    row_outside (is_contracted n away p) X x row o (adds ∙ sym (fails X)) (exchanges ∙ sym (filter_none (exchanged (is_contracted n away p) X x) X (λ y. fails (without_one X y))))
+    row_outside (is_contracted n away p) X x row o (adds ∙ sym (fails X))
+    (exchanges ∙ sym (filter_none (exchanged (is_contracted n away p) X x) X (λ y. fails (without_one X y))))
   where
     fails : (J : List ℕ) → is_contracted n away p (with_one J x) ≡ false
-    fails J = false_from_ne_true _ (λ h. both_ways _ (apart_at (with_one J x) away (contraction-gives n p away (with_one J x) r h).disjoint x (has_added J x)) gone)
+    fails J = false_from_ne_true _ (λ h.
+        both_ways _ (apart_at (with_one J x) away (contraction-gives n p away (with_one J x) r h).disjoint x (has_added J x)) gone)

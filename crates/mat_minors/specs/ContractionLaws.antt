@@ -26,7 +26,8 @@ pub record IsJoined (n : ℕ) (p : List ℕ → Bool) (away B X : List ℕ) : Ty
   pub joined : p (union X B) ≡ true
 
 -- what the test of the contraction says
-pub contraction-gives : (n : ℕ) (p : List ℕ → Bool) (away X : List ℕ) → IsRising away → is_contracted n away p X ≡ true → IsContractedIndependent n p away X
+pub contraction-gives : (n : ℕ) (p : List ℕ → Bool) (away X : List ℕ) → IsRising away → is_contracted n away p X ≡ true
+    → IsContractedIndependent n p away X
 contraction-gives n p away X r h =
     let joins : List ℕ → Bool = λ B. is_maximal p away B && p (union X B) in
     let tests = and_parts (is_set n X) (eqb (length (intersection X away)) 0 && some_subset away joins) h in

@@ -31,10 +31,12 @@ and_when false b c e = refl
 
 -- disjoint sets share no member
 pub apart_at : (X Y : List ℕ) → intersection X Y ≡ [] → (x : ℕ) → is_member x X ≡ true → is_member x Y ≡ false
-apart_at X Y none x m = false_from_ne_true _ (λ k. false≢true (sym (ap (is_member x) none) ∙ is_member-intersection x X Y ∙ and_from (is_member x X) (is_member x Y) m k))
+apart_at X Y none x m = false_from_ne_true _ (λ k. false≢true (sym (ap (is_member x) none)
+    ∙ is_member-intersection x X Y ∙ and_from (is_member x X) (is_member x Y) m k))
 
 pub apart_from : (X Y : List ℕ) → ((x : ℕ) → is_member x X ≡ true → is_member x Y ≡ false) → intersection X Y ≡ []
-apart_from X Y apart = no_members _ (λ x m. let both = and_parts (is_member x X) (is_member x Y) (sym (is_member-intersection x X Y) ∙ m) in both_ways _ (apart x both.0) both.1)
+apart_from X Y apart = no_members _ (λ x m.
+    let both = and_parts (is_member x X) (is_member x Y) (sym (is_member-intersection x X Y) ∙ m) in both_ways _ (apart x both.0) both.1)
 
 -- a list is a subset exactly where it has no members outside
 pub inside_test : (X Y : List ℕ) → eqb (length (minus X Y)) 0 ≡ true → IsSubset X Y

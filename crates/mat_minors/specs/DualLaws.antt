@@ -49,8 +49,8 @@ module _ {n : ℕ} {p : List ℕ → Bool} (laws : IsMatroid n p) where
         inside = λ x m. minus_from (all_below n) X x (max.inside.inside x m) (apart_at B X h.disjoint x m);
       } in
       and_from (is_set n X) (some_subset (minus (all_below n) X) (is_maximal p (all_below n))) (test_from-IsSet n X h.set)
-      (some_subset_from (minus (all_below n) X) B (is_maximal p (all_below n)) (IsRising-minus (all_below n) X (IsRising-all_below n)) (rising laws B max.passes) outside
-      (is_maximal-from p (all_below n) B max))
+      (some_subset_from (minus (all_below n) X) B (is_maximal p (all_below n)) (IsRising-minus (all_below n) X (IsRising-all_below n)) (rising laws B max.passes)
+      outside (is_maximal-from p (all_below n) B max))
 
   -- no independent set is larger than a base
   pub base_largest : (B J : List ℕ) → IsBase n p B → p J ≡ true → length J ≤ length B
@@ -103,6 +103,7 @@ module _ {n : ℕ} {p : List ℕ → Bool} (laws : IsMatroid n p) where
       out_of_I x (inl m) = (minus_parts j.base I x m).1
       out_of_I x (inr m) = apart_at i.base I i.disjoint x m
 
-      apart_from_both : (B : List ℕ) (y x : ℕ) → is_member y I ≡ false → is_member y B ≡ true → is_member x B ≡ false → is_member y (with_one I x) ≡ false
+      apart_from_both : (B : List ℕ) (y x : ℕ) → is_member y I ≡ false → is_member y B ≡ true → is_member x B ≡ false
+          → is_member y (with_one I x) ≡ false
       apart_from_both B y x out m missing = is_member-with_one y x I
           ∙ ap (λ b. b || is_member y I) (ne_eqb y x (λ same. both_ways _ missing (ap (λ z. is_member z B) (sym same) ∙ m))) ∙ out

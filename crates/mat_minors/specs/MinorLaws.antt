@@ -99,7 +99,8 @@ contracted_laws n p away r laws =
           IsJoined-from laws away B I r b.1 (record {
             set = IsSet-subset n I J rises inside j.set;
             disjoint = apart_from I away (λ x m. apart_at J away j.disjoint x (inside.inside x m));
-            joined = laws.subsets (union I B) (union J B) (IsRising-union I B s) (union-IsSubset I B (union J B) (IsSubset-trans I J _ inside (union-left J B)) (union-right J B)) j.joined;
+            joined = laws.subsets (union I B) (union J B) (IsRising-union I B s)
+                (union-IsSubset I B (union J B) (IsSubset-trans I J _ inside (union-left J B)) (union-right J B)) j.joined;
           });
       augmentation = λ I J passes others less.
           contracted_augmentation laws away B I J r b.1 (IsJoined-gives laws away B I r b.1 passes) (IsJoined-gives laws away B J r b.1 others) less;

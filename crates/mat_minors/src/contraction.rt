@@ -1,7 +1,6 @@
 //! Contractions.
 ghost use Rattle.std.specs.Prelude.{◌≡◌, IfOk};
 ghost use Rattle.mat_sets.specs.Sets.{AllBelow, union};
-ghost use Rattle.mat_laws.specs.Matroids.{IsMaximal};
 ghost use Rattle.mat_minors.specs.Minors.{is_contracted, IsContraction};
 ghost use Rattle.mat_minors.specs.MinorLaws.{contracted_laws};
 

@@ -7,7 +7,8 @@ use Rattle.mat_minors.proofs.contraction.ContractionMatroid.circuit.Goals as goa
 
 pub returns-then-contains-clause-row : goal.returns-then-contains-clause-row
 returns-then-contains-clause-row g c =
-    contracted_row_outside _ (g.M.Matroid.indep c.args.self.now.inner) c.args.self.now.away c.args.base.now c.args.x _ c.requires.sound.1.set.rising c.requires.outside (sym c.contains.ensures.found ∙ c.if-contains.true) refl c.new.ensures.members
+    contracted_row_outside _ (g.M.Matroid.indep c.args.self.now.inner) c.args.self.now.away c.args.base.now c.args.x _
+    c.requires.sound.1.set.rising c.requires.outside (sym c.contains.ensures.found ∙ c.if-contains.true) refl c.new.ensures.members
 
 pub circuit-requires-clause-base : goal.circuit-requires-clause-base
 circuit-requires-clause-base g c =

@@ -23,7 +23,9 @@ add_if_independent-requires-clause-set g c = below (g.met.M.Matroid.laws c.args.
 
 pub add_if_independent-requires-clause-below : goal.add_if_independent-requires-clause-below
 add_if_independent-requires-clause-below g c =
-    AllBelow-at _ _ c.loop-x.x-index (subst (AllBelow (g.M.Matroid.ground_size c.args.self.now.inner)) (sym c.as_slice-x-items.ensures.items) c.requires.below) c.loop-x-test.true
+    AllBelow-at _ _ c.loop-x.x-index
+    (subst (AllBelow (g.M.Matroid.ground_size c.args.self.now.inner)) (sym c.as_slice-x-items.ensures.items) c.requires.below)
+    c.loop-x-test.true
 
 pub returns-then-branch : goal.returns-then-branch
 returns-then-branch g c =
