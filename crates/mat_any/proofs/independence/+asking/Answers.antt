@@ -18,21 +18,25 @@ use Rattle.mat_any.proofs.independence.+asking.Goals as goal
 
 pub add_if_independent-returns-then-not-branch-clause-set : goal.add_if_independent-returns-then-not-branch-clause-set
 add_if_independent-returns-then-not-branch-clause-set t c =
-    c.in_ok-add.ensures.ok.1 ∙ with_one-member _ _ c.in_ok-add.ensures.rose (let new = c.in_ok-add.ensures.ok.0 in let old = c.if-not-branch.true in grind arith)
+    let told = c.in_ok-add.ensures.ok in
+    let old = c.if-not-branch.true in
+    told.1 ∙ with_one-member _ _ c.in_ok-add.ensures.rose (let new = told.0 in grind arith)
 
 pub maximal_subset-loop-x-init : goal.maximal_subset-loop-x-init
 maximal_subset-loop-x-init t c =
-    subst (IsGrowing _ [] _ 0) (sym c.new-base.ensures.members) (IsGrowing-start _ [] _ (tree_laws (tree_of c.args.matroid.now) c.requires.sound).empty)
+    let laws = tree_laws (tree_of c.args.matroid.now) c.requires.sound in
+    subst (IsGrowing _ [] _ 0) (sym c.new-base.ensures.members) (IsGrowing-start _ [] _ laws.empty)
 
 pub maximal_subset-add_if_independent-requires : goal.maximal_subset-add_if_independent-requires
 maximal_subset-add_if_independent-requires t c =
-    let tree = tree_of c.args.matroid.now in (
+    let tree = tree_of c.args.matroid.now in
+    let items = subst (AllBelow (element_count tree)) (sym c.as_slice-x-items.ensures.items) c.requires.below in (
       search rules,
       (
         c.requires.sound,
         (
           below (tree_laws tree c.requires.sound) c.loop-x.base c.loop-x.invariant.passes,
-          AllBelow-at _ _ c.loop-x.x-index (subst (AllBelow (element_count tree)) (sym c.as_slice-x-items.ensures.items) c.requires.below) c.loop-x-test.true,
+          AllBelow-at _ _ c.loop-x.x-index items c.loop-x-test.true,
         ),
       ),
     )
@@ -51,18 +55,20 @@ maximal_subset-returns t c =
 pub dual_independent-maximal_subset-requires : goal.dual_independent-maximal_subset-requires
 dual_independent-maximal_subset-requires t c =
     let n = element_count (tree_of c.args.inner.now) in
-    let outside = c.in_ok-outside.ensures.members ∙ ap (λ E. minus E c.args.set.now) (c.in_ok-all_below.ensures.members ∙ ap all_below c.size_of.ensures) in
+    let all = c.in_ok-all_below.ensures.members ∙ ap all_below c.size_of.ensures in
+    let outside = c.in_ok-outside.ensures.members ∙ ap (λ E. minus E c.args.set.now) all in
     (search rules, (c.requires.sound, subst (AllBelow n) (sym outside) (IsSet-minus n (all_below n) c.args.set.now (IsSet-all_below n)).below))
 
 pub dual_independent-add_if_independent-requires : goal.dual_independent-add_if_independent-requires
 dual_independent-add_if_independent-requires t c =
-    let tree = tree_of c.args.inner.now in (
+    let tree = tree_of c.args.inner.now in
+    let items = subst (AllBelow (element_count tree)) (sym c.as_slice-x-items.ensures.items) c.requires.below in (
       search rules,
       (
         c.requires.sound,
         (
           below (tree_laws tree c.requires.sound) c.loop-x.base c.loop-x.invariant.maximal.passes,
-          AllBelow-at _ _ c.loop-x.x-index (subst (AllBelow (element_count tree)) (sym c.as_slice-x-items.ensures.items) c.requires.below) c.loop-x-test.true,
+          AllBelow-at _ _ c.loop-x.x-index items c.loop-x-test.true,
         ),
       ),
     )
@@ -81,12 +87,14 @@ dual_independent-loop-x-preserved t c =
 
 pub dual_independent-returns : goal.dual_independent-returns
 dual_independent-returns t c =
+    let slice = c.as_slice-x-items.ensures in
     sym (dual_where_refused (tree_laws (tree_of c.args.inner.now) c.requires.sound) c.args.set.now _ c.loop-x.base c.loop-x.x-index
-    (record { rising = c.as_slice-x-items.ensures.rises; below = c.requires.below }) c.as_slice-x-items.ensures.items c.loop-x-test.false c.loop-x.invariant)
+    (record { rising = slice.rises; below = c.requires.below }) slice.items c.loop-x-test.false c.loop-x.invariant)
 
 pub contraction_independent-returns-then-len : goal.contraction_independent-returns-then-len
 contraction_independent-returns-then-len t c =
-    sym (dependent_where_lost _ (is_independent (tree_of c.args.inner.now)) c.args.away.now c.args.set.now c.in_ok-minus.ensures.rises c.requires.away.rising
+    sym (dependent_where_lost _ (is_independent (tree_of c.args.inner.now)) c.args.away.now c.args.set.now
+    c.in_ok-minus.ensures.rises c.requires.away.rising
     (omega (arith, c.if-len.true, c.len-2.ensures.count, c.len-3.ensures.count, ap length c.in_ok-minus.ensures.members)))
 
 pub contraction_independent-independent-requires : goal.contraction_independent-independent-requires

@@ -1,6 +1,6 @@
+use Rattle.std.specs.Prelude.{[]}
 use Rattle.mat_laws.proofs.Growing.{IsGrowing}
 use Rattle.mat_minors.proofs.DualTests.{IsRefusing}
-use Rattle.std.specs.Prelude.{[]}
 use Rattle.mat_any.specs.Trees.{element_count, is_independent}
 use Rattle.mat_any.specs.Views.{tree_of}
 use Rattle.mat_any.proofs.independence.+asking.Given as goal
