@@ -214,6 +214,46 @@ fn sets_are_written_in_rising_order(rt: HostRuntime) -> Result<(), Fail> {
 }
 
 #[test]
+fn matroids_within_one_another_are_written(rt: HostRuntime) -> Result<(), Fail> {
+    let alloc = rt.alloc();
+    let text =
+        b"matroids 1\nlist 3 1\nweights 4 -1 3\nrestrict 2 0\ndual\ncontract 2 1\ntruncate 1\nuniform 2\nend\n";
+    let Ok(problem) = read_problem(alloc, text) else {
+        assert!(rt; false);
+        return Ok(());
+    };
+    let written = write_problem(alloc, &problem)?;
+    assert_eq!(rt;
+        written.as_slice(),
+        b"matroids 1\nlist 3 1\nweights 4 -1 3\nrestrict 0 2\ndual\ncontract 1 2\ntruncate 1\nuniform 2\nend\n".as_slice()
+    );
+    Ok(())
+}
+
+/// A list of one matroid: as many lines `dual`, and these last lines.
+fn text_of_duals(alloc: Global, many: u32, last: &[u8]) -> Result<Vec<u8>, AllocError> {
+    let mut text = Vec::new(alloc);
+    text.extend_from_slice(b"matroids 1\nlist 3 1\nweights 3 2 1\n")?;
+    for _ in 0..many {
+        text.extend_from_slice(b"dual\n")?;
+    }
+    text.extend_from_slice(last)?;
+    Ok(text)
+}
+
+#[test]
+fn at_most_sixteen_matroids_stand_within_one_another(rt: HostRuntime) -> Result<(), Fail> {
+    let alloc = rt.alloc();
+    let sixteen = text_of_duals(alloc, 15, b"uniform 1\nend\n")?;
+    assert_eq!(rt; fault_of(alloc, &sixteen)?, None);
+    let seventeen = text_of_duals(alloc, 16, b"uniform 1\nend\n")?;
+    assert_eq!(rt; fault_of(alloc, &seventeen)?, Some((DescKind::TooDeep, 20)));
+    let unknown = text_of_duals(alloc, 16, b"matroid\n")?;
+    assert_eq!(rt; fault_of(alloc, &unknown)?, Some((DescKind::TooDeep, 20)));
+    Ok(())
+}
+
+#[test]
 fn a_rooted_graph_is_written(rt: HostRuntime) -> Result<(), Fail> {
     let alloc = rt.alloc();
     let text = b"matroids 1\nrooted 3 2 1\narc 1 0 -5\narc 1 2 1000000000000\nend\n";
