@@ -9,7 +9,7 @@ mod restriction;
 mod tests;
 mod truncation;
 
-pub use contraction::{union, Contraction};
+pub use contraction::{Contraction, union};
 pub use dual::Dual;
 pub use restriction::Restriction;
 pub use truncation::Truncation;
