@@ -1,0 +1,6 @@
+//! Gammoids and transversal matroids (Schrijver, chapter 39).
+#![tactic(auto)]
+
+mod laws;
+
+pub use laws::{gammoid_laws, gammoid_means};
