@@ -1,8 +1,7 @@
 -- What the test of a gammoid means, and the laws that it obeys.
-use Rattle.std.proofs.Common.{◌≡◌, ℕ, ◌<◌, true, false, ◌&&◌, List, [], length, map, refl, sym, ap, ◌∙◌, subst}
-use Rattle.std.proofs.lemmas.Bool.{and_from, and_parts, false≢true}
+use Rattle.std.proofs.Common.{◌≡◌, ℕ, ◌<◌, true, List, [], length, refl, subst}
+use Rattle.std.proofs.lemmas.Bool.{and_from, and_parts}
 use Rattle.mat_sets.specs.SetTests.{is_set}
-use Rattle.mat_sets.specs.Sets.{is_member}
 use Rattle.mat_sets.proofs.SetTests.{IsSet-from_test, test_from-IsSet}
 use Rattle.mat_laws.specs.Matroids.{Augments, IsMatroid}
 use Rattle.mat_linked.specs.Gammoids.{has_paths_to, is_gammoid, vertices_of, IsGammoid, IsLinked}

@@ -1,7 +1,7 @@
 -- Gammoids: elements are vertices of a directed graph, and disjoint paths from the sources lead to those of an independent set
 -- (Schrijver, chapter 39).
-use Rattle.std.specs.Prelude.{◌≡◌, ℕ, suc, ◌<◌, ◌^◌, Bool, true, false, not, ◌&&◌, ◌||◌, ◌==◌, List, [], ◌∷◌, ◌++◌, length, map, slice_index_or}
-use Rattle.mat_sets.specs.Sets.{is_member, IsSet, AllBelow, AreDistinct, intersection}
+use Rattle.std.specs.Prelude.{◌≡◌, ℕ, suc, ◌<◌, ◌^◌, Bool, true, false, ◌&&◌, ◌==◌, List, [], ◌∷◌, ◌++◌, length, map, slice_index_or}
+use Rattle.mat_sets.specs.Sets.{is_member, IsSet, AllBelow, AreDistinct}
 use Rattle.mat_sets.specs.SetTests.{is_set}
 use Rattle.mat_sets.specs.Search.{some_below, some_list}
 use Rattle.mat_sets.specs.Graphs.{IsGraph}

@@ -3,3 +3,5 @@ pub mod Gammoids
 pub mod PathSearch
 pub mod LinkedSets
 pub mod GammoidLaws
+pub mod TransversalPaths
+pub mod TransversalLaws

@@ -1,6 +1,6 @@
 -- The search for disjoint paths, one to each vertex of a list, finds some exactly where there are any: a path without repetition has at
 -- most as many vertices as the graph, so it is among the lists that are tried.
-use Rattle.std.proofs.Common.{◌≡◌, ℕ, zero, suc, ◌+◌, ◌<◌, Bool, true, false, not, ◌&&◌, eqb, List, [], ◌∷◌, ◌++◌, length, map, get_or, inl, inr, refl, sym, ap, ◌∙◌, subst, arith}
+use Rattle.std.proofs.Common.{◌≡◌, ℕ, suc, ◌<◌, Bool, true, false, not, ◌&&◌, eqb, List, [], ◌∷◌, ◌++◌, length, map, inl, inr, refl, sym, ap, ◌∙◌, subst, arith}
 use Rattle.std.proofs.lemmas.Bool.{and_from, and_parts, both_ways, eq-eqb, eqb-true, false_from_ne_true, false≢true, not-true, or_cases, or_parts}
 use Rattle.std.proofs.lemmas.List.Elements.{All-cons, All-head, All-nil, All-tail}
 use Rattle.std.specs.List.{All, concat}
@@ -12,7 +12,7 @@ use Rattle.mat_sets.proofs.Members.{is_member-append, is_member-head}
 use Rattle.mat_sets.proofs.Search.{some_below_from, some_below_gives, some_list_from, some_list_gives}
 use Rattle.mat_flow.specs.ListParts.{AreDistinct-append, AreDistinct-apart, AreDistinct-front, AreDistinct-rest, is_member-left, is_member-right, is_member-tail}
 use Rattle.mat_flow.specs.Paths.{first_of, has_arc, last_of, IsPath, IsPathBetween}
-use Rattle.mat_linked.specs.Gammoids.{has_paths_to, is_path, some_list_up_to}
+use Rattle.mat_linked.specs.Gammoids.{has_paths_to, is_path}
 use Rattle.mat_linked.specs.Transversals.{are_distinct}
 
 -- ---- tests of one list

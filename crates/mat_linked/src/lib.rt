@@ -3,4 +3,4 @@
 
 mod laws;
 
-pub use laws::{gammoid_laws, gammoid_means};
+pub use laws::{gammoid_laws, gammoid_means, transversal_laws, transversal_means};
