@@ -67,17 +67,17 @@ module _ (arcs : List (ℕ × ℕ)) (sources targets : List ℕ) where
       IsSet-none = record { rising = record { rises = tt }; below = tt }
 
   -- paths to a set, for other targets among which its vertices are
-  for_more : (more X : List ℕ) → (g : IsLinked arcs sources targets X)
+  pub for_more : (more X : List ℕ) → (g : IsLinked arcs sources targets X)
       → ((v : ℕ) → is_member v (vertices_of targets X) ≡ true → is_member v more ≡ true) → AreDisjointPaths arcs sources more g.paths
   for_more more X g inside =
       AreDisjointPaths-targets arcs sources (vertices_of targets X) more g.paths g.disjoint (λ v m. inside v (ap (is_member v) (sym g.ends) ∙ m))
 
-  size_of : (X : List ℕ) → (g : IsLinked arcs sources targets X) → length g.paths ≡ length X
+  pub size_of : (X : List ℕ) → (g : IsLinked arcs sources targets X) → length g.paths ≡ length X
   size_of X g = sym (length-map g.paths last_of) ∙ ap length g.ends ∙ length-map X (λ e. get_or targets e 0)
 
   module _ (distinct : AreDistinct targets) where
     -- a set is linked where disjoint paths end at all its vertices
-    linked_by : (X all : List ℕ) (paths : List (List ℕ)) → IsSet (length targets) X → AreDisjointPaths arcs sources all paths
+    pub linked_by : (X all : List ℕ) (paths : List (List ℕ)) → IsSet (length targets) X → AreDisjointPaths arcs sources all paths
         → ((v : ℕ) → is_member v (vertices_of targets X) ≡ true → is_member v (map last_of paths) ≡ true) → IsLinked arcs sources targets X
     linked_by X all paths set d inside =
         let p = paths_to_some arcs sources all paths d (vertices_of targets X) (AreDistinct-vertices_of targets X distinct set) inside in

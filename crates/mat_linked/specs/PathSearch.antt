@@ -116,7 +116,7 @@ module _ (vertices : ℕ) (arcs : List (ℕ × ℕ)) (sources : List ℕ) where
       let p = some_list_gives k.0 vertices (is_next taken end ends) k.2 in
       let path = p.0 in
       let a = five_parts (is_path arcs path) (is_member (first_of path) sources) (eqb (last_of path) end) (are_distinct (path ++ taken))
-          (has_paths_to vertices arcs sources (path ++ taken) ends) p.3 in
+      (has_paths_to vertices arcs sources (path ++ taken) ends) p.3 in
       one_path targets taken end ends path (inside end (is_member-head end ends)) (is_path-gives arcs path a.0) a.1
       (eqb-true (last_of path) end a.2) (are_distinct-gives (path ++ taken) a.3)
       (has_paths_to-gives targets (path ++ taken) ends (λ v m. inside v (is_member-tail v end ends m)) a.4)
@@ -133,8 +133,8 @@ module _ (vertices : ℕ) (arcs : List (ℕ × ℕ)) (sources : List ℕ) where
         let below = path_below vertices arcs graph path p.joined (AllBelow-member vertices sources (first_of path) sources_below p.starts) in
         let both = AreDistinct-append path taken own before (λ v m. free v (is_member-left v path (concat paths) m)) in
         let rest = has_paths_to-from targets (path ++ taken) paths (All-tail (IsPathBetween arcs sources targets) path paths each)
-            (AreDistinct-rest path (concat paths) distinct) both
-            (λ v m. apart v (free v (is_member-right v path (concat paths) m)) (false_from_ne_true _ (λ k. both_ways _ (AreDistinct-apart path (concat paths) v distinct k) m))) in
+        (AreDistinct-rest path (concat paths) distinct) both
+        (λ v m. apart v (free v (is_member-right v path (concat paths) m)) (false_from_ne_true _ (λ k. both_ways _ (AreDistinct-apart path (concat paths) v distinct k) m))) in
         let few = length-distinct_below vertices path own below in
         some_below_from (suc vertices) (length path) (λ k. some_list k vertices (is_next taken (last_of path) (map last_of paths))) (omega arith)
         (some_list_from vertices path (is_next taken (last_of path) (map last_of paths)) below

@@ -60,9 +60,9 @@ module _ (n : ℕ) (family : List (List ℕ)) where
       let sources = index_vertices n family in
       let elements = AreDistinct-rising (all_below n) (IsRising-all_below n) in
       let gives : (X : List ℕ) → is_transversal n family X ≡ true → IsLinked arcs sources (all_below n) X =
-          λ X h. IsLinked-transversal n family X (is_transversal-gives X h) in
+      λ X h. IsLinked-transversal n family X (is_transversal-gives X h) in
       let from : (X : List ℕ) → IsLinked arcs sources (all_below n) X → is_transversal n family X ≡ true =
-          λ X g. is_transversal-from X (IsPartialTransversal-linked n family (members_below n family all) X g) in
+      λ X g. is_transversal-from X (IsPartialTransversal-linked n family (members_below n family all) X g) in
       record {
         empty = from [] (linked_nil arcs sources (all_below n));
         subsets = λ I J rising sub ok. from I (linked_subset arcs sources (all_below n) elements I J rising sub (gives J ok));
