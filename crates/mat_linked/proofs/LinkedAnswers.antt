@@ -48,7 +48,7 @@ module _ (vertices : ℕ) (arcs : List (ℕ × ℕ)) (sources targets : List ℕ
       let distinct = AreDistinct-ends arcs sources ends paths linking.disjoint in
       let size = length-distinct (map last_of paths) distinct in
       let same = same_size_subset (ends_of paths) ends (IsRising-union (map last_of paths) [] IsRising-nil) rises
-          (record { inside = λ w k. ended w (sym (is_member-ends_of w paths) ∙ k) }) (omega (arith, length-map paths last_of, size_of_ends)) in
+      (record { inside = λ w k. ended w (sym (is_member-ends_of w paths) ∙ k) }) (omega (arith, length-map paths last_of, size_of_ends)) in
       sym (is_member-ends_of v paths) ∙ ap (is_member v) same ∙ members v ∙ m
 
   enough : is_gammoid vertices arcs sources targets X ≡ true → length paths ≡ length X

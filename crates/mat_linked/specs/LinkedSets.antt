@@ -14,23 +14,16 @@ use Rattle.mat_flow.specs.PathLaws.{at_most_a_separator, one_path_more}
 use Rattle.mat_flow.specs.Paths.{last_of, AreDisjointPaths, HasOnePathMore, IsPathBetween}
 use Rattle.mat_flow.specs.SimplePaths.{ArePathsApart-disjoint}
 use Rattle.mat_linked.specs.Gammoids.{IsLinked, vertices_of}
+use Rattle.mat_linked.specs.MappedLists.{AreDistinct-map, is_member-map, mapped_member}
 
 -- ---- the vertices of a set of elements
 
 pub member_vertex : (targets X : List ℕ) (e : ℕ) → is_member e X ≡ true → is_member (get_or targets e 0) (vertices_of targets X) ≡ true
-member_vertex targets [] e m = absurd (false≢true m)
-member_vertex targets (f ∷ X) e m = elim (or_cases (eqb e f) (is_member e X) m) [
-  | inl same ↦ or_left (eqb (get_or targets e 0) (get_or targets f 0)) _ (eq-eqb _ _ (ap (λ x. get_or targets x 0) (eqb-true e f same)))
-  | inr later ↦ or_right (eqb (get_or targets e 0) (get_or targets f 0)) _ (member_vertex targets X e later)
-]
+member_vertex targets X e m = is_member-map (λ x. get_or targets x 0) X e m
 
 pub vertex_member : (targets X : List ℕ) (v : ℕ) → is_member v (vertices_of targets X) ≡ true
     → (e : ℕ) × (is_member e X ≡ true) × (get_or targets e 0 ≡ v)
-vertex_member targets [] v m = absurd (false≢true m)
-vertex_member targets (f ∷ X) v m = elim (or_cases (eqb v (get_or targets f 0)) (is_member v (vertices_of targets X)) m) [
-  | inl same ↦ (f, is_member-head f X, sym (eqb-true v (get_or targets f 0) same))
-  | inr later ↦ (let w = vertex_member targets X v later in (w.0, is_member-tail w.0 f X w.1, w.2))
-]
+vertex_member targets X v m = mapped_member (λ x. get_or targets x 0) X v m
 
 -- different elements have different vertices
 same_vertex : (targets : List ℕ) (e f : ℕ) → AreDistinct targets → e < length targets → f < length targets
@@ -41,18 +34,10 @@ same_vertex (t ∷ targets) zero (suc f) d l k same = absurd (both_ways _ d.0 (i
 same_vertex (t ∷ targets) (suc e) zero d l k same = absurd (both_ways _ d.0 (is_member-get_or targets e t (omega arith) same))
 same_vertex (t ∷ targets) (suc e) (suc f) d l k same = ap suc (same_vertex targets e f d.1 (omega arith) (omega arith) same)
 
-distinct_vertices : (targets X : List ℕ) → AreDistinct targets → AreDistinct X → ((e : ℕ) → is_member e X ≡ true → e < length targets)
-    → AreDistinct (vertices_of targets X)
-distinct_vertices targets [] d x below = tt
-distinct_vertices targets (e ∷ X) d x below = (
-  false_from_ne_true _ (λ m. (let w = vertex_member targets X (get_or targets e 0) m in
-      let same = same_vertex targets w.0 e d (below w.0 (is_member-tail w.0 e X w.1)) (below e (is_member-head e X)) w.2 in
-      both_ways _ x.0 (ap (λ z. is_member z X) (sym same) ∙ w.1))),
-  distinct_vertices targets X d x.1 (λ f m. below f (is_member-tail f e X m)),
-)
-
 pub AreDistinct-vertices_of : (targets X : List ℕ) → AreDistinct targets → IsSet (length targets) X → AreDistinct (vertices_of targets X)
-AreDistinct-vertices_of targets X d s = distinct_vertices targets X d (AreDistinct-rising X s.rising) (λ e m. below_member s m)
+AreDistinct-vertices_of targets X d s =
+    AreDistinct-map (λ x. get_or targets x 0) X (AreDistinct-rising X s.rising)
+    (λ e f m k same. same_vertex targets e f d (below_member s m) (below_member s k) same)
 
 module _ (arcs : List (ℕ × ℕ)) (sources targets : List ℕ) where
   pub linked_nil : IsLinked arcs sources targets []

@@ -12,6 +12,7 @@ use Rattle.mat_sets.proofs.Members.{is_member-append, is_member-head}
 use Rattle.mat_sets.proofs.Search.{some_below_from, some_below_gives, some_list_from, some_list_gives}
 use Rattle.mat_flow.specs.ListParts.{AreDistinct-append, AreDistinct-apart, AreDistinct-front, AreDistinct-rest, is_member-left, is_member-right, is_member-tail}
 use Rattle.mat_flow.specs.Paths.{first_of, has_arc, last_of, IsPath, IsPathBetween}
+use Rattle.mat_flow.proofs.Rows.{head_below}
 use Rattle.mat_linked.specs.Gammoids.{has_paths_to, is_path}
 use Rattle.mat_linked.specs.Transversals.{are_distinct}
 
@@ -41,21 +42,12 @@ is_path-from arcs (v ∷ w ∷ rest) joined = and_from (has_arc arcs v w) (is_pa
 
 -- ---- the vertices of a path
 
--- an arc is one of the list
-arc_listed : (arcs : List (ℕ × ℕ)) (u v : ℕ) → has_arc arcs u v ≡ true → (e : ℕ) × (e < length arcs) × ((ends_of arcs e).1 ≡ v)
-arc_listed [] u v h = absurd (false≢true h)
-arc_listed (arc ∷ arcs) u v h = elim (or_cases (eqb arc.0 u && eqb arc.1 v) (has_arc arcs u v) h) [
-  | inl here ↦ (0, omega arith, eqb-true arc.1 v (and_parts (eqb arc.0 u) (eqb arc.1 v) here).1)
-  | inr later ↦ (let a = arc_listed arcs u v later in let l = a.1 in (suc a.0, omega arith, a.2))
-]
-
 path_below : (vertices : ℕ) (arcs : List (ℕ × ℕ)) → IsGraph vertices arcs → (path : List ℕ) → IsPath arcs path → first_of path < vertices
     → AllBelow vertices path
 path_below vertices arcs g [] joined first = absurd joined
 path_below vertices arcs g (v ∷ []) joined first = (first, tt)
 path_below vertices arcs g (v ∷ w ∷ rest) joined first =
-    let a = arc_listed arcs v w joined.0 in
-    (first, path_below vertices arcs g (w ∷ rest) joined.1 (subst (λ x. x < vertices) a.2 (g.second a.0 a.1)))
+    (first, path_below vertices arcs g (w ∷ rest) joined.1 (head_below vertices arcs v w g.second joined.0))
 
 -- ---- five tests at once
 
