@@ -5,6 +5,8 @@ mod alternating;
 mod gammoid;
 mod laws;
 mod matching;
+#[cfg(test)]
+mod tests;
 mod transversal;
 
 pub use gammoid::Gammoid;
