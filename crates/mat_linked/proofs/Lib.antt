@@ -1,0 +1,7 @@
+pub mod VertexSets
+pub mod LinkedAnswers
+pub mod MovingOn
+pub mod AugmentedMatchings
+pub mod StuckMatchings
+pub mod MatchableSets
+pub mod IndexRows

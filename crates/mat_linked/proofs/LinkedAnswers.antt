@@ -1,0 +1,90 @@
+-- A set is linked exactly where as many disjoint paths as it has members lead to its vertices: they end at different ones of them, so at
+-- each; and where there are such paths, no separator has fewer vertices than the set has members.
+use Rattle.std.proofs.Common.{◌≡◌, ℕ, ◌+◌, ◌<◌, ◌≤◌, Bool, true, false, ◌||◌, eqb, List, [], length, map, get_or, inl, inr, refl, sym, ap, ◌∙◌, subst, arith}
+use Rattle.std.proofs.lemmas.Bool.{both_ways, cases_Bool, eq-eqb, eqb-true}
+use Rattle.std.proofs.lemmas.List.{length-map}
+use Rattle.mat_sets.specs.Sets.{is_member, union, AllBelow, IsRising, IsSet}
+use Rattle.mat_sets.proofs.Ground.{AllBelow-from_members, AllBelow-member, length-distinct, length-distinct_subset}
+use Rattle.mat_sets.proofs.Members.{IsRising-nil, IsRising-union, is_member-union, same_members}
+use Rattle.mat_sets.proofs.Subsets.{same_size_subset}
+use Rattle.mat_sets.proofs.Sums.{AllBelow-at}
+use Rattle.mat_flow.specs.PathChoices.{ends_are_targets}
+use Rattle.mat_flow.specs.PathFamilies.{AreDistinct-ends, ends_of, is_member-ends_of}
+use Rattle.mat_flow.specs.PathLaws.{at_most_a_separator}
+use Rattle.mat_flow.specs.Paths.{last_of, IsLinking}
+use Rattle.mat_flow.specs.SimplePaths.{ArePathsApart-disjoint}
+use Rattle.mat_linked.specs.GammoidLaws.{is_gammoid-from, is_gammoid-gives}
+use Rattle.mat_linked.specs.Gammoids.{is_gammoid, vertices_of, IsGammoid, LinkedVertices}
+use Rattle.mat_linked.specs.LinkedSets.{AreDistinct-vertices_of, for_more, linked_by, size_of, vertex_member}
+use Rattle.mat_linked.proofs.VertexSets.{length-vertices_of}
+
+module _ (vertices : ℕ) (arcs : List (ℕ × ℕ)) (sources targets : List ℕ) (given : IsGammoid vertices arcs sources targets)
+    (X ends : List ℕ) (set : IsSet (length targets) X) (rises : IsRising ends)
+    (members : (v : ℕ) → is_member v ends ≡ is_member v (vertices_of targets X))
+    (paths : List (List ℕ)) (separator : List ℕ) (linking : IsLinking arcs sources ends paths separator) where
+  size_of_ends : length ends ≡ length X
+  size_of_ends =
+      let vs = vertices_of targets X in
+      ap length (same_members ends (union vs []) rises (IsRising-union vs [] IsRising-nil)
+      (λ v. members v ∙ sym (is_member-union v vs [] ∙ nothing_else (is_member v vs))))
+      ∙ length-distinct vs (AreDistinct-vertices_of targets X given.distinct set) ∙ length-vertices_of targets X
+    where
+      nothing_else : (a : Bool) → (a || false) ≡ a
+      nothing_else true = refl
+      nothing_else false = refl
+
+  -- the last vertices of the paths are ends
+  ended : (v : ℕ) → is_member v (map last_of paths) ≡ true → is_member v ends ≡ true
+  ended = ends_are_targets arcs sources ends paths linking.disjoint.each
+
+  at_most : length paths ≤ length X
+  at_most =
+      let few = length-distinct_subset (map last_of paths) ends (AreDistinct-ends arcs sources ends paths linking.disjoint) rises (record { inside = ended }) in
+      omega (arith, length-map paths last_of, size_of_ends)
+
+  -- as many paths as members end at all ends
+  all_ended : length paths ≡ length X → (v : ℕ) → is_member v (vertices_of targets X) ≡ true → is_member v (map last_of paths) ≡ true
+  all_ended many v m =
+      let distinct = AreDistinct-ends arcs sources ends paths linking.disjoint in
+      let size = length-distinct (map last_of paths) distinct in
+      let same = same_size_subset (ends_of paths) ends (IsRising-union (map last_of paths) [] IsRising-nil) rises
+      (record { inside = λ w k. ended w (sym (is_member-ends_of w paths) ∙ k) }) (omega (arith, length-map paths last_of, size_of_ends)) in
+      sym (is_member-ends_of v paths) ∙ ap (is_member v) same ∙ members v ∙ m
+
+  enough : is_gammoid vertices arcs sources targets X ≡ true → length paths ≡ length X
+  enough h =
+      let g = is_gammoid-gives vertices arcs sources targets X h in
+      let more = for_more arcs sources targets ends X g (λ v m. members v ∙ m) in
+      let few = at_most_a_separator arcs sources ends separator g.paths linking.separates (ArePathsApart-disjoint arcs sources ends g.paths more) in
+      omega (arith, size_of arcs sources targets X g, linking.as_many, at_most)
+
+  pub is_gammoid-counted : eqb (length paths) (length X) ≡ is_gammoid vertices arcs sources targets X
+  is_gammoid-counted = elim (cases_Bool (eqb (length paths) (length X))) [
+    | inl many ↦ many ∙ sym (is_gammoid-from vertices arcs sources targets given X
+        (linked_by arcs sources targets given.distinct X ends paths set linking.disjoint (all_ended (eqb-true _ _ many))))
+    | inr fewer ↦ elim (cases_Bool (is_gammoid vertices arcs sources targets X)) [
+      | inl h ↦ absurd (both_ways _ fewer (eq-eqb _ _ (enough h)))
+      | inr h ↦ fewer ∙ sym h
+    ]
+  ]
+
+-- ---- what the code reads
+
+module _ (inside now : LinkedVertices) (same : inside ≡ now) (X lent read ends : List ℕ) (lends : lent ≡ X) (reads : read ≡ inside.targets)
+    (below : AllBelow (length now.targets) X) (members : (v : ℕ) → is_member v ends ≡ is_member v (vertices_of read lent))
+    (given : IsGammoid now.vertices now.arcs now.sources now.targets) where
+  members_now : (v : ℕ) → is_member v ends ≡ is_member v (vertices_of now.targets X)
+  members_now v =
+      members v ∙ ap (λ t. is_member v (vertices_of t lent)) (reads ∙ ap (λ g. g.targets) same) ∙ ap (λ l. is_member v (vertices_of now.targets l)) lends
+
+  pub ends_below : AllBelow inside.vertices ends
+  ends_below = subst (λ g. AllBelow g.vertices ends) (sym same) (AllBelow-from_members now.vertices ends (λ v m.
+      (let w = vertex_member now.targets X v (sym (members_now v) ∙ m) in
+      subst (λ u. u < now.vertices) w.2 (AllBelow-at now.vertices now.targets w.0 given.targets_inside (AllBelow-member (length now.targets) X w.0 below w.1)))))
+
+  pub is_gammoid-answer : IsRising X → IsRising ends → (paths : List (List ℕ)) (separator : List ℕ) (found size : ℕ)
+      → IsLinking inside.arcs inside.sources ends paths separator → found ≡ length paths → size ≡ length X
+      → eqb found size ≡ is_gammoid now.vertices now.arcs now.sources now.targets X
+  is_gammoid-answer rising rises paths separator found size linking f s =
+      rw (f, s) (is_gammoid-counted now.vertices now.arcs now.sources now.targets given X ends (record { rising = rising; below = below }) rises members_now
+      paths separator (subst (λ g. IsLinking g.arcs g.sources ends paths separator) same linking))

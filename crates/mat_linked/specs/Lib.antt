@@ -1,0 +1,9 @@
+pub mod Transversals
+pub mod Gammoids
+pub mod MappedLists
+pub mod PathSearch
+pub mod LinkedSets
+pub mod GammoidLaws
+pub mod TransversalPaths
+pub mod TransversalLaws
+pub mod Matchings

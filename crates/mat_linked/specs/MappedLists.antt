@@ -1,0 +1,31 @@
+-- Lists whose items a function maps: their members, and that no item stands twice.
+use Rattle.std.proofs.Common.{◌≡◌, ℕ, true, eqb, List, [], ◌∷◌, map, inl, inr, sym, ap, ◌∙◌}
+use Rattle.std.proofs.lemmas.Bool.{both_ways, eq-eqb, eqb-true, false_from_ne_true, false≢true, or_cases, or_left, or_right}
+use Rattle.mat_sets.specs.Sets.{is_member, AreDistinct}
+use Rattle.mat_sets.proofs.Members.{is_member-head}
+use Rattle.mat_flow.specs.ListParts.{is_member-tail}
+
+pub is_member-map : (f : ℕ → ℕ) (xs : List ℕ) (x : ℕ) → is_member x xs ≡ true → is_member (f x) (map f xs) ≡ true
+is_member-map f [] x m = absurd (false≢true m)
+is_member-map f (y ∷ xs) x m = elim (or_cases (eqb x y) (is_member x xs) m) [
+  | inl same ↦ or_left (eqb (f x) (f y)) _ (eq-eqb (f x) (f y) (ap f (eqb-true x y same)))
+  | inr later ↦ or_right (eqb (f x) (f y)) _ (is_member-map f xs x later)
+]
+
+pub mapped_member : (f : ℕ → ℕ) (xs : List ℕ) (v : ℕ) → is_member v (map f xs) ≡ true → (x : ℕ) × (is_member x xs ≡ true) × (f x ≡ v)
+mapped_member f [] v m = absurd (false≢true m)
+mapped_member f (y ∷ xs) v m = elim (or_cases (eqb v (f y)) (is_member v (map f xs)) m) [
+  | inl same ↦ (y, is_member-head y xs, sym (eqb-true v (f y) same))
+  | inr later ↦ (let w = mapped_member f xs v later in (w.0, is_member-tail w.0 y xs w.1, w.2))
+]
+
+-- different items where the function is one to one on them
+pub AreDistinct-map : (f : ℕ → ℕ) (xs : List ℕ) → AreDistinct xs
+    → ((x y : ℕ) → is_member x xs ≡ true → is_member y xs ≡ true → f x ≡ f y → x ≡ y) → AreDistinct (map f xs)
+AreDistinct-map f [] d one = tt
+AreDistinct-map f (x ∷ xs) d one = (
+  false_from_ne_true _ (λ m. (let w = mapped_member f xs (f x) m in
+      let same = one w.0 x (is_member-tail w.0 x xs w.1) (is_member-head x xs) w.2 in
+      both_ways _ d.0 (ap (λ z. is_member z xs) (sym same) ∙ w.1))),
+  AreDistinct-map f xs d.1 (λ y z m k. one y z (is_member-tail y x xs m) (is_member-tail z x xs k)),
+)

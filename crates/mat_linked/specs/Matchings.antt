@@ -1,0 +1,51 @@
+-- Matchings of elements with sets that hold them, as tables that have at each index the element that the set with this index is matched
+-- with (Schrijver, chapters 16 and 22).
+use Rattle.std.specs.Prelude.{◌≡◌, ℕ, zero, suc, ◌+◌, ◌<◌, Bool, true, false, ◌&&◌, nat_lt, List, length, slice_index, Option, Some, None}
+use Rattle.mat_sets.specs.Sets.{is_member, with_one}
+use Rattle.mat_flow.specs.Digraphs.{row_at}
+use Rattle.mat_flow.specs.LinkTables.{entry_at}
+
+-- for each element the indices of the sets that hold it
+pub record AreIndices (count : ℕ) (family rows : List (List ℕ)) : Type 0 where
+  pub long : length rows ≡ count
+  pub members : (x j : ℕ) → x < count → is_member j (row_at rows x) ≡ is_member x (row_at family j)
+
+-- whether there is such an element, and the set with index j holds it
+abbrev pub is_held : List (List ℕ) → Option ℕ → ℕ → Bool
+is_held rows None j = false
+is_held rows (Some x) j = is_member j (row_at rows x)
+
+-- a matching of the members of X: each stands at one index, of a set that holds it, and nothing else stands anywhere
+pub record IsMatching (rows : List (List ℕ)) (X : List ℕ) (matched : List (Option ℕ)) : Type 0 where
+  pub held : (j x : ℕ) → entry_at matched j ≡ Some x → is_member j (row_at rows x) ≡ true
+  pub inside : (j x : ℕ) → entry_at matched j ≡ Some x → is_member x X ≡ true
+  pub covered : (x : ℕ) → is_member x X ≡ true → (j : ℕ) × (entry_at matched j ≡ Some x)
+  pub once : (j k x : ℕ) → entry_at matched j ≡ Some x → entry_at matched k ≡ Some x → j ≡ k
+
+-- an index below `sets` for each member of X, of a set that holds it, and different indices for different members
+pub record AreMatchable (rows : List (List ℕ)) (sets : ℕ) (X : List ℕ) : Type 0 where
+  pub index : ℕ → ℕ
+  pub listed : (x : ℕ) → is_member x X ≡ true → index x < sets
+  pub held : (x : ℕ) → is_member x X ≡ true → is_member (index x) (row_at rows x) ≡ true
+  pub differ : (x y : ℕ) → is_member x X ≡ true → is_member y X ≡ true → index x ≡ index y → x ≡ y
+
+-- where one element more is matched, the table is a matching with it, and else there is none
+abbrev pub IsMatchedOrNone : List (List ℕ) → List ℕ → List (Option ℕ) → Bool → Type 0
+IsMatchedOrNone rows X matched true = IsMatching rows X matched
+IsMatchedOrNone rows X matched false = AreMatchable rows (length matched) X → ⊥
+
+-- what comes to place k of a walk: what stood at the index before, and at the first place the new element
+abbrev pub entry_before : ℕ → List (Option ℕ) → List ℕ → ℕ → Option ℕ
+entry_before element matched walk zero = Some element
+entry_before element matched walk (suc k) = entry_at matched (slice_index walk k)
+
+-- the elements have moved on along a walk, the new one came to its first place, and what stood at its last place is gone
+pub record AreMovedOn (element : ℕ) (walk : List ℕ) (old new : List (Option ℕ)) : Type 0 where
+  pub long : length new ≡ length old
+  pub moved : (k : ℕ) → k < length walk → entry_at new (slice_index walk k) ≡ entry_before element old walk k
+  pub kept : (j : ℕ) → is_member j walk ≡ false → entry_at new j ≡ entry_at old j
+
+-- for each element the indices of those of the first k sets that hold it
+pub record AreEntered (count k : ℕ) (family rows : List (List ℕ)) : Type 0 where
+  pub long : length rows ≡ count
+  pub members : (x j : ℕ) → x < count → is_member j (row_at rows x) ≡ (nat_lt j k && is_member x (row_at family j))

@@ -1,0 +1,51 @@
+//! The graph in which the walks are sought that match one element more.
+
+use mat_sets::{BitSet, Relation};
+
+/// The indices of a family of sets, some of which are matched with elements: an arc leads from an index to those of the sets that
+/// hold the element that it is matched with; starts are the indices of the sets that hold a new element, and goals those that
+/// are not matched (Schrijver, chapter 16).
+#[derive(Drop)]
+pub(crate) struct Alternating<'a> {
+    pub(crate) rows: &'a [BitSet],
+    pub(crate) matched: &'a [Option<u32>],
+    pub(crate) element: u32,
+}
+
+impl Relation for Alternating<'_> {
+    ghost use Rattle.std.specs.Prelude.{ℕ, ◌≡◌, ◌<◌, ◌^◌, length, is_none, Some};
+    ghost use Rattle.mat_sets.specs.Sets.{is_member};
+    ghost use Rattle.mat_flow.specs.Digraphs.{row_at};
+    ghost use Rattle.mat_flow.specs.LinkTables.{entry_at};
+    ghost use Rattle.mat_linked.specs.Matchings.{is_held};
+
+    ghost count = { λ r. length r.matched.now };
+
+    ghost sound = { λ r. (length r.matched.now < 2 ^ 32) × (r.element < length r.rows.now)
+        × ((j x : ℕ) → entry_at r.matched.now j ≡ Some x → x < length r.rows.now) };
+
+    ghost arc = { λ r j. is_held r.rows.now (entry_at r.matched.now j) };
+
+    ghost start = { λ r j. is_member j (row_at r.rows.now r.element) };
+
+    ghost goal = { λ r j. is_none (entry_at r.matched.now j) };
+
+    fn size(&self) -> u32 {
+        self.matched.len() as u32
+    }
+
+    fn is_start(&self, j: u32) -> bool {
+        self.rows[self.element as usize].contains(j)
+    }
+
+    fn is_goal(&self, j: u32) -> bool {
+        self.matched[j as usize].is_none()
+    }
+
+    fn next_arc(&self, j: u32, among: &BitSet, from: u32) -> Option<u32> {
+        match self.matched[j as usize] {
+            Some(x) => among.next_common(&self.rows[x as usize], from),
+            None => None,
+        }
+    }
+}

@@ -1,0 +1,14 @@
+//! Gammoids and transversal matroids (Schrijver, chapter 39).
+#![tactic(auto)]
+
+mod alternating;
+mod gammoid;
+mod laws;
+mod matching;
+#[cfg(test)]
+mod tests;
+mod transversal;
+
+pub use gammoid::Gammoid;
+pub use laws::{gammoid_laws, gammoid_means, transversal_laws, transversal_means};
+pub use transversal::Transversal;

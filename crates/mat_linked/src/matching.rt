@@ -1,0 +1,74 @@
+//! Matchings of elements with sets that hold them, made larger along augmenting walks.
+ghost use Rattle.std.specs.Prelude.{◌≡◌, ◌≢◌, ◌<◌, ◌^◌, ℕ, List, Some, false, length, slice_index, IfOk, OnOk};
+ghost use Rattle.mat_sets.specs.Sets.{is_member, with_one, AllBelow, IsRising};
+ghost use Rattle.mat_flow.specs.LinkTables.{entry_at};
+ghost use Rattle.mat_linked.specs.Matchings.{AreIndices, AreMovedOn, IsMatchedOrNone, IsMatching};
+ghost use Rattle.mat_linked.specs.Transversals.{is_transversal};
+
+use crate::alternating::Alternating;
+use mat_sets::{BitSet, WalkSearch, shortest_walk};
+use std::alloc::{AllocError, Global};
+
+// Moves the element at each index of a walk on to the next index, and puts a new element at the first one.
+fn move_on(matched: &mut Vec<Option<u32>>, walk: &[u32], element: u32)
+    requires below { (i : ℕ) → i < length walk.now → slice_index walk.now i < length matched.old.items }
+    requires differ { (i j : ℕ) → i < j → j < length walk.now → slice_index walk.now i ≢ slice_index walk.now j }
+    ensures { AreMovedOn element walk.now matched.old.items matched.new.items }
+{
+    let mut carried = Some(element);
+    for j in walk {
+        let entry = matched[*j as usize];
+        matched[*j as usize] = carried;
+        carried = entry;
+    }
+}
+
+// Matches one element more, where that can be done, and tells whether it was.
+fn match_one(
+    alloc: Global,
+    rows: &[BitSet],
+    matched: &mut Vec<Option<u32>>,
+    element: u32,
+) -> Result<bool, AllocError>
+    requires element { element < length rows.now }
+    requires below { (j x : ℕ) → entry_at matched.old.items j ≡ Some x → x < length rows.now }
+    requires few { length matched.old.items < 2 ^ 32 }
+    ensures long { OnOk result (length matched.new.items ≡ length matched.old.items) }
+    ensures matched { IfOk result (λ found. (X : List ℕ) → is_member element X ≡ false → IsMatching rows.now X matched.old.items
+        → IsMatchedOrNone rows.now (with_one X element) matched.new.items found) }
+{
+    let search = Alternating {
+        rows,
+        matched,
+        element,
+    };
+    match shortest_walk(alloc, &search)? {
+        WalkSearch::Walk(walk) => {
+            move_on(matched, &walk, element);
+            Ok(true)
+        }
+        WalkSearch::Reached(_) => Ok(false),
+    }
+}
+
+/// Whether the elements of a set can be matched with different sets that hold them, where `rows` has for each element the
+/// indices of the sets that hold it: one search of the bits of the rows for each element. The only error is want of memory.
+pub(crate) fn are_matchable(
+    alloc: Global,
+    rows: &[BitSet],
+    sets: u32,
+    elements: &[u32],
+) -> Result<bool, AllocError>
+    requires below { AllBelow (length rows.now) elements.now }
+    requires rises { IsRising elements.now }
+    ensures { IfOk result (λ b. (family : List (List ℕ)) → length family ≡ sets → AreIndices (length rows.now) family rows.now
+        → b ≡ is_transversal (length rows.now) family elements.now) }
+{
+    let mut matched = vec![in alloc; None; sets as usize]?;
+    for x in elements {
+        if !match_one(alloc, rows, &mut matched, *x)? {
+            return Ok(false);
+        }
+    }
+    Ok(true)
+}

@@ -1,0 +1,124 @@
+//! Transversal matroids.
+ghost use Rattle.std.specs.Prelude.{◌≡◌, ◌<◌, ◌^◌, ◌&&◌, ◌||◌, ◌==◌, ℕ, [], length, IfOk, OnOk};
+ghost use Rattle.std.specs.List.{All};
+ghost use Rattle.mat_sets.specs.Sets.{is_member, AllBelow};
+ghost use Rattle.mat_flow.specs.Digraphs.{row_at};
+ghost use Rattle.mat_linked.specs.Matchings.{AreEntered, AreIndices};
+ghost use Rattle.mat_linked.specs.Transversals.{is_transversal, Family, IsFamily};
+ghost use Rattle.mat_linked.specs.TransversalLaws.{transversal_laws};
+
+use crate::matching::are_matchable;
+use mat_laws::Matroid;
+use mat_sets::{BitSet, ElemSet, SetList};
+use std::alloc::{AllocError, Global};
+use std::marker::Model;
+
+/// The matroid of the partial transversals of a family of sets: a set is independent where its members lie in different sets of
+/// the family, each in one that holds it (Schrijver, chapter 39).
+#[derive(Debug, Drop)]
+pub struct Transversal {
+    count: u32,
+    family: SetList,
+    // At x the indices of the sets that hold the element x.
+    rows: Vec<BitSet>,
+}
+
+impl Model for Transversal {
+    ghost use Rattle.mat_linked.specs.Transversals.{Family};
+    ghost use Rattle.mat_linked.specs.Matchings.{AreIndices};
+
+    ghost Value = { Family };
+
+    ghost view = { λ t. record { count = t.count; sets = t.family } };
+
+    ghost invariant = { λ t. AreIndices t.count t.family t.rows.items };
+}
+
+// No index for each of this many elements.
+fn empty_rows(alloc: Global, count: u32, sets: u32) -> Result<Vec<BitSet>, AllocError>
+    ensures { IfOk result (λ rows. AreEntered count 0 [] rows.items) }
+{
+    let mut rows = Vec::new(alloc);
+    for _ in 0..count {
+        rows.push(BitSet::with_capacity(alloc, sets)?)?;
+    }
+    Ok(rows)
+}
+
+// Puts an index into the row of each of these elements.
+fn enter(rows: &mut Vec<BitSet>, index: u32, elements: &[u32]) -> Result<(), AllocError>
+    requires { AllBelow (length rows.old.items) elements.now }
+    ensures long { OnOk result (length rows.new.items ≡ length rows.old.items) }
+    ensures rows { OnOk result ((x j : ℕ) → x < length rows.old.items
+        → is_member j (row_at rows.new.items x) ≡ (is_member j (row_at rows.old.items x) || (j == index && is_member x elements.now))) }
+{
+    for x in elements {
+        rows[*x as usize].insert(index)?;
+    }
+    Ok(())
+}
+
+// For each element the indices of the sets that hold it.
+fn rows_of(alloc: Global, count: u32, family: &SetList) -> Result<Vec<BitSet>, AllocError>
+    requires inside { All (AllBelow count) family.now }
+    requires few { length family.now < 2 ^ 32 }
+    ensures { IfOk result (λ rows. AreIndices count family.now rows.items) }
+{
+    let mut rows = empty_rows(alloc, count, family.len() as u32)?;
+    for j in 0..family.len() {
+        enter(&mut rows, j as u32, family.get(j).as_slice())?;
+    }
+    Ok(rows)
+}
+
+impl Transversal {
+    /// The transversal matroid of this family on this many elements. It takes a bit for each element and each set. The only error
+    /// is want of memory.
+    pub fn new(alloc: Global, count: u32, family: SetList) -> Result<Transversal, AllocError>
+        requires inside { All (AllBelow count) family }
+        requires few { length family < 2 ^ 32 }
+        ensures value { IfOk result (λ t. t ≡ record { count = count; sets = family }) }
+        ensures sound { IfOk result (λ t. IsFamily t.count t.sets) }
+    {
+        let rows = rows_of(alloc, count, &family)?;
+        Ok(Transversal {
+            count,
+            family,
+            rows,
+        })
+    }
+
+    /// The number of elements.
+    pub fn count(&self) -> u32
+        ensures { result ≡ self.now.count }
+    {
+        self.count
+    }
+
+    /// The sets of the family.
+    pub fn family(&self) -> &SetList
+        ensures { result.now ≡ self.now.sets }
+    {
+        &self.family
+    }
+}
+
+impl Matroid for Transversal {
+    ghost ground_size = { λ m. m.count };
+
+    ghost sound = { λ m. IsFamily m.count m.sets };
+
+    ghost indep = { λ m. is_transversal m.count m.sets };
+
+    ghost laws = { λ m h. transversal_laws m.count m.sets h.inside };
+
+    fn size(&self) -> u32 {
+        self.count
+    }
+
+    /// Whether the members of a set can be matched with different sets of the family: one search of the bits of their rows for
+    /// each member. The only error is want of memory.
+    fn independent(&self, alloc: Global, set: &ElemSet) -> Result<bool, AllocError> {
+        are_matchable(alloc, &self.rows, self.family.len() as u32, set.as_slice())
+    }
+}
