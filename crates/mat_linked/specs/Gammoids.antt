@@ -14,7 +14,7 @@ is_path arcs [] = false
 is_path arcs (v ∷ []) = true
 is_path arcs (v ∷ w ∷ rest) = has_arc arcs v w && is_path arcs (w ∷ rest)
 
--- whether some list of at most `most` numbers below n passes
+-- whether some list of at most `most` numbers below n passes; a path on which no vertex stands twice has at most as many as there are vertices
 abbrev pub some_list_up_to : ℕ → ℕ → (List ℕ → Bool) → Bool
 some_list_up_to most n test = some_below (suc most) (λ k. some_list k n test)
 
@@ -29,11 +29,12 @@ has_paths_to vertices arcs sources taken (end ∷ ends) = some_list_up_to vertic
 abbrev pub vertices_of : List ℕ → List ℕ → List ℕ
 vertices_of targets X = map (λ e. slice_index_or targets e 0) X
 
--- the gammoid: element e is the vertex `targets[e]`
+-- whether X is independent in the gammoid whose element e is the vertex `targets[e]`: disjoint paths lead from the sources to the
+-- vertices of X, one to each
 abbrev pub is_gammoid : ℕ → List (ℕ × ℕ) → List ℕ → List ℕ → List ℕ → Bool
 is_gammoid vertices arcs sources targets X = is_set (length targets) X && has_paths_to vertices arcs sources [] (vertices_of targets X)
 
--- the same in words: as many disjoint paths as X has members, the first to the vertex of the first member, and so on
+-- the same in words, where the sources are vertices of the graph: as many disjoint paths as X has members, the first to the vertex of the first member, and so on
 pub record IsLinked (arcs : List (ℕ × ℕ)) (sources targets X : List ℕ) : Type 0 where
   pub set : IsSet (length targets) X
   pub paths : List (List ℕ)
@@ -47,7 +48,7 @@ pub record LinkedVertices : Type 0 where
   pub sources : List ℕ
   pub targets : List ℕ
 
--- the sources and the targets are vertices, and no two elements have one vertex
+-- the arcs join vertices, the sources are a set of vertices, the elements are different vertices, and there are fewer than 2^32 of them
 pub record IsGammoid (vertices : ℕ) (arcs : List (ℕ × ℕ)) (sources targets : List ℕ) : Type 0 where
   pub graph : IsGraph vertices arcs
   pub sources_inside : IsSet vertices sources

@@ -10,14 +10,14 @@ abbrev pub are_distinct : List ℕ → Bool
 are_distinct [] = true
 are_distinct (x ∷ xs) = not (is_member x xs) && are_distinct xs
 
--- whether the first element lies in the set of the family with the first index, the second in that with the second, and so on
+-- whether there are as many indices as elements, and the first element lies in the set with the first index, and so on
 abbrev pub lie_in_sets : List (List ℕ) → List ℕ → List ℕ → Bool
 lie_in_sets family [] [] = true
 lie_in_sets family [] (j ∷ indices) = false
 lie_in_sets family (x ∷ X) [] = false
 lie_in_sets family (x ∷ X) (j ∷ indices) = is_member x (slice_index_or family j []) && lie_in_sets family X indices
 
--- the transversal matroid on n elements: as many different indices as X has members, each of a set that holds the member
+-- the transversal matroid on n elements: some list of different indices, one for each member in order, names sets that hold the members
 abbrev pub is_transversal : ℕ → List (List ℕ) → List ℕ → Bool
 is_transversal n family X = is_set n X && some_list (length X) (length family) (λ indices. are_distinct indices && lie_in_sets family X indices)
 
