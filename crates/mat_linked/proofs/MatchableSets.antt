@@ -1,13 +1,12 @@
 -- The members of a set can be matched exactly where the set is a partial transversal: the loop matches one after the other, and stops with
 -- a part of the set that cannot be matched.
-use Rattle.std.proofs.Common.{◌≡◌, ℕ, zero, suc, ◌+◌, ◌<◌, ◌≤◌, ◌≢◌, Bool, true, false, ◌&&◌, ◌||◌, eqb, cond, List, [], ◌∷◌, length, get_or, take, replicate, Option, Some, None, inl, inr, refl, sym, ap, ◌∙◌, subst, arith}
-use Rattle.std.proofs.lemmas.Bool.{and_from, and_parts, both_ways, cases_Bool, cond_both, cases_lt, eqb-true, false_from_ne_true, false≢true, or_cases}
+use Rattle.std.proofs.Common.{◌≡◌, ℕ, zero, suc, ◌+◌, ◌<◌, ◌≤◌, Bool, true, false, eqb, cond, List, [], ◌∷◌, length, get_or, take, replicate, Option, Some, None, inl, inr, refl, sym, ap, ◌∙◌, subst}
+use Rattle.std.proofs.lemmas.Bool.{and_from, and_parts, both_ways, cond_both, cases_lt, eqb-true, false_from_ne_true, false≢true, or_cases}
 use Rattle.std.proofs.lemmas.List.{get_or_past, length-replicate, take_all}
-use Rattle.mat_sets.specs.Sets.{is_member, with_one, AllBelow, AreDistinct, IsRising, IsSet, IsSubset}
+use Rattle.mat_sets.specs.Sets.{is_member, with_one, AllBelow, AreDistinct, IsRising, IsSet}
 use Rattle.mat_sets.proofs.Ground.{AllBelow-member, AreDistinct-rising}
 use Rattle.mat_sets.proofs.Members.{is_member-head}
 use Rattle.mat_sets.proofs.Steps.{is_member-take_next, take-with_one}
-use Rattle.mat_flow.specs.Digraphs.{row_at}
 use Rattle.mat_flow.specs.LinkTables.{entry_at}
 use Rattle.mat_flow.specs.ListParts.{is_member-tail}
 use Rattle.mat_flow.proofs.LinkTables.{entry_inside, none_is_not_some, some_is_one}

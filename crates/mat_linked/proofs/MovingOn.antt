@@ -1,5 +1,5 @@
 -- The loop that moves the elements at the indices of a walk on, one index after the other.
-use Rattle.std.proofs.Common.{◌≡◌, ℕ, zero, suc, ◌+◌, ◌<◌, ◌≢◌, List, length, get_or, set, Option, Some, None, inl, inr, refl, sym, ap, ◌∙◌, subst, arith, get_or-set_other, get_or-set_same, length-set}
+use Rattle.std.proofs.Common.{◌≡◌, ℕ, suc, ◌+◌, ◌<◌, ◌≢◌, List, length, get_or, set, Option, Some, None, inl, inr, refl, sym, ◌∙◌, subst, arith, get_or-set_other, get_or-set_same, length-set}
 use Rattle.std.proofs.lemmas.Bool.{both_ways, cases_eq}
 use Rattle.mat_sets.specs.Sets.{is_member}
 use Rattle.mat_sets.proofs.Members.{is_member-get_or}

@@ -1,7 +1,7 @@
 -- Where no augmenting walk is found, the new element and those at the reached indices have reached indices alone, which are fewer than
 -- they: so the element cannot be matched with the others.
-use Rattle.std.proofs.Common.{◌≡◌, ℕ, suc, ◌<◌, ◌≤◌, Bool, true, false, ◌||◌, eqb, List, [], ◌∷◌, length, map, is_none, Option, Some, None, inl, inr, refl, sym, ap, ◌∙◌, subst, arith}
-use Rattle.std.proofs.lemmas.Bool.{both_ways, eq-eqb, eqb-true, false_from_ne_true, false≢true, or_cases, or_left, or_right}
+use Rattle.std.proofs.Common.{◌≡◌, ℕ, suc, true, false, eqb, List, ◌∷◌, length, map, is_none, Option, Some, None, inl, inr, refl, sym, ap, ◌∙◌, subst, arith}
+use Rattle.std.proofs.lemmas.Bool.{both_ways, eq-eqb, eqb-true, false_from_ne_true, or_cases, or_left, or_right}
 use Rattle.std.proofs.lemmas.List.{length-map}
 use Rattle.mat_sets.specs.Sets.{is_member, with_one, AreDistinct}
 use Rattle.mat_sets.specs.Walks.{IsReachedSet}

@@ -1,5 +1,5 @@
 -- A set that items are put into one after the other, and the set of the vertices of some elements.
-use Rattle.std.proofs.Common.{◌≡◌, ℕ, zero, suc, ◌+◌, ◌<◌, ◌≤◌, Bool, ◌||◌, eqb, List, [], length, map, get_or, take, refl, sym, ap, ◌∙◌, arith}
+use Rattle.std.proofs.Common.{◌≡◌, ℕ, ◌+◌, ◌<◌, ◌≤◌, Bool, ◌||◌, eqb, List, [], length, get_or, take, refl, sym, ap, ◌∙◌, arith}
 use Rattle.std.proofs.lemmas.List.{get_or-map, length-map, take_all}
 use Rattle.mat_sets.specs.Sets.{is_member, with_one, IsRising}
 use Rattle.mat_sets.proofs.Members.{IsRising-nil, IsRising-with_one, is_member-with_one}

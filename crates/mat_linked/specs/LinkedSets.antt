@@ -2,13 +2,13 @@
 -- the larger. For where there is not one path more, a separator has as many vertices as the smaller set has members, and the paths to
 -- the larger set are no more.
 use Rattle.std.proofs.Common.{◌≡◌, ℕ, zero, suc, ◌<◌, true, false, ◌||◌, eqb, List, [], ◌∷◌, ◌++◌, length, map, get_or, inl, inr, refl, sym, ap, ◌∙◌, arith}
-use Rattle.std.proofs.lemmas.Bool.{both_ways, eq-eqb, eqb-true, false_from_ne_true, false≢true, or_cases, or_left, or_right}
+use Rattle.std.proofs.lemmas.Bool.{both_ways, eq-eqb, eqb-true, false_from_ne_true, or_cases, or_left, or_right}
 use Rattle.std.proofs.lemmas.List.{length-map}
 use Rattle.std.proofs.lemmas.List.Elements.{All-nil}
 use Rattle.mat_sets.specs.Sets.{is_member, with_one, AreDistinct, IsRising, IsSet, IsSubset}
 use Rattle.mat_sets.proofs.Ground.{AreDistinct-rising, IsSet-subset, IsSet-with_one, below_member}
-use Rattle.mat_sets.proofs.Members.{is_member-append, is_member-get_or, is_member-head, is_member-with_one}
-use Rattle.mat_flow.specs.ListParts.{is_member-left, is_member-right, is_member-tail}
+use Rattle.mat_sets.proofs.Members.{is_member-append, is_member-get_or, is_member-with_one}
+use Rattle.mat_flow.specs.ListParts.{is_member-left, is_member-right}
 use Rattle.mat_flow.specs.PathChoices.{AreDisjointPaths-targets, ends_are_targets, paths_to_some}
 use Rattle.mat_flow.specs.PathLaws.{at_most_a_separator, one_path_more}
 use Rattle.mat_flow.specs.Paths.{last_of, AreDisjointPaths, HasOnePathMore, IsPathBetween}

@@ -1,7 +1,7 @@
 -- Matchings of elements with sets that hold them, as tables that have at each index the element that the set with this index is matched
 -- with (Schrijver, chapters 16 and 22).
-use Rattle.std.specs.Prelude.{◌≡◌, ℕ, zero, suc, ◌+◌, ◌<◌, Bool, true, false, ◌&&◌, nat_lt, List, length, slice_index, Option, Some, None}
-use Rattle.mat_sets.specs.Sets.{is_member, with_one}
+use Rattle.std.specs.Prelude.{◌≡◌, ℕ, zero, suc, ◌<◌, Bool, true, false, ◌&&◌, nat_lt, List, length, slice_index, Option, Some, None}
+use Rattle.mat_sets.specs.Sets.{is_member}
 use Rattle.mat_flow.specs.Digraphs.{row_at}
 use Rattle.mat_flow.specs.LinkTables.{entry_at}
 

@@ -1,10 +1,10 @@
 -- The search for disjoint paths, one to each vertex of a list, finds some exactly where there are any: a path without repetition has at
 -- most as many vertices as the graph, so it is among the lists that are tried.
-use Rattle.std.proofs.Common.{◌≡◌, ℕ, suc, ◌<◌, Bool, true, false, not, ◌&&◌, eqb, List, [], ◌∷◌, ◌++◌, length, map, inl, inr, refl, sym, ap, ◌∙◌, subst, arith}
+use Rattle.std.proofs.Common.{◌≡◌, ℕ, suc, ◌<◌, Bool, true, false, not, ◌&&◌, eqb, List, [], ◌∷◌, ◌++◌, length, map, inl, inr, refl, sym, ap, ◌∙◌, arith}
 use Rattle.std.proofs.lemmas.Bool.{and_from, and_parts, both_ways, eq-eqb, eqb-true, false_from_ne_true, false≢true, not-true, or_cases, or_parts}
 use Rattle.std.proofs.lemmas.List.Elements.{All-cons, All-head, All-nil, All-tail}
 use Rattle.std.specs.List.{All, concat}
-use Rattle.mat_sets.specs.Graphs.{IsGraph, ends_of}
+use Rattle.mat_sets.specs.Graphs.{IsGraph}
 use Rattle.mat_sets.specs.Search.{some_list}
 use Rattle.mat_sets.specs.Sets.{is_member, AllBelow, AreDistinct}
 use Rattle.mat_sets.proofs.Ground.{AllBelow-member, length-distinct_below}

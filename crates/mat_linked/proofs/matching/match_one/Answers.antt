@@ -1,4 +1,4 @@
-use Rattle.std.proofs.Common.{length, refl, sym, ap}
+use Rattle.std.proofs.Common.{length, ap}
 use Rattle.mat_linked.proofs.AugmentedMatchings.{augmented, walk_differs}
 use Rattle.mat_linked.proofs.StuckMatchings.{stuck}
 use Rattle.mat_linked.proofs.matching.match_one.Goals as goal
