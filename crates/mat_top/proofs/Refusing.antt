@@ -1,6 +1,6 @@
 -- Where there is a text for what was read, it is one for the bytes and for the file; and where there is none, why.
-use Rattle.std.proofs.Common.{◌≡◌, ℕ, ◌<◌, ◌≤◌, List, length, Option, Some, None, Err, sym, subst}
-use Rattle.std.specs.Prelude.{IfSome}
+use Rattle.std.proofs.Common.{◌≡◌, ℕ, ◌<◌, ◌≤◌, List, length, Option, Some, None, Result, Ok, Err, IfOk, sym, subst}
+use Rattle.std.specs.Prelude.{IfSome, IfErr}
 use Rattle.mat_desc.specs.declared.refusal.DescKind.{DescKind}
 use Rattle.mat_desc.specs.declared.refusal.DescRefusal.{DescRefusal}
 use Rattle.mat_desc.specs.declared.refusal.DescRefusal.TheVariants as faults
@@ -28,6 +28,17 @@ unanswered line bytes instance refusals.ReadFault within spelled none = absurd n
 unanswered line bytes instance refusals.WriteFault within spelled none = absurd none
 unanswered line bytes instance refusals.TooLong within spelled none = absurd none
 unanswered line bytes instance (refusals.BadDescription kind number) within spelled none = absurd none
+
+-- the text that was found for the problem that they spell, or why there is none
+pub answer_found : {X : Type 0} (line : CommandLine) (bytes : List ℕ) (instance : Instance) (found : Result X Refusal) (text_of : X → List ℕ) → length bytes ≤ description_limit → Spells bytes instance
+    → IfOk found (λ x. HasText line instance (text_of x)) → IfOk found (λ x. IsAnswerTo line bytes (text_of x))
+answer_found line bytes instance (Ok x) text_of within spelled has = answered line bytes instance (text_of x) within spelled has
+answer_found line bytes instance (Err refusal) text_of within spelled has = tt
+
+pub answer_refused : {X : Type 0} (line : CommandLine) (bytes : List ℕ) (instance : Instance) (found : Result X Refusal) → length bytes ≤ description_limit → Spells bytes instance
+    → IfErr found (λ e. HasNoText line instance e) → IfErr found (λ e. IsCause line bytes e)
+answer_refused line bytes instance (Ok x) within spelled none = tt
+answer_refused line bytes instance (Err refusal) within spelled none = unanswered line bytes instance refusal within spelled none
 
 -- a fault of the bytes
 pub faulty : (bytes : List ℕ) (refusal : DescRefusal) (kind : DescKind) (number : ℕ) → length bytes ≤ description_limit → refusal ≡ faults.Fault kind number → Fails refusal (read_of bytes) → IsFaulty bytes (kind, number)
