@@ -1,5 +1,5 @@
 #!/usr/bin/env python3
-"""Prints a large description: `cases.py list`, `cases.py junk`, or one of `partitions`, `graphic`, `gf2`, `dual` with a number of elements."""
+"""Prints a large description: `cases.py list`, `cases.py junk`, or one of `partitions`, `graphic`, `gf2`, `transversal`, `gammoid`, `dual` with a number of elements."""
 import random
 import sys
 
@@ -63,13 +63,30 @@ def against_a_partition(first):
     print('end')
 
 
+def transversal(numbers, n):
+    """N sets of 50 elements, or of half the elements."""
+    print('transversal', n)
+    for _ in range(n):
+        print('set', *numbers.sample(range(n), min(50, n // 2)))
+
+
+def gammoid(numbers, n):
+    """A directed graph of 2 N vertices and 20 N arcs, with N / 2 sources and N targets."""
+    vertices = 2 * n
+    print('gammoid', vertices, 20 * n)
+    print('sources', *numbers.sample(range(vertices), n // 2))
+    print('targets', *numbers.sample(range(vertices), n))
+    for _ in range(20 * n):
+        print('arc', numbers.randrange(vertices), numbers.randrange(vertices))
+
+
 def dual(numbers, n):
     """The dual of a graph of N edges on N / 2 vertices."""
     print('dual')
     graphic(numbers, n)
 
 
-MATROIDS = {'partitions': partition, 'graphic': graphic, 'gf2': gf2, 'dual': dual}
+MATROIDS = {'partitions': partition, 'graphic': graphic, 'gf2': gf2, 'transversal': transversal, 'gammoid': gammoid, 'dual': dual}
 WHOLE = {'list': many_classes, 'junk': junk}
 if sys.argv[1] in WHOLE:
     WHOLE[sys.argv[1]]()

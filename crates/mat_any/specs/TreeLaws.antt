@@ -8,8 +8,10 @@ use Rattle.mat_count.specs.LaminarLaws.{counted_laws}
 use Rattle.mat_graphic.specs.ForestLaws.{graphic_laws}
 use Rattle.mat_gf2.specs.Columns.{column_of}
 use Rattle.mat_gf2.specs.Gf2Laws.{gf2_laws}
+use Rattle.mat_linked.specs.TransversalLaws.{transversal_laws}
+use Rattle.mat_linked.specs.GammoidLaws.{gammoid_laws}
 use Rattle.mat_minors.specs.MinorLaws.{dual_laws, truncated_laws, restricted_laws, contracted_laws}
-use Rattle.mat_any.specs.Trees.{Tree, uniform, partition, laminar, graphic, gf2, dual, truncate, restrict, contract, element_count, is_independent, IsSound}
+use Rattle.mat_any.specs.Trees.{Tree, uniform, partition, laminar, graphic, transversal, gammoid, gf2, dual, truncate, restrict, contract, element_count, is_independent, IsSound}
 
 -- by cases on the kind
 pub tree_laws : (t : Tree) → IsSound t → IsMatroid (element_count t) (is_independent t)
@@ -17,6 +19,8 @@ tree_laws (uniform n cap) sound = uniform_laws n cap
 tree_laws (partition n classes caps) sound = partition_laws n classes caps sound
 tree_laws (laminar n sets caps) sound = counted_laws n sets caps sound.family
 tree_laws (graphic vertices edges) sound = graphic_laws (length edges) (ends_of edges)
+tree_laws (transversal n family) sound = transversal_laws n family sound.inside
+tree_laws (gammoid vertices arcs sources targets) sound = gammoid_laws vertices arcs sources targets sound
 tree_laws (gf2 dim columns) sound = gf2_laws (length columns) (column_of columns)
 tree_laws (dual t) sound = dual_laws (element_count t) (is_independent t) (tree_laws t sound)
 tree_laws (truncate cap t) sound = truncated_laws (element_count t) (is_independent t) cap (tree_laws t sound)

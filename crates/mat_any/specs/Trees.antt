@@ -7,6 +7,8 @@ use Rattle.mat_count.specs.Partitions.{IsPartition}
 use Rattle.mat_count.specs.LaminarMatroids.{IsLaminar}
 use Rattle.mat_graphic.specs.Forests.{is_graphic}
 use Rattle.mat_gf2.specs.Columns.{IsBinaryMatrix, column_of, is_gf2}
+use Rattle.mat_linked.specs.Transversals.{is_transversal, IsFamily}
+use Rattle.mat_linked.specs.Gammoids.{is_gammoid, IsGammoid}
 use Rattle.mat_minors.specs.Minors.{is_dual, is_truncated, is_restricted, is_contracted}
 
 -- a matroid of any kind, as its keyword with numbers, sets and children
@@ -19,6 +21,10 @@ pub data Tree : Type 0 where
   laminar : ℕ → List (List ℕ) → List ℕ → Tree
   -- the number of vertices, and the ends of each edge
   graphic : ℕ → List (ℕ × ℕ) → Tree
+  -- the number of elements, and the sets of a family
+  transversal : ℕ → List (List ℕ) → Tree
+  -- the number of vertices, the tail and the head of each arc, the sources, and the vertex of each element
+  gammoid : ℕ → List (ℕ × ℕ) → List ℕ → List ℕ → Tree
   -- the number of entries of a column, and the columns as binary numbers
   gf2 : ℕ → List ℕ → Tree
   -- the dual of a matroid
@@ -36,6 +42,8 @@ element_count (uniform n cap) = n
 element_count (partition n classes caps) = n
 element_count (laminar n sets caps) = n
 element_count (graphic vertices edges) = length edges
+element_count (transversal n family) = n
+element_count (gammoid vertices arcs sources targets) = length targets
 element_count (gf2 dim columns) = length columns
 element_count (dual t) = element_count t
 element_count (truncate cap t) = element_count t
@@ -48,6 +56,8 @@ is_independent (uniform n cap) = is_uniform n cap
 is_independent (partition n classes caps) = is_counted n classes caps
 is_independent (laminar n sets caps) = is_counted n sets caps
 is_independent (graphic vertices edges) = is_graphic (length edges) (ends_of edges)
+is_independent (transversal n family) = is_transversal n family
+is_independent (gammoid vertices arcs sources targets) = is_gammoid vertices arcs sources targets
 is_independent (gf2 dim columns) = is_gf2 (length columns) (column_of columns)
 is_independent (dual t) = is_dual (element_count t) (is_independent t)
 is_independent (truncate cap t) = is_truncated cap (is_independent t)
@@ -60,6 +70,8 @@ IsSound (uniform n cap) = Unit {0}
 IsSound (partition n classes caps) = IsPartition n classes caps
 IsSound (laminar n sets caps) = IsLaminar n sets caps
 IsSound (graphic vertices edges) = IsGraph vertices edges
+IsSound (transversal n family) = IsFamily n family
+IsSound (gammoid vertices arcs sources targets) = IsGammoid vertices arcs sources targets
 IsSound (gf2 dim columns) = IsBinaryMatrix dim columns
 IsSound (dual t) = IsSound t
 IsSound (truncate cap t) = IsSound t
@@ -72,6 +84,8 @@ depth (uniform n cap) = 1
 depth (partition n classes caps) = 1
 depth (laminar n sets caps) = 1
 depth (graphic vertices edges) = 1
+depth (transversal n family) = 1
+depth (gammoid vertices arcs sources targets) = 1
 depth (gf2 dim columns) = 1
 depth (dual t) = suc (depth t)
 depth (truncate cap t) = suc (depth t)

@@ -8,6 +8,7 @@ use mat_count::{Laminar, Partition, Uniform};
 use mat_gf2::Gf2;
 use mat_graphic::Graphic;
 use mat_laws::{Exchange, Matroid};
+use mat_linked::{Gammoid, Transversal};
 use mat_sets::ElemSet;
 use std::alloc::{AllocError, Global};
 
@@ -18,6 +19,8 @@ pub enum AnyMatroid {
     Partition(Partition),
     Laminar(Laminar),
     Graphic(Graphic),
+    Transversal(Transversal),
+    Gammoid(Gammoid),
     Gf2(Gf2),
     /// The dual of a matroid.
     Dual(Box<AnyMatroid>),
@@ -61,6 +64,8 @@ impl Matroid for AnyMatroid {
             AnyMatroid::Partition(matroid) => matroid.circuit(alloc, base, x),
             AnyMatroid::Laminar(matroid) => matroid.circuit(alloc, base, x),
             AnyMatroid::Graphic(matroid) => matroid.circuit(alloc, base, x),
+            AnyMatroid::Transversal(matroid) => matroid.circuit(alloc, base, x),
+            AnyMatroid::Gammoid(matroid) => matroid.circuit(alloc, base, x),
             AnyMatroid::Gf2(matroid) => matroid.circuit(alloc, base, x),
             AnyMatroid::Dual(_)
             | AnyMatroid::Truncate { .. }

@@ -22,6 +22,8 @@ pub(crate) fn size_of(matroid: &AnyMatroid) -> u32
         AnyMatroid::Partition(partition) => partition.size(),
         AnyMatroid::Laminar(laminar) => laminar.size(),
         AnyMatroid::Graphic(graphic) => graphic.size(),
+        AnyMatroid::Transversal(transversal) => transversal.size(),
+        AnyMatroid::Gammoid(gammoid) => gammoid.size(),
         AnyMatroid::Gf2(gf2) => gf2.size(),
         AnyMatroid::Dual(inner) => size_of(inner),
         AnyMatroid::Truncate { inner, .. } => size_of(inner),
@@ -47,6 +49,8 @@ pub(crate) fn independent(
         AnyMatroid::Partition(partition) => partition.independent(alloc, set),
         AnyMatroid::Laminar(laminar) => laminar.independent(alloc, set),
         AnyMatroid::Graphic(graphic) => graphic.independent(alloc, set),
+        AnyMatroid::Transversal(transversal) => transversal.independent(alloc, set),
+        AnyMatroid::Gammoid(gammoid) => gammoid.independent(alloc, set),
         AnyMatroid::Gf2(gf2) => gf2.independent(alloc, set),
         AnyMatroid::Dual(inner) => dual_independent(alloc, inner, set),
         AnyMatroid::Truncate { cap, inner } => {

@@ -57,13 +57,10 @@ fn kept_and_truncated(alloc: Global, cap: u32) -> Result<AnyMatroid, AllocError>
 
 #[test]
 #[tactic(auto, unfolding(mat_sets::specs::Sets::all_below))]
-fn asks_the_kind(rt: HostRuntime) -> Result<(), Fail> {
+fn asks_a_partition(rt: HostRuntime) -> Result<(), Fail> {
     let alloc = rt.alloc();
     let none = ElemSet::new(alloc);
     let first = ElemSet::all_below(alloc, 1)?;
-    let one_of_two = AnyMatroid::Uniform(Uniform::new(2, 1));
-    assert_eq!(rt; one_of_two.size(), 2);
-    assert!(rt; one_of_two.independent(alloc, &first)?);
     let without_first = without_first(alloc)?;
     assert_eq!(rt; without_first.size(), 2);
     assert!(rt; without_first.independent(alloc, &none)?);
@@ -73,10 +70,8 @@ fn asks_the_kind(rt: HostRuntime) -> Result<(), Fail> {
 
 #[test]
 #[tactic(auto, unfolding(mat_sets::specs::Sets::all_below))]
-fn asks_within_the_kind(rt: HostRuntime) -> Result<(), Fail> {
+fn asks_within_a_dual(rt: HostRuntime) -> Result<(), Fail> {
     let alloc = rt.alloc();
-    let none = ElemSet::new(alloc);
-    let first = ElemSet::all_below(alloc, 1)?;
     let two = ElemSet::all_below(alloc, 2)?;
     let dual_of_dual = dual_of_dual(alloc)?;
     assert_eq!(rt; dual_of_dual.size(), 3);
@@ -86,12 +81,36 @@ fn asks_within_the_kind(rt: HostRuntime) -> Result<(), Fail> {
     let row = dual_of_dual.circuit(alloc, &two, 2)?;
     assert!(rt; !row.addable);
     assert!(rt; row.with == two);
+    Ok(())
+}
+
+#[test]
+#[tactic(auto, unfolding(mat_sets::specs::Sets::all_below))]
+fn asks_within_a_contraction(rt: HostRuntime) -> Result<(), Fail> {
+    let alloc = rt.alloc();
     let contracted = contracted_whole(alloc)?;
-    assert!(rt; contracted.independent(alloc, &none)?);
-    assert!(rt; !contracted.independent(alloc, &first)?);
+    assert!(rt; contracted.independent(alloc, &ElemSet::new(alloc))?);
+    assert!(rt; !contracted.independent(alloc, &ElemSet::all_below(alloc, 1)?)?);
+    Ok(())
+}
+
+#[test]
+#[tactic(auto, unfolding(mat_sets::specs::Sets::all_below))]
+fn asks_within_a_restriction(rt: HostRuntime) -> Result<(), Fail> {
+    let alloc = rt.alloc();
+    let first = ElemSet::all_below(alloc, 1)?;
+    let two = ElemSet::all_below(alloc, 2)?;
     let kept = kept_and_truncated(alloc, 1)?;
     assert!(rt; kept.independent(alloc, &first)?);
     assert!(rt; !kept.independent(alloc, &two)?);
-    assert!(rt; !kept_and_truncated(alloc, 0)?.independent(alloc, &first)?);
+    Ok(())
+}
+
+#[test]
+#[tactic(auto, unfolding(mat_sets::specs::Sets::all_below))]
+fn a_truncation_to_nothing_has_no_element(rt: HostRuntime) -> Result<(), Fail> {
+    let alloc = rt.alloc();
+    let kept = kept_and_truncated(alloc, 0)?;
+    assert!(rt; !kept.independent(alloc, &ElemSet::all_below(alloc, 1)?)?);
     Ok(())
 }

@@ -1,16 +1,17 @@
 -- The canonical text of a problem in range spells it: a set in rising order lists its own members. So two problems that are spelled are
 -- equal exactly where their canonical texts are.
 use Rattle.std.specs.Prelude.{codes}
-use Rattle.std.proofs.Common.{◌≡◌, ◌↔◌, ℕ, List, [], ◌∷◌, ◌++◌, length, refl, sym, ap, subst, arith}
+use Rattle.std.proofs.Common.{◌≡◌, ◌↔◌, ℕ, List, [], ◌∷◌, ◌++◌, length, map, refl, sym, ap, subst, arith}
 use Rattle.std.specs.List.{All, flat_map}
 use Rattle.std.proofs.lemmas.List.{append_assoc}
 use Rattle.std.proofs.lemmas.List.Elements.{All-head, All-tail}
 use Rattle.mat_sets.specs.Sets.{IsSet}
 use Rattle.mat_sets.proofs.Ground.{AreDistinct-rising}
+use Rattle.mat_words.specs.Numbers.{numerals}
 use Rattle.mat_words.specs.Lines.{Line}
-use Rattle.mat_any.specs.Trees.{Tree, uniform, partition, laminar, graphic, gf2, dual, truncate, restrict, contract}
+use Rattle.mat_any.specs.Trees.{Tree, uniform, partition, laminar, graphic, transversal, gammoid, gf2, dual, truncate, restrict, contract}
 use Rattle.mat_desc.specs.Instances.{Instance, pair, list, graph, rooted, coloured, table}
-use Rattle.mat_desc.specs.Grammar.{Lists, CappedLines, MatroidLines, MatroidsLines, InstanceLines, IsValidTree, IsValidMatroid, IsValid, Spells, end_line}
+use Rattle.mat_desc.specs.Grammar.{Lists, CappedLines, FamilyLines, MatroidLines, MatroidsLines, InstanceLines, IsValidTree, IsValidMatroid, IsValid, Spells, end_line}
 use Rattle.mat_desc.specs.Canonical.{capped_lines, matroid_lines, canonical_lines, canonical_text}
 use Rattle.mat_desc.proofs.ProblemLaws.{one_problem}
 
@@ -32,6 +33,18 @@ capped_lines_spelled key n (set ∷ sets) (cap ∷ caps) rest same in_range = (
   capped_lines_spelled key n sets caps rest (omega arith) (All-tail (IsSet n) set sets in_range),
 )
 
+-- the lines of the sets of a family
+family_lines_spelled : (n : ℕ) (family : List (List ℕ)) (rest : List Line) → All (IsSet n) family
+    → FamilyLines family (map (λ set. codes "set" ∷ numerals set) family ++ rest) rest
+family_lines_spelled n [] rest in_range = refl
+family_lines_spelled n (set ∷ family) rest in_range = (
+  set,
+  map (λ set. codes "set" ∷ numerals set) family ++ rest,
+  set_lists n set (All-head (IsSet n) set family in_range),
+  refl,
+  family_lines_spelled n family rest (All-tail (IsSet n) set family in_range),
+)
+
 matroid_spelled : (n : ℕ) (tree : Tree) (rest : List Line) → IsValidTree n tree → MatroidLines tree (matroid_lines tree ++ rest) rest
 matroid_spelled n (uniform m cap) rest valid = refl
 matroid_spelled n (partition m classes caps) rest valid = (
@@ -45,6 +58,12 @@ matroid_spelled n (laminar m sets caps) rest valid = (
   capped_lines_spelled (codes "set") n sets caps rest valid.1.as_many valid.1.sets_inside,
 )
 matroid_spelled n (graphic vertices edges) rest valid = refl
+matroid_spelled n (transversal m family) rest valid = (
+  map (λ set. codes "set" ∷ numerals set) family ++ rest,
+  refl,
+  family_lines_spelled n family rest valid.2,
+)
+matroid_spelled n (gammoid vertices arcs sources targets) rest valid = (sources, set_lists vertices sources valid.5, refl)
 matroid_spelled n (gf2 dim columns) rest valid = refl
 matroid_spelled n (dual t) rest valid = (matroid_lines t ++ rest, refl, matroid_spelled n t rest valid)
 matroid_spelled n (truncate cap t) rest valid = (matroid_lines t ++ rest, refl, matroid_spelled n t rest valid.1)

@@ -47,7 +47,7 @@ or_false true b h = absurd cc
 or_false false b h = (refl, h)
 
 -- where no later item is x or is taken, and x is not taken
-fresh_first : (x : ℕ) (xs taken : List ℕ) → is_member x taken ≡ false → ((y : ℕ) → is_member y xs ≡ true → is_member y (with_one taken x) ≡ false)
+pub fresh_first : (x : ℕ) (xs taken : List ℕ) → is_member x taken ≡ false → ((y : ℕ) → is_member y xs ≡ true → is_member y (with_one taken x) ≡ false)
     → (is_member x xs ≡ false) × ((y : ℕ) → is_member y (x ∷ xs) ≡ true → is_member y taken ≡ false)
 fresh_first x xs taken free later = (apart, each)
   where
@@ -62,6 +62,14 @@ fresh_first x xs taken free later = (apart, each)
       | inl same ↦ subst (λ (z : ℕ). is_member z taken ≡ false) (sym (eqb-true y x same)) free
       | inr other ↦ (or_false (eqb y x) (is_member y taken) (sym (is_member-with_one y x taken) ∙ later y (rw other at stands))).1
     ]
+
+-- where x and later items are not taken, and x is none of the later ones, these are not taken behind x
+pub later_free : (x : ℕ) (xs taken : List ℕ) → is_member x xs ≡ false → ((y : ℕ) → is_member y (x ∷ xs) ≡ true → is_member y taken ≡ false)
+    → (y : ℕ) → is_member y xs ≡ true → is_member y (with_one taken x) ≡ false
+later_free x xs taken apart fresh y stands = elim (cases_Bool (eqb y x)) [
+  | inl same ↦ let moved : is_member x xs ≡ true = subst (λ (z : ℕ). is_member z xs ≡ true) (eqb-true y x same) stands in absurd cc
+  | inr other ↦ let free : is_member y taken ≡ false = fresh y (rw (other, stands) refl) in is_member-with_one y x taken ∙ rw (other, free) refl
+]
 
 pub elements_found : (n line : ℕ) (taken set : List ℕ) (words : List (List ℕ)) (made left : List ℕ) → elements_from n line taken set words ≡ Ok (made, left) → AreElementsRead n taken set words made left
 unfolding elements_from with_each
@@ -101,13 +109,6 @@ elements_again n line taken set [] distinct below fresh = refl
 elements_again n line taken set (x ∷ xs) distinct below fresh =
     let free : is_member x taken ≡ false = fresh x (rw (eq-eqb x x refl) refl) in
     rw (count_again 0 n line x (numerals xs) (omega arith) below.0, free) (elements_again n line (with_one taken x) (with_one set x) xs distinct.1 below.1 (later_free x xs taken distinct.0 fresh))
-  where
-    later_free : (x : ℕ) (xs taken : List ℕ) → is_member x xs ≡ false → ((y : ℕ) → is_member y (x ∷ xs) ≡ true → is_member y taken ≡ false) → (y : ℕ) → is_member y xs ≡ true → is_member y (with_one taken x) ≡ false
-    later_free x xs taken apart fresh y stands =
-        elim (cases_Bool (eqb y x)) [
-          | inl same ↦ let moved : is_member x xs ≡ true = subst (λ (z : ℕ). is_member z xs ≡ true) (eqb-true y x same) stands in absurd cc
-          | inr other ↦ let free : is_member y taken ≡ false = fresh y (rw (other, stands) refl) in is_member-with_one y x taken ∙ rw (other, free) refl
-        ]
 
 -- ---- the set that a list of elements makes
 

@@ -10,9 +10,9 @@ use Rattle.mat_words.specs.Lines.{Line}
 use Rattle.mat_desc.specs.declared.keywords.Form.{Form}
 use Rattle.mat_desc.specs.declared.keywords.Form.TheVariants as forms
 use Rattle.mat_desc.specs.Faults.{◌>>=◌, WordsLeft, LinesLeft}
-use Rattle.mat_desc.specs.Reading.{count_at, weight_at, ended_at, repeat_at, keyed_at, weights_at, edge_at, weighted_at, coloured_edge_at, matroid_at, pair_at, list_at, graph_at, rooted_at, coloured_at, table_at, form_of, form_at}
+use Rattle.mat_desc.specs.Reading.{count_at, weight_at, ended_at, repeat_at, keyed_at, weights_at, ends_line_at, weighted_at, coloured_edge_at, matroid_at, pair_at, list_at, graph_at, rooted_at, coloured_at, table_at, form_of, form_at}
 use Rattle.mat_desc.specs.Instances.{Instance, pair, list, graph, rooted, coloured, table}
-use Rattle.mat_desc.specs.Grammar.{version_line, end_line, edge_line, weighted_line, coloured_edge_line, IsPair, IsWeight, AreWeights, IsValid, InstanceLines}
+use Rattle.mat_desc.specs.Grammar.{version_line, end_line, ends_line, weighted_line, coloured_edge_line, IsPair, IsWeight, AreWeights, IsValid, InstanceLines}
 use Rattle.mat_desc.proofs.ReadingSteps.{found-same, bind_found}
 use Rattle.mat_desc.proofs.WordLaws.{numerals_words, count_line, ended_found, ended_again, count_found, count_again, weights_found, weights_again, weights_words}
 use Rattle.mat_desc.proofs.LineLaws.{AreLeft, keyed_found, keyed_again}
@@ -22,7 +22,7 @@ use Rattle.std.specs.List.{All, zip}
 use Rattle.std.proofs.lemmas.List.Elements.{All-weaker}
 use Rattle.std.proofs.lemmas.Slice.Zip.{firsts-zip, seconds-zip}
 use Rattle.mat_desc.proofs.Columns.{length-zip_same, edges-zip, colours-zip, weights-zip}
-use Rattle.mat_desc.proofs.ItemLaws.{items_found, items_again, edge_found, edge_again, IsWeighted, weighted_found, weighted_again, IsColoured, coloured_edge_found, coloured_edge_again, All-map, All-zip, zip-parts, length-map_same}
+use Rattle.mat_desc.proofs.ItemLaws.{items_found, items_again, ends_line_found, ends_line_again, IsWeighted, weighted_found, weighted_again, IsColoured, coloured_edge_found, coloured_edge_again, All-map, All-zip, zip-parts, length-map_same}
 
 -- ---- weights
 
@@ -171,19 +171,19 @@ list_found words lines instance q e =
 graph_found : (words : WordsLeft) (lines : LinesLeft) (instance : Instance) (q : LinesLeft) → graph_at words lines ≡ Ok (instance, q) → IsFormRead forms.Graph words lines instance q
 unfolding graph_at
 graph_found words lines instance q e =
-    let vertices = bind_found (count_at 1 501 words) (λ vertices. count_at 0 501 vertices.1 >>= λ many. ended_at many.1 >>= λ end. repeat_at (edge_at vertices.0) many.0 lines >>= λ edges. Ok (graph vertices.0 edges.0, edges.1)) (instance, q) e in
-    let many = bind_found (count_at 0 501 vertices.0.1) (λ many. ended_at many.1 >>= λ end. repeat_at (edge_at vertices.0.0) many.0 lines >>= λ edges. Ok (graph vertices.0.0 edges.0, edges.1)) (instance, q) vertices.2 in
-    let end = bind_found (ended_at many.0.1) (λ end. repeat_at (edge_at vertices.0.0) many.0.0 lines >>= λ edges. Ok (graph vertices.0.0 edges.0, edges.1)) (instance, q) many.2 in
-    let edges = bind_found (repeat_at (edge_at vertices.0.0) many.0.0 lines) (λ edges. Ok (graph vertices.0.0 edges.0, edges.1)) (instance, q) end.2 in
+    let vertices = bind_found (count_at 1 501 words) (λ vertices. count_at 0 501 vertices.1 >>= λ many. ended_at many.1 >>= λ end. repeat_at (ends_line_at (codes "edge") vertices.0) many.0 lines >>= λ edges. Ok (graph vertices.0 edges.0, edges.1)) (instance, q) e in
+    let many = bind_found (count_at 0 501 vertices.0.1) (λ many. ended_at many.1 >>= λ end. repeat_at (ends_line_at (codes "edge") vertices.0.0) many.0 lines >>= λ edges. Ok (graph vertices.0.0 edges.0, edges.1)) (instance, q) vertices.2 in
+    let end = bind_found (ended_at many.0.1) (λ end. repeat_at (ends_line_at (codes "edge") vertices.0.0) many.0.0 lines >>= λ edges. Ok (graph vertices.0.0 edges.0, edges.1)) (instance, q) many.2 in
+    let edges = bind_found (repeat_at (ends_line_at (codes "edge") vertices.0.0) many.0.0 lines) (λ edges. Ok (graph vertices.0.0 edges.0, edges.1)) (instance, q) end.2 in
     let same = found-same (graph vertices.0.0 edges.0.0, edges.0.1) (instance, q) edges.2 in
     let v = count_found 1 501 words vertices.0.0 vertices.0.1 vertices.1 in
     let m = count_found 0 501 vertices.0.1 many.0.0 many.0.1 many.1 in
     let last = ended_found many.0.1 end.0 end.1 in
-    let read = items_found (edge_at vertices.0.0) edge_line (IsPair vertices.0.0 vertices.0.0) (edge_found vertices.0.0) many.0.0 lines edges.0.0 edges.0.1 edges.1 in
+    let read = items_found (ends_line_at (codes "edge") vertices.0.0) (ends_line (codes "edge")) (IsPair vertices.0.0 vertices.0.0) (ends_line_found (codes "edge") vertices.0.0) many.0.0 lines edges.0.0 edges.0.1 edges.1 in
     let line : words.words ≡ numeral (pos vertices.0.0) ∷ numeral (pos (length edges.0.0)) ∷ [] = v.cut ∙ rw (m.cut, last, read.count) refl in
     subst (λ (r : Instance × LinesLeft). IsFormRead forms.Graph words lines r.0 r.1) same (record {
       valid = (v.least, omega (arith, v.most), (omega (arith, read.count, m.most), read.each));
-      spelled = λ left. (map edge_line edges.0.0 ++ end_line ∷ [], read.spelled (end_line ∷ []) left, ap (λ (t : Line). version_line ∷ (codes "graph" ∷ t) ∷ (map edge_line edges.0.0 ++ end_line ∷ [])) line);
+      spelled = λ left. (map (ends_line (codes "edge")) edges.0.0 ++ end_line ∷ [], read.spelled (end_line ∷ []) left, ap (λ (t : Line). version_line ∷ (codes "graph" ∷ t) ∷ (map (ends_line (codes "edge")) edges.0.0 ++ end_line ∷ [])) line);
     })
 
 -- items of a pair and a weight, as two lists
@@ -378,13 +378,13 @@ any_form_spelled (list weights matroids) lines valid spelled = record {
 any_form_spelled (graph vertices edges) lines valid spelled = record {
   form = forms.Graph;
   words = numeral (pos vertices) ∷ numeral (pos (length edges)) ∷ [];
-  more = map edge_line edges ++ end_line ∷ [];
+  more = map (ends_line (codes "edge")) edges ++ end_line ∷ [];
   cut = spelled;
   are_words = numerals_words (vertices ∷ length edges ∷ []);
   again = λ n p left.
       let number = count_again 1 501 n vertices (numeral (pos (length edges)) ∷ []) valid.0 (omega (arith, valid.1)) in
       let many = count_again 0 501 n (length edges) [] (omega arith) (omega (arith, valid.2.0)) in
-      let read = items_again (edge_at vertices) edge_line (IsPair vertices vertices) (edge_again vertices) p edges (end_line ∷ []) valid.2.1 left in
+      let read = items_again (ends_line_at (codes "edge") vertices) (ends_line (codes "edge")) (IsPair vertices vertices) (ends_line_again (codes "edge") vertices refl) p edges (end_line ∷ []) valid.2.1 left in
       (read.0, rw (number, many, ended_again n, read.1) refl, read.2);
 }
 any_form_spelled (rooted vertices root arcs costs) lines valid spelled = record {

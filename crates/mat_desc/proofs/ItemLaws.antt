@@ -9,9 +9,9 @@ use Rattle.mat_words.specs.Numbers.{numeral}
 use Rattle.mat_words.proofs.NumberLemmas.{numeral_word}
 use Rattle.mat_words.specs.Lines.{Line}
 use Rattle.mat_desc.specs.Faults.{Fault, ◌>>=◌, WordsLeft, LinesLeft}
-use Rattle.mat_desc.specs.Reading.{keyed_at, count_at, weight_at, ended_at, repeat_at, ends_at, edge_at, column_at, binary_at, weighted_at, coloured_edge_at}
+use Rattle.mat_desc.specs.Reading.{keyed_at, count_at, weight_at, ended_at, repeat_at, ends_at, ends_line_at, column_at, binary_at, weighted_at, coloured_edge_at}
 use Rattle.mat_desc.specs.Binary.{binary}
-use Rattle.mat_desc.specs.Grammar.{IsWeight, IsPair, edge_line, column_line, weighted_line, coloured_edge_line}
+use Rattle.mat_desc.specs.Grammar.{IsWeight, IsPair, ends_line, column_line, weighted_line, coloured_edge_line}
 use Rattle.mat_desc.proofs.ReadingSteps.{found-same, bind_found}
 use Rattle.mat_desc.proofs.WordLaws.{cut_then, count_found, count_again, number_found, number_at_again, ended_found, ended_again}
 use Rattle.mat_desc.proofs.LineLaws.{AreLeft, keyed_found, keyed_again}
@@ -85,35 +85,38 @@ ends_again a b n ends words valid = rw (count_again 0 a n ends.0 (numeral (pos e
 ends_words : (ends : ℕ × ℕ) (words : Line) → list_all is_word words ≡ true → list_all is_word (numeral (pos ends.0) ∷ numeral (pos ends.1) ∷ words) ≡ true
 ends_words ends words h = and_from (is_word (numeral (pos ends.0))) (list_all is_word (numeral (pos ends.1) ∷ words)) (numeral_word (pos ends.0)) (and_from (is_word (numeral (pos ends.1))) (list_all is_word words) (numeral_word (pos ends.1)) h)
 
-pub edge_found : (v : ℕ) (p : LinesLeft) (edge : ℕ × ℕ) (q : LinesLeft) → edge_at v p ≡ Ok (edge, q) → IsItemRead edge_line (IsPair v v) p edge q
-unfolding edge_at
-edge_found v p edge q e =
-    let line = bind_found (keyed_at (codes "edge") p) (λ line. ends_at v v line.0 >>= λ ends. ended_at ends.1 >>= λ end. Ok (ends.0, line.1)) (edge, q) e in
-    let ends = bind_found (ends_at v v line.0.0) (λ ends. ended_at ends.1 >>= λ end. Ok (ends.0, line.0.1)) (edge, q) line.2 in
-    let end = bind_found (ended_at ends.0.1) (λ end. Ok (ends.0.0, line.0.1)) (edge, q) ends.2 in
-    let same = found-same (ends.0.0, line.0.1) (edge, q) end.2 in
-    let read = ends_found v v line.0.0 ends.0.0 ends.0.1 ends.1 in
-    let last = ended_found ends.0.1 end.0 end.1 in
-    subst (λ (r : (ℕ × ℕ) × LinesLeft). IsItemRead edge_line (IsPair v v) p r.0 r.1) same (record {
+pub ends_line_found : (key : List ℕ) (v : ℕ) (p : LinesLeft) (ends : ℕ × ℕ) (q : LinesLeft) → ends_line_at key v p ≡ Ok (ends, q)
+    → IsItemRead (ends_line key) (IsPair v v) p ends q
+unfolding ends_line_at
+ends_line_found key v p ends q e =
+    let line = bind_found (keyed_at key p) (λ line. ends_at v v line.0 >>= λ ends. ended_at ends.1 >>= λ end. Ok (ends.0, line.1)) (ends, q) e in
+    let both = bind_found (ends_at v v line.0.0) (λ ends. ended_at ends.1 >>= λ end. Ok (ends.0, line.0.1)) (ends, q) line.2 in
+    let end = bind_found (ended_at both.0.1) (λ end. Ok (both.0.0, line.0.1)) (ends, q) both.2 in
+    let same = found-same (both.0.0, line.0.1) (ends, q) end.2 in
+    let read = ends_found v v line.0.0 both.0.0 both.0.1 both.1 in
+    let last = ended_found both.0.1 end.0 end.1 in
+    subst (λ (r : (ℕ × ℕ) × LinesLeft). IsItemRead (ends_line key) (IsPair v v) p r.0 r.1) same (record {
       valid = read.valid;
-      spelled = λ rest left. subst (λ (ws : Line). AreLeft ((codes "edge" ∷ ws) ∷ rest) p) (read.cut ∙ rw last refl) (keyed_found (codes "edge") p line.0.0 line.0.1 line.1 rest left);
+      spelled = λ rest left.
+          subst (λ (ws : Line). AreLeft ((key ∷ ws) ∷ rest) p) (read.cut ∙ rw last refl) (keyed_found key p line.0.0 line.0.1 line.1 rest left);
     })
 
-pub edge_again : (v : ℕ) (p : LinesLeft) (edge : ℕ × ℕ) (rest : List Line) → IsPair v v edge → AreLeft (edge_line edge ∷ rest) p → (q : LinesLeft) × (edge_at v p ≡ Ok (edge, q)) × AreLeft rest q
-unfolding edge_at
-edge_again v p edge rest valid left =
-    let line = keyed_again (codes "edge") p (numeral (pos edge.0) ∷ numeral (pos edge.1) ∷ []) rest refl (ends_words edge [] refl) left in
-    (line.0, rw (line.1, ends_again v v p.line edge [] valid, ended_again p.line) refl, line.2)
+pub ends_line_again : (key : List ℕ) (v : ℕ) → is_word key ≡ true → (p : LinesLeft) (ends : ℕ × ℕ) (rest : List Line) → IsPair v v ends
+    → AreLeft (ends_line key ends ∷ rest) p → (q : LinesLeft) × (ends_line_at key v p ≡ Ok (ends, q)) × AreLeft rest q
+unfolding ends_line_at
+ends_line_again key v keyword p ends rest valid left =
+    let line = keyed_again key p (numeral (pos ends.0) ∷ numeral (pos ends.1) ∷ []) rest keyword (ends_words ends [] refl) left in
+    (line.0, rw (line.1, ends_again v v p.line ends [] valid, ended_again p.line) refl, line.2)
 
--- edges with both ends among the vertices are those of a graph
+-- edges or arcs with both ends among the vertices are those of a graph
 pub IsGraph-pairs : (v : ℕ) (edges : List (ℕ × ℕ)) → length edges < 2 ^ 32 → All (IsPair v v) edges → IsGraph v edges
 IsGraph-pairs v edges few each = record { first = λ e lt. (each e (0, 0) lt).0; second = λ e lt. (each e (0, 0) lt).1; few = few }
 
--- edges that are read meet the conditions of a graphic matroid
-pub edges_sound : (v many : ℕ) (p : LinesLeft) (edges : List (ℕ × ℕ)) (q : LinesLeft) → many < 2 ^ 32
-    → repeat_at (edge_at v) many p ≡ Ok (edges, q) → IsGraph v edges
-edges_sound v many p edges q few e =
-    let read = items_found (edge_at v) edge_line (IsPair v v) (edge_found v) many p edges q e in
+-- edges or arcs that are read are those of a graph
+pub ends_lines_sound : (key : List ℕ) (v many : ℕ) (p : LinesLeft) (edges : List (ℕ × ℕ)) (q : LinesLeft) → many < 2 ^ 32
+    → repeat_at (ends_line_at key v) many p ≡ Ok (edges, q) → IsGraph v edges
+ends_lines_sound key v many p edges q few e =
+    let read = items_found (ends_line_at key v) (ends_line key) (IsPair v v) (ends_line_found key v) many p edges q e in
     IsGraph-pairs v edges (omega (arith, read.count, few)) read.each
 
 -- a column of so many entries

@@ -9,14 +9,14 @@ use Rattle.mat_any.specs.Trees.{Tree, uniform, partition, laminar, graphic, gf2,
 use Rattle.mat_desc.specs.declared.keywords.Keyword.{Keyword}
 use Rattle.mat_desc.specs.declared.keywords.Keyword.TheVariants as keywords
 use Rattle.mat_desc.specs.Faults.{◌>>=◌, WordsLeft, LinesLeft}
-use Rattle.mat_desc.specs.Reading.{count_at, ended_at, repeat_at, classes_at, nested_sets_at, uniform_at, partition_at, laminar_at, edge_at, graphic_at, column_at, gf2_at, keyword_of}
-use Rattle.mat_desc.specs.Grammar.{IsPair, IsValidTree, MatroidLines, edge_line, column_line}
+use Rattle.mat_desc.specs.Reading.{count_at, ended_at, repeat_at, classes_at, nested_sets_at, uniform_at, partition_at, laminar_at, ends_line_at, graphic_at, column_at, gf2_at, keyword_of}
+use Rattle.mat_desc.specs.Grammar.{IsPair, IsValidTree, MatroidLines, ends_line, column_line}
 use Rattle.mat_desc.proofs.ReadingSteps.{found-same, bind_found}
 use Rattle.mat_desc.proofs.WordLaws.{cut_then, count_line, ended_found, count_found}
 use Rattle.mat_desc.proofs.LineLaws.{AreLeft}
 use Rattle.mat_desc.proofs.ClassLaws.{classes_read, classes_valid}
 use Rattle.mat_desc.proofs.NestedSetLaws.{nested_sets_read, nested_sets_valid}
-use Rattle.mat_desc.proofs.ItemLaws.{items_found, edge_found, IsColumn, column_found}
+use Rattle.mat_desc.proofs.ItemLaws.{items_found, ends_line_found, IsColumn, column_found}
 
 -- ---- keywords
 
@@ -26,6 +26,8 @@ spelling_of keywords.Uniform = codes "uniform"
 spelling_of keywords.Partition = codes "partition"
 spelling_of keywords.Laminar = codes "laminar"
 spelling_of keywords.Graphic = codes "graphic"
+spelling_of keywords.Transversal = codes "transversal"
+spelling_of keywords.Gammoid = codes "gammoid"
 spelling_of keywords.Gf2 = codes "gf2"
 spelling_of keywords.Dual = codes "dual"
 spelling_of keywords.Truncate = codes "truncate"
@@ -50,9 +52,9 @@ none_chosen word keyword e = absurd cc
 pub keyword_found : (word : List ℕ) (keyword : Keyword) → keyword_of word ≡ Some keyword → word ≡ spelling_of keyword
 keyword_found word keyword is =
     chosen word keywords.Uniform keyword _ (chosen word keywords.Partition keyword _ (chosen word keywords.Laminar keyword _
-    (chosen word keywords.Graphic keyword _ (chosen word keywords.Gf2 keyword _ (chosen word keywords.Dual keyword _
-    (chosen word keywords.Truncate keyword _ (chosen word keywords.Restrict keyword _ (chosen word keywords.Contract keyword _
-    (none_chosen word keyword))))))))) is
+    (chosen word keywords.Graphic keyword _ (chosen word keywords.Transversal keyword _ (chosen word keywords.Gammoid keyword _
+    (chosen word keywords.Gf2 keyword _ (chosen word keywords.Dual keyword _ (chosen word keywords.Truncate keyword _
+    (chosen word keywords.Restrict keyword _ (chosen word keywords.Contract keyword _ (none_chosen word keyword))))))))))) is
 
 -- ---- one kind
 
@@ -119,17 +121,17 @@ laminar_found room n words lines tree q e =
 pub graphic_found : (room n : ℕ) (words : WordsLeft) (lines : LinesLeft) (tree : Tree) (q : LinesLeft) → graphic_at n words lines ≡ Ok (tree, q) → IsKindRead room n keywords.Graphic words lines tree q
 unfolding graphic_at
 graphic_found room n words lines tree q e =
-    let vertices = bind_found (count_at 1 501 words) (λ vertices. ended_at vertices.1 >>= λ end. repeat_at (edge_at vertices.0) n lines >>= λ edges. Ok (graphic vertices.0 edges.0, edges.1)) (tree, q) e in
-    let end = bind_found (ended_at vertices.0.1) (λ end. repeat_at (edge_at vertices.0.0) n lines >>= λ edges. Ok (graphic vertices.0.0 edges.0, edges.1)) (tree, q) vertices.2 in
-    let edges = bind_found (repeat_at (edge_at vertices.0.0) n lines) (λ edges. Ok (graphic vertices.0.0 edges.0, edges.1)) (tree, q) end.2 in
+    let vertices = bind_found (count_at 1 501 words) (λ vertices. ended_at vertices.1 >>= λ end. repeat_at (ends_line_at (codes "edge") vertices.0) n lines >>= λ edges. Ok (graphic vertices.0 edges.0, edges.1)) (tree, q) e in
+    let end = bind_found (ended_at vertices.0.1) (λ end. repeat_at (ends_line_at (codes "edge") vertices.0.0) n lines >>= λ edges. Ok (graphic vertices.0.0 edges.0, edges.1)) (tree, q) vertices.2 in
+    let edges = bind_found (repeat_at (ends_line_at (codes "edge") vertices.0.0) n lines) (λ edges. Ok (graphic vertices.0.0 edges.0, edges.1)) (tree, q) end.2 in
     let same = found-same (graphic vertices.0.0 edges.0.0, edges.0.1) (tree, q) edges.2 in
     let number = count_found 1 501 words vertices.0.0 vertices.0.1 vertices.1 in
     let last = ended_found vertices.0.1 end.0 end.1 in
-    let read = items_found (edge_at vertices.0.0) edge_line (IsPair vertices.0.0 vertices.0.0) (edge_found vertices.0.0) n lines edges.0.0 edges.0.1 edges.1 in
+    let read = items_found (ends_line_at (codes "edge") vertices.0.0) (ends_line (codes "edge")) (IsPair vertices.0.0 vertices.0.0) (ends_line_found (codes "edge") vertices.0.0) n lines edges.0.0 edges.0.1 edges.1 in
     let line : words.words ≡ numeral (pos vertices.0.0) ∷ [] = cut_then (numeral (pos vertices.0.0)) words.words vertices.0.1.words [] number.cut last in
     let one : IsKindRead room n keywords.Graphic words lines (graphic vertices.0.0 edges.0.0) edges.0.1 = record {
       valid = ((read.count, number.least, omega (arith, number.most), read.each), omega arith);
-      spelled = λ rest left. (map edge_line edges.0.0 ++ rest, read.spelled rest left, ap (λ (t : Line). (codes "graphic" ∷ t) ∷ (map edge_line edges.0.0 ++ rest)) line);
+      spelled = λ rest left. (map (ends_line (codes "edge")) edges.0.0 ++ rest, read.spelled rest left, ap (λ (t : Line). (codes "graphic" ∷ t) ∷ (map (ends_line (codes "edge")) edges.0.0 ++ rest)) line);
     } in
     subst (λ (r : Tree × LinesLeft). IsKindRead room n keywords.Graphic words lines r.0 r.1) same one
 

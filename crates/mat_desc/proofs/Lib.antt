@@ -3,6 +3,7 @@ pub mod ElementLists
 pub mod Closing
 pub mod Classes
 pub mod NestedSets
+pub mod DistinctNumbers
 pub mod ReadingSteps
 pub mod WordLaws
 pub mod LineLaws
@@ -12,7 +13,10 @@ pub mod CappedLineLaws
 pub mod ClassLaws
 pub mod NestedSetLaws
 pub mod ItemLaws
+pub mod SetLineLaws
+pub mod TargetLaws
 pub mod KindLaws
+pub mod LinkedKindLaws
 pub mod MatroidLaws
 pub mod MatroidRows
 pub mod FormLaws

@@ -8,22 +8,23 @@ use Rattle.mat_sets.specs.Families.{multiplicity}
 use Rattle.mat_words.specs.Words.{is_word}
 use Rattle.mat_words.specs.Numbers.{numeral, numerals}
 use Rattle.mat_words.proofs.NumberLemmas.{numeral_word}
-use Rattle.mat_any.specs.Trees.{Tree, uniform, partition, laminar, graphic, gf2, dual, truncate, restrict, contract, depth}
+use Rattle.mat_any.specs.Trees.{Tree, uniform, partition, laminar, graphic, transversal, gammoid, gf2, dual, truncate, restrict, contract, depth}
 use Rattle.mat_words.specs.Lines.{Line}
 use Rattle.mat_desc.specs.declared.keywords.Keyword.{Keyword}
 use Rattle.mat_desc.specs.declared.keywords.Keyword.TheVariants as keywords
 use Rattle.mat_desc.specs.declared.refusal.DescKind.TheVariants.{TooDeep}
 use Rattle.mat_desc.specs.Faults.{Fault, ◌>>=◌, WordsLeft, LinesLeft}
-use Rattle.mat_desc.specs.Reading.{line_at, word_at, count_at, ended_at, elements_at, uniform_at, partition_at, laminar_at, edge_at, graphic_at, column_at, gf2_at, TreeReader, dual_at, truncate_at, restrict_at, contract_at, keyword_of, kind_at, matroid_within, matroid_at}
-use Rattle.mat_desc.specs.Grammar.{IsPair, IsValidTree, IsValidMatroid, AreClasses, AreNestedSets, MatroidLines, edge_line, column_line}
+use Rattle.mat_desc.specs.Reading.{line_at, word_at, count_at, ended_at, elements_at, uniform_at, partition_at, laminar_at, ends_line_at, graphic_at, column_at, gf2_at, TreeReader, dual_at, truncate_at, restrict_at, contract_at, keyword_of, kind_at, matroid_within, matroid_at}
+use Rattle.mat_desc.specs.Grammar.{IsPair, IsValidTree, IsValidMatroid, AreClasses, AreNestedSets, MatroidLines, ends_line, column_line}
 use Rattle.mat_desc.proofs.ReadingSteps.{found-same, bind_found}
 use Rattle.mat_desc.proofs.WordLaws.{cut_then, word_found, ended_found, ended_again, count_found, count_again, numerals_words}
 use Rattle.mat_desc.proofs.LineLaws.{AreLeft, line_found, line_again}
 use Rattle.mat_desc.proofs.ElementLaws.{elements_found, Lists-read, IsSet-read, set_again}
 use Rattle.mat_desc.proofs.ClassLaws.{classes_again}
 use Rattle.mat_desc.proofs.NestedSetLaws.{nested_sets_again}
-use Rattle.mat_desc.proofs.ItemLaws.{items_again, edge_again, IsColumn, column_again}
+use Rattle.mat_desc.proofs.ItemLaws.{items_again, ends_line_again, IsColumn, column_again}
 use Rattle.mat_desc.proofs.KindLaws.{spelling_of, keyword_found, IsKindRead, uniform_found, partition_found, laminar_found, graphic_found, gf2_found}
+use Rattle.mat_desc.proofs.LinkedKindLaws.{transversal_found, transversal_again, gammoid_found, gammoid_again}
 
 -- a matroid was read, in which at most so many matroids stand within one another
 pub record IsMatroidRead (room n : ℕ) (p : LinesLeft) (tree : Tree) (q : LinesLeft) : Type 0 where
@@ -108,6 +109,8 @@ kind_found room n line inner right keywords.Uniform words lines tree q e = unifo
 kind_found room n line inner right keywords.Partition words lines tree q e = partition_found room n words lines tree q e
 kind_found room n line inner right keywords.Laminar words lines tree q e = laminar_found room n words lines tree q e
 kind_found room n line inner right keywords.Graphic words lines tree q e = graphic_found room n words lines tree q e
+kind_found room n line inner right keywords.Transversal words lines tree q e = transversal_found room n words lines tree q e
+kind_found room n line inner right keywords.Gammoid words lines tree q e = gammoid_found room n words lines tree q e
 kind_found room n line inner right keywords.Gf2 words lines tree q e = gf2_found room n words lines tree q e
 kind_found room n line inner right keywords.Dual words lines tree q e = dual_found room n inner right words lines tree q e
 kind_found room n line inner right keywords.Truncate words lines tree q e = truncate_found room n inner right words lines tree q e
@@ -170,10 +173,22 @@ node_again room n inner right p (laminar m sets caps) lines rest valid shallow s
     (read.0, rw (line.1, number, ended_again p.line, read.1, valid.0) refl, read.2)
 node_again room n inner right p (graphic vertices edges) lines rest valid shallow spelled left =
     let number_word : list_all is_word (codes "graphic" ∷ numeral (pos vertices) ∷ []) ≡ true = and_from (is_word (numeral (pos vertices))) true (numeral_word (pos vertices)) refl in
-    let line = line_again p (codes "graphic" ∷ numeral (pos vertices) ∷ []) (map edge_line edges ++ rest) (omega arith) number_word (subst (λ (ls : List Line). AreLeft ls p) spelled left) in
+    let line = line_again p (codes "graphic" ∷ numeral (pos vertices) ∷ []) (map (ends_line (codes "edge")) edges ++ rest) (omega arith) number_word (subst (λ (ls : List Line). AreLeft ls p) spelled left) in
     let number = count_again 1 501 p.line vertices [] valid.1 (omega (arith, valid.2)) in
-    let read = items_again (edge_at vertices) edge_line (IsPair vertices vertices) (edge_again vertices) line.0 edges rest valid.3 line.2 in
+    let read = items_again (ends_line_at (codes "edge") vertices) (ends_line (codes "edge")) (IsPair vertices vertices) (ends_line_again (codes "edge") vertices refl) line.0 edges rest valid.3 line.2 in
     (read.0, rw (line.1, number, ended_again p.line, ← valid.0, read.1) refl, read.2)
+node_again room n inner right p (transversal m family) lines rest valid shallow spelled left =
+    let words : Line = codes "transversal" ∷ numeral (pos (length family)) ∷ [] in
+    let line = line_again p words spelled.0 (omega arith) (numerals_words (length family ∷ [])) (subst (λ (ls : List Line). AreLeft ls p) spelled.1 left) in
+    let read = transversal_again n p.line m family line.0 spelled.0 rest valid spelled.2 line.2 in
+    (read.0, rw (line.1, read.1) refl, read.2)
+node_again room n inner right p (gammoid vertices arcs sources targets) lines rest valid shallow spelled left =
+    let xs = spelled.0 in
+    let words : Line = codes "gammoid" ∷ numeral (pos vertices) ∷ numeral (pos (length arcs)) ∷ [] in
+    let more = (codes "sources" ∷ numerals xs) ∷ (codes "targets" ∷ numerals targets) ∷ (map (ends_line (codes "arc")) arcs ++ rest) in
+    let line = line_again p words more (omega arith) (numerals_words (vertices ∷ length arcs ∷ [])) (subst (λ (ls : List Line). AreLeft ls p) spelled.2 left) in
+    let read = gammoid_again n p.line vertices arcs sources targets xs line.0 rest valid spelled.1 line.2 in
+    (read.0, rw (line.1, read.1) refl, read.2)
 node_again room n inner right p (gf2 dim columns) lines rest valid shallow spelled left =
     let number_word : list_all is_word (codes "gf2" ∷ numeral (pos dim) ∷ []) ≡ true = and_from (is_word (numeral (pos dim))) true (numeral_word (pos dim)) refl in
     let line = line_again p (codes "gf2" ∷ numeral (pos dim) ∷ []) (map (column_line dim) columns ++ rest) (omega arith) number_word (subst (λ (ls : List Line). AreLeft ls p) spelled left) in
@@ -209,6 +224,8 @@ depth_some (uniform m cap) = omega arith
 depth_some (partition m classes caps) = omega arith
 depth_some (laminar m sets caps) = omega arith
 depth_some (graphic vertices edges) = omega arith
+depth_some (transversal m family) = omega arith
+depth_some (gammoid vertices arcs sources targets) = omega arith
 depth_some (gf2 dim columns) = omega arith
 depth_some (dual t) = omega arith
 depth_some (truncate cap t) = omega arith

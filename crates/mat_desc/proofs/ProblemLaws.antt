@@ -3,7 +3,7 @@ use Rattle.std.proofs.Common.{◌≡◌, ◌≤◌, ℕ, List, length, ◌⊎◌
 use Rattle.std.specs.List.{All}
 use Rattle.std.proofs.lemmas.List.Elements.{All-weaker}
 use Rattle.mat_sets.specs.Sets.{IsSet, AllBelow}
-use Rattle.mat_any.specs.Trees.{Tree, uniform, partition, laminar, graphic, gf2, dual, truncate, restrict, contract, element_count, IsSound}
+use Rattle.mat_any.specs.Trees.{Tree, uniform, partition, laminar, graphic, transversal, gammoid, gf2, dual, truncate, restrict, contract, element_count, IsSound}
 use Rattle.mat_desc.specs.declared.refusal.DescRefusal.{DescRefusal}
 use Rattle.mat_desc.specs.declared.refusal.DescRefusal.TheVariants as refusals
 use Rattle.mat_desc.specs.Faults.{Fault, Gives}
@@ -34,6 +34,23 @@ IsSound-valid n (laminar m sets caps) few valid = (
   valid.0,
 )
 IsSound-valid n (graphic vertices edges) few valid = (IsGraph-pairs vertices edges (omega (arith, valid.0, few)) valid.3, valid.0)
+IsSound-valid n (transversal m family) few valid = (
+  record {
+    inside = subst (λ (k : ℕ). All (AllBelow k) family) (sym valid.0) (All-weaker (IsSet n) (AllBelow n) (λ set is. is.below) family valid.2);
+    few = omega (arith, valid.1);
+  },
+  valid.0,
+)
+IsSound-valid n (gammoid vertices arcs sources targets) few valid = (
+  record {
+    graph = IsGraph-pairs vertices arcs (omega (arith, valid.3)) valid.4;
+    sources_inside = valid.5;
+    targets_inside = valid.6;
+    distinct = valid.7;
+    few = omega (arith, valid.0, few);
+  },
+  valid.0,
+)
 IsSound-valid n (gf2 dim columns) few valid = (IsBinaryMatrix-columns dim columns valid.1 valid.2 (omega (arith, valid.0, few)) valid.3, valid.0)
 IsSound-valid n (dual t) few valid = IsSound-valid n t few valid
 IsSound-valid n (truncate cap t) few valid = IsSound-valid n t few valid.1

@@ -17,7 +17,7 @@ kept_weight z low high = grind (arith, ints)
 abbrev pub with_front : {A S : Type 0} → List A → Result (List A × S) Fault → Result (List A × S) Fault
 with_front front reading = reading >>= λ x. Ok (front ++ x.0, x.1)
 
-with_front-cons : {A S : Type 0} (front : List A) (item : A) (reading : Result (List A × S) Fault)
+pub with_front-cons : {A S : Type 0} (front : List A) (item : A) (reading : Result (List A × S) Fault)
     → with_front front (reading >>= λ x. Ok (item ∷ x.0, x.1)) ≡ with_front (front ++ item ∷ []) reading
 with_front-cons {A} {S} front item (Ok x) = ap (λ (items : List A). Ok (items, x.1)) (simp append_assoc)
 with_front-cons front item (Err fault) = refl

@@ -3,8 +3,8 @@ use Rattle.std.specs.Prelude.{ℕ, List, [], ◌∷◌, ◌++◌, length, map, c
 use Rattle.std.specs.List.{zip, flat_map}
 use Rattle.mat_words.specs.Numbers.{numeral, numerals}
 use Rattle.mat_words.specs.Lines.{Line, text_of}
-use Rattle.mat_any.specs.Trees.{Tree, uniform, partition, laminar, graphic, gf2, dual, truncate, restrict, contract}
-use Rattle.mat_desc.specs.Grammar.{version_line, end_line, edge_line, column_line, weighted_line, coloured_edge_line}
+use Rattle.mat_any.specs.Trees.{Tree, uniform, partition, laminar, graphic, transversal, gammoid, gf2, dual, truncate, restrict, contract}
+use Rattle.mat_desc.specs.Grammar.{version_line, end_line, ends_line, column_line, weighted_line, coloured_edge_line}
 use Rattle.mat_desc.specs.Instances.{Instance, pair, list, graph, rooted, coloured, table}
 
 -- a line of a keyword and numbers
@@ -24,7 +24,10 @@ abbrev pub matroid_lines : Tree → List Line
 matroid_lines (uniform n cap) = (codes "uniform" ∷ numeral (pos cap) ∷ []) ∷ []
 matroid_lines (partition n classes caps) = (codes "partition" ∷ numeral (pos (length classes)) ∷ []) ∷ capped_lines (codes "class") classes caps
 matroid_lines (laminar n sets caps) = (codes "laminar" ∷ numeral (pos (length sets)) ∷ []) ∷ capped_lines (codes "set") sets caps
-matroid_lines (graphic vertices edges) = (codes "graphic" ∷ numeral (pos vertices) ∷ []) ∷ map edge_line edges
+matroid_lines (graphic vertices edges) = (codes "graphic" ∷ numeral (pos vertices) ∷ []) ∷ map (ends_line (codes "edge")) edges
+matroid_lines (transversal n family) = (codes "transversal" ∷ numeral (pos (length family)) ∷ []) ∷ map (λ set. codes "set" ∷ numerals set) family
+matroid_lines (gammoid vertices arcs sources targets) = (codes "gammoid" ∷ numeral (pos vertices) ∷ numeral (pos (length arcs)) ∷ [])
+    ∷ (codes "sources" ∷ numerals sources) ∷ (codes "targets" ∷ numerals targets) ∷ map (ends_line (codes "arc")) arcs
 matroid_lines (gf2 dim columns) = (codes "gf2" ∷ numeral (pos dim) ∷ []) ∷ map (column_line dim) columns
 matroid_lines (dual t) = (codes "dual" ∷ []) ∷ matroid_lines t
 matroid_lines (truncate cap t) = (codes "truncate" ∷ numeral (pos cap) ∷ []) ∷ matroid_lines t
@@ -35,7 +38,7 @@ matroid_lines (contract away t) = (codes "contract" ∷ numerals away) ∷ matro
 abbrev pub form_lines : Instance → List Line
 form_lines (pair weights first second) = (codes "pair" ∷ numeral (pos (length weights)) ∷ []) ∷ numbers_line (codes "weights") weights ∷ (matroid_lines first ++ matroid_lines second)
 form_lines (list weights matroids) = (codes "list" ∷ numeral (pos (length weights)) ∷ numeral (pos (length matroids)) ∷ []) ∷ numbers_line (codes "weights") weights ∷ flat_map matroid_lines matroids
-form_lines (graph vertices edges) = (codes "graph" ∷ numeral (pos vertices) ∷ numeral (pos (length edges)) ∷ []) ∷ map edge_line edges
+form_lines (graph vertices edges) = (codes "graph" ∷ numeral (pos vertices) ∷ numeral (pos (length edges)) ∷ []) ∷ map (ends_line (codes "edge")) edges
 form_lines (rooted vertices root arcs costs) = (codes "rooted" ∷ numeral (pos vertices) ∷ numeral (pos (length arcs)) ∷ numeral (pos root) ∷ []) ∷ map (weighted_line (codes "arc")) (zip arcs costs)
 form_lines (coloured vertices colours edges colour_of weights) = (codes "coloured" ∷ numeral (pos vertices) ∷ numeral (pos (length edges)) ∷ numeral (pos colours) ∷ [])
     ∷ map coloured_edge_line (zip edges (zip colour_of weights))

@@ -1,13 +1,13 @@
 -- Which problems a description may state, and which texts spell one.
 use Rattle.std.specs.Prelude.{◌≡◌, ℕ, ◌≤◌, ◌^◌, List, [], ◌∷◌, ◌++◌, ◌<◌, length, map, codes, ℤ, pos, All}
 use Rattle.std.specs.List.{zip}
-use Rattle.mat_sets.specs.Sets.{is_member, IsSet, AreDistinct}
+use Rattle.mat_sets.specs.Sets.{is_member, IsSet, AllBelow, AreDistinct}
 use Rattle.mat_sets.specs.Sums.{IsWithin}
 use Rattle.mat_sets.specs.Families.{AreDisjoint}
 use Rattle.mat_words.specs.Numbers.{numeral, numerals}
 use Rattle.mat_words.specs.Lines.{Line, text_of}
 use Rattle.mat_count.specs.Laminar.{IsLaminarFamily}
-use Rattle.mat_any.specs.Trees.{Tree, uniform, partition, laminar, graphic, gf2, dual, truncate, restrict, contract, depth}
+use Rattle.mat_any.specs.Trees.{Tree, uniform, partition, laminar, graphic, transversal, gammoid, gf2, dual, truncate, restrict, contract, depth}
 use Rattle.mat_desc.specs.Binary.{binary}
 use Rattle.mat_desc.specs.Instances.{Instance, pair, list, graph, rooted, coloured, table}
 
@@ -39,6 +39,9 @@ IsValidTree n (uniform m cap) = (m ≡ n) × (cap ≤ 500)
 IsValidTree n (partition m classes caps) = (m ≡ n) × AreClasses n classes caps
 IsValidTree n (laminar m sets caps) = (m ≡ n) × AreNestedSets n sets caps
 IsValidTree n (graphic vertices edges) = (length edges ≡ n) × (1 ≤ vertices) × (vertices ≤ 500) × All (IsPair vertices vertices) edges
+IsValidTree n (transversal m family) = (m ≡ n) × (length family ≤ 500) × All (IsSet n) family
+IsValidTree n (gammoid vertices arcs sources targets) = (length targets ≡ n) × (1 ≤ vertices) × (vertices ≤ 500) × (length arcs ≤ 20000)
+    × All (IsPair vertices vertices) arcs × IsSet vertices sources × AllBelow vertices targets × AreDistinct targets
 IsValidTree n (gf2 dim columns) = (length columns ≡ n) × (1 ≤ dim) × (dim ≤ 128) × All (λ column. column < 2 ^ dim) columns
 IsValidTree n (dual t) = IsValidTree n t
 IsValidTree n (truncate cap t) = (cap ≤ 500) × IsValidTree n t
@@ -86,9 +89,15 @@ CappedLines key (set ∷ sets) [] lines rest = ⊥
 CappedLines key (set ∷ sets) (cap ∷ caps) lines rest = (xs : List ℕ) × (more : List Line) × Lists xs set
     × (lines ≡ (key ∷ numeral (pos cap) ∷ numerals xs) ∷ more) × CappedLines key sets caps more rest
 
--- the line of an edge
-abbrev pub edge_line : ℕ × ℕ → Line
-edge_line edge = codes "edge" ∷ numeral (pos edge.0) ∷ numeral (pos edge.1) ∷ []
+-- a line for each set of a family, and then the rest
+abbrev pub FamilyLines : List (List ℕ) → List Line → List Line → Type 0
+FamilyLines [] lines rest = lines ≡ rest
+FamilyLines (set ∷ family) lines rest = (xs : List ℕ) × (more : List Line) × Lists xs set
+    × (lines ≡ (codes "set" ∷ numerals xs) ∷ more) × FamilyLines family more rest
+
+-- a line of this keyword and two numbers: the ends of an edge or of an arc
+abbrev pub ends_line : List ℕ → ℕ × ℕ → Line
+ends_line key ends = key ∷ numeral (pos ends.0) ∷ numeral (pos ends.1) ∷ []
 
 -- the line of a column of binary digits
 abbrev pub column_line : ℕ → ℕ → Line
@@ -101,7 +110,12 @@ MatroidLines (partition n classes caps) lines rest = (more : List Line)
     × (lines ≡ (codes "partition" ∷ numeral (pos (length classes)) ∷ []) ∷ more) × CappedLines (codes "class") classes caps more rest
 MatroidLines (laminar n sets caps) lines rest = (more : List Line)
     × (lines ≡ (codes "laminar" ∷ numeral (pos (length sets)) ∷ []) ∷ more) × CappedLines (codes "set") sets caps more rest
-MatroidLines (graphic vertices edges) lines rest = lines ≡ (codes "graphic" ∷ numeral (pos vertices) ∷ []) ∷ (map edge_line edges ++ rest)
+MatroidLines (graphic vertices edges) lines rest = lines ≡ (codes "graphic" ∷ numeral (pos vertices) ∷ []) ∷ (map (ends_line (codes "edge")) edges ++ rest)
+MatroidLines (transversal n family) lines rest = (more : List Line)
+    × (lines ≡ (codes "transversal" ∷ numeral (pos (length family)) ∷ []) ∷ more) × FamilyLines family more rest
+MatroidLines (gammoid vertices arcs sources targets) lines rest = (xs : List ℕ) × Lists xs sources
+    × (lines ≡ (codes "gammoid" ∷ numeral (pos vertices) ∷ numeral (pos (length arcs)) ∷ []) ∷ (codes "sources" ∷ numerals xs)
+    ∷ (codes "targets" ∷ numerals targets) ∷ (map (ends_line (codes "arc")) arcs ++ rest))
 MatroidLines (gf2 dim columns) lines rest = lines ≡ (codes "gf2" ∷ numeral (pos dim) ∷ []) ∷ (map (column_line dim) columns ++ rest)
 MatroidLines (dual t) lines rest = (more : List Line) × (lines ≡ (codes "dual" ∷ []) ∷ more) × MatroidLines t more rest
 MatroidLines (truncate cap t) lines rest = (more : List Line) × (lines ≡ (codes "truncate" ∷ numeral (pos cap) ∷ []) ∷ more) × MatroidLines t more rest
@@ -138,7 +152,7 @@ InstanceLines (pair weights first second) lines = (first_lines : List Line) × (
 InstanceLines (list weights matroids) lines = (matroid_lines : List Line)
     × (lines ≡ version_line ∷ (codes "list" ∷ numeral (pos (length weights)) ∷ numeral (pos (length matroids)) ∷ []) ∷ (codes "weights" ∷ map numeral weights) ∷ matroid_lines)
     × MatroidsLines matroids matroid_lines (end_line ∷ [])
-InstanceLines (graph vertices edges) lines = lines ≡ version_line ∷ (codes "graph" ∷ numeral (pos vertices) ∷ numeral (pos (length edges)) ∷ []) ∷ (map edge_line edges ++ end_line ∷ [])
+InstanceLines (graph vertices edges) lines = lines ≡ version_line ∷ (codes "graph" ∷ numeral (pos vertices) ∷ numeral (pos (length edges)) ∷ []) ∷ (map (ends_line (codes "edge")) edges ++ end_line ∷ [])
 InstanceLines (rooted vertices root arcs costs) lines = lines ≡ version_line ∷ (codes "rooted" ∷ numeral (pos vertices) ∷ numeral (pos (length arcs)) ∷ numeral (pos root) ∷ [])
     ∷ (map (weighted_line (codes "arc")) (zip arcs costs) ++ end_line ∷ [])
 InstanceLines (coloured vertices colours edges colour_of weights) lines = lines ≡ version_line

@@ -8,7 +8,7 @@ use Rattle.mat_words.specs.Numbers.{number_in}
 use Rattle.mat_words.specs.declared.numbers.NumberFault.{NumberFault}
 use Rattle.mat_words.specs.declared.numbers.NumberFault.TheVariants.{Spelling, Range}
 use Rattle.mat_count.specs.Laminar.{is_crossed}
-use Rattle.mat_any.specs.Trees.{Tree, uniform, partition, laminar, graphic, gf2, dual, truncate, restrict, contract}
+use Rattle.mat_any.specs.Trees.{Tree, uniform, partition, laminar, graphic, transversal, gammoid, gf2, dual, truncate, restrict, contract}
 use Rattle.mat_desc.specs.declared.refusal.DescKind.TheVariants as kinds
 use Rattle.mat_desc.specs.declared.keywords.Form.{Form}
 use Rattle.mat_desc.specs.declared.keywords.Form.TheVariants as forms
@@ -202,10 +202,10 @@ ends_at first_bound second_bound words = do
   second ← count_at 0 second_bound first.1
   Ok ((first.0, second.0), second.1)
 
--- an edge line
-unfoldable pub edge_at : ℕ → LinesLeft → Result ((ℕ × ℕ) × LinesLeft) Fault
-edge_at vertices p = do
-  line ← keyed_at (codes "edge") p
+-- a line of this keyword with the two ends of an edge or of an arc
+unfoldable pub ends_line_at : List ℕ → ℕ → LinesLeft → Result ((ℕ × ℕ) × LinesLeft) Fault
+ends_line_at key vertices p = do
+  line ← keyed_at key p
   ends ← ends_at vertices vertices line.0
   end ← ended_at ends.1
   Ok (ends.0, line.1)
@@ -215,8 +215,50 @@ unfoldable pub graphic_at : ℕ → WordsLeft → LinesLeft → Result (Tree × 
 graphic_at n words lines = do
   vertices ← count_at 1 501 words
   end ← ended_at vertices.1
-  edges ← repeat_at (edge_at vertices.0) n lines
+  edges ← repeat_at (ends_line_at (codes "edge") vertices.0) n lines
   Ok (graphic vertices.0 edges.0, edges.1)
+
+-- a line of this keyword and a set of numbers below n
+unfoldable pub set_line_at : List ℕ → ℕ → LinesLeft → Result (List ℕ × LinesLeft) Fault
+set_line_at key n p = do
+  line ← keyed_at key p
+  set ← elements_at n [] line.0
+  Ok (set.0, line.1)
+
+-- a transversal matroid on n elements, from the words behind its keyword on
+unfoldable pub transversal_at : ℕ → WordsLeft → LinesLeft → Result (Tree × LinesLeft) Fault
+transversal_at n words lines = do
+  many ← count_at 0 501 words
+  end ← ended_at many.1
+  family ← repeat_at (set_line_at (codes "set") n) many.0 lines
+  Ok (transversal n family.0, family.1)
+
+-- as many numbers below the bound, none of which is in `taken` or stands twice
+unfoldable pub distinct_at : ℕ → ℕ → List ℕ → WordsLeft → Result (List ℕ × WordsLeft) Fault
+distinct_at bound zero taken p = Ok ([], p)
+distinct_at bound (suc many) taken p = do
+  first ← count_at 0 bound p
+  if is_member first.0 taken then Err (kinds.Repeated, p.line) else
+      (distinct_at bound many (with_one taken first.0) first.1 >>= λ others. Ok (first.0 ∷ others.0, others.1))
+
+-- the line of the vertices of n elements, all different
+unfoldable pub targets_at : ℕ → ℕ → LinesLeft → Result (List ℕ × LinesLeft) Fault
+targets_at vertices n p = do
+  line ← keyed_at (codes "targets") p
+  targets ← distinct_at vertices n [] line.0
+  end ← ended_at targets.1
+  Ok (targets.0, line.1)
+
+-- a gammoid of n elements, from the words behind its keyword on
+unfoldable pub gammoid_at : ℕ → WordsLeft → LinesLeft → Result (Tree × LinesLeft) Fault
+gammoid_at n words lines = do
+  vertices ← count_at 1 501 words
+  many ← count_at 0 20001 vertices.1
+  end ← ended_at many.1
+  sources ← set_line_at (codes "sources") vertices.0 lines
+  targets ← targets_at vertices.0 n sources.1
+  arcs ← repeat_at (ends_line_at (codes "arc") vertices.0) many.0 targets.1
+  Ok (gammoid vertices.0 arcs.0 sources.0 targets.0, arcs.1)
 
 -- the next word of line n as a binary number of so many digits
 abbrev pub binary_from : ℕ → ℕ → List (List ℕ) → Result (ℕ × WordsLeft) Fault
@@ -284,11 +326,13 @@ keyword_of word = if bytes_eq word (codes "uniform") then Some keywords.Uniform 
     (if bytes_eq word (codes "partition") then Some keywords.Partition else
     (if bytes_eq word (codes "laminar") then Some keywords.Laminar else
     (if bytes_eq word (codes "graphic") then Some keywords.Graphic else
+    (if bytes_eq word (codes "transversal") then Some keywords.Transversal else
+    (if bytes_eq word (codes "gammoid") then Some keywords.Gammoid else
     (if bytes_eq word (codes "gf2") then Some keywords.Gf2 else
     (if bytes_eq word (codes "dual") then Some keywords.Dual else
     (if bytes_eq word (codes "truncate") then Some keywords.Truncate else
     (if bytes_eq word (codes "restrict") then Some keywords.Restrict else
-    (if bytes_eq word (codes "contract") then Some keywords.Contract else None))))))))
+    (if bytes_eq word (codes "contract") then Some keywords.Contract else None))))))))))
 
 -- a matroid on n elements, from the words behind its keyword in line number `line` on; `inner` reads a matroid within it
 abbrev pub kind_at : TreeReader → ℕ → ℕ → Option Keyword → WordsLeft → LinesLeft → Result (Tree × LinesLeft) Fault
@@ -297,6 +341,8 @@ kind_at inner n line (Some keywords.Uniform) words lines = uniform_at n words li
 kind_at inner n line (Some keywords.Partition) words lines = partition_at n words lines
 kind_at inner n line (Some keywords.Laminar) words lines = laminar_at n words lines
 kind_at inner n line (Some keywords.Graphic) words lines = graphic_at n words lines
+kind_at inner n line (Some keywords.Transversal) words lines = transversal_at n words lines
+kind_at inner n line (Some keywords.Gammoid) words lines = gammoid_at n words lines
 kind_at inner n line (Some keywords.Gf2) words lines = gf2_at n words lines
 kind_at inner n line (Some keywords.Dual) words lines = dual_at inner words lines
 kind_at inner n line (Some keywords.Truncate) words lines = truncate_at inner words lines
@@ -363,7 +409,7 @@ graph_at words lines = do
   vertices ← count_at 1 501 words
   many ← count_at 0 501 vertices.1
   end ← ended_at many.1
-  edges ← repeat_at (edge_at vertices.0) many.0 lines
+  edges ← repeat_at (ends_line_at (codes "edge") vertices.0) many.0 lines
   Ok (graph vertices.0 edges.0, edges.1)
 
 -- a directed graph with a root, from the words behind the form's word on

@@ -3,7 +3,7 @@
 ghost use Rattle.std.specs.Prelude.{◌≡◌, ◌≤◌, ◌≤ℤ◌, ◌^◌, neg_ℤ, pos, length, IfOk};
 ghost use Rattle.std.specs.List.{zip};
 ghost use Rattle.mat_desc.specs.Faults.{Gives};
-ghost use Rattle.mat_desc.specs.Reading.{ends_at, edge_at, column_at, weighted_at, coloured_edge_at, repeat_at};
+ghost use Rattle.mat_desc.specs.Reading.{ends_at, ends_line_at, column_at, weighted_at, coloured_edge_at, repeat_at};
 ghost use Rattle.mat_desc.specs.Views.{lines_left, words_left};
 
 use crate::binary::next_binary;
@@ -28,12 +28,16 @@ fn next_ends<'a>(
     Ok(((first, second), words))
 }
 
-/// An edge line.
-#[tactic(auto, unfolding(crate::specs::Reading::edge_at))]
-fn edge_line<'a>(vertices: u32, lines: Lines<'a>) -> Result<((u32, u32), Lines<'a>), DescRefusal>
-    ensures { Gives (λ x. (x.0, lines_left x.1)) result (edge_at vertices (lines_left lines.entry)) }
+/// A line of this keyword with the two ends of an edge or of an arc.
+#[tactic(auto, unfolding(crate::specs::Reading::ends_line_at))]
+fn ends_line<'a>(
+    key: &[u8],
+    vertices: u32,
+    lines: Lines<'a>,
+) -> Result<((u32, u32), Lines<'a>), DescRefusal>
+    ensures { Gives (λ x. (x.0, lines_left x.1)) result (ends_line_at key.now vertices (lines_left lines.entry)) }
 {
-    let (words, rest) = keyed_line(lines, b"edge")?;
+    let (words, rest) = keyed_line(lines, key)?;
     let (ends, words) = next_ends(words, vertices, vertices)?;
     ended(words)?;
     Ok((ends, rest))
@@ -89,24 +93,25 @@ fn coloured_edge_line<'a>(
     Ok((ends, colour, weight, rest))
 }
 
-/// As many edge lines.
-pub fn edge_lines<'a>(
+/// As many lines of this keyword with the two ends of an edge or of an arc.
+pub fn ends_lines<'a>(
     alloc: Global,
+    key: &[u8],
     vertices: u32,
     many: u32,
     lines: Lines<'a>,
 ) -> Result<(Pairs, Lines<'a>), DescRefusal>
     ensures { Gives (λ x. (x.0, lines_left x.1)) result
-        (repeat_at (edge_at vertices) many (lines_left lines.entry)) }
+        (repeat_at (ends_line_at key.now vertices) many (lines_left lines.entry)) }
 {
-    let mut edges = Vec::new(alloc);
+    let mut pairs = Vec::new(alloc);
     let mut rest = lines;
     for _ in 0..many {
-        let (ends, after) = edge_line(vertices, rest)?;
-        edges.push(ends)?;
+        let (ends, after) = ends_line(key, vertices, rest)?;
+        pairs.push(ends)?;
         rest = after;
     }
-    Ok((Pairs::new(edges), rest))
+    Ok((Pairs::new(pairs), rest))
 }
 
 /// As many column lines.

@@ -21,6 +21,8 @@ pub enum Keyword {
     Partition,
     Laminar,
     Graphic,
+    Transversal,
+    Gammoid,
     Gf2,
     Dual,
     Truncate,
@@ -61,6 +63,10 @@ pub fn keyword_from(word: &[u8]) -> Option<Keyword>
         Some(Keyword::Laminar)
     } else if word == b"graphic".as_slice() {
         Some(Keyword::Graphic)
+    } else if word == b"transversal".as_slice() {
+        Some(Keyword::Transversal)
+    } else if word == b"gammoid".as_slice() {
+        Some(Keyword::Gammoid)
     } else if word == b"gf2".as_slice() {
         Some(Keyword::Gf2)
     } else if word == b"dual".as_slice() {

@@ -7,8 +7,9 @@ ghost use Rattle.mat_desc.specs.Reading.{class_at, classes_at, nested_set_at, ne
 ghost use Rattle.mat_desc.specs.Views.{lines_left, words_left};
 
 use crate::cursor::{Lines, Words};
-use crate::item_lines::{column_lines, edge_lines};
+use crate::item_lines::{column_lines, ends_lines};
 use crate::keywords::{Keyword, keyword_from};
+use crate::linked_lines::{gammoid, transversal};
 use crate::reading::{elements_line, ended, keyed_line, next_count, next_line, next_word};
 use crate::refusal::{DescKind, DescRefusal};
 use mat_any::AnyMatroid;
@@ -158,7 +159,7 @@ fn laminar<'a>(
 }
 
 /// A graphic matroid, from the words behind its keyword on.
-#[tactic(auto, using(crate::proofs::ItemLaws::edges_sound), unfolding(crate::specs::Reading::graphic_at))]
+#[tactic(auto, using(crate::proofs::ItemLaws::ends_lines_sound), unfolding(crate::specs::Reading::graphic_at))]
 fn graphic<'a>(
     alloc: Global,
     count: u32,
@@ -170,7 +171,7 @@ fn graphic<'a>(
 {
     let (vertices, words) = next_count(words, 1, 501)?;
     ended(words)?;
-    let (edges, rest) = edge_lines(alloc, vertices, count, lines)?;
+    let (edges, rest) = ends_lines(alloc, b"edge", vertices, count, lines)?;
     let matroid = Graphic::new(alloc, vertices, edges)?;
     Ok((AnyMatroid::Graphic(matroid), rest))
 }
@@ -302,6 +303,8 @@ fn next_matroid_within<'a>(
         Some(Keyword::Partition) => partition(alloc, count, words, rest),
         Some(Keyword::Laminar) => laminar(alloc, count, words, rest),
         Some(Keyword::Graphic) => graphic(alloc, count, words, rest),
+        Some(Keyword::Transversal) => transversal(alloc, count, words, rest),
+        Some(Keyword::Gammoid) => gammoid(alloc, count, words, rest),
         Some(Keyword::Gf2) => gf2(alloc, count, words, rest),
         Some(Keyword::Dual) => dual(alloc, room - 1, count, words, rest),
         Some(Keyword::Truncate) => truncation(alloc, room - 1, count, words, rest),

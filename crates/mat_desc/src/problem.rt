@@ -9,7 +9,7 @@ ghost use Rattle.mat_desc.specs.Soundness.{IsSoundInstance};
 ghost use Rattle.mat_desc.specs.Views.{lines_left, words_left, instance_of};
 
 use crate::cursor::{Lines, Words};
-use crate::item_lines::{coloured_edge_lines, edge_lines, weighted_lines};
+use crate::item_lines::{coloured_edge_lines, ends_lines, weighted_lines};
 use crate::keywords::{Form, form_from};
 use crate::matroid::{next_matroid, next_matroids};
 use crate::reading::{ended, keyed_line, next_count, next_line, next_word, weights_line};
@@ -158,7 +158,7 @@ fn graph<'a>(
     let (vertices, words) = next_count(words, 1, 501)?;
     let (many, words) = next_count(words, 0, 501)?;
     ended(words)?;
-    let (edges, lines) = edge_lines(alloc, vertices, many, lines)?;
+    let (edges, lines) = ends_lines(alloc, b"edge", vertices, many, lines)?;
     Ok((Problem::Graph { vertices, edges }, lines))
 }
 

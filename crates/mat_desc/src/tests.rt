@@ -400,3 +400,55 @@ fn first_faults_of_columns(rt: HostRuntime) -> Result<(), Fail> {
     }
     Ok(())
 }
+
+#[test]
+fn gammoids_and_transversal_matroids_are_written(rt: HostRuntime) -> Result<(), Fail> {
+    let alloc = rt.alloc();
+    let text =
+        b"matroids 1\npair 2\nweights 5 -2\ngammoid 4 3\nsources 3 0\ntargets 2 1\narc 3 2\narc 0 1\narc 1 1\ntransversal 3\nset 1 0\nset\nset 1\nend\n";
+    let Ok(problem) = read_problem(alloc, text) else {
+        assert!(rt; false);
+        return Ok(());
+    };
+    let written = write_problem(alloc, &problem)?;
+    assert_eq!(rt;
+        written.as_slice(),
+        b"matroids 1\npair 2\nweights 5 -2\ngammoid 4 3\nsources 0 3\ntargets 2 1\narc 3 2\narc 0 1\narc 1 1\ntransversal 3\nset 0 1\nset\nset 1\nend\n".as_slice()
+    );
+    Ok(())
+}
+
+#[test]
+fn first_faults_of_gammoids_and_transversal_matroids(rt: HostRuntime) -> Result<(), Fail> {
+    let cases: [(&[u8], DescKind, u32); 5] = [
+        (
+            b"matroids 1\npair 2\nweights 0 0\ngammoid 3 1\nsources 0\ntargets 1 1 2\narc 0 1\n",
+            DescKind::Repeated,
+            6,
+        ),
+        (
+            b"matroids 1\npair 2\nweights 0 0\ngammoid 3 1\nsources 0\ntargets 1\narc 0 1\n",
+            DescKind::TooFewWords,
+            6,
+        ),
+        (
+            b"matroids 1\npair 2\nweights 0 0\ngammoid 3 1\nsources 0\ntargets 1 2 0\narc 0 1\n",
+            DescKind::TooManyWords,
+            6,
+        ),
+        (
+            b"matroids 1\npair 2\nweights 0 0\ngammoid 3 1\nsources 0\ntargets 1 2\narc 0 3\n",
+            DescKind::NumberRange,
+            7,
+        ),
+        (
+            b"matroids 1\npair 2\nweights 0 0\ntransversal 2\nset 0\nset 1 1\n",
+            DescKind::Repeated,
+            6,
+        ),
+    ];
+    for (text, kind, line) in cases.iter() {
+        assert_eq!(rt; fault_of(rt.alloc(), text)?, Some((*kind, *line)));
+    }
+    Ok(())
+}

@@ -4,9 +4,9 @@ ghost use Rattle.std.specs.Prelude.{◌≡◌, ◌++◌, ◌∷◌, [], codes, m
 ghost use Rattle.std.specs.List.{zip, flat_map};
 ghost use Rattle.mat_words.specs.Numbers.{numeral, numerals};
 ghost use Rattle.mat_words.specs.Lines.{text_of};
-ghost use Rattle.mat_any.specs.Trees.{partition, laminar, graphic, gf2};
+ghost use Rattle.mat_any.specs.Trees.{partition, laminar, graphic, transversal, gammoid, gf2};
 ghost use Rattle.mat_any.specs.Views.{tree_of};
-ghost use Rattle.mat_desc.specs.Grammar.{edge_line, column_line, weighted_line, coloured_edge_line};
+ghost use Rattle.mat_desc.specs.Grammar.{ends_line, column_line, weighted_line, coloured_edge_line};
 ghost use Rattle.mat_desc.specs.Instances.{pair, list, graph, rooted, coloured, table};
 ghost use Rattle.mat_desc.specs.Canonical.{numbers_line, capped_line, capped_lines, matroid_lines, form_lines, canonical_text};
 ghost use Rattle.mat_desc.specs.Views.{instance_of};
@@ -17,6 +17,7 @@ use mat_any::AnyMatroid;
 use mat_count::{Laminar, Partition};
 use mat_gf2::Gf2;
 use mat_graphic::Graphic;
+use mat_linked::{Gammoid, Transversal};
 use mat_sets::ElemSet;
 use mat_words::put_number;
 use std::alloc::{AllocError, Global};
@@ -109,12 +110,12 @@ fn put_laminar(out: &mut Vec<u8>, matroid: &Laminar) -> Result<(), AllocError>
     Ok(())
 }
 
-/// Appends a line for each edge.
-fn put_edge_lines(out: &mut Vec<u8>, edges: &[(u32, u32)]) -> Result<(), AllocError>
-    ensures { OnOk result (out.new.items ≡ out.old.items ++ text_of (map edge_line edges.now)) }
+/// Appends a line of this keyword for the two ends of each edge or arc.
+fn put_ends_lines(out: &mut Vec<u8>, keyword: &[u8], pairs: &[(u32, u32)]) -> Result<(), AllocError>
+    ensures { OnOk result (out.new.items ≡ out.old.items ++ text_of (map (ends_line keyword.now) pairs.now)) }
 {
-    for edge in edges {
-        put_line(out, b"edge", &[i128::from(edge.0), i128::from(edge.1)])?;
+    for ends in pairs {
+        put_line(out, keyword, &[i128::from(ends.0), i128::from(ends.1)])?;
     }
     Ok(())
 }
@@ -125,7 +126,46 @@ fn put_graphic(out: &mut Vec<u8>, matroid: &Graphic) -> Result<(), AllocError>
         ++ text_of (matroid_lines (graphic matroid.now.vertices matroid.now.edges))) }
 {
     put_line(out, b"graphic", &[i128::from(matroid.vertices())])?;
-    put_edge_lines(out, matroid.edges().as_slice())?;
+    put_ends_lines(out, b"edge", matroid.edges().as_slice())?;
+    Ok(())
+}
+
+/// Appends a set line for each set of a family.
+fn put_family_lines(out: &mut Vec<u8>, family: &[ElemSet]) -> Result<(), AllocError>
+    ensures { OnOk result (out.new.items ≡ out.old.items ++ text_of (map (λ set. codes "set" ∷ numerals set) family.now)) }
+{
+    for set in family {
+        put_members_line(out, b"set", set.as_slice())?;
+    }
+    Ok(())
+}
+
+/// Appends the lines of a transversal matroid.
+fn put_transversal(out: &mut Vec<u8>, matroid: &Transversal) -> Result<(), AllocError>
+    ensures { OnOk result (out.new.items ≡ out.old.items
+        ++ text_of (matroid_lines (transversal matroid.now.count matroid.now.sets))) }
+{
+    let family = matroid.family().as_slice();
+    put_line(out, b"transversal", &[family.len() as i128])?;
+    put_family_lines(out, family)?;
+    Ok(())
+}
+
+/// Appends the lines of a gammoid.
+fn put_gammoid(out: &mut Vec<u8>, matroid: &Gammoid) -> Result<(), AllocError>
+    ensures { OnOk result (out.new.items ≡ out.old.items
+        ++ text_of (matroid_lines (gammoid matroid.now.vertices matroid.now.arcs matroid.now.sources matroid.now.targets))) }
+{
+    let graph = matroid.graph();
+    let arcs = graph.arcs().as_slice();
+    put_line(
+        out,
+        b"gammoid",
+        &[i128::from(graph.vertices()), arcs.len() as i128],
+    )?;
+    put_members_line(out, b"sources", matroid.sources().as_slice())?;
+    put_members_line(out, b"targets", matroid.targets())?;
+    put_ends_lines(out, b"arc", arcs)?;
     Ok(())
 }
 
@@ -168,6 +208,8 @@ fn put_matroid(out: &mut Vec<u8>, matroid: &AnyMatroid) -> Result<(), AllocError
         AnyMatroid::Partition(partition) => put_partition(out, partition),
         AnyMatroid::Laminar(laminar) => put_laminar(out, laminar),
         AnyMatroid::Graphic(graphic) => put_graphic(out, graphic),
+        AnyMatroid::Transversal(transversal) => put_transversal(out, transversal),
+        AnyMatroid::Gammoid(gammoid) => put_gammoid(out, gammoid),
         AnyMatroid::Gf2(gf2) => put_gf2(out, gf2),
         AnyMatroid::Dual(inner) => {
             put_line(out, b"dual", &[])?;
@@ -304,7 +346,7 @@ fn put_graph(out: &mut Vec<u8>, vertices: u32, edges: &[(u32, u32)]) -> Result<(
     ensures { OnOk result (out.new.items ≡ out.old.items ++ text_of (form_lines (graph vertices edges.now))) }
 {
     put_line(out, b"graph", &[i128::from(vertices), edges.len() as i128])?;
-    put_edge_lines(out, edges)?;
+    put_ends_lines(out, b"edge", edges)?;
     Ok(())
 }
 

@@ -27,7 +27,9 @@ rooted V E R, then E lines arc T H COST; coloured V E C, then E lines edge U W C
 table R C E, then E lines cell ROW COLUMN WEIGHT.
 Other matroids: laminar Q, then Q lines set CAP E E .., of which any two are apart or nested; graphic V, then N
 lines edge U W, whose sets are forests; gf2 D, then N lines column BITS of D digits 0 or 1, whose sets have no
-part that adds up to zero.
+part that adds up to zero; transversal Q, then Q lines set E E .., whose sets can be given to different ones of
+them; gammoid V A, then sources S S .., targets T T .. and A lines arc T H, whose sets are reached from the
+sources at once by routes that do not meet.
 Matroids of the matroid that follows: dual; truncate CAP; restrict E E ..; contract E E ..; at most 16 deep.
 
 A certificate has for each size K a rung: its weight, its set, and two lists of numbers that add up to the

@@ -1,0 +1,10 @@
+use Rattle.std.proofs.Common.{◌≡◌, ◌-◌}
+use Rattle.mat_desc.specs.Reading.{set_line_at, repeat_at}
+use Rattle.mat_desc.specs.Views.{lines_left}
+use Rattle.mat_desc.proofs.Repeats.{with_front}
+use Rattle.mat_desc.proofs.linked_lines.set_lines.Given as goal
+
+abbrev pub invariant-loop : goal.invariant-loop
+invariant-loop l =
+    with_front l.sets.items (repeat_at (set_line_at l.key l.count) (l.many - l.counter) (lines_left l.rest))
+    ≡ repeat_at (set_line_at l.key l.count) l.many (lines_left l.fn.lines)
