@@ -1,4 +1,4 @@
--- Kind trees: what contracts see of any matroid.
+-- Kind trees: what contracts see of any matroid (Schrijver, chapter 39).
 use Rattle.std.specs.Prelude.{ℕ, suc, Bool, List, length}
 use Rattle.mat_sets.specs.Sets.{IsSet}
 use Rattle.mat_sets.specs.Graphs.{ends_of, IsGraph}

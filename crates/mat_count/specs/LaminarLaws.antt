@@ -1,4 +1,4 @@
--- Where no two listed sets cross, the sets within the caps are the independent sets of a matroid.
+-- Where no two listed sets cross, the sets within the caps are the independent sets of a matroid (Schrijver, chapter 39).
 -- Idea of the exchange: if each element of J outside I stands in a set that I fills, then I has at least as many members
 -- as J in each filled set, and so in their union, since filled sets are nested or apart; and outside the union J lies in I.
 use Rattle.std.proofs.Common.{◌≡◌, ℕ, zero, suc, ◌<◌, ◌≤◌, ◌+◌, true, false, cond, not, ◌&&◌, leb, ltb, List, [], ◌∷◌, length, get_or, ◌⊎◌, inl, inr, refl, ap, ◌∙◌, arith}

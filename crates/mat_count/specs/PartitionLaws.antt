@@ -1,4 +1,4 @@
--- Classes that share no member do not cross, so that partition matroids are laminar ones.
+-- Classes that share no member do not cross, so that partition matroids are laminar ones (Schrijver, chapter 39).
 use Rattle.std.proofs.Common.{ℕ, ◌≢◌, List, [], get_or, arith}
 use Rattle.std.proofs.lemmas.Bool.{both_ways, false_from_ne_true}
 use Rattle.mat_sets.specs.Families.{AreDisjoint}

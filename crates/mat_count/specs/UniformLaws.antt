@@ -1,4 +1,4 @@
--- The sets of at most so many elements are the independent sets of a matroid.
+-- The sets of at most so many elements are the independent sets of a matroid (Schrijver, chapter 39).
 use Rattle.std.proofs.Common.{ℕ, ◌≤◌, leb, [], length, arith}
 use Rattle.std.proofs.lemmas.Bool.{and_parts, and_from, leb-true, le-leb}
 use Rattle.mat_sets.specs.Sets.{with_one}

@@ -1,4 +1,4 @@
--- The greatest weight of the elements that pass a test, as of those that can be added.
+-- The greatest weight of the elements that pass a test, as of those that can be added (Frank 1981).
 use Rattle.std.specs.Prelude.{◌≡◌, ℕ, Bool, true, false, if◌then◌else◌, Option, Some, None, MatchOption, ℤ, int_lt, ◌≤ℤ◌}
 
 -- t is the weight of an element that passes, and none that passes weighs more

@@ -1,4 +1,4 @@
--- What a search along tight arcs finds.
+-- What a search along tight arcs finds (Frank 1981; Schrijver, chapter 41).
 use Rattle.std.specs.Prelude.{ℕ, ℤ}
 use Rattle.mat_laws.specs.TightPaths.{Exchanges, IsTightPath, IsStuckReach}
 use Rattle.mat_laws.specs.Slacks.{IsLeastSlackOrNone}

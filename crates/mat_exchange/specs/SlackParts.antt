@@ -1,5 +1,5 @@
 -- The slacks of a reached set, by matroid: in the first they lead from the reached elements to the others, and in the second from the
--- others to the reached.
+-- others to the reached (Frank 1981).
 use Rattle.std.specs.Prelude.{◌≡◌, ℕ, ◌<◌, true, if◌then◌else◌, List, Option, Some, None, MatchOption, ℤ, int_lt, ◌-ℤ◌, ◌≤ℤ◌}
 use Rattle.mat_sets.specs.Sets.{is_member}
 use Rattle.mat_laws.specs.TightPaths.{Exchanges, is_heaviest_addable}

@@ -1,4 +1,4 @@
--- Elimination by a list of columns, in turn.
+-- Elimination by a list of columns, in turn (Gauss).
 use Rattle.std.specs.Prelude.{ℕ, List, [], ◌∷◌}
 use Rattle.mat_gf2.specs.Columns.{reduced}
 

@@ -1,5 +1,5 @@
 -- The sets of linearly independent columns obey the laws of a matroid. For the augmentation law, an element of J of whose column something is left
--- by elimination with I is sought; if there were none, J would be no larger than I.
+-- by elimination with I is sought; if there were none, J would be no larger than I (Schrijver, chapter 39).
 use Rattle.std.proofs.Common.{◌≡◌, ℕ, ◌<◌, Bool, true, false, not, ◌&&◌, eqb, List, [], length, inl, inr, refl, arith}
 use Rattle.std.proofs.lemmas.Bool.{cases_Bool, eqb-true, eqb-false, and_parts, and_from, not-true}
 use Rattle.std.proofs.lemmas.Bool.Decides.{nat_tests}

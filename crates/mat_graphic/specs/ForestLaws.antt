@@ -1,4 +1,5 @@
--- The test of forests holds exactly of forests, and the forests of a graph are the independent sets of a matroid.
+-- The test of forests holds exactly of forests, and the forests of a graph are the independent sets of a matroid
+-- (Schrijver, chapter 39).
 -- Idea of the augmentation: each edge of a forest takes from one more vertex that it is the least of its component. If each edge of J
 -- has its ends in one component of I, then a vertex from which J reaches a lower one is one from which I does, so |J| is at most |I|.
 use Rattle.std.proofs.Common.{◌≡◌, ℕ, suc, ◌≤◌, ◌<◌, ◌≢◌, min, max, true, false, cond, not, ◌||◌, eqb, List, [], ◌∷◌, length, ◌⊎◌, inl, inr, refl, sym, ap, ◌∙◌, subst, arith}

@@ -1,4 +1,4 @@
--- What the test of a gammoid means, and the laws that it obeys.
+-- What the test of a gammoid means, and the laws that it obeys (Schrijver, chapter 39).
 use Rattle.std.proofs.Common.{◌≡◌, ℕ, ◌<◌, true, List, [], length, refl, subst}
 use Rattle.std.proofs.lemmas.Bool.{and_from, and_parts}
 use Rattle.mat_sets.specs.SetTests.{is_set}

@@ -1,4 +1,5 @@
--- What the test of a transversal matroid means, and the laws that it obeys: those of the linked sets of a graph.
+-- What the test of a transversal matroid means, and the laws that it obeys: those of the linked sets of a graph (Schrijver,
+-- chapter 39).
 use Rattle.std.proofs.Common.{◌≡◌, ℕ, zero, suc, ◌<◌, Bool, true, ◌&&◌, List, [], ◌∷◌, length, get_or, refl, ap, subst}
 use Rattle.std.proofs.lemmas.Bool.{and_from, and_parts, false≢true}
 use Rattle.std.proofs.lemmas.List.Elements.{All-head, All-tail}

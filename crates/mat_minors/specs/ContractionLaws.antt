@@ -1,5 +1,5 @@
 -- Which maximal independent subset of the contracted elements is taken does not matter: grown by a set that is independent together with
--- one of them, another takes in all of that set and nothing else. So one is taken for all sets.
+-- one of them, another takes in all of that set and nothing else. So one is taken for all sets (Schrijver, chapter 39).
 use Rattle.std.proofs.Common.{◌≡◌, ℕ, ◌<◌, Bool, true, false, ◌&&◌, ◌||◌, eqb, List, [], length, inl, inr, sym, ap, ◌∙◌, arith}
 use Rattle.std.proofs.lemmas.Bool.{cases_Bool, and_parts, and_from, eqb-true, eq-eqb, both_ways, false_from_ne_true}
 use Rattle.std.proofs.lemmas.List.{nil_from_length}

@@ -1,5 +1,5 @@
 -- A base that is disjoint from J loses its members in I and grows, outside I, to a base; where I is the smaller set, that base is too
--- small to hold all of J - I, so that an element of J - I can be added to I.
+-- small to hold all of J - I, so that an element of J - I can be added to I (Whitney 1935; Schrijver, chapter 39).
 use Rattle.std.proofs.Common.{◌≡◌, ℕ, ◌≤◌, ◌<◌, Bool, true, false, ◌||◌, ◌⊎◌, List, length, inl, inr, sym, ap, ◌∙◌, arith}
 use Rattle.std.proofs.lemmas.Bool.{ne_eqb, ltb-true, lt-ltb, or_cases, and_parts, and_from, both_ways, false_from_ne_true}
 use Rattle.mat_sets.specs.Sets.{is_member, IsSubset, with_one, minus, all_below}

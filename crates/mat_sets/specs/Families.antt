@@ -1,4 +1,4 @@
--- Families of sets, as lists of sets.
+-- Families of sets, as lists of sets (Schrijver, chapter 2).
 use Rattle.std.specs.Prelude.{ℕ, ◌+◌, ◌≤◌, Bool, if◌then◌else◌, List, [], ◌∷◌, ℤ, pos, ◌+ℤ◌}
 use Rattle.mat_sets.specs.Sets.{is_member, IsRising, union}
 use Rattle.mat_sets.specs.Sums.{sum_of}

@@ -1,4 +1,4 @@
--- Finite sets of numbers, as strictly rising lists.
+-- Finite sets of numbers, as strictly rising lists (Schrijver, chapter 2).
 use Rattle.std.specs.Prelude.{◌≡◌, ℕ, zero, suc, ◌<◌, ◌≤◌, Bool, true, false, not, ◌||◌, ◌==◌, nat_lt, if◌then◌else◌, List, [], ◌∷◌, filter}
 
 -- whether x is one of the items

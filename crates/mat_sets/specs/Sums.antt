@@ -1,4 +1,4 @@
--- Sums of numbers over the members of a set.
+-- Sums of numbers over the members of a set (Schrijver, chapter 2).
 use Rattle.std.specs.Prelude.{ℕ, List, [], ◌∷◌, slice_index_or, ℤ, pos, ◌+ℤ◌, ◌≤ℤ◌, neg_ℤ, All}
 
 -- the sum of f over the items

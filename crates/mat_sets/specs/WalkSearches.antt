@@ -1,4 +1,4 @@
--- What a search for a shortest walk finds.
+-- What a search for a shortest walk finds (Schrijver, chapter 6).
 use Rattle.std.specs.Prelude.{◌≡◌, ℕ, Bool, true, false}
 use Rattle.mat_sets.specs.Sets.{is_member}
 use Rattle.mat_sets.specs.Walks.{IsReachedSet, IsShortestWalk}

@@ -1,4 +1,4 @@
--- Heaviest common independent sets of two matroids.
+-- Heaviest common independent sets of two matroids (Schrijver, chapter 41).
 use Rattle.std.specs.Prelude.{◌≡◌, ℕ, Bool, true, List, length, ℤ, ◌≤ℤ◌}
 use Rattle.mat_sets.specs.Sums.{weight}
 
