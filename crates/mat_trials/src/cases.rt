@@ -1,0 +1,55 @@
+//! Cases of the top call, and the file that they stand in.
+//!
+//! A line that begins with `>` begins a case, and its further words are those of the command line. The lines below it are the text
+//! of the file `f`. A last line that is `<` alone is no part of that text, and says that the line above it has no end.
+
+use std::alloc::{AllocError, Global};
+
+/// A case: the words of a command line, and the text of the file `f`.
+#[derive(Debug, Drop)]
+pub(crate) struct Case {
+    pub(crate) words: Vec<String>,
+    pub(crate) text: String,
+}
+
+// The words of a line.
+fn words_of(alloc: Global, line: &str) -> Result<Vec<String>, AllocError> {
+    let mut words = Vec::new(alloc);
+    for word in line.split_whitespace() {
+        words.push(String::from_str(alloc, word)?)?;
+    }
+    Ok(words)
+}
+
+// The text of these lines, of which the last has no end.
+fn text_of(alloc: Global, lines: &str) -> Result<String, AllocError> {
+    match lines.strip_suffix("\n<") {
+        Some(text) => String::from_str(alloc, text),
+        None => format!(in alloc; "{lines}\n"),
+    }
+}
+
+// The case of these lines, of which the first holds the words, and the last has no end.
+fn case_of(alloc: Global, lines: &str) -> Result<Case, AllocError> {
+    match lines.split_once('\n') {
+        Some((first, others)) => Ok(Case {
+            words: words_of(alloc, first)?,
+            text: text_of(alloc, others)?,
+        }),
+        None => Ok(Case {
+            words: words_of(alloc, lines)?,
+            text: String::new(alloc),
+        }),
+    }
+}
+
+/// The cases of a file that begins with one.
+pub(crate) fn cases_of(alloc: Global, file: &str) -> Result<Vec<Case>, AllocError> {
+    let mut cases = Vec::new(alloc);
+    let lines = file.strip_suffix("\n").unwrap_or(file);
+    let lines = lines.strip_prefix(">").unwrap_or(lines);
+    for case in lines.split("\n>") {
+        cases.push(case_of(alloc, case)?)?;
+    }
+    Ok(cases)
+}

@@ -1,0 +1,102 @@
+//! Disjoint paths in graphs of some hundred vertices, which descriptions give as gammoids.
+
+ghost use Rattle.std.specs.Prelude.{IfOk, IfSome};
+ghost use Rattle.mat_desc.specs.Soundness.{IsSoundInstance};
+ghost use Rattle.mat_desc.specs.Views.{instance_of};
+ghost use Rattle.mat_sets.specs.Sets.{AllBelow};
+ghost use Rattle.mat_linked.specs.Gammoids.{IsGammoid};
+
+use mat_any::AnyMatroid;
+use mat_desc::{Problem, read_problem};
+use mat_flow::linked;
+use mat_laws::{Matroid, rank_of};
+use mat_linked::Gammoid;
+use mat_sets::ElemSet;
+use std::alloc::{AllocError, Global};
+
+/// The files of the graphs.
+pub(crate) const ROUTES: [&str; 10] = [
+    "routes_0.txt",
+    "routes_1.txt",
+    "routes_2.txt",
+    "routes_3.txt",
+    "routes_4.txt",
+    "routes_5.txt",
+    "routes_6.txt",
+    "routes_7.txt",
+    "routes_8.txt",
+    "routes_9.txt",
+];
+
+// The most bytes that a description may have.
+const LIMIT: usize = 4_194_304;
+
+// The set of these members, each of which is below n.
+fn set_below(alloc: Global, n: u32, members: &[u32]) -> Result<ElemSet, AllocError>
+    requires { AllBelow n members.now }
+    ensures { IfOk result (λ s. AllBelow n s) }
+{
+    let mut set = ElemSet::new(alloc);
+    for x in members {
+        let _ = set.add(*x)?;
+    }
+    Ok(set)
+}
+
+// How many disjoint paths lead to the targets, and how many vertices separate these from the sources.
+fn linking_of(alloc: Global, gammoid: &Gammoid) -> Result<String, AllocError>
+    requires { IsGammoid gammoid.now.vertices gammoid.now.arcs gammoid.now.sources gammoid.now.targets }
+{
+    let graph = gammoid.graph();
+    let targets = set_below(alloc, graph.vertices(), gammoid.targets())?;
+    let linking = linked(alloc, graph, gammoid.sources(), &targets)?;
+    let paths = linking.paths.len();
+    let separator = linking.separator.len();
+    format!(in alloc; "paths {paths} separator {separator}")
+}
+
+// What is told of a gammoid.
+fn numbers_of(alloc: Global, gammoid: &Gammoid) -> Result<String, AllocError>
+    requires { IsGammoid gammoid.now.vertices gammoid.now.arcs gammoid.now.sources gammoid.now.targets }
+{
+    let linking = linking_of(alloc, gammoid)?;
+    let all = ElemSet::all_below(alloc, gammoid.size())?;
+    let rank = rank_of(alloc, gammoid, &all)?;
+    format!(in alloc; "{linking} rank {rank}")
+}
+
+// The gammoid that is the first of a pair.
+fn gammoid_of(problem: &Problem) -> Option<&Gammoid>
+    requires { IsSoundInstance (instance_of problem.now) }
+    ensures { IfSome result (λ g. IsGammoid g.now.vertices g.now.arcs g.now.sources g.now.targets) }
+{
+    let Problem::Pair { first, .. } = problem else {
+        return None;
+    };
+    match first {
+        AnyMatroid::Gammoid(gammoid) => Some(gammoid),
+        _ => None,
+    }
+}
+
+// What is told of a problem.
+fn told_of(alloc: Global, problem: &Problem) -> Result<String, AllocError>
+    requires { IsSoundInstance (instance_of problem.now) }
+{
+    match gammoid_of(problem) {
+        Some(gammoid) => numbers_of(alloc, gammoid),
+        None => String::from_str(alloc, "no gammoid"),
+    }
+}
+
+/// What is told of the first matroid of a description, a gammoid: how many disjoint paths there are, how many vertices separate the
+/// targets from the sources, and its rank.
+pub(crate) fn route_report(alloc: Global, text: &[u8]) -> Result<String, AllocError> {
+    if text.len() > LIMIT {
+        return String::from_str(alloc, "too long");
+    }
+    match read_problem(alloc, text) {
+        Ok(problem) => told_of(alloc, &problem),
+        Err(_) => String::from_str(alloc, "no problem"),
+    }
+}
