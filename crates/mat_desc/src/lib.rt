@@ -17,6 +17,3 @@ pub use laws::{reading_laws, soundness_laws, writing_laws};
 pub use problem::{Problem, read_problem};
 pub use refusal::{DescKind, DescRefusal};
 pub use write::write_problem;
-
-#[cfg(test)]
-mod tests;
