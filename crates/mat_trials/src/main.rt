@@ -1,5 +1,6 @@
 //! The program `mat_trials`, a test: it runs the top call over the cases of the file `cases.txt`, and the search for disjoint paths over
-//! the graphs of the files `routes_*.txt`, and prints what came of each. What it has to print was worked out without it.
+//! the graphs of the files `routes_*.txt`, and prints what came of each. What it has to print was worked out without it. With names of
+//! descriptions as words it prints the lines of these alone.
 #![tactic(auto)]
 
 mod cases;
@@ -10,19 +11,51 @@ use crate::cases::cases_of;
 use crate::reports::report_of;
 use crate::routes::{ROUTES, route_report};
 use std::io::Write;
-use std::{fs, io};
+use std::{env, fs, io};
 
-fn main(rt: HostRuntime) -> io::Result<()> {
+// Runs the cases of the file `cases.txt`.
+fn print_cases(rt: &HostRuntime) -> io::Result<()> {
     let alloc = rt.alloc();
-    let text = fs::read_to_string(&rt, "cases.txt")?;
+    let text = fs::read_to_string(rt, "cases.txt")?;
     for case in cases_of(alloc, text.as_str())?.iter() {
         let report = report_of(alloc, case)?;
         rt.stdout().write_all(report.as_slice())?;
     }
+    Ok(())
+}
+
+// Prints the line of a description.
+fn print_route(rt: &HostRuntime, name: &str, ranked: bool) -> io::Result<()> {
+    let text = fs::read(rt, name)?;
+    let report = route_report(rt.alloc(), text.as_slice(), ranked)?;
+    println!(rt; "{name} {report}")
+}
+
+// Prints the lines of the descriptions with these names.
+fn print_named(rt: &HostRuntime, names: &[String]) -> io::Result<()> {
+    for name in names {
+        print_route(rt, name.as_str(), false)?;
+    }
+    Ok(())
+}
+
+// The words after the program's name.
+fn words_of(rt: &HostRuntime) -> io::Result<Vec<String>> {
+    let mut words = Vec::new(rt.alloc());
+    for word in env::args(rt)?.skip(1) {
+        words.push(word)?;
+    }
+    Ok(words)
+}
+
+fn main(rt: HostRuntime) -> io::Result<()> {
+    let names = words_of(&rt)?;
+    if !names.is_empty() {
+        return print_named(&rt, &names);
+    }
+    print_cases(&rt)?;
     for name in ROUTES.iter() {
-        let text = fs::read(&rt, *name)?;
-        let report = route_report(alloc, text.as_slice())?;
-        println!(rt; "{name} {report}")?;
+        print_route(&rt, *name, true)?;
     }
     Ok(())
 }

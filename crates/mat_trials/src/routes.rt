@@ -5,6 +5,8 @@ ghost use Rattle.mat_desc.specs.Soundness.{IsSoundInstance};
 ghost use Rattle.mat_desc.specs.Views.{instance_of};
 ghost use Rattle.mat_sets.specs.Sets.{AllBelow};
 ghost use Rattle.mat_linked.specs.Gammoids.{IsGammoid};
+ghost use Rattle.mat_any.specs.Trees.{IsSound};
+ghost use Rattle.mat_any.specs.Views.{tree_of};
 
 use mat_any::AnyMatroid;
 use mat_desc::{Problem, read_problem};
@@ -65,38 +67,55 @@ fn numbers_of(alloc: Global, gammoid: &Gammoid) -> Result<String, AllocError>
     format!(in alloc; "{linking} rank {rank}")
 }
 
-// The gammoid that is the first of a pair.
-fn gammoid_of(problem: &Problem) -> Option<&Gammoid>
+// The first matroid of a pair.
+fn first_of(problem: &Problem) -> Option<&AnyMatroid>
     requires { IsSoundInstance (instance_of problem.now) }
-    ensures { IfSome result (λ g. IsGammoid g.now.vertices g.now.arcs g.now.sources g.now.targets) }
+    ensures { IfSome result (λ m. IsSound (tree_of m.now)) }
 {
-    let Problem::Pair { first, .. } = problem else {
-        return None;
-    };
-    match first {
-        AnyMatroid::Gammoid(gammoid) => Some(gammoid),
+    match problem {
+        Problem::Pair { first, .. } => Some(first),
         _ => None,
     }
 }
 
-// What is told of a problem.
-fn told_of(alloc: Global, problem: &Problem) -> Result<String, AllocError>
-    requires { IsSoundInstance (instance_of problem.now) }
+// Whether all elements of a matroid are independent, by one question.
+fn answer_of(alloc: Global, matroid: &AnyMatroid) -> Result<String, AllocError>
+    requires { IsSound (tree_of matroid.now) }
 {
-    match gammoid_of(problem) {
-        Some(gammoid) => numbers_of(alloc, gammoid),
-        None => String::from_str(alloc, "no gammoid"),
+    let all = ElemSet::all_below(alloc, matroid.size())?;
+    let answer = matroid.independent(alloc, &all)?;
+    format!(in alloc; "independent {answer}")
+}
+
+// What is told of a matroid.
+fn told_of_first(alloc: Global, matroid: &AnyMatroid, ranked: bool) -> Result<String, AllocError>
+    requires { IsSound (tree_of matroid.now) }
+{
+    match matroid {
+        AnyMatroid::Gammoid(gammoid) if ranked => numbers_of(alloc, gammoid),
+        AnyMatroid::Gammoid(gammoid) => linking_of(alloc, gammoid),
+        _ => answer_of(alloc, matroid),
     }
 }
 
-/// What is told of the first matroid of a description, a gammoid: how many disjoint paths there are, how many vertices separate the
-/// targets from the sources, and its rank.
-pub(crate) fn route_report(alloc: Global, text: &[u8]) -> Result<String, AllocError> {
+// What is told of a problem.
+fn told_of(alloc: Global, problem: &Problem, ranked: bool) -> Result<String, AllocError>
+    requires { IsSoundInstance (instance_of problem.now) }
+{
+    match first_of(problem) {
+        Some(matroid) => told_of_first(alloc, matroid, ranked),
+        None => String::from_str(alloc, "no pair"),
+    }
+}
+
+/// What is told of the first matroid of a description. Of a gammoid: how many disjoint paths there are, how many vertices separate the
+/// targets from the sources, and, where that is asked for, its rank. Of another: whether all elements are independent.
+pub(crate) fn route_report(alloc: Global, text: &[u8], ranked: bool) -> Result<String, AllocError> {
     if text.len() > LIMIT {
         return String::from_str(alloc, "too long");
     }
     match read_problem(alloc, text) {
-        Ok(problem) => told_of(alloc, &problem),
+        Ok(problem) => told_of(alloc, &problem, ranked),
         Err(_) => String::from_str(alloc, "no problem"),
     }
 }
