@@ -3,6 +3,7 @@ ghost use Rattle.mat_any.specs.Trees.{element_count, is_independent, IsSound};
 ghost use Rattle.mat_any.specs.TreeLaws.{tree_laws};
 ghost use Rattle.mat_any.specs.Views.{tree_of};
 
+use crate::exchanges::circuit;
 use crate::independence::{independent, size_of};
 use mat_count::{Laminar, Partition, Uniform};
 use mat_gf2::Gf2;
@@ -59,18 +60,6 @@ impl Matroid for AnyMatroid {
     }
 
     fn circuit(&self, alloc: Global, base: &ElemSet, x: u32) -> Result<Exchange, AllocError> {
-        match self {
-            AnyMatroid::Uniform(matroid) => matroid.circuit(alloc, base, x),
-            AnyMatroid::Partition(matroid) => matroid.circuit(alloc, base, x),
-            AnyMatroid::Laminar(matroid) => matroid.circuit(alloc, base, x),
-            AnyMatroid::Graphic(matroid) => matroid.circuit(alloc, base, x),
-            AnyMatroid::Transversal(matroid) => matroid.circuit(alloc, base, x),
-            AnyMatroid::Gammoid(matroid) => matroid.circuit(alloc, base, x),
-            AnyMatroid::Gf2(matroid) => matroid.circuit(alloc, base, x),
-            AnyMatroid::Dual(_)
-            | AnyMatroid::Truncate { .. }
-            | AnyMatroid::Restrict { .. }
-            | AnyMatroid::Contract { .. } => self.circuit_by_questions(alloc, base, x),
-        }
+        circuit(alloc, self, base, x)
     }
 }

@@ -111,7 +111,7 @@ fn contraction_independent(
 
 // A maximal independent subset: the members are added one after the other, where the set stays independent.
 #[cycle(asking)]
-fn maximal_subset(
+pub(crate) fn maximal_subset(
     alloc: Global,
     matroid: &AnyMatroid,
     within: &ElemSet,

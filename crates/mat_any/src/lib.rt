@@ -2,6 +2,7 @@
 #![tactic(auto)]
 
 mod any;
+mod exchanges;
 mod independence;
 #[cfg(test)]
 mod tests;
