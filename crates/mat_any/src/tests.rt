@@ -55,6 +55,31 @@ fn kept_and_truncated(alloc: Global, cap: u32) -> Result<AnyMatroid, AllocError>
     })
 }
 
+// All sets on four elements, truncated to two elements, restricted to the first three, and the first of these contracted: the
+// sets of at most one of the elements 1 and 2.
+#[tactic(auto, unfolding(mat_sets::specs::Sets::all_below))]
+fn one_of_two(alloc: Global) -> Result<AnyMatroid, AllocError>
+    ensures count { IfOk result (λ m. element_count (tree_of m) ≡ 4) }
+    ensures sound { IfOk result (λ m. IsSound (tree_of m)) }
+{
+    let free = Box::new(alloc, AnyMatroid::Uniform(Uniform::new(4, 4)))?;
+    let truncated = Box::new(
+        alloc,
+        AnyMatroid::Truncate {
+            cap: 2,
+            inner: free,
+        },
+    )?;
+    let restricted = AnyMatroid::Restrict {
+        kept: ElemSet::all_below(alloc, 3)?,
+        inner: truncated,
+    };
+    Ok(AnyMatroid::Contract {
+        away: ElemSet::all_below(alloc, 1)?,
+        inner: Box::new(alloc, restricted)?,
+    })
+}
+
 #[test]
 #[tactic(auto, unfolding(mat_sets::specs::Sets::all_below))]
 fn asks_a_partition(rt: HostRuntime) -> Result<(), Fail> {
@@ -112,5 +137,20 @@ fn a_truncation_to_nothing_has_no_element(rt: HostRuntime) -> Result<(), Fail> {
     let alloc = rt.alloc();
     let kept = kept_and_truncated(alloc, 0)?;
     assert!(rt; !kept.independent(alloc, &ElemSet::all_below(alloc, 1)?)?);
+    Ok(())
+}
+
+#[test]
+#[tactic(auto, unfolding(mat_sets::specs::Sets::all_below))]
+fn an_exchange_within_leaves_out_what_is_contracted(rt: HostRuntime) -> Result<(), Fail> {
+    let alloc = rt.alloc();
+    let base = ElemSet::all_below(alloc, 2)?.minus(alloc, &ElemSet::all_below(alloc, 1)?)?;
+    let matroid = one_of_two(alloc)?;
+    assert!(rt; base.as_slice() == [1].as_slice());
+    assert!(rt; matroid.independent(alloc, &base)?);
+    assert!(rt; !base.contains(2));
+    let row = matroid.circuit(alloc, &base, 2)?;
+    assert!(rt; !row.addable);
+    assert!(rt; row.with == base);
     Ok(())
 }

@@ -47,19 +47,18 @@ contraction_circuit-circuit-requires t c =
     let laws = tree_laws tree c.requires.sound in
     let away = c.args.away.now in
     let chosen = c.in_ok-chosen.chosen in
-    let base = c.args.base.now in
-    (
+    let base = c.args.base.now in (
       search rules,
       (
         c.requires.sound,
         (
           ap (is_independent tree) c.in_ok-joined.ensures
-          ∙ (IsJoined-gives laws away chosen base c.requires.away.rising c.in_ok-chosen.ensures c.requires.base).joined,
+              ∙ (IsJoined-gives laws away chosen base c.requires.away.rising c.in_ok-chosen.ensures c.requires.base).joined,
           (
             c.requires.below,
             ap (is_member c.args.x) c.in_ok-joined.ensures
-            ∙ outside_joined laws away chosen c.requires.away c.in_ok-chosen.ensures base c.args.x c.requires.outside
-            (sym c.contains.ensures.found ∙ c.if-contains.false),
+                ∙ outside_joined laws away chosen c.requires.away c.in_ok-chosen.ensures base c.args.x c.requires.outside
+                (sym c.contains.ensures.found ∙ c.if-contains.false),
           ),
         ),
       ),
