@@ -108,7 +108,8 @@ fn contraction_circuit(
     requires base { is_contracted (element_count (tree_of inner.now)) away.now (is_independent (tree_of inner.now)) base.now ≡ true }
     requires below { x < element_count (tree_of inner.now) }
     requires outside { is_member x base.now ≡ false }
-    ensures row { IfOk result (λ e. e ≡ row_of (is_contracted (element_count (tree_of inner.now)) away.now (is_independent (tree_of inner.now))) base.now x) }
+    ensures row { IfOk result (λ e.
+        e ≡ row_of (is_contracted (element_count (tree_of inner.now)) away.now (is_independent (tree_of inner.now))) base.now x) }
     ensures rises { IfOk result (λ e. IsRising e.with) }
 {
     if away.contains(x) {

@@ -3,7 +3,8 @@ use Rattle.std.proofs.lemmas.Result.{IfOk-weaker}
 use Rattle.mat_sets.specs.Sets.{is_member}
 use Rattle.mat_laws.specs.Exchanges.{row_of}
 use Rattle.mat_minors.specs.ContractionLaws.{IsJoined-gives}
-use Rattle.mat_minors.proofs.MinorRows.{truncated_row, restricted_row, restricted_row_outside, contracted_row, contracted_row_outside, outside_joined}
+use Rattle.mat_minors.proofs.MinorRows.{truncated_row, restricted_row, restricted_row_outside}
+use Rattle.mat_minors.proofs.MinorRows.{contracted_row, contracted_row_outside, outside_joined}
 use Rattle.mat_any.specs.Trees.{element_count, is_independent}
 use Rattle.mat_any.specs.TreeLaws.{tree_laws}
 use Rattle.mat_any.specs.Views.{tree_of}
@@ -32,8 +33,8 @@ restriction_circuit-returns-then-not-contains-clause-row t c =
 pub restriction_circuit-returns-clause-row : goal.restriction_circuit-returns-clause-row
 restriction_circuit-returns-clause-row t c =
     let restricted = restricted_row (tree_laws (tree_of c.args.inner.now) c.requires.sound) c.args.kept.now c.args.base.now c.args.x in
-    IfOk-weaker _ _ _ (λ row told. restricted row c.requires.base c.requires.outside (sym c.contains.ensures.found ∙ c.if-not-contains.false) told)
-    c.circuit.ensures.row
+    let here = sym c.contains.ensures.found ∙ c.if-not-contains.false in
+    IfOk-weaker _ _ _ (λ row told. restricted row c.requires.base c.requires.outside here told) c.circuit.ensures.row
 
 pub contraction_circuit-returns-then-contains-clause-row : goal.contraction_circuit-returns-then-contains-clause-row
 contraction_circuit-returns-then-contains-clause-row t c =
