@@ -1,5 +1,6 @@
 #!/usr/bin/env python3
-"""Prints a large description: `cases.py list`, `cases.py junk`, or one of `partitions`, `graphic`, `gf2`, `transversal`, `gammoid`, `dual` with a number of elements."""
+"""Prints a large description: `cases.py list`, `cases.py junk`, or `cases.py NAME N` for a pair of N elements, where NAME is one of
+`partitions`, `graphic`, `gf2`, `transversal` and `dual` (against a partition), `gammoid`, `routes` and `matching` (against `uniform N`)."""
 import random
 import sys
 
@@ -51,15 +52,19 @@ def gf2(numbers, n):
         print('column', ''.join(numbers.choice('01') for _ in range(128)))
 
 
-def against_a_partition(first):
-    """A matroid of N elements against a partition."""
-    n = int(sys.argv[2])
+def uniform(numbers, n):
+    """All sets of N elements."""
+    print('uniform', n)
+
+
+def pair(first, second, n):
+    """Two matroids of N elements."""
     numbers = random.Random(n)
     print('matroids 1')
     print('pair', n)
     weights_of_all_sizes(numbers, n)
     first(numbers, n)
-    partition(numbers, n)
+    second(numbers, n)
     print('end')
 
 
@@ -80,15 +85,29 @@ def gammoid(numbers, n):
         print('arc', numbers.randrange(vertices), numbers.randrange(vertices))
 
 
+def many_routes(numbers, n):
+    """A directed graph of 5 N vertices and 200 N arcs, with N sources and N targets."""
+    vertices = 5 * n
+    print('gammoid', vertices, 200 * n)
+    print('sources', *numbers.sample(range(vertices), n))
+    print('targets', *numbers.sample(range(vertices), n))
+    for _ in range(200 * n):
+        print('arc', numbers.randrange(vertices), numbers.randrange(vertices))
+
+
 def dual(numbers, n):
     """The dual of a graph of N edges on N / 2 vertices."""
     print('dual')
     graphic(numbers, n)
 
 
-MATROIDS = {'partitions': partition, 'graphic': graphic, 'gf2': gf2, 'transversal': transversal, 'gammoid': gammoid, 'dual': dual}
+AGAINST_A_PARTITION = {'partitions': partition, 'graphic': graphic, 'gf2': gf2, 'transversal': transversal, 'dual': dual}
+AGAINST_NOTHING = {'gammoid': gammoid, 'routes': many_routes, 'matching': transversal}
 WHOLE = {'list': many_classes, 'junk': junk}
-if sys.argv[1] in WHOLE:
-    WHOLE[sys.argv[1]]()
+name = sys.argv[1]
+if name in WHOLE:
+    WHOLE[name]()
+elif name in AGAINST_A_PARTITION:
+    pair(AGAINST_A_PARTITION[name], partition, int(sys.argv[2]))
 else:
-    against_a_partition(MATROIDS[sys.argv[1]])
+    pair(AGAINST_NOTHING[name], uniform, int(sys.argv[2]))
