@@ -12,8 +12,9 @@ use Rattle.mat_sets.specs.Sets.{AllBelow, IsSet}
 use Rattle.mat_sets.proofs.Ground.{length-complement}
 use Rattle.mat_words.specs.Lines.{text_of}
 use Rattle.mat_words.specs.Numbers.{numeral}
+use Rattle.mat_words.specs.Writing.{end_line, members_line, numbers_line}
 use Rattle.mat_cert.specs.declared.answer.PricedRung.{PricedRung}
-use Rattle.mat_cert.specs.Certificates.{AreRangedRungs, Certificate, IsCertificateNumber, IsRanged, IsRangedLadder, IsRangedRung, certificate_lines, certificate_text, end_line, intersect, intersect_header, last_rung, numbers_line, rung_line, rung_lines, rungs_lines, set_line}
+use Rattle.mat_cert.specs.Certificates.{AreRangedRungs, Certificate, IsCertificateNumber, IsRanged, IsRangedLadder, IsRangedRung, certificate_lines, certificate_text, intersect, intersect_header, last_rung, rung_line, rung_lines, rungs_lines}
 
 -- a numeral of at most k digits has at most k + 1 bytes
 pub length-numeral : (k : ℕ) (z : ℤ) → 0 < k → neg_ℤ (pos (10 ^ k)) <ℤ z → z <ℤ pos (10 ^ k) → length (numeral z) ≤ k + 1
@@ -72,7 +73,7 @@ short_members n [] few below = All-nil IsShort
 short_members n (x ∷ xs) few below =
     All-cons IsShort (numeral (pos x)) (map (λ x. numeral (pos x)) xs) (length-small x (omega arith)) (short_members n xs few below.1)
 
-short_set_line : (n : ℕ) (keyword set : List ℕ) → n ≤ 500 → IsShort keyword → IsSet n set → IsShortHere (set_line keyword set)
+short_set_line : (n : ℕ) (keyword set : List ℕ) → n ≤ 500 → IsShort keyword → IsSet n set → IsShortHere (members_line keyword set)
 short_set_line n keyword set few short is_set = record {
   few =
       let size = length-complement n set is_set.rising is_set.below in
@@ -99,7 +100,7 @@ short_rung_line k weight few range = record {
 
 short_rung : (n k : ℕ) (rung : PricedRung) → n ≤ 500 → k ≤ 501 → IsRangedRung n k rung → All IsShortHere (rung_lines k rung)
 short_rung n k rung few small range =
-    let set = set_line (codes "set") rung.set in
+    let set = members_line (codes "set") rung.set in
     let first = numbers_line (codes "first") rung.first in
     let second = numbers_line (codes "second") rung.second in
     All-cons IsShortHere (rung_line k rung.weight) (set ∷ first ∷ second ∷ []) (short_rung_line k rung.weight small range.weight)
@@ -143,7 +144,7 @@ short_lines : (n : ℕ) (rungs : List PricedRung) (cut : List ℕ) → IsRangedL
 short_lines n rungs cut range =
     let header = intersect_header n (last_rung rungs) in
     let lines = rungs_lines 0 rungs in
-    let cut_line = set_line (codes "cut") cut in
+    let cut_line = members_line (codes "cut") cut in
     let few = range.few in
     let small : length rungs ≤ 501 = omega (arith, range.long) in
     All-append IsShortHere (header ++ lines) (cut_line ∷ end_line ∷ [])
@@ -159,7 +160,7 @@ unfolding certificate_text
 length-certificate_text (intersect n rungs cut) range =
     let header = intersect_header n (last_rung rungs) in
     let lines = rungs_lines 0 rungs in
-    let ends = set_line (codes "cut") cut ∷ end_line ∷ [] in
+    let ends = members_line (codes "cut") cut ∷ end_line ∷ [] in
     let whole = length-text_of 501 40 (header ++ lines ++ ends) (short_lines n rungs cut range) in
     let count : length (header ++ lines ++ ends) ≤ 2008 =
     omega (arith, length-append (header ++ lines) ends, length-append header lines, length-rungs_lines 0 rungs, range.few, range.long) in

@@ -2,22 +2,15 @@
 use Rattle.std.specs.Prelude.{◌≡◌, ℕ, suc, ◌+◌, ◌-◌, ◌<◌, ◌≤◌, ◌^◌, List, [], ◌∷◌, ◌++◌, length, map, codes, ℤ, pos, neg_ℤ, ◌≤ℤ◌, All}
 use Rattle.mat_sets.specs.Sets.{IsSet}
 use Rattle.mat_sets.specs.Sums.{IsWithin}
-use Rattle.mat_words.specs.Numbers.{numeral, numerals}
+use Rattle.mat_words.specs.Numbers.{numeral}
 use Rattle.mat_words.specs.Lines.{Line, text_of}
+use Rattle.mat_words.specs.Writing.{end_line, members_line, numbers_line}
 use Rattle.mat_cert.specs.declared.answer.PricedRung.{PricedRung}
 
 -- an answer, by its command
 pub data Certificate : Type 0 where
   -- the number of elements, the rungs from size 0 on, and the cut
   intersect : ℕ → List PricedRung → List ℕ → Certificate
-
--- a line of a keyword and a set
-abbrev pub set_line : List ℕ → List ℕ → Line
-set_line keyword set = keyword ∷ numerals set
-
--- a line of a keyword and one number for each element
-abbrev pub numbers_line : List ℕ → List ℤ → Line
-numbers_line keyword numbers = keyword ∷ map numeral numbers
 
 -- the bytes are the text of a line of a keyword and numbers
 abbrev pub IsNumbersLine : List ℕ → List ℤ → List ℕ → Type 0
@@ -30,7 +23,7 @@ rung_line k weight = codes "rung" ∷ numeral (pos k) ∷ numeral weight ∷ []
 -- the four lines of rung k
 abbrev pub rung_lines : ℕ → PricedRung → List Line
 rung_lines k rung =
-    rung_line k rung.weight ∷ set_line (codes "set") rung.set
+    rung_line k rung.weight ∷ members_line (codes "set") rung.set
     ∷ numbers_line (codes "first") rung.first ∷ numbers_line (codes "second") rung.second ∷ []
 
 -- the lines of the rungs, of which the first is rung k
@@ -48,14 +41,10 @@ intersect_header n k =
     (codes "certificate" ∷ codes "1" ∷ [])
     ∷ (codes "answer" ∷ codes "intersect" ∷ numeral (pos n) ∷ numeral (pos k) ∷ []) ∷ []
 
--- the line that ends a certificate
-abbrev pub end_line : Line
-end_line = codes "end" ∷ []
-
 -- the lines of a certificate
 abbrev pub certificate_lines : Certificate → List Line
 certificate_lines (intersect n rungs cut) =
-    intersect_header n (last_rung rungs) ++ rungs_lines 0 rungs ++ set_line (codes "cut") cut ∷ end_line ∷ []
+    intersect_header n (last_rung rungs) ++ rungs_lines 0 rungs ++ members_line (codes "cut") cut ∷ end_line ∷ []
 
 -- the one text of a certificate
 unfoldable pub certificate_text : Certificate → List ℕ

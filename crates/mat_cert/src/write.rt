@@ -1,47 +1,13 @@
 //! The text of an answer.
 ghost use Rattle.std.specs.Prelude.{◌≡◌, ◌++◌, ◌∷◌, [], codes, pos, IfOk, OnOk};
-ghost use Rattle.mat_words.specs.Numbers.{numeral};
 ghost use Rattle.mat_words.specs.Lines.{text_of};
-ghost use Rattle.mat_cert.specs.Certificates.{IsNumbersLine, certificate_text, intersect, intersect_header, numbers_line, rung_line, rung_lines, rungs_lines, set_line};
+ghost use Rattle.mat_cert.specs.Certificates.{IsNumbersLine, certificate_text, intersect, intersect_header, rung_line, rung_lines, rungs_lines};
 ghost use Rattle.mat_cert.specs.Views.{certificate_of};
 
 use crate::answer::{Answer, PricedRung};
 use mat_sets::ElemSet;
-use mat_words::put_number;
+use mat_words::{put_members_line, put_number_word, put_numbers_line};
 use std::alloc::{AllocError, Global};
-
-// Appends a number as the next word of a line.
-fn put_number_word(out: &mut Vec<u8>, number: i128) -> Result<(), AllocError>
-    ensures { OnOk result (out.new.items ≡ out.old.items ++ 32 ∷ numeral number) }
-{
-    out.push(b' ')?;
-    put_number(out, number)?;
-    Ok(())
-}
-
-// Appends a line of a keyword and a set.
-fn put_set_line(out: &mut Vec<u8>, keyword: &[u8], set: &[u32]) -> Result<(), AllocError>
-    ensures { OnOk result (out.new.items ≡ out.old.items ++ text_of (set_line keyword.now set.now ∷ [])) }
-{
-    out.extend_from_slice(keyword)?;
-    for x in set {
-        put_number_word(out, i128::from(*x))?;
-    }
-    out.push(b'\n')?;
-    Ok(())
-}
-
-// Appends a line of a keyword and one number for each element.
-fn put_numbers_line(out: &mut Vec<u8>, keyword: &[u8], numbers: &[i128]) -> Result<(), AllocError>
-    ensures { OnOk result (out.new.items ≡ out.old.items ++ text_of (numbers_line keyword.now numbers.now ∷ [])) }
-{
-    out.extend_from_slice(keyword)?;
-    for z in numbers {
-        put_number_word(out, *z)?;
-    }
-    out.push(b'\n')?;
-    Ok(())
-}
 
 // Appends the first line of rung k.
 fn put_rung_line(out: &mut Vec<u8>, k: usize, weight: i128) -> Result<(), AllocError>
@@ -102,7 +68,7 @@ fn put_rung(
     ensures { OnOk result (out.new.items ≡ out.old.items ++ text_of (rung_lines k rung.now)) }
 {
     put_rung_line(out, k, rung.weight)?;
-    put_set_line(out, b"set", rung.set.as_slice())?;
+    put_members_line(out, b"set", rung.set.as_slice())?;
     out.extend_from_slice(first)?;
     out.extend_from_slice(second)?;
     Ok(())
@@ -145,7 +111,7 @@ fn intersect_text(
     let mut out = Vec::new(alloc);
     put_intersect_header(&mut out, count, rungs.len().saturating_sub(1))?;
     put_rungs(alloc, &mut out, rungs)?;
-    put_set_line(&mut out, b"cut", cut.as_slice())?;
+    put_members_line(&mut out, b"cut", cut.as_slice())?;
     out.extend_from_slice(b"end\n")?;
     Ok(out)
 }

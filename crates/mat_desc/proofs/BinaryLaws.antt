@@ -13,7 +13,7 @@ use Rattle.mat_words.specs.Words.{is_letter, is_word}
 use Rattle.mat_desc.specs.declared.refusal.DescKind.TheVariants.{NumberSpelling}
 use Rattle.mat_desc.specs.Binary.{binary, is_binary, binary_value}
 use Rattle.mat_desc.specs.Faults.{WordsLeft}
-use Rattle.mat_desc.specs.Reading.{binary_from, binary_at}
+use Rattle.mat_desc.specs.Reading.{word_at, binary_at}
 use Rattle.mat_desc.proofs.ReadingSteps.{found-same, test_found}
 
 -- ---- the digits of a number
@@ -138,10 +138,10 @@ pub record IsBinaryRead (d : ℕ) (w : WordsLeft) (z : ℕ) (q : WordsLeft) : Ty
   pub below : z < 2 ^ d
 
 pub binary_found : (d : ℕ) (w : WordsLeft) (z : ℕ) (q : WordsLeft) → binary_at d w ≡ Ok (z, q) → IsBinaryRead d w z q
-unfolding binary_at
+unfolding binary_at word_at
 binary_found d w z q e = from w.words refl e
   where
-    from : (words : List (List ℕ)) → w.words ≡ words → binary_from d w.line words ≡ Ok (z, q) → IsBinaryRead d w z q
+    from : (words : List (List ℕ)) → w.words ≡ words → binary_at d (record { line = w.line; words = words }) ≡ Ok (z, q) → IsBinaryRead d w z q
     from [] is h = absurd cc
     from (v ∷ vs) is h =
         let read : ℕ × WordsLeft = (binary_value 0 v, record { line = w.line; words = vs }) in
@@ -158,7 +158,7 @@ binary_found d w z q e = from w.words refl e
 
 pub binary_again : (d n z : ℕ) (words : List (List ℕ)) → z < 2 ^ d
     → binary_at d (record { line = n; words = binary d z ∷ words }) ≡ Ok (z, record { line = n; words = words })
-unfolding binary_at
+unfolding binary_at word_at
 binary_again d n z words below =
     let test : (eqb (length (binary d z)) d && is_binary (binary d z)) ≡ true = and_from _ _ (eq-eqb _ _ (length-binary d z)) (is_binary-binary d z) in
     rw (test, binary_value-binary d z below) refl

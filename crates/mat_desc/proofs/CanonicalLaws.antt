@@ -11,7 +11,8 @@ use Rattle.mat_words.specs.Numbers.{numerals}
 use Rattle.mat_words.specs.Lines.{Line}
 use Rattle.mat_any.specs.Trees.{Tree, uniform, partition, laminar, graphic, transversal, gammoid, gf2, dual, truncate, restrict, contract}
 use Rattle.mat_desc.specs.Instances.{Instance, pair, list, graph, rooted, coloured, table}
-use Rattle.mat_desc.specs.Grammar.{Lists, CappedLines, FamilyLines, MatroidLines, MatroidsLines, InstanceLines, IsValidTree, IsValidMatroid, IsValid, Spells, end_line}
+use Rattle.mat_words.specs.Writing.{end_line, members_line}
+use Rattle.mat_desc.specs.Grammar.{Lists, CappedLines, FamilyLines, MatroidLines, MatroidsLines, InstanceLines, IsValidTree, IsValidMatroid, IsValid, Spells}
 use Rattle.mat_desc.specs.Canonical.{capped_lines, matroid_lines, canonical_lines, canonical_text}
 use Rattle.mat_desc.proofs.ProblemLaws.{one_problem}
 
@@ -35,11 +36,11 @@ capped_lines_spelled key n (set ∷ sets) (cap ∷ caps) rest same in_range = (
 
 -- the lines of the sets of a family
 family_lines_spelled : (n : ℕ) (family : List (List ℕ)) (rest : List Line) → All (IsSet n) family
-    → FamilyLines family (map (λ set. codes "set" ∷ numerals set) family ++ rest) rest
+    → FamilyLines family (map (members_line (codes "set")) family ++ rest) rest
 family_lines_spelled n [] rest in_range = refl
 family_lines_spelled n (set ∷ family) rest in_range = (
   set,
-  map (λ set. codes "set" ∷ numerals set) family ++ rest,
+  map (members_line (codes "set")) family ++ rest,
   set_lists n set (All-head (IsSet n) set family in_range),
   refl,
   family_lines_spelled n family rest (All-tail (IsSet n) set family in_range),
@@ -59,7 +60,7 @@ matroid_spelled n (laminar m sets caps) rest valid = (
 )
 matroid_spelled n (graphic vertices edges) rest valid = refl
 matroid_spelled n (transversal m family) rest valid = (
-  map (λ set. codes "set" ∷ numerals set) family ++ rest,
+  map (members_line (codes "set")) family ++ rest,
   refl,
   family_lines_spelled n family rest valid.2,
 )

@@ -12,7 +12,7 @@ use Rattle.mat_desc.specs.declared.refusal.DescKind.TheVariants.{Repeated}
 use Rattle.mat_desc.specs.declared.refusal.DescRefusal.{DescRefusal}
 use Rattle.mat_desc.specs.declared.refusal.DescRefusal.TheVariants as refusals
 use Rattle.mat_desc.specs.Faults.{◌>>=◌, Fault, Fails, WordsLeft}
-use Rattle.mat_desc.specs.Reading.{number_as, number_at, count_at, elements_from}
+use Rattle.mat_desc.specs.Reading.{word_at, number_as, number_at, count_at, elements_from}
 use Rattle.mat_desc.specs.Views.{parts_left}
 
 -- one word was read, and the rest is left
@@ -30,7 +30,7 @@ Ok-same x y e = cc
 abbrev as_count : ℤ × WordsLeft → Result (ℕ × WordsLeft) Fault
 as_count number = Ok (nat_abs number.0, number.1)
 
-first_read_from : (n : ℕ) (word : List ℕ) (words : List (List ℕ)) (read : Result ℤ NumberFault) (x : ℕ) (q : WordsLeft) → (number_as n words read >>= as_count) ≡ Ok (x, q) → IsFirstRead n (word ∷ words) q
+first_read_from : (n : ℕ) (word : List ℕ) (words : List (List ℕ)) (read : Result ℤ NumberFault) (x : ℕ) (q : WordsLeft) → (number_as (record { line = n; words = words }) read >>= as_count) ≡ Ok (x, q) → IsFirstRead n (word ∷ words) q
 first_read_from n word words (Ok z) x q e =
     let made : ℕ × WordsLeft = (nat_abs z, record { line = n; words = words }) in
     let same : made ≡ (x, q) = Ok-same made (x, q) e in
@@ -40,7 +40,7 @@ first_read_from n word words (Err Range) x q e = absurd cc
 
 -- what is read as a count is one word
 pub count_first_read : (low end n : ℕ) (words : List (List ℕ)) (x : ℕ) (q : WordsLeft) → count_at low end (record { line = n; words = words }) ≡ Ok (x, q) → IsFirstRead n words q
-unfolding count_at number_at
+unfolding count_at number_at word_at
 count_first_read low end n [] x q e = absurd cc
 count_first_read low end n (word ∷ words) x q e = first_read_from n word words (number_in (pos low) (pos end -ℤ pos 1) word) x q e
 

@@ -10,9 +10,10 @@ use Rattle.mat_words.specs.Lines.{Line}
 use Rattle.mat_desc.specs.declared.keywords.Form.{Form}
 use Rattle.mat_desc.specs.declared.keywords.Form.TheVariants as forms
 use Rattle.mat_desc.specs.Faults.{◌>>=◌, WordsLeft, LinesLeft}
-use Rattle.mat_desc.specs.Reading.{count_at, weight_at, ended_at, repeat_at, keyed_at, weights_at, ends_line_at, weighted_at, coloured_edge_at, matroid_at, pair_at, list_at, graph_at, rooted_at, coloured_at, table_at, form_of, form_at}
+use Rattle.mat_desc.specs.Reading.{count_at, read_weight, ended_at, repeat_at, keyed_at, weights_at, ends_line_at, weighted_at, coloured_edge_at, matroid_at, pair_at, list_at, graph_at, rooted_at, coloured_at, table_at, form_of, form_at}
 use Rattle.mat_desc.specs.Instances.{Instance, pair, list, graph, rooted, coloured, table}
-use Rattle.mat_desc.specs.Grammar.{version_line, end_line, ends_line, weighted_line, coloured_edge_line, IsPair, IsWeight, AreWeights, IsValid, InstanceLines}
+use Rattle.mat_words.specs.Writing.{end_line}
+use Rattle.mat_desc.specs.Grammar.{version_line, ends_line, weighted_line, coloured_edge_line, IsPairBelow, IsWeight, AreWeights, IsValid, InstanceLines}
 use Rattle.mat_desc.proofs.ReadingSteps.{found-same, bind_found}
 use Rattle.mat_desc.proofs.WordLaws.{numerals_words, count_line, ended_found, ended_again, count_found, count_again, weights_found, weights_again, weights_words}
 use Rattle.mat_desc.proofs.LineLaws.{AreLeft, keyed_found, keyed_again}
@@ -35,8 +36,8 @@ record IsWeightsLineRead (n : ℕ) (p : LinesLeft) (weights : List ℤ) (q : Lin
 weights_line_found : (n : ℕ) (p : LinesLeft) (weights : List ℤ) (q : LinesLeft) → weights_at n p ≡ Ok (weights, q) → IsWeightsLineRead n p weights q
 unfolding weights_at
 weights_line_found n p weights q e =
-    let line = bind_found (keyed_at (codes "weights") p) (λ line. repeat_at weight_at n line.0 >>= λ weights. ended_at weights.1 >>= λ end. Ok (weights.0, line.1)) (weights, q) e in
-    let all = bind_found (repeat_at weight_at n line.0.0) (λ weights. ended_at weights.1 >>= λ end. Ok (weights.0, line.0.1)) (weights, q) line.2 in
+    let line = bind_found (keyed_at (codes "weights") p) (λ line. repeat_at read_weight n line.0 >>= λ weights. ended_at weights.1 >>= λ end. Ok (weights.0, line.1)) (weights, q) e in
+    let all = bind_found (repeat_at read_weight n line.0.0) (λ weights. ended_at weights.1 >>= λ end. Ok (weights.0, line.0.1)) (weights, q) line.2 in
     let end = bind_found (ended_at all.0.1) (λ end. Ok (all.0.0, line.0.1)) (weights, q) all.2 in
     let same = found-same (all.0.0, line.0.1) (weights, q) end.2 in
     let read = weights_found n line.0.0 all.0.0 all.0.1 all.1 in
@@ -179,7 +180,7 @@ graph_found words lines instance q e =
     let v = count_found 1 501 words vertices.0.0 vertices.0.1 vertices.1 in
     let m = count_found 0 501 vertices.0.1 many.0.0 many.0.1 many.1 in
     let last = ended_found many.0.1 end.0 end.1 in
-    let read = items_found (ends_line_at (codes "edge") vertices.0.0) (ends_line (codes "edge")) (IsPair vertices.0.0 vertices.0.0) (ends_line_found (codes "edge") vertices.0.0) many.0.0 lines edges.0.0 edges.0.1 edges.1 in
+    let read = items_found (ends_line_at (codes "edge") vertices.0.0) (ends_line (codes "edge")) (IsPairBelow vertices.0.0 vertices.0.0) (ends_line_found (codes "edge") vertices.0.0) many.0.0 lines edges.0.0 edges.0.1 edges.1 in
     let line : words.words ≡ numeral (pos vertices.0.0) ∷ numeral (pos (length edges.0.0)) ∷ [] = v.cut ∙ rw (m.cut, last, read.count) refl in
     subst (λ (r : Instance × LinesLeft). IsFormRead forms.Graph words lines r.0 r.1) same (record {
       valid = (v.least, omega (arith, v.most), (omega (arith, read.count, m.most), read.each));
@@ -190,7 +191,7 @@ graph_found words lines instance q e =
 record AreColumns (a b : ℕ) (key : List ℕ) (many : ℕ) (lines : LinesLeft) (pairs : List (ℕ × ℕ)) (weights : List ℤ) (q : LinesLeft) : Type 0 where
   count : length pairs ≡ many
   as_many : length weights ≡ length pairs
-  pairs_valid : All (IsPair a b) pairs
+  pairs_valid : All (IsPairBelow a b) pairs
   weights_valid : All IsWeight weights
   spelled : AreLeft (end_line ∷ []) q → AreLeft (map (weighted_line key) (zip pairs weights) ++ end_line ∷ []) lines
 
@@ -203,15 +204,15 @@ columns_found a b key many lines items q e =
     record {
       count = firsts ∙ read.count;
       as_many = seconds ∙ sym firsts;
-      pairs_valid = All-map (IsWeighted a b) (IsPair a b) (λ (item : (ℕ × ℕ) × ℤ). item.0) (λ item valid. valid.0) items read.each;
+      pairs_valid = All-map (IsWeighted a b) (IsPairBelow a b) (λ (item : (ℕ × ℕ) × ℤ). item.0) (λ item valid. valid.0) items read.each;
       weights_valid = All-map (IsWeighted a b) IsWeight (λ (item : (ℕ × ℕ) × ℤ). item.1) (λ item valid. valid.1) items read.each;
       spelled = λ left. subst (λ (t : List ((ℕ × ℕ) × ℤ)). AreLeft (map (weighted_line key) t ++ end_line ∷ []) lines) (sym (zip-parts items)) (read.spelled (end_line ∷ []) left);
     }
 
-columns_again : (a b : ℕ) (key : List ℕ) → is_word key ≡ true → (lines : LinesLeft) (pairs : List (ℕ × ℕ)) (weights : List ℤ) → All (IsPair a b) pairs → All IsWeight weights → length weights ≡ length pairs
+columns_again : (a b : ℕ) (key : List ℕ) → is_word key ≡ true → (lines : LinesLeft) (pairs : List (ℕ × ℕ)) (weights : List ℤ) → All (IsPairBelow a b) pairs → All IsWeight weights → length weights ≡ length pairs
     → AreLeft (map (weighted_line key) (zip pairs weights) ++ end_line ∷ []) lines → (q : LinesLeft) × (repeat_at (weighted_at key a b) (length pairs) lines ≡ Ok (zip pairs weights, q)) × AreLeft (end_line ∷ []) q
 columns_again a b key keyword lines pairs weights pairs_valid weights_valid same left =
-    let read = items_again (weighted_at key a b) (weighted_line key) (IsWeighted a b) (weighted_again key a b keyword) lines (zip pairs weights) (end_line ∷ []) (All-zip (IsPair a b) IsWeight pairs weights pairs_valid weights_valid same) left in
+    let read = items_again (weighted_at key a b) (weighted_line key) (IsWeighted a b) (weighted_again key a b keyword) lines (zip pairs weights) (end_line ∷ []) (All-zip (IsPairBelow a b) IsWeight pairs weights pairs_valid weights_valid same) left in
     (read.0, subst (λ (k : ℕ). repeat_at (weighted_at key a b) k lines ≡ Ok (zip pairs weights, read.0)) (length-zip_same pairs weights same) read.1, read.2)
 
 rooted_found : (words : WordsLeft) (lines : LinesLeft) (instance : Instance) (q : LinesLeft) → rooted_at words lines ≡ Ok (instance, q) → IsFormRead forms.Rooted words lines instance q
@@ -267,7 +268,7 @@ record AreColouredColumns (v c many : ℕ) (lines : LinesLeft) (edges : List (�
   count : length edges ≡ many
   as_many_colours : length colours ≡ length edges
   as_many_weights : length weights ≡ length edges
-  edges_valid : All (IsPair v v) edges
+  edges_valid : All (IsPairBelow v v) edges
   colours_valid : All (λ colour. colour < c) colours
   weights_valid : All IsWeight weights
   spelled : AreLeft (end_line ∷ []) q → AreLeft (map coloured_edge_line (zip edges (zip colours weights)) ++ end_line ∷ []) lines
@@ -287,20 +288,20 @@ coloured_columns_found v c many lines items q e =
       count = firsts ∙ read.count;
       as_many_colours = seconds ∙ sym firsts;
       as_many_weights = thirds ∙ sym firsts;
-      edges_valid = All-map (IsColoured v c) (IsPair v v) (λ (item : (ℕ × ℕ) × (ℕ × ℤ)). item.0) (λ item valid. valid.0) items read.each;
+      edges_valid = All-map (IsColoured v c) (IsPairBelow v v) (λ (item : (ℕ × ℕ) × (ℕ × ℤ)). item.0) (λ item valid. valid.0) items read.each;
       colours_valid = All-map (IsColoured v c) (λ colour. colour < c) (λ (item : (ℕ × ℕ) × (ℕ × ℤ)). item.1.0) (λ item valid. valid.1) items read.each;
       weights_valid = All-map (IsColoured v c) IsWeight (λ (item : (ℕ × ℕ) × (ℕ × ℤ)). item.1.1) (λ item valid. valid.2) items read.each;
       spelled = λ left. subst (λ (t : List ((ℕ × ℕ) × (ℕ × ℤ))). AreLeft (map coloured_edge_line t ++ end_line ∷ []) lines) (sym (zip-three_parts items)) (read.spelled (end_line ∷ []) left);
     }
 
-coloured_columns_again : (v c : ℕ) (lines : LinesLeft) (edges : List (ℕ × ℕ)) (colours : List ℕ) (weights : List ℤ) → All (IsPair v v) edges → All (λ colour. colour < c) colours → All IsWeight weights
+coloured_columns_again : (v c : ℕ) (lines : LinesLeft) (edges : List (ℕ × ℕ)) (colours : List ℕ) (weights : List ℤ) → All (IsPairBelow v v) edges → All (λ colour. colour < c) colours → All IsWeight weights
     → length colours ≡ length edges → length weights ≡ length edges → AreLeft (map coloured_edge_line (zip edges (zip colours weights)) ++ end_line ∷ []) lines
     → (q : LinesLeft) × (repeat_at (coloured_edge_at v c) (length edges) lines ≡ Ok (zip edges (zip colours weights), q)) × AreLeft (end_line ∷ []) q
 coloured_columns_again v c lines edges colours weights edges_valid colours_valid weights_valid one two left =
     let inner = length-zip_same colours weights (two ∙ sym one) in
     let pairs = All-zip (λ colour. colour < c) IsWeight colours weights colours_valid weights_valid (two ∙ sym one) in
-    let triples = All-zip (IsPair v v) (λ (item : ℕ × ℤ). (item.0 < c) × IsWeight item.1) edges (zip colours weights) edges_valid pairs (inner ∙ one) in
-    let valid = All-weaker (λ (item : (ℕ × ℕ) × (ℕ × ℤ)). IsPair v v item.0 × ((item.1.0 < c) × IsWeight item.1.1)) (IsColoured v c) (λ item h. (h.0, h.1.0, h.1.1)) (zip edges (zip colours weights)) triples in
+    let triples = All-zip (IsPairBelow v v) (λ (item : ℕ × ℤ). (item.0 < c) × IsWeight item.1) edges (zip colours weights) edges_valid pairs (inner ∙ one) in
+    let valid = All-weaker (λ (item : (ℕ × ℕ) × (ℕ × ℤ)). IsPairBelow v v item.0 × ((item.1.0 < c) × IsWeight item.1.1)) (IsColoured v c) (λ item h. (h.0, h.1.0, h.1.1)) (zip edges (zip colours weights)) triples in
     let read = items_again (coloured_edge_at v c) coloured_edge_line (IsColoured v c) (coloured_edge_again v c) lines (zip edges (zip colours weights)) (end_line ∷ []) valid left in
     (read.0, subst (λ (k : ℕ). repeat_at (coloured_edge_at v c) k lines ≡ Ok (zip edges (zip colours weights), read.0)) (length-zip_same edges (zip colours weights) (inner ∙ one)) read.1, read.2)
 
@@ -384,7 +385,7 @@ any_form_spelled (graph vertices edges) lines valid spelled = record {
   again = λ n p left.
       let number = count_again 1 501 n vertices (numeral (pos (length edges)) ∷ []) valid.0 (omega (arith, valid.1)) in
       let many = count_again 0 501 n (length edges) [] (omega arith) (omega (arith, valid.2.0)) in
-      let read = items_again (ends_line_at (codes "edge") vertices) (ends_line (codes "edge")) (IsPair vertices vertices) (ends_line_again (codes "edge") vertices refl) p edges (end_line ∷ []) valid.2.1 left in
+      let read = items_again (ends_line_at (codes "edge") vertices) (ends_line (codes "edge")) (IsPairBelow vertices vertices) (ends_line_again (codes "edge") vertices refl) p edges (end_line ∷ []) valid.2.1 left in
       (read.0, rw (number, many, ended_again n, read.1) refl, read.2);
 }
 any_form_spelled (rooted vertices root arcs costs) lines valid spelled = record {

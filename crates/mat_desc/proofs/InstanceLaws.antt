@@ -12,7 +12,8 @@ use Rattle.mat_desc.specs.declared.keywords.Form.{Form}
 use Rattle.mat_desc.specs.Faults.{◌>>=◌, WordsLeft, LinesLeft}
 use Rattle.mat_desc.specs.Reading.{line_at, word_at, ended_at, keyed_at, version_at, end_at, is_closed, closed_at, form_of, form_at, instance_at, description_at, read_of}
 use Rattle.mat_desc.specs.Instances.{Instance}
-use Rattle.mat_desc.specs.Grammar.{version_line, end_line, IsValid, InstanceLines, Spells}
+use Rattle.mat_words.specs.Writing.{end_line}
+use Rattle.mat_desc.specs.Grammar.{version_line, IsValid, InstanceLines, Spells}
 use Rattle.mat_desc.proofs.ReadingSteps.{found-same, bind_found, test_found}
 use Rattle.mat_desc.proofs.WordLaws.{word_found, ended_found, ended_again}
 use Rattle.mat_desc.proofs.LineLaws.{AreLeft, line_found, line_again, keyed_found, keyed_again}

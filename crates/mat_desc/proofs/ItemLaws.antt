@@ -9,9 +9,9 @@ use Rattle.mat_words.specs.Numbers.{numeral}
 use Rattle.mat_words.proofs.NumberLemmas.{numeral_word}
 use Rattle.mat_words.specs.Lines.{Line}
 use Rattle.mat_desc.specs.Faults.{Fault, ◌>>=◌, WordsLeft, LinesLeft}
-use Rattle.mat_desc.specs.Reading.{keyed_at, count_at, weight_at, ended_at, repeat_at, ends_at, ends_line_at, column_at, binary_at, weighted_at, coloured_edge_at}
+use Rattle.mat_desc.specs.Reading.{keyed_at, count_at, read_weight, ended_at, repeat_at, ends_at, ends_line_at, column_at, binary_at, weighted_at, coloured_edge_at}
 use Rattle.mat_desc.specs.Binary.{binary}
-use Rattle.mat_desc.specs.Grammar.{IsWeight, IsPair, ends_line, column_line, weighted_line, coloured_edge_line}
+use Rattle.mat_desc.specs.Grammar.{IsWeight, IsPairBelow, ends_line, column_line, weighted_line, coloured_edge_line}
 use Rattle.mat_desc.proofs.ReadingSteps.{found-same, bind_found}
 use Rattle.mat_desc.proofs.WordLaws.{cut_then, count_found, count_again, number_found, number_at_again, ended_found, ended_again}
 use Rattle.mat_desc.proofs.LineLaws.{AreLeft, keyed_found, keyed_again}
@@ -65,7 +65,7 @@ items_again reader line Valid one p (item ∷ items) rest valid left =
 
 -- two words were read as numbers, one below each bound
 record AreEndsRead (first_bound second_bound : ℕ) (w : WordsLeft) (ends : ℕ × ℕ) (q : WordsLeft) : Type 0 where
-  valid : IsPair first_bound second_bound ends
+  valid : IsPairBelow first_bound second_bound ends
   cut : w.words ≡ numeral (pos ends.0) ∷ numeral (pos ends.1) ∷ q.words
 
 ends_found : (a b : ℕ) (w : WordsLeft) (ends : ℕ × ℕ) (q : WordsLeft) → ends_at a b w ≡ Ok (ends, q) → AreEndsRead a b w ends q
@@ -78,7 +78,7 @@ ends_found a b w ends q e =
     let two = count_found 0 b first.0.1 second.0.0 second.0.1 second.1 in
     subst (λ (r : (ℕ × ℕ) × WordsLeft). AreEndsRead a b w r.0 r.1) same (record { valid = (one.most, two.most); cut = cut_then (numeral (pos first.0.0)) w.words first.0.1.words (numeral (pos second.0.0) ∷ second.0.1.words) one.cut two.cut })
 
-ends_again : (a b n : ℕ) (ends : ℕ × ℕ) (words : Line) → IsPair a b ends → ends_at a b (record { line = n; words = numeral (pos ends.0) ∷ numeral (pos ends.1) ∷ words }) ≡ Ok (ends, record { line = n; words = words })
+ends_again : (a b n : ℕ) (ends : ℕ × ℕ) (words : Line) → IsPairBelow a b ends → ends_at a b (record { line = n; words = numeral (pos ends.0) ∷ numeral (pos ends.1) ∷ words }) ≡ Ok (ends, record { line = n; words = words })
 unfolding ends_at
 ends_again a b n ends words valid = rw (count_again 0 a n ends.0 (numeral (pos ends.1) ∷ words) (omega arith) valid.0, count_again 0 b n ends.1 words (omega arith) valid.1) refl
 
@@ -86,7 +86,7 @@ ends_words : (ends : ℕ × ℕ) (words : Line) → list_all is_word words ≡ t
 ends_words ends words h = and_from (is_word (numeral (pos ends.0))) (list_all is_word (numeral (pos ends.1) ∷ words)) (numeral_word (pos ends.0)) (and_from (is_word (numeral (pos ends.1))) (list_all is_word words) (numeral_word (pos ends.1)) h)
 
 pub ends_line_found : (key : List ℕ) (v : ℕ) (p : LinesLeft) (ends : ℕ × ℕ) (q : LinesLeft) → ends_line_at key v p ≡ Ok (ends, q)
-    → IsItemRead (ends_line key) (IsPair v v) p ends q
+    → IsItemRead (ends_line key) (IsPairBelow v v) p ends q
 unfolding ends_line_at
 ends_line_found key v p ends q e =
     let line = bind_found (keyed_at key p) (λ line. ends_at v v line.0 >>= λ ends. ended_at ends.1 >>= λ end. Ok (ends.0, line.1)) (ends, q) e in
@@ -95,13 +95,13 @@ ends_line_found key v p ends q e =
     let same = found-same (both.0.0, line.0.1) (ends, q) end.2 in
     let read = ends_found v v line.0.0 both.0.0 both.0.1 both.1 in
     let last = ended_found both.0.1 end.0 end.1 in
-    subst (λ (r : (ℕ × ℕ) × LinesLeft). IsItemRead (ends_line key) (IsPair v v) p r.0 r.1) same (record {
+    subst (λ (r : (ℕ × ℕ) × LinesLeft). IsItemRead (ends_line key) (IsPairBelow v v) p r.0 r.1) same (record {
       valid = read.valid;
       spelled = λ rest left.
           subst (λ (ws : Line). AreLeft ((key ∷ ws) ∷ rest) p) (read.cut ∙ rw last refl) (keyed_found key p line.0.0 line.0.1 line.1 rest left);
     })
 
-pub ends_line_again : (key : List ℕ) (v : ℕ) → is_word key ≡ true → (p : LinesLeft) (ends : ℕ × ℕ) (rest : List Line) → IsPair v v ends
+pub ends_line_again : (key : List ℕ) (v : ℕ) → is_word key ≡ true → (p : LinesLeft) (ends : ℕ × ℕ) (rest : List Line) → IsPairBelow v v ends
     → AreLeft (ends_line key ends ∷ rest) p → (q : LinesLeft) × (ends_line_at key v p ≡ Ok (ends, q)) × AreLeft rest q
 unfolding ends_line_at
 ends_line_again key v keyword p ends rest valid left =
@@ -109,14 +109,14 @@ ends_line_again key v keyword p ends rest valid left =
     (line.0, rw (line.1, ends_again v v p.line ends [] valid, ended_again p.line) refl, line.2)
 
 -- edges or arcs with both ends among the vertices are those of a graph
-pub IsGraph-pairs : (v : ℕ) (edges : List (ℕ × ℕ)) → length edges < 2 ^ 32 → All (IsPair v v) edges → IsGraph v edges
+pub IsGraph-pairs : (v : ℕ) (edges : List (ℕ × ℕ)) → length edges < 2 ^ 32 → All (IsPairBelow v v) edges → IsGraph v edges
 IsGraph-pairs v edges few each = record { first = λ e lt. (each e (0, 0) lt).0; second = λ e lt. (each e (0, 0) lt).1; few = few }
 
 -- edges or arcs that are read are those of a graph
 pub ends_lines_sound : (key : List ℕ) (v many : ℕ) (p : LinesLeft) (edges : List (ℕ × ℕ)) (q : LinesLeft) → many < 2 ^ 32
     → repeat_at (ends_line_at key v) many p ≡ Ok (edges, q) → IsGraph v edges
 ends_lines_sound key v many p edges q few e =
-    let read = items_found (ends_line_at key v) (ends_line key) (IsPair v v) (ends_line_found key v) many p edges q e in
+    let read = items_found (ends_line_at key v) (ends_line key) (IsPairBelow v v) (ends_line_found key v) many p edges q e in
     IsGraph-pairs v edges (omega (arith, read.count, few)) read.each
 
 -- a column of so many entries
@@ -162,14 +162,14 @@ columns_sound dim many p columns q some most few e =
 
 -- an edge, an arc or a cell with a weight
 abbrev pub IsWeighted : ℕ → ℕ → (ℕ × ℕ) × ℤ → Type 0
-IsWeighted a b item = IsPair a b item.0 × IsWeight item.1
+IsWeighted a b item = IsPairBelow a b item.0 × IsWeight item.1
 
 pub weighted_found : (key : List ℕ) (a b : ℕ) (p : LinesLeft) (item : (ℕ × ℕ) × ℤ) (q : LinesLeft) → weighted_at key a b p ≡ Ok (item, q) → IsItemRead (weighted_line key) (IsWeighted a b) p item q
-unfolding weighted_at weight_at
+unfolding weighted_at read_weight
 weighted_found key a b p item q e =
-    let line = bind_found (keyed_at key p) (λ line. ends_at a b line.0 >>= λ ends. weight_at ends.1 >>= λ weight. ended_at weight.1 >>= λ end. Ok ((ends.0, weight.0), line.1)) (item, q) e in
-    let ends = bind_found (ends_at a b line.0.0) (λ ends. weight_at ends.1 >>= λ weight. ended_at weight.1 >>= λ end. Ok ((ends.0, weight.0), line.0.1)) (item, q) line.2 in
-    let weight = bind_found (weight_at ends.0.1) (λ weight. ended_at weight.1 >>= λ end. Ok ((ends.0.0, weight.0), line.0.1)) (item, q) ends.2 in
+    let line = bind_found (keyed_at key p) (λ line. ends_at a b line.0 >>= λ ends. read_weight ends.1 >>= λ weight. ended_at weight.1 >>= λ end. Ok ((ends.0, weight.0), line.1)) (item, q) e in
+    let ends = bind_found (ends_at a b line.0.0) (λ ends. read_weight ends.1 >>= λ weight. ended_at weight.1 >>= λ end. Ok ((ends.0, weight.0), line.0.1)) (item, q) line.2 in
+    let weight = bind_found (read_weight ends.0.1) (λ weight. ended_at weight.1 >>= λ end. Ok ((ends.0.0, weight.0), line.0.1)) (item, q) ends.2 in
     let end = bind_found (ended_at weight.0.1) (λ end. Ok ((ends.0.0, weight.0.0), line.0.1)) (item, q) weight.2 in
     let same = found-same ((ends.0.0, weight.0.0), line.0.1) (item, q) end.2 in
     let read = ends_found a b line.0.0 ends.0.0 ends.0.1 ends.1 in
@@ -181,22 +181,22 @@ weighted_found key a b p item q e =
     })
 
 pub weighted_again : (key : List ℕ) (a b : ℕ) → is_word key ≡ true → (p : LinesLeft) (item : (ℕ × ℕ) × ℤ) (rest : List Line) → IsWeighted a b item → AreLeft (weighted_line key item ∷ rest) p → (q : LinesLeft) × (weighted_at key a b p ≡ Ok (item, q)) × AreLeft rest q
-unfolding weighted_at weight_at
+unfolding weighted_at read_weight
 weighted_again key a b keyword p item rest valid left =
     let line = keyed_again key p (numeral (pos item.0.0) ∷ numeral (pos item.0.1) ∷ numeral item.1 ∷ []) rest keyword (ends_words item.0 (numeral item.1 ∷ []) (and_from (is_word (numeral item.1)) true (numeral_word item.1) refl)) left in
     (line.0, rw (line.1, ends_again a b p.line item.0 (numeral item.1 ∷ []) valid.0, number_at_again (neg_ℤ (pos (10 ^ 12))) (pos (10 ^ 12)) p.line item.1 [] valid.1.0 valid.1.1, ended_again p.line) refl, line.2)
 
 -- an edge with a colour and a weight
 abbrev pub IsColoured : ℕ → ℕ → (ℕ × ℕ) × (ℕ × ℤ) → Type 0
-IsColoured v c item = IsPair v v item.0 × (item.1.0 < c) × IsWeight item.1.1
+IsColoured v c item = IsPairBelow v v item.0 × (item.1.0 < c) × IsWeight item.1.1
 
 pub coloured_edge_found : (v c : ℕ) (p : LinesLeft) (item : (ℕ × ℕ) × (ℕ × ℤ)) (q : LinesLeft) → coloured_edge_at v c p ≡ Ok (item, q) → IsItemRead coloured_edge_line (IsColoured v c) p item q
-unfolding coloured_edge_at weight_at
+unfolding coloured_edge_at read_weight
 coloured_edge_found v c p item q e =
-    let line = bind_found (keyed_at (codes "edge") p) (λ line. ends_at v v line.0 >>= λ ends. count_at 0 c ends.1 >>= λ colour. weight_at colour.1 >>= λ weight. ended_at weight.1 >>= λ end. Ok ((ends.0, (colour.0, weight.0)), line.1)) (item, q) e in
-    let ends = bind_found (ends_at v v line.0.0) (λ ends. count_at 0 c ends.1 >>= λ colour. weight_at colour.1 >>= λ weight. ended_at weight.1 >>= λ end. Ok ((ends.0, (colour.0, weight.0)), line.0.1)) (item, q) line.2 in
-    let colour = bind_found (count_at 0 c ends.0.1) (λ colour. weight_at colour.1 >>= λ weight. ended_at weight.1 >>= λ end. Ok ((ends.0.0, (colour.0, weight.0)), line.0.1)) (item, q) ends.2 in
-    let weight = bind_found (weight_at colour.0.1) (λ weight. ended_at weight.1 >>= λ end. Ok ((ends.0.0, (colour.0.0, weight.0)), line.0.1)) (item, q) colour.2 in
+    let line = bind_found (keyed_at (codes "edge") p) (λ line. ends_at v v line.0 >>= λ ends. count_at 0 c ends.1 >>= λ colour. read_weight colour.1 >>= λ weight. ended_at weight.1 >>= λ end. Ok ((ends.0, (colour.0, weight.0)), line.1)) (item, q) e in
+    let ends = bind_found (ends_at v v line.0.0) (λ ends. count_at 0 c ends.1 >>= λ colour. read_weight colour.1 >>= λ weight. ended_at weight.1 >>= λ end. Ok ((ends.0, (colour.0, weight.0)), line.0.1)) (item, q) line.2 in
+    let colour = bind_found (count_at 0 c ends.0.1) (λ colour. read_weight colour.1 >>= λ weight. ended_at weight.1 >>= λ end. Ok ((ends.0.0, (colour.0, weight.0)), line.0.1)) (item, q) ends.2 in
+    let weight = bind_found (read_weight colour.0.1) (λ weight. ended_at weight.1 >>= λ end. Ok ((ends.0.0, (colour.0.0, weight.0)), line.0.1)) (item, q) colour.2 in
     let end = bind_found (ended_at weight.0.1) (λ end. Ok ((ends.0.0, (colour.0.0, weight.0.0)), line.0.1)) (item, q) weight.2 in
     let same = found-same ((ends.0.0, (colour.0.0, weight.0.0)), line.0.1) (item, q) end.2 in
     let read = ends_found v v line.0.0 ends.0.0 ends.0.1 ends.1 in
@@ -209,7 +209,7 @@ coloured_edge_found v c p item q e =
     })
 
 pub coloured_edge_again : (v c : ℕ) (p : LinesLeft) (item : (ℕ × ℕ) × (ℕ × ℤ)) (rest : List Line) → IsColoured v c item → AreLeft (coloured_edge_line item ∷ rest) p → (q : LinesLeft) × (coloured_edge_at v c p ≡ Ok (item, q)) × AreLeft rest q
-unfolding coloured_edge_at weight_at
+unfolding coloured_edge_at read_weight
 coloured_edge_again v c p item rest valid left =
     let weight_word : list_all is_word (numeral item.1.1 ∷ []) ≡ true = and_from (is_word (numeral item.1.1)) true (numeral_word item.1.1) refl in
     let tail_words : list_all is_word (numeral (pos item.1.0) ∷ numeral item.1.1 ∷ []) ≡ true = and_from (is_word (numeral (pos item.1.0))) (list_all is_word (numeral item.1.1 ∷ [])) (numeral_word (pos item.1.0)) weight_word in

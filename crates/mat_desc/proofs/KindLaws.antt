@@ -10,7 +10,7 @@ use Rattle.mat_desc.specs.declared.keywords.Keyword.{Keyword}
 use Rattle.mat_desc.specs.declared.keywords.Keyword.TheVariants as keywords
 use Rattle.mat_desc.specs.Faults.{◌>>=◌, WordsLeft, LinesLeft}
 use Rattle.mat_desc.specs.Reading.{count_at, ended_at, repeat_at, classes_at, nested_sets_at, uniform_at, partition_at, laminar_at, ends_line_at, graphic_at, column_at, gf2_at, keyword_of}
-use Rattle.mat_desc.specs.Grammar.{IsPair, IsValidTree, MatroidLines, ends_line, column_line}
+use Rattle.mat_desc.specs.Grammar.{IsPairBelow, IsValidTree, MatroidLines, ends_line, column_line}
 use Rattle.mat_desc.proofs.ReadingSteps.{found-same, bind_found}
 use Rattle.mat_desc.proofs.WordLaws.{cut_then, count_line, ended_found, count_found}
 use Rattle.mat_desc.proofs.LineLaws.{AreLeft}
@@ -127,7 +127,7 @@ graphic_found room n words lines tree q e =
     let same = found-same (graphic vertices.0.0 edges.0.0, edges.0.1) (tree, q) edges.2 in
     let number = count_found 1 501 words vertices.0.0 vertices.0.1 vertices.1 in
     let last = ended_found vertices.0.1 end.0 end.1 in
-    let read = items_found (ends_line_at (codes "edge") vertices.0.0) (ends_line (codes "edge")) (IsPair vertices.0.0 vertices.0.0) (ends_line_found (codes "edge") vertices.0.0) n lines edges.0.0 edges.0.1 edges.1 in
+    let read = items_found (ends_line_at (codes "edge") vertices.0.0) (ends_line (codes "edge")) (IsPairBelow vertices.0.0 vertices.0.0) (ends_line_found (codes "edge") vertices.0.0) n lines edges.0.0 edges.0.1 edges.1 in
     let line : words.words ≡ numeral (pos vertices.0.0) ∷ [] = cut_then (numeral (pos vertices.0.0)) words.words vertices.0.1.words [] number.cut last in
     let one : IsKindRead room n keywords.Graphic words lines (graphic vertices.0.0 edges.0.0) edges.0.1 = record {
       valid = ((read.count, number.least, omega (arith, number.most), read.each), omega arith);

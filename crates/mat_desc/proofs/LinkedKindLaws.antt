@@ -7,7 +7,7 @@ use Rattle.mat_any.specs.Trees.{Tree, transversal, gammoid}
 use Rattle.mat_desc.specs.declared.keywords.Keyword.TheVariants as keywords
 use Rattle.mat_desc.specs.Faults.{Fault, ◌>>=◌, WordsLeft, LinesLeft}
 use Rattle.mat_desc.specs.Reading.{count_at, ended_at, repeat_at, set_line_at, transversal_at, targets_at, ends_line_at, gammoid_at}
-use Rattle.mat_desc.specs.Grammar.{IsPair, IsValidTree, Lists, FamilyLines, ends_line}
+use Rattle.mat_desc.specs.Grammar.{IsPairBelow, IsValidTree, Lists, FamilyLines, ends_line}
 use Rattle.mat_desc.proofs.ReadingSteps.{found-same, bind_found}
 use Rattle.mat_desc.proofs.WordLaws.{count_line, ended_found, ended_again, count_found, count_again}
 use Rattle.mat_desc.proofs.LineLaws.{AreLeft}
@@ -82,7 +82,7 @@ gammoid_found room n words lines tree q e =
     let last = ended_found many.0.1 end.0 end.1 in
     let starts = set_line_found (codes "sources") v lines sources.0.0 sources.0.1 sources.1 in
     let ends = targets_found v n sources.0.1 targets.0.0 targets.0.1 targets.1 in
-    let read = items_found (ends_line_at (codes "arc") v) (ends_line (codes "arc")) (IsPair v v) (ends_line_found (codes "arc") v)
+    let read = items_found (ends_line_at (codes "arc") v) (ends_line (codes "arc")) (IsPairBelow v v) (ends_line_found (codes "arc") v)
     many.0.0 targets.0.1 arcs.0.0 arcs.0.1 arcs.1 in
     let line : words.words ≡ numeral (pos v) ∷ numeral (pos (length arcs.0.0)) ∷ [] = first.cut ∙ rw (second.cut, last, read.count) refl in
     let one : IsKindRead room n keywords.Gammoid words lines (gammoid v arcs.0.0 sources.0.0 targets.0.0) arcs.0.1 = record {
@@ -111,5 +111,5 @@ gammoid_again n line vertices arcs sources targets xs p rest valid lists left =
     let starts = set_line_again (codes "sources") vertices refl p sources xs ((codes "targets" ∷ numerals targets) ∷ arc_lines) valid.5 lists left in
     let ends = targets_again vertices n starts.0 targets arc_lines valid.0 valid.6 valid.7 starts.2 in
     let arc_again = ends_line_again (codes "arc") vertices refl in
-    let read = items_again (ends_line_at (codes "arc") vertices) (ends_line (codes "arc")) (IsPair vertices vertices) arc_again ends.0 arcs rest valid.4 ends.2 in
+    let read = items_again (ends_line_at (codes "arc") vertices) (ends_line (codes "arc")) (IsPairBelow vertices vertices) arc_again ends.0 arcs rest valid.4 ends.2 in
     (read.0, rw (number, many, ended_again line, starts.1, ends.1, read.1) refl, read.2)

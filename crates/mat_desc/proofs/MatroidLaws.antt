@@ -15,7 +15,7 @@ use Rattle.mat_desc.specs.declared.keywords.Keyword.TheVariants as keywords
 use Rattle.mat_desc.specs.declared.refusal.DescKind.TheVariants.{TooDeep}
 use Rattle.mat_desc.specs.Faults.{Fault, ◌>>=◌, WordsLeft, LinesLeft}
 use Rattle.mat_desc.specs.Reading.{line_at, word_at, count_at, ended_at, elements_at, uniform_at, partition_at, laminar_at, ends_line_at, graphic_at, column_at, gf2_at, TreeReader, dual_at, truncate_at, restrict_at, contract_at, keyword_of, kind_at, matroid_within, matroid_at}
-use Rattle.mat_desc.specs.Grammar.{IsPair, IsValidTree, IsValidMatroid, AreClasses, AreNestedSets, MatroidLines, ends_line, column_line}
+use Rattle.mat_desc.specs.Grammar.{IsPairBelow, IsValidTree, IsValidMatroid, AreClasses, AreNestedSets, MatroidLines, ends_line, column_line}
 use Rattle.mat_desc.proofs.ReadingSteps.{found-same, bind_found}
 use Rattle.mat_desc.proofs.WordLaws.{cut_then, word_found, ended_found, ended_again, count_found, count_again, numerals_words}
 use Rattle.mat_desc.proofs.LineLaws.{AreLeft, line_found, line_again}
@@ -175,7 +175,7 @@ node_again room n inner right p (graphic vertices edges) lines rest valid shallo
     let number_word : list_all is_word (codes "graphic" ∷ numeral (pos vertices) ∷ []) ≡ true = and_from (is_word (numeral (pos vertices))) true (numeral_word (pos vertices)) refl in
     let line = line_again p (codes "graphic" ∷ numeral (pos vertices) ∷ []) (map (ends_line (codes "edge")) edges ++ rest) (omega arith) number_word (subst (λ (ls : List Line). AreLeft ls p) spelled left) in
     let number = count_again 1 501 p.line vertices [] valid.1 (omega (arith, valid.2)) in
-    let read = items_again (ends_line_at (codes "edge") vertices) (ends_line (codes "edge")) (IsPair vertices vertices) (ends_line_again (codes "edge") vertices refl) line.0 edges rest valid.3 line.2 in
+    let read = items_again (ends_line_at (codes "edge") vertices) (ends_line (codes "edge")) (IsPairBelow vertices vertices) (ends_line_again (codes "edge") vertices refl) line.0 edges rest valid.3 line.2 in
     (read.0, rw (line.1, number, ended_again p.line, ← valid.0, read.1) refl, read.2)
 node_again room n inner right p (transversal m family) lines rest valid shallow spelled left =
     let words : Line = codes "transversal" ∷ numeral (pos (length family)) ∷ [] in

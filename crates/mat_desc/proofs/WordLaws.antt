@@ -12,7 +12,7 @@ use Rattle.mat_words.specs.declared.numbers.NumberFault.TheVariants.{Spelling, R
 use Rattle.mat_words.proofs.NumberLemmas.{number_taken, number_again, numeral_word}
 use Rattle.mat_desc.specs.declared.refusal.DescKind.TheVariants.{TooManyWords}
 use Rattle.mat_desc.specs.Faults.{◌>>=◌, WordsLeft}
-use Rattle.mat_desc.specs.Reading.{word_at, number_as, number_at, count_at, weight_at, ended_at, repeat_at}
+use Rattle.mat_desc.specs.Reading.{word_at, number_as, number_at, count_at, read_weight, ended_at, repeat_at}
 use Rattle.mat_desc.specs.Grammar.{IsWeight}
 use Rattle.mat_desc.proofs.ReadingSteps.{found-same, bind_found, test_found}
 
@@ -57,10 +57,10 @@ pub record IsNumberRead (low high : ℤ) (w : WordsLeft) (z : ℤ) (q : WordsLef
   pub most : z ≤ℤ high
 
 pub number_found : (low high : ℤ) (w : WordsLeft) (z : ℤ) (q : WordsLeft) → number_at low high w ≡ Ok (z, q) → IsNumberRead low high w z q
-unfolding number_at
+unfolding number_at word_at
 number_found low high w z q e = from w.words refl e
   where
-    read : (v : List ℕ) (vs : List (List ℕ)) → w.words ≡ v ∷ vs → (r : Result ℤ NumberFault) → number_in low high v ≡ r → number_as w.line vs r ≡ Ok (z, q) → IsNumberRead low high w z q
+    read : (v : List ℕ) (vs : List (List ℕ)) → w.words ≡ v ∷ vs → (r : Result ℤ NumberFault) → number_in low high v ≡ r → number_as (record { line = w.line; words = vs }) r ≡ Ok (z, q) → IsNumberRead low high w z q
     read v vs is (Ok y) was h =
         let same = found-same (y, record { line = w.line; words = vs }) (z, q) h in
         let taken = number_taken low high v y was in
@@ -75,7 +75,7 @@ number_found low high w z q e = from w.words refl e
     from (v ∷ vs) is h = read v vs is (number_in low high v) refl h
 
 pub number_at_again : (low high : ℤ) (n : ℕ) (z : ℤ) (words : List (List ℕ)) → low ≤ℤ z → z ≤ℤ high → number_at low high (record { line = n; words = numeral z ∷ words }) ≡ Ok (z, record { line = n; words = words })
-unfolding number_at
+unfolding number_at word_at
 number_at_again low high n z words least most = rw (number_again low high z least most) refl
 
 -- a word was read as a number from low on, below end
@@ -114,22 +114,22 @@ pub record AreWeightsRead (many : ℕ) (w : WordsLeft) (weights : List ℤ) (q :
   pub count : length weights ≡ many
   pub each : All IsWeight weights
 
-pub weights_found : (many : ℕ) (w : WordsLeft) (weights : List ℤ) (q : WordsLeft) → repeat_at weight_at many w ≡ Ok (weights, q) → AreWeightsRead many w weights q
-unfolding repeat_at weight_at
+pub weights_found : (many : ℕ) (w : WordsLeft) (weights : List ℤ) (q : WordsLeft) → repeat_at read_weight many w ≡ Ok (weights, q) → AreWeightsRead many w weights q
+unfolding repeat_at read_weight
 weights_found zero w weights q e =
     let same = found-same ([], w) (weights, q) e in
     subst (λ (p : List ℤ × WordsLeft). AreWeightsRead 0 w p.0 p.1) same (record { cut = refl; count = refl; each = All-nil IsWeight })
 weights_found (suc many) w weights q e =
-    let first = bind_found (weight_at w) (λ first. repeat_at weight_at many first.1 >>= λ others. Ok (first.0 ∷ others.0, others.1)) (weights, q) e in
-    let others = bind_found (repeat_at weight_at many first.0.1) (λ others. Ok (first.0.0 ∷ others.0, others.1)) (weights, q) first.2 in
+    let first = bind_found (read_weight w) (λ first. repeat_at read_weight many first.1 >>= λ others. Ok (first.0 ∷ others.0, others.1)) (weights, q) e in
+    let others = bind_found (repeat_at read_weight many first.0.1) (λ others. Ok (first.0.0 ∷ others.0, others.1)) (weights, q) first.2 in
     let one = number_found (neg_ℤ (pos (10 ^ 12))) (pos (10 ^ 12)) w first.0.0 first.0.1 first.1 in
     let more = weights_found many first.0.1 others.0.0 others.0.1 others.1 in
     let same = found-same (first.0.0 ∷ others.0.0, others.0.1) (weights, q) others.2 in
     subst (λ (p : List ℤ × WordsLeft). AreWeightsRead (suc many) w p.0 p.1) same
     (record { cut = one.cut ∙ ap (λ (t : List (List ℕ)). numeral first.0.0 ∷ t) more.cut; count = ap suc more.count; each = All-cons IsWeight first.0.0 others.0.0 (one.least, one.most) more.each })
 
-pub weights_again : (n : ℕ) (weights : List ℤ) → All IsWeight weights → repeat_at weight_at (length weights) (record { line = n; words = map numeral weights }) ≡ Ok (weights, record { line = n; words = [] })
-unfolding repeat_at weight_at
+pub weights_again : (n : ℕ) (weights : List ℤ) → All IsWeight weights → repeat_at read_weight (length weights) (record { line = n; words = map numeral weights }) ≡ Ok (weights, record { line = n; words = [] })
+unfolding repeat_at read_weight
 weights_again n [] each = refl
 weights_again n (weight ∷ weights) each =
     let here = All-head IsWeight weight weights each in

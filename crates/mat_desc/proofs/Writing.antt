@@ -1,5 +1,4 @@
--- The text that is written line by line: behind the first word of a line each further word stands behind a space, and the lines of a list
--- of items are those of one item after the other.
+-- The text that is written line by line: the lines of a list of items are those of one item after the other.
 use Rattle.std.proofs.Common.{◌≡◌, ℕ, ◌+◌, ◌<◌, ◌≤◌, List, [], ◌∷◌, ◌++◌, length, map, min, take, get_or, sym, ap, ◌∙◌, refl, arith, pos}
 use Rattle.std.specs.List.{flat_map, join_with_byte, zip}
 use Rattle.std.proofs.lemmas.List.{append_assoc, append-nil, flat_map_more, take_more, take_all}
@@ -8,39 +7,14 @@ use Rattle.std.proofs.lemmas.List.Concat.{flat_map_single}
 use Rattle.std.proofs.lemmas.Slice.Zip.{get_or-zip, length-zip}
 use Rattle.mat_words.specs.Lines.{Line, text_of}
 use Rattle.mat_words.specs.Numbers.{numeral}
+use Rattle.mat_words.specs.Writing.{end_line}
 use Rattle.mat_words.proofs.LineLemmas.{text_of-append}
-use Rattle.mat_desc.specs.Grammar.{version_line, end_line}
+use Rattle.mat_words.proofs.WrittenLines.{item_written, line_written}
+use Rattle.mat_desc.specs.Grammar.{version_line}
 use Rattle.mat_desc.specs.Instances.{Instance}
 use Rattle.mat_desc.specs.Canonical.{capped_line, form_lines, canonical_text}
 
 -- ---- one line
-
--- words that are joined are the first and each further one behind a space
-joined_words : (w : List ℕ) (ws : List (List ℕ)) → join_with_byte 32 (w ∷ ws) ≡ w ++ flat_map (λ v. 32 ∷ v) ws
-joined_words w [] = sym (append-nil w)
-joined_words w (v ∷ vs) = ap (λ (t : List ℕ). w ++ 32 ∷ t) (joined_words v vs)
-
--- the text of a line of a keyword and further words
-line_text : {A : Type 0} (f : A → List ℕ) (w : List ℕ) (xs : List A) → text_of ((w ∷ map f xs) ∷ []) ≡ (w ++ flat_map (λ x. 32 ∷ f x) xs) ++ 10 ∷ []
-line_text f w xs = ap (λ (t : List ℕ). t ++ 10 ∷ []) (joined_words w (map f xs) ∙ ap (λ (t : List ℕ). w ++ t) (flat_map-map (λ v. 32 ∷ v) f xs))
-
--- one more item was written
-pub item_written : {A : Type 0} (g : A → List ℕ) (start : List ℕ) (xs : List A) (i : ℕ) (d : A) (out new : List ℕ) → i < length xs
-    → out ≡ start ++ flat_map g (take i xs) → new ≡ out ++ g (get_or xs i d)
-    → new ≡ start ++ flat_map g (take (i + 1) xs)
-item_written g start xs i d out new inside so_far last =
-    last ∙ ap (λ (t : List ℕ). t ++ g (get_or xs i d)) so_far ∙ flat_map_more g start (take i xs) (get_or xs i d)
-    ∙ ap (λ t. start ++ flat_map g t) (sym (take_more xs i d inside))
-
--- a line was written, word by word
-pub line_written : {A : Type 0} (f : A → List ℕ) (old w : List ℕ) (xs : List A) (n : ℕ) (out new : List ℕ) → length xs ≤ n
-    → out ≡ (old ++ w) ++ flat_map (λ x. 32 ∷ f x) (take n xs) → new ≡ out ++ 10 ∷ []
-    → new ≡ old ++ text_of ((w ∷ map f xs) ∷ [])
-line_written f old w xs n out new done so_far last =
-    let items = flat_map (λ x. 32 ∷ f x) xs in
-    let whole : out ≡ (old ++ w) ++ items = so_far ∙ ap (λ t. (old ++ w) ++ flat_map (λ x. 32 ∷ f x) t) (take_all n xs done) in
-    last ∙ ap (λ (t : List ℕ). t ++ 10 ∷ []) (whole ∙ append_assoc old w items) ∙ append_assoc old (w ++ items) (10 ∷ [])
-    ∙ ap (λ (t : List ℕ). old ++ t) (sym (line_text f w xs))
 
 -- the line of a set and its cap was written, member by member
 pub capped_written : (old key set : List ℕ) (cap n : ℕ) (out new : List ℕ) → length set ≤ n

@@ -8,8 +8,8 @@ use Rattle.mat_desc.specs.declared.refusal.DescRefusal.TheVariants as refusals
 abbrev pub Fault : Type 0
 Fault = DescKind × ℕ
 
--- what is read goes on to the next step, and a fault ends the reading
 infixl 10 ◌>>=◌
+-- what is read goes on to the next step, and a fault ends the reading
 abbrev pub ◌>>=◌ : {A B : Type 0} → Result A Fault → (A → Result B Fault) → Result B Fault
 (Ok x) >>= f = f x
 (Err fault) >>= f = Err fault

@@ -6,6 +6,7 @@ use Rattle.mat_sets.specs.Sums.{IsWithin}
 use Rattle.mat_sets.specs.Families.{AreDisjoint}
 use Rattle.mat_words.specs.Numbers.{numeral, numerals}
 use Rattle.mat_words.specs.Lines.{Line, text_of}
+use Rattle.mat_words.specs.Writing.{end_line, members_line, numbers_line}
 use Rattle.mat_count.specs.Laminar.{IsLaminarFamily}
 use Rattle.mat_any.specs.Trees.{Tree, uniform, partition, laminar, graphic, transversal, gammoid, gf2, dual, truncate, restrict, contract, depth}
 use Rattle.mat_desc.specs.Binary.{binary}
@@ -30,18 +31,19 @@ pub record AreNestedSets (n : ℕ) (sets : List (List ℕ)) (caps : List ℕ) : 
   pub family : IsLaminarFamily sets
 
 -- one number is below each bound
-abbrev pub IsPair : ℕ → ℕ → ℕ × ℕ → Type 0
-IsPair first_bound second_bound ends = (ends.0 < first_bound) × (ends.1 < second_bound)
+abbrev pub IsPairBelow : ℕ → ℕ → ℕ × ℕ → Type 0
+IsPairBelow first_bound second_bound ends = (ends.0 < first_bound) × (ends.1 < second_bound)
 
 -- a matroid on n elements whose numbers and lists are in range
 abbrev pub IsValidTree : ℕ → Tree → Type 0
 IsValidTree n (uniform m cap) = (m ≡ n) × (cap ≤ 500)
 IsValidTree n (partition m classes caps) = (m ≡ n) × AreClasses n classes caps
 IsValidTree n (laminar m sets caps) = (m ≡ n) × AreNestedSets n sets caps
-IsValidTree n (graphic vertices edges) = (length edges ≡ n) × (1 ≤ vertices) × (vertices ≤ 500) × All (IsPair vertices vertices) edges
+IsValidTree n (graphic vertices edges) = (length edges ≡ n) × (1 ≤ vertices) × (vertices ≤ 500)
+    × All (IsPairBelow vertices vertices) edges
 IsValidTree n (transversal m family) = (m ≡ n) × (length family ≤ 500) × All (IsSet n) family
 IsValidTree n (gammoid vertices arcs sources targets) = (length targets ≡ n) × (1 ≤ vertices) × (vertices ≤ 500) × (length arcs ≤ 20000)
-    × All (IsPair vertices vertices) arcs × IsSet vertices sources × AllBelow vertices targets × AreDistinct targets
+    × All (IsPairBelow vertices vertices) arcs × IsSet vertices sources × AllBelow vertices targets × AreDistinct targets
 IsValidTree n (gf2 dim columns) = (length columns ≡ n) × (1 ≤ dim) × (dim ≤ 128) × All (λ column. column < 2 ^ dim) columns
 IsValidTree n (dual t) = IsValidTree n t
 IsValidTree n (truncate cap t) = (cap ≤ 500) × IsValidTree n t
@@ -62,17 +64,21 @@ AreWeights weights = (length weights ≤ 500) × All IsWeight weights
 
 -- at most 500 edges, arcs or cells
 abbrev pub ArePairs : ℕ → ℕ → List (ℕ × ℕ) → Type 0
-ArePairs first_bound second_bound pairs = (length pairs ≤ 500) × All (IsPair first_bound second_bound) pairs
+ArePairs first_bound second_bound pairs = (length pairs ≤ 500) × All (IsPairBelow first_bound second_bound) pairs
 
 -- a problem whose numbers and lists are in range
 abbrev pub IsValid : Instance → Type 0
 IsValid (pair weights first second) = AreWeights weights × IsValidMatroid (length weights) first × IsValidMatroid (length weights) second
-IsValid (list weights matroids) = AreWeights weights × (1 ≤ length matroids) × (length matroids ≤ 64) × All (IsValidMatroid (length weights)) matroids
+IsValid (list weights matroids) = AreWeights weights × (1 ≤ length matroids) × (length matroids ≤ 64)
+    × All (IsValidMatroid (length weights)) matroids
 IsValid (graph vertices edges) = (1 ≤ vertices) × (vertices ≤ 500) × ArePairs vertices vertices edges
-IsValid (rooted vertices root arcs costs) = (1 ≤ vertices) × (vertices ≤ 500) × (root < vertices) × ArePairs vertices vertices arcs × (length costs ≡ length arcs) × All IsWeight costs
-IsValid (coloured vertices colours edges colour_of weights) = (1 ≤ vertices) × (vertices ≤ 500) × (colours ≤ 500) × ArePairs vertices vertices edges
-    × (length colour_of ≡ length edges) × All (λ colour. colour < colours) colour_of × (length weights ≡ length edges) × All IsWeight weights
-IsValid (table rows columns cells weights) = (rows ≤ 500) × (columns ≤ 500) × ArePairs rows columns cells × (length weights ≡ length cells) × All IsWeight weights
+IsValid (rooted vertices root arcs costs) = (1 ≤ vertices) × (vertices ≤ 500) × (root < vertices)
+    × ArePairs vertices vertices arcs × (length costs ≡ length arcs) × All IsWeight costs
+IsValid (coloured vertices colours edges colour_of weights) = (1 ≤ vertices) × (vertices ≤ 500) × (colours ≤ 500)
+    × ArePairs vertices vertices edges × (length colour_of ≡ length edges) × All (λ colour. colour < colours) colour_of
+    × (length weights ≡ length edges) × All IsWeight weights
+IsValid (table rows columns cells weights) = (rows ≤ 500) × (columns ≤ 500) × ArePairs rows columns cells
+    × (length weights ≡ length cells) × All IsWeight weights
 
 -- ---- the lines that spell it
 
@@ -93,7 +99,7 @@ CappedLines key (set ∷ sets) (cap ∷ caps) lines rest = (xs : List ℕ) × (m
 abbrev pub FamilyLines : List (List ℕ) → List Line → List Line → Type 0
 FamilyLines [] lines rest = lines ≡ rest
 FamilyLines (set ∷ family) lines rest = (xs : List ℕ) × (more : List Line) × Lists xs set
-    × (lines ≡ (codes "set" ∷ numerals xs) ∷ more) × FamilyLines family more rest
+    × (lines ≡ members_line (codes "set") xs ∷ more) × FamilyLines family more rest
 
 -- a line of this keyword and two numbers: the ends of an edge or of an arc
 abbrev pub ends_line : List ℕ → ℕ × ℕ → Line
@@ -110,19 +116,21 @@ MatroidLines (partition n classes caps) lines rest = (more : List Line)
     × (lines ≡ (codes "partition" ∷ numeral (pos (length classes)) ∷ []) ∷ more) × CappedLines (codes "class") classes caps more rest
 MatroidLines (laminar n sets caps) lines rest = (more : List Line)
     × (lines ≡ (codes "laminar" ∷ numeral (pos (length sets)) ∷ []) ∷ more) × CappedLines (codes "set") sets caps more rest
-MatroidLines (graphic vertices edges) lines rest = lines ≡ (codes "graphic" ∷ numeral (pos vertices) ∷ []) ∷ (map (ends_line (codes "edge")) edges ++ rest)
+MatroidLines (graphic vertices edges) lines rest =
+    lines ≡ (codes "graphic" ∷ numeral (pos vertices) ∷ []) ∷ (map (ends_line (codes "edge")) edges ++ rest)
 MatroidLines (transversal n family) lines rest = (more : List Line)
     × (lines ≡ (codes "transversal" ∷ numeral (pos (length family)) ∷ []) ∷ more) × FamilyLines family more rest
 MatroidLines (gammoid vertices arcs sources targets) lines rest = (xs : List ℕ) × Lists xs sources
-    × (lines ≡ (codes "gammoid" ∷ numeral (pos vertices) ∷ numeral (pos (length arcs)) ∷ []) ∷ (codes "sources" ∷ numerals xs)
-    ∷ (codes "targets" ∷ numerals targets) ∷ (map (ends_line (codes "arc")) arcs ++ rest))
+    × (lines ≡ (codes "gammoid" ∷ numeral (pos vertices) ∷ numeral (pos (length arcs)) ∷ []) ∷ members_line (codes "sources") xs
+    ∷ members_line (codes "targets") targets ∷ (map (ends_line (codes "arc")) arcs ++ rest))
 MatroidLines (gf2 dim columns) lines rest = lines ≡ (codes "gf2" ∷ numeral (pos dim) ∷ []) ∷ (map (column_line dim) columns ++ rest)
 MatroidLines (dual t) lines rest = (more : List Line) × (lines ≡ (codes "dual" ∷ []) ∷ more) × MatroidLines t more rest
-MatroidLines (truncate cap t) lines rest = (more : List Line) × (lines ≡ (codes "truncate" ∷ numeral (pos cap) ∷ []) ∷ more) × MatroidLines t more rest
+MatroidLines (truncate cap t) lines rest = (more : List Line)
+    × (lines ≡ (codes "truncate" ∷ numeral (pos cap) ∷ []) ∷ more) × MatroidLines t more rest
 MatroidLines (restrict kept t) lines rest = (xs : List ℕ) × (more : List Line) × Lists xs kept
-    × (lines ≡ (codes "restrict" ∷ numerals xs) ∷ more) × MatroidLines t more rest
+    × (lines ≡ members_line (codes "restrict") xs ∷ more) × MatroidLines t more rest
 MatroidLines (contract away t) lines rest = (xs : List ℕ) × (more : List Line) × Lists xs away
-    × (lines ≡ (codes "contract" ∷ numerals xs) ∷ more) × MatroidLines t more rest
+    × (lines ≡ members_line (codes "contract") xs ∷ more) × MatroidLines t more rest
 
 -- the lines of each matroid, and then the rest
 abbrev pub MatroidsLines : List Tree → List Line → List Line → Type 0
@@ -137,27 +145,55 @@ weighted_line key item = key ∷ numeral (pos item.0.0) ∷ numeral (pos item.0.
 abbrev pub coloured_edge_line : (ℕ × ℕ) × (ℕ × ℤ) → Line
 coloured_edge_line item = codes "edge" ∷ numeral (pos item.0.0) ∷ numeral (pos item.0.1) ∷ numeral (pos item.1.0) ∷ numeral item.1.1 ∷ []
 
--- the first line and the last
+-- the first line of a text
 abbrev pub version_line : Line
 version_line = codes "matroids" ∷ codes "1" ∷ []
 
-abbrev pub end_line : Line
-end_line = codes "end" ∷ []
+-- the line of two weighted matroids: the number of their elements
+abbrev pub pair_header : ℕ → Line
+pair_header count = codes "pair" ∷ numeral (pos count) ∷ []
+
+-- the line of a list of weighted matroids: the number of their elements, and how many they are
+abbrev pub list_header : ℕ → ℕ → Line
+list_header count many = codes "list" ∷ numeral (pos count) ∷ numeral (pos many) ∷ []
+
+-- the line of a graph: the numbers of its vertices and of its edges
+abbrev pub graph_header : ℕ → ℕ → Line
+graph_header vertices edges = codes "graph" ∷ numeral (pos vertices) ∷ numeral (pos edges) ∷ []
+
+-- the line of a directed graph with a root: the numbers of its vertices and of its arcs, and the root
+abbrev pub rooted_header : ℕ → ℕ → ℕ → Line
+rooted_header vertices arcs root = codes "rooted" ∷ numeral (pos vertices) ∷ numeral (pos arcs) ∷ numeral (pos root) ∷ []
+
+-- the line of a graph with coloured edges: the numbers of its vertices, of its edges and of its colours
+abbrev pub coloured_header : ℕ → ℕ → ℕ → Line
+coloured_header vertices edges colours = codes "coloured" ∷ numeral (pos vertices) ∷ numeral (pos edges) ∷ numeral (pos colours) ∷ []
+
+-- the line of a table: the numbers of its rows, of its columns and of its cells
+abbrev pub table_header : ℕ → ℕ → ℕ → Line
+table_header rows columns cells = codes "table" ∷ numeral (pos rows) ∷ numeral (pos columns) ∷ numeral (pos cells) ∷ []
+
+-- the line of the weights
+abbrev pub weights_line : List ℤ → Line
+weights_line weights = numbers_line (codes "weights") weights
 
 -- the lines of a problem
 abbrev pub InstanceLines : Instance → List Line → Type 0
 InstanceLines (pair weights first second) lines = (first_lines : List Line) × (second_lines : List Line)
-    × (lines ≡ version_line ∷ (codes "pair" ∷ numeral (pos (length weights)) ∷ []) ∷ (codes "weights" ∷ map numeral weights) ∷ first_lines)
+    × (lines ≡ version_line ∷ pair_header (length weights) ∷ weights_line weights ∷ first_lines)
     × MatroidLines first first_lines second_lines × MatroidLines second second_lines (end_line ∷ [])
 InstanceLines (list weights matroids) lines = (matroid_lines : List Line)
-    × (lines ≡ version_line ∷ (codes "list" ∷ numeral (pos (length weights)) ∷ numeral (pos (length matroids)) ∷ []) ∷ (codes "weights" ∷ map numeral weights) ∷ matroid_lines)
+    × (lines ≡ version_line ∷ list_header (length weights) (length matroids) ∷ weights_line weights ∷ matroid_lines)
     × MatroidsLines matroids matroid_lines (end_line ∷ [])
-InstanceLines (graph vertices edges) lines = lines ≡ version_line ∷ (codes "graph" ∷ numeral (pos vertices) ∷ numeral (pos (length edges)) ∷ []) ∷ (map (ends_line (codes "edge")) edges ++ end_line ∷ [])
-InstanceLines (rooted vertices root arcs costs) lines = lines ≡ version_line ∷ (codes "rooted" ∷ numeral (pos vertices) ∷ numeral (pos (length arcs)) ∷ numeral (pos root) ∷ [])
-    ∷ (map (weighted_line (codes "arc")) (zip arcs costs) ++ end_line ∷ [])
-InstanceLines (coloured vertices colours edges colour_of weights) lines = lines ≡ version_line
-    ∷ (codes "coloured" ∷ numeral (pos vertices) ∷ numeral (pos (length edges)) ∷ numeral (pos colours) ∷ []) ∷ (map coloured_edge_line (zip edges (zip colour_of weights)) ++ end_line ∷ [])
-InstanceLines (table rows columns cells weights) lines = lines ≡ version_line ∷ (codes "table" ∷ numeral (pos rows) ∷ numeral (pos columns) ∷ numeral (pos (length cells)) ∷ [])
+InstanceLines (graph vertices edges) lines =
+    lines ≡ version_line ∷ graph_header vertices (length edges) ∷ (map (ends_line (codes "edge")) edges ++ end_line ∷ [])
+InstanceLines (rooted vertices root arcs costs) lines =
+    lines ≡ version_line ∷ rooted_header vertices (length arcs) root ∷ (map (weighted_line (codes "arc")) (zip arcs costs) ++ end_line ∷ [])
+InstanceLines (coloured vertices colours edges colour_of weights) lines =
+    lines ≡ version_line ∷ coloured_header vertices (length edges) colours
+    ∷ (map coloured_edge_line (zip edges (zip colour_of weights)) ++ end_line ∷ [])
+InstanceLines (table rows columns cells weights) lines =
+    lines ≡ version_line ∷ table_header rows columns (length cells)
     ∷ (map (weighted_line (codes "cell")) (zip cells weights) ++ end_line ∷ [])
 
 -- the text spells the problem: the problem is in range, and the text is the text of its lines

@@ -1,6 +1,8 @@
 -- Reading a description: the problem that a text spells, or its first fault. Each function takes what is left of the text or of a line, and
 -- the order of its lines is the order in which faults are looked for.
-use Rattle.std.specs.Prelude.{ℕ, zero, suc, ◌+◌, ◌-ℤ◌, ℤ, pos, nat_abs, neg_ℤ, ◌^◌, Bool, false, not, ◌&&◌, List, [], ◌∷◌, length, Option, Some, None, ◌++◌, Result, Ok, Err, ◌==◌, if◌then◌else◌, bytes_eq, codes, map}
+use Rattle.std.specs.Prelude.{ℕ, zero, suc, ◌+◌, ◌^◌, ◌==◌, ℤ, pos, neg_ℤ, ◌-ℤ◌, nat_abs, Bool, false, not, ◌&&◌}
+use Rattle.std.specs.Prelude.{if◌then◌else◌, List, [], ◌∷◌, ◌++◌, length, map, codes, bytes_eq}
+use Rattle.std.specs.Prelude.{Option, Some, None, Result, Ok, Err}
 use Rattle.mat_sets.specs.Sets.{is_member, with_one}
 use Rattle.mat_words.specs.Lines.{lines_of}
 use Rattle.mat_words.specs.Words.{words_of, is_well_spaced}
@@ -44,20 +46,15 @@ word_from n (word ∷ words) = Ok (word, record { line = n; words = words })
 unfoldable pub word_at : WordsLeft → Result (List ℕ × WordsLeft) Fault
 word_at p = word_from p.line p.words
 
--- the fault of a word where a number is needed
-abbrev pub number_as : ℕ → List (List ℕ) → Result ℤ NumberFault → Result (ℤ × WordsLeft) Fault
-number_as n words (Ok z) = Ok (z, record { line = n; words = words })
-number_as n words (Err Spelling) = Err (kinds.NumberSpelling, n)
-number_as n words (Err Range) = Err (kinds.NumberRange, n)
-
--- the next word of line n as a number in low..high
-abbrev pub number_from : ℤ → ℤ → ℕ → List (List ℕ) → Result (ℤ × WordsLeft) Fault
-number_from low high n [] = Err (kinds.TooFewWords, n)
-number_from low high n (word ∷ words) = number_as n words (number_in low high word)
+-- what a word says where a number is needed, with the words behind it; a word that says none is a fault of their line
+abbrev pub number_as : WordsLeft → Result ℤ NumberFault → Result (ℤ × WordsLeft) Fault
+number_as rest (Ok z) = Ok (z, rest)
+number_as rest (Err Spelling) = Err (kinds.NumberSpelling, rest.line)
+number_as rest (Err Range) = Err (kinds.NumberRange, rest.line)
 
 -- the next word as a number in low..high
 unfoldable pub number_at : ℤ → ℤ → WordsLeft → Result (ℤ × WordsLeft) Fault
-number_at low high p = number_from low high p.line p.words
+number_at low high p = word_at p >>= λ word. number_as word.1 (number_in low high word.0)
 
 -- the next word as a number from low on, below end
 unfoldable pub count_at : ℕ → ℕ → WordsLeft → Result (ℕ × WordsLeft) Fault
@@ -66,8 +63,8 @@ count_at low end p = do
   Ok (nat_abs number.0, number.1)
 
 -- the next word as a weight
-unfoldable pub weight_at : WordsLeft → Result (ℤ × WordsLeft) Fault
-weight_at p = number_at (neg_ℤ (pos (10 ^ 12))) (pos (10 ^ 12)) p
+unfoldable pub read_weight : WordsLeft → Result (ℤ × WordsLeft) Fault
+read_weight p = number_at (neg_ℤ (pos (10 ^ 12))) (pos (10 ^ 12)) p
 
 -- no word of line n may be left
 abbrev pub ended_from : ℕ → List (List ℕ) → Result (Unit {0}) Fault
@@ -118,7 +115,7 @@ version_at p = do
 unfoldable pub weights_at : ℕ → LinesLeft → Result (List ℤ × LinesLeft) Fault
 weights_at n p = do
   line ← keyed_at (codes "weights") p
-  weights ← repeat_at weight_at n line.0
+  weights ← repeat_at read_weight n line.0
   end ← ended_at weights.1
   Ok (weights.0, line.1)
 
@@ -260,16 +257,11 @@ gammoid_at n words lines = do
   arcs ← repeat_at (ends_line_at (codes "arc") vertices.0) many.0 targets.1
   Ok (gammoid vertices.0 arcs.0 sources.0 targets.0, arcs.1)
 
--- the next word of line n as a binary number of so many digits
-abbrev pub binary_from : ℕ → ℕ → List (List ℕ) → Result (ℕ × WordsLeft) Fault
-binary_from digits n [] = Err (kinds.TooFewWords, n)
-binary_from digits n (word ∷ words) =
-    if (length word == digits) && is_binary word then Ok (binary_value 0 word, record { line = n; words = words })
-    else Err (kinds.NumberSpelling, n)
-
 -- the next word as a binary number of so many digits
 unfoldable pub binary_at : ℕ → WordsLeft → Result (ℕ × WordsLeft) Fault
-binary_at digits p = binary_from digits p.line p.words
+binary_at digits p = do
+  word ← word_at p
+  if (length word.0 == digits) && is_binary word.0 then Ok (binary_value 0 word.0, word.1) else Err (kinds.NumberSpelling, word.1.line)
 
 -- a column line
 unfoldable pub column_at : ℕ → LinesLeft → Result (ℕ × LinesLeft) Fault
@@ -389,7 +381,7 @@ unfoldable pub weighted_at : List ℕ → ℕ → ℕ → LinesLeft → Result (
 weighted_at key first_bound second_bound p = do
   line ← keyed_at key p
   ends ← ends_at first_bound second_bound line.0
-  weight ← weight_at ends.1
+  weight ← read_weight ends.1
   end ← ended_at weight.1
   Ok ((ends.0, weight.0), line.1)
 
@@ -399,7 +391,7 @@ coloured_edge_at vertices colours p = do
   line ← keyed_at (codes "edge") p
   ends ← ends_at vertices vertices line.0
   colour ← count_at 0 colours ends.1
-  weight ← weight_at colour.1
+  weight ← read_weight colour.1
   end ← ended_at weight.1
   Ok ((ends.0, (colour.0, weight.0)), line.1)
 

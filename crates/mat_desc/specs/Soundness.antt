@@ -5,7 +5,8 @@ use Rattle.mat_desc.specs.Instances.{Instance, pair, list, graph, rooted, colour
 
 -- each matroid is sound, and has as many elements as there are weights
 abbrev pub IsSoundInstance : Instance → Type 0
-IsSoundInstance (pair weights first second) = IsSound first × (element_count first ≡ length weights) × IsSound second × (element_count second ≡ length weights)
+IsSoundInstance (pair weights first second) = IsSound first × (element_count first ≡ length weights)
+    × IsSound second × (element_count second ≡ length weights)
 IsSoundInstance (list weights matroids) = All (λ tree. IsSound tree × (element_count tree ≡ length weights)) matroids
 IsSoundInstance (graph vertices edges) = Unit {0}
 IsSoundInstance (rooted vertices root arcs costs) = Unit {0}

@@ -1,6 +1,7 @@
 //! Words that are binary numbers, the highest digit first.
 
-ghost use Rattle.std.specs.Prelude.{◌≡◌, ◌≤◌, ◌+◌, ◌++◌, ◌&&◌, ◌||◌, ◌==◌, if◌then◌else◌, length, Some, None, OnOk};
+ghost use Rattle.std.specs.Prelude.{◌≡◌, ◌≤◌, ◌+◌, ◌++◌, ◌&&◌, ◌||◌, ◌==◌, if◌then◌else◌};
+ghost use Rattle.std.specs.Prelude.{length, Some, None, OnOk};
 ghost use Rattle.std.specs.Int.{bit_at};
 ghost use Rattle.mat_desc.specs.Binary.{binary, is_binary, binary_value};
 ghost use Rattle.mat_desc.specs.Faults.{Gives};
@@ -8,8 +9,8 @@ ghost use Rattle.mat_desc.specs.Reading.{binary_at};
 ghost use Rattle.mat_desc.specs.Views.{words_left};
 
 use crate::cursor::Words;
-use crate::refusal::{DescKind, DescRefusal};
-use mat_words::split_word;
+use crate::reading::next_word;
+use crate::refusal::{DescKind, DescRefusal, fault};
 use std::alloc::AllocError;
 
 /// Whether a byte is a binary digit.
@@ -39,24 +40,17 @@ fn read_binary(word: &[u8], digits: u32) -> Option<u128>
 
 /// The next word of a line as a binary number of so many digits.
 #[tactic(auto, unfolding(crate::specs::Reading::binary_at))]
-pub fn next_binary<'a>(words: Words<'a>, digits: u32) -> Result<(u128, Words<'a>), DescRefusal>
+pub(crate) fn next_binary<'a>(
+    words: Words<'a>,
+    digits: u32,
+) -> Result<(u128, Words<'a>), DescRefusal>
     requires { digits ≤ 128 }
     ensures { Gives (λ x. (x.0, words_left x.1)) result (binary_at digits (words_left words.entry)) }
 {
-    let line = words.line;
-    let Some(left) = words.left else {
-        return Err(DescRefusal::Fault {
-            kind: DescKind::TooFewWords,
-            line,
-        });
-    };
-    let (word, left) = split_word(left);
+    let (word, rest) = next_word(words)?;
     match read_binary(word, digits) {
-        Some(value) => Ok((value, Words { line, left })),
-        None => Err(DescRefusal::Fault {
-            kind: DescKind::NumberSpelling,
-            line,
-        }),
+        Some(value) => Ok((value, rest)),
+        None => Err(fault(DescKind::NumberSpelling, rest.line)),
     }
 }
 
@@ -71,7 +65,7 @@ fn binary_digit(number: u128, place: u32) -> u8
 }
 
 /// Appends the last binary digits of a number, as many as are asked for.
-pub fn put_binary(out: &mut Vec<u8>, digits: u32, number: u128) -> Result<(), AllocError>
+pub(crate) fn put_binary(out: &mut Vec<u8>, digits: u32, number: u128) -> Result<(), AllocError>
     ensures { OnOk result (out.new.items ≡ out.old.items ++ binary digits number) }
 {
     for place in (0..digits).rev() {

@@ -5,7 +5,9 @@ ghost use Rattle.std.specs.Prelude.{◌<◌, ◌+◌, ◌^◌, length};
 /// The lines that are left of a text, of which the first has this number.
 #[derive(Clone, Copy)]
 pub struct Lines<'a> {
+    /// The number of the first line.
     pub line: u32,
+    /// The lines, and what stands behind the last byte 10.
     pub text: &'a [u8],
     ghost in_range: { line + length text.now < 2 ^ 32 },
 }
@@ -13,6 +15,8 @@ pub struct Lines<'a> {
 /// The words that are left of the line with this number: none, or the parts of these bytes between spaces.
 #[derive(Clone, Copy)]
 pub struct Words<'a> {
+    /// The number of the line.
     pub line: u32,
+    /// What is left of the line.
     pub left: Option<&'a [u8]>,
 }

@@ -13,6 +13,26 @@ use crate::refusal::DescRefusal;
 use mat_sets::{Pairs, Weights};
 use std::alloc::Global;
 
+/// Two numbers with a weight: an arc with its cost, or a cell with its weight.
+#[derive(Clone, Copy)]
+struct WeightedPair {
+    /// The two numbers.
+    ends: (u32, u32),
+    /// The cost or the weight.
+    weight: i128,
+}
+
+/// An edge with a colour and a weight.
+#[derive(Clone, Copy)]
+struct ColouredEdge {
+    /// The two ends.
+    ends: (u32, u32),
+    /// The colour.
+    colour: u32,
+    /// The weight.
+    weight: i128,
+}
+
 /// Two numbers, one below each bound.
 #[tactic(auto, unfolding(crate::specs::Reading::ends_at))]
 fn next_ends<'a>(
@@ -62,16 +82,16 @@ fn weighted_line<'a>(
     first_bound: u32,
     second_bound: u32,
     lines: Lines<'a>,
-) -> Result<((u32, u32), i128, Lines<'a>), DescRefusal>
-    ensures value { Gives (λ x. ((x.0, x.1), lines_left x.2)) result
+) -> Result<(WeightedPair, Lines<'a>), DescRefusal>
+    ensures value { Gives (λ x. ((x.0.ends, x.0.weight), lines_left x.1)) result
         (weighted_at key.now first_bound second_bound (lines_left lines.entry)) }
-    ensures range { IfOk result (λ x. (neg_ℤ (pos (10 ^ 12)) ≤ℤ x.1) × (x.1 ≤ℤ pos (10 ^ 12))) }
+    ensures range { IfOk result (λ x. (neg_ℤ (pos (10 ^ 12)) ≤ℤ x.0.weight) × (x.0.weight ≤ℤ pos (10 ^ 12))) }
 {
     let (words, rest) = keyed_line(lines, key)?;
     let (ends, words) = next_ends(words, first_bound, second_bound)?;
     let (weight, words) = next_weight(words)?;
     ended(words)?;
-    Ok((ends, weight, rest))
+    Ok((WeightedPair { ends, weight }, rest))
 }
 
 /// An edge line with a colour and a weight.
@@ -80,21 +100,26 @@ fn coloured_edge_line<'a>(
     vertices: u32,
     colours: u32,
     lines: Lines<'a>,
-) -> Result<((u32, u32), u32, i128, Lines<'a>), DescRefusal>
-    ensures value { Gives (λ x. ((x.0, (x.1, x.2)), lines_left x.3)) result
+) -> Result<(ColouredEdge, Lines<'a>), DescRefusal>
+    ensures value { Gives (λ x. ((x.0.ends, (x.0.colour, x.0.weight)), lines_left x.1)) result
         (coloured_edge_at vertices colours (lines_left lines.entry)) }
-    ensures range { IfOk result (λ x. (neg_ℤ (pos (10 ^ 12)) ≤ℤ x.2) × (x.2 ≤ℤ pos (10 ^ 12))) }
+    ensures range { IfOk result (λ x. (neg_ℤ (pos (10 ^ 12)) ≤ℤ x.0.weight) × (x.0.weight ≤ℤ pos (10 ^ 12))) }
 {
     let (words, rest) = keyed_line(lines, b"edge")?;
     let (ends, words) = next_ends(words, vertices, vertices)?;
     let (colour, words) = next_count(words, 0, colours)?;
     let (weight, words) = next_weight(words)?;
     ended(words)?;
-    Ok((ends, colour, weight, rest))
+    let edge = ColouredEdge {
+        ends,
+        colour,
+        weight,
+    };
+    Ok((edge, rest))
 }
 
 /// As many lines of this keyword with the two ends of an edge or of an arc.
-pub fn ends_lines<'a>(
+pub(crate) fn ends_lines<'a>(
     alloc: Global,
     key: &[u8],
     vertices: u32,
@@ -115,7 +140,7 @@ pub fn ends_lines<'a>(
 }
 
 /// As many column lines.
-pub fn column_lines<'a>(
+pub(crate) fn column_lines<'a>(
     alloc: Global,
     dim: u32,
     many: u32,
@@ -136,7 +161,7 @@ pub fn column_lines<'a>(
 }
 
 /// As many lines of this keyword with two numbers and a weight.
-pub fn weighted_lines<'a>(
+pub(crate) fn weighted_lines<'a>(
     alloc: Global,
     key: &[u8],
     first_bound: u32,
@@ -152,16 +177,16 @@ pub fn weighted_lines<'a>(
     let mut weights = Vec::new(alloc);
     let mut rest = lines;
     for _ in 0..many {
-        let (ends, weight, after) = weighted_line(key, first_bound, second_bound, rest)?;
-        pairs.push(ends)?;
-        weights.push(weight)?;
+        let (item, after) = weighted_line(key, first_bound, second_bound, rest)?;
+        pairs.push(item.ends)?;
+        weights.push(item.weight)?;
         rest = after;
     }
     Ok((Pairs::new(pairs), Weights::new(weights), rest))
 }
 
 /// As many edge lines with a colour and a weight.
-pub fn coloured_edge_lines<'a>(
+pub(crate) fn coloured_edge_lines<'a>(
     alloc: Global,
     vertices: u32,
     colours: u32,
@@ -178,10 +203,10 @@ pub fn coloured_edge_lines<'a>(
     let mut weights = Vec::new(alloc);
     let mut rest = lines;
     for _ in 0..many {
-        let (ends, colour, weight, after) = coloured_edge_line(vertices, colours, rest)?;
-        edges.push(ends)?;
-        colour_of.push(colour)?;
-        weights.push(weight)?;
+        let (edge, after) = coloured_edge_line(vertices, colours, rest)?;
+        edges.push(edge.ends)?;
+        colour_of.push(edge.colour)?;
+        weights.push(edge.weight)?;
         rest = after;
     }
     Ok((Pairs::new(edges), colour_of, Weights::new(weights), rest))

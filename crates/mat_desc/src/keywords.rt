@@ -6,32 +6,49 @@ ghost use Rattle.mat_desc.specs.Reading.{keyword_of, form_of};
 /// The form of a problem.
 #[derive(Clone, Copy, Debug, PartialEq, Eq)]
 pub enum Form {
+    /// Two weighted matroids: `pair`.
     Pair,
+    /// A list of weighted matroids: `list`.
     List,
+    /// A graph: `graph`.
     Graph,
+    /// A directed graph with a root: `rooted`.
     Rooted,
+    /// A graph with coloured edges: `coloured`.
     Coloured,
+    /// A table: `table`.
     Table,
 }
 
 /// The kind of a matroid.
 #[derive(Clone, Copy, Debug, PartialEq, Eq)]
 pub enum Keyword {
+    /// `uniform`: sets of at most so many elements.
     Uniform,
+    /// `partition`: sets of at most so many elements of each class.
     Partition,
+    /// `laminar`: sets of at most so many elements of each set of a family, no two of which cross.
     Laminar,
+    /// `graphic`: forests of a graph.
     Graphic,
+    /// `transversal`: sets that can be matched into a family.
     Transversal,
+    /// `gammoid`: sets that disjoint paths link to sources.
     Gammoid,
+    /// `gf2`: independent columns over the field of two elements.
     Gf2,
+    /// `dual`: the dual of a matroid.
     Dual,
+    /// `truncate`: a matroid, with its sets cut off at a size.
     Truncate,
+    /// `restrict`: a matroid within a set of its elements.
     Restrict,
+    /// `contract`: a matroid with a set of its elements contracted.
     Contract,
 }
 
 /// The form that a word names.
-pub fn form_from(word: &[u8]) -> Option<Form>
+pub(crate) fn form_from(word: &[u8]) -> Option<Form>
     ensures { result ≡ form_of word.now }
 {
     if word == b"pair".as_slice() {
@@ -52,7 +69,7 @@ pub fn form_from(word: &[u8]) -> Option<Form>
 }
 
 /// The kind that a word names.
-pub fn keyword_from(word: &[u8]) -> Option<Keyword>
+pub(crate) fn keyword_from(word: &[u8]) -> Option<Keyword>
     ensures { result ≡ keyword_of word.now }
 {
     if word == b"uniform".as_slice() {

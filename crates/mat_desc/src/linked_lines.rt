@@ -9,7 +9,7 @@ ghost use Rattle.mat_desc.specs.Views.{lines_left, words_left};
 use crate::cursor::{Lines, Words};
 use crate::item_lines::ends_lines;
 use crate::reading::{elements_line, ended, keyed_line, next_count};
-use crate::refusal::{DescKind, DescRefusal};
+use crate::refusal::{DescKind, DescRefusal, fault};
 use mat_any::AnyMatroid;
 use mat_flow::Digraph;
 use mat_linked::{Gammoid, Transversal};
@@ -68,10 +68,7 @@ fn distinct_numbers<'a>(
     for _ in 0..many {
         let (number, after) = next_count(rest, 0, bound)?;
         if !taken.add(number)? {
-            return Err(DescRefusal::Fault {
-                kind: DescKind::Repeated,
-                line: rest.line,
-            });
+            return Err(fault(DescKind::Repeated, rest.line));
         }
         numbers.push(number)?;
         rest = after;
@@ -97,7 +94,7 @@ fn targets_line<'a>(
 
 /// A transversal matroid, from the words behind its keyword on.
 #[tactic(auto, using(crate::proofs::SetLineLaws::family_building), unfolding(crate::specs::Reading::transversal_at))]
-pub fn transversal<'a>(
+pub(crate) fn transversal<'a>(
     alloc: Global,
     count: u32,
     words: Words<'a>,
@@ -115,7 +112,7 @@ pub fn transversal<'a>(
 
 /// A gammoid, from the words behind its keyword on.
 #[tactic(auto, using(crate::proofs::TargetLaws::gammoid_building), unfolding(crate::specs::Reading::gammoid_at))]
-pub fn gammoid<'a>(
+pub(crate) fn gammoid<'a>(
     alloc: Global,
     count: u32,
     words: Words<'a>,

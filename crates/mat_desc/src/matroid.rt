@@ -3,7 +3,9 @@
 ghost use Rattle.std.specs.Prelude.{◌≡◌, ◌<◌, ◌^◌, [], length, map};
 ghost use Rattle.mat_any.specs.Views.{tree_of};
 ghost use Rattle.mat_desc.specs.Faults.{Gives};
-ghost use Rattle.mat_desc.specs.Reading.{class_at, classes_at, nested_set_at, nested_sets_at, uniform_at, partition_at, laminar_at, graphic_at, gf2_at, dual_at, truncate_at, restrict_at, contract_at, matroid_within, matroid_at, repeat_at};
+ghost use Rattle.mat_desc.specs.Reading.{class_at, classes_at, nested_set_at, nested_sets_at, repeat_at};
+ghost use Rattle.mat_desc.specs.Reading.{uniform_at, partition_at, laminar_at, graphic_at, gf2_at, dual_at, truncate_at, restrict_at, contract_at};
+ghost use Rattle.mat_desc.specs.Reading.{matroid_within, matroid_at};
 ghost use Rattle.mat_desc.specs.Views.{lines_left, words_left};
 
 use crate::cursor::{Lines, Words};
@@ -11,7 +13,7 @@ use crate::item_lines::{column_lines, ends_lines};
 use crate::keywords::{Keyword, keyword_from};
 use crate::linked_lines::{gammoid, transversal};
 use crate::reading::{elements_line, ended, keyed_line, next_count, next_line, next_word};
-use crate::refusal::{DescKind, DescRefusal};
+use crate::refusal::{DescKind, DescRefusal, fault};
 use mat_any::AnyMatroid;
 use mat_count::{Laminar, Partition, Uniform, crossing};
 use mat_gf2::Gf2;
@@ -77,10 +79,7 @@ fn nested_set_line<'a>(
     let mut taken = ElemSet::new(alloc);
     let set = elements_line(alloc, words, count, &mut taken)?;
     if crossing(earlier, &set).is_some() {
-        return Err(DescRefusal::Fault {
-            kind: DescKind::Crossing,
-            line,
-        });
+        return Err(fault(DescKind::Crossing, line));
     }
     Ok((cap, set, rest))
 }
@@ -288,17 +287,11 @@ fn next_matroid_within<'a>(
     let line = lines.line;
     let (words, rest) = next_line(lines)?;
     if room == 0 {
-        return Err(DescRefusal::Fault {
-            kind: DescKind::TooDeep,
-            line,
-        });
+        return Err(fault(DescKind::TooDeep, line));
     }
     let (word, words) = next_word(words)?;
     match keyword_from(word) {
-        None => Err(DescRefusal::Fault {
-            kind: DescKind::UnknownWord,
-            line,
-        }),
+        None => Err(fault(DescKind::UnknownWord, line)),
         Some(Keyword::Uniform) => uniform(count, words, rest),
         Some(Keyword::Partition) => partition(alloc, count, words, rest),
         Some(Keyword::Laminar) => laminar(alloc, count, words, rest),
@@ -314,7 +307,7 @@ fn next_matroid_within<'a>(
 }
 
 /// The next matroid, on `count` elements.
-pub fn next_matroid<'a>(
+pub(crate) fn next_matroid<'a>(
     alloc: Global,
     count: u32,
     lines: Lines<'a>,
@@ -326,7 +319,7 @@ pub fn next_matroid<'a>(
 }
 
 /// As many matroids, on `count` elements each.
-pub fn next_matroids<'a>(
+pub(crate) fn next_matroids<'a>(
     alloc: Global,
     count: u32,
     many: u32,

@@ -4,7 +4,8 @@ ghost use Rattle.std.specs.Prelude.{◌≡◌, ◌≤◌, length, IfOk};
 ghost use Rattle.mat_desc.specs.Faults.{Gives};
 ghost use Rattle.mat_desc.specs.Grammar.{IsValid, Spells};
 ghost use Rattle.mat_desc.specs.Instances.{Instance};
-ghost use Rattle.mat_desc.specs.Reading.{version_at, end_at, closed_at, pair_at, list_at, graph_at, rooted_at, coloured_at, table_at, instance_at, description_at, read_of};
+ghost use Rattle.mat_desc.specs.Reading.{version_at, end_at, closed_at, pair_at, list_at, graph_at, rooted_at, coloured_at, table_at};
+ghost use Rattle.mat_desc.specs.Reading.{instance_at, description_at, read_of};
 ghost use Rattle.mat_desc.specs.Soundness.{IsSoundInstance};
 ghost use Rattle.mat_desc.specs.Views.{lines_left, words_left, instance_of};
 
@@ -13,7 +14,7 @@ use crate::item_lines::{coloured_edge_lines, ends_lines, weighted_lines};
 use crate::keywords::{Form, form_from};
 use crate::matroid::{next_matroid, next_matroids};
 use crate::reading::{ended, keyed_line, next_count, next_line, next_word, weights_line};
-use crate::refusal::{DescKind, DescRefusal};
+use crate::refusal::{DescKind, DescRefusal, fault};
 use mat_any::AnyMatroid;
 use mat_sets::{Pairs, Weights};
 use std::alloc::Global;
@@ -23,40 +24,60 @@ use std::alloc::Global;
 pub enum Problem {
     /// Two matroids on the same elements, and a weight for each element.
     Pair {
+        /// The weight of each element.
         weights: Weights,
+        /// The first matroid.
         first: AnyMatroid,
+        /// The second matroid.
         second: AnyMatroid,
     },
     /// Matroids on the same elements, and a weight for each element.
     List {
+        /// The weight of each element.
         weights: Weights,
+        /// The matroids.
         matroids: Vec<AnyMatroid>,
     },
-    /// A graph: the number of its vertices, and the ends of each edge.
+    /// A graph.
     Graph {
+        /// The number of its vertices.
         vertices: u32,
+        /// The ends of each edge.
         edges: Pairs,
     },
-    /// A directed graph with a root: the tail and the head of each arc, and the cost of each.
+    /// A directed graph with a root, and a cost for each arc.
     Rooted {
+        /// The number of its vertices.
         vertices: u32,
+        /// The root.
         root: u32,
+        /// The tail and the head of each arc.
         arcs: Pairs,
+        /// The cost of each arc.
         costs: Weights,
     },
     /// A graph with a colour and a weight for each edge.
     Coloured {
+        /// The number of its vertices.
         vertices: u32,
+        /// The number of colours.
         colours: u32,
+        /// The ends of each edge.
         edges: Pairs,
+        /// The colour of each edge.
         colour_of: Vec<u32>,
+        /// The weight of each edge.
         weights: Weights,
     },
-    /// A table: the row and the column of each cell, and the weight of each.
+    /// A table, some of whose cells have a weight.
     Table {
+        /// The number of its rows.
         rows: u32,
+        /// The number of its columns.
         columns: u32,
+        /// The row and the column of each cell.
         cells: Pairs,
+        /// The weight of each cell.
         weights: Weights,
     },
 }
@@ -70,10 +91,7 @@ fn version_line<'a>(lines: Lines<'a>) -> Result<Lines<'a>, DescRefusal>
     let (words, rest) = keyed_line(lines, b"matroids")?;
     let (word, words) = next_word(words)?;
     if word != b"1".as_slice() {
-        return Err(DescRefusal::Fault {
-            kind: DescKind::Version,
-            line,
-        });
+        return Err(fault(DescKind::Version, line));
     }
     ended(words)?;
     Ok(rest)
@@ -97,10 +115,7 @@ fn closed(lines: Lines<'_>) -> Result<(), DescRefusal>
     if lines.text.is_empty() {
         Ok(())
     } else {
-        Err(DescRefusal::Fault {
-            kind: DescKind::TooManyLines,
-            line: lines.line,
-        })
+        Err(fault(DescKind::TooManyLines, lines.line))
     }
 }
 
@@ -247,10 +262,7 @@ fn problem_lines<'a>(alloc: Global, lines: Lines<'a>) -> Result<(Problem, Lines<
     let (words, rest) = next_line(lines)?;
     let (word, words) = next_word(words)?;
     match form_from(word) {
-        None => Err(DescRefusal::Fault {
-            kind: DescKind::UnknownWord,
-            line,
-        }),
+        None => Err(fault(DescKind::UnknownWord, line)),
         Some(Form::Pair) => pair(alloc, words, rest),
         Some(Form::List) => list(alloc, words, rest),
         Some(Form::Graph) => graph(alloc, words, rest),

@@ -2,38 +2,29 @@
 
 ghost use Rattle.std.specs.Prelude.{◌≡◌, ◌<◌, ◌≤◌, ◌≤ℤ◌, ◌^◌, neg_ℤ, pos, IfOk};
 ghost use Rattle.mat_desc.specs.Faults.{Gives};
-ghost use Rattle.mat_desc.specs.Reading.{line_at, word_at, number_at, count_at, weight_at, ended_at, repeat_at, elements_at, keyed_at, weights_at};
+ghost use Rattle.mat_desc.specs.Reading.{line_at, word_at, number_at, count_at, read_weight, ended_at, repeat_at, elements_at, keyed_at, weights_at};
 ghost use Rattle.mat_desc.specs.Views.{lines_left, words_left};
 
 use crate::cursor::{Lines, Words};
-use crate::refusal::{DescKind, DescRefusal};
+use crate::refusal::{DescKind, DescRefusal, fault};
 use mat_sets::{ElemSet, Weights};
 use mat_words::{NumberFault, read_number, split_line, split_word, well_spaced};
 use std::alloc::Global;
 
 /// The next line, which has to have words.
 #[tactic(auto, unfolding(crate::specs::Reading::line_at))]
-pub fn next_line<'a>(lines: Lines<'a>) -> Result<(Words<'a>, Lines<'a>), DescRefusal>
+pub(crate) fn next_line<'a>(lines: Lines<'a>) -> Result<(Words<'a>, Lines<'a>), DescRefusal>
     ensures { Gives (λ x. (words_left x.0, lines_left x.1)) result (line_at (lines_left lines.entry)) }
 {
     let line = lines.line;
     let Some((content, rest)) = split_line(lines.text) else {
-        return Err(DescRefusal::Fault {
-            kind: DescKind::EndsEarly,
-            line,
-        });
+        return Err(fault(DescKind::EndsEarly, line));
     };
     if !well_spaced(content) {
-        return Err(DescRefusal::Fault {
-            kind: DescKind::BadByte,
-            line,
-        });
+        return Err(fault(DescKind::BadByte, line));
     }
     if content.is_empty() {
-        return Err(DescRefusal::Fault {
-            kind: DescKind::TooFewWords,
-            line,
-        });
+        return Err(fault(DescKind::TooFewWords, line));
     }
     let words = Words {
         line,
@@ -48,15 +39,12 @@ pub fn next_line<'a>(lines: Lines<'a>) -> Result<(Words<'a>, Lines<'a>), DescRef
 
 /// The next word of a line.
 #[tactic(auto, unfolding(crate::specs::Reading::word_at))]
-pub fn next_word<'a>(words: Words<'a>) -> Result<(&'a [u8], Words<'a>), DescRefusal>
+pub(crate) fn next_word<'a>(words: Words<'a>) -> Result<(&'a [u8], Words<'a>), DescRefusal>
     ensures { Gives (λ x. (x.0.now, words_left x.1)) result (word_at (words_left words.entry)) }
 {
     let line = words.line;
     let Some(left) = words.left else {
-        return Err(DescRefusal::Fault {
-            kind: DescKind::TooFewWords,
-            line,
-        });
+        return Err(fault(DescKind::TooFewWords, line));
     };
     let (word, left) = split_word(left);
     Ok((word, Words { line, left }))
@@ -72,30 +60,21 @@ fn next_number<'a>(
     ensures value { Gives (λ x. (x.0, words_left x.1)) result (number_at low high (words_left words.entry)) }
     ensures range { IfOk result (λ x. (low ≤ℤ x.0) × (x.0 ≤ℤ high)) }
 {
-    let line = words.line;
-    let Some(left) = words.left else {
-        return Err(DescRefusal::Fault {
-            kind: DescKind::TooFewWords,
-            line,
-        });
-    };
-    let (word, left) = split_word(left);
+    let (word, rest) = next_word(words)?;
     match read_number(word, low, high) {
-        Ok(number) => Ok((number, Words { line, left })),
-        Err(NumberFault::Spelling) => Err(DescRefusal::Fault {
-            kind: DescKind::NumberSpelling,
-            line,
-        }),
-        Err(NumberFault::Range) => Err(DescRefusal::Fault {
-            kind: DescKind::NumberRange,
-            line,
-        }),
+        Ok(number) => Ok((number, rest)),
+        Err(NumberFault::Spelling) => Err(fault(DescKind::NumberSpelling, rest.line)),
+        Err(NumberFault::Range) => Err(fault(DescKind::NumberRange, rest.line)),
     }
 }
 
 /// The next word of a line as a number from `low` on, below `end`.
 #[tactic(auto, unfolding(crate::specs::Reading::count_at))]
-pub fn next_count<'a>(words: Words<'a>, low: u32, end: u32) -> Result<(u32, Words<'a>), DescRefusal>
+pub(crate) fn next_count<'a>(
+    words: Words<'a>,
+    low: u32,
+    end: u32,
+) -> Result<(u32, Words<'a>), DescRefusal>
     ensures value { Gives (λ x. (x.0, words_left x.1)) result (count_at low end (words_left words.entry)) }
     ensures range { IfOk result (λ x. (low ≤ x.0) × (x.0 < end)) }
 {
@@ -104,9 +83,9 @@ pub fn next_count<'a>(words: Words<'a>, low: u32, end: u32) -> Result<(u32, Word
 }
 
 /// The next word of a line as a weight.
-#[tactic(auto, unfolding(crate::specs::Reading::weight_at))]
-pub fn next_weight<'a>(words: Words<'a>) -> Result<(i128, Words<'a>), DescRefusal>
-    ensures value { Gives (λ x. (x.0, words_left x.1)) result (weight_at (words_left words.entry)) }
+#[tactic(auto, unfolding(crate::specs::Reading::read_weight))]
+pub(crate) fn next_weight<'a>(words: Words<'a>) -> Result<(i128, Words<'a>), DescRefusal>
+    ensures value { Gives (λ x. (x.0, words_left x.1)) result (read_weight (words_left words.entry)) }
     ensures range { IfOk result (λ x. (neg_ℤ (pos (10 ^ 12)) ≤ℤ x.0) × (x.0 ≤ℤ pos (10 ^ 12))) }
 {
     next_number(words, -1_000_000_000_000, 1_000_000_000_000)
@@ -114,21 +93,21 @@ pub fn next_weight<'a>(words: Words<'a>) -> Result<(i128, Words<'a>), DescRefusa
 
 /// The end of a line.
 #[tactic(auto, using(mat_words::proofs::Splitting::some_parts), unfolding(crate::specs::Reading::ended_at))]
-pub fn ended(words: Words<'_>) -> Result<(), DescRefusal>
+pub(crate) fn ended(words: Words<'_>) -> Result<(), DescRefusal>
     ensures { Gives (λ x. x) result (ended_at (words_left words.entry)) }
 {
     match words.left {
         None => Ok(()),
-        Some(_) => Err(DescRefusal::Fault {
-            kind: DescKind::TooManyWords,
-            line: words.line,
-        }),
+        Some(_) => Err(fault(DescKind::TooManyWords, words.line)),
     }
 }
 
 /// The next line, which has to begin with this word.
 #[tactic(auto, unfolding(crate::specs::Reading::keyed_at))]
-pub fn keyed_line<'a>(lines: Lines<'a>, key: &[u8]) -> Result<(Words<'a>, Lines<'a>), DescRefusal>
+pub(crate) fn keyed_line<'a>(
+    lines: Lines<'a>,
+    key: &[u8],
+) -> Result<(Words<'a>, Lines<'a>), DescRefusal>
     ensures { Gives (λ x. (words_left x.0, lines_left x.1)) result (keyed_at key.now (lines_left lines.entry)) }
 {
     let line = lines.line;
@@ -137,10 +116,7 @@ pub fn keyed_line<'a>(lines: Lines<'a>, key: &[u8]) -> Result<(Words<'a>, Lines<
     if word == key {
         Ok((words, rest))
     } else {
-        Err(DescRefusal::Fault {
-            kind: DescKind::UnknownWord,
-            line,
-        })
+        Err(fault(DescKind::UnknownWord, line))
     }
 }
 
@@ -150,7 +126,7 @@ fn next_weights<'a>(
     words: Words<'a>,
     count: u32,
 ) -> Result<(Vec<i128>, Words<'a>), DescRefusal>
-    ensures { Gives (λ x. (x.0.items, words_left x.1)) result (repeat_at weight_at count (words_left words.entry)) }
+    ensures { Gives (λ x. (x.0.items, words_left x.1)) result (repeat_at read_weight count (words_left words.entry)) }
 {
     let mut weights = Vec::new(alloc);
     let mut rest = words;
@@ -164,7 +140,7 @@ fn next_weights<'a>(
 
 /// The weights line of `count` elements.
 #[tactic(auto, unfolding(crate::specs::Reading::weights_at))]
-pub fn weights_line<'a>(
+pub(crate) fn weights_line<'a>(
     alloc: Global,
     count: u32,
     lines: Lines<'a>,
@@ -178,7 +154,7 @@ pub fn weights_line<'a>(
 }
 
 /// The set of the elements below `count` that are left of a line, each put among the taken ones. One that is taken already is repeated.
-pub fn elements_line(
+pub(crate) fn elements_line(
     alloc: Global,
     words: Words<'_>,
     count: u32,
@@ -191,10 +167,7 @@ pub fn elements_line(
     while rest.left.is_some() {
         let (element, after) = next_count(rest, 0, count)?;
         if !taken.add(element)? {
-            return Err(DescRefusal::Fault {
-                kind: DescKind::Repeated,
-                line: rest.line,
-            });
+            return Err(fault(DescKind::Repeated, rest.line));
         }
         let _ = set.add(element)?;
         rest = after;

@@ -2,7 +2,7 @@
 
 ghost use Rattle.std.specs.Prelude.{◌≡◌};
 ghost use Rattle.mat_desc.specs.Kinds.{kind_number, kind_name};
-ghost use Rattle.mat_desc.specs.declared.refusal.DescRefusal.TheVariants.{Memory};
+ghost use Rattle.mat_desc.specs.declared.refusal.DescRefusal.TheVariants.{Fault, Memory};
 
 use std::alloc::{AllocError, AllocFailed};
 use thiserror::Error;
@@ -83,10 +83,22 @@ impl DescKind {
 pub enum DescRefusal {
     /// The first fault, with the number of its line, counted from 1.
     #[error("line {line}: {kind:?}")]
-    Fault { kind: DescKind, line: u32 },
+    Fault {
+        /// What is wrong.
+        kind: DescKind,
+        /// The number of the line.
+        line: u32,
+    },
     /// Memory ran out.
     #[error("memory ran out")]
     Memory,
+}
+
+/// The fault of this kind in the line with this number.
+pub(crate) fn fault(kind: DescKind, line: u32) -> DescRefusal
+    ensures { result ≡ Fault kind line }
+{
+    DescRefusal::Fault { kind, line }
 }
 
 impl From<AllocError> for DescRefusal {

@@ -2,13 +2,13 @@
 
 ghost use Rattle.std.specs.Prelude.{◌≡◌, ◌++◌, ◌∷◌, [], codes, map, pos, IfOk, OnOk};
 ghost use Rattle.std.specs.List.{zip, flat_map};
-ghost use Rattle.mat_words.specs.Numbers.{numeral, numerals};
 ghost use Rattle.mat_words.specs.Lines.{text_of};
+ghost use Rattle.mat_words.specs.Writing.{members_line};
 ghost use Rattle.mat_any.specs.Trees.{partition, laminar, graphic, transversal, gammoid, gf2};
 ghost use Rattle.mat_any.specs.Views.{tree_of};
 ghost use Rattle.mat_desc.specs.Grammar.{ends_line, column_line, weighted_line, coloured_edge_line};
 ghost use Rattle.mat_desc.specs.Instances.{pair, list, graph, rooted, coloured, table};
-ghost use Rattle.mat_desc.specs.Canonical.{numbers_line, capped_line, capped_lines, matroid_lines, form_lines, canonical_text};
+ghost use Rattle.mat_desc.specs.Canonical.{capped_line, capped_lines, matroid_lines, form_lines, canonical_text};
 ghost use Rattle.mat_desc.specs.Views.{instance_of};
 
 use crate::binary::put_binary;
@@ -19,41 +19,8 @@ use mat_gf2::Gf2;
 use mat_graphic::Graphic;
 use mat_linked::{Gammoid, Transversal};
 use mat_sets::ElemSet;
-use mat_words::put_number;
+use mat_words::{put_members_line, put_number_word, put_numbers_line};
 use std::alloc::{AllocError, Global};
-
-/// Appends a number as the next word of a line.
-fn put_number_word(out: &mut Vec<u8>, number: i128) -> Result<(), AllocError>
-    ensures { OnOk result (out.new.items ≡ out.old.items ++ 32 ∷ numeral number) }
-{
-    out.push(b' ')?;
-    put_number(out, number)?;
-    Ok(())
-}
-
-/// Appends a line of a keyword and numbers.
-fn put_line(out: &mut Vec<u8>, keyword: &[u8], numbers: &[i128]) -> Result<(), AllocError>
-    ensures { OnOk result (out.new.items ≡ out.old.items ++ text_of (numbers_line keyword.now numbers.now ∷ [])) }
-{
-    out.extend_from_slice(keyword)?;
-    for z in numbers {
-        put_number_word(out, *z)?;
-    }
-    out.push(b'\n')?;
-    Ok(())
-}
-
-/// Appends a line of a keyword and the members of a set.
-fn put_members_line(out: &mut Vec<u8>, keyword: &[u8], set: &[u32]) -> Result<(), AllocError>
-    ensures { OnOk result (out.new.items ≡ out.old.items ++ text_of ((keyword.now ∷ numerals set.now) ∷ [])) }
-{
-    out.extend_from_slice(keyword)?;
-    for x in set {
-        put_number_word(out, i128::from(*x))?;
-    }
-    out.push(b'\n')?;
-    Ok(())
-}
 
 /// Appends the line of this keyword with a set and its cap.
 fn put_capped_line(
@@ -94,7 +61,7 @@ fn put_partition(out: &mut Vec<u8>, matroid: &Partition) -> Result<(), AllocErro
         ++ text_of (matroid_lines (partition matroid.now.count matroid.now.classes matroid.now.caps))) }
 {
     let classes = matroid.classes().as_slice();
-    put_line(out, b"partition", &[classes.len() as i128])?;
+    put_numbers_line(out, b"partition", &[classes.len() as i128])?;
     put_capped_lines(out, b"class", classes, matroid.caps())?;
     Ok(())
 }
@@ -105,7 +72,7 @@ fn put_laminar(out: &mut Vec<u8>, matroid: &Laminar) -> Result<(), AllocError>
         ++ text_of (matroid_lines (laminar matroid.now.count matroid.now.sets matroid.now.caps))) }
 {
     let sets = matroid.sets().as_slice();
-    put_line(out, b"laminar", &[sets.len() as i128])?;
+    put_numbers_line(out, b"laminar", &[sets.len() as i128])?;
     put_capped_lines(out, b"set", sets, matroid.caps())?;
     Ok(())
 }
@@ -115,7 +82,7 @@ fn put_ends_lines(out: &mut Vec<u8>, keyword: &[u8], pairs: &[(u32, u32)]) -> Re
     ensures { OnOk result (out.new.items ≡ out.old.items ++ text_of (map (ends_line keyword.now) pairs.now)) }
 {
     for ends in pairs {
-        put_line(out, keyword, &[i128::from(ends.0), i128::from(ends.1)])?;
+        put_numbers_line(out, keyword, &[i128::from(ends.0), i128::from(ends.1)])?;
     }
     Ok(())
 }
@@ -125,14 +92,14 @@ fn put_graphic(out: &mut Vec<u8>, matroid: &Graphic) -> Result<(), AllocError>
     ensures { OnOk result (out.new.items ≡ out.old.items
         ++ text_of (matroid_lines (graphic matroid.now.vertices matroid.now.edges))) }
 {
-    put_line(out, b"graphic", &[i128::from(matroid.vertices())])?;
+    put_numbers_line(out, b"graphic", &[i128::from(matroid.vertices())])?;
     put_ends_lines(out, b"edge", matroid.edges().as_slice())?;
     Ok(())
 }
 
 /// Appends a set line for each set of a family.
 fn put_family_lines(out: &mut Vec<u8>, family: &[ElemSet]) -> Result<(), AllocError>
-    ensures { OnOk result (out.new.items ≡ out.old.items ++ text_of (map (λ set. codes "set" ∷ numerals set) family.now)) }
+    ensures { OnOk result (out.new.items ≡ out.old.items ++ text_of (map (members_line (codes "set")) family.now)) }
 {
     for set in family {
         put_members_line(out, b"set", set.as_slice())?;
@@ -146,7 +113,7 @@ fn put_transversal(out: &mut Vec<u8>, matroid: &Transversal) -> Result<(), Alloc
         ++ text_of (matroid_lines (transversal matroid.now.count matroid.now.sets))) }
 {
     let family = matroid.family().as_slice();
-    put_line(out, b"transversal", &[family.len() as i128])?;
+    put_numbers_line(out, b"transversal", &[family.len() as i128])?;
     put_family_lines(out, family)?;
     Ok(())
 }
@@ -158,7 +125,7 @@ fn put_gammoid(out: &mut Vec<u8>, matroid: &Gammoid) -> Result<(), AllocError>
 {
     let graph = matroid.graph();
     let arcs = graph.arcs().as_slice();
-    put_line(
+    put_numbers_line(
         out,
         b"gammoid",
         &[i128::from(graph.vertices()), arcs.len() as i128],
@@ -194,7 +161,7 @@ fn put_gf2(out: &mut Vec<u8>, matroid: &Gf2) -> Result<(), AllocError>
     ensures { OnOk result (out.new.items ≡ out.old.items
         ++ text_of (matroid_lines (gf2 matroid.now.dim matroid.now.columns))) }
 {
-    put_line(out, b"gf2", &[i128::from(matroid.dim())])?;
+    put_numbers_line(out, b"gf2", &[i128::from(matroid.dim())])?;
     put_column_lines(out, matroid.dim(), matroid.columns())?;
     Ok(())
 }
@@ -204,7 +171,11 @@ fn put_matroid(out: &mut Vec<u8>, matroid: &AnyMatroid) -> Result<(), AllocError
     ensures { OnOk result (out.new.items ≡ out.old.items ++ text_of (matroid_lines (tree_of matroid.now))) }
 {
     match matroid {
-        AnyMatroid::Uniform(uniform) => put_line(out, b"uniform", &[i128::from(uniform.cap())]),
+        AnyMatroid::Uniform(uniform) => put_numbers_line(
+            out,
+            b"uniform",
+            &[i128::from(uniform.cap())],
+        ),
         AnyMatroid::Partition(partition) => put_partition(out, partition),
         AnyMatroid::Laminar(laminar) => put_laminar(out, laminar),
         AnyMatroid::Graphic(graphic) => put_graphic(out, graphic),
@@ -212,11 +183,11 @@ fn put_matroid(out: &mut Vec<u8>, matroid: &AnyMatroid) -> Result<(), AllocError
         AnyMatroid::Gammoid(gammoid) => put_gammoid(out, gammoid),
         AnyMatroid::Gf2(gf2) => put_gf2(out, gf2),
         AnyMatroid::Dual(inner) => {
-            put_line(out, b"dual", &[])?;
+            put_numbers_line(out, b"dual", &[])?;
             put_matroid(out, inner)
         }
         AnyMatroid::Truncate { cap, inner } => {
-            put_line(out, b"truncate", &[i128::from(*cap)])?;
+            put_numbers_line(out, b"truncate", &[i128::from(*cap)])?;
             put_matroid(out, inner)
         }
         AnyMatroid::Restrict { kept, inner } => {
@@ -249,7 +220,7 @@ fn put_weighted_line(
 ) -> Result<(), AllocError>
     ensures { OnOk result (out.new.items ≡ out.old.items ++ text_of (weighted_line keyword.now (pair, weight) ∷ [])) }
 {
-    put_line(
+    put_numbers_line(
         out,
         keyword,
         &[i128::from(pair.0), i128::from(pair.1), weight],
@@ -281,7 +252,7 @@ fn put_coloured_edge_line(
 ) -> Result<(), AllocError>
     ensures { OnOk result (out.new.items ≡ out.old.items ++ text_of (coloured_edge_line (edge, (colour, weight)) ∷ [])) }
 {
-    put_line(
+    put_numbers_line(
         out,
         b"edge",
         &[
@@ -319,8 +290,8 @@ fn put_pair(
     ensures { OnOk result (out.new.items ≡ out.old.items
         ++ text_of (form_lines (pair weights.now (tree_of first.now) (tree_of second.now)))) }
 {
-    put_line(out, b"pair", &[weights.len() as i128])?;
-    put_line(out, b"weights", weights)?;
+    put_numbers_line(out, b"pair", &[weights.len() as i128])?;
+    put_numbers_line(out, b"weights", weights)?;
     put_matroid(out, first)?;
     put_matroid(out, second)?;
     Ok(())
@@ -331,12 +302,12 @@ fn put_list(out: &mut Vec<u8>, weights: &[i128], matroids: &[AnyMatroid]) -> Res
     ensures { OnOk result (out.new.items ≡ out.old.items
         ++ text_of (form_lines (list weights.now (map tree_of matroids.now)))) }
 {
-    put_line(
+    put_numbers_line(
         out,
         b"list",
         &[weights.len() as i128, matroids.len() as i128],
     )?;
-    put_line(out, b"weights", weights)?;
+    put_numbers_line(out, b"weights", weights)?;
     put_matroids(out, matroids)?;
     Ok(())
 }
@@ -345,7 +316,7 @@ fn put_list(out: &mut Vec<u8>, weights: &[i128], matroids: &[AnyMatroid]) -> Res
 fn put_graph(out: &mut Vec<u8>, vertices: u32, edges: &[(u32, u32)]) -> Result<(), AllocError>
     ensures { OnOk result (out.new.items ≡ out.old.items ++ text_of (form_lines (graph vertices edges.now))) }
 {
-    put_line(out, b"graph", &[i128::from(vertices), edges.len() as i128])?;
+    put_numbers_line(out, b"graph", &[i128::from(vertices), edges.len() as i128])?;
     put_ends_lines(out, b"edge", edges)?;
     Ok(())
 }
@@ -361,7 +332,7 @@ fn put_rooted(
     ensures { OnOk result (out.new.items ≡ out.old.items
         ++ text_of (form_lines (rooted vertices root arcs.now costs.now))) }
 {
-    put_line(
+    put_numbers_line(
         out,
         b"rooted",
         &[i128::from(vertices), arcs.len() as i128, i128::from(root)],
@@ -382,7 +353,7 @@ fn put_coloured(
     ensures { OnOk result (out.new.items ≡ out.old.items
         ++ text_of (form_lines (coloured vertices colours edges.now colour_of.now weights.now))) }
 {
-    put_line(
+    put_numbers_line(
         out,
         b"coloured",
         &[
@@ -406,7 +377,7 @@ fn put_table(
     ensures { OnOk result (out.new.items ≡ out.old.items
         ++ text_of (form_lines (table rows columns cells.now weights.now))) }
 {
-    put_line(
+    put_numbers_line(
         out,
         b"table",
         &[i128::from(rows), i128::from(columns), cells.len() as i128],
@@ -456,8 +427,8 @@ fn put_form(out: &mut Vec<u8>, problem: &Problem) -> Result<(), AllocError>
     }
 }
 
-/// The canonical text of a problem: the elements of each set in rising order, and everything else in its own order. It takes memory for the text alone,
-/// and an error is want of it.
+/// The canonical text of a problem: the elements of each set in rising order, and everything else in its own order. It takes memory for
+/// the text alone, and an error is want of it.
 pub fn write_problem(alloc: Global, problem: &Problem) -> Result<Vec<u8>, AllocError>
     ensures { IfOk result (λ v. v.items ≡ canonical_text (instance_of problem.now)) }
 {

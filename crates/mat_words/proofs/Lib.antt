@@ -3,3 +3,4 @@ pub mod LineLemmas
 pub mod WordLemmas
 pub mod DigitLemmas
 pub mod NumberLemmas
+pub mod WrittenLines

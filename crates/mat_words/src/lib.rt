@@ -7,7 +7,9 @@
 mod lines;
 mod numbers;
 mod words;
+mod writing;
 
 pub use lines::{line_laws, next_line, split_line};
 pub use numbers::{NumberFault, number_laws, put_number, read_number, spell_into};
 pub use words::{split_word, well_spaced, word_at, word_laws};
+pub use writing::{put_members_line, put_number_word, put_numbers_line};

@@ -10,7 +10,7 @@ pub fn next_line(text: &[u8], from: usize) -> Option<usize>
     ensures { IsNextLine text.now from result }
 {
     for i in from..text.len() {
-        if text[i] == 10 {
+        if text[i] == b'\n' {
             return Some(i);
         }
     }

@@ -5,13 +5,16 @@ ghost use Rattle.mat_words.specs.Numbers.{numeral, decimal, is_counting, value_o
 ghost use Rattle.mat_words.specs.Words.{is_word};
 
 use std::alloc::AllocError;
+use thiserror::Error;
 
 /// Why a word is not a number in a range.
-#[derive(Clone, Copy, Debug, PartialEq, Eq)]
+#[derive(Clone, Copy, Debug, PartialEq, Eq, Error)]
 pub enum NumberFault {
     /// It is no number.
+    #[error("no number")]
     Spelling,
     /// It is a number outside the range.
+    #[error("a number outside the range")]
     Range,
 }
 
@@ -43,15 +46,15 @@ fn magnitude(digits: &[u8]) -> Option<u128>
     ensures value { result ≡ (if is_counting digits.now then Some (min (value_of digits.now) magnitude_bound) else None) }
     ensures some { IfSome result (λ n. 0 < n) }
 {
-    if digits.is_empty() || digits[0] < 49 {
+    if digits.is_empty() || digits[0] < b'1' {
         return None;
     }
     let mut n: u128 = 0;
     for c in digits {
-        if *c < 48 || *c > 57 {
+        if *c < b'0' || *c > b'9' {
             return None;
         }
-        n = append_digit(n, *c - 48);
+        n = append_digit(n, *c - b'0');
     }
     Some(n)
 }
@@ -131,7 +134,7 @@ fn short_decimal_into(buffer: &mut [u8; 40], end: usize, n: u64) -> usize
     let mut at = end;
     while left > 0 {
         at -= 1;
-        buffer[at] = 48 + (left % 10) as u8;
+        buffer[at] = b'0' + (left % 10) as u8;
         left /= 10;
     }
     at
@@ -148,7 +151,7 @@ fn decimal_into(buffer: &mut [u8; 40], n: u128) -> usize
     let mut at = 40;
     while left > u64::MAX as u128 {
         at -= 1;
-        buffer[at] = 48 + (left % 10) as u8;
+        buffer[at] = b'0' + (left % 10) as u8;
         left /= 10;
     }
     short_decimal_into(buffer, at, left as u64)

@@ -13,7 +13,7 @@ pub fn split_word(line: &[u8]) -> (&[u8], Option<&[u8]>)
     ensures shorter { IfSome result.1 (λ rest. length result.0.now + length rest.now < length line.now) }
 {
     for (i, b) in line.iter().enumerate() {
-        if *b == 32 {
+        if *b == b' ' {
             return (&line[..i], Some(&line[i + 1..]));
         }
     }
@@ -26,7 +26,7 @@ pub fn well_spaced(line: &[u8]) -> bool
 {
     let mut at_start = true;
     for b in line {
-        if *b == 32 {
+        if *b == b' ' {
             if at_start {
                 return false;
             }

@@ -2,7 +2,7 @@ use Rattle.std.proofs.Common.{◌∷◌, [], List, ℤ, ap, ◌∙◌}
 use Rattle.std.proofs.lemmas.Bool.Decides.{Decides-int_eq}
 use Rattle.std.proofs.lemmas.Slice.Eq.{slice_eq-Decides}
 use Rattle.mat_words.specs.Lines.{text_of}
-use Rattle.mat_cert.specs.Certificates.{numbers_line}
+use Rattle.mat_words.specs.Writing.{numbers_line}
 use Rattle.mat_cert.proofs.write.renewed_line.Goals as goal
 
 pub returns-then-eq-clause-numbers : goal.returns-then-eq-clause-numbers

@@ -10,18 +10,18 @@ use Rattle.mat_desc.proofs.Columns.{zip-push}
 use Rattle.mat_desc.proofs.Repeats.{kept_weight, repeat_more, repeat_fails, repeat_done}
 use Rattle.mat_desc.proofs.item_lines.weighted_lines.Goals as goal
 
-pub returns-in_err-ends-clause-value : goal.returns-in_err-ends-clause-value
-returns-in_err-ends-clause-value c =
+pub returns-in_err-item-clause-value : goal.returns-in_err-item-clause-value
+returns-in_err-item-clause-value c =
     let p = err_from_is_err_and c.from_residual.result c.from_residual.ensures.1 in
-    rw (p.1, p.2) (repeat_fails (weighted_at c.args.key.now c.args.first_bound c.args.second_bound) c.in_err-ends.field-0.0 (zip c.loop.pairs.items c.loop.weights.items) c.args.many c.loop.counter (lines_left c.loop.rest) (repeat_at (weighted_at c.args.key.now c.args.first_bound c.args.second_bound) c.args.many (lines_left c.args.lines)) c.loop-test.true c.in_err-ends.ensures.value c.loop.invariant.0)
+    rw (p.1, p.2) (repeat_fails (weighted_at c.args.key.now c.args.first_bound c.args.second_bound) c.in_err-item.field-0.0 (zip c.loop.pairs.items c.loop.weights.items) c.args.many c.loop.counter (lines_left c.loop.rest) (repeat_at (weighted_at c.args.key.now c.args.first_bound c.args.second_bound) c.args.many (lines_left c.args.lines)) c.loop-test.true c.in_err-item.ensures.value c.loop.invariant.0)
 
 pub loop-preserved : goal.loop-preserved
 loop-preserved c =
-    let weight = c.in_ok-ends.weight in
-    let kept : to_z w128 (of_z w128 weight) ≡ weight = kept_weight weight c.in_ok-ends.ensures.range.0 c.in_ok-ends.ensures.range.1 in
+    let weight = c.in_ok-item.item.weight in
+    let kept : to_z w128 (of_z w128 weight) ≡ weight = kept_weight weight c.in_ok-item.ensures.range.0 c.in_ok-item.ensures.range.1 in
     let same : length c.loop.weights.items ≡ length c.loop.pairs.items = c.loop.invariant.1 in
-    let front : zip (c.loop.pairs.items ++ c.in_ok-ends.ends ∷ []) (c.loop.weights.items ++ weight ∷ []) ≡ zip c.loop.pairs.items c.loop.weights.items ++ (c.in_ok-ends.ends, weight) ∷ [] = zip-push c.loop.pairs.items c.loop.weights.items c.in_ok-ends.ends weight same in (
-      rw (c.in_ok-push.ensures.items, c.in_ok-push-2.ensures.items, kept, front) (repeat_more (weighted_at c.args.key.now c.args.first_bound c.args.second_bound) (zip c.loop.pairs.items c.loop.weights.items) c.args.many c.loop.counter (lines_left c.loop.rest) (c.in_ok-ends.ends, weight) (lines_left c.in_ok-ends.after) (repeat_at (weighted_at c.args.key.now c.args.first_bound c.args.second_bound) c.args.many (lines_left c.args.lines)) c.loop-test.true c.in_ok-ends.ensures.value c.loop.invariant.0),
+    let front : zip (c.loop.pairs.items ++ c.in_ok-item.item.ends ∷ []) (c.loop.weights.items ++ weight ∷ []) ≡ zip c.loop.pairs.items c.loop.weights.items ++ (c.in_ok-item.item.ends, weight) ∷ [] = zip-push c.loop.pairs.items c.loop.weights.items c.in_ok-item.item.ends weight same in (
+      rw (c.in_ok-push.ensures.items, c.in_ok-push-2.ensures.items, kept, front) (repeat_more (weighted_at c.args.key.now c.args.first_bound c.args.second_bound) (zip c.loop.pairs.items c.loop.weights.items) c.args.many c.loop.counter (lines_left c.loop.rest) (c.in_ok-item.item.ends, weight) (lines_left c.in_ok-item.after) (repeat_at (weighted_at c.args.key.now c.args.first_bound c.args.second_bound) c.args.many (lines_left c.args.lines)) c.loop-test.true c.in_ok-item.ensures.value c.loop.invariant.0),
       rw (c.in_ok-push.ensures.items, c.in_ok-push-2.ensures.items, length_push, length_push) (omega (arith, same)),
     )
 

@@ -15,9 +15,10 @@ returns-in_err-number c =
 
 pub returns-then-not-branch : goal.returns-then-not-branch
 returns-then-not-branch c =
-    distinct_repeat c.args.bound c.args.many c.loop.counter c.loop.taken c.loop.numbers.items (words_left c.loop.rest)
+    rw c.fault.ensures
+    (distinct_repeat c.args.bound c.args.many c.loop.counter c.loop.taken c.loop.numbers.items (words_left c.loop.rest)
     (distinct_at c.args.bound c.args.many [] (words_left c.args.words)) c.loop.invariant c.in_ok-number.number (words_left c.in_ok-number.after)
-    c.loop-test.true c.in_ok-number.ensures.value (not-false _ (sym c.in_ok-add.ensures.ok.0 ∙ c.if-not-branch.true))
+    c.loop-test.true c.in_ok-number.ensures.value (not-false _ (sym c.in_ok-add.ensures.ok.0 ∙ c.if-not-branch.true)))
 
 pub loop-preserved : goal.loop-preserved
 loop-preserved c =

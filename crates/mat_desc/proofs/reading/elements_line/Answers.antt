@@ -14,8 +14,9 @@ returns-in_err-element c =
 
 pub returns-then-not-branch : goal.returns-then-not-branch
 returns-then-not-branch c =
-    elements_repeat c.args.count c.loop-rest.rest.line c.loop-rest.taken c.loop-rest.set (parts_left c.loop-rest.rest.left) c.in_ok-element.element (words_left c.in_ok-element.after) (elements_at c.args.count c.args.taken.now (words_left c.args.words))
-    c.in_ok-element.ensures.value (not-false _ (sym c.in_ok-add.ensures.ok.0 ∙ c.if-not-branch.true)) c.loop-rest.invariant
+    rw c.fault.ensures
+    (elements_repeat c.args.count c.loop-rest.rest.line c.loop-rest.taken c.loop-rest.set (parts_left c.loop-rest.rest.left) c.in_ok-element.element (words_left c.in_ok-element.after) (elements_at c.args.count c.args.taken.now (words_left c.args.words))
+    c.in_ok-element.ensures.value (not-false _ (sym c.in_ok-add.ensures.ok.0 ∙ c.if-not-branch.true)) c.loop-rest.invariant)
 
 pub loop-rest-smaller : goal.loop-rest-smaller
 loop-rest-smaller c =

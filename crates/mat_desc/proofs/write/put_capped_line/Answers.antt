@@ -1,6 +1,7 @@
 use Rattle.std.proofs.Common.{◌++◌, ◌∷◌, pos, arith, rules}
 use Rattle.mat_words.specs.Numbers.{numeral}
-use Rattle.mat_desc.proofs.Writing.{item_written, capped_written}
+use Rattle.mat_words.proofs.WrittenLines.{item_written}
+use Rattle.mat_desc.proofs.Writing.{capped_written}
 use Rattle.mat_desc.proofs.write.put_capped_line.Goals as goal
 
 pub returns : goal.returns

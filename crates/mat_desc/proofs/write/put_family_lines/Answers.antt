@@ -1,10 +1,10 @@
-use Rattle.std.proofs.Common.{List, ℕ, ◌∷◌, arith}
+use Rattle.std.proofs.Common.{arith}
 use Rattle.std.specs.Prelude.{codes}
-use Rattle.mat_words.specs.Numbers.{numerals}
+use Rattle.mat_words.specs.Writing.{members_line}
 use Rattle.mat_desc.proofs.Writing.{lines_written}
 use Rattle.mat_desc.proofs.write.put_family_lines.Goals as goal
 
 pub returns : goal.returns
 returns c =
-    lines_written (λ (set : List ℕ). codes "set" ∷ numerals set) c.args.out.now.items c.args.family.now
+    lines_written (members_line (codes "set")) c.args.out.now.items c.args.family.now
     c.loop-set.set-index c.loop-set.out.items (omega arith) c.loop-set.invariant

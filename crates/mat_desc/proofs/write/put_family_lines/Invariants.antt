@@ -1,10 +1,10 @@
 use Rattle.std.proofs.Common.{◌≡◌, ◌++◌, ◌∷◌, [], take}
 use Rattle.std.specs.Prelude.{codes}
 use Rattle.std.specs.List.{flat_map}
-use Rattle.mat_words.specs.Numbers.{numerals}
+use Rattle.mat_words.specs.Writing.{members_line}
 use Rattle.mat_words.specs.Lines.{text_of}
 use Rattle.mat_desc.proofs.write.put_family_lines.Given as goal
 
 -- the lines of the sets so far stand there
 abbrev pub invariant-loop-set : goal.invariant-loop-set
-invariant-loop-set l = l.out.items ≡ l.fn.out.items ++ flat_map (λ set. text_of ((codes "set" ∷ numerals set) ∷ [])) (take l.set-index l.family)
+invariant-loop-set l = l.out.items ≡ l.fn.out.items ++ flat_map (λ set. text_of (members_line (codes "set") set ∷ [])) (take l.set-index l.family)

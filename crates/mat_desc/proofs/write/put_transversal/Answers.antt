@@ -3,7 +3,8 @@ use Rattle.std.proofs.lemmas.Int.{ints}
 use Rattle.std.specs.Prelude.{codes}
 use mir.Val.{to_z}
 use mir.Syntax.{w128}
-use Rattle.mat_words.specs.Numbers.{numeral, numerals}
+use Rattle.mat_words.specs.Numbers.{numeral}
+use Rattle.mat_words.specs.Writing.{members_line}
 use Rattle.mat_words.specs.Lines.{text_of}
 use Rattle.mat_desc.proofs.Writing.{both_written}
 use Rattle.mat_desc.proofs.write.put_transversal.Goals as goal
@@ -15,12 +16,12 @@ kept_length n few = grind (arith, ints)
 pub returns : goal.returns
 returns c =
     let old = c.args.out.now.items in
-    let lines = λ (sets : List (List ℕ)). map (λ (set : List ℕ). codes "set" ∷ numerals set) sets in
+    let lines = λ (sets : List (List ℕ)). map (members_line (codes "set")) sets in
     let family = c.as_slice-family.result.now in
     let few : length family < 2 ^ 64 = search rules in
-    let header = subst (λ count. c.put_line.new.out.items ≡ old ++ text_of ((codes "transversal" ∷ numeral count ∷ []) ∷ []))
-    (kept_length (length family) few) c.in_ok-put_line.ensures in
-    both_written old c.put_line.new.out.items c.put_family_lines.new.out.items ((codes "transversal" ∷ numeral (pos (length family)) ∷ []) ∷ []) (lines family)
+    let header = subst (λ count. c.put_numbers_line.new.out.items ≡ old ++ text_of ((codes "transversal" ∷ numeral count ∷ []) ∷ []))
+    (kept_length (length family) few) c.in_ok-put_numbers_line.ensures in
+    both_written old c.put_numbers_line.new.out.items c.put_family_lines.new.out.items ((codes "transversal" ∷ numeral (pos (length family)) ∷ []) ∷ []) (lines family)
     header c.in_ok-put_family_lines.ensures
     ∙ ap (λ (sets : List (List ℕ)). old ++ text_of ((codes "transversal" ∷ numeral (pos (length sets)) ∷ []) ∷ lines sets))
     (c.as_slice-family.ensures.items ∙ c.family.ensures)

@@ -1,7 +1,7 @@
 use Rattle.std.proofs.Common.{◌++◌, ◌∷◌, pos, arith, rules}
 use Rattle.mat_words.specs.Numbers.{numeral}
-use Rattle.mat_desc.proofs.Writing.{item_written, line_written}
-use Rattle.mat_desc.proofs.write.put_line.Goals as goal
+use Rattle.mat_words.proofs.WrittenLines.{item_written, line_written}
+use Rattle.mat_words.proofs.writing.put_numbers_line.Goals as goal
 
 pub returns : goal.returns
 returns c =

@@ -1,8 +1,0 @@
-use Rattle.std.proofs.Common.{◌≡◌, ◌++◌, ◌∷◌, take}
-use Rattle.std.specs.List.{flat_map}
-use Rattle.mat_words.specs.Numbers.{numeral}
-use Rattle.mat_cert.proofs.write.put_numbers_line.Given as goal
-
--- the keyword stands there, and behind it the numbers so far
-abbrev pub invariant-loop-z : goal.invariant-loop-z
-invariant-loop-z l = l.out.items ≡ (l.fn.out.items ++ l.keyword) ++ flat_map (λ z. 32 ∷ numeral z) (take l.z-index l.numbers)

@@ -1,0 +1,57 @@
+//! Writing lines word by word.
+
+ghost use Rattle.std.specs.Prelude.{◌≡◌, ◌++◌, ◌∷◌, [], OnOk};
+ghost use Rattle.mat_words.specs.Lines.{text_of};
+ghost use Rattle.mat_words.specs.Numbers.{numeral};
+ghost use Rattle.mat_words.specs.Writing.{members_line, numbers_line};
+
+use crate::numbers::put_number;
+use std::alloc::AllocError;
+
+/// Appends a number as the next word of a line, behind a space. After an AllocError a part of it may stand in `out`.
+pub fn put_number_word(out: &mut Vec<u8>, number: i128) -> Result<(), AllocError>
+    ensures { OnOk result (out.new.items ≡ out.old.items ++ 32 ∷ numeral number) }
+{
+    out.push(b' ')?;
+    put_number(out, number)?;
+    Ok(())
+}
+
+/// Appends a line of a keyword and numbers. After an AllocError a part of it may stand in `out`.
+pub fn put_numbers_line(out: &mut Vec<u8>, keyword: &[u8], numbers: &[i128]) -> Result<(), AllocError>
+    ensures { OnOk result (out.new.items ≡ out.old.items ++ text_of (numbers_line keyword.now numbers.now ∷ [])) }
+{
+    out.extend_from_slice(keyword)?;
+    for z in numbers {
+        put_number_word(out, *z)?;
+    }
+    out.push(b'\n')?;
+    Ok(())
+}
+
+/// Appends a line of a keyword and the members of a list, in their order. After an AllocError a part of it may stand in `out`.
+pub fn put_members_line(out: &mut Vec<u8>, keyword: &[u8], members: &[u32]) -> Result<(), AllocError>
+    ensures { OnOk result (out.new.items ≡ out.old.items ++ text_of (members_line keyword.now members.now ∷ [])) }
+{
+    out.extend_from_slice(keyword)?;
+    for x in members {
+        put_number_word(out, i128::from(*x))?;
+    }
+    out.push(b'\n')?;
+    Ok(())
+}
+
+#[cfg(test)]
+mod tests {
+    use super::*;
+    use std::test::Fail;
+
+    #[test]
+    fn writes_a_line_behind_another(rt: HostRuntime) -> Result<(), Fail> {
+        let mut out = Vec::new(rt.alloc());
+        put_members_line(&mut out, b"set", &[3, 0])?;
+        put_numbers_line(&mut out, b"weights", &[-5, 0])?;
+        assert_eq!(rt; out.as_slice(), b"set 3 0\nweights -5 0\n".as_slice());
+        Ok(())
+    }
+}
