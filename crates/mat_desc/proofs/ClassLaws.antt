@@ -7,6 +7,7 @@ use Rattle.mat_sets.specs.Sets.{is_member, AllBelow, IsSet}
 use Rattle.mat_sets.specs.Families.{indicator, multiplicity, AreDisjoint}
 use Rattle.mat_count.specs.Partitions.{IsPartition}
 use Rattle.mat_words.specs.Lines.{Line}
+use Rattle.mat_desc.specs.Limits.{most_elements, most_sets}
 use Rattle.mat_desc.specs.Faults.{◌>>=◌, LinesLeft}
 use Rattle.mat_desc.specs.Reading.{class_at, classes_at}
 use Rattle.mat_desc.specs.Grammar.{Lists, CappedLines, AreClasses}
@@ -21,7 +22,7 @@ class_read : (n : ℕ) (taken : List ℕ) (p : LinesLeft) (cap : ℕ) (class lef
 unfolding class_at
 class_read n taken p cap class left q e = capped_read (codes "class") n taken p cap class left q e
 
-class_again : (n : ℕ) (taken : List ℕ) (p : LinesLeft) (cap : ℕ) (class xs : List ℕ) (rest : List Line) → cap ≤ 500 → IsSet n class → Lists xs class
+class_again : (n : ℕ) (taken : List ℕ) (p : LinesLeft) (cap : ℕ) (class xs : List ℕ) (rest : List Line) → cap ≤ most_elements → IsSet n class → Lists xs class
     → ((x : ℕ) → is_member x class ≡ true → is_member x taken ≡ false) → AreLeft (listed_line (codes "class") cap xs ∷ rest) p
     → (q : LinesLeft) × (class_at n taken p ≡ Ok (cap, class, with_each taken xs, q)) × AreLeft rest q
 unfolding class_at
@@ -52,7 +53,7 @@ apart_left false b c m left h = rw left (omega arith)
 pub record AreClassesRead (n many : ℕ) (taken : List ℕ) (p : LinesLeft) (classes : List (List ℕ)) (caps : List ℕ) (q : LinesLeft) : Type 0 where
   pub count : length classes ≡ many
   pub as_many : length caps ≡ length classes
-  pub small : All (λ cap. cap ≤ 500) caps
+  pub small : All (λ cap. cap ≤ most_elements) caps
   pub sets : All (IsSet n) classes
   pub apart : (x : ℕ) → multiplicity x classes + indicator (is_member x taken) ≤ 1
   pub spelled : (rest : List Line) → AreLeft rest q → (lines : List Line) × CappedLines (codes "class") classes caps lines rest × AreLeft lines p
@@ -68,7 +69,7 @@ classes_read n zero taken p classes caps q e =
     let none : AreClassesRead n 0 taken p [] [] p = record {
       count = refl;
       as_many = refl;
-      small = All-nil (λ cap. cap ≤ 500);
+      small = All-nil (λ cap. cap ≤ most_elements);
       sets = All-nil (IsSet n);
       apart = λ x. indicator_small (is_member x taken);
       spelled = λ rest left. (rest, refl, left);
@@ -83,7 +84,7 @@ classes_read n (suc many) taken p classes caps q e =
     let all : AreClassesRead n (suc many) taken p (first.0.1 ∷ others.0.0) (first.0.0 ∷ others.0.1) others.0.2 = record {
       count = ap suc more.count;
       as_many = ap suc more.as_many;
-      small = All-cons (λ cap. cap ≤ 500) first.0.0 others.0.1 one.small more.small;
+      small = All-cons (λ cap. cap ≤ most_elements) first.0.0 others.0.1 one.small more.small;
       sets = All-cons (IsSet n) first.0.1 others.0.0 one.in_range more.sets;
       apart = λ x. apart_found (is_member x first.0.1) (is_member x taken) (is_member x first.0.2) (multiplicity x others.0.0) (one.fresh x) (one.taken_left x) (more.apart x);
       spelled = λ rest left.
@@ -92,7 +93,7 @@ classes_read n (suc many) taken p classes caps q e =
     } in
     subst (λ (r : List (List ℕ) × List ℕ × LinesLeft). AreClassesRead n (suc many) taken p r.0 r.1 r.2) same all
 
-pub classes_again : (n : ℕ) (taken : List ℕ) (p : LinesLeft) (classes : List (List ℕ)) (caps : List ℕ) (lines rest : List Line) → All (λ cap. cap ≤ 500) caps → All (IsSet n) classes
+pub classes_again : (n : ℕ) (taken : List ℕ) (p : LinesLeft) (classes : List (List ℕ)) (caps : List ℕ) (lines rest : List Line) → All (λ cap. cap ≤ most_elements) caps → All (IsSet n) classes
     → ((x : ℕ) → multiplicity x classes + indicator (is_member x taken) ≤ 1) → CappedLines (codes "class") classes caps lines rest → AreLeft lines p
     → (q : LinesLeft) × (classes_at n (length classes) taken p ≡ Ok (classes, caps, q)) × AreLeft rest q
 unfolding classes_at multiplicity
@@ -104,10 +105,10 @@ classes_again n taken p (class ∷ classes) (cap ∷ caps) lines rest small sets
     let set = All-head (IsSet n) class classes sets in
     let fresh = λ (x : ℕ). apart_fresh (is_member x class) (is_member x taken) (multiplicity x classes) (apart x) in
     let here = subst (λ (ls : List Line). AreLeft ls p) spelled.3 left in
-    let first = class_again n taken p cap class xs spelled.1 (All-head (λ cap. cap ≤ 500) cap caps small) set spelled.2 fresh here in
+    let first = class_again n taken p cap class xs spelled.1 (All-head (λ cap. cap ≤ most_elements) cap caps small) set spelled.2 fresh here in
     let taken_left = λ (x : ℕ). is_member-with_each x taken xs ∙ ap (λ (b : Bool). b || is_member x taken) (spelled.2.members x) in
     let later = λ (x : ℕ). apart_left (is_member x class) (is_member x taken) (is_member x (with_each taken xs)) (multiplicity x classes) (taken_left x) (apart x) in
-    let others = classes_again n (with_each taken xs) first.0 classes caps spelled.1 rest (All-tail (λ cap. cap ≤ 500) cap caps small) (All-tail (IsSet n) class classes sets) later spelled.4 first.2 in
+    let others = classes_again n (with_each taken xs) first.0 classes caps spelled.1 rest (All-tail (λ cap. cap ≤ most_elements) cap caps small) (All-tail (IsSet n) class classes sets) later spelled.4 first.2 in
     (others.0, rw (first.1, others.1) refl, others.2)
 
 -- ---- the classes of a partition
@@ -121,7 +122,7 @@ classes_sound n many p classes caps q e =
     let read = classes_read n many [] p classes caps q e in
     record { capped = read.as_many; inside = All-weaker (IsSet n) (AllBelow n) (λ class set. set.below) classes read.sets; disjoint = once_only n many p classes caps q read }
 
-pub classes_valid : (n many : ℕ) (p : LinesLeft) (classes : List (List ℕ)) (caps : List ℕ) (q : LinesLeft) → many ≤ 500 → AreClassesRead n many [] p classes caps q → AreClasses n classes caps
+pub classes_valid : (n many : ℕ) (p : LinesLeft) (classes : List (List ℕ)) (caps : List ℕ) (q : LinesLeft) → many ≤ most_sets → AreClassesRead n many [] p classes caps q → AreClasses n classes caps
 classes_valid n many p classes caps q few read = record {
   few = omega (arith, read.count);
   as_many = read.as_many;

@@ -6,13 +6,13 @@ use Rattle.mat_desc.specs.declared.refusal.DescKind.TheVariants.{Repeated}
 use Rattle.mat_desc.specs.declared.refusal.DescRefusal.{DescRefusal}
 use Rattle.mat_desc.specs.declared.refusal.DescRefusal.TheVariants as refusals
 use Rattle.mat_desc.specs.Faults.{Fault, Fails, WordsLeft}
-use Rattle.mat_desc.specs.Reading.{count_at, distinct_at}
+use Rattle.mat_desc.specs.Reading.{below_at, distinct_at}
 use Rattle.mat_desc.proofs.Repeats.{with_front, with_front-cons}
 
 module _ (bound many i : ℕ) (taken front : List ℕ) (s : WordsLeft) (total : Result (List ℕ × WordsLeft) Fault)
     (so_far : with_front front (distinct_at bound (many - i) taken s) ≡ total) where
   -- one more number was read
-  pub distinct_more : (x : ℕ) (after : WordsLeft) → i < many → count_at 0 bound s ≡ Ok (x, after) → is_member x taken ≡ false
+  pub distinct_more : (x : ℕ) (after : WordsLeft) → i < many → below_at bound s ≡ Ok (x, after) → is_member x taken ≡ false
       → with_front (front ++ x ∷ []) (distinct_at bound (many - (i + 1)) (with_one taken x) after) ≡ total
   unfolding distinct_at
   distinct_more x after lt read free =
@@ -23,7 +23,7 @@ module _ (bound many i : ℕ) (taken front : List ℕ) (s : WordsLeft) (total : 
       sym step ∙ so_far
 
   -- the next number was read before
-  pub distinct_repeat : (x : ℕ) (after : WordsLeft) → i < many → count_at 0 bound s ≡ Ok (x, after) → is_member x taken ≡ true
+  pub distinct_repeat : (x : ℕ) (after : WordsLeft) → i < many → below_at bound s ≡ Ok (x, after) → is_member x taken ≡ true
       → total ≡ Err (Repeated, s.line)
   unfolding distinct_at
   distinct_repeat x after lt read old =
@@ -32,7 +32,7 @@ module _ (bound many i : ℕ) (taken front : List ℕ) (s : WordsLeft) (total : 
       sym so_far ∙ step
 
   -- the next word is no number below the bound
-  pub distinct_fails : (refusal : DescRefusal) → i < many → Fails refusal (count_at 0 bound s) → Fails refusal total
+  pub distinct_fails : (refusal : DescRefusal) → i < many → Fails refusal (below_at bound s) → Fails refusal total
   unfolding distinct_at
   distinct_fails refusals.Memory lt failed = tt
   distinct_fails (refusals.Fault kind line) lt failed =

@@ -6,10 +6,10 @@ use Rattle.mat_sets.proofs.Members.{is_member-with_one, IsRising-with_one, IsRis
 use Rattle.mat_sets.proofs.Ground.{AllBelow-member, AllBelow-from_members, IsSet-from}
 use Rattle.mat_words.specs.Numbers.{numerals, numeral}
 use Rattle.mat_desc.specs.declared.refusal.DescKind.TheVariants.{Repeated}
-use Rattle.mat_desc.specs.Reading.{count_at, elements_from}
+use Rattle.mat_desc.specs.Reading.{below_at, elements_from}
 use Rattle.mat_desc.specs.Grammar.{Lists}
 use Rattle.mat_desc.proofs.ReadingSteps.{found-same, bind_found, refused_found}
-use Rattle.mat_desc.proofs.WordLaws.{count_found, count_again}
+use Rattle.mat_desc.proofs.WordLaws.{below_found, below_again}
 
 -- the set with each of the items added
 pub with_each : List ℕ → List ℕ → List ℕ
@@ -85,9 +85,9 @@ elements_found n line taken set [] made left e =
       taken_left = sym (ap (λ (p : List ℕ × List ℕ). p.1) same);
     }
 elements_found n line taken set (word ∷ words) made left e =
-    let element = bind_found (count_at 0 n (record { line = line; words = word ∷ words })) (λ x. cond (is_member x.0 taken) (Err (Repeated, line)) (elements_from n line (with_one taken x.0) (with_one set x.0) words)) (made, left) e in
+    let element = bind_found (below_at n (record { line = line; words = word ∷ words })) (λ x. cond (is_member x.0 taken) (Err (Repeated, line)) (elements_from n line (with_one taken x.0) (with_one set x.0) words)) (made, left) e in
     let test = refused_found (is_member element.0.0 taken) (Repeated, line) (elements_from n line (with_one taken element.0.0) (with_one set element.0.0) words) (made, left) element.2 in
-    let first = count_found 0 n (record { line = line; words = word ∷ words }) element.0.0 element.0.1 element.1 in
+    let first = below_found n (record { line = line; words = word ∷ words }) element.0.0 element.0.1 element.1 in
     let cut : word ∷ words ≡ numeral (pos element.0.0) ∷ element.0.1.words = first.cut in
     let behind : words ≡ element.0.1.words = cc in
     let more = elements_found n line (with_one taken element.0.0) (with_one set element.0.0) words made left test.1 in
@@ -108,7 +108,7 @@ unfolding elements_from with_each
 elements_again n line taken set [] distinct below fresh = refl
 elements_again n line taken set (x ∷ xs) distinct below fresh =
     let free : is_member x taken ≡ false = fresh x (rw (eq-eqb x x refl) refl) in
-    rw (count_again 0 n line x (numerals xs) (omega arith) below.0, free) (elements_again n line (with_one taken x) (with_one set x) xs distinct.1 below.1 (later_free x xs taken distinct.0 fresh))
+    rw (below_again n line x (numerals xs) below.0, free) (elements_again n line (with_one taken x) (with_one set x) xs distinct.1 below.1 (later_free x xs taken distinct.0 fresh))
 
 -- ---- the set that a list of elements makes
 

@@ -12,7 +12,7 @@ use Rattle.mat_desc.specs.declared.refusal.DescKind.TheVariants.{Repeated}
 use Rattle.mat_desc.specs.declared.refusal.DescRefusal.{DescRefusal}
 use Rattle.mat_desc.specs.declared.refusal.DescRefusal.TheVariants as refusals
 use Rattle.mat_desc.specs.Faults.{◌>>=◌, Fault, Fails, WordsLeft}
-use Rattle.mat_desc.specs.Reading.{word_at, number_as, number_at, count_at, elements_from}
+use Rattle.mat_desc.specs.Reading.{word_at, number_as, number_at, below_at, elements_from}
 use Rattle.mat_desc.specs.Views.{parts_left}
 
 -- one word was read, and the rest is left
@@ -39,10 +39,10 @@ first_read_from n word words (Err Spelling) x q e = absurd cc
 first_read_from n word words (Err Range) x q e = absurd cc
 
 -- what is read as a count is one word
-pub count_first_read : (low end n : ℕ) (words : List (List ℕ)) (x : ℕ) (q : WordsLeft) → count_at low end (record { line = n; words = words }) ≡ Ok (x, q) → IsFirstRead n words q
-unfolding count_at number_at word_at
-count_first_read low end n [] x q e = absurd cc
-count_first_read low end n (word ∷ words) x q e = first_read_from n word words (number_in (pos low) (pos end -ℤ pos 1) word) x q e
+pub below_first_read : (end n : ℕ) (words : List (List ℕ)) (x : ℕ) (q : WordsLeft) → below_at end (record { line = n; words = words }) ≡ Ok (x, q) → IsFirstRead n words q
+unfolding below_at number_at word_at
+below_first_read end n [] x q e = absurd cc
+below_first_read end n (word ∷ words) x q e = first_read_from n word words (number_in (pos 0) (pos end -ℤ pos 1) word) x q e
 
 -- the loop goes on
 pub record GoesOn (end n : ℕ) (taken set : List ℕ) (words : List (List ℕ)) (x : ℕ) (q : WordsLeft) (total : Result (List ℕ × List ℕ) Fault) : Type 0 where
@@ -50,24 +50,24 @@ pub record GoesOn (end n : ℕ) (taken set : List ℕ) (words : List (List ℕ))
   pub reads : elements_from end q.line (with_one taken x) (with_one set x) q.words ≡ total
 
 pub elements_go_on : (end n : ℕ) (taken set : List ℕ) (words : List (List ℕ)) (x : ℕ) (q : WordsLeft) (total : Result (List ℕ × List ℕ) Fault)
-    → count_at 0 end (record { line = n; words = words }) ≡ Ok (x, q) → is_member x taken ≡ false → elements_from end n taken set words ≡ total → GoesOn end n taken set words x q total
+    → below_at end (record { line = n; words = words }) ≡ Ok (x, q) → is_member x taken ≡ false → elements_from end n taken set words ≡ total → GoesOn end n taken set words x q total
 unfolding elements_from
-elements_go_on end n taken set [] x q total e fresh so_far = let t = count_first_read 0 end n [] x q e in absurd cc
+elements_go_on end n taken set [] x q total e fresh so_far = let t = below_first_read end n [] x q e in absurd cc
 elements_go_on end n taken set (word ∷ words) x q total e fresh so_far =
-    let t = count_first_read 0 end n (word ∷ words) x q e in
+    let t = below_first_read end n (word ∷ words) x q e in
     let same : words ≡ q.words = cc in
     record { shorter = rw same (omega arith); reads = rw t.line (rw (e, fresh, same) at so_far) }
 
 -- an element that is taken already
 pub elements_repeat : (end n : ℕ) (taken set : List ℕ) (words : List (List ℕ)) (x : ℕ) (q : WordsLeft) (total : Result (List ℕ × List ℕ) Fault)
-    → count_at 0 end (record { line = n; words = words }) ≡ Ok (x, q) → is_member x taken ≡ true → elements_from end n taken set words ≡ total → total ≡ Err (Repeated, n)
+    → below_at end (record { line = n; words = words }) ≡ Ok (x, q) → is_member x taken ≡ true → elements_from end n taken set words ≡ total → total ≡ Err (Repeated, n)
 unfolding elements_from
-elements_repeat end n taken set [] x q total e old so_far = let t = count_first_read 0 end n [] x q e in absurd cc
+elements_repeat end n taken set [] x q total e old so_far = let t = below_first_read end n [] x q e in absurd cc
 elements_repeat end n taken set (word ∷ words) x q total e old so_far = sym (rw (e, old) at so_far)
 
 -- a word that is no element
 pub elements_fail : (end n : ℕ) (taken set : List ℕ) (words : List (List ℕ)) (refusal : DescRefusal) (total : Result (List ℕ × List ℕ) Fault)
-    → 0 < length words → Fails refusal (count_at 0 end (record { line = n; words = words })) → elements_from end n taken set words ≡ total → Fails refusal total
+    → 0 < length words → Fails refusal (below_at end (record { line = n; words = words })) → elements_from end n taken set words ≡ total → Fails refusal total
 unfolding elements_from
 elements_fail end n taken set words refusals.Memory total some failed so_far = tt
 elements_fail end n taken set [] (refusals.Fault kind line) total some failed so_far = absurd (omega arith)

@@ -7,15 +7,16 @@ use Rattle.std.proofs.lemmas.Slice.Eq.{bytes_eq-Decides}
 use Rattle.mat_words.specs.Words.{is_word}
 use Rattle.mat_words.specs.Numbers.{numeral}
 use Rattle.mat_words.specs.Lines.{Line}
+use Rattle.mat_desc.specs.Limits.{most_elements, most_vertices, most_sets, most_matroids}
 use Rattle.mat_desc.specs.declared.keywords.Form.{Form}
 use Rattle.mat_desc.specs.declared.keywords.Form.TheVariants as forms
 use Rattle.mat_desc.specs.Faults.{◌>>=◌, WordsLeft, LinesLeft}
-use Rattle.mat_desc.specs.Reading.{count_at, read_weight, ended_at, repeat_at, keyed_at, weights_at, ends_line_at, weighted_at, coloured_edge_at, matroid_at, pair_at, list_at, graph_at, rooted_at, coloured_at, table_at, form_of, form_at}
+use Rattle.mat_desc.specs.Reading.{size_at, below_at, read_weight, ended_at, repeat_at, keyed_at, weights_at, ends_line_at, weighted_at, coloured_edge_at, matroid_at, pair_at, list_at, graph_at, rooted_at, coloured_at, table_at, form_of, form_at}
 use Rattle.mat_desc.specs.Instances.{Instance, pair, list, graph, rooted, coloured, table}
 use Rattle.mat_words.specs.Writing.{end_line}
 use Rattle.mat_desc.specs.Grammar.{version_line, ends_line, weighted_line, coloured_edge_line, IsPairBelow, IsWeight, AreWeights, IsValid, InstanceLines}
 use Rattle.mat_desc.proofs.ReadingSteps.{found-same, bind_found}
-use Rattle.mat_desc.proofs.WordLaws.{numerals_words, count_line, ended_found, ended_again, count_found, count_again, weights_found, weights_again, weights_words}
+use Rattle.mat_desc.proofs.WordLaws.{numerals_words, count_line, ended_found, ended_again, size_found, below_found, size_again, below_again, weights_found, weights_again, weights_words}
 use Rattle.mat_desc.proofs.LineLaws.{AreLeft, keyed_found, keyed_again}
 use Rattle.mat_desc.proofs.MatroidLaws.{matroid_found, matroid_again}
 use Rattle.mat_desc.proofs.MatroidRows.{matroids_found, matroids_again}
@@ -30,7 +31,7 @@ use Rattle.mat_desc.proofs.ItemLaws.{items_found, items_again, ends_line_found, 
 -- a weights line was read
 record IsWeightsLineRead (n : ℕ) (p : LinesLeft) (weights : List ℤ) (q : LinesLeft) : Type 0 where
   count : length weights ≡ n
-  valid : n ≤ 500 → AreWeights weights
+  valid : n ≤ most_elements → AreWeights weights
   spelled : (rest : List Line) → AreLeft rest q → AreLeft ((codes "weights" ∷ map numeral weights) ∷ rest) p
 
 weights_line_found : (n : ℕ) (p : LinesLeft) (weights : List ℤ) (q : LinesLeft) → weights_at n p ≡ Ok (weights, q) → IsWeightsLineRead n p weights q
@@ -118,18 +119,18 @@ pub record IsFormRead (form : Form) (words : WordsLeft) (lines : LinesLeft) (ins
 pair_found : (words : WordsLeft) (lines : LinesLeft) (instance : Instance) (q : LinesLeft) → pair_at words lines ≡ Ok (instance, q) → IsFormRead forms.Pair words lines instance q
 unfolding pair_at
 pair_found words lines instance q e =
-    let count = bind_found (count_at 0 501 words) (λ count. ended_at count.1 >>= λ end. weights_at count.0 lines >>= λ weights. matroid_at count.0 weights.1 >>= λ first. matroid_at count.0 first.1 >>= λ second. Ok (pair weights.0 first.0 second.0, second.1)) (instance, q) e in
+    let count = bind_found (size_at 0 most_elements words) (λ count. ended_at count.1 >>= λ end. weights_at count.0 lines >>= λ weights. matroid_at count.0 weights.1 >>= λ first. matroid_at count.0 first.1 >>= λ second. Ok (pair weights.0 first.0 second.0, second.1)) (instance, q) e in
     let end = bind_found (ended_at count.0.1) (λ end. weights_at count.0.0 lines >>= λ weights. matroid_at count.0.0 weights.1 >>= λ first. matroid_at count.0.0 first.1 >>= λ second. Ok (pair weights.0 first.0 second.0, second.1)) (instance, q) count.2 in
     let weights = bind_found (weights_at count.0.0 lines) (λ weights. matroid_at count.0.0 weights.1 >>= λ first. matroid_at count.0.0 first.1 >>= λ second. Ok (pair weights.0 first.0 second.0, second.1)) (instance, q) end.2 in
     let first = bind_found (matroid_at count.0.0 weights.0.1) (λ first. matroid_at count.0.0 first.1 >>= λ second. Ok (pair weights.0.0 first.0 second.0, second.1)) (instance, q) weights.2 in
     let second = bind_found (matroid_at count.0.0 first.0.1) (λ second. Ok (pair weights.0.0 first.0.0 second.0, second.1)) (instance, q) first.2 in
     let same = found-same (pair weights.0.0 first.0.0 second.0.0, second.0.1) (instance, q) second.2 in
-    let number = count_found 0 501 words count.0.0 count.0.1 count.1 in
+    let number = size_found 0 most_elements words count.0.0 count.0.1 count.1 in
     let last = ended_found count.0.1 end.0 end.1 in
     let all = weights_line_found count.0.0 lines weights.0.0 weights.0.1 weights.1 in
     let one = matroid_found count.0.0 weights.0.1 first.0.0 first.0.1 first.1 in
     let two = matroid_found count.0.0 first.0.1 second.0.0 second.0.1 second.1 in
-    let few : count.0.0 ≤ 500 = omega (arith, number.most) in
+    let few : count.0.0 ≤ most_elements = omega (arith, number.most) in
     let line : words.words ≡ numeral (pos (length weights.0.0)) ∷ [] = count_line count.0.0 (length weights.0.0) words.words count.0.1.words number.cut last all.count in
     let whole : IsFormRead forms.Pair words lines (pair weights.0.0 first.0.0 second.0.0) second.0.1 = record {
       valid = (all.valid few, rw all.count one.valid, rw all.count two.valid);
@@ -146,18 +147,18 @@ pair_found words lines instance q e =
 list_found : (words : WordsLeft) (lines : LinesLeft) (instance : Instance) (q : LinesLeft) → list_at words lines ≡ Ok (instance, q) → IsFormRead forms.List words lines instance q
 unfolding list_at
 list_found words lines instance q e =
-    let count = bind_found (count_at 0 501 words) (λ count. count_at 1 65 count.1 >>= λ many. ended_at many.1 >>= λ end. weights_at count.0 lines >>= λ weights. repeat_at (matroid_at count.0) many.0 weights.1 >>= λ matroids. Ok (list weights.0 matroids.0, matroids.1)) (instance, q) e in
-    let many = bind_found (count_at 1 65 count.0.1) (λ many. ended_at many.1 >>= λ end. weights_at count.0.0 lines >>= λ weights. repeat_at (matroid_at count.0.0) many.0 weights.1 >>= λ matroids. Ok (list weights.0 matroids.0, matroids.1)) (instance, q) count.2 in
+    let count = bind_found (size_at 0 most_elements words) (λ count. size_at 1 most_matroids count.1 >>= λ many. ended_at many.1 >>= λ end. weights_at count.0 lines >>= λ weights. repeat_at (matroid_at count.0) many.0 weights.1 >>= λ matroids. Ok (list weights.0 matroids.0, matroids.1)) (instance, q) e in
+    let many = bind_found (size_at 1 most_matroids count.0.1) (λ many. ended_at many.1 >>= λ end. weights_at count.0.0 lines >>= λ weights. repeat_at (matroid_at count.0.0) many.0 weights.1 >>= λ matroids. Ok (list weights.0 matroids.0, matroids.1)) (instance, q) count.2 in
     let end = bind_found (ended_at many.0.1) (λ end. weights_at count.0.0 lines >>= λ weights. repeat_at (matroid_at count.0.0) many.0.0 weights.1 >>= λ matroids. Ok (list weights.0 matroids.0, matroids.1)) (instance, q) many.2 in
     let weights = bind_found (weights_at count.0.0 lines) (λ weights. repeat_at (matroid_at count.0.0) many.0.0 weights.1 >>= λ matroids. Ok (list weights.0 matroids.0, matroids.1)) (instance, q) end.2 in
     let matroids = bind_found (repeat_at (matroid_at count.0.0) many.0.0 weights.0.1) (λ matroids. Ok (list weights.0.0 matroids.0, matroids.1)) (instance, q) weights.2 in
     let same = found-same (list weights.0.0 matroids.0.0, matroids.0.1) (instance, q) matroids.2 in
-    let number = count_found 0 501 words count.0.0 count.0.1 count.1 in
-    let length_read = count_found 1 65 count.0.1 many.0.0 many.0.1 many.1 in
+    let number = size_found 0 most_elements words count.0.0 count.0.1 count.1 in
+    let length_read = size_found 1 most_matroids count.0.1 many.0.0 many.0.1 many.1 in
     let last = ended_found many.0.1 end.0 end.1 in
     let all = weights_line_found count.0.0 lines weights.0.0 weights.0.1 weights.1 in
     let read = matroids_found count.0.0 many.0.0 weights.0.1 matroids.0.0 matroids.0.1 matroids.1 in
-    let few : count.0.0 ≤ 500 = omega (arith, number.most) in
+    let few : count.0.0 ≤ most_elements = omega (arith, number.most) in
     let line : words.words ≡ numeral (pos (length weights.0.0)) ∷ numeral (pos (length matroids.0.0)) ∷ [] = number.cut ∙ rw (length_read.cut, last, all.count, read.count) refl in
     subst (λ (r : Instance × LinesLeft). IsFormRead forms.List words lines r.0 r.1) same (record {
       valid = (all.valid few, omega (arith, read.count, length_read.least), omega (arith, read.count, length_read.most), rw all.count read.each);
@@ -172,13 +173,13 @@ list_found words lines instance q e =
 graph_found : (words : WordsLeft) (lines : LinesLeft) (instance : Instance) (q : LinesLeft) → graph_at words lines ≡ Ok (instance, q) → IsFormRead forms.Graph words lines instance q
 unfolding graph_at
 graph_found words lines instance q e =
-    let vertices = bind_found (count_at 1 501 words) (λ vertices. count_at 0 501 vertices.1 >>= λ many. ended_at many.1 >>= λ end. repeat_at (ends_line_at (codes "edge") vertices.0) many.0 lines >>= λ edges. Ok (graph vertices.0 edges.0, edges.1)) (instance, q) e in
-    let many = bind_found (count_at 0 501 vertices.0.1) (λ many. ended_at many.1 >>= λ end. repeat_at (ends_line_at (codes "edge") vertices.0.0) many.0 lines >>= λ edges. Ok (graph vertices.0.0 edges.0, edges.1)) (instance, q) vertices.2 in
+    let vertices = bind_found (size_at 1 most_vertices words) (λ vertices. size_at 0 most_elements vertices.1 >>= λ many. ended_at many.1 >>= λ end. repeat_at (ends_line_at (codes "edge") vertices.0) many.0 lines >>= λ edges. Ok (graph vertices.0 edges.0, edges.1)) (instance, q) e in
+    let many = bind_found (size_at 0 most_elements vertices.0.1) (λ many. ended_at many.1 >>= λ end. repeat_at (ends_line_at (codes "edge") vertices.0.0) many.0 lines >>= λ edges. Ok (graph vertices.0.0 edges.0, edges.1)) (instance, q) vertices.2 in
     let end = bind_found (ended_at many.0.1) (λ end. repeat_at (ends_line_at (codes "edge") vertices.0.0) many.0.0 lines >>= λ edges. Ok (graph vertices.0.0 edges.0, edges.1)) (instance, q) many.2 in
     let edges = bind_found (repeat_at (ends_line_at (codes "edge") vertices.0.0) many.0.0 lines) (λ edges. Ok (graph vertices.0.0 edges.0, edges.1)) (instance, q) end.2 in
     let same = found-same (graph vertices.0.0 edges.0.0, edges.0.1) (instance, q) edges.2 in
-    let v = count_found 1 501 words vertices.0.0 vertices.0.1 vertices.1 in
-    let m = count_found 0 501 vertices.0.1 many.0.0 many.0.1 many.1 in
+    let v = size_found 1 most_vertices words vertices.0.0 vertices.0.1 vertices.1 in
+    let m = size_found 0 most_elements vertices.0.1 many.0.0 many.0.1 many.1 in
     let last = ended_found many.0.1 end.0 end.1 in
     let read = items_found (ends_line_at (codes "edge") vertices.0.0) (ends_line (codes "edge")) (IsPairBelow vertices.0.0 vertices.0.0) (ends_line_found (codes "edge") vertices.0.0) many.0.0 lines edges.0.0 edges.0.1 edges.1 in
     let line : words.words ≡ numeral (pos vertices.0.0) ∷ numeral (pos (length edges.0.0)) ∷ [] = v.cut ∙ rw (m.cut, last, read.count) refl in
@@ -218,15 +219,15 @@ columns_again a b key keyword lines pairs weights pairs_valid weights_valid same
 rooted_found : (words : WordsLeft) (lines : LinesLeft) (instance : Instance) (q : LinesLeft) → rooted_at words lines ≡ Ok (instance, q) → IsFormRead forms.Rooted words lines instance q
 unfolding rooted_at
 rooted_found words lines instance q e =
-    let vertices = bind_found (count_at 1 501 words) (λ vertices. count_at 0 501 vertices.1 >>= λ many. count_at 0 vertices.0 many.1 >>= λ root. ended_at root.1 >>= λ end. repeat_at (weighted_at (codes "arc") vertices.0 vertices.0) many.0 lines >>= λ arcs. Ok (rooted vertices.0 root.0 (map (λ arc. arc.0) arcs.0) (map (λ arc. arc.1) arcs.0), arcs.1)) (instance, q) e in
-    let many = bind_found (count_at 0 501 vertices.0.1) (λ many. count_at 0 vertices.0.0 many.1 >>= λ root. ended_at root.1 >>= λ end. repeat_at (weighted_at (codes "arc") vertices.0.0 vertices.0.0) many.0 lines >>= λ arcs. Ok (rooted vertices.0.0 root.0 (map (λ arc. arc.0) arcs.0) (map (λ arc. arc.1) arcs.0), arcs.1)) (instance, q) vertices.2 in
-    let root = bind_found (count_at 0 vertices.0.0 many.0.1) (λ root. ended_at root.1 >>= λ end. repeat_at (weighted_at (codes "arc") vertices.0.0 vertices.0.0) many.0.0 lines >>= λ arcs. Ok (rooted vertices.0.0 root.0 (map (λ arc. arc.0) arcs.0) (map (λ arc. arc.1) arcs.0), arcs.1)) (instance, q) many.2 in
+    let vertices = bind_found (size_at 1 most_vertices words) (λ vertices. size_at 0 most_elements vertices.1 >>= λ many. below_at vertices.0 many.1 >>= λ root. ended_at root.1 >>= λ end. repeat_at (weighted_at (codes "arc") vertices.0 vertices.0) many.0 lines >>= λ arcs. Ok (rooted vertices.0 root.0 (map (λ arc. arc.0) arcs.0) (map (λ arc. arc.1) arcs.0), arcs.1)) (instance, q) e in
+    let many = bind_found (size_at 0 most_elements vertices.0.1) (λ many. below_at vertices.0.0 many.1 >>= λ root. ended_at root.1 >>= λ end. repeat_at (weighted_at (codes "arc") vertices.0.0 vertices.0.0) many.0 lines >>= λ arcs. Ok (rooted vertices.0.0 root.0 (map (λ arc. arc.0) arcs.0) (map (λ arc. arc.1) arcs.0), arcs.1)) (instance, q) vertices.2 in
+    let root = bind_found (below_at vertices.0.0 many.0.1) (λ root. ended_at root.1 >>= λ end. repeat_at (weighted_at (codes "arc") vertices.0.0 vertices.0.0) many.0.0 lines >>= λ arcs. Ok (rooted vertices.0.0 root.0 (map (λ arc. arc.0) arcs.0) (map (λ arc. arc.1) arcs.0), arcs.1)) (instance, q) many.2 in
     let end = bind_found (ended_at root.0.1) (λ end. repeat_at (weighted_at (codes "arc") vertices.0.0 vertices.0.0) many.0.0 lines >>= λ arcs. Ok (rooted vertices.0.0 root.0.0 (map (λ arc. arc.0) arcs.0) (map (λ arc. arc.1) arcs.0), arcs.1)) (instance, q) root.2 in
     let arcs = bind_found (repeat_at (weighted_at (codes "arc") vertices.0.0 vertices.0.0) many.0.0 lines) (λ arcs. Ok (rooted vertices.0.0 root.0.0 (map (λ arc. arc.0) arcs.0) (map (λ arc. arc.1) arcs.0), arcs.1)) (instance, q) end.2 in
     let same = found-same (rooted vertices.0.0 root.0.0 (map (λ arc. arc.0) arcs.0.0) (map (λ arc. arc.1) arcs.0.0), arcs.0.1) (instance, q) arcs.2 in
-    let v = count_found 1 501 words vertices.0.0 vertices.0.1 vertices.1 in
-    let m = count_found 0 501 vertices.0.1 many.0.0 many.0.1 many.1 in
-    let r = count_found 0 vertices.0.0 many.0.1 root.0.0 root.0.1 root.1 in
+    let v = size_found 1 most_vertices words vertices.0.0 vertices.0.1 vertices.1 in
+    let m = size_found 0 most_elements vertices.0.1 many.0.0 many.0.1 many.1 in
+    let r = below_found vertices.0.0 many.0.1 root.0.0 root.0.1 root.1 in
     let last = ended_found root.0.1 end.0 end.1 in
     let read = columns_found vertices.0.0 vertices.0.0 (codes "arc") many.0.0 lines arcs.0.0 arcs.0.1 arcs.1 in
     let line : words.words ≡ numeral (pos vertices.0.0) ∷ numeral (pos (length (map (λ (arc : (ℕ × ℕ) × ℤ). arc.0) arcs.0.0))) ∷ numeral (pos root.0.0) ∷ [] = v.cut ∙ rw (m.cut, r.cut, last, read.count) refl in
@@ -242,15 +243,15 @@ rooted_found words lines instance q e =
 table_found : (words : WordsLeft) (lines : LinesLeft) (instance : Instance) (q : LinesLeft) → table_at words lines ≡ Ok (instance, q) → IsFormRead forms.Table words lines instance q
 unfolding table_at
 table_found words lines instance q e =
-    let rows = bind_found (count_at 0 501 words) (λ rows. count_at 0 501 rows.1 >>= λ columns. count_at 0 501 columns.1 >>= λ many. ended_at many.1 >>= λ end. repeat_at (weighted_at (codes "cell") rows.0 columns.0) many.0 lines >>= λ cells. Ok (table rows.0 columns.0 (map (λ cell. cell.0) cells.0) (map (λ cell. cell.1) cells.0), cells.1)) (instance, q) e in
-    let columns = bind_found (count_at 0 501 rows.0.1) (λ columns. count_at 0 501 columns.1 >>= λ many. ended_at many.1 >>= λ end. repeat_at (weighted_at (codes "cell") rows.0.0 columns.0) many.0 lines >>= λ cells. Ok (table rows.0.0 columns.0 (map (λ cell. cell.0) cells.0) (map (λ cell. cell.1) cells.0), cells.1)) (instance, q) rows.2 in
-    let many = bind_found (count_at 0 501 columns.0.1) (λ many. ended_at many.1 >>= λ end. repeat_at (weighted_at (codes "cell") rows.0.0 columns.0.0) many.0 lines >>= λ cells. Ok (table rows.0.0 columns.0.0 (map (λ cell. cell.0) cells.0) (map (λ cell. cell.1) cells.0), cells.1)) (instance, q) columns.2 in
+    let rows = bind_found (size_at 0 most_sets words) (λ rows. size_at 0 most_sets rows.1 >>= λ columns. size_at 0 most_elements columns.1 >>= λ many. ended_at many.1 >>= λ end. repeat_at (weighted_at (codes "cell") rows.0 columns.0) many.0 lines >>= λ cells. Ok (table rows.0 columns.0 (map (λ cell. cell.0) cells.0) (map (λ cell. cell.1) cells.0), cells.1)) (instance, q) e in
+    let columns = bind_found (size_at 0 most_sets rows.0.1) (λ columns. size_at 0 most_elements columns.1 >>= λ many. ended_at many.1 >>= λ end. repeat_at (weighted_at (codes "cell") rows.0.0 columns.0) many.0 lines >>= λ cells. Ok (table rows.0.0 columns.0 (map (λ cell. cell.0) cells.0) (map (λ cell. cell.1) cells.0), cells.1)) (instance, q) rows.2 in
+    let many = bind_found (size_at 0 most_elements columns.0.1) (λ many. ended_at many.1 >>= λ end. repeat_at (weighted_at (codes "cell") rows.0.0 columns.0.0) many.0 lines >>= λ cells. Ok (table rows.0.0 columns.0.0 (map (λ cell. cell.0) cells.0) (map (λ cell. cell.1) cells.0), cells.1)) (instance, q) columns.2 in
     let end = bind_found (ended_at many.0.1) (λ end. repeat_at (weighted_at (codes "cell") rows.0.0 columns.0.0) many.0.0 lines >>= λ cells. Ok (table rows.0.0 columns.0.0 (map (λ cell. cell.0) cells.0) (map (λ cell. cell.1) cells.0), cells.1)) (instance, q) many.2 in
     let cells = bind_found (repeat_at (weighted_at (codes "cell") rows.0.0 columns.0.0) many.0.0 lines) (λ cells. Ok (table rows.0.0 columns.0.0 (map (λ cell. cell.0) cells.0) (map (λ cell. cell.1) cells.0), cells.1)) (instance, q) end.2 in
     let same = found-same (table rows.0.0 columns.0.0 (map (λ cell. cell.0) cells.0.0) (map (λ cell. cell.1) cells.0.0), cells.0.1) (instance, q) cells.2 in
-    let r = count_found 0 501 words rows.0.0 rows.0.1 rows.1 in
-    let c = count_found 0 501 rows.0.1 columns.0.0 columns.0.1 columns.1 in
-    let m = count_found 0 501 columns.0.1 many.0.0 many.0.1 many.1 in
+    let r = size_found 0 most_sets words rows.0.0 rows.0.1 rows.1 in
+    let c = size_found 0 most_sets rows.0.1 columns.0.0 columns.0.1 columns.1 in
+    let m = size_found 0 most_elements columns.0.1 many.0.0 many.0.1 many.1 in
     let last = ended_found many.0.1 end.0 end.1 in
     let read = columns_found rows.0.0 columns.0.0 (codes "cell") many.0.0 lines cells.0.0 cells.0.1 cells.1 in
     let line : words.words ≡ numeral (pos rows.0.0) ∷ numeral (pos columns.0.0) ∷ numeral (pos (length (map (λ (cell : (ℕ × ℕ) × ℤ). cell.0) cells.0.0))) ∷ [] = r.cut ∙ rw (c.cut, m.cut, last, read.count) refl in
@@ -308,15 +309,15 @@ coloured_columns_again v c lines edges colours weights edges_valid colours_valid
 coloured_found : (words : WordsLeft) (lines : LinesLeft) (instance : Instance) (q : LinesLeft) → coloured_at words lines ≡ Ok (instance, q) → IsFormRead forms.Coloured words lines instance q
 unfolding coloured_at
 coloured_found words lines instance q e =
-    let vertices = bind_found (count_at 1 501 words) (λ vertices. count_at 0 501 vertices.1 >>= λ many. count_at 0 501 many.1 >>= λ colours. ended_at colours.1 >>= λ end. repeat_at (coloured_edge_at vertices.0 colours.0) many.0 lines >>= λ edges. Ok (coloured vertices.0 colours.0 (map (λ edge. edge.0) edges.0) (map (λ edge. edge.1.0) edges.0) (map (λ edge. edge.1.1) edges.0), edges.1)) (instance, q) e in
-    let many = bind_found (count_at 0 501 vertices.0.1) (λ many. count_at 0 501 many.1 >>= λ colours. ended_at colours.1 >>= λ end. repeat_at (coloured_edge_at vertices.0.0 colours.0) many.0 lines >>= λ edges. Ok (coloured vertices.0.0 colours.0 (map (λ edge. edge.0) edges.0) (map (λ edge. edge.1.0) edges.0) (map (λ edge. edge.1.1) edges.0), edges.1)) (instance, q) vertices.2 in
-    let colours = bind_found (count_at 0 501 many.0.1) (λ colours. ended_at colours.1 >>= λ end. repeat_at (coloured_edge_at vertices.0.0 colours.0) many.0.0 lines >>= λ edges. Ok (coloured vertices.0.0 colours.0 (map (λ edge. edge.0) edges.0) (map (λ edge. edge.1.0) edges.0) (map (λ edge. edge.1.1) edges.0), edges.1)) (instance, q) many.2 in
+    let vertices = bind_found (size_at 1 most_vertices words) (λ vertices. size_at 0 most_elements vertices.1 >>= λ many. size_at 0 most_sets many.1 >>= λ colours. ended_at colours.1 >>= λ end. repeat_at (coloured_edge_at vertices.0 colours.0) many.0 lines >>= λ edges. Ok (coloured vertices.0 colours.0 (map (λ edge. edge.0) edges.0) (map (λ edge. edge.1.0) edges.0) (map (λ edge. edge.1.1) edges.0), edges.1)) (instance, q) e in
+    let many = bind_found (size_at 0 most_elements vertices.0.1) (λ many. size_at 0 most_sets many.1 >>= λ colours. ended_at colours.1 >>= λ end. repeat_at (coloured_edge_at vertices.0.0 colours.0) many.0 lines >>= λ edges. Ok (coloured vertices.0.0 colours.0 (map (λ edge. edge.0) edges.0) (map (λ edge. edge.1.0) edges.0) (map (λ edge. edge.1.1) edges.0), edges.1)) (instance, q) vertices.2 in
+    let colours = bind_found (size_at 0 most_sets many.0.1) (λ colours. ended_at colours.1 >>= λ end. repeat_at (coloured_edge_at vertices.0.0 colours.0) many.0.0 lines >>= λ edges. Ok (coloured vertices.0.0 colours.0 (map (λ edge. edge.0) edges.0) (map (λ edge. edge.1.0) edges.0) (map (λ edge. edge.1.1) edges.0), edges.1)) (instance, q) many.2 in
     let end = bind_found (ended_at colours.0.1) (λ end. repeat_at (coloured_edge_at vertices.0.0 colours.0.0) many.0.0 lines >>= λ edges. Ok (coloured vertices.0.0 colours.0.0 (map (λ edge. edge.0) edges.0) (map (λ edge. edge.1.0) edges.0) (map (λ edge. edge.1.1) edges.0), edges.1)) (instance, q) colours.2 in
     let edges = bind_found (repeat_at (coloured_edge_at vertices.0.0 colours.0.0) many.0.0 lines) (λ edges. Ok (coloured vertices.0.0 colours.0.0 (map (λ edge. edge.0) edges.0) (map (λ edge. edge.1.0) edges.0) (map (λ edge. edge.1.1) edges.0), edges.1)) (instance, q) end.2 in
     let same = found-same (coloured vertices.0.0 colours.0.0 (map (λ edge. edge.0) edges.0.0) (map (λ edge. edge.1.0) edges.0.0) (map (λ edge. edge.1.1) edges.0.0), edges.0.1) (instance, q) edges.2 in
-    let v = count_found 1 501 words vertices.0.0 vertices.0.1 vertices.1 in
-    let m = count_found 0 501 vertices.0.1 many.0.0 many.0.1 many.1 in
-    let c = count_found 0 501 many.0.1 colours.0.0 colours.0.1 colours.1 in
+    let v = size_found 1 most_vertices words vertices.0.0 vertices.0.1 vertices.1 in
+    let m = size_found 0 most_elements vertices.0.1 many.0.0 many.0.1 many.1 in
+    let c = size_found 0 most_sets many.0.1 colours.0.0 colours.0.1 colours.1 in
     let last = ended_found colours.0.1 end.0 end.1 in
     let read = coloured_columns_found vertices.0.0 colours.0.0 many.0.0 lines edges.0.0 edges.0.1 edges.1 in
     let line : words.words ≡ numeral (pos vertices.0.0) ∷ numeral (pos (length (map (λ (edge : (ℕ × ℕ) × (ℕ × ℤ)). edge.0) edges.0.0))) ∷ numeral (pos colours.0.0) ∷ [] = v.cut ∙ rw (m.cut, c.cut, last, read.count) refl in
@@ -357,7 +358,7 @@ any_form_spelled (pair weights first second) lines valid spelled = record {
   cut = spelled.2;
   are_words = numerals_words (length weights ∷ []);
   again = λ n p left.
-      let number = count_again 0 501 n (length weights) [] (omega arith) (omega (arith, valid.0.0)) in
+      let number = size_again 0 most_elements n (length weights) [] (omega arith) (omega (arith, valid.0.0)) in
       let all = weights_line_again p weights spelled.0 valid.0 left in
       let one = matroid_again (length weights) all.0 first spelled.0 spelled.1 valid.1 spelled.3 all.2 in
       let two = matroid_again (length weights) one.0 second spelled.1 (end_line ∷ []) valid.2 spelled.4 one.2 in
@@ -370,8 +371,8 @@ any_form_spelled (list weights matroids) lines valid spelled = record {
   cut = spelled.1;
   are_words = numerals_words (length weights ∷ length matroids ∷ []);
   again = λ n p left.
-      let number = count_again 0 501 n (length weights) (numeral (pos (length matroids)) ∷ []) (omega arith) (omega (arith, valid.0.0)) in
-      let many = count_again 1 65 n (length matroids) [] valid.1 (omega (arith, valid.2)) in
+      let number = size_again 0 most_elements n (length weights) (numeral (pos (length matroids)) ∷ []) (omega arith) (omega (arith, valid.0.0)) in
+      let many = size_again 1 most_matroids n (length matroids) [] valid.1 (omega (arith, valid.2)) in
       let all = weights_line_again p weights spelled.0 valid.0 left in
       let read = matroids_again (length weights) all.0 matroids spelled.0 (end_line ∷ []) valid.3 spelled.2 all.2 in
       (read.0, rw (number, many, ended_again n, all.1, read.1) refl, read.2);
@@ -383,8 +384,8 @@ any_form_spelled (graph vertices edges) lines valid spelled = record {
   cut = spelled;
   are_words = numerals_words (vertices ∷ length edges ∷ []);
   again = λ n p left.
-      let number = count_again 1 501 n vertices (numeral (pos (length edges)) ∷ []) valid.0 (omega (arith, valid.1)) in
-      let many = count_again 0 501 n (length edges) [] (omega arith) (omega (arith, valid.2.0)) in
+      let number = size_again 1 most_vertices n vertices (numeral (pos (length edges)) ∷ []) valid.0 (omega (arith, valid.1)) in
+      let many = size_again 0 most_elements n (length edges) [] (omega arith) (omega (arith, valid.2.0)) in
       let read = items_again (ends_line_at (codes "edge") vertices) (ends_line (codes "edge")) (IsPairBelow vertices vertices) (ends_line_again (codes "edge") vertices refl) p edges (end_line ∷ []) valid.2.1 left in
       (read.0, rw (number, many, ended_again n, read.1) refl, read.2);
 }
@@ -395,9 +396,9 @@ any_form_spelled (rooted vertices root arcs costs) lines valid spelled = record 
   cut = spelled;
   are_words = numerals_words (vertices ∷ length arcs ∷ root ∷ []);
   again = λ n p left.
-      let number = count_again 1 501 n vertices (numeral (pos (length arcs)) ∷ numeral (pos root) ∷ []) valid.0 (omega (arith, valid.1)) in
-      let many = count_again 0 501 n (length arcs) (numeral (pos root) ∷ []) (omega arith) (omega (arith, valid.3.0)) in
-      let from = count_again 0 vertices n root [] (omega arith) valid.2 in
+      let number = size_again 1 most_vertices n vertices (numeral (pos (length arcs)) ∷ numeral (pos root) ∷ []) valid.0 (omega (arith, valid.1)) in
+      let many = size_again 0 most_elements n (length arcs) (numeral (pos root) ∷ []) (omega arith) (omega (arith, valid.3.0)) in
+      let from = below_again vertices n root [] valid.2 in
       let read = columns_again vertices vertices (codes "arc") refl p arcs costs valid.3.1 valid.5 valid.4 left in
       (read.0, rw (number, many, from, ended_again n, read.1, firsts-zip arcs costs valid.4, seconds-zip arcs costs valid.4) refl, read.2);
 }
@@ -408,9 +409,9 @@ any_form_spelled (coloured vertices colours edges colour_of weights) lines valid
   cut = spelled;
   are_words = numerals_words (vertices ∷ length edges ∷ colours ∷ []);
   again = λ n p left.
-      let number = count_again 1 501 n vertices (numeral (pos (length edges)) ∷ numeral (pos colours) ∷ []) valid.0 (omega (arith, valid.1)) in
-      let many = count_again 0 501 n (length edges) (numeral (pos colours) ∷ []) (omega arith) (omega (arith, valid.3.0)) in
-      let hues = count_again 0 501 n colours [] (omega arith) (omega (arith, valid.2)) in
+      let number = size_again 1 most_vertices n vertices (numeral (pos (length edges)) ∷ numeral (pos colours) ∷ []) valid.0 (omega (arith, valid.1)) in
+      let many = size_again 0 most_elements n (length edges) (numeral (pos colours) ∷ []) (omega arith) (omega (arith, valid.3.0)) in
+      let hues = size_again 0 most_sets n colours [] (omega arith) (omega (arith, valid.2)) in
       let read = coloured_columns_again vertices colours p edges colour_of weights valid.3.1 valid.5 valid.7 valid.4 valid.6 left in
       (read.0, rw (number, many, hues, ended_again n, read.1, edges-zip edges colour_of weights valid.4 valid.6, colours-zip edges colour_of weights valid.4 valid.6, weights-zip edges colour_of weights valid.4 valid.6) refl, read.2);
 }
@@ -421,9 +422,9 @@ any_form_spelled (table rows columns cells weights) lines valid spelled = record
   cut = spelled;
   are_words = numerals_words (rows ∷ columns ∷ length cells ∷ []);
   again = λ n p left.
-      let down = count_again 0 501 n rows (numeral (pos columns) ∷ numeral (pos (length cells)) ∷ []) (omega arith) (omega (arith, valid.0)) in
-      let across = count_again 0 501 n columns (numeral (pos (length cells)) ∷ []) (omega arith) (omega (arith, valid.1)) in
-      let many = count_again 0 501 n (length cells) [] (omega arith) (omega (arith, valid.2.0)) in
+      let down = size_again 0 most_sets n rows (numeral (pos columns) ∷ numeral (pos (length cells)) ∷ []) (omega arith) (omega (arith, valid.0)) in
+      let across = size_again 0 most_sets n columns (numeral (pos (length cells)) ∷ []) (omega arith) (omega (arith, valid.1)) in
+      let many = size_again 0 most_elements n (length cells) [] (omega arith) (omega (arith, valid.2.0)) in
       let read = columns_again rows columns (codes "cell") refl p cells weights valid.2.1 valid.4 valid.3 left in
       (read.0, rw (down, across, many, ended_again n, read.1, firsts-zip cells weights valid.3, seconds-zip cells weights valid.3) refl, read.2);
 }

@@ -8,12 +8,13 @@ use Rattle.mat_words.specs.Words.{is_word}
 use Rattle.mat_words.specs.Numbers.{numeral}
 use Rattle.mat_words.proofs.NumberLemmas.{numeral_word}
 use Rattle.mat_words.specs.Lines.{Line}
+use Rattle.mat_desc.specs.Limits.{most_digits, largest_weight}
 use Rattle.mat_desc.specs.Faults.{Fault, ◌>>=◌, WordsLeft, LinesLeft}
-use Rattle.mat_desc.specs.Reading.{keyed_at, count_at, read_weight, ended_at, repeat_at, ends_at, ends_line_at, column_at, binary_at, weighted_at, coloured_edge_at}
+use Rattle.mat_desc.specs.Reading.{keyed_at, below_at, read_weight, ended_at, repeat_at, ends_at, ends_line_at, column_at, binary_at, weighted_at, coloured_edge_at}
 use Rattle.mat_desc.specs.Binary.{binary}
 use Rattle.mat_desc.specs.Grammar.{IsWeight, IsPairBelow, ends_line, column_line, weighted_line, coloured_edge_line}
 use Rattle.mat_desc.proofs.ReadingSteps.{found-same, bind_found}
-use Rattle.mat_desc.proofs.WordLaws.{cut_then, count_found, count_again, number_found, number_at_again, ended_found, ended_again}
+use Rattle.mat_desc.proofs.WordLaws.{cut_then, below_found, below_again, number_found, number_at_again, ended_found, ended_again}
 use Rattle.mat_desc.proofs.LineLaws.{AreLeft, keyed_found, keyed_again}
 use Rattle.mat_desc.proofs.BinaryLaws.{binary_word, binary_found, binary_again}
 use Rattle.mat_sets.specs.Graphs.{IsGraph}
@@ -71,16 +72,16 @@ record AreEndsRead (first_bound second_bound : ℕ) (w : WordsLeft) (ends : ℕ 
 ends_found : (a b : ℕ) (w : WordsLeft) (ends : ℕ × ℕ) (q : WordsLeft) → ends_at a b w ≡ Ok (ends, q) → AreEndsRead a b w ends q
 unfolding ends_at
 ends_found a b w ends q e =
-    let first = bind_found (count_at 0 a w) (λ first. count_at 0 b first.1 >>= λ second. Ok ((first.0, second.0), second.1)) (ends, q) e in
-    let second = bind_found (count_at 0 b first.0.1) (λ second. Ok ((first.0.0, second.0), second.1)) (ends, q) first.2 in
+    let first = bind_found (below_at a w) (λ first. below_at b first.1 >>= λ second. Ok ((first.0, second.0), second.1)) (ends, q) e in
+    let second = bind_found (below_at b first.0.1) (λ second. Ok ((first.0.0, second.0), second.1)) (ends, q) first.2 in
     let same = found-same ((first.0.0, second.0.0), second.0.1) (ends, q) second.2 in
-    let one = count_found 0 a w first.0.0 first.0.1 first.1 in
-    let two = count_found 0 b first.0.1 second.0.0 second.0.1 second.1 in
+    let one = below_found a w first.0.0 first.0.1 first.1 in
+    let two = below_found b first.0.1 second.0.0 second.0.1 second.1 in
     subst (λ (r : (ℕ × ℕ) × WordsLeft). AreEndsRead a b w r.0 r.1) same (record { valid = (one.most, two.most); cut = cut_then (numeral (pos first.0.0)) w.words first.0.1.words (numeral (pos second.0.0) ∷ second.0.1.words) one.cut two.cut })
 
 ends_again : (a b n : ℕ) (ends : ℕ × ℕ) (words : Line) → IsPairBelow a b ends → ends_at a b (record { line = n; words = numeral (pos ends.0) ∷ numeral (pos ends.1) ∷ words }) ≡ Ok (ends, record { line = n; words = words })
 unfolding ends_at
-ends_again a b n ends words valid = rw (count_again 0 a n ends.0 (numeral (pos ends.1) ∷ words) (omega arith) valid.0, count_again 0 b n ends.1 words (omega arith) valid.1) refl
+ends_again a b n ends words valid = rw (below_again a n ends.0 (numeral (pos ends.1) ∷ words) valid.0, below_again b n ends.1 words valid.1) refl
 
 ends_words : (ends : ℕ × ℕ) (words : Line) → list_all is_word words ≡ true → list_all is_word (numeral (pos ends.0) ∷ numeral (pos ends.1) ∷ words) ≡ true
 ends_words ends words h = and_from (is_word (numeral (pos ends.0))) (list_all is_word (numeral (pos ends.1) ∷ words)) (numeral_word (pos ends.0)) (and_from (is_word (numeral (pos ends.1))) (list_all is_word words) (numeral_word (pos ends.1)) h)
@@ -149,12 +150,12 @@ column_again dim some p column rest valid left =
     (line.0, rw (line.1, binary_again dim p.line column [] valid, ended_again p.line) refl, line.2)
 
 -- columns of so many entries are those of a matrix
-pub IsBinaryMatrix-columns : (dim : ℕ) (columns : List ℕ) → 1 ≤ dim → dim ≤ 128 → length columns < 2 ^ 32
+pub IsBinaryMatrix-columns : (dim : ℕ) (columns : List ℕ) → 1 ≤ dim → dim ≤ most_digits → length columns < 2 ^ 32
     → All (IsColumn dim) columns → IsBinaryMatrix dim columns
 IsBinaryMatrix-columns dim columns some most few each = record { some = some; most = most; below = λ e lt. each e 0 lt; few = few }
 
 -- columns that are read meet the conditions of a matroid of columns
-pub columns_sound : (dim many : ℕ) (p : LinesLeft) (columns : List ℕ) (q : LinesLeft) → 1 ≤ dim → dim < 129 → many < 2 ^ 32
+pub columns_sound : (dim many : ℕ) (p : LinesLeft) (columns : List ℕ) (q : LinesLeft) → 1 ≤ dim → dim ≤ most_digits → many < 2 ^ 32
     → repeat_at (column_at dim) many p ≡ Ok (columns, q) → IsBinaryMatrix dim columns
 columns_sound dim many p columns q some most few e =
     let read = items_found (column_at dim) (column_line dim) (IsColumn dim) (column_found dim) many p columns q e in
@@ -173,7 +174,7 @@ weighted_found key a b p item q e =
     let end = bind_found (ended_at weight.0.1) (λ end. Ok ((ends.0.0, weight.0.0), line.0.1)) (item, q) weight.2 in
     let same = found-same ((ends.0.0, weight.0.0), line.0.1) (item, q) end.2 in
     let read = ends_found a b line.0.0 ends.0.0 ends.0.1 ends.1 in
-    let number = number_found (neg_ℤ (pos (10 ^ 12))) (pos (10 ^ 12)) ends.0.1 weight.0.0 weight.0.1 weight.1 in
+    let number = number_found (neg_ℤ (pos largest_weight)) (pos largest_weight) ends.0.1 weight.0.0 weight.0.1 weight.1 in
     let last = ended_found weight.0.1 end.0 end.1 in
     subst (λ (r : ((ℕ × ℕ) × ℤ) × LinesLeft). IsItemRead (weighted_line key) (IsWeighted a b) p r.0 r.1) same (record {
       valid = (read.valid, (number.least, number.most));
@@ -184,7 +185,7 @@ pub weighted_again : (key : List ℕ) (a b : ℕ) → is_word key ≡ true → (
 unfolding weighted_at read_weight
 weighted_again key a b keyword p item rest valid left =
     let line = keyed_again key p (numeral (pos item.0.0) ∷ numeral (pos item.0.1) ∷ numeral item.1 ∷ []) rest keyword (ends_words item.0 (numeral item.1 ∷ []) (and_from (is_word (numeral item.1)) true (numeral_word item.1) refl)) left in
-    (line.0, rw (line.1, ends_again a b p.line item.0 (numeral item.1 ∷ []) valid.0, number_at_again (neg_ℤ (pos (10 ^ 12))) (pos (10 ^ 12)) p.line item.1 [] valid.1.0 valid.1.1, ended_again p.line) refl, line.2)
+    (line.0, rw (line.1, ends_again a b p.line item.0 (numeral item.1 ∷ []) valid.0, number_at_again (neg_ℤ (pos largest_weight)) (pos largest_weight) p.line item.1 [] valid.1.0 valid.1.1, ended_again p.line) refl, line.2)
 
 -- an edge with a colour and a weight
 abbrev pub IsColoured : ℕ → ℕ → (ℕ × ℕ) × (ℕ × ℤ) → Type 0
@@ -193,15 +194,15 @@ IsColoured v c item = IsPairBelow v v item.0 × (item.1.0 < c) × IsWeight item.
 pub coloured_edge_found : (v c : ℕ) (p : LinesLeft) (item : (ℕ × ℕ) × (ℕ × ℤ)) (q : LinesLeft) → coloured_edge_at v c p ≡ Ok (item, q) → IsItemRead coloured_edge_line (IsColoured v c) p item q
 unfolding coloured_edge_at read_weight
 coloured_edge_found v c p item q e =
-    let line = bind_found (keyed_at (codes "edge") p) (λ line. ends_at v v line.0 >>= λ ends. count_at 0 c ends.1 >>= λ colour. read_weight colour.1 >>= λ weight. ended_at weight.1 >>= λ end. Ok ((ends.0, (colour.0, weight.0)), line.1)) (item, q) e in
-    let ends = bind_found (ends_at v v line.0.0) (λ ends. count_at 0 c ends.1 >>= λ colour. read_weight colour.1 >>= λ weight. ended_at weight.1 >>= λ end. Ok ((ends.0, (colour.0, weight.0)), line.0.1)) (item, q) line.2 in
-    let colour = bind_found (count_at 0 c ends.0.1) (λ colour. read_weight colour.1 >>= λ weight. ended_at weight.1 >>= λ end. Ok ((ends.0.0, (colour.0, weight.0)), line.0.1)) (item, q) ends.2 in
+    let line = bind_found (keyed_at (codes "edge") p) (λ line. ends_at v v line.0 >>= λ ends. below_at c ends.1 >>= λ colour. read_weight colour.1 >>= λ weight. ended_at weight.1 >>= λ end. Ok ((ends.0, (colour.0, weight.0)), line.1)) (item, q) e in
+    let ends = bind_found (ends_at v v line.0.0) (λ ends. below_at c ends.1 >>= λ colour. read_weight colour.1 >>= λ weight. ended_at weight.1 >>= λ end. Ok ((ends.0, (colour.0, weight.0)), line.0.1)) (item, q) line.2 in
+    let colour = bind_found (below_at c ends.0.1) (λ colour. read_weight colour.1 >>= λ weight. ended_at weight.1 >>= λ end. Ok ((ends.0.0, (colour.0, weight.0)), line.0.1)) (item, q) ends.2 in
     let weight = bind_found (read_weight colour.0.1) (λ weight. ended_at weight.1 >>= λ end. Ok ((ends.0.0, (colour.0.0, weight.0)), line.0.1)) (item, q) colour.2 in
     let end = bind_found (ended_at weight.0.1) (λ end. Ok ((ends.0.0, (colour.0.0, weight.0.0)), line.0.1)) (item, q) weight.2 in
     let same = found-same ((ends.0.0, (colour.0.0, weight.0.0)), line.0.1) (item, q) end.2 in
     let read = ends_found v v line.0.0 ends.0.0 ends.0.1 ends.1 in
-    let hue = count_found 0 c ends.0.1 colour.0.0 colour.0.1 colour.1 in
-    let number = number_found (neg_ℤ (pos (10 ^ 12))) (pos (10 ^ 12)) colour.0.1 weight.0.0 weight.0.1 weight.1 in
+    let hue = below_found c ends.0.1 colour.0.0 colour.0.1 colour.1 in
+    let number = number_found (neg_ℤ (pos largest_weight)) (pos largest_weight) colour.0.1 weight.0.0 weight.0.1 weight.1 in
     let last = ended_found weight.0.1 end.0 end.1 in
     subst (λ (r : ((ℕ × ℕ) × (ℕ × ℤ)) × LinesLeft). IsItemRead coloured_edge_line (IsColoured v c) p r.0 r.1) same (record {
       valid = (read.valid, hue.most, (number.least, number.most));
@@ -214,7 +215,7 @@ coloured_edge_again v c p item rest valid left =
     let weight_word : list_all is_word (numeral item.1.1 ∷ []) ≡ true = and_from (is_word (numeral item.1.1)) true (numeral_word item.1.1) refl in
     let tail_words : list_all is_word (numeral (pos item.1.0) ∷ numeral item.1.1 ∷ []) ≡ true = and_from (is_word (numeral (pos item.1.0))) (list_all is_word (numeral item.1.1 ∷ [])) (numeral_word (pos item.1.0)) weight_word in
     let line = keyed_again (codes "edge") p (numeral (pos item.0.0) ∷ numeral (pos item.0.1) ∷ numeral (pos item.1.0) ∷ numeral item.1.1 ∷ []) rest refl (ends_words item.0 (numeral (pos item.1.0) ∷ numeral item.1.1 ∷ []) tail_words) left in
-    (line.0, rw (line.1, ends_again v v p.line item.0 (numeral (pos item.1.0) ∷ numeral item.1.1 ∷ []) valid.0, count_again 0 c p.line item.1.0 (numeral item.1.1 ∷ []) (omega arith) valid.1, number_at_again (neg_ℤ (pos (10 ^ 12))) (pos (10 ^ 12)) p.line item.1.1 [] valid.2.0 valid.2.1, ended_again p.line) refl, line.2)
+    (line.0, rw (line.1, ends_again v v p.line item.0 (numeral (pos item.1.0) ∷ numeral item.1.1 ∷ []) valid.0, below_again c p.line item.1.0 (numeral item.1.1 ∷ []) valid.1, number_at_again (neg_ℤ (pos largest_weight)) (pos largest_weight) p.line item.1.1 [] valid.2.0 valid.2.1, ended_again p.line) refl, line.2)
 
 -- ---- lists side by side
 

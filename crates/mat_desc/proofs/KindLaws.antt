@@ -6,13 +6,14 @@ use Rattle.std.proofs.lemmas.Slice.Eq.{bytes_eq-Decides}
 use Rattle.mat_words.specs.Numbers.{numeral}
 use Rattle.mat_words.specs.Lines.{Line}
 use Rattle.mat_any.specs.Trees.{Tree, uniform, partition, laminar, graphic, gf2, depth}
+use Rattle.mat_desc.specs.Limits.{most_elements, most_vertices, most_sets, most_digits}
 use Rattle.mat_desc.specs.declared.keywords.Keyword.{Keyword}
 use Rattle.mat_desc.specs.declared.keywords.Keyword.TheVariants as keywords
 use Rattle.mat_desc.specs.Faults.{◌>>=◌, WordsLeft, LinesLeft}
-use Rattle.mat_desc.specs.Reading.{count_at, ended_at, repeat_at, classes_at, nested_sets_at, uniform_at, partition_at, laminar_at, ends_line_at, graphic_at, column_at, gf2_at, keyword_of}
+use Rattle.mat_desc.specs.Reading.{size_at, ended_at, repeat_at, classes_at, nested_sets_at, uniform_at, partition_at, laminar_at, ends_line_at, graphic_at, column_at, gf2_at, keyword_of}
 use Rattle.mat_desc.specs.Grammar.{IsPairBelow, IsValidTree, MatroidLines, ends_line, column_line}
 use Rattle.mat_desc.proofs.ReadingSteps.{found-same, bind_found}
-use Rattle.mat_desc.proofs.WordLaws.{cut_then, count_line, ended_found, count_found}
+use Rattle.mat_desc.proofs.WordLaws.{cut_then, count_line, ended_found, size_found}
 use Rattle.mat_desc.proofs.LineLaws.{AreLeft}
 use Rattle.mat_desc.proofs.ClassLaws.{classes_read, classes_valid}
 use Rattle.mat_desc.proofs.NestedSetLaws.{nested_sets_read, nested_sets_valid}
@@ -66,10 +67,10 @@ pub record IsKindRead (room n : ℕ) (keyword : Keyword) (words : WordsLeft) (li
 pub uniform_found : (room n : ℕ) (words : WordsLeft) (lines : LinesLeft) (tree : Tree) (q : LinesLeft) → uniform_at n words lines ≡ Ok (tree, q) → IsKindRead room n keywords.Uniform words lines tree q
 unfolding uniform_at
 uniform_found room n words lines tree q e =
-    let cap = bind_found (count_at 0 501 words) (λ cap. ended_at cap.1 >>= λ end. Ok (uniform n cap.0, lines)) (tree, q) e in
+    let cap = bind_found (size_at 0 most_elements words) (λ cap. ended_at cap.1 >>= λ end. Ok (uniform n cap.0, lines)) (tree, q) e in
     let end = bind_found (ended_at cap.0.1) (λ end. Ok (uniform n cap.0.0, lines)) (tree, q) cap.2 in
     let same = found-same (uniform n cap.0.0, lines) (tree, q) end.2 in
-    let number = count_found 0 501 words cap.0.0 cap.0.1 cap.1 in
+    let number = size_found 0 most_elements words cap.0.0 cap.0.1 cap.1 in
     let last = ended_found cap.0.1 end.0 end.1 in
     let line : words.words ≡ numeral (pos cap.0.0) ∷ [] = cut_then (numeral (pos cap.0.0)) words.words cap.0.1.words [] number.cut last in
     let one : IsKindRead room n keywords.Uniform words lines (uniform n cap.0.0) lines = record {
@@ -81,14 +82,14 @@ uniform_found room n words lines tree q e =
 pub partition_found : (room n : ℕ) (words : WordsLeft) (lines : LinesLeft) (tree : Tree) (q : LinesLeft) → partition_at n words lines ≡ Ok (tree, q) → IsKindRead room n keywords.Partition words lines tree q
 unfolding partition_at
 partition_found room n words lines tree q e =
-    let many = bind_found (count_at 0 501 words) (λ many. ended_at many.1 >>= λ end. classes_at n many.0 [] lines >>= λ classes. Ok (partition n classes.0 classes.1, classes.2)) (tree, q) e in
+    let many = bind_found (size_at 0 most_sets words) (λ many. ended_at many.1 >>= λ end. classes_at n many.0 [] lines >>= λ classes. Ok (partition n classes.0 classes.1, classes.2)) (tree, q) e in
     let end = bind_found (ended_at many.0.1) (λ end. classes_at n many.0.0 [] lines >>= λ classes. Ok (partition n classes.0 classes.1, classes.2)) (tree, q) many.2 in
     let classes = bind_found (classes_at n many.0.0 [] lines) (λ classes. Ok (partition n classes.0 classes.1, classes.2)) (tree, q) end.2 in
     let same = found-same (partition n classes.0.0 classes.0.1, classes.0.2) (tree, q) classes.2 in
-    let number = count_found 0 501 words many.0.0 many.0.1 many.1 in
+    let number = size_found 0 most_sets words many.0.0 many.0.1 many.1 in
     let last = ended_found many.0.1 end.0 end.1 in
     let read = classes_read n many.0.0 [] lines classes.0.0 classes.0.1 classes.0.2 classes.1 in
-    let few : many.0.0 ≤ 500 = omega (arith, number.most) in
+    let few : many.0.0 ≤ most_sets = omega (arith, number.most) in
     let line : words.words ≡ numeral (pos (length classes.0.0)) ∷ [] = count_line many.0.0 (length classes.0.0) words.words many.0.1.words number.cut last read.count in
     let one : IsKindRead room n keywords.Partition words lines (partition n classes.0.0 classes.0.1) classes.0.2 = record {
       valid = ((refl, classes_valid n many.0.0 lines classes.0.0 classes.0.1 classes.0.2 few read), omega arith);
@@ -101,14 +102,14 @@ partition_found room n words lines tree q e =
 pub laminar_found : (room n : ℕ) (words : WordsLeft) (lines : LinesLeft) (tree : Tree) (q : LinesLeft) → laminar_at n words lines ≡ Ok (tree, q) → IsKindRead room n keywords.Laminar words lines tree q
 unfolding laminar_at
 laminar_found room n words lines tree q e =
-    let many = bind_found (count_at 0 501 words) (λ many. ended_at many.1 >>= λ end. nested_sets_at n many.0 [] lines >>= λ sets. Ok (laminar n sets.0 sets.1, sets.2)) (tree, q) e in
+    let many = bind_found (size_at 0 most_sets words) (λ many. ended_at many.1 >>= λ end. nested_sets_at n many.0 [] lines >>= λ sets. Ok (laminar n sets.0 sets.1, sets.2)) (tree, q) e in
     let end = bind_found (ended_at many.0.1) (λ end. nested_sets_at n many.0.0 [] lines >>= λ sets. Ok (laminar n sets.0 sets.1, sets.2)) (tree, q) many.2 in
     let sets = bind_found (nested_sets_at n many.0.0 [] lines) (λ sets. Ok (laminar n sets.0 sets.1, sets.2)) (tree, q) end.2 in
     let same = found-same (laminar n sets.0.0 sets.0.1, sets.0.2) (tree, q) sets.2 in
-    let number = count_found 0 501 words many.0.0 many.0.1 many.1 in
+    let number = size_found 0 most_sets words many.0.0 many.0.1 many.1 in
     let last = ended_found many.0.1 end.0 end.1 in
     let read = nested_sets_read n many.0.0 [] lines sets.0.0 sets.0.1 sets.0.2 sets.1 in
-    let few : many.0.0 ≤ 500 = omega (arith, number.most) in
+    let few : many.0.0 ≤ most_sets = omega (arith, number.most) in
     let line : words.words ≡ numeral (pos (length sets.0.0)) ∷ [] = count_line many.0.0 (length sets.0.0) words.words many.0.1.words number.cut last read.count in
     let one : IsKindRead room n keywords.Laminar words lines (laminar n sets.0.0 sets.0.1) sets.0.2 = record {
       valid = ((refl, nested_sets_valid n many.0.0 lines sets.0.0 sets.0.1 sets.0.2 few read), omega arith);
@@ -121,11 +122,11 @@ laminar_found room n words lines tree q e =
 pub graphic_found : (room n : ℕ) (words : WordsLeft) (lines : LinesLeft) (tree : Tree) (q : LinesLeft) → graphic_at n words lines ≡ Ok (tree, q) → IsKindRead room n keywords.Graphic words lines tree q
 unfolding graphic_at
 graphic_found room n words lines tree q e =
-    let vertices = bind_found (count_at 1 501 words) (λ vertices. ended_at vertices.1 >>= λ end. repeat_at (ends_line_at (codes "edge") vertices.0) n lines >>= λ edges. Ok (graphic vertices.0 edges.0, edges.1)) (tree, q) e in
+    let vertices = bind_found (size_at 1 most_vertices words) (λ vertices. ended_at vertices.1 >>= λ end. repeat_at (ends_line_at (codes "edge") vertices.0) n lines >>= λ edges. Ok (graphic vertices.0 edges.0, edges.1)) (tree, q) e in
     let end = bind_found (ended_at vertices.0.1) (λ end. repeat_at (ends_line_at (codes "edge") vertices.0.0) n lines >>= λ edges. Ok (graphic vertices.0.0 edges.0, edges.1)) (tree, q) vertices.2 in
     let edges = bind_found (repeat_at (ends_line_at (codes "edge") vertices.0.0) n lines) (λ edges. Ok (graphic vertices.0.0 edges.0, edges.1)) (tree, q) end.2 in
     let same = found-same (graphic vertices.0.0 edges.0.0, edges.0.1) (tree, q) edges.2 in
-    let number = count_found 1 501 words vertices.0.0 vertices.0.1 vertices.1 in
+    let number = size_found 1 most_vertices words vertices.0.0 vertices.0.1 vertices.1 in
     let last = ended_found vertices.0.1 end.0 end.1 in
     let read = items_found (ends_line_at (codes "edge") vertices.0.0) (ends_line (codes "edge")) (IsPairBelow vertices.0.0 vertices.0.0) (ends_line_found (codes "edge") vertices.0.0) n lines edges.0.0 edges.0.1 edges.1 in
     let line : words.words ≡ numeral (pos vertices.0.0) ∷ [] = cut_then (numeral (pos vertices.0.0)) words.words vertices.0.1.words [] number.cut last in
@@ -138,11 +139,11 @@ graphic_found room n words lines tree q e =
 pub gf2_found : (room n : ℕ) (words : WordsLeft) (lines : LinesLeft) (tree : Tree) (q : LinesLeft) → gf2_at n words lines ≡ Ok (tree, q) → IsKindRead room n keywords.Gf2 words lines tree q
 unfolding gf2_at
 gf2_found room n words lines tree q e =
-    let dim = bind_found (count_at 1 129 words) (λ dim. ended_at dim.1 >>= λ end. repeat_at (column_at dim.0) n lines >>= λ columns. Ok (gf2 dim.0 columns.0, columns.1)) (tree, q) e in
+    let dim = bind_found (size_at 1 most_digits words) (λ dim. ended_at dim.1 >>= λ end. repeat_at (column_at dim.0) n lines >>= λ columns. Ok (gf2 dim.0 columns.0, columns.1)) (tree, q) e in
     let end = bind_found (ended_at dim.0.1) (λ end. repeat_at (column_at dim.0.0) n lines >>= λ columns. Ok (gf2 dim.0.0 columns.0, columns.1)) (tree, q) dim.2 in
     let columns = bind_found (repeat_at (column_at dim.0.0) n lines) (λ columns. Ok (gf2 dim.0.0 columns.0, columns.1)) (tree, q) end.2 in
     let same = found-same (gf2 dim.0.0 columns.0.0, columns.0.1) (tree, q) columns.2 in
-    let number = count_found 1 129 words dim.0.0 dim.0.1 dim.1 in
+    let number = size_found 1 most_digits words dim.0.0 dim.0.1 dim.1 in
     let last = ended_found dim.0.1 end.0 end.1 in
     let read = items_found (column_at dim.0.0) (column_line dim.0.0) (IsColumn dim.0.0) (column_found dim.0.0) n lines columns.0.0 columns.0.1 columns.1 in
     let line : words.words ≡ numeral (pos dim.0.0) ∷ [] = cut_then (numeral (pos dim.0.0)) words.words dim.0.1.words [] number.cut last in

@@ -4,12 +4,13 @@ use Rattle.std.specs.Prelude.{codes}
 use Rattle.mat_words.specs.Numbers.{numeral, numerals}
 use Rattle.mat_words.specs.Lines.{Line}
 use Rattle.mat_any.specs.Trees.{Tree, transversal, gammoid}
+use Rattle.mat_desc.specs.Limits.{most_vertices, most_sets, most_arcs}
 use Rattle.mat_desc.specs.declared.keywords.Keyword.TheVariants as keywords
 use Rattle.mat_desc.specs.Faults.{Fault, ◌>>=◌, WordsLeft, LinesLeft}
-use Rattle.mat_desc.specs.Reading.{count_at, ended_at, repeat_at, set_line_at, transversal_at, targets_at, ends_line_at, gammoid_at}
+use Rattle.mat_desc.specs.Reading.{size_at, ended_at, repeat_at, set_line_at, transversal_at, targets_at, ends_line_at, gammoid_at}
 use Rattle.mat_desc.specs.Grammar.{IsPairBelow, IsValidTree, Lists, FamilyLines, ends_line}
 use Rattle.mat_desc.proofs.ReadingSteps.{found-same, bind_found}
-use Rattle.mat_desc.proofs.WordLaws.{count_line, ended_found, ended_again, count_found, count_again}
+use Rattle.mat_desc.proofs.WordLaws.{count_line, ended_found, ended_again, size_found, size_again}
 use Rattle.mat_desc.proofs.LineLaws.{AreLeft}
 use Rattle.mat_desc.proofs.ItemLaws.{items_found, items_again, ends_line_found, ends_line_again}
 use Rattle.mat_desc.proofs.SetLineLaws.{set_line_found, set_line_again, family_found, family_again}
@@ -26,16 +27,16 @@ pub transversal_found : (room n : ℕ) (words : WordsLeft) (lines : LinesLeft) (
     → transversal_at n words lines ≡ Ok (tree, q) → IsKindRead room n keywords.Transversal words lines tree q
 unfolding transversal_at
 transversal_found room n words lines tree q e =
-    let many = bind_found (count_at 0 501 words) (λ many. ended_at many.1 >>= λ end. family_step n many.0 lines) (tree, q) e in
+    let many = bind_found (size_at 0 most_sets words) (λ many. ended_at many.1 >>= λ end. family_step n many.0 lines) (tree, q) e in
     let end = bind_found (ended_at many.0.1) (λ end. family_step n many.0.0 lines) (tree, q) many.2 in
     let family = bind_found (repeat_at (set_line_at (codes "set") n) many.0.0 lines) (λ family. Ok (transversal n family.0, family.1)) (tree, q) end.2 in
     let same = found-same (transversal n family.0.0, family.0.1) (tree, q) family.2 in
-    let number = count_found 0 501 words many.0.0 many.0.1 many.1 in
+    let number = size_found 0 most_sets words many.0.0 many.0.1 many.1 in
     let last = ended_found many.0.1 end.0 end.1 in
     let read = family_found n many.0.0 lines family.0.0 family.0.1 family.1 in
     let line : words.words ≡ numeral (pos (length family.0.0)) ∷ [] =
     count_line many.0.0 (length family.0.0) words.words many.0.1.words number.cut last read.count in
-    let few : length family.0.0 ≤ 500 = omega (arith, read.count, number.most) in
+    let few : length family.0.0 ≤ most_sets = omega (arith, read.count, number.most) in
     let one : IsKindRead room n keywords.Transversal words lines (transversal n family.0.0) family.0.1 = record {
       valid = ((refl, few, read.in_range), omega arith);
       spelled = λ rest left.
@@ -49,7 +50,7 @@ pub transversal_again : (n line m : ℕ) (family : List (List ℕ)) (p : LinesLe
     → (q : LinesLeft) × (transversal_at n (record { line = line; words = numeral (pos (length family)) ∷ [] }) p ≡ Ok (transversal m family, q)) × AreLeft rest q
 unfolding transversal_at
 transversal_again n line m family p lines rest valid spelled left =
-    let many = count_again 0 501 line (length family) [] (omega arith) (omega (arith, valid.1)) in
+    let many = size_again 0 most_sets line (length family) [] (omega arith) (omega (arith, valid.1)) in
     let read = family_again n p family lines rest valid.2 spelled left in
     (read.0, rw (many, ended_again line, read.1, valid.0) refl, read.2)
 
@@ -67,18 +68,18 @@ pub gammoid_found : (room n : ℕ) (words : WordsLeft) (lines : LinesLeft) (tree
     → IsKindRead room n keywords.Gammoid words lines tree q
 unfolding gammoid_at
 gammoid_found room n words lines tree q e =
-    let vertices = bind_found (count_at 1 501 words)
-    (λ v. count_at 0 20001 v.1 >>= λ many. ended_at many.1 >>= λ end. sources_step n v.0 many.0 lines) (tree, q) e in
+    let vertices = bind_found (size_at 1 most_vertices words)
+    (λ v. size_at 0 most_arcs v.1 >>= λ many. ended_at many.1 >>= λ end. sources_step n v.0 many.0 lines) (tree, q) e in
     let v = vertices.0.0 in
-    let many = bind_found (count_at 0 20001 vertices.0.1) (λ many. ended_at many.1 >>= λ end. sources_step n v many.0 lines) (tree, q) vertices.2 in
+    let many = bind_found (size_at 0 most_arcs vertices.0.1) (λ many. ended_at many.1 >>= λ end. sources_step n v many.0 lines) (tree, q) vertices.2 in
     let end = bind_found (ended_at many.0.1) (λ end. sources_step n v many.0.0 lines) (tree, q) many.2 in
     let sources = bind_found (set_line_at (codes "sources") v lines) (λ sources. targets_at v n sources.1 >>= arcs_step v many.0.0 sources.0) (tree, q) end.2 in
     let targets = bind_found (targets_at v n sources.0.1) (arcs_step v many.0.0 sources.0.0) (tree, q) sources.2 in
     let arcs = bind_found (repeat_at (ends_line_at (codes "arc") v) many.0.0 targets.0.1)
     (λ arcs. Ok (gammoid v arcs.0 sources.0.0 targets.0.0, arcs.1)) (tree, q) targets.2 in
     let same = found-same (gammoid v arcs.0.0 sources.0.0 targets.0.0, arcs.0.1) (tree, q) arcs.2 in
-    let first = count_found 1 501 words v vertices.0.1 vertices.1 in
-    let second = count_found 0 20001 vertices.0.1 many.0.0 many.0.1 many.1 in
+    let first = size_found 1 most_vertices words v vertices.0.1 vertices.1 in
+    let second = size_found 0 most_arcs vertices.0.1 many.0.0 many.0.1 many.1 in
     let last = ended_found many.0.1 end.0 end.1 in
     let starts = set_line_found (codes "sources") v lines sources.0.0 sources.0.1 sources.1 in
     let ends = targets_found v n sources.0.1 targets.0.0 targets.0.1 targets.1 in
@@ -106,8 +107,8 @@ pub gammoid_again : (n line vertices : ℕ) (arcs : List (ℕ × ℕ)) (sources 
 unfolding gammoid_at
 gammoid_again n line vertices arcs sources targets xs p rest valid lists left =
     let arc_lines = map (ends_line (codes "arc")) arcs ++ rest in
-    let number = count_again 1 501 line vertices (numeral (pos (length arcs)) ∷ []) valid.1 (omega (arith, valid.2)) in
-    let many = count_again 0 20001 line (length arcs) [] (omega arith) (omega (arith, valid.3)) in
+    let number = size_again 1 most_vertices line vertices (numeral (pos (length arcs)) ∷ []) valid.1 (omega (arith, valid.2)) in
+    let many = size_again 0 most_arcs line (length arcs) [] (omega arith) (omega (arith, valid.3)) in
     let starts = set_line_again (codes "sources") vertices refl p sources xs ((codes "targets" ∷ numerals targets) ∷ arc_lines) valid.5 lists left in
     let ends = targets_again vertices n starts.0 targets arc_lines valid.0 valid.6 valid.7 starts.2 in
     let arc_again = ends_line_again (codes "arc") vertices refl in

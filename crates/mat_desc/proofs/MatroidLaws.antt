@@ -10,14 +10,15 @@ use Rattle.mat_words.specs.Numbers.{numeral, numerals}
 use Rattle.mat_words.proofs.NumberLemmas.{numeral_word}
 use Rattle.mat_any.specs.Trees.{Tree, uniform, partition, laminar, graphic, transversal, gammoid, gf2, dual, truncate, restrict, contract, depth}
 use Rattle.mat_words.specs.Lines.{Line}
+use Rattle.mat_desc.specs.Limits.{most_elements, most_vertices, most_sets, most_digits, deepest}
 use Rattle.mat_desc.specs.declared.keywords.Keyword.{Keyword}
 use Rattle.mat_desc.specs.declared.keywords.Keyword.TheVariants as keywords
 use Rattle.mat_desc.specs.declared.refusal.DescKind.TheVariants.{TooDeep}
 use Rattle.mat_desc.specs.Faults.{Fault, ◌>>=◌, WordsLeft, LinesLeft}
-use Rattle.mat_desc.specs.Reading.{line_at, word_at, count_at, ended_at, elements_at, uniform_at, partition_at, laminar_at, ends_line_at, graphic_at, column_at, gf2_at, TreeReader, dual_at, truncate_at, restrict_at, contract_at, keyword_of, kind_at, matroid_within, matroid_at}
+use Rattle.mat_desc.specs.Reading.{line_at, word_at, size_at, ended_at, elements_at, uniform_at, partition_at, laminar_at, ends_line_at, graphic_at, column_at, gf2_at, TreeReader, dual_at, truncate_at, restrict_at, contract_at, keyword_of, kind_at, matroid_within, matroid_at}
 use Rattle.mat_desc.specs.Grammar.{IsPairBelow, IsValidTree, IsValidMatroid, AreClasses, AreNestedSets, MatroidLines, ends_line, column_line}
 use Rattle.mat_desc.proofs.ReadingSteps.{found-same, bind_found}
-use Rattle.mat_desc.proofs.WordLaws.{cut_then, word_found, ended_found, ended_again, count_found, count_again, numerals_words}
+use Rattle.mat_desc.proofs.WordLaws.{cut_then, word_found, ended_found, ended_again, size_found, size_again, numerals_words}
 use Rattle.mat_desc.proofs.LineLaws.{AreLeft, line_found, line_again}
 use Rattle.mat_desc.proofs.ElementLaws.{elements_found, Lists-read, IsSet-read, set_again}
 use Rattle.mat_desc.proofs.ClassLaws.{classes_again}
@@ -74,9 +75,9 @@ truncate_found : (room n : ℕ) (inner : TreeReader) → ReadsSpelled room n inn
     → IsKindRead room n keywords.Truncate words lines tree q
 unfolding truncate_at
 truncate_found room n inner right words lines tree q e =
-    let cap = bind_found (count_at 0 501 words) (λ cap. ended_at cap.1 >>= λ end. inner lines >>= λ t. Ok (truncate cap.0 t.0, t.1)) (tree, q) e in
+    let cap = bind_found (size_at 0 most_elements words) (λ cap. ended_at cap.1 >>= λ end. inner lines >>= λ t. Ok (truncate cap.0 t.0, t.1)) (tree, q) e in
     let end = bind_found (ended_at cap.0.1) (λ end. inner lines >>= λ t. Ok (truncate cap.0.0 t.0, t.1)) (tree, q) cap.2 in
-    let number = count_found 0 501 words cap.0.0 cap.0.1 cap.1 in
+    let number = size_found 0 most_elements words cap.0.0 cap.0.1 cap.1 in
     let line = cut_then (numeral (pos cap.0.0)) words.words cap.0.1.words [] number.cut (ended_found cap.0.1 end.0 end.1) in
     made_found room n keywords.Truncate (truncate cap.0.0) inner right (λ t valid. (omega (arith, number.most), valid)) (λ t. refl) words
     (λ t more rest spelled. (more, ap (λ (w : Line). (codes "truncate" ∷ w) ∷ more) line, spelled)) lines tree q end.2
@@ -145,8 +146,8 @@ unfolding matroid_within
 within_found zero n p tree q e = let line = bind_found (line_at p) (λ line. Err (TooDeep, p.line)) (tree, q) e in absurd (cc line.2)
 within_found (suc room) n p tree q e = node_found room n (matroid_within room n) (λ lines t rest h. within_found room n lines t rest h) p tree q e
 
-pub matroid_found : (n : ℕ) (p : LinesLeft) (tree : Tree) (q : LinesLeft) → matroid_at n p ≡ Ok (tree, q) → IsMatroidRead 16 n p tree q
-matroid_found n p tree q e = within_found 16 n p tree q e
+pub matroid_found : (n : ℕ) (p : LinesLeft) (tree : Tree) (q : LinesLeft) → matroid_at n p ≡ Ok (tree, q) → IsMatroidRead deepest n p tree q
+matroid_found n p tree q e = within_found deepest n p tree q e
 
 -- ---- what is spelled is read
 
@@ -155,26 +156,26 @@ unfolding word_at uniform_at partition_at laminar_at graphic_at gf2_at dual_at t
 node_again room n inner right p (uniform m cap) lines rest valid shallow spelled left =
     let number_word : list_all is_word (codes "uniform" ∷ numeral (pos cap) ∷ []) ≡ true = and_from (is_word (numeral (pos cap))) true (numeral_word (pos cap)) refl in
     let line = line_again p (codes "uniform" ∷ numeral (pos cap) ∷ []) rest (omega arith) number_word (subst (λ (ls : List Line). AreLeft ls p) spelled left) in
-    let number = count_again 0 501 p.line cap [] (omega arith) (omega (arith, valid.1)) in
+    let number = size_again 0 most_elements p.line cap [] (omega arith) (omega (arith, valid.1)) in
     (line.0, rw (line.1, number, ended_again p.line, valid.0) refl, line.2)
 node_again room n inner right p (partition m classes caps) lines rest valid shallow spelled left =
     let ranged : AreClasses n classes caps = valid.1 in
     let number_word : list_all is_word (codes "partition" ∷ numeral (pos (length classes)) ∷ []) ≡ true = and_from (is_word (numeral (pos (length classes)))) true (numeral_word (pos (length classes))) refl in
     let line = line_again p (codes "partition" ∷ numeral (pos (length classes)) ∷ []) spelled.0 (omega arith) number_word (subst (λ (ls : List Line). AreLeft ls p) spelled.1 left) in
-    let number = count_again 0 501 p.line (length classes) [] (omega arith) (omega (arith, ranged.few)) in
+    let number = size_again 0 most_sets p.line (length classes) [] (omega arith) (omega (arith, ranged.few)) in
     let read = classes_again n [] line.0 classes caps spelled.0 rest ranged.caps_small ranged.sets (λ x. omega (arith, ranged.disjoint.once x)) spelled.2 line.2 in
     (read.0, rw (line.1, number, ended_again p.line, read.1, valid.0) refl, read.2)
 node_again room n inner right p (laminar m sets caps) lines rest valid shallow spelled left =
     let ranged : AreNestedSets n sets caps = valid.1 in
     let number_word : list_all is_word (codes "laminar" ∷ numeral (pos (length sets)) ∷ []) ≡ true = and_from (is_word (numeral (pos (length sets)))) true (numeral_word (pos (length sets))) refl in
     let line = line_again p (codes "laminar" ∷ numeral (pos (length sets)) ∷ []) spelled.0 (omega arith) number_word (subst (λ (ls : List Line). AreLeft ls p) spelled.1 left) in
-    let number = count_again 0 501 p.line (length sets) [] (omega arith) (omega (arith, ranged.few)) in
+    let number = size_again 0 most_sets p.line (length sets) [] (omega arith) (omega (arith, ranged.few)) in
     let read = nested_sets_again n [] line.0 sets caps spelled.0 rest ranged.caps_small ranged.sets_inside ranged.family spelled.2 line.2 in
     (read.0, rw (line.1, number, ended_again p.line, read.1, valid.0) refl, read.2)
 node_again room n inner right p (graphic vertices edges) lines rest valid shallow spelled left =
     let number_word : list_all is_word (codes "graphic" ∷ numeral (pos vertices) ∷ []) ≡ true = and_from (is_word (numeral (pos vertices))) true (numeral_word (pos vertices)) refl in
     let line = line_again p (codes "graphic" ∷ numeral (pos vertices) ∷ []) (map (ends_line (codes "edge")) edges ++ rest) (omega arith) number_word (subst (λ (ls : List Line). AreLeft ls p) spelled left) in
-    let number = count_again 1 501 p.line vertices [] valid.1 (omega (arith, valid.2)) in
+    let number = size_again 1 most_vertices p.line vertices [] valid.1 (omega (arith, valid.2)) in
     let read = items_again (ends_line_at (codes "edge") vertices) (ends_line (codes "edge")) (IsPairBelow vertices vertices) (ends_line_again (codes "edge") vertices refl) line.0 edges rest valid.3 line.2 in
     (read.0, rw (line.1, number, ended_again p.line, ← valid.0, read.1) refl, read.2)
 node_again room n inner right p (transversal m family) lines rest valid shallow spelled left =
@@ -192,7 +193,7 @@ node_again room n inner right p (gammoid vertices arcs sources targets) lines re
 node_again room n inner right p (gf2 dim columns) lines rest valid shallow spelled left =
     let number_word : list_all is_word (codes "gf2" ∷ numeral (pos dim) ∷ []) ≡ true = and_from (is_word (numeral (pos dim))) true (numeral_word (pos dim)) refl in
     let line = line_again p (codes "gf2" ∷ numeral (pos dim) ∷ []) (map (column_line dim) columns ++ rest) (omega arith) number_word (subst (λ (ls : List Line). AreLeft ls p) spelled left) in
-    let number = count_again 1 129 p.line dim [] valid.1 (omega (arith, valid.2)) in
+    let number = size_again 1 most_digits p.line dim [] valid.1 (omega (arith, valid.2)) in
     let read = items_again (column_at dim) (column_line dim) (IsColumn dim) (column_again dim valid.1) line.0 columns rest valid.3 line.2 in
     (read.0, rw (line.1, number, ended_again p.line, ← valid.0, read.1) refl, read.2)
 node_again room n inner right p (dual t) lines rest valid shallow spelled left =
@@ -202,7 +203,7 @@ node_again room n inner right p (dual t) lines rest valid shallow spelled left =
 node_again room n inner right p (truncate cap t) lines rest valid shallow spelled left =
     let number_word : list_all is_word (codes "truncate" ∷ numeral (pos cap) ∷ []) ≡ true = and_from (is_word (numeral (pos cap))) true (numeral_word (pos cap)) refl in
     let line = line_again p (codes "truncate" ∷ numeral (pos cap) ∷ []) spelled.0 (omega arith) number_word (subst (λ (ls : List Line). AreLeft ls p) spelled.1 left) in
-    let number = count_again 0 501 p.line cap [] (omega arith) (omega (arith, valid.0)) in
+    let number = size_again 0 most_elements p.line cap [] (omega arith) (omega (arith, valid.0)) in
     let within = right line.0 t spelled.0 rest valid.1 (omega (arith, shallow)) spelled.2 line.2 in
     (within.0, rw (line.1, number, ended_again p.line, within.1) refl, within.2)
 node_again room n inner right p (restrict kept t) lines rest valid shallow spelled left =
@@ -240,4 +241,4 @@ within_again (suc room) n p tree lines rest valid shallow spelled left =
 
 pub matroid_again : (n : ℕ) (p : LinesLeft) (tree : Tree) (lines rest : List Line) → IsValidMatroid n tree → MatroidLines tree lines rest → AreLeft lines p
     → (q : LinesLeft) × (matroid_at n p ≡ Ok (tree, q)) × AreLeft rest q
-matroid_again n p tree lines rest valid spelled left = within_again 16 n p tree lines rest valid.0 valid.1 spelled left
+matroid_again n p tree lines rest valid spelled left = within_again deepest n p tree lines rest valid.0 valid.1 spelled left

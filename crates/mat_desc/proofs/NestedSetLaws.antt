@@ -10,9 +10,10 @@ use Rattle.mat_words.specs.Lines.{Line}
 use Rattle.mat_count.specs.Laminar.{is_crossed, IsLaminarFamily}
 use Rattle.mat_count.specs.LaminarMatroids.{IsLaminar}
 use Rattle.mat_count.proofs.CrossedSets.{IsLaminarFamily-nil, IsLaminarFamily-more, IsLaminarFamily-free}
+use Rattle.mat_desc.specs.Limits.{most_elements, most_sets}
 use Rattle.mat_desc.specs.declared.refusal.DescKind.TheVariants.{Crossing}
 use Rattle.mat_desc.specs.Faults.{◌>>=◌, WordsLeft, LinesLeft}
-use Rattle.mat_desc.specs.Reading.{keyed_at, count_at, elements_at, nested_set_at, nested_sets_at}
+use Rattle.mat_desc.specs.Reading.{keyed_at, size_at, elements_at, nested_set_at, nested_sets_at}
 use Rattle.mat_desc.specs.Grammar.{Lists, CappedLines, AreNestedSets}
 use Rattle.mat_desc.proofs.ReadingSteps.{found-same, bind_found, refused_found}
 use Rattle.mat_desc.proofs.LineLaws.{AreLeft}
@@ -23,14 +24,14 @@ use Rattle.mat_desc.proofs.ElementLaws.{with_each}
 record IsNestedRead (n : ℕ) (earlier : List (List ℕ)) (p : LinesLeft) (cap : ℕ) (set : List ℕ) (q : LinesLeft) : Type 0 where
   xs : List ℕ
   lists : Lists xs set
-  small : cap ≤ 500
+  small : cap ≤ most_elements
   in_range : IsSet n set
   free : is_crossed earlier set ≡ false
   spelled : (rest : List Line) → AreLeft rest q → AreLeft (listed_line (codes "set") cap xs ∷ rest) p
 
 -- the steps of a set line, and the test behind them
 nested_steps : (n : ℕ) (earlier : List (List ℕ)) (p : LinesLeft) (line : WordsLeft × LinesLeft) (cap : ℕ × WordsLeft) (elements : List ℕ × List ℕ)
-    → keyed_at (codes "set") p ≡ Ok line → count_at 0 501 line.0 ≡ Ok cap → elements_at n [] cap.1 ≡ Ok elements → is_crossed earlier elements.0 ≡ false
+    → keyed_at (codes "set") p ≡ Ok line → size_at 0 most_elements line.0 ≡ Ok cap → elements_at n [] cap.1 ≡ Ok elements → is_crossed earlier elements.0 ≡ false
     → nested_set_at n earlier p ≡ Ok (cap.0, elements.0, line.1)
 unfolding nested_set_at
 nested_steps n earlier p line cap elements e f g free = rw (e, f, g, free) refl
@@ -39,9 +40,9 @@ nested_read : (n : ℕ) (earlier : List (List ℕ)) (p : LinesLeft) (cap : ℕ) 
     → nested_set_at n earlier p ≡ Ok (cap, set, q) → IsNestedRead n earlier p cap set q
 unfolding nested_set_at
 nested_read n earlier p cap set q e =
-    let line = bind_found (keyed_at (codes "set") p) (λ line. count_at 0 501 line.0 >>= λ cap. elements_at n [] cap.1 >>= λ elements.
+    let line = bind_found (keyed_at (codes "set") p) (λ line. size_at 0 most_elements line.0 >>= λ cap. elements_at n [] cap.1 >>= λ elements.
     cond (is_crossed earlier elements.0) (Err (Crossing, p.line)) (Ok (cap.0, elements.0, line.1))) (cap, set, q) e in
-    let caps = bind_found (count_at 0 501 line.0.0) (λ cap. elements_at n [] cap.1 >>= λ elements.
+    let caps = bind_found (size_at 0 most_elements line.0.0) (λ cap. elements_at n [] cap.1 >>= λ elements.
     cond (is_crossed earlier elements.0) (Err (Crossing, p.line)) (Ok (cap.0, elements.0, line.0.1))) (cap, set, q) line.2 in
     let elements = bind_found (elements_at n [] caps.0.1) (λ elements.
     cond (is_crossed earlier elements.0) (Err (Crossing, p.line)) (Ok (caps.0.0, elements.0, line.0.1))) (cap, set, q) caps.2 in
@@ -60,7 +61,7 @@ nested_read n earlier p cap set q e =
     subst (λ (r : ℕ × List ℕ × LinesLeft). IsNestedRead n earlier p r.0 r.1 r.2) same one
 
 nested_again : (n : ℕ) (earlier : List (List ℕ)) (p : LinesLeft) (cap : ℕ) (set xs : List ℕ) (rest : List Line)
-    → cap ≤ 500 → IsSet n set → Lists xs set → is_crossed earlier set ≡ false → AreLeft (listed_line (codes "set") cap xs ∷ rest) p
+    → cap ≤ most_elements → IsSet n set → Lists xs set → is_crossed earlier set ≡ false → AreLeft (listed_line (codes "set") cap xs ∷ rest) p
     → (q : LinesLeft) × (nested_set_at n earlier p ≡ Ok (cap, set, q)) × AreLeft rest q
 nested_again n earlier p cap set xs rest small in_range lists free left =
     let whole = capped_again (codes "set") n [] p cap set xs rest refl small in_range lists (λ x h. refl) left in
@@ -68,8 +69,8 @@ nested_again n earlier p cap set xs rest small in_range lists free left =
   where
     judged : (taken : List ℕ) (q : LinesLeft) → capped_at (codes "set") n [] p ≡ Ok (cap, set, taken, q) → nested_set_at n earlier p ≡ Ok (cap, set, q)
     judged taken q e =
-        let line = bind_found (keyed_at (codes "set") p) (λ line. count_at 0 501 line.0 >>= λ cap. elements_at n [] cap.1 >>= λ elements. Ok (cap.0, elements.0, elements.1, line.1)) (cap, set, taken, q) e in
-        let caps = bind_found (count_at 0 501 line.0.0) (λ cap. elements_at n [] cap.1 >>= λ elements. Ok (cap.0, elements.0, elements.1, line.0.1)) (cap, set, taken, q) line.2 in
+        let line = bind_found (keyed_at (codes "set") p) (λ line. size_at 0 most_elements line.0 >>= λ cap. elements_at n [] cap.1 >>= λ elements. Ok (cap.0, elements.0, elements.1, line.1)) (cap, set, taken, q) e in
+        let caps = bind_found (size_at 0 most_elements line.0.0) (λ cap. elements_at n [] cap.1 >>= λ elements. Ok (cap.0, elements.0, elements.1, line.0.1)) (cap, set, taken, q) line.2 in
         let elements = bind_found (elements_at n [] caps.0.1) (λ elements. Ok (caps.0.0, elements.0, elements.1, line.0.1)) (cap, set, taken, q) caps.2 in
         let same = found-same (caps.0.0, elements.0.0, elements.0.1, line.0.1) (cap, set, taken, q) elements.2 in
         let here = ap (λ (r : ℕ × List ℕ × List ℕ × LinesLeft). is_crossed earlier r.1) same ∙ free in
@@ -81,7 +82,7 @@ nested_again n earlier p cap set xs rest small in_range lists free left =
 pub record AreNestedSetsRead (n many : ℕ) (earlier : List (List ℕ)) (p : LinesLeft) (sets : List (List ℕ)) (caps : List ℕ) (q : LinesLeft) : Type 0 where
   pub count : length sets ≡ many
   pub as_many : length caps ≡ length sets
-  pub small : All (λ cap. cap ≤ 500) caps
+  pub small : All (λ cap. cap ≤ most_elements) caps
   pub in_range : All (IsSet n) sets
   pub family : IsLaminarFamily earlier → IsLaminarFamily (earlier ++ sets)
   pub spelled : (rest : List Line) → AreLeft rest q → (lines : List Line) × CappedLines (codes "set") sets caps lines rest × AreLeft lines p
@@ -94,7 +95,7 @@ nested_sets_read n zero earlier p sets caps q e =
     let none : AreNestedSetsRead n 0 earlier p [] [] p = record {
       count = refl;
       as_many = refl;
-      small = All-nil (λ cap. cap ≤ 500);
+      small = All-nil (λ cap. cap ≤ most_elements);
       in_range = All-nil (IsSet n);
       family = subst IsLaminarFamily (sym (append-nil earlier));
       spelled = λ rest left. (rest, refl, left);
@@ -111,7 +112,7 @@ nested_sets_read n (suc many) earlier p sets caps q e =
     let all : AreNestedSetsRead n (suc many) earlier p (first.0.1 ∷ others.0.0) (first.0.0 ∷ others.0.1) others.0.2 = record {
       count = ap suc more.count;
       as_many = ap suc more.as_many;
-      small = All-cons (λ cap. cap ≤ 500) first.0.0 others.0.1 one.small more.small;
+      small = All-cons (λ cap. cap ≤ most_elements) first.0.0 others.0.1 one.small more.small;
       in_range = All-cons (IsSet n) first.0.1 others.0.0 one.in_range more.in_range;
       family = λ before. subst IsLaminarFamily (append_assoc earlier (first.0.1 ∷ []) others.0.0) (more.family (IsLaminarFamily-more earlier first.0.1 before one.free));
       spelled = λ rest left.
@@ -121,7 +122,7 @@ nested_sets_read n (suc many) earlier p sets caps q e =
     subst (λ (r : List (List ℕ) × List ℕ × LinesLeft). AreNestedSetsRead n (suc many) earlier p r.0 r.1 r.2) same all
 
 pub nested_sets_again : (n : ℕ) (earlier : List (List ℕ)) (p : LinesLeft) (sets : List (List ℕ)) (caps : List ℕ) (lines rest : List Line)
-    → All (λ cap. cap ≤ 500) caps → All (IsSet n) sets → IsLaminarFamily (earlier ++ sets) → CappedLines (codes "set") sets caps lines rest → AreLeft lines p
+    → All (λ cap. cap ≤ most_elements) caps → All (IsSet n) sets → IsLaminarFamily (earlier ++ sets) → CappedLines (codes "set") sets caps lines rest → AreLeft lines p
     → (q : LinesLeft) × (nested_sets_at n (length sets) earlier p ≡ Ok (sets, caps, q)) × AreLeft rest q
 unfolding nested_sets_at
 nested_sets_again n earlier p [] [] lines rest small in_range family spelled left = (p, refl, subst (λ (ls : List Line). AreLeft ls p) spelled left)
@@ -130,11 +131,11 @@ nested_sets_again n earlier p (set ∷ sets) [] lines rest small in_range family
 nested_sets_again n earlier p (set ∷ sets) (cap ∷ caps) lines rest small in_range family spelled left =
     let here = subst (λ (ls : List Line). AreLeft ls p) spelled.3 left in
     let free = IsLaminarFamily-free earlier set sets family in
-    let first_small = All-head (λ cap. cap ≤ 500) cap caps small in
+    let first_small = All-head (λ cap. cap ≤ most_elements) cap caps small in
     let first_set = All-head (IsSet n) set sets in_range in
     let first = nested_again n earlier p cap set spelled.0 spelled.1 first_small first_set spelled.2 free here in
     let later = subst IsLaminarFamily (sym (append_assoc earlier (set ∷ []) sets)) family in
-    let others_small = All-tail (λ cap. cap ≤ 500) cap caps small in
+    let others_small = All-tail (λ cap. cap ≤ most_elements) cap caps small in
     let others_sets = All-tail (IsSet n) set sets in_range in
     let others = nested_sets_again n (earlier ++ set ∷ []) first.0 sets caps spelled.1 rest others_small others_sets later spelled.4 first.2 in
     (others.0, rw (first.1, others.1) refl, others.2)
@@ -150,13 +151,13 @@ nested_sets_sound n many p sets caps q e =
 
 -- they are as many as were asked for
 pub nested_sets_few : (n many : ℕ) (p : LinesLeft) (sets : List (List ℕ)) (caps : List ℕ) (q : LinesLeft)
-    → nested_sets_at n many [] p ≡ Ok (sets, caps, q) → many < 501 → length sets < 2 ^ 32
+    → nested_sets_at n many [] p ≡ Ok (sets, caps, q) → many ≤ most_sets → length sets < 2 ^ 32
 nested_sets_few n many p sets caps q e few = let count = (nested_sets_read n many [] p sets caps q e).count in omega arith
 
 pub ruleset nested_building = (nested_sets_sound, nested_sets_few)
 
 pub nested_sets_valid : (n many : ℕ) (p : LinesLeft) (sets : List (List ℕ)) (caps : List ℕ) (q : LinesLeft)
-    → many ≤ 500 → AreNestedSetsRead n many [] p sets caps q → AreNestedSets n sets caps
+    → many ≤ most_sets → AreNestedSetsRead n many [] p sets caps q → AreNestedSets n sets caps
 nested_sets_valid n many p sets caps q few read = record {
   few = omega (arith, read.count);
   as_many = read.as_many;

@@ -4,6 +4,7 @@ use Rattle.std.specs.List.{All}
 use Rattle.std.proofs.lemmas.List.Elements.{All-weaker}
 use Rattle.mat_sets.specs.Sets.{IsSet, AllBelow}
 use Rattle.mat_any.specs.Trees.{Tree, uniform, partition, laminar, graphic, transversal, gammoid, gf2, dual, truncate, restrict, contract, element_count, IsSound}
+use Rattle.mat_desc.specs.Limits.{most_elements}
 use Rattle.mat_desc.specs.declared.refusal.DescRefusal.{DescRefusal}
 use Rattle.mat_desc.specs.declared.refusal.DescRefusal.TheVariants as refusals
 use Rattle.mat_desc.specs.Faults.{Fault, Gives}
@@ -15,7 +16,7 @@ use Rattle.mat_desc.proofs.ItemLaws.{IsGraph-pairs, IsBinaryMatrix-columns}
 use Rattle.mat_desc.proofs.InstanceLaws.{description_found, description_again}
 
 -- a matroid in range is sound
-IsSound-valid : (n : ℕ) (tree : Tree) → n ≤ 500 → IsValidTree n tree → IsSound tree × (element_count tree ≡ n)
+IsSound-valid : (n : ℕ) (tree : Tree) → n ≤ most_elements → IsValidTree n tree → IsSound tree × (element_count tree ≡ n)
 IsSound-valid n (uniform m cap) few valid = (tt, valid.0)
 IsSound-valid n (partition m classes caps) few valid = (
   record {

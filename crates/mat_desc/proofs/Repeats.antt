@@ -4,13 +4,14 @@ use Rattle.std.proofs.lemmas.Int.{ints}
 use Rattle.std.proofs.lemmas.List.{append-nil}
 use mir.Val.{to_z, of_z}
 use mir.Syntax.{w128}
+use Rattle.mat_desc.specs.Limits.{largest_weight}
 use Rattle.mat_desc.specs.declared.refusal.DescRefusal.{DescRefusal}
 use Rattle.mat_desc.specs.declared.refusal.DescRefusal.TheVariants as refusals
 use Rattle.mat_desc.specs.Faults.{◌>>=◌, Fault, Fails}
 use Rattle.mat_desc.specs.Reading.{repeat_at}
 
 -- a weight keeps its value where it is stored
-pub kept_weight : (z : ℤ) → neg_ℤ (pos (10 ^ 12)) ≤ℤ z → z ≤ℤ pos (10 ^ 12) → to_z w128 (of_z w128 z) ≡ z
+pub kept_weight : (z : ℤ) → neg_ℤ (pos largest_weight) ≤ℤ z → z ≤ℤ pos largest_weight → to_z w128 (of_z w128 z) ≡ z
 kept_weight z low high = grind (arith, ints)
 
 -- what was read before, in front of what is still read

@@ -1,5 +1,5 @@
 -- A line of a keyword and a set, and the set lines of a family: what is read is spelled so, and what is spelled so is read.
-use Rattle.std.proofs.Common.{◌≡◌, ℕ, zero, suc, ◌<◌, ◌^◌, true, List, [], ◌∷◌, length, Ok, refl, ap, subst, arith}
+use Rattle.std.proofs.Common.{◌≤◌, ◌≡◌, ℕ, zero, suc, ◌<◌, ◌^◌, true, List, [], ◌∷◌, length, Ok, refl, ap, subst, arith}
 use Rattle.std.specs.Prelude.{codes}
 use Rattle.std.specs.List.{All}
 use Rattle.std.proofs.lemmas.List.Elements.{All-nil, All-cons, All-head, All-tail, All-weaker}
@@ -7,6 +7,7 @@ use Rattle.mat_sets.specs.Sets.{AllBelow, IsSet}
 use Rattle.mat_words.specs.Words.{is_word}
 use Rattle.mat_words.specs.Numbers.{numerals}
 use Rattle.mat_words.specs.Lines.{Line}
+use Rattle.mat_desc.specs.Limits.{most_sets}
 use Rattle.mat_desc.specs.Faults.{◌>>=◌, LinesLeft}
 use Rattle.mat_desc.specs.Reading.{keyed_at, elements_at, set_line_at, repeat_at}
 use Rattle.mat_desc.specs.Grammar.{Lists, FamilyLines}
@@ -95,7 +96,7 @@ pub family_inside : (n many : ℕ) (p : LinesLeft) (family : List (List ℕ)) (q
 family_inside n many p family q e = All-weaker (IsSet n) (AllBelow n) (λ set is. is.below) family (family_found n many p family q e).in_range
 
 pub family_few : (n many : ℕ) (p : LinesLeft) (family : List (List ℕ)) (q : LinesLeft)
-    → repeat_at (set_line_at (codes "set") n) many p ≡ Ok (family, q) → many < 501 → length family < 2 ^ 32
+    → repeat_at (set_line_at (codes "set") n) many p ≡ Ok (family, q) → many ≤ most_sets → length family < 2 ^ 32
 family_few n many p family q e few = let count = (family_found n many p family q e).count in omega arith
 
 pub ruleset family_building = (family_inside, family_few)

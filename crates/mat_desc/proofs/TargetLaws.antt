@@ -8,9 +8,9 @@ use Rattle.mat_words.specs.Numbers.{numeral, numerals}
 use Rattle.mat_words.specs.Lines.{Line}
 use Rattle.mat_desc.specs.declared.refusal.DescKind.TheVariants.{Repeated}
 use Rattle.mat_desc.specs.Faults.{◌>>=◌, WordsLeft, LinesLeft}
-use Rattle.mat_desc.specs.Reading.{keyed_at, count_at, ended_at, distinct_at, targets_at, set_line_at}
+use Rattle.mat_desc.specs.Reading.{keyed_at, below_at, ended_at, distinct_at, targets_at, set_line_at}
 use Rattle.mat_desc.proofs.ReadingSteps.{found-same, bind_found, refused_found}
-use Rattle.mat_desc.proofs.WordLaws.{count_found, count_again, ended_found, ended_again, numerals_words}
+use Rattle.mat_desc.proofs.WordLaws.{below_found, below_again, ended_found, ended_again, numerals_words}
 use Rattle.mat_desc.proofs.LineLaws.{AreLeft, keyed_found, keyed_again}
 use Rattle.mat_desc.proofs.ElementLaws.{fresh_first, later_free}
 use Rattle.mat_desc.proofs.ItemLaws.{ends_lines_sound}
@@ -34,13 +34,13 @@ distinct_found bound zero taken w xs q e =
     subst (λ (r : List ℕ × WordsLeft). AreDistinctRead bound 0 taken w r.0 r.1) same
     (record { cut = refl; count = refl; below = tt; distinct = tt; fresh = λ x h. absurd cc })
 distinct_found bound (suc many) taken w xs q e =
-    let first = bind_found (count_at 0 bound w) (λ first. cond (is_member first.0 taken) (Err (Repeated, w.line))
+    let first = bind_found (below_at bound w) (λ first. cond (is_member first.0 taken) (Err (Repeated, w.line))
     (distinct_at bound many (with_one taken first.0) first.1 >>= λ others. Ok (first.0 ∷ others.0, others.1))) (xs, q) e in
     let test = refused_found (is_member first.0.0 taken) (Repeated, w.line)
     (distinct_at bound many (with_one taken first.0.0) first.0.1 >>= λ others. Ok (first.0.0 ∷ others.0, others.1)) (xs, q) first.2 in
     let others = bind_found (distinct_at bound many (with_one taken first.0.0) first.0.1) (λ others. Ok (first.0.0 ∷ others.0, others.1)) (xs, q) test.1 in
     let same = found-same (first.0.0 ∷ others.0.0, others.0.1) (xs, q) others.2 in
-    let number = count_found 0 bound w first.0.0 first.0.1 first.1 in
+    let number = below_found bound w first.0.0 first.0.1 first.1 in
     let more = distinct_found bound many (with_one taken first.0.0) first.0.1 others.0.0 others.0.1 others.1 in
     let parts = fresh_first first.0.0 others.0.0 taken test.0 more.fresh in
     subst (λ (r : List ℕ × WordsLeft). AreDistinctRead bound (suc many) taken w r.0 r.1) same (record {
@@ -59,7 +59,7 @@ distinct_again bound line taken [] distinct below fresh = refl
 distinct_again bound line taken (x ∷ xs) distinct below fresh =
     let free : is_member x taken ≡ false = fresh x (rw (eq-eqb x x refl) refl) in
     let later = distinct_again bound line (with_one taken x) xs distinct.1 below.1 (later_free x xs taken distinct.0 fresh) in
-    rw (count_again 0 bound line x (numerals xs) (omega arith) below.0, free, later) refl
+    rw (below_again bound line x (numerals xs) below.0, free, later) refl
 
 -- ---- the line of the targets
 

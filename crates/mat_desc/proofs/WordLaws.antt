@@ -10,9 +10,10 @@ use Rattle.mat_words.specs.Numbers.{numerals, numeral, number_in}
 use Rattle.mat_words.specs.declared.numbers.NumberFault.{NumberFault}
 use Rattle.mat_words.specs.declared.numbers.NumberFault.TheVariants.{Spelling, Range}
 use Rattle.mat_words.proofs.NumberLemmas.{number_taken, number_again, numeral_word}
+use Rattle.mat_desc.specs.Limits.{largest_weight}
 use Rattle.mat_desc.specs.declared.refusal.DescKind.TheVariants.{TooManyWords}
 use Rattle.mat_desc.specs.Faults.{◌>>=◌, WordsLeft}
-use Rattle.mat_desc.specs.Reading.{word_at, number_as, number_at, count_at, read_weight, ended_at, repeat_at}
+use Rattle.mat_desc.specs.Reading.{word_at, number_as, number_at, size_at, below_at, read_weight, ended_at, repeat_at}
 use Rattle.mat_desc.specs.Grammar.{IsWeight}
 use Rattle.mat_desc.proofs.ReadingSteps.{found-same, bind_found, test_found}
 
@@ -78,33 +79,62 @@ pub number_at_again : (low high : ℤ) (n : ℕ) (z : ℤ) (words : List (List �
 unfolding number_at word_at
 number_at_again low high n z words least most = rw (number_again low high z least most) refl
 
--- a word was read as a number from low on, below end
-pub record IsCountRead (low end : ℕ) (w : WordsLeft) (x : ℕ) (q : WordsLeft) : Type 0 where
+-- a word was read as a number in low..high
+pub record IsSizeRead (low high : ℕ) (w : WordsLeft) (x : ℕ) (q : WordsLeft) : Type 0 where
   pub cut : w.words ≡ numeral (pos x) ∷ q.words
   pub least : low ≤ x
-  pub most : x < end
+  pub most : x ≤ high
 
-is_natural : (low end : ℕ) (z : ℤ) → pos low ≤ℤ z → z ≤ℤ (pos end -ℤ pos 1) → (z ≡ pos (nat_abs z)) × (low ≤ nat_abs z) × (nat_abs z < end)
-is_natural low end z least most = (grind (arith, ints), grind (arith, ints), grind (arith, ints))
-
-pub count_found : (low end : ℕ) (w : WordsLeft) (x : ℕ) (q : WordsLeft) → count_at low end w ≡ Ok (x, q) → IsCountRead low end w x q
-unfolding count_at
-count_found low end w x q e =
-    let number = bind_found (number_at (pos low) (pos end -ℤ pos 1) w) (λ number. Ok (nat_abs number.0, number.1)) (x, q) e in
-    let read = number_found (pos low) (pos end -ℤ pos 1) w number.0.0 number.0.1 number.1 in
+pub size_found : (low high : ℕ) (w : WordsLeft) (x : ℕ) (q : WordsLeft) → size_at low high w ≡ Ok (x, q) → IsSizeRead low high w x q
+unfolding size_at
+size_found low high w x q e =
+    let number = bind_found (number_at (pos low) (pos high) w) (λ number. Ok (nat_abs number.0, number.1)) (x, q) e in
+    let read = number_found (pos low) (pos high) w number.0.0 number.0.1 number.1 in
     let same = found-same (nat_abs number.0.0, number.0.1) (x, q) number.2 in
-    let natural = is_natural low end number.0.0 read.least read.most in
+    let natural = is_natural low high number.0.0 read.least read.most in
     let value : nat_abs number.0.0 ≡ x = ap (λ (p : ℕ × WordsLeft). p.0) same in
     let rest : number.0.1.words ≡ q.words = ap (λ (p : ℕ × WordsLeft). p.1.words) same in
     let spelled : number.0.0 ≡ pos x = natural.0 ∙ ap pos value in
     record { cut = read.cut ∙ rw (spelled, rest) refl; least = omega (arith, natural.1); most = omega (arith, natural.2) }
+  where
+    is_natural : (low high : ℕ) (z : ℤ) → pos low ≤ℤ z → z ≤ℤ pos high → (z ≡ pos (nat_abs z)) × (low ≤ nat_abs z) × (nat_abs z ≤ high)
+    is_natural low high z least greatest = (grind (arith, ints), grind (arith, ints), grind (arith, ints))
 
-pub count_again : (low end n x : ℕ) (words : List (List ℕ)) → low ≤ x → x < end → count_at low end (record { line = n; words = numeral (pos x) ∷ words }) ≡ Ok (x, record { line = n; words = words })
-unfolding count_at
-count_again low end n x words le lt =
+pub size_again : (low high n x : ℕ) (words : List (List ℕ)) → low ≤ x → x ≤ high
+    → size_at low high (record { line = n; words = numeral (pos x) ∷ words }) ≡ Ok (x, record { line = n; words = words })
+unfolding size_at
+size_again low high n x words le ge =
     let least : pos low ≤ℤ pos x = grind (arith, ints) in
-    let most : pos x ≤ℤ (pos end -ℤ pos 1) = grind (arith, ints) in
-    rw (number_at_again (pos low) (pos end -ℤ pos 1) n (pos x) words least most) refl
+    let greatest : pos x ≤ℤ pos high = grind (arith, ints) in
+    rw (number_at_again (pos low) (pos high) n (pos x) words least greatest) refl
+
+-- a word was read as a number below the bound
+pub record IsBelowRead (bound : ℕ) (w : WordsLeft) (x : ℕ) (q : WordsLeft) : Type 0 where
+  pub cut : w.words ≡ numeral (pos x) ∷ q.words
+  pub most : x < bound
+
+pub below_found : (bound : ℕ) (w : WordsLeft) (x : ℕ) (q : WordsLeft) → below_at bound w ≡ Ok (x, q) → IsBelowRead bound w x q
+unfolding below_at
+below_found bound w x q e =
+    let number = bind_found (number_at (pos 0) (pos bound -ℤ pos 1) w) (λ number. Ok (nat_abs number.0, number.1)) (x, q) e in
+    let read = number_found (pos 0) (pos bound -ℤ pos 1) w number.0.0 number.0.1 number.1 in
+    let same = found-same (nat_abs number.0.0, number.0.1) (x, q) number.2 in
+    let natural = is_natural bound number.0.0 read.least read.most in
+    let value : nat_abs number.0.0 ≡ x = ap (λ (p : ℕ × WordsLeft). p.0) same in
+    let rest : number.0.1.words ≡ q.words = ap (λ (p : ℕ × WordsLeft). p.1.words) same in
+    let spelled : number.0.0 ≡ pos x = natural.0 ∙ ap pos value in
+    record { cut = read.cut ∙ rw (spelled, rest) refl; most = omega (arith, natural.1) }
+  where
+    is_natural : (bound : ℕ) (z : ℤ) → pos 0 ≤ℤ z → z ≤ℤ (pos bound -ℤ pos 1) → (z ≡ pos (nat_abs z)) × (nat_abs z < bound)
+    is_natural bound z least most = (grind (arith, ints), grind (arith, ints))
+
+pub below_again : (bound n x : ℕ) (words : List (List ℕ)) → x < bound
+    → below_at bound (record { line = n; words = numeral (pos x) ∷ words }) ≡ Ok (x, record { line = n; words = words })
+unfolding below_at
+below_again bound n x words lt =
+    let least : pos 0 ≤ℤ pos x = grind (arith, ints) in
+    let most : pos x ≤ℤ (pos bound -ℤ pos 1) = grind (arith, ints) in
+    rw (number_at_again (pos 0) (pos bound -ℤ pos 1) n (pos x) words least most) refl
 
 -- ---- weights
 
@@ -122,7 +152,7 @@ weights_found zero w weights q e =
 weights_found (suc many) w weights q e =
     let first = bind_found (read_weight w) (λ first. repeat_at read_weight many first.1 >>= λ others. Ok (first.0 ∷ others.0, others.1)) (weights, q) e in
     let others = bind_found (repeat_at read_weight many first.0.1) (λ others. Ok (first.0.0 ∷ others.0, others.1)) (weights, q) first.2 in
-    let one = number_found (neg_ℤ (pos (10 ^ 12))) (pos (10 ^ 12)) w first.0.0 first.0.1 first.1 in
+    let one = number_found (neg_ℤ (pos largest_weight)) (pos largest_weight) w first.0.0 first.0.1 first.1 in
     let more = weights_found many first.0.1 others.0.0 others.0.1 others.1 in
     let same = found-same (first.0.0 ∷ others.0.0, others.0.1) (weights, q) others.2 in
     subst (λ (p : List ℤ × WordsLeft). AreWeightsRead (suc many) w p.0 p.1) same
@@ -133,7 +163,7 @@ unfolding repeat_at read_weight
 weights_again n [] each = refl
 weights_again n (weight ∷ weights) each =
     let here = All-head IsWeight weight weights each in
-    rw (number_at_again (neg_ℤ (pos (10 ^ 12))) (pos (10 ^ 12)) n weight (map numeral weights) here.0 here.1, weights_again n weights (All-tail IsWeight weight weights each)) refl
+    rw (number_at_again (neg_ℤ (pos largest_weight)) (pos largest_weight) n weight (map numeral weights) here.0 here.1, weights_again n weights (All-tail IsWeight weight weights each)) refl
 
 -- ---- numerals are words
 

@@ -10,23 +10,24 @@ use Rattle.mat_words.specs.Writing.{end_line, members_line, numbers_line}
 use Rattle.mat_count.specs.Laminar.{IsLaminarFamily}
 use Rattle.mat_any.specs.Trees.{Tree, uniform, partition, laminar, graphic, transversal, gammoid, gf2, dual, truncate, restrict, contract, depth}
 use Rattle.mat_desc.specs.Binary.{binary}
+use Rattle.mat_desc.specs.Limits.{most_elements, most_vertices, most_sets, most_arcs, most_digits, most_matroids, deepest, largest_weight}
 use Rattle.mat_desc.specs.Instances.{Instance, pair, list, graph, rooted, coloured, table}
 
 -- ---- what may be stated
 
 -- the classes of a partition of n elements with their caps
 pub record AreClasses (n : ℕ) (classes : List (List ℕ)) (caps : List ℕ) : Type 0 where
-  pub few : length classes ≤ 500
+  pub few : length classes ≤ most_sets
   pub as_many : length caps ≡ length classes
-  pub caps_small : All (λ cap. cap ≤ 500) caps
+  pub caps_small : All (λ cap. cap ≤ most_elements) caps
   pub sets : All (IsSet n) classes
   pub disjoint : AreDisjoint classes
 
 -- the sets of a laminar family on n elements with their caps
 pub record AreNestedSets (n : ℕ) (sets : List (List ℕ)) (caps : List ℕ) : Type 0 where
-  pub few : length sets ≤ 500
+  pub few : length sets ≤ most_sets
   pub as_many : length caps ≡ length sets
-  pub caps_small : All (λ cap. cap ≤ 500) caps
+  pub caps_small : All (λ cap. cap ≤ most_elements) caps
   pub sets_inside : All (IsSet n) sets
   pub family : IsLaminarFamily sets
 
@@ -36,48 +37,48 @@ IsPairBelow first_bound second_bound ends = (ends.0 < first_bound) × (ends.1 < 
 
 -- a matroid on n elements whose numbers and lists are in range
 abbrev pub IsValidTree : ℕ → Tree → Type 0
-IsValidTree n (uniform m cap) = (m ≡ n) × (cap ≤ 500)
+IsValidTree n (uniform m cap) = (m ≡ n) × (cap ≤ most_elements)
 IsValidTree n (partition m classes caps) = (m ≡ n) × AreClasses n classes caps
 IsValidTree n (laminar m sets caps) = (m ≡ n) × AreNestedSets n sets caps
-IsValidTree n (graphic vertices edges) = (length edges ≡ n) × (1 ≤ vertices) × (vertices ≤ 500)
+IsValidTree n (graphic vertices edges) = (length edges ≡ n) × (1 ≤ vertices) × (vertices ≤ most_vertices)
     × All (IsPairBelow vertices vertices) edges
-IsValidTree n (transversal m family) = (m ≡ n) × (length family ≤ 500) × All (IsSet n) family
-IsValidTree n (gammoid vertices arcs sources targets) = (length targets ≡ n) × (1 ≤ vertices) × (vertices ≤ 500) × (length arcs ≤ 20000)
+IsValidTree n (transversal m family) = (m ≡ n) × (length family ≤ most_sets) × All (IsSet n) family
+IsValidTree n (gammoid vertices arcs sources targets) = (length targets ≡ n) × (1 ≤ vertices) × (vertices ≤ most_vertices) × (length arcs ≤ most_arcs)
     × All (IsPairBelow vertices vertices) arcs × IsSet vertices sources × AllBelow vertices targets × AreDistinct targets
-IsValidTree n (gf2 dim columns) = (length columns ≡ n) × (1 ≤ dim) × (dim ≤ 128) × All (λ column. column < 2 ^ dim) columns
+IsValidTree n (gf2 dim columns) = (length columns ≡ n) × (1 ≤ dim) × (dim ≤ most_digits) × All (λ column. column < 2 ^ dim) columns
 IsValidTree n (dual t) = IsValidTree n t
-IsValidTree n (truncate cap t) = (cap ≤ 500) × IsValidTree n t
+IsValidTree n (truncate cap t) = (cap ≤ most_elements) × IsValidTree n t
 IsValidTree n (restrict kept t) = IsSet n kept × IsValidTree n t
 IsValidTree n (contract away t) = IsSet n away × IsValidTree n t
 
--- a matroid of a form: at most sixteen matroids stand within one another
+-- a matroid of a form: no more matroids than may stand within one another do
 abbrev pub IsValidMatroid : ℕ → Tree → Type 0
-IsValidMatroid n tree = IsValidTree n tree × (depth tree ≤ 16)
+IsValidMatroid n tree = IsValidTree n tree × (depth tree ≤ deepest)
 
 -- a weight or a cost
 abbrev pub IsWeight : ℤ → Type 0
-IsWeight w = IsWithin (10 ^ 12) w
+IsWeight w = IsWithin largest_weight w
 
--- the weights of at most 500 elements
+-- the weights of no more elements than there may be
 abbrev pub AreWeights : List ℤ → Type 0
-AreWeights weights = (length weights ≤ 500) × All IsWeight weights
+AreWeights weights = (length weights ≤ most_elements) × All IsWeight weights
 
--- at most 500 edges, arcs or cells
+-- no more edges, arcs or cells than there may be
 abbrev pub ArePairs : ℕ → ℕ → List (ℕ × ℕ) → Type 0
-ArePairs first_bound second_bound pairs = (length pairs ≤ 500) × All (IsPairBelow first_bound second_bound) pairs
+ArePairs first_bound second_bound pairs = (length pairs ≤ most_elements) × All (IsPairBelow first_bound second_bound) pairs
 
 -- a problem whose numbers and lists are in range
 abbrev pub IsValid : Instance → Type 0
 IsValid (pair weights first second) = AreWeights weights × IsValidMatroid (length weights) first × IsValidMatroid (length weights) second
-IsValid (list weights matroids) = AreWeights weights × (1 ≤ length matroids) × (length matroids ≤ 64)
+IsValid (list weights matroids) = AreWeights weights × (1 ≤ length matroids) × (length matroids ≤ most_matroids)
     × All (IsValidMatroid (length weights)) matroids
-IsValid (graph vertices edges) = (1 ≤ vertices) × (vertices ≤ 500) × ArePairs vertices vertices edges
-IsValid (rooted vertices root arcs costs) = (1 ≤ vertices) × (vertices ≤ 500) × (root < vertices)
+IsValid (graph vertices edges) = (1 ≤ vertices) × (vertices ≤ most_vertices) × ArePairs vertices vertices edges
+IsValid (rooted vertices root arcs costs) = (1 ≤ vertices) × (vertices ≤ most_vertices) × (root < vertices)
     × ArePairs vertices vertices arcs × (length costs ≡ length arcs) × All IsWeight costs
-IsValid (coloured vertices colours edges colour_of weights) = (1 ≤ vertices) × (vertices ≤ 500) × (colours ≤ 500)
+IsValid (coloured vertices colours edges colour_of weights) = (1 ≤ vertices) × (vertices ≤ most_vertices) × (colours ≤ most_sets)
     × ArePairs vertices vertices edges × (length colour_of ≡ length edges) × All (λ colour. colour < colours) colour_of
     × (length weights ≡ length edges) × All IsWeight weights
-IsValid (table rows columns cells weights) = (rows ≤ 500) × (columns ≤ 500) × ArePairs rows columns cells
+IsValid (table rows columns cells weights) = (rows ≤ most_sets) × (columns ≤ most_sets) × ArePairs rows columns cells
     × (length weights ≡ length cells) × All IsWeight weights
 
 -- ---- the lines that spell it

@@ -1,4 +1,5 @@
 pub mod Binary
+pub mod Limits
 pub mod Instances
 pub mod Grammar
 pub mod Faults

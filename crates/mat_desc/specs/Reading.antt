@@ -1,6 +1,6 @@
 -- Reading a description: the problem that a text spells, or its first fault. Each function takes what is left of the text or of a line, and
 -- the order of its lines is the order in which faults are looked for.
-use Rattle.std.specs.Prelude.{ℕ, zero, suc, ◌+◌, ◌^◌, ◌==◌, ℤ, pos, neg_ℤ, ◌-ℤ◌, nat_abs, Bool, false, not, ◌&&◌}
+use Rattle.std.specs.Prelude.{ℕ, zero, suc, ◌+◌, ◌==◌, ℤ, pos, neg_ℤ, ◌-ℤ◌, nat_abs, Bool, false, not, ◌&&◌}
 use Rattle.std.specs.Prelude.{if◌then◌else◌, List, [], ◌∷◌, ◌++◌, length, map, codes, bytes_eq}
 use Rattle.std.specs.Prelude.{Option, Some, None, Result, Ok, Err}
 use Rattle.mat_sets.specs.Sets.{is_member, with_one}
@@ -18,6 +18,7 @@ use Rattle.mat_desc.specs.declared.keywords.Keyword.{Keyword}
 use Rattle.mat_desc.specs.declared.keywords.Keyword.TheVariants as keywords
 use Rattle.mat_desc.specs.Binary.{binary_value, is_binary}
 use Rattle.mat_desc.specs.Faults.{Fault, ◌>>=◌, WordsLeft, LinesLeft}
+use Rattle.mat_desc.specs.Limits.{most_elements, most_vertices, most_sets, most_arcs, most_digits, most_matroids, deepest, largest_weight}
 use Rattle.mat_desc.specs.Instances.{Instance, pair, list, graph, rooted, coloured, table}
 
 -- ---- lines
@@ -56,15 +57,21 @@ number_as rest (Err Range) = Err (kinds.NumberRange, rest.line)
 unfoldable pub number_at : ℤ → ℤ → WordsLeft → Result (ℤ × WordsLeft) Fault
 number_at low high p = word_at p >>= λ word. number_as word.1 (number_in low high word.0)
 
--- the next word as a number from low on, below end
-unfoldable pub count_at : ℕ → ℕ → WordsLeft → Result (ℕ × WordsLeft) Fault
-count_at low end p = do
-  number ← number_at (pos low) (pos end -ℤ pos 1) p
+-- the next word as a number in low..most
+unfoldable pub size_at : ℕ → ℕ → WordsLeft → Result (ℕ × WordsLeft) Fault
+size_at low most p = do
+  number ← number_at (pos low) (pos most) p
+  Ok (nat_abs number.0, number.1)
+
+-- the next word as a number below the bound
+unfoldable pub below_at : ℕ → WordsLeft → Result (ℕ × WordsLeft) Fault
+below_at bound p = do
+  number ← number_at (pos 0) (pos bound -ℤ pos 1) p
   Ok (nat_abs number.0, number.1)
 
 -- the next word as a weight
 unfoldable pub read_weight : WordsLeft → Result (ℤ × WordsLeft) Fault
-read_weight p = number_at (neg_ℤ (pos (10 ^ 12))) (pos (10 ^ 12)) p
+read_weight p = number_at (neg_ℤ (pos largest_weight)) (pos largest_weight) p
 
 -- no word of line n may be left
 abbrev pub ended_from : ℕ → List (List ℕ) → Result (Unit {0}) Fault
@@ -87,7 +94,7 @@ repeat_at reader (suc n) s = do
 unfoldable pub elements_from : ℕ → ℕ → List ℕ → List ℕ → List (List ℕ) → Result (List ℕ × List ℕ) Fault
 elements_from n line taken set [] = Ok (set, taken)
 elements_from n line taken set (word ∷ words) = do
-  element ← count_at 0 n (record { line = line; words = word ∷ words })
+  element ← below_at n (record { line = line; words = word ∷ words })
   if is_member element.0 taken then Err (kinds.Repeated, line) else
       elements_from n line (with_one taken element.0) (with_one set element.0) words
 
@@ -141,7 +148,7 @@ closed_at p = if is_closed p.lines then Ok tt else Err (kinds.TooManyLines, p.li
 unfoldable pub class_at : ℕ → List ℕ → LinesLeft → Result (ℕ × List ℕ × List ℕ × LinesLeft) Fault
 class_at n taken p = do
   line ← keyed_at (codes "class") p
-  cap ← count_at 0 501 line.0
+  cap ← size_at 0 most_elements line.0
   elements ← elements_at n taken cap.1
   Ok (cap.0, elements.0, elements.1, line.1)
 
@@ -156,14 +163,14 @@ classes_at n (suc many) taken p = do
 -- a uniform matroid on n elements, from the words behind its keyword on
 unfoldable pub uniform_at : ℕ → WordsLeft → LinesLeft → Result (Tree × LinesLeft) Fault
 uniform_at n words lines = do
-  cap ← count_at 0 501 words
+  cap ← size_at 0 most_elements words
   end ← ended_at cap.1
   Ok (uniform n cap.0, lines)
 
 -- a partition matroid on n elements, from the words behind its keyword on
 unfoldable pub partition_at : ℕ → WordsLeft → LinesLeft → Result (Tree × LinesLeft) Fault
 partition_at n words lines = do
-  many ← count_at 0 501 words
+  many ← size_at 0 most_sets words
   end ← ended_at many.1
   classes ← classes_at n many.0 [] lines
   Ok (partition n classes.0 classes.1, classes.2)
@@ -172,7 +179,7 @@ partition_at n words lines = do
 unfoldable pub nested_set_at : ℕ → List (List ℕ) → LinesLeft → Result (ℕ × List ℕ × LinesLeft) Fault
 nested_set_at n earlier p = do
   line ← keyed_at (codes "set") p
-  cap ← count_at 0 501 line.0
+  cap ← size_at 0 most_elements line.0
   elements ← elements_at n [] cap.1
   if is_crossed earlier elements.0 then Err (kinds.Crossing, p.line) else Ok (cap.0, elements.0, line.1)
 
@@ -187,7 +194,7 @@ nested_sets_at n (suc many) earlier p = do
 -- a laminar matroid on n elements, from the words behind its keyword on
 unfoldable pub laminar_at : ℕ → WordsLeft → LinesLeft → Result (Tree × LinesLeft) Fault
 laminar_at n words lines = do
-  many ← count_at 0 501 words
+  many ← size_at 0 most_sets words
   end ← ended_at many.1
   sets ← nested_sets_at n many.0 [] lines
   Ok (laminar n sets.0 sets.1, sets.2)
@@ -195,8 +202,8 @@ laminar_at n words lines = do
 -- two numbers, one below each bound
 unfoldable pub ends_at : ℕ → ℕ → WordsLeft → Result ((ℕ × ℕ) × WordsLeft) Fault
 ends_at first_bound second_bound words = do
-  first ← count_at 0 first_bound words
-  second ← count_at 0 second_bound first.1
+  first ← below_at first_bound words
+  second ← below_at second_bound first.1
   Ok ((first.0, second.0), second.1)
 
 -- a line of this keyword with the two ends of an edge or of an arc
@@ -210,7 +217,7 @@ ends_line_at key vertices p = do
 -- a graphic matroid on n elements, from the words behind its keyword on
 unfoldable pub graphic_at : ℕ → WordsLeft → LinesLeft → Result (Tree × LinesLeft) Fault
 graphic_at n words lines = do
-  vertices ← count_at 1 501 words
+  vertices ← size_at 1 most_vertices words
   end ← ended_at vertices.1
   edges ← repeat_at (ends_line_at (codes "edge") vertices.0) n lines
   Ok (graphic vertices.0 edges.0, edges.1)
@@ -225,7 +232,7 @@ set_line_at key n p = do
 -- a transversal matroid on n elements, from the words behind its keyword on
 unfoldable pub transversal_at : ℕ → WordsLeft → LinesLeft → Result (Tree × LinesLeft) Fault
 transversal_at n words lines = do
-  many ← count_at 0 501 words
+  many ← size_at 0 most_sets words
   end ← ended_at many.1
   family ← repeat_at (set_line_at (codes "set") n) many.0 lines
   Ok (transversal n family.0, family.1)
@@ -234,7 +241,7 @@ transversal_at n words lines = do
 unfoldable pub distinct_at : ℕ → ℕ → List ℕ → WordsLeft → Result (List ℕ × WordsLeft) Fault
 distinct_at bound zero taken p = Ok ([], p)
 distinct_at bound (suc many) taken p = do
-  first ← count_at 0 bound p
+  first ← below_at bound p
   if is_member first.0 taken then Err (kinds.Repeated, p.line) else
       (distinct_at bound many (with_one taken first.0) first.1 >>= λ others. Ok (first.0 ∷ others.0, others.1))
 
@@ -249,8 +256,8 @@ targets_at vertices n p = do
 -- a gammoid of n elements, from the words behind its keyword on
 unfoldable pub gammoid_at : ℕ → WordsLeft → LinesLeft → Result (Tree × LinesLeft) Fault
 gammoid_at n words lines = do
-  vertices ← count_at 1 501 words
-  many ← count_at 0 20001 vertices.1
+  vertices ← size_at 1 most_vertices words
+  many ← size_at 0 most_arcs vertices.1
   end ← ended_at many.1
   sources ← set_line_at (codes "sources") vertices.0 lines
   targets ← targets_at vertices.0 n sources.1
@@ -274,7 +281,7 @@ column_at dim p = do
 -- a matroid of n columns over the field of two elements, from the words behind its keyword on
 unfoldable pub gf2_at : ℕ → WordsLeft → LinesLeft → Result (Tree × LinesLeft) Fault
 gf2_at n words lines = do
-  dim ← count_at 1 129 words
+  dim ← size_at 1 most_digits words
   end ← ended_at dim.1
   columns ← repeat_at (column_at dim.0) n lines
   Ok (gf2 dim.0 columns.0, columns.1)
@@ -293,7 +300,7 @@ dual_at inner words lines = do
 -- a truncation, from the words behind its keyword on; `inner` reads the matroid within
 unfoldable pub truncate_at : TreeReader → WordsLeft → LinesLeft → Result (Tree × LinesLeft) Fault
 truncate_at inner words lines = do
-  cap ← count_at 0 501 words
+  cap ← size_at 0 most_elements words
   end ← ended_at cap.1
   t ← inner lines
   Ok (truncate cap.0 t.0, t.1)
@@ -352,14 +359,14 @@ matroid_within (suc room) n p = do
 
 -- a matroid on n elements
 abbrev pub matroid_at : ℕ → LinesLeft → Result (Tree × LinesLeft) Fault
-matroid_at n p = matroid_within 16 n p
+matroid_at n p = matroid_within deepest n p
 
 -- ---- problems
 
 -- two matroids, from the words behind the form's word on
 unfoldable pub pair_at : WordsLeft → LinesLeft → Result (Instance × LinesLeft) Fault
 pair_at words lines = do
-  count ← count_at 0 501 words
+  count ← size_at 0 most_elements words
   end ← ended_at count.1
   weights ← weights_at count.0 lines
   first ← matroid_at count.0 weights.1
@@ -369,8 +376,8 @@ pair_at words lines = do
 -- a list of matroids, from the words behind the form's word on
 unfoldable pub list_at : WordsLeft → LinesLeft → Result (Instance × LinesLeft) Fault
 list_at words lines = do
-  count ← count_at 0 501 words
-  many ← count_at 1 65 count.1
+  count ← size_at 0 most_elements words
+  many ← size_at 1 most_matroids count.1
   end ← ended_at many.1
   weights ← weights_at count.0 lines
   matroids ← repeat_at (matroid_at count.0) many.0 weights.1
@@ -390,7 +397,7 @@ unfoldable pub coloured_edge_at : ℕ → ℕ → LinesLeft → Result (((ℕ ×
 coloured_edge_at vertices colours p = do
   line ← keyed_at (codes "edge") p
   ends ← ends_at vertices vertices line.0
-  colour ← count_at 0 colours ends.1
+  colour ← below_at colours ends.1
   weight ← read_weight colour.1
   end ← ended_at weight.1
   Ok ((ends.0, (colour.0, weight.0)), line.1)
@@ -398,8 +405,8 @@ coloured_edge_at vertices colours p = do
 -- a graph, from the words behind the form's word on
 unfoldable pub graph_at : WordsLeft → LinesLeft → Result (Instance × LinesLeft) Fault
 graph_at words lines = do
-  vertices ← count_at 1 501 words
-  many ← count_at 0 501 vertices.1
+  vertices ← size_at 1 most_vertices words
+  many ← size_at 0 most_elements vertices.1
   end ← ended_at many.1
   edges ← repeat_at (ends_line_at (codes "edge") vertices.0) many.0 lines
   Ok (graph vertices.0 edges.0, edges.1)
@@ -407,9 +414,9 @@ graph_at words lines = do
 -- a directed graph with a root, from the words behind the form's word on
 unfoldable pub rooted_at : WordsLeft → LinesLeft → Result (Instance × LinesLeft) Fault
 rooted_at words lines = do
-  vertices ← count_at 1 501 words
-  many ← count_at 0 501 vertices.1
-  root ← count_at 0 vertices.0 many.1
+  vertices ← size_at 1 most_vertices words
+  many ← size_at 0 most_elements vertices.1
+  root ← below_at vertices.0 many.1
   end ← ended_at root.1
   arcs ← repeat_at (weighted_at (codes "arc") vertices.0 vertices.0) many.0 lines
   Ok (rooted vertices.0 root.0 (map (λ arc. arc.0) arcs.0) (map (λ arc. arc.1) arcs.0), arcs.1)
@@ -417,9 +424,9 @@ rooted_at words lines = do
 -- a graph with coloured edges, from the words behind the form's word on
 unfoldable pub coloured_at : WordsLeft → LinesLeft → Result (Instance × LinesLeft) Fault
 coloured_at words lines = do
-  vertices ← count_at 1 501 words
-  many ← count_at 0 501 vertices.1
-  colours ← count_at 0 501 many.1
+  vertices ← size_at 1 most_vertices words
+  many ← size_at 0 most_elements vertices.1
+  colours ← size_at 0 most_sets many.1
   end ← ended_at colours.1
   edges ← repeat_at (coloured_edge_at vertices.0 colours.0) many.0 lines
   Ok (coloured vertices.0 colours.0 (map (λ edge. edge.0) edges.0) (map (λ edge. edge.1.0) edges.0) (map (λ edge. edge.1.1) edges.0), edges.1)
@@ -427,9 +434,9 @@ coloured_at words lines = do
 -- a table of cells, from the words behind the form's word on
 unfoldable pub table_at : WordsLeft → LinesLeft → Result (Instance × LinesLeft) Fault
 table_at words lines = do
-  rows ← count_at 0 501 words
-  columns ← count_at 0 501 rows.1
-  many ← count_at 0 501 columns.1
+  rows ← size_at 0 most_sets words
+  columns ← size_at 0 most_sets rows.1
+  many ← size_at 0 most_elements columns.1
   end ← ended_at many.1
   cells ← repeat_at (weighted_at (codes "cell") rows.0 columns.0) many.0 lines
   Ok (table rows.0 columns.0 (map (λ cell. cell.0) cells.0) (map (λ cell. cell.1) cells.0), cells.1)

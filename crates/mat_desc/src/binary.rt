@@ -5,6 +5,7 @@ ghost use Rattle.std.specs.Prelude.{length, Some, None, OnOk};
 ghost use Rattle.std.specs.Int.{bit_at};
 ghost use Rattle.mat_desc.specs.Binary.{binary, is_binary, binary_value};
 ghost use Rattle.mat_desc.specs.Faults.{Gives};
+ghost use Rattle.mat_desc.specs.Limits.{most_digits};
 ghost use Rattle.mat_desc.specs.Reading.{binary_at};
 ghost use Rattle.mat_desc.specs.Views.{words_left};
 
@@ -44,7 +45,7 @@ pub(crate) fn next_binary<'a>(
     words: Words<'a>,
     digits: u32,
 ) -> Result<(u128, Words<'a>), DescRefusal>
-    requires { digits ≤ 128 }
+    requires { digits ≤ most_digits }
     ensures { Gives (λ x. (x.0, words_left x.1)) result (binary_at digits (words_left words.entry)) }
 {
     let (word, rest) = next_word(words)?;

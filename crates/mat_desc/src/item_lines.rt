@@ -1,14 +1,16 @@
 //! Reading a line for each edge, arc, cell or column.
 
-ghost use Rattle.std.specs.Prelude.{◌≡◌, ◌≤◌, ◌≤ℤ◌, ◌^◌, neg_ℤ, pos, length, IfOk};
+ghost use Rattle.std.specs.Prelude.{◌≡◌, ◌≤◌, length, IfOk};
 ghost use Rattle.std.specs.List.{zip};
 ghost use Rattle.mat_desc.specs.Faults.{Gives};
+ghost use Rattle.mat_desc.specs.Grammar.{IsWeight};
+ghost use Rattle.mat_desc.specs.Limits.{most_digits};
 ghost use Rattle.mat_desc.specs.Reading.{ends_at, ends_line_at, column_at, weighted_at, coloured_edge_at, repeat_at};
 ghost use Rattle.mat_desc.specs.Views.{lines_left, words_left};
 
 use crate::binary::next_binary;
 use crate::cursor::{Lines, Words};
-use crate::reading::{ended, keyed_line, next_count, next_weight};
+use crate::reading::{ended, keyed_line, next_below, next_weight};
 use crate::refusal::DescRefusal;
 use mat_sets::{Pairs, Weights};
 use std::alloc::Global;
@@ -43,8 +45,8 @@ fn next_ends<'a>(
     ensures { Gives (λ x. (x.0, words_left x.1)) result
         (ends_at first_bound second_bound (words_left words.entry)) }
 {
-    let (first, words) = next_count(words, 0, first_bound)?;
-    let (second, words) = next_count(words, 0, second_bound)?;
+    let (first, words) = next_below(words, first_bound)?;
+    let (second, words) = next_below(words, second_bound)?;
     Ok(((first, second), words))
 }
 
@@ -66,7 +68,7 @@ fn ends_line<'a>(
 /// A column line.
 #[tactic(auto, unfolding(crate::specs::Reading::column_at))]
 fn column_line<'a>(dim: u32, lines: Lines<'a>) -> Result<(u128, Lines<'a>), DescRefusal>
-    requires { dim ≤ 128 }
+    requires { dim ≤ most_digits }
     ensures { Gives (λ x. (x.0, lines_left x.1)) result (column_at dim (lines_left lines.entry)) }
 {
     let (words, rest) = keyed_line(lines, b"column")?;
@@ -85,7 +87,7 @@ fn weighted_line<'a>(
 ) -> Result<(WeightedPair, Lines<'a>), DescRefusal>
     ensures value { Gives (λ x. ((x.0.ends, x.0.weight), lines_left x.1)) result
         (weighted_at key.now first_bound second_bound (lines_left lines.entry)) }
-    ensures range { IfOk result (λ x. (neg_ℤ (pos (10 ^ 12)) ≤ℤ x.0.weight) × (x.0.weight ≤ℤ pos (10 ^ 12))) }
+    ensures range { IfOk result (λ x. IsWeight x.0.weight) }
 {
     let (words, rest) = keyed_line(lines, key)?;
     let (ends, words) = next_ends(words, first_bound, second_bound)?;
@@ -103,11 +105,11 @@ fn coloured_edge_line<'a>(
 ) -> Result<(ColouredEdge, Lines<'a>), DescRefusal>
     ensures value { Gives (λ x. ((x.0.ends, (x.0.colour, x.0.weight)), lines_left x.1)) result
         (coloured_edge_at vertices colours (lines_left lines.entry)) }
-    ensures range { IfOk result (λ x. (neg_ℤ (pos (10 ^ 12)) ≤ℤ x.0.weight) × (x.0.weight ≤ℤ pos (10 ^ 12))) }
+    ensures range { IfOk result (λ x. IsWeight x.0.weight) }
 {
     let (words, rest) = keyed_line(lines, b"edge")?;
     let (ends, words) = next_ends(words, vertices, vertices)?;
-    let (colour, words) = next_count(words, 0, colours)?;
+    let (colour, words) = next_below(words, colours)?;
     let (weight, words) = next_weight(words)?;
     ended(words)?;
     let edge = ColouredEdge {
@@ -146,7 +148,7 @@ pub(crate) fn column_lines<'a>(
     many: u32,
     lines: Lines<'a>,
 ) -> Result<(Vec<u128>, Lines<'a>), DescRefusal>
-    requires { dim ≤ 128 }
+    requires { dim ≤ most_digits }
     ensures { Gives (λ x. (x.0.items, lines_left x.1)) result
         (repeat_at (column_at dim) many (lines_left lines.entry)) }
 {

@@ -6,6 +6,7 @@ mod cursor;
 mod item_lines;
 mod keywords;
 mod laws;
+mod limits;
 mod linked_lines;
 mod matroid;
 mod problem;

@@ -8,7 +8,8 @@ ghost use Rattle.mat_desc.specs.Views.{lines_left, words_left};
 
 use crate::cursor::{Lines, Words};
 use crate::item_lines::ends_lines;
-use crate::reading::{elements_line, ended, keyed_line, next_count};
+use crate::limits::{MOST_ARCS, MOST_SETS, MOST_VERTICES};
+use crate::reading::{elements_line, ended, keyed_line, next_below, next_size};
 use crate::refusal::{DescKind, DescRefusal, fault};
 use mat_any::AnyMatroid;
 use mat_flow::Digraph;
@@ -66,7 +67,7 @@ fn distinct_numbers<'a>(
     let mut taken = ElemSet::new(alloc);
     let mut rest = words;
     for _ in 0..many {
-        let (number, after) = next_count(rest, 0, bound)?;
+        let (number, after) = next_below(rest, bound)?;
         if !taken.add(number)? {
             return Err(fault(DescKind::Repeated, rest.line));
         }
@@ -103,7 +104,7 @@ pub(crate) fn transversal<'a>(
     ensures { Gives (λ x. (tree_of x.0, lines_left x.1)) result
         (transversal_at count (words_left words.entry) (lines_left lines.entry)) }
 {
-    let (many, words) = next_count(words, 0, 501)?;
+    let (many, words) = next_size(words, 0, MOST_SETS)?;
     ended(words)?;
     let (family, rest) = set_lines(alloc, b"set", count, many, lines)?;
     let matroid = Transversal::new(alloc, count, family)?;
@@ -121,8 +122,8 @@ pub(crate) fn gammoid<'a>(
     ensures { Gives (λ x. (tree_of x.0, lines_left x.1)) result
         (gammoid_at count (words_left words.entry) (lines_left lines.entry)) }
 {
-    let (vertices, words) = next_count(words, 1, 501)?;
-    let (many, words) = next_count(words, 0, 20001)?;
+    let (vertices, words) = next_size(words, 1, MOST_VERTICES)?;
+    let (many, words) = next_size(words, 0, MOST_ARCS)?;
     ended(words)?;
     let (sources, rest) = set_line(alloc, b"sources", vertices, lines)?;
     let (targets, rest) = targets_line(alloc, vertices, count, rest)?;

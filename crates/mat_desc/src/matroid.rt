@@ -11,8 +11,9 @@ ghost use Rattle.mat_desc.specs.Views.{lines_left, words_left};
 use crate::cursor::{Lines, Words};
 use crate::item_lines::{column_lines, ends_lines};
 use crate::keywords::{Keyword, keyword_from};
+use crate::limits::{DEEPEST, MOST_DIGITS, MOST_ELEMENTS, MOST_SETS, MOST_VERTICES};
 use crate::linked_lines::{gammoid, transversal};
-use crate::reading::{elements_line, ended, keyed_line, next_count, next_line, next_word};
+use crate::reading::{elements_line, ended, keyed_line, next_line, next_size, next_word};
 use crate::refusal::{DescKind, DescRefusal, fault};
 use mat_any::AnyMatroid;
 use mat_count::{Laminar, Partition, Uniform, crossing};
@@ -33,7 +34,7 @@ fn class_line<'a>(
         (class_at count taken.old (lines_left lines.entry)) }
 {
     let (words, rest) = keyed_line(lines, b"class")?;
-    let (cap, words) = next_count(words, 0, 501)?;
+    let (cap, words) = next_size(words, 0, MOST_ELEMENTS)?;
     let class = elements_line(alloc, words, count, taken)?;
     Ok((cap, class, rest))
 }
@@ -75,7 +76,7 @@ fn nested_set_line<'a>(
 {
     let line = lines.line;
     let (words, rest) = keyed_line(lines, b"set")?;
-    let (cap, words) = next_count(words, 0, 501)?;
+    let (cap, words) = next_size(words, 0, MOST_ELEMENTS)?;
     let mut taken = ElemSet::new(alloc);
     let set = elements_line(alloc, words, count, &mut taken)?;
     if crossing(earlier, &set).is_some() {
@@ -116,7 +117,7 @@ fn uniform<'a>(
     ensures { Gives (λ x. (tree_of x.0, lines_left x.1)) result
         (uniform_at count (words_left words.entry) (lines_left lines.entry)) }
 {
-    let (cap, words) = next_count(words, 0, 501)?;
+    let (cap, words) = next_size(words, 0, MOST_ELEMENTS)?;
     ended(words)?;
     Ok((AnyMatroid::Uniform(Uniform::new(count, cap)), lines))
 }
@@ -132,7 +133,7 @@ fn partition<'a>(
     ensures { Gives (λ x. (tree_of x.0, lines_left x.1)) result
         (partition_at count (words_left words.entry) (lines_left lines.entry)) }
 {
-    let (many, words) = next_count(words, 0, 501)?;
+    let (many, words) = next_size(words, 0, MOST_SETS)?;
     ended(words)?;
     let (classes, caps, rest) = class_lines(alloc, count, many, lines)?;
     let matroid = Partition::new(alloc, count, classes, caps)?;
@@ -150,7 +151,7 @@ fn laminar<'a>(
     ensures { Gives (λ x. (tree_of x.0, lines_left x.1)) result
         (laminar_at count (words_left words.entry) (lines_left lines.entry)) }
 {
-    let (many, words) = next_count(words, 0, 501)?;
+    let (many, words) = next_size(words, 0, MOST_SETS)?;
     ended(words)?;
     let (sets, caps, rest) = nested_set_lines(alloc, count, many, lines)?;
     let matroid = Laminar::from_family(alloc, count, sets, caps)?;
@@ -168,7 +169,7 @@ fn graphic<'a>(
     ensures { Gives (λ x. (tree_of x.0, lines_left x.1)) result
         (graphic_at count (words_left words.entry) (lines_left lines.entry)) }
 {
-    let (vertices, words) = next_count(words, 1, 501)?;
+    let (vertices, words) = next_size(words, 1, MOST_VERTICES)?;
     ended(words)?;
     let (edges, rest) = ends_lines(alloc, b"edge", vertices, count, lines)?;
     let matroid = Graphic::new(alloc, vertices, edges)?;
@@ -186,7 +187,7 @@ fn gf2<'a>(
     ensures { Gives (λ x. (tree_of x.0, lines_left x.1)) result
         (gf2_at count (words_left words.entry) (lines_left lines.entry)) }
 {
-    let (dim, words) = next_count(words, 1, 129)?;
+    let (dim, words) = next_size(words, 1, MOST_DIGITS)?;
     ended(words)?;
     let (columns, rest) = column_lines(alloc, dim, count, lines)?;
     let matroid = Gf2::new(alloc, dim, columns)?;
@@ -225,7 +226,7 @@ fn truncation<'a>(
     ensures { Gives (λ x. (tree_of x.0, lines_left x.1)) result
         (truncate_at (matroid_within room count) (words_left words.entry) (lines_left lines.entry)) }
 {
-    let (cap, words) = next_count(words, 0, 501)?;
+    let (cap, words) = next_size(words, 0, MOST_ELEMENTS)?;
     ended(words)?;
     let (inner, rest) = next_matroid_within(alloc, room, count, lines)?;
     let inner = Box::new(alloc, inner)?;
@@ -315,7 +316,7 @@ pub(crate) fn next_matroid<'a>(
     ensures { Gives (λ x. (tree_of x.0, lines_left x.1)) result
         (matroid_at count (lines_left lines.entry)) }
 {
-    next_matroid_within(alloc, 16, count, lines)
+    next_matroid_within(alloc, DEEPEST, count, lines)
 }
 
 /// As many matroids, on `count` elements each.

@@ -12,8 +12,11 @@ ghost use Rattle.mat_desc.specs.Views.{lines_left, words_left, instance_of};
 use crate::cursor::{Lines, Words};
 use crate::item_lines::{coloured_edge_lines, ends_lines, weighted_lines};
 use crate::keywords::{Form, form_from};
+use crate::limits::{MOST_ELEMENTS, MOST_MATROIDS, MOST_SETS, MOST_VERTICES};
 use crate::matroid::{next_matroid, next_matroids};
-use crate::reading::{ended, keyed_line, next_count, next_line, next_word, weights_line};
+use crate::reading::{
+    ended, keyed_line, next_below, next_line, next_size, next_word, weights_line,
+};
 use crate::refusal::{DescKind, DescRefusal, fault};
 use mat_any::AnyMatroid;
 use mat_sets::{Pairs, Weights};
@@ -129,7 +132,7 @@ fn pair<'a>(
     ensures { Gives (λ x. (instance_of x.0, lines_left x.1)) result
         (pair_at (words_left words.entry) (lines_left lines.entry)) }
 {
-    let (count, words) = next_count(words, 0, 501)?;
+    let (count, words) = next_size(words, 0, MOST_ELEMENTS)?;
     ended(words)?;
     let (weights, lines) = weights_line(alloc, count, lines)?;
     let (first, lines) = next_matroid(alloc, count, lines)?;
@@ -152,8 +155,8 @@ fn list<'a>(
     ensures { Gives (λ x. (instance_of x.0, lines_left x.1)) result
         (list_at (words_left words.entry) (lines_left lines.entry)) }
 {
-    let (count, words) = next_count(words, 0, 501)?;
-    let (many, words) = next_count(words, 1, 65)?;
+    let (count, words) = next_size(words, 0, MOST_ELEMENTS)?;
+    let (many, words) = next_size(words, 1, MOST_MATROIDS)?;
     ended(words)?;
     let (weights, lines) = weights_line(alloc, count, lines)?;
     let (matroids, lines) = next_matroids(alloc, count, many, lines)?;
@@ -170,8 +173,8 @@ fn graph<'a>(
     ensures { Gives (λ x. (instance_of x.0, lines_left x.1)) result
         (graph_at (words_left words.entry) (lines_left lines.entry)) }
 {
-    let (vertices, words) = next_count(words, 1, 501)?;
-    let (many, words) = next_count(words, 0, 501)?;
+    let (vertices, words) = next_size(words, 1, MOST_VERTICES)?;
+    let (many, words) = next_size(words, 0, MOST_ELEMENTS)?;
     ended(words)?;
     let (edges, lines) = ends_lines(alloc, b"edge", vertices, many, lines)?;
     Ok((Problem::Graph { vertices, edges }, lines))
@@ -187,9 +190,9 @@ fn rooted<'a>(
     ensures { Gives (λ x. (instance_of x.0, lines_left x.1)) result
         (rooted_at (words_left words.entry) (lines_left lines.entry)) }
 {
-    let (vertices, words) = next_count(words, 1, 501)?;
-    let (many, words) = next_count(words, 0, 501)?;
-    let (root, words) = next_count(words, 0, vertices)?;
+    let (vertices, words) = next_size(words, 1, MOST_VERTICES)?;
+    let (many, words) = next_size(words, 0, MOST_ELEMENTS)?;
+    let (root, words) = next_below(words, vertices)?;
     ended(words)?;
     let (arcs, costs, lines) = weighted_lines(alloc, b"arc", vertices, vertices, many, lines)?;
     let problem = Problem::Rooted {
@@ -211,9 +214,9 @@ fn coloured<'a>(
     ensures { Gives (λ x. (instance_of x.0, lines_left x.1)) result
         (coloured_at (words_left words.entry) (lines_left lines.entry)) }
 {
-    let (vertices, words) = next_count(words, 1, 501)?;
-    let (many, words) = next_count(words, 0, 501)?;
-    let (colours, words) = next_count(words, 0, 501)?;
+    let (vertices, words) = next_size(words, 1, MOST_VERTICES)?;
+    let (many, words) = next_size(words, 0, MOST_ELEMENTS)?;
+    let (colours, words) = next_size(words, 0, MOST_SETS)?;
     ended(words)?;
     let (edges, colour_of, weights, lines) = coloured_edge_lines(
         alloc, vertices, colours, many, lines,
@@ -238,9 +241,9 @@ fn table<'a>(
     ensures { Gives (λ x. (instance_of x.0, lines_left x.1)) result
         (table_at (words_left words.entry) (lines_left lines.entry)) }
 {
-    let (rows, words) = next_count(words, 0, 501)?;
-    let (columns, words) = next_count(words, 0, 501)?;
-    let (many, words) = next_count(words, 0, 501)?;
+    let (rows, words) = next_size(words, 0, MOST_SETS)?;
+    let (columns, words) = next_size(words, 0, MOST_SETS)?;
+    let (many, words) = next_size(words, 0, MOST_ELEMENTS)?;
     ended(words)?;
     let (cells, weights, lines) = weighted_lines(alloc, b"cell", rows, columns, many, lines)?;
     let problem = Problem::Table {

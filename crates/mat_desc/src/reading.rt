@@ -1,11 +1,13 @@
 //! Reading the lines of a description, and the words of a line.
 
-ghost use Rattle.std.specs.Prelude.{◌≡◌, ◌<◌, ◌≤◌, ◌≤ℤ◌, ◌^◌, neg_ℤ, pos, IfOk};
+ghost use Rattle.std.specs.Prelude.{◌≡◌, ◌<◌, ◌≤◌, ◌≤ℤ◌, IfOk};
 ghost use Rattle.mat_desc.specs.Faults.{Gives};
-ghost use Rattle.mat_desc.specs.Reading.{line_at, word_at, number_at, count_at, read_weight, ended_at, repeat_at, elements_at, keyed_at, weights_at};
+ghost use Rattle.mat_desc.specs.Grammar.{IsWeight};
+ghost use Rattle.mat_desc.specs.Reading.{line_at, word_at, number_at, size_at, below_at, read_weight, ended_at, repeat_at, elements_at, keyed_at, weights_at};
 ghost use Rattle.mat_desc.specs.Views.{lines_left, words_left};
 
 use crate::cursor::{Lines, Words};
+use crate::limits::LARGEST_WEIGHT;
 use crate::refusal::{DescKind, DescRefusal, fault};
 use mat_sets::{ElemSet, Weights};
 use mat_words::{NumberFault, read_number, split_line, split_word, well_spaced};
@@ -68,17 +70,27 @@ fn next_number<'a>(
     }
 }
 
-/// The next word of a line as a number from `low` on, below `end`.
-#[tactic(auto, unfolding(crate::specs::Reading::count_at))]
-pub(crate) fn next_count<'a>(
+/// The next word of a line as a number in `low..=most`.
+#[tactic(auto, unfolding(crate::specs::Reading::size_at))]
+pub(crate) fn next_size<'a>(
     words: Words<'a>,
     low: u32,
-    end: u32,
+    most: u32,
 ) -> Result<(u32, Words<'a>), DescRefusal>
-    ensures value { Gives (λ x. (x.0, words_left x.1)) result (count_at low end (words_left words.entry)) }
-    ensures range { IfOk result (λ x. (low ≤ x.0) × (x.0 < end)) }
+    ensures value { Gives (λ x. (x.0, words_left x.1)) result (size_at low most (words_left words.entry)) }
+    ensures range { IfOk result (λ x. (low ≤ x.0) × (x.0 ≤ most)) }
 {
-    let (number, words) = next_number(words, low as i128, end as i128 - 1)?;
+    let (number, words) = next_number(words, low as i128, most as i128)?;
+    Ok((number as u32, words))
+}
+
+/// The next word of a line as a number below the bound.
+#[tactic(auto, unfolding(crate::specs::Reading::below_at))]
+pub(crate) fn next_below<'a>(words: Words<'a>, bound: u32) -> Result<(u32, Words<'a>), DescRefusal>
+    ensures value { Gives (λ x. (x.0, words_left x.1)) result (below_at bound (words_left words.entry)) }
+    ensures range { IfOk result (λ x. x.0 < bound) }
+{
+    let (number, words) = next_number(words, 0, bound as i128 - 1)?;
     Ok((number as u32, words))
 }
 
@@ -86,9 +98,9 @@ pub(crate) fn next_count<'a>(
 #[tactic(auto, unfolding(crate::specs::Reading::read_weight))]
 pub(crate) fn next_weight<'a>(words: Words<'a>) -> Result<(i128, Words<'a>), DescRefusal>
     ensures value { Gives (λ x. (x.0, words_left x.1)) result (read_weight (words_left words.entry)) }
-    ensures range { IfOk result (λ x. (neg_ℤ (pos (10 ^ 12)) ≤ℤ x.0) × (x.0 ≤ℤ pos (10 ^ 12))) }
+    ensures range { IfOk result (λ x. IsWeight x.0) }
 {
-    next_number(words, -1_000_000_000_000, 1_000_000_000_000)
+    next_number(words, -LARGEST_WEIGHT, LARGEST_WEIGHT)
 }
 
 /// The end of a line.
@@ -165,7 +177,7 @@ pub(crate) fn elements_line(
     let mut set = ElemSet::new(alloc);
     let mut rest = words;
     while rest.left.is_some() {
-        let (element, after) = next_count(rest, 0, count)?;
+        let (element, after) = next_below(rest, count)?;
         if !taken.add(element)? {
             return Err(fault(DescKind::Repeated, rest.line));
         }

@@ -1,5 +1,6 @@
 -- The lines of a text.
-use Rattle.std.specs.Prelude.{ℕ, ◌<◌, ◌≤◌, ◌≡◌, ◌≢◌, Bool, ◌==◌, List, [], ◌∷◌, ◌++◌, length, slice_index, Option, Some, None, IsTrue}
+use Rattle.std.specs.Prelude.{ℕ, ◌<◌, ◌≤◌, ◌≡◌, ◌≢◌, Bool, ◌==◌, List, []}
+use Rattle.std.specs.Prelude.{◌∷◌, ◌++◌, length, slice_index, Option, Some, None, IsTrue}
 use Rattle.std.specs.List.{All, slice_split, join_with_byte, list_all}
 use Rattle.mat_words.specs.Words.{is_word}
 
@@ -17,7 +18,8 @@ HasNoNewline bytes = All (λ b. b ≢ 10) bytes
 
 -- the place of the first byte 10 that stands at `from` or after it, where there is one
 abbrev pub IsNextLine : List ℕ → ℕ → Option ℕ → Type 0
-IsNextLine text from (Some at) = (from ≤ at) × (at < length text) × (slice_index text at ≡ 10) × ((k : ℕ) → from ≤ k → k < at → slice_index text k ≢ 10)
+IsNextLine text from (Some at) = (from ≤ at) × (at < length text) × (slice_index text at ≡ 10)
+    × ((k : ℕ) → from ≤ k → k < at → slice_index text k ≢ 10)
 IsNextLine text from None = (k : ℕ) → from ≤ k → k < length text → slice_index text k ≢ 10
 
 -- a text is cut behind its first line

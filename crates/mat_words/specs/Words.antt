@@ -1,5 +1,6 @@
 -- The words of a line.
-use Rattle.std.specs.Prelude.{ℕ, ◌-◌, ◌+◌, ◌<◌, ◌≤◌, ◌≡◌, ◌≢◌, Bool, false, ◌&&◌, ◌==◌, nat_le, List, [], ◌∷◌, length, slice_index}
+use Rattle.std.specs.Prelude.{ℕ, ◌-◌, ◌+◌, ◌<◌, ◌≤◌, ◌≡◌, ◌≢◌, Bool, false}
+use Rattle.std.specs.Prelude.{◌&&◌, ◌==◌, nat_le, List, [], ◌∷◌, length, slice_index}
 use Rattle.std.specs.List.{slice_split, list_all}
 
 -- whether a byte is the space

@@ -1,6 +1,7 @@
 //! The lines of a text.
 
-ghost use Rattle.std.specs.Prelude.{◌≡◌, ◌≤◌, [], ◌∷◌, ◌<◌, ◌+◌, ◌++◌, ◌⊎◌, length, map, MatchOption, IfSome, ℕ, List};
+ghost use Rattle.std.specs.Prelude.{◌≡◌, ◌≤◌, [], ◌∷◌, ◌<◌, ◌+◌, ◌++◌};
+ghost use Rattle.std.specs.Prelude.{◌⊎◌, length, map, MatchOption, IfSome, ℕ, List};
 ghost use Rattle.std.specs.List.{join_with_byte};
 ghost use Rattle.mat_words.specs.Lines.{lines_of, text_of, AreLines, HasNoNewline, IsNextLine, IsFirstLine};
 

@@ -18,7 +18,11 @@ pub fn put_number_word(out: &mut Vec<u8>, number: i128) -> Result<(), AllocError
 }
 
 /// Appends a line of a keyword and numbers. After an AllocError a part of it may stand in `out`.
-pub fn put_numbers_line(out: &mut Vec<u8>, keyword: &[u8], numbers: &[i128]) -> Result<(), AllocError>
+pub fn put_numbers_line(
+    out: &mut Vec<u8>,
+    keyword: &[u8],
+    numbers: &[i128],
+) -> Result<(), AllocError>
     ensures { OnOk result (out.new.items ≡ out.old.items ++ text_of (numbers_line keyword.now numbers.now ∷ [])) }
 {
     out.extend_from_slice(keyword)?;
@@ -30,7 +34,11 @@ pub fn put_numbers_line(out: &mut Vec<u8>, keyword: &[u8], numbers: &[i128]) -> 
 }
 
 /// Appends a line of a keyword and the members of a list, in their order. After an AllocError a part of it may stand in `out`.
-pub fn put_members_line(out: &mut Vec<u8>, keyword: &[u8], members: &[u32]) -> Result<(), AllocError>
+pub fn put_members_line(
+    out: &mut Vec<u8>,
+    keyword: &[u8],
+    members: &[u32],
+) -> Result<(), AllocError>
     ensures { OnOk result (out.new.items ≡ out.old.items ++ text_of (members_line keyword.now members.now ∷ [])) }
 {
     out.extend_from_slice(keyword)?;
