@@ -1,8 +1,6 @@
 -- The text of the lines of rungs, one rung after the other, and of a certificate, part by part.
-use Rattle.std.proofs.Common.{◌≡◌, ℕ, ◌+◌, ◌<◌, ◌≤◌, suc, codes, List, [], ◌∷◌, ◌++◌, length, map, take, get_or, sym, ap, ◌∙◌, arith, zero-add}
-use Rattle.std.specs.List.{flat_map, join_with_byte}
-use Rattle.std.proofs.lemmas.List.{append_assoc, append-nil, flat_map_more, take_more, take_all, length-take}
-use Rattle.std.proofs.lemmas.List.Folds.{flat_map-map}
+use Rattle.std.proofs.Common.{◌≡◌, ℕ, ◌+◌, ◌<◌, suc, codes, List, [], ◌∷◌, ◌++◌, length, take, get_or, sym, ap, ◌∙◌, arith, zero-add}
+use Rattle.std.proofs.lemmas.List.{append_assoc, append-nil, take_more, length-take}
 use Rattle.mat_words.specs.Lines.{Line, text_of}
 use Rattle.mat_words.specs.Writing.{end_line, members_line}
 use Rattle.mat_words.proofs.LineLemmas.{text_of-append}

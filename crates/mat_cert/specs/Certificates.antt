@@ -1,6 +1,6 @@
 -- Certificates as plain data, their ranges, and the one text of each.
 use Rattle.std.specs.Prelude.{◌≡◌, ℕ, suc, ◌+◌, ◌-◌, ◌<◌, ◌≤◌, ◌^◌, List, []}
-use Rattle.std.specs.Prelude.{◌∷◌, ◌++◌, length, map, codes, ℤ, pos, neg_ℤ, ◌≤ℤ◌, All}
+use Rattle.std.specs.Prelude.{◌∷◌, ◌++◌, length, codes, ℤ, pos, All}
 use Rattle.mat_sets.specs.Sets.{IsSet}
 use Rattle.mat_sets.specs.Sums.{IsWithin}
 use Rattle.mat_words.specs.Numbers.{numeral}

@@ -43,8 +43,8 @@ IsValidTree n (laminar m sets caps) = (m ≡ n) × AreNestedSets n sets caps
 IsValidTree n (graphic vertices edges) = (length edges ≡ n) × (1 ≤ vertices) × (vertices ≤ most_vertices)
     × All (IsPairBelow vertices vertices) edges
 IsValidTree n (transversal m family) = (m ≡ n) × (length family ≤ most_sets) × All (IsSet n) family
-IsValidTree n (gammoid vertices arcs sources targets) = (length targets ≡ n) × (1 ≤ vertices) × (vertices ≤ most_vertices) × (length arcs ≤ most_arcs)
-    × All (IsPairBelow vertices vertices) arcs × IsSet vertices sources × AllBelow vertices targets × AreDistinct targets
+IsValidTree n (gammoid vertices arcs sources targets) = (length targets ≡ n) × (1 ≤ vertices) × (vertices ≤ most_vertices)
+    × (length arcs ≤ most_arcs) × All (IsPairBelow vertices vertices) arcs × IsSet vertices sources × AllBelow vertices targets × AreDistinct targets
 IsValidTree n (gf2 dim columns) = (length columns ≡ n) × (1 ≤ dim) × (dim ≤ most_digits) × All (λ column. column < 2 ^ dim) columns
 IsValidTree n (dual t) = IsValidTree n t
 IsValidTree n (truncate cap t) = (cap ≤ most_elements) × IsValidTree n t

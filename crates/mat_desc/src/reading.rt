@@ -3,7 +3,8 @@
 ghost use Rattle.std.specs.Prelude.{◌≡◌, ◌<◌, ◌≤◌, ◌≤ℤ◌, IfOk};
 ghost use Rattle.mat_desc.specs.Faults.{Gives};
 ghost use Rattle.mat_desc.specs.Grammar.{IsWeight};
-ghost use Rattle.mat_desc.specs.Reading.{line_at, word_at, number_at, size_at, below_at, read_weight, ended_at, repeat_at, elements_at, keyed_at, weights_at};
+ghost use Rattle.mat_desc.specs.Reading.{line_at, word_at, number_at, size_at, below_at, read_weight, ended_at};
+ghost use Rattle.mat_desc.specs.Reading.{repeat_at, elements_at, keyed_at, weights_at};
 ghost use Rattle.mat_desc.specs.Views.{lines_left, words_left};
 
 use crate::cursor::{Lines, Words};
