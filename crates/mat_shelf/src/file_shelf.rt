@@ -111,11 +111,13 @@ impl<R: Files + Input> Shelf for FileShelf<'_, R> {
 mod tests {
     use super::*;
     use std::test::Fail;
-    use std::{fs, process};
+    use std::{env, fs, process};
 
     #[test]
     fn a_real_file_is_read_and_a_missing_one_is_counted(rt: HostRuntime) -> Result<(), Fail> {
-        let path = format!(in rt.alloc(); "/tmp/mat_shelf_{}", process::id(rt.process()))?;
+        let name = format!(in rt.alloc(); "mat_shelf_{}", process::id(rt.process()))?;
+        let mut path = env::temp_dir(&rt)?;
+        path.push(name.as_str())?;
         fs::write(&rt, path.as_str(), b"abc".as_slice())?;
         let mut shelf = FileShelf::new(&rt);
         let mut into = [0; 4];

@@ -61,7 +61,7 @@ impl MemShelf {
         }
     }
 
-    /// Opens the file of this name. The call fails by its number, or where no file has the name.
+    // Opens the file of this name. The call fails by its number, or where no file has the name.
     fn open_file(&mut self, name: &str) -> Result<(), Failed>
         ensures fails { IsErr result ↔ FailsToOpen self.old name.now }
         ensures ok { OnOk result (self.new ≡ after_open self.old name.now) }
@@ -88,7 +88,7 @@ impl MemShelf {
         }
     }
 
-    /// Gives the next bytes of the file that is open. The call fails by its number.
+    // Gives the next bytes of the file that is open. The call fails by its number.
     fn read_file(&mut self, name: &str, into: &mut [u8]) -> Result<usize, Failed>
         requires { IsReading self.old.opened name.now }
         ensures steps { 0 < self.old.step }

@@ -50,7 +50,7 @@ impl SureShelf {
     }
 }
 
-/// The bytes of the file at a place, or those of every other name.
+// The bytes of the file at a place, or those of every other name.
 fn bytes_at<'a>(files: &'a [NamedFile], other: &'a [u8], place: Option<usize>) -> &'a [u8]
     ensures { result.now ≡ bytes_at files.now other.now place }
 {
