@@ -1,5 +1,6 @@
 -- Files, and the shelves that are made of them.
-use Rattle.std.specs.Prelude.{◌≡◌, ℕ, ◌⊎◌, List, [], ◌∷◌, drop, length, min, unwrap_or, Bool, Option, Some, None, Contains, bytes_eq, option_map, slice_get, is_some, if◌then◌else◌}
+use Rattle.std.specs.Prelude.{◌≡◌, ℕ, ◌⊎◌, List, [], ◌∷◌, drop, length, min, Contains, bytes_eq, slice_get}
+use Rattle.std.specs.Prelude.{Bool, if◌then◌else◌, Option, Some, None, option_map, unwrap_or, is_some}
 use Rattle.mat_shelf.specs.Faults.{next_count}
 
 -- a file: its name, what it holds, and how often a call for it failed

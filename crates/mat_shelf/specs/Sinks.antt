@@ -1,5 +1,6 @@
 -- Sinks in memory.
-use Rattle.std.specs.Prelude.{ℕ, ◌+◌, ◌-◌, ◌<◌, ◌≤◌, ◌⊎◌, min, nat_le, List, ◌++◌, take, length, Option, Some, None, Contains, if◌then◌else◌}
+use Rattle.std.specs.Prelude.{ℕ, ◌+◌, ◌-◌, ◌<◌, ◌≤◌, ◌⊎◌, min, nat_le, if◌then◌else◌}
+use Rattle.std.specs.Prelude.{List, ◌++◌, take, length, Contains, Option, Some, None}
 use Rattle.mat_shelf.specs.Faults.{next_count}
 
 -- A sink in memory: what it took, the most bytes that it takes in all and in a call, the numbers

@@ -1,9 +1,11 @@
 //! A shelf in memory whose calls fail by their numbers.
 
-ghost use Rattle.std.specs.Prelude.{◌≡◌, ◌≤◌, ◌<◌, ◌↔◌, ◌⊎◌, ℕ, List, None, [], length, min, Contains, take, IsErr, IsSome, OnOk, OnErr, IfOk, IfSome};
+ghost use Rattle.std.specs.Prelude.{◌≡◌, ◌≤◌, ◌<◌, ◌↔◌, ◌⊎◌, ℕ, List, None, [], length, min, Contains, take};
+ghost use Rattle.std.specs.Prelude.{IsErr, IsSome, OnOk, OnErr, IfOk, IfSome};
 ghost use Rattle.mat_shelf.specs.Faults.{Rose, last_count};
 ghost use Rattle.mat_shelf.specs.Reading.{Gave};
-ghost use Rattle.mat_shelf.specs.Files.{HaveDifferentNames, held_in, count_in, left_of, IsReading, FailsNext, FailsToOpen, after_open, after_failed_open, after_read, after_failed_read, read_count};
+ghost use Rattle.mat_shelf.specs.Files.{HaveDifferentNames, held_in, count_in, left_of, IsReading, FailsNext, FailsToOpen};
+ghost use Rattle.mat_shelf.specs.Files.{after_open, after_failed_open, after_read, after_failed_read, read_count};
 
 use crate::named_file::{NamedFile, copy_from, count_fault, place_of};
 use crate::traits::{Failed, Shelf};
@@ -130,10 +132,12 @@ impl Shelf for MemShelf {
         ensures err { OnErr result (self.new ≡ after_failed_open self.old name.now) }
 
         ensures held { (other : List ℕ) → held_in self.new.files other ≡ held_in self.old.files other }
-        ensures grows { (other : List ℕ) → count_in self.old.files self.old.other_faults other ≤ count_in self.new.files self.new.other_faults other }
+        ensures grows { (other : List ℕ) → count_in self.old.files self.old.other_faults other
+            ≤ count_in self.new.files self.new.other_faults other }
         ensures reading { OnOk result (IsReading self.new.opened name.now) }
         ensures left { OnOk result (IfSome (held_in self.old.files name.now) (λ bytes. left_of self.new.opened ≡ Some bytes)) }
-        ensures cause { OnErr result (Rose (count_in self.old.files self.old.other_faults name.now) (count_in self.new.files self.new.other_faults name.now)) }
+        ensures cause { OnErr result (Rose (count_in self.old.files self.old.other_faults name.now)
+            (count_in self.new.files self.new.other_faults name.now)) }
     {
         self.open_file(name)
     }
@@ -147,11 +151,13 @@ impl Shelf for MemShelf {
         ensures count { IfOk result (λ c. c ≡ read_count self.old (length into.new)) }
 
         ensures held { (other : List ℕ) → held_in self.new.files other ≡ held_in self.old.files other }
-        ensures grows { (other : List ℕ) → count_in self.old.files self.old.other_faults other ≤ count_in self.new.files self.new.other_faults other }
+        ensures grows { (other : List ℕ) → count_in self.old.files self.old.other_faults other
+            ≤ count_in self.new.files self.new.other_faults other }
         ensures reading { IsReading self.new.opened name.now }
         ensures bound { IfOk result (λ c. c ≤ length into.new) }
         ensures bytes { IfOk result (λ c. IfSome (left_of self.old.opened) (λ bytes. Gave bytes c into.new (left_of self.new.opened))) }
-        ensures cause { OnErr result (Rose (count_in self.old.files self.old.other_faults name.now) (count_in self.new.files self.new.other_faults name.now)) }
+        ensures cause { OnErr result (Rose (count_in self.old.files self.old.other_faults name.now)
+            (count_in self.new.files self.new.other_faults name.now)) }
     {
         self.read_file(name, into)
     }

@@ -74,7 +74,8 @@ impl Shelf for SureShelf {
         ensures opened { result ≡ Ok tt }
         ensures after { self.new ≡ after_sure_open self.old name.now }
 
-        ensures held { (other : List ℕ) → Some (held_or self.new.files self.new.other other) ≡ Some (held_or self.old.files self.old.other other) }
+        ensures held { (other : List ℕ) → Some (held_or self.new.files self.new.other other)
+            ≡ Some (held_or self.old.files self.old.other other) }
         ensures left { Some self.new.left ≡ Some (held_or self.old.files self.old.other name.now) }
     {
         self.place = place_of(&self.files, name);
@@ -87,7 +88,8 @@ impl Shelf for SureShelf {
         ensures count { result ≡ Ok (sure_read_count self.old (length into.new)) }
         ensures after { self.new ≡ after_sure_read self.old (length into.new) }
 
-        ensures held { (other : List ℕ) → Some (held_or self.new.files self.new.other other) ≡ Some (held_or self.old.files self.old.other other) }
+        ensures held { (other : List ℕ) → Some (held_or self.new.files self.new.other other)
+            ≡ Some (held_or self.old.files self.old.other other) }
         ensures bytes { Gave self.old.left (sure_read_count self.old (length into.new)) into.new (Some self.new.left) }
     {
         let bytes = bytes_at(&self.files, &self.other, self.place);
