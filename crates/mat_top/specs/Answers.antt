@@ -20,7 +20,8 @@ pub record IsRightLadder (n : ℕ) (p q : List ℕ → Bool) (w : List ℤ) (run
 
 -- the answer has the problem's number of elements, and is right for it
 abbrev pub IsRight : Instance → Certificate → Type 0
-IsRight (pair w first second) (intersect n rungs cut) = (n ≡ length w) × IsRightLadder n (is_independent first) (is_independent second) w rungs cut
+IsRight (pair w first second) (intersect n rungs cut) =
+    (n ≡ length w) × IsRightLadder n (is_independent first) (is_independent second) w rungs cut
 IsRight (list w matroids) answer = ⊥
 IsRight (graph vertices edges) answer = ⊥
 IsRight (rooted vertices root arcs costs) answer = ⊥

@@ -36,18 +36,18 @@ pub record IsDescribed (bytes : List ℕ) (instance : Instance) : Type 0 where
   pub spelled : Spells bytes instance
 
 -- the problem is a pair of matroids
-abbrev pub IsPair : Instance → Type 0
-IsPair (pair w first second) = Unit {0}
-IsPair (list w matroids) = ⊥
-IsPair (graph vertices edges) = ⊥
-IsPair (rooted vertices root arcs costs) = ⊥
-IsPair (coloured vertices colours edges colour_of weights) = ⊥
-IsPair (table rows columns cells weights) = ⊥
+abbrev pub IsPairProblem : Instance → Type 0
+IsPairProblem (pair w first second) = Unit {0}
+IsPairProblem (list w matroids) = ⊥
+IsPairProblem (graph vertices edges) = ⊥
+IsPairProblem (rooted vertices root arcs costs) = ⊥
+IsPairProblem (coloured vertices colours edges colour_of weights) = ⊥
+IsPairProblem (table rows columns cells weights) = ⊥
 
 -- the form of the problem is the command's
 abbrev pub HasForm : CommandLine → Instance → Type 0
 HasForm (show file) instance = Unit {0}
-HasForm (intersect file) instance = IsPair instance
+HasForm (intersect file) instance = IsPairProblem instance
 
 -- ---- what is written
 

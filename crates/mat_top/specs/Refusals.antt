@@ -10,22 +10,23 @@ use Rattle.mat_top.specs.declared.status.Refusal.{Refusal}
 use Rattle.mat_top.specs.declared.status.Refusal.TheVariants as refusals
 use Rattle.mat_top.specs.CommandLines.{CommandLine}
 use Rattle.mat_top.specs.Answers.{IsSolution, IsSolutionText}
-use Rattle.mat_top.specs.Outcomes.{IsPair, IsFaulty, IsTextFor, HasForm, IsBytesOutcome, IsAnswerTo, IsShort, description_limit, certificate_limit}
+use Rattle.mat_top.specs.Outcomes.{IsPairProblem, IsFaulty, IsTextFor, HasForm, IsBytesOutcome, IsAnswerTo, IsShort}
+use Rattle.mat_top.specs.Outcomes.{description_limit, certificate_limit}
 
 -- why a problem is not solved
 abbrev pub IsUnsolved : Instance → Refusal → Type 0
 IsUnsolved instance refusals.Memory = Unit {0}
-IsUnsolved instance refusals.WrongShape = IsPair instance → ⊥
+IsUnsolved instance refusals.WrongShape = IsPairProblem instance → ⊥
 IsUnsolved instance refusal = ⊥
 
 -- a right answer to a pair of matroids, and a refusal of every other problem
 abbrev pub IsSolved : Instance → Result Answer Refusal → Type 0
-IsSolved instance (Ok answer) = IsPair instance × IsSolution instance (certificate_of answer)
+IsSolved instance (Ok answer) = IsPairProblem instance × IsSolution instance (certificate_of answer)
 IsSolved instance (Err refusal) = IsUnsolved instance refusal
 
 -- the text is that of a right answer to a pair of matroids, and no longer than a certificate may be
 pub record HasSolutionText (instance : Instance) (text : List ℕ) : Type 0 where
-  pub form : IsPair instance
+  pub form : IsPairProblem instance
   pub answer : IsSolutionText instance text
   pub short : length text ≤ certificate_limit
 
@@ -57,7 +58,8 @@ abbrev pub IsRefusal : CommandLine → Option (List ℕ) → ℕ → ℕ → Ref
 IsRefusal line held before now refusals.ReadFault = Rose before now
 IsRefusal line held before now refusals.TooLong = IfSome held (λ bytes. description_limit < length bytes)
 IsRefusal line held before now refusals.Memory = Unit {0}
-IsRefusal line held before now (refusals.BadDescription kind number) = IfSome held (λ bytes. IsCause line bytes (refusals.BadDescription kind number))
+IsRefusal line held before now (refusals.BadDescription kind number) =
+    IfSome held (λ bytes. IsCause line bytes (refusals.BadDescription kind number))
 IsRefusal line held before now refusals.WrongShape = IfSome held (λ bytes. IsCause line bytes refusals.WrongShape)
 IsRefusal line held before now refusals.Usage = ⊥
 IsRefusal line held before now refusals.WriteFault = ⊥
@@ -69,7 +71,9 @@ IsPut text old before new now (Err refusals.WriteFault) = AppendedPrefix old tex
 IsPut text old before new now (Err refusal) = ⊥
 
 -- how a command ended: with the counts of its file's faults, and what the output tells and its count of faults, before and after
-abbrev pub IsEnded : CommandLine → Option (List ℕ) → ℕ → ℕ → Option (List ℕ) → ℕ → Option (List ℕ) → ℕ → Result (Unit {0}) Refusal → Type 0
+abbrev pub IsEnded : CommandLine → Option (List ℕ) → ℕ → ℕ → Option (List ℕ) → ℕ → Option (List ℕ) → ℕ
+    → Result (Unit {0}) Refusal → Type 0
 IsEnded line held before now old out_before new out_now (Ok done) = (text : List ℕ) × MayBeWritten line held text × Appended old text new
-IsEnded line held before now old out_before new out_now (Err refusals.WriteFault) = (text : List ℕ) × MayBeWritten line held text × AppendedPrefix old text new × Rose out_before out_now
+IsEnded line held before now old out_before new out_now (Err refusals.WriteFault) =
+    (text : List ℕ) × MayBeWritten line held text × AppendedPrefix old text new × Rose out_before out_now
 IsEnded line held before now old out_before new out_now (Err refusal) = IsRefusal line held before now refusal × (new ≡ old)

@@ -6,7 +6,7 @@ ghost use Rattle.mat_top.specs.Commands.{line_of};
 
 /// What the words of a command line ask for.
 #[derive(Clone, Copy)]
-pub enum Command<'a> {
+pub(crate) enum Command<'a> {
     /// Write the canonical text of the description in the file of this name.
     Show {
         /// The name of the description's file.
@@ -24,31 +24,29 @@ fn command_with_file<'a>(command: &str, file: &'a str) -> Option<Command<'a>>
     ensures { option_map line_of result ≡ with_file command.now file.now }
 {
     if file == "--workers" {
-        None
-    } else if command == "show" {
-        Some(Command::Show { file })
-    } else if command == "intersect" {
-        Some(Command::Intersect { file })
-    } else {
-        None
+        return None;
+    }
+    match command {
+        "show" => Some(Command::Show { file }),
+        "intersect" => Some(Command::Intersect { file }),
+        _ => None,
     }
 }
 
 /// The command that the words are: None where they are none. It takes no memory.
 #[tactic(auto, using(crate::proofs::Words::word_is), unfolding(crate::specs::CommandLines::command_line))]
-pub fn command_of(words: &[String]) -> Option<Command<'_>>
+pub(crate) fn command_of(words: &[String]) -> Option<Command<'_>>
     ensures { option_map line_of result ≡ command_line (map string_bytes words.now) }
 {
-    if words.len() == 2 {
-        command_with_file(words[0].as_str(), words[1].as_str())
-    } else {
-        None
-    }
+    let [command, file] = words else {
+        return None;
+    };
+    command_with_file(command.as_str(), file.as_str())
 }
 
 impl<'a> Command<'a> {
     /// The file of the description.
-    pub fn description(&self) -> &'a str
+    pub(crate) fn description(&self) -> &'a str
         ensures { result.now ≡ description_file (line_of self.now) }
     {
         match self {

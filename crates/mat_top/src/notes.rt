@@ -30,7 +30,8 @@ fn put_pieces<N: Sink>(notes: &mut N, pieces: &[&[u8]]) -> Result<(), Failed>
 
 // Writes the pieces of a line, or a prefix of them where the sink fails.
 fn put_line<N: Sink>(notes: &mut N, pieces: &[&[u8]])
-    ensures { IsNoted (flat_map (λ piece. piece.now) pieces.now) (N.written notes.old) (N.faults notes.old) (N.written notes.new) (N.faults notes.new) }
+    ensures { IsNoted (flat_map (λ piece. piece.now) pieces.now)
+        (N.written notes.old) (N.faults notes.old) (N.written notes.new) (N.faults notes.new) }
 {
     let _ = put_pieces(notes, pieces);
 }
@@ -52,7 +53,8 @@ fn number_into(buffer: &mut [u8; 40], n: u32) -> usize
 
 // Writes the note of a fault of the description.
 fn put_fault<N: Sink>(notes: &mut N, kind: DescKind, line: u32)
-    ensures { IsNoted (note_of (Refusal.BadDescription kind line)) (N.written notes.old) (N.faults notes.old) (N.written notes.new) (N.faults notes.new) }
+    ensures { IsNoted (note_of (Refusal.BadDescription kind line))
+        (N.written notes.old) (N.faults notes.old) (N.written notes.new) (N.faults notes.new) }
 {
     let mut number = [0; 40];
     let number_at = number_into(&mut number, kind.number());
@@ -73,7 +75,7 @@ fn put_fault<N: Sink>(notes: &mut N, kind: DescKind, line: u32)
 }
 
 /// Writes the note of a refusal, or a prefix of it where the sink fails. It takes no memory.
-pub fn put_note<N: Sink>(notes: &mut N, refusal: Refusal)
+pub(crate) fn put_note<N: Sink>(notes: &mut N, refusal: Refusal)
     ensures { IsNoted (note_of refusal) (N.written notes.old) (N.faults notes.old) (N.written notes.new) (N.faults notes.new) }
 {
     match refusal {

@@ -1,20 +1,42 @@
 //! Reading a whole file.
 
-ghost use Rattle.std.specs.Prelude.{◌≡◌, ◌≤◌, ◌<◌, ◌^◌, ◌+◌, ℕ, List, true, false, length, vec_len, OnOk, IfOk, IfErr, MatchResult};
+ghost use Rattle.std.specs.Prelude.{◌≡◌, ◌≤◌, ◌<◌, ◌^◌, ◌+◌, ℕ, List, true, false, length, vec_len};
+ghost use Rattle.std.specs.Prelude.{OnOk, IfOk, IfErr, MatchResult};
+ghost use Rattle.mat_top.specs.declared.reading.Unread.TheVariants.{Fault, Memory};
 ghost use Rattle.mat_top.specs.WholeFiles.{WasRead, NotRead, NotTaken, GoesOn, IsAtEnd};
 
-use mat_shelf::Shelf;
+use mat_shelf::{Failed, Shelf};
 use std::alloc::{AllocError, Global};
+use thiserror::Error;
 
 /// Why a file was not read.
-#[derive(Debug, Drop)]
-pub enum Unread {
+#[derive(Debug, Drop, Error)]
+pub(crate) enum Unread {
     /// It could not be opened or read.
+    #[error("the file could not be opened or read")]
     Fault,
     /// It has more bytes than the limit.
+    #[error("the file is too long")]
     TooLong,
     /// There was not enough memory.
+    #[error("memory ran out")]
     Memory,
+}
+
+impl From<Failed> for Unread {
+    ghost from_gives = { λ _ e. e ≡ Fault };
+
+    fn from(_failed: Failed) -> Unread {
+        Unread::Fault
+    }
+}
+
+impl From<AllocError> for Unread {
+    ghost from_gives = { λ _ e. e ≡ Memory };
+
+    fn from(_error: AllocError) -> Unread {
+        Unread::Memory
+    }
 }
 
 // The most bytes that one read asks for.
@@ -40,24 +62,18 @@ fn read_some<F: Shelf>(
     ensures grows { (other : List ℕ) → F.faults files.old other ≤ F.faults files.new other }
     ensures reading { F.reading files.new name.now }
     ensures left { OnOk result (GoesOn (F.left files.old) bytes.old.items bytes.new.items (F.left files.new)) }
-    ensures more { IfOk result (λ more. more ≡ true → (vec_len bytes.old < vec_len bytes.new) × (vec_len bytes.new ≤ vec_len bytes.old + length into.old)) }
+    ensures more { IfOk result (λ more. more ≡ true
+        → (vec_len bytes.old < vec_len bytes.new) × (vec_len bytes.new ≤ vec_len bytes.old + length into.old)) }
     ensures end { IfOk result (λ more. more ≡ false → (bytes.new.items ≡ bytes.old.items) × IsAtEnd (F.left files.old)) }
     ensures cause { IfErr result (λ e. NotTaken (F.faults files.old name.now) (F.faults files.new name.now) e) }
 {
-    match files.read(name, into) {
-        Err(_) => Err(Unread::Fault),
-        Ok(0) => Ok(false),
-        Ok(count) => {
-            if bytes.extend_from_slice(&into[..count]).is_err() {
-                return Err(Unread::Memory);
-            }
-            Ok(true)
-        }
-    }
+    let count = files.read(name, into)?;
+    bytes.extend_from_slice(&into[..count])?;
+    Ok(count > 0)
 }
 
 /// All bytes of a file that has at most as many as the limit. `TooLong` comes once one byte more was read, and then no more is.
-pub fn read_all<F: Shelf>(
+pub(crate) fn read_all<F: Shelf>(
     alloc: Global,
     files: &mut F,
     name: &str,
@@ -69,13 +85,9 @@ pub fn read_all<F: Shelf>(
     ensures read { MatchResult result (λ v. WasRead (F.held files.old name.now) limit v.items)
         (λ e. NotRead (F.held files.old name.now) limit (F.left files.new) (F.faults files.old name.now) (F.faults files.new name.now) e) }
 {
-    if files.open(name).is_err() {
-        return Err(Unread::Fault);
-    }
+    files.open(name)?;
     let mut bytes = Vec::new(alloc);
-    let Ok(mut buffer) = buffer_of(alloc, PIECE) else {
-        return Err(Unread::Memory);
-    };
+    let mut buffer = buffer_of(alloc, PIECE)?;
     while bytes.len() <= limit {
         let piece = (limit + 1 - bytes.len()).min(PIECE);
         match read_some(files, name, &mut buffer[..piece], &mut bytes) {

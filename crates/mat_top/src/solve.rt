@@ -78,7 +78,7 @@ fn solve_pair(
 }
 
 /// A right answer to a pair of matroids. `WrongShape` comes exactly where the problem is no pair, and `Memory` is want of memory.
-pub fn solve(alloc: Global, problem: &Problem) -> Result<Answer, Refusal>
+pub(crate) fn solve(alloc: Global, problem: &Problem) -> Result<Answer, Refusal>
     requires valid { IsValid (instance_of problem.now) }
     requires sound { IsSoundInstance (instance_of problem.now) }
     ensures { IsSolved (instance_of problem.now) result }
@@ -88,14 +88,11 @@ pub fn solve(alloc: Global, problem: &Problem) -> Result<Answer, Refusal>
             weights,
             first,
             second,
-        } => match solve_pair(alloc, weights, first, second) {
-            Ok(answer) => Ok(answer),
-            Err(_) => Err(Refusal::Memory),
-        },
-        Problem::List { .. } => Err(Refusal::WrongShape),
-        Problem::Graph { .. } => Err(Refusal::WrongShape),
-        Problem::Rooted { .. } => Err(Refusal::WrongShape),
-        Problem::Coloured { .. } => Err(Refusal::WrongShape),
-        Problem::Table { .. } => Err(Refusal::WrongShape),
+        } => Ok(solve_pair(alloc, weights, first, second)?),
+        Problem::List { .. }
+        | Problem::Graph { .. }
+        | Problem::Rooted { .. }
+        | Problem::Coloured { .. }
+        | Problem::Table { .. } => Err(Refusal::WrongShape),
     }
 }

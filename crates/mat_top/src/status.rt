@@ -1,9 +1,13 @@
 //! How a call ends.
 
 ghost use Rattle.std.specs.Prelude.{◌≡◌};
-ghost use Rattle.mat_top.specs.Statuses.{status_number, status_of};
+ghost use Rattle.mat_top.specs.declared.status.Refusal.TheVariants.{Memory};
+ghost use Rattle.mat_top.specs.Statuses.{status_number, status_of, refusal_of_unread, refusal_of_description};
 
-use mat_desc::DescKind;
+use crate::reading::Unread;
+use mat_desc::{DescKind, DescRefusal};
+use std::alloc::AllocError;
+use thiserror::Error;
 
 /// How a call ended.
 #[derive(Clone, Copy, Debug, PartialEq, Eq)]
@@ -45,27 +49,34 @@ impl Status {
 }
 
 /// Why a call was refused.
-#[derive(Clone, Copy, Debug)]
-pub enum Refusal {
+#[derive(Clone, Copy, Debug, Error)]
+pub(crate) enum Refusal {
     /// The words are no command.
+    #[error("the words are no command")]
     Usage,
     /// The description's first fault, and the number of its line.
+    #[error("line {1} of the description: {0:?}")]
     BadDescription(DescKind, u32),
     /// A file could not be opened or read.
+    #[error("a file could not be opened or read")]
     ReadFault,
     /// The answer could not be written whole.
+    #[error("the answer could not be written whole")]
     WriteFault,
     /// There was not enough memory.
+    #[error("memory ran out")]
     Memory,
     /// A file has more bytes than its limit.
+    #[error("a file is too long")]
     TooLong,
     /// The form of the problem is not the command's.
+    #[error("the form of the problem is not the command's")]
     WrongShape,
 }
 
 impl Refusal {
     /// The status of a call that was refused so.
-    pub fn status(self) -> Status
+    pub(crate) fn status(self) -> Status
         ensures { result ≡ status_of self }
     {
         match self {
@@ -76,6 +87,37 @@ impl Refusal {
             Refusal::Memory => Status::Memory,
             Refusal::TooLong => Status::TooLong,
             Refusal::WrongShape => Status::WrongShape,
+        }
+    }
+}
+
+impl From<AllocError> for Refusal {
+    ghost from_gives = { λ _ e. e ≡ Memory };
+
+    fn from(_error: AllocError) -> Refusal {
+        Refusal::Memory
+    }
+}
+
+impl From<Unread> for Refusal {
+    ghost from_gives = { λ unread e. e ≡ refusal_of_unread unread };
+
+    fn from(unread: Unread) -> Refusal {
+        match unread {
+            Unread::Fault => Refusal::ReadFault,
+            Unread::TooLong => Refusal::TooLong,
+            Unread::Memory => Refusal::Memory,
+        }
+    }
+}
+
+impl From<DescRefusal> for Refusal {
+    ghost from_gives = { λ refusal e. e ≡ refusal_of_description refusal };
+
+    fn from(refusal: DescRefusal) -> Refusal {
+        match refusal {
+            DescRefusal::Fault { kind, line } => Refusal::BadDescription(kind, line),
+            DescRefusal::Memory => Refusal::Memory,
         }
     }
 }

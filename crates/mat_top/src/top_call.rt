@@ -1,23 +1,25 @@
 //! The top call.
 
-ghost use Rattle.std.specs.Prelude.{◌≡◌, ◌≤◌, ◌<◌, ◌↔◌, ◌⊎◌, ℕ, List, map, string_bytes, length, IfOk, IfErr, IfSome, Some, None};
+ghost use Rattle.std.specs.Prelude.{◌≡◌, ◌≤◌, ◌<◌, ◌↔◌, ◌⊎◌, ℕ, List, map, string_bytes, length};
+ghost use Rattle.std.specs.Prelude.{IfOk, IfErr, IfSome, Some, None};
 ghost use Rattle.mat_shelf.specs.Faults.{Rose};
 ghost use Rattle.mat_desc.specs.Grammar.{IsValid};
 ghost use Rattle.mat_desc.specs.Soundness.{IsSoundInstance};
 ghost use Rattle.mat_desc.specs.Views.{instance_of};
 ghost use Rattle.mat_top.specs.CommandLines.{CommandLine, command_line, description_file};
 ghost use Rattle.mat_top.specs.Commands.{line_of};
-ghost use Rattle.mat_top.specs.Outcomes.{Tells, IsStatus, IsOutcome, IsWritten, CallReaches, IsNote, IsNoted, IsAnswerTo, IsShort, description_limit};
+ghost use Rattle.mat_top.specs.Outcomes.{Tells, IsStatus, IsOutcome, IsWritten, CallReaches, IsNote, IsNoted};
+ghost use Rattle.mat_top.specs.Outcomes.{IsAnswerTo, IsShort, description_limit};
 ghost use Rattle.mat_top.specs.Refusals.{HasText, HasNoText, HasSolutionText, IsUnsolved, IsCause, IsRefusal, IsPut, IsEnded};
 
 use crate::command::{Command, command_of};
 use crate::notes::put_note;
-use crate::reading::{Unread, read_all};
+use crate::reading::read_all;
 use crate::solve::solve;
 use crate::status::{Refusal, Status};
 use crate::writing::put_all;
 use mat_cert::write_answer;
-use mat_desc::{DescRefusal, Problem, read_problem, write_problem};
+use mat_desc::{Problem, read_problem, write_problem};
 use mat_shelf::{Shelf, Sink};
 use std::alloc::Global;
 
@@ -31,14 +33,8 @@ fn solution_text(alloc: Global, problem: &Problem) -> Result<Vec<u8>, Refusal>
     ensures text { IfOk result (λ v. HasSolutionText (instance_of problem.now) v.items) }
     ensures refusal { IfErr result (λ e. IsUnsolved (instance_of problem.now) e) }
 {
-    let answer = match solve(alloc, problem) {
-        Ok(answer) => answer,
-        Err(refusal) => return Err(refusal),
-    };
-    match write_answer(alloc, &answer) {
-        Ok(text) => Ok(text),
-        Err(_) => Err(Refusal::Memory),
-    }
+    let answer = solve(alloc, problem)?;
+    Ok(write_answer(alloc, &answer)?)
 }
 
 // What the command writes for a problem.
@@ -49,10 +45,7 @@ fn text_for(alloc: Global, command: &Command<'_>, problem: &Problem) -> Result<V
     ensures refusal { IfErr result (λ e. HasNoText (line_of command.now) (instance_of problem.now) e) }
 {
     match command {
-        Command::Show { .. } => match write_problem(alloc, problem) {
-            Ok(text) => Ok(text),
-            Err(_) => Err(Refusal::Memory),
-        },
+        Command::Show { .. } => Ok(write_problem(alloc, problem)?),
         Command::Intersect { .. } => solution_text(alloc, problem),
     }
 }
@@ -64,11 +57,8 @@ fn answer_to(alloc: Global, command: &Command<'_>, bytes: &[u8]) -> Result<Vec<u
     ensures short { IfOk result (λ v. IsShort (line_of command.now) v.items) }
     ensures refusal { IfErr result (λ e. IsCause (line_of command.now) bytes.now e) }
 {
-    match read_problem(alloc, bytes) {
-        Ok(problem) => text_for(alloc, command, &problem),
-        Err(DescRefusal::Memory) => Err(Refusal::Memory),
-        Err(DescRefusal::Fault { kind, line }) => Err(Refusal::BadDescription(kind, line)),
-    }
+    let problem = read_problem(alloc, bytes)?;
+    text_for(alloc, command, &problem)
 }
 
 // What the command writes for the description in its file.
@@ -81,12 +71,7 @@ fn answer<F: Shelf>(alloc: Global, files: &mut F, command: &Command<'_>) -> Resu
     ensures refusal { IfErr result (λ e. IsRefusal (line_of command.now) (F.held files.old (description_file (line_of command.now)))
         (F.faults files.old (description_file (line_of command.now))) (F.faults files.new (description_file (line_of command.now))) e) }
 {
-    let bytes = match read_all(alloc, files, command.description(), DESCRIPTION_LIMIT) {
-        Ok(bytes) => bytes,
-        Err(Unread::Fault) => return Err(Refusal::ReadFault),
-        Err(Unread::TooLong) => return Err(Refusal::TooLong),
-        Err(Unread::Memory) => return Err(Refusal::Memory),
-    };
+    let bytes = read_all(alloc, files, command.description(), DESCRIPTION_LIMIT)?;
     answer_to(alloc, command, &bytes)
 }
 
@@ -95,10 +80,7 @@ fn written<O: Sink>(out: &mut O, text: &[u8]) -> Result<(), Refusal>
     ensures grows { O.faults out.old ≤ O.faults out.new }
     ensures put { IsPut text.now (O.written out.old) (O.faults out.old) (O.written out.new) (O.faults out.new) result }
 {
-    match put_all(out, text) {
-        Ok(()) => Ok(()),
-        Err(_) => Err(Refusal::WriteFault),
-    }
+    put_all(out, text).map_err(|_failed| Refusal::WriteFault)
 }
 
 // Does what the command says, and tells how that ended.
@@ -115,10 +97,8 @@ fn perform<F: Shelf, O: Sink>(
         (F.faults files.old (description_file (line_of command.now))) (F.faults files.new (description_file (line_of command.now)))
         (O.written out.old) (O.faults out.old) (O.written out.new) (O.faults out.new) result }
 {
-    match answer(alloc, files, command) {
-        Ok(text) => written(out, &text),
-        Err(refusal) => Err(refusal),
-    }
+    let text = answer(alloc, files, command)?;
+    written(out, &text)
 }
 
 /// Does what the words ask for: reads its file from the shelf, writes the answer to `out` and, where it is refused, a note to
@@ -126,8 +106,8 @@ fn perform<F: Shelf, O: Sink>(
 ///
 /// Usage comes exactly where the words are no command, ReadFault only where the shelf's count of faults rose for the file, and
 /// WriteFault only where the count of `out` rose. Where the shelf tells the file, each other status but Memory is the one of the
-/// table in docs/DEFINITIONS.md: TooLong, BadDescription, WrongShape or Done. Nothing is written to `out` but on Done, when it is the whole answer, and on WriteFault, when
-/// it is a prefix of it.
+/// table in docs/DEFINITIONS.md: TooLong, BadDescription, WrongShape or Done. Nothing is written to `out` but on Done, when it
+/// is the whole answer, and on WriteFault, when it is a prefix of it.
 pub fn run<F: Shelf, O: Sink, N: Sink>(
     alloc: Global,
     words: &[String],
@@ -145,7 +125,8 @@ pub fn run<F: Shelf, O: Sink, N: Sink>(
     ensures unopened { result ≡ Status.Usage → files.new ≡ files.old }
 
     // Faults have a cause: a count that rose.
-    ensures read_fault { result ≡ Status.ReadFault → (name : List ℕ) × CallReaches (F.held files.old) (command_line (map string_bytes words.now)) name
+    ensures read_fault { result ≡ Status.ReadFault
+        → (name : List ℕ) × CallReaches (F.held files.old) (command_line (map string_bytes words.now)) name
         × Rose (F.faults files.old name) (F.faults files.new name) }
     ensures write_fault { result ≡ Status.WriteFault → Rose (O.faults out.old) (O.faults out.new) }
 

@@ -7,7 +7,7 @@ ghost use Rattle.mat_shelf.specs.Writing.{Appended, AppendedPrefix};
 use mat_shelf::{Failed, Sink};
 
 /// Writes all of a text, or a prefix of it where the sink fails. It takes no memory.
-pub fn put_all<O: Sink>(sink: &mut O, text: &[u8]) -> Result<(), Failed>
+pub(crate) fn put_all<O: Sink>(sink: &mut O, text: &[u8]) -> Result<(), Failed>
     ensures grows { O.faults sink.old ≤ O.faults sink.new }
     ensures ok { OnOk result (Appended (O.written sink.old) text.now (O.written sink.new)) }
     ensures err { OnErr result (AppendedPrefix (O.written sink.old) text.now (O.written sink.new)) }
