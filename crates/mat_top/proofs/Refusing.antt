@@ -1,17 +1,12 @@
 -- Where there is a text for what was read, it is one for the bytes and for the file; and where there is none, why.
 use Rattle.std.proofs.Common.{◌≡◌, ℕ, ◌<◌, ◌≤◌, List, length, Option, Some, None, Result, Ok, Err, IfOk, sym, subst}
 use Rattle.std.specs.Prelude.{IfSome, IfErr}
-use Rattle.mat_desc.specs.declared.refusal.DescKind.{DescKind}
-use Rattle.mat_desc.specs.declared.refusal.DescRefusal.{DescRefusal}
-use Rattle.mat_desc.specs.declared.refusal.DescRefusal.TheVariants as faults
-use Rattle.mat_desc.specs.Faults.{Fails}
 use Rattle.mat_desc.specs.Instances.{Instance}
 use Rattle.mat_desc.specs.Grammar.{Spells}
-use Rattle.mat_desc.specs.Reading.{read_of}
 use Rattle.mat_top.specs.declared.status.Refusal.{Refusal}
 use Rattle.mat_top.specs.declared.status.Refusal.TheVariants as refusals
 use Rattle.mat_top.specs.CommandLines.{CommandLine}
-use Rattle.mat_top.specs.Outcomes.{IsFaulty, IsAnswerTo, description_limit}
+use Rattle.mat_top.specs.Outcomes.{IsAnswerTo, description_limit}
 use Rattle.mat_top.specs.Refusals.{HasText, HasNoText, IsCause, IsRefusal}
 
 -- a text for the problem that the bytes spell
@@ -39,10 +34,6 @@ pub answer_refused : {X : Type 0} (line : CommandLine) (bytes : List ℕ) (insta
     → IfErr found (λ e. HasNoText line instance e) → IfErr found (λ e. IsCause line bytes e)
 answer_refused line bytes instance (Ok x) within spelled none = tt
 answer_refused line bytes instance (Err refusal) within spelled none = unanswered line bytes instance refusal within spelled none
-
--- a fault of the bytes
-pub faulty : (bytes : List ℕ) (refusal : DescRefusal) (kind : DescKind) (number : ℕ) → length bytes ≤ description_limit → refusal ≡ faults.Fault kind number → Fails refusal (read_of bytes) → IsFaulty bytes (kind, number)
-faulty bytes refusal kind number within is fails = (let first : read_of bytes ≡ Err (kind, number) = subst (λ r. Fails r (read_of bytes)) is fails in record { within = within; first = first })
 
 -- what holds of the bytes that were read holds of the file
 pub of_file : (held : Option (List ℕ)) (bytes : List ℕ) (P : List ℕ → Type 0) → IfSome held (λ all. all ≡ bytes) → P bytes → IfSome held P
