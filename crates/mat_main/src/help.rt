@@ -1,14 +1,14 @@
 //! What `--help` and `--version` print.
 
 /// The line of `--version`.
-pub const VERSION: &str = "matbench 0.1.0\n";
+pub(crate) const VERSION: &str = "matbench 0.1.0\n";
 
 /// The screen of `--help`.
-pub const HELP: &str = "\
+pub(crate) const HELP: &str = "\
 matbench: weighted optimisation over matroids, with answers that are proved best
 
 usage: matbench show FILE          the canonical text of a description
-       matbench intersect FILE     the heaviest sets of each size that are independent in both matroids
+       matbench intersect FILE     a heaviest set of each size that is independent in both matroids
        matbench --help             this text
        matbench --version          the version
 
@@ -39,4 +39,5 @@ line but one is a cut, which shows that no larger set is independent in both.
 exit statuses: 0 done, 2 usage, 3 bad description, 5 read fault, 6 write fault, 7 not enough memory,
 8 file too long, 9 wrong shape. A refusal writes one line to standard error; that of a bad
 description names the first fault and its line.
+The script ./matbench ends with 70 where it cannot build the program.
 ";

@@ -36,10 +36,10 @@ fn print_text(rt: &HostRuntime, text: &str) -> ExitCode {
 
 // The text that the words ask for, where they are `--help` or `--version` alone.
 fn text_of(words: &[String]) -> Option<&'static str> {
-    if words.len() != 1 {
+    let [word] = words else {
         return None;
-    }
-    match words[0].as_str() {
+    };
+    match word.as_str() {
         "--help" => Some(HELP),
         "--version" => Some(VERSION),
         _ => None,
@@ -58,4 +58,58 @@ fn main(rt: HostRuntime) -> ExitCode {
     let mut notes = StreamSink::new(rt.stderr());
     let status = run(rt.alloc(), &words, &mut files, &mut out, &mut notes);
     ExitCode::from(status.number())
+}
+
+#[cfg(test)]
+mod tests {
+    use super::*;
+    use std::alloc::Global;
+    use std::test::Fail;
+
+    fn text_for(alloc: Global, words: &[&str]) -> Result<Option<&'static str>, AllocError> {
+        let mut all = Vec::new(alloc);
+        for word in words {
+            all.push(String::from_str(alloc, word)?)?;
+        }
+        Ok(text_of(&all))
+    }
+
+    #[test]
+    fn version_alone_is_answered_by_name_and_number(rt: HostRuntime) -> Result<(), Fail> {
+        let text = text_for(rt.alloc(), &["--version"])?;
+        assert_eq!(rt; text, Some("matbench 0.1.0\n"));
+        Ok(())
+    }
+
+    #[test]
+    fn help_alone_names_each_command_line_and_status(rt: HostRuntime) -> Result<(), Fail> {
+        let help = text_for(rt.alloc(), &["--help"])?.unwrap_or("");
+        let parts = [
+            "matbench show FILE",
+            "matbench intersect FILE",
+            "matbench --help",
+            "matbench --version",
+            "exit statuses: 0 done, 2 usage, 3 bad description, 5 read fault, 6 write fault",
+        ];
+        for part in parts {
+            assert!(rt; help.contains(part));
+        }
+        assert!(rt; help.ends_with("\n"));
+        Ok(())
+    }
+
+    #[test]
+    fn other_words_have_no_text(rt: HostRuntime) -> Result<(), Fail> {
+        let lines: [&[&str]; 5] = [
+            &[],
+            &["--help", "--version"],
+            &["show", "--help"],
+            &["help"],
+            &["--HELP"],
+        ];
+        for words in lines {
+            assert!(rt; text_for(rt.alloc(), words)?.is_none());
+        }
+        Ok(())
+    }
 }
