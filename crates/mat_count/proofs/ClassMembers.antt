@@ -2,11 +2,11 @@
 use Rattle.std.proofs.Common.{◌≡◌, ℕ, ◌+◌, ◌<◌, Bool, true, false, eqb, List, [], length, get_or, take, Option, Some, None}
 use Rattle.std.specs.Option.{option_eq}
 use Rattle.mat_sets.specs.Sets.{is_member, IsRising, AllBelow, with_one, intersection}
+use Rattle.mat_sets.proofs.Filters.{filter-found, filter-passed, IsRising-found}
 use Rattle.mat_sets.proofs.Ground.{AllBelow-member}
 use Rattle.mat_count.specs.Partitions.{names, IsClassTable}
 use Rattle.mat_count.specs.ClassMembers.{named_members}
 use Rattle.mat_sets.proofs.Members.{filter_same_at}
-use Rattle.mat_count.proofs.Filters.{filter-found, filter-passed, IsRising-found}
 
 -- the members found before a place rise
 pub IsRising-named_members : (table : List (Option ℕ)) (place : ℕ) (X members : List ℕ) (i : ℕ) → IsRising X

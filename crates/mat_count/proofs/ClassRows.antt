@@ -9,12 +9,12 @@ use Rattle.mat_sets.proofs.Members.{filter_same_at, IsRising-without_one, set_me
 use Rattle.mat_sets.proofs.Changes.{with_one-returned}
 use Rattle.mat_sets.proofs.Ground.{IsSet-with_one, IsSet-without_one}
 use Rattle.mat_sets.proofs.SetTests.{IsSet-from_test, test_from-IsSet}
+use Rattle.mat_sets.proofs.Filters.{filter_whole}
 use Rattle.mat_laws.specs.declared.exchange.Exchange.{Exchange}
 use Rattle.mat_laws.specs.Exchanges.{row_of}
 use Rattle.mat_laws.proofs.Rows.{row_outside}
 use Rattle.mat_count.specs.Counts.{is_within_caps, IsWithinCaps, is_counted}
 use Rattle.mat_count.specs.LaminarLaws.{IsWithinCaps-from_test, test_from-IsWithinCaps, counted_more, counted_same}
-use Rattle.mat_count.proofs.Filters.{filter_whole}
 
 -- ---- counts in one set
 
@@ -41,7 +41,8 @@ counted-exchanged S I x y rising outside inside =
 -- ---- whether an exchanged set is independent
 
 -- a count after one more, or after an exchange, is at most the cap
-fits_added : (a : Bool) (after before cap : ℕ) → after ≡ before + indicator a → before ≤ cap → (a ≡ true → before < cap) → after ≤ cap
+fits_added : (a : Bool) (after before cap : ℕ) → after ≡ before + indicator a → before ≤ cap → (a ≡ true → before < cap)
+    → after ≤ cap
 fits_added true after before cap is most room = let less = room refl in omega arith
 fits_added false after before cap is most room = omega arith
 

@@ -19,7 +19,8 @@ crossed_none (S ∷ sets) next none =
     rw (none 0 (omega arith)) (crossed_none sets next (λ k l. none (suc k) (omega arith)))
 
 -- some set of the list crosses the next
-crossed_some : (sets : List (List ℕ)) (next : List ℕ) (a : ℕ) → a < length sets → crosses (get_or sets a []) next ≡ true → is_crossed sets next ≡ true
+crossed_some : (sets : List (List ℕ)) (next : List ℕ) (a : ℕ) → a < length sets → crosses (get_or sets a []) next ≡ true
+    → is_crossed sets next ≡ true
 unfolding is_crossed
 crossed_some [] next a l h = absurd (omega arith)
 crossed_some (S ∷ sets) next zero l h = rw h refl
@@ -37,16 +38,19 @@ pub IsLaminarFamily-nil : IsLaminarFamily []
 IsLaminarFamily-nil = record { nested = λ i j l m. absurd (omega arith) }
 
 -- a set that none crosses is one more of the family
-pub IsLaminarFamily-more : (sets : List (List ℕ)) (next : List ℕ) → IsLaminarFamily sets → is_crossed sets next ≡ false → IsLaminarFamily (sets ++ next ∷ [])
+pub IsLaminarFamily-more : (sets : List (List ℕ)) (next : List ℕ) → IsLaminarFamily sets → is_crossed sets next ≡ false
+    → IsLaminarFamily (sets ++ next ∷ [])
 IsLaminarFamily-more sets next family free = record { nested = nested }
   where
-    nested : (i j : ℕ) → i < j → j < length (sets ++ next ∷ []) → crosses (get_or (sets ++ next ∷ []) i []) (get_or (sets ++ next ∷ []) j []) ≡ false
+    nested : (i j : ℕ) → i < j → j < length (sets ++ next ∷ [])
+        → crosses (get_or (sets ++ next ∷ []) i []) (get_or (sets ++ next ∷ []) j []) ≡ false
     nested i j l m =
         let long = length-append sets (next ∷ []) in
         elim (cases_eq j (length sets)) [
           | inl last ↦
               let first : get_or (sets ++ next ∷ []) i [] ≡ get_or sets i [] = get_or_append_left sets (next ∷ []) [] i (omega arith) in
-              let second : get_or (sets ++ next ∷ []) j [] ≡ next = ap (λ k. get_or (sets ++ next ∷ []) k []) last ∙ get_or-append_seam sets next [] [] in
+              let second : get_or (sets ++ next ∷ []) j [] ≡ next = ap (λ k. get_or (sets ++ next ∷ []) k []) last
+              ∙ get_or-append_seam sets next [] [] in
               ap₂ crosses first second ∙ false_from_ne_true _ (λ h. both_ways _ free (crossed_some sets next i (omega arith) h))
           | inr other ↦
               let first : get_or (sets ++ next ∷ []) i [] ≡ get_or sets i [] = get_or_append_left sets (next ∷ []) [] i (omega arith) in
@@ -55,7 +59,8 @@ IsLaminarFamily-more sets next family free = record { nested = nested }
         ]
 
 -- no set of a family is crossed by an earlier one
-pub IsLaminarFamily-free : (sets : List (List ℕ)) (next : List ℕ) (others : List (List ℕ)) → IsLaminarFamily (sets ++ next ∷ others) → is_crossed sets next ≡ false
+pub IsLaminarFamily-free : (sets : List (List ℕ)) (next : List ℕ) (others : List (List ℕ)) → IsLaminarFamily (sets ++ next ∷ others)
+    → is_crossed sets next ≡ false
 IsLaminarFamily-free sets next others family = crossed_none sets next (λ k l.
     let long = length-append sets (next ∷ others) in
     let first : get_or (sets ++ next ∷ others) k [] ≡ get_or sets k [] = get_or_append_left sets (next ∷ others) [] k l in

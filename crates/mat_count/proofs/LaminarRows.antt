@@ -1,6 +1,6 @@
 -- The exchanges at an independent set of a laminar matroid: x can be added where no listed set that holds x is full, and be
 -- exchanged for the members that stand in each full one. The table of places tells which sets hold an element.
-use Rattle.std.proofs.Common.{◌≡◌, ◌≢◌, ℕ, ◌<◌, ◌≤◌, true, false, eqb, List, [], ◌∷◌, length, get_or, inl, inr, refl, sym, ap, ◌∙◌, subst, arith}
+use Rattle.std.proofs.Common.{◌≡◌, ◌≢◌, ℕ, ◌<◌, ◌≤◌, true, false, eqb, List, [], length, get_or, inl, inr, refl, sym, ap, ◌∙◌, subst, arith}
 use Rattle.std.proofs.lemmas.Bool.{cases_eq, cases_lt, both_ways, and_parts, and_from, le-leb, leb-true, eq-eqb, ne_eqb}
 use Rattle.std.proofs.lemmas.List.{get_or_past}
 use Rattle.std.specs.List.{filter}
@@ -22,14 +22,11 @@ use Rattle.mat_count.specs.Partitions.{CountsMembers}
 use Rattle.mat_count.specs.LaminarMatroids.{CappedSets, IsLaminar, IsPlaceTable}
 use Rattle.mat_count.specs.LaminarRows.{is_full, has_each}
 use Rattle.mat_count.proofs.ClassRows.{IsOutside, IsOutside-from_test, added_with_room, exchanged_with_room, not_counted, counted-exchanged}
-use Rattle.mat_count.proofs.Filters.{filter_whole}
 use Rattle.mat_sets.proofs.Members.{filter_same_at}
+use Rattle.mat_sets.proofs.Filters.{filter_whole}
+use Rattle.mat_sets.proofs.DisjointSets.{no_member}
 
 -- ---- how many of a list's items stand in another
-
-no_member : (xs : List ℕ) (k : ℕ) → length xs ≡ 0 → is_member k xs ≡ false
-no_member [] k none = refl
-no_member (x ∷ xs) k none = absurd (omega arith)
 
 shared_whole : (a b : List ℕ) → IsSubset a b → length (intersection a b) ≡ length a
 unfolding intersection

@@ -3,7 +3,6 @@ pub mod ClassRows
 pub mod ClassTables
 pub mod CrossedSets
 pub mod CrossingWalks
-pub mod Filters
 pub mod LaminarRows
 pub mod PartitionRows
 pub mod PlaceTables

@@ -2,7 +2,7 @@
 -- loop begins well, and goes on well.
 use Rattle.std.proofs.Common.{◌≡◌, ℕ, ◌+◌, ◌-◌, ◌<◌, ◌≤◌, Bool, true, false, ◌&&◌, ◌||◌, eqb, List, [], ◌∷◌, length, get_or, set, take, length-take, replicate, inl, inr, refl, sym, ap, ◌∙◌, subst, arith}
 use Rattle.std.proofs.lemmas.Bool.{cases_eq, cases_lt, cases_order, both_ways, eq-eqb, ne_eqb, or_right}
-use Rattle.std.proofs.lemmas.List.{get_or-take, get_or_past, get_or-set_same, get_or-set_other, get_or-replicate, get_or_default, length-replicate}
+use Rattle.std.proofs.lemmas.List.{get_or_past, get_or-set_same, get_or-set_other, get_or-replicate, get_or_default, length-replicate}
 use Rattle.std.proofs.lemmas.List.Elements.{All-get_or, All-from_get_or}
 use Rattle.std.specs.List.{All}
 use Rattle.mat_sets.specs.Sets.{is_member, IsRising, AllBelow, with_one, intersection}
@@ -14,7 +14,7 @@ use Rattle.mat_sets.proofs.Sums.{AllBelow-at}
 use Rattle.mat_count.specs.LaminarFaults.{SomeOutside}
 use Rattle.mat_count.specs.LaminarMatroids.{IsPlaced, IsPlaceTable}
 use Rattle.mat_count.specs.Partitions.{CountsMembers}
-use Rattle.mat_count.proofs.ClassTables.{CountsMembers-none, length-intersection}
+use Rattle.mat_count.proofs.ClassTables.{before_place, CountsMembers-none, length-intersection, past_place}
 
 -- ---- ranges
 
@@ -120,12 +120,6 @@ IsPlaceTable-none count sets = record {
   entries = length-replicate count [];
   right = λ e i l. ap (is_member i) (get_or-replicate {A = List ℕ} count e [] [] l);
 }
-
-before_place : (sets : List (List ℕ)) (n i : ℕ) → i < n → get_or (take n sets) i [] ≡ get_or sets i []
-before_place sets n i l = get_or-take n sets i [] l
-
-past_place : (sets : List (List ℕ)) (n i : ℕ) → n ≤ i → get_or (take n sets) i [] ≡ []
-past_place sets n i l = get_or_past (take n sets) i [] (omega (arith, length-take n sets))
 
 pub IsPlaceTable-more : (count : ℕ) (sets before table : List (List ℕ)) (k : ℕ) → k < length sets → IsPlaceTable count (take k sets) before
     → length table ≡ length before → IsPlaced before (get_or sets k []) k table → IsPlaceTable count (take (k + 1) sets) table

@@ -59,14 +59,18 @@ test_from-Crosses A B c =
     and_from (ltb 0 (length (intersection A B))) (ltb 0 (length (minus A B)) && ltb 0 (length (minus B A))) (has_some _ _ shared)
     (and_from (ltb 0 (length (minus A B))) (ltb 0 (length (minus B A))) (has_some _ _ first) (has_some _ _ second))
 
-pub IsWithinCaps-from_test : (sets : List (List ℕ)) (caps X : List ℕ) → length caps ≡ length sets → is_within_caps sets caps X ≡ true → IsWithinCaps sets caps X
+pub IsWithinCaps-from_test : (sets : List (List ℕ)) (caps X : List ℕ) → length caps ≡ length sets → is_within_caps sets caps X ≡ true
+    → IsWithinCaps sets caps X
 IsWithinCaps-from_test sets caps X same h = record { at = at sets caps same h }
   where
-    at : (sets : List (List ℕ)) (caps : List ℕ) → length caps ≡ length sets → is_within_caps sets caps X ≡ true → (i : ℕ) → i < length sets → length (intersection X (get_or sets i [])) ≤ get_or caps i 0
+    at : (sets : List (List ℕ)) (caps : List ℕ) → length caps ≡ length sets → is_within_caps sets caps X ≡ true → (i : ℕ)
+        → i < length sets → length (intersection X (get_or sets i [])) ≤ get_or caps i 0
     at [] caps same h i l = absurd (omega arith)
     at (S ∷ sets) [] same h i l = absurd (omega arith)
-    at (S ∷ sets) (cap ∷ caps) same h zero l = leb-true (length (intersection X S)) cap (and_parts (leb (length (intersection X S)) cap) (is_within_caps sets caps X) h).0
-    at (S ∷ sets) (cap ∷ caps) same h (suc i) l = at sets caps (omega arith) (and_parts (leb (length (intersection X S)) cap) (is_within_caps sets caps X) h).1 i (omega arith)
+    at (S ∷ sets) (cap ∷ caps) same h zero l =
+        leb-true (length (intersection X S)) cap (and_parts (leb (length (intersection X S)) cap) (is_within_caps sets caps X) h).0
+    at (S ∷ sets) (cap ∷ caps) same h (suc i) l =
+        at sets caps (omega arith) (and_parts (leb (length (intersection X S)) cap) (is_within_caps sets caps X) h).1 i (omega arith)
 
 pub test_from-IsWithinCaps : (sets : List (List ℕ)) (caps X : List ℕ) → IsWithinCaps sets caps X → is_within_caps sets caps X ≡ true
 test_from-IsWithinCaps [] caps X w = refl
@@ -94,14 +98,16 @@ Nested-from_family (S ∷ sets) family = (
   Nested-from_family sets (record { nested = λ i j before l. family.nested (suc i) (suc j) (omega arith) (omega arith) }),
 )
   where
-    each : (others : List (List ℕ)) → ((j : ℕ) → j < length others → crosses S (get_or others j []) ≡ false) → Each (λ T. crosses S T ≡ false) others
+    each : (others : List (List ℕ)) → ((j : ℕ) → j < length others → crosses S (get_or others j []) ≡ false)
+        → Each (λ T. crosses S T ≡ false) others
     each [] h = tt
     each (T ∷ others) h = (h 0 (omega arith), each others (λ j l. h (suc j) (omega arith)))
 
 -- ---- counts in the union of sets that do not cross
 
 -- S has no member of T, if they do not cross and each has a member that the other has not
-apart : (T S : List ℕ) (e f : ℕ) → crosses T S ≡ false → is_member e T ≡ true → is_member e S ≡ false → is_member f S ≡ true → is_member f T ≡ false → (x : ℕ) → is_member x T ≡ true → is_member x S ≡ false
+apart : (T S : List ℕ) (e f : ℕ) → crosses T S ≡ false → is_member e T ≡ true → is_member e S ≡ false → is_member f S ≡ true
+    → is_member f T ≡ false → (x : ℕ) → is_member x T ≡ true → is_member x S ≡ false
 apart T S e f never e_in e_out f_in f_out x x_in = false_from_ne_true _ (λ both. both_ways _ never (test_from-Crosses T S (record {
   shared = x;
   first = e;
@@ -116,26 +122,35 @@ apart T S e f never e_in e_out f_in f_out x x_in = false_from_ne_true _ (λ both
 
 -- how many members of X stand in S, after T is taken away
 counted_inside : (S T X : List ℕ) → IsRising X → IsSubset S T → intersection (minus X T) S ≡ []
-counted_inside S T X rising inside = same_members _ _ (IsRising-intersection _ S (IsRising-minus X T rising)) IsRising-nil (λ k. grind (arith, set_members, inside.inside k))
+counted_inside S T X rising inside =
+    same_members _ _ (IsRising-intersection _ S (IsRising-minus X T rising)) IsRising-nil (λ k. grind (arith, set_members, inside.inside k))
 
-counted_apart : (S T X : List ℕ) → IsRising X → ((x : ℕ) → is_member x T ≡ true → is_member x S ≡ false) → intersection (minus X T) S ≡ intersection X S
-counted_apart S T X rising apart = same_members _ _ (IsRising-intersection _ S (IsRising-minus X T rising)) (IsRising-intersection X S rising) (λ k. let h = apart k in grind (arith, set_members))
+counted_apart : (S T X : List ℕ) → IsRising X → ((x : ℕ) → is_member x T ≡ true → is_member x S ≡ false)
+    → intersection (minus X T) S ≡ intersection X S
+counted_apart S T X rising apart =
+    same_members _ _ (IsRising-intersection _ S (IsRising-minus X T rising)) (IsRising-intersection X S rising)
+    (λ k. let h = apart k in grind (arith, set_members))
 
-counted_union : (T U X : List ℕ) → IsRising X → length (intersection X (union T U)) ≡ length (intersection X T) + length (intersection (minus X T) U)
+counted_union : (T U X : List ℕ) → IsRising X
+    → length (intersection X (union T U)) ≡ length (intersection X T) + length (intersection (minus X T) U)
 counted_union T U X rising =
-    let bits : (k : ℕ) → indicator (is_member k (intersection X (union T U))) + indicator (is_member k []) ≡ indicator (is_member k (intersection X T)) + indicator (is_member k (intersection (minus X T) U)) = λ k. grind (arith, set_members) in
-    let both = sizes _ [] _ _ (IsRising-intersection X _ rising) IsRising-nil (IsRising-intersection X T rising) (IsRising-intersection _ U (IsRising-minus X T rising)) bits in
+    let bits : (k : ℕ) → indicator (is_member k (intersection X (union T U))) + indicator (is_member k [])
+    ≡ indicator (is_member k (intersection X T)) + indicator (is_member k (intersection (minus X T) U)) = λ k. grind (arith, set_members) in
+    let both = sizes _ [] _ _ (IsRising-intersection X _ rising) IsRising-nil (IsRising-intersection X T rising)
+    (IsRising-intersection _ U (IsRising-minus X T rising)) bits in
     omega arith
 
 counted_within : (T U X : List ℕ) → IsRising X → IsSubset T U → intersection X (union T U) ≡ intersection X U
-counted_within T U X rising inside = same_members _ _ (IsRising-intersection X _ rising) (IsRising-intersection X U rising) (λ k. grind (arith, set_members, inside.inside k))
+counted_within T U X rising inside =
+    same_members _ _ (IsRising-intersection X _ rising) (IsRising-intersection X U rising) (λ k. grind (arith, set_members, inside.inside k))
 
 -- J has at most as many members in S as I
 abbrev AtMost : List ℕ → List ℕ → List ℕ → Type 0
 AtMost I J S = length (intersection J S) ≤ length (intersection I S)
 
 -- T lies in the union of the sets, or has a member outside each
-lies_in_or : (T : List ℕ) (sets : List (List ℕ)) → IsSubset T (family_union sets) ⊎ Each (λ S. (e : ℕ) × (is_member e T ≡ true) × (is_member e S ≡ false)) sets
+lies_in_or : (T : List ℕ) (sets : List (List ℕ))
+    → IsSubset T (family_union sets) ⊎ Each (λ S. (e : ℕ) × (is_member e T ≡ true) × (is_member e S ≡ false)) sets
 unfolding family_union
 lies_in_or T [] = inr tt
 lies_in_or T (S ∷ sets) = elim (subset_or T S) [
@@ -146,7 +161,9 @@ lies_in_or T (S ∷ sets) = elim (subset_or T S) [
   ]
 ]
 
-less_taken : (sets : List (List ℕ)) (T I J : List ℕ) → IsRising I → IsRising J → Each (λ S. crosses T S ≡ false) sets → Each (λ S. (e : ℕ) × (is_member e T ≡ true) × (is_member e S ≡ false)) sets → Each (AtMost I J) sets → Each (AtMost (minus I T) (minus J T)) sets
+less_taken : (sets : List (List ℕ)) (T I J : List ℕ) → IsRising I → IsRising J → Each (λ S. crosses T S ≡ false) sets
+    → Each (λ S. (e : ℕ) × (is_member e T ≡ true) × (is_member e S ≡ false)) sets → Each (AtMost I J) sets
+    → Each (AtMost (minus I T) (minus J T)) sets
 less_taken [] T I J r s never out most = tt
 less_taken (S ∷ sets) T I J r s never out most = (
   elim (subset_or S T) [
@@ -162,7 +179,8 @@ less_taken (S ∷ sets) T I J r s never out most = (
 )
 
 -- where no two sets cross, and J has in each at most as many members as I, so it has in all together
-most_in_union : (sets : List (List ℕ)) (I J : List ℕ) → IsRising I → IsRising J → Nested sets → Each (AtMost I J) sets → AtMost I J (family_union sets)
+most_in_union : (sets : List (List ℕ)) (I J : List ℕ) → IsRising I → IsRising J → Nested sets → Each (AtMost I J) sets
+    → AtMost I J (family_union sets)
 unfolding family_union
 most_in_union [] I J r s nested most =
     let none : intersection J [] ≡ [] = same_members _ _ (IsRising-intersection J [] s) IsRising-nil (λ k. grind (arith, set_members)) in
@@ -174,7 +192,8 @@ most_in_union (T ∷ sets) I J r s nested most = elim (lies_in_or T sets) [
       let second = ap length (counted_within T (family_union sets) J s inside) in
       omega arith)
   | inr out ↦ (
-      let rest = most_in_union sets (minus I T) (minus J T) (IsRising-minus I T r) (IsRising-minus J T s) nested.1 (less_taken sets T I J r s nested.0 out most.1) in
+      let rest = most_in_union sets (minus I T) (minus J T) (IsRising-minus I T r) (IsRising-minus J T s) nested.1
+      (less_taken sets T I J r s nested.0 out most.1) in
       let first = counted_union T (family_union sets) I r in
       let second = counted_union T (family_union sets) J s in
       let here : length (intersection J T) ≤ length (intersection I T) = most.0 in
@@ -227,7 +246,8 @@ within-nil (S ∷ sets) [] = refl
 within-nil (S ∷ sets) (cap ∷ caps) = and_from (leb (length (intersection [] S)) cap) (is_within_caps sets caps [])
     (le-leb (length (intersection [] S)) cap (let none = ap length (intersection-none S) in omega arith)) (within-nil sets caps)
 
-within-subset : (sets : List (List ℕ)) (caps I J : List ℕ) → IsRising I → IsRising J → IsSubset I J → is_within_caps sets caps J ≡ true → is_within_caps sets caps I ≡ true
+within-subset : (sets : List (List ℕ)) (caps I J : List ℕ) → IsRising I → IsRising J → IsSubset I J → is_within_caps sets caps J ≡ true
+    → is_within_caps sets caps I ≡ true
 within-subset [] caps I J r s inside h = refl
 within-subset (S ∷ sets) [] I J r s inside h = refl
 within-subset (S ∷ sets) (cap ∷ caps) I J r s inside h =
@@ -235,12 +255,16 @@ within-subset (S ∷ sets) (cap ∷ caps) I J r s inside h =
     let low = leb-true (length (intersection J S)) cap parts.0 in
     let less : IsSubset (intersection I S) (intersection J S) = record { inside = λ k m. grind (arith, set_members, inside.inside k) } in
     let fewer = length-subset _ _ (IsRising-intersection I S r) (IsRising-intersection J S s) less in
-    and_from (leb (length (intersection I S)) cap) (is_within_caps sets caps I) (le-leb (length (intersection I S)) cap (omega arith)) (within-subset sets caps I J r s inside parts.1)
+    and_from (leb (length (intersection I S)) cap) (is_within_caps sets caps I) (le-leb (length (intersection I S)) cap (omega arith))
+    (within-subset sets caps I J r s inside parts.1)
 
 -- how many members of S there are after one more element, which stands in S, or does not
-pub counted_more : (S X : List ℕ) (x : ℕ) → IsRising X → is_member x X ≡ false → is_member x S ≡ true → length (intersection (with_one X x) S) ≡ suc (length (intersection X S))
+pub counted_more : (S X : List ℕ) (x : ℕ) → IsRising X → is_member x X ≡ false → is_member x S ≡ true
+    → length (intersection (with_one X x) S) ≡ suc (length (intersection X S))
 counted_more S X x rising out inside =
-    let same : intersection (with_one X x) S ≡ with_one (intersection X S) x = same_members _ _ (IsRising-intersection _ S (IsRising-with_one X x rising)) (IsRising-with_one _ x (IsRising-intersection X S rising)) (λ k. more k) in
+    let same : intersection (with_one X x) S ≡ with_one (intersection X S) x =
+    same_members _ _ (IsRising-intersection _ S (IsRising-with_one X x rising)) (IsRising-with_one _ x (IsRising-intersection X S rising))
+    (λ k. more k) in
     let new : is_member x (intersection X S) ≡ false = grind (arith, set_members) in
     ap length same ∙ length-with_one (intersection X S) x (IsRising-intersection X S rising) new
   where
@@ -248,10 +272,13 @@ counted_more S X x rising out inside =
     more k = grind (arith, set_members)
 
 pub counted_same : (S X : List ℕ) (x : ℕ) → IsRising X → is_member x S ≡ false → intersection (with_one X x) S ≡ intersection X S
-counted_same S X x rising out = same_members _ _ (IsRising-intersection _ S (IsRising-with_one X x rising)) (IsRising-intersection X S rising) (λ k. grind (arith, set_members))
+counted_same S X x rising out =
+    same_members _ _ (IsRising-intersection _ S (IsRising-with_one X x rising)) (IsRising-intersection X S rising) (λ k. grind (arith, set_members))
 
 -- an element that stands in no filled set can be added
-within-with_one : (sets : List (List ℕ)) (caps I : List ℕ) (x : ℕ) → IsRising I → is_member x I ≡ false → is_member x (family_union (filled sets caps I)) ≡ false → is_within_caps sets caps I ≡ true → is_within_caps sets caps (with_one I x) ≡ true
+within-with_one : (sets : List (List ℕ)) (caps I : List ℕ) (x : ℕ) → IsRising I → is_member x I ≡ false
+    → is_member x (family_union (filled sets caps I)) ≡ false → is_within_caps sets caps I ≡ true
+    → is_within_caps sets caps (with_one I x) ≡ true
 unfolding filled family_union
 within-with_one [] caps I x r out free h = refl
 within-with_one (S ∷ sets) [] I x r out free h = refl
@@ -268,13 +295,16 @@ within-with_one (S ∷ sets) (cap ∷ caps) I x r out free h =
     ]))
     (within-with_one sets caps I x r out (free_later free) parts.1)
   where
-    free_here : is_member x S ≡ true → is_member x (family_union (cond (leb cap (length (intersection I S))) (S ∷ filled sets caps I) (filled sets caps I))) ≡ false → length (intersection I S) < cap
+    free_here : is_member x S ≡ true
+        → is_member x (family_union (cond (leb cap (length (intersection I S))) (S ∷ filled sets caps I) (filled sets caps I))) ≡ false
+        → length (intersection I S) < cap
     free_here inside free = elim (cases_lt (length (intersection I S)) cap) [
       | inl room ↦ room
       | inr full ↦ absurd (let here = rw (le-leb cap (length (intersection I S)) full, is_member-union, inside) at free in both_ways true here refl)
     ]
 
-    free_later : is_member x (family_union (cond (leb cap (length (intersection I S))) (S ∷ filled sets caps I) (filled sets caps I))) ≡ false → is_member x (family_union (filled sets caps I)) ≡ false
+    free_later : is_member x (family_union (cond (leb cap (length (intersection I S))) (S ∷ filled sets caps I) (filled sets caps I))) ≡ false
+        → is_member x (family_union (filled sets caps I)) ≡ false
     free_later free = elim (cases_Bool (leb cap (length (intersection I S)))) [
       | inl full ↦ (let here = rw full at free in grind (arith, set_members))
       | inr room ↦ rw room at free
@@ -283,13 +313,17 @@ within-with_one (S ∷ sets) (cap ∷ caps) I x r out free h =
 -- ---- the laws
 
 -- if each element of J outside I stands in U, then outside U the set J lies in I
-rest_inside : (I J U : List ℕ) → ((k : ℕ) → is_member k J ≡ true → (not (is_member k I) && not (is_member k U)) ≡ false) → IsSubset (minus J U) (minus I U)
+rest_inside : (I J U : List ℕ) → ((k : ℕ) → is_member k J ≡ true → (not (is_member k I) && not (is_member k U)) ≡ false)
+    → IsSubset (minus J U) (minus I U)
 rest_inside I J U all = record { inside = λ k h. let a = all k in grind (arith, set_members) }
 
 -- two sets of which the second is the larger: some of its elements stands outside the first and outside U
-free_element : (I J U : List ℕ) → IsRising I → IsRising J → length I < length J → AtMost I J U → (x : ℕ) × (is_member x J ≡ true) × (is_member x I ≡ false) × (is_member x U ≡ false)
+free_element : (I J U : List ℕ) → IsRising I → IsRising J → length I < length J → AtMost I J U
+    → (x : ℕ) × (is_member x J ≡ true) × (is_member x I ≡ false) × (is_member x U ≡ false)
 free_element I J U r s less most = elim (find_member (λ x. not (is_member x I) && not (is_member x U)) J) [
-  | inl found ↦ (let parts = and_parts (not (is_member found.0 I)) (not (is_member found.0 U)) found.2 in (found.0, found.1, not-true _ parts.0, not-true _ parts.1))
+  | inl found ↦
+      (let parts = and_parts (not (is_member found.0 I)) (not (is_member found.0 U)) found.2 in
+      (found.0, found.1, not-true _ parts.0, not-true _ parts.1))
   | inr all ↦ absurd (
       let outside = length-subset (minus J U) (minus I U) (IsRising-minus J U s) (IsRising-minus I U r) (rest_inside I J U all) in
       let first = length-minus-intersection I U r in
@@ -304,14 +338,16 @@ counted_laws n sets caps family = record {
   subsets = λ I J rising inside passes.
       let tests = and_parts (is_set n J) (is_within_caps sets caps J) passes in
       let set = IsSet-from_test n J tests.0 in
-      and_from (is_set n I) (is_within_caps sets caps I) (is_set-true n I rising (AllBelow-subset n I J inside set.below)) (within-subset sets caps I J rising set.rising inside tests.1);
+      and_from (is_set n I) (is_within_caps sets caps I) (is_set-true n I rising (AllBelow-subset n I J inside set.below))
+      (within-subset sets caps I J rising set.rising inside tests.1);
   augmentation = λ I J passes others less.
       let first = and_parts (is_set n I) (is_within_caps sets caps I) passes in
       let second = and_parts (is_set n J) (is_within_caps sets caps J) others in
       let set = IsSet-from_test n I first.0 in
       let other = IsSet-from_test n J second.0 in
       let U = family_union (filled sets caps I) in
-      let most = most_in_union (filled sets caps I) I J set.rising other.rising (filled-nested sets caps I (Nested-from_family sets family)) (filled-most sets caps I J second.1) in
+      let most = most_in_union (filled sets caps I) I J set.rising other.rising (filled-nested sets caps I (Nested-from_family sets family))
+      (filled-most sets caps I J second.1) in
       let found = free_element I J U set.rising other.rising less most in
       record {
         element = found.0;

@@ -19,5 +19,6 @@ IsLaminarFamily-from_disjoint sets apart = record {
 }
 
 -- the laws of partition matroids
-pub partition_laws : (n : ℕ) (classes : List (List ℕ)) (caps : List ℕ) → IsPartition n classes caps → IsMatroid n (is_counted n classes caps)
+pub partition_laws : (n : ℕ) (classes : List (List ℕ)) (caps : List ℕ) → IsPartition n classes caps
+    → IsMatroid n (is_counted n classes caps)
 partition_laws n classes caps partition = counted_laws n classes caps (IsLaminarFamily-from_disjoint classes partition.disjoint)

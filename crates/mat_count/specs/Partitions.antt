@@ -28,7 +28,8 @@ pub record IsClassTable (count : ℕ) (classes : List (List ℕ)) (table : List 
 
 -- the table has this class at each of its members, and elsewhere what it had before
 pub record IsEntered (before : List (Option ℕ)) (class : List ℕ) (place : ℕ) (table : List (Option ℕ)) : Type 0 where
-  pub at : (e : ℕ) → e < length before → slice_index_or table e None ≡ (if is_member e class then Some place else slice_index_or before e None)
+  pub at : (e : ℕ) → e < length before
+      → slice_index_or table e None ≡ (if is_member e class then Some place else slice_index_or before e None)
 
 -- the numbers of members that X has in each class
 pub record CountsMembers (classes : List (List ℕ)) (X numbers : List ℕ) : Type 0 where

@@ -20,7 +20,8 @@ uniform_laws n cap = record {
       let set = IsSet-from_test n J tests.0 in
       let most : length J ≤ cap = leb-true (length J) cap tests.1 in
       let fewer : length I ≤ length J = length-subset I J rising set.rising inside in
-      and_from (is_set n I) (leb (length I) cap) (is_set-true n I rising (AllBelow-subset n I J inside set.below)) (le-leb (length I) cap (omega arith));
+      and_from (is_set n I) (leb (length I) cap) (is_set-true n I rising (AllBelow-subset n I J inside set.below))
+      (le-leb (length I) cap (omega arith));
   augmentation = λ I J passes others less.
       let first = and_parts (is_set n I) (leb (length I) cap) passes in
       let second = and_parts (is_set n J) (leb (length J) cap) others in

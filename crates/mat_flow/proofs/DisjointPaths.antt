@@ -1,29 +1,25 @@
 -- The paths from those of some vertices that have none before them, one after the other, and that they are disjoint paths from sources to
 -- targets.
-use Rattle.std.proofs.Common.{◌≡◌, ℕ, zero, suc, ◌+◌, ◌<◌, ◌≤◌, ◌≢◌, Bool, true, false, ◌||◌, eqb, List, [], ◌∷◌, ◌++◌, length, get_or, take, Option, Some, None, is_some, inl, inr, refl, sym, ap, ◌∙◌, subst, arith, append_assoc}
+use Rattle.std.proofs.Common.{◌≡◌, ℕ, zero, suc, ◌+◌, ◌<◌, ◌≢◌, Bool, true, false, ◌||◌, eqb, List, [], ◌∷◌, ◌++◌, length, get_or, take, Option, Some, None, is_some, inl, inr, refl, sym, ap, ◌∙◌, subst, arith, append_assoc, append-nil}
 use Rattle.std.proofs.Math.Numerals.{add-one}
 use Rattle.std.specs.List.{All, concat}
 use Rattle.std.proofs.lemmas.Bool.{both_ways, eqb-true, false_from_ne_true, or_cases, or_left}
-use Rattle.std.proofs.lemmas.List.{length_push, take_all}
-use Rattle.std.proofs.lemmas.List.Elements.{All-head, All-nil, All-push, All-tail, All-weaker}
+use Rattle.std.proofs.lemmas.List.{length_push}
+use Rattle.std.proofs.lemmas.List.Elements.{All-head, All-push, All-tail, All-weaker}
 use Rattle.mat_sets.specs.Sets.{is_member, AreDistinct, IsRising}
+use Rattle.mat_sets.proofs.ListParts.{AreDistinct-append, AreDistinct-index}
 use Rattle.mat_sets.proofs.Members.{is_member-append}
 use Rattle.mat_sets.proofs.Steps.{is_member-take_more, is_member-take_next}
 use Rattle.mat_flow.specs.LinkTables.{entry_at, leads_to, one_if_none, starts_among, IsLinkTable}
 use Rattle.mat_flow.specs.Paths.{first_of, has_arc, last_of, AreDisjointPaths, IsPath, IsPathBetween}
 use Rattle.mat_flow.specs.Trails.{AreTrails, IsReversed, IsTrail, IsTrailAmong}
 use Rattle.mat_flow.proofs.LinkTables.{entry_inside}
-use Rattle.mat_flow.specs.ListParts.{AreDistinct-append, AreDistinct-index}
 use Rattle.mat_flow.proofs.TrailReading.{trail_differs, trails_meet}
 
 -- ---- lists joined end to end
 
 concat-push : (lists : List (List ℕ)) (xs : List ℕ) → concat (lists ++ xs ∷ []) ≡ concat lists ++ xs
-concat-push [] xs = nothing_after xs
-  where
-    nothing_after : (xs : List ℕ) → xs ++ [] ≡ xs
-    nothing_after [] = refl
-    nothing_after (x ∷ xs) = ap (λ t. x ∷ t) (nothing_after xs)
+concat-push [] xs = append-nil xs
 concat-push (ys ∷ lists) xs = ap (λ t. ys ++ t) (concat-push lists xs) ∙ sym (append_assoc ys (concat lists) xs)
 
 -- ---- how many of some vertices have none before them
@@ -51,19 +47,19 @@ IsTrailAmong-more before after among more path inside t = record {
   trail = t.trail;
 }
 
-take_inside : (vs : List ℕ) (i : ℕ) → i < length vs → (x : ℕ) → is_member x (take i vs) ≡ true → is_member x (take (i + 1) vs) ≡ true
+take_inside : (vs : List ℕ) (i : ℕ) → i < length vs → (x : ℕ) → is_member x (take i vs) ≡ true
+    → is_member x (take (i + 1) vs) ≡ true
 take_inside vs i l x m = is_member-take_more vs i x l ∙ or_left (is_member x (take i vs)) (eqb x (get_or vs i 0)) m
 
-pub AreTrails-none : (before after : List (Option ℕ)) → AreTrails before after [] []
-AreTrails-none before after = record { each = All-nil (IsTrailAmong before after []); distinct = tt; count = refl }
-
 pub AreTrails-skip : (before after : List (Option ℕ)) (vs : List ℕ) (i : ℕ) (paths : List (List ℕ)) → i < length vs
-    → is_some (entry_at before (get_or vs i 0)) ≡ true → AreTrails before after (take i vs) paths → AreTrails before after (take (i + 1) vs) paths
+    → is_some (entry_at before (get_or vs i 0)) ≡ true → AreTrails before after (take i vs) paths
+    → AreTrails before after (take (i + 1) vs) paths
 AreTrails-skip before after vs i paths l some t = record {
   each = All-weaker (IsTrailAmong before after (take i vs)) (IsTrailAmong before after (take (i + 1) vs))
       (λ path. IsTrailAmong-more before after (take i vs) (take (i + 1) vs) path (take_inside vs i l)) paths t.each;
   distinct = t.distinct;
-  count = (let more = starts_among-more before vs i l in let none = counted (entry_at before (get_or vs i 0)) some in let count = t.count in omega arith);
+  count = (let more = starts_among-more before vs i l in let none = counted (entry_at before (get_or vs i 0)) some in
+      let count = t.count in omega arith);
 }
   where
     counted : (entry : Option ℕ) → is_some entry ≡ true → one_if_none entry ≡ 0
@@ -71,20 +67,23 @@ AreTrails-skip before after vs i paths l some t = record {
     counted (Some u) h = refl
 
 -- a vertex of one of the paths comes from a start among the vertices
-meets_no_other : (before after : List (Option ℕ)) (among : List ℕ) (paths : List (List ℕ)) (s : ℕ) (path : List ℕ) → IsReversed before after
+meets_no_other : (before after : List (Option ℕ)) (among : List ℕ) (paths : List (List ℕ)) (s : ℕ) (path : List ℕ)
+    → IsReversed before after
     → entry_at before s ≡ None → is_member s among ≡ false → IsTrail after s path → All (IsTrailAmong before after among) paths
     → (x : ℕ) → is_member x (concat paths) ≡ true → is_member x path ≡ false
 meets_no_other before after among [] s path r none fresh t all x m = absurd (both_ways false refl m)
 meets_no_other before after among (other ∷ paths) s path r none fresh t all x m =
     elim (or_cases (is_member x other) (is_member x (concat paths)) (sym (is_member-append x other (concat paths)) ∙ m)) [
-      | inr later ↦ meets_no_other before after among paths s path r none fresh t (All-tail (IsTrailAmong before after among) other paths all) x later
+      | inr later ↦
+          meets_no_other before after among paths s path r none fresh t (All-tail (IsTrailAmong before after among) other paths all) x later
       | inl here ↦ false_from_ne_true (is_member x path) (λ both.
           let o = All-head (IsTrailAmong before after among) other paths all in
           let same = trails_meet before after o.start s other path x r o.none_before none o.trail t here both in
           both_ways (is_member s among) fresh (subst (λ v. is_member v among ≡ true) same o.member))
     ]
 
-pub AreTrails-push : (before after : List (Option ℕ)) (vs : List ℕ) (i : ℕ) (paths : List (List ℕ)) (path : List ℕ) → IsReversed before after
+pub AreTrails-push : (before after : List (Option ℕ)) (vs : List ℕ) (i : ℕ) (paths : List (List ℕ)) (path : List ℕ)
+    → IsReversed before after
     → IsRising vs → i < length vs → entry_at before (get_or vs i 0) ≡ None → IsTrail after (get_or vs i 0) path
     → AreTrails before after (take i vs) paths → AreTrails before after (take (i + 1) vs) (paths ++ path ∷ [])
 AreTrails-push before after vs i paths path r rises l none trail t =
@@ -107,10 +106,6 @@ AreTrails-push before after vs i paths path r rises l none trail t =
   where
     last : (b : Bool) (s : ℕ) → (b || eqb s s) ≡ true
     last b s = grind arith
-
-pub AreTrails-all : (before after : List (Option ℕ)) (vs : List ℕ) (i : ℕ) (paths : List (List ℕ)) → length vs ≤ i
-    → AreTrails before after (take i vs) paths → AreTrails before after vs paths
-AreTrails-all before after vs i paths all t = subst (λ among. AreTrails before after among paths) (take_all i vs all) t
 
 -- ---- they are disjoint paths from sources to targets
 

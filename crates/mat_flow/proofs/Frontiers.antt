@@ -3,12 +3,11 @@
 use Rattle.std.proofs.Common.{◌≡◌, ℕ, zero, suc, ◌+◌, ◌<◌, Bool, true, false, not, ◌||◌, ◌&&◌, eqb, List, [], ◌∷◌, length, get_or, take, Option, Some, None, inl, inr, refl, sym, ap, ◌∙◌, subst, arith}
 use Rattle.std.proofs.Math.Numerals.{add-one}
 use Rattle.std.proofs.lemmas.Bool.{and_from, both_ways, eqb-true, false_from_ne_true, or_cases, or_right}
-use Rattle.std.proofs.lemmas.List.{take_all}
 use Rattle.mat_sets.specs.Sets.{is_member, IsRising, without_one}
 use Rattle.mat_sets.proofs.Cardinalities.{length-without_one}
 use Rattle.mat_sets.proofs.Members.{is_member-get_or, is_member-without_one, IsRising-without_one}
 use Rattle.mat_sets.proofs.Steps.{is_member-take_next}
-use Rattle.mat_flow.specs.LinkTables.{entry_at, is_before, is_there, one_if_none, starts_among, IsFrontier}
+use Rattle.mat_flow.specs.LinkTables.{entry_at, is_before, is_there, one_if_none, starts_among}
 use Rattle.mat_flow.proofs.DisjointPaths.{starts_among-more}
 
 -- ---- what is before some vertices
@@ -53,17 +52,6 @@ pub record IsCutting (before : List (Option ℕ)) (reached : List ℕ) (i : ℕ)
   pub members : (x : ℕ) → is_member x rest ≡ (is_member x reached && not (is_before before (take i reached) x))
   pub size : length rest + i ≡ length reached + starts_among before (take i reached)
 
-pub IsCutting-start : (before : List (Option ℕ)) (reached rest : List ℕ) → rest ≡ reached → IsRising reached → IsCutting before reached 0 rest
-IsCutting-start before reached rest e rises = record {
-  rises = subst IsRising (sym e) rises;
-  members = λ x. ap (is_member x) e ∙ all (is_member x reached);
-  size = (let long = ap length e in omega arith);
-}
-  where
-    all : (b : Bool) → b ≡ (b && not false)
-    all true = refl
-    all false = refl
-
 pub IsCutting-skip : (before : List (Option ℕ)) (reached : List ℕ) (i : ℕ) (rest : List ℕ) → i < length reached
     → entry_at before (get_or reached i 0) ≡ None → IsCutting before reached i rest → IsCutting before reached (i + 1) rest
 IsCutting-skip before reached i rest l none c = record {
@@ -104,14 +92,4 @@ IsCutting-cut before reached i u rest rises l once inside some c =
           let less = length-without_one rest u c.rises in_rest in
           let size = c.size in
           omega arith);
-    }
-
-pub IsCutting-end : (before : List (Option ℕ)) (reached : List ℕ) (i : ℕ) (rest : List ℕ) → i ≡ length reached
-    → IsCutting before reached i rest
-    → IsFrontier before reached rest
-IsCutting-end before reached i rest e c =
-    let all : take i reached ≡ reached = take_all i reached (omega arith) in
-    record {
-      members = λ x. c.members x ∙ ap (λ vs. is_member x reached && not (is_before before vs x)) all;
-      size = (let size = c.size in let same = ap (starts_among before) all in omega arith);
     }

@@ -1,8 +1,8 @@
 -- Tables of the vertex before each vertex: an entry after a change, how many vertices have none before them, the table of no path, and the
 -- loop that moves the entries of a walk on, one vertex after the other.
-use Rattle.std.proofs.Common.{◌≡◌, ℕ, zero, suc, ◌+◌, ◌<◌, ◌≤◌, ◌≢◌, true, List, [], ◌∷◌, ◌++◌, length, get_or, set, Option, Some, None, ◌⊎◌, inl, inr, refl, sym, ap, ◌∙◌, subst, arith, get_or-set_other, get_or-set_same, length-set, length-append}
+use Rattle.std.proofs.Common.{◌≡◌, ℕ, zero, suc, ◌+◌, ◌<◌, ◌≤◌, ◌≢◌, true, List, [], ◌∷◌, length, get_or, set, Option, Some, None, ◌⊎◌, inl, inr, refl, sym, ap, ◌∙◌, subst, arith, get_or-set_other, get_or-set_same, length-set}
 use Rattle.std.proofs.lemmas.Bool.{both_ways, cases_eq, cases_lt}
-use Rattle.std.proofs.lemmas.List.{get_or_append_left, get_or_default, get_or_past, get_or_push}
+use Rattle.std.proofs.lemmas.List.{get_or_default, get_or_past}
 use Rattle.mat_sets.specs.Sets.{is_member}
 use Rattle.mat_sets.proofs.Members.{is_member-get_or}
 use Rattle.mat_flow.specs.LinkTables.{entry_at, entry_before, leads_to, one_if_none, starts_in, IsLinkTable, IsShifted}
@@ -65,18 +65,6 @@ pub record AreOwn (n : ℕ) (table : List (Option ℕ)) : Type 0 where
   pub long : length table ≡ n
   pub own : (v : ℕ) → v < n → entry_at table v ≡ Some v
 
-pub AreOwn-none : AreOwn 0 []
-AreOwn-none = record { long = refl; own = λ v l. absurd (omega arith) }
-
-pub AreOwn-push : (n : ℕ) (table : List (Option ℕ)) → AreOwn n table → AreOwn (n + 1) (table ++ Some n ∷ [])
-AreOwn-push n table a = record {
-  long = length-append table (Some n ∷ []) ∙ ap (λ m. m + 1) a.long;
-  own = λ v l. let long = a.long in elim (cases_eq v n) [
-    | inl e ↦ get_or_push table (Some n) None v (a.long ∙ sym e) ∙ ap Some (sym e)
-    | inr d ↦ get_or_append_left table (Some n ∷ []) None v (omega arith) ∙ a.own v (omega arith)
-  ];
-}
-
 leads_to_itself : (arcs : List (ℕ × ℕ)) (v : ℕ) → leads_to arcs (Some v) v ≡ true
 leads_to_itself arcs v = grind arith
 
@@ -98,32 +86,25 @@ IsLinkTable-own n arcs sources targets table a =
 -- ---- the entries of a walk move on
 
 -- the entries of the walk's first i vertices are moved, and that of the next one's place is carried
-pub record IsShifting (walk : List ℕ) (old : List (Option ℕ)) (i : ℕ) (new : List (Option ℕ)) (carried : Option ℕ) : Type 0 where
+pub record IsShifting (first : Option ℕ) (walk : List ℕ) (old : List (Option ℕ)) (i : ℕ) (new : List (Option ℕ))
+    (carried : Option ℕ) : Type 0 where
   pub long : length new ≡ length old
-  pub moved : (k : ℕ) → k < i → entry_at new (get_or walk k 0) ≡ entry_before old walk k
+  pub moved : (k : ℕ) → k < i → entry_at new (get_or walk k 0) ≡ entry_before first old walk k
   pub kept : (v : ℕ) → ((k : ℕ) → k < i → get_or walk k 0 ≢ v) → entry_at new v ≡ entry_at old v
-  pub carried_is : carried ≡ entry_before old walk i
-  pub counted : starts_in new + one_if_none carried ≡ suc (starts_in old)
+  pub carried_is : carried ≡ entry_before first old walk i
+  pub counted : starts_in new + one_if_none carried ≡ starts_in old + one_if_none first
 
-pub IsShifting-start : (walk : List ℕ) (old : List (Option ℕ)) → IsShifting walk old 0 old None
-IsShifting-start walk old = record {
-  long = refl;
-  moved = λ k l. absurd (omega arith);
-  kept = λ v other. refl;
-  carried_is = refl;
-  counted = omega arith;
-}
-
-shifting_next : (walk : List ℕ) (old : List (Option ℕ)) (i : ℕ) (new : List (Option ℕ)) (carried : Option ℕ)
+shifting_next : (first : Option ℕ) (walk : List ℕ) (old : List (Option ℕ)) (i : ℕ) (new : List (Option ℕ)) (carried : Option ℕ)
     → ((a b : ℕ) → a < b → b < length walk → get_or walk a 0 ≢ get_or walk b 0) → i < length walk → get_or walk i 0 < length new
-    → IsShifting walk old i new carried → IsShifting walk old (suc i) (set new (get_or walk i 0) carried) (entry_at new (get_or walk i 0))
-shifting_next walk old i new carried differ l inside s =
+    → IsShifting first walk old i new carried
+    → IsShifting first walk old (suc i) (set new (get_or walk i 0) carried) (entry_at new (get_or walk i 0))
+shifting_next first walk old i new carried differ l inside s =
     let v = get_or walk i 0 in
     let changed : (w : ℕ) → w ≢ v → entry_at (set new v carried) w ≡ entry_at new w = λ w d. get_or-set_other new v w carried None d in
     record {
       long = length-set new v carried ∙ s.long;
       moved = λ k m. elim (cases_eq k i) [
-        | inl e ↦ subst (λ j. entry_at (set new v carried) (get_or walk j 0) ≡ entry_before old walk j) (sym e)
+        | inl e ↦ subst (λ j. entry_at (set new v carried) (get_or walk j 0) ≡ entry_before first old walk j) (sym e)
             (get_or-set_same new v carried None inside ∙ s.carried_is)
         | inr d ↦ changed (get_or walk k 0) (differ k i (omega arith) l) ∙ s.moved k (omega arith)
       ];
@@ -132,21 +113,25 @@ shifting_next walk old i new carried differ l inside s =
       counted = (let put = starts_in-set new v carried inside in let counted = s.counted in omega arith);
     }
 
-pub IsShifting-next : (walk : List ℕ) (old : List (Option ℕ)) (i : ℕ) (new : List (Option ℕ)) (carried entry : Option ℕ)
+pub IsShifting-next : (first : Option ℕ) (walk : List ℕ) (old : List (Option ℕ)) (i : ℕ) (new : List (Option ℕ))
+    (carried entry : Option ℕ)
     → ((a b : ℕ) → a < b → b < length walk → get_or walk a 0 ≢ get_or walk b 0) → i < length walk → get_or walk i 0 < length new
-    → IsShifting walk old i new carried → entry ≡ get_or new (get_or walk i 0) entry
-    → IsShifting walk old (i + 1) (set new (get_or walk i 0) carried) entry
-IsShifting-next walk old i new carried entry differ l inside s read =
+    → IsShifting first walk old i new carried → entry ≡ get_or new (get_or walk i 0) entry
+    → IsShifting first walk old (i + 1) (set new (get_or walk i 0) carried) entry
+IsShifting-next first walk old i new carried entry differ l inside s read =
     let next : suc i ≡ i + 1 = omega arith in
-    subst (λ j. IsShifting walk old j (set new (get_or walk i 0) carried) entry) next
-    (subst (IsShifting walk old (suc i) (set new (get_or walk i 0) carried)) (entry_of new (get_or walk i 0) entry inside read)
-    (shifting_next walk old i new carried differ l inside s))
+    subst (λ j. IsShifting first walk old j (set new (get_or walk i 0) carried) entry) next
+    (subst (IsShifting first walk old (suc i) (set new (get_or walk i 0) carried)) (entry_of new (get_or walk i 0) entry inside read)
+    (shifting_next first walk old i new carried differ l inside s))
 
-pub IsShifting-end : (walk : List ℕ) (old : List (Option ℕ)) (i : ℕ) (new : List (Option ℕ)) (carried : Option ℕ) → i ≡ length walk
-    → IsShifting walk old i new carried → IsShifted walk old new
-IsShifting-end walk old i new carried e s = record {
+pub IsShifting-end : (first : Option ℕ) (walk : List ℕ) (old : List (Option ℕ)) (i : ℕ) (new : List (Option ℕ)) (carried : Option ℕ)
+    → i ≡ length walk
+    → IsShifting first walk old i new carried → IsShifted first walk old new
+IsShifting-end first walk old i new carried e s = record {
   long = s.long;
   moved = λ k l. s.moved k (omega arith);
   kept = λ v out. s.kept v (λ k l same. both_ways (is_member v walk) out (is_member-get_or walk k v (omega arith) same));
-  one_more = subst (λ c. starts_in new + one_if_none c ≡ suc (starts_in old)) (s.carried_is ∙ ap (entry_before old walk) e) s.counted;
+  starts =
+      subst (λ c. starts_in new + one_if_none c ≡ starts_in old + one_if_none first)
+      (s.carried_is ∙ ap (entry_before first old walk) e) s.counted;
 }

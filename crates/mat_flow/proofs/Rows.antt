@@ -1,9 +1,9 @@
 -- The rows of a graph: the row of each vertex has the vertex itself before any arc is entered, and each arc puts its head into the row of its
 -- tail.
-use Rattle.std.proofs.Common.{◌≡◌, ℕ, zero, suc, ◌+◌, ◌<◌, ◌≤◌, Bool, true, false, ◌||◌, ◌&&◌, eqb, List, [], ◌∷◌, ◌++◌, length, set, take, inl, inr, refl, sym, ap, ◌∙◌, subst, arith, length-append, length-set}
+use Rattle.std.proofs.Common.{◌≡◌, ℕ, zero, suc, ◌+◌, ◌<◌, Bool, true, false, ◌||◌, ◌&&◌, eqb, List, [], ◌∷◌, ◌++◌, length, set, take, inl, inr, refl, sym, ap, ◌∙◌, subst, arith, length-append, length-set}
 use Rattle.std.proofs.Math.Numerals.{add-one}
 use Rattle.std.proofs.lemmas.Bool.{and_parts, both_ways, cases_eq, eq-eqb, eqb-true, ne_eqb, or_cases}
-use Rattle.std.proofs.lemmas.List.{get_or_append_left, get_or_push, get_or-set_other, get_or-set_same, take_all}
+use Rattle.std.proofs.lemmas.List.{get_or_append_left, get_or_push, get_or-set_other, get_or-set_same}
 use Rattle.mat_sets.specs.Graphs.{ends_of}
 use Rattle.mat_sets.specs.Sets.{is_member, with_one}
 use Rattle.mat_sets.proofs.Members.{is_member-with_one}
@@ -11,9 +11,6 @@ use Rattle.mat_flow.specs.Digraphs.{AreRows, row_at}
 use Rattle.mat_flow.specs.Paths.{has_arc}
 
 -- ---- rows without arcs
-
-pub AreRows-none : AreRows 0 [] []
-AreRows-none = record { count = refl; members = λ u v l. absurd (omega arith) }
 
 pub AreRows-push : (n : ℕ) (rows : List (List ℕ)) (row : List ℕ) → AreRows n [] rows → row ≡ with_one [] n
     → AreRows (n + 1) [] (rows ++ row ∷ [])
@@ -60,7 +57,8 @@ none_put : (itself before now heads : Bool) (member : Bool) → member ≡ (itse
     → member ≡ (itself || now)
 none_put itself before now heads member a b = grind arith
 
-pub AreRows-more : (n : ℕ) (arcs : List (ℕ × ℕ)) (i : ℕ) (rows : List (List ℕ)) (row : List ℕ) → i < length arcs → (ends_of arcs i).0 < n
+pub AreRows-more : (n : ℕ) (arcs : List (ℕ × ℕ)) (i : ℕ) (rows : List (List ℕ)) (row : List ℕ) → i < length arcs
+    → (ends_of arcs i).0 < n
     → row ≡ with_one (row_at rows (ends_of arcs i).0) (ends_of arcs i).1
     → AreRows n (take i arcs) rows → AreRows n (take (i + 1) arcs) (set rows (ends_of arcs i).0 row)
 AreRows-more n arcs i rows row l inside e r =
@@ -80,10 +78,6 @@ AreRows-more n arcs i rows row l inside e r =
             (has_arc-more arcs i u v l ∙ ap (λ b. has_arc (take i arcs) u v || (b && eqb head v)) (ne_eqb tail u (λ s. d (sym s))))
       ];
     }
-
-pub AreRows-all : (n : ℕ) (arcs : List (ℕ × ℕ)) (i : ℕ) (rows : List (List ℕ)) → length arcs ≤ i
-    → AreRows n (take i arcs) rows → AreRows n arcs rows
-AreRows-all n arcs i rows all r = subst (λ a. AreRows n a rows) (take_all i arcs all) r
 
 -- ---- arcs and vertices
 

@@ -2,16 +2,14 @@
 -- stands twice in a path, and none in two paths with different starts.
 use Rattle.std.proofs.Common.{◌≡◌, ℕ, zero, suc, ◌+◌, ◌<◌, ◌≤◌, ◌≢◌, true, List, [], ◌∷◌, ◌++◌, length, get_or, set, Option, Some, None, inl, inr, refl, sym, ap, ◌∙◌, subst, arith, length-set}
 use Rattle.std.proofs.lemmas.Bool.{cases_eq, cases_lt}
-use Rattle.std.proofs.lemmas.List.{get_or_past, get_or_append_left, get_or_push, length_push}
+use Rattle.std.proofs.lemmas.List.{get_or_append_left, get_or_push, length_push}
 use Rattle.mat_sets.specs.Sets.{is_member}
 use Rattle.mat_sets.proofs.Ground.{AllBelow-from_members, length-distinct_below}
+use Rattle.mat_sets.proofs.ListParts.{AreDistinct-index}
 use Rattle.mat_sets.proofs.Members.{members_by_place, place_of_member}
 use Rattle.mat_flow.specs.LinkTables.{entry_at}
 use Rattle.mat_flow.specs.Trails.{IsReversed, IsTrail}
 use Rattle.mat_flow.proofs.LinkTables.{entry_set, none_is_not_some, some_is_one}
-use Rattle.mat_flow.specs.ListParts.{AreDistinct-index}
-
--- ---- lists without repetition
 
 -- ---- the table of the vertex after each vertex
 
@@ -21,15 +19,8 @@ pub record IsReversing (before : List (Option ℕ)) (n : ℕ) (after : List (Opt
   pub turned : (u v : ℕ) → entry_at after u ≡ Some v → (v < n) × (entry_at before v ≡ Some u)
   pub none : (u v : ℕ) → u < length after → v < n → entry_at after u ≡ None → entry_at before v ≢ Some u
 
-pub IsReversing-start : (before after : List (Option ℕ)) → length after ≡ length before → ((u : ℕ) → entry_at after u ≡ None)
-    → IsReversing before 0 after
-IsReversing-start before after long none = record {
-  long = long;
-  turned = λ u v e. absurd (none_is_not_some v (sym (none u) ∙ e));
-  none = λ u v l m. absurd (omega arith);
-}
-
-pub IsReversing-skip : (before : List (Option ℕ)) (n : ℕ) (after : List (Option ℕ)) → entry_at before n ≡ None → IsReversing before n after
+pub IsReversing-skip : (before : List (Option ℕ)) (n : ℕ) (after : List (Option ℕ)) → entry_at before n ≡ None
+    → IsReversing before n after
     → IsReversing before (n + 1) after
 IsReversing-skip before n after empty r = record {
   long = r.long;
@@ -58,17 +49,6 @@ IsReversing-put before n w after here inside r = record {
   ];
 }
 
-pub IsReversing-end : (before : List (Option ℕ)) (n : ℕ) (after : List (Option ℕ)) → length before ≤ n → IsReversing before n after
-    → IsReversed before after
-IsReversing-end before n after all r = record {
-  long = r.long;
-  turned = λ u v e. (r.turned u v e).1;
-  none = λ u v l e f. elim (cases_lt v n) [
-    | inl m ↦ r.none u v l m e f
-    | inr m ↦ none_is_not_some u (sym (get_or_past before v None (omega arith)) ∙ f)
-  ];
-}
-
 -- ---- reading one path
 
 -- the path is read up to the vertex `at`
@@ -77,14 +57,6 @@ pub record IsReading (after : List (Option ℕ)) (start : ℕ) (path : List ℕ)
   pub first : get_or path 0 0 ≡ start
   pub steps : (i : ℕ) → suc i < length path → entry_at after (get_or path i 0) ≡ Some (get_or path (suc i) 0)
   pub here : (i : ℕ) → suc i ≡ length path → get_or path i 0 ≡ at
-
-pub IsReading-start : (after : List (Option ℕ)) (start : ℕ) → IsReading after start (start ∷ []) start
-IsReading-start after start = record {
-  some = omega arith;
-  first = refl;
-  steps = λ i l. absurd (omega arith);
-  here = λ i l. (let e : i ≡ 0 = omega arith in ap (λ k. get_or (start ∷ []) k 0) e);
-}
 
 pub IsReading-next : (after : List (Option ℕ)) (start : ℕ) (path : List ℕ) (at next : ℕ) → entry_at after at ≡ Some next
     → IsReading after start path at → IsReading after start (path ++ next ∷ []) next
@@ -103,15 +75,6 @@ IsReading-next after start path at next e r =
       ];
       here = λ i l. last i (omega arith);
     }
-
-pub IsReading-end : (after : List (Option ℕ)) (start : ℕ) (path : List ℕ) (at : ℕ) → entry_at after at ≡ None
-    → IsReading after start path at → IsTrail after start path
-IsReading-end after start path at e r = record {
-  some = r.some;
-  first = r.first;
-  steps = r.steps;
-  last = λ i l. ap (entry_at after) (r.here i l) ∙ e;
-}
 
 -- no vertex is read twice, so the path is no longer than the table
 module _ (after : List (Option ℕ)) (start : ℕ) (first : (u : ℕ) → entry_at after u ≢ Some start)

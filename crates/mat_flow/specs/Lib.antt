@@ -2,8 +2,6 @@ pub mod Paths
 pub mod Digraphs
 pub mod LinkTables
 pub mod Trails
-pub mod ListParts
-pub mod DisjointLists
 pub mod Routes
 pub mod RouteParts
 pub mod RouteFamilies

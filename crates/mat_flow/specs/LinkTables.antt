@@ -47,22 +47,22 @@ pub record IsLinkTable (vertices : ℕ) (arcs : List (ℕ × ℕ)) (sources targ
   pub ends : (u : ℕ) → u < vertices → ((v : ℕ) → entry_at before v ≢ Some u) → is_member u targets ≡ true
   pub once : (v w u : ℕ) → entry_at before v ≡ Some u → entry_at before w ≡ Some u → v ≡ w
 
--- the entry of the vertex before place k of a walk, or None at its first place
-abbrev pub entry_before : List (Option ℕ) → List ℕ → ℕ → Option ℕ
-entry_before table walk zero = None
-entry_before table walk (suc k) = entry_at table (slice_index walk k)
+-- the entry of the vertex before place k of a walk, and at its first place what comes to it
+abbrev pub entry_before : Option ℕ → List (Option ℕ) → List ℕ → ℕ → Option ℕ
+entry_before first table walk zero = first
+entry_before first table walk (suc k) = entry_at table (slice_index walk k)
 
 -- how many vertices have none before them
 abbrev pub starts_in : List (Option ℕ) → ℕ
 starts_in [] = 0
 starts_in (entry ∷ table) = one_if_none entry + starts_in table
 
--- each entry of a walk's vertices has moved on to the next one, the first has None, and the last entry is gone
-pub record IsShifted (walk : List ℕ) (old new : List (Option ℕ)) : Type 0 where
+-- each entry of a walk's vertices has moved on to the next one, `first` has come to the first, and the last entry is gone
+pub record IsShifted (first : Option ℕ) (walk : List ℕ) (old new : List (Option ℕ)) : Type 0 where
   pub long : length new ≡ length old
-  pub moved : (k : ℕ) → k < length walk → entry_at new (slice_index walk k) ≡ entry_before old walk k
+  pub moved : (k : ℕ) → k < length walk → entry_at new (slice_index walk k) ≡ entry_before first old walk k
   pub kept : (v : ℕ) → is_member v walk ≡ false → entry_at new v ≡ entry_at old v
-  pub one_more : starts_in new + one_if_none (entry_before old walk (length walk)) ≡ suc (starts_in old)
+  pub starts : starts_in new + one_if_none (entry_before first old walk (length walk)) ≡ starts_in old + one_if_none first
 
 -- whether x is before one of these vertices
 abbrev pub is_before : List (Option ℕ) → List ℕ → ℕ → Bool

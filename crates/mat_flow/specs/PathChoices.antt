@@ -4,8 +4,8 @@ use Rattle.std.proofs.lemmas.Bool.{eqb-true, false≢true, or_cases}
 use Rattle.std.proofs.lemmas.List.Elements.{All-cons, All-head, All-nil, All-tail}
 use Rattle.std.specs.List.{All}
 use Rattle.mat_sets.specs.Sets.{is_member, AreDistinct}
+use Rattle.mat_sets.proofs.ListParts.{is_member-tail}
 use Rattle.mat_sets.proofs.Members.{is_member-head}
-use Rattle.mat_flow.specs.ListParts.{is_member-tail}
 use Rattle.mat_flow.specs.PathFamilies.{AreDisjointPaths-routes, AreRoutes-paths, ends_of, is_member-ends_of, last_of-paths_to, paths_to, route_to}
 use Rattle.mat_flow.specs.Paths.{last_of, AreDisjointPaths, IsPathBetween}
 
@@ -16,7 +16,8 @@ module _ (arcs : List (ℕ × ℕ)) (sources targets : List ℕ) where
       → is_member v targets ≡ true
   ends_are_targets [] all v m = absurd (false≢true m)
   ends_are_targets (path ∷ paths) all v m = elim (or_cases (eqb v (last_of path)) (is_member v (map last_of paths)) m) [
-    | inl same ↦ ap (λ z. is_member z targets) (eqb-true v (last_of path) same) ∙ (All-head (IsPathBetween arcs sources targets) path paths all).ends
+    | inl same ↦
+        ap (λ z. is_member z targets) (eqb-true v (last_of path) same) ∙ (All-head (IsPathBetween arcs sources targets) path paths all).ends
     | inr later ↦ ends_are_targets paths (All-tail (IsPathBetween arcs sources targets) path paths all) v later
   ]
 
@@ -46,7 +47,8 @@ module _ (arcs : List (ℕ × ℕ)) (sources targets : List ℕ) where
       → ((v : ℕ) → is_member v some ≡ true → is_member v (map last_of paths) ≡ true) → PathsTo some
   paths_to_some paths d some distinct inside =
       let family = AreRoutes-paths arcs sources targets paths d in
-      let among : (v : ℕ) → is_member v some ≡ true → is_member v (ends_of paths) ≡ true = λ v m. is_member-ends_of v paths ∙ inside v m in
+      let among : (v : ℕ) → is_member v some ≡ true → is_member v (ends_of paths) ≡ true = λ v m. is_member-ends_of v paths
+      ∙ inside v m in
       record {
         paths = paths_to (route_to paths) some;
         disjoint = AreDisjointPaths-routes arcs sources targets family some distinct among;

@@ -5,8 +5,8 @@ use Rattle.std.proofs.lemmas.Bool.{both_ways, cond_both, eqb-true, false_from_ne
 use Rattle.std.proofs.lemmas.List.Elements.{All-cons, All-head, All-nil, All-tail}
 use Rattle.std.specs.List.{All, concat}
 use Rattle.mat_sets.specs.Sets.{is_member, union, with_one, AreDistinct, IsRising}
+use Rattle.mat_sets.proofs.ListParts.{AreDistinct-append, AreDistinct-apart, AreDistinct-front, AreDistinct-rest, AreDistinct-reverse, is_member-left, is_member-reverse, is_member-right, is_member-tail, member_differs}
 use Rattle.mat_sets.proofs.Members.{IsRising-nil, is_member-append, is_member-head, is_member-union}
-use Rattle.mat_flow.specs.ListParts.{AreDistinct-append, AreDistinct-apart, AreDistinct-front, AreDistinct-rest, AreDistinct-reverse, is_member-left, is_member-reverse, is_member-right, is_member-tail, member_differs}
 use Rattle.mat_flow.specs.Paths.{last_of, AreDisjointPaths, IsPathBetween, IsSeparator}
 use Rattle.mat_flow.specs.RouteFamilies.{AreRoutes-with_one}
 use Rattle.mat_flow.specs.Routes.{AreRoutes, SeparatesRoutes, with_route}
@@ -41,7 +41,8 @@ module _ (arcs : List (ℕ × ℕ)) (sources targets : List ℕ) where
   pub last_inside : (path : List ℕ) → IsPathBetween arcs sources targets path → is_member (last_of path) path ≡ true
   last_inside path p = last_of-member arcs sources path p.joined p.starts
 
-  ends_inside : (paths : List (List ℕ)) → All (IsPathBetween arcs sources targets) paths → (v : ℕ) → is_member v (map last_of paths) ≡ true
+  ends_inside : (paths : List (List ℕ)) → All (IsPathBetween arcs sources targets) paths → (v : ℕ)
+      → is_member v (map last_of paths) ≡ true
       → is_member v (concat paths) ≡ true
   ends_inside [] all v m = m
   ends_inside (path ∷ paths) all v m = elim (or_cases (eqb v (last_of path)) (is_member v (map last_of paths)) m) [
@@ -88,7 +89,8 @@ module _ (arcs : List (ℕ × ℕ)) (sources targets : List ℕ) where
       (AreDistinct-apart path (concat paths) v d.distinct (sym (is_member-reverse v path) ∙ on)) (route_to-inside paths f v k)))
 
   -- what meets each route meets each path
-  pub IsSeparator-routes : (separator : List ℕ) → IsRising separator → SeparatesRoutes arcs sources (λ v. is_member v targets || false) separator
+  pub IsSeparator-routes : (separator : List ℕ) → IsRising separator
+      → SeparatesRoutes arcs sources (λ v. is_member v targets || false) separator
       → IsSeparator arcs sources targets separator
   IsSeparator-routes separator rises s = record {
     rises = rises;
@@ -154,11 +156,13 @@ module _ (arcs : List (ℕ × ℕ)) (sources targets : List ℕ) where
       → All (IsPathBetween arcs sources targets) (paths_to route some)
   paths_each family [] inside = All-nil (IsPathBetween arcs sources targets)
   paths_each {ends} {route} family (e ∷ some) inside =
-      All-cons (IsPathBetween arcs sources targets) (reverse (route e)) (paths_to route some) (path_between family e (inside e (is_member-head e some)))
+      All-cons (IsPathBetween arcs sources targets) (reverse (route e)) (paths_to route some)
+      (path_between family e (inside e (is_member-head e some)))
       (paths_each family some (λ f m. inside f (is_member-tail f e some m)))
 
   -- a family of routes, as disjoint paths to some of its ends
-  pub AreDisjointPaths-routes : {ends : List ℕ} {route : ℕ → List ℕ} → AreRoutes arcs sources (λ v. is_member v targets) (λ v. false) ends route
+  pub AreDisjointPaths-routes : {ends : List ℕ} {route : ℕ → List ℕ}
+      → AreRoutes arcs sources (λ v. is_member v targets) (λ v. false) ends route
       → (some : List ℕ) → AreDistinct some → ((e : ℕ) → is_member e some ≡ true → is_member e ends ≡ true)
       → AreDisjointPaths arcs sources targets (paths_to route some)
   AreDisjointPaths-routes family some d inside = record { each = paths_each family some inside; distinct = paths_distinct family some d inside }

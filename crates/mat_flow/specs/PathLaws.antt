@@ -7,10 +7,10 @@ use Rattle.std.proofs.lemmas.List.Elements.{All-head, All-nil}
 use Rattle.std.specs.List.{concat}
 use Rattle.mat_sets.specs.Sets.{is_member, union, with_one, AreDistinct}
 use Rattle.mat_sets.proofs.Cardinalities.{length-with_one}
+use Rattle.mat_sets.proofs.DisjointLists.{AreDisjoint-first}
 use Rattle.mat_sets.proofs.Ground.{AreDistinct-rising, length-distinct, length-distinct_subset}
+use Rattle.mat_sets.proofs.ListParts.{is_member-left, is_member-right}
 use Rattle.mat_sets.proofs.Members.{IsRising-nil, IsRising-union, is_member-head, is_member-union, is_member-with_one}
-use Rattle.mat_flow.specs.DisjointLists.{AreDisjoint-first}
-use Rattle.mat_flow.specs.ListParts.{is_member-left, is_member-right}
 use Rattle.mat_flow.specs.PathFamilies.{AreDisjointPaths-routes, AreDistinct-ends, AreRoutes-paths, IsSeparator-routes, ends_of, is_member-ends_of, last_of-paths_to, paths_to, route_to}
 use Rattle.mat_flow.specs.Paths.{first_of, last_of, AreDisjointPaths, ArePathsApart, HasOnePathMore, HasSeparatorOf, IsLinking, IsPath, IsPathBetween, IsSeparator}
 use Rattle.mat_flow.specs.Routes.{HasOneEndMore}
@@ -136,4 +136,5 @@ module _ (arcs : List (ℕ × ℕ)) (sources targets : List ℕ) where
   ]
 
   pub menger : (paths : List (List ℕ)) × (separator : List ℕ) × IsLinking arcs sources targets paths separator
-  menger = linked_from (suc (length (union sources []))) [] (record { each = All-nil (IsPathBetween arcs sources targets); distinct = tt }) (omega arith)
+  menger =
+      linked_from (suc (length (union sources []))) [] (record { each = All-nil (IsPathBetween arcs sources targets); distinct = tt }) (omega arith)

@@ -3,9 +3,9 @@
 use Rattle.std.proofs.Common.{◌≡◌, ℕ, Bool, true, false, ◌||◌, eqb, List, [], ◌∷◌, ◌++◌, ◌⊎◌, inl, inr, refl, sym, ap, ◌∙◌, subst}
 use Rattle.std.proofs.lemmas.Bool.{and_parts, both_ways, eqb-true, false_from_ne_true, false≢true, not-true, or_cases, or_from, or_left, or_parts, or_right}
 use Rattle.mat_sets.specs.Sets.{is_member, with_one, without_one}
+use Rattle.mat_sets.proofs.ListParts.{AreDistinct-apart, AreDistinct-rest, is_member-middle, is_member-right, members_differ}
 use Rattle.mat_sets.proofs.Members.{IsRising-without_one, is_member-append, is_member-without_one}
 use Rattle.mat_sets.proofs.Subsets.{find_member, without_one-IsSubset}
-use Rattle.mat_flow.specs.ListParts.{AreDistinct-apart, AreDistinct-rest, is_member-middle, is_member-right, members_differ}
 use Rattle.mat_flow.specs.RouteFamilies.{AreRoutes-fewer, AreRoutes-terminals, AreRoutes-with_one}
 use Rattle.mat_flow.specs.RouteParts.{LeadsBack-rest, begins_before}
 use Rattle.mat_flow.specs.Routes.{IsRoute, AreRoutes, with_route, with_terminals}
@@ -123,10 +123,12 @@ module _ {arcs : List (ℕ × ℕ)} {sources : List ℕ} {target terminal : ℕ 
       → is_member v (cut_vertices c) ≡ false
   other_uncut e v m other on =
       let off = family.apart e c.owner v m c.owned other on in
-      let p = or_parts (is_member v c.owner_front) _ (sym (ap (is_member v) c.splits ∙ is_member-append v c.owner_front (c.at ∷ c.owner_rest)) ∙ off) in
+      let p = or_parts (is_member v c.owner_front) _
+      (sym (ap (is_member v) c.splits ∙ is_member-append v c.owner_front (c.at ∷ c.owner_rest)) ∙ off) in
       not_cut c v p.0 (or_parts (eqb v c.at) _ p.1).0 (false_from_ne_true _ (λ k. both_ways _ (c.clear v e k m) on))
 
-  rest_inner : (v : ℕ) → is_member v (c.at ∷ c.owner_rest) ≡ true → eqb v c.at ≡ false → with_terminals terminal (cut_vertices c) v ≡ false
+  rest_inner : (v : ℕ) → is_member v (c.at ∷ c.owner_rest) ≡ true → eqb v c.at ≡ false
+      → with_terminals terminal (cut_vertices c) v ≡ false
   rest_inner v m other =
       let off : is_member v c.owner_front ≡ false = false_from_ne_true _
       (λ k. both_ways _ (AreDistinct-apart c.owner_front (c.at ∷ c.owner_rest) v owner_route.distinct k) m) in

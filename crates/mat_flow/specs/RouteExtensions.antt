@@ -3,14 +3,15 @@
 use Rattle.std.proofs.Common.{◌≡◌, ℕ, Bool, true, false, ◌||◌, eqb, List, ◌∷◌, ◌++◌, inl, inr, sym, ◌∙◌, arith}
 use Rattle.std.proofs.lemmas.Bool.{both_ways, cases_Bool, cond_both, false_from_ne_true, or_cases, or_from, or_left}
 use Rattle.mat_sets.specs.Sets.{is_member, with_one, IsRising, IsSubset}
+use Rattle.mat_sets.proofs.ListParts.{AreDistinct-append, AreDistinct-front, is_member-left, is_member-right, members_differ}
 use Rattle.mat_sets.proofs.Members.{is_member-append, set_members}
-use Rattle.mat_flow.specs.ListParts.{AreDistinct-append, AreDistinct-front, is_member-left, is_member-right, members_differ}
 use Rattle.mat_flow.specs.RouteFamilies.{AreRoutes-fewer, AreRoutes-terminals, AreRoutes-with_one}
 use Rattle.mat_flow.specs.RouteParts.{LeadsBack-on, first_of-on}
 use Rattle.mat_flow.specs.Routes.{IsRoute, AreRoutes, with_route}
 
 -- the route to m goes on to e over a front that meets no route, and m is none of the ends that stay
-pub record IsExtension (arcs : List (ℕ × ℕ)) (sources : List ℕ) (target terminal : ℕ → Bool) (ends : List ℕ) (route : ℕ → List ℕ) (kept : List ℕ)
+pub record IsExtension (arcs : List (ℕ × ℕ)) (sources : List ℕ) (target terminal : ℕ → Bool) (ends : List ℕ) (route : ℕ → List ℕ)
+    (kept : List ℕ)
     (e m : ℕ) (front : List ℕ) : Type 0 where
   pub is : IsRoute arcs sources terminal e (front ++ route m)
   pub goal : (target e || terminal e) ≡ true
@@ -19,9 +20,11 @@ pub record IsExtension (arcs : List (ℕ × ℕ)) (sources : List ℕ) (target t
   pub clear : (v f : ℕ) → is_member v front ≡ true → is_member f ends ≡ true → is_member v (route f) ≡ false
 
 module _ {arcs : List (ℕ × ℕ)} {sources : List ℕ} {target more : ℕ → Bool} {ends : List ℕ} {route : ℕ → List ℕ}
-    (family : AreRoutes arcs sources target more ends route) (terminal : ℕ → Bool) (fewer : (v : ℕ) → more v ≡ false → terminal v ≡ false) where
+    (family : AreRoutes arcs sources target more ends route) (terminal : ℕ → Bool)
+    (fewer : (v : ℕ) → more v ≡ false → terminal v ≡ false) where
   -- a terminal that is no end is on no route
-  pub terminal_missed : (v f : ℕ) → more v ≡ true → is_member v ends ≡ false → is_member f ends ≡ true → is_member v (route f) ≡ false
+  pub terminal_missed : (v f : ℕ) → more v ≡ true → is_member v ends ≡ false → is_member f ends ≡ true
+      → is_member v (route f) ≡ false
   terminal_missed v f is out m = false_from_ne_true _ (λ on. both_ways _ ((family.each f m).inner v on (members_differ v f ends out m)) is)
 
   -- a route that stays

@@ -15,7 +15,8 @@ module _ {arcs : List (ℕ × ℕ)} {sources : List ℕ} {target : ℕ → Bool}
     apart = λ e f v m n. r.apart e f v (s.inside e m) (s.inside f n);
   }
 
-  pub AreRoutes-terminals : {terminal : ℕ → Bool} {ends : List ℕ} {route : ℕ → List ℕ} → AreRoutes arcs sources target terminal ends route
+  pub AreRoutes-terminals : {terminal : ℕ → Bool} {ends : List ℕ} {route : ℕ → List ℕ}
+      → AreRoutes arcs sources target terminal ends route
       → (other : ℕ → Bool) → ((e : ℕ) → is_member e ends ≡ true → (target e || other e) ≡ true)
       → ((e v : ℕ) → is_member e ends ≡ true → is_member v (route e) ≡ true → eqb v e ≡ false → other v ≡ false)
       → AreRoutes arcs sources target other ends route
@@ -39,11 +40,13 @@ module _ {arcs : List (ℕ × ℕ)} {sources : List ℕ} {target : ℕ → Bool}
     ];
     each = λ e m. cond_both (eqb e end) path (route e) (IsRoute arcs sources terminal e)
         (λ same. subst (λ v. IsRoute arcs sources terminal v path) (sym (eqb-true e end same)) new) (λ other. r.each e (old e m other));
-    apart = λ e f v m n differ. cond_both (eqb e end) path (route e) (λ p. is_member v p ≡ true → is_member v (with_route end path route f) ≡ false)
+    apart = λ e f v m n differ. cond_both (eqb e end) path (route e)
+        (λ p. is_member v p ≡ true → is_member v (with_route end path route f) ≡ false)
         (λ same h. cond_both (eqb f end) path (route f) (λ q. is_member v q ≡ false)
         (λ also. absurd (twice e f differ same also)) (λ other. misses v f h (old f n other)))
         (λ other h. cond_both (eqb f end) path (route f) (λ q. is_member v q ≡ false)
-        (λ same. false_from_ne_true _ (λ k. both_ways _ (misses v e k (old e m other)) h)) (λ too. r.apart e f v (old e m other) (old f n too) differ h));
+        (λ same. false_from_ne_true _ (λ k. both_ways _ (misses v e k (old e m other)) h))
+        (λ too. r.apart e f v (old e m other) (old f n too) differ h));
   }
     where
       old : (e : ℕ) → is_member e (with_one ends end) ≡ true → eqb e end ≡ false → is_member e ends ≡ true

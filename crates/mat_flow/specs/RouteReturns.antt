@@ -5,8 +5,8 @@ use Rattle.std.proofs.lemmas.Bool.Decides.{nat_tests}
 use Rattle.std.proofs.lemmas.Bool.{and_from, eq-eqb, false≢true, and_left, both_ways, cases_Bool, false_from_ne_true, not_from_false, or_from, or_left, or_parts, or_right}
 use Rattle.mat_sets.specs.Sets.{is_member, with_one, without_one}
 use Rattle.mat_sets.proofs.Changes.{with_one-returned}
+use Rattle.mat_sets.proofs.ListParts.{AreDistinct-apart, SplitAt, is_member-left, is_member-middle, is_member-right, is_member-tail, member_differs, members_differ, split_at}
 use Rattle.mat_sets.proofs.Members.{IsRising-without_one, is_member-append, is_member-with_one, is_member-without_one}
-use Rattle.mat_flow.specs.ListParts.{AreDistinct-apart, SplitAt, is_member-left, is_member-middle, is_member-right, is_member-tail, member_differs, members_differ, split_at}
 use Rattle.mat_flow.specs.RouteCrossings.{Crossing, at_outside, cut_ends, cut_vertices, kept_end, on_owner, owner_in_front, owner_route}
 use Rattle.mat_flow.specs.RouteExtensions.{IsExtension, IsRoute-extended, IsRoute-kept, terminal_missed, two_extended}
 use Rattle.mat_flow.specs.RouteParts.{first_of-member}
@@ -169,7 +169,8 @@ module _ {arcs : List (ℕ × ℕ)} {sources : List ℕ} {target terminal : ℕ 
       (λ v m. false_from_ne_true _ (λ k. both_ways _ (parts_apart v k) (within v more.end c.front s.before s.after s.splits m)))
 
   -- it was a goal before
-  end_elsewhere : is_member more.end c.owner_front ≡ false → is_member more.end c.front ≡ false → HasOneEndMore arcs sources target terminal ends
+  end_elsewhere : is_member more.end c.owner_front ≡ false → is_member more.end c.front ≡ false
+      → HasOneEndMore arcs sources target terminal ends
   end_elsewhere out off =
       one_end_more c.at more.end more.end c.owner_front [] new
       (owner_extension c.at c.owner_front c.owner_rest refl (λ v m. m) out at_grown at_leaves)

@@ -3,9 +3,9 @@ use Rattle.std.proofs.Common.{◌≡◌, ℕ, zero, suc, ◌<◌, Bool, true, fa
 use Rattle.std.proofs.lemmas.Bool.{and_from, and_parts, both_ways, cases_Bool, cases_lt, eqb-false, not-true, not_from_false}
 use Rattle.mat_sets.specs.Sets.{is_member}
 use Rattle.mat_sets.specs.Walks.{IsReachedSet, IsShortestWalk}
+use Rattle.mat_sets.proofs.ListParts.{AreDistinct-index, AreDistinct-reverse, is_member-reverse, is_member-tail}
 use Rattle.mat_sets.proofs.Members.{is_member-head, place_of_member}
 use Rattle.mat_sets.proofs.Reach.{finite_reach, shortest_walk_is_chordless}
-use Rattle.mat_flow.specs.ListParts.{AreDistinct-index, AreDistinct-reverse, is_member-reverse, is_member-tail}
 use Rattle.mat_flow.specs.Paths.{first_of, has_arc, last_of, IsPath}
 use Rattle.mat_flow.specs.Routes.{LeadsBack, IsRoute, SeparatesRoutes}
 use Rattle.mat_flow.specs.VertexBounds.{heads_below, sources_below, vertex_bound}

@@ -9,8 +9,8 @@ use Rattle.std.proofs.lemmas.Bool.{not_from_false, not_from_true, not-true, or_l
 use Rattle.mat_sets.specs.Search.{those_below}
 use Rattle.mat_sets.specs.Sets.{is_member}
 use Rattle.mat_sets.proofs.Cardinalities.{length-exchange_one}
+use Rattle.mat_sets.proofs.ListParts.{is_member-middle, split_at}
 use Rattle.mat_sets.proofs.Search.{length-those_below_less}
-use Rattle.mat_flow.specs.ListParts.{is_member-middle, split_at}
 use Rattle.mat_flow.specs.Paths.{first_of}
 use Rattle.mat_flow.specs.RouteCrossings.{Crossing, Meeting, at_free, at_outside, cut_ends, cut_route, cut_routes, cut_vertices, first_meeting}
 use Rattle.mat_flow.specs.RouteFamilies.{AreRoutes-with_one}
@@ -24,12 +24,14 @@ module _ (arcs : List (ℕ × ℕ)) (sources : List ℕ) (target : ℕ → Bool)
   -- what holds of the cut family: one end more, or a separator, which is one before the cut too
   step_uncut : {terminal : ℕ → Bool} {ends : List ℕ} {route : ℕ → List ℕ} → AreRoutes arcs sources target terminal ends route
       → (c : Crossing arcs sources (λ v. target v || terminal v) ends route)
-      → GrowsOrIsSeparated arcs sources target (with_terminals terminal (cut_vertices c)) (cut_ends c) → GrowsOrIsSeparated arcs sources target terminal ends
+      → GrowsOrIsSeparated arcs sources target (with_terminals terminal (cut_vertices c)) (cut_ends c)
+      → GrowsOrIsSeparated arcs sources target terminal ends
   step_uncut family c (inl more) = inl (one_end_more_uncut family c more)
   step_uncut {terminal} {ends} family c (inr s) = inr (record {
     separator = s.separator;
     rises = s.rises;
-    separates = record { meets = λ path leads reaches. s.separates.meets path leads (wider (target (first_of path)) (terminal (first_of path)) _ reaches) };
+    separates =
+        record { meets = λ path leads reaches. s.separates.meets path leads (wider (target (first_of path)) (terminal (first_of path)) _ reaches) };
     size = s.size ∙ length-exchange_one ends c.at c.owner family.rises c.owned (at_outside c);
   })
     where
@@ -38,7 +40,8 @@ module _ (arcs : List (ℕ × ℕ)) (sources : List ℕ) (target : ℕ → Bool)
       wider false b d h = or_left b d h
 
   -- where a found route meets the family
-  crossing_at : (terminal : ℕ → Bool) (ends : List ℕ) (route : ℕ → List ℕ) (f : FoundRoute arcs sources (λ v. target v || terminal v) ends)
+  crossing_at : (terminal : ℕ → Bool) (ends : List ℕ) (route : ℕ → List ℕ)
+      (f : FoundRoute arcs sources (λ v. target v || terminal v) ends)
       → Meeting ends route f.route → (c : Crossing arcs sources (λ v. target v || terminal v) ends route) × (c.at < vertex_bound arcs sources)
   crossing_at terminal ends route f m =
       let s = split_at m.at (route m.owner) m.on in (
@@ -72,7 +75,12 @@ module _ (arcs : List (ℕ × ℕ)) (sources : List ℕ) (target : ℕ → Bool)
         new = f.avoids f.end (subst (λ z. is_member z f.route ≡ true) i.begins (first_of-member arcs sources f.route i.leads));
         route = with_route f.end f.route route;
         routes = AreRoutes-with_one f.end f.route family
-            (record { begins = i.begins; leads = i.leads; distinct = i.distinct; inner = λ v on other. (or_parts (target v) _ (i.inner v on other)).1 })
+            (record {
+              begins = i.begins;
+              leads = i.leads;
+              distinct = i.distinct;
+              inner = λ v on other. (or_parts (target v) _ (i.inner v on other)).1;
+            })
             f.reaches clear;
       }
 

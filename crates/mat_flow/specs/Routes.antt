@@ -20,7 +20,8 @@ pub record IsRoute (arcs : List (ℕ × ℕ)) (sources : List ℕ) (terminal : �
   pub inner : (v : ℕ) → is_member v route ≡ true → (v == end) ≡ false → terminal v ≡ false
 
 -- a family of routes: each end is a target or a terminal, and no two routes share a vertex
-pub record AreRoutes (arcs : List (ℕ × ℕ)) (sources : List ℕ) (target terminal : ℕ → Bool) (ends : List ℕ) (route : ℕ → List ℕ) : Type 0 where
+pub record AreRoutes (arcs : List (ℕ × ℕ)) (sources : List ℕ) (target terminal : ℕ → Bool) (ends : List ℕ)
+    (route : ℕ → List ℕ) : Type 0 where
   pub rises : IsRising ends
   pub goals : (e : ℕ) → is_member e ends ≡ true → (target e || terminal e) ≡ true
   pub each : (e : ℕ) → is_member e ends ≡ true → IsRoute arcs sources terminal e (route e)
@@ -56,4 +57,5 @@ pub record HasRouteSeparator (arcs : List (ℕ × ℕ)) (sources : List ℕ) (ta
 
 -- one end more, or such a separator
 abbrev pub GrowsOrIsSeparated : List (ℕ × ℕ) → List ℕ → (ℕ → Bool) → (ℕ → Bool) → List ℕ → Type 0
-GrowsOrIsSeparated arcs sources target terminal ends = HasOneEndMore arcs sources target terminal ends ⊎ HasRouteSeparator arcs sources target terminal ends
+GrowsOrIsSeparated arcs sources target terminal ends =
+    HasOneEndMore arcs sources target terminal ends ⊎ HasRouteSeparator arcs sources target terminal ends

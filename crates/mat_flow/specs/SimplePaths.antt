@@ -5,10 +5,10 @@ use Rattle.std.proofs.lemmas.Bool.{both_ways, cases_Bool, false_from_ne_true, or
 use Rattle.std.proofs.lemmas.List.Elements.{All-cons, All-head, All-nil, All-tail}
 use Rattle.std.specs.List.{concat}
 use Rattle.mat_sets.specs.Sets.{is_member, AreDistinct}
+use Rattle.mat_sets.proofs.DisjointLists.{AreDisjoint-distinct, AreDisjoint-first}
 use Rattle.mat_sets.proofs.Families.{AreDisjoint-tail}
+use Rattle.mat_sets.proofs.ListParts.{AreDistinct-append, AreDistinct-rest, is_member-left, is_member-right, is_member-tail, split_at}
 use Rattle.mat_sets.proofs.Members.{is_member-append}
-use Rattle.mat_flow.specs.DisjointLists.{AreDisjoint-distinct, AreDisjoint-first}
-use Rattle.mat_flow.specs.ListParts.{AreDistinct-append, AreDistinct-rest, is_member-left, is_member-right, is_member-tail, split_at}
 use Rattle.mat_flow.specs.Paths.{first_of, has_arc, last_of, AreDisjointPaths, ArePathsApart, IsPath, IsPathBetween}
 
 -- ---- parts of paths

@@ -1,7 +1,7 @@
 -- A path from a source, turned round, is a route back from its last vertex; and a route, turned round, is such a path.
 use Rattle.std.proofs.Common.{◌≡◌, ℕ, true, List, [], ◌∷◌, ◌++◌, reverse, refl, sym, ap, ◌∙◌, subst, append_assoc}
 use Rattle.mat_sets.specs.Sets.{is_member}
-use Rattle.mat_flow.specs.ListParts.{is_member-reverse, reverse-cons}
+use Rattle.mat_sets.proofs.ListParts.{is_member-reverse, reverse-cons}
 use Rattle.mat_flow.specs.Paths.{first_of, last_of, IsPath}
 use Rattle.mat_flow.specs.RouteParts.{first_of-member}
 use Rattle.mat_flow.specs.Routes.{LeadsBack}
@@ -22,7 +22,8 @@ module _ (arcs : List (ℕ × ℕ)) (sources : List ℕ) where
   last_of-onto v (u ∷ rest) back = ap first_of (reverse_onto u rest (v ∷ back)) ∙ last_of-onto u rest (v ∷ back)
 
   -- a path from a source, turned round
-  pub LeadsBack-reverse : (path : List ℕ) → IsPath arcs path → is_member (first_of path) sources ≡ true → LeadsBack arcs sources (reverse path)
+  pub LeadsBack-reverse : (path : List ℕ) → IsPath arcs path → is_member (first_of path) sources ≡ true
+      → LeadsBack arcs sources (reverse path)
   LeadsBack-reverse [] joined starts = absurd joined
   LeadsBack-reverse (v ∷ rest) joined starts = subst (LeadsBack arcs sources) (sym (reverse-cons v rest)) (LeadsBack-onto v rest [] starts joined)
 
@@ -31,7 +32,8 @@ module _ (arcs : List (ℕ × ℕ)) (sources : List ℕ) where
   first_of-reverse (v ∷ rest) joined = ap first_of (reverse-cons v rest) ∙ last_of-onto v rest []
 
   -- a path holds its last vertex
-  pub last_of-member : (path : List ℕ) → IsPath arcs path → is_member (first_of path) sources ≡ true → is_member (last_of path) path ≡ true
+  pub last_of-member : (path : List ℕ) → IsPath arcs path → is_member (first_of path) sources ≡ true
+      → is_member (last_of path) path ≡ true
   last_of-member path joined starts =
       sym (is_member-reverse (last_of path) path) ∙ ap (λ v. is_member v (reverse path)) (sym (first_of-reverse path joined))
       ∙ first_of-member arcs sources (reverse path) (LeadsBack-reverse path joined starts)

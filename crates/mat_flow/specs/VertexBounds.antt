@@ -3,8 +3,8 @@ use Rattle.std.proofs.Common.{◌≡◌, ℕ, ◌<◌, true, ◌&&◌, eqb, List
 use Rattle.std.proofs.lemmas.Bool.{and_parts, eq-eqb, eqb-true, false≢true, or_cases, or_left, or_right}
 use Rattle.mat_sets.specs.Sets.{is_member}
 use Rattle.mat_sets.proofs.Ground.{AllBelow-member}
+use Rattle.mat_sets.proofs.ListParts.{is_member-left, is_member-right}
 use Rattle.mat_sets.proofs.Sums.{AllBelow-above_all, above_all}
-use Rattle.mat_flow.specs.ListParts.{is_member-left, is_member-right}
 use Rattle.mat_flow.specs.Paths.{has_arc}
 
 -- above the sources and the heads of the arcs

@@ -16,17 +16,17 @@ pub(crate) fn no_links(alloc: Global, vertices: u32) -> Result<Vec<Option<u32>>,
     Ok(before)
 }
 
-/// Moves the entry of each vertex of a walk on to the next one. The first vertex then has none before it, and the vertex
-/// before the last one is before none.
-pub(crate) fn shift_along(before: &mut Vec<Option<u32>>, walk: &[u32])
-    requires below { (i : ℕ) → i < length walk.now → slice_index walk.now i < length before.old.items }
+/// Moves the entry of each vertex of a walk on to the next one. The first vertex then has the entry `first`, and that of the
+/// last one is gone.
+pub fn shift_along(table: &mut Vec<Option<u32>>, walk: &[u32], first: Option<u32>)
+    requires below { (i : ℕ) → i < length walk.now → slice_index walk.now i < length table.old.items }
     requires differ { (i j : ℕ) → i < j → j < length walk.now → slice_index walk.now i ≢ slice_index walk.now j }
-    ensures { IsShifted walk.now before.old.items before.new.items }
+    ensures { IsShifted first walk.now table.old.items table.new.items }
 {
-    let mut carried = None;
+    let mut carried = first;
     for v in walk {
-        let entry = before[*v as usize];
-        before[*v as usize] = carried;
+        let entry = table[*v as usize];
+        table[*v as usize] = carried;
         carried = entry;
     }
 }

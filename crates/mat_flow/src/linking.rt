@@ -63,7 +63,7 @@ pub fn linked(
             before: &before,
         };
         match shortest_walk(alloc, &residual)? {
-            WalkSearch::Walk(walk) => shift_along(&mut before, &walk),
+            WalkSearch::Walk(walk) => shift_along(&mut before, &walk, None),
             WalkSearch::Reached(reached) => return linking_of(alloc, &residual, &reached),
         }
     }

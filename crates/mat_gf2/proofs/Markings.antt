@@ -1,5 +1,5 @@
 -- The members that a tag marks are collected in rising order, place by place.
-use Rattle.std.proofs.Common.{◌≡◌, ℕ, ◌+◌, ◌/◌, ◌^◌, ◌<◌, ◌≤◌, Bool, true, false, ◌||◌, cond, eqb, List, [], ◌∷◌, length, get_or, drop, refl, sym, ap, ◌∙◌}
+use Rattle.std.proofs.Common.{◌≡◌, ℕ, ◌+◌, ◌/◌, ◌^◌, ◌<◌, ◌≤◌, Bool, true, false, ◌||◌, cond, eqb, List, ◌∷◌, length, get_or, drop, refl, sym, ap, ◌∙◌}
 use Rattle.std.proofs.Math.Numerals.{add-one}
 use Rattle.std.proofs.lemmas.Bool.{eq-eqb, ne_eqb}
 use Rattle.std.proofs.lemmas.List.{drop_all, drop_more}
@@ -7,7 +7,7 @@ use Rattle.std.proofs.lemmas.Nat.Bits.{shr_and_one}
 use Rattle.std.specs.Int.{bit_at}
 use Rattle.std.specs.Int.Bits.{bit_and}
 use Rattle.mat_sets.specs.Sets.{is_member, IsRising, with_one}
-use Rattle.mat_sets.proofs.Members.{is_member-with_one, same_members, IsRising-nil, IsRising-with_one}
+use Rattle.mat_sets.proofs.Members.{is_member-with_one, same_members, IsRising-with_one}
 use Rattle.mat_gf2.specs.TaggedColumns.{marked_from, marked}
 use Rattle.mat_gf2.proofs.Tags.{IsRising-marked}
 
@@ -15,9 +15,6 @@ use Rattle.mat_gf2.proofs.Tags.{IsRising-marked}
 pub record IsMarking (tag : ℕ) (X : List ℕ) (place : ℕ) (members : List ℕ) : Type 0 where
   pub rising : IsRising members
   pub all : (k : ℕ) → (is_member k members || is_member k (marked_from place tag (drop place X))) ≡ is_member k (marked tag X)
-
-pub IsMarking-start : (tag : ℕ) (X : List ℕ) → IsMarking tag X 0 []
-IsMarking-start tag X = record { rising = IsRising-nil; all = λ k. refl }
 
 marked_from-next : (tag : ℕ) (X : List ℕ) (place : ℕ) → place < length X
     → marked_from place tag (drop place X)

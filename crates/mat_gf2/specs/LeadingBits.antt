@@ -60,16 +60,6 @@ leading_bit-set v q t = ap (λ x. x % 2) (leading_quotient v q t)
 clear_above : (v q i : ℕ) → IsLeadingBit v q → q < i → bit_at v i ≡ 0
 clear_above v q i t l = bit_at_above v (suc q) i t.high (omega arith)
 
--- there is one highest bit
-pub leading_bit-unique : (v q r : ℕ) → IsLeadingBit v q → IsLeadingBit v r → q ≡ r
-leading_bit-unique v q r s t = elim (cases_lt q r) [
-  | inl l ↦ absurd (let a = clear_above v q r s l in let b = leading_bit-set v r t in omega arith)
-  | inr l ↦ elim (cases_lt r q) [
-    | inl k ↦ absurd (let a = clear_above v r q t k in let b = leading_bit-set v q s in omega arith)
-    | inr k ↦ omega arith
-  ]
-]
-
 -- ---- laws of exclusive-or
 
 pub xor_swap : (a b c : ℕ) → bit_xor (bit_xor a b) c ≡ bit_xor (bit_xor a c) b

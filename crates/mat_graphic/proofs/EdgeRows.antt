@@ -1,7 +1,6 @@
 -- The exchanges of an edge x at a forest I: where its ends are in two components it can be added and exchanged for any member; else the
 -- members for which it can be exchanged are those of a trail between its ends. A closed walk through one of these uses it once.
-use Rattle.std.proofs.Common.{◌≡◌, ℕ, ◌<◌, ◌≢◌, Bool, true, false, not, ◌&&◌, eqb, List, inl, inr, refl, sym, ap, ◌∙◌, arith}
-use Rattle.std.specs.List.{filter}
+use Rattle.std.proofs.Common.{◌≡◌, ℕ, ◌<◌, ◌≢◌, Bool, true, false, not, ◌&&◌, eqb, List, inl, inr, sym, ap, ◌∙◌, arith}
 use Rattle.std.proofs.lemmas.Bool.{cases_Bool, ne_eqb, or_left, or_right, and_parts, and_from, both_ways, false_from_ne_true}
 use Rattle.std.proofs.lemmas.Bool.Decides.{nat_tests}
 use Rattle.mat_sets.specs.Sets.{is_member, IsRising, IsSubset, IsSet, with_one, without_one}
@@ -10,6 +9,7 @@ use Rattle.mat_sets.proofs.Members.{IsRising-with_one, IsRising-without_one, Ris
 use Rattle.mat_sets.proofs.Ground.{IsSet-with_one, IsSet-without_one}
 use Rattle.mat_sets.proofs.Subsets.{without_one-IsSubset}
 use Rattle.mat_sets.proofs.SetTests.{IsSet-from_test, test_from-IsSet}
+use Rattle.mat_sets.proofs.Filters.{filter_whole}
 use Rattle.mat_laws.specs.declared.exchange.Exchange.{Exchange}
 use Rattle.mat_laws.specs.Exchanges.{row_of}
 use Rattle.mat_laws.proofs.Rows.{exchanged, row_outside}
@@ -17,18 +17,6 @@ use Rattle.mat_graphic.specs.Forests.{IsForest, least_reached, is_forest, is_gra
 use Rattle.mat_graphic.specs.ComponentLaws.{Trail, IsWithin, member_within, trail_of_same}
 use Rattle.mat_graphic.specs.TrailSearches.{IsTrailSet}
 use Rattle.mat_graphic.specs.ForestLaws.{IsForest-from_test, test_from-IsForest, IsForest-more, IsForest-subset, crossed_once, in_with_one, is_graphic-with_one, never_joined}
-
-filter-same : (f g : ℕ → Bool) (X : List ℕ) → IsRising X → ((z : ℕ) → f z ≡ g z) → filter f X ≡ filter g X
-filter-same f g X r h = same_members _ _ (record { rises = RisesFrom-filter f 0 X r.rises }) (record { rises = RisesFrom-filter g 0 X r.rises })
-    (λ k. is_member-filter f k X ∙ ap (λ b. is_member k X && b) (h k) ∙ sym (is_member-filter g k X))
-
-filter-all : (f : ℕ → Bool) (X : List ℕ) → IsRising X → ((z : ℕ) → f z ≡ true) → filter f X ≡ X
-filter-all f X r h = same_members _ _ (record { rises = RisesFrom-filter f 0 X r.rises }) r
-    (λ k. is_member-filter f k X ∙ ap (λ b. is_member k X && b) (h k) ∙ and_true (is_member k X))
-  where
-    and_true : (b : Bool) → (b && true) ≡ b
-    and_true true = refl
-    and_true false = refl
 
 in_both : (x y z : ℕ) (I : List ℕ) → is_member z (with_one (without_one I y) x) ≡ true → eqb z x ≡ false → is_member z I ≡ true
 in_both x y z I m other = grind (arith, set_members)
@@ -103,8 +91,8 @@ row-apart n ends I x row small passes out apart adds with' =
     let tests = and_parts (is_set n I) (is_forest ends I) passes in
     let set = IsSet-from_test n I tests.0 in
     row_outside (is_graphic n ends) I x row out (adds ∙ sym (is_graphic-with_one n ends I x small passes apart))
-    (with' ∙ sym (filter-all (exchanged (is_graphic n ends) I x) I set.rising
-    (λ y. exchanged-test n ends I x y small set ∙ exchanged-apart ends I x y set.rising (IsForest-from_test ends I tests.1) apart)))
+    (with' ∙ sym (filter_whole (exchanged (is_graphic n ends) I x) I
+    (λ y m. exchanged-test n ends I x y small set ∙ exchanged-apart ends I x y set.rising (IsForest-from_test ends I tests.1) apart)))
 
 -- an edge whose ends are in one component, by the set of the edges of a trail between them
 pub row-trail : (n : ℕ) (ends : ℕ → ℕ × ℕ) (I : List ℕ) (x : ℕ) (row : Exchange) → x < n → is_graphic n ends I ≡ true

@@ -1,8 +1,8 @@
 -- Tables of parents: what each loop and each change of an entry keeps, for whatever components the table is of.
-use Rattle.std.proofs.Common.{◌≡◌, ℕ, ◌+◌, ◌<◌, ◌≤◌, ◌≢◌, min, max, true, false, not, eqb, List, [], ◌∷◌, ◌++◌, length, get_or, set, ◌⊎◌, inl, inr, refl, sym, ap, ◌∙◌, subst, arith, get_or-set_other, get_or-set_same, length-set, length-append}
+use Rattle.std.proofs.Common.{◌≡◌, ℕ, ◌+◌, ◌<◌, ◌≤◌, ◌≢◌, min, max, List, [], ◌∷◌, ◌++◌, length, get_or, set, ◌⊎◌, inl, inr, refl, sym, ap, ◌∙◌, subst, arith, get_or-set_other, get_or-set_same, length-set, length-append}
 use Rattle.std.proofs.lemmas.List.{set-get_or, get_or_append_left}
 use Rattle.std.proofs.Math.Seq.{get_or-append_seam}
-use Rattle.std.proofs.lemmas.Bool.{cases_eq, cases_lt, eq-eqb, ne_eqb}
+use Rattle.std.proofs.lemmas.Bool.{cases_eq, cases_lt}
 use Rattle.mat_graphic.specs.Forests.{merged}
 use Rattle.mat_graphic.specs.ComponentLaws.{merged_cases, merged-first, merged-second, merged-fixed, merged-same}
 use Rattle.mat_graphic.specs.ParentTables.{IsDescending, IsParentTable}
@@ -120,12 +120,6 @@ module _ (least : ℕ → ℕ) where
       IsParentTable-equal (λ v. merged (least a) (least b) (least v)) parent
       (λ v. ap (λ x. merged (least a) x (least v)) (sym e) ∙ merged-same (least a) (least v)) t
 
-pub apart_test : (p q x y : ℕ) → p ≡ x → q ≡ y → p ≢ q → true ≡ not (eqb x y)
-apart_test p q x y px qy differ = sym (ap not (ne_eqb x y (λ e. differ (px ∙ e ∙ sym qy))))
-
-pub within_test : (x y : ℕ) → x ≡ y → false ≡ not (eqb x y)
-within_test x y e = sym (ap not (eq-eqb x y e))
-
 -- ---- the search for the least vertex
 
 -- v is in the component of the start, and the table is of the same components
@@ -199,9 +193,6 @@ pub record IsSettling (old : List ℕ) (i : ℕ) (parent : List ℕ) : Type 0 wh
   pub table : (least : ℕ → ℕ) → IsParentTable least old
       → IsParentTable least parent × ((k : ℕ) → k < i → get_or parent k 0 ≡ least k)
 
-pub IsSettling-start : (old : List ℕ) → IsDescending old → IsSettling old 0 old
-IsSettling-start old d = record { descending = d; long = refl; table = λ least t. (t, λ k l. absurd (omega arith)) }
-
 settled_table : (least : ℕ → ℕ) (parent : List ℕ) (i : ℕ) → i < length parent → IsDescending parent → IsParentTable least parent
     → IsParentTable least (set parent i (get_or parent (get_or parent i 0) 0))
 settled_table least parent i l d t = elim (cases_eq (get_or parent i 0) i) [
@@ -232,7 +223,3 @@ IsSettling-next old i parent l s =
             ],
           ));
     }
-
-pub IsSettling-end : (old : List ℕ) (i : ℕ) (parent : List ℕ) → length parent ≤ i → IsSettling old i parent → (least : ℕ → ℕ)
-    → IsParentTable least old → (v : ℕ) → v < length parent → get_or parent v 0 ≡ least v
-IsSettling-end old i parent le s least t v l = (s.table least t).1 v (omega arith)

@@ -7,9 +7,10 @@ use Rattle.std.proofs.lemmas.List.{get_or_default}
 use Rattle.mat_sets.specs.Sets.{is_member, AllBelow, AreDistinct, IsRising, IsSubset, with_one}
 use Rattle.mat_sets.specs.Search.{IsNextFrom}
 use Rattle.mat_sets.specs.Graphs.{Joins, Walk}
-use Rattle.mat_sets.proofs.Members.{is_member-get_or, is_member-head, is_member-nowhere, is_member-with_one, members_by_place, place_of_member}
+use Rattle.mat_sets.proofs.Members.{is_member-get_or, is_member-head, is_member-with_one, members_by_place, place_of_member}
 use Rattle.mat_sets.proofs.Ground.{AllBelow-from_members, length-distinct_below}
 use Rattle.mat_sets.proofs.Sums.{AllBelow-at}
+use Rattle.mat_sets.proofs.ListParts.{AreDistinct-index, is_member-push}
 use Rattle.mat_graphic.specs.Forests.{least_reached}
 use Rattle.mat_graphic.specs.ComponentLaws.{trail_of_same}
 use Rattle.mat_graphic.specs.TrailSearches.{AreJoined, stands_at, AreEnds, IsOrder, IsTree, IsFront, IsTrailSet}
@@ -107,28 +108,7 @@ module _ (tails heads set old_order old_through old_before : List ℕ) (v n i : 
         (s.tree ends X start joined t));
   }
 
-  pub scan_smaller : (next : Option ℕ) → IsNextFrom (stands_at tails (get_or tails i 0)) (suc i) next
-      → places_left (length tails) next < places_left (length tails) (Some i)
-  scan_smaller None after = let inside = scanned_at.0 in omega arith
-  scan_smaller (Some j) after = let inside = scanned_at.0 in let reaches = after.reaches in omega arith
-
-pub IsScanning-end : (tails heads set old_order old_through old_before : List ℕ) (v n : ℕ) (place : List (Option ℕ))
-    (order through before : List ℕ)
-    → IsScanning tails heads set old_order old_through old_before v n None place order through before
-    → (i : ℕ) → i < length tails → get_or tails i 0 ≡ v → is_member (get_or heads i 0) order ≡ true
-IsScanning-end tails heads set old_order old_through old_before v n place order through before s i l e = elim (cases_lt i s.from) [
-  | inl less ↦ s.found i less (stands_from tails v i l e)
-  | inr past ↦ absurd (both_ways _ (s.next_is i past) (stands_from tails v i l e))
-]
-
 -- ---- each found vertex is asked once
-
-AreDistinct-index : (xs : List ℕ) → ((i j : ℕ) → i < j → j < length xs → get_or xs i 0 ≢ get_or xs j 0) → AreDistinct xs
-AreDistinct-index [] h = tt
-AreDistinct-index (x ∷ xs) h = (
-  is_member-nowhere xs x (λ k l e. h 0 (suc k) (omega arith) (omega arith) (sym e)),
-  AreDistinct-index xs (λ i j l m. h (suc i) (suc j) (omega arith) (omega arith)),
-)
 
 abbrev number_of : Option ℕ → ℕ
 number_of None = 0
@@ -209,12 +189,8 @@ IsExploring-end firsts seconds set start n at place order through before past sa
 
 -- ---- back to the start
 
-member_last : (z e : ℕ) (P : List ℕ) → is_member z (P ++ e ∷ []) ≡ (is_member z P || eqb z e)
-member_last z e [] = grind (arith, nat_tests)
-member_last z e (x ∷ P) = let rest = member_last z e P in grind (arith, nat_tests)
-
 fresh_last : (x e : ℕ) (P : List ℕ) → is_member x P ≡ false → eqb e x ≡ false → is_member x (P ++ e ∷ []) ≡ false
-fresh_last x e P a b = let h = member_last x e P in grind (arith, nat_tests)
+fresh_last x e P a b = let h = is_member-push x e P in grind (arith, nat_tests)
 
 AreDistinct-push : (e : ℕ) (P : List ℕ) → AreDistinct P → is_member e P ≡ false → AreDistinct (P ++ e ∷ [])
 AreDistinct-push e [] d out = (refl, tt)
@@ -239,16 +215,6 @@ pub record IsTracing (ends : ℕ → ℕ × ℕ) (X order : List ℕ) (begin at 
   pub far : (f : ℕ) → is_member f front ≡ true → (j : ℕ) × (at < j) × (j < length order) × EndsAt ends order f j
   pub same : (z : ℕ) → is_member z with' ≡ is_member z front
 
-pub IsTracing-start : (ends : ℕ → ℕ × ℕ) (X order : List ℕ) (begin : ℕ) → IsTracing ends X order begin begin []
-IsTracing-start ends X order begin = record {
-  front = [];
-  walk = refl;
-  distinct = tt;
-  inside = record { inside = λ z m. absurd (both_ways false refl m) };
-  far = λ f m. absurd (both_ways false refl m);
-  same = λ z. refl;
-}
-
 module _ (ends : ℕ → ℕ × ℕ) (X : List ℕ) (start : ℕ) (place : List (Option ℕ)) (order through before : List ℕ)
     (o : IsOrder place order through before) (t : IsTree ends X start order through before) where
   pub IsTracing-next : (begin at : ℕ) (with' : List ℕ) → 0 < at → at < length order → IsTracing ends X order begin at with'
@@ -267,15 +233,15 @@ module _ (ends : ℕ → ℕ × ℕ) (X : List ℕ) (start : ℕ) (place : List 
                   (omega arith))
             ])));
         inside = record {
-          inside = λ z m. elim (or_cases (is_member z s.front) (eqb z e) (sym (member_last z e s.front) ∙ m))
+          inside = λ z m. elim (or_cases (is_member z s.front) (eqb z e) (sym (is_member-push z e s.front) ∙ m))
               [ inl h ↦ s.inside.inside z h | inr h ↦ ap (λ y. is_member y X) (eqb-true z e h) ∙ t.member at positive inside ];
         };
-        far = λ f m. elim (or_cases (is_member f s.front) (eqb f e) (sym (member_last f e s.front) ∙ m)) [
+        far = λ f m. elim (or_cases (is_member f s.front) (eqb f e) (sym (is_member-push f e s.front) ∙ m)) [
           | inl h ↦ (let w = s.far f h in let above = w.1 in (w.0, omega arith, w.2, w.3))
           | inr h ↦ (at, earlier, inside, subst (λ y. EndsAt ends order y at) (sym (eqb-true f e h)) (own_end e joins))
         ];
         same = λ z. is_member-with_one z e with' ∙ ap (λ b. eqb z e || b) (s.same z) ∙ turned (eqb z e) (is_member z s.front) ∙ sym
-            (member_last z e s.front);
+            (is_member-push z e s.front);
       }
     where
       turned : (a b : Bool) → (a || b) ≡ (b || a)

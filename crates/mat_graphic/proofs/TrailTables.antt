@@ -1,13 +1,13 @@
 -- The tables of a search for a trail: the places of each vertex in a list, the ends of the members of a set, and the vertices found so far.
-use Rattle.std.proofs.Common.{replicate, is_some, ◌≡◌, ℕ, suc, ◌+◌, ◌<◌, ◌≤◌, ◌≢◌, Bool, true, false, ◌&&◌, ltb, List, [], ◌∷◌, ◌++◌, length, get_or, set, Option, Some, None, ◌⊎◌, inl, inr, refl, sym, ap, ◌∙◌, subst, arith, get_or-set_other, get_or-set_same, length-set, length-append}
+use Rattle.std.proofs.Common.{is_some, ◌≡◌, ℕ, suc, ◌+◌, ◌<◌, ◌≤◌, ◌≢◌, Bool, true, false, ◌&&◌, ltb, List, [], ◌∷◌, ◌++◌, length, get_or, set, Option, Some, None, ◌⊎◌, inl, inr, refl, sym, ap, ◌∙◌, subst, arith, get_or-set_other, get_or-set_same, length-set, length-append}
 use Rattle.std.proofs.lemmas.Bool.{cases_eq, cases_lt, eq-eqb, ne_eqb, le-ltb, lt-ltb, both_ways}
-use Rattle.std.proofs.lemmas.List.{get_or-replicate, length-replicate, get_or_append_left, get_or_default}
+use Rattle.std.proofs.lemmas.List.{get_or_append_left, get_or_default}
 use Rattle.std.proofs.Math.Seq.{get_or-append_seam}
 use Rattle.mat_sets.specs.Sets.{is_member, AllBelow}
 use Rattle.mat_sets.specs.Search.{IsNextFrom}
 use Rattle.mat_sets.specs.Graphs.{Joins}
 use Rattle.mat_sets.proofs.Members.{is_member-get_or}
-use Rattle.mat_graphic.specs.TrailSearches.{stands_at, ArePlaces, AreEnds, IsOrder, IsTree}
+use Rattle.mat_graphic.specs.TrailSearches.{stands_at, ArePlaces, IsOrder, IsTree}
 
 stands_past : (list : List ℕ) (v i : ℕ) → length list ≤ i → stands_at list v i ≡ false
 stands_past list v i le = rw (le-ltb i (length list) le) refl
@@ -50,17 +50,6 @@ entry_of place v entry l read = get_or_default place v None entry l ∙ sym read
 
 -- ---- the places of each vertex, from the last place to the first
 
-pub ArePlaces-none : (list : List ℕ) (n k : ℕ) → k ≡ length list → ArePlaces list k (replicate n None) (replicate k None)
-ArePlaces-none list n k e = record {
-  first_is = λ v l. subst (IsNextFrom (stands_at list v) k) (sym (get_or-replicate {A = Option ℕ} n v None None (small n v l)))
-      (λ x past. stands_past list v x (omega arith));
-  next_is = λ i past l. absurd (omega arith);
-  long = length-replicate {A = Option ℕ} k None ∙ e;
-}
-  where
-    small : (n v : ℕ) → v < length (replicate {A = Option ℕ} n None) → v < n
-    small n v l = let long = length-replicate {A = Option ℕ} n None in omega arith
-
 pub ArePlaces-more : (list : List ℕ) (first next : List (Option ℕ)) (i j v : ℕ) → i ≡ suc j → j < length list → v ≡ get_or list j 0
     → v < length first
     → ArePlaces list i first next → ArePlaces list j (set first v (Some j)) (set next j (get_or first v None))
@@ -102,24 +91,6 @@ pushed xs i x k f long last before l = elim (cases_lt k i) [
   | inr le ↦ (let e : k ≡ length xs = omega arith in ap (λ j. get_or (xs ++ x ∷ []) j 0) e ∙ get_or-append_seam xs x [] 0 ∙ last ∙ ap f
       (sym long ∙ sym e))
 ]
-
-pub AreEndsBefore-more : (ends : ℕ → ℕ × ℕ) (X : List ℕ) (i : ℕ) (firsts seconds : List ℕ) → AreEndsBefore ends X i firsts seconds
-    → AreEndsBefore ends X (i + 1) (firsts ++ (ends (get_or X i 0)).0 ∷ []) (seconds ++ (ends (get_or X i 0)).1 ∷ [])
-AreEndsBefore-more ends X i firsts seconds a = record {
-  firsts_long = omega (arith, a.firsts_long, length-append firsts ((ends (get_or X i 0)).0 ∷ []));
-  seconds_long = omega (arith, a.seconds_long, length-append seconds ((ends (get_or X i 0)).1 ∷ []));
-  first = λ k l. pushed firsts i (ends (get_or X i 0)).0 k (λ j. (ends (get_or X j 0)).0) a.firsts_long refl a.first l;
-  second = λ k l. pushed seconds i (ends (get_or X i 0)).1 k (λ j. (ends (get_or X j 0)).1) a.seconds_long refl a.second l;
-}
-
-pub AreEnds-end : (ends : ℕ → ℕ × ℕ) (X : List ℕ) (i : ℕ) (firsts seconds : List ℕ) → i ≡ length X
-    → AreEndsBefore ends X i firsts seconds → AreEnds ends X firsts seconds
-AreEnds-end ends X i firsts seconds e a = record {
-  firsts_long = a.firsts_long ∙ e;
-  seconds_long = a.seconds_long ∙ e;
-  first = λ k l. a.first k (omega arith);
-  second = λ k l. a.second k (omega arith);
-}
 
 -- ---- one more vertex is found
 

@@ -29,9 +29,6 @@ merged-first p q = rw (eq-eqb p p refl) refl
 pub merged-second : (p q : ℕ) → merged p q q ≡ min p q
 merged-second p q = elim (merged_cases p q q) [ inl c ↦ c.1 | inr c ↦ absurd (c.1 refl) ]
 
-pub merged-other : (p q r : ℕ) → r ≢ p → r ≢ q → merged p q r ≡ r
-merged-other p q r d o = rw (ne_eqb r p d, ne_eqb r q o) refl
-
 pub merged-le : (p q r : ℕ) → merged p q r ≤ r
 merged-le p q r = elim (merged_cases p q r) [
   | inl c ↦ elim c.0 [ inl e ↦ omega (arith, c.1) | inr e ↦ omega (arith, c.1) ]
@@ -81,7 +78,7 @@ merged-fixed f a b v ha hb hv = elim (merged_cases (f a) (f b) (f v)) [
 
 -- ---- lists of different edges
 
-differ_turned : (e x : ℕ) → eqb e x ≡ false → eqb x e ≡ false
+pub differ_turned : (e x : ℕ) → eqb e x ≡ false → eqb x e ≡ false
 differ_turned e x h = grind (arith, nat_tests)
 
 pub in_tail : (e f : ℕ) (edges : List ℕ) → is_member e (f ∷ edges) ≡ true → eqb e f ≡ false → is_member e edges ≡ true

@@ -15,7 +15,7 @@ use Rattle.mat_sets.proofs.Ground.{AllBelow-member, AllBelow-subset}
 use Rattle.mat_sets.proofs.SetTests.{IsSet-from_test, is_set-true, is_set-with_one}
 use Rattle.mat_laws.specs.Matroids.{IsMatroid}
 use Rattle.mat_graphic.specs.Forests.{IsForest, merged, least_reached, is_forest, is_graphic}
-use Rattle.mat_graphic.specs.ComponentLaws.{Trail, IsWithin, in_tail, merged_cases, merged-same, least_reached-le, least_reached-fixed, member_within, joins_same, walk_same, trail_of_same}
+use Rattle.mat_graphic.specs.ComponentLaws.{Trail, IsWithin, in_tail, merged_cases, merged-same, least_reached-le, least_reached-fixed, member_within, joins_same, walk_same, trail_of_same, differ_turned}
 
 -- ---- the vertices from which a lower one is reached
 
@@ -76,9 +76,6 @@ module _ (ends : ℕ → ℕ × ℕ) where
         (sym (joins_same ends X f v k.0 (h f (is_member-head f edges) (differ_turned e f q)) k.1) ∙ same)
   ]
     where
-      differ_turned : (e x : ℕ) → eqb e x ≡ false → eqb x e ≡ false
-      differ_turned e x h = grind (arith, nat_tests)
-
       other : (g f e : ℕ) (edges : List ℕ) → is_member f edges ≡ false → is_member g edges ≡ true → e ≡ f → eqb g e ≡ false
       other g f e edges a b r = ne_eqb g e (λ q. both_ways _ a (ap (λ z. is_member z edges) (sym (q ∙ r)) ∙ b))
 

@@ -1,19 +1,20 @@
 -- What the greedy loop keeps: the set is heaviest of its size, and so is each set so far; no element that was passed can be added,
 -- so the next one is a heaviest that can. In the end no element at all can be added: the last size is the rank.
 use Rattle.std.proofs.Common.{◌≡◌, ℕ, zero, suc, ◌+◌, ◌<◌, ◌≤◌, Bool, true, false, not, ◌&&◌, if◌then◌else◌, List, [], ◌∷◌, ◌++◌, length, length-append, get_or, refl, sym, ap, ◌∙◌, subst, arith, inl, inr, ℤ, ◌≤ℤ◌}
-use Rattle.std.proofs.lemmas.Bool.{cases_lt, cases_order, both_ways, ltb-true, and_parts, not-true}
+use Rattle.std.proofs.lemmas.Bool.{cases_lt, cases_order, both_ways, and_parts, not-true}
 use Rattle.std.proofs.lemmas.Int.{ints}
 use Rattle.mat_sets.specs.Sets.{is_member, with_one, all_below}
 use Rattle.mat_sets.specs.Sums.{weight_at}
-use Rattle.mat_sets.proofs.Members.{set_members}
-use Rattle.mat_sets.proofs.Ground.{AllBelow-member, IsSubset-all_below, is_member-all_below, IsRising-all_below}
+use Rattle.mat_sets.proofs.Members.{place_of_member, set_members}
+use Rattle.mat_sets.proofs.Ground.{AllBelow-member, IsRising-all_below}
 use Rattle.mat_sets.proofs.Cardinalities.{length-with_one}
 use Rattle.mat_laws.specs.Matroids.{IsMatroid, IsMaximal}
 use Rattle.mat_laws.specs.Heaviest.{IsHeaviest}
 use Rattle.mat_laws.proofs.Independent.{rising, below}
-use Rattle.mat_laws.proofs.Growing.{IsGrowing, IsGrowing-start, IsGrowing-next, IsGrowing-end, maximal_from_none, place_of_member}
+use Rattle.mat_laws.proofs.Growing.{IsGrowing, IsGrowing-start, IsGrowing-next, IsGrowing-end, maximal_from_none}
 use Rattle.mat_laws.proofs.RankLaws.{rank-maximal}
 use Rattle.mat_laws.proofs.HeaviestSteps.{IsHeaviest-nil, IsHeaviest-with_one}
+use Rattle.mat_laws.proofs.Maximal.{IsMaximal-base}
 use Rattle.mat_greedy.specs.Order.{IsFallingOrder}
 use Rattle.mat_greedy.specs.Greedy.{AreHeaviestEach}
 
@@ -106,8 +107,4 @@ module _ {n : ℕ} {p : List ℕ → Bool} (laws : IsMatroid n p) where
       in_order = maximal_from_none p [] order set refl (IsGrowing-end p [] order set i l g.growing)
 
       maximal : IsMaximal p (all_below n) set
-      maximal = record {
-        passes = g.heaviest.passes;
-        inside = IsSubset-all_below n set (below laws set g.heaviest.passes);
-        full = λ x m o. (let small : x < n = ltb-true x n (sym (is_member-all_below x n) ∙ m) in in_order.full x (falling.each x (omega arith)) o);
-      }
+      maximal = IsMaximal-base laws set (record { passes = g.heaviest.passes; full = λ x small o. in_order.full x (falling.each x (omega arith)) o })

@@ -1,9 +1,9 @@
 -- What growing keeps, element by element of a set X: the set stays independent and holds what it began with, and no element of X that
 -- was passed can be added. In the end the set is a maximal independent subset.
-use Rattle.std.proofs.Common.{◌≡◌, ℕ, zero, suc, ◌+◌, ◌<◌, ◌≤◌, Bool, true, false, not, ◌&&◌, if◌then◌else◌, List, [], ◌∷◌, length, get_or, refl, subst, sym, ap, ◌∙◌, inl, inr, arith}
-use Rattle.std.proofs.lemmas.Bool.{cases_lt, cases_eq, ne_eqb, both_ways, and_parts, or_cases}
+use Rattle.std.proofs.Common.{◌≡◌, ℕ, ◌+◌, ◌<◌, ◌≤◌, Bool, true, false, not, ◌&&◌, if◌then◌else◌, List, [], length, get_or, refl, subst, sym, ap, ◌∙◌, inl, inr, arith}
+use Rattle.std.proofs.lemmas.Bool.{cases_lt, both_ways, and_parts, or_cases}
 use Rattle.mat_sets.specs.Sets.{is_member, IsSubset, with_one, union}
-use Rattle.mat_sets.proofs.Members.{set_members, is_member-union, is_member-get_or}
+use Rattle.mat_sets.proofs.Members.{set_members, is_member-union, is_member-get_or, place_of_member}
 use Rattle.mat_sets.proofs.Subsets.{IsSubset-refl, IsSubset-trans, IsSubset-with_one, with_one-IsSubset, union-left}
 use Rattle.mat_laws.specs.Matroids.{IsMatroid, IsMaximal}
 use Rattle.mat_laws.proofs.Independent.{rising, full_in_larger}
@@ -14,15 +14,6 @@ pub record IsGrowing (p : List ℕ → Bool) (from within : List ℕ) (i : ℕ) 
   pub holds : IsSubset from set
   pub inside : IsSubset set (union from within)
   pub refused : (k : ℕ) → k < i → is_member (get_or within k 0) set ≡ false → p (with_one set (get_or within k 0)) ≡ false
-
--- the place of a member
-pub place_of_member : (x : ℕ) (xs : List ℕ) → is_member x xs ≡ true → (k : ℕ) × (k < length xs) × (get_or xs k 0 ≡ x)
-place_of_member x [] h = absurd (both_ways false refl h)
-place_of_member x (y ∷ xs) h =
-    elim (cases_eq x y) [
-      | inl same ↦ (zero, omega arith, sym same)
-      | inr other ↦ (let w = place_of_member x xs (rw (ne_eqb x y other) at h) in let l = w.1 in (suc w.0, omega arith, w.2))
-    ]
 
 pub IsGrowing-start : (p : List ℕ → Bool) (from within : List ℕ) → p from ≡ true → IsGrowing p from within 0 from
 IsGrowing-start p from within ok = record { passes = ok; holds = IsSubset-refl from; inside = union-left from within; refused = λ k l. absurd (omega arith) }

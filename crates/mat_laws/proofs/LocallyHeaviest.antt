@@ -8,6 +8,7 @@ use Rattle.mat_sets.specs.Sums.{sum_of}
 use Rattle.mat_sets.proofs.Members.{set_members, same_members, is_member-head, is_member-minus, IsRising-minus, IsRising-without_one}
 use Rattle.mat_sets.proofs.Subsets.{same_size_subset}
 use Rattle.mat_sets.proofs.Cardinalities.{length-without_one, length-exchange_one, sum_of-exchange_one}
+use Rattle.mat_sets.proofs.DisjointSets.{no_member}
 use Rattle.mat_laws.specs.Matroids.{IsMatroid}
 use Rattle.mat_laws.specs.Heaviest.{IsHeaviest, IsLocallyHeaviest}
 use Rattle.mat_laws.proofs.Independent.{rising}
@@ -22,16 +23,12 @@ outside_after I J x y r y_in x_out =
     at : (k : ℕ) → is_member k (minus (with_one (without_one J x) y) I) ≡ is_member k (without_one (minus J I) x)
     at k = grind (arith, set_members)
 
-no_member : (X : List ℕ) → length X ≡ 0 → (k : ℕ) → is_member k X ≡ false
-no_member [] e k = refl
-no_member (x ∷ xs) e k = absurd (omega arith)
-
 first_member : (X : List ℕ) (d : ℕ) → length X ≡ suc d → (x : ℕ) × (is_member x X ≡ true)
 first_member [] d e = absurd (omega arith)
 first_member (x ∷ xs) d e = (x, is_member-head x xs)
 
 none_outside : (I J : List ℕ) → length (minus J I) ≡ 0 → IsSubset J I
-none_outside I J e = record { inside = λ k m. at k m (no_member (minus J I) e k) }
+none_outside I J e = record { inside = λ k m. at k m (no_member (minus J I) k e) }
   where
     at : (k : ℕ) → is_member k J ≡ true → is_member k (minus J I) ≡ false → is_member k I ≡ true
     at k m h = grind (arith, set_members)

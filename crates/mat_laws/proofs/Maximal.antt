@@ -1,9 +1,12 @@
 -- Maximal independent subsets of one set have one size, which is its rank; what spans a set bounds what is independent in it.
-use Rattle.std.proofs.Common.{◌≡◌, ℕ, ◌≤◌, Bool, true, false, ◌||◌, List, length, inl, inr, refl, arith}
-use Rattle.std.proofs.lemmas.Bool.{cases_lt, or_cases, both_ways}
-use Rattle.mat_sets.specs.Sets.{is_member, IsSubset, with_one}
-use Rattle.mat_laws.specs.Matroids.{IsMatroid, IsMaximal}
+use Rattle.std.proofs.Common.{◌≡◌, ℕ, ◌≤◌, Bool, true, false, ◌||◌, List, length, inl, inr, refl, arith, sym, ◌∙◌}
+use Rattle.std.proofs.lemmas.Bool.{cases_lt, or_cases, both_ways, false_from_ne_true, ltb-true, lt-ltb}
+use Rattle.mat_sets.specs.Sets.{all_below, is_member, IsSubset, with_one}
+use Rattle.mat_sets.proofs.Cardinalities.{length-with_one}
+use Rattle.mat_sets.proofs.Ground.{IsSubset-all_below, is_member-all_below}
+use Rattle.mat_laws.specs.Matroids.{IsBase, IsMatroid, IsMaximal}
 use Rattle.mat_laws.specs.Ranks.{IsRank}
+use Rattle.mat_laws.proofs.Independent.{below, rising}
 
 module _ {n : ℕ} {p : List ℕ → Bool} (laws : IsMatroid n p) where
   -- where no member of X outside I can be added to I, no independent subset of I ∪ X is larger
@@ -35,6 +38,34 @@ module _ {n : ℕ} {p : List ℕ → Bool} (laws : IsMatroid n p) where
   -- the size of a maximal independent subset is the rank
   pub IsRank-maximal : (X A : List ℕ) → IsMaximal p X A → IsRank p X (length A)
   IsRank-maximal X A m = record { largest = A; passes = m.passes; inside = m.inside; size = refl; most = λ J j s. IsMaximal-largest X A m J j s }
+
+  -- ---- bases
+
+  -- a base is a maximal independent set of all elements
+  pub IsMaximal-base : (B : List ℕ) → IsBase n p B → IsMaximal p (all_below n) B
+  IsMaximal-base B b = record {
+    passes = b.passes;
+    inside = IsSubset-all_below n B (below laws B b.passes);
+    full = λ x m out. b.full x (ltb-true x n (sym (is_member-all_below x n) ∙ m)) out;
+  }
+
+  -- no independent set is larger than a base
+  pub base_largest : (B J : List ℕ) → IsBase n p B → p J ≡ true → length J ≤ length B
+  base_largest B J b j = IsMaximal-largest (all_below n) B (IsMaximal-base B b) J j (IsSubset-all_below n J (below laws J j))
+
+  -- an independent set as large as a base is a base
+  pub IsBase-size : (B C : List ℕ) → IsBase n p B → p C ≡ true → length B ≤ length C → IsBase n p C
+  IsBase-size B C b c large = record {
+    passes = c;
+    full = λ x small out. false_from_ne_true _ (λ adds.
+        let more = length-with_one C x (rising laws C c) out in
+        let most = base_largest B (with_one C x) b adds in
+        let no : ⊥ = absurd (omega arith) in no);
+  }
+
+-- a maximal independent set of all elements is a base
+pub IsBase-maximal : (n : ℕ) (p : List ℕ → Bool) (B : List ℕ) → IsMaximal p (all_below n) B → IsBase n p B
+IsBase-maximal n p B m = record { passes = m.passes; full = λ x small out. m.full x (is_member-all_below x n ∙ lt-ltb x n small) out }
 
 -- a set has one rank
 pub IsRank-unique : (p : List ℕ → Bool) (X : List ℕ) (r s : ℕ) → IsRank p X r → IsRank p X s → r ≡ s

@@ -63,9 +63,9 @@ module _ {n : ℕ} {p : List ℕ → Bool} (laws : IsMatroid n p) where
             (some_subset_from X I (λ J. p J && eqb (length J) (length I)) r q s (and_from (p I) (eqb (length I) (length I)) i (eq-eqb _ _ refl))));
       }
 
-  -- what is a rank of X is the rank
-  pub rank-unique : (X : List ℕ) (r : ℕ) → IsRising X → IsRank p X r → r ≡ rank p X
-  rank-unique X r q h = IsRank-unique p X r (rank p X) h (rank_is X q)
+  -- each set has a maximal independent subset
+  pub maximal_in : (X : List ℕ) → IsRising X → (B : List ℕ) × IsMaximal p X B
+  maximal_in X r = let h = rank_is X r in (h.largest, IsMaximal-largest_subset laws X (rank p X) h)
 
   -- the rank is the size of each maximal independent subset
   pub rank-maximal : (X A : List ℕ) → IsRising X → IsMaximal p X A → rank p X ≡ length A

@@ -1,27 +1,29 @@
 -- A matching whose elements have moved on along an augmenting walk is a matching with the new element: each element of the walk comes to
 -- an index of a set that holds it, and none is lost, since nothing stood at the last index.
-use Rattle.std.proofs.Common.{◌≡◌, ℕ, zero, suc, ◌<◌, ◌≢◌, Bool, true, false, eqb, List, length, get_or, is_none, Option, Some, ◌⊎◌, inl, inr, refl, sym, ap, ◌∙◌, subst, arith}
-use Rattle.std.proofs.lemmas.Bool.{both_ways, cases_Bool, cases_eq, cases_lt, eq-eqb, eqb-true, or_cases, or_left, or_right}
+use Rattle.std.proofs.Common.{◌≡◌, ℕ, zero, suc, ◌<◌, ◌≢◌, true, false, eqb, List, length, get_or, is_none, Option, Some, ◌⊎◌, inl, inr, refl, sym, ap, ◌∙◌, subst, arith}
+use Rattle.std.proofs.lemmas.Bool.{both_ways, cases_Bool, cases_lt, eq-eqb, eqb-true, or_cases, or_left, or_right}
 use Rattle.mat_sets.specs.Sets.{is_member, with_one}
 use Rattle.mat_sets.specs.Walks.{IsShortestWalk, IsWalk}
+use Rattle.mat_sets.proofs.ListParts.{same_place}
 use Rattle.mat_sets.proofs.Members.{is_member-get_or, is_member-with_one, place_of_member}
-use Rattle.mat_sets.proofs.Reach.{shortest_walk_is_chordless}
+use Rattle.mat_sets.proofs.Reach.{walk_differs}
 use Rattle.mat_flow.specs.Digraphs.{row_at}
-use Rattle.mat_flow.specs.LinkTables.{entry_at}
+use Rattle.mat_flow.specs.LinkTables.{entry_at, entry_before, IsShifted}
 use Rattle.mat_flow.proofs.LinkTables.{some_is_one}
-use Rattle.mat_linked.specs.Matchings.{entry_before, is_held, AreMovedOn, IsMatching}
+use Rattle.mat_linked.specs.Matchings.{is_held, IsMatching}
 
-module _ (sets : ℕ) (rows : List (List ℕ)) (X : List ℕ) (old new : List (Option ℕ)) (element : ℕ) (walk : List ℕ) (t : IsMatching rows X old)
+module _ (sets : ℕ) (rows : List (List ℕ)) (X : List ℕ) (old new : List (Option ℕ)) (element : ℕ) (walk : List ℕ)
+    (t : IsMatching rows X old)
     (fresh : is_member element X ≡ false)
     (w : IsWalk sets (λ j. is_held rows (entry_at old j)) (λ j. is_member j (row_at rows element)) (λ j. is_none (entry_at old j)) walk)
-    (differ : (i j : ℕ) → i < j → j < length walk → get_or walk i 0 ≢ get_or walk j 0) (s : AreMovedOn element walk old new) where
+    (differ : (i j : ℕ) → i < j → j < length walk → get_or walk i 0 ≢ get_or walk j 0) (s : IsShifted (Some element) walk old new) where
   -- where the element at an index comes from: it is the new one, it has moved on from the index before, or it has stayed
   abbrev CameFrom : ℕ → ℕ → Type 0
   CameFrom j x = ((get_or walk 0 0 ≡ j) × (element ≡ x))
       ⊎ (((i : ℕ) × (suc i < length walk) × (get_or walk (suc i) 0 ≡ j) × (entry_at old (get_or walk i 0) ≡ Some x))
       ⊎ ((is_member j walk ≡ false) × (entry_at old j ≡ Some x)))
 
-  from_place : (j x k : ℕ) → k < length walk → get_or walk k 0 ≡ j → entry_before element old walk k ≡ Some x → CameFrom j x
+  from_place : (j x k : ℕ) → k < length walk → get_or walk k 0 ≡ j → entry_before (Some element) old walk k ≡ Some x → CameFrom j x
   from_place j x zero l p e = inl (p, some_is_one element x e)
   from_place j x (suc i) l p e = inr (inl (i, l, p, e))
 
@@ -33,7 +35,8 @@ module _ (sets : ℕ) (rows : List (List ℕ)) (X : List ℕ) (old new : List (O
   ]
 
   held_after : (j x : ℕ) → CameFrom j x → is_member j (row_at rows x) ≡ true
-  held_after j x (inl p) = subst (λ y. is_member j (row_at rows y) ≡ true) p.1 (subst (λ i. is_member i (row_at rows element) ≡ true) p.0 w.first)
+  held_after j x (inl p) =
+      subst (λ y. is_member j (row_at rows y) ≡ true) p.1 (subst (λ i. is_member i (row_at rows element) ≡ true) p.0 w.first)
   held_after j x (inr (inl p)) =
       subst (λ i. is_member i (row_at rows x) ≡ true) p.2 (subst (λ e. is_held rows e (get_or walk (suc p.0) 0) ≡ true) p.3 (w.steps p.0 p.1))
   held_after j x (inr (inr p)) = t.held j x p.1
@@ -70,15 +73,6 @@ module _ (sets : ℕ) (rows : List (List ℕ)) (X : List ℕ) (old new : List (O
     | inr before ↦ (let c = t.covered x before in covered_before x c.0 c.1)
   ]
 
-  same_place : (i j : ℕ) → i < length walk → j < length walk → get_or walk i 0 ≡ get_or walk j 0 → i ≡ j
-  same_place i j il jl e = elim (cases_eq i j) [
-    | inl same ↦ same
-    | inr d ↦ elim (cases_lt i j) [
-      | inl l ↦ absurd (differ i j l jl e)
-      | inr l ↦ absurd (differ j i (omega arith) il (sym e))
-    ]
-  ]
-
   -- the new element stood nowhere
   not_before : (j x : ℕ) → element ≡ x → entry_at old j ≡ Some x → ⊥
   not_before j x same e = both_ways (is_member element X) fresh (ap (λ z. is_member z X) same ∙ t.inside j x e)
@@ -96,7 +90,7 @@ module _ (sets : ℕ) (rows : List (List ℕ)) (X : List ℕ) (old new : List (O
   once_after j k x (inr (inl p)) (inl q) = absurd (not_before (get_or walk p.0 0) x q.1 p.3)
   once_after j k x (inr (inr p)) (inl q) = absurd (not_before j x q.1 p.1)
   once_after j k x (inr (inl p)) (inr (inl q)) =
-      let same = same_place p.0 q.0 (let l = p.1 in omega arith) (let l = q.1 in omega arith)
+      let same = same_place walk differ p.0 q.0 (let l = p.1 in omega arith) (let l = q.1 in omega arith)
       (t.once (get_or walk p.0 0) (get_or walk q.0 0) x p.3 q.3) in
       sym p.2 ∙ ap (λ i. get_or walk (suc i) 0) same ∙ q.2
   once_after j k x (inr (inl p)) (inr (inr q)) = absurd (moved_or_stayed p.0 k x p.1 p.3 q.0 q.1)
@@ -111,21 +105,16 @@ module _ (sets : ℕ) (rows : List (List ℕ)) (X : List ℕ) (old new : List (O
     once = λ j k x e f. once_after j k x (came_from j x e) (came_from k x f);
   }
 
--- the vertices of a shortest walk differ
-pub walk_differs : (sets : ℕ) (arc : ℕ → ℕ → Bool) (start goal : ℕ → Bool) (walk lent : List ℕ) → lent ≡ walk
-    → IsShortestWalk sets arc start goal walk → (i j : ℕ) → i < j → j < length lent → get_or lent i 0 ≢ get_or lent j 0
-walk_differs sets arc start goal walk lent e shortest =
-    subst (λ w. (i j : ℕ) → i < j → j < length w → get_or w i 0 ≢ get_or w j 0) (sym e)
-    (shortest_walk_is_chordless sets arc start goal walk shortest).differ
-
 -- a shortest walk matches one element more
-pub augmented : (sets : ℕ) (rows : List (List ℕ)) (old read new : List (Option ℕ)) (element : ℕ) (walk lent : List ℕ) → read ≡ old → lent ≡ walk
+pub augmented : (sets : ℕ) (rows : List (List ℕ)) (old read new : List (Option ℕ)) (element : ℕ) (walk lent : List ℕ) → read ≡ old
+    → lent ≡ walk
     → IsShortestWalk sets (λ j. is_held rows (entry_at read j)) (λ j. is_member j (row_at rows element)) (λ j. is_none (entry_at read j)) walk
-    → AreMovedOn element lent old new → (X : List ℕ) → is_member element X ≡ false → IsMatching rows X old
+    → IsShifted (Some element) lent old new → (X : List ℕ) → is_member element X ≡ false → IsMatching rows X old
     → IsMatching rows (with_one X element) new
 augmented sets rows old read new element walk lent same e shortest s X fresh t =
-    let found = subst (λ b. IsShortestWalk sets (λ j. is_held rows (entry_at b j)) (λ j. is_member j (row_at rows element)) (λ j. is_none (entry_at b j)) walk)
+    let found = subst
+    (λ b. IsShortestWalk sets (λ j. is_held rows (entry_at b j)) (λ j. is_member j (row_at rows element)) (λ j. is_none (entry_at b j)) walk)
     same shortest in
     let differ = walk_differs sets (λ j. is_held rows (entry_at old j)) (λ j. is_member j (row_at rows element)) (λ j. is_none (entry_at old j))
     walk walk refl found in
-    IsMatching-moved sets rows X old new element walk t fresh found.walk differ (subst (λ v. AreMovedOn element v old new) e s)
+    IsMatching-moved sets rows X old new element walk t fresh found.walk differ (subst (λ v. IsShifted (Some element) v old new) e s)

@@ -1,6 +1,5 @@
 pub mod VertexSets
 pub mod LinkedAnswers
-pub mod MovingOn
 pub mod AugmentedMatchings
 pub mod StuckMatchings
 pub mod MatchableSets

@@ -39,7 +39,8 @@ module _ (vertices : ℕ) (arcs : List (ℕ × ℕ)) (sources targets : List ℕ
 
   at_most : length paths ≤ length X
   at_most =
-      let few = length-distinct_subset (map last_of paths) ends (AreDistinct-ends arcs sources ends paths linking.disjoint) rises (record { inside = ended }) in
+      let few = length-distinct_subset (map last_of paths) ends (AreDistinct-ends arcs sources ends paths linking.disjoint) rises
+      (record { inside = ended }) in
       omega (arith, length-map paths last_of, size_of_ends)
 
   -- as many paths as members end at all ends
@@ -75,16 +76,19 @@ module _ (inside now : LinkedVertices) (same : inside ≡ now) (X lent read ends
     (given : IsGammoid now.vertices now.arcs now.sources now.targets) where
   members_now : (v : ℕ) → is_member v ends ≡ is_member v (vertices_of now.targets X)
   members_now v =
-      members v ∙ ap (λ t. is_member v (vertices_of t lent)) (reads ∙ ap (λ g. g.targets) same) ∙ ap (λ l. is_member v (vertices_of now.targets l)) lends
+      members v ∙ ap (λ t. is_member v (vertices_of t lent)) (reads ∙ ap (λ g. g.targets) same)
+      ∙ ap (λ l. is_member v (vertices_of now.targets l)) lends
 
   pub ends_below : AllBelow inside.vertices ends
   ends_below = subst (λ g. AllBelow g.vertices ends) (sym same) (AllBelow-from_members now.vertices ends (λ v m.
       (let w = vertex_member now.targets X v (sym (members_now v) ∙ m) in
-      subst (λ u. u < now.vertices) w.2 (AllBelow-at now.vertices now.targets w.0 given.targets_inside (AllBelow-member (length now.targets) X w.0 below w.1)))))
+      subst (λ u. u < now.vertices) w.2
+      (AllBelow-at now.vertices now.targets w.0 given.targets_inside (AllBelow-member (length now.targets) X w.0 below w.1)))))
 
   pub is_gammoid-answer : IsRising X → IsRising ends → (paths : List (List ℕ)) (separator : List ℕ) (found size : ℕ)
       → IsLinking inside.arcs inside.sources ends paths separator → found ≡ length paths → size ≡ length X
       → eqb found size ≡ is_gammoid now.vertices now.arcs now.sources now.targets X
   is_gammoid-answer rising rises paths separator found size linking f s =
-      rw (f, s) (is_gammoid-counted now.vertices now.arcs now.sources now.targets given X ends (record { rising = rising; below = below }) rises members_now
+      rw (f, s) (is_gammoid-counted now.vertices now.arcs now.sources now.targets given X ends
+      (record { rising = rising; below = below }) rises members_now
       paths separator (subst (λ g. IsLinking g.arcs g.sources ends paths separator) same linking))

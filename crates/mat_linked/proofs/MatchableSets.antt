@@ -2,27 +2,19 @@
 -- a part of the set that cannot be matched.
 use Rattle.std.proofs.Common.{◌≡◌, ℕ, zero, suc, ◌+◌, ◌<◌, ◌≤◌, Bool, true, false, eqb, cond, List, [], ◌∷◌, length, get_or, take, replicate, Option, Some, None, inl, inr, refl, sym, ap, ◌∙◌, subst}
 use Rattle.std.proofs.lemmas.Bool.{and_from, and_parts, both_ways, cond_both, cases_lt, eqb-true, false_from_ne_true, false≢true, or_cases}
-use Rattle.std.proofs.lemmas.List.{get_or_past, length-replicate, take_all}
+use Rattle.std.proofs.lemmas.List.{get_or_past, take_all}
 use Rattle.mat_sets.specs.Sets.{is_member, with_one, AllBelow, AreDistinct, IsRising, IsSet}
 use Rattle.mat_sets.proofs.Ground.{AllBelow-member, AreDistinct-rising}
+use Rattle.mat_sets.proofs.ListParts.{is_member-tail}
 use Rattle.mat_sets.proofs.Members.{is_member-head}
 use Rattle.mat_sets.proofs.Steps.{is_member-take_next, take-with_one}
 use Rattle.mat_flow.specs.LinkTables.{entry_at}
-use Rattle.mat_flow.specs.ListParts.{is_member-tail}
-use Rattle.mat_flow.proofs.LinkTables.{entry_inside, none_is_not_some, some_is_one}
+use Rattle.mat_flow.proofs.LinkTables.{entry_inside, some_is_one}
 use Rattle.mat_linked.specs.Matchings.{AreIndices, AreMatchable, IsMatchedOrNone, IsMatching}
 use Rattle.mat_linked.specs.TransversalLaws.{is_transversal-from, is_transversal-gives}
 use Rattle.mat_linked.specs.Transversals.{is_transversal, lie_in_sets, IsPartialTransversal}
 
 -- ---- the first matching
-
-pub IsMatching-none : (rows : List (List ℕ)) (matched : List (Option ℕ)) → ((j : ℕ) → entry_at matched j ≡ None) → IsMatching rows [] matched
-IsMatching-none rows matched none = record {
-  held = λ j x e. absurd (none_is_not_some x (sym (none j) ∙ e));
-  inside = λ j x e. absurd (none_is_not_some x (sym (none j) ∙ e));
-  covered = λ x m. absurd (false≢true m);
-  once = λ j k x e f. absurd (none_is_not_some x (sym (none j) ∙ e));
-}
 
 pub entry_at-replicate : (n j : ℕ) → entry_at (replicate n None) j ≡ None
 entry_at-replicate zero j = refl
@@ -50,7 +42,8 @@ module _ (n : ℕ) (family rows : List (List ℕ)) (r : AreIndices n family rows
 
   indices_of : (X all : List ℕ) (matched : List (Option ℕ)) → IsMatching rows all matched → AreDistinct X → AllBelow n X
       → ((x : ℕ) → is_member x X ≡ true → is_member x all ≡ true) → IndicesOf X all matched
-  indices_of [] all matched t d below inside = record { indices = []; listed = tt; distinct = tt; holds = refl; own = λ j m. absurd (false≢true m) }
+  indices_of [] all matched t d below inside =
+      record { indices = []; listed = tt; distinct = tt; holds = refl; own = λ j m. absurd (false≢true m) }
   indices_of (x ∷ X) all matched t d below inside =
       let c = t.covered x (inside x (is_member-head x X)) in
       let rest = indices_of X all matched t d.1 below.1 (λ y m. inside y (is_member-tail y x X m)) in
@@ -62,14 +55,17 @@ module _ (n : ℕ) (family rows : List (List ℕ)) (r : AreIndices n family rows
               both_ways _ d.0 (ap (λ z. is_member z X) (some_is_one x w.0 (sym c.1 ∙ w.2)) ∙ w.1))),
           rest.distinct,
         );
-        holds = and_from (is_member x (get_or family c.0 [])) (lie_in_sets family X rest.indices) (sym (r.members x c.0 below.0) ∙ t.held c.0 x c.1) rest.holds;
+        holds =
+            and_from (is_member x (get_or family c.0 [])) (lie_in_sets family X rest.indices)
+            (sym (r.members x c.0 below.0) ∙ t.held c.0 x c.1) rest.holds;
         own = λ j m. elim (or_cases (eqb j c.0) (is_member j rest.indices) m) [
           | inl same ↦ (x, is_member-head x X, ap (entry_at matched) (eqb-true j c.0 same) ∙ c.1)
           | inr later ↦ (let w = rest.own j later in (w.0, is_member-tail w.0 x X w.1, w.2))
         ];
       }
 
-  pub matched_is_transversal : (X : List ℕ) (matched : List (Option ℕ)) → IsSet n X → length matched ≡ length family → IsMatching rows X matched
+  pub matched_is_transversal : (X : List ℕ) (matched : List (Option ℕ)) → IsSet n X → length matched ≡ length family
+      → IsMatching rows X matched
       → is_transversal n family X ≡ true
   matched_is_transversal X matched set size t =
       let i = indices_of X X matched t (AreDistinct-rising X set.rising) set.below (λ x m. m) in
@@ -148,12 +144,6 @@ module _ (rows : List (List ℕ)) (sets : ℕ) (elements : List ℕ) where
   pub record AreMatchedTo (i : ℕ) (matched : List (Option ℕ)) : Type 0 where
     pub long : length matched ≡ sets
     pub matching : IsMatching rows (take i elements) matched
-
-  pub AreMatchedTo-none : (n : ℕ) (matched : List (Option ℕ)) → matched ≡ replicate n None → n ≡ sets → AreMatchedTo 0 matched
-  AreMatchedTo-none n matched e size = record {
-    long = ap length e ∙ length-replicate n None ∙ size;
-    matching = IsMatching-none rows matched (λ j. ap (λ t. entry_at t j) e ∙ entry_at-replicate n j);
-  }
 
   -- what is told of one element more
   abbrev pub IsTold : ℕ → List (Option ℕ) → List (Option ℕ) → Bool → Type 0

@@ -6,10 +6,10 @@ use Rattle.std.proofs.lemmas.List.{length-map}
 use Rattle.mat_sets.specs.Sets.{is_member, with_one, AreDistinct}
 use Rattle.mat_sets.specs.Walks.{IsReachedSet}
 use Rattle.mat_sets.proofs.Ground.{AreDistinct-rising, length-distinct_subset}
+use Rattle.mat_sets.proofs.MappedLists.{AreDistinct-map, mapped_member}
 use Rattle.mat_sets.proofs.Members.{is_member-with_one}
 use Rattle.mat_flow.specs.Digraphs.{row_at}
 use Rattle.mat_flow.specs.LinkTables.{entry_at}
-use Rattle.mat_linked.specs.MappedLists.{AreDistinct-map, mapped_member}
 use Rattle.mat_linked.specs.Matchings.{is_held, AreMatchable, IsMatching}
 
 -- the element that an entry has
@@ -71,10 +71,12 @@ module _ (sets : ℕ) (rows : List (List ℕ)) (X : List ℕ) (matched : List (O
       absurd (omega (arith, few, size))
 
 -- without a walk there is no matching with the new element
-pub stuck : (sets : ℕ) (rows : List (List ℕ)) (matched read : List (Option ℕ)) (element : ℕ) (reached : List ℕ) → read ≡ matched → sets ≡ length matched
+pub stuck : (sets : ℕ) (rows : List (List ℕ)) (matched read : List (Option ℕ)) (element : ℕ) (reached : List ℕ) → read ≡ matched
+    → sets ≡ length matched
     → IsReachedSet sets (λ j. is_held rows (entry_at read j)) (λ j. is_member j (row_at rows element)) reached
     → ((j : ℕ) → is_member j reached ≡ true → is_none (entry_at read j) ≡ false)
-    → (X : List ℕ) → is_member element X ≡ false → IsMatching rows X matched → AreMatchable rows (length matched) (with_one X element) → ⊥
+    → (X : List ℕ) → is_member element X ≡ false → IsMatching rows X matched
+    → AreMatchable rows (length matched) (with_one X element) → ⊥
 stuck sets rows matched read element reached same size reach missed X fresh t m =
     not_matchable sets rows X matched element t fresh reached
     (subst (λ b. IsReachedSet sets (λ j. is_held rows (entry_at b j)) (λ j. is_member j (row_at rows element)) reached) same reach)

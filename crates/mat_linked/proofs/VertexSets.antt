@@ -33,7 +33,8 @@ vertex_at targets elements i l = sym (get_or-map (λ e. get_or targets e 0) elem
 pub length-vertices_of : (targets elements : List ℕ) → length (vertices_of targets elements) ≡ length elements
 length-vertices_of targets elements = length-map elements (λ e. get_or targets e 0)
 
-pub AreAdded-all : (targets elements set : List ℕ) (i : ℕ) → length elements ≤ i → AreAdded (vertices_of targets elements) i set → (v : ℕ)
+pub AreAdded-all : (targets elements set : List ℕ) (i : ℕ) → length elements ≤ i → AreAdded (vertices_of targets elements) i set
+    → (v : ℕ)
     → is_member v set ≡ is_member v (vertices_of targets elements)
 AreAdded-all targets elements set i past a v =
     a.members v ∙ ap (is_member v) (take_all i (vertices_of targets elements) (omega (arith, length-vertices_of targets elements, past)))

@@ -23,12 +23,14 @@ module _ (vertices : ℕ) (arcs : List (ℕ × ℕ)) (sources targets : List ℕ
   module _ (given : IsGammoid vertices arcs sources targets) where
     pub is_gammoid-from : (X : List ℕ) → IsLinked arcs sources targets X → is_gammoid vertices arcs sources targets X ≡ true
     is_gammoid-from X g =
-        and_from (is_set (length targets) X) (has_paths_to vertices arcs sources [] (vertices_of targets X)) (test_from-IsSet (length targets) X g.set)
+        and_from (is_set (length targets) X) (has_paths_to vertices arcs sources [] (vertices_of targets X))
+        (test_from-IsSet (length targets) X g.set)
         (subst (λ ends. has_paths_to vertices arcs sources [] ends ≡ true) g.ends
         (has_paths_to-from vertices arcs sources given.graph given.sources_inside.below (vertices_of targets X) [] g.paths
         g.disjoint.each g.disjoint.distinct tt (λ v m. refl)))
 
-    gammoid_augments : (I J : List ℕ) → is_gammoid vertices arcs sources targets I ≡ true → is_gammoid vertices arcs sources targets J ≡ true
+    gammoid_augments : (I J : List ℕ) → is_gammoid vertices arcs sources targets I ≡ true
+        → is_gammoid vertices arcs sources targets J ≡ true
         → length I < length J → Augments (is_gammoid vertices arcs sources targets) I J
     gammoid_augments I J i j less =
         let a = augments arcs sources targets given.distinct I J (is_gammoid-gives I i) (is_gammoid-gives J j) less in

@@ -34,7 +34,8 @@ vertices_of targets X = map (λ e. slice_index_or targets e 0) X
 abbrev pub is_gammoid : ℕ → List (ℕ × ℕ) → List ℕ → List ℕ → List ℕ → Bool
 is_gammoid vertices arcs sources targets X = is_set (length targets) X && has_paths_to vertices arcs sources [] (vertices_of targets X)
 
--- the same in words, where the sources are vertices of the graph: as many disjoint paths as X has members, the first to the vertex of the first member, and so on
+-- the same in words, where the sources are vertices of the graph: as many disjoint paths as X has members, the first to the vertex of
+-- the first member, and so on
 pub record IsLinked (arcs : List (ℕ × ℕ)) (sources targets X : List ℕ) : Type 0 where
   pub set : IsSet (length targets) X
   pub paths : List (List ℕ)

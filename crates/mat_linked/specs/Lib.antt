@@ -1,6 +1,5 @@
 pub mod Transversals
 pub mod Gammoids
-pub mod MappedLists
 pub mod PathSearch
 pub mod LinkedSets
 pub mod GammoidLaws

@@ -7,14 +7,14 @@ use Rattle.std.proofs.lemmas.List.{length-map}
 use Rattle.std.proofs.lemmas.List.Elements.{All-nil}
 use Rattle.mat_sets.specs.Sets.{is_member, with_one, AreDistinct, IsRising, IsSet, IsSubset}
 use Rattle.mat_sets.proofs.Ground.{AreDistinct-rising, IsSet-subset, IsSet-with_one, below_member}
+use Rattle.mat_sets.proofs.ListParts.{is_member-left, is_member-right}
+use Rattle.mat_sets.proofs.MappedLists.{AreDistinct-map, is_member-map, mapped_member}
 use Rattle.mat_sets.proofs.Members.{is_member-append, is_member-get_or, is_member-with_one}
-use Rattle.mat_flow.specs.ListParts.{is_member-left, is_member-right}
 use Rattle.mat_flow.specs.PathChoices.{AreDisjointPaths-targets, ends_are_targets, paths_to_some}
 use Rattle.mat_flow.specs.PathLaws.{at_most_a_separator, one_path_more}
 use Rattle.mat_flow.specs.Paths.{last_of, AreDisjointPaths, HasOnePathMore, IsPathBetween}
 use Rattle.mat_flow.specs.SimplePaths.{ArePathsApart-disjoint}
 use Rattle.mat_linked.specs.Gammoids.{IsLinked, vertices_of}
-use Rattle.mat_linked.specs.MappedLists.{AreDistinct-map, is_member-map, mapped_member}
 
 -- ---- the vertices of a set of elements
 
@@ -63,13 +63,15 @@ module _ (arcs : List (ℕ × ℕ)) (sources targets : List ℕ) where
   module _ (distinct : AreDistinct targets) where
     -- a set is linked where disjoint paths end at all its vertices
     pub linked_by : (X all : List ℕ) (paths : List (List ℕ)) → IsSet (length targets) X → AreDisjointPaths arcs sources all paths
-        → ((v : ℕ) → is_member v (vertices_of targets X) ≡ true → is_member v (map last_of paths) ≡ true) → IsLinked arcs sources targets X
+        → ((v : ℕ) → is_member v (vertices_of targets X) ≡ true → is_member v (map last_of paths) ≡ true)
+        → IsLinked arcs sources targets X
     linked_by X all paths set d inside =
         let p = paths_to_some arcs sources all paths d (vertices_of targets X) (AreDistinct-vertices_of targets X distinct set) inside in
         record {
           set = set;
           paths = p.paths;
-          disjoint = AreDisjointPaths-targets arcs sources all (vertices_of targets X) p.paths p.disjoint (λ v m. ap (is_member v) (sym p.ends) ∙ m);
+          disjoint =
+              AreDisjointPaths-targets arcs sources all (vertices_of targets X) p.paths p.disjoint (λ v m. ap (is_member v) (sym p.ends) ∙ m);
           ends = p.ends;
         }
 
@@ -92,13 +94,16 @@ module _ (arcs : List (ℕ × ℕ)) (sources targets : List ℕ) where
     with_further I J g h m =
         let all = vertices_of targets I ++ vertices_of targets J in
         let new : is_member m.further (vertices_of targets I) ≡ false = ap (is_member m.further) (sym g.ends) ∙ m.new in
-        let ended : is_member m.further (map last_of m.larger) ≡ true = m.ends m.further ∙ or_left (eqb m.further m.further) _ (eq-eqb m.further m.further refl) in
+        let ended : is_member m.further (map last_of m.larger) ≡ true = m.ends m.further
+        ∙ or_left (eqb m.further m.further) _ (eq-eqb m.further m.further refl) in
         let target = ends_are_targets arcs sources all m.larger m.disjoint.each m.further ended in
         let w = vertex_member targets J m.further (other m.further new target) in
         record {
           element = w.0;
           inside = w.1;
-          outside = false_from_ne_true _ (λ k. both_ways _ new (ap (λ z. is_member z (vertices_of targets I)) (sym w.2) ∙ member_vertex targets I w.0 k));
+          outside =
+              false_from_ne_true _ (λ k. both_ways _ new
+              (ap (λ z. is_member z (vertices_of targets I)) (sym w.2) ∙ member_vertex targets I w.0 k));
           linked = linked_by (with_one I w.0) all m.larger (IsSet-with_one (length targets) I w.0 g.set (below_member h.set w.1)) m.disjoint
               (λ v k. (let u = vertex_member targets (with_one I w.0) v k in
               m.ends v ∙ reached v u.0 w.0 u.1 u.2 w.2));
@@ -106,26 +111,33 @@ module _ (arcs : List (ℕ × ℕ)) (sources targets : List ℕ) where
       where
         other : (v : ℕ) → is_member v (vertices_of targets I) ≡ false
             → is_member v (vertices_of targets I ++ vertices_of targets J) ≡ true → is_member v (vertices_of targets J) ≡ true
-        other v out on = elim (or_cases (is_member v (vertices_of targets I)) _ (sym (is_member-append v (vertices_of targets I) (vertices_of targets J)) ∙ on)) [
-          | inl k ↦ absurd (both_ways _ out k)
-          | inr k ↦ k
-        ]
+        other v out on =
+            elim (or_cases (is_member v (vertices_of targets I)) _
+            (sym (is_member-append v (vertices_of targets I) (vertices_of targets J)) ∙ on)) [
+              | inl k ↦ absurd (both_ways _ out k)
+              | inr k ↦ k
+            ]
 
         -- the vertex of a member of I + f is that of f or one of I
         reached : (v e f : ℕ) → is_member e (with_one I f) ≡ true → get_or targets e 0 ≡ v → get_or targets f 0 ≡ m.further
             → (eqb v m.further || is_member v (map last_of g.paths)) ≡ true
         reached v e f k same also = elim (or_cases (eqb e f) (is_member e I) (sym (is_member-with_one e f I) ∙ k)) [
           | inl one ↦ or_left (eqb v m.further) _ (eq-eqb v m.further (sym same ∙ ap (λ x. get_or targets x 0) (eqb-true e f one) ∙ also))
-          | inr old ↦ or_right (eqb v m.further) _ (ap (is_member v) g.ends ∙ ap (λ z. is_member z (vertices_of targets I)) (sym same) ∙ member_vertex targets I e old)
+          | inr old ↦
+              or_right (eqb v m.further) _ (ap (is_member v) g.ends ∙ ap (λ z. is_member z (vertices_of targets I)) (sym same)
+              ∙ member_vertex targets I e old)
         ]
 
-    pub augments : (I J : List ℕ) → IsLinked arcs sources targets I → IsLinked arcs sources targets J → length I < length J → LinkedWithOne I J
+    pub augments : (I J : List ℕ) → IsLinked arcs sources targets I → IsLinked arcs sources targets J → length I < length J
+        → LinkedWithOne I J
     augments I J g h less =
         let all = vertices_of targets I ++ vertices_of targets J in
         let first = for_more all I g (λ v m. is_member-left v (vertices_of targets I) (vertices_of targets J) m) in
         let second = for_more all J h (λ v m. is_member-right v (vertices_of targets I) (vertices_of targets J) m) in
         elim (one_path_more arcs sources all g.paths (ArePathsApart-disjoint arcs sources all g.paths first)) [
           | inl m ↦ with_further I J g h m
-          | inr s ↦ absurd (let few = at_most_a_separator arcs sources all s.separator h.paths s.separates (ArePathsApart-disjoint arcs sources all h.paths second) in
+          | inr s ↦
+              absurd (let few = at_most_a_separator arcs sources all s.separator h.paths s.separates
+              (ArePathsApart-disjoint arcs sources all h.paths second) in
               let a = s.size in let b = size_of I g in let c = size_of J h in omega arith)
         ]

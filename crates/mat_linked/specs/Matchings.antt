@@ -1,6 +1,6 @@
 -- Matchings of elements with sets that hold them, as tables that have at each index the element that the set with this index is matched
 -- with (Schrijver, chapters 16 and 22).
-use Rattle.std.specs.Prelude.{◌≡◌, ℕ, zero, suc, ◌<◌, Bool, true, false, ◌&&◌, nat_lt, List, length, slice_index, Option, Some, None}
+use Rattle.std.specs.Prelude.{◌≡◌, ℕ, ◌<◌, Bool, true, false, ◌&&◌, nat_lt, List, length, Option, Some, None}
 use Rattle.mat_sets.specs.Sets.{is_member}
 use Rattle.mat_flow.specs.Digraphs.{row_at}
 use Rattle.mat_flow.specs.LinkTables.{entry_at}
@@ -33,17 +33,6 @@ pub record AreMatchable (rows : List (List ℕ)) (sets : ℕ) (X : List ℕ) : T
 abbrev pub IsMatchedOrNone : List (List ℕ) → List ℕ → List (Option ℕ) → Bool → Type 0
 IsMatchedOrNone rows X matched true = IsMatching rows X matched
 IsMatchedOrNone rows X matched false = AreMatchable rows (length matched) X → ⊥
-
--- what comes to place k of a walk: what stood at the index before, and at the first place the new element
-abbrev pub entry_before : ℕ → List (Option ℕ) → List ℕ → ℕ → Option ℕ
-entry_before element matched walk zero = Some element
-entry_before element matched walk (suc k) = entry_at matched (slice_index walk k)
-
--- the elements have moved on along a walk, the new one came to its first place, and what stood at its last place is gone
-pub record AreMovedOn (element : ℕ) (walk : List ℕ) (old new : List (Option ℕ)) : Type 0 where
-  pub long : length new ≡ length old
-  pub moved : (k : ℕ) → k < length walk → entry_at new (slice_index walk k) ≡ entry_before element old walk k
-  pub kept : (j : ℕ) → is_member j walk ≡ false → entry_at new j ≡ entry_at old j
 
 -- for each element the indices of those of the first k sets that hold it
 pub record AreEntered (count k : ℕ) (family rows : List (List ℕ)) : Type 0 where

@@ -8,9 +8,9 @@ use Rattle.mat_sets.specs.Graphs.{IsGraph}
 use Rattle.mat_sets.specs.Search.{some_list}
 use Rattle.mat_sets.specs.Sets.{is_member, AllBelow, AreDistinct}
 use Rattle.mat_sets.proofs.Ground.{AllBelow-member, length-distinct_below}
+use Rattle.mat_sets.proofs.ListParts.{AreDistinct-append, AreDistinct-apart, AreDistinct-front, AreDistinct-rest, is_member-left, is_member-right, is_member-tail}
 use Rattle.mat_sets.proofs.Members.{is_member-append, is_member-head}
 use Rattle.mat_sets.proofs.Search.{some_below_from, some_below_gives, some_list_from, some_list_gives}
-use Rattle.mat_flow.specs.ListParts.{AreDistinct-append, AreDistinct-apart, AreDistinct-front, AreDistinct-rest, is_member-left, is_member-right, is_member-tail}
 use Rattle.mat_flow.specs.Paths.{first_of, has_arc, last_of, IsPath, IsPathBetween}
 use Rattle.mat_flow.proofs.Rows.{head_below}
 use Rattle.mat_linked.specs.Gammoids.{has_paths_to, is_path}
@@ -38,11 +38,13 @@ is_path-gives arcs (v ∷ w ∷ rest) h =
 pub is_path-from : (arcs : List (ℕ × ℕ)) (path : List ℕ) → IsPath arcs path → is_path arcs path ≡ true
 is_path-from arcs [] joined = absurd joined
 is_path-from arcs (v ∷ []) joined = refl
-is_path-from arcs (v ∷ w ∷ rest) joined = and_from (has_arc arcs v w) (is_path arcs (w ∷ rest)) joined.0 (is_path-from arcs (w ∷ rest) joined.1)
+is_path-from arcs (v ∷ w ∷ rest) joined =
+    and_from (has_arc arcs v w) (is_path arcs (w ∷ rest)) joined.0 (is_path-from arcs (w ∷ rest) joined.1)
 
 -- ---- the vertices of a path
 
-path_below : (vertices : ℕ) (arcs : List (ℕ × ℕ)) → IsGraph vertices arcs → (path : List ℕ) → IsPath arcs path → first_of path < vertices
+path_below : (vertices : ℕ) (arcs : List (ℕ × ℕ)) → IsGraph vertices arcs → (path : List ℕ) → IsPath arcs path
+    → first_of path < vertices
     → AllBelow vertices path
 path_below vertices arcs g [] joined first = absurd joined
 path_below vertices arcs g (v ∷ []) joined first = (first, tt)
@@ -78,7 +80,8 @@ module _ (vertices : ℕ) (arcs : List (ℕ × ℕ)) (sources : List ℕ) where
       && are_distinct (path ++ taken) && has_paths_to vertices arcs sources (path ++ taken) ends
 
   one_path : (targets taken : List ℕ) (end : ℕ) (ends path : List ℕ) → is_member end targets ≡ true → IsPath arcs path
-      → is_member (first_of path) sources ≡ true → last_of path ≡ end → AreDistinct (path ++ taken) → PathsBeside targets (path ++ taken) ends
+      → is_member (first_of path) sources ≡ true → last_of path ≡ end → AreDistinct (path ++ taken)
+      → PathsBeside targets (path ++ taken) ends
       → PathsBeside targets taken (end ∷ ends)
   one_path targets taken end ends path target joined starts last distinct rest = record {
     paths = path ∷ rest.paths;
@@ -126,11 +129,13 @@ module _ (vertices : ℕ) (arcs : List (ℕ × ℕ)) (sources : List ℕ) where
         let both = AreDistinct-append path taken own before (λ v m. free v (is_member-left v path (concat paths) m)) in
         let rest = has_paths_to-from targets (path ++ taken) paths (All-tail (IsPathBetween arcs sources targets) path paths each)
         (AreDistinct-rest path (concat paths) distinct) both
-        (λ v m. apart v (free v (is_member-right v path (concat paths) m)) (false_from_ne_true _ (λ k. both_ways _ (AreDistinct-apart path (concat paths) v distinct k) m))) in
+        (λ v m. apart v (free v (is_member-right v path (concat paths) m))
+        (false_from_ne_true _ (λ k. both_ways _ (AreDistinct-apart path (concat paths) v distinct k) m))) in
         let few = length-distinct_below vertices path own below in
         some_below_from (suc vertices) (length path) (λ k. some_list k vertices (is_next taken (last_of path) (map last_of paths))) (omega arith)
         (some_list_from vertices path (is_next taken (last_of path) (map last_of paths)) below
-        (five_from _ _ _ _ _ (is_path-from arcs path p.joined) p.starts (eq-eqb (last_of path) (last_of path) refl) (are_distinct-from (path ++ taken) both) rest))
+        (five_from _ _ _ _ _ (is_path-from arcs path p.joined) p.starts (eq-eqb (last_of path) (last_of path) refl)
+        (are_distinct-from (path ++ taken) both) rest))
       where
         apart : (v : ℕ) → is_member v taken ≡ false → is_member v path ≡ false → is_member v (path ++ taken) ≡ false
         apart v a b = is_member-append v path taken ∙ rw b a

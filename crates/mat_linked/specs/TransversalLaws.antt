@@ -25,7 +25,8 @@ length-lie_in_sets family (x ∷ X) [] h = absurd (false≢true h)
 length-lie_in_sets family (x ∷ X) (j ∷ indices) h =
     ap suc (length-lie_in_sets family X indices (and_parts (is_member x (get_or family j [])) (lie_in_sets family X indices) h).1)
 
-members_below : (n : ℕ) (family : List (List ℕ)) → All (AllBelow n) family → (j x : ℕ) → is_member x (get_or family j []) ≡ true → x < n
+members_below : (n : ℕ) (family : List (List ℕ)) → All (AllBelow n) family → (j x : ℕ)
+    → is_member x (get_or family j []) ≡ true → x < n
 members_below n [] all j x m = absurd (false≢true m)
 members_below n (set ∷ family) all zero x m = AllBelow-member n set x (All-head (AllBelow n) set family all) m
 members_below n (set ∷ family) all (suc j) x m = members_below n family (All-tail (AllBelow n) set family all) j x m

@@ -7,8 +7,8 @@ use Rattle.std.proofs.lemmas.List.Elements.{All-cons, All-head, All-nil, All-tai
 use Rattle.std.specs.List.{All, concat}
 use Rattle.mat_sets.specs.Sets.{is_member, all_below, counted_from, AllBelow, AreDistinct, IsSet}
 use Rattle.mat_sets.proofs.Ground.{AllBelow-member, AreDistinct-rising, RisesFrom-counted_from, get_or-all_below, length-all_below}
+use Rattle.mat_sets.proofs.ListParts.{AreDistinct-apart, AreDistinct-rest, is_member-left, is_member-right, is_member-tail}
 use Rattle.mat_sets.proofs.Members.{is_member-head, member_from}
-use Rattle.mat_flow.specs.ListParts.{AreDistinct-apart, AreDistinct-rest, is_member-left, is_member-right, is_member-tail}
 use Rattle.mat_flow.specs.Paths.{first_of, has_arc, last_of, AreDisjointPaths, IsPath, IsPathBetween}
 use Rattle.mat_linked.specs.Gammoids.{vertices_of, IsLinked}
 use Rattle.mat_linked.specs.Transversals.{lie_in_sets, IsPartialTransversal}
@@ -97,7 +97,8 @@ module _ (count : ℕ) (family : List (List ℕ)) where
     ]
   ]
 
-  paths_along_distinct : (X indices : List ℕ) → AreDistinct X → AllBelow count X → AreDistinct indices → AreDistinct (concat (paths_along X indices))
+  paths_along_distinct : (X indices : List ℕ) → AreDistinct X → AllBelow count X → AreDistinct indices
+      → AreDistinct (concat (paths_along X indices))
   unfolding paths_along
   paths_along_distinct [] indices d below e = tt
   paths_along_distinct (x ∷ X) [] d below e = tt
@@ -148,7 +149,9 @@ module _ (count : ℕ) (family : List (List ℕ)) where
       record {
         set = subst (λ n. IsSet n X) (sym (length-all_below count)) t.set;
         paths = paths_along X t.indices;
-        disjoint = subst (λ targets. AreDisjointPaths (membership_arcs count family) (index_vertices count family) targets (paths_along X t.indices)) (sym same)
+        disjoint =
+            subst (λ targets. AreDisjointPaths (membership_arcs count family) (index_vertices count family) targets (paths_along X t.indices))
+            (sym same)
             (record {
               each = paths_along_each X X t.indices t.inside (λ v m. m);
               distinct = paths_along_distinct X t.indices (AreDistinct-rising X t.set.rising) t.set.below t.distinct;
@@ -166,7 +169,8 @@ module _ (count : ℕ) (family : List (List ℕ)) where
 
   module _ (below : (j x : ℕ) → is_member x (get_or family j []) ≡ true → x < count) where
     -- a path from an index to an element has one arc
-    start_index : (path : List ℕ) → IsPath (membership_arcs count family) path → is_member (first_of path) (index_vertices count family) ≡ true
+    start_index : (path : List ℕ) → IsPath (membership_arcs count family) path
+        → is_member (first_of path) (index_vertices count family) ≡ true
         → last_of path < count → StartIndex path
     start_index [] joined starts last = absurd joined
     start_index (v ∷ []) joined starts last =
@@ -199,12 +203,15 @@ module _ (count : ℕ) (family : List (List ℕ)) where
           indices = s.index ∷ rest.indices;
           listed = (index_below family s.index (last_of path) s.holds, rest.listed);
           distinct = (
-            false_from_ne_true _ (λ m. both_ways _ (AreDistinct-apart path (concat paths) (count + s.index) distinct s.start) (rest.starts s.index m)),
+            false_from_ne_true _ (λ m. both_ways _ (AreDistinct-apart path (concat paths) (count + s.index) distinct s.start)
+                (rest.starts s.index m)),
             rest.distinct,
           );
-          holds = and_from (is_member (last_of path) (get_or family s.index [])) (lie_in_sets family (map last_of paths) rest.indices) s.holds rest.holds;
+          holds =
+              and_from (is_member (last_of path) (get_or family s.index [])) (lie_in_sets family (map last_of paths) rest.indices) s.holds rest.holds;
           starts = λ j m. elim (or_cases (eqb j s.index) (is_member j rest.indices) m) [
-            | inl same ↦ is_member-left (count + j) path (concat paths) (ap (λ i. is_member (count + i) path) (eqb-true j s.index same) ∙ s.start)
+            | inl same ↦
+                is_member-left (count + j) path (concat paths) (ap (λ i. is_member (count + i) path) (eqb-true j s.index same) ∙ s.start)
             | inr later ↦ is_member-right (count + j) path (concat paths) (rest.starts j later)
           ];
         }
@@ -214,7 +221,8 @@ module _ (count : ℕ) (family : List (List ℕ)) where
     IsPartialTransversal-linked X g =
         let set : IsSet count X = subst (λ n. IsSet n X) (length-all_below count) g.set in
         let ends : map last_of g.paths ≡ X = g.ends ∙ vertices_same count X set.below in
-        let s = start_indices (vertices_of (all_below count) X) g.paths g.disjoint.each g.disjoint.distinct (subst (AllBelow count) (sym ends) set.below) in
+        let s = start_indices (vertices_of (all_below count) X) g.paths g.disjoint.each g.disjoint.distinct
+        (subst (AllBelow count) (sym ends) set.below) in
         record {
           set = set;
           indices = s.indices;

@@ -1,29 +1,16 @@
 //! Matchings of elements with sets that hold them, made larger along augmenting walks.
-ghost use Rattle.std.specs.Prelude.{◌≡◌, ◌≢◌, ◌<◌, ◌^◌, ℕ, List, Some, false, length, slice_index, IfOk, OnOk};
+ghost use Rattle.std.specs.Prelude.{◌≡◌, ◌<◌, ◌^◌, ℕ, List, Some, false, length, IfOk, OnOk};
 ghost use Rattle.mat_sets.specs.Sets.{is_member, with_one, AllBelow, IsRising};
 ghost use Rattle.mat_flow.specs.LinkTables.{entry_at};
-ghost use Rattle.mat_linked.specs.Matchings.{AreIndices, AreMovedOn, IsMatchedOrNone, IsMatching};
+ghost use Rattle.mat_linked.specs.Matchings.{AreIndices, IsMatchedOrNone, IsMatching};
 ghost use Rattle.mat_linked.specs.Transversals.{is_transversal};
 
 use crate::alternating::Alternating;
+use mat_flow::shift_along;
 use mat_sets::{BitSet, WalkSearch, shortest_walk};
 use std::alloc::{AllocError, Global};
 
-// Moves the element at each index of a walk on to the next index, and puts a new element at the first one.
-fn move_on(matched: &mut Vec<Option<u32>>, walk: &[u32], element: u32)
-    requires below { (i : ℕ) → i < length walk.now → slice_index walk.now i < length matched.old.items }
-    requires differ { (i j : ℕ) → i < j → j < length walk.now → slice_index walk.now i ≢ slice_index walk.now j }
-    ensures { AreMovedOn element walk.now matched.old.items matched.new.items }
-{
-    let mut carried = Some(element);
-    for j in walk {
-        let entry = matched[*j as usize];
-        matched[*j as usize] = carried;
-        carried = entry;
-    }
-}
-
-// Matches one element more, where that can be done, and tells whether it was.
+// Matches one element more, where that can be done, and tells whether it was: each element on the walk that is found moves on.
 fn match_one(
     alloc: Global,
     rows: &[BitSet],
@@ -44,7 +31,7 @@ fn match_one(
     };
     match shortest_walk(alloc, &search)? {
         WalkSearch::Walk(walk) => {
-            move_on(matched, &walk, element);
+            shift_along(matched, &walk, Some(element));
             Ok(true)
         }
         WalkSearch::Reached(_) => Ok(false),

@@ -6,13 +6,13 @@ use Rattle.mat_sets.specs.Sets.{is_member, IsSet, IsSubset, with_one, minus, uni
 use Rattle.mat_sets.proofs.Members.{place_of_member}
 use Rattle.mat_sets.proofs.Cardinalities.{length-with_one}
 use Rattle.mat_sets.proofs.Ground.{is_member-all_below, IsSubset-all_below}
+use Rattle.mat_sets.proofs.DisjointSets.{minus_parts, minus_from, apart_at, apart_from}
 use Rattle.mat_laws.specs.Matroids.{IsMatroid, IsMaximal}
 use Rattle.mat_laws.proofs.Independent.{rising, below}
 use Rattle.mat_laws.proofs.Growing.{maximal_from_none}
-use Rattle.mat_laws.proofs.Maximal.{IsMaximal-largest}
+use Rattle.mat_laws.proofs.Maximal.{base_largest, IsMaximal-largest}
 use Rattle.mat_minors.specs.Minors.{is_dual}
-use Rattle.mat_minors.specs.DisjointSets.{minus_parts, minus_from, apart_at, apart_from}
-use Rattle.mat_minors.specs.DualLaws.{dual-gives, dual-from, base_largest}
+use Rattle.mat_minors.specs.DualLaws.{dual-gives, dual-from}
 
 -- the set is maximal outside X, and cannot grow by the first i members of X
 pub record IsRefusing (n : ℕ) (p : List ℕ → Bool) (X items : List ℕ) (i : ℕ) (set : List ℕ) : Type 0 where
@@ -34,8 +34,10 @@ IsRefusing-start n p X items none outside set e o max = record {
   refused = λ k l. absurd (omega arith);
 }
 
-pub IsRefusing-next : (n : ℕ) (p : List ℕ → Bool) (X items : List ℕ) (i x : ℕ) (set set' : List ℕ) → x ≡ get_or items i 0 → is_member x X ≡ true
-    → IsRefusing n p X items i set → false ≡ (not (is_member x set) && p (with_one set x)) → set' ≡ set → IsRefusing n p X items (i + 1) set'
+pub IsRefusing-next : (n : ℕ) (p : List ℕ → Bool) (X items : List ℕ) (i x : ℕ) (set set' : List ℕ) → x ≡ get_or items i 0
+    → is_member x X ≡ true
+    → IsRefusing n p X items i set → false ≡ (not (is_member x set) && p (with_one set x)) → set' ≡ set
+    → IsRefusing n p X items (i + 1) set'
 IsRefusing-next n p X items i x set set' at m r fails same = rw same (record { maximal = r.maximal; refused = λ k l. passed k l })
   where
     last : p (with_one set x) ≡ false
@@ -74,7 +76,8 @@ module _ {n : ℕ} {p : List ℕ → Bool} (laws : IsMatroid n p) where
       let d = dual-gives n p X h in
       let ok = d.is_base.passes in
       let outside : IsSubset d.base (minus (all_below n) X) = record {
-        inside = λ y m. minus_from (all_below n) X y ((IsSubset-all_below n d.base (below laws d.base ok)).inside y m) (apart_at d.base X d.disjoint y m);
+        inside = λ y m. minus_from (all_below n) X y ((IsSubset-all_below n d.base (below laws d.base ok)).inside y m)
+            (apart_at d.base X d.disjoint y m);
       } in
       let adds = and_parts (not (is_member x B)) (p (with_one B x)) (sym added) in
       let few = IsMaximal-largest laws (minus (all_below n) X) B r.maximal d.base ok outside in

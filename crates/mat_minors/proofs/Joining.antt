@@ -29,7 +29,8 @@ IsJoining-next set more items i x both both' l at j put = rw put (record {
       ∙ ap (λ s. union s both) (ap (λ y. y ∷ drop (i + 1) items) at ∙ sym (drop_more items i 0 l)) ∙ j.whole;
 })
 
-pub IsJoining-end : (set more items : List ℕ) (i : ℕ) (both : List ℕ) → length items ≤ i → IsJoining set more items i both → both ≡ union set more
+pub IsJoining-end : (set more items : List ℕ) (i : ℕ) (both : List ℕ) → length items ≤ i → IsJoining set more items i both
+    → both ≡ union set more
 unfolding union
 IsJoining-end set more items i both l j = ap (λ s. union s both) (sym (drop_all i items l)) ∙ j.whole
 

@@ -1,36 +1,24 @@
 -- The exchanges at an independent set of a truncation, a restriction or a contraction, by those of the inner matroid: the additional
 -- conditions hold of each set that an exchange makes, or of none; and the members of a maximal independent subset of the contracted
 -- elements are left out.
-use Rattle.std.proofs.Common.{◌≡◌, ℕ, ◌<◌, Bool, true, false, not, ◌&&◌, ◌||◌, eqb, leb, ltb, List, [], length, inl, inr, refl, sym, ap, ◌∙◌, arith}
+use Rattle.std.proofs.Common.{◌≡◌, ℕ, ◌<◌, Bool, true, false, ◌&&◌, eqb, leb, ltb, List, [], length, inl, inr, refl, sym, ap, ◌∙◌, arith}
 use Rattle.std.specs.List.{filter}
-use Rattle.std.proofs.lemmas.Bool.{cases_Bool, cases_eq, ne_eqb, cond-false, and_parts, both_ways, false_from_ne_true}
+use Rattle.std.proofs.lemmas.Bool.{cases_Bool, cond-false, and_parts, both_ways, false_from_ne_true}
 use Rattle.std.proofs.lemmas.Bool.Decides.{nat_tests}
 use Rattle.mat_sets.specs.Sets.{is_member, IsRising, IsSet, IsSubset, with_one, without_one, minus, intersection, union}
-use Rattle.mat_sets.proofs.Members.{set_members, same_members, is_member-filter, is_member-minus, is_member-union, RisesFrom-filter, IsRising-minus, IsRising-union, IsRising-without_one}
+use Rattle.mat_sets.proofs.Members.{filter_same_at, is_member-union}
 use Rattle.mat_sets.proofs.Cardinalities.{length-with_one, length-exchange_one}
 use Rattle.mat_sets.proofs.Subsets.{IsSubset-trans, with_one-IsSubset, without_one-IsSubset}
 use Rattle.mat_sets.proofs.Ground.{IsSet-with_one, IsSet-without_one}
+use Rattle.mat_sets.proofs.DisjointSets.{inside_test, inside_test_from, apart_with, apart_at, apart_from, union-with_one_left, with_one-holds, without_one-union}
+use Rattle.mat_sets.proofs.Filters.{filter_first, filter_none}
 use Rattle.mat_laws.specs.Matroids.{IsMatroid, IsMaximal}
 use Rattle.mat_laws.specs.Exchanges.{row_of}
 use Rattle.mat_laws.specs.declared.exchange.Exchange.{Exchange}
 use Rattle.mat_laws.proofs.Independent.{rising}
 use Rattle.mat_laws.proofs.Rows.{exchanged, row_outside}
 use Rattle.mat_minors.specs.Minors.{is_truncated, is_restricted, is_contracted}
-use Rattle.mat_minors.specs.DisjointSets.{no_members, and_when, inside_test, inside_test_from, apart_with, apart_at, apart_from, union-with_one_left}
 use Rattle.mat_minors.specs.ContractionLaws.{contraction-gives, IsJoined, IsJoined-gives, IsJoined-from}
-
--- ---- filters by tests that agree
-
-filter_rises : (f : ℕ → Bool) (I : List ℕ) → IsRising I → IsRising (filter f I)
-filter_rises f I r = record { rises = RisesFrom-filter f 0 I r.rises }
-
-filter_agrees : (f h : ℕ → Bool) (I : List ℕ) → IsRising I → ((y : ℕ) → is_member y I ≡ true → f y ≡ h y) → filter f I ≡ filter h I
-filter_agrees f h I r agree =
-    same_members _ _ (filter_rises f I r) (filter_rises h I r)
-    (λ y. is_member-filter f y I ∙ and_when (is_member y I) (f y) (h y) (agree y) ∙ sym (is_member-filter h y I))
-
-filter_none : (f : ℕ → Bool) (I : List ℕ) → ((y : ℕ) → f y ≡ false) → filter f I ≡ []
-filter_none f I fails = no_members _ (λ y m. both_ways _ (fails y) (and_parts (is_member y I) (f y) (sym (is_member-filter f y I) ∙ m)).1)
 
 -- the two parts of a row
 addable_of : (p : List ℕ → Bool) (I : List ℕ) (x : ℕ) (row : Exchange) → is_member x I ≡ false → row ≡ row_of p I x
@@ -54,7 +42,7 @@ module _ {n : ℕ} {p : List ℕ → Bool} (laws : IsMatroid n p) where
   truncated_row cap I x inner row passes out told adds exchanges =
       row_outside (is_truncated cap p) I x row out
       (adds ∙ ap (λ b. b && ltb (length I) cap) (addable_of p I x inner out told) ∙ ap (λ b. p (with_one I x) && b) room)
-      (exchanges ∙ with_of p I x inner out told ∙ filter_agrees (exchanged p I x) (exchanged (is_truncated cap p) I x) I r
+      (exchanges ∙ with_of p I x inner out told ∙ filter_same_at (exchanged p I x) (exchanged (is_truncated cap p) I x) I
       (λ y m. true_and (exchanged p I x y) _ (ap (λ k. leb k cap) (length-exchange_one I x y r m out) ∙ tests.1)))
     where
       tests : (p I ≡ true) × (leb (length I) cap ≡ true)
@@ -68,12 +56,14 @@ module _ {n : ℕ} {p : List ℕ → Bool} (laws : IsMatroid n p) where
 
   -- ---- the restriction
 
-  pub restricted_row : (kept I : List ℕ) (x : ℕ) (row : Exchange) → is_restricted kept p I ≡ true → is_member x I ≡ false → is_member x kept ≡ true
+  pub restricted_row : (kept I : List ℕ) (x : ℕ) (row : Exchange) → is_restricted kept p I ≡ true → is_member x I ≡ false
+      → is_member x kept ≡ true
       → row ≡ row_of p I x → row ≡ row_of (is_restricted kept p) I x
   restricted_row kept I x row passes out here told =
       row_outside (is_restricted kept p) I x row out
-      (addable_of p I x row out told ∙ true_and (p (with_one I x)) _ (inside_test_from (with_one I x) kept (with_one-IsSubset I kept x inside here)))
-      (with_of p I x row out told ∙ filter_agrees (exchanged p I x) (exchanged (is_restricted kept p) I x) I (rising laws I tests.0)
+      (addable_of p I x row out told
+      ∙ true_and (p (with_one I x)) _ (inside_test_from (with_one I x) kept (with_one-IsSubset I kept x inside here)))
+      (with_of p I x row out told ∙ filter_same_at (exchanged p I x) (exchanged (is_restricted kept p) I x) I
       (λ y m. true_and (exchanged p I x y) _ (inside_test_from (with_one (without_one I y) x) kept
       (with_one-IsSubset (without_one I y) kept x (IsSubset-trans (without_one I y) I kept (without_one-IsSubset I y) inside) here))))
     where
@@ -83,11 +73,9 @@ module _ {n : ℕ} {p : List ℕ → Bool} (laws : IsMatroid n p) where
       inside : IsSubset I kept
       inside = inside_test I kept tests.1
 
-has_added : (J : List ℕ) (x : ℕ) → is_member x (with_one J x) ≡ true
-has_added J x = grind (arith, set_members)
-
 -- an element that is not kept has no exchanges
-pub restricted_row_outside : (p : List ℕ → Bool) (kept I : List ℕ) (x : ℕ) (row : Exchange) → is_member x I ≡ false → is_member x kept ≡ false
+pub restricted_row_outside : (p : List ℕ → Bool) (kept I : List ℕ) (x : ℕ) (row : Exchange) → is_member x I ≡ false
+    → is_member x kept ≡ false
     → row.addable ≡ false → row.with ≡ [] → row ≡ row_of (is_restricted kept p) I x
 restricted_row_outside p kept I x row out gone adds exchanges =
     row_outside (is_restricted kept p) I x row out (adds ∙ sym (fails I))
@@ -96,34 +84,9 @@ restricted_row_outside p kept I x row out gone adds exchanges =
     fails : (J : List ℕ) → is_restricted kept p (with_one J x) ≡ false
     fails J = false_from_ne_true _ (λ h.
         let tests = and_parts (p (with_one J x)) (eqb (length (minus (with_one J x) kept)) 0) h in
-        both_ways _ gone ((inside_test (with_one J x) kept tests.1).inside x (has_added J x)))
+        both_ways _ gone ((inside_test (with_one J x) kept tests.1).inside x (with_one-holds J x)))
 
 -- ---- the contraction
-
-without_one-union : (X B : List ℕ) (y : ℕ) → IsRising B → is_member y B ≡ false → union (without_one X y) B ≡ without_one (union X B) y
-without_one-union X B y r out =
-    same_members _ _ (IsRising-union (without_one X y) B r) (IsRising-without_one (union X B) y (IsRising-union X B r)) (λ k. members k)
-  where
-    members : (k : ℕ) → is_member k (union (without_one X y) B) ≡ is_member k (without_one (union X B) y)
-    members k = elim (cases_eq k y) [
-      | inl same ↦ (let b : is_member k B ≡ false = ap (λ z. is_member z B) same ∙ out in grind (arith, set_members))
-      | inr other ↦ (let e = ne_eqb k y other in grind (arith, set_members))
-    ]
-
--- a filter over two sets, the second of which is left out again
-filter_first : (f h : ℕ → Bool) (X B : List ℕ) → IsRising X → IsRising B → ((y : ℕ) → is_member y X ≡ true → is_member y B ≡ false)
-    → ((y : ℕ) → is_member y X ≡ true → f y ≡ h y) → minus (filter f (union X B)) B ≡ filter h X
-filter_first f h X B r s apart agree =
-    same_members _ _ (IsRising-minus _ B (filter_rises f (union X B) (IsRising-union X B s))) (filter_rises h X r) (λ y.
-    is_member-minus y (filter f (union X B)) B
-    ∙ ap (λ b. b && not (is_member y B)) (is_member-filter f y (union X B) ∙ ap (λ b. b && f y) (is_member-union y X B))
-    ∙ sides (is_member y X) (is_member y B) (f y) (h y) (apart y) (agree y) ∙ sym (is_member-filter h y X))
-  where
-    sides : (a b c d : Bool) → (a ≡ true → b ≡ false) → (a ≡ true → c ≡ d) → (((a || b) && c) && not b) ≡ (a && d)
-    sides true b c d out e = let o = out refl in let k = e refl in grind arith
-    sides false true true d out e = refl
-    sides false true false d out e = refl
-    sides false false c d out e = refl
 
 module _ {n : ℕ} {p : List ℕ → Bool} (laws : IsMatroid n p) (away B : List ℕ) (set : IsSet n away) (max : IsMaximal p away B) where
   -- a set apart from the contracted elements is independent exactly where it is so together with B
@@ -146,9 +109,11 @@ module _ {n : ℕ} {p : List ℕ → Bool} (laws : IsMatroid n p) (away B : List
   contracted_row X x inner row passes small o out told adds exchanges =
       row_outside (is_contracted n away p) X x row o
       (adds ∙ addable_of p (union X B) x inner outside told
-      ∙ sym (contracted_apart (with_one X x) (IsSet-with_one n X x j.set small) (apart_with X away x j.disjoint out) ∙ ap p (union-with_one_left X B x s)))
+      ∙ sym (contracted_apart (with_one X x) (IsSet-with_one n X x j.set small) (apart_with X away x j.disjoint out)
+      ∙ ap p (union-with_one_left X B x s)))
       (exchanges ∙ ap (λ t. minus t B) (with_of p (union X B) x inner outside told)
-      ∙ filter_first (exchanged p (union X B) x) (exchanged (is_contracted n away p) X x) X B j.set.rising s (λ y m. apart y m) (λ y m. agrees y (apart y m)))
+      ∙ filter_first (exchanged p (union X B) x) (exchanged (is_contracted n away p) X x) X B j.set.rising s (λ y m. apart y m)
+      (λ y m. agrees y (apart y m)))
     where
       j : IsJoined n p away B X
       j = IsJoined-gives laws away B X set.rising max passes
@@ -168,11 +133,13 @@ module _ {n : ℕ} {p : List ℕ → Bool} (laws : IsMatroid n p) (away B : List
       agrees : (y : ℕ) → is_member y B ≡ false → exchanged p (union X B) x y ≡ exchanged (is_contracted n away p) X x y
       agrees y fresh =
           let smaller = without_one X y in
-          sym (contracted_apart (with_one smaller x) (IsSet-with_one n smaller x (IsSet-without_one n X y j.set) small) (apart_with smaller away x (less y) out)
+          sym (contracted_apart (with_one smaller x) (IsSet-with_one n smaller x (IsSet-without_one n X y j.set) small)
+          (apart_with smaller away x (less y) out)
           ∙ ap p (union-with_one_left smaller B x s ∙ ap (λ t. with_one t x) (without_one-union X B y s fresh)))
 
 -- a contracted element has no exchanges
-pub contracted_row_outside : (n : ℕ) (p : List ℕ → Bool) (away X : List ℕ) (x : ℕ) (row : Exchange) → IsRising away → is_member x X ≡ false
+pub contracted_row_outside : (n : ℕ) (p : List ℕ → Bool) (away X : List ℕ) (x : ℕ) (row : Exchange) → IsRising away
+    → is_member x X ≡ false
     → is_member x away ≡ true → row.addable ≡ false → row.with ≡ [] → row ≡ row_of (is_contracted n away p) X x
 contracted_row_outside n p away X x row r o gone adds exchanges =
     row_outside (is_contracted n away p) X x row o (adds ∙ sym (fails X))
@@ -180,4 +147,4 @@ contracted_row_outside n p away X x row r o gone adds exchanges =
   where
     fails : (J : List ℕ) → is_contracted n away p (with_one J x) ≡ false
     fails J = false_from_ne_true _ (λ h.
-        both_ways _ (apart_at (with_one J x) away (contraction-gives n p away (with_one J x) r h).disjoint x (has_added J x)) gone)
+        both_ways _ (apart_at (with_one J x) away (contraction-gives n p away (with_one J x) r h).disjoint x (with_one-holds J x)) gone)

@@ -12,11 +12,11 @@ use Rattle.mat_sets.proofs.Cardinalities.{length-union_apart}
 use Rattle.mat_sets.proofs.Ground.{below_member, IsSet-with_one}
 use Rattle.mat_sets.proofs.SetTests.{IsSet-from_test, test_from-IsSet}
 use Rattle.mat_sets.proofs.Search.{some_subset_gives, some_subset_from}
+use Rattle.mat_sets.proofs.DisjointSets.{apart_at, apart_with, length-union_list, union-with_one_left}
 use Rattle.mat_laws.specs.Matroids.{IsMatroid, IsMaximal, Augments}
 use Rattle.mat_laws.proofs.Independent.{rising, grow_to_size}
 use Rattle.mat_laws.proofs.Maximal.{IsMaximal-one_size}
 use Rattle.mat_minors.specs.Minors.{is_maximal, is_contracted, IsContractedIndependent}
-use Rattle.mat_minors.specs.DisjointSets.{apart_at, apart_with, length-union_list, union-with_one_left}
 use Rattle.mat_minors.specs.MaximalSubsets.{is_maximal-gives, is_maximal-from}
 
 -- a set that is apart from the contracted elements and independent together with a chosen subset B of them
@@ -44,7 +44,8 @@ contraction-gives n p away X r h =
 
 module _ {n : ℕ} {p : List ℕ → Bool} (laws : IsMatroid n p) where
   -- C grows by X ∪ B to the size of X ∪ B, and nothing but X can come in
-  either_joins : (away B C X : List ℕ) → IsMaximal p away B → IsMaximal p away C → ((x : ℕ) → is_member x X ≡ true → is_member x away ≡ false)
+  either_joins : (away B C X : List ℕ) → IsMaximal p away B → IsMaximal p away C
+      → ((x : ℕ) → is_member x X ≡ true → is_member x away ≡ false)
       → p (union X B) ≡ true → p (union X C) ≡ true
   either_joins away B C X b c apart joins =
       let r = rising laws B b.passes in
@@ -59,7 +60,8 @@ module _ {n : ℕ} {p : List ℕ → Bool} (laws : IsMatroid n p) where
       out_of : (D : List ℕ) → IsSubset D away → (x : ℕ) → is_member x X ≡ true → is_member x D ≡ false
       out_of D inside x m = false_from_ne_true _ (λ k. both_ways _ (apart x m) (inside.inside x k))
 
-      kept : (K : List ℕ) → p K ≡ true → IsSubset C K → (k : ℕ) → is_member k K ≡ true → (is_member k C || is_member k (union X B)) ≡ true
+      kept : (K : List ℕ) → p K ≡ true → IsSubset C K → (k : ℕ) → is_member k K ≡ true
+          → (is_member k C || is_member k (union X B)) ≡ true
           → is_member k (union X C) ≡ true
       kept K passes holds k m either = elim (cases_Bool (is_member k C)) [
         | inl here ↦ (union-right X C).inside k here
@@ -71,7 +73,8 @@ module _ {n : ℕ} {p : List ℕ → Bool} (laws : IsMatroid n p) where
       ]
 
   -- which maximal independent subset of the contracted elements is joined does not matter
-  pub same_joined : (away B C X : List ℕ) → IsMaximal p away B → IsMaximal p away C → intersection X away ≡ [] → p (union X B) ≡ p (union X C)
+  pub same_joined : (away B C X : List ℕ) → IsMaximal p away B → IsMaximal p away C → intersection X away ≡ []
+      → p (union X B) ≡ p (union X C)
   same_joined away B C X b c none = elim (cases_Bool (p (union X B))) [
     | inl joins ↦ joins ∙ sym (either_joins away B C X b c (apart_at X away none) joins)
     | inr fails ↦ fails ∙ sym (false_from_ne_true _ (λ joins. both_ways _ fails (either_joins away C B X c b (apart_at X away none) joins)))

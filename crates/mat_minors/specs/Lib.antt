@@ -1,5 +1,4 @@
 pub mod Minors
-pub mod DisjointSets
 pub mod MaximalSubsets
 pub mod ContractionLaws
 pub mod DualLaws

@@ -1,16 +1,17 @@
 -- The dual, the truncations, the restrictions and the contractions of a matroid are matroids (Schrijver, chapter 39).
-use Rattle.std.proofs.Common.{ℕ, Bool, eqb, leb, List, [], length, refl, ◌∙◌, arith}
-use Rattle.std.proofs.lemmas.Bool.{lt-ltb, and_parts, and_from, leb-true, le-leb, false≢true, both_ways, false_from_ne_true}
+use Rattle.std.proofs.Common.{ℕ, Bool, eqb, leb, List, [], length, refl, arith}
+use Rattle.std.proofs.lemmas.Bool.{and_parts, and_from, leb-true, le-leb, false≢true, both_ways, false_from_ne_true}
 use Rattle.mat_sets.specs.Sets.{IsRising, with_one, minus, union, all_below}
 use Rattle.mat_sets.proofs.Members.{intersection-none, IsRising-union}
 use Rattle.mat_sets.proofs.Subsets.{IsSubset-trans, union-left, with_one-IsSubset, union-IsSubset, length-subset, union-right}
 use Rattle.mat_sets.proofs.Cardinalities.{length-with_one}
-use Rattle.mat_sets.proofs.Ground.{is_member-all_below, IsSet-nil, IsSet-subset, IsRising-all_below}
+use Rattle.mat_sets.proofs.Ground.{IsSet-nil, IsSet-subset, IsRising-all_below}
+use Rattle.mat_sets.proofs.DisjointSets.{apart_at, apart_from, inside_test, inside_test_from}
 use Rattle.mat_laws.specs.Matroids.{IsMatroid}
 use Rattle.mat_laws.proofs.Independent.{rising}
+use Rattle.mat_laws.proofs.Maximal.{IsBase-maximal}
+use Rattle.mat_laws.proofs.RankLaws.{maximal_in}
 use Rattle.mat_minors.specs.Minors.{is_dual, is_truncated, is_restricted, is_contracted}
-use Rattle.mat_minors.specs.DisjointSets.{apart_at, apart_from, inside_test, inside_test_from}
-use Rattle.mat_minors.specs.MaximalSubsets.{maximal_in}
 use Rattle.mat_minors.specs.ContractionLaws.{IsJoined-gives, IsJoined-from, contracted_augmentation}
 use Rattle.mat_minors.specs.DualLaws.{dual-gives, dual-from, dual_augmentation}
 
@@ -22,7 +23,7 @@ dual_laws n p laws =
       empty = dual-from laws [] (record {
         set = IsSet-nil n;
         base = b.0;
-        is_base = record { passes = b.1.passes; full = λ x small out. b.1.full x (is_member-all_below x n ∙ lt-ltb x n small) out };
+        is_base = IsBase-maximal n p b.0 b.1;
         disjoint = apart_from b.0 [] (λ x m. refl);
       });
       subsets = λ I J rises inside passes.
@@ -38,7 +39,8 @@ dual_laws n p laws =
     }
 
 -- the sets of at most so many elements
-pub truncated_laws : (n : ℕ) (independent : List ℕ → Bool) (cap : ℕ) → IsMatroid n independent → IsMatroid n (is_truncated cap independent)
+pub truncated_laws : (n : ℕ) (independent : List ℕ → Bool) (cap : ℕ) → IsMatroid n independent
+    → IsMatroid n (is_truncated cap independent)
 truncated_laws n p cap laws = record {
   empty = and_from (p []) (leb 0 cap) laws.empty (le-leb 0 cap (omega arith));
   subsets = λ I J rises inside passes.
@@ -62,9 +64,11 @@ truncated_laws n p cap laws = record {
 }
 
 -- the sets of kept elements
-pub restricted_laws : (n : ℕ) (independent : List ℕ → Bool) (kept : List ℕ) → IsMatroid n independent → IsMatroid n (is_restricted kept independent)
+pub restricted_laws : (n : ℕ) (independent : List ℕ → Bool) (kept : List ℕ) → IsMatroid n independent
+    → IsMatroid n (is_restricted kept independent)
 restricted_laws n p kept laws = record {
-  empty = and_from (p []) (eqb (length (minus [] kept)) 0) laws.empty (inside_test_from [] kept (record { inside = λ x m. absurd (false≢true m) }));
+  empty =
+      and_from (p []) (eqb (length (minus [] kept)) 0) laws.empty (inside_test_from [] kept (record { inside = λ x m. absurd (false≢true m) }));
   subsets = λ I J rises inside passes.
       let tests = and_parts (p J) (eqb (length (minus J kept)) 0) passes in
       and_from (p I) (eqb (length (minus I kept)) 0) (laws.subsets I J rises inside tests.0)

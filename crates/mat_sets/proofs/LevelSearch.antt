@@ -8,6 +8,7 @@ use Rattle.mat_sets.specs.Rounds.{IsRound, IsTrace, is_next}
 use Rattle.mat_sets.specs.Search.{those_below}
 use Rattle.mat_sets.specs.Sets.{all_below, is_member}
 use Rattle.mat_sets.specs.Walks.{IsReachedSet, IsShortestWalk}
+use Rattle.mat_sets.proofs.DisjointSets.{no_member}
 use Rattle.mat_sets.proofs.Ground.{is_member-all_below}
 use Rattle.mat_sets.proofs.Levels.{AreLevels, first_levels, follows, follows_level, missed_goals, next_level, next_level_is, next_levels, shortest_by}
 use Rattle.mat_sets.proofs.Members.{is_member-head, same_members}
@@ -193,10 +194,6 @@ those_below-same n f g h = same_members _ _ (IsSet-those_below n f).rising (IsSe
       | inr o ↦ rw (le-ltb v n o)
     ] ∙ sym (is_member-those_below v n g))
 
-empty_member : (xs : List ℕ) (v : ℕ) → length xs ≡ 0 → is_member v xs ≡ false
-empty_member [] v e = refl
-empty_member (x ∷ xs) v e = absurd (omega arith)
-
 pub some_member : (xs : List ℕ) → (length xs ≡ 0 → ⊥) → (x : ℕ) × (is_member x xs ≡ true)
 some_member [] h = absurd (h refl)
 some_member (x ∷ xs) h = (x, is_member-head x xs)
@@ -212,7 +209,7 @@ search_end {n} {arc} {start} {goal} k unreached frontier before rest found after
     rw (those_below-same n (λ v. not (is_member v rest)) (λ v. leb (s.level v) k) same) (m.reach, m.misses)
   where
     nothing : (v : ℕ) → v < n → (not (leb (s.level v) k) && is_next arc frontier v) ≡ false
-    nothing v l = let e = sym (r.found_is v) ∙ empty_member found v empty in rw (s.outside v, lt-ltb v n l) at e
+    nothing v l = let e = sym (r.found_is v) ∙ no_member found v empty in rw (s.outside v, lt-ltb v n l) at e
 
     only : (v : ℕ) → v < n → follows_level n arc k s.level v ≡ true → s.level v ≤ k
     only v l f = elim (cases_lt k (s.level v)) [

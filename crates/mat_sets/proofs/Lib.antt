@@ -5,6 +5,11 @@ pub mod Subsets
 pub mod Ground
 pub mod Steps
 pub mod Equalities
+pub mod DisjointSets
+pub mod Filters
+pub mod ListParts
+pub mod DisjointLists
+pub mod MappedLists
 pub mod Families
 pub mod Search
 pub mod Bits

@@ -1,6 +1,6 @@
 -- What the code of a set does with places: a binary search, an insertion, a removal, a test of the order, and one walk
 -- along two sets.
-use Rattle.std.proofs.Common.{Err, List, Ok, Result, [], ap, arith, eqb, false, get_or, inl, inr, length, not, refl, suc, sym, take, true, zero, ℕ, ◌++◌, ◌+◌, ◌-◌, ◌<◌, ◌∙◌, ◌∷◌, ◌≡◌, ◌≤◌}
+use Rattle.std.proofs.Common.{Err, List, Ok, Result, [], ap, append-nil, arith, eqb, false, get_or, inl, inr, length, not, refl, suc, sym, take, true, zero, ℕ, ◌++◌, ◌+◌, ◌-◌, ◌<◌, ◌∙◌, ◌∷◌, ◌≡◌, ◌≤◌}
 use Rattle.std.proofs.Math.Numerals.{add-one}
 use Rattle.std.proofs.lemmas.Bool.{cases_eq, cases_lt, eq-eqb, le-ltb, lt-ltb, ne_eqb}
 use Rattle.std.proofs.lemmas.List.Elements.{filter_more}
@@ -124,11 +124,7 @@ missing_at b x j r low high = is_member-nowhere b x (λ k l e.
 pub minus-skip : (a b : List ℕ) (i : ℕ) → i < length a → is_member (get_or a i 0) b ≡ true
     → minus (take (i + 1) a) b ≡ minus (take i a) b
 unfolding minus
-minus-skip a b i h m = filter_more (λ k. not (is_member k b)) a i 0 h ∙ rw m (append_none (filter (λ k. not (is_member k b)) (take i a)))
-  where
-    append_none : (u : List ℕ) → u ++ [] ≡ u
-    append_none [] = refl
-    append_none (x ∷ t) = ap (λ z. x ∷ z) (append_none t)
+minus-skip a b i h m = filter_more (λ k. not (is_member k b)) a i 0 h ∙ rw m (append-nil (filter (λ k. not (is_member k b)) (take i a)))
 
 pub minus-take : (a b : List ℕ) (i : ℕ) → i < length a → is_member (get_or a i 0) b ≡ false
     → minus (take (i + 1) a) b ≡ minus (take i a) b ++ get_or a i 0 ∷ []

@@ -1,5 +1,5 @@
 -- What walks from the starts reach (Schrijver, chapter 6).
-use Rattle.std.proofs.Common.{Bool, List, arith, eqb, false, get_or, inl, inr, length, subst, suc, true, zero, ℕ, ◌<◌, ◌≡◌, ◌⊎◌}
+use Rattle.std.proofs.Common.{Bool, List, arith, eqb, false, get_or, inl, inr, length, subst, suc, sym, true, zero, ℕ, ◌<◌, ◌≡◌, ◌≢◌, ◌⊎◌}
 use Rattle.std.proofs.lemmas.Bool.{both_ways, eqb-true, false≢true}
 use Rattle.mat_sets.specs.Sets.{IsSubset, is_member}
 use Rattle.mat_sets.specs.Walks.{IsChordless, IsReachedSet, IsShortestWalk, IsWalk}
@@ -35,6 +35,13 @@ shortest_walk_is_chordless n arc start goal vertices s =
           chordless_by c.level vertices c.potential w (λ v lt g. (let a = c.far v lt g in omega arith)))
       | inr q ↦ (let c = q.1 in absurd (both_ways _ (c.misses (get_or vertices w.arcs 0) (walk_stays_reached q.0 vertices c.reach w w.arcs (omega arith))) w.last))
     ]
+
+-- the vertices of a shortest walk differ
+pub walk_differs : (vertices : ℕ) (arc : ℕ → ℕ → Bool) (start goal : ℕ → Bool) (walk lent : List ℕ) → lent ≡ walk
+    → IsShortestWalk vertices arc start goal walk → (i j : ℕ) → i < j → j < length lent → get_or lent i 0 ≢ get_or lent j 0
+walk_differs vertices arc start goal walk lent e shortest =
+    subst (λ w. (i j : ℕ) → i < j → j < length w → get_or w i 0 ≢ get_or w j 0) (sym e)
+    (shortest_walk_is_chordless vertices arc start goal walk shortest).differ
 
 -- what holds of the starts and goes along arcs holds of each member of the reached set
 pub reached_by_induction : {n : ℕ} {arc : ℕ → ℕ → Bool} {start : ℕ → Bool} (reached : List ℕ) (f : ℕ → Bool)

@@ -1,23 +1,16 @@
 -- The loops of a round of the search for a shortest walk: the arcs of one vertex, the vertices found last, and the trace back
 -- along the vertices before. Each loop keeps what the whole does, for the numbers or vertices that it has passed.
 use Rattle.std.proofs.Common.{Bool, List, [], ap, arith, cond, eqb, false, get_or, inl, inr, length, ltb, not, refl, set, subst, sym, take, true, ℕ, ◌&&◌, ◌++◌, ◌+◌, ◌<◌, ◌||◌, ◌∙◌, ◌∷◌, ◌≡◌, ◌≤◌, ◌⊎◌}
-use Rattle.std.proofs.lemmas.Bool.{and_parts, both_ways, cases_Bool, cases_eq, eq-eqb, eqb-true, false≢true, ne_eqb, or_cases, or_left, or_right}
+use Rattle.std.proofs.lemmas.Bool.{and_parts, both_ways, cases_Bool, cases_eq, eq-eqb, eqb-true, ne_eqb, or_cases, or_left, or_right}
 use Rattle.std.proofs.lemmas.Bool.Decides.{nat_tests}
 use Rattle.std.proofs.lemmas.List.{get_or-set_other, get_or-set_same, length-set}
 use Rattle.mat_sets.specs.Rounds.{AreTaken, IsRound, is_next}
 use Rattle.mat_sets.specs.Search.{IsFirstFrom, those_below}
 use Rattle.mat_sets.specs.Sets.{all_below, is_member, with_one, without_one}
-use Rattle.mat_sets.proofs.Members.{IsRising-with_one, is_member-append, is_member-with_one, is_member-without_one, same_members}
+use Rattle.mat_sets.proofs.ListParts.{is_member-push}
+use Rattle.mat_sets.proofs.Members.{IsRising-with_one, is_member-with_one, is_member-without_one, same_members}
 use Rattle.mat_sets.proofs.Search.{IsSet-those_below, is_member-those_below}
 use Rattle.mat_sets.proofs.Steps.{is_member-take_more}
-
-is_member-push : (x v : ℕ) (xs : List ℕ) → is_member x (xs ++ v ∷ []) ≡ (is_member x xs || eqb x v)
-is_member-push x v xs = is_member-append x xs (v ∷ []) ∙ or_none (is_member x xs) (eqb x v)
-  where
-    or_none : (a b : Bool) → (a || (b || false)) ≡ (a || b)
-    or_none true b = refl
-    or_none false true = refl
-    or_none false false = refl
 
 -- ---- the numbers below n that pass
 
@@ -51,27 +44,6 @@ those_below-skip n test t = same_members _ _ (IsSet-those_below n test).rising (
     at k (inr d) = other k n (test k) d
 
 -- ---- the arcs of one vertex
-
-pub AreTaken-start : (test : ℕ → Bool) (u : ℕ) (unreached found before : List ℕ)
-    → AreTaken (λ x. ltb x 0 && test x) u unreached found before unreached found before
-AreTaken-start test u unreached found before = record {
-  rest_is = λ x. (let e = below_zero x (test x) in rw e (and_not_false (is_member x unreached)));
-  more_is = λ x. (let e = below_zero x (test x) in rw e (or_and_false (is_member x found) (is_member x unreached)));
-  after_is = λ x. (let e = below_zero x (test x) in rw e (cond_and_false (is_member x unreached) u (get_or before x 0)));
-  long = refl;
-}
-  where
-    below_zero : (x : ℕ) (b : Bool) → (ltb x 0 && b) ≡ false
-    below_zero x b = grind (arith, nat_tests)
-
-    and_not_false : (a : Bool) → a ≡ (a && not false)
-    and_not_false a = grind (arith, nat_tests)
-
-    or_and_false : (a b : Bool) → a ≡ (a || (b && false))
-    or_and_false a b = grind (arith, nat_tests)
-
-    cond_and_false : (b : Bool) (x y : ℕ) → y ≡ cond (b && false) x y
-    cond_and_false b x y = grind (arith, nat_tests)
 
 -- nothing else is taken
 others_stay : (m a r : Bool) (x from v : ℕ) → r ≡ (m && not (ltb x from && a)) → from ≤ v → (x ≡ v → ⊥)
@@ -138,27 +110,6 @@ AreTaken-more test u from v unreached found before rest more after t f l =
     or_false true = refl
     or_false false = refl
 
-pub AreTaken-end : (test : ℕ → Bool) (u from : ℕ) (unreached found before rest more after : List ℕ)
-    → AreTaken (λ x. ltb x from && test x) u unreached found before rest more after
-    → ((x : ℕ) → from ≤ x → (is_member x rest && test x) ≡ false)
-    → AreTaken test u unreached found before rest more after
-AreTaken-end test u from unreached found before rest more after t none = record {
-  rest_is = λ x. t.rest_is x ∙ not_same (is_member x unreached) (test x) (is_member x rest) x from (t.rest_is x) (none x);
-  more_is = λ x. t.more_is x ∙ ap (λ b. is_member x found || b) (same (is_member x unreached) (test x) (is_member x rest) x from (t.rest_is x)
-      (none x));
-  after_is = λ x. t.after_is x ∙ ap (λ b. cond b u (get_or before x 0))
-      (same (is_member x unreached) (test x) (is_member x rest) x from (t.rest_is x) (none x));
-  long = t.long;
-}
-  where
-    same : (m a r : Bool) (x from : ℕ) → r ≡ (m && not (ltb x from && a)) → (from ≤ x → (r && a) ≡ false)
-        → (m && (ltb x from && a)) ≡ (m && a)
-    same m a r x from e none = grind (arith, nat_tests)
-
-    not_same : (m a r : Bool) (x from : ℕ) → r ≡ (m && not (ltb x from && a)) → (from ≤ x → (r && a) ≡ false)
-        → (m && not (ltb x from && a)) ≡ (m && not a)
-    not_same m a r x from e none = grind (arith, nat_tests)
-
 -- ---- the vertices found last
 
 is_next-append : (arc : ℕ → ℕ → Bool) (us : List ℕ) (u v : ℕ) → is_next arc (us ++ u ∷ []) v ≡ (is_next arc us v || arc u v)
@@ -172,24 +123,6 @@ is_next-append arc (w ∷ us) u v = ap (λ b. arc w v || b) (is_next-append arc 
     or_assoc : (a b c : Bool) → (a || (b || c)) ≡ ((a || b) || c)
     or_assoc true b c = refl
     or_assoc false b c = refl
-
-pub IsRound-start : (arc : ℕ → ℕ → Bool) (unreached before : List ℕ) → IsRound arc [] unreached before unreached [] before
-IsRound-start arc unreached before = record {
-  rest_is = λ v. and_true (is_member v unreached);
-  found_is = λ v. and_false (is_member v unreached);
-  member = λ v h. absurd (false≢true h);
-  arc_from = λ v h. absurd (false≢true h);
-  kept = λ v h. refl;
-  long = refl;
-}
-  where
-    and_true : (b : Bool) → b ≡ (b && not false)
-    and_true true = refl
-    and_true false = refl
-
-    and_false : (b : Bool) → false ≡ (b && false)
-    and_false true = refl
-    and_false false = refl
 
 -- what is unreached then was unreached before
 pub AreTaken-rest : (test : ℕ → Bool) (u : ℕ) (unreached found before rest more after : List ℕ) (v : ℕ)

@@ -1,9 +1,9 @@
 use Rattle.std.proofs.Common.{◌≡◌, true, false, ap, ◌∙◌, length, get_or}
 use Rattle.std.proofs.lemmas.Bool.{le-leb, lt-leb}
 use Rattle.mat_sets.specs.Sets.{with_one}
+use Rattle.mat_sets.proofs.Filters.{filter-found, filter-passed, IsRising-found}
 use Rattle.mat_sets.proofs.Sums.{AllBelow-at}
 use Rattle.mat_count.specs.LaminarRows.{is_full}
-use Rattle.mat_count.proofs.Filters.{filter-found, filter-passed, IsRising-found}
 use Rattle.mat_count.proofs.laminar.full_places.Goals as goal
 use Rattle.mat_count.proofs.laminar.full_places.Goals.{then-numbers-i+in_ok-add, else-numbers-i}
 

@@ -1,8 +1,8 @@
 use Rattle.std.proofs.Common.{sym, ap, ◌∙◌, length, get_or}
 use Rattle.mat_sets.specs.Sets.{with_one}
+use Rattle.mat_sets.proofs.Filters.{filter-found, filter-passed, IsRising-found}
 use Rattle.mat_sets.proofs.Sums.{AllBelow-at}
 use Rattle.mat_count.specs.LaminarRows.{has_each}
-use Rattle.mat_count.proofs.Filters.{filter-found, filter-passed, IsRising-found}
 use Rattle.mat_count.proofs.laminar.members_in_each.Goals as goal
 use Rattle.mat_count.proofs.laminar.members_in_each.Goals.{then-stands_in_each+in_ok-add, else-stands_in_each}
 

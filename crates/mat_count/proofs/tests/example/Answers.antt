@@ -13,10 +13,14 @@ apart x = grind (arith, nat_tests)
 partition : (cap : ℕ) → IsPartition 4 ((0 ∷ 2 ∷ []) ∷ (1 ∷ []) ∷ []) (cap ∷ 0 ∷ [])
 partition cap = record {
   capped = refl;
-  inside = All-cons (AllBelow 4) (0 ∷ 2 ∷ []) ((1 ∷ []) ∷ []) (omega arith, (omega arith, tt)) (All-cons (AllBelow 4) (1 ∷ []) [] (omega arith, tt) (All-nil (AllBelow 4)));
+  inside =
+      All-cons (AllBelow 4) (0 ∷ 2 ∷ []) ((1 ∷ []) ∷ []) (omega arith, (omega arith, tt))
+      (All-cons (AllBelow 4) (1 ∷ []) [] (omega arith, tt) (All-nil (AllBelow 4)));
   disjoint = record { once = apart };
 }
 
 pub new-requires : goal.new-requires
 unfolding with_one
-new-requires c = rw (c.new-classes.ensures.items, c.in_ok-vec.ensures.items, c.in_ok-even.ensures, c.in_ok-one.ensures, c.in_ok-vec-2.ensures.items) (partition c.args.cap)
+new-requires c =
+    rw (c.new-classes.ensures.items, c.in_ok-vec.ensures.items, c.in_ok-even.ensures, c.in_ok-one.ensures, c.in_ok-vec-2.ensures.items)
+    (partition c.args.cap)

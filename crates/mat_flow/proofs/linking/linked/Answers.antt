@@ -1,6 +1,7 @@
 use Rattle.std.proofs.Common.{arith, subst}
+use Rattle.mat_sets.proofs.Reach.{walk_differs}
 use Rattle.mat_flow.specs.LinkTables.{IsLinkTable}
-use Rattle.mat_flow.proofs.Augmenting.{augmented, walk_differs}
+use Rattle.mat_flow.proofs.Augmenting.{augmented}
 use Rattle.mat_flow.proofs.LinkTables.{IsLinkTable-own, starts_in-most}
 use Rattle.mat_flow.proofs.linking.linked.Goals as goal
 
@@ -17,12 +18,12 @@ shift_along-requires-clause-differ c =
 pub loop-before-smaller : goal.loop-before-smaller
 loop-before-smaller c =
     let next = augmented c.args.graph.now.vertices c.args.graph.now.arcs c.args.sources.now c.args.targets.now c.loop-before.before.items
-    c.deref.result.now c.shift_along.new.before.items c.in-Walk.walk.items c.deref-in-Walk.result.now c.deref.ensures.value
+    c.deref.result.now c.shift_along.new.table.items c.in-Walk.walk.items c.deref-in-Walk.result.now c.deref.ensures.value
     c.deref-in-Walk.ensures.value c.loop-before.invariant (rw c.in-Walk.is at c.in_ok-walk.ensures) c.shift_along.ensures in
-    omega (arith, next.1, starts_in-most c.shift_along.new.before.items, c.shift_along.ensures.long)
+    omega (arith, next.1, starts_in-most c.shift_along.new.table.items, c.shift_along.ensures.long)
 
 pub loop-before-preserved : goal.loop-before-preserved
 loop-before-preserved c =
     (augmented c.args.graph.now.vertices c.args.graph.now.arcs c.args.sources.now c.args.targets.now c.loop-before.before.items
-    c.deref.result.now c.shift_along.new.before.items c.in-Walk.walk.items c.deref-in-Walk.result.now c.deref.ensures.value
+    c.deref.result.now c.shift_along.new.table.items c.in-Walk.walk.items c.deref-in-Walk.result.now c.deref.ensures.value
     c.deref-in-Walk.ensures.value c.loop-before.invariant (rw c.in-Walk.is at c.in_ok-walk.ensures) c.shift_along.ensures).0

@@ -8,8 +8,8 @@ use Rattle.mat_flow.proofs.linking.linking_of.Goals as goal
 pub frontier-requires-clause-closed : goal.frontier-requires-clause-closed
 frontier-requires-clause-closed c =
     let residual = c.args.residual.now in
-    before_reached residual.graph.now.vertices residual.graph.now.arcs residual.sources.now residual.targets.now residual.before.now c.args.reached.now
-    c.requires.reached c.requires.table.below
+    before_reached residual.graph.now.vertices residual.graph.now.arcs residual.sources.now residual.targets.now residual.before.now
+    c.args.reached.now c.requires.reached c.requires.table.below
 
 pub returns : goal.returns
 returns c =

@@ -36,5 +36,6 @@ loop-v-preserved c =
       | then-is_none+in_ok-path_from+in_ok-push w ↦ subst now (sym w.paths-is) (rw w.in_ok-push.ensures.items
           (AreTrails-push before after among i c.loop-v.paths.items w.in_ok-path_from.field-0 c.requires.reversed c.requires.rises l
           (none_of (entry_at before (get_or among i 0)) w.if-is_none.ensures) w.in_ok-path_from.ensures c.loop-v.invariant))
-      | else-is_none w ↦ subst now (sym w.paths-is) (AreTrails-skip before after among i c.loop-v.paths.items l w.if-is_none.ensures c.loop-v.invariant)
+      | else-is_none w ↦
+          subst now (sym w.paths-is) (AreTrails-skip before after among i c.loop-v.paths.items l w.if-is_none.ensures c.loop-v.invariant)
     ]

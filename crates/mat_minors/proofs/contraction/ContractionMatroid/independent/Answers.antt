@@ -27,7 +27,8 @@ returns g c =
     let rises = c.in_ok-minus.ensures.rises in
     let disjoint = disjoint_where_kept c.args.set.now c.args.self.now.away rises
     (omega (arith, c.if-len.false, c.len-2.ensures.count, c.len-3.ensures.count, ap length c.in_ok-minus.ensures.members)) in
-    let apart = contracted_apart laws _ _ contraction.set contraction.maximal c.args.set.now (record { rising = rises; below = c.requires.below }) disjoint in
+    let apart = contracted_apart laws _ _ contraction.set contraction.maximal c.args.set.now
+    (record { rising = rises; below = c.requires.below }) disjoint in
     IfOk-weaker c.independent.result (λ b. b ≡ p c.in_ok-joined.joined)
     (λ b. b ≡ is_contracted (g.M.Matroid.ground_size c.args.self.now.inner) c.args.self.now.away p c.args.set.now)
     (λ b told. told ∙ ap p c.in_ok-joined.ensures ∙ sym apart) c.independent.ensures

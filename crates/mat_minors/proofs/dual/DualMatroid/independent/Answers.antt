@@ -10,16 +10,19 @@ use Rattle.mat_minors.proofs.dual.DualMatroid.independent.Goals as goal
 pub grown_base-requires-clause-below : goal.grown_base-requires-clause-below
 grown_base-requires-clause-below g c =
     let n = g.M.Matroid.ground_size c.args.self.now.inner in
-    let outside = c.in_ok-outside.ensures.members ∙ ap (λ E. minus E c.args.set.now) (c.in_ok-all_below.ensures.members ∙ ap all_below c.size.ensures) in
+    let outside = c.in_ok-outside.ensures.members
+    ∙ ap (λ E. minus E c.args.set.now) (c.in_ok-all_below.ensures.members ∙ ap all_below c.size.ensures) in
     subst (AllBelow n) (sym outside) (IsSet-minus n (all_below n) c.args.set.now (IsSet-all_below n)).below
 
 pub loop-x-init : goal.loop-x-init
 loop-x-init g c =
-    let outside = c.in_ok-outside.ensures.members ∙ ap (λ E. minus E c.args.set.now) (c.in_ok-all_below.ensures.members ∙ ap all_below c.size.ensures) in
+    let outside = c.in_ok-outside.ensures.members
+    ∙ ap (λ E. minus E c.args.set.now) (c.in_ok-all_below.ensures.members ∙ ap all_below c.size.ensures) in
     IsRefusing-start _ _ _ _ _ _ _ c.new-none.ensures.members outside c.in_ok-base.ensures.maximal
 
 pub add_if_independent-requires-clause-set : goal.add_if_independent-requires-clause-set
-add_if_independent-requires-clause-set g c = below (g.met.M.Matroid.laws c.args.self.now.inner c.requires.sound) c.loop-x.base c.loop-x.invariant.maximal.passes
+add_if_independent-requires-clause-set g c =
+    below (g.met.M.Matroid.laws c.args.self.now.inner c.requires.sound) c.loop-x.base c.loop-x.invariant.maximal.passes
 
 pub add_if_independent-requires-clause-below : goal.add_if_independent-requires-clause-below
 add_if_independent-requires-clause-below g c =
@@ -29,7 +32,8 @@ add_if_independent-requires-clause-below g c =
 
 pub returns-then-branch : goal.returns-then-branch
 returns-then-branch g c =
-    sym (dual_where_added (g.met.M.Matroid.laws c.args.self.now.inner c.requires.sound) c.args.set.now _ c.loop-x.base c.loop-x.x-index _ c.loop-x.invariant
+    let laws = g.met.M.Matroid.laws c.args.self.now.inner c.requires.sound in
+    sym (dual_where_added laws c.args.set.now _ c.loop-x.base c.loop-x.x-index _ c.loop-x.invariant
     (sym c.if-branch.true ∙ c.in_ok-add_if_independent.ensures.added))
 
 pub loop-x-preserved : goal.loop-x-preserved
@@ -42,4 +46,5 @@ loop-x-preserved g c =
 pub returns : goal.returns
 returns g c =
     sym (dual_where_refused (g.met.M.Matroid.laws c.args.self.now.inner c.requires.sound) c.args.set.now _ c.loop-x.base c.loop-x.x-index
-    (record { rising = c.as_slice-x-items.ensures.rises; below = c.requires.below }) c.as_slice-x-items.ensures.items c.loop-x-test.false c.loop-x.invariant)
+    (record { rising = c.as_slice-x-items.ensures.rises; below = c.requires.below })
+    c.as_slice-x-items.ensures.items c.loop-x-test.false c.loop-x.invariant)

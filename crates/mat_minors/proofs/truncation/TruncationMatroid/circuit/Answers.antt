@@ -10,7 +10,8 @@ returns-clause-row g c =
     c.requires.base c.requires.outside
     c.in_ok-inner.ensures.row
     (elim c.if-inner.branch [
-      | then-inner w ↦ w.result-is ∙ ap (λ k. ltb k cap) w.len.ensures.count ∙ ap (λ b. b && ltb (length c.args.base.now) cap) (sym w.if-inner.true)
+      | then-inner w ↦
+          w.result-is ∙ ap (λ k. ltb k cap) w.len.ensures.count ∙ ap (λ b. b && ltb (length c.args.base.now) cap) (sym w.if-inner.true)
       | else-inner w ↦ w.result-is ∙ w.if-inner.false ∙ ap (λ b. b && ltb (length c.args.base.now) cap) (sym w.if-inner.false)
     ])
     refl

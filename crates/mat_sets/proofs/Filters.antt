@@ -1,10 +1,11 @@
--- Filters of a list: by a test that each item passes, and collected item by item in rising order.
-use Rattle.std.proofs.Common.{◌≡◌, ℕ, ◌+◌, ◌<◌, Bool, true, false, ◌&&◌, ◌||◌, cond, eqb, List, [], ◌∷◌, length, get_or, take, refl, sym, ap, ◌∙◌, inl, inr, append-nil}
-use Rattle.std.proofs.lemmas.Bool.{cases_eq, both_ways, ne_eqb, or_right}
+-- Filters of a list: by a test that each item passes, or none; collected item by item in rising order; and over a union of two sets.
+use Rattle.std.proofs.Common.{◌≡◌, ℕ, ◌+◌, ◌<◌, Bool, true, false, ◌&&◌, ◌||◌, eqb, List, [], ◌∷◌, length, get_or, take, refl, sym, ap, ◌∙◌, inl, inr, append-nil, not, arith}
+use Rattle.std.proofs.lemmas.Bool.{cases_eq, both_ways, ne_eqb, or_right, and_parts}
 use Rattle.std.proofs.lemmas.List.Elements.{filter_more}
 use Rattle.std.specs.List.{filter}
-use Rattle.mat_sets.specs.Sets.{is_member, IsRising, with_one}
-use Rattle.mat_sets.proofs.Members.{same_members, is_member-head, is_member-filter, is_member-with_one, RisesFrom-filter, IsRising-with_one}
+use Rattle.mat_sets.specs.Sets.{is_member, IsRising, minus, union, with_one}
+use Rattle.mat_sets.proofs.DisjointSets.{no_members}
+use Rattle.mat_sets.proofs.Members.{same_members, is_member-head, is_member-filter, is_member-with_one, RisesFrom-filter, IsRising-with_one, is_member-minus, is_member-union, IsRising-minus, IsRising-union}
 use Rattle.mat_sets.proofs.Steps.{IsRising-take, is_member-take_more}
 
 -- a test that each item passes keeps them all
@@ -13,10 +14,14 @@ filter_whole p [] h = refl
 filter_whole p (x ∷ xs) h =
     rw (h x (is_member-head x xs)) (ap (λ t. x ∷ t) (filter_whole p xs (λ y m. h y (or_right (eqb y x) (is_member y xs) m))))
 
--- ---- item by item
+-- a test that no item passes keeps none
+pub filter_none : (p : ℕ → Bool) (xs : List ℕ) → ((y : ℕ) → p y ≡ false) → filter p xs ≡ []
+filter_none p xs fails = no_members _ (λ y m. both_ways _ (fails y) (and_parts (is_member y xs) (p y) (sym (is_member-filter p y xs) ∙ m)).1)
 
 pub IsRising-filter : (p : ℕ → Bool) (xs : List ℕ) → IsRising xs → IsRising (filter p xs)
 IsRising-filter p xs r = record { rises = RisesFrom-filter p 0 xs r.rises }
+
+-- ---- item by item
 
 -- those found before a place rise
 pub IsRising-found : (p : ℕ → Bool) (xs found : List ℕ) (i : ℕ) → IsRising xs → found ≡ filter p (take i xs) → IsRising found
@@ -51,3 +56,20 @@ filter-found p xs i r l passes =
 pub filter-passed : (p : ℕ → Bool) (xs : List ℕ) (i : ℕ) → i < length xs → p (get_or xs i 0) ≡ false
     → filter p (take i xs) ≡ filter p (take (i + 1) xs)
 filter-passed p xs i l fails = sym (filter_more p xs i 0 l ∙ rw fails (append-nil (filter p (take i xs))))
+
+-- ---- two sets
+
+-- a filter over two sets, the second of which is left out again
+pub filter_first : (f h : ℕ → Bool) (X B : List ℕ) → IsRising X → IsRising B → ((y : ℕ) → is_member y X ≡ true → is_member y B ≡ false)
+    → ((y : ℕ) → is_member y X ≡ true → f y ≡ h y) → minus (filter f (union X B)) B ≡ filter h X
+filter_first f h X B r s apart agree =
+    same_members _ _ (IsRising-minus _ B (IsRising-filter f (union X B) (IsRising-union X B s))) (IsRising-filter h X r) (λ y.
+    is_member-minus y (filter f (union X B)) B
+    ∙ ap (λ b. b && not (is_member y B)) (is_member-filter f y (union X B) ∙ ap (λ b. b && f y) (is_member-union y X B))
+    ∙ sides (is_member y X) (is_member y B) (f y) (h y) (apart y) (agree y) ∙ sym (is_member-filter h y X))
+  where
+    sides : (a b c d : Bool) → (a ≡ true → b ≡ false) → (a ≡ true → c ≡ d) → (((a || b) && c) && not b) ≡ (a && d)
+    sides true b c d out e = let o = out refl in let k = e refl in grind arith
+    sides false true true d out e = refl
+    sides false true false d out e = refl
+    sides false false c d out e = refl

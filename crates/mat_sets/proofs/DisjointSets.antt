@@ -1,9 +1,9 @@
 -- Members of a difference; what it means that a difference or an intersection of two sets is empty; and unions of disjoint sets.
-use Rattle.std.proofs.Common.{◌≡◌, ℕ, ◌+◌, ◌<◌, Bool, true, false, not, ◌&&◌, eqb, List, [], ◌∷◌, length, inl, inr, refl, sym, ap, ◌∙◌, arith}
-use Rattle.std.proofs.lemmas.Bool.{cases_Bool, or_cases, and_parts, and_from, eqb-true, eq-eqb, false≢true, both_ways, false_from_ne_true, not-true}
+use Rattle.std.proofs.Common.{◌≡◌, ℕ, ◌+◌, ◌<◌, true, false, not, eqb, List, [], ◌∷◌, length, inl, inr, refl, sym, ap, ◌∙◌, arith}
+use Rattle.std.proofs.lemmas.Bool.{cases_Bool, or_cases, and_parts, and_from, eqb-true, eq-eqb, false≢true, both_ways, false_from_ne_true, not-true, cases_eq, ne_eqb}
 use Rattle.std.proofs.lemmas.List.{nil_from_length}
-use Rattle.mat_sets.specs.Sets.{is_member, IsRising, IsSubset, with_one, minus, intersection, union}
-use Rattle.mat_sets.proofs.Members.{set_members, same_members, is_member-with_one, is_member-head, is_member-minus, is_member-intersection, is_member-union, IsRising-nil, IsRising-with_one, IsRising-union, IsRising-minus, IsRising-intersection}
+use Rattle.mat_sets.specs.Sets.{is_member, IsRising, IsSubset, with_one, minus, intersection, union, without_one}
+use Rattle.mat_sets.proofs.Members.{set_members, same_members, is_member-with_one, is_member-head, is_member-minus, is_member-intersection, is_member-union, IsRising-nil, IsRising-with_one, IsRising-union, IsRising-minus, IsRising-intersection, IsRising-without_one}
 use Rattle.mat_sets.proofs.Subsets.{length-subset, union-IsSubset}
 use Rattle.mat_sets.proofs.Cardinalities.{length-union_apart, length-minus-intersection}
 use Rattle.mat_sets.proofs.Equalities.{intersection-commute}
@@ -14,8 +14,11 @@ no_members [] none = refl
 no_members (x ∷ xs) none = absurd (none x (is_member-head x xs))
 
 -- a list whose length is 0 has no members
+pub no_member : (xs : List ℕ) (x : ℕ) → length xs ≡ 0 → is_member x xs ≡ false
+no_member xs x empty = ap (is_member x) (nil_from_length xs empty)
+
 pub none_in : (xs : List ℕ) (x : ℕ) → eqb (length xs) 0 ≡ true → is_member x xs ≡ true → ⊥
-none_in xs x h m = false≢true (sym (ap (is_member x) (nil_from_length xs (eqb-true (length xs) 0 h))) ∙ m)
+none_in xs x h m = both_ways _ (no_member xs x (eqb-true (length xs) 0 h)) m
 
 -- the members of a difference
 pub minus_parts : (X Y : List ℕ) (x : ℕ) → is_member x (minus X Y) ≡ true → (is_member x X ≡ true) × (is_member x Y ≡ false)
@@ -23,11 +26,6 @@ minus_parts X Y x m = let both = and_parts (is_member x X) (not (is_member x Y))
 
 pub minus_from : (X Y : List ℕ) (x : ℕ) → is_member x X ≡ true → is_member x Y ≡ false → is_member x (minus X Y) ≡ true
 minus_from X Y x m out = is_member-minus x X Y ∙ and_from (is_member x X) (not (is_member x Y)) m (ap not out)
-
--- a condition counts only where the one before it holds
-pub and_when : (a b c : Bool) → (a ≡ true → b ≡ c) → (a && b) ≡ (a && c)
-and_when true b c e = e refl
-and_when false b c e = refl
 
 -- disjoint sets share no member
 pub apart_at : (X Y : List ℕ) → intersection X Y ≡ [] → (x : ℕ) → is_member x X ≡ true → is_member x Y ≡ false
@@ -67,9 +65,24 @@ length-union_list X B r apart =
     listed : (x : ℕ) (X : List ℕ) → is_member x (union X []) ≡ true → is_member x X ≡ true
     listed x X m = elim (or_cases (is_member x X) false (sym (is_member-union x X []) ∙ m)) [ inl a ↦ a | inr a ↦ absurd (false≢true a) ]
 
+-- what was put in is a member
+pub with_one-holds : (a : List ℕ) (x : ℕ) → is_member x (with_one a x) ≡ true
+with_one-holds a x = grind (arith, set_members)
+
 -- one more element in the first set
 pub union-with_one_left : (a b : List ℕ) (x : ℕ) → IsRising b → union (with_one a x) b ≡ with_one (union a b) x
 union-with_one_left a b x s = same_members _ _ (IsRising-union (with_one a x) b s) (IsRising-with_one _ x (IsRising-union a b s)) (λ k. grind (arith, set_members))
+
+-- a member less of the first set
+pub without_one-union : (X B : List ℕ) (y : ℕ) → IsRising B → is_member y B ≡ false → union (without_one X y) B ≡ without_one (union X B) y
+without_one-union X B y r out =
+    same_members _ _ (IsRising-union (without_one X y) B r) (IsRising-without_one (union X B) y (IsRising-union X B r)) (λ k. members k)
+  where
+    members : (k : ℕ) → is_member k (union (without_one X y) B) ≡ is_member k (without_one (union X B) y)
+    members k = elim (cases_eq k y) [
+      | inl same ↦ (let b : is_member k B ≡ false = ap (λ z. is_member z B) same ∙ out in grind (arith, set_members))
+      | inr other ↦ (let e = ne_eqb k y other in grind (arith, set_members))
+    ]
 
 -- where C is disjoint from J, and J has more elements than I, what holds the members of C and of J outside I has more than C: those of C
 -- that are left out lie in I and outside J, and these are fewer than those of J outside I

@@ -1,6 +1,6 @@
 -- Parts of lists: a list split at a member; lists without repetition that are joined, cut, or turned round.
 use Rattle.std.proofs.Common.{◌≡◌, ℕ, suc, ◌<◌, ◌≢◌, Bool, true, false, ◌||◌, eqb, List, [], ◌∷◌, ◌++◌, length, get_or, reverse, inl, inr, refl, sym, ap, ◌∙◌, arith}
-use Rattle.std.proofs.lemmas.Bool.{both_ways, cases_Bool, eqb-true, false_from_ne_true, false≢true, or_cases, or_from, or_left, or_parts, or_right}
+use Rattle.std.proofs.lemmas.Bool.{both_ways, cases_Bool, cases_eq, cases_lt, eqb-true, false_from_ne_true, false≢true, or_cases, or_from, or_left, or_parts, or_right}
 use Rattle.std.proofs.lemmas.List.{reverse-append}
 use Rattle.mat_sets.specs.Sets.{is_member, AreDistinct}
 use Rattle.mat_sets.proofs.Members.{is_member-append, is_member-head, is_member-nowhere}
@@ -18,6 +18,15 @@ is_member-right x xs ys m = is_member-append x xs ys ∙ or_right (is_member x x
 
 pub is_member-middle : (x : ℕ) (xs ys : List ℕ) → is_member x (xs ++ x ∷ ys) ≡ true
 is_member-middle x xs ys = is_member-right x xs (x ∷ ys) (is_member-head x ys)
+
+-- one item more at the end
+pub is_member-push : (x v : ℕ) (xs : List ℕ) → is_member x (xs ++ v ∷ []) ≡ (is_member x xs || eqb x v)
+is_member-push x v xs = is_member-append x xs (v ∷ []) ∙ or_none (is_member x xs) (eqb x v)
+  where
+    or_none : (a b : Bool) → (a || (b || false)) ≡ (a || b)
+    or_none true b = refl
+    or_none false true = refl
+    or_none false false = refl
 
 -- what is no member differs from a member
 pub members_differ : (x y : ℕ) (xs : List ℕ) → is_member x xs ≡ false → is_member y xs ≡ true → eqb x y ≡ false
@@ -75,6 +84,17 @@ AreDistinct-index (x ∷ xs) differ = (
   is_member-nowhere xs x (λ k l same. differ 0 (suc k) (omega arith) (omega arith) (sym same)),
   AreDistinct-index xs (λ i j l h. differ (suc i) (suc j) (omega arith) (omega arith)),
 )
+
+-- where items at different places differ, one item stands at one place
+pub same_place : (xs : List ℕ) → ((i j : ℕ) → i < j → j < length xs → get_or xs i 0 ≢ get_or xs j 0) → (i j : ℕ) → i < length xs
+    → j < length xs → get_or xs i 0 ≡ get_or xs j 0 → i ≡ j
+same_place xs differ i j il jl e = elim (cases_eq i j) [
+  | inl same ↦ same
+  | inr d ↦ elim (cases_lt i j) [
+    | inl l ↦ absurd (differ i j l jl e)
+    | inr l ↦ absurd (differ j i (omega arith) il (sym e))
+  ]
+]
 
 -- ---- a list turned round
 

@@ -2,8 +2,8 @@
 use Rattle.std.proofs.Common.{◌≡◌, ℕ, true, eqb, List, [], ◌∷◌, map, inl, inr, sym, ap, ◌∙◌}
 use Rattle.std.proofs.lemmas.Bool.{both_ways, eq-eqb, eqb-true, false_from_ne_true, false≢true, or_cases, or_left, or_right}
 use Rattle.mat_sets.specs.Sets.{is_member, AreDistinct}
+use Rattle.mat_sets.proofs.ListParts.{is_member-tail}
 use Rattle.mat_sets.proofs.Members.{is_member-head}
-use Rattle.mat_flow.specs.ListParts.{is_member-tail}
 
 pub is_member-map : (f : ℕ → ℕ) (xs : List ℕ) (x : ℕ) → is_member x xs ≡ true → is_member (f x) (map f xs) ≡ true
 is_member-map f [] x m = absurd (false≢true m)

@@ -4,8 +4,8 @@ use Rattle.std.proofs.lemmas.Bool.{cases_Bool, false_from_ne_true, false≢true,
 use Rattle.std.specs.List.{concat}
 use Rattle.mat_sets.specs.Families.{AreDisjoint, indicator, multiplicity}
 use Rattle.mat_sets.specs.Sets.{is_member, AreDistinct}
+use Rattle.mat_sets.proofs.ListParts.{AreDistinct-apart, AreDistinct-rest}
 use Rattle.mat_sets.proofs.Members.{is_member-append}
-use Rattle.mat_flow.specs.ListParts.{AreDistinct-apart, AreDistinct-rest}
 
 -- a member of one of the lists counts
 multiplicity-concat : (v : ℕ) (lists : List (List ℕ)) → is_member v (concat lists) ≡ true → 0 < multiplicity v lists
