@@ -35,6 +35,26 @@ struct ColouredEdge {
     weight: i128,
 }
 
+/// Pairs of numbers, each with a weight.
+#[derive(Drop)]
+pub(crate) struct WeightedPairs {
+    /// The pairs.
+    pub(crate) pairs: Pairs,
+    /// The weight of each.
+    pub(crate) weights: Weights,
+}
+
+/// Edges, each with a colour and a weight.
+#[derive(Drop)]
+pub(crate) struct ColouredEdges {
+    /// The ends of each.
+    pub(crate) edges: Pairs,
+    /// The colour of each.
+    pub(crate) colour_of: Vec<u32>,
+    /// The weight of each.
+    pub(crate) weights: Weights,
+}
+
 /// Two numbers, one below each bound.
 #[tactic(auto, unfolding(crate::specs::Reading::ends_at))]
 fn next_ends<'a>(
@@ -170,10 +190,10 @@ pub(crate) fn weighted_lines<'a>(
     second_bound: u32,
     many: u32,
     lines: Lines<'a>,
-) -> Result<(Pairs, Weights, Lines<'a>), DescRefusal>
-    ensures value { Gives (λ x. (zip x.0 x.1, lines_left x.2)) result
+) -> Result<(WeightedPairs, Lines<'a>), DescRefusal>
+    ensures value { Gives (λ x. (zip x.0.pairs x.0.weights, lines_left x.1)) result
         (repeat_at (weighted_at key.now first_bound second_bound) many (lines_left lines.entry)) }
-    ensures as_many { IfOk result (λ x. length x.1 ≡ length x.0) }
+    ensures as_many { IfOk result (λ x. length x.0.weights ≡ length x.0.pairs) }
 {
     let mut pairs = Vec::new(alloc);
     let mut weights = Vec::new(alloc);
@@ -184,7 +204,11 @@ pub(crate) fn weighted_lines<'a>(
         weights.push(item.weight)?;
         rest = after;
     }
-    Ok((Pairs::new(pairs), Weights::new(weights), rest))
+    let items = WeightedPairs {
+        pairs: Pairs::new(pairs),
+        weights: Weights::new(weights),
+    };
+    Ok((items, rest))
 }
 
 /// As many edge lines with a colour and a weight.
@@ -194,11 +218,11 @@ pub(crate) fn coloured_edge_lines<'a>(
     colours: u32,
     many: u32,
     lines: Lines<'a>,
-) -> Result<(Pairs, Vec<u32>, Weights, Lines<'a>), DescRefusal>
-    ensures value { Gives (λ x. (zip x.0 (zip x.1.items x.2), lines_left x.3)) result
+) -> Result<(ColouredEdges, Lines<'a>), DescRefusal>
+    ensures value { Gives (λ x. (zip x.0.edges (zip x.0.colour_of.items x.0.weights), lines_left x.1)) result
         (repeat_at (coloured_edge_at vertices colours) many (lines_left lines.entry)) }
-    ensures coloured { IfOk result (λ x. length x.1.items ≡ length x.0) }
-    ensures as_many { IfOk result (λ x. length x.2 ≡ length x.0) }
+    ensures coloured { IfOk result (λ x. length x.0.colour_of.items ≡ length x.0.edges) }
+    ensures as_many { IfOk result (λ x. length x.0.weights ≡ length x.0.edges) }
 {
     let mut edges = Vec::new(alloc);
     let mut colour_of = Vec::new(alloc);
@@ -211,5 +235,10 @@ pub(crate) fn coloured_edge_lines<'a>(
         weights.push(edge.weight)?;
         rest = after;
     }
-    Ok((Pairs::new(edges), colour_of, Weights::new(weights), rest))
+    let items = ColouredEdges {
+        edges: Pairs::new(edges),
+        colour_of,
+        weights: Weights::new(weights),
+    };
+    Ok((items, rest))
 }

@@ -194,12 +194,12 @@ fn rooted<'a>(
     let (many, words) = next_size(words, 0, MOST_ELEMENTS)?;
     let (root, words) = next_below(words, vertices)?;
     ended(words)?;
-    let (arcs, costs, lines) = weighted_lines(alloc, b"arc", vertices, vertices, many, lines)?;
+    let (items, lines) = weighted_lines(alloc, b"arc", vertices, vertices, many, lines)?;
     let problem = Problem::Rooted {
         vertices,
         root,
-        arcs,
-        costs,
+        arcs: items.pairs,
+        costs: items.weights,
     };
     Ok((problem, lines))
 }
@@ -218,15 +218,13 @@ fn coloured<'a>(
     let (many, words) = next_size(words, 0, MOST_ELEMENTS)?;
     let (colours, words) = next_size(words, 0, MOST_SETS)?;
     ended(words)?;
-    let (edges, colour_of, weights, lines) = coloured_edge_lines(
-        alloc, vertices, colours, many, lines,
-    )?;
+    let (items, lines) = coloured_edge_lines(alloc, vertices, colours, many, lines)?;
     let problem = Problem::Coloured {
         vertices,
         colours,
-        edges,
-        colour_of,
-        weights,
+        edges: items.edges,
+        colour_of: items.colour_of,
+        weights: items.weights,
     };
     Ok((problem, lines))
 }
@@ -245,12 +243,12 @@ fn table<'a>(
     let (columns, words) = next_size(words, 0, MOST_SETS)?;
     let (many, words) = next_size(words, 0, MOST_ELEMENTS)?;
     ended(words)?;
-    let (cells, weights, lines) = weighted_lines(alloc, b"cell", rows, columns, many, lines)?;
+    let (items, lines) = weighted_lines(alloc, b"cell", rows, columns, many, lines)?;
     let problem = Problem::Table {
         rows,
         columns,
-        cells,
-        weights,
+        cells: items.pairs,
+        weights: items.weights,
     };
     Ok((problem, lines))
 }

@@ -6,14 +6,15 @@ use Rattle.mat_desc.proofs.problem.coloured.Goals as goal
 pub returns : goal.returns
 unfolding coloured_at
 returns c =
-    let read = c.in_ok-edges in
+    let items = c.in_ok-items.items in
+    let read = c.in_ok-items.ensures in
     rw (
       c.in_ok-vertices.ensures.value,
       c.in_ok-many.ensures.value,
       c.in_ok-colours.ensures.value,
       c.in_ok-ended.ensures,
-      read.ensures.value,
-      edges-zip read.edges read.colour_of.items read.weights read.ensures.coloured read.ensures.as_many,
-      colours-zip read.edges read.colour_of.items read.weights read.ensures.coloured read.ensures.as_many,
-      weights-zip read.edges read.colour_of.items read.weights read.ensures.coloured read.ensures.as_many,
+      read.value,
+      edges-zip items.edges items.colour_of.items items.weights read.coloured read.as_many,
+      colours-zip items.edges items.colour_of.items items.weights read.coloured read.as_many,
+      weights-zip items.edges items.colour_of.items items.weights read.coloured read.as_many,
     ) refl
