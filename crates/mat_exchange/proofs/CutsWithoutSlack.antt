@@ -1,10 +1,13 @@
 -- Where a set R has no slack, nothing leads out of it: no addition outside R in the first matroid, none inside R in the second, and no
 -- exchange across. For where something can be added there is a heaviest such element, and with it a slack. So R is a cut.
-use Rattle.std.proofs.Common.{◌≡◌, ℕ, suc, zero, ◌<◌, Bool, true, false, List, length, ℤ, ◌-ℤ◌, ◌≤ℤ◌, ◌⊎◌, inl, inr, refl, sym, ap, ◌∙◌, subst, arith}
+use Rattle.std.proofs.Common.{◌≡◌, ℕ, suc, zero, ◌<◌, Bool, true, false, List, length, ◌⊎◌, inl, inr, refl, sym, ap, ◌∙◌, subst, arith}
 use Rattle.std.proofs.lemmas.Bool.{cases_Bool, cases_eq, ltb-true, both_ways, false_from_ne_true}
-use Rattle.std.proofs.lemmas.Int.{ints, by_lt_z}
+use Rattle.std.proofs.lemmas.Int.{ints}
 use Rattle.mat_sets.specs.Sets.{is_member, IsSet, with_one, without_one, all_below}
 use Rattle.mat_sets.proofs.Ground.{below_member, IsRising-all_below, IsSubset-all_below, is_member-all_below}
+use Rattle.mat_sets.specs.Weights.{◌⊖◌, ◌≼◌}
+use Rattle.mat_sets.specs.declared.weight.Weight.{Weight}
+use Rattle.mat_sets.proofs.WeightOrder.{pairs, by_below}
 use Rattle.mat_laws.specs.Matroids.{IsMatroid}
 use Rattle.mat_laws.specs.TightPaths.{Exchanges, exchanges_at, is_heaviest_addable}
 use Rattle.mat_laws.specs.Slacks.{IsSlack}
@@ -16,13 +19,13 @@ use Rattle.mat_exchange.proofs.TightArcs.{addable_from, exchangeable_from, heavi
 -- ---- a heaviest addable element
 
 -- the heaviest of the addable elements below m
-record IsHeaviestBelow (m : ℕ) (exchanges : Exchanges) (w : ℕ → ℤ) (top : ℕ) : Type 0 where
+record IsHeaviestBelow (m : ℕ) (exchanges : Exchanges) (w : ℕ → Weight) (top : ℕ) : Type 0 where
   below : top < m
   adds : exchanges.adds top ≡ true
-  most : (e : ℕ) → e < m → exchanges.adds e ≡ true → w e ≤ℤ w top
+  most : (e : ℕ) → e < m → exchanges.adds e ≡ true → w e ≼ w top
 
 -- one number more, which can't be added
-not_the_next : (m : ℕ) (exchanges : Exchanges) (w : ℕ → ℤ) (top : ℕ) → exchanges.adds m ≡ false → IsHeaviestBelow m exchanges w top
+not_the_next : (m : ℕ) (exchanges : Exchanges) (w : ℕ → Weight) (top : ℕ) → exchanges.adds m ≡ false → IsHeaviestBelow m exchanges w top
     → IsHeaviestBelow (suc m) exchanges w top
 not_the_next m exchanges w top out h = record {
   below = (let l = h.below in omega arith);
@@ -34,30 +37,30 @@ not_the_next m exchanges w top out h = record {
 }
 
 -- one number more, which weighs no more
-still_heaviest : (m : ℕ) (exchanges : Exchanges) (w : ℕ → ℤ) (top : ℕ) → w m ≤ℤ w top → IsHeaviestBelow m exchanges w top
+still_heaviest : (m : ℕ) (exchanges : Exchanges) (w : ℕ → Weight) (top : ℕ) → w m ≼ w top → IsHeaviestBelow m exchanges w top
     → IsHeaviestBelow (suc m) exchanges w top
 still_heaviest m exchanges w top le h = record {
   below = (let l = h.below in omega arith);
   adds = h.adds;
   most = λ e l a. elim (cases_eq e m) [
-    | inl same ↦ subst (λ z. w z ≤ℤ w top) (sym same) le
+    | inl same ↦ subst (λ z. w z ≼ w top) (sym same) le
     | inr other ↦ h.most e (omega arith) a
   ];
 }
 
 -- one number more, which can be added, and no addable element before it weighs more
-next_heaviest : (m : ℕ) (exchanges : Exchanges) (w : ℕ → ℤ) → exchanges.adds m ≡ true
-    → ((e : ℕ) → e < m → exchanges.adds e ≡ true → w e ≤ℤ w m) → IsHeaviestBelow (suc m) exchanges w m
+next_heaviest : (m : ℕ) (exchanges : Exchanges) (w : ℕ → Weight) → exchanges.adds m ≡ true
+    → ((e : ℕ) → e < m → exchanges.adds e ≡ true → w e ≼ w m) → IsHeaviestBelow (suc m) exchanges w m
 next_heaviest m exchanges w a before = record {
   below = omega arith;
   adds = a;
   most = λ e l k. elim (cases_eq e m) [
-    | inl same ↦ subst (λ z. w z ≤ℤ w m) (sym same) (omega (arith, ints))
+    | inl same ↦ subst (λ z. w z ≼ w m) (sym same) (omega (arith, ints, pairs))
     | inr other ↦ before e (omega arith) k
   ];
 }
 
-heaviest_below : (m : ℕ) (exchanges : Exchanges) (w : ℕ → ℤ)
+heaviest_below : (m : ℕ) (exchanges : Exchanges) (w : ℕ → Weight)
     → ((top : ℕ) × IsHeaviestBelow m exchanges w top) ⊎ ((e : ℕ) → e < m → exchanges.adds e ≡ false)
 heaviest_below zero exchanges w = inr (λ e l. absurd (omega arith))
 heaviest_below (suc m) exchanges w = elim (cases_Bool (exchanges.adds m)) [
@@ -67,14 +70,14 @@ heaviest_below (suc m) exchanges w = elim (cases_Bool (exchanges.adds m)) [
   ]
   | inl a ↦ elim (heaviest_below m exchanges w) [
     | inr none ↦ inl (m, next_heaviest m exchanges w a (λ e l k. absurd (both_ways _ (none e l) k)))
-    | inl t ↦ by_lt_z (w t.0) (w m)
-        (λ more. inl (m, next_heaviest m exchanges w a (λ e l k. (let most = t.1.most e l k in omega (arith, ints)))))
+    | inl t ↦ by_below (w t.0) (w m)
+        (λ more. inl (m, next_heaviest m exchanges w a (λ e l k. (let most = t.1.most e l k in omega (arith, ints, pairs)))))
         (λ le. inl (t.0, still_heaviest m exchanges w t.0 le t.1))
   ]
 ]
 
 -- where something can be added, there is a heaviest addable element
-pub some_heaviest_addable : (n : ℕ) (exchanges : Exchanges) (w : ℕ → ℤ) (x : ℕ) → x < n → exchanges.adds x ≡ true
+pub some_heaviest_addable : (n : ℕ) (exchanges : Exchanges) (w : ℕ → Weight) (x : ℕ) → x < n → exchanges.adds x ≡ true
     → (top : ℕ) × (top < n) × (is_heaviest_addable n exchanges w top ≡ true)
 some_heaviest_addable n exchanges w x l a = elim (heaviest_below n exchanges w) [
   | inl t ↦ (t.0, t.1.below, heaviest_addable_from n exchanges w t.0 t.1.adds t.1.most)
@@ -83,31 +86,31 @@ some_heaviest_addable n exchanges w x l a = elim (heaviest_below n exchanges w) 
 
 -- ---- the cut
 
-module _ {n : ℕ} {p q : List ℕ → Bool} (lp : IsMatroid n p) (lq : IsMatroid n q) (w1 w2 : ℕ → ℤ) (I R : List ℕ)
+module _ {n : ℕ} {p q : List ℕ → Bool} (lp : IsMatroid n p) (lq : IsMatroid n q) (w1 w2 : ℕ → Weight) (I R : List ℕ)
     (p_passes : p I ≡ true) (q_passes : q I ≡ true) (set : IsSet n R)
-    (none : (d : ℤ) → IsSlack n (exchanges_at p I) (exchanges_at q I) w1 w2 R d → ⊥) where
+    (none : (d : Weight) → IsSlack n (exchanges_at p I) (exchanges_at q I) w1 w2 R d → ⊥) where
   no_first_addition : (x : ℕ) → x < n → is_member x I ≡ false → is_member x R ≡ false → p (with_one I x) ≡ false
   no_first_addition x l o out = false_from_ne_true _ (λ ok.
       let a = addable_from p I x o ok in
       let t = some_heaviest_addable n (exchanges_at p I) w1 x l a in
-      none (w1 t.0 -ℤ w1 x) (first_addition t.0 x t.1 l t.2 a out refl))
+      none (w1 t.0 ⊖ w1 x) (first_addition t.0 x t.1 l t.2 a out refl))
 
   no_second_addition : (x : ℕ) → is_member x I ≡ false → is_member x R ≡ true → q (with_one I x) ≡ false
   no_second_addition x o m = false_from_ne_true _ (λ ok.
       let a = addable_from q I x o ok in
       let t = some_heaviest_addable n (exchanges_at q I) w2 x (below_member set m) a in
-      none (w2 t.0 -ℤ w2 x) (second_addition t.0 x t.1 (below_member set m) t.2 a m refl))
+      none (w2 t.0 ⊖ w2 x) (second_addition t.0 x t.1 (below_member set m) t.2 a m refl))
 
   no_first_exchange : (x y : ℕ) → x < n → is_member x I ≡ false → is_member x R ≡ false → is_member y I ≡ true
       → is_member y R ≡ true → p (with_one (without_one I y) x) ≡ false
   no_first_exchange x y l o out i m =
-      false_from_ne_true _ (λ ok. none (w1 y -ℤ w1 x) (first_exchange y x (below_member set m) l (exchangeable_from p I y x i o ok) m out refl))
+      false_from_ne_true _ (λ ok. none (w1 y ⊖ w1 x) (first_exchange y x (below_member set m) l (exchangeable_from p I y x i o ok) m out refl))
 
   no_second_exchange : (x y : ℕ) → is_member x I ≡ false → is_member x R ≡ true → is_member y I ≡ true → is_member y R ≡ false
       → q (with_one (without_one I y) x) ≡ false
   no_second_exchange x y o m i out = false_from_ne_true _ (λ ok.
       let l = below_member (lp.sets I p_passes) i in
-      none (w2 y -ℤ w2 x) (second_exchange x y (below_member set m) l (exchangeable_from q I y x i o ok) m out refl))
+      none (w2 y ⊖ w2 x) (second_exchange x y (below_member set m) l (exchangeable_from q I y x i o ok) m out refl))
 
   -- a set without a slack is a cut of the size of I
   pub cut_without_slack : IsCut n p q (length I) R

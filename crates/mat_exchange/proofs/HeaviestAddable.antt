@@ -1,83 +1,73 @@
 -- The greatest weight of the elements that pass a test: found by going through them in rising order, and with it whether an element
 -- is a heaviest one that can be added.
-use Rattle.std.proofs.Common.{◌≡◌, ℕ, suc, ◌<◌, ◌≤◌, Bool, true, false, ◌&&◌, cond, List, [], length, Option, Some, None, MatchOption, ℤ, ◌≤ℤ◌, ◌⊎◌, inl, inr, refl, sym, ap, subst, arith}
-use Rattle.std.specs.Prelude.{int_lt}
+use Rattle.std.proofs.Common.{◌≡◌, ℕ, ◌+◌, ◌<◌, ◌≤◌, Bool, true, false, ◌&&◌, cond, List, [], length, Option, Some, None, MatchOption, ◌⊎◌, inl, inr, refl, sym, ap, subst, arith}
 use Rattle.std.specs.Cmp.{both_ways as both_tests}
-use Rattle.std.specs.Ordering.{int_eq}
 use Rattle.std.proofs.lemmas.Bool.{and_from, and_parts, cases_Bool, cases_lt, cases_eq, both_ways}
-use Rattle.std.proofs.lemmas.Bool.Decides.{Decides-int_eq}
 use Rattle.std.proofs.lemmas.List.{get_or_past}
-use Rattle.std.proofs.lemmas.Int.{ints}
 use Rattle.mat_sets.specs.Search.{IsFirstFrom}
+use Rattle.mat_sets.specs.Weights.{◌≼◌, is_below, is_same}
+use Rattle.mat_sets.specs.declared.weight.Weight.{Weight}
+use Rattle.mat_sets.proofs.WeightOrder.{same_gives, same_from, at_most_both, at_most_same, at_most_trans, below_at_most, not_below_gives}
 use Rattle.mat_laws.specs.declared.exchange.Exchange.{Exchange}
 use Rattle.mat_laws.specs.TightPaths.{Exchanges, exchanges_in, is_heaviest_addable}
-use Rattle.mat_exchange.proofs.TightArcs.{heaviest_addable_gives, heaviest_addable_from, int_lt-none}
+use Rattle.mat_exchange.proofs.TightArcs.{heaviest_addable_gives, heaviest_addable_from}
 use Rattle.mat_exchange.specs.HeaviestAddable.{IsHeaviestWeight, IsHeaviestWeightOrNone, greater_of}
 
 -- ---- going through the elements
 
 -- t is the weight of an element that passes, and none before `from` that passes weighs more
-pub record IsHeaviestBefore (test : ℕ → Bool) (w : ℕ → ℤ) (from : ℕ) (t : ℤ) : Type 0 where
+pub record IsHeaviestBefore (test : ℕ → Bool) (w : ℕ → Weight) (from : ℕ) (t : Weight) : Type 0 where
   pub element : ℕ
   pub passes : test element ≡ true
   pub weighs : w element ≡ t
-  pub most : (x : ℕ) → x < from → test x ≡ true → w x ≤ℤ t
+  pub most : (x : ℕ) → x < from → test x ≡ true → w x ≼ t
 
-abbrev pub IsHeaviestBeforeOrNone : (ℕ → Bool) → (ℕ → ℤ) → ℕ → Option ℤ → Type 0
+abbrev pub IsHeaviestBeforeOrNone : (ℕ → Bool) → (ℕ → Weight) → ℕ → Option Weight → Type 0
 IsHeaviestBeforeOrNone test w from heaviest = MatchOption heaviest ((x : ℕ) → x < from → test x ≡ false) (IsHeaviestBefore test w from)
 
-pub heaviest_before_none : (test : ℕ → Bool) (w : ℕ → ℤ) → IsHeaviestBeforeOrNone test w 0 None
+pub heaviest_before_none : (test : ℕ → Bool) (w : ℕ → Weight) → IsHeaviestBeforeOrNone test w 0 None
 heaviest_before_none test w = λ x l. absurd (omega arith)
 
-int_le_same : (a b : ℤ) → a ≡ b → a ≤ℤ b
-int_le_same a b e = omega (arith, ints)
-
-pub int_le_trans : (a b c : ℤ) → a ≤ℤ b → b ≤ℤ c → a ≤ℤ c
-int_le_trans a b c h k = omega (arith, ints)
-
-pub int_lt_le : (a b : ℤ) → int_lt a b ≡ true → a ≤ℤ b
-int_lt_le a b h = grind (arith, ints)
-
 -- each that passes before v + 1 passes before `from` or is v
-passes_next : (test : ℕ → Bool) (from v x : ℕ) → IsFirstFrom test from v → x < suc v → test x ≡ true → (x < from) ⊎ (x ≡ v)
+passes_next : (test : ℕ → Bool) (from v x : ℕ) → IsFirstFrom test from v → x < v + 1 → test x ≡ true → (x < from) ⊎ (x ≡ v)
 passes_next test from v x f l p = elim (cases_lt x from) [
   | inl a ↦ inl a
   | inr a ↦ elim (cases_eq x v) [ inl e ↦ inr e | inr d ↦ absurd (both_ways _ (f.none_before x a (omega arith)) p) ]
 ]
 
-pub heaviest_before_next : (test : ℕ → Bool) (w : ℕ → ℤ) (from v : ℕ) (heaviest : Option ℤ) → IsFirstFrom test from v
-    → IsHeaviestBeforeOrNone test w from heaviest → IsHeaviestBeforeOrNone test w (suc v) (greater_of heaviest (w v))
+pub heaviest_before_next : (test : ℕ → Bool) (w : ℕ → Weight) (from v : ℕ) (heaviest : Option Weight) → IsFirstFrom test from v
+    → IsHeaviestBeforeOrNone test w from heaviest → IsHeaviestBeforeOrNone test w (v + 1) (greater_of heaviest (w v))
 heaviest_before_next test w from v None f h = record {
   element = v;
   passes = f.passes;
   weighs = refl;
   most = λ x l p. elim (passes_next test from v x f l p) [
     | inl a ↦ absurd (both_ways _ (h x a) p)
-    | inr e ↦ int_le_same (w x) (w v) (ap w e)
+    | inr e ↦ at_most_same (w x) (w v) (ap w e)
   ];
 }
-heaviest_before_next test w from v (Some t) f h = elim (cases_Bool (int_lt t (w v))) [
-  | inl more ↦ subst (λ c. IsHeaviestBefore test w (suc v) (cond c (w v) t)) (sym more) (record {
+heaviest_before_next test w from v (Some t) f h = elim (cases_Bool (is_below t (w v))) [
+  | inl more ↦ subst (λ c. IsHeaviestBefore test w (v + 1) (cond c (w v) t)) (sym more) (record {
     element = v;
     passes = f.passes;
     weighs = refl;
     most = λ x l p. elim (passes_next test from v x f l p) [
-      | inl a ↦ int_le_trans (w x) t (w v) (h.most x a p) (int_lt_le t (w v) more)
-      | inr e ↦ int_le_same (w x) (w v) (ap w e)
+      | inl a ↦ at_most_trans (w x) t (w v) (h.most x a p) (below_at_most t (w v) more)
+      | inr e ↦ at_most_same (w x) (w v) (ap w e)
     ];
   })
-  | inr less ↦ subst (λ c. IsHeaviestBefore test w (suc v) (cond c (w v) t)) (sym less) (record {
+  | inr less ↦ subst (λ c. IsHeaviestBefore test w (v + 1) (cond c (w v) t)) (sym less) (record {
     element = h.element;
     passes = h.passes;
     weighs = h.weighs;
     most = λ x l p. elim (passes_next test from v x f l p) [
       | inl a ↦ h.most x a p
-      | inr e ↦ int_le_trans (w x) (w v) t (int_le_same (w x) (w v) (ap w e)) (int_lt-none t (w v) less)
+      | inr e ↦ at_most_trans (w x) (w v) t (at_most_same (w x) (w v) (ap w e)) (not_below_gives t (w v) less)
     ];
   })
 ]
 
-pub heaviest_before_all : (test : ℕ → Bool) (w : ℕ → ℤ) (from : ℕ) (heaviest : Option ℤ) → ((x : ℕ) → from ≤ x → test x ≡ false)
+pub heaviest_before_all : (test : ℕ → Bool) (w : ℕ → Weight) (from : ℕ) (heaviest : Option Weight) → ((x : ℕ) → from ≤ x → test x ≡ false)
     → IsHeaviestBeforeOrNone test w from heaviest → IsHeaviestWeightOrNone test w heaviest
 heaviest_before_all test w from None past h = λ x. elim (cases_lt x from) [ inl l ↦ h x l | inr g ↦ past x g ]
 heaviest_before_all test w from (Some t) past h = record {
@@ -96,20 +86,17 @@ addable_below rows x a = elim (cases_lt x (length rows)) [
   | inr g ↦ absurd (both_ways _ (ap (λ (r : Exchange). r.addable) (get_or_past rows x (record { addable = false; with = [] }) g)) a)
 ]
 
-int_le_both : (a b : ℤ) → a ≤ℤ b → b ≤ℤ a → a ≡ b
-int_le_both a b h k = omega (arith, ints)
-
 -- an element that can be added is a heaviest one exactly where it has the greatest weight
-pub is_heaviest_addable-by_weight : (n : ℕ) (rows : List Exchange) (w : ℕ → ℤ) (t : ℤ) (x : ℕ) → length rows ≡ n
+pub is_heaviest_addable-by_weight : (n : ℕ) (rows : List Exchange) (w : ℕ → Weight) (t : Weight) (x : ℕ) → length rows ≡ n
     → IsHeaviestWeight (exchanges_in rows).adds w t
-    → is_heaviest_addable n (exchanges_in rows) w x ≡ ((exchanges_in rows).adds x && int_eq t (w x))
+    → is_heaviest_addable n (exchanges_in rows) w x ≡ ((exchanges_in rows).adds x && is_same t (w x))
 is_heaviest_addable-by_weight n rows w t x count h =
     let a : Exchanges = exchanges_in rows in
     let inside : h.element < n = subst (λ m. h.element < m) count (addable_below rows h.element h.passes) in
-    both_tests (is_heaviest_addable n a w x) (a.adds x && int_eq t (w x))
+    both_tests (is_heaviest_addable n a w x) (a.adds x && is_same t (w x))
     (λ top. (let s = heaviest_addable_gives n a w x top in
-    let high = int_le_trans t (w h.element) (w x) (int_le_same t (w h.element) (sym h.weighs)) (s.most h.element inside h.passes) in
-    and_from (a.adds x) (int_eq t (w x)) s.adds ((Decides-int_eq t (w x)).1 (int_le_both t (w x) high (h.most x s.adds)))))
-    (λ both. (let s = and_parts (a.adds x) (int_eq t (w x)) both in
-    let same = (Decides-int_eq t (w x)).0 s.1 in
-    heaviest_addable_from n a w x s.0 (λ e l k. subst (λ z. w e ≤ℤ z) same (h.most e k))))
+    let high = at_most_trans t (w h.element) (w x) (at_most_same t (w h.element) (sym h.weighs)) (s.most h.element inside h.passes) in
+    and_from (a.adds x) (is_same t (w x)) s.adds (same_from t (w x) (at_most_both t (w x) high (h.most x s.adds)))))
+    (λ both. (let s = and_parts (a.adds x) (is_same t (w x)) both in
+    let same = same_gives t (w x) s.1 in
+    heaviest_addable_from n a w x s.0 (λ e l k. subst (λ z. w e ≼ z) same (h.most e k))))

@@ -2,7 +2,6 @@ pub mod TightArcs
 pub mod TightPathSteps
 pub mod WeightChanges
 pub mod CutsWithoutSlack
-pub mod SplitBounds
 pub mod LeastSlacks
 pub mod RowExchanges
 pub mod RowTables
@@ -10,3 +9,13 @@ pub mod TableSteps
 pub mod HeaviestAddable
 pub mod SlackParts
 pub mod TightArcTests
+pub mod WeightBounds
+pub mod Fringes
+pub mod Growing
+pub mod HeaviestMembers
+pub mod Raising
+pub mod GrowthSteps
+pub mod GrownSplits
+pub mod HeaviestExchanges
+pub mod GrownSplitsExist
+pub mod GrowthTests

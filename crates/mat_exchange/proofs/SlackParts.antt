@@ -1,27 +1,27 @@
 -- The least slack of each kind comes from the greatest weight of an element, and the least of several numbers from the lesser of two.
-use Rattle.std.proofs.Common.{◌≡◌, ◌∙◌, ℕ, ◌+◌, ◌<◌, Bool, true, false, not, ◌&&◌, ltb, cond, List, length, take, get_or, Option, Some, None, ℤ, ◌-ℤ◌, ◌≤ℤ◌, ◌⊎◌, inl, inr, sym, ap, subst, arith}
-use Rattle.std.specs.Prelude.{int_lt}
+use Rattle.std.proofs.Common.{◌≡◌, ◌∙◌, ℕ, ◌+◌, ◌<◌, Bool, true, false, not, ◌&&◌, ltb, cond, List, length, take, get_or, Option, Some, None, ◌⊎◌, inl, inr, sym, ap, subst, arith}
 use Rattle.std.proofs.lemmas.Bool.{and_from, and_parts, cases_Bool, cases_eq, lt-ltb, ltb-true, not-true}
 use Rattle.std.proofs.lemmas.Int.{ints}
 use Rattle.mat_sets.specs.Sets.{all_below, is_member, with_one, without_one, AllBelow}
-use Rattle.mat_sets.specs.Sums.{weight_at, AreWithin, IsWithin}
 use Rattle.mat_sets.proofs.Ground.{AllBelow-member, is_member-all_below}
 use Rattle.mat_sets.proofs.Members.{is_member-with_one, is_member-without_one}
 use Rattle.mat_sets.proofs.Steps.{is_member-take_more}
-use Rattle.mat_sets.proofs.Sums.{within_at}
+use Rattle.mat_sets.specs.Weights.{◌⊖◌, ◌≼◌, is_below, weight_at, IsWeightWithin, AreWeightsWithin}
+use Rattle.mat_sets.specs.declared.weight.Weight.{Weight}
+use Rattle.mat_sets.proofs.WeightOrder.{pairs, weight_within_at, at_most_trans, below_at_most, not_below_gives}
 use Rattle.mat_laws.specs.declared.exchange.Exchange.{Exchange}
 use Rattle.mat_laws.specs.TightPaths.{Exchanges, exchanges_in}
 use Rattle.mat_laws.specs.Slacks.{IsSlack, IsLeastSlackOrNone}
 use Rattle.mat_laws.specs.Slacks.IsSlack.{first_addition, first_exchange, second_exchange, second_addition}
 use Rattle.mat_exchange.specs.HeaviestAddable.{IsHeaviestWeight}
 use Rattle.mat_exchange.specs.SlackParts.{IsAdditionSlack, IsExchangeSlackAt, IsExchangeSlack, IsLeast, IsLeastOrNone, lesser_of}
-use Rattle.mat_exchange.proofs.TightArcs.{heaviest_addable_gives, heaviest_addable_from, int_lt-none}
-use Rattle.mat_exchange.proofs.HeaviestAddable.{addable_below, int_le_trans, int_lt_le}
+use Rattle.mat_exchange.proofs.TightArcs.{heaviest_addable_gives, heaviest_addable_from}
+use Rattle.mat_exchange.proofs.HeaviestAddable.{addable_below}
 
 -- ---- the least of numbers
 
 -- of either
-pub least_of_either : (P Q : ℤ → Type 0) (a b : Option ℤ) → IsLeastOrNone P a → IsLeastOrNone Q b
+pub least_of_either : (P Q : Weight → Type 0) (a b : Option Weight) → IsLeastOrNone P a → IsLeastOrNone Q b
     → IsLeastOrNone (λ d. P d ⊎ Q d) (lesser_of a b)
 least_of_either P Q None None p q = λ d h. elim h [ inl k ↦ p d k | inr k ↦ q d k ]
 least_of_either P Q None (Some y) p q = record {
@@ -32,39 +32,39 @@ least_of_either P Q (Some x) None p q = record {
   has = inl p.has;
   least = λ e h. elim h [ inl k ↦ p.least e k | inr k ↦ absurd (q e k) ];
 }
-least_of_either P Q (Some x) (Some y) p q = elim (cases_Bool (int_lt y x)) [
+least_of_either P Q (Some x) (Some y) p q = elim (cases_Bool (is_below y x)) [
   | inl l ↦ subst (λ c. IsLeast (λ d. P d ⊎ Q d) (cond c y x)) (sym l) (record {
     has = inr q.has;
-    least = λ e h. elim h [ inl k ↦ int_le_trans y x e (int_lt_le y x l) (p.least e k) | inr k ↦ q.least e k ];
+    least = λ e h. elim h [ inl k ↦ at_most_trans y x e (below_at_most y x l) (p.least e k) | inr k ↦ q.least e k ];
   })
   | inr l ↦ subst (λ c. IsLeast (λ d. P d ⊎ Q d) (cond c y x)) (sym l) (record {
     has = inl p.has;
-    least = λ e h. elim h [ inl k ↦ p.least e k | inr k ↦ int_le_trans x y e (int_lt-none y x l) (q.least e k) ];
+    least = λ e h. elim h [ inl k ↦ p.least e k | inr k ↦ at_most_trans x y e (not_below_gives y x l) (q.least e k) ];
   })
 ]
 
 -- the same numbers
-pub least_of_same : (P Q : ℤ → Type 0) (a : Option ℤ) → ((d : ℤ) → P d → Q d) → ((d : ℤ) → Q d → P d) → IsLeastOrNone P a → IsLeastOrNone Q a
+pub least_of_same : (P Q : Weight → Type 0) (a : Option Weight) → ((d : Weight) → P d → Q d) → ((d : Weight) → Q d → P d) → IsLeastOrNone P a → IsLeastOrNone Q a
 least_of_same P Q None f g p = λ d q. p d (g d q)
 least_of_same P Q (Some x) f g p = record { has = f x p.has; least = λ e q. p.least e (g e q) }
 
 -- ---- weights within bounds
 
-pub heaviest_within : (bound : ℕ) (w : List ℤ) (test : ℕ → Bool) (t : ℤ) → AreWithin bound w
-    → IsHeaviestWeight test (weight_at w) t → IsWithin bound t
-heaviest_within bound w test t small h = subst (IsWithin bound) h.weighs (within_at bound w small h.element)
+pub heaviest_within : (bound : ℕ) (w : List Weight) (test : ℕ → Bool) (t : Weight) → AreWeightsWithin bound w
+    → IsHeaviestWeight test (weight_at w) t → IsWeightWithin bound t
+heaviest_within bound w test t small h = subst (IsWeightWithin bound) h.weighs (weight_within_at bound w small h.element)
 
 -- ---- additions
 
-int_minus_mono : (a b c d : ℤ) → a ≤ℤ b → c ≤ℤ d → (a -ℤ d) ≤ℤ (b -ℤ c)
-int_minus_mono a b c d h k = omega (arith, ints)
+difference_mono : (a b c d : Weight) → a ≼ b → c ≼ d → (a ⊖ d) ≼ (b ⊖ c)
+difference_mono a b c d h k = omega (arith, ints, pairs)
 
-module _ (n : ℕ) (rows : List Exchange) (w : ℕ → ℤ) (addable into : List ℕ) (count : length rows ≡ n)
+module _ (n : ℕ) (rows : List Exchange) (w : ℕ → Weight) (addable into : List ℕ) (count : length rows ≡ n)
     (same : (x : ℕ) → is_member x addable ≡ (exchanges_in rows).adds x) where
   -- the heaviest addable element against the heaviest one in the set
-  pub least_addition : (t u : ℤ) → IsHeaviestWeight (exchanges_in rows).adds w t
+  pub least_addition : (t u : Weight) → IsHeaviestWeight (exchanges_in rows).adds w t
       → IsHeaviestWeight (λ x. is_member x addable && is_member x into) w u
-      → IsLeast (IsAdditionSlack n (exchanges_in rows) w into) (t -ℤ u)
+      → IsLeast (IsAdditionSlack n (exchanges_in rows) w into) (t ⊖ u)
   least_addition t u h k =
       let below : h.element < n = subst (λ m. h.element < m) count (addable_below rows h.element h.passes) in
       let both = and_parts (is_member k.element addable) (is_member k.element into) k.passes in
@@ -73,24 +73,24 @@ module _ (n : ℕ) (rows : List Exchange) (w : ℕ → ℤ) (addable into : List
           top = h.element;
           element = k.element;
           below = below;
-          heaviest = heaviest_addable_from n (exchanges_in rows) w h.element h.passes (λ e l a. subst (λ z. w e ≤ℤ z) (sym h.weighs) (h.most e a));
+          heaviest = heaviest_addable_from n (exchanges_in rows) w h.element h.passes (λ e l a. subst (λ z. w e ≼ z) (sym h.weighs) (h.most e a));
           adds = sym (same k.element) ∙ both.0;
           inside = both.1;
-          value = ap (λ z. z -ℤ u) (sym h.weighs) ∙ ap (λ z. w h.element -ℤ z) (sym k.weighs);
+          value = ap (λ z. z ⊖ u) (sym h.weighs) ∙ ap (λ z. w h.element ⊖ z) (sym k.weighs);
         };
         least = λ e s.
             let top = heaviest_addable_gives n (exchanges_in rows) w s.top s.heaviest in
-            subst (λ z. (t -ℤ u) ≤ℤ z) (sym s.value) (int_minus_mono t (w s.top) (w s.element) u
-            (subst (λ z. z ≤ℤ w s.top) h.weighs (top.most h.element below h.passes))
+            subst (λ z. (t ⊖ u) ≼ z) (sym s.value) (difference_mono t (w s.top) (w s.element) u
+            (subst (λ z. z ≼ w s.top) h.weighs (top.most h.element below h.passes))
             (k.most s.element (and_from _ _ (same s.element ∙ s.adds) s.inside)));
       }
 
 -- ---- exchanges
 
-module _ (exchanges : Exchanges) (w : ℕ → ℤ) (from into : List ℕ) where
+module _ (exchanges : Exchanges) (w : ℕ → Weight) (from into : List ℕ) where
   module _ (y : ℕ) (column : List ℕ) (same : (x : ℕ) → is_member x column ≡ exchanges.trades y x) where
-    pub least_exchange_at : (u : ℤ) → is_member y from ≡ true → IsHeaviestWeight (λ x. is_member x column && is_member x into) w u
-        → IsLeast (IsExchangeSlackAt y exchanges w from into) (w y -ℤ u)
+    pub least_exchange_at : (u : Weight) → is_member y from ≡ true → IsHeaviestWeight (λ x. is_member x column && is_member x into) w u
+        → IsLeast (IsExchangeSlackAt y exchanges w from into) (w y ⊖ u)
     least_exchange_at u leaves k =
         let both = and_parts (is_member k.element column) (is_member k.element into) k.passes in
         record {
@@ -99,13 +99,13 @@ module _ (exchanges : Exchanges) (w : ℕ → ℤ) (from into : List ℕ) where
             trades = sym (same k.element) ∙ both.0;
             leaves = leaves;
             inside = both.1;
-            value = ap (λ z. w y -ℤ z) (sym k.weighs);
+            value = ap (λ z. w y ⊖ z) (sym k.weighs);
           };
-          least = λ e s. subst (λ z. (w y -ℤ u) ≤ℤ z) (sym s.value) (int_minus_mono (w y) (w y) (w s.element) u (omega (arith, ints))
+          least = λ e s. subst (λ z. (w y ⊖ u) ≼ z) (sym s.value) (difference_mono (w y) (w y) (w s.element) u (omega (arith, ints, pairs))
               (k.most s.element (and_from _ _ (same s.element ∙ s.trades) s.inside)));
         }
 
-  pub least_exchange_next : (y : ℕ) (a b : Option ℤ) → IsLeastOrNone (IsExchangeSlack y exchanges w from into) a
+  pub least_exchange_next : (y : ℕ) (a b : Option Weight) → IsLeastOrNone (IsExchangeSlack y exchanges w from into) a
       → IsLeastOrNone (IsExchangeSlackAt y exchanges w from into) b → IsLeastOrNone (IsExchangeSlack (y + 1) exchanges w from into) (lesser_of a b)
   least_exchange_next y a b h k =
       least_of_same (λ d. IsExchangeSlack y exchanges w from into d ⊎ IsExchangeSlackAt y exchanges w from into d)
@@ -122,13 +122,13 @@ module _ (exchanges : Exchanges) (w : ℕ → ℤ) (from into : List ℕ) where
 
 -- ---- the four kinds together
 
-module _ (n : ℕ) (first second : Exchanges) (w1 w2 : ℕ → ℤ) (R reached others : List ℕ) (below : AllBelow n R)
+module _ (n : ℕ) (first second : Exchanges) (w1 w2 : ℕ → Weight) (R reached others : List ℕ) (below : AllBelow n R)
     (inside : (x : ℕ) → is_member x reached ≡ is_member x R) (outside : (x : ℕ) → is_member x others ≡ (ltb x n && not (is_member x R))) where
   -- a slack of the first matroid, or of the second
-  abbrev OfFirst : ℤ → Type 0
+  abbrev OfFirst : Weight → Type 0
   OfFirst d = IsAdditionSlack n first w1 others d ⊎ IsExchangeSlack n first w1 reached others d
 
-  abbrev OfSecond : ℤ → Type 0
+  abbrev OfSecond : Weight → Type 0
   OfSecond d = IsExchangeSlack n second w2 others reached d ⊎ IsAdditionSlack n second w2 reached d
 
   member_below : (x : ℕ) → is_member x reached ≡ true → x < n
@@ -142,7 +142,7 @@ module _ (n : ℕ) (first second : Exchanges) (w1 w2 : ℕ → ℤ) (R reached o
       let s = and_parts (ltb x n) (not (is_member x R)) (sym (outside x) ∙ m) in
       (ltb-true x n s.0, not-true _ s.1)
 
-  slack_of_first : (d : ℤ) → OfFirst d → IsSlack n first second w1 w2 R d
+  slack_of_first : (d : Weight) → OfFirst d → IsSlack n first second w1 w2 R d
   slack_of_first d (inl s) =
       let o = other_gives s.element s.inside in
       first_addition s.top s.element s.below o.0 s.heaviest s.adds o.1 s.value
@@ -150,7 +150,7 @@ module _ (n : ℕ) (first second : Exchanges) (w1 w2 : ℕ → ℤ) (R reached o
       let o = other_gives s.slack.element s.slack.inside in
       first_exchange s.replaced s.slack.element s.below o.0 s.slack.trades (sym (inside s.replaced) ∙ s.slack.leaves) o.1 s.slack.value
 
-  slack_of_second : (d : ℤ) → OfSecond d → IsSlack n first second w1 w2 R d
+  slack_of_second : (d : Weight) → OfSecond d → IsSlack n first second w1 w2 R d
   slack_of_second d (inl s) =
       let o = other_gives s.replaced s.slack.leaves in
       second_exchange s.slack.element s.replaced (member_below s.slack.element s.slack.inside) s.below s.slack.trades
@@ -158,7 +158,7 @@ module _ (n : ℕ) (first second : Exchanges) (w1 w2 : ℕ → ℤ) (R reached o
   slack_of_second d (inr s) =
       second_addition s.top s.element s.below (member_below s.element s.inside) s.heaviest s.adds (sym (inside s.element) ∙ s.inside) s.value
 
-  slack_gives : (d : ℤ) → IsSlack n first second w1 w2 R d → OfFirst d ⊎ OfSecond d
+  slack_gives : (d : Weight) → IsSlack n first second w1 w2 R d → OfFirst d ⊎ OfSecond d
   slack_gives d (first_addition top x lt lx t a out e) = inl (inl (record {
     top = top;
     element = x;
@@ -188,12 +188,12 @@ module _ (n : ℕ) (first second : Exchanges) (w1 w2 : ℕ → ℤ) (R reached o
     value = e;
   }))
 
-  least_slack_from : (a : Option ℤ) → IsLeastOrNone (IsSlack n first second w1 w2 R) a → IsLeastSlackOrNone n first second w1 w2 R a
+  least_slack_from : (a : Option Weight) → IsLeastOrNone (IsSlack n first second w1 w2 R) a → IsLeastSlackOrNone n first second w1 w2 R a
   least_slack_from None h = h
   least_slack_from (Some d) h = record { slack = h.has; least = h.least }
 
   -- the least of the four
-  pub least_of_four : (a b c d : Option ℤ) → IsLeastOrNone (IsAdditionSlack n first w1 others) a
+  pub least_of_four : (a b c d : Option Weight) → IsLeastOrNone (IsAdditionSlack n first w1 others) a
       → IsLeastOrNone (IsExchangeSlack n first w1 reached others) b → IsLeastOrNone (IsExchangeSlack n second w2 others reached) c
       → IsLeastOrNone (IsAdditionSlack n second w2 reached) d
       → IsLeastSlackOrNone n first second w1 w2 R (lesser_of (lesser_of a b) (lesser_of c d))

@@ -1,10 +1,11 @@
 -- How tight arcs are tested: the arcs of a member stand in the first table alone, those of an element outside in the second, and
 -- the next one leads to the next number that weighs as much.
-use Rattle.std.proofs.Common.{◌≡◌, ℕ, ◌+◌, ◌<◌, ◌≤◌, Bool, true, false, ◌&&◌, ◌||◌, List, ℤ, inl, inr, ap, ◌∙◌, arith}
-use Rattle.std.specs.Ordering.{int_eq}
+use Rattle.std.proofs.Common.{◌≡◌, ℕ, ◌+◌, ◌<◌, ◌≤◌, Bool, true, false, ◌&&◌, ◌||◌, List, inl, inr, ap, ◌∙◌, arith}
 use Rattle.std.proofs.lemmas.Bool.{and_from, and_left, and_right, both_ways, cases_eq, cases_lt, false_from_ne_true}
 use Rattle.mat_sets.specs.Sets.{is_member}
 use Rattle.mat_sets.specs.Search.{IsFirstFrom}
+use Rattle.mat_sets.specs.Weights.{is_same}
+use Rattle.mat_sets.specs.declared.weight.Weight.{Weight}
 use Rattle.mat_laws.specs.declared.exchange.Exchange.{Exchange}
 use Rattle.mat_laws.specs.TightPaths.{exchanges_in, is_tight}
 use Rattle.mat_exchange.specs.Tables.{IsTableAt}
@@ -43,23 +44,23 @@ none_end test equal from at none end x h = elim (cases_lt x at) [
 -- ---- the arcs of one element
 
 -- a member's arcs stand in the first table
-pub member_arcs : (n : ℕ) (set : List ℕ) (first second : List Exchange) (w1 w2 : ℕ → ℤ) (u v : ℕ) (m : Bool)
+pub member_arcs : (n : ℕ) (set : List ℕ) (first second : List Exchange) (w1 w2 : ℕ → Weight) (u v : ℕ) (m : Bool)
     → IsTableAt n set second → is_member u set ≡ true
-    → (m && is_tight (exchanges_in first) (exchanges_in second) w1 w2 u v) ≡ (((exchanges_in first).trades u v && m) && int_eq (w1 u) (w1 v))
+    → (m && is_tight (exchanges_in first) (exchanges_in second) w1 w2 u v) ≡ (((exchanges_in first).trades u v && m) && is_same (w1 u) (w1 v))
 member_arcs n set first second w1 w2 u v m t i =
     let off : (exchanges_in second).trades v u ≡ false = false_from_ne_true _ (λ h. both_ways _ (t.outside v u h) i) in
-    same ((exchanges_in first).trades u v) ((exchanges_in second).trades v u) (int_eq (w1 u) (w1 v)) (int_eq (w2 u) (w2 v)) off
+    same ((exchanges_in first).trades u v) ((exchanges_in second).trades v u) (is_same (w1 u) (w1 v)) (is_same (w2 u) (w2 v)) off
   where
     same : (a b e f : Bool) → b ≡ false → (m && ((a && e) || (b && f))) ≡ ((a && m) && e)
     same a b e f off = grind arith
 
 -- the arcs of an element outside stand in the second
-pub outside_arcs : (n : ℕ) (set : List ℕ) (first second : List Exchange) (w1 w2 : ℕ → ℤ) (u v : ℕ) (m : Bool)
+pub outside_arcs : (n : ℕ) (set : List ℕ) (first second : List Exchange) (w1 w2 : ℕ → Weight) (u v : ℕ) (m : Bool)
     → IsTableAt n set first → is_member u set ≡ false
-    → (m && is_tight (exchanges_in first) (exchanges_in second) w1 w2 u v) ≡ (((exchanges_in second).trades v u && m) && int_eq (w2 u) (w2 v))
+    → (m && is_tight (exchanges_in first) (exchanges_in second) w1 w2 u v) ≡ (((exchanges_in second).trades v u && m) && is_same (w2 u) (w2 v))
 outside_arcs n set first second w1 w2 u v m t o =
     let off : (exchanges_in first).trades u v ≡ false = false_from_ne_true _ (λ h. both_ways _ o (t.member u v h)) in
-    same ((exchanges_in first).trades u v) ((exchanges_in second).trades v u) (int_eq (w1 u) (w1 v)) (int_eq (w2 u) (w2 v)) off
+    same ((exchanges_in first).trades u v) ((exchanges_in second).trades v u) (is_same (w1 u) (w1 v)) (is_same (w2 u) (w2 v)) off
   where
     same : (a b e f : Bool) → a ≡ false → (m && ((a && e) || (b && f))) ≡ ((b && m) && f)
     same a b e f off = grind arith

@@ -1,23 +1,14 @@
 -- What the exchanges of a matroid at a set, the heaviest elements that can be added, and tight arcs say of one or two elements.
-use Rattle.std.proofs.Common.{◌≡◌, ℕ, ◌<◌, Bool, true, false, not, ◌&&◌, List, ℤ, ◌≤ℤ◌, ◌<ℤ◌, ◌⊎◌, inl, inr, ap, arith}
-use Rattle.std.specs.Prelude.{int_lt}
-use Rattle.std.specs.Ordering.{int_eq}
+use Rattle.std.proofs.Common.{◌≡◌, ℕ, ◌<◌, Bool, true, false, not, ◌&&◌, List, ◌⊎◌, inl, inr, ap, arith}
 use Rattle.std.proofs.lemmas.Bool.{and_parts, and_from, or_cases, or_left, or_right, not-true, false_from_ne_true, both_ways}
-use Rattle.std.proofs.lemmas.Bool.Decides.{Decides-int_eq}
 use Rattle.std.proofs.lemmas.Int.{ints}
 use Rattle.mat_sets.specs.Sets.{is_member, with_one, without_one}
 use Rattle.mat_sets.specs.Search.{some_below}
 use Rattle.mat_sets.proofs.Search.{some_below_gives, some_below_from}
+use Rattle.mat_sets.specs.Weights.{◌≺◌, ◌≼◌, is_below, is_same}
+use Rattle.mat_sets.specs.declared.weight.Weight.{Weight}
+use Rattle.mat_sets.proofs.WeightOrder.{pairs, same_gives, same_from, at_most_or_below, below_gives, not_below_gives}
 use Rattle.mat_laws.specs.TightPaths.{Exchanges, exchanges_at, is_heaviest_addable, is_tight}
-
-int_lt-gives : (a b : ℤ) → int_lt a b ≡ true → a <ℤ b
-int_lt-gives a b h = grind (arith, ints)
-
-pub int_lt-none : (a b : ℤ) → int_lt a b ≡ false → b ≤ℤ a
-int_lt-none a b h = grind (arith, ints)
-
-int_le_or_lt : (a b : ℤ) → (a ≤ℤ b) ⊎ (b <ℤ a)
-int_le_or_lt a b = grind (arith, ints)
 
 -- ---- exchanges at a set
 
@@ -56,64 +47,64 @@ exchangeable_from p I y x i o h =
 -- ---- heaviest elements that can be added
 
 -- x can be added, and nothing heavier can
-pub record IsHeaviestAddable (n : ℕ) (a : Exchanges) (w : ℕ → ℤ) (x : ℕ) : Type 0 where
+pub record IsHeaviestAddable (n : ℕ) (a : Exchanges) (w : ℕ → Weight) (x : ℕ) : Type 0 where
   pub adds : a.adds x ≡ true
-  pub most : (e : ℕ) → e < n → a.adds e ≡ true → w e ≤ℤ w x
+  pub most : (e : ℕ) → e < n → a.adds e ≡ true → w e ≼ w x
 
-pub heaviest_addable_gives : (n : ℕ) (a : Exchanges) (w : ℕ → ℤ) (x : ℕ) → is_heaviest_addable n a w x ≡ true → IsHeaviestAddable n a w x
+pub heaviest_addable_gives : (n : ℕ) (a : Exchanges) (w : ℕ → Weight) (x : ℕ) → is_heaviest_addable n a w x ≡ true → IsHeaviestAddable n a w x
 heaviest_addable_gives n a w x h =
-    let heavier : ℕ → Bool = λ e. a.adds e && int_lt (w x) (w e) in
+    let heavier : ℕ → Bool = λ e. a.adds e && is_below (w x) (w e) in
     let s = and_parts (a.adds x) (not (some_below n heavier)) h in
     record {
       adds = s.0;
-      most = λ e lt k. int_lt-none (w x) (w e) (false_from_ne_true _ (λ more.
-          both_ways _ (not-true _ s.1) (some_below_from n e heavier lt (and_from (a.adds e) (int_lt (w x) (w e)) k more))));
+      most = λ e lt k. not_below_gives (w x) (w e) (false_from_ne_true _ (λ more.
+          both_ways _ (not-true _ s.1) (some_below_from n e heavier lt (and_from (a.adds e) (is_below (w x) (w e)) k more))));
     }
 
-pub heaviest_addable_from : (n : ℕ) (a : Exchanges) (w : ℕ → ℤ) (x : ℕ) → a.adds x ≡ true
-    → ((e : ℕ) → e < n → a.adds e ≡ true → w e ≤ℤ w x) → is_heaviest_addable n a w x ≡ true
+pub heaviest_addable_from : (n : ℕ) (a : Exchanges) (w : ℕ → Weight) (x : ℕ) → a.adds x ≡ true
+    → ((e : ℕ) → e < n → a.adds e ≡ true → w e ≼ w x) → is_heaviest_addable n a w x ≡ true
 heaviest_addable_from n a w x k most =
-    let heavier : ℕ → Bool = λ e. a.adds e && int_lt (w x) (w e) in
+    let heavier : ℕ → Bool = λ e. a.adds e && is_below (w x) (w e) in
     and_from (a.adds x) (not (some_below n heavier)) k (ap not (false_from_ne_true _ (λ s.
     let q = some_below_gives n heavier s in
-    let t = and_parts (a.adds q.0) (int_lt (w x) (w q.0)) q.2 in
-    let more = int_lt-gives (w x) (w q.0) t.1 in
+    let t = and_parts (a.adds q.0) (is_below (w x) (w q.0)) q.2 in
+    let more = below_gives (w x) (w q.0) t.1 in
     let less = most q.0 q.1 t.0 in
-    let r : ⊥ = absurd (omega (arith, ints)) in r)))
+    let r : ⊥ = absurd (omega (arith, ints, pairs)) in r)))
 
 -- what can be added and is none of the heaviest is lighter than one of them
-pub lighter_addable : (n : ℕ) (a : Exchanges) (w : ℕ → ℤ) (x top : ℕ) → a.adds x ≡ true → is_heaviest_addable n a w x ≡ false
-    → IsHeaviestAddable n a w top → w x <ℤ w top
-lighter_addable n a w x top k fails t = elim (int_le_or_lt (w top) (w x)) [
-  | inl le ↦ absurd (both_ways _ fails (heaviest_addable_from n a w x k (λ e lt h. (let b = t.most e lt h in omega (arith, ints)))))
+pub lighter_addable : (n : ℕ) (a : Exchanges) (w : ℕ → Weight) (x top : ℕ) → a.adds x ≡ true → is_heaviest_addable n a w x ≡ false
+    → IsHeaviestAddable n a w top → w x ≺ w top
+lighter_addable n a w x top k fails t = elim (at_most_or_below (w top) (w x)) [
+  | inl le ↦ absurd (both_ways _ fails (heaviest_addable_from n a w x k (λ e lt h. (let b = t.most e lt h in omega (arith, ints, pairs)))))
   | inr lt ↦ lt
 ]
 
 -- ---- tight arcs
 
-module _ (p q : List ℕ → Bool) (w1 w2 : ℕ → ℤ) (I : List ℕ) where
+module _ (p q : List ℕ → Bool) (w1 w2 : ℕ → Weight) (I : List ℕ) where
   -- a tight arc is an exchange in the first matroid, or the other way in the second
   pub tight_gives : (u v : ℕ) → is_tight (exchanges_at p I) (exchanges_at q I) w1 w2 u v ≡ true
       → (IsExchangeable p I u v × (w1 u ≡ w1 v)) ⊎ (IsExchangeable q I v u × (w2 u ≡ w2 v))
   tight_gives u v h =
       let first = (exchanges_at p I).trades u v in
       let second = (exchanges_at q I).trades v u in
-      elim (or_cases (first && int_eq (w1 u) (w1 v)) (second && int_eq (w2 u) (w2 v)) h) [
-        | inl a ↦ (let s = and_parts first (int_eq (w1 u) (w1 v)) a in inl (exchangeable_gives p I u v s.0, (Decides-int_eq (w1 u) (w1 v)).0 s.1))
-        | inr a ↦ (let s = and_parts second (int_eq (w2 u) (w2 v)) a in inr (exchangeable_gives q I v u s.0, (Decides-int_eq (w2 u) (w2 v)).0 s.1))
+      elim (or_cases (first && is_same (w1 u) (w1 v)) (second && is_same (w2 u) (w2 v)) h) [
+        | inl a ↦ (let s = and_parts first (is_same (w1 u) (w1 v)) a in inl (exchangeable_gives p I u v s.0, same_gives (w1 u) (w1 v) s.1))
+        | inr a ↦ (let s = and_parts second (is_same (w2 u) (w2 v)) a in inr (exchangeable_gives q I v u s.0, same_gives (w2 u) (w2 v) s.1))
       ]
 
   pub tight_first : (y x : ℕ) → is_member y I ≡ true → is_member x I ≡ false → p (with_one (without_one I y) x) ≡ true → w1 y ≡ w1 x
       → is_tight (exchanges_at p I) (exchanges_at q I) w1 w2 y x ≡ true
   tight_first y x i o k e =
-      or_left ((exchanges_at p I).trades y x && int_eq (w1 y) (w1 x)) _
-      (and_from ((exchanges_at p I).trades y x) (int_eq (w1 y) (w1 x)) (exchangeable_from p I y x i o k) ((Decides-int_eq (w1 y) (w1 x)).1 e))
+      or_left ((exchanges_at p I).trades y x && is_same (w1 y) (w1 x)) _
+      (and_from ((exchanges_at p I).trades y x) (is_same (w1 y) (w1 x)) (exchangeable_from p I y x i o k) (same_from (w1 y) (w1 x) e))
 
   pub tight_second : (x y : ℕ) → is_member y I ≡ true → is_member x I ≡ false → q (with_one (without_one I y) x) ≡ true → w2 x ≡ w2 y
       → is_tight (exchanges_at p I) (exchanges_at q I) w1 w2 x y ≡ true
   tight_second x y i o k e =
-      or_right ((exchanges_at p I).trades x y && int_eq (w1 x) (w1 y)) _
-      (and_from ((exchanges_at q I).trades y x) (int_eq (w2 x) (w2 y)) (exchangeable_from q I y x i o k) ((Decides-int_eq (w2 x) (w2 y)).1 e))
+      or_right ((exchanges_at p I).trades x y && is_same (w1 x) (w1 y)) _
+      (and_from ((exchanges_at q I).trades y x) (is_same (w2 x) (w2 y)) (exchangeable_from q I y x i o k) (same_from (w2 x) (w2 y) e))
 
   -- from an element outside I a tight arc is an exchange in the second matroid
   pub tight_from_outside : (u v : ℕ) → is_member u I ≡ false → is_tight (exchanges_at p I) (exchanges_at q I) w1 w2 u v ≡ true

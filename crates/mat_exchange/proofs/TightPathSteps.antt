@@ -2,13 +2,14 @@
 -- x 0, y 0, x 1, .., y (m - 1), x m. In the second matroid x m is added and each x i takes the place of y i, in the order of the
 -- path; in the first x 0 is added and x (i + 1) takes the place of y i, in the opposite order. As the path has no chord, both
 -- matroids' halves of the exchange apply, to one and the same set.
-use Rattle.std.proofs.Common.{◌≡◌, ◌≢◌, ℕ, suc, zero, ◌+◌, ◌-◌, ◌<◌, Bool, true, false, not, ◌||◌, ◌&&◌, eqb, List, length, get_or, ℤ, ◌⊎◌, inl, inr, refl, sym, ap, ◌∙◌, subst, arith}
+use Rattle.std.proofs.Common.{◌≡◌, ◌≢◌, ℕ, suc, zero, ◌+◌, ◌-◌, ◌<◌, Bool, true, false, not, ◌||◌, ◌&&◌, eqb, List, length, get_or, ◌⊎◌, inl, inr, refl, sym, ap, ◌∙◌, subst, arith}
 use Rattle.std.proofs.lemmas.Bool.{eq-eqb, false_from_ne_true, both_ways}
 use Rattle.mat_sets.specs.Sets.{is_member, with_one, without_one, minus}
 use Rattle.mat_sets.specs.Walks.{IsWalk, IsChordless}
 use Rattle.mat_sets.proofs.Members.{set_members, IsRising-minus, IsRising-union}
 use Rattle.mat_sets.proofs.Ground.{below_member}
 use Rattle.mat_sets.proofs.Reach.{shortest_walk_is_chordless}
+use Rattle.mat_sets.specs.declared.weight.Weight.{Weight}
 use Rattle.mat_laws.specs.Matroids.{IsMatroid}
 use Rattle.mat_laws.specs.Heaviest.{IsHeaviest}
 use Rattle.mat_laws.specs.TightPaths.{exchanges_at, is_heaviest_addable, is_tight, IsTightPath, exchanged_along}
@@ -78,7 +79,7 @@ exchanged_by_values : (after on_path inside xs ys : Bool) → after ≡ ((on_pat
 exchanged_by_values after on_path inside xs ys a b c d = grind arith
 
 -- the path x 0, y 0, x 1, .., y (m - 1), x m, and the exchanges along it
-record IsAlternating (n : ℕ) (p q : List ℕ → Bool) (w1 w2 : ℕ → ℤ) (I path : List ℕ) (m : ℕ) (y x : ℕ → ℕ) : Type 0 where
+record IsAlternating (n : ℕ) (p q : List ℕ → Bool) (w1 w2 : ℕ → Weight) (I path : List ℕ) (m : ℕ) (y x : ℕ → ℕ) : Type 0 where
   inside : (i : ℕ) → i < m → is_member (y i) I ≡ true
   outside : (i : ℕ) → i < suc m → is_member (x i) I ≡ false
   ys_differ : (i j : ℕ) → i < j → j < m → y i ≢ y j
@@ -93,17 +94,17 @@ record IsAlternating (n : ℕ) (p q : List ℕ → Bool) (w1 w2 : ℕ → ℤ) (
   no_sink : (i : ℕ) → i < m → is_heaviest_addable n (exchanges_at q I) w2 (x i) ≡ false
   members : (k : ℕ) → is_member k (exchanged_along I path) ≡ (is_value x (suc m) k || (is_member k I && not (is_value y m k)))
 
-abbrev IsTightWalk : ℕ → (List ℕ → Bool) → (List ℕ → Bool) → (ℕ → ℤ) → (ℕ → ℤ) → List ℕ → List ℕ → Type 0
+abbrev IsTightWalk : ℕ → (List ℕ → Bool) → (List ℕ → Bool) → (ℕ → Weight) → (ℕ → Weight) → List ℕ → List ℕ → Type 0
 IsTightWalk n p q w1 w2 I path =
     IsWalk n (is_tight (exchanges_at p I) (exchanges_at q I) w1 w2) (is_heaviest_addable n (exchanges_at p I) w1)
     (is_heaviest_addable n (exchanges_at q I) w2) path
 
-abbrev IsChordlessTight : ℕ → (List ℕ → Bool) → (List ℕ → Bool) → (ℕ → ℤ) → (ℕ → ℤ) → List ℕ → List ℕ → Type 0
+abbrev IsChordlessTight : ℕ → (List ℕ → Bool) → (List ℕ → Bool) → (ℕ → Weight) → (ℕ → Weight) → List ℕ → List ℕ → Type 0
 IsChordlessTight n p q w1 w2 I path =
     IsChordless n (is_tight (exchanges_at p I) (exchanges_at q I) w1 w2) (is_heaviest_addable n (exchanges_at p I) w1)
     (is_heaviest_addable n (exchanges_at q I) w2) path
 
-module _ (n : ℕ) (p q : List ℕ → Bool) (w1 w2 : ℕ → ℤ) (I path : List ℕ) (w : IsTightWalk n p q w1 w2 I path) where
+module _ (n : ℕ) (p q : List ℕ → Bool) (w1 w2 : ℕ → Weight) (I path : List ℕ) (w : IsTightWalk n p q w1 w2 I path) where
   even_outside : (i : ℕ) → double i < length path → is_member (get_or path (double i) 0) I ≡ false
   even_outside zero h = (addable_gives p I (get_or path 0 0) (heaviest_addable_gives n (exchanges_at p I) w1 (get_or path 0 0) w.first).adds).outside
   even_outside (suc i) h =
@@ -179,7 +180,7 @@ module _ (n : ℕ) (p q : List ℕ → Bool) (w1 w2 : ℕ → ℤ) (I path : Lis
 addable_below : {n : ℕ} {p : List ℕ → Bool} → IsMatroid n p → (I : List ℕ) (e : ℕ) → p (with_one I e) ≡ true → e < n
 addable_below laws I e ok = below_member (laws.sets (with_one I e) ok) (let a = eq-eqb e e refl in grind (arith, set_members))
 
-module _ {n : ℕ} {p q : List ℕ → Bool} (lp : IsMatroid n p) (lq : IsMatroid n q) (w1 w2 : ℕ → ℤ) (I path : List ℕ) (m : ℕ) (y x : ℕ → ℕ)
+module _ {n : ℕ} {p q : List ℕ → Bool} (lp : IsMatroid n p) (lq : IsMatroid n q) (w1 w2 : ℕ → Weight) (I path : List ℕ) (m : ℕ) (y x : ℕ → ℕ)
     (t : IsAlternating n p q w1 w2 I path m y x) where
   -- the second matroid's, in the order of the path
   second_side : IsHeaviest q w2 I → IsPathSide q w2 I (x m) m y x
@@ -237,7 +238,7 @@ module _ {n : ℕ} {p q : List ℕ → Bool} (lp : IsMatroid n p) (lq : IsMatroi
       (first.0, first.1, second.1)
 
 -- the set after the exchange has one element more, and is heaviest of its size in both matroids
-pub exchange_along_tight_path : {n : ℕ} {p q : List ℕ → Bool} → IsMatroid n p → IsMatroid n q → (w1 w2 : ℕ → ℤ) (I path : List ℕ)
+pub exchange_along_tight_path : {n : ℕ} {p q : List ℕ → Bool} → IsMatroid n p → IsMatroid n q → (w1 w2 : ℕ → Weight) (I path : List ℕ)
     → IsHeaviest p w1 I → IsHeaviest q w2 I → IsTightPath n (exchanges_at p I) (exchanges_at q I) w1 w2 path
     → (length (exchanged_along I path) ≡ suc (length I)) × IsHeaviest p w1 (exchanged_along I path) × IsHeaviest q w2 (exchanged_along I path)
 exchange_along_tight_path {n} {p} {q} lp lq w1 w2 I path heaviest1 heaviest2 shortest =

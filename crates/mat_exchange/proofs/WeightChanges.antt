@@ -1,8 +1,8 @@
 -- The change of the weights by the least slack of a reached set R. Each slack is above 0, or R would hold more, or a sink. No exchange
 -- loses its sign, since no slack is less; what was reached stays reached, and the exchange of the least slack reaches one element more.
-use Rattle.std.proofs.Common.{◌≡◌, ℕ, ◌<◌, Bool, true, false, List, length, ℤ, pos, ◌-ℤ◌, ◌+ℤ◌, ◌≤ℤ◌, ◌<ℤ◌, inl, inr, refl, arith}
+use Rattle.std.proofs.Common.{◌≡◌, ℕ, ◌<◌, Bool, true, false, List, length, inl, inr, refl, arith}
 use Rattle.std.proofs.lemmas.Bool.{cases_Bool, cond-true, cond-false, both_ways}
-use Rattle.std.proofs.lemmas.Int.{ints, by_lt_z}
+use Rattle.std.proofs.lemmas.Int.{ints}
 use Rattle.mat_sets.specs.Sets.{is_member, IsSubset, with_one, without_one}
 use Rattle.mat_sets.specs.Walks.{IsReachedSet}
 use Rattle.mat_sets.proofs.Members.{set_members, IsRising-with_one}
@@ -10,6 +10,9 @@ use Rattle.mat_sets.proofs.Cardinalities.{length-with_one}
 use Rattle.mat_sets.proofs.Subsets.{length-subset, with_one-IsSubset}
 use Rattle.mat_sets.proofs.Ground.{below_member}
 use Rattle.mat_sets.proofs.Reach.{reached_by_induction}
+use Rattle.mat_sets.specs.Weights.{zero_weight, ◌⊕◌, ◌⊖◌, ◌≺◌, ◌≼◌}
+use Rattle.mat_sets.specs.declared.weight.Weight.{Weight}
+use Rattle.mat_sets.proofs.WeightOrder.{pairs, by_below}
 use Rattle.mat_laws.specs.Matroids.{IsMatroid}
 use Rattle.mat_laws.specs.Heaviest.{IsHeaviest}
 use Rattle.mat_laws.specs.TightPaths.{exchanges_at, is_heaviest_addable, is_tight, IsStuckReach}
@@ -21,51 +24,51 @@ use Rattle.mat_exchange.proofs.TightArcs.{IsExchangeable, exchangeable_gives, ex
 
 -- ---- the changed weights, element by element
 
-pub lowered-member : (w : ℕ → ℤ) (R : List ℕ) (d : ℤ) (x : ℕ) → is_member x R ≡ true → lowered w R d x ≡ w x -ℤ d
-lowered-member w R d x h = cond-true (is_member x R) (w x -ℤ d) (w x) h
+pub lowered-member : (w : ℕ → Weight) (R : List ℕ) (d : Weight) (x : ℕ) → is_member x R ≡ true → lowered w R d x ≡ w x ⊖ d
+lowered-member w R d x h = cond-true (is_member x R) (w x ⊖ d) (w x) h
 
-pub lowered-outside : (w : ℕ → ℤ) (R : List ℕ) (d : ℤ) (x : ℕ) → is_member x R ≡ false → lowered w R d x ≡ w x
-lowered-outside w R d x h = cond-false (is_member x R) (w x -ℤ d) (w x) h
+pub lowered-outside : (w : ℕ → Weight) (R : List ℕ) (d : Weight) (x : ℕ) → is_member x R ≡ false → lowered w R d x ≡ w x
+lowered-outside w R d x h = cond-false (is_member x R) (w x ⊖ d) (w x) h
 
-pub raised-member : (w : ℕ → ℤ) (R : List ℕ) (d : ℤ) (x : ℕ) → is_member x R ≡ true → raised w R d x ≡ w x +ℤ d
-raised-member w R d x h = cond-true (is_member x R) (w x +ℤ d) (w x) h
+pub raised-member : (w : ℕ → Weight) (R : List ℕ) (d : Weight) (x : ℕ) → is_member x R ≡ true → raised w R d x ≡ w x ⊕ d
+raised-member w R d x h = cond-true (is_member x R) (w x ⊕ d) (w x) h
 
-pub raised-outside : (w : ℕ → ℤ) (R : List ℕ) (d : ℤ) (x : ℕ) → is_member x R ≡ false → raised w R d x ≡ w x
-raised-outside w R d x h = cond-false (is_member x R) (w x +ℤ d) (w x) h
+pub raised-outside : (w : ℕ → Weight) (R : List ℕ) (d : Weight) (x : ℕ) → is_member x R ≡ false → raised w R d x ≡ w x
+raised-outside w R d x h = cond-false (is_member x R) (w x ⊕ d) (w x) h
 
 -- an exchange that gains nothing gains nothing after the first weight falls, where the slack of one that leaves R is at least d
-lowered-keeps : (w : ℕ → ℤ) (R : List ℕ) (d : ℤ) (x y : ℕ) → pos 0 <ℤ d → w x ≤ℤ w y
-    → (is_member y R ≡ true → is_member x R ≡ false → d ≤ℤ (w y -ℤ w x)) → lowered w R d x ≤ℤ lowered w R d y
+pub lowered-keeps : (w : ℕ → Weight) (R : List ℕ) (d : Weight) (x y : ℕ) → zero_weight ≺ d → w x ≼ w y
+    → (is_member y R ≡ true → is_member x R ≡ false → d ≼ (w y ⊖ w x)) → lowered w R d x ≼ lowered w R d y
 lowered-keeps w R d x y plus gains slack =
     elim (cases_Bool (is_member x R)) [
       | inl xr ↦ elim (cases_Bool (is_member y R)) [
-        | inl yr ↦ rw (lowered-member w R d x xr, lowered-member w R d y yr) (omega (arith, ints))
-        | inr yr ↦ rw (lowered-member w R d x xr, lowered-outside w R d y yr) (omega (arith, ints))
+        | inl yr ↦ rw (lowered-member w R d x xr, lowered-member w R d y yr) (omega (arith, ints, pairs))
+        | inr yr ↦ rw (lowered-member w R d x xr, lowered-outside w R d y yr) (omega (arith, ints, pairs))
       ]
       | inr xr ↦ elim (cases_Bool (is_member y R)) [
-        | inl yr ↦ (let least = slack yr xr in rw (lowered-outside w R d x xr, lowered-member w R d y yr) (omega (arith, ints)))
+        | inl yr ↦ (let least = slack yr xr in rw (lowered-outside w R d x xr, lowered-member w R d y yr) (omega (arith, ints, pairs)))
         | inr yr ↦ rw (lowered-outside w R d x xr, lowered-outside w R d y yr) gains
       ]
     ]
 
 -- and so after the second weight rises
-raised-keeps : (w : ℕ → ℤ) (R : List ℕ) (d : ℤ) (x y : ℕ) → pos 0 <ℤ d → w x ≤ℤ w y
-    → (is_member x R ≡ true → is_member y R ≡ false → d ≤ℤ (w y -ℤ w x)) → raised w R d x ≤ℤ raised w R d y
+pub raised-keeps : (w : ℕ → Weight) (R : List ℕ) (d : Weight) (x y : ℕ) → zero_weight ≺ d → w x ≼ w y
+    → (is_member x R ≡ true → is_member y R ≡ false → d ≼ (w y ⊖ w x)) → raised w R d x ≼ raised w R d y
 raised-keeps w R d x y plus gains slack =
     elim (cases_Bool (is_member x R)) [
       | inl xr ↦ elim (cases_Bool (is_member y R)) [
-        | inl yr ↦ rw (raised-member w R d x xr, raised-member w R d y yr) (omega (arith, ints))
-        | inr yr ↦ (let least = slack xr yr in rw (raised-member w R d x xr, raised-outside w R d y yr) (omega (arith, ints)))
+        | inl yr ↦ rw (raised-member w R d x xr, raised-member w R d y yr) (omega (arith, ints, pairs))
+        | inr yr ↦ (let least = slack xr yr in rw (raised-member w R d x xr, raised-outside w R d y yr) (omega (arith, ints, pairs)))
       ]
       | inr xr ↦ elim (cases_Bool (is_member y R)) [
-        | inl yr ↦ rw (raised-outside w R d x xr, raised-member w R d y yr) (omega (arith, ints))
+        | inl yr ↦ rw (raised-outside w R d x xr, raised-member w R d y yr) (omega (arith, ints, pairs))
         | inr yr ↦ rw (raised-outside w R d x xr, raised-outside w R d y yr) gains
       ]
     ]
 
 -- a difference of weights is above 0 unless the weights rise or are the same
-difference_positive : (a b d : ℤ) → d ≡ a -ℤ b → (a ≤ℤ b → ⊥) → pos 0 <ℤ d
-difference_positive a b d e rises_not = by_lt_z b a (λ less. omega (arith, ints)) (λ le. absurd (rises_not le))
+difference_positive : (a b d : Weight) → d ≡ a ⊖ b → (a ≼ b → ⊥) → zero_weight ≺ d
+difference_positive a b d e rises_not = by_below b a (λ less. omega (arith, ints, pairs)) (λ le. absurd (rises_not le))
 
 -- a member of an independent set is below n, and so is what can be exchanged for it
 member_below : {n : ℕ} {p : List ℕ → Bool} → IsMatroid n p → (I : List ℕ) → p I ≡ true → (x : ℕ) → is_member x I ≡ true
@@ -76,40 +79,40 @@ exchanged_below : {n : ℕ} {p : List ℕ → Bool} → IsMatroid n p → (I : L
     → x < n
 exchanged_below laws I x y ok = member_below laws (with_one (without_one I y) x) ok x (grind (arith, set_members))
 
-module _ {n : ℕ} {p q : List ℕ → Bool} (lp : IsMatroid n p) (lq : IsMatroid n q) (w1 w2 : ℕ → ℤ) (I R : List ℕ)
+module _ {n : ℕ} {p q : List ℕ → Bool} (lp : IsMatroid n p) (lq : IsMatroid n q) (w1 w2 : ℕ → Weight) (I R : List ℕ)
     (first_heaviest : IsHeaviest p w1 I) (second_heaviest : IsHeaviest q w2 I)
     (stuck : IsStuckReach n (exchanges_at p I) (exchanges_at q I) w1 w2 R) where
   -- what can be added outside R weighs less than the heaviest that can be added, or it would be a source
   first_addition_falls : (top x : ℕ) → x < n → is_heaviest_addable n (exchanges_at p I) w1 top ≡ true
-      → (exchanges_at p I).adds x ≡ true → is_member x R ≡ false → w1 top ≤ℤ w1 x → ⊥
+      → (exchanges_at p I).adds x ≡ true → is_member x R ≡ false → w1 top ≼ w1 x → ⊥
   first_addition_falls top x lx t a out le =
       let s = heaviest_addable_gives n (exchanges_at p I) w1 top t in
       both_ways _ out (stuck.reached.starts x lx (heaviest_addable_from n (exchanges_at p I) w1 x a (λ e l k.
-      let most = s.most e l k in omega (arith, ints))))
+      let most = s.most e l k in omega (arith, ints, pairs))))
 
   -- an exchange that leaves R loses weight, or it would be a tight arc
   first_exchange_falls : (y x : ℕ) → x < n → IsExchangeable p I y x → is_member y R ≡ true → is_member x R ≡ false
-      → w1 y ≤ℤ w1 x → ⊥
+      → w1 y ≼ w1 x → ⊥
   first_exchange_falls y x lx t m out le =
       let gains = exchange_gains_nothing lp w1 I x y first_heaviest t.inside t.outside t.passes in
-      both_ways _ out (stuck.reached.closed y x m lx (tight_first p q w1 w2 I y x t.inside t.outside t.passes (omega (arith, ints))))
+      both_ways _ out (stuck.reached.closed y x m lx (tight_first p q w1 w2 I y x t.inside t.outside t.passes (omega (arith, ints, pairs))))
 
   second_exchange_falls : (x y : ℕ) → y < n → IsExchangeable q I y x → is_member x R ≡ true → is_member y R ≡ false
-      → w2 y ≤ℤ w2 x → ⊥
+      → w2 y ≼ w2 x → ⊥
   second_exchange_falls x y ly t m out le =
       let gains = exchange_gains_nothing lq w2 I x y second_heaviest t.inside t.outside t.passes in
-      both_ways _ out (stuck.reached.closed x y m ly (tight_second p q w1 w2 I x y t.inside t.outside t.passes (omega (arith, ints))))
+      both_ways _ out (stuck.reached.closed x y m ly (tight_second p q w1 w2 I x y t.inside t.outside t.passes (omega (arith, ints, pairs))))
 
   -- what can be added in R weighs less than the heaviest that can be added, or it would be a sink
   second_addition_falls : (top x : ℕ) → is_heaviest_addable n (exchanges_at q I) w2 top ≡ true
-      → (exchanges_at q I).adds x ≡ true → is_member x R ≡ true → w2 top ≤ℤ w2 x → ⊥
+      → (exchanges_at q I).adds x ≡ true → is_member x R ≡ true → w2 top ≼ w2 x → ⊥
   second_addition_falls top x t a m le =
       let s = heaviest_addable_gives n (exchanges_at q I) w2 top t in
       both_ways _ (stuck.no_sink x m) (heaviest_addable_from n (exchanges_at q I) w2 x a (λ e l k.
-      let most = s.most e l k in omega (arith, ints)))
+      let most = s.most e l k in omega (arith, ints, pairs)))
 
   -- each slack of a stuck reach is above 0
-  slack_positive : (d : ℤ) → IsSlack n (exchanges_at p I) (exchanges_at q I) w1 w2 R d → pos 0 <ℤ d
+  slack_positive : (d : Weight) → IsSlack n (exchanges_at p I) (exchanges_at q I) w1 w2 R d → zero_weight ≺ d
   slack_positive d (first_addition top x lt lx t a out e) =
       difference_positive (w1 top) (w1 x) d e (λ le. first_addition_falls top x lx t a out le)
   slack_positive d (first_exchange y x ly lx t m out e) =
@@ -119,7 +122,7 @@ module _ {n : ℕ} {p q : List ℕ → Bool} (lp : IsMatroid n p) (lq : IsMatroi
   slack_positive d (second_addition top x lt lx t a m e) =
       difference_positive (w2 top) (w2 x) d e (λ le. second_addition_falls top x t a m le)
 
-  module _ (d : ℤ) (slack : IsLeastSlack n (exchanges_at p I) (exchanges_at q I) w1 w2 R d) where
+  module _ (d : Weight) (slack : IsLeastSlack n (exchanges_at p I) (exchanges_at q I) w1 w2 R d) where
     -- I stays heaviest in the first matroid
     first_stays_heaviest : IsHeaviest p (lowered w1 R d) I
     first_stays_heaviest =
@@ -128,7 +131,7 @@ module _ {n : ℕ} {p q : List ℕ → Bool} (lp : IsMatroid n p) (lq : IsMatroi
         let lx = exchanged_below lp I x y ok in
         let ly = member_below lp I first_heaviest.passes y m in
         lowered-keeps w1 R d x y (slack_positive d slack.slack) gains
-        (λ yr xr. slack.least (w1 y -ℤ w1 x) (first_exchange y x ly lx (exchangeable_from p I y x m o ok) yr xr refl)))
+        (λ yr xr. slack.least (w1 y ⊖ w1 x) (first_exchange y x ly lx (exchangeable_from p I y x m o ok) yr xr refl)))
 
     -- and in the second
     second_stays_heaviest : IsHeaviest q (raised w2 R d) I
@@ -138,7 +141,7 @@ module _ {n : ℕ} {p q : List ℕ → Bool} (lp : IsMatroid n p) (lq : IsMatroi
         let lx = exchanged_below lq I x y ok in
         let ly = member_below lq I second_heaviest.passes y m in
         raised-keeps w2 R d x y (slack_positive d slack.slack) gains
-        (λ xr yr. slack.least (w2 y -ℤ w2 x) (second_exchange x y lx ly (exchangeable_from q I y x m o ok) xr yr refl)))
+        (λ xr yr. slack.least (w2 y ⊖ w2 x) (second_exchange x y lx ly (exchangeable_from q I y x m o ok) xr yr refl)))
 
     -- a source stays a source
     source_stays : (v : ℕ) → v < n → is_heaviest_addable n (exchanges_at p I) w1 v ≡ true
@@ -147,7 +150,7 @@ module _ {n : ℕ} {p q : List ℕ → Bool} (lp : IsMatroid n p) (lq : IsMatroi
         let s = heaviest_addable_gives n (exchanges_at p I) w1 v top in
         heaviest_addable_from n (exchanges_at p I) (lowered w1 R d) v s.adds (λ e le a.
         lowered-keeps w1 R d e v (slack_positive d slack.slack) (s.most e le a)
-        (λ vr er. slack.least (w1 v -ℤ w1 e) (first_addition v e lv le top a er refl)))
+        (λ vr er. slack.least (w1 v ⊖ w1 e) (first_addition v e lv le top a er refl)))
 
     -- a tight arc inside R stays tight
     arc_stays : (u v : ℕ) → is_member u R ≡ true → is_member v R ≡ true
@@ -155,9 +158,9 @@ module _ {n : ℕ} {p q : List ℕ → Bool} (lp : IsMatroid n p) (lq : IsMatroi
         → is_tight (exchanges_at p I) (exchanges_at q I) (lowered w1 R d) (raised w2 R d) u v ≡ true
     arc_stays u v ur vr tight = elim (tight_gives p q w1 w2 I u v tight) [
       | inl k ↦ (let t = k.0 in let e = k.1 in tight_first p q (lowered w1 R d) (raised w2 R d) I u v t.inside t.outside t.passes
-          (rw (lowered-member w1 R d u ur, lowered-member w1 R d v vr) (omega (arith, ints))))
+          (rw (lowered-member w1 R d u ur, lowered-member w1 R d v vr) (omega (arith, ints, pairs))))
       | inr k ↦ (let t = k.0 in let e = k.1 in tight_second p q (lowered w1 R d) (raised w2 R d) I u v t.inside t.outside t.passes
-          (rw (raised-member w2 R d u ur, raised-member w2 R d v vr) (omega (arith, ints))))
+          (rw (raised-member w2 R d u ur, raised-member w2 R d v vr) (omega (arith, ints, pairs))))
     ]
 
     -- what was reached is reached after the change
@@ -173,38 +176,38 @@ module _ {n : ℕ} {p q : List ℕ → Bool} (lp : IsMatroid n p) (lq : IsMatroi
 
       -- a source outside R
       new_source : (top x : ℕ) → top < n → x < n → is_heaviest_addable n (exchanges_at p I) w1 top ≡ true
-          → (exchanges_at p I).adds x ≡ true → is_member x R ≡ false → d ≡ w1 top -ℤ w1 x → is_member x S ≡ true
+          → (exchanges_at p I).adds x ≡ true → is_member x R ≡ false → d ≡ w1 top ⊖ w1 x → is_member x S ≡ true
       new_source top x lt lx t a out e =
           let s = heaviest_addable_gives n (exchanges_at p I) (lowered w1 R d) top (source_stays top lt t) in
           let same : lowered w1 R d x ≡ lowered w1 R d top =
-          rw (lowered-outside w1 R d x out, lowered-member w1 R d top (stuck.reached.starts top lt t)) (omega (arith, ints)) in
+          rw (lowered-outside w1 R d x out, lowered-member w1 R d top (stuck.reached.starts top lt t)) (omega (arith, ints, pairs)) in
           later.reached.starts x lx (heaviest_addable_from n (exchanges_at p I) (lowered w1 R d) x a (λ v lv k. rw same (s.most v lv k)))
 
       -- a sink in R, which there is not
       new_sink : (top x : ℕ) → top < n → is_heaviest_addable n (exchanges_at q I) w2 top ≡ true
-          → (exchanges_at q I).adds x ≡ true → is_member x R ≡ true → d ≡ w2 top -ℤ w2 x → ⊥
+          → (exchanges_at q I).adds x ≡ true → is_member x R ≡ true → d ≡ w2 top ⊖ w2 x → ⊥
       new_sink top x lt t a m e =
           let s = heaviest_addable_gives n (exchanges_at q I) w2 top t in
           both_ways _ (later.no_sink x (reached_stays x m)) (heaviest_addable_from n (exchanges_at q I) (raised w2 R d) x a (λ v lv k.
           let most = s.most v lv k in
           elim (cases_Bool (is_member v R)) [
-            | inl vr ↦ (let least = slack.least (w2 top -ℤ w2 v) (second_addition top v lt lv t k vr refl) in
-                rw (raised-member w2 R d v vr, raised-member w2 R d x m) (omega (arith, ints)))
-            | inr vr ↦ rw (raised-outside w2 R d v vr, raised-member w2 R d x m) (omega (arith, ints))
+            | inl vr ↦ (let least = slack.least (w2 top ⊖ w2 v) (second_addition top v lt lv t k vr refl) in
+                rw (raised-member w2 R d v vr, raised-member w2 R d x m) (omega (arith, ints, pairs)))
+            | inr vr ↦ rw (raised-outside w2 R d v vr, raised-member w2 R d x m) (omega (arith, ints, pairs))
           ]))
 
       -- an exchange out of R, along which an arc gets tight
       new_first_exchange : (y x : ℕ) → x < n → IsExchangeable p I y x → is_member y R ≡ true → is_member x R ≡ false
-          → d ≡ w1 y -ℤ w1 x → is_member x S ≡ true
+          → d ≡ w1 y ⊖ w1 x → is_member x S ≡ true
       new_first_exchange y x lx t m out e =
           later.reached.closed y x (reached_stays y m) lx (tight_first p q (lowered w1 R d) (raised w2 R d) I y x t.inside t.outside t.passes
-          (rw (lowered-member w1 R d y m, lowered-outside w1 R d x out) (omega (arith, ints))))
+          (rw (lowered-member w1 R d y m, lowered-outside w1 R d x out) (omega (arith, ints, pairs))))
 
       new_second_exchange : (x y : ℕ) → y < n → IsExchangeable q I y x → is_member x R ≡ true → is_member y R ≡ false
-          → d ≡ w2 y -ℤ w2 x → is_member y S ≡ true
+          → d ≡ w2 y ⊖ w2 x → is_member y S ≡ true
       new_second_exchange x y ly t m out e =
           later.reached.closed x y (reached_stays x m) ly (tight_second p q (lowered w1 R d) (raised w2 R d) I x y t.inside t.outside t.passes
-          (rw (raised-member w2 R d x m, raised-outside w2 R d y out) (omega (arith, ints))))
+          (rw (raised-member w2 R d x m, raised-outside w2 R d y out) (omega (arith, ints, pairs))))
 
       -- an element of S outside R
       one_more : IsSlack n (exchanges_at p I) (exchanges_at q I) w1 w2 R d → (x : ℕ) × (is_member x S ≡ true) × (is_member x R ≡ false)
@@ -224,7 +227,7 @@ module _ {n : ℕ} {p q : List ℕ → Bool} (lp : IsMatroid n p) (lq : IsMatroi
           omega arith
 
   -- the change by the least slack
-  pub change_by_least_slack : (d : ℤ) → IsLeastSlack n (exchanges_at p I) (exchanges_at q I) w1 w2 R d → IsChange n p q w1 w2 I R d
+  pub change_by_least_slack : (d : Weight) → IsLeastSlack n (exchanges_at p I) (exchanges_at q I) w1 w2 R d → IsChange n p q w1 w2 I R d
   change_by_least_slack d slack = record {
     positive = slack_positive d slack.slack;
     first = first_stays_heaviest d slack;

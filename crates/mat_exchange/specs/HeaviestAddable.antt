@@ -1,18 +1,20 @@
 -- The greatest weight of the elements that pass a test, as of those that can be added (Frank 1981).
-use Rattle.std.specs.Prelude.{◌≡◌, ℕ, Bool, true, false, if◌then◌else◌, Option, Some, None, MatchOption, ℤ, int_lt, ◌≤ℤ◌}
+use Rattle.std.specs.Prelude.{◌≡◌, ℕ, Bool, true, false, if◌then◌else◌, Option, Some, None, MatchOption}
+use Rattle.mat_sets.specs.Weights.{◌≼◌, is_below}
+use Rattle.mat_sets.specs.declared.weight.Weight.{Weight}
 
 -- t is the weight of an element that passes, and none that passes weighs more
-pub record IsHeaviestWeight (test : ℕ → Bool) (w : ℕ → ℤ) (t : ℤ) : Type 0 where
+pub record IsHeaviestWeight (test : ℕ → Bool) (w : ℕ → Weight) (t : Weight) : Type 0 where
   pub element : ℕ
   pub passes : test element ≡ true
   pub weighs : w element ≡ t
-  pub most : (x : ℕ) → test x ≡ true → w x ≤ℤ t
+  pub most : (x : ℕ) → test x ≡ true → w x ≼ t
 
 -- that weight, or nothing where no element passes
-abbrev pub IsHeaviestWeightOrNone : (ℕ → Bool) → (ℕ → ℤ) → Option ℤ → Type 0
+abbrev pub IsHeaviestWeightOrNone : (ℕ → Bool) → (ℕ → Weight) → Option Weight → Type 0
 IsHeaviestWeightOrNone test w heaviest = MatchOption heaviest ((x : ℕ) → test x ≡ false) (IsHeaviestWeight test w)
 
--- the greater of a number, if there is one, and another
-abbrev pub greater_of : Option ℤ → ℤ → Option ℤ
+-- the greater of a weight, if there is one, and another
+abbrev pub greater_of : Option Weight → Weight → Option Weight
 greater_of None z = Some z
-greater_of (Some t) z = Some (if int_lt t z then z else t)
+greater_of (Some t) z = Some (if is_below t z then z else t)

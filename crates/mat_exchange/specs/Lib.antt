@@ -5,3 +5,4 @@ pub mod RowTables
 pub mod HeaviestAddable
 pub mod SlackParts
 pub mod TightSearches
+pub mod Growing

@@ -1,13 +1,14 @@
 -- What a search along tight arcs is given (Frank 1981; Schrijver, chapter 41).
-use Rattle.std.specs.Prelude.{◌≡◌, ◌≤◌, ℕ, List, length, ℤ, Option}
-use Rattle.mat_sets.specs.Sums.{weight_at}
+use Rattle.std.specs.Prelude.{◌≡◌, ◌≤◌, ℕ, List, length, Option}
+use Rattle.mat_sets.specs.Weights.{weight_at}
+use Rattle.mat_sets.specs.declared.weight.Weight.{Weight}
 use Rattle.mat_laws.specs.declared.exchange.Exchange.{Exchange}
 use Rattle.mat_laws.specs.TightPaths.{exchanges_in}
 use Rattle.mat_exchange.specs.Tables.{IsTableAt}
 use Rattle.mat_exchange.specs.HeaviestAddable.{IsHeaviestWeightOrNone}
 
 -- tables of rows at a set, two weights of each element, and the greatest weights of the elements that can be added
-pub record AreTightArcs (set : List ℕ) (first second : List Exchange) (w1 w2 : List ℤ) (top1 top2 : Option ℤ) : Type 0 where
+pub record AreTightArcs (set : List ℕ) (first second : List Exchange) (w1 w2 : List Weight) (top1 top2 : Option Weight) : Type 0 where
   pub few : length w1 ≤ 500
   pub lengths : length w2 ≡ length w1
   pub first_table : IsTableAt (length w1) set first

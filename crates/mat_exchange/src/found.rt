@@ -1,6 +1,6 @@
 //! What a search along tight arcs finds.
 
-use mat_sets::ElemSet;
+use mat_sets::{ElemSet, Weight};
 
 /// A tight path, or the set that the sources reach where no tight path exists (Frank 1981).
 #[derive(Debug, Drop)]
@@ -13,6 +13,6 @@ pub enum Found {
         reach: ElemSet,
         /// The least slack: by how much the weights of the reached set must change until a further element is reached or one of
         /// them becomes a sink; none where no change does that.
-        slack: Option<i128>,
+        slack: Option<Weight>,
     },
 }

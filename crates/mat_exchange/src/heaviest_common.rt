@@ -1,13 +1,13 @@
 //! The greatest weight among the members that two sets have in common.
 ghost use Rattle.std.specs.Prelude.{◌≡◌, ◌&&◌, ◌<◌, ◌≤◌, ℕ, true, length};
 ghost use Rattle.mat_sets.specs.Sets.{is_member};
-ghost use Rattle.mat_sets.specs.Sums.{weight_at};
+ghost use Rattle.mat_sets.specs.Weights.{weight_at};
 ghost use Rattle.mat_exchange.specs.HeaviestAddable.{greater_of, IsHeaviestWeightOrNone};
 
-use mat_sets::BitSet;
+use mat_sets::{BitSet, Weight};
 
 /// The greater of a weight, if there is one, and another.
-fn greater(heaviest: Option<i128>, weight: i128) -> Option<i128>
+fn greater(heaviest: Option<Weight>, weight: Weight) -> Option<Weight>
     ensures { result ≡ greater_of heaviest weight }
 {
     match heaviest {
@@ -18,7 +18,7 @@ fn greater(heaviest: Option<i128>, weight: i128) -> Option<i128>
 
 /// The greatest weight of the members that two sets have in common; none where they have none. The time is that of those
 /// members and of the words of the sets.
-pub(crate) fn heaviest_common(first: &BitSet, second: &BitSet, weights: &[i128]) -> Option<i128>
+pub(crate) fn heaviest_common(first: &BitSet, second: &BitSet, weights: &[Weight]) -> Option<Weight>
     requires few { length weights.now ≤ 500 }
     requires below { (x : ℕ) → (is_member x first.now && is_member x second.now) ≡ true → x < length weights.now }
     ensures { IsHeaviestWeightOrNone (λ x. is_member x first.now && is_member x second.now) (weight_at weights.now) result }

@@ -3,19 +3,28 @@
 
 mod exchanges;
 mod found;
+mod fringe;
+mod grown;
+mod growth;
+#[cfg(test)]
+mod growth_tests;
 mod heaviest_addable;
 mod heaviest_common;
+mod heaviest_members;
 pub mod laws;
 mod path_search;
 mod row_table;
 mod slack;
 #[cfg(test)]
 mod slack_tests;
+mod steps;
 #[cfg(test)]
 mod tests;
 mod tight_arcs;
 
 pub use exchanges::rows;
 pub use found::Found;
+pub use grown::Grown;
+pub use growth::grow;
 pub use path_search::tight_search;
 pub use row_table::RowTable;

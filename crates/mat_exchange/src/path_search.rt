@@ -1,6 +1,6 @@
 //! The search for a tight path.
 ghost use Rattle.std.specs.Prelude.{◌≡◌, ◌≤◌, ◌^◌, length, IfOk};
-ghost use Rattle.mat_sets.specs.Sums.{weight_at, AreWithin};
+ghost use Rattle.mat_sets.specs.Weights.{weight_at, AreWeightsWithin};
 ghost use Rattle.mat_laws.specs.TightPaths.{exchanges_in};
 ghost use Rattle.mat_exchange.specs.Searching.{IsFound};
 ghost use Rattle.mat_exchange.specs.Tables.{IsTableAt};
@@ -10,7 +10,7 @@ use crate::heaviest_addable::heaviest_addable;
 use crate::row_table::RowTable;
 use crate::slack::least_slack;
 use crate::tight_arcs::TightArcs;
-use mat_sets::{ElemSet, WalkSearch, shortest_walk};
+use mat_sets::{ElemSet, WalkSearch, Weight, shortest_walk};
 use std::alloc::{AllocError, Global};
 
 /// A tight path with fewest vertices at a common independent set, or all that the sources reach along tight arcs and its least
@@ -20,15 +20,15 @@ pub fn tight_search(
     first: &RowTable,
     second: &RowTable,
     set: &ElemSet,
-    w1: &[i128],
-    w2: &[i128],
+    w1: &[Weight],
+    w2: &[Weight],
 ) -> Result<Found, AllocError>
     requires few { length w1.now ≤ 500 }
     requires lengths { length w2.now ≡ length w1.now }
     requires first_table { IsTableAt (length w1.now) set.now first.now }
     requires second_table { IsTableAt (length w1.now) set.now second.now }
-    requires first_small { AreWithin (10 ^ 30) w1.now }
-    requires second_small { AreWithin (10 ^ 30) w2.now }
+    requires first_small { AreWeightsWithin (10 ^ 30) w1.now }
+    requires second_small { AreWeightsWithin (10 ^ 30) w2.now }
     ensures { IfOk result (IsFound (length w1.now) (exchanges_in first.now) (exchanges_in second.now) (weight_at w1.now) (weight_at w2.now)) }
 {
     let top1 = heaviest_addable(first, w1);

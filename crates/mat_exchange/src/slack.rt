@@ -1,7 +1,7 @@
 //! The least slack of a reached set.
-ghost use Rattle.std.specs.Prelude.{◌≡◌, ◌<◌, ◌≤◌, ◌^◌, ◌&&◌, ℕ, true, not, nat_lt, length, IfOk, ◌-ℤ◌};
+ghost use Rattle.std.specs.Prelude.{◌≡◌, ◌<◌, ◌≤◌, ◌^◌, ◌&&◌, ℕ, true, not, nat_lt, length, IfOk};
 ghost use Rattle.mat_sets.specs.Sets.{is_member, AllBelow};
-ghost use Rattle.mat_sets.specs.Sums.{weight_at, AreWithin, IsWithin};
+ghost use Rattle.mat_sets.specs.Weights.{◌⊖◌, weight_at, IsWeightWithin, AreWeightsWithin};
 ghost use Rattle.mat_laws.specs.TightPaths.{exchanges_in};
 ghost use Rattle.mat_laws.specs.Slacks.{IsLeastSlackOrNone};
 ghost use Rattle.mat_exchange.specs.SlackParts.{IsAdditionSlack, IsExchangeSlackAt, IsExchangeSlack, IsLeastOrNone, lesser_of};
@@ -9,11 +9,11 @@ ghost use Rattle.mat_exchange.specs.SlackParts.{IsAdditionSlack, IsExchangeSlack
 use crate::heaviest_addable::heaviest_addable;
 use crate::heaviest_common::heaviest_common;
 use crate::row_table::RowTable;
-use mat_sets::{BitSet, ElemSet};
+use mat_sets::{BitSet, ElemSet, Weight};
 use std::alloc::{AllocError, Global};
 
-/// The lesser of two numbers, where there are any.
-fn lesser(a: Option<i128>, b: Option<i128>) -> Option<i128>
+/// The lesser of two weights, where there are any.
+fn lesser(a: Option<Weight>, b: Option<Weight>) -> Option<Weight>
     ensures { result ≡ lesser_of a b }
 {
     match (a, b) {
@@ -24,19 +24,19 @@ fn lesser(a: Option<i128>, b: Option<i128>) -> Option<i128>
 }
 
 /// By how much one weight exceeds another.
-fn excess(weight: i128, other: i128) -> i128
-    requires small { IsWithin (10 ^ 30) weight }
-    requires other_small { IsWithin (10 ^ 30) other }
-    ensures { result ≡ weight -ℤ other }
+pub(crate) fn excess(weight: Weight, other: Weight) -> Weight
+    requires small { IsWeightWithin (10 ^ 30) weight }
+    requires other_small { IsWeightWithin (10 ^ 30) other }
+    ensures { result ≡ weight ⊖ other }
 {
     weight - other
 }
 
 /// By how much a heaviest addable element outweighs the heaviest addable element of a set.
-fn addition_slack(table: &RowTable, into: &BitSet, weights: &[i128]) -> Option<i128>
+pub(crate) fn addition_slack(table: &RowTable, into: &BitSet, weights: &[Weight]) -> Option<Weight>
     requires few { length weights.now ≤ 500 }
     requires count { length table.now ≡ length weights.now }
-    requires small { AreWithin (10 ^ 30) weights.now }
+    requires small { AreWeightsWithin (10 ^ 30) weights.now }
     requires below { (x : ℕ) → is_member x into.now ≡ true → x < length weights.now }
     ensures { IsLeastOrNone (IsAdditionSlack (length weights.now) (exchanges_in table.now) (weight_at weights.now) into.now) result }
 {
@@ -51,11 +51,11 @@ fn exchange_slack_at(
     y: u32,
     from: &BitSet,
     into: &BitSet,
-    weights: &[i128],
-) -> Option<i128>
+    weights: &[Weight],
+) -> Option<Weight>
     requires few { length weights.now ≤ 500 }
     requires count { length table.now ≡ length weights.now }
-    requires small { AreWithin (10 ^ 30) weights.now }
+    requires small { AreWeightsWithin (10 ^ 30) weights.now }
     requires below { (x : ℕ) → is_member x into.now ≡ true → x < length weights.now }
     requires replaced { y < length weights.now }
     ensures { IsLeastOrNone (IsExchangeSlackAt y (exchanges_in table.now) (weight_at weights.now) from.now into.now) result }
@@ -68,10 +68,15 @@ fn exchange_slack_at(
 }
 
 /// The least of these over all y.
-fn exchange_slack(table: &RowTable, from: &BitSet, into: &BitSet, weights: &[i128]) -> Option<i128>
+fn exchange_slack(
+    table: &RowTable,
+    from: &BitSet,
+    into: &BitSet,
+    weights: &[Weight],
+) -> Option<Weight>
     requires few { length weights.now ≤ 500 }
     requires count { length table.now ≡ length weights.now }
-    requires small { AreWithin (10 ^ 30) weights.now }
+    requires small { AreWeightsWithin (10 ^ 30) weights.now }
     requires below { (x : ℕ) → is_member x into.now ≡ true → x < length weights.now }
     ensures { IsLeastOrNone (IsExchangeSlack (length weights.now) (exchanges_in table.now) (weight_at weights.now) from.now into.now) result }
 {
@@ -112,16 +117,16 @@ pub(crate) fn least_slack(
     first: &RowTable,
     second: &RowTable,
     reach: &ElemSet,
-    w1: &[i128],
-    w2: &[i128],
-) -> Result<Option<i128>, AllocError>
+    w1: &[Weight],
+    w2: &[Weight],
+) -> Result<Option<Weight>, AllocError>
     requires few { length w1.now ≤ 500 }
     requires lengths { length w2.now ≡ length w1.now }
     requires first_count { length first.now ≡ length w1.now }
     requires second_count { length second.now ≡ length w1.now }
     requires below { AllBelow (length w1.now) reach.now }
-    requires first_small { AreWithin (10 ^ 30) w1.now }
-    requires second_small { AreWithin (10 ^ 30) w2.now }
+    requires first_small { AreWeightsWithin (10 ^ 30) w1.now }
+    requires second_small { AreWeightsWithin (10 ^ 30) w2.now }
     ensures { IfOk result (IsLeastSlackOrNone (length w1.now) (exchanges_in first.now) (exchanges_in second.now)
         (weight_at w1.now) (weight_at w2.now) reach.now) }
 {

@@ -3,11 +3,12 @@
 ghost use Rattle.std.specs.Prelude.{◌≡◌, ◌^◌, length, IfOk};
 ghost use Rattle.mat_sets.specs.Sets.{AllBelow};
 ghost use Rattle.mat_sets.specs.Sums.{AreWithin};
+ghost use Rattle.mat_sets.specs.Weights.{AreWeightsWithin};
 
 use crate::row_table::RowTable;
 use crate::slack::least_slack;
 use mat_laws::Exchange;
-use mat_sets::ElemSet;
+use mat_sets::{ElemSet, Weight};
 use std::alloc::{AllocError, Global};
 use std::test::Fail;
 
@@ -45,15 +46,36 @@ fn table(alloc: Global, addable: bool) -> Result<RowTable, AllocError>
     RowTable::new(alloc, &exchanges)
 }
 
+/// Weights without ties.
+fn plain(mains: [i128; 3]) -> [Weight; 3]
+    requires { AreWithin (10 ^ 30) mains }
+    ensures { AreWeightsWithin (10 ^ 30) result }
+{
+    [
+        Weight {
+            main: mains[0],
+            tie: 0,
+        },
+        Weight {
+            main: mains[1],
+            tie: 0,
+        },
+        Weight {
+            main: mains[2],
+            tie: 0,
+        },
+    ]
+}
+
 /// The least slack of the chosen elements.
 fn slack_of(
     alloc: Global,
     reach: [bool; 3],
-    w1: [i128; 3],
-    w2: [i128; 3],
-) -> Result<Option<i128>, AllocError>
-    requires first_small { AreWithin (10 ^ 30) w1 }
-    requires second_small { AreWithin (10 ^ 30) w2 }
+    w1: [Weight; 3],
+    w2: [Weight; 3],
+) -> Result<Option<Weight>, AllocError>
+    requires first_small { AreWeightsWithin (10 ^ 30) w1 }
+    requires second_small { AreWeightsWithin (10 ^ 30) w2 }
 {
     let first = table(alloc, true)?;
     let second = table(alloc, true)?;
@@ -63,32 +85,52 @@ fn slack_of(
 // The first weights of 1 and 2 differ by 3, of 0 and 2 by 4, and the second ones of 2 and 1 by 5.
 #[test]
 fn an_addition_in_the_first_is_least(rt: HostRuntime) -> Result<(), Fail> {
-    let slack = slack_of(rt.alloc(), [true, true, false], [8, 7, 4], [0, 1, 6])?;
-    assert_eq!(rt; slack, Some(3));
+    let slack = slack_of(
+        rt.alloc(),
+        [true, true, false],
+        plain([8, 7, 4]),
+        plain([0, 1, 6]),
+    )?;
+    assert_eq!(rt; slack, Some(Weight { main: 3, tie: 0 }));
     Ok(())
 }
 
 // The first weights of 1 and 2 differ by 3, of 0 and 2 by 2, and the second ones of 2 and 1 by 5.
 #[test]
 fn an_exchange_in_the_first_is_least(rt: HostRuntime) -> Result<(), Fail> {
-    let slack = slack_of(rt.alloc(), [true, true, false], [6, 7, 4], [0, 1, 6])?;
-    assert_eq!(rt; slack, Some(2));
+    let slack = slack_of(
+        rt.alloc(),
+        [true, true, false],
+        plain([6, 7, 4]),
+        plain([0, 1, 6]),
+    )?;
+    assert_eq!(rt; slack, Some(Weight { main: 2, tie: 0 }));
     Ok(())
 }
 
 // The first weights of 1 and 2 differ by 6, and the second ones of 0 and 1 by 4, of 2 and 1 by 6.
 #[test]
 fn an_exchange_in_the_second_is_least(rt: HostRuntime) -> Result<(), Fail> {
-    let slack = slack_of(rt.alloc(), [false, true, false], [0, 9, 3], [5, 1, 7])?;
-    assert_eq!(rt; slack, Some(4));
+    let slack = slack_of(
+        rt.alloc(),
+        [false, true, false],
+        plain([0, 9, 3]),
+        plain([5, 1, 7]),
+    )?;
+    assert_eq!(rt; slack, Some(Weight { main: 4, tie: 0 }));
     Ok(())
 }
 
 // The first weights of 1 and 2 differ by 6, and the second ones of 0 and 1 by 4, of 2 and 1 by 3.
 #[test]
 fn an_addition_in_the_second_is_least(rt: HostRuntime) -> Result<(), Fail> {
-    let slack = slack_of(rt.alloc(), [false, true, false], [0, 9, 3], [5, 1, 4])?;
-    assert_eq!(rt; slack, Some(3));
+    let slack = slack_of(
+        rt.alloc(),
+        [false, true, false],
+        plain([0, 9, 3]),
+        plain([5, 1, 4]),
+    )?;
+    assert_eq!(rt; slack, Some(Weight { main: 3, tie: 0 }));
     Ok(())
 }
 
@@ -99,7 +141,14 @@ fn no_slack_is_left(rt: HostRuntime) -> Result<(), Fail> {
     let first = table(alloc, true)?;
     let second = table(alloc, false)?;
     let all = chosen(alloc, [true, true, true])?;
-    let slack = least_slack(alloc, &first, &second, &all, &[8, 7, 4], &[0, 1, 6])?;
+    let slack = least_slack(
+        alloc,
+        &first,
+        &second,
+        &all,
+        &plain([8, 7, 4]),
+        &plain([0, 1, 6]),
+    )?;
     assert_eq!(rt; slack, None);
     Ok(())
 }

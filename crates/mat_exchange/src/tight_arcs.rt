@@ -1,14 +1,13 @@
 //! The tight arcs at a common independent set of two matroids.
 ghost use Rattle.std.specs.Prelude.{◌≡◌, ◌<◌, ◌≤◌, ◌&&◌, ℕ, true, length};
-ghost use Rattle.std.specs.Ordering.{int_eq};
 ghost use Rattle.mat_sets.specs.Search.{IsNextFrom};
 ghost use Rattle.mat_sets.specs.Sets.{is_member};
-ghost use Rattle.mat_sets.specs.Sums.{weight_at};
+ghost use Rattle.mat_sets.specs.Weights.{is_same, weight_at};
 ghost use Rattle.mat_laws.specs.TightPaths.{exchanges_in, is_heaviest_addable};
 ghost use Rattle.mat_exchange.specs.HeaviestAddable.{IsHeaviestWeightOrNone};
 
 use crate::row_table::RowTable;
-use mat_sets::{BitSet, ElemSet, Relation};
+use mat_sets::{BitSet, ElemSet, Relation, Weight};
 
 /// The tight arcs at a set, by the tables of both matroids, the weights, and the greatest weights of the elements that can be
 /// added (Frank 1981).
@@ -17,15 +16,14 @@ pub(crate) struct TightArcs<'a> {
     pub(crate) set: &'a ElemSet,
     pub(crate) first: &'a RowTable,
     pub(crate) second: &'a RowTable,
-    pub(crate) w1: &'a [i128],
-    pub(crate) w2: &'a [i128],
-    pub(crate) top1: Option<i128>,
-    pub(crate) top2: Option<i128>,
+    pub(crate) w1: &'a [Weight],
+    pub(crate) w2: &'a [Weight],
+    pub(crate) top1: Option<Weight>,
+    pub(crate) top2: Option<Weight>,
 }
 
 impl Relation for TightArcs<'_> {
     ghost use Rattle.std.specs.Prelude.{length};
-    ghost use Rattle.mat_sets.specs.Sums.{weight_at};
     ghost use Rattle.mat_laws.specs.TightPaths.{exchanges_in, is_heaviest_addable, is_tight};
     ghost use Rattle.mat_exchange.specs.TightSearches.{AreTightArcs};
 
@@ -61,7 +59,7 @@ impl Relation for TightArcs<'_> {
 }
 
 /// Whether x can be added and has the greatest weight of those that can.
-fn is_heaviest(table: &RowTable, weights: &[i128], top: Option<i128>, x: u32) -> bool
+fn is_heaviest(table: &RowTable, weights: &[Weight], top: Option<Weight>, x: u32) -> bool
     requires table { length table.now ≡ length weights.now }
     requires below { x < length weights.now }
     requires top { IsHeaviestWeightOrNone (exchanges_in table.now).adds (weight_at weights.now) top }
@@ -74,9 +72,9 @@ fn is_heaviest(table: &RowTable, weights: &[i128], top: Option<i128>, x: u32) ->
 }
 
 /// Whether x has this weight.
-fn weighs(weights: &[i128], x: u32, weight: i128) -> bool
+fn weighs(weights: &[Weight], x: u32, weight: Weight) -> bool
     requires { x < length weights.now }
-    ensures { result ≡ int_eq weight (weight_at weights.now x) }
+    ensures { result ≡ is_same weight (weight_at weights.now x) }
 {
     weight == weights[x as usize]
 }
@@ -85,14 +83,14 @@ fn weighs(weights: &[i128], x: u32, weight: i128) -> bool
 fn next_equal(
     candidates: &BitSet,
     among: &BitSet,
-    weights: &[i128],
+    weights: &[Weight],
     u: u32,
     from: u32,
 ) -> Option<u32>
     requires few { length weights.now ≤ 500 }
     requires below { u < length weights.now }
     requires among { (v : ℕ) → is_member v among.now ≡ true → v < length weights.now }
-    ensures { IsNextFrom (λ v. (is_member v candidates.now && is_member v among.now) && int_eq (weight_at weights.now u) (weight_at weights.now v)) from result }
+    ensures { IsNextFrom (λ v. (is_member v candidates.now && is_member v among.now) && is_same (weight_at weights.now u) (weight_at weights.now v)) from result }
 {
     let weight = weights[u as usize];
     let mut at = from;

@@ -1,13 +1,15 @@
 -- What the greedy loop keeps: the set is heaviest of its size, and so is each set so far; no element that was passed can be added,
 -- so the next one is a heaviest that can. In the end no element at all can be added: the last size is the rank.
-use Rattle.std.proofs.Common.{◌≡◌, ℕ, zero, suc, ◌+◌, ◌<◌, ◌≤◌, Bool, true, false, not, ◌&&◌, if◌then◌else◌, List, [], ◌∷◌, ◌++◌, length, length-append, get_or, refl, sym, ap, ◌∙◌, subst, arith, inl, inr, ℤ, ◌≤ℤ◌}
+use Rattle.std.proofs.Common.{◌≡◌, ℕ, zero, suc, ◌+◌, ◌<◌, ◌≤◌, Bool, true, false, not, ◌&&◌, if◌then◌else◌, List, [], ◌∷◌, ◌++◌, length, length-append, get_or, refl, sym, ap, ◌∙◌, subst, arith, inl, inr}
 use Rattle.std.proofs.lemmas.Bool.{cases_lt, cases_order, both_ways, and_parts, not-true}
 use Rattle.std.proofs.lemmas.Int.{ints}
 use Rattle.mat_sets.specs.Sets.{is_member, with_one, all_below}
-use Rattle.mat_sets.specs.Sums.{weight_at}
 use Rattle.mat_sets.proofs.Members.{place_of_member, set_members}
 use Rattle.mat_sets.proofs.Ground.{AllBelow-member, IsRising-all_below}
 use Rattle.mat_sets.proofs.Cardinalities.{length-with_one}
+use Rattle.mat_sets.specs.Weights.{◌≼◌, weight_at}
+use Rattle.mat_sets.specs.declared.weight.Weight.{Weight}
+use Rattle.mat_sets.proofs.WeightOrder.{pairs}
 use Rattle.mat_laws.specs.Matroids.{IsMatroid, IsMaximal}
 use Rattle.mat_laws.specs.Heaviest.{IsHeaviest}
 use Rattle.mat_laws.proofs.Independent.{rising, below}
@@ -19,11 +21,11 @@ use Rattle.mat_greedy.specs.Order.{IsFallingOrder}
 use Rattle.mat_greedy.specs.Greedy.{AreHeaviestEach}
 
 -- heaviest of the independent sets of k elements
-abbrev pub IsHeaviestOf : (List ℕ → Bool) → (ℕ → ℤ) → ℕ → List ℕ → Type 0
+abbrev pub IsHeaviestOf : (List ℕ → Bool) → (ℕ → Weight) → ℕ → List ℕ → Type 0
 IsHeaviestOf p w k set = (length set ≡ k) × IsHeaviest p w set
 
 -- after the first i elements of the order: the set, and the heaviest sets of each size up to its own
-pub record IsClimbing (p : List ℕ → Bool) (w : ℕ → ℤ) (order : List ℕ) (i : ℕ) (set : List ℕ) (sets : List (List ℕ)) : Type 0 where
+pub record IsClimbing (p : List ℕ → Bool) (w : ℕ → Weight) (order : List ℕ) (i : ℕ) (set : List ℕ) (sets : List (List ℕ)) : Type 0 where
   pub growing : IsGrowing p [] order i set
   pub heaviest : IsHeaviest p w set
   pub count : length sets ≡ suc (length set)
@@ -39,7 +41,7 @@ get_or-last [] s = refl
 get_or-last (a ∷ sets) s = get_or-last sets s
 
 module _ {n : ℕ} {p : List ℕ → Bool} (laws : IsMatroid n p) where
-  pub IsClimbing-start : (w : ℕ → ℤ) (order : List ℕ) → IsClimbing p w order 0 [] ([] ∷ [])
+  pub IsClimbing-start : (w : ℕ → Weight) (order : List ℕ) → IsClimbing p w order 0 [] ([] ∷ [])
   IsClimbing-start w order = record {
     growing = IsGrowing-start p [] order laws.empty;
     heaviest = IsHeaviest-nil laws w;
@@ -51,22 +53,22 @@ module _ {n : ℕ} {p : List ℕ → Bool} (laws : IsMatroid n p) where
       zero_is k l = omega arith
 
   -- an element that can be added was not passed, so it weighs no more than the next
-  next_is_heaviest : (weights : List ℤ) (order set : List ℕ) (sets : List (List ℕ)) (i e : ℕ) → n ≡ length weights
+  next_is_heaviest : (weights : List Weight) (order set : List ℕ) (sets : List (List ℕ)) (i e : ℕ) → n ≡ length weights
       → IsFallingOrder weights order → i < length order
       → IsClimbing p (weight_at weights) order i set sets → is_member e set ≡ false → p (with_one set e) ≡ true
-      → weight_at weights e ≤ℤ weight_at weights (get_or order i 0)
+      → weight_at weights e ≼ weight_at weights (get_or order i 0)
   next_is_heaviest weights order set sets i e size falling l g out ok =
       let e_in : is_member e (with_one set e) ≡ true = grind (arith, set_members) in
       let small : e < n = AllBelow-member n (with_one set e) e (below laws (with_one set e) ok) e_in in
       let at = place_of_member e order (falling.each e (omega arith)) in
       elim (cases_order at.0 i) [
-        | inl same ↦ rw (sym at.2, same) (omega (arith, ints))
+        | inl same ↦ rw (sym at.2, same) (omega (arith, ints, pairs))
         | inr (inl less) ↦ absurd (both_ways _ (ap (λ y. p (with_one set y)) (sym at.2) ∙ g.growing.refused at.0 less (ap (λ y. is_member y set) at.2 ∙ out)) ok)
         | inr (inr more) ↦ rw (sym at.2) (falling.falls i at.0 more at.1)
       ]
 
   -- one turn of the loop
-  pub IsClimbing-next : (weights : List ℤ) (order set : List ℕ) (sets : List (List ℕ)) (i x : ℕ) → n ≡ length weights
+  pub IsClimbing-next : (weights : List Weight) (order set : List ℕ) (sets : List (List ℕ)) (i x : ℕ) → n ≡ length weights
       → IsFallingOrder weights order → i < length order → x ≡ get_or order i 0
       → IsClimbing p (weight_at weights) order i set sets → (added : Bool) (set' : List ℕ) (sets' : List (List ℕ))
       → added ≡ (not (is_member x set) && p (with_one set x))
@@ -95,7 +97,7 @@ module _ {n : ℕ} {p : List ℕ → Bool} (laws : IsMatroid n p) where
         ];
       })
 
-  pub IsClimbing-end : (weights : List ℤ) (order set : List ℕ) (sets : List (List ℕ)) (i : ℕ) → n ≡ length weights
+  pub IsClimbing-end : (weights : List Weight) (order set : List ℕ) (sets : List (List ℕ)) (i : ℕ) → n ≡ length weights
       → IsFallingOrder weights order → length order ≤ i
       → IsClimbing p (weight_at weights) order i set sets → AreHeaviestEach n p (weight_at weights) sets
   IsClimbing-end weights order set sets i size falling l g = record {

@@ -1,15 +1,15 @@
 //! The greedy algorithm on a matroid.
 
-ghost use Rattle.std.specs.Prelude.{◌≡◌, ◌<◌, length, IfOk, IfSome, IsNone, ◌↔◌};
+ghost use Rattle.std.specs.Prelude.{◌≡◌, ◌<◌, ◌≤◌, ◌^◌, length, IfOk, IfSome, IsNone, ◌↔◌};
 ghost use Rattle.mat_sets.specs.Sets.{all_below};
-ghost use Rattle.mat_sets.specs.Sums.{weight_at};
+ghost use Rattle.mat_sets.specs.Weights.{weight_at, AreWeightsWithin};
 ghost use Rattle.mat_laws.specs.Ranks.{rank};
 ghost use Rattle.mat_laws.specs.Heaviest.{IsHeaviest};
-ghost use Rattle.mat_greedy.specs.Greedy.{AreHeaviestEach};
+ghost use Rattle.mat_greedy.specs.Greedy.{AreHeaviestEach, AreHeaviestWeights};
 
 use crate::order::order_by_weight;
 use mat_laws::Matroid;
-use mat_sets::{ElemSet, SetList};
+use mat_sets::{ElemSet, PairWeights, SetList, Weight};
 use std::alloc::{AllocError, Global};
 
 /// A heaviest independent set of each size from 0 to the rank, by the greedy algorithm (Schrijver, chapter 40): the set
@@ -18,7 +18,7 @@ use std::alloc::{AllocError, Global};
 pub fn heaviest_each<M: Matroid>(
     alloc: Global,
     m: &M,
-    weights: &[i128],
+    weights: &[Weight],
 ) -> Result<SetList, AllocError>
     requires sound { M.sound m.now }
     requires lengths { length weights.now ≡ M.ground_size m.now }
@@ -37,12 +37,40 @@ pub fn heaviest_each<M: Matroid>(
     Ok(SetList::new(sets))
 }
 
+/// The weight of a heaviest independent set of each size from 0 to the rank, by one run of the greedy algorithm (Schrijver,
+/// chapter 40), which keeps no set but the last. At most as many questions of independence as there are elements. The only
+/// error is want of memory.
+pub fn heaviest_weights<M: Matroid>(
+    alloc: Global,
+    m: &M,
+    weights: &[Weight],
+) -> Result<PairWeights, AllocError>
+    requires sound { M.sound m.now }
+    requires lengths { length weights.now ≡ M.ground_size m.now }
+    requires few { length weights.now ≤ 500 }
+    requires small { AreWeightsWithin (10 ^ 30) weights.now }
+    ensures { IfOk result (AreHeaviestWeights (M.ground_size m.now) (M.indep m.now) (weight_at weights.now)) }
+{
+    m.lawful();
+    let order = order_by_weight(alloc, m.size(), weights)?;
+    let mut set = ElemSet::new(alloc);
+    let mut sum = Weight::ZERO;
+    let mut sums = vec![in alloc; sum]?;
+    for x in &order {
+        if m.add_if_independent(alloc, &mut set, *x)? {
+            sum += weights[*x as usize];
+            sums.push(sum)?;
+        }
+    }
+    Ok(PairWeights::new(sums))
+}
+
 /// A heaviest independent set of k elements, or none where k is above the rank (Schrijver, chapter 40). The only error
 /// is want of memory.
 pub fn heaviest_of<M: Matroid>(
     alloc: Global,
     m: &M,
-    weights: &[i128],
+    weights: &[Weight],
     k: u32,
 ) -> Result<Option<ElemSet>, AllocError>
     requires sound { M.sound m.now }

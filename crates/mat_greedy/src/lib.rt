@@ -6,4 +6,4 @@ mod order;
 #[cfg(test)]
 mod tests;
 
-pub use greedy::{heaviest_each, heaviest_of};
+pub use greedy::{heaviest_each, heaviest_of, heaviest_weights};

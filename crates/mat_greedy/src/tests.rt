@@ -7,9 +7,14 @@ use crate::heaviest_each;
 use mat_gf2::Gf2;
 use mat_graphic::Graphic;
 use mat_minors::Dual;
-use mat_sets::Pairs;
+use mat_sets::{Pairs, Weight};
 use std::alloc::{AllocError, Global};
 use std::test::Fail;
+
+// A weight without a tie.
+fn plain(main: i128) -> Weight {
+    Weight { main, tie: 0 }
+}
 
 // The Fano matroid: all columns of three entries but zero.
 fn fano(alloc: Global) -> Result<Gf2, AllocError>
@@ -46,7 +51,19 @@ fn loop_and_parallel_edges(alloc: Global) -> Result<Graphic, AllocError>
 #[test]
 fn the_third_element_closes_a_line(rt: HostRuntime) -> Result<(), Fail> {
     let alloc = rt.alloc();
-    let sets = heaviest_each(alloc, &fano(alloc)?, &[7, 6, 5, 4, 3, 2, 1])?;
+    let sets = heaviest_each(
+        alloc,
+        &fano(alloc)?,
+        &[
+            plain(7),
+            plain(6),
+            plain(5),
+            plain(4),
+            plain(3),
+            plain(2),
+            plain(1),
+        ],
+    )?;
     assert_eq!(rt; sets.len(), 4);
     assert!(rt; sets.get(0).is_empty());
     assert_eq!(rt; sets.get(1).as_slice(), [0].as_slice());
@@ -58,7 +75,11 @@ fn the_third_element_closes_a_line(rt: HostRuntime) -> Result<(), Fail> {
 #[test]
 fn a_loop_and_a_parallel_edge_stay_out(rt: HostRuntime) -> Result<(), Fail> {
     let alloc = rt.alloc();
-    let sets = heaviest_each(alloc, &loop_and_parallel_edges(alloc)?, &[3, 2, 1])?;
+    let sets = heaviest_each(
+        alloc,
+        &loop_and_parallel_edges(alloc)?,
+        &[plain(3), plain(2), plain(1)],
+    )?;
     assert_eq!(rt; sets.len(), 2);
     assert!(rt; sets.get(0).is_empty());
     assert_eq!(rt; sets.get(1).as_slice(), [1].as_slice());
@@ -68,7 +89,11 @@ fn a_loop_and_a_parallel_edge_stay_out(rt: HostRuntime) -> Result<(), Fail> {
 #[test]
 fn the_dual_of_a_triangle_has_rank_one(rt: HostRuntime) -> Result<(), Fail> {
     let alloc = rt.alloc();
-    let sets = heaviest_each(alloc, &Dual::new(triangle(alloc)?), &[3, 2, 1])?;
+    let sets = heaviest_each(
+        alloc,
+        &Dual::new(triangle(alloc)?),
+        &[plain(3), plain(2), plain(1)],
+    )?;
     assert_eq!(rt; sets.len(), 2);
     assert!(rt; sets.get(0).is_empty());
     assert_eq!(rt; sets.get(1).as_slice(), [0].as_slice());
@@ -78,7 +103,11 @@ fn the_dual_of_a_triangle_has_rank_one(rt: HostRuntime) -> Result<(), Fail> {
 #[test]
 fn the_dual_of_the_dual_is_the_triangle(rt: HostRuntime) -> Result<(), Fail> {
     let alloc = rt.alloc();
-    let sets = heaviest_each(alloc, &Dual::new(Dual::new(triangle(alloc)?)), &[3, 2, 1])?;
+    let sets = heaviest_each(
+        alloc,
+        &Dual::new(Dual::new(triangle(alloc)?)),
+        &[plain(3), plain(2), plain(1)],
+    )?;
     assert_eq!(rt; sets.len(), 3);
     assert_eq!(rt; sets.get(1).as_slice(), [0].as_slice());
     assert_eq!(rt; sets.get(2).as_slice(), [0, 1].as_slice());

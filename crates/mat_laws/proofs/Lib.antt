@@ -9,3 +9,5 @@ pub mod HeaviestSteps
 pub mod Triangular
 pub mod PathSides
 pub mod Rows
+pub mod BestLadders
+pub mod Searches

@@ -1,13 +1,16 @@
 -- A locally heaviest set is heaviest of its size. By induction on how many elements a rival J has outside I: take one, x, and exchange
 -- it symmetrically for some y of I. I - y + x weighs no more than I, so J - x + y weighs no less than J, and is nearer to I.
-use Rattle.std.proofs.Common.{◌≡◌, ℕ, suc, zero, Bool, true, false, not, List, [], ◌∷◌, length, ℤ, ◌≤ℤ◌, refl, sym, ap, ◌∙◌, arith}
+use Rattle.std.proofs.Common.{◌≡◌, ℕ, suc, zero, Bool, true, false, not, List, [], ◌∷◌, length, refl, sym, ap, ◌∙◌, arith}
 use Rattle.std.proofs.lemmas.Bool.{and_parts, not-true}
 use Rattle.std.proofs.lemmas.Int.{ints}
 use Rattle.mat_sets.specs.Sets.{is_member, IsRising, IsSubset, with_one, without_one, minus}
-use Rattle.mat_sets.specs.Sums.{sum_of}
+use Rattle.mat_sets.specs.Weights.{◌≼◌, weight_sum}
+use Rattle.mat_sets.specs.declared.weight.Weight.{Weight}
 use Rattle.mat_sets.proofs.Members.{set_members, same_members, is_member-head, is_member-minus, IsRising-minus, IsRising-without_one}
 use Rattle.mat_sets.proofs.Subsets.{same_size_subset}
-use Rattle.mat_sets.proofs.Cardinalities.{length-without_one, length-exchange_one, sum_of-exchange_one}
+use Rattle.mat_sets.proofs.Cardinalities.{length-without_one, length-exchange_one}
+use Rattle.mat_sets.proofs.WeightSums.{weight_sum-exchange_one}
+use Rattle.mat_sets.proofs.WeightOrder.{pairs}
 use Rattle.mat_sets.proofs.DisjointSets.{no_member}
 use Rattle.mat_laws.specs.Matroids.{IsMatroid}
 use Rattle.mat_laws.specs.Heaviest.{IsHeaviest, IsLocallyHeaviest}
@@ -34,11 +37,11 @@ none_outside I J e = record { inside = λ k m. at k m (no_member (minus J I) k e
     at k m h = grind (arith, set_members)
 
 module _ {n : ℕ} {p : List ℕ → Bool} (laws : IsMatroid n p) where
-  lighter : (w : ℕ → ℤ) (I : List ℕ) → IsLocallyHeaviest p w I → (d : ℕ) (J : List ℕ) → length (minus J I) ≡ d → p J ≡ true
-      → length J ≡ length I → sum_of w J ≤ℤ sum_of w I
+  lighter : (w : ℕ → Weight) (I : List ℕ) → IsLocallyHeaviest p w I → (d : ℕ) (J : List ℕ) → length (minus J I) ≡ d → p J ≡ true
+      → length J ≡ length I → weight_sum w J ≼ weight_sum w I
   lighter w I best zero J e j size =
       let same : J ≡ I = same_size_subset J I (rising laws J j) (rising laws I best.passes) (none_outside I J e) (omega arith) in
-      rw same (omega (arith, ints))
+      rw same (omega (arith, ints, pairs))
   lighter w I best (suc d) J e j size =
       let r = rising laws J j in
       let q = rising laws I best.passes in
@@ -53,32 +56,36 @@ module _ {n : ℕ} {p : List ℕ → Bool} (laws : IsMatroid n p) where
       (let one = length-without_one (minus J I) x (IsRising-minus J I r) some.1 in omega (arith, ap length (outside_after I J x y r t.inside x_out))) in
       let long = length-exchange_one J y x r m.0 t.outside in
       let rest = lighter w I best d nearer fewer t.first (long ∙ size) in
-      omega (arith, ints, rest, sum_of-exchange_one w J y x r m.0 t.outside, best.most x y t.inside x_out t.second, sum_of-exchange_one w I x y q t.inside x_out)
+      let gain = weight_sum-exchange_one w J y x r m.0 t.outside in
+      let most = best.most x y t.inside x_out t.second in
+      let loss = weight_sum-exchange_one w I x y q t.inside x_out in
+      omega (arith, ints, pairs)
 
   -- locally heaviest is heaviest of its size
-  pub locally_heaviest_is_heaviest : (w : ℕ → ℤ) (I : List ℕ) → IsLocallyHeaviest p w I → IsHeaviest p w I
+  pub locally_heaviest_is_heaviest : (w : ℕ → Weight) (I : List ℕ) → IsLocallyHeaviest p w I → IsHeaviest p w I
   locally_heaviest_is_heaviest w I best = record { passes = best.passes; most = λ J j size. lighter w I best (length (minus J I)) J refl j size }
 
   -- where each x that can take the place of a y weighs no more, I is heaviest of its size
-  pub heaviest_from_exchanges : (w : ℕ → ℤ) (I : List ℕ) → p I ≡ true
-      → ((x y : ℕ) → is_member y I ≡ true → is_member x I ≡ false → p (with_one (without_one I y) x) ≡ true → w x ≤ℤ w y) → IsHeaviest p w I
+  pub heaviest_from_exchanges : (w : ℕ → Weight) (I : List ℕ) → p I ≡ true
+      → ((x y : ℕ) → is_member y I ≡ true → is_member x I ≡ false → p (with_one (without_one I y) x) ≡ true → w x ≼ w y) → IsHeaviest p w I
   heaviest_from_exchanges w I i h =
       locally_heaviest_is_heaviest w I (record {
         passes = i;
-        most = λ x y m o ok. (let gain = sum_of-exchange_one w I x y (rising laws I i) m o in let less = h x y m o ok in omega (arith, ints));
+        most = λ x y m o ok. (let gain = weight_sum-exchange_one w I x y (rising laws I i) m o in let less = h x y m o ok in omega (arith, ints, pairs));
       })
 
   -- at a heaviest set, what can take the place of y weighs no more than y
-  pub exchange_gains_nothing : (w : ℕ → ℤ) (I : List ℕ) (x y : ℕ) → IsHeaviest p w I → is_member y I ≡ true → is_member x I ≡ false
-      → p (with_one (without_one I y) x) ≡ true → w x ≤ℤ w y
+  pub exchange_gains_nothing : (w : ℕ → Weight) (I : List ℕ) (x y : ℕ) → IsHeaviest p w I → is_member y I ≡ true → is_member x I ≡ false
+      → p (with_one (without_one I y) x) ≡ true → w x ≼ w y
   exchange_gains_nothing w I x y best m o ok =
       let r = rising laws I best.passes in
       let most = best.most (with_one (without_one I y) x) ok (length-exchange_one I x y r m o) in
-      omega (arith, ints, sum_of-exchange_one w I x y r m o)
+      let gain = weight_sum-exchange_one w I x y r m o in
+      omega (arith, ints, pairs)
 
   -- what can be added to a heaviest set weighs no more than any member
-  pub addable_is_lightest : (w : ℕ → ℤ) (I : List ℕ) (x y : ℕ) → IsHeaviest p w I → is_member y I ≡ true → is_member x I ≡ false
-      → p (with_one I x) ≡ true → w x ≤ℤ w y
+  pub addable_is_lightest : (w : ℕ → Weight) (I : List ℕ) (x y : ℕ) → IsHeaviest p w I → is_member y I ≡ true → is_member x I ≡ false
+      → p (with_one I x) ≡ true → w x ≼ w y
   addable_is_lightest w I x y best m o ok =
       exchange_gains_nothing w I x y best m o
       (laws.subsets _ (with_one I x) (IsRising-exchange I x y (rising laws I best.passes)) (exchange-IsSubset I x y) ok)

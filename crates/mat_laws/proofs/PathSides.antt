@@ -3,13 +3,16 @@
 -- heavier than that y, which a heaviest set forbids, or as heavy, which would shorten the path. So the last in this order can be
 -- exchanged first, as in triangular exchange, and so on. No x can be added to I; so by span, of the larger I + source, only the
 -- source can be added to the exchanged set.
-use Rattle.std.proofs.Common.{◌≡◌, ◌≢◌, ℕ, suc, zero, ◌<◌, Bool, true, false, not, ◌||◌, ◌&&◌, eqb, List, [], ◌∷◌, length, ℤ, ◌≤ℤ◌, ◌<ℤ◌, ◌⊎◌, inl, inr, refl, sym, ap, ◌∙◌, subst, arith}
+use Rattle.std.proofs.Common.{◌≡◌, ◌≢◌, ℕ, suc, zero, ◌<◌, Bool, true, false, not, ◌||◌, ◌&&◌, eqb, List, [], ◌∷◌, length, ◌⊎◌, inl, inr, refl, sym, ap, ◌∙◌, subst, arith}
 use Rattle.std.proofs.lemmas.Bool.{cases_Bool, cases_order, cases_eq, eqb-true, ne_eqb, or_cases, or_from, false≢true, false_from_ne_true}
 use Rattle.std.proofs.lemmas.Int.{ints}
 use Rattle.mat_sets.specs.Sets.{is_member, IsRising, with_one, without_one}
-use Rattle.mat_sets.specs.Sums.{sum_of}
+use Rattle.mat_sets.specs.Weights.{◌≺◌, ◌≼◌, weight_sum}
+use Rattle.mat_sets.specs.declared.weight.Weight.{Weight}
 use Rattle.mat_sets.proofs.Members.{set_members, same_members, is_member-with_one, IsRising-with_one}
-use Rattle.mat_sets.proofs.Cardinalities.{length-with_one, length-exchange_one, sum_of-with_one, sum_of-exchange_one}
+use Rattle.mat_sets.proofs.Cardinalities.{length-with_one, length-exchange_one}
+use Rattle.mat_sets.proofs.WeightSums.{weight_sum-with_one, weight_sum-exchange_one}
+use Rattle.mat_sets.proofs.WeightOrder.{pairs}
 use Rattle.mat_laws.specs.Matroids.{IsMatroid}
 use Rattle.mat_laws.specs.Heaviest.{IsHeaviest}
 use Rattle.mat_laws.proofs.Independent.{rising}
@@ -21,11 +24,11 @@ use Rattle.mat_laws.proofs.Triangular.{exchanges_unchanged, still_in, still_out,
 -- one matroid's view of a path from the source, by functions of the index below m: I is heaviest of its size, the source is a heaviest
 -- element that can be added, each x takes the place of its y at equal weight, none at equal weight that of a later y, and no x that
 -- can be added is as heavy as the source
-pub record IsPathSide (p : List ℕ → Bool) (w : ℕ → ℤ) (I : List ℕ) (source m : ℕ) (y x : ℕ → ℕ) : Type 0 where
+pub record IsPathSide (p : List ℕ → Bool) (w : ℕ → Weight) (I : List ℕ) (source m : ℕ) (y x : ℕ → ℕ) : Type 0 where
   pub heaviest : IsHeaviest p w I
   pub source_outside : is_member source I ≡ false
   pub source_adds : p (with_one I source) ≡ true
-  pub source_top : (e : ℕ) → is_member e I ≡ false → p (with_one I e) ≡ true → w e ≤ℤ w source
+  pub source_top : (e : ℕ) → is_member e I ≡ false → p (with_one I e) ≡ true → w e ≼ w source
   pub inside : (i : ℕ) → i < m → is_member (y i) I ≡ true
   pub outside : (i : ℕ) → i < m → is_member (x i) I ≡ false
   pub ys_differ : (i j : ℕ) → i < j → j < m → y i ≢ y j
@@ -34,7 +37,7 @@ pub record IsPathSide (p : List ℕ → Bool) (w : ℕ → ℤ) (I : List ℕ) (
   pub own : (i : ℕ) → i < m → p (with_one (without_one I (y i)) (x i)) ≡ true
   pub tight : (i : ℕ) → i < m → w (y i) ≡ w (x i)
   pub no_shortcut : (i j : ℕ) → i < j → j < m → w (x i) ≡ w (y j) → p (with_one (without_one I (y j)) (x i)) ≡ false
-  pub no_source : (i : ℕ) → i < m → p (with_one I (x i)) ≡ true → w (x i) <ℤ w source
+  pub no_source : (i : ℕ) → i < m → p (with_one I (x i)) ≡ true → w (x i) ≺ w source
 
 -- ---- an index without one of its places
 
@@ -85,23 +88,23 @@ is_value-none f (suc m) k h = or_from (is_value f m k) (eqb k (f m)) (is_value-n
 
 -- ---- the lightest pair, and the last of these
 
-record IsLast (key : ℕ → ℤ) (m l : ℕ) : Type 0 where
+record IsLast (key : ℕ → Weight) (m l : ℕ) : Type 0 where
   below : l < m
-  least : (i : ℕ) → i < m → key l ≤ℤ key i
+  least : (i : ℕ) → i < m → key l ≼ key i
   last : (i : ℕ) → i < m → i ≢ l → key i ≡ key l → i < l
 
-int_order : (a b : ℤ) → (a <ℤ b) ⊎ (b ≤ℤ a)
-int_order a b = grind (arith, ints)
+int_order : (a b : Weight) → (a ≺ b) ⊎ (b ≼ a)
+int_order a b = grind (arith, ints, pairs)
 
-int_cases : (a b : ℤ) → a ≤ℤ b → (a ≡ b) ⊎ (a <ℤ b)
-int_cases a b h = grind (arith, ints)
+int_cases : (a b : Weight) → a ≼ b → (a ≡ b) ⊎ (a ≺ b)
+int_cases a b h = grind (arith, ints, pairs)
 
-last_of : (key : ℕ → ℤ) (m : ℕ) → (l : ℕ) × IsLast key (suc m) l
+last_of : (key : ℕ → Weight) (m : ℕ) → (l : ℕ) × IsLast key (suc m) l
 last_of key zero = (
   0,
   record {
     below = omega arith;
-    least = λ i h. (let e : i ≡ 0 = omega arith in subst (λ j. key 0 ≤ℤ key j) (sym e) (omega (arith, ints)));
+    least = λ i h. (let e : i ≡ 0 = omega arith in subst (λ j. key 0 ≼ key j) (sym e) (omega (arith, ints, pairs)));
     last = λ i h d. absurd (omega arith);
   },
 )
@@ -114,9 +117,9 @@ last_of key (suc m) =
         l,
         record {
           below = (let b = r.below in omega arith);
-          least = λ i h. elim (cases_eq i (suc m)) [ inl e ↦ subst (λ j. key l ≤ℤ key j) (sym e) (omega (arith, ints)) | inr d ↦ r.least i (omega arith) ];
+          least = λ i h. elim (cases_eq i (suc m)) [ inl e ↦ subst (λ j. key l ≼ key j) (sym e) (omega (arith, ints, pairs)) | inr d ↦ r.least i (omega arith) ];
           last = λ i h d e. elim (cases_eq i (suc m)) [
-            | inl q ↦ absurd (let k : key (suc m) ≡ key l = ap key (sym q) ∙ e in omega (arith, ints))
+            | inl q ↦ absurd (let k : key (suc m) ≡ key l = ap key (sym q) ∙ e in omega (arith, ints, pairs))
             | inr q ↦ r.last i (omega arith) d e
           ];
         },
@@ -126,8 +129,8 @@ last_of key (suc m) =
         record {
           below = omega arith;
           least = λ i h. elim (cases_eq i (suc m)) [
-            | inl e ↦ subst (λ j. key (suc m) ≤ℤ key j) (sym e) (omega (arith, ints))
-            | inr d ↦ (let a = r.least i (omega arith) in omega (arith, ints))
+            | inl e ↦ subst (λ j. key (suc m) ≼ key j) (sym e) (omega (arith, ints, pairs))
+            | inr d ↦ (let a = r.least i (omega arith) in omega (arith, ints, pairs))
           ];
           last = λ i h d e. omega arith;
         },
@@ -137,23 +140,23 @@ last_of key (suc m) =
 -- ---- exchanges in the order of keys
 
 -- pairs that may be exchanged, none of them with a later one: heavier keys come first, and equal ones as they stand
-record IsOrdered (p : List ℕ → Bool) (I : List ℕ) (m : ℕ) (y x : ℕ → ℕ) (key : ℕ → ℤ) : Type 0 where
+record IsOrdered (p : List ℕ → Bool) (I : List ℕ) (m : ℕ) (y x : ℕ → ℕ) (key : ℕ → Weight) : Type 0 where
   inside : (i : ℕ) → i < m → is_member (y i) I ≡ true
   outside : (i : ℕ) → i < m → is_member (x i) I ≡ false
   ys_differ : (i j : ℕ) → i < m → j < m → i ≢ j → eqb (y i) (y j) ≡ false
   xs_differ : (i j : ℕ) → i < m → j < m → i ≢ j → eqb (x i) (x j) ≡ false
   own : (i : ℕ) → i < m → p (with_one (without_one I (y i)) (x i)) ≡ true
-  none : (i j : ℕ) → i < m → j < m → i ≢ j → key j ≤ℤ key i → (key i ≡ key j → i < j) → p (with_one (without_one I (y j)) (x i)) ≡ false
+  none : (i j : ℕ) → i < m → j < m → i ≢ j → key j ≼ key i → (key i ≡ key j → i < j) → p (with_one (without_one I (y j)) (x i)) ≡ false
 
 -- I without each y and with each x
 record IsExchanged (p : List ℕ → Bool) (I : List ℕ) (m : ℕ) (y x : ℕ → ℕ) (set : List ℕ) : Type 0 where
   passes : p set ≡ true
   size : length set ≡ length I
   members : (k : ℕ) → is_member k set ≡ (is_value x m k || (is_member k I && not (is_value y m k)))
-  weighs : (w : ℕ → ℤ) → ((i : ℕ) → i < m → w (y i) ≡ w (x i)) → sum_of w set ≡ sum_of w I
+  weighs : (w : ℕ → Weight) → ((i : ℕ) → i < m → w (y i) ≡ w (x i)) → weight_sum w set ≡ weight_sum w I
 
 module _ {n : ℕ} {p : List ℕ → Bool} (laws : IsMatroid n p) where
-  fewer_ordered : (I : List ℕ) (m l : ℕ) (y x : ℕ → ℕ) (key : ℕ → ℤ) → p I ≡ true → IsOrdered p I (suc m) y x key → IsLast key (suc m) l
+  fewer_ordered : (I : List ℕ) (m l : ℕ) (y x : ℕ → ℕ) (key : ℕ → Weight) → p I ≡ true → IsOrdered p I (suc m) y x key → IsLast key (suc m) l
       → IsOrdered p (with_one (without_one I (y l)) (x l)) m (λ i. y (skip l i)) (λ i. x (skip l i)) (λ i. key (skip l i))
   fewer_ordered I m l y x key ok t w =
       let up : (i : ℕ) → i < m → skip l i < suc m = λ i h. skip-below l i m h in
@@ -171,7 +174,7 @@ module _ {n : ℕ} {p : List ℕ → Bool} (laws : IsMatroid n p) where
         none = λ i j hi hj d le tie. same i j hi hj ∙ t.none (skip l i) (skip l j) (up i hi) (up j hj) (skip-apart l i j d) le (λ e. skip-rises l i j (tie e));
       }
 
-  exchanged_in_order : (m : ℕ) (I : List ℕ) (y x : ℕ → ℕ) (key : ℕ → ℤ) → p I ≡ true → IsOrdered p I m y x key
+  exchanged_in_order : (m : ℕ) (I : List ℕ) (y x : ℕ → ℕ) (key : ℕ → Weight) → p I ≡ true → IsOrdered p I m y x key
       → (set : List ℕ) × IsExchanged p I m y x set
   exchanged_in_order zero I y x key ok t = (I, record { passes = ok; size = refl; members = λ k. grind arith; weighs = λ w e. refl })
   exchanged_in_order (suc m) I y x key ok t =
@@ -198,8 +201,9 @@ module _ {n : ℕ} {p : List ℕ → Bool} (laws : IsMatroid n p) where
               grind arith;
           weighs = λ w e.
               let others = rest.1.weighs w (λ i h. e (skip l i) (skip-below l i m h)) in
-              let one = sum_of-exchange_one w I (x l) (y l) r y_in x_out in
-              omega (arith, ints, e l last.below);
+              let one = weight_sum-exchange_one w I (x l) (y l) r y_in x_out in
+              let here = e l last.below in
+              omega (arith, ints, pairs);
         },
       )
 
@@ -244,15 +248,15 @@ member_of_larger e s I m d = grind (arith, set_members)
 
 module _ {n : ℕ} {p : List ℕ → Bool} (laws : IsMatroid n p) where
   -- no x can be added to I
-  path_blocked : (w : ℕ → ℤ) (I : List ℕ) (s m : ℕ) (y x : ℕ → ℕ) → IsPathSide p w I s m y x → (i : ℕ) → i < m
+  path_blocked : (w : ℕ → Weight) (I : List ℕ) (s m : ℕ) (y x : ℕ → ℕ) → IsPathSide p w I s m y x → (i : ℕ) → i < m
       → p (with_one I (x i)) ≡ false
   path_blocked w I s m y x t i h = false_from_ne_true _ (λ ok.
       let less = t.no_source i h ok in
       let light = addable_is_lightest laws w I s (y i) t.heaviest (t.inside i h) t.source_outside t.source_adds in
       let even = t.tight i h in
-      let no : ⊥ = absurd (omega (arith, ints)) in no)
+      let no : ⊥ = absurd (omega (arith, ints, pairs)) in no)
 
-  path_ordered : (w : ℕ → ℤ) (I : List ℕ) (s m : ℕ) (y x : ℕ → ℕ) → IsPathSide p w I s m y x → IsOrdered p I m y x (λ i. w (x i))
+  path_ordered : (w : ℕ → Weight) (I : List ℕ) (s m : ℕ) (y x : ℕ → ℕ) → IsPathSide p w I s m y x → IsOrdered p I m y x (λ i. w (x i))
   path_ordered w I s m y x t = record {
     inside = t.inside;
     outside = t.outside;
@@ -263,12 +267,12 @@ module _ {n : ℕ} {p : List ℕ → Bool} (laws : IsMatroid n p) where
       | inl e ↦ t.no_shortcut i j (tie (sym e)) hj (sym e ∙ sym (t.tight j hj))
       | inr less ↦ false_from_ne_true _ (λ ok. (let most = exchange_gains_nothing laws w I (x i) (y j) t.heaviest (t.inside j hj) (t.outside i hi) ok in
           let even = t.tight j hj in
-          let no : ⊥ = absurd (omega (arith, ints)) in no))
+          let no : ⊥ = absurd (omega (arith, ints, pairs)) in no))
     ];
   }
 
   -- the source can be added to the exchanged set
-  source_joins : (w : ℕ → ℤ) (I set : List ℕ) (s m : ℕ) (y x : ℕ → ℕ) → IsPathSide p w I s m y x → IsExchanged p I m y x set
+  source_joins : (w : ℕ → Weight) (I set : List ℕ) (s m : ℕ) (y x : ℕ → ℕ) → IsPathSide p w I s m y x → IsExchanged p I m y x set
       → p (with_one set s) ≡ true
   source_joins w I set s m y x t f =
       let ok = t.heaviest.passes in
@@ -287,7 +291,7 @@ module _ {n : ℕ} {p : List ℕ → Bool} (laws : IsMatroid n p) where
       ]
 
   -- the set with the source, without each y and with each x is heaviest of the next size
-  pub path_side_step : (w : ℕ → ℤ) (I : List ℕ) (s m : ℕ) (y x : ℕ → ℕ) → IsPathSide p w I s m y x → (J : List ℕ) → IsRising J
+  pub path_side_step : (w : ℕ → Weight) (I : List ℕ) (s m : ℕ) (y x : ℕ → ℕ) → IsPathSide p w I s m y x → (J : List ℕ) → IsRising J
       → ((k : ℕ) → is_member k J ≡ (eqb k s || (is_value x m k || (is_member k I && not (is_value y m k)))))
       → (length J ≡ suc (length I)) × IsHeaviest p w J
   path_side_step w I s m y x t J rj members =
@@ -298,10 +302,10 @@ module _ {n : ℕ} {p : List ℕ → Bool} (laws : IsMatroid n p) where
       let same : with_one set s ≡ J = same_members (with_one set s) J (IsRising-with_one set s rs) rj (λ k. is_member-with_one k s set ∙ ap (λ b. eqb k s || b) (f.members k) ∙ sym (members k)) in
       let out : is_member s set ≡ false = absent (is_member s set) (is_value x m s) (is_member s I) (not (is_value y m s)) (f.members s) (is_value-none x m s t.source_differs) t.source_outside in
       let long = length-with_one set s rs out in
-      let total = sum_of-with_one w set s rs out in
+      let total = weight_sum-with_one w set s rs out in
       let even = f.weighs w t.tight in
       let best : IsHeaviest p w (with_one set s) = record {
         passes = source_joins w I set s m y x t f;
-        most = λ Y ok size. (let bound = one_more_weighs laws w I Y (w s) t.heaviest t.source_top ok (omega (arith, f.size)) in omega (arith, ints));
+        most = λ Y ok size. (let bound = one_more_weighs laws w I Y (w s) t.heaviest t.source_top ok (omega (arith, f.size)) in omega (arith, ints, pairs));
       } in
       subst (λ q. (length q ≡ suc (length I)) × IsHeaviest p w q) same (omega (arith, f.size), best)

@@ -2,6 +2,8 @@ pub mod Matroids
 pub mod Ranks
 pub mod Exchanges
 pub mod Heaviest
+pub mod Searches
 pub mod TightPaths
 pub mod Slacks
+pub mod CommonSets
 pub mod Ladders

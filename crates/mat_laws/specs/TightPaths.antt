@@ -1,7 +1,8 @@
 -- Tight paths at a common independent set of two matroids, under two weights of each element (Frank 1981; Schrijver, chapter 41).
-use Rattle.std.specs.Prelude.{◌≡◌, ℕ, Bool, true, false, not, ◌&&◌, ◌||◌, List, [], slice_index_or, ℤ, int_lt}
-use Rattle.std.specs.Ordering.{int_eq}
+use Rattle.std.specs.Prelude.{◌≡◌, ℕ, Bool, true, false, not, ◌&&◌, ◌||◌, List, [], slice_index_or}
 use Rattle.mat_sets.specs.Sets.{is_member, with_one, without_one, minus, union}
+use Rattle.mat_sets.specs.Weights.{is_below, is_same}
+use Rattle.mat_sets.specs.declared.weight.Weight.{Weight}
 use Rattle.mat_sets.specs.Search.{some_below}
 use Rattle.mat_sets.specs.Walks.{IsShortestWalk, IsReachedSet}
 use Rattle.mat_laws.specs.declared.exchange.Exchange.{Exchange}
@@ -28,21 +29,21 @@ exchanges_in rows = record { adds = λ x. (row_in rows x).addable; trades = λ y
 
 -- x can be added, and no element that can be added weighs more: with the exchanges and the weights of the first matroid x is
 -- a source, and with those of the second a sink
-abbrev pub is_heaviest_addable : ℕ → Exchanges → (ℕ → ℤ) → ℕ → Bool
-is_heaviest_addable n exchanges w x = exchanges.adds x && not (some_below n (λ e. exchanges.adds e && int_lt (w x) (w e)))
+abbrev pub is_heaviest_addable : ℕ → Exchanges → (ℕ → Weight) → ℕ → Bool
+is_heaviest_addable n exchanges w x = exchanges.adds x && not (some_below n (λ e. exchanges.adds e && is_below (w x) (w e)))
 
 -- a tight arc leads from a member y to an x outside that can take its place in the first matroid and weighs as much under the
 -- first weight; and from an x outside to a member y whose place it can take in the second, and that weighs as much under the second
-abbrev pub is_tight : Exchanges → Exchanges → (ℕ → ℤ) → (ℕ → ℤ) → ℕ → ℕ → Bool
-is_tight first second w1 w2 u v = (first.trades u v && int_eq (w1 u) (w1 v)) || (second.trades v u && int_eq (w2 u) (w2 v))
+abbrev pub is_tight : Exchanges → Exchanges → (ℕ → Weight) → (ℕ → Weight) → ℕ → ℕ → Bool
+is_tight first second w1 w2 u v = (first.trades u v && is_same (w1 u) (w1 v)) || (second.trades v u && is_same (w2 u) (w2 v))
 
 -- a path along tight arcs from a source to a sink, with fewest vertices
-abbrev pub IsTightPath : ℕ → Exchanges → Exchanges → (ℕ → ℤ) → (ℕ → ℤ) → List ℕ → Type 0
+abbrev pub IsTightPath : ℕ → Exchanges → Exchanges → (ℕ → Weight) → (ℕ → Weight) → List ℕ → Type 0
 IsTightPath n first second w1 w2 path =
     IsShortestWalk n (is_tight first second w1 w2) (is_heaviest_addable n first w1) (is_heaviest_addable n second w2) path
 
 -- the set of all elements that tight arcs reach from the sources, and no sink is among them
-pub record IsStuckReach (n : ℕ) (first second : Exchanges) (w1 w2 : ℕ → ℤ) (reach : List ℕ) : Type 0 where
+pub record IsStuckReach (n : ℕ) (first second : Exchanges) (w1 w2 : ℕ → Weight) (reach : List ℕ) : Type 0 where
   pub reached : IsReachedSet n (is_tight first second w1 w2) (is_heaviest_addable n first w1) reach
   pub no_sink : (v : ℕ) → is_member v reach ≡ true → is_heaviest_addable n second w2 v ≡ false
 

@@ -1,9 +1,11 @@
 //! What the laws of a matroid imply, for every test of independence that obeys them. Each law is the contract of a
 //! function that does nothing.
 
-ghost use Rattle.std.specs.Prelude.{◌≡◌, ◌≤◌, ◌||◌, ℕ, ℤ, List, Bool, true, false, length};
+ghost use Rattle.std.specs.Prelude.{◌≡◌, ◌≤◌, ◌||◌, ℕ, List, Bool, true, false, length, ◌≤ℤ◌};
 ghost use Rattle.mat_sets.specs.Sets.{is_member, IsRising, with_one, minus, union};
-ghost use Rattle.mat_laws.specs.Matroids.{IsMatroid, IsMaximal};
+ghost use Rattle.mat_sets.specs.Sums.{sum_of};
+ghost use Rattle.mat_sets.specs.declared.weight.Weight.{Weight};
+ghost use Rattle.mat_laws.specs.Matroids.{IsMatroid, IsMaximal, IsBase};
 ghost use Rattle.mat_laws.specs.Ranks.{IsRank, rank};
 ghost use Rattle.mat_laws.specs.Exchanges.{HasSymmetricPartner, IsTriangular};
 ghost use Rattle.mat_laws.specs.Heaviest.{IsHeaviest, IsLocallyHeaviest};
@@ -39,10 +41,34 @@ pub fn symmetric_exchange()
         → is_member x A ≡ true → is_member x B ≡ false → HasSymmetricPartner independent A B x }
 {}
 
+/// Any two bases have as many elements (Schrijver, chapter 39).
+pub fn bases_have_one_size()
+    ensures { (n : ℕ) (independent : List ℕ → Bool) → IsMatroid n independent
+        → (A B : List ℕ) → IsBase n independent A → IsBase n independent B → length A ≡ length B }
+{}
+
+/// Symmetric exchange for bases (Schrijver, chapter 39): for bases A and B, and x in A outside B, some y in B outside A
+/// has both A - x + y and B - y + x independent; and each independent set of the size of a base is a base.
+pub fn bases_exchange_symmetrically()
+    ensures partner { (n : ℕ) (independent : List ℕ → Bool) → IsMatroid n independent
+        → (A B : List ℕ) (x : ℕ) → IsBase n independent A → IsBase n independent B
+        → is_member x A ≡ true → is_member x B ≡ false → HasSymmetricPartner independent A B x }
+    ensures size { (n : ℕ) (independent : List ℕ → Bool) → IsMatroid n independent
+        → (A B : List ℕ) → IsBase n independent A → independent B ≡ true → length B ≡ length A → IsBase n independent B }
+{}
+
+/// A tie decides only among sets of equal main: no independent set of the size of a heaviest one has a greater sum of
+/// mains.
+pub fn heaviest_by_the_mains()
+    ensures { (independent : List ℕ → Bool) (w : ℕ → Weight) (X : List ℕ) → IsHeaviest independent w X
+        → (Y : List ℕ) → independent Y ≡ true → length Y ≡ length X
+        → sum_of (λ x. (w x).main) Y ≤ℤ sum_of (λ x. (w x).main) X }
+{}
+
 /// An independent set that no exchange of one element makes heavier is heaviest of its size (Schrijver, chapter 40).
 pub fn locally_heaviest_is_heaviest()
     ensures { (n : ℕ) (independent : List ℕ → Bool) → IsMatroid n independent
-        → (w : ℕ → ℤ) (I : List ℕ) → IsLocallyHeaviest independent w I → IsHeaviest independent w I }
+        → (w : ℕ → Weight) (I : List ℕ) → IsLocallyHeaviest independent w I → IsHeaviest independent w I }
 {}
 
 /// Triangular exchange (Schrijver, chapter 39, on unique perfect matchings of the exchange graph): where of a list of

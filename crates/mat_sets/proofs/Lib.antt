@@ -24,3 +24,5 @@ pub mod Traces
 pub mod LevelSearch
 pub mod Walking
 pub mod Changes
+pub mod WeightOrder
+pub mod WeightSums

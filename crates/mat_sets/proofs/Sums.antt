@@ -2,13 +2,11 @@
 -- set; so two families in which each number stands equally often have one sum.
 use Rattle.std.proofs.Common.{Bool, List, [], ap, arith, cond, eqb, false, get_or, inl, inr, length, max, pos, refl, suc, suc-add, sym, take, true, zero, zero-add, ℕ, ℤ, ◌+ℤ◌, ◌+◌, ◌<◌, ◌∙◌, ◌∷◌, ◌≡◌, ◌≤◌}
 use Rattle.std.proofs.Math.Numerals.{add-one}
-use Rattle.std.proofs.lemmas.Bool.{cases_eq, cases_lt, eq-eqb, ne_eqb}
+use Rattle.std.proofs.lemmas.Bool.{cases_eq, eq-eqb, ne_eqb}
 use Rattle.std.proofs.lemmas.Int.{ints}
-use Rattle.std.proofs.lemmas.List.{get_or_past}
-use Rattle.std.proofs.lemmas.List.Elements.{All-get_or}
 use Rattle.mat_sets.specs.Families.{AllRising, family_sum, indicator, multiplicity}
 use Rattle.mat_sets.specs.Sets.{AllBelow, IsRising, RisesFrom, is_member}
-use Rattle.mat_sets.specs.Sums.{sum_of, weight_at, IsWithin, AreWithin}
+use Rattle.mat_sets.specs.Sums.{sum_of}
 use Rattle.mat_sets.proofs.Members.{missing_below}
 
 -- z, m times
@@ -155,11 +153,3 @@ AllBelow-at n (x ∷ t) zero b h = b.0
 AllBelow-at n (x ∷ t) (suc i) b h = AllBelow-at n t i b.1 (omega arith)
 
 pub ruleset summing = (sum_of-more, AllBelow-at)
-
--- a weight is within the bound at each number, also past the end of the list
-pub within_at : (bound : ℕ) (w : List ℤ) → AreWithin bound w → (e : ℕ) → IsWithin bound (weight_at w e)
-within_at bound w all e =
-    elim (cases_lt e (length w)) [
-      | inl lt ↦ All-get_or (IsWithin bound) w e (pos 0) lt all
-      | inr ge ↦ rw (get_or_past w e (pos 0) ge) (omega (arith, ints), omega (arith, ints))
-    ]

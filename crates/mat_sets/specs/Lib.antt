@@ -1,5 +1,6 @@
 pub mod Sets
 pub mod Sums
+pub mod Weights
 pub mod Families
 pub mod Places
 pub mod Search

@@ -1,18 +1,10 @@
 -- Sums of numbers over the members of a set (Schrijver, chapter 2).
-use Rattle.std.specs.Prelude.{ℕ, List, [], ◌∷◌, slice_index_or, ℤ, pos, ◌+ℤ◌, ◌≤ℤ◌, neg_ℤ, All}
+use Rattle.std.specs.Prelude.{ℕ, List, [], ◌∷◌, ℤ, pos, ◌+ℤ◌, ◌≤ℤ◌, neg_ℤ, All}
 
 -- the sum of f over the items
 abbrev pub sum_of : (ℕ → ℤ) → List ℕ → ℤ
 sum_of f [] = pos 0
 sum_of f (x ∷ xs) = f x +ℤ sum_of f xs
-
--- the weight of an element, where a list has one number for each
-abbrev pub weight_at : List ℤ → ℕ → ℤ
-weight_at w x = slice_index_or w x (pos 0)
-
--- the weight of a set: the sum of w over its members
-abbrev pub weight : List ℤ → List ℕ → ℤ
-weight w xs = sum_of (weight_at w) xs
 
 -- the number is at least -bound and at most bound
 abbrev pub IsWithin : ℕ → ℤ → Type 0

@@ -1,8 +1,10 @@
-//! Laws of walks on finitely many vertices.
+//! Laws of walks on finitely many vertices, and of the order of weights.
 //!
 //! `arc u v` says whether an arc leads from u to v, `start v` and `goal v` whether v is a start or a goal; the vertices are the numbers below n.
-ghost use Rattle.std.specs.Prelude.{◌≡◌, ◌<◌, ◌⊎◌, ℕ, Bool, true, false, List};
+ghost use Rattle.std.specs.Prelude.{◌≡◌, ◌<◌, ◌⊎◌, ◌↔◌, ℕ, Bool, true, false, List, ◌<ℤ◌};
 ghost use Rattle.mat_sets.specs.Sets.{is_member};
+ghost use Rattle.mat_sets.specs.Weights.{◌⊕◌, ◌≺◌, ◌≼◌, is_below, is_same};
+ghost use Rattle.mat_sets.specs.declared.weight.Weight.{Weight};
 ghost use Rattle.mat_sets.specs.Walks.{IsChordless, IsReachedSet, IsShortestWalk, IsWalk};
 
 /// Either there is a walk with fewest vertices from a start to a goal, or the set of all vertices that the starts reach
@@ -44,4 +46,21 @@ pub fn reached_set_is_unique()
         → (reached : List ℕ) × IsReachedSet n arc start reached }
     ensures unique { (n : ℕ) (arc : ℕ → ℕ → Bool) (start : ℕ → Bool) (one other : List ℕ)
         → IsReachedSet n arc start one → IsReachedSet n arc start other → one ≡ other }
+{}
+
+/// One weight is below another exactly where its main is below, or where the mains are equal and its tie is below; it is at most
+/// another exactly where the other is not below it; and the tests tell both.
+pub fn weights_are_in_lexicographic_order()
+    ensures below { (a b : Weight) → (a ≺ b) ↔ ((a.main <ℤ b.main) ⊎ ((a.main ≡ b.main) × (a.tie <ℤ b.tie))) }
+    ensures at_most { (a b : Weight) → (a ≼ b) ↔ ¬ (b ≺ a) }
+    ensures test { (a b : Weight) → (is_below a b ≡ true) ↔ (a ≺ b) }
+    ensures same { (a b : Weight) → (is_same a b ≡ true) ↔ (a ≡ b) }
+{}
+
+/// Any two weights can be compared, and sums keep the order.
+pub fn weights_are_an_ordered_group()
+    ensures total { (a b : Weight) → (a ≼ b) ⊎ (b ≺ a) }
+    ensures both { (a b : Weight) → a ≼ b → b ≼ a → a ≡ b }
+    ensures chain { (a b c : Weight) → a ≼ b → b ≼ c → a ≼ c }
+    ensures sums { (a b c : Weight) → a ≼ b → (a ⊕ c) ≼ (b ⊕ c) }
 {}

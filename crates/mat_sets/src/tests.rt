@@ -1,7 +1,7 @@
 //! Each call once, with ample memory.
 use crate::{
-    BitSet, ElemSet, NotRising, Pairs, Relation, SetList, WalkSearch, Weights, shortest_walk,
-    weight_of,
+    BitSet, ElemSet, NotRising, PairWeights, Pairs, Relation, SetList, WalkSearch, Weight,
+    shortest_walk, weigh,
 };
 use std::test::Fail;
 
@@ -42,13 +42,30 @@ fn a_list_that_falls_is_refused_at_its_first_fall(rt: HostRuntime) -> Result<(),
 }
 
 #[test]
-fn the_weight_of_a_set_is_the_sum_of_its_members(rt: HostRuntime) -> Result<(), Fail> {
+fn weights_add_up_number_by_number(rt: HostRuntime) -> Result<(), Fail> {
     let alloc = rt.alloc();
-    let weights = Weights::new(vec![in alloc; 10, -4, 7]?);
-    let set = ElemSet::all_below(alloc, 3)?;
-    assert_eq!(rt; weights.get(1), -4);
-    assert!(rt; weights.len() == 3 && set.len() == 3);
-    assert_eq!(rt; weight_of(&set, weights.as_slice()), 13);
+    let weights = PairWeights::new(vec![in alloc;
+        Weight { main: 10, tie: -1 },
+        Weight { main: -4, tie: 6 },
+    ]?);
+    let set = ElemSet::all_below(alloc, 2)?;
+    assert!(rt; weights.len() == 2 && set.len() == 2);
+    assert_eq!(rt; weights.get(1), Weight { main: -4, tie: 6 });
+    assert_eq!(rt; weigh(&set, weights.as_slice()), Weight { main: 6, tie: 5 });
+    assert_eq!(rt; -weights.get(0), Weight { main: -10, tie: 1 });
+    assert_eq!(rt;
+        weights.get(0) - weights.get(1),
+        Weight { main: 14, tie: -7 }
+    );
+    Ok(())
+}
+
+#[test]
+fn ties_count_where_mains_are_equal(rt: HostRuntime) -> Result<(), Fail> {
+    let weight = Weight { main: 1, tie: 0 };
+    assert!(rt; weight < Weight { main: 1, tie: 1 });
+    assert!(rt; weight < Weight { main: 2, tie: -5 });
+    assert!(rt; weight > Weight { main: 1, tie: -1 });
     Ok(())
 }
 

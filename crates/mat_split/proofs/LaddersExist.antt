@@ -1,15 +1,17 @@
 -- Every pair of matroids has a ladder: from the empty set, under all of the weight and none of it, one set after the other until the
 -- cut. The set of k elements has second weights of at most 2 m (n + 1)^2 k, which is within the bound of a ladder, since k ≤ n.
-use Rattle.std.proofs.Common.{◌≡◌, ℕ, suc, zero, ◌+◌, ◌*◌, ◌^◌, ◌<◌, ◌≤◌, Bool, List, [], ◌∷◌, length, get_or, map, ℤ, pos, inl, inr, refl, sym, ap, ◌∙◌, subst, arith}
+use Rattle.std.proofs.Common.{◌≡◌, ℕ, suc, zero, ◌+◌, ◌*◌, ◌^◌, ◌<◌, ◌≤◌, Bool, List, [], ◌∷◌, length, get_or, map, inl, inr, refl, sym, ap, ◌∙◌, subst, arith}
 use Rattle.std.proofs.Math.Nat.{mul-le-mul_left}
 use Rattle.std.proofs.lemmas.Int.{ints}
 use Rattle.std.proofs.lemmas.Option.{same_Some, none-some}
 use Rattle.std.proofs.lemmas.List.Elements.{All-get_or, All-from_get_or}
 use Rattle.std.specs.Prelude.{slice_get, Some}
 use Rattle.mat_sets.specs.Sets.{counted_from}
-use Rattle.mat_sets.specs.Sums.{IsWithin, AreWithin, weight_at}
-use Rattle.mat_sets.proofs.Cardinalities.{sum_of-same}
+use Rattle.mat_sets.proofs.WeightSums.{weight_sum-same}
 use Rattle.mat_sets.proofs.Ground.{below_member, IsSet-length}
+use Rattle.mat_sets.specs.Weights.{zero_weight, weight_at, IsWeightWithin, AreWeightsWithin}
+use Rattle.mat_sets.specs.declared.weight.Weight.{Weight}
+use Rattle.mat_sets.proofs.WeightOrder.{pairs}
 use Rattle.mat_laws.specs.Matroids.{IsMatroid}
 use Rattle.mat_laws.specs.Heaviest.{IsHeaviest}
 use Rattle.mat_laws.specs.Ladders.{IsRung, IsCut, split_bound}
@@ -23,59 +25,57 @@ use Rattle.mat_split.proofs.NextRungs.{next_or_cut}
 -- ---- weights as lists
 
 -- the list of the weights of the numbers below n
-abbrev weights_below : ℕ → (ℕ → ℤ) → List ℤ
+abbrev weights_below : ℕ → (ℕ → Weight) → List Weight
 weights_below n f = map f (counted_from 0 n)
 
-length-counted : (lo n : ℕ) (f : ℕ → ℤ) → length (map f (counted_from lo n)) ≡ n
+length-counted : (lo n : ℕ) (f : ℕ → Weight) → length (map f (counted_from lo n)) ≡ n
 length-counted lo zero f = refl
 length-counted lo (suc n) f = ap suc (length-counted (suc lo) n f)
 
-counted-at : (lo n i : ℕ) (f : ℕ → ℤ) → i < n → get_or (map f (counted_from lo n)) i (pos 0) ≡ f (lo + i)
+counted-at : (lo n i : ℕ) (f : ℕ → Weight) → i < n → get_or (map f (counted_from lo n)) i zero_weight ≡ f (lo + i)
 counted-at lo zero i f l = absurd (omega arith)
 counted-at lo (suc n) zero f l = ap f (omega arith)
 counted-at lo (suc n) (suc i) f l = counted-at (suc lo) n i f (omega arith) ∙ ap f (omega arith)
 
-weight_at-weights_below : (n : ℕ) (f : ℕ → ℤ) (x : ℕ) → x < n → weight_at (weights_below n f) x ≡ f x
+weight_at-weights_below : (n : ℕ) (f : ℕ → Weight) (x : ℕ) → x < n → weight_at (weights_below n f) x ≡ f x
 weight_at-weights_below n f x l = counted-at 0 n x f l ∙ ap f (omega arith)
 
-AreWithin-weights_below : (bound n : ℕ) (f : ℕ → ℤ) → ((x : ℕ) → x < n → IsWithin bound (f x)) → AreWithin bound (weights_below n f)
-AreWithin-weights_below bound n f each =
+AreWeightsWithin-weights_below : (bound n : ℕ) (f : ℕ → Weight) → ((x : ℕ) → x < n → IsWeightWithin bound (f x)) → AreWeightsWithin bound (weights_below n f)
+AreWeightsWithin-weights_below bound n f each =
     let long = length-counted 0 n f in
-    All-from_get_or (IsWithin bound) (weights_below n f) (pos 0) (λ x l.
+    All-from_get_or (IsWeightWithin bound) (weights_below n f) zero_weight (λ x l.
     let below : x < n = omega arith in
-    subst (IsWithin bound) (sym (weight_at-weights_below n f x below)) (each x below))
+    subst (IsWeightWithin bound) (sym (weight_at-weights_below n f x below)) (each x below))
 
 -- a set that is heaviest under a weight is heaviest under one that is the same below n
-IsHeaviest-same : {n : ℕ} {p : List ℕ → Bool} → IsMatroid n p → (f g : ℕ → ℤ) (X : List ℕ) → ((x : ℕ) → x < n → f x ≡ g x)
+IsHeaviest-same : {n : ℕ} {p : List ℕ → Bool} → IsMatroid n p → (f g : ℕ → Weight) (X : List ℕ) → ((x : ℕ) → x < n → f x ≡ g x)
     → IsHeaviest p g X → IsHeaviest p f X
 IsHeaviest-same {n} {p} laws f g X same best = record {
   passes = best.passes;
   most = λ Y ok size.
-      let here = sum_of-same f g X (λ k m. same k (below_member (laws.sets X best.passes) m)) in
-      let there = sum_of-same f g Y (λ k m. same k (below_member (laws.sets Y ok) m)) in
-      omega (arith, ints, here, there, best.most Y ok size);
+      let here = weight_sum-same f g X (λ k m. same k (below_member (laws.sets X best.passes) m)) in
+      let there = weight_sum-same f g Y (λ k m. same k (below_member (laws.sets Y ok) m)) in
+      let most = best.most Y ok size in
+      omega (arith, ints, pairs);
 }
 
 -- ---- rungs
 
 -- the rung of a split set
-abbrev rung_of : ℕ → List ℕ → (ℕ → ℤ) → (ℕ → ℤ) → Rung
+abbrev rung_of : ℕ → List ℕ → (ℕ → Weight) → (ℕ → Weight) → Rung
 rung_of n I w1 w2 = record { set = I; first = weights_below n w1; second = weights_below n w2 }
 
 -- both weights of a split are within m of the bound of the second
-pub parts_within : (n : ℕ) (w w1 w2 : ℕ → ℤ) (m h b x : ℕ) → x < n → IsWithin m (w x) → IsSplitWithin n w w1 w2 h → h + m ≤ b
-    → IsWithin b (w1 x) × IsWithin b (w2 x)
+pub parts_within : (n : ℕ) (w w1 w2 : ℕ → Weight) (m h b x : ℕ) → x < n → IsWeightWithin m (w x) → IsSplitWithin n w w1 w2 h → h + m ≤ b
+    → IsWeightWithin b (w1 x) × IsWeightWithin b (w2 x)
 parts_within n w w1 w2 m h b x l small s fits =
     let adds = s.adds x l in
-    let low = s.low x l in
-    let high = s.high x l in
-    let below = small.0 in
-    let above = small.1 in
-    ((omega (arith, ints), omega (arith, ints)), (omega (arith, ints), omega (arith, ints)))
+    let within = s.within x l in
+    omega (arith, ints, pairs)
 
-module _ {n : ℕ} {p q : List ℕ → Bool} (lp : IsMatroid n p) (lq : IsMatroid n q) (w : List ℤ)
-    (small : (x : ℕ) → x < n → IsWithin (10 ^ 12) (weight_at w x)) where
-  IsRung-rung_of : (k h : ℕ) (I : List ℕ) (w1 w2 : ℕ → ℤ) → IsSplitAt n p q (weight_at w) k h I w1 w2
+module _ {n : ℕ} {p q : List ℕ → Bool} (lp : IsMatroid n p) (lq : IsMatroid n q) (w : List Weight)
+    (small : (x : ℕ) → x < n → IsWeightWithin (10 ^ 12) (weight_at w x)) where
+  IsRung-rung_of : (k h : ℕ) (I : List ℕ) (w1 w2 : ℕ → Weight) → IsSplitAt n p q (weight_at w) k h I w1 w2
       → IsRung n p q w k I (weights_below n w1) (weights_below n w2)
   IsRung-rung_of k h I w1 w2 at =
       let first : (x : ℕ) → x < n → weight_at (weights_below n w1) x ≡ w1 x = λ x l. weight_at-weights_below n w1 x l in
@@ -89,28 +89,28 @@ module _ {n : ℕ} {p q : List ℕ → Bool} (lp : IsMatroid n p) (lq : IsMatroi
         second_heaviest = IsHeaviest-same lq (weight_at (weights_below n w2)) w2 I second at.second;
       }
 
-  IsBoundedRung-rung_of : (k : ℕ) (I : List ℕ) (w1 w2 : ℕ → ℤ) → IsSplitAt n p q (weight_at w) k (2 * 10 ^ 12 * (n + 1) * (n + 1) * k) I w1 w2
+  IsBoundedRung-rung_of : (k : ℕ) (I : List ℕ) (w1 w2 : ℕ → Weight) → IsSplitAt n p q (weight_at w) k (2 * 10 ^ 12 * (n + 1) * (n + 1) * k) I w1 w2
       → IsBoundedRung n p q w k (rung_of n I w1 w2)
   IsBoundedRung-rung_of k I w1 w2 at =
       let few : k ≤ n = omega (arith, at.size, IsSet-length n I (lp.sets I at.first.passes)) in
       let most = mul-le-mul_left (2 * 10 ^ 12 * (n + 1) * (n + 1)) few in
-      let within : (x : ℕ) → x < n → IsWithin (split_bound n) (w1 x) × IsWithin (split_bound n) (w2 x) = λ x l.
+      let within : (x : ℕ) → x < n → IsWeightWithin (split_bound n) (w1 x) × IsWeightWithin (split_bound n) (w2 x) = λ x l.
       parts_within n (weight_at w) w1 w2 (10 ^ 12) (2 * 10 ^ 12 * (n + 1) * (n + 1) * k) (split_bound n) x l (small x l) at.split (omega arith) in
       record {
         right = IsRung-rung_of k (2 * 10 ^ 12 * (n + 1) * (n + 1) * k) I w1 w2 at;
-        first_bounded = AreWithin-weights_below (split_bound n) n w1 (λ x l. (within x l).0);
-        second_bounded = AreWithin-weights_below (split_bound n) n w2 (λ x l. (within x l).1);
+        first_bounded = AreWeightsWithin-weights_below (split_bound n) n w1 (λ x l. (within x l).0);
+        second_bounded = AreWeightsWithin-weights_below (split_bound n) n w2 (λ x l. (within x l).1);
       }
 
 -- ---- one rung after the other
 
 -- rungs for the sizes from k on, and a cut of the size of the last
-record IsLadderFrom (n : ℕ) (p q : List ℕ → Bool) (w : List ℤ) (k : ℕ) (rungs : List Rung) (cut : List ℕ) : Type 0 where
+record IsLadderFrom (n : ℕ) (p q : List ℕ → Bool) (w : List Weight) (k : ℕ) (rungs : List Rung) (cut : List ℕ) : Type 0 where
   some : 0 < length rungs
   each : (i : ℕ) (rung : Rung) → slice_get rungs i ≡ Some rung → IsBoundedRung n p q w (k + i) rung
   last : (i : ℕ) → suc i ≡ length rungs → IsCut n p q (k + i) cut
 
-IsLadderFrom-one : (n : ℕ) (p q : List ℕ → Bool) (w : List ℤ) (k : ℕ) (rung : Rung) (cut : List ℕ) → IsBoundedRung n p q w k rung
+IsLadderFrom-one : (n : ℕ) (p q : List ℕ → Bool) (w : List Weight) (k : ℕ) (rung : Rung) (cut : List ℕ) → IsBoundedRung n p q w k rung
     → IsCut n p q k cut → IsLadderFrom n p q w k (rung ∷ []) cut
 IsLadderFrom-one n p q w k rung cut b c = record { some = omega arith; each = each; last = λ i e. subst (λ j. IsCut n p q j cut) (omega arith) c }
   where
@@ -118,7 +118,7 @@ IsLadderFrom-one n p q w k rung cut b c = record { some = omega arith; each = ea
     each zero r e = subst (λ j. IsBoundedRung n p q w j r) (omega arith) (subst (IsBoundedRung n p q w k) (same_Some rung r e) b)
     each (suc i) r e = absurd (none-some r e)
 
-IsLadderFrom-cons : (n : ℕ) (p q : List ℕ → Bool) (w : List ℤ) (k : ℕ) (rung : Rung) (rest : List Rung) (cut : List ℕ)
+IsLadderFrom-cons : (n : ℕ) (p q : List ℕ → Bool) (w : List Weight) (k : ℕ) (rung : Rung) (rest : List Rung) (cut : List ℕ)
     → IsBoundedRung n p q w k rung → IsLadderFrom n p q w (suc k) rest cut → IsLadderFrom n p q w k (rung ∷ rest) cut
 IsLadderFrom-cons n p q w k rung rest cut b l = record { some = omega arith; each = each; last = last }
   where
@@ -131,19 +131,19 @@ IsLadderFrom-cons n p q w k rung rest cut b l = record { some = omega arith; eac
     last (suc i) e = subst (λ j. IsCut n p q j cut) (omega arith) (l.last i (omega arith))
 
 -- the ladder from k on
-abbrev SomeLadder : ℕ → (List ℕ → Bool) → (List ℕ → Bool) → List ℤ → ℕ → Type 0
+abbrev SomeLadder : ℕ → (List ℕ → Bool) → (List ℕ → Bool) → List Weight → ℕ → Type 0
 SomeLadder n p q w k = (rungs : List Rung) × (cut : List ℕ) × IsLadderFrom n p q w k rungs cut
 
-module _ {n : ℕ} {p q : List ℕ → Bool} (lp : IsMatroid n p) (lq : IsMatroid n q) (w : List ℤ)
-    (small : (x : ℕ) → x < n → IsWithin (10 ^ 12) (weight_at w x)) where
-  ladder_from : (d k : ℕ) (I : List ℕ) (w1 w2 : ℕ → ℤ) → d + k ≡ suc n
+module _ {n : ℕ} {p q : List ℕ → Bool} (lp : IsMatroid n p) (lq : IsMatroid n q) (w : List Weight)
+    (small : (x : ℕ) → x < n → IsWeightWithin (10 ^ 12) (weight_at w x)) where
+  ladder_from : (d k : ℕ) (I : List ℕ) (w1 w2 : ℕ → Weight) → d + k ≡ suc n
       → IsSplitAt n p q (weight_at w) k (2 * 10 ^ 12 * (n + 1) * (n + 1) * k) I w1 w2 → SomeLadder n p q w k
   ladder_from zero k I w1 w2 e at = absurd (omega (arith, at.size, IsSet-length n I (lp.sets I at.first.passes)))
   ladder_from (suc d) k I w1 w2 e at =
       let base = 2 * 10 ^ 12 * (n + 1) * (n + 1) * k in
       let here = IsBoundedRung-rung_of lp lq w small k I w1 w2 at in
       let own : IsSplitAt n p q (weight_at w) (length I) base I w1 w2 = record { size = refl; first = at.first; second = at.second; split = at.split } in
-      elim (next_or_cut lp lq (weight_at w) (10 ^ 12) base small I w1 w2 own) [
+      elim (next_or_cut lp lq (weight_at w) base small I w1 w2 own) [
         | inr cut ↦ (
           rung_of n I w1 w2 ∷ [],
           cut.0,
@@ -162,17 +162,17 @@ module _ {n : ℕ} {p q : List ℕ → Bool} (lp : IsMatroid n p) (lq : IsMatroi
       ]
 
   -- the empty set, under the whole weight and nothing
-  pub IsSplitAt-nil : IsSplitAt n p q (weight_at w) 0 (2 * 10 ^ 12 * (n + 1) * (n + 1) * 0) [] (weight_at w) (λ x. pos 0)
+  pub IsSplitAt-nil : IsSplitAt n p q (weight_at w) 0 (2 * 10 ^ 12 * (n + 1) * (n + 1) * 0) [] (weight_at w) (λ x. zero_weight)
   IsSplitAt-nil = record {
     size = refl;
     first = IsHeaviest-nil lp (weight_at w);
-    second = IsHeaviest-nil lq (λ x. pos 0);
-    split = record { adds = λ x l. omega (arith, ints); low = λ x l. omega (arith, ints); high = λ x l. omega (arith, ints) };
+    second = IsHeaviest-nil lq (λ x. zero_weight);
+    split = record { adds = λ x l. omega (arith, ints, pairs); within = λ x l. omega (arith, ints) };
   }
 
   ladder_exists_within : (rungs : List Rung) × (cut : List ℕ) × IsLadder n p q w rungs cut
   ladder_exists_within =
-      let all = ladder_from (suc n) 0 [] (weight_at w) (λ x. pos 0) (omega arith) IsSplitAt-nil in
+      let all = ladder_from (suc n) 0 [] (weight_at w) (λ x. zero_weight) (omega arith) IsSplitAt-nil in
       let l = all.2 in (
         all.0,
         all.1,
@@ -184,6 +184,6 @@ module _ {n : ℕ} {p q : List ℕ → Bool} (lp : IsMatroid n p) (lq : IsMatroi
       )
 
 -- every pair of matroids has a ladder
-pub ladder_exists : {n : ℕ} {p q : List ℕ → Bool} → IsMatroid n p → IsMatroid n q → (w : List ℤ) → length w ≡ n → AreWithin (10 ^ 12) w
+pub ladder_exists : {n : ℕ} {p q : List ℕ → Bool} → IsMatroid n p → IsMatroid n q → (w : List Weight) → length w ≡ n → AreWeightsWithin (10 ^ 12) w
     → (rungs : List Rung) × (cut : List ℕ) × IsLadder n p q w rungs cut
-ladder_exists lp lq w long small = ladder_exists_within lp lq w (λ x l. All-get_or (IsWithin (10 ^ 12)) w x (pos 0) (omega arith) small)
+ladder_exists lp lq w long small = ladder_exists_within lp lq w (λ x l. All-get_or (IsWeightWithin (10 ^ 12)) w x zero_weight (omega arith) small)

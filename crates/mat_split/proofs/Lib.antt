@@ -1,4 +1,3 @@
-pub mod BestLadders
 pub mod NextRungs
 pub mod LaddersExist
 pub mod Changing

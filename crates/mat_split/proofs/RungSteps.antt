@@ -1,13 +1,14 @@
 -- What the loop over the sizes keeps: the rungs so far, one for each size, are right and within the bound, and the next one is within its
 -- own. As its set is independent, there are at most n rungs before it.
-use Rattle.std.proofs.Common.{◌≡◌, ℕ, suc, zero, ◌+◌, ◌-◌, ◌*◌, ◌^◌, ◌<◌, ◌≤◌, Bool, List, [], ◌∷◌, ◌++◌, length, ℤ, pos, Some, replicate, refl, sym, ap, ◌∙◌, subst, arith}
+use Rattle.std.proofs.Common.{◌≡◌, ℕ, suc, zero, ◌+◌, ◌-◌, ◌*◌, ◌^◌, ◌<◌, ◌≤◌, Bool, List, [], ◌∷◌, ◌++◌, length, Some, replicate, refl, sym, ap, ◌∙◌, subst, arith}
 use Rattle.std.proofs.Math.Nat.{mul-le-mul_left}
 use Rattle.std.proofs.lemmas.Option.{same_Some, none-some}
 use Rattle.std.proofs.lemmas.List.{length-replicate}
 use Rattle.std.proofs.lemmas.List.Elements.{All-get_or}
 use Rattle.std.specs.Prelude.{slice_get}
-use Rattle.mat_sets.specs.Sums.{IsWithin, AreWithin, weight_at}
 use Rattle.mat_sets.proofs.Ground.{IsSet-length}
+use Rattle.mat_sets.specs.Weights.{zero_weight, weight_at, IsWeightWithin, AreWeightsWithin}
+use Rattle.mat_sets.specs.declared.weight.Weight.{Weight}
 use Rattle.mat_laws.specs.Matroids.{IsMatroid}
 use Rattle.mat_laws.specs.Ladders.{IsCut, split_bound}
 use Rattle.mat_exchange.specs.Changes.{IsSplitWithin}
@@ -15,23 +16,23 @@ use Rattle.mat_split.specs.Augmenting.{IsSplitRung, weights_of, size_bound}
 use Rattle.mat_split.specs.Ladders.{IsBoundedRung, IsLadder}
 use Rattle.mat_split.specs.declared.ladder.Rung.{Rung}
 use Rattle.mat_split.proofs.LaddersExist.{parts_within, IsSplitAt-nil}
-use Rattle.mat_split.proofs.SplitSteps.{AreWithin-from}
+use Rattle.mat_exchange.proofs.WeightBounds.{AreWeightsWithin-from}
 use mathlib.Core.Path.{fun_ext}
 
 -- the rungs of the sizes so far, and the next one
-pub record AreRungs (n : ℕ) (p q : List ℕ → Bool) (w : List ℤ) (rungs : List Rung) (next : Rung) : Type 0 where
+pub record AreRungs (n : ℕ) (p q : List ℕ → Bool) (w : List Weight) (rungs : List Rung) (next : Rung) : Type 0 where
   pub first_laws : IsMatroid n p
   pub second_laws : IsMatroid n q
-  pub small : (x : ℕ) → x < n → IsWithin (10 ^ 12) (weight_at w x)
+  pub small : (x : ℕ) → x < n → IsWeightWithin (10 ^ 12) (weight_at w x)
   pub each : (k : ℕ) (rung : Rung) → slice_get rungs k ≡ Some rung → IsBoundedRung n p q w k rung
   pub next_rung : IsSplitRung n p q (weight_at w) (length rungs) next
 
 -- a split of one weight is a split of another that is the same below n
-IsSplitWithin-same : (n : ℕ) (w v w1 w2 : ℕ → ℤ) (h : ℕ) → ((x : ℕ) → x < n → w x ≡ v x)
+IsSplitWithin-same : (n : ℕ) (w v w1 w2 : ℕ → Weight) (h : ℕ) → ((x : ℕ) → x < n → w x ≡ v x)
     → IsSplitWithin n w w1 w2 h → IsSplitWithin n v w1 w2 h
-IsSplitWithin-same n w v w1 w2 h same s = record { adds = λ x l. s.adds x l ∙ same x l; low = s.low; high = s.high }
+IsSplitWithin-same n w v w1 w2 h same s = record { adds = λ x l. s.adds x l ∙ same x l; within = s.within }
 
-IsSplitRung-same : (n : ℕ) (p q : List ℕ → Bool) (w v : ℕ → ℤ) (k : ℕ) (rung : Rung)
+IsSplitRung-same : (n : ℕ) (p q : List ℕ → Bool) (w v : ℕ → Weight) (k : ℕ) (rung : Rung)
     → ((x : ℕ) → x < n → w x ≡ v x) → IsSplitRung n p q w k rung → IsSplitRung n p q v k rung
 IsSplitRung-same n p q w v k rung same s = record {
   first_length = s.first_length;
@@ -56,23 +57,23 @@ length-pushed : (rungs : List Rung) (last : Rung) → length (rungs ++ last ∷ 
 length-pushed [] last = refl
 length-pushed (r ∷ rungs) last = ap suc (length-pushed rungs last)
 
-weight_at-zeros : (n x : ℕ) → weight_at (replicate n (pos 0)) x ≡ pos 0
+weight_at-zeros : (n x : ℕ) → weight_at (replicate n zero_weight) x ≡ zero_weight
 weight_at-zeros zero x = refl
 weight_at-zeros (suc n) zero = refl
 weight_at-zeros (suc n) (suc x) = weight_at-zeros n x
 
 -- before the first set
-pub AreRungs-start : {n m : ℕ} {p q : List ℕ → Bool} {w : List ℤ} {none : List Rung} {rung : Rung} → IsMatroid n p → IsMatroid m q
-    → m ≡ n → length w ≡ n → AreWithin (10 ^ 12) w → none ≡ [] → rung.set ≡ []
-    → rung.first ≡ w → rung.second ≡ replicate (length w) (pos 0) → AreRungs n p q w none rung
+pub AreRungs-start : {n m : ℕ} {p q : List ℕ → Bool} {w : List Weight} {none : List Rung} {rung : Rung} → IsMatroid n p → IsMatroid m q
+    → m ≡ n → length w ≡ n → AreWeightsWithin (10 ^ 12) w → none ≡ [] → rung.set ≡ []
+    → rung.first ≡ w → rung.second ≡ replicate (length w) zero_weight → AreRungs n p q w none rung
 AreRungs-start {n} {m} {p} {q} {w} {none} {rung} lp lq ground_size long within none_is set_is first_is second_is = rw none_is (record {
   first_laws = lp;
   second_laws = second_laws;
   small = small;
   each = λ k r e. absurd (none-some r e);
   next_rung = record {
-    first_length = ap (λ (l : List ℤ). length l) first_is ∙ long;
-    second_length = ap (λ (l : List ℤ). length l) second_is ∙ length-replicate (length w) (pos 0) ∙ long;
+    first_length = ap (λ (l : List Weight). length l) first_is ∙ long;
+    second_length = ap (λ (l : List Weight). length l) second_is ∙ length-replicate (length w) zero_weight ∙ long;
     at = rw (set_is, first_is, second_is, zeros) (IsSplitAt-nil lp second_laws w small);
   };
 })
@@ -80,13 +81,13 @@ AreRungs-start {n} {m} {p} {q} {w} {none} {rung} lp lq ground_size long within n
     second_laws : IsMatroid n q
     second_laws = rw ground_size at lq
 
-    small : (x : ℕ) → x < n → IsWithin (10 ^ 12) (weight_at w x)
-    small x l = All-get_or (IsWithin (10 ^ 12)) w x (pos 0) (rw long l) within
+    small : (x : ℕ) → x < n → IsWeightWithin (10 ^ 12) (weight_at w x)
+    small x l = All-get_or (IsWeightWithin (10 ^ 12)) w x zero_weight (rw long l) within
 
-    zeros : weight_at (replicate (length w) (pos 0)) ≡ (λ x. pos 0)
+    zeros : weight_at (replicate (length w) zero_weight) ≡ (λ x. zero_weight)
     zeros = fun_ext (λ x. weight_at-zeros (length w) x)
 
-module _ {n : ℕ} {p q : List ℕ → Bool} {w : List ℤ} {rungs : List Rung} {rung : Rung} (now : AreRungs n p q w rungs rung) where
+module _ {n : ℕ} {p q : List ℕ → Bool} {w : List Weight} {rungs : List Rung} {rung : Rung} (now : AreRungs n p q w rungs rung) where
   pub few_rungs : length rungs ≤ n
   few_rungs = let at = now.next_rung.at in omega (arith, at.size, IsSet-length n rung.set (now.first_laws.sets rung.set at.first.passes))
 
@@ -98,8 +99,8 @@ module _ {n : ℕ} {p q : List ℕ → Bool} {w : List ℤ} {rungs : List Rung} 
   same_weights = now.next_rung.at.split.adds
 
   -- what the step to the next size takes
-  pub weights_within : (x : ℕ) → x < n → IsWithin (10 ^ 12) (weights_of rung x)
-  weights_within x l = subst (IsWithin (10 ^ 12)) (sym (same_weights x l)) (now.small x l)
+  pub weights_within : (x : ℕ) → x < n → IsWeightWithin (10 ^ 12) (weights_of rung x)
+  weights_within x l = subst (IsWeightWithin (10 ^ 12)) (sym (same_weights x l)) (now.small x l)
 
   pub own_rung : IsSplitRung n p q (weights_of rung) (length rung.set) rung
   own_rung =
@@ -111,7 +112,7 @@ module _ {n : ℕ} {p q : List ℕ → Bool} {w : List ℤ} {rungs : List Rung} 
   bounded =
       let s = now.next_rung in
       let most = mul-le-mul_left (2 * 10 ^ 12 * (n + 1) * (n + 1)) few_rungs in
-      let within : (x : ℕ) → x < n → IsWithin (split_bound n) (weight_at rung.first x) × IsWithin (split_bound n) (weight_at rung.second x) =
+      let within : (x : ℕ) → x < n → IsWeightWithin (split_bound n) (weight_at rung.first x) × IsWeightWithin (split_bound n) (weight_at rung.second x) =
       λ x l. parts_within n (weight_at w) (weight_at rung.first) (weight_at rung.second) (10 ^ 12) (size_bound n (length rungs)) (split_bound n) x l
       (now.small x l) s.at.split (omega arith) in
       record {
@@ -123,8 +124,8 @@ module _ {n : ℕ} {p q : List ℕ → Bool} {w : List ℤ} {rungs : List Rung} 
           first_heaviest = s.at.first;
           second_heaviest = s.at.second;
         };
-        first_bounded = AreWithin-from (split_bound n) n rung.first s.first_length (λ x l. (within x l).0);
-        second_bounded = AreWithin-from (split_bound n) n rung.second s.second_length (λ x l. (within x l).1);
+        first_bounded = AreWeightsWithin-from (split_bound n) n rung.first s.first_length (λ x l. (within x l).0);
+        second_bounded = AreWeightsWithin-from (split_bound n) n rung.second s.second_length (λ x l. (within x l).1);
       }
 
   each_with : (k : ℕ) (r : Rung) → slice_get (rungs ++ rung ∷ []) k ≡ Some r → IsBoundedRung n p q w k r

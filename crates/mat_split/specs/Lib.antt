@@ -1,3 +1,2 @@
 pub mod Ladders
-pub mod CommonSets
 pub mod Augmenting

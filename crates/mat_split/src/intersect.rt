@@ -1,24 +1,24 @@
 //! Weighted matroid intersection.
 
-ghost use Rattle.std.specs.Prelude.{◌≡◌, ◌≤◌, ◌^◌, [], length, replicate, pos, IfOk};
-ghost use Rattle.mat_sets.specs.Sums.{AreWithin};
+ghost use Rattle.std.specs.Prelude.{◌≡◌, ◌≤◌, ◌^◌, [], length, replicate, IfOk};
+ghost use Rattle.mat_sets.specs.Weights.{zero_weight, AreWeightsWithin};
 ghost use Rattle.mat_split.specs.Ladders.{IsLadder};
 
 use crate::augment::augment;
 use crate::augmented::Augmented;
 use crate::ladder::{Ladder, Rung};
 use mat_laws::Matroid;
-use mat_sets::{ElemSet, Weights};
+use mat_sets::{ElemSet, PairWeights, Weight};
 use std::alloc::{AllocError, Global};
 
 /// The empty set, under the whole weights for the first matroid and none for the second.
-fn first_rung(alloc: Global, weights: &[i128]) -> Result<Rung, AllocError>
+fn first_rung(alloc: Global, weights: &[Weight]) -> Result<Rung, AllocError>
     ensures set { IfOk result (λ r. r.set ≡ []) }
     ensures first { IfOk result (λ r. r.first ≡ weights.now) }
-    ensures second { IfOk result (λ r. r.second ≡ replicate (length weights.now) (pos 0)) }
+    ensures second { IfOk result (λ r. r.second ≡ replicate (length weights.now) zero_weight) }
 {
-    let first = Weights::new(Vec::from_slice(alloc, weights)?);
-    let second = Weights::new(vec![in alloc; 0; weights.len()]?);
+    let first = PairWeights::new(Vec::from_slice(alloc, weights)?);
+    let second = PairWeights::new(vec![in alloc; Weight::ZERO; weights.len()]?);
     Ok(Rung {
         set: ElemSet::new(alloc),
         first,
@@ -28,14 +28,14 @@ fn first_rung(alloc: Global, weights: &[i128]) -> Result<Rung, AllocError>
 
 /// A heaviest common independent set of two matroids for each size from 0 to the largest, each with a split of the weights that
 /// proves it, and a set that proves that there is no larger one, by weight splitting (Frank 1981; Schrijver, chapter 41). Both
-/// matroids have the same elements, at most 500; each weight is at least -10^12 and at most 10^12; there are 1 to 16 workers. For n
-/// elements the rows of each matroid are made at most n + 1 times, and at most (n + 1) (n + 2) searches for a tight path are made.
+/// matroids have the same elements, at most 500; both numbers of each weight are at least -10^12 and at most 10^12; there are 1 to 16
+/// workers. For n elements the rows of each matroid are made at most n + 1 times, and as many reached sets grow.
 /// The only error is want of memory.
 pub fn intersect_all<A: Matroid, B: Matroid>(
     alloc: Global,
     a: &A,
     b: &B,
-    weights: &[i128],
+    weights: &[Weight],
     workers: u32,
 ) -> Result<Ladder, AllocError>
     requires first_sound { A.sound a.now }
@@ -44,7 +44,7 @@ pub fn intersect_all<A: Matroid, B: Matroid>(
     requires few { A.ground_size a.now ≤ 500 }
     requires workers { (1 ≤ workers) × (workers ≤ 16) }
     requires lengths { length weights.now ≡ A.ground_size a.now }
-    requires small { AreWithin (10 ^ 12) weights.now }
+    requires small { AreWeightsWithin (10 ^ 12) weights.now }
     ensures { IfOk result (λ l. IsLadder (A.ground_size a.now) (A.indep a.now) (B.indep b.now) weights.now l.rungs.items l.cut) }
 {
     a.lawful();

@@ -1,6 +1,6 @@
 //! Ladders of heaviest common independent sets.
 
-use mat_sets::{ElemSet, Weights};
+use mat_sets::{ElemSet, PairWeights};
 
 /// A heaviest common independent set of its size, with a split of the weights that proves it (Frank 1981).
 #[derive(Debug, Drop)]
@@ -8,9 +8,9 @@ pub struct Rung {
     /// The elements of the set.
     pub set: ElemSet,
     /// The part of each element's weight that is given to the first matroid.
-    pub first: Weights,
+    pub first: PairWeights,
     /// The part of each element's weight that is given to the second matroid.
-    pub second: Weights,
+    pub second: PairWeights,
 }
 
 /// A heaviest common independent set of each size, and a set that proves that none is larger.

@@ -1,10 +1,11 @@
 //! What a ladder proves of two matroids. Each law is the contract of a function that does nothing.
 
-ghost use Rattle.std.specs.Prelude.{◌≡◌, ◌<◌, ◌^◌, ◌+ℤ◌, ℕ, ℤ, List, Bool, true, length, Some, slice_get};
+ghost use Rattle.std.specs.Prelude.{◌≡◌, ◌<◌, ◌^◌, ℕ, List, Bool, true, length, Some, slice_get};
 ghost use Rattle.mat_sets.specs.Sets.{IsSet};
-ghost use Rattle.mat_sets.specs.Sums.{weight, AreWithin};
+ghost use Rattle.mat_sets.specs.Weights.{◌⊕◌, weight, AreWeightsWithin};
+ghost use Rattle.mat_sets.specs.declared.weight.Weight.{Weight};
 ghost use Rattle.mat_laws.specs.Matroids.{IsMatroid};
-ghost use Rattle.mat_split.specs.CommonSets.{IsHeaviestCommon};
+ghost use Rattle.mat_laws.specs.CommonSets.{IsHeaviestCommon};
 ghost use Rattle.mat_split.specs.Ladders.{IsLadder};
 ghost use Rattle.mat_split.specs.declared.ladder.Rung.{Rung};
 
@@ -13,19 +14,19 @@ ghost use Rattle.mat_split.specs.declared.ladder.Rung.{Rung};
 /// it together (Frank 1981; the bound by the cut is Edmonds').
 pub fn ladder_is_best()
     ensures heaviest { (n : ℕ) (p q : List ℕ → Bool) → IsMatroid n p → IsMatroid n q
-        → (w : List ℤ) (rungs : List Rung) (cut : List ℕ) → IsLadder n p q w rungs cut
+        → (w : List Weight) (rungs : List Rung) (cut : List ℕ) → IsLadder n p q w rungs cut
         → (k : ℕ) (rung : Rung) → slice_get rungs k ≡ Some rung → IsHeaviestCommon p q w k rung.set }
     ensures largest { (n : ℕ) (p q : List ℕ → Bool) → IsMatroid n p → IsMatroid n q
-        → (w : List ℤ) (rungs : List Rung) (cut : List ℕ) → IsLadder n p q w rungs cut
+        → (w : List Weight) (rungs : List Rung) (cut : List ℕ) → IsLadder n p q w rungs cut
         → (other : List ℕ) → p other ≡ true → q other ≡ true → length other < length rungs }
-    ensures splits { (n : ℕ) (p q : List ℕ → Bool) (w : List ℤ) (rungs : List Rung) (cut : List ℕ) → IsLadder n p q w rungs cut
+    ensures splits { (n : ℕ) (p q : List ℕ → Bool) (w : List Weight) (rungs : List Rung) (cut : List ℕ) → IsLadder n p q w rungs cut
         → (k : ℕ) (rung : Rung) → slice_get rungs k ≡ Some rung
-        → (X : List ℕ) → IsSet n X → weight w X ≡ weight rung.first X +ℤ weight rung.second X }
+        → (X : List ℕ) → IsSet n X → weight w X ≡ weight rung.first X ⊕ weight rung.second X }
 {}
 
-/// Every pair of matroids on n elements has a ladder, for all weights of at least -10^12 and at most 10^12 (Frank 1981).
+/// Every pair of matroids on n elements has a ladder, for all weights whose numbers are at least -10^12 and at most 10^12 (Frank 1981).
 pub fn ladder_exists()
     ensures { (n : ℕ) (p q : List ℕ → Bool) → IsMatroid n p → IsMatroid n q
-        → (w : List ℤ) → length w ≡ n → AreWithin (10 ^ 12) w
+        → (w : List Weight) → length w ≡ n → AreWeightsWithin (10 ^ 12) w
         → (rungs : List Rung) × (cut : List ℕ) × IsLadder n p q w rungs cut }
 {}

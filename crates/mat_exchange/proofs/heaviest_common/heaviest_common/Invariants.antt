@@ -1,6 +1,6 @@
 use Rattle.std.proofs.Common.{◌&&◌, ◌-◌, length}
 use Rattle.mat_sets.specs.Sets.{is_member}
-use Rattle.mat_sets.specs.Sums.{weight_at}
+use Rattle.mat_sets.specs.Weights.{weight_at}
 use Rattle.mat_exchange.proofs.HeaviestAddable.{IsHeaviestBeforeOrNone}
 use Rattle.mat_exchange.proofs.heaviest_common.heaviest_common.Given as goal
 

@@ -1,5 +1,5 @@
 use Rattle.std.proofs.Common.{◌≡◌, length, sym, subst, arith}
-use Rattle.mat_sets.specs.Sums.{weight_at}
+use Rattle.mat_sets.specs.Weights.{weight_at}
 use Rattle.mat_laws.specs.TightPaths.{exchanges_in}
 use Rattle.mat_exchange.specs.SlackParts.{IsExchangeSlack, IsLeastOrNone}
 use Rattle.mat_exchange.proofs.SlackParts.{least_exchange_next}

@@ -1,5 +1,5 @@
 use Rattle.std.proofs.Common.{length, subst}
-use Rattle.mat_sets.specs.Sums.{weight_at}
+use Rattle.mat_sets.specs.Weights.{weight_at}
 use Rattle.mat_laws.specs.TightPaths.{exchanges_in}
 use Rattle.mat_exchange.specs.SlackParts.{IsAdditionSlack, IsExchangeSlack, IsLeastOrNone}
 use Rattle.mat_exchange.proofs.SlackParts.{least_of_four, reached_below}

@@ -1,13 +1,12 @@
 use Rattle.std.proofs.Common.{◌≡◌, ◌≤◌, ◌<◌, ◌&&◌, ◌-◌, ℕ, false}
-use Rattle.std.specs.Ordering.{int_eq}
 use Rattle.mat_sets.specs.Sets.{is_member}
-use Rattle.mat_sets.specs.Sums.{weight_at}
+use Rattle.mat_sets.specs.Weights.{is_same, weight_at}
 use Rattle.mat_exchange.proofs.tight_arcs.next_equal.Given as goal
 
 abbrev pub invariant-loop-v : goal.invariant-loop-v
 invariant-loop-v l = record {
   later : l.from ≤ l.at;
-  none : (x : ℕ) → l.from ≤ x → x < l.at → ((is_member x l.candidates && is_member x l.among) && int_eq (weight_at l.weights l.u)
+  none : (x : ℕ) → l.from ≤ x → x < l.at → ((is_member x l.candidates && is_member x l.among) && is_same (weight_at l.weights l.u)
       (weight_at l.weights x)) ≡ false;
 }
 

@@ -1,0 +1,89 @@
+-- What has grown: where nothing can be added in the first matroid nothing changes, and a search after the changes has no slack.
+use Rattle.std.proofs.Common.{◌≡◌, ℕ, ◌+◌, ◌*◌, ◌^◌, ◌<◌, ◌≤◌, false, ◌&&◌, List, length, Some, None, inl, inr, refl, sym, ◌∙◌, subst, arith}
+use Rattle.std.proofs.lemmas.Bool.{and_parts, and_from, cases_Bool, both_ways}
+use Rattle.std.proofs.lemmas.Nat.{mul-le}
+use Rattle.mat_sets.specs.Sets.{is_member}
+use Rattle.mat_sets.specs.Weights.{◌⊕◌, weight_at, IsWeightWithin, AreWeightsWithin}
+use Rattle.mat_sets.specs.declared.weight.Weight.{Weight}
+use Rattle.mat_sets.proofs.WeightOrder.{weight_within_at}
+use Rattle.mat_laws.specs.declared.exchange.Exchange.{Exchange}
+use Rattle.mat_laws.specs.TightPaths.{Exchanges, exchanges_in}
+use Rattle.mat_exchange.specs.declared.found.Found.{Found}
+use Rattle.mat_exchange.specs.declared.found.Found.TheVariants.{Path, Stuck}
+use Rattle.mat_exchange.specs.declared.grown.Grown.{Grown}
+use Rattle.mat_exchange.specs.Searching.{IsFound}
+use Rattle.mat_exchange.specs.Growing.{NoExchangeGains, EndsSearch, IsGrownSplit, IsGrown, IsHeaviestOf, HasNoSlack, StaysHeaviest, sum_at}
+use Rattle.mat_exchange.proofs.HeaviestExchanges.{heaviest_in_rows}
+use Rattle.mat_exchange.proofs.Growing.{grown_unchanged}
+use Rattle.mat_exchange.proofs.WeightBounds.{IsWeightWithin-weaken, AreWeightsWithin-from, first_within, second_within}
+
+-- where nothing can be added, nothing changes
+pub grown_without_source : (n : ℕ) (a b : Exchanges) (u1 u2 : ℕ → Weight) (A : List ℕ) → ((x : ℕ) → is_member x A ≡ a.adds x)
+    → ((x : ℕ) → (is_member x A && is_member x A) ≡ false)
+    → NoExchangeGains a u1 → NoExchangeGains b u2 → IsGrownSplit n a b (sum_at u1 u2) u2 u1 u2
+grown_without_source n a b u1 u2 A tells none gains1 gains2 = grown_unchanged n a b u1 u2 (λ x. elim (cases_Bool (a.adds x)) [
+  | inr out ↦ out
+  | inl k ↦ absurd (let m = tells x ∙ k in both_ways _ (none x) (and_from (is_member x A) (is_member x A) m m))
+]) gains1 gains2
+
+-- a heaviest member of the addable elements is heaviest of what can be added
+pub heaviest_root : (a : Exchanges) (w : ℕ → Weight) (A : List ℕ) (root : ℕ) → ((x : ℕ) → is_member x A ≡ a.adds x)
+    → IsHeaviestOf (λ x. is_member x A && is_member x A) w root → IsHeaviestOf a.adds w root
+heaviest_root a w A root tells top = record {
+  passes = sym (tells root) ∙ (and_parts (is_member root A) (is_member root A) top.passes).0;
+  most = λ y k. (let m = tells y ∙ k in top.most y (and_from (is_member y A) (is_member y A) m m));
+}
+
+-- ---- the answer
+
+no_slack : (n : ℕ) (a b : Exchanges) (v1 v2 : ℕ → Weight) (found : Found) → EndsSearch n a b v1 v2 → IsFound n a b v1 v2 found → HasNoSlack found
+no_slack n a b v1 v2 (Path path) ends is = _
+no_slack n a b v1 v2 (Stuck reach None) ends is = refl
+no_slack n a b v1 v2 (Stuck reach (Some d)) ends is = absurd (ends reach is.0 d is.1.slack)
+
+within_more : (z : Weight) (h n : ℕ) → 0 < n → IsWeightWithin (h + 4 * 10 ^ 12 * n) z → IsWeightWithin (h + 2 * 10 ^ 12 * (n + 1) * n) z
+within_more z h n some within =
+    let more : 2 * 10 ^ 12 * 2 * n ≤ 2 * 10 ^ 12 * (n + 1) * n = mul-le (2 * 10 ^ 12 * 2) n (2 * 10 ^ 12 * (n + 1)) n (omega arith) (omega arith) in
+    IsWeightWithin-weaken (h + 4 * 10 ^ 12 * n) (h + 2 * 10 ^ 12 * (n + 1) * n) z (omega arith) within
+
+module _ {n : ℕ} {a b : Exchanges} (u1 u2 v1 v2 : List Weight) (few : n ≤ 500)
+    (small : (x : ℕ) → x < n → IsWeightWithin (10 ^ 12) (weight_at u1 x ⊕ weight_at u2 x)) (old : AreWeightsWithin (10 ^ 25) u2)
+    (long1 : length v1 ≡ n) (long2 : length v2 ≡ n)
+    (grown : IsGrownSplit n a b (sum_at (weight_at u1) (weight_at u2)) (weight_at u2) (weight_at v1) (weight_at v2)) where
+  second_in : (x : ℕ) → x < n → IsWeightWithin (10 ^ 26) (weight_at v2 x)
+  second_in x l = second_within (weight_at v2 x) n few (grown.within (10 ^ 25) (λ y k. weight_within_at (10 ^ 25) u2 old y) x l)
+
+  pub grown_first_within : AreWeightsWithin (10 ^ 30) v1
+  grown_first_within = AreWeightsWithin-from (10 ^ 30) n v1 long1 (λ x l.
+      IsWeightWithin-weaken (10 ^ 27) (10 ^ 30) (weight_at v1 x) (omega arith) (first_within (weight_at v1 x) (weight_at v2 x) _ (grown.adds x l) (small x l) (second_in x l)))
+
+  pub grown_second_within : AreWeightsWithin (10 ^ 30) v2
+  grown_second_within = AreWeightsWithin-from (10 ^ 30) n v2 long2 (λ x l. IsWeightWithin-weaken (10 ^ 26) (10 ^ 30) (weight_at v2 x) (omega arith) (second_in x l))
+
+  pub grown_found : (found : Found) → IsFound n a b (weight_at v1) (weight_at v2) found
+      → IsGrown n a b u1 u2 (record { first = v1; second = v2; found = found })
+  grown_found found is = record {
+    first_length = long1;
+    second_length = long2;
+    adds = grown.adds;
+    first_gains = grown.first_gains;
+    second_gains = grown.second_gains;
+    bounded = λ h within. AreWeightsWithin-from (h + 2 * 10 ^ 12 * (n + 1) * n) n v2 long2 (λ x l.
+        within_more (weight_at v2 x) h n (omega arith) (grown.within h (λ y k. weight_within_at h u2 within y) x l));
+    found = is;
+    no_slack = no_slack n a b (weight_at v1) (weight_at v2) found grown.ends is;
+  }
+
+-- the set stays heaviest
+pub stays_heaviest : (n : ℕ) (first second : List Exchange) (I : List ℕ) (w1 w2 : List Weight) (g : Grown)
+    → IsGrown n (exchanges_in first) (exchanges_in second) w1 w2 g → StaysHeaviest n first second I w1 w2 g
+stays_heaviest n first second I w1 w2 g grown = λ p q lp lq rows1 rows2 best1 best2. (
+  heaviest_in_rows lp (weight_at g.first) I best1.passes (subst (λ t. NoExchangeGains (exchanges_in t) (weight_at g.first)) rows1 grown.first_gains),
+  heaviest_in_rows lq (weight_at g.second) I best2.passes (subst (λ t. NoExchangeGains (exchanges_in t) (weight_at g.second)) rows2 grown.second_gains),
+)
+
+-- the same for copies of the weights
+pub grown_of_copies : {a b : Exchanges} {d1 d2 u1 u2 : List Weight} (v1 v2 : List Weight) → d1 ≡ u1 → d2 ≡ u2
+    → IsGrownSplit (length d1) a b (sum_at (weight_at d1) (weight_at d2)) (weight_at d2) (weight_at v1) (weight_at v2)
+    → IsGrownSplit (length u1) a b (sum_at (weight_at u1) (weight_at u2)) (weight_at u2) (weight_at v1) (weight_at v2)
+grown_of_copies v1 v2 e1 e2 grown = rw (e1, e2) at grown

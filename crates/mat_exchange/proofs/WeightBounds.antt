@@ -1,0 +1,23 @@
+-- Bounds on both numbers of weights.
+use Rattle.std.proofs.Common.{◌≡◌, ℕ, ◌+◌, ◌*◌, ◌^◌, ◌<◌, ◌≤◌, List, length, sym, arith}
+use Rattle.std.proofs.lemmas.Int.{ints}
+use Rattle.std.proofs.lemmas.List.Elements.{All-from_get_or}
+use Rattle.mat_sets.specs.Weights.{zero_weight, ◌⊕◌, ◌⊖◌, weight_at, IsWeightWithin, AreWeightsWithin}
+use Rattle.mat_sets.specs.declared.weight.Weight.{Weight}
+use Rattle.mat_sets.proofs.WeightOrder.{pairs}
+
+pub IsWeightWithin-weaken : (a b : ℕ) (z : Weight) → a ≤ b → IsWeightWithin a z → IsWeightWithin b z
+IsWeightWithin-weaken a b z le within = omega (arith, ints)
+
+pub AreWeightsWithin-from : (bound n : ℕ) (w : List Weight) → length w ≡ n → ((x : ℕ) → x < n → IsWeightWithin bound (weight_at w x)) → AreWeightsWithin bound w
+AreWeightsWithin-from bound n w long each = All-from_get_or (IsWeightWithin bound) w zero_weight (λ x l. each x (rw (sym long) l))
+
+pub difference_within : (a b c : ℕ) (x y d : Weight) → a + b ≤ c → d ≡ x ⊖ y → IsWeightWithin a x → IsWeightWithin b y → IsWeightWithin c d
+difference_within a b c x y d le e hx hy = omega (arith, ints, pairs)
+
+-- the halves of small weights, after a growth on few elements from halves within 10^25
+pub second_within : (z : Weight) (n : ℕ) → n ≤ 500 → IsWeightWithin (10 ^ 25 + 4 * 10 ^ 12 * n) z → IsWeightWithin (10 ^ 26) z
+second_within z n few within = omega (arith, ints)
+
+pub first_within : (a z w : Weight) → a ⊕ z ≡ w → IsWeightWithin (10 ^ 12) w → IsWeightWithin (10 ^ 26) z → IsWeightWithin (10 ^ 27) a
+first_within a z w e small within = omega (arith, ints, pairs)

@@ -1,0 +1,19 @@
+use Rattle.std.proofs.Common.{◌&&◌, ◌∙◌, sym, refl, eqb, ◌==◌}
+use Rattle.mat_sets.specs.Sets.{is_member}
+use Rattle.mat_sets.specs.Weights.{weight_at}
+use Rattle.mat_exchange.specs.Growing.{gain_at, IsOffered}
+use Rattle.mat_exchange.proofs.Fringes.{offered_next, offered_same}
+use Rattle.mat_exchange.proofs.fringe.offer.Goals as goal
+
+pub loop-z-preserved : goal.loop-z-preserved
+loop-z-preserved c =
+    let z = c.in-Some.z in
+    let f = gain_at c.args.inside (weight_at c.args.weights.now) c.args.x in
+    let one : IsOffered (λ v. v == z) (λ v. c.gain_of-gain.result) c.loop-z.fringe (weight_at c.loop-z.gains) c.offer_one.new.fringe
+    (weight_at c.offer_one.new.gains) = c.in_ok-offer_one.ensures.offered in
+    record {
+      length = c.offer_one.ensures.length ∙ c.loop-z.invariant.length;
+      offered = offered_next (λ v. is_member v c.args.candidates.now && is_member v c.args.others.now) f c.loop-z.from z
+          _ _ _ _ _ _ c.in-Some.ensures c.loop-z.invariant.offered
+          (offered_same _ (λ v. eqb v z) _ (λ v. f z) _ _ _ _ (λ v. refl) (λ v. sym c.gain_of-gain.ensures) one);
+    }

@@ -1,0 +1,155 @@
+//! The elements outside a reached set that a change of the weights lets in, each with the greatest of its gains.
+ghost use Rattle.std.specs.Prelude.{◌≡◌, ◌&&◌, ◌==◌, ◌<◌, ◌≤◌, ◌^◌, ℕ, true, length, OnOk};
+ghost use Rattle.mat_sets.specs.Sets.{is_member, with_one, without_one};
+ghost use Rattle.mat_sets.specs.Weights.{weight_at, IsWeightWithin, AreWeightsWithin};
+ghost use Rattle.mat_laws.specs.TightPaths.{exchanges_in};
+ghost use Rattle.mat_exchange.specs.Changes.{lowered, raised};
+ghost use Rattle.mat_exchange.specs.Growing.{IsOffered, gain_at, leads, entry_gain};
+
+use crate::row_table::RowTable;
+use crate::slack::excess;
+use mat_sets::{BitSet, ElemSet, Weight};
+use std::alloc::AllocError;
+
+/// By how much z weighs more than x, or the other way round.
+fn gain_of(weights: &[Weight], x: u32, z: u32, inside: bool) -> Weight
+    requires small { AreWeightsWithin (10 ^ 30) weights.now }
+    requires from_below { x < length weights.now }
+    requires to_below { z < length weights.now }
+    ensures { result ≡ gain_at inside (weight_at weights.now) x z }
+{
+    if inside {
+        excess(weights[z as usize], weights[x as usize])
+    } else {
+        excess(weights[x as usize], weights[z as usize])
+    }
+}
+
+/// Offers a gain to z, which keeps the greatest.
+fn offer_one(
+    fringe: &mut BitSet,
+    gains: &mut [Weight],
+    z: u32,
+    gain: Weight,
+) -> Result<(), AllocError>
+    requires { z < length gains.old }
+    ensures length { length gains.new ≡ length gains.old }
+    ensures offered { OnOk result (IsOffered (λ v. v == z) (λ v. gain) fringe.old (weight_at gains.old) fringe.new (weight_at gains.new)) }
+{
+    if !fringe.contains(z) {
+        fringe.insert(z)?;
+        gains[z as usize] = gain;
+    } else if gains[z as usize] < gain {
+        gains[z as usize] = gain;
+    }
+    Ok(())
+}
+
+/// Offers to each candidate outside the reached set its gain from x.
+pub(crate) fn offer(
+    candidates: &BitSet,
+    others: &BitSet,
+    weights: &[Weight],
+    x: u32,
+    inside: bool,
+    fringe: &mut BitSet,
+    gains: &mut [Weight],
+) -> Result<(), AllocError>
+    requires few { length weights.now ≤ 500 }
+    requires lengths { length gains.old ≡ length weights.now }
+    requires small { AreWeightsWithin (10 ^ 30) weights.now }
+    requires from_below { x < length weights.now }
+    requires others { (v : ℕ) → is_member v others.now ≡ true → v < length weights.now }
+    ensures length { length gains.new ≡ length gains.old }
+    ensures offered { OnOk result (IsOffered (λ v. is_member v candidates.now && is_member v others.now)
+        (gain_at inside (weight_at weights.now) x) fringe.old (weight_at gains.old) fringe.new (weight_at gains.new)) }
+{
+    let mut from = 0;
+    while let Some(z) = candidates.next_common(others, from) {
+        let gain = gain_of(weights, x, z, inside);
+        offer_one(fringe, gains, z, gain)?;
+        from = z + 1;
+    }
+    Ok(())
+}
+
+/// Offers to each element outside the reached set to which an arc can lead from x its gain.
+pub(crate) fn offer_exchanges(
+    first: &RowTable,
+    second: &RowTable,
+    set: &ElemSet,
+    w1: &[Weight],
+    w2: &[Weight],
+    x: u32,
+    others: &BitSet,
+    fringe: &mut BitSet,
+    gains: &mut [Weight],
+) -> Result<(), AllocError>
+    requires few { length w1.now ≤ 500 }
+    requires lengths { length w2.now ≡ length w1.now }
+    requires gains { length gains.old ≡ length w1.now }
+    requires first_count { length first.now ≡ length w1.now }
+    requires second_count { length second.now ≡ length w1.now }
+    requires first_small { AreWeightsWithin (10 ^ 30) w1.now }
+    requires second_small { AreWeightsWithin (10 ^ 30) w2.now }
+    requires from_below { x < length w1.now }
+    requires others { (v : ℕ) → is_member v others.now ≡ true → v < length w1.now }
+    ensures length { length gains.new ≡ length gains.old }
+    ensures offered { OnOk result (IsOffered (λ v. leads (exchanges_in first.now) (exchanges_in second.now) set.now x v && is_member v others.now)
+        (entry_gain (weight_at w1.now) (weight_at w2.now) set.now x) fringe.old (weight_at gains.old) fringe.new (weight_at gains.new)) }
+{
+    if set.contains(x) {
+        offer(first.column(x), others, w1, x, true, fringe, gains)
+    } else {
+        offer(second.row(x), others, w2, x, false, fringe, gains)
+    }
+}
+
+/// Adds `step` to the weights of the members.
+fn raise_on(weights: &mut [Weight], members: &BitSet, step: Weight)
+    requires few { length weights.old ≤ 500 }
+    requires below { (x : ℕ) → is_member x members.now ≡ true → x < length weights.old }
+    requires small { (x : ℕ) → is_member x members.now ≡ true → IsWeightWithin (10 ^ 30) (weight_at weights.old x) }
+    requires step { IsWeightWithin (10 ^ 31) step }
+    ensures length { length weights.new ≡ length weights.old }
+    ensures weights { (x : ℕ) → weight_at weights.new x ≡ raised (weight_at weights.old) members.now step x }
+{
+    let mut from = 0;
+    while let Some(x) = members.next_common(members, from) {
+        weights[x as usize] += step;
+        from = x + 1;
+    }
+}
+
+/// The change of the weights of the reached set by `step`: the first fall, the second rise, and so do the gains of the fringe.
+pub(crate) fn change(
+    w1: &mut [Weight],
+    w2: &mut [Weight],
+    reached: &BitSet,
+    gains: &mut [Weight],
+    fringe: &BitSet,
+    step: Weight,
+)
+    requires few { length w1.old ≤ 500 }
+    requires lengths { length w2.old ≡ length w1.old }
+    requires gains { length gains.old ≡ length w1.old }
+    requires reached { (x : ℕ) → is_member x reached.now ≡ true → x < length w1.old }
+    requires fringe { (x : ℕ) → is_member x fringe.now ≡ true → x < length w1.old }
+    requires first_small { AreWeightsWithin (10 ^ 30) w1.old }
+    requires second_small { AreWeightsWithin (10 ^ 30) w2.old }
+    requires gains_small { (x : ℕ) → is_member x fringe.now ≡ true → IsWeightWithin (10 ^ 30) (weight_at gains.old x) }
+    requires step { IsWeightWithin (10 ^ 31) step }
+    ensures first_length { length w1.new ≡ length w1.old }
+    ensures second_length { length w2.new ≡ length w2.old }
+    ensures gains_length { length gains.new ≡ length gains.old }
+    ensures first { (x : ℕ) → weight_at w1.new x ≡ lowered (weight_at w1.old) reached.now step x }
+    ensures second { (x : ℕ) → weight_at w2.new x ≡ raised (weight_at w2.old) reached.now step x }
+    ensures raised { (x : ℕ) → weight_at gains.new x ≡ raised (weight_at gains.old) fringe.now step x }
+{
+    if step == Weight::ZERO {
+        return;
+    }
+    raise_on(w1, reached, -step);
+    raise_on(w2, reached, step);
+    raise_on(gains, fringe, step);
+}

@@ -1,0 +1,151 @@
+//! The search that grows until it finds a tight path or has no slack.
+ghost use Rattle.std.specs.Prelude.{◌≡◌, ◌<◌, ◌≤◌, ◌^◌, ℕ, true, length, IfOk, OnOk};
+ghost use Rattle.mat_sets.specs.Sets.{is_member};
+ghost use Rattle.mat_sets.specs.Weights.{◌⊕◌, weight_at, IsWeightWithin, AreWeightsWithin};
+ghost use Rattle.mat_laws.specs.TightPaths.{exchanges_in};
+ghost use Rattle.mat_exchange.specs.Tables.{IsTableAt};
+ghost use Rattle.mat_exchange.specs.Growing.{NoExchangeGains, IsGrown, IsGrownSplit, IsHeaviestOf, StaysHeaviest, sum_at};
+
+use crate::fringe::{change, offer, offer_exchanges};
+use crate::grown::Grown;
+use crate::heaviest_members::heaviest_member;
+use crate::path_search::tight_search;
+use crate::row_table::RowTable;
+use crate::slack::addition_slack;
+use crate::steps::{NextStep, next_step};
+use mat_sets::{BitSet, ElemSet, PairWeights, Weight};
+use std::alloc::{AllocError, Global};
+
+/// Lets the reached set grow from one source, and changes the weights as it needs, until it holds a sink or nothing can enter it.
+fn grow_from(
+    alloc: Global,
+    first: &RowTable,
+    second: &RowTable,
+    set: &ElemSet,
+    root: u32,
+    w1: &mut [Weight],
+    w2: &mut [Weight],
+    gains: &mut [Weight],
+) -> Result<(), AllocError>
+    requires few { length w1.old ≤ 500 }
+    requires lengths { length w2.old ≡ length w1.old }
+    requires gains { length gains.old ≡ length w1.old }
+    requires first_table { IsTableAt (length w1.old) set.now first.now }
+    requires second_table { IsTableAt (length w1.old) set.now second.now }
+    requires root { IsHeaviestOf (exchanges_in first.now).adds (weight_at w1.old) root }
+    requires first_gains { NoExchangeGains (exchanges_in first.now) (weight_at w1.old) }
+    requires second_gains { NoExchangeGains (exchanges_in second.now) (weight_at w2.old) }
+    requires small { (x : ℕ) → x < length w1.old → IsWeightWithin (10 ^ 12) (weight_at w1.old x ⊕ weight_at w2.old x) }
+    requires second_small { AreWeightsWithin (10 ^ 25) w2.old }
+    ensures first_length { length w1.new ≡ length w1.old }
+    ensures second_length { length w2.new ≡ length w2.old }
+    ensures grown { OnOk result (IsGrownSplit (length w1.old) (exchanges_in first.now) (exchanges_in second.now)
+        (sum_at (weight_at w1.old) (weight_at w2.old)) (weight_at w2.old) (weight_at w1.new) (weight_at w2.new)) }
+{
+    let n = w1.len() as u32;
+    let mut reached = BitSet::with_capacity(alloc, n)?;
+    let mut others = BitSet::all_below(alloc, n)?;
+    let mut fringe = BitSet::with_capacity(alloc, n)?;
+    reached.insert(root)?;
+    others.remove(root);
+    offer(
+        first.addable_elements(),
+        &others,
+        w1,
+        root,
+        true,
+        &mut fringe,
+        gains,
+    )?;
+    offer_exchanges(
+        first,
+        second,
+        set,
+        w1,
+        w2,
+        root,
+        &others,
+        &mut fringe,
+        gains,
+    )?;
+    loop {
+        let slack = addition_slack(second, &reached, w2);
+        match next_step(&fringe, gains, slack) {
+            NextStep::Enter(x, step) => {
+                change(w1, w2, &reached, gains, &fringe, step);
+                reached.insert(x)?;
+                others.remove(x);
+                fringe.remove(x);
+                offer_exchanges(first, second, set, w1, w2, x, &others, &mut fringe, gains)?;
+            }
+            NextStep::Sink(step) => {
+                change(w1, w2, &reached, gains, &fringe, step);
+                return Ok(());
+            }
+            NextStep::Nothing => return Ok(()),
+        }
+    }
+}
+
+/// Changes the weights until a search for a tight path finds one, or is stuck without a slack.
+fn grow_weights(
+    alloc: Global,
+    first: &RowTable,
+    second: &RowTable,
+    set: &ElemSet,
+    w1: &mut [Weight],
+    w2: &mut [Weight],
+) -> Result<(), AllocError>
+    requires few { length w1.old ≤ 500 }
+    requires lengths { length w2.old ≡ length w1.old }
+    requires first_table { IsTableAt (length w1.old) set.now first.now }
+    requires second_table { IsTableAt (length w1.old) set.now second.now }
+    requires first_gains { NoExchangeGains (exchanges_in first.now) (weight_at w1.old) }
+    requires second_gains { NoExchangeGains (exchanges_in second.now) (weight_at w2.old) }
+    requires small { (x : ℕ) → x < length w1.old → IsWeightWithin (10 ^ 12) (weight_at w1.old x ⊕ weight_at w2.old x) }
+    requires second_small { AreWeightsWithin (10 ^ 25) w2.old }
+    ensures first_length { length w1.new ≡ length w1.old }
+    ensures second_length { length w2.new ≡ length w2.old }
+    ensures grown { OnOk result (IsGrownSplit (length w1.old) (exchanges_in first.now) (exchanges_in second.now)
+        (sum_at (weight_at w1.old) (weight_at w2.old)) (weight_at w2.old) (weight_at w1.new) (weight_at w2.new)) }
+{
+    let addable = first.addable_elements();
+    let Some(root) = heaviest_member(addable, addable, w1) else {
+        return Ok(());
+    };
+    let mut gains = vec![in alloc; Weight::ZERO; w1.len()]?;
+    grow_from(alloc, first, second, set, root, w1, w2, &mut gains)
+}
+
+/// Changes the two weights until a tight path with fewest vertices is found, or nothing is left to change (Frank 1981; Schrijver,
+/// chapter 41). One reached set grows, and a table has the least change after which each element outside enters it, as in the
+/// Hungarian method; so the time is that of the pairs of elements, and of one search. The only error is want of memory.
+pub fn grow(
+    alloc: Global,
+    first: &RowTable,
+    second: &RowTable,
+    set: &ElemSet,
+    w1: &[Weight],
+    w2: &[Weight],
+) -> Result<Grown, AllocError>
+    requires few { length w1.now ≤ 500 }
+    requires lengths { length w2.now ≡ length w1.now }
+    requires first_table { IsTableAt (length w1.now) set.now first.now }
+    requires second_table { IsTableAt (length w1.now) set.now second.now }
+    requires first_gains { NoExchangeGains (exchanges_in first.now) (weight_at w1.now) }
+    requires second_gains { NoExchangeGains (exchanges_in second.now) (weight_at w2.now) }
+    requires small { (x : ℕ) → x < length w1.now → IsWeightWithin (10 ^ 12) (weight_at w1.now x ⊕ weight_at w2.now x) }
+    requires second_small { AreWeightsWithin (10 ^ 25) w2.now }
+    ensures grown { IfOk result (IsGrown (length w1.now) (exchanges_in first.now) (exchanges_in second.now) w1.now w2.now) }
+    ensures heaviest { IfOk result (StaysHeaviest (length w1.now) first.now second.now set.now w1.now w2.now) }
+{
+    let mut new1 = Vec::from_slice(alloc, w1)?;
+    let mut new2 = Vec::from_slice(alloc, w2)?;
+    grow_weights(alloc, first, second, set, &mut new1, &mut new2)?;
+    let found = tight_search(alloc, first, second, set, &new1, &new2)?;
+    Ok(Grown {
+        first: PairWeights::new(new1),
+        second: PairWeights::new(new2),
+        found,
+    })
+}

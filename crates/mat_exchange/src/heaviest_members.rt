@@ -1,0 +1,39 @@
+//! A heaviest member that two sets have in common.
+ghost use Rattle.std.specs.Prelude.{◌≡◌, ◌&&◌, ◌<◌, ◌≤◌, ℕ, true, length, IfSome};
+ghost use Rattle.mat_sets.specs.Sets.{is_member};
+ghost use Rattle.mat_sets.specs.Weights.{weight_at};
+ghost use Rattle.mat_exchange.specs.Growing.{heavier_of, IsHeaviestOrNone};
+
+use mat_sets::{BitSet, Weight};
+
+/// Of two elements the heavier one.
+fn heavier(heaviest: Option<u32>, x: u32, weights: &[Weight]) -> Option<u32>
+    requires below { x < length weights.now }
+    requires heaviest { IfSome heaviest (λ y. y < length weights.now) }
+    ensures { result ≡ heavier_of (weight_at weights.now) heaviest x }
+{
+    match heaviest {
+        Some(y) => Some(if weights[y as usize] < weights[x as usize] {
+            x
+        } else {
+            y
+        }),
+        None => Some(x),
+    }
+}
+
+/// A heaviest member that two sets have in common; none where they have none. The time is that of those members and of the words
+/// of the sets.
+pub(crate) fn heaviest_member(first: &BitSet, second: &BitSet, weights: &[Weight]) -> Option<u32>
+    requires few { length weights.now ≤ 500 }
+    requires below { (x : ℕ) → (is_member x first.now && is_member x second.now) ≡ true → x < length weights.now }
+    ensures { IsHeaviestOrNone (λ x. is_member x first.now && is_member x second.now) (weight_at weights.now) result }
+{
+    let mut heaviest = None;
+    let mut from = 0;
+    while let Some(x) = first.next_common(second, from) {
+        heaviest = heavier(heaviest, x, weights);
+        from = x + 1;
+    }
+    heaviest
+}

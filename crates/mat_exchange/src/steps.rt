@@ -1,0 +1,49 @@
+//! How a reached set grows next.
+ghost use Rattle.std.specs.Prelude.{◌≡◌, ◌^◌, ◌<◌, ◌≤◌, ℕ, true, length};
+ghost use Rattle.mat_sets.specs.Sets.{is_member};
+ghost use Rattle.mat_sets.specs.Weights.{weight_at, IsWeightWithin};
+ghost use Rattle.mat_exchange.specs.Growing.{IsNextStep, IsBefore};
+
+use crate::heaviest_members::heaviest_member;
+use mat_sets::{BitSet, Weight};
+
+/// The next element that a change of the weights lets into the reached set.
+#[derive(Drop)]
+pub(crate) enum NextStep {
+    /// This element enters after a change by this number.
+    Enter(u32, Weight),
+    /// An element of the reached set is a sink after a change by this number.
+    Sink(Weight),
+    /// No change does either.
+    Nothing,
+}
+
+/// Whether a sink comes before a change by `step`.
+fn is_before(slack: Option<Weight>, step: Weight) -> Option<Weight>
+    ensures { IsBefore slack step result }
+{
+    match slack {
+        Some(earlier) if earlier <= step => Some(earlier),
+        _ => None,
+    }
+}
+
+/// The step of least change: an element of the fringe, which enters where its gain is used up, or a sink of this slack.
+pub(crate) fn next_step(fringe: &BitSet, gains: &[Weight], slack: Option<Weight>) -> NextStep
+    requires few { length gains.now ≤ 500 }
+    requires below { (x : ℕ) → is_member x fringe.now ≡ true → x < length gains.now }
+    requires small { (x : ℕ) → is_member x fringe.now ≡ true → IsWeightWithin (10 ^ 30) (weight_at gains.now x) }
+    ensures { IsNextStep fringe.now (weight_at gains.now) slack result }
+{
+    let Some(x) = heaviest_member(fringe, fringe, gains) else {
+        return match slack {
+            Some(step) => NextStep::Sink(step),
+            None => NextStep::Nothing,
+        };
+    };
+    let step = -gains[x as usize];
+    match is_before(slack, step) {
+        Some(earlier) => NextStep::Sink(earlier),
+        None => NextStep::Enter(x, step),
+    }
+}

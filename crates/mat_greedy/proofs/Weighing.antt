@@ -1,0 +1,104 @@
+-- What the greedy loop keeps where only weights are kept: there are sets as the loop over sets keeps them, these are their weights,
+-- and the sum is the weight of the set.
+use Rattle.std.proofs.Common.{◌≡◌, ℕ, ◌+◌, ◌*◌, ◌^◌, ◌<◌, ◌≤◌, Bool, true, false, not, ◌&&◌, if◌then◌else◌}
+use Rattle.std.proofs.Common.{List, [], ◌∷◌, ◌++◌, length, map, get_or, refl, sym, ap, ◌∙◌, ℤ, ◌+ℤ◌, FitsSigned, arith}
+use Rattle.std.specs.Int.{w128}
+use Rattle.std.proofs.lemmas.Bool.{and_parts, not-true}
+use Rattle.std.proofs.lemmas.Int.{ints}
+use Rattle.std.proofs.lemmas.List.{map-append}
+use Rattle.mat_sets.specs.Sets.{is_member, with_one}
+use Rattle.mat_sets.specs.Sums.{sum_of, IsWithin}
+use Rattle.mat_sets.specs.Weights.{◌⊕◌, zero_weight, weight_at, weight_sum, AreWeightsWithin}
+use Rattle.mat_sets.specs.declared.weight.Weight.{Weight}
+use Rattle.mat_sets.proofs.Ground.{IsSet-length}
+use Rattle.mat_sets.proofs.WeightOrder.{weight_within_at}
+use Rattle.mat_sets.proofs.WeightSums.{weight_sum-with_one}
+use Rattle.mat_laws.specs.Matroids.{IsMatroid}
+use Rattle.mat_laws.proofs.Independent.{rising}
+use Rattle.mat_greedy.specs.Order.{IsFallingOrder}
+use Rattle.mat_greedy.specs.Greedy.{AreHeaviestWeights}
+use Rattle.mat_greedy.proofs.Climbing.{IsClimbing, IsClimbing-start, IsClimbing-next, IsClimbing-end}
+
+-- ---- sums that fit
+
+sum_within : (f : ℕ → ℤ) → ((k : ℕ) → IsWithin (10 ^ 30) (f k)) → (xs : List ℕ) → IsWithin (10 ^ 30 * length xs) (sum_of f xs)
+sum_within f each [] = (omega (arith, ints), omega (arith, ints))
+sum_within f each (x ∷ xs) =
+    let here = each x in
+    let rest = sum_within f each xs in
+    (omega (arith, ints), omega (arith, ints))
+
+both_fit : (m : ℕ) (a b : ℤ) → m ≤ 500 → IsWithin (10 ^ 30 * m) a → IsWithin (10 ^ 30) b → FitsSigned w128 (a +ℤ b)
+both_fit m a b few small step = omega (arith, ints)
+
+-- the weight of at most 500 members, and one more
+pub weights_fit : (weights : List Weight) → AreWeightsWithin (10 ^ 30) weights → (set : List ℕ) → length set ≤ 500 → (a : Weight)
+    → a ≡ weight_sum (weight_at weights) set → (x : ℕ)
+    → FitsSigned w128 (a.main +ℤ (weight_at weights x).main) × FitsSigned w128 (a.tie +ℤ (weight_at weights x).tie)
+weights_fit weights small set few a e x =
+    let w = weight_at weights in
+    let each = weight_within_at (10 ^ 30) weights small in
+    rw e (
+      both_fit (length set) (sum_of (λ k. (w k).main) set) (w x).main few (sum_within (λ k. (w k).main) (λ k. (each k).0) set) (each x).0,
+      both_fit (length set) (sum_of (λ k. (w k).tie) set) (w x).tie few (sum_within (λ k. (w k).tie) (λ k. (each k).1) set) (each x).1,
+    )
+
+-- ---- the loop
+
+-- after the first i elements of the order: the set and its weight, and the weights of heaviest sets of each size up to its own
+pub record IsWeighing (p : List ℕ → Bool) (w : ℕ → Weight) (order : List ℕ) (i : ℕ) (set : List ℕ) (sum : Weight) (sums : List Weight)
+    : Type 0 where
+  pub sets : List (List ℕ)
+  pub climbing : IsClimbing p w order i set sets
+  pub weight : sum ≡ weight_sum w set
+  pub weighed : sums ≡ map (weight_sum w) sets
+
+module _ {n : ℕ} {p : List ℕ → Bool} (laws : IsMatroid n p) where
+  pub IsWeighing-start : (w : ℕ → Weight) (order : List ℕ) → IsWeighing p w order 0 [] zero_weight (zero_weight ∷ [])
+  IsWeighing-start w order = record { sets = [] ∷ []; climbing = IsClimbing-start laws w order; weight = refl; weighed = refl }
+
+  -- the set has no more members than there are elements
+  pub weighing_few : (w : ℕ → Weight) (order set : List ℕ) (sum : Weight) (sums : List Weight) (i : ℕ) → IsWeighing p w order i set sum sums
+      → length set ≤ n
+  weighing_few w order set sum sums i g = IsSet-length n set (laws.sets set g.climbing.heaviest.passes)
+
+  module _ (weights : List Weight) (order set : List ℕ) (sum : Weight) (sums : List Weight) (i x : ℕ) (size : n ≡ length weights)
+      (falling : IsFallingOrder weights order) (inside : i < length order) (at : x ≡ get_or order i 0)
+      (g : IsWeighing p (weight_at weights) order i set sum sums) (added : Bool) (set' : List ℕ)
+      (told : added ≡ (not (is_member x set) && p (with_one set x))) (set_is : set' ≡ (if added then with_one set x else set)) where
+    pub IsWeighing-stay : added ≡ false → IsWeighing p (weight_at weights) order (i + 1) set' sum sums
+    IsWeighing-stay stays =
+        let kept : set' ≡ set = set_is ∙ ap (λ b. if b then with_one set x else set) stays in record {
+          sets = g.sets;
+          climbing = IsClimbing-next laws weights order set g.sets i x size falling inside at g.climbing added set' g.sets told set_is
+              (sym (ap (λ b. if b then g.sets ++ set' ∷ [] else g.sets) stays));
+          weight = g.weight ∙ ap (weight_sum (weight_at weights)) (sym kept);
+          weighed = g.weighed;
+        }
+
+    pub IsWeighing-more : added ≡ true → (sum' : Weight) → sum' ≡ sum ⊕ weight_at weights x
+        → IsWeighing p (weight_at weights) order (i + 1) set' sum' (sums ++ sum' ∷ [])
+    IsWeighing-more grows sum' after =
+        let w = weight_at weights in
+        let parts = and_parts (not (is_member x set)) (p (with_one set x)) (sym told ∙ grows) in
+        let grown : set' ≡ with_one set x = set_is ∙ ap (λ b. if b then with_one set x else set) grows in
+        let more = weight_sum-with_one w set x (rising laws set g.climbing.heaviest.passes) (not-true (is_member x set) parts.0) in
+        let heavy : sum' ≡ weight_sum w set' =
+        after ∙ ap (λ (a : Weight). a ⊕ w x) g.weight ∙ sym more ∙ ap (weight_sum w) (sym grown) in record {
+          sets = g.sets ++ set' ∷ [];
+          climbing = IsClimbing-next laws weights order set g.sets i x size falling inside at g.climbing added set' (g.sets ++ set' ∷ [])
+              told set_is
+              (sym (ap (λ b. if b then g.sets ++ set' ∷ [] else g.sets) grows));
+          weight = heavy;
+          weighed = ap (λ s. s ++ sum' ∷ []) g.weighed ∙ ap (λ (a : Weight). map (weight_sum w) g.sets ++ a ∷ []) heavy
+              ∙ sym (map-append (weight_sum w) g.sets (set' ∷ []));
+        }
+
+  pub IsWeighing-end : (weights : List Weight) (order set : List ℕ) (sum : Weight) (sums : List Weight) (i : ℕ) → n ≡ length weights
+      → IsFallingOrder weights order → length order ≤ i
+      → IsWeighing p (weight_at weights) order i set sum sums → AreHeaviestWeights n p (weight_at weights) sums
+  IsWeighing-end weights order set sum sums i size falling l g = record {
+    sets = g.sets;
+    heaviest = IsClimbing-end laws weights order set g.sets i size falling l g.climbing;
+    weighed = g.weighed;
+  }
