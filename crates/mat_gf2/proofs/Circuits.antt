@@ -10,7 +10,8 @@ use Rattle.mat_sets.proofs.SetTests.{IsSet-from_test}
 use Rattle.mat_laws.specs.declared.exchange.Exchange.{Exchange}
 use Rattle.mat_laws.specs.Exchanges.{row_of}
 use Rattle.mat_gf2.specs.declared.elimination.TaggedColumn.{TaggedColumn}
-use Rattle.mat_gf2.specs.Columns.{xor_of, remainder, is_linearly_independent, is_gf2, column_of}
+use Rattle.mat_gf2.specs.Columns.{xor_of, is_linearly_independent, is_gf2, column_of}
+use Rattle.mat_gf2.specs.Eliminations.{remainder}
 use Rattle.mat_gf2.specs.TaggedColumns.{marked, reduced_tagged_by, IsTaggedBasis}
 use Rattle.mat_gf2.proofs.Tags.{IsRising-marked, marked-IsSubset, marked-zero}
 use Rattle.mat_gf2.proofs.Exchanges.{row_of_sum, row_of_left}
@@ -26,13 +27,15 @@ module _ (columns base : List ℕ) (x entry : ℕ) (basis : List TaggedColumn) (
   own = read ∙ get_or_default columns x entry 0 small
 
   rising : IsRising base
-  rising = (IsSet-from_test (length columns) base (and_parts (is_set (length columns) base) (is_linearly_independent (column_of columns) base) passes).0).rising
+  rising = (IsSet-from_test (length columns) base (and_parts (is_set (length columns) base)
+      (is_linearly_independent (column_of columns) base) passes).0).rising
 
   -- the members that the tag marks have the sum x
   sum : left.column ≡ 0 → xor_of (column_of columns) (marked left.tag base) ≡ column_of columns x
   unfolding unmarked
   sum nothing =
-      sym (xor_zero_r (xor_of (column_of columns) (marked left.tag base))) ∙ ap (bit_xor (xor_of (column_of columns) (marked left.tag base))) (sym nothing)
+      sym (xor_zero_r (xor_of (column_of columns) (marked left.tag base)))
+      ∙ ap (bit_xor (xor_of (column_of columns) (marked left.tag base))) (sym nothing)
       ∙ ap (λ u. bit_xor (xor_of (column_of columns) (marked u.tag base)) u.column) told ∙ right.tags unmarked
       ∙ ap (λ z. bit_xor z entry) (marked-zero (column_of columns) base) ∙ xor_zero_l entry ∙ own
 
@@ -40,7 +43,12 @@ module _ (columns base : List ℕ) (x entry : ℕ) (basis : List TaggedColumn) (
       → row ≡ row_of (is_gf2 (length columns) (column_of columns)) base x
   row_of_marked nothing added exchanged =
       row_of_sum (length columns) (column_of columns) base x passes small outside row
-      (record { part = marked left.tag base; rising = IsRising-marked left.tag base rising; inside = marked-IsSubset left.tag base; sum = sum nothing })
+      (record {
+        part = marked left.tag base;
+        rising = IsRising-marked left.tag base rising;
+        inside = marked-IsSubset left.tag base;
+        sum = sum nothing;
+      })
       added exchanged
 
   pub row_of_addable : (left.column ≡ 0 → ⊥) → row.addable ≡ true → row.with ≡ base
@@ -48,4 +56,5 @@ module _ (columns base : List ℕ) (x entry : ℕ) (basis : List TaggedColumn) (
   unfolding unmarked
   row_of_addable some added exchanged =
       row_of_left (length columns) (column_of columns) base x passes small outside row
-      (λ nothing. some (ap (λ u. u.column) told ∙ right.reduces unmarked ∙ ap (remainder (column_of columns) base) own ∙ nothing)) added exchanged
+      (λ nothing. some (ap (λ u. u.column) told ∙ right.reduces unmarked ∙ ap (remainder (column_of columns) base) own
+      ∙ nothing)) added exchanged

@@ -7,9 +7,11 @@ use Rattle.mat_sets.specs.SetTests.{is_set}
 use Rattle.mat_sets.proofs.Members.{is_member-head}
 use Rattle.mat_sets.proofs.Ground.{IsSet-from, IsSet-length, below_member}
 use Rattle.mat_sets.proofs.SetTests.{IsSet-from_test}
-use Rattle.mat_gf2.specs.Columns.{reduced, remainder, is_linearly_independent, is_gf2, column_of, IsBinaryMatrix}
-use Rattle.mat_gf2.specs.LeadingBits.{leading_bit, leading_bit-is, pow-le}
-use Rattle.mat_gf2.specs.Pivots.{pivots, no_pivot, IsRising-pivots, pivot-cases, length-pivots}
+use Rattle.mat_gf2.specs.Columns.{is_linearly_independent, is_gf2, column_of, IsBinaryMatrix}
+use Rattle.mat_gf2.specs.Eliminations.{reduced, remainder}
+use Rattle.mat_gf2.specs.SpanLaws.{IsLinearlyIndependent-from_test}
+use Rattle.mat_gf2.specs.LeadingBitLaws.{leading_bit, leading_bit-is, pow-le}
+use Rattle.mat_gf2.specs.PivotLaws.{pivots, no_pivot, IsRising-pivots, pivot-cases, length-pivots}
 
 reduced-le : (v b : ℕ) → reduced v b ≤ v
 reduced-le v b = elim (cases_Bool (ltb (bit_xor v b) v)) [
@@ -20,7 +22,8 @@ reduced-le v b = elim (cases_Bool (ltb (bit_xor v b) v)) [
 remainder-le : (column : ℕ → ℕ) (X : List ℕ) (v : ℕ) → remainder column X v ≤ v
 unfolding remainder
 remainder-le column [] v = omega arith
-remainder-le column (e ∷ X) v = let a = remainder-le column X v in let b = reduced-le (remainder column X v) (remainder column X (column e)) in omega arith
+remainder-le column (e ∷ X) v = let a = remainder-le column X v in let b = reduced-le (remainder column X v)
+    (remainder column X (column e)) in omega arith
 
 leading_bit-below : (v d : ℕ) → v ≢ 0 → v < 2 ^ d → leading_bit v < d
 leading_bit-below v d some l = elim (cases_lt (leading_bit v) d) [
@@ -48,6 +51,6 @@ independent-few dim columns X sound passes =
     let set = IsSet-from_test (length columns) X tests.0 in
     let below = λ (e : ℕ) (m : is_member e X ≡ true). sound.below e (below_member set m) in
     let few = IsSet-length dim (pivots column X) (IsSet-from dim (pivots column X) (IsRising-pivots column X) (pivots-below column dim X below)) in
-    let many = length-pivots column X tests.1 in
+    let many = length-pivots column X set.rising (IsLinearlyIndependent-from_test column X set.rising tests.1) in
     let most = sound.most in
     omega arith

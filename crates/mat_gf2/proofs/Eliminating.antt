@@ -1,12 +1,15 @@
 -- The columns of a set are eliminated from its last member to its first: what is left of each is added to the basis.
-use Rattle.std.proofs.Common.{◌≡◌, ℕ, suc, zero, ◌+◌, ◌-◌, ◌<◌, ◌≤◌, Bool, true, false, not, ◌&&◌, eqb, Result, Ok, Err, IfOk, List, [], ◌∷◌, ◌++◌, length, get_or, drop, refl, sym, ap, ◌∙◌, subst, arith}
-use Rattle.std.proofs.lemmas.Bool.{ne_eqb}
+use Rattle.std.proofs.Common.{◌≡◌, ℕ, suc, zero, ◌+◌, ◌-◌, ◌<◌, ◌≤◌, ◌≢◌, Bool, false, ◌&&◌, Result, Ok, Err, IfOk, List, [], ◌∷◌, ◌++◌, length, get_or, drop, refl, sym, ap, ◌∙◌, subst, arith}
+use Rattle.std.proofs.lemmas.Bool.{false≢true, false_from_ne_true}
 use Rattle.std.proofs.lemmas.List.{drop_all, drop_more}
-use Rattle.mat_sets.specs.Sets.{AllBelow, IsRising}
+use Rattle.mat_sets.specs.Sets.{AllBelow, IsRising, IsSubset, RisesFrom}
+use Rattle.mat_sets.proofs.Members.{RisesFrom-weaken, is_member-head, missing_below}
+use Rattle.mat_sets.proofs.Subsets.{IsSubset-refl, IsSubset-trans}
 use Rattle.mat_sets.proofs.Sums.{AllBelow-at}
 use Rattle.mat_sets.proofs.SetTests.{is_set-true}
-use Rattle.mat_gf2.specs.Columns.{reduced, remainder, is_linearly_independent, is_gf2}
-use Rattle.mat_gf2.specs.Eliminations.{reduced_by}
+use Rattle.mat_gf2.specs.Columns.{IsLinearlyIndependent, is_linearly_independent, is_gf2}
+use Rattle.mat_gf2.specs.Eliminations.{reduced, reduced_by, remainder}
+use Rattle.mat_gf2.specs.SpanLaws.{tail-IsSubset, IsLinearlyIndependent-subset, IsLinearlyIndependent-more, left_of_independent, IsLinearlyIndependent-from_test}
 
 -- ---- the members before a place, backwards
 
@@ -26,48 +29,55 @@ pub below_before : (n : ℕ) (X : List ℕ) (count place e : ℕ) → AllBelow n
     → e ≡ get_or X (place - 1) 0 → e < n
 below_before n X count place e below same some within at = subst (λ k. k < n) (sym at) (AllBelow-at n X (place - 1) below (omega arith))
 
+RisesFrom-drop : (k lo : ℕ) (X : List ℕ) → RisesFrom lo X → RisesFrom lo (drop k X)
+RisesFrom-drop zero lo X r = r
+RisesFrom-drop (suc k) lo [] r = r
+RisesFrom-drop (suc k) lo (x ∷ X) r =
+    let l : lo ≤ x = r.0 in RisesFrom-weaken lo (suc x) (drop k X) (omega arith) (RisesFrom-drop k (suc x) X r.1)
+
+drop-IsSubset : (k : ℕ) (X : List ℕ) → IsSubset (drop k X) X
+drop-IsSubset zero X = IsSubset-refl X
+drop-IsSubset (suc k) [] = IsSubset-refl []
+drop-IsSubset (suc k) (x ∷ X) = IsSubset-trans (drop k X) X (x ∷ X) (drop-IsSubset k X) (tail-IsSubset x X)
+
 -- ---- elimination
 
 pub reduced_by-more : (basis : List ℕ) (b v : ℕ) → reduced_by (basis ++ b ∷ []) v ≡ reduced (reduced_by basis v) b
 reduced_by-more [] b v = refl
 reduced_by-more (a ∷ basis) b v = reduced_by-more basis b (reduced v a)
 
--- the columns of Y are independent, and the basis reduces as elimination with them does
+-- the columns of Y are linearly independent, and the basis reduces as elimination with them does
 pub record IsEliminating (column : ℕ → ℕ) (Y : List ℕ) (basis : List ℕ) : Type 0 where
   pub reduces : (v : ℕ) → reduced_by basis v ≡ remainder column Y v
-  pub passes : is_linearly_independent column Y ≡ true
+  pub independent : IsLinearlyIndependent column Y
 
 pub IsEliminating-start : (column : ℕ → ℕ) → IsEliminating column [] []
-unfolding remainder is_linearly_independent
-IsEliminating-start column = record { reduces = λ v. refl; passes = refl }
+unfolding remainder
+IsEliminating-start column = record { reduces = λ v. refl; independent = record { nonzero = λ s r ins some zero. none s ins some } }
+  where
+    none : (s : List ℕ) → IsSubset s [] → s ≢ [] → ⊥
+    none [] ins some = some refl
+    none (x ∷ s) ins some = false≢true (ins.inside x (is_member-head x s))
 
 module _ (column : ℕ → ℕ) (Y : List ℕ) (basis : List ℕ) (e left : ℕ) (told : left ≡ reduced_by basis (column e))
     (h : IsEliminating column Y basis) where
   own : left ≡ remainder column Y (column e)
   own = told ∙ h.reduces (column e)
 
-  -- the test with one more column
-  test-next : is_linearly_independent column (e ∷ Y) ≡ not (eqb left 0)
-  unfolding is_linearly_independent
-  test-next = ap (λ b. b && not (eqb (remainder column Y (column e)) 0)) h.passes ∙ ap (λ z. not (eqb z 0)) (sym own)
-
   pub IsEliminating-more : (left ≡ 0 → ⊥) → IsEliminating column (e ∷ Y) (basis ++ left ∷ [])
   unfolding remainder
   IsEliminating-more some = record {
     reduces = λ v. reduced_by-more basis left v ∙ ap (λ z. reduced z left) (h.reduces v) ∙ ap (reduced (remainder column Y v)) own;
-    passes = test-next ∙ ap not (ne_eqb left 0 some);
+    independent = IsLinearlyIndependent-more column Y e (e ∷ Y) h.independent (λ nothing. some (own ∙ nothing)) (λ z m o. rw o at m);
   }
 
-  pub IsEliminating-fails : left ≡ 0 → is_linearly_independent column (e ∷ Y) ≡ false
-  IsEliminating-fails nothing = test-next ∙ ap (λ z. not (eqb z 0)) nothing
-
--- a list whose last members are dependent is so
-pub dependent_from : (column : ℕ → ℕ) (X : List ℕ) (k : ℕ) → is_linearly_independent column (drop k X) ≡ false
-    → is_linearly_independent column X ≡ false
-unfolding is_linearly_independent
-dependent_from column X zero f = f
-dependent_from column [] (suc k) f = f
-dependent_from column (x ∷ X) (suc k) f = ap (λ b. b && not (eqb (remainder column X (column x)) 0)) (dependent_from column X k f)
+  -- a set whose last members are e and Y is dependent where nothing is left of e
+  pub dependent_from : (X : List ℕ) (k : ℕ) → IsRising X → drop k X ≡ e ∷ Y → left ≡ 0 → is_linearly_independent column X ≡ false
+  dependent_from X k r last nothing = false_from_ne_true _ (λ passed.
+      let rises : RisesFrom 0 (e ∷ Y) = subst (RisesFrom 0) last (RisesFrom-drop k 0 X r.rises) in
+      let ins : IsSubset (e ∷ Y) X = subst (λ s. IsSubset s X) last (drop-IsSubset k X) in
+      left_of_independent column Y e (missing_below e (suc e) Y (omega arith) rises.1)
+      (IsLinearlyIndependent-subset column (e ∷ Y) X ins (IsLinearlyIndependent-from_test column X r passed)) (sym own ∙ nothing))
 
 -- the answer for a set, by the answer for its columns
 pub is_gf2-answer : {E : Type 0} (n : ℕ) (column : ℕ → ℕ) (X : List ℕ) (r : Result Bool E) → AllBelow n X

@@ -18,11 +18,13 @@ pub record IsMarking (tag : ℕ) (X : List ℕ) (place : ℕ) (members : List �
 
 marked_from-next : (tag : ℕ) (X : List ℕ) (place : ℕ) → place < length X
     → marked_from place tag (drop place X)
-    ≡ cond (eqb (bit_at tag place) 1) (get_or X place 0 ∷ marked_from (place + 1) tag (drop (place + 1) X)) (marked_from (place + 1) tag (drop (place + 1) X))
+    ≡ cond (eqb (bit_at tag place) 1) (get_or X place 0 ∷ marked_from (place + 1) tag (drop (place + 1) X))
+    (marked_from (place + 1) tag (drop (place + 1) X))
 unfolding marked_from
 marked_from-next tag X place l =
     ap (marked_from place tag) (drop_more X place 0 l)
-    ∙ ap (λ i. cond (eqb (bit_at tag place) 1) (get_or X place 0 ∷ marked_from i tag (drop (place + 1) X)) (marked_from i tag (drop (place + 1) X)))
+    ∙ ap (λ i. cond (eqb (bit_at tag place) 1) (get_or X place 0 ∷ marked_from i tag (drop (place + 1) X))
+    (marked_from i tag (drop (place + 1) X)))
     (sym (add-one place))
 
 -- a marked member is added
@@ -48,7 +50,8 @@ IsMarking-found tag X place y members l at set h = record {
     swap false b d = refl
 
 -- another is passed over
-pub IsMarking-passed : (tag : ℕ) (X : List ℕ) (place : ℕ) (members : List ℕ) → place < length X → (bit_and (tag / 2 ^ place) 1 ≡ 1 → ⊥)
+pub IsMarking-passed : (tag : ℕ) (X : List ℕ) (place : ℕ) (members : List ℕ) → place < length X
+    → (bit_and (tag / 2 ^ place) 1 ≡ 1 → ⊥)
     → IsMarking tag X place members → IsMarking tag X (place + 1) members
 IsMarking-passed tag X place members l clear h = record {
   rising = h.rising;
@@ -59,14 +62,16 @@ IsMarking-passed tag X place members l clear h = record {
     rest = marked_from (place + 1) tag (drop (place + 1) X)
 
     next : marked_from place tag (drop place X) ≡ rest
-    next = marked_from-next tag X place l ∙ ap (λ b. cond b (get_or X place 0 ∷ rest) rest) (ne_eqb _ 1 (λ q. clear (shr_and_one tag place ∙ q)))
+    next = marked_from-next tag X place l
+        ∙ ap (λ b. cond b (get_or X place 0 ∷ rest) rest) (ne_eqb _ 1 (λ q. clear (shr_and_one tag place ∙ q)))
 
 pub IsMarking-end : (tag : ℕ) (X : List ℕ) (place : ℕ) (members : List ℕ) → IsRising X → length X ≤ place
     → IsMarking tag X place members → members ≡ marked tag X
 unfolding marked_from
 IsMarking-end tag X place members rising l h =
     same_members members (marked tag X) h.rising (IsRising-marked tag X rising)
-    (λ k. or_false (is_member k members) ∙ ap (λ s. is_member k members || is_member k (marked_from place tag s)) (sym (drop_all place X l)) ∙ h.all k)
+    (λ k. or_false (is_member k members) ∙ ap (λ s. is_member k members || is_member k (marked_from place tag s)) (sym (drop_all place X l))
+    ∙ h.all k)
   where
     or_false : (b : Bool) → b ≡ (b || false)
     or_false true = refl

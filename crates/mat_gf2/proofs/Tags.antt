@@ -11,8 +11,9 @@ use Rattle.std.specs.Int.Bits.{bit_xor, xor_self, xor_zero_r, xor_assoc}
 use Rattle.mat_sets.specs.Sets.{is_member, IsRising, RisesFrom, IsSubset}
 use Rattle.mat_sets.proofs.Members.{RisesFrom-weaken}
 use Rattle.mat_gf2.specs.declared.elimination.TaggedColumn.{TaggedColumn}
-use Rattle.mat_gf2.specs.Columns.{xor_of, reduced, remainder}
-use Rattle.mat_gf2.specs.LeadingBits.{bit_cases, xor_both}
+use Rattle.mat_gf2.specs.Columns.{xor_of}
+use Rattle.mat_gf2.specs.Eliminations.{reduced, remainder}
+use Rattle.mat_gf2.specs.LeadingBitLaws.{bit_cases, xor_both}
 use Rattle.mat_gf2.specs.TaggedColumns.{marked_from, marked, reduced_tagged, reduced_tagged_by, IsTaggedBasis}
 
 -- ---- what a tag marks
@@ -22,7 +23,8 @@ unfolding marked_from
 RisesFrom-marked i tag lo [] r = tt
 RisesFrom-marked i tag lo (x ∷ X) r = elim (cases_Bool (eqb (bit_at tag i) 1)) [
   | inl a ↦ rw a (r.0, RisesFrom-marked (suc i) tag (suc x) X r.1)
-  | inr a ↦ rw a (RisesFrom-weaken lo (suc x) (marked_from (suc i) tag X) (let l : lo ≤ x = r.0 in omega arith) (RisesFrom-marked (suc i) tag (suc x) X r.1))
+  | inr a ↦ rw a (RisesFrom-weaken lo (suc x) (marked_from (suc i) tag X) (let l : lo ≤ x = r.0 in omega arith)
+      (RisesFrom-marked (suc i) tag (suc x) X r.1))
 ]
 
 pub IsRising-marked : (tag : ℕ) (X : List ℕ) → IsRising X → IsRising (marked tag X)
@@ -72,8 +74,10 @@ module _ (column : ℕ → ℕ) where
   sum_from-xor i a b (x ∷ X) =
       sum_from-cons i x (bit_xor a b) X
       ∙ ap (λ s. cond (eqb (bit_at (bit_xor a b) i) 1) (bit_xor (column x) s) s) (sum_from-xor (suc i) a b X)
-      ∙ cases (bit_at a i) (bit_at b i) (bit_at (bit_xor a b) i) (sum_from (suc i) X a) (sum_from (suc i) X b) (bit_at_xor a b i) (bit_cases a i) (bit_cases b i)
-      ∙ ap (λ s. bit_xor s (cond (eqb (bit_at b i) 1) (bit_xor (column x) (sum_from (suc i) X b)) (sum_from (suc i) X b))) (sym (sum_from-cons i x a X))
+      ∙ cases (bit_at a i) (bit_at b i) (bit_at (bit_xor a b) i) (sum_from (suc i) X a) (sum_from (suc i) X b) (bit_at_xor a b i) (bit_cases a i)
+      (bit_cases b i)
+      ∙ ap (λ s. bit_xor s (cond (eqb (bit_at b i) 1) (bit_xor (column x) (sum_from (suc i) X b)) (sum_from (suc i) X b)))
+      (sym (sum_from-cons i x a X))
       ∙ ap (bit_xor (sum_from i (x ∷ X) a)) (sym (sum_from-cons i x b X))
     where
       swap : (c s t : ℕ) → bit_xor c (bit_xor s t) ≡ bit_xor s (bit_xor c t)
@@ -100,7 +104,8 @@ module _ (column : ℕ → ℕ) where
       let same : q ≡ i = omega arith in
       let set : bit_at (2 ^ q) i ≡ 1 = ap (bit_at (2 ^ q)) (sym same) ∙ bit_at-pow_same q in
       sum_from-cons i x (2 ^ q) X ∙ ap (λ b. cond (eqb b 1) (bit_xor (column x) (sum_from (suc i) X (2 ^ q))) (sum_from (suc i) X (2 ^ q))) set
-      ∙ ap (λ P. bit_xor (column x) (xor_of column P)) (marked_from-none (suc i) (2 ^ q) X (λ k m. bit_at-pow_other q k (λ z. absurd (omega arith))))
+      ∙ ap (λ P. bit_xor (column x) (xor_of column P))
+      (marked_from-none (suc i) (2 ^ q) X (λ k m. bit_at-pow_other q k (λ z. absurd (omega arith))))
       ∙ xor_zero_r (column x)
   sum_from-one i (suc p) q (x ∷ X) e l =
       let clear : bit_at (2 ^ q) i ≡ 0 = bit_at-pow_other q i (λ z. absurd (omega arith)) in
@@ -111,7 +116,8 @@ module _ (column : ℕ → ℕ) where
   pub marked-zero : (X : List ℕ) → xor_of column (marked 0 X) ≡ 0
   marked-zero X = ap (xor_of column) (marked_from-none 0 0 X (λ k l. bit_at-zero k))
 
-  pub marked-xor : (a b : ℕ) (X : List ℕ) → xor_of column (marked (bit_xor a b) X) ≡ bit_xor (xor_of column (marked a X)) (xor_of column (marked b X))
+  pub marked-xor : (a b : ℕ) (X : List ℕ)
+      → xor_of column (marked (bit_xor a b) X) ≡ bit_xor (xor_of column (marked a X)) (xor_of column (marked b X))
   unfolding sum_from
   marked-xor a b X = sum_from-xor 0 a b X
 

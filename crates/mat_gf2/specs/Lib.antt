@@ -1,7 +1,7 @@
 pub mod Columns
-pub mod LeadingBits
-pub mod Spans
-pub mod Pivots
-pub mod Gf2Laws
 pub mod Eliminations
 pub mod TaggedColumns
+pub mod LeadingBitLaws
+pub mod SpanLaws
+pub mod PivotLaws
+pub mod Gf2Laws

@@ -1,9 +1,11 @@
--- Columns with tags: the bits of a tag say of which members of a set the column is the sum.
+-- The algorithm's own notions, by which its private functions are told: columns with tags, whose bits say of which members of a set the
+-- column is the sum. No public contract rests on them.
 use Rattle.std.specs.Prelude.{◌≡◌, ℕ, suc, ◌==◌, nat_lt, if◌then◌else◌, List, [], ◌∷◌}
 use Rattle.std.specs.Int.{bit_at}
 use Rattle.std.specs.Int.Bits.{bit_xor}
 use Rattle.mat_gf2.specs.declared.elimination.TaggedColumn.{TaggedColumn}
-use Rattle.mat_gf2.specs.Columns.{xor_of, remainder}
+use Rattle.mat_gf2.specs.Columns.{xor_of}
+use Rattle.mat_gf2.specs.Eliminations.{remainder}
 
 -- the members of X whose places, counted from i on, are bits that the tag has set
 unfoldable pub marked_from : ℕ → ℕ → List ℕ → List ℕ

@@ -8,4 +8,4 @@ mod laws;
 mod tests;
 
 pub use gf2::Gf2;
-pub use laws::{gf2_laws, linear_independence_means};
+pub use laws::{gf2_laws, independent_sets_mean, linear_independence_means};

@@ -13,8 +13,10 @@ use Rattle.mat_sets.proofs.Filters.{filter_whole}
 use Rattle.mat_laws.specs.declared.exchange.Exchange.{Exchange}
 use Rattle.mat_laws.specs.Exchanges.{row_of}
 use Rattle.mat_laws.proofs.Rows.{exchanged, row_outside}
-use Rattle.mat_graphic.specs.Forests.{IsForest, least_reached, is_forest, is_graphic}
-use Rattle.mat_graphic.specs.ComponentLaws.{Trail, IsWithin, member_within, trail_of_same}
+use Rattle.mat_graphic.specs.Forests.{IsForest, is_forest, is_graphic}
+use Rattle.mat_graphic.specs.Mergings.{least_merged}
+use Rattle.mat_graphic.specs.TrailSearches.{Trail}
+use Rattle.mat_graphic.specs.ComponentLaws.{IsWithin, member_within, trail_of_same}
 use Rattle.mat_graphic.specs.TrailSearches.{IsTrailSet}
 use Rattle.mat_graphic.specs.ForestLaws.{IsForest-from_test, test_from-IsForest, IsForest-more, IsForest-subset, crossed_once, in_with_one, is_graphic-with_one, never_joined}
 
@@ -24,10 +26,10 @@ in_both x y z I m other = grind (arith, set_members)
 module _ (ends : ℕ → ℕ × ℕ) where
   -- where the ends of x are in two components, I - y + x is a forest for any y
   exchanged-apart : (I : List ℕ) (x y : ℕ) → IsRising I → IsForest ends I
-      → least_reached ends I (ends x).0 ≢ least_reached ends I (ends x).1
+      → least_merged ends I (ends x).0 ≢ least_merged ends I (ends x).1
       → is_forest ends (with_one (without_one I y) x) ≡ true
   exchanged-apart I x y r forest apart =
-      test_from-IsForest ends _ (IsRising-with_one _ x (IsRising-without_one I y r))
+      test_from-IsForest ends _
       (IsForest-more ends I x _ forest apart (λ z m other. in_both x y z I m other))
 
   -- an edge y of a trail between the ends of x: without it the ends of x are in two components
@@ -85,14 +87,14 @@ exchanged-test n ends I x y small set =
 
 pub row-apart : (n : ℕ) (ends : ℕ → ℕ × ℕ) (I : List ℕ) (x : ℕ) (row : Exchange) → x < n → is_graphic n ends I ≡ true
     → is_member x I ≡ false
-    → least_reached ends I (ends x).0 ≢ least_reached ends I (ends x).1 → row.addable ≡ true → row.with ≡ I
+    → least_merged ends I (ends x).0 ≢ least_merged ends I (ends x).1 → row.addable ≡ true → row.with ≡ I
     → row ≡ row_of (is_graphic n ends) I x
 row-apart n ends I x row small passes out apart adds with' =
     let tests = and_parts (is_set n I) (is_forest ends I) passes in
     let set = IsSet-from_test n I tests.0 in
     row_outside (is_graphic n ends) I x row out (adds ∙ sym (is_graphic-with_one n ends I x small passes apart))
     (with' ∙ sym (filter_whole (exchanged (is_graphic n ends) I x) I
-    (λ y m. exchanged-test n ends I x y small set ∙ exchanged-apart ends I x y set.rising (IsForest-from_test ends I tests.1) apart)))
+    (λ y m. exchanged-test n ends I x y small set ∙ exchanged-apart ends I x y set.rising (IsForest-from_test ends I set.rising tests.1) apart)))
 
 -- an edge whose ends are in one component, by the set of the edges of a trail between them
 pub row-trail : (n : ℕ) (ends : ℕ → ℕ × ℕ) (I : List ℕ) (x : ℕ) (row : Exchange) → x < n → is_graphic n ends I ≡ true
@@ -101,9 +103,9 @@ pub row-trail : (n : ℕ) (ends : ℕ → ℕ × ℕ) (I : List ℕ) (x : ℕ) (
 row-trail n ends I x row small passes out rises t adds =
     let tests = and_parts (is_set n I) (is_forest ends I) passes in
     let set = IsSet-from_test n I tests.0 in
-    let forest = IsForest-from_test ends I tests.1 in
+    let forest = IsForest-from_test ends I set.rising tests.1 in
     let never : is_graphic n ends (with_one I x) ≡ false = false_from_ne_true _
-    (λ h. added-closed ends I x out t.trail (IsForest-from_test ends _
+    (λ h. added-closed ends I x out t.trail (IsForest-from_test ends _ (IsRising-with_one I x set.rising)
     (and_parts (is_set n (with_one I x)) (is_forest ends (with_one I x)) h).1)) in
     row_outside (is_graphic n ends) I x row out (adds ∙ sym never)
     (same_members row.with _ rises (record { rises = RisesFrom-filter (exchanged (is_graphic n ends) I x) 0 I set.rising.rises })
@@ -117,7 +119,8 @@ row-trail n ends I x row small passes out rises t adds =
         → (is_member y I && is_forest ends (with_one (without_one I y) x)) ≡ is_member y t.trail.edges
     on_trail y forest r = elim (cases_Bool (is_member y t.trail.edges)) [
       | inl on ↦ and_from (is_member y I) _ (t.trail.inside.inside y on)
-          (test_from-IsForest ends _ (IsRising-with_one _ x (IsRising-without_one I y r)) (exchanged-on ends I x y r forest t.trail on)) ∙ sym on
+          (test_from-IsForest ends _ (exchanged-on ends I x y r forest t.trail on)) ∙ sym on
       | inr off ↦ outside (is_member y I) _ (is_member y t.trail.edges) off
-          (false_from_ne_true _ (λ h. exchanged-off ends I x y out t.trail off (IsForest-from_test ends _ h)))
+          (false_from_ne_true _ (λ h. exchanged-off ends I x y out t.trail off
+          (IsForest-from_test ends _ (IsRising-with_one _ x (IsRising-without_one I y r)) h)))
     ]

@@ -3,7 +3,7 @@ use Rattle.std.proofs.Common.{◌≡◌, ℕ, ◌+◌, ◌<◌, ◌≤◌, ◌�
 use Rattle.std.proofs.lemmas.List.{set-get_or, get_or_append_left}
 use Rattle.std.proofs.Math.Seq.{get_or-append_seam}
 use Rattle.std.proofs.lemmas.Bool.{cases_eq, cases_lt}
-use Rattle.mat_graphic.specs.Forests.{merged}
+use Rattle.mat_graphic.specs.Mergings.{merged}
 use Rattle.mat_graphic.specs.ComponentLaws.{merged_cases, merged-first, merged-second, merged-fixed, merged-same}
 use Rattle.mat_graphic.specs.ParentTables.{IsDescending, IsParentTable}
 

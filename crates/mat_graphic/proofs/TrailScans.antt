@@ -1,7 +1,7 @@
 -- The search for a trail: going through the places of a vertex, asking each found vertex once, and going back from a found vertex to the
 -- start. An edge further back joins vertices at earlier places alone, so no edge is used twice.
 use Rattle.std.proofs.Common.{◌≡◌, ℕ, suc, ◌+◌, ◌-◌, ◌<◌, ◌≤◌, ◌≢◌, Bool, true, false, ◌||◌, eqb, ltb, List, [], ◌∷◌, ◌++◌, length, get_or, Option, Some, None, is_some, ◌⊎◌, inl, inr, refl, sym, ap, ◌∙◌, subst, arith}
-use Rattle.std.proofs.lemmas.Bool.{cases_lt, eqb-true, eq-eqb, ltb-true, lt-ltb, and_parts, and_from, or_cases, or_right, or_parts, both_ways, false_from_ne_true}
+use Rattle.std.proofs.lemmas.Bool.{cases_lt, eqb-true, ltb-true, and_parts, or_cases, or_right, or_parts, both_ways, false_from_ne_true}
 use Rattle.std.proofs.lemmas.Bool.Decides.{nat_tests}
 use Rattle.std.proofs.lemmas.List.{get_or_default}
 use Rattle.mat_sets.specs.Sets.{is_member, AllBelow, AreDistinct, IsRising, IsSubset, with_one}
@@ -11,7 +11,7 @@ use Rattle.mat_sets.proofs.Members.{is_member-get_or, is_member-head, is_member-
 use Rattle.mat_sets.proofs.Ground.{AllBelow-from_members, length-distinct_below}
 use Rattle.mat_sets.proofs.Sums.{AllBelow-at}
 use Rattle.mat_sets.proofs.ListParts.{AreDistinct-index, is_member-push}
-use Rattle.mat_graphic.specs.Forests.{least_reached}
+use Rattle.mat_graphic.specs.Mergings.{least_merged}
 use Rattle.mat_graphic.specs.ComponentLaws.{trail_of_same}
 use Rattle.mat_graphic.specs.TrailSearches.{AreJoined, stands_at, AreEnds, IsOrder, IsTree, IsFront, IsTrailSet}
 
@@ -71,9 +71,6 @@ IsScanning-start tails heads set order through before v n next place first long 
 pub stands_parts : (tails : List ℕ) (v i : ℕ) → stands_at tails v i ≡ true → (i < length tails) × (get_or tails i 0 ≡ v)
 stands_parts tails v i h = let parts = and_parts (ltb i (length tails)) (eqb (get_or tails i 0) v) h in
     (ltb-true i (length tails) parts.0, eqb-true (get_or tails i 0) v parts.1)
-
-pub stands_from : (tails : List ℕ) (v i : ℕ) → i < length tails → get_or tails i 0 ≡ v → stands_at tails v i ≡ true
-stands_from tails v i l e = and_from (ltb i (length tails)) (eqb (get_or tails i 0) v) (lt-ltb i (length tails) l) (eq-eqb (get_or tails i 0) v e)
 
 module _ (tails heads set old_order old_through old_before : List ℕ) (v n i : ℕ) (place : List (Option ℕ)) (order through before : List ℕ)
     (s : IsScanning tails heads set old_order old_through old_before v n (Some i) place order through before) where
@@ -316,7 +313,7 @@ module _ (ends : ℕ → ℕ × ℕ) (X firsts seconds : List ℕ) (a : AreEnds 
   pub not_joined : (start v : ℕ) (place : List (Option ℕ)) (order through before : List ℕ) → IsRising X
       → IsOrder place order through before → IsTree ends X start order through before
       → ((i : ℕ) → i < length firsts → is_member (get_or firsts i 0) order ≡ is_member (get_or seconds i 0) order)
-      → get_or place v None ≡ None → least_reached ends X v ≢ least_reached ends X start
+      → get_or place v None ≡ None → least_merged ends X v ≢ least_merged ends X start
   not_joined start v place order through before r o t closed none same =
       let P = trail_of_same ends X start v r (sym same) in
       let first : is_member start order ≡ true = is_member-get_or order 0 start t.some t.first in

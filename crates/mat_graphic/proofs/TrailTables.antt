@@ -1,6 +1,6 @@
 -- The tables of a search for a trail: the places of each vertex in a list, the ends of the members of a set, and the vertices found so far.
-use Rattle.std.proofs.Common.{is_some, ◌≡◌, ℕ, suc, ◌+◌, ◌<◌, ◌≤◌, ◌≢◌, Bool, true, false, ◌&&◌, ltb, List, [], ◌∷◌, ◌++◌, length, get_or, set, Option, Some, None, ◌⊎◌, inl, inr, refl, sym, ap, ◌∙◌, subst, arith, get_or-set_other, get_or-set_same, length-set, length-append}
-use Rattle.std.proofs.lemmas.Bool.{cases_eq, cases_lt, eq-eqb, ne_eqb, le-ltb, lt-ltb, both_ways}
+use Rattle.std.proofs.Common.{is_some, ◌≡◌, ℕ, suc, ◌<◌, ◌≤◌, ◌≢◌, Bool, true, false, ◌&&◌, ltb, List, [], ◌∷◌, ◌++◌, length, get_or, set, Option, Some, None, ◌⊎◌, inl, inr, refl, sym, ap, ◌∙◌, subst, arith, get_or-set_other, get_or-set_same, length-set, length-append}
+use Rattle.std.proofs.lemmas.Bool.{cases_eq, cases_lt, eq-eqb, ne_eqb, lt-ltb, both_ways}
 use Rattle.std.proofs.lemmas.List.{get_or_append_left, get_or_default}
 use Rattle.std.proofs.Math.Seq.{get_or-append_seam}
 use Rattle.mat_sets.specs.Sets.{is_member, AllBelow}
@@ -8,9 +8,6 @@ use Rattle.mat_sets.specs.Search.{IsNextFrom}
 use Rattle.mat_sets.specs.Graphs.{Joins}
 use Rattle.mat_sets.proofs.Members.{is_member-get_or}
 use Rattle.mat_graphic.specs.TrailSearches.{stands_at, ArePlaces, IsOrder, IsTree}
-
-stands_past : (list : List ℕ) (v i : ℕ) → length list ≤ i → stands_at list v i ≡ false
-stands_past list v i le = rw (le-ltb i (length list) le) refl
 
 stands_here : (list : List ℕ) (i : ℕ) → i < length list → stands_at list (get_or list i 0) i ≡ true
 stands_here list i l = rw (lt-ltb i (length list) l, eq-eqb (get_or list i 0) (get_or list i 0) refl) refl
@@ -83,14 +80,6 @@ pub record AreEndsBefore (ends : ℕ → ℕ × ℕ) (X : List ℕ) (i : ℕ) (f
   pub seconds_long : length seconds ≡ i
   pub first : (k : ℕ) → k < i → get_or firsts k 0 ≡ (ends (get_or X k 0)).0
   pub second : (k : ℕ) → k < i → get_or seconds k 0 ≡ (ends (get_or X k 0)).1
-
-pushed : (xs : List ℕ) (i x k : ℕ) (f : ℕ → ℕ) → length xs ≡ i → x ≡ f i → ((j : ℕ) → j < i → get_or xs j 0 ≡ f j)
-    → k < i + 1 → get_or (xs ++ x ∷ []) k 0 ≡ f k
-pushed xs i x k f long last before l = elim (cases_lt k i) [
-  | inl less ↦ get_or_append_left xs (x ∷ []) 0 k (omega arith) ∙ before k less
-  | inr le ↦ (let e : k ≡ length xs = omega arith in ap (λ j. get_or (xs ++ x ∷ []) j 0) e ∙ get_or-append_seam xs x [] 0 ∙ last ∙ ap f
-      (sym long ∙ sym e))
-]
 
 -- ---- one more vertex is found
 

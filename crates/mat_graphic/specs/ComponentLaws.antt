@@ -1,12 +1,13 @@
--- The least vertex that is reached, as it is computed: it is the same at both ends of each edge, and so along each walk; and two vertices
--- where it is the same are joined by a walk along different edges. So it is the least vertex of the component.
+-- The least vertex of a component, by merging: it is the same at both ends of each edge, and so along each walk; and two vertices where it is
+-- the same are joined by a walk along different edges.
 use Rattle.std.proofs.Common.{◌≡◌, ℕ, suc, ◌<◌, ◌≤◌, ◌≢◌, min, true, false, eqb, List, [], ◌∷◌, ◌++◌, ◌⊎◌, inl, inr, refl, sym, ap, ◌∙◌, subst, arith}
 use Rattle.std.proofs.lemmas.Bool.{cases_eq, cases_lt, eqb-true, eq-eqb, ne_eqb, or_cases, or_left, or_right, or_parts, false≢true, both_ways, false_from_ne_true}
 use Rattle.std.proofs.lemmas.Bool.Decides.{nat_tests}
-use Rattle.mat_sets.specs.Sets.{is_member, IsRising, RisesFrom, IsSubset, AreDistinct}
+use Rattle.mat_sets.specs.Sets.{is_member, IsRising, RisesFrom, AreDistinct}
 use Rattle.mat_sets.specs.Graphs.{Joins, Walk}
 use Rattle.mat_sets.proofs.Members.{is_member-append, is_member-head, missing_below}
-use Rattle.mat_graphic.specs.Forests.{IsLeastReached, merged, least_reached}
+use Rattle.mat_graphic.specs.TrailSearches.{Trail}
+use Rattle.mat_graphic.specs.Mergings.{merged, least_merged}
 
 -- ---- two components become one
 
@@ -97,60 +98,53 @@ AreDistinct-joined e (x ∷ P) Q p q a b c =
       AreDistinct-joined e P Q p.1 q h.1 b (λ f m. c f (or_right (eqb f x) (is_member f P) m)),
     )
 
--- a walk from v to w along different members of X
-pub record Trail (ends : ℕ → ℕ × ℕ) (X : List ℕ) (v w : ℕ) : Type 0 where
-  pub edges : List ℕ
-  pub distinct : AreDistinct edges
-  pub inside : IsSubset edges X
-  pub walk : Walk ends edges v w
-
 module _ (ends : ℕ → ℕ × ℕ) where
-  -- ---- the least vertex that is reached
+  -- ---- the least vertex of a component, by merging
 
-  pub least_reached-le : (X : List ℕ) (v : ℕ) → least_reached ends X v ≤ v
-  unfolding least_reached
-  least_reached-le [] v = omega arith
-  least_reached-le (e ∷ X) v = omega (
+  pub least_merged-le : (X : List ℕ) (v : ℕ) → least_merged ends X v ≤ v
+  unfolding least_merged
+  least_merged-le [] v = omega arith
+  least_merged-le (e ∷ X) v = omega (
     arith,
-    least_reached-le X v,
-    merged-le (least_reached ends X (ends e).0) (least_reached ends X (ends e).1)
-        (least_reached ends X v),
+    least_merged-le X v,
+    merged-le (least_merged ends X (ends e).0) (least_merged ends X (ends e).1)
+        (least_merged ends X v),
   )
 
-  pub least_reached-fixed : (X : List ℕ) (v : ℕ) → least_reached ends X (least_reached ends X v) ≡ least_reached ends X v
-  unfolding least_reached
-  least_reached-fixed [] v = refl
-  least_reached-fixed (e ∷ X) v =
-      merged-fixed (least_reached ends X) (ends e).0 (ends e).1 v (least_reached-fixed X (ends e).0) (least_reached-fixed X (ends e).1)
-      (least_reached-fixed X v)
+  pub least_merged-fixed : (X : List ℕ) (v : ℕ) → least_merged ends X (least_merged ends X v) ≡ least_merged ends X v
+  unfolding least_merged
+  least_merged-fixed [] v = refl
+  least_merged-fixed (e ∷ X) v =
+      merged-fixed (least_merged ends X) (ends e).0 (ends e).1 v (least_merged-fixed X (ends e).0) (least_merged-fixed X (ends e).1)
+      (least_merged-fixed X v)
 
   -- it is the same at both ends of an edge
   abbrev pub IsWithin : List ℕ → ℕ → Type 0
-  IsWithin X e = least_reached ends X (ends e).0 ≡ least_reached ends X (ends e).1
+  IsWithin X e = least_merged ends X (ends e).0 ≡ least_merged ends X (ends e).1
 
   pub member_within : (X : List ℕ) (e : ℕ) → is_member e X ≡ true → IsWithin X e
-  unfolding least_reached
+  unfolding least_merged
   member_within [] e h = absurd (false≢true h)
   member_within (x ∷ X) e h = elim (or_cases (eqb e x) (is_member e X) h) [
-    | inl k ↦ (let p = least_reached ends X (ends x).0 in
-        let q = least_reached ends X (ends x).1 in
+    | inl k ↦ (let p = least_merged ends X (ends x).0 in
+        let q = least_merged ends X (ends x).1 in
         let same : e ≡ x = eqb-true e x k in
-        ap (λ z. merged p q (least_reached ends X (ends z).0)) same ∙ merged-first p q
-        ∙ sym (ap (λ z. merged p q (least_reached ends X (ends z).1)) same ∙ merged-second p q))
-    | inr k ↦ ap (merged (least_reached ends X (ends x).0) (least_reached ends X (ends x).1)) (member_within X e k)
+        ap (λ z. merged p q (least_merged ends X (ends z).0)) same ∙ merged-first p q
+        ∙ sym (ap (λ z. merged p q (least_merged ends X (ends z).1)) same ∙ merged-second p q))
+    | inr k ↦ ap (merged (least_merged ends X (ends x).0) (least_merged ends X (ends x).1)) (member_within X e k)
   ]
 
-  pub joins_same : (X : List ℕ) (e v u : ℕ) → IsWithin X e → Joins ends e v u → least_reached ends X v ≡ least_reached ends X u
+  pub joins_same : (X : List ℕ) (e v u : ℕ) → IsWithin X e → Joins ends e v u → least_merged ends X v ≡ least_merged ends X u
   joins_same X e v u h j = elim j [
-    | inl k ↦ ap (least_reached ends X) (sym k.0) ∙ h ∙ ap (least_reached ends X) k.1
-    | inr k ↦ ap (least_reached ends X) (sym k.1) ∙ sym h ∙ ap (least_reached ends X) k.0
+    | inl k ↦ ap (least_merged ends X) (sym k.0) ∙ h ∙ ap (least_merged ends X) k.1
+    | inr k ↦ ap (least_merged ends X) (sym k.1) ∙ sym h ∙ ap (least_merged ends X) k.0
   ]
 
   -- ---- along walks
 
   pub walk_same : (X edges : List ℕ) (v w : ℕ) → ((e : ℕ) → is_member e edges ≡ true → IsWithin X e) → Walk ends edges v w
-      → least_reached ends X v ≡ least_reached ends X w
-  walk_same X [] v w h k = ap (least_reached ends X) k
+      → least_merged ends X v ≡ least_merged ends X w
+  walk_same X [] v w h k = ap (least_merged ends X) k
   walk_same X (e ∷ edges) v w h k =
       joins_same X e v k.0 (h e (is_member-head e edges)) k.1
       ∙ walk_same X edges k.0 w (λ f m. h f (or_right (eqb f e) (is_member f edges) m)) k.2
@@ -158,13 +152,13 @@ module _ (ends : ℕ → ℕ × ℕ) where
   -- so at the ends of each edge of a walk it is what it is at the start
   walk_edge : (X edges : List ℕ) (v w f : ℕ) → ((e : ℕ) → is_member e edges ≡ true → IsWithin X e) → Walk ends edges v w
       → is_member f edges ≡ true
-      → least_reached ends X (ends f).0 ≡ least_reached ends X v
+      → least_merged ends X (ends f).0 ≡ least_merged ends X v
   walk_edge X [] v w f h k m = absurd (false≢true m)
   walk_edge X (e ∷ edges) v w f h k m =
       let here = h e (is_member-head e edges) in
       elim (or_cases (eqb f e) (is_member f edges) m) [
-        | inl q ↦ ap (λ z. least_reached ends X (ends z).0) (eqb-true f e q)
-            ∙ elim k.1 [ inl j ↦ ap (least_reached ends X) j.0 | inr j ↦ here ∙ ap (least_reached ends X) j.1 ]
+        | inl q ↦ ap (λ z. least_merged ends X (ends z).0) (eqb-true f e q)
+            ∙ elim k.1 [ inl j ↦ ap (least_merged ends X) j.0 | inr j ↦ here ∙ ap (least_merged ends X) j.1 ]
         | inr q ↦ walk_edge X edges k.0 w f (λ g n. h g (or_right (eqb g e) (is_member g edges) n)) k.2 q ∙ sym (joins_same X e v k.0 here k.1)
       ]
 
@@ -187,7 +181,7 @@ module _ (ends : ℕ → ℕ × ℕ) where
       }
 
   -- two trails in different components and an edge between them
-  joined_trail : (e : ℕ) (X : List ℕ) (v a b w : ℕ) → is_member e X ≡ false → least_reached ends X v ≢ least_reached ends X w
+  joined_trail : (e : ℕ) (X : List ℕ) (v a b w : ℕ) → is_member e X ≡ false → least_merged ends X v ≢ least_merged ends X w
       → Joins ends e a b → Trail ends X v a → Trail ends X b w → Trail ends (e ∷ X) v w
   joined_trail e X v a b w out d j P Q =
       let first : (g : ℕ) → is_member g P.edges ≡ true → IsWithin X g = λ g k. member_within X g (P.inside.inside g k) in
@@ -209,15 +203,15 @@ module _ (ends : ℕ → ℕ × ℕ) where
         walk = walk_append P.edges (e ∷ Q.edges) v a w P.walk (b, j, Q.walk);
       }
 
-  trail_from : (lo : ℕ) (X : List ℕ) (v w : ℕ) → RisesFrom lo X → least_reached ends X v ≡ least_reached ends X w → Trail ends X v w
-  unfolding least_reached
+  trail_from : (lo : ℕ) (X : List ℕ) (v w : ℕ) → RisesFrom lo X → least_merged ends X v ≡ least_merged ends X w → Trail ends X v w
+  unfolding least_merged
   trail_from lo [] v w r h = record { edges = []; distinct = tt; inside = record { inside = λ z k. k }; walk = h }
   trail_from lo (e ∷ X) v w r h =
       let out : is_member e X ≡ false = missing_below e (suc e) X (omega arith) r.1 in
-      elim (cases_eq (least_reached ends X v) (least_reached ends X w)) [
+      elim (cases_eq (least_merged ends X v) (least_merged ends X w)) [
         | inl same ↦ trail_in_more e X v w (trail_from (suc e) X v w r.1 same)
-        | inr d ↦ elim (merged_equal (least_reached ends X (ends e).0) (least_reached ends X (ends e).1) (least_reached ends X v)
-            (least_reached ends X w) h) [
+        | inr d ↦ elim (merged_equal (least_merged ends X (ends e).0) (least_merged ends X (ends e).1) (least_merged ends X v)
+            (least_merged ends X w) h) [
               | inl same ↦ absurd (d same)
               | inr k ↦ elim k [
                 | inl c ↦ joined_trail e X v (ends e).0 (ends e).1 w out d (inl (refl, refl))
@@ -229,17 +223,5 @@ module _ (ends : ℕ → ℕ × ℕ) where
       ]
 
   -- vertices where it is the same are joined by a trail
-  pub trail_of_same : (X : List ℕ) (v w : ℕ) → IsRising X → least_reached ends X v ≡ least_reached ends X w → Trail ends X v w
+  pub trail_of_same : (X : List ℕ) (v w : ℕ) → IsRising X → least_merged ends X v ≡ least_merged ends X w → Trail ends X v w
   trail_of_same X v w r h = trail_from 0 X v w r.rises h
-
-  -- ---- it is the least vertex of the component
-
-  pub least_reached-is : (X : List ℕ) (v : ℕ) → IsRising X → IsLeastReached ends X v (least_reached ends X v)
-  least_reached-is X v r =
-      let P = trail_of_same X v (least_reached ends X v) r (sym (least_reached-fixed X v)) in
-      record {
-        along = P.edges;
-        inside = P.inside;
-        walk = P.walk;
-        least = λ edges w s k. omega (arith, walk_same X edges v w (λ f m. member_within X f (s.inside f m)) k, least_reached-le X w);
-      }

@@ -1,5 +1,7 @@
 pub mod Forests
-pub mod ComponentLaws
-pub mod ForestLaws
+pub mod Mergings
 pub mod ParentTables
 pub mod TrailSearches
+pub mod SearchLaws
+pub mod ComponentLaws
+pub mod ForestLaws

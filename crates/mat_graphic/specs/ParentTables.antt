@@ -1,4 +1,5 @@
--- Tables of parents (union-find): the parents lead from each vertex down to the least one of its component.
+-- The algorithm's own notions, by which its private functions are told: tables of parents (union-find), in which the parents lead from each
+-- vertex down to the least one of its component. No public contract rests on them.
 use Rattle.std.specs.Prelude.{◌≡◌, ℕ, ◌<◌, ◌≤◌, List, length, slice_index}
 
 -- no parent is above its vertex

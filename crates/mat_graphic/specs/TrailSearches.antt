@@ -1,10 +1,9 @@
--- The search for a trail between two vertices: all vertices that members of a set of edges join to a start are found, each from one found
--- earlier.
+-- The algorithm's own notions, by which its private functions are told: the search for a trail between two vertices, in which all vertices that
+-- members of a set of edges join to a start are found, each from one found earlier. No public contract rests on them.
 use Rattle.std.specs.Prelude.{◌≡◌, ℕ, suc, ◌<◌, ◌≤◌, Bool, true, ◌&&◌, ◌==◌, nat_lt, List, length, slice_index, slice_index_or, Option, Some, None}
-use Rattle.mat_sets.specs.Sets.{is_member, AllBelow}
+use Rattle.mat_sets.specs.Sets.{is_member, AllBelow, AreDistinct, IsSubset}
 use Rattle.mat_sets.specs.Search.{IsNextFrom}
-use Rattle.mat_sets.specs.Graphs.{Joins}
-use Rattle.mat_graphic.specs.ComponentLaws.{Trail}
+use Rattle.mat_sets.specs.Graphs.{Joins, Walk}
 
 -- whether v stands in the list at i
 abbrev pub stands_at : List ℕ → ℕ → ℕ → Bool
@@ -50,6 +49,13 @@ AreJoined ends X tails heads set =
 pub record IsFront (xs ys : List ℕ) : Type 0 where
   pub longer : length xs ≤ length ys
   pub same : (k : ℕ) → k < length xs → slice_index ys k ≡ slice_index xs k
+
+-- a walk from v to w along different members of X
+pub record Trail (ends : ℕ → ℕ × ℕ) (X : List ℕ) (v w : ℕ) : Type 0 where
+  pub edges : List ℕ
+  pub distinct : AreDistinct edges
+  pub inside : IsSubset edges X
+  pub walk : Walk ends edges v w
 
 -- the set of the edges of a trail from v to w
 pub record IsTrailSet (ends : ℕ → ℕ × ℕ) (X : List ℕ) (v w : ℕ) (set : List ℕ) : Type 0 where

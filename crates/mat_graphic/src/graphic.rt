@@ -1,8 +1,9 @@
 //! Graphic matroids.
-ghost use Rattle.std.specs.Prelude.{◌≡◌, ℕ, List, ◌∷◌, ◌<◌, ◌&&◌, length, slice_index, IfOk};
+ghost use Rattle.std.specs.Prelude.{◌≡◌, ℕ, List, ◌∷◌, ◌<◌, ◌==◌, not, length, slice_index, IfOk};
 ghost use Rattle.mat_sets.specs.Graphs.{IsGraph, ends_of};
 ghost use Rattle.mat_sets.specs.Sets.{AllBelow, IsRising};
-ghost use Rattle.mat_graphic.specs.Forests.{IsLeastReached, is_forest, is_graphic, least_reached};
+ghost use Rattle.mat_graphic.specs.Forests.{IsLeastReached, is_forest, is_graphic};
+ghost use Rattle.mat_graphic.specs.Mergings.{least_merged};
 ghost use Rattle.mat_graphic.specs.ForestLaws.{graphic_laws};
 ghost use Rattle.mat_graphic.specs.ParentTables.{IsDescending, IsParentTable};
 
@@ -26,10 +27,11 @@ fn unite_ends(parent: &mut [u32], edges: &[(u32, u32)], e: u32) -> bool
     requires below { e < length edges.now }
     requires descending { IsDescending parent.old }
     ensures descending { IsDescending parent.new }
-    ensures united { (X : List ℕ) → IsParentTable (least_reached (ends_of edges.now) X) parent.old
-        → IsParentTable (least_reached (ends_of edges.now) (e ∷ X)) parent.new }
-    ensures forest { (X : List ℕ) → IsParentTable (least_reached (ends_of edges.now) X) parent.old
-        → is_forest (ends_of edges.now) (e ∷ X) ≡ (is_forest (ends_of edges.now) X && result) }
+    ensures united { (X : List ℕ) → IsParentTable (least_merged (ends_of edges.now) X) parent.old
+        → IsParentTable (least_merged (ends_of edges.now) (e ∷ X)) parent.new }
+    ensures apart { (X : List ℕ) → IsParentTable (least_merged (ends_of edges.now) X) parent.old
+        → result ≡ not (least_merged (ends_of edges.now) X (ends_of edges.now e).0
+        == least_merged (ends_of edges.now) X (ends_of edges.now e).1) }
 {
     let (first, second) = edges[e as usize];
     unite(parent, first, second)
@@ -42,7 +44,7 @@ fn unite_all(parent: &mut [u32], edges: &[(u32, u32)], set: &ElemSet)
     requires descending { IsDescending parent.old }
     requires single { IsParentTable (λ v. v) parent.old }
     ensures descending { IsDescending parent.new }
-    ensures united { IsParentTable (least_reached (ends_of edges.now) set.now) parent.new }
+    ensures united { IsParentTable (least_merged (ends_of edges.now) set.now) parent.new }
     ensures rises { IsRising set.now }
 {
     for i in (0..set.len()).rev() {

@@ -10,7 +10,12 @@ pub fn forest_means()
     ensures { (ends : ℕ → ℕ × ℕ) (X : List ℕ) → IsRising X → (is_forest ends X ≡ true) ↔ IsForest ends X }
 {}
 
-/// The computed vertex is the least that is reached: a walk along these edges leads to it, and none leads to a lower one.
+/// A list passes the whole test exactly where it is a set of edges and a forest.
+pub fn independent_sets_mean()
+    ensures { (n : ℕ) (ends : ℕ → ℕ × ℕ) (X : List ℕ) → (is_graphic n ends X ≡ true) ↔ (IsSet n X × IsForest ends X) }
+{}
+
+/// The vertex that is found is the least that is reached: a walk along these edges leads to it, and none leads to a lower one.
 pub fn components_mean()
     ensures { (ends : ℕ → ℕ × ℕ) (X : List ℕ) (v r : ℕ) → IsRising X → (least_reached ends X v ≡ r) ↔ IsLeastReached ends X v r }
 {}

@@ -2,7 +2,7 @@
 ghost use Rattle.std.specs.Prelude.{◌≡◌, ◌≢◌, ◌<◌, ℕ, List, length, slice_index, true, IfOk, OnOk, MatchOption};
 ghost use Rattle.mat_sets.specs.Graphs.{IsGraph, Joins, ends_of};
 ghost use Rattle.mat_sets.specs.Sets.{AllBelow, IsRising, is_member};
-ghost use Rattle.mat_graphic.specs.Forests.{least_reached};
+ghost use Rattle.mat_graphic.specs.Mergings.{least_merged};
 ghost use Rattle.mat_graphic.specs.TrailSearches.{AreEnds, AreJoined, ArePlaces, IsFront, IsOrder, IsTrailSet, IsTree};
 
 use mat_sets::ElemSet;
@@ -208,7 +208,7 @@ pub fn trail(
     requires from { from < vertices }
     requires to { to < vertices }
     ensures trail { IfOk result (λ found. MatchOption found
-        (least_reached (ends_of edges.now) set.now from ≢ least_reached (ends_of edges.now) set.now to)
+        (least_merged (ends_of edges.now) set.now from ≢ least_merged (ends_of edges.now) set.now to)
         (λ s. IsTrailSet (ends_of edges.now) set.now from to s)) }
     ensures rises { IfOk result (λ found. MatchOption found (Unit {0}) (λ s. IsRising s)) }
 {

@@ -14,7 +14,9 @@ loop-place-init c =
     (subst (IsTaggedBasis column X []) (sym c.new-basis.ensures.items) (IsTaggedBasis-start column X))
 
 pub bounds-columns-get : goal.bounds-columns-get
-bounds-columns-get c = below_before _ c.args.set.now _ c.loop-place.place c.get.result c.requires.below c.len-place.ensures.count c.loop-place-test.true c.loop-place.auto.place c.get.ensures.item
+bounds-columns-get c =
+    below_before _ c.args.set.now _ c.loop-place.place c.get.result c.requires.below c.len-place.ensures.count
+    c.loop-place-test.true c.loop-place.auto.place c.get.ensures.item
 
 pub loop-place-preserved : goal.loop-place-preserved
 loop-place-preserved c =
@@ -23,7 +25,8 @@ loop-place-preserved c =
     let e = c.get.result in
     let place = c.loop-place.place - 1 in
     let before = drop_before X _ c.loop-place.place e c.len-place.ensures.count c.loop-place-test.true c.loop-place.auto.place c.get.ensures.item in
-    let inside : place < length X = (let some = c.loop-place-test.true in let most = c.loop-place.auto.place in let count = c.len-place.ensures.count in omega arith) in
+    let inside : place < length X =
+    (let some = c.loop-place-test.true in let most = c.loop-place.auto.place in let count = c.len-place.ensures.count in omega arith) in
     let new : TaggedColumn = record { column = column e; tag = 1 * 2 ^ place % 2 ^ 128 } in
     subst (λ Y. IsTaggedBasis column X Y c.push.new.self.items) (sym before)
     (subst (IsTaggedBasis column X _) (sym c.in_ok-push.ensures.items)

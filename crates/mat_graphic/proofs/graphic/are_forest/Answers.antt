@@ -1,7 +1,11 @@
-use Rattle.std.proofs.Common.{◌-◌, length, drop, arith}
+use Rattle.std.proofs.Common.{◌≡◌, ◌-◌, length, drop, sym, subst, arith}
 use Rattle.mat_sets.specs.Graphs.{ends_of}
 use Rattle.mat_sets.proofs.Sums.{AllBelow-at}
-use Rattle.mat_graphic.proofs.Uniting.{table_none, forest_none, not_forest}
+use Rattle.mat_graphic.specs.Forests.{IsForest}
+use Rattle.mat_graphic.specs.Mergings.{least_merged}
+use Rattle.mat_graphic.specs.ForestLaws.{test_from-IsForest}
+use Rattle.mat_graphic.specs.ParentTables.{IsParentTable}
+use Rattle.mat_graphic.proofs.Uniting.{table_none, forest_none, edge_before, forest_more, not_forest}
 use Rattle.mat_graphic.proofs.graphic.are_forest.Goals as goal
 
 pub loop-i-init : goal.loop-i-init
@@ -17,9 +21,33 @@ unite_ends-requires-clause-below c =
     (omega (arith, c.len-i.ensures.count, c.loop-i-test.true, c.loop-i.auto.i)) in
     omega (arith, c.get.ensures.item)
 
+pub loop-i-preserved : goal.loop-i-preserved
+loop-i-preserved c =
+    let ends = ends_of c.args.edges.now in
+    let X = c.args.set.now in
+    let e = c.get.result in
+    let before = edge_before ends X (c.loop-i.i - 1) c.loop-i.i e (omega (arith, c.loop-i-test.true))
+    (omega (arith, c.len-i.ensures.count, c.loop-i.auto.i)) c.get.ensures.item in
+    record {
+      descending = c.unite_ends.ensures.descending;
+      united = subst (λ Y. IsParentTable (least_merged ends Y) c.unite_ends.new.parent) (sym before)
+          (c.unite_ends.ensures.united (drop c.loop-i.i X) c.loop-i.invariant.united);
+      forest = forest_more ends X (c.loop-i.i - 1) c.loop-i.i e c.unite_ends.result before
+          (c.unite_ends.ensures.apart (drop c.loop-i.i X) c.loop-i.invariant.united) c.if-not-unite_ends.false c.loop-i.invariant.forest;
+    }
+
 pub returns-then-not-unite_ends-clause-answer : goal.returns-then-not-unite_ends-clause-answer
 returns-then-not-unite_ends-clause-answer c =
-    not_forest (ends_of c.args.edges.now) c.args.set.now (c.loop-i.i - 1) c.loop-i.i c.get.result c.unite_ends.result
-    (omega (arith, c.loop-i-test.true))
-    (omega (arith, c.len-i.ensures.count, c.loop-i.auto.i)) c.get.ensures.item
-    (c.unite_ends.ensures.forest (drop c.loop-i.i c.args.set.now) c.loop-i.invariant.united) c.if-not-unite_ends.true
+    let ends = ends_of c.args.edges.now in
+    let X = c.args.set.now in
+    let before = edge_before ends X (c.loop-i.i - 1) c.loop-i.i c.get.result (omega (arith, c.loop-i-test.true))
+    (omega (arith, c.len-i.ensures.count, c.loop-i.auto.i)) c.get.ensures.item in
+    not_forest ends X (c.loop-i.i - 1) c.loop-i.i c.get.result c.unite_ends.result before
+    (c.unite_ends.ensures.apart (drop c.loop-i.i X) c.loop-i.invariant.united) c.get.ensures.rises c.if-not-unite_ends.true
+
+pub returns-clause-answer : goal.returns-clause-answer
+returns-clause-answer c =
+    let ends = ends_of c.args.edges.now in
+    let X = c.args.set.now in
+    let start : c.loop-i.i ≡ 0 = omega (arith, c.loop-i-test.false) in
+    sym (test_from-IsForest ends X (subst (λ k. IsForest ends (drop k X)) start c.loop-i.invariant.forest))

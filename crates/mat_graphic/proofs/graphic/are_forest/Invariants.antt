@@ -1,6 +1,7 @@
-use Rattle.std.proofs.Common.{◌≡◌, true, drop}
+use Rattle.std.proofs.Common.{drop}
 use Rattle.mat_sets.specs.Graphs.{ends_of}
-use Rattle.mat_graphic.specs.Forests.{least_reached, is_forest}
+use Rattle.mat_graphic.specs.Forests.{IsForest}
+use Rattle.mat_graphic.specs.Mergings.{least_merged}
 use Rattle.mat_graphic.specs.ParentTables.{IsDescending, IsParentTable}
 use Rattle.mat_graphic.proofs.graphic.are_forest.Given as goal
 
@@ -9,6 +10,6 @@ abbrev pub invariant-loop-i : goal.invariant-loop-i
 invariant-loop-i l =
     record {
       descending : IsDescending l.parent;
-      united : IsParentTable (least_reached (ends_of l.edges) (drop l.i l.set)) l.parent;
-      forest : is_forest (ends_of l.edges) (drop l.i l.set) ≡ true;
+      united : IsParentTable (least_merged (ends_of l.edges) (drop l.i l.set)) l.parent;
+      forest : IsForest (ends_of l.edges) (drop l.i l.set);
     }

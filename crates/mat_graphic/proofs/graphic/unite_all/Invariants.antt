@@ -1,9 +1,9 @@
 use Rattle.std.proofs.Common.{drop}
 use Rattle.mat_sets.specs.Graphs.{ends_of}
-use Rattle.mat_graphic.specs.Forests.{least_reached}
+use Rattle.mat_graphic.specs.Mergings.{least_merged}
 use Rattle.mat_graphic.specs.ParentTables.{IsDescending, IsParentTable}
 use Rattle.mat_graphic.proofs.graphic.unite_all.Given as goal
 
 -- the edges from place i on are united
 abbrev pub invariant-loop-i : goal.invariant-loop-i
-invariant-loop-i l = record { descending : IsDescending l.parent; united : IsParentTable (least_reached (ends_of l.edges) (drop l.i l.set)) l.parent }
+invariant-loop-i l = record { descending : IsDescending l.parent; united : IsParentTable (least_merged (ends_of l.edges) (drop l.i l.set)) l.parent }

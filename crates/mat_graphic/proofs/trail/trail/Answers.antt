@@ -1,7 +1,7 @@
 use Rattle.std.proofs.Common.{◌≢◌, ◌<◌, ◌∙◌, length, get_or, sym, subst, arith}
 use Rattle.mat_sets.specs.Sets.{AllBelow, IsRising}
 use Rattle.mat_sets.specs.Graphs.{ends_of}
-use Rattle.mat_graphic.specs.Forests.{least_reached}
+use Rattle.mat_graphic.specs.Mergings.{least_merged}
 use Rattle.mat_graphic.specs.TrailSearches.{AreEnds, IsTrailSet}
 use Rattle.mat_graphic.proofs.TrailTables.{entry_of}
 use Rattle.mat_graphic.proofs.TrailScans.{ends_below, ends_joined, ends_joined_back, not_joined}
@@ -59,5 +59,5 @@ returns-clause-trail c =
     let told = c.in_ok-search.ensures in
     let tree = told.tree ends members (ends_joined ends members firsts seconds a) (ends_joined_back ends members firsts seconds a) in
     let rises = subst IsRising (sym c.as_slice-members.ensures.items) c.as_slice-members.ensures.rises in
-    subst (λ X. least_reached ends X c.args.from ≢ least_reached ends X c.args.to) c.as_slice-members.ensures.items
+    subst (λ X. least_merged ends X c.args.from ≢ least_merged ends X c.args.to) c.as_slice-members.ensures.items
     (not_joined ends members firsts seconds a c.args.to c.args.from place _ _ _ rises told.order tree told.closed none)

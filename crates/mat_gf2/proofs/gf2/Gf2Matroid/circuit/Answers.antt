@@ -17,7 +17,8 @@ tagged_basis-requires-clause-below c =
     let base = c.args.base.now in
     let same : c.deref.result.now ≡ columns = c.deref.ensures.value ∙ ap (λ m. m.columns) c.self.view_is in
     subst (λ s. AllBelow (length s) base) (sym same)
-    (IsSet-from_test (length columns) base (and_parts (is_set (length columns) base) (is_linearly_independent (column_of columns) base) c.requires.base).0).below
+    (IsSet-from_test (length columns) base (and_parts (is_set (length columns) base)
+    (is_linearly_independent (column_of columns) base) c.requires.base).0).below
 
 pub tagged_basis-requires-clause-few : goal.tagged_basis-requires-clause-few
 tagged_basis-requires-clause-few c = independent-few c.args.self.now.dim c.args.self.now.columns c.args.base.now c.requires.sound c.requires.base
@@ -34,9 +35,11 @@ returns-then-left-eq0-clause-row c =
     let read : entry ≡ get_or columns c.args.x entry = c.index.ensures ∙ ap (λ m. get_or m.columns c.args.x entry) c.self.view_is in
     let column : TaggedColumn = record { column = entry; tag = 0 } in
     let row : Exchange = record { addable = false; with = c.in_ok-with.with } in
-    row_of_marked columns base c.args.x entry c.in_ok-basis.basis.items c.reduce_tagged-left.result row c.requires.base c.requires.below c.requires.outside
+    row_of_marked columns base c.args.x entry c.in_ok-basis.basis.items c.reduce_tagged-left.result row
+    c.requires.base c.requires.below c.requires.outside
     (subst (λ s. IsTaggedBasis (column_of s) base base c.in_ok-basis.basis.items) same c.in_ok-basis.ensures.basis) read
-    (c.reduce_tagged-left.ensures ∙ ap (λ basis. reduced_tagged_by basis column) c.deref-2.ensures.value) c.if-left-eq0.true refl c.in_ok-with.ensures.members
+    (c.reduce_tagged-left.ensures
+    ∙ ap (λ basis. reduced_tagged_by basis column) c.deref-2.ensures.value) c.if-left-eq0.true refl c.in_ok-with.ensures.members
 
 pub returns-clause-row : goal.returns-clause-row
 returns-clause-row c =
@@ -47,6 +50,8 @@ returns-clause-row c =
     let read : entry ≡ get_or columns c.args.x entry = c.index.ensures ∙ ap (λ m. get_or m.columns c.args.x entry) c.self.view_is in
     let column : TaggedColumn = record { column = entry; tag = 0 } in
     let row : Exchange = record { addable = true; with = c.in_ok-with-2.with } in
-    row_of_addable columns base c.args.x entry c.in_ok-basis.basis.items c.reduce_tagged-left.result row c.requires.base c.requires.below c.requires.outside
+    row_of_addable columns base c.args.x entry c.in_ok-basis.basis.items c.reduce_tagged-left.result row
+    c.requires.base c.requires.below c.requires.outside
     (subst (λ s. IsTaggedBasis (column_of s) base base c.in_ok-basis.basis.items) same c.in_ok-basis.ensures.basis) read
-    (c.reduce_tagged-left.ensures ∙ ap (λ basis. reduced_tagged_by basis column) c.deref-2.ensures.value) c.if-left-eq0.false refl c.in_ok-with-2.ensures.equal
+    (c.reduce_tagged-left.ensures
+    ∙ ap (λ basis. reduced_tagged_by basis column) c.deref-2.ensures.value) c.if-left-eq0.false refl c.in_ok-with-2.ensures.equal

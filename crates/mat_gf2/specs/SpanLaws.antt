@@ -1,15 +1,19 @@
 -- What is left of a column by elimination is zero exactly where the column is a sum of columns of the set: elimination is linear, leaves nothing
--- of the columns of the set, and changes a column by such a sum. So the test of elimination holds exactly of the linearly independent sets.
-use Rattle.std.proofs.Common.{◌≡◌, ℕ, suc, ◌≢◌, true, false, not, eqb, ltb, List, [], ◌∷◌, inl, inr, refl, sym, ap, ◌∙◌, subst, arith}
-use Rattle.std.proofs.lemmas.Bool.{cases_Bool, eqb-true, eqb-false, ne_eqb, or_cases, or_right, or_parts, and_parts, and_from, false≢true, both_ways, not-true, false_from_ne_true}
+-- of the columns of the set, and changes a column by such a sum. So a linearly independent set stays so exactly with a column outside it of which
+-- something is left. The test of linear independence, a look through the subsets, holds exactly of the sets that are so.
+use Rattle.std.proofs.Common.{◌≡◌, ℕ, ◌≢◌, Bool, ◌&&◌, length, true, false, not, eqb, ltb, List, [], ◌∷◌, inl, inr, refl, sym, ap, ◌∙◌, subst, arith}
+use Rattle.std.proofs.lemmas.Bool.{cases_Bool, eqb-true, eqb-false, eq-eqb, ne_eqb, or_cases, or_right, or_parts, and_parts, and_from, false≢true, both_ways, not-true, false_from_ne_true}
 use Rattle.std.specs.Int.Bits.{bit_xor, xor_self, xor_zero_l, xor_zero_r, xor_assoc}
 use Rattle.std.proofs.lemmas.Nat.{xor_comm}
-use Rattle.mat_sets.specs.Sets.{is_member, IsRising, RisesFrom, IsSubset, rising_insert, with_one, without_one}
-use Rattle.mat_sets.proofs.Members.{set_members, is_member-head, member_from, IsRising-nil, IsRising-with_one, IsRising-without_one}
+use Rattle.mat_sets.specs.Sets.{is_member, IsRising, IsSubset, rising_insert, with_one, without_one}
+use Rattle.mat_sets.proofs.Members.{set_members, is_member-head, IsRising-nil, IsRising-with_one, IsRising-without_one}
 use Rattle.mat_sets.proofs.Subsets.{IsSubset-trans, with_one-IsSubset, without_one-IsSubset}
 use Rattle.mat_sets.proofs.Changes.{with_one-returned}
-use Rattle.mat_gf2.specs.Columns.{xor_of, IsLinearlyIndependent, reduced, remainder, is_linearly_independent}
-use Rattle.mat_gf2.specs.LeadingBits.{reduced-xor, reduced-zero, reduced-self, xor_cancel}
+use Rattle.mat_sets.specs.Search.{some_subset}
+use Rattle.mat_sets.proofs.Search.{some_subset_gives, some_subset_none}
+use Rattle.mat_gf2.specs.Columns.{xor_of, IsLinearlyIndependent, is_linearly_independent}
+use Rattle.mat_gf2.specs.Eliminations.{reduced, remainder}
+use Rattle.mat_gf2.specs.LeadingBitLaws.{reduced-xor, reduced-zero, reduced-self, xor_cancel}
 
 -- a rising sublist of X whose columns have the exclusive-or v
 pub record InSpan (column : ℕ → ℕ) (X : List ℕ) (v : ℕ) : Type 0 where
@@ -21,13 +25,14 @@ pub record InSpan (column : ℕ → ℕ) (X : List ℕ) (v : ℕ) : Type 0 where
 pub tail-IsSubset : (x : ℕ) (X : List ℕ) → IsSubset X (x ∷ X)
 tail-IsSubset x X = record { inside = λ z m. or_right (eqb z x) (is_member z X) m }
 
-pub not_empty : (x : ℕ) (s : List ℕ) → is_member x s ≡ true → s ≢ []
+not_empty : (x : ℕ) (s : List ℕ) → is_member x s ≡ true → s ≢ []
 not_empty x s h q = false≢true (sym (ap (is_member x) q) ∙ h)
 
 module _ (column : ℕ → ℕ) where
   -- ---- sums of columns
 
-  xor_of-rising_insert : (x : ℕ) (s : List ℕ) → is_member x s ≡ false → xor_of column (rising_insert x s) ≡ bit_xor (column x) (xor_of column s)
+  xor_of-rising_insert : (x : ℕ) (s : List ℕ) → is_member x s ≡ false
+      → xor_of column (rising_insert x s) ≡ bit_xor (column x) (xor_of column s)
   xor_of-rising_insert x [] h = refl
   xor_of-rising_insert x (y ∷ s) h = let parts = or_parts (eqb x y) (is_member x s) h in
       elim (cases_Bool (ltb x y)) [
@@ -38,7 +43,7 @@ module _ (column : ℕ → ℕ) where
       past : (a b c : ℕ) → bit_xor a (bit_xor b c) ≡ bit_xor b (bit_xor a c)
       past a b c = sym (xor_assoc a b c) ∙ ap (λ z. bit_xor z c) (xor_comm a b) ∙ xor_assoc b a c
 
-  pub xor_of-with_one : (s : List ℕ) (x : ℕ) → is_member x s ≡ false → xor_of column (with_one s x) ≡ bit_xor (column x) (xor_of column s)
+  xor_of-with_one : (s : List ℕ) (x : ℕ) → is_member x s ≡ false → xor_of column (with_one s x) ≡ bit_xor (column x) (xor_of column s)
   unfolding with_one
   xor_of-with_one s x h = xor_of-rising_insert x s h
 
@@ -51,7 +56,7 @@ module _ (column : ℕ → ℕ) where
 
   -- ---- spans
 
-  pub in_span-zero : (X : List ℕ) → InSpan column X 0
+  in_span-zero : (X : List ℕ) → InSpan column X 0
   in_span-zero X = record { part = []; rising = IsRising-nil; inside = record { inside = λ z k. absurd (false≢true k) }; sum = refl }
 
   pub in_span-subset : (X Y : List ℕ) (v : ℕ) → IsSubset X Y → InSpan column X v → InSpan column Y v
@@ -81,7 +86,7 @@ module _ (column : ℕ → ℕ) where
       (in_span-column X x (bit_xor (xor_of column t) v) (h.inside x (is_member-head x t))
       (in_span-list X t v (IsSubset-trans t (x ∷ t) X (tail-IsSubset x t) h) s))
 
-  pub in_span-xor : (X : List ℕ) (v w : ℕ) → InSpan column X v → InSpan column X w → InSpan column X (bit_xor v w)
+  in_span-xor : (X : List ℕ) (v w : ℕ) → InSpan column X v → InSpan column X w → InSpan column X (bit_xor v w)
   in_span-xor X v w a b = subst (λ z. InSpan column X (bit_xor z w)) a.sum (in_span-list X a.part w a.inside b)
 
   -- ---- elimination
@@ -94,7 +99,7 @@ module _ (column : ℕ → ℕ) where
       ap (λ z. reduced z (remainder column X (column e))) (remainder-xor X v w)
       ∙ reduced-xor (remainder column X v) (remainder column X w) (remainder column X (column e))
 
-  pub remainder-zero : (X : List ℕ) → remainder column X 0 ≡ 0
+  remainder-zero : (X : List ℕ) → remainder column X 0 ≡ 0
   unfolding remainder
   remainder-zero [] = refl
   remainder-zero (e ∷ X) = ap (λ z. reduced z (remainder column X (column e))) (remainder-zero X) ∙ reduced-zero (remainder column X (column e))
@@ -104,7 +109,8 @@ module _ (column : ℕ → ℕ) where
   unfolding remainder
   remainder-own [] x h = absurd (false≢true h)
   remainder-own (e ∷ X) x h = elim (or_cases (eqb x e) (is_member x X) h) [
-    | inl a ↦ ap (λ z. reduced (remainder column X (column z)) (remainder column X (column e))) (eqb-true x e a) ∙ reduced-self (remainder column X (column e))
+    | inl a ↦ ap (λ z. reduced (remainder column X (column z)) (remainder column X (column e))) (eqb-true x e a)
+        ∙ reduced-self (remainder column X (column e))
     | inr a ↦ ap (λ z. reduced z (remainder column X (column e))) (remainder-own X x a) ∙ reduced-zero (remainder column X (column e))
   ]
 
@@ -129,14 +135,15 @@ module _ (column : ℕ → ℕ) where
         | inr h ↦ rw h (more v)
         | inl h ↦ rw h (subst (InSpan column (e ∷ X)) (xor_assoc v u b)
             (in_span-xor (e ∷ X) (bit_xor v u) b (more v)
-            (subst (InSpan column (e ∷ X)) (xor_cancel (column e) b) (in_span-column (e ∷ X) e (bit_xor (column e) b) (is_member-head e X) (more (column e))))))
+            (subst (InSpan column (e ∷ X)) (xor_cancel (column e) b)
+            (in_span-column (e ∷ X) e (bit_xor (column e) b) (is_member-head e X) (more (column e))))))
       ]
 
   -- a column of which nothing is left is a sum of columns
   pub in_span-from_remainder : (X : List ℕ) (v : ℕ) → remainder column X v ≡ 0 → InSpan column X v
   in_span-from_remainder X v nothing = subst (InSpan column X) (ap (bit_xor v) nothing ∙ xor_zero_r v) (remainder-in_span X v)
 
-  -- ---- the test and its sentence
+  -- ---- linearly independent sets
 
   pub IsLinearlyIndependent-subset : (X Y : List ℕ) → IsSubset X Y → IsLinearlyIndependent column Y → IsLinearlyIndependent column X
   IsLinearlyIndependent-subset X Y s f = record { nonzero = λ t r ins. f.nonzero t r (IsSubset-trans t X Y ins s) }
@@ -146,8 +153,12 @@ module _ (column : ℕ → ℕ) where
       → ((z : ℕ) → is_member z Y ≡ true → eqb z e ≡ false → is_member z X ≡ true) → IsLinearlyIndependent column Y
   IsLinearlyIndependent-more X e Y f ne sub = record {
     nonzero = λ s r ins some zero. elim (cases_Bool (is_member e s)) [
-      | inr out ↦ f.nonzero s r (record { inside = λ z k. sub z (ins.inside z k) (ne_eqb z e (λ q. both_ways _ out (ap (λ w. is_member w s) (sym q) ∙ k))) }) some zero
-      | inl here ↦ ne (ap (remainder column X) (sym (xor_zero_r (column e)) ∙ ap (bit_xor (column e)) (sym zero) ∙ sym (xor_of-without_one s e r here))
+      | inr out ↦ f.nonzero s r (record {
+        inside = λ z k. sub z (ins.inside z k)
+            (ne_eqb z e (λ q. both_ways _ out (ap (λ w. is_member w s) (sym q) ∙ k)));
+      }) some zero
+      | inl here ↦ ne (ap (remainder column X)
+          (sym (xor_zero_r (column e)) ∙ ap (bit_xor (column e)) (sym zero) ∙ sym (xor_of-without_one s e r here))
           ∙ remainder-sum X (without_one s e) (others s ins))
     ];
   }
@@ -159,7 +170,8 @@ module _ (column : ℕ → ℕ) where
           remainder-own X x (sub x (ins.inside x m) differ)
 
   -- a column outside that a sublist makes stands with it in no linearly independent set
-  pub dependent-with_sum : (X Y : List ℕ) (x : ℕ) → is_member x X ≡ false → InSpan column X (column x) → is_member x Y ≡ true → IsSubset X Y
+  pub dependent-with_sum : (X Y : List ℕ) (x : ℕ) → is_member x X ≡ false → InSpan column X (column x) → is_member x Y ≡ true
+      → IsSubset X Y
       → IsLinearlyIndependent column Y → ⊥
   dependent-with_sum X Y x o s m h f =
       let out : is_member x s.part ≡ false = false_from_ne_true _ (λ k. both_ways _ o (s.inside.inside x k)) in
@@ -169,36 +181,44 @@ module _ (column : ℕ → ℕ) where
       (not_empty x (with_one s.part x) here)
       (xor_of-with_one s.part x out ∙ ap (bit_xor (column x)) s.sum ∙ xor_self (column x))
 
-  pub IsLinearlyIndependent-from_test : (X : List ℕ) → is_linearly_independent column X ≡ true → IsLinearlyIndependent column X
-  unfolding is_linearly_independent
-  IsLinearlyIndependent-from_test [] h = record { nonzero = λ s r ins some zero. none s ins some }
-    where
-      none : (s : List ℕ) → IsSubset s [] → s ≢ [] → ⊥
-      none [] ins some = some refl
-      none (x ∷ s) ins some = false≢true (ins.inside x (is_member-head x s))
-  IsLinearlyIndependent-from_test (e ∷ X) h =
-      let a = and_parts (is_linearly_independent column X) (not (eqb (remainder column X (column e)) 0)) h in
-      IsLinearlyIndependent-more X e (e ∷ X) (IsLinearlyIndependent-from_test X a.0) (eqb-false _ _ (not-true _ a.1)) (λ z m o. rw o at m)
+  -- so something is left of a column outside a set with which it is linearly independent
+  pub left_of_independent : (X : List ℕ) (e : ℕ) → is_member e X ≡ false → IsLinearlyIndependent column (e ∷ X)
+      → remainder column X (column e) ≢ 0
+  left_of_independent X e out f nothing =
+      dependent-with_sum X (e ∷ X) e out (in_span-from_remainder X (column e) nothing) (is_member-head e X) (tail-IsSubset e X) f
 
-  test_from : (lo : ℕ) (X : List ℕ) → RisesFrom lo X → IsLinearlyIndependent column X → is_linearly_independent column X ≡ true
+  -- ---- the test and its sentence
+
+  -- whether a subset is not empty and its columns have the sum zero
+  abbrev against : List ℕ → Bool
+  against s = not (eqb (length s) 0) && eqb (xor_of column s) 0
+
+  pub IsLinearlyIndependent-from_test : (X : List ℕ) → IsRising X → is_linearly_independent column X ≡ true → IsLinearlyIndependent column X
   unfolding is_linearly_independent
-  test_from lo [] r f = refl
-  test_from lo (e ∷ X) r f =
-      let out : is_member e X ≡ false = false_from_ne_true (is_member e X) (λ h. let k = member_from (suc e) e X r.1 h in omega arith) in
-      and_from (is_linearly_independent column X) (not (eqb (remainder column X (column e)) 0))
-      (test_from (suc e) X r.1 (IsLinearlyIndependent-subset X (e ∷ X) (tail-IsSubset e X) f))
-      (ap not (ne_eqb _ _ (λ nothing.
-      dependent-with_sum X (e ∷ X) e out (in_span-from_remainder X (column e) nothing) (is_member-head e X) (tail-IsSubset e X) f)))
+  IsLinearlyIndependent-from_test X r h = record {
+    nonzero = λ s q ins some zero. both_ways (against s) (some_subset_none X s against (not-true _ h) r q ins)
+        (and_from (not (eqb (length s) 0)) (eqb (xor_of column s) 0) (ap not (has_members s some)) (eq-eqb _ _ zero));
+  }
+    where
+      has_members : (s : List ℕ) → s ≢ [] → eqb (length s) 0 ≡ false
+      has_members [] some = absurd (some refl)
+      has_members (x ∷ s) some = ne_eqb (length (x ∷ s)) 0 (omega arith)
 
   pub test_from-IsLinearlyIndependent : (X : List ℕ) → IsRising X → IsLinearlyIndependent column X → is_linearly_independent column X ≡ true
-  test_from-IsLinearlyIndependent X r f = test_from 0 X r.rises f
+  unfolding is_linearly_independent
+  test_from-IsLinearlyIndependent X r f = elim (cases_Bool (some_subset X against)) [
+    | inl h ↦ (let w = some_subset_gives X against r h in
+        let parts = and_parts (not (eqb (length w.0) 0)) (eqb (xor_of column w.0) 0) w.3 in
+        absurd (f.nonzero w.0 w.1 w.2 (λ q. eqb-false _ _ (not-true _ parts.0) (ap length q)) (eqb-true _ _ parts.1)))
+    | inr h ↦ ap not h
+  ]
 
   -- an independent set with one more column of which something is left, by the test
   pub test_with_one : (X : List ℕ) (x : ℕ) → IsRising X → is_linearly_independent column X ≡ true → remainder column X (column x) ≢ 0
       → is_linearly_independent column (with_one X x) ≡ true
   test_with_one X x r f ne =
       test_from-IsLinearlyIndependent (with_one X x) (IsRising-with_one X x r)
-      (IsLinearlyIndependent-more X x (with_one X x) (IsLinearlyIndependent-from_test X f) ne (λ z m o. others z m o))
+      (IsLinearlyIndependent-more X x (with_one X x) (IsLinearlyIndependent-from_test X r f) ne (λ z m o. others z m o))
     where
       others : (z : ℕ) → is_member z (with_one X x) ≡ true → eqb z x ≡ false → is_member z X ≡ true
       others z m o = grind (arith, set_members)

@@ -8,7 +8,7 @@ use Rattle.std.proofs.lemmas.Nat.{xor_comm, xor_lt, xor_shr, shr_high}
 use Rattle.std.proofs.lemmas.Nat.Bits.{bit_at_xor, shr_and_one, bit_at_above, bit_at-lt}
 use Rattle.std.proofs.Math.Nat.{lt-div-mul-add, mul-le-mul_right, pow-suc}
 use Rattle.std.proofs.Math.Pow.{pow-lt}
-use Rattle.mat_gf2.specs.Columns.{reduced}
+use Rattle.mat_gf2.specs.Eliminations.{reduced}
 
 -- q is the place of the highest bit of v
 pub record IsLeadingBit (v q : ℕ) : Type 0 where
@@ -62,7 +62,7 @@ clear_above v q i t l = bit_at_above v (suc q) i t.high (omega arith)
 
 -- ---- laws of exclusive-or
 
-pub xor_swap : (a b c : ℕ) → bit_xor (bit_xor a b) c ≡ bit_xor (bit_xor a c) b
+xor_swap : (a b c : ℕ) → bit_xor (bit_xor a b) c ≡ bit_xor (bit_xor a c) b
 xor_swap a b c = xor_assoc a b c ∙ ap (bit_xor a) (xor_comm b c) ∙ sym (xor_assoc a c b)
 
 pub xor_cancel : (a b : ℕ) → bit_xor a (bit_xor a b) ≡ b
@@ -98,11 +98,14 @@ sum_quotient v b p t =
     let quotient : bit_xor v b / 2 ^ p ≡ bit_xor (v / 2 ^ p) 1 = xor_shr v b p ∙ ap (bit_xor (v / 2 ^ p)) (leading_quotient b p t) in
     ap (λ x. x + bit_at v p * 2) quotient ∙ ap (λ x. bit_xor (v / 2 ^ p) 1 + x * 2) (sym (shr_and_one v p)) ∙ xor_add_and (v / 2 ^ p) 1
 
-pub reduced-taken : (v b : ℕ) → bit_xor v b < v → reduced v b ≡ bit_xor v b
+reduced-taken : (v b : ℕ) → bit_xor v b < v → reduced v b ≡ bit_xor v b
 reduced-taken v b l = rw (lt-ltb (bit_xor v b) v l) refl
 
-pub reduced-left : (v b : ℕ) → v ≤ bit_xor v b → reduced v b ≡ v
-reduced-left v b l = elim (cases_Bool (ltb (bit_xor v b) v)) [ inl e ↦ absurd (let k = ltb-true (bit_xor v b) v e in omega arith) | inr e ↦ rw e refl ]
+reduced-left : (v b : ℕ) → v ≤ bit_xor v b → reduced v b ≡ v
+reduced-left v b l = elim (cases_Bool (ltb (bit_xor v b) v)) [
+  | inl e ↦ absurd (let k = ltb-true (bit_xor v b) v e in omega arith)
+  | inr e ↦ rw e refl
+]
 
 reduced-set : (v b p : ℕ) → IsLeadingBit b p → bit_at v p ≡ 1 → reduced v b ≡ bit_xor v b
 reduced-set v b p t h =
@@ -153,7 +156,8 @@ pub reduced-xor : (v w b : ℕ) → reduced (bit_xor v w) b ≡ bit_xor (reduced
 reduced-xor v w b = elim (cases_lt 0 b) [
   | inl l ↦ reduced-xor_at v w b (leading_bit b) (leading_bit-is b l)
   | inr l ↦ (let e : b ≡ 0 = omega arith in
-      rw e (reduced-by_zero (bit_xor v w) ∙ ap (λ z. bit_xor z w) (sym (reduced-by_zero v)) ∙ ap (bit_xor (reduced v 0)) (sym (reduced-by_zero w))))
+      rw e (reduced-by_zero (bit_xor v w) ∙ ap (λ z. bit_xor z w) (sym (reduced-by_zero v))
+      ∙ ap (bit_xor (reduced v 0)) (sym (reduced-by_zero w))))
 ]
 
 -- ---- which bits are set afterwards
@@ -195,7 +199,8 @@ reduced-keeps_leading_bit v b p q s t d = elim (bit_cases v p) [
       let quotient : bit_xor v b / 2 ^ q ≡ 1 =
       xor_shr v b q ∙ ap (bit_xor (v / 2 ^ q)) (no_quotient b q (omega arith)) ∙ xor_zero_r (v / 2 ^ q) ∙ leading_quotient v q t in
       let big : b < 2 ^ suc q = omega arith in
-      subst (λ z. IsLeadingBit z q) (sym (reduced-set v b p s h)) (record { low = at_least (bit_xor v b) (2 ^ q) quotient; high = xor_lt (suc q) v b t.high big }))
+      subst (λ z. IsLeadingBit z q) (sym (reduced-set v b p s h))
+      (record { low = at_least (bit_xor v b) (2 ^ q) quotient; high = xor_lt (suc q) v b t.high big }))
 ]
   where
     at_least : (x m : ℕ) → x / m ≡ 1 → m ≤ x
