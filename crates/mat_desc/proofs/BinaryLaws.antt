@@ -1,6 +1,7 @@
 -- Words of binary digits: the last d digits of a number below 2 ^ d spell it, and a word of d digits has those of the number that it
 -- spells. Both are told of digits that stand behind others, whose number is doubled at each digit.
-use Rattle.std.proofs.Common.{◌≡◌, ℕ, zero, suc, ◌+◌, ◌-◌, ◌*◌, ◌%◌, ◌^◌, ◌<◌, ◌≤◌, Bool, true, false, ◌&&◌, ◌||◌, eqb, refl, sym, ap, ap₂, ◌∙◌, arith}
+use Rattle.std.proofs.Common.{◌≡◌, ℕ, zero, suc, ◌+◌, ◌-◌, ◌*◌, ◌%◌, ◌^◌, ◌<◌, ◌≤◌, Bool}
+use Rattle.std.proofs.Common.{true, false, ◌&&◌, ◌||◌, eqb, refl, sym, ap, ap₂, ◌∙◌, arith}
 use Rattle.std.proofs.Common.{List, [], ◌∷◌, ◌++◌, length, drop, get_or, Ok}
 use Rattle.std.specs.Int.{bit_at}
 use Rattle.std.specs.List.{list_all}
@@ -12,9 +13,10 @@ use Rattle.std.proofs.lemmas.Nat.Bits.{bit_at-lt, bit_at_lowest, bit_at_cat_high
 use Rattle.mat_words.specs.Words.{is_letter, is_word}
 use Rattle.mat_desc.specs.declared.refusal.DescKind.TheVariants.{NumberSpelling}
 use Rattle.mat_desc.specs.Binary.{binary, is_binary, binary_value}
-use Rattle.mat_desc.specs.Faults.{WordsLeft}
-use Rattle.mat_desc.specs.Reading.{word_at, binary_at}
-use Rattle.mat_desc.proofs.ReadingSteps.{found-same, test_found}
+use Rattle.mat_words.specs.Cursors.{WordsLeft}
+use Rattle.mat_words.specs.Reading.{word_at}
+use Rattle.mat_desc.specs.Reading.{binary_at}
+use Rattle.mat_words.proofs.ReadingSteps.{found-same, test_found}
 
 -- ---- the digits of a number
 
@@ -92,9 +94,11 @@ word_spelled (b ∷ word) known =
     let low = binary_value 0 word in
     let power : 2 ^ suc (length word) ≡ 2 * 2 ^ length word = pow-succ' 2 (length word) in
     record {
-      below = first_below (b - 48) (2 ^ length word) (2 ^ suc (length word)) low (binary_value (2 * 0 + (b - 48)) word) digit.0 rest.below power (rest.behind (2 * 0 + (b - 48)));
+      below = first_below (b - 48) (2 ^ length word) (2 ^ suc (length word)) low (binary_value (2 * 0 + (b - 48)) word) digit.0 rest.below
+          power (rest.behind (2 * 0 + (b - 48)));
       behind = λ y.
-          first_behind y (b - 48) (2 ^ length word) (2 ^ suc (length word)) low (binary_value (2 * y + (b - 48)) word) (binary_value (2 * 0 + (b - 48)) word)
+          first_behind y (b - 48) (2 ^ length word) (2 ^ suc (length word)) low (binary_value (2 * y + (b - 48)) word)
+          (binary_value (2 * 0 + (b - 48)) word)
           power (rest.behind (2 * y + (b - 48))) (rest.behind (2 * 0 + (b - 48)));
       digits = λ y.
           let here : bit_at (binary_value (2 * y + (b - 48)) word) (length word) ≡ b - 48 =
@@ -103,7 +107,8 @@ word_spelled (b ∷ word) known =
     }
   where
     -- the digit in front is c, behind the digits of y, and its place is worth the power; double is what the place before it is worth
-    first_below : (c power double low value : ℕ) → c < 2 → low < power → double ≡ 2 * power → value ≡ (2 * 0 + c) * power + low → value < double
+    first_below : (c power double low value : ℕ) → c < 2 → low < power → double ≡ 2 * power → value ≡ (2 * 0 + c) * power + low
+        → value < double
     first_below zero power double low value h lt twice e = omega arith
     first_below (suc zero) power double low value h lt twice e = omega arith
     first_below (suc (suc c)) power double low value h lt twice e = absurd (omega arith)
@@ -141,11 +146,12 @@ pub binary_found : (d : ℕ) (w : WordsLeft) (z : ℕ) (q : WordsLeft) → binar
 unfolding binary_at word_at
 binary_found d w z q e = from w.words refl e
   where
-    from : (words : List (List ℕ)) → w.words ≡ words → binary_at d (record { line = w.line; words = words }) ≡ Ok (z, q) → IsBinaryRead d w z q
+    from : (words : List (List ℕ)) → w.words ≡ words → binary_at d (record { line = w.line; words = words }) ≡ Ok (z, q)
+        → IsBinaryRead d w z q
     from [] is h = absurd cc
     from (v ∷ vs) is h =
         let read : ℕ × WordsLeft = (binary_value 0 v, record { line = w.line; words = vs }) in
-        let test = test_found (eqb (length v) d && is_binary v) (NumberSpelling, w.line) (Ok read) (z, q) h in
+        let test = test_found (eqb (length v) d && is_binary v) (NumberSpelling, w.line) _ (z, q) h in
         let same = found-same read (z, q) test.1 in
         let parts = and_parts (eqb (length v) d) (is_binary v) test.0 in
         let laws = binary-binary_value d v (eqb-true (length v) d parts.0) parts.1 in
@@ -160,7 +166,8 @@ pub binary_again : (d n z : ℕ) (words : List (List ℕ)) → z < 2 ^ d
     → binary_at d (record { line = n; words = binary d z ∷ words }) ≡ Ok (z, record { line = n; words = words })
 unfolding binary_at word_at
 binary_again d n z words below =
-    let test : (eqb (length (binary d z)) d && is_binary (binary d z)) ≡ true = and_from _ _ (eq-eqb _ _ (length-binary d z)) (is_binary-binary d z) in
+    let test : (eqb (length (binary d z)) d && is_binary (binary d z)) ≡ true =
+    and_from _ _ (eq-eqb _ _ (length-binary d z)) (is_binary-binary d z) in
     rw (test, binary_value-binary d z below) refl
 
 -- ---- digit by digit, as a loop reads and writes them
@@ -193,7 +200,8 @@ read_refused word i value lt refused so_far =
     sym so_far.known ∙ at_drop_more is_binary word i 0 lt ∙ ap (λ (t : Bool). t && is_binary (drop (i + 1) word)) refused
 
 -- all digits were read
-pub read_done : (word : List ℕ) (i value : ℕ) → length word ≤ i → IsReadSoFar word i value → (is_binary word ≡ true) × (value ≡ binary_value 0 word)
+pub read_done : (word : List ℕ) (i value : ℕ) → length word ≤ i → IsReadSoFar word i value
+    → (is_binary word ≡ true) × (value ≡ binary_value 0 word)
 read_done word i value done so_far =
     (sym so_far.known ∙ at_drop_all is_binary word i done, sym (at_drop_all (binary_value value) word i done) ∙ so_far.spelled)
 

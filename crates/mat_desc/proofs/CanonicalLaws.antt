@@ -11,7 +11,8 @@ use Rattle.mat_words.specs.Lines.{Line}
 use Rattle.mat_any.specs.Trees.{Tree, uniform, partition, laminar, graphic, transversal, gammoid, gf2, dual, truncate, restrict, contract}
 use Rattle.mat_desc.specs.Instances.{Instance, pair, list, graph, rooted, coloured, table}
 use Rattle.mat_words.specs.Writing.{end_line, members_line}
-use Rattle.mat_desc.specs.Grammar.{Lists, CappedLines, FamilyLines, MatroidLines, MatroidsLines, InstanceLines, IsValidTree, IsValidMatroid, IsValid, Spells}
+use Rattle.mat_desc.specs.Grammar.{Lists, CappedLines, FamilyLines, MatroidLines, MatroidsLines}
+use Rattle.mat_desc.specs.Grammar.{InstanceLines, IsValidTree, IsValidMatroid, IsValid, Spells}
 use Rattle.mat_desc.specs.Canonical.{capped_lines, matroid_lines, canonical_lines, canonical_text}
 use Rattle.mat_desc.proofs.ProblemLaws.{one_problem}
 
@@ -20,7 +21,8 @@ set_lists : (n : ℕ) (set : List ℕ) → IsSet n set → Lists set set
 set_lists n set is = record { distinct = AreDistinct-rising set is.rising; members = λ x. refl }
 
 -- the lines of the sets with their caps, by their keyword
-capped_lines_spelled : (key : List ℕ) (n : ℕ) (sets : List (List ℕ)) (caps : List ℕ) (rest : List Line) → length caps ≡ length sets → All (IsSet n) sets
+capped_lines_spelled : (key : List ℕ) (n : ℕ) (sets : List (List ℕ)) (caps : List ℕ) (rest : List Line) → length caps ≡ length sets
+    → All (IsSet n) sets
     → CappedLines key sets caps (capped_lines key sets caps ++ rest) rest
 capped_lines_spelled key n [] [] rest same in_range = refl
 capped_lines_spelled key n [] (cap ∷ caps) rest same in_range = absurd (omega arith)
@@ -70,13 +72,15 @@ matroid_spelled n (truncate cap t) rest valid = (matroid_lines t ++ rest, refl, 
 matroid_spelled n (restrict kept t) rest valid = (kept, matroid_lines t ++ rest, set_lists n kept valid.0, refl, matroid_spelled n t rest valid.1)
 matroid_spelled n (contract away t) rest valid = (away, matroid_lines t ++ rest, set_lists n away valid.0, refl, matroid_spelled n t rest valid.1)
 
-matroids_spelled : (n : ℕ) (matroids : List Tree) (rest : List Line) → All (IsValidMatroid n) matroids → MatroidsLines matroids (flat_map matroid_lines matroids ++ rest) rest
+matroids_spelled : (n : ℕ) (matroids : List Tree) (rest : List Line) → All (IsValidMatroid n) matroids
+    → MatroidsLines matroids (flat_map matroid_lines matroids ++ rest) rest
 matroids_spelled n [] rest valid = refl
 matroids_spelled n (matroid ∷ matroids) rest valid =
     let behind = flat_map matroid_lines matroids ++ rest in
     let here = matroid_spelled n matroid behind (All-head (IsValidMatroid n) matroid matroids valid).0 in (
       behind,
-      subst (λ (ls : List Line). MatroidLines matroid ls behind) (sym (append_assoc (matroid_lines matroid) (flat_map matroid_lines matroids) rest)) here,
+      subst (λ (ls : List Line). MatroidLines matroid ls behind)
+          (sym (append_assoc (matroid_lines matroid) (flat_map matroid_lines matroids) rest)) here,
       matroids_spelled n matroids rest (All-tail (IsValidMatroid n) matroid matroids valid),
     )
 
@@ -87,10 +91,15 @@ lines_spelled (pair weights first second) valid =
       (matroid_lines first ++ matroid_lines second) ++ end_line ∷ [],
       behind,
       refl,
-      subst (λ (ls : List Line). MatroidLines first ls behind) (sym (append_assoc (matroid_lines first) (matroid_lines second) (end_line ∷ []))) here,
+      subst (λ (ls : List Line). MatroidLines first ls behind)
+          (sym (append_assoc (matroid_lines first) (matroid_lines second) (end_line ∷ []))) here,
       matroid_spelled (length weights) second (end_line ∷ []) valid.2.0,
     )
-lines_spelled (list weights matroids) valid = (flat_map matroid_lines matroids ++ end_line ∷ [], refl, matroids_spelled (length weights) matroids (end_line ∷ []) valid.3)
+lines_spelled (list weights matroids) valid = (
+  flat_map matroid_lines matroids ++ end_line ∷ [],
+  refl,
+  matroids_spelled (length weights) matroids (end_line ∷ []) valid.3,
+)
 lines_spelled (graph vertices edges) valid = refl
 lines_spelled (rooted vertices root arcs costs) valid = refl
 lines_spelled (coloured vertices colours edges colour_of weights) valid = refl
@@ -105,5 +114,6 @@ canonical_spelled instance valid = record { valid = valid; lines = canonical_lin
 pub canonical_equal : (s t : List ℕ) (p q : Instance) → Spells s p → Spells t q → (p ≡ q) ↔ (canonical_text p ≡ canonical_text q)
 canonical_equal s t p q first second = (
   λ e. ap canonical_text e,
-  λ e. one_problem (canonical_text p) p q (canonical_spelled p first.valid) (subst (λ (text : List ℕ). Spells text q) (sym e) (canonical_spelled q second.valid)),
+  λ e. one_problem (canonical_text p) p q (canonical_spelled p first.valid)
+      (subst (λ (text : List ℕ). Spells text q) (sym e) (canonical_spelled q second.valid)),
 )

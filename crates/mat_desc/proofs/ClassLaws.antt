@@ -1,5 +1,6 @@
 -- Class lines: what is read is spelled so, and what is spelled so is read.
-use Rattle.std.proofs.Common.{◌≡◌, ℕ, zero, suc, ◌+◌, ◌≤◌, Bool, true, false, ◌||◌, List, [], ◌∷◌, length, Ok, refl, ap, subst, ◌∙◌, arith}
+use Rattle.std.proofs.Common.{◌≡◌, ℕ, zero, suc, ◌+◌, ◌≤◌, Bool, true, false, ◌||◌}
+use Rattle.std.proofs.Common.{List, [], ◌∷◌, length, Ok, refl, ap, subst, ◌∙◌, arith}
 use Rattle.std.specs.Prelude.{codes}
 use Rattle.std.specs.List.{All}
 use Rattle.std.proofs.lemmas.List.Elements.{All-nil, All-cons, All-head, All-tail, All-weaker}
@@ -8,29 +9,33 @@ use Rattle.mat_sets.specs.Families.{indicator, multiplicity, AreDisjoint}
 use Rattle.mat_count.specs.Partitions.{IsPartition}
 use Rattle.mat_words.specs.Lines.{Line}
 use Rattle.mat_desc.specs.Limits.{most_elements, most_sets}
-use Rattle.mat_desc.specs.Faults.{◌>>=◌, LinesLeft}
+use Rattle.mat_words.specs.Cursors.{LinesLeft}
 use Rattle.mat_desc.specs.Reading.{class_at, classes_at}
 use Rattle.mat_desc.specs.Grammar.{Lists, CappedLines, AreClasses}
-use Rattle.mat_desc.proofs.ReadingSteps.{found-same, bind_found}
-use Rattle.mat_desc.proofs.LineLaws.{AreLeft}
+use Rattle.mat_words.proofs.ReadingSteps.{found-same, bind_found}
+use Rattle.mat_words.proofs.LineReading.{AreLeft}
 use Rattle.mat_desc.proofs.CappedLineLaws.{listed_line, IsCappedRead, capped_read, capped_again}
 use Rattle.mat_desc.proofs.ElementLaws.{with_each, is_member-with_each}
 
 -- a class line was read: its elements are fresh, and taken behind it
-class_read : (n : ℕ) (taken : List ℕ) (p : LinesLeft) (cap : ℕ) (class left : List ℕ) (q : LinesLeft) → class_at n taken p ≡ Ok (cap, class, left, q)
+class_read : (n : ℕ) (taken : List ℕ) (p : LinesLeft) (cap : ℕ) (class left : List ℕ) (q : LinesLeft)
+    → class_at n taken p ≡ Ok (cap, class, left, q)
     → IsCappedRead (codes "class") n taken p cap class left q
 unfolding class_at
 class_read n taken p cap class left q e = capped_read (codes "class") n taken p cap class left q e
 
-class_again : (n : ℕ) (taken : List ℕ) (p : LinesLeft) (cap : ℕ) (class xs : List ℕ) (rest : List Line) → cap ≤ most_elements → IsSet n class → Lists xs class
+class_again : (n : ℕ) (taken : List ℕ) (p : LinesLeft) (cap : ℕ) (class xs : List ℕ) (rest : List Line) → cap ≤ most_elements
+    → IsSet n class → Lists xs class
     → ((x : ℕ) → is_member x class ≡ true → is_member x taken ≡ false) → AreLeft (listed_line (codes "class") cap xs ∷ rest) p
     → (q : LinesLeft) × (class_at n taken p ≡ Ok (cap, class, with_each taken xs, q)) × AreLeft rest q
 unfolding class_at
-class_again n taken p cap class xs rest small set lists fresh left = capped_again (codes "class") n taken p cap class xs rest refl small set lists fresh left
+class_again n taken p cap class xs rest small set lists fresh left =
+    capped_again (codes "class") n taken p cap class xs rest refl small set lists fresh left
 
 -- ---- all classes
 
-apart_found : (a b c : Bool) (m : ℕ) → (a ≡ true → b ≡ false) → c ≡ (a || b) → m + indicator c ≤ 1 → indicator a + m + indicator b ≤ 1
+apart_found : (a b c : Bool) (m : ℕ) → (a ≡ true → b ≡ false) → c ≡ (a || b) → m + indicator c ≤ 1
+    → indicator a + m + indicator b ≤ 1
 apart_found true true c m fresh left so_far = absurd (cc (fresh refl))
 apart_found true false true m fresh left so_far = omega arith
 apart_found true false false m fresh left so_far = absurd cc
@@ -50,19 +55,22 @@ apart_left true b false m left h = absurd cc
 apart_left false b c m left h = rw left (omega arith)
 
 -- class lines were read, no two of which share an element, nor any with those that were taken before
-pub record AreClassesRead (n many : ℕ) (taken : List ℕ) (p : LinesLeft) (classes : List (List ℕ)) (caps : List ℕ) (q : LinesLeft) : Type 0 where
+pub record AreClassesRead (n many : ℕ) (taken : List ℕ) (p : LinesLeft) (classes : List (List ℕ)) (caps : List ℕ)
+    (q : LinesLeft) : Type 0 where
   pub count : length classes ≡ many
   pub as_many : length caps ≡ length classes
   pub small : All (λ cap. cap ≤ most_elements) caps
   pub sets : All (IsSet n) classes
   pub apart : (x : ℕ) → multiplicity x classes + indicator (is_member x taken) ≤ 1
-  pub spelled : (rest : List Line) → AreLeft rest q → (lines : List Line) × CappedLines (codes "class") classes caps lines rest × AreLeft lines p
+  pub spelled : (rest : List Line) → AreLeft rest q → (lines : List Line) × CappedLines (codes "class") classes caps lines rest × AreLeft
+      lines p
 
 indicator_small : (b : Bool) → 0 + indicator b ≤ 1
 indicator_small true = omega arith
 indicator_small false = omega arith
 
-pub classes_read : (n many : ℕ) (taken : List ℕ) (p : LinesLeft) (classes : List (List ℕ)) (caps : List ℕ) (q : LinesLeft) → classes_at n many taken p ≡ Ok (classes, caps, q) → AreClassesRead n many taken p classes caps q
+pub classes_read : (n many : ℕ) (taken : List ℕ) (p : LinesLeft) (classes : List (List ℕ)) (caps : List ℕ) (q : LinesLeft)
+    → classes_at n many taken p ≡ Ok (classes, caps, q) → AreClassesRead n many taken p classes caps q
 unfolding classes_at multiplicity
 classes_read n zero taken p classes caps q e =
     let same = found-same ([], [], p) (classes, caps, q) e in
@@ -76,8 +84,8 @@ classes_read n zero taken p classes caps q e =
     } in
     subst (λ (r : List (List ℕ) × List ℕ × LinesLeft). AreClassesRead n 0 taken p r.0 r.1 r.2) same none
 classes_read n (suc many) taken p classes caps q e =
-    let first = bind_found (class_at n taken p) (λ first. classes_at n many first.2 first.3 >>= λ others. Ok (first.1 ∷ others.0, first.0 ∷ others.1, others.2)) (classes, caps, q) e in
-    let others = bind_found (classes_at n many first.0.2 first.0.3) (λ others. Ok (first.0.1 ∷ others.0, first.0.0 ∷ others.1, others.2)) (classes, caps, q) first.2 in
+    let first = bind_found (class_at n taken p) _ (classes, caps, q) e in
+    let others = bind_found (classes_at n many first.0.2 first.0.3) _ (classes, caps, q) first.2 in
     let same = found-same (first.0.1 ∷ others.0.0, first.0.0 ∷ others.0.1, others.0.2) (classes, caps, q) others.2 in
     let one = class_read n taken p first.0.0 first.0.1 first.0.2 first.0.3 first.1 in
     let more = classes_read n many first.0.2 first.0.3 others.0.0 others.0.1 others.0.2 others.1 in
@@ -86,15 +94,18 @@ classes_read n (suc many) taken p classes caps q e =
       as_many = ap suc more.as_many;
       small = All-cons (λ cap. cap ≤ most_elements) first.0.0 others.0.1 one.small more.small;
       sets = All-cons (IsSet n) first.0.1 others.0.0 one.in_range more.sets;
-      apart = λ x. apart_found (is_member x first.0.1) (is_member x taken) (is_member x first.0.2) (multiplicity x others.0.0) (one.fresh x) (one.taken_left x) (more.apart x);
+      apart = λ x. apart_found (is_member x first.0.1) (is_member x taken) (is_member x first.0.2) (multiplicity x others.0.0) (one.fresh x)
+          (one.taken_left x) (more.apart x);
       spelled = λ rest left.
           let behind = more.spelled rest left in
           (listed_line (codes "class") first.0.0 one.xs ∷ behind.0, (one.xs, behind.0, one.lists, refl, behind.1), one.spelled behind.0 behind.2);
     } in
     subst (λ (r : List (List ℕ) × List ℕ × LinesLeft). AreClassesRead n (suc many) taken p r.0 r.1 r.2) same all
 
-pub classes_again : (n : ℕ) (taken : List ℕ) (p : LinesLeft) (classes : List (List ℕ)) (caps : List ℕ) (lines rest : List Line) → All (λ cap. cap ≤ most_elements) caps → All (IsSet n) classes
-    → ((x : ℕ) → multiplicity x classes + indicator (is_member x taken) ≤ 1) → CappedLines (codes "class") classes caps lines rest → AreLeft lines p
+pub classes_again : (n : ℕ) (taken : List ℕ) (p : LinesLeft) (classes : List (List ℕ)) (caps : List ℕ) (lines rest : List Line)
+    → All (λ cap. cap ≤ most_elements) caps → All (IsSet n) classes
+    → ((x : ℕ) → multiplicity x classes + indicator (is_member x taken) ≤ 1) → CappedLines (codes "class") classes caps lines rest
+    → AreLeft lines p
     → (q : LinesLeft) × (classes_at n (length classes) taken p ≡ Ok (classes, caps, q)) × AreLeft rest q
 unfolding classes_at multiplicity
 classes_again n taken p [] [] lines rest small sets apart spelled left = (p, refl, subst (λ (ls : List Line). AreLeft ls p) spelled left)
@@ -107,22 +118,31 @@ classes_again n taken p (class ∷ classes) (cap ∷ caps) lines rest small sets
     let here = subst (λ (ls : List Line). AreLeft ls p) spelled.3 left in
     let first = class_again n taken p cap class xs spelled.1 (All-head (λ cap. cap ≤ most_elements) cap caps small) set spelled.2 fresh here in
     let taken_left = λ (x : ℕ). is_member-with_each x taken xs ∙ ap (λ (b : Bool). b || is_member x taken) (spelled.2.members x) in
-    let later = λ (x : ℕ). apart_left (is_member x class) (is_member x taken) (is_member x (with_each taken xs)) (multiplicity x classes) (taken_left x) (apart x) in
-    let others = classes_again n (with_each taken xs) first.0 classes caps spelled.1 rest (All-tail (λ cap. cap ≤ most_elements) cap caps small) (All-tail (IsSet n) class classes sets) later spelled.4 first.2 in
+    let later = λ (x : ℕ). apart_left (is_member x class) (is_member x taken) (is_member x (with_each taken xs)) (multiplicity x classes)
+    (taken_left x) (apart x) in
+    let others = classes_again n (with_each taken xs) first.0 classes caps spelled.1 rest
+    (All-tail (λ cap. cap ≤ most_elements) cap caps small) (All-tail (IsSet n) class classes sets) later spelled.4 first.2 in
     (others.0, rw (first.1, others.1) refl, others.2)
 
 -- ---- the classes of a partition
 
-once_only : (n many : ℕ) (p : LinesLeft) (classes : List (List ℕ)) (caps : List ℕ) (q : LinesLeft) → AreClassesRead n many [] p classes caps q → AreDisjoint classes
+once_only : (n many : ℕ) (p : LinesLeft) (classes : List (List ℕ)) (caps : List ℕ) (q : LinesLeft)
+    → AreClassesRead n many [] p classes caps q → AreDisjoint classes
 once_only n many p classes caps q read = record { once = λ x. omega (arith, read.apart x) }
 
 -- classes that are read meet the conditions of a partition matroid
-pub classes_sound : (n many : ℕ) (p : LinesLeft) (classes : List (List ℕ)) (caps : List ℕ) (q : LinesLeft) → classes_at n many [] p ≡ Ok (classes, caps, q) → IsPartition n classes caps
+pub classes_sound : (n many : ℕ) (p : LinesLeft) (classes : List (List ℕ)) (caps : List ℕ) (q : LinesLeft)
+    → classes_at n many [] p ≡ Ok (classes, caps, q) → IsPartition n classes caps
 classes_sound n many p classes caps q e =
     let read = classes_read n many [] p classes caps q e in
-    record { capped = read.as_many; inside = All-weaker (IsSet n) (AllBelow n) (λ class set. set.below) classes read.sets; disjoint = once_only n many p classes caps q read }
+    record {
+      capped = read.as_many;
+      inside = All-weaker (IsSet n) (AllBelow n) (λ class set. set.below) classes read.sets;
+      disjoint = once_only n many p classes caps q read;
+    }
 
-pub classes_valid : (n many : ℕ) (p : LinesLeft) (classes : List (List ℕ)) (caps : List ℕ) (q : LinesLeft) → many ≤ most_sets → AreClassesRead n many [] p classes caps q → AreClasses n classes caps
+pub classes_valid : (n many : ℕ) (p : LinesLeft) (classes : List (List ℕ)) (caps : List ℕ) (q : LinesLeft) → many ≤ most_sets
+    → AreClassesRead n many [] p classes caps q → AreClasses n classes caps
 classes_valid n many p classes caps q few read = record {
   few = omega (arith, read.count);
   as_many = read.as_many;

@@ -1,9 +1,12 @@
 -- Class lines that are read one after the other, as a loop reads them.
-use Rattle.std.proofs.Common.{◌≡◌, ℕ, suc, ◌-◌, ◌+◌, ◌≤◌, ◌<◌, List, [], ◌∷◌, ◌++◌, Result, Ok, Err, refl, sym, ap₂, ◌∙◌, append_assoc, arith}
+use Rattle.std.proofs.Common.{◌≡◌, ℕ, suc, ◌-◌, ◌+◌, ◌≤◌, ◌<◌, List, [], ◌∷◌}
+use Rattle.std.proofs.Common.{◌++◌, Result, Ok, Err, refl, sym, ap₂, ◌∙◌, append_assoc, arith}
 use Rattle.std.proofs.lemmas.List.{append-nil}
 use Rattle.mat_desc.specs.declared.refusal.DescRefusal.{DescRefusal}
 use Rattle.mat_desc.specs.declared.refusal.DescRefusal.TheVariants as refusals
-use Rattle.mat_desc.specs.Faults.{◌>>=◌, Fault, Fails, LinesLeft}
+use Rattle.mat_words.specs.Cursors.{LinesLeft}
+use Rattle.mat_words.specs.Steps.{◌>>=◌}
+use Rattle.mat_desc.specs.Faults.{Fault, Fails}
 use Rattle.mat_desc.specs.Reading.{class_at, classes_at}
 
 -- sets and their caps, and the lines behind them
@@ -20,19 +23,23 @@ with_front-cons sets caps set cap (Ok x) = simp append_assoc
 with_front-cons sets caps set cap (Err fault) = refl
 
 -- one more class was read
-pub classes_more : (n many i : ℕ) (taken : List ℕ) (p : LinesLeft) (classes : List (List ℕ)) (caps : List ℕ) (cap : ℕ) (class taken_more : List ℕ) (after : LinesLeft) (total : SetsRead)
+pub classes_more : (n many i : ℕ) (taken : List ℕ) (p : LinesLeft) (classes : List (List ℕ)) (caps : List ℕ) (cap : ℕ)
+    (class taken_more : List ℕ) (after : LinesLeft) (total : SetsRead)
     → i < many → class_at n taken p ≡ Ok (cap, class, taken_more, after) → with_front classes caps (classes_at n (many - i) taken p) ≡ total
     → with_front (classes ++ class ∷ []) (caps ++ cap ∷ []) (classes_at n (many - (i + 1)) taken_more after) ≡ total
 unfolding classes_at
 classes_more n many i taken p classes caps cap class taken_more after total lt read so_far =
     let left : many - i ≡ suc (many - (i + 1)) = omega arith in
-    let step : with_front classes caps (classes_at n (many - i) taken p) ≡ with_front (classes ++ class ∷ []) (caps ++ cap ∷ []) (classes_at n (many - (i + 1)) taken_more after) =
+    let step : with_front classes caps (classes_at n (many - i) taken p) ≡ with_front (classes ++ class ∷ []) (caps ++ cap ∷ [])
+    (classes_at n (many - (i + 1)) taken_more after) =
     rw (left, read) (with_front-cons classes caps class cap (classes_at n (many - (i + 1)) taken_more after)) in
     sym step ∙ so_far
 
 -- the next class fails
-pub classes_fail : (refusal : DescRefusal) (n many i : ℕ) (taken : List ℕ) (p : LinesLeft) (classes : List (List ℕ)) (caps : List ℕ) (total : SetsRead)
-    → i < many → Fails refusal (class_at n taken p) → with_front classes caps (classes_at n (many - i) taken p) ≡ total → Fails refusal total
+pub classes_fail : (refusal : DescRefusal) (n many i : ℕ) (taken : List ℕ) (p : LinesLeft) (classes : List (List ℕ)) (caps : List ℕ)
+    (total : SetsRead)
+    → i < many → Fails refusal (class_at n taken p) → with_front classes caps (classes_at n (many - i) taken p) ≡ total
+    → Fails refusal total
 unfolding classes_at
 classes_fail refusals.Memory n many i taken p classes caps total lt failed so_far = tt
 classes_fail (refusals.Fault kind line) n many i taken p classes caps total lt failed so_far =
@@ -46,5 +53,6 @@ pub classes_done : (n many i : ℕ) (taken : List ℕ) (p : LinesLeft) (classes 
 unfolding classes_at
 classes_done n many i taken p classes caps total le so_far =
     let left : many - i ≡ 0 = omega arith in
-    let step : with_front classes caps (classes_at n (many - i) taken p) ≡ Ok (classes, caps, p) = rw left (ap₂ (λ (a : List (List ℕ)) (b : List ℕ). Ok (a, b, p)) (append-nil classes) (append-nil caps)) in
+    let step : with_front classes caps (classes_at n (many - i) taken p) ≡ Ok (classes, caps, p) =
+    rw left (ap₂ (λ (a : List (List ℕ)) (b : List ℕ). Ok (a, b, p)) (append-nil classes) (append-nil caps)) in
     sym so_far ∙ step

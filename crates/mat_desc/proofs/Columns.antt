@@ -1,10 +1,12 @@
 -- Lists that are read side by side, one item of each on a line.
-use Rattle.std.proofs.Common.{◌≡◌, ℕ, suc, ℤ, List, [], ◌∷◌, ◌++◌, length, map, refl, ap, sym, ◌∙◌, arith}
+use Rattle.std.proofs.Common.{◌≡◌, ℕ, suc, List, [], ◌∷◌, ◌++◌, length, map, refl, ap, sym, ◌∙◌, arith}
 use Rattle.std.specs.List.{zip}
 use Rattle.std.proofs.lemmas.Slice.Zip.{firsts-zip, seconds-zip}
+use Rattle.mat_sets.specs.declared.weight.Weight.{Weight}
 
 -- one more item of each list
-pub zip-push : {A B : Type 0} (xs : List A) (ys : List B) (x : A) (y : B) → length ys ≡ length xs → zip (xs ++ x ∷ []) (ys ++ y ∷ []) ≡ zip xs ys ++ (x, y) ∷ []
+pub zip-push : {A B : Type 0} (xs : List A) (ys : List B) (x : A) (y : B) → length ys ≡ length xs
+    → zip (xs ++ x ∷ []) (ys ++ y ∷ []) ≡ zip xs ys ++ (x, y) ∷ []
 zip-push [] [] x y same = refl
 zip-push [] (b ∷ ys) x y same = absurd (omega arith)
 zip-push (a ∷ xs) [] x y same = absurd (omega arith)
@@ -17,31 +19,38 @@ length-zip_same (a ∷ xs) [] same = absurd (omega arith)
 length-zip_same (a ∷ xs) (b ∷ ys) same = ap suc (length-zip_same xs ys (omega arith))
 
 -- one more item of each of three lists
-pub zip-push_two : {A B C : Type 0} (xs : List A) (ys : List B) (zs : List C) (x : A) (y : B) (z : C) → length ys ≡ length xs → length zs ≡ length xs
+pub zip-push_two : {A B C : Type 0} (xs : List A) (ys : List B) (zs : List C) (x : A) (y : B) (z : C) → length ys ≡ length xs
+    → length zs ≡ length xs
     → zip (xs ++ x ∷ []) (zip (ys ++ y ∷ []) (zs ++ z ∷ [])) ≡ zip xs (zip ys zs) ++ (x, (y, z)) ∷ []
 zip-push_two {A} {B} {C} xs ys zs x y z one two =
-    ap (λ (t : List (B × C)). zip (xs ++ x ∷ []) t) (zip-push ys zs y z (two ∙ sym one)) ∙ zip-push xs (zip ys zs) x (y, z) (length-zip_same ys zs (two ∙ sym one) ∙ one)
+    ap (λ (t : List (B × C)). zip (xs ++ x ∷ []) t) (zip-push ys zs y z (two ∙ sym one)) ∙ zip-push xs (zip ys zs) x (y, z)
+    (length-zip_same ys zs (two ∙ sym one) ∙ one)
 
 -- the colours and the weights of coloured edges
-pub colours-zip : (edges : List (ℕ × ℕ)) (colours : List ℕ) (weights : List ℤ) → length colours ≡ length edges → length weights ≡ length edges
-    → map (λ (e : (ℕ × ℕ) × (ℕ × ℤ)). e.1.0) (zip edges (zip colours weights)) ≡ colours
+pub colours-zip : (edges : List (ℕ × ℕ)) (colours : List ℕ) (weights : List Weight) → length colours ≡ length edges
+    → length weights ≡ length edges
+    → map (λ (e : (ℕ × ℕ) × (ℕ × Weight)). e.1.0) (zip edges (zip colours weights)) ≡ colours
 colours-zip [] [] weights one two = refl
 colours-zip [] (c ∷ colours) weights one two = absurd (omega arith)
 colours-zip (e ∷ edges) [] weights one two = absurd (omega arith)
 colours-zip (e ∷ edges) (c ∷ colours) [] one two = absurd (omega arith)
-colours-zip (e ∷ edges) (c ∷ colours) (w ∷ weights) one two = ap (λ (t : List ℕ). c ∷ t) (colours-zip edges colours weights (omega arith) (omega arith))
+colours-zip (e ∷ edges) (c ∷ colours) (w ∷ weights) one two =
+    ap (λ (t : List ℕ). c ∷ t) (colours-zip edges colours weights (omega arith) (omega arith))
 
-pub weights-zip : (edges : List (ℕ × ℕ)) (colours : List ℕ) (weights : List ℤ) → length colours ≡ length edges → length weights ≡ length edges
-    → map (λ (e : (ℕ × ℕ) × (ℕ × ℤ)). e.1.1) (zip edges (zip colours weights)) ≡ weights
+pub weights-zip : (edges : List (ℕ × ℕ)) (colours : List ℕ) (weights : List Weight) → length colours ≡ length edges
+    → length weights ≡ length edges
+    → map (λ (e : (ℕ × ℕ) × (ℕ × Weight)). e.1.1) (zip edges (zip colours weights)) ≡ weights
 weights-zip [] [] [] one two = refl
 weights-zip [] [] (w ∷ weights) one two = absurd (omega arith)
 weights-zip [] (c ∷ colours) weights one two = absurd (omega arith)
 weights-zip (e ∷ edges) [] weights one two = absurd (omega arith)
 weights-zip (e ∷ edges) (c ∷ colours) [] one two = absurd (omega arith)
-weights-zip (e ∷ edges) (c ∷ colours) (w ∷ weights) one two = ap (λ (t : List ℤ). w ∷ t) (weights-zip edges colours weights (omega arith) (omega arith))
+weights-zip (e ∷ edges) (c ∷ colours) (w ∷ weights) one two =
+    ap (λ (t : List Weight). w ∷ t) (weights-zip edges colours weights (omega arith) (omega arith))
 
-pub edges-zip : (edges : List (ℕ × ℕ)) (colours : List ℕ) (weights : List ℤ) → length colours ≡ length edges → length weights ≡ length edges
-    → map (λ (e : (ℕ × ℕ) × (ℕ × ℤ)). e.0) (zip edges (zip colours weights)) ≡ edges
+pub edges-zip : (edges : List (ℕ × ℕ)) (colours : List ℕ) (weights : List Weight) → length colours ≡ length edges
+    → length weights ≡ length edges
+    → map (λ (e : (ℕ × ℕ) × (ℕ × Weight)). e.0) (zip edges (zip colours weights)) ≡ edges
 edges-zip edges colours weights one two = firsts-zip edges (zip colours weights) (length-zip_same colours weights (omega arith) ∙ one)
 
 pub ruleset columns = (firsts-zip, seconds-zip, edges-zip, colours-zip, weights-zip)

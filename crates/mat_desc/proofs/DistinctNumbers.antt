@@ -1,18 +1,21 @@
 -- Different numbers that are read one after the other, as a loop reads them.
-use Rattle.std.proofs.Common.{◌≡◌, ℕ, suc, ◌-◌, ◌+◌, ◌≤◌, ◌<◌, true, false, List, [], ◌∷◌, ◌++◌, Ok, Err, Result, refl, sym, ap, ◌∙◌, arith}
+use Rattle.std.proofs.Common.{◌≡◌, ℕ, suc, ◌-◌, ◌+◌, ◌≤◌, ◌<◌, true, false, List, []}
+use Rattle.std.proofs.Common.{◌∷◌, ◌++◌, Ok, Err, Result, refl, sym, ap, ◌∙◌, arith}
 use Rattle.std.proofs.lemmas.List.{append-nil}
 use Rattle.mat_sets.specs.Sets.{is_member, with_one}
 use Rattle.mat_desc.specs.declared.refusal.DescKind.TheVariants.{Repeated}
-use Rattle.mat_desc.specs.declared.refusal.DescRefusal.{DescRefusal}
-use Rattle.mat_desc.specs.declared.refusal.DescRefusal.TheVariants as refusals
-use Rattle.mat_desc.specs.Faults.{Fault, Fails, WordsLeft}
-use Rattle.mat_desc.specs.Reading.{below_at, distinct_at}
-use Rattle.mat_desc.proofs.Repeats.{with_front, with_front-cons}
+use Rattle.mat_words.specs.Cursors.{WordsLeft}
+use Rattle.mat_words.specs.Reading as reading
+use Rattle.mat_words.specs.declared.refusal.ReadingRefusal.{ReadingRefusal}
+use Rattle.mat_words.specs.declared.refusal.ReadingRefusal.TheVariants as readings
+use Rattle.mat_desc.specs.Faults.{Fault, Fails, kind_of, refusal_of}
+use Rattle.mat_desc.specs.Reading.{distinct_at}
+use Rattle.mat_words.proofs.Repeats.{with_front, with_front-cons}
 
 module _ (bound many i : ℕ) (taken front : List ℕ) (s : WordsLeft) (total : Result (List ℕ × WordsLeft) Fault)
     (so_far : with_front front (distinct_at bound (many - i) taken s) ≡ total) where
   -- one more number was read
-  pub distinct_more : (x : ℕ) (after : WordsLeft) → i < many → below_at bound s ≡ Ok (x, after) → is_member x taken ≡ false
+  pub distinct_more : (x : ℕ) (after : WordsLeft) → i < many → reading.below_at bound s ≡ Ok (x, after) → is_member x taken ≡ false
       → with_front (front ++ x ∷ []) (distinct_at bound (many - (i + 1)) (with_one taken x) after) ≡ total
   unfolding distinct_at
   distinct_more x after lt read free =
@@ -23,7 +26,7 @@ module _ (bound many i : ℕ) (taken front : List ℕ) (s : WordsLeft) (total : 
       sym step ∙ so_far
 
   -- the next number was read before
-  pub distinct_repeat : (x : ℕ) (after : WordsLeft) → i < many → below_at bound s ≡ Ok (x, after) → is_member x taken ≡ true
+  pub distinct_repeat : (x : ℕ) (after : WordsLeft) → i < many → reading.below_at bound s ≡ Ok (x, after) → is_member x taken ≡ true
       → total ≡ Err (Repeated, s.line)
   unfolding distinct_at
   distinct_repeat x after lt read old =
@@ -32,12 +35,13 @@ module _ (bound many i : ℕ) (taken front : List ℕ) (s : WordsLeft) (total : 
       sym so_far ∙ step
 
   -- the next word is no number below the bound
-  pub distinct_fails : (refusal : DescRefusal) → i < many → Fails refusal (below_at bound s) → Fails refusal total
+  pub distinct_fails : (refusal : ReadingRefusal) → i < many → reading.Fails refusal (reading.below_at bound s)
+      → Fails (refusal_of refusal) total
   unfolding distinct_at
-  distinct_fails refusals.Memory lt failed = tt
-  distinct_fails (refusals.Fault kind line) lt failed =
+  distinct_fails readings.Memory lt failed = tt
+  distinct_fails (readings.Fault kind line) lt failed =
       let left : many - i ≡ suc (many - (i + 1)) = omega arith in
-      let step : with_front front (distinct_at bound (many - i) taken s) ≡ Err (kind, line) = rw (left, failed) refl in
+      let step : with_front front (distinct_at bound (many - i) taken s) ≡ Err (kind_of kind, line) = rw (left, failed) refl in
       sym so_far ∙ step
 
   -- all numbers are read

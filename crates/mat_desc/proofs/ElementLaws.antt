@@ -1,5 +1,6 @@
 -- Lists of elements: what is read is spelled so, and what is spelled so is read.
-use Rattle.std.proofs.Common.{◌≡◌, ℕ, Bool, true, false, cond, ◌||◌, eqb, List, [], ◌∷◌, pos, Ok, Err, refl, sym, ap, subst, ◌∙◌, inl, inr}
+use Rattle.std.proofs.Common.{◌≡◌, ℕ, Bool, true, false, ◌||◌, eqb, List, [], ◌∷◌}
+use Rattle.std.proofs.Common.{pos, Ok, refl, sym, ap, subst, ◌∙◌, inl, inr}
 use Rattle.std.proofs.lemmas.Bool.{cases_Bool, eq-eqb, eqb-true}
 use Rattle.mat_sets.specs.Sets.{is_member, IsRising, AllBelow, IsSet, AreDistinct, with_one}
 use Rattle.mat_sets.proofs.Members.{is_member-with_one, IsRising-with_one, IsRising-nil, same_members}
@@ -8,8 +9,9 @@ use Rattle.mat_words.specs.Numbers.{numerals, numeral}
 use Rattle.mat_desc.specs.declared.refusal.DescKind.TheVariants.{Repeated}
 use Rattle.mat_desc.specs.Reading.{below_at, elements_from}
 use Rattle.mat_desc.specs.Grammar.{Lists}
-use Rattle.mat_desc.proofs.ReadingSteps.{found-same, bind_found, refused_found}
-use Rattle.mat_desc.proofs.WordLaws.{below_found, below_again}
+use Rattle.mat_words.proofs.ReadingSteps.{found-same, bind_found, refused_found}
+use Rattle.mat_words.proofs.WordReading.{below_again}
+use Rattle.mat_desc.proofs.Told.{below_found}
 
 -- the set with each of the items added
 pub with_each : List ℕ → List ℕ → List ℕ
@@ -25,7 +27,8 @@ or_swap false false c = refl
 pub is_member-with_each : (k : ℕ) (set xs : List ℕ) → is_member k (with_each set xs) ≡ (is_member k xs || is_member k set)
 unfolding with_each
 is_member-with_each k set [] = refl
-is_member-with_each k set (x ∷ xs) = is_member-with_each k (with_one set x) xs ∙ rw is_member-with_one (or_swap (is_member k xs) (eqb k x) (is_member k set))
+is_member-with_each k set (x ∷ xs) = is_member-with_each k (with_one set x) xs ∙ rw is_member-with_one
+    (or_swap (is_member k xs) (eqb k x) (is_member k set))
 
 pub IsRising-with_each : (set xs : List ℕ) → IsRising set → IsRising (with_each set xs)
 unfolding with_each
@@ -47,13 +50,15 @@ or_false true b h = absurd cc
 or_false false b h = (refl, h)
 
 -- where no later item is x or is taken, and x is not taken
-pub fresh_first : (x : ℕ) (xs taken : List ℕ) → is_member x taken ≡ false → ((y : ℕ) → is_member y xs ≡ true → is_member y (with_one taken x) ≡ false)
+pub fresh_first : (x : ℕ) (xs taken : List ℕ) → is_member x taken ≡ false
+    → ((y : ℕ) → is_member y xs ≡ true → is_member y (with_one taken x) ≡ false)
     → (is_member x xs ≡ false) × ((y : ℕ) → is_member y (x ∷ xs) ≡ true → is_member y taken ≡ false)
 fresh_first x xs taken free later = (apart, each)
   where
     apart : is_member x xs ≡ false
     apart = elim (cases_Bool (is_member x xs)) [
-      | inl stands ↦ let both = or_false (eqb x x) (is_member x taken) (sym (is_member-with_one x x taken) ∙ later x stands) in absurd (cc (eq-eqb x x refl, both.0))
+      | inl stands ↦ let both = or_false (eqb x x) (is_member x taken) (sym (is_member-with_one x x taken) ∙ later x stands) in absurd
+          (cc (eq-eqb x x refl, both.0))
       | inr free ↦ free
     ]
 
@@ -64,14 +69,16 @@ fresh_first x xs taken free later = (apart, each)
     ]
 
 -- where x and later items are not taken, and x is none of the later ones, these are not taken behind x
-pub later_free : (x : ℕ) (xs taken : List ℕ) → is_member x xs ≡ false → ((y : ℕ) → is_member y (x ∷ xs) ≡ true → is_member y taken ≡ false)
+pub later_free : (x : ℕ) (xs taken : List ℕ) → is_member x xs ≡ false
+    → ((y : ℕ) → is_member y (x ∷ xs) ≡ true → is_member y taken ≡ false)
     → (y : ℕ) → is_member y xs ≡ true → is_member y (with_one taken x) ≡ false
 later_free x xs taken apart fresh y stands = elim (cases_Bool (eqb y x)) [
   | inl same ↦ let moved : is_member x xs ≡ true = subst (λ (z : ℕ). is_member z xs ≡ true) (eqb-true y x same) stands in absurd cc
   | inr other ↦ let free : is_member y taken ≡ false = fresh y (rw (other, stands) refl) in is_member-with_one y x taken ∙ rw (other, free) refl
 ]
 
-pub elements_found : (n line : ℕ) (taken set : List ℕ) (words : List (List ℕ)) (made left : List ℕ) → elements_from n line taken set words ≡ Ok (made, left) → AreElementsRead n taken set words made left
+pub elements_found : (n line : ℕ) (taken set : List ℕ) (words : List (List ℕ)) (made left : List ℕ)
+    → elements_from n line taken set words ≡ Ok (made, left) → AreElementsRead n taken set words made left
 unfolding elements_from with_each
 elements_found n line taken set [] made left e =
     let same = found-same (set, taken) (made, left) e in
@@ -85,8 +92,8 @@ elements_found n line taken set [] made left e =
       taken_left = sym (ap (λ (p : List ℕ × List ℕ). p.1) same);
     }
 elements_found n line taken set (word ∷ words) made left e =
-    let element = bind_found (below_at n (record { line = line; words = word ∷ words })) (λ x. cond (is_member x.0 taken) (Err (Repeated, line)) (elements_from n line (with_one taken x.0) (with_one set x.0) words)) (made, left) e in
-    let test = refused_found (is_member element.0.0 taken) (Repeated, line) (elements_from n line (with_one taken element.0.0) (with_one set element.0.0) words) (made, left) element.2 in
+    let element = bind_found (below_at n (record { line = line; words = word ∷ words })) _ (made, left) e in
+    let test = refused_found (is_member element.0.0 taken) (Repeated, line) _ (made, left) element.2 in
     let first = below_found n (record { line = line; words = word ∷ words }) element.0.0 element.0.1 element.1 in
     let cut : word ∷ words ≡ numeral (pos element.0.0) ∷ element.0.1.words = first.cut in
     let behind : words ≡ element.0.1.words = cc in
@@ -102,13 +109,15 @@ elements_found n line taken set (word ∷ words) made left e =
       taken_left = more.taken_left;
     }
 
-pub elements_again : (n line : ℕ) (taken set xs : List ℕ) → AreDistinct xs → AllBelow n xs → ((x : ℕ) → is_member x xs ≡ true → is_member x taken ≡ false)
+pub elements_again : (n line : ℕ) (taken set xs : List ℕ) → AreDistinct xs → AllBelow n xs
+    → ((x : ℕ) → is_member x xs ≡ true → is_member x taken ≡ false)
     → elements_from n line taken set (numerals xs) ≡ Ok (with_each set xs, with_each taken xs)
 unfolding elements_from with_each
 elements_again n line taken set [] distinct below fresh = refl
 elements_again n line taken set (x ∷ xs) distinct below fresh =
     let free : is_member x taken ≡ false = fresh x (rw (eq-eqb x x refl) refl) in
-    rw (below_again n line x (numerals xs) below.0, free) (elements_again n line (with_one taken x) (with_one set x) xs distinct.1 below.1 (later_free x xs taken distinct.0 fresh))
+    rw (below_again n line x (numerals xs) below.0, free) (elements_again n line (with_one taken x) (with_one set x) xs distinct.1 below.1
+    (later_free x xs taken distinct.0 fresh))
 
 -- ---- the set that a list of elements makes
 
@@ -123,30 +132,38 @@ is_member-made k xs = is_member-with_each k [] xs ∙ or-false (is_member k xs)
 pub members_made : (taken xs made : List ℕ) → made ≡ with_each [] xs → (x : ℕ) → is_member x made ≡ is_member x xs
 members_made taken xs made e x = ap (is_member x) e ∙ is_member-made x xs
 
-pub members_left : (taken xs made left : List ℕ) → made ≡ with_each [] xs → left ≡ with_each taken xs → (x : ℕ) → is_member x left ≡ (is_member x made || is_member x taken)
-members_left taken xs made left e f x = ap (is_member x) f ∙ is_member-with_each x taken xs ∙ ap (λ (b : Bool). b || is_member x taken) (sym (members_made taken xs made e x))
+pub members_left : (taken xs made left : List ℕ) → made ≡ with_each [] xs → left ≡ with_each taken xs → (x : ℕ)
+    → is_member x left ≡ (is_member x made || is_member x taken)
+members_left taken xs made left e f x = ap (is_member x) f ∙ is_member-with_each x taken xs ∙ ap (λ (b : Bool). b || is_member x taken)
+    (sym (members_made taken xs made e x))
 
 -- distinct elements list the set that they make
 pub Lists-made : (xs : List ℕ) → AreDistinct xs → Lists xs (with_each [] xs)
 Lists-made xs distinct = record { distinct = distinct; members = λ x. sym (is_member-made x xs) }
 
 pub IsSet-made : (n : ℕ) (xs : List ℕ) → AllBelow n xs → IsSet n (with_each [] xs)
-IsSet-made n xs below = IsSet-from n (with_each [] xs) (IsRising-with_each [] xs IsRising-nil) (λ x h. AllBelow-member n xs x below (sym (is_member-made x xs) ∙ h))
+IsSet-made n xs below = IsSet-from n (with_each [] xs) (IsRising-with_each [] xs IsRising-nil)
+    (λ x h. AllBelow-member n xs x below (sym (is_member-made x xs) ∙ h))
 
 -- elements that list a set make it
 pub made-listed : (n : ℕ) (xs set : List ℕ) → IsSet n set → Lists xs set → with_each [] xs ≡ set
-made-listed n xs set is_set lists = same_members (with_each [] xs) set (IsRising-with_each [] xs IsRising-nil) is_set.rising (λ k. is_member-made k xs ∙ lists.members k)
+made-listed n xs set is_set lists = same_members (with_each [] xs) set (IsRising-with_each [] xs IsRising-nil) is_set.rising
+    (λ k. is_member-made k xs ∙ lists.members k)
 
 -- elements that were read list the set that they make
-pub Lists-read : (n : ℕ) (taken : List ℕ) (words : List (List ℕ)) (set left : List ℕ) (read : AreElementsRead n taken [] words set left) → Lists read.xs set
+pub Lists-read : (n : ℕ) (taken : List ℕ) (words : List (List ℕ)) (set left : List ℕ)
+    (read : AreElementsRead n taken [] words set left) → Lists read.xs set
 Lists-read n taken words set left read = subst (λ (s : List ℕ). Lists read.xs s) (sym read.set_made) (Lists-made read.xs read.distinct)
 
-pub IsSet-read : (n : ℕ) (taken : List ℕ) (words : List (List ℕ)) (set left : List ℕ) → AreElementsRead n taken [] words set left → IsSet n set
+pub IsSet-read : (n : ℕ) (taken : List ℕ) (words : List (List ℕ)) (set left : List ℕ) → AreElementsRead n taken [] words set left
+    → IsSet n set
 IsSet-read n taken words set left read = subst (λ (s : List ℕ). IsSet n s) (sym read.set_made) (IsSet-made n read.xs read.below)
 
 -- elements that list a set are read as that set
-pub set_again : (n line : ℕ) (taken set xs : List ℕ) → IsSet n set → Lists xs set → ((x : ℕ) → is_member x set ≡ true → is_member x taken ≡ false)
+pub set_again : (n line : ℕ) (taken set xs : List ℕ) → IsSet n set → Lists xs set
+    → ((x : ℕ) → is_member x set ≡ true → is_member x taken ≡ false)
     → elements_from n line taken [] (numerals xs) ≡ Ok (set, with_each taken xs)
 set_again n line taken set xs in_range lists fresh =
     let below = AllBelow-from_members n xs (λ k h. AllBelow-member n set k in_range.below (sym (lists.members k) ∙ h)) in
-    elements_again n line taken [] xs lists.distinct below (λ x h. fresh x (sym (lists.members x) ∙ h)) ∙ rw (made-listed n xs set in_range lists) refl
+    elements_again n line taken [] xs lists.distinct below (λ x h. fresh x (sym (lists.members x) ∙ h)) ∙ rw
+    (made-listed n xs set in_range lists) refl

@@ -1,64 +1,78 @@
 -- The lines of a problem, form by form: what is read is spelled so, and what is spelled so is read.
-use Rattle.std.proofs.Common.{◌<◌, ◌≡◌, ℕ, ◌≤◌, ℤ, Bool, true, false, cond, List, [], ◌∷◌, ◌++◌, length, map, pos, Option, Some, None, Ok, refl, sym, ap, subst, ◌∙◌, arith}
-use Rattle.std.specs.Prelude.{codes, bytes_eq}
+use Rattle.std.proofs.Common.{◌<◌, ◌≡◌, ℕ, ◌≤◌, Bool, true, false, cond, List, [], ◌∷◌, ◌++◌, length}
+use Rattle.std.proofs.Common.{map, pos, Option, Some, None, Ok, refl, sym, ap, subst, ◌∙◌, arith}
+use Rattle.std.specs.Prelude.{codes, bytes_eq, neg_ℤ}
 use Rattle.std.specs.List.{list_all}
 use Rattle.std.proofs.lemmas.List.{append-nil}
 use Rattle.std.proofs.lemmas.Slice.Eq.{bytes_eq-Decides}
 use Rattle.mat_words.specs.Words.{is_word}
 use Rattle.mat_words.specs.Numbers.{numeral}
+use Rattle.mat_words.specs.Weights.{weight_word}
 use Rattle.mat_words.specs.Lines.{Line}
-use Rattle.mat_desc.specs.Limits.{most_elements, most_vertices, most_sets, most_matroids}
+use Rattle.mat_sets.specs.declared.weight.Weight.{Weight}
+use Rattle.mat_desc.specs.Limits.{most_elements, most_vertices, most_sets, most_matroids, largest_weight}
 use Rattle.mat_desc.specs.declared.keywords.Form.{Form}
 use Rattle.mat_desc.specs.declared.keywords.Form.TheVariants as forms
-use Rattle.mat_desc.specs.Faults.{◌>>=◌, WordsLeft, LinesLeft}
-use Rattle.mat_desc.specs.Reading.{size_at, below_at, read_weight, ended_at, repeat_at, keyed_at, weights_at, ends_line_at, weighted_at, coloured_edge_at, matroid_at, pair_at, list_at, graph_at, rooted_at, coloured_at, table_at, form_of, form_at}
+use Rattle.mat_words.specs.Steps.{repeat_at}
+use Rattle.mat_words.specs.Cursors.{WordsLeft, LinesLeft}
+use Rattle.mat_desc.specs.Reading.{size_at, below_at, next_weights_at, ended_at, keyed_at, weights_at}
+use Rattle.mat_desc.specs.Reading.{ends_line_at, weighted_at, coloured_edge_at, matroid_at, pair_at, list_at}
+use Rattle.mat_desc.specs.Reading.{graph_at, rooted_at, coloured_at, table_at, form_of, form_at}
 use Rattle.mat_desc.specs.Instances.{Instance, pair, list, graph, rooted, coloured, table}
 use Rattle.mat_words.specs.Writing.{end_line}
-use Rattle.mat_desc.specs.Grammar.{version_line, ends_line, weighted_line, coloured_edge_line, IsPairBelow, IsWeight, AreWeights, IsValid, InstanceLines}
-use Rattle.mat_desc.proofs.ReadingSteps.{found-same, bind_found}
-use Rattle.mat_desc.proofs.WordLaws.{numerals_words, count_line, ended_found, ended_again, size_found, below_found, size_again, below_again, weights_found, weights_again, weights_words}
-use Rattle.mat_desc.proofs.LineLaws.{AreLeft, keyed_found, keyed_again}
+use Rattle.mat_desc.specs.Grammar.{version_line, ends_line, weighted_line, coloured_edge_line, IsPairBelow}
+use Rattle.mat_desc.specs.Grammar.{IsWeight, AreWeights, IsValid, InstanceLines}
+use Rattle.mat_words.proofs.ReadingSteps.{found-same, bind_found}
+use Rattle.mat_words.proofs.WordReading.{numerals_words, size_again, below_again, weights_again, weights_words}
+use Rattle.mat_words.proofs.LineReading.{AreLeft, keyed_again}
+use Rattle.mat_desc.proofs.Told.{count_line, ended_found, ended_again, size_found, below_found, weights_found, keyed_found}
 use Rattle.mat_desc.proofs.MatroidLaws.{matroid_found, matroid_again}
 use Rattle.mat_desc.proofs.MatroidRows.{matroids_found, matroids_again}
 use Rattle.std.specs.List.{All, zip}
 use Rattle.std.proofs.lemmas.List.Elements.{All-weaker}
 use Rattle.std.proofs.lemmas.Slice.Zip.{firsts-zip, seconds-zip}
 use Rattle.mat_desc.proofs.Columns.{length-zip_same, edges-zip, colours-zip, weights-zip}
-use Rattle.mat_desc.proofs.ItemLaws.{items_found, items_again, ends_line_found, ends_line_again, IsWeighted, weighted_found, weighted_again, IsColoured, coloured_edge_found, coloured_edge_again, All-map, All-zip, zip-parts, length-map_same}
+use Rattle.mat_desc.proofs.ItemLaws.{items_found, items_again, ends_line_found, ends_line_again, IsWeighted, weighted_found, weighted_again}
+use Rattle.mat_desc.proofs.ItemLaws.{IsColoured, coloured_edge_found, coloured_edge_again, All-map, All-zip, zip-parts, length-map_same}
 
 -- ---- weights
 
 -- a weights line was read
-record IsWeightsLineRead (n : ℕ) (p : LinesLeft) (weights : List ℤ) (q : LinesLeft) : Type 0 where
+record IsWeightsLineRead (n : ℕ) (p : LinesLeft) (weights : List Weight) (q : LinesLeft) : Type 0 where
   count : length weights ≡ n
   valid : n ≤ most_elements → AreWeights weights
-  spelled : (rest : List Line) → AreLeft rest q → AreLeft ((codes "weights" ∷ map numeral weights) ∷ rest) p
+  spelled : (rest : List Line) → AreLeft rest q → AreLeft ((codes "weights" ∷ map weight_word weights) ∷ rest) p
 
-weights_line_found : (n : ℕ) (p : LinesLeft) (weights : List ℤ) (q : LinesLeft) → weights_at n p ≡ Ok (weights, q) → IsWeightsLineRead n p weights q
+weights_line_found : (n : ℕ) (p : LinesLeft) (weights : List Weight) (q : LinesLeft) → weights_at n p ≡ Ok (weights, q)
+    → IsWeightsLineRead n p weights q
 unfolding weights_at
 weights_line_found n p weights q e =
-    let line = bind_found (keyed_at (codes "weights") p) (λ line. repeat_at read_weight n line.0 >>= λ weights. ended_at weights.1 >>= λ end. Ok (weights.0, line.1)) (weights, q) e in
-    let all = bind_found (repeat_at read_weight n line.0.0) (λ weights. ended_at weights.1 >>= λ end. Ok (weights.0, line.0.1)) (weights, q) line.2 in
-    let end = bind_found (ended_at all.0.1) (λ end. Ok (all.0.0, line.0.1)) (weights, q) all.2 in
+    let line = bind_found (keyed_at (codes "weights") p) _ (weights, q) e in
+    let all = bind_found (next_weights_at n line.0.0) _ (weights, q) line.2 in
+    let end = bind_found (ended_at all.0.1) _ (weights, q) all.2 in
     let same = found-same (all.0.0, line.0.1) (weights, q) end.2 in
     let read = weights_found n line.0.0 all.0.0 all.0.1 all.1 in
     let last = ended_found all.0.1 end.0 end.1 in
     let one : IsWeightsLineRead n p all.0.0 line.0.1 = record {
       count = read.count;
       valid = λ few. (omega (arith, read.count), read.each);
-      spelled = λ rest left. subst (λ (ws : Line). AreLeft ((codes "weights" ∷ ws) ∷ rest) p) (weights_words_only all.0.0 line.0.0.words all.0.1.words read.cut last) (keyed_found (codes "weights") p line.0.0 line.0.1 line.1 rest left);
+      spelled = λ rest left. subst (λ (ws : Line). AreLeft ((codes "weights" ∷ ws) ∷ rest) p)
+          (weights_words_only all.0.0 line.0.0.words all.0.1.words read.cut last)
+          (keyed_found (codes "weights") p line.0.0 line.0.1 line.1 rest left);
     } in
-    subst (λ (r : List ℤ × LinesLeft). IsWeightsLineRead n p r.0 r.1) same one
+    subst (λ (r : List Weight × LinesLeft). IsWeightsLineRead n p r.0 r.1) same one
   where
-    weights_words_only : (all : List ℤ) (words after : List (List ℕ)) → words ≡ map numeral all ++ after → after ≡ [] → words ≡ map numeral all
-    weights_words_only all words after cut none = cut ∙ rw none (append-nil (map numeral all))
+    weights_words_only : (all : List Weight) (words after : List (List ℕ)) → words ≡ map weight_word all ++ after → after ≡ []
+        → words ≡ map weight_word all
+    weights_words_only all words after cut none = cut ∙ rw none (append-nil (map weight_word all))
 
-weights_line_again : (p : LinesLeft) (weights : List ℤ) (rest : List Line) → AreWeights weights → AreLeft ((codes "weights" ∷ map numeral weights) ∷ rest) p
+weights_line_again : (p : LinesLeft) (weights : List Weight) (rest : List Line) → AreWeights weights
+    → AreLeft ((codes "weights" ∷ map weight_word weights) ∷ rest) p
     → (q : LinesLeft) × (weights_at (length weights) p ≡ Ok (weights, q)) × AreLeft rest q
 unfolding weights_at
 weights_line_again p weights rest valid left =
-    let line = keyed_again (codes "weights") p (map numeral weights) rest refl (weights_words weights) left in
-    (line.0, rw (line.1, weights_again p.line weights valid.1, ended_again p.line) refl, line.2)
+    let line = keyed_again (codes "weights") p (map weight_word weights) rest refl (weights_words weights) left in
+    (line.0, rw (line.1, weights_again (neg_ℤ (pos largest_weight)) (pos largest_weight) p.line weights valid.1, ended_again p.line) refl, line.2)
 
 -- ---- forms
 
@@ -79,13 +93,18 @@ word_equal word key e = (bytes_eq-Decides word key).0 e
 
 -- the choice among the words of the forms
 abbrev choice : Bool → Bool → Bool → Bool → Bool → Bool → Option Form
-choice a b c d e f = cond a (Some forms.Pair) (cond b (Some forms.List) (cond c (Some forms.Graph) (cond d (Some forms.Rooted) (cond e (Some forms.Coloured) (cond f (Some forms.Table) None)))))
+choice a b c d e f = cond a (Some forms.Pair) (cond b (Some forms.List)
+    (cond c (Some forms.Graph) (cond d (Some forms.Rooted) (cond e (Some forms.Coloured) (cond f (Some forms.Table) None)))))
 
 pub form_found : (word : List ℕ) (form : Form) → form_of word ≡ Some form → word ≡ form_spelling form
-form_found word form is = first (bytes_eq word (codes "pair")) (bytes_eq word (codes "list")) (bytes_eq word (codes "graph")) (bytes_eq word (codes "rooted")) (bytes_eq word (codes "coloured")) (bytes_eq word (codes "table"))
-    (word_equal word (codes "pair")) (word_equal word (codes "list")) (word_equal word (codes "graph")) (word_equal word (codes "rooted")) (word_equal word (codes "coloured")) (word_equal word (codes "table")) is
+form_found word form is = first (bytes_eq word (codes "pair")) (bytes_eq word (codes "list")) (bytes_eq word (codes "graph"))
+    (bytes_eq word (codes "rooted")) (bytes_eq word (codes "coloured")) (bytes_eq word (codes "table"))
+    (word_equal word (codes "pair")) (word_equal word (codes "list")) (word_equal word (codes "graph")) (word_equal word (codes "rooted"))
+    (word_equal word (codes "coloured")) (word_equal word (codes "table")) is
   where
-    first : (a b c d e f : Bool) → (a ≡ true → word ≡ codes "pair") → (b ≡ true → word ≡ codes "list") → (c ≡ true → word ≡ codes "graph") → (d ≡ true → word ≡ codes "rooted") → (e ≡ true → word ≡ codes "coloured") → (f ≡ true → word ≡ codes "table")
+    first : (a b c d e f : Bool) → (a ≡ true → word ≡ codes "pair") → (b ≡ true → word ≡ codes "list")
+        → (c ≡ true → word ≡ codes "graph") → (d ≡ true → word ≡ codes "rooted") → (e ≡ true → word ≡ codes "coloured")
+        → (f ≡ true → word ≡ codes "table")
         → choice a b c d e f ≡ Some form → word ≡ form_spelling form
     first true b c d e f p q r s t u h = p refl ∙ ap form_spelling (some_form forms.Pair form h)
     first false true c d e f p q r s t u h = q refl ∙ ap form_spelling (some_form forms.List form h)
@@ -114,16 +133,18 @@ form_word forms.Table = refl
 -- a problem was read from the words behind the form's word on
 pub record IsFormRead (form : Form) (words : WordsLeft) (lines : LinesLeft) (instance : Instance) (q : LinesLeft) : Type 0 where
   pub valid : IsValid instance
-  pub spelled : AreLeft (end_line ∷ []) q → (more : List Line) × AreLeft more lines × InstanceLines instance (version_line ∷ (form_spelling form ∷ words.words) ∷ more)
+  pub spelled : AreLeft (end_line ∷ []) q → (more : List Line) × AreLeft more lines × InstanceLines instance
+      (version_line ∷ (form_spelling form ∷ words.words) ∷ more)
 
-pair_found : (words : WordsLeft) (lines : LinesLeft) (instance : Instance) (q : LinesLeft) → pair_at words lines ≡ Ok (instance, q) → IsFormRead forms.Pair words lines instance q
+pair_found : (words : WordsLeft) (lines : LinesLeft) (instance : Instance) (q : LinesLeft) → pair_at words lines ≡ Ok (instance, q)
+    → IsFormRead forms.Pair words lines instance q
 unfolding pair_at
 pair_found words lines instance q e =
-    let count = bind_found (size_at 0 most_elements words) (λ count. ended_at count.1 >>= λ end. weights_at count.0 lines >>= λ weights. matroid_at count.0 weights.1 >>= λ first. matroid_at count.0 first.1 >>= λ second. Ok (pair weights.0 first.0 second.0, second.1)) (instance, q) e in
-    let end = bind_found (ended_at count.0.1) (λ end. weights_at count.0.0 lines >>= λ weights. matroid_at count.0.0 weights.1 >>= λ first. matroid_at count.0.0 first.1 >>= λ second. Ok (pair weights.0 first.0 second.0, second.1)) (instance, q) count.2 in
-    let weights = bind_found (weights_at count.0.0 lines) (λ weights. matroid_at count.0.0 weights.1 >>= λ first. matroid_at count.0.0 first.1 >>= λ second. Ok (pair weights.0 first.0 second.0, second.1)) (instance, q) end.2 in
-    let first = bind_found (matroid_at count.0.0 weights.0.1) (λ first. matroid_at count.0.0 first.1 >>= λ second. Ok (pair weights.0.0 first.0 second.0, second.1)) (instance, q) weights.2 in
-    let second = bind_found (matroid_at count.0.0 first.0.1) (λ second. Ok (pair weights.0.0 first.0.0 second.0, second.1)) (instance, q) first.2 in
+    let count = bind_found (size_at 0 most_elements words) _ (instance, q) e in
+    let end = bind_found (ended_at count.0.1) _ (instance, q) count.2 in
+    let weights = bind_found (weights_at count.0.0 lines) _ (instance, q) end.2 in
+    let first = bind_found (matroid_at count.0.0 weights.0.1) _ (instance, q) weights.2 in
+    let second = bind_found (matroid_at count.0.0 first.0.1) _ (instance, q) first.2 in
     let same = found-same (pair weights.0.0 first.0.0 second.0.0, second.0.1) (instance, q) second.2 in
     let number = size_found 0 most_elements words count.0.0 count.0.1 count.1 in
     let last = ended_found count.0.1 end.0 end.1 in
@@ -131,27 +152,28 @@ pair_found words lines instance q e =
     let one = matroid_found count.0.0 weights.0.1 first.0.0 first.0.1 first.1 in
     let two = matroid_found count.0.0 first.0.1 second.0.0 second.0.1 second.1 in
     let few : count.0.0 ≤ most_elements = omega (arith, number.most) in
-    let line : words.words ≡ numeral (pos (length weights.0.0)) ∷ [] = count_line count.0.0 (length weights.0.0) words.words count.0.1.words number.cut last all.count in
+    let line : words.words ≡ numeral (pos (length weights.0.0)) ∷ [] =
+    count_line count.0.0 (length weights.0.0) words.words count.0.1.words number.cut last all.count in
     let whole : IsFormRead forms.Pair words lines (pair weights.0.0 first.0.0 second.0.0) second.0.1 = record {
       valid = (all.valid few, rw all.count one.valid, rw all.count two.valid);
       spelled = λ left.
           let behind = two.spelled (end_line ∷ []) left in
-          let before = one.spelled behind.0 behind.1 in (
-            (codes "weights" ∷ map numeral weights.0.0) ∷ before.0,
-            all.spelled before.0 before.1,
-            (before.0, behind.0, ap (λ (t : Line). version_line ∷ (codes "pair" ∷ t) ∷ (codes "weights" ∷ map numeral weights.0.0) ∷ before.0) line, before.2, behind.2),
-          );
+          let before = one.spelled behind.0 behind.1 in
+          let more : List Line = (codes "weights" ∷ map weight_word weights.0.0) ∷ before.0 in
+          let header = ap (λ (t : Line). version_line ∷ (codes "pair" ∷ t) ∷ more) line in
+          (more, all.spelled before.0 before.1, (before.0, behind.0, header, before.2, behind.2));
     } in
     subst (λ (r : Instance × LinesLeft). IsFormRead forms.Pair words lines r.0 r.1) same whole
 
-list_found : (words : WordsLeft) (lines : LinesLeft) (instance : Instance) (q : LinesLeft) → list_at words lines ≡ Ok (instance, q) → IsFormRead forms.List words lines instance q
+list_found : (words : WordsLeft) (lines : LinesLeft) (instance : Instance) (q : LinesLeft) → list_at words lines ≡ Ok (instance, q)
+    → IsFormRead forms.List words lines instance q
 unfolding list_at
 list_found words lines instance q e =
-    let count = bind_found (size_at 0 most_elements words) (λ count. size_at 1 most_matroids count.1 >>= λ many. ended_at many.1 >>= λ end. weights_at count.0 lines >>= λ weights. repeat_at (matroid_at count.0) many.0 weights.1 >>= λ matroids. Ok (list weights.0 matroids.0, matroids.1)) (instance, q) e in
-    let many = bind_found (size_at 1 most_matroids count.0.1) (λ many. ended_at many.1 >>= λ end. weights_at count.0.0 lines >>= λ weights. repeat_at (matroid_at count.0.0) many.0 weights.1 >>= λ matroids. Ok (list weights.0 matroids.0, matroids.1)) (instance, q) count.2 in
-    let end = bind_found (ended_at many.0.1) (λ end. weights_at count.0.0 lines >>= λ weights. repeat_at (matroid_at count.0.0) many.0.0 weights.1 >>= λ matroids. Ok (list weights.0 matroids.0, matroids.1)) (instance, q) many.2 in
-    let weights = bind_found (weights_at count.0.0 lines) (λ weights. repeat_at (matroid_at count.0.0) many.0.0 weights.1 >>= λ matroids. Ok (list weights.0 matroids.0, matroids.1)) (instance, q) end.2 in
-    let matroids = bind_found (repeat_at (matroid_at count.0.0) many.0.0 weights.0.1) (λ matroids. Ok (list weights.0.0 matroids.0, matroids.1)) (instance, q) weights.2 in
+    let count = bind_found (size_at 0 most_elements words) _ (instance, q) e in
+    let many = bind_found (size_at 1 most_matroids count.0.1) _ (instance, q) count.2 in
+    let end = bind_found (ended_at many.0.1) _ (instance, q) many.2 in
+    let weights = bind_found (weights_at count.0.0 lines) _ (instance, q) end.2 in
+    let matroids = bind_found (repeat_at (matroid_at count.0.0) many.0.0 weights.0.1) _ (instance, q) weights.2 in
     let same = found-same (list weights.0.0 matroids.0.0, matroids.0.1) (instance, q) matroids.2 in
     let number = size_found 0 most_elements words count.0.0 count.0.1 count.1 in
     let length_read = size_found 1 most_matroids count.0.1 many.0.0 many.0.1 many.1 in
@@ -159,113 +181,134 @@ list_found words lines instance q e =
     let all = weights_line_found count.0.0 lines weights.0.0 weights.0.1 weights.1 in
     let read = matroids_found count.0.0 many.0.0 weights.0.1 matroids.0.0 matroids.0.1 matroids.1 in
     let few : count.0.0 ≤ most_elements = omega (arith, number.most) in
-    let line : words.words ≡ numeral (pos (length weights.0.0)) ∷ numeral (pos (length matroids.0.0)) ∷ [] = number.cut ∙ rw (length_read.cut, last, all.count, read.count) refl in
+    let line : words.words ≡ numeral (pos (length weights.0.0)) ∷ numeral (pos (length matroids.0.0)) ∷ [] =
+    number.cut ∙ rw (length_read.cut, last, all.count, read.count) refl in
     subst (λ (r : Instance × LinesLeft). IsFormRead forms.List words lines r.0 r.1) same (record {
       valid = (all.valid few, omega (arith, read.count, length_read.least), omega (arith, read.count, length_read.most), rw all.count read.each);
       spelled = λ left.
-          let behind = read.spelled (end_line ∷ []) left in (
-            (codes "weights" ∷ map numeral weights.0.0) ∷ behind.0,
-            all.spelled behind.0 behind.1,
-            (behind.0, ap (λ (t : Line). version_line ∷ (codes "list" ∷ t) ∷ (codes "weights" ∷ map numeral weights.0.0) ∷ behind.0) line, behind.2),
-          );
+          let behind = read.spelled (end_line ∷ []) left in
+          let more : List Line = (codes "weights" ∷ map weight_word weights.0.0) ∷ behind.0 in
+          let header = ap (λ (t : Line). version_line ∷ (codes "list" ∷ t) ∷ more) line in
+          (more, all.spelled behind.0 behind.1, (behind.0, header, behind.2));
     })
 
-graph_found : (words : WordsLeft) (lines : LinesLeft) (instance : Instance) (q : LinesLeft) → graph_at words lines ≡ Ok (instance, q) → IsFormRead forms.Graph words lines instance q
+graph_found : (words : WordsLeft) (lines : LinesLeft) (instance : Instance) (q : LinesLeft) → graph_at words lines ≡ Ok (instance, q)
+    → IsFormRead forms.Graph words lines instance q
 unfolding graph_at
 graph_found words lines instance q e =
-    let vertices = bind_found (size_at 1 most_vertices words) (λ vertices. size_at 0 most_elements vertices.1 >>= λ many. ended_at many.1 >>= λ end. repeat_at (ends_line_at (codes "edge") vertices.0) many.0 lines >>= λ edges. Ok (graph vertices.0 edges.0, edges.1)) (instance, q) e in
-    let many = bind_found (size_at 0 most_elements vertices.0.1) (λ many. ended_at many.1 >>= λ end. repeat_at (ends_line_at (codes "edge") vertices.0.0) many.0 lines >>= λ edges. Ok (graph vertices.0.0 edges.0, edges.1)) (instance, q) vertices.2 in
-    let end = bind_found (ended_at many.0.1) (λ end. repeat_at (ends_line_at (codes "edge") vertices.0.0) many.0.0 lines >>= λ edges. Ok (graph vertices.0.0 edges.0, edges.1)) (instance, q) many.2 in
-    let edges = bind_found (repeat_at (ends_line_at (codes "edge") vertices.0.0) many.0.0 lines) (λ edges. Ok (graph vertices.0.0 edges.0, edges.1)) (instance, q) end.2 in
+    let vertices = bind_found (size_at 1 most_vertices words) _ (instance, q) e in
+    let many = bind_found (size_at 0 most_elements vertices.0.1) _ (instance, q) vertices.2 in
+    let end = bind_found (ended_at many.0.1) _ (instance, q) many.2 in
+    let edges = bind_found (repeat_at (ends_line_at (codes "edge") vertices.0.0) many.0.0 lines) _ (instance, q) end.2 in
     let same = found-same (graph vertices.0.0 edges.0.0, edges.0.1) (instance, q) edges.2 in
     let v = size_found 1 most_vertices words vertices.0.0 vertices.0.1 vertices.1 in
     let m = size_found 0 most_elements vertices.0.1 many.0.0 many.0.1 many.1 in
     let last = ended_found many.0.1 end.0 end.1 in
-    let read = items_found (ends_line_at (codes "edge") vertices.0.0) (ends_line (codes "edge")) (IsPairBelow vertices.0.0 vertices.0.0) (ends_line_found (codes "edge") vertices.0.0) many.0.0 lines edges.0.0 edges.0.1 edges.1 in
+    let read = items_found (ends_line_at (codes "edge") vertices.0.0) (ends_line (codes "edge")) (IsPairBelow vertices.0.0 vertices.0.0)
+    (ends_line_found (codes "edge") vertices.0.0) many.0.0 lines edges.0.0 edges.0.1 edges.1 in
     let line : words.words ≡ numeral (pos vertices.0.0) ∷ numeral (pos (length edges.0.0)) ∷ [] = v.cut ∙ rw (m.cut, last, read.count) refl in
     subst (λ (r : Instance × LinesLeft). IsFormRead forms.Graph words lines r.0 r.1) same (record {
       valid = (v.least, omega (arith, v.most), (omega (arith, read.count, m.most), read.each));
-      spelled = λ left. (map (ends_line (codes "edge")) edges.0.0 ++ end_line ∷ [], read.spelled (end_line ∷ []) left, ap (λ (t : Line). version_line ∷ (codes "graph" ∷ t) ∷ (map (ends_line (codes "edge")) edges.0.0 ++ end_line ∷ [])) line);
+      spelled = λ left.
+          let more : List Line = map (ends_line (codes "edge")) edges.0.0 ++ end_line ∷ [] in
+          (more, read.spelled (end_line ∷ []) left, ap (λ (t : Line). version_line ∷ (codes "graph" ∷ t) ∷ more) line);
     })
 
 -- items of a pair and a weight, as two lists
-record AreColumns (a b : ℕ) (key : List ℕ) (many : ℕ) (lines : LinesLeft) (pairs : List (ℕ × ℕ)) (weights : List ℤ) (q : LinesLeft) : Type 0 where
+record AreColumns (a b : ℕ) (key : List ℕ) (many : ℕ) (lines : LinesLeft) (pairs : List (ℕ × ℕ)) (weights : List Weight)
+    (q : LinesLeft) : Type 0 where
   count : length pairs ≡ many
   as_many : length weights ≡ length pairs
   pairs_valid : All (IsPairBelow a b) pairs
   weights_valid : All IsWeight weights
   spelled : AreLeft (end_line ∷ []) q → AreLeft (map (weighted_line key) (zip pairs weights) ++ end_line ∷ []) lines
 
-columns_found : (a b : ℕ) (key : List ℕ) (many : ℕ) (lines : LinesLeft) (items : List ((ℕ × ℕ) × ℤ)) (q : LinesLeft) → repeat_at (weighted_at key a b) many lines ≡ Ok (items, q)
-    → AreColumns a b key many lines (map (λ (item : (ℕ × ℕ) × ℤ). item.0) items) (map (λ (item : (ℕ × ℕ) × ℤ). item.1) items) q
+columns_found : (a b : ℕ) (key : List ℕ) (many : ℕ) (lines : LinesLeft) (items : List ((ℕ × ℕ) × Weight)) (q : LinesLeft)
+    → repeat_at (weighted_at key a b) many lines ≡ Ok (items, q)
+    → AreColumns a b key many lines (map (λ (item : (ℕ × ℕ) × Weight). item.0) items)
+    (map (λ (item : (ℕ × ℕ) × Weight). item.1) items) q
 columns_found a b key many lines items q e =
     let read = items_found (weighted_at key a b) (weighted_line key) (IsWeighted a b) (weighted_found key a b) many lines items q e in
-    let firsts = length-map_same (λ (item : (ℕ × ℕ) × ℤ). item.0) items in
-    let seconds = length-map_same (λ (item : (ℕ × ℕ) × ℤ). item.1) items in
+    let firsts = length-map_same (λ (item : (ℕ × ℕ) × Weight). item.0) items in
+    let seconds = length-map_same (λ (item : (ℕ × ℕ) × Weight). item.1) items in
     record {
       count = firsts ∙ read.count;
       as_many = seconds ∙ sym firsts;
-      pairs_valid = All-map (IsWeighted a b) (IsPairBelow a b) (λ (item : (ℕ × ℕ) × ℤ). item.0) (λ item valid. valid.0) items read.each;
-      weights_valid = All-map (IsWeighted a b) IsWeight (λ (item : (ℕ × ℕ) × ℤ). item.1) (λ item valid. valid.1) items read.each;
-      spelled = λ left. subst (λ (t : List ((ℕ × ℕ) × ℤ)). AreLeft (map (weighted_line key) t ++ end_line ∷ []) lines) (sym (zip-parts items)) (read.spelled (end_line ∷ []) left);
+      pairs_valid = All-map (IsWeighted a b) (IsPairBelow a b) (λ (item : (ℕ × ℕ) × Weight). item.0) (λ item valid. valid.0) items read.each;
+      weights_valid = All-map (IsWeighted a b) IsWeight (λ (item : (ℕ × ℕ) × Weight). item.1) (λ item valid. valid.1) items read.each;
+      spelled = λ left. subst (λ (t : List ((ℕ × ℕ) × Weight)). AreLeft (map (weighted_line key) t ++ end_line ∷ []) lines)
+          (sym (zip-parts items)) (read.spelled (end_line ∷ []) left);
     }
 
-columns_again : (a b : ℕ) (key : List ℕ) → is_word key ≡ true → (lines : LinesLeft) (pairs : List (ℕ × ℕ)) (weights : List ℤ) → All (IsPairBelow a b) pairs → All IsWeight weights → length weights ≡ length pairs
-    → AreLeft (map (weighted_line key) (zip pairs weights) ++ end_line ∷ []) lines → (q : LinesLeft) × (repeat_at (weighted_at key a b) (length pairs) lines ≡ Ok (zip pairs weights, q)) × AreLeft (end_line ∷ []) q
+columns_again : (a b : ℕ) (key : List ℕ) → is_word key ≡ true
+    → (lines : LinesLeft) (pairs : List (ℕ × ℕ)) (weights : List Weight) → All (IsPairBelow a b) pairs → All IsWeight weights
+    → length weights ≡ length pairs
+    → AreLeft (map (weighted_line key) (zip pairs weights) ++ end_line ∷ []) lines
+    → (q : LinesLeft) × (repeat_at (weighted_at key a b) (length pairs) lines ≡ Ok (zip pairs weights, q)) × AreLeft (end_line ∷ []) q
 columns_again a b key keyword lines pairs weights pairs_valid weights_valid same left =
-    let read = items_again (weighted_at key a b) (weighted_line key) (IsWeighted a b) (weighted_again key a b keyword) lines (zip pairs weights) (end_line ∷ []) (All-zip (IsPairBelow a b) IsWeight pairs weights pairs_valid weights_valid same) left in
-    (read.0, subst (λ (k : ℕ). repeat_at (weighted_at key a b) k lines ≡ Ok (zip pairs weights, read.0)) (length-zip_same pairs weights same) read.1, read.2)
+    let read = items_again (weighted_at key a b) (weighted_line key) (IsWeighted a b) (weighted_again key a b keyword) lines
+    (zip pairs weights) (end_line ∷ []) (All-zip (IsPairBelow a b) IsWeight pairs weights pairs_valid weights_valid same) left in (
+      read.0,
+      subst (λ (k : ℕ). repeat_at (weighted_at key a b) k lines ≡ Ok (zip pairs weights, read.0))
+          (length-zip_same pairs weights same) read.1,
+      read.2,
+    )
 
-rooted_found : (words : WordsLeft) (lines : LinesLeft) (instance : Instance) (q : LinesLeft) → rooted_at words lines ≡ Ok (instance, q) → IsFormRead forms.Rooted words lines instance q
+rooted_found : (words : WordsLeft) (lines : LinesLeft) (instance : Instance) (q : LinesLeft) → rooted_at words lines ≡ Ok (instance, q)
+    → IsFormRead forms.Rooted words lines instance q
 unfolding rooted_at
 rooted_found words lines instance q e =
-    let vertices = bind_found (size_at 1 most_vertices words) (λ vertices. size_at 0 most_elements vertices.1 >>= λ many. below_at vertices.0 many.1 >>= λ root. ended_at root.1 >>= λ end. repeat_at (weighted_at (codes "arc") vertices.0 vertices.0) many.0 lines >>= λ arcs. Ok (rooted vertices.0 root.0 (map (λ arc. arc.0) arcs.0) (map (λ arc. arc.1) arcs.0), arcs.1)) (instance, q) e in
-    let many = bind_found (size_at 0 most_elements vertices.0.1) (λ many. below_at vertices.0.0 many.1 >>= λ root. ended_at root.1 >>= λ end. repeat_at (weighted_at (codes "arc") vertices.0.0 vertices.0.0) many.0 lines >>= λ arcs. Ok (rooted vertices.0.0 root.0 (map (λ arc. arc.0) arcs.0) (map (λ arc. arc.1) arcs.0), arcs.1)) (instance, q) vertices.2 in
-    let root = bind_found (below_at vertices.0.0 many.0.1) (λ root. ended_at root.1 >>= λ end. repeat_at (weighted_at (codes "arc") vertices.0.0 vertices.0.0) many.0.0 lines >>= λ arcs. Ok (rooted vertices.0.0 root.0 (map (λ arc. arc.0) arcs.0) (map (λ arc. arc.1) arcs.0), arcs.1)) (instance, q) many.2 in
-    let end = bind_found (ended_at root.0.1) (λ end. repeat_at (weighted_at (codes "arc") vertices.0.0 vertices.0.0) many.0.0 lines >>= λ arcs. Ok (rooted vertices.0.0 root.0.0 (map (λ arc. arc.0) arcs.0) (map (λ arc. arc.1) arcs.0), arcs.1)) (instance, q) root.2 in
-    let arcs = bind_found (repeat_at (weighted_at (codes "arc") vertices.0.0 vertices.0.0) many.0.0 lines) (λ arcs. Ok (rooted vertices.0.0 root.0.0 (map (λ arc. arc.0) arcs.0) (map (λ arc. arc.1) arcs.0), arcs.1)) (instance, q) end.2 in
-    let same = found-same (rooted vertices.0.0 root.0.0 (map (λ arc. arc.0) arcs.0.0) (map (λ arc. arc.1) arcs.0.0), arcs.0.1) (instance, q) arcs.2 in
+    let vertices = bind_found (size_at 1 most_vertices words) _ (instance, q) e in
+    let many = bind_found (size_at 0 most_elements vertices.0.1) _ (instance, q) vertices.2 in
+    let root = bind_found (below_at vertices.0.0 many.0.1) _ (instance, q) many.2 in
+    let end = bind_found (ended_at root.0.1) _ (instance, q) root.2 in
+    let arcs = bind_found (repeat_at (weighted_at (codes "arc") vertices.0.0 vertices.0.0) many.0.0 lines) _ (instance, q) end.2 in
+    let pairs = map (λ (arc : (ℕ × ℕ) × Weight). arc.0) arcs.0.0 in
+    let costs = map (λ (arc : (ℕ × ℕ) × Weight). arc.1) arcs.0.0 in
+    let same = found-same (rooted vertices.0.0 root.0.0 pairs costs, arcs.0.1) (instance, q) arcs.2 in
     let v = size_found 1 most_vertices words vertices.0.0 vertices.0.1 vertices.1 in
     let m = size_found 0 most_elements vertices.0.1 many.0.0 many.0.1 many.1 in
     let r = below_found vertices.0.0 many.0.1 root.0.0 root.0.1 root.1 in
     let last = ended_found root.0.1 end.0 end.1 in
     let read = columns_found vertices.0.0 vertices.0.0 (codes "arc") many.0.0 lines arcs.0.0 arcs.0.1 arcs.1 in
-    let line : words.words ≡ numeral (pos vertices.0.0) ∷ numeral (pos (length (map (λ (arc : (ℕ × ℕ) × ℤ). arc.0) arcs.0.0))) ∷ numeral (pos root.0.0) ∷ [] = v.cut ∙ rw (m.cut, r.cut, last, read.count) refl in
+    let line : words.words ≡ numeral (pos vertices.0.0) ∷ numeral (pos (length pairs)) ∷ numeral (pos root.0.0) ∷ [] =
+    v.cut ∙ rw (m.cut, r.cut, last, read.count) refl in
     subst (λ (x : Instance × LinesLeft). IsFormRead forms.Rooted words lines x.0 x.1) same (record {
       valid = (v.least, omega (arith, v.most), r.most, (omega (arith, read.count, m.most), read.pairs_valid), read.as_many, read.weights_valid);
-      spelled = λ left. (
-        map (weighted_line (codes "arc")) (zip (map (λ (arc : (ℕ × ℕ) × ℤ). arc.0) arcs.0.0) (map (λ (arc : (ℕ × ℕ) × ℤ). arc.1) arcs.0.0)) ++ end_line ∷ [],
-        read.spelled left,
-        ap (λ (t : Line). version_line ∷ (codes "rooted" ∷ t) ∷ (map (weighted_line (codes "arc")) (zip (map (λ (arc : (ℕ × ℕ) × ℤ). arc.0) arcs.0.0) (map (λ (arc : (ℕ × ℕ) × ℤ). arc.1) arcs.0.0)) ++ end_line ∷ [])) line,
-      );
+      spelled = λ left.
+          let more : List Line = map (weighted_line (codes "arc")) (zip pairs costs) ++ end_line ∷ [] in
+          (more, read.spelled left, ap (λ (t : Line). version_line ∷ (codes "rooted" ∷ t) ∷ more) line);
     })
 
-table_found : (words : WordsLeft) (lines : LinesLeft) (instance : Instance) (q : LinesLeft) → table_at words lines ≡ Ok (instance, q) → IsFormRead forms.Table words lines instance q
+table_found : (words : WordsLeft) (lines : LinesLeft) (instance : Instance) (q : LinesLeft) → table_at words lines ≡ Ok (instance, q)
+    → IsFormRead forms.Table words lines instance q
 unfolding table_at
 table_found words lines instance q e =
-    let rows = bind_found (size_at 0 most_sets words) (λ rows. size_at 0 most_sets rows.1 >>= λ columns. size_at 0 most_elements columns.1 >>= λ many. ended_at many.1 >>= λ end. repeat_at (weighted_at (codes "cell") rows.0 columns.0) many.0 lines >>= λ cells. Ok (table rows.0 columns.0 (map (λ cell. cell.0) cells.0) (map (λ cell. cell.1) cells.0), cells.1)) (instance, q) e in
-    let columns = bind_found (size_at 0 most_sets rows.0.1) (λ columns. size_at 0 most_elements columns.1 >>= λ many. ended_at many.1 >>= λ end. repeat_at (weighted_at (codes "cell") rows.0.0 columns.0) many.0 lines >>= λ cells. Ok (table rows.0.0 columns.0 (map (λ cell. cell.0) cells.0) (map (λ cell. cell.1) cells.0), cells.1)) (instance, q) rows.2 in
-    let many = bind_found (size_at 0 most_elements columns.0.1) (λ many. ended_at many.1 >>= λ end. repeat_at (weighted_at (codes "cell") rows.0.0 columns.0.0) many.0 lines >>= λ cells. Ok (table rows.0.0 columns.0.0 (map (λ cell. cell.0) cells.0) (map (λ cell. cell.1) cells.0), cells.1)) (instance, q) columns.2 in
-    let end = bind_found (ended_at many.0.1) (λ end. repeat_at (weighted_at (codes "cell") rows.0.0 columns.0.0) many.0.0 lines >>= λ cells. Ok (table rows.0.0 columns.0.0 (map (λ cell. cell.0) cells.0) (map (λ cell. cell.1) cells.0), cells.1)) (instance, q) many.2 in
-    let cells = bind_found (repeat_at (weighted_at (codes "cell") rows.0.0 columns.0.0) many.0.0 lines) (λ cells. Ok (table rows.0.0 columns.0.0 (map (λ cell. cell.0) cells.0) (map (λ cell. cell.1) cells.0), cells.1)) (instance, q) end.2 in
-    let same = found-same (table rows.0.0 columns.0.0 (map (λ cell. cell.0) cells.0.0) (map (λ cell. cell.1) cells.0.0), cells.0.1) (instance, q) cells.2 in
+    let rows = bind_found (size_at 0 most_sets words) _ (instance, q) e in
+    let columns = bind_found (size_at 0 most_sets rows.0.1) _ (instance, q) rows.2 in
+    let many = bind_found (size_at 0 most_elements columns.0.1) _ (instance, q) columns.2 in
+    let end = bind_found (ended_at many.0.1) _ (instance, q) many.2 in
+    let cells = bind_found (repeat_at (weighted_at (codes "cell") rows.0.0 columns.0.0) many.0.0 lines) _ (instance, q) end.2 in
+    let pairs = map (λ (cell : (ℕ × ℕ) × Weight). cell.0) cells.0.0 in
+    let weights = map (λ (cell : (ℕ × ℕ) × Weight). cell.1) cells.0.0 in
+    let same = found-same (table rows.0.0 columns.0.0 pairs weights, cells.0.1) (instance, q) cells.2 in
     let r = size_found 0 most_sets words rows.0.0 rows.0.1 rows.1 in
     let c = size_found 0 most_sets rows.0.1 columns.0.0 columns.0.1 columns.1 in
     let m = size_found 0 most_elements columns.0.1 many.0.0 many.0.1 many.1 in
     let last = ended_found many.0.1 end.0 end.1 in
     let read = columns_found rows.0.0 columns.0.0 (codes "cell") many.0.0 lines cells.0.0 cells.0.1 cells.1 in
-    let line : words.words ≡ numeral (pos rows.0.0) ∷ numeral (pos columns.0.0) ∷ numeral (pos (length (map (λ (cell : (ℕ × ℕ) × ℤ). cell.0) cells.0.0))) ∷ [] = r.cut ∙ rw (c.cut, m.cut, last, read.count) refl in
+    let line : words.words ≡ numeral (pos rows.0.0) ∷ numeral (pos columns.0.0) ∷ numeral (pos (length pairs)) ∷ [] =
+    r.cut ∙ rw (c.cut, m.cut, last, read.count) refl in
     subst (λ (x : Instance × LinesLeft). IsFormRead forms.Table words lines x.0 x.1) same (record {
       valid = (omega (arith, r.most), omega (arith, c.most), (omega (arith, read.count, m.most), read.pairs_valid), read.as_many, read.weights_valid);
-      spelled = λ left. (
-        map (weighted_line (codes "cell")) (zip (map (λ (cell : (ℕ × ℕ) × ℤ). cell.0) cells.0.0) (map (λ (cell : (ℕ × ℕ) × ℤ). cell.1) cells.0.0)) ++ end_line ∷ [],
-        read.spelled left,
-        ap (λ (t : Line). version_line ∷ (codes "table" ∷ t) ∷ (map (weighted_line (codes "cell")) (zip (map (λ (cell : (ℕ × ℕ) × ℤ). cell.0) cells.0.0) (map (λ (cell : (ℕ × ℕ) × ℤ). cell.1) cells.0.0)) ++ end_line ∷ [])) line,
-      );
+      spelled = λ left.
+          let more : List Line = map (weighted_line (codes "cell")) (zip pairs weights) ++ end_line ∷ [] in
+          (more, read.spelled left, ap (λ (t : Line). version_line ∷ (codes "table" ∷ t) ∷ more) line);
     })
 
 -- items of a pair, a colour and a weight, as three lists
-record AreColouredColumns (v c many : ℕ) (lines : LinesLeft) (edges : List (ℕ × ℕ)) (colours : List ℕ) (weights : List ℤ) (q : LinesLeft) : Type 0 where
+record AreColouredColumns (v c many : ℕ) (lines : LinesLeft) (edges : List (ℕ × ℕ)) (colours : List ℕ) (weights : List Weight)
+    (q : LinesLeft) : Type 0 where
   count : length edges ≡ many
   as_many_colours : length colours ≡ length edges
   as_many_weights : length weights ≡ length edges
@@ -274,63 +317,94 @@ record AreColouredColumns (v c many : ℕ) (lines : LinesLeft) (edges : List (�
   weights_valid : All IsWeight weights
   spelled : AreLeft (end_line ∷ []) q → AreLeft (map coloured_edge_line (zip edges (zip colours weights)) ++ end_line ∷ []) lines
 
-zip-three_parts : (items : List ((ℕ × ℕ) × (ℕ × ℤ))) → zip (map (λ (item : (ℕ × ℕ) × (ℕ × ℤ)). item.0) items) (zip (map (λ (item : (ℕ × ℕ) × (ℕ × ℤ)). item.1.0) items) (map (λ (item : (ℕ × ℕ) × (ℕ × ℤ)). item.1.1) items)) ≡ items
+zip-three_parts : (items : List ((ℕ × ℕ) × (ℕ × Weight))) → zip (map (λ (item : (ℕ × ℕ) × (ℕ × Weight)). item.0) items)
+    (zip (map (λ (item : (ℕ × ℕ) × (ℕ × Weight)). item.1.0) items)
+    (map (λ (item : (ℕ × ℕ) × (ℕ × Weight)). item.1.1) items)) ≡ items
 zip-three_parts [] = refl
-zip-three_parts (item ∷ items) = ap (λ (t : List ((ℕ × ℕ) × (ℕ × ℤ))). item ∷ t) (zip-three_parts items)
+zip-three_parts (item ∷ items) = ap (λ (t : List ((ℕ × ℕ) × (ℕ × Weight))). item ∷ t) (zip-three_parts items)
 
-coloured_columns_found : (v c many : ℕ) (lines : LinesLeft) (items : List ((ℕ × ℕ) × (ℕ × ℤ))) (q : LinesLeft) → repeat_at (coloured_edge_at v c) many lines ≡ Ok (items, q)
-    → AreColouredColumns v c many lines (map (λ (item : (ℕ × ℕ) × (ℕ × ℤ)). item.0) items) (map (λ (item : (ℕ × ℕ) × (ℕ × ℤ)). item.1.0) items) (map (λ (item : (ℕ × ℕ) × (ℕ × ℤ)). item.1.1) items) q
+coloured_columns_found : (v c many : ℕ) (lines : LinesLeft) (items : List ((ℕ × ℕ) × (ℕ × Weight))) (q : LinesLeft)
+    → repeat_at (coloured_edge_at v c) many lines ≡ Ok (items, q)
+    → AreColouredColumns v c many lines (map (λ (item : (ℕ × ℕ) × (ℕ × Weight)). item.0) items)
+    (map (λ (item : (ℕ × ℕ) × (ℕ × Weight)). item.1.0) items) (map (λ (item : (ℕ × ℕ) × (ℕ × Weight)). item.1.1) items) q
 coloured_columns_found v c many lines items q e =
     let read = items_found (coloured_edge_at v c) coloured_edge_line (IsColoured v c) (coloured_edge_found v c) many lines items q e in
-    let firsts = length-map_same (λ (item : (ℕ × ℕ) × (ℕ × ℤ)). item.0) items in
-    let seconds = length-map_same (λ (item : (ℕ × ℕ) × (ℕ × ℤ)). item.1.0) items in
-    let thirds = length-map_same (λ (item : (ℕ × ℕ) × (ℕ × ℤ)). item.1.1) items in
+    let firsts = length-map_same (λ (item : (ℕ × ℕ) × (ℕ × Weight)). item.0) items in
+    let seconds = length-map_same (λ (item : (ℕ × ℕ) × (ℕ × Weight)). item.1.0) items in
+    let thirds = length-map_same (λ (item : (ℕ × ℕ) × (ℕ × Weight)). item.1.1) items in
     record {
       count = firsts ∙ read.count;
       as_many_colours = seconds ∙ sym firsts;
       as_many_weights = thirds ∙ sym firsts;
-      edges_valid = All-map (IsColoured v c) (IsPairBelow v v) (λ (item : (ℕ × ℕ) × (ℕ × ℤ)). item.0) (λ item valid. valid.0) items read.each;
-      colours_valid = All-map (IsColoured v c) (λ colour. colour < c) (λ (item : (ℕ × ℕ) × (ℕ × ℤ)). item.1.0) (λ item valid. valid.1) items read.each;
-      weights_valid = All-map (IsColoured v c) IsWeight (λ (item : (ℕ × ℕ) × (ℕ × ℤ)). item.1.1) (λ item valid. valid.2) items read.each;
-      spelled = λ left. subst (λ (t : List ((ℕ × ℕ) × (ℕ × ℤ))). AreLeft (map coloured_edge_line t ++ end_line ∷ []) lines) (sym (zip-three_parts items)) (read.spelled (end_line ∷ []) left);
+      edges_valid = All-map (IsColoured v c) (IsPairBelow v v) (λ (item : (ℕ × ℕ) × (ℕ × Weight)). item.0) (λ item valid. valid.0)
+          items read.each;
+      colours_valid = All-map (IsColoured v c) (λ colour. colour < c) (λ (item : (ℕ × ℕ) × (ℕ × Weight)). item.1.0)
+          (λ item valid. valid.1) items read.each;
+      weights_valid = All-map (IsColoured v c) IsWeight (λ (item : (ℕ × ℕ) × (ℕ × Weight)). item.1.1) (λ item valid. valid.2) items
+          read.each;
+      spelled = λ left. subst (λ (t : List ((ℕ × ℕ) × (ℕ × Weight))). AreLeft (map coloured_edge_line t ++ end_line ∷ []) lines)
+          (sym (zip-three_parts items)) (read.spelled (end_line ∷ []) left);
     }
 
-coloured_columns_again : (v c : ℕ) (lines : LinesLeft) (edges : List (ℕ × ℕ)) (colours : List ℕ) (weights : List ℤ) → All (IsPairBelow v v) edges → All (λ colour. colour < c) colours → All IsWeight weights
-    → length colours ≡ length edges → length weights ≡ length edges → AreLeft (map coloured_edge_line (zip edges (zip colours weights)) ++ end_line ∷ []) lines
-    → (q : LinesLeft) × (repeat_at (coloured_edge_at v c) (length edges) lines ≡ Ok (zip edges (zip colours weights), q)) × AreLeft (end_line ∷ []) q
+coloured_columns_again : (v c : ℕ) (lines : LinesLeft) (edges : List (ℕ × ℕ)) (colours : List ℕ) (weights : List Weight)
+    → All (IsPairBelow v v) edges → All (λ colour. colour < c) colours → All IsWeight weights
+    → length colours ≡ length edges → length weights ≡ length edges
+    → AreLeft (map coloured_edge_line (zip edges (zip colours weights)) ++ end_line ∷ []) lines
+    → (q : LinesLeft) × (repeat_at (coloured_edge_at v c) (length edges) lines ≡ Ok (zip edges (zip colours weights), q)) × AreLeft
+    (end_line ∷ []) q
 coloured_columns_again v c lines edges colours weights edges_valid colours_valid weights_valid one two left =
     let inner = length-zip_same colours weights (two ∙ sym one) in
     let pairs = All-zip (λ colour. colour < c) IsWeight colours weights colours_valid weights_valid (two ∙ sym one) in
-    let triples = All-zip (IsPairBelow v v) (λ (item : ℕ × ℤ). (item.0 < c) × IsWeight item.1) edges (zip colours weights) edges_valid pairs (inner ∙ one) in
-    let valid = All-weaker (λ (item : (ℕ × ℕ) × (ℕ × ℤ)). IsPairBelow v v item.0 × ((item.1.0 < c) × IsWeight item.1.1)) (IsColoured v c) (λ item h. (h.0, h.1.0, h.1.1)) (zip edges (zip colours weights)) triples in
-    let read = items_again (coloured_edge_at v c) coloured_edge_line (IsColoured v c) (coloured_edge_again v c) lines (zip edges (zip colours weights)) (end_line ∷ []) valid left in
-    (read.0, subst (λ (k : ℕ). repeat_at (coloured_edge_at v c) k lines ≡ Ok (zip edges (zip colours weights), read.0)) (length-zip_same edges (zip colours weights) (inner ∙ one)) read.1, read.2)
+    let triples = All-zip (IsPairBelow v v) (λ (item : ℕ × Weight). (item.0 < c) × IsWeight item.1) edges (zip colours weights)
+    edges_valid pairs (inner ∙ one) in
+    let valid = All-weaker (λ (item : (ℕ × ℕ) × (ℕ × Weight)). IsPairBelow v v item.0 × ((item.1.0 < c) × IsWeight item.1.1))
+    (IsColoured v c) (λ item h. (h.0, h.1.0, h.1.1)) (zip edges (zip colours weights)) triples in
+    let read = items_again (coloured_edge_at v c) coloured_edge_line (IsColoured v c) (coloured_edge_again v c) lines
+    (zip edges (zip colours weights)) (end_line ∷ []) valid left in (
+      read.0,
+      subst (λ (k : ℕ). repeat_at (coloured_edge_at v c) k lines ≡ Ok (zip edges (zip colours weights), read.0))
+          (length-zip_same edges (zip colours weights) (inner ∙ one)) read.1,
+      read.2,
+    )
 
-coloured_found : (words : WordsLeft) (lines : LinesLeft) (instance : Instance) (q : LinesLeft) → coloured_at words lines ≡ Ok (instance, q) → IsFormRead forms.Coloured words lines instance q
+coloured_found : (words : WordsLeft) (lines : LinesLeft) (instance : Instance) (q : LinesLeft) → coloured_at words lines ≡ Ok (instance, q)
+    → IsFormRead forms.Coloured words lines instance q
 unfolding coloured_at
 coloured_found words lines instance q e =
-    let vertices = bind_found (size_at 1 most_vertices words) (λ vertices. size_at 0 most_elements vertices.1 >>= λ many. size_at 0 most_sets many.1 >>= λ colours. ended_at colours.1 >>= λ end. repeat_at (coloured_edge_at vertices.0 colours.0) many.0 lines >>= λ edges. Ok (coloured vertices.0 colours.0 (map (λ edge. edge.0) edges.0) (map (λ edge. edge.1.0) edges.0) (map (λ edge. edge.1.1) edges.0), edges.1)) (instance, q) e in
-    let many = bind_found (size_at 0 most_elements vertices.0.1) (λ many. size_at 0 most_sets many.1 >>= λ colours. ended_at colours.1 >>= λ end. repeat_at (coloured_edge_at vertices.0.0 colours.0) many.0 lines >>= λ edges. Ok (coloured vertices.0.0 colours.0 (map (λ edge. edge.0) edges.0) (map (λ edge. edge.1.0) edges.0) (map (λ edge. edge.1.1) edges.0), edges.1)) (instance, q) vertices.2 in
-    let colours = bind_found (size_at 0 most_sets many.0.1) (λ colours. ended_at colours.1 >>= λ end. repeat_at (coloured_edge_at vertices.0.0 colours.0) many.0.0 lines >>= λ edges. Ok (coloured vertices.0.0 colours.0 (map (λ edge. edge.0) edges.0) (map (λ edge. edge.1.0) edges.0) (map (λ edge. edge.1.1) edges.0), edges.1)) (instance, q) many.2 in
-    let end = bind_found (ended_at colours.0.1) (λ end. repeat_at (coloured_edge_at vertices.0.0 colours.0.0) many.0.0 lines >>= λ edges. Ok (coloured vertices.0.0 colours.0.0 (map (λ edge. edge.0) edges.0) (map (λ edge. edge.1.0) edges.0) (map (λ edge. edge.1.1) edges.0), edges.1)) (instance, q) colours.2 in
-    let edges = bind_found (repeat_at (coloured_edge_at vertices.0.0 colours.0.0) many.0.0 lines) (λ edges. Ok (coloured vertices.0.0 colours.0.0 (map (λ edge. edge.0) edges.0) (map (λ edge. edge.1.0) edges.0) (map (λ edge. edge.1.1) edges.0), edges.1)) (instance, q) end.2 in
-    let same = found-same (coloured vertices.0.0 colours.0.0 (map (λ edge. edge.0) edges.0.0) (map (λ edge. edge.1.0) edges.0.0) (map (λ edge. edge.1.1) edges.0.0), edges.0.1) (instance, q) edges.2 in
+    let vertices = bind_found (size_at 1 most_vertices words) _ (instance, q) e in
+    let many = bind_found (size_at 0 most_elements vertices.0.1) _ (instance, q) vertices.2 in
+    let colours = bind_found (size_at 0 most_sets many.0.1) _ (instance, q) many.2 in
+    let end = bind_found (ended_at colours.0.1) _ (instance, q) colours.2 in
+    let edges = bind_found (repeat_at (coloured_edge_at vertices.0.0 colours.0.0) many.0.0 lines) _ (instance, q) end.2 in
+    let pairs = map (λ (edge : (ℕ × ℕ) × (ℕ × Weight)). edge.0) edges.0.0 in
+    let colour_of = map (λ (edge : (ℕ × ℕ) × (ℕ × Weight)). edge.1.0) edges.0.0 in
+    let weights = map (λ (edge : (ℕ × ℕ) × (ℕ × Weight)). edge.1.1) edges.0.0 in
+    let same = found-same (coloured vertices.0.0 colours.0.0 pairs colour_of weights, edges.0.1) (instance, q) edges.2 in
     let v = size_found 1 most_vertices words vertices.0.0 vertices.0.1 vertices.1 in
     let m = size_found 0 most_elements vertices.0.1 many.0.0 many.0.1 many.1 in
     let c = size_found 0 most_sets many.0.1 colours.0.0 colours.0.1 colours.1 in
     let last = ended_found colours.0.1 end.0 end.1 in
     let read = coloured_columns_found vertices.0.0 colours.0.0 many.0.0 lines edges.0.0 edges.0.1 edges.1 in
-    let line : words.words ≡ numeral (pos vertices.0.0) ∷ numeral (pos (length (map (λ (edge : (ℕ × ℕ) × (ℕ × ℤ)). edge.0) edges.0.0))) ∷ numeral (pos colours.0.0) ∷ [] = v.cut ∙ rw (m.cut, c.cut, last, read.count) refl in
+    let line : words.words ≡ numeral (pos vertices.0.0) ∷ numeral (pos (length pairs)) ∷ numeral (pos colours.0.0) ∷ [] =
+    v.cut ∙ rw (m.cut, c.cut, last, read.count) refl in
     subst (λ (x : Instance × LinesLeft). IsFormRead forms.Coloured words lines x.0 x.1) same (record {
-      valid = (v.least, omega (arith, v.most), omega (arith, c.most), (omega (arith, read.count, m.most), read.edges_valid), read.as_many_colours, read.colours_valid, read.as_many_weights, read.weights_valid);
-      spelled = λ left. (
-        map coloured_edge_line (zip (map (λ (edge : (ℕ × ℕ) × (ℕ × ℤ)). edge.0) edges.0.0) (zip (map (λ (edge : (ℕ × ℕ) × (ℕ × ℤ)). edge.1.0) edges.0.0) (map (λ (edge : (ℕ × ℕ) × (ℕ × ℤ)). edge.1.1) edges.0.0))) ++ end_line ∷ [],
-        read.spelled left,
-        ap (λ (t : Line). version_line ∷ (codes "coloured" ∷ t) ∷ (map coloured_edge_line (zip (map (λ (edge : (ℕ × ℕ) × (ℕ × ℤ)). edge.0) edges.0.0) (zip (map (λ (edge : (ℕ × ℕ) × (ℕ × ℤ)). edge.1.0) edges.0.0) (map (λ (edge : (ℕ × ℕ) × (ℕ × ℤ)). edge.1.1) edges.0.0))) ++ end_line ∷ [])) line,
+      valid = (
+        v.least,
+        omega (arith, v.most),
+        omega (arith, c.most),
+        (omega (arith, read.count, m.most), read.edges_valid),
+        read.as_many_colours,
+        read.colours_valid,
+        read.as_many_weights,
+        read.weights_valid,
       );
+      spelled = λ left.
+          let more : List Line = map coloured_edge_line (zip pairs (zip colour_of weights)) ++ end_line ∷ [] in
+          (more, read.spelled left, ap (λ (t : Line). version_line ∷ (codes "coloured" ∷ t) ∷ more) line);
     })
 
-pub any_form_found : (line : ℕ) (form : Form) (words : WordsLeft) (lines : LinesLeft) (instance : Instance) (q : LinesLeft) → form_at line (Some form) words lines ≡ Ok (instance, q) → IsFormRead form words lines instance q
+pub any_form_found : (line : ℕ) (form : Form) (words : WordsLeft) (lines : LinesLeft) (instance : Instance) (q : LinesLeft)
+    → form_at line (Some form) words lines ≡ Ok (instance, q) → IsFormRead form words lines instance q
 any_form_found line forms.Pair words lines instance q e = pair_found words lines instance q e
 any_form_found line forms.List words lines instance q e = list_found words lines instance q e
 any_form_found line forms.Graph words lines instance q e = graph_found words lines instance q e
@@ -347,14 +421,16 @@ pub record IsFormSpelled (instance : Instance) (lines : List Line) : Type 0 wher
   pub more : List Line
   pub cut : lines ≡ version_line ∷ (form_spelling form ∷ words) ∷ more
   pub are_words : list_all is_word words ≡ true
-  pub again : (n : ℕ) (p : LinesLeft) → AreLeft more p → (q : LinesLeft) × (form_at n (Some form) (record { line = n; words = words }) p ≡ Ok (instance, q)) × AreLeft (end_line ∷ []) q
+  pub again : (n : ℕ) (p : LinesLeft) → AreLeft more p → (q : LinesLeft) × (form_at n (Some form) (record { line = n; words = words }) p
+      ≡ Ok (instance, q)) × AreLeft (end_line ∷ []) q
 
-pub any_form_spelled : (instance : Instance) (lines : List Line) → IsValid instance → InstanceLines instance lines → IsFormSpelled instance lines
+pub any_form_spelled : (instance : Instance) (lines : List Line) → IsValid instance → InstanceLines instance lines
+    → IsFormSpelled instance lines
 unfolding pair_at list_at graph_at rooted_at coloured_at table_at
 any_form_spelled (pair weights first second) lines valid spelled = record {
   form = forms.Pair;
   words = numeral (pos (length weights)) ∷ [];
-  more = (codes "weights" ∷ map numeral weights) ∷ spelled.0;
+  more = (codes "weights" ∷ map weight_word weights) ∷ spelled.0;
   cut = spelled.2;
   are_words = numerals_words (length weights ∷ []);
   again = λ n p left.
@@ -367,7 +443,7 @@ any_form_spelled (pair weights first second) lines valid spelled = record {
 any_form_spelled (list weights matroids) lines valid spelled = record {
   form = forms.List;
   words = numeral (pos (length weights)) ∷ numeral (pos (length matroids)) ∷ [];
-  more = (codes "weights" ∷ map numeral weights) ∷ spelled.0;
+  more = (codes "weights" ∷ map weight_word weights) ∷ spelled.0;
   cut = spelled.1;
   are_words = numerals_words (length weights ∷ length matroids ∷ []);
   again = λ n p left.
@@ -386,7 +462,8 @@ any_form_spelled (graph vertices edges) lines valid spelled = record {
   again = λ n p left.
       let number = size_again 1 most_vertices n vertices (numeral (pos (length edges)) ∷ []) valid.0 (omega (arith, valid.1)) in
       let many = size_again 0 most_elements n (length edges) [] (omega arith) (omega (arith, valid.2.0)) in
-      let read = items_again (ends_line_at (codes "edge") vertices) (ends_line (codes "edge")) (IsPairBelow vertices vertices) (ends_line_again (codes "edge") vertices refl) p edges (end_line ∷ []) valid.2.1 left in
+      let read = items_again (ends_line_at (codes "edge") vertices) (ends_line (codes "edge")) (IsPairBelow vertices vertices)
+      (ends_line_again (codes "edge") vertices refl) p edges (end_line ∷ []) valid.2.1 left in
       (read.0, rw (number, many, ended_again n, read.1) refl, read.2);
 }
 any_form_spelled (rooted vertices root arcs costs) lines valid spelled = record {
@@ -396,7 +473,8 @@ any_form_spelled (rooted vertices root arcs costs) lines valid spelled = record 
   cut = spelled;
   are_words = numerals_words (vertices ∷ length arcs ∷ root ∷ []);
   again = λ n p left.
-      let number = size_again 1 most_vertices n vertices (numeral (pos (length arcs)) ∷ numeral (pos root) ∷ []) valid.0 (omega (arith, valid.1)) in
+      let number = size_again 1 most_vertices n vertices (numeral (pos (length arcs)) ∷ numeral (pos root) ∷ []) valid.0
+      (omega (arith, valid.1)) in
       let many = size_again 0 most_elements n (length arcs) (numeral (pos root) ∷ []) (omega arith) (omega (arith, valid.3.0)) in
       let from = below_again vertices n root [] valid.2 in
       let read = columns_again vertices vertices (codes "arc") refl p arcs costs valid.3.1 valid.5 valid.4 left in
@@ -409,11 +487,25 @@ any_form_spelled (coloured vertices colours edges colour_of weights) lines valid
   cut = spelled;
   are_words = numerals_words (vertices ∷ length edges ∷ colours ∷ []);
   again = λ n p left.
-      let number = size_again 1 most_vertices n vertices (numeral (pos (length edges)) ∷ numeral (pos colours) ∷ []) valid.0 (omega (arith, valid.1)) in
+      let number = size_again 1 most_vertices n vertices (numeral (pos (length edges)) ∷ numeral (pos colours) ∷ []) valid.0
+      (omega (arith, valid.1)) in
       let many = size_again 0 most_elements n (length edges) (numeral (pos colours) ∷ []) (omega arith) (omega (arith, valid.3.0)) in
       let hues = size_again 0 most_sets n colours [] (omega arith) (omega (arith, valid.2)) in
-      let read = coloured_columns_again vertices colours p edges colour_of weights valid.3.1 valid.5 valid.7 valid.4 valid.6 left in
-      (read.0, rw (number, many, hues, ended_again n, read.1, edges-zip edges colour_of weights valid.4 valid.6, colours-zip edges colour_of weights valid.4 valid.6, weights-zip edges colour_of weights valid.4 valid.6) refl, read.2);
+      let read = coloured_columns_again vertices colours p edges colour_of weights valid.3.1 valid.5 valid.7 valid.4 valid.6 left in (
+        read.0,
+        rw (
+          number,
+          many,
+          hues,
+          ended_again n,
+          read.1,
+          edges-zip edges colour_of weights valid.4 valid.6,
+          colours-zip edges colour_of
+              weights valid.4 valid.6,
+          weights-zip edges colour_of weights valid.4 valid.6,
+        ) refl,
+        read.2,
+      );
 }
 any_form_spelled (table rows columns cells weights) lines valid spelled = record {
   form = forms.Table;
@@ -422,7 +514,8 @@ any_form_spelled (table rows columns cells weights) lines valid spelled = record
   cut = spelled;
   are_words = numerals_words (rows ∷ columns ∷ length cells ∷ []);
   again = λ n p left.
-      let down = size_again 0 most_sets n rows (numeral (pos columns) ∷ numeral (pos (length cells)) ∷ []) (omega arith) (omega (arith, valid.0)) in
+      let down = size_again 0 most_sets n rows (numeral (pos columns) ∷ numeral (pos (length cells)) ∷ []) (omega arith)
+      (omega (arith, valid.0)) in
       let across = size_again 0 most_sets n columns (numeral (pos (length cells)) ∷ []) (omega arith) (omega (arith, valid.1)) in
       let many = size_again 0 most_elements n (length cells) [] (omega arith) (omega (arith, valid.2.0)) in
       let read = columns_again rows columns (codes "cell") refl p cells weights valid.2.1 valid.4 valid.3 left in

@@ -1,5 +1,6 @@
 -- Whole descriptions: a text that is read spells the problem that was read, and a text that spells a problem is read as that problem.
-use Rattle.std.proofs.Common.{◌≡◌, ℕ, true, cond, eqb, List, [], ◌∷◌, length, Option, Some, None, Ok, Err, refl, sym, ap, subst, ◌∙◌, arith}
+use Rattle.std.proofs.Common.{◌≡◌, ℕ, true, eqb, List, [], ◌∷◌, length, Option}
+use Rattle.std.proofs.Common.{Some, None, Ok, refl, sym, ap, subst, ◌∙◌, arith}
 use Rattle.std.specs.Prelude.{codes, bytes_eq}
 use Rattle.std.specs.List.{list_all, join_with_byte}
 use Rattle.std.proofs.lemmas.Bool.{and_from, and_parts, eqb-true}
@@ -9,14 +10,16 @@ use Rattle.mat_words.specs.Lines.{Line, lines_of, text_of}
 use Rattle.mat_words.specs.Words.{is_word}
 use Rattle.mat_desc.specs.declared.refusal.DescKind.TheVariants.{Version, TooManyLines}
 use Rattle.mat_desc.specs.declared.keywords.Form.{Form}
-use Rattle.mat_desc.specs.Faults.{◌>>=◌, WordsLeft, LinesLeft}
-use Rattle.mat_desc.specs.Reading.{line_at, word_at, ended_at, keyed_at, version_at, end_at, is_closed, closed_at, form_of, form_at, instance_at, description_at, read_of}
+use Rattle.mat_words.specs.Cursors.{WordsLeft, LinesLeft}
+use Rattle.mat_words.specs.Reading.{word_at as word_read, is_closed}
+use Rattle.mat_desc.specs.Reading.{line_at, word_at, ended_at, keyed_at, version_at, end_at}
+use Rattle.mat_desc.specs.Reading.{closed_at, form_of, form_at, instance_at, description_at, read_of}
 use Rattle.mat_desc.specs.Instances.{Instance}
 use Rattle.mat_words.specs.Writing.{end_line}
 use Rattle.mat_desc.specs.Grammar.{version_line, IsValid, InstanceLines, Spells}
-use Rattle.mat_desc.proofs.ReadingSteps.{found-same, bind_found, test_found}
-use Rattle.mat_desc.proofs.WordLaws.{word_found, ended_found, ended_again}
-use Rattle.mat_desc.proofs.LineLaws.{AreLeft, line_found, line_again, keyed_found, keyed_again}
+use Rattle.mat_words.proofs.ReadingSteps.{found-same, bind_found, test_found}
+use Rattle.mat_words.proofs.LineReading.{AreLeft, line_again, keyed_again}
+use Rattle.mat_desc.proofs.Told.{word_found, ended_found, ended_again, line_found, keyed_found}
 use Rattle.mat_desc.proofs.FormLaws.{form_spelling, form_found, form_of-form_spelling, form_word, any_form_found, any_form_spelled}
 
 -- ---- the lines round a problem
@@ -24,18 +27,20 @@ use Rattle.mat_desc.proofs.FormLaws.{form_spelling, form_found, form_of-form_spe
 version_found : (p q : LinesLeft) → version_at p ≡ Ok q → (rest : List Line) → AreLeft rest q → AreLeft (version_line ∷ rest) p
 unfolding version_at
 version_found p q e rest left =
-    let line = bind_found (keyed_at (codes "matroids") p) (λ line. word_at line.0 >>= λ word. cond (bytes_eq word.0 (codes "1")) (ended_at word.1 >>= λ end. Ok line.1) (Err (Version, p.line))) q e in
-    let word = bind_found (word_at line.0.0) (λ word. cond (bytes_eq word.0 (codes "1")) (ended_at word.1 >>= λ end. Ok line.0.1) (Err (Version, p.line))) q line.2 in
-    let test = test_found (bytes_eq word.0.0 (codes "1")) (Version, p.line) (ended_at word.0.1 >>= λ end. Ok line.0.1) q word.2 in
-    let end = bind_found (ended_at word.0.1) (λ end. Ok line.0.1) q test.1 in
+    let line = bind_found (keyed_at (codes "matroids") p) _ q e in
+    let word = bind_found (word_at line.0.0) _ q line.2 in
+    let test = test_found (bytes_eq word.0.0 (codes "1")) (Version, p.line) _ q word.2 in
+    let end = bind_found (ended_at word.0.1) _ q test.1 in
     let one : word.0.0 ≡ codes "1" = (bytes_eq-Decides word.0.0 (codes "1")).0 test.0 in
     let last = ended_found word.0.1 end.0 end.1 in
     let words : line.0.0.words ≡ codes "1" ∷ [] = word_found line.0.0 word.0.0 word.0.1 word.1 ∙ rw (one, last) refl in
     let behind : AreLeft rest line.0.1 = subst (λ (x : LinesLeft). AreLeft rest x) (sym (found-same line.0.1 q end.2)) left in
-    subst (λ (ws : Line). AreLeft ((codes "matroids" ∷ ws) ∷ rest) p) words (keyed_found (codes "matroids") p line.0.0 line.0.1 line.1 rest behind)
+    subst (λ (ws : Line). AreLeft ((codes "matroids" ∷ ws) ∷ rest) p) words
+    (keyed_found (codes "matroids") p line.0.0 line.0.1 line.1 rest behind)
 
-version_again : (p : LinesLeft) (rest : List Line) → AreLeft (version_line ∷ rest) p → (q : LinesLeft) × (version_at p ≡ Ok q) × AreLeft rest q
-unfolding version_at word_at
+version_again : (p : LinesLeft) (rest : List Line) → AreLeft (version_line ∷ rest) p
+    → (q : LinesLeft) × (version_at p ≡ Ok q) × AreLeft rest q
+unfolding version_at word_read
 version_again p rest left =
     let line = keyed_again (codes "matroids") p (codes "1" ∷ []) rest refl refl left in
     (line.0, rw (line.1, ended_again p.line) refl, line.2)
@@ -43,10 +48,11 @@ version_again p rest left =
 end_found : (p q : LinesLeft) → end_at p ≡ Ok q → (rest : List Line) → AreLeft rest q → AreLeft (end_line ∷ rest) p
 unfolding end_at
 end_found p q e rest left =
-    let line = bind_found (keyed_at (codes "end") p) (λ line. ended_at line.0 >>= λ end. Ok line.1) q e in
-    let end = bind_found (ended_at line.0.0) (λ end. Ok line.0.1) q line.2 in
+    let line = bind_found (keyed_at (codes "end") p) _ q e in
+    let end = bind_found (ended_at line.0.0) _ q line.2 in
     let behind : AreLeft rest line.0.1 = subst (λ (x : LinesLeft). AreLeft rest x) (sym (found-same line.0.1 q end.2)) left in
-    subst (λ (ws : Line). AreLeft ((codes "end" ∷ ws) ∷ rest) p) (ended_found line.0.0 end.0 end.1) (keyed_found (codes "end") p line.0.0 line.0.1 line.1 rest behind)
+    subst (λ (ws : Line). AreLeft ((codes "end" ∷ ws) ∷ rest) p) (ended_found line.0.0 end.0 end.1)
+    (keyed_found (codes "end") p line.0.0 line.0.1 line.1 rest behind)
 
 end_again : (p : LinesLeft) (rest : List Line) → AreLeft (end_line ∷ rest) p → (q : LinesLeft) × (end_at p ≡ Ok q) × AreLeft rest q
 unfolding end_at
@@ -66,7 +72,7 @@ one_empty (line ∷ lines) e =
 
 closed_found : (p : LinesLeft) (u : Unit {0}) → closed_at p ≡ Ok u → AreLeft [] p
 unfolding closed_at
-closed_found p u e = record { same = one_empty p.lines (test_found (is_closed p.lines) (TooManyLines, p.line) (Ok tt) u e).0 }
+closed_found p u e = record { same = one_empty p.lines (test_found (is_closed p.lines) (TooManyLines, p.line) _ u e).0 }
 
 closed_again : (p : LinesLeft) → AreLeft [] p → closed_at p ≡ Ok tt
 unfolding closed_at
@@ -82,21 +88,29 @@ record IsInstanceRead (p : LinesLeft) (instance : Instance) (q : LinesLeft) : Ty
 instance_found : (p : LinesLeft) (instance : Instance) (q : LinesLeft) → instance_at p ≡ Ok (instance, q) → IsInstanceRead p instance q
 unfolding instance_at
 instance_found p instance q e =
-    let line = bind_found (line_at p) (λ line. word_at line.0 >>= λ word. form_at p.line (form_of word.0) word.1 line.1) (instance, q) e in
-    let word = bind_found (word_at line.0.0) (λ word. form_at p.line (form_of word.0) word.1 line.0.1) (instance, q) line.2 in
-    form word.0.0 word.0.1 line.0.0 line.0.1 (form_of word.0.0) refl word.2 (word_found line.0.0 word.0.0 word.0.1 word.1) (line_found p line.0.0 line.0.1 line.1)
+    let line = bind_found (line_at p) _ (instance, q) e in
+    let word = bind_found (word_at line.0.0) _ (instance, q) line.2 in
+    form word.0.0 word.0.1 line.0.0 line.0.1 (form_of word.0.0) refl word.2 (word_found line.0.0 word.0.0 word.0.1 word.1)
+    (line_found p line.0.0 line.0.1 line.1)
   where
-    form : (first : List ℕ) (words line : WordsLeft) (lines : LinesLeft) (o : Option Form) → form_of first ≡ o → form_at p.line o words lines ≡ Ok (instance, q)
-        → line.words ≡ first ∷ words.words → ((rest : List Line) → AreLeft rest lines → AreLeft (line.words ∷ rest) p) → IsInstanceRead p instance q
+    form : (first : List ℕ) (words line : WordsLeft) (lines : LinesLeft) (o : Option Form) → form_of first ≡ o
+        → form_at p.line o words lines ≡ Ok (instance, q)
+        → line.words ≡ first ∷ words.words → ((rest : List Line) → AreLeft rest lines → AreLeft (line.words ∷ rest) p)
+        → IsInstanceRead p instance q
     form first words line lines None is h cut written = absurd cc
     form first words line lines (Some named) is h cut written =
         let read = any_form_found p.line named words lines instance q h in
-        let whole : line.words ≡ form_spelling named ∷ words.words = cut ∙ ap (λ (t : List ℕ). t ∷ words.words) (form_found first named is) in
+        let whole : line.words ≡ form_spelling named ∷ words.words = cut ∙ ap (λ (t : List ℕ). t ∷ words.words)
+        (form_found first named is) in
         record {
           valid = read.valid;
           spelled = λ left.
-              let behind = read.spelled left in
-              ((form_spelling named ∷ words.words) ∷ behind.0, subst (λ (t : Line). AreLeft (t ∷ behind.0) p) whole (written behind.0 behind.1), behind.2);
+              let behind = read.spelled left in (
+                (form_spelling named ∷ words.words) ∷ behind.0,
+                subst (λ (t : Line). AreLeft (t ∷ behind.0) p) whole
+                    (written behind.0 behind.1),
+                behind.2,
+              );
         }
 
 -- texts with the same lines are the same
@@ -107,21 +121,27 @@ pub description_found : (text : List ℕ) (instance : Instance) → read_of text
 unfolding description_at
 description_found text instance e =
     let p : LinesLeft = record { line = 1; lines = lines_of text } in
-    let form = bind_found (version_at p) (λ form. instance_at form >>= λ instance. end_at instance.1 >>= λ rest. closed_at rest >>= λ close. Ok instance.0) instance e in
-    let body = bind_found (instance_at form.0) (λ instance. end_at instance.1 >>= λ rest. closed_at rest >>= λ close. Ok instance.0) instance form.2 in
-    let rest = bind_found (end_at body.0.1) (λ rest. closed_at rest >>= λ close. Ok body.0.0) instance body.2 in
-    let close = bind_found (closed_at rest.0) (λ close. Ok body.0.0) instance rest.2 in
+    let form = bind_found (version_at p) _ instance e in
+    let body = bind_found (instance_at form.0) _ instance form.2 in
+    let rest = bind_found (end_at body.0.1) _ instance body.2 in
+    let close = bind_found (closed_at rest.0) _ instance rest.2 in
     let same = found-same body.0.0 instance close.2 in
     let read = instance_found form.0 body.0.0 body.0.1 body.1 in
     let ended = end_found body.0.1 rest.0 rest.1 [] (closed_found rest.0 close.0 close.1) in
     let behind = read.spelled ended in
     let whole = version_found p form.0 form.1 behind.0 behind.1 in
-    let spelled : Spells text body.0.0 = record { valid = read.valid; lines = version_line ∷ behind.0; spelled = behind.2; whole = same_text text (text_of (version_line ∷ behind.0)) whole.same } in
+    let spelled : Spells text body.0.0 = record {
+      valid = read.valid;
+      lines = version_line ∷ behind.0;
+      spelled = behind.2;
+      whole = same_text
+          text (text_of (version_line ∷ behind.0)) whole.same;
+    } in
     subst (λ (i : Instance). Spells text i) same spelled
 
 instance_again : (p : LinesLeft) (instance : Instance) (lines : List Line) → IsValid instance → InstanceLines instance lines → AreLeft lines p
     → (form : LinesLeft) × (q : LinesLeft) × (version_at p ≡ Ok form) × (instance_at form ≡ Ok (instance, q)) × AreLeft (end_line ∷ []) q
-unfolding instance_at word_at
+unfolding instance_at word_read
 instance_again p instance lines valid spelled left =
     let form = any_form_spelled instance lines valid spelled in
     let head = version_again p ((form_spelling form.form ∷ form.words) ∷ form.more) (subst (λ (ls : List Line). AreLeft ls p) form.cut left) in

@@ -1,21 +1,29 @@
 -- A line for each item: what is read is spelled so, and what is spelled so is read.
-use Rattle.std.proofs.Common.{◌≡◌, ℕ, zero, suc, ◌<◌, ◌≤◌, ◌^◌, ℤ, pos, neg_ℤ, true, List, [], ◌∷◌, ◌++◌, length, map, Result, Ok, refl, ap, subst, ◌∙◌, arith}
-use Rattle.std.specs.Prelude.{codes}
+use Rattle.std.proofs.Common.{◌≡◌, ℕ, zero, suc, ◌<◌, ◌≤◌, ◌^◌, pos, true, List, []}
+use Rattle.std.proofs.Common.{◌∷◌, ◌++◌, length, map, Result, Ok, refl, ap, subst, ◌∙◌, arith}
+use Rattle.std.specs.Prelude.{codes, neg_ℤ}
 use Rattle.std.specs.List.{All, list_all, zip}
 use Rattle.std.proofs.lemmas.Bool.{and_from}
 use Rattle.std.proofs.lemmas.List.Elements.{All-nil, All-cons, All-head, All-tail}
 use Rattle.mat_words.specs.Words.{is_word}
 use Rattle.mat_words.specs.Numbers.{numeral}
+use Rattle.mat_words.specs.Weights.{weight_word}
 use Rattle.mat_words.proofs.NumberLemmas.{numeral_word}
+use Rattle.mat_words.proofs.WeightLemmas.{weight_word-word}
 use Rattle.mat_words.specs.Lines.{Line}
+use Rattle.mat_words.specs.Steps.{repeat_at}
+use Rattle.mat_words.specs.Cursors.{WordsLeft, LinesLeft}
+use Rattle.mat_sets.specs.declared.weight.Weight.{Weight}
 use Rattle.mat_desc.specs.Limits.{most_digits, largest_weight}
-use Rattle.mat_desc.specs.Faults.{Fault, ◌>>=◌, WordsLeft, LinesLeft}
-use Rattle.mat_desc.specs.Reading.{keyed_at, below_at, read_weight, ended_at, repeat_at, ends_at, ends_line_at, column_at, binary_at, weighted_at, coloured_edge_at}
+use Rattle.mat_desc.specs.Faults.{Fault}
+use Rattle.mat_desc.specs.Reading.{keyed_at, below_at, weight_at, ended_at, ends_at}
+use Rattle.mat_desc.specs.Reading.{ends_line_at, column_at, binary_at, weighted_at, coloured_edge_at}
 use Rattle.mat_desc.specs.Binary.{binary}
 use Rattle.mat_desc.specs.Grammar.{IsWeight, IsPairBelow, ends_line, column_line, weighted_line, coloured_edge_line}
-use Rattle.mat_desc.proofs.ReadingSteps.{found-same, bind_found}
-use Rattle.mat_desc.proofs.WordLaws.{cut_then, below_found, below_again, number_found, number_at_again, ended_found, ended_again}
-use Rattle.mat_desc.proofs.LineLaws.{AreLeft, keyed_found, keyed_again}
+use Rattle.mat_words.proofs.ReadingSteps.{found-same, bind_found}
+use Rattle.mat_words.proofs.WordReading.{below_again, weight_at_again}
+use Rattle.mat_words.proofs.LineReading.{AreLeft, keyed_again}
+use Rattle.mat_desc.proofs.Told.{cut_then, below_found, weight_found, ended_found, ended_again, keyed_found}
 use Rattle.mat_desc.proofs.BinaryLaws.{binary_word, binary_found, binary_again}
 use Rattle.mat_sets.specs.Graphs.{IsGraph}
 use Rattle.mat_gf2.specs.Columns.{IsBinaryMatrix}
@@ -28,21 +36,24 @@ pub record IsItemRead {A : Type 0} (line : A → Line) (Valid : A → Type 0) (p
   pub spelled : (rest : List Line) → AreLeft rest q → AreLeft (line item ∷ rest) p
 
 -- as many lines were read as items
-pub record AreItemsRead {A : Type 0} (line : A → Line) (Valid : A → Type 0) (many : ℕ) (p : LinesLeft) (items : List A) (q : LinesLeft) : Type 0 where
+pub record AreItemsRead {A : Type 0} (line : A → Line) (Valid : A → Type 0) (many : ℕ) (p : LinesLeft) (items : List A)
+    (q : LinesLeft) : Type 0 where
   pub count : length items ≡ many
   pub each : All Valid items
   pub spelled : (rest : List Line) → AreLeft rest q → AreLeft (map line items ++ rest) p
 
 pub items_found : {A : Type 0} (reader : LinesLeft → Result (A × LinesLeft) Fault) (line : A → Line) (Valid : A → Type 0)
     → ((p : LinesLeft) (item : A) (q : LinesLeft) → reader p ≡ Ok (item, q) → IsItemRead line Valid p item q)
-    → (many : ℕ) (p : LinesLeft) (items : List A) (q : LinesLeft) → repeat_at reader many p ≡ Ok (items, q) → AreItemsRead line Valid many p items q
+    → (many : ℕ) (p : LinesLeft) (items : List A) (q : LinesLeft) → repeat_at reader many p ≡ Ok (items, q)
+    → AreItemsRead line Valid many p items q
 unfolding repeat_at
 items_found {A} reader line Valid one zero p items q e =
     let same = found-same ([], p) (items, q) e in
-    subst (λ (r : List A × LinesLeft). AreItemsRead line Valid 0 p r.0 r.1) same (record { count = refl; each = All-nil Valid; spelled = λ rest left. left })
+    subst (λ (r : List A × LinesLeft). AreItemsRead line Valid 0 p r.0 r.1) same
+    (record { count = refl; each = All-nil Valid; spelled = λ rest left. left })
 items_found {A} reader line Valid one (suc many) p items q e =
-    let first = bind_found (reader p) (λ first. repeat_at reader many first.1 >>= λ others. Ok (first.0 ∷ others.0, others.1)) (items, q) e in
-    let others = bind_found (repeat_at reader many first.0.1) (λ others. Ok (first.0.0 ∷ others.0, others.1)) (items, q) first.2 in
+    let first = bind_found (reader p) _ (items, q) e in
+    let others = bind_found (repeat_at reader many first.0.1) _ (items, q) first.2 in
     let same = found-same (first.0.0 ∷ others.0.0, others.0.1) (items, q) others.2 in
     let here = one p first.0.0 first.0.1 first.1 in
     let more = items_found reader line Valid one many first.0.1 others.0.0 others.0.1 others.1 in
@@ -53,8 +64,10 @@ items_found {A} reader line Valid one (suc many) p items q e =
     })
 
 pub items_again : {A : Type 0} (reader : LinesLeft → Result (A × LinesLeft) Fault) (line : A → Line) (Valid : A → Type 0)
-    → ((p : LinesLeft) (item : A) (rest : List Line) → Valid item → AreLeft (line item ∷ rest) p → (q : LinesLeft) × (reader p ≡ Ok (item, q)) × AreLeft rest q)
-    → (p : LinesLeft) (items : List A) (rest : List Line) → All Valid items → AreLeft (map line items ++ rest) p → (q : LinesLeft) × (repeat_at reader (length items) p ≡ Ok (items, q)) × AreLeft rest q
+    → ((p : LinesLeft) (item : A) (rest : List Line) → Valid item → AreLeft (line item ∷ rest) p
+    → (q : LinesLeft) × (reader p ≡ Ok (item, q)) × AreLeft rest q)
+    → (p : LinesLeft) (items : List A) (rest : List Line) → All Valid items → AreLeft (map line items ++ rest) p
+    → (q : LinesLeft) × (repeat_at reader (length items) p ≡ Ok (items, q)) × AreLeft rest q
 unfolding repeat_at
 items_again reader line Valid one p [] rest valid left = (p, refl, left)
 items_again reader line Valid one p (item ∷ items) rest valid left =
@@ -72,37 +85,48 @@ record AreEndsRead (first_bound second_bound : ℕ) (w : WordsLeft) (ends : ℕ 
 ends_found : (a b : ℕ) (w : WordsLeft) (ends : ℕ × ℕ) (q : WordsLeft) → ends_at a b w ≡ Ok (ends, q) → AreEndsRead a b w ends q
 unfolding ends_at
 ends_found a b w ends q e =
-    let first = bind_found (below_at a w) (λ first. below_at b first.1 >>= λ second. Ok ((first.0, second.0), second.1)) (ends, q) e in
-    let second = bind_found (below_at b first.0.1) (λ second. Ok ((first.0.0, second.0), second.1)) (ends, q) first.2 in
+    let first = bind_found (below_at a w) _ (ends, q) e in
+    let second = bind_found (below_at b first.0.1) _ (ends, q) first.2 in
     let same = found-same ((first.0.0, second.0.0), second.0.1) (ends, q) second.2 in
     let one = below_found a w first.0.0 first.0.1 first.1 in
     let two = below_found b first.0.1 second.0.0 second.0.1 second.1 in
-    subst (λ (r : (ℕ × ℕ) × WordsLeft). AreEndsRead a b w r.0 r.1) same (record { valid = (one.most, two.most); cut = cut_then (numeral (pos first.0.0)) w.words first.0.1.words (numeral (pos second.0.0) ∷ second.0.1.words) one.cut two.cut })
+    subst (λ (r : (ℕ × ℕ) × WordsLeft). AreEndsRead a b w r.0 r.1) same
+    (record {
+      valid = (one.most, two.most);
+      cut = cut_then (numeral (pos first.0.0)) w.words first.0.1.words
+          (numeral (pos second.0.0) ∷ second.0.1.words) one.cut two.cut;
+    })
 
-ends_again : (a b n : ℕ) (ends : ℕ × ℕ) (words : Line) → IsPairBelow a b ends → ends_at a b (record { line = n; words = numeral (pos ends.0) ∷ numeral (pos ends.1) ∷ words }) ≡ Ok (ends, record { line = n; words = words })
+ends_again : (a b n : ℕ) (ends : ℕ × ℕ) (words : Line) → IsPairBelow a b ends
+    → ends_at a b (record { line = n; words = numeral (pos ends.0) ∷ numeral (pos ends.1) ∷ words })
+    ≡ Ok (ends, record { line = n; words = words })
 unfolding ends_at
 ends_again a b n ends words valid = rw (below_again a n ends.0 (numeral (pos ends.1) ∷ words) valid.0, below_again b n ends.1 words valid.1) refl
 
-ends_words : (ends : ℕ × ℕ) (words : Line) → list_all is_word words ≡ true → list_all is_word (numeral (pos ends.0) ∷ numeral (pos ends.1) ∷ words) ≡ true
-ends_words ends words h = and_from (is_word (numeral (pos ends.0))) (list_all is_word (numeral (pos ends.1) ∷ words)) (numeral_word (pos ends.0)) (and_from (is_word (numeral (pos ends.1))) (list_all is_word words) (numeral_word (pos ends.1)) h)
+ends_words : (ends : ℕ × ℕ) (words : Line) → list_all is_word words ≡ true
+    → list_all is_word (numeral (pos ends.0) ∷ numeral (pos ends.1) ∷ words) ≡ true
+ends_words ends words h = and_from (is_word (numeral (pos ends.0))) (list_all is_word (numeral (pos ends.1) ∷ words))
+    (numeral_word (pos ends.0)) (and_from (is_word (numeral (pos ends.1))) (list_all is_word words) (numeral_word (pos ends.1)) h)
 
 pub ends_line_found : (key : List ℕ) (v : ℕ) (p : LinesLeft) (ends : ℕ × ℕ) (q : LinesLeft) → ends_line_at key v p ≡ Ok (ends, q)
     → IsItemRead (ends_line key) (IsPairBelow v v) p ends q
 unfolding ends_line_at
 ends_line_found key v p ends q e =
-    let line = bind_found (keyed_at key p) (λ line. ends_at v v line.0 >>= λ ends. ended_at ends.1 >>= λ end. Ok (ends.0, line.1)) (ends, q) e in
-    let both = bind_found (ends_at v v line.0.0) (λ ends. ended_at ends.1 >>= λ end. Ok (ends.0, line.0.1)) (ends, q) line.2 in
-    let end = bind_found (ended_at both.0.1) (λ end. Ok (both.0.0, line.0.1)) (ends, q) both.2 in
+    let line = bind_found (keyed_at key p) _ (ends, q) e in
+    let both = bind_found (ends_at v v line.0.0) _ (ends, q) line.2 in
+    let end = bind_found (ended_at both.0.1) _ (ends, q) both.2 in
     let same = found-same (both.0.0, line.0.1) (ends, q) end.2 in
     let read = ends_found v v line.0.0 both.0.0 both.0.1 both.1 in
     let last = ended_found both.0.1 end.0 end.1 in
     subst (λ (r : (ℕ × ℕ) × LinesLeft). IsItemRead (ends_line key) (IsPairBelow v v) p r.0 r.1) same (record {
       valid = read.valid;
       spelled = λ rest left.
-          subst (λ (ws : Line). AreLeft ((key ∷ ws) ∷ rest) p) (read.cut ∙ rw last refl) (keyed_found key p line.0.0 line.0.1 line.1 rest left);
+          subst (λ (ws : Line). AreLeft ((key ∷ ws) ∷ rest) p) (read.cut ∙ rw last refl)
+          (keyed_found key p line.0.0 line.0.1 line.1 rest left);
     })
 
-pub ends_line_again : (key : List ℕ) (v : ℕ) → is_word key ≡ true → (p : LinesLeft) (ends : ℕ × ℕ) (rest : List Line) → IsPairBelow v v ends
+pub ends_line_again : (key : List ℕ) (v : ℕ) → is_word key ≡ true → (p : LinesLeft) (ends : ℕ × ℕ) (rest : List Line)
+    → IsPairBelow v v ends
     → AreLeft (ends_line key ends ∷ rest) p → (q : LinesLeft) × (ends_line_at key v p ≡ Ok (ends, q)) × AreLeft rest q
 unfolding ends_line_at
 ends_line_again key v keyword p ends rest valid left =
@@ -128,9 +152,9 @@ pub column_found : (dim : ℕ) (p : LinesLeft) (column : ℕ) (q : LinesLeft) �
     → IsItemRead (column_line dim) (IsColumn dim) p column q
 unfolding column_at
 column_found dim p column q e =
-    let line = bind_found (keyed_at (codes "column") p) (λ line. binary_at dim line.0 >>= λ column. ended_at column.1 >>= λ end. Ok (column.0, line.1)) (column, q) e in
-    let word = bind_found (binary_at dim line.0.0) (λ column. ended_at column.1 >>= λ end. Ok (column.0, line.0.1)) (column, q) line.2 in
-    let end = bind_found (ended_at word.0.1) (λ end. Ok (word.0.0, line.0.1)) (column, q) word.2 in
+    let line = bind_found (keyed_at (codes "column") p) _ (column, q) e in
+    let word = bind_found (binary_at dim line.0.0) _ (column, q) line.2 in
+    let end = bind_found (ended_at word.0.1) _ (column, q) word.2 in
     let same = found-same (word.0.0, line.0.1) (column, q) end.2 in
     let read = binary_found dim line.0.0 word.0.0 word.0.1 word.1 in
     let last = ended_found word.0.1 end.0 end.1 in
@@ -138,14 +162,16 @@ column_found dim p column q e =
     subst (λ (r : ℕ × LinesLeft). IsItemRead (column_line dim) (IsColumn dim) p r.0 r.1) same (record {
       valid = read.below;
       spelled = λ rest left.
-          subst (λ (ws : Line). AreLeft ((codes "column" ∷ ws) ∷ rest) p) words (keyed_found (codes "column") p line.0.0 line.0.1 line.1 rest left);
+          subst (λ (ws : Line). AreLeft ((codes "column" ∷ ws) ∷ rest) p) words
+          (keyed_found (codes "column") p line.0.0 line.0.1 line.1 rest left);
     })
 
 pub column_again : (dim : ℕ) → 1 ≤ dim → (p : LinesLeft) (column : ℕ) (rest : List Line) → IsColumn dim column
     → AreLeft (column_line dim column ∷ rest) p → (q : LinesLeft) × (column_at dim p ≡ Ok (column, q)) × AreLeft rest q
 unfolding column_at
 column_again dim some p column rest valid left =
-    let word : list_all is_word (binary dim column ∷ []) ≡ true = and_from (is_word (binary dim column)) true (binary_word dim column some) refl in
+    let word : list_all is_word (binary dim column ∷ []) ≡ true =
+    and_from (is_word (binary dim column)) true (binary_word dim column some) refl in
     let line = keyed_again (codes "column") p (binary dim column ∷ []) rest refl word left in
     (line.0, rw (line.1, binary_again dim p.line column [] valid, ended_again p.line) refl, line.2)
 
@@ -162,75 +188,110 @@ columns_sound dim many p columns q some most few e =
     IsBinaryMatrix-columns dim columns some (omega arith) (omega (arith, read.count, few)) read.each
 
 -- an edge, an arc or a cell with a weight
-abbrev pub IsWeighted : ℕ → ℕ → (ℕ × ℕ) × ℤ → Type 0
+abbrev pub IsWeighted : ℕ → ℕ → (ℕ × ℕ) × Weight → Type 0
 IsWeighted a b item = IsPairBelow a b item.0 × IsWeight item.1
 
-pub weighted_found : (key : List ℕ) (a b : ℕ) (p : LinesLeft) (item : (ℕ × ℕ) × ℤ) (q : LinesLeft) → weighted_at key a b p ≡ Ok (item, q) → IsItemRead (weighted_line key) (IsWeighted a b) p item q
-unfolding weighted_at read_weight
+pub weighted_found : (key : List ℕ) (a b : ℕ) (p : LinesLeft) (item : (ℕ × ℕ) × Weight) (q : LinesLeft)
+    → weighted_at key a b p ≡ Ok (item, q) → IsItemRead (weighted_line key) (IsWeighted a b) p item q
+unfolding weighted_at
 weighted_found key a b p item q e =
-    let line = bind_found (keyed_at key p) (λ line. ends_at a b line.0 >>= λ ends. read_weight ends.1 >>= λ weight. ended_at weight.1 >>= λ end. Ok ((ends.0, weight.0), line.1)) (item, q) e in
-    let ends = bind_found (ends_at a b line.0.0) (λ ends. read_weight ends.1 >>= λ weight. ended_at weight.1 >>= λ end. Ok ((ends.0, weight.0), line.0.1)) (item, q) line.2 in
-    let weight = bind_found (read_weight ends.0.1) (λ weight. ended_at weight.1 >>= λ end. Ok ((ends.0.0, weight.0), line.0.1)) (item, q) ends.2 in
-    let end = bind_found (ended_at weight.0.1) (λ end. Ok ((ends.0.0, weight.0.0), line.0.1)) (item, q) weight.2 in
+    let line = bind_found (keyed_at key p) _ (item, q) e in
+    let ends = bind_found (ends_at a b line.0.0) _ (item, q) line.2 in
+    let weight = bind_found (weight_at ends.0.1) _ (item, q) ends.2 in
+    let end = bind_found (ended_at weight.0.1) _ (item, q) weight.2 in
     let same = found-same ((ends.0.0, weight.0.0), line.0.1) (item, q) end.2 in
     let read = ends_found a b line.0.0 ends.0.0 ends.0.1 ends.1 in
-    let number = number_found (neg_ℤ (pos largest_weight)) (pos largest_weight) ends.0.1 weight.0.0 weight.0.1 weight.1 in
+    let number = weight_found ends.0.1 weight.0.0 weight.0.1 weight.1 in
     let last = ended_found weight.0.1 end.0 end.1 in
-    subst (λ (r : ((ℕ × ℕ) × ℤ) × LinesLeft). IsItemRead (weighted_line key) (IsWeighted a b) p r.0 r.1) same (record {
-      valid = (read.valid, (number.least, number.most));
-      spelled = λ rest left. subst (λ (ws : Line). AreLeft ((key ∷ ws) ∷ rest) p) (read.cut ∙ rw (number.cut, last) refl) (keyed_found key p line.0.0 line.0.1 line.1 rest left);
+    subst (λ (r : ((ℕ × ℕ) × Weight) × LinesLeft). IsItemRead (weighted_line key) (IsWeighted a b) p r.0 r.1) same (record {
+      valid = (read.valid, number.valid);
+      spelled = λ rest left. subst (λ (ws : Line). AreLeft ((key ∷ ws) ∷ rest) p) (read.cut ∙ rw (number.cut, last) refl)
+          (keyed_found key p line.0.0 line.0.1 line.1 rest left);
     })
 
-pub weighted_again : (key : List ℕ) (a b : ℕ) → is_word key ≡ true → (p : LinesLeft) (item : (ℕ × ℕ) × ℤ) (rest : List Line) → IsWeighted a b item → AreLeft (weighted_line key item ∷ rest) p → (q : LinesLeft) × (weighted_at key a b p ≡ Ok (item, q)) × AreLeft rest q
-unfolding weighted_at read_weight
+pub weighted_again : (key : List ℕ) (a b : ℕ) → is_word key ≡ true
+    → (p : LinesLeft) (item : (ℕ × ℕ) × Weight) (rest : List Line) → IsWeighted a b item
+    → AreLeft (weighted_line key item ∷ rest) p → (q : LinesLeft) × (weighted_at key a b p ≡ Ok (item, q)) × AreLeft rest q
+unfolding weighted_at
 weighted_again key a b keyword p item rest valid left =
-    let line = keyed_again key p (numeral (pos item.0.0) ∷ numeral (pos item.0.1) ∷ numeral item.1 ∷ []) rest keyword (ends_words item.0 (numeral item.1 ∷ []) (and_from (is_word (numeral item.1)) true (numeral_word item.1) refl)) left in
-    (line.0, rw (line.1, ends_again a b p.line item.0 (numeral item.1 ∷ []) valid.0, number_at_again (neg_ℤ (pos largest_weight)) (pos largest_weight) p.line item.1 [] valid.1.0 valid.1.1, ended_again p.line) refl, line.2)
+    let line = keyed_again key p (numeral (pos item.0.0) ∷ numeral (pos item.0.1) ∷ weight_word item.1 ∷ []) rest keyword
+    (ends_words item.0 (weight_word item.1 ∷ []) (and_from (is_word (weight_word item.1)) true (weight_word-word item.1) refl)) left in (
+      line.0,
+      rw (
+        line.1,
+        ends_again a b p.line item.0 (weight_word item.1 ∷ []) valid.0,
+        weight_at_again (neg_ℤ (pos largest_weight))
+            (pos largest_weight) p.line item.1 [] valid.1,
+        ended_again p.line,
+      ) refl,
+      line.2,
+    )
 
 -- an edge with a colour and a weight
-abbrev pub IsColoured : ℕ → ℕ → (ℕ × ℕ) × (ℕ × ℤ) → Type 0
+abbrev pub IsColoured : ℕ → ℕ → (ℕ × ℕ) × (ℕ × Weight) → Type 0
 IsColoured v c item = IsPairBelow v v item.0 × (item.1.0 < c) × IsWeight item.1.1
 
-pub coloured_edge_found : (v c : ℕ) (p : LinesLeft) (item : (ℕ × ℕ) × (ℕ × ℤ)) (q : LinesLeft) → coloured_edge_at v c p ≡ Ok (item, q) → IsItemRead coloured_edge_line (IsColoured v c) p item q
-unfolding coloured_edge_at read_weight
+pub coloured_edge_found : (v c : ℕ) (p : LinesLeft) (item : (ℕ × ℕ) × (ℕ × Weight)) (q : LinesLeft)
+    → coloured_edge_at v c p ≡ Ok (item, q) → IsItemRead coloured_edge_line (IsColoured v c) p item q
+unfolding coloured_edge_at
 coloured_edge_found v c p item q e =
-    let line = bind_found (keyed_at (codes "edge") p) (λ line. ends_at v v line.0 >>= λ ends. below_at c ends.1 >>= λ colour. read_weight colour.1 >>= λ weight. ended_at weight.1 >>= λ end. Ok ((ends.0, (colour.0, weight.0)), line.1)) (item, q) e in
-    let ends = bind_found (ends_at v v line.0.0) (λ ends. below_at c ends.1 >>= λ colour. read_weight colour.1 >>= λ weight. ended_at weight.1 >>= λ end. Ok ((ends.0, (colour.0, weight.0)), line.0.1)) (item, q) line.2 in
-    let colour = bind_found (below_at c ends.0.1) (λ colour. read_weight colour.1 >>= λ weight. ended_at weight.1 >>= λ end. Ok ((ends.0.0, (colour.0, weight.0)), line.0.1)) (item, q) ends.2 in
-    let weight = bind_found (read_weight colour.0.1) (λ weight. ended_at weight.1 >>= λ end. Ok ((ends.0.0, (colour.0.0, weight.0)), line.0.1)) (item, q) colour.2 in
-    let end = bind_found (ended_at weight.0.1) (λ end. Ok ((ends.0.0, (colour.0.0, weight.0.0)), line.0.1)) (item, q) weight.2 in
+    let line = bind_found (keyed_at (codes "edge") p) _ (item, q) e in
+    let ends = bind_found (ends_at v v line.0.0) _ (item, q) line.2 in
+    let colour = bind_found (below_at c ends.0.1) _ (item, q) ends.2 in
+    let weight = bind_found (weight_at colour.0.1) _ (item, q) colour.2 in
+    let end = bind_found (ended_at weight.0.1) _ (item, q) weight.2 in
     let same = found-same ((ends.0.0, (colour.0.0, weight.0.0)), line.0.1) (item, q) end.2 in
     let read = ends_found v v line.0.0 ends.0.0 ends.0.1 ends.1 in
     let hue = below_found c ends.0.1 colour.0.0 colour.0.1 colour.1 in
-    let number = number_found (neg_ℤ (pos largest_weight)) (pos largest_weight) colour.0.1 weight.0.0 weight.0.1 weight.1 in
+    let number = weight_found colour.0.1 weight.0.0 weight.0.1 weight.1 in
     let last = ended_found weight.0.1 end.0 end.1 in
-    subst (λ (r : ((ℕ × ℕ) × (ℕ × ℤ)) × LinesLeft). IsItemRead coloured_edge_line (IsColoured v c) p r.0 r.1) same (record {
-      valid = (read.valid, hue.most, (number.least, number.most));
-      spelled = λ rest left. subst (λ (ws : Line). AreLeft ((codes "edge" ∷ ws) ∷ rest) p) (read.cut ∙ rw (hue.cut, number.cut, last) refl) (keyed_found (codes "edge") p line.0.0 line.0.1 line.1 rest left);
+    subst (λ (r : ((ℕ × ℕ) × (ℕ × Weight)) × LinesLeft). IsItemRead coloured_edge_line (IsColoured v c) p r.0 r.1) same (record {
+      valid = (read.valid, hue.most, number.valid);
+      spelled = λ rest left. subst (λ (ws : Line). AreLeft ((codes "edge" ∷ ws) ∷ rest) p)
+          (read.cut ∙ rw (hue.cut, number.cut, last) refl) (keyed_found (codes "edge") p line.0.0 line.0.1 line.1 rest left);
     })
 
-pub coloured_edge_again : (v c : ℕ) (p : LinesLeft) (item : (ℕ × ℕ) × (ℕ × ℤ)) (rest : List Line) → IsColoured v c item → AreLeft (coloured_edge_line item ∷ rest) p → (q : LinesLeft) × (coloured_edge_at v c p ≡ Ok (item, q)) × AreLeft rest q
-unfolding coloured_edge_at read_weight
+pub coloured_edge_again : (v c : ℕ) (p : LinesLeft) (item : (ℕ × ℕ) × (ℕ × Weight)) (rest : List Line) → IsColoured v c item
+    → AreLeft (coloured_edge_line item ∷ rest) p → (q : LinesLeft) × (coloured_edge_at v c p ≡ Ok (item, q)) × AreLeft rest q
+unfolding coloured_edge_at
 coloured_edge_again v c p item rest valid left =
-    let weight_word : list_all is_word (numeral item.1.1 ∷ []) ≡ true = and_from (is_word (numeral item.1.1)) true (numeral_word item.1.1) refl in
-    let tail_words : list_all is_word (numeral (pos item.1.0) ∷ numeral item.1.1 ∷ []) ≡ true = and_from (is_word (numeral (pos item.1.0))) (list_all is_word (numeral item.1.1 ∷ [])) (numeral_word (pos item.1.0)) weight_word in
-    let line = keyed_again (codes "edge") p (numeral (pos item.0.0) ∷ numeral (pos item.0.1) ∷ numeral (pos item.1.0) ∷ numeral item.1.1 ∷ []) rest refl (ends_words item.0 (numeral (pos item.1.0) ∷ numeral item.1.1 ∷ []) tail_words) left in
-    (line.0, rw (line.1, ends_again v v p.line item.0 (numeral (pos item.1.0) ∷ numeral item.1.1 ∷ []) valid.0, below_again c p.line item.1.0 (numeral item.1.1 ∷ []) valid.1, number_at_again (neg_ℤ (pos largest_weight)) (pos largest_weight) p.line item.1.1 [] valid.2.0 valid.2.1, ended_again p.line) refl, line.2)
+    let last_word : list_all is_word (weight_word item.1.1 ∷ []) ≡ true =
+    and_from (is_word (weight_word item.1.1)) true (weight_word-word item.1.1) refl in
+    let tail_words : list_all is_word (numeral (pos item.1.0) ∷ weight_word item.1.1 ∷ []) ≡ true =
+    and_from (is_word (numeral (pos item.1.0))) (list_all is_word (weight_word item.1.1 ∷ [])) (numeral_word (pos item.1.0)) last_word in
+    let line = keyed_again (codes "edge") p (numeral (pos item.0.0) ∷ numeral (pos item.0.1) ∷ numeral (pos item.1.0) ∷ weight_word
+    item.1.1 ∷ []) rest refl (ends_words item.0 (numeral (pos item.1.0) ∷ weight_word item.1.1 ∷ []) tail_words) left in (
+      line.0,
+      rw (
+        line.1,
+        ends_again v v p.line item.0 (numeral (pos item.1.0) ∷ weight_word item.1.1 ∷ []) valid.0,
+        below_again c p.line
+            item.1.0 (weight_word item.1.1 ∷ []) valid.1,
+        weight_at_again (neg_ℤ (pos largest_weight)) (pos largest_weight) p.line item.1.1 []
+            valid.2,
+        ended_again p.line,
+      ) refl,
+      line.2,
+    )
 
 -- ---- lists side by side
 
-pub All-map : {A B : Type 0} (P : A → Type 0) (Q : B → Type 0) (f : A → B) → ((x : A) → P x → Q (f x)) → (xs : List A) → All P xs → All Q (map f xs)
+pub All-map : {A B : Type 0} (P : A → Type 0) (Q : B → Type 0) (f : A → B) → ((x : A) → P x → Q (f x)) → (xs : List A)
+    → All P xs → All Q (map f xs)
 All-map P Q f h [] all = All-nil Q
 All-map P Q f h (x ∷ xs) all = All-cons Q (f x) (map f xs) (h x (All-head P x xs all)) (All-map P Q f h xs (All-tail P x xs all))
 
-pub All-zip : {A B : Type 0} (P : A → Type 0) (Q : B → Type 0) (xs : List A) (ys : List B) → All P xs → All Q ys → length ys ≡ length xs → All (λ (item : A × B). P item.0 × Q item.1) (zip xs ys)
+pub All-zip : {A B : Type 0} (P : A → Type 0) (Q : B → Type 0) (xs : List A) (ys : List B) → All P xs → All Q ys
+    → length ys ≡ length xs → All (λ (item : A × B). P item.0 × Q item.1) (zip xs ys)
 All-zip {A} {B} P Q [] [] p q same = All-nil (λ (item : A × B). P item.0 × Q item.1)
 All-zip P Q [] (y ∷ ys) p q same = absurd (omega arith)
 All-zip P Q (x ∷ xs) [] p q same = absurd (omega arith)
 All-zip {A} {B} P Q (x ∷ xs) (y ∷ ys) p q same =
-    All-cons (λ (item : A × B). P item.0 × Q item.1) (x, y) (zip xs ys) (All-head P x xs p, All-head Q y ys q) (All-zip P Q xs ys (All-tail P x xs p) (All-tail Q y ys q) (omega arith))
+    All-cons (λ (item : A × B). P item.0 × Q item.1) (x, y) (zip xs ys) (All-head P x xs p, All-head Q y ys q)
+    (All-zip P Q xs ys (All-tail P x xs p) (All-tail Q y ys q) (omega arith))
 
-pub zip-parts : {A B : Type 0} (items : List (A × B)) → zip (map (λ (item : A × B). item.0) items) (map (λ (item : A × B). item.1) items) ≡ items
+pub zip-parts : {A B : Type 0} (items : List (A × B)) → zip (map (λ (item : A × B). item.0) items) (map (λ (item : A × B). item.1)
+    items) ≡ items
 zip-parts [] = refl
 zip-parts {A} {B} (item ∷ items) = ap (λ (t : List (A × B)). item ∷ t) (zip-parts items)
 

@@ -1,6 +1,7 @@
 -- The kinds of a matroid: the word that each keyword is, and, of the kinds that are made of no other matroid, that what is read behind the
 -- keyword is spelled so.
-use Rattle.std.proofs.Common.{◌≡◌, ℕ, suc, ◌≤◌, Bool, true, false, cond, List, [], ◌∷◌, ◌++◌, length, map, pos, Option, Some, None, Ok, refl, ap, subst, ◌∙◌, arith}
+use Rattle.std.proofs.Common.{◌≡◌, ℕ, suc, ◌≤◌, Bool, true, false, cond, List, [], ◌∷◌, ◌++◌}
+use Rattle.std.proofs.Common.{length, map, pos, Option, Some, None, Ok, refl, ap, subst, ◌∙◌, arith}
 use Rattle.std.specs.Prelude.{codes, bytes_eq}
 use Rattle.std.proofs.lemmas.Slice.Eq.{bytes_eq-Decides}
 use Rattle.mat_words.specs.Numbers.{numeral}
@@ -9,12 +10,14 @@ use Rattle.mat_any.specs.Trees.{Tree, uniform, partition, laminar, graphic, gf2,
 use Rattle.mat_desc.specs.Limits.{most_elements, most_vertices, most_sets, most_digits}
 use Rattle.mat_desc.specs.declared.keywords.Keyword.{Keyword}
 use Rattle.mat_desc.specs.declared.keywords.Keyword.TheVariants as keywords
-use Rattle.mat_desc.specs.Faults.{◌>>=◌, WordsLeft, LinesLeft}
-use Rattle.mat_desc.specs.Reading.{size_at, ended_at, repeat_at, classes_at, nested_sets_at, uniform_at, partition_at, laminar_at, ends_line_at, graphic_at, column_at, gf2_at, keyword_of}
+use Rattle.mat_words.specs.Cursors.{WordsLeft, LinesLeft}
+use Rattle.mat_words.specs.Steps.{repeat_at}
+use Rattle.mat_desc.specs.Reading.{size_at, ended_at, classes_at, nested_sets_at, uniform_at, partition_at}
+use Rattle.mat_desc.specs.Reading.{laminar_at, ends_line_at, graphic_at, column_at, gf2_at, keyword_of}
 use Rattle.mat_desc.specs.Grammar.{IsPairBelow, IsValidTree, MatroidLines, ends_line, column_line}
-use Rattle.mat_desc.proofs.ReadingSteps.{found-same, bind_found}
-use Rattle.mat_desc.proofs.WordLaws.{cut_then, count_line, ended_found, size_found}
-use Rattle.mat_desc.proofs.LineLaws.{AreLeft}
+use Rattle.mat_words.proofs.ReadingSteps.{found-same, bind_found}
+use Rattle.mat_words.proofs.LineReading.{AreLeft}
+use Rattle.mat_desc.proofs.Told.{cut_then, count_line, ended_found, size_found}
 use Rattle.mat_desc.proofs.ClassLaws.{classes_read, classes_valid}
 use Rattle.mat_desc.proofs.NestedSetLaws.{nested_sets_read, nested_sets_valid}
 use Rattle.mat_desc.proofs.ItemLaws.{items_found, ends_line_found, IsColumn, column_found}
@@ -43,7 +46,8 @@ chosen : (word : List ℕ) (first keyword : Keyword) (others : Option Keyword) �
     → cond (bytes_eq word (spelling_of first)) (Some first) others ≡ Some keyword → word ≡ spelling_of keyword
 chosen word first keyword others later is = by_test (bytes_eq word (spelling_of first)) (bytes_eq-Decides word (spelling_of first)).0 is
   where
-    by_test : (test : Bool) → (test ≡ true → word ≡ spelling_of first) → cond test (Some first) others ≡ Some keyword → word ≡ spelling_of keyword
+    by_test : (test : Bool) → (test ≡ true → word ≡ spelling_of first) → cond test (Some first) others ≡ Some keyword
+        → word ≡ spelling_of keyword
     by_test true equal e = equal refl ∙ ap spelling_of (some_same first keyword e)
     by_test false equal e = later e
 
@@ -62,13 +66,15 @@ keyword_found word keyword is =
 -- A matroid was read from the words behind its keyword on. In it there is room for so many matroids within one another.
 pub record IsKindRead (room n : ℕ) (keyword : Keyword) (words : WordsLeft) (lines : LinesLeft) (tree : Tree) (q : LinesLeft) : Type 0 where
   pub valid : IsValidTree n tree × (depth tree ≤ suc room)
-  pub spelled : (rest : List Line) → AreLeft rest q → (more : List Line) × AreLeft more lines × MatroidLines tree ((spelling_of keyword ∷ words.words) ∷ more) rest
+  pub spelled : (rest : List Line) → AreLeft rest q → (more : List Line) × AreLeft more lines × MatroidLines tree
+      ((spelling_of keyword ∷ words.words) ∷ more) rest
 
-pub uniform_found : (room n : ℕ) (words : WordsLeft) (lines : LinesLeft) (tree : Tree) (q : LinesLeft) → uniform_at n words lines ≡ Ok (tree, q) → IsKindRead room n keywords.Uniform words lines tree q
+pub uniform_found : (room n : ℕ) (words : WordsLeft) (lines : LinesLeft) (tree : Tree) (q : LinesLeft)
+    → uniform_at n words lines ≡ Ok (tree, q) → IsKindRead room n keywords.Uniform words lines tree q
 unfolding uniform_at
 uniform_found room n words lines tree q e =
-    let cap = bind_found (size_at 0 most_elements words) (λ cap. ended_at cap.1 >>= λ end. Ok (uniform n cap.0, lines)) (tree, q) e in
-    let end = bind_found (ended_at cap.0.1) (λ end. Ok (uniform n cap.0.0, lines)) (tree, q) cap.2 in
+    let cap = bind_found (size_at 0 most_elements words) _ (tree, q) e in
+    let end = bind_found (ended_at cap.0.1) _ (tree, q) cap.2 in
     let same = found-same (uniform n cap.0.0, lines) (tree, q) end.2 in
     let number = size_found 0 most_elements words cap.0.0 cap.0.1 cap.1 in
     let last = ended_found cap.0.1 end.0 end.1 in
@@ -79,18 +85,20 @@ uniform_found room n words lines tree q e =
     } in
     subst (λ (r : Tree × LinesLeft). IsKindRead room n keywords.Uniform words lines r.0 r.1) same one
 
-pub partition_found : (room n : ℕ) (words : WordsLeft) (lines : LinesLeft) (tree : Tree) (q : LinesLeft) → partition_at n words lines ≡ Ok (tree, q) → IsKindRead room n keywords.Partition words lines tree q
+pub partition_found : (room n : ℕ) (words : WordsLeft) (lines : LinesLeft) (tree : Tree) (q : LinesLeft)
+    → partition_at n words lines ≡ Ok (tree, q) → IsKindRead room n keywords.Partition words lines tree q
 unfolding partition_at
 partition_found room n words lines tree q e =
-    let many = bind_found (size_at 0 most_sets words) (λ many. ended_at many.1 >>= λ end. classes_at n many.0 [] lines >>= λ classes. Ok (partition n classes.0 classes.1, classes.2)) (tree, q) e in
-    let end = bind_found (ended_at many.0.1) (λ end. classes_at n many.0.0 [] lines >>= λ classes. Ok (partition n classes.0 classes.1, classes.2)) (tree, q) many.2 in
-    let classes = bind_found (classes_at n many.0.0 [] lines) (λ classes. Ok (partition n classes.0 classes.1, classes.2)) (tree, q) end.2 in
+    let many = bind_found (size_at 0 most_sets words) _ (tree, q) e in
+    let end = bind_found (ended_at many.0.1) _ (tree, q) many.2 in
+    let classes = bind_found (classes_at n many.0.0 [] lines) _ (tree, q) end.2 in
     let same = found-same (partition n classes.0.0 classes.0.1, classes.0.2) (tree, q) classes.2 in
     let number = size_found 0 most_sets words many.0.0 many.0.1 many.1 in
     let last = ended_found many.0.1 end.0 end.1 in
     let read = classes_read n many.0.0 [] lines classes.0.0 classes.0.1 classes.0.2 classes.1 in
     let few : many.0.0 ≤ most_sets = omega (arith, number.most) in
-    let line : words.words ≡ numeral (pos (length classes.0.0)) ∷ [] = count_line many.0.0 (length classes.0.0) words.words many.0.1.words number.cut last read.count in
+    let line : words.words ≡ numeral (pos (length classes.0.0)) ∷ [] =
+    count_line many.0.0 (length classes.0.0) words.words many.0.1.words number.cut last read.count in
     let one : IsKindRead room n keywords.Partition words lines (partition n classes.0.0 classes.0.1) classes.0.2 = record {
       valid = ((refl, classes_valid n many.0.0 lines classes.0.0 classes.0.1 classes.0.2 few read), omega arith);
       spelled = λ rest left.
@@ -99,18 +107,20 @@ partition_found room n words lines tree q e =
     } in
     subst (λ (r : Tree × LinesLeft). IsKindRead room n keywords.Partition words lines r.0 r.1) same one
 
-pub laminar_found : (room n : ℕ) (words : WordsLeft) (lines : LinesLeft) (tree : Tree) (q : LinesLeft) → laminar_at n words lines ≡ Ok (tree, q) → IsKindRead room n keywords.Laminar words lines tree q
+pub laminar_found : (room n : ℕ) (words : WordsLeft) (lines : LinesLeft) (tree : Tree) (q : LinesLeft)
+    → laminar_at n words lines ≡ Ok (tree, q) → IsKindRead room n keywords.Laminar words lines tree q
 unfolding laminar_at
 laminar_found room n words lines tree q e =
-    let many = bind_found (size_at 0 most_sets words) (λ many. ended_at many.1 >>= λ end. nested_sets_at n many.0 [] lines >>= λ sets. Ok (laminar n sets.0 sets.1, sets.2)) (tree, q) e in
-    let end = bind_found (ended_at many.0.1) (λ end. nested_sets_at n many.0.0 [] lines >>= λ sets. Ok (laminar n sets.0 sets.1, sets.2)) (tree, q) many.2 in
-    let sets = bind_found (nested_sets_at n many.0.0 [] lines) (λ sets. Ok (laminar n sets.0 sets.1, sets.2)) (tree, q) end.2 in
+    let many = bind_found (size_at 0 most_sets words) _ (tree, q) e in
+    let end = bind_found (ended_at many.0.1) _ (tree, q) many.2 in
+    let sets = bind_found (nested_sets_at n many.0.0 [] lines) _ (tree, q) end.2 in
     let same = found-same (laminar n sets.0.0 sets.0.1, sets.0.2) (tree, q) sets.2 in
     let number = size_found 0 most_sets words many.0.0 many.0.1 many.1 in
     let last = ended_found many.0.1 end.0 end.1 in
     let read = nested_sets_read n many.0.0 [] lines sets.0.0 sets.0.1 sets.0.2 sets.1 in
     let few : many.0.0 ≤ most_sets = omega (arith, number.most) in
-    let line : words.words ≡ numeral (pos (length sets.0.0)) ∷ [] = count_line many.0.0 (length sets.0.0) words.words many.0.1.words number.cut last read.count in
+    let line : words.words ≡ numeral (pos (length sets.0.0)) ∷ [] =
+    count_line many.0.0 (length sets.0.0) words.words many.0.1.words number.cut last read.count in
     let one : IsKindRead room n keywords.Laminar words lines (laminar n sets.0.0 sets.0.1) sets.0.2 = record {
       valid = ((refl, nested_sets_valid n many.0.0 lines sets.0.0 sets.0.1 sets.0.2 few read), omega arith);
       spelled = λ rest left.
@@ -119,36 +129,45 @@ laminar_found room n words lines tree q e =
     } in
     subst (λ (r : Tree × LinesLeft). IsKindRead room n keywords.Laminar words lines r.0 r.1) same one
 
-pub graphic_found : (room n : ℕ) (words : WordsLeft) (lines : LinesLeft) (tree : Tree) (q : LinesLeft) → graphic_at n words lines ≡ Ok (tree, q) → IsKindRead room n keywords.Graphic words lines tree q
+pub graphic_found : (room n : ℕ) (words : WordsLeft) (lines : LinesLeft) (tree : Tree) (q : LinesLeft)
+    → graphic_at n words lines ≡ Ok (tree, q) → IsKindRead room n keywords.Graphic words lines tree q
 unfolding graphic_at
 graphic_found room n words lines tree q e =
-    let vertices = bind_found (size_at 1 most_vertices words) (λ vertices. ended_at vertices.1 >>= λ end. repeat_at (ends_line_at (codes "edge") vertices.0) n lines >>= λ edges. Ok (graphic vertices.0 edges.0, edges.1)) (tree, q) e in
-    let end = bind_found (ended_at vertices.0.1) (λ end. repeat_at (ends_line_at (codes "edge") vertices.0.0) n lines >>= λ edges. Ok (graphic vertices.0.0 edges.0, edges.1)) (tree, q) vertices.2 in
-    let edges = bind_found (repeat_at (ends_line_at (codes "edge") vertices.0.0) n lines) (λ edges. Ok (graphic vertices.0.0 edges.0, edges.1)) (tree, q) end.2 in
+    let vertices = bind_found (size_at 1 most_vertices words) _ (tree, q) e in
+    let end = bind_found (ended_at vertices.0.1) _ (tree, q) vertices.2 in
+    let edges = bind_found (repeat_at (ends_line_at (codes "edge") vertices.0.0) n lines) _ (tree, q) end.2 in
     let same = found-same (graphic vertices.0.0 edges.0.0, edges.0.1) (tree, q) edges.2 in
     let number = size_found 1 most_vertices words vertices.0.0 vertices.0.1 vertices.1 in
     let last = ended_found vertices.0.1 end.0 end.1 in
-    let read = items_found (ends_line_at (codes "edge") vertices.0.0) (ends_line (codes "edge")) (IsPairBelow vertices.0.0 vertices.0.0) (ends_line_found (codes "edge") vertices.0.0) n lines edges.0.0 edges.0.1 edges.1 in
-    let line : words.words ≡ numeral (pos vertices.0.0) ∷ [] = cut_then (numeral (pos vertices.0.0)) words.words vertices.0.1.words [] number.cut last in
+    let read = items_found (ends_line_at (codes "edge") vertices.0.0) (ends_line (codes "edge")) (IsPairBelow vertices.0.0 vertices.0.0)
+    (ends_line_found (codes "edge") vertices.0.0) n lines edges.0.0 edges.0.1 edges.1 in
+    let line : words.words ≡ numeral (pos vertices.0.0) ∷ [] = cut_then (numeral (pos vertices.0.0)) words.words vertices.0.1.words []
+    number.cut last in
     let one : IsKindRead room n keywords.Graphic words lines (graphic vertices.0.0 edges.0.0) edges.0.1 = record {
       valid = ((read.count, number.least, omega (arith, number.most), read.each), omega arith);
-      spelled = λ rest left. (map (ends_line (codes "edge")) edges.0.0 ++ rest, read.spelled rest left, ap (λ (t : Line). (codes "graphic" ∷ t) ∷ (map (ends_line (codes "edge")) edges.0.0 ++ rest)) line);
+      spelled = λ rest left.
+          let more : List Line = map (ends_line (codes "edge")) edges.0.0 ++ rest in
+          (more, read.spelled rest left, ap (λ (t : Line). (codes "graphic" ∷ t) ∷ more) line);
     } in
     subst (λ (r : Tree × LinesLeft). IsKindRead room n keywords.Graphic words lines r.0 r.1) same one
 
-pub gf2_found : (room n : ℕ) (words : WordsLeft) (lines : LinesLeft) (tree : Tree) (q : LinesLeft) → gf2_at n words lines ≡ Ok (tree, q) → IsKindRead room n keywords.Gf2 words lines tree q
+pub gf2_found : (room n : ℕ) (words : WordsLeft) (lines : LinesLeft) (tree : Tree) (q : LinesLeft) → gf2_at n words lines ≡ Ok (tree, q)
+    → IsKindRead room n keywords.Gf2 words lines tree q
 unfolding gf2_at
 gf2_found room n words lines tree q e =
-    let dim = bind_found (size_at 1 most_digits words) (λ dim. ended_at dim.1 >>= λ end. repeat_at (column_at dim.0) n lines >>= λ columns. Ok (gf2 dim.0 columns.0, columns.1)) (tree, q) e in
-    let end = bind_found (ended_at dim.0.1) (λ end. repeat_at (column_at dim.0.0) n lines >>= λ columns. Ok (gf2 dim.0.0 columns.0, columns.1)) (tree, q) dim.2 in
-    let columns = bind_found (repeat_at (column_at dim.0.0) n lines) (λ columns. Ok (gf2 dim.0.0 columns.0, columns.1)) (tree, q) end.2 in
+    let dim = bind_found (size_at 1 most_digits words) _ (tree, q) e in
+    let end = bind_found (ended_at dim.0.1) _ (tree, q) dim.2 in
+    let columns = bind_found (repeat_at (column_at dim.0.0) n lines) _ (tree, q) end.2 in
     let same = found-same (gf2 dim.0.0 columns.0.0, columns.0.1) (tree, q) columns.2 in
     let number = size_found 1 most_digits words dim.0.0 dim.0.1 dim.1 in
     let last = ended_found dim.0.1 end.0 end.1 in
-    let read = items_found (column_at dim.0.0) (column_line dim.0.0) (IsColumn dim.0.0) (column_found dim.0.0) n lines columns.0.0 columns.0.1 columns.1 in
+    let read = items_found (column_at dim.0.0) (column_line dim.0.0) (IsColumn dim.0.0) (column_found dim.0.0) n lines columns.0.0 columns.0.1
+    columns.1 in
     let line : words.words ≡ numeral (pos dim.0.0) ∷ [] = cut_then (numeral (pos dim.0.0)) words.words dim.0.1.words [] number.cut last in
     let one : IsKindRead room n keywords.Gf2 words lines (gf2 dim.0.0 columns.0.0) columns.0.1 = record {
       valid = ((read.count, number.least, omega (arith, number.most), read.each), omega arith);
-      spelled = λ rest left. (map (column_line dim.0.0) columns.0.0 ++ rest, read.spelled rest left, ap (λ (t : Line). (codes "gf2" ∷ t) ∷ (map (column_line dim.0.0) columns.0.0 ++ rest)) line);
+      spelled = λ rest left.
+          let more : List Line = map (column_line dim.0.0) columns.0.0 ++ rest in
+          (more, read.spelled rest left, ap (λ (t : Line). (codes "gf2" ∷ t) ∷ more) line);
     } in
     subst (λ (r : Tree × LinesLeft). IsKindRead room n keywords.Gf2 words lines r.0 r.1) same one

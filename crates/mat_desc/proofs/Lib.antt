@@ -1,12 +1,8 @@
-pub mod Repeats
+pub mod Told
 pub mod ElementLists
-pub mod Closing
 pub mod Classes
 pub mod NestedSets
 pub mod DistinctNumbers
-pub mod ReadingSteps
-pub mod WordLaws
-pub mod LineLaws
 pub mod ElementLaws
 pub mod BinaryLaws
 pub mod CappedLineLaws

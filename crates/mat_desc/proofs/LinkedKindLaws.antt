@@ -1,17 +1,20 @@
 -- Transversal matroids and gammoids: what is read behind the keyword is spelled so, and what is spelled so is read.
-use Rattle.std.proofs.Common.{◌≡◌, ℕ, ◌≤◌, List, [], ◌∷◌, ◌++◌, length, map, pos, Result, Ok, refl, ap, subst, ◌∙◌, arith}
+use Rattle.std.proofs.Common.{◌≡◌, ℕ, ◌≤◌, List, [], ◌∷◌, ◌++◌, length, map}
+use Rattle.std.proofs.Common.{pos, Ok, refl, ap, subst, ◌∙◌, arith}
 use Rattle.std.specs.Prelude.{codes}
 use Rattle.mat_words.specs.Numbers.{numeral, numerals}
 use Rattle.mat_words.specs.Lines.{Line}
 use Rattle.mat_any.specs.Trees.{Tree, transversal, gammoid}
 use Rattle.mat_desc.specs.Limits.{most_vertices, most_sets, most_arcs}
 use Rattle.mat_desc.specs.declared.keywords.Keyword.TheVariants as keywords
-use Rattle.mat_desc.specs.Faults.{Fault, ◌>>=◌, WordsLeft, LinesLeft}
-use Rattle.mat_desc.specs.Reading.{size_at, ended_at, repeat_at, set_line_at, transversal_at, targets_at, ends_line_at, gammoid_at}
+use Rattle.mat_words.specs.Cursors.{WordsLeft, LinesLeft}
+use Rattle.mat_words.specs.Steps.{repeat_at}
+use Rattle.mat_desc.specs.Reading.{size_at, ended_at, set_line_at, transversal_at, targets_at, ends_line_at, gammoid_at}
 use Rattle.mat_desc.specs.Grammar.{IsPairBelow, IsValidTree, Lists, FamilyLines, ends_line}
-use Rattle.mat_desc.proofs.ReadingSteps.{found-same, bind_found}
-use Rattle.mat_desc.proofs.WordLaws.{count_line, ended_found, ended_again, size_found, size_again}
-use Rattle.mat_desc.proofs.LineLaws.{AreLeft}
+use Rattle.mat_words.proofs.ReadingSteps.{found-same, bind_found}
+use Rattle.mat_words.proofs.WordReading.{size_again}
+use Rattle.mat_words.proofs.LineReading.{AreLeft}
+use Rattle.mat_desc.proofs.Told.{count_line, ended_found, ended_again, size_found}
 use Rattle.mat_desc.proofs.ItemLaws.{items_found, items_again, ends_line_found, ends_line_again}
 use Rattle.mat_desc.proofs.SetLineLaws.{set_line_found, set_line_again, family_found, family_again}
 use Rattle.mat_desc.proofs.TargetLaws.{targets_found, targets_again}
@@ -19,17 +22,13 @@ use Rattle.mat_desc.proofs.KindLaws.{IsKindRead}
 
 -- ---- transversal matroids
 
--- the sets of a transversal matroid on n elements
-abbrev family_step : ℕ → ℕ → LinesLeft → Result (Tree × LinesLeft) Fault
-family_step n many lines = repeat_at (set_line_at (codes "set") n) many lines >>= λ family. Ok (transversal n family.0, family.1)
-
 pub transversal_found : (room n : ℕ) (words : WordsLeft) (lines : LinesLeft) (tree : Tree) (q : LinesLeft)
     → transversal_at n words lines ≡ Ok (tree, q) → IsKindRead room n keywords.Transversal words lines tree q
 unfolding transversal_at
 transversal_found room n words lines tree q e =
-    let many = bind_found (size_at 0 most_sets words) (λ many. ended_at many.1 >>= λ end. family_step n many.0 lines) (tree, q) e in
-    let end = bind_found (ended_at many.0.1) (λ end. family_step n many.0.0 lines) (tree, q) many.2 in
-    let family = bind_found (repeat_at (set_line_at (codes "set") n) many.0.0 lines) (λ family. Ok (transversal n family.0, family.1)) (tree, q) end.2 in
+    let many = bind_found (size_at 0 most_sets words) _ (tree, q) e in
+    let end = bind_found (ended_at many.0.1) _ (tree, q) many.2 in
+    let family = bind_found (repeat_at (set_line_at (codes "set") n) many.0.0 lines) _ (tree, q) end.2 in
     let same = found-same (transversal n family.0.0, family.0.1) (tree, q) family.2 in
     let number = size_found 0 most_sets words many.0.0 many.0.1 many.1 in
     let last = ended_found many.0.1 end.0 end.1 in
@@ -47,7 +46,8 @@ transversal_found room n words lines tree q e =
 
 pub transversal_again : (n line m : ℕ) (family : List (List ℕ)) (p : LinesLeft) (lines rest : List Line) → IsValidTree n (transversal m family)
     → FamilyLines family lines rest → AreLeft lines p
-    → (q : LinesLeft) × (transversal_at n (record { line = line; words = numeral (pos (length family)) ∷ [] }) p ≡ Ok (transversal m family, q)) × AreLeft rest q
+    → (q : LinesLeft) × (transversal_at n (record { line = line; words = numeral (pos (length family)) ∷ [] }) p
+    ≡ Ok (transversal m family, q)) × AreLeft rest q
 unfolding transversal_at
 transversal_again n line m family p lines rest valid spelled left =
     let many = size_again 0 most_sets line (length family) [] (omega arith) (omega (arith, valid.1)) in
@@ -56,27 +56,17 @@ transversal_again n line m family p lines rest valid spelled left =
 
 -- ---- gammoids
 
--- the arcs of a gammoid, behind the line of its targets
-abbrev arcs_step : ℕ → ℕ → List ℕ → List ℕ × LinesLeft → Result (Tree × LinesLeft) Fault
-arcs_step v many sources targets = repeat_at (ends_line_at (codes "arc") v) many targets.1 >>= λ arcs. Ok (gammoid v arcs.0 sources targets.0, arcs.1)
-
--- the lines behind the first line of a gammoid
-abbrev sources_step : ℕ → ℕ → ℕ → LinesLeft → Result (Tree × LinesLeft) Fault
-sources_step n v many lines = set_line_at (codes "sources") v lines >>= λ sources. targets_at v n sources.1 >>= arcs_step v many sources.0
-
 pub gammoid_found : (room n : ℕ) (words : WordsLeft) (lines : LinesLeft) (tree : Tree) (q : LinesLeft) → gammoid_at n words lines ≡ Ok (tree, q)
     → IsKindRead room n keywords.Gammoid words lines tree q
 unfolding gammoid_at
 gammoid_found room n words lines tree q e =
-    let vertices = bind_found (size_at 1 most_vertices words)
-    (λ v. size_at 0 most_arcs v.1 >>= λ many. ended_at many.1 >>= λ end. sources_step n v.0 many.0 lines) (tree, q) e in
+    let vertices = bind_found (size_at 1 most_vertices words) _ (tree, q) e in
     let v = vertices.0.0 in
-    let many = bind_found (size_at 0 most_arcs vertices.0.1) (λ many. ended_at many.1 >>= λ end. sources_step n v many.0 lines) (tree, q) vertices.2 in
-    let end = bind_found (ended_at many.0.1) (λ end. sources_step n v many.0.0 lines) (tree, q) many.2 in
-    let sources = bind_found (set_line_at (codes "sources") v lines) (λ sources. targets_at v n sources.1 >>= arcs_step v many.0.0 sources.0) (tree, q) end.2 in
-    let targets = bind_found (targets_at v n sources.0.1) (arcs_step v many.0.0 sources.0.0) (tree, q) sources.2 in
-    let arcs = bind_found (repeat_at (ends_line_at (codes "arc") v) many.0.0 targets.0.1)
-    (λ arcs. Ok (gammoid v arcs.0 sources.0.0 targets.0.0, arcs.1)) (tree, q) targets.2 in
+    let many = bind_found (size_at 0 most_arcs vertices.0.1) _ (tree, q) vertices.2 in
+    let end = bind_found (ended_at many.0.1) _ (tree, q) many.2 in
+    let sources = bind_found (set_line_at (codes "sources") v lines) _ (tree, q) end.2 in
+    let targets = bind_found (targets_at v n sources.0.1) _ (tree, q) sources.2 in
+    let arcs = bind_found (repeat_at (ends_line_at (codes "arc") v) many.0.0 targets.0.1) _ (tree, q) targets.2 in
     let same = found-same (gammoid v arcs.0.0 sources.0.0 targets.0.0, arcs.0.1) (tree, q) arcs.2 in
     let first = size_found 1 most_vertices words v vertices.0.1 vertices.1 in
     let second = size_found 0 most_arcs vertices.0.1 many.0.0 many.0.1 many.1 in
@@ -88,7 +78,16 @@ gammoid_found room n words lines tree q e =
     let line : words.words ≡ numeral (pos v) ∷ numeral (pos (length arcs.0.0)) ∷ [] = first.cut ∙ rw (second.cut, last, read.count) refl in
     let one : IsKindRead room n keywords.Gammoid words lines (gammoid v arcs.0.0 sources.0.0 targets.0.0) arcs.0.1 = record {
       valid = (
-        (ends.count, first.least, omega (arith, first.most), omega (arith, read.count, second.most), read.each, starts.in_range, ends.below, ends.distinct),
+        (
+          ends.count,
+          first.least,
+          omega (arith, first.most),
+          omega (arith, read.count, second.most),
+          read.each,
+          starts.in_range,
+          ends.below,
+          ends.distinct,
+        ),
         omega arith,
       );
       spelled = λ rest left.
@@ -109,8 +108,10 @@ gammoid_again n line vertices arcs sources targets xs p rest valid lists left =
     let arc_lines = map (ends_line (codes "arc")) arcs ++ rest in
     let number = size_again 1 most_vertices line vertices (numeral (pos (length arcs)) ∷ []) valid.1 (omega (arith, valid.2)) in
     let many = size_again 0 most_arcs line (length arcs) [] (omega arith) (omega (arith, valid.3)) in
-    let starts = set_line_again (codes "sources") vertices refl p sources xs ((codes "targets" ∷ numerals targets) ∷ arc_lines) valid.5 lists left in
+    let starts = set_line_again (codes "sources") vertices refl p sources xs ((codes "targets" ∷ numerals targets) ∷ arc_lines) valid.5
+    lists left in
     let ends = targets_again vertices n starts.0 targets arc_lines valid.0 valid.6 valid.7 starts.2 in
     let arc_again = ends_line_again (codes "arc") vertices refl in
-    let read = items_again (ends_line_at (codes "arc") vertices) (ends_line (codes "arc")) (IsPairBelow vertices vertices) arc_again ends.0 arcs rest valid.4 ends.2 in
+    let read = items_again (ends_line_at (codes "arc") vertices) (ends_line (codes "arc")) (IsPairBelow vertices vertices) arc_again ends.0
+    arcs rest valid.4 ends.2 in
     (read.0, rw (number, many, ended_again line, starts.1, ends.1, read.1) refl, read.2)

@@ -1,6 +1,7 @@
 -- The lines of a matroid: what is read is spelled so, and what is spelled so is read. The laws of the lines of one matroid are over any reader
 -- that is right for the matroids within it, in which fewer stand within one another. So each is right, by induction on that number.
-use Rattle.std.proofs.Common.{◌≡◌, ℕ, zero, suc, ◌≤◌, true, List, [], ◌∷◌, ◌++◌, length, map, pos, Option, Some, None, Result, Ok, Err, refl, ap, subst, ◌∙◌, arith}
+use Rattle.std.proofs.Common.{◌≡◌, ℕ, zero, suc, ◌≤◌, true, List, [], ◌∷◌, ◌++◌, length, map}
+use Rattle.std.proofs.Common.{pos, Option, Some, None, Result, Ok, refl, ap, subst, ◌∙◌, arith}
 use Rattle.std.specs.Prelude.{codes}
 use Rattle.std.specs.List.{list_all}
 use Rattle.std.proofs.lemmas.Bool.{and_from}
@@ -13,13 +14,18 @@ use Rattle.mat_words.specs.Lines.{Line}
 use Rattle.mat_desc.specs.Limits.{most_elements, most_vertices, most_sets, most_digits, deepest}
 use Rattle.mat_desc.specs.declared.keywords.Keyword.{Keyword}
 use Rattle.mat_desc.specs.declared.keywords.Keyword.TheVariants as keywords
-use Rattle.mat_desc.specs.declared.refusal.DescKind.TheVariants.{TooDeep}
-use Rattle.mat_desc.specs.Faults.{Fault, ◌>>=◌, WordsLeft, LinesLeft}
-use Rattle.mat_desc.specs.Reading.{line_at, word_at, size_at, ended_at, elements_at, uniform_at, partition_at, laminar_at, ends_line_at, graphic_at, column_at, gf2_at, TreeReader, dual_at, truncate_at, restrict_at, contract_at, keyword_of, kind_at, matroid_within, matroid_at}
+use Rattle.mat_words.specs.Cursors.{WordsLeft, LinesLeft}
+use Rattle.mat_words.specs.Steps.{◌>>=◌}
+use Rattle.mat_words.specs.Reading.{word_at as word_read}
+use Rattle.mat_desc.specs.Faults.{Fault}
+use Rattle.mat_desc.specs.Reading.{line_at, word_at, size_at, ended_at, elements_at, uniform_at, partition_at}
+use Rattle.mat_desc.specs.Reading.{laminar_at, ends_line_at, graphic_at, column_at, gf2_at, TreeReader, dual_at}
+use Rattle.mat_desc.specs.Reading.{truncate_at, restrict_at, contract_at, keyword_of, kind_at, matroid_within, matroid_at}
 use Rattle.mat_desc.specs.Grammar.{IsPairBelow, IsValidTree, IsValidMatroid, AreClasses, AreNestedSets, MatroidLines, ends_line, column_line}
-use Rattle.mat_desc.proofs.ReadingSteps.{found-same, bind_found}
-use Rattle.mat_desc.proofs.WordLaws.{cut_then, word_found, ended_found, ended_again, size_found, size_again, numerals_words}
-use Rattle.mat_desc.proofs.LineLaws.{AreLeft, line_found, line_again}
+use Rattle.mat_words.proofs.ReadingSteps.{found-same, bind_found}
+use Rattle.mat_words.proofs.WordReading.{size_again, numerals_words}
+use Rattle.mat_words.proofs.LineReading.{AreLeft, line_again}
+use Rattle.mat_desc.proofs.Told.{cut_then, word_found, ended_found, ended_again, size_found, line_found}
 use Rattle.mat_desc.proofs.ElementLaws.{elements_found, Lists-read, IsSet-read, set_again}
 use Rattle.mat_desc.proofs.ClassLaws.{classes_again}
 use Rattle.mat_desc.proofs.NestedSetLaws.{nested_sets_again}
@@ -38,7 +44,8 @@ ReadsSpelled room n reader = (p : LinesLeft) (tree : Tree) (q : LinesLeft) → r
 
 -- what is spelled is read so by a reader
 abbrev SpelledIsRead : ℕ → ℕ → TreeReader → Type 0
-SpelledIsRead room n reader = (p : LinesLeft) (tree : Tree) (lines rest : List Line) → IsValidTree n tree → depth tree ≤ room → MatroidLines tree lines rest → AreLeft lines p
+SpelledIsRead room n reader = (p : LinesLeft) (tree : Tree) (lines rest : List Line) → IsValidTree n tree → depth tree ≤ room
+    → MatroidLines tree lines rest → AreLeft lines p
     → (q : LinesLeft) × (reader p ≡ Ok (tree, q)) × AreLeft rest q
 
 -- ---- what is read is spelled
@@ -48,12 +55,15 @@ abbrev made_of : (Tree → Tree) → Tree × LinesLeft → Result (Tree × Lines
 made_of made t = Ok (made t.0, t.1)
 
 -- a matroid was read behind the line of one that is made of it
-made_found : (room n : ℕ) (keyword : Keyword) (made : Tree → Tree) (inner : TreeReader) → ReadsSpelled room n inner → ((t : Tree) → IsValidTree n t → IsValidTree n (made t))
+made_found : (room n : ℕ) (keyword : Keyword) (made : Tree → Tree) (inner : TreeReader) → ReadsSpelled room n inner
+    → ((t : Tree) → IsValidTree n t → IsValidTree n (made t))
     → ((t : Tree) → depth (made t) ≡ suc (depth t)) → (words : WordsLeft)
-    → ((t : Tree) (more rest : List Line) → MatroidLines t more rest → MatroidLines (made t) ((spelling_of keyword ∷ words.words) ∷ more) rest)
-    → (lines : LinesLeft) (tree : Tree) (q : LinesLeft) → (inner lines >>= made_of made) ≡ Ok (tree, q) → IsKindRead room n keyword words lines tree q
+    → ((t : Tree) (more rest : List Line) → MatroidLines t more rest
+    → MatroidLines (made t) ((spelling_of keyword ∷ words.words) ∷ more) rest)
+    → (lines : LinesLeft) (tree : Tree) (q : LinesLeft) → (inner lines >>= made_of made) ≡ Ok (tree, q)
+    → IsKindRead room n keyword words lines tree q
 made_found room n keyword made inner right valid deeper words line lines tree q e =
-    let t = bind_found (inner lines) (made_of made) (tree, q) e in
+    let t = bind_found (inner lines) _ (tree, q) e in
     let same = found-same (made t.0.0, t.0.1) (tree, q) t.2 in
     let read = right lines t.0.0 t.0.1 t.1 in
     let one : IsKindRead room n keyword words lines (made t.0.0) t.0.1 = record {
@@ -62,49 +72,54 @@ made_found room n keyword made inner right valid deeper words line lines tree q 
     } in
     subst (λ (r : Tree × LinesLeft). IsKindRead room n keyword words lines r.0 r.1) same one
 
-dual_found : (room n : ℕ) (inner : TreeReader) → ReadsSpelled room n inner → (words : WordsLeft) (lines : LinesLeft) (tree : Tree) (q : LinesLeft) → dual_at inner words lines ≡ Ok (tree, q)
+dual_found : (room n : ℕ) (inner : TreeReader) → ReadsSpelled room n inner
+    → (words : WordsLeft) (lines : LinesLeft) (tree : Tree) (q : LinesLeft) → dual_at inner words lines ≡ Ok (tree, q)
     → IsKindRead room n keywords.Dual words lines tree q
 unfolding dual_at
 dual_found room n inner right words lines tree q e =
-    let end = bind_found (ended_at words) (λ end. inner lines >>= λ t. Ok (dual t.0, t.1)) (tree, q) e in
+    let end = bind_found (ended_at words) _ (tree, q) e in
     let last = ended_found words end.0 end.1 in
     made_found room n keywords.Dual dual inner right (λ t valid. valid) (λ t. refl) words
     (λ t more rest spelled. (more, ap (λ (w : Line). (codes "dual" ∷ w) ∷ more) last, spelled)) lines tree q end.2
 
-truncate_found : (room n : ℕ) (inner : TreeReader) → ReadsSpelled room n inner → (words : WordsLeft) (lines : LinesLeft) (tree : Tree) (q : LinesLeft) → truncate_at inner words lines ≡ Ok (tree, q)
+truncate_found : (room n : ℕ) (inner : TreeReader) → ReadsSpelled room n inner
+    → (words : WordsLeft) (lines : LinesLeft) (tree : Tree) (q : LinesLeft) → truncate_at inner words lines ≡ Ok (tree, q)
     → IsKindRead room n keywords.Truncate words lines tree q
 unfolding truncate_at
 truncate_found room n inner right words lines tree q e =
-    let cap = bind_found (size_at 0 most_elements words) (λ cap. ended_at cap.1 >>= λ end. inner lines >>= λ t. Ok (truncate cap.0 t.0, t.1)) (tree, q) e in
-    let end = bind_found (ended_at cap.0.1) (λ end. inner lines >>= λ t. Ok (truncate cap.0.0 t.0, t.1)) (tree, q) cap.2 in
+    let cap = bind_found (size_at 0 most_elements words) _ (tree, q) e in
+    let end = bind_found (ended_at cap.0.1) _ (tree, q) cap.2 in
     let number = size_found 0 most_elements words cap.0.0 cap.0.1 cap.1 in
     let line = cut_then (numeral (pos cap.0.0)) words.words cap.0.1.words [] number.cut (ended_found cap.0.1 end.0 end.1) in
     made_found room n keywords.Truncate (truncate cap.0.0) inner right (λ t valid. (omega (arith, number.most), valid)) (λ t. refl) words
     (λ t more rest spelled. (more, ap (λ (w : Line). (codes "truncate" ∷ w) ∷ more) line, spelled)) lines tree q end.2
 
-restrict_found : (room n : ℕ) (inner : TreeReader) → ReadsSpelled room n inner → (words : WordsLeft) (lines : LinesLeft) (tree : Tree) (q : LinesLeft) → restrict_at inner n words lines ≡ Ok (tree, q)
+restrict_found : (room n : ℕ) (inner : TreeReader) → ReadsSpelled room n inner
+    → (words : WordsLeft) (lines : LinesLeft) (tree : Tree) (q : LinesLeft) → restrict_at inner n words lines ≡ Ok (tree, q)
     → IsKindRead room n keywords.Restrict words lines tree q
 unfolding restrict_at
 restrict_found room n inner right words lines tree q e =
-    let kept = bind_found (elements_at n [] words) (λ kept. inner lines >>= λ t. Ok (restrict kept.0 t.0, t.1)) (tree, q) e in
+    let kept = bind_found (elements_at n [] words) _ (tree, q) e in
     let read = elements_found n words.line [] [] words.words kept.0.0 kept.0.1 kept.1 in
     let lists = Lists-read n [] words.words kept.0.0 kept.0.1 read in
     let in_range = IsSet-read n [] words.words kept.0.0 kept.0.1 read in
     made_found room n keywords.Restrict (restrict kept.0.0) inner right (λ t valid. (in_range, valid)) (λ t. refl) words
     (λ t more rest spelled. (read.xs, more, lists, ap (λ (w : Line). (codes "restrict" ∷ w) ∷ more) read.cut, spelled)) lines tree q kept.2
 
-contract_found : (room n : ℕ) (inner : TreeReader) → ReadsSpelled room n inner → (words : WordsLeft) (lines : LinesLeft) (tree : Tree) (q : LinesLeft) → contract_at inner n words lines ≡ Ok (tree, q)
+contract_found : (room n : ℕ) (inner : TreeReader) → ReadsSpelled room n inner
+    → (words : WordsLeft) (lines : LinesLeft) (tree : Tree) (q : LinesLeft) → contract_at inner n words lines ≡ Ok (tree, q)
     → IsKindRead room n keywords.Contract words lines tree q
 unfolding contract_at
 contract_found room n inner right words lines tree q e =
-    let away = bind_found (elements_at n [] words) (λ away. inner lines >>= λ t. Ok (contract away.0 t.0, t.1)) (tree, q) e in
+    let away = bind_found (elements_at n [] words) _ (tree, q) e in
     let read = elements_found n words.line [] [] words.words away.0.0 away.0.1 away.1 in
     let lists = Lists-read n [] words.words away.0.0 away.0.1 read in
     let in_range = IsSet-read n [] words.words away.0.0 away.0.1 read in
     made_found room n keywords.Contract (contract away.0.0) inner right (λ t valid. (in_range, valid)) (λ t. refl) words
     (λ t more rest spelled. (read.xs, more, lists, ap (λ (w : Line). (codes "contract" ∷ w) ∷ more) read.cut, spelled)) lines tree q away.2
 
-kind_found : (room n line : ℕ) (inner : TreeReader) → ReadsSpelled room n inner → (keyword : Keyword) (words : WordsLeft) (lines : LinesLeft) (tree : Tree) (q : LinesLeft)
+kind_found : (room n line : ℕ) (inner : TreeReader) → ReadsSpelled room n inner
+    → (keyword : Keyword) (words : WordsLeft) (lines : LinesLeft) (tree : Tree) (q : LinesLeft)
     → kind_at inner n line (Some keyword) words lines ≡ Ok (tree, q) → IsKindRead room n keyword words lines tree q
 kind_found room n line inner right keywords.Uniform words lines tree q e = uniform_found room n words lines tree q e
 kind_found room n line inner right keywords.Partition words lines tree q e = partition_found room n words lines tree q e
@@ -124,26 +139,35 @@ node_at inner n p = line_at p >>= λ line. word_at line.0 >>= λ word. kind_at i
 
 node_found : (room n : ℕ) (inner : TreeReader) → ReadsSpelled room n inner → ReadsSpelled (suc room) n (node_at inner n)
 node_found room n inner right p tree q e =
-    let line = bind_found (line_at p) (λ line. word_at line.0 >>= λ word. kind_at inner n p.line (keyword_of word.0) word.1 line.1) (tree, q) e in
-    let word = bind_found (word_at line.0.0) (λ word. kind_at inner n p.line (keyword_of word.0) word.1 line.0.1) (tree, q) line.2 in
-    kind word.0.0 word.0.1 line.0.0 line.0.1 (keyword_of word.0.0) refl word.2 (word_found line.0.0 word.0.0 word.0.1 word.1) (line_found p line.0.0 line.0.1 line.1)
+    let line = bind_found (line_at p) _ (tree, q) e in
+    let word = bind_found (word_at line.0.0) _ (tree, q) line.2 in
+    kind word.0.0 word.0.1 line.0.0 line.0.1 (keyword_of word.0.0) refl word.2 (word_found line.0.0 word.0.0 word.0.1 word.1)
+    (line_found p line.0.0 line.0.1 line.1)
   where
-    kind : (first : List ℕ) (words line : WordsLeft) (lines : LinesLeft) (o : Option Keyword) → keyword_of first ≡ o → kind_at inner n p.line o words lines ≡ Ok (tree, q)
-        → line.words ≡ first ∷ words.words → ((rest : List Line) → AreLeft rest lines → AreLeft (line.words ∷ rest) p) → IsMatroidRead (suc room) n p tree q
+    kind : (first : List ℕ) (words line : WordsLeft) (lines : LinesLeft) (o : Option Keyword) → keyword_of first ≡ o
+        → kind_at inner n p.line o words lines ≡ Ok (tree, q)
+        → line.words ≡ first ∷ words.words → ((rest : List Line) → AreLeft rest lines → AreLeft (line.words ∷ rest) p)
+        → IsMatroidRead (suc room) n p tree q
     kind first words line lines None is h cut written = absurd cc
     kind first words line lines (Some keyword) is h cut written =
         let read = kind_found room n p.line inner right keyword words lines tree q h in
-        let whole : line.words ≡ spelling_of keyword ∷ words.words = cut ∙ ap (λ (t : List ℕ). t ∷ words.words) (keyword_found first keyword is) in
+        let whole : line.words ≡ spelling_of keyword ∷ words.words = cut ∙ ap (λ (t : List ℕ). t ∷ words.words)
+        (keyword_found first keyword is) in
         record {
           valid = read.valid;
           spelled = λ rest left.
-              let behind = read.spelled rest left in
-              ((spelling_of keyword ∷ words.words) ∷ behind.0, subst (λ (t : Line). AreLeft (t ∷ behind.0) p) whole (written behind.0 behind.1), behind.2);
+              let behind = read.spelled rest left in (
+                (spelling_of keyword ∷ words.words) ∷ behind.0,
+                subst (λ (t : Line). AreLeft (t ∷ behind.0) p) whole
+                    (written behind.0 behind.1),
+                behind.2,
+              );
         }
 
-within_found : (room n : ℕ) (p : LinesLeft) (tree : Tree) (q : LinesLeft) → matroid_within room n p ≡ Ok (tree, q) → IsMatroidRead room n p tree q
+within_found : (room n : ℕ) (p : LinesLeft) (tree : Tree) (q : LinesLeft) → matroid_within room n p ≡ Ok (tree, q)
+    → IsMatroidRead room n p tree q
 unfolding matroid_within
-within_found zero n p tree q e = let line = bind_found (line_at p) (λ line. Err (TooDeep, p.line)) (tree, q) e in absurd (cc line.2)
+within_found zero n p tree q e = let line = bind_found (line_at p) _ (tree, q) e in absurd (cc line.2)
 within_found (suc room) n p tree q e = node_found room n (matroid_within room n) (λ lines t rest h. within_found room n lines t rest h) p tree q e
 
 pub matroid_found : (n : ℕ) (p : LinesLeft) (tree : Tree) (q : LinesLeft) → matroid_at n p ≡ Ok (tree, q) → IsMatroidRead deepest n p tree q
@@ -152,47 +176,61 @@ matroid_found n p tree q e = within_found deepest n p tree q e
 -- ---- what is spelled is read
 
 node_again : (room n : ℕ) (inner : TreeReader) → SpelledIsRead room n inner → SpelledIsRead (suc room) n (node_at inner n)
-unfolding word_at uniform_at partition_at laminar_at graphic_at gf2_at dual_at truncate_at restrict_at contract_at multiplicity
+unfolding word_read uniform_at partition_at laminar_at graphic_at gf2_at dual_at truncate_at restrict_at contract_at multiplicity
 node_again room n inner right p (uniform m cap) lines rest valid shallow spelled left =
-    let number_word : list_all is_word (codes "uniform" ∷ numeral (pos cap) ∷ []) ≡ true = and_from (is_word (numeral (pos cap))) true (numeral_word (pos cap)) refl in
-    let line = line_again p (codes "uniform" ∷ numeral (pos cap) ∷ []) rest (omega arith) number_word (subst (λ (ls : List Line). AreLeft ls p) spelled left) in
+    let number_word : list_all is_word (codes "uniform" ∷ numeral (pos cap) ∷ []) ≡ true =
+    and_from (is_word (numeral (pos cap))) true (numeral_word (pos cap)) refl in
+    let line = line_again p (codes "uniform" ∷ numeral (pos cap) ∷ []) rest (omega arith) number_word
+    (subst (λ (ls : List Line). AreLeft ls p) spelled left) in
     let number = size_again 0 most_elements p.line cap [] (omega arith) (omega (arith, valid.1)) in
     (line.0, rw (line.1, number, ended_again p.line, valid.0) refl, line.2)
 node_again room n inner right p (partition m classes caps) lines rest valid shallow spelled left =
     let ranged : AreClasses n classes caps = valid.1 in
-    let number_word : list_all is_word (codes "partition" ∷ numeral (pos (length classes)) ∷ []) ≡ true = and_from (is_word (numeral (pos (length classes)))) true (numeral_word (pos (length classes))) refl in
-    let line = line_again p (codes "partition" ∷ numeral (pos (length classes)) ∷ []) spelled.0 (omega arith) number_word (subst (λ (ls : List Line). AreLeft ls p) spelled.1 left) in
+    let number_word : list_all is_word (codes "partition" ∷ numeral (pos (length classes)) ∷ []) ≡ true =
+    and_from (is_word (numeral (pos (length classes)))) true (numeral_word (pos (length classes))) refl in
+    let line = line_again p (codes "partition" ∷ numeral (pos (length classes)) ∷ []) spelled.0 (omega arith) number_word
+    (subst (λ (ls : List Line). AreLeft ls p) spelled.1 left) in
     let number = size_again 0 most_sets p.line (length classes) [] (omega arith) (omega (arith, ranged.few)) in
-    let read = classes_again n [] line.0 classes caps spelled.0 rest ranged.caps_small ranged.sets (λ x. omega (arith, ranged.disjoint.once x)) spelled.2 line.2 in
+    let read = classes_again n [] line.0 classes caps spelled.0 rest ranged.caps_small ranged.sets
+    (λ x. omega (arith, ranged.disjoint.once x)) spelled.2 line.2 in
     (read.0, rw (line.1, number, ended_again p.line, read.1, valid.0) refl, read.2)
 node_again room n inner right p (laminar m sets caps) lines rest valid shallow spelled left =
     let ranged : AreNestedSets n sets caps = valid.1 in
-    let number_word : list_all is_word (codes "laminar" ∷ numeral (pos (length sets)) ∷ []) ≡ true = and_from (is_word (numeral (pos (length sets)))) true (numeral_word (pos (length sets))) refl in
-    let line = line_again p (codes "laminar" ∷ numeral (pos (length sets)) ∷ []) spelled.0 (omega arith) number_word (subst (λ (ls : List Line). AreLeft ls p) spelled.1 left) in
+    let number_word : list_all is_word (codes "laminar" ∷ numeral (pos (length sets)) ∷ []) ≡ true =
+    and_from (is_word (numeral (pos (length sets)))) true (numeral_word (pos (length sets))) refl in
+    let line = line_again p (codes "laminar" ∷ numeral (pos (length sets)) ∷ []) spelled.0 (omega arith) number_word
+    (subst (λ (ls : List Line). AreLeft ls p) spelled.1 left) in
     let number = size_again 0 most_sets p.line (length sets) [] (omega arith) (omega (arith, ranged.few)) in
     let read = nested_sets_again n [] line.0 sets caps spelled.0 rest ranged.caps_small ranged.sets_inside ranged.family spelled.2 line.2 in
     (read.0, rw (line.1, number, ended_again p.line, read.1, valid.0) refl, read.2)
 node_again room n inner right p (graphic vertices edges) lines rest valid shallow spelled left =
-    let number_word : list_all is_word (codes "graphic" ∷ numeral (pos vertices) ∷ []) ≡ true = and_from (is_word (numeral (pos vertices))) true (numeral_word (pos vertices)) refl in
-    let line = line_again p (codes "graphic" ∷ numeral (pos vertices) ∷ []) (map (ends_line (codes "edge")) edges ++ rest) (omega arith) number_word (subst (λ (ls : List Line). AreLeft ls p) spelled left) in
+    let number_word : list_all is_word (codes "graphic" ∷ numeral (pos vertices) ∷ []) ≡ true =
+    and_from (is_word (numeral (pos vertices))) true (numeral_word (pos vertices)) refl in
+    let line = line_again p (codes "graphic" ∷ numeral (pos vertices) ∷ []) (map (ends_line (codes "edge")) edges ++ rest) (omega arith)
+    number_word (subst (λ (ls : List Line). AreLeft ls p) spelled left) in
     let number = size_again 1 most_vertices p.line vertices [] valid.1 (omega (arith, valid.2)) in
-    let read = items_again (ends_line_at (codes "edge") vertices) (ends_line (codes "edge")) (IsPairBelow vertices vertices) (ends_line_again (codes "edge") vertices refl) line.0 edges rest valid.3 line.2 in
+    let read = items_again (ends_line_at (codes "edge") vertices) (ends_line (codes "edge")) (IsPairBelow vertices vertices)
+    (ends_line_again (codes "edge") vertices refl) line.0 edges rest valid.3 line.2 in
     (read.0, rw (line.1, number, ended_again p.line, ← valid.0, read.1) refl, read.2)
 node_again room n inner right p (transversal m family) lines rest valid shallow spelled left =
     let words : Line = codes "transversal" ∷ numeral (pos (length family)) ∷ [] in
-    let line = line_again p words spelled.0 (omega arith) (numerals_words (length family ∷ [])) (subst (λ (ls : List Line). AreLeft ls p) spelled.1 left) in
+    let line = line_again p words spelled.0 (omega arith) (numerals_words (length family ∷ []))
+    (subst (λ (ls : List Line). AreLeft ls p) spelled.1 left) in
     let read = transversal_again n p.line m family line.0 spelled.0 rest valid spelled.2 line.2 in
     (read.0, rw (line.1, read.1) refl, read.2)
 node_again room n inner right p (gammoid vertices arcs sources targets) lines rest valid shallow spelled left =
     let xs = spelled.0 in
     let words : Line = codes "gammoid" ∷ numeral (pos vertices) ∷ numeral (pos (length arcs)) ∷ [] in
     let more = (codes "sources" ∷ numerals xs) ∷ (codes "targets" ∷ numerals targets) ∷ (map (ends_line (codes "arc")) arcs ++ rest) in
-    let line = line_again p words more (omega arith) (numerals_words (vertices ∷ length arcs ∷ [])) (subst (λ (ls : List Line). AreLeft ls p) spelled.2 left) in
+    let line = line_again p words more (omega arith) (numerals_words (vertices ∷ length arcs ∷ []))
+    (subst (λ (ls : List Line). AreLeft ls p) spelled.2 left) in
     let read = gammoid_again n p.line vertices arcs sources targets xs line.0 rest valid spelled.1 line.2 in
     (read.0, rw (line.1, read.1) refl, read.2)
 node_again room n inner right p (gf2 dim columns) lines rest valid shallow spelled left =
-    let number_word : list_all is_word (codes "gf2" ∷ numeral (pos dim) ∷ []) ≡ true = and_from (is_word (numeral (pos dim))) true (numeral_word (pos dim)) refl in
-    let line = line_again p (codes "gf2" ∷ numeral (pos dim) ∷ []) (map (column_line dim) columns ++ rest) (omega arith) number_word (subst (λ (ls : List Line). AreLeft ls p) spelled left) in
+    let number_word : list_all is_word (codes "gf2" ∷ numeral (pos dim) ∷ []) ≡ true =
+    and_from (is_word (numeral (pos dim))) true (numeral_word (pos dim)) refl in
+    let line = line_again p (codes "gf2" ∷ numeral (pos dim) ∷ []) (map (column_line dim) columns ++ rest) (omega arith) number_word
+    (subst (λ (ls : List Line). AreLeft ls p) spelled left) in
     let number = size_again 1 most_digits p.line dim [] valid.1 (omega (arith, valid.2)) in
     let read = items_again (column_at dim) (column_line dim) (IsColumn dim) (column_again dim valid.1) line.0 columns rest valid.3 line.2 in
     (read.0, rw (line.1, number, ended_again p.line, ← valid.0, read.1) refl, read.2)
@@ -201,20 +239,24 @@ node_again room n inner right p (dual t) lines rest valid shallow spelled left =
     let within = right line.0 t spelled.0 rest valid (omega (arith, shallow)) spelled.2 line.2 in
     (within.0, rw (line.1, ended_again p.line, within.1) refl, within.2)
 node_again room n inner right p (truncate cap t) lines rest valid shallow spelled left =
-    let number_word : list_all is_word (codes "truncate" ∷ numeral (pos cap) ∷ []) ≡ true = and_from (is_word (numeral (pos cap))) true (numeral_word (pos cap)) refl in
-    let line = line_again p (codes "truncate" ∷ numeral (pos cap) ∷ []) spelled.0 (omega arith) number_word (subst (λ (ls : List Line). AreLeft ls p) spelled.1 left) in
+    let number_word : list_all is_word (codes "truncate" ∷ numeral (pos cap) ∷ []) ≡ true =
+    and_from (is_word (numeral (pos cap))) true (numeral_word (pos cap)) refl in
+    let line = line_again p (codes "truncate" ∷ numeral (pos cap) ∷ []) spelled.0 (omega arith) number_word
+    (subst (λ (ls : List Line). AreLeft ls p) spelled.1 left) in
     let number = size_again 0 most_elements p.line cap [] (omega arith) (omega (arith, valid.0)) in
     let within = right line.0 t spelled.0 rest valid.1 (omega (arith, shallow)) spelled.2 line.2 in
     (within.0, rw (line.1, number, ended_again p.line, within.1) refl, within.2)
 node_again room n inner right p (restrict kept t) lines rest valid shallow spelled left =
     let xs = spelled.0 in
-    let line = line_again p (codes "restrict" ∷ numerals xs) spelled.1 (omega arith) (numerals_words xs) (subst (λ (ls : List Line). AreLeft ls p) spelled.3 left) in
+    let line = line_again p (codes "restrict" ∷ numerals xs) spelled.1 (omega arith) (numerals_words xs)
+    (subst (λ (ls : List Line). AreLeft ls p) spelled.3 left) in
     let set = set_again n p.line [] kept xs valid.0 spelled.2 (λ x h. refl) in
     let within = right line.0 t spelled.1 rest valid.1 (omega (arith, shallow)) spelled.4 line.2 in
     (within.0, rw (line.1, set, within.1) refl, within.2)
 node_again room n inner right p (contract away t) lines rest valid shallow spelled left =
     let xs = spelled.0 in
-    let line = line_again p (codes "contract" ∷ numerals xs) spelled.1 (omega arith) (numerals_words xs) (subst (λ (ls : List Line). AreLeft ls p) spelled.3 left) in
+    let line = line_again p (codes "contract" ∷ numerals xs) spelled.1 (omega arith) (numerals_words xs)
+    (subst (λ (ls : List Line). AreLeft ls p) spelled.3 left) in
     let set = set_again n p.line [] away xs valid.0 spelled.2 (λ x h. refl) in
     let within = right line.0 t spelled.1 rest valid.1 (omega (arith, shallow)) spelled.4 line.2 in
     (within.0, rw (line.1, set, within.1) refl, within.2)
@@ -239,6 +281,7 @@ within_again zero n p tree lines rest valid shallow spelled left = absurd (omega
 within_again (suc room) n p tree lines rest valid shallow spelled left =
     node_again room n (matroid_within room n) (within_again room n) p tree lines rest valid shallow spelled left
 
-pub matroid_again : (n : ℕ) (p : LinesLeft) (tree : Tree) (lines rest : List Line) → IsValidMatroid n tree → MatroidLines tree lines rest → AreLeft lines p
+pub matroid_again : (n : ℕ) (p : LinesLeft) (tree : Tree) (lines rest : List Line) → IsValidMatroid n tree → MatroidLines tree lines rest
+    → AreLeft lines p
     → (q : LinesLeft) × (matroid_at n p ≡ Ok (tree, q)) × AreLeft rest q
 matroid_again n p tree lines rest valid spelled left = within_again deepest n p tree lines rest valid.0 valid.1 spelled left

@@ -4,11 +4,12 @@ use Rattle.std.specs.List.{All}
 use Rattle.std.proofs.lemmas.List.Elements.{All-nil, All-cons, All-head, All-tail}
 use Rattle.mat_words.specs.Lines.{Line}
 use Rattle.mat_any.specs.Trees.{Tree}
-use Rattle.mat_desc.specs.Faults.{◌>>=◌, LinesLeft}
-use Rattle.mat_desc.specs.Reading.{repeat_at, matroid_at}
+use Rattle.mat_words.specs.Cursors.{LinesLeft}
+use Rattle.mat_words.specs.Steps.{repeat_at}
+use Rattle.mat_desc.specs.Reading.{matroid_at}
 use Rattle.mat_desc.specs.Grammar.{IsValidMatroid, MatroidsLines}
-use Rattle.mat_desc.proofs.ReadingSteps.{found-same, bind_found}
-use Rattle.mat_desc.proofs.LineLaws.{AreLeft}
+use Rattle.mat_words.proofs.ReadingSteps.{found-same, bind_found}
+use Rattle.mat_words.proofs.LineReading.{AreLeft}
 use Rattle.mat_desc.proofs.MatroidLaws.{matroid_found, matroid_again}
 
 -- as many matroids were read
@@ -17,14 +18,16 @@ pub record AreMatroidsRead (n many : ℕ) (p : LinesLeft) (trees : List Tree) (q
   pub each : All (IsValidMatroid n) trees
   pub spelled : (rest : List Line) → AreLeft rest q → (lines : List Line) × AreLeft lines p × MatroidsLines trees lines rest
 
-pub matroids_found : (n many : ℕ) (p : LinesLeft) (trees : List Tree) (q : LinesLeft) → repeat_at (matroid_at n) many p ≡ Ok (trees, q) → AreMatroidsRead n many p trees q
+pub matroids_found : (n many : ℕ) (p : LinesLeft) (trees : List Tree) (q : LinesLeft) → repeat_at (matroid_at n) many p ≡ Ok (trees, q)
+    → AreMatroidsRead n many p trees q
 unfolding repeat_at
 matroids_found n zero p trees q e =
     let same = found-same ([], p) (trees, q) e in
-    subst (λ (r : List Tree × LinesLeft). AreMatroidsRead n 0 p r.0 r.1) same (record { count = refl; each = All-nil (IsValidMatroid n); spelled = λ rest left. (rest, left, refl) })
+    subst (λ (r : List Tree × LinesLeft). AreMatroidsRead n 0 p r.0 r.1) same
+    (record { count = refl; each = All-nil (IsValidMatroid n); spelled = λ rest left. (rest, left, refl) })
 matroids_found n (suc many) p trees q e =
-    let first = bind_found (matroid_at n p) (λ first. repeat_at (matroid_at n) many first.1 >>= λ others. Ok (first.0 ∷ others.0, others.1)) (trees, q) e in
-    let others = bind_found (repeat_at (matroid_at n) many first.0.1) (λ others. Ok (first.0.0 ∷ others.0, others.1)) (trees, q) first.2 in
+    let first = bind_found (matroid_at n p) _ (trees, q) e in
+    let others = bind_found (repeat_at (matroid_at n) many first.0.1) _ (trees, q) first.2 in
     let same = found-same (first.0.0 ∷ others.0.0, others.0.1) (trees, q) others.2 in
     let here = matroid_found n p first.0.0 first.0.1 first.1 in
     let more = matroids_found n many first.0.1 others.0.0 others.0.1 others.1 in
@@ -37,7 +40,8 @@ matroids_found n (suc many) p trees q e =
           (lines.0, lines.1, (behind.0, lines.2, behind.2));
     })
 
-pub matroids_again : (n : ℕ) (p : LinesLeft) (trees : List Tree) (lines rest : List Line) → All (IsValidMatroid n) trees → MatroidsLines trees lines rest → AreLeft lines p
+pub matroids_again : (n : ℕ) (p : LinesLeft) (trees : List Tree) (lines rest : List Line) → All (IsValidMatroid n) trees
+    → MatroidsLines trees lines rest → AreLeft lines p
     → (q : LinesLeft) × (repeat_at (matroid_at n) (length trees) p ≡ Ok (trees, q)) × AreLeft rest q
 unfolding repeat_at
 matroids_again n p [] lines rest valid spelled left = (p, refl, subst (λ (ls : List Line). AreLeft ls p) spelled left)

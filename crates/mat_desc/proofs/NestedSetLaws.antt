@@ -1,6 +1,7 @@
 -- Set lines: what is read is spelled so, and what is spelled so is read. The sets that were read before are a laminar family, and remain one
 -- with each further set that none of them crosses.
-use Rattle.std.proofs.Common.{◌≡◌, ℕ, zero, suc, ◌<◌, ◌≤◌, ◌^◌, false, cond, List, [], ◌∷◌, ◌++◌, length, Ok, Err, refl, sym, ap, subst, ◌∙◌, arith}
+use Rattle.std.proofs.Common.{◌≡◌, ℕ, zero, suc, ◌<◌, ◌≤◌, ◌^◌, false, List, []}
+use Rattle.std.proofs.Common.{◌∷◌, ◌++◌, length, Ok, refl, sym, ap, subst, ◌∙◌, arith}
 use Rattle.std.specs.Prelude.{codes}
 use Rattle.std.specs.List.{All}
 use Rattle.std.proofs.lemmas.List.{append_assoc, append-nil}
@@ -12,11 +13,11 @@ use Rattle.mat_count.specs.LaminarMatroids.{IsLaminar}
 use Rattle.mat_count.proofs.CrossedSets.{IsLaminarFamily-nil, IsLaminarFamily-more, IsLaminarFamily-free}
 use Rattle.mat_desc.specs.Limits.{most_elements, most_sets}
 use Rattle.mat_desc.specs.declared.refusal.DescKind.TheVariants.{Crossing}
-use Rattle.mat_desc.specs.Faults.{◌>>=◌, WordsLeft, LinesLeft}
+use Rattle.mat_words.specs.Cursors.{WordsLeft, LinesLeft}
 use Rattle.mat_desc.specs.Reading.{keyed_at, size_at, elements_at, nested_set_at, nested_sets_at}
 use Rattle.mat_desc.specs.Grammar.{Lists, CappedLines, AreNestedSets}
-use Rattle.mat_desc.proofs.ReadingSteps.{found-same, bind_found, refused_found}
-use Rattle.mat_desc.proofs.LineLaws.{AreLeft}
+use Rattle.mat_words.proofs.ReadingSteps.{found-same, bind_found, refused_found}
+use Rattle.mat_words.proofs.LineReading.{AreLeft}
 use Rattle.mat_desc.proofs.CappedLineLaws.{listed_line, capped_at, capped_steps, capped_read, capped_again}
 use Rattle.mat_desc.proofs.ElementLaws.{with_each}
 
@@ -30,8 +31,10 @@ record IsNestedRead (n : ℕ) (earlier : List (List ℕ)) (p : LinesLeft) (cap :
   spelled : (rest : List Line) → AreLeft rest q → AreLeft (listed_line (codes "set") cap xs ∷ rest) p
 
 -- the steps of a set line, and the test behind them
-nested_steps : (n : ℕ) (earlier : List (List ℕ)) (p : LinesLeft) (line : WordsLeft × LinesLeft) (cap : ℕ × WordsLeft) (elements : List ℕ × List ℕ)
-    → keyed_at (codes "set") p ≡ Ok line → size_at 0 most_elements line.0 ≡ Ok cap → elements_at n [] cap.1 ≡ Ok elements → is_crossed earlier elements.0 ≡ false
+nested_steps : (n : ℕ) (earlier : List (List ℕ)) (p : LinesLeft) (line : WordsLeft × LinesLeft) (cap : ℕ × WordsLeft)
+    (elements : List ℕ × List ℕ)
+    → keyed_at (codes "set") p ≡ Ok line → size_at 0 most_elements line.0 ≡ Ok cap → elements_at n [] cap.1 ≡ Ok elements
+    → is_crossed earlier elements.0 ≡ false
     → nested_set_at n earlier p ≡ Ok (cap.0, elements.0, line.1)
 unfolding nested_set_at
 nested_steps n earlier p line cap elements e f g free = rw (e, f, g, free) refl
@@ -40,13 +43,10 @@ nested_read : (n : ℕ) (earlier : List (List ℕ)) (p : LinesLeft) (cap : ℕ) 
     → nested_set_at n earlier p ≡ Ok (cap, set, q) → IsNestedRead n earlier p cap set q
 unfolding nested_set_at
 nested_read n earlier p cap set q e =
-    let line = bind_found (keyed_at (codes "set") p) (λ line. size_at 0 most_elements line.0 >>= λ cap. elements_at n [] cap.1 >>= λ elements.
-    cond (is_crossed earlier elements.0) (Err (Crossing, p.line)) (Ok (cap.0, elements.0, line.1))) (cap, set, q) e in
-    let caps = bind_found (size_at 0 most_elements line.0.0) (λ cap. elements_at n [] cap.1 >>= λ elements.
-    cond (is_crossed earlier elements.0) (Err (Crossing, p.line)) (Ok (cap.0, elements.0, line.0.1))) (cap, set, q) line.2 in
-    let elements = bind_found (elements_at n [] caps.0.1) (λ elements.
-    cond (is_crossed earlier elements.0) (Err (Crossing, p.line)) (Ok (caps.0.0, elements.0, line.0.1))) (cap, set, q) caps.2 in
-    let test = refused_found (is_crossed earlier elements.0.0) (Crossing, p.line) (Ok (caps.0.0, elements.0.0, line.0.1)) (cap, set, q) elements.2 in
+    let line = bind_found (keyed_at (codes "set") p) _ (cap, set, q) e in
+    let caps = bind_found (size_at 0 most_elements line.0.0) _ (cap, set, q) line.2 in
+    let elements = bind_found (elements_at n [] caps.0.1) _ (cap, set, q) caps.2 in
+    let test = refused_found (is_crossed earlier elements.0.0) (Crossing, p.line) _ (cap, set, q) elements.2 in
     let same = found-same (caps.0.0, elements.0.0, line.0.1) (cap, set, q) test.1 in
     let steps = capped_steps (codes "set") n [] p line.0 caps.0 elements.0 line.1 caps.1 elements.1 in
     let read = capped_read (codes "set") n [] p caps.0.0 elements.0.0 elements.0.1 line.0.1 steps in
@@ -61,25 +61,29 @@ nested_read n earlier p cap set q e =
     subst (λ (r : ℕ × List ℕ × LinesLeft). IsNestedRead n earlier p r.0 r.1 r.2) same one
 
 nested_again : (n : ℕ) (earlier : List (List ℕ)) (p : LinesLeft) (cap : ℕ) (set xs : List ℕ) (rest : List Line)
-    → cap ≤ most_elements → IsSet n set → Lists xs set → is_crossed earlier set ≡ false → AreLeft (listed_line (codes "set") cap xs ∷ rest) p
+    → cap ≤ most_elements → IsSet n set → Lists xs set → is_crossed earlier set ≡ false
+    → AreLeft (listed_line (codes "set") cap xs ∷ rest) p
     → (q : LinesLeft) × (nested_set_at n earlier p ≡ Ok (cap, set, q)) × AreLeft rest q
 nested_again n earlier p cap set xs rest small in_range lists free left =
     let whole = capped_again (codes "set") n [] p cap set xs rest refl small in_range lists (λ x h. refl) left in
     (whole.0, judged (with_each [] xs) whole.0 whole.1, whole.2)
   where
-    judged : (taken : List ℕ) (q : LinesLeft) → capped_at (codes "set") n [] p ≡ Ok (cap, set, taken, q) → nested_set_at n earlier p ≡ Ok (cap, set, q)
+    judged : (taken : List ℕ) (q : LinesLeft) → capped_at (codes "set") n [] p ≡ Ok (cap, set, taken, q)
+        → nested_set_at n earlier p ≡ Ok (cap, set, q)
     judged taken q e =
-        let line = bind_found (keyed_at (codes "set") p) (λ line. size_at 0 most_elements line.0 >>= λ cap. elements_at n [] cap.1 >>= λ elements. Ok (cap.0, elements.0, elements.1, line.1)) (cap, set, taken, q) e in
-        let caps = bind_found (size_at 0 most_elements line.0.0) (λ cap. elements_at n [] cap.1 >>= λ elements. Ok (cap.0, elements.0, elements.1, line.0.1)) (cap, set, taken, q) line.2 in
-        let elements = bind_found (elements_at n [] caps.0.1) (λ elements. Ok (caps.0.0, elements.0, elements.1, line.0.1)) (cap, set, taken, q) caps.2 in
+        let line = bind_found (keyed_at (codes "set") p) _ (cap, set, taken, q) e in
+        let caps = bind_found (size_at 0 most_elements line.0.0) _ (cap, set, taken, q) line.2 in
+        let elements = bind_found (elements_at n [] caps.0.1) _ (cap, set, taken, q) caps.2 in
         let same = found-same (caps.0.0, elements.0.0, elements.0.1, line.0.1) (cap, set, taken, q) elements.2 in
         let here = ap (λ (r : ℕ × List ℕ × List ℕ × LinesLeft). is_crossed earlier r.1) same ∙ free in
-        nested_steps n earlier p line.0 caps.0 elements.0 line.1 caps.1 elements.1 here ∙ ap (λ (r : ℕ × List ℕ × List ℕ × LinesLeft). Ok (r.0, r.1, r.3)) same
+        nested_steps n earlier p line.0 caps.0 elements.0 line.1 caps.1 elements.1 here ∙ ap
+        (λ (r : ℕ × List ℕ × List ℕ × LinesLeft). Ok (r.0, r.1, r.3)) same
 
 -- ---- all sets
 
 -- set lines were read, and with the earlier sets, if those are a laminar family, they are one
-pub record AreNestedSetsRead (n many : ℕ) (earlier : List (List ℕ)) (p : LinesLeft) (sets : List (List ℕ)) (caps : List ℕ) (q : LinesLeft) : Type 0 where
+pub record AreNestedSetsRead (n many : ℕ) (earlier : List (List ℕ)) (p : LinesLeft) (sets : List (List ℕ)) (caps : List ℕ)
+    (q : LinesLeft) : Type 0 where
   pub count : length sets ≡ many
   pub as_many : length caps ≡ length sets
   pub small : All (λ cap. cap ≤ most_elements) caps
@@ -102,10 +106,8 @@ nested_sets_read n zero earlier p sets caps q e =
     } in
     subst (λ (r : List (List ℕ) × List ℕ × LinesLeft). AreNestedSetsRead n 0 earlier p r.0 r.1 r.2) same none
 nested_sets_read n (suc many) earlier p sets caps q e =
-    let first = bind_found (nested_set_at n earlier p) (λ first. nested_sets_at n many (earlier ++ first.1 ∷ []) first.2 >>= λ others.
-    Ok (first.1 ∷ others.0, first.0 ∷ others.1, others.2)) (sets, caps, q) e in
-    let others = bind_found (nested_sets_at n many (earlier ++ first.0.1 ∷ []) first.0.2) (λ others.
-    Ok (first.0.1 ∷ others.0, first.0.0 ∷ others.1, others.2)) (sets, caps, q) first.2 in
+    let first = bind_found (nested_set_at n earlier p) _ (sets, caps, q) e in
+    let others = bind_found (nested_sets_at n many (earlier ++ first.0.1 ∷ []) first.0.2) _ (sets, caps, q) first.2 in
     let same = found-same (first.0.1 ∷ others.0.0, first.0.0 ∷ others.0.1, others.0.2) (sets, caps, q) others.2 in
     let one = nested_read n earlier p first.0.0 first.0.1 first.0.2 first.1 in
     let more = nested_sets_read n many (earlier ++ first.0.1 ∷ []) first.0.2 others.0.0 others.0.1 others.0.2 others.1 in
@@ -114,7 +116,8 @@ nested_sets_read n (suc many) earlier p sets caps q e =
       as_many = ap suc more.as_many;
       small = All-cons (λ cap. cap ≤ most_elements) first.0.0 others.0.1 one.small more.small;
       in_range = All-cons (IsSet n) first.0.1 others.0.0 one.in_range more.in_range;
-      family = λ before. subst IsLaminarFamily (append_assoc earlier (first.0.1 ∷ []) others.0.0) (more.family (IsLaminarFamily-more earlier first.0.1 before one.free));
+      family = λ before. subst IsLaminarFamily (append_assoc earlier (first.0.1 ∷ []) others.0.0)
+          (more.family (IsLaminarFamily-more earlier first.0.1 before one.free));
       spelled = λ rest left.
           let behind = more.spelled rest left in
           (listed_line (codes "set") first.0.0 one.xs ∷ behind.0, (one.xs, behind.0, one.lists, refl, behind.1), one.spelled behind.0 behind.2);
@@ -122,7 +125,8 @@ nested_sets_read n (suc many) earlier p sets caps q e =
     subst (λ (r : List (List ℕ) × List ℕ × LinesLeft). AreNestedSetsRead n (suc many) earlier p r.0 r.1 r.2) same all
 
 pub nested_sets_again : (n : ℕ) (earlier : List (List ℕ)) (p : LinesLeft) (sets : List (List ℕ)) (caps : List ℕ) (lines rest : List Line)
-    → All (λ cap. cap ≤ most_elements) caps → All (IsSet n) sets → IsLaminarFamily (earlier ++ sets) → CappedLines (codes "set") sets caps lines rest → AreLeft lines p
+    → All (λ cap. cap ≤ most_elements) caps → All (IsSet n) sets → IsLaminarFamily (earlier ++ sets)
+    → CappedLines (codes "set") sets caps lines rest → AreLeft lines p
     → (q : LinesLeft) × (nested_sets_at n (length sets) earlier p ≡ Ok (sets, caps, q)) × AreLeft rest q
 unfolding nested_sets_at
 nested_sets_again n earlier p [] [] lines rest small in_range family spelled left = (p, refl, subst (λ (ls : List Line). AreLeft ls p) spelled left)
@@ -147,7 +151,12 @@ pub nested_sets_sound : (n many : ℕ) (p : LinesLeft) (sets : List (List ℕ)) 
     → nested_sets_at n many [] p ≡ Ok (sets, caps, q) → IsLaminar n sets caps
 nested_sets_sound n many p sets caps q e =
     let read = nested_sets_read n many [] p sets caps q e in
-    record { capped = read.as_many; inside = All-weaker (IsSet n) (AllBelow n) (λ set is. is.below) sets read.in_range; family = read.family IsLaminarFamily-nil }
+    record {
+      capped = read.as_many;
+      inside = All-weaker (IsSet n) (AllBelow n) (λ set is. is.below) sets read.in_range;
+      family = read.family
+          IsLaminarFamily-nil;
+    }
 
 -- they are as many as were asked for
 pub nested_sets_few : (n many : ℕ) (p : LinesLeft) (sets : List (List ℕ)) (caps : List ℕ) (q : LinesLeft)

@@ -1,29 +1,34 @@
 -- Set lines that are read one after the other, as a loop reads them. The search for a set that crosses the next one judges as the reading does.
-use Rattle.std.proofs.Common.{◌≡◌, ℕ, suc, ◌-◌, ◌+◌, ◌≤◌, ◌<◌, List, [], ◌∷◌, ◌++◌, Ok, Err, sym, ap₂, ◌∙◌, refl, arith}
+use Rattle.std.proofs.Common.{◌≡◌, ℕ, suc, ◌-◌, ◌+◌, ◌≤◌, ◌<◌, List, []}
+use Rattle.std.proofs.Common.{◌∷◌, ◌++◌, Ok, Err, sym, ap₂, ◌∙◌, refl, arith}
 use Rattle.std.proofs.lemmas.List.{append-nil}
 use Rattle.mat_count.proofs.CrossedSets.{is_crossed-search}
 use Rattle.mat_desc.specs.declared.refusal.DescRefusal.{DescRefusal}
 use Rattle.mat_desc.specs.declared.refusal.DescRefusal.TheVariants as refusals
-use Rattle.mat_desc.specs.Faults.{Fails, LinesLeft}
+use Rattle.mat_words.specs.Cursors.{LinesLeft}
+use Rattle.mat_desc.specs.Faults.{Fails}
 use Rattle.mat_desc.specs.Reading.{nested_set_at, nested_sets_at}
 use Rattle.mat_desc.proofs.Classes.{SetsRead, with_front, with_front-cons}
 
 pub ruleset searching = (is_crossed-search)
 
 -- one more set was read
-pub nested_sets_more : (n many i : ℕ) (p : LinesLeft) (sets : List (List ℕ)) (caps : List ℕ) (cap : ℕ) (set : List ℕ) (after : LinesLeft) (total : SetsRead)
+pub nested_sets_more : (n many i : ℕ) (p : LinesLeft) (sets : List (List ℕ)) (caps : List ℕ) (cap : ℕ) (set : List ℕ)
+    (after : LinesLeft) (total : SetsRead)
     → i < many → nested_set_at n sets p ≡ Ok (cap, set, after) → with_front sets caps (nested_sets_at n (many - i) sets p) ≡ total
     → with_front (sets ++ set ∷ []) (caps ++ cap ∷ []) (nested_sets_at n (many - (i + 1)) (sets ++ set ∷ []) after) ≡ total
 unfolding nested_sets_at
 nested_sets_more n many i p sets caps cap set after total lt read so_far =
     let left : many - i ≡ suc (many - (i + 1)) = omega arith in
-    let step : with_front sets caps (nested_sets_at n (many - i) sets p) ≡ with_front (sets ++ set ∷ []) (caps ++ cap ∷ []) (nested_sets_at n (many - (i + 1)) (sets ++ set ∷ []) after) =
+    let step : with_front sets caps (nested_sets_at n (many - i) sets p) ≡ with_front (sets ++ set ∷ []) (caps ++ cap ∷ [])
+    (nested_sets_at n (many - (i + 1)) (sets ++ set ∷ []) after) =
     rw (left, read) (with_front-cons sets caps set cap (nested_sets_at n (many - (i + 1)) (sets ++ set ∷ []) after)) in
     sym step ∙ so_far
 
 -- the next set fails
 pub nested_sets_fail : (refusal : DescRefusal) (n many i : ℕ) (p : LinesLeft) (sets : List (List ℕ)) (caps : List ℕ) (total : SetsRead)
-    → i < many → Fails refusal (nested_set_at n sets p) → with_front sets caps (nested_sets_at n (many - i) sets p) ≡ total → Fails refusal total
+    → i < many → Fails refusal (nested_set_at n sets p) → with_front sets caps (nested_sets_at n (many - i) sets p) ≡ total
+    → Fails refusal total
 unfolding nested_sets_at
 nested_sets_fail refusals.Memory n many i p sets caps total lt failed so_far = tt
 nested_sets_fail (refusals.Fault kind line) n many i p sets caps total lt failed so_far =
@@ -37,5 +42,6 @@ pub nested_sets_done : (n many i : ℕ) (p : LinesLeft) (sets : List (List ℕ))
 unfolding nested_sets_at
 nested_sets_done n many i p sets caps total le so_far =
     let left : many - i ≡ 0 = omega arith in
-    let step : with_front sets caps (nested_sets_at n (many - i) sets p) ≡ Ok (sets, caps, p) = rw left (ap₂ (λ (a : List (List ℕ)) (b : List ℕ). Ok (a, b, p)) (append-nil sets) (append-nil caps)) in
+    let step : with_front sets caps (nested_sets_at n (many - i) sets p) ≡ Ok (sets, caps, p) =
+    rw left (ap₂ (λ (a : List (List ℕ)) (b : List ℕ). Ok (a, b, p)) (append-nil sets) (append-nil caps)) in
     sym so_far ∙ step

@@ -3,7 +3,8 @@ use Rattle.std.proofs.Common.{◌≡◌, ◌≤◌, ℕ, List, length, ◌⊎◌
 use Rattle.std.specs.List.{All}
 use Rattle.std.proofs.lemmas.List.Elements.{All-weaker}
 use Rattle.mat_sets.specs.Sets.{IsSet, AllBelow}
-use Rattle.mat_any.specs.Trees.{Tree, uniform, partition, laminar, graphic, transversal, gammoid, gf2, dual, truncate, restrict, contract, element_count, IsSound}
+use Rattle.mat_any.specs.Trees.{Tree, uniform, partition, laminar, graphic, transversal, gammoid}
+use Rattle.mat_any.specs.Trees.{gf2, dual, truncate, restrict, contract, element_count, IsSound}
 use Rattle.mat_desc.specs.Limits.{most_elements}
 use Rattle.mat_desc.specs.declared.refusal.DescRefusal.{DescRefusal}
 use Rattle.mat_desc.specs.declared.refusal.DescRefusal.TheVariants as refusals
@@ -21,7 +22,8 @@ IsSound-valid n (uniform m cap) few valid = (tt, valid.0)
 IsSound-valid n (partition m classes caps) few valid = (
   record {
     capped = valid.1.as_many;
-    inside = subst (λ (k : ℕ). All (AllBelow k) classes) (sym valid.0) (All-weaker (IsSet n) (AllBelow n) (λ class set. set.below) classes valid.1.sets);
+    inside = subst (λ (k : ℕ). All (AllBelow k) classes) (sym valid.0)
+        (All-weaker (IsSet n) (AllBelow n) (λ class set. set.below) classes valid.1.sets);
     disjoint = valid.1.disjoint;
   },
   valid.0,
@@ -29,7 +31,8 @@ IsSound-valid n (partition m classes caps) few valid = (
 IsSound-valid n (laminar m sets caps) few valid = (
   record {
     capped = valid.1.as_many;
-    inside = subst (λ (k : ℕ). All (AllBelow k) sets) (sym valid.0) (All-weaker (IsSet n) (AllBelow n) (λ set is. is.below) sets valid.1.sets_inside);
+    inside = subst (λ (k : ℕ). All (AllBelow k) sets) (sym valid.0)
+        (All-weaker (IsSet n) (AllBelow n) (λ set is. is.below) sets valid.1.sets_inside);
     family = valid.1.family;
   },
   valid.0,
@@ -69,27 +72,32 @@ IsSoundInstance-valid (pair weights first second) valid =
     let two = IsSound-valid (length weights) second valid.0.0 valid.2.0 in
     (one.0, one.1, two.0, two.1)
 IsSoundInstance-valid (list weights matroids) valid =
-    All-weaker (IsValidMatroid (length weights)) (λ tree. IsSound tree × (element_count tree ≡ length weights)) (λ tree tree_valid. IsSound-valid (length weights) tree valid.0.0 tree_valid.0) matroids valid.3
+    All-weaker (IsValidMatroid (length weights)) (λ tree. IsSound tree × (element_count tree ≡ length weights))
+    (λ tree tree_valid. IsSound-valid (length weights) tree valid.0.0 tree_valid.0) matroids valid.3
 IsSoundInstance-valid (graph vertices edges) valid = tt
 IsSoundInstance-valid (rooted vertices root arcs costs) valid = tt
 IsSoundInstance-valid (coloured vertices colours edges colour_of weights) valid = tt
 IsSoundInstance-valid (table rows columns cells weights) valid = tt
 
 -- an answer that is as the reading gives
-pub gives_found : {X : Type 0} (view : X → Instance) (text : List ℕ) (result : Result X DescRefusal) → Gives view result (read_of text) → IfOk result (λ x. Spells text (view x))
+pub gives_found : {X : Type 0} (view : X → Instance) (text : List ℕ) (result : Result X DescRefusal) → Gives view result (read_of text)
+    → IfOk result (λ x. Spells text (view x))
 gives_found view text (Ok x) gives = description_found text (view x) gives
 gives_found view text (Err refusal) gives = tt
 
-pub gives_only : {X : Type 0} (view : X → Instance) (text : List ℕ) (result : Result X DescRefusal) → Gives view result (read_of text) → (instance : Instance) → Spells text instance → Gives view result (Ok instance)
+pub gives_only : {X : Type 0} (view : X → Instance) (text : List ℕ) (result : Result X DescRefusal) → Gives view result (read_of text)
+    → (instance : Instance) → Spells text instance → Gives view result (Ok instance)
 gives_only view text (Ok x) gives instance spelled = sym (description_again text instance spelled) ∙ gives
 gives_only view text (Err refusals.Memory) gives instance spelled = tt
 gives_only view text (Err (refusals.Fault kind line)) gives instance spelled = sym (description_again text instance spelled) ∙ gives
 
-pub gives_valid : {X : Type 0} (view : X → Instance) (text : List ℕ) (result : Result X DescRefusal) → Gives view result (read_of text) → IfOk result (λ x. IsValid (view x))
+pub gives_valid : {X : Type 0} (view : X → Instance) (text : List ℕ) (result : Result X DescRefusal) → Gives view result (read_of text)
+    → IfOk result (λ x. IsValid (view x))
 gives_valid view text (Ok x) gives = (description_found text (view x) gives).valid
 gives_valid view text (Err refusal) gives = tt
 
-pub gives_sound : {X : Type 0} (view : X → Instance) (text : List ℕ) (result : Result X DescRefusal) → Gives view result (read_of text) → IfOk result (λ x. IsSoundInstance (view x))
+pub gives_sound : {X : Type 0} (view : X → Instance) (text : List ℕ) (result : Result X DescRefusal) → Gives view result (read_of text)
+    → IfOk result (λ x. IsSoundInstance (view x))
 gives_sound view text (Ok x) gives = IsSoundInstance-valid (view x) (description_found text (view x) gives).valid
 gives_sound view text (Err refusal) gives = tt
 
@@ -113,7 +121,8 @@ one_problem text first second s t = same_problem first second (sym (description_
 pub either : (text : List ℕ) → ((instance : Instance) × Spells text instance) ⊎ ((fault : Fault) × (read_of text ≡ Err fault))
 either text = from (read_of text) refl
   where
-    from : (r : Result Instance Fault) → read_of text ≡ r → ((instance : Instance) × Spells text instance) ⊎ ((fault : Fault) × (read_of text ≡ Err fault))
+    from : (r : Result Instance Fault) → read_of text ≡ r → ((instance : Instance) × Spells text instance) ⊎ ((fault : Fault)
+        × (read_of text ≡ Err fault))
     from (Ok instance) e = inl (instance, description_found text instance e)
     from (Err fault) e = inr (fault, e)
 

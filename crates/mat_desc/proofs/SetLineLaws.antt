@@ -8,12 +8,14 @@ use Rattle.mat_words.specs.Words.{is_word}
 use Rattle.mat_words.specs.Numbers.{numerals}
 use Rattle.mat_words.specs.Lines.{Line}
 use Rattle.mat_desc.specs.Limits.{most_sets}
-use Rattle.mat_desc.specs.Faults.{◌>>=◌, LinesLeft}
-use Rattle.mat_desc.specs.Reading.{keyed_at, elements_at, set_line_at, repeat_at}
+use Rattle.mat_words.specs.Cursors.{LinesLeft}
+use Rattle.mat_words.specs.Steps.{repeat_at}
+use Rattle.mat_desc.specs.Reading.{keyed_at, elements_at, set_line_at}
 use Rattle.mat_desc.specs.Grammar.{Lists, FamilyLines}
-use Rattle.mat_desc.proofs.ReadingSteps.{found-same, bind_found}
-use Rattle.mat_desc.proofs.WordLaws.{numerals_words}
-use Rattle.mat_desc.proofs.LineLaws.{AreLeft, keyed_found, keyed_again}
+use Rattle.mat_words.proofs.ReadingSteps.{found-same, bind_found}
+use Rattle.mat_words.proofs.WordReading.{numerals_words}
+use Rattle.mat_words.proofs.LineReading.{AreLeft, keyed_again}
+use Rattle.mat_desc.proofs.Told.{keyed_found}
 use Rattle.mat_desc.proofs.ElementLaws.{elements_found, Lists-read, IsSet-read, set_again}
 
 -- ---- one line
@@ -29,20 +31,22 @@ pub set_line_found : (key : List ℕ) (n : ℕ) (p : LinesLeft) (set : List ℕ)
     → set_line_at key n p ≡ Ok (set, q) → IsSetRead key n p set q
 unfolding set_line_at
 set_line_found key n p set q e =
-    let line = bind_found (keyed_at key p) (λ line. elements_at n [] line.0 >>= λ set. Ok (set.0, line.1)) (set, q) e in
-    let elements = bind_found (elements_at n [] line.0.0) (λ set. Ok (set.0, line.0.1)) (set, q) line.2 in
+    let line = bind_found (keyed_at key p) _ (set, q) e in
+    let elements = bind_found (elements_at n [] line.0.0) _ (set, q) line.2 in
     let same = found-same (elements.0.0, line.0.1) (set, q) elements.2 in
     let read = elements_found n line.0.0.line [] [] line.0.0.words elements.0.0 elements.0.1 elements.1 in
     let one : IsSetRead key n p elements.0.0 line.0.1 = record {
       xs = read.xs;
       lists = Lists-read n [] line.0.0.words elements.0.0 elements.0.1 read;
       in_range = IsSet-read n [] line.0.0.words elements.0.0 elements.0.1 read;
-      spelled = λ rest left. subst (λ (ws : Line). AreLeft ((key ∷ ws) ∷ rest) p) read.cut (keyed_found key p line.0.0 line.0.1 line.1 rest left);
+      spelled = λ rest left. subst (λ (ws : Line). AreLeft ((key ∷ ws) ∷ rest) p) read.cut
+          (keyed_found key p line.0.0 line.0.1 line.1 rest left);
     } in
     subst (λ (r : List ℕ × LinesLeft). IsSetRead key n p r.0 r.1) same one
 
 pub set_line_again : (key : List ℕ) (n : ℕ) → is_word key ≡ true → (p : LinesLeft) (set xs : List ℕ) (rest : List Line)
-    → IsSet n set → Lists xs set → AreLeft ((key ∷ numerals xs) ∷ rest) p → (q : LinesLeft) × (set_line_at key n p ≡ Ok (set, q)) × AreLeft rest q
+    → IsSet n set → Lists xs set → AreLeft ((key ∷ numerals xs) ∷ rest) p
+    → (q : LinesLeft) × (set_line_at key n p ≡ Ok (set, q)) × AreLeft rest q
 unfolding set_line_at
 set_line_again key n keyword p set xs rest in_range lists left =
     let line = keyed_again key p (numerals xs) rest keyword (numerals_words xs) left in
@@ -66,8 +70,8 @@ family_found n zero p family q e =
     (record { count = refl; in_range = All-nil (IsSet n); spelled = λ rest left. (rest, refl, left) })
 family_found n (suc many) p family q e =
     let reader = set_line_at (codes "set") n in
-    let first = bind_found (reader p) (λ first. repeat_at reader many first.1 >>= λ others. Ok (first.0 ∷ others.0, others.1)) (family, q) e in
-    let others = bind_found (repeat_at reader many first.0.1) (λ others. Ok (first.0.0 ∷ others.0, others.1)) (family, q) first.2 in
+    let first = bind_found (reader p) _ (family, q) e in
+    let others = bind_found (repeat_at reader many first.0.1) _ (family, q) first.2 in
     let same = found-same (first.0.0 ∷ others.0.0, others.0.1) (family, q) others.2 in
     let one = set_line_found (codes "set") n p first.0.0 first.0.1 first.1 in
     let more = family_found n many first.0.1 others.0.0 others.0.1 others.1 in

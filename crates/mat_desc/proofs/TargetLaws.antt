@@ -1,5 +1,6 @@
 -- Different numbers on a line, and the line of the targets: what is read is spelled so, and what is spelled so is read.
-use Rattle.std.proofs.Common.{◌≡◌, ℕ, zero, suc, ◌<◌, ◌^◌, true, false, cond, List, [], ◌∷◌, ◌++◌, length, pos, Ok, Err, refl, ap, subst, ◌∙◌, arith}
+use Rattle.std.proofs.Common.{◌≡◌, ℕ, zero, suc, ◌<◌, ◌^◌, true, false, List, []}
+use Rattle.std.proofs.Common.{◌∷◌, ◌++◌, length, pos, Ok, refl, ap, subst, ◌∙◌, arith}
 use Rattle.std.specs.Prelude.{codes}
 use Rattle.std.proofs.lemmas.Bool.{eq-eqb}
 use Rattle.std.proofs.lemmas.List.{append-nil}
@@ -7,11 +8,12 @@ use Rattle.mat_sets.specs.Sets.{is_member, with_one, AllBelow, AreDistinct}
 use Rattle.mat_words.specs.Numbers.{numeral, numerals}
 use Rattle.mat_words.specs.Lines.{Line}
 use Rattle.mat_desc.specs.declared.refusal.DescKind.TheVariants.{Repeated}
-use Rattle.mat_desc.specs.Faults.{◌>>=◌, WordsLeft, LinesLeft}
+use Rattle.mat_words.specs.Cursors.{WordsLeft, LinesLeft}
 use Rattle.mat_desc.specs.Reading.{keyed_at, below_at, ended_at, distinct_at, targets_at, set_line_at}
-use Rattle.mat_desc.proofs.ReadingSteps.{found-same, bind_found, refused_found}
-use Rattle.mat_desc.proofs.WordLaws.{below_found, below_again, ended_found, ended_again, numerals_words}
-use Rattle.mat_desc.proofs.LineLaws.{AreLeft, keyed_found, keyed_again}
+use Rattle.mat_words.proofs.ReadingSteps.{found-same, bind_found, refused_found}
+use Rattle.mat_words.proofs.WordReading.{below_again, numerals_words}
+use Rattle.mat_words.proofs.LineReading.{AreLeft, keyed_again}
+use Rattle.mat_desc.proofs.Told.{below_found, ended_found, ended_again, keyed_found}
 use Rattle.mat_desc.proofs.ElementLaws.{fresh_first, later_free}
 use Rattle.mat_desc.proofs.ItemLaws.{ends_lines_sound}
 use Rattle.mat_desc.proofs.SetLineLaws.{set_line_found}
@@ -26,7 +28,8 @@ record AreDistinctRead (bound many : ℕ) (taken : List ℕ) (w : WordsLeft) (xs
   distinct : AreDistinct xs
   fresh : (x : ℕ) → is_member x xs ≡ true → is_member x taken ≡ false
 
-distinct_found : (bound many : ℕ) (taken : List ℕ) (w : WordsLeft) (xs : List ℕ) (q : WordsLeft) → distinct_at bound many taken w ≡ Ok (xs, q)
+distinct_found : (bound many : ℕ) (taken : List ℕ) (w : WordsLeft) (xs : List ℕ) (q : WordsLeft)
+    → distinct_at bound many taken w ≡ Ok (xs, q)
     → AreDistinctRead bound many taken w xs q
 unfolding distinct_at
 distinct_found bound zero taken w xs q e =
@@ -34,11 +37,10 @@ distinct_found bound zero taken w xs q e =
     subst (λ (r : List ℕ × WordsLeft). AreDistinctRead bound 0 taken w r.0 r.1) same
     (record { cut = refl; count = refl; below = tt; distinct = tt; fresh = λ x h. absurd cc })
 distinct_found bound (suc many) taken w xs q e =
-    let first = bind_found (below_at bound w) (λ first. cond (is_member first.0 taken) (Err (Repeated, w.line))
-    (distinct_at bound many (with_one taken first.0) first.1 >>= λ others. Ok (first.0 ∷ others.0, others.1))) (xs, q) e in
+    let first = bind_found (below_at bound w) _ (xs, q) e in
     let test = refused_found (is_member first.0.0 taken) (Repeated, w.line)
-    (distinct_at bound many (with_one taken first.0.0) first.0.1 >>= λ others. Ok (first.0.0 ∷ others.0, others.1)) (xs, q) first.2 in
-    let others = bind_found (distinct_at bound many (with_one taken first.0.0) first.0.1) (λ others. Ok (first.0.0 ∷ others.0, others.1)) (xs, q) test.1 in
+    _ (xs, q) first.2 in
+    let others = bind_found (distinct_at bound many (with_one taken first.0.0) first.0.1) _ (xs, q) test.1 in
     let same = found-same (first.0.0 ∷ others.0.0, others.0.1) (xs, q) others.2 in
     let number = below_found bound w first.0.0 first.0.1 first.1 in
     let more = distinct_found bound many (with_one taken first.0.0) first.0.1 others.0.0 others.0.1 others.1 in
@@ -75,23 +77,27 @@ pub targets_found : (vertices n : ℕ) (p : LinesLeft) (targets : List ℕ) (q :
 unfolding targets_at
 targets_found vertices n p targets q e =
     let line = bind_found (keyed_at (codes "targets") p)
-    (λ line. distinct_at vertices n [] line.0 >>= λ xs. ended_at xs.1 >>= λ end. Ok (xs.0, line.1)) (targets, q) e in
-    let xs = bind_found (distinct_at vertices n [] line.0.0) (λ xs. ended_at xs.1 >>= λ end. Ok (xs.0, line.0.1)) (targets, q) line.2 in
-    let end = bind_found (ended_at xs.0.1) (λ end. Ok (xs.0.0, line.0.1)) (targets, q) xs.2 in
+    _ (targets, q) e in
+    let xs = bind_found (distinct_at vertices n [] line.0.0) _ (targets, q) line.2 in
+    let end = bind_found (ended_at xs.0.1) _ (targets, q) xs.2 in
     let same = found-same (xs.0.0, line.0.1) (targets, q) end.2 in
     let read = distinct_found vertices n [] line.0.0 xs.0.0 xs.0.1 xs.1 in
     let last = ended_found xs.0.1 end.0 end.1 in
-    let words : line.0.0.words ≡ numerals xs.0.0 = read.cut ∙ ap (λ (t : List (List ℕ)). numerals xs.0.0 ++ t) last ∙ append-nil (numerals xs.0.0) in
+    let words : line.0.0.words ≡ numerals xs.0.0 = read.cut ∙ ap (λ (t : List (List ℕ)). numerals xs.0.0 ++ t) last ∙ append-nil
+    (numerals xs.0.0) in
     subst (λ (r : List ℕ × LinesLeft). AreTargetsRead vertices n p r.0 r.1) same (record {
       count = read.count;
       below = read.below;
       distinct = read.distinct;
       spelled = λ rest left.
-          subst (λ (ws : Line). AreLeft ((codes "targets" ∷ ws) ∷ rest) p) words (keyed_found (codes "targets") p line.0.0 line.0.1 line.1 rest left);
+          subst (λ (ws : Line). AreLeft ((codes "targets" ∷ ws) ∷ rest) p) words
+          (keyed_found (codes "targets") p line.0.0 line.0.1 line.1 rest left);
     })
 
 pub targets_again : (vertices n : ℕ) (p : LinesLeft) (targets : List ℕ) (rest : List Line)
-    → length targets ≡ n → AllBelow vertices targets → AreDistinct targets → AreLeft ((codes "targets" ∷ numerals targets) ∷ rest) p → (q : LinesLeft) × (targets_at vertices n p ≡ Ok (targets, q)) × AreLeft rest q
+    → length targets ≡ n → AllBelow vertices targets → AreDistinct targets
+    → AreLeft ((codes "targets" ∷ numerals targets) ∷ rest) p
+    → (q : LinesLeft) × (targets_at vertices n p ≡ Ok (targets, q)) × AreLeft rest q
 unfolding targets_at
 targets_again vertices n p targets rest count below distinct left =
     let line = keyed_again (codes "targets") p (numerals targets) rest refl (numerals_words targets) left in
@@ -101,7 +107,8 @@ targets_again vertices n p targets rest count below distinct left =
 -- ---- the parts of a gammoid
 
 -- sources and targets that are read are vertices, and no two targets are equal
-pub sources_inside : (key : List ℕ) (n : ℕ) (p : LinesLeft) (set : List ℕ) (q : LinesLeft) → set_line_at key n p ≡ Ok (set, q) → AllBelow n set
+pub sources_inside : (key : List ℕ) (n : ℕ) (p : LinesLeft) (set : List ℕ) (q : LinesLeft) → set_line_at key n p ≡ Ok (set, q)
+    → AllBelow n set
 sources_inside key n p set q e = (set_line_found key n p set q e).in_range.below
 
 pub targets_inside : (vertices n : ℕ) (p : LinesLeft) (targets : List ℕ) (q : LinesLeft)

@@ -4,9 +4,9 @@ use Rattle.std.specs.List.{zip, flat_map}
 use Rattle.mat_words.specs.Numbers.{numeral, numerals}
 use Rattle.mat_words.specs.Lines.{Line, text_of}
 use Rattle.mat_any.specs.Trees.{Tree, uniform, partition, laminar, graphic, transversal, gammoid, gf2, dual, truncate, restrict, contract}
-use Rattle.mat_words.specs.Writing.{end_line, members_line}
+use Rattle.mat_words.specs.Writing.{end_line, members_line, weights_line}
 use Rattle.mat_desc.specs.Grammar.{ends_line, column_line, weighted_line, coloured_edge_line}
-use Rattle.mat_desc.specs.Grammar.{version_line, weights_line, pair_header, list_header, graph_header, rooted_header, coloured_header, table_header}
+use Rattle.mat_desc.specs.Grammar.{version_line, pair_header, list_header, graph_header, rooted_header, coloured_header, table_header}
 use Rattle.mat_desc.specs.Instances.{Instance, pair, list, graph, rooted, coloured, table}
 
 -- the line of this keyword with a set and its cap
@@ -35,9 +35,9 @@ matroid_lines (contract away t) = members_line (codes "contract") away ∷ matro
 -- the lines between the first and the last: the form line and those that follow it
 abbrev pub form_lines : Instance → List Line
 form_lines (pair weights first second) =
-    pair_header (length weights) ∷ weights_line weights ∷ (matroid_lines first ++ matroid_lines second)
+    pair_header (length weights) ∷ weights_line (codes "weights") weights ∷ (matroid_lines first ++ matroid_lines second)
 form_lines (list weights matroids) =
-    list_header (length weights) (length matroids) ∷ weights_line weights ∷ flat_map matroid_lines matroids
+    list_header (length weights) (length matroids) ∷ weights_line (codes "weights") weights ∷ flat_map matroid_lines matroids
 form_lines (graph vertices edges) = graph_header vertices (length edges) ∷ map (ends_line (codes "edge")) edges
 form_lines (rooted vertices root arcs costs) = rooted_header vertices (length arcs) root ∷ map (weighted_line (codes "arc")) (zip arcs costs)
 form_lines (coloured vertices colours edges colour_of weights) =

@@ -1,12 +1,14 @@
 -- Which problems a description may state, and which texts spell one.
-use Rattle.std.specs.Prelude.{◌≡◌, ℕ, ◌≤◌, ◌^◌, List, [], ◌∷◌, ◌++◌, ◌<◌, length, map, codes, ℤ, pos, All}
+use Rattle.std.specs.Prelude.{◌≡◌, ℕ, ◌≤◌, ◌^◌, List, [], ◌∷◌, ◌++◌, ◌<◌, length, map, codes, pos, All}
 use Rattle.std.specs.List.{zip}
 use Rattle.mat_sets.specs.Sets.{is_member, IsSet, AllBelow, AreDistinct}
-use Rattle.mat_sets.specs.Sums.{IsWithin}
+use Rattle.mat_sets.specs.declared.weight.Weight.{Weight}
+use Rattle.mat_sets.specs.Weights.{IsWeightWithin}
 use Rattle.mat_sets.specs.Families.{AreDisjoint}
 use Rattle.mat_words.specs.Numbers.{numeral, numerals}
+use Rattle.mat_words.specs.Weights.{weight_word}
 use Rattle.mat_words.specs.Lines.{Line, text_of}
-use Rattle.mat_words.specs.Writing.{end_line, members_line, numbers_line}
+use Rattle.mat_words.specs.Writing.{end_line, members_line, weights_line}
 use Rattle.mat_count.specs.Laminar.{IsLaminarFamily}
 use Rattle.mat_any.specs.Trees.{Tree, uniform, partition, laminar, graphic, transversal, gammoid, gf2, dual, truncate, restrict, contract, depth}
 use Rattle.mat_desc.specs.Binary.{binary}
@@ -56,11 +58,11 @@ abbrev pub IsValidMatroid : ℕ → Tree → Type 0
 IsValidMatroid n tree = IsValidTree n tree × (depth tree ≤ deepest)
 
 -- a weight or a cost
-abbrev pub IsWeight : ℤ → Type 0
-IsWeight w = IsWithin largest_weight w
+abbrev pub IsWeight : Weight → Type 0
+IsWeight w = IsWeightWithin largest_weight w
 
 -- the weights of no more elements than there may be
-abbrev pub AreWeights : List ℤ → Type 0
+abbrev pub AreWeights : List Weight → Type 0
 AreWeights weights = (length weights ≤ most_elements) × All IsWeight weights
 
 -- no more edges, arcs or cells than there may be
@@ -139,12 +141,12 @@ MatroidsLines [] lines rest = lines ≡ rest
 MatroidsLines (matroid ∷ matroids) lines rest = (more : List Line) × MatroidLines matroid lines more × MatroidsLines matroids more rest
 
 -- the line of an arc with its cost, or of a cell with its weight
-abbrev pub weighted_line : List ℕ → (ℕ × ℕ) × ℤ → Line
-weighted_line key item = key ∷ numeral (pos item.0.0) ∷ numeral (pos item.0.1) ∷ numeral item.1 ∷ []
+abbrev pub weighted_line : List ℕ → (ℕ × ℕ) × Weight → Line
+weighted_line key item = key ∷ numeral (pos item.0.0) ∷ numeral (pos item.0.1) ∷ weight_word item.1 ∷ []
 
 -- the line of an edge with its colour and its weight
-abbrev pub coloured_edge_line : (ℕ × ℕ) × (ℕ × ℤ) → Line
-coloured_edge_line item = codes "edge" ∷ numeral (pos item.0.0) ∷ numeral (pos item.0.1) ∷ numeral (pos item.1.0) ∷ numeral item.1.1 ∷ []
+abbrev pub coloured_edge_line : (ℕ × ℕ) × (ℕ × Weight) → Line
+coloured_edge_line item = codes "edge" ∷ numeral (pos item.0.0) ∷ numeral (pos item.0.1) ∷ numeral (pos item.1.0) ∷ weight_word item.1.1 ∷ []
 
 -- the first line of a text
 abbrev pub version_line : Line
@@ -174,17 +176,13 @@ coloured_header vertices edges colours = codes "coloured" ∷ numeral (pos verti
 abbrev pub table_header : ℕ → ℕ → ℕ → Line
 table_header rows columns cells = codes "table" ∷ numeral (pos rows) ∷ numeral (pos columns) ∷ numeral (pos cells) ∷ []
 
--- the line of the weights
-abbrev pub weights_line : List ℤ → Line
-weights_line weights = numbers_line (codes "weights") weights
-
 -- the lines of a problem
 abbrev pub InstanceLines : Instance → List Line → Type 0
 InstanceLines (pair weights first second) lines = (first_lines : List Line) × (second_lines : List Line)
-    × (lines ≡ version_line ∷ pair_header (length weights) ∷ weights_line weights ∷ first_lines)
+    × (lines ≡ version_line ∷ pair_header (length weights) ∷ weights_line (codes "weights") weights ∷ first_lines)
     × MatroidLines first first_lines second_lines × MatroidLines second second_lines (end_line ∷ [])
 InstanceLines (list weights matroids) lines = (matroid_lines : List Line)
-    × (lines ≡ version_line ∷ list_header (length weights) (length matroids) ∷ weights_line weights ∷ matroid_lines)
+    × (lines ≡ version_line ∷ list_header (length weights) (length matroids) ∷ weights_line (codes "weights") weights ∷ matroid_lines)
     × MatroidsLines matroids matroid_lines (end_line ∷ [])
 InstanceLines (graph vertices edges) lines =
     lines ≡ version_line ∷ graph_header vertices (length edges) ∷ (map (ends_line (codes "edge")) edges ++ end_line ∷ [])

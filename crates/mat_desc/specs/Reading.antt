@@ -1,14 +1,12 @@
 -- Reading a description: the problem that a text spells, or its first fault. Each function takes what is left of the text or of a line, and
 -- the order of its lines is the order in which faults are looked for.
-use Rattle.std.specs.Prelude.{ℕ, zero, suc, ◌+◌, ◌==◌, ℤ, pos, neg_ℤ, ◌-ℤ◌, nat_abs, Bool, false, not, ◌&&◌}
+use Rattle.std.specs.Prelude.{ℕ, zero, suc, ◌==◌, pos, neg_ℤ, ◌&&◌}
 use Rattle.std.specs.Prelude.{if◌then◌else◌, List, [], ◌∷◌, ◌++◌, length, map, codes, bytes_eq}
 use Rattle.std.specs.Prelude.{Option, Some, None, Result, Ok, Err}
 use Rattle.mat_sets.specs.Sets.{is_member, with_one}
 use Rattle.mat_words.specs.Lines.{lines_of}
-use Rattle.mat_words.specs.Words.{words_of, is_well_spaced}
-use Rattle.mat_words.specs.Numbers.{number_in}
-use Rattle.mat_words.specs.declared.numbers.NumberFault.{NumberFault}
-use Rattle.mat_words.specs.declared.numbers.NumberFault.TheVariants.{Spelling, Range}
+use Rattle.mat_words.specs.Reading as reading
+use Rattle.mat_sets.specs.declared.weight.Weight.{Weight}
 use Rattle.mat_count.specs.Laminar.{is_crossed}
 use Rattle.mat_any.specs.Trees.{Tree, uniform, partition, laminar, graphic, transversal, gammoid, gf2, dual, truncate, restrict, contract}
 use Rattle.mat_desc.specs.declared.refusal.DescKind.TheVariants as kinds
@@ -17,61 +15,41 @@ use Rattle.mat_desc.specs.declared.keywords.Form.TheVariants as forms
 use Rattle.mat_desc.specs.declared.keywords.Keyword.{Keyword}
 use Rattle.mat_desc.specs.declared.keywords.Keyword.TheVariants as keywords
 use Rattle.mat_desc.specs.Binary.{binary_value, is_binary}
-use Rattle.mat_desc.specs.Faults.{Fault, ◌>>=◌, WordsLeft, LinesLeft}
+use Rattle.mat_words.specs.Cursors.{WordsLeft, LinesLeft}
+use Rattle.mat_words.specs.Steps.{◌>>=◌, repeat_at}
+use Rattle.mat_desc.specs.Faults.{Fault, told}
 use Rattle.mat_desc.specs.Limits.{most_elements, most_vertices, most_sets, most_arcs, most_digits, most_matroids, deepest, largest_weight}
 use Rattle.mat_desc.specs.Instances.{Instance, pair, list, graph, rooted, coloured, table}
 
--- ---- lines
-
--- the line with number n, which is needed, has to be ended and well spaced and to have words
-abbrev pub line_from : ℕ → List (List ℕ) → Result (WordsLeft × LinesLeft) Fault
-line_from n [] = Err (kinds.EndsEarly, n)
-line_from n (line ∷ lines) =
-    if length lines == 0 then Err (kinds.EndsEarly, n) else
-    (if not (is_well_spaced line) then Err (kinds.BadByte, n) else
-    (if length line == 0 then Err (kinds.TooFewWords, n) else
-    Ok (record { line = n; words = words_of line }, record { line = n + 1; lines = lines })))
+-- ---- lines and words
 
 -- the words of the next line, and the lines behind it
-unfoldable pub line_at : LinesLeft → Result (WordsLeft × LinesLeft) Fault
-line_at p = line_from p.line p.lines
+abbrev pub line_at : LinesLeft → Result (WordsLeft × LinesLeft) Fault
+line_at p = told (reading.line_at p)
 
--- ---- the words of a line
-
--- the next word of line n, which is needed
-abbrev pub word_from : ℕ → List (List ℕ) → Result (List ℕ × WordsLeft) Fault
-word_from n [] = Err (kinds.TooFewWords, n)
-word_from n (word ∷ words) = Ok (word, record { line = n; words = words })
+-- a line that begins with this word: the words behind it, and the lines behind it
+abbrev pub keyed_at : List ℕ → LinesLeft → Result (WordsLeft × LinesLeft) Fault
+keyed_at key p = told (reading.keyed_at key p)
 
 -- the next word, and the words behind it
-unfoldable pub word_at : WordsLeft → Result (List ℕ × WordsLeft) Fault
-word_at p = word_from p.line p.words
-
--- what a word says where a number is needed, with the words behind it; a word that says none is a fault of their line
-abbrev pub number_as : WordsLeft → Result ℤ NumberFault → Result (ℤ × WordsLeft) Fault
-number_as rest (Ok z) = Ok (z, rest)
-number_as rest (Err Spelling) = Err (kinds.NumberSpelling, rest.line)
-number_as rest (Err Range) = Err (kinds.NumberRange, rest.line)
-
--- the next word as a number in low..high
-unfoldable pub number_at : ℤ → ℤ → WordsLeft → Result (ℤ × WordsLeft) Fault
-number_at low high p = word_at p >>= λ word. number_as word.1 (number_in low high word.0)
+abbrev pub word_at : WordsLeft → Result (List ℕ × WordsLeft) Fault
+word_at p = told (reading.word_at p)
 
 -- the next word as a number in low..most
-unfoldable pub size_at : ℕ → ℕ → WordsLeft → Result (ℕ × WordsLeft) Fault
-size_at low most p = do
-  number ← number_at (pos low) (pos most) p
-  Ok (nat_abs number.0, number.1)
+abbrev pub size_at : ℕ → ℕ → WordsLeft → Result (ℕ × WordsLeft) Fault
+size_at low most p = told (reading.size_at low most p)
 
 -- the next word as a number below the bound
-unfoldable pub below_at : ℕ → WordsLeft → Result (ℕ × WordsLeft) Fault
-below_at bound p = do
-  number ← number_at (pos 0) (pos bound -ℤ pos 1) p
-  Ok (nat_abs number.0, number.1)
+abbrev pub below_at : ℕ → WordsLeft → Result (ℕ × WordsLeft) Fault
+below_at bound p = told (reading.below_at bound p)
 
 -- the next word as a weight
-unfoldable pub read_weight : WordsLeft → Result (ℤ × WordsLeft) Fault
-read_weight p = number_at (neg_ℤ (pos largest_weight)) (pos largest_weight) p
+abbrev pub weight_at : WordsLeft → Result (Weight × WordsLeft) Fault
+weight_at p = told (reading.weight_at (neg_ℤ (pos largest_weight)) (pos largest_weight) p)
+
+-- the next words as so many weights
+abbrev pub next_weights_at : ℕ → WordsLeft → Result (List Weight × WordsLeft) Fault
+next_weights_at n p = told (reading.weights_at (neg_ℤ (pos largest_weight)) (pos largest_weight) n p)
 
 -- no word of line n may be left
 abbrev pub ended_from : ℕ → List (List ℕ) → Result (Unit {0}) Fault
@@ -80,14 +58,6 @@ ended_from n words = if length words == 0 then Ok tt else Err (kinds.TooManyWord
 -- no word may be left
 unfoldable pub ended_at : WordsLeft → Result (Unit {0}) Fault
 ended_at p = ended_from p.line p.words
-
--- as many items, one after the other
-unfoldable pub repeat_at : {A S : Type 0} → (S → Result (A × S) Fault) → ℕ → S → Result (List A × S) Fault
-repeat_at reader zero s = Ok ([], s)
-repeat_at reader (suc n) s = do
-  first ← reader s
-  others ← repeat_at reader n first.1
-  Ok (first.0 ∷ others.0, others.1)
 
 -- The set that the words left of line number `line` list, of elements below n, and `taken` with these elements added. An element that
 -- is in `taken` already is repeated.
@@ -104,13 +74,6 @@ elements_at n taken p = elements_from n p.line taken [] p.words
 
 -- ---- lines of a kind
 
--- a line that begins with this word: the words behind it, and the lines behind it
-unfoldable pub keyed_at : List ℕ → LinesLeft → Result (WordsLeft × LinesLeft) Fault
-keyed_at key p = do
-  line ← line_at p
-  word ← word_at line.0
-  if bytes_eq word.0 key then Ok (word.1, line.1) else Err (kinds.UnknownWord, p.line)
-
 -- the first line, which names the version
 unfoldable pub version_at : LinesLeft → Result LinesLeft Fault
 version_at p = do
@@ -119,10 +82,10 @@ version_at p = do
   if bytes_eq word.0 (codes "1") then (ended_at word.1 >>= λ end. Ok line.1) else Err (kinds.Version, p.line)
 
 -- the weights line of n elements
-unfoldable pub weights_at : ℕ → LinesLeft → Result (List ℤ × LinesLeft) Fault
+unfoldable pub weights_at : ℕ → LinesLeft → Result (List Weight × LinesLeft) Fault
 weights_at n p = do
   line ← keyed_at (codes "weights") p
-  weights ← repeat_at read_weight n line.0
+  weights ← next_weights_at n line.0
   end ← ended_at weights.1
   Ok (weights.0, line.1)
 
@@ -133,14 +96,9 @@ end_at p = do
   end ← ended_at line.0
   Ok line.1
 
--- whether no byte is left: no line, and nothing behind the last
-abbrev pub is_closed : List (List ℕ) → Bool
-is_closed [] = false
-is_closed (rest ∷ lines) = (length rest == 0) && (length lines == 0)
-
 -- the end of the text, behind the last line
 unfoldable pub closed_at : LinesLeft → Result (Unit {0}) Fault
-closed_at p = if is_closed p.lines then Ok tt else Err (kinds.TooManyLines, p.line)
+closed_at p = if reading.is_closed p.lines then Ok tt else Err (kinds.TooManyLines, p.line)
 
 -- ---- matroids
 
@@ -384,21 +342,21 @@ list_at words lines = do
   Ok (list weights.0 matroids.0, matroids.1)
 
 -- a line of this keyword with two numbers and a weight: an arc with its cost, or a cell with its weight
-unfoldable pub weighted_at : List ℕ → ℕ → ℕ → LinesLeft → Result (((ℕ × ℕ) × ℤ) × LinesLeft) Fault
+unfoldable pub weighted_at : List ℕ → ℕ → ℕ → LinesLeft → Result (((ℕ × ℕ) × Weight) × LinesLeft) Fault
 weighted_at key first_bound second_bound p = do
   line ← keyed_at key p
   ends ← ends_at first_bound second_bound line.0
-  weight ← read_weight ends.1
+  weight ← weight_at ends.1
   end ← ended_at weight.1
   Ok ((ends.0, weight.0), line.1)
 
 -- an edge line with a colour and a weight
-unfoldable pub coloured_edge_at : ℕ → ℕ → LinesLeft → Result (((ℕ × ℕ) × (ℕ × ℤ)) × LinesLeft) Fault
+unfoldable pub coloured_edge_at : ℕ → ℕ → LinesLeft → Result (((ℕ × ℕ) × (ℕ × Weight)) × LinesLeft) Fault
 coloured_edge_at vertices colours p = do
   line ← keyed_at (codes "edge") p
   ends ← ends_at vertices vertices line.0
   colour ← below_at colours ends.1
-  weight ← read_weight colour.1
+  weight ← weight_at colour.1
   end ← ended_at weight.1
   Ok ((ends.0, (colour.0, weight.0)), line.1)
 

@@ -1,28 +1,9 @@
--- What contracts see of cursors and problems.
-use Rattle.std.specs.Prelude.{map, List, ℕ, [], Option, Some, None}
-use Rattle.std.specs.Borrow.{Bor}
-use Rattle.mat_words.specs.Lines.{lines_of}
-use Rattle.mat_words.specs.Words.{parts_of}
-use Rattle.mat_desc.specs.declared.cursor.Lines.{Lines}
-use Rattle.mat_desc.specs.declared.cursor.Words.{Words}
+-- What contracts see of problems.
+use Rattle.std.specs.Prelude.{map}
 use Rattle.mat_desc.specs.declared.problem.Problem.{Problem}
 use Rattle.mat_desc.specs.declared.problem.Problem.TheVariants as problems
 use Rattle.mat_any.specs.Views.{tree_of}
 use Rattle.mat_desc.specs.Instances.{Instance, pair, list, graph, rooted, coloured, table}
-use Rattle.mat_desc.specs.Faults.{WordsLeft, LinesLeft}
-
--- the words that stand in what is left of a line, and none where nothing is left
-abbrev pub parts_left : Option (Bor (List ℕ)) → List (List ℕ)
-parts_left None = []
-parts_left (Some bytes) = parts_of bytes.now
-
--- the words that are left of a line
-abbrev pub words_left : Words → WordsLeft
-words_left w = record { line = w.line; words = parts_left w.left }
-
--- the lines that are left of a text
-abbrev pub lines_left : Lines → LinesLeft
-lines_left p = record { line = p.line; lines = lines_of p.text.now }
 
 -- the problem as plain data
 abbrev pub instance_of : Problem → Instance

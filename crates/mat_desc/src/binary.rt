@@ -7,11 +7,10 @@ ghost use Rattle.mat_desc.specs.Binary.{binary, is_binary, binary_value};
 ghost use Rattle.mat_desc.specs.Faults.{Gives};
 ghost use Rattle.mat_desc.specs.Limits.{most_digits};
 ghost use Rattle.mat_desc.specs.Reading.{binary_at};
-ghost use Rattle.mat_desc.specs.Views.{words_left};
+ghost use Rattle.mat_words.specs.Cursors.{words_left};
 
-use crate::cursor::Words;
-use crate::reading::next_word;
 use crate::refusal::{DescKind, DescRefusal, fault};
+use mat_words::{WordCursor, next_word};
 use std::alloc::AllocError;
 
 /// Whether a byte is a binary digit.
@@ -42,9 +41,9 @@ fn read_binary(word: &[u8], digits: u32) -> Option<u128>
 /// The next word of a line as a binary number of so many digits.
 #[tactic(auto, unfolding(crate::specs::Reading::binary_at))]
 pub(crate) fn next_binary<'a>(
-    words: Words<'a>,
+    words: WordCursor<'a>,
     digits: u32,
-) -> Result<(u128, Words<'a>), DescRefusal>
+) -> Result<(u128, WordCursor<'a>), DescRefusal>
     requires { digits ≤ most_digits }
     ensures { Gives (λ x. (x.0, words_left x.1)) result (binary_at digits (words_left words.entry)) }
 {

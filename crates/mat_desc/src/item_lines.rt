@@ -3,16 +3,17 @@
 ghost use Rattle.std.specs.Prelude.{◌≡◌, ◌≤◌, length, IfOk};
 ghost use Rattle.std.specs.List.{zip};
 ghost use Rattle.mat_desc.specs.Faults.{Gives};
-ghost use Rattle.mat_desc.specs.Grammar.{IsWeight};
 ghost use Rattle.mat_desc.specs.Limits.{most_digits};
-ghost use Rattle.mat_desc.specs.Reading.{ends_at, ends_line_at, column_at, weighted_at, coloured_edge_at, repeat_at};
-ghost use Rattle.mat_desc.specs.Views.{lines_left, words_left};
+ghost use Rattle.mat_words.specs.Steps.{repeat_at};
+ghost use Rattle.mat_desc.specs.Reading.{ends_at, ends_line_at, column_at, weighted_at, coloured_edge_at};
+ghost use Rattle.mat_words.specs.Cursors.{lines_left, words_left};
 
 use crate::binary::next_binary;
-use crate::cursor::{Lines, Words};
-use crate::reading::{ended, keyed_line, next_below, next_weight};
+use crate::limits::{LARGEST_WEIGHT, SMALLEST_WEIGHT};
+use crate::reading::ended;
 use crate::refusal::DescRefusal;
-use mat_sets::{Pairs, Weights};
+use mat_sets::{PairWeights, Pairs, Weight};
+use mat_words::{LineCursor, WordCursor, keyed_line, next_below, next_weight};
 use std::alloc::Global;
 
 /// Two numbers with a weight: an arc with its cost, or a cell with its weight.
@@ -21,7 +22,7 @@ struct WeightedPair {
     /// The two numbers.
     ends: (u32, u32),
     /// The cost or the weight.
-    weight: i128,
+    weight: Weight,
 }
 
 /// An edge with a colour and a weight.
@@ -32,7 +33,7 @@ struct ColouredEdge {
     /// The colour.
     colour: u32,
     /// The weight.
-    weight: i128,
+    weight: Weight,
 }
 
 /// Pairs of numbers, each with a weight.
@@ -41,7 +42,7 @@ pub(crate) struct WeightedPairs {
     /// The pairs.
     pub(crate) pairs: Pairs,
     /// The weight of each.
-    pub(crate) weights: Weights,
+    pub(crate) weights: PairWeights,
 }
 
 /// Edges, each with a colour and a weight.
@@ -52,16 +53,16 @@ pub(crate) struct ColouredEdges {
     /// The colour of each.
     pub(crate) colour_of: Vec<u32>,
     /// The weight of each.
-    pub(crate) weights: Weights,
+    pub(crate) weights: PairWeights,
 }
 
 /// Two numbers, one below each bound.
 #[tactic(auto, unfolding(crate::specs::Reading::ends_at))]
 fn next_ends<'a>(
-    words: Words<'a>,
+    words: WordCursor<'a>,
     first_bound: u32,
     second_bound: u32,
-) -> Result<((u32, u32), Words<'a>), DescRefusal>
+) -> Result<((u32, u32), WordCursor<'a>), DescRefusal>
     ensures { Gives (λ x. (x.0, words_left x.1)) result
         (ends_at first_bound second_bound (words_left words.entry)) }
 {
@@ -75,8 +76,8 @@ fn next_ends<'a>(
 fn ends_line<'a>(
     key: &[u8],
     vertices: u32,
-    lines: Lines<'a>,
-) -> Result<((u32, u32), Lines<'a>), DescRefusal>
+    lines: LineCursor<'a>,
+) -> Result<((u32, u32), LineCursor<'a>), DescRefusal>
     ensures { Gives (λ x. (x.0, lines_left x.1)) result (ends_line_at key.now vertices (lines_left lines.entry)) }
 {
     let (words, rest) = keyed_line(lines, key)?;
@@ -87,7 +88,7 @@ fn ends_line<'a>(
 
 /// A column line.
 #[tactic(auto, unfolding(crate::specs::Reading::column_at))]
-fn column_line<'a>(dim: u32, lines: Lines<'a>) -> Result<(u128, Lines<'a>), DescRefusal>
+fn column_line<'a>(dim: u32, lines: LineCursor<'a>) -> Result<(u128, LineCursor<'a>), DescRefusal>
     requires { dim ≤ most_digits }
     ensures { Gives (λ x. (x.0, lines_left x.1)) result (column_at dim (lines_left lines.entry)) }
 {
@@ -103,15 +104,14 @@ fn weighted_line<'a>(
     key: &[u8],
     first_bound: u32,
     second_bound: u32,
-    lines: Lines<'a>,
-) -> Result<(WeightedPair, Lines<'a>), DescRefusal>
-    ensures value { Gives (λ x. ((x.0.ends, x.0.weight), lines_left x.1)) result
+    lines: LineCursor<'a>,
+) -> Result<(WeightedPair, LineCursor<'a>), DescRefusal>
+    ensures { Gives (λ x. ((x.0.ends, x.0.weight), lines_left x.1)) result
         (weighted_at key.now first_bound second_bound (lines_left lines.entry)) }
-    ensures range { IfOk result (λ x. IsWeight x.0.weight) }
 {
     let (words, rest) = keyed_line(lines, key)?;
     let (ends, words) = next_ends(words, first_bound, second_bound)?;
-    let (weight, words) = next_weight(words)?;
+    let (weight, words) = next_weight(words, SMALLEST_WEIGHT, LARGEST_WEIGHT)?;
     ended(words)?;
     Ok((WeightedPair { ends, weight }, rest))
 }
@@ -121,16 +121,15 @@ fn weighted_line<'a>(
 fn coloured_edge_line<'a>(
     vertices: u32,
     colours: u32,
-    lines: Lines<'a>,
-) -> Result<(ColouredEdge, Lines<'a>), DescRefusal>
-    ensures value { Gives (λ x. ((x.0.ends, (x.0.colour, x.0.weight)), lines_left x.1)) result
+    lines: LineCursor<'a>,
+) -> Result<(ColouredEdge, LineCursor<'a>), DescRefusal>
+    ensures { Gives (λ x. ((x.0.ends, (x.0.colour, x.0.weight)), lines_left x.1)) result
         (coloured_edge_at vertices colours (lines_left lines.entry)) }
-    ensures range { IfOk result (λ x. IsWeight x.0.weight) }
 {
     let (words, rest) = keyed_line(lines, b"edge")?;
     let (ends, words) = next_ends(words, vertices, vertices)?;
     let (colour, words) = next_below(words, colours)?;
-    let (weight, words) = next_weight(words)?;
+    let (weight, words) = next_weight(words, SMALLEST_WEIGHT, LARGEST_WEIGHT)?;
     ended(words)?;
     let edge = ColouredEdge {
         ends,
@@ -146,8 +145,8 @@ pub(crate) fn ends_lines<'a>(
     key: &[u8],
     vertices: u32,
     many: u32,
-    lines: Lines<'a>,
-) -> Result<(Pairs, Lines<'a>), DescRefusal>
+    lines: LineCursor<'a>,
+) -> Result<(Pairs, LineCursor<'a>), DescRefusal>
     ensures { Gives (λ x. (x.0, lines_left x.1)) result
         (repeat_at (ends_line_at key.now vertices) many (lines_left lines.entry)) }
 {
@@ -166,8 +165,8 @@ pub(crate) fn column_lines<'a>(
     alloc: Global,
     dim: u32,
     many: u32,
-    lines: Lines<'a>,
-) -> Result<(Vec<u128>, Lines<'a>), DescRefusal>
+    lines: LineCursor<'a>,
+) -> Result<(Vec<u128>, LineCursor<'a>), DescRefusal>
     requires { dim ≤ most_digits }
     ensures { Gives (λ x. (x.0.items, lines_left x.1)) result
         (repeat_at (column_at dim) many (lines_left lines.entry)) }
@@ -189,8 +188,8 @@ pub(crate) fn weighted_lines<'a>(
     first_bound: u32,
     second_bound: u32,
     many: u32,
-    lines: Lines<'a>,
-) -> Result<(WeightedPairs, Lines<'a>), DescRefusal>
+    lines: LineCursor<'a>,
+) -> Result<(WeightedPairs, LineCursor<'a>), DescRefusal>
     ensures value { Gives (λ x. (zip x.0.pairs x.0.weights, lines_left x.1)) result
         (repeat_at (weighted_at key.now first_bound second_bound) many (lines_left lines.entry)) }
     ensures as_many { IfOk result (λ x. length x.0.weights ≡ length x.0.pairs) }
@@ -206,7 +205,7 @@ pub(crate) fn weighted_lines<'a>(
     }
     let items = WeightedPairs {
         pairs: Pairs::new(pairs),
-        weights: Weights::new(weights),
+        weights: PairWeights::new(weights),
     };
     Ok((items, rest))
 }
@@ -217,8 +216,8 @@ pub(crate) fn coloured_edge_lines<'a>(
     vertices: u32,
     colours: u32,
     many: u32,
-    lines: Lines<'a>,
-) -> Result<(ColouredEdges, Lines<'a>), DescRefusal>
+    lines: LineCursor<'a>,
+) -> Result<(ColouredEdges, LineCursor<'a>), DescRefusal>
     ensures value { Gives (λ x. (zip x.0.edges (zip x.0.colour_of.items x.0.weights), lines_left x.1)) result
         (repeat_at (coloured_edge_at vertices colours) many (lines_left lines.entry)) }
     ensures coloured { IfOk result (λ x. length x.0.colour_of.items ≡ length x.0.edges) }
@@ -238,7 +237,7 @@ pub(crate) fn coloured_edge_lines<'a>(
     let items = ColouredEdges {
         edges: Pairs::new(edges),
         colour_of,
-        weights: Weights::new(weights),
+        weights: PairWeights::new(weights),
     };
     Ok((items, rest))
 }

@@ -4,7 +4,7 @@ ghost use Rattle.std.specs.Prelude.{◌≡◌};
 ghost use Rattle.mat_desc.specs.Reading.{keyword_of, form_of};
 
 /// The form of a problem.
-#[derive(Clone, Copy, Debug, PartialEq, Eq)]
+#[derive(Clone, Copy)]
 pub enum Form {
     /// Two weighted matroids: `pair`.
     Pair,
@@ -21,7 +21,7 @@ pub enum Form {
 }
 
 /// The kind of a matroid.
-#[derive(Clone, Copy, Debug, PartialEq, Eq)]
+#[derive(Clone, Copy)]
 pub enum Keyword {
     /// `uniform`: sets of at most so many elements.
     Uniform,

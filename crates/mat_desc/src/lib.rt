@@ -2,7 +2,6 @@
 #![tactic(auto)]
 
 mod binary;
-mod cursor;
 mod item_lines;
 mod keywords;
 mod laws;

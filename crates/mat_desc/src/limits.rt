@@ -21,5 +21,8 @@ pub(crate) const MOST_MATROIDS: u32 = 64;
 /// The most matroids that stand within one another.
 pub(crate) const DEEPEST: u32 = 16;
 
-/// The largest weight or cost, and with a `-` the smallest.
+/// The largest number of a weight or cost.
 pub(crate) const LARGEST_WEIGHT: i128 = 1_000_000_000_000;
+
+/// The smallest number of a weight or cost.
+pub(crate) const SMALLEST_WEIGHT: i128 = -LARGEST_WEIGHT;

@@ -3,18 +3,19 @@
 ghost use Rattle.std.specs.Prelude.{◌≡◌, []};
 ghost use Rattle.mat_any.specs.Views.{tree_of};
 ghost use Rattle.mat_desc.specs.Faults.{Gives};
-ghost use Rattle.mat_desc.specs.Reading.{set_line_at, distinct_at, targets_at, transversal_at, gammoid_at, repeat_at};
-ghost use Rattle.mat_desc.specs.Views.{lines_left, words_left};
+ghost use Rattle.mat_words.specs.Steps.{repeat_at};
+ghost use Rattle.mat_desc.specs.Reading.{set_line_at, distinct_at, targets_at, transversal_at, gammoid_at};
+ghost use Rattle.mat_words.specs.Cursors.{lines_left, words_left};
 
-use crate::cursor::{Lines, Words};
 use crate::item_lines::ends_lines;
 use crate::limits::{MOST_ARCS, MOST_SETS, MOST_VERTICES};
-use crate::reading::{elements_line, ended, keyed_line, next_below, next_size};
+use crate::reading::{elements_line, ended};
 use crate::refusal::{DescKind, DescRefusal, fault};
 use mat_any::AnyMatroid;
 use mat_flow::Digraph;
 use mat_linked::{Gammoid, Transversal};
 use mat_sets::{ElemSet, SetList};
+use mat_words::{LineCursor, WordCursor, keyed_line, next_below, next_size};
 use std::alloc::Global;
 
 /// A line of this keyword and a set of numbers below `count`.
@@ -23,8 +24,8 @@ fn set_line<'a>(
     alloc: Global,
     key: &[u8],
     count: u32,
-    lines: Lines<'a>,
-) -> Result<(ElemSet, Lines<'a>), DescRefusal>
+    lines: LineCursor<'a>,
+) -> Result<(ElemSet, LineCursor<'a>), DescRefusal>
     ensures { Gives (λ x. (x.0, lines_left x.1)) result (set_line_at key.now count (lines_left lines.entry)) }
 {
     let (words, rest) = keyed_line(lines, key)?;
@@ -39,8 +40,8 @@ fn set_lines<'a>(
     key: &[u8],
     count: u32,
     many: u32,
-    lines: Lines<'a>,
-) -> Result<(SetList, Lines<'a>), DescRefusal>
+    lines: LineCursor<'a>,
+) -> Result<(SetList, LineCursor<'a>), DescRefusal>
     ensures { Gives (λ x. (x.0, lines_left x.1)) result
         (repeat_at (set_line_at key.now count) many (lines_left lines.entry)) }
 {
@@ -59,8 +60,8 @@ fn distinct_numbers<'a>(
     alloc: Global,
     bound: u32,
     many: u32,
-    words: Words<'a>,
-) -> Result<(Vec<u32>, Words<'a>), DescRefusal>
+    words: WordCursor<'a>,
+) -> Result<(Vec<u32>, WordCursor<'a>), DescRefusal>
     ensures { Gives (λ x. (x.0.items, words_left x.1)) result (distinct_at bound many [] (words_left words.entry)) }
 {
     let mut numbers = Vec::new(alloc);
@@ -83,8 +84,8 @@ fn targets_line<'a>(
     alloc: Global,
     vertices: u32,
     count: u32,
-    lines: Lines<'a>,
-) -> Result<(Vec<u32>, Lines<'a>), DescRefusal>
+    lines: LineCursor<'a>,
+) -> Result<(Vec<u32>, LineCursor<'a>), DescRefusal>
     ensures { Gives (λ x. (x.0.items, lines_left x.1)) result (targets_at vertices count (lines_left lines.entry)) }
 {
     let (words, rest) = keyed_line(lines, b"targets")?;
@@ -98,9 +99,9 @@ fn targets_line<'a>(
 pub(crate) fn transversal<'a>(
     alloc: Global,
     count: u32,
-    words: Words<'a>,
-    lines: Lines<'a>,
-) -> Result<(AnyMatroid, Lines<'a>), DescRefusal>
+    words: WordCursor<'a>,
+    lines: LineCursor<'a>,
+) -> Result<(AnyMatroid, LineCursor<'a>), DescRefusal>
     ensures { Gives (λ x. (tree_of x.0, lines_left x.1)) result
         (transversal_at count (words_left words.entry) (lines_left lines.entry)) }
 {
@@ -116,9 +117,9 @@ pub(crate) fn transversal<'a>(
 pub(crate) fn gammoid<'a>(
     alloc: Global,
     count: u32,
-    words: Words<'a>,
-    lines: Lines<'a>,
-) -> Result<(AnyMatroid, Lines<'a>), DescRefusal>
+    words: WordCursor<'a>,
+    lines: LineCursor<'a>,
+) -> Result<(AnyMatroid, LineCursor<'a>), DescRefusal>
     ensures { Gives (λ x. (tree_of x.0, lines_left x.1)) result
         (gammoid_at count (words_left words.entry) (lines_left lines.entry)) }
 {

@@ -3,23 +3,24 @@
 ghost use Rattle.std.specs.Prelude.{◌≡◌, ◌<◌, ◌^◌, [], length, map};
 ghost use Rattle.mat_any.specs.Views.{tree_of};
 ghost use Rattle.mat_desc.specs.Faults.{Gives};
-ghost use Rattle.mat_desc.specs.Reading.{class_at, classes_at, nested_set_at, nested_sets_at, repeat_at};
+ghost use Rattle.mat_words.specs.Steps.{repeat_at};
+ghost use Rattle.mat_desc.specs.Reading.{class_at, classes_at, nested_set_at, nested_sets_at};
 ghost use Rattle.mat_desc.specs.Reading.{uniform_at, partition_at, laminar_at, graphic_at, gf2_at, dual_at, truncate_at, restrict_at, contract_at};
 ghost use Rattle.mat_desc.specs.Reading.{matroid_within, matroid_at};
-ghost use Rattle.mat_desc.specs.Views.{lines_left, words_left};
+ghost use Rattle.mat_words.specs.Cursors.{lines_left, words_left};
 
-use crate::cursor::{Lines, Words};
 use crate::item_lines::{column_lines, ends_lines};
 use crate::keywords::{Keyword, keyword_from};
 use crate::limits::{DEEPEST, MOST_DIGITS, MOST_ELEMENTS, MOST_SETS, MOST_VERTICES};
 use crate::linked_lines::{gammoid, transversal};
-use crate::reading::{elements_line, ended, keyed_line, next_line, next_size, next_word};
+use crate::reading::{elements_line, ended};
 use crate::refusal::{DescKind, DescRefusal, fault};
 use mat_any::AnyMatroid;
 use mat_count::{Laminar, Partition, Uniform, crossing};
 use mat_gf2::Gf2;
 use mat_graphic::Graphic;
 use mat_sets::{ElemSet, SetList};
+use mat_words::{LineCursor, WordCursor, keyed_line, next_size, next_word, words_line};
 use std::alloc::Global;
 
 /// A class line of a partition of `count` elements: the cap, and the class, whose elements are put among the taken ones.
@@ -28,8 +29,8 @@ fn class_line<'a>(
     alloc: Global,
     count: u32,
     taken: &mut ElemSet,
-    lines: Lines<'a>,
-) -> Result<(u32, ElemSet, Lines<'a>), DescRefusal>
+    lines: LineCursor<'a>,
+) -> Result<(u32, ElemSet, LineCursor<'a>), DescRefusal>
     ensures { Gives (λ x. (x.0, x.1, taken.new, lines_left x.2)) result
         (class_at count taken.old (lines_left lines.entry)) }
 {
@@ -44,8 +45,8 @@ fn class_lines<'a>(
     alloc: Global,
     count: u32,
     many: u32,
-    lines: Lines<'a>,
-) -> Result<(SetList, Vec<u32>, Lines<'a>), DescRefusal>
+    lines: LineCursor<'a>,
+) -> Result<(SetList, Vec<u32>, LineCursor<'a>), DescRefusal>
     ensures { Gives (λ x. (x.0, x.1.items, lines_left x.2)) result
         (classes_at count many [] (lines_left lines.entry)) }
 {
@@ -68,8 +69,8 @@ fn nested_set_line<'a>(
     alloc: Global,
     count: u32,
     earlier: &[ElemSet],
-    lines: Lines<'a>,
-) -> Result<(u32, ElemSet, Lines<'a>), DescRefusal>
+    lines: LineCursor<'a>,
+) -> Result<(u32, ElemSet, LineCursor<'a>), DescRefusal>
     requires { length earlier.now < 2 ^ 32 }
     ensures { Gives (λ x. (x.0, x.1, lines_left x.2)) result
         (nested_set_at count earlier.now (lines_left lines.entry)) }
@@ -90,8 +91,8 @@ fn nested_set_lines<'a>(
     alloc: Global,
     count: u32,
     many: u32,
-    lines: Lines<'a>,
-) -> Result<(SetList, Vec<u32>, Lines<'a>), DescRefusal>
+    lines: LineCursor<'a>,
+) -> Result<(SetList, Vec<u32>, LineCursor<'a>), DescRefusal>
     ensures { Gives (λ x. (x.0, x.1.items, lines_left x.2)) result
         (nested_sets_at count many [] (lines_left lines.entry)) }
 {
@@ -111,9 +112,9 @@ fn nested_set_lines<'a>(
 #[tactic(auto, unfolding(crate::specs::Reading::uniform_at))]
 fn uniform<'a>(
     count: u32,
-    words: Words<'a>,
-    lines: Lines<'a>,
-) -> Result<(AnyMatroid, Lines<'a>), DescRefusal>
+    words: WordCursor<'a>,
+    lines: LineCursor<'a>,
+) -> Result<(AnyMatroid, LineCursor<'a>), DescRefusal>
     ensures { Gives (λ x. (tree_of x.0, lines_left x.1)) result
         (uniform_at count (words_left words.entry) (lines_left lines.entry)) }
 {
@@ -127,9 +128,9 @@ fn uniform<'a>(
 fn partition<'a>(
     alloc: Global,
     count: u32,
-    words: Words<'a>,
-    lines: Lines<'a>,
-) -> Result<(AnyMatroid, Lines<'a>), DescRefusal>
+    words: WordCursor<'a>,
+    lines: LineCursor<'a>,
+) -> Result<(AnyMatroid, LineCursor<'a>), DescRefusal>
     ensures { Gives (λ x. (tree_of x.0, lines_left x.1)) result
         (partition_at count (words_left words.entry) (lines_left lines.entry)) }
 {
@@ -145,9 +146,9 @@ fn partition<'a>(
 fn laminar<'a>(
     alloc: Global,
     count: u32,
-    words: Words<'a>,
-    lines: Lines<'a>,
-) -> Result<(AnyMatroid, Lines<'a>), DescRefusal>
+    words: WordCursor<'a>,
+    lines: LineCursor<'a>,
+) -> Result<(AnyMatroid, LineCursor<'a>), DescRefusal>
     ensures { Gives (λ x. (tree_of x.0, lines_left x.1)) result
         (laminar_at count (words_left words.entry) (lines_left lines.entry)) }
 {
@@ -163,9 +164,9 @@ fn laminar<'a>(
 fn graphic<'a>(
     alloc: Global,
     count: u32,
-    words: Words<'a>,
-    lines: Lines<'a>,
-) -> Result<(AnyMatroid, Lines<'a>), DescRefusal>
+    words: WordCursor<'a>,
+    lines: LineCursor<'a>,
+) -> Result<(AnyMatroid, LineCursor<'a>), DescRefusal>
     ensures { Gives (λ x. (tree_of x.0, lines_left x.1)) result
         (graphic_at count (words_left words.entry) (lines_left lines.entry)) }
 {
@@ -181,9 +182,9 @@ fn graphic<'a>(
 fn gf2<'a>(
     alloc: Global,
     count: u32,
-    words: Words<'a>,
-    lines: Lines<'a>,
-) -> Result<(AnyMatroid, Lines<'a>), DescRefusal>
+    words: WordCursor<'a>,
+    lines: LineCursor<'a>,
+) -> Result<(AnyMatroid, LineCursor<'a>), DescRefusal>
     ensures { Gives (λ x. (tree_of x.0, lines_left x.1)) result
         (gf2_at count (words_left words.entry) (lines_left lines.entry)) }
 {
@@ -201,9 +202,9 @@ fn dual<'a>(
     alloc: Global,
     room: u32,
     count: u32,
-    words: Words<'a>,
-    lines: Lines<'a>,
-) -> Result<(AnyMatroid, Lines<'a>), DescRefusal>
+    words: WordCursor<'a>,
+    lines: LineCursor<'a>,
+) -> Result<(AnyMatroid, LineCursor<'a>), DescRefusal>
     ensures { Gives (λ x. (tree_of x.0, lines_left x.1)) result
         (dual_at (matroid_within room count) (words_left words.entry) (lines_left lines.entry)) }
 {
@@ -220,9 +221,9 @@ fn truncation<'a>(
     alloc: Global,
     room: u32,
     count: u32,
-    words: Words<'a>,
-    lines: Lines<'a>,
-) -> Result<(AnyMatroid, Lines<'a>), DescRefusal>
+    words: WordCursor<'a>,
+    lines: LineCursor<'a>,
+) -> Result<(AnyMatroid, LineCursor<'a>), DescRefusal>
     ensures { Gives (λ x. (tree_of x.0, lines_left x.1)) result
         (truncate_at (matroid_within room count) (words_left words.entry) (lines_left lines.entry)) }
 {
@@ -240,9 +241,9 @@ fn restriction<'a>(
     alloc: Global,
     room: u32,
     count: u32,
-    words: Words<'a>,
-    lines: Lines<'a>,
-) -> Result<(AnyMatroid, Lines<'a>), DescRefusal>
+    words: WordCursor<'a>,
+    lines: LineCursor<'a>,
+) -> Result<(AnyMatroid, LineCursor<'a>), DescRefusal>
     ensures { Gives (λ x. (tree_of x.0, lines_left x.1)) result
         (restrict_at (matroid_within room count) count (words_left words.entry) (lines_left lines.entry)) }
 {
@@ -260,9 +261,9 @@ fn contraction<'a>(
     alloc: Global,
     room: u32,
     count: u32,
-    words: Words<'a>,
-    lines: Lines<'a>,
-) -> Result<(AnyMatroid, Lines<'a>), DescRefusal>
+    words: WordCursor<'a>,
+    lines: LineCursor<'a>,
+) -> Result<(AnyMatroid, LineCursor<'a>), DescRefusal>
     ensures { Gives (λ x. (tree_of x.0, lines_left x.1)) result
         (contract_at (matroid_within room count) count (words_left words.entry) (lines_left lines.entry)) }
 {
@@ -280,13 +281,13 @@ fn next_matroid_within<'a>(
     alloc: Global,
     room: u32,
     count: u32,
-    lines: Lines<'a>,
-) -> Result<(AnyMatroid, Lines<'a>), DescRefusal>
+    lines: LineCursor<'a>,
+) -> Result<(AnyMatroid, LineCursor<'a>), DescRefusal>
     ensures { Gives (λ x. (tree_of x.0, lines_left x.1)) result
         (matroid_within room count (lines_left lines.entry)) }
 {
     let line = lines.line;
-    let (words, rest) = next_line(lines)?;
+    let (words, rest) = words_line(lines)?;
     if room == 0 {
         return Err(fault(DescKind::TooDeep, line));
     }
@@ -311,8 +312,8 @@ fn next_matroid_within<'a>(
 pub(crate) fn next_matroid<'a>(
     alloc: Global,
     count: u32,
-    lines: Lines<'a>,
-) -> Result<(AnyMatroid, Lines<'a>), DescRefusal>
+    lines: LineCursor<'a>,
+) -> Result<(AnyMatroid, LineCursor<'a>), DescRefusal>
     ensures { Gives (λ x. (tree_of x.0, lines_left x.1)) result
         (matroid_at count (lines_left lines.entry)) }
 {
@@ -324,8 +325,8 @@ pub(crate) fn next_matroids<'a>(
     alloc: Global,
     count: u32,
     many: u32,
-    lines: Lines<'a>,
-) -> Result<(Vec<AnyMatroid>, Lines<'a>), DescRefusal>
+    lines: LineCursor<'a>,
+) -> Result<(Vec<AnyMatroid>, LineCursor<'a>), DescRefusal>
     ensures { Gives (λ x. (map tree_of x.0.items, lines_left x.1)) result
         (repeat_at (matroid_at count) many (lines_left lines.entry)) }
 {

@@ -7,19 +7,20 @@ ghost use Rattle.mat_desc.specs.Instances.{Instance};
 ghost use Rattle.mat_desc.specs.Reading.{version_at, end_at, closed_at, pair_at, list_at, graph_at, rooted_at, coloured_at, table_at};
 ghost use Rattle.mat_desc.specs.Reading.{instance_at, description_at, read_of};
 ghost use Rattle.mat_desc.specs.Soundness.{IsSoundInstance};
-ghost use Rattle.mat_desc.specs.Views.{lines_left, words_left, instance_of};
+ghost use Rattle.mat_words.specs.Cursors.{lines_left, words_left};
+ghost use Rattle.mat_desc.specs.Views.{instance_of};
 
-use crate::cursor::{Lines, Words};
 use crate::item_lines::{coloured_edge_lines, ends_lines, weighted_lines};
 use crate::keywords::{Form, form_from};
 use crate::limits::{MOST_ELEMENTS, MOST_MATROIDS, MOST_SETS, MOST_VERTICES};
 use crate::matroid::{next_matroid, next_matroids};
-use crate::reading::{
-    ended, keyed_line, next_below, next_line, next_size, next_word, weights_line,
-};
+use crate::reading::{ended, weights_line};
 use crate::refusal::{DescKind, DescRefusal, fault};
 use mat_any::AnyMatroid;
-use mat_sets::{Pairs, Weights};
+use mat_sets::{PairWeights, Pairs};
+use mat_words::{
+    LineCursor, WordCursor, keyed_line, next_below, next_size, next_word, nothing_left, words_line,
+};
 use std::alloc::Global;
 
 /// A problem, by its form.
@@ -28,7 +29,7 @@ pub enum Problem {
     /// Two matroids on the same elements, and a weight for each element.
     Pair {
         /// The weight of each element.
-        weights: Weights,
+        weights: PairWeights,
         /// The first matroid.
         first: AnyMatroid,
         /// The second matroid.
@@ -37,7 +38,7 @@ pub enum Problem {
     /// Matroids on the same elements, and a weight for each element.
     List {
         /// The weight of each element.
-        weights: Weights,
+        weights: PairWeights,
         /// The matroids.
         matroids: Vec<AnyMatroid>,
     },
@@ -57,7 +58,7 @@ pub enum Problem {
         /// The tail and the head of each arc.
         arcs: Pairs,
         /// The cost of each arc.
-        costs: Weights,
+        costs: PairWeights,
     },
     /// A graph with a colour and a weight for each edge.
     Coloured {
@@ -70,7 +71,7 @@ pub enum Problem {
         /// The colour of each edge.
         colour_of: Vec<u32>,
         /// The weight of each edge.
-        weights: Weights,
+        weights: PairWeights,
     },
     /// A table, some of whose cells have a weight.
     Table {
@@ -81,13 +82,13 @@ pub enum Problem {
         /// The row and the column of each cell.
         cells: Pairs,
         /// The weight of each cell.
-        weights: Weights,
+        weights: PairWeights,
     },
 }
 
 /// The first line, which names the version.
 #[tactic(auto, unfolding(crate::specs::Reading::version_at))]
-fn version_line<'a>(lines: Lines<'a>) -> Result<Lines<'a>, DescRefusal>
+fn version_line<'a>(lines: LineCursor<'a>) -> Result<LineCursor<'a>, DescRefusal>
     ensures { Gives lines_left result (version_at (lines_left lines.entry)) }
 {
     let line = lines.line;
@@ -102,7 +103,7 @@ fn version_line<'a>(lines: Lines<'a>) -> Result<Lines<'a>, DescRefusal>
 
 /// The last line.
 #[tactic(auto, unfolding(crate::specs::Reading::end_at))]
-fn end_line<'a>(lines: Lines<'a>) -> Result<Lines<'a>, DescRefusal>
+fn end_line<'a>(lines: LineCursor<'a>) -> Result<LineCursor<'a>, DescRefusal>
     ensures { Gives lines_left result (end_at (lines_left lines.entry)) }
 {
     let (words, rest) = keyed_line(lines, b"end")?;
@@ -111,11 +112,11 @@ fn end_line<'a>(lines: Lines<'a>) -> Result<Lines<'a>, DescRefusal>
 }
 
 /// The end of the text.
-#[tactic(auto, using(crate::proofs::Closing::closing), unfolding(crate::specs::Reading::closed_at))]
-fn closed(lines: Lines<'_>) -> Result<(), DescRefusal>
+#[tactic(auto, unfolding(crate::specs::Reading::closed_at))]
+fn closed(lines: LineCursor<'_>) -> Result<(), DescRefusal>
     ensures { Gives (λ x. x) result (closed_at (lines_left lines.entry)) }
 {
-    if lines.text.is_empty() {
+    if nothing_left(lines) {
         Ok(())
     } else {
         Err(fault(DescKind::TooManyLines, lines.line))
@@ -126,9 +127,9 @@ fn closed(lines: Lines<'_>) -> Result<(), DescRefusal>
 #[tactic(auto, unfolding(crate::specs::Reading::pair_at))]
 fn pair<'a>(
     alloc: Global,
-    words: Words<'a>,
-    lines: Lines<'a>,
-) -> Result<(Problem, Lines<'a>), DescRefusal>
+    words: WordCursor<'a>,
+    lines: LineCursor<'a>,
+) -> Result<(Problem, LineCursor<'a>), DescRefusal>
     ensures { Gives (λ x. (instance_of x.0, lines_left x.1)) result
         (pair_at (words_left words.entry) (lines_left lines.entry)) }
 {
@@ -149,9 +150,9 @@ fn pair<'a>(
 #[tactic(auto, unfolding(crate::specs::Reading::list_at))]
 fn list<'a>(
     alloc: Global,
-    words: Words<'a>,
-    lines: Lines<'a>,
-) -> Result<(Problem, Lines<'a>), DescRefusal>
+    words: WordCursor<'a>,
+    lines: LineCursor<'a>,
+) -> Result<(Problem, LineCursor<'a>), DescRefusal>
     ensures { Gives (λ x. (instance_of x.0, lines_left x.1)) result
         (list_at (words_left words.entry) (lines_left lines.entry)) }
 {
@@ -167,9 +168,9 @@ fn list<'a>(
 #[tactic(auto, unfolding(crate::specs::Reading::graph_at))]
 fn graph<'a>(
     alloc: Global,
-    words: Words<'a>,
-    lines: Lines<'a>,
-) -> Result<(Problem, Lines<'a>), DescRefusal>
+    words: WordCursor<'a>,
+    lines: LineCursor<'a>,
+) -> Result<(Problem, LineCursor<'a>), DescRefusal>
     ensures { Gives (λ x. (instance_of x.0, lines_left x.1)) result
         (graph_at (words_left words.entry) (lines_left lines.entry)) }
 {
@@ -184,9 +185,9 @@ fn graph<'a>(
 #[tactic(auto, using(crate::proofs::Columns::columns), unfolding(crate::specs::Reading::rooted_at))]
 fn rooted<'a>(
     alloc: Global,
-    words: Words<'a>,
-    lines: Lines<'a>,
-) -> Result<(Problem, Lines<'a>), DescRefusal>
+    words: WordCursor<'a>,
+    lines: LineCursor<'a>,
+) -> Result<(Problem, LineCursor<'a>), DescRefusal>
     ensures { Gives (λ x. (instance_of x.0, lines_left x.1)) result
         (rooted_at (words_left words.entry) (lines_left lines.entry)) }
 {
@@ -208,9 +209,9 @@ fn rooted<'a>(
 #[tactic(auto, using(crate::proofs::Columns::columns), unfolding(crate::specs::Reading::coloured_at))]
 fn coloured<'a>(
     alloc: Global,
-    words: Words<'a>,
-    lines: Lines<'a>,
-) -> Result<(Problem, Lines<'a>), DescRefusal>
+    words: WordCursor<'a>,
+    lines: LineCursor<'a>,
+) -> Result<(Problem, LineCursor<'a>), DescRefusal>
     ensures { Gives (λ x. (instance_of x.0, lines_left x.1)) result
         (coloured_at (words_left words.entry) (lines_left lines.entry)) }
 {
@@ -233,9 +234,9 @@ fn coloured<'a>(
 #[tactic(auto, using(crate::proofs::Columns::columns), unfolding(crate::specs::Reading::table_at))]
 fn table<'a>(
     alloc: Global,
-    words: Words<'a>,
-    lines: Lines<'a>,
-) -> Result<(Problem, Lines<'a>), DescRefusal>
+    words: WordCursor<'a>,
+    lines: LineCursor<'a>,
+) -> Result<(Problem, LineCursor<'a>), DescRefusal>
     ensures { Gives (λ x. (instance_of x.0, lines_left x.1)) result
         (table_at (words_left words.entry) (lines_left lines.entry)) }
 {
@@ -255,12 +256,15 @@ fn table<'a>(
 
 /// A problem, from its form line on.
 #[tactic(auto, unfolding(crate::specs::Reading::instance_at))]
-fn problem_lines<'a>(alloc: Global, lines: Lines<'a>) -> Result<(Problem, Lines<'a>), DescRefusal>
+fn problem_lines<'a>(
+    alloc: Global,
+    lines: LineCursor<'a>,
+) -> Result<(Problem, LineCursor<'a>), DescRefusal>
     ensures { Gives (λ x. (instance_of x.0, lines_left x.1)) result
         (instance_at (lines_left lines.entry)) }
 {
     let line = lines.line;
-    let (words, rest) = next_line(lines)?;
+    let (words, rest) = words_line(lines)?;
     let (word, words) = next_word(words)?;
     match form_from(word) {
         None => Err(fault(DescKind::UnknownWord, line)),
@@ -275,7 +279,7 @@ fn problem_lines<'a>(alloc: Global, lines: Lines<'a>) -> Result<(Problem, Lines<
 
 /// A whole description.
 #[tactic(auto, unfolding(crate::specs::Reading::description_at))]
-fn description(alloc: Global, lines: Lines<'_>) -> Result<Problem, DescRefusal>
+fn description(alloc: Global, lines: LineCursor<'_>) -> Result<Problem, DescRefusal>
     ensures { Gives instance_of result (description_at (lines_left lines.entry)) }
 {
     let lines = version_line(lines)?;
@@ -303,5 +307,5 @@ pub fn read_problem(alloc: Global, text: &[u8]) -> Result<Problem, DescRefusal>
     ensures valid { IfOk result (λ problem. IsValid (instance_of problem)) }
     ensures sound { IfOk result (λ problem. IsSoundInstance (instance_of problem)) }
 {
-    description(alloc, Lines { line: 1, text })
+    description(alloc, LineCursor { line: 1, text })
 }

@@ -1,9 +1,11 @@
 //! Why a text is no description.
 
 ghost use Rattle.std.specs.Prelude.{◌≡◌};
+ghost use Rattle.mat_desc.specs.Faults.{kind_of, refusal_of};
 ghost use Rattle.mat_desc.specs.Kinds.{kind_number, kind_name};
 ghost use Rattle.mat_desc.specs.declared.refusal.DescRefusal.TheVariants.{Fault, Memory};
 
+use mat_words::{NumberFault, ReadingFault, ReadingRefusal};
 use std::alloc::{AllocError, AllocFailed};
 use thiserror::Error;
 
@@ -16,9 +18,9 @@ pub enum DescKind {
     Version,
     /// The first word isn't one of those that may stand here.
     UnknownWord,
-    /// A word isn't the spelling of a number where one is needed.
+    /// A word isn't the spelling of a number or a weight where one is needed.
     NumberSpelling,
-    /// A number is out of its range.
+    /// A number, or a number of a weight, is out of its range.
     NumberRange,
     /// A needed word is missing.
     TooFewWords,
@@ -99,6 +101,31 @@ pub(crate) fn fault(kind: DescKind, line: u32) -> DescRefusal
     ensures { result ≡ Fault kind line }
 {
     DescRefusal::Fault { kind, line }
+}
+
+/// The kind of a fault in reading lines, words, numbers and weights.
+fn kind_from(fault: ReadingFault) -> DescKind
+    ensures { result ≡ kind_of fault }
+{
+    match fault {
+        ReadingFault::EndsEarly => DescKind::EndsEarly,
+        ReadingFault::BadByte => DescKind::BadByte,
+        ReadingFault::NoWord => DescKind::TooFewWords,
+        ReadingFault::UnknownWord => DescKind::UnknownWord,
+        ReadingFault::Number(NumberFault::Spelling) => DescKind::NumberSpelling,
+        ReadingFault::Number(NumberFault::Range) => DescKind::NumberRange,
+    }
+}
+
+impl From<ReadingRefusal> for DescRefusal {
+    ghost from_gives = { λ refusal e. e ≡ refusal_of refusal };
+
+    fn from(refusal: ReadingRefusal) -> DescRefusal {
+        match refusal {
+            ReadingRefusal::Fault { kind, line } => fault(kind_from(kind), line),
+            ReadingRefusal::Memory => DescRefusal::Memory,
+        }
+    }
 }
 
 impl From<AllocError> for DescRefusal {

@@ -18,8 +18,10 @@ use mat_count::{Laminar, Partition};
 use mat_gf2::Gf2;
 use mat_graphic::Graphic;
 use mat_linked::{Gammoid, Transversal};
-use mat_sets::ElemSet;
-use mat_words::{put_members_line, put_number_word, put_numbers_line};
+use mat_sets::{ElemSet, Weight};
+use mat_words::{
+    put_members_line, put_number_word, put_numbers_line, put_weight_word, put_weights_line,
+};
 use std::alloc::{AllocError, Global};
 
 /// Appends the line of this keyword with a set and its cap.
@@ -216,15 +218,16 @@ fn put_weighted_line(
     out: &mut Vec<u8>,
     keyword: &[u8],
     pair: (u32, u32),
-    weight: i128,
+    weight: Weight,
 ) -> Result<(), AllocError>
     ensures { OnOk result (out.new.items ≡ out.old.items ++ text_of (weighted_line keyword.now (pair, weight) ∷ [])) }
 {
-    put_numbers_line(
-        out,
-        keyword,
-        &[i128::from(pair.0), i128::from(pair.1), weight],
-    )
+    out.extend_from_slice(keyword)?;
+    put_number_word(out, i128::from(pair.0))?;
+    put_number_word(out, i128::from(pair.1))?;
+    put_weight_word(out, weight)?;
+    out.push(b'\n')?;
+    Ok(())
 }
 
 /// Appends a line of this keyword for each pair of numbers with its weight.
@@ -232,7 +235,7 @@ fn put_weighted_lines(
     out: &mut Vec<u8>,
     keyword: &[u8],
     pairs: &[(u32, u32)],
-    weights: &[i128],
+    weights: &[Weight],
 ) -> Result<(), AllocError>
     ensures { OnOk result (out.new.items ≡ out.old.items
         ++ text_of (map (weighted_line keyword.now) (zip pairs.now weights.now))) }
@@ -248,20 +251,17 @@ fn put_coloured_edge_line(
     out: &mut Vec<u8>,
     edge: (u32, u32),
     colour: u32,
-    weight: i128,
+    weight: Weight,
 ) -> Result<(), AllocError>
     ensures { OnOk result (out.new.items ≡ out.old.items ++ text_of (coloured_edge_line (edge, (colour, weight)) ∷ [])) }
 {
-    put_numbers_line(
-        out,
-        b"edge",
-        &[
-            i128::from(edge.0),
-            i128::from(edge.1),
-            i128::from(colour),
-            weight,
-        ],
-    )
+    out.extend_from_slice(b"edge")?;
+    put_number_word(out, i128::from(edge.0))?;
+    put_number_word(out, i128::from(edge.1))?;
+    put_number_word(out, i128::from(colour))?;
+    put_weight_word(out, weight)?;
+    out.push(b'\n')?;
+    Ok(())
 }
 
 /// Appends a line for each edge with its colour and its weight.
@@ -269,7 +269,7 @@ fn put_coloured_edge_lines(
     out: &mut Vec<u8>,
     edges: &[(u32, u32)],
     colour_of: &[u32],
-    weights: &[i128],
+    weights: &[Weight],
 ) -> Result<(), AllocError>
     ensures { OnOk result (out.new.items ≡ out.old.items
         ++ text_of (map coloured_edge_line (zip edges.now (zip colour_of.now weights.now)))) }
@@ -283,7 +283,7 @@ fn put_coloured_edge_lines(
 /// Appends the lines of two weighted matroids.
 fn put_pair(
     out: &mut Vec<u8>,
-    weights: &[i128],
+    weights: &[Weight],
     first: &AnyMatroid,
     second: &AnyMatroid,
 ) -> Result<(), AllocError>
@@ -291,14 +291,18 @@ fn put_pair(
         ++ text_of (form_lines (pair weights.now (tree_of first.now) (tree_of second.now)))) }
 {
     put_numbers_line(out, b"pair", &[weights.len() as i128])?;
-    put_numbers_line(out, b"weights", weights)?;
+    put_weights_line(out, b"weights", weights)?;
     put_matroid(out, first)?;
     put_matroid(out, second)?;
     Ok(())
 }
 
 /// Appends the lines of a list of weighted matroids.
-fn put_list(out: &mut Vec<u8>, weights: &[i128], matroids: &[AnyMatroid]) -> Result<(), AllocError>
+fn put_list(
+    out: &mut Vec<u8>,
+    weights: &[Weight],
+    matroids: &[AnyMatroid],
+) -> Result<(), AllocError>
     ensures { OnOk result (out.new.items ≡ out.old.items
         ++ text_of (form_lines (list weights.now (map tree_of matroids.now)))) }
 {
@@ -307,7 +311,7 @@ fn put_list(out: &mut Vec<u8>, weights: &[i128], matroids: &[AnyMatroid]) -> Res
         b"list",
         &[weights.len() as i128, matroids.len() as i128],
     )?;
-    put_numbers_line(out, b"weights", weights)?;
+    put_weights_line(out, b"weights", weights)?;
     put_matroids(out, matroids)?;
     Ok(())
 }
@@ -327,7 +331,7 @@ fn put_rooted(
     vertices: u32,
     root: u32,
     arcs: &[(u32, u32)],
-    costs: &[i128],
+    costs: &[Weight],
 ) -> Result<(), AllocError>
     ensures { OnOk result (out.new.items ≡ out.old.items
         ++ text_of (form_lines (rooted vertices root arcs.now costs.now))) }
@@ -348,7 +352,7 @@ fn put_coloured(
     colours: u32,
     edges: &[(u32, u32)],
     colour_of: &[u32],
-    weights: &[i128],
+    weights: &[Weight],
 ) -> Result<(), AllocError>
     ensures { OnOk result (out.new.items ≡ out.old.items
         ++ text_of (form_lines (coloured vertices colours edges.now colour_of.now weights.now))) }
@@ -372,7 +376,7 @@ fn put_table(
     rows: u32,
     columns: u32,
     cells: &[(u32, u32)],
-    weights: &[i128],
+    weights: &[Weight],
 ) -> Result<(), AllocError>
     ensures { OnOk result (out.new.items ≡ out.old.items
         ++ text_of (form_lines (table rows columns cells.now weights.now))) }

@@ -1,5 +1,7 @@
 -- Digits read from the left, as far as a bound, and digits written from the right, one at a time.
-use Rattle.std.proofs.Common.{◌≡◌, ℕ, zero, suc, ◌+◌, ◌-◌, ◌*◌, ◌/◌, ◌%◌, ◌^◌, ◌<◌, ◌≤◌, min, List, [], ◌∷◌, ◌++◌, map, length, get_or, take, drop, set, refl, ap, ◌∙◌, arith, pos, negsuc, neg_ℤ}
+use Rattle.std.proofs.Common.{◌≡◌, ℕ, zero, suc, ◌+◌, ◌-◌, ◌*◌, ◌/◌, ◌%◌, ◌^◌, ◌<◌, ◌≤◌}
+use Rattle.std.proofs.Common.{min, List, [], ◌∷◌, ◌++◌, map, length, get_or, take, drop, set, refl, ap, ◌∙◌}
+use Rattle.std.proofs.Common.{arith}
 use Rattle.std.specs.Int.Digits.{number_from_digits, digits_of}
 use Rattle.std.proofs.lemmas.List.{take_more, take_all, map_push, drop-set, append_assoc, drop_all, append-nil}
 use Rattle.std.proofs.lemmas.Int.Digits.{number_push, number_after_ge, digits_of_step}
@@ -18,7 +20,8 @@ capped : (v d : ℕ) → min (min v magnitude_bound * 10 + d) magnitude_bound �
 capped v d = omega arith
 
 -- the same, as far as the bound
-pub value_step : (cs : List ℕ) (i n : ℕ) → i < length cs → n ≡ min (value_of (take i cs)) magnitude_bound → min (n * 10 + (get_or cs i 0 - 48)) magnitude_bound ≡ min (value_of (take (i + 1) cs)) magnitude_bound
+pub value_step : (cs : List ℕ) (i n : ℕ) → i < length cs → n ≡ min (value_of (take i cs)) magnitude_bound
+    → min (n * 10 + (get_or cs i 0 - 48)) magnitude_bound ≡ min (value_of (take (i + 1) cs)) magnitude_bound
 value_step cs i n lt e = rw (e, value_more cs i lt) (capped (value_of (take i cs)) (get_or cs i 0 - 48))
 
 -- digits of which the first isn't `0` stand for no 0
@@ -29,15 +32,11 @@ first_counts (c ∷ cs) some first =
     omega arith
 
 -- nor do they where the value is cut at the bound
-pub counted : (cs : List ℕ) (i n : ℕ) → length cs ≤ i → 0 < length cs → 49 ≤ get_or cs 0 0 → n ≡ min (value_of (take i cs)) magnitude_bound → 0 < n
+pub counted : (cs : List ℕ) (i n : ℕ) → length cs ≤ i → 0 < length cs → 49 ≤ get_or cs 0 0
+    → n ≡ min (value_of (take i cs)) magnitude_bound → 0 < n
 counted cs i n past some first e =
     let whole : n ≡ min (value_of cs) magnitude_bound = e ∙ ap (λ (t : List ℕ). min (value_of t) magnitude_bound) (take_all i cs past) in
     omega (arith, first_counts cs some first)
-
--- the number -n, as the code makes it
-pub negated_is : (n : ℕ) → 0 < n → neg_ℤ (pos n) ≡ negsuc (n - 1)
-negated_is zero some = absurd (omega arith)
-negated_is (suc n) some = ap negsuc (omega arith)
 
 -- the digits of `left` are still to be written before the place `at`, and then those of n stand before the tail, which begins at `end`
 pub record IsPartWritten (n left at end : ℕ) (buffer tail : List ℕ) : Type 0 where
@@ -62,7 +61,8 @@ room_left left (suc (suc k)) some small =
 
 -- the digits of a number are those of its tenth and its last digit
 decimal_step : (left : ℕ) → 0 < left → decimal left ≡ decimal (left / 10) ++ (48 + left % 10) ∷ []
-decimal_step left some = ap (map (λ d. 48 + d)) (digits_of_step 10 left (omega arith) some) ∙ map_push (λ d. 48 + d) (digits_of 10 (left / 10)) (left % 10)
+decimal_step left some = ap (map (λ d. 48 + d)) (digits_of_step 10 left (omega arith) some)
+    ∙ map_push (λ d. 48 + d) (digits_of 10 (left / 10)) (left % 10)
 
 -- the last digit that is left is written before the digits so far
 pub digit_written : (n left at end : ℕ) (buffer tail : List ℕ) → 0 < left → end ≤ length buffer → IsPartWritten n left at end buffer tail
@@ -71,10 +71,12 @@ digit_written n left at end buffer tail some inside so_far =
     let some_room : 0 < at = so_far.room in
     let before_end : at ≤ end = so_far.within in
     let room = room_left left at some so_far.small in
-    let here : drop (at - 1) (set buffer (at - 1) (48 + left % 10)) ≡ (48 + left % 10) ∷ drop (at - 1 + 1) buffer = drop-set buffer (at - 1) (48 + left % 10) (omega arith) in
+    let here : drop (at - 1) (set buffer (at - 1) (48 + left % 10)) ≡ (48 + left % 10) ∷ drop (at - 1 + 1) buffer =
+    drop-set buffer (at - 1) (48 + left % 10) (omega arith) in
     let back : at - 1 + 1 ≡ at = omega arith in
     record {
-      digits = so_far.digits ∙ ap (λ (t : List ℕ). t ++ drop at buffer) (decimal_step left some) ∙ append_assoc (decimal (left / 10)) ((48 + left % 10) ∷ []) (drop at buffer) ∙ rw (here, back) refl;
+      digits = so_far.digits ∙ ap (λ (t : List ℕ). t ++ drop at buffer) (decimal_step left some)
+          ∙ append_assoc (decimal (left / 10)) ((48 + left % 10) ∷ []) (drop at buffer) ∙ rw (here, back) refl;
       room = room.0;
       within = omega arith;
       small = room.1;

@@ -3,4 +3,10 @@ pub mod LineLemmas
 pub mod WordLemmas
 pub mod DigitLemmas
 pub mod NumberLemmas
+pub mod WeightLemmas
 pub mod WrittenLines
+pub mod ReadingSteps
+pub mod Repeats
+pub mod Closing
+pub mod WordReading
+pub mod LineReading

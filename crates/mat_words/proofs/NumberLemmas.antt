@@ -1,6 +1,9 @@
 -- Each number has one spelling: digits of which the first isn't `0` are the digits of what they stand for, since each further digit is the
 -- last one of ten times the value so far and the digit; and the digits of a number stand for it.
-use Rattle.std.proofs.Common.{◌≡◌, ℕ, zero, suc, ◌+◌, ◌-◌, ◌*◌, ◌/◌, ◌%◌, ◌<◌, ◌≤◌, Bool, true, false, ◌&&◌, cond, eqb, leb, List, [], ◌∷◌, ◌++◌, map, length, get_or, take, refl, sym, ap, subst, inl, inr, ◌∙◌, arith, Option, Some, None, Result, Ok, Err, ℤ, pos, negsuc, neg_ℤ}
+use Rattle.std.proofs.Common.{◌≡◌, ℕ, zero, suc, ◌+◌, ◌-◌, ◌*◌, ◌/◌, ◌%◌, ◌<◌, ◌≤◌, Bool}
+use Rattle.std.proofs.Common.{true, false, cond, eqb, leb, List, [], ◌∷◌, ◌++◌, map, length, get_or, take}
+use Rattle.std.proofs.Common.{refl, sym, ap, subst, inl, inr, ◌∙◌, arith, Option, Some, None, Result, Ok, Err, ℤ, pos}
+use Rattle.std.proofs.Common.{negsuc, neg_ℤ}
 use Rattle.std.specs.Prelude.{int_le, ◌≤ℤ◌, ◌↔◌}
 use Rattle.std.proofs.lemmas.Int.{ints}
 use Rattle.mat_words.specs.declared.numbers.NumberFault.{NumberFault}
@@ -10,12 +13,12 @@ use Rattle.std.specs.Int.Digits.{digits_of, number_from_digits, AllBelowBase}
 use Rattle.std.proofs.lemmas.List.{take_more, take_all, map_push, get_or-take, length-take, nil_from_length}
 use Rattle.std.proofs.lemmas.Int.Digits.{digits_of_step, number_digits_of, first_digits_of, all_below_base_digits_of}
 use Rattle.std.proofs.lemmas.Bool.{le-leb, leb-true, and_parts, and_from, eqb-true, eq-eqb, ne_eqb, cases_eq}
-use Rattle.mat_words.specs.Numbers.{numeral, is_digit, is_counting, decimal, value_of, number_of, number_in, in_range}
+use Rattle.mat_words.specs.Numbers.{numeral, is_digit, is_counting, decimal, value_of, number_of, number_in, IsBetween, is_between, ranged}
 use Rattle.mat_words.specs.Words.{is_letter, is_word}
 use Rattle.mat_words.proofs.DigitLemmas.{value_more, first_counts}
 
 -- digits as bytes
-abbrev digit_bytes : List ℕ → List ℕ
+abbrev pub digit_bytes : List ℕ → List ℕ
 digit_bytes ds = map (λ d. 48 + d) ds
 
 -- what the test of a digit says
@@ -42,7 +45,8 @@ next_digit cs i lt low high some so_far =
     ap digit_bytes digits ∙ map_push (λ d. 48 + d) (digits_of 10 v) (c - 48) ∙ rw (so_far, back) (sym (take_more cs i 0 lt))
 
 -- the first i digits are the digits of what they stand for
-front_again : (cs : List ℕ) → list_all is_digit cs ≡ true → 49 ≤ get_or cs 0 0 → (i : ℕ) → i ≤ length cs → decimal (value_of (take i cs)) ≡ take i cs
+front_again : (cs : List ℕ) → list_all is_digit cs ≡ true → 49 ≤ get_or cs 0 0 → (i : ℕ) → i ≤ length cs
+    → decimal (value_of (take i cs)) ≡ take i cs
 front_again cs all first zero le = refl
 front_again cs all first (suc i) le =
     let b = digit_at cs i all (omega arith) in
@@ -70,12 +74,15 @@ digit_bytes_value (d ∷ ds) = let e : 48 + d - 48 ≡ d = omega arith in rw (e,
 
 digit_bytes_digits : (ds : List ℕ) → AllBelowBase 10 ds → list_all is_digit (digit_bytes ds) ≡ true
 digit_bytes_digits [] h = refl
-digit_bytes_digits (d ∷ ds) h = and_from (is_digit (48 + d)) (list_all is_digit (digit_bytes ds)) (and_from (leb 48 (48 + d)) (leb (48 + d) 57) (le-leb 48 (48 + d) (omega arith)) (le-leb (48 + d) 57 (omega (arith, h.0)))) (digit_bytes_digits ds h.1)
+digit_bytes_digits (d ∷ ds) h = and_from (is_digit (48 + d)) (list_all is_digit (digit_bytes ds))
+    (and_from (leb 48 (48 + d)) (leb (48 + d) 57) (le-leb 48 (48 + d) (omega arith)) (le-leb (48 + d) 57 (omega (arith, h.0))))
+    (digit_bytes_digits ds h.1)
 
 -- digits of which the first isn't 0 are a counting number
 counting_from : (ds : List ℕ) → AllBelowBase 10 ds → 0 < get_or ds 0 0 → is_counting (digit_bytes ds) ≡ true
 counting_from [] h some = absurd (omega arith)
-counting_from (d ∷ ds) h some = and_from (leb 49 (48 + d)) (list_all is_digit (digit_bytes (d ∷ ds))) (le-leb 49 (48 + d) (omega arith)) (digit_bytes_digits (d ∷ ds) h)
+counting_from (d ∷ ds) h some = and_from (leb 49 (48 + d)) (list_all is_digit (digit_bytes (d ∷ ds))) (le-leb 49 (48 + d) (omega arith))
+    (digit_bytes_digits (d ∷ ds) h)
 
 -- and the digits of a number stand for it
 pub digits_again : (n : ℕ) → 0 < n → (is_counting (decimal n) ≡ true) × (value_of (decimal n) ≡ n)
@@ -145,7 +152,9 @@ read_again (negsuc n) = let p = digits_again (suc n) (omega arith) in rw (p.0, p
 -- the digits of a number that isn't 0 are a word
 digits_letters : (ds : List ℕ) → AllBelowBase 10 ds → list_all is_letter (digit_bytes ds) ≡ true
 digits_letters [] h = refl
-digits_letters (d ∷ ds) h = and_from (is_letter (48 + d)) (list_all is_letter (digit_bytes ds)) (and_from (leb 33 (48 + d)) (leb (48 + d) 126) (le-leb 33 (48 + d) (omega arith)) (le-leb (48 + d) 126 (omega (arith, h.0)))) (digits_letters ds h.1)
+digits_letters (d ∷ ds) h = and_from (is_letter (48 + d)) (list_all is_letter (digit_bytes ds))
+    (and_from (leb 33 (48 + d)) (leb (48 + d) 126) (le-leb 33 (48 + d) (omega arith)) (le-leb (48 + d) 126 (omega (arith, h.0))))
+    (digits_letters ds h.1)
 
 digits_word : (ds : List ℕ) → 0 < get_or ds 0 0 → AllBelowBase 10 ds → is_word (digit_bytes ds) ≡ true
 digits_word [] some h = absurd (omega arith)
@@ -154,38 +163,49 @@ digits_word (d ∷ ds) some h = digits_letters (d ∷ ds) h
 -- a numeral is a word
 pub numeral_word : (z : ℤ) → is_word (numeral z) ≡ true
 numeral_word (pos zero) = refl
-numeral_word (pos (suc n)) = digits_word (digits_of 10 (suc n)) (first_digits_of 10 (suc n) (omega arith) (omega arith)) (all_below_base_digits_of 10 (suc n) (omega arith))
+numeral_word (pos (suc n)) = digits_word (digits_of 10 (suc n)) (first_digits_of 10 (suc n) (omega arith) (omega arith))
+    (all_below_base_digits_of 10 (suc n) (omega arith))
 numeral_word (negsuc n) = digits_letters (digits_of 10 (suc n)) (all_below_base_digits_of 10 (suc n) (omega arith))
 
-abbrev number_answer : ℤ → Result ℤ NumberFault
-number_answer z = Ok z
+abbrev found : {A : Type 0} → A → Result A NumberFault
+found x = Ok x
 
-chosen : (b : Bool) (y z : ℤ) (fault : NumberFault) → cond b (number_answer y) (Err fault) ≡ number_answer z → (b ≡ true) × (y ≡ z)
-chosen true y z fault e = (refl, cc)
-chosen false y z fault e = absurd cc
+chosen : {A : Type 0} (b : Bool) (y x : A) (fault : NumberFault) → cond b (found y) (Err fault) ≡ found x → (b ≡ true) × (y ≡ x)
+chosen true y x fault e = (refl, cc)
+chosen false y x fault e = absurd cc
 
--- an answer in a range is the number itself
-in_range_ok : (low high : ℤ) (o : Option ℤ) (z : ℤ) → in_range low high o ≡ Ok z → (o ≡ Some z) × (low ≤ℤ z) × (z ≤ℤ high)
-in_range_ok low high None z e = absurd cc
-in_range_ok low high (Some y) z e =
-    let p = chosen (int_le low y && int_le y high) y z Range e in
-    let q = and_parts (int_le low y) (int_le y high) p.0 in
-    let same : y ≡ z = p.1 in
-    let least : low ≤ℤ y = grind (arith, ints, q.0) in
-    let most : y ≤ℤ high = grind (arith, ints, q.1) in
-    (ap (λ (x : ℤ). Some x) same, subst (λ (x : ℤ). low ≤ℤ x) same least, subst (λ (x : ℤ). x ≤ℤ high) same most)
+-- an answer that has to pass a test is what was given, and passes it
+pub ranged_ok : {A : Type 0} (test : A → Bool) (o : Option A) (x : A) → ranged test o ≡ found x → (o ≡ Some x) × (test x ≡ true)
+ranged_ok test None x e = absurd cc
+ranged_ok {A} test (Some y) x e =
+    let p = chosen (test y) y x Range e in
+    (ap (λ (z : A). Some z) p.1, subst (λ (z : A). test z ≡ true) p.1 p.0)
+
+-- what the test of a range says
+pub between_gives : (low high z : ℤ) → is_between low high z ≡ true → IsBetween low high z
+between_gives low high z h =
+    let q = and_parts (int_le low z) (int_le z high) h in
+    (grind (arith, ints, q.0), grind (arith, ints, q.1))
+
+pub between_from : (low high z : ℤ) → IsBetween low high z → is_between low high z ≡ true
+between_from low high z h =
+    let a : int_le low z ≡ true = grind (arith, ints, h.0) in
+    let b : int_le z high ≡ true = grind (arith, ints, h.1) in
+    rw (a, b) refl
 
 -- what is read as a number in a range is its numeral
-pub number_taken : (low high : ℤ) (word : List ℕ) (z : ℤ) → number_in low high word ≡ Ok z → (word ≡ numeral z) × (low ≤ℤ z) × (z ≤ℤ high)
-number_taken low high word z e = let p = in_range_ok low high (number_of word) z e in (spelled word z p.0, p.1, p.2)
+pub number_taken : (low high : ℤ) (word : List ℕ) (z : ℤ) → number_in low high word ≡ Ok z → (word ≡ numeral z) × (low ≤ℤ z)
+    × (z ≤ℤ high)
+number_taken low high word z e =
+    let p = ranged_ok (is_between low high) (number_of word) z e in
+    let q = between_gives low high z p.1 in
+    (spelled word z p.0, q.0, q.1)
 
 -- the numeral of a number in a range is read as that number
 pub number_again : (low high z : ℤ) → low ≤ℤ z → z ≤ℤ high → number_in low high (numeral z) ≡ Ok z
-number_again low high z least most =
-    let a : int_le low z ≡ true = grind (arith, ints) in
-    let b : int_le z high ≡ true = grind (arith, ints) in
-    rw (read_again z, a, b) refl
+number_again low high z least most = rw (read_again z, between_from low high z (least, most)) refl
 
 -- a word is read as a number in a range exactly where it is its numeral and the range holds it
-pub number_exact : (low high z : ℤ) (word : List ℕ) → (number_in low high word ≡ Ok z) ↔ ((word ≡ numeral z) × (low ≤ℤ z) × (z ≤ℤ high))
+pub number_exact : (low high z : ℤ) (word : List ℕ)
+    → (number_in low high word ≡ Ok z) ↔ ((word ≡ numeral z) × (low ≤ℤ z) × (z ≤ℤ high))
 number_exact low high z word = (number_taken low high word z, λ p. ap (number_in low high) p.0 ∙ number_again low high z p.1 p.2)

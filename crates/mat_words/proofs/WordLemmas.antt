@@ -1,6 +1,8 @@
 -- The words of a line: the test of a well spaced line as one walk from left to right, the sentence that it decides, and lines that are
 -- joined from words. The walk's state says whether a word is to begin at the next byte.
-use Rattle.std.proofs.Common.{◌≡◌, ◌≢◌, ℕ, zero, suc, ◌+◌, ◌-◌, ◌<◌, ◌≤◌, Bool, true, false, ◌&&◌, not, cond, eqb, leb, List, [], ◌∷◌, ◌++◌, length, get_or, drop, refl, sym, ap, subst, inl, inr, ◌∙◌, arith, zero-add, Option, Some, None}
+use Rattle.std.proofs.Common.{◌≡◌, ◌≢◌, ℕ, zero, suc, ◌+◌, ◌-◌, ◌<◌, ◌≤◌, Bool, true, false}
+use Rattle.std.proofs.Common.{◌&&◌, not, cond, eqb, leb, List, [], ◌∷◌, ◌++◌, length, get_or, drop, refl, sym, ap}
+use Rattle.std.proofs.Common.{subst, inl, inr, ◌∙◌, arith, zero-add, Option, Some, None}
 use Rattle.std.specs.List.{onto_first, list_all, join_with_byte, AllByRecursion, slice_get}
 use Rattle.std.specs.Option.{MatchOption}
 use Rattle.std.proofs.lemmas.Bool.{ne_eqb, eq-eqb, cases_eq, and_parts, and_from, leb-true, le-leb}
@@ -45,7 +47,8 @@ spaced_step false b start rest x y p q = ap (λ (v : Bool). is_letter b && v) q 
 pub spaced_is : (start : Bool) (bs : List ℕ) → spaced_from start bs ≡ goes_on start (parts_of bs)
 spaced_is true [] = refl
 spaced_is false [] = refl
-spaced_is start (b ∷ bs) = spaced_step (is_space b) b start (parts_of bs) (spaced_from true bs) (spaced_from false bs) (spaced_is true bs) (spaced_is false bs)
+spaced_is start (b ∷ bs) = spaced_step (is_space b) b start (parts_of bs) (spaced_from true bs) (spaced_from false bs) (spaced_is true bs)
+    (spaced_is false bs)
 
 -- the walk over a whole line is the test
 well_spaced_is : (line : List ℕ) → 0 < length line → spaced_from true line ≡ is_well_spaced line
@@ -53,14 +56,16 @@ well_spaced_is [] lt = absurd (omega arith)
 well_spaced_is (b ∷ bs) lt = spaced_is true (b ∷ bs) ∙ goes_on-true (parts_of (b ∷ bs))
 
 -- no word ends here
-pub stops_at_space : (line : List ℕ) (i : ℕ) → i < length line → get_or line i 0 ≡ 32 → spaced_from true (drop i line) ≡ spaced_from true line → false ≡ is_well_spaced line
+pub stops_at_space : (line : List ℕ) (i : ℕ) → i < length line → get_or line i 0 ≡ 32
+    → spaced_from true (drop i line) ≡ spaced_from true line → false ≡ is_well_spaced line
 stops_at_space line i lt here so_far =
     let cut : drop i line ≡ get_or line i 0 ∷ drop (i + 1) line = drop_more line i 0 lt in
     let one : spaced_from true (drop i line) ≡ false = rw (cut, here) refl in
     sym one ∙ so_far ∙ well_spaced_is line (omega arith)
 
 -- a byte that stands in no word
-pub stops_at_other : (line : List ℕ) (i : ℕ) (start : Bool) → i < length line → get_or line i 0 ≢ 32 → is_letter (get_or line i 0) ≡ false
+pub stops_at_other : (line : List ℕ) (i : ℕ) (start : Bool) → i < length line → get_or line i 0 ≢ 32
+    → is_letter (get_or line i 0) ≡ false
     → spaced_from start (drop i line) ≡ spaced_from true line → false ≡ is_well_spaced line
 stops_at_other line i start lt space letter so_far =
     let cut : drop i line ≡ get_or line i 0 ∷ drop (i + 1) line = drop_more line i 0 lt in
@@ -69,7 +74,8 @@ stops_at_other line i start lt space letter so_far =
     sym one ∙ so_far ∙ well_spaced_is line (omega arith)
 
 -- at the end of the line
-pub at_line_end : (line : List ℕ) (i : ℕ) (start : Bool) → length line ≤ i → spaced_from start (drop i line) ≡ spaced_from true line → cond start (eqb (length line) 0) true ≡ is_well_spaced line
+pub at_line_end : (line : List ℕ) (i : ℕ) (start : Bool) → length line ≤ i → spaced_from start (drop i line) ≡ spaced_from true line
+    → cond start (eqb (length line) 0) true ≡ is_well_spaced line
 at_line_end [] i true le so_far = refl
 at_line_end [] i false le so_far = refl
 at_line_end (b ∷ bs) i true le so_far =
@@ -102,22 +108,26 @@ parts_again w [] h =
     slice_split_none is_space w (All-from_recursion (λ x. is_space x ≡ false) w (letters_apart 32 (omega arith) w (word_letters w p.0)))
 parts_again w (v ∷ vs) h =
     let p = and_parts (is_word w) (list_all is_word (v ∷ vs)) h in
-    slice_split_at is_space w 32 (join_with_byte 32 (v ∷ vs)) (All-from_recursion (λ x. is_space x ≡ false) w (letters_apart 32 (omega arith) w (word_letters w p.0))) refl
+    slice_split_at is_space w 32 (join_with_byte 32 (v ∷ vs))
+    (All-from_recursion (λ x. is_space x ≡ false) w (letters_apart 32 (omega arith) w (word_letters w p.0))) refl
     ∙ ap (λ (t : List (List ℕ)). w ∷ t) (parts_again v vs p.1)
 
 -- the words of a line that is joined from words are those words, and it isn't empty
-pub words_again : (w : List ℕ) (ws : List (List ℕ)) → list_all is_word (w ∷ ws) ≡ true → (words_of (join_with_byte 32 (w ∷ ws)) ≡ w ∷ ws) × (0 < length (join_with_byte 32 (w ∷ ws)))
+pub words_again : (w : List ℕ) (ws : List (List ℕ)) → list_all is_word (w ∷ ws) ≡ true
+    → (words_of (join_with_byte 32 (w ∷ ws)) ≡ w ∷ ws) × (0 < length (join_with_byte 32 (w ∷ ws)))
 words_again [] ws h = absurd cc
 words_again (b ∷ bs) [] h = (parts_again (b ∷ bs) [] h, omega arith)
 words_again (b ∷ bs) (v ∷ vs) h = (parts_again (b ∷ bs) (v ∷ vs) h, omega arith)
 
 -- what stands in neither of two lists stands in none of their join
-apart_append : (xs ys : List ℕ) → AllByRecursion (λ x. eqb x 10 ≡ false) xs → AllByRecursion (λ x. eqb x 10 ≡ false) ys → AllByRecursion (λ x. eqb x 10 ≡ false) (xs ++ ys)
+apart_append : (xs ys : List ℕ) → AllByRecursion (λ x. eqb x 10 ≡ false) xs → AllByRecursion (λ x. eqb x 10 ≡ false) ys
+    → AllByRecursion (λ x. eqb x 10 ≡ false) (xs ++ ys)
 apart_append [] ys p q = q
 apart_append (x ∷ xs) ys p q = (p.0, apart_append xs ys p.1 q)
 
 -- no byte 10 stands in a line that is joined from words
-joined_apart : (w : List ℕ) (ws : List (List ℕ)) → list_all is_word (w ∷ ws) ≡ true → AllByRecursion (λ x. eqb x 10 ≡ false) (join_with_byte 32 (w ∷ ws))
+joined_apart : (w : List ℕ) (ws : List (List ℕ)) → list_all is_word (w ∷ ws) ≡ true
+    → AllByRecursion (λ x. eqb x 10 ≡ false) (join_with_byte 32 (w ∷ ws))
 joined_apart w [] h = letters_apart 10 (omega arith) w (word_letters w (and_parts (is_word w) true h).0)
 joined_apart w (v ∷ vs) h =
     let p = and_parts (is_word w) (list_all is_word (v ∷ vs)) h in
@@ -130,7 +140,8 @@ no_newline (x ∷ xs) h = (λ e. absurd (cc (eq-eqb x 10 e, h.0)), no_newline xs
 
 -- the same, in the words of the law
 pub joined_no_newline : (w : List ℕ) (ws : List (List ℕ)) → list_all is_word (w ∷ ws) ≡ true → HasNoNewline (join_with_byte 32 (w ∷ ws))
-joined_no_newline w ws h = All-from_recursion (λ x. x ≢ 10) (join_with_byte 32 (w ∷ ws)) (no_newline (join_with_byte 32 (w ∷ ws)) (joined_apart w ws h))
+joined_no_newline w ws h = All-from_recursion (λ x. x ≢ 10) (join_with_byte 32 (w ∷ ws))
+    (no_newline (join_with_byte 32 (w ∷ ws)) (joined_apart w ws h))
 
 -- a line is its words, joined
 pub joined_words : (line : List ℕ) → join_with_byte 32 (words_of line) ≡ line
@@ -138,12 +149,14 @@ joined_words [] = refl
 joined_words (b ∷ bs) = join_with_byte-slice_split 32 (b ∷ bs)
 
 -- a line that is joined from words is well spaced
-pub joined_well_spaced : (w : List ℕ) (ws : List (List ℕ)) → list_all is_word (w ∷ ws) ≡ true → is_well_spaced (join_with_byte 32 (w ∷ ws)) ≡ true
+pub joined_well_spaced : (w : List ℕ) (ws : List (List ℕ)) → list_all is_word (w ∷ ws) ≡ true
+    → is_well_spaced (join_with_byte 32 (w ∷ ws)) ≡ true
 joined_well_spaced w ws h = rw (words_again w ws h).0 h
 
 -- what holds of a line that is joined from one or more words
 pub joined_laws : (words : List (List ℕ)) → 0 < length words → list_all is_word words ≡ true
-    → (words_of (join_with_byte 32 words) ≡ words) × (0 < length (join_with_byte 32 words)) × (is_well_spaced (join_with_byte 32 words) ≡ true) × HasNoNewline (join_with_byte 32 words)
+    → (words_of (join_with_byte 32 words) ≡ words) × (0 < length (join_with_byte 32 words))
+    × (is_well_spaced (join_with_byte 32 words) ≡ true) × HasNoNewline (join_with_byte 32 words)
 joined_laws [] some h = absurd (omega arith)
 joined_laws (w ∷ ws) some h = ((words_again w ws h).0, (words_again w ws h).1, joined_well_spaced w ws h, joined_no_newline w ws h)
 
@@ -165,21 +178,27 @@ at_each P here after (suc k) = after k
 -- the last byte, with a byte put before
 last_on : (b : ℕ) (bs : List ℕ) → 0 < length bs → get_or (b ∷ bs) (length (b ∷ bs) - 1) 0 ≡ get_or bs (length bs - 1) 0
 last_on b [] some = absurd (omega arith)
-last_on b (c ∷ cs) some = let e : length (b ∷ c ∷ cs) - 1 ≡ suc (length (c ∷ cs) - 1) = omega arith in ap (λ (k : ℕ). get_or (b ∷ c ∷ cs) k 0) e
+last_on b (c ∷ cs) some =
+    let e : length (b ∷ c ∷ cs) - 1 ≡ suc (length (c ∷ cs) - 1) = omega arith in
+    ap (λ (k : ℕ). get_or (b ∷ c ∷ cs) k 0) e
 
 -- it is no space where neither a lone byte nor the last of the others is
-last_of : (b : ℕ) (bs : List ℕ) → (length bs ≡ 0 → b ≢ 32) → (0 < length bs → get_or bs (length bs - 1) 0 ≢ 32) → get_or (b ∷ bs) (length (b ∷ bs) - 1) 0 ≢ 32
+last_of : (b : ℕ) (bs : List ℕ) → (length bs ≡ 0 → b ≢ 32) → (0 < length bs → get_or bs (length bs - 1) 0 ≢ 32)
+    → get_or (b ∷ bs) (length (b ∷ bs) - 1) 0 ≢ 32
 last_of b [] alone more = alone refl
 last_of b (c ∷ cs) alone more = λ e. more (omega arith) (sym (last_on b (c ∷ cs) (omega arith)) ∙ e)
 
 -- a byte before what is left
-said_before : (start next : Bool) (b : ℕ) (bs : List ℕ) → IsSpacedFrom next bs → 32 ≤ b → b ≤ 126 → (start ≡ true → b ≢ 32) → (length bs ≡ 0 → b ≢ 32) → (b ≡ 32 → next ≡ true) → IsSpacedFrom start (b ∷ bs)
+said_before : (start next : Bool) (b : ℕ) (bs : List ℕ) → IsSpacedFrom next bs → 32 ≤ b → b ≤ 126 → (start ≡ true → b ≢ 32)
+    → (length bs ≡ 0 → b ≢ 32) → (b ≡ 32 → next ≡ true) → IsSpacedFrom start (b ∷ bs)
 said_before start next b bs rest low high first alone space = record {
-  printable = at_each (λ k. k < length (b ∷ bs) → (32 ≤ get_or (b ∷ bs) k 0) × (get_or (b ∷ bs) k 0 ≤ 126)) (λ lt. (low, high)) (λ k lt. rest.printable k (omega arith));
+  printable = at_each (λ k. k < length (b ∷ bs) → (32 ≤ get_or (b ∷ bs) k 0) × (get_or (b ∷ bs) k 0 ≤ 126)) (λ lt. (low, high))
+      (λ k lt. rest.printable k (omega arith));
   some = λ e. omega arith;
   first = first;
   last = λ lt. last_of b bs alone rest.last;
-  single = at_each (λ k. suc k < length (b ∷ bs) → get_or (b ∷ bs) k 0 ≡ 32 → get_or (b ∷ bs) (suc k) 0 ≢ 32) (λ lt e. rest.first (space e)) (λ k lt e. rest.single k (omega arith) e);
+  single = at_each (λ k. suc k < length (b ∷ bs) → get_or (b ∷ bs) k 0 ≡ 32 → get_or (b ∷ bs) (suc k) 0 ≢ 32)
+      (λ lt e. rest.first (space e)) (λ k lt e. rest.single k (omega arith) e);
 }
 
 -- no word is to begin where the walk went on over a space
@@ -206,11 +225,13 @@ walk_says start (b ∷ bs) h =
       | inl e ↦
           let p = and_parts (not start) (spaced_from true bs) (rw (eq-eqb b 32 e) at h) in
           let rest = walk_says true bs p.1 in
-          said_before start true b bs rest (omega arith) (omega arith) (λ at_start. absurd (not_start start p.0 at_start)) (λ none. absurd (omega (arith, rest.some refl))) (λ space. refl)
+          said_before start true b bs rest (omega arith) (omega arith) (λ at_start. absurd (not_start start p.0 at_start))
+          (λ none. absurd (omega (arith, rest.some refl))) (λ space. refl)
       | inr ne ↦
           let p = and_parts (is_letter b) (spaced_from false bs) (rw (ne_eqb b 32 ne) at h) in
           let bounds = letter_bounds b p.0 in
-          said_before start false b bs (walk_says false bs p.1) (omega (arith, bounds.0)) bounds.1 (λ at_start. ne) (λ none. ne) (λ space. absurd (ne space))
+          said_before start false b bs (walk_says false bs p.1) (omega (arith, bounds.0)) bounds.1 (λ at_start. ne) (λ none. ne)
+          (λ space. absurd (ne space))
     ]
 
 -- what is left after a byte
@@ -241,11 +262,14 @@ walk_accepts true [] whole = absurd (omega (arith, whole.some refl))
 walk_accepts false [] whole = refl
 walk_accepts start (b ∷ bs) whole =
     elim (cases_eq b 32) [
-      | inl e ↦ rw (eq-eqb b 32 e) (and_from (not start) (spaced_from true bs) (no_start start (λ at_start. whole.first at_start e)) (walk_accepts true bs (said_after start true b bs whole (λ t. e))))
+      | inl e ↦ rw (eq-eqb b 32 e) (and_from (not start) (spaced_from true bs) (no_start start (λ at_start. whole.first at_start e))
+          (walk_accepts true bs (said_after start true b bs whole (λ t. e))))
       | inr ne ↦
           let bounds = whole.printable 0 (omega arith) in
           let low : 33 ≤ b = omega (arith, bounds.0) in
-          rw (ne_eqb b 32 ne) (and_from (is_letter b) (spaced_from false bs) (and_from (leb 33 b) (leb b 126) (le-leb 33 b low) (le-leb b 126 bounds.1)) (walk_accepts false bs (said_after start false b bs whole (λ t. absurd cc))))
+          rw (ne_eqb b 32 ne) (and_from (is_letter b) (spaced_from false bs)
+          (and_from (leb 33 b) (leb b 126) (le-leb 33 b low) (le-leb b 126 bounds.1))
+          (walk_accepts false bs (said_after start false b bs whole (λ t. absurd cc))))
     ]
 
 -- a well spaced line is as the sentence says
@@ -262,7 +286,8 @@ well_spaced_says (b ∷ bs) h =
       printable = whole.printable;
       first = λ lt. whole.first refl;
       last = whole.last;
-      single = λ k lt space. let e : suc k ≡ k + 1 = omega arith in subst (λ (j : ℕ). get_or (b ∷ bs) j 0 ≢ 32) e (whole.single k (omega arith) space);
+      single = λ k lt space. let e : suc k ≡ k + 1 =
+          omega arith in subst (λ (j : ℕ). get_or (b ∷ bs) j 0 ≢ 32) e (whole.single k (omega arith) space);
     }
 
 -- a line that is as the sentence says is well spaced
@@ -274,7 +299,8 @@ well_spaced_from (b ∷ bs) whole =
       some = λ e. omega arith;
       first = λ e. whole.first (omega arith);
       last = whole.last;
-      single = λ k lt space. let e : k + 1 ≡ suc k = omega arith in subst (λ (j : ℕ). get_or (b ∷ bs) j 0 ≢ 32) e (whole.single k (omega arith) space);
+      single = λ k lt space. let e : k + 1 ≡ suc k =
+          omega arith in subst (λ (j : ℕ). get_or (b ∷ bs) j 0 ≢ 32) e (whole.single k (omega arith) space);
     })
 
 -- ---- the word at a place
@@ -290,20 +316,25 @@ none_passed [] some = absurd (omega arith)
 none_passed (b ∷ bs) some = record { count = omega arith; same = λ j. rw zero-add refl }
 
 -- one more word is passed
-pub word_passed : (line rest w after : List ℕ) (k : ℕ) → parts_of rest ≡ w ∷ parts_of after → IsPassed line rest k → IsPassed line after (k + 1)
+pub word_passed : (line rest w after : List ℕ) (k : ℕ) → parts_of rest ≡ w ∷ parts_of after → IsPassed line rest k
+    → IsPassed line after (k + 1)
 word_passed line rest w after k e so_far = record {
   count = so_far.count ∙ rw e (omega arith);
   same = λ j. let shift : k + 1 + j ≡ k + suc j = omega arith in rw shift (so_far.same (suc j) ∙ rw e refl);
 }
 
 -- the rest is the last word
-pub last_passed : (line rest w : List ℕ) (k i : ℕ) → parts_of rest ≡ w ∷ [] → IsPassed line rest k → k < i → length (words_of line) ≤ i
+pub last_passed : (line rest w : List ℕ) (k i : ℕ) → parts_of rest ≡ w ∷ [] → IsPassed line rest k → k < i
+    → length (words_of line) ≤ i
 last_passed line rest w k i e so_far lt =
     let n : length (words_of line) ≡ k + 1 = so_far.count ∙ rw e refl in
     omega arith
 
 -- the first word of the rest is the k-th of the line
 pub word_found : {X : Type 0} (f : X → List ℕ) (o : Option X) (line rest w : List ℕ) (k i : ℕ)
-    → MatchOption o (parts_of rest ≡ w ∷ []) (λ x. parts_of rest ≡ w ∷ parts_of (f x)) → IsPassed line rest k → k ≡ i → slice_get (words_of line) i ≡ Some w
-word_found f None line rest w k i e so_far same = let at : k + 0 ≡ i = omega arith in sym (ap (slice_get (words_of line)) at) ∙ so_far.same 0 ∙ rw e refl
-word_found f (Some x) line rest w k i e so_far same = let at : k + 0 ≡ i = omega arith in sym (ap (slice_get (words_of line)) at) ∙ so_far.same 0 ∙ rw e refl
+    → MatchOption o (parts_of rest ≡ w ∷ []) (λ x. parts_of rest ≡ w ∷ parts_of (f x)) → IsPassed line rest k → k ≡ i
+    → slice_get (words_of line) i ≡ Some w
+word_found f None line rest w k i e so_far same = let at : k + 0 ≡ i = omega arith in sym (ap (slice_get (words_of line)) at) ∙ so_far.same 0
+    ∙ rw e refl
+word_found f (Some x) line rest w k i e so_far same = let at : k + 0 ≡ i = omega arith in sym (ap (slice_get (words_of line)) at)
+    ∙ so_far.same 0 ∙ rw e refl

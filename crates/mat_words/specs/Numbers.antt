@@ -1,6 +1,6 @@
 -- Numbers as words.
 use Rattle.std.specs.Prelude.{ℕ, zero, suc, ◌-◌, ◌+◌, ◌^◌, Bool, false, ◌&&◌, ◌==◌, nat_le, if◌then◌else◌, List}
-use Rattle.std.specs.Prelude.{[], ◌∷◌, length, map, Option, Some, None, Result, Ok, Err, ℤ, pos, negsuc, neg_ℤ, int_le}
+use Rattle.std.specs.Prelude.{[], ◌∷◌, length, map, Option, Some, None, Result, Ok, Err, ℤ, pos, negsuc, neg_ℤ, int_le, ◌≤ℤ◌}
 use Rattle.std.specs.List.{list_all}
 use Rattle.std.specs.Int.Digits.{digits_of, number_from_digits}
 use Rattle.mat_words.specs.Lines.{Line}
@@ -41,10 +41,22 @@ number_of (c ∷ cs) = if c == 45 then (if is_counting cs then Some (neg_ℤ (po
     else (if c == 48 then (if length cs == 0 then Some (pos 0) else None)
     else (if is_counting (c ∷ cs) then Some (pos (value_of (c ∷ cs))) else None))
 
--- a number where one in low..high is needed; no number at all is misspelled
+-- the number is in low..high
+abbrev pub IsBetween : ℤ → ℤ → ℤ → Type 0
+IsBetween low high z = (low ≤ℤ z) × (z ≤ℤ high)
+
+-- whether it is
+abbrev pub is_between : ℤ → ℤ → ℤ → Bool
+is_between low high z = int_le low z && int_le z high
+
+-- what is needed where it has to pass the test of a range; nothing at all is misspelled
+abbrev pub ranged : {A : Type 0} → (A → Bool) → Option A → Result A NumberFault
+ranged test None = Err Spelling
+ranged test (Some x) = if test x then Ok x else Err Range
+
+-- a number where one in low..high is needed
 abbrev pub in_range : ℤ → ℤ → Option ℤ → Result ℤ NumberFault
-in_range low high None = Err Spelling
-in_range low high (Some z) = if int_le low z && int_le z high then Ok z else Err Range
+in_range low high o = ranged (is_between low high) o
 
 -- what a word says where a number in low..high is needed
 abbrev pub number_in : ℤ → ℤ → List ℕ → Result ℤ NumberFault

@@ -3,6 +3,10 @@ use Rattle.std.specs.Prelude.{ℕ, ◌-◌, ◌+◌, ◌<◌, ◌≤◌, ◌≡�
 use Rattle.std.specs.Prelude.{◌&&◌, ◌==◌, nat_le, List, [], ◌∷◌, length, slice_index}
 use Rattle.std.specs.List.{slice_split, list_all}
 
+-- whether a byte is this one
+abbrev pub is_byte : ℕ → ℕ → Bool
+is_byte stop b = b == stop
+
 -- whether a byte is the space
 abbrev pub is_space : ℕ → Bool
 is_space b = b == 32

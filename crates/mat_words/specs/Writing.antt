@@ -1,7 +1,9 @@
 -- Lines that begin with a keyword.
 use Rattle.std.specs.Prelude.{ℕ, ℤ, List, [], ◌∷◌, map, codes}
 use Rattle.mat_words.specs.Numbers.{numeral, numerals}
+use Rattle.mat_sets.specs.declared.weight.Weight.{Weight}
 use Rattle.mat_words.specs.Lines.{Line}
+use Rattle.mat_words.specs.Weights.{weight_word}
 
 -- a line of a keyword and numbers
 abbrev pub numbers_line : List ℕ → List ℤ → Line
@@ -10,6 +12,10 @@ numbers_line keyword numbers = keyword ∷ map numeral numbers
 -- a line of a keyword and the members of a list, numbers from 0 on
 abbrev pub members_line : List ℕ → List ℕ → Line
 members_line keyword members = keyword ∷ numerals members
+
+-- a line of a keyword and weights
+abbrev pub weights_line : List ℕ → List Weight → Line
+weights_line keyword weights = keyword ∷ map weight_word weights
 
 -- the line that ends a text
 abbrev pub end_line : Line

@@ -8,13 +8,13 @@ ghost use Rattle.mat_words.specs.Words.{is_word};
 use std::alloc::AllocError;
 use thiserror::Error;
 
-/// Why a word is not a number in a range.
+/// Why a word is not a number, or a weight, in a range.
 #[derive(Clone, Copy, Debug, PartialEq, Eq, Error)]
 pub enum NumberFault {
-    /// It is no number.
+    /// It is no number, or no weight.
     #[error("no number")]
     Spelling,
-    /// It is a number outside the range.
+    /// It is a number outside the range, or a weight with one.
     #[error("a number outside the range")]
     Range,
 }

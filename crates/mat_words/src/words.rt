@@ -2,9 +2,24 @@
 
 ghost use Rattle.std.specs.Prelude.{◌≡◌, ◌<◌, ◌≤◌, ◌+◌, ◌↔◌, [], ◌∷◌, length};
 ghost use Rattle.std.specs.Prelude.{slice_get, MatchOption, IfSome, IsTrue, Some, None, ℕ, List};
-ghost use Rattle.std.specs.List.{list_all, join_with_byte};
-ghost use Rattle.mat_words.specs.Words.{words_of, parts_of, is_word, is_well_spaced, IsWellSpaced};
+ghost use Rattle.std.specs.List.{list_all, join_with_byte, slice_split};
+ghost use Rattle.mat_words.specs.Words.{words_of, parts_of, is_byte, is_word, is_well_spaced, IsWellSpaced};
 ghost use Rattle.mat_words.specs.Lines.{HasNoNewline};
+
+/// The part of some bytes in front of the first byte `stop`, and what stands after that byte: None where there is none. It takes no
+/// memory.
+pub(crate) fn split_at_byte(bytes: &[u8], stop: u8) -> (&[u8], Option<&[u8]>)
+    ensures parts { MatchOption result.1 (slice_split (is_byte stop) bytes.now ≡ result.0.now ∷ [])
+        (λ rest. slice_split (is_byte stop) bytes.now ≡ result.0.now ∷ slice_split (is_byte stop) rest.now) }
+    ensures shorter { IfSome result.1 (λ rest. length result.0.now + length rest.now < length bytes.now) }
+{
+    for (i, b) in bytes.iter().enumerate() {
+        if *b == stop {
+            return (&bytes[..i], Some(&bytes[i + 1..]));
+        }
+    }
+    (bytes, None)
+}
 
 /// The part of a line in front of its first space, and what stands after that space: None where there is no space, and so the part is
 /// the last. Of a well spaced line that isn't empty, the parts are the words. It takes no memory.
@@ -13,12 +28,7 @@ pub fn split_word(line: &[u8]) -> (&[u8], Option<&[u8]>)
         (λ rest. parts_of line.now ≡ result.0.now ∷ parts_of rest.now) }
     ensures shorter { IfSome result.1 (λ rest. length result.0.now + length rest.now < length line.now) }
 {
-    for (i, b) in line.iter().enumerate() {
-        if *b == b' ' {
-            return (&line[..i], Some(&line[i + 1..]));
-        }
-    }
-    (line, None)
+    split_at_byte(line, b' ')
 }
 
 /// Whether a line is well spaced, in one pass. It takes no memory.

@@ -3,9 +3,12 @@
 ghost use Rattle.std.specs.Prelude.{◌≡◌, ◌++◌, ◌∷◌, [], OnOk};
 ghost use Rattle.mat_words.specs.Lines.{text_of};
 ghost use Rattle.mat_words.specs.Numbers.{numeral};
-ghost use Rattle.mat_words.specs.Writing.{members_line, numbers_line};
+ghost use Rattle.mat_words.specs.Weights.{weight_word};
+ghost use Rattle.mat_words.specs.Writing.{members_line, numbers_line, weights_line};
 
 use crate::numbers::put_number;
+use crate::weights::put_weight;
+use mat_sets::Weight;
 use std::alloc::AllocError;
 
 /// Appends a number as the next word of a line, behind a space. After an AllocError a part of it may stand in `out`.
@@ -28,6 +31,31 @@ pub fn put_numbers_line(
     out.extend_from_slice(keyword)?;
     for z in numbers {
         put_number_word(out, *z)?;
+    }
+    out.push(b'\n')?;
+    Ok(())
+}
+
+/// Appends a weight as the next word of a line, behind a space. After an AllocError a part of it may stand in `out`.
+pub fn put_weight_word(out: &mut Vec<u8>, weight: Weight) -> Result<(), AllocError>
+    ensures { OnOk result (out.new.items ≡ out.old.items ++ 32 ∷ weight_word weight) }
+{
+    out.push(b' ')?;
+    put_weight(out, weight)?;
+    Ok(())
+}
+
+/// Appends a line of a keyword and weights. After an AllocError a part of it may stand in `out`.
+pub fn put_weights_line(
+    out: &mut Vec<u8>,
+    keyword: &[u8],
+    weights: &[Weight],
+) -> Result<(), AllocError>
+    ensures { OnOk result (out.new.items ≡ out.old.items ++ text_of (weights_line keyword.now weights.now ∷ [])) }
+{
+    out.extend_from_slice(keyword)?;
+    for w in weights {
+        put_weight_word(out, *w)?;
     }
     out.push(b'\n')?;
     Ok(())
@@ -58,8 +86,16 @@ mod tests {
     fn writes_a_line_behind_another(rt: HostRuntime) -> Result<(), Fail> {
         let mut out = Vec::new(rt.alloc());
         put_members_line(&mut out, b"set", &[3, 0])?;
-        put_numbers_line(&mut out, b"weights", &[-5, 0])?;
-        assert_eq!(rt; out.as_slice(), b"set 3 0\nweights -5 0\n".as_slice());
+        put_numbers_line(&mut out, b"pair", &[-5, 0])?;
+        put_weights_line(
+            &mut out,
+            b"weights",
+            &[Weight { main: 2, tie: -1 }, Weight::ZERO],
+        )?;
+        assert_eq!(rt;
+            out.as_slice(),
+            b"set 3 0\npair -5 0\nweights 2:-1 0\n".as_slice()
+        );
         Ok(())
     }
 }

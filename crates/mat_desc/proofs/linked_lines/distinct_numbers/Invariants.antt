@@ -1,7 +1,7 @@
 use Rattle.std.proofs.Common.{◌≡◌, ◌-◌, []}
 use Rattle.mat_desc.specs.Reading.{distinct_at}
-use Rattle.mat_desc.specs.Views.{words_left}
-use Rattle.mat_desc.proofs.Repeats.{with_front}
+use Rattle.mat_words.specs.Cursors.{words_left}
+use Rattle.mat_words.proofs.Repeats.{with_front}
 use Rattle.mat_desc.proofs.linked_lines.distinct_numbers.Given as goal
 
 abbrev pub invariant-loop : goal.invariant-loop

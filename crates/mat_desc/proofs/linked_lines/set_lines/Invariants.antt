@@ -1,7 +1,8 @@
 use Rattle.std.proofs.Common.{◌≡◌, ◌-◌}
-use Rattle.mat_desc.specs.Reading.{set_line_at, repeat_at}
-use Rattle.mat_desc.specs.Views.{lines_left}
-use Rattle.mat_desc.proofs.Repeats.{with_front}
+use Rattle.mat_words.specs.Steps.{repeat_at}
+use Rattle.mat_desc.specs.Reading.{set_line_at}
+use Rattle.mat_words.specs.Cursors.{lines_left}
+use Rattle.mat_words.proofs.Repeats.{with_front}
 use Rattle.mat_desc.proofs.linked_lines.set_lines.Given as goal
 
 abbrev pub invariant-loop : goal.invariant-loop

@@ -2,7 +2,7 @@ use Rattle.std.proofs.Common.{[], arith}
 use Rattle.std.proofs.lemmas.Result.{err_from_is_err_and}
 use Rattle.std.proofs.lemmas.List.{length_push}
 use Rattle.mat_desc.specs.Reading.{nested_sets_at}
-use Rattle.mat_desc.specs.Views.{lines_left}
+use Rattle.mat_words.specs.Cursors.{lines_left}
 use Rattle.mat_desc.proofs.NestedSets.{nested_sets_more, nested_sets_fail, nested_sets_done}
 use Rattle.mat_desc.proofs.matroid.nested_set_lines.Goals as goal
 
@@ -11,7 +11,8 @@ returns-in_err-cap c =
     let p = err_from_is_err_and c.from_residual.result c.from_residual.ensures.1 in
     let failed = rw c.deref.ensures.value at c.in_err-cap.ensures in
     rw (p.1, p.2) (nested_sets_fail c.in_err-cap.field-0.0 c.args.count c.args.many c.loop.counter (lines_left c.loop.rest)
-    c.loop.sets.items c.loop.caps.items (nested_sets_at c.args.count c.args.many [] (lines_left c.args.lines)) c.loop-test.true failed c.loop.invariant.0)
+    c.loop.sets.items c.loop.caps.items (nested_sets_at c.args.count c.args.many [] (lines_left c.args.lines)) c.loop-test.true failed
+    c.loop.invariant.0)
 
 pub loop-preserved : goal.loop-preserved
 loop-preserved c =

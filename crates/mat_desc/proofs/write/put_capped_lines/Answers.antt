@@ -5,7 +5,9 @@ use Rattle.mat_desc.proofs.write.put_capped_lines.Goals as goal
 
 pub loop-i-preserved : goal.loop-i-preserved
 loop-i-preserved c =
-    pair_written (capped_line c.args.keyword.now) c.args.out.now.items c.args.sets.now c.args.caps.now c.loop-i.i c.index-sets-i.result 0 c.loop-i.out.items _ (search rules) c.loop-i.invariant (search rules)
+    pair_written (capped_line c.args.keyword.now) c.args.out.now.items c.args.sets.now c.args.caps.now c.loop-i.i c.index-sets-i.result 0
+    c.loop-i.out.items _ (search rules) c.loop-i.invariant (search rules)
 
 pub returns : goal.returns
-returns c = pairs_written (capped_line c.args.keyword.now) c.args.out.now.items c.args.sets.now c.args.caps.now c.loop-i.i c.loop-i.out.items (search rules) c.loop-i.invariant
+returns c = pairs_written (capped_line c.args.keyword.now) c.args.out.now.items c.args.sets.now c.args.caps.now c.loop-i.i c.loop-i.out.items
+    (search rules) c.loop-i.invariant

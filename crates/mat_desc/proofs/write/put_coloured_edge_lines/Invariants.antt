@@ -6,4 +6,5 @@ use Rattle.mat_desc.proofs.write.put_coloured_edge_lines.Given as goal
 
 -- the lines of the edges so far stand there
 abbrev pub invariant-loop-i : goal.invariant-loop-i
-invariant-loop-i l = l.out.items ≡ l.fn.out.items ++ flat_map (λ p. text_of (coloured_edge_line p ∷ [])) (take l.i (zip l.edges (zip l.colour_of l.weights)))
+invariant-loop-i l = l.out.items ≡ l.fn.out.items ++ flat_map (λ p. text_of (coloured_edge_line p ∷ []))
+    (take l.i (zip l.edges (zip l.colour_of l.weights)))

@@ -7,4 +7,5 @@ use Rattle.mat_desc.proofs.write.put_family_lines.Given as goal
 
 -- the lines of the sets so far stand there
 abbrev pub invariant-loop-set : goal.invariant-loop-set
-invariant-loop-set l = l.out.items ≡ l.fn.out.items ++ flat_map (λ set. text_of (members_line (codes "set") set ∷ [])) (take l.set-index l.family)
+invariant-loop-set l = l.out.items ≡ l.fn.out.items ++ flat_map (λ set. text_of (members_line (codes "set") set ∷ []))
+    (take l.set-index l.family)

@@ -8,5 +8,6 @@ use Rattle.mat_desc.proofs.write.put_matroids.Goals as goal
 
 pub returns : goal.returns
 returns c =
-    items_written (λ m. matroid_lines (tree_of m)) c.args.out.now.items c.args.matroids.now c.loop-matroid.matroid-index c.loop-matroid.out.items (omega arith) c.loop-matroid.invariant
+    items_written (λ m. matroid_lines (tree_of m)) c.args.out.now.items c.args.matroids.now c.loop-matroid.matroid-index
+    c.loop-matroid.out.items (omega arith) c.loop-matroid.invariant
     ∙ ap (λ (ls : List Line). c.args.out.now.items ++ text_of ls) (sym (flat_map-map matroid_lines tree_of c.args.matroids.now))

@@ -21,7 +21,8 @@ returns c =
     let few : length family < 2 ^ 64 = search rules in
     let header = subst (λ count. c.put_numbers_line.new.out.items ≡ old ++ text_of ((codes "transversal" ∷ numeral count ∷ []) ∷ []))
     (kept_length (length family) few) c.in_ok-put_numbers_line.ensures in
-    both_written old c.put_numbers_line.new.out.items c.put_family_lines.new.out.items ((codes "transversal" ∷ numeral (pos (length family)) ∷ []) ∷ []) (lines family)
+    both_written old c.put_numbers_line.new.out.items c.put_family_lines.new.out.items
+    ((codes "transversal" ∷ numeral (pos (length family)) ∷ []) ∷ []) (lines family)
     header c.in_ok-put_family_lines.ensures
     ∙ ap (λ (sets : List (List ℕ)). old ++ text_of ((codes "transversal" ∷ numeral (pos (length sets)) ∷ []) ∷ lines sets))
     (c.as_slice-family.ensures.items ∙ c.family.ensures)

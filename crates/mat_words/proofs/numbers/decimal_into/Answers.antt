@@ -7,7 +7,8 @@ pub loop-left-init : goal.loop-left-init
 loop-left-init c = nothing_written c.args.n 40 c.args.buffer.now (omega arith) c.requires
 
 pub loop-left-preserved : goal.loop-left-preserved
-loop-left-preserved c = digit_written c.args.n c.loop-left.left c.loop-left.at 40 c.loop-left.buffer (drop 40 c.args.buffer.now) (omega arith) (omega arith) c.loop-left.invariant
+loop-left-preserved c = digit_written c.args.n c.loop-left.left c.loop-left.at 40 c.loop-left.buffer (drop 40 c.args.buffer.now) (omega arith)
+    (omega arith) c.loop-left.invariant
 
 pub returns-clause-digits : goal.returns-clause-digits
 returns-clause-digits c =

@@ -10,4 +10,5 @@ loop-c-preserved c = record {
 }
 
 pub returns-clause-some : goal.returns-clause-some
-returns-clause-some c = counted c.args.digits.now c.loop-c.c-index c.loop-c.n c.loop-c-test.false (grind (arith, common_steps)) c.if-digits-lt49.false c.loop-c.invariant.value
+returns-clause-some c = counted c.args.digits.now c.loop-c.c-index c.loop-c.n c.loop-c-test.false (grind (arith, common_steps))
+    c.if-digits-lt49.false c.loop-c.invariant.value

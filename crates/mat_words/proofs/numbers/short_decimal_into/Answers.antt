@@ -6,4 +6,5 @@ pub loop-left-init : goal.loop-left-init
 loop-left-init c = nothing_written c.args.n c.args.end c.args.buffer.now c.requires.end.0 c.requires.room
 
 pub loop-left-preserved : goal.loop-left-preserved
-loop-left-preserved c = digit_written c.args.n c.loop-left.left c.loop-left.at c.args.end c.loop-left.buffer (drop c.args.end c.args.buffer.now) c.loop-left-test.true (omega arith) c.loop-left.invariant
+loop-left-preserved c = digit_written c.args.n c.loop-left.left c.loop-left.at c.args.end c.loop-left.buffer (drop c.args.end c.args.buffer.now)
+    c.loop-left-test.true (omega arith) c.loop-left.invariant

@@ -17,4 +17,5 @@ returns-in-None c =
     last_passed c.args.line.now c.loop.rest.now c.split_word.result.0.now c.loop.counter c.args.i parts c.loop.invariant c.loop-test.true
 
 pub returns : goal.returns
-returns c = word_found (λ x. x.now) c.split_word-2.result.1 c.args.line.now c.loop.rest.now c.split_word-2.result.0.now c.loop.counter c.args.i c.split_word-2.ensures.parts c.loop.invariant (omega arith)
+returns c = word_found (λ x. x.now) c.split_word-2.result.1 c.args.line.now c.loop.rest.now c.split_word-2.result.0.now c.loop.counter c.args.i
+    c.split_word-2.ensures.parts c.loop.invariant (omega arith)

@@ -5,8 +5,10 @@ use Rattle.mat_words.proofs.writing.put_numbers_line.Goals as goal
 
 pub returns : goal.returns
 returns c =
-    line_written numeral c.args.out.now.items c.args.keyword.now c.args.numbers.now c.loop-z.z-index c.loop-z.out.items _ (omega arith) c.loop-z.invariant (search rules)
+    line_written numeral c.args.out.now.items c.args.keyword.now c.args.numbers.now c.loop-z.z-index c.loop-z.out.items _ (omega arith)
+    c.loop-z.invariant (search rules)
 
 pub loop-z-preserved : goal.loop-z-preserved
 loop-z-preserved c =
-    item_written (λ z. 32 ∷ numeral z) (c.args.out.now.items ++ c.args.keyword.now) c.args.numbers.now c.loop-z.z-index (pos 0) c.loop-z.out.items _ (omega arith) c.loop-z.invariant (search rules)
+    item_written (λ z. 32 ∷ numeral z) (c.args.out.now.items ++ c.args.keyword.now) c.args.numbers.now c.loop-z.z-index (pos 0)
+    c.loop-z.out.items _ (omega arith) c.loop-z.invariant (search rules)

@@ -1,0 +1,221 @@
+//! Reading a text line by line and word by word. What is read comes with what is left behind it, and the first fault ends the reading.
+
+ghost use Rattle.std.specs.Prelude.{◌≡◌, ◌<◌, ◌≤◌, ◌≤ℤ◌, IfOk, length};
+ghost use Rattle.mat_words.specs.Cursors.{lines_left, words_left};
+ghost use Rattle.mat_words.specs.Reading.{Gives, line_at, word_at, number_at, size_at, below_at, weight_at, weights_at, keyed_at, is_closed};
+
+use crate::cursor::{LineCursor, WordCursor};
+use crate::lines::split_line;
+use crate::numbers::read_number;
+use crate::refusal::{ReadingFault, ReadingRefusal, fault};
+use crate::weights::read_weight;
+use crate::words::{split_word, well_spaced};
+use mat_sets::Weight;
+use std::alloc::Global;
+
+/// The words of the next line, which has to have words, and the lines behind it.
+#[tactic(auto, unfolding(crate::specs::Reading::line_at))]
+pub fn words_line<'a>(
+    lines: LineCursor<'a>,
+) -> Result<(WordCursor<'a>, LineCursor<'a>), ReadingRefusal>
+    ensures { Gives (λ x. (words_left x.0, lines_left x.1)) result (line_at (lines_left lines.entry)) }
+{
+    let line = lines.line;
+    let Some((content, rest)) = split_line(lines.text) else {
+        return Err(fault(ReadingFault::EndsEarly, line));
+    };
+    if !well_spaced(content) {
+        return Err(fault(ReadingFault::BadByte, line));
+    }
+    if content.is_empty() {
+        return Err(fault(ReadingFault::NoWord, line));
+    }
+    let words = WordCursor {
+        line,
+        left: Some(content),
+    };
+    let lines = LineCursor {
+        line: line + 1,
+        text: rest,
+    };
+    Ok((words, lines))
+}
+
+/// Whether nothing is left of a text: no line, and no byte behind the last.
+#[tactic(auto, using(crate::proofs::Closing::closing))]
+pub fn nothing_left(lines: LineCursor<'_>) -> bool
+    ensures { result ≡ is_closed (lines_left lines.entry).lines }
+{
+    lines.text.is_empty()
+}
+
+/// The next word of a line, and what is left behind it.
+#[tactic(auto, unfolding(crate::specs::Reading::word_at))]
+pub fn next_word<'a>(words: WordCursor<'a>) -> Result<(&'a [u8], WordCursor<'a>), ReadingRefusal>
+    ensures { Gives (λ x. (x.0.now, words_left x.1)) result (word_at (words_left words.entry)) }
+{
+    let line = words.line;
+    let Some(left) = words.left else {
+        return Err(fault(ReadingFault::NoWord, line));
+    };
+    let (word, left) = split_word(left);
+    Ok((word, WordCursor { line, left }))
+}
+
+/// The next word of a line as a number in `low..=high`.
+#[tactic(auto, unfolding(crate::specs::Reading::number_at))]
+pub fn next_number<'a>(
+    words: WordCursor<'a>,
+    low: i128,
+    high: i128,
+) -> Result<(i128, WordCursor<'a>), ReadingRefusal>
+    ensures value { Gives (λ x. (x.0, words_left x.1)) result (number_at low high (words_left words.entry)) }
+    ensures range { IfOk result (λ x. (low ≤ℤ x.0) × (x.0 ≤ℤ high)) }
+{
+    let (word, rest) = next_word(words)?;
+    match read_number(word, low, high) {
+        Ok(number) => Ok((number, rest)),
+        Err(number) => Err(fault(ReadingFault::Number(number), rest.line)),
+    }
+}
+
+/// The next word of a line as a number in `low..=most`.
+#[tactic(auto, unfolding(crate::specs::Reading::size_at))]
+pub fn next_size<'a>(
+    words: WordCursor<'a>,
+    low: u32,
+    most: u32,
+) -> Result<(u32, WordCursor<'a>), ReadingRefusal>
+    ensures value { Gives (λ x. (x.0, words_left x.1)) result (size_at low most (words_left words.entry)) }
+    ensures range { IfOk result (λ x. (low ≤ x.0) × (x.0 ≤ most)) }
+{
+    let (number, words) = next_number(words, low as i128, most as i128)?;
+    Ok((number as u32, words))
+}
+
+/// The next word of a line as a number below the bound.
+#[tactic(auto, unfolding(crate::specs::Reading::below_at))]
+pub fn next_below<'a>(
+    words: WordCursor<'a>,
+    bound: u32,
+) -> Result<(u32, WordCursor<'a>), ReadingRefusal>
+    ensures value { Gives (λ x. (x.0, words_left x.1)) result (below_at bound (words_left words.entry)) }
+    ensures range { IfOk result (λ x. x.0 < bound) }
+{
+    let (number, words) = next_number(words, 0, bound as i128 - 1)?;
+    Ok((number as u32, words))
+}
+
+/// The next word of a line as a weight of which each number is in `low..=high`.
+#[tactic(auto, unfolding(crate::specs::Reading::weight_at))]
+pub fn next_weight<'a>(
+    words: WordCursor<'a>,
+    low: i128,
+    high: i128,
+) -> Result<(Weight, WordCursor<'a>), ReadingRefusal>
+    ensures { Gives (λ x. (x.0, words_left x.1)) result (weight_at low high (words_left words.entry)) }
+{
+    let (word, rest) = next_word(words)?;
+    match read_weight(word, low, high) {
+        Ok(weight) => Ok((weight, rest)),
+        Err(number) => Err(fault(ReadingFault::Number(number), rest.line)),
+    }
+}
+
+/// The next words of a line as `count` weights of which each number is in `low..=high`.
+pub fn next_weights<'a>(
+    alloc: Global,
+    words: WordCursor<'a>,
+    count: u32,
+    low: i128,
+    high: i128,
+) -> Result<(Vec<Weight>, WordCursor<'a>), ReadingRefusal>
+    ensures { Gives (λ x. (x.0.items, words_left x.1)) result (weights_at low high count (words_left words.entry)) }
+{
+    let mut weights = Vec::new(alloc);
+    let mut rest = words;
+    for _ in 0..count {
+        let (weight, after) = next_weight(rest, low, high)?;
+        weights.push(weight)?;
+        rest = after;
+    }
+    Ok((weights, rest))
+}
+
+/// The words of the next line behind its first, which has to be this one, and the lines behind it.
+#[tactic(auto, unfolding(crate::specs::Reading::keyed_at))]
+pub fn keyed_line<'a>(
+    lines: LineCursor<'a>,
+    key: &[u8],
+) -> Result<(WordCursor<'a>, LineCursor<'a>), ReadingRefusal>
+    ensures { Gives (λ x. (words_left x.0, lines_left x.1)) result (keyed_at key.now (lines_left lines.entry)) }
+{
+    let line = lines.line;
+    let (words, rest) = words_line(lines)?;
+    let (word, words) = next_word(words)?;
+    if word == key {
+        Ok((words, rest))
+    } else {
+        Err(fault(ReadingFault::UnknownWord, line))
+    }
+}
+
+#[cfg(test)]
+mod tests {
+    use super::*;
+    use crate::numbers::NumberFault;
+    use std::test::Fail;
+
+    // What ends the reading of a line of the word `pair` and a number below 5: the fault and its line.
+    fn first_fault(text: &[u8]) -> Option<(ReadingFault, u32)>
+        requires { length text.now < 1000 }
+    {
+        let read = match keyed_line(LineCursor { line: 7, text }, b"pair") {
+            Ok((words, _)) => match next_below(words, 5) {
+                Ok(_) => Ok(()),
+                Err(refusal) => Err(refusal),
+            },
+            Err(refusal) => Err(refusal),
+        };
+        match read {
+            Err(ReadingRefusal::Fault { kind, line }) => Some((kind, line)),
+            _ => None,
+        }
+    }
+
+    #[test]
+    fn tells_what_ends_a_line(rt: HostRuntime) {
+        assert_eq!(rt; first_fault(b"pair 4\n"), None);
+        assert_eq!(rt; first_fault(b"pair 4"), Some((ReadingFault::EndsEarly, 7)));
+        assert_eq!(rt; first_fault(b"pair  4\n"), Some((ReadingFault::BadByte, 7)));
+        assert_eq!(rt; first_fault(b"\n"), Some((ReadingFault::NoWord, 7)));
+        assert_eq!(rt; first_fault(b"pair\n"), Some((ReadingFault::NoWord, 7)));
+        assert_eq!(rt;
+            first_fault(b"pairs 4\n"),
+            Some((ReadingFault::UnknownWord, 7))
+        );
+        assert_eq!(rt;
+            first_fault(b"pair 04\n"),
+            Some((ReadingFault::Number(NumberFault::Spelling), 7))
+        );
+        assert_eq!(rt;
+            first_fault(b"pair 5\n"),
+            Some((ReadingFault::Number(NumberFault::Range), 7))
+        );
+    }
+
+    #[test]
+    fn reads_the_weights_of_a_line(rt: HostRuntime) -> Result<(), Fail> {
+        let lines = LineCursor {
+            line: 1,
+            text: b"3 -1:2\n",
+        };
+        let (words, rest) = words_line(lines)?;
+        assert!(rt; nothing_left(rest));
+        let (weights, words) = next_weights(rt.alloc(), words, 2, -5, 5)?;
+        assert!(rt; words.left.is_none());
+        let wanted = [Weight { main: 3, tie: 0 }, Weight { main: -1, tie: 2 }];
+        assert!(rt; weights.as_slice() == wanted.as_slice());
+        Ok(())
+    }
+}
