@@ -1,2 +1,11 @@
 pub mod LineTexts
 pub mod Lengths
+pub mod PrintedLengths
+pub mod Told
+pub mod WordCounts
+pub mod MemberLists
+pub mod RungLists
+pub mod WordLaws
+pub mod KeyedLineLaws
+pub mod RungLaws
+pub mod CertificateLaws

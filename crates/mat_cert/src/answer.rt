@@ -1,29 +1,133 @@
 //! Answers, by the command that gives them.
-use mat_sets::{ElemSet, Weights};
+use mat_sets::{ElemSet, PairWeights, SetList, Weight};
 
 /// A heaviest common independent set of its size, with a split of the weights that proves it.
 #[derive(Debug, Drop)]
 pub struct PricedRung {
     /// The weight of the set.
-    pub weight: i128,
+    pub weight: Weight,
     /// The elements of the set.
     pub set: ElemSet,
     /// The part of each element's weight that is given to the first matroid.
-    pub first: Weights,
+    pub first: PairWeights,
     /// The part of each element's weight that is given to the second matroid.
-    pub second: Weights,
+    pub second: PairWeights,
 }
 
-/// An answer with what proves it, by its command.
+/// A heaviest independent set of its size.
+#[derive(Debug, Drop)]
+pub struct PlainRung {
+    /// The weight of the set.
+    pub weight: Weight,
+    /// The elements of the set.
+    pub set: ElemSet,
+}
+
+/// A weight, and a set of elements of at least that weight, by which no parts hold more of these elements.
+#[derive(Debug, Drop)]
+pub struct LevelLine {
+    /// The weight.
+    pub at: Weight,
+    /// The set.
+    pub cut: ElemSet,
+}
+
+/// An answer with what proves it, by its command. `count` is the number of elements.
 #[derive(Debug, Drop)]
 pub enum Answer {
-    /// A heaviest common independent set of two matroids for each size.
+    /// A heaviest common independent set of two matroids for each size from 0 on, and a set whose ranks show that none is larger.
     Intersect {
-        /// How many elements the matroids have.
         count: u32,
-        /// The sets by size, from size 0 to the greatest size.
         rungs: Vec<PricedRung>,
-        /// A set whose ranks show that no common independent set is larger.
+        cut: ElemSet,
+    },
+    /// A heaviest independent set of a matroid for each size from 0 to the rank.
+    Best {
+        count: u32,
+        rungs: Vec<PlainRung>,
+    },
+    /// Disjoint independent sets of the matroids of a list, their weight, and a cut for each weight.
+    UnionOf {
+        count: u32,
+        weight: Weight,
+        parts: SetList,
+        levels: Vec<LevelLine>,
+    },
+    /// Any number of disjoint bases: the rank is 0.
+    PackAny {
+        count: u32,
+    },
+    /// As many disjoint bases as there are, and a cut.
+    Pack {
+        count: u32,
+        bases: SetList,
+        cut: ElemSet,
+    },
+    /// No independent sets cover all elements, since this one is a loop.
+    CoverNever {
+        count: u32,
+        loop_at: u32,
+    },
+    /// As few independent sets that cover all elements as there are, and a cut where there are any.
+    Cover {
+        count: u32,
+        sets: SetList,
+        cut: Option<ElemSet>,
+    },
+    /// Disjoint spanning trees.
+    Trees {
+        count: u32,
+        trees: SetList,
+    },
+    /// There are no `k` disjoint spanning trees, since too few edges join these classes of vertices.
+    TreesNone {
+        count: u32,
+        k: u32,
+        vertices: u32,
+        classes: SetList,
+    },
+    /// A cheapest spanning arborescence, with a split of the negated costs that proves it.
+    Arbor {
+        count: u32,
+        cost: Weight,
+        arcs: ElemSet,
+        first: PairWeights,
+        second: PairWeights,
+    },
+    /// There is no spanning arborescence, since no arc enters this set of vertices.
+    Unreached {
+        count: u32,
+        vertices: u32,
+        set: ElemSet,
+    },
+    /// Disjoint spanning arborescences.
+    Disjoint {
+        count: u32,
+        trees: SetList,
+    },
+    /// There are no `k` disjoint spanning arborescences, since too few arcs enter this set of vertices.
+    DisjointNone {
+        count: u32,
+        k: u32,
+        vertices: u32,
+        set: ElemSet,
+    },
+    /// A heaviest forest of different colours for each size from 0 on, and where no spanning tree has different colours, colours that
+    /// show it.
+    Rainbow {
+        count: u32,
+        vertices: u32,
+        colours: u32,
+        rungs: Vec<PricedRung>,
+        cut: ElemSet,
+        missing: Option<ElemSet>,
+    },
+    /// A heaviest assignment for each size from 0 on.
+    Assign {
+        count: u32,
+        rows: u32,
+        columns: u32,
+        rungs: Vec<PricedRung>,
         cut: ElemSet,
     },
 }

@@ -1,0 +1,200 @@
+-- How long a text is that is printed. Rung k on at most 500 elements has a line of k numbers of at most 3 bytes and, with a split, two lines
+-- of at most 500 weights of at most 45 bytes: at most 46118 + 4 * k bytes in all. With e rungs these are at most 46118 * e + 2 * (e * e).
+use Rattle.std.proofs.Common.{◌≡◌, ℕ, zero, suc, ◌+◌, ◌*◌, ◌^◌, ◌<◌, ◌≤◌, codes, List, []}
+use Rattle.std.proofs.Common.{◌∷◌, ◌++◌, length, map}
+use Rattle.std.proofs.Common.{ap, subst, ◌∙◌, arith, pos, refl, Some, slice_get}
+use Rattle.std.specs.Int.Digits.{digits_of}
+use Rattle.std.specs.List.{All, join_with_byte}
+use Rattle.std.proofs.Math.Nat.{mul-le-mul, suc-mul, mul-suc}
+use Rattle.std.proofs.lemmas.Int.Digits.{length-digits_of-le}
+use Rattle.std.proofs.lemmas.List.{length-append, length-map}
+use Rattle.std.proofs.lemmas.Option.{slice_get_within, get_or_from_slice_get}
+use Rattle.std.proofs.lemmas.List.Elements.{All-cons, All-get_or, All-map, All-nil, All-weaker}
+use Rattle.mat_sets.specs.Sets.{AllBelow}
+use Rattle.mat_sets.specs.declared.weight.Weight.{Weight}
+use Rattle.mat_words.specs.Lines.{Line, text_of}
+use Rattle.mat_words.specs.Numbers.{numeral, numerals}
+use Rattle.mat_words.specs.Weights.{weight_word}
+use Rattle.mat_words.specs.Writing.{end_line, members_line, weights_line}
+use Rattle.mat_words.proofs.LineLemmas.{text_of-append}
+use Rattle.mat_cert.specs.declared.answer.PlainRung.{PlainRung}
+use Rattle.mat_cert.specs.declared.answer.PricedRung.{PricedRung}
+use Rattle.mat_cert.specs.Certificates.{AreRangedRungs, Certificate, IsPrinted, IsPrintedRung, IsPrintedWeight, IsRanged, IsRangedRung}
+use Rattle.mat_cert.specs.Certificates.{IsRangedPlainRung, IsRangedPricedRung, certificate_text, intersect, best, last_rung, rung_line}
+use Rattle.mat_cert.specs.Certificates.{plain_rung_lines, priced_rung_lines, rungs_lines}
+use Rattle.mat_cert.specs.Certificates as certificates
+use Rattle.mat_cert.proofs.LineTexts.{opening}
+use Rattle.mat_cert.proofs.Lengths.{IsShortHere, length-join_with_byte, length-printed, length-text_of, short_end, short_opening, short_set_line}
+
+-- ---- one line
+
+-- at most b bytes
+abbrev IsAtMost : ℕ → List ℕ → Type 0
+IsAtMost b w = length w ≤ b
+
+-- a keyword and words of at most b bytes
+line_length : (b : ℕ) (key : List ℕ) (words : Line) → All (IsAtMost b) words
+    → length (text_of ((key ∷ words) ∷ [])) ≤ length key + 2 + length words * (b + 1)
+line_length b key [] short = omega (arith, length-append key (10 ∷ []))
+line_length b key (v ∷ vs) short =
+    let rest = length-join_with_byte b (v ∷ vs) short in
+    let joined = length-append key (32 ∷ join_with_byte 32 (v ∷ vs)) in
+    let ended = length-append (key ++ 32 ∷ join_with_byte 32 (v ∷ vs)) (10 ∷ []) in
+    omega arith
+
+-- the first line, and the others
+text_length : (line : Line) (lines : List Line) → length (text_of (line ∷ lines)) ≡ length (text_of (line ∷ [])) + length (text_of lines)
+text_length line lines =
+    let one = length-append (join_with_byte 32 line) (10 ∷ []) in
+    let all = length-append (join_with_byte 32 line) (10 ∷ text_of lines) in
+    omega arith
+
+-- the numeral of a number from 0 on with at most k digits
+natural_length : (k x : ℕ) → 0 < k → x < 10 ^ k → length (numeral (pos x)) ≤ k
+natural_length k zero some small = omega arith
+natural_length k (suc x) some small =
+    let few : length (digits_of 10 (suc x)) ≤ k = length-digits_of-le 10 k (suc x) (omega arith) small in
+    rw length-map few
+
+-- ---- one rung
+
+members_short : (n : ℕ) (set : List ℕ) → n ≤ 500 → AllBelow n set → All (IsAtMost 3) (numerals set)
+members_short n [] few below = All-nil (IsAtMost 3)
+members_short n (x ∷ xs) few below =
+    All-cons (IsAtMost 3) (numeral (pos x)) (numerals xs) (natural_length 3 x (omega arith) (omega (arith, below.0)))
+    (members_short n xs few below.1)
+
+weights_short : (weights : List Weight) → All IsPrintedWeight weights → All (IsAtMost 45) (map weight_word weights)
+weights_short weights printed =
+    All-map (IsAtMost 45) weight_word weights
+    (All-weaker IsPrintedWeight (λ w. IsAtMost 45 (weight_word w)) length-printed weights printed)
+
+rung_line-short : (k : ℕ) (weight : Weight) → k ≤ 500 → IsPrintedWeight weight
+    → All (IsAtMost 45) (numeral (pos k) ∷ weight_word weight ∷ [])
+rung_line-short k weight few printed =
+    let number = natural_length 3 k (omega arith) (omega arith) in
+    All-cons (IsAtMost 45) (numeral (pos k)) (weight_word weight ∷ []) (omega arith)
+    (All-cons (IsAtMost 45) (weight_word weight) [] (length-printed weight printed) (All-nil (IsAtMost 45)))
+
+-- the two lines that tell the weight and the set of a rung
+weighted_set_length : (n k : ℕ) (weight : Weight) (set : List ℕ) → n ≤ 500 → k ≤ 500 → IsRangedRung n k weight set
+    → IsPrintedWeight weight
+    → length (text_of (rung_line k weight ∷ members_line (codes "set") set ∷ [])) ≤ 103 + 4 * k
+weighted_set_length n k weight set few small range printed =
+    let one = line_length 45 (codes "rung") (numeral (pos k) ∷ weight_word weight ∷ []) (rung_line-short k weight small printed) in
+    let two = line_length 3 (codes "set") (numerals set) (members_short n set few range.set_in_range.below) in
+    let members : length (numerals set) ≡ k = length-map set (λ x. numeral (pos x)) ∙ range.size in
+    omega (arith, text_length (rung_line k weight) (members_line (codes "set") set ∷ []))
+
+-- at most as many bytes as a rung has that is printed
+abbrev IsShortRung : {R : Type 0} → (ℕ → R → List Line) → ℕ → R → Type 0
+IsShortRung lines_of_rung k rung = length (text_of (lines_of_rung k rung)) ≤ 46118 + 4 * k
+
+plain_rung_length : (n k : ℕ) (rung : PlainRung) → n ≤ 500 → k ≤ 500 → IsRangedPlainRung n k rung → IsPrintedWeight rung.weight
+    → IsShortRung plain_rung_lines k rung
+plain_rung_length n k rung few small range printed =
+    let both = weighted_set_length n k rung.weight rung.set few small range printed in
+    omega arith
+
+priced_rung_length : (n k : ℕ) (rung : PricedRung) → n ≤ 500 → k ≤ 500 → IsRangedPricedRung n k rung → IsPrintedRung rung
+    → IsShortRung priced_rung_lines k rung
+priced_rung_length n k rung few small range printed =
+    let head = rung_line k rung.weight in
+    let set = members_line (codes "set") rung.set in
+    let first = weights_line (codes "first") rung.first in
+    let second = weights_line (codes "second") rung.second in
+    let both = weighted_set_length n k rung.weight rung.set few small range.0 printed.weight in
+    let three = line_length 45 (codes "first") (map weight_word rung.first) (weights_short rung.first printed.first) in
+    let four = line_length 45 (codes "second") (map weight_word rung.second) (weights_short rung.second printed.second) in
+    let firsts : length (map weight_word rung.first) ≡ n = length-map rung.first weight_word ∙ range.1.size in
+    let seconds : length (map weight_word rung.second) ≡ n = length-map rung.second weight_word ∙ range.2.size in
+    let front = text_length head (set ∷ []) in
+    omega (arith, text_length head (set ∷ first ∷ second ∷ []), text_length set (first ∷ second ∷ []), text_length first (second ∷ []))
+
+-- ---- all rungs
+
+square_step : (k : ℕ) → suc k * suc k ≡ k * k + 2 * k + 1
+square_step k = omega (arith, suc-mul k (suc k), mul-suc k k)
+
+add_rung : (here rest k square next e end : ℕ) → here ≤ 46118 + 4 * k → next ≡ square + 2 * k + 1
+    → rest + (46118 * suc k + 2 * next) ≤ 46118 * e + 2 * end → here + rest + (46118 * k + 2 * square) ≤ 46118 * e + 2 * end
+add_rung here rest k square next e end a b c = omega arith
+
+rungs_length : {R : Type 0} (lines_of_rung : ℕ → R → List Line) (k e : ℕ) (rungs : List R) → k + length rungs ≡ e
+    → ((i : ℕ) (rung : R) → slice_get rungs i ≡ Some rung → IsShortRung lines_of_rung (k + i) rung)
+    → length (text_of (rungs_lines lines_of_rung k rungs)) + (46118 * k + 2 * (k * k)) ≤ 46118 * e + 2 * (e * e)
+rungs_length lines_of_rung k e [] at short =
+    let same : k ≡ e = omega arith in
+    subst (λ (i : ℕ). 0 + (46118 * k + 2 * (k * k)) ≤ 46118 * i + 2 * (i * i)) same (omega arith)
+rungs_length {R} lines_of_rung k e (rung ∷ rungs) at short =
+    let others = rungs_lines lines_of_rung (suc k) rungs in
+    let place : k + 0 ≡ k = omega arith in
+    let here : IsShortRung lines_of_rung k rung = subst (λ (i : ℕ). IsShortRung lines_of_rung i rung) place (short 0 rung refl) in
+    let behind : (i : ℕ) (other : R) → slice_get rungs i ≡ Some other → IsShortRung lines_of_rung (suc k + i) other = λ i other found.
+    let same : k + suc i ≡ suc k + i = omega arith in
+    subst (λ (j : ℕ). IsShortRung lines_of_rung j other) same (short (suc i) other found) in
+    let rest = rungs_length lines_of_rung (suc k) e rungs (omega arith) behind in
+    let both : length (text_of (rungs_lines lines_of_rung k (rung ∷ rungs))) ≡ length (text_of (lines_of_rung k rung)) + length (text_of others) =
+    ap length (text_of-append (lines_of_rung k rung) others) ∙ length-append (text_of (lines_of_rung k rung)) (text_of others) in
+    rw both (add_rung (length (text_of (lines_of_rung k rung))) (length (text_of others)) k (k * k) (suc k * suc k) e (e * e) here
+    (square_step k) rest)
+
+-- a ladder of rungs that are printed, with its last lines, which are at most two
+ladder_length : {R : Type 0} (lines_of_rung : ℕ → R → List Line) (IsRangedAt : ℕ → R → Type 0) (command : List ℕ) (n : ℕ)
+    (rungs : List R) (last : List Line)
+    → ((k : ℕ) (rung : R) → slice_get rungs k ≡ Some rung → k ≤ 500 → IsRangedAt k rung → IsShortRung lines_of_rung k rung)
+    → length command ≤ 65 → AreRangedRungs IsRangedAt n rungs → All IsShortHere last → length last ≤ 2
+    → length (text_of (opening command n (last_rung rungs) ++ (rungs_lines lines_of_rung 0 rungs ++ last))) < 24000000
+ladder_length {R} lines_of_rung IsRangedAt command n rungs last short_at short range short_last two =
+    let start = opening command n (last_rung rungs) in
+    let lines = rungs_lines lines_of_rung 0 rungs in
+    let few = range.few in
+    let most = range.no_more in
+    let small : length rungs ≤ 501 = omega arith in
+    let first = length-text_of 501 65 start (short_opening command n (last_rung rungs) short (omega arith) (omega arith)) in
+    let each : (i : ℕ) (rung : R) → slice_get rungs i ≡ Some rung → IsShortRung lines_of_rung (0 + i) rung = λ i rung at.
+    let within : i < length rungs = slice_get_within rungs i rung at in
+    let place : i ≡ 0 + i = omega arith in
+    subst (λ (j : ℕ). IsShortRung lines_of_rung j rung) place (short_at i rung at (omega arith) (range.each i rung at)) in
+    let middle = rungs_length lines_of_rung 0 (length rungs) rungs (omega arith) each in
+    let end = length-text_of 501 65 last short_last in
+    let ends = mul-le-mul {n₁ = length last} {m₁ = 33067} {n₂ = 2} {m₂ = 33067} two (omega arith) in
+    let square = mul-le-mul {n₁ = length rungs} {m₁ = length rungs} {n₂ = 501} {m₂ = 501} small small in
+    let whole = ap length (text_of-append start (lines ++ last)) ∙ length-append (text_of start) (text_of (lines ++ last)) in
+    let back = ap length (text_of-append lines last) ∙ length-append (text_of lines) (text_of last) in
+    omega arith
+
+-- an element of a list has what all have
+of_all : {R : Type 0} (P : R → Type 0) (xs : List R) (i : ℕ) (x : R) → slice_get xs i ≡ Some x → All P xs → P x
+of_all P xs i x at all =
+    subst P (get_or_from_slice_get xs i x x at) (All-get_or P xs i x (slice_get_within xs i x at) all)
+
+-- a certificate in range whose weights may be printed has less than 24,000,000 bytes
+pub length-printed_text : (c : Certificate) → IsRanged c → IsPrinted c → length (certificate_text c) < 24000000
+unfolding certificate_text
+length-printed_text (intersect n rungs cut) range printed =
+    let few = range.0.few in
+    ladder_length priced_rung_lines (IsRangedPricedRung n) (codes "intersect") n rungs (members_line (codes "cut") cut ∷ end_line ∷ [])
+    (λ k rung at small ranged. priced_rung_length n k rung few small ranged (of_all IsPrintedRung rungs k rung at printed))
+    (omega arith) range.0
+    (All-cons IsShortHere (members_line (codes "cut") cut) (end_line ∷ []) (short_set_line n (codes "cut") cut few (omega arith) range.1)
+    short_end) (omega arith)
+length-printed_text (best n rungs) range printed =
+    let few = range.few in
+    ladder_length plain_rung_lines (IsRangedPlainRung n) (codes "best") n rungs (end_line ∷ [])
+    (λ k rung at small ranged. plain_rung_length n k rung few small ranged
+    (of_all (λ (r : PlainRung). IsPrintedWeight r.weight) rungs k rung at printed))
+    (omega arith) range short_end (omega arith)
+length-printed_text (certificates.union_of _ _ _ _) range printed = elim range [ ]
+length-printed_text (certificates.pack_any _) range printed = elim range [ ]
+length-printed_text (certificates.pack _ _ _) range printed = elim range [ ]
+length-printed_text (certificates.cover_never _ _) range printed = elim range [ ]
+length-printed_text (certificates.cover _ _ _) range printed = elim range [ ]
+length-printed_text (certificates.trees _ _) range printed = elim range [ ]
+length-printed_text (certificates.trees_none _ _ _ _) range printed = elim range [ ]
+length-printed_text (certificates.arbor _ _ _ _ _) range printed = elim range [ ]
+length-printed_text (certificates.unreached _ _ _) range printed = elim range [ ]
+length-printed_text (certificates.disjoint _ _) range printed = elim range [ ]
+length-printed_text (certificates.disjoint_none _ _ _ _) range printed = elim range [ ]
+length-printed_text (certificates.rainbow _ _ _ _ _ _) range printed = elim range [ ]
+length-printed_text (certificates.assign _ _ _ _ _) range printed = elim range [ ]

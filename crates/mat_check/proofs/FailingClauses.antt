@@ -1,0 +1,110 @@
+-- The first failure of joined lists of clauses, of a clause for each element, and of the rungs from rung k on.
+use Rattle.std.proofs.Common.{◌≡◌, ℕ, zero, suc, ◌+◌, ◌<◌, ◌≤◌, ◌⊎◌, true, false, List, [], ◌∷◌, ◌++◌}
+use Rattle.std.proofs.Common.{map, length, drop, get_or}
+use Rattle.std.proofs.Common.{Some, None, inl, inr, refl, sym, subst, ap, ◌∙◌, arith}
+use Rattle.std.proofs.lemmas.Bool.{cases_Bool, cond-true, cond-false}
+use Rattle.std.proofs.lemmas.Option.{none-some}
+use Rattle.std.proofs.lemmas.List.{map-append, drop_all}
+use Rattle.std.proofs.Math.Seq.{drop-cons}
+use Rattle.mat_sets.specs.Sets.{all_below}
+use Rattle.mat_sets.proofs.Ground.{all_below-more, all_below-none}
+use Rattle.mat_check.specs.Clauses.{Clause, Failure, first_failure, rungs_clauses}
+
+pub first_of_holding : (clause : Clause) (clauses : List Clause) → clause.holds ≡ true
+    → first_failure (clause ∷ clauses) ≡ first_failure clauses
+first_of_holding clause clauses h = cond-true clause.holds (first_failure clauses) (Some clause.failure) h
+
+pub first_of_failing : (clause : Clause) (clauses : List Clause) → clause.holds ≡ false
+    → first_failure (clause ∷ clauses) ≡ Some clause.failure
+first_of_failing clause clauses h = cond-false clause.holds (first_failure clauses) (Some clause.failure) h
+
+-- ---- joined lists of clauses
+
+pub first_in_back : (front back : List Clause) → first_failure front ≡ None → first_failure (front ++ back) ≡ first_failure back
+first_in_back [] back none = refl
+first_in_back (clause ∷ front) back none = elim (cases_Bool clause.holds) [
+  | inl h ↦ first_of_holding clause (front ++ back) h ∙ first_in_back front back (sym (first_of_holding clause front h) ∙ none)
+  | inr h ↦ absurd (none-some clause.failure (sym none ∙ first_of_failing clause front h))
+]
+
+pub first_in_front : (front back : List Clause) (failure : Failure) → first_failure front ≡ Some failure
+    → first_failure (front ++ back) ≡ Some failure
+first_in_front [] back failure found = absurd (none-some failure found)
+first_in_front (clause ∷ front) back failure found = elim (cases_Bool clause.holds) [
+  | inl h ↦
+      first_of_holding clause (front ++ back) h ∙ first_in_front front back failure (sym (first_of_holding clause front h) ∙ found)
+  | inr h ↦ first_of_failing clause (front ++ back) h ∙ sym (first_of_failing clause front h) ∙ found
+]
+
+lt_or_same : (e n : ℕ) → e < suc n → (e < n) ⊎ (e ≡ n)
+lt_or_same e n small = grind (arith, small)
+
+-- ---- a clause for each element below n
+
+module _ (clause_of : ℕ → Clause) where
+  one_more : (n : ℕ) → map clause_of (all_below (n + 1)) ≡ map clause_of (all_below n) ++ clause_of n ∷ []
+  one_more n = ap (map clause_of) (all_below-more n) ∙ map-append clause_of (all_below n) (n ∷ [])
+
+  one_more_suc : (n : ℕ) → map clause_of (all_below (suc n)) ≡ map clause_of (all_below n) ++ clause_of n ∷ []
+  one_more_suc n =
+      let next : suc n ≡ n + 1 = omega arith in
+      ap (λ m. map clause_of (all_below m)) next ∙ one_more n
+
+  pub none_below_none : first_failure (map clause_of (all_below 0)) ≡ None
+  none_below_none = ap (λ xs. first_failure (map clause_of xs)) all_below-none
+
+  pub none_below_next : (e : ℕ) → first_failure (map clause_of (all_below e)) ≡ None → (clause_of e).holds ≡ true
+      → first_failure (map clause_of (all_below (e + 1))) ≡ None
+  none_below_next e none h =
+      ap first_failure (one_more e) ∙ first_in_back (map clause_of (all_below e)) (clause_of e ∷ []) none
+      ∙ first_of_holding (clause_of e) [] h
+
+  pub first_below : (n e : ℕ) → e < n → first_failure (map clause_of (all_below e)) ≡ None → (clause_of e).holds ≡ false
+      → first_failure (map clause_of (all_below n)) ≡ Some (clause_of e).failure
+  first_below zero e small none h = absurd (omega (arith, small))
+  first_below (suc n) e small none h = elim (lt_or_same e n small) [
+    | inl before ↦ ap first_failure (one_more_suc n)
+        ∙ first_in_front (map clause_of (all_below n)) (clause_of n ∷ []) (clause_of e).failure (first_below n e before none h)
+    | inr same ↦
+        let here : first_failure (map clause_of (all_below n)) ≡ None
+        = subst (λ m. first_failure (map clause_of (all_below m)) ≡ None) same none in
+        let fails : (clause_of n).holds ≡ false = subst (λ m. (clause_of m).holds ≡ false) same h in
+        ap first_failure (one_more_suc n) ∙ first_in_back (map clause_of (all_below n)) (clause_of n ∷ []) here
+        ∙ first_of_failing (clause_of n) [] fails ∙ ap (λ m. Some (clause_of m).failure) (sym same)
+  ]
+
+-- ---- the clauses of the rungs from rung k on
+
+module _ {R : Type 0} (clauses_of_rung : ℕ → R → List Clause) where
+  pub rung_and_rest : (rungs : List R) (k : ℕ) (rung : R) → k < length rungs → rung ≡ get_or rungs k rung
+      → rungs_clauses clauses_of_rung k (drop k rungs)
+      ≡ clauses_of_rung k rung ++ rungs_clauses clauses_of_rung (suc k) (drop (suc k) rungs)
+  rung_and_rest rungs k rung inside at =
+      let split : drop k rungs ≡ rung ∷ drop (suc k) rungs
+      = drop-cons rungs k rung inside ∙ ap (λ r. r ∷ drop (suc k) rungs) (sym at) in
+      ap (rungs_clauses clauses_of_rung k) split
+
+  pub past_rung : (rungs : List R) (k : ℕ) (rung : R) → k < length rungs → rung ≡ get_or rungs k rung
+      → first_failure (rungs_clauses clauses_of_rung 0 rungs) ≡ first_failure (rungs_clauses clauses_of_rung k (drop k rungs))
+      → None ≡ first_failure (clauses_of_rung k rung)
+      → first_failure (rungs_clauses clauses_of_rung 0 rungs)
+      ≡ first_failure (rungs_clauses clauses_of_rung (k + 1) (drop (k + 1) rungs))
+  past_rung rungs k rung inside at past none =
+      let next : suc k ≡ k + 1 = omega arith in
+      past ∙ ap first_failure (rung_and_rest rungs k rung inside at)
+      ∙ first_in_back (clauses_of_rung k rung) (rungs_clauses clauses_of_rung (suc k) (drop (suc k) rungs)) (sym none)
+      ∙ ap (λ m. first_failure (rungs_clauses clauses_of_rung m (drop m rungs))) next
+
+  pub fails_at_rung : (rungs : List R) (k : ℕ) (rung : R) (failure : Failure) → k < length rungs → rung ≡ get_or rungs k rung
+      → first_failure (rungs_clauses clauses_of_rung 0 rungs) ≡ first_failure (rungs_clauses clauses_of_rung k (drop k rungs))
+      → Some failure ≡ first_failure (clauses_of_rung k rung)
+      → Some failure ≡ first_failure (rungs_clauses clauses_of_rung 0 rungs)
+  fails_at_rung rungs k rung failure inside at past found =
+      sym (past ∙ ap first_failure (rung_and_rest rungs k rung inside at)
+      ∙ first_in_front (clauses_of_rung k rung) (rungs_clauses clauses_of_rung (suc k) (drop (suc k) rungs)) failure (sym found))
+
+  pub past_all : (rungs : List R) (k : ℕ) → length rungs ≤ k
+      → first_failure (rungs_clauses clauses_of_rung 0 rungs) ≡ first_failure (rungs_clauses clauses_of_rung k (drop k rungs))
+      → None ≡ first_failure (rungs_clauses clauses_of_rung 0 rungs)
+  past_all rungs k ends past =
+      sym (past ∙ ap (λ rest. first_failure (rungs_clauses clauses_of_rung k rest)) (drop_all k rungs ends))

@@ -1,0 +1,12 @@
+pub mod Adding
+pub mod Beating
+pub mod FailingClauses
+pub mod FirstFailures
+pub mod LastRung
+pub mod Halves
+pub mod Joining
+pub mod RightRungs
+pub mod AnswerForms
+pub mod RightAnswers
+pub mod OptimalAnswers
+pub mod Verdicts

@@ -1,0 +1,102 @@
+-- The clauses of the checker, in the order in which they are tried, and the first that fails.
+use Rattle.std.specs.Prelude.{ℕ, suc, ◌+◌, Bool, not, ◌==◌, if◌then◌else◌, List}
+use Rattle.std.specs.Prelude.{[], ◌∷◌, ◌++◌, length, map, Option, Some, None, slice_get}
+use Rattle.mat_sets.specs.Sets.{minus, all_below}
+use Rattle.mat_sets.specs.Weights.{◌⊕◌, is_same, weight, weight_at}
+use Rattle.mat_sets.specs.declared.weight.Weight.{Weight}
+use Rattle.mat_laws.specs.Ranks.{rank}
+use Rattle.mat_laws.specs.Searches.{is_beaten, has_addable}
+use Rattle.mat_any.specs.Trees.{is_independent}
+use Rattle.mat_desc.specs.Instances.{Instance, pair, list}
+use Rattle.mat_cert.specs.Certificates.{Certificate, intersect, best, last_rung}
+use Rattle.mat_cert.specs.declared.answer.PlainRung.{PlainRung}
+use Rattle.mat_cert.specs.declared.answer.PricedRung.{PricedRung}
+use Rattle.mat_check.specs.declared.reason.Reason.{Reason}
+use Rattle.mat_check.specs.declared.reason.Reason.TheVariants as reasons
+
+-- which clause fails, and its two places
+abbrev pub Failure : Type 0
+Failure = Reason × ℕ × ℕ
+
+-- a clause: whether it holds, and what is told where it fails
+pub record Clause : Type 0 where
+  pub holds : Bool
+  pub failure : Failure
+
+-- what is told of the first clause that fails
+abbrev pub first_failure : List Clause → Option Failure
+first_failure [] = None
+first_failure (clause ∷ clauses) = if clause.holds then first_failure clauses else Some clause.failure
+
+-- ---- the clauses of a rung
+
+-- the printed weight is that of the set
+abbrev pub weight_clause : List Weight → ℕ → Weight → List ℕ → Clause
+weight_clause w k printed set = record { holds = is_same printed (weight w set); failure = (reasons.Weight, k, 0) }
+
+-- the set is independent in the matroid with this number
+abbrev pub independence_clause : (List ℕ → Bool) → ℕ → ℕ → List ℕ → Clause
+independence_clause independent number k set = record { holds = independent set; failure = (reasons.Dependent, k, number) }
+
+-- the two parts add up to the weight of e
+abbrev pub sum_clause : List Weight → ℕ → List Weight → List Weight → ℕ → Clause
+sum_clause w k first second e = record {
+  holds = is_same (weight_at first e ⊕ weight_at second e) (weight_at w e);
+  failure = (reasons.Sum, k, e);
+}
+
+-- no independent set of as many elements is heavier in the matroid with this number
+abbrev pub heaviest_clause : ℕ → (List ℕ → Bool) → List Weight → ℕ → ℕ → List ℕ → Clause
+heaviest_clause n independent w number k set = record {
+  holds = not (is_beaten n independent (weight_at w) set);
+  failure = (reasons.Beaten, k, number);
+}
+
+-- rung k of a ladder of two matroids on n elements
+abbrev pub priced_rung_clauses : ℕ → (List ℕ → Bool) → (List ℕ → Bool) → List Weight → ℕ → PricedRung → List Clause
+priced_rung_clauses n p q w k rung =
+    weight_clause w k rung.weight rung.set ∷ independence_clause p 0 k rung.set ∷ independence_clause q 1 k rung.set
+    ∷ map (sum_clause w k rung.first rung.second) (all_below n)
+    ++ heaviest_clause n p rung.first 0 k rung.set ∷ heaviest_clause n q rung.second 1 k rung.set ∷ []
+
+-- rung k of the heaviest independent sets of a matroid on n elements
+abbrev pub plain_rung_clauses : ℕ → (List ℕ → Bool) → List Weight → ℕ → PlainRung → List Clause
+plain_rung_clauses n p w k rung =
+    weight_clause w k rung.weight rung.set ∷ independence_clause p 0 k rung.set ∷ heaviest_clause n p w 0 k rung.set ∷ []
+
+-- the rungs, of which the first is rung k
+abbrev pub rungs_clauses : {R : Type 0} → (ℕ → R → List Clause) → ℕ → List R → List Clause
+rungs_clauses clauses_of_rung k [] = []
+rungs_clauses clauses_of_rung k (rung ∷ rungs) = clauses_of_rung k rung ++ rungs_clauses clauses_of_rung (suc k) rungs
+
+-- ---- the clauses of an answer
+
+-- the answer has the problem's number of elements
+abbrev pub header_clause : ℕ → List Weight → Clause
+header_clause n w = record { holds = n == length w; failure = (reasons.Header, 0, 0) }
+
+-- the ranks of the cut in the second matroid and of its complement in the first add up to the size of the last rung
+abbrev pub cut_clause : ℕ → (List ℕ → Bool) → (List ℕ → Bool) → ℕ → List ℕ → Clause
+cut_clause n p q last cut = record {
+  holds = rank p (minus (all_below n) cut) + rank q cut == last;
+  failure = (reasons.Cut, 0, 0);
+}
+
+-- no element can be added to the last set
+abbrev pub last_clause : ℕ → (List ℕ → Bool) → ℕ → Option PlainRung → List Clause
+last_clause n p last None = []
+last_clause n p last (Some rung) = record { holds = not (has_addable n p rung.set); failure = (reasons.Short, last, 0) } ∷ []
+
+-- the clauses of an answer that fits the problem, in the order in which they are tried; of any other answer none
+abbrev pub clauses_of : Instance → Certificate → List Clause
+clauses_of (pair w first second) (intersect n rungs cut) =
+    header_clause n w ∷ rungs_clauses (priced_rung_clauses n (is_independent first) (is_independent second) w) 0 rungs
+    ++ cut_clause n (is_independent first) (is_independent second) (last_rung rungs) cut ∷ []
+clauses_of (list w (matroid ∷ [])) (best n rungs) =
+    header_clause n w ∷ rungs_clauses (plain_rung_clauses n (is_independent matroid) w) 0 rungs
+    ++ last_clause n (is_independent matroid) (last_rung rungs) (slice_get rungs (last_rung rungs))
+clauses_of instance answer = []
+
+-- the first clause of an answer that fails, with its places
+abbrev pub failure_of : Instance → Certificate → Option Failure
+failure_of instance answer = first_failure (clauses_of instance answer)

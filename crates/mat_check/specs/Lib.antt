@@ -1,0 +1,6 @@
+pub mod Reasons
+pub mod Fitting
+pub mod Clauses
+pub mod Views
+pub mod Right
+pub mod Optimal

@@ -1,0 +1,180 @@
+//! The clauses of a rung.
+
+ghost use Rattle.std.specs.Prelude.{◌≡◌, ◌<◌, ◌≤◌, ◌^◌, ◌++◌, ◌∷◌, [], length, map, true, IfOk};
+ghost use Rattle.mat_sets.specs.Sets.{all_below};
+ghost use Rattle.mat_sets.specs.Weights.{◌⊕◌, is_same, AreWeightsWithin, weight_at};
+ghost use Rattle.mat_cert.specs.Certificates.{IsRangedPlainRung, IsRangedPricedRung};
+ghost use Rattle.mat_greedy.specs.Greedy.{AreHeaviestWeights};
+ghost use Rattle.mat_check.specs.Clauses.{first_failure, sum_clause, heaviest_clause, plain_rung_clauses, priced_rung_clauses};
+
+use crate::reason::Reason;
+use crate::searches::is_beaten;
+use mat_cert::{PlainRung, PricedRung};
+use mat_laws::Matroid;
+use mat_sets::{PairWeights, Weight, weigh};
+use std::alloc::{AllocError, Global};
+
+// Whether the two parts add up to the weight of e.
+fn adds_up(weights: &[Weight], first: &[Weight], second: &[Weight], e: u32) -> bool
+    requires below { e < length weights.now }
+    requires first { length first.now ≡ length weights.now }
+    requires second { length second.now ≡ length weights.now }
+    requires first_small { AreWeightsWithin (10 ^ 30) first.now }
+    requires second_small { AreWeightsWithin (10 ^ 30) second.now }
+    ensures { result ≡ is_same (weight_at first.now e ⊕ weight_at second.now e) (weight_at weights.now e) }
+{
+    let at = e as usize;
+    first[at] + second[at] == weights[at]
+}
+
+// The first element at which the two parts of rung k don't add up to the weight, as the failure that it is.
+fn sum_failure(
+    weights: &[Weight],
+    first: &[Weight],
+    second: &[Weight],
+    k: u32,
+) -> Option<(Reason, u32, u32)>
+    requires few { length weights.now ≤ 500 }
+    requires first { length first.now ≡ length weights.now }
+    requires second { length second.now ≡ length weights.now }
+    requires first_small { AreWeightsWithin (10 ^ 30) first.now }
+    requires second_small { AreWeightsWithin (10 ^ 30) second.now }
+    ensures { result ≡ first_failure (map (sum_clause weights.now k first.now second.now) (all_below (length weights.now))) }
+{
+    let count = weights.len() as u32;
+    for e in 0..count {
+        if !adds_up(weights, first, second, e) {
+            return Some((Reason::Sum, k, e));
+        }
+    }
+    None
+}
+
+/// The first clause of rung k of the heaviest independent sets of a matroid that fails, told by the weights of heaviest sets of
+/// each size. The only error is want of memory.
+pub(crate) fn plain_rung_failure<M: Matroid>(
+    alloc: Global,
+    m: &M,
+    weights: &[Weight],
+    heaviest: &PairWeights,
+    k: u32,
+    rung: &PlainRung,
+) -> Result<Option<(Reason, u32, u32)>, AllocError>
+    requires sound { M.sound m.now }
+    requires lengths { length weights.now ≡ M.ground_size m.now }
+    requires few { length weights.now ≤ 500 }
+    requires small { AreWeightsWithin (10 ^ 30) weights.now }
+    requires heaviest { AreHeaviestWeights (M.ground_size m.now) (M.indep m.now) (weight_at weights.now) heaviest.now }
+    requires ranged { IsRangedPlainRung (length weights.now) k rung.now }
+    ensures { IfOk result (λ found. found ≡ first_failure (plain_rung_clauses (length weights.now) (M.indep m.now) weights.now k rung.now)) }
+{
+    if weigh(&rung.set, weights) != rung.weight {
+        return Ok(Some((Reason::Weight, k, 0)));
+    }
+    if !m.independent(alloc, &rung.set)? {
+        return Ok(Some((Reason::Dependent, k, 0)));
+    }
+    if is_beaten(m, weights, heaviest, &rung.set) {
+        return Ok(Some((Reason::Beaten, k, 0)));
+    }
+    Ok(None)
+}
+
+// The first clause of the split of rung k that fails because a heavier set is there, for a set that is independent in both matroids.
+fn beaten_failure<A: Matroid, B: Matroid>(
+    a: &A,
+    b: &B,
+    first: &PairWeights,
+    second: &PairWeights,
+    k: u32,
+    rung: &PricedRung,
+) -> Option<(Reason, u32, u32)>
+    requires first_sound { A.sound a.now }
+    requires second_sound { B.sound b.now }
+    requires first_lengths { length rung.now.first ≡ A.ground_size a.now }
+    requires second_lengths { length rung.now.second ≡ B.ground_size b.now }
+    requires few { length rung.now.set ≤ 500 }
+    requires first_small { AreWeightsWithin (10 ^ 30) rung.now.first }
+    requires second_small { AreWeightsWithin (10 ^ 30) rung.now.second }
+    requires first_heaviest { AreHeaviestWeights (A.ground_size a.now) (A.indep a.now) (weight_at rung.now.first) first.now }
+    requires second_heaviest { AreHeaviestWeights (B.ground_size b.now) (B.indep b.now) (weight_at rung.now.second) second.now }
+    requires first_passes { A.indep a.now rung.now.set ≡ true }
+    requires second_passes { B.indep b.now rung.now.set ≡ true }
+    ensures { result ≡ first_failure (heaviest_clause (A.ground_size a.now) (A.indep a.now) rung.now.first 0 k rung.now.set
+        ∷ heaviest_clause (B.ground_size b.now) (B.indep b.now) rung.now.second 1 k rung.now.set ∷ []) }
+{
+    if is_beaten(a, rung.first.as_slice(), first, &rung.set) {
+        return Some((Reason::Beaten, k, 0));
+    }
+    if is_beaten(b, rung.second.as_slice(), second, &rung.set) {
+        return Some((Reason::Beaten, k, 1));
+    }
+    None
+}
+
+// The first clause of the split of rung k that fails, for a set that is independent in both matroids.
+fn split_failure<A: Matroid, B: Matroid>(
+    a: &A,
+    b: &B,
+    weights: &[Weight],
+    first: &PairWeights,
+    second: &PairWeights,
+    k: u32,
+    rung: &PricedRung,
+) -> Option<(Reason, u32, u32)>
+    requires first_sound { A.sound a.now }
+    requires second_sound { B.sound b.now }
+    requires first_lengths { length weights.now ≡ A.ground_size a.now }
+    requires second_lengths { length weights.now ≡ B.ground_size b.now }
+    requires few { length weights.now ≤ 500 }
+    requires ranged { IsRangedPricedRung (length weights.now) k rung.now }
+    requires first_heaviest { AreHeaviestWeights (A.ground_size a.now) (A.indep a.now) (weight_at rung.now.first) first.now }
+    requires second_heaviest { AreHeaviestWeights (B.ground_size b.now) (B.indep b.now) (weight_at rung.now.second) second.now }
+    requires first_passes { A.indep a.now rung.now.set ≡ true }
+    requires second_passes { B.indep b.now rung.now.set ≡ true }
+    ensures { result ≡ first_failure (
+        map (sum_clause weights.now k rung.now.first rung.now.second) (all_below (length weights.now))
+        ++ heaviest_clause (length weights.now) (A.indep a.now) rung.now.first 0 k rung.now.set
+        ∷ heaviest_clause (length weights.now) (B.indep b.now) rung.now.second 1 k rung.now.set ∷ []) }
+{
+    if let Some(failure) = sum_failure(weights, rung.first.as_slice(), rung.second.as_slice(), k) {
+        return Some(failure);
+    }
+    beaten_failure(a, b, first, second, k, rung)
+}
+
+/// The first clause of rung k of a ladder of two matroids that fails, told by the weights of heaviest sets of each size under
+/// each half of its split. The only error is want of memory.
+pub(crate) fn priced_rung_failure<A: Matroid, B: Matroid>(
+    alloc: Global,
+    a: &A,
+    b: &B,
+    weights: &[Weight],
+    first: &PairWeights,
+    second: &PairWeights,
+    k: u32,
+    rung: &PricedRung,
+) -> Result<Option<(Reason, u32, u32)>, AllocError>
+    requires first_sound { A.sound a.now }
+    requires second_sound { B.sound b.now }
+    requires first_lengths { length weights.now ≡ A.ground_size a.now }
+    requires second_lengths { length weights.now ≡ B.ground_size b.now }
+    requires few { length weights.now ≤ 500 }
+    requires small { AreWeightsWithin (10 ^ 30) weights.now }
+    requires ranged { IsRangedPricedRung (length weights.now) k rung.now }
+    requires first_heaviest { AreHeaviestWeights (A.ground_size a.now) (A.indep a.now) (weight_at rung.now.first) first.now }
+    requires second_heaviest { AreHeaviestWeights (B.ground_size b.now) (B.indep b.now) (weight_at rung.now.second) second.now }
+    ensures { IfOk result (λ found. found
+        ≡ first_failure (priced_rung_clauses (length weights.now) (A.indep a.now) (B.indep b.now) weights.now k rung.now)) }
+{
+    if weigh(&rung.set, weights) != rung.weight {
+        return Ok(Some((Reason::Weight, k, 0)));
+    }
+    if !a.independent(alloc, &rung.set)? {
+        return Ok(Some((Reason::Dependent, k, 0)));
+    }
+    if !b.independent(alloc, &rung.set)? {
+        return Ok(Some((Reason::Dependent, k, 1)));
+    }
+    Ok(split_failure(a, b, weights, first, second, k, rung))
+}
