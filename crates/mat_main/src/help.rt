@@ -8,23 +8,27 @@ pub(crate) const HELP: &str = "\
 matbench: weighted optimisation over matroids, with answers that are proved best
 
 usage: matbench show FILE          the canonical text of a description
+       matbench best FILE          a heaviest set of each size that is independent in one matroid
        matbench intersect FILE     a heaviest set of each size that is independent in both matroids
+       matbench check FILE CERT    whether a certificate is right for a description: yes, or what fails of it
        matbench --help             this text
        matbench --version          the version
 
-FILE is the name of a description, or - for standard input. The answer is written to standard output.
+FILE is the name of a description, CERT that of a certificate, and - is standard input. What a command gives is
+written to standard output.
 
 A description is a text. Each line ends with a newline, and its words have one space between them.
     matroids 1                     the version of the format
     pair N                         the form: two matroids on the elements 0 to N-1, N at most 500
-    weights W W ..                 a weight for each element, from -1000000000000 to 1000000000000
+    weights W W ..                 a weight for each element, from -1000000000000 to 1000000000000; or A:B, two such
+                                   numbers, of which B breaks ties and is not 0
     partition Q                    the first matroid: Q classes, at most 500 ..
     class CAP E E ..               .. each with at most CAP of its elements in a set; no element in two classes
     uniform CAP                    the second matroid: sets of at most CAP elements (or a partition again)
     end
-Other forms, which show reads: list N M, then weights and M matroids; graph V E, then E lines edge U W;
-rooted V E R, then E lines arc T H COST; coloured V E C, then E lines edge U W COLOUR WEIGHT;
-table R C E, then E lines cell ROW COLUMN WEIGHT.
+For best the form is list N 1, then weights and one matroid. Other forms, which show reads: list N M, then
+weights and M matroids; graph V E, then E lines edge U W; rooted V E R, then E lines arc T H COST;
+coloured V E C, then E lines edge U W COLOUR WEIGHT; table R C E, then E lines cell ROW COLUMN WEIGHT.
 Other matroids: laminar Q, then Q lines set CAP E E .., of which any two are apart or nested; graphic V, then N
 lines edge U W, whose sets are forests; gf2 D, then N lines column BITS of D digits 0 or 1, whose sets have no
 part that adds up to zero; transversal Q, then Q lines set E E .., whose sets can be given to different ones of
@@ -32,12 +36,27 @@ them; gammoid V A, then sources S S .., targets T T .. and A lines arc T H, whos
 sources at once by routes that do not meet.
 Matroids of the matroid that follows: dual; truncate CAP; restrict E E ..; contract E E ..; at most 16 deep.
 
-A certificate has for each size K a rung: its weight, its set, and two lists of numbers that add up to the
-weights, under which the set is heaviest of its size in the first and in the second matroid. The last
-line but one is a cut, which shows that no larger set is independent in both.
+A certificate is a text of such lines, the answer of best or of intersect. It has a rung for each size from 0 on.
+    certificate 1                  the version of the format
+    answer intersect N K           the command (best, or intersect), the number of elements, and the largest size
+    rung SIZE WEIGHT               for each size the weight of a set of so many elements ..
+    set E E ..                     .. and the set
+    first W W ..                   of intersect two lists of weights, which add up to the given ones, and under
+    second W W ..                  which the set is heaviest of its size in the first and in the second matroid
+    cut E E ..                     of intersect a set which shows that no larger set is independent in both
+    end
 
-exit statuses: 0 done, 2 usage, 3 bad description, 5 read fault, 6 write fault, 7 not enough memory,
-8 file too long, 9 wrong shape. A refusal writes one line to standard error; that of a bad
-description names the first fault and its line.
+exit statuses, and the line that is then written to standard error:
+    0  done
+    1  the certificate is not right: the first clause of it that fails (header, weight, dependent, sum, beaten,
+       short or cut), with two numbers that say where
+    2  usage: the words are none of the above
+    3  bad description: its first fault, by number and name, and the line
+    4  bad certificate: likewise
+    5  read fault: a file could not be opened or read
+    6  write fault: the answer could not be written whole
+    7  memory: there was not enough
+    8  too long: a description of more than 4194304 bytes, or a certificate of more than 67108864
+    9  wrong shape: the form of the problem is not the command's, or not that of the certificate's command
 The script ./matbench ends with 70 where it cannot build the program.
 ";

@@ -86,10 +86,13 @@ mod tests {
         let help = text_for(rt.alloc(), &["--help"])?.unwrap_or("");
         let parts = [
             "matbench show FILE",
+            "matbench best FILE",
             "matbench intersect FILE",
+            "matbench check FILE CERT",
             "matbench --help",
             "matbench --version",
-            "exit statuses: 0 done, 2 usage, 3 bad description, 5 read fault, 6 write fault",
+            "\n    0  done\n    1  the certificate is not right",
+            "\n    9  wrong shape: ",
         ];
         for part in parts {
             assert!(rt; help.contains(part));

@@ -1,15 +1,15 @@
 -- How a command ended, as each clause of the top call says it: by cases on the refusal.
 use Rattle.std.proofs.Common.{◌≡◌, ℕ, List, [], Option, Some, None, Result, Ok, Err, refl, inl, inr, arith}
-use Rattle.std.specs.Prelude.{◌⊎◌, IfSome, IsSome, IsSomeAnd}
+use Rattle.std.specs.Prelude.{◌⊎◌}
 use Rattle.mat_shelf.specs.Faults.{Rose}
 use Rattle.mat_shelf.proofs.WritingLemmas.{Appended-nil}
 use Rattle.mat_top.specs.declared.status.Status.{Status}
 use Rattle.mat_top.specs.declared.status.Status.TheVariants as statuses
 use Rattle.mat_top.specs.declared.status.Refusal.{Refusal}
 use Rattle.mat_top.specs.declared.status.Refusal.TheVariants as refusals
-use Rattle.mat_top.specs.CommandLines.{CommandLine, description_file}
+use Rattle.mat_top.specs.CommandLines.{CommandLine}
 use Rattle.mat_top.specs.Statuses.{status_of, note_of}
-use Rattle.mat_top.specs.Outcomes.{IsAnswerTo, IsBytesOutcome, Tells, IsOutcome, IsStatus, IsWritten, IsNote, IsNoted, IsTrueOf}
+use Rattle.mat_top.specs.Outcomes.{CallReaches, Tells, IsOutcome, IsStatus, IsWritten, IsNote, IsNoted, IsTrueOf}
 use Rattle.mat_top.specs.Refusals.{IsRefusal, IsPut, MayBeWritten, IsEnded}
 
 abbrev pub Ended : Type 0
@@ -21,83 +21,88 @@ status_at (Ok done) = statuses.Done
 status_at (Err refusal) = status_of refusal
 
 -- a text was written, or a prefix of it
-pub ended-put : (line : CommandLine) (held : Option (List ℕ)) (before now : ℕ) (old : Option (List ℕ)) (out_before : ℕ) (new : Option (List ℕ)) (out_now : ℕ) (text : List ℕ) (end : Ended)
-    → MayBeWritten line held text → IsPut text old out_before new out_now end → IsEnded line held before now old out_before new out_now end
-ended-put line held before now old out_before new out_now text (Ok done) may put = (text, may, put)
-ended-put line held before now old out_before new out_now text (Err refusals.WriteFault) may put = (text, may, put.0, put.1)
-ended-put line held before now old out_before new out_now text (Err refusals.Usage) may put = absurd put
-ended-put line held before now old out_before new out_now text (Err (refusals.BadDescription kind number)) may put = absurd put
-ended-put line held before now old out_before new out_now text (Err refusals.ReadFault) may put = absurd put
-ended-put line held before now old out_before new out_now text (Err refusals.Memory) may put = absurd put
-ended-put line held before now old out_before new out_now text (Err refusals.TooLong) may put = absurd put
-ended-put line held before now old out_before new out_now text (Err refusals.WrongShape) may put = absurd put
+pub ended-put : (held : List ℕ → Option (List ℕ)) (line : CommandLine) (before now : List ℕ → ℕ) (old : Option (List ℕ))
+    (out_before : ℕ) (new : Option (List ℕ)) (out_now : ℕ) (text : List ℕ) (end : Ended)
+    → MayBeWritten held line text → IsPut text old out_before new out_now end → IsEnded held line before now old out_before new out_now end
+ended-put held line before now old out_before new out_now text (Ok done) may put = (text, may, put)
+ended-put held line before now old out_before new out_now text (Err refusals.WriteFault) may put = (text, may, put.0, put.1)
+ended-put held line before now old out_before new out_now text (Err refusals.Usage) may put = absurd put
+ended-put held line before now old out_before new out_now text (Err (refusals.BadDescription kind number)) may put = absurd put
+ended-put held line before now old out_before new out_now text (Err (refusals.BadCertificate kind number)) may put = absurd put
+ended-put held line before now old out_before new out_now text (Err (refusals.No reason first second)) may put = absurd put
+ended-put held line before now old out_before new out_now text (Err refusals.ReadFault) may put = absurd put
+ended-put held line before now old out_before new out_now text (Err refusals.Memory) may put = absurd put
+ended-put held line before now old out_before new out_now text (Err refusals.TooLong) may put = absurd put
+ended-put held line before now old out_before new out_now text (Err refusals.WrongShape) may put = absurd put
 
 -- there was no text
-pub ended-refused : (line : CommandLine) (held : Option (List ℕ)) (before now : ℕ) (old : Option (List ℕ)) (out_before out_now : ℕ) (refusal : Refusal)
-    → IsRefusal line held before now refusal → IsEnded line held before now old out_before old out_now (Err refusal)
-ended-refused line held before now old out_before out_now refusals.WriteFault cause = absurd cause
-ended-refused line held before now old out_before out_now refusals.Usage cause = absurd cause
-ended-refused line held before now old out_before out_now (refusals.BadDescription kind number) cause = (cause, refl)
-ended-refused line held before now old out_before out_now refusals.ReadFault cause = (cause, refl)
-ended-refused line held before now old out_before out_now refusals.Memory cause = (cause, refl)
-ended-refused line held before now old out_before out_now refusals.TooLong cause = (cause, refl)
-ended-refused line held before now old out_before out_now refusals.WrongShape cause = (cause, refl)
+pub ended-refused : (held : List ℕ → Option (List ℕ)) (line : CommandLine) (before now : List ℕ → ℕ) (old : Option (List ℕ))
+    (out_before : ℕ) (out_now : ℕ) (refusal : Refusal)
+    → IsRefusal held line before now refusal → IsEnded held line before now old out_before old out_now (Err refusal)
+ended-refused held line before now old out_before out_now refusals.WriteFault cause = absurd cause
+ended-refused held line before now old out_before out_now refusals.Usage cause = absurd cause
+ended-refused held line before now old out_before out_now (refusals.BadDescription kind number) cause = (cause, refl)
+ended-refused held line before now old out_before out_now (refusals.BadCertificate kind number) cause = (cause, refl)
+ended-refused held line before now old out_before out_now (refusals.No reason first second) cause = (cause, refl)
+ended-refused held line before now old out_before out_now refusals.ReadFault cause = (cause, refl)
+ended-refused held line before now old out_before out_now refusals.Memory cause = (cause, refl)
+ended-refused held line before now old out_before out_now refusals.TooLong cause = (cause, refl)
+ended-refused held line before now old out_before out_now refusals.WrongShape cause = (cause, refl)
 
--- where a file is told, a fact of what is told
-told : (o : Option (List ℕ)) (P Q : List ℕ → Type 0) → IsSome o → IfSome o P → ((bytes : List ℕ) → P bytes → Q bytes) → IsSomeAnd o Q
-told None P Q some h f = absurd cc
-told (Some bytes) P Q some h f = f bytes h
-
-if_told : (o : Option (List ℕ)) (P Q : List ℕ → Type 0) → ((bytes : List ℕ) → P bytes → Q bytes) → IfSome o P → IfSome o Q
-if_told None P Q f h = tt
-if_told (Some bytes) P Q f h = f bytes h
-
-module _ (held : List ℕ → Option (List ℕ)) (line : CommandLine) (before now : ℕ) (old : Option (List ℕ)) (out_before : ℕ) (new : Option (List ℕ)) (out_now : ℕ) where
+module _ (held : List ℕ → Option (List ℕ)) (line : CommandLine) (before now : List ℕ → ℕ) (old : Option (List ℕ)) (out_before : ℕ)
+    (new : Option (List ℕ)) (out_now : ℕ) where
   abbrev Here : Ended → Type 0
-  Here end = IsEnded line (held (description_file line)) before now old out_before new out_now end
-
-  done : (text : List ℕ) → IsSome (held (description_file line)) → MayBeWritten line (held (description_file line)) text → IsOutcome held (Some line) statuses.Done
-  done text some may = told (held (description_file line)) (λ bytes. IsAnswerTo line bytes text) (λ bytes. IsBytesOutcome line bytes statuses.Done) some may.1 (λ bytes a. (a.instance, a.described, a.form))
+  Here end = IsEnded held line before now old out_before new out_now end
 
   -- the outcome is reached, or there is a cause
-  pub ended-outcome : (end : Ended) → Here end → Tells held (Some line) → ¬ (Rose before now) → ¬ (Rose out_before out_now)
-      → IsOutcome held (Some line) (status_at end) ⊎ (status_at end ≡ statuses.Memory)
-  ended-outcome (Ok d) (text, may, put) some calm quiet = inl (done text some may)
+  pub ended-outcome : (end : Ended) → Here end → Tells held (Some line)
+      → ((name : List ℕ) → CallReaches held (Some line) name → ¬ (Rose (before name) (now name)))
+      → ¬ (Rose out_before out_now) → IsOutcome held (Some line) (status_at end) ⊎ (status_at end ≡ statuses.Memory)
+  ended-outcome (Ok d) (text, may, put) some calm quiet = inl (may.outcome some)
   ended-outcome (Err refusals.WriteFault) (text, may, put, rose) some calm quiet = absurd (quiet rose)
   ended-outcome (Err refusals.Usage) e some calm quiet = absurd e.0
-  ended-outcome (Err refusals.ReadFault) e some calm quiet = absurd (calm e.0)
+  ended-outcome (Err refusals.ReadFault) e some calm quiet = absurd (calm e.0.0 e.0.1 e.0.2)
   ended-outcome (Err refusals.Memory) e some calm quiet = inr refl
-  ended-outcome (Err (refusals.BadDescription kind number)) e some calm quiet = inl (told (held (description_file line)) _ _ some e.0 (λ bytes f. ((kind, number), f)))
-  ended-outcome (Err refusals.TooLong) e some calm quiet = inl (told (held (description_file line)) _ _ some e.0 (λ bytes f. f))
-  ended-outcome (Err refusals.WrongShape) e some calm quiet = inl (told (held (description_file line)) _ _ some e.0 (λ bytes f. f))
+  ended-outcome (Err (refusals.BadDescription kind number)) e some calm quiet = inl (e.0.0 some)
+  ended-outcome (Err (refusals.BadCertificate kind number)) e some calm quiet = inl (e.0.0 some)
+  ended-outcome (Err (refusals.No reason first second)) e some calm quiet = inl (e.0.0 some)
+  ended-outcome (Err refusals.TooLong) e some calm quiet = inl (e.0.0 some)
+  ended-outcome (Err refusals.WrongShape) e some calm quiet = inl (e.0.0 some)
 
   pub ended-status : (end : Ended) → Here end → Tells held (Some line) → IsStatus held (Some line) (status_at end)
-  ended-status (Ok d) (text, may, put) some = done text some may
-  ended-status (Err refusals.WriteFault) (text, may, put, rose) some = done text some may
+  ended-status (Ok d) (text, may, put) some = may.outcome some
+  ended-status (Err refusals.WriteFault) (text, may, put, rose) some = may.outcome some
   ended-status (Err refusals.Usage) e some = absurd e.0
   ended-status (Err refusals.ReadFault) e some = tt
   ended-status (Err refusals.Memory) e some = tt
-  ended-status (Err (refusals.BadDescription kind number)) e some = told (held (description_file line)) _ _ some e.0 (λ bytes f. ((kind, number), f))
-  ended-status (Err refusals.TooLong) e some = told (held (description_file line)) _ _ some e.0 (λ bytes f. f)
-  ended-status (Err refusals.WrongShape) e some = told (held (description_file line)) _ _ some e.0 (λ bytes f. f)
+  ended-status (Err (refusals.BadDescription kind number)) e some = e.0.0 some
+  ended-status (Err (refusals.BadCertificate kind number)) e some = e.0.0 some
+  ended-status (Err (refusals.No reason first second)) e some = e.0.0 some
+  ended-status (Err refusals.TooLong) e some = e.0.0 some
+  ended-status (Err refusals.WrongShape) e some = e.0.0 some
 
   pub ended-written : (end : Ended) → Here end → IsWritten held (Some line) old new (status_at end)
-  ended-written (Ok d) (text, may, put) = (text, may, put)
-  ended-written (Err refusals.WriteFault) (text, may, put, rose) = (text, may, put)
+  ended-written (Ok d) (text, may, put) = (text, may.output, put)
+  ended-written (Err refusals.WriteFault) (text, may, put, rose) = (text, may.output, put)
   ended-written (Err refusals.Usage) e = absurd e.0
+  ended-written (Err (refusals.BadDescription kind number)) e = e.1
+  ended-written (Err (refusals.BadCertificate kind number)) e = e.1
+  ended-written (Err (refusals.No reason first second)) e = e.1
   ended-written (Err refusals.ReadFault) e = e.1
   ended-written (Err refusals.Memory) e = e.1
-  ended-written (Err (refusals.BadDescription kind number)) e = e.1
   ended-written (Err refusals.TooLong) e = e.1
   ended-written (Err refusals.WrongShape) e = e.1
 
-  pub ended-read_fault : (end : Ended) → Here end → status_at end ≡ statuses.ReadFault → Rose before now
+  pub ended-read_fault : (end : Ended) → Here end → status_at end ≡ statuses.ReadFault
+      → (name : List ℕ) × CallReaches held (Some line) name × Rose (before name) (now name)
   ended-read_fault (Ok d) e is = absurd cc
   ended-read_fault (Err refusals.WriteFault) e is = absurd cc
   ended-read_fault (Err refusals.Usage) e is = absurd cc
+  ended-read_fault (Err (refusals.BadDescription kind number)) e is = absurd cc
+  ended-read_fault (Err (refusals.BadCertificate kind number)) e is = absurd cc
+  ended-read_fault (Err (refusals.No reason first second)) e is = absurd cc
   ended-read_fault (Err refusals.ReadFault) e is = e.0
   ended-read_fault (Err refusals.Memory) e is = absurd cc
-  ended-read_fault (Err (refusals.BadDescription kind number)) e is = absurd cc
   ended-read_fault (Err refusals.TooLong) e is = absurd cc
   ended-read_fault (Err refusals.WrongShape) e is = absurd cc
 
@@ -105,9 +110,11 @@ module _ (held : List ℕ → Option (List ℕ)) (line : CommandLine) (before no
   ended-write_fault (Ok d) e is = absurd cc
   ended-write_fault (Err refusals.WriteFault) (text, may, put, rose) is = rose
   ended-write_fault (Err refusals.Usage) e is = absurd cc
+  ended-write_fault (Err (refusals.BadDescription kind number)) e is = absurd cc
+  ended-write_fault (Err (refusals.BadCertificate kind number)) e is = absurd cc
+  ended-write_fault (Err (refusals.No reason first second)) e is = absurd cc
   ended-write_fault (Err refusals.ReadFault) e is = absurd cc
   ended-write_fault (Err refusals.Memory) e is = absurd cc
-  ended-write_fault (Err (refusals.BadDescription kind number)) e is = absurd cc
   ended-write_fault (Err refusals.TooLong) e is = absurd cc
   ended-write_fault (Err refusals.WrongShape) e is = absurd cc
 
@@ -115,29 +122,36 @@ module _ (held : List ℕ → Option (List ℕ)) (line : CommandLine) (before no
   ended-not_usage (Ok d) e is = absurd cc
   ended-not_usage (Err refusals.WriteFault) e is = absurd cc
   ended-not_usage (Err refusals.Usage) e is = absurd e.0
+  ended-not_usage (Err (refusals.BadDescription kind number)) e is = absurd cc
+  ended-not_usage (Err (refusals.BadCertificate kind number)) e is = absurd cc
+  ended-not_usage (Err (refusals.No reason first second)) e is = absurd cc
   ended-not_usage (Err refusals.ReadFault) e is = absurd cc
   ended-not_usage (Err refusals.Memory) e is = absurd cc
-  ended-not_usage (Err (refusals.BadDescription kind number)) e is = absurd cc
   ended-not_usage (Err refusals.TooLong) e is = absurd cc
   ended-not_usage (Err refusals.WrongShape) e is = absurd cc
 
   -- the refusal tells what is so
   pub ended-true : (refusal : Refusal) → Here (Err refusal) → IsTrueOf held (Some line) refusal
   ended-true refusals.WriteFault e = tt
-  ended-true refusals.Usage e = tt
+  ended-true refusals.Usage e = absurd e.0
+  ended-true (refusals.BadDescription kind number) e = e.0.1
+  ended-true (refusals.BadCertificate kind number) e = e.0.1
+  ended-true (refusals.No reason first second) e = e.0.1
   ended-true refusals.ReadFault e = tt
   ended-true refusals.Memory e = tt
-  ended-true (refusals.BadDescription kind number) e = e.0
-  ended-true refusals.TooLong e = tt
-  ended-true refusals.WrongShape e = tt
+  ended-true refusals.TooLong e = e.0.1
+  ended-true refusals.WrongShape e = e.0.1
 
 -- a refusal's note is that of its status
-pub note_is : (held : List ℕ → Option (List ℕ)) (asked : Option CommandLine) (refusal : Refusal) → IsTrueOf held asked refusal → IsNote held asked (status_of refusal) (note_of refusal)
+pub note_is : (held : List ℕ → Option (List ℕ)) (asked : Option CommandLine) (refusal : Refusal) → IsTrueOf held asked refusal
+    → IsNote held asked (status_of refusal) (note_of refusal)
 note_is held asked refusals.WriteFault h = (refusals.WriteFault, refl, refl, h)
 note_is held asked refusals.Usage h = (refusals.Usage, refl, refl, h)
 note_is held asked refusals.ReadFault h = (refusals.ReadFault, refl, refl, h)
 note_is held asked refusals.Memory h = (refusals.Memory, refl, refl, h)
 note_is held asked (refusals.BadDescription kind number) h = (refusals.BadDescription kind number, refl, refl, h)
+note_is held asked (refusals.BadCertificate kind number) h = (refusals.BadCertificate kind number, refl, refl, h)
+note_is held asked (refusals.No reason first second) h = (refusals.No reason first second, refl, refl, h)
 note_is held asked refusals.TooLong h = (refusals.TooLong, refl, refl, h)
 note_is held asked refusals.WrongShape h = (refusals.WrongShape, refl, refl, h)
 

@@ -1,6 +1,11 @@
 pub mod Words
 pub mod ReadingLemmas
+pub mod SetWeights
 pub mod PricedLadder
+pub mod PlainLadder
 pub mod Refusing
+pub mod Judging
 pub mod Ending
 pub mod Pieces
+pub mod PrintedSolutions
+pub mod Accepted

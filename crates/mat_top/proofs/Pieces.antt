@@ -1,5 +1,6 @@
 -- Pieces that are written one after the other: where the sink fails, the pieces before and a prefix of the next are a prefix of them all.
-use Rattle.std.proofs.Common.{◌≡◌, ℕ, ◌+◌, ◌-◌, ◌<◌, List, ◌++◌, length, take, drop, get_or, Option, sym, ap, subst, ◌∙◌}
+use Rattle.std.proofs.Common.{◌≡◌, ℕ, ◌+◌, ◌-◌, ◌<◌, List, ◌++◌, length, take, drop, get_or, Option, sym, ap, subst}
+use Rattle.std.proofs.Common.{◌∙◌}
 use Rattle.std.specs.Prelude.{flat_map}
 use Rattle.std.specs.Borrow.{Bor}
 use Rattle.std.proofs.lemmas.List.{take_rest, take-append-drop, drop_more}
@@ -7,12 +8,14 @@ use Rattle.std.proofs.lemmas.List.Concat.{flat_map-append}
 use Rattle.mat_shelf.specs.Writing.{Appended, AppendedPrefix}
 use Rattle.mat_shelf.proofs.WritingLemmas.{AppendedPrefix-then, AppendedPrefix-append}
 
-flat_map-at : {X : Type 0} (f : X → List ℕ) (xs : List X) (i : ℕ) (d : X) → i < length xs → flat_map f xs ≡ flat_map f (take i xs) ++ (f (get_or xs i d) ++ flat_map f (drop (i + 1) xs))
+flat_map-at : {X : Type 0} (f : X → List ℕ) (xs : List X) (i : ℕ) (d : X) → i < length xs
+    → flat_map f xs ≡ flat_map f (take i xs) ++ (f (get_or xs i d) ++ flat_map f (drop (i + 1) xs))
 flat_map-at {X} f xs i d lt =
     ap (flat_map f) (sym (take-append-drop i xs)) ∙ flat_map-append f (take i xs) (drop i xs)
     ∙ ap (λ (t : List X). flat_map f (take i xs) ++ flat_map f t) (drop_more xs i d lt)
 
-pub pieces_prefix : (a b c : Option (List ℕ)) (pieces : List (Bor (List ℕ))) (i : ℕ) (d : Bor (List ℕ)) → i < length pieces → Appended a (flat_map (λ piece. piece.now) (take i pieces)) b
+pub pieces_prefix : (a b c : Option (List ℕ)) (pieces : List (Bor (List ℕ))) (i : ℕ) (d : Bor (List ℕ)) → i < length pieces
+    → Appended a (flat_map (λ piece. piece.now) (take i pieces)) b
     → AppendedPrefix b (get_or pieces i d).now c → AppendedPrefix a (flat_map (λ piece. piece.now) pieces) c
 pieces_prefix a b c pieces i d lt p q =
     let before = flat_map (λ (piece : Bor (List ℕ)). piece.now) (take i pieces) in
@@ -21,5 +24,6 @@ pieces_prefix a b c pieces i d lt p q =
     (AppendedPrefix-then a b c before ((get_or pieces i d).now ++ after) p (AppendedPrefix-append b c (get_or pieces i d).now after q))
 
 -- what stands at the end of a buffer
-pub piece_is : (buffer : List ℕ) (at : ℕ) (text : List ℕ) → length buffer ≡ 40 → drop at buffer ≡ text → take (40 - at) (drop at buffer) ≡ text
+pub piece_is : (buffer : List ℕ) (at : ℕ) (text : List ℕ) → length buffer ≡ 40 → drop at buffer ≡ text
+    → take (40 - at) (drop at buffer) ≡ text
 piece_is buffer at text long e = rw (sym long, take_rest) e

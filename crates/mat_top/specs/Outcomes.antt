@@ -1,27 +1,31 @@
 -- What a call does, where the shelf tells the files that it needs.
-use Rattle.std.specs.Prelude.{◌≡◌, ℕ, ◌<◌, ◌≤◌, List, [], length, Option, Some, None, IsSome, IfSome, IsSomeAnd, Err}
+use Rattle.std.specs.Prelude.{◌≡◌, ℕ, ◌<◌, ◌≤◌, ◌⊎◌, true, false, List, [], ◌∷◌, ◌++◌, length, codes}
+use Rattle.std.specs.Prelude.{Option, Some, None, IsSome, IfSome, IsSomeAnd, Err}
 use Rattle.mat_shelf.specs.Faults.{Rose}
 use Rattle.mat_shelf.specs.Writing.{Appended, AppendedPrefix}
 use Rattle.mat_desc.specs.Faults.{Fault}
-use Rattle.mat_desc.specs.Instances.{Instance, pair, list, graph, rooted, coloured, table}
+use Rattle.mat_desc.specs.Instances.{Instance}
 use Rattle.mat_desc.specs.Grammar.{Spells}
 use Rattle.mat_desc.specs.Reading.{read_of}
 use Rattle.mat_desc.specs.Canonical.{canonical_text}
+use Rattle.mat_cert.specs.Certificates.{Certificate, certificate_text, IsRanged}
+use Rattle.mat_cert.specs.Faults as certificate_faults
+use Rattle.mat_cert.specs.Limits.{certificate_limit}
+use Rattle.mat_cert.specs.Reading as certificate_reading
+use Rattle.mat_check.specs.Clauses.{Failure, failure_of}
+use Rattle.mat_check.specs.Fitting.{fits, is_single, is_pair}
+use Rattle.mat_check.specs.Right.{IsRight}
 use Rattle.mat_top.specs.declared.status.Status.{Status}
 use Rattle.mat_top.specs.declared.status.Status.TheVariants as statuses
 use Rattle.mat_top.specs.declared.status.Refusal.{Refusal}
 use Rattle.mat_top.specs.declared.status.Refusal.TheVariants as refusals
 use Rattle.mat_top.specs.Statuses.{status_of, note_of}
-use Rattle.mat_top.specs.CommandLines.{CommandLine, show, intersect, description_file}
+use Rattle.mat_top.specs.CommandLines.{CommandLine, show, best, intersect, check, description_file}
 use Rattle.mat_top.specs.Answers.{IsSolutionText}
 
 -- the most bytes that a description may have
 abbrev pub description_limit : ℕ
 description_limit = 4194304
-
--- the most bytes that a certificate may have
-abbrev pub certificate_limit : ℕ
-certificate_limit = 67108864
 
 -- ---- the description
 
@@ -35,69 +39,109 @@ pub record IsDescribed (bytes : List ℕ) (instance : Instance) : Type 0 where
   pub within : length bytes ≤ description_limit
   pub spelled : Spells bytes instance
 
--- the problem is a pair of matroids
-abbrev pub IsPairProblem : Instance → Type 0
-IsPairProblem (pair w first second) = Unit {0}
-IsPairProblem (list w matroids) = ⊥
-IsPairProblem (graph vertices edges) = ⊥
-IsPairProblem (rooted vertices root arcs costs) = ⊥
-IsPairProblem (coloured vertices colours edges colour_of weights) = ⊥
-IsPairProblem (table rows columns cells weights) = ⊥
+-- the bytes of a certificate have this first fault
+pub record IsFaultyCertificate (bytes : List ℕ) (fault : certificate_faults.Fault) : Type 0 where
+  pub within : length bytes ≤ certificate_limit
+  pub first : certificate_reading.read_of bytes ≡ Err fault
 
--- the form of the problem is the command's
+-- the bytes are the text of this answer
+pub record IsCertified (bytes : List ℕ) (answer : Certificate) : Type 0 where
+  pub within : length bytes ≤ certificate_limit
+  pub ranged : IsRanged answer
+  pub text : bytes ≡ certificate_text answer
+
+-- the form of the problem is that of the solving command; every form can be shown
 abbrev pub HasForm : CommandLine → Instance → Type 0
 HasForm (show file) instance = Unit {0}
-HasForm (intersect file) instance = IsPairProblem instance
-
--- ---- what is written
-
--- the text is what the command writes for the problem
-abbrev pub IsTextFor : CommandLine → Instance → List ℕ → Type 0
-IsTextFor (show file) instance text = text ≡ canonical_text instance
-IsTextFor (intersect file) instance text = IsSolutionText instance text
-
--- the text is what the command writes for the problem that the bytes spell
-pub record IsAnswerTo (line : CommandLine) (bytes text : List ℕ) : Type 0 where
-  pub instance : Instance
-  pub described : IsDescribed bytes instance
-  pub form : HasForm line instance
-  pub answer : IsTextFor line instance text
-
--- the text of a solving command is no longer than a certificate may be
-abbrev pub IsShort : CommandLine → List ℕ → Type 0
-IsShort (show file) text = Unit {0}
-IsShort (intersect file) text = length text ≤ certificate_limit
+HasForm (best file) instance = is_single instance ≡ true
+HasForm (intersect file) instance = is_pair instance ≡ true
+HasForm (check file certificate) instance = Unit {0}
 
 -- ---- the outcome
+
+-- the first row of the table that applies to the bytes of a description alone, by its status
+abbrev pub IsDescriptionOutcome : List ℕ → Status → Type 0
+IsDescriptionOutcome bytes statuses.TooLong = description_limit < length bytes
+IsDescriptionOutcome bytes statuses.BadDescription = (fault : Fault) × IsFaulty bytes fault
+IsDescriptionOutcome bytes status = ⊥
+
+-- the first row that applies to the bytes of a certificate for a problem
+abbrev pub IsCertificateOutcome : Instance → List ℕ → Status → Type 0
+IsCertificateOutcome instance bytes statuses.TooLong = certificate_limit < length bytes
+IsCertificateOutcome instance bytes statuses.BadCertificate = (fault : certificate_faults.Fault) × IsFaultyCertificate bytes fault
+IsCertificateOutcome instance bytes statuses.WrongShape = (answer : Certificate) × IsCertified bytes answer × (fits instance answer ≡ false)
+IsCertificateOutcome instance bytes statuses.Done =
+    (answer : Certificate) × IsCertified bytes answer × (fits instance answer ≡ true) × IsRight instance answer
+IsCertificateOutcome instance bytes statuses.No =
+    (answer : Certificate) × IsCertified bytes answer × (fits instance answer ≡ true) × (IsRight instance answer → ⊥)
+IsCertificateOutcome instance bytes status = ⊥
+
+-- the first row that applies once the description spells this problem
+abbrev pub IsProblemOutcome : (List ℕ → Option (List ℕ)) → CommandLine → Instance → Status → Type 0
+IsProblemOutcome held (check file certificate) instance status =
+    IsSomeAnd (held certificate) (λ bytes. IsCertificateOutcome instance bytes status)
+IsProblemOutcome held line instance statuses.WrongShape = HasForm line instance → ⊥
+IsProblemOutcome held line instance statuses.Done = HasForm line instance
+IsProblemOutcome held line instance status = ⊥
+
+-- the first row that applies to a command over the bytes of its description
+abbrev pub IsBytesOutcome : (List ℕ → Option (List ℕ)) → CommandLine → List ℕ → Status → Type 0
+IsBytesOutcome held line bytes status =
+    IsDescriptionOutcome bytes status ⊎ ((instance : Instance) × IsDescribed bytes instance × IsProblemOutcome held line instance status)
+
+-- The status is that of the first row of the table that applies: Usage where the words are no command, and else what the files' bytes say.
+abbrev pub IsOutcome : (List ℕ → Option (List ℕ)) → Option CommandLine → Status → Type 0
+IsOutcome held None status = status ≡ statuses.Usage
+IsOutcome held (Some line) status = IsSomeAnd (held (description_file line)) (λ bytes. IsBytesOutcome held line bytes status)
+
+-- the shelf tells the certificate where the outcome needs it
+abbrev pub TellsCertificate : (List ℕ → Option (List ℕ)) → CommandLine → List ℕ → Type 0
+TellsCertificate held (check file certificate) bytes = (instance : Instance) → IsDescribed bytes instance → IsSome (held certificate)
+TellsCertificate held line bytes = Unit {0}
 
 -- the shelf tells the files that the outcome needs
 abbrev pub Tells : (List ℕ → Option (List ℕ)) → Option CommandLine → Type 0
 Tells held None = Unit {0}
-Tells held (Some line) = IsSome (held (description_file line))
+Tells held (Some line) = IsSomeAnd (held (description_file line)) (TellsCertificate held line)
 
--- the first row of the table that applies to a command over these bytes, by its status
-abbrev pub IsBytesOutcome : CommandLine → List ℕ → Status → Type 0
-IsBytesOutcome line bytes statuses.TooLong = description_limit < length bytes
-IsBytesOutcome line bytes statuses.BadDescription = (fault : Fault) × IsFaulty bytes fault
-IsBytesOutcome line bytes statuses.WrongShape = (instance : Instance) × IsDescribed bytes instance × (HasForm line instance → ⊥)
-IsBytesOutcome line bytes statuses.Done = (instance : Instance) × IsDescribed bytes instance × HasForm line instance
-IsBytesOutcome line bytes status = ⊥
+-- the files that the call reaches: that of the description, and that of the certificate where nothing that is told of the description
+-- refuses the call before
+abbrev pub CallReaches : (List ℕ → Option (List ℕ)) → Option CommandLine → List ℕ → Type 0
+CallReaches held None name = ⊥
+CallReaches held (Some (check file certificate)) name =
+    (name ≡ file) ⊎ ((name ≡ certificate) × IfSome (held file) (λ bytes. (instance : Instance) × IsDescribed bytes instance))
+CallReaches held (Some line) name = name ≡ description_file line
 
--- The status is that of the first row of the table that applies: Usage where the words are no command, and else what the
--- description's bytes say.
-abbrev pub IsOutcome : (List ℕ → Option (List ℕ)) → Option CommandLine → Status → Type 0
-IsOutcome held None status = status ≡ statuses.Usage
-IsOutcome held (Some line) status = IsSomeAnd (held (description_file line)) (λ bytes. IsBytesOutcome line bytes status)
+-- ---- what is written
+
+-- the text that says that a certificate is right
+abbrev pub yes_text : List ℕ
+yes_text = codes "yes" ++ 10 ∷ []
+
+-- the text is what the command writes for the problem
+abbrev pub IsTextFor : (List ℕ → Option (List ℕ)) → CommandLine → Instance → List ℕ → Type 0
+IsTextFor held (show file) instance text = text ≡ canonical_text instance
+IsTextFor held (check file certificate) instance text =
+    (text ≡ yes_text) × IfSome (held certificate) (λ bytes. IsCertificateOutcome instance bytes statuses.Done)
+IsTextFor held line instance text = HasForm line instance × IsSolutionText line instance text
+
+-- the text is what the command writes for the problem that the bytes spell
+pub record IsAnswerTo (held : List ℕ → Option (List ℕ)) (line : CommandLine) (bytes text : List ℕ) : Type 0 where
+  pub instance : Instance
+  pub described : IsDescribed bytes instance
+  pub answer : IsTextFor held line instance text
+
+-- the text of a solving command is no longer than a certificate may be
+abbrev pub IsShort : CommandLine → List ℕ → Type 0
+IsShort (best file) text = length text ≤ certificate_limit
+IsShort (intersect file) text = length text ≤ certificate_limit
+IsShort line text = Unit {0}
 
 -- what may be written where the command is done: where the file is told, what the command writes
 abbrev pub IsOutput : (List ℕ → Option (List ℕ)) → Option CommandLine → List ℕ → Type 0
 IsOutput held None text = ⊥
-IsOutput held (Some line) text = IsShort line text × IfSome (held (description_file line)) (λ bytes. IsAnswerTo line bytes text)
-
--- the files that the call reaches
-abbrev pub CallReaches : (List ℕ → Option (List ℕ)) → Option CommandLine → List ℕ → Type 0
-CallReaches held None name = ⊥
-CallReaches held (Some line) name = name ≡ description_file line
+IsOutput held (Some line) text =
+    IsShort line text × IfSome (held (description_file line)) (λ bytes. IsAnswerTo held line bytes text)
 
 -- ---- the clauses of the top call
 
@@ -115,9 +159,25 @@ IsWritten held asked old new statuses.Done = (text : List ℕ) × IsOutput held 
 IsWritten held asked old new statuses.WriteFault = (text : List ℕ) × IsOutput held asked text × AppendedPrefix old text new
 IsWritten held asked old new status = new ≡ old
 
+-- the first clause that fails of the answer in the certificate, over this problem
+pub record HasClauseFailure (instance : Instance) (bytes : List ℕ) (failure : Failure) : Type 0 where
+  pub answer : Certificate
+  pub certified : IsCertified bytes answer
+  pub fails : failure_of instance answer ≡ Some failure
+
+-- the first clause that fails of the answer in the certificate, over the problem in the description
+pub record HasFailure (description certificate : List ℕ) (failure : Failure) : Type 0 where
+  pub instance : Instance
+  pub described : IsDescribed description instance
+  pub failed : HasClauseFailure instance certificate failure
+
 -- a refusal tells what is so: the first fault of a description is that of its bytes, where they are told
 abbrev pub IsTrueOf : (List ℕ → Option (List ℕ)) → Option CommandLine → Refusal → Type 0
 IsTrueOf held (Some line) (refusals.BadDescription kind number) = IfSome (held (description_file line)) (λ bytes. IsFaulty bytes (kind, number))
+IsTrueOf held (Some (check file certificate)) (refusals.BadCertificate kind number) =
+    IfSome (held certificate) (λ bytes. IsFaultyCertificate bytes (kind, number))
+IsTrueOf held (Some (check file certificate)) (refusals.No reason first second) =
+    IfSome (held file) (λ description. IfSome (held certificate) (λ bytes. HasFailure description bytes (reason, first, second)))
 IsTrueOf held asked refusal = Unit {0}
 
 -- the note of a call that ended so: none on Done

@@ -1,68 +1,96 @@
 -- How a call ends: why it writes nothing, or what it writes.
-use Rattle.std.specs.Prelude.{◌≡◌, ℕ, ◌<◌, ◌≤◌, List, length, Option, IfSome, Result, Ok, Err}
+use Rattle.std.specs.Prelude.{◌≡◌, ℕ, ◌<◌, ◌≤◌, Bool, true, List, length, Option, IfSome, Some, Result, Ok, Err}
 use Rattle.mat_shelf.specs.Faults.{Rose}
 use Rattle.mat_shelf.specs.Writing.{Appended, AppendedPrefix}
 use Rattle.mat_desc.specs.Instances.{Instance}
 use Rattle.mat_cert.specs.declared.answer.Answer.{Answer}
+use Rattle.mat_cert.specs.Certificates.{Certificate, certificate_text}
+use Rattle.mat_cert.specs.Limits.{certificate_limit}
 use Rattle.mat_cert.specs.Views.{certificate_of}
 use Rattle.mat_top.specs.declared.status.Status.TheVariants as statuses
 use Rattle.mat_top.specs.declared.status.Refusal.{Refusal}
 use Rattle.mat_top.specs.declared.status.Refusal.TheVariants as refusals
-use Rattle.mat_top.specs.CommandLines.{CommandLine}
-use Rattle.mat_top.specs.Answers.{IsSolution, IsSolutionText}
-use Rattle.mat_top.specs.Outcomes.{IsPairProblem, IsFaulty, IsTextFor, HasForm, IsBytesOutcome, IsAnswerTo, IsShort}
-use Rattle.mat_top.specs.Outcomes.{description_limit, certificate_limit}
+use Rattle.mat_top.specs.Statuses.{status_of}
+use Rattle.mat_top.specs.CommandLines.{CommandLine, check}
+use Rattle.mat_top.specs.Answers.{IsSolution}
+use Rattle.mat_top.specs.Outcomes.{HasForm, IsCertificateOutcome, IsFaultyCertificate, IsTextFor, IsShort}
+use Rattle.mat_top.specs.Outcomes.{CallReaches, Tells, IsOutcome, IsOutput, IsTrueOf, HasClauseFailure}
 
--- why a problem is not solved
-abbrev pub IsUnsolved : Instance → Refusal → Type 0
-IsUnsolved instance refusals.Memory = Unit {0}
-IsUnsolved instance refusals.WrongShape = IsPairProblem instance → ⊥
-IsUnsolved instance refusal = ⊥
+-- ---- solving
 
--- a right answer to a pair of matroids, and a refusal of every other problem
-abbrev pub IsSolved : Instance → Result Answer Refusal → Type 0
-IsSolved instance (Ok answer) = IsPairProblem instance × IsSolution instance (certificate_of answer)
-IsSolved instance (Err refusal) = IsUnsolved instance refusal
+-- why a problem is not solved, where the form is one that this test knows
+abbrev pub IsUnsolved : (Instance → Bool) → Instance → Refusal → Type 0
+IsUnsolved has_form instance refusals.Memory = Unit {0}
+IsUnsolved has_form instance refusals.WrongShape = has_form instance ≡ true → ⊥
+IsUnsolved has_form instance refusal = ⊥
 
--- the text is that of a right answer to a pair of matroids, and no longer than a certificate may be
-pub record HasSolutionText (instance : Instance) (text : List ℕ) : Type 0 where
-  pub form : IsPairProblem instance
-  pub answer : IsSolutionText instance text
+-- a right answer to a problem of the form, and a refusal of every other problem
+abbrev pub IsSolved : (Instance → Bool) → Instance → Result Answer Refusal → Type 0
+IsSolved has_form instance (Ok answer) = (has_form instance ≡ true) × IsSolution instance (certificate_of answer)
+IsSolved has_form instance (Err refusal) = IsUnsolved has_form instance refusal
+
+-- the text is that of a right answer of this variant to a problem of the form, and no longer than a certificate may be
+pub record HasSolutionText (has_form : Instance → Bool) (IsVariant : Certificate → Type 0) (instance : Instance) (text : List ℕ) : Type 0 where
+  pub form : has_form instance ≡ true
+  pub certificate : Certificate
+  pub variant : IsVariant certificate
+  pub solution : IsSolution instance certificate
+  pub whole : text ≡ certificate_text certificate
   pub short : length text ≤ certificate_limit
 
--- why there is no text for a problem
-abbrev pub HasNoText : CommandLine → Instance → Refusal → Type 0
-HasNoText line instance refusals.Memory = Unit {0}
-HasNoText line instance refusals.WrongShape = HasForm line instance → ⊥
-HasNoText line instance refusal = ⊥
+-- ---- judging
 
--- there is a text for a problem: the command is for its form, and writes this
-pub record HasText (line : CommandLine) (instance : Instance) (text : List ℕ) : Type 0 where
-  pub form : HasForm line instance
-  pub answer : IsTextFor line instance text
+-- why the bytes of a certificate, within their limit, don't let a call say yes
+abbrev pub IsDenial : Instance → List ℕ → Refusal → Type 0
+IsDenial instance bytes refusals.Memory = Unit {0}
+IsDenial instance bytes (refusals.BadCertificate kind number) = IsFaultyCertificate bytes (kind, number)
+IsDenial instance bytes refusals.WrongShape = IsCertificateOutcome instance bytes statuses.WrongShape
+IsDenial instance bytes (refusals.No reason first second) =
+    IsCertificateOutcome instance bytes statuses.No × HasClauseFailure instance bytes (reason, first, second)
+IsDenial instance bytes refusal = ⊥
+
+-- why a file doesn't: with what it holds, and the count of its faults before and after
+abbrev pub IsUncertified : Instance → Option (List ℕ) → ℕ → ℕ → Refusal → Type 0
+IsUncertified instance held before now refusals.Memory = Unit {0}
+IsUncertified instance held before now refusals.ReadFault = Rose before now
+IsUncertified instance held before now refusals.TooLong = IfSome held (λ bytes. certificate_limit < length bytes)
+IsUncertified instance held before now refusals.Usage = ⊥
+IsUncertified instance held before now refusals.WriteFault = ⊥
+IsUncertified instance held before now (refusals.BadDescription kind number) = ⊥
+IsUncertified instance held before now refusal = IfSome held (λ bytes. IsDenial instance bytes refusal)
+
+-- ---- what a command writes for a problem
+
+-- why there is no text for a problem: with the counts of the shelf's faults before and after
+abbrev pub HasNoText : (List ℕ → Option (List ℕ)) → CommandLine → Instance → (List ℕ → ℕ) → (List ℕ → ℕ) → Refusal
+    → Type 0
+HasNoText held (check file certificate) instance before now refusal =
+    IsUncertified instance (held certificate) (before certificate) (now certificate) refusal
+HasNoText held line instance before now refusals.Memory = Unit {0}
+HasNoText held line instance before now refusals.WrongShape = HasForm line instance → ⊥
+HasNoText held line instance before now refusal = ⊥
+
+-- there is a text for a problem: the command writes this
+pub record HasText (held : List ℕ → Option (List ℕ)) (line : CommandLine) (instance : Instance) (text : List ℕ) : Type 0 where
+  pub answer : IsTextFor held line instance text
   pub short : IsShort line text
 
--- why bytes within the limit give no text
-abbrev pub IsCause : CommandLine → List ℕ → Refusal → Type 0
-IsCause line bytes refusals.Memory = Unit {0}
-IsCause line bytes (refusals.BadDescription kind number) = IsFaulty bytes (kind, number)
-IsCause line bytes refusals.WrongShape = IsBytesOutcome line bytes statuses.WrongShape
-IsCause line bytes refusal = ⊥
+-- ---- the whole call
 
--- the text may be written: it is short enough and, where the file is told, what the command writes
-abbrev pub MayBeWritten : CommandLine → Option (List ℕ) → List ℕ → Type 0
-MayBeWritten line held text = IsShort line text × IfSome held (λ bytes. IsAnswerTo line bytes text)
+-- the text may be written: it is what the command writes, and the outcome is Done where the files are told
+pub record MayBeWritten (held : List ℕ → Option (List ℕ)) (line : CommandLine) (text : List ℕ) : Type 0 where
+  pub output : IsOutput held (Some line) text
+  pub outcome : Tells held (Some line) → IsOutcome held (Some line) statuses.Done
 
--- why a file gives no text: with the count of its faults before and after
-abbrev pub IsRefusal : CommandLine → Option (List ℕ) → ℕ → ℕ → Refusal → Type 0
-IsRefusal line held before now refusals.ReadFault = Rose before now
-IsRefusal line held before now refusals.TooLong = IfSome held (λ bytes. description_limit < length bytes)
-IsRefusal line held before now refusals.Memory = Unit {0}
-IsRefusal line held before now (refusals.BadDescription kind number) =
-    IfSome held (λ bytes. IsCause line bytes (refusals.BadDescription kind number))
-IsRefusal line held before now refusals.WrongShape = IfSome held (λ bytes. IsCause line bytes refusals.WrongShape)
-IsRefusal line held before now refusals.Usage = ⊥
-IsRefusal line held before now refusals.WriteFault = ⊥
+-- why a command gives no text: with the counts of the shelf's faults before and after
+abbrev pub IsRefusal : (List ℕ → Option (List ℕ)) → CommandLine → (List ℕ → ℕ) → (List ℕ → ℕ) → Refusal → Type 0
+IsRefusal held line before now refusals.ReadFault =
+    (name : List ℕ) × CallReaches held (Some line) name × Rose (before name) (now name)
+IsRefusal held line before now refusals.Memory = Unit {0}
+IsRefusal held line before now refusals.Usage = ⊥
+IsRefusal held line before now refusals.WriteFault = ⊥
+IsRefusal held line before now refusal =
+    (Tells held (Some line) → IsOutcome held (Some line) (status_of refusal)) × IsTrueOf held (Some line) refusal
 
 -- how the writing of a text ended: with what is told and the count of faults before and after
 abbrev pub IsPut : List ℕ → Option (List ℕ) → ℕ → Option (List ℕ) → ℕ → Result (Unit {0}) Refusal → Type 0
@@ -70,10 +98,11 @@ IsPut text old before new now (Ok done) = Appended old text new
 IsPut text old before new now (Err refusals.WriteFault) = AppendedPrefix old text new × Rose before now
 IsPut text old before new now (Err refusal) = ⊥
 
--- how a command ended: with the counts of its file's faults, and what the output tells and its count of faults, before and after
-abbrev pub IsEnded : CommandLine → Option (List ℕ) → ℕ → ℕ → Option (List ℕ) → ℕ → Option (List ℕ) → ℕ
+-- how a command ended: with the counts of the shelf's faults, and what the output tells and its count of faults, before and after
+abbrev pub IsEnded : (List ℕ → Option (List ℕ)) → CommandLine → (List ℕ → ℕ) → (List ℕ → ℕ) → Option (List ℕ) → ℕ
+    → Option (List ℕ) → ℕ
     → Result (Unit {0}) Refusal → Type 0
-IsEnded line held before now old out_before new out_now (Ok done) = (text : List ℕ) × MayBeWritten line held text × Appended old text new
-IsEnded line held before now old out_before new out_now (Err refusals.WriteFault) =
-    (text : List ℕ) × MayBeWritten line held text × AppendedPrefix old text new × Rose out_before out_now
-IsEnded line held before now old out_before new out_now (Err refusal) = IsRefusal line held before now refusal × (new ≡ old)
+IsEnded held line before now old out_before new out_now (Ok done) = (text : List ℕ) × MayBeWritten held line text × Appended old text new
+IsEnded held line before now old out_before new out_now (Err refusals.WriteFault) =
+    (text : List ℕ) × MayBeWritten held line text × AppendedPrefix old text new × Rose out_before out_now
+IsEnded held line before now old out_before new out_now (Err refusal) = IsRefusal held line before now refusal × (new ≡ old)

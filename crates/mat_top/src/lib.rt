@@ -2,6 +2,8 @@
 #![tactic(auto)]
 
 mod command;
+mod judge;
+mod laws;
 mod notes;
 mod reading;
 mod solve;
@@ -9,6 +11,7 @@ mod status;
 mod top_call;
 mod writing;
 
+pub use laws::solution_laws;
 pub use status::Status;
 pub use top_call::run;
 

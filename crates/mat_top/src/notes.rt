@@ -4,12 +4,12 @@ ghost use Rattle.std.specs.Prelude.{◌≡◌, ◌≤◌, ◌<◌, drop, pos, fl
 ghost use Rattle.mat_shelf.specs.Faults.{Rose};
 ghost use Rattle.mat_shelf.specs.Writing.{Appended, AppendedPrefix};
 ghost use Rattle.mat_words.specs.Numbers.{numeral};
-ghost use Rattle.mat_top.specs.Statuses.{note_of};
+ghost use Rattle.mat_top.specs.Statuses.{fault_note, note_of};
 ghost use Rattle.mat_top.specs.Outcomes.{IsNoted};
 
 use crate::status::Refusal;
 use crate::writing::put_all;
-use mat_desc::DescKind;
+use mat_check::Reason;
 use mat_shelf::{Failed, Sink};
 use mat_words::spell_into;
 
@@ -51,24 +51,47 @@ fn number_into(buffer: &mut [u8; 40], n: u32) -> usize
     spell_into(buffer, i128::from(n))
 }
 
-// Writes the note of a fault of the description.
-fn put_fault<N: Sink>(notes: &mut N, kind: DescKind, line: u32)
-    ensures { IsNoted (note_of (Refusal.BadDescription kind line))
+// Writes the note of a fault of a file.
+fn put_fault<N: Sink>(notes: &mut N, file: &[u8], kind: u32, name: &str, line: u32)
+    ensures { IsNoted (fault_note file.now kind name.now line)
         (N.written notes.old) (N.faults notes.old) (N.written notes.new) (N.faults notes.new) }
 {
     let mut number = [0; 40];
-    let number_at = number_into(&mut number, kind.number());
+    let number_at = number_into(&mut number, kind);
     let mut place = [0; 40];
     let place_at = number_into(&mut place, line);
     put_line(
         notes,
         &[
-            b"refused: description ".as_slice(),
+            file,
             &number[number_at..],
             b" ".as_slice(),
-            kind.name().as_bytes(),
+            name.as_bytes(),
             b" line ".as_slice(),
             &place[place_at..],
+            b"\n".as_slice(),
+        ],
+    );
+}
+
+// Writes the note of an answer that isn't right.
+fn put_no<N: Sink>(notes: &mut N, reason: Reason, first: u32, second: u32)
+    ensures { IsNoted (note_of (Refusal.No reason first second))
+        (N.written notes.old) (N.faults notes.old) (N.written notes.new) (N.faults notes.new) }
+{
+    let mut one = [0; 40];
+    let one_at = number_into(&mut one, first);
+    let mut other = [0; 40];
+    let other_at = number_into(&mut other, second);
+    put_line(
+        notes,
+        &[
+            b"no ".as_slice(),
+            reason.word().as_bytes(),
+            b" ".as_slice(),
+            &one[one_at..],
+            b" ".as_slice(),
+            &other[other_at..],
             b"\n".as_slice(),
         ],
     );
@@ -79,8 +102,16 @@ pub(crate) fn put_note<N: Sink>(notes: &mut N, refusal: Refusal)
     ensures { IsNoted (note_of refusal) (N.written notes.old) (N.faults notes.old) (N.written notes.new) (N.faults notes.new) }
 {
     match refusal {
+        Refusal::No(reason, first, second) => put_no(notes, reason, first, second),
         Refusal::Usage => put_text(notes, b"refused: usage\n"),
-        Refusal::BadDescription(kind, line) => put_fault(notes, kind, line),
+        Refusal::BadDescription(kind, line) => {
+            let file = b"refused: description ".as_slice();
+            put_fault(notes, file, kind.number(), kind.name(), line)
+        }
+        Refusal::BadCertificate(kind, line) => {
+            let file = b"refused: certificate ".as_slice();
+            put_fault(notes, file, kind.number(), kind.name(), line)
+        }
         Refusal::ReadFault => put_text(notes, b"refused: read fault\n"),
         Refusal::WriteFault => put_text(notes, b"refused: write fault\n"),
         Refusal::Memory => put_text(notes, b"refused: memory\n"),

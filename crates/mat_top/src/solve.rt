@@ -1,35 +1,37 @@
-//! The ladder of a pair of matroids.
+//! The answers of the solving commands.
 
-ghost use Rattle.std.specs.Prelude.{◌≡◌, ◌≤◌, ◌^◌, length, map, IfOk};
+ghost use Rattle.std.specs.Prelude.{◌≡◌, ◌≤◌, ◌^◌, length, map, IfOk, [], ◌∷◌};
 ghost use Rattle.mat_sets.specs.Sets.{AllBelow};
-ghost use Rattle.mat_sets.specs.Sums.{AreWithin};
+ghost use Rattle.mat_sets.specs.Weights.{AreWeightsWithin};
 ghost use Rattle.mat_any.specs.Views.{tree_of};
-ghost use Rattle.mat_desc.specs.Instances.{pair};
+ghost use Rattle.mat_check.specs.Fitting.{is_single, is_pair};
+ghost use Rattle.mat_desc.specs.Instances.{pair, list};
 ghost use Rattle.mat_desc.specs.Views.{instance_of};
 ghost use Rattle.mat_desc.specs.Grammar.{IsValid};
 ghost use Rattle.mat_desc.specs.Soundness.{IsSoundInstance};
 ghost use Rattle.mat_cert.specs.Views.{certificate_of};
-ghost use Rattle.mat_top.specs.Answers.{IsSolution};
-ghost use Rattle.mat_top.specs.PricedRungs.{priced_rung, HaveFewElements};
+ghost use Rattle.mat_top.specs.Answers.{IsSolution, IsBestAnswer, IsIntersectAnswer};
+ghost use Rattle.mat_top.specs.PricedRungs.{priced_rung, plain_rung, HaveFewElements, AreSmallSets};
 ghost use Rattle.mat_top.specs.Refusals.{IsSolved};
 
 use crate::status::Refusal;
 use mat_any::AnyMatroid;
-use mat_cert::{Answer, PricedRung};
+use mat_cert::{Answer, PlainRung, PricedRung};
 use mat_desc::Problem;
+use mat_greedy::heaviest_each;
 use mat_laws::Matroid;
-use mat_sets::{Weights, weight_of};
+use mat_sets::{ElemSet, PairWeights, Weight, weigh};
 use mat_split::{Rung, intersect_all};
 use std::alloc::{AllocError, Global};
 
 // The rung with the weight of its set.
-fn priced(rung: Rung, weights: &[i128]) -> PricedRung
+fn priced(rung: Rung, weights: &[Weight]) -> PricedRung
     requires inside { AllBelow (length weights.now) rung.set }
     requires few { length rung.set ≤ 500 }
-    requires small { AreWithin (10 ^ 30) weights.now }
+    requires small { AreWeightsWithin (10 ^ 30) weights.now }
     ensures { result ≡ priced_rung weights.now rung }
 {
-    let weight = weight_of(&rung.set, weights);
+    let weight = weigh(&rung.set, weights);
     PricedRung {
         weight,
         set: rung.set,
@@ -42,10 +44,10 @@ fn priced(rung: Rung, weights: &[i128]) -> PricedRung
 fn priced_rungs(
     alloc: Global,
     rungs: Vec<Rung>,
-    weights: &[i128],
+    weights: &[Weight],
 ) -> Result<Vec<PricedRung>, AllocError>
     requires rungs { HaveFewElements (length weights.now) rungs.items }
-    requires small { AreWithin (10 ^ 30) weights.now }
+    requires small { AreWeightsWithin (10 ^ 30) weights.now }
     ensures { IfOk result (λ all. all.items ≡ map (priced_rung weights.now) rungs.items) }
 {
     let mut all = Vec::with_capacity(alloc, rungs.len())?;
@@ -58,13 +60,14 @@ fn priced_rungs(
 // A right answer to a pair of matroids.
 fn solve_pair(
     alloc: Global,
-    weights: &Weights,
+    weights: &PairWeights,
     first: &AnyMatroid,
     second: &AnyMatroid,
 ) -> Result<Answer, AllocError>
     requires valid { IsValid (pair weights.now (tree_of first.now) (tree_of second.now)) }
     requires sound { IsSoundInstance (pair weights.now (tree_of first.now) (tree_of second.now)) }
-    ensures { IfOk result (λ answer. IsSolution (pair weights.now (tree_of first.now) (tree_of second.now)) (certificate_of answer)) }
+    ensures solution { IfOk result (λ answer. IsSolution (pair weights.now (tree_of first.now) (tree_of second.now)) (certificate_of answer)) }
+    ensures variant { IfOk result (λ answer. IsIntersectAnswer (certificate_of answer)) }
 {
     first.lawful();
     second.lawful();
@@ -77,11 +80,51 @@ fn solve_pair(
     })
 }
 
+// The sets with their weights, in their order.
+fn plain_rungs(
+    alloc: Global,
+    sets: &[ElemSet],
+    weights: &[Weight],
+) -> Result<Vec<PlainRung>, AllocError>
+    requires sets { AreSmallSets (length weights.now) sets.now }
+    requires small { AreWeightsWithin (10 ^ 30) weights.now }
+    ensures { IfOk result (λ all. all.items ≡ map (plain_rung weights.now) sets.now) }
+{
+    let mut all = Vec::with_capacity(alloc, sets.len())?;
+    for set in sets {
+        let weight = weigh(set, weights);
+        let set = set.copy(alloc)?;
+        all.push(PlainRung { weight, set })?;
+    }
+    Ok(all)
+}
+
+// A right answer to one matroid.
+fn solve_single(
+    alloc: Global,
+    weights: &PairWeights,
+    matroid: &AnyMatroid,
+) -> Result<Answer, AllocError>
+    requires valid { IsValid (list weights.now (tree_of matroid.now ∷ [])) }
+    requires sound { IsSoundInstance (list weights.now (tree_of matroid.now ∷ [])) }
+    ensures solution { IfOk result (λ answer. IsSolution (list weights.now (tree_of matroid.now ∷ [])) (certificate_of answer)) }
+    ensures variant { IfOk result (λ answer. IsBestAnswer (certificate_of answer)) }
+{
+    matroid.lawful();
+    let sets = heaviest_each(alloc, matroid, weights.as_slice())?;
+    let rungs = plain_rungs(alloc, sets.as_slice(), weights.as_slice())?;
+    Ok(Answer::Best {
+        count: weights.len() as u32,
+        rungs,
+    })
+}
+
 /// A right answer to a pair of matroids. `WrongShape` comes exactly where the problem is no pair, and `Memory` is want of memory.
-pub(crate) fn solve(alloc: Global, problem: &Problem) -> Result<Answer, Refusal>
+pub(crate) fn intersect(alloc: Global, problem: &Problem) -> Result<Answer, Refusal>
     requires valid { IsValid (instance_of problem.now) }
     requires sound { IsSoundInstance (instance_of problem.now) }
-    ensures { IsSolved (instance_of problem.now) result }
+    ensures solved { IsSolved is_pair (instance_of problem.now) result }
+    ensures variant { IfOk result (λ answer. IsIntersectAnswer (certificate_of answer)) }
 {
     match problem {
         Problem::Pair {
@@ -94,5 +137,35 @@ pub(crate) fn solve(alloc: Global, problem: &Problem) -> Result<Answer, Refusal>
         | Problem::Rooted { .. }
         | Problem::Coloured { .. }
         | Problem::Table { .. } => Err(Refusal::WrongShape),
+    }
+}
+
+// A right answer to a list of one matroid.
+fn best_of_list(
+    alloc: Global,
+    weights: &PairWeights,
+    matroids: &[AnyMatroid],
+) -> Result<Answer, Refusal>
+    requires valid { IsValid (list weights.now (map tree_of matroids.now)) }
+    requires sound { IsSoundInstance (list weights.now (map tree_of matroids.now)) }
+    ensures solved { IsSolved is_single (list weights.now (map tree_of matroids.now)) result }
+    ensures variant { IfOk result (λ answer. IsBestAnswer (certificate_of answer)) }
+{
+    let [matroid] = matroids else {
+        return Err(Refusal::WrongShape);
+    };
+    Ok(solve_single(alloc, weights, matroid)?)
+}
+
+/// A right answer to a list of one matroid. `WrongShape` comes exactly where the problem is no such list, and `Memory` is want of memory.
+pub(crate) fn best(alloc: Global, problem: &Problem) -> Result<Answer, Refusal>
+    requires valid { IsValid (instance_of problem.now) }
+    requires sound { IsSoundInstance (instance_of problem.now) }
+    ensures solved { IsSolved is_single (instance_of problem.now) result }
+    ensures variant { IfOk result (λ answer. IsBestAnswer (certificate_of answer)) }
+{
+    match problem {
+        Problem::List { weights, matroids } => best_of_list(alloc, weights, matroids.as_slice()),
+        _ => Err(Refusal::WrongShape),
     }
 }

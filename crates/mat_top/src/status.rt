@@ -2,9 +2,11 @@
 
 ghost use Rattle.std.specs.Prelude.{◌≡◌};
 ghost use Rattle.mat_top.specs.declared.status.Refusal.TheVariants.{Memory};
-ghost use Rattle.mat_top.specs.Statuses.{status_number, status_of, refusal_of_unread, refusal_of_description};
+ghost use Rattle.mat_top.specs.Statuses.{status_number, status_of, refusal_of_unread, refusal_of_description, refusal_of_certificate};
 
 use crate::reading::Unread;
+use mat_cert::{CertKind, CertRefusal};
+use mat_check::Reason;
 use mat_desc::{DescKind, DescRefusal};
 use std::alloc::AllocError;
 use thiserror::Error;
@@ -14,10 +16,14 @@ use thiserror::Error;
 pub enum Status {
     /// The command was done.
     Done,
+    /// The answer in the certificate isn't right.
+    No,
     /// The words are no command.
     Usage,
     /// The description has a fault.
     BadDescription,
+    /// The certificate has a fault.
+    BadCertificate,
     /// A file could not be opened or read.
     ReadFault,
     /// The answer could not be written whole.
@@ -37,8 +43,10 @@ impl Status {
     {
         match self {
             Status::Done => 0,
+            Status::No => 1,
             Status::Usage => 2,
             Status::BadDescription => 3,
+            Status::BadCertificate => 4,
             Status::ReadFault => 5,
             Status::WriteFault => 6,
             Status::Memory => 7,
@@ -51,12 +59,18 @@ impl Status {
 /// Why a call was refused.
 #[derive(Clone, Copy, Debug, Error)]
 pub(crate) enum Refusal {
+    /// The first clause of the answer that fails, and its two places.
+    #[error("the answer isn't right: {0:?} {1} {2}")]
+    No(Reason, u32, u32),
     /// The words are no command.
     #[error("the words are no command")]
     Usage,
     /// The description's first fault, and the number of its line.
     #[error("line {1} of the description: {0:?}")]
     BadDescription(DescKind, u32),
+    /// The certificate's first fault, and the number of its line.
+    #[error("line {1} of the certificate: {0:?}")]
+    BadCertificate(CertKind, u32),
     /// A file could not be opened or read.
     #[error("a file could not be opened or read")]
     ReadFault,
@@ -80,8 +94,10 @@ impl Refusal {
         ensures { result ≡ status_of self }
     {
         match self {
+            Refusal::No(_, _, _) => Status::No,
             Refusal::Usage => Status::Usage,
             Refusal::BadDescription(_, _) => Status::BadDescription,
+            Refusal::BadCertificate(_, _) => Status::BadCertificate,
             Refusal::ReadFault => Status::ReadFault,
             Refusal::WriteFault => Status::WriteFault,
             Refusal::Memory => Status::Memory,
@@ -118,6 +134,17 @@ impl From<DescRefusal> for Refusal {
         match refusal {
             DescRefusal::Fault { kind, line } => Refusal::BadDescription(kind, line),
             DescRefusal::Memory => Refusal::Memory,
+        }
+    }
+}
+
+impl From<CertRefusal> for Refusal {
+    ghost from_gives = { λ refusal e. e ≡ refusal_of_certificate refusal };
+
+    fn from(refusal: CertRefusal) -> Refusal {
+        match refusal {
+            CertRefusal::Fault { kind, line } => Refusal::BadCertificate(kind, line),
+            CertRefusal::Memory => Refusal::Memory,
         }
     }
 }

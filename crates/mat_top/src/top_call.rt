@@ -3,76 +3,96 @@
 ghost use Rattle.std.specs.Prelude.{◌≡◌, ◌≤◌, ◌<◌, ◌↔◌, ◌⊎◌, ℕ, List, map, string_bytes, length};
 ghost use Rattle.std.specs.Prelude.{IfOk, IfErr, IfSome, Some, None};
 ghost use Rattle.mat_shelf.specs.Faults.{Rose};
+ghost use Rattle.mat_check.specs.Fitting.{is_single, is_pair};
 ghost use Rattle.mat_desc.specs.Grammar.{IsValid};
 ghost use Rattle.mat_desc.specs.Soundness.{IsSoundInstance};
 ghost use Rattle.mat_desc.specs.Views.{instance_of};
-ghost use Rattle.mat_top.specs.CommandLines.{CommandLine, command_line, description_file};
+ghost use Rattle.mat_top.specs.CommandLines.{command_line};
 ghost use Rattle.mat_top.specs.Commands.{line_of};
-ghost use Rattle.mat_top.specs.Outcomes.{Tells, IsStatus, IsOutcome, IsWritten, CallReaches, IsNote, IsNoted};
-ghost use Rattle.mat_top.specs.Outcomes.{IsAnswerTo, IsShort, description_limit};
-ghost use Rattle.mat_top.specs.Refusals.{HasText, HasNoText, HasSolutionText, IsUnsolved, IsCause, IsRefusal, IsPut, IsEnded};
+ghost use Rattle.mat_top.specs.Answers.{IsBestAnswer, IsIntersectAnswer};
+ghost use Rattle.mat_top.specs.Outcomes.{Tells, IsStatus, IsOutcome, IsWritten, CallReaches, IsNote, IsNoted, yes_text};
+ghost use Rattle.mat_top.specs.Refusals.{HasText, HasNoText, HasSolutionText, IsUnsolved, MayBeWritten, IsRefusal, IsPut, IsEnded};
 
 use crate::command::{Command, command_of};
+use crate::judge::judge;
 use crate::notes::put_note;
 use crate::reading::read_all;
-use crate::solve::solve;
+use crate::solve::{best, intersect};
 use crate::status::{Refusal, Status};
 use crate::writing::put_all;
 use mat_cert::write_answer;
 use mat_desc::{Problem, read_problem, write_problem};
 use mat_shelf::{Shelf, Sink};
-use std::alloc::Global;
+use std::alloc::{AllocError, Global};
 
 /// The most bytes that a description may have.
 const DESCRIPTION_LIMIT: usize = 4_194_304;
 
-// The text of a right answer to a pair of matroids.
-fn solution_text(alloc: Global, problem: &Problem) -> Result<Vec<u8>, Refusal>
+// The text of a right answer to one matroid.
+fn best_text(alloc: Global, problem: &Problem) -> Result<Vec<u8>, Refusal>
     requires valid { IsValid (instance_of problem.now) }
     requires sound { IsSoundInstance (instance_of problem.now) }
-    ensures text { IfOk result (λ v. HasSolutionText (instance_of problem.now) v.items) }
-    ensures refusal { IfErr result (λ e. IsUnsolved (instance_of problem.now) e) }
+    ensures text { IfOk result (λ v. HasSolutionText is_single IsBestAnswer (instance_of problem.now) v.items) }
+    ensures refusal { IfErr result (λ e. IsUnsolved is_single (instance_of problem.now) e) }
 {
-    let answer = solve(alloc, problem)?;
+    let answer = best(alloc, problem)?;
     Ok(write_answer(alloc, &answer)?)
 }
 
-// What the command writes for a problem.
-fn text_for(alloc: Global, command: &Command<'_>, problem: &Problem) -> Result<Vec<u8>, Refusal>
+// The text of a right answer to a pair of matroids.
+fn intersect_text(alloc: Global, problem: &Problem) -> Result<Vec<u8>, Refusal>
     requires valid { IsValid (instance_of problem.now) }
     requires sound { IsSoundInstance (instance_of problem.now) }
-    ensures text { IfOk result (λ v. HasText (line_of command.now) (instance_of problem.now) v.items) }
-    ensures refusal { IfErr result (λ e. HasNoText (line_of command.now) (instance_of problem.now) e) }
+    ensures text { IfOk result (λ v. HasSolutionText is_pair IsIntersectAnswer (instance_of problem.now) v.items) }
+    ensures refusal { IfErr result (λ e. IsUnsolved is_pair (instance_of problem.now) e) }
+{
+    let answer = intersect(alloc, problem)?;
+    Ok(write_answer(alloc, &answer)?)
+}
+
+// The text that says that a certificate is right.
+fn yes(alloc: Global) -> Result<Vec<u8>, AllocError>
+    ensures { IfOk result (λ v. v.items ≡ yes_text) }
+{
+    b"yes\n".to_vec(alloc)
+}
+
+// What the command writes for a problem.
+fn text_for<F: Shelf>(
+    alloc: Global,
+    files: &mut F,
+    command: &Command<'_>,
+    problem: &Problem,
+) -> Result<Vec<u8>, Refusal>
+    requires valid { IsValid (instance_of problem.now) }
+    requires sound { IsSoundInstance (instance_of problem.now) }
+    ensures held { (name : List ℕ) → F.held files.new name ≡ F.held files.old name }
+    ensures grows { (name : List ℕ) → F.faults files.old name ≤ F.faults files.new name }
+    ensures text { IfOk result (λ v. HasText (F.held files.old) (line_of command.now) (instance_of problem.now) v.items) }
+    ensures refusal { IfErr result (λ e. HasNoText (F.held files.old) (line_of command.now) (instance_of problem.now)
+        (F.faults files.old) (F.faults files.new) e) }
 {
     match command {
         Command::Show { .. } => Ok(write_problem(alloc, problem)?),
-        Command::Intersect { .. } => solution_text(alloc, problem),
+        Command::Best { .. } => best_text(alloc, problem),
+        Command::Intersect { .. } => intersect_text(alloc, problem),
+        Command::Check { certificate, .. } => {
+            judge(alloc, files, certificate, problem)?;
+            Ok(yes(alloc)?)
+        }
     }
-}
-
-// What the command writes for the description in these bytes.
-fn answer_to(alloc: Global, command: &Command<'_>, bytes: &[u8]) -> Result<Vec<u8>, Refusal>
-    requires { length bytes.now ≤ description_limit }
-    ensures text { IfOk result (λ v. IsAnswerTo (line_of command.now) bytes.now v.items) }
-    ensures short { IfOk result (λ v. IsShort (line_of command.now) v.items) }
-    ensures refusal { IfErr result (λ e. IsCause (line_of command.now) bytes.now e) }
-{
-    let problem = read_problem(alloc, bytes)?;
-    text_for(alloc, command, &problem)
 }
 
 // What the command writes for the description in its file.
 fn answer<F: Shelf>(alloc: Global, files: &mut F, command: &Command<'_>) -> Result<Vec<u8>, Refusal>
     ensures held { (name : List ℕ) → F.held files.new name ≡ F.held files.old name }
     ensures grows { (name : List ℕ) → F.faults files.old name ≤ F.faults files.new name }
-    ensures text { IfOk result (λ v. IfSome (F.held files.old (description_file (line_of command.now)))
-        (λ bytes. IsAnswerTo (line_of command.now) bytes v.items)) }
-    ensures short { IfOk result (λ v. IsShort (line_of command.now) v.items) }
-    ensures refusal { IfErr result (λ e. IsRefusal (line_of command.now) (F.held files.old (description_file (line_of command.now)))
-        (F.faults files.old (description_file (line_of command.now))) (F.faults files.new (description_file (line_of command.now))) e) }
+    ensures text { IfOk result (λ v. MayBeWritten (F.held files.old) (line_of command.now) v.items) }
+    ensures refusal { IfErr result (λ e. IsRefusal (F.held files.old) (line_of command.now) (F.faults files.old) (F.faults files.new) e) }
 {
     let bytes = read_all(alloc, files, command.description(), DESCRIPTION_LIMIT)?;
-    answer_to(alloc, command, &bytes)
+    let problem = read_problem(alloc, &bytes)?;
+    text_for(alloc, files, command, &problem)
 }
 
 // Writes a text, and tells how that ended.
@@ -93,20 +113,19 @@ fn perform<F: Shelf, O: Sink>(
     ensures held { (name : List ℕ) → F.held files.new name ≡ F.held files.old name }
     ensures grows { (name : List ℕ) → F.faults files.old name ≤ F.faults files.new name }
     ensures out_grows { O.faults out.old ≤ O.faults out.new }
-    ensures ended { IsEnded (line_of command.now) (F.held files.old (description_file (line_of command.now)))
-        (F.faults files.old (description_file (line_of command.now))) (F.faults files.new (description_file (line_of command.now)))
+    ensures ended { IsEnded (F.held files.old) (line_of command.now) (F.faults files.old) (F.faults files.new)
         (O.written out.old) (O.faults out.old) (O.written out.new) (O.faults out.new) result }
 {
     let text = answer(alloc, files, command)?;
     written(out, &text)
 }
 
-/// Does what the words ask for: reads its file from the shelf, writes the answer to `out` and, where it is refused, a note to
+/// Does what the words ask for: reads its files from the shelf, writes the answer to `out` and, where it is refused, a note to
 /// `notes`, and answers how it ended. The words are those after the program's name.
 ///
-/// Usage comes exactly where the words are no command, ReadFault only where the shelf's count of faults rose for the file, and
-/// WriteFault only where the count of `out` rose. Where the shelf tells the file, each other status but Memory is the one of the
-/// table in docs/DEFINITIONS.md: TooLong, BadDescription, WrongShape or Done. Nothing is written to `out` but on Done, when it
+/// Usage comes exactly where the words are no command, ReadFault only where the shelf's count of faults rose for a file of the call, and
+/// WriteFault only where the count of `out` rose. Where the shelf tells the files, each other status but Memory is the one of the
+/// table in docs/DEFINITIONS.md: TooLong, BadDescription, BadCertificate, WrongShape, No or Done. Nothing is written to `out` but on Done, when it
 /// is the whole answer, and on WriteFault, when it is a prefix of it.
 pub fn run<F: Shelf, O: Sink, N: Sink>(
     alloc: Global,

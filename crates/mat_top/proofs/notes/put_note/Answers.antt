@@ -2,3 +2,12 @@ use Rattle.mat_top.proofs.notes.put_note.Goals as goal
 
 pub returns-in-TooLong : goal.returns-in-TooLong
 returns-in-TooLong g c = rw c.in-TooLong.is c.put_text-in-TooLong.ensures
+
+pub returns-in-BadDescription : goal.returns-in-BadDescription
+returns-in-BadDescription g c =
+    rw c.in-BadDescription.is (rw (c.as_slice-file.ensures, c.number.ensures, c.name.ensures) at c.put_fault.ensures)
+
+pub returns-in-BadCertificate : goal.returns-in-BadCertificate
+returns-in-BadCertificate g c =
+    rw c.in-BadCertificate.is (rw (c.as_slice-file-in-BadCertificate.ensures, c.number-in-BadCertificate.ensures, c.name-in-BadCertificate.ensures) at
+    c.put_fault-in-BadCertificate.ensures)

@@ -4,4 +4,5 @@ use Rattle.mat_top.proofs.notes.put_pieces.Goals as goal
 
 pub returns-in-Err-clause-err : goal.returns-in-Err-clause-err
 returns-in-Err-clause-err g c =
-    pieces_prefix (g.N.Sink.written c.args.notes.now) (g.N.Sink.written c.loop-piece.notes) (g.N.Sink.written c.put_all.new.sink) c.args.pieces.now c.loop-piece.piece-index (record { ref_ptr = (0, 0); now = [] }) c.loop-piece-test.true c.loop-piece.invariant.appended c.in-Err.ensures.err
+    pieces_prefix (g.N.Sink.written c.args.notes.now) (g.N.Sink.written c.loop-piece.notes) (g.N.Sink.written c.put_all.new.sink) c.args.pieces.now
+    c.loop-piece.piece-index (record { ref_ptr = (0, 0); now = [] }) c.loop-piece-test.true c.loop-piece.invariant.appended c.in-Err.ensures.err

@@ -13,14 +13,16 @@ priced_rungs-requires-clause-rungs c =
     let laws : IsMatroid (length w) p = subst (λ (n : ℕ). IsMatroid n p) c.requires.sound.1 c.lawful.ensures in
     let ladder : IsLadder (length w) p (is_independent (tree_of c.args.second.now)) w c.in_ok-ladder.ladder.rungs.items c.in_ok-ladder.ladder.cut
     = rw (c.as_slice.ensures, c.requires.sound.1) at c.in_ok-ladder.ensures in
-    rw c.as_slice-2.ensures (few_elements laws c.requires.valid.0.0 c.requires.valid.0.1 c.in_ok-ladder.ladder.rungs.items c.in_ok-ladder.ladder.cut ladder)
+    rw c.as_slice-2.ensures (few_elements laws c.requires.valid.0.0 c.requires.valid.0.1 c.in_ok-ladder.ladder.rungs.items c.in_ok-ladder.ladder.cut
+    ladder)
 
-pub returns : goal.returns
-returns c =
+pub returns-clause-solution : goal.returns-clause-solution
+returns-clause-solution c =
     let p = is_independent (tree_of c.args.first.now) in
     let w = c.args.weights.now in
     let laws : IsMatroid (length w) p = subst (λ (n : ℕ). IsMatroid n p) c.requires.sound.1 c.lawful.ensures in
     let ladder : IsLadder (length w) p (is_independent (tree_of c.args.second.now)) w c.in_ok-ladder.ladder.rungs.items c.in_ok-ladder.ladder.cut
     = rw (c.as_slice.ensures, c.requires.sound.1) at c.in_ok-ladder.ensures in
     rw (c.in_ok-rungs.ensures, c.as_slice-2.ensures, c.len.ensures)
-    (priced_solution (length w) (tree_of c.args.first.now) (tree_of c.args.second.now) w c.in_ok-ladder.ladder.rungs.items c.in_ok-ladder.ladder.cut refl laws c.requires.valid.0.0 c.requires.valid.0.1 ladder)
+    (priced_solution (length w) (tree_of c.args.first.now) (tree_of c.args.second.now) w c.in_ok-ladder.ladder.rungs.items c.in_ok-ladder.ladder.cut
+    refl laws c.requires.valid.0.0 c.requires.valid.0.1 ladder)

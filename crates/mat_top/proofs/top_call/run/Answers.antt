@@ -11,4 +11,5 @@ returns-in_default-clause-noted g c = (note_of refusals.Usage, usage_noted (g.F.
 pub returns-in-Err-clause-written : goal.returns-in-Err-clause-written
 returns-in-Err-clause-written g c =
     rw (sym c.in-Some.ensures, c.status.ensures)
-    (ended-written (g.F.Shelf.held c.args.files.now) (line_of c.in-Some.command) _ _ (g.O.Sink.written c.args.out.now) _ (g.O.Sink.written c.perform.new.out) _ (Err c.in-Err.refusal) c.in-Err.ensures.ended)
+    (ended-written (g.F.Shelf.held c.args.files.now) (line_of c.in-Some.command) _ _ (g.O.Sink.written c.args.out.now) _
+    (g.O.Sink.written c.perform.new.out) _ (Err c.in-Err.refusal) c.in-Err.ensures.ended)

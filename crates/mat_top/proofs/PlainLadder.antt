@@ -1,0 +1,94 @@
+-- The heaviest independent sets of a matroid as an answer: the weight of each set is in range, since it has at most as many elements as
+-- there are; and as many elements as the rank has make a base.
+use Rattle.std.proofs.Common.{◌≡◌, ℕ, zero, suc, ◌+◌, ◌-◌, ◌^◌, ◌<◌, ◌≤◌, Bool, true, List, [], ◌∷◌, length}
+use Rattle.std.proofs.Common.{get_or, Some, refl, arith}
+use Rattle.std.specs.Prelude.{map, slice_get}
+use Rattle.std.proofs.lemmas.List.{length-map, get_or_default}
+use Rattle.mat_sets.specs.Sets.{IsSet, all_below}
+use Rattle.mat_sets.specs.Weights.{weight_at, AreWeightsWithin}
+use Rattle.mat_sets.specs.declared.weight.Weight.{Weight}
+use Rattle.mat_sets.proofs.Ground.{IsSet-length, IsRising-all_below}
+use Rattle.mat_laws.specs.Matroids.{IsMatroid, IsBase}
+use Rattle.mat_laws.proofs.Maximal.{IsBase-size, IsBase-maximal}
+use Rattle.mat_laws.proofs.RankLaws.{maximal_in, rank-maximal}
+use Rattle.mat_any.specs.Trees.{Tree, is_independent}
+use Rattle.mat_greedy.specs.Greedy.{AreHeaviestEach}
+use Rattle.mat_desc.specs.Instances.{list}
+use Rattle.mat_cert.specs.Certificates.{best, last_rung}
+use Rattle.mat_cert.specs.declared.answer.PlainRung.{PlainRung}
+use Rattle.mat_top.proofs.SetWeights.{set_in_range}
+use Rattle.mat_top.specs.Answers.{IsSolution}
+use Rattle.mat_top.specs.PricedRungs.{plain_rung, AreSmallSets}
+
+-- the set of a plain rung
+set_of : (w : List Weight) (sets : List (List ℕ)) (k : ℕ) (rung : PlainRung) → slice_get (map (plain_rung w) sets) k ≡ Some rung
+    → (k < length sets) × (rung ≡ plain_rung w (get_or sets k []))
+set_of w [] k rung at = absurd cc
+set_of w (set ∷ sets) zero rung at = (omega arith, some_is rung (plain_rung w set) at)
+  where
+    some_is : (x y : PlainRung) → Some y ≡ Some x → x ≡ y
+    some_is x y h = cc
+set_of w (set ∷ sets) (suc k) rung at = let r = set_of w sets k rung at in (omega (arith, r.0), r.1)
+
+-- an independent set is a set on n elements, and has no more of them
+set_is : {n : ℕ} {p : List ℕ → Bool} → IsMatroid n p → (X : List ℕ) → p X ≡ true → IsSet n X × (length X ≤ n)
+set_is {n} laws X passes = let set = laws.sets X passes in (set, IsSet-length n X set)
+
+module _ {n : ℕ} {p : List ℕ → Bool} (laws : IsMatroid n p) {h : ℕ → Weight} where
+  pub few_in_sets : n ≤ 500 → (sets : List (List ℕ)) → AreHeaviestEach n p h sets → AreSmallSets n sets
+  few_in_sets few sets heaviest = λ k d lt.
+      let at = heaviest.each k lt in
+      let same : get_or sets k d ≡ get_or sets k [] = get_or_default sets k d [] lt in
+      let set = set_is laws (get_or sets k []) at.1.passes in
+      rw same (set.0.below, omega (arith, set.1))
+
+  -- there are at most n + 1 of them
+  few_sets : (sets : List (List ℕ)) → AreHeaviestEach n p h sets → length sets ≤ n + 1
+  few_sets sets heaviest =
+      let count = heaviest.count in
+      let last = heaviest.each (length sets - 1) (omega (arith, count)) in
+      let set = set_is laws (get_or sets (length sets - 1) []) last.1.passes in
+      omega (arith, set.1, last.0, count)
+
+  -- the last is a base
+  last_is_base : (sets : List (List ℕ)) → AreHeaviestEach n p h sets → IsBase n p (get_or sets (length sets - 1) [])
+  last_is_base sets heaviest =
+      let count = heaviest.count in
+      let last = heaviest.each (length sets - 1) (omega (arith, count)) in
+      let largest = maximal_in laws (all_below n) (IsRising-all_below n) in
+      let size = rank-maximal laws (all_below n) largest.0 (IsRising-all_below n) largest.1 in
+      IsBase-size laws largest.0 (get_or sets (length sets - 1) []) (IsBase-maximal n p largest.0 largest.1) last.1.passes
+      (omega (arith, size, last.0, count))
+
+-- they are a solution, with their weights
+pub plain_solution : (n : ℕ) (matroid : Tree) (w : List Weight) (sets : List (List ℕ)) → n ≡ length w
+    → IsMatroid n (is_independent matroid) → n ≤ 500 → AreWeightsWithin (10 ^ 12) w
+    → AreHeaviestEach n (is_independent matroid) (weight_at w) sets → IsSolution (list w (matroid ∷ [])) (best n (map (plain_rung w) sets))
+plain_solution n matroid w sets same laws few small heaviest =
+    let p = is_independent matroid in
+    let length_is : length (map (plain_rung w) sets) ≡ length sets = length-map sets (plain_rung w) in
+    let some : 0 < length (map (plain_rung w) sets) = omega (arith, heaviest.count) in
+    record {
+      ranged = record {
+        few = few;
+        some = some;
+        no_more = omega (arith, few_sets laws sets heaviest);
+        each = λ k rung at. (let r = set_of w sets k rung at in
+            let h = heaviest.each k r.0 in
+            let set = set_is laws (get_or sets k []) h.1.passes in
+            rw r.1 (record { weight_in_range = set_in_range w (get_or sets k []) small (omega (arith, set.1)); set_in_range = set.0; size = h.0 }));
+      };
+      right = (
+        same,
+        record {
+          some = some;
+          each =
+              λ k rung at. (let r = set_of w sets k rung at in let h = heaviest.each k r.0 in rw r.1
+              (record { priced = refl; size = h.0; heaviest = h.1 }));
+          last = λ rung at. (let r = set_of w sets (last_rung (map (plain_rung w) sets)) rung at in
+              let place : last_rung (map (plain_rung w) sets) ≡ length sets - 1 = omega arith in
+              rw (r.1, place) (last_is_base laws sets heaviest));
+        },
+      );
+      bounded = tt;
+    }

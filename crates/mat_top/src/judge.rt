@@ -1,0 +1,58 @@
+//! Judging a certificate against a problem.
+
+ghost use Rattle.std.specs.Prelude.{◌≡◌, ◌≤◌, ℕ, List, length, OnOk, IfErr, IfSome, IfOk};
+ghost use Rattle.mat_cert.specs.Limits.{certificate_limit};
+ghost use Rattle.mat_desc.specs.Grammar.{IsValid};
+ghost use Rattle.mat_desc.specs.Soundness.{IsSoundInstance};
+ghost use Rattle.mat_desc.specs.Views.{instance_of};
+ghost use Rattle.mat_top.specs.Outcomes.{IsCertificateOutcome};
+ghost use Rattle.mat_top.specs.Refusals.{IsDenial, IsUncertified};
+
+use crate::reading::read_all;
+use crate::status::{Refusal, Status};
+use mat_cert::read_answer;
+use mat_check::{Verdict, check, fits};
+use mat_desc::Problem;
+use mat_shelf::Shelf;
+use std::alloc::Global;
+
+// The most bytes that a certificate may have.
+const CERTIFICATE_LIMIT: usize = 67_108_864;
+
+// Judges the certificate in these bytes.
+fn judge_bytes(alloc: Global, problem: &Problem, bytes: &[u8]) -> Result<(), Refusal>
+    requires within { length bytes.now ≤ certificate_limit }
+    requires valid { IsValid (instance_of problem.now) }
+    requires sound { IsSoundInstance (instance_of problem.now) }
+    ensures right { OnOk result (IsCertificateOutcome (instance_of problem.now) bytes.now Status.Done) }
+    ensures refusal { IfErr result (λ e. IsDenial (instance_of problem.now) bytes.now e) }
+{
+    let answer = read_answer(alloc, bytes)?;
+    if !fits(problem, &answer) {
+        return Err(Refusal::WrongShape);
+    }
+    match check(alloc, problem, &answer, 1)? {
+        Verdict::Yes => Ok(()),
+        Verdict::No { reason, a, b } => Err(Refusal::No(reason, a, b)),
+    }
+}
+
+/// Judges the certificate in the file of this name: it is right, or a refusal tells why not.
+pub(crate) fn judge<F: Shelf>(
+    alloc: Global,
+    files: &mut F,
+    name: &str,
+    problem: &Problem,
+) -> Result<(), Refusal>
+    requires valid { IsValid (instance_of problem.now) }
+    requires sound { IsSoundInstance (instance_of problem.now) }
+    ensures held { (other : List ℕ) → F.held files.new other ≡ F.held files.old other }
+    ensures grows { (other : List ℕ) → F.faults files.old other ≤ F.faults files.new other }
+    ensures right { OnOk result (IfSome (F.held files.old name.now)
+        (λ bytes. IsCertificateOutcome (instance_of problem.now) bytes Status.Done)) }
+    ensures refusal { IfErr result (λ e. IsUncertified (instance_of problem.now) (F.held files.old name.now)
+        (F.faults files.old name.now) (F.faults files.new name.now) e) }
+{
+    let bytes = read_all(alloc, files, name, CERTIFICATE_LIMIT)?;
+    judge_bytes(alloc, problem, &bytes)
+}
