@@ -1,15 +1,19 @@
 //! Cases of the top call, and the file that they stand in.
 //!
 //! A line that begins with `>` begins a case, and its further words are those of the command line. The lines below it are the text
-//! of the file `f`. A last line that is `<` alone is no part of that text, and says that the line above it has no end.
+//! of the file `f`, and those below a line that is `--` alone the text of the file `c`. A last line of a text that is `<` alone is no
+//! part of it, and says that the line above it has no end.
 
 use std::alloc::{AllocError, Global};
 
-/// A case: the words of a command line, and the text of the file `f`.
+/// A case: the words of a command line, and the texts of the files that it may name.
 #[derive(Debug, Drop)]
 pub(crate) struct Case {
     pub(crate) words: Vec<String>,
-    pub(crate) text: String,
+    /// The text of the file `f`.
+    pub(crate) description: String,
+    /// The text of the file `c`, if there is one.
+    pub(crate) certificate: Option<String>,
 }
 
 // The words of a line.
@@ -29,16 +33,27 @@ fn text_of(alloc: Global, lines: &str) -> Result<String, AllocError> {
     }
 }
 
+// The case of these words and of the lines of its texts, of which the last has no end.
+fn case_with(alloc: Global, words: Vec<String>, lines: &str) -> Result<Case, AllocError> {
+    let (description, certificate) = match lines.split_once("\n--\n") {
+        Some((first, second)) => (text_of(alloc, first)?, Some(text_of(alloc, second)?)),
+        None => (text_of(alloc, lines)?, None),
+    };
+    Ok(Case {
+        words,
+        description,
+        certificate,
+    })
+}
+
 // The case of these lines, of which the first holds the words, and the last has no end.
 fn case_of(alloc: Global, lines: &str) -> Result<Case, AllocError> {
     match lines.split_once('\n') {
-        Some((first, others)) => Ok(Case {
-            words: words_of(alloc, first)?,
-            text: text_of(alloc, others)?,
-        }),
+        Some((first, others)) => case_with(alloc, words_of(alloc, first)?, others),
         None => Ok(Case {
             words: words_of(alloc, lines)?,
-            text: String::new(alloc),
+            description: String::new(alloc),
+            certificate: None,
         }),
     }
 }
