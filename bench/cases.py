@@ -1,6 +1,7 @@
 #!/usr/bin/env python3
 """Prints a large description: `cases.py list`, `cases.py junk`, or `cases.py NAME N` for a pair of N elements, where NAME is one of
-`partitions`, `graphic`, `gf2`, `transversal` and `dual` (against a partition), `gammoid`, `routes` and `matching` (against `uniform N`)."""
+`partitions`, `graphic`, `gf2`, `transversal` and `dual` (against a partition), `free`, `gammoid`, `routes` and `matching` (against
+`uniform N`). `cases.py certificate N` prints a right certificate of `cases.py free N`, with weights of 62 bytes in each split."""
 import random
 import sys
 
@@ -23,8 +24,8 @@ def junk():
 
 
 def weights_of_all_sizes(numbers, n):
-    """A line of N weights."""
-    print('weights', *(numbers.randint(-1, 1) * numbers.randint(0, 10 ** numbers.randint(1, 12)) for _ in range(n)))
+    """N weights."""
+    return [numbers.randint(-1, 1) * numbers.randint(0, 10 ** numbers.randint(1, 12)) for _ in range(n)]
 
 
 def partition(numbers, n):
@@ -62,9 +63,26 @@ def pair(first, second, n):
     numbers = random.Random(n)
     print('matroids 1')
     print('pair', n)
-    weights_of_all_sizes(numbers, n)
+    print('weights', *weights_of_all_sizes(numbers, n))
     first(numbers, n)
     second(numbers, n)
+    print('end')
+
+
+def certificate(n):
+    """A ladder of all sets of N elements: under both parts of each split the heaviest elements stand first."""
+    weights = weights_of_all_sizes(random.Random(n), n)
+    order = sorted(range(n), key=lambda e: -weights[e])
+    shift = 10 ** 29
+    print('certificate 1')
+    print('answer intersect', n, n)
+    for k in range(n + 1):
+        chosen = sorted(order[:k])
+        print('rung', k, sum(weights[e] for e in chosen))
+        print('set', *chosen)
+        print('first', *(f'{weight + shift}:{shift}' for weight in weights))
+        print('second', *[f'-{shift}:-{shift}'] * n)
+    print('cut')
     print('end')
 
 
@@ -102,11 +120,13 @@ def dual(numbers, n):
 
 
 AGAINST_A_PARTITION = {'partitions': partition, 'graphic': graphic, 'gf2': gf2, 'transversal': transversal, 'dual': dual}
-AGAINST_NOTHING = {'gammoid': gammoid, 'routes': many_routes, 'matching': transversal}
+AGAINST_NOTHING = {'free': uniform, 'gammoid': gammoid, 'routes': many_routes, 'matching': transversal}
 WHOLE = {'list': many_classes, 'junk': junk}
 name = sys.argv[1]
 if name in WHOLE:
     WHOLE[name]()
+elif name == 'certificate':
+    certificate(int(sys.argv[2]))
 elif name in AGAINST_A_PARTITION:
     pair(AGAINST_A_PARTITION[name], partition, int(sys.argv[2]))
 else:
