@@ -1,10 +1,12 @@
 //! A matroid of any kind.
+ghost use Rattle.std.specs.Prelude.{⊤};
 ghost use Rattle.mat_any.specs.Trees.{element_count, is_independent, IsSound};
 ghost use Rattle.mat_any.specs.TreeLaws.{tree_laws};
 ghost use Rattle.mat_any.specs.Views.{tree_of};
 
 use crate::exchanges::circuit;
 use crate::independence::{independent, size_of};
+use crate::runs::run;
 use mat_count::{Laminar, Partition, Uniform};
 use mat_gf2::Gf2;
 use mat_graphic::Graphic;
@@ -49,6 +51,10 @@ impl Matroid for AnyMatroid {
 
     ghost indep = { λ m. is_independent (tree_of m) };
 
+    type Kept = ();
+
+    ghost keeps = { λ _ _ _. ⊤ };
+
     ghost laws = { λ m. tree_laws (tree_of m) };
 
     fn size(&self) -> u32 {
@@ -61,5 +67,14 @@ impl Matroid for AnyMatroid {
 
     fn circuit(&self, alloc: Global, base: &ElemSet, x: u32) -> Result<Exchange, AllocError> {
         circuit(alloc, self, base, x)
+    }
+
+    fn run(&self, alloc: Global, order: &[u32]) -> Result<ElemSet, AllocError> {
+        run(alloc, self, order)
+    }
+
+    /// Nothing is kept.
+    fn keep(&self, _alloc: Global, _base: &ElemSet) -> Result<(), AllocError> {
+        Ok(())
     }
 }

@@ -7,6 +7,7 @@ ghost use Rattle.mat_any.specs.Trees.{element_count, is_independent, IsSound};
 ghost use Rattle.mat_any.specs.Views.{tree_of};
 
 use crate::any::AnyMatroid;
+use crate::runs::run;
 use mat_laws::Matroid;
 use mat_minors::union;
 use mat_sets::ElemSet;
@@ -33,7 +34,8 @@ pub(crate) fn size_of(matroid: &AnyMatroid) -> u32
 }
 
 /// Whether a set of elements below the size is independent. A truncation or a restriction asks the matroid within it at
-/// most once, a dual or a contraction at most once for each of its elements and once more. The only error is want of memory.
+/// most once; a dual or a contraction runs it once, and a dual asks it once more for each member at most. The only error is
+/// want of memory.
 #[cycle(asking)]
 pub(crate) fn independent(
     alloc: Global,
@@ -109,8 +111,7 @@ fn contraction_independent(
     independent(alloc, inner, &joined)
 }
 
-// A maximal independent subset: the members are added one after the other, where the set stays independent.
-#[cycle(asking)]
+// A maximal independent subset, by one greedy run.
 pub(crate) fn maximal_subset(
     alloc: Global,
     matroid: &AnyMatroid,
@@ -120,11 +121,8 @@ pub(crate) fn maximal_subset(
     requires below { AllBelow (element_count (tree_of matroid.now)) within.now }
     ensures { IfOk result (λ base. IsMaximal (is_independent (tree_of matroid.now)) within.now base) }
 {
-    let mut base = ElemSet::new(alloc);
-    for x in within.as_slice() {
-        add_if_independent(alloc, matroid, &mut base, *x)?;
-    }
-    Ok(base)
+    within.rises();
+    run(alloc, matroid, within.as_slice())
 }
 
 // Adds x where it is not yet there and the set stays independent, and tells whether it did.

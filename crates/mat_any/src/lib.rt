@@ -4,6 +4,7 @@
 mod any;
 mod exchanges;
 mod independence;
+mod runs;
 #[cfg(test)]
 mod tests;
 

@@ -1,5 +1,5 @@
 //! Laminar matroids.
-ghost use Rattle.std.specs.Prelude.{◌≡◌, ◌↔◌, ◌+◌, ℕ, ◌<◌, ◌^◌, length, replicate, filter, slice_index, slice_index_or, [], IfOk, IfErr, IsTrue, IsFalse, MatchOption, ◌-◌};
+ghost use Rattle.std.specs.Prelude.{⊤, ◌≡◌, ◌↔◌, ◌+◌, ℕ, ◌<◌, ◌^◌, length, replicate, filter, slice_index, slice_index_or, [], IfOk, IfErr, IsTrue, IsFalse, MatchOption, ◌-◌};
 ghost use Rattle.std.specs.List.{All};
 ghost use Rattle.mat_sets.specs.Sets.{is_member, AllBelow, IsRising};
 ghost use Rattle.mat_sets.specs.Families.{indicator};
@@ -269,6 +269,10 @@ impl Matroid for Laminar {
 
     ghost indep = { λ m. is_counted m.count m.sets m.caps };
 
+    type Kept = ();
+
+    ghost keeps = { λ _ _ _. ⊤ };
+
     ghost laws = { λ m h. counted_laws m.count m.sets m.caps h.family };
 
     fn size(&self) -> u32 {
@@ -291,5 +295,10 @@ impl Matroid for Laminar {
             addable: full.is_empty(),
             with,
         })
+    }
+
+    /// Nothing is kept.
+    fn keep(&self, _alloc: Global, _base: &ElemSet) -> Result<(), AllocError> {
+        Ok(())
     }
 }

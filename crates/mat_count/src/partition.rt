@@ -1,5 +1,5 @@
 //! Partition matroids.
-ghost use Rattle.std.specs.Prelude.{◌≡◌, length, IfOk};
+ghost use Rattle.std.specs.Prelude.{⊤, ◌≡◌, length, IfOk};
 ghost use Rattle.std.specs.List.{All};
 ghost use Rattle.mat_sets.specs.Sets.{AllBelow, IsRising};
 ghost use Rattle.mat_sets.specs.Families.{AreDisjoint};
@@ -155,6 +155,10 @@ impl Matroid for Partition {
 
     ghost indep = { λ m. is_counted m.count m.classes m.caps };
 
+    type Kept = ();
+
+    ghost keeps = { λ _ _ _. ⊤ };
+
     ghost laws = { λ m h. partition_laws m.count m.classes m.caps h };
 
     fn size(&self) -> u32 {
@@ -184,5 +188,10 @@ impl Matroid for Partition {
             addable: true,
             with,
         })
+    }
+
+    /// Nothing is kept.
+    fn keep(&self, _alloc: Global, _base: &ElemSet) -> Result<(), AllocError> {
+        Ok(())
     }
 }

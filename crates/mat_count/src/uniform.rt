@@ -1,5 +1,5 @@
 //! Uniform matroids.
-ghost use Rattle.std.specs.Prelude.{◌≡◌};
+ghost use Rattle.std.specs.Prelude.{⊤, ◌≡◌};
 ghost use Rattle.mat_count.specs.Counts.{is_uniform};
 ghost use Rattle.mat_count.specs.UniformLaws.{uniform_laws};
 
@@ -45,6 +45,10 @@ impl Matroid for Uniform {
 
     ghost indep = { λ m. is_uniform m.count m.cap };
 
+    type Kept = ();
+
+    ghost keeps = { λ _ _ _. ⊤ };
+
     ghost laws = { λ m h. uniform_laws m.count m.cap };
 
     fn size(&self) -> u32 {
@@ -63,5 +67,10 @@ impl Matroid for Uniform {
             addable: base.len() < self.cap as usize,
             with,
         })
+    }
+
+    /// Nothing is kept.
+    fn keep(&self, _alloc: Global, _base: &ElemSet) -> Result<(), AllocError> {
+        Ok(())
     }
 }

@@ -7,15 +7,17 @@ use mat_laws::{Exchange, Matroid};
 use mat_sets::ElemSet;
 use std::alloc::{AllocError, Global};
 
-/// The exchanges of x: a member has none. For an element outside the set one question to `circuit`.
+/// The exchanges of x by what is kept of the set: a member has none.
 fn exchange_of<M: Matroid>(
     alloc: Global,
     m: &M,
     set: &ElemSet,
+    kept: &M::Kept,
     x: u32,
 ) -> Result<Exchange, AllocError>
     requires sound { M.sound m.now }
     requires independent { M.indep m.now set.now ≡ true }
+    requires kept { M.keeps m.now set.now kept.now }
     requires below { x < M.ground_size m.now }
     ensures { IfOk result (λ e. e ≡ row_of (M.indep m.now) set.now x) }
 {
@@ -25,11 +27,12 @@ fn exchange_of<M: Matroid>(
             with: ElemSet::new(alloc),
         });
     }
-    m.circuit(alloc, set, x)
+    m.row(alloc, set, kept, x)
 }
 
-/// The exchanges of all elements at an independent set (Schrijver, chapter 41): for each element outside it one question to
-/// `circuit`, one after the other, whatever the number of workers, from 1 to 16. The only error is want of memory.
+/// The exchanges of all elements at an independent set (Schrijver, chapter 41): what the matroid keeps of the set is made
+/// once, and then a row for each element outside it, one after the other, whatever the number of workers, from 1 to 16. The
+/// only error is want of memory.
 pub fn rows<M: Matroid>(
     alloc: Global,
     m: &M,
@@ -43,9 +46,10 @@ pub fn rows<M: Matroid>(
     ensures { IfOk result (λ t. t ≡ rows_of (M.ground_size m.now) (M.indep m.now) set.now) }
 {
     m.lawful();
+    let kept = m.keep(alloc, set)?;
     let mut exchanges = Vec::new(alloc);
     for x in 0..m.size() {
-        exchanges.push(exchange_of(alloc, m, set, x)?)?;
+        exchanges.push(exchange_of(alloc, m, set, &kept, x)?)?;
     }
     RowTable::new(alloc, &exchanges)
 }

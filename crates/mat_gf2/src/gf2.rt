@@ -1,5 +1,5 @@
 //! Matroids of columns over the field of two elements.
-ghost use Rattle.std.specs.Prelude.{◌≡◌, length, IfOk};
+ghost use Rattle.std.specs.Prelude.{⊤, ◌≡◌, length, IfOk};
 ghost use Rattle.mat_gf2.specs.Columns.{BinaryMatrix, IsBinaryMatrix, column_of, is_gf2};
 ghost use Rattle.mat_gf2.specs.Gf2Laws.{gf2_laws};
 
@@ -60,6 +60,10 @@ impl Matroid for Gf2 {
 
     ghost indep = { λ m. is_gf2 (length m.columns) (column_of m.columns) };
 
+    type Kept = ();
+
+    ghost keeps = { λ _ _ _. ⊤ };
+
     ghost laws = { λ m h. gf2_laws (length m.columns) (column_of m.columns) };
 
     fn size(&self) -> u32 {
@@ -94,5 +98,10 @@ impl Matroid for Gf2 {
             addable: true,
             with,
         })
+    }
+
+    /// Nothing is kept.
+    fn keep(&self, _alloc: Global, _base: &ElemSet) -> Result<(), AllocError> {
+        Ok(())
     }
 }

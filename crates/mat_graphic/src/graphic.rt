@@ -1,5 +1,5 @@
 //! Graphic matroids.
-ghost use Rattle.std.specs.Prelude.{◌≡◌, ℕ, List, ◌∷◌, ◌<◌, ◌==◌, not, length, slice_index, IfOk};
+ghost use Rattle.std.specs.Prelude.{⊤, ◌≡◌, ℕ, List, ◌∷◌, ◌<◌, ◌==◌, not, length, slice_index, IfOk};
 ghost use Rattle.mat_sets.specs.Graphs.{IsGraph, ends_of};
 ghost use Rattle.mat_sets.specs.Sets.{AllBelow, IsRising};
 ghost use Rattle.mat_graphic.specs.Forests.{IsLeastReached, is_forest, is_graphic};
@@ -120,6 +120,10 @@ impl Matroid for Graphic {
 
     ghost indep = { λ m. is_graphic (length m.edges) (ends_of m.edges) };
 
+    type Kept = ();
+
+    ghost keeps = { λ _ _ _. ⊤ };
+
     ghost laws = { λ m h. graphic_laws (length m.edges) (ends_of m.edges) };
 
     fn size(&self) -> u32 {
@@ -147,5 +151,10 @@ impl Matroid for Graphic {
                 with: base.copy(alloc)?,
             }),
         }
+    }
+
+    /// Nothing is kept.
+    fn keep(&self, _alloc: Global, _base: &ElemSet) -> Result<(), AllocError> {
+        Ok(())
     }
 }

@@ -14,6 +14,7 @@ use Rattle.mat_laws.specs.Matroids.{IsMatroid, IsMaximal}
 use Rattle.mat_laws.specs.Heaviest.{IsHeaviest}
 use Rattle.mat_laws.proofs.Independent.{rising, below}
 use Rattle.mat_laws.proofs.Growing.{IsGrowing, IsGrowing-start, IsGrowing-next, IsGrowing-end, maximal_from_none}
+use Rattle.mat_laws.proofs.GreedyRunTraces.{IsTracing}
 use Rattle.mat_laws.proofs.RankLaws.{rank-maximal}
 use Rattle.mat_laws.proofs.HeaviestSteps.{IsHeaviest-nil, IsHeaviest-with_one}
 use Rattle.mat_laws.proofs.Maximal.{IsMaximal-base}
@@ -30,6 +31,11 @@ pub record IsClimbing (p : List ℕ → Bool) (w : ℕ → Weight) (order : List
   pub heaviest : IsHeaviest p w set
   pub count : length sets ≡ suc (length set)
   pub each : (k : ℕ) → k < length sets → IsHeaviestOf p w k (get_or sets k [])
+
+-- so too where the members of the set at the end tell which elements are added
+pub record IsClimbingAndTracing (p : List ℕ → Bool) (w : ℕ → Weight) (order : List ℕ) (i : ℕ) (set : List ℕ) (sets : List (List ℕ)) : Type 0 where
+  pub climbing : IsClimbing p w order i set sets
+  pub tracing : IsTracing p order i set
 
 get_or-pushed : (sets : List (List ℕ)) (s : List ℕ) (k : ℕ) → k < length sets → get_or (sets ++ s ∷ []) k [] ≡ get_or sets k []
 get_or-pushed [] s k l = absurd (omega arith)

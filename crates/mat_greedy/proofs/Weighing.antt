@@ -15,6 +15,8 @@ use Rattle.mat_sets.proofs.WeightOrder.{weight_within_at}
 use Rattle.mat_sets.proofs.WeightSums.{weight_sum-with_one}
 use Rattle.mat_laws.specs.Matroids.{IsMatroid}
 use Rattle.mat_laws.proofs.Independent.{rising}
+use Rattle.mat_laws.specs.GreedyRuns.{grown_along}
+use Rattle.mat_laws.proofs.GreedyRunTraces.{IsTracing, IsTracing-start, IsTracing-next, traced}
 use Rattle.mat_greedy.specs.Order.{IsFallingOrder}
 use Rattle.mat_greedy.specs.Greedy.{AreHeaviestWeights}
 use Rattle.mat_greedy.proofs.Climbing.{IsClimbing, IsClimbing-start, IsClimbing-next, IsClimbing-end}
@@ -102,3 +104,47 @@ module _ {n : ℕ} {p : List ℕ → Bool} (laws : IsMatroid n p) where
     heaviest = IsClimbing-end laws weights order set g.sets i size falling l g.climbing;
     weighed = g.weighed;
   }
+
+-- ---- the loop over the members of the set at the end
+
+-- there is a set, as the loop that adds element after element has it, whose weights these are
+pub record IsSumming (p : List ℕ → Bool) (w : ℕ → Weight) (order : List ℕ) (i : ℕ) (sum : Weight) (sums : List Weight) : Type 0 where
+  pub set : List ℕ
+  pub weighing : IsWeighing p w order i set sum sums
+  pub tracing : IsTracing p order i set
+
+module _ {n : ℕ} {p : List ℕ → Bool} (laws : IsMatroid n p) where
+  pub IsSumming-start : (weights : List Weight) (order : List ℕ) → IsFallingOrder weights order
+      → IsSumming p (weight_at weights) order 0 zero_weight (zero_weight ∷ [])
+  IsSumming-start weights order falling = record {
+    set = [];
+    weighing = IsWeighing-start laws (weight_at weights) order;
+    tracing = IsTracing-start p order laws.empty falling.distinct;
+  }
+
+  module _ (weights : List Weight) (order : List ℕ) (sum : Weight) (sums : List Weight) (i x : ℕ) (size : n ≡ length weights)
+      (falling : IsFallingOrder weights order) (inside : i < length order) (at : x ≡ get_or order i 0)
+      (g : IsSumming p (weight_at weights) order i sum sums) (all : List ℕ) (run : all ≡ grown_along p [] order) where
+    told : is_member x all ≡ (not (is_member x g.set) && p (with_one g.set x))
+    told = ap (is_member x) run ∙ traced laws order g.set i x inside at g.tracing
+
+    next : List ℕ
+    next = if is_member x all then with_one g.set x else g.set
+
+    pub IsSumming-stay : is_member x all ≡ false → IsSumming p (weight_at weights) order (i + 1) sum sums
+    unfolding next
+    IsSumming-stay out = record {
+      set = next;
+      weighing = IsWeighing-stay laws weights order g.set sum sums i x size falling inside at g.weighing (is_member x all) next told refl out;
+      tracing = IsTracing-next laws order g.set i x inside at g.tracing (is_member x all) next told refl;
+    }
+
+    pub IsSumming-more : is_member x all ≡ true → (sum' : Weight) → sum' ≡ sum ⊕ weight_at weights x
+        → IsSumming p (weight_at weights) order (i + 1) sum' (sums ++ sum' ∷ [])
+    unfolding next
+    IsSumming-more here sum' after = record {
+      set = next;
+      weighing = IsWeighing-more laws weights order g.set sum sums i x size falling inside at g.weighing (is_member x all) next told refl here
+          sum' after;
+      tracing = IsTracing-next laws order g.set i x inside at g.tracing (is_member x all) next told refl;
+    }

@@ -13,8 +13,8 @@ use mat_sets::{ElemSet, PairWeights, SetList, Weight};
 use std::alloc::{AllocError, Global};
 
 /// A heaviest independent set of each size from 0 to the rank, by the greedy algorithm (Schrijver, chapter 40): the set
-/// of k + 1 elements is the set of k elements with a heaviest element whose addition keeps it independent. At most as
-/// many questions of independence as there are elements. The only error is want of memory.
+/// of k + 1 elements is the set of k elements with a heaviest element whose addition keeps it independent. One run of the
+/// matroid along the elements by falling weight tells which of them are added. The only error is want of memory.
 pub fn heaviest_each<M: Matroid>(
     alloc: Global,
     m: &M,
@@ -26,11 +26,13 @@ pub fn heaviest_each<M: Matroid>(
 {
     m.lawful();
     let order = order_by_weight(alloc, m.size(), weights)?;
+    let all = m.run(alloc, &order)?;
     let mut set = ElemSet::new(alloc);
     let mut sets = Vec::new(alloc);
     sets.push(set.copy(alloc)?)?;
     for x in &order {
-        if m.add_if_independent(alloc, &mut set, *x)? {
+        if all.contains(*x) {
+            set.add(*x)?;
             sets.push(set.copy(alloc)?)?;
         }
     }
@@ -38,8 +40,7 @@ pub fn heaviest_each<M: Matroid>(
 }
 
 /// The weight of a heaviest independent set of each size from 0 to the rank, by one run of the greedy algorithm (Schrijver,
-/// chapter 40), which keeps no set but the last. At most as many questions of independence as there are elements. The only
-/// error is want of memory.
+/// chapter 40), which keeps no set but the last. The only error is want of memory.
 pub fn heaviest_weights<M: Matroid>(
     alloc: Global,
     m: &M,
@@ -53,11 +54,11 @@ pub fn heaviest_weights<M: Matroid>(
 {
     m.lawful();
     let order = order_by_weight(alloc, m.size(), weights)?;
-    let mut set = ElemSet::new(alloc);
+    let all = m.run(alloc, &order)?;
     let mut sum = Weight::ZERO;
     let mut sums = vec![in alloc; sum]?;
     for x in &order {
-        if m.add_if_independent(alloc, &mut set, *x)? {
+        if all.contains(*x) {
             sum += weights[*x as usize];
             sums.push(sum)?;
         }

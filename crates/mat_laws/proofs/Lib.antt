@@ -11,3 +11,8 @@ pub mod PathSides
 pub mod Rows
 pub mod BestLadders
 pub mod Searches
+pub mod GreedyRunSteps
+pub mod GreedyRunSets
+pub mod GreedyRunTraces
+pub mod ColumnEntries
+pub mod ColumnSteps

@@ -7,3 +7,5 @@ pub mod TightPaths
 pub mod Slacks
 pub mod CommonSets
 pub mod Ladders
+pub mod GreedyRuns
+pub mod Columns

@@ -2,6 +2,7 @@
 #![tactic(auto)]
 
 mod bases;
+mod columns;
 mod exchange;
 pub mod laws;
 mod matroid;

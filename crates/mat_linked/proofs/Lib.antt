@@ -3,4 +3,3 @@ pub mod LinkedAnswers
 pub mod AugmentedMatchings
 pub mod StuckMatchings
 pub mod MatchableSets
-pub mod IndexRows

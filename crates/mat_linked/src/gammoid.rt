@@ -1,5 +1,5 @@
 //! Gammoids.
-ghost use Rattle.std.specs.Prelude.{◌≡◌, ◌<◌, ◌^◌, ℕ, length, IfOk};
+ghost use Rattle.std.specs.Prelude.{⊤, ◌≡◌, ◌<◌, ◌^◌, ℕ, length, IfOk};
 ghost use Rattle.mat_sets.specs.Sets.{is_member, AllBelow, AreDistinct, IsRising};
 ghost use Rattle.mat_linked.specs.Gammoids.{is_gammoid, vertices_of, IsGammoid, LinkedVertices};
 ghost use Rattle.mat_linked.specs.GammoidLaws.{gammoid_laws};
@@ -99,6 +99,10 @@ impl Matroid for Gammoid {
 
     ghost indep = { λ m. is_gammoid m.vertices m.arcs m.sources m.targets };
 
+    type Kept = ();
+
+    ghost keeps = { λ _ _ _. ⊤ };
+
     ghost laws = { λ m h. gammoid_laws m.vertices m.arcs m.sources m.targets h };
 
     fn size(&self) -> u32 {
@@ -111,5 +115,10 @@ impl Matroid for Gammoid {
         let ends = vertex_set(alloc, &self.targets, set.as_slice())?;
         let linking = linked(alloc, &self.graph, &self.sources, &ends)?;
         Ok(linking.paths.len() == set.len())
+    }
+
+    /// Nothing is kept.
+    fn keep(&self, _alloc: Global, _base: &ElemSet) -> Result<(), AllocError> {
+        Ok(())
     }
 }

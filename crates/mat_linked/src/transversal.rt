@@ -1,5 +1,5 @@
 //! Transversal matroids.
-ghost use Rattle.std.specs.Prelude.{◌≡◌, ◌<◌, ◌^◌, ◌&&◌, ◌||◌, ◌==◌, ℕ, [], length, IfOk, OnOk};
+ghost use Rattle.std.specs.Prelude.{⊤, ◌≡◌, ◌<◌, ◌^◌, ◌&&◌, ◌||◌, ◌==◌, ℕ, [], length, IfOk, OnOk};
 ghost use Rattle.std.specs.List.{All};
 ghost use Rattle.mat_sets.specs.Sets.{is_member, AllBelow};
 ghost use Rattle.mat_flow.specs.Digraphs.{row_at};
@@ -110,6 +110,10 @@ impl Matroid for Transversal {
 
     ghost indep = { λ m. is_transversal m.count m.sets };
 
+    type Kept = ();
+
+    ghost keeps = { λ _ _ _. ⊤ };
+
     ghost laws = { λ m h. transversal_laws m.count m.sets h.inside };
 
     fn size(&self) -> u32 {
@@ -120,5 +124,10 @@ impl Matroid for Transversal {
     /// each member. The only error is want of memory.
     fn independent(&self, alloc: Global, set: &ElemSet) -> Result<bool, AllocError> {
         are_matchable(alloc, &self.rows, self.family.len() as u32, set.as_slice())
+    }
+
+    /// Nothing is kept.
+    fn keep(&self, _alloc: Global, _base: &ElemSet) -> Result<(), AllocError> {
+        Ok(())
     }
 }

@@ -3,3 +3,4 @@ pub mod MaximalSubsets
 pub mod ContractionLaws
 pub mod DualLaws
 pub mod MinorLaws
+pub mod DualRows

@@ -4,6 +4,7 @@ ghost use Rattle.mat_sets.specs.Sets.{AllBelow, union};
 ghost use Rattle.mat_minors.specs.Minors.{is_contracted, IsContraction};
 ghost use Rattle.mat_minors.specs.MinorLaws.{contracted_laws};
 
+use crate::run_orders::set_first;
 use mat_laws::{Exchange, Matroid};
 use mat_sets::ElemSet;
 use std::alloc::{AllocError, Global};
@@ -16,6 +17,15 @@ pub struct Contraction<M: Matroid> {
     away: ElemSet,
     // a maximal independent subset of `away`
     chosen: ElemSet,
+}
+
+/// What a contraction keeps of an independent set.
+#[derive(Drop)]
+pub struct ContractionKept<M: Matroid> {
+    /// The set together with what was chosen of the contracted elements.
+    joined: ElemSet,
+    /// What the matroid that is contracted keeps of both.
+    inner: M::Kept,
 }
 
 impl<M: Matroid> Contraction<M> {
@@ -58,6 +68,10 @@ impl<M: Matroid> Matroid for Contraction<M> {
 
     ghost indep = { λ m. is_contracted (M.ground_size m.inner) m.away (M.indep m.inner) };
 
+    type Kept = ContractionKept<M>;
+
+    ghost keeps = { λ m base kept. (kept.joined ≡ union base m.chosen) × M.keeps m.inner kept.joined kept.inner };
+
     ghost laws = { λ m h. contracted_laws (M.ground_size m.inner) (M.indep m.inner) m.away h.1.set.rising (M.laws m.inner h.0) };
 
     fn size(&self) -> u32 {
@@ -85,6 +99,45 @@ impl<M: Matroid> Matroid for Contraction<M> {
         }
         let joined = union(alloc, base, &self.chosen)?;
         let inner = self.inner.circuit(alloc, &joined, x)?;
+        Ok(Exchange {
+            addable: inner.addable,
+            with: inner.with.minus(alloc, &self.chosen)?,
+        })
+    }
+    /// One run of the inner matroid, first through the contracted elements, and then through the others of the order. The
+    /// only error is want of memory.
+    fn run(&self, alloc: Global, order: &[u32]) -> Result<ElemSet, AllocError> {
+        self.inner.lawful();
+        let items = set_first(alloc, &self.away, order)?;
+        let all = self.inner.run(alloc, &items)?;
+        all.minus(alloc, &self.away)
+    }
+
+    /// The set together with what was chosen of the contracted elements, and what the inner matroid keeps of both. The only
+    /// error is want of memory.
+    fn keep(&self, alloc: Global, base: &ElemSet) -> Result<ContractionKept<M>, AllocError> {
+        let joined = union(alloc, base, &self.chosen)?;
+        let inner = self.inner.keep(alloc, &joined)?;
+        Ok(ContractionKept { joined, inner })
+    }
+
+    /// The exchanges of the inner matroid at the set together with what was chosen of the contracted elements, for
+    /// members of the set; none for a contracted element. The only error is want of memory.
+    fn row(
+        &self,
+        alloc: Global,
+        base: &ElemSet,
+        kept: &ContractionKept<M>,
+        x: u32,
+    ) -> Result<Exchange, AllocError> {
+        if self.away.contains(x) {
+            return Ok(Exchange {
+                addable: false,
+                with: ElemSet::new(alloc),
+            });
+        }
+        base.rises();
+        let inner = self.inner.row(alloc, &kept.joined, &kept.inner, x)?;
         Ok(Exchange {
             addable: inner.addable,
             with: inner.with.minus(alloc, &self.chosen)?,

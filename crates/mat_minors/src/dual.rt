@@ -1,9 +1,12 @@
 //! Duals.
-ghost use Rattle.std.specs.Prelude.{◌≡◌};
+ghost use Rattle.std.specs.Prelude.{◌≡◌, ◌<◌, length, IfOk};
+ghost use Rattle.mat_sets.specs.Sets.{IsRising};
+ghost use Rattle.mat_minors.specs.DualRows.{IsDualKept, kept_row};
 ghost use Rattle.mat_minors.specs.Minors.{is_dual};
 ghost use Rattle.mat_minors.specs.MinorLaws.{dual_laws};
 
-use mat_laws::Matroid;
+use crate::run_orders::{others_first, set_of};
+use mat_laws::{Exchange, Matroid};
 use mat_sets::ElemSet;
 use std::alloc::{AllocError, Global};
 
@@ -38,6 +41,10 @@ impl<M: Matroid> Matroid for Dual<M> {
 
     ghost indep = { λ m. is_dual (M.ground_size m.inner) (M.indep m.inner) };
 
+    type Kept = DualKept;
+
+    ghost keeps = { λ m set kept. IsDualKept (M.ground_size m.inner) (M.indep m.inner) set kept.base kept.columns.items };
+
     ghost laws = { λ m h. dual_laws (M.ground_size m.inner) (M.indep m.inner) (M.laws m.inner h) };
 
     fn size(&self) -> u32 {
@@ -57,4 +64,76 @@ impl<M: Matroid> Matroid for Dual<M> {
         }
         Ok(true)
     }
+    /// What a run of the inner matroid leaves of the order that goes through all other elements first, and then through the
+    /// order from its end. The only error is want of memory.
+    fn run(&self, alloc: Global, order: &[u32]) -> Result<ElemSet, AllocError> {
+        self.inner.lawful();
+        let all = set_of(alloc, order)?;
+        let items = others_first(alloc, self.inner.size(), &all, order)?;
+        let base = self.inner.run(alloc, &items)?;
+        all.minus(alloc, &base)
+    }
+
+    /// A base of the inner matroid that is disjoint from the set, by one run, and the exchanges at it, column by column.
+    /// The only error is want of memory.
+    fn keep(&self, alloc: Global, base: &ElemSet) -> Result<DualKept, AllocError> {
+        self.inner.lawful();
+        let outside = ElemSet::all_below(alloc, self.inner.size())?.minus(alloc, base)?;
+        let other = self
+            .inner
+            .grown_base(alloc, &ElemSet::new(alloc), &outside)?;
+        let kept = self.inner.keep(alloc, &other)?;
+        let columns = self.inner.columns(alloc, &other, &kept)?;
+        Ok(DualKept {
+            base: other,
+            columns,
+        })
+    }
+
+    /// A look into the column of x. The only error is want of memory.
+    fn row(
+        &self,
+        alloc: Global,
+        base: &ElemSet,
+        kept: &DualKept,
+        x: u32,
+    ) -> Result<Exchange, AllocError> {
+        self.inner.lawful();
+        base.rises();
+        dual_row(alloc, base, kept, x)
+    }
+}
+
+/// What a dual keeps of an independent set: a base of its matroid that is disjoint from the set, and for each member of that
+/// base the elements that can take its place.
+#[derive(Debug, Drop)]
+pub struct DualKept {
+    pub base: ElemSet,
+    pub columns: Vec<ElemSet>,
+}
+
+/// The exchanges of x outside an independent set of a dual, from what is kept of the set. The only error is want of memory.
+pub fn dual_row(
+    alloc: Global,
+    set: &ElemSet,
+    kept: &DualKept,
+    x: u32,
+) -> Result<Exchange, AllocError>
+    requires below { x < length kept.now.columns.items }
+    ensures row { IfOk result (λ e. (e ≡ kept_row set.now kept.now.base kept.now.columns.items x) × IsRising e.with) }
+    ensures rises { IfOk result (λ e. IsRising e.with) }
+{
+    if kept.base.contains(x) {
+        let column = kept.columns[x as usize].copy(alloc)?;
+        if column.minus(alloc, set)?.is_empty() {
+            return Ok(Exchange {
+                addable: false,
+                with: column,
+            });
+        }
+    }
+    Ok(Exchange {
+        addable: true,
+        with: set.copy(alloc)?,
+    })
 }

@@ -4,6 +4,7 @@ ghost use Rattle.mat_sets.specs.Sets.{AllBelow};
 ghost use Rattle.mat_minors.specs.Minors.{is_restricted};
 ghost use Rattle.mat_minors.specs.MinorLaws.{restricted_laws};
 
+use crate::run_orders::items_in;
 use mat_laws::{Exchange, Matroid};
 use mat_sets::ElemSet;
 use std::alloc::{AllocError, Global};
@@ -49,6 +50,10 @@ impl<M: Matroid> Matroid for Restriction<M> {
 
     ghost indep = { λ m. is_restricted m.kept (M.indep m.inner) };
 
+    type Kept = M::Kept;
+
+    ghost keeps = { λ m base kept. M.keeps m.inner base kept };
+
     ghost laws = { λ m h. restricted_laws (M.ground_size m.inner) (M.indep m.inner) m.kept (M.laws m.inner h.0) };
 
     fn size(&self) -> u32 {
@@ -73,5 +78,34 @@ impl<M: Matroid> Matroid for Restriction<M> {
             });
         }
         self.inner.circuit(alloc, base, x)
+    }
+    /// One run of the inner matroid along the elements of the order that are kept. The only error is want of memory.
+    fn run(&self, alloc: Global, order: &[u32]) -> Result<ElemSet, AllocError> {
+        self.inner.lawful();
+        let items = items_in(alloc, order, &self.kept)?;
+        self.inner.run(alloc, &items)
+    }
+
+    /// What the inner matroid keeps. The only error is want of memory.
+    fn keep(&self, alloc: Global, base: &ElemSet) -> Result<M::Kept, AllocError> {
+        self.inner.keep(alloc, base)
+    }
+
+    /// The exchanges of the inner matroid for an element that is kept, and none for another. The only error is want of
+    /// memory.
+    fn row(
+        &self,
+        alloc: Global,
+        base: &ElemSet,
+        kept: &M::Kept,
+        x: u32,
+    ) -> Result<Exchange, AllocError> {
+        if !self.kept.contains(x) {
+            return Ok(Exchange {
+                addable: false,
+                with: ElemSet::new(alloc),
+            });
+        }
+        self.inner.row(alloc, base, kept, x)
     }
 }

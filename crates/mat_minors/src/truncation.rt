@@ -3,6 +3,7 @@ ghost use Rattle.std.specs.Prelude.{◌≡◌};
 ghost use Rattle.mat_minors.specs.Minors.{is_truncated};
 ghost use Rattle.mat_minors.specs.MinorLaws.{truncated_laws};
 
+use crate::run_orders::first_taken;
 use mat_laws::{Exchange, Matroid};
 use mat_sets::ElemSet;
 use std::alloc::{AllocError, Global};
@@ -46,6 +47,10 @@ impl<M: Matroid> Matroid for Truncation<M> {
 
     ghost indep = { λ m. is_truncated m.cap (M.indep m.inner) };
 
+    type Kept = M::Kept;
+
+    ghost keeps = { λ m base kept. M.keeps m.inner base kept };
+
     ghost laws = { λ m h. truncated_laws (M.ground_size m.inner) (M.indep m.inner) m.cap (M.laws m.inner h) };
 
     fn size(&self) -> u32 {
@@ -64,6 +69,32 @@ impl<M: Matroid> Matroid for Truncation<M> {
     /// only error is want of memory.
     fn circuit(&self, alloc: Global, base: &ElemSet, x: u32) -> Result<Exchange, AllocError> {
         let inner = self.inner.circuit(alloc, base, x)?;
+        Ok(Exchange {
+            addable: inner.addable && base.len() < self.cap as usize,
+            with: inner.with,
+        })
+    }
+    /// One run of the inner matroid, of which the first members up to the cap are taken. The only error is want of memory.
+    fn run(&self, alloc: Global, order: &[u32]) -> Result<ElemSet, AllocError> {
+        self.inner.lawful();
+        let all = self.inner.run(alloc, order)?;
+        first_taken(alloc, order, &all, self.cap)
+    }
+
+    /// What the inner matroid keeps. The only error is want of memory.
+    fn keep(&self, alloc: Global, base: &ElemSet) -> Result<M::Kept, AllocError> {
+        self.inner.keep(alloc, base)
+    }
+
+    /// The exchanges of the inner matroid; an element can be added only below the cap. The only error is want of memory.
+    fn row(
+        &self,
+        alloc: Global,
+        base: &ElemSet,
+        kept: &M::Kept,
+        x: u32,
+    ) -> Result<Exchange, AllocError> {
+        let inner = self.inner.row(alloc, base, kept, x)?;
         Ok(Exchange {
             addable: inner.addable && base.len() < self.cap as usize,
             with: inner.with,

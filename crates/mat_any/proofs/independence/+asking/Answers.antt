@@ -22,42 +22,12 @@ add_if_independent-returns-then-not-branch-clause-set t c =
     let old = c.if-not-branch.true in
     told.1 ∙ with_one-member _ _ c.in_ok-add.ensures.rose (let new = told.0 in grind arith)
 
-pub maximal_subset-loop-x-init : goal.maximal_subset-loop-x-init
-maximal_subset-loop-x-init t c =
-    let laws = tree_laws (tree_of c.args.matroid.now) c.requires.sound in
-    subst (IsGrowing _ [] _ 0) (sym c.new-base.ensures.members) (IsGrowing-start _ [] _ laws.empty)
-
-pub maximal_subset-add_if_independent-requires : goal.maximal_subset-add_if_independent-requires
-maximal_subset-add_if_independent-requires t c =
-    let tree = tree_of c.args.matroid.now in
-    let items = subst (AllBelow (element_count tree)) (sym c.as_slice-x-items.ensures.items) c.requires.below in (
-      search rules,
-      (
-        c.requires.sound,
-        (
-          below (tree_laws tree c.requires.sound) c.loop-x.base c.loop-x.invariant.passes,
-          AllBelow-at _ _ c.loop-x.x-index items c.loop-x-test.true,
-        ),
-      ),
-    )
-
-pub maximal_subset-loop-x-preserved : goal.maximal_subset-loop-x-preserved
-maximal_subset-loop-x-preserved t c =
-    let laws = tree_laws (tree_of c.args.matroid.now) c.requires.sound in
-    let told = c.in_ok-add_if_independent.ensures in
-    IsGrowing-next laws _ _ c.loop-x.base c.loop-x.x-index _ c.loop-x-test.true refl c.loop-x.invariant _ _ told.added told.set
-
-pub maximal_subset-returns : goal.maximal_subset-returns
-maximal_subset-returns t c =
-    subst (λ within. IsMaximal (is_independent (tree_of c.args.matroid.now)) within c.loop-x.base) c.as_slice-x-items.ensures.items
-    (maximal_from_none _ [] _ _ refl (IsGrowing-end _ _ _ _ c.loop-x.x-index c.loop-x-test.false c.loop-x.invariant))
-
-pub dual_independent-maximal_subset-requires : goal.dual_independent-maximal_subset-requires
-dual_independent-maximal_subset-requires t c =
+pub dual_independent-maximal_subset-requires-clause-below : goal.dual_independent-maximal_subset-requires-clause-below
+dual_independent-maximal_subset-requires-clause-below t c =
     let n = element_count (tree_of c.args.inner.now) in
     let all = c.in_ok-all_below.ensures.members ∙ ap all_below c.size_of.ensures in
     let outside = c.in_ok-outside.ensures.members ∙ ap (λ E. minus E c.args.set.now) all in
-    (search rules, (c.requires.sound, subst (AllBelow n) (sym outside) (IsSet-minus n (all_below n) c.args.set.now (IsSet-all_below n)).below))
+    subst (AllBelow n) (sym outside) (IsSet-minus n (all_below n) c.args.set.now (IsSet-all_below n)).below
 
 pub dual_independent-add_if_independent-requires : goal.dual_independent-add_if_independent-requires
 dual_independent-add_if_independent-requires t c =

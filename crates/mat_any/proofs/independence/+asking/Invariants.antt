@@ -5,8 +5,5 @@ use Rattle.mat_any.specs.Trees.{element_count, is_independent}
 use Rattle.mat_any.specs.Views.{tree_of}
 use Rattle.mat_any.proofs.independence.+asking.Given as goal
 
-abbrev pub invariant-maximal_subset-loop-x : goal.invariant-maximal_subset-loop-x
-invariant-maximal_subset-loop-x l = IsGrowing (is_independent (tree_of l.matroid)) [] l.x-items l.x-index l.base
-
 abbrev pub invariant-dual_independent-loop-x : goal.invariant-dual_independent-loop-x
 invariant-dual_independent-loop-x l = IsRefusing (element_count (tree_of l.inner)) (is_independent (tree_of l.inner)) l.set l.x-items l.x-index l.base

@@ -2,7 +2,7 @@ use Rattle.std.proofs.Common.{◌≡◌, ◌<◌, ◌∙◌, [], length, get_or,
 use Rattle.std.proofs.lemmas.List.{get_or_default}
 use Rattle.mat_sets.specs.Sets.{with_one}
 use Rattle.mat_sets.proofs.Sums.{AllBelow-at}
-use Rattle.mat_linked.proofs.IndexRows.{IsEntered-more}
+use Rattle.mat_laws.proofs.ColumnEntries.{IsEntered-more}
 use Rattle.mat_linked.proofs.transversal.enter.Goals as goal
 
 pub index_mut-requires : goal.index_mut-requires

@@ -1,4 +1,4 @@
-use Rattle.mat_linked.proofs.IndexRows.{IsEntered}
+use Rattle.mat_laws.proofs.ColumnEntries.{IsEntered}
 use Rattle.mat_linked.proofs.transversal.enter.Given as goal
 
 -- the index is put into the rows of the first elements

@@ -1,0 +1,7 @@
+use Rattle.std.proofs.Common.{◌≡◌, not, take}
+use Rattle.std.specs.List.{filter}
+use Rattle.mat_sets.specs.Sets.{is_member}
+use Rattle.mat_minors.proofs.run_orders.items_outside.Given as goal
+
+abbrev pub invariant-loop-x : goal.invariant-loop-x
+invariant-loop-x l = l.items.items ≡ filter (λ x. not (is_member x l.set)) (take l.x-index l.order)
