@@ -1,12 +1,13 @@
 -- Sets on n elements: the set of all numbers below n, complements, and unions with a list in any order.
-use Rattle.std.proofs.Common.{List, [], ap, arith, eqb, false, get_or, inl, inr, leb, length, ltb, refl, suc, sym, true, zero, ℕ, ℤ, ◌&&◌, ◌++◌, ◌+ℤ◌, ◌+◌, ◌<◌, ◌||◌, ◌∙◌, ◌∷◌, ◌≡◌, ◌≤◌}
+use Rattle.std.proofs.Common.{Bool, List, [], ap, arith, eqb, false, get_or, inl, inr, leb, length, ltb, refl, suc, sym, true, zero, ℕ, ℤ, ◌&&◌, ◌++◌, ◌+ℤ◌, ◌+◌, ◌<◌, ◌||◌, ◌∙◌, ◌∷◌, ◌≡◌, ◌≤◌}
 use Rattle.std.proofs.Math.Numerals.{add-one}
-use Rattle.std.proofs.lemmas.Bool.{and_right, both_ways, cases_lt, cases_order, eq-eqb, eqb-true, false≢true, le-leb, le-ltb, lt-leb, lt-ltb, ltb-true, ne_eqb, or_cases}
+use Rattle.std.proofs.lemmas.Bool.{and_parts, and_right, both_ways, cases_lt, cases_order, eq-eqb, eqb-true, false≢true, le-leb, le-ltb, lt-leb, lt-ltb, ltb-true, ne_eqb, or_cases}
 use Rattle.std.proofs.lemmas.Int.{ints}
+use Rattle.std.specs.List.{filter}
 use Rattle.mat_sets.specs.Sets.{AllBelow, AreDistinct, IsRising, IsSet, IsSubset, RisesFrom, all_below, counted_from, intersection, is_member, minus, rising_insert, union, with_one, without_one}
 use Rattle.mat_sets.specs.Sums.{sum_of}
 use Rattle.mat_sets.proofs.Cardinalities.{length-minus-intersection, length-with_one, sum_of-with_one}
-use Rattle.mat_sets.proofs.Members.{IsRising-intersection, IsRising-minus, IsRising-nil, IsRising-union, IsRising-with_one, IsRising-without_one, is_member-head, is_member-union, is_member-with_one, missing_below, same_members, set_members}
+use Rattle.mat_sets.proofs.Members.{IsRising-intersection, IsRising-minus, IsRising-nil, IsRising-union, IsRising-with_one, IsRising-without_one, is_member-filter, is_member-head, is_member-union, is_member-with_one, missing_below, same_members, set_members}
 use Rattle.mat_sets.proofs.Subsets.{intersection-left, length-subset, minus-IsSubset, union-IsSubset, without_one-IsSubset}
 use Rattle.mat_sets.proofs.Sums.{AllBelow-weaken}
 
@@ -25,6 +26,14 @@ AllBelow-from_members n (x ∷ t) h = (h x (is_member-head x t), AllBelow-from_m
 
 pub AllBelow-subset : (n : ℕ) (a b : List ℕ) → IsSubset a b → AllBelow n b → AllBelow n a
 AllBelow-subset n a b s h = AllBelow-from_members n a (λ k m. AllBelow-member n b k h (s.inside k m))
+
+pub AllBelow-append : (n : ℕ) (xs ys : List ℕ) → AllBelow n xs → AllBelow n ys → AllBelow n (xs ++ ys)
+AllBelow-append n [] ys a b = b
+AllBelow-append n (x ∷ xs) ys a b = (a.0, AllBelow-append n xs ys a.1 b)
+
+pub AllBelow-filter : (n : ℕ) (test : ℕ → Bool) (xs : List ℕ) → AllBelow n xs → AllBelow n (filter test xs)
+AllBelow-filter n test xs b = AllBelow-from_members n (filter test xs)
+    (λ k m. AllBelow-member n xs k b (and_parts (is_member k xs) (test k) (sym (is_member-filter test k xs) ∙ m)).0)
 
 -- ---- sets on n elements
 

@@ -9,6 +9,7 @@ pub mod DisjointSets
 pub mod Filters
 pub mod ListParts
 pub mod DisjointLists
+pub mod DistinctLists
 pub mod MappedLists
 pub mod Families
 pub mod Search
@@ -17,6 +18,7 @@ pub mod BitScan
 pub mod SetTests
 pub mod Decisions
 pub mod Places
+pub mod UnionWalks
 pub mod Levels
 pub mod Reach
 pub mod Rounds

@@ -10,7 +10,7 @@ use Rattle.std.specs.List.Sorted.{IsBinarySearchResult}
 use Rattle.std.specs.Ordering.{nat_cmp}
 use Rattle.std.specs.Result.{MatchResult, is_ok}
 use Rattle.mat_sets.specs.Places.{IsGap, IsPlace}
-use Rattle.mat_sets.specs.Sets.{IsRising, RisesFrom, is_member, minus, rising_insert, with_one, without_one}
+use Rattle.mat_sets.specs.Sets.{IsRising, RisesFrom, intersection, is_member, minus, rising_insert, with_one, without_one}
 use Rattle.mat_sets.proofs.Members.{RisesFrom-at, RisesFrom-index, is_member-get_or, is_member-nowhere, minus-none, with_one-member, without_one-missing}
 
 insert-rising_insert : (xs : List ℕ) (i x : ℕ) → i ≤ length xs → ((k : ℕ) → k < i → get_or xs k 0 < x)
@@ -130,5 +130,11 @@ pub minus-take : (a b : List ℕ) (i : ℕ) → i < length a → is_member (get_
     → minus (take (i + 1) a) b ≡ minus (take i a) b ++ get_or a i 0 ∷ []
 unfolding minus
 minus-take a b i h m = filter_more (λ k. not (is_member k b)) a i 0 h ∙ rw m
+
+pub intersection-skip : (a b : List ℕ) (i : ℕ) → i < length a → is_member (get_or a i 0) b ≡ false
+    → intersection (take (i + 1) a) b ≡ intersection (take i a) b
+unfolding intersection
+intersection-skip a b i h m =
+    filter_more (λ k. is_member k b) a i 0 h ∙ rw m (append-nil (filter (λ k. is_member k b) (take i a)))
 
 pub ruleset merging = (minus-skip, minus-take, minus-none, missing_at, is_member-get_or)

@@ -81,6 +81,15 @@ AreDistinct-more (x ∷ xs) (suc i) h d m = rw (add-one (suc i)) (apart x xs i (
 
 -- ---- sets made member by member
 
+-- the set of the items of any list
+pub union-no_items : union [] [] ≡ []
+unfolding union
+union-no_items = refl
+
+pub union-next_item : (xs : List ℕ) (i : ℕ) → i < length xs → union (take (i + 1) xs) [] ≡ with_one (union (take i xs) []) (get_or xs i 0)
+union-next_item xs i h = same_members _ _ (IsRising-union (take (i + 1) xs) [] IsRising-nil)
+    (IsRising-with_one _ _ (IsRising-union (take i xs) [] IsRising-nil)) (λ k. grind (arith, is_member-take_more xs i k h, set_members))
+
 pub union-none : (a : List ℕ) → IsRising a → union a [] ≡ a
 union-none a r = same_members _ _ (IsRising-union a [] IsRising-nil) r (λ k. grind (arith, set_members))
 

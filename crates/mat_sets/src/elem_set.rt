@@ -1,12 +1,12 @@
 //! A set of numbers, seen as a strictly rising list.
-ghost use Rattle.std.specs.Prelude.{◌≡◌, ◌==◌, ◌<◌, List, [], length, slice_index, not, IfOk, OnErr, MatchResult};
+ghost use Rattle.std.specs.Prelude.{◌≡◌, ◌==◌, ◌↔◌, ◌<◌, List, [], length, slice_index, not, IfOk, IsTrue, OnErr, MatchResult};
 ghost use Rattle.std.proofs.Common.{rules};
 ghost use Rattle.std.specs.Cmp.Lexicographic.{pointwise};
 ghost use Rattle.std.specs.Cmp.Rules.{comparing};
 ghost use Rattle.mat_sets.specs.Places.{IsFirstFall};
-ghost use Rattle.mat_sets.specs.Sets.{all_below, is_member, minus, with_one, without_one, IsRising, IsSet};
+ghost use Rattle.mat_sets.specs.Sets.{all_below, intersection, is_member, minus, union, with_one, without_one, IsRising, IsSet, IsSubset};
 
-use crate::difference::difference;
+use crate::merging::{difference, is_disjoint, is_subset, merged};
 use crate::place::{place, place_to_add};
 use std::alloc::{AllocError, Global};
 use std::marker::Model;
@@ -73,6 +73,18 @@ impl ElemSet {
             at += 1;
         }
         Ok(ElemSet { items })
+    }
+
+    /// The set of the items of a list, which may stand in any order and more than once. It is fastest where they rise.
+    pub fn from_members(alloc: Global, items: &[u32]) -> Result<ElemSet, AllocError>
+        ensures members { IfOk result (λ s. s ≡ union items.now []) }
+        ensures set { IfOk result (λ s. IsRising s) }
+    {
+        let mut set = ElemSet::new(alloc);
+        for x in items {
+            set.add(*x)?;
+        }
+        Ok(set)
     }
 
     /// Nothing but what the type keeps, for proofs: the items rise.
@@ -191,6 +203,36 @@ impl ElemSet {
     {
         let items = difference(alloc, &self.items, &other.items)?;
         Ok(ElemSet { items })
+    }
+
+    /// The members of either set. The time is linear in both sizes.
+    #[tactic(auto, using(crate::proofs::Members::set_rises))]
+    pub fn union(&self, alloc: Global, other: &ElemSet) -> Result<ElemSet, AllocError>
+        ensures members { IfOk result (λ s. s ≡ union self.now other.now) }
+        ensures set { IfOk result (λ s. IsRising s) }
+        ensures rises { IsRising self.now }
+        ensures other_rises { IsRising other.now }
+    {
+        let items = merged(alloc, &self.items, &other.items)?;
+        Ok(ElemSet { items })
+    }
+
+    /// Whether each member is one of the other set. The time is linear in both sizes; it takes no memory.
+    pub fn is_subset(&self, other: &ElemSet) -> bool
+        ensures inside { IsTrue result ↔ IsSubset self.now other.now }
+        ensures rises { IsRising self.now }
+        ensures other_rises { IsRising other.now }
+    {
+        is_subset(&self.items, &other.items)
+    }
+
+    /// Whether no member is one of the other set. The time is linear in both sizes; it takes no memory.
+    pub fn is_disjoint(&self, other: &ElemSet) -> bool
+        ensures apart { IsTrue result ↔ (intersection self.now other.now ≡ []) }
+        ensures rises { IsRising self.now }
+        ensures other_rises { IsRising other.now }
+    {
+        is_disjoint(&self.items, &other.items)
     }
 
     /// The set of all numbers below n.

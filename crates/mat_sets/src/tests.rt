@@ -32,6 +32,22 @@ fn a_set_is_built_changed_and_compared(rt: HostRuntime) -> Result<(), Fail> {
 }
 
 #[test]
+fn two_sets_are_joined_and_compared(rt: HostRuntime) -> Result<(), Fail> {
+    let alloc = rt.alloc();
+    let left = ElemSet::from_members(alloc, &[5, 2, 5, 9])?;
+    let right = ElemSet::from_members(alloc, &[5, 7, 1])?;
+    let both = left.union(alloc, &right)?;
+    assert_eq!(rt; left.as_slice(), [2, 5, 9].as_slice());
+    assert_eq!(rt; both.as_slice(), [1, 2, 5, 7, 9].as_slice());
+    assert!(rt; left.is_subset(&both) && right.is_subset(&both) && both.is_subset(&both));
+    assert!(rt; !both.is_subset(&left) && !left.is_subset(&right));
+    assert!(rt; !left.is_disjoint(&right));
+    assert!(rt; left.is_disjoint(&both.minus(alloc, &left)?));
+    assert!(rt; ElemSet::new(alloc).is_subset(&left) && left.is_disjoint(&ElemSet::new(alloc)));
+    Ok(())
+}
+
+#[test]
 fn a_list_that_falls_is_refused_at_its_first_fall(rt: HostRuntime) -> Result<(), Fail> {
     let alloc = rt.alloc();
     let set = ElemSet::from_sorted(vec![in alloc; 1, 4, 9]?);

@@ -1,0 +1,6 @@
+use Rattle.std.proofs.Common.{◌≡◌, [], take}
+use Rattle.mat_sets.specs.Sets.{union}
+use Rattle.mat_sets.proofs.elem_set.ElemSet.from_members.Given as goal
+
+abbrev pub invariant-loop-x : goal.invariant-loop-x
+invariant-loop-x l = l.set ≡ union (take l.x-index l.items) []
