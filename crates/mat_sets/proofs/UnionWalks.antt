@@ -1,6 +1,7 @@
 -- The union of two sets by one walk along both. What has been put together, followed by the union of what is to come, is the union: the
 -- lower one of the two next items comes next, and where they are equal they come once.
-use Rattle.std.proofs.Common.{◌≡◌, ℕ, suc, zero, ◌+◌, ◌<◌, ◌≤◌, ◌-◌, List, [], ◌∷◌, ◌++◌, length, get_or, take, drop, refl, sym, subst, ap, ◌∙◌}
+use Rattle.std.proofs.Common.{◌≡◌, ℕ, suc, zero, ◌+◌, ◌-◌, ◌<◌, ◌≤◌, List, [], ◌∷◌, ◌++◌, length, get_or, take}
+use Rattle.std.proofs.Common.{drop, refl, sym, subst, ap, ◌∙◌}
 use Rattle.std.proofs.Common.{append-nil, append_assoc, arith, length-drop, take_all}
 use Rattle.std.proofs.lemmas.Bool.{eq-eqb, le-ltb, lt-ltb}
 use Rattle.std.proofs.lemmas.List.{drop_all, drop_more}
@@ -96,7 +97,8 @@ module _ (a b : List ℕ) (rises : IsRising a) (others_rise : IsRising b) (i j :
   }
 
 -- where one list has ended, the rest of the other comes as it is
-pub IsMerging-end_first : (a b : List ℕ) (i j : ℕ) (all : List ℕ) → length a ≤ i → IsMerging a b i j all → (all ++ drop i a) ++ drop j b ≡ union a b
+pub IsMerging-end_first : (a b : List ℕ) (i j : ℕ) (all : List ℕ) → length a ≤ i → IsMerging a b i j all
+    → (all ++ drop i a) ++ drop j b ≡ union a b
 unfolding union
 IsMerging-end_first a b i j all ended m =
     let none = drop_all i a ended in
@@ -112,5 +114,10 @@ IsMerging-end_second a b i j all rises more ended m =
     ∙ ap (λ s. all ++ s) (sym (union-none (drop i a) rest)) ∙ ap (λ s. all ++ union (drop i a) s) (sym none) ∙ m.rest
 
 -- a slice from a place to the end is what is to come
-pub whole_rest : (xs : List ℕ) (i : ℕ) → take (length xs - i) (drop i xs) ≡ drop i xs
+whole_rest : (xs : List ℕ) (i : ℕ) → take (length xs - i) (drop i xs) ≡ drop i xs
 whole_rest xs i = take_all (length xs - i) (drop i xs) (omega (arith, length-drop i xs))
+
+pub both_rests : (a b : List ℕ) (i j : ℕ) (all more most : List ℕ) → more ≡ all ++ take (length a - i) (drop i a)
+    → most ≡ more ++ take (length b - j) (drop j b) → most ≡ (all ++ drop i a) ++ drop j b
+both_rests a b i j all more most first second =
+    second ∙ ap (λ s. more ++ s) (whole_rest b j) ∙ ap (λ s. s ++ drop j b) (first ∙ ap (λ s. all ++ s) (whole_rest a i))

@@ -1,6 +1,7 @@
-use Rattle.std.proofs.Common.{◌≡◌, ◌-◌, ◌++◌, length, take, drop, ap, ◌∙◌, arith}
+use Rattle.std.proofs.Common.{◌≡◌, ◌++◌, drop, ◌∙◌, arith}
 use Rattle.mat_sets.specs.Sets.{union}
-use Rattle.mat_sets.proofs.UnionWalks.{IsMerging-start, IsMerging-first, IsMerging-second, IsMerging-both, IsMerging-end_first, IsMerging-end_second, whole_rest}
+use Rattle.mat_sets.proofs.UnionWalks.{IsMerging-start, IsMerging-first, IsMerging-second, IsMerging-both}
+use Rattle.mat_sets.proofs.UnionWalks.{IsMerging-end_first, IsMerging-end_second, both_rests}
 use Rattle.mat_sets.proofs.merging.merged.Goals as goal
 use Rattle.mat_sets.proofs.merging.merged.Goals.{then-loop-i-test+else-j-b, else-loop-i-test}
 
@@ -43,10 +44,9 @@ loop-i-preserved c = record {
 
 pub returns : goal.returns
 returns c =
+    both_rests c.args.a.now c.args.b.now c.loop-i.i c.loop-i.j c.loop-i.all.items _ _ c.in_ok-extend_from_slice.ensures.items
     c.in_ok-extend_from_slice-2.ensures.items
-    ∙ ap (λ s. s ++ take (length c.args.b.now - c.loop-i.j) (drop c.loop-i.j c.args.b.now)) c.in_ok-extend_from_slice.ensures.items
-    ∙ ap (λ s. (c.loop-i.all.items ++ take (length c.args.a.now - c.loop-i.i) (drop c.loop-i.i c.args.a.now)) ++ s) (whole_rest c.args.b.now c.loop-i.j)
-    ∙ ap (λ s. (c.loop-i.all.items ++ s) ++ drop c.loop-i.j c.args.b.now) (whole_rest c.args.a.now c.loop-i.i) ∙ whole
+    ∙ whole
   where
     whole : (c.loop-i.all.items ++ drop c.loop-i.i c.args.a.now) ++ drop c.loop-i.j c.args.b.now ≡ union c.args.a.now c.args.b.now
     whole = elim c.loop-i-test.branch [
