@@ -1,5 +1,6 @@
 -- A number is put into the sets at several places of a list, one after the other.
-use Rattle.std.proofs.Common.{◌≡◌, ℕ, ◌+◌, ◌<◌, Bool, true, false, ◌&&◌, ◌||◌, eqb, List, [], length, get_or, set, take, inl, inr, sym, ap, ◌∙◌, arith, get_or-set_other, get_or-set_same, length-set}
+use Rattle.std.proofs.Common.{◌≡◌, ℕ, ◌+◌, ◌<◌, Bool, true, false, ◌&&◌, ◌||◌, eqb, List, [], length, get_or, set, take}
+use Rattle.std.proofs.Common.{inl, inr, sym, ap, ◌∙◌, arith, get_or-set_other, get_or-set_same, length-set}
 use Rattle.std.proofs.lemmas.Bool.{cases_eq, eq-eqb, ne_eqb}
 use Rattle.mat_sets.specs.Sets.{is_member, with_one}
 use Rattle.mat_sets.proofs.Members.{is_member-with_one}
@@ -28,7 +29,8 @@ IsEntered-more index elements i old new row l below e r =
     record {
       long = length-set new here row ∙ r.long;
       members = λ x j m. elim (cases_eq x here) [
-        | inl same ↦ ap (λ w. is_member j (get_or (set new here row) w [])) same ∙ ap (is_member j) (get_or-set_same new here row [] within ∙ e)
+        | inl same ↦ ap (λ w. is_member j (get_or (set new here row) w [])) same
+            ∙ ap (is_member j) (get_or-set_same new here row [] within ∙ e)
             ∙ is_member-with_one j index (get_or new here [])
             ∙ put_here (is_member j (get_or old x [])) (is_member j (get_or new here [])) (eqb j index) (is_member x (take i elements))
             (is_member x (take (i + 1) elements)) (ap (λ w. is_member j (get_or new w [])) (sym same) ∙ r.members x j m)

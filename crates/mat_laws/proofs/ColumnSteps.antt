@@ -1,16 +1,16 @@
 -- The exchanges at an independent set I are turned: the elements outside it enter, one after the other, the columns of the members
 -- whose place they can take.
-use Rattle.std.proofs.Common.{◌≡◌, ℕ, ◌+◌, ◌<◌, Bool, true, false, not, ◌&&◌, ◌||◌, eqb, ltb, List, [], length, get_or, refl, sym, ap, ◌∙◌, arith}
-use Rattle.std.specs.List.{filter}
-use Rattle.std.proofs.lemmas.Bool.{cond-false, and_parts, eqb-true}
+use Rattle.std.proofs.Common.{◌≡◌, ℕ, ◌+◌, ◌<◌, Bool, true, false, not, ◌&&◌, ◌||◌, eqb, ltb, List, [], length, get_or}
+use Rattle.std.proofs.Common.{refl, sym, ap, ◌∙◌, arith}
+use Rattle.std.proofs.lemmas.Bool.{eqb-true}
 use Rattle.std.proofs.lemmas.Bool.Decides.{nat_tests}
 use Rattle.mat_sets.specs.Sets.{is_member, with_one, without_one, AllBelow}
 use Rattle.mat_sets.proofs.Members.{is_member-filter}
-use Rattle.mat_sets.proofs.Ground.{AllBelow-subset, AllBelow-member}
+use Rattle.mat_sets.proofs.Ground.{AllBelow-filter, AllBelow-member}
 use Rattle.mat_laws.specs.Matroids.{IsMatroid}
 use Rattle.mat_laws.specs.Exchanges.{row_of}
 use Rattle.mat_laws.specs.declared.exchange.Exchange.{Exchange}
-use Rattle.mat_laws.proofs.Rows.{exchanged}
+use Rattle.mat_laws.proofs.Rows.{exchanged, row-with}
 use Rattle.mat_laws.proofs.Independent.{below}
 use Rattle.mat_laws.specs.Columns.{takes_place, AreColumns}
 
@@ -21,47 +21,52 @@ pub record AreEntering (n : ℕ) (p : List ℕ → Bool) (I : List ℕ) (z : ℕ
 
 pub AreEntering-start : (n : ℕ) (p : List ℕ → Bool) (I : List ℕ) (columns : List (List ℕ)) → length columns ≡ n
     → ((y : ℕ) → get_or columns y [] ≡ []) → AreEntering n p I 0 columns
-AreEntering-start n p I columns l none = record { long = l; columns_are = λ y k m. ap (is_member k) (none y) ∙ sym (nothing k (takes_place n p I y k)) }
+AreEntering-start n p I columns l none = record {
+  long = l;
+  columns_are = λ y k m. ap (is_member k) (none y) ∙ sym (nothing k (takes_place n p I y k));
+}
   where
     nothing : (k : ℕ) (b : Bool) → (ltb k 0 && b) ≡ false
     nothing k b = grind (arith, nat_tests)
 
-with_of : (p : List ℕ → Bool) (I : List ℕ) (x : ℕ) (row : Exchange) → is_member x I ≡ false → row ≡ row_of p I x
-    → row.with ≡ filter (exchanged p I x) I
-with_of p I x row out e = ap (λ r. r.with) (e ∙ cond-false (is_member x I) _ _ out)
-
-pub row_below : {n : ℕ} {p : List ℕ → Bool} → IsMatroid n p → (I : List ℕ) (x : ℕ) (row : Exchange) → p I ≡ true → is_member x I ≡ false
-    → row ≡ row_of p I x → AllBelow n row.with
-row_below {n} {p} laws I x row ok out e = rw (with_of p I x row out e)
-    (AllBelow-subset n (filter (exchanged p I x) I) I (record { inside = λ k m. (and_parts (is_member k I) _ (sym (is_member-filter (exchanged p I x) k I) ∙ m)).0 })
-    (below laws I ok))
+pub row_below : {n : ℕ} {p : List ℕ → Bool} → IsMatroid n p → (I : List ℕ) (x : ℕ) (row : Exchange) → p I ≡ true
+    → is_member x I ≡ false → row ≡ row_of p I x → AllBelow n row.with
+row_below {n} {p} laws I x row ok out e = rw (row-with p I x row out e) (AllBelow-filter n (exchanged p I x) I (below laws I ok))
 
 -- an element outside I enters the columns of its row
-pub AreEntering-entered : {n : ℕ} {p : List ℕ → Bool} (I : List ℕ) (z : ℕ) (columns new : List (List ℕ)) (row : Exchange) (members : List ℕ) → IsMatroid n p → p I ≡ true
+pub AreEntering-entered : {n : ℕ} {p : List ℕ → Bool} (I : List ℕ) (z : ℕ) (columns new : List (List ℕ)) (row : Exchange)
+    (members : List ℕ) → IsMatroid n p → p I ≡ true
     → z < n → is_member z I ≡ false → row ≡ row_of p I z → members ≡ row.with → length new ≡ length columns
-    → ((y k : ℕ) → y < length columns → is_member k (get_or new y []) ≡ (is_member k (get_or columns y []) || (eqb k z && is_member y members)))
+    → ((y k : ℕ) → y < length columns
+    → is_member k (get_or new y []) ≡ (is_member k (get_or columns y []) || (eqb k z && is_member y members)))
     → AreEntering n p I z columns → AreEntering n p I (z + 1) new
 AreEntering-entered {n} {p} I z columns new row members laws ok small out e listed l entered a = record {
   long = l ∙ a.long;
   columns_are = λ y k m. entered y k (let b = AllBelow-member n I y (below laws I ok) m in omega (arith, b, a.long))
       ∙ ap (λ b. b || (eqb k z && is_member y members)) (a.columns_are y k m)
-      ∙ ap (λ b. (ltb k z && takes_place n p I y k) || (eqb k z && b)) (ap (is_member y) (listed ∙ with_of p I z row out e) ∙ is_member-filter (exchanged p I z) y I ∙ ap (λ b. b && exchanged p I z y) m)
+      ∙ ap (λ b. (ltb k z && takes_place n p I y k) || (eqb k z && b)) (ap (is_member y) (listed ∙ row-with p I z row out e)
+      ∙ is_member-filter (exchanged p I z) y I ∙ ap (λ b. b && exchanged p I z y) m)
       ∙ last y k;
 }
   where
     here : (y k : ℕ) → k ≡ z → takes_place n p I y k ≡ exchanged p I z y
     here y k same = rw same (let s = small in rw out (let t : ltb z n ≡ true = grind (arith, nat_tests) in rw t refl))
 
-    join : (k : ℕ) (t works : Bool) → (eqb k z ≡ true → t ≡ works) → ((ltb k z && t) || (eqb k z && (true && works))) ≡ (ltb k (z + 1) && t)
+    join : (k : ℕ) (t works : Bool) → (eqb k z ≡ true → t ≡ works)
+        → ((ltb k z && t) || (eqb k z && (true && works))) ≡ (ltb k (z + 1) && t)
     join k t works same = grind (arith, nat_tests)
 
-    last : (y k : ℕ) → ((ltb k z && takes_place n p I y k) || (eqb k z && (true && exchanged p I z y))) ≡ (ltb k (z + 1) && takes_place n p I y k)
+    last : (y k : ℕ)
+        → ((ltb k z && takes_place n p I y k) || (eqb k z && (true && exchanged p I z y))) ≡ (ltb k (z + 1) && takes_place n p I y k)
     last y k = join k (takes_place n p I y k) (exchanged p I z y) (λ s. here y k (eqb-true k z s))
 
 -- a member of I enters none
 pub AreEntering-passed : (n : ℕ) (p : List ℕ → Bool) (I : List ℕ) (z : ℕ) (columns : List (List ℕ)) → is_member z I ≡ true
     → AreEntering n p I z columns → AreEntering n p I (z + 1) columns
-AreEntering-passed n p I z columns m a = record { long = a.long; columns_are = λ y k h. a.columns_are y k h ∙ join k (takes_place n p I y k) (λ s. none y k (eqb-true k z s)) }
+AreEntering-passed n p I z columns m a = record {
+  long = a.long;
+  columns_are = λ y k h. a.columns_are y k h ∙ join k (takes_place n p I y k) (λ s. none y k (eqb-true k z s));
+}
   where
     none : (y k : ℕ) → k ≡ z → takes_place n p I y k ≡ false
     none y k same = rw same (rw m (never (ltb z n) (p (with_one (without_one I y) z))))

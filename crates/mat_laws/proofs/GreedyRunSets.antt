@@ -1,13 +1,15 @@
 -- What a greedy run ends with: an independent set that holds what it began with, lies in this and the order, and to which no element of
 -- the order can be added. So a run from the empty set ends with a maximal independent set of the elements of its order, and one whose order
 -- begins with an independent set takes all of that.
-use Rattle.std.proofs.Common.{◌≡◌, ℕ, Bool, true, false, not, ◌&&◌, ◌||◌, ◌⊎◌, cond, eqb, List, [], ◌∷◌, ◌++◌, inl, inr, refl, sym, ap, ◌∙◌, arith}
-use Rattle.std.proofs.lemmas.Bool.{cases_Bool, and_parts, both_ways, false_from_ne_true, eqb-true, or_cases, or_left, or_right}
+use Rattle.std.proofs.Common.{◌≡◌, ℕ, Bool, true, false, not, ◌&&◌, ◌||◌, ◌⊎◌, cond, eqb, List, [], ◌∷◌, ◌++◌, length}
+use Rattle.std.proofs.Common.{inl, inr, refl, sym, ap, ◌∙◌, arith}
+use Rattle.std.proofs.lemmas.Bool.{cases_Bool, and_parts, both_ways, false_from_ne_true, eq-eqb, eqb-true, or_cases, or_left, or_right}
 use Rattle.mat_sets.specs.Sets.{is_member, AllBelow, AreDistinct, IsRising, IsSubset, with_one, minus, union}
 use Rattle.mat_sets.proofs.Members.{is_member-append, is_member-minus, is_member-union, is_member-with_one, IsRising-minus, IsRising-with_one}
-use Rattle.mat_sets.proofs.Subsets.{IsSubset-refl, IsSubset-trans, IsSubset-with_one, with_one-IsSubset, subsets_equal}
+use Rattle.mat_sets.proofs.Subsets.{IsSubset-refl, IsSubset-trans, IsSubset-with_one, with_one-IsSubset, minus-IsSubset}
+use Rattle.mat_sets.proofs.Subsets.{same_size_subset, subsets_equal}
 use Rattle.mat_sets.proofs.ListParts.{AreDistinct-append}
-use Rattle.mat_sets.proofs.Ground.{AllBelow-member, AllBelow-from_members, AreDistinct-rising}
+use Rattle.mat_sets.proofs.Ground.{AllBelow-append, AllBelow-subset, AreDistinct-rising}
 use Rattle.mat_sets.proofs.DisjointSets.{minus_parts, with_one-holds}
 use Rattle.mat_laws.specs.Matroids.{IsMatroid, IsMaximal}
 use Rattle.mat_laws.specs.GreedyRuns.{grown_by, grown_along}
@@ -20,11 +22,7 @@ grown_along-append p I (x ∷ xs) ys = grown_along-append p (grown_by p I x) xs 
 -- ---- an order of two sets, one after the other
 
 pub order_below : (n : ℕ) (I X : List ℕ) → AllBelow n I → AllBelow n X → AllBelow n (I ++ minus X I)
-order_below n I X small below = AllBelow-from_members n (I ++ minus X I) (λ k m.
-    elim (or_cases (is_member k I) (is_member k (minus X I)) (sym (is_member-append k I (minus X I)) ∙ m)) [
-      | inl first ↦ AllBelow-member n I k small first
-      | inr second ↦ AllBelow-member n X k below (minus_parts X I k second).0
-    ])
+order_below n I X small below = AllBelow-append n I (minus X I) small (AllBelow-subset n (minus X I) X (minus-IsSubset X I) below)
 
 pub order_distinct : (I X : List ℕ) → IsRising I → IsRising X → AreDistinct (I ++ minus X I)
 order_distinct I X i x = AreDistinct-append I (minus X I) (AreDistinct-rising I i) (AreDistinct-rising (minus X I) (IsRising-minus X I x))
@@ -44,14 +42,16 @@ grown_by-passes p I x ok = elim (cases_Bool (not (is_member x I) && p (with_one 
   | inr fails ↦ rw fails ok
 ]
 
-grown_by-members : (p : List ℕ → Bool) (I : List ℕ) (x k : ℕ) → is_member k (grown_by p I x) ≡ true → (eqb k x || is_member k I) ≡ true
+grown_by-members : (p : List ℕ → Bool) (I : List ℕ) (x k : ℕ) → is_member k (grown_by p I x) ≡ true
+    → (eqb k x || is_member k I) ≡ true
 grown_by-members p I x k m = elim (cases_Bool (not (is_member x I) && p (with_one I x))) [
   | inl adds ↦ sym (is_member-with_one k x I) ∙ sym (ap (λ b. is_member k (cond b (with_one I x) I)) adds) ∙ m
   | inr fails ↦ or_right (eqb k x) (is_member k I) (sym (ap (λ b. is_member k (cond b (with_one I x) I)) fails) ∙ m)
 ]
 
 -- x is in, or could not be added
-grown_by-full : (p : List ℕ → Bool) (I : List ℕ) (x : ℕ) → is_member x (grown_by p I x) ≡ false → p (with_one (grown_by p I x) x) ≡ false
+grown_by-full : (p : List ℕ → Bool) (I : List ℕ) (x : ℕ) → is_member x (grown_by p I x) ≡ false
+    → p (with_one (grown_by p I x) x) ≡ false
 grown_by-full p I x out = elim (cases_Bool (not (is_member x I) && p (with_one I x))) [
   | inl adds ↦ absurd (both_ways _ (sym (ap (λ b. is_member x (cond b (with_one I x) I)) adds) ∙ out) (with_one-holds I x))
   | inr fails ↦
@@ -73,7 +73,12 @@ pub record IsRun (p : List ℕ → Bool) (I order set : List ℕ) : Type 0 where
 
 module _ {n : ℕ} {p : List ℕ → Bool} (laws : IsMatroid n p) where
   pub run_ends : (I order : List ℕ) → p I ≡ true → IsRun p I order (grown_along p I order)
-  run_ends I [] ok = record { passes = ok; holds = IsSubset-refl I; inside = λ k m. or_left (is_member k I) false m; full = λ k m o. absurd (both_ways false refl m) }
+  run_ends I [] ok = record {
+    passes = ok;
+    holds = IsSubset-refl I;
+    inside = λ k m. or_left (is_member k I) false m;
+    full = λ k m o. absurd (both_ways false refl m);
+  }
   run_ends I (x ∷ order) ok =
       let next = grown_by p I x in
       let passes = grown_by-passes p I x ok in
@@ -86,12 +91,14 @@ module _ {n : ℕ} {p : List ℕ → Bool} (laws : IsMatroid n p) where
           | inl same ↦ (let e = eqb-true k x same in
               ap (λ z. p (with_one (grown_along p next order) z)) e
               ∙ full_in_larger laws next _ x (rising laws next passes) r.holds
-              (grown_by-full p I x (false_from_ne_true _ (λ h. both_ways _ o (ap (λ z. is_member z (grown_along p next order)) e ∙ r.holds.inside x h)))))
+              (grown_by-full p I x (false_from_ne_true _
+              (λ h. both_ways _ o (ap (λ z. is_member z (grown_along p next order)) e ∙ r.holds.inside x h)))))
           | inr later ↦ r.full k later o
         ];
       }
     where
-      from_next : (k : ℕ) → (is_member k (grown_by p I x) ≡ true) ⊎ (is_member k order ≡ true) → (is_member k I || (eqb k x || is_member k order)) ≡ true
+      from_next : (k : ℕ) → (is_member k (grown_by p I x) ≡ true) ⊎ (is_member k order ≡ true)
+          → (is_member k I || (eqb k x || is_member k order)) ≡ true
       from_next k (inl a) = (let h = grown_by-members p I x k a in grind arith)
       from_next k (inr b) = grind arith
 
@@ -121,6 +128,17 @@ module _ {n : ℕ} {p : List ℕ → Bool} (laws : IsMatroid n p) where
                   (laws.subsets (with_one set k) I (IsRising-with_one set k (rising laws set r.passes)) (with_one-IsSubset set I k inside m) ok))
             ];
       })
+
+  -- a run along a set takes as many as it has exactly where the set is independent
+  pub run_length : (X set : List ℕ) → IsRising X → set ≡ grown_along p [] X → eqb (length set) (length X) ≡ p X
+  run_length X set rises ends = elim (cases_Bool (p X)) [
+    | inl ok ↦ eq-eqb _ _ (ap length (ends ∙ run_all X ok)) ∙ sym ok
+    | inr fails ↦ false_from_ne_true _ (λ e.
+        let all = run_maximal_of X set ends in
+        let size : length set ≡ length X = eqb-true _ _ e in
+        let whole = same_size_subset set X (rising laws set all.passes) rises all.inside (omega (arith, size)) in
+        both_ways _ fails (ap p (sym whole) ∙ all.passes)) ∙ sym fails
+  ]
 
   -- a run through an independent set, and then through what another has more
   pub run_maximal_from : (I X : List ℕ) → p I ≡ true → IsMaximal p (union I X) (grown_along p [] (I ++ minus X I))

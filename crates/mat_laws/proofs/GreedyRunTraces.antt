@@ -1,6 +1,7 @@
 -- A greedy run told again by what it ended with: along an order in which no element stands twice, each element was added exactly where it
 -- is in the set at the end, since no later one is that element.
-use Rattle.std.proofs.Common.{◌≡◌, ℕ, ◌+◌, ◌<◌, Bool, true, false, not, ◌&&◌, if◌then◌else◌, eqb, List, [], ◌∷◌, length, get_or, drop, inl, inr, refl, subst, sym, ap, ◌∙◌}
+use Rattle.std.proofs.Common.{◌≡◌, ℕ, ◌+◌, ◌<◌, Bool, true, false, not, ◌&&◌, if◌then◌else◌, eqb, List, [], ◌∷◌}
+use Rattle.std.proofs.Common.{length, get_or, drop, inl, inr, refl, subst, sym, ap, ◌∙◌}
 use Rattle.std.proofs.lemmas.Bool.{cases_Bool, both_ways, false_from_ne_true, or_cases, or_from}
 use Rattle.std.proofs.lemmas.List.{drop_more}
 use Rattle.mat_sets.specs.Sets.{is_member, AreDistinct, with_one}

@@ -26,7 +26,8 @@ pub(crate) fn enter(
     requires { AllBelow (length columns.old.items) members.now }
     ensures long { OnOk result (length columns.new.items ≡ length columns.old.items) }
     ensures columns { OnOk result ((y z : ℕ) → y < length columns.old.items
-        → is_member z (slice_index_or columns.new.items y []) ≡ (is_member z (slice_index_or columns.old.items y []) || (z == element && is_member y members.now))) }
+        → is_member z (slice_index_or columns.new.items y [])
+        ≡ (is_member z (slice_index_or columns.old.items y []) || (z == element && is_member y members.now))) }
 {
     for y in members {
         columns[*y as usize].add(element)?;

@@ -1,7 +1,7 @@
 //! The trait of matroids.
 
 ghost use Rattle.std.specs.Prelude.{◌≡◌, ◌<◌, ◌&&◌, ℕ, List, [], Bool, true, false, not, if◌then◌else◌, IfOk, OnErr};
-ghost use Rattle.mat_sets.specs.Sets.{AllBelow, AreDistinct, IsRising, IsSubset, is_member, with_one, without_one, union};
+ghost use Rattle.mat_sets.specs.Sets.{AllBelow, AreDistinct, IsRising, IsSubset, is_member, with_one, union};
 ghost use Rattle.mat_laws.specs.Columns.{AreColumns};
 ghost use Rattle.mat_laws.specs.Exchanges.{row_of};
 ghost use Rattle.mat_laws.specs.GreedyRuns.{grown_along};
@@ -26,10 +26,11 @@ pub trait Matroid: Sync + Drop {
     /// Whether a set is independent.
     ghost indep: { Self → List ℕ → Bool };
 
-    /// What is kept of an independent set, so that the exchanges at it come without questions of independence.
+    /// What is kept of an independent set, so that the exchanges at it come without questions of independence: `()` for a kind
+    /// that keeps nothing.
     type Kept: Send + Sync + Drop;
 
-    /// What is kept is right for this set of this matroid.
+    /// What is kept is right for this independent set of this matroid.
     ghost keeps: { Self → List ℕ → Self.Kept → Type 0 };
 
     /// The number of elements.
@@ -112,28 +113,6 @@ pub trait Matroid: Sync + Drop {
         self.run(alloc, &order)
     }
 
-    /// Whether the set stays independent without its member y. The set is changed and changed back; after an error it
-    /// lacks y. The only error is want of memory.
-    #[tactic(auto, using(mat_sets::proofs::Changes::set_changes, mat_sets::proofs::Members::set_rises))]
-    fn independent_without(
-        &self,
-        alloc: Global,
-        set: &mut ElemSet,
-        y: u32,
-    ) -> Result<bool, AllocError>
-        requires sound { sound self.now }
-        requires set { AllBelow (ground_size self.now) set.old }
-        requires member { is_member y set.old ≡ true }
-        ensures answer { IfOk result (λ b. b ≡ indep self.now (without_one set.old y)) }
-        ensures set { IfOk result (λ b. set.new ≡ set.old) }
-        ensures err { OnErr result (set.new ≡ without_one set.old y) }
-    {
-        set.take_out(y);
-        let answer = self.independent(alloc, set)?;
-        set.add(y)?;
-        Ok(answer)
-    }
-
     /// The exchanges of an element x outside an independent set, by questions of independence alone: one, and one more for
     /// each member. The only error is want of memory.
     fn circuit_by_questions(
@@ -155,7 +134,8 @@ pub trait Matroid: Sync + Drop {
         let addable = self.independent(alloc, &larger)?;
         let mut with = ElemSet::new(alloc);
         for y in base.as_slice() {
-            if self.independent_without(alloc, &mut larger, *y)? {
+            let rest = larger.without(alloc, *y)?;
+            if self.independent(alloc, &rest)? {
                 with.add(*y)?;
             }
         }
@@ -175,7 +155,7 @@ pub trait Matroid: Sync + Drop {
         self.circuit_by_questions(alloc, base, x)
     }
 
-    /// What is kept of an independent set. The only error is want of memory.
+    /// What is kept of an independent set, for `row` and `columns` while the set stays as it is. The only error is want of memory.
     fn keep(&self, alloc: Global, base: &ElemSet) -> Result<Self::Kept, AllocError>
         requires sound { sound self.now }
         requires base { indep self.now base.now ≡ true }
@@ -201,8 +181,8 @@ pub trait Matroid: Sync + Drop {
         self.circuit(alloc, base, x)
     }
 
-    /// For each member of an independent set the elements outside it that can take its place: all rows, turned. The only
-    /// error is want of memory.
+    /// For each member of an independent set, at its number, the elements outside it that can take its place: all rows, turned
+    /// (Schrijver, chapter 39). One row an element. The only error is want of memory.
     fn columns(
         &self,
         alloc: Global,

@@ -13,9 +13,12 @@ pub loop-z-preserved : goal.loop-z-preserved
 loop-z-preserved g c = elim c.if-not-contains.branch [
   | then-not-contains+in_ok-row+in_ok-enter w ↦
       let out = sym c.contains.ensures.found ∙ w.if-not-contains.true in
-      let small : c.loop-z.z < g.Self.Matroid.ground_size c.args.self.now = omega (arith, c.size-size.ensures, c.loop-z.auto.z-end, c.loop-z-test.true) in
-      rw w.columns-is (AreEntering-entered c.args.base.now c.loop-z.z c.loop-z.columns.items _ w.in_ok-row.row w.as_slice.result.now c.lawful.ensures c.requires.base small out
-      w.in_ok-row.ensures.row w.as_slice.ensures.items w.in_ok-enter.ensures.long w.in_ok-enter.ensures.columns c.loop-z.invariant)
+      let small : c.loop-z.z < g.Self.Matroid.ground_size c.args.self.now =
+      omega (arith, c.size-size.ensures, c.loop-z.auto.z-end, c.loop-z-test.true) in
+      rw w.columns-is (AreEntering-entered c.args.base.now c.loop-z.z c.loop-z.columns.items _ w.in_ok-row.row w.as_slice.result.now
+      c.lawful.ensures c.requires.base small out w.in_ok-row.ensures.row w.as_slice.ensures.items
+      w.in_ok-enter.ensures.long w.in_ok-enter.ensures.columns c.loop-z.invariant)
   | else-not-contains w ↦
-      rw w.columns-is (AreEntering-passed _ _ c.args.base.now c.loop-z.z c.loop-z.columns.items (sym c.contains.ensures.found ∙ w.if-not-contains.false) c.loop-z.invariant)
+      rw w.columns-is (AreEntering-passed _ _ c.args.base.now c.loop-z.z c.loop-z.columns.items
+      (sym c.contains.ensures.found ∙ w.if-not-contains.false) c.loop-z.invariant)
 ]
