@@ -19,7 +19,7 @@ use Rattle.mat_count.specs.LaminarLaws.{IsWithinCaps-from_test, test_from-IsWith
 -- ---- counts in one set
 
 -- one more element
-counted-with_one : (S X : List ℕ) (x : ℕ) → IsRising X → is_member x X ≡ false
+pub counted-with_one : (S X : List ℕ) (x : ℕ) → IsRising X → is_member x X ≡ false
     → length (intersection (with_one X x) S) ≡ length (intersection X S) + indicator (is_member x S)
 counted-with_one S X x rising outside = elim (cases_Bool (is_member x S)) [
   | inl inside ↦ rw inside (let more = counted_more S X x rising outside inside in omega arith)

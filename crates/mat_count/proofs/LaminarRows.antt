@@ -69,7 +69,7 @@ module _ {n : ℕ} {sets : List (List ℕ)} {caps I : List ℕ} {x : ℕ} (o : I
       ∙ and_from (is_member i (get_or table x [])) (is_full caps numbers i) (right.right x i o.small ∙ stands)
       (le-leb (get_or caps i 0) (get_or numbers i 0) (omega (arith, counts.at i l)))
 
-  added_at : eqb (length full) 0 ≡ is_counted n sets caps (with_one I x)
+  pub added_at : eqb (length full) 0 ≡ is_counted n sets caps (with_one I x)
   added_at = elim (cases_eq (length full) 0) [
     | inl none ↦ eq-eqb (length full) 0 none ∙ sym (added_with_room o (λ i l h.
         elim (cases_lt (length (intersection I (get_or sets i []))) (get_or caps i 0)) [

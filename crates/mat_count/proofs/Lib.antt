@@ -1,9 +1,14 @@
 pub mod ClassMembers
 pub mod ClassRows
 pub mod ClassTables
+pub mod CountedRuns
 pub mod CrossedSets
 pub mod CrossingWalks
 pub mod LaminarRows
+pub mod LaminarRuns
 pub mod PartitionRows
+pub mod PartitionRuns
 pub mod PlaceTables
+pub mod RunSteps
 pub mod UniformRows
+pub mod UniformRuns

@@ -15,7 +15,7 @@ use Rattle.mat_laws.proofs.Rows.{row_outside}
 use Rattle.mat_count.specs.Counts.{is_uniform}
 
 -- one more element fits exactly below the cap
-uniform-with_one : (n cap : ℕ) (I : List ℕ) (x : ℕ) → IsSet n I → x < n → is_member x I ≡ false
+pub uniform-with_one : (n cap : ℕ) (I : List ℕ) (x : ℕ) → IsSet n I → x < n → is_member x I ≡ false
     → is_uniform n cap (with_one I x) ≡ ltb (length I) cap
 uniform-with_one n cap I x set small outside =
     ap (λ b. b && leb (length (with_one I x)) cap) (is_set-with_one n I x set small)

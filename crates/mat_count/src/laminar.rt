@@ -3,6 +3,7 @@ ghost use Rattle.std.specs.Prelude.{⊤, ◌≡◌, ◌↔◌, ◌+◌, ℕ, ◌
 ghost use Rattle.std.specs.List.{All};
 ghost use Rattle.mat_sets.specs.Sets.{is_member, AllBelow, IsRising};
 ghost use Rattle.mat_sets.specs.Families.{indicator};
+ghost use Rattle.mat_laws.specs.GreedyRuns.{grown_along};
 ghost use Rattle.mat_count.specs.Counts.{is_counted};
 ghost use Rattle.mat_count.specs.Partitions.{CountsMembers};
 ghost use Rattle.mat_count.specs.Laminar.{IsLaminarFamily};
@@ -193,6 +194,32 @@ fn members_in_each(
     Ok(members)
 }
 
+// The greedy run along an order, by a counter for each listed set: an element enters where no set that holds it is full.
+fn run_by_places(
+    alloc: Global,
+    count: u32,
+    sets: &SetList,
+    caps: &[u32],
+    places: &SetList,
+    order: &[u32],
+) -> Result<ElemSet, AllocError>
+    requires sound { IsLaminar count sets.now caps.now }
+    requires table { IsPlaceTable count sets.now places.now }
+    requires below { AllBelow count order.now }
+    ensures { IfOk result (λ set. set ≡ grown_along (is_counted count sets.now caps.now) [] order.now) }
+{
+    let mut numbers: Vec<usize> = vec![in alloc; 0; sets.len()]?;
+    let mut set = ElemSet::new(alloc);
+    for x in order {
+        let holders = places.get(*x as usize);
+        let full = full_places(alloc, holders, caps, &numbers)?;
+        if full.is_empty() && set.add(*x)? {
+            count_at(&mut numbers, holders);
+        }
+    }
+    Ok(set)
+}
+
 impl Laminar {
     /// The laminar matroid of this many elements, these sets and their caps. A member that is no element is told first; then
     /// the first set that an earlier one crosses, with the first that crosses it; then want of memory.
@@ -295,6 +322,20 @@ impl Matroid for Laminar {
             addable: full.is_empty(),
             with,
         })
+    }
+
+    /// The greedy run, by a counter for each listed set. No question of independence is asked: the time is linear in the
+    /// number of listed sets and, for each element of the order, in how many sets hold it, but for a shift of the set's later
+    /// members where one is put in before them. The only error is want of memory.
+    fn run(&self, alloc: Global, order: &[u32]) -> Result<ElemSet, AllocError> {
+        run_by_places(
+            alloc,
+            self.count,
+            &self.sets,
+            &self.caps,
+            &self.places,
+            order,
+        )
     }
 
     /// Nothing is kept.

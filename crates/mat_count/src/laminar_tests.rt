@@ -3,7 +3,7 @@ ghost use Rattle.std.specs.Prelude.{◌≡◌, length, IfOk};
 ghost use Rattle.mat_sets.specs.Sets.{AllBelow};
 ghost use Rattle.mat_count.specs.LaminarMatroids.{IsLaminar};
 
-use crate::tests::{has_row, passes, set_below};
+use crate::tests::{has_row, passes, runs_to, set_below};
 use crate::{Laminar, LaminarFault, crossing};
 use mat_laws::Matroid;
 use mat_sets::{ElemSet, SetList};
@@ -50,6 +50,15 @@ fn an_element_is_exchanged_for_the_members_of_each_full_set(rt: HostRuntime) -> 
     assert!(rt; has_row(alloc, &matroid, &[0, 2, 4], 3, false, &[0, 2])?);
     assert!(rt; has_row(alloc, &matroid, &[0, 2, 4], 1, false, &[0])?);
     assert!(rt; has_row(alloc, &matroid, &[0, 4], 2, true, &[0, 4])?);
+    Ok(())
+}
+
+#[test]
+fn a_run_passes_the_elements_of_full_sets(rt: HostRuntime) -> Result<(), Fail> {
+    let alloc = rt.alloc();
+    let matroid = example(alloc)?;
+    assert!(rt; runs_to(alloc, &matroid, &[1, 0, 3, 2, 4], &[1, 3, 4])?);
+    assert!(rt; runs_to(alloc, &matroid, &[3, 2, 1], &[2, 3])?);
     Ok(())
 }
 

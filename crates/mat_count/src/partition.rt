@@ -1,11 +1,13 @@
 //! Partition matroids.
-ghost use Rattle.std.specs.Prelude.{⊤, ◌≡◌, length, IfOk};
+ghost use Rattle.std.specs.Prelude.{⊤, ◌≡◌, ◌+◌, ◌-◌, ◌<◌, ◌^◌, ℕ, [], length, slice_index, IfOk, MatchOption};
 ghost use Rattle.std.specs.List.{All};
 ghost use Rattle.mat_sets.specs.Sets.{AllBelow, IsRising};
-ghost use Rattle.mat_sets.specs.Families.{AreDisjoint};
+ghost use Rattle.mat_sets.specs.Families.{AreDisjoint, indicator};
+ghost use Rattle.mat_laws.specs.GreedyRuns.{grown_along};
 ghost use Rattle.mat_count.specs.Counts.{is_counted};
 ghost use Rattle.mat_count.specs.ClassMembers.{named_members};
-ghost use Rattle.mat_count.specs.Partitions.{CappedClasses, IsPartition, IsClassTable, IsEntered, CountsMembers};
+ghost use Rattle.mat_count.specs.Counters.{is_named_full};
+ghost use Rattle.mat_count.specs.Partitions.{names, CappedClasses, IsPartition, IsClassTable, IsEntered, CountsMembers};
 ghost use Rattle.mat_count.specs.PartitionLaws.{partition_laws};
 
 use crate::caps::are_within;
@@ -105,6 +107,53 @@ fn members_in_class(
     Ok(members)
 }
 
+// Whether the class that the entry names is full, if it names one: its number of members is at least its cap.
+fn names_full(entry: Option<usize>, caps: &[u32], numbers: &[usize]) -> bool
+    requires capped { length caps.now ≡ length numbers.now }
+    requires inside { MatchOption entry ⊤ (λ place. place < length numbers.now) }
+    ensures { result ≡ is_named_full caps.now numbers.now entry }
+{
+    match entry {
+        Some(place) => numbers[place] >= caps[place] as usize,
+        None => false,
+    }
+}
+
+// One more member in the class that the entry names, if it names one.
+fn count(numbers: &mut [usize], entry: Option<usize>)
+    requires inside { MatchOption entry ⊤ (λ place. place < length numbers.old) }
+    requires room { (i : ℕ) → i < length numbers.old → slice_index numbers.old i < 2 ^ 64 - 1 }
+    ensures { (i : ℕ) → i < length numbers.old → slice_index numbers.new i ≡ slice_index numbers.old i + indicator (names entry i) }
+{
+    if let Some(place) = entry {
+        numbers[place] += 1;
+    }
+}
+
+// The greedy run along an order, by a counter for each class: an element enters where its class is not full.
+fn run_by_classes(
+    alloc: Global,
+    classes: &SetList,
+    caps: &[u32],
+    class_of: &[Option<usize>],
+    order: &[u32],
+) -> Result<ElemSet, AllocError>
+    requires sound { IsPartition (length class_of.now) classes.now caps.now }
+    requires table { IsClassTable (length class_of.now) classes.now class_of.now }
+    requires below { AllBelow (length class_of.now) order.now }
+    ensures { IfOk result (λ set. set ≡ grown_along (is_counted (length class_of.now) classes.now caps.now) [] order.now) }
+{
+    let mut numbers: Vec<usize> = vec![in alloc; 0; classes.len()]?;
+    let mut set = ElemSet::new(alloc);
+    for x in order {
+        let entry = class_of[*x as usize];
+        if !names_full(entry, caps, &numbers) && set.add(*x)? {
+            count(&mut numbers, entry);
+        }
+    }
+    Ok(set)
+}
+
 impl Partition {
     /// The partition matroid of this many elements, these classes and their caps. The only error is want of memory.
     pub fn new(
@@ -188,6 +237,13 @@ impl Matroid for Partition {
             addable: true,
             with,
         })
+    }
+
+    /// The greedy run, by a counter for each class. No question of independence is asked: the time is linear in the order and
+    /// the number of classes, but for a shift of the set's later members where one is put in before them. The only error is
+    /// want of memory.
+    fn run(&self, alloc: Global, order: &[u32]) -> Result<ElemSet, AllocError> {
+        run_by_classes(alloc, &self.classes, &self.caps, &self.class_of, order)
     }
 
     /// Nothing is kept.

@@ -1,6 +1,6 @@
 //! Small uniform and partition matroids: expected values are worked out by hand.
 ghost use Rattle.std.specs.Prelude.{◌≡◌, ◌<◌, [], ◌∷◌, IfOk};
-ghost use Rattle.mat_sets.specs.Sets.{AllBelow, with_one};
+ghost use Rattle.mat_sets.specs.Sets.{AllBelow, AreDistinct, with_one};
 ghost use Rattle.mat_count.specs.Partitions.{IsPartition};
 
 use crate::{Partition, Uniform};
@@ -55,6 +55,21 @@ pub(crate) fn has_row<M: Matroid>(
     Ok(row.addable == addable && row.with.as_slice() == with)
 }
 
+// Whether the greedy run along the order ends in the set of these members.
+pub(crate) fn runs_to<M: Matroid>(
+    alloc: Global,
+    matroid: &M,
+    order: &[u32],
+    members: &[u32],
+) -> Result<bool, AllocError>
+    requires sound { M.sound matroid.now }
+    requires below { AllBelow (M.ground_size matroid.now) order.now }
+    requires distinct { AreDistinct order.now }
+{
+    let set = matroid.run(alloc, order)?;
+    Ok(set.as_slice() == members)
+}
+
 #[test]
 fn at_most_two_of_three(rt: HostRuntime) -> Result<(), Fail> {
     let alloc = rt.alloc();
@@ -75,6 +90,15 @@ fn exchanges_at_sets_of_two_and_of_one(rt: HostRuntime) -> Result<(), Fail> {
     assert!(rt; has_row(alloc, &matroid, &[0], 2, true, &[0])?);
     let loops = Uniform::new(4, 0);
     assert!(rt; has_row(alloc, &loops, &[], 3, false, &[])?);
+    Ok(())
+}
+
+#[test]
+fn a_run_takes_the_first_elements_up_to_the_cap(rt: HostRuntime) -> Result<(), Fail> {
+    let alloc = rt.alloc();
+    let matroid = Uniform::new(4, 2);
+    assert!(rt; runs_to(alloc, &matroid, &[3, 1, 0, 2], &[1, 3])?);
+    assert!(rt; runs_to(alloc, &matroid, &[2], &[2])?);
     Ok(())
 }
 
@@ -128,5 +152,13 @@ fn exchanges_where_the_class_has_room(rt: HostRuntime) -> Result<(), Fail> {
     let matroid = example(alloc, 2)?;
     assert!(rt; has_row(alloc, &matroid, &[0, 3], 2, true, &[0, 3])?);
     assert!(rt; has_row(alloc, &matroid, &[2], 3, true, &[2])?);
+    Ok(())
+}
+
+#[test]
+fn a_run_passes_the_elements_of_full_classes(rt: HostRuntime) -> Result<(), Fail> {
+    let alloc = rt.alloc();
+    let matroid = example(alloc, 1)?;
+    assert!(rt; runs_to(alloc, &matroid, &[2, 1, 3, 0], &[2, 3])?);
     Ok(())
 }

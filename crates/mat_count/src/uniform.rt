@@ -69,6 +69,18 @@ impl Matroid for Uniform {
         })
     }
 
+    /// The first elements of the order, as many as the cap. No question of independence is asked: the time is linear in the
+    /// order, but for a shift of the set's later members where one is put in before them. The only error is want of memory.
+    fn run(&self, alloc: Global, order: &[u32]) -> Result<ElemSet, AllocError> {
+        let mut set = ElemSet::new(alloc);
+        for x in order {
+            if set.len() < self.cap as usize {
+                set.add(*x)?;
+            }
+        }
+        Ok(set)
+    }
+
     /// Nothing is kept.
     fn keep(&self, _alloc: Global, _base: &ElemSet) -> Result<(), AllocError> {
         Ok(())

@@ -1,0 +1,70 @@
+use Rattle.std.proofs.Common.{◌≡◌, length, get_or, replicate, rules, refl, sym, ap, ◌∙◌, arith}
+use Rattle.mat_sets.proofs.Steps.{written_back}
+use Rattle.mat_sets.proofs.Sums.{AllBelow-at}
+use Rattle.mat_count.proofs.CountedRuns.{IsCounting-start, IsCounting-repeated, counter-small}
+use Rattle.mat_count.proofs.LaminarRuns.{laminar_run-passed, laminar_run-entered}
+use Rattle.mat_count.proofs.PlaceTables.{AllBelow-places}
+use Rattle.mat_count.proofs.laminar.run_by_places.Goals as goal
+use Rattle.mat_count.proofs.laminar.run_by_places.Goals.{then-is_empty+in_ok-add+then-branch, else-is_empty, else-is_empty-via-then-is_empty+in_ok-add+else-branch, else-is_empty-via-else-is_empty}
+
+pub loop-x-init : goal.loop-x-init
+loop-x-init c =
+    let made : c.in_ok-numbers.numbers.items ≡ replicate c.len.result 0 = search rules in
+    IsCounting-start c.args.count c.args.sets.now c.args.caps.now c.args.order.now c.new-set.result c.in_ok-numbers.numbers.items
+    c.len.result c.requires.sound.family c.new-set.ensures.members made c.len.ensures.count
+
+pub get-holders-requires : goal.get-holders-requires
+get-holders-requires c =
+    let small = AllBelow-at c.args.count c.args.order.now c.loop-x.x-index c.requires.below c.loop-x-test.true in
+    let entries = c.requires.table.entries in
+    omega arith
+
+pub full_places-requires-clause-inside : goal.full_places-requires-clause-inside
+full_places-requires-clause-inside c =
+    let places = c.args.places.now in
+    let small = AllBelow-at c.args.count c.args.order.now c.loop-x.x-index c.requires.below c.loop-x-test.true in
+    let long = ap length c.deref.ensures.value ∙ c.loop-x.invariant.counts.long in
+    rw (long, c.get-holders.ensures.item) (AllBelow-places c.args.count c.args.sets.now places _ small c.requires.table)
+
+pub count_at-requires-clause-inside : goal.count_at-requires-clause-inside
+count_at-requires-clause-inside c =
+    let places = c.args.places.now in
+    let small = AllBelow-at c.args.count c.args.order.now c.loop-x.x-index c.requires.below c.loop-x-test.true in
+    let long = ap length c.deref_mut.ensures.value ∙ c.loop-x.invariant.counts.long in
+    rw (long, c.get-holders.ensures.item) (AllBelow-places c.args.count c.args.sets.now places _ small c.requires.table)
+
+pub count_at-requires-clause-room : goal.count_at-requires-clause-room
+count_at-requires-clause-room c = λ k l.
+    let inside = rw c.deref_mut.ensures.value at l in
+    let few = counter-small c.loop-x.invariant k inside in
+    rw c.deref_mut.ensures.value (omega arith)
+
+pub loop-x-preserved : goal.loop-x-preserved
+loop-x-preserved c =
+    let places = c.args.places.now in
+    let order = c.args.order.now in
+    let i = c.loop-x.x-index in
+    let x = get_or order i 0 in
+    let inside = c.loop-x-test.true in
+    let small = AllBelow-at c.args.count order i c.requires.below inside in
+    let before = c.loop-x.numbers.items in
+    let run = c.loop-x.invariant in
+    let full = rw (c.get-holders.ensures.item, c.deref.ensures.value) at c.in_ok-full.ensures.places in
+    let empty = c.is_empty.ensures.empty in
+    elim c.if-is_empty.branch [
+      | then-is_empty+in_ok-add+then-branch w ↦ (
+          let counted = rw (w.deref_mut.ensures.value, c.get-holders.ensures.item) at w.count_at.ensures in
+          rw w.numbers-is
+          (rw (written_back c.loop-x.numbers.len w.count_at.new.numbers before (w.count_at.auto.numbers ∙ w.deref_mut.ensures.len))
+          (laminar_run-entered run c.requires.sound.capped places c.requires.table x small inside refl c.in_ok-full.full c.if-is_empty.set full
+          w.count_at.new.numbers (sym empty ∙ w.if-is_empty.true) (sym w.in_ok-add.ensures.ok.0 ∙ w.if-branch.true)
+          (w.set-is ∙ w.in_ok-add.ensures.ok.1) (w.count_at.auto.numbers ∙ ap length w.deref_mut.ensures.value) counted)))
+      | else-is_empty w ↦ rw w.numbers-is (elim w.else-is_empty.branch [
+        | else-is_empty-via-then-is_empty+in_ok-add+else-branch v ↦
+            IsCounting-repeated run x c.if-is_empty.set inside refl (sym v.in_ok-add.ensures.ok.0 ∙ v.if-branch.false)
+            (w.set-is ∙ v.set-is ∙ v.in_ok-add.ensures.ok.1)
+        | else-is_empty-via-else-is_empty v ↦
+            laminar_run-passed run c.requires.sound.capped places c.requires.table x small inside refl c.in_ok-full.full c.if-is_empty.set full
+            (sym empty ∙ v.if-is_empty.false) (w.set-is ∙ v.set-is)
+      ])
+    ]

@@ -1,0 +1,59 @@
+use Rattle.std.proofs.Common.{◌≡◌, length, get_or, replicate, rules, refl, sym, ap, ◌∙◌, arith, None}
+use Rattle.mat_sets.proofs.Steps.{written_back}
+use Rattle.mat_sets.proofs.Sums.{AllBelow-at}
+use Rattle.mat_count.specs.PartitionLaws.{IsLaminarFamily-from_disjoint}
+use Rattle.mat_count.proofs.CountedRuns.{IsCounting-start, IsCounting-repeated, counter-small}
+use Rattle.mat_count.proofs.PartitionRuns.{entry_known, partition_run-passed, partition_run-entered}
+use Rattle.mat_count.proofs.partition.run_by_classes.Goals as goal
+use Rattle.mat_count.proofs.partition.run_by_classes.Goals.{then-not-names_full+in_ok-add+then-branch, else-not-names_full, else-not-names_full-via-then-not-names_full+in_ok-add+else-branch, else-not-names_full-via-else-not-names_full}
+
+pub loop-x-init : goal.loop-x-init
+loop-x-init c =
+    let made : c.in_ok-numbers.numbers.items ≡ replicate c.len.result 0 = search rules in
+    IsCounting-start (length c.args.class_of.now) c.args.classes.now c.args.caps.now c.args.order.now c.new-set.result c.in_ok-numbers.numbers.items
+    c.len.result (IsLaminarFamily-from_disjoint c.args.classes.now c.requires.sound.disjoint) c.new-set.ensures.members made c.len.ensures.count
+
+pub bounds-class_of-x : goal.bounds-class_of-x
+bounds-class_of-x c = AllBelow-at (length c.args.class_of.now) c.args.order.now c.loop-x.x-index c.requires.below c.loop-x-test.true
+
+pub names_full-requires-clause-inside : goal.names_full-requires-clause-inside
+names_full-requires-clause-inside c =
+    let table = c.args.class_of.now in
+    let small = AllBelow-at (length table) c.args.order.now c.loop-x.x-index c.requires.below c.loop-x-test.true in
+    let long = ap length c.deref.ensures.value ∙ c.loop-x.invariant.counts.long in
+    rw long (entry_known (length table) c.args.classes.now table _ small c.requires.table)
+
+pub count-requires-clause-room : goal.count-requires-clause-room
+count-requires-clause-room c = λ k l.
+    let inside = rw c.deref_mut.ensures.value at l in
+    let few = counter-small c.loop-x.invariant k inside in
+    rw c.deref_mut.ensures.value (omega arith)
+
+pub loop-x-preserved : goal.loop-x-preserved
+loop-x-preserved c =
+    let table = c.args.class_of.now in
+    let order = c.args.order.now in
+    let i = c.loop-x.x-index in
+    let x = get_or order i 0 in
+    let inside = c.loop-x-test.true in
+    let small = AllBelow-at (length table) order i c.requires.below inside in
+    let before = c.loop-x.numbers.items in
+    let run = c.loop-x.invariant in
+    let asked = rw c.deref.ensures.value at c.names_full.ensures in
+    elim c.if-not-names_full.branch [
+      | then-not-names_full+in_ok-add+then-branch w ↦ (
+          let counted = rw w.deref_mut.ensures.value at w.count.ensures in
+          rw w.numbers-is
+          (rw (written_back c.loop-x.numbers.len w.count.new.numbers before (w.count.auto.numbers ∙ w.deref_mut.ensures.len))
+          (partition_run-entered run c.requires.sound.capped table c.requires.table x small inside refl (get_or table x None) refl c.if-not-names_full.set
+          w.count.new.numbers (sym asked ∙ w.if-not-names_full.true) (sym w.in_ok-add.ensures.ok.0 ∙ w.if-branch.true)
+          (w.set-is ∙ w.in_ok-add.ensures.ok.1) (w.count.auto.numbers ∙ ap length w.deref_mut.ensures.value) counted)))
+      | else-not-names_full w ↦ rw w.numbers-is (elim w.else-not-names_full.branch [
+        | else-not-names_full-via-then-not-names_full+in_ok-add+else-branch v ↦
+            IsCounting-repeated run x c.if-not-names_full.set inside refl (sym v.in_ok-add.ensures.ok.0 ∙ v.if-branch.false)
+            (w.set-is ∙ v.set-is ∙ v.in_ok-add.ensures.ok.1)
+        | else-not-names_full-via-else-not-names_full v ↦
+            partition_run-passed run c.requires.sound.capped table c.requires.table x small inside refl (get_or table x None) refl c.if-not-names_full.set
+            (sym asked ∙ v.if-not-names_full.false) (w.set-is ∙ v.set-is)
+      ])
+    ]
