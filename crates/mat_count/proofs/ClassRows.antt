@@ -1,7 +1,7 @@
 -- The exchanges at an independent set of a partition matroid: x puts one more member into its own class alone, and an exchange for y takes
 -- one out of the class of y; so where the class of x is full, y has to stand in it, and else every y will do.
-use Rattle.std.proofs.Common.{◌≡◌, ℕ, ◌+◌, ◌<◌, ◌≤◌, ◌≢◌, Bool, true, false, List, [], length, get_or, ◌⊎◌, inl, inr, refl, sym, ap, ◌∙◌, arith}
-use Rattle.std.proofs.lemmas.Bool.{cases_Bool, cases_eq, both_ways, and_parts, and_from, false_from_ne_true}
+use Rattle.std.proofs.Common.{◌≡◌, ℕ, ◌+◌, ◌<◌, ◌≤◌, Bool, true, false, List, [], length, get_or, ◌⊎◌, inl, inr, refl, sym, ap, ◌∙◌, arith}
+use Rattle.std.proofs.lemmas.Bool.{cases_Bool, both_ways, and_parts, and_from, false_from_ne_true}
 use Rattle.mat_sets.specs.Sets.{is_member, IsRising, IsSet, with_one, without_one, intersection}
 use Rattle.mat_sets.specs.SetTests.{is_set}
 use Rattle.mat_sets.specs.Families.{indicator}
@@ -127,9 +127,11 @@ module _ {n : ℕ} {sets : List (List ℕ)} {caps I : List ℕ} {x : ℕ} (o : I
       row_outside (is_counted n sets caps) I x row o.outside (addable ∙ sym (added_with_room room))
       (all ∙ sym (filter_whole (λ y. is_counted n sets caps (exchange y)) I (λ y m. exchanged_with_room y m (λ i l h. inl (room i l h)))))
 
-  -- where x stands in one listed set alone, and that is full, x can be exchanged for the members of that set
+  -- where the listed set at this place holds x and is full, and each full one that holds x has all members of I that it has, x can be exchanged
+  -- for those members
   module _ {place : ℕ} (known : place < length sets) (own : is_member x (get_or sets place []) ≡ true)
-      (alone : (i : ℕ) → i < length sets → place ≢ i → is_member x (get_or sets i []) ≡ false)
+      (others : (i : ℕ) → i < length sets → is_member x (get_or sets i []) ≡ true → (length (intersection I (get_or sets i [])) < get_or caps i 0)
+      ⊎ ((y : ℕ) → is_member y I ≡ true → is_member y (get_or sets place []) ≡ true → is_member y (get_or sets i []) ≡ true))
       (full : get_or caps place 0 ≤ length (intersection I (get_or sets place []))) where
     added_at_full : is_counted n sets caps (with_one I x) ≡ false
     added_at_full = not_counted n sets caps (with_one I x) place o.same known (
@@ -137,9 +139,9 @@ module _ {n : ℕ} {sets : List (List ℕ)} {caps I : List ℕ} {x : ℕ} (o : I
 
     exchanged_at_full : (y : ℕ) → is_member y I ≡ true → stands_in sets place y ≡ is_counted n sets caps (exchange y)
     exchanged_at_full y inside = elim (cases_Bool (stands_in sets place y)) [
-      | inl member ↦ member ∙ sym (exchanged_with_room y inside (λ i l h. elim (cases_eq place i) [
-        | inl here ↦ inr (ap (λ k. stands_in sets k y) (sym here) ∙ member)
-        | inr other ↦ absurd (both_ways _ (alone i l other) h)
+      | inl member ↦ member ∙ sym (exchanged_with_room y inside (λ i l h. elim (others i l h) [
+        | inl room ↦ inl room
+        | inr all ↦ inr (all y inside member)
       ]))
       | inr absent ↦ absent ∙ sym (not_counted n sets caps (exchange y) place o.same known (
           let change = counted-exchanged (get_or sets place []) I x y o.set.rising o.outside inside in

@@ -4,6 +4,8 @@ pub mod ClassTables
 pub mod CountedRuns
 pub mod CrossedSets
 pub mod CrossingWalks
+pub mod FullSetRows
+pub mod KeptSets
 pub mod LaminarRows
 pub mod LaminarRuns
 pub mod PartitionRows

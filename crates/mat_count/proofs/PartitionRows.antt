@@ -89,4 +89,7 @@ module _ (p : CappedClasses) (table : List (Option ℕ)) (right : IsClassTable p
           let filled : get_or p.caps place 0 ≤ length (intersection I (get_or p.classes place [])) = omega arith in
           let stands = named-only p.count p.classes table x place small right (entry_is small ∙ is) in
           row_at_full o (named-inside p.count p.classes table x place small right (entry_is small ∙ is))
-          (stands place ∙ eq-eqb place place refl) (λ i l other. stands i ∙ ne_eqb place i other) filled row addable (members ∙ class)
+          (stands place ∙ eq-eqb place place refl) (λ i l h. elim (cases_eq place i) [
+            | inl here ↦ inr (λ y y_in y_at. subst (λ k. is_member y (get_or p.classes k []) ≡ true) here y_at)
+            | inr other ↦ absurd (both_ways (eqb place i) (ne_eqb place i other) (sym (stands i) ∙ h))
+          ]) filled row addable (members ∙ class)

@@ -1,10 +1,11 @@
 //! Laminar matroids.
-ghost use Rattle.std.specs.Prelude.{⊤, ◌≡◌, ◌↔◌, ◌+◌, ℕ, ◌<◌, ◌^◌, length, replicate, filter, slice_index, slice_index_or, [], IfOk, IfErr, IsTrue, IsFalse, MatchOption, ◌-◌};
+ghost use Rattle.std.specs.Prelude.{◌≡◌, ◌↔◌, ◌+◌, ℕ, ◌<◌, ◌^◌, length, replicate, filter, slice_index, slice_index_or, [], IfOk, IfErr, IsTrue, IsFalse, MatchOption, ◌-◌};
 ghost use Rattle.std.specs.List.{All};
 ghost use Rattle.mat_sets.specs.Sets.{is_member, AllBelow, IsRising};
 ghost use Rattle.mat_sets.specs.Families.{indicator};
 ghost use Rattle.mat_laws.specs.GreedyRuns.{grown_along};
 ghost use Rattle.mat_count.specs.Counts.{is_counted};
+ghost use Rattle.mat_count.specs.FullSets.{AreFullSets};
 ghost use Rattle.mat_count.specs.Partitions.{CountsMembers};
 ghost use Rattle.mat_count.specs.Laminar.{IsLaminarFamily};
 ghost use Rattle.mat_count.specs.LaminarMatroids.{CappedSets, IsLaminar, IsPlaceTable, IsPlaced};
@@ -14,6 +15,7 @@ ghost use Rattle.mat_count.specs.LaminarLaws.{counted_laws};
 
 use crate::caps::are_within;
 use crate::crossings::{count_shared, crossing};
+use crate::full_sets::FullSets;
 use crate::laminar_fault::LaminarFault;
 use mat_laws::{Exchange, Matroid};
 use mat_sets::{ElemSet, SetList};
@@ -296,9 +298,9 @@ impl Matroid for Laminar {
 
     ghost indep = { λ m. is_counted m.count m.sets m.caps };
 
-    type Kept = ();
+    type Kept = FullSets;
 
-    ghost keeps = { λ _ _ _. ⊤ };
+    ghost keeps = { λ m base kept. AreFullSets m.sets m.caps base kept };
 
     ghost laws = { λ m h. counted_laws m.count m.sets m.caps h.family };
 
@@ -338,8 +340,23 @@ impl Matroid for Laminar {
         )
     }
 
-    /// Nothing is kept.
-    fn keep(&self, _alloc: Global, _base: &ElemSet) -> Result<(), AllocError> {
-        Ok(())
+    /// The full sets and their members. The time is that of reading the set and each listed one. The only error is want of
+    /// memory.
+    fn keep(&self, alloc: Global, base: &ElemSet) -> Result<FullSets, AllocError> {
+        FullSets::of(alloc, &self.sets, &self.caps, base)
+    }
+
+    /// The members of the smallest full set that holds x, which stand in each full one that does, since two of them are
+    /// nested; where none is full, every member. The time is the number of sets that hold x and a copy of the answer. The only
+    /// error is want of memory.
+    fn row(
+        &self,
+        alloc: Global,
+        base: &ElemSet,
+        kept: &FullSets,
+        x: u32,
+    ) -> Result<Exchange, AllocError> {
+        let place = kept.smallest(self.places.get(x as usize));
+        kept.row_at(alloc, base, place)
     }
 }

@@ -3,7 +3,7 @@ ghost use Rattle.std.specs.Prelude.{◌≡◌, length, IfOk};
 ghost use Rattle.mat_sets.specs.Sets.{AllBelow};
 ghost use Rattle.mat_count.specs.LaminarMatroids.{IsLaminar};
 
-use crate::tests::{has_row, passes, runs_to, set_below};
+use crate::tests::{has_kept_row, has_row, passes, runs_to, set_below};
 use crate::{Laminar, LaminarFault, crossing};
 use mat_laws::Matroid;
 use mat_sets::{ElemSet, SetList};
@@ -50,6 +50,16 @@ fn an_element_is_exchanged_for_the_members_of_each_full_set(rt: HostRuntime) -> 
     assert!(rt; has_row(alloc, &matroid, &[0, 2, 4], 3, false, &[0, 2])?);
     assert!(rt; has_row(alloc, &matroid, &[0, 2, 4], 1, false, &[0])?);
     assert!(rt; has_row(alloc, &matroid, &[0, 4], 2, true, &[0, 4])?);
+    Ok(())
+}
+
+#[test]
+fn what_is_kept_tells_the_members_of_the_smallest_full_set(rt: HostRuntime) -> Result<(), Fail> {
+    let alloc = rt.alloc();
+    let matroid = example(alloc)?;
+    assert!(rt; has_kept_row(alloc, &matroid, &[0, 2, 4], 3, false, &[0, 2])?);
+    assert!(rt; has_kept_row(alloc, &matroid, &[0, 2, 4], 1, false, &[0])?);
+    assert!(rt; has_kept_row(alloc, &matroid, &[0, 4], 2, true, &[0, 4])?);
     Ok(())
 }
 

@@ -3,6 +3,7 @@
 
 mod caps;
 mod crossings;
+mod full_sets;
 mod laminar;
 mod laminar_fault;
 #[cfg(test)]
@@ -14,6 +15,7 @@ mod tests;
 mod uniform;
 
 pub use crossings::crossing;
+pub use full_sets::FullSets;
 pub use laminar::Laminar;
 pub use laminar_fault::LaminarFault;
 pub use laws::{crosses_means, laminar_laws, within_caps_means};

@@ -5,12 +5,14 @@ ghost use Rattle.mat_sets.specs.Sets.{AllBelow, IsRising};
 ghost use Rattle.mat_sets.specs.Families.{AreDisjoint, indicator};
 ghost use Rattle.mat_laws.specs.GreedyRuns.{grown_along};
 ghost use Rattle.mat_count.specs.Counts.{is_counted};
+ghost use Rattle.mat_count.specs.FullSets.{AreFullSets};
 ghost use Rattle.mat_count.specs.ClassMembers.{named_members};
 ghost use Rattle.mat_count.specs.Counters.{is_named_full};
 ghost use Rattle.mat_count.specs.Partitions.{names, CappedClasses, IsPartition, IsClassTable, IsEntered, CountsMembers};
 ghost use Rattle.mat_count.specs.PartitionLaws.{partition_laws};
 
 use crate::caps::are_within;
+use crate::full_sets::FullSets;
 use mat_laws::{Exchange, Matroid};
 use mat_sets::{ElemSet, SetList};
 use std::alloc::{AllocError, Global};
@@ -204,9 +206,9 @@ impl Matroid for Partition {
 
     ghost indep = { λ m. is_counted m.count m.classes m.caps };
 
-    type Kept = ();
+    type Kept = FullSets;
 
-    ghost keeps = { λ _ _ _. ⊤ };
+    ghost keeps = { λ m base kept. AreFullSets m.classes m.caps base kept };
 
     ghost laws = { λ m h. partition_laws m.count m.classes m.caps h };
 
@@ -246,8 +248,20 @@ impl Matroid for Partition {
         run_by_classes(alloc, &self.classes, &self.caps, &self.class_of, order)
     }
 
-    /// Nothing is kept.
-    fn keep(&self, _alloc: Global, _base: &ElemSet) -> Result<(), AllocError> {
-        Ok(())
+    /// The full classes and their members. The time is that of reading the set and the classes. The only error is want of memory.
+    fn keep(&self, alloc: Global, base: &ElemSet) -> Result<FullSets, AllocError> {
+        FullSets::of(alloc, &self.classes, &self.caps, base)
+    }
+
+    /// The members of the class of x, where it is full; else every member. The time is that of a copy of the answer. The only
+    /// error is want of memory.
+    fn row(
+        &self,
+        alloc: Global,
+        base: &ElemSet,
+        kept: &FullSets,
+        x: u32,
+    ) -> Result<Exchange, AllocError> {
+        kept.row_at(alloc, base, self.class_of[x as usize])
     }
 }

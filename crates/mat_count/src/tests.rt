@@ -55,6 +55,28 @@ pub(crate) fn has_row<M: Matroid>(
     Ok(row.addable == addable && row.with.as_slice() == with)
 }
 
+// The same, by what is kept of the set.
+pub(crate) fn has_kept_row<M: Matroid>(
+    alloc: Global,
+    matroid: &M,
+    members: &[u32],
+    x: u32,
+    addable: bool,
+    with: &[u32],
+) -> Result<bool, AllocError>
+    requires sound { M.sound matroid.now }
+    requires below { AllBelow (M.ground_size matroid.now) members.now }
+    requires element { x < M.ground_size matroid.now }
+{
+    let base = set_below(alloc, matroid.size(), members)?;
+    if base.contains(x) || !matroid.independent(alloc, &base)? {
+        return Ok(false);
+    }
+    let kept = matroid.keep(alloc, &base)?;
+    let row = matroid.row(alloc, &base, &kept, x)?;
+    Ok(row.addable == addable && row.with.as_slice() == with)
+}
+
 // Whether the greedy run along the order ends in the set of these members.
 pub(crate) fn runs_to<M: Matroid>(
     alloc: Global,
@@ -160,5 +182,15 @@ fn a_run_passes_the_elements_of_full_classes(rt: HostRuntime) -> Result<(), Fail
     let alloc = rt.alloc();
     let matroid = example(alloc, 1)?;
     assert!(rt; runs_to(alloc, &matroid, &[2, 1, 3, 0], &[2, 3])?);
+    Ok(())
+}
+
+#[test]
+fn what_is_kept_tells_the_members_of_full_classes(rt: HostRuntime) -> Result<(), Fail> {
+    let alloc = rt.alloc();
+    let matroid = example(alloc, 1)?;
+    assert!(rt; has_kept_row(alloc, &matroid, &[0, 3], 2, false, &[0])?);
+    assert!(rt; has_kept_row(alloc, &matroid, &[0, 3], 1, false, &[])?);
+    assert!(rt; has_kept_row(alloc, &matroid, &[2], 3, true, &[2])?);
     Ok(())
 }

@@ -1,0 +1,214 @@
+-- The row that the smallest full set tells: two listed sets that hold x are nested, so that a full set with fewest members of the base has no
+-- member that another full one that holds x lacks, and an exchange for each of its members leaves room in all of them.
+use Rattle.std.proofs.Common.{◌≡◌, ℕ, ◌<◌, ◌≤◌, Bool, true, false, cond, leb, List, [], length, get_or, Option, Some, None, ◌⊎◌, inl, inr, refl, sym, ap, ◌∙◌, subst, arith}
+use Rattle.std.proofs.lemmas.Bool.{cases_lt, cases_order, both_ways, ltb-false, le-leb, leb-true, eq-eqb, eqb-true}
+use Rattle.std.proofs.lemmas.List.{get_or_default, get_or_past}
+use Rattle.std.specs.Prelude.{⊤, MatchOption}
+use Rattle.mat_sets.specs.Sets.{is_member, IsRising, IsSubset, intersection}
+use Rattle.mat_sets.proofs.Members.{IsRising-intersection, set_members}
+use Rattle.mat_sets.proofs.Subsets.{subset_or, same_size_subset}
+use Rattle.mat_laws.specs.declared.exchange.Exchange.{Exchange}
+use Rattle.mat_laws.specs.Exchanges.{row_of}
+use Rattle.mat_count.specs.Counts.{is_counted}
+use Rattle.mat_count.specs.FullSets.{AreFullSets, IsSmallest, entry_at, has_fewer, row_of_entry, where_full}
+use Rattle.mat_count.specs.Laminar.{crosses, IsLaminarFamily}
+use Rattle.mat_count.specs.LaminarLaws.{test_from-Crosses}
+use Rattle.mat_count.specs.LaminarMatroids.{CappedSets, IsLaminar, IsPlaceTable}
+use Rattle.mat_count.specs.PartitionLaws.{IsLaminarFamily-from_disjoint}
+use Rattle.mat_count.specs.Partitions.{names, CappedClasses, IsClassTable, IsPartition}
+use Rattle.mat_count.specs.declared.full_sets.FullSets.{FullSets}
+use Rattle.mat_count.proofs.ClassRows.{IsOutside, IsOutside-from_test, row_with_room, row_at_full}
+use Rattle.mat_count.proofs.KeptSets.{not_itself}
+use Rattle.mat_count.proofs.PartitionRuns.{entry_known}
+
+-- ---- two listed sets with a common member
+
+-- sets that do not cross, and share a member, are nested
+nested_pair : (A B : List ℕ) (x : ℕ) → is_member x A ≡ true → is_member x B ≡ true → crosses A B ≡ false → IsSubset A B ⊎ IsSubset B A
+nested_pair A B x in_A in_B never = elim (subset_or A B) [
+  | inl inside ↦ inl inside
+  | inr first ↦ elim (subset_or B A) [
+    | inl inside ↦ inr inside
+    | inr second ↦ absurd (both_ways (crosses A B) never (test_from-Crosses A B (record {
+      shared = x;
+      first = first.0;
+      second = second.0;
+      shared_in_first = in_A;
+      shared_in_second = in_B;
+      first_inside = first.1;
+      first_outside = first.2;
+      second_inside = second.1;
+      second_outside = second.2;
+    })))
+  ]
+]
+
+module _ (sets : List (List ℕ)) (family : IsLaminarFamily sets) (x : ℕ) where
+  -- two listed sets that hold x are nested
+  nested_at : (i j : ℕ) → i < length sets → j < length sets → is_member x (get_or sets i []) ≡ true → is_member x (get_or sets j []) ≡ true
+      → IsSubset (get_or sets i []) (get_or sets j []) ⊎ IsSubset (get_or sets j []) (get_or sets i [])
+  nested_at i j l m in_i in_j = elim (cases_order i j) [
+    | inl same ↦ inl (record { inside = λ k h. subst (λ p. is_member k (get_or sets p []) ≡ true) same h })
+    | inr (inl below) ↦ nested_pair _ _ x in_i in_j (family.nested i j below m)
+    | inr (inr above) ↦ elim (nested_pair _ _ x in_j in_i (family.nested j i above l)) [
+      | inl inside ↦ inr inside
+      | inr inside ↦ inl inside
+    ]
+  ]
+
+  -- of two of them the one with fewer members of I has no member of I that the other lacks
+  fewer_inside : (I : List ℕ) (i j : ℕ) → IsRising I → i < length sets → j < length sets → is_member x (get_or sets i []) ≡ true
+      → is_member x (get_or sets j []) ≡ true → length (intersection I (get_or sets i [])) ≤ length (intersection I (get_or sets j []))
+      → (y : ℕ) → is_member y I ≡ true → is_member y (get_or sets i []) ≡ true → is_member y (get_or sets j []) ≡ true
+  fewer_inside I i j rises l m in_i in_j fewer y y_in y_at = elim (nested_at i j l m in_i in_j) [
+    | inl inside ↦ inside.inside y y_at
+    | inr inside ↦ (
+        let S = get_or sets i [] in
+        let T = get_or sets j [] in
+        let part : IsSubset (intersection I T) (intersection I S) = record { inside = λ k h. let more = inside.inside k in grind (arith, set_members) } in
+        let same = same_size_subset (intersection I T) (intersection I S) (IsRising-intersection I T rises) (IsRising-intersection I S rises) part fewer in
+        let here : is_member y (intersection I S) ≡ true = grind (arith, set_members) in
+        let there : is_member y (intersection I T) ≡ true = ap (is_member y) same ∙ here in
+        grind (arith, set_members))
+  ]
+
+-- ---- what is kept
+
+-- of a set that is full its members are kept, and what is kept are those of a full one
+kept_where_full : (cap : ℕ) (members : List ℕ) → cap ≤ length members → where_full cap members ≡ Some members
+kept_where_full cap members full = ap (λ b. cond b (Some members) None) (le-leb cap (length members) full)
+
+full_where_kept : (cap : ℕ) (members found : List ℕ) → where_full cap members ≡ Some found → (cap ≤ length members) × (members ≡ found)
+full_where_kept cap members found is =
+    let parts = decide (leb cap (length members)) is in
+    (leb-true cap (length members) parts.0, parts.1)
+  where
+    value : Option (List ℕ) → List ℕ
+    value None = []
+    value (Some entry) = entry
+
+    is_some : Option (List ℕ) → Bool
+    is_some None = false
+    is_some (Some entry) = true
+
+    decide : (b : Bool) → cond b (Some members) None ≡ Some found → (b ≡ true) × (members ≡ found)
+    decide true is = (refl, ap value is)
+    decide false is = absurd (both_ways false refl (ap is_some is))
+
+-- what was found is a listed set that holds x, and no full one that holds x has fewer members
+pub record IsSmallestAt (sets : List (List ℕ)) (x : ℕ) (entries : List (Option (List ℕ))) (found : Option ℕ) : Type 0 where
+  pub listed : (i : ℕ) → found ≡ Some i → is_member x (get_or sets i []) ≡ true
+  pub least : (i : ℕ) → is_member x (get_or sets i []) ≡ true → has_fewer (get_or entries i None) (entry_at entries found) ≡ false
+
+-- ---- the row
+
+module _ {n : ℕ} {sets : List (List ℕ)} {caps I : List ℕ} {x : ℕ} (o : IsOutside n sets caps I x) (family : IsLaminarFamily sets)
+    (kept : FullSets) (full : AreFullSets sets caps I kept) (row : Exchange) where
+  abbrev entries : List (Option (List ℕ))
+  entries = kept.members.items
+
+  -- of a full set its members are kept
+  entry_of_full : (i : ℕ) → i < length sets → get_or caps i 0 ≤ length (intersection I (get_or sets i []))
+      → get_or entries i None ≡ Some (intersection I (get_or sets i []))
+  entry_of_full i l most = full.at i l ∙ kept_where_full (get_or caps i 0) (intersection I (get_or sets i [])) most
+
+  -- where no full set holds x
+  row_of_none : ((i : ℕ) → is_member x (get_or sets i []) ≡ true → has_fewer (get_or entries i None) None ≡ false)
+      → row ≡ row_of_entry I None → row ≡ row_of (is_counted n sets caps) I x
+  row_of_none none is = row_with_room o row (λ i l h. elim (cases_lt (length (intersection I (get_or sets i []))) (get_or caps i 0)) [
+    | inl room ↦ room
+    | inr most ↦ absurd (both_ways (has_fewer (get_or entries i None) None) (none i h) (ap (λ e. has_fewer e None) (entry_of_full i l most)))
+  ]) (ap (λ e. e.addable) is) (ap (λ e. e.with) is)
+
+  -- where the full set at this place holds x, and none that does has fewer members
+  row_of_some : (place : ℕ) (members : List ℕ) → is_member x (get_or sets place []) ≡ true → get_or entries place None ≡ Some members
+      → ((i : ℕ) → is_member x (get_or sets i []) ≡ true → has_fewer (get_or entries i None) (Some members) ≡ false)
+      → row ≡ row_of_entry I (Some members) → row ≡ row_of (is_counted n sets caps) I x
+  row_of_some place members own found least is =
+      row_at_full o known own (λ i l h. elim (cases_lt (length (intersection I (get_or sets i []))) (get_or caps i 0)) [
+        | inl room ↦ inl room
+        | inr most ↦ inr (fewer_inside sets family x I place i o.set.rising known l own h (fewest i l h most))
+      ]) filled.0 row (ap (λ e. e.addable) is) (ap (λ e. e.with) is ∙ sym filled.1)
+    where
+      known : place < length sets
+      known = elim (cases_lt place (length sets)) [
+        | inl inside ↦ inside
+        | inr past ↦ absurd (both_ways false refl (ap (is_member x) (sym (get_or_past sets place [] past)) ∙ own))
+      ]
+
+      filled : (get_or caps place 0 ≤ length (intersection I (get_or sets place []))) × (intersection I (get_or sets place []) ≡ members)
+      filled = full_where_kept (get_or caps place 0) (intersection I (get_or sets place [])) members (sym (full.at place known) ∙ found)
+
+      fewest : (i : ℕ) → i < length sets → is_member x (get_or sets i []) ≡ true → get_or caps i 0 ≤ length (intersection I (get_or sets i []))
+          → length (intersection I (get_or sets place [])) ≤ length (intersection I (get_or sets i []))
+      fewest i l h most =
+          let never = ap (λ e. has_fewer e (Some members)) (sym (entry_of_full i l most)) ∙ least i h in
+          let size = ap length filled.1 in
+          let low = ltb-false (length (intersection I (get_or sets i []))) (length members) never in
+          omega arith
+
+  pub row_of_smallest : (found : Option ℕ) → IsSmallestAt sets x entries found → row ≡ row_of_entry I (entry_at entries found)
+      → row ≡ row_of (is_counted n sets caps) I x
+  row_of_smallest None small is = row_of_none small.least is
+  row_of_smallest (Some place) small is = by_entry (get_or entries place None) refl
+    where
+      by_entry : (entry : Option (List ℕ)) → get_or entries place None ≡ entry → row ≡ row_of (is_counted n sets caps) I x
+      by_entry None here =
+          row_of_none (λ i h. ap (has_fewer (get_or entries i None)) (sym here) ∙ small.least i h) (is ∙ ap (row_of_entry I) here)
+      by_entry (Some members) here =
+          row_of_some place members (small.listed place refl) here
+          (λ i h. ap (has_fewer (get_or entries i None)) (sym here) ∙ small.least i h) (is ∙ ap (row_of_entry I) here)
+
+-- ---- by the matroid
+
+-- a row of a sound matroid of this kind, for an independent set of which the full sets are kept and an element outside
+abbrev pub IsRowBeside : List ℕ → FullSets → ℕ → Exchange → CappedSets → Type 0
+IsRowBeside I kept x row m = IsLaminar m.count m.sets m.caps → is_counted m.count m.sets m.caps I ≡ true → AreFullSets m.sets m.caps I kept
+    → x < m.count → is_member x I ≡ false → row ≡ row_of (is_counted m.count m.sets m.caps) I x
+
+-- the row of a laminar matroid, by the smallest of the full sets at the places of x
+pub row_at_smallest : (m : CappedSets) (table : List (List ℕ)) (I : List ℕ) (kept : FullSets) (x : ℕ) (row : Exchange) (found : Option ℕ)
+    → IsPlaceTable m.count m.sets table → IsSmallest kept.members.items (get_or table x []) found
+    → row ≡ row_of_entry I (entry_at kept.members.items found) → IsRowBeside I kept x row m
+row_at_smallest m table I kept x row found right best is sound passes full small outside =
+    row_of_smallest (IsOutside-from_test m.count m.sets m.caps I x sound.capped small passes outside) sound.family kept full row found (record {
+      listed = λ i same. sym (right.right x i small) ∙ best.listed i same;
+      least = λ i h. best.least i (right.right x i small ∙ h);
+    }) is
+
+abbrev pub IsRowInClasses : List ℕ → FullSets → ℕ → Exchange → CappedClasses → Type 0
+IsRowInClasses I kept x row p = IsPartition p.count p.classes p.caps → is_counted p.count p.classes p.caps I ≡ true
+    → AreFullSets p.classes p.caps I kept → x < p.count → is_member x I ≡ false → row ≡ row_of (is_counted p.count p.classes p.caps) I x
+
+-- the class that the table names for x is the only one that holds it, and so the smallest
+named_is_smallest : (n : ℕ) (classes : List (List ℕ)) (table : List (Option ℕ)) (x : ℕ) (entries : List (Option (List ℕ))) → x < n
+    → IsClassTable n classes table → IsSmallestAt classes x entries (get_or table x None)
+named_is_smallest n classes table x entries small right = record {
+  listed = λ i same. sym (right.right x i small) ∙ ap (λ entry. names entry i) same ∙ eq-eqb i i refl;
+  least = λ i h. only (get_or table x None) i (right.right x i small ∙ h);
+}
+  where
+    only : (entry : Option ℕ) (i : ℕ) → names entry i ≡ true → has_fewer (get_or entries i None) (entry_at entries entry) ≡ false
+    only None i h = absurd (both_ways false refl h)
+    only (Some k) i h = ap (λ j. has_fewer (get_or entries j None) (get_or entries k None)) (sym (eqb-true k i h)) ∙ not_itself (get_or entries k None)
+
+module _ (p : CappedClasses) (table : List (Option ℕ)) (right : IsClassTable p.count p.classes table) (x : ℕ) (entry : Option ℕ)
+    (read : entry ≡ get_or table x entry) where
+  entry_read : x < p.count → get_or table x None ≡ entry
+  entry_read small = let entries = right.entries in sym (read ∙ get_or_default table x entry None (omega arith))
+
+  -- the class that the table names for x is one of those of which something is kept
+  pub entry_kept : (entries : List (Option (List ℕ))) → length entries ≡ length p.classes → x < p.count
+      → MatchOption entry ⊤ (λ place. place < length entries)
+  entry_kept entries long small =
+      subst (λ e. MatchOption e ⊤ (λ place. place < length entries)) (entry_read small)
+      (subst (λ k. MatchOption (get_or table x None) ⊤ (λ place. place < k)) (sym long) (entry_known p.count p.classes table x small right))
+
+  -- the row of a partition matroid, by the class that the table names for x
+  pub row_at_class : (I : List ℕ) (kept : FullSets) (row : Exchange) → row ≡ row_of_entry I (entry_at kept.members.items entry)
+      → IsRowInClasses I kept x row p
+  row_at_class I kept row is sound passes full small outside =
+      row_of_smallest (IsOutside-from_test p.count p.classes p.caps I x sound.capped small passes outside)
+      (IsLaminarFamily-from_disjoint p.classes sound.disjoint) kept full row entry
+      (subst (IsSmallestAt p.classes x kept.members.items) (entry_read small)
+      (named_is_smallest p.count p.classes table x kept.members.items small right)) is
