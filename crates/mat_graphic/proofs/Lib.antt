@@ -4,3 +4,4 @@ pub mod ComponentCounts
 pub mod EdgeRows
 pub mod TrailTables
 pub mod TrailScans
+pub mod GraphicRuns

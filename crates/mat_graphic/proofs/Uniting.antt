@@ -44,6 +44,9 @@ module _ (ends : ℕ → ℕ × ℕ) where
       subst (λ Y. IsParentTable (least_merged ends Y) parent) (sym (drop_all k X (omega arith)))
       (IsParentTable-equal (λ v. v) (least_merged ends []) parent (λ v. refl) t)
 
+  pub table_empty : (X parent : List ℕ) → X ≡ [] → IsParentTable (λ v. v) parent → IsParentTable (least_merged ends X) parent
+  table_empty X parent e t = subst (λ Y. IsParentTable (least_merged ends Y) parent) (sym e) (table_none [] parent 0 refl t)
+
   pub forest_none : (X : List ℕ) (k : ℕ) → k ≡ length X → IsForest ends (drop k X)
   forest_none X k e = subst (IsForest ends) (sym (drop_all k X (omega arith))) (IsForest-none ends)
 

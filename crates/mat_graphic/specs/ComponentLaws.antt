@@ -122,6 +122,12 @@ module _ (ends : ℕ → ℕ × ℕ) where
   abbrev pub IsWithin : List ℕ → ℕ → Type 0
   IsWithin X e = least_merged ends X (ends e).0 ≡ least_merged ends X (ends e).1
 
+  -- such an edge merges nothing
+  pub least_merged-within : (X : List ℕ) (e v : ℕ) → IsWithin X e → least_merged ends (e ∷ X) v ≡ least_merged ends X v
+  unfolding least_merged
+  least_merged-within X e v same = ap (λ q. merged (least_merged ends X (ends e).0) q (least_merged ends X v)) (sym same)
+      ∙ merged-same (least_merged ends X (ends e).0) (least_merged ends X v)
+
   pub member_within : (X : List ℕ) (e : ℕ) → is_member e X ≡ true → IsWithin X e
   unfolding least_merged
   member_within [] e h = absurd (false≢true h)
@@ -225,3 +231,28 @@ module _ (ends : ℕ → ℕ × ℕ) where
   -- vertices where it is the same are joined by a trail
   pub trail_of_same : (X : List ℕ) (v w : ℕ) → IsRising X → least_merged ends X v ≡ least_merged ends X w → Trail ends X v w
   trail_of_same X v w r h = trail_from 0 X v w r.rises h
+
+  -- what is the same at both ends of each member is so where the least vertex is
+  pub constant_on_components : (f : ℕ → ℕ) (X : List ℕ) → ((e : ℕ) → is_member e X ≡ true → f (ends e).0 ≡ f (ends e).1) → (v w : ℕ)
+      → least_merged ends X v ≡ least_merged ends X w → f v ≡ f w
+  unfolding least_merged
+  constant_on_components f [] h v w same = ap f same
+  constant_on_components f (e ∷ X) h v w same =
+      let rest = constant_on_components f X (λ g m. h g (or_right (eqb g e) (is_member g X) m)) in
+      let here : f (ends e).0 ≡ f (ends e).1 = h e (is_member-head e X) in
+      elim (merged_equal (least_merged ends X (ends e).0) (least_merged ends X (ends e).1) (least_merged ends X v) (least_merged ends X w) same) [
+        | inl own ↦ rest v w own
+        | inr c ↦ elim c [
+          | inl k ↦ rest v (ends e).0 k.0 ∙ here ∙ sym (rest w (ends e).1 k.1)
+          | inr k ↦ rest v (ends e).1 k.0 ∙ sym here ∙ sym (rest w (ends e).0 k.1)
+        ]
+      ]
+
+  -- so the components are those of the members, in whatever order they are merged
+  pub least_merged-same : (X Y : List ℕ) → ((z : ℕ) → is_member z X ≡ is_member z Y) → (v : ℕ) → least_merged ends X v ≡ least_merged ends Y v
+  least_merged-same X Y same v =
+      let there : least_merged ends Y (least_merged ends X v) ≡ least_merged ends Y v =
+      constant_on_components (least_merged ends Y) X (λ e m. member_within Y e (sym (same e) ∙ m)) _ v (least_merged-fixed X v) in
+      let back : least_merged ends X (least_merged ends Y v) ≡ least_merged ends X v =
+      constant_on_components (least_merged ends X) Y (λ e m. member_within X e (same e ∙ m)) _ v (least_merged-fixed Y v) in
+      omega (arith, least_merged-le Y (least_merged ends X v), least_merged-le X (least_merged ends Y v))

@@ -1,7 +1,8 @@
 //! Graphic matroids.
-ghost use Rattle.std.specs.Prelude.{⊤, ◌≡◌, ℕ, List, ◌∷◌, ◌<◌, ◌==◌, not, length, slice_index, IfOk};
+ghost use Rattle.std.specs.Prelude.{⊤, ◌≡◌, ℕ, List, [], ◌∷◌, ◌<◌, ◌==◌, not, length, slice_index, IfOk};
 ghost use Rattle.mat_sets.specs.Graphs.{IsGraph, ends_of};
 ghost use Rattle.mat_sets.specs.Sets.{AllBelow, IsRising};
+ghost use Rattle.mat_laws.specs.GreedyRuns.{grown_along};
 ghost use Rattle.mat_graphic.specs.Forests.{IsLeastReached, is_forest, is_graphic};
 ghost use Rattle.mat_graphic.specs.Mergings.{least_merged};
 ghost use Rattle.mat_graphic.specs.ForestLaws.{graphic_laws};
@@ -68,6 +69,28 @@ fn are_forest(parent: &mut [u32], edges: &[(u32, u32)], set: &ElemSet) -> bool
         }
     }
     true
+}
+
+// The greedy run along an order: each edge whose ends are in two components of those before it enters.
+fn forest_along(
+    alloc: Global,
+    parent: &mut [u32],
+    edges: &[(u32, u32)],
+    order: &[u32],
+) -> Result<ElemSet, AllocError>
+    requires graph { IsGraph (length parent.old) edges.now }
+    requires below { AllBelow (length edges.now) order.now }
+    requires descending { IsDescending parent.old }
+    requires single { IsParentTable (λ v. v) parent.old }
+    ensures { IfOk result (λ set. set ≡ grown_along (is_graphic (length edges.now) (ends_of edges.now)) [] order.now) }
+{
+    let mut set = ElemSet::new(alloc);
+    for x in order {
+        if unite_ends(parent, edges, *x) {
+            set.add(*x)?;
+        }
+    }
+    Ok(set)
 }
 
 impl Graphic {
@@ -151,6 +174,14 @@ impl Matroid for Graphic {
                 with: base.copy(alloc)?,
             }),
         }
+    }
+
+    /// The greedy run along an order, by one union-find: an edge enters where its ends are in two components of those
+    /// before it (Schrijver, chapter 50). The time is nearly linear in the number of vertices and of edges, but for
+    /// putting the edges in order. The only error is want of memory.
+    fn run(&self, alloc: Global, order: &[u32]) -> Result<ElemSet, AllocError> {
+        let mut parent = singletons(alloc, self.vertices)?;
+        forest_along(alloc, &mut parent, self.edges.as_slice(), order)
     }
 
     /// Nothing is kept.

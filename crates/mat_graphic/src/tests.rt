@@ -106,6 +106,16 @@ fn an_edge_between_two_components_is_exchanged_for_any(rt: HostRuntime) -> Resul
     Ok(())
 }
 
+// Of the order 6, 4, 3, 2, 5, 0, 1 the edge 4 is a loop, 5 is parallel to 6, and 1 closes the square.
+#[test]
+fn a_run_leaves_out_what_closes_a_walk(rt: HostRuntime) -> Result<(), Fail> {
+    let alloc = rt.alloc();
+    let matroid = square(alloc)?;
+    let set = matroid.run(alloc, &[6, 4, 3, 2, 5, 0, 1])?;
+    assert_eq!(rt; set.as_slice(), [0, 2, 3, 6].as_slice());
+    Ok(())
+}
+
 // Of a loop and two parallel edges with the weights 3, 2 and 1 the heaviest independent set of one element is that of
 // edge 1, and there is none of two.
 #[test]

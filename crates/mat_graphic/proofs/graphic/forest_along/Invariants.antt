@@ -1,0 +1,16 @@
+use Rattle.std.proofs.Common.{length}
+use Rattle.mat_sets.specs.Graphs.{ends_of}
+use Rattle.mat_laws.proofs.GreedyRunSteps.{IsRunning}
+use Rattle.mat_graphic.specs.Forests.{is_graphic}
+use Rattle.mat_graphic.specs.Mergings.{least_merged}
+use Rattle.mat_graphic.specs.ParentTables.{IsDescending, IsParentTable}
+use Rattle.mat_graphic.proofs.graphic.forest_along.Given as goal
+
+-- the set has come over the edges so far, and the table is of its components
+abbrev pub invariant-loop-x : goal.invariant-loop-x
+invariant-loop-x l =
+    record {
+      running : IsRunning (is_graphic (length l.edges) (ends_of l.edges)) l.order l.x-index l.set;
+      descending : IsDescending l.parent;
+      united : IsParentTable (least_merged (ends_of l.edges) l.set) l.parent;
+    }
