@@ -5,3 +5,4 @@ pub mod EdgeRows
 pub mod TrailTables
 pub mod TrailScans
 pub mod GraphicRuns
+pub mod Climbing

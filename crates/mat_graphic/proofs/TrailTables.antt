@@ -1,13 +1,14 @@
 -- The tables of a search for a trail: the places of each vertex in a list, the ends of the members of a set, and the vertices found so far.
 use Rattle.std.proofs.Common.{is_some, ◌≡◌, ℕ, suc, ◌<◌, ◌≤◌, ◌≢◌, Bool, true, false, ◌&&◌, ltb, List, [], ◌∷◌, ◌++◌, length, get_or, set, Option, Some, None, ◌⊎◌, inl, inr, refl, sym, ap, ◌∙◌, subst, arith, get_or-set_other, get_or-set_same, length-set, length-append}
-use Rattle.std.proofs.lemmas.Bool.{cases_eq, cases_lt, eq-eqb, ne_eqb, lt-ltb, both_ways}
+use Rattle.std.proofs.lemmas.Bool.{cases_eq, cases_lt, eq-eqb, ne_eqb, lt-ltb, both_ways, false_from_ne_true}
 use Rattle.std.proofs.lemmas.List.{get_or_append_left, get_or_default}
 use Rattle.std.proofs.Math.Seq.{get_or-append_seam}
 use Rattle.mat_sets.specs.Sets.{is_member, AllBelow}
 use Rattle.mat_sets.specs.Search.{IsNextFrom}
 use Rattle.mat_sets.specs.Graphs.{Joins}
-use Rattle.mat_sets.proofs.Members.{is_member-get_or}
-use Rattle.mat_graphic.specs.TrailSearches.{stands_at, ArePlaces, IsOrder, IsTree}
+use Rattle.mat_sets.proofs.Members.{is_member-get_or, place_of_member}
+use Rattle.mat_graphic.specs.Mergings.{least_merged}
+use Rattle.mat_graphic.specs.TrailSearches.{stands_at, ArePlaces, IsFindable, IsOrder, IsTree}
 
 stands_here : (list : List ℕ) (i : ℕ) → i < length list → stands_at list (get_or list i 0) i ≡ true
 stands_here list i l = rw (lt-ltb i (length list) l, eq-eqb (get_or list i 0) (get_or list i 0) refl) refl
@@ -102,6 +103,12 @@ module _ (place : List (Option ℕ)) (order through before : List ℕ) (o : IsOr
   not_found v None l read h = entry_of place v None l read
   not_found v (Some k) l read h = absurd (both_ways true h refl)
 
+  pub found_place : (v : ℕ) (entry : Option ℕ) → v < length place → entry ≡ get_or place v entry → is_member v order ≡ true
+      → (k : ℕ) × (entry ≡ Some k) × (k < length order) × (get_or order k 0 ≡ v)
+  found_place v entry l read m =
+      let w = place_of_member v order m in
+      (w.0, sym (entry_of place v entry l read) ∙ ap (λ z. get_or place z None) (sym w.2) ∙ o.placed w.0 w.1, w.1, w.2)
+
   pub found_now : (v : ℕ) → is_member v (order ++ v ∷ []) ≡ true
   found_now v = is_member-get_or (order ++ v ∷ []) (length order) v (let long = length-append order (v ∷ []) in omega arith)
       (get_or-append_seam order v [] 0)
@@ -116,7 +123,7 @@ module _ (place : List (Option ℕ)) (order through before : List ℕ) (o : IsOr
         inr (here, ap (λ j. get_or (xs ++ x ∷ []) j 0) (here ∙ sym long) ∙ get_or-append_seam xs x [] 0))
   ]
 
-  module _ (u e at : ℕ) (small : u < length place) (fresh : get_or place u None ≡ None) (inside : at < length order) where
+  module _ (u e at : ℕ) (small : u < length place) (fresh : get_or place u None ≡ None) (inside : at ≤ length order) where
     placed_more : (k : ℕ) → k < length (order ++ u ∷ [])
         → get_or (set place u (Some (length order))) (get_or (order ++ u ∷ []) k 0) None ≡ Some k
     placed_more k l = elim (pushed_at order u k refl l) [
@@ -152,9 +159,9 @@ module _ (place : List (Option ℕ)) (order through before : List ℕ) (o : IsOr
       known = λ v k l. known_more v k (let same = length-set place u (Some (length order)) in omega arith);
       through_long = let long = o.through_long in let a = length-append through (e ∷ []) in let b = length-append order (u ∷ []) in omega arith;
       before_long = let long = o.before_long in let a = length-append before (at ∷ []) in let b = length-append order (u ∷ []) in omega arith;
-      earlier = λ k positive l. elim (cases_lt k (length order)) [
+      earlier = λ k l. elim (cases_lt k (length order)) [
         | inl less ↦ (let h = get_or_append_left before (at ∷ []) 0 k
-            (let long = o.before_long in omega arith) in let was = o.earlier k positive less in omega arith)
+            (let long = o.before_long in omega arith) in let was = o.earlier k less in omega arith)
         | inr le ↦ (let all = length-append order (u ∷ []) in
             let here : k ≡ length before = (let long = o.before_long in omega arith) in
             let h = ap (λ j. get_or (before ++ at ∷ []) j 0) here ∙ get_or-append_seam before at [] 0 in
@@ -167,29 +174,46 @@ module _ (place : List (Option ℕ)) (order through before : List ℕ) (o : IsOr
     IsOrder-last k same = subst (λ j. IsOrder (set place u (Some j)) (order ++ u ∷ []) (through ++ e ∷ []) (before ++ at ∷ []))
         (sym same) IsOrder-more
 
-    pub IsTree-more : (ends : ℕ → ℕ × ℕ) (X : List ℕ) (start : ℕ) → is_member e X ≡ true → Joins ends e u (get_or order at 0)
-        → IsTree ends X start order through before
-        → IsTree ends X start (order ++ u ∷ []) (through ++ e ∷ []) (before ++ at ∷ [])
-    IsTree-more ends X start member joins t = record {
-      some = let some = t.some in let all = length-append order (u ∷ []) in omega arith;
-      first = get_or_append_left order (u ∷ []) 0 0 t.some ∙ t.first;
-      member = λ k positive l. elim (cases_lt k (length order)) [
-        | inl less ↦ ap (λ z. is_member z X) (get_or_append_left through (e ∷ []) 0 k (let long = o.through_long in omega arith))
-            ∙ t.member k positive less
-        | inr le ↦ ap (λ z. is_member z X) (last through e k o.through_long le l) ∙ member
+    pub IsTree-more : (ends : ℕ → ℕ × ℕ) (X : List ℕ) → IsFindable ends X order u e at → IsTree ends X order through before
+        → IsTree ends X (order ++ u ∷ []) (through ++ e ∷ []) (before ++ at ∷ [])
+    IsTree-more ends X f t = record {
+      member = λ k l down. elim (cases_lt k (length order)) [
+        | inl less ↦ ap (λ z. is_member z X) (kept through e k o.through_long less)
+            ∙ t.member k less (let same = kept before at k o.before_long less in omega arith)
+        | inr le ↦ ap (λ z. is_member z X) (last through e k o.through_long le l) ∙ f.member (let same = last before at k o.before_long le l in
+            let a = length-append order (u ∷ []) in omega arith)
       ];
-      joined = λ k positive l. elim (cases_lt k (length order)) [
-        | inl less ↦ joined_at (get_or_append_left through (e ∷ []) 0 k (let long = o.through_long in omega arith))
-            (get_or_append_left order (u ∷ []) 0 k less)
-            (ap (λ j. get_or (order ++ u ∷ []) j 0) (get_or_append_left before (at ∷ []) 0 k (let long = o.before_long in omega arith))
-            ∙ get_or_append_left order (u ∷ []) 0 (get_or before k 0) (let was = o.earlier k positive less in omega arith))
-            (t.joined k positive less)
-        | inr le ↦ joined_at (last through e k o.through_long le l) (last order u k refl le l)
-            (ap (λ j. get_or (order ++ u ∷ []) j 0) (last before at k o.before_long le l) ∙ get_or_append_left order
-            (u ∷ []) 0 at inside) joins
+      joined = λ k l down. elim (cases_lt k (length order)) [
+        | inl less ↦ (let same = kept before at k o.before_long less in
+            let was : get_or before k 0 < k = omega arith in
+            joined_at (kept through e k o.through_long less) (kept order u k refl less)
+            (ap (λ j. get_or (order ++ u ∷ []) j 0) same ∙ kept order u (get_or before k 0) refl (omega arith)) (t.joined k less was))
+        | inr le ↦ (let same = last before at k o.before_long le l in
+            let a = length-append order (u ∷ []) in
+            let early : at < length order = omega arith in
+            joined_at (last through e k o.through_long le l) (last order u k refl le l)
+            (ap (λ j. get_or (order ++ u ∷ []) j 0) same ∙ kept order u at refl early) (f.joined early))
+      ];
+      apart = λ k l own j less. elim (cases_lt k (length order)) [
+        | inl small ↦ (let same = kept before at k o.before_long small in
+            differ_at (kept order u j refl (omega arith)) (kept order u k refl small) (t.apart k small (omega arith) j less))
+        | inr le ↦ (let same = last before at k o.before_long le l in
+            let a = length-append order (u ∷ []) in
+            differ_at (kept order u j refl (omega arith)) (last order u k refl le l) (f.apart (omega arith) out j (omega arith)))
       ];
     }
       where
+        out : is_member u order ≡ false
+        out = false_from_ne_true _ (λ m. (let w = place_of_member u order m in
+            both_ways (is_some (get_or place u None)) (ap is_some fresh) (ap is_some (ap (λ v. get_or place v None) (sym w.2) ∙ o.placed w.0 w.1))))
+
+        kept : (xs : List ℕ) (x k : ℕ) → length xs ≡ length order → k < length order → get_or (xs ++ x ∷ []) k 0 ≡ get_or xs k 0
+        kept xs x k long l = get_or_append_left xs (x ∷ []) 0 k (omega arith)
+
+        differ_at : {v w x y : ℕ} → v ≡ x → w ≡ y → least_merged ends X x ≢ least_merged ends X y
+            → least_merged ends X v ≢ least_merged ends X w
+        differ_at {v} {w} {x} {y} a b d = λ same. d (ap (least_merged ends X) (sym a) ∙ same ∙ ap (least_merged ends X) b)
+
         last : (xs : List ℕ) (x k : ℕ) → length xs ≡ length order → length order ≤ k → k < length (order ++ u ∷ [])
             → get_or (xs ++ x ∷ []) k 0 ≡ x
         last xs x k long le l =

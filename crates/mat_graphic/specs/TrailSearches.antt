@@ -1,9 +1,10 @@
 -- The algorithm's own notions, by which its private functions are told: the search for a trail between two vertices, in which all vertices that
 -- members of a set of edges join to a start are found, each from one found earlier. No public contract rests on them.
-use Rattle.std.specs.Prelude.{◌≡◌, ℕ, suc, ◌<◌, ◌≤◌, Bool, true, ◌&&◌, ◌==◌, nat_lt, List, length, slice_index, slice_index_or, Option, Some, None}
-use Rattle.mat_sets.specs.Sets.{is_member, AllBelow, AreDistinct, IsSubset}
+use Rattle.std.specs.Prelude.{◌≡◌, ◌≢◌, ℕ, suc, ◌<◌, ◌≤◌, Bool, true, false, ◌&&◌, ◌==◌, nat_lt, List, length, slice_index, slice_index_or, Option, Some, None}
+use Rattle.mat_sets.specs.Sets.{is_member, AllBelow, AreDistinct, IsRising, IsSubset}
 use Rattle.mat_sets.specs.Search.{IsNextFrom}
 use Rattle.mat_sets.specs.Graphs.{Joins, Walk}
+use Rattle.mat_graphic.specs.Mergings.{least_merged}
 
 -- whether v stands in the list at i
 abbrev pub stands_at : List ℕ → ℕ → ℕ → Bool
@@ -22,28 +23,49 @@ pub record AreEnds (ends : ℕ → ℕ × ℕ) (X firsts seconds : List ℕ) : T
   pub first : (i : ℕ) → i < length X → slice_index firsts i ≡ (ends (slice_index X i)).0
   pub second : (i : ℕ) → i < length X → slice_index seconds i ≡ (ends (slice_index X i)).1
 
--- different vertices in the order in which they were found, with the place of each; each but the first was found from an earlier place
+-- different vertices in the order in which they were found, with the place of each; each was found from an earlier place, but for the roots,
+-- which have their own
 pub record IsOrder (place : List (Option ℕ)) (order through before : List ℕ) : Type 0 where
   pub below : AllBelow (length place) order
   pub placed : (k : ℕ) → k < length order → slice_index_or place (slice_index order k) None ≡ Some k
   pub known : (v k : ℕ) → v < length place → slice_index_or place v None ≡ Some k → (k < length order) × (slice_index order k ≡ v)
   pub through_long : length through ≡ length order
   pub before_long : length before ≡ length order
-  pub earlier : (k : ℕ) → 0 < k → k < length order → slice_index before k < k
+  pub earlier : (k : ℕ) → k < length order → slice_index before k ≤ k
 
--- each vertex but the start was found through a member of X that joins it to the vertex at its earlier place
-pub record IsTree (ends : ℕ → ℕ × ℕ) (X : List ℕ) (start : ℕ) (order through before : List ℕ) : Type 0 where
-  pub some : 0 < length order
-  pub first : slice_index order 0 ≡ start
-  pub member : (k : ℕ) → 0 < k → k < length order → is_member (slice_index through k) X ≡ true
-  pub joined : (k : ℕ) → 0 < k → k < length order
+-- each vertex but the roots was found through a member of X that joins it to the vertex at its earlier place, and each root is in another
+-- component than the vertices before it
+pub record IsTree (ends : ℕ → ℕ × ℕ) (X order through before : List ℕ) : Type 0 where
+  pub member : (k : ℕ) → k < length order → slice_index before k < k → is_member (slice_index through k) X ≡ true
+  pub joined : (k : ℕ) → k < length order → slice_index before k < k
       → Joins ends (slice_index through k) (slice_index order k) (slice_index order (slice_index before k))
+  pub apart : (k : ℕ) → k < length order → slice_index before k ≡ k → (j : ℕ) → j < k
+      → least_merged ends X (slice_index order j) ≢ least_merged ends X (slice_index order k)
+
+-- a member of X joins the vertex to the one at this place; or it is the place after the last one, and a vertex that is not yet found is in
+-- another component than those before
+pub record IsFindable (ends : ℕ → ℕ × ℕ) (X order : List ℕ) (vertex edge at : ℕ) : Type 0 where
+  pub member : at < length order → is_member edge X ≡ true
+  pub joined : at < length order → Joins ends edge vertex (slice_index order at)
+  pub apart : at ≡ length order → is_member vertex order ≡ false → (j : ℕ) → j < length order
+      → least_merged ends X (slice_index order j) ≢ least_merged ends X vertex
 
 -- each member of the set that stands at a place is one of X and joins the head there to the tail there
 abbrev pub AreJoined : (ℕ → ℕ × ℕ) → List ℕ → List ℕ → List ℕ → List ℕ → Type 0
 AreJoined ends X tails heads set =
     ((i : ℕ) → i < length tails → is_member (slice_index set i) X ≡ true)
     × ((i : ℕ) → i < length tails → Joins ends (slice_index set i) (slice_index heads i) (slice_index tails i))
+
+-- each edge of the vertices before place `at` leads to a found vertex, and the vertices found so far are those of a forest
+pub record IsExploring (firsts seconds set : List ℕ) (n at : ℕ) (place : List (Option ℕ)) (order through before : List ℕ) : Type 0 where
+  pub long : length place ≡ n
+  pub ordered : IsOrder place order through before
+  pub within : at ≤ length order
+  pub forth : (k i : ℕ) → k < at → i < length firsts → slice_index firsts i ≡ slice_index order k
+      → is_member (slice_index seconds i) order ≡ true
+  pub back : (k i : ℕ) → k < at → i < length seconds → slice_index seconds i ≡ slice_index order k
+      → is_member (slice_index firsts i) order ≡ true
+  pub tree : (ends : ℕ → ℕ × ℕ) → IsRising set → AreEnds ends set firsts seconds → IsTree ends set order through before
 
 -- ys begins with xs
 pub record IsFront (xs ys : List ℕ) : Type 0 where

@@ -1,14 +1,15 @@
 //! Graphic matroids.
-ghost use Rattle.std.specs.Prelude.{⊤, ◌≡◌, ℕ, List, [], ◌∷◌, ◌<◌, ◌==◌, not, length, slice_index, IfOk};
+ghost use Rattle.std.specs.Prelude.{◌≡◌, ℕ, List, [], ◌∷◌, ◌<◌, ◌==◌, not, length, slice_index, IfOk};
 ghost use Rattle.mat_sets.specs.Graphs.{IsGraph, ends_of};
 ghost use Rattle.mat_sets.specs.Sets.{AllBelow, IsRising};
 ghost use Rattle.mat_laws.specs.GreedyRuns.{grown_along};
 ghost use Rattle.mat_graphic.specs.Forests.{IsLeastReached, is_forest, is_graphic};
 ghost use Rattle.mat_graphic.specs.Mergings.{least_merged};
 ghost use Rattle.mat_graphic.specs.ForestLaws.{graphic_laws};
+ghost use Rattle.mat_graphic.specs.RootedForests.{IsRootedForest};
 ghost use Rattle.mat_graphic.specs.ParentTables.{IsDescending, IsParentTable};
 
-use crate::trail::trail;
+use crate::rooted_forest::{root_trees, trail, RootedForest};
 use crate::union_find::{settle, singletons, unite};
 use mat_laws::{Exchange, Matroid};
 use mat_sets::{ElemSet, Pairs};
@@ -143,9 +144,9 @@ impl Matroid for Graphic {
 
     ghost indep = { λ m. is_graphic (length m.edges) (ends_of m.edges) };
 
-    type Kept = ();
+    type Kept = RootedForest;
 
-    ghost keeps = { λ _ _ _. ⊤ };
+    ghost keeps = { λ m base kept. IsRootedForest m.vertices (ends_of m.edges) base kept };
 
     ghost laws = { λ m h. graphic_laws (length m.edges) (ends_of m.edges) };
 
@@ -158,22 +159,10 @@ impl Matroid for Graphic {
         Ok(are_forest(&mut parent, self.edges.as_slice(), set))
     }
 
-    /// The exchanges of an edge outside a forest: where its ends are in two components it can be added, and exchanged for
-    /// any member; else it can be exchanged for the members of the trail between its ends. One search of the forest.
+    /// The exchanges of an edge outside a forest: its trees are rooted, and the edge is asked.
     fn circuit(&self, alloc: Global, base: &ElemSet, x: u32) -> Result<Exchange, AllocError> {
-        self.lawful();
-        let edges = self.edges.as_slice();
-        let (first, second) = edges[x as usize];
-        match trail(alloc, self.vertices, edges, base, second, first)? {
-            Some(with) => Ok(Exchange {
-                addable: false,
-                with,
-            }),
-            None => Ok(Exchange {
-                addable: true,
-                with: base.copy(alloc)?,
-            }),
-        }
+        let kept = self.keep(alloc, base)?;
+        self.row(alloc, base, &kept, x)
     }
 
     /// The greedy run along an order, by one union-find: an edge enters where its ends are in two components of those
@@ -184,8 +173,31 @@ impl Matroid for Graphic {
         forest_along(alloc, &mut parent, self.edges.as_slice(), order)
     }
 
-    /// Nothing is kept.
-    fn keep(&self, _alloc: Global, _base: &ElemSet) -> Result<(), AllocError> {
-        Ok(())
+    /// The trees of a forest are rooted, in time linear in the numbers of vertices and of members.
+    fn keep(&self, alloc: Global, base: &ElemSet) -> Result<RootedForest, AllocError> {
+        self.lawful();
+        root_trees(alloc, self.vertices, self.edges.as_slice(), base)
+    }
+
+    /// The exchanges of an edge outside a forest: where its ends are in two trees it can be added, and exchanged for any
+    /// member; else it can be exchanged for the members of the trail between its ends, which are found by climbing from both.
+    fn row(
+        &self,
+        alloc: Global,
+        base: &ElemSet,
+        kept: &RootedForest,
+        x: u32,
+    ) -> Result<Exchange, AllocError> {
+        let (first, second) = self.edges.get(x as usize);
+        match trail(alloc, kept, second, first)? {
+            Some(with) => Ok(Exchange {
+                addable: false,
+                with,
+            }),
+            None => Ok(Exchange {
+                addable: true,
+                with: base.copy(alloc)?,
+            }),
+        }
     }
 }

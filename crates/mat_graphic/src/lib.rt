@@ -3,9 +3,10 @@
 
 mod graphic;
 pub mod laws;
+mod rooted_forest;
 #[cfg(test)]
 mod tests;
-mod trail;
 mod union_find;
 
 pub use graphic::Graphic;
+pub use rooted_forest::RootedForest;

@@ -106,6 +106,41 @@ fn an_edge_between_two_components_is_exchanged_for_any(rt: HostRuntime) -> Resul
     Ok(())
 }
 
+// Of the base 0, 1, 3, 5 edge 2 joins the ends of the branches 1, 0 and 3 at vertex 0, and edge 6 is parallel to 5.
+#[test]
+fn rows_come_from_the_rooted_forest(rt: HostRuntime) -> Result<(), Fail> {
+    let alloc = rt.alloc();
+    let matroid = square(alloc)?;
+    let base = set_of(alloc, 7, &[0, 1, 3, 5])?;
+    assert!(rt; matroid.independent(alloc, &base)?);
+    assert!(rt; !base.contains(2) && !base.contains(4) && !base.contains(6));
+    let kept = matroid.keep(alloc, &base)?;
+    let round = matroid.row(alloc, &base, &kept, 2)?;
+    assert!(rt; !round.addable);
+    assert_eq!(rt; round.with.as_slice(), [0, 1, 3].as_slice());
+    let parallel = matroid.row(alloc, &base, &kept, 6)?;
+    assert!(rt; !parallel.addable);
+    assert_eq!(rt; parallel.with.as_slice(), [5].as_slice());
+    let single = matroid.row(alloc, &base, &kept, 4)?;
+    assert!(rt; !single.addable && single.with.is_empty());
+    Ok(())
+}
+
+// Of the forest 1, 3 edge 0 joins its two trees.
+#[test]
+fn a_row_between_two_trees_adds(rt: HostRuntime) -> Result<(), Fail> {
+    let alloc = rt.alloc();
+    let matroid = square(alloc)?;
+    let base = set_of(alloc, 7, &[1, 3])?;
+    assert!(rt; matroid.independent(alloc, &base)?);
+    assert!(rt; !base.contains(0));
+    let kept = matroid.keep(alloc, &base)?;
+    let row = matroid.row(alloc, &base, &kept, 0)?;
+    assert!(rt; row.addable);
+    assert!(rt; row.with == base);
+    Ok(())
+}
+
 // Of the order 6, 4, 3, 2, 5, 0, 1 the edge 4 is a loop, 5 is parallel to 6, and 1 closes the square.
 #[test]
 fn a_run_leaves_out_what_closes_a_walk(rt: HostRuntime) -> Result<(), Fail> {

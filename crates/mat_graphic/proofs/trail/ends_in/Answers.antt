@@ -1,9 +1,0 @@
-use Rattle.std.proofs.Common.{length}
-use Rattle.mat_sets.proofs.Sums.{AllBelow-at}
-use Rattle.mat_graphic.proofs.trail.ends_in.Goals as goal
-
-pub bounds-edges-e : goal.bounds-edges-e
-bounds-edges-e c = AllBelow-at (length c.args.edges.now) c.args.set.now c.loop-e.e-index c.requires c.loop-e-test.true
-
-pub bounds-edges-e-in-loop-e : goal.bounds-edges-e-in-loop-e
-bounds-edges-e-in-loop-e c = AllBelow-at (length c.args.edges.now) c.args.set.now c.loop-e.e-index c.requires c.loop-e-test.true

@@ -1,6 +1,0 @@
-use Rattle.mat_sets.specs.Graphs.{ends_of}
-use Rattle.mat_graphic.proofs.TrailTables.{AreEndsBefore}
-use Rattle.mat_graphic.proofs.trail.ends_in.Given as goal
-
-abbrev pub invariant-loop-e : goal.invariant-loop-e
-invariant-loop-e l = AreEndsBefore (ends_of l.edges) l.set l.e-index l.firsts.items l.seconds.items

@@ -1,6 +1,0 @@
-use Rattle.std.proofs.Common.{◌≡◌, length}
-use Rattle.mat_graphic.specs.TrailSearches.{ArePlaces}
-use Rattle.mat_graphic.proofs.trail.places_of.Given as goal
-
-abbrev pub invariant-loop-i : goal.invariant-loop-i
-invariant-loop-i l = record { long : length l.first.items ≡ l.vertices; places : ArePlaces l.list l.i l.first.items l.next.items }
