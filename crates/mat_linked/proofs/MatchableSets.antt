@@ -9,7 +9,7 @@ use Rattle.mat_sets.proofs.ListParts.{is_member-tail}
 use Rattle.mat_sets.proofs.Members.{is_member-head}
 use Rattle.mat_sets.proofs.Steps.{is_member-take_next, take-with_one}
 use Rattle.mat_flow.specs.LinkTables.{entry_at}
-use Rattle.mat_flow.proofs.LinkTables.{entry_inside, some_is_one}
+use Rattle.mat_flow.proofs.LinkTables.{entry_inside, none_is_not_some, some_is_one}
 use Rattle.mat_linked.specs.Matchings.{AreIndices, AreMatchable, IsMatchedOrNone, IsMatching}
 use Rattle.mat_linked.specs.TransversalLaws.{is_transversal-from, is_transversal-gives}
 use Rattle.mat_linked.specs.Transversals.{is_transversal, lie_in_sets, IsPartialTransversal}
@@ -20,6 +20,17 @@ pub entry_at-replicate : (n j : ℕ) → entry_at (replicate n None) j ≡ None
 entry_at-replicate zero j = refl
 entry_at-replicate (suc n) zero = refl
 entry_at-replicate (suc n) (suc j) = entry_at-replicate n j
+
+pub IsMatching-none : (rows : List (List ℕ)) (n : ℕ) → IsMatching rows [] (replicate n None)
+IsMatching-none rows n = record {
+  held = λ j x e. absurd (nothing j x e);
+  inside = λ j x e. absurd (nothing j x e);
+  covered = λ x m. absurd (false≢true m);
+  once = λ j k x e f. absurd (nothing j x e);
+}
+  where
+    nothing : (j x : ℕ) → entry_at (replicate n None) j ≡ Some x → ⊥
+    nothing j x e = none_is_not_some x (sym (entry_at-replicate n j) ∙ e)
 
 -- an element that stands somewhere has a row
 pub element_below : (rows : List (List ℕ)) (X : List ℕ) (matched : List (Option ℕ)) → IsMatching rows X matched → (j x : ℕ)
@@ -163,6 +174,18 @@ module _ (rows : List (List ℕ)) (sets : ℕ) (elements : List ℕ) where
     matching = subst (IsMatchedOrNone rows (take (i + 1) elements) new) was (told_here i old new found rises l m told);
   }
 
+  -- where all can be matched, each is
+  pub AreMatchedTo-forced : (i : ℕ) (old new : List (Option ℕ)) (found : Bool) → IsRising elements → i < length elements
+      → AreMatchedTo i old → IsTold i old new found → length new ≡ length old → AreMatchable rows sets elements → AreMatchedTo (i + 1) new
+  AreMatchedTo-forced i old new true rises l m told long whole = AreMatchedTo-more i old new true rises l m told long refl
+  AreMatchedTo-forced i old new false rises l m told long whole =
+      absurd (told_here i old new false rises l m told (subst (λ n. AreMatchable rows n (take (i + 1) elements)) (sym (long ∙ m.long))
+      (AreMatchable-part rows sets (take (i + 1) elements) elements (take_inside elements (i + 1)) whole)))
+
+  pub matched_to_all : (i : ℕ) (matched : List (Option ℕ)) → length elements ≤ i → AreMatchedTo i matched
+      → IsMatching rows elements matched
+  matched_to_all i matched past m = subst (λ X. IsMatching rows X matched) (take_all i elements past) m.matching
+
   -- the answer, for each family that has these rows
   abbrev pub Answers : Bool → Type 0
   Answers b = (family : List (List ℕ)) → length family ≡ sets → AreIndices (length rows) family rows
@@ -181,4 +204,4 @@ module _ (rows : List (List ℕ)) (sets : ℕ) (elements : List ℕ) where
       → AreMatchedTo i matched → Answers true
   all_matched i matched rises below past m family size r =
       sym (matched_is_transversal (length rows) family rows r elements matched (record { rising = rises; below = below }) (m.long ∙ sym size)
-      (subst (λ X. IsMatching rows X matched) (take_all i elements past) m.matching))
+      (matched_to_all i matched past m))

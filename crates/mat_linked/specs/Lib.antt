@@ -6,3 +6,4 @@ pub mod GammoidLaws
 pub mod TransversalPaths
 pub mod TransversalLaws
 pub mod Matchings
+pub mod KeptMatchings

@@ -3,7 +3,7 @@
 use Rattle.std.specs.Prelude.{◌≡◌, ℕ, ◌<◌, Bool, true, false, ◌&&◌, nat_lt, List, length, Option, Some, None}
 use Rattle.mat_sets.specs.Sets.{is_member}
 use Rattle.mat_flow.specs.Digraphs.{row_at}
-use Rattle.mat_flow.specs.LinkTables.{entry_at}
+use Rattle.mat_flow.specs.LinkTables.{entry_at, is_before}
 
 -- for each element the indices of the sets that hold it
 pub record AreIndices (count : ℕ) (family rows : List (List ℕ)) : Type 0 where
@@ -33,6 +33,10 @@ pub record AreMatchable (rows : List (List ℕ)) (sets : ℕ) (X : List ℕ) : T
 abbrev pub IsMatchedOrNone : List (List ℕ) → List ℕ → List (Option ℕ) → Bool → Type 0
 IsMatchedOrNone rows X matched true = IsMatching rows X matched
 IsMatchedOrNone rows X matched false = AreMatchable rows (length matched) X → ⊥
+
+-- whether the element is the one that one of the sets with these indices is matched with
+abbrev pub is_matched_among : List (Option ℕ) → List ℕ → ℕ → Bool
+is_matched_among matched indices x = is_before matched indices x
 
 -- for each element the indices of those of the first k sets that hold it
 pub record AreEntered (count k : ℕ) (family rows : List (List ℕ)) : Type 0 where

@@ -3,6 +3,7 @@
 
 mod alternating;
 mod gammoid;
+mod kept_matching;
 mod laws;
 mod matching;
 #[cfg(test)]
@@ -10,5 +11,6 @@ mod tests;
 mod transversal;
 
 pub use gammoid::Gammoid;
+pub use kept_matching::KeptMatching;
 pub use laws::{gammoid_laws, gammoid_means, transversal_laws, transversal_means};
 pub use transversal::Transversal;

@@ -1,16 +1,18 @@
 //! Matchings of elements with sets that hold them, made larger along augmenting walks.
-ghost use Rattle.std.specs.Prelude.{◌≡◌, ◌<◌, ◌^◌, ℕ, List, Some, false, length, IfOk, OnOk};
-ghost use Rattle.mat_sets.specs.Sets.{is_member, with_one, AllBelow, IsRising};
+ghost use Rattle.std.specs.Prelude.{◌≡◌, ◌<◌, ◌^◌, ℕ, List, [], Some, false, length, IfOk, OnOk};
+ghost use Rattle.mat_sets.specs.Sets.{is_member, with_one, AllBelow, AreDistinct, IsRising};
 ghost use Rattle.mat_flow.specs.LinkTables.{entry_at};
-ghost use Rattle.mat_linked.specs.Matchings.{AreIndices, IsMatchedOrNone, IsMatching};
+ghost use Rattle.mat_laws.specs.GreedyRuns.{grown_along};
+ghost use Rattle.mat_linked.specs.Matchings.{AreIndices, AreMatchable, IsMatchedOrNone, IsMatching};
 ghost use Rattle.mat_linked.specs.Transversals.{is_transversal};
 
 use crate::alternating::Alternating;
 use mat_flow::shift_along;
-use mat_sets::{BitSet, WalkSearch, shortest_walk};
+use mat_sets::{BitSet, ElemSet, WalkSearch, shortest_walk};
 use std::alloc::{AllocError, Global};
 
 // Matches one element more, where that can be done, and tells whether it was: each element on the walk that is found moves on.
+// Where it cannot be done the matching stays as it was.
 fn match_one(
     alloc: Global,
     rows: &[BitSet],
@@ -23,6 +25,7 @@ fn match_one(
     ensures long { OnOk result (length matched.new.items ≡ length matched.old.items) }
     ensures matched { IfOk result (λ found. (X : List ℕ) → is_member element X ≡ false → IsMatching rows.now X matched.old.items
         → IsMatchedOrNone rows.now (with_one X element) matched.new.items found) }
+    ensures stays { IfOk result (λ found. found ≡ false → matched.new.items ≡ matched.old.items) }
 {
     let search = Alternating {
         rows,
@@ -58,4 +61,48 @@ pub(crate) fn are_matchable(
         }
     }
     Ok(true)
+}
+
+/// A matching of the elements of a set that can be matched: one search of the bits of the rows for each element. The only error
+/// is want of memory.
+pub(crate) fn matching_of(
+    alloc: Global,
+    rows: &[BitSet],
+    sets: u32,
+    elements: &[u32],
+) -> Result<Vec<Option<u32>>, AllocError>
+    requires below { AllBelow (length rows.now) elements.now }
+    requires rises { IsRising elements.now }
+    requires matchable { AreMatchable rows.now sets elements.now }
+    ensures long { IfOk result (λ matched. length matched.items ≡ sets) }
+    ensures matching { IfOk result (λ matched. IsMatching rows.now elements.now matched.items) }
+{
+    let mut matched = vec![in alloc; None; sets as usize]?;
+    for x in elements {
+        let _ = match_one(alloc, rows, &mut matched, *x)?;
+    }
+    Ok(matched)
+}
+
+/// The greedy run along an order: one matching that grows by one search of the bits of the rows for each element, and stays as
+/// it is where the element cannot be matched beside the others. The only error is want of memory.
+pub(crate) fn matched_along(
+    alloc: Global,
+    rows: &[BitSet],
+    sets: u32,
+    order: &[u32],
+) -> Result<ElemSet, AllocError>
+    requires below { AllBelow (length rows.now) order.now }
+    requires distinct { AreDistinct order.now }
+    ensures { IfOk result (λ set. (family : List (List ℕ)) → length family ≡ sets → AreIndices (length rows.now) family rows.now
+        → set ≡ grown_along (is_transversal (length rows.now) family) [] order.now) }
+{
+    let mut matched = vec![in alloc; None; sets as usize]?;
+    let mut set = ElemSet::new(alloc);
+    for x in order {
+        if match_one(alloc, rows, &mut matched, *x)? {
+            let _ = set.add(*x)?;
+        }
+    }
+    Ok(set)
 }

@@ -7,7 +7,7 @@ ghost use Rattle.mat_linked.specs.Transversals.{IsFamily};
 
 use crate::{Gammoid, Transversal};
 use mat_flow::Digraph;
-use mat_laws::Matroid;
+use mat_laws::{Exchange, Matroid};
 use mat_sets::{ElemSet, Pairs, SetList};
 use std::alloc::{AllocError, Global};
 use std::test::Fail;
@@ -143,5 +143,69 @@ fn elements_move_on_to_other_sets(rt: HostRuntime) -> Result<(), Fail> {
     assert!(rt; passes(alloc, &matroid, &[0, 1, 2])?);
     assert!(rt; !passes(alloc, &matroid, &[1, 2, 3])?);
     assert!(rt; !passes(alloc, &matroid, &[0, 1, 2, 3])?);
+    Ok(())
+}
+
+// Four elements and three sets, of which the third holds the first element alone.
+fn narrowing(alloc: Global) -> Result<Transversal, AllocError>
+    ensures count { IfOk result (λ t. t.count ≡ 4) }
+    ensures sound { IfOk result (λ t. IsFamily t.count t.sets) }
+{
+    let family = three(alloc, 4, &[0, 1, 3], &[0, 2, 3], &[0])?;
+    Transversal::new(alloc, 4, family)
+}
+
+#[test]
+fn a_run_goes_on_past_an_element_that_is_left_out(rt: HostRuntime) -> Result<(), Fail> {
+    let alloc = rt.alloc();
+    let matroid = narrowing(alloc)?;
+    let first = matroid.run(alloc, &[1, 2, 3, 0])?;
+    assert_eq!(rt; first.as_slice(), [0, 1, 2].as_slice());
+    let second = matroid.run(alloc, &[3, 0, 1, 2])?;
+    assert_eq!(rt; second.as_slice(), [0, 1, 3].as_slice());
+    Ok(())
+}
+
+// The exchanges of x by what is kept of the set of these members, where the set is independent and x is outside; else none.
+fn kept_row<M: Matroid>(
+    alloc: Global,
+    matroid: &M,
+    members: &[u32],
+    x: u32,
+) -> Result<Exchange, AllocError>
+    requires sound { M.sound matroid.now }
+    requires below { AllBelow (M.ground_size matroid.now) members.now }
+    requires element { x < M.ground_size matroid.now }
+{
+    let base = set_below(alloc, matroid.size(), members)?;
+    if base.contains(x) || !matroid.independent(alloc, &base)? {
+        let with = ElemSet::new(alloc);
+        return Ok(Exchange {
+            addable: false,
+            with,
+        });
+    }
+    let kept = matroid.keep(alloc, &base)?;
+    matroid.row(alloc, &base, &kept, x)
+}
+
+// Of {0, 1, 3} element 1 has the first set, 3 the second and 0 the third; element 2 is in the second alone.
+#[test]
+fn an_element_takes_the_place_of_those_that_it_reaches(rt: HostRuntime) -> Result<(), Fail> {
+    let alloc = rt.alloc();
+    let matroid = narrowing(alloc)?;
+    let row = kept_row(alloc, &matroid, &[0, 1, 3], 2)?;
+    assert!(rt; !row.addable);
+    assert_eq!(rt; row.with.as_slice(), [1, 3].as_slice());
+    Ok(())
+}
+
+#[test]
+fn an_element_that_can_be_added_takes_any_place(rt: HostRuntime) -> Result<(), Fail> {
+    let alloc = rt.alloc();
+    let matroid = narrowing(alloc)?;
+    let row = kept_row(alloc, &matroid, &[1, 2], 0)?;
+    assert!(rt; row.addable);
+    assert_eq!(rt; row.with.as_slice(), [1, 2].as_slice());
     Ok(())
 }

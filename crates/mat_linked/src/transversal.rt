@@ -1,14 +1,16 @@
 //! Transversal matroids.
-ghost use Rattle.std.specs.Prelude.{⊤, ◌≡◌, ◌<◌, ◌^◌, ◌&&◌, ◌||◌, ◌==◌, ℕ, [], length, IfOk, OnOk};
+ghost use Rattle.std.specs.Prelude.{◌≡◌, ◌<◌, ◌^◌, ◌&&◌, ◌||◌, ◌==◌, ℕ, [], length, IfOk, OnOk};
 ghost use Rattle.std.specs.List.{All};
 ghost use Rattle.mat_sets.specs.Sets.{is_member, AllBelow};
 ghost use Rattle.mat_flow.specs.Digraphs.{row_at};
+ghost use Rattle.mat_linked.specs.KeptMatchings.{IsKeptMatching};
 ghost use Rattle.mat_linked.specs.Matchings.{AreEntered, AreIndices};
 ghost use Rattle.mat_linked.specs.Transversals.{is_transversal, Family, IsFamily};
 ghost use Rattle.mat_linked.specs.TransversalLaws.{transversal_laws};
 
-use crate::matching::are_matchable;
-use mat_laws::Matroid;
+use crate::kept_matching::KeptMatching;
+use crate::matching::{are_matchable, matched_along};
+use mat_laws::{Exchange, Matroid};
 use mat_sets::{BitSet, ElemSet, SetList};
 use std::alloc::{AllocError, Global};
 use std::marker::Model;
@@ -110,9 +112,9 @@ impl Matroid for Transversal {
 
     ghost indep = { λ m. is_transversal m.count m.sets };
 
-    type Kept = ();
+    type Kept = KeptMatching;
 
-    ghost keeps = { λ _ _ _. ⊤ };
+    ghost keeps = { λ m base kept. IsKeptMatching m.count m.sets base kept };
 
     ghost laws = { λ m h. transversal_laws m.count m.sets h.inside };
 
@@ -126,8 +128,25 @@ impl Matroid for Transversal {
         are_matchable(alloc, &self.rows, self.family.len() as u32, set.as_slice())
     }
 
-    /// Nothing is kept.
-    fn keep(&self, _alloc: Global, _base: &ElemSet) -> Result<(), AllocError> {
-        Ok(())
+    /// The greedy run along an order: one matching, and one search of the bits of the rows for each element. The only error is
+    /// want of memory.
+    fn run(&self, alloc: Global, order: &[u32]) -> Result<ElemSet, AllocError> {
+        matched_along(alloc, &self.rows, self.family.len() as u32, order)
+    }
+
+    /// A matching of the set. The only error is want of memory.
+    fn keep(&self, alloc: Global, base: &ElemSet) -> Result<KeptMatching, AllocError> {
+        KeptMatching::new(alloc, &self.rows, self.family.len() as u32, base.as_slice())
+    }
+
+    /// The exchanges of an element by one search of the bits of the rows. The only error is want of memory.
+    fn row(
+        &self,
+        alloc: Global,
+        base: &ElemSet,
+        kept: &KeptMatching,
+        x: u32,
+    ) -> Result<Exchange, AllocError> {
+        kept.row(alloc, &self.rows, base, x)
     }
 }

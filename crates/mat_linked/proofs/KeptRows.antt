@@ -1,0 +1,203 @@
+-- The row of an element by what is kept of an independent set: where a walk to a free index is found the element can be added, and so put in
+-- the place of each member; else of those that are matched at reached indices.
+use Rattle.std.proofs.Common.{◌≡◌, ℕ, ◌+◌, ◌<◌, Bool, true, false, ◌||◌, eqb, List, [], ◌∷◌, length, get_or, filter, take, is_none, Option, Some, None, inl, inr, refl, sym, ap, ◌∙◌, subst, arith}
+use Rattle.std.proofs.lemmas.Bool.{both_ways, cases_Bool, eq-eqb, eqb-true, false_from_ne_true, false≢true, or_cases, or_left, or_right}
+use Rattle.std.specs.List.{All}
+use Rattle.mat_sets.specs.Sets.{is_member, with_one, without_one, intersection, AllBelow, IsRising, IsSet}
+use Rattle.mat_sets.specs.Walks.{IsReachedSet, IsShortestWalk}
+use Rattle.mat_sets.proofs.Filters.{filter-found, filter-passed, filter_whole}
+use Rattle.mat_sets.proofs.Ground.{AllBelow-member, IsSet-with_one, IsSet-without_one}
+use Rattle.mat_sets.proofs.Members.{filter_same_at, is_member-with_one, set_members}
+use Rattle.mat_flow.specs.Digraphs.{row_at}
+use Rattle.mat_flow.specs.LinkTables.{entry_at, is_there}
+use Rattle.mat_flow.proofs.Frontiers.{is_before_gives, is_before-more}
+use Rattle.mat_laws.specs.declared.exchange.Exchange.{Exchange}
+use Rattle.mat_laws.specs.Exchanges.{row_of}
+use Rattle.mat_laws.proofs.Rows.{row_outside}
+use Rattle.mat_linked.specs.Matchings.{is_held, is_matched_among, AreIndices, AreMatchable, IsMatching}
+use Rattle.mat_linked.specs.TransversalLaws.{is_transversal-gives, transversal_laws}
+use Rattle.mat_linked.specs.Transversals.{is_transversal, Family}
+use Rattle.mat_linked.proofs.AugmentedMatchings.{augmented}
+use Rattle.mat_linked.proofs.ExchangedMatchings.{exchanged, not_exchanged, shifted_along}
+use Rattle.mat_linked.proofs.MatchableSets.{matched_is_transversal, AreMatchable-transversal}
+use Rattle.mat_linked.proofs.StuckMatchings.{stuck}
+
+-- ---- what is kept
+
+-- the matching is one for any rows that have the indices of the family
+pub IsMatching-any_rows : (n : ℕ) (family rows others : List (List ℕ)) (X : List ℕ) (matched : List (Option ℕ)) → AllBelow n X
+    → AreIndices n family rows → AreIndices n family others → IsMatching rows X matched → IsMatching others X matched
+IsMatching-any_rows n family rows others X matched below r s t = record {
+  held = λ j x e. let l = AllBelow-member n X x below (t.inside j x e) in
+      s.members x j l ∙ sym (r.members x j l) ∙ t.held j x e;
+  inside = t.inside;
+  covered = t.covered;
+  once = t.once;
+}
+
+-- the rows that a matroid has are those of its family
+pub indices_of : (made m : Family) (rows lent : List (List ℕ)) → made ≡ m → lent ≡ rows → AreIndices made.count made.sets rows
+    → AreIndices m.count m.sets lent
+indices_of made m rows lent e f r =
+    subst (λ k. AreIndices k.count k.sets lent) e (subst (AreIndices made.count made.sets) (sym f) r)
+
+pub base_below : (n : ℕ) (family rows : List (List ℕ)) (X : List ℕ) → AreIndices n family rows → is_transversal n family X ≡ true
+    → AllBelow (length rows) X
+base_below n family rows X r h = subst (λ k. AllBelow k X) (sym r.long) (is_transversal-gives n family X h).set.below
+
+pub base_matchable : (made m : Family) (rows : List (List ℕ)) (X : List ℕ) (sets : ℕ) → made ≡ m → sets ≡ length made.sets
+    → AreIndices m.count m.sets rows → is_transversal m.count m.sets X ≡ true → AreMatchable rows sets X
+base_matchable made m rows X sets e size r h =
+    subst (λ k. AreMatchable rows k X) (sym (size ∙ ap (λ k. length k.sets) e))
+    (AreMatchable-transversal m.count m.sets rows r X (is_transversal-gives m.count m.sets X h))
+
+-- ---- the elements that some indices are matched with
+
+matched_among_from : (matched : List (Option ℕ)) (indices : List ℕ) (j x : ℕ) → is_member j indices ≡ true → entry_at matched j ≡ Some x
+    → is_matched_among matched indices x ≡ true
+matched_among_from matched [] j x m e = absurd (false≢true m)
+matched_among_from matched (i ∷ indices) j x m e = elim (or_cases (eqb j i) (is_member j indices) m) [
+  | inl same ↦ or_left (is_there x (entry_at matched i)) (is_matched_among matched indices x)
+      (ap (λ k. is_there x (entry_at matched k)) (sym (eqb-true j i same)) ∙ ap (is_there x) e ∙ eq-eqb x x refl)
+  | inr later ↦ or_right (is_there x (entry_at matched i)) (is_matched_among matched indices x) (matched_among_from matched indices j x later e)
+]
+
+-- one index more, matched or not
+pub matched_among-put : (matched : List (Option ℕ)) (indices : List ℕ) (i y : ℕ) (found : List ℕ) → i < length indices
+    → entry_at matched (get_or indices i 0) ≡ Some y → ((x : ℕ) → is_member x found ≡ is_matched_among matched (take i indices) x)
+    → (x : ℕ) → is_member x (with_one found y) ≡ is_matched_among matched (take (i + 1) indices) x
+matched_among-put matched indices i y found l e so_far x =
+    is_member-with_one x y found ∙ swapped (eqb x y) (is_member x found) (is_matched_among matched (take i indices) x) (so_far x)
+    ∙ ap (λ entry. is_matched_among matched (take i indices) x || is_there x entry) (sym e) ∙ sym (is_before-more matched indices i x l)
+  where
+    swapped : (a b c : Bool) → b ≡ c → (a || b) ≡ (c || a)
+    swapped a b c e = grind arith
+
+pub matched_among-passed : (matched : List (Option ℕ)) (indices : List ℕ) (i : ℕ) (found : List ℕ) → i < length indices
+    → entry_at matched (get_or indices i 0) ≡ None → ((x : ℕ) → is_member x found ≡ is_matched_among matched (take i indices) x)
+    → (x : ℕ) → is_member x found ≡ is_matched_among matched (take (i + 1) indices) x
+matched_among-passed matched indices i found l e so_far x =
+    so_far x ∙ or_none (is_matched_among matched (take i indices) x)
+    ∙ ap (λ entry. is_matched_among matched (take i indices) x || is_there x entry) (sym e) ∙ sym (is_before-more matched indices i x l)
+  where
+    or_none : (a : Bool) → a ≡ (a || false)
+    or_none true = refl
+    or_none false = refl
+
+-- ---- the members that are among some numbers
+
+pub intersection-found : (set among : List ℕ) (i : ℕ) → IsRising set → i < length set → is_member (get_or set i 0) among ≡ true
+    → with_one (intersection (take i set) among) (get_or set i 0) ≡ intersection (take (i + 1) set) among
+unfolding intersection
+intersection-found set among i r l m = filter-found (λ x. is_member x among) set i r l m
+
+pub intersection-passed : (set among : List ℕ) (i : ℕ) → i < length set → is_member (get_or set i 0) among ≡ false
+    → intersection (take i set) among ≡ intersection (take (i + 1) set) among
+unfolding intersection
+intersection-passed set among i l m = filter-passed (λ x. is_member x among) set i l m
+
+intersection_is : (p : ℕ → Bool) (X found : List ℕ) → ((y : ℕ) → is_member y X ≡ true → is_member y found ≡ p y)
+    → intersection X found ≡ filter p X
+unfolding intersection
+intersection_is p X found same = filter_same_at (λ y. is_member y found) p X same
+
+-- ---- the row
+
+module _ (rows : List (List ℕ)) (X : List ℕ) (matched : List (Option ℕ)) (element : ℕ) (t : IsMatching rows X matched)
+    (fresh : is_member element X ≡ false) (below : element < length rows) (family : List (List ℕ)) (size : length family ≡ length matched)
+    (inside : All (AllBelow (length rows)) family) (r : AreIndices (length rows) family rows)
+    (passes : is_transversal (length rows) family X ≡ true) where
+  abbrev is_independent : List ℕ → Bool
+  is_independent = is_transversal (length rows) family
+
+  abbrev arc : ℕ → ℕ → Bool
+  arc j = is_held rows (entry_at matched j)
+
+  abbrev start : ℕ → Bool
+  start j = is_member j (row_at rows element)
+
+  abbrev goal : ℕ → Bool
+  goal j = is_none (entry_at matched j)
+
+  set : IsSet (length rows) X
+  set = (is_transversal-gives (length rows) family X passes).set
+
+  matched_passes : (Y : List ℕ) (new : List (Option ℕ)) → IsSet (length rows) Y → length new ≡ length matched → IsMatching rows Y new
+      → is_independent Y ≡ true
+  matched_passes Y new s long m = matched_is_transversal (length rows) family rows r Y new s (long ∙ sym size) m
+
+  passes_matchable : (Y : List ℕ) → is_independent Y ≡ true → AreMatchable rows (length matched) Y
+  passes_matchable Y h =
+      subst (λ n. AreMatchable rows n Y) size
+      (AreMatchable-transversal (length rows) family rows r Y (is_transversal-gives (length rows) family Y h))
+
+  exchanged_set : (y : ℕ) → IsSet (length rows) (with_one (without_one X y) element)
+  exchanged_set y = IsSet-with_one (length rows) (without_one X y) element (IsSet-without_one (length rows) X y set) below
+
+  -- where a walk leads to a free index
+  addable : (walk : List ℕ) → IsShortestWalk (length matched) arc start goal walk → is_independent (with_one X element) ≡ true
+  addable walk w =
+      let s = shifted_along (length matched) arc start goal (Some element) walk matched refl w in
+      matched_passes (with_one X element) s.0 (IsSet-with_one (length rows) X element set below) s.1.long
+      (augmented (length matched) rows matched matched s.0 element walk walk refl refl w s.1 X fresh t)
+
+  smaller : (y k : ℕ) → is_member k (with_one (without_one X y) element) ≡ true → is_member k (with_one X element) ≡ true
+  smaller y k m = grind (arith, set_members)
+
+  row_with_walk : (walk : List ℕ) → IsShortestWalk (length matched) arc start goal walk
+      → record { addable = true; with = X } ≡ row_of is_independent X element
+  row_with_walk walk w =
+      let whole = addable walk w in
+      row_outside is_independent X element (record { addable = true; with = X }) fresh (sym whole)
+      (sym (filter_whole (λ y. is_independent (with_one (without_one X y) element)) X (λ y m.
+      (transversal_laws (length rows) family inside).subsets (with_one (without_one X y) element) (with_one X element)
+      (exchanged_set y).rising (record { inside = smaller y }) whole)))
+
+  pub row_added : (read : List (Option ℕ)) → read ≡ matched → (walk others : List ℕ) → others ≡ X
+      → IsShortestWalk (length read) (λ j. is_held rows (entry_at read j)) start (λ j. is_none (entry_at read j)) walk
+      → record { addable = true; with = others } ≡ row_of is_independent X element
+  row_added read same walk others is w =
+      ap row_of_all is
+      ∙ row_with_walk walk (subst
+      (λ b. IsShortestWalk (length b) (λ j. is_held rows (entry_at b j)) start (λ j. is_none (entry_at b j)) walk) same w)
+    where
+      row_of_all : List ℕ → Exchange
+      row_of_all set = record { addable = true; with = set }
+
+  -- where none does
+  module _ (reached : List ℕ) (reach : IsReachedSet (length matched) arc start reached)
+      (missed : (j : ℕ) → is_member j reached ≡ true → goal j ≡ false) where
+    exchange_is : (y : ℕ) → is_matched_among matched reached y ≡ is_independent (with_one (without_one X y) element)
+    exchange_is y = elim (cases_Bool (is_matched_among matched reached y)) [
+      | inl on ↦
+          let w = is_before_gives matched reached y on in
+          let s = exchanged (length matched) rows X matched element t fresh reached reach w.0 y refl w.1 w.2 in
+          on ∙ sym (matched_passes (with_one (without_one X y) element) s.0 (exchanged_set y) s.1 s.2)
+      | inr off ↦ off ∙ sym (false_from_ne_true _ (λ h.
+          not_exchanged (length matched) rows X matched element t fresh reached reach missed y
+          (λ j on e. both_ways _ off (matched_among_from matched reached j y on e))
+          (passes_matchable (with_one (without_one X y) element) h)))
+    ]
+
+    row_without_walk : (found : List ℕ) → ((y : ℕ) → is_member y found ≡ is_matched_among matched reached y)
+        → record { addable = false; with = intersection X found } ≡ row_of is_independent X element
+    row_without_walk found is =
+        row_outside is_independent X element (record { addable = false; with = intersection X found }) fresh
+        (sym (false_from_ne_true _ (λ h.
+        stuck (length matched) rows matched matched element reached refl refl reach missed X fresh t
+        (passes_matchable (with_one X element) h))))
+        (intersection_is (λ y. is_independent (with_one (without_one X y) element)) X found (λ y m. is y ∙ exchange_is y))
+
+  pub row_reached : (read : List (Option ℕ)) → read ≡ matched → (reached found others : List ℕ)
+      → IsReachedSet (length read) (λ j. is_held rows (entry_at read j)) start reached
+      → ((j : ℕ) → is_member j reached ≡ true → is_none (entry_at read j) ≡ false)
+      → ((y : ℕ) → is_member y found ≡ is_matched_among matched reached y) → others ≡ intersection X found
+      → record { addable = false; with = others } ≡ row_of is_independent X element
+  row_reached read same reached found others reach missed is are =
+      ap row_of_some are
+      ∙ row_without_walk reached
+      (subst (λ b. IsReachedSet (length b) (λ j. is_held rows (entry_at b j)) start reached) same reach)
+      (λ j on. sym (ap (λ b. is_none (entry_at b j)) same) ∙ missed j on) found is
+    where
+      row_of_some : List ℕ → Exchange
+      row_of_some set = record { addable = false; with = set }

@@ -1,0 +1,14 @@
+use Rattle.mat_linked.proofs.KeptRows.{base_below, base_matchable, indices_of}
+use Rattle.mat_linked.proofs.transversal.TransversalMatroid.keep.Goals as goal
+
+pub new-requires-clause-below : goal.new-requires-clause-below
+new-requires-clause-below c =
+    let m = c.args.self.now in
+    rw c.as_slice.ensures.items (base_below m.count m.sets c.deref.result.now c.args.base.now
+    (indices_of _ m _ c.deref.result.now c.self.view_is c.deref.ensures.value c.self.invariant) c.requires.base)
+
+pub new-requires-clause-matchable : goal.new-requires-clause-matchable
+new-requires-clause-matchable c =
+    let m = c.args.self.now in
+    rw c.as_slice.ensures.items (base_matchable _ m c.deref.result.now c.args.base.now c.len.result c.self.view_is c.len.ensures.count
+    (indices_of _ m _ c.deref.result.now c.self.view_is c.deref.ensures.value c.self.invariant) c.requires.base)
