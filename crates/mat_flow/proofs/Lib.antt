@@ -5,3 +5,5 @@ pub mod TrailReading
 pub mod DisjointPaths
 pub mod Frontiers
 pub mod Separators
+pub mod PathsOfTables
+pub mod LinkedEnds

@@ -94,7 +94,7 @@ pub record IsShifting (first : Option ℕ) (walk : List ℕ) (old : List (Option
   pub carried_is : carried ≡ entry_before first old walk i
   pub counted : starts_in new + one_if_none carried ≡ starts_in old + one_if_none first
 
-shifting_next : (first : Option ℕ) (walk : List ℕ) (old : List (Option ℕ)) (i : ℕ) (new : List (Option ℕ)) (carried : Option ℕ)
+pub shifting_next : (first : Option ℕ) (walk : List ℕ) (old : List (Option ℕ)) (i : ℕ) (new : List (Option ℕ)) (carried : Option ℕ)
     → ((a b : ℕ) → a < b → b < length walk → get_or walk a 0 ≢ get_or walk b 0) → i < length walk → get_or walk i 0 < length new
     → IsShifting first walk old i new carried
     → IsShifting first walk old (suc i) (set new (get_or walk i 0) carried) (entry_at new (get_or walk i 0))

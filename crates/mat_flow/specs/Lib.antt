@@ -1,6 +1,7 @@
 pub mod Paths
 pub mod Digraphs
 pub mod LinkTables
+pub mod LinkedEnds
 pub mod Trails
 pub mod Routes
 pub mod RouteParts

@@ -2,7 +2,7 @@
 -- starts at it. Such a table is a matching of the vertices with themselves and with the tails of the arcs that enter them; one path more is
 -- an augmenting path of that matching (Schrijver, chapters 9 and 16).
 use Rattle.std.specs.Prelude.{◌≡◌, ◌≢◌, ℕ, zero, suc, ◌+◌, ◌<◌, Bool, true, false, not, ◌&&◌, ◌||◌, ◌==◌, List, [], ◌∷◌, length, slice_index, slice_index_or, Option, Some, None}
-use Rattle.mat_sets.specs.Sets.{is_member}
+use Rattle.mat_sets.specs.Sets.{is_member, IsSet}
 use Rattle.mat_flow.specs.Paths.{has_arc}
 
 -- the vertex that the table has at v
@@ -47,15 +47,22 @@ pub record IsLinkTable (vertices : ℕ) (arcs : List (ℕ × ℕ)) (sources targ
   pub ends : (u : ℕ) → u < vertices → ((v : ℕ) → entry_at before v ≢ Some u) → is_member u targets ≡ true
   pub once : (v w u : ℕ) → entry_at before v ≡ Some u → entry_at before w ≡ Some u → v ≡ w
 
--- the entry of the vertex before place k of a walk, and at its first place what comes to it
-abbrev pub entry_before : Option ℕ → List (Option ℕ) → List ℕ → ℕ → Option ℕ
-entry_before first table walk zero = first
-entry_before first table walk (suc k) = entry_at table (slice_index walk k)
-
 -- how many vertices have none before them
 abbrev pub starts_in : List (Option ℕ) → ℕ
 starts_in [] = 0
 starts_in (entry ∷ table) = one_if_none entry + starts_in table
+
+-- a table whose paths end at exactly the vertices of this set: each is before none, and as many vertices have none before them
+pub record HasEnds (vertices : ℕ) (arcs : List (ℕ × ℕ)) (sources ends : List ℕ) (before : List (Option ℕ)) : Type 0 where
+  pub set : IsSet vertices ends
+  pub table : IsLinkTable vertices arcs sources ends before
+  pub free : (u v : ℕ) → is_member u ends ≡ true → entry_at before v ≢ Some u
+  pub count : starts_in before ≡ length ends
+
+-- the entry of the vertex before place k of a walk, and at its first place what comes to it
+abbrev pub entry_before : Option ℕ → List (Option ℕ) → List ℕ → ℕ → Option ℕ
+entry_before first table walk zero = first
+entry_before first table walk (suc k) = entry_at table (slice_index walk k)
 
 -- each entry of a walk's vertices has moved on to the next one, `first` has come to the first, and the last entry is gone
 pub record IsShifted (first : Option ℕ) (walk : List ℕ) (old new : List (Option ℕ)) : Type 0 where

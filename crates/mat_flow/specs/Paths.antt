@@ -68,3 +68,9 @@ pub record HasSeparatorOf (arcs : List (ℕ × ℕ)) (sources targets : List ℕ
   pub separator : List ℕ
   pub separates : IsSeparator arcs sources targets separator
   pub size : length separator ≡ k
+
+-- there are disjoint paths from sources that end at each of these vertices, and at no others
+pub record HasPathsToEach (arcs : List (ℕ × ℕ)) (sources ends : List ℕ) : Type 0 where
+  pub paths : List (List ℕ)
+  pub disjoint : AreDisjointPaths arcs sources ends paths
+  pub reached : (v : ℕ) → is_member v ends ≡ true → is_member v (map last_of paths) ≡ true

@@ -13,6 +13,6 @@ mod trails;
 mod walk;
 
 pub use digraph::Digraph;
-pub use link_table::shift_along;
+pub use link_table::{LinkTable, shift_along};
 pub use linking::{Linking, linked};
 pub use walk::Walk;

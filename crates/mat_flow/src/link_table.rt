@@ -1,8 +1,68 @@
 //! The table of the vertex before each vertex, which holds disjoint paths, and how it takes one path more.
-ghost use Rattle.std.specs.Prelude.{◌≡◌, ◌≢◌, ◌<◌, ℕ, Some, length, slice_index, IfOk};
+ghost use Rattle.std.specs.Prelude.{◌≡◌, ◌≢◌, ◌<◌, ◌↔◌, ℕ, List, [], Some, true, false, if◌then◌else◌, length, slice_index, IfOk, OnErr};
+ghost use Rattle.mat_sets.specs.Sets.{is_member, with_one, AllBelow};
 ghost use Rattle.mat_flow.specs.LinkTables.{entry_at, IsShifted};
+ghost use Rattle.mat_flow.specs.LinkedEnds.{IsLinkedTo};
+ghost use Rattle.mat_flow.specs.Paths.{HasPathsToEach};
 
+use crate::digraph::Digraph;
+use crate::residual::Residual;
+use mat_sets::{ElemSet, WalkSearch, shortest_walk};
 use std::alloc::{AllocError, Global};
+
+/// Disjoint paths of a directed graph from sources to a growing set of ends. It takes a few bytes for each vertex.
+#[derive(Debug, Drop)]
+pub struct LinkTable {
+    // The vertex before each vertex: itself where no path passes it, and none where a path starts.
+    before: Vec<Option<u32>>,
+}
+
+impl LinkTable {
+    /// The table without paths, for a graph of this many vertices. The only error is want of memory.
+    pub fn new(alloc: Global, vertices: u32) -> Result<LinkTable, AllocError>
+        ensures { IfOk result (λ links. (arcs : List (ℕ × ℕ)) (sources : List ℕ) → IsLinkedTo vertices arcs sources [] links) }
+    {
+        let before = no_links(alloc, vertices)?;
+        Ok(LinkTable { before })
+    }
+
+    /// Makes v an end beside the present ones, where disjoint paths lead from the sources to all of them and to v, and tells
+    /// whether there are such paths: one search for an augmenting walk (Schrijver, chapters 9 and 16). After an error nothing
+    /// has changed. The only error is want of memory.
+    pub fn link(
+        &mut self,
+        alloc: Global,
+        graph: &Digraph,
+        sources: &ElemSet,
+        v: u32,
+    ) -> Result<bool, AllocError>
+        requires sources { AllBelow graph.now.vertices sources.now }
+        requires paths { (ends : List ℕ) × IsLinkedTo graph.now.vertices graph.now.arcs sources.now ends self.old }
+        ensures ends { IfOk result (λ found. (ends : List ℕ) → IsLinkedTo graph.now.vertices graph.now.arcs sources.now ends self.old
+            → is_member v ends ≡ false
+            → IsLinkedTo graph.now.vertices graph.now.arcs sources.now (if found then with_one ends v else ends) self.new) }
+        ensures answer { IfOk result (λ found. (ends : List ℕ) → IsLinkedTo graph.now.vertices graph.now.arcs sources.now ends self.old
+            → is_member v ends ≡ false → (found ≡ true) ↔ HasPathsToEach graph.now.arcs sources.now (with_one ends v)) }
+        ensures err { OnErr result (self.new ≡ self.old) }
+    {
+        let _ = graph.vertices();
+        let mut targets = ElemSet::new(alloc);
+        targets.add(v)?;
+        let residual = Residual {
+            graph,
+            sources,
+            targets: &targets,
+            before: &self.before,
+        };
+        match shortest_walk(alloc, &residual)? {
+            WalkSearch::Walk(walk) => {
+                shift_along(&mut self.before, &walk, None);
+                Ok(true)
+            }
+            WalkSearch::Reached(_) => Ok(false),
+        }
+    }
+}
 
 /// The table of no path: each vertex has itself before it. The only error is want of memory.
 pub(crate) fn no_links(alloc: Global, vertices: u32) -> Result<Vec<Option<u32>>, AllocError>

@@ -6,3 +6,4 @@ pub mod ExchangedMatchings
 pub mod KeptRows
 pub mod MatchingRuns
 pub mod MatchableSets
+pub mod LinkedRuns

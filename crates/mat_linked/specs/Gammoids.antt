@@ -1,7 +1,7 @@
 -- Gammoids: elements are vertices of a directed graph, and disjoint paths from the sources lead to those of an independent set
 -- (Schrijver, chapter 39).
 use Rattle.std.specs.Prelude.{◌≡◌, ℕ, suc, ◌<◌, ◌^◌, Bool, true, false, ◌&&◌, ◌==◌, List, [], ◌∷◌, ◌++◌, length, map, slice_index_or}
-use Rattle.mat_sets.specs.Sets.{is_member, IsSet, AllBelow, AreDistinct}
+use Rattle.mat_sets.specs.Sets.{is_member, union, IsSet, AllBelow, AreDistinct}
 use Rattle.mat_sets.specs.SetTests.{is_set}
 use Rattle.mat_sets.specs.Search.{some_below, some_list}
 use Rattle.mat_sets.specs.Graphs.{IsGraph}
@@ -28,6 +28,10 @@ has_paths_to vertices arcs sources taken (end ∷ ends) = some_list_up_to vertic
 -- the vertices of the elements
 abbrev pub vertices_of : List ℕ → List ℕ → List ℕ
 vertices_of targets X = map (λ e. slice_index_or targets e 0) X
+
+-- the same as a set
+abbrev pub set_of_vertices : List ℕ → List ℕ → List ℕ
+set_of_vertices targets X = union (vertices_of targets X) []
 
 -- whether X is independent in the gammoid whose element e is the vertex `targets[e]`: disjoint paths lead from the sources to the
 -- vertices of X, one to each

@@ -26,7 +26,7 @@ pub vertex_member : (targets X : List ℕ) (v : ℕ) → is_member v (vertices_o
 vertex_member targets X v m = mapped_member (λ x. get_or targets x 0) X v m
 
 -- different elements have different vertices
-same_vertex : (targets : List ℕ) (e f : ℕ) → AreDistinct targets → e < length targets → f < length targets
+pub same_vertex : (targets : List ℕ) (e f : ℕ) → AreDistinct targets → e < length targets → f < length targets
     → get_or targets e 0 ≡ get_or targets f 0 → e ≡ f
 same_vertex [] e f d l k same = absurd (omega arith)
 same_vertex (t ∷ targets) zero zero d l k same = refl

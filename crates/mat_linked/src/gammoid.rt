@@ -1,10 +1,12 @@
 //! Gammoids.
-ghost use Rattle.std.specs.Prelude.{⊤, ◌≡◌, ◌<◌, ◌^◌, ℕ, length, IfOk};
+ghost use Rattle.std.specs.Prelude.{⊤, ◌≡◌, ◌<◌, ◌^◌, ℕ, [], length, IfOk};
 ghost use Rattle.mat_sets.specs.Sets.{is_member, AllBelow, AreDistinct, IsRising};
-ghost use Rattle.mat_linked.specs.Gammoids.{is_gammoid, vertices_of, IsGammoid, LinkedVertices};
+ghost use Rattle.mat_flow.specs.LinkedEnds.{IsLinkedTo};
+ghost use Rattle.mat_laws.specs.GreedyRuns.{grown_along};
+ghost use Rattle.mat_linked.specs.Gammoids.{is_gammoid, set_of_vertices, vertices_of, IsGammoid, LinkedVertices};
 ghost use Rattle.mat_linked.specs.GammoidLaws.{gammoid_laws};
 
-use mat_flow::{Digraph, linked};
+use mat_flow::{Digraph, LinkTable, linked};
 use mat_laws::Matroid;
 use mat_sets::ElemSet;
 use std::alloc::{AllocError, Global};
@@ -43,6 +45,30 @@ fn vertex_set(alloc: Global, targets: &[u32], elements: &[u32]) -> Result<ElemSe
         let _ = vertices.add(targets[*e as usize])?;
     }
     Ok(vertices)
+}
+
+// The elements of the order that get in, one after the other, and disjoint paths to the vertices of those.
+fn link_along(
+    alloc: Global,
+    graph: &Digraph,
+    sources: &ElemSet,
+    targets: &[u32],
+    order: &[u32],
+) -> Result<(ElemSet, LinkTable), AllocError>
+    requires gammoid { IsGammoid graph.now.vertices graph.now.arcs sources.now targets.now }
+    requires below { AllBelow (length targets.now) order.now }
+    requires distinct { AreDistinct order.now }
+    ensures set { IfOk result (λ r. r.0 ≡ grown_along (is_gammoid graph.now.vertices graph.now.arcs sources.now targets.now) [] order.now) }
+    ensures links { IfOk result (λ r. IsLinkedTo graph.now.vertices graph.now.arcs sources.now (set_of_vertices targets.now r.0) r.1) }
+{
+    let mut set = ElemSet::new(alloc);
+    let mut links = LinkTable::new(alloc, graph.vertices())?;
+    for x in order {
+        if links.link(alloc, graph, sources, targets[*x as usize])? {
+            set.add(*x)?;
+        }
+    }
+    Ok((set, links))
 }
 
 impl Gammoid {
@@ -115,6 +141,13 @@ impl Matroid for Gammoid {
         let ends = vertex_set(alloc, &self.targets, set.as_slice())?;
         let linking = linked(alloc, &self.graph, &self.sources, &ends)?;
         Ok(linking.paths.len() == set.len())
+    }
+
+    /// One search of the bits of the graph for each element: a path more is sought to its vertex, beside the paths to those that
+    /// are in. The only error is want of memory.
+    fn run(&self, alloc: Global, order: &[u32]) -> Result<ElemSet, AllocError> {
+        let (set, _) = link_along(alloc, &self.graph, &self.sources, &self.targets, order)?;
+        Ok(set)
     }
 
     /// Nothing is kept.
