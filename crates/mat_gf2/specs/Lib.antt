@@ -1,6 +1,7 @@
 pub mod Columns
 pub mod Eliminations
 pub mod TaggedColumns
+pub mod KeptBases
 pub mod LeadingBitLaws
 pub mod SpanLaws
 pub mod PivotLaws

@@ -1,7 +1,8 @@
 //! Gaussian elimination over the field of two elements, on columns as words of bits.
-ghost use Rattle.std.specs.Prelude.{◌≡◌, ◌≤◌, length, IfOk};
+ghost use Rattle.std.specs.Prelude.{◌≡◌, ◌≤◌, [], length, IfOk};
 ghost use Rattle.mat_sets.specs.Sets.{AllBelow, IsRising};
-ghost use Rattle.mat_gf2.specs.Columns.{column_of, is_linearly_independent};
+ghost use Rattle.mat_laws.specs.GreedyRuns.{grown_along};
+ghost use Rattle.mat_gf2.specs.Columns.{column_of, is_gf2, is_linearly_independent};
 ghost use Rattle.mat_gf2.specs.Eliminations.{reduced_by};
 ghost use Rattle.mat_gf2.specs.TaggedColumns.{IsTaggedBasis, marked, reduced_tagged_by};
 
@@ -45,8 +46,31 @@ pub(crate) fn are_independent(
     Ok(true)
 }
 
+/// The greedy run along an order, by one elimination that grows by a column: an element enters where something is left of
+/// its column. An exclusive-or for each item of the order and each column of the basis, which are no more than a column has
+/// entries. The only error is want of memory.
+pub(crate) fn run_along(
+    alloc: Global,
+    columns: &[u128],
+    order: &[u32],
+) -> Result<ElemSet, AllocError>
+    requires { AllBelow (length columns.now) order.now }
+    ensures { IfOk result (λ set. set ≡ grown_along (is_gf2 (length columns.now) (column_of columns.now)) [] order.now) }
+{
+    let mut basis: Vec<u128> = Vec::new(alloc);
+    let mut set = ElemSet::new(alloc);
+    for x in order {
+        let left = reduce(&basis, columns[*x as usize]);
+        if left != 0 {
+            basis.push(left)?;
+            set.add(*x)?;
+        }
+    }
+    Ok(set)
+}
+
 /// A column with a tag, whose bits are places of members of a set.
-#[derive(Clone, Copy, Drop)]
+#[derive(Clone, Copy, Debug, Drop)]
 pub(crate) struct TaggedColumn {
     pub(crate) column: u128,
     pub(crate) tag: u128,

@@ -1,11 +1,13 @@
 //! Matroids of columns over the field of two elements.
-ghost use Rattle.std.specs.Prelude.{⊤, ◌≡◌, length, IfOk};
+ghost use Rattle.std.specs.Prelude.{◌≡◌, length, IfOk};
 ghost use Rattle.mat_gf2.specs.Columns.{BinaryMatrix, IsBinaryMatrix, column_of, is_gf2};
 ghost use Rattle.mat_gf2.specs.Gf2Laws.{gf2_laws};
+ghost use Rattle.mat_gf2.specs.KeptBases.{IsKeptBasis};
 
 use crate::elimination::{
-    TaggedColumn, are_independent, marked_members, reduce_tagged, tagged_basis,
+    TaggedColumn, are_independent, marked_members, reduce_tagged, run_along, tagged_basis,
 };
+use crate::kept_basis::TaggedBasis;
 use mat_laws::{Exchange, Matroid};
 use mat_sets::ElemSet;
 use std::alloc::{AllocError, Global};
@@ -60,9 +62,9 @@ impl Matroid for Gf2 {
 
     ghost indep = { λ m. is_gf2 (length m.columns) (column_of m.columns) };
 
-    type Kept = ();
+    type Kept = TaggedBasis;
 
-    ghost keeps = { λ _ _ _. ⊤ };
+    ghost keeps = { λ m base kept. IsKeptBasis (column_of m.columns) base kept };
 
     ghost laws = { λ m h. gf2_laws (length m.columns) (column_of m.columns) };
 
@@ -76,16 +78,40 @@ impl Matroid for Gf2 {
         are_independent(alloc, &self.columns, set)
     }
 
-    /// The exchanges of x: where its column is a sum of columns of the set, it can be exchanged for the members of that
-    /// sum alone, and else it can be added, and be exchanged for every member. No question of independence is asked: one
-    /// elimination tells the sum, with an exclusive-or for each two members. The only error is want of memory.
+    /// One elimination that grows by a column: an exclusive-or for each item of the order and each column of the basis, of
+    /// which there are at most `dim`. The only error is want of memory.
+    fn run(&self, alloc: Global, order: &[u32]) -> Result<ElemSet, AllocError> {
+        run_along(alloc, &self.columns, order)
+    }
+
+    /// The exchanges of x, by what is kept of the set for this one. The only error is want of memory.
     fn circuit(&self, alloc: Global, base: &ElemSet, x: u32) -> Result<Exchange, AllocError> {
-        let basis = tagged_basis(alloc, &self.columns, base)?;
+        let kept = self.keep(alloc, base)?;
+        self.row(alloc, base, &kept, x)
+    }
+
+    /// A basis of the columns of the set, by one elimination: an exclusive-or for each two members. The only error is want of
+    /// memory.
+    fn keep(&self, alloc: Global, base: &ElemSet) -> Result<TaggedBasis, AllocError> {
+        let rows = tagged_basis(alloc, &self.columns, base)?;
+        Ok(TaggedBasis { rows })
+    }
+
+    /// The exchanges of x: where its column is a sum of columns of the set, it can be exchanged for the members of that
+    /// sum alone, and else it can be added, and be exchanged for every member. An exclusive-or for each member tells the sum.
+    /// The only error is want of memory.
+    fn row(
+        &self,
+        alloc: Global,
+        base: &ElemSet,
+        kept: &TaggedBasis,
+        x: u32,
+    ) -> Result<Exchange, AllocError> {
         let column = TaggedColumn {
             column: self.columns[x as usize],
             tag: 0,
         };
-        let left = reduce_tagged(&basis, column);
+        let left = reduce_tagged(&kept.rows, column);
         if left.column == 0 {
             let with = marked_members(alloc, base, left.tag)?;
             return Ok(Exchange {
@@ -98,10 +124,5 @@ impl Matroid for Gf2 {
             addable: true,
             with,
         })
-    }
-
-    /// Nothing is kept.
-    fn keep(&self, _alloc: Global, _base: &ElemSet) -> Result<(), AllocError> {
-        Ok(())
     }
 }

@@ -3,9 +3,11 @@
 
 mod elimination;
 mod gf2;
+mod kept_basis;
 mod laws;
 #[cfg(test)]
 mod tests;
 
 pub use gf2::Gf2;
+pub use kept_basis::TaggedBasis;
 pub use laws::{gf2_laws, independent_sets_mean, linear_independence_means};

@@ -121,3 +121,31 @@ fn exchanges_of_zero_and_of_an_equal_column(rt: HostRuntime) -> Result<(), Fail>
     assert!(rt; difference.with == base);
     Ok(())
 }
+
+// Along the columns 1, 2, 3, 5 and 4 the third is the sum of the first two, and the last that of the first and the fourth.
+#[test]
+#[tactic(auto, unfolding(mat_sets::specs::Sets::with_one))]
+fn a_run_takes_what_is_no_sum_of_earlier_ones(rt: HostRuntime) -> Result<(), Fail> {
+    let alloc = rt.alloc();
+    let matroid = fano(alloc)?;
+    assert!(rt; matroid.run(alloc, &[0, 1, 2, 4, 3])? == set_of(alloc, 0, 1, 4)?);
+    assert!(rt; matroid.run(alloc, &[6, 2, 3])? == set_of(alloc, 6, 2, 2)?);
+    Ok(())
+}
+
+#[test]
+#[tactic(auto, unfolding(mat_sets::specs::Sets::with_one))]
+fn one_kept_basis_answers_for_two_columns(rt: HostRuntime) -> Result<(), Fail> {
+    let alloc = rt.alloc();
+    let matroid = fano(alloc)?;
+    let base = set_of(alloc, 0, 1, 3)?;
+    assert!(rt; matroid.independent(alloc, &base)?);
+    let kept = matroid.keep(alloc, &base)?;
+    let line = matroid.row(alloc, &base, &kept, 5)?;
+    assert!(rt; !line.addable);
+    assert!(rt; line.with == set_of(alloc, 1, 3, 3)?);
+    let whole = matroid.row(alloc, &base, &kept, 6)?;
+    assert!(rt; !whole.addable);
+    assert!(rt; whole.with == base);
+    Ok(())
+}
