@@ -14,6 +14,7 @@ pub mod Fringes
 pub mod Growing
 pub mod HeaviestMembers
 pub mod Raising
+pub mod ChangesSoFar
 pub mod GrowthSteps
 pub mod GrownSplits
 pub mod HeaviestExchanges

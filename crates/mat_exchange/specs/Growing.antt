@@ -101,6 +101,12 @@ leads first second I x z = if is_member x I then first.trades x z else second.tr
 abbrev pub entry_gain : (ℕ → Weight) → (ℕ → Weight) → List ℕ → ℕ → ℕ → Weight
 entry_gain w1 w2 I x z = if is_member x I then w1 z ⊖ w1 x else w2 x ⊖ w2 z
 
+-- by how much one weight exceeds another, where there are both
+abbrev pub excess_of : Option Weight → Option Weight → Option Weight
+excess_of None other = None
+excess_of (Some weight) None = None
+excess_of (Some weight) (Some other) = Some (weight ⊖ other)
+
 -- x passes, and nothing that passes weighs more
 pub record IsHeaviestOf (test : ℕ → Bool) (w : ℕ → Weight) (x : ℕ) : Type 0 where
   pub passes : test x ≡ true

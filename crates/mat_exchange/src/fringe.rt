@@ -1,7 +1,7 @@
 //! The elements outside a reached set that a change of the weights lets in, each with the greatest of its gains.
-ghost use Rattle.std.specs.Prelude.{◌≡◌, ◌&&◌, ◌==◌, ◌<◌, ◌≤◌, ◌^◌, ℕ, true, length, OnOk};
+ghost use Rattle.std.specs.Prelude.{◌≡◌, ◌&&◌, ◌==◌, if◌then◌else◌, ◌<◌, ◌≤◌, ◌^◌, ℕ, true, length, OnOk};
 ghost use Rattle.mat_sets.specs.Sets.{is_member, with_one, without_one};
-ghost use Rattle.mat_sets.specs.Weights.{weight_at, IsWeightWithin, AreWeightsWithin};
+ghost use Rattle.mat_sets.specs.Weights.{◌⊕◌, ◌⊖◌, weight_at, IsWeightWithin, AreWeightsWithin};
 ghost use Rattle.mat_laws.specs.TightPaths.{exchanges_in};
 ghost use Rattle.mat_exchange.specs.Changes.{lowered, raised};
 ghost use Rattle.mat_exchange.specs.Growing.{IsOffered, gain_at, leads, entry_gain};
@@ -121,35 +121,35 @@ fn raise_on(weights: &mut [Weight], members: &BitSet, step: Weight)
     }
 }
 
-/// The change of the weights of the reached set by `step`: the first fall, the second rise, and so do the gains of the fringe.
-pub(crate) fn change(
-    w1: &mut [Weight],
-    w2: &mut [Weight],
-    reached: &BitSet,
-    gains: &mut [Weight],
-    fringe: &BitSet,
-    step: Weight,
-)
-    requires few { length w1.old ≤ 500 }
+/// Puts x back by the change so far, so that x can change together with the set that it enters.
+pub(crate) fn enter(w1: &mut [Weight], w2: &mut [Weight], x: u32, total: Weight)
     requires lengths { length w2.old ≡ length w1.old }
-    requires gains { length gains.old ≡ length w1.old }
-    requires reached { (x : ℕ) → is_member x reached.now ≡ true → x < length w1.old }
-    requires fringe { (x : ℕ) → is_member x fringe.now ≡ true → x < length w1.old }
+    requires below { x < length w1.old }
     requires first_small { AreWeightsWithin (10 ^ 30) w1.old }
     requires second_small { AreWeightsWithin (10 ^ 30) w2.old }
-    requires gains_small { (x : ℕ) → is_member x fringe.now ≡ true → IsWeightWithin (10 ^ 30) (weight_at gains.old x) }
+    requires total { IsWeightWithin (10 ^ 31) total }
+    ensures first_length { length w1.new ≡ length w1.old }
+    ensures second_length { length w2.new ≡ length w2.old }
+    ensures first { (z : ℕ) → weight_at w1.new z ≡ (if z == x then weight_at w1.old z ⊕ total else weight_at w1.old z) }
+    ensures second { (z : ℕ) → weight_at w2.new z ≡ (if z == x then weight_at w2.old z ⊖ total else weight_at w2.old z) }
+{
+    w1[x as usize] = w1[x as usize] + total;
+    w2[x as usize] = w2[x as usize] - total;
+}
+
+/// The change of the weights of the reached set by `step`: the first fall, and the second rise.
+pub(crate) fn change(w1: &mut [Weight], w2: &mut [Weight], reached: &BitSet, step: Weight)
+    requires few { length w1.old ≤ 500 }
+    requires lengths { length w2.old ≡ length w1.old }
+    requires reached { (x : ℕ) → is_member x reached.now ≡ true → x < length w1.old }
+    requires first_small { AreWeightsWithin (10 ^ 30) w1.old }
+    requires second_small { AreWeightsWithin (10 ^ 30) w2.old }
     requires step { IsWeightWithin (10 ^ 31) step }
     ensures first_length { length w1.new ≡ length w1.old }
     ensures second_length { length w2.new ≡ length w2.old }
-    ensures gains_length { length gains.new ≡ length gains.old }
     ensures first { (x : ℕ) → weight_at w1.new x ≡ lowered (weight_at w1.old) reached.now step x }
     ensures second { (x : ℕ) → weight_at w2.new x ≡ raised (weight_at w2.old) reached.now step x }
-    ensures raised { (x : ℕ) → weight_at gains.new x ≡ raised (weight_at gains.old) fringe.now step x }
 {
-    if step == Weight::ZERO {
-        return;
-    }
     raise_on(w1, reached, -step);
     raise_on(w2, reached, step);
-    raise_on(gains, fringe, step);
 }

@@ -6,17 +6,20 @@ ghost use Rattle.mat_laws.specs.TightPaths.{exchanges_in};
 ghost use Rattle.mat_exchange.specs.Tables.{IsTableAt};
 ghost use Rattle.mat_exchange.specs.Growing.{NoExchangeGains, IsGrown, IsGrownSplit, IsHeaviestOf, StaysHeaviest, sum_at};
 
-use crate::fringe::{change, offer, offer_exchanges};
+use crate::fringe::{change, enter, offer, offer_exchanges};
 use crate::grown::Grown;
+use crate::heaviest_addable::{heaviest_addable, heaviest_with};
 use crate::heaviest_members::heaviest_member;
 use crate::path_search::tight_search;
 use crate::row_table::RowTable;
-use crate::slack::addition_slack;
+use crate::slack::excess_or_none;
 use crate::steps::{NextStep, next_step};
 use mat_sets::{BitSet, ElemSet, PairWeights, Weight};
 use std::alloc::{AllocError, Global};
 
-/// Lets the reached set grow from one source, and changes the weights as it needs, until it holds a sink or nothing can enter it.
+/// Lets the reached set grow from one source, and changes the weights as it needs, until it holds a sink or nothing can enter it. The
+/// change is one number, which is put on the weights of the whole set only at the end; so an element that enters is first put back by
+/// the change so far, and the gains of the fringe are less by it.
 fn grow_from(
     alloc: Global,
     first: &RowTable,
@@ -68,21 +71,29 @@ fn grow_from(
         &mut fringe,
         gains,
     )?;
+    let top = heaviest_addable(second, w2);
+    let mut inside = heaviest_with(second, None, root, w2);
+    let mut total = Weight::ZERO;
     loop {
-        let slack = addition_slack(second, &reached, w2);
+        let slack = excess_or_none(top, inside);
         match next_step(&fringe, gains, slack) {
             NextStep::Enter(x, step) => {
-                change(w1, w2, &reached, gains, &fringe, step);
+                enter(w1, w2, x, step);
+                total = step;
                 reached.insert(x)?;
                 others.remove(x);
                 fringe.remove(x);
+                inside = heaviest_with(second, inside, x, w2);
                 offer_exchanges(first, second, set, w1, w2, x, &others, &mut fringe, gains)?;
             }
             NextStep::Sink(step) => {
-                change(w1, w2, &reached, gains, &fringe, step);
+                change(w1, w2, &reached, step);
                 return Ok(());
             }
-            NextStep::Nothing => return Ok(()),
+            NextStep::Nothing => {
+                change(w1, w2, &reached, total);
+                return Ok(());
+            }
         }
     }
 }

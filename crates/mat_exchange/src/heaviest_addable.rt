@@ -1,10 +1,10 @@
 //! The greatest weight among the elements that can be added.
-ghost use Rattle.std.specs.Prelude.{◌≡◌, ◌≤◌, length};
+ghost use Rattle.std.specs.Prelude.{◌≡◌, ◌<◌, ◌≤◌, if◌then◌else◌, length};
 ghost use Rattle.mat_sets.specs.Weights.{weight_at};
 ghost use Rattle.mat_laws.specs.TightPaths.{exchanges_in};
-ghost use Rattle.mat_exchange.specs.HeaviestAddable.{IsHeaviestWeightOrNone};
+ghost use Rattle.mat_exchange.specs.HeaviestAddable.{IsHeaviestWeightOrNone, greater_of};
 
-use crate::heaviest_common::heaviest_common;
+use crate::heaviest_common::{greater, heaviest_common};
 use crate::row_table::RowTable;
 use mat_sets::Weight;
 
@@ -16,4 +16,22 @@ pub(crate) fn heaviest_addable(table: &RowTable, weights: &[Weight]) -> Option<W
 {
     let addable = table.addable_elements();
     heaviest_common(addable, addable, weights)
+}
+
+/// The greatest weight of the addable elements of a set once x is in it too.
+pub(crate) fn heaviest_with(
+    table: &RowTable,
+    heaviest: Option<Weight>,
+    x: u32,
+    weights: &[Weight],
+) -> Option<Weight>
+    requires count { length table.now ≡ length weights.now }
+    requires below { x < length weights.now }
+    ensures { result ≡ (if (exchanges_in table.now).adds x then greater_of heaviest (weight_at weights.now x) else heaviest) }
+{
+    if table.addable(x) {
+        greater(heaviest, weights[x as usize])
+    } else {
+        heaviest
+    }
 }

@@ -7,7 +7,7 @@ ghost use Rattle.mat_exchange.specs.HeaviestAddable.{greater_of, IsHeaviestWeigh
 use mat_sets::{BitSet, Weight};
 
 /// The greater of a weight, if there is one, and another.
-fn greater(heaviest: Option<Weight>, weight: Weight) -> Option<Weight>
+pub(crate) fn greater(heaviest: Option<Weight>, weight: Weight) -> Option<Weight>
     ensures { result ≡ greater_of heaviest weight }
 {
     match heaviest {

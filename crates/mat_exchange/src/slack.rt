@@ -1,9 +1,10 @@
 //! The least slack of a reached set.
-ghost use Rattle.std.specs.Prelude.{◌≡◌, ◌<◌, ◌≤◌, ◌^◌, ◌&&◌, ℕ, true, not, nat_lt, length, IfOk};
+ghost use Rattle.std.specs.Prelude.{◌≡◌, ◌<◌, ◌≤◌, ◌^◌, ◌&&◌, ℕ, true, not, nat_lt, length, IfOk, IfSome};
 ghost use Rattle.mat_sets.specs.Sets.{is_member, AllBelow};
 ghost use Rattle.mat_sets.specs.Weights.{◌⊖◌, weight_at, IsWeightWithin, AreWeightsWithin};
 ghost use Rattle.mat_laws.specs.TightPaths.{exchanges_in};
 ghost use Rattle.mat_laws.specs.Slacks.{IsLeastSlackOrNone};
+ghost use Rattle.mat_exchange.specs.Growing.{excess_of};
 ghost use Rattle.mat_exchange.specs.SlackParts.{IsAdditionSlack, IsExchangeSlackAt, IsExchangeSlack, IsLeastOrNone, lesser_of};
 
 use crate::heaviest_addable::heaviest_addable;
@@ -32,8 +33,17 @@ pub(crate) fn excess(weight: Weight, other: Weight) -> Weight
     weight - other
 }
 
+/// By how much one weight exceeds another, where there are both.
+pub(crate) fn excess_or_none(weight: Option<Weight>, other: Option<Weight>) -> Option<Weight>
+    requires small { IfSome weight (IsWeightWithin (10 ^ 30)) }
+    requires other_small { IfSome other (IsWeightWithin (10 ^ 30)) }
+    ensures { result ≡ excess_of weight other }
+{
+    Some(excess(weight?, other?))
+}
+
 /// By how much a heaviest addable element outweighs the heaviest addable element of a set.
-pub(crate) fn addition_slack(table: &RowTable, into: &BitSet, weights: &[Weight]) -> Option<Weight>
+fn addition_slack(table: &RowTable, into: &BitSet, weights: &[Weight]) -> Option<Weight>
     requires few { length weights.now ≤ 500 }
     requires count { length table.now ≡ length weights.now }
     requires small { AreWeightsWithin (10 ^ 30) weights.now }

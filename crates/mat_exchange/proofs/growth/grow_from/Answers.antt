@@ -1,6 +1,6 @@
 use Rattle.std.proofs.Common.{◌∙◌, ap, refl, arith}
 use Rattle.mat_sets.specs.Sets.{with_one}
-use Rattle.mat_exchange.proofs.GrowthSteps.{growth_start, first_within, second_within, reached_below, other_below, fringe_below, gains_within, enter_below, enter_step_within, changed, entered, fewer_left, enter_outside, reached_few, sink_step_within, sunk, ended, others_start, others_start_below, first_start, others_less}
+use Rattle.mat_exchange.proofs.GrowthSteps.{growth_start, first_within, second_within, total_within, reached_below, other_below, fringe_below, gains_within, top_within, inside_within, enter_below, enter_within, enter_outside, shifted_entered, entered, fewer_left, reached_few, sink_within, sunk, ended, others_start, others_start_below, first_start, others_less}
 use Rattle.mat_exchange.proofs.growth.grow_from.Goals as goal
 
 pub offer-requires-clause-others : goal.offer-requires-clause-others
@@ -22,104 +22,98 @@ loop-x-init c =
     c.addable_elements.ensures
     (rw c.in_ok-fringe.ensures at c.in_ok-offer.ensures.offered)
     c.in_ok-offer_exchanges.ensures.offered
+    refl c.heaviest_addable-top.ensures c.heaviest_with-inside.ensures
 
-pub addition_slack-slack-requires-clause-small : goal.addition_slack-slack-requires-clause-small
-addition_slack-slack-requires-clause-small c = second_within c.loop-x.invariant
+pub excess_or_none-slack-requires-clause-small : goal.excess_or_none-slack-requires-clause-small
+excess_or_none-slack-requires-clause-small c = top_within c.loop-x.invariant
 
-pub addition_slack-slack-requires-clause-below : goal.addition_slack-slack-requires-clause-below
-addition_slack-slack-requires-clause-below c = λ x m. rw c.loop-x.invariant.second_length (reached_below c.loop-x.invariant x m)
+pub excess_or_none-slack-requires-clause-other_small : goal.excess_or_none-slack-requires-clause-other_small
+excess_or_none-slack-requires-clause-other_small c = inside_within c.loop-x.invariant
 
 pub next_step-requires-clause-small : goal.next_step-requires-clause-small
 next_step-requires-clause-small c = gains_within c.loop-x.invariant
 
-pub change-requires-clause-reached : goal.change-requires-clause-reached
-change-requires-clause-reached c = λ x m. rw c.loop-x.invariant.first_length (reached_below c.loop-x.invariant x m)
+pub enter-requires-clause-first_small : goal.enter-requires-clause-first_small
+enter-requires-clause-first_small c = first_within c.loop-x.invariant.shifted
 
-pub change-requires-clause-fringe : goal.change-requires-clause-fringe
-change-requires-clause-fringe c = λ x m. rw c.loop-x.invariant.first_length (fringe_below c.loop-x.invariant x m)
+pub enter-requires-clause-second_small : goal.enter-requires-clause-second_small
+enter-requires-clause-second_small c = second_within c.loop-x.invariant.shifted
+
+pub enter-requires-clause-below : goal.enter-requires-clause-below
+enter-requires-clause-below c = rw c.loop-x.invariant.shifted.first_length
+    (enter_below c.loop-x.invariant c.excess_or_none-slack.ensures c.in-Enter.is c.next_step.ensures)
+
+pub enter-requires-clause-total : goal.enter-requires-clause-total
+enter-requires-clause-total c = enter_within c.loop-x.invariant c.excess_or_none-slack.ensures c.in-Enter.is c.next_step.ensures
+
+pub change-requires-clause-reached : goal.change-requires-clause-reached
+change-requires-clause-reached c = λ x m. rw c.loop-x.invariant.shifted.first_length (reached_below c.loop-x.invariant.shifted x m)
 
 pub change-requires-clause-first_small : goal.change-requires-clause-first_small
-change-requires-clause-first_small c = first_within c.loop-x.invariant
+change-requires-clause-first_small c = first_within c.loop-x.invariant.shifted
 
 pub change-requires-clause-second_small : goal.change-requires-clause-second_small
-change-requires-clause-second_small c = second_within c.loop-x.invariant
-
-pub change-requires-clause-gains_small : goal.change-requires-clause-gains_small
-change-requires-clause-gains_small c = gains_within c.loop-x.invariant
+change-requires-clause-second_small c = second_within c.loop-x.invariant.shifted
 
 pub change-requires-clause-step : goal.change-requires-clause-step
 change-requires-clause-step c =
-    enter_step_within c.loop-x.invariant _ c.in-Enter.is c.next_step.ensures
-
-pub change-requires-in-Sink-clause-reached : goal.change-requires-in-Sink-clause-reached
-change-requires-in-Sink-clause-reached c = λ x m. rw c.loop-x.invariant.first_length (reached_below c.loop-x.invariant x m)
-
-pub change-requires-in-Sink-clause-fringe : goal.change-requires-in-Sink-clause-fringe
-change-requires-in-Sink-clause-fringe c = λ x m. rw c.loop-x.invariant.first_length (fringe_below c.loop-x.invariant x m)
-
-pub change-requires-in-Sink-clause-first_small : goal.change-requires-in-Sink-clause-first_small
-change-requires-in-Sink-clause-first_small c = first_within c.loop-x.invariant
-
-pub change-requires-in-Sink-clause-second_small : goal.change-requires-in-Sink-clause-second_small
-change-requires-in-Sink-clause-second_small c = second_within c.loop-x.invariant
-
-pub change-requires-in-Sink-clause-gains_small : goal.change-requires-in-Sink-clause-gains_small
-change-requires-in-Sink-clause-gains_small c = gains_within c.loop-x.invariant
-
-pub change-requires-in-Sink-clause-step : goal.change-requires-in-Sink-clause-step
-change-requires-in-Sink-clause-step c =
-    let now = c.loop-x.invariant in
-    let least = rw now.second_length at c.addition_slack-slack.ensures in
-    sink_step_within now _ c.in-Sink.is c.next_step.ensures least
+    sink_within c.loop-x.invariant c.excess_or_none-slack.ensures c.in-Sink.is c.next_step.ensures
 
 pub returns-in-Sink-clause-grown : goal.returns-in-Sink-clause-grown
 returns-in-Sink-clause-grown c =
-    let now = c.loop-x.invariant in
-    let least = rw now.second_length at c.addition_slack-slack.ensures in
-    sunk now _ c.in-Sink.is c.next_step.ensures least c.change-in-Sink.new.w1 c.change-in-Sink.new.w2
-    c.change-in-Sink.ensures.first c.change-in-Sink.ensures.second
+    sunk c.loop-x.invariant c.excess_or_none-slack.ensures c.in-Sink.is c.next_step.ensures c.change.new.w1 c.change.new.w2
+    c.change.ensures.first c.change.ensures.second
+
+pub change-requires-in-Nothing-clause-reached : goal.change-requires-in-Nothing-clause-reached
+change-requires-in-Nothing-clause-reached c = λ x m. rw c.loop-x.invariant.shifted.first_length (reached_below c.loop-x.invariant.shifted x m)
+
+pub change-requires-in-Nothing-clause-first_small : goal.change-requires-in-Nothing-clause-first_small
+change-requires-in-Nothing-clause-first_small c = first_within c.loop-x.invariant.shifted
+
+pub change-requires-in-Nothing-clause-second_small : goal.change-requires-in-Nothing-clause-second_small
+change-requires-in-Nothing-clause-second_small c = second_within c.loop-x.invariant.shifted
+
+pub change-requires-in-Nothing-clause-step : goal.change-requires-in-Nothing-clause-step
+change-requires-in-Nothing-clause-step c = total_within c.loop-x.invariant.shifted
 
 pub returns-in-Nothing-clause-grown : goal.returns-in-Nothing-clause-grown
 returns-in-Nothing-clause-grown c =
-    let now = c.loop-x.invariant in
-    ended now _ c.in-Nothing.is c.next_step.ensures (rw now.second_length at c.addition_slack-slack.ensures)
+    ended c.loop-x.invariant c.excess_or_none-slack.ensures c.in-Nothing.is c.next_step.ensures c.change-in-Nothing.new.w1 c.change-in-Nothing.new.w2
+    c.change-in-Nothing.ensures.first c.change-in-Nothing.ensures.second
 
 pub offer_exchanges-requires-in-Enter-clause-first_small : goal.offer_exchanges-requires-in-Enter-clause-first_small
 offer_exchanges-requires-in-Enter-clause-first_small c =
-    let now = c.loop-x.invariant in
-    first_within (changed now _ c.in-Enter.is c.next_step.ensures c.change.new.w1 c.change.new.w2 c.change.new.gains
-    (c.change.ensures.first_length ∙ now.first_length) (c.change.ensures.second_length ∙ now.second_length) (c.change.ensures.gains_length ∙ now.gains_length)
-    c.change.ensures.first c.change.ensures.second c.change.ensures.raised)
+    first_within (shifted_entered c.loop-x.invariant c.excess_or_none-slack.ensures c.in-Enter.is c.next_step.ensures c.enter.new.w1 c.enter.new.w2
+    c.enter.ensures.first_length c.enter.ensures.second_length c.enter.ensures.first c.enter.ensures.second
+    c.in_ok-insert-in-Enter.ensures.ok c.remove-in-Enter.ensures)
 
 pub offer_exchanges-requires-in-Enter-clause-second_small : goal.offer_exchanges-requires-in-Enter-clause-second_small
 offer_exchanges-requires-in-Enter-clause-second_small c =
-    let now = c.loop-x.invariant in
-    second_within (changed now _ c.in-Enter.is c.next_step.ensures c.change.new.w1 c.change.new.w2 c.change.new.gains
-    (c.change.ensures.first_length ∙ now.first_length) (c.change.ensures.second_length ∙ now.second_length) (c.change.ensures.gains_length ∙ now.gains_length)
-    c.change.ensures.first c.change.ensures.second c.change.ensures.raised)
+    second_within (shifted_entered c.loop-x.invariant c.excess_or_none-slack.ensures c.in-Enter.is c.next_step.ensures c.enter.new.w1 c.enter.new.w2
+    c.enter.ensures.first_length c.enter.ensures.second_length c.enter.ensures.first c.enter.ensures.second
+    c.in_ok-insert-in-Enter.ensures.ok c.remove-in-Enter.ensures)
 
 pub offer_exchanges-requires-in-Enter-clause-from_below : goal.offer_exchanges-requires-in-Enter-clause-from_below
 offer_exchanges-requires-in-Enter-clause-from_below c =
-    let now = c.loop-x.invariant in
-    rw (c.change.ensures.first_length ∙ now.first_length) (enter_below now _ c.in-Enter.is c.next_step.ensures)
+    rw (c.enter.ensures.first_length ∙ c.loop-x.invariant.shifted.first_length)
+    (enter_below c.loop-x.invariant c.excess_or_none-slack.ensures c.in-Enter.is c.next_step.ensures)
 
 pub offer_exchanges-requires-in-Enter-clause-others : goal.offer_exchanges-requires-in-Enter-clause-others
 offer_exchanges-requires-in-Enter-clause-others c =
-    let now = c.loop-x.invariant in
-    rw (c.change.ensures.first_length ∙ now.first_length) (others_less c.loop-x.others _ c.remove-in-Enter.ensures (other_below now))
+    rw (c.enter.ensures.first_length ∙ c.loop-x.invariant.shifted.first_length)
+    (others_less c.loop-x.others _ c.remove-in-Enter.ensures (other_below c.loop-x.invariant.shifted))
 
 pub loop-x-smaller : goal.loop-x-smaller
 loop-x-smaller c =
     let now = c.loop-x.invariant in
-    let more = fewer_left now c.in-Enter.x c.in_ok-insert-in-Enter.ensures.ok (enter_outside now _ c.in-Enter.is c.next_step.ensures) in
+    let more = fewer_left now c.in-Enter.x c.in_ok-insert-in-Enter.ensures.ok
+    (enter_outside now c.excess_or_none-slack.ensures c.in-Enter.is c.next_step.ensures) in
     let few = reached_few now in
     omega arith
 
 pub loop-x-preserved : goal.loop-x-preserved
 loop-x-preserved c =
-    let now = c.loop-x.invariant in
-    entered now _ c.in-Enter.is c.next_step.ensures c.change.new.w1 c.change.new.w2 c.change.new.gains
-    (c.change.ensures.first_length ∙ now.first_length) (c.change.ensures.second_length ∙ now.second_length) (c.change.ensures.gains_length ∙ now.gains_length)
-    c.change.ensures.first c.change.ensures.second c.change.ensures.raised
+    entered c.loop-x.invariant c.excess_or_none-slack.ensures c.in-Enter.is c.next_step.ensures c.enter.new.w1 c.enter.new.w2
+    c.enter.ensures.first_length c.enter.ensures.second_length c.enter.ensures.first c.enter.ensures.second
     c.in_ok-insert-in-Enter.ensures.ok c.remove-in-Enter.ensures c.remove-in-Enter-2.ensures c.offer_exchanges-in-Enter.ensures.length
-    c.in_ok-offer_exchanges-in-Enter.ensures.offered
+    c.heaviest_with-inside-in-Enter.ensures c.in_ok-offer_exchanges-in-Enter.ensures.offered
