@@ -1,6 +1,6 @@
 //! Writing lines word by word.
 
-ghost use Rattle.std.specs.Prelude.{◌≡◌, ◌++◌, ◌∷◌, [], OnOk};
+ghost use Rattle.std.specs.Prelude.{◌≡◌, ◌++◌, ◌∷◌, [], OnErr, OnOk, length, take};
 ghost use Rattle.mat_words.specs.Lines.{text_of};
 ghost use Rattle.mat_words.specs.Numbers.{numeral};
 ghost use Rattle.mat_words.specs.Weights.{weight_word};
@@ -11,22 +11,27 @@ use crate::weights::put_weight;
 use mat_sets::Weight;
 use std::alloc::AllocError;
 
-/// Appends a number as the next word of a line, behind a space. After an AllocError a part of it may stand in `out`.
+/// Appends a number as the next word of a line, behind a space. After an AllocError `out` is as before.
 pub fn put_number_word(out: &mut Vec<u8>, number: i128) -> Result<(), AllocError>
-    ensures { OnOk result (out.new.items ≡ out.old.items ++ 32 ∷ numeral number) }
+    ensures ok { OnOk result (out.new.items ≡ out.old.items ++ 32 ∷ numeral number) }
+    ensures err { OnErr result (out.new.items ≡ out.old.items) }
 {
     out.push(b' ')?;
-    put_number(out, number)?;
-    Ok(())
+    let written = put_number(out, number);
+    if written.is_err() {
+        out.truncate(out.len() - 1);
+    }
+    written
 }
 
-/// Appends a line of a keyword and numbers. After an AllocError a part of it may stand in `out`.
-pub fn put_numbers_line(
+// Appends a line of a keyword and numbers. After an AllocError a part of it may stand behind what `out` had.
+fn put_numbers_behind(
     out: &mut Vec<u8>,
     keyword: &[u8],
     numbers: &[i128],
 ) -> Result<(), AllocError>
-    ensures { OnOk result (out.new.items ≡ out.old.items ++ text_of (numbers_line keyword.now numbers.now ∷ [])) }
+    ensures ok { OnOk result (out.new.items ≡ out.old.items ++ text_of (numbers_line keyword.now numbers.now ∷ [])) }
+    ensures err { OnErr result (take (length out.old.items) out.new.items ≡ out.old.items) }
 {
     out.extend_from_slice(keyword)?;
     for z in numbers {
@@ -36,22 +41,44 @@ pub fn put_numbers_line(
     Ok(())
 }
 
-/// Appends a weight as the next word of a line, behind a space. After an AllocError a part of it may stand in `out`.
-pub fn put_weight_word(out: &mut Vec<u8>, weight: Weight) -> Result<(), AllocError>
-    ensures { OnOk result (out.new.items ≡ out.old.items ++ 32 ∷ weight_word weight) }
+/// Appends a line of a keyword and numbers. After an AllocError `out` is as before.
+pub fn put_numbers_line(
+    out: &mut Vec<u8>,
+    keyword: &[u8],
+    numbers: &[i128],
+) -> Result<(), AllocError>
+    ensures ok { OnOk result (out.new.items ≡ out.old.items ++ text_of (numbers_line keyword.now numbers.now ∷ [])) }
+    ensures err { OnErr result (out.new.items ≡ out.old.items) }
 {
-    out.push(b' ')?;
-    put_weight(out, weight)?;
-    Ok(())
+    let before = out.len();
+    let written = put_numbers_behind(out, keyword, numbers);
+    if written.is_err() {
+        out.truncate(before);
+    }
+    written
 }
 
-/// Appends a line of a keyword and weights. After an AllocError a part of it may stand in `out`.
-pub fn put_weights_line(
+/// Appends a weight as the next word of a line, behind a space. After an AllocError `out` is as before.
+pub fn put_weight_word(out: &mut Vec<u8>, weight: Weight) -> Result<(), AllocError>
+    ensures ok { OnOk result (out.new.items ≡ out.old.items ++ 32 ∷ weight_word weight) }
+    ensures err { OnErr result (out.new.items ≡ out.old.items) }
+{
+    out.push(b' ')?;
+    let written = put_weight(out, weight);
+    if written.is_err() {
+        out.truncate(out.len() - 1);
+    }
+    written
+}
+
+// Appends a line of a keyword and weights. After an AllocError a part of it may stand behind what `out` had.
+fn put_weights_behind(
     out: &mut Vec<u8>,
     keyword: &[u8],
     weights: &[Weight],
 ) -> Result<(), AllocError>
-    ensures { OnOk result (out.new.items ≡ out.old.items ++ text_of (weights_line keyword.now weights.now ∷ [])) }
+    ensures ok { OnOk result (out.new.items ≡ out.old.items ++ text_of (weights_line keyword.now weights.now ∷ [])) }
+    ensures err { OnErr result (take (length out.old.items) out.new.items ≡ out.old.items) }
 {
     out.extend_from_slice(keyword)?;
     for w in weights {
@@ -61,13 +88,31 @@ pub fn put_weights_line(
     Ok(())
 }
 
-/// Appends a line of a keyword and the members of a list, in their order. After an AllocError a part of it may stand in `out`.
-pub fn put_members_line(
+/// Appends a line of a keyword and weights. After an AllocError `out` is as before.
+pub fn put_weights_line(
+    out: &mut Vec<u8>,
+    keyword: &[u8],
+    weights: &[Weight],
+) -> Result<(), AllocError>
+    ensures ok { OnOk result (out.new.items ≡ out.old.items ++ text_of (weights_line keyword.now weights.now ∷ [])) }
+    ensures err { OnErr result (out.new.items ≡ out.old.items) }
+{
+    let before = out.len();
+    let written = put_weights_behind(out, keyword, weights);
+    if written.is_err() {
+        out.truncate(before);
+    }
+    written
+}
+
+// Appends a line of a keyword and the members of a list, in their order. After an AllocError a part of it may stand behind what `out` had.
+fn put_members_behind(
     out: &mut Vec<u8>,
     keyword: &[u8],
     members: &[u32],
 ) -> Result<(), AllocError>
-    ensures { OnOk result (out.new.items ≡ out.old.items ++ text_of (members_line keyword.now members.now ∷ [])) }
+    ensures ok { OnOk result (out.new.items ≡ out.old.items ++ text_of (members_line keyword.now members.now ∷ [])) }
+    ensures err { OnErr result (take (length out.old.items) out.new.items ≡ out.old.items) }
 {
     out.extend_from_slice(keyword)?;
     for x in members {
@@ -75,6 +120,23 @@ pub fn put_members_line(
     }
     out.push(b'\n')?;
     Ok(())
+}
+
+/// Appends a line of a keyword and the members of a list, in their order. After an AllocError `out` is as before.
+pub fn put_members_line(
+    out: &mut Vec<u8>,
+    keyword: &[u8],
+    members: &[u32],
+) -> Result<(), AllocError>
+    ensures ok { OnOk result (out.new.items ≡ out.old.items ++ text_of (members_line keyword.now members.now ∷ [])) }
+    ensures err { OnErr result (out.new.items ≡ out.old.items) }
+{
+    let before = out.len();
+    let written = put_members_behind(out, keyword, members);
+    if written.is_err() {
+        out.truncate(before);
+    }
+    written
 }
 
 #[cfg(test)]

@@ -1,7 +1,7 @@
 use Rattle.std.proofs.Common.{◌≡◌, ◌++◌, ◌∷◌, take}
 use Rattle.std.specs.List.{flat_map}
 use Rattle.mat_words.specs.Numbers.{numeral}
-use Rattle.mat_words.proofs.writing.put_numbers_line.Given as goal
+use Rattle.mat_words.proofs.writing.put_numbers_behind.Given as goal
 
 -- the keyword stands there, and behind it the numbers so far
 abbrev pub invariant-loop-z : goal.invariant-loop-z

@@ -1,10 +1,10 @@
 use Rattle.std.proofs.Common.{◌++◌, ◌∷◌, pos, arith, rules}
 use Rattle.mat_words.specs.Numbers.{numeral}
 use Rattle.mat_words.proofs.WrittenLines.{item_written, line_written}
-use Rattle.mat_words.proofs.writing.put_members_line.Goals as goal
+use Rattle.mat_words.proofs.writing.put_members_behind.Goals as goal
 
-pub returns : goal.returns
-returns c =
+pub returns-clause-ok : goal.returns-clause-ok
+returns-clause-ok c =
     line_written (λ x. numeral (pos x)) c.args.out.now.items c.args.keyword.now c.args.members.now c.loop-x.x-index c.loop-x.out.items _
     (omega arith) c.loop-x.invariant (search rules)
 

@@ -2,10 +2,10 @@ use Rattle.std.proofs.Common.{◌++◌, ◌∷◌, arith, rules}
 use Rattle.mat_sets.specs.Weights.{zero_weight}
 use Rattle.mat_words.specs.Weights.{weight_word}
 use Rattle.mat_words.proofs.WrittenLines.{item_written, line_written}
-use Rattle.mat_words.proofs.writing.put_weights_line.Goals as goal
+use Rattle.mat_words.proofs.writing.put_weights_behind.Goals as goal
 
-pub returns : goal.returns
-returns c =
+pub returns-clause-ok : goal.returns-clause-ok
+returns-clause-ok c =
     line_written weight_word c.args.out.now.items c.args.keyword.now c.args.weights.now c.loop-w.w-index c.loop-w.out.items _ (omega arith)
     c.loop-w.invariant (search rules)
 

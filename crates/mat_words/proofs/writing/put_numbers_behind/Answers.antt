@@ -1,10 +1,10 @@
 use Rattle.std.proofs.Common.{◌++◌, ◌∷◌, pos, arith, rules}
 use Rattle.mat_words.specs.Numbers.{numeral}
 use Rattle.mat_words.proofs.WrittenLines.{item_written, line_written}
-use Rattle.mat_words.proofs.writing.put_numbers_line.Goals as goal
+use Rattle.mat_words.proofs.writing.put_numbers_behind.Goals as goal
 
-pub returns : goal.returns
-returns c =
+pub returns-clause-ok : goal.returns-clause-ok
+returns-clause-ok c =
     line_written numeral c.args.out.now.items c.args.keyword.now c.args.numbers.now c.loop-z.z-index c.loop-z.out.items _ (omega arith)
     c.loop-z.invariant (search rules)
 
