@@ -1,7 +1,8 @@
 #!/usr/bin/env python3
 """Prints a large description: `cases.py list`, `cases.py junk`, or `cases.py NAME N` for a pair of N elements, where NAME is one of
-`partitions`, `graphic`, `gf2`, `transversal` and `dual` (against a partition), `free`, `gammoid`, `routes` and `matching` (against
-`uniform N`). `cases.py certificate N` prints a right certificate of `cases.py free N`, with weights of 62 bytes in each split."""
+`partitions`, `graphic`, `gf2`, `laminar`, `transversal`, `gammoid`, `dual` and `nested` (against a partition), `graphs` (a graph against
+another), `free`, `routes` and `matching` (against `uniform N`). `cases.py certificate N` prints a right certificate of `cases.py free N`,
+with weights of 62 bytes in each split."""
 import random
 import sys
 
@@ -93,13 +94,30 @@ def transversal(numbers, n):
         print('set', *numbers.sample(range(n), min(50, n // 2)))
 
 
+def laminar(numbers, n):
+    """N elements in halves, quarters and so on down to sets of 4 or more, each with a cap of 1 to 3 quarters of its members."""
+    elements = list(range(n))
+    numbers.shuffle(elements)
+    sets = []
+    parts = [elements]
+    while parts:
+        part = parts.pop()
+        sets.append((len(part) * numbers.randint(4, 12) // 16, part))
+        middle = len(part) // 2
+        if middle >= 4:
+            parts += [part[:middle], part[middle:]]
+    print('laminar', len(sets))
+    for cap, part in sets:
+        print('set', cap, *part)
+
+
 def gammoid(numbers, n):
-    """A directed graph of 2 N vertices and 20 N arcs, with N / 2 sources and N targets."""
+    """A directed graph of 2 N vertices and 40 N arcs, with N / 2 sources and N targets."""
     vertices = 2 * n
-    print('gammoid', vertices, 20 * n)
+    print('gammoid', vertices, 40 * n)
     print('sources', *numbers.sample(range(vertices), n // 2))
     print('targets', *numbers.sample(range(vertices), n))
-    for _ in range(20 * n):
+    for _ in range(40 * n):
         print('arc', numbers.randrange(vertices), numbers.randrange(vertices))
 
 
@@ -119,14 +137,26 @@ def dual(numbers, n):
     graphic(numbers, n)
 
 
-AGAINST_A_PARTITION = {'partitions': partition, 'graphic': graphic, 'gf2': gf2, 'transversal': transversal, 'dual': dual}
-AGAINST_NOTHING = {'free': uniform, 'gammoid': gammoid, 'routes': many_routes, 'matching': transversal}
+def nested(numbers, n):
+    """The dual of a truncation of a restriction of a contraction of a graph of N edges on N / 2 vertices."""
+    print('dual')
+    print('truncate', 2 * n // 5)
+    print('restrict', *numbers.sample(range(n), 9 * n // 10))
+    print('contract', *numbers.sample(range(n), n // 20))
+    graphic(numbers, n)
+
+
+AGAINST_A_PARTITION = {'partitions': partition, 'graphic': graphic, 'gf2': gf2, 'laminar': laminar, 'transversal': transversal,
+                       'gammoid': gammoid, 'dual': dual, 'nested': nested}
+AGAINST_NOTHING = {'free': uniform, 'routes': many_routes, 'matching': transversal}
 WHOLE = {'list': many_classes, 'junk': junk}
 name = sys.argv[1]
 if name in WHOLE:
     WHOLE[name]()
 elif name == 'certificate':
     certificate(int(sys.argv[2]))
+elif name == 'graphs':
+    pair(graphic, graphic, int(sys.argv[2]))
 elif name in AGAINST_A_PARTITION:
     pair(AGAINST_A_PARTITION[name], partition, int(sys.argv[2]))
 else:

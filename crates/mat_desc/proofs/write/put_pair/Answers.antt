@@ -11,4 +11,4 @@ returns c =
     pair_form_written c.args.out.now.items c.put_numbers_line.new.out.items c.put_weights_line.new.out.items c.put_matroid.new.out.items _
     (codes "pair" ∷ numeral (pos (length c.args.weights.now)) ∷ [])
     (weights_line (codes "weights") c.args.weights.now) (matroid_lines (tree_of c.args.first.now)) (matroid_lines (tree_of c.args.second.now))
-    (search rules) c.in_ok-put_weights_line.ensures c.in_ok-put_matroid.ensures c.in_ok-put_matroid-2.ensures
+    (search rules) c.in_ok-put_weights_line.ensures.ok c.in_ok-put_matroid.ensures c.in_ok-put_matroid-2.ensures

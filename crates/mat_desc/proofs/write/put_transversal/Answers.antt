@@ -20,7 +20,7 @@ returns c =
     let family = c.as_slice-family.result.now in
     let few : length family < 2 ^ 64 = search rules in
     let header = subst (λ count. c.put_numbers_line.new.out.items ≡ old ++ text_of ((codes "transversal" ∷ numeral count ∷ []) ∷ []))
-    (kept_length (length family) few) c.in_ok-put_numbers_line.ensures in
+    (kept_length (length family) few) c.in_ok-put_numbers_line.ensures.ok in
     both_written old c.put_numbers_line.new.out.items c.put_family_lines.new.out.items
     ((codes "transversal" ∷ numeral (pos (length family)) ∷ []) ∷ []) (lines family)
     header c.in_ok-put_family_lines.ensures
