@@ -90,12 +90,12 @@ module _ (ends : ℕ → ℕ × ℕ) (X : List ℕ) (order : List ℕ) where
         let e = get_or through high 0 in
         let joins = t.joined high inside down in
         let out : is_member e (P ++ Q) ≡ false = false_from_ne_true _ (λ m. (let w = s.far e m in
-            let above = w.1 in let small = w.2 in
-            elim (at_end e w.0 w.3 joins) [
-              | inl same ↦ (let k = order-differ place order through before o w.0 high small inside same in absurd (omega arith))
-              | inr same ↦ (let k = order-differ place order through before o w.0 (get_or before high 0) small (omega arith) same in absurd
-                  (omega arith))
-            ])) in
+        let above = w.1 in let small = w.2 in
+        elim (at_end e w.0 w.3 joins) [
+          | inl same ↦ (let k = order-differ place order through before o w.0 high small inside same in absurd (omega arith))
+          | inr same ↦ (let k = order-differ place order through before o w.0 (get_or before high 0) small (omega arith) same in absurd
+              (omega arith))
+        ])) in
         record {
           distinct = AreDistinct-between e P Q s.distinct out;
           inside = record {
@@ -135,7 +135,8 @@ module _ (ends : ℕ → ℕ × ℕ) (X : List ℕ) (order : List ℕ) where
           walk = walk_append ends s.front (e ∷ []) (get_or order from 0) (get_or order first 0) (get_or order (get_or before first 0) 0) s.walk
               (get_or order (get_or before first 0) 0, t.joined first inside down, refl);
           walk_back = s.walk_back;
-          after = subst (λ L. AreAfter ends X order (max (get_or before first 0) second) L (with_one with' e)) (sym (append_assoc s.front (e ∷ []) s.back))
+          after = subst (λ L. AreAfter ends X order (max (get_or before first 0) second) L (with_one with' e))
+              (sym (append_assoc s.front (e ∷ []) s.back))
               (AreAfter-more first second s.front s.back with' inside under down
               (subst (λ k. AreAfter ends X order k (s.front ++ s.back) with') high s.after));
         }

@@ -69,7 +69,8 @@ module _ (ends : ℕ → ℕ × ℕ) where
       own x = grind (arith, nat_tests)
 
   -- x itself cannot be added
-  pub added-closed : (I : List ℕ) (x : ℕ) → is_member x I ≡ false → Trail ends I (ends x).1 (ends x).0 → IsForest ends (with_one I x) → ⊥
+  pub added-closed : (I : List ℕ) (x : ℕ) → is_member x I ≡ false → Trail ends I (ends x).1 (ends x).0
+      → IsForest ends (with_one I x) → ⊥
   added-closed I x out P forest =
       never_joined ends I (with_one I x) x forest out (is_member-with_one x x I ∙ or_left (eqb x x) _ (own x))
       (record { inside = λ z m. is_member-with_one z x I ∙ or_right (eqb z x) _ m }) P

@@ -33,7 +33,8 @@ module _ (ends : ℕ → ℕ × ℕ) (set : List ℕ) (x : ℕ) where
       sym (false_from_ne_true _ (λ h.
       let enters = and_parts (not (is_member x set)) _ h in
       added-closed ends set x (not-true _ enters.0) (trail_of_same ends set (ends x).1 (ends x).0 rising (sym same))
-      (IsForest-from_test ends _ (IsRising-with_one set x rising) (and_parts (is_set n (with_one set x)) (is_forest ends (with_one set x)) enters.1).1)))
+      (IsForest-from_test ends _ (IsRising-with_one set x rising) (and_parts (is_set n (with_one set x))
+      (is_forest ends (with_one set x)) enters.1).1)))
 
   -- the table after the ends of x have been united is of the components of the set after x came
   pub table_after : (parent : List ℕ) (apart : Bool) → apart ≡ is_apart → IsParentTable (least_merged ends (x ∷ set)) parent

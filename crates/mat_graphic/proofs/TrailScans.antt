@@ -230,7 +230,8 @@ IsExploring-end firsts seconds set n at place order through before past same x i
     both false false f g = refl
 
 pub IsExploring-none : (firsts seconds set : List ℕ) (n at : ℕ) (place : List (Option ℕ)) (order through before : List ℕ)
-    → length place ≡ n → ((v : ℕ) → v < length place → get_or place v None ≡ None) → at ≡ 0 → order ≡ [] → through ≡ [] → before ≡ []
+    → length place ≡ n → ((v : ℕ) → v < length place → get_or place v None ≡ None) → at ≡ 0 → order ≡ []
+    → through ≡ [] → before ≡ []
     → IsExploring firsts seconds set n at place order through before
 IsExploring-none firsts seconds set n at place order through before long none zero e f g = rw (e, f, g) (record {
   long = long;

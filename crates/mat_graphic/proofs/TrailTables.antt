@@ -205,7 +205,8 @@ module _ (place : List (Option ℕ)) (order through before : List ℕ) (o : IsOr
       where
         out : is_member u order ≡ false
         out = false_from_ne_true _ (λ m. (let w = place_of_member u order m in
-            both_ways (is_some (get_or place u None)) (ap is_some fresh) (ap is_some (ap (λ v. get_or place v None) (sym w.2) ∙ o.placed w.0 w.1))))
+            both_ways (is_some (get_or place u None)) (ap is_some fresh)
+            (ap is_some (ap (λ v. get_or place v None) (sym w.2) ∙ o.placed w.0 w.1))))
 
         kept : (xs : List ℕ) (x k : ℕ) → length xs ≡ length order → k < length order → get_or (xs ++ x ∷ []) k 0 ≡ get_or xs k 0
         kept xs x k long l = get_or_append_left xs (x ∷ []) 0 k (omega arith)

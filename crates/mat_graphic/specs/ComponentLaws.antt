@@ -233,8 +233,8 @@ module _ (ends : ℕ → ℕ × ℕ) where
   trail_of_same X v w r h = trail_from 0 X v w r.rises h
 
   -- what is the same at both ends of each member is so where the least vertex is
-  pub constant_on_components : (f : ℕ → ℕ) (X : List ℕ) → ((e : ℕ) → is_member e X ≡ true → f (ends e).0 ≡ f (ends e).1) → (v w : ℕ)
-      → least_merged ends X v ≡ least_merged ends X w → f v ≡ f w
+  pub constant_on_components : (f : ℕ → ℕ) (X : List ℕ) → ((e : ℕ) → is_member e X ≡ true → f (ends e).0 ≡ f (ends e).1)
+      → (v w : ℕ) → least_merged ends X v ≡ least_merged ends X w → f v ≡ f w
   unfolding least_merged
   constant_on_components f [] h v w same = ap f same
   constant_on_components f (e ∷ X) h v w same =
@@ -249,7 +249,8 @@ module _ (ends : ℕ → ℕ × ℕ) where
       ]
 
   -- so the components are those of the members, in whatever order they are merged
-  pub least_merged-same : (X Y : List ℕ) → ((z : ℕ) → is_member z X ≡ is_member z Y) → (v : ℕ) → least_merged ends X v ≡ least_merged ends Y v
+  pub least_merged-same : (X Y : List ℕ) → ((z : ℕ) → is_member z X ≡ is_member z Y) → (v : ℕ)
+      → least_merged ends X v ≡ least_merged ends Y v
   least_merged-same X Y same v =
       let there : least_merged ends Y (least_merged ends X v) ≡ least_merged ends Y v =
       constant_on_components (least_merged ends Y) X (λ e m. member_within Y e (sym (same e) ∙ m)) _ v (least_merged-fixed X v) in

@@ -9,7 +9,7 @@ ghost use Rattle.mat_graphic.specs.ForestLaws.{graphic_laws};
 ghost use Rattle.mat_graphic.specs.RootedForests.{IsRootedForest};
 ghost use Rattle.mat_graphic.specs.ParentTables.{IsDescending, IsParentTable};
 
-use crate::rooted_forest::{root_trees, trail, RootedForest};
+use crate::rooted_forest::{RootedForest, root_trees, trail};
 use crate::union_find::{settle, singletons, unite};
 use mat_laws::{Exchange, Matroid};
 use mat_sets::{ElemSet, Pairs};

@@ -229,8 +229,8 @@ fn climb(
     ensures trail { IfOk result (λ found. (ends : ℕ → ℕ × ℕ) (X : List ℕ)
         → IsTree ends X forest.now.order.items forest.now.through.items forest.now.before.items
         → MatchOption found (least_merged ends X (slice_index forest.now.order.items from)
-            ≢ least_merged ends X (slice_index forest.now.order.items to))
-            (λ s. IsTrailSet ends X (slice_index forest.now.order.items from) (slice_index forest.now.order.items to) s)) }
+        ≢ least_merged ends X (slice_index forest.now.order.items to))
+        (λ s. IsTrailSet ends X (slice_index forest.now.order.items from) (slice_index forest.now.order.items to) s)) }
     ensures rises { IfOk result (λ found. MatchOption found (Unit {0}) (λ s. IsRising s)) }
 {
     let mut with = ElemSet::new(alloc);

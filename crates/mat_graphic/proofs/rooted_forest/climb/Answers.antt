@@ -16,7 +16,8 @@ loop-first-preserved-then-first-high c =
     let o = c.requires.order in
     let now = c.loop-first.invariant in
     let inside : c.max-high.result < length c.args.forest.now.order.items = omega (arith, c.max-high.ensures, now.first, now.second) in
-    let up = item_of c.args.forest.now.before.items c.max-high.result c.index-before.result.now (omega (arith, o.before_long)) c.index-before.ensures in
+    let up = item_of c.args.forest.now.before.items c.max-high.result c.index-before.result.now (omega (arith, o.before_long))
+    c.index-before.ensures in
     let edge = item_of c.args.forest.now.through.items c.max-high.result c.index.result.now (omega (arith, o.through_long)) c.index.ensures in
     record {
       rising = c.in_ok-add.ensures.rises;
@@ -32,7 +33,8 @@ loop-first-preserved c =
     let o = c.requires.order in
     let now = c.loop-first.invariant in
     let inside : c.max-high.result < length c.args.forest.now.order.items = omega (arith, c.max-high.ensures, now.first, now.second) in
-    let up = item_of c.args.forest.now.before.items c.max-high.result c.index-before.result.now (omega (arith, o.before_long)) c.index-before.ensures in
+    let up = item_of c.args.forest.now.before.items c.max-high.result c.index-before.result.now (omega (arith, o.before_long))
+    c.index-before.ensures in
     let edge = item_of c.args.forest.now.through.items c.max-high.result c.index.result.now (omega (arith, o.through_long)) c.index.ensures in
     record {
       rising = c.in_ok-add.ensures.rises;
@@ -48,7 +50,8 @@ loop-first-smaller-then-first-high c =
     let o = c.requires.order in
     let now = c.loop-first.invariant in
     let inside : c.max-high.result < length c.args.forest.now.order.items = omega (arith, c.max-high.ensures, now.first, now.second) in
-    let up = item_of c.args.forest.now.before.items c.max-high.result c.index-before.result.now (omega (arith, o.before_long)) c.index-before.ensures in
+    let up = item_of c.args.forest.now.before.items c.max-high.result c.index-before.result.now (omega (arith, o.before_long))
+    c.index-before.ensures in
     omega (arith, o.earlier c.max-high.result inside, c.max-high.ensures, c.if-before-high.false, c.if-first-high.true)
 
 pub loop-first-smaller : goal.loop-first-smaller
@@ -56,7 +59,8 @@ loop-first-smaller c =
     let o = c.requires.order in
     let now = c.loop-first.invariant in
     let inside : c.max-high.result < length c.args.forest.now.order.items = omega (arith, c.max-high.ensures, now.first, now.second) in
-    let up = item_of c.args.forest.now.before.items c.max-high.result c.index-before.result.now (omega (arith, o.before_long)) c.index-before.ensures in
+    let up = item_of c.args.forest.now.before.items c.max-high.result c.index-before.result.now (omega (arith, o.before_long))
+    c.index-before.ensures in
     omega (arith, o.earlier c.max-high.result inside, c.max-high.ensures, c.if-before-high.false, c.if-first-high.false)
 
 pub returns-then-before-high-clause-trail : goal.returns-then-before-high-clause-trail
@@ -64,7 +68,8 @@ returns-then-before-high-clause-trail c = λ ends X t.
     let o = c.requires.order in
     let now = c.loop-first.invariant in
     let inside : c.max-high.result < length c.args.forest.now.order.items = omega (arith, c.max-high.ensures, now.first, now.second) in
-    let up = item_of c.args.forest.now.before.items c.max-high.result c.index-before.result.now (omega (arith, o.before_long)) c.index-before.ensures in
+    let up = item_of c.args.forest.now.before.items c.max-high.result c.index-before.result.now (omega (arith, o.before_long))
+    c.index-before.ensures in
     climbed_apart ends X _ _ _ _ o t c.args.from c.args.to c.loop-first.first c.loop-first.second c.max-high.result c.loop-first.with now.first
     now.second c.loop-first-test.true c.max-high.ensures (up ∙ c.if-before-high.true) (now.climbing ends X t)
 
