@@ -1,4 +1,5 @@
--- The tables of a search for a trail: the places of each vertex in a list, the ends of the members of a set, and the vertices found so far.
+-- The tables of the search that roots the trees of a forest: the places of each vertex in a list, the ends of the members of a set, and the
+-- vertices found so far.
 use Rattle.std.proofs.Common.{is_some, ◌≡◌, ℕ, suc, ◌<◌, ◌≤◌, ◌≢◌, Bool, true, false, ◌&&◌, ltb, List, [], ◌∷◌, ◌++◌, length, get_or, set, Option, Some, None, ◌⊎◌, inl, inr, refl, sym, ap, ◌∙◌, subst, arith, get_or-set_other, get_or-set_same, length-set, length-append}
 use Rattle.std.proofs.lemmas.Bool.{cases_eq, cases_lt, eq-eqb, ne_eqb, lt-ltb, both_ways, false_from_ne_true}
 use Rattle.std.proofs.lemmas.List.{get_or_append_left, get_or_default}

@@ -1,5 +1,5 @@
--- The algorithm's own notions, by which its private functions are told: the search for a trail between two vertices, in which all vertices that
--- members of a set of edges join to a start are found, each from one found earlier. No public contract rests on them.
+-- The algorithm's own notions: the search that roots the trees of a forest, in which all vertices are found, each but the roots from one found
+-- earlier, and the trails between vertices. No public contract but that of what is kept rests on them.
 use Rattle.std.specs.Prelude.{◌≡◌, ◌≢◌, ℕ, suc, ◌<◌, ◌≤◌, Bool, true, false, ◌&&◌, ◌==◌, nat_lt, List, length, slice_index, slice_index_or, Option, Some, None}
 use Rattle.mat_sets.specs.Sets.{is_member, AllBelow, AreDistinct, IsRising, IsSubset}
 use Rattle.mat_sets.specs.Search.{IsNextFrom}
