@@ -9,7 +9,6 @@ ghost use Rattle.mat_any.specs.Views.{tree_of};
 use crate::any::AnyMatroid;
 use crate::independence::maximal_subset;
 use mat_laws::{Exchange, Matroid};
-use mat_minors::union;
 use mat_sets::ElemSet;
 use std::alloc::{AllocError, Global};
 
@@ -119,7 +118,7 @@ fn contraction_circuit(
         });
     }
     let chosen = maximal_subset(alloc, inner, away)?;
-    let joined = union(alloc, base, &chosen)?;
+    let joined = base.union(alloc, &chosen)?;
     let exchange = circuit(alloc, inner, &joined, x)?;
     Ok(Exchange {
         addable: exchange.addable,

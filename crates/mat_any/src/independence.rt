@@ -9,7 +9,6 @@ ghost use Rattle.mat_any.specs.Views.{tree_of};
 use crate::any::AnyMatroid;
 use crate::runs::run;
 use mat_laws::Matroid;
-use mat_minors::union;
 use mat_sets::ElemSet;
 use std::alloc::{AllocError, Global};
 
@@ -107,7 +106,7 @@ fn contraction_independent(
         return Ok(false);
     }
     let chosen = maximal_subset(alloc, inner, away)?;
-    let joined = union(alloc, set, &chosen)?;
+    let joined = set.union(alloc, &chosen)?;
     independent(alloc, inner, &joined)
 }
 

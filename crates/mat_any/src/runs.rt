@@ -9,7 +9,7 @@ ghost use Rattle.mat_any.specs.Views.{tree_of};
 use crate::any::AnyMatroid;
 use crate::independence::size_of;
 use mat_laws::Matroid;
-use mat_minors::{first_taken, items_in, others_first, set_first, set_of};
+use mat_minors::{first_taken, items_in, others_first, set_first};
 use mat_sets::ElemSet;
 use std::alloc::{AllocError, Global};
 
@@ -45,7 +45,7 @@ fn dual_run(alloc: Global, inner: &AnyMatroid, order: &[u32]) -> Result<ElemSet,
     requires distinct { AreDistinct order.now }
     ensures { IfOk result (λ s. s ≡ grown_along (is_dual (element_count (tree_of inner.now)) (is_independent (tree_of inner.now))) [] order.now) }
 {
-    let all = set_of(alloc, order)?;
+    let all = ElemSet::from_members(alloc, order)?;
     let items = others_first(alloc, size_of(inner), &all, order)?;
     let base = run(alloc, inner, &items)?;
     all.minus(alloc, &base)

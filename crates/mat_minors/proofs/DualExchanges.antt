@@ -1,22 +1,24 @@
 -- The exchanges at an independent set I of a dual, by those of the matroid at a base B that is disjoint from I. A set that meets B in x
 -- alone is independent in the dual exactly where some z outside B and outside the set can take the place of x in B. So an x outside B
 -- can always be added; one in B can be added where some such z lies outside I, and else it can be exchanged exactly for these z.
-use Rattle.std.proofs.Common.{◌≡◌, ℕ, ◌<◌, Bool, true, false, not, ◌&&◌, ◌||◌, cond, eqb, ltb, List, [], length, get_or, inl, inr, refl, subst, sym, ap, ◌∙◌, arith}
+use Rattle.std.proofs.Common.{◌≡◌, ℕ, ◌<◌, Bool, true, false, not, ◌&&◌, ◌||◌, cond, eqb, ltb, List, [], length, get_or}
+use Rattle.std.proofs.Common.{inl, inr, refl, subst, sym, ap, ◌∙◌, arith}
 use Rattle.std.specs.List.{filter}
-use Rattle.std.proofs.lemmas.Bool.{cases_Bool, cases_eq, cond-false, and_parts, and_from, both_ways, false_from_ne_true, ne_eqb, eqb-true, ltb-true, lt-ltb, not-true, or_cases}
+use Rattle.std.proofs.lemmas.Bool.{cases_Bool, cases_eq, cond-false, and_parts, and_from, both_ways, false_from_ne_true, ne_eqb}
+use Rattle.std.proofs.lemmas.Bool.{eqb-true, ltb-true, lt-ltb, not-true, or_cases}
 use Rattle.mat_sets.specs.Sets.{is_member, IsRising, IsSet, IsSubset, with_one, without_one, minus, intersection, union, all_below}
-use Rattle.mat_sets.proofs.Members.{set_members, same_members, is_member-filter, is_member-with_one, is_member-without_one, IsRising-without_one, IsRising-with_one, RisesFrom-filter}
+use Rattle.mat_sets.proofs.Members.{set_members, same_members, is_member-filter, is_member-with_one, is_member-without_one}
+use Rattle.mat_sets.proofs.Members.{IsRising-without_one, IsRising-with_one, RisesFrom-filter}
 use Rattle.mat_sets.proofs.Cardinalities.{length-with_one, length-without_one}
 use Rattle.mat_sets.proofs.Subsets.{subset_or}
 use Rattle.mat_sets.proofs.Filters.{filter_whole, IsRising-filter}
 use Rattle.mat_sets.proofs.Ground.{IsSet-with_one, IsSet-without_one, below_member, IsSubset-all_below}
-use Rattle.mat_sets.proofs.DisjointSets.{apart_at, apart_from, inside_test, inside_test_from, minus_from}
+use Rattle.mat_sets.proofs.DisjointSets.{apart_at, apart_from, inside_test, inside_test_from, minus_from, minus_parts}
 use Rattle.mat_laws.specs.Matroids.{IsMatroid, IsBase, IsMaximal}
 use Rattle.mat_laws.specs.Exchanges.{row_of}
 use Rattle.mat_laws.specs.declared.exchange.Exchange.{Exchange}
 use Rattle.mat_laws.proofs.Independent.{rising, below, less_one}
 use Rattle.mat_laws.proofs.Growing.{maximal_from_none}
-use Rattle.mat_minors.proofs.DualTests.{outside_set}
 use Rattle.mat_laws.proofs.Maximal.{IsBase-size, base_largest, IsMaximal-largest}
 use Rattle.mat_laws.proofs.Rows.{exchanged, row_outside}
 use Rattle.mat_minors.specs.Minors.{is_dual, IsDualIndependent}
@@ -64,7 +66,8 @@ module _ {n : ℕ} {p : List ℕ → Bool} (laws : IsMatroid n p) (B : List ℕ)
       ])
 
   -- and nowhere else
-  pub replacing_from_dual : (J : List ℕ) (x : ℕ) → is_dual n p J ≡ true → is_member x B ≡ true → is_member x J ≡ true → Replaces n p B J x
+  pub replacing_from_dual : (J : List ℕ) (x : ℕ) → is_dual n p J ≡ true → is_member x B ≡ true → is_member x J ≡ true
+      → Replaces n p B J x
   replacing_from_dual J x d inside here =
       let other = dual-gives n p J d in
       let few = length-without_one B x rises inside in
@@ -85,7 +88,8 @@ module _ {n : ℕ} {p : List ℕ → Bool} (laws : IsMatroid n p) (B : List ℕ)
         | inr differ ↦ (let e = ne_eqb z x differ in grind (arith, set_members))
       ]
 
-  module _ (I : List ℕ) (x : ℕ) (passes : is_dual n p I ≡ true) (disjoint : intersection B I ≡ []) (small : x < n) (out : is_member x I ≡ false) where
+  module _ (I : List ℕ) (x : ℕ) (passes : is_dual n p I ≡ true) (disjoint : intersection B I ≡ []) (small : x < n)
+      (out : is_member x I ≡ false) where
     set : IsSet n I
     set = (dual-gives n p I passes).set
 
@@ -93,7 +97,8 @@ module _ {n : ℕ} {p : List ℕ → Bool} (laws : IsMatroid n p) (B : List ℕ)
     not_in_base y m = false_from_ne_true _ (λ b. both_ways _ (apart_at B I disjoint y b) m)
 
     -- an element outside the base can be added, and exchanged for every member
-    pub dual_row_outside : (row : Exchange) → is_member x B ≡ false → row.addable ≡ true → row.with ≡ I → row ≡ row_of (is_dual n p) I x
+    pub dual_row_outside : (row : Exchange) → is_member x B ≡ false → row.addable ≡ true → row.with ≡ I
+        → row ≡ row_of (is_dual n p) I x
     dual_row_outside row o adds exchanges =
         row_outside (is_dual n p) I x row out (adds ∙ sym (free (with_one I x) (IsSet-with_one n I x set small) (λ y m. m)))
         (exchanges ∙ sym (filter_whole (exchanged (is_dual n p) I x) I (λ y m. free (with_one (without_one I y) x)
@@ -108,7 +113,8 @@ module _ {n : ℕ} {p : List ℕ → Bool} (laws : IsMatroid n p) (B : List ℕ)
           | inr m ↦ not_in_base k m
         ]
 
-        free : (J : List ℕ) → IsSet n J → ((k : ℕ) → is_member k J ≡ true → is_member k (with_one I x) ≡ true) → is_dual n p J ≡ true
+        free : (J : List ℕ) → IsSet n J → ((k : ℕ) → is_member k J ≡ true → is_member k (with_one I x) ≡ true)
+            → is_dual n p J ≡ true
         free J is within = dual-from laws J (record {
           set = is;
           base = B;
@@ -128,11 +134,12 @@ module _ {n : ℕ} {p : List ℕ → Bool} (laws : IsMatroid n p) (B : List ℕ)
       less y = record { inside = λ k h. grind (arith, set_members) }
 
       -- where something outside I can take the place of x, x can be added, and exchanged for every member
-      pub dual_row_added : (row : Exchange) → (z : ℕ) → is_member z I ≡ false → takes_place n p B x z ≡ true → row.addable ≡ true → row.with ≡ I
-          → row ≡ row_of (is_dual n p) I x
+      pub dual_row_added : (row : Exchange) → (z : ℕ) → is_member z I ≡ false → takes_place n p B x z ≡ true → row.addable ≡ true
+          → row.with ≡ I → row ≡ row_of (is_dual n p) I x
       dual_row_added row z fresh works adds exchanges =
           row_outside (is_dual n p) I x row out
-          (adds ∙ sym (dual_by_replacing (with_one I x) x (IsSet-with_one n I x set small) here (alone I (record { inside = λ k h. h })) (by_z I fresh)))
+          (adds ∙ sym (dual_by_replacing (with_one I x) x (IsSet-with_one n I x set small) here (alone I (record { inside = λ k h. h }))
+          (by_z I fresh)))
           (exchanges ∙ sym (filter_whole (exchanged (is_dual n p) I x) I (λ y m.
           dual_by_replacing (with_one (without_one I y) x) x (IsSet-with_one n (without_one I y) x (IsSet-without_one n I y set) small) here
           (alone (without_one I y) (less y)) (by_z (without_one I y) (let f = fresh in grind (arith, set_members))))))
@@ -196,7 +203,8 @@ module _ {n : ℕ} {p : List ℕ → Bool} (laws : IsMatroid n p) (B : List ℕ)
           backward : (y : ℕ) → (is_member y I && exchanged (is_dual n p) I x y) ≡ true → is_member y column ≡ true
           backward y h =
               let parts = and_parts (is_member y I) _ h in
-              let r = replacing_from_dual (with_one (without_one I y) x) x parts.1 here (let k : is_member x (with_one (without_one I y) x) ≡ true = grind (arith, set_members) in k) in
+              let r = replacing_from_dual (with_one (without_one I y) x) x parts.1 here
+              (let k : is_member x (with_one (without_one I y) x) ≡ true = grind (arith, set_members) in k) in
               let listed_by = listed (without_one I y) r in
               let of_I = inside.inside r.by listed_by in
               elim (cases_eq r.by y) [
@@ -211,35 +219,51 @@ module _ {n : ℕ} {p : List ℕ → Bool} (laws : IsMatroid n p) (B : List ℕ)
             | inr o ↦ o ∙ sym (false_from_ne_true _ (λ h. both_ways _ o (backward y h)))
           ]
 
+-- the two rows that the kept one may be: x is exchanged for the members of its column alone, or can be added
+abbrev exchanged_for : List ℕ → Exchange
+exchanged_for column = record { addable = false; with = column }
+
+abbrev added : List ℕ → Exchange
+added I = record { addable = true; with = I }
+
 -- the row by what is kept is the row of the dual
 pub kept_row_is : {n : ℕ} {p : List ℕ → Bool} → IsMatroid n p → (I base : List ℕ) (columns : List (List ℕ)) (x : ℕ) (row : Exchange)
     → is_dual n p I ≡ true → IsDualKept n p I base columns → x < n → is_member x I ≡ false → IsRising row.with
     → row ≡ kept_row I base columns x → row ≡ row_of (is_dual n p) I x
 kept_row_is {n} {p} laws I base columns x row passes kept small out r told = elim (cases_Bool (is_member x base)) [
   | inr outside ↦
-      let e : row ≡ record { addable = true; with = I } = told ∙ ap (λ b. cond (b && eqb (length (minus (get_or columns x []) I)) 0) (record { addable = false; with = get_or columns x [] }) (record { addable = true; with = I })) outside in
+      let e : row ≡ added I =
+      told ∙ ap (λ b. cond (b && eqb (length (minus (get_or columns x []) I)) 0) (exchanged_for (get_or columns x [])) (added I)) outside in
       dual_row_outside laws base kept.is_base I x passes kept.disjoint small out row outside (ap (λ s. s.addable) e) (ap (λ s. s.with) e)
   | inl here ↦
-      let e = told ∙ ap (λ b. cond (b && eqb (length (minus (get_or columns x []) I)) 0) (record { addable = false; with = get_or columns x [] }) (record { addable = true; with = I })) here in
+      let e = told ∙ ap (λ b. cond (b && eqb (length (minus (get_or columns x []) I)) 0) (exchanged_for (get_or columns x [])) (added I)) here in
       elim (subset_or (get_or columns x []) I) [
         | inl s ↦
-            let f = e ∙ ap (λ b. cond b (record { addable = false; with = get_or columns x [] }) (record { addable = true; with = I })) (inside_test_from (get_or columns x []) I s) in
-            dual_row_exchanged laws base kept.is_base I x passes kept.disjoint small out here row (get_or columns x []) (subst IsRising (ap (λ t. t.with) f) r)
+            let f = e ∙ ap (λ b. cond b (exchanged_for (get_or columns x [])) (added I)) (inside_test_from (get_or columns x []) I s) in
+            dual_row_exchanged laws base kept.is_base I x passes kept.disjoint small out here row (get_or columns x [])
+            (subst IsRising (ap (λ t. t.with) f) r)
             (λ z. kept.columns_at.columns_are x z here) s (ap (λ t. t.addable) f) (ap (λ t. t.with) f)
         | inr found ↦
-            let f = e ∙ ap (λ b. cond b (record { addable = false; with = get_or columns x [] }) (record { addable = true; with = I }))
+            let f = e ∙ ap (λ b. cond b (exchanged_for (get_or columns x [])) (added I))
             (false_from_ne_true _ (λ h. both_ways _ found.2 ((inside_test (get_or columns x []) I h).inside found.0 found.1))) in
             dual_row_added laws base kept.is_base I x passes kept.disjoint small out here row found.0 found.2
             (sym (kept.columns_at.columns_are x found.0 here) ∙ found.1) (ap (λ t. t.addable) f) (ap (λ t. t.with) f)
       ]
 ]
 
+-- what is maximal outside X holds no member of X
+pub outside_set : (n : ℕ) (p : List ℕ → Bool) (X B : List ℕ) (x : ℕ) → IsMaximal p (minus (all_below n) X) B → is_member x X ≡ true
+    → is_member x B ≡ false
+outside_set n p X B x max m = false_from_ne_true _ (λ k. both_ways _ (minus_parts (all_below n) X x (max.inside.inside x k)).1 m)
+
 -- what is maximal outside an independent set of the dual is a base
-pub kept_is : {n : ℕ} {p : List ℕ → Bool} → IsMatroid n p → (I none outside B : List ℕ) (columns : List (List ℕ)) → is_dual n p I ≡ true
-    → none ≡ [] → outside ≡ minus (all_below n) I → IsMaximal p (union none outside) B → AreColumns n p B columns → IsDualKept n p I B columns
+pub kept_is : {n : ℕ} {p : List ℕ → Bool} → IsMatroid n p → (I none outside B : List ℕ) (columns : List (List ℕ))
+    → is_dual n p I ≡ true → none ≡ [] → outside ≡ minus (all_below n) I → IsMaximal p (union none outside) B
+    → AreColumns n p B columns → IsDualKept n p I B columns
 kept_is {n} {p} laws I none outside B columns passes empty o max c = record {
   is_base = IsBase-size laws d.base B d.is_base m.passes (IsMaximal-largest laws (minus (all_below n) I) B m d.base d.is_base.passes (record {
-    inside = λ y h. minus_from (all_below n) I y ((IsSubset-all_below n d.base (below laws d.base d.is_base.passes)).inside y h) (apart_at d.base I d.disjoint y h);
+    inside = λ y h. minus_from (all_below n) I y ((IsSubset-all_below n d.base (below laws d.base d.is_base.passes)).inside y h)
+        (apart_at d.base I d.disjoint y h);
   }));
   disjoint = apart_from B I (λ y h. false_from_ne_true _ (λ i. both_ways _ (outside_set n p I B y m i) h));
   columns_at = c;

@@ -1,6 +1,7 @@
 -- What is independent outside X and cannot grow there is, where it cannot grow by X either, a base that is disjoint from X; and where it
 -- can, it is smaller than a base, so that no base lies outside X.
-use Rattle.std.proofs.Common.{◌≡◌, ℕ, ◌+◌, ◌<◌, ◌≤◌, Bool, true, false, not, ◌&&◌, List, [], length, get_or, subst, inl, inr, sym, ap, ◌∙◌, arith}
+use Rattle.std.proofs.Common.{◌≡◌, ℕ, ◌+◌, ◌<◌, ◌≤◌, Bool, true, false, not, ◌&&◌, List, [], length, get_or, subst}
+use Rattle.std.proofs.Common.{inl, inr, sym, ap, ◌∙◌, arith}
 use Rattle.std.proofs.lemmas.Bool.{cases_Bool, cases_lt, and_parts, both_ways, false_from_ne_true, lt-ltb, not-true}
 use Rattle.mat_sets.specs.Sets.{is_member, IsSet, IsSubset, with_one, minus, union, all_below}
 use Rattle.mat_sets.proofs.Members.{place_of_member}
@@ -13,19 +14,12 @@ use Rattle.mat_laws.proofs.Growing.{maximal_from_none}
 use Rattle.mat_laws.proofs.Maximal.{base_largest, IsMaximal-largest}
 use Rattle.mat_minors.specs.Minors.{is_dual}
 use Rattle.mat_minors.specs.DualLaws.{dual-gives, dual-from}
+use Rattle.mat_minors.proofs.DualExchanges.{outside_set}
 
 -- the set is maximal outside X, and cannot grow by the first i members of X
 pub record IsRefusing (n : ℕ) (p : List ℕ → Bool) (X items : List ℕ) (i : ℕ) (set : List ℕ) : Type 0 where
   pub maximal : IsMaximal p (minus (all_below n) X) set
   pub refused : (k : ℕ) → k < i → p (with_one set (get_or items k 0)) ≡ false
-
-outside_side : (n : ℕ) (X : List ℕ) (x : ℕ) → is_member x (minus (all_below n) X) ≡ true → is_member x X ≡ false
-outside_side n X x m = (minus_parts (all_below n) X x m).1
-
--- a member of X is none of the set
-pub outside_set : (n : ℕ) (p : List ℕ → Bool) (X B : List ℕ) (x : ℕ) → IsMaximal p (minus (all_below n) X) B → is_member x X ≡ true
-    → is_member x B ≡ false
-outside_set n p X B x max m = false_from_ne_true _ (λ k. both_ways _ (outside_side n X x (max.inside.inside x k)) m)
 
 pub IsRefusing-start : (n : ℕ) (p : List ℕ → Bool) (X items none outside set : List ℕ) → none ≡ [] → outside ≡ minus (all_below n) X
     → IsMaximal p (union none outside) set → IsRefusing n p X items 0 set
@@ -57,7 +51,7 @@ module _ {n : ℕ} {p : List ℕ → Bool} (laws : IsMatroid n p) where
     set = set;
     base = B;
     is_base = record { passes = r.maximal.passes; full = full };
-    disjoint = apart_from B X (λ x m. outside_side n X x (r.maximal.inside.inside x m));
+    disjoint = apart_from B X (λ x m. (minus_parts (all_below n) X x (r.maximal.inside.inside x m)).1);
   })
     where
       listed : (x : ℕ) → is_member x items ≡ true → p (with_one B x) ≡ false

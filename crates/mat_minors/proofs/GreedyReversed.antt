@@ -1,31 +1,31 @@
 -- The greedy run of a dual along an order takes what the run of its matroid leaves that goes first through all other elements and then
 -- through the order from its end.
-use Rattle.std.proofs.Common.{◌≡◌, ℕ, ◌<◌, Bool, true, false, not, ◌&&◌, ◌||◌, ◌⊎◌, cond, eqb, ltb, List, [], ◌∷◌, ◌++◌, reverse, inl, inr, refl, subst, sym, ap, ◌∙◌, arith}
-use Rattle.std.proofs.lemmas.Bool.{cases_Bool, cases_eq, and_parts, both_ways, false_from_ne_true, ne_eqb, eqb-true, eq-eqb, or_cases, or_left, or_right, lt-ltb}
+use Rattle.std.proofs.Common.{◌≡◌, ℕ, ◌<◌, Bool, true, false, not, ◌&&◌, ◌||◌, ◌⊎◌, cond, eqb, ltb, List, [], ◌∷◌}
+use Rattle.std.proofs.Common.{◌++◌, length, reverse}
+use Rattle.std.proofs.Common.{inl, inr, refl, subst, sym, ap, ◌∙◌, arith}
+use Rattle.std.proofs.lemmas.Bool.{cases_Bool, cases_eq, both_ways, ne_eqb, eq-eqb, or_left, or_right, lt-ltb}
 use Rattle.std.proofs.lemmas.List.{append_assoc}
 use Rattle.mat_sets.specs.Sets.{is_member, IsRising, IsSet, IsSubset, AllBelow, AreDistinct, with_one, minus, union, all_below}
 use Rattle.mat_sets.proofs.ListParts.{reverse-cons, is_member-reverse}
-use Rattle.mat_sets.proofs.Members.{set_members, same_members, is_member-append, is_member-minus, is_member-union, is_member-with_one, IsRising-nil, IsRising-with_one, IsRising-minus, IsRising-union, minus-none}
-use Rattle.mat_sets.proofs.Subsets.{IsSubset-refl, IsSubset-trans, IsSubset-with_one}
+use Rattle.mat_sets.proofs.Members.{set_members, same_members, is_member-append, is_member-minus, is_member-union, is_member-with_one}
+use Rattle.mat_sets.proofs.Members.{IsRising-with_one, IsRising-minus, minus-none}
+use Rattle.mat_sets.proofs.Equalities.{union-with_one}
+use Rattle.mat_sets.proofs.Subsets.{IsSubset-refl, IsSubset-trans}
 use Rattle.mat_sets.proofs.Ground.{IsSet-with_one, IsSet-nil, AllBelow-member, is_member-all_below}
 use Rattle.mat_sets.proofs.DisjointSets.{with_one-holds}
 use Rattle.mat_laws.specs.Matroids.{IsMatroid, IsBase, IsMaximal}
-use Rattle.mat_laws.proofs.Independent.{rising, full_in_larger}
-use Rattle.mat_laws.proofs.Maximal.{IsBase-maximal}
-use Rattle.mat_minors.specs.Minors.{is_dual}
 use Rattle.mat_laws.specs.GreedyRuns.{grown_by, grown_along}
-use Rattle.mat_laws.proofs.GreedyRunSets.{grown_along-append, grown_by-holds, run_maximal}
+use Rattle.mat_laws.proofs.Maximal.{IsBase-maximal}
+use Rattle.mat_laws.proofs.GreedyRunSets.{grown_along-append, grown_by-holds, run_maximal, run_length}
+use Rattle.mat_minors.specs.Minors.{is_dual}
+use Rattle.mat_minors.specs.MinorLaws.{dual_laws}
 use Rattle.mat_minors.proofs.DualGreedy.{dual_takes, dual_leaves}
-
--- a set with each element of a list put in
-abbrev all_with : List ℕ → List ℕ → List ℕ
-all_with P [] = P
-all_with P (x ∷ xs) = all_with (with_one P x) xs
 
 -- at each element of the order a maximal independent set of what comes later
 abbrev pub Chain : ℕ → (List ℕ → Bool) → List ℕ → List ℕ → List ℕ → Type 0
 Chain n p B P [] = Unit {0}
-Chain n p B P (x ∷ order) = ((A : List ℕ) × IsMaximal p (minus (all_below n) (with_one P x)) A × IsSubset A B) × Chain n p B (with_one P x) order
+Chain n p B P (x ∷ order) =
+    ((A : List ℕ) × IsMaximal p (minus (all_below n) (with_one P x)) A × IsSubset A B) × Chain n p B (with_one P x) order
 
 module _ {n : ℕ} {p : List ℕ → Bool} (laws : IsMatroid n p) where
   module _ (B : List ℕ) (base : IsBase n p B) where
@@ -38,9 +38,11 @@ module _ {n : ℕ} {p : List ℕ → Bool} (laws : IsMatroid n p) where
 
     taken : (k x : ℕ) (P : List ℕ) → k ≡ x → is_member k (minus (all_below n) (with_one P x)) ≡ false
     taken k x P same = is_member-minus k (all_below n) (with_one P x)
-        ∙ ap (λ b. is_member k (all_below n) && not b) (ap (λ z. is_member z (with_one P x)) same ∙ with_one-holds P x) ∙ never (is_member k (all_below n))
+        ∙ ap (λ b. is_member k (all_below n) && not b) (ap (λ z. is_member z (with_one P x)) same ∙ with_one-holds P x)
+        ∙ never (is_member k (all_below n))
 
-    kept : (k x : ℕ) (P : List ℕ) → eqb k x ≡ false → is_member k (minus (all_below n) P) ≡ is_member k (minus (all_below n) (with_one P x))
+    kept : (k x : ℕ) (P : List ℕ) → eqb k x ≡ false
+        → is_member k (minus (all_below n) P) ≡ is_member k (minus (all_below n) (with_one P x))
     kept k x P d = is_member-minus k (all_below n) P ∙ sym (is_member-minus k (all_below n) (with_one P x)
         ∙ ap (λ b. is_member k (all_below n) && not b) (is_member-with_one k x P ∙ ap (λ b. b || is_member k P) d))
 
@@ -82,33 +84,42 @@ module _ {n : ℕ} {p : List ℕ → Bool} (laws : IsMatroid n p) where
     extended : (P : List ℕ) (x k : ℕ) → eqb k x ≡ false → is_member k (with_one (minus P B) x) ≡ is_member k (minus (with_one P x) B)
     extended P x k e = grind (arith, set_members)
 
-    step : (P : List ℕ) (x : ℕ) → IsSet n P → x < n → is_member x P ≡ false → ((A : List ℕ) × IsMaximal p (minus (all_below n) (with_one P x)) A × IsSubset A B)
+    step : (P : List ℕ) (x : ℕ) → IsSet n P → x < n → is_member x P ≡ false
+        → ((A : List ℕ) × IsMaximal p (minus (all_below n) (with_one P x)) A × IsSubset A B)
         → (is_member x B ≡ true) ⊎ (is_member x B ≡ false) → grown_by (is_dual n p) (minus P B) x ≡ minus (with_one P x) B
     step P x set small new c (inl here) =
-        ap (λ b. cond (not (is_member x (minus P B)) && b) (with_one (minus P B) x) (minus P B)) (dual_leaves laws B base P x set small new here c.0 c.1 c.2)
+        ap (λ b. cond (not (is_member x (minus P B)) && b) (with_one (minus P B) x) (minus P B))
+        (dual_leaves laws B base P x set small new here c.0 c.1 c.2)
         ∙ ap (λ b. cond b (with_one (minus P B) x) (minus P B)) (never (not (is_member x (minus P B))))
-        ∙ same_members _ _ (IsRising-minus P B set.rising) (IsRising-minus (with_one P x) B (IsRising-with_one P x set.rising)) (λ k. elim (cases_eq k x) [
+        ∙ same_members _ _ (IsRising-minus P B set.rising) (IsRising-minus (with_one P x) B (IsRising-with_one P x set.rising))
+        (λ k. elim (cases_eq k x) [
           | inl same ↦ ap (λ z. is_member z (minus P B)) same ∙ (is_member-minus x P B ∙ ap (λ b. b && not (is_member x B)) new)
-              ∙ sym (ap (λ z. is_member z (minus (with_one P x) B)) same ∙ is_member-minus x (with_one P x) B ∙ ap (λ b. is_member x (with_one P x) && not b) here ∙ no_and (is_member x (with_one P x)))
+              ∙ sym (ap (λ z. is_member z (minus (with_one P x) B)) same ∙ is_member-minus x (with_one P x) B
+              ∙ ap (λ b. is_member x (with_one P x) && not b) here ∙ no_and (is_member x (with_one P x)))
           | inr differ ↦ unchanged P x k (ne_eqb k x differ)
         ])
     step P x set small new c (inr out) =
         ap (λ b. cond (not (is_member x (minus P B)) && b) (with_one (minus P B) x) (minus P B)) (dual_takes laws B base P x set small new out)
         ∙ ap (λ b. cond (not b && true) (with_one (minus P B) x) (minus P B)) (is_member-minus x P B ∙ ap (λ b. b && not (is_member x B)) new)
-        ∙ same_members _ _ (IsRising-with_one (minus P B) x (IsRising-minus P B set.rising)) (IsRising-minus (with_one P x) B (IsRising-with_one P x set.rising)) (λ k. elim (cases_eq k x) [
+        ∙ same_members _ _ (IsRising-with_one (minus P B) x (IsRising-minus P B set.rising))
+        (IsRising-minus (with_one P x) B (IsRising-with_one P x set.rising)) (λ k. elim (cases_eq k x) [
           | inl same ↦ ap (λ z. is_member z (with_one (minus P B) x)) same ∙ with_one-holds (minus P B) x
-              ∙ sym (ap (λ z. is_member z (minus (with_one P x) B)) same ∙ is_member-minus x (with_one P x) B ∙ ap (λ b. b && not (is_member x B)) (with_one-holds P x) ∙ ap (λ b. true && not b) out)
+              ∙ sym (ap (λ z. is_member z (minus (with_one P x) B)) same ∙ is_member-minus x (with_one P x) B
+              ∙ ap (λ b. b && not (is_member x B)) (with_one-holds P x) ∙ ap (λ b. true && not b) out)
           | inr differ ↦ extended P x k (ne_eqb k x differ)
         ])
 
     -- from what B leaves of P the run of the dual comes to what B leaves of P and the order
-    pub along : (order P : List ℕ) → IsSet n P → AllBelow n order → AreDistinct order → ((k : ℕ) → is_member k order ≡ true → is_member k P ≡ false)
-        → Chain n p B P order → grown_along (is_dual n p) (minus P B) order ≡ minus (all_with P order) B
+    pub along : (order P : List ℕ) → IsSet n P → AllBelow n order → AreDistinct order
+        → ((k : ℕ) → is_member k order ≡ true → is_member k P ≡ false)
+        → Chain n p B P order → grown_along (is_dual n p) (minus P B) order ≡ minus (union order P) B
+    unfolding union with_one
     along [] P set b d fresh c = refl
     along (x ∷ order) P set b d fresh c =
         ap (λ S. grown_along (is_dual n p) S order)
         (step P x set b.0 (fresh x (or_left (eqb x x) (is_member x order) (eq-eqb x x refl))) c.0 (cases_Bool (is_member x B)))
         ∙ along order (with_one P x) (IsSet-with_one n P x set b.0) b.1 d.1 (λ k m. still k m) c.1
+        ∙ ap (λ S. minus S B) (union-with_one order P x set.rising)
       where
         still : (k : ℕ) → is_member k order ≡ true → is_member k (with_one P x) ≡ false
         still k m = is_member-with_one k x P
@@ -118,70 +129,54 @@ module _ {n : ℕ} {p : List ℕ → Bool} (laws : IsMatroid n p) where
   -- the whole run of the dual
   pub dual_greedy : (order : List ℕ) → AreDistinct order → AllBelow n order
       → grown_along (is_dual n p) [] order
-      ≡ minus (all_with [] order) (grown_along p [] (minus (all_below n) (all_with [] order) ++ reverse order))
+      ≡ minus (union order []) (grown_along p [] (minus (all_below n) (union order []) ++ reverse order))
   dual_greedy order d b =
-      let rest = minus (all_below n) (all_with [] order) in
+      let rest = minus (all_below n) (union order []) in
       let B = grown_along p [] (rest ++ reverse order) in
       let base = IsBase-maximal n p B (run_maximal laws (rest ++ reverse order) (all_below n) (λ k.
       is_member-append k rest (reverse order) ∙ ap (λ b. is_member k rest || b) (is_member-reverse k order) ∙ whole k)) in
       ap (λ S. grown_along (is_dual n p) S order) (sym (minus-none B))
       ∙ along B base order [] (IsSet-nil n) b d (λ k m. refl)
-      (chain B base rest order [] d (λ k m. out k m) (λ k. whole k ∙ sym (is_member-minus k (all_below n) [] ∙ all_true (is_member k (all_below n)))) (IsSubset-refl B))
+      (chain B base rest order [] d (λ k m. out k m)
+      (λ k. whole k ∙ sym (is_member-minus k (all_below n) [] ∙ all_true (is_member k (all_below n)))) (IsSubset-refl B))
     where
-      members : (P xs : List ℕ) (k : ℕ) → is_member k (all_with P xs) ≡ (is_member k xs || is_member k P)
-      members P [] k = refl
-      members P (x ∷ xs) k = members (with_one P x) xs k ∙ ap (λ b. is_member k xs || b) (is_member-with_one k x P) ∙ swap (is_member k xs) (eqb k x) (is_member k P)
-        where
-          swap : (a c e : Bool) → (a || (c || e)) ≡ ((c || a) || e)
-          swap true c e = grind arith
-          swap false c e = grind arith
-
       all_true : (a : Bool) → (a && not false) ≡ a
       all_true true = refl
       all_true false = refl
 
-      rest_members : (k : ℕ) → is_member k (minus (all_below n) (all_with [] order)) ≡ (ltb k n && not (is_member k order))
-      rest_members k = is_member-minus k (all_below n) (all_with [] order)
-          ∙ ap (λ a. a && not (is_member k (all_with [] order))) (is_member-all_below k n)
-          ∙ ap (λ a. ltb k n && not a) (members [] order k ∙ or_false (is_member k order))
+      rest_members : (k : ℕ) → is_member k (minus (all_below n) (union order [])) ≡ (ltb k n && not (is_member k order))
+      rest_members k = is_member-minus k (all_below n) (union order [])
+          ∙ ap (λ a. a && not (is_member k (union order []))) (is_member-all_below k n)
+          ∙ ap (λ a. ltb k n && not a) (is_member-union k order [] ∙ or_false (is_member k order))
         where
           or_false : (a : Bool) → (a || false) ≡ a
           or_false true = refl
           or_false false = refl
 
-      out : (k : ℕ) → is_member k order ≡ true → is_member k (minus (all_below n) (all_with [] order)) ≡ false
+      out : (k : ℕ) → is_member k order ≡ true → is_member k (minus (all_below n) (union order [])) ≡ false
       out k m = rest_members k ∙ ap (λ a. ltb k n && not a) m ∙ no_more (ltb k n)
         where
           no_more : (a : Bool) → (a && not true) ≡ false
           no_more true = refl
           no_more false = refl
 
-      whole : (k : ℕ) → (is_member k (minus (all_below n) (all_with [] order)) || is_member k order) ≡ is_member k (all_below n)
-      whole k = ap (λ a. a || is_member k order) (rest_members k) ∙ both (is_member k order) (ltb k n) (λ m. lt-ltb k n (AllBelow-member n order k b m)) ∙ sym (is_member-all_below k n)
+      whole : (k : ℕ) → (is_member k (minus (all_below n) (union order [])) || is_member k order) ≡ is_member k (all_below n)
+      whole k =
+          ap (λ a. a || is_member k order) (rest_members k) ∙ both (is_member k order) (ltb k n) (λ m. lt-ltb k n (AllBelow-member n order k b m))
+          ∙ sym (is_member-all_below k n)
         where
           both : (a c : Bool) → (a ≡ true → c ≡ true) → ((c && not a) || a) ≡ c
           both true c f = rw (f refl) refl
           both false true f = refl
           both false false f = refl
 
-  -- the items of the order as a set, and so too where it is put together otherwise
+  -- the same where the set of the items is told
   pub dual_greedy_of : (order all : List ℕ) → AreDistinct order → AllBelow n order → all ≡ union order []
       → grown_along (is_dual n p) [] order ≡ minus all (grown_along p [] (minus (all_below n) all ++ reverse order))
-  dual_greedy_of order all d b is = rw (is ∙ sym same) (dual_greedy order d b)
-    where
-      rises : (P xs : List ℕ) → IsRising P → IsRising (all_with P xs)
-      rises P [] r = r
-      rises P (x ∷ xs) r = rises (with_one P x) xs (IsRising-with_one P x r)
+  dual_greedy_of order all d b is = rw is (dual_greedy order d b)
 
-      members : (P xs : List ℕ) (k : ℕ) → is_member k (all_with P xs) ≡ (is_member k xs || is_member k P)
-      members P [] k = refl
-      members P (x ∷ xs) k = members (with_one P x) xs k ∙ ap (λ b. is_member k xs || b) (is_member-with_one k x P)
-          ∙ swap (is_member k xs) (eqb k x) (is_member k P)
-        where
-          swap : (a c e : Bool) → (a || (c || e)) ≡ ((c || a) || e)
-          swap true c e = grind arith
-          swap false c e = grind arith
-
-      same : all_with [] order ≡ union order []
-      same = same_members _ _ (rises [] order IsRising-nil) (IsRising-union order [] IsRising-nil)
-          (λ k. members [] order k ∙ sym (is_member-union k order []))
+  -- a set is independent in the dual exactly where the run of the dual through its members takes as many
+  pub dual_by_run : (X items taken : List ℕ) → IsRising X → items ≡ X → taken ≡ grown_along (is_dual n p) [] items
+      → eqb (length taken) (length X) ≡ is_dual n p X
+  dual_by_run X items taken rises same ends =
+      run_length (dual_laws n p laws) X taken rises (ends ∙ ap (grown_along (is_dual n p) []) same)

@@ -1,8 +1,8 @@
-pub mod DualTests
 pub mod Joining
 pub mod MinorRows
 pub mod DualGreedy
 pub mod GreedyReversed
 pub mod DualExchanges
+pub mod DualTests
 pub mod MinorRuns
 pub mod RunOrders

@@ -1,33 +1,26 @@
 -- The exchanges at an independent set of a truncation, a restriction or a contraction, by those of the inner matroid: the additional
 -- conditions hold of each set that an exchange makes, or of none; and the members of a maximal independent subset of the contracted
 -- elements are left out.
-use Rattle.std.proofs.Common.{◌≡◌, ℕ, ◌<◌, Bool, true, false, ◌&&◌, eqb, leb, ltb, List, [], length, inl, inr, refl, sym, ap, ◌∙◌, arith}
+use Rattle.std.proofs.Common.{◌≡◌, ℕ, ◌<◌, Bool, true, false, ◌&&◌, eqb, leb, ltb, List, [], length, inl, inr, refl}
+use Rattle.std.proofs.Common.{sym, ap, ◌∙◌, arith}
 use Rattle.std.specs.List.{filter}
-use Rattle.std.proofs.lemmas.Bool.{cases_Bool, cond-false, and_parts, both_ways, false_from_ne_true}
+use Rattle.std.proofs.lemmas.Bool.{cases_Bool, and_parts, both_ways, false_from_ne_true}
 use Rattle.std.proofs.lemmas.Bool.Decides.{nat_tests}
 use Rattle.mat_sets.specs.Sets.{is_member, IsRising, IsSet, IsSubset, with_one, without_one, minus, intersection, union}
 use Rattle.mat_sets.proofs.Members.{filter_same_at, is_member-union}
 use Rattle.mat_sets.proofs.Cardinalities.{length-with_one, length-exchange_one}
 use Rattle.mat_sets.proofs.Subsets.{IsSubset-trans, with_one-IsSubset, without_one-IsSubset}
 use Rattle.mat_sets.proofs.Ground.{IsSet-with_one, IsSet-without_one}
-use Rattle.mat_sets.proofs.DisjointSets.{inside_test, inside_test_from, apart_with, apart_at, apart_from, union-with_one_left, with_one-holds, without_one-union}
+use Rattle.mat_sets.proofs.DisjointSets.{inside_test, inside_test_from, apart_with, apart_at, apart_from}
+use Rattle.mat_sets.proofs.DisjointSets.{union-with_one_left, with_one-holds, without_one-union}
 use Rattle.mat_sets.proofs.Filters.{filter_first, filter_none}
 use Rattle.mat_laws.specs.Matroids.{IsMatroid, IsMaximal}
 use Rattle.mat_laws.specs.Exchanges.{row_of}
 use Rattle.mat_laws.specs.declared.exchange.Exchange.{Exchange}
 use Rattle.mat_laws.proofs.Independent.{rising}
-use Rattle.mat_laws.proofs.Rows.{exchanged, row_outside}
+use Rattle.mat_laws.proofs.Rows.{exchanged, row_outside, row-addable, row-with}
 use Rattle.mat_minors.specs.Minors.{is_truncated, is_restricted, is_contracted}
 use Rattle.mat_minors.specs.ContractionLaws.{contraction-gives, IsJoined, IsJoined-gives, IsJoined-from}
-
--- the two parts of a row
-addable_of : (p : List ℕ → Bool) (I : List ℕ) (x : ℕ) (row : Exchange) → is_member x I ≡ false → row ≡ row_of p I x
-    → row.addable ≡ p (with_one I x)
-addable_of p I x row out e = ap (λ r. r.addable) (e ∙ cond-false (is_member x I) _ _ out)
-
-with_of : (p : List ℕ → Bool) (I : List ℕ) (x : ℕ) (row : Exchange) → is_member x I ≡ false → row ≡ row_of p I x
-    → row.with ≡ filter (exchanged p I x) I
-with_of p I x row out e = ap (λ r. r.with) (e ∙ cond-false (is_member x I) _ _ out)
 
 true_and : (b c : Bool) → c ≡ true → b ≡ (b && c)
 true_and true c e = sym e
@@ -41,8 +34,8 @@ module _ {n : ℕ} {p : List ℕ → Bool} (laws : IsMatroid n p) where
       → row ≡ row_of (is_truncated cap p) I x
   truncated_row cap I x inner row passes out told adds exchanges =
       row_outside (is_truncated cap p) I x row out
-      (adds ∙ ap (λ b. b && ltb (length I) cap) (addable_of p I x inner out told) ∙ ap (λ b. p (with_one I x) && b) room)
-      (exchanges ∙ with_of p I x inner out told ∙ filter_same_at (exchanged p I x) (exchanged (is_truncated cap p) I x) I
+      (adds ∙ ap (λ b. b && ltb (length I) cap) (row-addable p I x inner out told) ∙ ap (λ b. p (with_one I x) && b) room)
+      (exchanges ∙ row-with p I x inner out told ∙ filter_same_at (exchanged p I x) (exchanged (is_truncated cap p) I x) I
       (λ y m. true_and (exchanged p I x y) _ (ap (λ k. leb k cap) (length-exchange_one I x y r m out) ∙ tests.1)))
     where
       tests : (p I ≡ true) × (leb (length I) cap ≡ true)
@@ -61,9 +54,9 @@ module _ {n : ℕ} {p : List ℕ → Bool} (laws : IsMatroid n p) where
       → row ≡ row_of p I x → row ≡ row_of (is_restricted kept p) I x
   restricted_row kept I x row passes out here told =
       row_outside (is_restricted kept p) I x row out
-      (addable_of p I x row out told
+      (row-addable p I x row out told
       ∙ true_and (p (with_one I x)) _ (inside_test_from (with_one I x) kept (with_one-IsSubset I kept x inside here)))
-      (with_of p I x row out told ∙ filter_same_at (exchanged p I x) (exchanged (is_restricted kept p) I x) I
+      (row-with p I x row out told ∙ filter_same_at (exchanged p I x) (exchanged (is_restricted kept p) I x) I
       (λ y m. true_and (exchanged p I x y) _ (inside_test_from (with_one (without_one I y) x) kept
       (with_one-IsSubset (without_one I y) kept x (IsSubset-trans (without_one I y) I kept (without_one-IsSubset I y) inside) here))))
     where
@@ -108,10 +101,10 @@ module _ {n : ℕ} {p : List ℕ → Bool} (laws : IsMatroid n p) (away B : List
       → row ≡ row_of (is_contracted n away p) X x
   contracted_row X x inner row passes small o out told adds exchanges =
       row_outside (is_contracted n away p) X x row o
-      (adds ∙ addable_of p (union X B) x inner outside told
+      (adds ∙ row-addable p (union X B) x inner outside told
       ∙ sym (contracted_apart (with_one X x) (IsSet-with_one n X x j.set small) (apart_with X away x j.disjoint out)
       ∙ ap p (union-with_one_left X B x s)))
-      (exchanges ∙ ap (λ t. minus t B) (with_of p (union X B) x inner outside told)
+      (exchanges ∙ ap (λ t. minus t B) (row-with p (union X B) x inner outside told)
       ∙ filter_first (exchanged p (union X B) x) (exchanged (is_contracted n away p) X x) X B j.set.rising s (λ y m. apart y m)
       (λ y m. agrees y (apart y m)))
     where

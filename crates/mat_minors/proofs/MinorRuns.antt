@@ -1,6 +1,7 @@
 -- The greedy runs of a truncation, a restriction and a contraction, by one run of the matroid within: the truncation stops at its cap, the
 -- restriction passes over what is not kept, and the contraction runs through what it contracts first.
-use Rattle.std.proofs.Common.{◌≡◌, ℕ, ◌+◌, ◌<◌, ◌≤◌, Bool, true, false, not, ◌&&◌, ◌||◌, cond, if◌then◌else◌, eqb, leb, List, [], ◌∷◌, ◌++◌, length, get_or, drop, inl, inr, refl, subst, sym, ap, ◌∙◌, arith}
+use Rattle.std.proofs.Common.{◌≡◌, ℕ, ◌+◌, ◌<◌, ◌≤◌, Bool, true, false, not, ◌&&◌, ◌||◌, cond, if◌then◌else◌, eqb}
+use Rattle.std.proofs.Common.{leb, List, [], ◌∷◌, ◌++◌, length, get_or, drop, inl, inr, refl, subst, sym, ap, ◌∙◌, arith}
 use Rattle.std.specs.List.{filter}
 use Rattle.std.proofs.lemmas.Bool.{cases_Bool, and_parts, and_from, both_ways, false_from_ne_true, not-true, or_cases}
 use Rattle.std.proofs.lemmas.Bool.Decides.{nat_tests}
@@ -78,11 +79,13 @@ module _ {n : ℕ} {p : List ℕ → Bool} (laws : IsMatroid n p) (cap : ℕ) (o
           nothing true = refl
           nothing false = refl
 
-  pub IsCapped-full : (set : List ℕ) (i : ℕ) → cap ≤ length set → IsCapped p cap order i set → set ≡ grown_along (is_truncated cap p) [] order
+  pub IsCapped-full : (set : List ℕ) (i : ℕ) → cap ≤ length set → IsCapped p cap order i set
+      → set ≡ grown_along (is_truncated cap p) [] order
   IsCapped-full set i full c =
       sym (stays (drop i order) set (rising laws set c.tracing.running.passes) full) ∙ c.running.rest
 
-  pub IsCapped-end : (set : List ℕ) (i : ℕ) → length order ≤ i → IsCapped p cap order i set → set ≡ grown_along (is_truncated cap p) [] order
+  pub IsCapped-end : (set : List ℕ) (i : ℕ) → length order ≤ i → IsCapped p cap order i set
+      → set ≡ grown_along (is_truncated cap p) [] order
   IsCapped-end set i l c = IsRunning-end (is_truncated cap p) order set i l c.running
 
 -- ---- the restriction
@@ -94,7 +97,8 @@ restricted_along p kept I (x ∷ order) ok = elim (cases_Bool (is_member x kept)
   | inl here ↦
       let same : grown_by (is_restricted kept p) I x ≡ grown_by p I x = ap (λ b. cond (not (is_member x I) && b) (with_one I x) I) (adds here) in
       ap (λ S. grown_along (is_restricted kept p) S order) same
-      ∙ restricted_along p kept (grown_by p I x) order (subst (λ S. is_restricted kept p S ≡ true) same (grown_by-passes (is_restricted kept p) I x ok))
+      ∙ restricted_along p kept (grown_by p I x) order
+      (subst (λ S. is_restricted kept p S ≡ true) same (grown_by-passes (is_restricted kept p) I x ok))
       ∙ sym (ap (grown_along p I) (ap (λ b. cond b (x ∷ filter (λ y. is_member y kept) order) (filter (λ y. is_member y kept) order)) here))
   | inr out ↦
       ap (λ b. grown_along (is_restricted kept p) (cond (not (is_member x I) && b) (with_one I x) I) order) (fails out)
@@ -115,7 +119,9 @@ restricted_along p kept I (x ∷ order) ok = elim (cases_Bool (is_member x kept)
     never false = refl
 
     adds : is_member x kept ≡ true → is_restricted kept p (with_one I x) ≡ p (with_one I x)
-    adds here = ap (λ b. p (with_one I x) && b) (inside_test_from (with_one I x) kept (with_one-IsSubset I kept x inside here)) ∙ whole (p (with_one I x))
+    adds here =
+        ap (λ b. p (with_one I x) && b) (inside_test_from (with_one I x) kept (with_one-IsSubset I kept x inside here))
+        ∙ whole (p (with_one I x))
 
     fails : is_member x kept ≡ false → is_restricted kept p (with_one I x) ≡ false
     fails out = false_from_ne_true _ (λ h. both_ways _ out
@@ -169,7 +175,8 @@ module _ {n : ℕ} {p : List ℕ → Bool} (laws : IsMatroid n p) (away B : List
           let apart = contracted_apart laws away B set max (with_one X x) (IsSet-with_one n X x j.0 below.0) (apart_with X away x j.1 out) in
           let joined = union-with_one_left X B x rb in
           let new : is_member x (union X B) ≡ is_member x X = is_member-union x X B ∙ or_none (is_member x X) (is_member x B) (not_chosen out) in
-          let test : (not (is_member x X) && is_contracted n away p (with_one X x)) ≡ (not (is_member x (union X B)) && p (with_one (union X B) x)) =
+          let test : (not (is_member x X) && is_contracted n away p (with_one X x))
+          ≡ (not (is_member x (union X B)) && p (with_one (union X B) x)) =
           ap (λ b. not (is_member x X) && b) (apart ∙ ap p joined) ∙ ap (λ b. not b && p (with_one (union X B) x)) (sym new) in
           pick (not (is_member x X) && is_contracted n away p (with_one X x)) joined
           ∙ ap (λ b. cond b (with_one (union X B) x) (union X B)) test

@@ -80,10 +80,10 @@ impl<M: Matroid> Matroid for Contraction<M> {
 
     /// Asks the inner matroid once, and not at all where a member is contracted. The only error is want of memory.
     fn independent(&self, alloc: Global, set: &ElemSet) -> Result<bool, AllocError> {
-        if set.minus(alloc, &self.away)?.len() < set.len() {
+        if !set.is_disjoint(&self.away) {
             return Ok(false);
         }
-        let joined = union(alloc, set, &self.chosen)?;
+        let joined = set.union(alloc, &self.chosen)?;
         self.inner.independent(alloc, &joined)
     }
 
@@ -97,13 +97,14 @@ impl<M: Matroid> Matroid for Contraction<M> {
                 with: ElemSet::new(alloc),
             });
         }
-        let joined = union(alloc, base, &self.chosen)?;
+        let joined = base.union(alloc, &self.chosen)?;
         let inner = self.inner.circuit(alloc, &joined, x)?;
         Ok(Exchange {
             addable: inner.addable,
             with: inner.with.minus(alloc, &self.chosen)?,
         })
     }
+
     /// One run of the inner matroid, first through the contracted elements, and then through the others of the order. The
     /// only error is want of memory.
     fn run(&self, alloc: Global, order: &[u32]) -> Result<ElemSet, AllocError> {
@@ -116,7 +117,7 @@ impl<M: Matroid> Matroid for Contraction<M> {
     /// The set together with what was chosen of the contracted elements, and what the inner matroid keeps of both. The only
     /// error is want of memory.
     fn keep(&self, alloc: Global, base: &ElemSet) -> Result<ContractionKept<M>, AllocError> {
-        let joined = union(alloc, base, &self.chosen)?;
+        let joined = base.union(alloc, &self.chosen)?;
         let inner = self.inner.keep(alloc, &joined)?;
         Ok(ContractionKept { joined, inner })
     }
@@ -143,15 +144,4 @@ impl<M: Matroid> Matroid for Contraction<M> {
             with: inner.with.minus(alloc, &self.chosen)?,
         })
     }
-}
-
-/// The members of either set. The only error is want of memory.
-pub fn union(alloc: Global, set: &ElemSet, more: &ElemSet) -> Result<ElemSet, AllocError>
-    ensures { IfOk result (λ s. s ≡ union set.now more.now) }
-{
-    let mut both = more.copy(alloc)?;
-    for x in set.as_slice() {
-        let _ = both.add(*x)?;
-    }
-    Ok(both)
 }

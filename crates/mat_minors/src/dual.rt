@@ -5,7 +5,7 @@ ghost use Rattle.mat_minors.specs.DualRows.{IsDualKept, kept_row};
 ghost use Rattle.mat_minors.specs.Minors.{is_dual};
 ghost use Rattle.mat_minors.specs.MinorLaws.{dual_laws};
 
-use crate::run_orders::{others_first, set_of};
+use crate::run_orders::others_first;
 use mat_laws::{Exchange, Matroid};
 use mat_sets::ElemSet;
 use std::alloc::{AllocError, Global};
@@ -51,24 +51,18 @@ impl<M: Matroid> Matroid for Dual<M> {
         self.inner.size()
     }
 
-    /// What is independent outside the set is grown as far as it goes: the set is independent where none of its members
-    /// can be added then. At most as many questions to the inner matroid as it has elements. The only error is want of memory.
+    /// A set is independent where the run of the dual through its members takes each of them: one run of the inner matroid. The
+    /// only error is want of memory.
     fn independent(&self, alloc: Global, set: &ElemSet) -> Result<bool, AllocError> {
-        let none = ElemSet::new(alloc);
-        let outside = ElemSet::all_below(alloc, self.inner.size())?.minus(alloc, set)?;
-        let mut base = self.inner.grown_base(alloc, &none, &outside)?;
-        for x in set.as_slice() {
-            if self.inner.add_if_independent(alloc, &mut base, *x)? {
-                return Ok(false);
-            }
-        }
-        Ok(true)
+        let taken = self.run(alloc, set.as_slice())?;
+        Ok(taken.len() == set.len())
     }
+
     /// What a run of the inner matroid leaves of the order that goes through all other elements first, and then through the
     /// order from its end. The only error is want of memory.
     fn run(&self, alloc: Global, order: &[u32]) -> Result<ElemSet, AllocError> {
         self.inner.lawful();
-        let all = set_of(alloc, order)?;
+        let all = ElemSet::from_members(alloc, order)?;
         let items = others_first(alloc, self.inner.size(), &all, order)?;
         let base = self.inner.run(alloc, &items)?;
         all.minus(alloc, &base)
@@ -108,7 +102,9 @@ impl<M: Matroid> Matroid for Dual<M> {
 /// base the elements that can take its place.
 #[derive(Debug, Drop)]
 pub struct DualKept {
+    /// The base.
     pub base: ElemSet,
+    /// For each element, at its number: what can take its place, if it is in the base.
     pub columns: Vec<ElemSet>,
 }
 

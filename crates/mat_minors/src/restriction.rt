@@ -62,7 +62,7 @@ impl<M: Matroid> Matroid for Restriction<M> {
 
     /// Asks the inner matroid once, and not at all where a member is not kept. The only error is want of memory.
     fn independent(&self, alloc: Global, set: &ElemSet) -> Result<bool, AllocError> {
-        if !set.minus(alloc, &self.kept)?.is_empty() {
+        if !set.is_subset(&self.kept) {
             return Ok(false);
         }
         self.inner.independent(alloc, set)
@@ -79,6 +79,7 @@ impl<M: Matroid> Matroid for Restriction<M> {
         }
         self.inner.circuit(alloc, base, x)
     }
+
     /// One run of the inner matroid along the elements of the order that are kept. The only error is want of memory.
     fn run(&self, alloc: Global, order: &[u32]) -> Result<ElemSet, AllocError> {
         self.inner.lawful();

@@ -1,6 +1,6 @@
 //! The orders along which the matroid within a minor runs, and what the minor takes of such a run.
 ghost use Rattle.std.specs.Prelude.{◌≡◌, ◌++◌, ℕ, List, Bool, [], not, filter, reverse, IfOk};
-ghost use Rattle.mat_sets.specs.Sets.{is_member, all_below, minus, union, AreDistinct};
+ghost use Rattle.mat_sets.specs.Sets.{is_member, all_below, minus, AreDistinct};
 ghost use Rattle.mat_laws.specs.GreedyRuns.{grown_along};
 ghost use Rattle.mat_laws.specs.Matroids.{IsMatroid};
 ghost use Rattle.mat_minors.specs.Minors.{is_truncated};
@@ -44,17 +44,6 @@ pub fn set_first(alloc: Global, set: &ElemSet, order: &[u32]) -> Result<Vec<u32>
     Ok(items)
 }
 
-/// The set of the items of an order. The only error is want of memory.
-pub fn set_of(alloc: Global, order: &[u32]) -> Result<ElemSet, AllocError>
-    ensures { IfOk result (λ s. s ≡ union order.now []) }
-{
-    let mut set = ElemSet::new(alloc);
-    for x in order {
-        let _ = set.add(*x)?;
-    }
-    Ok(set)
-}
-
 /// The numbers below n that are not in a set, and then the items of an order from the last to the first. The only error is
 /// want of memory.
 pub fn others_first(
@@ -81,8 +70,8 @@ pub fn first_taken(
     all: &ElemSet,
     cap: u32,
 ) -> Result<ElemSet, AllocError>
-    ensures { IfOk result (λ s. (n : ℕ) (p : List ℕ → Bool) → IsMatroid n p → AreDistinct order.now → all.now ≡ grown_along p [] order.now
-        → s ≡ grown_along (is_truncated cap p) [] order.now) }
+    ensures { IfOk result (λ s. (n : ℕ) (p : List ℕ → Bool) → IsMatroid n p → AreDistinct order.now
+        → all.now ≡ grown_along p [] order.now → s ≡ grown_along (is_truncated cap p) [] order.now) }
 {
     let mut set = ElemSet::new(alloc);
     for x in order {

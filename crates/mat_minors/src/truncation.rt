@@ -74,6 +74,7 @@ impl<M: Matroid> Matroid for Truncation<M> {
             with: inner.with,
         })
     }
+
     /// One run of the inner matroid, of which the first members up to the cap are taken. The only error is want of memory.
     fn run(&self, alloc: Global, order: &[u32]) -> Result<ElemSet, AllocError> {
         self.inner.lawful();

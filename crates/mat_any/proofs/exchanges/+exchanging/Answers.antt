@@ -53,11 +53,11 @@ contraction_circuit-circuit-requires t c =
       (
         c.requires.sound,
         (
-          ap (is_independent tree) c.in_ok-joined.ensures
+          ap (is_independent tree) c.in_ok-joined.ensures.members
               ∙ (IsJoined-gives laws away chosen base c.requires.away.rising c.in_ok-chosen.ensures c.requires.base).joined,
           (
             c.requires.below,
-            ap (is_member c.args.x) c.in_ok-joined.ensures
+            ap (is_member c.args.x) c.in_ok-joined.ensures.members
                 ∙ outside_joined laws away chosen c.requires.away c.in_ok-chosen.ensures base c.args.x c.requires.outside
                 (sym c.contains.ensures.found ∙ c.if-contains.false),
           ),
@@ -72,5 +72,5 @@ contraction_circuit-returns-clause-row t c =
     contracted_row laws c.args.away.now c.in_ok-chosen.chosen c.requires.away c.in_ok-chosen.ensures c.args.base.now c.args.x
     c.in_ok-exchange.exchange _ c.requires.base c.requires.below c.requires.outside
     (sym c.contains.ensures.found ∙ c.if-contains.false)
-    (c.in_ok-exchange.ensures.row ∙ ap (λ J. row_of (is_independent tree) J c.args.x) c.in_ok-joined.ensures)
+    (c.in_ok-exchange.ensures.row ∙ ap (λ J. row_of (is_independent tree) J c.args.x) c.in_ok-joined.ensures.members)
     refl c.in_ok-minus.ensures.members

@@ -73,7 +73,7 @@ contraction_independent-independent-requires t c =
     let laws = tree_laws tree c.requires.sound in
     let chosen = c.in_ok-chosen.chosen in
     let joined = IsSet-union _ c.args.set.now chosen c.requires.below (laws.sets chosen c.in_ok-chosen.ensures.passes) in
-    (search rules, (c.requires.sound, subst (AllBelow (element_count tree)) (sym c.in_ok-joined.ensures) joined.below))
+    (search rules, (c.requires.sound, subst (AllBelow (element_count tree)) (sym c.in_ok-joined.ensures.members) joined.below))
 
 pub contraction_independent-returns : goal.contraction_independent-returns
 contraction_independent-returns t c =
@@ -88,4 +88,4 @@ contraction_independent-returns t c =
     let apart = contracted_apart (tree_laws tree c.requires.sound) away _ c.requires.away c.in_ok-chosen.ensures set
     (record { rising = rises; below = c.requires.below }) disjoint in
     IfOk-weaker c.independent.result (λ b. b ≡ p c.in_ok-joined.joined) (λ b. b ≡ is_contracted n away p set)
-    (λ b told. told ∙ ap p c.in_ok-joined.ensures ∙ sym apart) c.independent.ensures
+    (λ b told. told ∙ ap p c.in_ok-joined.ensures.members ∙ sym apart) c.independent.ensures

@@ -1,13 +1,15 @@
 use Rattle.std.proofs.Common.{◌≡◌, ℕ, List, Bool, ◌++◌, [], reverse, subst, sym, ap, ◌∙◌, rules}
 use Rattle.std.proofs.lemmas.Result.{IfOk-weaker}
 use Rattle.mat_sets.specs.Sets.{is_member, AllBelow, AreDistinct, minus, all_below}
+use Rattle.mat_sets.proofs.DistinctLists.{AreDistinct-filter}
+use Rattle.mat_sets.proofs.Ground.{AllBelow-filter}
 use Rattle.mat_laws.specs.GreedyRuns.{grown_along}
 use Rattle.mat_laws.specs.Matroids.{IsMatroid}
 use Rattle.mat_minors.specs.Minors.{is_contracted, is_dual, is_restricted, is_truncated}
 use Rattle.mat_minors.specs.MinorLaws.{contracted_laws, restricted_laws}
 use Rattle.mat_minors.proofs.GreedyReversed.{dual_greedy_of}
 use Rattle.mat_minors.proofs.MinorRuns.{contracted_greedy, restricted_along}
-use Rattle.mat_minors.proofs.RunOrders.{after_below, after_distinct, filter_below, filter_distinct, turned_below, turned_distinct}
+use Rattle.mat_minors.proofs.RunOrders.{after_below, after_distinct, turned_below, turned_distinct}
 use Rattle.mat_any.specs.Trees.{element_count, is_independent}
 use Rattle.mat_any.specs.TreeLaws.{tree_laws}
 use Rattle.mat_any.specs.Views.{tree_of}
@@ -23,7 +25,7 @@ dual_run-run-requires t c =
         c.requires.sound,
         (
           subst (AllBelow n) (sym items) (turned_below n c.in_ok-all.all c.args.order.now c.requires.below),
-          subst AreDistinct (sym told) (turned_distinct _ c.in_ok-all.all c.args.order.now c.in_ok-all.ensures c.requires.distinct),
+          subst AreDistinct (sym told) (turned_distinct _ c.in_ok-all.all c.args.order.now c.in_ok-all.ensures.members c.requires.distinct),
         ),
       ),
     )
@@ -35,7 +37,7 @@ dual_run-returns t c =
     let all = c.in_ok-all.all in
     let items = c.deref.ensures.value ∙ c.in_ok-items.ensures ∙ ap (λ k. minus (all_below k) all ++ reverse c.args.order.now) c.size_of.ensures in
     let whole = dual_greedy_of (tree_laws (tree_of c.args.inner.now) c.requires.sound) c.args.order.now all c.requires.distinct c.requires.below
-    c.in_ok-all.ensures in
+    c.in_ok-all.ensures.members in
     IfOk-weaker c.minus.result (λ s. s ≡ minus all c.in_ok-base.base) (λ s. s ≡ grown_along (is_dual n p) [] c.args.order.now)
     (λ s told. told ∙ ap (minus all) (c.in_ok-base.ensures ∙ ap (grown_along p []) items) ∙ sym whole) c.minus.ensures.members
 
@@ -59,8 +61,8 @@ restriction_run-run-requires t c =
       (
         c.requires.sound,
         (
-          subst (AllBelow (element_count (tree_of c.args.inner.now))) (sym told) (filter_below _ test c.args.order.now c.requires.below),
-          subst AreDistinct (sym told) (filter_distinct test c.args.order.now c.requires.distinct),
+          subst (AllBelow (element_count (tree_of c.args.inner.now))) (sym told) (AllBelow-filter _ test c.args.order.now c.requires.below),
+          subst AreDistinct (sym told) (AreDistinct-filter test c.args.order.now c.requires.distinct),
         ),
       ),
     )

@@ -15,14 +15,14 @@ circuit-requires-clause-base g c =
     let laws = g.met.M.Matroid.laws c.args.self.now.inner c.requires.sound.0 in
     let contraction = c.requires.sound.1 in
     let self = c.args.self.now in
-    ap (g.M.Matroid.indep self.inner) c.in_ok-joined.ensures
+    ap (g.M.Matroid.indep self.inner) c.in_ok-joined.ensures.members
     ∙ (IsJoined-gives laws self.away self.chosen c.args.base.now contraction.set.rising contraction.maximal c.requires.base).joined
 
 pub circuit-requires-clause-outside : goal.circuit-requires-clause-outside
 circuit-requires-clause-outside g c =
     let laws = g.met.M.Matroid.laws c.args.self.now.inner c.requires.sound.0 in
     let contraction = c.requires.sound.1 in
-    ap (is_member c.args.x) c.in_ok-joined.ensures
+    ap (is_member c.args.x) c.in_ok-joined.ensures.members
     ∙ outside_joined laws _ _ contraction.set contraction.maximal c.args.base.now c.args.x c.requires.outside
     (sym c.contains.ensures.found ∙ c.if-contains.false)
 
@@ -33,5 +33,5 @@ returns-clause-row g c =
     contracted_row laws _ _ contraction.set contraction.maximal c.args.base.now c.args.x c.in_ok-inner.inner _ c.requires.base c.requires.below
     c.requires.outside
     (sym c.contains.ensures.found ∙ c.if-contains.false)
-    (c.in_ok-inner.ensures.row ∙ ap (λ J. row_of (g.M.Matroid.indep c.args.self.now.inner) J c.args.x) c.in_ok-joined.ensures)
+    (c.in_ok-inner.ensures.row ∙ ap (λ J. row_of (g.M.Matroid.indep c.args.self.now.inner) J c.args.x) c.in_ok-joined.ensures.members)
     refl c.in_ok-minus.ensures.members

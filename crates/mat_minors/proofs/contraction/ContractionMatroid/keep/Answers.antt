@@ -7,5 +7,5 @@ keep-requires-clause-base g c =
     let laws = g.met.M.Matroid.laws c.args.self.now.inner c.requires.sound.0 in
     let contraction = c.requires.sound.1 in
     let self = c.args.self.now in
-    ap (g.M.Matroid.indep self.inner) c.in_ok-joined.ensures
+    ap (g.M.Matroid.indep self.inner) c.in_ok-joined.ensures.members
     ∙ (IsJoined-gives laws self.away self.chosen c.args.base.now contraction.set.rising contraction.maximal c.requires.base).joined

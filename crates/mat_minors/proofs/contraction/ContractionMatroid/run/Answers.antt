@@ -22,7 +22,8 @@ pub returns : goal.returns
 returns g c =
     let self = c.args.self.now in
     let laws = g.met.M.Matroid.laws self.inner c.requires.sound.0 in
-    let empty = (contracted_laws (g.M.Matroid.ground_size self.inner) (g.M.Matroid.indep self.inner) self.away c.requires.sound.1.set.rising laws).empty in
+    let empty =
+    (contracted_laws (g.M.Matroid.ground_size self.inner) (g.M.Matroid.indep self.inner) self.away c.requires.sound.1.set.rising laws).empty in
     let run = c.in_ok-all.ensures ∙ ap (grown_along (g.M.Matroid.indep self.inner) []) (c.deref.ensures.value ∙ c.in_ok-items.ensures) in
     let whole = contracted_greedy laws self.away c.args.order.now c.requires.sound.1.set c.requires.below empty in
     IfOk-weaker c.minus.result (λ s. s ≡ minus c.in_ok-all.all self.away)

@@ -5,4 +5,5 @@ use Rattle.mat_minors.proofs.dual.DualMatroid.row.Goals as goal
 pub returns-clause-row : goal.returns-clause-row
 returns-clause-row g c =
     let is_row = kept_row_is c.lawful.ensures c.args.base.now c.args.kept.now.base c.args.kept.now.columns.items c.args.x in
-    IfOk-weaker c.dual_row.result _ _ (λ e told. is_row e c.requires.base c.requires.kept c.requires.below c.requires.outside told.1 told.0) c.dual_row.ensures.row
+    IfOk-weaker c.dual_row.result _ _ (λ e told. is_row e c.requires.base c.requires.kept c.requires.below c.requires.outside told.1 told.0)
+    c.dual_row.ensures.row

@@ -1,22 +1,23 @@
 use Rattle.std.proofs.Common.{◌≡◌, [], subst, sym, ap, ◌∙◌}
 use Rattle.std.proofs.lemmas.Result.{IfOk-weaker}
 use Rattle.mat_sets.specs.Sets.{is_member, AllBelow, AreDistinct}
+use Rattle.mat_sets.proofs.DistinctLists.{AreDistinct-filter}
+use Rattle.mat_sets.proofs.Ground.{AllBelow-filter}
 use Rattle.mat_laws.specs.GreedyRuns.{grown_along}
 use Rattle.mat_minors.specs.Minors.{is_restricted}
 use Rattle.mat_minors.specs.MinorLaws.{restricted_laws}
 use Rattle.mat_minors.proofs.MinorRuns.{restricted_along}
-use Rattle.mat_minors.proofs.RunOrders.{filter_below, filter_distinct}
 use Rattle.mat_minors.proofs.restriction.RestrictionMatroid.run.Goals as goal
 
 pub run-requires-clause-below : goal.run-requires-clause-below
 run-requires-clause-below g c =
     subst (AllBelow (g.M.Matroid.ground_size c.args.self.now.inner)) (sym (c.deref.ensures.value ∙ c.in_ok-items.ensures))
-    (filter_below _ (λ x. is_member x c.args.self.now.kept) c.args.order.now c.requires.below)
+    (AllBelow-filter _ (λ x. is_member x c.args.self.now.kept) c.args.order.now c.requires.below)
 
 pub run-requires-clause-distinct : goal.run-requires-clause-distinct
 run-requires-clause-distinct g c =
     subst AreDistinct (sym (c.deref.ensures.value ∙ c.in_ok-items.ensures))
-    (filter_distinct (λ x. is_member x c.args.self.now.kept) c.args.order.now c.requires.distinct)
+    (AreDistinct-filter (λ x. is_member x c.args.self.now.kept) c.args.order.now c.requires.distinct)
 
 pub returns : goal.returns
 returns g c =
