@@ -1,6 +1,7 @@
 -- What the greedy loop keeps: the set is heaviest of its size, and so is each set so far; no element that was passed can be added,
 -- so the next one is a heaviest that can. In the end no element at all can be added: the last size is the rank.
-use Rattle.std.proofs.Common.{◌≡◌, ℕ, zero, suc, ◌+◌, ◌<◌, ◌≤◌, Bool, true, false, not, ◌&&◌, if◌then◌else◌, List, [], ◌∷◌, ◌++◌, length, length-append, get_or, refl, sym, ap, ◌∙◌, subst, arith, inl, inr}
+use Rattle.std.proofs.Common.{◌≡◌, ℕ, zero, suc, ◌+◌, ◌<◌, ◌≤◌, Bool, true, false, not, ◌&&◌, if◌then◌else◌, List, []}
+use Rattle.std.proofs.Common.{◌∷◌, ◌++◌, length, length-append, get_or, refl, sym, ap, ◌∙◌, subst, arith, inl, inr}
 use Rattle.std.proofs.lemmas.Bool.{cases_lt, cases_order, both_ways, and_parts, not-true}
 use Rattle.std.proofs.lemmas.Int.{ints}
 use Rattle.mat_sets.specs.Sets.{is_member, with_one, all_below}
@@ -33,7 +34,8 @@ pub record IsClimbing (p : List ℕ → Bool) (w : ℕ → Weight) (order : List
   pub each : (k : ℕ) → k < length sets → IsHeaviestOf p w k (get_or sets k [])
 
 -- so too where the members of the set at the end tell which elements are added
-pub record IsClimbingAndTracing (p : List ℕ → Bool) (w : ℕ → Weight) (order : List ℕ) (i : ℕ) (set : List ℕ) (sets : List (List ℕ)) : Type 0 where
+pub record IsClimbingAndTracing (p : List ℕ → Bool) (w : ℕ → Weight) (order : List ℕ) (i : ℕ) (set : List ℕ)
+    (sets : List (List ℕ)) : Type 0 where
   pub climbing : IsClimbing p w order i set sets
   pub tracing : IsTracing p order i set
 
@@ -69,7 +71,8 @@ module _ {n : ℕ} {p : List ℕ → Bool} (laws : IsMatroid n p) where
       let at = place_of_member e order (falling.each e (omega arith)) in
       elim (cases_order at.0 i) [
         | inl same ↦ rw (sym at.2, same) (omega (arith, ints, pairs))
-        | inr (inl less) ↦ absurd (both_ways _ (ap (λ y. p (with_one set y)) (sym at.2) ∙ g.growing.refused at.0 less (ap (λ y. is_member y set) at.2 ∙ out)) ok)
+        | inr (inl less) ↦ absurd (both_ways _ (ap (λ y. p (with_one set y)) (sym at.2)
+            ∙ g.growing.refused at.0 less (ap (λ y. is_member y set) at.2 ∙ out)) ok)
         | inr (inr more) ↦ rw (sym at.2) (falling.falls i at.0 more at.1)
       ]
 
@@ -81,7 +84,12 @@ module _ {n : ℕ} {p : List ℕ → Bool} (laws : IsMatroid n p) where
       → set' ≡ (if added then with_one set x else set) → sets' ≡ (if added then sets ++ set' ∷ [] else sets)
       → IsClimbing p (weight_at weights) order (i + 1) set' sets'
   IsClimbing-next weights order set sets i x size falling l at g false set' sets' e set_is sets_is =
-      rw (sets_is, set_is) (record { growing = IsGrowing-next laws [] order set i x l at g.growing false set e refl; heaviest = g.heaviest; count = g.count; each = g.each })
+      rw (sets_is, set_is) (record {
+        growing = IsGrowing-next laws [] order set i x l at g.growing false set e refl;
+        heaviest = g.heaviest;
+        count = g.count;
+        each = g.each;
+      })
   IsClimbing-next weights order set sets i x size falling l at g true set' sets' e set_is sets_is =
       let w = weight_at weights in
       let larger = with_one set x in

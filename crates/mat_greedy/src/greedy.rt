@@ -40,7 +40,7 @@ pub fn heaviest_each<M: Matroid>(
 }
 
 /// The weight of a heaviest independent set of each size from 0 to the rank, by one run of the greedy algorithm (Schrijver,
-/// chapter 40), which keeps no set but the last. The only error is want of memory.
+/// chapter 40); no set is made but the one that the run ends with. The only error is want of memory.
 pub fn heaviest_weights<M: Matroid>(
     alloc: Global,
     m: &M,

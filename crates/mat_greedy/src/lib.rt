@@ -3,7 +3,5 @@
 
 mod greedy;
 mod order;
-#[cfg(test)]
-mod tests;
 
 pub use greedy::{heaviest_each, heaviest_of, heaviest_weights};

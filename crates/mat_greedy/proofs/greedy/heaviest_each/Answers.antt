@@ -21,7 +21,8 @@ loop-x-init g c =
     let p = g.M.Matroid.indep c.args.m.now in
     let order = c.deref-x-items.result.now in
     let distinct : AreDistinct order = subst AreDistinct (sym c.deref-x-items.ensures.value) c.in_ok-order.ensures.distinct in
-    rw (c.new-set.ensures.members, c.in_ok-push.ensures.items, c.new-sets.ensures.items, c.in_ok-copy.ensures.equal, c.new-set.ensures.members) (record {
+    rw (c.new-set.ensures.members, c.in_ok-push.ensures.items, c.new-sets.ensures.items, c.in_ok-copy.ensures.equal, c.new-set.ensures.members)
+    (record {
       climbing = IsClimbing-start c.lawful.ensures (weight_at c.args.weights.now) order;
       tracing = IsTracing-start p order c.lawful.ensures.empty distinct;
     })
@@ -40,11 +41,11 @@ loop-x-preserved g c =
     let told = ap (is_member x) (c.in_ok-all.ensures ∙ ap (grown_along p []) same)
     ∙ traced laws order set c.loop-x.x-index x c.loop-x-test.true refl c.loop-x.invariant.tracing in
     let next : (set' : List ℕ) (sets' : List (List ℕ)) → set' ≡ (if is_member x c.in_ok-all.all then with_one set x else set)
-        → sets' ≡ (if is_member x c.in_ok-all.all then c.loop-x.sets.items ++ set' ∷ [] else c.loop-x.sets.items)
-        → IsClimbingAndTracing p (weight_at weights) order (c.loop-x.x-index + 1) set' sets' =
+    → sets' ≡ (if is_member x c.in_ok-all.all then c.loop-x.sets.items ++ set' ∷ [] else c.loop-x.sets.items)
+    → IsClimbingAndTracing p (weight_at weights) order (c.loop-x.x-index + 1) set' sets' =
     λ set' sets' set_is sets_is. record {
-      climbing = IsClimbing-next laws weights order set c.loop-x.sets.items c.loop-x.x-index x (sym c.requires.lengths) falling c.loop-x-test.true refl
-          c.loop-x.invariant.climbing _ set' sets' told set_is sets_is;
+      climbing = IsClimbing-next laws weights order set c.loop-x.sets.items c.loop-x.x-index x (sym c.requires.lengths) falling
+          c.loop-x-test.true refl c.loop-x.invariant.climbing _ set' sets' told set_is sets_is;
       tracing = IsTracing-next laws order set c.loop-x.x-index x c.loop-x-test.true refl c.loop-x.invariant.tracing _ set' told set_is;
     } in
     elim c.if-contains.branch [
@@ -62,6 +63,8 @@ loop-x-preserved g c =
 
 pub returns : goal.returns
 returns g c =
+    let weights = c.args.weights.now in
     let order = c.deref-x-items.result.now in
-    let falling : IsFallingOrder c.args.weights.now order = subst (IsFallingOrder c.args.weights.now) (sym c.deref-x-items.ensures.value) c.in_ok-order.ensures in
-    subst (AreHeaviestEach _ _ _) (sym c.new.ensures.items) (IsClimbing-end c.lawful.ensures c.args.weights.now order _ _ _ (sym c.requires.lengths) falling c.loop-x-test.false c.loop-x.invariant.climbing)
+    let falling : IsFallingOrder weights order = subst (IsFallingOrder weights) (sym c.deref-x-items.ensures.value) c.in_ok-order.ensures in
+    subst (AreHeaviestEach _ _ _) (sym c.new.ensures.items)
+    (IsClimbing-end c.lawful.ensures weights order _ _ _ (sym c.requires.lengths) falling c.loop-x-test.false c.loop-x.invariant.climbing)
