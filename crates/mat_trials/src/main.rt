@@ -1,13 +1,15 @@
-//! The program `mat_trials`, a test: it runs the top call over the cases of the file `cases.txt`, and the search for disjoint paths over
-//! the graphs of the files `routes_*.txt`, and prints what came of each. What it has to print was worked out without it. With names of
+//! The program `mat_trials`, a test: it runs the top call over the cases of the file `cases.txt`, the search for disjoint paths over
+//! the graphs of the files `routes_*.txt`, and the calls of matroids over small known ones, and prints what came of each. What it has to print was worked out without it. With names of
 //! descriptions as words it prints the lines of these alone.
 #![tactic(auto)]
 
 mod cases;
+mod known;
 mod reports;
 mod routes;
 
 use crate::cases::cases_of;
+use crate::known::known_report;
 use crate::reports::report_of;
 use crate::routes::{ROUTES, route_report};
 use std::io::Write;
@@ -57,5 +59,6 @@ fn main(rt: HostRuntime) -> io::Result<()> {
     for name in ROUTES.iter() {
         print_route(&rt, *name, true)?;
     }
-    Ok(())
+    let known = known_report(rt.alloc())?;
+    rt.stdout().write_all(known.as_bytes())
 }

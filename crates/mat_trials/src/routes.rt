@@ -33,8 +33,8 @@ pub(crate) const ROUTES: [&str; 10] = [
 // The most bytes that a description may have.
 const LIMIT: usize = 4_194_304;
 
-// The set of these members, each of which is below n.
-fn set_below(alloc: Global, n: u32, members: &[u32]) -> Result<ElemSet, AllocError>
+/// The set of these members, each of which is below n.
+pub(crate) fn set_below(alloc: Global, n: u32, members: &[u32]) -> Result<ElemSet, AllocError>
     requires { AllBelow n members.now }
     ensures { IfOk result (λ s. AllBelow n s) }
 {

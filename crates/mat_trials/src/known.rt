@@ -1,0 +1,182 @@
+//! Small matroids of known structure, each told in a line. What is printed was worked out by hand from closed walks, lines and bases.
+
+ghost use Rattle.std.specs.Prelude.{◌≡◌, length, true, IfOk};
+ghost use Rattle.mat_sets.specs.Graphs.{IsGraph};
+ghost use Rattle.mat_sets.specs.Sets.{AllBelow, AreDistinct};
+ghost use Rattle.mat_gf2.specs.Columns.{IsBinaryMatrix};
+
+use crate::routes::set_below;
+use mat_gf2::Gf2;
+use mat_graphic::Graphic;
+use mat_greedy::heaviest_of;
+use mat_laws::{Matroid, grow_base, rank_of};
+use mat_minors::{Contraction, Dual, Restriction, Truncation};
+use mat_sets::{ElemSet, Pairs, Weight};
+use std::alloc::{AllocError, Global};
+
+// A weight without a tie.
+fn plain(main: i128) -> Weight {
+    Weight { main, tie: 0 }
+}
+
+// The graph of an edge with both ends at one vertex, edge 0, and of two parallel edges, 1 and 2.
+fn loop_and_parallel_edges(alloc: Global) -> Result<Graphic, AllocError>
+    ensures edges { IfOk result (λ g. length g.edges ≡ 3) }
+    ensures sound { IfOk result (λ g. IsGraph g.vertices g.edges) }
+{
+    let edges = vec![in alloc; (0, 0), (0, 1), (0, 1)]?;
+    Graphic::new(alloc, 2, Pairs::new(edges))
+}
+
+// All columns of three bits but zero: the numbers from 1 to 7.
+fn seven_columns(alloc: Global) -> Result<Gf2, AllocError>
+    ensures columns { IfOk result (λ g. length g.columns ≡ 7) }
+    ensures sound { IfOk result (λ g. IsBinaryMatrix g.dim g.columns) }
+{
+    Gf2::new(alloc, 3, vec![in alloc; 1, 2, 3, 4, 5, 6, 7]?)
+}
+
+// The members of a set.
+fn told_set(alloc: Global, set: &ElemSet) -> Result<String, AllocError> {
+    let mut text = String::from_str(alloc, "set")?;
+    for x in set.as_slice() {
+        text = format!(in alloc; "{text} {x}")?;
+    }
+    Ok(text)
+}
+
+// Which sets of one or two elements of a matroid of three are independent.
+fn told_tests<M: Matroid>(alloc: Global, m: &M) -> Result<String, AllocError>
+    requires sound { M.sound m.now }
+    requires three { M.ground_size m.now ≡ 3 }
+{
+    let zero = m.independent(alloc, &set_below(alloc, 3, &[0])?)?;
+    let one = m.independent(alloc, &set_below(alloc, 3, &[1])?)?;
+    let two = m.independent(alloc, &set_below(alloc, 3, &[2])?)?;
+    let zero_one = m.independent(alloc, &set_below(alloc, 3, &[0, 1])?)?;
+    let zero_two = m.independent(alloc, &set_below(alloc, 3, &[0, 2])?)?;
+    let one_two = m.independent(alloc, &set_below(alloc, 3, &[1, 2])?)?;
+    format!(in alloc; "0 {zero} 1 {one} 2 {two} 01 {zero_one} 02 {zero_two} 12 {one_two}")
+}
+
+// What a run takes along this order, and there the exchanges of each element that it leaves.
+fn told_run<M: Matroid>(alloc: Global, m: &M, order: &[u32]) -> Result<String, AllocError>
+    requires sound { M.sound m.now }
+    requires below { AllBelow (M.ground_size m.now) order.now }
+    requires distinct { AreDistinct order.now }
+{
+    m.lawful();
+    let base = m.run(alloc, order)?;
+    let kept = m.keep(alloc, &base)?;
+    let mut text = told_set(alloc, &base)?;
+    for x in 0..m.size() {
+        if !base.contains(x) {
+            let row = m.row(alloc, &base, &kept, x)?;
+            let with = told_set(alloc, &row.with)?;
+            let addable = row.addable;
+            text = format!(in alloc; "{text} {x} {addable} {with}")?;
+        }
+    }
+    Ok(text)
+}
+
+// What is told of a matroid of three elements.
+fn told<M: Matroid>(alloc: Global, name: &str, m: &M) -> Result<String, AllocError>
+    requires sound { M.sound m.now }
+    requires three { M.ground_size m.now ≡ 3 }
+{
+    let tests = told_tests(alloc, m)?;
+    let run = told_run(alloc, m, &[2, 1, 0])?;
+    format!(in alloc; "{name} {tests} run {run}\n")
+}
+
+// The graph, lent and as it is, and its dual.
+fn told_graph(alloc: Global) -> Result<String, AllocError> {
+    let graph = loop_and_parallel_edges(alloc)?;
+    let first = told(alloc, "graph", &graph)?;
+    let lent = told(alloc, "lent", &&graph)?;
+    let dual = told(alloc, "dual", &Dual::new(graph))?;
+    format!(in alloc; "{first}{lent}{dual}")
+}
+
+// The dual with at most one element, the graph without edge 2, and with the ends of edge 1 made one vertex.
+fn told_minors(alloc: Global) -> Result<String, AllocError> {
+    let cut = Truncation::new(Dual::new(loop_and_parallel_edges(alloc)?), 1);
+    let truncation = told(alloc, "truncation", &cut)?;
+    let kept = set_below(alloc, 3, &[0, 1])?;
+    let fewer = Restriction::new(loop_and_parallel_edges(alloc)?, kept);
+    let restriction = told(alloc, "restriction", &fewer)?;
+    let away = set_below(alloc, 3, &[1])?;
+    let joined = Contraction::new(alloc, loop_and_parallel_edges(alloc)?, away)?;
+    let contraction = told(alloc, "contraction", &joined)?;
+    format!(in alloc; "{truncation}{restriction}{contraction}")
+}
+
+// The ranks of the loop, of the parallel edges and of all.
+fn told_ranks(alloc: Global) -> Result<String, AllocError> {
+    let graph = loop_and_parallel_edges(alloc)?;
+    let looped = rank_of(alloc, &graph, &set_below(alloc, 3, &[0])?)?;
+    let parallel = rank_of(alloc, &graph, &set_below(alloc, 3, &[1, 2])?)?;
+    let whole = rank_of(alloc, &graph, &set_below(alloc, 3, &[0, 1, 2])?)?;
+    format!(in alloc; "ranks {looped} {parallel} {whole}\n")
+}
+
+// The ranks of a line, of three columns on no line, and of all.
+fn told_columns(alloc: Global) -> Result<String, AllocError> {
+    let columns = seven_columns(alloc)?;
+    let line = rank_of(alloc, &columns, &set_below(alloc, 7, &[0, 1, 2])?)?;
+    let three = rank_of(alloc, &columns, &set_below(alloc, 7, &[0, 1, 3])?)?;
+    let whole = rank_of(alloc, &columns, &ElemSet::all_below(alloc, 7)?)?;
+    format!(in alloc; "columns {line} {three} {whole}\n")
+}
+
+// The base of the graph that holds edge 2: there is one.
+fn told_base(alloc: Global) -> Result<String, AllocError> {
+    let graph = loop_and_parallel_edges(alloc)?;
+    let from = set_below(alloc, 3, &[2])?;
+    if !graph.independent(alloc, &from)? {
+        return String::from_str(alloc, "edge 2 is a loop\n");
+    }
+    let all = set_below(alloc, 3, &[0, 1, 2])?;
+    let base = told_set(alloc, &grow_base(alloc, &graph, &from, &all)?)?;
+    format!(in alloc; "base {base}\n")
+}
+
+// Heaviest sets of three of the seven columns, of which the third closes a line, and of one and two edges of the graph.
+fn told_heaviest(alloc: Global) -> Result<String, AllocError> {
+    let columns = seven_columns(alloc)?;
+    let weights = [
+        plain(7),
+        plain(6),
+        plain(5),
+        plain(4),
+        plain(3),
+        plain(2),
+        plain(1),
+    ];
+    let three = told_found(alloc, heaviest_of(alloc, &columns, &weights, 3)?)?;
+    let graph = loop_and_parallel_edges(alloc)?;
+    let weights = [plain(3), plain(2), plain(1)];
+    let one = told_found(alloc, heaviest_of(alloc, &graph, &weights, 1)?)?;
+    let two = told_found(alloc, heaviest_of(alloc, &graph, &weights, 2)?)?;
+    format!(in alloc; "heaviest {three}, {one}, {two}\n")
+}
+
+// The members of a set, if there is one.
+fn told_found(alloc: Global, found: Option<ElemSet>) -> Result<String, AllocError> {
+    match found {
+        Some(set) => told_set(alloc, &set),
+        None => String::from_str(alloc, "none"),
+    }
+}
+
+/// What is told of the known matroids, a line for each.
+pub(crate) fn known_report(alloc: Global) -> Result<String, AllocError> {
+    let graph = told_graph(alloc)?;
+    let minors = told_minors(alloc)?;
+    let ranks = told_ranks(alloc)?;
+    let columns = told_columns(alloc)?;
+    let base = told_base(alloc)?;
+    let heaviest = told_heaviest(alloc)?;
+    format!(in alloc; "{graph}{minors}{ranks}{columns}{base}{heaviest}")
+}
