@@ -1,10 +1,11 @@
 -- Words of 64 bits seen as sets: a number is a member exactly where its bit is set, so each change of a word is proved
 -- bit by bit, and two lists of words with the same bits are one set.
-use Rattle.std.proofs.Common.{Bool, List, [], ap, arith, bit_and, bit_or, eqb, false, get_or, inl, inr, length, ltb, not, refl, replicate, set, sym, true, w64, ℕ, ◌&&◌, ◌++◌, ◌-◌, ◌*◌, ◌/◌, ◌%◌, ◌^◌, ◌<◌, ◌||◌, ◌∙◌, ◌∷◌, ◌≡◌, ◌≤◌}
+use Rattle.std.proofs.Common.{Bool, List, [], ap, arith, bit_and, bit_or, cond, eqb, false, get_or, inl, inr, length, ltb, max, not, refl, replicate, set, subst, suc, sym, true, w64, zero, ℕ, ◌+◌, ◌&&◌, ◌++◌, ◌-◌, ◌*◌, ◌/◌, ◌%◌, ◌^◌, ◌<◌, ◌||◌, ◌∙◌, ◌∷◌, ◌≡◌, ◌≤◌}
 use Rattle.std.specs.Int.{bit_at, bit_not}
-use Rattle.std.proofs.lemmas.Bool.{and_right, cases_eq, cases_lt, eq-eqb, le-ltb, lt-ltb, ne_eqb}
+use Rattle.std.specs.Int.Bits.{or_zero_r}
+use Rattle.std.proofs.lemmas.Bool.{and_right, cases_eq, cases_lt, cond-false, cond-true, eq-eqb, le-ltb, lt-ltb, ne_eqb}
 use Rattle.std.proofs.lemmas.List.{get_or-append_right, get_or_append_left, get_or-replicate, get_or-set_other, get_or-set_same, get_or_past, get_or_read, length-replicate}
-use Rattle.std.proofs.lemmas.Nat.Bits.{bit_at-zero, bit_at_clear_other, bit_at_clear_same, bit_at_ones, bit_at_ones_above, bit_at_set_other, bit_at_set_same, shr_and_one}
+use Rattle.std.proofs.lemmas.Nat.Bits.{bit_at-lt, bit_at-zero, bit_at_or, bit_at_clear_other, bit_at_clear_same, bit_at_ones, bit_at_ones_above, bit_at_set_other, bit_at_set_same, shr_and_one}
 use Rattle.mat_sets.specs.Bits.{bits_of, has_bit}
 use Rattle.mat_sets.specs.Sets.{IsRising, all_below, is_member, with_one, without_one}
 use Rattle.mat_sets.proofs.Ground.{IsRising-all_below, is_member-all_below}
@@ -175,3 +176,57 @@ missing_past words x h = sym (is_member-bits_of x words ∙ has_bit_past words x
 -- nothing to clear past the last word
 pub bits_of-cut_past : (words : List ℕ) (x : ℕ) → length words ≤ x / 64 → bits_of words ≡ without_one (bits_of words) x
 bits_of-cut_past words x h = sym (without_one-missing (bits_of words) x (IsRising-bits_of words) (is_member-bits_of x words ∙ has_bit_past words x h))
+
+-- ---- all bits of other words
+
+either_bit : (a b : ℕ) → a < 2 → b < 2 → eqb (max a b) 1 ≡ (eqb a 1 || eqb b 1)
+either_bit zero zero h k = refl
+either_bit zero (suc zero) h k = refl
+either_bit (suc zero) zero h k = refl
+either_bit (suc zero) (suc zero) h k = refl
+either_bit zero (suc (suc b)) h k = absurd (omega arith)
+either_bit (suc zero) (suc (suc b)) h k = absurd (omega arith)
+either_bit (suc (suc a)) b h k = absurd (omega arith)
+
+-- the words before a place have the bits of the others too
+abbrev pub AreUnited : List ℕ → List ℕ → ℕ → List ℕ → Type 0
+AreUnited old others at words =
+    (i : ℕ) → get_or words i 0 ≡ cond (ltb i at) (bit_or (get_or old i 0) (get_or others i 0)) (get_or old i 0)
+
+pub united_none : (old others : List ℕ) → AreUnited old others 0 old
+united_none old others i = sym (cond-false (ltb i 0) _ _ (le-ltb i 0 (omega arith)))
+
+pub united_next : (old others words : List ℕ) (at : ℕ) → at < length words → AreUnited old others at words
+    → AreUnited old others (at + 1) (set words at (bit_or (get_or words at 0) (get_or others at 0)))
+united_next old others words at l h i = elim (cases_eq i at) [
+  | inl s ↦ (let word = bit_or (get_or words at 0) (get_or others at 0) in
+      let here = h at ∙ cond-false (ltb at at) _ _ (le-ltb at at (omega arith)) in
+      subst (λ k. get_or (set words at word) k 0 ≡ cond (ltb k (at + 1)) (bit_or (get_or old k 0) (get_or others k 0)) (get_or old k 0)) (sym s)
+      (get_or-set_same words at word 0 l ∙ ap (λ w. bit_or w (get_or others at 0)) here
+      ∙ sym (cond-true (ltb at (at + 1)) _ _ (lt-ltb at (at + 1) (omega arith)))))
+  | inr d ↦ get_or-set_other words at i _ 0 d ∙ h i
+      ∙ ap (λ b. cond b (bit_or (get_or old i 0) (get_or others i 0)) (get_or old i 0)) (same d)
+]
+  where
+    same : (i ≡ at → ⊥) → ltb i at ≡ ltb i (at + 1)
+    same d = elim (cases_lt i at) [
+      | inl b ↦ lt-ltb i at b ∙ sym (lt-ltb i (at + 1) (omega arith))
+      | inr c ↦ le-ltb i at c ∙ sym (le-ltb i (at + 1) (omega arith))
+    ]
+
+pub united_all : (old others words : List ℕ) (at : ℕ) → length others ≤ at → AreUnited old others at words
+    → (x : ℕ) → is_member x (bits_of words) ≡ (is_member x (bits_of old) || is_member x (bits_of others))
+united_all old others words at past h x =
+    is_member-bits_of x words ∙ has_bit_is words x ∙ ap (λ w. eqb (bit_at w (x % 64)) 1) (each (x / 64))
+    ∙ ap (λ b. eqb b 1) (bit_at_or (get_or old (x / 64) 0) (get_or others (x / 64) 0) (x % 64))
+    ∙ either_bit (bit_at (get_or old (x / 64) 0) (x % 64)) (bit_at (get_or others (x / 64) 0) (x % 64))
+    (bit_at-lt (get_or old (x / 64) 0) (x % 64)) (bit_at-lt (get_or others (x / 64) 0) (x % 64))
+    ∙ ap (λ b. b || eqb (bit_at (get_or others (x / 64) 0) (x % 64)) 1) (sym (is_member-bits_of x old ∙ has_bit_is old x))
+    ∙ ap (λ b. is_member x (bits_of old) || b) (sym (is_member-bits_of x others ∙ has_bit_is others x))
+  where
+    each : (i : ℕ) → get_or words i 0 ≡ bit_or (get_or old i 0) (get_or others i 0)
+    each i = elim (cases_lt i at) [
+      | inl l ↦ h i ∙ cond-true (ltb i at) _ _ (lt-ltb i at l)
+      | inr g ↦ h i ∙ cond-false (ltb i at) _ _ (le-ltb i at g)
+          ∙ sym (ap (bit_or (get_or old i 0)) (get_or_past others i 0 (omega arith)) ∙ or_zero_r (get_or old i 0))
+    ]

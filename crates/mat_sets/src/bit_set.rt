@@ -1,5 +1,5 @@
 //! A set of numbers kept as bits, seen as a strictly rising list.
-ghost use Rattle.std.specs.Prelude.{◌≡◌, ℕ, ◌&&◌, ◌<◌, ◌≤◌, ◌^◌, [], length, max, IfOk, OnOk, OnErr};
+ghost use Rattle.std.specs.Prelude.{◌≡◌, ℕ, ◌&&◌, ◌||◌, ◌<◌, ◌≤◌, ◌^◌, [], length, max, IfOk, OnOk, OnErr};
 ghost use Rattle.mat_sets.specs.Bits.{bits_of};
 ghost use Rattle.mat_sets.specs.Search.{IsNextFrom};
 ghost use Rattle.mat_sets.specs.Sets.{all_below, is_member, with_one, without_one};
@@ -66,7 +66,7 @@ impl BitSet {
         ensures err { OnErr result (self.new ≡ self.old) }
     {
         let at = (x / 64) as usize;
-        make_room(&mut self.words, at)?;
+        make_room(&mut self.words, at + 1)?;
         self.words[at] |= 1 << (x % 64);
         Ok(())
     }
@@ -79,6 +79,24 @@ impl BitSet {
         if at < self.words.len() {
             self.words[at] &= !(1 << (x % 64));
         }
+    }
+
+    /// Another set of the same members. The time is that of the words.
+    pub fn copy(&self, alloc: Global) -> Result<BitSet, AllocError>
+        ensures { IfOk result (λ s. s ≡ self.now) }
+    {
+        let words = Vec::from_slice(alloc, self.words.as_slice())?;
+        Ok(BitSet { words })
+    }
+
+    /// Puts in all members of another set, 64 numbers at a time. After an error the set is as before.
+    pub fn unite(&mut self, other: &BitSet) -> Result<(), AllocError>
+        ensures ok { OnOk result ((x : ℕ) → is_member x self.new ≡ (is_member x self.old || is_member x other.now)) }
+        ensures err { OnErr result (self.new ≡ self.old) }
+    {
+        make_room(&mut self.words, other.words.len())?;
+        set_all(&mut self.words, other.words.as_slice());
+        Ok(())
     }
 
     /// The first number from `from` on that is a member of both sets: the time is that of the words in between. It takes
@@ -99,15 +117,26 @@ impl BitSet {
     }
 }
 
-/// Makes the words reach place `at`, by words with no bit. After an error they are as before.
-fn make_room(words: &mut Vec<u64>, at: usize) -> Result<(), AllocError>
-    requires { at < 2 ^ 26 }
+/// Makes the words at least so many, by words with no bit. After an error they are as before.
+fn make_room(words: &mut Vec<u64>, len: usize) -> Result<(), AllocError>
+    requires { len ≤ 2 ^ 26 }
     ensures same { bits_of words.new.items ≡ bits_of words.old.items }
-    ensures room { OnOk result (at < length words.new.items) }
+    ensures room { OnOk result (len ≤ length words.new.items) }
     ensures few { length words.new.items ≤ max (length words.old.items) (2 ^ 26) }
 {
-    if words.len() <= at {
-        words.resize(at + 1, 0)?;
+    if words.len() < len {
+        words.resize(len, 0)?;
     }
     Ok(())
+}
+
+/// Sets in the words all bits of the others.
+fn set_all(words: &mut [u64], others: &[u64])
+    requires { length others.now ≤ length words.old }
+    ensures length { length words.new ≡ length words.old }
+    ensures bits { (x : ℕ) → is_member x (bits_of words.new) ≡ (is_member x (bits_of words.old) || is_member x (bits_of others.now)) }
+{
+    for at in 0..others.len() {
+        words[at] |= others[at];
+    }
 }

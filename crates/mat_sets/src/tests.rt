@@ -123,6 +123,22 @@ fn a_set_of_bits_goes_beyond_one_word(rt: HostRuntime) -> Result<(), Fail> {
     Ok(())
 }
 
+#[test]
+fn sets_of_bits_are_copied_and_united(rt: HostRuntime) -> Result<(), Fail> {
+    let alloc = rt.alloc();
+    let mut set = BitSet::new(alloc);
+    set.insert(3)?;
+    let mut other = set.copy(alloc)?;
+    other.insert(70)?;
+    assert!(rt; other.contains(3) && !set.contains(70));
+    set.insert(5)?;
+    set.unite(&other)?;
+    assert!(rt; set.contains(3) && set.contains(5) && set.contains(70) && !set.contains(6));
+    set.unite(&BitSet::new(alloc))?;
+    assert!(rt; set.contains(70) && !other.contains(5));
+    Ok(())
+}
+
 /// Arcs that lead 2 or 5 further, from 0 to a goal.
 struct Jumps {
     size: u32,

@@ -1,0 +1,24 @@
+use Rattle.std.proofs.Common.{arith, refl, ◌∙◌}
+use Rattle.std.proofs.lemmas.List.{length-set}
+use Rattle.mat_sets.proofs.Bits.{united_none, united_next, united_all}
+use Rattle.mat_sets.proofs.bit_set.set_all.Goals as goal
+
+pub loop-at-init : goal.loop-at-init
+loop-at-init c = record { length = refl; words = united_none c.args.words.now c.args.others.now }
+
+pub loop-at-preserved : goal.loop-at-preserved
+loop-at-preserved c =
+    let now = c.loop-at.invariant in
+    let long = now.length in
+    record {
+      length = length-set c.loop-at.words c.loop-at.at _ ∙ long;
+      words = united_next c.args.words.now c.args.others.now c.loop-at.words c.loop-at.at (omega arith) now.words;
+    }
+
+pub returns : goal.returns
+returns c =
+    let now = c.loop-at.invariant in
+    record {
+      length = now.length;
+      bits = united_all c.args.words.now c.args.others.now c.loop-at.words c.loop-at.at (omega arith) now.words;
+    }
