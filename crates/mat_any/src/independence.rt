@@ -1,13 +1,13 @@
 //! Independence in a matroid of any kind, by recursion on the matroids within it.
-ghost use Rattle.std.specs.Prelude.{◌≡◌, ◌<◌, ◌&&◌, not, if◌then◌else◌, IfOk, OnErr};
-ghost use Rattle.mat_sets.specs.Sets.{AllBelow, IsSet, is_member, with_one};
+ghost use Rattle.std.specs.Prelude.{◌≡◌, IfOk};
+ghost use Rattle.mat_sets.specs.Sets.{AllBelow, IsSet};
 ghost use Rattle.mat_laws.specs.Matroids.{IsMaximal};
 ghost use Rattle.mat_minors.specs.Minors.{is_dual, is_contracted};
 ghost use Rattle.mat_any.specs.Trees.{element_count, is_independent, IsSound};
 ghost use Rattle.mat_any.specs.Views.{tree_of};
 
 use crate::any::AnyMatroid;
-use crate::runs::run;
+use crate::runs::{dual_run, run};
 use mat_laws::Matroid;
 use mat_sets::ElemSet;
 use std::alloc::{AllocError, Global};
@@ -33,8 +33,7 @@ pub(crate) fn size_of(matroid: &AnyMatroid) -> u32
 }
 
 /// Whether a set of elements below the size is independent. A truncation or a restriction asks the matroid within it at
-/// most once; a dual or a contraction runs it once, and a dual asks it once more for each member at most. The only error is
-/// want of memory.
+/// most once; a dual runs it once, and a contraction runs it once and asks it once. The only error is want of memory.
 #[cycle(asking)]
 pub(crate) fn independent(
     alloc: Global,
@@ -70,22 +69,15 @@ pub(crate) fn independent(
     }
 }
 
-// Whether the set is independent in the dual of the matroid: what is independent outside the set is grown as far as it
-// goes, and the set is independent where none of its members can be added then.
-#[cycle(asking)]
+// Whether the set is independent in the dual of the matroid: the run of the dual through its members takes each of them.
 fn dual_independent(alloc: Global, inner: &AnyMatroid, set: &ElemSet) -> Result<bool, AllocError>
     requires sound { IsSound (tree_of inner.now) }
     requires below { AllBelow (element_count (tree_of inner.now)) set.now }
     ensures { IfOk result (λ b. b ≡ is_dual (element_count (tree_of inner.now)) (is_independent (tree_of inner.now)) set.now) }
 {
-    let outside = ElemSet::all_below(alloc, size_of(inner))?.minus(alloc, set)?;
-    let mut base = maximal_subset(alloc, inner, &outside)?;
-    for x in set.as_slice() {
-        if add_if_independent(alloc, inner, &mut base, *x)? {
-            return Ok(false);
-        }
-    }
-    Ok(true)
+    set.rises();
+    let taken = dual_run(alloc, inner, set.as_slice())?;
+    Ok(taken.len() == set.len())
 }
 
 // Whether the set is independent where the elements of `away` are contracted: it is disjoint from them, and independent
@@ -122,30 +114,4 @@ pub(crate) fn maximal_subset(
 {
     within.rises();
     run(alloc, matroid, within.as_slice())
-}
-
-// Adds x where it is not yet there and the set stays independent, and tells whether it did.
-#[cycle(asking)]
-#[tactic(auto, using(mat_sets::proofs::Changes::set_changes, mat_sets::proofs::Members::set_rises))]
-fn add_if_independent(
-    alloc: Global,
-    matroid: &AnyMatroid,
-    set: &mut ElemSet,
-    x: u32,
-) -> Result<bool, AllocError>
-    requires sound { IsSound (tree_of matroid.now) }
-    requires set { AllBelow (element_count (tree_of matroid.now)) set.old }
-    requires below { x < element_count (tree_of matroid.now) }
-    ensures added { IfOk result (λ added. added ≡ (not (is_member x set.old) && is_independent (tree_of matroid.now) (with_one set.old x))) }
-    ensures set { IfOk result (λ added. set.new ≡ (if added then with_one set.old x else set.old)) }
-    ensures err { OnErr result (set.new ≡ set.old) }
-{
-    if !set.add(x)? {
-        return Ok(false);
-    }
-    let answer = independent(alloc, matroid, set);
-    if !matches!(answer, Ok(true)) {
-        set.take_out(x);
-    }
-    answer
 }

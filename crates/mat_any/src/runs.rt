@@ -37,9 +37,14 @@ pub(crate) fn run(alloc: Global, matroid: &AnyMatroid, order: &[u32]) -> Result<
     }
 }
 
-// What a run leaves that goes through all other elements first, and then through the order from its end.
+/// What a run leaves that goes through all other elements first, and then through the order from its end. The only error is
+/// want of memory.
 #[cycle(running)]
-fn dual_run(alloc: Global, inner: &AnyMatroid, order: &[u32]) -> Result<ElemSet, AllocError>
+pub(crate) fn dual_run(
+    alloc: Global,
+    inner: &AnyMatroid,
+    order: &[u32],
+) -> Result<ElemSet, AllocError>
     requires sound { IsSound (tree_of inner.now) }
     requires below { AllBelow (element_count (tree_of inner.now)) order.now }
     requires distinct { AreDistinct order.now }
