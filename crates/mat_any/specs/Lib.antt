@@ -1,3 +1,4 @@
+pub mod AnyKeeps
 pub mod Trees
 pub mod TreeLaws
 pub mod Views

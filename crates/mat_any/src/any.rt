@@ -1,11 +1,13 @@
 //! A matroid of any kind.
-ghost use Rattle.std.specs.Prelude.{⊤};
+ghost use Rattle.mat_any.specs.AnyKeeps.{KeepsAny};
 ghost use Rattle.mat_any.specs.Trees.{element_count, is_independent, IsSound};
 ghost use Rattle.mat_any.specs.TreeLaws.{tree_laws};
 ghost use Rattle.mat_any.specs.Views.{tree_of};
 
-use crate::exchanges::circuit;
+use crate::any_kept::AnyKept;
 use crate::independence::{independent, size_of};
+use crate::keeping::keep;
+use crate::rows::row;
 use crate::runs::run;
 use mat_count::{Laminar, Partition, Uniform};
 use mat_gf2::Gf2;
@@ -51,9 +53,9 @@ impl Matroid for AnyMatroid {
 
     ghost indep = { λ m. is_independent (tree_of m) };
 
-    type Kept = ();
+    type Kept = AnyKept;
 
-    ghost keeps = { λ _ _ _. ⊤ };
+    ghost keeps = { λ m base kept. KeepsAny (tree_of m) base kept };
 
     ghost laws = { λ m. tree_laws (tree_of m) };
 
@@ -66,15 +68,25 @@ impl Matroid for AnyMatroid {
     }
 
     fn circuit(&self, alloc: Global, base: &ElemSet, x: u32) -> Result<Exchange, AllocError> {
-        circuit(alloc, self, base, x)
+        let kept = keep(alloc, self, base)?;
+        row(alloc, self, base, &kept, x)
     }
 
     fn run(&self, alloc: Global, order: &[u32]) -> Result<ElemSet, AllocError> {
         run(alloc, self, order)
     }
 
-    /// Nothing is kept.
-    fn keep(&self, _alloc: Global, _base: &ElemSet) -> Result<(), AllocError> {
-        Ok(())
+    fn keep(&self, alloc: Global, base: &ElemSet) -> Result<AnyKept, AllocError> {
+        keep(alloc, self, base)
+    }
+
+    fn row(
+        &self,
+        alloc: Global,
+        base: &ElemSet,
+        kept: &AnyKept,
+        x: u32,
+    ) -> Result<Exchange, AllocError> {
+        row(alloc, self, base, kept, x)
     }
 }

@@ -2,10 +2,13 @@
 #![tactic(auto)]
 
 mod any;
-mod exchanges;
+mod any_kept;
 mod independence;
+mod keeping;
+mod rows;
 mod runs;
 #[cfg(test)]
 mod tests;
 
 pub use any::AnyMatroid;
+pub use any_kept::AnyKept;

@@ -154,3 +154,28 @@ fn an_exchange_within_leaves_out_what_is_contracted(rt: HostRuntime) -> Result<(
     assert!(rt; row.with == base);
     Ok(())
 }
+
+// The bases of its matroid are {1} and {2}, and so its own are {0, 1, 3} and {0, 2, 3}.
+fn all_but_one_of_two(alloc: Global) -> Result<AnyMatroid, AllocError>
+    ensures count { IfOk result (λ m. element_count (tree_of m) ≡ 4) }
+    ensures sound { IfOk result (λ m. IsSound (tree_of m)) }
+{
+    Ok(AnyMatroid::Dual(Box::new(alloc, one_of_two(alloc)?)?))
+}
+
+#[test]
+#[tactic(auto, unfolding(mat_sets::specs::Sets::all_below))]
+fn what_is_kept_answers_for_two_elements(rt: HostRuntime) -> Result<(), Fail> {
+    let alloc = rt.alloc();
+    let base = ElemSet::all_below(alloc, 2)?.minus(alloc, &ElemSet::all_below(alloc, 1)?)?;
+    let matroid = all_but_one_of_two(alloc)?;
+    assert!(rt; base.as_slice() == [1].as_slice());
+    assert!(rt; matroid.independent(alloc, &base)?);
+    assert!(rt; !base.contains(0) && !base.contains(2));
+    let kept = matroid.keep(alloc, &base)?;
+    let other = matroid.row(alloc, &base, &kept, 2)?;
+    assert!(rt; !other.addable && other.with == base);
+    let first = matroid.row(alloc, &base, &kept, 0)?;
+    assert!(rt; first.addable && first.with == base);
+    Ok(())
+}
