@@ -1,14 +1,14 @@
 -- The exchanges at an independent set I of a dual, by those of the matroid at a base B that is disjoint from I. A set that meets B in x
 -- alone is independent in the dual exactly where some z outside B and outside the set can take the place of x in B. So an x outside B
 -- can always be added; one in B can be added where some such z lies outside I, and else it can be exchanged exactly for these z.
-use Rattle.std.proofs.Common.{◌≡◌, ℕ, ◌<◌, Bool, true, false, not, ◌&&◌, ◌||◌, cond, eqb, ltb, List, [], length, get_or}
-use Rattle.std.proofs.Common.{inl, inr, refl, subst, sym, ap, ◌∙◌, arith}
+use Rattle.std.proofs.Common.{◌≡◌, ℕ, ◌<◌, Bool, true, false, not, ◌&&◌, cond, eqb, ltb, List, [], length, get_or}
+use Rattle.std.proofs.Common.{inl, inr, subst, sym, ap, ◌∙◌, arith}
 use Rattle.std.specs.List.{filter}
-use Rattle.std.proofs.lemmas.Bool.{cases_Bool, cases_eq, cond-false, and_parts, and_from, both_ways, false_from_ne_true, ne_eqb}
+use Rattle.std.proofs.lemmas.Bool.{cases_Bool, cases_eq, and_parts, and_from, both_ways, false_from_ne_true, ne_eqb}
 use Rattle.std.proofs.lemmas.Bool.{eqb-true, ltb-true, lt-ltb, not-true, or_cases}
 use Rattle.mat_sets.specs.Sets.{is_member, IsRising, IsSet, IsSubset, with_one, without_one, minus, intersection, union, all_below}
-use Rattle.mat_sets.proofs.Members.{set_members, same_members, is_member-filter, is_member-with_one, is_member-without_one}
-use Rattle.mat_sets.proofs.Members.{IsRising-without_one, IsRising-with_one, RisesFrom-filter}
+use Rattle.mat_sets.proofs.Members.{set_members, same_members, is_member-filter, is_member-with_one}
+use Rattle.mat_sets.proofs.Members.{IsRising-without_one}
 use Rattle.mat_sets.proofs.Cardinalities.{length-with_one, length-without_one}
 use Rattle.mat_sets.proofs.Subsets.{subset_or}
 use Rattle.mat_sets.proofs.Filters.{filter_whole, IsRising-filter}

@@ -2,7 +2,7 @@
 -- can, it is smaller than a base, so that no base lies outside X.
 use Rattle.std.proofs.Common.{◌≡◌, ℕ, ◌+◌, ◌<◌, ◌≤◌, Bool, true, false, not, ◌&&◌, List, [], length, get_or, subst}
 use Rattle.std.proofs.Common.{inl, inr, sym, ap, ◌∙◌, arith}
-use Rattle.std.proofs.lemmas.Bool.{cases_Bool, cases_lt, and_parts, both_ways, false_from_ne_true, lt-ltb, not-true}
+use Rattle.std.proofs.lemmas.Bool.{cases_Bool, cases_lt, and_parts, false_from_ne_true, lt-ltb, not-true}
 use Rattle.mat_sets.specs.Sets.{is_member, IsSet, IsSubset, with_one, minus, union, all_below}
 use Rattle.mat_sets.proofs.Members.{place_of_member}
 use Rattle.mat_sets.proofs.Cardinalities.{length-with_one}

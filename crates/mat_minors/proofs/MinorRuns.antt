@@ -3,7 +3,7 @@
 use Rattle.std.proofs.Common.{◌≡◌, ℕ, ◌+◌, ◌<◌, ◌≤◌, Bool, true, false, not, ◌&&◌, ◌||◌, cond, if◌then◌else◌, eqb}
 use Rattle.std.proofs.Common.{leb, List, [], ◌∷◌, ◌++◌, length, get_or, drop, inl, inr, refl, subst, sym, ap, ◌∙◌, arith}
 use Rattle.std.specs.List.{filter}
-use Rattle.std.proofs.lemmas.Bool.{cases_Bool, and_parts, and_from, both_ways, false_from_ne_true, not-true, or_cases}
+use Rattle.std.proofs.lemmas.Bool.{cases_Bool, and_parts, and_from, both_ways, false_from_ne_true}
 use Rattle.std.proofs.lemmas.Bool.Decides.{nat_tests}
 use Rattle.mat_sets.specs.Sets.{is_member, IsRising, IsSet, IsSubset, AllBelow, AreDistinct, with_one, minus, intersection, union}
 use Rattle.mat_sets.proofs.Members.{same_members, is_member-minus, is_member-union, IsRising-minus, IsRising-union}

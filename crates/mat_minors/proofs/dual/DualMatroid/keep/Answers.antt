@@ -1,4 +1,4 @@
-use Rattle.std.proofs.Common.{refl, subst, sym, ap, ◌∙◌}
+use Rattle.std.proofs.Common.{subst, sym, ap, ◌∙◌}
 use Rattle.mat_sets.specs.Sets.{AllBelow, minus, all_below}
 use Rattle.mat_sets.proofs.Ground.{IsSet-minus, IsSet-all_below}
 use Rattle.mat_minors.proofs.DualExchanges.{kept_is}
