@@ -8,8 +8,7 @@ use Rattle.mat_sets.specs.Families.{indicator}
 use Rattle.mat_sets.proofs.Ground.{IsSet-length}
 use Rattle.mat_sets.proofs.Members.{with_one-member}
 use Rattle.mat_sets.proofs.SetTests.{IsSet-from_test}
-use Rattle.mat_laws.specs.GreedyRuns.{grown_along}
-use Rattle.mat_laws.proofs.GreedyRunSteps.{IsRunning, IsRunning-start, IsRunning-end}
+use Rattle.mat_laws.proofs.GreedyRunSteps.{IsRunning, IsRunning-start}
 use Rattle.mat_count.specs.Counts.{is_within_caps, is_counted}
 use Rattle.mat_count.specs.Laminar.{IsLaminarFamily}
 use Rattle.mat_count.specs.LaminarLaws.{counted_laws}
@@ -76,6 +75,3 @@ module _ {n : ℕ} {sets : List (List ℕ)} {caps order set numbers : List ℕ} 
   counter-small k l =
       let same = c.counts.long in
       omega (arith, IsSet-length n set ranges, c.counts.at k (omega arith), length-intersection set (get_or sets k []))
-
-  pub IsCounting-end : length order ≤ i → set ≡ grown_along (is_counted n sets caps) [] order
-  IsCounting-end past = IsRunning-end (is_counted n sets caps) order set i past c.run

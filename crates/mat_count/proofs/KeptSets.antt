@@ -1,8 +1,8 @@
 -- What is kept of the full sets is collected set by set, and the smallest of some of them is looked for place by place.
-use Rattle.std.proofs.Common.{◌≡◌, ℕ, ◌+◌, ◌<◌, ◌≤◌, Bool, true, false, ◌||◌, eqb, List, [], ◌∷◌, ◌++◌, length, get_or, take, length-append, Option, Some, None, inl, inr, refl, sym, ap, ◌∙◌, subst, arith}
+use Rattle.std.proofs.Common.{◌≡◌, ℕ, ◌+◌, ◌<◌, true, false, ◌||◌, eqb, List, [], ◌∷◌, ◌++◌, length, get_or, take, length-append, Option, Some, None, inl, inr, refl, sym, ap, ◌∙◌, arith}
 use Rattle.std.specs.Prelude.{⊤, MatchOption}
 use Rattle.std.proofs.lemmas.Bool.{cases_lt, both_ways, or_cases, eqb-true, eq-eqb, ltb-true, ltb-false, le-ltb, or_right}
-use Rattle.std.proofs.lemmas.List.{get_or_append_left, get_or_push, take_all}
+use Rattle.std.proofs.lemmas.List.{get_or_append_left, get_or_push}
 use Rattle.mat_sets.specs.Sets.{is_member, IsRising, intersection}
 use Rattle.mat_sets.proofs.Members.{IsRising-intersection, same_members, set_members}
 use Rattle.mat_sets.proofs.Steps.{is_member-take_more}
@@ -43,19 +43,6 @@ pub record IsLooking (entries : List (Option (List ℕ))) (places : List ℕ) (i
 abbrev place_in : Option ℕ → ℕ
 place_in None = 0
 place_in (Some i) = i
-
-abbrev is_found : Option ℕ → Bool
-is_found None = false
-is_found (Some i) = true
-
-pub IsLooking-start : (entries : List (Option (List ℕ))) (places : List ℕ) → IsLooking entries places 0 None
-IsLooking-start entries places = record {
-  smallest = record {
-    listed = λ i none. absurd (both_ways false refl (ap is_found none));
-    least = λ i h. absurd (both_ways false refl h);
-  };
-  known = tt;
-}
 
 -- what has more members than one that was the smallest has more than one that is smaller still
 fewer_still : (new old other : Option (List ℕ)) → has_fewer new old ≡ true → has_fewer other old ≡ false → has_fewer other new ≡ false
@@ -105,7 +92,3 @@ module _ {entries : List (Option (List ℕ))} {places : List ℕ} {i : ℕ} {fou
     };
     known = w.known;
   }
-
-pub IsLooking-end : (entries : List (Option (List ℕ))) (places : List ℕ) (i : ℕ) (found : Option ℕ) → length places ≤ i
-    → IsLooking entries places i found → IsSmallest entries places found
-IsLooking-end entries places i found past w = subst (λ s. IsSmallest entries s found) (take_all i places past) w.smallest
