@@ -7,3 +7,4 @@ pub mod Frontiers
 pub mod Separators
 pub mod PathsOfTables
 pub mod LinkedEnds
+pub mod Rerouting

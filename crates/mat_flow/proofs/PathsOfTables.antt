@@ -1,11 +1,11 @@
 -- The paths that a table holds, as terms: the table is turned round, the paths are read from their starts one after the other, and so
 -- disjoint paths lead to each end of a table. Beside them the moved entries of a walk, as a table.
-use Rattle.std.proofs.Common.{◌≡◌, ℕ, zero, suc, ◌+◌, ◌<◌, ◌≤◌, ◌≢◌, Bool, true, false, ◌||◌, List, [], ◌∷◌, ◌++◌, length, get_or, map, set, take, Option, Some, None, is_some, refl, sym, ap, ◌∙◌, subst, arith}
+use Rattle.std.proofs.Common.{◌≡◌, ℕ, zero, suc, ◌+◌, ◌<◌, ◌≤◌, ◌≢◌, List, [], ◌∷◌, ◌++◌, length, get_or, map, set, take, Option, Some, None, is_some, refl, sym, ap, ◌∙◌, subst, arith}
 use Rattle.std.proofs.Math.Numerals.{add-one}
-use Rattle.std.proofs.lemmas.List.{get_or_default, get_or_past, length-map, length_push, take_all}
+use Rattle.std.proofs.lemmas.List.{length-map, length_push, take_all}
 use Rattle.std.proofs.lemmas.List.Elements.{All-nil}
-use Rattle.mat_sets.specs.Sets.{is_member, all_below, AllBelow, IsRising, IsSubset}
-use Rattle.mat_sets.proofs.Ground.{AllBelow-member, IsRising-all_below, IsSet-all_below, below_member, get_or-all_below, length-all_below, length-distinct, length-distinct_subset}
+use Rattle.mat_sets.specs.Sets.{is_member, all_below, AllBelow, IsRising}
+use Rattle.mat_sets.proofs.Ground.{AllBelow-member, IsRising-all_below, IsSet-all_below, get_or-all_below, length-all_below, length-distinct, length-distinct_subset}
 use Rattle.mat_sets.proofs.Members.{IsRising-nil, IsRising-union}
 use Rattle.mat_sets.proofs.Subsets.{same_size_subset}
 use Rattle.mat_sets.proofs.Sums.{AllBelow-at}

@@ -17,3 +17,4 @@ pub mod PathFamilies
 pub mod SimplePaths
 pub mod PathChoices
 pub mod PathLaws
+pub mod Reroutes

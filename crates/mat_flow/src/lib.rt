@@ -5,6 +5,7 @@ mod digraph;
 pub mod laws;
 mod link_table;
 mod linking;
+mod reroutes;
 mod residual;
 mod separator;
 #[cfg(test)]
@@ -15,4 +16,5 @@ mod walk;
 pub use digraph::Digraph;
 pub use link_table::{LinkTable, shift_along};
 pub use linking::{Linking, linked};
+pub use reroutes::Reroutes;
 pub use walk::Walk;

@@ -26,6 +26,13 @@ impl LinkTable {
         Ok(LinkTable { before })
     }
 
+    /// The vertex before each vertex.
+    pub(crate) fn before(&self) -> &[Option<u32>]
+        ensures { result.now ≡ self.now.before.items }
+    {
+        &self.before
+    }
+
     /// Makes v an end beside the present ones, where disjoint paths lead from the sources to all of them and to v, and tells
     /// whether there are such paths: one search for an augmenting walk (Schrijver, chapters 9 and 16). After an error nothing
     /// has changed. The only error is want of memory.

@@ -7,3 +7,4 @@ pub mod KeptRows
 pub mod MatchingRuns
 pub mod MatchableSets
 pub mod LinkedRuns
+pub mod LinkedRows

@@ -1,15 +1,14 @@
 -- A run of a gammoid keeps disjoint paths to the vertices of the set so far: an element gets in exactly where there is one path more, to its
 -- vertex.
-use Rattle.std.proofs.Common.{◌≡◌, ℕ, ◌+◌, ◌<◌, ◌≤◌, Bool, true, false, not, ◌&&◌, ◌||◌, if◌then◌else◌, eqb, zero, suc, List, [], ◌∷◌, length, get_or, map, take, ◌↔◌, inl, inr, refl, sym, ap, ◌∙◌, subst, arith}
+use Rattle.std.proofs.Common.{◌≡◌, ℕ, ◌+◌, ◌<◌, Bool, true, false, not, ◌&&◌, ◌||◌, if◌then◌else◌, eqb, zero, suc, List, [], ◌∷◌, length, get_or, take, ◌↔◌, inl, inr, refl, sym, ap, ◌∙◌, subst, arith}
 use Rattle.std.proofs.lemmas.Bool.{both_ways, eq-eqb, eqb-true, false_from_ne_true, false≢true, ne_eqb, or_cases, or_left, or_right}
-use Rattle.mat_sets.specs.Sets.{is_member, union, with_one, AreDistinct, IsRising, IsSet}
+use Rattle.mat_sets.specs.Sets.{is_member, union, with_one, AreDistinct, IsSet}
 use Rattle.mat_sets.proofs.Ground.{IsSet-with_one, below_member}
 use Rattle.mat_sets.proofs.Members.{IsRising-nil, IsRising-union, IsRising-with_one, is_member-get_or, is_member-union, is_member-with_one, same_members}
 use Rattle.mat_sets.proofs.Steps.{is_member-take_more}
 use Rattle.mat_flow.specs.LinkedEnds.{IsLinkedTo}
-use Rattle.mat_flow.specs.Paths.{last_of, HasPathsToEach}
+use Rattle.mat_flow.specs.Paths.{HasPathsToEach}
 use Rattle.mat_flow.specs.declared.link_table.LinkTable.{LinkTable}
-use Rattle.mat_laws.specs.GreedyRuns.{grown_along}
 use Rattle.mat_laws.proofs.GreedyRunSteps.{IsRunning, IsRunning-next, IsRunning-start}
 use Rattle.mat_linked.specs.GammoidLaws.{gammoid_laws, is_gammoid-from, is_gammoid-gives}
 use Rattle.mat_linked.specs.Gammoids.{is_gammoid, set_of_vertices, vertices_of, IsGammoid}

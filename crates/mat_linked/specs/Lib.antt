@@ -7,3 +7,4 @@ pub mod TransversalPaths
 pub mod TransversalLaws
 pub mod Matchings
 pub mod KeptMatchings
+pub mod KeptLinkings

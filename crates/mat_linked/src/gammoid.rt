@@ -1,13 +1,17 @@
 //! Gammoids.
-ghost use Rattle.std.specs.Prelude.{⊤, ◌≡◌, ◌<◌, ◌^◌, ℕ, [], length, IfOk};
+ghost use Rattle.std.specs.Prelude.{◌≡◌, ◌<◌, ◌^◌, ℕ, List, [], true, false, filter, length, IfOk};
 ghost use Rattle.mat_sets.specs.Sets.{is_member, AllBelow, AreDistinct, IsRising};
 ghost use Rattle.mat_flow.specs.LinkedEnds.{IsLinkedTo};
+ghost use Rattle.mat_flow.specs.Reroutes.{AreReroutes};
+ghost use Rattle.mat_laws.specs.Exchanges.{row_of};
 ghost use Rattle.mat_laws.specs.GreedyRuns.{grown_along};
 ghost use Rattle.mat_linked.specs.Gammoids.{is_gammoid, set_of_vertices, vertices_of, IsGammoid, LinkedVertices};
 ghost use Rattle.mat_linked.specs.GammoidLaws.{gammoid_laws};
+ghost use Rattle.mat_linked.specs.KeptLinkings.{has_vertex_in, IsKeptLinking};
 
-use mat_flow::{Digraph, LinkTable, linked};
-use mat_laws::Matroid;
+use crate::kept_linking::KeptLinking;
+use mat_flow::{Digraph, LinkTable, Reroutes, linked};
+use mat_laws::{Exchange, Matroid};
 use mat_sets::ElemSet;
 use std::alloc::{AllocError, Global};
 use std::marker::Model;
@@ -71,6 +75,83 @@ fn link_along(
     Ok((set, links))
 }
 
+// Disjoint paths to the vertices of an independent set.
+fn keep_paths(
+    alloc: Global,
+    graph: &Digraph,
+    sources: &ElemSet,
+    targets: &[u32],
+    base: &ElemSet,
+) -> Result<KeptLinking, AllocError>
+    requires gammoid { IsGammoid graph.now.vertices graph.now.arcs sources.now targets.now }
+    requires base { is_gammoid graph.now.vertices graph.now.arcs sources.now targets.now base.now ≡ true }
+    ensures { IfOk result (λ kept. IsKeptLinking graph.now.vertices graph.now.arcs sources.now targets.now base.now kept) }
+{
+    let (_, links) = link_along(alloc, graph, sources, targets, base.as_slice())?;
+    let reroutes = Reroutes::new(alloc, graph, &links)?;
+    Ok(KeptLinking { reroutes })
+}
+
+// Those of the elements whose vertices are of this set.
+fn members_at(
+    alloc: Global,
+    targets: &[u32],
+    elements: &[u32],
+    vertices: &ElemSet,
+) -> Result<ElemSet, AllocError>
+    requires below { AllBelow (length targets.now) elements.now }
+    requires rises { IsRising elements.now }
+    ensures members { IfOk result (λ s. s ≡ filter (has_vertex_in targets.now vertices.now) elements.now) }
+    ensures rises { IfOk result (λ s. IsRising s) }
+{
+    let mut found = ElemSet::new(alloc);
+    for e in elements {
+        if vertices.contains(targets[*e as usize]) {
+            found.add(*e)?;
+        }
+    }
+    Ok(found)
+}
+
+// The exchanges of an element at what is kept.
+fn row_by_paths(
+    alloc: Global,
+    sources: &ElemSet,
+    targets: &[u32],
+    base: &ElemSet,
+    kept: &KeptLinking,
+    x: u32,
+) -> Result<Exchange, AllocError>
+    requires below { AllBelow (length targets.now) base.now }
+    requires element { x < length targets.now }
+    requires kept { (vertices : ℕ) × (arcs : List (ℕ × ℕ)) × (ends : List ℕ) × AreReroutes vertices arcs sources.now ends kept.now.reroutes }
+    ensures row { IfOk result (λ e. (vertices : ℕ) (arcs : List (ℕ × ℕ)) → IsGammoid vertices arcs sources.now targets.now
+        → is_gammoid vertices arcs sources.now targets.now base.now ≡ true → is_member x base.now ≡ false
+        → IsKeptLinking vertices arcs sources.now targets.now base.now kept.now
+        → e ≡ row_of (is_gammoid vertices arcs sources.now targets.now) base.now x) }
+    ensures rises { IfOk result (λ e. IsRising e.with) }
+{
+    match kept
+        .reroutes
+        .giving_way(alloc, sources, targets[x as usize])?
+    {
+        None => {
+            let with = base.copy(alloc)?;
+            Ok(Exchange {
+                addable: true,
+                with,
+            })
+        }
+        Some(ways) => {
+            let with = members_at(alloc, targets, base.as_slice(), &ways)?;
+            Ok(Exchange {
+                addable: false,
+                with,
+            })
+        }
+    }
+}
+
 impl Gammoid {
     /// The gammoid of this graph in which paths start at the sources and element e is the vertex `targets[e]`. The only error is
     /// want of memory; as the parts are taken as they stand, none comes.
@@ -125,9 +206,9 @@ impl Matroid for Gammoid {
 
     ghost indep = { λ m. is_gammoid m.vertices m.arcs m.sources m.targets };
 
-    type Kept = ();
+    type Kept = KeptLinking;
 
-    ghost keeps = { λ _ _ _. ⊤ };
+    ghost keeps = { λ m base kept. IsKeptLinking m.vertices m.arcs m.sources m.targets base kept };
 
     ghost laws = { λ m h. gammoid_laws m.vertices m.arcs m.sources m.targets h };
 
@@ -150,8 +231,21 @@ impl Matroid for Gammoid {
         Ok(set)
     }
 
-    /// Nothing is kept.
-    fn keep(&self, _alloc: Global, _base: &ElemSet) -> Result<(), AllocError> {
-        Ok(())
+    /// Disjoint paths to the vertices of the set: one search of the bits of the graph for each member. The only error is want of
+    /// memory.
+    fn keep(&self, alloc: Global, base: &ElemSet) -> Result<KeptLinking, AllocError> {
+        keep_paths(alloc, &self.graph, &self.sources, &self.targets, base)
+    }
+
+    /// One search of the bits of the graph, back from the vertex of x in what the paths leave. The only error is want of memory.
+    fn row(
+        &self,
+        alloc: Global,
+        base: &ElemSet,
+        kept: &KeptLinking,
+        x: u32,
+    ) -> Result<Exchange, AllocError> {
+        self.lawful();
+        row_by_paths(alloc, &self.sources, &self.targets, base, kept, x)
     }
 }

@@ -3,6 +3,9 @@
 
 mod alternating;
 mod gammoid;
+#[cfg(test)]
+mod gammoid_tests;
+mod kept_linking;
 mod kept_matching;
 mod laws;
 mod matching;
@@ -11,6 +14,7 @@ mod tests;
 mod transversal;
 
 pub use gammoid::Gammoid;
+pub use kept_linking::KeptLinking;
 pub use kept_matching::KeptMatching;
 pub use laws::{gammoid_laws, gammoid_means, transversal_laws, transversal_means};
 pub use transversal::Transversal;

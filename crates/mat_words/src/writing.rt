@@ -25,11 +25,7 @@ pub fn put_number_word(out: &mut Vec<u8>, number: i128) -> Result<(), AllocError
 }
 
 // Appends a line of a keyword and numbers. After an AllocError a part of it may stand behind what `out` had.
-fn put_numbers_behind(
-    out: &mut Vec<u8>,
-    keyword: &[u8],
-    numbers: &[i128],
-) -> Result<(), AllocError>
+fn put_numbers_behind(out: &mut Vec<u8>, keyword: &[u8], numbers: &[i128]) -> Result<(), AllocError>
     ensures ok { OnOk result (out.new.items ≡ out.old.items ++ text_of (numbers_line keyword.now numbers.now ∷ [])) }
     ensures err { OnErr result (take (length out.old.items) out.new.items ≡ out.old.items) }
 {
@@ -106,11 +102,7 @@ pub fn put_weights_line(
 }
 
 // Appends a line of a keyword and the members of a list, in their order. After an AllocError a part of it may stand behind what `out` had.
-fn put_members_behind(
-    out: &mut Vec<u8>,
-    keyword: &[u8],
-    members: &[u32],
-) -> Result<(), AllocError>
+fn put_members_behind(out: &mut Vec<u8>, keyword: &[u8], members: &[u32]) -> Result<(), AllocError>
     ensures ok { OnOk result (out.new.items ≡ out.old.items ++ text_of (members_line keyword.now members.now ∷ [])) }
     ensures err { OnErr result (take (length out.old.items) out.new.items ≡ out.old.items) }
 {

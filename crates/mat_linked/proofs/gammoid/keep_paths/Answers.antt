@@ -1,0 +1,31 @@
+use Rattle.std.proofs.Common.{[], ◌∙◌, length, subst, sym, ap}
+use Rattle.mat_sets.specs.Sets.{AllBelow, AreDistinct}
+use Rattle.mat_sets.proofs.Ground.{AreDistinct-rising}
+use Rattle.mat_flow.specs.LinkedEnds.{IsLinkedTo}
+use Rattle.mat_laws.specs.GreedyRuns.{grown_along}
+use Rattle.mat_laws.proofs.GreedyRunSets.{run_all}
+use Rattle.mat_linked.specs.GammoidLaws.{gammoid_laws}
+use Rattle.mat_linked.specs.Gammoids.{is_gammoid, set_of_vertices}
+use Rattle.mat_linked.proofs.gammoid.keep_paths.Goals as goal
+
+pub link_along-requires-clause-below : goal.link_along-requires-clause-below
+link_along-requires-clause-below c =
+    let graph = c.args.graph.now in
+    let laws = gammoid_laws graph.vertices graph.arcs c.args.sources.now c.args.targets.now c.requires.gammoid in
+    subst (AllBelow (length c.args.targets.now)) (sym c.as_slice.ensures.items) (laws.sets c.args.base.now c.requires.base).below
+
+pub link_along-requires-clause-distinct : goal.link_along-requires-clause-distinct
+link_along-requires-clause-distinct c =
+    subst AreDistinct (sym c.as_slice.ensures.items) (AreDistinct-rising c.args.base.now c.as_slice.ensures.rises)
+
+pub returns : goal.returns
+returns c =
+    let graph = c.args.graph.now in
+    let sources = c.args.sources.now in
+    let targets = c.args.targets.now in
+    let base = c.args.base.now in
+    let laws = gammoid_laws graph.vertices graph.arcs sources targets c.requires.gammoid in
+    let same = c.in_ok-links.ensures.set ∙ ap (grown_along (is_gammoid graph.vertices graph.arcs sources targets) []) c.as_slice.ensures.items
+    ∙ run_all laws base c.requires.base in
+    c.in_ok-reroutes.ensures sources (set_of_vertices targets base) c.requires.gammoid.sources_inside.below
+    (subst (λ b. IsLinkedTo graph.vertices graph.arcs sources (set_of_vertices targets b) c.in_ok-links.links) same c.in_ok-links.ensures.links)
