@@ -20,3 +20,4 @@ pub mod GrownSplits
 pub mod HeaviestExchanges
 pub mod GrownSplitsExist
 pub mod GrowthTests
+pub mod TableTests

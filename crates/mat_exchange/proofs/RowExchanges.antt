@@ -1,15 +1,17 @@
 -- The rows of all elements at an independent set tell its exchanges: each row says what the exchanges of its element are, and no
 -- element past the last row can be added or exchanged, as independent sets lie below n.
 use Rattle.std.proofs.Common.{◌≡◌, ℕ, ◌+◌, ◌<◌, ◌≤◌, Bool, true, false, not, ◌&&◌, List, [], ◌∷◌, ◌++◌, length, map, inl, inr, refl, sym, ap, ◌∙◌, subst, arith}
-use Rattle.std.proofs.lemmas.Bool.{and_parts, and_right, cases_Bool, cases_lt, cond-false, cond-true, eq-eqb, false_from_ne_true, not-true}
+use Rattle.std.proofs.lemmas.Bool.{and_parts, and_right, both_ways, cases_Bool, cases_lt, cond-false, cond-true, eq-eqb, false_from_ne_true, not-true}
 use Rattle.std.proofs.lemmas.List.{get_or_past, get_or-map, length-map, map-append}
 use Rattle.mat_sets.specs.Sets.{is_member, AllBelow, all_below, with_one, without_one}
-use Rattle.mat_sets.proofs.Members.{set_members, is_member-filter}
+use Rattle.mat_sets.proofs.Members.{set_members, is_member-filter, same_members, IsRising-with_one, IsRising-without_one}
+use Rattle.mat_sets.proofs.Filters.{IsRising-filter}
 use Rattle.mat_sets.proofs.Ground.{AllBelow-from_members, all_below-more, all_below-none, below_member, get_or-all_below, length-all_below}
 use Rattle.mat_laws.specs.declared.exchange.Exchange.{Exchange}
 use Rattle.mat_laws.specs.Exchanges.{row_of, rows_of}
 use Rattle.mat_laws.specs.Matroids.{IsMatroid}
 use Rattle.mat_laws.specs.TightPaths.{Exchanges, exchanges_at, exchanges_in, row_in}
+use Rattle.mat_exchange.specs.RowTables.{AreWhole}
 use Rattle.mat_exchange.specs.Tables.{IsTableAt}
 use mathlib.Core.Path.{fun_ext}
 
@@ -55,6 +57,9 @@ same_exchanges a b f g =
     ap (λ (t : ℕ → Bool). exchanges_of t a.trades) (fun_ext (λ x. f x))
     ∙ ap (λ (t : ℕ → ℕ → Bool). exchanges_of b.adds t) (fun_ext (λ y. fun_ext (λ x. g y x)))
 
+and_true : (b : Bool) → (b && true) ≡ b
+and_true b = grind arith
+
 module _ {n : ℕ} {p : List ℕ → Bool} (laws : IsMatroid n p) (I : List ℕ) where
   -- nothing from n on is in an independent set
   none_past : (J : List ℕ) (x : ℕ) → n ≤ x → p (with_one J x) ≡ false
@@ -90,26 +95,40 @@ module _ {n : ℕ} {p : List ℕ → Bool} (laws : IsMatroid n p) (I : List ℕ)
         not-true (is_member x I) (and_parts (not (is_member x I)) (p (with_one (without_one I y) x)) a.1).0);
   }
 
-  -- only members of I stand in the rows
-  pub rows-below : p I ≡ true → (x : ℕ) (rows : List Exchange) → x ≡ n → rows ≡ rows_of x p I
-      → (k : ℕ) → AllBelow (length rows) (row_in rows k).with
-  rows-below ok x rows all e k =
-      let same : rows ≡ rows_of n p I = e ∙ ap (λ m. rows_of m p I) all in
-      let table : IsTableAt n I rows = subst (IsTableAt n I) (sym same) (IsTableAt-rows_of ok) in
-      let row = (row_in rows k).with in
-      subst (λ m. AllBelow m row) (sym table.count) (AllBelow-from_members n row (λ y m. below_member table.set (table.member y k m)))
+  -- where x can be added, it can take the place of every member
+  row_whole : p I ≡ true → (x : ℕ) → (row_of p I x).addable ≡ true → (row_of p I x).with ≡ I
+  row_whole ok x h = elim (cases_Bool (is_member x I)) [
+    | inl i ↦ absurd (both_ways _ (ap (λ (r : Exchange). r.addable) (cond-true (is_member x I) _ _ i)) h)
+    | inr o ↦ (let fits : p (with_one I x) ≡ true = sym (ap (λ (r : Exchange). r.addable) (cond-false (is_member x I) _ _ o)) ∙ h in
+        let test : ℕ → Bool = λ y. p (with_one (without_one I y) x) in
+        let rises = (laws.sets I ok).rising in
+        ap (λ (r : Exchange). r.with) (cond-false (is_member x I) _ _ o)
+        ∙ same_members _ _ (IsRising-filter test I rises) rises (λ y. is_member-filter test y I ∙ all_pass y fits))
+  ]
+    where
+      all_pass : (y : ℕ) → p (with_one I x) ≡ true → (is_member y I && p (with_one (without_one I y) x)) ≡ is_member y I
+      all_pass y fits =
+          let rises = (laws.sets I ok).rising in
+          let less = laws.subsets (with_one (without_one I y) x) (with_one I x) (IsRising-with_one _ x (IsRising-without_one I y rises))
+          (record { inside = λ k m. grind (arith, set_members) }) fits in
+          ap (λ b. is_member y I && b) less ∙ and_true (is_member y I)
 
--- ---- the rows so far
+  pub AreWhole-rows_of : p I ≡ true → AreWhole I (rows_of n p I)
+  AreWhole-rows_of ok = record {
+    whole = λ x h. elim (cases_lt x n) [
+      | inl l ↦ (let same = row_in-rows_of n p I x l in
+          ap (λ (r : Exchange). r.with) same ∙ row_whole ok x (sym (ap (λ (r : Exchange). r.addable) same) ∙ h))
+      | inr g ↦ absurd (both_ways _ (ap (λ (r : Exchange). r.addable) (row_in-past n p I x g)) h)
+    ];
+  }
 
-pub rows_of-none : (p : List ℕ → Bool) (I : List ℕ) → rows_of 0 p I ≡ []
-rows_of-none p I = ap (map (row_of p I)) all_below-none
+  -- the row of one element
+  pub row-below : p I ≡ true → (x : ℕ) (row : Exchange) → x < n → row ≡ row_of p I x → AllBelow n row.with
+  row-below ok x row l e = subst (λ (r : Exchange). AllBelow n r.with) (row_in-rows_of n p I x l ∙ sym e)
+      (AllBelow-from_members n _ (λ y m. below_member (laws.sets I ok) ((IsTableAt-rows_of ok).member y x m)))
 
-pub length-rows : (n : ℕ) (p : List ℕ → Bool) (I : List ℕ) (rows : List Exchange) → rows ≡ rows_of n p I → length rows ≡ n
-length-rows n p I rows e = ap length e ∙ length-rows_of n p I
-
-rows_of-more : (n : ℕ) (p : List ℕ → Bool) (I : List ℕ) → rows_of (n + 1) p I ≡ rows_of n p I ++ row_of p I n ∷ []
-rows_of-more n p I = ap (map (row_of p I)) (all_below-more n) ∙ map-append (row_of p I) (all_below n) (n ∷ [])
-
-pub rows_of-push : (n : ℕ) (p : List ℕ → Bool) (I : List ℕ) (rows rows' : List Exchange) (row : Exchange) → rows ≡ rows_of n p I
-    → row ≡ row_of p I n → rows' ≡ rows ++ row ∷ [] → rows' ≡ rows_of (n + 1) p I
-rows_of-push n p I rows rows' row e f g = g ∙ ap (λ r. r ++ row ∷ []) e ∙ ap (λ r. rows_of n p I ++ r ∷ []) f ∙ sym (rows_of-more n p I)
+  pub row-whole : p I ≡ true → (x : ℕ) (row : Exchange) (base : List ℕ) → x < n → row ≡ row_of p I x → base ≡ I → row.addable ≡ true
+      → row.with ≡ base
+  row-whole ok x row base l e is h =
+      let same = row_in-rows_of n p I x l ∙ sym e in
+      sym (ap (λ (r : Exchange). r.with) same) ∙ (AreWhole-rows_of ok).whole x (ap (λ (r : Exchange). r.addable) same ∙ h) ∙ sym is

@@ -211,15 +211,6 @@ pub reached_below : (n m : ℕ) (R reached : List ℕ) → AllBelow n R → m �
     → (x : ℕ) → is_member x reached ≡ true → x < m
 reached_below n m R reached below e inside x h = (let l = AllBelow-member n R x below (sym (inside x) ∙ h) in omega arith)
 
-pub bits_more : (set : List ℕ) (i : ℕ) (bits bits' : List ℕ) → i < length set
-    → ((x : ℕ) → is_member x bits ≡ is_member x (take i set)) → bits' ≡ with_one bits (get_or set i 0)
-    → (x : ℕ) → is_member x bits' ≡ is_member x (take (i + 1) set)
-bits_more set i bits bits' l h put x =
-    let a = h x in
-    let b = ap (is_member x) put ∙ is_member-with_one x (get_or set i 0) bits in
-    let c = is_member-take_more set i x l in
-    grind arith
-
 pub rest_less : (n : ℕ) (set : List ℕ) (i : ℕ) (bits bits' : List ℕ) → i < length set
     → ((x : ℕ) → is_member x bits ≡ (ltb x n && not (is_member x (take i set)))) → bits' ≡ without_one bits (get_or set i 0)
     → (x : ℕ) → is_member x bits' ≡ (ltb x n && not (is_member x (take (i + 1) set)))

@@ -1,7 +1,8 @@
 -- Tables of rows that are kept as sets, with the columns beside them.
-use Rattle.std.specs.Prelude.{◌≡◌, ℕ, ◌<◌, true, ◌||◌, ◌&&◌, ◌==◌, List, [], length, map, slice_index_or}
+use Rattle.std.specs.Prelude.{◌≡◌, ℕ, ◌<◌, true, not, nat_lt, ◌||◌, ◌&&◌, ◌==◌, List, [], length, map, slice_index_or}
 use Rattle.mat_sets.specs.Sets.{is_member, all_below}
 use Rattle.mat_laws.specs.declared.exchange.Exchange.{Exchange}
+use Rattle.mat_laws.specs.TightPaths.{row_in}
 
 -- the set at a place, or none
 abbrev pub set_at : List (List ℕ) → ℕ → List ℕ
@@ -26,3 +27,22 @@ pub record IsEntered (x : ℕ) (row : List ℕ) (before after : List (List ℕ))
   pub count : length after ≡ length before
   pub members : (k y : ℕ) → y < length before
       → is_member k (set_at after y) ≡ (is_member k (set_at before y) || (k == x && is_member y row))
+
+-- the addable elements are put into the column of each member of the base, and nothing else is
+pub record AreUnited (addable base : List ℕ) (before after : List (List ℕ)) : Type 0 where
+  pub count : length after ≡ length before
+  pub members : (k y : ℕ) → y < length before
+      → is_member k (set_at after y) ≡ (is_member k (set_at before y) || (is_member k addable && is_member y base))
+
+-- the rows of the elements below x are entered; in the columns stand only those of them that cannot be added
+pub record IsFilled (exchanges : List Exchange) (x : ℕ) (addable : List ℕ) (rows columns : List (List ℕ)) : Type 0 where
+  pub count : length rows ≡ x
+  pub adds : (k : ℕ) → is_member k addable ≡ (nat_lt k x && (row_in exchanges k).addable)
+  pub same : (k : ℕ) → k < x → set_at rows k ≡ (row_in exchanges k).with
+  pub columns_count : length columns ≡ length exchanges
+  pub transposed : (k y : ℕ) → y < length exchanges → is_member k (set_at columns y)
+      ≡ (nat_lt k x && (not (row_in exchanges k).addable && is_member y (row_in exchanges k).with))
+
+-- the row of each addable element is the whole base
+pub record AreWhole (base : List ℕ) (exchanges : List Exchange) : Type 0 where
+  pub whole : (x : ℕ) → (row_in exchanges x).addable ≡ true → (row_in exchanges x).with ≡ base

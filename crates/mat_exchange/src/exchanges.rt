@@ -2,7 +2,8 @@
 ghost use Rattle.std.specs.Prelude.{◌≡◌, ◌<◌, ◌≤◌, true, IfOk};
 ghost use Rattle.mat_laws.specs.Exchanges.{row_of, rows_of};
 
-use crate::row_table::RowTable;
+use crate::row_table::{PartialTable, RowTable};
+use crate::slack::bits_of_members;
 use mat_laws::{Exchange, Matroid};
 use mat_sets::ElemSet;
 use std::alloc::{AllocError, Global};
@@ -32,7 +33,7 @@ fn exchange_of<M: Matroid>(
 
 /// The exchanges of all elements at an independent set (Schrijver, chapter 41): what the matroid keeps of the set is made
 /// once, and then a row for each element outside it, one after the other, whatever the number of workers, from 1 to 16. The
-/// only error is want of memory.
+/// time is that of the rows and of the words of the table. The only error is want of memory.
 pub fn rows<M: Matroid>(
     alloc: Global,
     m: &M,
@@ -47,9 +48,11 @@ pub fn rows<M: Matroid>(
 {
     m.lawful();
     let kept = m.keep(alloc, set)?;
-    let mut exchanges = Vec::new(alloc);
+    let base = bits_of_members(alloc, m.size(), set)?;
+    let mut table = PartialTable::new(alloc, m.size())?;
     for x in 0..m.size() {
-        exchanges.push(exchange_of(alloc, m, set, &kept, x)?)?;
+        let row = exchange_of(alloc, m, set, &kept, x)?;
+        table.enter(alloc, x, &row, &base)?;
     }
-    RowTable::new(alloc, &exchanges)
+    table.finish(set)
 }

@@ -5,7 +5,7 @@ ghost use Rattle.mat_sets.specs.Weights.{AreWeightsWithin};
 use crate::found::Found;
 use crate::grown::Grown;
 use crate::growth::grow;
-use crate::tests::loose_table;
+use crate::tests::{loose_table, weight};
 use mat_sets::{ElemSet, Weight};
 use std::alloc::{AllocError, Global};
 use std::test::Fail;
@@ -26,13 +26,6 @@ fn grow_loose(
     let table = loose_table(alloc, addable)?;
     let set = ElemSet::new(alloc);
     grow(alloc, &table, &table, &set, first, second)
-}
-
-/// A weight.
-fn weight(main: i128, tie: i128) -> Weight
-    ensures { result ≡ record { main = main; tie = tie } }
-{
-    Weight { main, tie }
 }
 
 #[test]

@@ -1,8 +1,9 @@
 //! The exchanges of all elements at an independent set, as rows of bits.
-ghost use Rattle.std.specs.Prelude.{◌≡◌, ℕ, ◌<◌, ◌≤◌, [], length, IfOk, OnOk};
+ghost use Rattle.std.specs.Prelude.{◌≡◌, ℕ, ◌<◌, ◌≤◌, ◌+◌, true, List, [], length, IfOk, OnOk};
 ghost use Rattle.mat_sets.specs.Sets.{is_member, AllBelow};
 ghost use Rattle.mat_laws.specs.TightPaths.{exchanges_in, row_in};
-ghost use Rattle.mat_exchange.specs.RowTables.{set_at, IsEntered};
+ghost use Rattle.mat_laws.specs.declared.exchange.Exchange.{Exchange};
+ghost use Rattle.mat_exchange.specs.RowTables.{set_at, AreUnited, AreWhole, IsEntered, IsFilled};
 
 use mat_laws::Exchange;
 use mat_sets::{BitSet, ElemSet};
@@ -42,21 +43,6 @@ fn empty_sets(alloc: Global, n: u32) -> Result<Vec<BitSet>, AllocError>
     Ok(sets)
 }
 
-/// The set of the elements that can be added.
-fn addable_set(alloc: Global, exchanges: &[Exchange]) -> Result<BitSet, AllocError>
-    requires few { length exchanges.now ≤ 500 }
-    ensures { IfOk result (λ s. (x : ℕ) → is_member x s ≡ (row_in exchanges.now x).addable) }
-{
-    let n = exchanges.len() as u32;
-    let mut addable = BitSet::with_capacity(alloc, n)?;
-    for x in 0..n {
-        if exchanges[x as usize].addable {
-            addable.insert(x)?;
-        }
-    }
-    Ok(addable)
-}
-
 /// The row of x, which is put into the column of each member of the row.
 fn enter_row(
     alloc: Global,
@@ -77,29 +63,86 @@ fn enter_row(
     Ok(row)
 }
 
-impl RowTable {
-    /// The table of these exchanges, the row of each element in order. The time is that of their number. The only error is
-    /// want of memory.
-    pub(crate) fn new(alloc: Global, exchanges: &[Exchange]) -> Result<RowTable, AllocError>
-        requires few { length exchanges.now ≤ 500 }
-        requires below { (x : ℕ) → AllBelow (length exchanges.now) (row_in exchanges.now x).with }
-        ensures { IfOk result (λ t. t ≡ exchanges.now) }
+/// Puts the elements that can be added into the column of each member of the base.
+fn enter_addable(columns: &mut [BitSet], base: &ElemSet, addable: &BitSet) -> Result<(), AllocError>
+    requires { AllBelow (length columns.old) base.now }
+    ensures { OnOk result (AreUnited addable.now base.now columns.old columns.new) }
+{
+    for y in base.as_slice() {
+        columns[*y as usize].unite(addable)?;
+    }
+    Ok(())
+}
+
+/// A table of which the rows of the first elements are entered. The elements that can be added do not yet stand in the columns.
+#[derive(Debug, Drop)]
+pub(crate) struct PartialTable {
+    addable: BitSet,
+    rows: Vec<BitSet>,
+    columns: Vec<BitSet>,
+}
+
+impl PartialTable {
+    /// No row of n elements.
+    pub(crate) fn new(alloc: Global, n: u32) -> Result<PartialTable, AllocError>
+        ensures { IfOk result (λ t. (exchanges : List Exchange) → length exchanges ≡ n → IsFilled exchanges 0 t.addable t.rows.items t.columns.items) }
     {
-        let addable = addable_set(alloc, exchanges)?;
-        let n = exchanges.len() as u32;
-        let mut rows = Vec::new(alloc);
-        let mut columns = empty_sets(alloc, n)?;
-        for x in 0..n {
-            let with = &exchanges[x as usize].with;
-            rows.push(enter_row(alloc, x, with, &mut columns)?)?;
+        Ok(PartialTable {
+            addable: BitSet::with_capacity(alloc, n)?,
+            rows: Vec::with_capacity(alloc, n as usize)?,
+            columns: empty_sets(alloc, n)?,
+        })
+    }
+
+    /// Enters the row of x, the next element. The row of one that can be added is the whole base, and is copied from its bits.
+    pub(crate) fn enter(
+        &mut self,
+        alloc: Global,
+        x: u32,
+        row: &Exchange,
+        base: &BitSet,
+    ) -> Result<(), AllocError>
+        requires few { length self.old.columns.items ≤ 500 }
+        requires below { AllBelow (length self.old.columns.items) row.now.with }
+        requires whole { row.now.addable ≡ true → row.now.with ≡ base.now }
+        ensures columns { length self.new.columns.items ≡ length self.old.columns.items }
+        ensures entered { OnOk result ((exchanges : List Exchange) → x < length exchanges → row_in exchanges x ≡ row.now
+            → IsFilled exchanges x self.old.addable self.old.rows.items self.old.columns.items
+            → IsFilled exchanges (x + 1) self.new.addable self.new.rows.items self.new.columns.items) }
+    {
+        if row.addable {
+            self.addable.insert(x)?;
+            self.rows.push(base.copy(alloc)?)?;
+        } else {
+            let bits = enter_row(alloc, x, &row.with, &mut self.columns)?;
+            self.rows.push(bits)?;
         }
+        Ok(())
+    }
+
+    /// The table, once all rows are entered. The time is that of the base and of the words of a row.
+    pub(crate) fn finish(self, base: &ElemSet) -> Result<RowTable, AllocError>
+        requires below { AllBelow (length self.columns.items) base.now }
+        requires filled { (exchanges : List Exchange) × IsFilled exchanges (length exchanges) self.addable self.rows.items self.columns.items
+            × AreWhole base.now exchanges }
+        ensures { IfOk result (λ t. (exchanges : List Exchange) → IsFilled exchanges (length exchanges) self.addable self.rows.items self.columns.items
+            → AreWhole base.now exchanges → t ≡ exchanges) }
+    {
+        let PartialTable {
+            addable,
+            rows,
+            mut columns,
+        } = self;
+        enter_addable(&mut columns, base, &addable)?;
         Ok(RowTable {
             addable,
             rows,
             columns,
         })
     }
+}
 
+impl RowTable {
     /// Whether x can be added. It takes constant time and no memory.
     pub fn addable(&self, x: u32) -> bool
         requires { x < length self.now }

@@ -98,8 +98,8 @@ fn exchange_slack(
 }
 
 /// The members of a set of numbers below n, as bits.
-fn bits_of_members(alloc: Global, n: u32, set: &ElemSet) -> Result<BitSet, AllocError>
-    ensures { IfOk result (λ bits. (x : ℕ) → is_member x bits ≡ is_member x set.now) }
+pub(crate) fn bits_of_members(alloc: Global, n: u32, set: &ElemSet) -> Result<BitSet, AllocError>
+    ensures { IfOk result (λ bits. bits ≡ set.now) }
 {
     let mut members = BitSet::with_capacity(alloc, n)?;
     for x in set.as_slice() {

@@ -2,11 +2,11 @@
 //! matroids.
 ghost use Rattle.std.specs.Prelude.{◌≡◌, ◌^◌, length, IfOk};
 ghost use Rattle.mat_sets.specs.Sets.{AllBelow};
-ghost use Rattle.mat_sets.specs.Sums.{AreWithin};
 ghost use Rattle.mat_sets.specs.Weights.{AreWeightsWithin};
 
 use crate::row_table::RowTable;
 use crate::slack::least_slack;
+use crate::tests::{table_of, weight};
 use mat_laws::Exchange;
 use mat_sets::{ElemSet, Weight};
 use std::alloc::{AllocError, Global};
@@ -29,42 +29,22 @@ fn chosen(alloc: Global, choice: [bool; 3]) -> Result<ElemSet, AllocError>
 fn table(alloc: Global, addable: bool) -> Result<RowTable, AllocError>
     ensures { IfOk result (λ t. length t ≡ 3) }
 {
+    let base = chosen(alloc, [true, false, false])?;
     let exchanges = vec![in alloc;
         Exchange {
             addable: false,
-            with: chosen(alloc, [false, false, false])?
+            with: ElemSet::new(alloc)
         },
         Exchange {
             addable,
-            with: chosen(alloc, [true, false, false])?
+            with: base.copy(alloc)?
         },
         Exchange {
             addable,
-            with: chosen(alloc, [true, false, false])?
+            with: base.copy(alloc)?
         },
     ]?;
-    RowTable::new(alloc, &exchanges)
-}
-
-/// Weights without ties.
-fn plain(mains: [i128; 3]) -> [Weight; 3]
-    requires { AreWithin (10 ^ 30) mains }
-    ensures { AreWeightsWithin (10 ^ 30) result }
-{
-    [
-        Weight {
-            main: mains[0],
-            tie: 0,
-        },
-        Weight {
-            main: mains[1],
-            tie: 0,
-        },
-        Weight {
-            main: mains[2],
-            tie: 0,
-        },
-    ]
+    table_of(alloc, &exchanges, &base)
 }
 
 /// The least slack of the chosen elements.
@@ -88,8 +68,8 @@ fn an_addition_in_the_first_is_least(rt: HostRuntime) -> Result<(), Fail> {
     let slack = slack_of(
         rt.alloc(),
         [true, true, false],
-        plain([8, 7, 4]),
-        plain([0, 1, 6]),
+        [weight(8, 0), weight(7, 0), weight(4, 0)],
+        [weight(0, 0), weight(1, 0), weight(6, 0)],
     )?;
     assert_eq!(rt; slack, Some(Weight { main: 3, tie: 0 }));
     Ok(())
@@ -101,8 +81,8 @@ fn an_exchange_in_the_first_is_least(rt: HostRuntime) -> Result<(), Fail> {
     let slack = slack_of(
         rt.alloc(),
         [true, true, false],
-        plain([6, 7, 4]),
-        plain([0, 1, 6]),
+        [weight(6, 0), weight(7, 0), weight(4, 0)],
+        [weight(0, 0), weight(1, 0), weight(6, 0)],
     )?;
     assert_eq!(rt; slack, Some(Weight { main: 2, tie: 0 }));
     Ok(())
@@ -114,8 +94,8 @@ fn an_exchange_in_the_second_is_least(rt: HostRuntime) -> Result<(), Fail> {
     let slack = slack_of(
         rt.alloc(),
         [false, true, false],
-        plain([0, 9, 3]),
-        plain([5, 1, 7]),
+        [weight(0, 0), weight(9, 0), weight(3, 0)],
+        [weight(5, 0), weight(1, 0), weight(7, 0)],
     )?;
     assert_eq!(rt; slack, Some(Weight { main: 4, tie: 0 }));
     Ok(())
@@ -127,8 +107,8 @@ fn an_addition_in_the_second_is_least(rt: HostRuntime) -> Result<(), Fail> {
     let slack = slack_of(
         rt.alloc(),
         [false, true, false],
-        plain([0, 9, 3]),
-        plain([5, 1, 4]),
+        [weight(0, 0), weight(9, 0), weight(3, 0)],
+        [weight(5, 0), weight(1, 0), weight(4, 0)],
     )?;
     assert_eq!(rt; slack, Some(Weight { main: 3, tie: 0 }));
     Ok(())
@@ -146,8 +126,8 @@ fn no_slack_is_left(rt: HostRuntime) -> Result<(), Fail> {
         &first,
         &second,
         &all,
-        &plain([8, 7, 4]),
-        &plain([0, 1, 6]),
+        &[weight(8, 0), weight(7, 0), weight(4, 0)],
+        &[weight(0, 0), weight(1, 0), weight(6, 0)],
     )?;
     assert_eq!(rt; slack, None);
     Ok(())

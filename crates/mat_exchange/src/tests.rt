@@ -1,30 +1,54 @@
 //! Each call once, with ample memory.
-ghost use Rattle.std.specs.Prelude.{◌^◌, [], IfOk};
-ghost use Rattle.mat_sets.specs.Sums.{AreWithin};
-ghost use Rattle.mat_sets.specs.Weights.{AreWeightsWithin};
+ghost use Rattle.std.specs.Prelude.{◌≡◌, ◌≤◌, ◌^◌, ℕ, [], length, IfOk};
+ghost use Rattle.mat_sets.specs.Sets.{AllBelow};
+ghost use Rattle.mat_laws.specs.TightPaths.{row_in};
+ghost use Rattle.mat_exchange.specs.RowTables.{AreWhole};
 ghost use Rattle.mat_exchange.specs.Tables.{IsTableAt};
 
+use crate::row_table::PartialTable;
+use crate::slack::bits_of_members;
 use crate::{Found, RowTable, tight_search};
 use mat_laws::Exchange;
 use mat_sets::{ElemSet, Weight};
 use std::alloc::{AllocError, Global};
 use std::test::Fail;
 
+/// The table of these rows at a base.
+pub(crate) fn table_of(
+    alloc: Global,
+    exchanges: &[Exchange],
+    base: &ElemSet,
+) -> Result<RowTable, AllocError>
+    requires few { length exchanges.now ≤ 500 }
+    requires base { AllBelow (length exchanges.now) base.now }
+    requires below { (x : ℕ) → AllBelow (length exchanges.now) (row_in exchanges.now x).with }
+    requires whole { AreWhole base.now exchanges.now }
+    ensures { IfOk result (λ t. t ≡ exchanges.now) }
+{
+    let n = exchanges.len() as u32;
+    let bits = bits_of_members(alloc, n, base)?;
+    let mut table = PartialTable::new(alloc, n)?;
+    for x in 0..n {
+        table.enter(alloc, x, &exchanges[x as usize], &bits)?;
+    }
+    table.finish(base)
+}
+
 #[test]
 fn a_table_tells_rows_and_columns(rt: HostRuntime) -> Result<(), Fail> {
     let alloc = rt.alloc();
-    let mut with = ElemSet::new(alloc);
-    with.add(1)?;
+    let mut base = ElemSet::new(alloc);
+    base.add(1)?;
     let first = Exchange {
         addable: true,
-        with,
+        with: base.copy(alloc)?,
     };
     let second = Exchange {
         addable: false,
         with: ElemSet::new(alloc),
     };
     let exchanges = vec![in alloc; first, second]?;
-    let table = RowTable::new(alloc, &exchanges)?;
+    let table = table_of(alloc, &exchanges, &base)?;
     assert!(rt; table.addable(0) && !table.addable(1));
     assert!(rt; table.trades(1, 0) && !table.trades(0, 1));
     assert!(rt; table.row(0).contains(1) && !table.row(1).contains(0));
@@ -46,25 +70,14 @@ pub(crate) fn loose_table(alloc: Global, addable: bool) -> Result<RowTable, Allo
         with: ElemSet::new(alloc),
     };
     let exchanges = vec![in alloc; first, second]?;
-    RowTable::new(alloc, &exchanges)
+    table_of(alloc, &exchanges, &ElemSet::new(alloc))
 }
 
-/// Two weights, by their mains and their ties.
-fn weights(mains: [i128; 2], ties: [i128; 2]) -> [Weight; 2]
-    requires mains { AreWithin (10 ^ 30) mains }
-    requires ties { AreWithin (10 ^ 30) ties }
-    ensures { AreWeightsWithin (10 ^ 30) result }
+/// A weight.
+pub(crate) fn weight(main: i128, tie: i128) -> Weight
+    ensures { result ≡ record { main = main; tie = tie } }
 {
-    [
-        Weight {
-            main: mains[0],
-            tie: ties[0],
-        },
-        Weight {
-            main: mains[1],
-            tie: ties[1],
-        },
-    ]
+    Weight { main, tie }
 }
 
 #[test]
@@ -78,8 +91,8 @@ fn a_heaviest_addable_element_is_a_path(rt: HostRuntime) -> Result<(), Fail> {
         &first,
         &second,
         &set,
-        &weights([3, 5], [0, 0]),
-        &weights([1, 1], [0, 0]),
+        &[weight(3, 0), weight(5, 0)],
+        &[weight(1, 0), weight(1, 0)],
     )?;
     let heaviest = match found {
         Found::Path(path) => path.as_slice() == [1].as_slice(),
@@ -100,8 +113,8 @@ fn a_slack_is_told_where_there_is_no_path(rt: HostRuntime) -> Result<(), Fail> {
         &first,
         &second,
         &set,
-        &weights([3, 5], [0, 0]),
-        &weights([9, 1], [0, 0]),
+        &[weight(3, 0), weight(5, 0)],
+        &[weight(9, 0), weight(1, 0)],
     )?;
     let least = match found {
         Found::Path(_) => false,
@@ -125,8 +138,8 @@ fn no_slack_is_told_where_nothing_can_be_added(rt: HostRuntime) -> Result<(), Fa
         &first,
         &second,
         &set,
-        &weights([3, 5], [0, 0]),
-        &weights([9, 1], [0, 0]),
+        &[weight(3, 0), weight(5, 0)],
+        &[weight(9, 0), weight(1, 0)],
     )?;
     let none = match found {
         Found::Path(_) => false,
@@ -147,8 +160,8 @@ fn a_slack_may_have_a_negative_tie(rt: HostRuntime) -> Result<(), Fail> {
         &first,
         &second,
         &set,
-        &weights([3, 4], [7, 2]),
-        &weights([9, 1], [0, 0]),
+        &[weight(3, 7), weight(4, 2)],
+        &[weight(9, 0), weight(1, 0)],
     )?;
     let least = match found {
         Found::Path(_) => false,
