@@ -7,8 +7,6 @@ mod independence;
 mod keeping;
 mod rows;
 mod runs;
-#[cfg(test)]
-mod tests;
 
 pub use any::AnyMatroid;
 pub use any_kept::AnyKept;
