@@ -1,5 +1,4 @@
 use Rattle.std.proofs.Common.{◌≡◌, [], refl, sym, ap, ◌∙◌, subst, arith}
-use Rattle.mat_sets.specs.Sets.{AllBelow, AreDistinct}
 use Rattle.mat_sets.specs.Weights.{weight_at}
 use Rattle.mat_laws.specs.GreedyRuns.{grown_along}
 use Rattle.mat_greedy.specs.Order.{IsFallingOrder}
