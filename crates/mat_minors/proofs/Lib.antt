@@ -3,6 +3,5 @@ pub mod MinorRows
 pub mod DualGreedy
 pub mod GreedyReversed
 pub mod DualExchanges
-pub mod DualTests
 pub mod MinorRuns
 pub mod RunOrders

@@ -1,9 +1,7 @@
 use Rattle.mat_sets.proofs.Ground.{AreDistinct-rising}
-use Rattle.mat_minors.specs.MinorLaws.{dual_laws}
-use Rattle.mat_any.specs.Trees.{element_count, is_independent}
+use Rattle.mat_minors.proofs.GreedyReversed.{dual_by_run}
 use Rattle.mat_any.specs.TreeLaws.{tree_laws}
 use Rattle.mat_any.specs.Views.{tree_of}
-use Rattle.mat_any.proofs.RunLengths.{run_length}
 use Rattle.mat_any.proofs.independence.dual_independent.Goals as goal
 
 pub dual_run-requires-clause-below : goal.dual_run-requires-clause-below
@@ -16,5 +14,5 @@ pub returns : goal.returns
 returns c =
     let tree = tree_of c.args.inner.now in
     rw (c.len.ensures.count, c.len-2.ensures.count)
-    (run_length (dual_laws (element_count tree) (is_independent tree) (tree_laws tree c.requires.sound)) c.args.set.now c.as_slice.result.now
-    c.in_ok-taken.taken c.rises.ensures c.as_slice.ensures.items c.in_ok-taken.ensures)
+    (dual_by_run (tree_laws tree c.requires.sound) c.args.set.now c.as_slice.result.now c.in_ok-taken.taken c.rises.ensures
+    c.as_slice.ensures.items c.in_ok-taken.ensures)
