@@ -1,7 +1,9 @@
 -- Weights of a reached set that are changed only at the end, by one number: what is kept of each member is its weight when it entered, less the
 -- change until then, so that a step of the change alters the number alone, and a new member alone gets a new entry.
-use Rattle.std.proofs.Common.{◌≡◌, ◌≢◌, ℕ, ◌^◌, ◌<◌, Bool, true, false, ◌&&◌, ◌||◌, not, cond, eqb, List, Option, Some, None, ◌⊎◌, inl, inr, refl, sym, ap, ◌∙◌, subst, arith}
-use Rattle.std.proofs.lemmas.Bool.{cases_Bool, cases_eq, both_ways, and_parts, and_from, and_left, or_cases, or_left, or_right, cond-true, cond-false, eq-eqb, false≢true, ne_eqb}
+use Rattle.std.proofs.Common.{◌≡◌, ◌≢◌, ℕ, ◌^◌, ◌<◌, Bool, true, false, ◌&&◌, ◌||◌, not, cond, eqb, List, Option, Some}
+use Rattle.std.proofs.Common.{None, ◌⊎◌, inl, inr, refl, sym, ap, ◌∙◌, subst, arith}
+use Rattle.std.proofs.lemmas.Bool.{cases_Bool, cases_eq, both_ways, and_parts, and_from, and_left, or_left, or_right, cond-true, cond-false, eq-eqb}
+use Rattle.std.proofs.lemmas.Bool.{false≢true, ne_eqb}
 use Rattle.std.proofs.lemmas.Int.{ints}
 use Rattle.mat_sets.specs.Sets.{is_member, with_one, without_one}
 use Rattle.mat_sets.proofs.Members.{is_member-with_one, is_member-without_one}
@@ -12,13 +14,14 @@ use Rattle.mat_laws.specs.TightPaths.{Exchanges}
 use Rattle.mat_exchange.specs.Changes.{lowered, raised}
 use Rattle.mat_exchange.specs.SlackParts.{IsAdditionSlack, IsLeast}
 use Rattle.mat_exchange.specs.HeaviestAddable.{IsHeaviestWeight, IsHeaviestWeightOrNone, greater_of}
-use Rattle.mat_exchange.specs.Growing.{IsFringe, IsMet, IsOffered, excess_of, entry_gain}
+use Rattle.mat_exchange.specs.Growing.{IsFringe, IsOffered, excess_of, entry_gain}
 use Rattle.mat_exchange.proofs.TightArcs.{heaviest_addable_gives, heaviest_addable_from}
 use Rattle.mat_exchange.proofs.WeightChanges.{lowered-member, lowered-outside, raised-member, raised-outside}
 
 -- ---- one change after another
 
-pub lowered_twice : (w : ℕ → Weight) (R : List ℕ) (t e d : Weight) → e ≡ d ⊖ t → (z : ℕ) → lowered (lowered w R t) R e z ≡ lowered w R d z
+pub lowered_twice : (w : ℕ → Weight) (R : List ℕ) (t e d : Weight) → e ≡ d ⊖ t → (z : ℕ)
+    → lowered (lowered w R t) R e z ≡ lowered w R d z
 lowered_twice w R t e d h z = elim (cases_Bool (is_member z R)) [
   | inl k ↦ lowered-member (lowered w R t) R e z k ∙ ap (λ (a : Weight). a ⊖ e) (lowered-member w R t z k) ∙ less (w z)
       ∙ sym (lowered-member w R d z k)
@@ -28,7 +31,8 @@ lowered_twice w R t e d h z = elim (cases_Bool (is_member z R)) [
     less : (a : Weight) → (a ⊖ t) ⊖ e ≡ a ⊖ d
     less a = omega (arith, ints, pairs)
 
-pub raised_twice : (w : ℕ → Weight) (R : List ℕ) (t e d : Weight) → e ≡ d ⊖ t → (z : ℕ) → raised (raised w R t) R e z ≡ raised w R d z
+pub raised_twice : (w : ℕ → Weight) (R : List ℕ) (t e d : Weight) → e ≡ d ⊖ t → (z : ℕ)
+    → raised (raised w R t) R e z ≡ raised w R d z
 raised_twice w R t e d h z = elim (cases_Bool (is_member z R)) [
   | inl k ↦ raised-member (raised w R t) R e z k ∙ ap (λ (a : Weight). a ⊕ e) (raised-member w R t z k) ∙ more (w z)
       ∙ sym (raised-member w R d z k)
@@ -54,9 +58,11 @@ module _ (w w' : ℕ → Weight) (R : List ℕ) (x : ℕ) (d : Weight) (out : is
   pub lowered_entered : ((z : ℕ) → w' z ≡ cond (eqb z x) (w z ⊕ d) (w z)) → (z : ℕ) → lowered w R d z ≡ lowered w' (with_one R x) d z
   lowered_entered h z = elim (cases_eq z x) [
     | inl e ↦ lowered-outside w R d z (ap (λ v. is_member v R) e ∙ out) ∙ back (w z)
-        ∙ ap (λ (a : Weight). a ⊖ d) (sym (h z ∙ cond-true (eqb z x) _ _ (eq-eqb z x e))) ∙ sym (lowered-member w' (with_one R x) d z (new_in x z R e))
+        ∙ ap (λ (a : Weight). a ⊖ d) (sym (h z ∙ cond-true (eqb z x) _ _ (eq-eqb z x e)))
+        ∙ sym (lowered-member w' (with_one R x) d z (new_in x z R e))
     | inr o ↦ (let same : w' z ≡ w z = h z ∙ cond-false (eqb z x) _ _ (ne_eqb z x o) in
-        ap (λ b. cond b (w z ⊖ d) (w z)) (sym (other_same x z R o)) ∙ ap (λ (a : Weight). cond (is_member z (with_one R x)) (a ⊖ d) a) (sym same))
+        ap (λ b. cond b (w z ⊖ d) (w z)) (sym (other_same x z R o))
+        ∙ ap (λ (a : Weight). cond (is_member z (with_one R x)) (a ⊖ d) a) (sym same))
   ]
     where
       back : (a : Weight) → a ≡ (a ⊕ d) ⊖ d
@@ -65,9 +71,11 @@ module _ (w w' : ℕ → Weight) (R : List ℕ) (x : ℕ) (d : Weight) (out : is
   pub raised_entered : ((z : ℕ) → w' z ≡ cond (eqb z x) (w z ⊖ d) (w z)) → (z : ℕ) → raised w R d z ≡ raised w' (with_one R x) d z
   raised_entered h z = elim (cases_eq z x) [
     | inl e ↦ raised-outside w R d z (ap (λ v. is_member v R) e ∙ out) ∙ back (w z)
-        ∙ ap (λ (a : Weight). a ⊕ d) (sym (h z ∙ cond-true (eqb z x) _ _ (eq-eqb z x e))) ∙ sym (raised-member w' (with_one R x) d z (new_in x z R e))
+        ∙ ap (λ (a : Weight). a ⊕ d) (sym (h z ∙ cond-true (eqb z x) _ _ (eq-eqb z x e)))
+        ∙ sym (raised-member w' (with_one R x) d z (new_in x z R e))
     | inr o ↦ (let same : w' z ≡ w z = h z ∙ cond-false (eqb z x) _ _ (ne_eqb z x o) in
-        ap (λ b. cond b (w z ⊕ d) (w z)) (sym (other_same x z R o)) ∙ ap (λ (a : Weight). cond (is_member z (with_one R x)) (a ⊕ d) a) (sym same))
+        ap (λ b. cond b (w z ⊕ d) (w z)) (sym (other_same x z R o))
+        ∙ ap (λ (a : Weight). cond (is_member z (with_one R x)) (a ⊕ d) a) (sym same))
   ]
     where
       back : (a : Weight) → a ≡ (a ⊖ d) ⊕ d
@@ -92,7 +100,8 @@ gains_left g F d x z m = raised-member g (without_one F x) d z m
 
 -- offers that are less by d, to gains that are less by d
 pub offered_raised : (test : ℕ → Bool) (f f' : ℕ → Weight) (F F' : List ℕ) (g g' : ℕ → Weight) (d : Weight)
-    → ((x : ℕ) → test x ≡ true → f' x ≡ f x ⊕ d) → IsOffered test f F g F' g' → IsOffered test f' F (raised g F d) F' (raised g' F' d)
+    → ((x : ℕ) → test x ≡ true → f' x ≡ f x ⊕ d) → IsOffered test f F g F' g'
+    → IsOffered test f' F (raised g F d) F' (raised g' F' d)
 offered_raised test f f' F F' g g' d more o = record {
   met = λ x h. (let m = o.met x h in let v = raised-member g' F' d x m.inside in let u = more x h in record {
     inside = m.inside;

@@ -1,6 +1,7 @@
 -- What the growing search keeps, over lists of weights and of gains. The weights of the reached set change by one number that is put on them only
 -- at the end. All numbers are far within an `i128`: the weights are within 10^27, and what is kept of them is within 10^29.
-use Rattle.std.proofs.Common.{◌≡◌, ℕ, suc, ◌^◌, ◌<◌, ◌≤◌, true, false, ◌≢◌, ◌&&◌, ◌||◌, not, cond, eqb, ltb, List, [], length, Option, None, Some, IfSome, inl, inr, refl, sym, ap, ◌∙◌, subst, arith}
+use Rattle.std.proofs.Common.{◌≡◌, ℕ, suc, ◌^◌, ◌<◌, ◌≤◌, true, false, ◌≢◌, ◌&&◌, not, cond, eqb, ltb, List, []}
+use Rattle.std.proofs.Common.{length, Option, None, Some, IfSome, inl, inr, refl, sym, ap, ◌∙◌, subst, arith}
 use Rattle.std.proofs.lemmas.Bool.{cases_Bool, cases_lt, both_ways, cond-false, and_parts, and_right, eq-eqb, ne_eqb, or_left, ltb-true}
 use Rattle.std.proofs.lemmas.Int.{ints}
 use Rattle.std.proofs.lemmas.List.{get_or_past}
@@ -18,16 +19,21 @@ use Rattle.mat_exchange.specs.HeaviestAddable.{IsHeaviestWeightOrNone, greater_o
 use Rattle.mat_exchange.specs.SlackParts.{IsAdditionSlack, IsLeast}
 use Rattle.mat_exchange.specs.declared.steps.NextStep.{NextStep}
 use Rattle.mat_exchange.specs.declared.steps.NextStep.TheVariants.{Enter, Sink, Nothing}
-use Rattle.mat_exchange.specs.Growing.{NoExchangeGains, IsGrownSplit, IsEntry, IsFringe, IsOffered, IsNextStep, IsHeaviestOf, leads, entry_gain, excess_of, sum_at}
+use Rattle.mat_exchange.specs.Growing.{NoExchangeGains, IsGrownSplit, IsEntry, IsFringe, IsOffered, IsNextStep, IsHeaviestOf, leads, entry_gain}
+use Rattle.mat_exchange.specs.Growing.{excess_of, sum_at}
 use Rattle.mat_exchange.specs.Growing.IsEntry.{as_source, from_member, from_other}
 use Rattle.mat_exchange.proofs.TightArcs.{IsHeaviestAddable, heaviest_addable_gives}
 use Rattle.mat_exchange.proofs.HeaviestAddable.{addable_below}
-use Rattle.mat_exchange.proofs.Growing.{AreExchangesOn, IsGrowing, growing_by, growing_more, enters_late, fringe_changed, entry_not_above, levelled_by_entry, levelled_by_sink, fringe_entered, fringe_without, grown_by_sink, grown_without_slack, sink_by_slack, growing_start, fringe_start, others_below, others_outside}
+use Rattle.mat_exchange.proofs.Growing.{AreExchangesOn, IsGrowing, growing_by, growing_more, enters_late, fringe_changed, entry_not_above}
+use Rattle.mat_exchange.proofs.Growing.{levelled_by_entry, levelled_by_sink, fringe_entered, fringe_without, grown_by_sink, grown_without_slack}
+use Rattle.mat_exchange.proofs.Growing.{sink_by_slack, growing_start, fringe_start, others_below, others_outside}
 use Rattle.mat_exchange.proofs.Fringes.{offered_same}
 use Rattle.mat_exchange.proofs.Raising.{lowered_zero, raised_zero}
 use Rattle.mat_exchange.proofs.WeightChanges.{lowered-member, lowered-outside, raised-member, raised-outside}
-use Rattle.mat_exchange.proofs.ChangesSoFar.{lowered_twice, raised_twice, lowered_entered, raised_entered, fringe_same, gains_left, offered_raised, entry_raised, entered_heaviest, least_sink_at, no_sink, top_stays, stored_first, stored_second}
-use Rattle.mat_exchange.proofs.WeightBounds.{IsWeightWithin-weaken, AreWeightsWithin-from, difference_within, first_within as first_bound, second_within as second_bound}
+use Rattle.mat_exchange.proofs.ChangesSoFar.{lowered_twice, raised_twice, lowered_entered, raised_entered, fringe_same, gains_left, offered_raised}
+use Rattle.mat_exchange.proofs.ChangesSoFar.{entry_raised, entered_heaviest, least_sink_at, no_sink, top_stays, stored_first, stored_second}
+use Rattle.mat_exchange.proofs.WeightBounds.{IsWeightWithin-weaken, AreWeightsWithin-from, difference_within, first_within as first_bound}
+use Rattle.mat_exchange.proofs.WeightBounds.{second_within as second_bound}
 use Rattle.mat_sets.proofs.Cardinalities.{length-with_one}
 use mathlib.Core.Path.{fun_ext}
 
@@ -65,7 +71,8 @@ pub record IsShifted (n : ℕ) (I : List ℕ) (first second : List Exchange) (u1
       (lowered (weight_at w1) R total) (raised (weight_at w2) R total)
   pub root_kept : weight_at w2 root ≡ weight_at u2 root
 
-module _ {n : ℕ} {I : List ℕ} {first second : List Exchange} {u1 u2 : List Weight} {root : ℕ} {R O : List ℕ} {total : Weight} {w1 w2 : List Weight}
+module _ {n : ℕ} {I : List ℕ} {first second : List Exchange} {u1 u2 : List Weight} {root : ℕ} {R O : List ℕ} {total : Weight}
+    {w1 w2 : List Weight}
     (now : IsShifted n I first second u1 u2 root R O total w1 w2) where
   second_small : (x : ℕ) → x < n → IsWeightWithin (10 ^ 26) (raised (weight_at w2) R total x)
   second_small x l = second_bound (raised (weight_at w2) R total x) n now.few
@@ -92,14 +99,16 @@ module _ {n : ℕ} {I : List ℕ} {first second : List Exchange} {u1 u2 : List W
   kept_first : (x : ℕ) → x < n → IsWeightWithin (10 ^ 28) (weight_at w1 x)
   kept_first x l = elim (cases_Bool (is_member x R)) [
     | inl k ↦ stored_first (weight_at w1 x) total _ (lowered-member (weight_at w1) R total x k) (first_small x l) total_small
-    | inr k ↦ IsWeightWithin-weaken _ _ _ (omega arith) (subst (IsWeightWithin (10 ^ 27)) (lowered-outside (weight_at w1) R total x k) (first_small x l))
+    | inr k ↦ IsWeightWithin-weaken _ _ _ (omega arith)
+        (subst (IsWeightWithin (10 ^ 27)) (lowered-outside (weight_at w1) R total x k) (first_small x l))
   ]
 
   kept_second : (x : ℕ) → x < n → IsWeightWithin (10 ^ 29) (weight_at w2 x)
   kept_second x l = elim (cases_Bool (is_member x R)) [
     | inl k ↦ stored_second (weight_at w2 x) total _ (raised-member (weight_at w2) R total x k)
         (IsWeightWithin-weaken _ _ _ (omega arith) (second_small x l)) total_small
-    | inr k ↦ IsWeightWithin-weaken _ _ _ (omega arith) (subst (IsWeightWithin (10 ^ 26)) (raised-outside (weight_at w2) R total x k) (second_small x l))
+    | inr k ↦ IsWeightWithin-weaken _ _ _ (omega arith)
+        (subst (IsWeightWithin (10 ^ 26)) (raised-outside (weight_at w2) R total x k) (second_small x l))
   ]
 
   pub first_within : AreWeightsWithin (10 ^ 30) w1
@@ -168,7 +177,8 @@ module _ {n : ℕ} {I : List ℕ} {first second : List Exchange} {u1 u2 : List W
 
   module _ {slack : Option Weight} (from : slack ≡ excess_of top inside) {step : NextStep} {x : ℕ} {d : Weight} (is : step ≡ Enter x d)
       (next : IsNextStep F (weight_at g) slack step) where
-    enters : (is_member x F ≡ true) × (weight_at g x ⊕ d ≡ zero_weight) × ((y : ℕ) → is_member y F ≡ true → (weight_at g y ⊕ d) ≼ zero_weight)
+    enters : (is_member x F ≡ true) × (weight_at g x ⊕ d ≡ zero_weight)
+        × ((y : ℕ) → is_member y F ≡ true → (weight_at g y ⊕ d) ≼ zero_weight)
         × ((earlier : Weight) → slack ≡ Some earlier → d ≺ earlier)
     enters = subst (IsNextStep F (weight_at g) slack) is next
 
@@ -202,7 +212,8 @@ module _ {n : ℕ} {I : List ℕ} {first second : List Exchange} {u1 u2 : List W
 
     further_low : zero_weight ≼ further
     further_low = low (weight_at g x ⊕ total) further level
-        (entry_not_above now.shifted.first_on now.shifted.second_on now.shifted.small now.shifted.growing x (weight_at g x ⊕ total) enter_below entry_now)
+        (entry_not_above now.shifted.first_on now.shifted.second_on now.shifted.small now.shifted.growing x
+        (weight_at g x ⊕ total) enter_below entry_now)
       where
         low : (a c : Weight) → a ⊕ c ≡ zero_weight → a ≼ zero_weight → zero_weight ≼ c
         low a c e le = omega (arith, ints, pairs)
@@ -224,7 +235,8 @@ module _ {n : ℕ} {I : List ℕ} {first second : List Exchange} {u1 u2 : List W
         let s = now.shifted in
         growing_by s.first_on s.second_on s.small s.growing further further_low
         (enters_late s.first_on s.second_on s.small s.growing now.fringe further last)
-        (λ plus. levelled_by_entry s.first_on s.second_on s.small s.growing x (weight_at g x ⊕ total) further (now.fringe.within x enters.0) entry_now level)
+        (λ plus. levelled_by_entry s.first_on s.second_on s.small s.growing x (weight_at g x ⊕ total) further
+        (now.fringe.within x enters.0) entry_now level)
 
     fringe_further : IsFringe O F
         (IsEntry (exchanges_in first) (exchanges_in second) (lowered (lowered (weight_at w1) R total) R further)
@@ -238,11 +250,13 @@ module _ {n : ℕ} {I : List ℕ} {first second : List Exchange} {u1 u2 : List W
         (fell : (z : ℕ) → weight_at v2 z ≡ cond (eqb z x) (weight_at w2 z ⊖ d) (weight_at w2 z)) where
       first_same : (z : ℕ) → lowered (lowered (weight_at w1) R total) R further z ≡ lowered (weight_at v1) (with_one R x) d z
       unfolding further
-      first_same z = lowered_twice (weight_at w1) R total (d ⊖ total) d refl z ∙ lowered_entered (weight_at w1) (weight_at v1) R x d enter_outside rose z
+      first_same z = lowered_twice (weight_at w1) R total (d ⊖ total) d refl z
+          ∙ lowered_entered (weight_at w1) (weight_at v1) R x d enter_outside rose z
 
       second_same : (z : ℕ) → raised (raised (weight_at w2) R total) R further z ≡ raised (weight_at v2) (with_one R x) d z
       unfolding further
-      second_same z = raised_twice (weight_at w2) R total (d ⊖ total) d refl z ∙ raised_entered (weight_at w2) (weight_at v2) R x d enter_outside fell z
+      second_same z = raised_twice (weight_at w2) R total (d ⊖ total) d refl z
+          ∙ raised_entered (weight_at w2) (weight_at v2) R x d enter_outside fell z
 
       gains_same : (z : ℕ) → raised (raised (weight_at g) F total) F further z ≡ raised (weight_at g) F d z
       unfolding further
@@ -252,7 +266,8 @@ module _ {n : ℕ} {I : List ℕ} {first second : List Exchange} {u1 u2 : List W
       kept_other z other = fell z ∙ cond-false (eqb z x) _ _ (ne_eqb z x other)
 
       fringe_new : IsFringe O F
-          (IsEntry (exchanges_in first) (exchanges_in second) (lowered (weight_at v1) (with_one R x) d) (raised (weight_at v2) (with_one R x) d) root R)
+          (IsEntry (exchanges_in first) (exchanges_in second) (lowered (weight_at v1) (with_one R x) d)
+          (raised (weight_at v2) (with_one R x) d) root R)
           (raised (weight_at g) F d)
       fringe_new =
           let same1 : lowered (lowered (weight_at w1) R total) R further ≡ lowered (weight_at v1) (with_one R x) d = fun_ext first_same in
@@ -260,10 +275,12 @@ module _ {n : ℕ} {I : List ℕ} {first second : List Exchange} {u1 u2 : List W
           let same3 : raised (raised (weight_at g) F total) F further ≡ raised (weight_at g) F d = fun_ext gains_same in
           rw (same1, same2, same3) at fringe_further
 
-      entry_new : IsEntry (exchanges_in first) (exchanges_in second) (lowered (weight_at v1) (with_one R x) d) (raised (weight_at v2) (with_one R x) d)
+      entry_new : IsEntry (exchanges_in first) (exchanges_in second) (lowered (weight_at v1) (with_one R x) d)
+          (raised (weight_at v2) (with_one R x) d)
           root R x zero_weight
       entry_new = subst
-          (IsEntry (exchanges_in first) (exchanges_in second) (lowered (weight_at v1) (with_one R x) d) (raised (weight_at v2) (with_one R x) d) root R x)
+          (IsEntry (exchanges_in first) (exchanges_in second) (lowered (weight_at v1) (with_one R x) d)
+          (raised (weight_at v2) (with_one R x) d) root R x)
           (raised-member (weight_at g) F d x enters.0 ∙ enters.1) (fringe_new.has x enters.0)
 
       shifted_new : IsShifted n I first second u1 u2 root (with_one R x) (without_one O x) d v1 v2
@@ -293,13 +310,15 @@ module _ {n : ℕ} {I : List ℕ} {first second : List Exchange} {u1 u2 : List W
       top_new =
           let same2 : raised (weight_at w2) R d ≡ raised (weight_at v2) (with_one R x) d =
           fun_ext (raised_entered (weight_at w2) (weight_at v2) R x d enter_outside fell) in
-          rw same2 at (top_stays n (exchanges_in second) (weight_at w2) R total now.shifted.second_on.adds_below top inside d now.top_now now.inside_now total_low
+          rw same2 at (top_stays n (exchanges_in second) (weight_at w2) R total now.shifted.second_on.adds_below
+          top inside d now.top_now now.inside_now total_low
           (λ earlier e. enters.3 earlier (from ∙ e)))
 
       pub entered : {R' O' F' F'' : List ℕ} {h : List Weight} {inside' : Option Weight} → R' ≡ with_one R x → O' ≡ without_one O x
           → F' ≡ without_one F x → length h ≡ length g
           → inside' ≡ cond ((exchanges_in second).adds x) (greater_of inside (weight_at v2 x)) inside
-          → IsOffered (λ z. leads (exchanges_in first) (exchanges_in second) I x z && is_member z O') (entry_gain (weight_at v1) (weight_at v2) I x)
+          → IsOffered (λ z. leads (exchanges_in first) (exchanges_in second) I x z && is_member z O')
+          (entry_gain (weight_at v1) (weight_at v2) I x)
           F' (weight_at g) F'' (weight_at h)
           → IsGrowth n I first second u1 u2 root R' O' F'' d v1 v2 h top inside'
       entered {R'} {O'} {F'} {F''} {h} {inside'} er eo ef long ei offered = rw (er, eo, ei) (record {
@@ -359,8 +378,10 @@ module _ {n : ℕ} {I : List ℕ} {first second : List Exchange} {u1 u2 : List W
         together : (d t : Weight) → IsWeightWithin (10 ^ 27) t → IsWeightWithin (10 ^ 27) (d ⊖ t) → IsWeightWithin (10 ^ 31) d
         together d t ht hd = omega (arith, ints, pairs)
 
-    pub sunk : (v1 v2 : List Weight) → ((z : ℕ) → weight_at v1 z ≡ lowered (weight_at w1) R d z) → ((z : ℕ) → weight_at v2 z ≡ raised (weight_at w2) R d z)
-        → IsGrownSplit n (exchanges_in first) (exchanges_in second) (sum_at (weight_at u1) (weight_at u2)) (weight_at u2) (weight_at v1) (weight_at v2)
+    pub sunk : (v1 v2 : List Weight) → ((z : ℕ) → weight_at v1 z ≡ lowered (weight_at w1) R d z)
+        → ((z : ℕ) → weight_at v2 z ≡ raised (weight_at w2) R d z)
+        → IsGrownSplit n (exchanges_in first) (exchanges_in second) (sum_at (weight_at u1) (weight_at u2)) (weight_at u2)
+        (weight_at v1) (weight_at v2)
     sunk v1 v2 fell rose =
         let s = now.shifted in
         let same1 : weight_at v1 ≡ lowered (lowered (weight_at w1) R total) R (d ⊖ total) =
@@ -381,9 +402,12 @@ module _ {n : ℕ} {I : List ℕ} {first second : List Exchange} {u1 u2 : List W
 
   -- ---- nothing is left
 
-  pub ended : {slack : Option Weight} → slack ≡ excess_of top inside → {step : NextStep} → step ≡ Nothing → IsNextStep F (weight_at g) slack step
-      → (v1 v2 : List Weight) → ((z : ℕ) → weight_at v1 z ≡ lowered (weight_at w1) R total z) → ((z : ℕ) → weight_at v2 z ≡ raised (weight_at w2) R total z)
-      → IsGrownSplit n (exchanges_in first) (exchanges_in second) (sum_at (weight_at u1) (weight_at u2)) (weight_at u2) (weight_at v1) (weight_at v2)
+  pub ended : {slack : Option Weight} → slack ≡ excess_of top inside → {step : NextStep} → step ≡ Nothing
+      → IsNextStep F (weight_at g) slack step
+      → (v1 v2 : List Weight) → ((z : ℕ) → weight_at v1 z ≡ lowered (weight_at w1) R total z)
+      → ((z : ℕ) → weight_at v2 z ≡ raised (weight_at w2) R total z)
+      → IsGrownSplit n (exchanges_in first) (exchanges_in second) (sum_at (weight_at u1) (weight_at u2)) (weight_at u2)
+      (weight_at v1) (weight_at v2)
   ended {slack} from is next v1 v2 fell rose =
       let s = now.shifted in
       let none = subst (IsNextStep F (weight_at g) slack) is next in
@@ -395,28 +419,38 @@ module _ {n : ℕ} {I : List ℕ} {first second : List Exchange} {u1 u2 : List W
 
 -- ---- the start
 
-pub growth_start : {n root : ℕ} {I : List ℕ} {first second : List Exchange} {u1 u2 : List Weight} {R O F F' : List ℕ} {h : List Weight}
-    {total : Weight} {top inside : Option Weight} (A : List ℕ) (g g' : List Weight) → n ≤ 500
+-- the fringe of the root alone, after both offers
+pub fringe_of_root : {n root : ℕ} {I : List ℕ} {first second : List Exchange} {R O F F' : List ℕ} (A : List ℕ)
+    (u1 u2 g g' h : List Weight) → IsTableAt n I first → IsTableAt n I second → R ≡ with_one [] root
+    → ((x : ℕ) → is_member x A ≡ (exchanges_in first).adds x)
+    → IsOffered (λ z. is_member z A && is_member z O) (λ z. weight_at u1 z ⊖ weight_at u1 root) [] (weight_at g) F (weight_at g')
+    → IsOffered (λ z. leads (exchanges_in first) (exchanges_in second) I root z && is_member z O)
+    (entry_gain (weight_at u1) (weight_at u2) I root) F (weight_at g') F' (weight_at h)
+    → IsFringe O F' (IsEntry (exchanges_in first) (exchanges_in second) (weight_at u1) (weight_at u2) root R) (weight_at h)
+fringe_of_root {n} {root} {I} {first} {second} {R} {O} {F} {F'} A u1 u2 g g' h t1 t2 er tells offered1 offered2 =
+    rw er (fringe_entered root (exchanges_on n I first t1) (exchanges_on n I second t2)
+    (fringe_start (offered_same _ (λ z. (exchanges_in first).adds z && is_member z O) _ (λ z. weight_at u1 z ⊖ weight_at u1 root) _ _ _ _
+    (λ z. ap (λ t. t && is_member z O) (sym (tells z))) (λ z. refl) offered1)) offered2)
+
+pub growth_start : {n root : ℕ} {I : List ℕ} {first second : List Exchange} {u1 u2 : List Weight} {R O F : List ℕ} {h : List Weight}
+    {total : Weight} {top inside : Option Weight} → n ≤ 500
     → IsTableAt n I first → IsTableAt n I second → IsHeaviestOf (exchanges_in first).adds (weight_at u1) root
     → NoExchangeGains (exchanges_in first) (weight_at u1) → NoExchangeGains (exchanges_in second) (weight_at u2)
     → ((x : ℕ) → x < n → IsWeightWithin (10 ^ 12) (sum_at (weight_at u1) (weight_at u2) x)) → AreWeightsWithin (10 ^ 25) u2
     → length u1 ≡ n → length u2 ≡ n → length h ≡ n
     → R ≡ with_one [] root → ((x : ℕ) → is_member x O ≡ (ltb x n && not (eqb x root)))
-    → ((x : ℕ) → is_member x A ≡ (exchanges_in first).adds x)
-    → IsOffered (λ z. is_member z A && is_member z O) (λ z. weight_at u1 z ⊖ weight_at u1 root) [] (weight_at g) F (weight_at g')
-    → IsOffered (λ z. leads (exchanges_in first) (exchanges_in second) I root z && is_member z O) (entry_gain (weight_at u1) (weight_at u2) I root)
-    F (weight_at g') F' (weight_at h)
+    → IsFringe O F (IsEntry (exchanges_in first) (exchanges_in second) (weight_at u1) (weight_at u2) root R) (weight_at h)
     → total ≡ zero_weight → IsHeaviestWeightOrNone (exchanges_in second).adds (weight_at u2) top
     → inside ≡ cond ((exchanges_in second).adds root) (greater_of None (weight_at u2 root)) None
-    → IsGrowth n I first second u1 u2 root R O F' total u1 u2 h top inside
-growth_start {n} {root} {I} {first} {second} {u1} {u2} {R} {O} {F} {F'} {h} {total} {top} {inside} A g g' few t1 t2 source gains1 gains2 small old_small
-    long1 long2 long3 er others tells offered1 offered2 none most within =
+    → IsGrowth n I first second u1 u2 root R O F total u1 u2 h top inside
+growth_start {n} {root} {I} {first} {second} {u1} {u2} {R} {O} {F} {h} {total} {top} {inside} few t1 t2 source gains1 gains2 small
+    old_small long1 long2 long3 er others fringe none most within =
     let on1 = exchanges_on n I first t1 in
     let on2 = exchanges_on n I second t2 in
     let addable : IsHeaviestAddable n (exchanges_in first) (weight_at u1) root = record { adds = source.passes; most = λ e l k. source.most e k } in
     let same1 : lowered (weight_at u1) (with_one [] root) total ≡ weight_at u1 = fun_ext (λ z. sym (lowered_zero (weight_at u1) _ total z none)) in
     let same2 : raised (weight_at u2) (with_one [] root) total ≡ weight_at u2 = fun_ext (λ z. sym (raised_zero (weight_at u2) _ total z none)) in
-    let same3 : raised (weight_at h) F' total ≡ weight_at h = fun_ext (λ z. sym (raised_zero (weight_at h) F' total z none)) in
+    let same3 : raised (weight_at h) F total ≡ weight_at h = fun_ext (λ z. sym (raised_zero (weight_at h) F total z none)) in
     rw (er, within) (record {
       shifted = record {
         few = few;
@@ -430,25 +464,28 @@ growth_start {n} {root} {I} {first} {second} {u1} {u2} {R} {O} {F} {F'} {h} {tot
         root_kept = refl;
       };
       gains_length = long3;
-      fringe = rw (same1, same2, same3) (fringe_entered root on1 on2
-          (fringe_start (offered_same _ (λ z. (exchanges_in first).adds z && is_member z O) _ (λ z. weight_at u1 z ⊖ weight_at u1 root) _ _ _ _
-          (λ z. ap (λ t. t && is_member z O) (sym (tells z))) (λ z. refl) offered1)) offered2);
+      fringe = rw (same1, same2, same3)
+          (subst (λ S. IsFringe O F (IsEntry (exchanges_in first) (exchanges_in second) (weight_at u1) (weight_at u2) root S) (weight_at h))
+          er fringe);
       top_now = rw same2 most;
       inside_now = entered_heaviest (exchanges_in second).adds [] (weight_at u2) (weight_at u2) root None refl (λ z d. refl)
           (λ z. and_right ((exchanges_in second).adds z) false refl);
     })
 
 -- the elements outside at the start
-pub others_start : (n root : ℕ) (O A : List ℕ) → O ≡ without_one A root → A ≡ all_below n → (x : ℕ) → is_member x O ≡ (ltb x n && not (eqb x root))
+pub others_start : (n root : ℕ) (O A : List ℕ) → O ≡ without_one A root → A ≡ all_below n → (x : ℕ)
+    → is_member x O ≡ (ltb x n && not (eqb x root))
 others_start n root O A e a x =
     ap (is_member x) e ∙ is_member-without_one x root A ∙ ap (λ t. t && not (eqb x root)) (ap (is_member x) a ∙ is_member-all_below x n)
 
-pub others_start_below : (n root : ℕ) (O A : List ℕ) → O ≡ without_one A root → A ≡ all_below n → (x : ℕ) → is_member x O ≡ true → x < n
+pub others_start_below : (n root : ℕ) (O A : List ℕ) → O ≡ without_one A root → A ≡ all_below n → (x : ℕ)
+    → is_member x O ≡ true → x < n
 others_start_below n root O A e a x m =
     ltb-true x n (and_parts (ltb x n) (not (eqb x root)) (sym (others_start n root O A e a x) ∙ m)).0
 
 -- the first weights at the start
-pub first_start : (n : ℕ) (u1 u2 : List Weight) → length u1 ≡ n → ((x : ℕ) → x < n → IsWeightWithin (10 ^ 12) (sum_at (weight_at u1) (weight_at u2) x))
+pub first_start : (n : ℕ) (u1 u2 : List Weight) → length u1 ≡ n
+    → ((x : ℕ) → x < n → IsWeightWithin (10 ^ 12) (sum_at (weight_at u1) (weight_at u2) x))
     → AreWeightsWithin (10 ^ 25) u2 → AreWeightsWithin (10 ^ 30) u1
 first_start n u1 u2 long small old = AreWeightsWithin-from (10 ^ 30) n u1 long (λ x l.
     difference_bound (weight_at u1 x) (weight_at u2 x) (small x l) (weight_within_at (10 ^ 25) u2 old x))

@@ -1,12 +1,13 @@
 -- The rows of all elements at an independent set tell its exchanges: each row says what the exchanges of its element are, and no
 -- element past the last row can be added or exchanged, as independent sets lie below n.
-use Rattle.std.proofs.Common.{◌≡◌, ℕ, ◌+◌, ◌<◌, ◌≤◌, Bool, true, false, not, ◌&&◌, List, [], ◌∷◌, ◌++◌, length, map, inl, inr, refl, sym, ap, ◌∙◌, subst, arith}
+use Rattle.std.proofs.Common.{◌≡◌, ℕ, ◌<◌, ◌≤◌, Bool, true, false, not, ◌&&◌, List, [], length, inl, inr, refl, sym, ap}
+use Rattle.std.proofs.Common.{◌∙◌, subst, arith}
 use Rattle.std.proofs.lemmas.Bool.{and_parts, and_right, both_ways, cases_Bool, cases_lt, cond-false, cond-true, eq-eqb, false_from_ne_true, not-true}
-use Rattle.std.proofs.lemmas.List.{get_or_past, get_or-map, length-map, map-append}
+use Rattle.std.proofs.lemmas.List.{get_or_past, get_or-map, length-map}
 use Rattle.mat_sets.specs.Sets.{is_member, AllBelow, all_below, with_one, without_one}
 use Rattle.mat_sets.proofs.Members.{set_members, is_member-filter, same_members, IsRising-with_one, IsRising-without_one}
 use Rattle.mat_sets.proofs.Filters.{IsRising-filter}
-use Rattle.mat_sets.proofs.Ground.{AllBelow-from_members, all_below-more, all_below-none, below_member, get_or-all_below, length-all_below}
+use Rattle.mat_sets.proofs.Ground.{AllBelow-from_members, below_member, get_or-all_below, length-all_below}
 use Rattle.mat_laws.specs.declared.exchange.Exchange.{Exchange}
 use Rattle.mat_laws.specs.Exchanges.{row_of, rows_of}
 use Rattle.mat_laws.specs.Matroids.{IsMatroid}
@@ -41,7 +42,8 @@ pub row_of-trades : (p : List ℕ → Bool) (I : List ℕ) (y x : ℕ) → is_me
 row_of-trades p I y x =
     let test : Bool → Bool = λ b. is_member y I && (not b && p (with_one (without_one I y) x)) in
     elim (cases_Bool (is_member x I)) [
-      | inl i ↦ ap (λ (r : Exchange). is_member y r.with) (cond-true (is_member x I) _ _ i) ∙ sym (ap test i ∙ and_right (is_member y I) false refl)
+      | inl i ↦ ap (λ (r : Exchange). is_member y r.with) (cond-true (is_member x I) _ _ i)
+          ∙ sym (ap test i ∙ and_right (is_member y I) false refl)
       | inr o ↦ ap (λ (r : Exchange). is_member y r.with) (cond-false (is_member x I) _ _ o)
           ∙ is_member-filter (λ z. p (with_one (without_one I z) x)) y I ∙ sym (ap test o)
     ]
@@ -127,7 +129,8 @@ module _ {n : ℕ} {p : List ℕ → Bool} (laws : IsMatroid n p) (I : List ℕ)
   row-below ok x row l e = subst (λ (r : Exchange). AllBelow n r.with) (row_in-rows_of n p I x l ∙ sym e)
       (AllBelow-from_members n _ (λ y m. below_member (laws.sets I ok) ((IsTableAt-rows_of ok).member y x m)))
 
-  pub row-whole : p I ≡ true → (x : ℕ) (row : Exchange) (base : List ℕ) → x < n → row ≡ row_of p I x → base ≡ I → row.addable ≡ true
+  pub row-whole : p I ≡ true → (x : ℕ) (row : Exchange) (base : List ℕ) → x < n → row ≡ row_of p I x → base ≡ I
+      → row.addable ≡ true
       → row.with ≡ base
   row-whole ok x row base l e is h =
       let same = row_in-rows_of n p I x l ∙ sym e in

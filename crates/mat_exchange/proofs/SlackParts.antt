@@ -1,10 +1,11 @@
 -- The least slack of each kind comes from the greatest weight of an element, and the least of several numbers from the lesser of two.
-use Rattle.std.proofs.Common.{◌≡◌, ◌∙◌, ℕ, ◌+◌, ◌<◌, Bool, true, false, not, ◌&&◌, ltb, cond, List, length, take, get_or, Option, Some, None, ◌⊎◌, inl, inr, sym, ap, subst, arith}
+use Rattle.std.proofs.Common.{◌≡◌, ◌∙◌, ℕ, ◌+◌, ◌<◌, Bool, true, false, not, ◌&&◌, ltb, cond, List, length, take, get_or}
+use Rattle.std.proofs.Common.{Option, Some, None, ◌⊎◌, inl, inr, sym, ap, subst, arith}
 use Rattle.std.proofs.lemmas.Bool.{and_from, and_parts, cases_Bool, cases_eq, lt-ltb, ltb-true, not-true}
 use Rattle.std.proofs.lemmas.Int.{ints}
-use Rattle.mat_sets.specs.Sets.{all_below, is_member, with_one, without_one, AllBelow}
+use Rattle.mat_sets.specs.Sets.{all_below, is_member, without_one, AllBelow}
 use Rattle.mat_sets.proofs.Ground.{AllBelow-member, is_member-all_below}
-use Rattle.mat_sets.proofs.Members.{is_member-with_one, is_member-without_one}
+use Rattle.mat_sets.proofs.Members.{is_member-without_one}
 use Rattle.mat_sets.proofs.Steps.{is_member-take_more}
 use Rattle.mat_sets.specs.Weights.{◌⊖◌, ◌≼◌, is_below, weight_at, IsWeightWithin, AreWeightsWithin}
 use Rattle.mat_sets.specs.declared.weight.Weight.{Weight}
@@ -44,7 +45,8 @@ least_of_either P Q (Some x) (Some y) p q = elim (cases_Bool (is_below y x)) [
 ]
 
 -- the same numbers
-pub least_of_same : (P Q : Weight → Type 0) (a : Option Weight) → ((d : Weight) → P d → Q d) → ((d : Weight) → Q d → P d) → IsLeastOrNone P a → IsLeastOrNone Q a
+pub least_of_same : (P Q : Weight → Type 0) (a : Option Weight) → ((d : Weight) → P d → Q d) → ((d : Weight) → Q d → P d)
+    → IsLeastOrNone P a → IsLeastOrNone Q a
 least_of_same P Q None f g p = λ d q. p d (g d q)
 least_of_same P Q (Some x) f g p = record { has = f x p.has; least = λ e q. p.least e (g e q) }
 
@@ -106,7 +108,8 @@ module _ (exchanges : Exchanges) (w : ℕ → Weight) (from into : List ℕ) whe
         }
 
   pub least_exchange_next : (y : ℕ) (a b : Option Weight) → IsLeastOrNone (IsExchangeSlack y exchanges w from into) a
-      → IsLeastOrNone (IsExchangeSlackAt y exchanges w from into) b → IsLeastOrNone (IsExchangeSlack (y + 1) exchanges w from into) (lesser_of a b)
+      → IsLeastOrNone (IsExchangeSlackAt y exchanges w from into) b
+      → IsLeastOrNone (IsExchangeSlack (y + 1) exchanges w from into) (lesser_of a b)
   least_exchange_next y a b h k =
       least_of_same (λ d. IsExchangeSlack y exchanges w from into d ⊎ IsExchangeSlackAt y exchanges w from into d)
       (IsExchangeSlack (y + 1) exchanges w from into) (lesser_of a b)
@@ -123,7 +126,8 @@ module _ (exchanges : Exchanges) (w : ℕ → Weight) (from into : List ℕ) whe
 -- ---- the four kinds together
 
 module _ (n : ℕ) (first second : Exchanges) (w1 w2 : ℕ → Weight) (R reached others : List ℕ) (below : AllBelow n R)
-    (inside : (x : ℕ) → is_member x reached ≡ is_member x R) (outside : (x : ℕ) → is_member x others ≡ (ltb x n && not (is_member x R))) where
+    (inside : (x : ℕ) → is_member x reached ≡ is_member x R)
+    (outside : (x : ℕ) → is_member x others ≡ (ltb x n && not (is_member x R))) where
   -- a slack of the first matroid, or of the second
   abbrev OfFirst : Weight → Type 0
   OfFirst d = IsAdditionSlack n first w1 others d ⊎ IsExchangeSlack n first w1 reached others d

@@ -1,9 +1,12 @@
 -- How a table is made of exchanges: what the loops keep over the rows and the columns so far.
-use Rattle.std.proofs.Common.{Result, Ok, Err, ◌≡◌, ℕ, suc, zero, ◌+◌, ◌<◌, ◌≤◌, Bool, true, false, ◌||◌, ◌&&◌, not, ltb, eqb, List, [], ◌∷◌, ◌++◌, length, length-append, get_or, take, set, inl, inr, refl, subst, sym, ap, ◌∙◌, arith}
+use Rattle.std.proofs.Common.{Result, Ok, Err, ◌≡◌, ℕ, suc, zero, ◌+◌, ◌<◌, ◌≤◌, Bool, true, false, ◌||◌, ◌&&◌, not}
+use Rattle.std.proofs.Common.{ltb, eqb, List, [], ◌∷◌, ◌++◌, length, length-append, get_or, take, set, inl, inr, refl, subst, sym, ap}
+use Rattle.std.proofs.Common.{◌∙◌, arith}
 use Rattle.std.specs.Result.{IfOk}
 use Rattle.std.proofs.lemmas.Bool.{both_ways, cases_eq, cases_lt, eq-eqb, lt-ltb, le-ltb, ne_eqb}
 use Rattle.std.proofs.lemmas.Bool.Decides.{nat_tests}
-use Rattle.std.proofs.lemmas.List.{get_or_default, get_or_past, get_or_append_left, get_or_push, get_or-set_same, get_or-set_other, length-set, same_lists, take_all}
+use Rattle.std.proofs.lemmas.List.{get_or_default, get_or_past, get_or_append_left, get_or_push, get_or-set_same, get_or-set_other, length-set}
+use Rattle.std.proofs.lemmas.List.{same_lists, take_all}
 use Rattle.mat_sets.specs.Sets.{is_member, IsRising, with_one}
 use Rattle.mat_sets.proofs.Members.{is_member-with_one}
 use Rattle.mat_sets.proofs.Steps.{is_member-take_more, take-with_one}
@@ -80,7 +83,8 @@ IsEntering-none x items columns = record {
 entered_column : (x y z k : ℕ) (columns : List (List ℕ)) (column : List ℕ) → y < length columns → column ≡ with_one (set_at columns y) x
     → is_member k (set_at (set columns y column) z) ≡ (is_member k (set_at columns z) || (eqb k x && eqb z y))
 entered_column x y z k columns column h e = elim (cases_eq z y) [
-  | inl s ↦ (let a = ap (λ v. is_member k (set_at (set columns y column) v)) s ∙ ap (is_member k) (get_or-set_same columns y column [] h ∙ e) in
+  | inl s ↦ (let a = ap (λ v. is_member k (set_at (set columns y column) v)) s
+      ∙ ap (is_member k) (get_or-set_same columns y column [] h ∙ e) in
       let b = is_member-with_one k x (set_at columns y) in
       let c = ap (λ v. is_member k (set_at columns v)) s in
       let d = eq-eqb z y s in
@@ -117,7 +121,8 @@ IsEntering-all x i items before columns row e h =
 
 -- nothing is entered
 pub IsFilled-none : (exchanges : List Exchange) (n : ℕ) (addable : List ℕ) (rows columns : List (List ℕ)) → length exchanges ≡ n
-    → addable ≡ [] → rows ≡ [] → length columns ≡ n → ((y : ℕ) → set_at columns y ≡ []) → IsFilled exchanges 0 addable rows columns
+    → addable ≡ [] → rows ≡ [] → length columns ≡ n → ((y : ℕ) → set_at columns y ≡ [])
+    → IsFilled exchanges 0 addable rows columns
 IsFilled-none exchanges n addable rows columns long no_adds no_rows count empty = record {
   count = ap length no_rows;
   adds = λ k. ap (is_member k) no_adds ∙ sym (ap (λ b. b && (row_in exchanges k).addable) (le-ltb k 0 (omega arith)));
@@ -178,7 +183,8 @@ IsFilled-push exchanges x addable rows columns columns' row f out e entered = re
   adds = added_same exchanges x addable f.adds out;
   same = same_more exchanges x rows row f.count f.same e;
   columns_count = entered.count ∙ f.columns_count;
-  transposed = λ k y h. filled_more exchanges x k y row _ _ e out (entered.members k y (let c = f.columns_count in omega arith)) (f.transposed k y h);
+  transposed = λ k y h. filled_more exchanges x k y row _ _ e out (entered.members k y (let c = f.columns_count in omega arith))
+      (f.transposed k y h);
 }
 
 -- ---- the addable elements in the columns
@@ -191,7 +197,8 @@ united_column : (addable : List ℕ) (y z k : ℕ) (columns : List (List ℕ)) (
     → ((k : ℕ) → is_member k column ≡ (is_member k (set_at columns y) || is_member k addable))
     → is_member k (set_at (set columns y column) z) ≡ (is_member k (set_at columns z) || (is_member k addable && eqb z y))
 united_column addable y z k columns column h e = elim (cases_eq z y) [
-  | inl s ↦ (let a = ap (λ v. is_member k (set_at (set columns y column) v)) s ∙ ap (is_member k) (get_or-set_same columns y column [] h) ∙ e k in
+  | inl s ↦ (let a = ap (λ v. is_member k (set_at (set columns y column) v)) s ∙ ap (is_member k) (get_or-set_same columns y column [] h)
+      ∙ e k in
       let c = ap (λ v. is_member k (set_at columns v)) s in
       let d = eq-eqb z y s in
       grind arith)
@@ -207,7 +214,8 @@ AreUnited-next addable y i items before columns column u h is below put = record
   members = λ k z l.
       let old = u.members k z l in
       let new = united_column addable y z k columns column below put in
-      entered_more (is_member k (set_at columns z)) (is_member k (set_at before z)) (is_member z (take i items)) (is_member k addable) (eqb z y) _ new old
+      entered_more (is_member k (set_at columns z)) (is_member k (set_at before z)) (is_member z (take i items)) (is_member k addable)
+      (eqb z y) _ new old
       ∙ ap (λ b. is_member k (set_at before z) || (is_member k addable && b))
       (ap (λ v. is_member z (take i items) || eqb z v) is ∙ sym (is_member-take_more items i z h));
 }

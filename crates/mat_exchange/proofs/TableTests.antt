@@ -1,5 +1,5 @@
 -- What the tests give tables of two and three rows: the row of each addable element is the whole base.
-use Rattle.std.proofs.Common.{◌≡◌, ℕ, zero, suc, Bool, true, false, List, [], ◌∷◌}
+use Rattle.std.proofs.Common.{◌≡◌, ℕ, zero, suc, true, false, List, [], ◌∷◌}
 use Rattle.std.proofs.lemmas.Bool.{both_ways, false≢true}
 use Rattle.mat_laws.specs.declared.exchange.Exchange.{Exchange}
 use Rattle.mat_laws.specs.TightPaths.{row_in}
@@ -14,7 +14,8 @@ whole_two base a b ha hb = record { whole = each }
     each (suc zero) h = hb h
     each (suc (suc x)) h = absurd (false≢true h)
 
-pub whole_three : (base : List ℕ) (a b c : Exchange) → a.addable ≡ false → b.with ≡ base → c.with ≡ base → AreWhole base (a ∷ b ∷ c ∷ [])
+pub whole_three : (base : List ℕ) (a b c : Exchange) → a.addable ≡ false → b.with ≡ base → c.with ≡ base
+    → AreWhole base (a ∷ b ∷ c ∷ [])
 whole_three base a b c ha hb hc = record { whole = each }
   where
     each : (x : ℕ) → (row_in (a ∷ b ∷ c ∷ []) x).addable ≡ true → (row_in (a ∷ b ∷ c ∷ []) x).with ≡ base

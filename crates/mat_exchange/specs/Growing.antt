@@ -1,6 +1,7 @@
 -- One search that only grows: the changes of a split of the weights between the first reached set and the last, as in the Hungarian
 -- method (Frank 1981; Schrijver, chapter 41).
-use Rattle.std.specs.Prelude.{◌≡◌, ℕ, ◌<◌, ◌+◌, ◌*◌, ◌^◌, Bool, true, false, if◌then◌else◌, List, length, Option, Some, None, MatchOption, ◌⊎◌}
+use Rattle.std.specs.Prelude.{◌≡◌, ℕ, ◌<◌, ◌+◌, ◌*◌, ◌^◌, Bool, true, false, if◌then◌else◌, List, length, Option, Some}
+use Rattle.std.specs.Prelude.{None, MatchOption, ◌⊎◌}
 use Rattle.mat_sets.specs.Sets.{is_member}
 use Rattle.mat_sets.specs.Weights.{zero_weight, ◌⊕◌, ◌⊖◌, ◌≺◌, ◌≼◌, is_below, weight_at, IsWeightWithin, AreWeightsWithin}
 use Rattle.mat_sets.specs.declared.weight.Weight.{Weight}
@@ -35,7 +36,8 @@ pub record IsGrownSplit (n : ℕ) (first second : Exchanges) (w old w1 w2 : ℕ 
   pub first_gains : NoExchangeGains first w1
   pub second_gains : NoExchangeGains second w2
   pub adds : (x : ℕ) → x < n → w1 x ⊕ w2 x ≡ w x
-  pub within : (h : ℕ) → ((x : ℕ) → x < n → IsWeightWithin h (old x)) → (x : ℕ) → x < n → IsWeightWithin (h + 4 * 10 ^ 12 * n) (w2 x)
+  pub within : (h : ℕ) → ((x : ℕ) → x < n → IsWeightWithin h (old x)) → (x : ℕ) → x < n
+      → IsWeightWithin (h + 4 * 10 ^ 12 * n) (w2 x)
   pub ends : EndsSearch n first second w1 w2
 
 -- what is found is no stuck search with a slack
@@ -85,7 +87,8 @@ pub record IsMet (f : Weight) (x : ℕ) (F : List ℕ) (g : ℕ → Weight) (F' 
   pub from : (g' x ≡ f) ⊎ ((is_member x F ≡ true) × (g' x ≡ g x))
 
 -- each x that passes is offered f x, and nothing else changes
-pub record IsOffered (test : ℕ → Bool) (f : ℕ → Weight) (F : List ℕ) (g : ℕ → Weight) (F' : List ℕ) (g' : ℕ → Weight) : Type 0 where
+pub record IsOffered (test : ℕ → Bool) (f : ℕ → Weight) (F : List ℕ) (g : ℕ → Weight) (F' : List ℕ)
+    (g' : ℕ → Weight) : Type 0 where
   pub met : (x : ℕ) → test x ≡ true → IsMet (f x) x F g F' g'
   pub kept : (x : ℕ) → test x ≡ false → (is_member x F' ≡ is_member x F) × (g' x ≡ g x)
 

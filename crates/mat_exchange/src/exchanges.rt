@@ -2,8 +2,8 @@
 ghost use Rattle.std.specs.Prelude.{◌≡◌, ◌<◌, ◌≤◌, true, IfOk};
 ghost use Rattle.mat_laws.specs.Exchanges.{row_of, rows_of};
 
+use crate::bits::bits_of_members;
 use crate::row_table::{PartialTable, RowTable};
-use crate::slack::bits_of_members;
 use mat_laws::{Exchange, Matroid};
 use mat_sets::ElemSet;
 use std::alloc::{AllocError, Global};

@@ -1,6 +1,6 @@
 //! The elements outside a reached set that a change of the weights lets in, each with the greatest of its gains.
 ghost use Rattle.std.specs.Prelude.{◌≡◌, ◌&&◌, ◌==◌, if◌then◌else◌, ◌<◌, ◌≤◌, ◌^◌, ℕ, true, length, OnOk};
-ghost use Rattle.mat_sets.specs.Sets.{is_member, with_one, without_one};
+ghost use Rattle.mat_sets.specs.Sets.{is_member};
 ghost use Rattle.mat_sets.specs.Weights.{◌⊕◌, ◌⊖◌, weight_at, IsWeightWithin, AreWeightsWithin};
 ghost use Rattle.mat_laws.specs.TightPaths.{exchanges_in};
 ghost use Rattle.mat_exchange.specs.Changes.{lowered, raised};
@@ -122,7 +122,7 @@ fn raise_on(weights: &mut [Weight], members: &BitSet, step: Weight)
 }
 
 /// Puts x back by the change so far, so that x can change together with the set that it enters.
-pub(crate) fn enter(w1: &mut [Weight], w2: &mut [Weight], x: u32, total: Weight)
+pub(crate) fn put_back(w1: &mut [Weight], w2: &mut [Weight], x: u32, total: Weight)
     requires lengths { length w2.old ≡ length w1.old }
     requires below { x < length w1.old }
     requires first_small { AreWeightsWithin (10 ^ 30) w1.old }
@@ -133,7 +133,7 @@ pub(crate) fn enter(w1: &mut [Weight], w2: &mut [Weight], x: u32, total: Weight)
     ensures first { (z : ℕ) → weight_at w1.new z ≡ (if z == x then weight_at w1.old z ⊕ total else weight_at w1.old z) }
     ensures second { (z : ℕ) → weight_at w2.new z ≡ (if z == x then weight_at w2.old z ⊖ total else weight_at w2.old z) }
 {
-    w1[x as usize] = w1[x as usize] + total;
+    w1[x as usize] += total;
     w2[x as usize] = w2[x as usize] - total;
 }
 

@@ -1,12 +1,12 @@
 //! The search that grows until it finds a tight path or has no slack.
-ghost use Rattle.std.specs.Prelude.{◌≡◌, ◌<◌, ◌≤◌, ◌^◌, ℕ, true, length, IfOk, OnOk};
-ghost use Rattle.mat_sets.specs.Sets.{is_member};
+ghost use Rattle.std.specs.Prelude.{◌≡◌, ◌<◌, ◌≤◌, ◌^◌, ◌&&◌, ◌==◌, ℕ, true, not, nat_lt, [], length, IfOk, OnOk};
+ghost use Rattle.mat_sets.specs.Sets.{is_member, with_one};
 ghost use Rattle.mat_sets.specs.Weights.{◌⊕◌, weight_at, IsWeightWithin, AreWeightsWithin};
 ghost use Rattle.mat_laws.specs.TightPaths.{exchanges_in};
 ghost use Rattle.mat_exchange.specs.Tables.{IsTableAt};
-ghost use Rattle.mat_exchange.specs.Growing.{NoExchangeGains, IsGrown, IsGrownSplit, IsHeaviestOf, StaysHeaviest, sum_at};
+ghost use Rattle.mat_exchange.specs.Growing.{IsEntry, IsFringe, NoExchangeGains, IsGrown, IsGrownSplit, IsHeaviestOf, StaysHeaviest, sum_at};
 
-use crate::fringe::{change, enter, offer, offer_exchanges};
+use crate::fringe::{change, offer, offer_exchanges, put_back};
 use crate::grown::Grown;
 use crate::heaviest_addable::{heaviest_addable, heaviest_with};
 use crate::heaviest_members::heaviest_member;
@@ -16,6 +16,73 @@ use crate::slack::excess_or_none;
 use crate::steps::{NextStep, next_step};
 use mat_sets::{BitSet, ElemSet, PairWeights, Weight};
 use std::alloc::{AllocError, Global};
+
+/// A set that is reached from one source, and the elements outside it.
+#[derive(Drop)]
+struct GrowingReach {
+    reached: BitSet,
+    others: BitSet,
+    // Those of the others that a change of the weights lets in.
+    fringe: BitSet,
+}
+
+/// The root alone is reached, and offers their gains to the elements that can be added and to those that its arcs can lead to.
+fn reach_root(
+    alloc: Global,
+    first: &RowTable,
+    second: &RowTable,
+    set: &ElemSet,
+    root: u32,
+    w1: &[Weight],
+    w2: &[Weight],
+    gains: &mut [Weight],
+) -> Result<GrowingReach, AllocError>
+    requires few { length w1.now ≤ 500 }
+    requires lengths { length w2.now ≡ length w1.now }
+    requires gains { length gains.old ≡ length w1.now }
+    requires first_table { IsTableAt (length w1.now) set.now first.now }
+    requires second_table { IsTableAt (length w1.now) set.now second.now }
+    requires first_small { AreWeightsWithin (10 ^ 30) w1.now }
+    requires second_small { AreWeightsWithin (10 ^ 30) w2.now }
+    requires root { root < length w1.now }
+    ensures length { length gains.new ≡ length gains.old }
+    ensures reached { IfOk result (λ g. g.reached ≡ with_one [] root) }
+    ensures others { IfOk result (λ g. (x : ℕ) → is_member x g.others ≡ (nat_lt x (length w1.now) && not (x == root))) }
+    ensures fringe { IfOk result (λ g. IsFringe g.others g.fringe
+        (IsEntry (exchanges_in first.now) (exchanges_in second.now) (weight_at w1.now) (weight_at w2.now) root g.reached) (weight_at gains.new)) }
+{
+    let n = w1.len() as u32;
+    let mut reached = BitSet::with_capacity(alloc, n)?;
+    let mut others = BitSet::all_below(alloc, n)?;
+    let mut fringe = BitSet::with_capacity(alloc, n)?;
+    reached.insert(root)?;
+    others.remove(root);
+    offer(
+        first.addable_elements(),
+        &others,
+        w1,
+        root,
+        true,
+        &mut fringe,
+        gains,
+    )?;
+    offer_exchanges(
+        first,
+        second,
+        set,
+        w1,
+        w2,
+        root,
+        &others,
+        &mut fringe,
+        gains,
+    )?;
+    Ok(GrowingReach {
+        reached,
+        others,
+        fringe,
+    })
+}
 
 /// Lets the reached set grow from one source, and changes the weights as it needs, until it holds a sink or nothing can enter it. The
 /// change is one number, which is put on the weights of the whole set only at the end; so an element that enters is first put back by
@@ -45,32 +112,11 @@ fn grow_from(
     ensures grown { OnOk result (IsGrownSplit (length w1.old) (exchanges_in first.now) (exchanges_in second.now)
         (sum_at (weight_at w1.old) (weight_at w2.old)) (weight_at w2.old) (weight_at w1.new) (weight_at w2.new)) }
 {
-    let n = w1.len() as u32;
-    let mut reached = BitSet::with_capacity(alloc, n)?;
-    let mut others = BitSet::all_below(alloc, n)?;
-    let mut fringe = BitSet::with_capacity(alloc, n)?;
-    reached.insert(root)?;
-    others.remove(root);
-    offer(
-        first.addable_elements(),
-        &others,
-        w1,
-        root,
-        true,
-        &mut fringe,
-        gains,
-    )?;
-    offer_exchanges(
-        first,
-        second,
-        set,
-        w1,
-        w2,
-        root,
-        &others,
-        &mut fringe,
-        gains,
-    )?;
+    let GrowingReach {
+        mut reached,
+        mut others,
+        mut fringe,
+    } = reach_root(alloc, first, second, set, root, w1, w2, gains)?;
     let top = heaviest_addable(second, w2);
     let mut inside = heaviest_with(second, None, root, w2);
     let mut total = Weight::ZERO;
@@ -78,7 +124,7 @@ fn grow_from(
         let slack = excess_or_none(top, inside);
         match next_step(&fringe, gains, slack) {
             NextStep::Enter(x, step) => {
-                enter(w1, w2, x, step);
+                put_back(w1, w2, x, step);
                 total = step;
                 reached.insert(x)?;
                 others.remove(x);

@@ -1,6 +1,7 @@
 //! The exchanges of a matroid at an independent set, the search for a tight path of two matroids, and their laws.
 #![tactic(auto)]
 
+mod bits;
 mod exchanges;
 mod found;
 mod fringe;

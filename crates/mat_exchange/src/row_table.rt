@@ -85,7 +85,8 @@ pub(crate) struct PartialTable {
 impl PartialTable {
     /// No row of n elements.
     pub(crate) fn new(alloc: Global, n: u32) -> Result<PartialTable, AllocError>
-        ensures { IfOk result (λ t. (exchanges : List Exchange) → length exchanges ≡ n → IsFilled exchanges 0 t.addable t.rows.items t.columns.items) }
+        ensures { IfOk result (λ t. (exchanges : List Exchange) → length exchanges ≡ n
+            → IsFilled exchanges 0 t.addable t.rows.items t.columns.items) }
     {
         Ok(PartialTable {
             addable: BitSet::with_capacity(alloc, n)?,
@@ -120,12 +121,13 @@ impl PartialTable {
         Ok(())
     }
 
-    /// The table, once all rows are entered. The time is that of the base and of the words of a row.
+    /// The table, once all rows are entered. The time is that of the words of a row for each member of the base.
     pub(crate) fn finish(self, base: &ElemSet) -> Result<RowTable, AllocError>
         requires below { AllBelow (length self.columns.items) base.now }
         requires filled { (exchanges : List Exchange) × IsFilled exchanges (length exchanges) self.addable self.rows.items self.columns.items
             × AreWhole base.now exchanges }
-        ensures { IfOk result (λ t. (exchanges : List Exchange) → IsFilled exchanges (length exchanges) self.addable self.rows.items self.columns.items
+        ensures { IfOk result (λ t. (exchanges : List Exchange)
+            → IsFilled exchanges (length exchanges) self.addable self.rows.items self.columns.items
             → AreWhole base.now exchanges → t ≡ exchanges) }
     {
         let PartialTable {

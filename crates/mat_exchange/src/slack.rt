@@ -1,5 +1,5 @@
 //! The least slack of a reached set.
-ghost use Rattle.std.specs.Prelude.{◌≡◌, ◌<◌, ◌≤◌, ◌^◌, ◌&&◌, ℕ, true, not, nat_lt, length, IfOk, IfSome};
+ghost use Rattle.std.specs.Prelude.{◌≡◌, ◌<◌, ◌≤◌, ◌^◌, ℕ, true, length, IfOk, IfSome};
 ghost use Rattle.mat_sets.specs.Sets.{is_member, AllBelow};
 ghost use Rattle.mat_sets.specs.Weights.{◌⊖◌, weight_at, IsWeightWithin, AreWeightsWithin};
 ghost use Rattle.mat_laws.specs.TightPaths.{exchanges_in};
@@ -7,6 +7,7 @@ ghost use Rattle.mat_laws.specs.Slacks.{IsLeastSlackOrNone};
 ghost use Rattle.mat_exchange.specs.Growing.{excess_of};
 ghost use Rattle.mat_exchange.specs.SlackParts.{IsAdditionSlack, IsExchangeSlackAt, IsExchangeSlack, IsLeastOrNone, lesser_of};
 
+use crate::bits::{bits_of_members, bits_of_others};
 use crate::heaviest_addable::heaviest_addable;
 use crate::heaviest_common::heaviest_common;
 use crate::row_table::RowTable;
@@ -95,28 +96,6 @@ fn exchange_slack(
         least = lesser(least, exchange_slack_at(table, y, from, into, weights));
     }
     least
-}
-
-/// The members of a set of numbers below n, as bits.
-pub(crate) fn bits_of_members(alloc: Global, n: u32, set: &ElemSet) -> Result<BitSet, AllocError>
-    ensures { IfOk result (λ bits. bits ≡ set.now) }
-{
-    let mut members = BitSet::with_capacity(alloc, n)?;
-    for x in set.as_slice() {
-        members.insert(*x)?;
-    }
-    Ok(members)
-}
-
-/// The numbers below n that are not in a set, as bits.
-fn bits_of_others(alloc: Global, n: u32, set: &ElemSet) -> Result<BitSet, AllocError>
-    ensures { IfOk result (λ bits. (x : ℕ) → is_member x bits ≡ (nat_lt x n && not (is_member x set.now))) }
-{
-    let mut others = BitSet::all_below(alloc, n)?;
-    for x in set.as_slice() {
-        others.remove(*x);
-    }
-    Ok(others)
 }
 
 /// The least slack of a reached set, or none (Frank 1981; Schrijver, chapter 41). An exchange in the first matroid leads from a

@@ -10,9 +10,9 @@ use mat_sets::{BitSet, Weight};
 /// The next element that a change of the weights lets into the reached set.
 #[derive(Drop)]
 pub(crate) enum NextStep {
-    /// This element enters after a change by this number.
+    /// This element enters once the weights have changed by this number in all.
     Enter(u32, Weight),
-    /// An element of the reached set is a sink after a change by this number.
+    /// An element of the reached set is a sink once they have changed by this number in all.
     Sink(Weight),
     /// No change does either.
     Nothing,

@@ -1,12 +1,12 @@
 //! Each call once, with ample memory.
-ghost use Rattle.std.specs.Prelude.{◌≡◌, ◌≤◌, ◌^◌, ℕ, [], length, IfOk};
+ghost use Rattle.std.specs.Prelude.{◌≡◌, ◌≤◌, ℕ, [], length, IfOk};
 ghost use Rattle.mat_sets.specs.Sets.{AllBelow};
 ghost use Rattle.mat_laws.specs.TightPaths.{row_in};
 ghost use Rattle.mat_exchange.specs.RowTables.{AreWhole};
 ghost use Rattle.mat_exchange.specs.Tables.{IsTableAt};
 
+use crate::bits::bits_of_members;
 use crate::row_table::PartialTable;
-use crate::slack::bits_of_members;
 use crate::{Found, RowTable, tight_search};
 use mat_laws::Exchange;
 use mat_sets::{ElemSet, Weight};

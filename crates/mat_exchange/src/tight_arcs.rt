@@ -90,7 +90,8 @@ fn next_equal(
     requires few { length weights.now ≤ 500 }
     requires below { u < length weights.now }
     requires among { (v : ℕ) → is_member v among.now ≡ true → v < length weights.now }
-    ensures { IsNextFrom (λ v. (is_member v candidates.now && is_member v among.now) && is_same (weight_at weights.now u) (weight_at weights.now v)) from result }
+    ensures { IsNextFrom (λ v. (is_member v candidates.now && is_member v among.now)
+        && is_same (weight_at weights.now u) (weight_at weights.now v)) from result }
 {
     let weight = weights[u as usize];
     let mut at = from;

@@ -1,4 +1,4 @@
-use Rattle.std.proofs.Common.{◌≡◌, ◌<◌, ◌≤◌, ◌∙◌, length, sym, ap, subst, arith}
+use Rattle.std.proofs.Common.{◌≡◌, ◌<◌, ◌≤◌, ◌∙◌, sym, subst, arith}
 use Rattle.mat_sets.specs.Sets.{AllBelow}
 use Rattle.mat_sets.proofs.Ground.{AllBelow-from_members, below_member}
 use Rattle.mat_laws.specs.Exchanges.{rows_of}
@@ -41,7 +41,8 @@ pub enter-requires-clause-whole : goal.enter-requires-clause-whole
 enter-requires-clause-whole g c =
     let n = g.M.Matroid.ground_size c.args.m.now in
     let l : c.loop-x.x < n = omega (arith, c.loop-x-test.true, c.size-x-end.ensures) in
-    row-whole c.lawful.ensures c.args.set.now c.requires.independent c.loop-x.x c.in_ok-row.row c.in_ok-base.base l c.in_ok-row.ensures c.in_ok-base.ensures
+    row-whole c.lawful.ensures c.args.set.now c.requires.independent c.loop-x.x c.in_ok-row.row c.in_ok-base.base l c.in_ok-row.ensures
+    c.in_ok-base.ensures
 
 pub finish-requires-clause-below : goal.finish-requires-clause-below
 finish-requires-clause-below g c =

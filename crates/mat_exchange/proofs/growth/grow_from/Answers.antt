@@ -1,27 +1,18 @@
-use Rattle.std.proofs.Common.{◌∙◌, ap, refl, arith}
-use Rattle.mat_sets.specs.Sets.{with_one}
-use Rattle.mat_exchange.proofs.GrowthSteps.{growth_start, first_within, second_within, total_within, reached_below, other_below, fringe_below, gains_within, top_within, inside_within, enter_below, enter_within, enter_outside, shifted_entered, entered, fewer_left, reached_few, sink_within, sunk, ended, others_start, others_start_below, first_start, others_less}
+use Rattle.std.proofs.Common.{◌∙◌, refl, arith}
+use Rattle.mat_exchange.proofs.GrowthSteps.{growth_start, first_within, second_within, total_within, reached_below, other_below, gains_within}
+use Rattle.mat_exchange.proofs.GrowthSteps.{top_within, inside_within, enter_below, enter_within, enter_outside, shifted_entered, entered, fewer_left}
+use Rattle.mat_exchange.proofs.GrowthSteps.{reached_few, sink_within, sunk, ended, first_start, others_less}
 use Rattle.mat_exchange.proofs.growth.grow_from.Goals as goal
 
-pub offer-requires-clause-others : goal.offer-requires-clause-others
-offer-requires-clause-others c = others_start_below _ _ _ _ c.remove.ensures c.in_ok-others.ensures
-
-pub offer_exchanges-requires-clause-first_small : goal.offer_exchanges-requires-clause-first_small
-offer_exchanges-requires-clause-first_small c = first_start _ c.args.w1.now c.args.w2.now refl c.requires.small c.requires.second_small
-
-pub offer_exchanges-requires-clause-others : goal.offer_exchanges-requires-clause-others
-offer_exchanges-requires-clause-others c = others_start_below _ _ _ _ c.remove.ensures c.in_ok-others.ensures
+pub reach_root-requires-clause-first_small : goal.reach_root-requires-clause-first_small
+reach_root-requires-clause-first_small c = first_start _ c.args.w1.now c.args.w2.now refl c.requires.small c.requires.second_small
 
 pub loop-x-init : goal.loop-x-init
 loop-x-init c =
-    growth_start c.addable_elements.result.now c.args.gains.now c.offer.new.gains c.requires.few c.requires.first_table c.requires.second_table c.requires.root
+    growth_start c.requires.few c.requires.first_table c.requires.second_table c.requires.root
     c.requires.first_gains c.requires.second_gains c.requires.small c.requires.second_small refl c.requires.lengths
-    (c.offer_exchanges.ensures.length ∙ c.offer.ensures.length ∙ c.requires.gains)
-    (c.in_ok-insert.ensures.ok ∙ ap (λ s. with_one s c.args.root) c.in_ok-reached.ensures)
-    (others_start _ _ _ _ c.remove.ensures c.in_ok-others.ensures)
-    c.addable_elements.ensures
-    (rw c.in_ok-fringe.ensures at c.in_ok-offer.ensures.offered)
-    c.in_ok-offer_exchanges.ensures.offered
+    (c.reach_root.ensures.length ∙ c.requires.gains)
+    c.in_ok-reached.ensures.reached c.in_ok-reached.ensures.others c.in_ok-reached.ensures.fringe
     refl c.heaviest_addable-top.ensures c.heaviest_with-inside.ensures
 
 pub excess_or_none-slack-requires-clause-small : goal.excess_or_none-slack-requires-clause-small
@@ -33,18 +24,18 @@ excess_or_none-slack-requires-clause-other_small c = inside_within c.loop-x.inva
 pub next_step-requires-clause-small : goal.next_step-requires-clause-small
 next_step-requires-clause-small c = gains_within c.loop-x.invariant
 
-pub enter-requires-clause-first_small : goal.enter-requires-clause-first_small
-enter-requires-clause-first_small c = first_within c.loop-x.invariant.shifted
+pub put_back-requires-clause-first_small : goal.put_back-requires-clause-first_small
+put_back-requires-clause-first_small c = first_within c.loop-x.invariant.shifted
 
-pub enter-requires-clause-second_small : goal.enter-requires-clause-second_small
-enter-requires-clause-second_small c = second_within c.loop-x.invariant.shifted
+pub put_back-requires-clause-second_small : goal.put_back-requires-clause-second_small
+put_back-requires-clause-second_small c = second_within c.loop-x.invariant.shifted
 
-pub enter-requires-clause-below : goal.enter-requires-clause-below
-enter-requires-clause-below c = rw c.loop-x.invariant.shifted.first_length
+pub put_back-requires-clause-below : goal.put_back-requires-clause-below
+put_back-requires-clause-below c = rw c.loop-x.invariant.shifted.first_length
     (enter_below c.loop-x.invariant c.excess_or_none-slack.ensures c.in-Enter.is c.next_step.ensures)
 
-pub enter-requires-clause-total : goal.enter-requires-clause-total
-enter-requires-clause-total c = enter_within c.loop-x.invariant c.excess_or_none-slack.ensures c.in-Enter.is c.next_step.ensures
+pub put_back-requires-clause-total : goal.put_back-requires-clause-total
+put_back-requires-clause-total c = enter_within c.loop-x.invariant c.excess_or_none-slack.ensures c.in-Enter.is c.next_step.ensures
 
 pub change-requires-clause-reached : goal.change-requires-clause-reached
 change-requires-clause-reached c = λ x m. rw c.loop-x.invariant.shifted.first_length (reached_below c.loop-x.invariant.shifted x m)
@@ -81,27 +72,29 @@ returns-in-Nothing-clause-grown c =
     ended c.loop-x.invariant c.excess_or_none-slack.ensures c.in-Nothing.is c.next_step.ensures c.change-in-Nothing.new.w1 c.change-in-Nothing.new.w2
     c.change-in-Nothing.ensures.first c.change-in-Nothing.ensures.second
 
-pub offer_exchanges-requires-in-Enter-clause-first_small : goal.offer_exchanges-requires-in-Enter-clause-first_small
-offer_exchanges-requires-in-Enter-clause-first_small c =
-    first_within (shifted_entered c.loop-x.invariant c.excess_or_none-slack.ensures c.in-Enter.is c.next_step.ensures c.enter.new.w1 c.enter.new.w2
-    c.enter.ensures.first_length c.enter.ensures.second_length c.enter.ensures.first c.enter.ensures.second
-    c.in_ok-insert-in-Enter.ensures.ok c.remove-in-Enter.ensures)
+pub offer_exchanges-requires-clause-first_small : goal.offer_exchanges-requires-clause-first_small
+offer_exchanges-requires-clause-first_small c =
+    first_within (shifted_entered c.loop-x.invariant c.excess_or_none-slack.ensures c.in-Enter.is c.next_step.ensures
+    c.put_back.new.w1 c.put_back.new.w2
+    c.put_back.ensures.first_length c.put_back.ensures.second_length c.put_back.ensures.first c.put_back.ensures.second
+    c.in_ok-insert-in-Enter.ensures.ok c.remove.ensures)
 
-pub offer_exchanges-requires-in-Enter-clause-second_small : goal.offer_exchanges-requires-in-Enter-clause-second_small
-offer_exchanges-requires-in-Enter-clause-second_small c =
-    second_within (shifted_entered c.loop-x.invariant c.excess_or_none-slack.ensures c.in-Enter.is c.next_step.ensures c.enter.new.w1 c.enter.new.w2
-    c.enter.ensures.first_length c.enter.ensures.second_length c.enter.ensures.first c.enter.ensures.second
-    c.in_ok-insert-in-Enter.ensures.ok c.remove-in-Enter.ensures)
+pub offer_exchanges-requires-clause-second_small : goal.offer_exchanges-requires-clause-second_small
+offer_exchanges-requires-clause-second_small c =
+    second_within (shifted_entered c.loop-x.invariant c.excess_or_none-slack.ensures c.in-Enter.is c.next_step.ensures
+    c.put_back.new.w1 c.put_back.new.w2
+    c.put_back.ensures.first_length c.put_back.ensures.second_length c.put_back.ensures.first c.put_back.ensures.second
+    c.in_ok-insert-in-Enter.ensures.ok c.remove.ensures)
 
-pub offer_exchanges-requires-in-Enter-clause-from_below : goal.offer_exchanges-requires-in-Enter-clause-from_below
-offer_exchanges-requires-in-Enter-clause-from_below c =
-    rw (c.enter.ensures.first_length ∙ c.loop-x.invariant.shifted.first_length)
+pub offer_exchanges-requires-clause-from_below : goal.offer_exchanges-requires-clause-from_below
+offer_exchanges-requires-clause-from_below c =
+    rw (c.put_back.ensures.first_length ∙ c.loop-x.invariant.shifted.first_length)
     (enter_below c.loop-x.invariant c.excess_or_none-slack.ensures c.in-Enter.is c.next_step.ensures)
 
-pub offer_exchanges-requires-in-Enter-clause-others : goal.offer_exchanges-requires-in-Enter-clause-others
-offer_exchanges-requires-in-Enter-clause-others c =
-    rw (c.enter.ensures.first_length ∙ c.loop-x.invariant.shifted.first_length)
-    (others_less c.loop-x.others _ c.remove-in-Enter.ensures (other_below c.loop-x.invariant.shifted))
+pub offer_exchanges-requires-clause-others : goal.offer_exchanges-requires-clause-others
+offer_exchanges-requires-clause-others c =
+    rw (c.put_back.ensures.first_length ∙ c.loop-x.invariant.shifted.first_length)
+    (others_less c.loop-x.others _ c.remove.ensures (other_below c.loop-x.invariant.shifted))
 
 pub loop-x-smaller : goal.loop-x-smaller
 loop-x-smaller c =
@@ -113,7 +106,7 @@ loop-x-smaller c =
 
 pub loop-x-preserved : goal.loop-x-preserved
 loop-x-preserved c =
-    entered c.loop-x.invariant c.excess_or_none-slack.ensures c.in-Enter.is c.next_step.ensures c.enter.new.w1 c.enter.new.w2
-    c.enter.ensures.first_length c.enter.ensures.second_length c.enter.ensures.first c.enter.ensures.second
-    c.in_ok-insert-in-Enter.ensures.ok c.remove-in-Enter.ensures c.remove-in-Enter-2.ensures c.offer_exchanges-in-Enter.ensures.length
+    entered c.loop-x.invariant c.excess_or_none-slack.ensures c.in-Enter.is c.next_step.ensures c.put_back.new.w1 c.put_back.new.w2
+    c.put_back.ensures.first_length c.put_back.ensures.second_length c.put_back.ensures.first c.put_back.ensures.second
+    c.in_ok-insert-in-Enter.ensures.ok c.remove.ensures c.remove-in-Enter.ensures c.offer_exchanges.ensures.length
     c.heaviest_with-inside-in-Enter.ensures c.in_ok-offer_exchanges-in-Enter.ensures.offered

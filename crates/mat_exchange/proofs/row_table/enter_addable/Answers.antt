@@ -27,7 +27,8 @@ loop-y-preserved c =
     let count = c.loop-y.invariant.count in
     let inside : y < length c.loop-y.columns = omega arith in
     AreUnited-next c.args.addable.now y i c.args.base.now c.args.columns.now c.loop-y.columns _ c.loop-y.invariant h is inside
-    (λ k. c.in_ok-unite.ensures.ok k ∙ ap (λ s. is_member k s || is_member k c.args.addable.now) (get_or_default c.loop-y.columns y c.index-columns-y.result [] inside))
+    (λ k. c.in_ok-unite.ensures.ok k
+    ∙ ap (λ s. is_member k s || is_member k c.args.addable.now) (get_or_default c.loop-y.columns y c.index-columns-y.result [] inside))
 
 pub returns : goal.returns
 returns c =

@@ -25,7 +25,8 @@ table_of-requires-clause-below g c =
     let with' = c.in_ok-add.ensures.ok.1 ∙ ap (λ s. with_one s 1) c.new-base.ensures.members in
     let one : AllBelow 2 c.add.new.self = subst (AllBelow 2) (sym with') (AllBelow-with_one 2 [] 1 tt (omega arith)) in
     let none : AllBelow 2 c.new.result = subst (AllBelow 2) (sym c.new.ensures.members) tt in
-    subst (λ (t : List Exchange). (x : ℕ) → AllBelow (length t) (row_in t x).with) (sym (c.deref.ensures.value ∙ c.in_ok-exchanges.ensures.items))
+    subst (λ (t : List Exchange). (x : ℕ) → AllBelow (length t) (row_in t x).with)
+    (sym (c.deref.ensures.value ∙ c.in_ok-exchanges.ensures.items))
     (two_rows _ _ _ _ (subst (AllBelow 2) (sym c.in_ok-copy.ensures.equal) one) none)
 
 pub table_of-requires-clause-whole : goal.table_of-requires-clause-whole

@@ -14,7 +14,8 @@ loop-x-preserved c =
     let exchanges = c.args.exchanges.now in
     let none : Exchange = record { addable = false; with = [] } in
     let l : c.loop-x.x < length exchanges = omega (arith, c.loop-x-test.true, c.requires.few) in
-    c.in_ok-enter.ensures.entered exchanges l (sym (c.index-exchanges-x.is ∙ get_or_default exchanges c.loop-x.x c.index-exchanges-x.result none l)) c.loop-x.invariant
+    c.in_ok-enter.ensures.entered exchanges l
+    (sym (c.index-exchanges-x.is ∙ get_or_default exchanges c.loop-x.x c.index-exchanges-x.result none l)) c.loop-x.invariant
 
 pub enter-requires-clause-few : goal.enter-requires-clause-few
 enter-requires-clause-few c = subst (λ k. k ≤ 500) (sym c.loop-x.invariant.columns_count) c.requires.few
@@ -25,7 +26,8 @@ enter-requires-clause-below c =
     let none : Exchange = record { addable = false; with = [] } in
     let l : c.loop-x.x < length exchanges = omega (arith, c.loop-x-test.true, c.requires.few) in
     subst (λ k. AllBelow k c.index-exchanges-x.result.with) (sym c.loop-x.invariant.columns_count)
-    (subst (λ (r : Exchange). AllBelow (length exchanges) r.with) (sym (c.index-exchanges-x.is ∙ get_or_default exchanges c.loop-x.x c.index-exchanges-x.result none l)) (c.requires.below c.loop-x.x))
+    (subst (λ (r : Exchange). AllBelow (length exchanges) r.with)
+    (sym (c.index-exchanges-x.is ∙ get_or_default exchanges c.loop-x.x c.index-exchanges-x.result none l)) (c.requires.below c.loop-x.x))
 
 pub enter-requires-clause-whole : goal.enter-requires-clause-whole
 enter-requires-clause-whole c = λ h.
@@ -33,7 +35,8 @@ enter-requires-clause-whole c = λ h.
     let none : Exchange = record { addable = false; with = [] } in
     let l : c.loop-x.x < length exchanges = omega (arith, c.loop-x-test.true, c.requires.few) in
     let same = c.index-exchanges-x.is ∙ get_or_default exchanges c.loop-x.x c.index-exchanges-x.result none l in
-    ap (λ (r : Exchange). r.with) same ∙ c.requires.whole.whole c.loop-x.x (sym (ap (λ (r : Exchange). r.addable) same) ∙ h) ∙ sym c.in_ok-bits.ensures
+    ap (λ (r : Exchange). r.with) same ∙ c.requires.whole.whole c.loop-x.x (sym (ap (λ (r : Exchange). r.addable) same) ∙ h)
+    ∙ sym c.in_ok-bits.ensures
 
 pub finish-requires-clause-below : goal.finish-requires-clause-below
 finish-requires-clause-below c = subst (λ k. AllBelow k c.args.base.now) (sym c.loop-x.invariant.columns_count) c.requires.base
@@ -41,13 +44,18 @@ finish-requires-clause-below c = subst (λ k. AllBelow k c.args.base.now) (sym c
 pub finish-requires-clause-filled : goal.finish-requires-clause-filled
 finish-requires-clause-filled c =
     let exchanges = c.args.exchanges.now in
-    let all : c.loop-x.x ≡ length exchanges = omega (arith, c.loop-x-test.false, c.loop-x.auto.x-end, c.requires.few) in
-    (exchanges, subst (λ k. IsFilled exchanges k c.loop-x.table.addable c.loop-x.table.rows.items c.loop-x.table.columns.items) all c.loop-x.invariant, c.requires.whole)
+    let all : c.loop-x.x ≡ length exchanges = omega (arith, c.loop-x-test.false, c.loop-x.auto.x-end, c.requires.few) in (
+      exchanges,
+      subst (λ k. IsFilled exchanges k c.loop-x.table.addable c.loop-x.table.rows.items c.loop-x.table.columns.items)
+          all c.loop-x.invariant,
+      c.requires.whole,
+    )
 
 pub returns : goal.returns
 returns c =
     let exchanges = c.args.exchanges.now in
     let all : c.loop-x.x ≡ length exchanges = omega (arith, c.loop-x-test.false, c.loop-x.auto.x-end, c.requires.few) in
     ok_gives c.finish.result (λ t made. made exchanges
-    (subst (λ k. IsFilled exchanges k c.loop-x.table.addable c.loop-x.table.rows.items c.loop-x.table.columns.items) all c.loop-x.invariant) c.requires.whole)
+    (subst (λ k. IsFilled exchanges k c.loop-x.table.addable c.loop-x.table.rows.items c.loop-x.table.columns.items) all c.loop-x.invariant)
+    c.requires.whole)
     c.finish.ensures

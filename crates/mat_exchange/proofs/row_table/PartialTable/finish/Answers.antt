@@ -9,9 +9,11 @@ invariant_of-result c =
     let u = rw c.deref_mut.ensures.value at c.in_ok-enter_addable.ensures in
     let count = c.in_ok-enter_addable.ensures.count ∙ c.deref_mut.ensures.len in
     rw (written_back c.args.self.columns.len c.enter_addable.new.columns c.args.self.columns.items count)
-    (AreTransposed-filled f.0 c.args.self.addable c.args.base.now c.args.self.rows.items c.args.self.columns.items c.enter_addable.new.columns f.1 u f.2)
+    (AreTransposed-filled f.0 c.args.self.addable c.args.base.now c.args.self.rows.items c.args.self.columns.items c.enter_addable.new.columns f.1
+    u f.2)
 
 pub returns : goal.returns
 returns c = λ exchanges filled whole.
     let u = rw c.deref_mut.ensures.value at c.in_ok-enter_addable.ensures in
-    table_of-filled exchanges c.args.self.addable c.args.base.now c.args.self.rows.items c.args.self.columns.items c.enter_addable.new.columns filled u whole
+    table_of-filled exchanges c.args.self.addable c.args.base.now c.args.self.rows.items c.args.self.columns.items c.enter_addable.new.columns
+    filled u whole

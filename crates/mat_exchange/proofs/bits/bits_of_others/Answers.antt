@@ -1,7 +1,7 @@
 use Rattle.std.proofs.Common.{◌<◌, ◌∙◌, length, get_or, ap, subst}
 use Rattle.mat_sets.specs.Sets.{is_member, without_one}
 use Rattle.mat_exchange.proofs.SlackParts.{rest_none, rest_less}
-use Rattle.mat_exchange.proofs.slack.bits_of_others.Goals as goal
+use Rattle.mat_exchange.proofs.bits.bits_of_others.Goals as goal
 
 pub loop-x-init : goal.loop-x-init
 loop-x-init c = λ x. ap (is_member x) c.in_ok-others.ensures ∙ rest_none c.args.n c.args.set.now x

@@ -1,8 +1,8 @@
-use Rattle.std.proofs.Common.{◌<◌, ◌≤◌, ◌∙◌, length, take, get_or, sym, ap, subst, arith}
+use Rattle.std.proofs.Common.{◌<◌, ◌≤◌, ◌∙◌, length, get_or, sym, ap, subst, arith}
 use Rattle.std.proofs.lemmas.List.{take_all}
 use Rattle.mat_sets.specs.Sets.{with_one}
 use Rattle.mat_sets.proofs.Steps.{take-with_one}
-use Rattle.mat_exchange.proofs.slack.bits_of_members.Goals as goal
+use Rattle.mat_exchange.proofs.bits.bits_of_members.Goals as goal
 
 pub loop-x-preserved : goal.loop-x-preserved
 loop-x-preserved c =
