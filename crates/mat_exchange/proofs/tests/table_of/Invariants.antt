@@ -1,4 +1,3 @@
-use Rattle.std.proofs.Common.{◌≡◌, length}
 use Rattle.mat_exchange.specs.RowTables.{IsFilled}
 use Rattle.mat_exchange.proofs.tests.table_of.Given as goal
 
