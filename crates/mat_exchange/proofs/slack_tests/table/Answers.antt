@@ -2,7 +2,6 @@ use Rattle.std.proofs.Common.{ℕ, zero, suc, [], ◌∷◌}
 use Rattle.mat_sets.specs.Sets.{AllBelow}
 use Rattle.mat_laws.specs.declared.exchange.Exchange.{Exchange}
 use Rattle.mat_laws.specs.TightPaths.{row_in}
-use Rattle.mat_exchange.proofs.TableTests.{whole_three}
 
 three_below : (n : ℕ) (a b c : Exchange) → AllBelow n a.with → AllBelow n b.with → AllBelow n c.with
     → (x : ℕ) → AllBelow n (row_in (a ∷ b ∷ c ∷ []) x).with
