@@ -1,6 +1,6 @@
--- What the tests give tables of two and three rows: the row of each addable element is the whole base.
-use Rattle.std.proofs.Common.{◌≡◌, ℕ, zero, suc, true, false, List, [], ◌∷◌}
-use Rattle.std.proofs.lemmas.Bool.{both_ways, false≢true}
+-- What the tests give tables of two rows: the row of each addable element is the whole base.
+use Rattle.std.proofs.Common.{◌≡◌, ℕ, zero, suc, true, List, [], ◌∷◌}
+use Rattle.std.proofs.lemmas.Bool.{false≢true}
 use Rattle.mat_laws.specs.declared.exchange.Exchange.{Exchange}
 use Rattle.mat_laws.specs.TightPaths.{row_in}
 use Rattle.mat_exchange.specs.RowTables.{AreWhole}
@@ -13,13 +13,3 @@ whole_two base a b ha hb = record { whole = each }
     each zero h = ha h
     each (suc zero) h = hb h
     each (suc (suc x)) h = absurd (false≢true h)
-
-pub whole_three : (base : List ℕ) (a b c : Exchange) → a.addable ≡ false → b.with ≡ base → c.with ≡ base
-    → AreWhole base (a ∷ b ∷ c ∷ [])
-whole_three base a b c ha hb hc = record { whole = each }
-  where
-    each : (x : ℕ) → (row_in (a ∷ b ∷ c ∷ []) x).addable ≡ true → (row_in (a ∷ b ∷ c ∷ []) x).with ≡ base
-    each zero h = absurd (both_ways _ ha h)
-    each (suc zero) h = hb
-    each (suc (suc zero)) h = hc
-    each (suc (suc (suc x))) h = absurd (false≢true h)
