@@ -4,8 +4,11 @@ ghost use Rattle.std.specs.Prelude.{◌≡◌, length, true, IfOk};
 ghost use Rattle.mat_sets.specs.Graphs.{IsGraph};
 ghost use Rattle.mat_sets.specs.Sets.{AllBelow, AreDistinct};
 ghost use Rattle.mat_gf2.specs.Columns.{IsBinaryMatrix};
+ghost use Rattle.mat_any.specs.Trees.{element_count, IsSound};
+ghost use Rattle.mat_any.specs.Views.{tree_of};
 
 use crate::routes::set_below;
+use mat_any::AnyMatroid;
 use mat_gf2::Gf2;
 use mat_graphic::Graphic;
 use mat_greedy::heaviest_of;
@@ -59,7 +62,8 @@ fn told_tests<M: Matroid>(alloc: Global, m: &M) -> Result<String, AllocError>
     format!(in alloc; "0 {zero} 1 {one} 2 {two} 01 {zero_one} 02 {zero_two} 12 {one_two}")
 }
 
-// What a run takes along this order, and there the exchanges of each element that it leaves.
+// What a run takes along this order, and there the exchanges of each element that it leaves: by what is kept, and whether those that
+// are asked for by themselves are the same.
 fn told_run<M: Matroid>(alloc: Global, m: &M, order: &[u32]) -> Result<String, AllocError>
     requires sound { M.sound m.now }
     requires below { AllBelow (M.ground_size m.now) order.now }
@@ -72,9 +76,11 @@ fn told_run<M: Matroid>(alloc: Global, m: &M, order: &[u32]) -> Result<String, A
     for x in 0..m.size() {
         if !base.contains(x) {
             let row = m.row(alloc, &base, &kept, x)?;
+            let asked = m.circuit(alloc, &base, x)?;
+            let same = asked.addable == row.addable && asked.with == row.with;
             let with = told_set(alloc, &row.with)?;
             let addable = row.addable;
-            text = format!(in alloc; "{text} {x} {addable} {with}")?;
+            text = format!(in alloc; "{text}, {x} {addable} {with} {same}")?;
         }
     }
     Ok(text)
@@ -97,6 +103,22 @@ fn told_graph(alloc: Global) -> Result<String, AllocError> {
     let lent = told(alloc, "lent", &&graph)?;
     let dual = told(alloc, "dual", &Dual::new(graph))?;
     format!(in alloc; "{first}{lent}{dual}")
+}
+
+// The dual of the graph as a matroid of any kind.
+fn any_dual(alloc: Global) -> Result<AnyMatroid, AllocError>
+    ensures three { IfOk result (λ m. element_count (tree_of m) ≡ 3) }
+    ensures sound { IfOk result (λ m. IsSound (tree_of m)) }
+{
+    let graph = loop_and_parallel_edges(alloc)?;
+    let inner = Box::new(alloc, AnyMatroid::Graphic(graph))?;
+    Ok(AnyMatroid::Dual(inner))
+}
+
+// What is told of it.
+fn told_any(alloc: Global) -> Result<String, AllocError> {
+    let dual = any_dual(alloc)?;
+    told(alloc, "any", &dual)
 }
 
 // The dual with at most one element, the graph without edge 2, and with the ends of edge 1 made one vertex.
@@ -170,13 +192,14 @@ fn told_found(alloc: Global, found: Option<ElemSet>) -> Result<String, AllocErro
     }
 }
 
-/// What is told of the known matroids, a line for each.
+/// What is told of the known matroids, in eleven lines.
 pub(crate) fn known_report(alloc: Global) -> Result<String, AllocError> {
     let graph = told_graph(alloc)?;
+    let any = told_any(alloc)?;
     let minors = told_minors(alloc)?;
     let ranks = told_ranks(alloc)?;
     let columns = told_columns(alloc)?;
     let base = told_base(alloc)?;
     let heaviest = told_heaviest(alloc)?;
-    format!(in alloc; "{graph}{minors}{ranks}{columns}{base}{heaviest}")
+    format!(in alloc; "{graph}{any}{minors}{ranks}{columns}{base}{heaviest}")
 }

@@ -1,6 +1,6 @@
 //! The program `mat_trials`, a test: it runs the top call over the cases of the file `cases.txt`, the search for disjoint paths over
-//! the graphs of the files `routes_*.txt`, and the calls of matroids over small known ones, and prints what came of each. What it has to print was worked out without it. With names of
-//! descriptions as words it prints the lines of these alone.
+//! the graphs of the files `routes_*.txt`, and the calls of matroids over small known ones, and prints what came of each. What it
+//! has to print was worked out without it. With names of descriptions as words it prints the lines of these alone.
 #![tactic(auto)]
 
 mod cases;

@@ -12,3 +12,8 @@ pub row-requires-clause-base : goal.row-requires-clause-base
 row-requires-clause-base g c =
     ap (g.M.Matroid.indep c.args.m.now) c.in_ok-base.ensures
     ∙ (run_ends c.lawful.ensures [] c.args.order.now c.lawful.ensures.empty).passes
+
+pub circuit-requires-clause-base : goal.circuit-requires-clause-base
+circuit-requires-clause-base g c =
+    ap (g.M.Matroid.indep c.args.m.now) c.in_ok-base.ensures
+    ∙ (run_ends c.lawful.ensures [] c.args.order.now c.lawful.ensures.empty).passes
