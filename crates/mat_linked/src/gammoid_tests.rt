@@ -4,23 +4,12 @@ ghost use Rattle.mat_sets.specs.Sets.{AllBelow};
 ghost use Rattle.mat_linked.specs.Gammoids.{IsGammoid};
 
 use crate::Gammoid;
+use crate::tests::set_below;
 use mat_flow::Digraph;
 use mat_laws::{Exchange, Matroid};
-use mat_sets::{ElemSet, Pairs};
+use mat_sets::Pairs;
 use std::alloc::{AllocError, Global};
 use std::test::Fail;
-
-// The set of these members, each of which is below n.
-fn set_below(alloc: Global, n: u32, members: &[u32]) -> Result<ElemSet, AllocError>
-    requires { AllBelow n members.now }
-    ensures { IfOk result (λ s. AllBelow n s) }
-{
-    let mut set = ElemSet::new(alloc);
-    for x in members {
-        let _ = set.add(*x)?;
-    }
-    Ok(set)
-}
 
 // The exchanges of x at the set of these members, by what is kept of it; none where the set is dependent or holds x.
 fn exchange_at<M: Matroid>(

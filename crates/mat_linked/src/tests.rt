@@ -13,7 +13,7 @@ use std::alloc::{AllocError, Global};
 use std::test::Fail;
 
 // The set of these members, each of which is below n.
-fn set_below(alloc: Global, n: u32, members: &[u32]) -> Result<ElemSet, AllocError>
+pub(crate) fn set_below(alloc: Global, n: u32, members: &[u32]) -> Result<ElemSet, AllocError>
     requires { AllBelow n members.now }
     ensures { IfOk result (λ s. AllBelow n s) }
 {
