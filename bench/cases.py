@@ -112,13 +112,12 @@ def laminar(numbers, n):
 
 
 def gammoid(numbers, n):
-    """A directed graph of 2 N vertices and 40 N arcs, with N / 2 sources and N targets."""
-    vertices = 2 * n
-    print('gammoid', vertices, 40 * n)
-    print('sources', *numbers.sample(range(vertices), n // 2))
-    print('targets', *numbers.sample(range(vertices), n))
+    """A directed graph of N vertices, which are the elements, and 40 N arcs, with N / 2 sources."""
+    print('gammoid', n, 40 * n)
+    print('sources', *numbers.sample(range(n), n // 2))
+    print('targets', *numbers.sample(range(n), n))
     for _ in range(40 * n):
-        print('arc', numbers.randrange(vertices), numbers.randrange(vertices))
+        print('arc', numbers.randrange(n), numbers.randrange(n))
 
 
 def many_routes(numbers, n):
