@@ -15,9 +15,9 @@ use Rattle.mat_any.specs.Trees.{element_count, is_independent}
 use Rattle.mat_any.specs.declared.any_kept.AnyKept.{AnyKept}
 use Rattle.mat_any.specs.declared.any_kept.AnyKept.TheVariants.{Partition, Laminar, Graphic, Transversal, Gammoid, Gf2, Dual, Contract'}
 
--- a kind keeps what it says itself; a dual a base and its columns; a truncation or a restriction what the matroid within it keeps; a
--- contraction a maximal independent subset of what is contracted, its union with the set, and what the matroid within it keeps of that
--- union. What does not fit the kind is not read
+-- what a kind keeps is right as the kind says; a dual keeps a base and its columns; a truncation or a restriction what the matroid within it
+-- keeps; a contraction a maximal independent subset of what is contracted, its union with the set, and what the matroid within it keeps of
+-- that union. What does not fit the kind is not read, and so is right
 abbrev pub KeepsAny : Tree → List ℕ → AnyKept → Type 0
 KeepsAny (partition n classes caps) I (Partition sets) = AreFullSets classes caps I sets
 KeepsAny (laminar n family caps) I (Laminar sets) = AreFullSets family caps I sets

@@ -67,6 +67,7 @@ impl Matroid for AnyMatroid {
         independent(alloc, self, set)
     }
 
+    /// The exchanges of x, by what is kept of the set for this one. The only error is want of memory.
     fn circuit(&self, alloc: Global, base: &ElemSet, x: u32) -> Result<Exchange, AllocError> {
         let kept = keep(alloc, self, base)?;
         row(alloc, self, base, &kept, x)

@@ -13,16 +13,22 @@ use mat_sets::ElemSet;
 pub enum AnyKept {
     /// Nothing, by a uniform matroid.
     Nothing,
+    /// The full classes and their members.
     Partition(FullSets),
+    /// The full sets of the family and their members.
     Laminar(FullSets),
+    /// A forest of the set's edges, of which each tree has a root.
     Graphic(RootedForest),
+    /// A matching of the members with different sets of the family.
     Transversal(KeptMatching),
+    /// Disjoint paths from the sources to the vertices of the members.
     Gammoid(KeptLinking),
+    /// A basis of the columns of the members, each with the members of which it is the sum.
     Gf2(TaggedBasis),
-    /// A base of the matroid within the dual, and the exchanges at it.
+    /// A base of the matroid within the dual that is disjoint from the set, and the columns at it.
     Dual(DualKept),
     /// A maximal independent subset of the contracted elements, the set together with it, and what the matroid that is
-    /// contracted keeps of both.
+    /// contracted keeps of their union.
     Contract {
         chosen: ElemSet,
         joined: ElemSet,

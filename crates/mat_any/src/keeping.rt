@@ -60,7 +60,7 @@ fn dual_keep(alloc: Global, inner: &AnyMatroid, set: &ElemSet) -> Result<DualKep
     Ok(DualKept { base, columns })
 }
 
-// A maximal independent subset of the contracted elements, the set together with it, and what is kept of both.
+// A maximal independent subset of the contracted elements, the set together with it, and what is kept of their union.
 #[cycle(keeping)]
 fn contraction_keep(
     alloc: Global,

@@ -9,7 +9,7 @@ ghost use Rattle.mat_any.specs.Views.{tree_of};
 use crate::any::AnyMatroid;
 use crate::independence::size_of;
 use mat_laws::Matroid;
-use mat_minors::{first_taken, items_in, others_first, set_first};
+use mat_minors::{first_taken, items_in, members_first, others_first};
 use mat_sets::ElemSet;
 use std::alloc::{AllocError, Global};
 
@@ -105,7 +105,7 @@ fn contraction_run(
     ensures { IfOk result (λ s.
         s ≡ grown_along (is_contracted (element_count (tree_of inner.now)) away.now (is_independent (tree_of inner.now))) [] order.now) }
 {
-    let items = set_first(alloc, away, order)?;
+    let items = members_first(alloc, away, order)?;
     let all = run(alloc, inner, &items)?;
     all.minus(alloc, away)
 }

@@ -10,7 +10,7 @@ use Rattle.mat_sets.proofs.Subsets.{subset_or, same_size_subset}
 use Rattle.mat_laws.specs.declared.exchange.Exchange.{Exchange}
 use Rattle.mat_laws.specs.Exchanges.{row_of}
 use Rattle.mat_count.specs.Counts.{is_counted}
-use Rattle.mat_count.specs.FullSets.{AreFullSets, IsSmallest, entry_at, has_fewer, row_of_entry, where_full}
+use Rattle.mat_count.specs.FullSets.{AreFullSets, IsSmallest, kept_at, has_fewer, row_of_entry, where_full}
 use Rattle.mat_count.specs.Laminar.{crosses, IsLaminarFamily}
 use Rattle.mat_count.specs.LaminarLaws.{test_from-Crosses}
 use Rattle.mat_count.specs.LaminarMatroids.{CappedSets, IsLaminar, IsPlaceTable}
@@ -98,7 +98,7 @@ full_where_kept cap members found is =
 -- what was found is a listed set that holds x, and no full one that holds x has fewer members
 pub record IsSmallestAt (sets : List (List ℕ)) (x : ℕ) (entries : List (Option (List ℕ))) (found : Option ℕ) : Type 0 where
   pub listed : (i : ℕ) → found ≡ Some i → is_member x (get_or sets i []) ≡ true
-  pub least : (i : ℕ) → is_member x (get_or sets i []) ≡ true → has_fewer (get_or entries i None) (entry_at entries found) ≡ false
+  pub least : (i : ℕ) → is_member x (get_or sets i []) ≡ true → has_fewer (get_or entries i None) (kept_at entries found) ≡ false
 
 -- ---- the row
 
@@ -147,7 +147,7 @@ module _ {n : ℕ} {sets : List (List ℕ)} {caps I : List ℕ} {x : ℕ} (o : I
           let low = ltb-false (length (intersection I (get_or sets i []))) (length members) never in
           omega arith
 
-  pub row_of_smallest : (found : Option ℕ) → IsSmallestAt sets x entries found → row ≡ row_of_entry I (entry_at entries found)
+  pub row_of_smallest : (found : Option ℕ) → IsSmallestAt sets x entries found → row ≡ row_of_entry I (kept_at entries found)
       → row ≡ row_of (is_counted n sets caps) I x
   row_of_smallest None small is = row_of_none small.least is
   row_of_smallest (Some place) small is = by_entry (get_or entries place None) refl
@@ -169,7 +169,7 @@ IsRowBeside I kept x row m = IsLaminar m.count m.sets m.caps → is_counted m.co
 -- the row of a laminar matroid, by the smallest of the full sets at the places of x
 pub row_at_smallest : (m : CappedSets) (table : List (List ℕ)) (I : List ℕ) (kept : FullSets) (x : ℕ) (row : Exchange) (found : Option ℕ)
     → IsPlaceTable m.count m.sets table → IsSmallest kept.members.items (get_or table x []) found
-    → row ≡ row_of_entry I (entry_at kept.members.items found) → IsRowBeside I kept x row m
+    → row ≡ row_of_entry I (kept_at kept.members.items found) → IsRowBeside I kept x row m
 row_at_smallest m table I kept x row found right best is sound passes full small outside =
     row_of_smallest (IsOutside-from_test m.count m.sets m.caps I x sound.capped small passes outside) sound.family kept full row found (record {
       listed = λ i same. sym (right.right x i small) ∙ best.listed i same;
@@ -188,7 +188,7 @@ named_is_smallest n classes table x entries small right = record {
   least = λ i h. only (get_or table x None) i (right.right x i small ∙ h);
 }
   where
-    only : (entry : Option ℕ) (i : ℕ) → names entry i ≡ true → has_fewer (get_or entries i None) (entry_at entries entry) ≡ false
+    only : (entry : Option ℕ) (i : ℕ) → names entry i ≡ true → has_fewer (get_or entries i None) (kept_at entries entry) ≡ false
     only None i h = absurd (both_ways false refl h)
     only (Some k) i h = ap (λ j. has_fewer (get_or entries j None) (get_or entries k None)) (sym (eqb-true k i h)) ∙ not_itself (get_or entries k None)
 
@@ -205,7 +205,7 @@ module _ (p : CappedClasses) (table : List (Option ℕ)) (right : IsClassTable p
       (subst (λ k. MatchOption (get_or table x None) ⊤ (λ place. place < k)) (sym long) (entry_known p.count p.classes table x small right))
 
   -- the row of a partition matroid, by the class that the table names for x
-  pub row_at_class : (I : List ℕ) (kept : FullSets) (row : Exchange) → row ≡ row_of_entry I (entry_at kept.members.items entry)
+  pub row_at_class : (I : List ℕ) (kept : FullSets) (row : Exchange) → row ≡ row_of_entry I (kept_at kept.members.items entry)
       → IsRowInClasses I kept x row p
   row_at_class I kept row is sound passes full small outside =
       row_of_smallest (IsOutside-from_test p.count p.classes p.caps I x sound.capped small passes outside)

@@ -6,7 +6,7 @@ use Rattle.std.proofs.lemmas.List.{get_or_append_left, get_or_push}
 use Rattle.mat_sets.specs.Sets.{is_member, IsRising, intersection}
 use Rattle.mat_sets.proofs.Members.{IsRising-intersection, same_members, set_members}
 use Rattle.mat_sets.proofs.Steps.{is_member-take_more}
-use Rattle.mat_count.specs.FullSets.{IsSmallest, entry_at, has_fewer, where_full}
+use Rattle.mat_count.specs.FullSets.{IsSmallest, kept_at, has_fewer, where_full}
 
 -- ---- set by set
 
@@ -67,7 +67,7 @@ module _ {entries : List (Option (List ℕ))} {places : List ℕ} {i : ℕ} {fou
     | inr here ↦ last (eqb-true j (get_or places i 0) here ∙ sym at)
   ]
 
-  pub IsLooking-found : place < length entries → has_fewer (get_or entries place None) (entry_at entries found) ≡ true
+  pub IsLooking-found : place < length entries → has_fewer (get_or entries place None) (kept_at entries found) ≡ true
       → IsLooking entries places (i + 1) (Some place)
   IsLooking-found known fewer = record {
     smallest = record {
@@ -75,7 +75,7 @@ module _ {entries : List (Option (List ℕ))} {places : List ℕ} {i : ℕ} {fou
           ap (λ k. is_member k (take (i + 1) places)) (sym (ap place_in same)) ∙ is_member-take_more places i place inside
           ∙ or_right (is_member place (take i places)) (eqb place (get_or places i 0)) (ap (eqb place) (sym at) ∙ same_item place);
       least = λ j h. either j h
-          (λ before. fewer_still (get_or entries place None) (entry_at entries found) (get_or entries j None) fewer (w.smallest.least j before))
+          (λ before. fewer_still (get_or entries place None) (kept_at entries found) (get_or entries j None) fewer (w.smallest.least j before))
           (λ last. ap (λ k. has_fewer (get_or entries k None) (get_or entries place None)) last ∙ not_itself (get_or entries place None));
     };
     known = known;
@@ -84,11 +84,11 @@ module _ {entries : List (Option (List ℕ))} {places : List ℕ} {i : ℕ} {fou
       same_item : (k : ℕ) → eqb k k ≡ true
       same_item k = eq-eqb k k refl
 
-  pub IsLooking-passed : has_fewer (get_or entries place None) (entry_at entries found) ≡ false → IsLooking entries places (i + 1) found
+  pub IsLooking-passed : has_fewer (get_or entries place None) (kept_at entries found) ≡ false → IsLooking entries places (i + 1) found
   IsLooking-passed never = record {
     smallest = record {
       listed = λ j same. is_member-take_more places i j inside ∙ ap (λ b. b || eqb j (get_or places i 0)) (w.smallest.listed j same);
-      least = λ j h. either j h (w.smallest.least j) (λ last. ap (λ k. has_fewer (get_or entries k None) (entry_at entries found)) last ∙ never);
+      least = λ j h. either j h (w.smallest.least j) (λ last. ap (λ k. has_fewer (get_or entries k None) (kept_at entries found)) last ∙ never);
     };
     known = w.known;
   }

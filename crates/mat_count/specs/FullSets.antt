@@ -4,7 +4,7 @@ use Rattle.mat_sets.specs.Sets.{is_member, intersection}
 use Rattle.mat_laws.specs.declared.exchange.Exchange.{Exchange}
 use Rattle.mat_count.specs.declared.full_sets.FullSets.{FullSets}
 
--- the members, where they are as many as the cap
+-- the members, where they are at least as many as the cap
 abbrev pub where_full : ℕ → List ℕ → Option (List ℕ)
 where_full cap members = if nat_le cap (length members) then Some members else None
 
@@ -15,9 +15,9 @@ pub record AreFullSets (sets : List (List ℕ)) (caps base : List ℕ) (kept : F
       → slice_index_or kept.members.items i None ≡ where_full (slice_index_or caps i 0) (intersection base (slice_index_or sets i []))
 
 -- what is kept at a place, if there is a place
-abbrev pub entry_at : List (Option (List ℕ)) → Option ℕ → Option (List ℕ)
-entry_at entries None = None
-entry_at entries (Some i) = slice_index_or entries i None
+abbrev pub kept_at : List (Option (List ℕ)) → Option ℕ → Option (List ℕ)
+kept_at entries None = None
+kept_at entries (Some i) = slice_index_or entries i None
 
 -- whether the first is full, and the second is not or has more members
 abbrev pub has_fewer : Option (List ℕ) → Option (List ℕ) → Bool
@@ -25,10 +25,11 @@ has_fewer None others = false
 has_fewer (Some members) None = true
 has_fewer (Some members) (Some others) = nat_lt (length members) (length others)
 
--- what was found is one of these places, and none of them has fewer members
+-- what was found, if anything, is one of these places, and none of them has a full set of fewer members; where nothing was found, none is
+-- full
 pub record IsSmallest (entries : List (Option (List ℕ))) (places : List ℕ) (found : Option ℕ) : Type 0 where
   pub listed : (i : ℕ) → found ≡ Some i → is_member i places ≡ true
-  pub least : (i : ℕ) → is_member i places ≡ true → has_fewer (slice_index_or entries i None) (entry_at entries found) ≡ false
+  pub least : (i : ℕ) → is_member i places ≡ true → has_fewer (slice_index_or entries i None) (kept_at entries found) ≡ false
 
 -- the row of an element outside the base, by the members of the smallest full set that holds it: with them it cannot be added; where there is
 -- none it can, and be exchanged for every member of the base

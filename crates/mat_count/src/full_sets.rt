@@ -1,7 +1,7 @@
 //! The listed sets that an independent set fills.
 ghost use Rattle.std.specs.Prelude.{⊤, ◌≡◌, ◌<◌, length, slice_index_or, IfOk, MatchOption, None, Some};
 ghost use Rattle.mat_sets.specs.Sets.{intersection, AllBelow, IsRising};
-ghost use Rattle.mat_count.specs.FullSets.{AreFullSets, IsSmallest, entry_at, has_fewer, row_of_entry, where_full};
+ghost use Rattle.mat_count.specs.FullSets.{AreFullSets, IsSmallest, kept_at, has_fewer, row_of_entry, where_full};
 
 use mat_laws::Exchange;
 use mat_sets::{BitSet, ElemSet, SetList};
@@ -73,7 +73,7 @@ impl FullSets {
     fn has_fewer(&self, place: usize, other: Option<usize>) -> bool
         requires place { place < length self.now.members.items }
         requires other { MatchOption other ⊤ (λ i. i < length self.now.members.items) }
-        ensures { result ≡ has_fewer (slice_index_or self.now.members.items place None) (entry_at self.now.members.items other) }
+        ensures { result ≡ has_fewer (slice_index_or self.now.members.items place None) (kept_at self.now.members.items other) }
     {
         let Some(members) = &self.members[place] else {
             return false;
@@ -110,7 +110,7 @@ impl FullSets {
         place: Option<usize>,
     ) -> Result<Exchange, AllocError>
         requires { MatchOption place ⊤ (λ i. i < length self.now.members.items) }
-        ensures row { IfOk result (λ e. e ≡ row_of_entry base.now (entry_at self.now.members.items place)) }
+        ensures row { IfOk result (λ e. e ≡ row_of_entry base.now (kept_at self.now.members.items place)) }
         ensures rises { IfOk result (λ e. IsRising e.with) }
     {
         if let Some(place) = place {

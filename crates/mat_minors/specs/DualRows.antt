@@ -11,7 +11,8 @@ pub record IsDualKept (n : ℕ) (independent : List ℕ → Bool) (I base : List
   pub disjoint : intersection base I ≡ []
   pub columns_at : AreColumns n independent base columns
 
--- the row of x outside I: outside the base x can be added; in it, where something outside I can take its place
+-- the row of x outside I: x can be added where it is outside the base, or something outside I can take its place; else it can be exchanged
+-- for what can take its place
 abbrev pub kept_row : List ℕ → List ℕ → List (List ℕ) → ℕ → Exchange
 kept_row I base columns x =
     if (is_member x base && (length (minus (slice_index_or columns x []) I) == 0)) then record { addable = false; with = slice_index_or columns x [] }

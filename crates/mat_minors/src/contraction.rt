@@ -4,7 +4,7 @@ ghost use Rattle.mat_sets.specs.Sets.{AllBelow, union};
 ghost use Rattle.mat_minors.specs.Minors.{is_contracted, IsContraction};
 ghost use Rattle.mat_minors.specs.MinorLaws.{contracted_laws};
 
-use crate::run_orders::set_first;
+use crate::run_orders::members_first;
 use mat_laws::{Exchange, Matroid};
 use mat_sets::ElemSet;
 use std::alloc::{AllocError, Global};
@@ -24,13 +24,13 @@ pub struct Contraction<M: Matroid> {
 pub struct ContractionKept<M: Matroid> {
     /// The set together with what was chosen of the contracted elements.
     joined: ElemSet,
-    /// What the matroid that is contracted keeps of both.
+    /// What the matroid that is contracted keeps of their union.
     inner: M::Kept,
 }
 
 impl<M: Matroid> Contraction<M> {
-    /// The contraction of these elements of this matroid. At most as many questions to the matroid as there are of
-    /// them. The only error is want of memory.
+    /// The contraction of these elements of this matroid, by one greedy run of it through them. The only error is want of
+    /// memory.
     pub fn new(alloc: Global, inner: M, away: ElemSet) -> Result<Contraction<M>, AllocError>
         requires sound { M.sound inner }
         requires below { AllBelow (M.ground_size inner) away }
@@ -109,13 +109,13 @@ impl<M: Matroid> Matroid for Contraction<M> {
     /// only error is want of memory.
     fn run(&self, alloc: Global, order: &[u32]) -> Result<ElemSet, AllocError> {
         self.inner.lawful();
-        let items = set_first(alloc, &self.away, order)?;
+        let items = members_first(alloc, &self.away, order)?;
         let all = self.inner.run(alloc, &items)?;
         all.minus(alloc, &self.away)
     }
 
-    /// The set together with what was chosen of the contracted elements, and what the inner matroid keeps of both. The only
-    /// error is want of memory.
+    /// The set together with what was chosen of the contracted elements, and what the inner matroid keeps of their union.
+    /// The only error is want of memory.
     fn keep(&self, alloc: Global, base: &ElemSet) -> Result<ContractionKept<M>, AllocError> {
         let joined = base.union(alloc, &self.chosen)?;
         let inner = self.inner.keep(alloc, &joined)?;

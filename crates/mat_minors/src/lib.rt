@@ -11,5 +11,5 @@ mod truncation;
 pub use contraction::Contraction;
 pub use dual::{Dual, DualKept, dual_row};
 pub use restriction::Restriction;
-pub use run_orders::{first_taken, items_in, others_first, set_first};
+pub use run_orders::{first_taken, items_in, members_first, others_first};
 pub use truncation::Truncation;

@@ -35,7 +35,7 @@ pub fn items_outside(alloc: Global, order: &[u32], set: &ElemSet) -> Result<Vec<
 }
 
 /// The members of a set, and then the items of an order that are not in it. The only error is want of memory.
-pub fn set_first(alloc: Global, set: &ElemSet, order: &[u32]) -> Result<Vec<u32>, AllocError>
+pub fn members_first(alloc: Global, set: &ElemSet, order: &[u32]) -> Result<Vec<u32>, AllocError>
     ensures { IfOk result (λ v. v.items ≡ set.now ++ filter (λ x. not (is_member x set.now)) order.now) }
 {
     let rest = items_outside(alloc, order, set)?;
@@ -62,8 +62,8 @@ pub fn others_first(
     Ok(items)
 }
 
-/// What the truncation to a cap takes along an order, where `all` is what its matroid takes: the first members of `all` up
-/// to the cap. The only error is want of memory.
+/// What the truncation to a cap takes along an order, where `all` is what its matroid takes: the items of the order that
+/// are in `all`, up to the cap. The only error is want of memory.
 pub fn first_taken(
     alloc: Global,
     order: &[u32],

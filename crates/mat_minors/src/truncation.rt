@@ -75,7 +75,8 @@ impl<M: Matroid> Matroid for Truncation<M> {
         })
     }
 
-    /// One run of the inner matroid, of which the first members up to the cap are taken. The only error is want of memory.
+    /// One run of the inner matroid, of which the first that the order has are taken, up to the cap. The only error is want of
+    /// memory.
     fn run(&self, alloc: Global, order: &[u32]) -> Result<ElemSet, AllocError> {
         self.inner.lawful();
         let all = self.inner.run(alloc, order)?;
