@@ -8,7 +8,7 @@ mod restriction;
 mod run_orders;
 mod truncation;
 
-pub use contraction::Contraction;
+pub use contraction::{Contraction, ContractionKept};
 pub use dual::{Dual, DualKept, dual_row};
 pub use restriction::Restriction;
 pub use run_orders::{first_taken, items_in, members_first, others_first};
