@@ -4,6 +4,7 @@ ghost use Rattle.std.specs.List.{All};
 ghost use Rattle.mat_sets.specs.Sets.{is_member, AllBelow, IsRising};
 ghost use Rattle.mat_sets.specs.Families.{indicator};
 ghost use Rattle.mat_laws.specs.GreedyRuns.{grown_along};
+ghost use Rattle.mat_count.specs.Counters.{is_some_full};
 ghost use Rattle.mat_count.specs.Counts.{is_counted};
 ghost use Rattle.mat_count.specs.FullSets.{AreFullSets};
 ghost use Rattle.mat_count.specs.Partitions.{CountsMembers};
@@ -196,6 +197,20 @@ fn members_in_each(
     Ok(members)
 }
 
+// Whether the set at one of these places is full: its number of members is at least its cap.
+fn some_full(places: &ElemSet, caps: &[u32], numbers: &[usize]) -> bool
+    requires capped { length caps.now ≡ length numbers.now }
+    requires inside { AllBelow (length numbers.now) places.now }
+    ensures { result ≡ is_some_full caps.now numbers.now places.now }
+{
+    for i in places.as_slice() {
+        if numbers[*i as usize] >= caps[*i as usize] as usize {
+            return true;
+        }
+    }
+    false
+}
+
 // The greedy run along an order, by a counter for each listed set: an element enters where no set that holds it is full.
 fn run_by_places(
     alloc: Global,
@@ -214,8 +229,7 @@ fn run_by_places(
     let mut set = ElemSet::new(alloc);
     for x in order {
         let holders = places.get(*x as usize);
-        let full = full_places(alloc, holders, caps, &numbers)?;
-        if full.is_empty() && set.add(*x)? {
+        if !some_full(holders, caps, &numbers) && set.add(*x)? {
             count_at(&mut numbers, holders);
         }
     }

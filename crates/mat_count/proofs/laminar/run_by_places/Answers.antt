@@ -1,11 +1,14 @@
-use Rattle.std.proofs.Common.{◌≡◌, length, get_or, replicate, rules, refl, sym, ap, ◌∙◌, arith}
+use Rattle.std.proofs.Common.{◌≡◌, eqb, [], length, get_or, replicate, rules, refl, sym, ap, ◌∙◌, arith}
+use Rattle.std.proofs.lemmas.Bool.{not-false, not-true}
+use Rattle.std.specs.List.{filter}
 use Rattle.mat_sets.proofs.Steps.{written_back}
 use Rattle.mat_sets.proofs.Sums.{AllBelow-at}
+use Rattle.mat_count.specs.LaminarRows.{is_full}
 use Rattle.mat_count.proofs.CountedRuns.{IsCounting-start, IsCounting-repeated, counter-small}
 use Rattle.mat_count.proofs.LaminarRuns.{laminar_run-passed, laminar_run-entered}
 use Rattle.mat_count.proofs.PlaceTables.{AllBelow-places}
 use Rattle.mat_count.proofs.laminar.run_by_places.Goals as goal
-use Rattle.mat_count.proofs.laminar.run_by_places.Goals.{then-is_empty+in_ok-add+then-branch, else-is_empty, else-is_empty-via-then-is_empty+in_ok-add+else-branch, else-is_empty-via-else-is_empty}
+use Rattle.mat_count.proofs.laminar.run_by_places.Goals.{then-not-some_full+in_ok-add+then-branch, else-not-some_full, else-not-some_full-via-then-not-some_full+in_ok-add+else-branch, else-not-some_full-via-else-not-some_full}
 
 pub loop-x-init : goal.loop-x-init
 loop-x-init c =
@@ -19,8 +22,8 @@ get-holders-requires c =
     let entries = c.requires.table.entries in
     omega arith
 
-pub full_places-requires-clause-inside : goal.full_places-requires-clause-inside
-full_places-requires-clause-inside c =
+pub some_full-requires-clause-inside : goal.some_full-requires-clause-inside
+some_full-requires-clause-inside c =
     let places = c.args.places.now in
     let small = AllBelow-at c.args.count c.args.order.now c.loop-x.x-index c.requires.below c.loop-x-test.true in
     let long = ap length c.deref.ensures.value ∙ c.loop-x.invariant.counts.long in
@@ -49,22 +52,22 @@ loop-x-preserved c =
     let small = AllBelow-at c.args.count order i c.requires.below inside in
     let before = c.loop-x.numbers.items in
     let run = c.loop-x.invariant in
-    let full = rw (c.get-holders.ensures.item, c.deref.ensures.value) at c.in_ok-full.ensures.places in
-    let empty = c.is_empty.ensures.empty in
-    elim c.if-is_empty.branch [
-      | then-is_empty+in_ok-add+then-branch w ↦ (
+    let full = filter (is_full c.args.caps.now before) (get_or places x []) in
+    let asked = rw (c.get-holders.ensures.item, c.deref.ensures.value) at c.some_full.ensures in
+    elim c.if-not-some_full.branch [
+      | then-not-some_full+in_ok-add+then-branch w ↦ (
           let counted = rw (w.deref_mut.ensures.value, c.get-holders.ensures.item) at w.count_at.ensures in
           rw w.numbers-is
           (rw (written_back c.loop-x.numbers.len w.count_at.new.numbers before (w.count_at.auto.numbers ∙ w.deref_mut.ensures.len))
-          (laminar_run-entered run c.requires.sound.capped places c.requires.table x small inside refl c.in_ok-full.full c.if-is_empty.set full
-          w.count_at.new.numbers (sym empty ∙ w.if-is_empty.true) (sym w.in_ok-add.ensures.ok.0 ∙ w.if-branch.true)
+          (laminar_run-entered run c.requires.sound.capped places c.requires.table x small inside refl full c.if-not-some_full.set refl
+          w.count_at.new.numbers (not-false (eqb (length full) 0) (sym asked ∙ w.if-not-some_full.true)) (sym w.in_ok-add.ensures.ok.0 ∙ w.if-branch.true)
           (w.set-is ∙ w.in_ok-add.ensures.ok.1) (w.count_at.auto.numbers ∙ ap length w.deref_mut.ensures.value) counted)))
-      | else-is_empty w ↦ rw w.numbers-is (elim w.else-is_empty.branch [
-        | else-is_empty-via-then-is_empty+in_ok-add+else-branch v ↦
-            IsCounting-repeated run x c.if-is_empty.set inside refl (sym v.in_ok-add.ensures.ok.0 ∙ v.if-branch.false)
+      | else-not-some_full w ↦ rw w.numbers-is (elim w.else-not-some_full.branch [
+        | else-not-some_full-via-then-not-some_full+in_ok-add+else-branch v ↦
+            IsCounting-repeated run x c.if-not-some_full.set inside refl (sym v.in_ok-add.ensures.ok.0 ∙ v.if-branch.false)
             (w.set-is ∙ v.set-is ∙ v.in_ok-add.ensures.ok.1)
-        | else-is_empty-via-else-is_empty v ↦
-            laminar_run-passed run c.requires.sound.capped places c.requires.table x small inside refl c.in_ok-full.full c.if-is_empty.set full
-            (sym empty ∙ v.if-is_empty.false) (w.set-is ∙ v.set-is)
+        | else-not-some_full-via-else-not-some_full v ↦
+            laminar_run-passed run c.requires.sound.capped places c.requires.table x small inside refl full c.if-not-some_full.set refl
+            (not-true (eqb (length full) 0) (sym asked ∙ v.if-not-some_full.false)) (w.set-is ∙ v.set-is)
       ])
     ]
