@@ -2,7 +2,7 @@
 -- alone is independent in the dual exactly where some z outside B and outside the set can take the place of x in B. So an x outside B
 -- can always be added; one in B can be added where some such z lies outside I, and else it can be exchanged exactly for these z.
 use Rattle.std.proofs.Common.{◌≡◌, ℕ, ◌<◌, Bool, true, false, not, ◌&&◌, cond, eqb, ltb, List, [], length, get_or}
-use Rattle.std.proofs.Common.{inl, inr, subst, sym, ap, ◌∙◌, arith}
+use Rattle.std.proofs.Common.{Result, Ok, Err, IfOk, inl, inr, subst, sym, ap, ◌∙◌, arith}
 use Rattle.std.specs.List.{filter}
 use Rattle.std.proofs.lemmas.Bool.{cases_Bool, cases_eq, and_parts, and_from, both_ways, false_from_ne_true, ne_eqb}
 use Rattle.std.proofs.lemmas.Bool.{eqb-true, ltb-true, lt-ltb, not-true, or_cases}
@@ -226,8 +226,34 @@ exchanged_for column = record { addable = false; with = column }
 abbrev added : List ℕ → Exchange
 added I = record { addable = true; with = I }
 
+-- what is kept tells the one where all that can take the place of x lies in I
+pub kept_row-exchanged : (I base : List ℕ) (columns : List (List ℕ)) (x : ℕ) (column copy : List ℕ) → column ≡ get_or columns x [] → copy ≡ column
+    → is_member x base ≡ true → IsSubset column I → exchanged_for copy ≡ kept_row I base columns x
+kept_row-exchanged I base columns x column copy at same here inside =
+    let test : eqb (length (minus (get_or columns x []) I)) 0 ≡ true =
+    ap (λ s. eqb (length (minus s I)) 0) (sym at) ∙ inside_test_from column I inside in
+    ap exchanged_for (same ∙ at)
+    ∙ sym (ap (λ b. cond (b && eqb (length (minus (get_or columns x []) I)) 0) (exchanged_for (get_or columns x [])) (added I)) here
+    ∙ ap (λ b. cond b (exchanged_for (get_or columns x [])) (added I)) test)
+
+-- and the other elsewhere: x lies outside the base, or something outside I can take its place
+pub kept_row-outside : (I base : List ℕ) (columns : List (List ℕ)) (x : ℕ) (copy : List ℕ) → copy ≡ I → is_member x base ≡ false
+    → added copy ≡ kept_row I base columns x
+kept_row-outside I base columns x copy same outside =
+    ap added same
+    ∙ sym (ap (λ b. cond (b && eqb (length (minus (get_or columns x []) I)) 0) (exchanged_for (get_or columns x [])) (added I)) outside)
+
+pub kept_row-added : (I base : List ℕ) (columns : List (List ℕ)) (x : ℕ) (column copy : List ℕ) → column ≡ get_or columns x [] → copy ≡ I
+    → is_member x base ≡ true → (IsSubset column I → ⊥) → added copy ≡ kept_row I base columns x
+kept_row-added I base columns x column copy at same here leaves =
+    let test : eqb (length (minus (get_or columns x []) I)) 0 ≡ false =
+    ap (λ s. eqb (length (minus s I)) 0) (sym at) ∙ false_from_ne_true _ (λ h. leaves (inside_test column I h)) in
+    ap added same
+    ∙ sym (ap (λ b. cond (b && eqb (length (minus (get_or columns x []) I)) 0) (exchanged_for (get_or columns x [])) (added I)) here
+    ∙ ap (λ b. cond b (exchanged_for (get_or columns x [])) (added I)) test)
+
 -- the row by what is kept is the row of the dual
-pub kept_row_is : {n : ℕ} {p : List ℕ → Bool} → IsMatroid n p → (I base : List ℕ) (columns : List (List ℕ)) (x : ℕ) (row : Exchange)
+kept_row_is : {n : ℕ} {p : List ℕ → Bool} → IsMatroid n p → (I base : List ℕ) (columns : List (List ℕ)) (x : ℕ) (row : Exchange)
     → is_dual n p I ≡ true → IsDualKept n p I base columns → x < n → is_member x I ≡ false → IsRising row.with
     → row ≡ kept_row I base columns x → row ≡ row_of (is_dual n p) I x
 kept_row_is {n} {p} laws I base columns x row passes kept small out r told = elim (cases_Bool (is_member x base)) [
@@ -250,6 +276,14 @@ kept_row_is {n} {p} laws I base columns x row passes kept small out r told = eli
             (sym (kept.columns_at.columns_are x found.0 here) ∙ found.1) (ap (λ t. t.addable) f) (ap (λ t. t.with) f)
       ]
 ]
+
+-- the same of what a call gives, if it gives something
+pub kept_row_told : {n : ℕ} {p : List ℕ → Bool} → IsMatroid n p → (I base : List ℕ) (columns : List (List ℕ)) (x : ℕ) {E : Type 0}
+    → (result : Result Exchange E) → is_dual n p I ≡ true → IsDualKept n p I base columns → x < n → is_member x I ≡ false
+    → IfOk result (λ row. IsRising row.with) → IfOk result (λ row. row ≡ kept_row I base columns x)
+    → IfOk result (λ row. row ≡ row_of (is_dual n p) I x)
+kept_row_told laws I base columns x (Ok row) passes kept small out r told = kept_row_is laws I base columns x row passes kept small out r told
+kept_row_told laws I base columns x (Err e) passes kept small out r told = tt
 
 -- what is maximal outside X holds no member of X
 pub outside_set : (n : ℕ) (p : List ℕ → Bool) (X B : List ℕ) (x : ℕ) → IsMaximal p (minus (all_below n) X) B → is_member x X ≡ true

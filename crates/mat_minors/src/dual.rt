@@ -116,15 +116,15 @@ pub fn dual_row(
     x: u32,
 ) -> Result<Exchange, AllocError>
     requires below { x < length kept.now.columns.items }
-    ensures row { IfOk result (λ e. (e ≡ kept_row set.now kept.now.base kept.now.columns.items x) × IsRising e.with) }
+    ensures row { IfOk result (λ e. e ≡ kept_row set.now kept.now.base kept.now.columns.items x) }
     ensures rises { IfOk result (λ e. IsRising e.with) }
 {
     if kept.base.contains(x) {
-        let column = kept.columns[x as usize].copy(alloc)?;
-        if column.minus(alloc, set)?.is_empty() {
+        let column = &kept.columns[x as usize];
+        if column.is_subset(set) {
             return Ok(Exchange {
                 addable: false,
-                with: column,
+                with: column.copy(alloc)?,
             });
         }
     }
