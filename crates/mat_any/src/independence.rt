@@ -60,7 +60,7 @@ pub(crate) fn independent(
             independent(alloc, inner, set)
         }
         AnyMatroid::Restrict { kept, inner } => {
-            if !set.minus(alloc, kept)?.is_empty() {
+            if !set.is_subset(kept) {
                 return Ok(false);
             }
             independent(alloc, inner, set)
@@ -94,7 +94,7 @@ fn contraction_independent(
     requires below { AllBelow (element_count (tree_of inner.now)) set.now }
     ensures { IfOk result (λ b. b ≡ is_contracted (element_count (tree_of inner.now)) away.now (is_independent (tree_of inner.now)) set.now) }
 {
-    if set.minus(alloc, away)?.len() < set.len() {
+    if !set.is_disjoint(away) {
         return Ok(false);
     }
     let chosen = maximal_subset(alloc, inner, away)?;

@@ -1,9 +1,7 @@
 -- Sets that lie in what a restriction keeps, or share no member with what a contraction contracts: only these can be independent.
-use Rattle.std.proofs.Common.{◌≡◌, ℕ, ◌<◌, ◌≤◌, Bool, true, false, ◌&&◌, List, [], length, refl, sym, ap, ◌∙◌, arith}
+use Rattle.std.proofs.Common.{◌≡◌, ℕ, Bool, true, false, ◌&&◌, List, [], refl, sym, ap, ◌∙◌}
 use Rattle.std.proofs.lemmas.Bool.{and_parts, false_from_ne_true}
-use Rattle.std.proofs.lemmas.List.{nil_from_length}
-use Rattle.mat_sets.specs.Sets.{IsRising, IsSubset, minus, intersection}
-use Rattle.mat_sets.proofs.Cardinalities.{length-minus-intersection}
+use Rattle.mat_sets.specs.Sets.{IsRising, IsSubset, intersection}
 use Rattle.mat_sets.proofs.DisjointSets.{inside_test, inside_test_from}
 use Rattle.mat_minors.specs.Minors.{is_contracted, is_restricted}
 use Rattle.mat_minors.specs.ContractionLaws.{contraction-gives}
@@ -24,15 +22,3 @@ dependent_outside p kept X leaves = false_from_ne_true _ (λ h. leaves (inside_t
 pub dependent_where_met : (n : ℕ) (p : List ℕ → Bool) (away X : List ℕ) → IsRising away → (intersection X away ≡ [] → ⊥)
     → is_contracted n away p X ≡ false
 dependent_where_met n p away X r met = false_from_ne_true _ (λ h. met (contraction-gives n p away X r h).disjoint)
-
--- a set loses no member without another exactly where they are disjoint
-pub disjoint_where_kept : (X Y : List ℕ) → IsRising X → length X ≤ length (minus X Y) → intersection X Y ≡ []
-disjoint_where_kept X Y r l = nil_from_length _ (let e = length-minus-intersection X Y r in omega arith)
-
--- a set that loses a member is not independent in the contraction
-pub dependent_where_lost : (n : ℕ) (p : List ℕ → Bool) (away X : List ℕ) → IsRising X → IsRising away
-    → length (minus X away) < length X → is_contracted n away p X ≡ false
-dependent_where_lost n p away X r s l = dependent_where_met n p away X s (λ disjoint.
-    let none = ap length disjoint in
-    let e = length-minus-intersection X away r in
-    let no : ⊥ = absurd (omega arith) in no)

@@ -1,20 +1,37 @@
-use Rattle.std.proofs.Common.{◌≡◌, length, subst, sym, ap, ◌∙◌, rules, arith}
+use Rattle.std.proofs.Common.{◌≡◌, subst, sym, ap, ◌∙◌, rules}
+use Rattle.std.proofs.lemmas.Bool.{both_ways}
 use Rattle.std.proofs.lemmas.Result.{IfOk-weaker}
 use Rattle.mat_sets.specs.Sets.{AllBelow}
 use Rattle.mat_sets.proofs.Ground.{IsSet-union}
 use Rattle.mat_minors.specs.Minors.{is_contracted}
-use Rattle.mat_minors.proofs.Joining.{dependent_where_lost, disjoint_where_kept}
+use Rattle.mat_minors.proofs.Joining.{dependent_outside, dependent_where_met, restricted_inside}
 use Rattle.mat_minors.proofs.MinorRows.{contracted_apart}
 use Rattle.mat_any.specs.Trees.{element_count, is_independent}
 use Rattle.mat_any.specs.TreeLaws.{tree_laws}
 use Rattle.mat_any.specs.Views.{tree_of}
 use Rattle.mat_any.proofs.independence.+asking.Goals as goal
 
-pub contraction_independent-returns-then-len : goal.contraction_independent-returns-then-len
-contraction_independent-returns-then-len t c =
-    sym (dependent_where_lost _ (is_independent (tree_of c.args.inner.now)) c.args.away.now c.args.set.now
-    c.in_ok-minus.ensures.rises c.requires.away.rising
-    (omega (arith, c.if-len.true, c.len-2.ensures.count, c.len-3.ensures.count, ap length c.in_ok-minus.ensures.members)))
+pub independent-returns-then-not-is_subset : goal.independent-returns-then-not-is_subset
+independent-returns-then-not-is_subset t c =
+    let set = c.args.set.now in
+    let outside = dependent_outside (is_independent (tree_of c.in-Restrict.inner.value)) c.in-Restrict.kept set
+    (λ inside. both_ways _ c.if-not-is_subset.true (c.is_subset.ensures.inside.1 inside)) in
+    sym (ap (λ m. is_independent (tree_of m) set) c.in-Restrict.is ∙ outside)
+
+pub independent-returns-else-not-is_subset : goal.independent-returns-else-not-is_subset
+independent-returns-else-not-is_subset t c =
+    let set = c.args.set.now in
+    let p = is_independent (tree_of c.in-Restrict.inner.value) in
+    let same = restricted_inside p c.in-Restrict.kept set (c.is_subset.ensures.inside.0 c.if-not-is_subset.false) in
+    let within = ap (λ m. is_independent (tree_of m) set) c.deref-in-Restrict.ensures in
+    IfOk-weaker c.independent-in-Restrict.result (λ b. b ≡ is_independent (tree_of c.deref-in-Restrict.result.now) set)
+    (λ b. b ≡ is_independent (tree_of c.args.matroid.now) set)
+    (λ b told. told ∙ within ∙ same ∙ sym (ap (λ m. is_independent (tree_of m) set) c.in-Restrict.is)) c.independent-in-Restrict.ensures
+
+pub contraction_independent-returns-then-not-is_disjoint : goal.contraction_independent-returns-then-not-is_disjoint
+contraction_independent-returns-then-not-is_disjoint t c =
+    sym (dependent_where_met _ (is_independent (tree_of c.args.inner.now)) c.args.away.now c.args.set.now c.requires.away.rising
+    (λ apart. both_ways _ c.if-not-is_disjoint.true (c.is_disjoint.ensures.apart.1 apart)))
 
 pub contraction_independent-independent-requires : goal.contraction_independent-independent-requires
 contraction_independent-independent-requires t c =
@@ -31,10 +48,8 @@ contraction_independent-returns t c =
     let p = is_independent tree in
     let away = c.args.away.now in
     let set = c.args.set.now in
-    let rises = c.in_ok-minus.ensures.rises in
-    let disjoint = disjoint_where_kept set away rises
-    (omega (arith, c.if-len.false, c.len-2.ensures.count, c.len-3.ensures.count, ap length c.in_ok-minus.ensures.members)) in
+    let disjoint = c.is_disjoint.ensures.apart.0 c.if-not-is_disjoint.false in
     let apart = contracted_apart (tree_laws tree c.requires.sound) away _ c.requires.away c.in_ok-chosen.ensures set
-    (record { rising = rises; below = c.requires.below }) disjoint in
+    (record { rising = c.is_disjoint.ensures.rises; below = c.requires.below }) disjoint in
     IfOk-weaker c.independent.result (λ b. b ≡ p c.in_ok-joined.joined) (λ b. b ≡ is_contracted n away p set)
     (λ b told. told ∙ ap p c.in_ok-joined.ensures.members ∙ sym apart) c.independent.ensures
