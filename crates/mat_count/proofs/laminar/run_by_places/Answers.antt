@@ -60,7 +60,8 @@ loop-x-preserved c =
           rw w.numbers-is
           (rw (written_back c.loop-x.numbers.len w.count_at.new.numbers before (w.count_at.auto.numbers ∙ w.deref_mut.ensures.len))
           (laminar_run-entered run c.requires.sound.capped places c.requires.table x small inside refl full c.if-not-some_full.set refl
-          w.count_at.new.numbers (not-false (eqb (length full) 0) (sym asked ∙ w.if-not-some_full.true)) (sym w.in_ok-add.ensures.ok.0 ∙ w.if-branch.true)
+          w.count_at.new.numbers (not-false (eqb (length full) 0) (sym asked ∙ w.if-not-some_full.true))
+          (sym w.in_ok-add.ensures.ok.0 ∙ w.if-branch.true)
           (w.set-is ∙ w.in_ok-add.ensures.ok.1) (w.count_at.auto.numbers ∙ ap length w.deref_mut.ensures.value) counted)))
       | else-not-some_full w ↦ rw w.numbers-is (elim w.else-not-some_full.branch [
         | else-not-some_full-via-then-not-some_full+in_ok-add+else-branch v ↦
