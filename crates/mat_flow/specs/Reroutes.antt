@@ -11,7 +11,7 @@ use Rattle.mat_flow.specs.declared.reroutes.Reroutes.{Reroutes}
 abbrev pub reversed_arcs : List (ℕ × ℕ) → List (ℕ × ℕ)
 reversed_arcs arcs = map (λ arc. (arc.1, arc.0)) arcs
 
--- a table of the vertex before each vertex, of paths to exactly these ends
+-- the graph with its arcs turned round, and the vertex after each vertex in some table of disjoint paths to exactly these ends
 pub record AreReroutes (vertices : ℕ) (arcs : List (ℕ × ℕ)) (sources ends : List ℕ) (kept : Reroutes) : Type 0 where
   pub graph : IsGraph vertices arcs
   pub inside : AllBelow vertices sources

@@ -1,5 +1,5 @@
 -- The algorithm's own notions, by which its private functions are told: elimination with a list of columns (Gauss). No public contract
--- rests on them.
+-- but that of what is kept rests on them.
 use Rattle.std.specs.Prelude.{ℕ, nat_lt, if◌then◌else◌, List, [], ◌∷◌}
 use Rattle.std.specs.Int.Bits.{bit_xor}
 

@@ -1,5 +1,5 @@
 -- The algorithm's own notions, by which its private functions are told: columns with tags, whose bits say of which members of a set the
--- column is the sum. No public contract rests on them.
+-- column is the sum. No public contract but that of what is kept rests on them.
 use Rattle.std.specs.Prelude.{◌≡◌, ℕ, suc, ◌==◌, nat_lt, if◌then◌else◌, List, [], ◌∷◌}
 use Rattle.std.specs.Int.{bit_at}
 use Rattle.std.specs.Int.Bits.{bit_xor}

@@ -1,5 +1,5 @@
 -- The algorithm's own notions, by which its private functions are told: components that are merged, edge after edge. No public contract
--- rests on them.
+-- but that of what is kept rests on them.
 use Rattle.std.specs.Prelude.{ℕ, min, ◌||◌, ◌==◌, if◌then◌else◌, List, [], ◌∷◌}
 
 -- the least vertex of a component where it was r, after the components with the least vertices p and q have become one

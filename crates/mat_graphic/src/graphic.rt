@@ -159,7 +159,7 @@ impl Matroid for Graphic {
         Ok(are_forest(&mut parent, self.edges.as_slice(), set))
     }
 
-    /// The exchanges of an edge outside a forest: its trees are rooted, and the edge is asked.
+    /// The exchanges of an edge outside a forest: its trees are rooted, and the edge is asked. The only error is want of memory.
     fn circuit(&self, alloc: Global, base: &ElemSet, x: u32) -> Result<Exchange, AllocError> {
         let kept = self.keep(alloc, base)?;
         self.row(alloc, base, &kept, x)
@@ -173,7 +173,8 @@ impl Matroid for Graphic {
         forest_along(alloc, &mut parent, self.edges.as_slice(), order)
     }
 
-    /// The trees of a forest are rooted, in time linear in the numbers of vertices and of members.
+    /// The trees of a forest are rooted, in time linear in the numbers of vertices and of members. The only error is want of
+    /// memory.
     fn keep(&self, alloc: Global, base: &ElemSet) -> Result<RootedForest, AllocError> {
         self.lawful();
         root_trees(alloc, self.vertices, self.edges.as_slice(), base)
@@ -181,6 +182,7 @@ impl Matroid for Graphic {
 
     /// The exchanges of an edge outside a forest: where its ends are in two trees it can be added, and exchanged for any
     /// member; else it can be exchanged for the members of the trail between its ends, which are found by climbing from both.
+    /// The only error is want of memory.
     fn row(
         &self,
         alloc: Global,

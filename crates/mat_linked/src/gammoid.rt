@@ -113,7 +113,7 @@ fn members_at(
     Ok(found)
 }
 
-// The exchanges of an element at what is kept.
+// The exchanges of an element by what is kept.
 fn row_by_paths(
     alloc: Global,
     sources: &ElemSet,
@@ -231,8 +231,8 @@ impl Matroid for Gammoid {
         Ok(set)
     }
 
-    /// Disjoint paths to the vertices of the set: one search of the bits of the graph for each member. The only error is want of
-    /// memory.
+    /// Disjoint paths to the vertices of the set, one search of the bits of the graph for each member, and the graph with its arcs
+    /// turned round. The only error is want of memory.
     fn keep(&self, alloc: Global, base: &ElemSet) -> Result<KeptLinking, AllocError> {
         keep_paths(alloc, &self.graph, &self.sources, &self.targets, base)
     }
