@@ -28,3 +28,5 @@ pub mod Walking
 pub mod Changes
 pub mod WeightOrder
 pub mod WeightSums
+pub mod Crossings
+pub mod OneToOne

@@ -1,6 +1,7 @@
--- Graphs whose edges or arcs are numbered, walks along them, and spanning arborescences (Schrijver, chapters 1 and 52).
-use Rattle.std.specs.Prelude.{◌≡◌, ℕ, suc, ◌<◌, ◌^◌, ◌⊎◌, List, [], ◌∷◌, length, slice_index_or}
-use Rattle.mat_sets.specs.Sets.{IsSet, IsSubset}
+-- Graphs whose edges or arcs are numbered, walks along them, arcs that enter a vertex set, and spanning arborescences (Schrijver,
+-- chapters 3 and 52).
+use Rattle.std.specs.Prelude.{◌≡◌, ℕ, suc, ◌<◌, ◌^◌, ◌⊎◌, Bool, not, ◌&&◌, List, [], ◌∷◌, filter, length, slice_index_or}
+use Rattle.mat_sets.specs.Sets.{is_member, IsSet, IsSubset}
 
 -- the two ends of edge e; for an arc first its tail and then its head
 abbrev pub ends_of : List (ℕ × ℕ) → ℕ → ℕ × ℕ
@@ -31,6 +32,14 @@ pub record Reaches (ends : ℕ → ℕ × ℕ) (arcs : List ℕ) (v w : ℕ) : T
   pub along : List ℕ
   pub inside : IsSubset along arcs
   pub walk : DirectedWalk ends along v w
+
+-- whether arc a enters a vertex set: its head is inside, and its tail is not (Schrijver, chapter 3)
+abbrev pub enters : (ℕ → ℕ × ℕ) → List ℕ → ℕ → Bool
+enters ends cut a = is_member (ends a).1 cut && not (is_member (ends a).0 cut)
+
+-- the arcs among these that enter a vertex set (Schrijver, chapter 3)
+unfoldable pub entering : (ℕ → ℕ × ℕ) → List ℕ → List ℕ → List ℕ
+entering ends arcs cut = filter (enters ends cut) arcs
 
 -- a spanning arborescence: one arc fewer than there are vertices, along which the root reaches each vertex
 pub record IsSpanningArborescence (vertices count : ℕ) (ends : ℕ → ℕ × ℕ) (root : ℕ) (arcs : List ℕ) : Type 0 where

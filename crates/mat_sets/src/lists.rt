@@ -1,5 +1,5 @@
 //! Lists of pairs and of sets, seen as the list of their items.
-ghost use Rattle.std.specs.Prelude.{◌≡◌, ◌==◌, ◌<◌, length, slice_index_or, []};
+ghost use Rattle.std.specs.Prelude.{◌≡◌, ◌==◌, ◌<◌, length, map, slice_index_or, IfOk, []};
 ghost use Rattle.std.proofs.Common.{rules};
 ghost use Rattle.std.specs.Cmp.Lexicographic.{pointwise};
 ghost use Rattle.std.specs.Cmp.Rules.{comparing};
@@ -8,6 +8,7 @@ ghost use Rattle.mat_sets.specs.Families.{AllRising};
 ghost use Rattle.mat_sets.specs.Sets.{IsRising};
 
 use crate::elem_set::ElemSet;
+use std::alloc::{AllocError, Global};
 use std::marker::Model;
 
 /// A list of pairs, such as the ends of the edges of a graph or the cells of a table.
@@ -66,6 +67,28 @@ impl Pairs {
         ensures { result.now ≡ self.now }
     {
         self.items.as_slice()
+    }
+
+    /// The first number of each pair, such as the tail of each arc. The only error is want of memory; the time is linear.
+    pub fn firsts(&self, alloc: Global) -> Result<Vec<u32>, AllocError>
+        ensures { IfOk result (λ v. v.items ≡ map (λ p. p.0) self.now) }
+    {
+        self.items.iter().map(|pair| pair.0).collect(alloc)
+    }
+
+    /// The second number of each pair, such as the head of each arc. The only error is want of memory; the time is linear.
+    pub fn seconds(&self, alloc: Global) -> Result<Vec<u32>, AllocError>
+        ensures { IfOk result (λ v. v.items ≡ map (λ p. p.1) self.now) }
+    {
+        self.items.iter().map(|pair| pair.1).collect(alloc)
+    }
+
+    /// An equal list. The only error is want of memory; the time is linear.
+    pub fn copy(&self, alloc: Global) -> Result<Pairs, AllocError>
+        ensures { IfOk result (λ pairs. pairs ≡ self.now) }
+    {
+        let items = Vec::from_slice(alloc, self.items.as_slice())?;
+        Ok(Pairs { items })
     }
 }
 

@@ -91,6 +91,9 @@ fn lists_give_their_items(rt: HostRuntime) -> Result<(), Fail> {
     let pairs = Pairs::new(vec![in alloc; (0, 1), (1, 2)]?);
     assert_eq!(rt; pairs.len(), 2);
     assert_eq!(rt; pairs.get(1), (1, 2));
+    assert_eq!(rt; pairs.firsts(alloc)?.as_slice(), [0, 1].as_slice());
+    assert_eq!(rt; pairs.seconds(alloc)?.as_slice(), [1, 2].as_slice());
+    assert!(rt; pairs.copy(alloc)? == pairs);
     let sets = SetList::new(vec![in alloc; ElemSet::all_below(alloc, 2)?]?);
     assert_eq!(rt; sets.len(), 1);
     assert_eq!(rt; sets.get(0).as_slice(), [0, 1].as_slice());
