@@ -1,41 +1,16 @@
 //! The listed sets that an independent set fills.
 ghost use Rattle.std.specs.Prelude.{⊤, ◌≡◌, ◌<◌, length, slice_index_or, IfOk, MatchOption, None, Some};
-ghost use Rattle.mat_sets.specs.Sets.{intersection, AllBelow, IsRising};
+ghost use Rattle.mat_sets.specs.Sets.{AllBelow, IsRising};
 ghost use Rattle.mat_count.specs.FullSets.{AreFullSets, IsSmallest, kept_at, has_fewer, row_of_entry, where_full};
 
 use mat_laws::Exchange;
-use mat_sets::{BitSet, ElemSet, SetList};
+use mat_sets::{ElemSet, SetList};
 use std::alloc::{AllocError, Global};
 
 /// For each listed set (or class) its members in an independent set, where they are as many as its cap (Schrijver, chapter 39).
 #[derive(Debug, Drop)]
 pub struct FullSets {
     members: Vec<Option<ElemSet>>,
-}
-
-// The same set, one bit for each member.
-fn marks_of(alloc: Global, set: &ElemSet) -> Result<BitSet, AllocError>
-    ensures marks { IfOk result (λ marks. marks ≡ set.now) }
-    ensures rises { IfOk result (λ _. IsRising set.now) }
-{
-    let mut marks = BitSet::new(alloc);
-    for y in set.as_slice() {
-        marks.insert(*y)?;
-    }
-    Ok(marks)
-}
-
-// The members of the set that are marked. Each is put in at the end.
-fn marked_members(alloc: Global, set: &ElemSet, marks: &BitSet) -> Result<ElemSet, AllocError>
-    ensures { IfOk result (λ s. s ≡ intersection set.now marks.now) }
-{
-    let mut members = ElemSet::new(alloc);
-    for y in set.as_slice() {
-        if marks.contains(*y) {
-            members.add(*y)?;
-        }
-    }
-    Ok(members)
 }
 
 // The members, where they are as many as the cap.
@@ -60,10 +35,10 @@ impl FullSets {
         requires { length caps.now ≡ length sets.now }
         ensures { IfOk result (AreFullSets sets.now caps.now base.now) }
     {
-        let marks = marks_of(alloc, base)?;
+        let marks = base.to_bits(alloc)?;
         let mut full = Vec::with_capacity(alloc, sets.len())?;
         for i in 0..sets.len() {
-            let members = marked_members(alloc, sets.get(i), &marks)?;
+            let members = sets.get(i).among(alloc, &marks)?;
             full.push(if_full(members, caps[i]))?;
         }
         Ok(FullSets { members: full })

@@ -3,9 +3,9 @@
 use Rattle.std.proofs.Common.{◌≡◌, ℕ, ◌+◌, ◌<◌, Bool, true, false, ◌||◌, eqb, List, [], ◌∷◌, length, get_or, filter, take, is_none, Option, Some, None, inl, inr, refl, sym, ap, ◌∙◌, subst, arith}
 use Rattle.std.proofs.lemmas.Bool.{both_ways, cases_Bool, eq-eqb, eqb-true, false_from_ne_true, false≢true, or_cases, or_left, or_right}
 use Rattle.std.specs.List.{All}
-use Rattle.mat_sets.specs.Sets.{is_member, with_one, without_one, intersection, AllBelow, IsRising, IsSet}
+use Rattle.mat_sets.specs.Sets.{is_member, with_one, without_one, intersection, AllBelow, IsSet}
 use Rattle.mat_sets.specs.Walks.{IsReachedSet, IsShortestWalk}
-use Rattle.mat_sets.proofs.Filters.{filter-found, filter-passed, filter_whole}
+use Rattle.mat_sets.proofs.Filters.{filter_whole}
 use Rattle.mat_sets.proofs.Ground.{AllBelow-member, IsSet-with_one, IsSet-without_one}
 use Rattle.mat_sets.proofs.Members.{filter_same_at, is_member-with_one, set_members}
 use Rattle.mat_flow.specs.Digraphs.{row_at}
@@ -85,16 +85,6 @@ matched_among-passed matched indices i found l e so_far x =
     or_none false = refl
 
 -- ---- the members that are among some numbers
-
-pub intersection-found : (set among : List ℕ) (i : ℕ) → IsRising set → i < length set → is_member (get_or set i 0) among ≡ true
-    → with_one (intersection (take i set) among) (get_or set i 0) ≡ intersection (take (i + 1) set) among
-unfolding intersection
-intersection-found set among i r l m = filter-found (λ x. is_member x among) set i r l m
-
-pub intersection-passed : (set among : List ℕ) (i : ℕ) → i < length set → is_member (get_or set i 0) among ≡ false
-    → intersection (take i set) among ≡ intersection (take (i + 1) set) among
-unfolding intersection
-intersection-passed set among i l m = filter-passed (λ x. is_member x among) set i l m
 
 intersection_is : (p : ℕ → Bool) (X found : List ℕ) → ((y : ℕ) → is_member y X ≡ true → is_member y found ≡ p y)
     → intersection X found ≡ filter p X

@@ -1,7 +1,7 @@
 //! What a transversal matroid keeps of an independent set.
 ghost use Rattle.std.specs.Prelude.{◌≡◌, ◌<◌, ◌^◌, ℕ, List, true, false, length, IfOk};
 ghost use Rattle.std.specs.List.{All};
-ghost use Rattle.mat_sets.specs.Sets.{is_member, intersection, AllBelow, IsRising};
+ghost use Rattle.mat_sets.specs.Sets.{is_member, AllBelow, IsRising};
 ghost use Rattle.mat_laws.specs.Exchanges.{row_of};
 ghost use Rattle.mat_linked.specs.KeptMatchings.{IsKeptMatching};
 ghost use Rattle.mat_linked.specs.Matchings.{is_matched_among, AreIndices, AreMatchable, IsMatching};
@@ -37,21 +37,6 @@ fn matched_among(
         }
     }
     Ok(found)
-}
-
-// The members of a set that are among these numbers.
-fn members_among(alloc: Global, set: &[u32], among: &BitSet) -> Result<ElemSet, AllocError>
-    requires { IsRising set.now }
-    ensures members { IfOk result (λ s. s ≡ intersection set.now among.now) }
-    ensures rises { IfOk result (λ s. IsRising s) }
-{
-    let mut members = ElemSet::new(alloc);
-    for y in set {
-        if among.contains(*y) {
-            let _ = members.add(*y)?;
-        }
-    }
-    Ok(members)
 }
 
 impl KeptMatching {
@@ -108,7 +93,7 @@ impl KeptMatching {
             }
             WalkSearch::Reached(reached) => {
                 let found = matched_among(alloc, &self.matched, reached.as_slice())?;
-                let with = members_among(alloc, base.as_slice(), &found)?;
+                let with = base.among(alloc, &found)?;
                 Ok(Exchange {
                     addable: false,
                     with,

@@ -6,6 +6,7 @@ ghost use Rattle.std.specs.Cmp.Rules.{comparing};
 ghost use Rattle.mat_sets.specs.Places.{IsFirstFall};
 ghost use Rattle.mat_sets.specs.Sets.{all_below, intersection, is_member, minus, union, with_one, without_one, IsRising, IsSet, IsSubset};
 
+use crate::bit_set::BitSet;
 use crate::merging::{difference, is_disjoint, is_subset, merged};
 use crate::place::{place, place_to_add};
 use std::alloc::{AllocError, Global};
@@ -215,6 +216,35 @@ impl ElemSet {
     {
         let items = merged(alloc, &self.items, &other.items)?;
         Ok(ElemSet { items })
+    }
+
+    /// The members that are in a set of bits. The time is linear in the size. The only error is want of memory.
+    #[tactic(auto, using(crate::proofs::Members::set_rises), unfolding(crate::specs::Sets::intersection))]
+    pub fn among(&self, alloc: Global, bits: &BitSet) -> Result<ElemSet, AllocError>
+        ensures members { IfOk result (λ s. s ≡ intersection self.now bits.now) }
+        ensures set { IfOk result (λ s. IsRising s) }
+        ensures rises { IsRising self.now }
+    {
+        let items = self
+            .items
+            .iter()
+            .copied()
+            .filter(|y| bits.contains(*y))
+            .collect(alloc)?;
+        Ok(ElemSet { items })
+    }
+
+    /// The same set, one bit for each number up to the last member. The only error is want of memory.
+    pub fn to_bits(&self, alloc: Global) -> Result<BitSet, AllocError>
+        ensures members { IfOk result (λ bits. bits ≡ self.now) }
+        ensures rises { IsRising self.now }
+    {
+        let room = self.items.last().map_or(0, |last| last.saturating_add(1));
+        let mut bits = BitSet::with_capacity(alloc, room)?;
+        for x in self.as_slice() {
+            bits.insert(*x)?;
+        }
+        Ok(bits)
     }
 
     /// Whether each member is one of the other set. The time is linear in both sizes; it takes no memory.

@@ -142,6 +142,17 @@ fn sets_of_bits_are_copied_and_united(rt: HostRuntime) -> Result<(), Fail> {
     Ok(())
 }
 
+#[test]
+fn a_set_is_turned_into_bits_and_met_with_them(rt: HostRuntime) -> Result<(), Fail> {
+    let alloc = rt.alloc();
+    let set = ElemSet::from_members(alloc, &[2, 64, 70])?;
+    let bits = set.to_bits(alloc)?;
+    assert!(rt; bits.contains(2) && bits.contains(70) && !bits.contains(3));
+    let others = ElemSet::from_members(alloc, &[1, 2, 70, 90])?;
+    assert_eq!(rt; others.among(alloc, &bits)?.as_slice(), [2, 70].as_slice());
+    Ok(())
+}
+
 /// Arcs that lead 2 or 5 further, from 0 to a goal.
 struct Jumps {
     size: u32,

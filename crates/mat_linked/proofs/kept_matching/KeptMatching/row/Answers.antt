@@ -1,5 +1,4 @@
 use Rattle.std.proofs.Common.{sym, ap, ◌∙◌}
-use Rattle.mat_sets.specs.Sets.{intersection}
 use Rattle.mat_flow.specs.LinkTables.{entry_at}
 use Rattle.mat_linked.specs.Matchings.{is_matched_among}
 use Rattle.mat_linked.proofs.KeptRows.{row_added, row_reached}
@@ -29,4 +28,4 @@ returns-clause-row c = λ family size inside r passes.
     c.in_ok-with-in-Reached.with search.0 search.1
     (λ y. c.in_ok-found-in-Reached.ensures y ∙ ap (λ b. is_matched_among b c.as_slice.result.now y) c.deref-in-Reached.ensures.value
     ∙ ap (λ s. is_matched_among c.args.self.now.matched.items s y) c.as_slice.ensures.items)
-    (c.in_ok-with-in-Reached.ensures.members ∙ ap (λ s. intersection s c.in_ok-found-in-Reached.found) c.as_slice-in-Reached.ensures.items)
+    c.in_ok-with-in-Reached.ensures.members
