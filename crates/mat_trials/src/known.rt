@@ -9,12 +9,13 @@ ghost use Rattle.mat_any.specs.Views.{tree_of};
 
 use crate::routes::set_below;
 use mat_any::AnyMatroid;
+use mat_count::{Laminar, LaminarFault};
 use mat_gf2::Gf2;
 use mat_graphic::Graphic;
 use mat_greedy::heaviest_of;
 use mat_laws::{Matroid, grow_base, rank_of};
 use mat_minors::{Contraction, Dual, Restriction, Truncation};
-use mat_sets::{ElemSet, Pairs, Weight};
+use mat_sets::{ElemSet, Pairs, SetList, Weight};
 use std::alloc::{AllocError, Global};
 
 // A weight without a tie.
@@ -62,9 +63,9 @@ fn told_tests<M: Matroid>(alloc: Global, m: &M) -> Result<String, AllocError>
     format!(in alloc; "0 {zero} 1 {one} 2 {two} 01 {zero_one} 02 {zero_two} 12 {one_two}")
 }
 
-// What a run takes along this order, and there the exchanges of each element that it leaves: by what is kept, and whether those that
-// are asked for by themselves are the same.
-fn told_run<M: Matroid>(alloc: Global, m: &M, order: &[u32]) -> Result<String, AllocError>
+/// What a run takes along this order, and there the exchanges of each element that it leaves: by what is kept, and whether those that
+/// are asked for by themselves are the same.
+pub(crate) fn told_run<M: Matroid>(alloc: Global, m: &M, order: &[u32]) -> Result<String, AllocError>
     requires sound { M.sound m.now }
     requires below { AllBelow (M.ground_size m.now) order.now }
     requires distinct { AreDistinct order.now }
@@ -134,6 +135,41 @@ fn told_minors(alloc: Global) -> Result<String, AllocError> {
     format!(in alloc; "{truncation}{restriction}{contraction}")
 }
 
+// The least vertex that each of six vertices reaches along three edges that join four of them.
+fn told_components(alloc: Global) -> Result<String, AllocError> {
+    let edges = vec![in alloc; (0, 1), (1, 2), (2, 3), (3, 0), (4, 4), (0, 2), (4, 5)]?;
+    let graph = Graphic::new(alloc, 6, Pairs::new(edges))?;
+    let least = graph.components(alloc, &set_below(alloc, 7, &[1, 3, 4])?)?;
+    let mut text = String::from_str(alloc, "components")?;
+    for vertex in least.as_slice() {
+        text = format!(in alloc; "{text} {vertex}")?;
+    }
+    format!(in alloc; "{text}\n")
+}
+
+// The first fault of two sets on three elements, each with the cap 1.
+fn told_fault(alloc: Global, first: &[u32], second: &[u32]) -> Result<String, AllocError>
+    requires first { AllBelow 4 first.now }
+    requires second { AllBelow 4 second.now }
+{
+    let sets = vec![in alloc; set_below(alloc, 4, first)?, set_below(alloc, 4, second)?]?;
+    let caps = vec![in alloc; 1, 1]?;
+    match Laminar::new(alloc, 3, SetList::new(sets), caps) {
+        Ok(_) => String::from_str(alloc, "none"),
+        Err(LaminarFault::OutOfRange) => String::from_str(alloc, "out of range"),
+        Err(LaminarFault::Crossing { a, b }) => format!(in alloc; "{a} crosses {b}"),
+        Err(LaminarFault::Memory) => Err(AllocError),
+    }
+}
+
+// Two sets that cross, two that cross of which one has a member that is no element, and two that are equal.
+fn told_faults(alloc: Global) -> Result<String, AllocError> {
+    let crossing = told_fault(alloc, &[0, 1], &[1, 2])?;
+    let outside = told_fault(alloc, &[0, 1], &[1, 3])?;
+    let equal = told_fault(alloc, &[0, 1], &[0, 1])?;
+    format!(in alloc; "faults {crossing}, {outside}, {equal}\n")
+}
+
 // The ranks of the loop, of the parallel edges and of all.
 fn told_ranks(alloc: Global) -> Result<String, AllocError> {
     let graph = loop_and_parallel_edges(alloc)?;
@@ -192,14 +228,16 @@ fn told_found(alloc: Global, found: Option<ElemSet>) -> Result<String, AllocErro
     }
 }
 
-/// What is told of the known matroids, in eleven lines.
+/// What is told of the known matroids, in thirteen lines.
 pub(crate) fn known_report(alloc: Global) -> Result<String, AllocError> {
     let graph = told_graph(alloc)?;
     let any = told_any(alloc)?;
     let minors = told_minors(alloc)?;
+    let components = told_components(alloc)?;
+    let faults = told_faults(alloc)?;
     let ranks = told_ranks(alloc)?;
     let columns = told_columns(alloc)?;
     let base = told_base(alloc)?;
     let heaviest = told_heaviest(alloc)?;
-    format!(in alloc; "{graph}{any}{minors}{ranks}{columns}{base}{heaviest}")
+    format!(in alloc; "{graph}{any}{minors}{components}{faults}{ranks}{columns}{base}{heaviest}")
 }

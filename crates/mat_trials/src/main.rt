@@ -1,14 +1,16 @@
 //! The program `mat_trials`, a test: it runs the top call over the cases of the file `cases.txt`, the search for disjoint paths over
-//! the graphs of the files `routes_*.txt`, and the calls of matroids over small known ones, and prints what came of each. What it
-//! has to print was worked out without it. With names of descriptions as words it prints the lines of these alone.
+//! the graphs of the files `routes_*.txt`, and the calls of matroids over those of the files `kinds_*.txt` and over small known ones,
+//! and prints what came of each. What it has to print was worked out without it. With names of descriptions as words it prints the lines of these alone.
 #![tactic(auto)]
 
 mod cases;
+mod kinds;
 mod known;
 mod reports;
 mod routes;
 
 use crate::cases::cases_of;
+use crate::kinds::{KINDS, kinds_report};
 use crate::known::known_report;
 use crate::reports::report_of;
 use crate::routes::{ROUTES, route_report};
@@ -24,6 +26,14 @@ fn print_cases(rt: &HostRuntime) -> io::Result<()> {
         rt.stdout().write_all(report.as_slice())?;
     }
     Ok(())
+}
+
+// Prints the lines of the matroids of a description.
+fn print_kinds(rt: &HostRuntime, name: &str) -> io::Result<()> {
+    let text = fs::read(rt, name)?;
+    let report = kinds_report(rt.alloc(), text.as_slice())?;
+    println!(rt; "{name}")?;
+    rt.stdout().write_all(report.as_bytes())
 }
 
 // Prints the line of a description.
@@ -58,6 +68,9 @@ fn main(rt: HostRuntime) -> io::Result<()> {
     print_cases(&rt)?;
     for name in ROUTES.iter() {
         print_route(&rt, *name, true)?;
+    }
+    for name in KINDS.iter() {
+        print_kinds(&rt, *name)?;
     }
     let known = known_report(rt.alloc())?;
     rt.stdout().write_all(known.as_bytes())

@@ -30,8 +30,8 @@ pub(crate) const ROUTES: [&str; 10] = [
     "routes_9.txt",
 ];
 
-// The most bytes that a description may have.
-const LIMIT: usize = 4_194_304;
+/// The most bytes that a description may have.
+pub(crate) const LIMIT: usize = 4_194_304;
 
 /// The set of these members, each of which is below n.
 pub(crate) fn set_below(alloc: Global, n: u32, members: &[u32]) -> Result<ElemSet, AllocError>
