@@ -5,8 +5,6 @@ mod elimination;
 mod gf2;
 mod kept_basis;
 mod laws;
-#[cfg(test)]
-mod tests;
 
 pub use gf2::Gf2;
 pub use kept_basis::TaggedBasis;

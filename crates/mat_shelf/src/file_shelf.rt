@@ -106,29 +106,3 @@ impl<R: Files + Input> Shelf for FileShelf<'_, R> {
         }
     }
 }
-
-#[cfg(test)]
-mod tests {
-    use super::*;
-    use std::test::Fail;
-    use std::{env, fs, process};
-
-    #[test]
-    fn a_real_file_is_read_and_a_missing_one_is_counted(rt: HostRuntime) -> Result<(), Fail> {
-        let name = format!(in rt.alloc(); "mat_shelf_{}", process::id(rt.process()))?;
-        let mut path = env::temp_dir(&rt)?;
-        path.push(name.as_str())?;
-        fs::write(&rt, path.as_str(), b"abc".as_slice())?;
-        let mut shelf = FileShelf::new(&rt);
-        let mut into = [0; 4];
-        assert_eq!(rt; shelf.read("f", &mut into), Err(Failed));
-        assert_eq!(rt; shelf.open(path.as_str()), Ok(()));
-        assert_eq!(rt; shelf.read(path.as_str(), &mut into), Ok(3));
-        assert_eq!(rt; into, *b"abc\0");
-        assert_eq!(rt; shelf.read(path.as_str(), &mut into), Ok(0));
-        fs::remove_file(&rt, path.as_str())?;
-        assert_eq!(rt; shelf.open(path.as_str()), Err(Failed));
-        assert_eq!(rt; shelf.faults, 2);
-        Ok(())
-    }
-}

@@ -162,39 +162,3 @@ impl Shelf for MemShelf {
         self.read_file(name, into)
     }
 }
-
-#[cfg(test)]
-mod tests {
-    use super::*;
-    use crate::named_file::tests::one_file;
-    use std::test::Fail;
-
-    #[test]
-    fn a_step_of_one_gives_a_file_byte_by_byte(rt: HostRuntime) -> Result<(), Fail> {
-        let alloc = rt.alloc();
-        let files = one_file(alloc, "f", b"abc".as_slice())?;
-        let mut shelf = MemShelf::new(files, 1, Vec::new(alloc));
-        assert!(rt; shelf.open("f").is_ok());
-        let mut into = [0; 4];
-        assert_eq!(rt; shelf.read("f", &mut into), Ok(1));
-        assert_eq!(rt; into[0], b'a');
-        assert_eq!(rt; shelf.read("f", &mut into), Ok(1));
-        assert_eq!(rt; into[0], b'b');
-        assert_eq!(rt; shelf.read("f", &mut into), Ok(1));
-        assert_eq!(rt; into, *b"c\0\0\0");
-        assert_eq!(rt; shelf.read("f", &mut into), Ok(0));
-        Ok(())
-    }
-
-    #[test]
-    fn a_missing_name_is_counted_with_all_other_names(rt: HostRuntime) -> Result<(), Fail> {
-        let alloc = rt.alloc();
-        let files = one_file(alloc, "f", b"abc".as_slice())?;
-        let mut shelf = MemShelf::new(files, 9, vec![in alloc; 2]?);
-        assert!(rt; shelf.open("f").is_ok());
-        assert_eq!(rt; shelf.read("f", &mut [0; 4]), Err(Failed));
-        assert_eq!(rt; shelf.open("g"), Err(Failed));
-        assert_eq!(rt; shelf.other_faults, 1);
-        Ok(())
-    }
-}

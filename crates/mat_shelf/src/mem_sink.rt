@@ -103,22 +103,3 @@ impl Sink for MemSink {
         Ok(count)
     }
 }
-
-#[cfg(test)]
-mod tests {
-    use super::*;
-    use std::test::Fail;
-
-    #[test]
-    fn a_step_of_one_takes_two_bytes_before_the_third_call_fails(
-        rt: HostRuntime,
-    ) -> Result<(), Fail> {
-        let alloc = rt.alloc();
-        let mut sink = MemSink::new(alloc, 100, 1, vec![in alloc; 3]?)?;
-        assert_eq!(rt; sink.put(b"certificate".as_slice()), Ok(1));
-        assert_eq!(rt; sink.put(b"ertificate".as_slice()), Ok(1));
-        assert_eq!(rt; sink.put(b"rtificate".as_slice()), Err(Failed));
-        assert_eq!(rt; sink.taken(), b"ce".as_slice());
-        Ok(())
-    }
-}

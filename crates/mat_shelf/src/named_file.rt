@@ -95,23 +95,3 @@ pub(crate) fn copy_from(bytes: &[u8], from: usize, most: usize, into: &mut [u8])
     into[..count].copy_from_slice(&bytes[from..from + count]);
     count
 }
-
-#[cfg(test)]
-pub(crate) mod tests {
-    use super::*;
-    use std::alloc::{AllocError, Global};
-
-    /// A list of one file, of which the tests make a shelf.
-    pub(crate) fn one_file(
-        alloc: Global,
-        name: &str,
-        bytes: &[u8],
-    ) -> Result<Vec<NamedFile>, AllocError>
-        ensures { IfOk result (λ files. HaveDifferentNames files.items) }
-    {
-        let file = NamedFile::new(String::from_str(alloc, name)?, bytes.to_vec(alloc)?);
-        let mut files = Vec::new(alloc);
-        files.push(file)?;
-        Ok(files)
-    }
-}

@@ -99,26 +99,3 @@ impl Shelf for SureShelf {
         Ok(count)
     }
 }
-
-#[cfg(test)]
-mod tests {
-    use super::*;
-    use crate::named_file::tests::one_file;
-    use std::test::Fail;
-
-    #[test]
-    fn every_other_name_holds_the_same_bytes(rt: HostRuntime) -> Result<(), Fail> {
-        let alloc = rt.alloc();
-        let files = one_file(alloc, "f", b"abc".as_slice())?;
-        let mut shelf = SureShelf::new(files, b"zz".to_vec(alloc)?);
-        let mut into = [0; 4];
-        assert_eq!(rt; shelf.read("f", &mut into), Ok(0));
-        assert_eq!(rt; shelf.open("f"), Ok(()));
-        assert_eq!(rt; shelf.read("f", &mut into), Ok(3));
-        assert_eq!(rt; into, *b"abc\0");
-        assert_eq!(rt; shelf.open("g"), Ok(()));
-        assert_eq!(rt; shelf.read("g", &mut into), Ok(2));
-        assert_eq!(rt; into, *b"zzc\0");
-        Ok(())
-    }
-}

@@ -74,19 +74,3 @@ impl Sink for SureSink {
         Ok(piece.len())
     }
 }
-
-#[cfg(test)]
-mod tests {
-    use super::*;
-    use std::test::Fail;
-
-    #[test]
-    fn pieces_are_taken_whole(rt: HostRuntime) -> Result<(), Fail> {
-        let mut sink = SureSink::new(rt.alloc(), 4)?;
-        assert_eq!(rt; sink.put(b"yes".as_slice()), Ok(3));
-        assert_eq!(rt; sink.put(b"!".as_slice()), Ok(1));
-        assert_eq!(rt; sink.taken(), b"yes!".as_slice());
-        assert_eq!(rt; sink.put(b"more".as_slice()), Ok(4));
-        Ok(())
-    }
-}

@@ -47,19 +47,3 @@ pub fn line_laws()
     ensures one_text { (first : List (List (List ℕ))) (second : List (List (List ℕ))) → AreLines first → AreLines second
         → text_of first ≡ text_of second → first ≡ second }
 {}
-
-#[cfg(test)]
-mod tests {
-    use super::*;
-
-    #[test]
-    fn walks_the_lines_of_a_text(rt: HostRuntime) {
-        let text = b"a b\n\nend".as_slice();
-        assert_eq!(rt; next_line(text, 0), Some(3));
-        assert_eq!(rt; next_line(text, 4), Some(4));
-        assert_eq!(rt; next_line(text, 5), None);
-        assert!(rt; split_line(text) == Some((b"a b".as_slice(), b"\nend".as_slice())));
-        assert!(rt; split_line(b"\nend") == Some((b"".as_slice(), b"end".as_slice())));
-        assert!(rt; split_line(b"end").is_none());
-    }
-}

@@ -84,33 +84,3 @@ pub fn word_laws()
         × IsTrue (is_well_spaced (join_with_byte 32 words))
         × HasNoNewline (join_with_byte 32 words) }
 {}
-
-#[cfg(test)]
-mod tests {
-    use super::*;
-
-    #[test]
-    fn walks_the_words_of_a_line(rt: HostRuntime) {
-        let line = b"edge 3 14".as_slice();
-        assert!(rt; well_spaced(line));
-        let (first, rest) = split_word(line);
-        assert!(rt; first == b"edge".as_slice());
-        assert!(rt; rest == Some(b"3 14".as_slice()));
-        assert!(rt; split_word(b"14").1.is_none());
-        assert!(rt; well_spaced(b""));
-        let others: [&[u8]; 6] = [b" a", b"a ", b" ", b"a  b", b"a\tb", b"a\x7f"];
-        for line in others {
-            assert!(rt; !well_spaced(line));
-        }
-    }
-
-    #[test]
-    fn finds_the_word_at_a_place(rt: HostRuntime) {
-        let line = b"edge 3 14".as_slice();
-        assert!(rt; well_spaced(line));
-        assert!(rt; word_at(line, 0) == Some(b"edge".as_slice()));
-        assert!(rt; word_at(line, 2) == Some(b"14".as_slice()));
-        assert!(rt; word_at(line, 3).is_none());
-        assert!(rt; word_at(b"", 0).is_none());
-    }
-}

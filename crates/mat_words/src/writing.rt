@@ -130,26 +130,3 @@ pub fn put_members_line(
     }
     written
 }
-
-#[cfg(test)]
-mod tests {
-    use super::*;
-    use std::test::Fail;
-
-    #[test]
-    fn writes_a_line_behind_another(rt: HostRuntime) -> Result<(), Fail> {
-        let mut out = Vec::new(rt.alloc());
-        put_members_line(&mut out, b"set", &[3, 0])?;
-        put_numbers_line(&mut out, b"pair", &[-5, 0])?;
-        put_weights_line(
-            &mut out,
-            b"weights",
-            &[Weight { main: 2, tie: -1 }, Weight::ZERO],
-        )?;
-        assert_eq!(rt;
-            out.as_slice(),
-            b"set 3 0\npair -5 0\nweights 2:-1 0\n".as_slice()
-        );
-        Ok(())
-    }
-}
