@@ -4,6 +4,7 @@ pub mod WeightChanges
 pub mod CutsWithoutSlack
 pub mod LeastSlacks
 pub mod RowExchanges
+mod ComputedRows
 pub mod RowTables
 pub mod TableSteps
 pub mod HeaviestAddable

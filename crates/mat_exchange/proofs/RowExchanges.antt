@@ -124,14 +124,7 @@ module _ {n : ℕ} {p : List ℕ → Bool} (laws : IsMatroid n p) (I : List ℕ)
     ];
   }
 
-  -- the row of one element
-  pub row-below : p I ≡ true → (x : ℕ) (row : Exchange) → x < n → row ≡ row_of p I x → AllBelow n row.with
-  row-below ok x row l e = subst (λ (r : Exchange). AllBelow n r.with) (row_in-rows_of n p I x l ∙ sym e)
+  -- a row tells members of the set alone
+  pub rows-below : p I ≡ true → (rows : List Exchange) → rows ≡ rows_of n p I → (x : ℕ) → AllBelow n (row_in rows x).with
+  rows-below ok rows is x = subst (λ r. AllBelow n (row_in r x).with) (sym is)
       (AllBelow-from_members n _ (λ y m. below_member (laws.sets I ok) ((IsTableAt-rows_of ok).member y x m)))
-
-  pub row-whole : p I ≡ true → (x : ℕ) (row : Exchange) (base : List ℕ) → x < n → row ≡ row_of p I x → base ≡ I
-      → row.addable ≡ true
-      → row.with ≡ base
-  row-whole ok x row base l e is h =
-      let same = row_in-rows_of n p I x l ∙ sym e in
-      sym (ap (λ (r : Exchange). r.with) same) ∙ (AreWhole-rows_of ok).whole x (ap (λ (r : Exchange). r.addable) same ∙ h) ∙ sym is

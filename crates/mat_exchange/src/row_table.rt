@@ -5,6 +5,7 @@ ghost use Rattle.mat_laws.specs.TightPaths.{exchanges_in, row_in};
 ghost use Rattle.mat_laws.specs.declared.exchange.Exchange.{Exchange};
 ghost use Rattle.mat_exchange.specs.RowTables.{set_at, AreUnited, AreWhole, IsEntered, IsFilled};
 
+use crate::bits::bits_of_members;
 use mat_laws::Exchange;
 use mat_sets::{BitSet, ElemSet};
 use std::alloc::{AllocError, Global};
@@ -76,7 +77,7 @@ fn enter_addable(columns: &mut [BitSet], base: &ElemSet, addable: &BitSet) -> Re
 
 /// A table of which the rows of the first elements are entered. The elements that can be added do not yet stand in the columns.
 #[derive(Debug, Drop)]
-pub(crate) struct PartialTable {
+struct PartialTable {
     addable: BitSet,
     rows: Vec<BitSet>,
     columns: Vec<BitSet>,
@@ -84,7 +85,7 @@ pub(crate) struct PartialTable {
 
 impl PartialTable {
     /// No row of n elements.
-    pub(crate) fn new(alloc: Global, n: u32) -> Result<PartialTable, AllocError>
+    fn new(alloc: Global, n: u32) -> Result<PartialTable, AllocError>
         ensures { IfOk result (λ t. (exchanges : List Exchange) → length exchanges ≡ n
             → IsFilled exchanges 0 t.addable t.rows.items t.columns.items) }
     {
@@ -96,7 +97,7 @@ impl PartialTable {
     }
 
     /// Enters the row of x, the next element. The row of one that can be added is the whole base, and is copied from its bits.
-    pub(crate) fn enter(
+    fn enter(
         &mut self,
         alloc: Global,
         x: u32,
@@ -122,7 +123,7 @@ impl PartialTable {
     }
 
     /// The table, once all rows are entered. The time is that of the words of a row for each member of the base.
-    pub(crate) fn finish(self, base: &ElemSet) -> Result<RowTable, AllocError>
+    fn finish(self, base: &ElemSet) -> Result<RowTable, AllocError>
         requires below { AllBelow (length self.columns.items) base.now }
         requires filled { (exchanges : List Exchange) × IsFilled exchanges (length exchanges) self.addable self.rows.items self.columns.items
             × AreWhole base.now exchanges }
@@ -142,6 +143,28 @@ impl PartialTable {
             columns,
         })
     }
+}
+
+/// The table of these rows of all elements, at a base. The time is that of the words of the table and of the members of the rows. The
+/// only error is want of memory.
+pub(crate) fn table_of(
+    alloc: Global,
+    exchanges: &[Exchange],
+    base: &ElemSet,
+) -> Result<RowTable, AllocError>
+    requires few { length exchanges.now ≤ 500 }
+    requires base { AllBelow (length exchanges.now) base.now }
+    requires below { (x : ℕ) → AllBelow (length exchanges.now) (row_in exchanges.now x).with }
+    requires whole { AreWhole base.now exchanges.now }
+    ensures { IfOk result (λ t. t ≡ exchanges.now) }
+{
+    let n = exchanges.len() as u32;
+    let bits = bits_of_members(alloc, n, base)?;
+    let mut table = PartialTable::new(alloc, n)?;
+    for x in 0..n {
+        table.enter(alloc, x, &exchanges[x as usize], &bits)?;
+    }
+    table.finish(base)
 }
 
 impl RowTable {

@@ -4,9 +4,9 @@ ghost use Rattle.std.specs.Prelude.{◌≡◌, ◌^◌, length, IfOk};
 ghost use Rattle.mat_sets.specs.Sets.{AllBelow};
 ghost use Rattle.mat_sets.specs.Weights.{AreWeightsWithin};
 
-use crate::row_table::RowTable;
+use crate::row_table::{RowTable, table_of};
 use crate::slack::least_slack;
-use crate::tests::{table_of, weight};
+use crate::tests::weight;
 use mat_laws::Exchange;
 use mat_sets::{ElemSet, Weight};
 use std::alloc::{AllocError, Global};

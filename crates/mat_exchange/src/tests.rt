@@ -1,38 +1,13 @@
 //! Each call once, with ample memory.
-ghost use Rattle.std.specs.Prelude.{◌≡◌, ◌≤◌, ℕ, [], length, IfOk};
-ghost use Rattle.mat_sets.specs.Sets.{AllBelow};
-ghost use Rattle.mat_laws.specs.TightPaths.{row_in};
-ghost use Rattle.mat_exchange.specs.RowTables.{AreWhole};
+ghost use Rattle.std.specs.Prelude.{◌≡◌, [], IfOk};
 ghost use Rattle.mat_exchange.specs.Tables.{IsTableAt};
 
-use crate::bits::bits_of_members;
-use crate::row_table::PartialTable;
+use crate::row_table::table_of;
 use crate::{Found, RowTable, tight_search};
 use mat_laws::Exchange;
 use mat_sets::{ElemSet, Weight};
 use std::alloc::{AllocError, Global};
 use std::test::Fail;
-
-/// The table of these rows at a base.
-pub(crate) fn table_of(
-    alloc: Global,
-    exchanges: &[Exchange],
-    base: &ElemSet,
-) -> Result<RowTable, AllocError>
-    requires few { length exchanges.now ≤ 500 }
-    requires base { AllBelow (length exchanges.now) base.now }
-    requires below { (x : ℕ) → AllBelow (length exchanges.now) (row_in exchanges.now x).with }
-    requires whole { AreWhole base.now exchanges.now }
-    ensures { IfOk result (λ t. t ≡ exchanges.now) }
-{
-    let n = exchanges.len() as u32;
-    let bits = bits_of_members(alloc, n, base)?;
-    let mut table = PartialTable::new(alloc, n)?;
-    for x in 0..n {
-        table.enter(alloc, x, &exchanges[x as usize], &bits)?;
-    }
-    table.finish(base)
-}
 
 #[test]
 fn a_table_tells_rows_and_columns(rt: HostRuntime) -> Result<(), Fail> {

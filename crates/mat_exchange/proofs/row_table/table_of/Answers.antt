@@ -4,7 +4,7 @@ use Rattle.mat_sets.specs.Sets.{AllBelow}
 use Rattle.mat_laws.specs.declared.exchange.Exchange.{Exchange}
 use Rattle.mat_exchange.specs.RowTables.{IsFilled}
 use Rattle.mat_exchange.proofs.TableSteps.{ok_gives}
-use Rattle.mat_exchange.proofs.tests.table_of.Goals as goal
+use Rattle.mat_exchange.proofs.row_table.table_of.Goals as goal
 
 pub loop-x-init : goal.loop-x-init
 loop-x-init c = c.in_ok-table.ensures c.args.exchanges.now (omega (arith, c.requires.few))

@@ -1,7 +1,0 @@
-use Rattle.mat_laws.specs.Exchanges.{rows_of}
-use Rattle.mat_exchange.specs.RowTables.{IsFilled}
-use Rattle.mat_exchange.proofs.exchanges.rows.Given as goal
-
-abbrev pub invariant-loop-x : goal.invariant-loop-x
-invariant-loop-x g l =
-    IsFilled (rows_of (g.M.Matroid.ground_size l.m) (g.M.Matroid.indep l.m) l.set) l.x l.table.addable l.table.rows.items l.table.columns.items
