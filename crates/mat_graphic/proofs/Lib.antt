@@ -6,3 +6,4 @@ pub mod TrailTables
 pub mod TrailScans
 pub mod GraphicRuns
 pub mod Climbing
+pub mod ForestSizes
