@@ -7,15 +7,18 @@ pub(crate) const VERSION: &str = "matbench 0.1.0\n";
 pub(crate) const HELP: &str = "\
 matbench: weighted optimisation over matroids, with answers that are proved best
 
-usage: matbench show FILE          the canonical text of a description
-       matbench best FILE          a heaviest set of each size that is independent in one matroid
-       matbench intersect FILE     a heaviest set of each size that is independent in both matroids
-       matbench check FILE CERT    whether a certificate is right for a description: yes, or what fails of it
-       matbench --help             this text
-       matbench --version          the version
+usage: matbench show FILE                          the canonical text of a description
+       matbench best [--workers N] FILE            a heaviest set of each size that is independent in one matroid
+       matbench intersect [--workers N] FILE       a heaviest set of each size that is independent in both matroids
+       matbench check [--workers N] FILE CERT      whether a certificate is right for a description: yes, or what
+                                                   fails of it
+       matbench --help                             this text
+       matbench --version                          the version
 
 FILE is the name of a description, CERT that of a certificate, and - is standard input. What a command gives is
-written to standard output.
+written to standard output. N is from 1 to 16: so many workers compute the answer side by side, where there is
+enough to do; without the option there is one. Right behind a command --workers is always the option, and names no
+file; show takes none.
 
 A description is a text. Each line ends with a newline, and its words have one space between them.
     matroids 1                     the version of the format

@@ -56,7 +56,7 @@ fn main(rt: HostRuntime) -> ExitCode {
     let mut files = FileShelf::new(&rt);
     let mut out = StreamSink::new(rt.stdout());
     let mut notes = StreamSink::new(rt.stderr());
-    let status = run(rt.alloc(), &words, &mut files, &mut out, &mut notes);
+    let status = run(&rt, rt.alloc(), &words, &mut files, &mut out, &mut notes);
     ExitCode::from(status.number())
 }
 
@@ -86,9 +86,9 @@ mod tests {
         let help = text_for(rt.alloc(), &["--help"])?.unwrap_or("");
         let parts = [
             "matbench show FILE",
-            "matbench best FILE",
-            "matbench intersect FILE",
-            "matbench check FILE CERT",
+            "matbench best [--workers N] FILE",
+            "matbench intersect [--workers N] FILE",
+            "matbench check [--workers N] FILE CERT",
             "matbench --help",
             "matbench --version",
             "\n    0  done\n    1  the certificate is not right",

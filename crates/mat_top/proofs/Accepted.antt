@@ -27,8 +27,8 @@ solution_accepted instance answer solution = (
   solution.right,
 )
 
-pub solution_checked : (held : List ℕ → Option (List ℕ)) (line : commands.CommandLine) (file other bytes text : List ℕ) (instance : Instance)
-    → held file ≡ Some bytes → IsDescribed bytes instance → IsSolutionText line instance text → held other ≡ Some text
+pub solution_checked : (held : List ℕ → Option (List ℕ)) (task : commands.Task) (file other bytes text : List ℕ) (instance : Instance)
+    → held file ≡ Some bytes → IsDescribed bytes instance → IsSolutionText task instance text → held other ≡ Some text
     → IsOutcome held (Some (commands.check file other)) statuses.Done
-solution_checked held line file other bytes text instance at described solved there =
+solution_checked held task file other bytes text instance at described solved there =
     rw at (inr (instance, described, rw there (rw solved.whole (solution_accepted instance solved.certificate solved.solution))))

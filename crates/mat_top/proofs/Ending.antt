@@ -7,7 +7,7 @@ use Rattle.mat_top.specs.declared.status.Status.{Status}
 use Rattle.mat_top.specs.declared.status.Status.TheVariants as statuses
 use Rattle.mat_top.specs.declared.status.Refusal.{Refusal}
 use Rattle.mat_top.specs.declared.status.Refusal.TheVariants as refusals
-use Rattle.mat_top.specs.CommandLines.{CommandLine}
+use Rattle.mat_top.specs.CommandLines.{Task}
 use Rattle.mat_top.specs.Statuses.{status_of, note_of}
 use Rattle.mat_top.specs.Outcomes.{CallReaches, Tells, IsOutcome, IsStatus, IsWritten, IsNote, IsNoted, IsTrueOf}
 use Rattle.mat_top.specs.Refusals.{IsRefusal, IsPut, MayBeWritten, IsEnded}
@@ -21,43 +21,43 @@ status_at (Ok done) = statuses.Done
 status_at (Err refusal) = status_of refusal
 
 -- a text was written, or a prefix of it
-pub ended-put : (held : List ℕ → Option (List ℕ)) (line : CommandLine) (before now : List ℕ → ℕ) (old : Option (List ℕ))
+pub ended-put : (held : List ℕ → Option (List ℕ)) (task : Task) (before now : List ℕ → ℕ) (old : Option (List ℕ))
     (out_before : ℕ) (new : Option (List ℕ)) (out_now : ℕ) (text : List ℕ) (end : Ended)
-    → MayBeWritten held line text → IsPut text old out_before new out_now end → IsEnded held line before now old out_before new out_now end
-ended-put held line before now old out_before new out_now text (Ok done) may put = (text, may, put)
-ended-put held line before now old out_before new out_now text (Err refusals.WriteFault) may put = (text, may, put.0, put.1)
-ended-put held line before now old out_before new out_now text (Err refusals.Usage) may put = absurd put
-ended-put held line before now old out_before new out_now text (Err (refusals.BadDescription kind number)) may put = absurd put
-ended-put held line before now old out_before new out_now text (Err (refusals.BadCertificate kind number)) may put = absurd put
-ended-put held line before now old out_before new out_now text (Err (refusals.No reason first second)) may put = absurd put
-ended-put held line before now old out_before new out_now text (Err refusals.ReadFault) may put = absurd put
-ended-put held line before now old out_before new out_now text (Err refusals.Memory) may put = absurd put
-ended-put held line before now old out_before new out_now text (Err refusals.TooLong) may put = absurd put
-ended-put held line before now old out_before new out_now text (Err refusals.WrongShape) may put = absurd put
+    → MayBeWritten held task text → IsPut text old out_before new out_now end → IsEnded held task before now old out_before new out_now end
+ended-put held task before now old out_before new out_now text (Ok done) may put = (text, may, put)
+ended-put held task before now old out_before new out_now text (Err refusals.WriteFault) may put = (text, may, put.0, put.1)
+ended-put held task before now old out_before new out_now text (Err refusals.Usage) may put = absurd put
+ended-put held task before now old out_before new out_now text (Err (refusals.BadDescription kind number)) may put = absurd put
+ended-put held task before now old out_before new out_now text (Err (refusals.BadCertificate kind number)) may put = absurd put
+ended-put held task before now old out_before new out_now text (Err (refusals.No reason first second)) may put = absurd put
+ended-put held task before now old out_before new out_now text (Err refusals.ReadFault) may put = absurd put
+ended-put held task before now old out_before new out_now text (Err refusals.Memory) may put = absurd put
+ended-put held task before now old out_before new out_now text (Err refusals.TooLong) may put = absurd put
+ended-put held task before now old out_before new out_now text (Err refusals.WrongShape) may put = absurd put
 
 -- there was no text
-pub ended-refused : (held : List ℕ → Option (List ℕ)) (line : CommandLine) (before now : List ℕ → ℕ) (old : Option (List ℕ))
+pub ended-refused : (held : List ℕ → Option (List ℕ)) (task : Task) (before now : List ℕ → ℕ) (old : Option (List ℕ))
     (out_before : ℕ) (out_now : ℕ) (refusal : Refusal)
-    → IsRefusal held line before now refusal → IsEnded held line before now old out_before old out_now (Err refusal)
-ended-refused held line before now old out_before out_now refusals.WriteFault cause = absurd cause
-ended-refused held line before now old out_before out_now refusals.Usage cause = absurd cause
-ended-refused held line before now old out_before out_now (refusals.BadDescription kind number) cause = (cause, refl)
-ended-refused held line before now old out_before out_now (refusals.BadCertificate kind number) cause = (cause, refl)
-ended-refused held line before now old out_before out_now (refusals.No reason first second) cause = (cause, refl)
-ended-refused held line before now old out_before out_now refusals.ReadFault cause = (cause, refl)
-ended-refused held line before now old out_before out_now refusals.Memory cause = (cause, refl)
-ended-refused held line before now old out_before out_now refusals.TooLong cause = (cause, refl)
-ended-refused held line before now old out_before out_now refusals.WrongShape cause = (cause, refl)
+    → IsRefusal held task before now refusal → IsEnded held task before now old out_before old out_now (Err refusal)
+ended-refused held task before now old out_before out_now refusals.WriteFault cause = absurd cause
+ended-refused held task before now old out_before out_now refusals.Usage cause = absurd cause
+ended-refused held task before now old out_before out_now (refusals.BadDescription kind number) cause = (cause, refl)
+ended-refused held task before now old out_before out_now (refusals.BadCertificate kind number) cause = (cause, refl)
+ended-refused held task before now old out_before out_now (refusals.No reason first second) cause = (cause, refl)
+ended-refused held task before now old out_before out_now refusals.ReadFault cause = (cause, refl)
+ended-refused held task before now old out_before out_now refusals.Memory cause = (cause, refl)
+ended-refused held task before now old out_before out_now refusals.TooLong cause = (cause, refl)
+ended-refused held task before now old out_before out_now refusals.WrongShape cause = (cause, refl)
 
-module _ (held : List ℕ → Option (List ℕ)) (line : CommandLine) (before now : List ℕ → ℕ) (old : Option (List ℕ)) (out_before : ℕ)
+module _ (held : List ℕ → Option (List ℕ)) (task : Task) (before now : List ℕ → ℕ) (old : Option (List ℕ)) (out_before : ℕ)
     (new : Option (List ℕ)) (out_now : ℕ) where
   abbrev Here : Ended → Type 0
-  Here end = IsEnded held line before now old out_before new out_now end
+  Here end = IsEnded held task before now old out_before new out_now end
 
   -- the outcome is reached, or there is a cause
-  pub ended-outcome : (end : Ended) → Here end → Tells held (Some line)
-      → ((name : List ℕ) → CallReaches held (Some line) name → ¬ (Rose (before name) (now name)))
-      → ¬ (Rose out_before out_now) → IsOutcome held (Some line) (status_at end) ⊎ (status_at end ≡ statuses.Memory)
+  pub ended-outcome : (end : Ended) → Here end → Tells held (Some task)
+      → ((name : List ℕ) → CallReaches held (Some task) name → ¬ (Rose (before name) (now name)))
+      → ¬ (Rose out_before out_now) → IsOutcome held (Some task) (status_at end) ⊎ (status_at end ≡ statuses.Memory)
   ended-outcome (Ok d) (text, may, put) some calm quiet = inl (may.outcome some)
   ended-outcome (Err refusals.WriteFault) (text, may, put, rose) some calm quiet = absurd (quiet rose)
   ended-outcome (Err refusals.Usage) e some calm quiet = absurd e.0
@@ -69,7 +69,7 @@ module _ (held : List ℕ → Option (List ℕ)) (line : CommandLine) (before no
   ended-outcome (Err refusals.TooLong) e some calm quiet = inl (e.0.0 some)
   ended-outcome (Err refusals.WrongShape) e some calm quiet = inl (e.0.0 some)
 
-  pub ended-status : (end : Ended) → Here end → Tells held (Some line) → IsStatus held (Some line) (status_at end)
+  pub ended-status : (end : Ended) → Here end → Tells held (Some task) → IsStatus held (Some task) (status_at end)
   ended-status (Ok d) (text, may, put) some = may.outcome some
   ended-status (Err refusals.WriteFault) (text, may, put, rose) some = may.outcome some
   ended-status (Err refusals.Usage) e some = absurd e.0
@@ -81,7 +81,7 @@ module _ (held : List ℕ → Option (List ℕ)) (line : CommandLine) (before no
   ended-status (Err refusals.TooLong) e some = e.0.0 some
   ended-status (Err refusals.WrongShape) e some = e.0.0 some
 
-  pub ended-written : (end : Ended) → Here end → IsWritten held (Some line) old new (status_at end)
+  pub ended-written : (end : Ended) → Here end → IsWritten held (Some task) old new (status_at end)
   ended-written (Ok d) (text, may, put) = (text, may.output, put)
   ended-written (Err refusals.WriteFault) (text, may, put, rose) = (text, may.output, put)
   ended-written (Err refusals.Usage) e = absurd e.0
@@ -94,7 +94,7 @@ module _ (held : List ℕ → Option (List ℕ)) (line : CommandLine) (before no
   ended-written (Err refusals.WrongShape) e = e.1
 
   pub ended-read_fault : (end : Ended) → Here end → status_at end ≡ statuses.ReadFault
-      → (name : List ℕ) × CallReaches held (Some line) name × Rose (before name) (now name)
+      → (name : List ℕ) × CallReaches held (Some task) name × Rose (before name) (now name)
   ended-read_fault (Ok d) e is = absurd cc
   ended-read_fault (Err refusals.WriteFault) e is = absurd cc
   ended-read_fault (Err refusals.Usage) e is = absurd cc
@@ -131,7 +131,7 @@ module _ (held : List ℕ → Option (List ℕ)) (line : CommandLine) (before no
   ended-not_usage (Err refusals.WrongShape) e is = absurd cc
 
   -- the refusal tells what is so
-  pub ended-true : (refusal : Refusal) → Here (Err refusal) → IsTrueOf held (Some line) refusal
+  pub ended-true : (refusal : Refusal) → Here (Err refusal) → IsTrueOf held (Some task) refusal
   ended-true refusals.WriteFault e = tt
   ended-true refusals.Usage e = absurd e.0
   ended-true (refusals.BadDescription kind number) e = e.0.1
@@ -143,7 +143,7 @@ module _ (held : List ℕ → Option (List ℕ)) (line : CommandLine) (before no
   ended-true refusals.WrongShape e = e.0.1
 
 -- a refusal's note is that of its status
-pub note_is : (held : List ℕ → Option (List ℕ)) (asked : Option CommandLine) (refusal : Refusal) → IsTrueOf held asked refusal
+pub note_is : (held : List ℕ → Option (List ℕ)) (asked : Option Task) (refusal : Refusal) → IsTrueOf held asked refusal
     → IsNote held asked (status_of refusal) (note_of refusal)
 note_is held asked refusals.WriteFault h = (refusals.WriteFault, refl, refl, h)
 note_is held asked refusals.Usage h = (refusals.Usage, refl, refl, h)
@@ -160,6 +160,6 @@ pub noted-nothing : (old : Option (List ℕ)) (count : ℕ) → IsNoted [] old c
 noted-nothing old count = record { grows = omega arith; prefix = ([], [], refl, Appended-nil old); whole = λ _. Appended-nil old }
 
 -- the note of words that are no command
-pub usage_noted : (held : List ℕ → Option (List ℕ)) (asked : Option CommandLine) → IsNote held asked statuses.Usage (note_of refusals.Usage)
+pub usage_noted : (held : List ℕ → Option (List ℕ)) (asked : Option Task) → IsNote held asked statuses.Usage (note_of refusals.Usage)
 usage_noted held None = (refusals.Usage, refl, refl, tt)
-usage_noted held (Some line) = (refusals.Usage, refl, refl, tt)
+usage_noted held (Some task) = (refusals.Usage, refl, refl, tt)

@@ -1,4 +1,3 @@
-pub mod Words
 pub mod ReadingLemmas
 pub mod SetWeights
 pub mod PricedLadder
@@ -9,3 +8,4 @@ pub mod Ending
 pub mod Pieces
 pub mod PrintedSolutions
 pub mod Accepted
+pub mod Options

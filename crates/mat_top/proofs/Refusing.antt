@@ -13,7 +13,7 @@ use Rattle.mat_top.specs.declared.status.Status.{Status}
 use Rattle.mat_top.specs.declared.status.Status.TheVariants as statuses
 use Rattle.mat_top.specs.declared.status.Refusal.{Refusal}
 use Rattle.mat_top.specs.declared.status.Refusal.TheVariants as refusals
-use Rattle.mat_top.specs.CommandLines.{CommandLine, show, best, intersect, check, description_file}
+use Rattle.mat_top.specs.CommandLines.{Task, show, best, intersect, check, description_file}
 use Rattle.mat_top.specs.Statuses.{refusal_of_unread, refusal_of_description}
 use Rattle.mat_top.specs.Outcomes.{description_limit, IsFaulty, IsDescribed, IsProblemOutcome, IsBytesOutcome, IsCertificateOutcome}
 use Rattle.mat_top.specs.Outcomes.{Tells, TellsCertificate, IsOutcome, CallReaches, IsTextFor, IsAnswerTo}
@@ -45,32 +45,32 @@ told_with (Some bytes) P Q R tells h f = f bytes h
 -- ---- the description
 
 -- the call reaches the file of the description
-reaches_description : (held : List ℕ → Option (List ℕ)) (line : CommandLine) → CallReaches held (Some line) (description_file line)
+reaches_description : (held : List ℕ → Option (List ℕ)) (task : Task) → CallReaches held (Some task) (description_file task)
 reaches_description held (show file) = refl
 reaches_description held (best file) = refl
 reaches_description held (intersect file) = refl
 reaches_description held (check file certificate) = inl refl
 
 -- why the description was not read
-pub unread_description : (held : List ℕ → Option (List ℕ)) (line : CommandLine) (left : Option (List ℕ)) (before now : List ℕ → ℕ)
+pub unread_description : (held : List ℕ → Option (List ℕ)) (task : Task) (left : Option (List ℕ)) (before now : List ℕ → ℕ)
     (unread : Unread)
-    → NotRead (held (description_file line)) description_limit left (before (description_file line)) (now (description_file line)) unread
-    → IsRefusal held line before now (refusal_of_unread unread)
-unread_description held line left before now unreads.Fault why = (description_file line, reaches_description held line, why)
-unread_description held line left before now unreads.TooLong why =
-    (λ tells. told_with (held (description_file line)) _ _ _ tells why (λ bytes long. inl long.0), tt)
-unread_description held line left before now unreads.Memory why = tt
+    → NotRead (held (description_file task)) description_limit left (before (description_file task)) (now (description_file task)) unread
+    → IsRefusal held task before now (refusal_of_unread unread)
+unread_description held task left before now unreads.Fault why = (description_file task, reaches_description held task, why)
+unread_description held task left before now unreads.TooLong why =
+    (λ tells. told_with (held (description_file task)) _ _ _ tells why (λ bytes long. inl long.0), tt)
+unread_description held task left before now unreads.Memory why = tt
 
 -- why its bytes are no problem
-pub faulty_description : (held : List ℕ → Option (List ℕ)) (line : CommandLine) (bytes : List ℕ) (before now : List ℕ → ℕ)
+pub faulty_description : (held : List ℕ → Option (List ℕ)) (task : Task) (bytes : List ℕ) (before now : List ℕ → ℕ)
     (refusal : DescRefusal)
-    → length bytes ≤ description_limit → IfSome (held (description_file line)) (λ all. all ≡ bytes) → Fails refusal (read_of bytes)
-    → IsRefusal held line before now (refusal_of_description refusal)
-faulty_description held line bytes before now desc_refusals.Memory within same fails = tt
-faulty_description held line bytes before now (desc_refusals.Fault kind number) within same fails =
-    let faulty : IfSome (held (description_file line)) (λ all. IsFaulty all (kind, number)) =
-    of_file (held (description_file line)) bytes (λ all. IsFaulty all (kind, number)) same (record { within = within; first = fails }) in
-    (λ tells. told_with (held (description_file line)) _ _ _ tells faulty (λ all first. inl ((kind, number), first)), faulty)
+    → length bytes ≤ description_limit → IfSome (held (description_file task)) (λ all. all ≡ bytes) → Fails refusal (read_of bytes)
+    → IsRefusal held task before now (refusal_of_description refusal)
+faulty_description held task bytes before now desc_refusals.Memory within same fails = tt
+faulty_description held task bytes before now (desc_refusals.Fault kind number) within same fails =
+    let faulty : IfSome (held (description_file task)) (λ all. IsFaulty all (kind, number)) =
+    of_file (held (description_file task)) bytes (λ all. IsFaulty all (kind, number)) same (record { within = within; first = fails }) in
+    (λ tells. told_with (held (description_file task)) _ _ _ tells faulty (λ all first. inl ((kind, number), first)), faulty)
 
 -- ---- the certificate
 
@@ -128,13 +128,13 @@ uncertified_before instance held earlier before now (refusals.BadDescription kin
 uncertified_before instance held earlier before now refusals.Usage le why = why
 uncertified_before instance held earlier before now refusals.WriteFault le why = why
 
-module _ (held after : List ℕ → Option (List ℕ)) (same : (name : List ℕ) → after name ≡ held name) (line : CommandLine)
+module _ (held after : List ℕ → Option (List ℕ)) (same : (name : List ℕ) → after name ≡ held name) (task : Task)
     (instance : Instance) where
   -- a text over the shelf as it was after is one over the shelf before
-  pub text_before : (text : List ℕ) → HasText after line instance text → HasText held line instance text
-  text_before text has = record { answer = moved line has.answer; short = has.short }
+  pub text_before : (text : List ℕ) → HasText after task instance text → HasText held task instance text
+  text_before text has = record { answer = moved task has.answer; short = has.short }
     where
-      moved : (line : CommandLine) → IsTextFor after line instance text → IsTextFor held line instance text
+      moved : (task : Task) → IsTextFor after task instance text → IsTextFor held task instance text
       moved (show file) answer = answer
       moved (best file) answer = answer
       moved (intersect file) answer = answer
@@ -143,10 +143,10 @@ module _ (held after : List ℕ → Option (List ℕ)) (same : (name : List ℕ)
 
   -- and so is what gives none
   pub none_before : (earlier before now : List ℕ → ℕ) (refusal : Refusal) → ((name : List ℕ) → earlier name ≤ before name)
-      → HasNoText after line instance before now refusal → HasNoText held line instance earlier now refusal
-  none_before earlier before now refusal le why = moved line why
+      → HasNoText after task instance before now refusal → HasNoText held task instance earlier now refusal
+  none_before earlier before now refusal le why = moved task why
     where
-      moved : (line : CommandLine) → HasNoText after line instance before now refusal → HasNoText held line instance earlier now refusal
+      moved : (task : Task) → HasNoText after task instance before now refusal → HasNoText held task instance earlier now refusal
       moved (show file) why = why
       moved (best file) why = why
       moved (intersect file) why = why
@@ -157,32 +157,32 @@ module _ (held after : List ℕ → Option (List ℕ)) (same : (name : List ℕ)
 
 module _ (held : List ℕ → Option (List ℕ)) (bytes : List ℕ) (instance : Instance) (described : IsDescribed bytes instance) where
   -- an outcome of the problem is one of the call
-  problem_outcome : (line : CommandLine) (status : Status) → IfSome (held (description_file line)) (λ all. all ≡ bytes)
-      → (TellsCertificate held line bytes → IsProblemOutcome held line instance status) → Tells held (Some line)
-      → IsOutcome held (Some line) status
-  problem_outcome line status same outcome tells = from (held (description_file line)) same tells
+  problem_outcome : (task : Task) (status : Status) → IfSome (held (description_file task)) (λ all. all ≡ bytes)
+      → (TellsCertificate held task bytes → IsProblemOutcome held task instance status) → Tells held (Some task)
+      → IsOutcome held (Some task) status
+  problem_outcome task status same outcome tells = from (held (description_file task)) same tells
     where
-      from : (o : Option (List ℕ)) → IfSome o (λ all. all ≡ bytes) → IsSomeAnd o (TellsCertificate held line)
-          → IsSomeAnd o (λ all. IsBytesOutcome held line all status)
+      from : (o : Option (List ℕ)) → IfSome o (λ all. all ≡ bytes) → IsSomeAnd o (TellsCertificate held task)
+          → IsSomeAnd o (λ all. IsBytesOutcome held task all status)
       from None same tells = absurd tells
       from (Some all) same tells =
-          subst (λ (b : List ℕ). TellsCertificate held line b → IsBytesOutcome held line b status) (sym same)
+          subst (λ (b : List ℕ). TellsCertificate held task b → IsBytesOutcome held task b status) (sym same)
           (λ t. inr (instance, described, outcome t)) tells
 
   -- there is a text
-  pub written_for : (line : CommandLine) (text : List ℕ) → IfSome (held (description_file line)) (λ all. all ≡ bytes)
-      → HasText held line instance text → MayBeWritten held line text
-  written_for line text same has = record {
+  pub written_for : (task : Task) (text : List ℕ) → IfSome (held (description_file task)) (λ all. all ≡ bytes)
+      → HasText held task instance text → MayBeWritten held task text
+  written_for task text same has = record {
     output = (
       has.short,
-      of_file (held (description_file line)) bytes (λ all. IsAnswerTo held line all text) same
+      of_file (held (description_file task)) bytes (λ all. IsAnswerTo held task all text) same
           (record { instance = instance; described = described; answer = has.answer }),
     );
-    outcome = problem_outcome line statuses.Done same (done line has.answer);
+    outcome = problem_outcome task statuses.Done same (done task has.answer);
   }
     where
-      done : (line : CommandLine) → IsTextFor held line instance text → TellsCertificate held line bytes
-          → IsProblemOutcome held line instance statuses.Done
+      done : (task : Task) → IsTextFor held task instance text → TellsCertificate held task bytes
+          → IsProblemOutcome held task instance statuses.Done
       done (show file) answer t = tt
       done (best file) answer t = answer.0
       done (intersect file) answer t = answer.0
@@ -220,9 +220,9 @@ module _ (held : List ℕ → Option (List ℕ)) (bytes : List ℕ) (instance : 
   denied_by file certificate before now refusals.WriteFault same why = absurd why
 
   -- there is no text
-  pub not_written : (line : CommandLine) (before now : List ℕ → ℕ) (refusal : Refusal)
-      → IfSome (held (description_file line)) (λ all. all ≡ bytes)
-      → HasNoText held line instance before now refusal → IsRefusal held line before now refusal
+  pub not_written : (task : Task) (before now : List ℕ → ℕ) (refusal : Refusal)
+      → IfSome (held (description_file task)) (λ all. all ≡ bytes)
+      → HasNoText held task instance before now refusal → IsRefusal held task before now refusal
   not_written (check file certificate) before now refusal same why = denied_by file certificate before now refusal same why
   not_written (show file) before now refusals.Memory same why = tt
   not_written (show file) before now refusals.WrongShape same why = absurd (why tt)
@@ -261,18 +261,18 @@ pub refused_by : {X : Type 0} (found : Result X Refusal) (P : Refusal → Type 0
 refused_by (Ok x) P refusal is p = tt
 refused_by (Err e) P refusal is p = subst P (sym is) p
 
-module _ {X : Type 0} (held after : List ℕ → Option (List ℕ)) (same : (name : List ℕ) → after name ≡ held name) (line : CommandLine)
+module _ {X : Type 0} (held after : List ℕ → Option (List ℕ)) (same : (name : List ℕ) → after name ≡ held name) (task : Task)
     (bytes : List ℕ) (instance : Instance) (described : IsDescribed bytes instance)
-    (read : IfSome (held (description_file line)) (λ all. all ≡ bytes)) where
-  pub text_found : (found : Result X Refusal) (text_of : X → List ℕ) → IfOk found (λ x. HasText after line instance (text_of x))
-      → IfOk found (λ x. MayBeWritten held line (text_of x))
+    (read : IfSome (held (description_file task)) (λ all. all ≡ bytes)) where
+  pub text_found : (found : Result X Refusal) (text_of : X → List ℕ) → IfOk found (λ x. HasText after task instance (text_of x))
+      → IfOk found (λ x. MayBeWritten held task (text_of x))
   text_found (Ok x) text_of has =
-      written_for held bytes instance described line (text_of x) read (text_before held after same line instance (text_of x) has)
+      written_for held bytes instance described task (text_of x) read (text_before held after same task instance (text_of x) has)
   text_found (Err refusal) text_of has = tt
 
   pub none_found : (found : Result X Refusal) (earlier before now : List ℕ → ℕ) → ((name : List ℕ) → earlier name ≤ before name)
-      → IfErr found (λ e. HasNoText after line instance before now e) → IfErr found (λ e. IsRefusal held line earlier now e)
+      → IfErr found (λ e. HasNoText after task instance before now e) → IfErr found (λ e. IsRefusal held task earlier now e)
   none_found (Ok x) earlier before now le why = tt
   none_found (Err refusal) earlier before now le why =
-      not_written held bytes instance described line earlier now refusal read
-      (none_before held after same line instance earlier before now refusal le why)
+      not_written held bytes instance described task earlier now refusal read
+      (none_before held after same task instance earlier before now refusal le why)

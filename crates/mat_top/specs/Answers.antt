@@ -7,7 +7,7 @@ use Rattle.mat_cert.specs.Certificates as certificates
 use Rattle.mat_cert.specs.Certificates.{Certificate, certificate_text, IsRanged}
 use Rattle.mat_cert.specs.declared.answer.PricedRung.{PricedRung}
 use Rattle.mat_check.specs.Right.{IsRight}
-use Rattle.mat_top.specs.CommandLines.{CommandLine, show, best, intersect, check}
+use Rattle.mat_top.specs.CommandLines.{Task, show, best, intersect, check}
 
 -- both numbers of each weight of its splits are within the bound for as many elements
 abbrev pub HasBoundedSplits : Certificate → Type 0
@@ -32,15 +32,15 @@ IsIntersectAnswer (certificates.intersect n rungs cut) = Unit {0}
 IsIntersectAnswer certificate = ⊥
 
 -- the answer is one of the command
-abbrev pub IsAnswerOf : CommandLine → Certificate → Type 0
+abbrev pub IsAnswerOf : Task → Certificate → Type 0
 IsAnswerOf (best file) certificate = IsBestAnswer certificate
 IsAnswerOf (intersect file) certificate = IsIntersectAnswer certificate
 IsAnswerOf (show file) certificate = ⊥
 IsAnswerOf (check file other) certificate = ⊥
 
 -- the text of such an answer of the command
-pub record IsSolutionText (line : CommandLine) (instance : Instance) (text : List ℕ) : Type 0 where
+pub record IsSolutionText (task : Task) (instance : Instance) (text : List ℕ) : Type 0 where
   pub certificate : Certificate
-  pub of_command : IsAnswerOf line certificate
+  pub of_command : IsAnswerOf task certificate
   pub solution : IsSolution instance certificate
   pub whole : text ≡ certificate_text certificate

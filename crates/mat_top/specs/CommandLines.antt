@@ -1,44 +1,93 @@
--- Command lines.
-use Rattle.std.specs.Prelude.{ℕ, ◌==◌, if◌then◌else◌, List, [], length, slice_index_or, Option, Some, None, bytes_eq, codes}
+-- Command lines: a command, the option `--workers N` for a command that takes it, and the names of files.
+use Rattle.std.specs.Prelude.{ℕ, pos, nat_abs, Bool, true, false, if◌then◌else◌, List, [], ◌∷◌, bytes_eq, codes}
+use Rattle.std.specs.Prelude.{Option, Some, None, option_map}
+use Rattle.std.specs.Result.{result_ok}
+use Rattle.mat_words.specs.Numbers.{number_in}
 
--- what the words of a command line ask for
-pub data CommandLine : Type 0 where
+-- what a command line asks for
+pub data Task : Type 0 where
   -- write the canonical text of the description in the file of this name
-  show : List ℕ → CommandLine
+  show : List ℕ → Task
   -- solve the problem of one matroid in the file of this name
-  best : List ℕ → CommandLine
+  best : List ℕ → Task
   -- solve the problem of two matroids in the file of this name
-  intersect : List ℕ → CommandLine
+  intersect : List ℕ → Task
   -- judge the certificate in the second file against the description in the first
-  check : List ℕ → List ℕ → CommandLine
+  check : List ℕ → List ℕ → Task
+
+-- a command line: what it asks for, and how many workers compute it
+pub record CommandLine : Type 0 where
+  pub workers : ℕ
+  pub task : Task
+
+-- a task with the number of its workers
+abbrev pub by_workers : ℕ → Task → CommandLine
+by_workers n task = record { workers = n; task = task }
+
+infixl 10 ◌>>=◌
+-- what is read goes on to the next step; nothing stays nothing
+abbrev pub ◌>>=◌ : {A B : Type 0} → Option A → (A → Option B) → Option B
+None >>= f = None
+(Some x) >>= f = f x
+
+-- ---- a command and its arguments
 
 -- a command and its one file
-abbrev pub with_file : List ℕ → List ℕ → Option CommandLine
+abbrev pub with_file : List ℕ → List ℕ → Option Task
 with_file command file =
     if bytes_eq command (codes "show") then Some (show file) else
     (if bytes_eq command (codes "best") then Some (best file) else
     (if bytes_eq command (codes "intersect") then Some (intersect file) else None))
 
 -- a command and its two files
-abbrev pub with_files : List ℕ → List ℕ → List ℕ → Option CommandLine
+abbrev pub with_files : List ℕ → List ℕ → List ℕ → Option Task
 with_files command file certificate = if bytes_eq command (codes "check") then Some (check file certificate) else None
 
--- a command and its one file; a first argument `--workers` names no file
-abbrev pub named_file : List ℕ → List ℕ → Option CommandLine
-named_file command file = if bytes_eq file (codes "--workers") then None else with_file command file
+-- what a command with these arguments asks for
+abbrev pub task_for : List ℕ → List (List ℕ) → Option Task
+task_for command (file ∷ []) = with_file command file
+task_for command (file ∷ certificate ∷ []) = with_files command file certificate
+task_for command arguments = None
 
--- a command and its two files; a first argument `--workers` names no file
-abbrev pub named_files : List ℕ → List ℕ → List ℕ → Option CommandLine
-named_files command file certificate = if bytes_eq file (codes "--workers") then None else with_files command file certificate
+-- ---- the option
 
--- the command that the words are, or nothing
+-- whether the first argument is the option; it never names a file
+abbrev pub begins_with_option : List (List ℕ) → Bool
+begins_with_option [] = false
+begins_with_option (first ∷ others) = bytes_eq first (codes "--workers")
+
+-- how many workers a word asks for: the number from 1 to 16 that it spells
+abbrev pub workers_in : List ℕ → Option ℕ
+workers_in word = option_map nat_abs (result_ok (number_in (pos 1) (pos 16) word))
+
+-- whether the command takes the option
+abbrev pub takes_workers : Task → Bool
+takes_workers (show file) = false
+takes_workers task = true
+
+-- a command with the option, its number and the arguments behind it
+abbrev pub with_option : List ℕ → List (List ℕ) → Option CommandLine
+with_option command (option ∷ number ∷ arguments) = do
+  workers ← workers_in number
+  task ← task_for command arguments
+  if takes_workers task then Some (by_workers workers task) else None
+with_option command others = None
+
+-- a command with its arguments alone: one worker
+abbrev pub without_option : List ℕ → List (List ℕ) → Option CommandLine
+without_option command arguments = option_map (by_workers 1) (task_for command arguments)
+
+-- the command line that the words are, or nothing
 unfoldable pub command_line : List (List ℕ) → Option CommandLine
-command_line words =
-    if length words == 2 then named_file (slice_index_or words 0 []) (slice_index_or words 1 []) else
-    (if length words == 3 then named_files (slice_index_or words 0 []) (slice_index_or words 1 []) (slice_index_or words 2 []) else None)
+command_line [] = None
+command_line (command ∷ others) = if begins_with_option others then with_option command others else without_option command others
+
+-- what the words ask for, however many workers there are, or nothing
+abbrev pub asked_by : List (List ℕ) → Option Task
+asked_by words = option_map (λ line. line.task) (command_line words)
 
 -- the file of the description
-abbrev pub description_file : CommandLine → List ℕ
+abbrev pub description_file : Task → List ℕ
 description_file (show file) = file
 description_file (best file) = file
 description_file (intersect file) = file

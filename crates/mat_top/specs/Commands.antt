@@ -1,11 +1,16 @@
--- A command as what its words ask for.
+-- Commands and command lines of the program as what their words ask for.
 use Rattle.mat_top.specs.declared.command.Command.{Command}
 use Rattle.mat_top.specs.declared.command.Command.TheVariants.{Show, Best, Intersect, Check}
-use Rattle.mat_top.specs.CommandLines.{CommandLine, show, best, intersect, check}
+use Rattle.mat_top.specs.declared.command.CommandLine as declared
+use Rattle.mat_top.specs.CommandLines.{Task, show, best, intersect, check, CommandLine}
 
 -- what a command asks for
-abbrev pub line_of : Command → CommandLine
-line_of (Show file) = show file.now
-line_of (Best file) = best file.now
-line_of (Intersect file) = intersect file.now
-line_of (Check file certificate) = check file.now certificate.now
+abbrev pub task_of : Command → Task
+task_of (Show file) = show file.now
+task_of (Best file) = best file.now
+task_of (Intersect file) = intersect file.now
+task_of (Check file certificate) = check file.now certificate.now
+
+-- a command line, with its workers
+abbrev pub line_of : declared.CommandLine → CommandLine
+line_of line = record { workers = line.workers; task = task_of line.command }

@@ -20,7 +20,7 @@ use Rattle.mat_top.specs.declared.status.Status.TheVariants as statuses
 use Rattle.mat_top.specs.declared.status.Refusal.{Refusal}
 use Rattle.mat_top.specs.declared.status.Refusal.TheVariants as refusals
 use Rattle.mat_top.specs.Statuses.{status_of, note_of}
-use Rattle.mat_top.specs.CommandLines.{CommandLine, show, best, intersect, check, description_file}
+use Rattle.mat_top.specs.CommandLines.{Task, show, best, intersect, check, description_file}
 use Rattle.mat_top.specs.Answers.{IsSolutionText}
 
 -- the most bytes that a description may have
@@ -51,7 +51,7 @@ pub record IsCertified (bytes : List ℕ) (answer : Certificate) : Type 0 where
   pub text : bytes ≡ certificate_text answer
 
 -- the form of the problem is that of the solving command; every form can be shown
-abbrev pub HasForm : CommandLine → Instance → Type 0
+abbrev pub HasForm : Task → Instance → Type 0
 HasForm (show file) instance = Unit {0}
 HasForm (best file) instance = is_single instance ≡ true
 HasForm (intersect file) instance = is_pair instance ≡ true
@@ -77,40 +77,40 @@ IsCertificateOutcome instance bytes statuses.No =
 IsCertificateOutcome instance bytes status = ⊥
 
 -- the first row that applies once the description spells this problem
-abbrev pub IsProblemOutcome : (List ℕ → Option (List ℕ)) → CommandLine → Instance → Status → Type 0
+abbrev pub IsProblemOutcome : (List ℕ → Option (List ℕ)) → Task → Instance → Status → Type 0
 IsProblemOutcome held (check file certificate) instance status =
     IsSomeAnd (held certificate) (λ bytes. IsCertificateOutcome instance bytes status)
-IsProblemOutcome held line instance statuses.WrongShape = HasForm line instance → ⊥
-IsProblemOutcome held line instance statuses.Done = HasForm line instance
-IsProblemOutcome held line instance status = ⊥
+IsProblemOutcome held task instance statuses.WrongShape = HasForm task instance → ⊥
+IsProblemOutcome held task instance statuses.Done = HasForm task instance
+IsProblemOutcome held task instance status = ⊥
 
 -- the first row that applies to a command over the bytes of its description
-abbrev pub IsBytesOutcome : (List ℕ → Option (List ℕ)) → CommandLine → List ℕ → Status → Type 0
-IsBytesOutcome held line bytes status =
-    IsDescriptionOutcome bytes status ⊎ ((instance : Instance) × IsDescribed bytes instance × IsProblemOutcome held line instance status)
+abbrev pub IsBytesOutcome : (List ℕ → Option (List ℕ)) → Task → List ℕ → Status → Type 0
+IsBytesOutcome held task bytes status =
+    IsDescriptionOutcome bytes status ⊎ ((instance : Instance) × IsDescribed bytes instance × IsProblemOutcome held task instance status)
 
 -- The status is that of the first row of the table that applies: Usage where the words are no command, and else what the files' bytes say.
-abbrev pub IsOutcome : (List ℕ → Option (List ℕ)) → Option CommandLine → Status → Type 0
+abbrev pub IsOutcome : (List ℕ → Option (List ℕ)) → Option Task → Status → Type 0
 IsOutcome held None status = status ≡ statuses.Usage
-IsOutcome held (Some line) status = IsSomeAnd (held (description_file line)) (λ bytes. IsBytesOutcome held line bytes status)
+IsOutcome held (Some task) status = IsSomeAnd (held (description_file task)) (λ bytes. IsBytesOutcome held task bytes status)
 
 -- the shelf tells the certificate where the outcome needs it
-abbrev pub TellsCertificate : (List ℕ → Option (List ℕ)) → CommandLine → List ℕ → Type 0
+abbrev pub TellsCertificate : (List ℕ → Option (List ℕ)) → Task → List ℕ → Type 0
 TellsCertificate held (check file certificate) bytes = (instance : Instance) → IsDescribed bytes instance → IsSome (held certificate)
-TellsCertificate held line bytes = Unit {0}
+TellsCertificate held task bytes = Unit {0}
 
 -- the shelf tells the files that the outcome needs
-abbrev pub Tells : (List ℕ → Option (List ℕ)) → Option CommandLine → Type 0
+abbrev pub Tells : (List ℕ → Option (List ℕ)) → Option Task → Type 0
 Tells held None = Unit {0}
-Tells held (Some line) = IsSomeAnd (held (description_file line)) (TellsCertificate held line)
+Tells held (Some task) = IsSomeAnd (held (description_file task)) (TellsCertificate held task)
 
 -- the files that the call reaches: that of the description, and that of the certificate where nothing that is told of the description
 -- refuses the call before
-abbrev pub CallReaches : (List ℕ → Option (List ℕ)) → Option CommandLine → List ℕ → Type 0
+abbrev pub CallReaches : (List ℕ → Option (List ℕ)) → Option Task → List ℕ → Type 0
 CallReaches held None name = ⊥
 CallReaches held (Some (check file certificate)) name =
     (name ≡ file) ⊎ ((name ≡ certificate) × IfSome (held file) (λ bytes. (instance : Instance) × IsDescribed bytes instance))
-CallReaches held (Some line) name = name ≡ description_file line
+CallReaches held (Some task) name = name ≡ description_file task
 
 -- ---- what is written
 
@@ -119,42 +119,42 @@ abbrev pub yes_text : List ℕ
 yes_text = codes "yes" ++ 10 ∷ []
 
 -- the text is what the command writes for the problem
-abbrev pub IsTextFor : (List ℕ → Option (List ℕ)) → CommandLine → Instance → List ℕ → Type 0
+abbrev pub IsTextFor : (List ℕ → Option (List ℕ)) → Task → Instance → List ℕ → Type 0
 IsTextFor held (show file) instance text = text ≡ canonical_text instance
 IsTextFor held (check file certificate) instance text =
     (text ≡ yes_text) × IfSome (held certificate) (λ bytes. IsCertificateOutcome instance bytes statuses.Done)
-IsTextFor held line instance text = HasForm line instance × IsSolutionText line instance text
+IsTextFor held task instance text = HasForm task instance × IsSolutionText task instance text
 
 -- the text is what the command writes for the problem that the bytes spell
-pub record IsAnswerTo (held : List ℕ → Option (List ℕ)) (line : CommandLine) (bytes text : List ℕ) : Type 0 where
+pub record IsAnswerTo (held : List ℕ → Option (List ℕ)) (task : Task) (bytes text : List ℕ) : Type 0 where
   pub instance : Instance
   pub described : IsDescribed bytes instance
-  pub answer : IsTextFor held line instance text
+  pub answer : IsTextFor held task instance text
 
 -- the text of a solving command is no longer than a certificate may be
-abbrev pub IsShort : CommandLine → List ℕ → Type 0
+abbrev pub IsShort : Task → List ℕ → Type 0
 IsShort (best file) text = length text ≤ certificate_limit
 IsShort (intersect file) text = length text ≤ certificate_limit
-IsShort line text = Unit {0}
+IsShort task text = Unit {0}
 
 -- what may be written where the command is done: where the file is told, what the command writes
-abbrev pub IsOutput : (List ℕ → Option (List ℕ)) → Option CommandLine → List ℕ → Type 0
+abbrev pub IsOutput : (List ℕ → Option (List ℕ)) → Option Task → List ℕ → Type 0
 IsOutput held None text = ⊥
-IsOutput held (Some line) text =
-    IsShort line text × IfSome (held (description_file line)) (λ bytes. IsAnswerTo held line bytes text)
+IsOutput held (Some task) text =
+    IsShort task text × IfSome (held (description_file task)) (λ bytes. IsAnswerTo held task bytes text)
 
 -- ---- the clauses of the top call
 
 -- where the outcome is told, each status but the two faults and want of memory is that of the outcome, and a fault of
 -- writing comes only where the outcome is Done
-abbrev pub IsStatus : (List ℕ → Option (List ℕ)) → Option CommandLine → Status → Type 0
+abbrev pub IsStatus : (List ℕ → Option (List ℕ)) → Option Task → Status → Type 0
 IsStatus held asked statuses.ReadFault = Unit {0}
 IsStatus held asked statuses.Memory = Unit {0}
 IsStatus held asked statuses.WriteFault = IsOutcome held asked statuses.Done
 IsStatus held asked status = IsOutcome held asked status
 
 -- what was appended to the output: on Done the whole text, on a fault of writing a prefix of such a text, and else nothing
-abbrev pub IsWritten : (List ℕ → Option (List ℕ)) → Option CommandLine → Option (List ℕ) → Option (List ℕ) → Status → Type 0
+abbrev pub IsWritten : (List ℕ → Option (List ℕ)) → Option Task → Option (List ℕ) → Option (List ℕ) → Status → Type 0
 IsWritten held asked old new statuses.Done = (text : List ℕ) × IsOutput held asked text × Appended old text new
 IsWritten held asked old new statuses.WriteFault = (text : List ℕ) × IsOutput held asked text × AppendedPrefix old text new
 IsWritten held asked old new status = new ≡ old
@@ -172,8 +172,8 @@ pub record HasFailure (description certificate : List ℕ) (failure : Failure) :
   pub failed : HasClauseFailure instance certificate failure
 
 -- a refusal tells what is so: the first fault of a description is that of its bytes, where they are told
-abbrev pub IsTrueOf : (List ℕ → Option (List ℕ)) → Option CommandLine → Refusal → Type 0
-IsTrueOf held (Some line) (refusals.BadDescription kind number) = IfSome (held (description_file line)) (λ bytes. IsFaulty bytes (kind, number))
+abbrev pub IsTrueOf : (List ℕ → Option (List ℕ)) → Option Task → Refusal → Type 0
+IsTrueOf held (Some task) (refusals.BadDescription kind number) = IfSome (held (description_file task)) (λ bytes. IsFaulty bytes (kind, number))
 IsTrueOf held (Some (check file certificate)) (refusals.BadCertificate kind number) =
     IfSome (held certificate) (λ bytes. IsFaultyCertificate bytes (kind, number))
 IsTrueOf held (Some (check file certificate)) (refusals.No reason first second) =
@@ -181,7 +181,7 @@ IsTrueOf held (Some (check file certificate)) (refusals.No reason first second) 
 IsTrueOf held asked refusal = Unit {0}
 
 -- the note of a call that ended so: none on Done
-abbrev pub IsNote : (List ℕ → Option (List ℕ)) → Option CommandLine → Status → List ℕ → Type 0
+abbrev pub IsNote : (List ℕ → Option (List ℕ)) → Option Task → Status → List ℕ → Type 0
 IsNote held asked statuses.Done note = note ≡ []
 IsNote held asked status note = (refusal : Refusal) × (status_of refusal ≡ status) × (note ≡ note_of refusal) × IsTrueOf held asked refusal
 

@@ -11,7 +11,7 @@ use Rattle.mat_top.specs.declared.status.Status.TheVariants as statuses
 use Rattle.mat_top.specs.declared.status.Refusal.{Refusal}
 use Rattle.mat_top.specs.declared.status.Refusal.TheVariants as refusals
 use Rattle.mat_top.specs.Statuses.{status_of}
-use Rattle.mat_top.specs.CommandLines.{CommandLine, check}
+use Rattle.mat_top.specs.CommandLines.{Task, check}
 use Rattle.mat_top.specs.Answers.{IsSolution}
 use Rattle.mat_top.specs.Outcomes.{HasForm, IsCertificateOutcome, IsFaultyCertificate, IsTextFor, IsShort}
 use Rattle.mat_top.specs.Outcomes.{CallReaches, Tells, IsOutcome, IsOutput, IsTrueOf, HasClauseFailure}
@@ -62,35 +62,35 @@ IsUncertified instance held before now refusal = IfSome held (λ bytes. IsDenial
 -- ---- what a command writes for a problem
 
 -- why there is no text for a problem: with the counts of the shelf's faults before and after
-abbrev pub HasNoText : (List ℕ → Option (List ℕ)) → CommandLine → Instance → (List ℕ → ℕ) → (List ℕ → ℕ) → Refusal
+abbrev pub HasNoText : (List ℕ → Option (List ℕ)) → Task → Instance → (List ℕ → ℕ) → (List ℕ → ℕ) → Refusal
     → Type 0
 HasNoText held (check file certificate) instance before now refusal =
     IsUncertified instance (held certificate) (before certificate) (now certificate) refusal
-HasNoText held line instance before now refusals.Memory = Unit {0}
-HasNoText held line instance before now refusals.WrongShape = HasForm line instance → ⊥
-HasNoText held line instance before now refusal = ⊥
+HasNoText held task instance before now refusals.Memory = Unit {0}
+HasNoText held task instance before now refusals.WrongShape = HasForm task instance → ⊥
+HasNoText held task instance before now refusal = ⊥
 
 -- there is a text for a problem: the command writes this
-pub record HasText (held : List ℕ → Option (List ℕ)) (line : CommandLine) (instance : Instance) (text : List ℕ) : Type 0 where
-  pub answer : IsTextFor held line instance text
-  pub short : IsShort line text
+pub record HasText (held : List ℕ → Option (List ℕ)) (task : Task) (instance : Instance) (text : List ℕ) : Type 0 where
+  pub answer : IsTextFor held task instance text
+  pub short : IsShort task text
 
 -- ---- the whole call
 
 -- the text may be written: it is what the command writes, and the outcome is Done where the files are told
-pub record MayBeWritten (held : List ℕ → Option (List ℕ)) (line : CommandLine) (text : List ℕ) : Type 0 where
-  pub output : IsOutput held (Some line) text
-  pub outcome : Tells held (Some line) → IsOutcome held (Some line) statuses.Done
+pub record MayBeWritten (held : List ℕ → Option (List ℕ)) (task : Task) (text : List ℕ) : Type 0 where
+  pub output : IsOutput held (Some task) text
+  pub outcome : Tells held (Some task) → IsOutcome held (Some task) statuses.Done
 
 -- why a command gives no text: with the counts of the shelf's faults before and after
-abbrev pub IsRefusal : (List ℕ → Option (List ℕ)) → CommandLine → (List ℕ → ℕ) → (List ℕ → ℕ) → Refusal → Type 0
-IsRefusal held line before now refusals.ReadFault =
-    (name : List ℕ) × CallReaches held (Some line) name × Rose (before name) (now name)
-IsRefusal held line before now refusals.Memory = Unit {0}
-IsRefusal held line before now refusals.Usage = ⊥
-IsRefusal held line before now refusals.WriteFault = ⊥
-IsRefusal held line before now refusal =
-    (Tells held (Some line) → IsOutcome held (Some line) (status_of refusal)) × IsTrueOf held (Some line) refusal
+abbrev pub IsRefusal : (List ℕ → Option (List ℕ)) → Task → (List ℕ → ℕ) → (List ℕ → ℕ) → Refusal → Type 0
+IsRefusal held task before now refusals.ReadFault =
+    (name : List ℕ) × CallReaches held (Some task) name × Rose (before name) (now name)
+IsRefusal held task before now refusals.Memory = Unit {0}
+IsRefusal held task before now refusals.Usage = ⊥
+IsRefusal held task before now refusals.WriteFault = ⊥
+IsRefusal held task before now refusal =
+    (Tells held (Some task) → IsOutcome held (Some task) (status_of refusal)) × IsTrueOf held (Some task) refusal
 
 -- how the writing of a text ended: with what is told and the count of faults before and after
 abbrev pub IsPut : List ℕ → Option (List ℕ) → ℕ → Option (List ℕ) → ℕ → Result (Unit {0}) Refusal → Type 0
@@ -99,10 +99,10 @@ IsPut text old before new now (Err refusals.WriteFault) = AppendedPrefix old tex
 IsPut text old before new now (Err refusal) = ⊥
 
 -- how a command ended: with the counts of the shelf's faults, and what the output tells and its count of faults, before and after
-abbrev pub IsEnded : (List ℕ → Option (List ℕ)) → CommandLine → (List ℕ → ℕ) → (List ℕ → ℕ) → Option (List ℕ) → ℕ
+abbrev pub IsEnded : (List ℕ → Option (List ℕ)) → Task → (List ℕ → ℕ) → (List ℕ → ℕ) → Option (List ℕ) → ℕ
     → Option (List ℕ) → ℕ
     → Result (Unit {0}) Refusal → Type 0
-IsEnded held line before now old out_before new out_now (Ok done) = (text : List ℕ) × MayBeWritten held line text × Appended old text new
-IsEnded held line before now old out_before new out_now (Err refusals.WriteFault) =
-    (text : List ℕ) × MayBeWritten held line text × AppendedPrefix old text new × Rose out_before out_now
-IsEnded held line before now old out_before new out_now (Err refusal) = IsRefusal held line before now refusal × (new ≡ old)
+IsEnded held task before now old out_before new out_now (Ok done) = (text : List ℕ) × MayBeWritten held task text × Appended old text new
+IsEnded held task before now old out_before new out_now (Err refusals.WriteFault) =
+    (text : List ℕ) × MayBeWritten held task text × AppendedPrefix old text new × Rose out_before out_now
+IsEnded held task before now old out_before new out_now (Err refusal) = IsRefusal held task before now refusal × (new ≡ old)

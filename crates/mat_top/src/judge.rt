@@ -15,15 +15,23 @@ use mat_check::{Verdict, check, fits};
 use mat_desc::Problem;
 use mat_shelf::Shelf;
 use std::alloc::Global;
+use std::thread::Threads;
 
 // The most bytes that a certificate may have.
 const CERTIFICATE_LIMIT: usize = 67_108_864;
 
 // Judges the certificate in these bytes.
-fn judge_bytes(alloc: Global, problem: &Problem, bytes: &[u8]) -> Result<(), Refusal>
+fn judge_bytes<R: Threads + Sync>(
+    rt: &R,
+    alloc: Global,
+    problem: &Problem,
+    bytes: &[u8],
+    workers: u32,
+) -> Result<(), Refusal>
     requires within { length bytes.now ≤ certificate_limit }
     requires valid { IsValid (instance_of problem.now) }
     requires sound { IsSoundInstance (instance_of problem.now) }
+    requires workers { (1 ≤ workers) × (workers ≤ 16) }
     ensures right { OnOk result (IsCertificateOutcome (instance_of problem.now) bytes.now Status.Done) }
     ensures refusal { IfErr result (λ e. IsDenial (instance_of problem.now) bytes.now e) }
 {
@@ -31,21 +39,24 @@ fn judge_bytes(alloc: Global, problem: &Problem, bytes: &[u8]) -> Result<(), Ref
     if !fits(problem, &answer) {
         return Err(Refusal::WrongShape);
     }
-    match check(alloc, problem, &answer, 1)? {
+    match check(rt, alloc, problem, &answer, workers)? {
         Verdict::Yes => Ok(()),
         Verdict::No { reason, a, b } => Err(Refusal::No(reason, a, b)),
     }
 }
 
-/// Judges the certificate in the file of this name: it is right, or a refusal tells why not.
-pub(crate) fn judge<F: Shelf>(
+/// Judges the certificate in the file of this name, by so many workers: it is right, or a refusal tells why not.
+pub(crate) fn judge<R: Threads + Sync, F: Shelf>(
+    rt: &R,
     alloc: Global,
     files: &mut F,
     name: &str,
     problem: &Problem,
+    workers: u32,
 ) -> Result<(), Refusal>
     requires valid { IsValid (instance_of problem.now) }
     requires sound { IsSoundInstance (instance_of problem.now) }
+    requires workers { (1 ≤ workers) × (workers ≤ 16) }
     ensures held { (other : List ℕ) → F.held files.new other ≡ F.held files.old other }
     ensures grows { (other : List ℕ) → F.faults files.old other ≤ F.faults files.new other }
     ensures right { OnOk result (IfSome (F.held files.old name.now)
@@ -54,5 +65,5 @@ pub(crate) fn judge<F: Shelf>(
         (F.faults files.old name.now) (F.faults files.new name.now) e) }
 {
     let bytes = read_all(alloc, files, name, CERTIFICATE_LIMIT)?;
-    judge_bytes(alloc, problem, &bytes)
+    judge_bytes(rt, alloc, problem, &bytes, workers)
 }

@@ -1,10 +1,11 @@
-//! What holds of every solution.
-ghost use Rattle.std.specs.Prelude.{◌≡◌, ◌<◌, ℕ, List, Option, Some, length};
+//! What holds of every solution and of every number of workers.
+ghost use Rattle.std.specs.Prelude.{◌≡◌, ◌<◌, ◌≤◌, ℕ, List, ◌∷◌, Option, Some, length, false, pos, bytes_eq, codes, option_map};
+ghost use Rattle.mat_words.specs.Numbers.{numeral};
 ghost use Rattle.mat_desc.specs.Grammar.{IsValid};
 ghost use Rattle.mat_desc.specs.Instances.{Instance};
 ghost use Rattle.mat_cert.specs.Certificates.{Certificate, certificate_text};
 ghost use Rattle.mat_top.specs.Answers.{IsSolution, IsSolutionText};
-ghost use Rattle.mat_top.specs.CommandLines.{CommandLine, check};
+ghost use Rattle.mat_top.specs.CommandLines.{Task, check, by_workers, begins_with_option, command_line, asked_by};
 ghost use Rattle.mat_top.specs.Outcomes.{IsCertificateOutcome, IsDescribed, IsOutcome};
 
 use crate::status::Status;
@@ -16,7 +17,16 @@ pub fn solution_laws()
         → length (certificate_text certificate) < 24000000 }
     ensures accepted { (instance : Instance) (certificate : Certificate) → IsSolution instance certificate
         → IsCertificateOutcome instance (certificate_text certificate) Status.Done }
-    ensures checked { (held : List ℕ → Option (List ℕ)) (line : CommandLine) (file other bytes text : List ℕ) (instance : Instance)
-        → held file ≡ Some bytes → IsDescribed bytes instance → IsSolutionText line instance text → held other ≡ Some text
+    ensures checked { (held : List ℕ → Option (List ℕ)) (task : Task) (file other bytes text : List ℕ) (instance : Instance)
+        → held file ≡ Some bytes → IsDescribed bytes instance → IsSolutionText task instance text → held other ≡ Some text
         → IsOutcome held (Some (check file other)) Status.Done }
+{}
+
+/// What holds of each number of workers from 1 to 16: with the option a command asks for what it asks for without it, but for `show`,
+/// which takes none. So what is said of a task is said for each number of workers.
+pub fn command_line_laws()
+    ensures option { (command : List ℕ) (arguments : List (List ℕ)) (n : ℕ) → 1 ≤ n → n ≤ 16
+        → bytes_eq command (codes "show") ≡ false → begins_with_option arguments ≡ false
+        → command_line (command ∷ codes "--workers" ∷ numeral (pos n) ∷ arguments)
+        ≡ option_map (by_workers n) (asked_by (command ∷ arguments)) }
 {}

@@ -2,6 +2,7 @@
 #![tactic(auto)]
 
 mod command;
+mod command_words;
 mod judge;
 mod laws;
 mod notes;
@@ -11,9 +12,6 @@ mod status;
 mod top_call;
 mod writing;
 
-pub use laws::solution_laws;
+pub use laws::{command_line_laws, solution_laws};
 pub use status::Status;
 pub use top_call::run;
-
-#[cfg(test)]
-mod tests;

@@ -23,6 +23,7 @@ use mat_laws::Matroid;
 use mat_sets::{ElemSet, PairWeights, Weight, weigh};
 use mat_split::{Rung, intersect_all};
 use std::alloc::{AllocError, Global};
+use std::thread::Threads;
 
 // The rung with the weight of its set.
 fn priced(rung: Rung, weights: &[Weight]) -> PricedRung
@@ -58,20 +59,23 @@ fn priced_rungs(
 }
 
 // A right answer to a pair of matroids.
-fn solve_pair(
+fn solve_pair<R: Threads + Sync>(
+    rt: &R,
     alloc: Global,
     weights: &PairWeights,
     first: &AnyMatroid,
     second: &AnyMatroid,
+    workers: u32,
 ) -> Result<Answer, AllocError>
     requires valid { IsValid (pair weights.now (tree_of first.now) (tree_of second.now)) }
     requires sound { IsSoundInstance (pair weights.now (tree_of first.now) (tree_of second.now)) }
+    requires workers { (1 ≤ workers) × (workers ≤ 16) }
     ensures solution { IfOk result (λ answer. IsSolution (pair weights.now (tree_of first.now) (tree_of second.now)) (certificate_of answer)) }
     ensures variant { IfOk result (λ answer. IsIntersectAnswer (certificate_of answer)) }
 {
     first.lawful();
     second.lawful();
-    let ladder = intersect_all(alloc, first, second, weights.as_slice(), 1)?;
+    let ladder = intersect_all(rt, alloc, first, second, weights.as_slice(), workers)?;
     let rungs = priced_rungs(alloc, ladder.rungs, weights.as_slice())?;
     Ok(Answer::Intersect {
         count: weights.len() as u32,
@@ -119,10 +123,17 @@ fn solve_single(
     })
 }
 
-/// A right answer to a pair of matroids. `WrongShape` comes exactly where the problem is no pair, and `Memory` is want of memory.
-pub(crate) fn intersect(alloc: Global, problem: &Problem) -> Result<Answer, Refusal>
+/// A right answer to a pair of matroids, found by so many workers. `WrongShape` comes exactly where the problem is no pair, and `Memory` is
+/// want of memory.
+pub(crate) fn intersect<R: Threads + Sync>(
+    rt: &R,
+    alloc: Global,
+    problem: &Problem,
+    workers: u32,
+) -> Result<Answer, Refusal>
     requires valid { IsValid (instance_of problem.now) }
     requires sound { IsSoundInstance (instance_of problem.now) }
+    requires workers { (1 ≤ workers) × (workers ≤ 16) }
     ensures solved { IsSolved is_pair (instance_of problem.now) result }
     ensures variant { IfOk result (λ answer. IsIntersectAnswer (certificate_of answer)) }
 {
@@ -131,7 +142,7 @@ pub(crate) fn intersect(alloc: Global, problem: &Problem) -> Result<Answer, Refu
             weights,
             first,
             second,
-        } => Ok(solve_pair(alloc, weights, first, second)?),
+        } => Ok(solve_pair(rt, alloc, weights, first, second, workers)?),
         Problem::List { .. }
         | Problem::Graph { .. }
         | Problem::Rooted { .. }

@@ -7,13 +7,14 @@ ghost use Rattle.mat_check.specs.Fitting.{is_single, is_pair};
 ghost use Rattle.mat_desc.specs.Grammar.{IsValid};
 ghost use Rattle.mat_desc.specs.Soundness.{IsSoundInstance};
 ghost use Rattle.mat_desc.specs.Views.{instance_of};
-ghost use Rattle.mat_top.specs.CommandLines.{command_line};
-ghost use Rattle.mat_top.specs.Commands.{line_of};
+ghost use Rattle.mat_top.specs.CommandLines.{command_line, asked_by};
+ghost use Rattle.mat_top.specs.Commands.{task_of};
 ghost use Rattle.mat_top.specs.Answers.{IsBestAnswer, IsIntersectAnswer};
 ghost use Rattle.mat_top.specs.Outcomes.{Tells, IsStatus, IsOutcome, IsWritten, CallReaches, IsNote, IsNoted, yes_text};
 ghost use Rattle.mat_top.specs.Refusals.{HasText, HasNoText, HasSolutionText, IsUnsolved, MayBeWritten, IsRefusal, IsPut, IsEnded};
 
-use crate::command::{Command, command_of};
+use crate::command::{Command, CommandLine};
+use crate::command_words::command_line;
 use crate::judge::judge;
 use crate::notes::put_note;
 use crate::reading::read_all;
@@ -24,6 +25,7 @@ use mat_cert::write_answer;
 use mat_desc::{Problem, read_problem, write_problem};
 use mat_shelf::{Shelf, Sink};
 use std::alloc::{AllocError, Global};
+use std::thread::Threads;
 
 /// The most bytes that a description may have.
 const DESCRIPTION_LIMIT: usize = 4_194_304;
@@ -40,13 +42,19 @@ fn best_text(alloc: Global, problem: &Problem) -> Result<Vec<u8>, Refusal>
 }
 
 // The text of a right answer to a pair of matroids.
-fn intersect_text(alloc: Global, problem: &Problem) -> Result<Vec<u8>, Refusal>
+fn intersect_text<R: Threads + Sync>(
+    rt: &R,
+    alloc: Global,
+    problem: &Problem,
+    workers: u32,
+) -> Result<Vec<u8>, Refusal>
     requires valid { IsValid (instance_of problem.now) }
     requires sound { IsSoundInstance (instance_of problem.now) }
+    requires workers { (1 ≤ workers) × (workers ≤ 16) }
     ensures text { IfOk result (λ v. HasSolutionText is_pair IsIntersectAnswer (instance_of problem.now) v.items) }
     ensures refusal { IfErr result (λ e. IsUnsolved is_pair (instance_of problem.now) e) }
 {
-    let answer = intersect(alloc, problem)?;
+    let answer = intersect(rt, alloc, problem, workers)?;
     Ok(write_answer(alloc, &answer)?)
 }
 
@@ -58,41 +66,47 @@ fn yes(alloc: Global) -> Result<Vec<u8>, AllocError>
 }
 
 // What the command writes for a problem.
-fn text_for<F: Shelf>(
+fn text_for<R: Threads + Sync, F: Shelf>(
+    rt: &R,
     alloc: Global,
     files: &mut F,
-    command: &Command<'_>,
+    line: &CommandLine<'_>,
     problem: &Problem,
 ) -> Result<Vec<u8>, Refusal>
     requires valid { IsValid (instance_of problem.now) }
     requires sound { IsSoundInstance (instance_of problem.now) }
     ensures held { (name : List ℕ) → F.held files.new name ≡ F.held files.old name }
     ensures grows { (name : List ℕ) → F.faults files.old name ≤ F.faults files.new name }
-    ensures text { IfOk result (λ v. HasText (F.held files.old) (line_of command.now) (instance_of problem.now) v.items) }
-    ensures refusal { IfErr result (λ e. HasNoText (F.held files.old) (line_of command.now) (instance_of problem.now)
+    ensures text { IfOk result (λ v. HasText (F.held files.old) (task_of line.now.command) (instance_of problem.now) v.items) }
+    ensures refusal { IfErr result (λ e. HasNoText (F.held files.old) (task_of line.now.command) (instance_of problem.now)
         (F.faults files.old) (F.faults files.new) e) }
 {
-    match command {
+    match line.command {
         Command::Show { .. } => Ok(write_problem(alloc, problem)?),
         Command::Best { .. } => best_text(alloc, problem),
-        Command::Intersect { .. } => intersect_text(alloc, problem),
+        Command::Intersect { .. } => intersect_text(rt, alloc, problem, line.workers),
         Command::Check { certificate, .. } => {
-            judge(alloc, files, certificate, problem)?;
+            judge(rt, alloc, files, certificate, problem, line.workers)?;
             Ok(yes(alloc)?)
         }
     }
 }
 
 // What the command writes for the description in its file.
-fn answer<F: Shelf>(alloc: Global, files: &mut F, command: &Command<'_>) -> Result<Vec<u8>, Refusal>
+fn answer<R: Threads + Sync, F: Shelf>(
+    rt: &R,
+    alloc: Global,
+    files: &mut F,
+    line: &CommandLine<'_>,
+) -> Result<Vec<u8>, Refusal>
     ensures held { (name : List ℕ) → F.held files.new name ≡ F.held files.old name }
     ensures grows { (name : List ℕ) → F.faults files.old name ≤ F.faults files.new name }
-    ensures text { IfOk result (λ v. MayBeWritten (F.held files.old) (line_of command.now) v.items) }
-    ensures refusal { IfErr result (λ e. IsRefusal (F.held files.old) (line_of command.now) (F.faults files.old) (F.faults files.new) e) }
+    ensures text { IfOk result (λ v. MayBeWritten (F.held files.old) (task_of line.now.command) v.items) }
+    ensures refusal { IfErr result (λ e. IsRefusal (F.held files.old) (task_of line.now.command) (F.faults files.old) (F.faults files.new) e) }
 {
-    let bytes = read_all(alloc, files, command.description(), DESCRIPTION_LIMIT)?;
+    let bytes = read_all(alloc, files, line.command.description(), DESCRIPTION_LIMIT)?;
     let problem = read_problem(alloc, &bytes)?;
-    text_for(alloc, files, command, &problem)
+    text_for(rt, alloc, files, line, &problem)
 }
 
 // Writes a text, and tells how that ended.
@@ -104,30 +118,34 @@ fn written<O: Sink>(out: &mut O, text: &[u8]) -> Result<(), Refusal>
 }
 
 // Does what the command says, and tells how that ended.
-fn perform<F: Shelf, O: Sink>(
+fn perform<R: Threads + Sync, F: Shelf, O: Sink>(
+    rt: &R,
     alloc: Global,
     files: &mut F,
     out: &mut O,
-    command: &Command<'_>,
+    line: &CommandLine<'_>,
 ) -> Result<(), Refusal>
     ensures held { (name : List ℕ) → F.held files.new name ≡ F.held files.old name }
     ensures grows { (name : List ℕ) → F.faults files.old name ≤ F.faults files.new name }
     ensures out_grows { O.faults out.old ≤ O.faults out.new }
-    ensures ended { IsEnded (F.held files.old) (line_of command.now) (F.faults files.old) (F.faults files.new)
+    ensures ended { IsEnded (F.held files.old) (task_of line.now.command) (F.faults files.old) (F.faults files.new)
         (O.written out.old) (O.faults out.old) (O.written out.new) (O.faults out.new) result }
 {
-    let text = answer(alloc, files, command)?;
+    let text = answer(rt, alloc, files, line)?;
     written(out, &text)
 }
 
 /// Does what the words ask for: reads its files from the shelf, writes the answer to `out` and, where it is refused, a note to
-/// `notes`, and answers how it ended. The words are those after the program's name.
+/// `notes`, and answers how it ended. The words are those after the program's name. As many workers as they name, from 1 to 16 and 1
+/// where they name none, compute the rows of tables side by side; what is right doesn't depend on how many. Threads are started
+/// by `rt`, and each has ended when the call returns.
 ///
 /// Usage comes exactly where the words are no command, ReadFault only where the shelf's count of faults rose for a file of the call, and
 /// WriteFault only where the count of `out` rose. Where the shelf tells the files, each other status but Memory is the one of the
 /// table in docs/DEFINITIONS.md: TooLong, BadDescription, BadCertificate, WrongShape, No or Done. Nothing is written to `out` but on Done, when it
 /// is the whole answer, and on WriteFault, when it is a prefix of it.
-pub fn run<F: Shelf, O: Sink, N: Sink>(
+pub fn run<R: Threads + Sync, F: Shelf, O: Sink, N: Sink>(
+    rt: &R,
     alloc: Global,
     words: &[String],
     files: &mut F,
@@ -145,33 +163,33 @@ pub fn run<F: Shelf, O: Sink, N: Sink>(
 
     // Faults have a cause: a count that rose.
     ensures read_fault { result ≡ Status.ReadFault
-        → (name : List ℕ) × CallReaches (F.held files.old) (command_line (map string_bytes words.now)) name
+        → (name : List ℕ) × CallReaches (F.held files.old) (asked_by (map string_bytes words.now)) name
         × Rose (F.faults files.old name) (F.faults files.new name) }
     ensures write_fault { result ≡ Status.WriteFault → Rose (O.faults out.old) (O.faults out.new) }
 
     // Where the files are told, the status is that of the outcome.
-    ensures status { Tells (F.held files.old) (command_line (map string_bytes words.now))
-        → IsStatus (F.held files.old) (command_line (map string_bytes words.now)) result }
+    ensures status { Tells (F.held files.old) (asked_by (map string_bytes words.now))
+        → IsStatus (F.held files.old) (asked_by (map string_bytes words.now)) result }
 
     // The answer is written whole, or a prefix of it, or nothing.
-    ensures written { IsWritten (F.held files.old) (command_line (map string_bytes words.now)) (O.written out.old) (O.written out.new) result }
+    ensures written { IsWritten (F.held files.old) (asked_by (map string_bytes words.now)) (O.written out.old) (O.written out.new) result }
 
     // The note of the status is written, or a prefix of it where the sink fails.
-    ensures noted { (note : List ℕ) × IsNote (F.held files.old) (command_line (map string_bytes words.now)) result note
+    ensures noted { (note : List ℕ) × IsNote (F.held files.old) (asked_by (map string_bytes words.now)) result note
         × IsNoted note (N.written notes.old) (N.faults notes.old) (N.written notes.new) (N.faults notes.new) }
 
     // Where the files are told and no count rose, the outcome is reached, or memory ran out.
-    ensures complete { Tells (F.held files.old) (command_line (map string_bytes words.now))
-        → ((name : List ℕ) → CallReaches (F.held files.old) (command_line (map string_bytes words.now)) name
+    ensures complete { Tells (F.held files.old) (asked_by (map string_bytes words.now))
+        → ((name : List ℕ) → CallReaches (F.held files.old) (asked_by (map string_bytes words.now)) name
         → ¬ (Rose (F.faults files.old name) (F.faults files.new name)))
         → ¬ (Rose (O.faults out.old) (O.faults out.new))
-        → IsOutcome (F.held files.old) (command_line (map string_bytes words.now)) result ⊎ (result ≡ Status.Memory) }
+        → IsOutcome (F.held files.old) (asked_by (map string_bytes words.now)) result ⊎ (result ≡ Status.Memory) }
 {
-    let Some(command) = command_of(words) else {
+    let Some(line) = command_line(words) else {
         put_note(notes, Refusal::Usage);
         return Status::Usage;
     };
-    match perform(alloc, files, out, &command) {
+    match perform(rt, alloc, files, out, &line) {
         Ok(()) => Status::Done,
         Err(refusal) => {
             put_note(notes, refusal);

@@ -8,7 +8,7 @@ use Rattle.mat_top.proofs.Judging.{right_outcome, wrong_outcome}
 use Rattle.mat_top.proofs.judge.judge_bytes.Goals as goal
 
 pub returns-in-Yes-clause-right : goal.returns-in-Yes-clause-right
-returns-in-Yes-clause-right c =
+returns-in-Yes-clause-right g c =
     let answer = certificate_of c.in_ok-answer.answer in
     let certified : IsCertified c.args.bytes.now answer =
     record { within = c.requires.within; ranged = c.in_ok-answer.ensures.ranged; text = c.in_ok-answer.ensures.found } in
@@ -17,7 +17,7 @@ returns-in-Yes-clause-right c =
     (sym c.in_ok-check.ensures.failure ∙ ap failure_in c.in-Yes.is)
 
 pub returns-clause-refusal : goal.returns-clause-refusal
-returns-clause-refusal c =
+returns-clause-refusal g c =
     let answer = certificate_of c.in_ok-answer.answer in
     let certified : IsCertified c.args.bytes.now answer =
     record { within = c.requires.within; ranged = c.in_ok-answer.ensures.ranged; text = c.in_ok-answer.ensures.found } in

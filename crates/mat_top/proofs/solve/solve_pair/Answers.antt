@@ -7,7 +7,7 @@ use Rattle.mat_top.proofs.PricedLadder.{few_elements, priced_solution}
 use Rattle.mat_top.proofs.solve.solve_pair.Goals as goal
 
 pub priced_rungs-requires-clause-rungs : goal.priced_rungs-requires-clause-rungs
-priced_rungs-requires-clause-rungs c =
+priced_rungs-requires-clause-rungs g c =
     let p = is_independent (tree_of c.args.first.now) in
     let w = c.args.weights.now in
     let laws : IsMatroid (length w) p = subst (λ (n : ℕ). IsMatroid n p) c.requires.sound.1 c.lawful.ensures in
@@ -17,7 +17,7 @@ priced_rungs-requires-clause-rungs c =
     ladder)
 
 pub returns-clause-solution : goal.returns-clause-solution
-returns-clause-solution c =
+returns-clause-solution g c =
     let p = is_independent (tree_of c.args.first.now) in
     let w = c.args.weights.now in
     let laws : IsMatroid (length w) p = subst (λ (n : ℕ). IsMatroid n p) c.requires.sound.1 c.lawful.ensures in

@@ -3,7 +3,7 @@ use Rattle.mat_cert.proofs.Lengths.{length-certificate_text}
 use Rattle.mat_top.proofs.top_call.intersect_text.Goals as goal
 
 pub returns-clause-text : goal.returns-clause-text
-returns-clause-text c =
+returns-clause-text g c =
     let solved = c.in_ok-answer.ensures.solved in
     record {
       form = solved.0;

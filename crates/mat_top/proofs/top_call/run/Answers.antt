@@ -1,6 +1,6 @@
 use Rattle.std.proofs.Common.{sym, Err}
 use Rattle.mat_top.specs.declared.status.Refusal.TheVariants as refusals
-use Rattle.mat_top.specs.Commands.{line_of}
+use Rattle.mat_top.specs.Commands.{task_of}
 use Rattle.mat_top.specs.Statuses.{note_of}
 use Rattle.mat_top.proofs.Ending.{usage_noted, ended-written}
 use Rattle.mat_top.proofs.top_call.run.Goals as goal
@@ -11,5 +11,5 @@ returns-in_default-clause-noted g c = (note_of refusals.Usage, usage_noted (g.F.
 pub returns-in-Err-clause-written : goal.returns-in-Err-clause-written
 returns-in-Err-clause-written g c =
     rw (sym c.in-Some.ensures, c.status.ensures)
-    (ended-written (g.F.Shelf.held c.args.files.now) (line_of c.in-Some.command) _ _ (g.O.Sink.written c.args.out.now) _
+    (ended-written (g.F.Shelf.held c.args.files.now) (task_of c.in-Some.line.command) _ _ (g.O.Sink.written c.args.out.now) _
     (g.O.Sink.written c.perform.new.out) _ (Err c.in-Err.refusal) c.in-Err.ensures.ended)
