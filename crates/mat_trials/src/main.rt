@@ -1,32 +1,27 @@
-//! The program `mat_trials`, a test: it runs the top call over the cases of the file `cases.txt`, the search for disjoint paths over
-//! the graphs of the files `routes_*.txt`, and the calls of matroids over those of the files `kinds_*.txt` and over small known ones,
-//! and prints what came of each. What it has to print was worked out without it. With names of descriptions as words it prints the lines of these alone.
+//! The program `mat_trials`, a test: it runs the top call over the cases of the file `cases.txt`, over files and sinks that fail, and over
+//! the real files; the search for disjoint paths over the graphs of the files `routes_*.txt`; and the calls of matroids over those of
+//! the files `kinds_*.txt` and over small known ones. It prints what came of each. What it has to print was worked out without it. With
+//! names of descriptions as words it prints the lines of these alone.
 #![tactic(auto)]
 
+mod calls;
 mod cases;
+mod faults;
 mod kinds;
 mod known;
+mod real;
 mod reports;
 mod routes;
+mod shared;
 
-use crate::cases::cases_of;
+use crate::faults::fault_report;
 use crate::kinds::{KINDS, kinds_report};
 use crate::known::known_report;
-use crate::reports::report_of;
+use crate::real::real_report;
+use crate::reports::cases_report;
 use crate::routes::{ROUTES, route_report};
 use std::io::Write;
 use std::{env, fs, io};
-
-// Runs the cases of the file `cases.txt`.
-fn print_cases(rt: &HostRuntime) -> io::Result<()> {
-    let alloc = rt.alloc();
-    let text = fs::read_to_string(rt, "cases.txt")?;
-    for case in cases_of(alloc, text.as_str())?.iter() {
-        let report = report_of(alloc, case)?;
-        rt.stdout().write_all(report.as_slice())?;
-    }
-    Ok(())
-}
 
 // Prints the lines of the matroids of a description.
 fn print_kinds(rt: &HostRuntime, name: &str) -> io::Result<()> {
@@ -52,7 +47,7 @@ fn print_named(rt: &HostRuntime, names: &[String]) -> io::Result<()> {
 }
 
 // The words after the program's name.
-fn words_of(rt: &HostRuntime) -> io::Result<Vec<String>> {
+fn names_of(rt: &HostRuntime) -> io::Result<Vec<String>> {
     let mut words = Vec::new(rt.alloc());
     for word in env::args(rt)?.skip(1) {
         words.push(word)?;
@@ -61,17 +56,24 @@ fn words_of(rt: &HostRuntime) -> io::Result<Vec<String>> {
 }
 
 fn main(rt: HostRuntime) -> io::Result<()> {
-    let names = words_of(&rt)?;
+    let alloc = rt.alloc();
+    let names = names_of(&rt)?;
     if !names.is_empty() {
         return print_named(&rt, &names);
     }
-    print_cases(&rt)?;
+    let cases = fs::read_to_string(&rt, "cases.txt")?;
+    let report = cases_report(&rt, alloc, cases.as_str())?;
+    rt.stdout().write_all(report.as_slice())?;
+    let report = fault_report(&rt, alloc)?;
+    rt.stdout().write_all(report.as_slice())?;
+    let report = real_report(&rt, alloc)?;
+    rt.stdout().write_all(report.as_slice())?;
     for name in ROUTES.iter() {
         print_route(&rt, *name, true)?;
     }
     for name in KINDS.iter() {
         print_kinds(&rt, *name)?;
     }
-    let known = known_report(rt.alloc())?;
+    let known = known_report(alloc)?;
     rt.stdout().write_all(known.as_bytes())
 }

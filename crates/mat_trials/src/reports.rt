@@ -1,82 +1,10 @@
 //! What is printed of a case.
 
-ghost use Rattle.std.specs.Prelude.{IfOk};
-ghost use Rattle.mat_shelf.specs.Files.{HaveDifferentNames};
-
-use crate::cases::Case;
-use mat_shelf::{MemShelf, MemSink, NamedFile, Shelf, SureShelf};
-use mat_top::{Status, run};
+use crate::calls::{ended_alone, ended_beside, words_of};
+use crate::cases::{Case, cases_of};
+use crate::shared::is_same_for_all;
 use std::alloc::{AllocError, Global};
-
-// How many bytes one read of the file gives, and one write takes.
-const STEP: usize = 4096;
-
-// The most bytes that a sink holds.
-const ROOM: usize = 1_048_576;
-
-// How a call of the top call ended, what it wrote, and its note.
-#[derive(Drop)]
-struct Ended {
-    status: Status,
-    out: MemSink,
-    notes: MemSink,
-}
-
-// The one file `f` with this text.
-fn one_file(alloc: Global, text: &str) -> Result<Vec<NamedFile>, AllocError>
-    ensures { IfOk result (λ files. HaveDifferentNames files.items) }
-{
-    let bytes = text.as_bytes().to_vec(alloc)?;
-    let file = NamedFile::new(String::from_str(alloc, "f")?, bytes);
-    let mut files = Vec::new(alloc);
-    files.push(file)?;
-    Ok(files)
-}
-
-// A sink that never fails before it is full.
-fn sink(alloc: Global) -> Result<MemSink, AllocError> {
-    MemSink::new(alloc, ROOM, STEP, Vec::new(alloc))
-}
-
-// Runs the top call on these words over a shelf.
-fn ended_over<F: Shelf>(
-    alloc: Global,
-    words: &[String],
-    shelf: &mut F,
-) -> Result<Ended, AllocError> {
-    let mut out = sink(alloc)?;
-    let mut notes = sink(alloc)?;
-    let status = run(alloc, words, shelf, &mut out, &mut notes);
-    Ok(Ended { status, out, notes })
-}
-
-// Runs the top call where the file `f` is there alone.
-fn ended_alone(alloc: Global, words: &[String], description: &str) -> Result<Ended, AllocError> {
-    let files = one_file(alloc, description)?;
-    let mut shelf = MemShelf::new(files, STEP, Vec::new(alloc));
-    ended_over(alloc, words, &mut shelf)
-}
-
-// Runs the top call where the file `f` has the description, and every other file the certificate.
-fn ended_beside(
-    alloc: Global,
-    words: &[String],
-    description: &str,
-    certificate: &[u8],
-) -> Result<Ended, AllocError> {
-    let files = one_file(alloc, description)?;
-    let mut shelf = SureShelf::new(files, certificate.to_vec(alloc)?);
-    ended_over(alloc, words, &mut shelf)
-}
-
-// The words by which a certificate of the file `f` is judged.
-fn words_of_check(alloc: Global) -> Result<Vec<String>, AllocError> {
-    let mut words = Vec::new(alloc);
-    for word in ["check", "f", "c"] {
-        words.push(String::from_str(alloc, word)?)?;
-    }
-    Ok(words)
-}
+use std::thread::Threads;
 
 // The line of the words of a case.
 fn heading_of(alloc: Global, words: &[String]) -> Result<Vec<u8>, AllocError> {
@@ -112,25 +40,49 @@ fn add_fixed_lines(report: &mut Vec<u8>, certificate: &[u8]) -> Result<(), Alloc
 }
 
 // Adds what the judge says of a certificate that was printed.
-fn add_judgement(
+fn add_judgement<R: Threads + Sync>(
+    rt: &R,
     alloc: Global,
     report: &mut Vec<u8>,
     description: &str,
     certificate: &[u8],
 ) -> Result<(), AllocError> {
-    let words = words_of_check(alloc)?;
-    let judged = ended_beside(alloc, &words, description, certificate)?;
+    let words = words_of(alloc, &["check", "f", "c"])?;
+    let copy = certificate.to_vec(alloc)?;
+    let judged = ended_beside(rt, alloc, &words, description, copy)?;
     report.extend_from_slice(judged.notes.taken())?;
     report.extend_from_slice(judged.out.taken())
 }
 
-/// The words of a case, the status with which the top call ends, its note, and what it writes: of a certificate the lines that every
-/// right answer has, and what the judge says of it, and every other text whole.
-pub(crate) fn report_of(alloc: Global, case: &Case) -> Result<Vec<u8>, AllocError> {
+// Adds whether a certificate that was printed is the same for each number of workers, where the words have no option.
+fn add_comparison<R: Threads + Sync>(
+    rt: &R,
+    alloc: Global,
+    report: &mut Vec<u8>,
+    case: &Case,
+    certificate: &[u8],
+) -> Result<(), AllocError> {
+    let [command, _] = case.words.as_slice() else {
+        return Ok(());
+    };
+    let description = case.description.as_str();
+    if is_same_for_all(rt, alloc, command.as_str(), description, certificate)? {
+        report.extend_from_slice(b"workers same\n")
+    } else {
+        report.extend_from_slice(b"workers differ\n")
+    }
+}
+
+// The words of a case, the status with which the top call ends, its note, and what it writes: of a certificate the lines that every
+// right answer has, what the judge says of it, and whether it is the same for each number of workers, and every other text whole.
+fn report_of<R: Threads + Sync>(rt: &R, alloc: Global, case: &Case) -> Result<Vec<u8>, AllocError> {
     let description = case.description.as_str();
     let ended = match &case.certificate {
-        Some(text) => ended_beside(alloc, &case.words, description, text.as_bytes())?,
-        None => ended_alone(alloc, &case.words, description)?,
+        Some(text) => {
+            let bytes = text.as_bytes().to_vec(alloc)?;
+            ended_beside(rt, alloc, &case.words, description, bytes)?
+        }
+        None => ended_alone(rt, alloc, &case.words, description)?,
     };
     let number = ended.status.number();
     let mut report = heading_of(alloc, &case.words)?;
@@ -139,8 +91,24 @@ pub(crate) fn report_of(alloc: Global, case: &Case) -> Result<Vec<u8>, AllocErro
     if !asks_to_solve(&case.words) {
         report.extend_from_slice(ended.out.taken())?;
     } else if number == 0 {
-        add_fixed_lines(&mut report, ended.out.taken())?;
-        add_judgement(alloc, &mut report, description, ended.out.taken())?;
+        let certificate = ended.out.taken();
+        add_fixed_lines(&mut report, certificate)?;
+        add_judgement(rt, alloc, &mut report, description, certificate)?;
+        add_comparison(rt, alloc, &mut report, case, certificate)?;
     }
     Ok(report)
+}
+
+/// What is printed of the cases of a file that begins with one.
+pub(crate) fn cases_report<R: Threads + Sync>(
+    rt: &R,
+    alloc: Global,
+    file: &str,
+) -> Result<Vec<u8>, AllocError> {
+    let mut all = Vec::new(alloc);
+    for case in cases_of(alloc, file)?.iter() {
+        let report = report_of(rt, alloc, case)?;
+        all.extend_from_slice(report.as_slice())?;
+    }
+    Ok(all)
 }
