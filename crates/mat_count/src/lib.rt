@@ -6,12 +6,8 @@ mod crossings;
 mod full_sets;
 mod laminar;
 mod laminar_fault;
-#[cfg(test)]
-mod laminar_tests;
 mod laws;
 mod partition;
-#[cfg(test)]
-mod tests;
 mod uniform;
 
 pub use crossings::crossing;

@@ -8,8 +8,6 @@ mod linking;
 mod reroutes;
 mod residual;
 mod separator;
-#[cfg(test)]
-mod tests;
 mod trails;
 mod walk;
 

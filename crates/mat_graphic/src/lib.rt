@@ -4,8 +4,6 @@
 mod graphic;
 pub mod laws;
 mod rooted_forest;
-#[cfg(test)]
-mod tests;
 mod union_find;
 
 pub use graphic::Graphic;

@@ -3,14 +3,10 @@
 
 mod alternating;
 mod gammoid;
-#[cfg(test)]
-mod gammoid_tests;
 mod kept_linking;
 mod kept_matching;
 mod laws;
 mod matching;
-#[cfg(test)]
-mod tests;
 mod transversal;
 
 pub use gammoid::Gammoid;

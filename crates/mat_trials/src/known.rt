@@ -10,6 +10,7 @@ ghost use Rattle.mat_any.specs.Views.{tree_of};
 use crate::routes::set_below;
 use mat_any::AnyMatroid;
 use mat_count::{Laminar, LaminarFault};
+use mat_flow::{Digraph, linked};
 use mat_gf2::Gf2;
 use mat_graphic::Graphic;
 use mat_greedy::heaviest_of;
@@ -135,6 +136,18 @@ fn told_minors(alloc: Global) -> Result<String, AllocError> {
     format!(in alloc; "{truncation}{restriction}{contraction}")
 }
 
+// Two sources and two targets, between which all paths pass one vertex: one path, and that vertex separates.
+fn told_linking(alloc: Global) -> Result<String, AllocError> {
+    let arcs = vec![in alloc; (0, 2), (1, 2), (2, 3), (2, 4)]?;
+    let graph = Digraph::new(alloc, 5, Pairs::new(arcs))?;
+    let sources = set_below(alloc, 5, &[0, 1])?;
+    let targets = set_below(alloc, 5, &[3, 4])?;
+    let linking = linked(alloc, &graph, &sources, &targets)?;
+    let paths = linking.paths.len();
+    let separator = told_set(alloc, &linking.separator)?;
+    format!(in alloc; "linking {paths} {separator}\n")
+}
+
 // The least vertex that each of six vertices reaches along three edges that join four of them.
 fn told_components(alloc: Global) -> Result<String, AllocError> {
     let edges = vec![in alloc; (0, 1), (1, 2), (2, 3), (3, 0), (4, 4), (0, 2), (4, 5)]?;
@@ -228,16 +241,17 @@ fn told_found(alloc: Global, found: Option<ElemSet>) -> Result<String, AllocErro
     }
 }
 
-/// What is told of the known matroids, in thirteen lines.
+/// What is told of the known matroids, in fourteen lines.
 pub(crate) fn known_report(alloc: Global) -> Result<String, AllocError> {
     let graph = told_graph(alloc)?;
     let any = told_any(alloc)?;
     let minors = told_minors(alloc)?;
+    let linking = told_linking(alloc)?;
     let components = told_components(alloc)?;
     let faults = told_faults(alloc)?;
     let ranks = told_ranks(alloc)?;
     let columns = told_columns(alloc)?;
     let base = told_base(alloc)?;
     let heaviest = told_heaviest(alloc)?;
-    format!(in alloc; "{graph}{any}{minors}{components}{faults}{ranks}{columns}{base}{heaviest}")
+    format!(in alloc; "{graph}{any}{minors}{linking}{components}{faults}{ranks}{columns}{base}{heaviest}")
 }
