@@ -2,9 +2,9 @@
 -- heaviest in the sum. A common independent set lies in part outside the cut and in part inside it, and the ranks bound both parts.
 use Rattle.std.proofs.Common.{◌≡◌, ℕ, suc, pred, ◌<◌, ◌≤◌, Bool, true, List, length, sym, ◌∙◌, arith}
 use Rattle.std.proofs.lemmas.Int.{ints}
-use Rattle.mat_sets.specs.Sets.{IsSet, IsSubset, minus, intersection, all_below}
-use Rattle.mat_sets.proofs.Members.{set_members, IsRising-minus, IsRising-intersection}
-use Rattle.mat_sets.proofs.Subsets.{minus-IsSubset, intersection-left, intersection-right}
+use Rattle.mat_sets.specs.Sets.{IsSet, minus, intersection, all_below}
+use Rattle.mat_sets.proofs.Members.{IsRising-minus, IsRising-intersection}
+use Rattle.mat_sets.proofs.Subsets.{minus-both, minus-IsSubset, intersection-left, intersection-right}
 use Rattle.mat_sets.proofs.Cardinalities.{length-minus-intersection}
 use Rattle.mat_sets.proofs.WeightSums.{weight_sum-plus}
 use Rattle.mat_sets.proofs.Ground.{below_member, IsRising-all_below, IsSubset-all_below}
@@ -22,9 +22,6 @@ pub split_weight : (n : ℕ) (p q : List ℕ → Bool) (w : List Weight) (k : �
 split_weight n p q w k set first second r X s =
     weight_sum-plus (weight_at w) (weight_at first) (weight_at second) X (λ e m. sym (r.split e (below_member s m)))
 
-minus-both : (E I R : List ℕ) → IsSubset I E → IsSubset (minus I R) (minus E R)
-minus-both E I R s = record { inside = λ k m. grind (arith, set_members, s.inside k) }
-
 module _ {n : ℕ} {p q : List ℕ → Bool} (lp : IsMatroid n p) (lq : IsMatroid n q) where
   -- the set of a rung is heaviest of its size among the common independent sets
   pub rung_is_heaviest : (w : List Weight) (k : ℕ) (set : List ℕ) (first second : List Weight) → IsRung n p q w k set first second
@@ -41,7 +38,7 @@ module _ {n : ℕ} {p q : List ℕ → Bool} (lp : IsMatroid n p) (lq : IsMatroi
         omega (arith, ints, pairs);
   }
 
-  -- no common independent set has more elements than the ranks of a cut add up to
+  -- no common independent set has more elements than the ranks of a cut add up to (Edmonds' bound)
   pub cut_bounds : (k : ℕ) (cut : List ℕ) → IsCut n p q k cut → (X : List ℕ) → p X ≡ true → q X ≡ true → length X ≤ k
   cut_bounds k cut c X in_p in_q =
       let set = lp.sets X in_p in
@@ -55,7 +52,7 @@ module _ {n : ℕ} {p q : List ℕ → Bool} (lp : IsMatroid n p) (lq : IsMatroi
         arith,
         c.ranks,
         length-minus-intersection X cut set.rising,
-        first.most outside p_ok (minus-both (all_below n) X cut (IsSubset-all_below n X set.below)),
+        first.most outside p_ok (minus-both X (all_below n) cut (IsSubset-all_below n X set.below)),
         second.most inside q_ok (intersection-right X cut),
       )
 

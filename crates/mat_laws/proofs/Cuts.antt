@@ -4,7 +4,7 @@ use Rattle.std.proofs.Common.{◌≡◌, ℕ, ◌+◌, Bool, true, false, not, L
 use Rattle.std.proofs.lemmas.Bool.{and_parts, not-true}
 use Rattle.mat_sets.specs.Sets.{is_member, IsRising, IsSubset, with_one, without_one, minus, intersection}
 use Rattle.mat_sets.proofs.Members.{set_members, is_member-minus, IsRising-minus, IsRising-intersection}
-use Rattle.mat_sets.proofs.Subsets.{minus-IsSubset, intersection-left, intersection-right}
+use Rattle.mat_sets.proofs.Subsets.{minus-both, minus-IsSubset, intersection-left, intersection-right}
 use Rattle.mat_sets.proofs.Cardinalities.{length-minus-intersection}
 use Rattle.mat_laws.specs.Matroids.{IsMatroid, IsMaximal}
 use Rattle.mat_laws.specs.Ranks.{rank}
@@ -24,9 +24,6 @@ in_reach y I R m o = grind (arith, set_members)
 
 out_of_reach : (y : ℕ) (I R : List ℕ) → is_member y I ≡ true → is_member y (intersection I R) ≡ false → is_member y R ≡ false
 out_of_reach y I R m o = grind (arith, set_members)
-
-minus-both : (E I R : List ℕ) → IsSubset I E → IsSubset (minus I R) (minus E R)
-minus-both E I R s = record { inside = λ k m. grind (arith, set_members, s.inside k) }
 
 inside_part : (y : ℕ) (I S : List ℕ) (q : Bool) → is_member y I ≡ true → q ≡ true
     → (is_member y I ≡ true → is_member y S ≡ false → q ≡ false) → is_member y S ≡ true
@@ -59,7 +56,7 @@ module _ {n : ℕ} {p : List ℕ → Bool} (laws : IsMatroid n p) where
       → rank p (minus E R) ≡ length (minus I R)
   rank-out_of_reach E I R ok re s no_addition no_exchange =
       rank-maximal laws (minus E R) (minus I R) (IsRising-minus E R re)
-      (maximal_part I (minus I R) (minus E R) ok (IsRising-minus I R (rising laws I ok)) (minus-IsSubset I R) (minus-both E I R s)
+      (maximal_part I (minus I R) (minus E R) ok (IsRising-minus I R (rising laws I ok)) (minus-IsSubset I R) (minus-both I E R s)
       (λ x m o. outside_side x E I R m o)
       (λ x m o. (let h = sides x m in no_addition x h.0 o h.1))
       (λ x y m o i out. (let h = sides x m in no_exchange x y h.0 o h.1 i (in_reach y I R i out))))

@@ -1,14 +1,17 @@
 //! What the laws of a matroid imply, for every test of independence that obeys them. Each law is the contract of a
 //! function that does nothing.
 
-ghost use Rattle.std.specs.Prelude.{◌≡◌, ◌≤◌, ◌||◌, ℕ, List, Bool, true, false, length, ◌≤ℤ◌};
-ghost use Rattle.mat_sets.specs.Sets.{is_member, IsRising, with_one, minus, union};
+ghost use Rattle.std.specs.Prelude.{◌≡◌, ◌↔◌, ◌+◌, ◌<◌, ◌≤◌, ◌||◌, ℕ, List, Bool, true, false, length, ◌≤ℤ◌};
+ghost use Rattle.mat_sets.specs.Sets.{is_member, IsRising, IsSet, all_below, with_one, minus, union};
 ghost use Rattle.mat_sets.specs.Sums.{sum_of};
+ghost use Rattle.mat_sets.specs.Weights.{◌≺◌};
 ghost use Rattle.mat_sets.specs.declared.weight.Weight.{Weight};
 ghost use Rattle.mat_laws.specs.Matroids.{IsMatroid, IsMaximal, IsBase};
 ghost use Rattle.mat_laws.specs.Ranks.{IsRank, rank};
 ghost use Rattle.mat_laws.specs.Exchanges.{HasSymmetricPartner, IsTriangular};
 ghost use Rattle.mat_laws.specs.Heaviest.{IsHeaviest, IsLocallyHeaviest};
+ghost use Rattle.mat_laws.specs.Ladders.{IsCut};
+ghost use Rattle.mat_laws.specs.TightPaths.{Exchanges, exchanges_at, is_heaviest_addable};
 
 /// The rank of a set is the largest size of an independent subset (Schrijver, chapter 39).
 pub fn rank_is_largest()
@@ -78,4 +81,24 @@ pub fn triangular_exchange()
     ensures { (n : ℕ) (independent : List ℕ → Bool) → IsMatroid n independent
         → (I ys xs : List ℕ) → independent I ≡ true → IsTriangular independent I ys xs
         → independent (union xs (minus I ys)) ≡ true }
+{}
+
+/// An element is a heaviest one that can be added exactly where it can be added and weighs no less than any element below n that can be
+/// added (Frank 1981): so for any exchanges, and for those of a test of independence at a set.
+pub fn heaviest_addable_is_not_below()
+    ensures exchanges { (n : ℕ) (exchanges : Exchanges) (w : ℕ → Weight) (x : ℕ) → (is_heaviest_addable n exchanges w x ≡ true)
+        ↔ ((exchanges.adds x ≡ true) × ((e : ℕ) → e < n → exchanges.adds e ≡ true → ¬ (w x ≺ w e))) }
+    ensures at_a_set { (n : ℕ) (independent : List ℕ → Bool) (I : List ℕ) (w : ℕ → Weight) (x : ℕ)
+        → (is_heaviest_addable n (exchanges_at independent I) w x ≡ true)
+        ↔ ((is_member x I ≡ false) × (independent (with_one I x) ≡ true)
+        × ((e : ℕ) → e < n → is_member e I ≡ false → independent (with_one I e) ≡ true → ¬ (w x ≺ w e))) }
+{}
+
+/// A cut alone shows that no common independent set is larger (Edmonds' bound; Schrijver, chapter 41): a set that is independent in both
+/// matroids has at most as many elements as the rank of any set in the second and the rank of its complement in the first add up to.
+pub fn cut_bounds_common_sets()
+    ensures ranks { (n : ℕ) (p q : List ℕ → Bool) → IsMatroid n p → IsMatroid n q
+        → (A X : List ℕ) → IsSet n A → p X ≡ true → q X ≡ true → length X ≤ rank p (minus (all_below n) A) + rank q A }
+    ensures cut { (n : ℕ) (p q : List ℕ → Bool) → IsMatroid n p → IsMatroid n q
+        → (k : ℕ) (cut X : List ℕ) → IsCut n p q k cut → p X ≡ true → q X ≡ true → length X ≤ k }
 {}

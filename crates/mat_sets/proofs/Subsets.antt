@@ -25,6 +25,9 @@ without_one-IsSubset a x = record { inside = λ k h. grind (arith, set_members) 
 pub minus-IsSubset : (a b : List ℕ) → IsSubset (minus a b) a
 minus-IsSubset a b = record { inside = λ k h. grind (arith, set_members) }
 
+pub minus-both : (a b c : List ℕ) → IsSubset a b → IsSubset (minus a c) (minus b c)
+minus-both a b c s = record { inside = λ k m. grind (arith, set_members, s.inside k) }
+
 pub intersection-left : (a b : List ℕ) → IsSubset (intersection a b) a
 intersection-left a b = record { inside = λ k h. grind (arith, set_members) }
 

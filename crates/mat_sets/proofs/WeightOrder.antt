@@ -52,6 +52,12 @@ at_most_trans a b c h k = omega (arith, ints)
 pub at_most_both : (a b : Weight) → a ≼ b → b ≼ a → a ≡ b
 at_most_both a b h k = omega (arith, ints, pairs)
 
+pub at_most_not : (a b : Weight) → a ≼ b → ¬ (b ≺ a)
+at_most_not a b h k = absurd (omega (arith, ints))
+
+pub not_at_most : (a b : Weight) → ¬ (b ≺ a) → a ≼ b
+not_at_most a b none = elim (at_most_or_below a b) [ inl le ↦ le | inr less ↦ absurd (none less) ]
+
 pub by_below : {P : Type 0} (a b : Weight) → (a ≺ b → P) → (b ≼ a → P) → P
 by_below a b f g = elim (at_most_or_below b a) [ inl le ↦ g le | inr less ↦ f less ]
 
