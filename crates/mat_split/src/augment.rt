@@ -10,12 +10,14 @@ use crate::ladder::Rung;
 use mat_exchange::{Found, Grown, grow, rows};
 use mat_laws::Matroid;
 use std::alloc::{AllocError, Global};
+use std::thread::Threads;
 
 /// From a heaviest common independent set to one of one element more, or to the cut that proves that there is none (Frank 1981;
 /// Schrijver, chapter 41). The two weights change while one reached set grows; where then a tight path is found, the set is
-/// exchanged along it, and otherwise the reached set is the cut. The time is that of the rows of the two matroids and of the pairs of
-/// elements. The only error is want of memory.
-pub fn augment<A: Matroid, B: Matroid>(
+/// exchanged along it, and otherwise the reached set is the cut. The rows of each matroid are computed by so many workers. The time is
+/// that of the rows of the two matroids and of the pairs of elements. The only error is want of memory.
+pub fn augment<R: Threads + Sync, A: Matroid, B: Matroid>(
+    rt: &R,
     alloc: Global,
     a: &A,
     b: &B,
@@ -33,8 +35,8 @@ pub fn augment<A: Matroid, B: Matroid>(
 {
     a.lawful();
     b.lawful();
-    let first_rows = rows(alloc, a, &rung.set, workers)?;
-    let second_rows = rows(alloc, b, &rung.set, workers)?;
+    let first_rows = rows(rt, alloc, a, &rung.set, workers)?;
+    let second_rows = rows(rt, alloc, b, &rung.set, workers)?;
     let first = rung.first.as_slice();
     let second = rung.second.as_slice();
     let Grown {

@@ -1,5 +1,6 @@
 -- Rows that stand from a number on: one row more at the end, one list behind another, and, for callers, the row at a place.
-use Rattle.std.proofs.Common.{◌≡◌, ℕ, zero, suc, ◌+◌, ◌<◌, List, [], ◌∷◌, ◌++◌, length, get_or, sym, subst, arith}
+use Rattle.std.proofs.Common.{◌≡◌, ℕ, zero, suc, ◌+◌, ◌<◌, List, [], ◌∷◌, ◌++◌, length, get_or, sym, subst, ◌∙◌, arith}
+use Rattle.std.proofs.lemmas.List.{get_or_default, same_lists}
 use Rattle.mat_work.specs.Rows.{StandFrom}
 
 module _ {X : Type 0} (stands : ℕ → X → Type 0) where
@@ -24,3 +25,10 @@ module _ {X : Type 0} (stands : ℕ → X → Type 0) where
   StandFrom_at from [] k d h l = absurd (omega arith)
   StandFrom_at from (x ∷ xs) zero d h l = subst (λ n. stands n x) (omega arith) h.0
   StandFrom_at from (x ∷ xs) (suc k) d h l = subst (λ n. stands n (get_or xs k d)) (omega arith) (StandFrom_at (from + 1) xs k d h.1 (omega arith))
+
+-- for callers: rows of which each is the item of a list at its number are this list
+pub StandFrom_items : {X : Type 0} (xs ys : List X) (d : X) → length xs ≡ length ys → StandFrom (λ i x. x ≡ get_or ys i d) 0 xs → xs ≡ ys
+StandFrom_items xs ys d e h = same_lists xs ys e (λ k d' l.
+    let here : get_or xs k d ≡ get_or ys k d
+    = subst (λ m. get_or xs k d ≡ get_or ys m d) (omega arith) (StandFrom_at (λ i x. x ≡ get_or ys i d) 0 xs k d h l) in
+    get_or_default xs k d' d l ∙ here ∙ get_or_default ys k d d' (subst (λ m. k < m) e l))
