@@ -8,3 +8,6 @@ pub mod Separators
 pub mod PathsOfTables
 pub mod LinkedEnds
 pub mod Rerouting
+pub mod ArcPathLaws
+pub mod LineGraphs
+pub mod ArcFlows

@@ -172,7 +172,8 @@ starts_up_to before n long (suc i) l =
     let same : starts_among before (take (i + 1) (all_below n)) ≡ starts_in (take (suc i) before) = omega arith in
     subst (λ k. starts_among before (take k (all_below n)) ≡ starts_in (take (suc i) before)) (add-one i) same
 
-starts_of_all : (before : List (Option ℕ)) (n : ℕ) → length before ≡ n → starts_among before (all_below n) ≡ starts_in before
+-- in the whole table
+pub starts_of_all : (before : List (Option ℕ)) (n : ℕ) → length before ≡ n → starts_among before (all_below n) ≡ starts_in before
 starts_of_all before n long =
     let all = starts_up_to before n long n (omega arith) in
     sym (ap (starts_among before) (take_all n (all_below n) (omega (arith, length-all_below n)))) ∙ all

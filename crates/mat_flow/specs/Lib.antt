@@ -18,3 +18,6 @@ pub mod SimplePaths
 pub mod PathChoices
 pub mod PathLaws
 pub mod Reroutes
+pub mod ArcPaths
+pub mod LineGraphs
+pub mod ArcAnswers

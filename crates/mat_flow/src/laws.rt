@@ -1,5 +1,8 @@
 //! Laws of disjoint paths and separators in a directed graph, for any lists of arcs, sources and targets.
-ghost use Rattle.std.specs.Prelude.{◌≡◌, ◌≤◌, ◌⊎◌, ℕ, List, length};
+ghost use Rattle.std.specs.Prelude.{◌≡◌, ◌≤◌, ◌⊎◌, ℕ, true, false, List, length};
+ghost use Rattle.mat_sets.specs.Sets.{is_member, IsRising};
+ghost use Rattle.mat_flow.specs.ArcPaths.{AreArcPaths, IsArcCut};
+ghost use Rattle.mat_sets.specs.Graphs.{entering};
 ghost use Rattle.mat_flow.specs.Paths.{AreDisjointPaths, ArePathsApart, HasOnePathMore, HasSeparatorOf, IsLinking, IsSeparator};
 
 /// Where paths from sources to targets share no vertex with each other, there is one disjoint path more, at all their ends and
@@ -28,4 +31,15 @@ pub fn disjoint_paths_are_apart()
 pub fn menger()
     ensures { (arcs : List (ℕ × ℕ)) (sources targets : List ℕ)
         → (paths : List (List ℕ)) × (separator : List ℕ) × IsLinking arcs sources targets paths separator }
+{}
+
+/// Where so many paths over live arcs share no arc, each vertex set with their end and without their start is entered by as many live
+/// arcs: so there are not both such paths and such a cut.
+pub fn arc_paths_enter()
+    ensures enter { (ends : ℕ → ℕ × ℕ) (live : List ℕ) (from to want : ℕ) (paths : List (List ℕ)) (cut : List ℕ)
+        → IsRising live → AreArcPaths ends live from to want paths
+        → is_member from cut ≡ false → is_member to cut ≡ true → want ≤ length (entering ends live cut) }
+    ensures no_cut { (vertices : ℕ) (ends : ℕ → ℕ × ℕ) (live : List ℕ) (from to want : ℕ) (paths : List (List ℕ)) (cut : List ℕ)
+        → IsRising live → AreArcPaths ends live from to want paths
+        → ¬ IsArcCut vertices ends live from to want cut }
 {}

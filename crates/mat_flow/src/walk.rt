@@ -63,4 +63,11 @@ impl Walk {
     {
         self.items.as_slice()
     }
+
+    /// The vertices in order. It takes no memory.
+    pub fn into_vec(self) -> Vec<u32>
+        ensures { result.items ≡ self }
+    {
+        self.items
+    }
 }

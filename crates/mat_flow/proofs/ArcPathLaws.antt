@@ -1,0 +1,26 @@
+-- Paths that share no arc are at most as many as the live arcs that enter a vertex set with their end and without their start.
+use Rattle.std.proofs.Common.{◌≡◌, ℕ, ◌≤◌, true, false, List, [], length, subst, arith}
+use Rattle.mat_sets.specs.Sets.{is_member, IsRising}
+use Rattle.mat_sets.proofs.DisjointLists.{AreDisjoint-distinct}
+use Rattle.mat_flow.specs.ArcPaths.{AreArcPaths, IsArcCut, IsArcPath}
+use Rattle.mat_sets.specs.Graphs.{entering}
+use Rattle.mat_sets.proofs.Crossings.{at_most_entering, walk_enters, Comes}
+
+module _ (ends : ℕ → ℕ × ℕ) (live : List ℕ) (from to want : ℕ) where
+  path_comes : (cut path : List ℕ) → is_member from cut ≡ false → is_member to cut ≡ true → IsArcPath ends live from to path → Comes ends live cut path
+  path_comes cut path out inside p =
+      let w = walk_enters ends cut path from to p.walk out inside in
+      record { arc = w.0; member = w.1; live_arc = p.inside.inside w.0 w.1; comes = w.2 }
+
+  -- so many arcs enter each vertex set with the end and without the start
+  pub paths_enter : (cut : List ℕ) (paths : List (List ℕ)) → IsRising live → is_member from cut ≡ false → is_member to cut ≡ true
+      → AreArcPaths ends live from to want paths → want ≤ length (entering ends live cut)
+  paths_enter cut paths r out inside p =
+      let most = at_most_entering ends live cut paths r (AreDisjoint-distinct paths p.distinct) (λ path i l e.
+      path_comes cut path out inside (subst (IsArcPath ends live from to) e (p.each i [] l))) in
+      omega (arith, most, p.many)
+
+  -- there are not both such paths and such a cut
+  pub paths_have_no_cut : (vertices : ℕ) (cut : List ℕ) (paths : List (List ℕ)) → IsRising live → AreArcPaths ends live from to want paths
+      → IsArcCut vertices ends live from to want cut → ⊥
+  paths_have_no_cut vertices cut paths r p c = let most = paths_enter cut paths r c.misses c.holds p in let few = c.few in absurd (omega arith)
