@@ -1,0 +1,25 @@
+use Rattle.std.proofs.Common.{◌∙◌, length, ap, arith}
+use Rattle.mat_sets.specs.Graphs.{ends_of}
+use Rattle.mat_sets.specs.Sets.{all_below}
+use Rattle.mat_branch.proofs.Packing.{entered_from_none, IsPacking-done, IsPacking-push, IsPacking-start}
+use Rattle.mat_branch.proofs.branching.disjoint.Goals as goal
+
+pub loop-left-init : goal.loop-left-init
+loop-left-init c =
+    let arcs = c.args.graph.now.arcs in
+    IsPacking-start c.args.graph.now.vertices (length arcs) c.args.root (ends_of arcs) c.args.k c.in_ok-live.live c.new-trees.result.items
+    (c.in_ok-live.ensures.members ∙ ap all_below (c.len.ensures ∙ ap length c.arcs.ensures.arcs)) c.new-trees.ensures.items
+    (entered_from_none c.args.graph.now.vertices (length arcs) c.args.root (ends_of arcs) c.args.k c.in_ok-cut.field-0 c.in_default.not-Some c.in_ok-cut.ensures)
+
+pub loop-left-preserved : goal.loop-left-preserved
+loop-left-preserved c =
+    let arcs = c.args.graph.now.arcs in
+    IsPacking-push c.args.graph.now.vertices (length arcs) c.args.root (ends_of arcs) c.args.k c.loop-left.left c.loop-left.live c.grow_tree.new.live
+    c.in_ok-grow_tree.field-0 c.loop-left.trees.items c.push.new.self.items c.loop-left-test.true c.in_ok-push.ensures.items c.loop-left.invariant
+    c.in_ok-grow_tree.ensures
+
+pub returns : goal.returns
+returns c =
+    let arcs = c.args.graph.now.arcs in
+    IsPacking-done c.args.graph.now.vertices (length arcs) c.args.root (ends_of arcs) c.args.k c.loop-left.left c.loop-left.live c.loop-left.trees.items
+    c.new.result (λ h. omega (arith, c.loop-left-test.false)) c.new.ensures.items c.loop-left.invariant

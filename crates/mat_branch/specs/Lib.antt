@@ -1,0 +1,3 @@
+pub mod Arborescences
+pub mod Growth
+pub mod Branches

@@ -1,0 +1,11 @@
+//! Disjoint spanning arborescences, or a vertex set that is entered too seldom (Edmonds 1973; Schrijver, chapter 53).
+#![tactic(auto)]
+
+mod branching;
+mod growing;
+pub mod laws;
+mod spare;
+#[cfg(test)]
+mod tests;
+
+pub use branching::{Branch, disjoint};

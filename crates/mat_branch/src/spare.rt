@@ -1,0 +1,60 @@
+//! What is asked of paths that share no arc: whether each vertex set is entered often enough, and whether an arc can be spared.
+ghost use Rattle.std.specs.Prelude.{◌≡◌, ◌≢◌, ◌<◌, true, length, IfOk};
+ghost use Rattle.mat_sets.specs.Graphs.{ends_of};
+ghost use Rattle.mat_sets.specs.Sets.{all_below, is_member, IsSet};
+ghost use Rattle.mat_branch.specs.Growth.{AreEntered, TellsSeldom, TellsSpare};
+
+use mat_flow::{ArcAnswer, Digraph, arc_paths};
+use mat_sets::ElemSet;
+use std::alloc::{AllocError, Global};
+
+/// A vertex set that is not empty, does not hold the root and is entered by fewer than k arcs, if there is one: then one cuts some
+/// vertex off the root. The only error is want of memory.
+pub(crate) fn seldom_entered(
+    alloc: Global,
+    graph: &Digraph,
+    root: u32,
+    k: u32,
+) -> Result<Option<ElemSet>, AllocError>
+    requires { root < graph.now.vertices }
+    ensures { IfOk result (TellsSeldom graph.now.vertices (length graph.now.arcs) root (ends_of graph.now.arcs) k) }
+{
+    let all = ElemSet::all_below(alloc, graph.arcs().len() as u32)?;
+    for v in 0..graph.vertices() {
+        if v != root {
+            match arc_paths(alloc, graph, &all, root, v, k)? {
+                ArcAnswer::Paths(_) => {}
+                ArcAnswer::Cut(cut) => return Ok(Some(cut)),
+            }
+        }
+    }
+    Ok(None)
+}
+
+/// Whether without the arc each non-empty vertex set without the root is still entered by at least m live arcs: that is so where
+/// m paths lead from the root to its head. The only error is want of memory.
+pub(crate) fn can_spare(
+    alloc: Global,
+    graph: &Digraph,
+    live: &ElemSet,
+    root: u32,
+    m: u32,
+    a: u32,
+) -> Result<bool, AllocError>
+    requires root { root < graph.now.vertices }
+    requires live { IsSet (length graph.now.arcs) live.now }
+    requires entered { AreEntered graph.now.vertices root (ends_of graph.now.arcs) live.now m }
+    requires arc { is_member a live.now ≡ true }
+    requires head { (ends_of graph.now.arcs a).1 ≢ root }
+    ensures { IfOk result (TellsSpare graph.now.vertices root (ends_of graph.now.arcs) live.now m a) }
+{
+    if m == 0 {
+        return Ok(true);
+    }
+    let rest = live.without(alloc, a)?;
+    let head = graph.arcs().get(a as usize).1;
+    match arc_paths(alloc, graph, &rest, root, head, m)? {
+        ArcAnswer::Paths(_) => Ok(true),
+        ArcAnswer::Cut(_) => Ok(false),
+    }
+}
