@@ -66,7 +66,11 @@ fn told_tests<M: Matroid>(alloc: Global, m: &M) -> Result<String, AllocError>
 
 /// What a run takes along this order, and there the exchanges of each element that it leaves: by what is kept, and whether those that
 /// are asked for by themselves are the same.
-pub(crate) fn told_run<M: Matroid>(alloc: Global, m: &M, order: &[u32]) -> Result<String, AllocError>
+pub(crate) fn told_run<M: Matroid>(
+    alloc: Global,
+    m: &M,
+    order: &[u32],
+) -> Result<String, AllocError>
     requires sound { M.sound m.now }
     requires below { AllBelow (M.ground_size m.now) order.now }
     requires distinct { AreDistinct order.now }
@@ -253,5 +257,7 @@ pub(crate) fn known_report(alloc: Global) -> Result<String, AllocError> {
     let columns = told_columns(alloc)?;
     let base = told_base(alloc)?;
     let heaviest = told_heaviest(alloc)?;
-    format!(in alloc; "{graph}{any}{minors}{linking}{components}{faults}{ranks}{columns}{base}{heaviest}")
+    format!(in alloc;
+        "{graph}{any}{minors}{linking}{components}{faults}{ranks}{columns}{base}{heaviest}"
+    )
 }
