@@ -14,3 +14,4 @@ pub mod PlaceTables
 pub mod RunSteps
 pub mod UniformRows
 pub mod UniformRuns
+pub mod LabelClasses

@@ -4,6 +4,7 @@
 mod caps;
 mod crossings;
 mod full_sets;
+mod labels;
 mod laminar;
 mod laminar_fault;
 mod laws;
@@ -14,6 +15,8 @@ pub use crossings::crossing;
 pub use full_sets::FullSets;
 pub use laminar::Laminar;
 pub use laminar_fault::LaminarFault;
-pub use laws::{crosses_means, laminar_laws, within_caps_means};
+pub use laws::{
+    counted_sets_mean, crosses_means, laminar_laws, uniform_sets_mean, within_caps_means,
+};
 pub use partition::Partition;
 pub use uniform::Uniform;

@@ -6,6 +6,7 @@ ghost use Rattle.mat_sets.specs.Families.{AreDisjoint, indicator};
 ghost use Rattle.mat_laws.specs.GreedyRuns.{grown_along};
 ghost use Rattle.mat_count.specs.Counts.{is_counted};
 ghost use Rattle.mat_count.specs.FullSets.{AreFullSets};
+ghost use Rattle.mat_count.specs.Labels.{classes_by};
 ghost use Rattle.mat_count.specs.ClassMembers.{named_members};
 ghost use Rattle.mat_count.specs.Counters.{is_named_full};
 ghost use Rattle.mat_count.specs.Partitions.{names, CappedClasses, IsPartition, IsClassTable, IsEntered, CountsMembers};
@@ -13,6 +14,7 @@ ghost use Rattle.mat_count.specs.PartitionLaws.{partition_laws};
 
 use crate::caps::are_within;
 use crate::full_sets::FullSets;
+use crate::labels::classes_by;
 use mat_laws::{Exchange, Matroid};
 use mat_sets::{ElemSet, SetList};
 use std::alloc::{AllocError, Global};
@@ -175,6 +177,22 @@ impl Partition {
             caps,
             class_of,
         })
+    }
+
+    /// The partition matroid with one class for each label: element e has the e-th label, and the class of a label has the cap at its
+    /// place. The only error is want of memory.
+    pub fn by_labels(alloc: Global, labels: &[u32], caps: Vec<u32>) -> Result<Partition, AllocError>
+        requires few { length labels.now < 2 ^ 32 }
+        requires capped { length caps.items < 2 ^ 32 }
+        ensures value { IfOk result (λ p. p ≡ record {
+          count = length labels.now;
+          classes = classes_by (length labels.now) (length caps.items) (slice_index labels.now);
+          caps = caps.items;
+        }) }
+        ensures sound { IfOk result (λ p. IsPartition p.count p.classes p.caps) }
+    {
+        let classes = classes_by(alloc, labels, caps.len() as u32)?;
+        Partition::new(alloc, labels.len() as u32, classes, caps)
     }
 
     /// The number of elements.

@@ -1,0 +1,7 @@
+use Rattle.std.proofs.Common.{◌≡◌, get_or}
+use Rattle.mat_count.specs.Labels.{labelled}
+use Rattle.mat_count.proofs.labels.elements_with.Given as goal
+
+-- the elements with the label before place e
+abbrev pub invariant-loop-e : goal.invariant-loop-e
+invariant-loop-e l = l.set ≡ labelled l.e (λ e. get_or l.labels e 0) l.label
