@@ -1,0 +1,99 @@
+-- Each spanning arborescence enters each root-free set, so that weights which the costs pay are together at most its cost.
+use Rattle.std.proofs.Common.{if◌then◌else◌, ◌≡◌, ℕ, suc, ◌+◌, ◌<◌, ◌≤◌, Bool, true, false, not, ◌&&◌, List, [], ◌∷◌, length, inl, inr, refl, sym, ap, ◌∙◌, subst, arith, ℤ, pos, ◌+ℤ◌, ◌≤ℤ◌, ◌<ℤ◌}
+use Rattle.std.proofs.lemmas.Bool.{and_from, both_ways, cases_Bool, false≢true}
+use Rattle.std.proofs.lemmas.Int.{ints}
+use Rattle.std.specs.List.{AllByRecursion}
+use Rattle.mat_sets.specs.Graphs.{ends_of, DirectedWalk, IsSpanningArborescence}
+use Rattle.mat_sets.specs.Sets.{is_member, IsSet}
+use Rattle.mat_sets.specs.Sums.{sum_of}
+use Rattle.mat_cuts.specs.Costs.{cost_at, cost_of}
+use Rattle.mat_sets.proofs.Cardinalities.{sum_of-le, sum_of-plus}
+use Rattle.mat_sets.proofs.Ground.{below_member}
+use Rattle.mat_sets.proofs.Members.{is_member-head}
+use Rattle.mat_cuts.specs.Cuts.{all_weight, enters, weight_on, weight_where, AreRightCuts, IsCut, IsRootFree, IsUnreached}
+use Rattle.mat_cuts.specs.Answers.{AreRight, TellsReached}
+use Rattle.mat_cuts.specs.declared.cut_weight.Cuts.{Cuts}
+use Rattle.mat_cuts.specs.declared.cut_weight.Cuts.TheVariants.{Tree, Unreached}
+use Rattle.mat_cuts.specs.declared.cut_weight.CutWeight.{CutWeight}
+
+pub member_from_some : (xs : List ℕ) → 0 < length xs → (x : ℕ) × (is_member x xs ≡ true)
+member_from_some [] l = absurd (omega arith)
+member_from_some (x ∷ xs) l = (x, is_member-head x xs)
+
+pub some_from_member : (x : ℕ) (xs : List ℕ) → is_member x xs ≡ true → 0 < length xs
+some_from_member x [] m = absurd (false≢true m)
+some_from_member x (y ∷ xs) m = omega arith
+
+module _ (ends : ℕ → ℕ × ℕ) where
+  -- a walk from outside to inside has an arc that enters
+  pub walk_enters : (set along : List ℕ) (v w : ℕ) → DirectedWalk ends along v w → is_member v set ≡ false → is_member w set ≡ true
+      → (a : ℕ) × (is_member a along ≡ true) × (enters ends set a ≡ true)
+  walk_enters set [] v w walk out inside = absurd (both_ways _ out (ap (λ z. is_member z set) walk ∙ inside))
+  walk_enters set (a ∷ along) v w walk out inside = elim (cases_Bool (is_member (ends a).1 set)) [
+    | inl here ↦ (a, is_member-head a along, and_from _ _ here (ap not (ap (λ z. is_member z set) walk.0 ∙ out)))
+    | inr later ↦ (let f = walk_enters set along (ends a).1 w walk.1 later inside in (f.0, (let m = f.1 in grind arith), f.2))
+  ]
+
+  pub arborescence_enters : (vertices count root : ℕ) (tree set : List ℕ) → IsSpanningArborescence vertices count ends root tree
+      → IsRootFree vertices root set → (a : ℕ) × (is_member a tree ≡ true) × (enters ends set a ≡ true)
+  arborescence_enters vertices count root tree set s f =
+      let v = member_from_some set f.some in
+      let r = s.reached v.0 (below_member f.set v.1) in
+      let w = walk_enters set r.along root v.0 r.walk f.free v.1 in
+      (w.0, r.inside.inside w.0 w.1, w.2)
+
+  where-low : (b : Bool) (w : ℤ) → pos 0 <ℤ w → pos 0 ≤ℤ weight_where b w
+  where-low true w p = omega (arith, ints)
+  where-low false w p = omega (arith, ints)
+
+  where-sum-low : (set : List ℕ) (w : ℤ) (xs : List ℕ) → pos 0 <ℤ w → pos 0 ≤ℤ sum_of (λ a. weight_where (enters ends set a) w) xs
+  where-sum-low set w [] p = omega (arith, ints)
+  where-sum-low set w (x ∷ xs) p = omega (arith, ints, where-low (enters ends set x) w p, where-sum-low set w xs p)
+
+  -- a set that some arc enters is paid once at least
+  where-sum : (set : List ℕ) (w : ℤ) (xs : List ℕ) (a : ℕ) → pos 0 <ℤ w → is_member a xs ≡ true → enters ends set a ≡ true
+      → w ≤ℤ sum_of (λ a. weight_where (enters ends set a) w) xs
+  where-sum set w [] a p m e = absurd (false≢true m)
+  where-sum set w (x ∷ xs) a p m e = elim (cases_Bool (enters ends set x)) [
+    | inl here ↦ (let full : weight_where (enters ends set x) w ≡ w = rw here in omega (arith, ints, full, where-sum-low set w xs p))
+    | inr not_here ↦ (let rest : is_member a xs ≡ true = other x xs a m e not_here in
+        omega (arith, ints, where-low (enters ends set x) w p, where-sum set w xs a p rest e))
+  ]
+    where
+      other : (x : ℕ) (xs : List ℕ) (a : ℕ) → is_member a (x ∷ xs) ≡ true → enters ends set a ≡ true → enters ends set x ≡ false → is_member a xs ≡ true
+      other x xs a m e n = grind arith
+
+  -- all weights are together at most what the arcs of an arborescence pay
+  pub all_weight-le : (vertices count root : ℕ) (tree : List ℕ) (cuts : List CutWeight) → IsSpanningArborescence vertices count ends root tree
+      → AllByRecursion (IsCut vertices root) cuts → all_weight cuts ≤ℤ sum_of (weight_on ends cuts) tree
+  all_weight-le vertices count root tree [] s each = none tree
+    where
+      none : (xs : List ℕ) → pos 0 ≤ℤ sum_of (weight_on ends []) xs
+      none [] = omega (arith, ints)
+      none (x ∷ xs) = omega (arith, ints, none xs)
+  all_weight-le vertices count root tree (c ∷ cuts) s each =
+      let w = arborescence_enters vertices count root tree c.set s each.0.root_free in
+      let split = sum_of-plus (weight_on ends (c ∷ cuts)) (λ a. weight_where (enters ends c.set a) c.weight) (weight_on ends cuts) tree (λ k m. refl) in
+      omega (arith, ints, split, where-sum c.set c.weight tree w.0 each.0.positive w.1 w.2, all_weight-le vertices count root tree cuts s each.1)
+
+-- THE THEOREM: right cuts bound the cost of each spanning arborescence
+pub right_cuts_are_cheapest : (vertices : ℕ) (arcs : List (ℕ × ℕ)) (costs : List ℤ) (root : ℕ) (tree : List ℕ) (cuts : List CutWeight)
+    → AreRightCuts vertices arcs costs root tree cuts
+    → (other : List ℕ) → IsSpanningArborescence vertices (length arcs) (ends_of arcs) root other → cost_of costs tree ≤ℤ cost_of costs other
+right_cuts_are_cheapest vertices arcs costs root tree cuts r other s =
+    let paid = sum_of-le (weight_on (ends_of arcs) cuts) (cost_at costs) other (λ a m. r.within a (below_member s.set m)) in
+    let most = all_weight-le (ends_of arcs) vertices (length arcs) root other cuts s r.each in
+    let same = r.total in
+    omega (arith, ints)
+
+pub unreached_has_none : (vertices : ℕ) (arcs : List (ℕ × ℕ)) (root : ℕ) (set tree : List ℕ) → IsUnreached vertices arcs root set
+    → IsSpanningArborescence vertices (length arcs) (ends_of arcs) root tree → ⊥
+unreached_has_none vertices arcs root set tree u s =
+    let w = arborescence_enters (ends_of arcs) vertices (length arcs) root tree set s u.root_free in
+    both_ways _ (u.none w.0 (below_member s.set w.1)) w.2
+
+-- right answers tell whether there is a spanning arborescence
+pub tells_reached : (vertices : ℕ) (arcs : List (ℕ × ℕ)) (costs : List ℤ) (root : ℕ) (cuts : Cuts) → AreRight vertices arcs costs root cuts
+    → TellsReached vertices arcs root cuts
+tells_reached vertices arcs costs root (Tree tree cuts) r = (tree, r.spans)
+tells_reached vertices arcs costs root (Unreached set) r = λ tree s. unreached_has_none vertices arcs root set tree r s

@@ -1,0 +1,6 @@
+pub mod Bounds
+pub mod Paths
+pub mod Raises
+pub mod Trees
+pub mod Loops
+pub mod Searching

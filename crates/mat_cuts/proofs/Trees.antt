@@ -1,0 +1,217 @@
+-- The second phase: a tree grows from the root, by the arc with the earliest time among those that leave the reached vertices. It enters each
+-- listed set once: an arc that enters a listed set of which a vertex is reached already has a later time than those arcs by which the
+-- set was joined, so one of these would have been taken. So the cost of the tree is always the weight of the listed sets that it has met.
+use Rattle.std.proofs.Common.{if◌then◌else◌, ◌≡◌, ◌≢◌, ℕ, zero, suc, ◌+◌, ◌<◌, ◌≤◌, ◌⊎◌, Bool, true, false, not, ◌&&◌, ◌||◌, eqb, ltb, List, [], ◌∷◌, length, inl, inr, refl, sym, ap, ◌∙◌, subst, arith, ℤ, pos, ◌+ℤ◌, ◌≤ℤ◌}
+use Rattle.std.proofs.lemmas.Bool.{and_from, and_parts, both_ways, cases_Bool, cases_lt, eqb-true, eq-eqb, false_from_ne_true, false≢true, lt-ltb, ltb-true, or_cases, or_left, or_right}
+use Rattle.std.proofs.lemmas.Bool.Decides.{nat_tests}
+use Rattle.std.proofs.lemmas.Int.{ints}
+use Rattle.std.specs.List.{AllByRecursion}
+use Rattle.mat_sets.specs.Graphs.{ends_of, IsGraph, IsSpanningArborescence, Reaches}
+use Rattle.mat_sets.specs.Sets.{all_below, is_member, with_one, IsSet}
+use Rattle.mat_sets.specs.Sums.{sum_of}
+use Rattle.mat_cuts.specs.Costs.{cost_at, cost_of}
+use Rattle.mat_sets.proofs.Cardinalities.{length-with_one, sum_of-with_one}
+use Rattle.mat_sets.proofs.Ground.{below_member, is_member-all_below, length-all_below, IsRising-all_below, IsSet-nil, IsSet-with_one, IsSubset-all_below}
+use Rattle.mat_sets.proofs.Members.{is_member-head, is_member-with_one}
+use Rattle.mat_sets.proofs.Subsets.{larger_has, same_size_subset, IsSubset-with_one}
+use Rattle.mat_sets.proofs.Walking.{Reaches-arc, Reaches-itself, Reaches-subset, Reaches-trans}
+use Rattle.mat_cuts.specs.Cuts.{all_weight, enters, weight_on, weight_where, IsCut}
+use Rattle.mat_cuts.specs.Raising.{at, AreNested, IsEarliest, IsNested, IsRaised, Leads}
+use Rattle.mat_cuts.specs.declared.cut_weight.CutWeight.{CutWeight}
+use Rattle.mat_cuts.proofs.Bounds.{member_from_some}
+
+-- ---- the listed sets that are met
+
+pub meets : List ℕ → List ℕ → Bool
+meets [] reached = false
+meets (x ∷ part) reached = is_member x reached || meets part reached
+
+meets-gives : (part reached : List ℕ) → meets part reached ≡ true → (x : ℕ) × (is_member x part ≡ true) × (is_member x reached ≡ true)
+unfolding meets
+meets-gives [] reached h = absurd (false≢true h)
+meets-gives (x ∷ part) reached h = elim (or_cases (is_member x reached) (meets part reached) h) [
+  | inl m ↦ (x, is_member-head x part, m)
+  | inr m ↦ (let w = meets-gives part reached m in (w.0, (let k = w.1 in grind arith), w.2))
+]
+
+meets-from : (part reached : List ℕ) (x : ℕ) → is_member x part ≡ true → is_member x reached ≡ true → meets part reached ≡ true
+unfolding meets
+meets-from [] reached x m r = absurd (false≢true m)
+meets-from (y ∷ part) reached x m r = elim (or_cases (eqb x y) (is_member x part) m) [
+  | inl e ↦ or_left (is_member y reached) (meets part reached) (subst (λ z. is_member z reached ≡ true) (eqb-true x y e) r)
+  | inr k ↦ or_right (is_member y reached) (meets part reached) (meets-from part reached x k r)
+]
+
+-- the weights of the sets that are met, added
+pub met_weight : List CutWeight → List ℕ → ℤ
+met_weight [] reached = pos 0
+met_weight (c ∷ cuts) reached = weight_where (meets c.set reached) c.weight +ℤ met_weight cuts reached
+
+-- none is met at the root
+met_weight-start : (vertices root : ℕ) (cuts : List CutWeight) → AllByRecursion (IsCut vertices root) cuts → met_weight cuts (root ∷ []) ≡ pos 0
+unfolding met_weight
+met_weight-start vertices root [] each = refl
+met_weight-start vertices root (c ∷ cuts) each =
+    let none : meets c.set (root ∷ []) ≡ false = false_from_ne_true _ (λ h. let w = meets-gives c.set (root ∷ []) h in
+    elim (or_cases (eqb w.0 root) false w.2) [
+      | inl e ↦ both_ways _ each.0.root_free.free (subst (λ z. is_member z c.set ≡ true) (eqb-true w.0 root e) w.1)
+      | inr n ↦ false≢true n
+    ]) in
+    let zero_here : weight_where (meets c.set (root ∷ [])) c.weight ≡ pos 0 = rw none in
+    omega (arith, ints, met_weight-start vertices root cuts each.1)
+
+-- all are met where all vertices are reached
+met_weight-end : (vertices root : ℕ) (cuts : List CutWeight) (reached : List ℕ) → AllByRecursion (IsCut vertices root) cuts
+    → ((v : ℕ) → v < vertices → is_member v reached ≡ true) → met_weight cuts reached ≡ all_weight cuts
+unfolding met_weight
+met_weight-end vertices root [] reached each all = refl
+met_weight-end vertices root (c ∷ cuts) reached each all =
+    let x = member_from_some c.set each.0.root_free.some in
+    let met : meets c.set reached ≡ true = meets-from c.set reached x.0 x.1 (all x.0 (below_member each.0.root_free.set x.1)) in
+    let here : weight_where (meets c.set reached) c.weight ≡ c.weight = rw met in
+    omega (arith, ints, met_weight-end vertices root cuts reached each.1 all)
+
+module _ (count : ℕ) (ends : ℕ → ℕ × ℕ) (since reached : List ℕ) (a : ℕ) (e : IsEarliest count ends since reached a) where
+  -- an earliest arc enters no listed set that is met already
+  enters_unmet : (i : ℕ) (part : List ℕ) → IsNested count ends since i part → enters ends part a ≡ true → meets part reached ≡ false
+  enters_unmet i part n comes = false_from_ne_true _ (λ met.
+      let w = meets-gives part reached met in
+      let p = and_parts (is_member (ends a).1 part) (not (is_member (ends a).0 part)) comes in
+      let late = n.late a e.below comes in
+      both_ways _ e.head ((n.joined w.0 (ends a).1 w.1 p.0).to (λ v. is_member v reached) (λ b lb early tail. elim (cases_Bool (is_member (ends b).1 reached)) [
+        | inl inside ↦ inside
+        | inr out ↦ (let first = e.first b lb tail out in absurd (omega arith))
+      ]) w.2))
+
+  meets-with : (part : List ℕ) (h : ℕ) → meets part (with_one reached h) ≡ (is_member h part || meets part reached)
+  unfolding meets
+  meets-with [] h = refl
+  meets-with (x ∷ part) h = ap (λ b. b || meets part (with_one reached h)) (is_member-with_one x h reached) ∙ ap (λ b. (eqb x h || is_member x reached) || b) (meets-with part h)
+      ∙ ap (λ b. (b || is_member x reached) || (is_member h part || meets part reached)) (turn x h) ∙ swap (eqb h x) (is_member x reached) (is_member h part) (meets part reached)
+    where
+      swap : (p q r s : Bool) → ((p || q) || (r || s)) ≡ ((p || r) || (q || s))
+      swap true q r s = refl
+      swap false true true s = refl
+      swap false true false s = refl
+      swap false false r s = refl
+
+      turn : (x h : ℕ) → eqb x h ≡ eqb h x
+      turn x h = grind (arith, nat_tests)
+
+  more : (part : List ℕ) (w : ℤ) (i : ℕ) → IsNested count ends since i part
+      → weight_where (meets part (with_one reached (ends a).1)) w ≡ weight_where (meets part reached) w +ℤ weight_where (enters ends part a) w
+  more part w i n = subst (λ b. weight_where b w ≡ weight_where (meets part reached) w +ℤ weight_where (enters ends part a) w) (sym (meets-with part (ends a).1))
+      (sides (is_member (ends a).1 part) (is_member (ends a).0 part) (meets part reached) (enters_unmet i part n) (λ m. meets-from part reached (ends a).0 m e.tail))
+    where
+      sides : (h t m : Bool) → ((h && not t) ≡ true → m ≡ false) → (t ≡ true → m ≡ true)
+          → weight_where (h || m) w ≡ weight_where m w +ℤ weight_where (h && not t) w
+      sides true true m f g = rw (g refl) (omega (arith, ints))
+      sides true false m f g = rw (f refl) (omega (arith, ints))
+      sides false t true f g = omega (arith, ints)
+      sides false t false f g = omega (arith, ints)
+
+  met_weight-more : (i : ℕ) (cuts : List CutWeight) → AreNested count ends since i cuts
+      → met_weight cuts (with_one reached (ends a).1) ≡ met_weight cuts reached +ℤ weight_on ends cuts a
+  unfolding met_weight
+  met_weight-more i [] n = omega (arith, ints)
+  met_weight-more i (c ∷ cuts) n = omega (arith, ints, more c.set c.weight i n.0, met_weight-more (suc i) cuts n.1)
+
+-- ---- the tree
+
+module _ (vertices : ℕ) (arcs : List (ℕ × ℕ)) (costs : List ℤ) (root : ℕ) (cuts : List CutWeight) where
+  -- a part of an arborescence that costs as much as the sets that it meets weigh
+  pub record IsGrowing (reached tree : List ℕ) : Type 0 where
+    pub tree_set : IsSet (length arcs) tree
+    pub reached_set : IsSet vertices reached
+    pub start : is_member root reached ≡ true
+    pub size : suc (length tree) ≡ length reached
+    pub reaches : (v : ℕ) → is_member v reached ≡ true → Reaches (ends_of arcs) tree root v
+    pub heads : (a : ℕ) → is_member a tree ≡ true → is_member (ends_of arcs a).1 reached ≡ true
+    pub cost : cost_of costs tree ≡ met_weight cuts reached
+
+  is_one : (x y : ℕ) → is_member x (y ∷ []) ≡ true → x ≡ y
+  is_one x y m = elim (or_cases (eqb x y) false m) [ inl e ↦ eqb-true x y e | inr n ↦ absurd (false≢true n) ]
+
+  pub IsGrowing-start : root < vertices → AllByRecursion (IsCut vertices root) cuts → IsGrowing (root ∷ []) []
+  IsGrowing-start below each = record {
+    tree_set = IsSet-nil (length arcs);
+    reached_set = record { rising = record { rises = (omega arith, tt) }; below = (below, tt) };
+    start = or_left (eqb root root) false (eq-eqb root root refl);
+    size = refl;
+    reaches = λ v h. subst (Reaches (ends_of arcs) [] root) (sym (is_one v root h)) (Reaches-itself (ends_of arcs) [] root);
+    heads = λ a m. absurd (false≢true m);
+    cost = sym (met_weight-start vertices root cuts each);
+  }
+
+  pub IsGrowing-take : (reduced : List ℤ) (since reached tree : List ℕ) (a : ℕ) → IsRaised vertices arcs costs root reduced since cuts
+      → (ends_of arcs a).1 < vertices → IsEarliest (length arcs) (ends_of arcs) since reached a → IsGrowing reached tree
+      → IsGrowing (with_one reached (ends_of arcs a).1) (with_one tree a)
+  IsGrowing-take reduced since reached tree a r below e g =
+      let ends = ends_of arcs in
+      let head = (ends a).1 in
+      let fresh : is_member a tree ≡ false = false_from_ne_true _ (λ m. both_ways _ e.head (g.heads a m)) in
+      let wider = IsSubset-with_one tree a in
+      let along : Reaches ends (with_one tree a) root head = Reaches-trans ends (with_one tree a) root (ends a).0 head
+      (Reaches-subset ends tree (with_one tree a) root (ends a).0 wider (g.reaches (ends a).0 e.tail))
+      (Reaches-arc ends (with_one tree a) a (is_member-with_one a a tree ∙ or_left (eqb a a) _ (eq-eqb a a refl))) in
+      let spent = r.spent a e.below e.timed in
+      record {
+        tree_set = IsSet-with_one (length arcs) tree a g.tree_set e.below;
+        reached_set = IsSet-with_one vertices reached head g.reached_set below;
+        start = is_member-with_one root head reached ∙ or_right (eqb root head) _ g.start;
+        size = ap suc (length-with_one tree a g.tree_set.rising fresh) ∙ ap suc g.size ∙ sym (length-with_one reached head g.reached_set.rising e.head);
+        reaches = λ v h. elim (or_cases (eqb v head) (is_member v reached) (sym (is_member-with_one v head reached) ∙ h)) [
+          | inl same ↦ subst (Reaches ends (with_one tree a) root) (sym (eqb-true v head same)) along
+          | inr old ↦ Reaches-subset ends tree (with_one tree a) root v wider (g.reaches v old)
+        ];
+        heads = λ b m. is_member-with_one (ends b).1 head reached ∙ elim (or_cases (eqb b a) (is_member b tree) (sym (is_member-with_one b a tree) ∙ m)) [
+          | inl same ↦ or_left (eqb (ends b).1 head) _ (eq-eqb (ends b).1 head (ap (λ z. (ends z).1) (eqb-true b a same)))
+          | inr old ↦ or_right (eqb (ends b).1 head) _ (g.heads b old)
+        ];
+        cost = omega (arith, ints, sum_of-with_one (cost_at costs) tree a g.tree_set.rising fresh, g.cost, r.paid a e.below, spent,
+            met_weight-more (length arcs) ends since reached a e 0 cuts r.nested);
+      }
+
+  -- while a vertex is not reached, some arc with a time leaves the reached ones
+  pub some_leaves : (since reached tree : List ℕ) (now : ℕ) → now < 1000000
+      → ((v : ℕ) → v < vertices → Leads (length arcs) (ends_of arcs) since now root v) → IsGrowing reached tree → suc (length tree) < vertices
+      → ((b : ℕ) → b < length arcs → at since b < 1000000 → is_member (ends_of arcs b).0 reached ≡ true → is_member (ends_of arcs b).1 reached ≡ true) → ⊥
+  some_leaves since reached tree now small leads g short closed =
+      let w = larger_has reached (all_below vertices) g.reached_set.rising (IsRising-all_below vertices) (omega (arith, length-all_below vertices, g.size)) in
+      both_ways _ w.2 ((leads w.0 (ltb-true w.0 vertices (sym (is_member-all_below w.0 vertices) ∙ w.1))).to (λ v. is_member v reached)
+      (λ b lb early tail. closed b lb (omega arith) tail) g.start)
+
+  full : (reached tree : List ℕ) → IsGrowing reached tree → suc (length tree) ≡ vertices → (v : ℕ) → v < vertices → is_member v reached ≡ true
+  full reached tree g long v l =
+      let all = same_size_subset reached (all_below vertices) g.reached_set.rising (IsRising-all_below vertices)
+      (IsSubset-all_below vertices reached g.reached_set.below) (omega (arith, length-all_below vertices, g.size)) in
+      ap (is_member v) all ∙ is_member-all_below v vertices ∙ lt-ltb v vertices l
+
+  pub IsGrowing-spans : (reached tree : List ℕ) → IsGrowing reached tree → suc (length tree) ≡ vertices
+      → IsSpanningArborescence vertices (length arcs) (ends_of arcs) root tree
+  IsGrowing-spans reached tree g long = record { set = g.tree_set; size = long; reached = λ v l. g.reaches v (full reached tree g long v l) }
+
+  pub IsGrowing-cost : (reached tree : List ℕ) → AllByRecursion (IsCut vertices root) cuts → IsGrowing reached tree → suc (length tree) ≡ vertices
+      → all_weight cuts ≡ cost_of costs tree
+  IsGrowing-cost reached tree each g long = sym (g.cost ∙ met_weight-end vertices root cuts reached each (full reached tree g long))
+
+  -- ---- the loop
+
+  pub IsGrowing-first : (none reached tree : List ℕ) → none ≡ [] → reached ≡ with_one none root → tree ≡ [] → root < vertices
+      → AllByRecursion (IsCut vertices root) cuts → IsGrowing reached tree
+  unfolding with_one
+  IsGrowing-first none reached tree en er et below each =
+      subst (λ t. IsGrowing reached t) (sym et) (subst (λ r. IsGrowing r []) (sym (er ∙ ap (λ s. with_one s root) en)) (IsGrowing-start below each))
+
+  pub IsGrowing-next : (reduced : List ℤ) (since lent reached tree more longer : List ℕ) (a : ℕ) → lent ≡ since
+      → IsRaised vertices arcs costs root reduced since cuts → IsGraph vertices arcs → IsEarliest (length arcs) (ends_of arcs) lent reached a
+      → IsGrowing reached tree → more ≡ with_one reached (ends_of arcs a).1 → longer ≡ with_one tree a
+      → IsGrowing more longer × (length longer ≡ length tree + 1)
+  IsGrowing-next reduced since lent reached tree more longer a el r graph e g em et =
+      let early = subst (λ l. IsEarliest (length arcs) (ends_of arcs) l reached a) el e in
+      let next = IsGrowing-take reduced since reached tree a r (graph.second a e.below) early g in
+      let fresh : is_member a tree ≡ false = false_from_ne_true _ (λ m. both_ways _ e.head (g.heads a m)) in
+      (
+        subst (λ t. IsGrowing more t) (sym et) (subst (λ m. IsGrowing m (with_one tree a)) (sym em) next),
+        ap length et ∙ length-with_one tree a g.tree_set.rising fresh ∙ omega arith,
+      )

@@ -1,0 +1,9 @@
+use Rattle.std.proofs.Common.{subst}
+use Rattle.std.proofs.lemmas.Result.{IfOk-weaker}
+use Rattle.mat_cuts.specs.Answers.{AreRight}
+use Rattle.mat_cuts.proofs.Bounds.{tells_reached}
+use Rattle.mat_cuts.proofs.cheapest_tree.cheapest.Goals as goal
+
+pub returns-clause-reached : goal.returns-clause-reached
+returns-clause-reached c = IfOk-weaker c.cheapest_among.result _ _ (λ cuts r. tells_reached c.args.vertices c.args.arcs.now c.args.costs.now c.args.root cuts
+    (subst (λ arcs. AreRight c.args.vertices arcs c.args.costs.now c.args.root cuts) c.as_slice.ensures r)) c.cheapest_among.ensures

@@ -1,0 +1,7 @@
+use Rattle.std.proofs.Common.{length}
+use Rattle.mat_sets.specs.Graphs.{ends_of}
+use Rattle.mat_cuts.proofs.Bounds.{arborescence_enters as law}
+use Rattle.mat_cuts.proofs.laws.arborescence_enters.Goals as goal
+
+pub returns : goal.returns
+returns c = λ vertices arcs root tree set s f. law (ends_of arcs) vertices (length arcs) root tree set s f

@@ -1,0 +1,55 @@
+-- Vertex sets with weights that bound the cost of each spanning arborescence from below (Fulkerson 1974; Schrijver, chapter 52).
+use Rattle.std.specs.Prelude.{◌≡◌, ℕ, ◌<◌, ◌≤◌, ◌*◌, Bool, true, false, not, ◌&&◌, if◌then◌else◌, List, [], ◌∷◌, length, ℤ, pos, ◌+ℤ◌, ◌≤ℤ◌, ◌<ℤ◌}
+use Rattle.std.specs.List.{AllByRecursion}
+use Rattle.mat_sets.specs.Graphs.{ends_of, IsSpanningArborescence}
+use Rattle.mat_sets.specs.Sets.{is_member, IsSet}
+use Rattle.mat_cuts.specs.Costs.{cost_at, cost_of}
+use Rattle.mat_cuts.specs.declared.cut_weight.CutWeight.{CutWeight}
+
+-- whether arc a enters a vertex set: its head is inside, and its tail is not
+abbrev pub enters : (ℕ → ℕ × ℕ) → List ℕ → ℕ → Bool
+enters ends set a = is_member (ends a).1 set && not (is_member (ends a).0 set)
+
+-- a vertex set that is not empty and does not hold the root
+pub record IsRootFree (vertices root : ℕ) (part : List ℕ) : Type 0 where
+  pub set : IsSet vertices part
+  pub some : 0 < length part
+  pub free : is_member root part ≡ false
+
+-- the weight where the arc enters, and 0 where it does not
+abbrev pub weight_where : Bool → ℤ → ℤ
+weight_where b w = if b then w else pos 0
+
+-- the weights of the listed sets that the arc enters, added
+abbrev pub weight_on : (ℕ → ℕ × ℕ) → List CutWeight → ℕ → ℤ
+weight_on ends [] a = pos 0
+weight_on ends (c ∷ cuts) a = weight_where (enters ends c.set a) c.weight +ℤ weight_on ends cuts a
+
+-- all weights, added
+abbrev pub all_weight : List CutWeight → ℤ
+all_weight [] = pos 0
+all_weight (c ∷ cuts) = c.weight +ℤ all_weight cuts
+
+-- a root-free vertex set with a weight above 0
+pub record IsCut (vertices root : ℕ) (c : CutWeight) : Type 0 where
+  pub root_free : IsRootFree vertices root c.set
+  pub positive : pos 0 <ℤ c.weight
+
+-- a spanning arborescence, and at most 2V weights of root-free sets: at each arc those of the sets that it enters add to at most its cost,
+-- and all of them add to the cost of the arborescence
+pub record AreRightCuts (vertices : ℕ) (arcs : List (ℕ × ℕ)) (costs : List ℤ) (root : ℕ) (tree : List ℕ) (cuts : List CutWeight) : Type 0 where
+  pub spans : IsSpanningArborescence vertices (length arcs) (ends_of arcs) root tree
+  pub few : length cuts ≤ 2 * vertices
+  pub each : AllByRecursion (IsCut vertices root) cuts
+  pub within : (a : ℕ) → a < length arcs → weight_on (ends_of arcs) cuts a ≤ℤ cost_at costs a
+  pub total : all_weight cuts ≡ cost_of costs tree
+
+-- a root-free vertex set that no arc enters
+pub record IsUnreached (vertices : ℕ) (arcs : List (ℕ × ℕ)) (root : ℕ) (set : List ℕ) : Type 0 where
+  pub root_free : IsRootFree vertices root set
+  pub none : (a : ℕ) → a < length arcs → enters (ends_of arcs) set a ≡ false
+
+-- no spanning arborescence costs less
+abbrev pub IsCheapest : (vertices : ℕ) (arcs : List (ℕ × ℕ)) (costs : List ℤ) (root : ℕ) (tree : List ℕ) → Type 0
+IsCheapest vertices arcs costs root tree =
+    (other : List ℕ) → IsSpanningArborescence vertices (length arcs) (ends_of arcs) root other → cost_of costs tree ≤ℤ cost_of costs other

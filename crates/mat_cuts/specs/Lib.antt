@@ -1,0 +1,5 @@
+pub mod Costs
+pub mod Cuts
+pub mod Raising
+pub mod Answers
+pub mod Listing

@@ -1,0 +1,12 @@
+//! Cheapest spanning arborescences, with weighted vertex sets that prove them (Edmonds 1967, Fulkerson 1974; Schrijver, chapter 52).
+#![tactic(auto)]
+
+mod cheapest_tree;
+mod cut_weight;
+mod growing;
+mod joining;
+pub mod laws;
+mod lowering;
+
+pub use cheapest_tree::cheapest;
+pub use cut_weight::{CutWeight, Cuts};
