@@ -3,14 +3,15 @@ use Rattle.std.proofs.Common.{if◌then◌else◌, ◌≡◌, ℕ, suc, ◌+◌,
 use Rattle.std.proofs.lemmas.Bool.{and_from, both_ways, cases_Bool, false≢true}
 use Rattle.std.proofs.lemmas.Int.{ints}
 use Rattle.std.specs.List.{AllByRecursion}
-use Rattle.mat_sets.specs.Graphs.{ends_of, DirectedWalk, IsSpanningArborescence}
+use Rattle.mat_sets.specs.Graphs.{ends_of, enters, DirectedWalk, IsSpanningArborescence}
 use Rattle.mat_sets.specs.Sets.{is_member, IsSet}
 use Rattle.mat_sets.specs.Sums.{sum_of}
 use Rattle.mat_cuts.specs.Costs.{cost_at, cost_of}
 use Rattle.mat_sets.proofs.Cardinalities.{sum_of-le, sum_of-plus}
+use Rattle.mat_sets.proofs.Crossings.{walk_enters}
 use Rattle.mat_sets.proofs.Ground.{below_member}
 use Rattle.mat_sets.proofs.Members.{is_member-head}
-use Rattle.mat_cuts.specs.Cuts.{all_weight, enters, weight_on, weight_where, AreRightCuts, IsCut, IsRootFree, IsUnreached}
+use Rattle.mat_cuts.specs.Cuts.{all_weight, weight_on, weight_where, AreRightCuts, IsCut, IsRootFree, IsUnreached}
 use Rattle.mat_cuts.specs.Answers.{AreRight, TellsReached}
 use Rattle.mat_cuts.specs.declared.cut_weight.Cuts.{Cuts}
 use Rattle.mat_cuts.specs.declared.cut_weight.Cuts.TheVariants.{Tree, Unreached}
@@ -25,21 +26,12 @@ some_from_member x [] m = absurd (false≢true m)
 some_from_member x (y ∷ xs) m = omega arith
 
 module _ (ends : ℕ → ℕ × ℕ) where
-  -- a walk from outside to inside has an arc that enters
-  pub walk_enters : (set along : List ℕ) (v w : ℕ) → DirectedWalk ends along v w → is_member v set ≡ false → is_member w set ≡ true
-      → (a : ℕ) × (is_member a along ≡ true) × (enters ends set a ≡ true)
-  walk_enters set [] v w walk out inside = absurd (both_ways _ out (ap (λ z. is_member z set) walk ∙ inside))
-  walk_enters set (a ∷ along) v w walk out inside = elim (cases_Bool (is_member (ends a).1 set)) [
-    | inl here ↦ (a, is_member-head a along, and_from _ _ here (ap not (ap (λ z. is_member z set) walk.0 ∙ out)))
-    | inr later ↦ (let f = walk_enters set along (ends a).1 w walk.1 later inside in (f.0, (let m = f.1 in grind arith), f.2))
-  ]
-
   pub arborescence_enters : (vertices count root : ℕ) (tree set : List ℕ) → IsSpanningArborescence vertices count ends root tree
       → IsRootFree vertices root set → (a : ℕ) × (is_member a tree ≡ true) × (enters ends set a ≡ true)
   arborescence_enters vertices count root tree set s f =
       let v = member_from_some set f.some in
       let r = s.reached v.0 (below_member f.set v.1) in
-      let w = walk_enters set r.along root v.0 r.walk f.free v.1 in
+      let w = walk_enters ends set r.along root v.0 r.walk f.free v.1 in
       (w.0, r.inside.inside w.0 w.1, w.2)
 
   where-low : (b : Bool) (w : ℤ) → pos 0 <ℤ w → pos 0 ≤ℤ weight_where b w

@@ -4,3 +4,5 @@ pub mod Raises
 pub mod Trees
 pub mod Loops
 pub mod Searching
+pub mod Reached
+pub mod Adding

@@ -4,10 +4,10 @@ use Rattle.std.proofs.Common.{if◌then◌else◌, ◌≡◌, ◌≢◌, ℕ, ze
 use Rattle.std.proofs.lemmas.Bool.{both_ways, cases_Bool, cases_lt}
 use Rattle.std.proofs.lemmas.Int.{ints}
 use Rattle.std.specs.List.{AllByRecursion}
-use Rattle.mat_sets.specs.Graphs.{ends_of}
+use Rattle.mat_sets.specs.Graphs.{ends_of, enters}
 use Rattle.mat_sets.specs.Sets.{is_member}
 use Rattle.mat_cuts.specs.Costs.{cost_at}
-use Rattle.mat_cuts.specs.Cuts.{enters, weight_on, weight_where, IsCut, IsRootFree}
+use Rattle.mat_cuts.specs.Cuts.{weight_on, weight_where, IsCut, IsRootFree}
 use Rattle.mat_cuts.specs.Raising.{at, AreNested, IsLowered, IsNested, IsRaised, Leads}
 use Rattle.mat_cuts.specs.declared.cut_weight.CutWeight.{CutWeight}
 use Rattle.mat_cuts.proofs.Paths.{Leads-later}

@@ -4,7 +4,7 @@ use Rattle.std.proofs.lemmas.Bool.{and_from, and_parts, both_ways, cases_Bool, c
 use Rattle.std.proofs.lemmas.Int.{ints}
 use Rattle.std.proofs.lemmas.List.Elements.{All-get_or}
 use Rattle.std.specs.List.{AllByRecursion}
-use Rattle.mat_sets.specs.Graphs.{ends_of, IsGraph}
+use Rattle.mat_sets.specs.Graphs.{ends_of, enters, IsGraph}
 use Rattle.mat_sets.specs.Search.{those_below}
 use Rattle.mat_sets.specs.Sets.{all_below, is_member, without_one, IsSet}
 use Rattle.mat_cuts.specs.Costs.{cost_at, IsCost}
@@ -12,7 +12,7 @@ use Rattle.mat_sets.proofs.Cardinalities.{length-without_one}
 use Rattle.mat_sets.proofs.Ground.{below_member, is_member-all_below, length-all_below, IsRising-all_below, IsSet-all_below, IsSet-without_one}
 use Rattle.mat_sets.proofs.Members.{is_member-without_one}
 use Rattle.mat_sets.proofs.Search.{is_member-those_below, IsSet-those_below}
-use Rattle.mat_cuts.specs.Cuts.{enters, weight_where, IsCut, IsRootFree, IsUnreached}
+use Rattle.mat_cuts.specs.Cuts.{weight_where, IsCut, IsRootFree, IsUnreached}
 use Rattle.mat_cuts.specs.Listing.{IsBegun, IsFollowed, IsListed, IsPaid, IsPushed}
 use Rattle.mat_cuts.specs.declared.growing.Raised.{Raised}
 use Rattle.mat_cuts.specs.declared.joining.Path.{Path}

@@ -6,7 +6,7 @@ use Rattle.std.proofs.lemmas.Bool.{and_from, and_parts, both_ways, cases_Bool, c
 use Rattle.std.proofs.lemmas.Bool.Decides.{nat_tests}
 use Rattle.std.proofs.lemmas.Int.{ints}
 use Rattle.std.specs.List.{AllByRecursion}
-use Rattle.mat_sets.specs.Graphs.{ends_of, IsGraph, IsSpanningArborescence, Reaches}
+use Rattle.mat_sets.specs.Graphs.{ends_of, enters, IsGraph, IsSpanningArborescence, Reaches}
 use Rattle.mat_sets.specs.Sets.{all_below, is_member, with_one, IsSet}
 use Rattle.mat_sets.specs.Sums.{sum_of}
 use Rattle.mat_cuts.specs.Costs.{cost_at, cost_of}
@@ -15,7 +15,7 @@ use Rattle.mat_sets.proofs.Ground.{below_member, is_member-all_below, length-all
 use Rattle.mat_sets.proofs.Members.{is_member-head, is_member-with_one}
 use Rattle.mat_sets.proofs.Subsets.{larger_has, same_size_subset, IsSubset-with_one}
 use Rattle.mat_sets.proofs.Walking.{Reaches-arc, Reaches-itself, Reaches-subset, Reaches-trans}
-use Rattle.mat_cuts.specs.Cuts.{all_weight, enters, weight_on, weight_where, IsCut}
+use Rattle.mat_cuts.specs.Cuts.{all_weight, weight_on, weight_where, IsCut}
 use Rattle.mat_cuts.specs.Raising.{at, AreNested, IsEarliest, IsNested, IsRaised, Leads}
 use Rattle.mat_cuts.specs.declared.cut_weight.CutWeight.{CutWeight}
 use Rattle.mat_cuts.proofs.Bounds.{member_from_some}

@@ -1,14 +1,10 @@
 -- Vertex sets with weights that bound the cost of each spanning arborescence from below (Fulkerson 1974; Schrijver, chapter 52).
 use Rattle.std.specs.Prelude.{◌≡◌, ℕ, ◌<◌, ◌≤◌, ◌*◌, Bool, true, false, not, ◌&&◌, if◌then◌else◌, List, [], ◌∷◌, length, ℤ, pos, ◌+ℤ◌, ◌≤ℤ◌, ◌<ℤ◌}
 use Rattle.std.specs.List.{AllByRecursion}
-use Rattle.mat_sets.specs.Graphs.{ends_of, IsSpanningArborescence}
+use Rattle.mat_sets.specs.Graphs.{ends_of, enters, IsSpanningArborescence}
 use Rattle.mat_sets.specs.Sets.{is_member, IsSet}
 use Rattle.mat_cuts.specs.Costs.{cost_at, cost_of}
 use Rattle.mat_cuts.specs.declared.cut_weight.CutWeight.{CutWeight}
-
--- whether arc a enters a vertex set: its head is inside, and its tail is not
-abbrev pub enters : (ℕ → ℕ × ℕ) → List ℕ → ℕ → Bool
-enters ends set a = is_member (ends a).1 set && not (is_member (ends a).0 set)
 
 -- a vertex set that is not empty and does not hold the root
 pub record IsRootFree (vertices root : ℕ) (part : List ℕ) : Type 0 where

@@ -3,3 +3,4 @@ pub mod Cuts
 pub mod Raising
 pub mod Answers
 pub mod Listing
+pub mod Checking

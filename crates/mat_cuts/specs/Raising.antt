@@ -2,10 +2,10 @@
 -- A path of sets grows backwards from an unreached vertex, each set joined by spent arcs to the next.
 use Rattle.std.specs.Prelude.{◌≡◌, ◌≢◌, ℕ, suc, ◌<◌, ◌≤◌, ◌^◌, ◌⊎◌, Bool, true, false, not, ◌&&◌, ◌==◌, if◌then◌else◌, nat_le, List, [], ◌∷◌, length, slice_index_or, Option, MatchOption, ℤ, pos, ◌+ℤ◌, ◌≤ℤ◌}
 use Rattle.std.specs.List.{AllByRecursion}
-use Rattle.mat_sets.specs.Graphs.{ends_of}
+use Rattle.mat_sets.specs.Graphs.{ends_of, enters}
 use Rattle.mat_sets.specs.Sets.{is_member, IsSet}
 use Rattle.mat_cuts.specs.Costs.{cost_at}
-use Rattle.mat_cuts.specs.Cuts.{enters, weight_on, weight_where, IsCut}
+use Rattle.mat_cuts.specs.Cuts.{weight_on, weight_where, IsCut}
 use Rattle.mat_cuts.specs.declared.cut_weight.CutWeight.{CutWeight}
 
 -- the number at a place, 0 past the end

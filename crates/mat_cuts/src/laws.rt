@@ -1,8 +1,8 @@
 //! Laws of weighted cuts, for any graph.
 ghost use Rattle.std.specs.Prelude.{◌≡◌, ℕ, ℤ, List, length, true};
-ghost use Rattle.mat_sets.specs.Graphs.{ends_of, IsSpanningArborescence};
+ghost use Rattle.mat_sets.specs.Graphs.{ends_of, enters, IsSpanningArborescence};
 ghost use Rattle.mat_sets.specs.Sets.{is_member};
-ghost use Rattle.mat_cuts.specs.Cuts.{enters, AreRightCuts, IsCheapest, IsRootFree, IsUnreached};
+ghost use Rattle.mat_cuts.specs.Cuts.{AreRightCuts, IsCheapest, IsRootFree, IsUnreached};
 ghost use Rattle.mat_cuts.specs.declared.cut_weight.CutWeight.{CutWeight};
 
 /// Each spanning arborescence has an arc that enters each root-free vertex set.

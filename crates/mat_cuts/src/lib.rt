@@ -2,6 +2,7 @@
 #![tactic(auto)]
 
 mod cheapest_tree;
+mod checking;
 mod cut_weight;
 mod growing;
 mod joining;
@@ -9,4 +10,5 @@ pub mod laws;
 mod lowering;
 
 pub use cheapest_tree::cheapest;
+pub use checking::right_cuts;
 pub use cut_weight::{CutWeight, Cuts};

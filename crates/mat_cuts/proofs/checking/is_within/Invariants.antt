@@ -1,0 +1,6 @@
+use Rattle.std.proofs.Common.{◌<◌, ◌≤ℤ◌, ℕ}
+use Rattle.mat_cuts.specs.Costs.{cost_at}
+use Rattle.mat_cuts.proofs.checking.is_within.Given as goal
+
+abbrev pub invariant-loop-a : goal.invariant-loop-a
+invariant-loop-a l = (a : ℕ) → a < l.a → cost_at l.paid a ≤ℤ cost_at l.costs a

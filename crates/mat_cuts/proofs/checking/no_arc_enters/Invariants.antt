@@ -1,0 +1,6 @@
+use Rattle.std.proofs.Common.{◌≡◌, ◌<◌, ℕ, false}
+use Rattle.mat_sets.specs.Graphs.{ends_of, enters}
+use Rattle.mat_cuts.proofs.checking.no_arc_enters.Given as goal
+
+abbrev pub invariant-loop-a : goal.invariant-loop-a
+invariant-loop-a l = (a : ℕ) → a < l.a → enters (ends_of l.arcs) l.set a ≡ false

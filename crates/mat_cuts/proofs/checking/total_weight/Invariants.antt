@@ -1,0 +1,10 @@
+use Rattle.std.proofs.Common.{◌≡◌, ◌*◌, ◌^◌, take}
+use Rattle.mat_sets.specs.Sums.{IsWithin}
+use Rattle.mat_cuts.specs.Cuts.{all_weight}
+use Rattle.mat_cuts.proofs.checking.total_weight.Given as goal
+
+abbrev pub invariant-loop-cut : goal.invariant-loop-cut
+invariant-loop-cut l = record {
+  so_far : l.total ≡ all_weight (take l.cut-index l.cuts);
+  small : IsWithin (10 ^ 30 * l.cut-index) l.total;
+}
