@@ -15,7 +15,7 @@ use Rattle.mat_exchange.specs.Changes.{lowered, raised}
 use Rattle.mat_exchange.specs.SlackParts.{IsAdditionSlack, IsLeast}
 use Rattle.mat_exchange.specs.HeaviestAddable.{IsHeaviestWeight, IsHeaviestWeightOrNone, greater_of}
 use Rattle.mat_exchange.specs.Growing.{IsFringe, IsOffered, excess_of, entry_gain}
-use Rattle.mat_exchange.proofs.TightArcs.{heaviest_addable_gives, heaviest_addable_from}
+use Rattle.mat_laws.proofs.TightArcs.{heaviest_addable_gives, heaviest_addable_from}
 use Rattle.mat_exchange.proofs.WeightChanges.{lowered-member, lowered-outside, raised-member, raised-outside}
 
 -- ---- one change after another

@@ -14,7 +14,7 @@ use Rattle.mat_laws.specs.Slacks.{IsSlack}
 use Rattle.mat_laws.specs.Slacks.IsSlack.{first_addition, first_exchange, second_exchange, second_addition}
 use Rattle.mat_laws.specs.Ladders.{IsCut}
 use Rattle.mat_laws.proofs.Cuts.{cut_of_stuck}
-use Rattle.mat_exchange.proofs.TightArcs.{addable_from, exchangeable_from, heaviest_addable_from}
+use Rattle.mat_laws.proofs.TightArcs.{addable_from, exchangeable_from, heaviest_addable_from}
 
 -- ---- a heaviest addable element
 

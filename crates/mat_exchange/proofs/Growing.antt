@@ -21,7 +21,7 @@ use Rattle.mat_exchange.specs.Changes.{lowered, raised}
 use Rattle.mat_exchange.specs.Growing.{NoExchangeGains, EndsSearch, IsGrownSplit, IsEntry, IsFringe, IsOffered, leads, entry_gain, sum_at}
 use Rattle.mat_exchange.specs.Growing.IsEntry.{as_source, from_member, from_other}
 use Rattle.mat_exchange.specs.SlackParts.{IsAdditionSlack, IsLeast}
-use Rattle.mat_exchange.proofs.TightArcs.{IsHeaviestAddable, heaviest_addable_gives, heaviest_addable_from}
+use Rattle.mat_laws.proofs.TightArcs.{IsHeaviestAddable, heaviest_addable_gives, heaviest_addable_from}
 use Rattle.mat_exchange.proofs.WeightChanges.{lowered-member, lowered-outside, raised-member, raised-outside, lowered-keeps, raised-keeps}
 use Rattle.mat_exchange.proofs.Fringes.{fringe_offered}
 use Rattle.mat_exchange.proofs.Raising.{lowered_zero, raised_zero}

@@ -18,7 +18,7 @@ use Rattle.mat_exchange.specs.Changes.{lowered, raised}
 use Rattle.mat_exchange.specs.Growing.{NoExchangeGains, IsGrownSplit, IsEntry, sum_at}
 use Rattle.mat_exchange.specs.Growing.IsEntry.{as_source, from_member, from_other}
 use Rattle.mat_exchange.specs.SlackParts.{IsAdditionSlack, IsLeast}
-use Rattle.mat_exchange.proofs.TightArcs.{heaviest_addable_gives, heaviest_addable_from}
+use Rattle.mat_laws.proofs.TightArcs.{heaviest_addable_gives, heaviest_addable_from}
 use Rattle.mat_exchange.proofs.CutsWithoutSlack.{some_heaviest_addable}
 use Rattle.mat_exchange.proofs.LeastSlacks.{least_slack_or_none}
 use Rattle.mat_exchange.proofs.Growing.{AreExchangesOn, IsGrowing, EntersLate, in_others, others_below, others_outside, entry_not_above, entry_shifts, growing_by, growing_more, growing_start, grown_by_sink, grown_unchanged, grown_without_slack, levelled_by_entry, levelled_by_sink, sink_by_slack}

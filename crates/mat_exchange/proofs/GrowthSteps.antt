@@ -22,7 +22,7 @@ use Rattle.mat_exchange.specs.declared.steps.NextStep.TheVariants.{Enter, Sink, 
 use Rattle.mat_exchange.specs.Growing.{NoExchangeGains, IsGrownSplit, IsEntry, IsFringe, IsOffered, IsNextStep, IsHeaviestOf, leads, entry_gain}
 use Rattle.mat_exchange.specs.Growing.{excess_of, sum_at}
 use Rattle.mat_exchange.specs.Growing.IsEntry.{as_source, from_member, from_other}
-use Rattle.mat_exchange.proofs.TightArcs.{IsHeaviestAddable, heaviest_addable_gives}
+use Rattle.mat_laws.proofs.TightArcs.{IsHeaviestAddable, heaviest_addable_gives}
 use Rattle.mat_exchange.proofs.HeaviestAddable.{addable_below}
 use Rattle.mat_exchange.proofs.Growing.{AreExchangesOn, IsGrowing, growing_by, growing_more, enters_late, fringe_changed, entry_not_above}
 use Rattle.mat_exchange.proofs.Growing.{levelled_by_entry, levelled_by_sink, fringe_entered, fringe_without, grown_by_sink, grown_without_slack}

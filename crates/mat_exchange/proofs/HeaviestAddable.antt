@@ -10,7 +10,7 @@ use Rattle.mat_sets.specs.declared.weight.Weight.{Weight}
 use Rattle.mat_sets.proofs.WeightOrder.{same_gives, same_from, at_most_both, at_most_same, at_most_trans, below_at_most, not_below_gives}
 use Rattle.mat_laws.specs.declared.exchange.Exchange.{Exchange}
 use Rattle.mat_laws.specs.TightPaths.{Exchanges, exchanges_in, is_heaviest_addable}
-use Rattle.mat_exchange.proofs.TightArcs.{heaviest_addable_gives, heaviest_addable_from}
+use Rattle.mat_laws.proofs.TightArcs.{heaviest_addable_gives, heaviest_addable_from}
 use Rattle.mat_exchange.specs.HeaviestAddable.{IsHeaviestWeight, IsHeaviestWeightOrNone, greater_of}
 
 -- ---- going through the elements

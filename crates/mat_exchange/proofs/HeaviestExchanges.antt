@@ -8,7 +8,7 @@ use Rattle.mat_laws.specs.TightPaths.{exchanges_at, exchanges_in}
 use Rattle.mat_laws.proofs.LocallyHeaviest.{heaviest_from_exchanges, exchange_gains_nothing}
 use Rattle.mat_exchange.specs.Growing.{NoExchangeGains}
 use Rattle.mat_exchange.proofs.RowExchanges.{rows_tell_exchanges}
-use Rattle.mat_exchange.proofs.TightArcs.{exchangeable_gives, exchangeable_from}
+use Rattle.mat_laws.proofs.TightArcs.{exchangeable_gives, exchangeable_from}
 
 module _ {n : ℕ} {p : List ℕ → Bool} (laws : IsMatroid n p) (w : ℕ → Weight) (I : List ℕ) where
   pub gains_at_heaviest : IsHeaviest p w I → NoExchangeGains (exchanges_at p I) w

@@ -1,4 +1,3 @@
-pub mod TightArcs
 pub mod TightPathSteps
 pub mod WeightChanges
 pub mod CutsWithoutSlack

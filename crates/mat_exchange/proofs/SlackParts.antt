@@ -16,7 +16,7 @@ use Rattle.mat_laws.specs.Slacks.{IsSlack, IsLeastSlackOrNone}
 use Rattle.mat_laws.specs.Slacks.IsSlack.{first_addition, first_exchange, second_exchange, second_addition}
 use Rattle.mat_exchange.specs.HeaviestAddable.{IsHeaviestWeight}
 use Rattle.mat_exchange.specs.SlackParts.{IsAdditionSlack, IsExchangeSlackAt, IsExchangeSlack, IsLeast, IsLeastOrNone, lesser_of}
-use Rattle.mat_exchange.proofs.TightArcs.{heaviest_addable_gives, heaviest_addable_from}
+use Rattle.mat_laws.proofs.TightArcs.{heaviest_addable_gives, heaviest_addable_from}
 use Rattle.mat_exchange.proofs.HeaviestAddable.{addable_below}
 
 -- ---- the least of numbers

@@ -16,7 +16,7 @@ use Rattle.mat_laws.specs.TightPaths.{exchanges_at, is_heaviest_addable, is_tigh
 use Rattle.mat_laws.proofs.Independent.{rising}
 use Rattle.mat_laws.proofs.Triangular.{is_value, is_value-first, is_value-list, not_value}
 use Rattle.mat_laws.proofs.PathSides.{IsPathSide, path_side_step}
-use Rattle.mat_exchange.proofs.TightArcs.{IsExchangeable, IsHeaviestAddable, addable_gives, addable_from, heaviest_addable_gives, lighter_addable, tight_first, tight_second, tight_from_outside, tight_from_inside}
+use Rattle.mat_laws.proofs.TightArcs.{IsExchangeable, IsHeaviestAddable, addable_gives, addable_from, heaviest_addable_gives, lighter_addable, tight_first, tight_second, tight_from_outside, tight_from_inside}
 
 -- ---- even and odd places
 

@@ -20,7 +20,7 @@ use Rattle.mat_laws.specs.Slacks.{IsSlack, IsLeastSlack}
 use Rattle.mat_laws.specs.Slacks.IsSlack.{first_addition, first_exchange, second_exchange, second_addition}
 use Rattle.mat_laws.proofs.LocallyHeaviest.{heaviest_from_exchanges, exchange_gains_nothing}
 use Rattle.mat_exchange.specs.Changes.{lowered, raised, IsChange}
-use Rattle.mat_exchange.proofs.TightArcs.{IsExchangeable, exchangeable_gives, exchangeable_from, heaviest_addable_gives, heaviest_addable_from, tight_gives, tight_first, tight_second}
+use Rattle.mat_laws.proofs.TightArcs.{IsExchangeable, exchangeable_gives, exchangeable_from, heaviest_addable_gives, heaviest_addable_from, tight_gives, tight_first, tight_second}
 
 -- ---- the changed weights, element by element
 

@@ -5,7 +5,6 @@ ghost use Rattle.mat_laws.specs.TightPaths.{exchanges_in, row_in};
 ghost use Rattle.mat_laws.specs.declared.exchange.Exchange.{Exchange};
 ghost use Rattle.mat_exchange.specs.RowTables.{set_at, AreUnited, AreWhole, IsEntered, IsFilled};
 
-use crate::bits::bits_of_members;
 use mat_laws::Exchange;
 use mat_sets::{BitSet, ElemSet};
 use std::alloc::{AllocError, Global};
@@ -159,7 +158,7 @@ pub(crate) fn table_of(
     ensures { IfOk result (λ t. t ≡ exchanges.now) }
 {
     let n = exchanges.len() as u32;
-    let bits = bits_of_members(alloc, n, base)?;
+    let bits = base.to_bits(alloc)?;
     let mut table = PartialTable::new(alloc, n)?;
     for x in 0..n {
         table.enter(alloc, x, &exchanges[x as usize], &bits)?;

@@ -7,7 +7,7 @@ ghost use Rattle.mat_laws.specs.Slacks.{IsLeastSlackOrNone};
 ghost use Rattle.mat_exchange.specs.Growing.{excess_of};
 ghost use Rattle.mat_exchange.specs.SlackParts.{IsAdditionSlack, IsExchangeSlackAt, IsExchangeSlack, IsLeastOrNone, lesser_of};
 
-use crate::bits::{bits_of_members, bits_of_others};
+use crate::bits::bits_of_others;
 use crate::heaviest_addable::heaviest_addable;
 use crate::heaviest_common::heaviest_common;
 use crate::row_table::RowTable;
@@ -120,7 +120,7 @@ pub(crate) fn least_slack(
         (weight_at w1.now) (weight_at w2.now) reach.now) }
 {
     let n = w1.len() as u32;
-    let reached = bits_of_members(alloc, n, reach)?;
+    let reached = reach.to_bits(alloc)?;
     let others = bits_of_others(alloc, n, reach)?;
     let first_slack = lesser(
         addition_slack(first, &others, w1),

@@ -36,7 +36,7 @@ enter-requires-clause-whole c = λ h.
     let l : c.loop-x.x < length exchanges = omega (arith, c.loop-x-test.true, c.requires.few) in
     let same = c.index-exchanges-x.is ∙ get_or_default exchanges c.loop-x.x c.index-exchanges-x.result none l in
     ap (λ (r : Exchange). r.with) same ∙ c.requires.whole.whole c.loop-x.x (sym (ap (λ (r : Exchange). r.addable) same) ∙ h)
-    ∙ sym c.in_ok-bits.ensures
+    ∙ sym c.in_ok-bits.ensures.members
 
 pub finish-requires-clause-below : goal.finish-requires-clause-below
 finish-requires-clause-below c = subst (λ k. AllBelow k c.args.base.now) (sym c.loop-x.invariant.columns_count) c.requires.base

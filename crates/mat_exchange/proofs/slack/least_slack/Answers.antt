@@ -9,12 +9,12 @@ use Rattle.mat_exchange.proofs.slack.least_slack.Goals as goal
 pub exchange_slack-requires-2-clause-below : goal.exchange_slack-requires-2-clause-below
 exchange_slack-requires-2-clause-below c =
     reached_below (length c.args.w1.now) (length c.args.w2.now) c.args.reach.now _ c.requires.below c.requires.lengths
-    (λ x. ap (is_member x) c.in_ok-reached.ensures)
+    (λ x. ap (is_member x) c.in_ok-reached.ensures.members)
 
 pub addition_slack-requires-2-clause-below : goal.addition_slack-requires-2-clause-below
 addition_slack-requires-2-clause-below c =
     reached_below (length c.args.w1.now) (length c.args.w2.now) c.args.reach.now _ c.requires.below c.requires.lengths
-    (λ x. ap (is_member x) c.in_ok-reached.ensures)
+    (λ x. ap (is_member x) c.in_ok-reached.ensures.members)
 
 pub returns : goal.returns
 returns c =
@@ -26,7 +26,7 @@ returns c =
     let reached = c.in_ok-reached.reached in
     let others = c.in_ok-others.others in
     rw (c.lesser.ensures, c.lesser-first_slack.ensures, c.lesser-second_slack.ensures) (least_of_four n first second w1 w2 c.args.reach.now
-    reached others c.requires.below (λ x. ap (is_member x) c.in_ok-reached.ensures) c.in_ok-others.ensures
+    reached others c.requires.below (λ x. ap (is_member x) c.in_ok-reached.ensures.members) c.in_ok-others.ensures
     _ _ _ _ c.addition_slack.ensures c.exchange_slack.ensures
     (subst (λ m. IsLeastOrNone (IsExchangeSlack m second w2 others reached) c.exchange_slack-2.result) c.requires.lengths c.exchange_slack-2.ensures)
     (subst (λ m. IsLeastOrNone (IsAdditionSlack m second w2 reached) c.addition_slack-2.result) c.requires.lengths c.addition_slack-2.ensures))
