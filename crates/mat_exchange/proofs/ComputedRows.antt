@@ -1,24 +1,18 @@
 -- The rows that a job computes, each at its number, are those of all elements.
-use Rattle.std.proofs.Common.{◌≡◌, ℕ, ◌+◌, ◌<◌, Bool, true, false, List, [], length, get_or, sym, ap, ◌∙◌, subst, arith}
+use Rattle.std.proofs.Common.{◌≡◌, ℕ, ◌<◌, Bool, true, false, List, [], length, sym, ap, ◌∙◌, arith}
 use Rattle.std.proofs.lemmas.Bool.{cond-true}
-use Rattle.std.proofs.lemmas.List.{get_or_default, same_lists}
 use Rattle.mat_sets.specs.Sets.{is_member}
 use Rattle.mat_laws.specs.declared.exchange.Exchange.{Exchange}
 use Rattle.mat_laws.specs.Exchanges.{row_of, rows_of}
 use Rattle.mat_laws.specs.TightPaths.{row_in}
 use Rattle.mat_work.specs.Rows.{StandFrom}
-use Rattle.mat_work.proofs.StandingRows.{StandFrom_at}
+use Rattle.mat_work.proofs.StandingRows.{StandFrom_items}
 use Rattle.mat_exchange.proofs.RowExchanges.{length-rows_of, row_in-rows_of}
 
 module _ (n : ℕ) (p : List ℕ → Bool) (I : List ℕ) where
   pub rows_computed : (rows : List Exchange) → length rows ≡ n → StandFrom (λ x row. row ≡ row_in (rows_of n p I) x) 0 rows → rows ≡ rows_of n p I
   rows_computed rows count h =
-      let none : Exchange = record { addable = false; with = [] } in
-      let same = count ∙ sym (length-rows_of n p I) in
-      same_lists rows (rows_of n p I) same (λ k d l.
-          let here : get_or rows k none ≡ row_in (rows_of n p I) k =
-          subst (λ m. get_or rows k none ≡ row_in (rows_of n p I) m) (omega arith) (StandFrom_at (λ x row. row ≡ row_in (rows_of n p I) x) 0 rows k none h l) in
-          get_or_default rows k d none l ∙ here ∙ get_or_default (rows_of n p I) k none d (subst (λ m. k < m) same l))
+      StandFrom_items rows (rows_of n p I) (record { addable = false; with = [] }) (count ∙ sym (length-rows_of n p I)) h
 
   module _ (rows : List Exchange) (x : ℕ) (is : rows_of n p I ≡ rows) (inside : x < length rows) where
     pub element_below : x < n

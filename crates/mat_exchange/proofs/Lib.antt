@@ -19,5 +19,3 @@ pub mod GrowthSteps
 pub mod GrownSplits
 pub mod HeaviestExchanges
 pub mod GrownSplitsExist
-pub mod GrowthTests
-pub mod TableTests

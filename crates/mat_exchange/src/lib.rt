@@ -7,8 +7,6 @@ mod found;
 mod fringe;
 mod grown;
 mod growth;
-#[cfg(test)]
-mod growth_tests;
 mod heaviest_addable;
 mod heaviest_common;
 mod heaviest_members;
@@ -16,11 +14,7 @@ pub mod laws;
 mod path_search;
 mod row_table;
 mod slack;
-#[cfg(test)]
-mod slack_tests;
 mod steps;
-#[cfg(test)]
-mod tests;
 mod tight_arcs;
 
 pub use exchanges::rows;
