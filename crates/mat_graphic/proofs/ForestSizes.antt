@@ -15,10 +15,11 @@ use Rattle.mat_sets.proofs.Subsets.{length-subset, same_size_subset}
 use Rattle.mat_sets.proofs.ListParts.{is_member-tail}
 use Rattle.mat_laws.specs.Ranks.{rank}
 use Rattle.mat_laws.proofs.RankLaws.{rank_is}
-use Rattle.mat_graphic.specs.Forests.{is_forest, is_graphic, least_reached, number_of_components}
-use Rattle.mat_graphic.specs.ComponentLaws.{trail_of_same, least_reached-le, least_reached-fixed}
+use Rattle.mat_graphic.specs.Forests.{IsForest, is_forest, is_graphic, least_reached, number_of_components}
+use Rattle.mat_graphic.specs.Mergings.{least_merged}
+use Rattle.mat_graphic.specs.ComponentLaws.{trail_of_same, least_merged-le, least_merged-fixed}
 use Rattle.mat_graphic.specs.ForestLaws.{graphic_laws, reaching_lower, is_member-reaching_lower, IsRising-reaching_lower, length-reaching_lower}
-use Rattle.mat_graphic.proofs.ComponentCounts.{AreEndsBelow, rank_and_number}
+use Rattle.mat_graphic.proofs.ComponentCounts.{AreEndsBelow, least_reached-merged, rank_and_number}
 
 module _ (ends : ℕ → ℕ × ℕ) where
   -- both ends of each edge are in U
@@ -43,16 +44,16 @@ module _ (ends : ℕ → ℕ × ℕ) where
   above_lowest : (lo u : ℕ) (U F : List ℕ) → RisesFrom lo (u ∷ U) → IsRising F → AreEndsIn (u ∷ U) F → (z : ℕ)
       → is_member z (reaching_lower ends F) ≡ true → is_member z U ≡ true
   above_lowest lo u U F r rf inside z m =
-      let P = trail_of_same ends F z (least_reached ends F z) rf (sym (least_reached-fixed ends F z)) in
-      let lower : least_reached ends F z ≢ z = eqb-false _ _ (not-true _ (sym (is_member-reaching_lower ends F z) ∙ m)) in
+      let P = trail_of_same ends F z (least_merged ends F z) rf (sym (least_merged-fixed ends F z)) in
+      let lower : least_merged ends F z ≢ z = eqb-false _ _ (not-true _ (sym (is_member-reaching_lower ends F z) ∙ m)) in
       let on_trail : AreEndsIn (u ∷ U) P.edges = λ e k. inside e (P.inside.inside e k) in
-      let here = walk_start_in (u ∷ U) P.edges z (least_reached ends F z) on_trail P.walk (λ same. lower (sym same)) in
-      let there = walk_end_in (u ∷ U) P.edges z (least_reached ends F z) on_trail P.walk here in
-      let low : u ≤ least_reached ends F z = member_from u (least_reached ends F z) (u ∷ U) (omega arith, r.1) there in
-      let other : z ≢ u = omega (arith, least_reached-le ends F z) in
+      let here = walk_start_in (u ∷ U) P.edges z (least_merged ends F z) on_trail P.walk (λ same. lower (sym same)) in
+      let there = walk_end_in (u ∷ U) P.edges z (least_merged ends F z) on_trail P.walk here in
+      let low : u ≤ least_merged ends F z = member_from u (least_merged ends F z) (u ∷ U) (omega arith, r.1) there in
+      let other : z ≢ u = omega (arith, least_merged-le ends F z) in
       rw (ne_eqb z u other) at here
 
-  pub length-forest_inside : (F U : List ℕ) → IsRising F → is_forest ends F ≡ true → IsRising U → AreEndsIn U F → 0 < length U
+  pub length-forest_inside : (F U : List ℕ) → IsRising F → IsForest ends F → IsRising U → AreEndsIn U F → 0 < length U
       → length F < length U
   length-forest_inside F [] rf forest ru inside some = absurd (omega arith)
   length-forest_inside F (u ∷ U) rf forest ru inside some =
@@ -60,17 +61,17 @@ module _ (ends : ℕ → ℕ × ℕ) where
       let tail : IsRising U = record { rises = RisesFrom-weaken 0 (suc u) U (omega arith) r.1 } in
       omega (
         arith,
-        length-reaching_lower ends F forest,
+        length-reaching_lower ends F rf forest,
         length-subset (reaching_lower ends F) U (IsRising-reaching_lower ends F) tail
             (record { inside = above_lowest 0 u U F r rf inside }),
       )
 
-  -- where one vertex is the least that is reached from each, there is at most one component
-  one_component : (n c : ℕ) (X : List ℕ) → ((v : ℕ) → v < n → least_reached ends X v ≡ c) → number_of_components n ends X ≤ 1
+  -- where one vertex is the least of the component of each, there is at most one component
+  one_component : (n c : ℕ) (X : List ℕ) → IsRising X → ((v : ℕ) → v < n → least_merged ends X v ≡ c) → number_of_components n ends X ≤ 1
   unfolding number_of_components
-  one_component n c X same = few (those_below n least) (IsSet-those_below n least).rising (λ v m.
+  one_component n c X rising same = few (those_below n least) (IsSet-those_below n least).rising (λ v m.
       let p = and_parts (ltb v n) (eqb (least_reached ends X v) v) (sym (is_member-those_below v n least) ∙ m) in
-      sym (eqb-true _ _ p.1) ∙ same v (ltb-true v n p.0))
+      sym (eqb-true _ _ p.1) ∙ least_reached-merged ends X v rising ∙ same v (ltb-true v n p.0))
     where
       least : ℕ → Bool
       least v = eqb (least_reached ends X v) v
@@ -84,19 +85,19 @@ module _ (ends : ℕ → ℕ × ℕ) where
 
   -- a set of edges that joins all vertices and has fewer edges than there are vertices is a forest
   pub spanning_forest : (m n c : ℕ) (X : List ℕ) → IsSet m X → AreEndsBelow ends n X → length X < n
-      → ((v : ℕ) → v < n → least_reached ends X v ≡ c) → is_graphic m ends X ≡ true
+      → ((v : ℕ) → v < n → least_merged ends X v ≡ c) → is_graphic m ends X ≡ true
   spanning_forest m n c X s below few same =
       let k = rank_is (graphic_laws m ends) X s.rising in
       let set = IsSet-from_test m k.largest (and_parts (is_set m k.largest) (is_forest ends k.largest) k.passes).0 in
       let whole : k.largest ≡ X = same_size_subset k.largest X set.rising s.rising k.inside
-      (omega (arith, k.size, rank_and_number ends m n X s below, one_component n c X same)) in
+      (omega (arith, k.size, rank_and_number ends m n X s below, one_component n c X s.rising same)) in
       subst (λ Y. is_graphic m ends Y ≡ true) whole k.passes
 
   -- there is a component where there is a vertex
-  pub some_component : (n : ℕ) (X : List ℕ) → 0 < n → 0 < number_of_components n ends X
+  pub some_component : (n : ℕ) (X : List ℕ) → IsRising X → 0 < n → 0 < number_of_components n ends X
   unfolding number_of_components
-  some_component n X some = has (those_below n least) (is_member-those_below 0 n least ∙ and_from (ltb 0 n) (least 0) (lt-ltb 0 n some)
-      (eq-eqb _ _ (omega (arith, least_reached-le ends X 0))))
+  some_component n X rising some = has (those_below n least) (is_member-those_below 0 n least ∙ and_from (ltb 0 n) (least 0) (lt-ltb 0 n some)
+      (eq-eqb _ _ (omega (arith, least_reached-merged ends X 0 rising, least_merged-le ends X 0))))
     where
       least : ℕ → Bool
       least v = eqb (least_reached ends X v) v

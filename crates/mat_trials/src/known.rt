@@ -41,8 +41,8 @@ fn seven_columns(alloc: Global) -> Result<Gf2, AllocError>
     Gf2::new(alloc, 3, vec![in alloc; 1, 2, 3, 4, 5, 6, 7]?)
 }
 
-// The members of a set.
-fn told_set(alloc: Global, set: &ElemSet) -> Result<String, AllocError> {
+/// The members of a set.
+pub(crate) fn told_set(alloc: Global, set: &ElemSet) -> Result<String, AllocError> {
     let mut text = String::from_str(alloc, "set")?;
     for x in set.as_slice() {
         text = format!(in alloc; "{text} {x}")?;

@@ -9,6 +9,7 @@ mod cases;
 mod faults;
 mod kinds;
 mod known;
+mod meeting;
 mod real;
 mod reports;
 mod routes;
@@ -17,6 +18,7 @@ mod shared;
 use crate::faults::fault_report;
 use crate::kinds::{KINDS, kinds_report};
 use crate::known::known_report;
+use crate::meeting::meeting_report;
 use crate::real::real_report;
 use crate::reports::cases_report;
 use crate::routes::{ROUTES, route_report};
@@ -74,6 +76,8 @@ fn main(rt: HostRuntime) -> io::Result<()> {
     for name in KINDS.iter() {
         print_kinds(&rt, *name)?;
     }
+    let meeting = meeting_report(&rt, alloc)?;
+    rt.stdout().write_all(meeting.as_bytes())?;
     let known = known_report(alloc)?;
     rt.stdout().write_all(known.as_bytes())
 }
