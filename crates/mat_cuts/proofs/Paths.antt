@@ -80,9 +80,9 @@ module _ (vertices : ℕ) (arcs : List (ℕ × ℕ)) (root : ℕ) (since : List 
               | inr low ↦ leads y ly (omega arith) low
               | inl high ↦ (let h : at next x ≡ last + 1 = ap (at next) e ∙ here in
                   elim (cases_Bool (is_member y fresh)) [
-                  | inl m ↦ (let u = p.unseen y m in absurd (omega arith))
-                  | inr m ↦ (let s = p.seen y ly m in absurd (omega arith))
-                ])
+                    | inl m ↦ (let u = p.unseen y m in absurd (omega arith))
+                    | inr m ↦ (let s = p.seen y ly m in absurd (omega arith))
+                  ])
             ])
           ])
           | inr d ↦ (let same_x = other x d in
@@ -165,11 +165,15 @@ module _ (vertices : ℕ) (arcs : List (ℕ × ℕ)) (root : ℕ) (since : List 
                     (p.joined h y lh ly (omega arith) (omega arith) (omega arith)))
               ]
             ];
-        some = λ l. (t, lt, fell t ∙ (elim (by t) [
-          | inl c ↦ absurd (let k = c.0 in omega arith)
-          | inr (inl c) ↦ c.2
-          | inr (inr c) ↦ absurd (let k = c.0 in omega arith)
-        ]));
+        some = λ l. (
+          t,
+          lt,
+          fell t ∙ (elim (by t) [
+            | inl c ↦ absurd (let k = c.0 in omega arith)
+            | inr (inl c) ↦ c.2
+            | inr (inr c) ↦ absurd (let k = c.0 in omega arith)
+          ]),
+        );
       }
 
   -- later times

@@ -52,11 +52,10 @@ module _ (vertices : ℕ) (ends : ℕ → ℕ × ℕ) (root : ℕ) (tree : List 
 
   pub IsReached-next : (reached more : List ℕ) (a : ℕ) → IsReached reached → (ends a).1 < vertices → IsLeaving ends tree reached a
       → more ≡ with_one reached (ends a).1 → IsReached more × (length more ≡ length reached + 1)
-  IsReached-next reached more a r below leaving e =
-      (
-        subst IsReached (sym e) (IsReached-more reached a r below leaving),
-        ap length e ∙ length-with_one reached (ends a).1 r.set.rising leaving.head ∙ omega arith,
-      )
+  IsReached-next reached more a r below leaving e = (
+    subst IsReached (sym e) (IsReached-more reached a r below leaving),
+    ap length e ∙ length-with_one reached (ends a).1 r.set.rising leaving.head ∙ omega arith,
+  )
 
   -- as many reached vertices as there are vertices are all of them
   pub all_reached : (reached : List ℕ) → IsReached reached → length reached ≡ vertices → (v : ℕ) → v < vertices → is_member v reached ≡ true

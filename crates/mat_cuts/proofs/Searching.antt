@@ -163,14 +163,13 @@ module _ (vertices : ℕ) (arcs : List (ℕ × ℕ)) (graph : IsGraph vertices a
         let longer : length (cuts ++ c ∷ []) ≡ suc (length cuts) = length-append cuts (c ∷ []) ∙ omega arith in
         let free = subst (IsRootFree vertices root) (sym es) (root_free reduced since cuts place fresh last s some) in
         let joined : (x y : ℕ) → is_member x c.set ≡ true → is_member y c.set ≡ true → Leads count ends since (length cuts) x y = λ x y mx my. (
-          let px = last_set-gives vertices place last x (ap (is_member x) (sym es) ∙ mx) in
-          let py = last_set-gives vertices place last y (ap (is_member y) (sym es) ∙ my) in
-          let ex = px.1 in let ey = py.1 in
-          s.path.joined x y px.0 py.0 (omega arith) (omega arith) (omega arith)) in
+        let px = last_set-gives vertices place last x (ap (is_member x) (sym es) ∙ mx) in
+        let py = last_set-gives vertices place last y (ap (is_member y) (sym es) ∙ my) in
+        let ex = px.1 in let ey = py.1 in
+        s.path.joined x y px.0 py.0 (omega arith) (omega arith) (omega arith)) in
         let next = IsRaised-raise vertices arcs costs root reduced left since later cuts c s.raised few positive free joined all lowered in
         let changes = IsLater-raise vertices arcs costs root reduced left since later cuts c.set c.weight s.raised (omega arith) positive all lowered in
-        let spent : cost_at left a ≡ pos 0 = (let e = l.left_is a least.below in let w : weight_where (comes ends place last a) c.weight ≡ c.weight = rw least.passes in omega (arith, ints)) in
-        (
+        let spent : cost_at left a ≡ pos 0 = (let e = l.left_is a least.below in let w : weight_where (comes ends place last a) c.weight ≡ c.weight = rw least.passes in omega (arith, ints)) in (
           record {
             path = IsPath-later vertices arcs root since (length cuts) later (length (cuts ++ c ∷ [])) place fresh last
                 (λ b lb e. let k = soon-later count ends since later (length cuts) changes b lb e in omega arith) s.path;
@@ -217,8 +216,7 @@ module _ (vertices : ℕ) (arcs : List (ℕ × ℕ)) (graph : IsGraph vertices a
           | inl m ↦ absurd (seen (s.path.unseen t m))
           | inr out ↦ s.path.seen t (graph.first a la) out
         ] in
-        let before : at place t < last = elim (cases_lt (at place t) last) [ inl l ↦ l | inr k ↦ absurd (p.1 (omega arith)) ] in
-        (
+        let before : at place t < last = elim (cases_lt (at place t) last) [ inl l ↦ l | inr k ↦ absurd (p.1 (omega arith)) ] in (
           record {
             path = IsPath-join vertices arcs root since (length cuts) place next fresh last a s.path few la (graph.first a la) (graph.second a la) early p.0 before (long ∙ s.path.long) fell;
             raised = s.raised;
@@ -240,23 +238,21 @@ module _ (vertices : ℕ) (arcs : List (ℕ × ℕ)) (graph : IsGraph vertices a
         → IsSearching vertices arcs costs root reduced since cuts before.place.items before.fresh before.last → IsBegun before after true
         → IsSearching vertices arcs costs root reduced since cuts after.place.items after.fresh after.last × (0 < after.last)
         × (2 * length after.fresh + after.last ≤ 2 * length before.fresh + before.last)
-    IsSearching-begun reduced since cuts before after s (inl h) =
-        (
-          subst (λ l. IsSearching vertices arcs costs root reduced since cuts after.place.items after.fresh l) (sym h.1.1.1)
+    IsSearching-begun reduced since cuts before after s (inl h) = (
+      subst (λ l. IsSearching vertices arcs costs root reduced since cuts after.place.items after.fresh l) (sym h.1.1.1)
           (subst (λ f. IsSearching vertices arcs costs root reduced since cuts after.place.items f before.last) (sym h.1.1.0)
           (subst (λ p. IsSearching vertices arcs costs root reduced since cuts p before.fresh before.last) (sym h.1.0) s)),
-          (let e = h.1.1.1 in let k = h.0 in omega arith),
-          (let e = h.1.1.1 in let f = ap length h.1.1.0 in omega arith),
-        )
+      (let e = h.1.1.1 in let k = h.0 in omega arith),
+      (let e = h.1.1.1 in let f = ap length h.1.1.0 in omega arith),
+    )
     IsSearching-begun reduced since cuts before after s (inr h) =
         let q = h.1.2 in
         let start = subst (IsSearching vertices arcs costs root reduced since cuts before.place.items before.fresh) h.0 s in
         let e = h.0 in
-        let last_is : after.last ≡ 1 = (let l = q.last in omega arith) in
-        (
+        let last_is : after.last ≡ 1 = (let l = q.last in omega arith) in (
           subst (λ l. IsSearching vertices arcs costs root reduced since cuts after.place.items after.fresh l) (sym last_is)
-          (subst (λ f. IsSearching vertices arcs costs root reduced since cuts after.place.items f 1) (sym q.fresh)
-          (IsSearching-begin reduced since cuts before.place.items after.place.items before.fresh h.1.0 start h.1.1 q.long (let k = q.here in omega arith) q.others)),
+              (subst (λ f. IsSearching vertices arcs costs root reduced since cuts after.place.items f 1) (sym q.fresh)
+              (IsSearching-begin reduced since cuts before.place.items after.place.items before.fresh h.1.0 start h.1.1 q.long (let k = q.here in omega arith) q.others)),
           omega arith,
           (let f = ap length q.fresh in omega (arith, length-without_one before.fresh h.1.0 s.path.fresh_set.rising h.1.1)),
         )
@@ -281,8 +277,7 @@ module _ (vertices : ℕ) (arcs : List (ℕ × ℕ)) (graph : IsGraph vertices a
         let lowered = subst (λ w. IsLowered (length arcs) (comes (ends_of arcs) place last) w (suc (length before.cuts.items)) before.reduced.items after.reduced.items before.since.items after.since.items)
         (sym l.weight_is) l.lowered in
         let n = IsSearching-raise before.reduced.items after.reduced.items before.since.items after.since.items before.cuts.items l.cut place fresh last a
-        s some few room least h.0 l.weight_is set_is lowered in
-        (
+        s some few room least h.0 l.weight_is set_is lowered in (
           subst (λ c. IsSearching vertices arcs costs root after.reduced.items after.since.items c place fresh last) (sym l.cuts) n.0,
           (let e = ap length l.cuts in let k = n.1 in omega arith),
           (let e = ap length l.cuts in omega (arith, length-append before.cuts.items (l.cut ∷ []))),
@@ -299,18 +294,16 @@ module _ (vertices : ℕ) (arcs : List (ℕ × ℕ)) (graph : IsGraph vertices a
         let m : is_member (ends_of arcs a).0 before.fresh ≡ true = elim (cases_Bool (is_member (ends_of arcs a).0 before.fresh)) [
           | inl m ↦ m
           | inr out ↦ (let k = s.path.seen (ends_of arcs a).0 (graph.first a la) out in let e = h.0 in absurd (omega arith))
-        ] in
-        (
+        ] in (
           subst (λ l. IsSearching vertices arcs costs root reduced since cuts after.place.items after.fresh l) (sym q.last)
-          (subst (λ f. IsSearching vertices arcs costs root reduced since cuts after.place.items f (before.last + 1)) (sym q.fresh)
-          (IsSearching-push reduced since cuts before.place.items after.place.items before.fresh before.last a s few la come early h.0 q.long q.here q.others)),
+              (subst (λ f. IsSearching vertices arcs costs root reduced since cuts after.place.items f (before.last + 1)) (sym q.fresh)
+              (IsSearching-push reduced since cuts before.place.items after.place.items before.fresh before.last a s few la come early h.0 q.long q.here q.others)),
           (let f = ap length q.fresh in let l = q.last in omega (arith, length-without_one before.fresh (ends_of arcs a).0 s.path.fresh_set.rising m)),
         )
     IsSearching-followed reduced since cuts before after a s few la come early (inr h) =
         let q = h.1 in
-        let n = IsSearching-join reduced since cuts before.place.items after.place.items before.fresh before.last a s (omega arith) la come early h.0 q.long q.fall in
-        (
+        let n = IsSearching-join reduced since cuts before.place.items after.place.items before.fresh before.last a s (omega arith) la come early h.0 q.long q.fall in (
           subst (λ l. IsSearching vertices arcs costs root reduced since cuts after.place.items after.fresh l) (sym q.last)
-          (subst (λ f. IsSearching vertices arcs costs root reduced since cuts after.place.items f (at before.place.items (ends_of arcs a).0)) (sym q.fresh) n.0),
+              (subst (λ f. IsSearching vertices arcs costs root reduced since cuts after.place.items f (at before.place.items (ends_of arcs a).0)) (sym q.fresh) n.0),
           (let f = ap length q.fresh in let l = q.last in let k = n.1 in omega arith),
         )

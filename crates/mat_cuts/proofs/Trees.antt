@@ -168,8 +168,15 @@ module _ (vertices : ℕ) (arcs : List (ℕ × ℕ)) (costs : List ℤ) (root : 
           | inl same ↦ or_left (eqb (ends b).1 head) _ (eq-eqb (ends b).1 head (ap (λ z. (ends z).1) (eqb-true b a same)))
           | inr old ↦ or_right (eqb (ends b).1 head) _ (g.heads b old)
         ];
-        cost = omega (arith, ints, sum_of-with_one (cost_at costs) tree a g.tree_set.rising fresh, g.cost, r.paid a e.below, spent,
-            met_weight-more (length arcs) ends since reached a e 0 cuts r.nested);
+        cost = omega (
+          arith,
+          ints,
+          sum_of-with_one (cost_at costs) tree a g.tree_set.rising fresh,
+          g.cost,
+          r.paid a e.below,
+          spent,
+          met_weight-more (length arcs) ends since reached a e 0 cuts r.nested,
+        );
       }
 
   -- while a vertex is not reached, some arc with a time leaves the reached ones
@@ -210,8 +217,7 @@ module _ (vertices : ℕ) (arcs : List (ℕ × ℕ)) (costs : List ℤ) (root : 
   IsGrowing-next reduced since lent reached tree more longer a el r graph e g em et =
       let early = subst (λ l. IsEarliest (length arcs) (ends_of arcs) l reached a) el e in
       let next = IsGrowing-take reduced since reached tree a r (graph.second a e.below) early g in
-      let fresh : is_member a tree ≡ false = false_from_ne_true _ (λ m. both_ways _ e.head (g.heads a m)) in
-      (
+      let fresh : is_member a tree ≡ false = false_from_ne_true _ (λ m. both_ways _ e.head (g.heads a m)) in (
         subst (λ t. IsGrowing more t) (sym et) (subst (λ m. IsGrowing m (with_one tree a)) (sym em) next),
         ap length et ∙ length-with_one tree a g.tree_set.rising fresh ∙ omega arith,
       )

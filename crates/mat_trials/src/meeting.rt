@@ -120,7 +120,10 @@ fn told_searches(alloc: Global, table: &RowTable) -> Result<String, AllocError>
 /// Whether two workers met at the rows of the empty set, and what searches find there. On one thread the first row would not see the flag
 /// of the second.
 #[tactic(auto, using(crate::proofs::FreeLaws::free_table))]
-pub(crate) fn meeting_report<R: Threads + Sync>(rt: &R, alloc: Global) -> Result<String, AllocError> {
+pub(crate) fn meeting_report<R: Threads + Sync>(
+    rt: &R,
+    alloc: Global,
+) -> Result<String, AllocError> {
     let flags = Flags {
         first: AtomicBool::new(false),
         second: AtomicBool::new(false),

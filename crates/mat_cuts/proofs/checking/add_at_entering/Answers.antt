@@ -18,7 +18,7 @@ loop-a-preserved c =
     elim c.if-is_entering.branch [
       | then-is_entering w ↦ rw w.paid-is (IsAdding-take test _ before a after _ (sym w.if-is_entering.ensures) inside
           (let read = w.index_mut.ensures.value ∙ get_or_default after a w.index_mut.result.now (pos 0) inside in
-            let was = c.loop-a.invariant.rest a (omega arith) in let room = c.requires.room a c.loop-a-test.true in let small = c.requires.small in
-            omega (arith, ints)) c.loop-a.invariant)
+          let was = c.loop-a.invariant.rest a (omega arith) in let room = c.requires.room a c.loop-a-test.true in let small = c.requires.small in
+          omega (arith, ints)) c.loop-a.invariant)
       | else-is_entering w ↦ rw w.paid-is (IsAdding-skip test _ before a after (sym w.if-is_entering.ensures) c.loop-a.invariant)
     ]

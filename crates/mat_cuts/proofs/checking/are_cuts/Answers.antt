@@ -14,8 +14,7 @@ returns-then-cut-le0 c = λ vertices range.
     let cuts = c.args.cuts.now in
     let item = c.cut-item.result in
     let in_range = subst (IsCutInRange vertices) (sym c.cut-item.is)
-    (AllByRecursion-at (IsCutInRange vertices) cuts c.loop-cut.cut-index item c.loop-cut-test.true range) in
-    (
+    (AllByRecursion-at (IsCutInRange vertices) cuts c.loop-cut.cut-index item c.loop-cut-test.true range) in (
       λ right. absurd (false≢true right),
       λ all.
           let one = subst (IsCut vertices c.args.root) (sym c.cut-item.is)
@@ -37,7 +36,7 @@ loop-cut-preserved c = λ vertices range.
     AllByRecursion-more (IsCut vertices c.args.root) cuts c.loop-cut.cut-index item c.loop-cut-test.true
     (c.loop-cut.invariant vertices range)
     (subst (IsCut vertices c.args.root) c.cut-item.is
-      (record { root_free = (c.if-not-is_root_free.ensures vertices in_range.below).0 refl; positive = positive }))
+    (record { root_free = (c.if-not-is_root_free.ensures vertices in_range.below).0 refl; positive = positive }))
 
 pub returns : goal.returns
 returns c = λ vertices range. (

@@ -25,8 +25,7 @@ returns c =
     let cost = c.total_cost.result in
     let cost_is = c.total_cost.ensures ∙ ap (cost_of c.args.costs.now) c.as_slice.ensures.items in
     let weight_fits : SFits w128 weight = search rules in
-    let cost_fits : SFits w128 cost = search rules in
-    (
+    let cost_fits : SFits w128 cost = search rules in (
       λ right. record {
         spans = c.in_ok-is_spanning.ensures.0 c.if-not-branch.false;
         few = c.requires.few;

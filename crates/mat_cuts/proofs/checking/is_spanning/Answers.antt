@@ -18,8 +18,7 @@ returns-in_default c =
     let ends = ends_of c.args.arcs.now in
     let tree = c.args.tree.now in
     let told = subst (TellsLeaving ends c.as_slice.result.now c.loop.reached) c.in_default.is c.leaving.ensures in
-    let closed = subst (λ s. TellsLeaving ends s c.loop.reached None) c.as_slice.ensures.items told in
-    (
+    let closed = subst (λ s. TellsLeaving ends s c.loop.reached None) c.as_slice.ensures.items told in (
       λ right. absurd (false≢true right),
       λ spans. absurd (stuck c.args.vertices ends c.args.root tree (length c.args.arcs.now) c.loop.reached c.loop.invariant.reached
           (let size = c.loop.invariant.size in let test = c.loop-test.true in omega arith) closed spans),

@@ -14,8 +14,7 @@ loop-a-preserved c =
 
 pub returns-then-is_entering : goal.returns-then-is_entering
 returns-then-is_entering c =
-    let ends = ends_of c.args.arcs.now in
-    (
+    let ends = ends_of c.args.arcs.now in (
       λ right. absurd (false≢true right),
       λ none. absurd (both_ways _ (none c.loop-a.a c.loop-a-test.true)
           (ap (λ s. enters ends s c.loop-a.a) (sym c.in_ok-inside.ensures.members) ∙ sym c.if-is_entering.ensures)),

@@ -13,8 +13,8 @@ returns-in-Tree c =
     let tree = c.in-Tree.tree in
     subst (λ k. IfOk result (λ right. IsTrue right ↔ AreRight vertices arcs costs root k)) (sym c.in-Tree.is)
     (subst (λ k. IfOk result (λ right. IsTrue right ↔ AreRightCuts vertices k costs root tree c.in-Tree.cuts.items)) c.as_slice-ends.ensures
-      (subst (λ k. IfOk result (λ right. IsTrue right ↔ AreRightCuts vertices c.as_slice-ends.result.now costs root tree k)) c.deref.ensures.value
-        c.are_right_cuts.ensures))
+    (subst (λ k. IfOk result (λ right. IsTrue right ↔ AreRightCuts vertices c.as_slice-ends.result.now costs root tree k)) c.deref.ensures.value
+    c.are_right_cuts.ensures))
 
 pub returns-in-Unreached : goal.returns-in-Unreached
 returns-in-Unreached c =
@@ -24,4 +24,4 @@ returns-in-Unreached c =
     let result = c.is_unreached.result in
     subst (λ k. IfOk result (λ right. IsTrue right ↔ AreRight vertices arcs c.args.costs.now root k)) (sym c.in-Unreached.is)
     (subst (λ k. IfOk result (λ right. IsTrue right ↔ IsUnreached vertices k root c.in-Unreached.set)) c.as_slice-ends.ensures
-      c.is_unreached.ensures)
+    c.is_unreached.ensures)

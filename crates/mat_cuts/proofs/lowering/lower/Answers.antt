@@ -23,16 +23,25 @@ loop-a-preserved c =
           (IsLowering-take test _ c.args.time c.args.reduced.now.items c.args.since.now.items a c.loop-a.reduced.items c.loop-a.since.items _ _ inside
           (comes-yes arcs place last a w.if-place-head.true w.if-place-tail.true) (let r = w.index.ensures ∙ get_or_any c.loop-a.reduced.items a w.index.result.now (pos 0) inside in
           let was = (c.loop-a.invariant.rest a (omega arith)).0 in let low = c.requires.some in let cost = c.requires.range a c.loop-a-test.true in
-          let enough = c.requires.enough a c.loop-a-test.true (comes-yes arcs place last a w.if-place-head.true w.if-place-tail.true) in omega (arith, ints)) (inr (refl, ((let r = w.index.ensures ∙ get_or_any c.loop-a.reduced.items a w.index.result.now (pos 0) inside in
-          let was = (c.loop-a.invariant.rest a (omega arith)).0 in let low = c.requires.some in let cost = c.requires.range a c.loop-a-test.true in
-          let enough = c.requires.enough a c.loop-a-test.true (comes-yes arcs place last a w.if-place-head.true w.if-place-tail.true) in let z = w.if-left-eq0.true in omega (arith, ints)), timed))) c.loop-a.invariant)
+          let enough = c.requires.enough a c.loop-a-test.true (comes-yes arcs place last a w.if-place-head.true w.if-place-tail.true) in omega (arith, ints)) (inr (
+            refl,
+            (
+              (let r = w.index.ensures ∙ get_or_any c.loop-a.reduced.items a w.index.result.now (pos 0) inside in
+                  let was = (c.loop-a.invariant.rest a (omega arith)).0 in let low = c.requires.some in let cost = c.requires.range a c.loop-a-test.true in
+                  let enough = c.requires.enough a c.loop-a-test.true (comes-yes arcs place last a w.if-place-head.true w.if-place-tail.true) in let z = w.if-left-eq0.true in omega (arith, ints)),
+              timed,
+            ),
+          )) c.loop-a.invariant)
       | then-place-head+then-place-tail+else-left-eq0 w ↦ rw (w.reduced-is, w.since-is)
           (IsLowering-take test _ c.args.time c.args.reduced.now.items c.args.since.now.items a c.loop-a.reduced.items c.loop-a.since.items _ _ inside
           (comes-yes arcs place last a w.if-place-head.true w.if-place-tail.true) (let r = w.index.ensures ∙ get_or_any c.loop-a.reduced.items a w.index.result.now (pos 0) inside in
           let was = (c.loop-a.invariant.rest a (omega arith)).0 in let low = c.requires.some in let cost = c.requires.range a c.loop-a-test.true in
-          let enough = c.requires.enough a c.loop-a-test.true (comes-yes arcs place last a w.if-place-head.true w.if-place-tail.true) in omega (arith, ints)) (inl (refl, λ q. (let r = w.index.ensures ∙ get_or_any c.loop-a.reduced.items a w.index.result.now (pos 0) inside in
-          let was = (c.loop-a.invariant.rest a (omega arith)).0 in let low = c.requires.some in let cost = c.requires.range a c.loop-a-test.true in
-          let enough = c.requires.enough a c.loop-a-test.true (comes-yes arcs place last a w.if-place-head.true w.if-place-tail.true) in w.if-left-eq0.false (omega (arith, ints))))) c.loop-a.invariant)
+          let enough = c.requires.enough a c.loop-a-test.true (comes-yes arcs place last a w.if-place-head.true w.if-place-tail.true) in omega (arith, ints)) (inl (
+            refl,
+            λ q. (let r = w.index.ensures ∙ get_or_any c.loop-a.reduced.items a w.index.result.now (pos 0) inside in
+                let was = (c.loop-a.invariant.rest a (omega arith)).0 in let low = c.requires.some in let cost = c.requires.range a c.loop-a-test.true in
+                let enough = c.requires.enough a c.loop-a-test.true (comes-yes arcs place last a w.if-place-head.true w.if-place-tail.true) in w.if-left-eq0.false (omega (arith, ints))),
+          )) c.loop-a.invariant)
       | else-place-head w ↦ rw (w.reduced-is, w.since-is) (IsLowering-skip test _ c.args.time _ _ a _ _ (comes-no arcs place last a (elim w.else-place-head.branch [
         | else-place-head-via-then-place-head+else-place-tail w2 ↦ inr w2.if-place-tail.false
         | else-place-head-via-else-place-head w2 ↦ inl w2.if-place-head.false

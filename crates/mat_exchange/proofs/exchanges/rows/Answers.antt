@@ -34,7 +34,7 @@ table_of-requires-clause-below g c =
     let computed = rows_computed n p c.args.set.now c.in_ok-exchanges.exchanges.items (c.in_ok-exchanges.ensures.count ∙ c.size.ensures)
     c.in_ok-exchanges.ensures.rows in
     λ x. subst (λ k. AllBelow k (row_in c.deref.result.now x).with) (sym count)
-        (rows-below c.lawful.ensures c.args.set.now c.requires.independent c.deref.result.now (c.deref.ensures.value ∙ computed) x)
+    (rows-below c.lawful.ensures c.args.set.now c.requires.independent c.deref.result.now (c.deref.ensures.value ∙ computed) x)
 
 pub table_of-requires-clause-whole : goal.table_of-requires-clause-whole
 table_of-requires-clause-whole g c =
