@@ -1,1 +1,1 @@
-pub mod FreeLaws
+pub mod FreeTables

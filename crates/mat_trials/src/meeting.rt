@@ -3,7 +3,7 @@
 ghost use Rattle.std.specs.Prelude.{◌≡◌, ⊤, [], pos};
 ghost use Rattle.mat_sets.specs.SetTests.{is_set};
 ghost use Rattle.mat_exchange.specs.Tables.{IsTableAt};
-ghost use Rattle.mat_trials.proofs.FreeLaws.{free_laws};
+ghost use Rattle.mat_trials.specs.FreeLaws.{free_laws};
 
 use crate::known::told_set;
 use mat_exchange::{Found, RowTable, rows, tight_search};
@@ -119,7 +119,7 @@ fn told_searches(alloc: Global, table: &RowTable) -> Result<String, AllocError>
 
 /// Whether two workers met at the rows of the empty set, and what searches find there. On one thread the first row would not see the flag
 /// of the second.
-#[tactic(auto, using(crate::proofs::FreeLaws::free_table))]
+#[tactic(auto, using(crate::proofs::FreeTables::free_table))]
 pub(crate) fn meeting_report<R: Threads + Sync>(
     rt: &R,
     alloc: Global,

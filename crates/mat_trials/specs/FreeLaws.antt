@@ -1,17 +1,14 @@
--- The sets on n elements are the independent sets of a matroid, and its rows at the empty set are a table.
-use Rattle.std.proofs.Common.{ℕ, List, [], ◌≡◌, rw}
+-- The free matroid, in which each set is independent (Schrijver, chapter 39).
+use Rattle.std.proofs.Common.{ℕ, []}
 use Rattle.mat_sets.specs.Sets.{with_one}
 use Rattle.mat_sets.specs.SetTests.{is_set}
 use Rattle.mat_sets.proofs.Members.{IsRising-nil}
 use Rattle.mat_sets.proofs.Subsets.{larger_has}
 use Rattle.mat_sets.proofs.Ground.{AllBelow-member, AllBelow-subset}
 use Rattle.mat_sets.proofs.SetTests.{IsSet-from_test, is_set-true, is_set-with_one}
-use Rattle.mat_laws.specs.declared.exchange.Exchange.{Exchange}
-use Rattle.mat_laws.specs.Exchanges.{rows_of}
 use Rattle.mat_laws.specs.Matroids.{IsMatroid}
-use Rattle.mat_exchange.specs.Tables.{IsTableAt}
-use Rattle.mat_exchange.proofs.RowExchanges.{IsTableAt-rows_of}
 
+-- the sets on n elements are its independent sets
 pub free_laws : (n : ℕ) → IsMatroid n (is_set n)
 free_laws n = record {
   empty = is_set-true n [] IsRising-nil tt;
@@ -28,6 +25,3 @@ free_laws n = record {
       };
   sets = λ I passes. IsSet-from_test n I passes;
 }
-
-pub free_table : (t : List Exchange) → t ≡ rows_of 2 (is_set 2) [] → IsTableAt 2 [] t
-free_table t told = rw told (IsTableAt-rows_of (free_laws 2) [] (free_laws 2).empty)
