@@ -1,14 +1,13 @@
--- The first failure of joined lists of clauses, of a clause for each element, and of the rungs from rung k on.
-use Rattle.std.proofs.Common.{◌≡◌, ℕ, zero, suc, ◌+◌, ◌<◌, ◌≤◌, ◌⊎◌, true, false, List, [], ◌∷◌, ◌++◌}
-use Rattle.std.proofs.Common.{map, length, drop, get_or}
+-- The first failure of joined lists of clauses, and of a clause for each element.
+use Rattle.std.proofs.Common.{◌≡◌, ℕ, zero, suc, ◌+◌, ◌<◌, ◌⊎◌, true, false, List, [], ◌∷◌, ◌++◌}
+use Rattle.std.proofs.Common.{map}
 use Rattle.std.proofs.Common.{Some, None, inl, inr, refl, sym, subst, ap, ◌∙◌, arith}
 use Rattle.std.proofs.lemmas.Bool.{cases_Bool, cond-true, cond-false}
 use Rattle.std.proofs.lemmas.Option.{none-some}
-use Rattle.std.proofs.lemmas.List.{map-append, drop_all}
-use Rattle.std.proofs.Math.Seq.{drop-cons}
+use Rattle.std.proofs.lemmas.List.{map-append}
 use Rattle.mat_sets.specs.Sets.{all_below}
 use Rattle.mat_sets.proofs.Ground.{all_below-more, all_below-none}
-use Rattle.mat_check.specs.Clauses.{Clause, Failure, first_failure, rungs_clauses}
+use Rattle.mat_check.specs.Clauses.{Clause, Failure, first_failure}
 
 pub first_of_holding : (clause : Clause) (clauses : List Clause) → clause.holds ≡ true
     → first_failure (clause ∷ clauses) ≡ first_failure clauses
@@ -72,39 +71,3 @@ module _ (clause_of : ℕ → Clause) where
         ap first_failure (one_more_suc n) ∙ first_in_back (map clause_of (all_below n)) (clause_of n ∷ []) here
         ∙ first_of_failing (clause_of n) [] fails ∙ ap (λ m. Some (clause_of m).failure) (sym same)
   ]
-
--- ---- the clauses of the rungs from rung k on
-
-module _ {R : Type 0} (clauses_of_rung : ℕ → R → List Clause) where
-  pub rung_and_rest : (rungs : List R) (k : ℕ) (rung : R) → k < length rungs → rung ≡ get_or rungs k rung
-      → rungs_clauses clauses_of_rung k (drop k rungs)
-      ≡ clauses_of_rung k rung ++ rungs_clauses clauses_of_rung (suc k) (drop (suc k) rungs)
-  rung_and_rest rungs k rung inside at =
-      let split : drop k rungs ≡ rung ∷ drop (suc k) rungs
-      = drop-cons rungs k rung inside ∙ ap (λ r. r ∷ drop (suc k) rungs) (sym at) in
-      ap (rungs_clauses clauses_of_rung k) split
-
-  pub past_rung : (rungs : List R) (k : ℕ) (rung : R) → k < length rungs → rung ≡ get_or rungs k rung
-      → first_failure (rungs_clauses clauses_of_rung 0 rungs) ≡ first_failure (rungs_clauses clauses_of_rung k (drop k rungs))
-      → None ≡ first_failure (clauses_of_rung k rung)
-      → first_failure (rungs_clauses clauses_of_rung 0 rungs)
-      ≡ first_failure (rungs_clauses clauses_of_rung (k + 1) (drop (k + 1) rungs))
-  past_rung rungs k rung inside at past none =
-      let next : suc k ≡ k + 1 = omega arith in
-      past ∙ ap first_failure (rung_and_rest rungs k rung inside at)
-      ∙ first_in_back (clauses_of_rung k rung) (rungs_clauses clauses_of_rung (suc k) (drop (suc k) rungs)) (sym none)
-      ∙ ap (λ m. first_failure (rungs_clauses clauses_of_rung m (drop m rungs))) next
-
-  pub fails_at_rung : (rungs : List R) (k : ℕ) (rung : R) (failure : Failure) → k < length rungs → rung ≡ get_or rungs k rung
-      → first_failure (rungs_clauses clauses_of_rung 0 rungs) ≡ first_failure (rungs_clauses clauses_of_rung k (drop k rungs))
-      → Some failure ≡ first_failure (clauses_of_rung k rung)
-      → Some failure ≡ first_failure (rungs_clauses clauses_of_rung 0 rungs)
-  fails_at_rung rungs k rung failure inside at past found =
-      sym (past ∙ ap first_failure (rung_and_rest rungs k rung inside at)
-      ∙ first_in_front (clauses_of_rung k rung) (rungs_clauses clauses_of_rung (suc k) (drop (suc k) rungs)) failure (sym found))
-
-  pub past_all : (rungs : List R) (k : ℕ) → length rungs ≤ k
-      → first_failure (rungs_clauses clauses_of_rung 0 rungs) ≡ first_failure (rungs_clauses clauses_of_rung k (drop k rungs))
-      → None ≡ first_failure (rungs_clauses clauses_of_rung 0 rungs)
-  past_all rungs k ends past =
-      sym (past ∙ ap (λ rest. first_failure (rungs_clauses clauses_of_rung k rest)) (drop_all k rungs ends))

@@ -3,7 +3,9 @@ pub mod Beating
 pub mod FailingClauses
 pub mod FirstFailures
 pub mod LastRung
-pub mod Halves
+pub mod RangedHalves
+pub mod ListedHalves
+pub mod RungFailures
 pub mod Joining
 pub mod RightRungs
 pub mod AnswerForms

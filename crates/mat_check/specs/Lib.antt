@@ -4,3 +4,5 @@ pub mod Clauses
 pub mod Views
 pub mod Right
 pub mod Optimal
+pub mod Halves
+pub mod RungFailures

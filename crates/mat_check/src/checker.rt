@@ -14,60 +14,67 @@ ghost use Rattle.mat_desc.specs.Instances.{pair, list};
 ghost use Rattle.mat_desc.specs.Soundness.{IsSoundInstance};
 ghost use Rattle.mat_desc.specs.Views.{instance_of};
 
-use crate::ladder::{cut_holds, last_failure, plain_rungs_failure, priced_rungs_failure};
+use crate::ends::{cut_holds, last_failure};
+use crate::ladder::{plain_rungs_failure, priced_rungs_failure};
 use crate::reason::Reason;
+use crate::rung::Pair;
 use crate::verdict::Verdict;
 use mat_any::AnyMatroid;
 use mat_cert::{Answer, PlainRung, PricedRung};
 use mat_desc::Problem;
 use mat_sets::{ElemSet, Weight};
 use std::alloc::{AllocError, Global};
+use std::thread::Threads;
 
 // The first clause of a ladder of two matroids that fails.
-fn ladder_failure(
+fn ladder_failure<R: Threads + Sync>(
+    rt: &R,
     alloc: Global,
-    weights: &[Weight],
-    first: &AnyMatroid,
-    second: &AnyMatroid,
+    both: &Pair<AnyMatroid, AnyMatroid>,
     count: u32,
     rungs: &[PricedRung],
     cut: &ElemSet,
+    workers: u32,
 ) -> Result<Option<(Reason, u32, u32)>, AllocError>
-    requires valid { IsValid (pair weights.now (tree_of first.now) (tree_of second.now)) }
-    requires sound { IsSoundInstance (pair weights.now (tree_of first.now) (tree_of second.now)) }
+    requires valid { IsValid (pair both.now.weights.now (tree_of both.now.first.now) (tree_of both.now.second.now)) }
+    requires sound { IsSoundInstance (pair both.now.weights.now (tree_of both.now.first.now) (tree_of both.now.second.now)) }
     requires ranged { IsRanged (intersect count rungs.now cut.now) }
+    requires workers { (1 ≤ workers) × (workers ≤ 16) }
     ensures { IfOk result (λ found. found
-        ≡ failure_of (pair weights.now (tree_of first.now) (tree_of second.now)) (intersect count rungs.now cut.now)) }
+        ≡ failure_of (pair both.now.weights.now (tree_of both.now.first.now) (tree_of both.now.second.now)) (intersect count rungs.now cut.now)) }
 {
-    if count as usize != weights.len() {
+    if count as usize != both.weights.len() {
         return Ok(Some((Reason::Header, 0, 0)));
     }
-    if let Some(failure) = priced_rungs_failure(alloc, first, second, weights, rungs)? {
+    if let Some(failure) = priced_rungs_failure(rt, alloc, both, rungs, workers)? {
         return Ok(Some(failure));
     }
-    if !cut_holds(alloc, first, second, rungs.len() - 1, cut)? {
+    if !cut_holds(alloc, both.first, both.second, rungs.len() - 1, cut)? {
         return Ok(Some((Reason::Cut, 0, 0)));
     }
     Ok(None)
 }
 
 // The first clause of the heaviest sets of a matroid that fails.
-fn best_failure(
+fn best_failure<R: Threads + Sync>(
+    rt: &R,
     alloc: Global,
     weights: &[Weight],
     m: &AnyMatroid,
     count: u32,
     rungs: &[PlainRung],
+    workers: u32,
 ) -> Result<Option<(Reason, u32, u32)>, AllocError>
     requires valid { IsValid (list weights.now (tree_of m.now ∷ [])) }
     requires sound { IsSoundInstance (list weights.now (tree_of m.now ∷ [])) }
     requires ranged { IsRanged (best count rungs.now) }
+    requires workers { (1 ≤ workers) × (workers ≤ 16) }
     ensures { IfOk result (λ found. found ≡ failure_of (list weights.now (tree_of m.now ∷ [])) (best count rungs.now)) }
 {
     if count as usize != weights.len() {
         return Ok(Some((Reason::Header, 0, 0)));
     }
-    if let Some(failure) = plain_rungs_failure(alloc, m, weights, rungs)? {
+    if let Some(failure) = plain_rungs_failure(rt, alloc, m, weights, rungs, workers)? {
         return Ok(Some(failure));
     }
     let found = last_failure(alloc, m, rungs)?;
@@ -75,15 +82,18 @@ fn best_failure(
 }
 
 // The first clause of an answer that fails.
-fn answer_failure(
+fn answer_failure<R: Threads + Sync>(
+    rt: &R,
     alloc: Global,
     problem: &Problem,
     answer: &Answer,
+    workers: u32,
 ) -> Result<Option<(Reason, u32, u32)>, AllocError>
     requires fits { fits (instance_of problem.now) (certificate_of answer.now) ≡ true }
     requires valid { IsValid (instance_of problem.now) }
     requires sound { IsSoundInstance (instance_of problem.now) }
     requires ranged { IsRanged (certificate_of answer.now) }
+    requires workers { (1 ≤ workers) × (workers ≤ 16) }
     ensures { IfOk result (λ found. found ≡ failure_of (instance_of problem.now) (certificate_of answer.now)) }
 {
     match answer {
@@ -92,13 +102,26 @@ fn answer_failure(
                 weights,
                 first,
                 second,
-            } => ladder_failure(alloc, weights.as_slice(), first, second, *count, rungs, cut),
+            } => {
+                let both = Pair {
+                    weights: weights.as_slice(),
+                    first,
+                    second,
+                };
+                ladder_failure(rt, alloc, &both, *count, rungs, cut, workers)
+            }
             _ => Ok(None),
         },
         Answer::Best { count, rungs } => match problem {
-            Problem::List { weights, matroids } => {
-                best_failure(alloc, weights.as_slice(), &matroids[0], *count, rungs)
-            }
+            Problem::List { weights, matroids } => best_failure(
+                rt,
+                alloc,
+                weights.as_slice(),
+                &matroids[0],
+                *count,
+                rungs,
+                workers,
+            ),
             _ => Ok(None),
         },
         _ => Ok(None),
@@ -113,8 +136,10 @@ fn answer_failure(
 ///
 /// Nothing is solved. For n elements there is a question of independence for the set of each rung in each matroid, at most n more
 /// for the cut or the last set, and one run of the greedy algorithm, of at most n questions, for each part of a split that isn't
-/// that of the rung before. The work is the same whatever the number of workers. The only error is want of memory.
-pub fn check(
+/// that of the rung before. The workers, from 1 to 16, share the runs and then the rungs: all rungs are judged, each from its own
+/// data, and the first failure in their order is told. The only error is want of memory.
+pub fn check<R: Threads + Sync>(
+    rt: &R,
     alloc: Global,
     problem: &Problem,
     answer: &Answer,
@@ -128,7 +153,7 @@ pub fn check(
     ensures failure { IfOk result (λ v. failure_in v ≡ failure_of (instance_of problem.now) (certificate_of answer.now)) }
     ensures yes { IfOk result (λ v. (v ≡ Yes) ↔ IsRight (instance_of problem.now) (certificate_of answer.now)) }
 {
-    match answer_failure(alloc, problem, answer)? {
+    match answer_failure(rt, alloc, problem, answer, workers)? {
         Some((reason, a, b)) => Ok(Verdict::No { reason, a, b }),
         None => Ok(Verdict::Yes),
     }

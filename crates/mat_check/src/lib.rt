@@ -2,12 +2,14 @@
 #![tactic(auto)]
 
 mod checker;
+mod ends;
 mod fitting;
-mod heaviest;
+mod halves;
 mod ladder;
 mod laws;
 mod reason;
 mod rung;
+mod rung_sums;
 mod searches;
 mod verdict;
 

@@ -14,6 +14,14 @@ use mat_laws::Matroid;
 use mat_sets::{PairWeights, Weight, weigh};
 use std::alloc::{AllocError, Global};
 
+/// Two matroids on the same elements, and the weights of the elements.
+#[derive(Drop)]
+pub(crate) struct Pair<'a, A: Matroid, B: Matroid> {
+    pub(crate) weights: &'a [Weight],
+    pub(crate) first: &'a A,
+    pub(crate) second: &'a B,
+}
+
 // Whether the two parts add up to the weight of e.
 fn adds_up(weights: &[Weight], first: &[Weight], second: &[Weight], e: u32) -> bool
     requires below { e < length weights.now }
@@ -82,31 +90,30 @@ pub(crate) fn plain_rung_failure<M: Matroid>(
 
 // The first clause of the split of rung k that fails because a heavier set is there, for a set that is independent in both matroids.
 fn beaten_failure<A: Matroid, B: Matroid>(
-    a: &A,
-    b: &B,
+    pair: &Pair<A, B>,
     first: &PairWeights,
     second: &PairWeights,
     k: u32,
     rung: &PricedRung,
 ) -> Option<(Reason, u32, u32)>
-    requires first_sound { A.sound a.now }
-    requires second_sound { B.sound b.now }
-    requires first_lengths { length rung.now.first ≡ A.ground_size a.now }
-    requires second_lengths { length rung.now.second ≡ B.ground_size b.now }
+    requires first_sound { A.sound pair.now.first.now }
+    requires second_sound { B.sound pair.now.second.now }
+    requires first_lengths { length rung.now.first ≡ A.ground_size pair.now.first.now }
+    requires second_lengths { length rung.now.second ≡ B.ground_size pair.now.second.now }
     requires few { length rung.now.set ≤ 500 }
     requires first_small { AreWeightsWithin (10 ^ 30) rung.now.first }
     requires second_small { AreWeightsWithin (10 ^ 30) rung.now.second }
-    requires first_heaviest { AreHeaviestWeights (A.ground_size a.now) (A.indep a.now) (weight_at rung.now.first) first.now }
-    requires second_heaviest { AreHeaviestWeights (B.ground_size b.now) (B.indep b.now) (weight_at rung.now.second) second.now }
-    requires first_passes { A.indep a.now rung.now.set ≡ true }
-    requires second_passes { B.indep b.now rung.now.set ≡ true }
-    ensures { result ≡ first_failure (heaviest_clause (A.ground_size a.now) (A.indep a.now) rung.now.first 0 k rung.now.set
-        ∷ heaviest_clause (B.ground_size b.now) (B.indep b.now) rung.now.second 1 k rung.now.set ∷ []) }
+    requires first_heaviest { AreHeaviestWeights (A.ground_size pair.now.first.now) (A.indep pair.now.first.now) (weight_at rung.now.first) first.now }
+    requires second_heaviest { AreHeaviestWeights (B.ground_size pair.now.second.now) (B.indep pair.now.second.now) (weight_at rung.now.second) second.now }
+    requires first_passes { A.indep pair.now.first.now rung.now.set ≡ true }
+    requires second_passes { B.indep pair.now.second.now rung.now.set ≡ true }
+    ensures { result ≡ first_failure (heaviest_clause (A.ground_size pair.now.first.now) (A.indep pair.now.first.now) rung.now.first 0 k rung.now.set
+        ∷ heaviest_clause (B.ground_size pair.now.second.now) (B.indep pair.now.second.now) rung.now.second 1 k rung.now.set ∷ []) }
 {
-    if is_beaten(a, rung.first.as_slice(), first, &rung.set) {
+    if is_beaten(pair.first, rung.first.as_slice(), first, &rung.set) {
         return Some((Reason::Beaten, k, 0));
     }
-    if is_beaten(b, rung.second.as_slice(), second, &rung.set) {
+    if is_beaten(pair.second, rung.second.as_slice(), second, &rung.set) {
         return Some((Reason::Beaten, k, 1));
     }
     None
@@ -114,67 +121,68 @@ fn beaten_failure<A: Matroid, B: Matroid>(
 
 // The first clause of the split of rung k that fails, for a set that is independent in both matroids.
 fn split_failure<A: Matroid, B: Matroid>(
-    a: &A,
-    b: &B,
-    weights: &[Weight],
+    pair: &Pair<A, B>,
     first: &PairWeights,
     second: &PairWeights,
     k: u32,
     rung: &PricedRung,
 ) -> Option<(Reason, u32, u32)>
-    requires first_sound { A.sound a.now }
-    requires second_sound { B.sound b.now }
-    requires first_lengths { length weights.now ≡ A.ground_size a.now }
-    requires second_lengths { length weights.now ≡ B.ground_size b.now }
-    requires few { length weights.now ≤ 500 }
-    requires ranged { IsRangedPricedRung (length weights.now) k rung.now }
-    requires first_heaviest { AreHeaviestWeights (A.ground_size a.now) (A.indep a.now) (weight_at rung.now.first) first.now }
-    requires second_heaviest { AreHeaviestWeights (B.ground_size b.now) (B.indep b.now) (weight_at rung.now.second) second.now }
-    requires first_passes { A.indep a.now rung.now.set ≡ true }
-    requires second_passes { B.indep b.now rung.now.set ≡ true }
+    requires first_sound { A.sound pair.now.first.now }
+    requires second_sound { B.sound pair.now.second.now }
+    requires first_lengths { length pair.now.weights.now ≡ A.ground_size pair.now.first.now }
+    requires second_lengths { length pair.now.weights.now ≡ B.ground_size pair.now.second.now }
+    requires few { length pair.now.weights.now ≤ 500 }
+    requires ranged { IsRangedPricedRung (length pair.now.weights.now) k rung.now }
+    requires first_heaviest { AreHeaviestWeights (A.ground_size pair.now.first.now) (A.indep pair.now.first.now) (weight_at rung.now.first) first.now }
+    requires second_heaviest { AreHeaviestWeights (B.ground_size pair.now.second.now) (B.indep pair.now.second.now) (weight_at rung.now.second) second.now }
+    requires first_passes { A.indep pair.now.first.now rung.now.set ≡ true }
+    requires second_passes { B.indep pair.now.second.now rung.now.set ≡ true }
     ensures { result ≡ first_failure (
-        map (sum_clause weights.now k rung.now.first rung.now.second) (all_below (length weights.now))
-        ++ heaviest_clause (length weights.now) (A.indep a.now) rung.now.first 0 k rung.now.set
-        ∷ heaviest_clause (length weights.now) (B.indep b.now) rung.now.second 1 k rung.now.set ∷ []) }
+        map (sum_clause pair.now.weights.now k rung.now.first rung.now.second) (all_below (length pair.now.weights.now))
+        ++ heaviest_clause (length pair.now.weights.now) (A.indep pair.now.first.now) rung.now.first 0 k rung.now.set
+        ∷ heaviest_clause (length pair.now.weights.now) (B.indep pair.now.second.now) rung.now.second 1 k rung.now.set ∷ []) }
 {
-    if let Some(failure) = sum_failure(weights, rung.first.as_slice(), rung.second.as_slice(), k) {
+    if let Some(failure) = sum_failure(
+        pair.weights,
+        rung.first.as_slice(),
+        rung.second.as_slice(),
+        k,
+    ) {
         return Some(failure);
     }
-    beaten_failure(a, b, first, second, k, rung)
+    beaten_failure(pair, first, second, k, rung)
 }
 
 /// The first clause of rung k of a ladder of two matroids that fails, told by the weights of heaviest sets of each size under
 /// each half of its split. The only error is want of memory.
 pub(crate) fn priced_rung_failure<A: Matroid, B: Matroid>(
     alloc: Global,
-    a: &A,
-    b: &B,
-    weights: &[Weight],
+    pair: &Pair<A, B>,
     first: &PairWeights,
     second: &PairWeights,
     k: u32,
     rung: &PricedRung,
 ) -> Result<Option<(Reason, u32, u32)>, AllocError>
-    requires first_sound { A.sound a.now }
-    requires second_sound { B.sound b.now }
-    requires first_lengths { length weights.now ≡ A.ground_size a.now }
-    requires second_lengths { length weights.now ≡ B.ground_size b.now }
-    requires few { length weights.now ≤ 500 }
-    requires small { AreWeightsWithin (10 ^ 30) weights.now }
-    requires ranged { IsRangedPricedRung (length weights.now) k rung.now }
-    requires first_heaviest { AreHeaviestWeights (A.ground_size a.now) (A.indep a.now) (weight_at rung.now.first) first.now }
-    requires second_heaviest { AreHeaviestWeights (B.ground_size b.now) (B.indep b.now) (weight_at rung.now.second) second.now }
+    requires first_sound { A.sound pair.now.first.now }
+    requires second_sound { B.sound pair.now.second.now }
+    requires first_lengths { length pair.now.weights.now ≡ A.ground_size pair.now.first.now }
+    requires second_lengths { length pair.now.weights.now ≡ B.ground_size pair.now.second.now }
+    requires few { length pair.now.weights.now ≤ 500 }
+    requires small { AreWeightsWithin (10 ^ 30) pair.now.weights.now }
+    requires ranged { IsRangedPricedRung (length pair.now.weights.now) k rung.now }
+    requires first_heaviest { AreHeaviestWeights (A.ground_size pair.now.first.now) (A.indep pair.now.first.now) (weight_at rung.now.first) first.now }
+    requires second_heaviest { AreHeaviestWeights (B.ground_size pair.now.second.now) (B.indep pair.now.second.now) (weight_at rung.now.second) second.now }
     ensures { IfOk result (λ found. found
-        ≡ first_failure (priced_rung_clauses (length weights.now) (A.indep a.now) (B.indep b.now) weights.now k rung.now)) }
+        ≡ first_failure (priced_rung_clauses (length pair.now.weights.now) (A.indep pair.now.first.now) (B.indep pair.now.second.now) pair.now.weights.now k rung.now)) }
 {
-    if weigh(&rung.set, weights) != rung.weight {
+    if weigh(&rung.set, pair.weights) != rung.weight {
         return Ok(Some((Reason::Weight, k, 0)));
     }
-    if !a.independent(alloc, &rung.set)? {
+    if !pair.first.independent(alloc, &rung.set)? {
         return Ok(Some((Reason::Dependent, k, 0)));
     }
-    if !b.independent(alloc, &rung.set)? {
+    if !pair.second.independent(alloc, &rung.set)? {
         return Ok(Some((Reason::Dependent, k, 1)));
     }
-    Ok(split_failure(a, b, weights, first, second, k, rung))
+    Ok(split_failure(pair, first, second, k, rung))
 }

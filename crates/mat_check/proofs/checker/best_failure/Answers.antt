@@ -8,7 +8,7 @@ use Rattle.mat_check.proofs.Joining.{fails_in_front, fails_in_back}
 use Rattle.mat_check.proofs.checker.best_failure.Goals as goal
 
 pub returns-in-Some : goal.returns-in-Some
-returns-in-Some c =
+returns-in-Some g c =
     let p = is_independent (tree_of c.args.m.now) in
     let rungs = c.args.rungs.now in
     fails_in_front c.args.count c.args.weights.now (λ m. rungs_clauses (plain_rung_clauses m p c.args.weights.now) 0 rungs)
@@ -16,13 +16,13 @@ returns-in-Some c =
     c.if-count-weights.false c.in-Some.failure (sym c.in-Some.is ∙ c.in_ok-failure.ensures)
 
 pub last_failure-requires-clause-ranged : goal.last_failure-requires-clause-ranged
-last_failure-requires-clause-ranged c κs =
+last_failure-requires-clause-ranged g c κs =
     let w = c.args.weights.now in
     let here = All-head (λ tree. IsSound tree × (element_count tree ≡ length w)) (tree_of c.args.m.now) [] c.requires.sound in
     subst (λ n. AreRangedRungs (IsRangedPlainRung n) n c.args.rungs.now) (c.if-count-weights.false ∙ sym here.1) c.requires.ranged
 
 pub returns : goal.returns
-returns c =
+returns g c =
     let p = is_independent (tree_of c.args.m.now) in
     let w = c.args.weights.now in
     let rungs = c.args.rungs.now in

@@ -10,17 +10,17 @@ beaten_failure-requires-clause-few g c = omega (arith, IsSet-length _ _ c.requir
 
 pub returns-in-Some : goal.returns-in-Some
 returns-in-Some g c =
-    let front = map (sum_clause c.args.weights.now c.args.k c.args.rung.now.first c.args.rung.now.second) (all_below (length c.args.weights.now)) in
-    let back = heaviest_clause (length c.args.weights.now) (g.A.Matroid.indep c.args.a.now) c.args.rung.now.first 0 c.args.k c.args.rung.now.set
-    ∷ heaviest_clause (length c.args.weights.now) (g.B.Matroid.indep c.args.b.now) c.args.rung.now.second 1 c.args.k c.args.rung.now.set ∷ [] in
+    let front = map (sum_clause c.args.pair.now.weights.now c.args.k c.args.rung.now.first c.args.rung.now.second) (all_below (length c.args.pair.now.weights.now)) in
+    let back = heaviest_clause (length c.args.pair.now.weights.now) (g.A.Matroid.indep c.args.pair.now.first.now) c.args.rung.now.first 0 c.args.k c.args.rung.now.set
+    ∷ heaviest_clause (length c.args.pair.now.weights.now) (g.B.Matroid.indep c.args.pair.now.second.now) c.args.rung.now.second 1 c.args.k c.args.rung.now.set ∷ [] in
     let sums : c.sum_failure.result ≡ first_failure front = rw (c.as_slice.ensures, c.as_slice-2.ensures) at c.sum_failure.ensures in
     sym (first_in_front front back c.in-Some.failure (sym sums ∙ c.in-Some.is))
 
 pub returns : goal.returns
 returns g c =
-    let front = map (sum_clause c.args.weights.now c.args.k c.args.rung.now.first c.args.rung.now.second) (all_below (length c.args.weights.now)) in
-    let back = heaviest_clause (length c.args.weights.now) (g.A.Matroid.indep c.args.a.now) c.args.rung.now.first 0 c.args.k c.args.rung.now.set
-    ∷ heaviest_clause (length c.args.weights.now) (g.B.Matroid.indep c.args.b.now) c.args.rung.now.second 1 c.args.k c.args.rung.now.set ∷ [] in
+    let front = map (sum_clause c.args.pair.now.weights.now c.args.k c.args.rung.now.first c.args.rung.now.second) (all_below (length c.args.pair.now.weights.now)) in
+    let back = heaviest_clause (length c.args.pair.now.weights.now) (g.A.Matroid.indep c.args.pair.now.first.now) c.args.rung.now.first 0 c.args.k c.args.rung.now.set
+    ∷ heaviest_clause (length c.args.pair.now.weights.now) (g.B.Matroid.indep c.args.pair.now.second.now) c.args.rung.now.second 1 c.args.k c.args.rung.now.set ∷ [] in
     let sums : c.sum_failure.result ≡ first_failure front = rw (c.as_slice.ensures, c.as_slice-2.ensures) at c.sum_failure.ensures in
     let beaten : c.beaten_failure.result ≡ first_failure back
     = rw (sym c.requires.first_lengths, sym c.requires.second_lengths) at c.beaten_failure.ensures in

@@ -1,6 +1,6 @@
 use Rattle.std.proofs.Common.{sym, ◌∙◌}
 use Rattle.mat_check.proofs.LastRung.{last_clause_fails, last_clause_holds, last_is}
-use Rattle.mat_check.proofs.ladder.last_failure.Goals as goal
+use Rattle.mat_check.proofs.ends.last_failure.Goals as goal
 
 pub has_addable-requires-clause-below : goal.has_addable-requires-clause-below
 has_addable-requires-clause-below g c κs within =

@@ -1,7 +1,7 @@
 use Rattle.std.proofs.Common.{subst, sym, ◌∙◌, ap}
 use Rattle.mat_sets.specs.Sets.{AllBelow, all_below, minus}
 use Rattle.mat_sets.proofs.Ground.{IsSet-minus, IsSet-all_below}
-use Rattle.mat_check.proofs.ladder.cut_holds.Goals as goal
+use Rattle.mat_check.proofs.ends.cut_holds.Goals as goal
 
 pub rank_of-requires-clause-below : goal.rank_of-requires-clause-below
 rank_of-requires-clause-below g c κs within =
