@@ -1,5 +1,5 @@
 -- The rows of the matroid in which each set is independent are a table at the empty set.
-use Rattle.std.proofs.Common.{List, [], ◌≡◌, rw}
+use Rattle.std.proofs.Common.{List, [], ◌≡◌}
 use Rattle.mat_sets.specs.SetTests.{is_set}
 use Rattle.mat_laws.specs.declared.exchange.Exchange.{Exchange}
 use Rattle.mat_laws.specs.Exchanges.{rows_of}
