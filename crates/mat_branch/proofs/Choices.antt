@@ -83,7 +83,7 @@ module _ (vertices arcs root : ℕ) (ends : ℕ → ℕ × ℕ) (first : List �
         grows = next;
         size = (let s = next.size in let o = g.grows.size in let l = length-with_one reached (ends a).1 g.grows.reached_set.rising t.head in
             let k = g.size in omega arith);
-        refused_each = record { each = λ b h. refused-less vertices arcs root ends live m b a g.grows.live_set.rising (r.each b h) };
+        refused_each = record { each = λ b h. refused-less vertices root ends live m b a g.grows.live_set.rising (r.each b h) };
       }
 
   pub IsGrowing-end : (n : ℕ) (live reached tree refused : List ℕ) → IsGrowing n live reached tree refused → n ≡ vertices

@@ -1,19 +1,18 @@
 -- What paths that share no arc tell: an arc can be taken exactly where, over the other live arcs, m paths lead from the root to its head.
 use Rattle.std.proofs.Common.{◌≡◌, ℕ, ◌+◌, ◌<◌, ◌≤◌, true, false, not, eqb, List, inl, inr, sym, ◌∙◌, subst, arith}
 use Rattle.std.proofs.lemmas.Bool.{and_from, and_left, and_parts, both_ways, cases_Bool, cases_eq, false≢true, true≢false}
-use Rattle.mat_sets.specs.Sets.{all_below, is_member, without_one, IsRising, IsSubset}
-use Rattle.mat_sets.proofs.Ground.{below_member, IsRising-all_below}
+use Rattle.mat_sets.specs.Sets.{is_member, without_one, IsRising, IsSubset}
+use Rattle.mat_sets.proofs.Ground.{below_member}
 use Rattle.mat_sets.proofs.Members.{is_member-without_one, IsRising-without_one}
 use Rattle.mat_sets.proofs.Subsets.{length-subset}
 use Rattle.mat_flow.specs.ArcPaths.{AreArcPaths, IsArcCut}
 use Rattle.mat_sets.specs.Graphs.{enters, entering}
 use Rattle.mat_flow.proofs.ArcPathLaws.{paths_enter}
 use Rattle.mat_sets.proofs.Crossings.{entering-same, is_member-entering, IsRising-entering}
-use Rattle.mat_branch.specs.Arborescences.{IsSeldomEntered}
-use Rattle.mat_branch.specs.Growth.{AreEntered, IsRefused, TellsSpare}
+use Rattle.mat_branch.specs.Growth.{AreEntered, IsRefused, IsSeldomEnteredBy, TellsSpare}
 use Rattle.mat_branch.proofs.Choosing.{member_from_some, some_from_member}
 
-module _ (vertices arcs root : ℕ) (ends : ℕ → ℕ × ℕ) where
+module _ (vertices root : ℕ) (ends : ℕ → ℕ × ℕ) where
   -- k paths to each vertex but the root
   pub AreEntered-paths : (live : List ℕ) (k : ℕ) → IsRising live
       → ((v : ℕ) → v < vertices → (v ≡ root → ⊥) → (paths : List (List ℕ)) × AreArcPaths ends live root v k paths)
@@ -26,9 +25,9 @@ module _ (vertices arcs root : ℕ) (ends : ℕ → ℕ × ℕ) where
   }
 
   -- a cut of one vertex from the root
-  pub IsSeldomEntered-cut : (k v : ℕ) (cut : List ℕ) → IsArcCut vertices ends (all_below arcs) root v k cut
-      → IsSeldomEntered vertices arcs ends root k cut
-  IsSeldomEntered-cut k v cut c = record {
+  pub IsSeldomEnteredBy-cut : (live : List ℕ) (k v : ℕ) (cut : List ℕ) → IsArcCut vertices ends live root v k cut
+      → IsSeldomEnteredBy vertices root ends live k cut
+  IsSeldomEnteredBy-cut live k v cut c = record {
     root_free = record { set = c.set; some = some_from_member v cut c.holds; free = c.misses };
     few = c.few;
   }
@@ -97,7 +96,7 @@ module _ (vertices root : ℕ) (ends : ℕ → ℕ × ℕ) (live : List ℕ) (m 
   pub TellsSpare-paths : (paths : List (List ℕ)) → IsRising live → AreEntered vertices root ends live m
       → AreArcPaths ends rest root head m paths → TellsSpare vertices root ends live m a true
   TellsSpare-paths paths r entered p = record {
-    yes_means = λ e. spare-paths vertices 0 root ends live m a paths r entered
+    yes_means = λ e. spare-paths vertices root ends live m a paths r entered
         (subst (λ h. AreArcPaths ends (without_one live a) root h m paths) head_is (subst (λ l. AreArcPaths ends l root head m paths) rest_is p));
     no_means = λ e. absurd (true≢false e);
   }
@@ -105,14 +104,13 @@ module _ (vertices root : ℕ) (ends : ℕ → ℕ × ℕ) (live : List ℕ) (m 
   pub TellsSpare-cut : (cut : List ℕ) → IsArcCut vertices ends rest root head m cut → TellsSpare vertices root ends live m a false
   TellsSpare-cut cut c = record {
     yes_means = λ e. absurd (false≢true e);
-    no_means = λ e. refused-cut vertices 0 root ends live m a cut
+    no_means = λ e. refused-cut vertices root ends live m a cut
         (subst (λ h. IsArcCut vertices ends (without_one live a) root h m cut) head_is (subst (λ l. IsArcCut vertices ends l root head m cut) rest_is c));
   }
 
-pub AreEntered-served : (vertices arcs root : ℕ) (ends : ℕ → ℕ × ℕ) (k n : ℕ) → vertices ≤ n → AreServed ends (all_below arcs) root k n
-    → AreEntered vertices root ends (all_below arcs) k
-AreEntered-served vertices arcs root ends k n l s =
-    AreEntered-paths vertices arcs root ends (all_below arcs) k (IsRising-all_below arcs) (λ v below d. s.each v (omega arith) d)
+pub AreEntered-served : (vertices root : ℕ) (ends : ℕ → ℕ × ℕ) (live : List ℕ) (k n : ℕ) → IsRising live → vertices ≤ n
+    → AreServed ends live root k n → AreEntered vertices root ends live k
+AreEntered-served vertices root ends live k n r l s = AreEntered-paths vertices root ends live k r (λ v below d. s.each v (omega arith) d)
 
 -- no arc is needed where none has to enter
 pub TellsSpare-none : (vertices root : ℕ) (ends : ℕ → ℕ × ℕ) (live : List ℕ) (m a : ℕ) → m ≡ 0 → TellsSpare vertices root ends live m a true

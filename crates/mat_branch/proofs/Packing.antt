@@ -1,21 +1,21 @@
 -- One arborescence after the other is packed: what is kept, that packing ends with as many as each root-free set lets in, and that no more
 -- can be packed than the arcs that enter a root-free set.
-use Rattle.std.proofs.Common.{◌≡◌, ℕ, zero, suc, ◌+◌, ◌-◌, ◌<◌, ◌≤◌, ◌⊎◌, Option, None, Some, Bool, true, false, not, ◌&&◌, ltb, List, [], ◌∷◌, ◌++◌, length, inl, inr, refl, sym, ap, subst, arith, length-append}
-use Rattle.std.proofs.lemmas.Bool.{and_from, and_parts, both_ways, cases_Bool, cases_lt, lt-ltb, ltb-true, not-true}
+use Rattle.std.proofs.Common.{◌≡◌, ℕ, zero, suc, ◌+◌, ◌-◌, ◌<◌, ◌≤◌, ◌⊎◌, Option, None, Some, Bool, true, false, List, [], ◌∷◌, ◌++◌, length, inl, inr, refl, sym, ap, subst, arith, length-append}
+use Rattle.std.proofs.lemmas.Bool.{cases_Bool}
 use Rattle.std.proofs.lemmas.List.Elements.{All-get_or, All-nil, All-push}
 use Rattle.std.specs.List.{All}
 use Rattle.mat_sets.specs.Families.{indicator, multiplicity, AreDisjoint}
 use Rattle.mat_sets.specs.Graphs.{entering, IsSpanningArborescence}
-use Rattle.mat_sets.specs.Search.{some_subset}
 use Rattle.mat_sets.specs.Sets.{all_below, is_member, IsSet}
 use Rattle.mat_sets.proofs.Families.{multiplicity-append, AreDisjoint-tail}
-use Rattle.mat_sets.proofs.Ground.{below_member, AllBelow-subset, IsRising-all_below, IsSet-all_below, IsSubset-all_below}
-use Rattle.mat_sets.proofs.Search.{some_subset_gives, some_subset_none}
+use Rattle.mat_sets.proofs.Ground.{below_member, IsRising-all_below, IsSet-all_below, IsSubset-all_below}
 use Rattle.mat_sets.proofs.Crossings.{at_most_entering, walk_enters}
 use Rattle.mat_branch.specs.Arborescences.{AreDisjointArborescences, IsRootFree, IsSeldomEntered}
-use Rattle.mat_branch.specs.Growth.{AreEntered, IsGrown, TellsSeldom}
+use Rattle.mat_branch.specs.Growth.{AreEntered, IsGrown, IsSeldomEnteredBy, TellsSeldom}
+use Rattle.mat_branch.specs.Spanning.{some_seldom_entered}
 use Rattle.mat_branch.proofs.Choosing.{member_from_some}
 use Rattle.mat_branch.proofs.GrowthSteps.{grow, Grows-start}
+use Rattle.mat_branch.proofs.Seldom.{none_gives, some_gives}
 
 module _ (vertices arcs root : ℕ) (ends : ℕ → ℕ × ℕ) where
   -- these arborescences share no arc with each other nor with the live arcs, and each root-free set is entered by at least so many live arcs as
@@ -69,33 +69,10 @@ module _ (vertices arcs root : ℕ) (ends : ℕ → ℕ × ℕ) where
 
   -- ---- entered often enough, or not
 
-  abbrev is_seldom : ℕ → List ℕ → Bool
-  is_seldom k cut = (ltb 0 (length cut) && not (is_member root cut)) && ltb (length (entering ends (all_below arcs) cut)) k
-
   pub entered_or_seldom : (k : ℕ) → AreEntered vertices root ends (all_below arcs) k ⊎ ((cut : List ℕ) × IsSeldomEntered vertices arcs ends root k cut)
-  entered_or_seldom k = elim (cases_Bool (some_subset (all_below vertices) (is_seldom k))) [
-    | inl some ↦ (let f = some_subset_gives (all_below vertices) (is_seldom k) (IsRising-all_below vertices) some in
-        let p = and_parts (ltb 0 (length f.0) && not (is_member root f.0)) _ f.3 in
-        let q = and_parts (ltb 0 (length f.0)) _ p.0 in
-        inr (
-          f.0,
-          record {
-            root_free = record {
-              set = record { rising = f.1; below = AllBelow-subset vertices f.0 (all_below vertices) f.2 (IsSet-all_below vertices).below };
-              some = ltb-true 0 _ q.0;
-              free = not-true _ q.1;
-            };
-            few = ltb-true _ k p.1;
-          },
-        ))
-    | inr none ↦ inl (record {
-      each = λ cut free. elim (cases_lt (length (entering ends (all_below arcs) cut)) k) [
-        | inr many ↦ many
-        | inl few ↦ absurd (both_ways _ (some_subset_none (all_below vertices) cut (is_seldom k) none (IsRising-all_below vertices) free.set.rising
-            (IsSubset-all_below vertices cut free.set.below))
-            (and_from _ _ (and_from _ _ (lt-ltb 0 _ free.some) (ap not free.free)) (lt-ltb _ k few)))
-      ];
-    })
+  entered_or_seldom k = elim (cases_Bool (some_seldom_entered vertices root ends (all_below arcs) k)) [
+    | inl some ↦ (let f = some_gives vertices root ends (all_below arcs) k some in inr (f.0, record { root_free = f.1.root_free; few = f.1.few }))
+    | inr none ↦ inl (none_gives vertices root ends (all_below arcs) k none)
   ]
 
   -- Edmonds' theorem
@@ -130,10 +107,15 @@ module _ (vertices arcs root : ℕ) (ends : ℕ → ℕ × ℕ) where
 
 module _ (vertices arcs root : ℕ) (ends : ℕ → ℕ × ℕ) (k : ℕ) where
   -- no set is entered too seldom
-  pub entered_from_none : (found : Option (List ℕ)) → ((cut : List ℕ) → found ≡ Some cut → ⊥) → TellsSeldom vertices arcs root ends k found
-      → AreEntered vertices root ends (all_below arcs) k
-  entered_from_none None none tells = tells
-  entered_from_none (Some cut) none tells = absurd (none cut refl)
+  pub entered_from_none : (live : List ℕ) (found : Option (List ℕ)) → live ≡ all_below arcs → ((cut : List ℕ) → found ≡ Some cut → ⊥)
+      → TellsSeldom vertices root ends live k found → AreEntered vertices root ends (all_below arcs) k
+  entered_from_none live None e none tells = subst (λ l. AreEntered vertices root ends l k) e tells
+  entered_from_none live (Some cut) e none tells = absurd (none cut refl)
+
+  -- a set that is entered too seldom by all arcs
+  pub seldom_from_some : (live cut : List ℕ) → live ≡ all_below arcs → IsSeldomEnteredBy vertices root ends live k cut
+      → IsSeldomEntered vertices arcs ends root k cut
+  seldom_from_some live cut e s = record { root_free = s.root_free; few = subst (λ l. length (entering ends l cut) < k) e s.few }
 
   -- these are packed, and so many are left
   pub record IsPacking (left : ℕ) (live : List ℕ) (trees : List (List ℕ)) : Type 0 where

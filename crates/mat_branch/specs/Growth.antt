@@ -2,8 +2,8 @@
 use Rattle.std.specs.Prelude.{◌≡◌, ℕ, suc, ◌+◌, ◌<◌, ◌≤◌, Bool, true, false, List, length, Option, MatchOption}
 use Rattle.mat_sets.specs.Families.{indicator}
 use Rattle.mat_sets.specs.Graphs.{entering, IsSpanningArborescence, Reaches}
-use Rattle.mat_sets.specs.Sets.{all_below, is_member, without_one, IsSet}
-use Rattle.mat_branch.specs.Arborescences.{IsRootFree, IsSeldomEntered}
+use Rattle.mat_sets.specs.Sets.{is_member, without_one, IsSet}
+use Rattle.mat_branch.specs.Arborescences.{IsRootFree}
 
 -- each root-free set is entered by at least m of these arcs
 pub record AreEntered (vertices root : ℕ) (ends : ℕ → ℕ × ℕ) (live : List ℕ) (m : ℕ) : Type 0 where
@@ -55,7 +55,11 @@ pub record IsGrown (vertices arcs root : ℕ) (ends : ℕ → ℕ × ℕ) (first
   pub parts : (a : ℕ) → indicator (is_member a tree) + indicator (is_member a live) ≤ indicator (is_member a first)
   pub entered : AreEntered vertices root ends live m
 
--- a root-free set that fewer than k arcs enter, or None where there is none
-abbrev pub TellsSeldom : (vertices arcs root : ℕ) → (ℕ → ℕ × ℕ) → ℕ → Option (List ℕ) → Type 0
-TellsSeldom vertices arcs root ends k found =
-    MatchOption found (AreEntered vertices root ends (all_below arcs) k) (IsSeldomEntered vertices arcs ends root k)
+-- a root-free set that fewer than k of these arcs enter
+pub record IsSeldomEnteredBy (vertices root : ℕ) (ends : ℕ → ℕ × ℕ) (live : List ℕ) (k : ℕ) (cut : List ℕ) : Type 0 where
+  pub root_free : IsRootFree vertices root cut
+  pub few : length (entering ends live cut) < k
+
+-- such a set, or None where there is none
+abbrev pub TellsSeldom : (vertices root : ℕ) → (ℕ → ℕ × ℕ) → List ℕ → ℕ → Option (List ℕ) → Type 0
+TellsSeldom vertices root ends live k found = MatchOption found (AreEntered vertices root ends live k) (IsSeldomEnteredBy vertices root ends live k)

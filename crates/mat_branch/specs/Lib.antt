@@ -1,3 +1,4 @@
 pub mod Arborescences
 pub mod Growth
 pub mod Branches
+pub mod Spanning

@@ -19,15 +19,16 @@ pub enum Branch {
 }
 
 /// k spanning arborescences from the root that share no arc, or a non-empty vertex set without the root that fewer than k arcs enter
-/// (Edmonds 1973, by the proof of Lovász 1976; Schrijver, chapter 53). The only error is want of memory.
+/// (Edmonds 1973, by the proof of Lovász 1976; Schrijver, chapter 53): then there are no such arborescences. At most k paths are sought
+/// to each vertex, and for each arborescence at most k to the head of each arc. The only error is want of memory.
 pub fn disjoint(alloc: Global, graph: &Digraph, root: u32, k: u32) -> Result<Branch, AllocError>
     requires { root < graph.now.vertices }
     ensures { IfOk result (IsBranching graph.now.vertices (length graph.now.arcs) (ends_of graph.now.arcs) root k) }
 {
-    if let Some(cut) = seldom_entered(alloc, graph, root, k)? {
+    let mut live = ElemSet::all_below(alloc, graph.arcs().len() as u32)?;
+    if let Some(cut) = seldom_entered(alloc, graph, &live, root, k)? {
         return Ok(Branch::Cut(cut));
     }
-    let mut live = ElemSet::all_below(alloc, graph.arcs().len() as u32)?;
     let mut trees = Vec::new(alloc);
     let mut left = k;
     while left > 0 {

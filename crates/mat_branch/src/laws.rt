@@ -1,8 +1,9 @@
 //! Laws of disjoint spanning arborescences, for any graph.
-ghost use Rattle.std.specs.Prelude.{◌≡◌, ◌<◌, ◌≤◌, ◌⊎◌, ℕ, List, length};
-ghost use Rattle.mat_sets.specs.Graphs.{ends_of, entering, IsGraph};
-ghost use Rattle.mat_sets.specs.Sets.{all_below};
+ghost use Rattle.std.specs.Prelude.{◌≡◌, ◌<◌, ◌≤◌, ◌⊎◌, ◌↔◌, ℕ, true, List, length};
+ghost use Rattle.mat_sets.specs.Graphs.{ends_of, entering, IsGraph, IsSpanningArborescence};
+ghost use Rattle.mat_sets.specs.Sets.{all_below, IsSet};
 ghost use Rattle.mat_branch.specs.Arborescences.{AreDisjointArborescences, IsRootFree, IsSeldomEntered};
+ghost use Rattle.mat_branch.specs.Spanning.{is_spanning_arborescence};
 
 /// There are k disjoint spanning arborescences, or a non-empty vertex set without the root that fewer than k arcs enter (Edmonds 1973).
 pub fn disjoint_or_seldom_entered()
@@ -23,4 +24,13 @@ pub fn seldom_entered_has_none()
     ensures { (vertices : ℕ) (arcs : List (ℕ × ℕ)) (root k : ℕ) (trees : List (List ℕ)) (cut : List ℕ)
         → IsSeldomEntered vertices (length arcs) (ends_of arcs) root k cut
         → ¬ AreDisjointArborescences vertices (length arcs) (ends_of arcs) root k trees }
+{}
+
+/// The test of spanning arborescences holds exactly of these: sets of arcs, one fewer than there are vertices, along whose members a
+/// directed walk leads from the root to each vertex.
+pub fn spanning_arborescences_are_told()
+    ensures { (vertices : ℕ) (arcs : List (ℕ × ℕ)) (root : ℕ) (tree : List ℕ)
+        → IsGraph vertices arcs → root < vertices → IsSet (length arcs) tree
+        → (is_spanning_arborescence vertices (ends_of arcs) root tree ≡ true)
+        ↔ IsSpanningArborescence vertices (length arcs) (ends_of arcs) root tree }
 {}

@@ -4,8 +4,10 @@
 mod branching;
 mod growing;
 pub mod laws;
+mod spanning;
 mod spare;
 #[cfg(test)]
 mod tests;
 
 pub use branching::{Branch, disjoint};
+pub use spanning::spans;

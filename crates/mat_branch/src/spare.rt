@@ -1,28 +1,29 @@
 //! What is asked of paths that share no arc: whether each vertex set is entered often enough, and whether an arc can be spared.
 ghost use Rattle.std.specs.Prelude.{◌≡◌, ◌≢◌, ◌<◌, true, length, IfOk};
 ghost use Rattle.mat_sets.specs.Graphs.{ends_of};
-ghost use Rattle.mat_sets.specs.Sets.{all_below, is_member, IsSet};
+ghost use Rattle.mat_sets.specs.Sets.{is_member, IsSet};
 ghost use Rattle.mat_branch.specs.Growth.{AreEntered, TellsSeldom, TellsSpare};
 
 use mat_flow::{ArcAnswer, Digraph, arc_paths};
 use mat_sets::ElemSet;
 use std::alloc::{AllocError, Global};
 
-/// A vertex set that is not empty, does not hold the root and is entered by fewer than k arcs, if there is one: then one cuts some
-/// vertex off the root. The only error is want of memory.
+/// A vertex set that is not empty, does not hold the root and is entered by fewer than k live arcs, if there is one: then one cuts some
+/// vertex off the root. At most k paths are sought to each vertex. The only error is want of memory.
 pub(crate) fn seldom_entered(
     alloc: Global,
     graph: &Digraph,
+    live: &ElemSet,
     root: u32,
     k: u32,
 ) -> Result<Option<ElemSet>, AllocError>
-    requires { root < graph.now.vertices }
-    ensures { IfOk result (TellsSeldom graph.now.vertices (length graph.now.arcs) root (ends_of graph.now.arcs) k) }
+    requires root { root < graph.now.vertices }
+    requires live { IsSet (length graph.now.arcs) live.now }
+    ensures { IfOk result (TellsSeldom graph.now.vertices root (ends_of graph.now.arcs) live.now k) }
 {
-    let all = ElemSet::all_below(alloc, graph.arcs().len() as u32)?;
     for v in 0..graph.vertices() {
         if v != root {
-            match arc_paths(alloc, graph, &all, root, v, k)? {
+            match arc_paths(alloc, graph, live, root, v, k)? {
                 ArcAnswer::Paths(_) => {}
                 ArcAnswer::Cut(cut) => return Ok(Some(cut)),
             }

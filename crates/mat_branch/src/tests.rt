@@ -1,8 +1,8 @@
 //! Small networks: expected values are worked out by hand.
 
-use crate::{Branch, disjoint};
+use crate::{Branch, disjoint, spans};
 use mat_flow::Digraph;
-use mat_sets::Pairs;
+use mat_sets::{ElemSet, Pairs};
 use std::test::Fail;
 
 #[test]
@@ -30,5 +30,16 @@ fn one_arc_enters_a_set_without_the_root(rt: HostRuntime) -> Result<(), Fail> {
         return Ok(());
     }
     assert!(rt; false);
+    Ok(())
+}
+
+#[test]
+fn a_path_is_an_arborescence_from_its_first_vertex_alone(rt: HostRuntime) -> Result<(), Fail> {
+    let alloc = rt.alloc();
+    let arcs = vec![in alloc; (0, 1), (1, 2)]?;
+    let graph = Digraph::new(alloc, 3, Pairs::new(arcs))?;
+    let all = ElemSet::all_below(alloc, 2)?;
+    assert!(rt; spans(alloc, &graph, 0, &all)?);
+    assert!(rt; !spans(alloc, &graph, 1, &all)?);
     Ok(())
 }

@@ -7,9 +7,10 @@ use Rattle.mat_branch.proofs.branching.disjoint.Goals as goal
 pub loop-left-init : goal.loop-left-init
 loop-left-init c =
     let arcs = c.args.graph.now.arcs in
-    IsPacking-start c.args.graph.now.vertices (length arcs) c.args.root (ends_of arcs) c.args.k c.in_ok-live.live c.new-trees.result.items
-    (c.in_ok-live.ensures.members ∙ ap all_below (c.len.ensures ∙ ap length c.arcs.ensures.arcs)) c.new-trees.ensures.items
-    (entered_from_none c.args.graph.now.vertices (length arcs) c.args.root (ends_of arcs) c.args.k c.in_ok-cut.field-0 c.in_default.not-Some c.in_ok-cut.ensures)
+    let same = c.in_ok-live.ensures.members ∙ ap all_below (c.len.ensures ∙ ap length c.arcs.ensures.arcs) in
+    IsPacking-start c.args.graph.now.vertices (length arcs) c.args.root (ends_of arcs) c.args.k c.in_ok-live.live c.new-trees.result.items same
+    c.new-trees.ensures.items (entered_from_none c.args.graph.now.vertices (length arcs) c.args.root (ends_of arcs) c.args.k c.in_ok-live.live
+    c.in_ok-cut.field-0 same c.in_default.not-Some c.in_ok-cut.ensures)
 
 pub loop-left-preserved : goal.loop-left-preserved
 loop-left-preserved c =

@@ -1,8 +1,6 @@
-use Rattle.std.proofs.Common.{length}
 use Rattle.mat_sets.specs.Graphs.{ends_of}
-use Rattle.mat_sets.specs.Sets.{all_below}
 use Rattle.mat_branch.proofs.FlowTests.{AreServed}
 use Rattle.mat_branch.proofs.spare.seldom_entered.Given as goal
 
 abbrev pub invariant-loop-v : goal.invariant-loop-v
-invariant-loop-v l = AreServed (ends_of l.graph.arcs) (all_below (length l.graph.arcs)) l.root l.k l.v
+invariant-loop-v l = AreServed (ends_of l.graph.arcs) l.live l.root l.k l.v
