@@ -5,3 +5,4 @@ pub mod Packing
 pub mod SpanningTests
 pub mod FlowTests
 pub mod Choices
+pub mod EnteringCounts

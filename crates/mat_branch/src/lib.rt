@@ -2,6 +2,7 @@
 #![tactic(auto)]
 
 mod branching;
+mod entering;
 mod growing;
 pub mod laws;
 mod spanning;
@@ -10,4 +11,5 @@ mod spare;
 mod tests;
 
 pub use branching::{Branch, disjoint};
+pub use entering::entering_count;
 pub use spanning::spans;

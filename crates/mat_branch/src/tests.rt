@@ -1,6 +1,6 @@
 //! Small networks: expected values are worked out by hand.
 
-use crate::{Branch, disjoint, spans};
+use crate::{Branch, disjoint, entering_count, spans};
 use mat_flow::Digraph;
 use mat_sets::{ElemSet, Pairs};
 use std::test::Fail;
@@ -27,6 +27,7 @@ fn one_arc_enters_a_set_without_the_root(rt: HostRuntime) -> Result<(), Fail> {
     let graph = Digraph::new(alloc, 3, Pairs::new(arcs))?;
     if let Branch::Cut(cut) = disjoint(alloc, &graph, 0, 2)? {
         assert_eq!(rt; cut.as_slice(), [2].as_slice());
+        assert_eq!(rt; entering_count(&graph, &cut), 1);
         return Ok(());
     }
     assert!(rt; false);
