@@ -1,6 +1,5 @@
 //! Matroids of all kinds, which descriptions give as lists, each told in three lines.
 
-ghost use Rattle.std.specs.Prelude.{AllByRecursion, IfSome};
 ghost use Rattle.mat_desc.specs.Soundness.{IsSoundInstance};
 ghost use Rattle.mat_desc.specs.Views.{instance_of};
 ghost use Rattle.mat_any.specs.Trees.{IsSound};
