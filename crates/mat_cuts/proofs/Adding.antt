@@ -1,8 +1,8 @@
 -- The weights of cuts added at arcs, one cut after the other, and how large the sums are.
-use Rattle.std.proofs.Common.{if◌then◌else◌, ◌≡◌, ℕ, zero, suc, ◌+◌, ◌*◌, ◌<◌, ◌≤◌, ◌^◌, Bool, true, false, not, ◌&&◌, ◌||◌, List, [], ◌∷◌, ◌++◌, length, get_or, set, take, replicate, inl, inr, refl, sym, ap, ◌∙◌, subst, arith, ℤ, pos, neg_ℤ, ◌+ℤ◌, ◌≤ℤ◌}
-use Rattle.std.proofs.lemmas.Bool.{cases_Bool, cases_eq, eq-eqb, ne_eqb, or_right}
+use Rattle.std.proofs.Common.{◌≡◌, ℕ, ◌+◌, ◌*◌, ◌<◌, ◌≤◌, ◌^◌, Bool, true, false, List, [], ◌∷◌, ◌++◌, length, get_or, set, take, inl, inr, refl, ap, ◌∙◌, arith, ℤ, pos, ◌+ℤ◌}
+use Rattle.std.proofs.lemmas.Bool.{cases_eq}
 use Rattle.std.proofs.lemmas.Int.{ints}
-use Rattle.std.proofs.lemmas.List.{get_or-replicate, get_or-set_other, get_or-set_same, length-replicate, length-set, take_more}
+use Rattle.std.proofs.lemmas.List.{get_or-set_other, get_or-set_same, length-set, take_more}
 use Rattle.std.specs.List.{AllByRecursion}
 use Rattle.mat_sets.specs.Graphs.{enters}
 use Rattle.mat_sets.specs.Sums.{IsWithin}
@@ -55,26 +55,6 @@ module _ (test : ℕ → Bool) (weight : ℤ) (before : List ℤ) where
   }
 
 -- ---- how large the sums are
-
-pub AllByRecursion-take : {X : Type 0} (P : X → Type 0) (xs : List X) (i : ℕ) → AllByRecursion P xs → AllByRecursion P (take i xs)
-AllByRecursion-take P [] zero all = tt
-AllByRecursion-take P [] (suc i) all = tt
-AllByRecursion-take P (x ∷ xs) zero all = tt
-AllByRecursion-take P (x ∷ xs) (suc i) all = (all.0, AllByRecursion-take P xs i all.1)
-
-pub AllByRecursion-at : {X : Type 0} (P : X → Type 0) (xs : List X) (i : ℕ) (d : X) → i < length xs → AllByRecursion P xs → P (get_or xs i d)
-AllByRecursion-at P [] i d l all = absurd (omega arith)
-AllByRecursion-at P (x ∷ xs) zero d l all = all.0
-AllByRecursion-at P (x ∷ xs) (suc i) d l all = AllByRecursion-at P xs i d (omega arith) all.1
-
-pub AllByRecursion-push : {X : Type 0} (P : X → Type 0) (xs : List X) (x : X) → AllByRecursion P xs → P x → AllByRecursion P (xs ++ x ∷ [])
-AllByRecursion-push P [] x all one = (one, tt)
-AllByRecursion-push P (y ∷ xs) x all one = (all.0, AllByRecursion-push P xs x all.1 one)
-
-pub AllByRecursion-more : {X : Type 0} (P : X → Type 0) (xs : List X) (i : ℕ) (d : X) → i < length xs → AllByRecursion P (take i xs)
-    → P (get_or xs i d) → AllByRecursion P (take (i + 1) xs)
-AllByRecursion-more P xs i d l all one =
-    subst (AllByRecursion P) (sym (take_more xs i d l)) (AllByRecursion-push P (take i xs) (get_or xs i d) all one)
 
 -- the weights of cuts in range
 pub small_weights : (vertices : ℕ) (cuts : List CutWeight) → AllByRecursion (IsCutInRange vertices) cuts

@@ -1,18 +1,19 @@
 -- Each spanning arborescence enters each root-free set, so that weights which the costs pay are together at most its cost.
-use Rattle.std.proofs.Common.{if◌then◌else◌, ◌≡◌, ℕ, suc, ◌+◌, ◌<◌, ◌≤◌, Bool, true, false, not, ◌&&◌, List, [], ◌∷◌, length, inl, inr, refl, sym, ap, ◌∙◌, subst, arith, ℤ, pos, ◌+ℤ◌, ◌≤ℤ◌, ◌<ℤ◌}
-use Rattle.std.proofs.lemmas.Bool.{and_from, both_ways, cases_Bool, false≢true}
+use Rattle.std.proofs.Common.{◌≡◌, ℕ, ◌<◌, ◌≤◌, ◌^◌, Bool, true, false, List, [], ◌∷◌, length, inl, inr, refl, arith, ℤ, pos, ◌≤ℤ◌, ◌<ℤ◌, All}
+use Rattle.std.proofs.lemmas.Bool.{both_ways, cases_Bool, false≢true}
 use Rattle.std.proofs.lemmas.Int.{ints}
+use Rattle.std.proofs.lemmas.List.Elements.{All-get_or}
 use Rattle.std.specs.List.{AllByRecursion}
-use Rattle.mat_sets.specs.Graphs.{ends_of, enters, DirectedWalk, IsSpanningArborescence}
-use Rattle.mat_sets.specs.Sets.{is_member, IsSet}
+use Rattle.mat_sets.specs.Graphs.{ends_of, enters, IsSpanningArborescence}
+use Rattle.mat_sets.specs.Sets.{is_member}
 use Rattle.mat_sets.specs.Sums.{sum_of}
-use Rattle.mat_cuts.specs.Costs.{cost_at, cost_of}
-use Rattle.mat_sets.proofs.Cardinalities.{sum_of-le, sum_of-plus}
+use Rattle.mat_cuts.specs.Costs.{cost_at, cost_of, IsCost}
+use Rattle.mat_sets.proofs.Cardinalities.{sum_of-high, sum_of-le, sum_of-plus}
 use Rattle.mat_sets.proofs.Crossings.{walk_enters}
 use Rattle.mat_sets.proofs.Ground.{below_member}
 use Rattle.mat_sets.proofs.Members.{is_member-head}
 use Rattle.mat_cuts.specs.Cuts.{all_weight, weight_on, weight_where, AreRightCuts, IsCut, IsRootFree, IsUnreached}
-use Rattle.mat_cuts.specs.Answers.{AreRight, TellsReached}
+use Rattle.mat_cuts.specs.Answers.{AreInRange, AreRight, IsCutInRange, TellsReached}
 use Rattle.mat_cuts.specs.declared.cut_weight.Cuts.{Cuts}
 use Rattle.mat_cuts.specs.declared.cut_weight.Cuts.TheVariants.{Tree, Unreached}
 use Rattle.mat_cuts.specs.declared.cut_weight.CutWeight.{CutWeight}
@@ -52,11 +53,13 @@ module _ (ends : ℕ → ℕ × ℕ) where
         omega (arith, ints, where-low (enters ends set x) w p, where-sum set w xs a p rest e))
   ]
     where
-      other : (x : ℕ) (xs : List ℕ) (a : ℕ) → is_member a (x ∷ xs) ≡ true → enters ends set a ≡ true → enters ends set x ≡ false → is_member a xs ≡ true
+      other : (x : ℕ) (xs : List ℕ) (a : ℕ) → is_member a (x ∷ xs) ≡ true → enters ends set a ≡ true → enters ends set x ≡ false
+          → is_member a xs ≡ true
       other x xs a m e n = grind arith
 
   -- all weights are together at most what the arcs of an arborescence pay
-  pub all_weight-le : (vertices count root : ℕ) (tree : List ℕ) (cuts : List CutWeight) → IsSpanningArborescence vertices count ends root tree
+  pub all_weight-le : (vertices count root : ℕ) (tree : List ℕ) (cuts : List CutWeight)
+      → IsSpanningArborescence vertices count ends root tree
       → AllByRecursion (IsCut vertices root) cuts → all_weight cuts ≤ℤ sum_of (weight_on ends cuts) tree
   all_weight-le vertices count root tree [] s each = none tree
     where
@@ -89,3 +92,25 @@ pub tells_reached : (vertices : ℕ) (arcs : List (ℕ × ℕ)) (costs : List �
     → TellsReached vertices arcs root cuts
 tells_reached vertices arcs costs root (Tree tree cuts) r = (tree, r.spans)
 tells_reached vertices arcs costs root (Unreached set) r = λ tree s. unreached_has_none vertices arcs root set tree r s
+
+-- ---- right answers are in range
+
+-- weights above 0 are each at most all of them together
+cuts_in_range : (vertices root : ℕ) (cuts : List CutWeight) → AllByRecursion (IsCut vertices root) cuts → all_weight cuts ≤ℤ pos (10 ^ 30)
+    → AllByRecursion (IsCutInRange vertices) cuts × (pos 0 ≤ℤ all_weight cuts)
+cuts_in_range vertices root [] each most = (tt, omega (arith, ints))
+cuts_in_range vertices root (c ∷ cuts) each most =
+    let positive = each.0.positive in
+    let rest = cuts_in_range vertices root cuts each.1 (omega (arith, ints)) in
+    let low = rest.1 in
+    ((record { below = each.0.root_free.set.below; small = (omega (arith, ints), omega (arith, ints)) }, rest.0), omega (arith, ints))
+
+pub right_in_range : (vertices : ℕ) (arcs : List (ℕ × ℕ)) (costs : List ℤ) (root : ℕ) (cuts : Cuts) → vertices ≤ 2000 → All IsCost costs
+    → length costs ≡ length arcs → AreRight vertices arcs costs root cuts → AreInRange vertices (length arcs) cuts
+right_in_range vertices arcs costs root (Tree tree cuts) few range long r =
+    let most = sum_of-high (cost_at costs) (10 ^ 12) tree
+    (λ a m. (All-get_or IsCost costs a (pos 0) (let l = below_member r.spans.set m in omega arith) range).1) in
+    let size = r.spans.size in
+    let total = r.total in
+    (r.spans.set.below, r.few, (cuts_in_range vertices root cuts.items r.each (omega (arith, ints))).0)
+right_in_range vertices arcs costs root (Unreached set) few range long r = r.root_free.set.below

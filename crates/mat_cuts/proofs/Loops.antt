@@ -1,108 +1,137 @@
 -- What the loops over arcs and vertices keep.
-use Rattle.std.proofs.Common.{if◌then◌else◌, ◌≡◌, ◌≢◌, ℕ, zero, suc, ◌+◌, ◌<◌, ◌≤◌, ◌⊎◌, Bool, true, false, not, ◌&&◌, eqb, List, [], ◌∷◌, ◌++◌, length, get_or, replicate, set, Option, None, Some, MatchOption, inl, inr, refl, sym, ap, ◌∙◌, subst, arith, ℤ, pos, ◌+ℤ◌, ◌≤ℤ◌, ◌<ℤ◌, length-append}
-use Rattle.std.proofs.lemmas.Bool.{and_from, and_left, and_parts, both_ways, cases_Bool, cases_eq, cases_lt, eq-eqb, eqb-true, ne_eqb}
+use Rattle.std.proofs.Common.{if◌then◌else◌, ◌≡◌, ◌≢◌, ℕ, zero, suc, ◌+◌, ◌<◌, ◌≤◌, ◌⊎◌, Bool, true, false, not, ◌&&◌, ◌||◌, eqb, List, [], ◌∷◌, ◌++◌, length, filter, get_or, replicate, set, take, Option, None, Some, MatchOption, inl, inr, refl, sym, ap, ◌∙◌, subst, arith, ℤ, pos, ◌+ℤ◌, ◌≤ℤ◌, ◌<ℤ◌, length-append, below_more}
+use Rattle.std.proofs.lemmas.Bool.{and_from, and_left, and_parts, both_ways, cases_eq, cases_lt, eq-eqb, eqb-true, false_from_ne_true, false≢true, lt-ltb, ne_eqb, or_cases, or_left, or_right}
 use Rattle.std.proofs.lemmas.Int.{ints}
-use Rattle.std.proofs.lemmas.List.{get_or-replicate, get_or_append_left, get_or-set_other, get_or-set_same, get_or_past, length-replicate, length-set}
+use Rattle.std.proofs.lemmas.List.{get_or-replicate, get_or_append_left, get_or-set_other, get_or-set_same, get_or_past, length-replicate, length-set, take_all}
+use Rattle.std.proofs.lemmas.List.Elements.{filter-append}
 use Rattle.mat_sets.specs.Graphs.{ends_of}
-use Rattle.mat_sets.specs.Sets.{is_member}
+use Rattle.mat_sets.specs.Search.{those_below}
+use Rattle.mat_sets.specs.Sets.{all_below, is_member, IsRising, IsSet}
+use Rattle.mat_sets.proofs.Ground.{all_below-more, below_member}
+use Rattle.mat_sets.proofs.Members.{is_member-get_or}
+use Rattle.mat_sets.proofs.Search.{is_member-those_below, IsSet-those_below}
+use Rattle.mat_sets.proofs.Steps.{is_member-take_more, is_member-take_next}
+use Rattle.mat_sets.proofs.Sums.{AllBelow-at}
 use Rattle.mat_cuts.specs.Costs.{cost_at}
 use Rattle.mat_cuts.specs.Cuts.{weight_where}
+use Rattle.mat_cuts.specs.Growing.{leaves, TellsEarliest}
+use Rattle.mat_cuts.specs.Listing.{IsPaid}
+use Rattle.mat_cuts.specs.Raising.{at, comes, falls, IsFirstTime, IsLeast, IsLeastOf, IsLowered}
+use Rattle.mat_cuts.specs.declared.growing.Raised.{Raised}
 use Rattle.mat_cuts.proofs.Paths.{falls-cases}
-use Rattle.mat_cuts.specs.Raising.{at, comes, falls, IsEarliest, IsFirstTime, IsLeast, IsLowered, TellsEarliest, TellsLeast}
+
+-- ---- loops over the arcs of a list
+
+pub members_next : (P : ℕ → Type 0) (items : List ℕ) (i : ℕ) → i < length items → ((b : ℕ) → is_member b (take i items) ≡ true → P b)
+    → P (get_or items i 0) → (b : ℕ) → is_member b (take (i + 1) items) ≡ true → P b
+members_next P items i l old new b m = elim (or_cases (is_member b (take i items)) (eqb b (get_or items i 0)) (sym (is_member-take_more items i b l) ∙ m)) [
+  | inl before ↦ old b before
+  | inr here ↦ subst P (sym (eqb-true b (get_or items i 0) here)) new
+]
+
+-- an arc that does not leave stays inside
+pub stays : (tail head : Bool) → (tail && not head) ≡ false → tail ≡ true → head ≡ true
+stays true true h t = refl
+stays true false h t = absurd (false≢true (sym h))
+stays false head h t = absurd (false≢true t)
+
+-- the list of the numbers that pass
+pub those_below-push : (n : ℕ) (test : ℕ → Bool) → test n ≡ true → those_below (n + 1) test ≡ those_below n test ++ n ∷ []
+unfolding those_below
+those_below-push n test t = ap (filter test) (all_below-more n) ∙ filter-append test (all_below n) (n ∷ [])
+    ∙ ap (λ b. filter test (all_below n) ++ (if b then n ∷ [] else [])) t
+
+module _ (count : ℕ) (test : ℕ → Bool) (among : List ℕ) (those : among ≡ those_below count test) where
+  pub those-set : IsSet count among
+  those-set = subst (IsSet count) (sym those) (IsSet-those_below count test)
+
+  pub those-is : (a : ℕ) → a < count → is_member a among ≡ test a
+  those-is a l = ap (is_member a) those ∙ is_member-those_below a count test ∙ ap (λ b. b && test a) (lt-ltb a count l)
+
+  pub those-passes : (a : ℕ) → is_member a among ≡ true → test a ≡ true
+  those-passes a m = sym (those-is a (below_member those-set m)) ∙ m
 
 -- ---- the least cost
 
-below_next : (P : ℕ → Type 0) (n : ℕ) → ((b : ℕ) → b < n → P b) → P n → (b : ℕ) → b < n + 1 → P b
-below_next P n old new b l = elim (cases_eq b n) [ inl e ↦ subst P (sym e) new | inr d ↦ old b (omega arith) ]
+-- among the first arcs of the list
+pub record IsLeastSoFar (items : List ℕ) (reduced : List ℤ) (i best : ℕ) : Type 0 where
+  pub member : is_member best items ≡ true
+  pub least : (b : ℕ) → is_member b (take i items) ≡ true → cost_at reduced best ≤ℤ cost_at reduced b
 
-module _ (test : ℕ → Bool) (reduced : List ℤ) where
-  pub TellsLeast-none : TellsLeast 0 test reduced None
-  TellsLeast-none = λ b l. absurd (omega arith)
+pub IsLeastSoFar-better : (items : List ℕ) (reduced : List ℤ) (i best : ℕ) → i < length items
+    → cost_at reduced (get_or items i 0) <ℤ cost_at reduced best → IsLeastSoFar items reduced i best
+    → IsLeastSoFar items reduced (i + 1) (get_or items i 0)
+IsLeastSoFar-better items reduced i best l less s = record {
+  member = is_member-get_or items i _ l refl;
+  least = members_next (λ b. cost_at reduced (get_or items i 0) ≤ℤ cost_at reduced b) items i l
+      (λ b m. let k = s.least b m in omega (arith, ints)) (omega (arith, ints));
+}
 
-  pub TellsLeast-skip : (n : ℕ) (found : Option ℕ) → test n ≡ false → TellsLeast n test reduced found → TellsLeast (n + 1) test reduced found
-  TellsLeast-skip n None out t = below_next (λ b. test b ≡ false) n t out
-  TellsLeast-skip n (Some a) out t = (let l = t.below in record {
-    below = omega arith;
-    passes = t.passes;
-    least = below_next (λ b. test b ≡ true → cost_at reduced a ≤ℤ cost_at reduced b) n t.least (λ p. absurd (both_ways _ out p));
-  })
+pub IsLeastSoFar-keep : (items : List ℕ) (reduced : List ℤ) (i best : ℕ) → i < length items
+    → cost_at reduced best ≤ℤ cost_at reduced (get_or items i 0) → IsLeastSoFar items reduced i best
+    → IsLeastSoFar items reduced (i + 1) best
+IsLeastSoFar-keep items reduced i best l more s = record {
+  member = s.member;
+  least = members_next (λ b. cost_at reduced best ≤ℤ cost_at reduced b) items i l s.least more;
+}
 
-  pub TellsLeast-first : (n : ℕ) → test n ≡ true → TellsLeast n test reduced None → TellsLeast (n + 1) test reduced (Some n)
-  TellsLeast-first n passes t = record {
-    below = omega arith;
-    passes = passes;
-    least = below_next (λ b. test b ≡ true → cost_at reduced n ≤ℤ cost_at reduced b) n (λ b l p. absurd (both_ways _ (t b l) p)) (λ p. omega (arith, ints));
-  }
-
-  pub TellsLeast-better : (n best : ℕ) → test n ≡ true → cost_at reduced n <ℤ cost_at reduced best → TellsLeast n test reduced (Some best)
-      → TellsLeast (n + 1) test reduced (Some n)
-  TellsLeast-better n best passes less t = record {
-    below = omega arith;
-    passes = passes;
-    least = below_next (λ b. test b ≡ true → cost_at reduced n ≤ℤ cost_at reduced b) n (λ b l p. let k = t.least b l p in omega (arith, ints)) (λ p. omega (arith, ints));
-  }
-
-  pub TellsLeast-keep : (n best : ℕ) → cost_at reduced best ≤ℤ cost_at reduced n → TellsLeast n test reduced (Some best)
-      → TellsLeast (n + 1) test reduced (Some best)
-  TellsLeast-keep n best le t = (let l = t.below in record {
-    below = omega arith;
-    passes = t.passes;
-    least = below_next (λ b. test b ≡ true → cost_at reduced best ≤ℤ cost_at reduced b) n t.least (λ p. le);
-  })
+pub IsLeastSoFar-end : (items : List ℕ) (reduced : List ℤ) (i best : ℕ) → length items ≤ i → IsLeastSoFar items reduced i best
+    → IsLeastOf items reduced best
+IsLeastSoFar-end items reduced i best past s = record {
+  member = s.member;
+  least = λ b m. s.least b (ap (is_member b) (take_all i items past) ∙ m);
+}
 
 -- ---- the earliest arc
 
 module _ (ends : ℕ → ℕ × ℕ) (since reached : List ℕ) where
-  -- among the first n arcs
-  pub record IsBest (n best : ℕ) (found : Option ℕ) : Type 0 where
+  -- among the first arcs of a list
+  pub record IsBest (done : List ℕ) (best : ℕ) (found : Option ℕ) : Type 0 where
     pub most : best ≤ 1000000
-    pub first : (b : ℕ) → b < n → is_member (ends b).0 reached ≡ true → is_member (ends b).1 reached ≡ false → best ≤ at since b
-    pub found_is : MatchOption found (best ≡ 1000000) (λ a. (a < n) × ((at since a ≡ best) × (best < 1000000))
-        × ((is_member (ends a).0 reached ≡ true) × (is_member (ends a).1 reached ≡ false)))
+    pub first : (b : ℕ) → is_member b done ≡ true → leaves ends reached b ≡ true → best ≤ at since b
+    pub found_is : MatchOption found (best ≡ 1000000)
+        (λ a. (is_member a done ≡ true) × ((at since a ≡ best) × (best < 1000000)) × (leaves ends reached a ≡ true))
 
-  pub IsBest-start : IsBest 0 1000000 None
-  IsBest-start = record { most = omega arith; first = λ b l. absurd (omega arith); found_is = refl }
+  pub IsBest-start : IsBest [] 1000000 None
+  IsBest-start = record { most = omega arith; first = λ b m. absurd (false≢true m); found_is = refl }
 
-  pub IsBest-take : (n best : ℕ) (found : Option ℕ) → at since n < best → is_member (ends n).0 reached ≡ true → is_member (ends n).1 reached ≡ false
-      → IsBest n best found → IsBest (n + 1) (at since n) (Some n)
-  IsBest-take n best found less tail head b = (let m = b.most in record {
+  pub IsBest-take : (items : List ℕ) (i best : ℕ) (found : Option ℕ) → i < length items → at since (get_or items i 0) < best
+      → leaves ends reached (get_or items i 0) ≡ true
+      → IsBest (take i items) best found → IsBest (take (i + 1) items) (at since (get_or items i 0)) (Some (get_or items i 0))
+  IsBest-take items i best found l less leaving b = (let m = b.most in let x = get_or items i 0 in record {
     most = omega arith;
-    first = below_next (λ c. is_member (ends c).0 reached ≡ true → is_member (ends c).1 reached ≡ false → at since n ≤ at since c) n
-        (λ c l t h. let k = b.first c l t h in omega arith) (λ t h. omega arith);
-    found_is = (omega arith, (refl, omega arith), (tail, head));
+    first = members_next (λ c. leaves ends reached c ≡ true → at since x ≤ at since c) items i l
+        (λ c m t. let k = b.first c m t in omega arith) (λ t. omega arith);
+    found_is = (is_member-take_more items i x l ∙ or_right (is_member x (take i items)) _ (eq-eqb x x refl), (refl, omega arith), leaving);
   })
 
-  pub IsBest-skip : (n best : ℕ) (found : Option ℕ) → (best ≤ at since n) ⊎ ((is_member (ends n).0 reached ≡ false) ⊎ (is_member (ends n).1 reached ≡ true))
-      → IsBest n best found → IsBest (n + 1) best found
-  IsBest-skip n best found why b = record {
+  pub IsBest-skip : (items : List ℕ) (i best : ℕ) (found : Option ℕ) → i < length items
+      → (best ≤ at since (get_or items i 0)) ⊎ (leaves ends reached (get_or items i 0) ≡ false)
+      → IsBest (take i items) best found → IsBest (take (i + 1) items) best found
+  IsBest-skip items i best found l why b = record {
     most = b.most;
-    first = below_next (λ c. is_member (ends c).0 reached ≡ true → is_member (ends c).1 reached ≡ false → best ≤ at since c) n b.first
-        (λ t h. elim why [
-          | inl le ↦ le
-          | inr (inl out) ↦ absurd (both_ways _ out t)
-          | inr (inr inside) ↦ absurd (both_ways _ h inside)
-        ]);
+    first = members_next (λ c. leaves ends reached c ≡ true → best ≤ at since c) items i l b.first
+        (λ t. elim why [ inl le ↦ le | inr stays ↦ absurd (both_ways _ stays t) ]);
     found_is = kept found b.found_is;
   }
     where
-      kept : (found : Option ℕ) → MatchOption found (best ≡ 1000000) (λ a. (a < n) × ((at since a ≡ best) × (best < 1000000))
-          × ((is_member (ends a).0 reached ≡ true) × (is_member (ends a).1 reached ≡ false)))
-          → MatchOption found (best ≡ 1000000) (λ a. (a < n + 1) × ((at since a ≡ best) × (best < 1000000))
-          × ((is_member (ends a).0 reached ≡ true) × (is_member (ends a).1 reached ≡ false)))
+      kept : (found : Option ℕ)
+          → MatchOption found (best ≡ 1000000)
+          (λ a. (is_member a (take i items) ≡ true) × ((at since a ≡ best) × (best < 1000000)) × (leaves ends reached a ≡ true))
+          → MatchOption found (best ≡ 1000000)
+          (λ a. (is_member a (take (i + 1) items) ≡ true) × ((at since a ≡ best) × (best < 1000000)) × (leaves ends reached a ≡ true))
       kept None h = h
-      kept (Some a) h = (let l = h.0 in omega arith, h.1, h.2)
+      kept (Some a) h = (is_member-take_more items i a l ∙ or_left (is_member a (take i items)) _ h.0, h.1, h.2)
 
-  pub IsBest-end : (n best : ℕ) (found : Option ℕ) → IsBest n best found → TellsEarliest n ends since reached found
-  IsBest-end n best None b = λ c l timed tail. elim (cases_Bool (is_member (ends c).1 reached)) [
-    | inl inside ↦ inside
-    | inr out ↦ (let k = b.first c l tail out in let e = b.found_is in absurd (omega arith))
-  ]
-  IsBest-end n best (Some a) b = (let f = b.found_is in let e = f.1.0 in let k = f.1.1 in record {
-    below = f.0;
-    timed = omega arith;
-    tail = f.2.0;
-    head = f.2.1;
-    first = λ c l t h. let m = b.first c l t h in omega arith;
+  pub IsBest-end : (items : List ℕ) (i best : ℕ) (found : Option ℕ) → length items ≤ i
+      → ((a : ℕ) → is_member a items ≡ true → at since a < 1000000) → IsBest (take i items) best found
+      → TellsEarliest ends since items reached found
+  IsBest-end items i best None past timed b = λ c m. false_from_ne_true _ (λ t.
+      let k = b.first c (ap (is_member c) (take_all i items past) ∙ m) t in let e = b.found_is in let early = timed c m in absurd (omega arith))
+  IsBest-end items i best (Some a) past timed b = (let f = b.found_is in let e = f.1.0 in record {
+    member = ap (is_member a) (sym (take_all i items past)) ∙ f.0;
+    leaving = f.2;
+    first = λ c m t. let k = b.first c (ap (is_member c) (take_all i items past) ∙ m) t in omega arith;
   })
 
 -- ---- the places that fall
@@ -115,19 +144,21 @@ pub record AreFalling (to last : ℕ) (before place : List ℕ) (n : ℕ) : Type
 pub AreFalling-start : (to last : ℕ) (before : List ℕ) → AreFalling to last before before 0
 AreFalling-start to last before = record { long = refl; done = λ w l. absurd (omega arith); rest = λ w l. refl }
 
-pub AreFalling-keep : (to last : ℕ) (before place : List ℕ) (n : ℕ) → falls to last (at place n) ≡ at place n → AreFalling to last before place n
+pub AreFalling-keep : (to last : ℕ) (before place : List ℕ) (n : ℕ) → falls to last (at place n) ≡ at place n
+    → AreFalling to last before place n
     → AreFalling to last before place (n + 1)
 AreFalling-keep to last before place n e f = record {
   long = f.long;
-  done = below_next (λ w. at place w ≡ falls to last (at before w)) n f.done (sym e ∙ ap (falls to last) (f.rest n (omega arith)));
+  done = below_more (λ w. at place w ≡ falls to last (at before w)) n f.done (sym e ∙ ap (falls to last) (f.rest n (omega arith)));
   rest = λ w l. f.rest w (omega arith);
 }
 
-pub AreFalling-set : (to last : ℕ) (before place : List ℕ) (n : ℕ) → n < length place → falls to last (at place n) ≡ to → AreFalling to last before place n
+pub AreFalling-set : (to last : ℕ) (before place : List ℕ) (n : ℕ) → n < length place → falls to last (at place n) ≡ to
+    → AreFalling to last before place n
     → AreFalling to last before (set place n to) (n + 1)
 AreFalling-set to last before place n l e f = record {
   long = length-set place n to ∙ f.long;
-  done = below_next (λ w. at (set place n to) w ≡ falls to last (at before w)) n
+  done = below_more (λ w. at (set place n to) w ≡ falls to last (at before w)) n
       (λ w lw. get_or-set_other place n w to 0 (λ e. absurd (omega arith)) ∙ f.done w lw)
       (get_or-set_same place n to 0 l ∙ sym e ∙ ap (falls to last) (f.rest n (omega arith)));
   rest = λ w lw. get_or-set_other place n w to 0 (λ e. absurd (omega arith)) ∙ f.rest w (omega arith);
@@ -172,7 +203,7 @@ pub AreFirstTimes-push : (costs : List ℤ) (since : List ℕ) (n t : ℕ) → I
     → AreFirstTimes costs (since ++ t ∷ []) (n + 1)
 AreFirstTimes-push costs since n t new f = (let long = f.long in record {
   long = length-append since (t ∷ []) ∙ ap (λ k. k + 1) long;
-  times = below_next (λ a. IsFirstTime (cost_at costs a) (at (since ++ t ∷ []) a)) n
+  times = below_more (λ a. IsFirstTime (cost_at costs a) (at (since ++ t ∷ []) a)) n
       (λ a l. subst (IsFirstTime (cost_at costs a)) (sym (get_or_append_left since (t ∷ []) 0 a (omega arith))) (f.times a l))
       (subst (IsFirstTime (cost_at costs n)) (sym (last since n t long)) new);
 })
@@ -190,61 +221,92 @@ IsFirstTime-some z n = record { spent = λ l. absurd (omega arith); soon = λ e.
 
 -- ---- what is lowered
 
-module _ (test : ℕ → Bool) (least : ℤ) (next : ℕ) (reduced : List ℤ) (since : List ℕ) where
-  -- at the first n arcs
-  pub record IsLowering (n : ℕ) (left : List ℤ) (later : List ℕ) : Type 0 where
-    pub lowered : IsLowered n test least next reduced left since later
-    pub rest : (a : ℕ) → n ≤ a → (cost_at left a ≡ cost_at reduced a) × (at later a ≡ at since a)
-
-  pub IsLowering-start : IsLowering 0 reduced since
-  IsLowering-start = record {
-    lowered = record { left_long = refl; later_long = refl; left_is = λ a l. absurd (omega arith); later_is = λ a l. absurd (omega arith) };
-    rest = λ a l. (refl, refl);
+module _ (count : ℕ) (least : ℤ) (next : ℕ) (reduced : List ℤ) (since : List ℕ) where
+  pub IsLowered-none : IsLowered count (λ a. false) least next reduced reduced since since
+  IsLowered-none = record {
+    left_long = refl;
+    later_long = refl;
+    left_is = λ a l. omega (arith, ints);
+    later_is = λ a l. inl (refl, λ m. absurd (false≢true m));
   }
 
-  pub IsLowering-skip : (n : ℕ) (left : List ℤ) (later : List ℕ) → test n ≡ false → IsLowering n left later → IsLowering (n + 1) left later
-  IsLowering-skip n left later out w = (let r = w.rest n (omega arith) in let none : weight_where (test n) least ≡ pos 0 = rw out in record {
-    lowered = record {
-      left_long = w.lowered.left_long;
-      later_long = w.lowered.later_long;
-      left_is = below_next (λ a. cost_at reduced a ≡ cost_at left a +ℤ weight_where (test a) least) n w.lowered.left_is (let e = r.0 in omega (arith, ints));
-      later_is = below_next (λ a. ((at later a ≡ at since a) × (test a ≡ true → cost_at left a ≢ pos 0)) ⊎ ((at later a ≡ next) × ((test a ≡ true) × (cost_at left a ≡ pos 0)))) n
-          w.lowered.later_is (inl (r.1, λ p. absurd (both_ways _ out p)));
-    };
-    rest = λ a l. w.rest a (omega arith);
-  })
+  pub IsLowered-same : (test other : ℕ → Bool) (left : List ℤ) (later : List ℕ) → ((a : ℕ) → a < count → test a ≡ other a)
+      → IsLowered count test least next reduced left since later → IsLowered count other least next reduced left since later
+  IsLowered-same test other left later same w = record {
+    left_long = w.left_long;
+    later_long = w.later_long;
+    left_is = λ a l. subst (λ b. cost_at reduced a ≡ cost_at left a +ℤ weight_where b least) (same a l) (w.left_is a l);
+    later_is = λ a l. subst (λ b. ((at later a ≡ at since a) × (b ≡ true → cost_at left a ≢ pos 0))
+        ⊎ ((at later a ≡ next) × ((b ≡ true) × (cost_at left a ≡ pos 0))))
+        (same a l) (w.later_is a l);
+  }
 
-  pub IsLowering-take : (n : ℕ) (left : List ℤ) (later timed : List ℕ) (z : ℤ) → n < length left → test n ≡ true → z +ℤ least ≡ cost_at left n
-      → ((timed ≡ later) × (z ≢ pos 0)) ⊎ ((timed ≡ set later n next) × ((z ≡ pos 0) × (n < length later)))
-      → IsLowering n left later → IsLowering (n + 1) (set left n z) timed
-  IsLowering-take n left later timed z l passes e how w = record {
-    lowered = record {
-      left_long = length-set left n z ∙ w.lowered.left_long;
-      later_long = elim how [ inl h ↦ ap length h.0 ∙ w.lowered.later_long | inr h ↦ ap length h.0 ∙ length-set later n next ∙ w.lowered.later_long ];
-      left_is = below_next (λ a. cost_at reduced a ≡ cost_at (set left n z) a +ℤ weight_where (test a) least) n
-          (λ a la. w.lowered.left_is a la ∙ ap (λ y. y +ℤ weight_where (test a) least) (sym (other a (λ q. absurd (omega arith)))))
-          (let r = w.rest n (omega arith) in let s = r.0 in let full : weight_where (test n) least ≡ least = rw passes in omega (arith, ints, same));
-      later_is = below_next (λ a. ((at timed a ≡ at since a) × (test a ≡ true → cost_at (set left n z) a ≢ pos 0)) ⊎ ((at timed a ≡ next) × ((test a ≡ true) × (cost_at (set left n z) a ≡ pos 0)))) n
-          (λ a la. let o = other a (λ q. absurd (omega arith)) in let k = kept a (λ q. absurd (omega arith)) in elim (w.lowered.later_is a la) [
-            | inl h ↦ inl (k ∙ h.0, λ p q. h.1 p (sym o ∙ q))
-            | inr h ↦ inr (k ∙ h.0, (h.1.0, o ∙ h.1.1))
+  -- nothing is taken yet from the next arc of the list
+  pub IsLowered-next : (items : List ℕ) (i : ℕ) (left : List ℤ) (later : List ℕ) → IsSet count items → i < length items
+      → IsLowered count (λ a. is_member a (take i items)) least next reduced left since later
+      → cost_at left (get_or items i 0) ≡ cost_at reduced (get_or items i 0)
+  IsLowered-next items i left later set l w =
+      let x = get_or items i 0 in
+      let none : weight_where (is_member x (take i items)) least ≡ pos 0 = ap (λ b. weight_where b least) (is_member-take_next items i set.rising l) in
+      let was = w.left_is x (AllBelow-at count items i set.below l) in
+      omega (arith, ints)
+
+  -- one arc more
+  pub IsLowered-more : (items : List ℕ) (i : ℕ) (left : List ℤ) (later timed : List ℕ) (z : ℤ) → IsRising items → i < length items
+      → get_or items i 0 < length left → z +ℤ least ≡ cost_at reduced (get_or items i 0)
+      → ((timed ≡ later) × (z ≢ pos 0)) ⊎ ((timed ≡ set later (get_or items i 0) next) × ((z ≡ pos 0) × (get_or items i 0 < length later)))
+      → IsLowered count (λ a. is_member a (take i items)) least next reduced left since later
+      → IsLowered count (λ a. is_member a (take (i + 1) items)) least next reduced (set left (get_or items i 0) z) since timed
+  IsLowered-more items i left later timed z rising l inside e how w = record {
+    left_long = length-set left x z ∙ w.left_long;
+    later_long = elim how [ inl h ↦ ap length h.0 ∙ w.later_long | inr h ↦ ap length h.0 ∙ length-set later x next ∙ w.later_long ];
+    left_is = λ a la. elim (cases_eq a x) [
+      | inl same ↦ (let full : weight_where (is_member a (take (i + 1) items)) least ≡ least = ap (λ b. weight_where b least) (here a same) in
+          let value : cost_at (set left x z) a ≡ z = ap (cost_at (set left x z)) same ∙ new in
+          let at_x : cost_at reduced a ≡ cost_at reduced x = ap (cost_at reduced) same in omega (arith, ints))
+      | inr d ↦ subst (λ b. cost_at reduced a ≡ cost_at (set left x z) a +ℤ weight_where b least) (sym (there a d))
+          (w.left_is a la ∙ ap (λ y. y +ℤ weight_where (is_member a (take i items)) least) (sym (other a d)))
+    ];
+    later_is = λ a la. elim (cases_eq a x) [
+      | inl same ↦ subst (λ k. ((at timed k ≡ at since k) × (is_member k (take (i + 1) items) ≡ true → cost_at (set left x z) k ≢ pos 0))
+          ⊎ ((at timed k ≡ next) × ((is_member k (take (i + 1) items) ≡ true) × (cost_at (set left x z) k ≡ pos 0)))) (sym same) (elim how [
+            | inl h ↦ inl (ap (λ t. at t x) h.0 ∙ unchanged (subst (λ k. k < count) same la), λ m zero_there. h.1 (sym new ∙ zero_there))
+            | inr h ↦ inr (ap (λ t. at t x) h.0 ∙ get_or-set_same later x next 0 h.1.1, (here x refl, new ∙ h.1.0))
           ])
-          (elim how [
-            | inl h ↦ inl (ap (λ t. at t n) h.0 ∙ (w.rest n (omega arith)).1, λ p q. h.1 (sym same ∙ q))
-            | inr h ↦ inr (ap (λ t. at t n) h.0 ∙ get_or-set_same later n next 0 h.1.1, (passes, same ∙ h.1.0))
-          ]);
-    };
-    rest = λ a la. (other a (λ q. absurd (omega arith)) ∙ (w.rest a (omega arith)).0, kept a (λ q. absurd (omega arith)) ∙ (w.rest a (omega arith)).1);
+      | inr d ↦ (let o = other a d in let k = kept a d in elim (w.later_is a la) [
+        | inl h ↦ inl (k ∙ h.0, λ m zero_there. h.1 (sym (there a d) ∙ m) (sym o ∙ zero_there))
+        | inr h ↦ inr (k ∙ h.0, (there a d ∙ h.1.0, o ∙ h.1.1))
+      ])
+    ];
   }
     where
-      same : cost_at (set left n z) n ≡ z
-      same = get_or-set_same left n z (pos 0) l
+      x : ℕ
+      x = get_or items i 0
 
-      other : (a : ℕ) → (a ≡ n → ⊥) → cost_at (set left n z) a ≡ cost_at left a
-      other a d = get_or-set_other left n a z (pos 0) d
+      new : cost_at (set left x z) x ≡ z
+      new = get_or-set_same left x z (pos 0) inside
 
-      kept : (a : ℕ) → (a ≡ n → ⊥) → at timed a ≡ at later a
-      kept a d = elim how [ inl h ↦ ap (λ t. at t a) h.0 | inr h ↦ ap (λ t. at t a) h.0 ∙ get_or-set_other later n a next 0 d ]
+      other : (a : ℕ) → (a ≡ x → ⊥) → cost_at (set left x z) a ≡ cost_at left a
+      other a d = get_or-set_other left x a z (pos 0) d
+
+      kept : (a : ℕ) → (a ≡ x → ⊥) → at timed a ≡ at later a
+      kept a d = elim how [ inl h ↦ ap (λ t. at t a) h.0 | inr h ↦ ap (λ t. at t a) h.0 ∙ get_or-set_other later x a next 0 d ]
+
+      here : (a : ℕ) → a ≡ x → is_member a (take (i + 1) items) ≡ true
+      here a same = is_member-take_more items i a l ∙ or_right (is_member a (take i items)) _ (eq-eqb a x same)
+
+      there : (a : ℕ) → (a ≡ x → ⊥) → is_member a (take (i + 1) items) ≡ is_member a (take i items)
+      there a d = is_member-take_more items i a l ∙ none (is_member a (take i items)) _ (ne_eqb a x d)
+        where
+          none : (b c : Bool) → c ≡ false → (b || c) ≡ b
+          none true c e = refl
+          none false c e = e
+
+      unchanged : x < count → at later x ≡ at since x
+      unchanged lx = elim (w.later_is x lx) [
+        | inl h ↦ h.0
+        | inr h ↦ absurd (both_ways _ (is_member-take_next items i rising l) h.1.0)
+      ]
 
 -- ---- whether an arc comes
 
@@ -255,7 +317,8 @@ module _ (arcs : List (ℕ × ℕ)) (place : List ℕ) (last a : ℕ) where
   pub comes-yes : at place (ends_of arcs a).1 ≡ last → (at place (ends_of arcs a).0 ≡ last → ⊥) → comes (ends_of arcs) place last a ≡ true
   comes-yes e n = comes-values _ _ last e n
 
-  pub comes-no : ((at place (ends_of arcs a).1 ≡ last → ⊥) ⊎ (at place (ends_of arcs a).0 ≡ last)) → comes (ends_of arcs) place last a ≡ false
+  pub comes-no : ((at place (ends_of arcs a).1 ≡ last → ⊥) ⊎ (at place (ends_of arcs a).0 ≡ last))
+      → comes (ends_of arcs) place last a ≡ false
   comes-no (inl n) = and_left _ _ (ne_eqb _ last n)
   comes-no (inr e) = and_none _ _ (eq-eqb _ last e)
     where
@@ -263,23 +326,46 @@ module _ (arcs : List (ℕ × ℕ)) (place : List ℕ) (last a : ℕ) where
       and_none true c e = rw e refl
       and_none false c e = refl
 
-  pub comes-parts : comes (ends_of arcs) place last a ≡ true → (at place (ends_of arcs a).1 ≡ last) × (at place (ends_of arcs a).0 ≡ last → ⊥)
+  pub comes-parts : comes (ends_of arcs) place last a ≡ true
+      → (at place (ends_of arcs a).1 ≡ last) × (at place (ends_of arcs a).0 ≡ last → ⊥)
   comes-parts h = (let p = and_parts (eqb (at place (ends_of arcs a).1) last) (not (eqb (at place (ends_of arcs a).0) last)) h in
       (eqb-true _ last p.0, λ e. both_ways _ (ap not (eq-eqb _ last e)) p.1))
 
--- the default does not matter within the list
-pub get_or_any : (xs : List ℤ) (i : ℕ) (d e : ℤ) → i < length xs → get_or xs i d ≡ get_or xs i e
-get_or_any [] i d e l = absurd (omega arith)
-get_or_any (x ∷ xs) zero d e l = refl
-get_or_any (x ∷ xs) (suc i) d e l = get_or_any xs i d e (omega arith)
-
 -- the places at the start
 pub places-start : (vertices root : ℕ) (items : List ℕ) → items ≡ replicate vertices 1000000 → root < vertices
-    → (length (set items root 0) ≡ vertices) × ((at (set items root 0) root ≡ 0) × ((v : ℕ) → v < vertices → v ≢ root → at (set items root 0) v ≡ 1000000))
+    → (length (set items root 0) ≡ vertices) × ((at (set items root 0) root ≡ 0)
+    × ((v : ℕ) → v < vertices → v ≢ root → at (set items root 0) v ≡ 1000000))
 places-start vertices root items e l = (
   length-set items root 0 ∙ ap length e ∙ length-replicate vertices 1000000,
   (
     get_or-set_same items root 0 0 (let k = ap length e ∙ length-replicate vertices 1000000 in omega arith),
     λ v lv d. get_or-set_other items root v 0 0 d ∙ ap (λ i. at i v) e ∙ get_or-replicate vertices v 1000000 0 lv,
   ),
+)
+
+-- ---- the arc that is spent
+
+-- the least arc of the list of those that come
+pub IsLeast-of : (count : ℕ) (test : ℕ → Bool) (among : List ℕ) (reduced : List ℤ) (a : ℕ) → among ≡ those_below count test
+    → IsLeastOf among reduced a → IsLeast count test reduced a
+IsLeast-of count test among reduced a those f = record {
+  below = below_member (those-set count test among those) f.member;
+  passes = those-passes count test among those a f.member;
+  least = λ b l passes. f.least b (those-is count test among those b l ∙ passes);
+}
+
+pub IsPaid-same : (test other : ℕ → Bool) (place : List ℕ) (last a : ℕ) (before after : Raised)
+    → ((b : ℕ) → b < length before.reduced.items → test b ≡ other b) → IsPaid test place last a before after
+    → IsPaid other place last a before after
+IsPaid-same test other place last a before after same (inl h) = inl h
+IsPaid-same test other place last a before after same (inr h) = inr (
+  h.0,
+  record {
+    cut = h.1.cut;
+    weight_is = h.1.weight_is;
+    set_is = h.1.set_is;
+    cuts = h.1.cuts;
+    lowered = IsLowered-same (length before.reduced.items) (cost_at before.reduced.items a) (suc (length before.cuts.items)) before.reduced.items before.since.items
+        test other after.reduced.items after.since.items same h.1.lowered;
+  },
 )

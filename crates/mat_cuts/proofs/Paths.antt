@@ -1,9 +1,9 @@
 -- What early arcs lead to, and how the path of joined sets grows and closes up.
-use Rattle.std.proofs.Common.{if◌then◌else◌, ◌≡◌, ◌≢◌, ℕ, suc, ◌+◌, ◌<◌, ◌≤◌, ◌⊎◌, Bool, true, false, not, ◌&&◌, leb, eqb, List, [], ◌∷◌, length, inl, inr, refl, sym, ap, ◌∙◌, subst, arith}
+use Rattle.std.proofs.Common.{if◌then◌else◌, ◌≡◌, ◌≢◌, ℕ, ◌+◌, ◌<◌, ◌≤◌, ◌⊎◌, Bool, true, false, not, ◌&&◌, leb, eqb, List, length, inl, inr, refl, sym, ap, ◌∙◌, subst, arith}
 use Rattle.std.proofs.lemmas.Bool.Decides.{nat_tests}
-use Rattle.std.proofs.lemmas.Bool.{and_parts, both_ways, cases_Bool, cases_eq, cases_lt, eqb-true, eq-eqb, false_from_ne_true, false≢true, le-leb, ne_eqb}
+use Rattle.std.proofs.lemmas.Bool.{and_parts, both_ways, cases_Bool, cases_eq, cases_lt, eq-eqb, false_from_ne_true, le-leb, ne_eqb}
 use Rattle.mat_sets.specs.Graphs.{ends_of}
-use Rattle.mat_sets.specs.Sets.{is_member, without_one, IsSet}
+use Rattle.mat_sets.specs.Sets.{is_member, without_one}
 use Rattle.mat_sets.proofs.Ground.{below_member, IsSet-without_one}
 use Rattle.mat_sets.proofs.Members.{is_member-without_one}
 use Rattle.mat_cuts.specs.Raising.{at, falls, IsPath, Leads}
@@ -25,7 +25,8 @@ module _ (count : ℕ) (ends : ℕ → ℕ × ℕ) (since : List ℕ) (i : ℕ) 
 
 -- ---- the places that fall
 
-pub falls-cases : (j last p : ℕ) → ((p < j) × (falls j last p ≡ p)) ⊎ (((j ≤ p) × (p ≤ last) × (falls j last p ≡ j)) ⊎ ((last < p) × (falls j last p ≡ p)))
+pub falls-cases : (j last p : ℕ)
+    → ((p < j) × (falls j last p ≡ p)) ⊎ (((j ≤ p) × (p ≤ last) × (falls j last p ≡ j)) ⊎ ((last < p) × (falls j last p ≡ p)))
 unfolding falls
 falls-cases j last p = elim (cases_lt p j) [
   | inl low ↦ inl (low, by_low (leb j p) (leb p last) (false_from_ne_true _ (λ h. absurd (omega (arith, leb-gives j p h)))))
@@ -104,7 +105,8 @@ module _ (vertices : ℕ) (arcs : List (ℕ × ℕ)) (root : ℕ) (since : List 
 
   -- an early arc from the path or from what the root reaches enters its last set: all sets in between are joined
   pub IsPath-join : (place next fresh : List ℕ) (last a : ℕ) → IsPath vertices arcs root since now place fresh last → last < 1000000
-      → a < length arcs → (ends_of arcs a).0 < vertices → (ends_of arcs a).1 < vertices → at since a ≤ now → at place (ends_of arcs a).1 ≡ last
+      → a < length arcs → (ends_of arcs a).0 < vertices → (ends_of arcs a).1 < vertices → at since a ≤ now
+      → at place (ends_of arcs a).1 ≡ last
       → at place (ends_of arcs a).0 < last → length next ≡ vertices
       → ((w : ℕ) → at next w ≡ falls (at place (ends_of arcs a).0) last (at place w))
       → IsPath vertices arcs root since now next fresh (at place (ends_of arcs a).0)
@@ -144,7 +146,8 @@ module _ (vertices : ℕ) (arcs : List (ℕ × ℕ)) (root : ℕ) (since : List 
           | inr (inr c) ↦ absurd (let e = c.1 in let k = c.0 in omega arith)
         ];
         joined = λ x y lx ly some le most. let fx = fell x in let fy = fell y in
-            let low : (w : ℕ) → at next w ≤ j → (at place w ≤ last) × (at next w ≤ at place w) × ((at place w < j → at next w ≡ at place w) × (j ≤ at place w → at next w ≡ j)) = λ w k. (let f = fell w in elim (by w) [
+            let low : (w : ℕ) → at next w ≤ j → (at place w ≤ last) × (at next w ≤ at place w)
+            × ((at place w < j → at next w ≡ at place w) × (j ≤ at place w → at next w ≡ j)) = λ w k. (let f = fell w in elim (by w) [
               | inl c ↦ (let e = c.1 in let q = c.0 in (omega arith, omega arith, ((λ u. omega arith), (λ u. absurd (omega arith)))))
               | inr (inl c) ↦ (let e = c.2 in let q = c.0 in let r = c.1 in (omega arith, omega arith, ((λ u. absurd (omega arith)), (λ u. omega arith))))
               | inr (inr c) ↦ absurd (let e = c.1 in let q = c.0 in omega arith)
@@ -177,7 +180,8 @@ module _ (vertices : ℕ) (arcs : List (ℕ × ℕ)) (root : ℕ) (since : List 
       }
 
   -- later times
-  pub IsPath-later : (later : List ℕ) (soon : ℕ) (place fresh : List ℕ) (last : ℕ) → ((a : ℕ) → a < length arcs → at since a ≤ now → at later a ≤ soon)
+  pub IsPath-later : (later : List ℕ) (soon : ℕ) (place fresh : List ℕ) (last : ℕ)
+      → ((a : ℕ) → a < length arcs → at since a ≤ now → at later a ≤ soon)
       → IsPath vertices arcs root since now place fresh last → IsPath vertices arcs root later soon place fresh last
   IsPath-later later soon place fresh last more p = record {
     long = p.long;

@@ -1,26 +1,21 @@
 -- One raise: the last set of the path gets the least cost that is left at the arcs that enter it. What was nested stays nested, since only arcs
 -- without a time get one, and a later one than that of each listed set.
-use Rattle.std.proofs.Common.{if◌then◌else◌, ◌≡◌, ◌≢◌, ℕ, zero, suc, ◌+◌, ◌<◌, ◌≤◌, ◌⊎◌, Bool, true, false, not, ◌&&◌, List, [], ◌∷◌, ◌++◌, length, inl, inr, refl, sym, ap, ◌∙◌, subst, arith, ℤ, pos, ◌+ℤ◌, ◌≤ℤ◌, ◌<ℤ◌, length-append}
-use Rattle.std.proofs.lemmas.Bool.{both_ways, cases_Bool, cases_lt}
+use Rattle.std.proofs.Common.{◌≡◌, ℕ, suc, ◌+◌, ◌<◌, ◌≤◌, ◌⊎◌, true, List, [], ◌∷◌, ◌++◌, length, inl, inr, ◌∙◌, subst, arith, ℤ, pos, ◌+ℤ◌, ◌≤ℤ◌, ◌<ℤ◌, length-append}
+use Rattle.std.proofs.lemmas.Bool.{cases_Bool, cases_lt}
 use Rattle.std.proofs.lemmas.Int.{ints}
-use Rattle.std.specs.List.{AllByRecursion}
 use Rattle.mat_sets.specs.Graphs.{ends_of, enters}
 use Rattle.mat_sets.specs.Sets.{is_member}
 use Rattle.mat_cuts.specs.Costs.{cost_at}
 use Rattle.mat_cuts.specs.Cuts.{weight_on, weight_where, IsCut, IsRootFree}
 use Rattle.mat_cuts.specs.Raising.{at, AreNested, IsLowered, IsNested, IsRaised, Leads}
 use Rattle.mat_cuts.specs.declared.cut_weight.CutWeight.{CutWeight}
+use Rattle.mat_cuts.proofs.EachItem.{AllByRecursion-push}
 use Rattle.mat_cuts.proofs.Paths.{Leads-later}
 
 pub weight_on-push : (ends : ℕ → ℕ × ℕ) (cuts : List CutWeight) (c : CutWeight) (a : ℕ)
     → weight_on ends (cuts ++ c ∷ []) a ≡ weight_on ends cuts a +ℤ weight_where (enters ends c.set a) c.weight
 weight_on-push ends [] c a = omega (arith, ints)
 weight_on-push ends (d ∷ cuts) c a = omega (arith, ints, weight_on-push ends cuts c a)
-
-each-push : (vertices root : ℕ) (cuts : List CutWeight) (c : CutWeight) → AllByRecursion (IsCut vertices root) cuts → IsCut vertices root c
-    → AllByRecursion (IsCut vertices root) (cuts ++ c ∷ [])
-each-push vertices root [] c each one = (one, tt)
-each-push vertices root (d ∷ cuts) c each one = (each.0, each-push vertices root cuts c each.1 one)
 
 module _ (count : ℕ) (ends : ℕ → ℕ × ℕ) where
   nested-push : (since : List ℕ) (i : ℕ) (cuts : List CutWeight) (c : CutWeight) → AreNested count ends since i cuts
@@ -33,13 +28,15 @@ module _ (count : ℕ) (ends : ℕ → ℕ × ℕ) where
   pub record IsLater (since later : List ℕ) (now : ℕ) : Type 0 where
     pub each : (a : ℕ) → a < count → (at later a ≡ at since a) ⊎ ((at later a ≡ suc now) × (now < at since a))
 
-  pub early-later : (since later : List ℕ) (now i : ℕ) → IsLater since later now → i ≤ now → (a : ℕ) → a < count → at since a ≤ i → at later a ≤ i
+  pub early-later : (since later : List ℕ) (now i : ℕ) → IsLater since later now → i ≤ now → (a : ℕ) → a < count → at since a ≤ i
+      → at later a ≤ i
   early-later since later now i l le a la early = elim (l.each a la) [
     | inl same ↦ omega arith
     | inr new ↦ absurd (let k = new.1 in omega arith)
   ]
 
-  pub soon-later : (since later : List ℕ) (now : ℕ) → IsLater since later now → (a : ℕ) → a < count → at since a ≤ now → at later a ≤ suc now
+  pub soon-later : (since later : List ℕ) (now : ℕ) → IsLater since later now → (a : ℕ) → a < count → at since a ≤ now
+      → at later a ≤ suc now
   soon-later since later now l a la early = elim (l.each a la) [
     | inl same ↦ omega arith
     | inr new ↦ (let e = new.0 in omega arith)
@@ -83,7 +80,8 @@ module _ (vertices : ℕ) (arcs : List (ℕ × ℕ)) (costs : List ℤ) (root : 
   }
 
   pub IsRaised-raise : (reduced left : List ℤ) (since later : List ℕ) (cuts : List CutWeight) (c : CutWeight)
-      → IsRaised vertices arcs costs root reduced since cuts → length cuts + 1 < 1000000 → pos 0 <ℤ c.weight → IsRootFree vertices root c.set
+      → IsRaised vertices arcs costs root reduced since cuts → length cuts + 1 < 1000000 → pos 0 <ℤ c.weight
+      → IsRootFree vertices root c.set
       → ((x y : ℕ) → is_member x c.set ≡ true → is_member y c.set ≡ true → Leads (length arcs) (ends_of arcs) since (length cuts) x y)
       → ((a : ℕ) → a < length arcs → enters (ends_of arcs) c.set a ≡ true → c.weight ≤ℤ cost_at reduced a)
       → IsLowered (length arcs) (enters (ends_of arcs) c.set) c.weight (suc (length cuts)) reduced left since later
@@ -122,7 +120,7 @@ module _ (vertices : ℕ) (arcs : List (ℕ × ℕ)) (costs : List ℤ) (root : 
                 let s = r.soon a la was in omega arith)
           ])
         ];
-        each = each-push vertices root cuts c r.each (record { root_free = free; positive = some });
+        each = AllByRecursion-push (IsCut vertices root) cuts c r.each (record { root_free = free; positive = some });
         nested = nested-push count ends later 0 cuts c
             (nested-later count ends since later (length cuts) 0 cuts changes (omega arith) r.nested)
             (record {

@@ -1,15 +1,20 @@
 -- What arcs of a tree reach from the root: it grows by an arc that leaves it; where no arc leaves it, the tree reaches nothing else.
-use Rattle.std.proofs.Common.{◌≡◌, ℕ, suc, ◌+◌, ◌<◌, ◌⊎◌, true, false, List, [], ◌∷◌, length, get_or, take, None, inl, inr, refl, sym, ap, ◌∙◌, subst, arith, eqb}
-use Rattle.std.proofs.lemmas.Bool.{both_ways, eqb-true, eq-eqb, false≢true, lt-ltb, ltb-true, or_cases, or_left, or_right}
+use Rattle.std.proofs.Common.{◌≡◌, ℕ, suc, ◌+◌, ◌<◌, Bool, true, false, not, List, [], ◌∷◌, length, get_or, take, None, inl, inr, refl, sym, ap, ◌∙◌, subst, arith, eqb}
+use Rattle.std.proofs.lemmas.Bool.{and_parts, both_ways, eqb-true, eq-eqb, false≢true, lt-ltb, ltb-true, or_cases, or_left, or_right}
 use Rattle.mat_sets.specs.Graphs.{DirectedWalk, IsSpanningArborescence, Reaches}
-use Rattle.mat_sets.specs.Sets.{all_below, is_member, with_one, IsSet}
+use Rattle.mat_sets.specs.Sets.{all_below, is_member, with_one, IsSet, IsSubset}
 use Rattle.mat_sets.proofs.Cardinalities.{length-with_one}
 use Rattle.mat_sets.proofs.Ground.{is_member-all_below, length-all_below, IsRising-all_below, IsSet-with_one, IsSubset-all_below}
 use Rattle.mat_sets.proofs.Members.{is_member-head, is_member-with_one}
-use Rattle.mat_sets.proofs.Steps.{is_member-take_more}
 use Rattle.mat_sets.proofs.Subsets.{larger_has, same_size_subset}
-use Rattle.mat_sets.proofs.Walking.{Reaches-arc, Reaches-itself, Reaches-trans}
-use Rattle.mat_cuts.specs.Checking.{IsLeaving, TellsLeaving}
+use Rattle.mat_sets.proofs.Walking.{Reaches-arc, Reaches-itself, Reaches-subset, Reaches-trans}
+use Rattle.mat_cuts.specs.Growing.{leaves, IsLeaving, TellsLeaving}
+use Rattle.mat_cuts.proofs.Loops.{members_next, stays}
+
+-- the root put into no set
+pub root_alone : (root : ℕ) (none reached : List ℕ) → none ≡ [] → reached ≡ with_one none root → reached ≡ root ∷ []
+unfolding with_one
+root_alone root none reached en er = er ∙ ap (λ s. with_one s root) en
 
 module _ (vertices : ℕ) (ends : ℕ → ℕ × ℕ) (root : ℕ) (tree : List ℕ) where
   -- vertices to which arcs of the tree lead from the root
@@ -31,16 +36,16 @@ module _ (vertices : ℕ) (ends : ℕ → ℕ × ℕ) (root : ℕ) (tree : List 
   -- the root alone
   pub IsReached-first : (none reached : List ℕ) → none ≡ [] → reached ≡ with_one none root → root < vertices
       → IsReached reached × (length reached ≡ 1)
-  unfolding with_one
   IsReached-first none reached en er below =
-      let alone : reached ≡ root ∷ [] = er ∙ ap (λ s. with_one s root) en in
+      let alone = root_alone root none reached en er in
       (subst IsReached (sym alone) (IsReached-start below), ap length alone)
 
   pub IsReached-more : (reached : List ℕ) (a : ℕ) → IsReached reached → (ends a).1 < vertices → IsLeaving ends tree reached a
       → IsReached (with_one reached (ends a).1)
-  IsReached-more reached a r below leaving =
+  IsReached-more reached a r below l =
       let head = (ends a).1 in
-      let along = Reaches-trans ends tree root (ends a).0 head (r.reaches (ends a).0 leaving.tail) (Reaches-arc ends tree a leaving.member) in
+      let tail_in = (and_parts (is_member (ends a).0 reached) (not (is_member head reached)) l.leaving).0 in
+      let along = Reaches-trans ends tree root (ends a).0 head (r.reaches (ends a).0 tail_in) (Reaches-arc ends tree a l.member) in
       record {
         set = IsSet-with_one vertices reached head r.set below;
         start = is_member-with_one root head reached ∙ or_right (eqb root head) _ r.start;
@@ -52,10 +57,15 @@ module _ (vertices : ℕ) (ends : ℕ → ℕ × ℕ) (root : ℕ) (tree : List 
 
   pub IsReached-next : (reached more : List ℕ) (a : ℕ) → IsReached reached → (ends a).1 < vertices → IsLeaving ends tree reached a
       → more ≡ with_one reached (ends a).1 → IsReached more × (length more ≡ length reached + 1)
-  IsReached-next reached more a r below leaving e = (
-    subst IsReached (sym e) (IsReached-more reached a r below leaving),
-    ap length e ∙ length-with_one reached (ends a).1 r.set.rising leaving.head ∙ omega arith,
-  )
+  IsReached-next reached more a r below l e =
+      let head_out = not_true (is_member (ends a).1 reached) (and_parts (is_member (ends a).0 reached) (not (is_member (ends a).1 reached)) l.leaving).1 in (
+        subst IsReached (sym e) (IsReached-more reached a r below l),
+        ap length e ∙ length-with_one reached (ends a).1 r.set.rising head_out ∙ omega arith,
+      )
+    where
+      not_true : (b : Bool) → not b ≡ true → b ≡ false
+      not_true true h = absurd (false≢true h)
+      not_true false h = refl
 
   -- as many reached vertices as there are vertices are all of them
   pub all_reached : (reached : List ℕ) → IsReached reached → length reached ≡ vertices → (v : ℕ) → v < vertices → is_member v reached ≡ true
@@ -87,23 +97,24 @@ module _ (vertices : ℕ) (ends : ℕ → ℕ × ℕ) (root : ℕ) (tree : List 
 
   -- where no arc of the tree leaves the reached vertices, and they leave one out, the tree does not span
   pub stuck : (count : ℕ) (reached : List ℕ) → IsReached reached → length reached < vertices
-      → ((a : ℕ) → is_member a tree ≡ true → is_member (ends a).0 reached ≡ true → is_member (ends a).1 reached ≡ true)
-      → IsSpanningArborescence vertices count ends root tree → ⊥
+      → ((a : ℕ) → is_member a tree ≡ true → leaves ends reached a ≡ false) → IsSpanningArborescence vertices count ends root tree → ⊥
   stuck count reached r few closed s =
       let out = one_unreached reached r few in
       let to = s.reached out.0 out.1 in
-      both_ways _ out.2 (stays_inside reached to.along root out.0 (λ a m. closed a (to.inside.inside a m)) to.walk r.start)
+      both_ways _ out.2 (stays_inside reached to.along root out.0
+      (λ a m. stays (is_member (ends a).0 reached) (is_member (ends a).1 reached) (closed a (to.inside.inside a m))) to.walk r.start)
+
+-- a larger tree reaches as much
+pub IsReached-wider : (vertices : ℕ) (ends : ℕ → ℕ × ℕ) (root : ℕ) (tree larger reached : List ℕ) → IsSubset tree larger
+    → IsReached vertices ends root tree reached → IsReached vertices ends root larger reached
+IsReached-wider vertices ends root tree larger reached inside r = record {
+  set = r.set;
+  start = r.start;
+  reaches = λ v m. Reaches-subset ends tree larger root v inside (r.reaches v m);
+}
 
 -- ---- the search for an arc that leaves
 
-pub TellsLeaving-skip : (ends : ℕ → ℕ × ℕ) (tree reached : List ℕ) (i : ℕ) → i < length tree
-    → ((is_member (ends (get_or tree i 0)).0 reached ≡ false) ⊎ (is_member (ends (get_or tree i 0)).1 reached ≡ true))
+pub TellsLeaving-skip : (ends : ℕ → ℕ × ℕ) (tree reached : List ℕ) (i : ℕ) → i < length tree → leaves ends reached (get_or tree i 0) ≡ false
     → TellsLeaving ends (take i tree) reached None → TellsLeaving ends (take (i + 1) tree) reached None
-TellsLeaving-skip ends tree reached i l why before = λ a m tail.
-    elim (or_cases (is_member a (take i tree)) (eqb a (get_or tree i 0)) (sym (is_member-take_more tree i a l) ∙ m)) [
-      | inl old ↦ before a old tail
-      | inr new ↦ (let e = eqb-true a (get_or tree i 0) new in elim why [
-        | inl out ↦ absurd (both_ways _ out (ap (λ b. is_member (ends b).0 reached) (sym e) ∙ tail))
-        | inr inside ↦ ap (λ b. is_member (ends b).1 reached) e ∙ inside
-      ])
-    ]
+TellsLeaving-skip ends tree reached i l stays before = members_next (λ a. leaves ends reached a ≡ false) tree i l before stays

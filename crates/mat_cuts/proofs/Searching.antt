@@ -1,25 +1,24 @@
 -- The whole search: the path and the listed sets together, from the start to the end.
-use Rattle.std.proofs.Common.{◌≡◌, ◌≢◌, ℕ, zero, suc, ◌+◌, ◌*◌, ◌<◌, ◌≤◌, ◌^◌, ◌⊎◌, Bool, true, false, not, ◌&&◌, eqb, ltb, List, [], ◌∷◌, ◌++◌, length, inl, inr, refl, sym, ap, ◌∙◌, subst, arith, ℤ, pos, ◌+ℤ◌, ◌≤ℤ◌, ◌<ℤ◌, length-append, All, get_or}
+use Rattle.std.proofs.Common.{◌≡◌, ◌≢◌, ℕ, suc, ◌+◌, ◌*◌, ◌<◌, ◌≤◌, ◌⊎◌, true, false, not, ◌&&◌, eqb, ltb, List, [], ◌∷◌, ◌++◌, length, inl, inr, refl, sym, ap, ◌∙◌, subst, arith, ℤ, pos, ◌+ℤ◌, ◌≤ℤ◌, ◌<ℤ◌, length-append, All}
 use Rattle.std.proofs.lemmas.Bool.{and_from, and_parts, both_ways, cases_Bool, cases_eq, cases_lt, eq-eqb, eqb-true, false_from_ne_true, lt-ltb, ltb-true, ne_eqb}
 use Rattle.std.proofs.lemmas.Int.{ints}
 use Rattle.std.proofs.lemmas.List.Elements.{All-get_or}
-use Rattle.std.specs.List.{AllByRecursion}
 use Rattle.mat_sets.specs.Graphs.{ends_of, enters, IsGraph}
 use Rattle.mat_sets.specs.Search.{those_below}
 use Rattle.mat_sets.specs.Sets.{all_below, is_member, without_one, IsSet}
 use Rattle.mat_cuts.specs.Costs.{cost_at, IsCost}
 use Rattle.mat_sets.proofs.Cardinalities.{length-without_one}
-use Rattle.mat_sets.proofs.Ground.{below_member, is_member-all_below, length-all_below, IsRising-all_below, IsSet-all_below, IsSet-without_one}
+use Rattle.mat_sets.proofs.Ground.{is_member-all_below, length-all_below, IsRising-all_below, IsSet-all_below, IsSet-without_one}
 use Rattle.mat_sets.proofs.Members.{is_member-without_one}
 use Rattle.mat_sets.proofs.Search.{is_member-those_below, IsSet-those_below}
-use Rattle.mat_cuts.specs.Cuts.{weight_where, IsCut, IsRootFree, IsUnreached}
-use Rattle.mat_cuts.specs.Listing.{IsBegun, IsFollowed, IsListed, IsPaid, IsPushed}
+use Rattle.mat_cuts.specs.Cuts.{weight_where, IsRootFree, IsUnreached}
+use Rattle.mat_cuts.specs.Listing.{IsBegun, IsFollowed, IsPaid, IsSpent}
 use Rattle.mat_cuts.specs.declared.growing.Raised.{Raised}
 use Rattle.mat_cuts.specs.declared.joining.Path.{Path}
 use Rattle.mat_cuts.specs.Raising.{at, comes, falls, IsFirstTime, IsLeast, IsLowered, IsPath, IsRaised, Leads}
 use Rattle.mat_cuts.specs.declared.cut_weight.CutWeight.{CutWeight}
 use Rattle.mat_cuts.proofs.Bounds.{some_from_member}
-use Rattle.mat_cuts.proofs.Loops.{comes-parts, comes-yes}
+use Rattle.mat_cuts.proofs.Loops.{comes-parts}
 use Rattle.mat_cuts.proofs.Paths.{Leads-arc, Leads-itself, Leads-trans, IsPath-join, IsPath-later, IsPath-push}
 use Rattle.mat_cuts.proofs.Raises.{soon-later, IsLater-raise, IsRaised-raise}
 
@@ -27,15 +26,18 @@ use Rattle.mat_cuts.proofs.Raises.{soon-later, IsLater-raise, IsRaised-raise}
 pub last_set : ℕ → List ℕ → ℕ → List ℕ
 last_set vertices place last = those_below vertices (λ v. eqb (at place v) last)
 
-pub last_set-is : (vertices : ℕ) (place : List ℕ) (last : ℕ) → last_set vertices place last ≡ those_below vertices (λ v. eqb (at place v) last)
+pub last_set-is : (vertices : ℕ) (place : List ℕ) (last : ℕ)
+    → last_set vertices place last ≡ those_below vertices (λ v. eqb (at place v) last)
 unfolding last_set
 last_set-is vertices place last = refl
 
-pub last_set-from : (vertices : ℕ) (place : List ℕ) (last v : ℕ) → v < vertices → at place v ≡ last → is_member v (last_set vertices place last) ≡ true
+pub last_set-from : (vertices : ℕ) (place : List ℕ) (last v : ℕ) → v < vertices → at place v ≡ last
+    → is_member v (last_set vertices place last) ≡ true
 unfolding last_set
 last_set-from vertices place last v l e = is_member-those_below v vertices (λ v. eqb (at place v) last) ∙ and_from _ _ (lt-ltb v vertices l) (eq-eqb _ _ e)
 
-pub last_set-gives : (vertices : ℕ) (place : List ℕ) (last v : ℕ) → is_member v (last_set vertices place last) ≡ true → (v < vertices) × (at place v ≡ last)
+pub last_set-gives : (vertices : ℕ) (place : List ℕ) (last v : ℕ) → is_member v (last_set vertices place last) ≡ true
+    → (v < vertices) × (at place v ≡ last)
 unfolding last_set
 last_set-gives vertices place last v m =
     let p = and_parts (ltb v vertices) (eqb (at place v) last) (sym (is_member-those_below v vertices (λ v. eqb (at place v) last)) ∙ m) in
@@ -45,14 +47,16 @@ last_set-not : (vertices : ℕ) (place : List ℕ) (last v : ℕ) → (at place 
 last_set-not vertices place last v n = false_from_ne_true _ (λ m. n (last_set-gives vertices place last v m).1)
 
 -- the path and the listed sets, and how many more can be listed
-pub record IsSearching (vertices : ℕ) (arcs : List (ℕ × ℕ)) (costs : List ℤ) (root : ℕ) (reduced : List ℤ) (since : List ℕ) (cuts : List CutWeight) (place fresh : List ℕ) (last : ℕ) : Type 0 where
+pub record IsSearching (vertices : ℕ) (arcs : List (ℕ × ℕ)) (costs : List ℤ) (root : ℕ)
+    (reduced : List ℤ) (since : List ℕ) (cuts : List CutWeight) (place fresh : List ℕ) (last : ℕ) : Type 0 where
   pub path : IsPath vertices arcs root since (length cuts) place fresh last
   pub raised : IsRaised vertices arcs costs root reduced since cuts
   pub fuel : 2 * length fresh + last + length cuts ≤ 2 * vertices
 
 module _ (vertices : ℕ) (arcs : List (ℕ × ℕ)) (graph : IsGraph vertices arcs) where
   -- an arc enters the last set exactly where it comes to the last place
-  comes-enters : (place : List ℕ) (last a : ℕ) → a < length arcs → comes (ends_of arcs) place last a ≡ enters (ends_of arcs) (last_set vertices place last) a
+  comes-enters : (place : List ℕ) (last a : ℕ) → a < length arcs
+      → comes (ends_of arcs) place last a ≡ enters (ends_of arcs) (last_set vertices place last) a
   comes-enters place last a l = ap (λ b. b && not (eqb (at place (ends_of arcs a).0) last)) (member (ends_of arcs a).1 (graph.second a l))
       ∙ ap (λ b. is_member (ends_of arcs a).1 (last_set vertices place last) && not b) (member (ends_of arcs a).0 (graph.first a l))
     where
@@ -98,7 +102,8 @@ module _ (vertices : ℕ) (arcs : List (ℕ × ℕ)) (graph : IsGraph vertices a
         each = tt;
         nested = tt;
       };
-      fuel = (let e = ap length ef in let k = length-without_one (all_below vertices) root (IsRising-all_below vertices) (is_member-all_below root vertices ∙ lt-ltb root vertices below) in
+      fuel = (let e = ap length ef in
+          let k = length-without_one (all_below vertices) root (IsRising-all_below vertices) (is_member-all_below root vertices ∙ lt-ltb root vertices below) in
           omega (arith, length-all_below vertices));
     }
       where
@@ -124,7 +129,8 @@ module _ (vertices : ℕ) (arcs : List (ℕ × ℕ)) (graph : IsGraph vertices a
     -- ---- the last set
 
     root_free : (reduced : List ℤ) (since : List ℕ) (cuts : List CutWeight) (place fresh : List ℕ) (last : ℕ)
-        → IsSearching vertices arcs costs root reduced since cuts place fresh last → 0 < last → IsRootFree vertices root (last_set vertices place last)
+        → IsSearching vertices arcs costs root reduced since cuts place fresh last → 0 < last
+        → IsRootFree vertices root (last_set vertices place last)
     unfolding last_set
     root_free reduced since cuts place fresh last s some = (let w = s.path.some some in record {
       set = IsSet-those_below vertices (λ v. eqb (at place v) last);
@@ -134,7 +140,8 @@ module _ (vertices : ℕ) (arcs : List (ℕ × ℕ)) (graph : IsGraph vertices a
 
     -- no arc enters it
     pub IsSearching-unreached : (reduced : List ℤ) (since : List ℕ) (cuts : List CutWeight) (place fresh : List ℕ) (last : ℕ)
-        → IsSearching vertices arcs costs root reduced since cuts place fresh last → 0 < last → ((b : ℕ) → b < length arcs → comes (ends_of arcs) place last b ≡ false)
+        → IsSearching vertices arcs costs root reduced since cuts place fresh last → 0 < last
+        → ((b : ℕ) → b < length arcs → comes (ends_of arcs) place last b ≡ false)
         → IsUnreached vertices arcs root (last_set vertices place last)
     IsSearching-unreached reduced since cuts place fresh last s some none = record {
       root_free = root_free reduced since cuts place fresh last s some;
@@ -143,7 +150,8 @@ module _ (vertices : ℕ) (arcs : List (ℕ × ℕ)) (graph : IsGraph vertices a
 
     -- it is listed; then the least arc that enters it is spent
     pub IsSearching-raise : (reduced left : List ℤ) (since later : List ℕ) (cuts : List CutWeight) (c : CutWeight) (place fresh : List ℕ) (last a : ℕ)
-        → IsSearching vertices arcs costs root reduced since cuts place fresh last → 0 < last → length cuts + 1 < 1000000 → 2 * length fresh + last + suc (length cuts) ≤ 2 * vertices
+        → IsSearching vertices arcs costs root reduced since cuts place fresh last → 0 < last → length cuts + 1 < 1000000
+        → 2 * length fresh + last + suc (length cuts) ≤ 2 * vertices
         → IsLeast (length arcs) (comes (ends_of arcs) place last) reduced a → pos 0 <ℤ cost_at reduced a → c.weight ≡ cost_at reduced a
         → c.set ≡ last_set vertices place last
         → IsLowered (length arcs) (comes (ends_of arcs) place last) c.weight (suc (length cuts)) reduced left since later
@@ -151,14 +159,17 @@ module _ (vertices : ℕ) (arcs : List (ℕ × ℕ)) (graph : IsGraph vertices a
     IsSearching-raise reduced left since later cuts c place fresh last a s some few room least more ew es l =
         let ends = ends_of arcs in
         let count = length arcs in
-        let same : (b : ℕ) → b < count → comes ends place last b ≡ enters ends c.set b = λ b lb. comes-enters place last b lb ∙ ap (λ k. enters ends k b) (sym es) in
+        let same : (b : ℕ) → b < count → comes ends place last b ≡ enters ends c.set b =
+        λ b lb. comes-enters place last b lb ∙ ap (λ k. enters ends k b) (sym es) in
         let lowered : IsLowered count (enters ends c.set) c.weight (suc (length cuts)) reduced left since later = record {
           left_long = l.left_long;
           later_long = l.later_long;
           left_is = λ b lb. subst (λ t. cost_at reduced b ≡ cost_at left b +ℤ weight_where t c.weight) (same b lb) (l.left_is b lb);
-          later_is = λ b lb. subst (λ t. ((at later b ≡ at since b) × (t ≡ true → cost_at left b ≢ pos 0)) ⊎ ((at later b ≡ suc (length cuts)) × ((t ≡ true) × (cost_at left b ≡ pos 0)))) (same b lb) (l.later_is b lb);
+          later_is = λ b lb. subst (λ t. ((at later b ≡ at since b) × (t ≡ true → cost_at left b ≢ pos 0))
+              ⊎ ((at later b ≡ suc (length cuts)) × ((t ≡ true) × (cost_at left b ≡ pos 0)))) (same b lb) (l.later_is b lb);
         } in
-        let all : (b : ℕ) → b < count → enters ends c.set b ≡ true → c.weight ≤ℤ cost_at reduced b = λ b lb e. (let k = least.least b lb (same b lb ∙ e) in omega (arith, ints)) in
+        let all : (b : ℕ) → b < count → enters ends c.set b ≡ true → c.weight ≤ℤ cost_at reduced b =
+        λ b lb e. (let k = least.least b lb (same b lb ∙ e) in omega (arith, ints)) in
         let positive : pos 0 <ℤ c.weight = omega (arith, ints) in
         let longer : length (cuts ++ c ∷ []) ≡ suc (length cuts) = length-append cuts (c ∷ []) ∙ omega arith in
         let free = subst (IsRootFree vertices root) (sym es) (root_free reduced since cuts place fresh last s some) in
@@ -169,7 +180,8 @@ module _ (vertices : ℕ) (arcs : List (ℕ × ℕ)) (graph : IsGraph vertices a
         s.path.joined x y px.0 py.0 (omega arith) (omega arith) (omega arith)) in
         let next = IsRaised-raise vertices arcs costs root reduced left since later cuts c s.raised few positive free joined all lowered in
         let changes = IsLater-raise vertices arcs costs root reduced left since later cuts c.set c.weight s.raised (omega arith) positive all lowered in
-        let spent : cost_at left a ≡ pos 0 = (let e = l.left_is a least.below in let w : weight_where (comes ends place last a) c.weight ≡ c.weight = rw least.passes in omega (arith, ints)) in (
+        let spent : cost_at left a ≡ pos 0 =
+        (let e = l.left_is a least.below in let w : weight_where (comes ends place last a) c.weight ≡ c.weight = rw least.passes in omega (arith, ints)) in (
           record {
             path = IsPath-later vertices arcs root since (length cuts) later (length (cuts ++ c ∷ [])) place fresh last
                 (λ b lb e. let k = soon-later count ends since later (length cuts) changes b lb e in omega arith) s.path;
@@ -182,7 +194,8 @@ module _ (vertices : ℕ) (arcs : List (ℕ × ℕ)) (graph : IsGraph vertices a
     -- ---- the arc is followed back
 
     pub IsSearching-push : (reduced : List ℤ) (since : List ℕ) (cuts : List CutWeight) (place next fresh : List ℕ) (last a : ℕ)
-        → IsSearching vertices arcs costs root reduced since cuts place fresh last → last + 1 < 1000000 → a < length arcs → comes (ends_of arcs) place last a ≡ true → at since a ≤ length cuts
+        → IsSearching vertices arcs costs root reduced since cuts place fresh last → last + 1 < 1000000 → a < length arcs
+        → comes (ends_of arcs) place last a ≡ true → at since a ≤ length cuts
         → at place (ends_of arcs a).0 ≡ 1000000 → length next ≡ length place → at next (ends_of arcs a).0 ≡ last + 1
         → ((w : ℕ) → w ≢ (ends_of arcs a).0 → at next w ≡ at place w)
         → IsSearching vertices arcs costs root reduced since cuts next (without_one fresh (ends_of arcs a).0) (last + 1)
@@ -205,7 +218,8 @@ module _ (vertices : ℕ) (arcs : List (ℕ × ℕ)) (graph : IsGraph vertices a
         }
 
     pub IsSearching-join : (reduced : List ℤ) (since : List ℕ) (cuts : List CutWeight) (place next fresh : List ℕ) (last a : ℕ)
-        → IsSearching vertices arcs costs root reduced since cuts place fresh last → last < 1000000 → a < length arcs → comes (ends_of arcs) place last a ≡ true → at since a ≤ length cuts
+        → IsSearching vertices arcs costs root reduced since cuts place fresh last → last < 1000000 → a < length arcs
+        → comes (ends_of arcs) place last a ≡ true → at since a ≤ length cuts
         → (at place (ends_of arcs a).0 ≡ 1000000 → ⊥) → length next ≡ length place
         → ((w : ℕ) → at next w ≡ falls (at place (ends_of arcs a).0) last (at place w))
         → IsSearching vertices arcs costs root reduced since cuts next fresh (at place (ends_of arcs a).0) × (at place (ends_of arcs a).0 < last)
@@ -228,7 +242,8 @@ module _ (vertices : ℕ) (arcs : List (ℕ × ℕ)) (graph : IsGraph vertices a
     -- ---- the end
 
     pub IsSearching-end : (reduced : List ℤ) (since : List ℕ) (cuts : List CutWeight) (place fresh : List ℕ)
-        → IsSearching vertices arcs costs root reduced since cuts place fresh 0 → fresh ≡ [] → (v : ℕ) → v < vertices → Leads (length arcs) (ends_of arcs) since (length cuts) root v
+        → IsSearching vertices arcs costs root reduced since cuts place fresh 0 → fresh ≡ [] → (v : ℕ) → v < vertices
+        → Leads (length arcs) (ends_of arcs) since (length cuts) root v
     IsSearching-end reduced since cuts place fresh s none v l =
         let k = s.path.seen v l (ap (is_member v) none) in s.path.rooted v l (omega arith)
 
@@ -258,9 +273,11 @@ module _ (vertices : ℕ) (arcs : List (ℕ × ℕ)) (graph : IsGraph vertices a
         )
 
     pub IsSearching-paid : (before after : Raised) (place fresh : List ℕ) (last a : ℕ)
-        → IsSearching vertices arcs costs root before.reduced.items before.since.items before.cuts.items place fresh last → 0 < last → length before.cuts.items + 1 < 1000000
+        → IsSearching vertices arcs costs root before.reduced.items before.since.items before.cuts.items place fresh last → 0 < last
+        → length before.cuts.items + 1 < 1000000
         → 2 * length fresh + last + suc (length before.cuts.items) ≤ 2 * vertices
-        → IsLeast (length arcs) (comes (ends_of arcs) place last) before.reduced.items a → IsPaid arcs place last a before after
+        → IsLeast (length arcs) (comes (ends_of arcs) place last) before.reduced.items a
+        → IsPaid (comes (ends_of arcs) place last) place last a before after
         → IsSearching vertices arcs costs root after.reduced.items after.since.items after.cuts.items place fresh last × (at after.since.items a ≤ length after.cuts.items)
         × (length after.cuts.items ≤ suc (length before.cuts.items))
     IsSearching-paid before after place fresh last a s some few room least (inl h) =
@@ -274,8 +291,12 @@ module _ (vertices : ℕ) (arcs : List (ℕ × ℕ)) (graph : IsGraph vertices a
     IsSearching-paid before after place fresh last a s some few room least (inr h) =
         let l = h.1 in
         let set_is = l.set_is ∙ ap (λ n. those_below n (λ v. eqb (at place v) last)) s.path.long ∙ sym (last_set-is vertices place last) in
-        let lowered = subst (λ w. IsLowered (length arcs) (comes (ends_of arcs) place last) w (suc (length before.cuts.items)) before.reduced.items after.reduced.items before.since.items after.since.items)
-        (sym l.weight_is) l.lowered in
+        let lowered = subst (λ w. IsLowered (length arcs) (comes (ends_of arcs) place last) w (suc (length before.cuts.items))
+        before.reduced.items after.reduced.items before.since.items after.since.items)
+        (sym l.weight_is)
+        (subst (λ n. IsLowered n (comes (ends_of arcs) place last) (cost_at before.reduced.items a) (suc (length before.cuts.items))
+        before.reduced.items after.reduced.items before.since.items after.since.items)
+        s.raised.reduced_long l.lowered) in
         let n = IsSearching-raise before.reduced.items after.reduced.items before.since.items after.since.items before.cuts.items l.cut place fresh last a
         s some few room least h.0 l.weight_is set_is lowered in (
           subst (λ c. IsSearching vertices arcs costs root after.reduced.items after.since.items c place fresh last) (sym l.cuts) n.0,
@@ -284,7 +305,8 @@ module _ (vertices : ℕ) (arcs : List (ℕ × ℕ)) (graph : IsGraph vertices a
         )
 
     pub IsSearching-followed : (reduced : List ℤ) (since : List ℕ) (cuts : List CutWeight) (before after : Path) (a : ℕ)
-        → IsSearching vertices arcs costs root reduced since cuts before.place.items before.fresh before.last → before.last + 1 < 1000000 → a < length arcs
+        → IsSearching vertices arcs costs root reduced since cuts before.place.items before.fresh before.last → before.last + 1 < 1000000
+        → a < length arcs
         → comes (ends_of arcs) before.place.items before.last a ≡ true → at since a ≤ length cuts
         → IsFollowed (ends_of arcs a).0 before after
         → IsSearching vertices arcs costs root reduced since cuts after.place.items after.fresh after.last
@@ -307,3 +329,21 @@ module _ (vertices : ℕ) (arcs : List (ℕ × ℕ)) (graph : IsGraph vertices a
               (subst (λ f. IsSearching vertices arcs costs root reduced since cuts after.place.items f (at before.place.items (ends_of arcs a).0)) (sym q.fresh) n.0),
           (let f = ap length q.fresh in let l = q.last in let k = n.1 in omega arith),
         )
+
+    -- a path begins where there is none, the last set is paid for, and its arc is followed back
+    pub IsSearching-turn : (before after : Raised) (start begun next : Path) (a : ℕ) → vertices ≤ 2000
+        → IsSearching vertices arcs costs root before.reduced.items before.since.items before.cuts.items start.place.items start.fresh start.last
+        → 2 * length start.fresh + start.last + length before.cuts.items + 1 ≤ 2 * vertices
+        → IsBegun start begun true → IsSpent arcs begun.place.items begun.last before after a → IsFollowed (ends_of arcs a).0 begun next
+        → IsSearching vertices arcs costs root after.reduced.items after.since.items after.cuts.items next.place.items next.fresh next.last
+        × (2 * length next.fresh + next.last + length after.cuts.items + 1 ≤ 2 * vertices)
+        × (2 * length next.fresh + next.last < 2 * length start.fresh + start.last)
+    IsSearching-turn before after start begun next a small s spare b spent f =
+        let begins = IsSearching-begun before.reduced.items before.since.items before.cuts.items start begun s b in
+        let less = begins.2 in
+        let paid = IsSearching-paid before after begun.place.items begun.fresh begun.last a begins.0 begins.1 (omega arith) (omega arith) spent.least spent.paid in
+        let more = paid.2 in
+        let followed = IsSearching-followed after.reduced.items after.since.items after.cuts.items begun next a paid.0 (omega arith)
+        spent.least.below spent.least.passes paid.1 f in
+        let lower = followed.1 in
+        (followed.0, omega arith, omega arith)

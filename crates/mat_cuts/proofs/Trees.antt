@@ -1,24 +1,26 @@
 -- The second phase: a tree grows from the root, by the arc with the earliest time among those that leave the reached vertices. It enters each
 -- listed set once: an arc that enters a listed set of which a vertex is reached already has a later time than those arcs by which the
 -- set was joined, so one of these would have been taken. So the cost of the tree is always the weight of the listed sets that it has met.
-use Rattle.std.proofs.Common.{if◌then◌else◌, ◌≡◌, ◌≢◌, ℕ, zero, suc, ◌+◌, ◌<◌, ◌≤◌, ◌⊎◌, Bool, true, false, not, ◌&&◌, ◌||◌, eqb, ltb, List, [], ◌∷◌, length, inl, inr, refl, sym, ap, ◌∙◌, subst, arith, ℤ, pos, ◌+ℤ◌, ◌≤ℤ◌}
+use Rattle.std.proofs.Common.{◌≡◌, ℕ, suc, ◌+◌, ◌<◌, ◌≤◌, Bool, true, false, not, ◌&&◌, ◌||◌, eqb, List, [], ◌∷◌, length, inl, inr, refl, sym, ap, ◌∙◌, subst, arith, ℤ, pos, ◌+ℤ◌}
 use Rattle.std.proofs.lemmas.Bool.{and_from, and_parts, both_ways, cases_Bool, cases_lt, eqb-true, eq-eqb, false_from_ne_true, false≢true, lt-ltb, ltb-true, or_cases, or_left, or_right}
 use Rattle.std.proofs.lemmas.Bool.Decides.{nat_tests}
 use Rattle.std.proofs.lemmas.Int.{ints}
 use Rattle.std.specs.List.{AllByRecursion}
-use Rattle.mat_sets.specs.Graphs.{ends_of, enters, IsGraph, IsSpanningArborescence, Reaches}
-use Rattle.mat_sets.specs.Sets.{all_below, is_member, with_one, IsSet}
-use Rattle.mat_sets.specs.Sums.{sum_of}
+use Rattle.mat_sets.specs.Graphs.{ends_of, enters, IsGraph, IsSpanningArborescence}
+use Rattle.mat_sets.specs.Search.{those_below}
+use Rattle.mat_sets.specs.Sets.{is_member, with_one, IsSet}
 use Rattle.mat_cuts.specs.Costs.{cost_at, cost_of}
 use Rattle.mat_sets.proofs.Cardinalities.{length-with_one, sum_of-with_one}
-use Rattle.mat_sets.proofs.Ground.{below_member, is_member-all_below, length-all_below, IsRising-all_below, IsSet-nil, IsSet-with_one, IsSubset-all_below}
+use Rattle.mat_sets.proofs.Ground.{below_member, IsSet-nil, IsSet-with_one}
 use Rattle.mat_sets.proofs.Members.{is_member-head, is_member-with_one}
-use Rattle.mat_sets.proofs.Subsets.{larger_has, same_size_subset, IsSubset-with_one}
-use Rattle.mat_sets.proofs.Walking.{Reaches-arc, Reaches-itself, Reaches-subset, Reaches-trans}
+use Rattle.mat_sets.proofs.Subsets.{IsSubset-with_one}
 use Rattle.mat_cuts.specs.Cuts.{all_weight, weight_on, weight_where, IsCut}
-use Rattle.mat_cuts.specs.Raising.{at, AreNested, IsEarliest, IsNested, IsRaised, Leads}
+use Rattle.mat_cuts.specs.Growing.{is_timed, leaves, IsEarliest}
+use Rattle.mat_cuts.specs.Raising.{at, AreNested, IsNested, IsRaised, Leads}
 use Rattle.mat_cuts.specs.declared.cut_weight.CutWeight.{CutWeight}
 use Rattle.mat_cuts.proofs.Bounds.{member_from_some}
+use Rattle.mat_cuts.proofs.Reached.{all_reached, one_unreached, reached_spans, root_alone, IsReached, IsReached-more, IsReached-start, IsReached-wider}
+use Rattle.mat_cuts.proofs.Loops.{stays, those-is, those-passes, those-set}
 
 -- ---- the listed sets that are met
 
@@ -48,7 +50,8 @@ met_weight [] reached = pos 0
 met_weight (c ∷ cuts) reached = weight_where (meets c.set reached) c.weight +ℤ met_weight cuts reached
 
 -- none is met at the root
-met_weight-start : (vertices root : ℕ) (cuts : List CutWeight) → AllByRecursion (IsCut vertices root) cuts → met_weight cuts (root ∷ []) ≡ pos 0
+met_weight-start : (vertices root : ℕ) (cuts : List CutWeight) → AllByRecursion (IsCut vertices root) cuts
+    → met_weight cuts (root ∷ []) ≡ pos 0
 unfolding met_weight
 met_weight-start vertices root [] each = refl
 met_weight-start vertices root (c ∷ cuts) each =
@@ -71,7 +74,32 @@ met_weight-end vertices root (c ∷ cuts) reached each all =
     let here : weight_where (meets c.set reached) c.weight ≡ c.weight = rw met in
     omega (arith, ints, met_weight-end vertices root cuts reached each.1 all)
 
-module _ (count : ℕ) (ends : ℕ → ℕ × ℕ) (since reached : List ℕ) (a : ℕ) (e : IsEarliest count ends since reached a) where
+-- an arc with the earliest time among the arcs that leave the reached vertices
+pub record LeavesFirst (count : ℕ) (ends : ℕ → ℕ × ℕ) (since reached : List ℕ) (a : ℕ) : Type 0 where
+  pub below : a < count
+  pub timed : at since a < 1000000
+  pub tail : is_member (ends a).0 reached ≡ true
+  pub head : is_member (ends a).1 reached ≡ false
+  pub first : (b : ℕ) → b < count → is_member (ends b).0 reached ≡ true → is_member (ends b).1 reached ≡ false → at since a ≤ at since b
+
+-- the earliest of the timed arcs
+LeavesFirst-earliest : (count : ℕ) (ends : ℕ → ℕ × ℕ) (since reached timed : List ℕ) (a : ℕ) → timed ≡ those_below count (is_timed since)
+    → IsEarliest ends since timed reached a → LeavesFirst count ends since reached a
+LeavesFirst-earliest count ends since reached timed a those e =
+    let parts = and_parts (is_member (ends a).0 reached) (not (is_member (ends a).1 reached)) e.leaving in
+    let early = ltb-true (at since a) 1000000 (those-passes count (is_timed since) timed those a e.member) in
+    record {
+      below = below_member (those-set count (is_timed since) timed those) e.member;
+      timed = early;
+      tail = parts.0;
+      head = false_from_ne_true _ (λ inside. both_ways _ (ap not inside) parts.1);
+      first = λ b l tail head. elim (cases_lt (at since b) 1000000) [
+        | inl has ↦ e.first b (those-is count (is_timed since) timed those b l ∙ lt-ltb (at since b) 1000000 has) (and_from _ _ tail (ap not head))
+        | inr never ↦ omega arith
+      ];
+    }
+
+module _ (count : ℕ) (ends : ℕ → ℕ × ℕ) (since reached : List ℕ) (a : ℕ) (e : LeavesFirst count ends since reached a) where
   -- an earliest arc enters no listed set that is met already
   enters_unmet : (i : ℕ) (part : List ℕ) → IsNested count ends since i part → enters ends part a ≡ true → meets part reached ≡ false
   enters_unmet i part n comes = false_from_ne_true _ (λ met.
@@ -86,8 +114,10 @@ module _ (count : ℕ) (ends : ℕ → ℕ × ℕ) (since reached : List ℕ) (a
   meets-with : (part : List ℕ) (h : ℕ) → meets part (with_one reached h) ≡ (is_member h part || meets part reached)
   unfolding meets
   meets-with [] h = refl
-  meets-with (x ∷ part) h = ap (λ b. b || meets part (with_one reached h)) (is_member-with_one x h reached) ∙ ap (λ b. (eqb x h || is_member x reached) || b) (meets-with part h)
-      ∙ ap (λ b. (b || is_member x reached) || (is_member h part || meets part reached)) (turn x h) ∙ swap (eqb h x) (is_member x reached) (is_member h part) (meets part reached)
+  meets-with (x ∷ part) h = ap (λ b. b || meets part (with_one reached h)) (is_member-with_one x h reached)
+      ∙ ap (λ b. (eqb x h || is_member x reached) || b) (meets-with part h)
+      ∙ ap (λ b. (b || is_member x reached) || (is_member h part || meets part reached)) (turn x h)
+      ∙ swap (eqb h x) (is_member x reached) (is_member h part) (meets part reached)
     where
       swap : (p q r s : Bool) → ((p || q) || (r || s)) ≡ ((p || r) || (q || s))
       swap true q r s = refl
@@ -122,48 +152,34 @@ module _ (vertices : ℕ) (arcs : List (ℕ × ℕ)) (costs : List ℤ) (root : 
   -- a part of an arborescence that costs as much as the sets that it meets weigh
   pub record IsGrowing (reached tree : List ℕ) : Type 0 where
     pub tree_set : IsSet (length arcs) tree
-    pub reached_set : IsSet vertices reached
-    pub start : is_member root reached ≡ true
+    pub reaching : IsReached vertices (ends_of arcs) root tree reached
     pub size : suc (length tree) ≡ length reached
-    pub reaches : (v : ℕ) → is_member v reached ≡ true → Reaches (ends_of arcs) tree root v
     pub heads : (a : ℕ) → is_member a tree ≡ true → is_member (ends_of arcs a).1 reached ≡ true
     pub cost : cost_of costs tree ≡ met_weight cuts reached
-
-  is_one : (x y : ℕ) → is_member x (y ∷ []) ≡ true → x ≡ y
-  is_one x y m = elim (or_cases (eqb x y) false m) [ inl e ↦ eqb-true x y e | inr n ↦ absurd (false≢true n) ]
 
   pub IsGrowing-start : root < vertices → AllByRecursion (IsCut vertices root) cuts → IsGrowing (root ∷ []) []
   IsGrowing-start below each = record {
     tree_set = IsSet-nil (length arcs);
-    reached_set = record { rising = record { rises = (omega arith, tt) }; below = (below, tt) };
-    start = or_left (eqb root root) false (eq-eqb root root refl);
+    reaching = IsReached-start vertices (ends_of arcs) root [] below;
     size = refl;
-    reaches = λ v h. subst (Reaches (ends_of arcs) [] root) (sym (is_one v root h)) (Reaches-itself (ends_of arcs) [] root);
     heads = λ a m. absurd (false≢true m);
     cost = sym (met_weight-start vertices root cuts each);
   }
 
   pub IsGrowing-take : (reduced : List ℤ) (since reached tree : List ℕ) (a : ℕ) → IsRaised vertices arcs costs root reduced since cuts
-      → (ends_of arcs a).1 < vertices → IsEarliest (length arcs) (ends_of arcs) since reached a → IsGrowing reached tree
+      → (ends_of arcs a).1 < vertices → LeavesFirst (length arcs) (ends_of arcs) since reached a → IsGrowing reached tree
       → IsGrowing (with_one reached (ends_of arcs a).1) (with_one tree a)
   IsGrowing-take reduced since reached tree a r below e g =
       let ends = ends_of arcs in
       let head = (ends a).1 in
       let fresh : is_member a tree ≡ false = false_from_ne_true _ (λ m. both_ways _ e.head (g.heads a m)) in
-      let wider = IsSubset-with_one tree a in
-      let along : Reaches ends (with_one tree a) root head = Reaches-trans ends (with_one tree a) root (ends a).0 head
-      (Reaches-subset ends tree (with_one tree a) root (ends a).0 wider (g.reaches (ends a).0 e.tail))
-      (Reaches-arc ends (with_one tree a) a (is_member-with_one a a tree ∙ or_left (eqb a a) _ (eq-eqb a a refl))) in
       let spent = r.spent a e.below e.timed in
       record {
         tree_set = IsSet-with_one (length arcs) tree a g.tree_set e.below;
-        reached_set = IsSet-with_one vertices reached head g.reached_set below;
-        start = is_member-with_one root head reached ∙ or_right (eqb root head) _ g.start;
-        size = ap suc (length-with_one tree a g.tree_set.rising fresh) ∙ ap suc g.size ∙ sym (length-with_one reached head g.reached_set.rising e.head);
-        reaches = λ v h. elim (or_cases (eqb v head) (is_member v reached) (sym (is_member-with_one v head reached) ∙ h)) [
-          | inl same ↦ subst (Reaches ends (with_one tree a) root) (sym (eqb-true v head same)) along
-          | inr old ↦ Reaches-subset ends tree (with_one tree a) root v wider (g.reaches v old)
-        ];
+        reaching = IsReached-more vertices ends root (with_one tree a) reached a
+            (IsReached-wider vertices ends root tree (with_one tree a) reached (IsSubset-with_one tree a) g.reaching) below
+            (record { member = is_member-with_one a a tree ∙ or_left (eqb a a) _ (eq-eqb a a refl); leaving = and_from _ _ e.tail (ap not e.head) });
+        size = ap suc (length-with_one tree a g.tree_set.rising fresh) ∙ ap suc g.size ∙ sym (length-with_one reached head g.reaching.set.rising e.head);
         heads = λ b m. is_member-with_one (ends b).1 head reached ∙ elim (or_cases (eqb b a) (is_member b tree) (sym (is_member-with_one b a tree) ∙ m)) [
           | inl same ↦ or_left (eqb (ends b).1 head) _ (eq-eqb (ends b).1 head (ap (λ z. (ends z).1) (eqb-true b a same)))
           | inr old ↦ or_right (eqb (ends b).1 head) _ (g.heads b old)
@@ -180,44 +196,45 @@ module _ (vertices : ℕ) (arcs : List (ℕ × ℕ)) (costs : List ℤ) (root : 
       }
 
   -- while a vertex is not reached, some arc with a time leaves the reached ones
-  pub some_leaves : (since reached tree : List ℕ) (now : ℕ) → now < 1000000
-      → ((v : ℕ) → v < vertices → Leads (length arcs) (ends_of arcs) since now root v) → IsGrowing reached tree → suc (length tree) < vertices
-      → ((b : ℕ) → b < length arcs → at since b < 1000000 → is_member (ends_of arcs b).0 reached ≡ true → is_member (ends_of arcs b).1 reached ≡ true) → ⊥
-  some_leaves since reached tree now small leads g short closed =
-      let w = larger_has reached (all_below vertices) g.reached_set.rising (IsRising-all_below vertices) (omega (arith, length-all_below vertices, g.size)) in
-      both_ways _ w.2 ((leads w.0 (ltb-true w.0 vertices (sym (is_member-all_below w.0 vertices) ∙ w.1))).to (λ v. is_member v reached)
-      (λ b lb early tail. closed b lb (omega arith) tail) g.start)
-
-  full : (reached tree : List ℕ) → IsGrowing reached tree → suc (length tree) ≡ vertices → (v : ℕ) → v < vertices → is_member v reached ≡ true
-  full reached tree g long v l =
-      let all = same_size_subset reached (all_below vertices) g.reached_set.rising (IsRising-all_below vertices)
-      (IsSubset-all_below vertices reached g.reached_set.below) (omega (arith, length-all_below vertices, g.size)) in
-      ap (is_member v) all ∙ is_member-all_below v vertices ∙ lt-ltb v vertices l
+  pub some_leaves : (since timed reached tree : List ℕ) (now : ℕ) → now < 1000000 → timed ≡ those_below (length arcs) (is_timed since)
+      → ((v : ℕ) → v < vertices → Leads (length arcs) (ends_of arcs) since now root v) → IsGrowing reached tree
+      → suc (length tree) < vertices
+      → ((b : ℕ) → is_member b timed ≡ true → leaves (ends_of arcs) reached b ≡ false) → ⊥
+  some_leaves since timed reached tree now small those leads g short closed =
+      let out = one_unreached vertices (ends_of arcs) root tree reached g.reaching (let size = g.size in omega arith) in
+      both_ways _ out.2 ((leads out.0 out.1).to (λ v. is_member v reached)
+      (λ b lb early. stays (is_member (ends_of arcs b).0 reached) (is_member (ends_of arcs b).1 reached)
+      (closed b (those-is (length arcs) (is_timed since) timed those b lb ∙ lt-ltb (at since b) 1000000 (omega arith)))) g.reaching.start)
 
   pub IsGrowing-spans : (reached tree : List ℕ) → IsGrowing reached tree → suc (length tree) ≡ vertices
       → IsSpanningArborescence vertices (length arcs) (ends_of arcs) root tree
-  IsGrowing-spans reached tree g long = record { set = g.tree_set; size = long; reached = λ v l. g.reaches v (full reached tree g long v l) }
+  IsGrowing-spans reached tree g long =
+      reached_spans vertices (ends_of arcs) root tree (length arcs) reached g.reaching (sym g.size ∙ long) g.tree_set long
 
-  pub IsGrowing-cost : (reached tree : List ℕ) → AllByRecursion (IsCut vertices root) cuts → IsGrowing reached tree → suc (length tree) ≡ vertices
+  pub IsGrowing-cost : (reached tree : List ℕ) → AllByRecursion (IsCut vertices root) cuts → IsGrowing reached tree
+      → suc (length tree) ≡ vertices
       → all_weight cuts ≡ cost_of costs tree
-  IsGrowing-cost reached tree each g long = sym (g.cost ∙ met_weight-end vertices root cuts reached each (full reached tree g long))
+  IsGrowing-cost reached tree each g long = sym (g.cost ∙ met_weight-end vertices root cuts reached each
+      (all_reached vertices (ends_of arcs) root tree reached g.reaching (sym g.size ∙ long)))
 
   -- ---- the loop
 
   pub IsGrowing-first : (none reached tree : List ℕ) → none ≡ [] → reached ≡ with_one none root → tree ≡ [] → root < vertices
       → AllByRecursion (IsCut vertices root) cuts → IsGrowing reached tree
-  unfolding with_one
   IsGrowing-first none reached tree en er et below each =
-      subst (λ t. IsGrowing reached t) (sym et) (subst (λ r. IsGrowing r []) (sym (er ∙ ap (λ s. with_one s root) en)) (IsGrowing-start below each))
+      let alone = root_alone root none reached en er in
+      subst (λ t. IsGrowing reached t) (sym et) (subst (λ r. IsGrowing r []) (sym alone) (IsGrowing-start below each))
 
-  pub IsGrowing-next : (reduced : List ℤ) (since lent reached tree more longer : List ℕ) (a : ℕ) → lent ≡ since
-      → IsRaised vertices arcs costs root reduced since cuts → IsGraph vertices arcs → IsEarliest (length arcs) (ends_of arcs) lent reached a
+  pub IsGrowing-next : (reduced : List ℤ) (since lent timed reached tree more longer : List ℕ) (a : ℕ) → lent ≡ since
+      → timed ≡ those_below (length arcs) (is_timed since)
+      → IsRaised vertices arcs costs root reduced since cuts → IsGraph vertices arcs → IsEarliest (ends_of arcs) lent timed reached a
       → IsGrowing reached tree → more ≡ with_one reached (ends_of arcs a).1 → longer ≡ with_one tree a
       → IsGrowing more longer × (length longer ≡ length tree + 1)
-  IsGrowing-next reduced since lent reached tree more longer a el r graph e g em et =
-      let early = subst (λ l. IsEarliest (length arcs) (ends_of arcs) l reached a) el e in
-      let next = IsGrowing-take reduced since reached tree a r (graph.second a e.below) early g in
-      let fresh : is_member a tree ≡ false = false_from_ne_true _ (λ m. both_ways _ e.head (g.heads a m)) in (
+  IsGrowing-next reduced since lent timed reached tree more longer a el those r graph e g em et =
+      let early = LeavesFirst-earliest (length arcs) (ends_of arcs) since reached timed a those
+      (subst (λ l. IsEarliest (ends_of arcs) l timed reached a) el e) in
+      let next = IsGrowing-take reduced since reached tree a r (graph.second a early.below) early g in
+      let fresh : is_member a tree ≡ false = false_from_ne_true _ (λ m. both_ways _ early.head (g.heads a m)) in (
         subst (λ t. IsGrowing more t) (sym et) (subst (λ m. IsGrowing m (with_one tree a)) (sym em) next),
         ap length et ∙ length-with_one tree a g.tree_set.rising fresh ∙ omega arith,
       )

@@ -1,5 +1,5 @@
 -- Right answers to the question for a cheapest spanning arborescence.
-use Rattle.std.specs.Prelude.{◌≡◌, ℕ, ◌≤◌, ◌*◌, ◌^◌, List, length, ℤ, pos, ◌≤ℤ◌}
+use Rattle.std.specs.Prelude.{ℕ, ◌≤◌, ◌*◌, ◌^◌, List, length, ℤ}
 use Rattle.std.specs.List.{AllByRecursion}
 use Rattle.mat_sets.specs.Graphs.{ends_of, IsSpanningArborescence}
 use Rattle.mat_sets.specs.Sets.{AllBelow}
@@ -26,5 +26,6 @@ pub record IsCutInRange (vertices : ℕ) (c : CutWeight) : Type 0 where
 
 -- arcs, sets and weights in range, and not too many sets
 abbrev pub AreInRange : (vertices count : ℕ) → Cuts → Type 0
-AreInRange vertices count (Tree tree cuts) = AllBelow count tree × (length cuts.items ≤ 2 * vertices) × AllByRecursion (IsCutInRange vertices) cuts.items
+AreInRange vertices count (Tree tree cuts) =
+    AllBelow count tree × (length cuts.items ≤ 2 * vertices) × AllByRecursion (IsCutInRange vertices) cuts.items
 AreInRange vertices count (Unreached set) = AllBelow vertices set

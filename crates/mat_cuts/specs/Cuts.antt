@@ -1,5 +1,5 @@
 -- Vertex sets with weights that bound the cost of each spanning arborescence from below (Fulkerson 1974; Schrijver, chapter 52).
-use Rattle.std.specs.Prelude.{◌≡◌, ℕ, ◌<◌, ◌≤◌, ◌*◌, Bool, true, false, not, ◌&&◌, if◌then◌else◌, List, [], ◌∷◌, length, ℤ, pos, ◌+ℤ◌, ◌≤ℤ◌, ◌<ℤ◌}
+use Rattle.std.specs.Prelude.{◌≡◌, ℕ, ◌<◌, ◌≤◌, ◌*◌, Bool, false, if◌then◌else◌, List, [], ◌∷◌, length, ℤ, pos, ◌+ℤ◌, ◌≤ℤ◌, ◌<ℤ◌}
 use Rattle.std.specs.List.{AllByRecursion}
 use Rattle.mat_sets.specs.Graphs.{ends_of, enters, IsSpanningArborescence}
 use Rattle.mat_sets.specs.Sets.{is_member, IsSet}
@@ -33,7 +33,8 @@ pub record IsCut (vertices root : ℕ) (c : CutWeight) : Type 0 where
 
 -- a spanning arborescence, and at most 2V weights of root-free sets: at each arc those of the sets that it enters add to at most its cost,
 -- and all of them add to the cost of the arborescence
-pub record AreRightCuts (vertices : ℕ) (arcs : List (ℕ × ℕ)) (costs : List ℤ) (root : ℕ) (tree : List ℕ) (cuts : List CutWeight) : Type 0 where
+pub record AreRightCuts (vertices : ℕ) (arcs : List (ℕ × ℕ)) (costs : List ℤ) (root : ℕ)
+    (tree : List ℕ) (cuts : List CutWeight) : Type 0 where
   pub spans : IsSpanningArborescence vertices (length arcs) (ends_of arcs) root tree
   pub few : length cuts ≤ 2 * vertices
   pub each : AllByRecursion (IsCut vertices root) cuts

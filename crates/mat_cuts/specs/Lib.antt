@@ -3,4 +3,5 @@ pub mod Cuts
 pub mod Raising
 pub mod Answers
 pub mod Listing
+pub mod Growing
 pub mod Checking

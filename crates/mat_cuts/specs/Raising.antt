@@ -29,7 +29,8 @@ AreNested count ends since i [] = Unit {0}
 AreNested count ends since i (c ∷ cuts) = IsNested count ends since i c.set × AreNested count ends since (suc i) cuts
 
 -- the weights are paid by the costs; what is left is spent exactly at the arcs with a time
-pub record IsRaised (vertices : ℕ) (arcs : List (ℕ × ℕ)) (costs : List ℤ) (root : ℕ) (reduced : List ℤ) (since : List ℕ) (cuts : List CutWeight) : Type 0 where
+pub record IsRaised (vertices : ℕ) (arcs : List (ℕ × ℕ)) (costs : List ℤ) (root : ℕ)
+    (reduced : List ℤ) (since : List ℕ) (cuts : List CutWeight) : Type 0 where
   pub reduced_long : length reduced ≡ length arcs
   pub since_long : length since ≡ length arcs
   pub paid : (a : ℕ) → a < length arcs → cost_at costs a ≡ cost_at reduced a +ℤ weight_on (ends_of arcs) cuts a
@@ -41,7 +42,8 @@ pub record IsRaised (vertices : ℕ) (arcs : List (ℕ × ℕ)) (costs : List �
   pub nested : AreNested (length arcs) (ends_of arcs) since 0 cuts
 
 -- places of the vertices: 0 for those that the root reaches by early arcs, 1 to `last` for those on the path, 1000000 for those not seen
-pub record IsPath (vertices : ℕ) (arcs : List (ℕ × ℕ)) (root : ℕ) (since : List ℕ) (now : ℕ) (place fresh : List ℕ) (last : ℕ) : Type 0 where
+pub record IsPath (vertices : ℕ) (arcs : List (ℕ × ℕ)) (root : ℕ) (since : List ℕ) (now : ℕ)
+    (place fresh : List ℕ) (last : ℕ) : Type 0 where
   pub long : length place ≡ vertices
   pub fresh_set : IsSet vertices fresh
   pub unseen : (v : ℕ) → is_member v fresh ≡ true → at place v ≡ 1000000
@@ -66,9 +68,14 @@ pub record IsLeast (count : ℕ) (test : ℕ → Bool) (reduced : List ℤ) (a :
   pub passes : test a ≡ true
   pub least : (b : ℕ) → b < count → test b ≡ true → cost_at reduced a ≤ℤ cost_at reduced b
 
--- that arc, or None where no arc passes
-abbrev pub TellsLeast : (count : ℕ) (test : ℕ → Bool) (reduced : List ℤ) → Option ℕ → Type 0
-TellsLeast count test reduced found = MatchOption found ((b : ℕ) → b < count → test b ≡ false) (IsLeast count test reduced)
+-- an arc of a list, with the least cost among its arcs
+pub record IsLeastOf (among : List ℕ) (reduced : List ℤ) (a : ℕ) : Type 0 where
+  pub member : is_member a among ≡ true
+  pub least : (b : ℕ) → is_member b among ≡ true → cost_at reduced a ≤ℤ cost_at reduced b
+
+-- that arc, or None where the list is empty
+abbrev pub TellsLeastOf : (among : List ℕ) (reduced : List ℤ) → Option ℕ → Type 0
+TellsLeastOf among reduced found = MatchOption found (among ≡ []) (IsLeastOf among reduced)
 
 -- the least cost is taken from each arc that passes; an arc with nothing left gets the next time
 pub record IsLowered (count : ℕ) (test : ℕ → Bool) (least : ℤ) (next : ℕ) (reduced left : List ℤ) (since later : List ℕ) : Type 0 where
@@ -77,21 +84,6 @@ pub record IsLowered (count : ℕ) (test : ℕ → Bool) (least : ℤ) (next : �
   pub left_is : (a : ℕ) → a < count → cost_at reduced a ≡ cost_at left a +ℤ weight_where (test a) least
   pub later_is : (a : ℕ) → a < count → ((at later a ≡ at since a) × (test a ≡ true → cost_at left a ≢ pos 0))
       ⊎ ((at later a ≡ next) × ((test a ≡ true) × (cost_at left a ≡ pos 0)))
-
--- an arc with the earliest time among those that leave the reached vertices
-pub record IsEarliest (count : ℕ) (ends : ℕ → ℕ × ℕ) (since reached : List ℕ) (a : ℕ) : Type 0 where
-  pub below : a < count
-  pub timed : at since a < 1000000
-  pub tail : is_member (ends a).0 reached ≡ true
-  pub head : is_member (ends a).1 reached ≡ false
-  pub first : (b : ℕ) → b < count → is_member (ends b).0 reached ≡ true → is_member (ends b).1 reached ≡ false → at since a ≤ at since b
-
--- that arc, or None where no arc with a time leaves them
-abbrev pub TellsEarliest : (count : ℕ) (ends : ℕ → ℕ × ℕ) (since reached : List ℕ) → Option ℕ → Type 0
-TellsEarliest count ends since reached found =
-    MatchOption found
-    ((b : ℕ) → b < count → at since b < 1000000 → is_member (ends b).0 reached ≡ true → is_member (ends b).1 reached ≡ true)
-    (IsEarliest count ends since reached)
 
 -- an arc that costs nothing is spent from the start
 pub record IsFirstTime (cost : ℤ) (time : ℕ) : Type 0 where

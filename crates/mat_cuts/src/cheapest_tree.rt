@@ -1,44 +1,46 @@
 //! A cheapest spanning arborescence with the cuts that prove it.
+//!
+//! A path of vertex sets grows backwards from a vertex that the root does not reach. Its last set is listed with the least cost that is
+//! left at an arc that enters it, and this weight is taken from each arc that enters it. So one of them is spent; its tail comes to the
+//! end of the path, or closes up all sets from its place on. When an arc is spent it gets a time: how many sets were listed.
+//! At the end a tree grows from the root, always by the arc with the earliest time, and enters each listed set once.
 ghost use Rattle.std.specs.Prelude.{◌≡◌, ◌≤◌, ◌<◌, ◌*◌, ◌+◌, ◌-◌, ◌≤ℤ◌, ◌<ℤ◌, ℕ, length, true, pos, All, IfOk, OnOk};
 ghost use Rattle.mat_sets.specs.Graphs.{ends_of, IsGraph};
 ghost use Rattle.mat_cuts.specs.Costs.{cost_at, IsCost};
-ghost use Rattle.mat_cuts.specs.Answers.{AreRight, TellsReached};
-ghost use Rattle.mat_cuts.specs.Listing.{IsBegun, IsFollowed, IsListed, IsPaid};
-ghost use Rattle.mat_cuts.specs.Raising.{at, comes, IsLeast};
-ghost use Rattle.mat_sets.specs.Sets.{AllBelow};
+ghost use Rattle.mat_cuts.specs.Answers.{AreInRange, AreRight, TellsReached};
+ghost use Rattle.mat_cuts.specs.Listing.{IsBegun, IsFollowed, IsListed, IsPaid, TellsSpent};
+ghost use Rattle.mat_cuts.specs.Raising.{at, IsLeastOf};
+ghost use Rattle.mat_sets.specs.Sets.{is_member, AllBelow, IsSet};
 
 use crate::cut_weight::{CutWeight, Cuts};
 use crate::growing::{Raised, grow};
 use crate::joining::{Path, UNSEEN, at_place, join, push};
-use crate::lowering::{first_times, least_coming, lower};
+use crate::lowering::{arcs_coming, first_times, least_of, lower};
 use mat_sets::{ElemSet, Pairs};
 use std::alloc::{AllocError, Global};
 
-/// Lists the set at the last place of the path, with what is left at its least entering arc.
+/// Lists the set at the last place of the path, with what is left at the least of the arcs that enter it.
 fn list_set(
     alloc: Global,
-    arcs: &[(u32, u32)],
     path: &Path,
     raised: &mut Raised,
+    entering: &[u32],
     least: i128,
 ) -> Result<(), AllocError>
-    requires arcs { IsGraph (length path.now.place.items) arcs.now }
     requires few { length raised.old.cuts.items < 10000 }
     requires some { pos 0 <ℤ least }
-    requires reduced { length raised.old.reduced.items ≡ length arcs.now }
-    requires since { length raised.old.since.items ≡ length arcs.now }
-    requires range { (a : ℕ) → a < length arcs.now → IsCost (cost_at raised.old.reduced.items a) }
-    requires enough { (a : ℕ) → a < length arcs.now → comes (ends_of arcs.now) path.now.place.items path.now.last a ≡ true → least ≤ℤ cost_at raised.old.reduced.items a }
+    requires since { length raised.old.since.items ≡ length raised.old.reduced.items }
+    requires range { (a : ℕ) → a < length raised.old.reduced.items → IsCost (cost_at raised.old.reduced.items a) }
+    requires set { IsSet (length raised.old.reduced.items) entering.now }
+    requires enough { (a : ℕ) → is_member a entering.now ≡ true → least ≤ℤ cost_at raised.old.reduced.items a }
     requires places { length path.now.place.items < 1000000 }
-    ensures { OnOk result (IsListed arcs.now path.now.place.items path.now.last least raised.old raised.new) }
+    ensures { OnOk result (IsListed (λ a. is_member a entering.now) path.now.place.items path.now.last least raised.old raised.new) }
 {
     let set = at_place(alloc, &path.place, path.last)?;
     raised.cuts.push(CutWeight { weight: least, set })?;
     let time = raised.cuts.len() as u32;
     lower(
-        arcs,
-        &path.place,
-        path.last,
+        entering,
         least,
         time,
         &mut raised.reduced,
@@ -47,28 +49,54 @@ fn list_set(
     Ok(())
 }
 
-/// Lists the set at the last place of the path, where something is left at its least entering arc.
+/// Lists the set at the last place of the path, where something is left at the least of the arcs that enter it.
 fn pay(
+    alloc: Global,
+    path: &Path,
+    raised: &mut Raised,
+    entering: &[u32],
+    a: u32,
+) -> Result<(), AllocError>
+    requires few { length raised.old.cuts.items < 10000 }
+    requires since { length raised.old.since.items ≡ length raised.old.reduced.items }
+    requires range { (b : ℕ) → b < length raised.old.reduced.items → IsCost (cost_at raised.old.reduced.items b) }
+    requires set { IsSet (length raised.old.reduced.items) entering.now }
+    requires least { IsLeastOf entering.now raised.old.reduced.items a }
+    requires places { length path.now.place.items < 1000000 }
+    ensures { OnOk result (IsPaid (λ b. is_member b entering.now) path.now.place.items path.now.last a raised.old raised.new) }
+{
+    let least = raised.reduced[a as usize];
+    if least > 0 {
+        list_set(alloc, path, raised, entering, least)?;
+    }
+    Ok(())
+}
+
+/// Lists the set at the last place of the path, so that nothing is left at an arc that enters it, and gives that arc. None where no arc
+/// enters it.
+fn spend(
     alloc: Global,
     arcs: &[(u32, u32)],
     path: &Path,
     raised: &mut Raised,
-    a: usize,
-) -> Result<(), AllocError>
+) -> Result<Option<u32>, AllocError>
     requires arcs { IsGraph (length path.now.place.items) arcs.now }
     requires few { length raised.old.cuts.items < 10000 }
     requires reduced { length raised.old.reduced.items ≡ length arcs.now }
     requires since { length raised.old.since.items ≡ length arcs.now }
     requires range { (b : ℕ) → b < length arcs.now → IsCost (cost_at raised.old.reduced.items b) }
-    requires least { IsLeast (length arcs.now) (comes (ends_of arcs.now) path.now.place.items path.now.last) raised.old.reduced.items a }
     requires places { length path.now.place.items < 1000000 }
-    ensures { OnOk result (IsPaid arcs.now path.now.place.items path.now.last a raised.old raised.new) }
+    ensures { IfOk result (TellsSpent arcs.now path.now.place.items path.now.last raised.old raised.new) }
 {
-    let least = raised.reduced[a];
-    if least > 0 {
-        list_set(alloc, arcs, path, raised, least)?;
-    }
-    Ok(())
+    let place = path.place.as_slice();
+    let coming = arcs_coming(alloc, arcs, place, path.last)?;
+    let entering = coming.as_slice();
+    let reduced = raised.reduced.as_slice();
+    let Some(a) = least_of(entering, reduced) else {
+        return Ok(None);
+    };
+    pay(alloc, path, raised, entering, a)?;
+    Ok(Some(a))
 }
 
 /// Begins a path at an unseen vertex, where there is none. False where all vertices are seen.
@@ -102,7 +130,7 @@ fn follow(path: &mut Path, t: u32)
     }
 }
 
-/// The same for a list of arcs.
+/// A cheapest spanning arborescence with its cuts, or an unreached set, by the search and then the growing tree.
 fn cheapest_among(
     alloc: Global,
     vertices: u32,
@@ -134,11 +162,11 @@ fn cheapest_among(
         if !begin(&mut path) {
             break 'search;
         }
-        let Some(a) = least_coming(arcs, &path.place, path.last, &raised.reduced) else {
+        let spent = spend(alloc, arcs, &path, &mut raised)?;
+        let Some(a) = spent else {
             return Ok(Cuts::Unreached(at_place(alloc, &path.place, path.last)?));
         };
-        pay(alloc, arcs, &path, &mut raised, a)?;
-        follow(&mut path, arcs[a].0);
+        follow(&mut path, arcs[a as usize].0);
     }
     let tree = grow(alloc, vertices, arcs, costs, root, &raised)?;
     Ok(Cuts::Tree {
@@ -148,7 +176,8 @@ fn cheapest_among(
 }
 
 /// A cheapest spanning arborescence from the root, with weighted cuts that prove it; or a non-empty vertex set without the root that no
-/// arc enters (Edmonds 1967, Fulkerson 1974). The only error is want of memory.
+/// arc enters (Edmonds 1967, Fulkerson 1974; Schrijver, chapter 52). There are at most 2,000 vertices and 20,000 arcs, each with a cost
+/// from 0 to 10^12. For V vertices and E arcs the time is that of 3V passes over the E arcs. The only error is want of memory.
 pub fn cheapest(
     alloc: Global,
     vertices: u32,
@@ -164,6 +193,7 @@ pub fn cheapest(
     requires range { All IsCost costs.now }
     ensures right { IfOk result (AreRight vertices arcs.now costs.now root) }
     ensures reached { IfOk result (TellsReached vertices arcs.now root) }
+    ensures range { IfOk result (AreInRange vertices (length arcs.now)) }
 {
     cheapest_among(alloc, vertices, arcs.as_slice(), costs, root)
 }

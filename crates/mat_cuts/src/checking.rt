@@ -5,11 +5,13 @@ ghost use Rattle.mat_sets.specs.Graphs.{ends_of, enters, IsGraph, IsSpanningArbo
 ghost use Rattle.mat_sets.specs.Sets.{AllBelow, IsRising};
 ghost use Rattle.mat_sets.specs.Sums.{IsWithin};
 ghost use Rattle.mat_cuts.specs.Answers.{AreInRange, AreRight, IsCutInRange};
-ghost use Rattle.mat_cuts.specs.Checking.{IsAdded, TellsLeaving};
+ghost use Rattle.mat_cuts.specs.Checking.{IsAdded};
 ghost use Rattle.mat_cuts.specs.Costs.{cost_at, cost_of, IsCost};
+ghost use Rattle.mat_cuts.specs.Growing.{TellsLeaving};
 ghost use Rattle.mat_cuts.specs.Cuts.{all_weight, weight_on, AreRightCuts, IsCut, IsRootFree, IsUnreached};
 
 use crate::cut_weight::{CutWeight, Cuts};
+use crate::growing::leaves;
 use mat_sets::{BitSet, ElemSet, Pairs};
 use std::alloc::{AllocError, Global};
 
@@ -48,8 +50,7 @@ fn leaving(arcs: &[(u32, u32)], tree: &[u32], reached: &BitSet) -> Option<u32>
     ensures { TellsLeaving (ends_of arcs.now) tree.now reached.now result }
 {
     for a in tree {
-        let (tail, head) = arcs[*a as usize];
-        if reached.contains(tail) && !reached.contains(head) {
+        if leaves(arcs, reached, *a) {
             return Some(*a);
         }
     }

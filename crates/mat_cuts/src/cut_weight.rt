@@ -1,12 +1,12 @@
 //! Vertex sets with weights, and the answers that they make.
 use mat_sets::ElemSet;
 
-/// A vertex set with its weight.
+/// A vertex set with its weight (Fulkerson 1974).
 #[derive(Debug, Drop)]
 pub struct CutWeight {
-    /// The weight.
+    /// The weight: above 0 where the cuts are right.
     pub weight: i128,
-    /// The vertices.
+    /// The vertices: at least one, and not the root, where the cuts are right.
     pub set: ElemSet,
 }
 

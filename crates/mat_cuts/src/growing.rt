@@ -1,27 +1,60 @@
-//! The tree that grows by the earliest arcs.
-ghost use Rattle.std.specs.Prelude.{◌≡◌, ◌<◌, ℕ, length, IfOk};
+//! The tree that grows from the root by the earliest arcs.
+ghost use Rattle.std.specs.Prelude.{◌≡◌, ◌<◌, ◌^◌, ℕ, length, true, IfOk};
 ghost use Rattle.mat_sets.specs.Graphs.{ends_of, IsGraph, IsSpanningArborescence};
+ghost use Rattle.mat_sets.specs.Search.{those_below};
+ghost use Rattle.mat_sets.specs.Sets.{is_member, IsSet};
 ghost use Rattle.mat_cuts.specs.Costs.{cost_of};
 ghost use Rattle.mat_cuts.specs.Cuts.{all_weight};
-ghost use Rattle.mat_cuts.specs.Raising.{IsRaised, Leads, TellsEarliest};
+ghost use Rattle.mat_cuts.specs.Growing.{is_timed, leaves, TellsEarliest};
+ghost use Rattle.mat_cuts.specs.Raising.{at, IsRaised, Leads};
 
 use crate::cut_weight::CutWeight;
 use crate::lowering::NEVER;
 use mat_sets::{BitSet, ElemSet};
 use std::alloc::{AllocError, Global};
 
-/// The arc with the earliest time among those that leave the reached vertices.
-pub(crate) fn earliest(arcs: &[(u32, u32)], since: &[u32], reached: &BitSet) -> Option<usize>
-    requires { length since.now ≡ length arcs.now }
-    ensures { TellsEarliest (length arcs.now) (ends_of arcs.now) since.now reached.now result }
+/// The arcs with a time, in rising order.
+pub(crate) fn timed_arcs(alloc: Global, since: &[u32]) -> Result<Vec<u32>, AllocError>
+    requires { length since.now < 2 ^ 32 }
+    ensures { IfOk result (λ timed. timed.items ≡ those_below (length since.now) (is_timed since.now)) }
+{
+    let mut timed = Vec::new(alloc);
+    for a in 0..since.len() {
+        if since[a] < NEVER {
+            timed.push(a as u32)?;
+        }
+    }
+    Ok(timed)
+}
+
+/// Whether arc a leads from a reached vertex to one that is not reached.
+pub(crate) fn leaves(arcs: &[(u32, u32)], reached: &BitSet, a: u32) -> bool
+    requires { a < length arcs.now }
+    ensures { result ≡ leaves (ends_of arcs.now) reached.now a }
+{
+    let (tail, head) = arcs[a as usize];
+    reached.contains(tail) && !reached.contains(head)
+}
+
+/// The arc with the earliest time among those of the timed arcs that leave the reached vertices.
+pub(crate) fn earliest(
+    arcs: &[(u32, u32)],
+    timed: &[u32],
+    since: &[u32],
+    reached: &BitSet,
+) -> Option<u32>
+    requires long { length since.now ≡ length arcs.now }
+    requires set { IsSet (length arcs.now) timed.now }
+    requires timed { (a : ℕ) → is_member a timed.now ≡ true → at since.now a < 1000000 }
+    ensures { TellsEarliest (ends_of arcs.now) since.now timed.now reached.now result }
 {
     let mut best = NEVER;
     let mut found = None;
-    for a in 0..arcs.len() {
-        let (tail, head) = arcs[a];
-        if since[a] < best && reached.contains(tail) && !reached.contains(head) {
-            best = since[a];
-            found = Some(a);
+    for a in timed {
+        let time = since[*a as usize];
+        if time < best && leaves(arcs, reached, *a) {
+            best = time;
+            found = Some(*a);
         }
     }
     found
@@ -55,15 +88,17 @@ pub(crate) fn grow(
     ensures spans { IfOk result (IsSpanningArborescence vertices (length arcs.now) (ends_of arcs.now) root) }
     ensures cost { IfOk result (λ tree. all_weight raised.now.cuts.items ≡ cost_of costs.now tree) }
 {
+    let since = raised.since.as_slice();
+    let timed = timed_arcs(alloc, since)?;
     let mut tree = ElemSet::new(alloc);
     let mut reached = BitSet::new(alloc);
     reached.insert(root)?;
     for _ in 1..vertices {
-        let Some(a) = earliest(arcs, &raised.since, &reached) else {
+        let Some(a) = earliest(arcs, &timed, since, &reached) else {
             unreachable!()
         };
-        tree.add(a as u32)?;
-        reached.insert(arcs[a].1)?;
+        tree.add(a)?;
+        reached.insert(arcs[a as usize].1)?;
     }
     Ok(tree)
 }

@@ -8,6 +8,8 @@ mod growing;
 mod joining;
 pub mod laws;
 mod lowering;
+#[cfg(test)]
+mod tests;
 
 pub use cheapest_tree::cheapest;
 pub use checking::right_cuts;

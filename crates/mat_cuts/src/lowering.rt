@@ -1,8 +1,10 @@
 //! The costs that are left at the arcs, and since when they are spent.
 ghost use Rattle.std.specs.Prelude.{◌≡◌, ◌<◌, ◌≤ℤ◌, ℕ, length, pos, true, IfOk};
 ghost use Rattle.mat_sets.specs.Graphs.{ends_of, IsGraph};
+ghost use Rattle.mat_sets.specs.Search.{those_below};
+ghost use Rattle.mat_sets.specs.Sets.{is_member, IsSet};
 ghost use Rattle.mat_cuts.specs.Costs.{cost_at, IsCost};
-ghost use Rattle.mat_cuts.specs.Raising.{at, comes, IsFirstTime, IsLowered, TellsLeast};
+ghost use Rattle.mat_cuts.specs.Raising.{at, comes, IsFirstTime, IsLowered, TellsLeastOf};
 
 use std::alloc::{AllocError, Global};
 
@@ -21,59 +23,63 @@ pub(crate) fn first_times(alloc: Global, costs: &[i128]) -> Result<Vec<u32>, All
     Ok(since)
 }
 
-/// An arc of least cost among those that lead to the last place from another one.
-pub(crate) fn least_coming(
+/// The arcs that lead to the last place from another one, in rising order.
+pub(crate) fn arcs_coming(
+    alloc: Global,
     arcs: &[(u32, u32)],
     place: &[u32],
     last: u32,
-    reduced: &[i128],
-) -> Option<usize>
-    requires graph { IsGraph (length place.now) arcs.now }
-    requires long { length reduced.now ≡ length arcs.now }
-    ensures { TellsLeast (length arcs.now) (comes (ends_of arcs.now) place.now last) reduced.now result }
+) -> Result<Vec<u32>, AllocError>
+    requires { IsGraph (length place.now) arcs.now }
+    ensures { IfOk result (λ coming. coming.items ≡ those_below (length arcs.now) (comes (ends_of arcs.now) place.now last)) }
 {
-    let mut found: Option<usize> = None;
+    let mut coming = Vec::new(alloc);
     for a in 0..arcs.len() {
         let (tail, head) = arcs[a];
         if place[head as usize] == last && place[tail as usize] != last {
-            if let Some(best) = found {
-                if reduced[a] < reduced[best] {
-                    found = Some(a);
-                }
-            } else {
-                found = Some(a);
-            }
+            coming.push(a as u32)?;
         }
     }
-    found
+    Ok(coming)
 }
 
-/// Takes the least cost from each arc that leads to the last place from another one. An arc at which nothing is left gets the time.
+/// An arc of these with the least cost.
+pub(crate) fn least_of(arcs: &[u32], reduced: &[i128]) -> Option<u32>
+    requires { IsSet (length reduced.now) arcs.now }
+    ensures { TellsLeastOf arcs.now reduced.now result }
+{
+    if arcs.is_empty() {
+        return None;
+    }
+    let mut best = arcs[0];
+    for a in arcs {
+        if reduced[*a as usize] < reduced[best as usize] {
+            best = *a;
+        }
+    }
+    Some(best)
+}
+
+/// Takes the least cost from each of these arcs. An arc at which nothing is left gets the time.
 pub(crate) fn lower(
-    arcs: &[(u32, u32)],
-    place: &[u32],
-    last: u32,
+    arcs: &[u32],
     least: i128,
     time: u32,
     reduced: &mut Vec<i128>,
     since: &mut Vec<u32>,
 )
-    requires graph { IsGraph (length place.now) arcs.now }
-    requires reduced { length reduced.old.items ≡ length arcs.now }
-    requires since { length since.old.items ≡ length arcs.now }
+    requires set { IsSet (length reduced.old.items) arcs.now }
+    requires since { length since.old.items ≡ length reduced.old.items }
     requires some { pos 0 ≤ℤ least }
-    requires range { (a : ℕ) → a < length arcs.now → IsCost (cost_at reduced.old.items a) }
-    requires enough { (a : ℕ) → a < length arcs.now → comes (ends_of arcs.now) place.now last a ≡ true → least ≤ℤ cost_at reduced.old.items a }
-    ensures { IsLowered (length arcs.now) (comes (ends_of arcs.now) place.now last) least time reduced.old.items reduced.new.items since.old.items since.new.items }
+    requires range { (a : ℕ) → a < length reduced.old.items → IsCost (cost_at reduced.old.items a) }
+    requires enough { (a : ℕ) → is_member a arcs.now ≡ true → least ≤ℤ cost_at reduced.old.items a }
+    ensures { IsLowered (length reduced.old.items) (λ a. is_member a arcs.now) least time reduced.old.items reduced.new.items since.old.items since.new.items }
 {
-    for a in 0..arcs.len() {
-        let (tail, head) = arcs[a];
-        if place[head as usize] == last && place[tail as usize] != last {
-            let left = reduced[a] - least;
-            reduced[a] = left;
-            if left == 0 {
-                since[a] = time;
-            }
+    for a in arcs {
+        let left = reduced[*a as usize] - least;
+        reduced[*a as usize] = left;
+        if left == 0 {
+            since[*a as usize] = time;
         }
     }
 }

@@ -1,5 +1,4 @@
-use Rattle.std.proofs.Common.{◌≡◌, ◌*◌, ◌+◌, ◌<◌, ◌≤◌, replicate, set, eqb, Some, None, [], rules, true, false, length, sym, ap, subst, arith, ◌∙◌}
-use Rattle.mat_sets.specs.Graphs.{ends_of}
+use Rattle.std.proofs.Common.{◌≡◌, replicate, set, eqb, [], rules, length, sym, ap, subst, arith, ◌∙◌}
 use Rattle.std.proofs.lemmas.Bool.{lt-ltb}
 use Rattle.mat_sets.specs.Sets.{all_below, without_one, AllBelow}
 use Rattle.mat_sets.proofs.Cardinalities.{length-without_one}
@@ -7,63 +6,38 @@ use Rattle.mat_sets.proofs.Ground.{is_member-all_below, length-all_below, IsRisi
 use Rattle.mat_cuts.proofs.Loops.{places-start}
 use Rattle.mat_sets.specs.Search.{those_below}
 use Rattle.mat_cuts.specs.Cuts.{IsUnreached}
-use Rattle.mat_cuts.specs.Raising.{at, comes, IsLeast, TellsLeast}
-use Rattle.mat_cuts.proofs.Searching.{last_set-is, IsSearching, IsSearching-start, IsSearching-begun, IsSearching-followed, IsSearching-paid, IsSearching-unreached}
+use Rattle.mat_cuts.specs.Listing.{TellsSpent}
+use Rattle.mat_cuts.specs.Raising.{at}
+use Rattle.mat_cuts.proofs.Searching.{last_set-is, IsSearching, IsSearching-start, IsSearching-begun, IsSearching-turn, IsSearching-unreached}
 use Rattle.mat_cuts.proofs.cheapest_tree.cheapest_among.Goals as goal
 
 pub begin-requires-clause-below : goal.begin-requires-clause-below
-begin-requires-clause-below c = subst (λ n. AllBelow n c.search.path.fresh) (sym c.search.invariant.searching.path.long) c.search.invariant.searching.path.fresh_set.below
+begin-requires-clause-below c =
+    subst (λ n. AllBelow n c.search.path.fresh) (sym c.search.invariant.searching.path.long)
+    c.search.invariant.searching.path.fresh_set.below
 
 pub begin-requires-clause-few : goal.begin-requires-clause-few
 begin-requires-clause-few c = (let s = c.search.invariant.spare in let f = c.requires.few in omega arith)
 
 pub search-preserved : goal.search-preserved
 search-preserved c =
-    let vertices = c.args.vertices in
     let arcs = c.args.arcs.now in
-    let graph = c.requires.graph in
-    let costs = c.args.costs.now in
-    let root = c.args.root in
+    let begun = c.begin.new.path in
     let raised = c.search.raised in
-    let spare = c.search.invariant.spare in
-    let small = c.requires.few in
-    let begun = IsSearching-begun vertices arcs graph costs root raised.reduced.items raised.since.items raised.cuts.items c.search.path c.begin.new.path
-    c.search.invariant.searching c.if-not-begin.ensures in
-    let less = begun.2 in
-    let least = subst (λ p. IsLeast (length arcs) (comes (ends_of arcs) p c.begin.new.path.last) raised.reduced.items c.in-Some.a) c.deref.ensures.value
-    (subst (λ r. IsLeast (length arcs) (comes (ends_of arcs) c.deref.result.now c.begin.new.path.last) r c.in-Some.a) c.deref-in-search.ensures.value
-    (subst (TellsLeast (length arcs) (comes (ends_of arcs) c.deref.result.now c.begin.new.path.last) c.deref-in-search.result.now) c.in-Some.is c.least_coming.ensures)) in
-    let paid = IsSearching-paid vertices arcs graph costs root raised c.pay.new.raised c.begin.new.path.place.items c.begin.new.path.fresh c.begin.new.path.last c.in-Some.a
-    begun.0 begun.1 (omega arith) (omega arith) least c.in_ok-pay.ensures in
-    let more = paid.2 in
-    let followed = IsSearching-followed vertices arcs graph costs root c.pay.new.raised.reduced.items c.pay.new.raised.since.items c.pay.new.raised.cuts.items
-    c.begin.new.path c.follow.new.path c.in-Some.a paid.0 (omega arith) least.below least.passes paid.1 c.follow.ensures in
-    let lower = followed.1 in
-    record { searching = followed.0; spare = omega arith }
+    let told = subst (TellsSpent arcs begun.place.items begun.last raised c.spend.new.raised) c.in-Some.is c.in_ok-spent.ensures in
+    let turn = IsSearching-turn c.args.vertices arcs c.requires.graph c.args.costs.now c.args.root raised c.spend.new.raised c.search.path begun
+    c.follow.new.path c.in-Some.a c.requires.few c.search.invariant.searching c.search.invariant.spare c.if-not-begin.ensures told c.follow.ensures in
+    record { searching = turn.0; spare = turn.1 }
 
 pub search-smaller : goal.search-smaller
 search-smaller c =
-    let vertices = c.args.vertices in
     let arcs = c.args.arcs.now in
-    let graph = c.requires.graph in
-    let costs = c.args.costs.now in
-    let root = c.args.root in
+    let begun = c.begin.new.path in
     let raised = c.search.raised in
-    let spare = c.search.invariant.spare in
-    let small = c.requires.few in
-    let begun = IsSearching-begun vertices arcs graph costs root raised.reduced.items raised.since.items raised.cuts.items c.search.path c.begin.new.path
-    c.search.invariant.searching c.if-not-begin.ensures in
-    let less = begun.2 in
-    let least = subst (λ p. IsLeast (length arcs) (comes (ends_of arcs) p c.begin.new.path.last) raised.reduced.items c.in-Some.a) c.deref.ensures.value
-    (subst (λ r. IsLeast (length arcs) (comes (ends_of arcs) c.deref.result.now c.begin.new.path.last) r c.in-Some.a) c.deref-in-search.ensures.value
-    (subst (TellsLeast (length arcs) (comes (ends_of arcs) c.deref.result.now c.begin.new.path.last) c.deref-in-search.result.now) c.in-Some.is c.least_coming.ensures)) in
-    let paid = IsSearching-paid vertices arcs graph costs root raised c.pay.new.raised c.begin.new.path.place.items c.begin.new.path.fresh c.begin.new.path.last c.in-Some.a
-    begun.0 begun.1 (omega arith) (omega arith) least c.in_ok-pay.ensures in
-    let more = paid.2 in
-    let followed = IsSearching-followed vertices arcs graph costs root c.pay.new.raised.reduced.items c.pay.new.raised.since.items c.pay.new.raised.cuts.items
-    c.begin.new.path c.follow.new.path c.in-Some.a paid.0 (omega arith) least.below least.passes paid.1 c.follow.ensures in
-    let lower = followed.1 in
-    omega arith
+    let told = subst (TellsSpent arcs begun.place.items begun.last raised c.spend.new.raised) c.in-Some.is c.in_ok-spent.ensures in
+    let turn = IsSearching-turn c.args.vertices arcs c.requires.graph c.args.costs.now c.args.root raised c.spend.new.raised c.search.path begun
+    c.follow.new.path c.in-Some.a c.requires.few c.search.invariant.searching c.search.invariant.spare c.if-not-begin.ensures told c.follow.ensures in
+    turn.2
 
 pub search-init : goal.search-init
 search-init c =
@@ -74,11 +48,15 @@ search-init c =
     let unseen : c.in_ok-vec.field-0.items ≡ replicate vertices 1000000 = search rules in
     let places = places-start vertices root c.in_ok-vec.field-0.items unseen c.requires.root in
     let fresh = c.take_out.ensures.items ∙ ap (λ l. without_one l root) c.in_ok-all_below.ensures.members in
-    let start = IsSearching-start vertices arcs c.requires.graph costs root c.in_ok-first_times.field-0.items (set c.in_ok-vec.field-0.items root 0) c.take_out.new.self c.requires.root c.requires.costs
+    let since = c.in_ok-first_times.field-0.items in
+    let place = set c.in_ok-vec.field-0.items root 0 in
+    let fresh_set = c.take_out.new.self in
+    let start = IsSearching-start vertices arcs c.requires.graph costs root since place fresh_set c.requires.root c.requires.costs
     c.requires.range c.in_ok-first_times.ensures.long c.in_ok-first_times.ensures.times places.0 places.1.0 places.1.1 fresh in
-    let all = subst (λ r. IsSearching vertices arcs costs root r c.in_ok-first_times.field-0.items [] (set c.in_ok-vec.field-0.items root 0) c.take_out.new.self 0) (sym c.in_ok-from_slice.ensures.items) start in
+    let all = subst (λ r. IsSearching vertices arcs costs root r since [] place fresh_set 0) (sym c.in_ok-from_slice.ensures.items) start in
     record {
-      searching = subst (λ k. IsSearching vertices arcs costs root c.in_ok-from_slice.field-0.items c.in_ok-first_times.field-0.items k (set c.in_ok-vec.field-0.items root 0) c.take_out.new.self 0) (sym c.new.ensures.items) all;
+      searching = subst (λ k. IsSearching vertices arcs costs root c.in_ok-from_slice.field-0.items since k place fresh_set 0)
+          (sym c.new.ensures.items) all;
       spare = (let e = ap length fresh in let n = ap length c.new.ensures.items in let b = c.requires.root in
           let k = length-without_one (all_below vertices) root (IsRising-all_below vertices) (is_member-all_below root vertices ∙ lt-ltb root vertices b) in
           omega (arith, length-all_below vertices));
@@ -96,9 +74,9 @@ returns-in_default c =
     let last = c.begin.new.path.last in
     let begun = IsSearching-begun vertices arcs graph costs root raised.reduced.items raised.since.items raised.cuts.items c.search.path c.begin.new.path
     c.search.invariant.searching c.if-not-begin.ensures in
-    let none = subst (λ p. TellsLeast (length arcs) (comes (ends_of arcs) p last) c.deref-in-search.result.now None) c.deref.ensures.value
-    (subst (TellsLeast (length arcs) (comes (ends_of arcs) c.deref.result.now last) c.deref-in-search.result.now) c.in_default.is c.least_coming.ensures) in
-    let set_is = c.in_ok-at_place.ensures ∙ ap (λ p. those_below (length p) (λ v. eqb (at p v) last)) c.deref-in_default.ensures.value
+    let none = subst (TellsSpent arcs place last raised c.spend.new.raised) c.in_default.is c.in_ok-spent.ensures in
+    let set_is = c.in_ok-at_place.ensures ∙ ap (λ p. those_below (length p) (λ v. eqb (at p v) last)) c.deref.ensures.value
     ∙ ap (λ n. those_below n (λ v. eqb (at place v) last)) begun.0.path.long ∙ sym (last_set-is vertices place last) in
     subst (IsUnreached vertices arcs root) (sym set_is)
-    (IsSearching-unreached vertices arcs graph costs root raised.reduced.items raised.since.items raised.cuts.items place c.begin.new.path.fresh last begun.0 begun.1 none)
+    (IsSearching-unreached vertices arcs graph costs root raised.reduced.items raised.since.items raised.cuts.items place
+    c.begin.new.path.fresh last begun.0 begun.1 none)

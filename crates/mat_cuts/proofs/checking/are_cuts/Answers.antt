@@ -1,11 +1,11 @@
-use Rattle.std.proofs.Common.{◌≡◌, ◌*◌, ◌<ℤ◌, pos, refl, sym, subst, arith}
+use Rattle.std.proofs.Common.{◌<ℤ◌, pos, refl, sym, subst, arith}
 use Rattle.std.proofs.lemmas.Bool.{false≢true}
 use Rattle.std.proofs.lemmas.Int.{ints}
 use Rattle.std.proofs.lemmas.List.{take_all}
 use Rattle.std.specs.List.{AllByRecursion}
 use Rattle.mat_cuts.specs.Answers.{IsCutInRange}
 use Rattle.mat_cuts.specs.Cuts.{IsCut}
-use Rattle.mat_cuts.proofs.Adding.{AllByRecursion-at, AllByRecursion-more}
+use Rattle.mat_cuts.proofs.EachItem.{AllByRecursion-at, AllByRecursion-more}
 use Rattle.mat_cuts.proofs.checking.are_cuts.Goals as goal
 use Rattle.mat_cuts.proofs.checking.are_cuts.Goals.{then-cut-le0-via-then-cut-le0, then-cut-le0-via-else-cut-le0+then-not-is_root_free}
 

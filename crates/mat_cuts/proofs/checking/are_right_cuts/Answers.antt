@@ -1,6 +1,6 @@
 use mir.Syntax.{w128}
 use mir.Val.{SFits}
-use Rattle.std.proofs.Common.{◌≡◌, ◌∙◌, refl, sym, ap, arith, rules, to_z, of_z}
+use Rattle.std.proofs.Common.{◌∙◌, refl, sym, ap, arith, rules, to_z, of_z}
 use Rattle.std.proofs.lemmas.Bool.{eq-eqb, eqb-true, false≢true}
 use Rattle.std.proofs.lemmas.Int.{ints, to_z-of_z}
 use Rattle.mat_cuts.specs.Costs.{cost_at, cost_of}

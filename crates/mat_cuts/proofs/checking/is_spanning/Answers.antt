@@ -1,9 +1,9 @@
-use Rattle.std.proofs.Common.{◌≡◌, ◌<◌, ◌≤◌, Some, None, length, refl, sym, subst, arith}
+use Rattle.std.proofs.Common.{None, length, refl, subst, arith}
 use Rattle.std.proofs.lemmas.Bool.{false≢true}
-use Rattle.mat_sets.specs.Graphs.{ends_of, IsSpanningArborescence}
+use Rattle.mat_sets.specs.Graphs.{ends_of}
 use Rattle.mat_sets.specs.Sets.{IsSet}
 use Rattle.mat_sets.proofs.Ground.{below_member}
-use Rattle.mat_cuts.specs.Checking.{IsLeaving, TellsLeaving}
+use Rattle.mat_cuts.specs.Growing.{IsLeaving, TellsLeaving}
 use Rattle.mat_cuts.proofs.Reached.{reached_spans, stuck, IsReached-first, IsReached-next}
 use Rattle.mat_cuts.proofs.checking.is_spanning.Goals as goal
 

@@ -1,6 +1,6 @@
 use Rattle.std.proofs.Common.{None, take}
 use Rattle.mat_sets.specs.Graphs.{ends_of}
-use Rattle.mat_cuts.specs.Checking.{TellsLeaving}
+use Rattle.mat_cuts.specs.Growing.{TellsLeaving}
 use Rattle.mat_cuts.proofs.checking.leaving.Given as goal
 
 abbrev pub invariant-loop-a : goal.invariant-loop-a

@@ -1,12 +1,13 @@
 use mir.Syntax.{w128}
-use Rattle.std.proofs.Common.{◌≡◌, ◌∙◌, ◌^◌, ◌+ℤ◌, get_or, length, take, sym, ap, subst, arith, to_z, of_z}
+use Rattle.std.proofs.Common.{◌≡◌, ◌∙◌, ◌^◌, take, sym, ap, subst, arith, to_z, of_z}
 use Rattle.std.proofs.lemmas.Int.{ints}
 use Rattle.std.proofs.lemmas.List.{length-take-le}
 use Rattle.mat_sets.specs.Graphs.{ends_of, enters}
 use Rattle.mat_sets.specs.Sums.{IsWithin}
 use Rattle.mat_cuts.specs.Cuts.{weight_where}
 use Rattle.mat_cuts.specs.declared.cut_weight.CutWeight.{CutWeight}
-use Rattle.mat_cuts.proofs.Adding.{weight_on-more, weight_on-within, AllByRecursion-at, AllByRecursion-take}
+use Rattle.mat_cuts.proofs.Adding.{weight_on-more, weight_on-within}
+use Rattle.mat_cuts.proofs.EachItem.{AllByRecursion-at, AllByRecursion-take}
 use Rattle.mat_cuts.proofs.checking.paid_costs.Goals as goal
 
 pub add_at_entering-requires-clause-room : goal.add_at_entering-requires-clause-room

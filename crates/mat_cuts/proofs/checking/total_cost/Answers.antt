@@ -1,4 +1,4 @@
-use Rattle.std.proofs.Common.{◌≡◌, get_or, pos, arith}
+use Rattle.std.proofs.Common.{get_or, pos, arith}
 use Rattle.std.proofs.lemmas.Int.{ints}
 use Rattle.std.proofs.lemmas.List.Elements.{All-get_or}
 use Rattle.mat_sets.proofs.Sums.{sum_of-more, AllBelow-at}

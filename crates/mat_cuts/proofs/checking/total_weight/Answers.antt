@@ -2,7 +2,8 @@ use Rattle.std.proofs.Common.{◌≡◌, ◌^◌, get_or, sym, ap, subst, arith}
 use Rattle.std.proofs.lemmas.Int.{ints}
 use Rattle.mat_sets.specs.Sums.{IsWithin}
 use Rattle.mat_cuts.specs.declared.cut_weight.CutWeight.{CutWeight}
-use Rattle.mat_cuts.proofs.Adding.{all_weight-more, AllByRecursion-at}
+use Rattle.mat_cuts.proofs.Adding.{all_weight-more}
+use Rattle.mat_cuts.proofs.EachItem.{AllByRecursion-at}
 use Rattle.mat_cuts.proofs.checking.total_weight.Goals as goal
 
 pub overflow_add-total : goal.overflow_add-total

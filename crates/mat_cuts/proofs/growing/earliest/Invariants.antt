@@ -1,6 +1,7 @@
+use Rattle.std.proofs.Common.{take}
 use Rattle.mat_sets.specs.Graphs.{ends_of}
 use Rattle.mat_cuts.proofs.Loops.{IsBest}
 use Rattle.mat_cuts.proofs.growing.earliest.Given as goal
 
 abbrev pub invariant-loop-a : goal.invariant-loop-a
-invariant-loop-a l = IsBest (ends_of l.arcs) l.since l.reached l.a l.best l.found
+invariant-loop-a l = IsBest (ends_of l.arcs) l.since l.reached (take l.a-index l.timed) l.best l.found

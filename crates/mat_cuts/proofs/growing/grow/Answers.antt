@@ -1,8 +1,19 @@
-use Rattle.std.proofs.Common.{◌≡◌, ◌∙◌, ◌<◌, ◌+◌, suc, length, Some, None, ap, subst, sym, arith}
+use Rattle.std.proofs.Common.{◌∙◌, suc, length, ap, subst, arith}
+use Rattle.std.proofs.lemmas.Bool.{ltb-true}
 use Rattle.mat_sets.specs.Graphs.{ends_of}
-use Rattle.mat_cuts.specs.Raising.{at, Leads, TellsEarliest}
+use Rattle.mat_sets.specs.Search.{those_below}
+use Rattle.mat_cuts.specs.Growing.{is_timed, TellsEarliest}
+use Rattle.mat_cuts.specs.Raising.{at}
+use Rattle.mat_cuts.proofs.Loops.{those-passes, those-set}
 use Rattle.mat_cuts.proofs.Trees.{some_leaves, IsGrowing-cost, IsGrowing-first, IsGrowing-next, IsGrowing-spans}
 use Rattle.mat_cuts.proofs.growing.grow.Goals as goal
+
+pub timed_arcs-requires : goal.timed_arcs-requires
+timed_arcs-requires c =
+    let same = ap length c.as_slice-since.ensures.value in
+    let long = c.requires.raised.since_long in
+    let few = c.requires.graph.few in
+    omega arith
 
 pub loop-init : goal.loop-init
 loop-init c = record {
@@ -11,22 +22,46 @@ loop-init c = record {
   size = ap (λ t. suc (length t)) c.new-tree.ensures.members;
 }
 
+pub earliest-requires-clause-long : goal.earliest-requires-clause-long
+earliest-requires-clause-long c = ap length c.as_slice-since.ensures.value ∙ c.requires.raised.since_long
+
+pub earliest-requires-clause-set : goal.earliest-requires-clause-set
+earliest-requires-clause-set c =
+    let since = c.args.raised.now.since.items in
+    let those = c.deref.ensures.value ∙ c.in_ok-timed.ensures ∙ ap (λ s. those_below (length s) (is_timed s)) c.as_slice-since.ensures.value
+    ∙ ap (λ n. those_below n (is_timed since)) c.requires.raised.since_long in
+    those-set (length c.args.arcs.now) (is_timed since) c.deref.result.now those
+
+pub earliest-requires-clause-timed : goal.earliest-requires-clause-timed
+earliest-requires-clause-timed c = λ a m.
+    let since = c.args.raised.now.since.items in
+    let those = c.deref.ensures.value ∙ c.in_ok-timed.ensures ∙ ap (λ s. those_below (length s) (is_timed s)) c.as_slice-since.ensures.value
+    ∙ ap (λ n. those_below n (is_timed since)) c.requires.raised.since_long in
+    let early = ltb-true (at since a) 1000000 (those-passes (length c.args.arcs.now) (is_timed since) c.deref.result.now those a m) in
+    let read = ap (λ s. at s a) c.as_slice-since.ensures.value in
+    omega arith
+
 pub unreachable-requires : goal.unreachable-requires
 unreachable-requires c =
     let arcs = c.args.arcs.now in
-    let tells = subst (TellsEarliest (length arcs) (ends_of arcs) c.deref.result.now c.loop.reached) c.in_default.is c.earliest.ensures in
-    some_leaves c.args.vertices arcs c.args.costs.now c.args.root c.args.raised.now.cuts.items c.deref.result.now c.loop.reached c.loop.tree
-    (length c.args.raised.now.cuts.items) c.requires.few
-    (λ v l. subst (λ s. Leads (length arcs) (ends_of arcs) s (length c.args.raised.now.cuts.items) c.args.root v) (sym c.deref.ensures.value) (c.requires.leads v l)) c.loop.invariant.grows
+    let since = c.args.raised.now.since.items in
+    let those = c.deref.ensures.value ∙ c.in_ok-timed.ensures ∙ ap (λ s. those_below (length s) (is_timed s)) c.as_slice-since.ensures.value
+    ∙ ap (λ n. those_below n (is_timed since)) c.requires.raised.since_long in
+    let tells = subst (TellsEarliest (ends_of arcs) c.as_slice-since.result.now c.deref.result.now c.loop.reached) c.in_default.is c.earliest.ensures in
+    some_leaves c.args.vertices arcs c.args.costs.now c.args.root c.args.raised.now.cuts.items since c.deref.result.now c.loop.reached c.loop.tree
+    (length c.args.raised.now.cuts.items) c.requires.few those c.requires.leads c.loop.invariant.grows
     (let s = c.loop.invariant.size in let t = c.loop-test.true in omega arith) tells
 
 pub loop-preserved : goal.loop-preserved
 loop-preserved c =
     let arcs = c.args.arcs.now in
-    let early = subst (TellsEarliest (length arcs) (ends_of arcs) c.deref.result.now c.loop.reached) c.in-Some.is c.earliest.ensures in
+    let since = c.args.raised.now.since.items in
+    let those = c.deref.ensures.value ∙ c.in_ok-timed.ensures ∙ ap (λ s. those_below (length s) (is_timed s)) c.as_slice-since.ensures.value
+    ∙ ap (λ n. those_below n (is_timed since)) c.requires.raised.since_long in
+    let early = subst (TellsEarliest (ends_of arcs) c.as_slice-since.result.now c.deref.result.now c.loop.reached) c.in-Some.is c.earliest.ensures in
     let next = IsGrowing-next c.args.vertices arcs c.args.costs.now c.args.root c.args.raised.now.cuts.items c.args.raised.now.reduced.items
-    c.args.raised.now.since.items c.deref.result.now c.loop.reached c.loop.tree c.insert-in-loop.new.self c.add.new.self c.in-Some.a c.deref.ensures.value
-    c.requires.raised c.requires.graph early c.loop.invariant.grows c.in_ok-insert-2.ensures.ok c.in_ok-add.ensures.ok.1 in
+    since c.as_slice-since.result.now c.deref.result.now c.loop.reached c.loop.tree c.insert-in-loop.new.self c.add.new.self c.in-Some.a
+    c.as_slice-since.ensures.value those c.requires.raised c.requires.graph early c.loop.invariant.grows c.in_ok-insert-2.ensures.ok c.in_ok-add.ensures.ok.1 in
     record { grows = next.0; size = (let l = next.1 in let s = c.loop.invariant.size in omega arith) }
 
 pub returns-clause-spans : goal.returns-clause-spans
@@ -35,4 +70,5 @@ returns-clause-spans c = IsGrowing-spans c.args.vertices c.args.arcs.now c.args.
 
 pub returns-clause-cost : goal.returns-clause-cost
 returns-clause-cost c = IsGrowing-cost c.args.vertices c.args.arcs.now c.args.costs.now c.args.root c.args.raised.now.cuts.items c.loop.reached c.loop.tree
-    c.requires.raised.each c.loop.invariant.grows (let s = c.loop.invariant.size in let t = c.loop-test.false in let r = c.requires.root in omega (arith, c.loop.auto.counter-end))
+    c.requires.raised.each c.loop.invariant.grows
+    (let s = c.loop.invariant.size in let t = c.loop-test.false in let r = c.requires.root in omega (arith, c.loop.auto.counter-end))

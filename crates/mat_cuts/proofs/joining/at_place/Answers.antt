@@ -1,4 +1,4 @@
-use Rattle.std.proofs.Common.{sym, ap, eqb, ◌∙◌}
+use Rattle.std.proofs.Common.{ap, eqb, ◌∙◌}
 use Rattle.std.proofs.lemmas.Bool.{eq-eqb, ne_eqb}
 use Rattle.mat_sets.specs.Sets.{with_one}
 use Rattle.mat_sets.proofs.Rounds.{those_below-none, those_below-put, those_below-skip}

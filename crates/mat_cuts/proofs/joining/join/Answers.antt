@@ -1,4 +1,4 @@
-use Rattle.std.proofs.Common.{◌≡◌, ◌+◌, ◌<◌, ◌≤◌, ◌∙◌, length, refl, sym, ap, inl, inr, arith, get_or}
+use Rattle.std.proofs.Common.{◌≡◌, ◌<◌, ◌∙◌, length, refl, inl, inr, arith, get_or}
 use Rattle.std.proofs.lemmas.Grind.{get_or_default_zero}
 use Rattle.mat_cuts.proofs.Loops.{falls-outside, falls-within, AreFalling-end, AreFalling-keep, AreFalling-set}
 use Rattle.mat_cuts.proofs.joining.join.Goals as goal
@@ -16,7 +16,8 @@ loop-v-preserved c =
     let same = c.loop-v.invariant.last_same in
     elim c.if-to-p.branch [
       | then-to-p+then-p-path w ↦ rw w.path-is (record {
-        falling = AreFalling-set to last before place v inside (falls-within to last _ (let a = w.if-to-p.true in omega arith) (let a = w.if-p-path.true in omega arith)) c.loop-v.invariant.falling;
+        falling = AreFalling-set to last before place v inside
+            (falls-within to last _ (let a = w.if-to-p.true in omega arith) (let a = w.if-p-path.true in omega arith)) c.loop-v.invariant.falling;
         last_same = c.loop-v.invariant.last_same;
         fresh_same = c.loop-v.invariant.fresh_same;
       })

@@ -1,49 +1,86 @@
 use mir.Syntax.{w128}
-use Rattle.std.proofs.Common.{◌≡◌, ◌≢◌, ◌+◌, ◌<◌, ◌≤ℤ◌, ◌+ℤ◌, ◌-ℤ◌, ◌∙◌, length, pos, sym, ap, subst, inl, inr, refl, arith, to_z, of_z}
+use Rattle.std.proofs.Common.{◌≡◌, ◌<◌, ◌∙◌, length, get_or, take, pos, ap, subst, inl, inr, refl, arith, to_z, of_z}
 use Rattle.std.proofs.lemmas.Int.{ints, to_z-of_z}
-use Rattle.mat_sets.specs.Graphs.{ends_of}
-use Rattle.mat_cuts.specs.Costs.{cost_at}
-use Rattle.mat_cuts.specs.Raising.{comes}
-use Rattle.mat_cuts.proofs.Loops.{comes-no, comes-yes, get_or_any, IsLowering, IsLowering-skip, IsLowering-take}
+use Rattle.std.proofs.lemmas.List.{get_or_default, take_all}
+use Rattle.mat_sets.specs.Sets.{is_member}
+use Rattle.mat_sets.proofs.Members.{is_member-get_or}
+use Rattle.mat_sets.proofs.Sums.{AllBelow-at}
+use Rattle.mat_cuts.specs.Raising.{IsLowered}
+use Rattle.mat_cuts.proofs.Loops.{IsLowered-more, IsLowered-next, IsLowered-same}
 use Rattle.mat_cuts.proofs.lowering.lower.Goals as goal
-use Rattle.mat_cuts.proofs.lowering.lower.Goals.{then-place-head+then-place-tail+then-left-eq0, then-place-head+then-place-tail+else-left-eq0, else-place-head, else-place-head-via-then-place-head+else-place-tail, else-place-head-via-else-place-head}
+use Rattle.mat_cuts.proofs.lowering.lower.Goals.{then-left-eq0, else-left-eq0}
+
+pub index-requires : goal.index-requires
+index-requires c =
+    let below = AllBelow-at _ c.args.arcs.now c.loop-a.a-index c.requires.set.below c.loop-a-test.true in
+    let long = c.loop-a.invariant.left_long in
+    omega (arith, c.loop-a.reduced.ok.0)
+
+pub index_mut-requires : goal.index_mut-requires
+index_mut-requires c =
+    let below = AllBelow-at _ c.args.arcs.now c.loop-a.a-index c.requires.set.below c.loop-a-test.true in
+    let long = c.loop-a.invariant.left_long in
+    omega (arith, c.loop-a.reduced.ok.0)
+
+pub index_mut-requires-then-left-eq0 : goal.index_mut-requires-then-left-eq0
+index_mut-requires-then-left-eq0 c =
+    let below = AllBelow-at _ c.args.arcs.now c.loop-a.a-index c.requires.set.below c.loop-a-test.true in
+    let long = c.loop-a.invariant.later_long in
+    let same = c.requires.since in
+    omega (arith, c.loop-a.since.ok.0)
+
+pub overflow_sub-left : goal.overflow_sub-left
+overflow_sub-left c =
+    let arcs = c.args.arcs.now in
+    let i = c.loop-a.a-index in
+    let x = get_or arcs i 0 in
+    let left = c.loop-a.reduced.items in
+    let below = AllBelow-at _ arcs i c.requires.set.below c.loop-a-test.true in
+    let inside : x < length left = (let long = c.loop-a.invariant.left_long in omega arith) in
+    let read = c.index.ensures ∙ get_or_default left x c.index.result.now (pos 0) inside in
+    let fits : to_z w128 (of_z w128 c.args.least) ≡ c.args.least = to_z-of_z w128 c.args.least c.ranges.least in
+    let was = IsLowered-next _ _ c.args.time c.args.reduced.now.items c.args.since.now.items arcs i left c.loop-a.since.items c.requires.set
+    c.loop-a-test.true c.loop-a.invariant in
+    let cost = c.requires.range x below in
+    let some = c.requires.some in
+    let enough = c.requires.enough x (is_member-get_or arcs i x c.loop-a-test.true refl) in
+    omega (arith, ints)
 
 pub loop-a-preserved : goal.loop-a-preserved
 loop-a-preserved c =
     let arcs = c.args.arcs.now in
-    let place = c.args.place.now in
-    let last = c.args.last in
-    let a = c.loop-a.a in
-    let test = comes (ends_of arcs) place last in
+    let i = c.loop-a.a-index in
+    let x = get_or arcs i 0 in
+    let left = c.loop-a.reduced.items in
+    let later = c.loop-a.since.items in
     let fits : to_z w128 (of_z w128 c.args.least) ≡ c.args.least = to_z-of_z w128 c.args.least c.ranges.least in
-    let inside : a < length c.loop-a.reduced.items = (let t = c.loop-a-test.true in let r = c.requires.reduced in let long = c.loop-a.invariant.lowered.left_long in omega arith) in
-    let timed : a < length c.loop-a.since.items = (let t = c.loop-a-test.true in let r = c.requires.since in let later = c.loop-a.invariant.lowered.later_long in omega arith) in
-    elim c.if-place-head.branch [
-      | then-place-head+then-place-tail+then-left-eq0 w ↦ rw (w.reduced-is, w.since-is)
-          (IsLowering-take test _ c.args.time c.args.reduced.now.items c.args.since.now.items a c.loop-a.reduced.items c.loop-a.since.items _ _ inside
-          (comes-yes arcs place last a w.if-place-head.true w.if-place-tail.true) (let r = w.index.ensures ∙ get_or_any c.loop-a.reduced.items a w.index.result.now (pos 0) inside in
-          let was = (c.loop-a.invariant.rest a (omega arith)).0 in let low = c.requires.some in let cost = c.requires.range a c.loop-a-test.true in
-          let enough = c.requires.enough a c.loop-a-test.true (comes-yes arcs place last a w.if-place-head.true w.if-place-tail.true) in omega (arith, ints)) (inr (
-            refl,
-            (
-              (let r = w.index.ensures ∙ get_or_any c.loop-a.reduced.items a w.index.result.now (pos 0) inside in
-                  let was = (c.loop-a.invariant.rest a (omega arith)).0 in let low = c.requires.some in let cost = c.requires.range a c.loop-a-test.true in
-                  let enough = c.requires.enough a c.loop-a-test.true (comes-yes arcs place last a w.if-place-head.true w.if-place-tail.true) in let z = w.if-left-eq0.true in omega (arith, ints)),
-              timed,
-            ),
-          )) c.loop-a.invariant)
-      | then-place-head+then-place-tail+else-left-eq0 w ↦ rw (w.reduced-is, w.since-is)
-          (IsLowering-take test _ c.args.time c.args.reduced.now.items c.args.since.now.items a c.loop-a.reduced.items c.loop-a.since.items _ _ inside
-          (comes-yes arcs place last a w.if-place-head.true w.if-place-tail.true) (let r = w.index.ensures ∙ get_or_any c.loop-a.reduced.items a w.index.result.now (pos 0) inside in
-          let was = (c.loop-a.invariant.rest a (omega arith)).0 in let low = c.requires.some in let cost = c.requires.range a c.loop-a-test.true in
-          let enough = c.requires.enough a c.loop-a-test.true (comes-yes arcs place last a w.if-place-head.true w.if-place-tail.true) in omega (arith, ints)) (inl (
-            refl,
-            λ q. (let r = w.index.ensures ∙ get_or_any c.loop-a.reduced.items a w.index.result.now (pos 0) inside in
-                let was = (c.loop-a.invariant.rest a (omega arith)).0 in let low = c.requires.some in let cost = c.requires.range a c.loop-a-test.true in
-                let enough = c.requires.enough a c.loop-a-test.true (comes-yes arcs place last a w.if-place-head.true w.if-place-tail.true) in w.if-left-eq0.false (omega (arith, ints))),
-          )) c.loop-a.invariant)
-      | else-place-head w ↦ rw (w.reduced-is, w.since-is) (IsLowering-skip test _ c.args.time _ _ a _ _ (comes-no arcs place last a (elim w.else-place-head.branch [
-        | else-place-head-via-then-place-head+else-place-tail w2 ↦ inr w2.if-place-tail.false
-        | else-place-head-via-else-place-head w2 ↦ inl w2.if-place-head.false
-      ])) c.loop-a.invariant)
+    let below = AllBelow-at _ arcs i c.requires.set.below c.loop-a-test.true in
+    let inside : x < length left = (let long = c.loop-a.invariant.left_long in omega arith) in
+    let timed : x < length later = (let long = c.loop-a.invariant.later_long in let same = c.requires.since in omega arith) in
+    let read = c.index.ensures ∙ get_or_default left x c.index.result.now (pos 0) inside in
+    let was = IsLowered-next _ _ c.args.time c.args.reduced.now.items c.args.since.now.items arcs i left later c.requires.set
+    c.loop-a-test.true c.loop-a.invariant in
+    let cost = c.requires.range x below in
+    let some = c.requires.some in
+    let enough = c.requires.enough x (is_member-get_or arcs i x c.loop-a-test.true refl) in
+    elim c.if-left-eq0.branch [
+      | then-left-eq0 w ↦ rw w.since-is (IsLowered-more _ _ c.args.time c.args.reduced.now.items c.args.since.now.items arcs i left later _ _
+          c.requires.set.rising c.loop-a-test.true inside (omega (arith, ints))
+          (inr (refl, ((let none = w.if-left-eq0.true in omega (arith, ints)), timed))) c.loop-a.invariant)
+      | else-left-eq0 w ↦ rw w.since-is (IsLowered-more _ _ c.args.time c.args.reduced.now.items c.args.since.now.items arcs i left later _ _
+          c.requires.set.rising c.loop-a-test.true inside (omega (arith, ints))
+          (inl (refl, λ none. w.if-left-eq0.false (omega (arith, ints)))) c.loop-a.invariant)
     ]
+
+pub returns : goal.returns
+returns c =
+    let arcs = c.args.arcs.now in
+    let reduced = c.args.reduced.now.items in
+    let since = c.args.since.now.items in
+    let i = c.loop-a.a-index in
+    let fits : to_z w128 (of_z w128 c.args.least) ≡ c.args.least = to_z-of_z w128 c.args.least c.ranges.least in
+    let all = take_all i arcs (let past = c.loop-a-test.false in omega arith) in
+    IsLowered-same _ c.args.least c.args.time reduced since (λ a. is_member a (take i arcs)) (λ a. is_member a arcs)
+    c.loop-a.reduced.items c.loop-a.since.items (λ a l. ap (is_member a) all)
+    (subst (λ z. IsLowered (length reduced) (λ a. is_member a (take i arcs)) z c.args.time reduced c.loop-a.reduced.items since c.loop-a.since.items) fits
+    c.loop-a.invariant)

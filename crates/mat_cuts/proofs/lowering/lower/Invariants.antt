@@ -1,7 +1,8 @@
-use Rattle.mat_sets.specs.Graphs.{ends_of}
-use Rattle.mat_cuts.specs.Raising.{comes}
-use Rattle.mat_cuts.proofs.Loops.{IsLowering}
+use Rattle.std.proofs.Common.{length, take}
+use Rattle.mat_sets.specs.Sets.{is_member}
+use Rattle.mat_cuts.specs.Raising.{IsLowered}
 use Rattle.mat_cuts.proofs.lowering.lower.Given as goal
 
 abbrev pub invariant-loop-a : goal.invariant-loop-a
-invariant-loop-a l = IsLowering (comes (ends_of l.arcs) l.place l.last) l.least l.time l.fn.reduced.items l.fn.since.items l.a l.reduced.items l.since.items
+invariant-loop-a l = IsLowered (length l.fn.reduced.items) (λ a. is_member a (take l.a-index l.arcs)) l.least l.time
+    l.fn.reduced.items l.reduced.items l.fn.since.items l.since.items

@@ -1,0 +1,8 @@
+use Rattle.std.proofs.Common.{◌≡◌}
+use Rattle.mat_sets.specs.Graphs.{ends_of}
+use Rattle.mat_sets.specs.Search.{those_below}
+use Rattle.mat_cuts.specs.Raising.{comes}
+use Rattle.mat_cuts.proofs.lowering.arcs_coming.Given as goal
+
+abbrev pub invariant-loop-a : goal.invariant-loop-a
+invariant-loop-a l = l.coming.items ≡ those_below l.a (comes (ends_of l.arcs) l.place l.last)
