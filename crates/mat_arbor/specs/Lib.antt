@@ -1,0 +1,3 @@
+pub mod Heads
+pub mod Arborescences
+pub mod Growing

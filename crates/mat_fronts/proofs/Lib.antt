@@ -1,0 +1,3 @@
+pub mod OnceEach
+pub mod ColourCuts
+pub mod Ladders

@@ -1,0 +1,124 @@
+-- At most one element of each label: the matroid, in words; and its rank is at least the number of labels.
+use Rattle.std.proofs.Common.{◌≡◌, ◌≢◌, ℕ, ◌+◌, ◌<◌, ◌≤◌, Bool, true, false, eqb, List, [], length, get_or, map, take, replicate, ◌⊎◌, inl, inr, refl, sym, ap, ◌∙◌, subst, arith}
+use Rattle.std.proofs.lemmas.Bool.{eqb-true, eq-eqb, both_ways, false_from_ne_true, false≢true, or_cases, or_left, or_right}
+use Rattle.std.proofs.lemmas.Grind.{same_number_lists}
+use Rattle.std.proofs.lemmas.List.{get_or-replicate, length-map, length-replicate}
+use Rattle.std.proofs.Math.ListN.{get_or-map as get_or_map}
+use mathlib.Core.Path.{fun_ext}
+use Rattle.mat_sets.proofs.Steps.{is_member-take_more}
+use Rattle.mat_count.specs.Counts.{is_counted}
+use Rattle.mat_sets.specs.Sets.{is_member, IsRising, IsSet, with_one}
+use Rattle.mat_sets.proofs.Ground.{IsSet-with_one, below_member}
+use Rattle.mat_sets.proofs.Members.{is_member-with_one}
+use Rattle.mat_sets.proofs.Subsets.{find_member}
+use Rattle.mat_laws.specs.Matroids.{IsMatroid, IsMaximal}
+use Rattle.mat_laws.specs.Ranks.{rank}
+use Rattle.mat_laws.proofs.RankLaws.{maximal_in, rank-maximal}
+use Rattle.mat_count.specs.Labels.{AreApart, caps_by, classes_by}
+use Rattle.mat_count.specs.PartitionLaws.{partition_laws}
+use Rattle.mat_count.proofs.LabelClasses.{IsPartition-classes_by, caps_by-at, length-caps_by, labelled_apart, labelled_from, labelled_set}
+use Rattle.mat_sets.proofs.OneToOne.{length-covered}
+use Rattle.mat_fronts.specs.Once.{AreLabelsOf, is_once, one_each}
+
+-- the caps as they are made
+pub caps_by-ones : (k : ℕ) → replicate k 1 ≡ caps_by k one_each
+caps_by-ones k = same_number_lists (replicate k 1) (caps_by k one_each) (length-replicate {A = ℕ} k 1 ∙ sym (length-caps_by k one_each)) (λ c l.
+    let small : c < k = rw (length-replicate {A = ℕ} k 1) at l in
+    get_or-replicate {A = ℕ} k c 1 0 small ∙ sym (caps_by-at k one_each c small))
+
+pub once_laws : (n k : ℕ) (label : ℕ → ℕ) → IsMatroid n (is_once n k label)
+once_laws n k label =
+    partition_laws n (classes_by n k label) (caps_by k one_each) (IsPartition-classes_by n k label (caps_by k one_each) (length-caps_by k one_each))
+
+module _ (n k : ℕ) (label : ℕ → ℕ) (below : (e : ℕ) → e < n → label e < k) where
+  pub once_apart : (X : List ℕ) → is_once n k label X ≡ true → AreApart label X
+  once_apart X h = record {
+    apart = λ e f m o same. labelled_apart n k label one_each X h e f m o
+        (below e (below_member (labelled_set n k label one_each X h) m)) (omega arith) same;
+  }
+
+  pub once_set : (X : List ℕ) → is_once n k label X ≡ true → IsSet n X
+  once_set X h = labelled_set n k label one_each X h
+
+  pub once_from : (X : List ℕ) → IsSet n X → AreApart label X → is_once n k label X ≡ true
+  once_from X s apart = labelled_from n k label one_each X s apart (λ e m l. omega arith)
+
+  -- one more element, with a new label
+  once_more : (B : List ℕ) (e : ℕ) → is_once n k label B ≡ true → e < n → ((f : ℕ) → is_member f B ≡ true → label f ≢ label e)
+      → is_once n k label (with_one B e) ≡ true
+  once_more B e h small new = once_from (with_one B e) (IsSet-with_one n B e (once_set B h) small) (record {
+    apart = λ a b m o same. elim (parts a m) [
+      | inl p ↦ elim (parts b o) [
+        | inl q ↦ p ∙ sym q
+        | inr q ↦ absurd (new b q (sym same ∙ ap label p))
+      ]
+      | inr p ↦ elim (parts b o) [
+        | inl q ↦ absurd (new a p (same ∙ ap label q))
+        | inr q ↦ (once_apart B h).apart a b p q same
+      ]
+    ];
+  })
+    where
+      parts : (a : ℕ) → is_member a (with_one B e) ≡ true → (a ≡ e) ⊎ (is_member a B ≡ true)
+      parts a m = elim (or_cases (eqb a e) (is_member a B) (sym (is_member-with_one a e B) ∙ m)) [ inl p ↦ inl (eqb-true a e p) | inr p ↦ inr p ]
+
+  -- the labels of a set are no more than its rank: a largest independent subset has them all
+  pub length-labels : (A C : List ℕ) → IsSet n A → IsRising C → AreLabelsOf label A C → length C ≤ rank (is_once n k label) A
+  length-labels A C s r labels =
+      let laws = once_laws n k label in
+      let b = maximal_in laws A s.rising in
+      omega (
+        arith,
+        rank-maximal laws A b.0 s.rising b.1,
+        length-covered label b.0 C r (λ c m. found b.0 b.1 c (labels.given c m)),
+      )
+    where
+      found : (B : List ℕ) → IsMaximal (is_once n k label) A B → (c : ℕ) → (e : ℕ) × (is_member e A ≡ true) × (label e ≡ c)
+          → (x : ℕ) × (is_member x B ≡ true) × (label x ≡ c)
+      found B max c w = elim (find_member (λ f. eqb (label f) c) B) [
+        | inl f ↦ (f.0, f.1, eqb-true (label f.0) c f.2)
+        | inr none ↦
+            let other : (f : ℕ) → is_member f B ≡ true → label f ≢ label w.0 = λ f m same. both_ways _ (none f m) (eq-eqb (label f) c (same ∙ w.2)) in
+            let out : is_member w.0 B ≡ false = false_from_ne_true _ (λ m. other w.0 m refl) in
+            absurd (both_ways _ (max.full w.0 w.1 out) (once_more B w.0 max.passes (below_member s w.1) other))
+      ]
+
+-- ---- the matroid and the labels as they are made
+
+-- what holds of the matroid that was made holds of the matroid of the labels
+pub once_made : (P : (List ℕ → Bool) → Type 0) (n k count : ℕ) (label : ℕ → ℕ) (classes : List (List ℕ)) (caps : List ℕ) → count ≡ n
+    → classes ≡ classes_by n k label → caps ≡ caps_by k one_each → P (is_counted count classes caps) → P (is_once n k label)
+once_made P n k count label classes caps c s q h =
+    subst (λ (cl : List (List ℕ)). P (is_counted n cl (caps_by k one_each))) s
+    (subst (λ (cp : List ℕ). P (is_counted n classes cp)) q (subst (λ (m : ℕ). P (is_counted m classes caps)) c h))
+
+-- labels that are read off the items of a list
+pub classes_read : (f : ℕ × ℕ → ℕ) (items : List (ℕ × ℕ)) (k : ℕ) (labels : List ℕ) (classes : List (List ℕ)) → f (0, 0) ≡ 0
+    → labels ≡ map f items → classes ≡ classes_by (length labels) k (λ e. get_or labels e 0)
+    → classes ≡ classes_by (length items) k (λ e. f (get_or items e (0, 0)))
+classes_read f items k labels classes start is made =
+    let long : length labels ≡ length items = ap length is ∙ length-map items f in
+    let label : (λ (e : ℕ). get_or labels e 0) ≡ (λ (e : ℕ). f (get_or items e (0, 0))) = fun_ext (λ e.
+    ap (λ xs. get_or xs e 0) is ∙ ap (λ d. get_or (map f items) e d) (sym start) ∙ get_or_map f items e (0, 0)) in
+    made ∙ ap (λ (g : ℕ → ℕ). classes_by (length labels) k g) label ∙ ap (λ (m : ℕ). classes_by m k (λ e. f (get_or items e (0, 0)))) long
+
+-- ---- labels gathered one by one
+
+labels_start : (label : ℕ → ℕ) → AreLabelsOf label [] []
+labels_start label = record { given = λ c m. absurd (false≢true m); held = λ e m. absurd (false≢true m) }
+
+pub labels_more : (label : ℕ → ℕ) (xs : List ℕ) (i : ℕ) (C : List ℕ) → i < length xs → AreLabelsOf label (take i xs) C
+    → AreLabelsOf label (take (i + 1) xs) (with_one C (label (get_or xs i 0)))
+labels_more label xs i C l now = record {
+  given = λ c m. elim (or_cases (eqb c (label x)) (is_member c C) (sym (is_member-with_one c (label x) C) ∙ m)) [
+    | inl same ↦ (x, is_member-take_more xs i x l ∙ or_right (is_member x (take i xs)) (eqb x x) (eq-eqb x x refl), sym (eqb-true c (label x) same))
+    | inr h ↦ (let w = now.given c h in (w.0, is_member-take_more xs i w.0 l ∙ or_left (is_member w.0 (take i xs)) (eqb w.0 x) w.1, w.2))
+  ];
+  held = λ e m. is_member-with_one (label e) (label x) C ∙ elim (or_cases (is_member e (take i xs)) (eqb e x) (sym (is_member-take_more xs i e l) ∙ m)) [
+    | inl h ↦ or_right (eqb (label e) (label x)) (is_member (label e) C) (now.held e h)
+    | inr same ↦ or_left (eqb (label e) (label x)) (is_member (label e) C) (eq-eqb _ _ (ap label (eqb-true e x same)))
+  ];
+}
+  where
+    x : ℕ
+    x = get_or xs i 0

@@ -1,0 +1,14 @@
+//! Rainbow spanning trees and assignments, as common independent sets of two matroids.
+#![tactic(auto)]
+
+mod assignment;
+pub mod laws;
+mod once;
+mod rainbow_ladder;
+mod rainbow_search;
+#[cfg(test)]
+mod tests;
+
+pub use assignment::assign;
+pub use rainbow_ladder::RainbowLadder;
+pub use rainbow_search::rainbow;

@@ -1,0 +1,68 @@
+//! The search for rainbow spanning trees.
+ghost use Rattle.std.specs.Prelude.{◌≡◌, ◌<◌, ◌≤◌, ◌^◌, length, slice_index, IfOk};
+ghost use Rattle.mat_sets.specs.Graphs.{IsGraph};
+ghost use Rattle.mat_sets.specs.Sets.{AllBelow, IsRising};
+ghost use Rattle.mat_sets.specs.Weights.{AreWeightsWithin};
+ghost use Rattle.mat_fronts.specs.Once.{AreLabelsOf};
+ghost use Rattle.mat_fronts.specs.Rainbow.{IsColouring, IsRainbowLadder};
+
+use crate::once::at_most_one;
+use crate::rainbow_ladder::RainbowLadder;
+use mat_graphic::Graphic;
+use mat_sets::{ElemSet, Pairs, Weight};
+use mat_split::intersect_all;
+use std::alloc::{AllocError, Global};
+use std::thread::Threads;
+
+/// The colours of the edges of a set.
+fn colours_on(alloc: Global, colour_of: &[u32], set: &ElemSet) -> Result<ElemSet, AllocError>
+    requires { AllBelow (length colour_of.now) set.now }
+    ensures colours { IfOk result (AreLabelsOf (slice_index colour_of.now) set.now) }
+    ensures rises { IfOk result (λ s. IsRising s) }
+{
+    let mut colours = ElemSet::new(alloc);
+    for e in set.as_slice() {
+        colours.add(colour_of[*e as usize])?;
+    }
+    Ok(colours)
+}
+
+/// A heaviest forest of pairwise different colours for each size, each with a split of the weights that proves it; and where none is a
+/// spanning tree, colours that show that there is none (Schrijver, chapter 41). These are the colours on the cut of the ladder. There
+/// are 1 to 500 vertices and at most 500 edges; both numbers of each weight are at least -10^12 and at most 10^12; there are 1 to 16
+/// workers. The time is that of the intersection of the graphic matroid and the partition matroid of the colours. The only error is
+/// want of memory.
+pub fn rainbow<R: Threads + Sync>(
+    rt: &R,
+    alloc: Global,
+    vertices: u32,
+    edges: &Pairs,
+    colours: u32,
+    colour_of: &[u32],
+    weights: &[Weight],
+    workers: u32,
+) -> Result<RainbowLadder, AllocError>
+    requires graph { IsGraph vertices edges.now }
+    requires vertices { (1 ≤ vertices) × (vertices ≤ 500) }
+    requires few { length edges.now ≤ 500 }
+    requires colouring { IsColouring (length edges.now) colours colour_of.now }
+    requires lengths { length weights.now ≡ length edges.now }
+    requires small { AreWeightsWithin (10 ^ 12) weights.now }
+    requires workers { (1 ≤ workers) × (workers ≤ 16) }
+    ensures { IfOk result (λ r. IsRainbowLadder vertices edges.now colours colour_of.now weights.now r.ladder.rungs.items r.ladder.cut r.missing) }
+{
+    let graphic = Graphic::new(alloc, vertices, edges.copy(alloc)?)?;
+    let classes = at_most_one(alloc, colour_of, colours)?;
+    let ladder = intersect_all(rt, alloc, &graphic, &classes, weights, workers)?;
+    if ladder.rungs.len() == vertices as usize {
+        return Ok(RainbowLadder {
+            ladder,
+            missing: None,
+        });
+    }
+    let missing = colours_on(alloc, colour_of, &ladder.cut)?;
+    Ok(RainbowLadder {
+        ladder,
+        missing: Some(missing),
+    })
+}
