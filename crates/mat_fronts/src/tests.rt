@@ -46,8 +46,7 @@ fn a_triangle_of_two_colours_has_a_rainbow_tree(rt: HostRuntime) -> Result<(), F
     let weights = [weight(3), weight(2), weight(1)];
     let found = rainbow(&rt, alloc, 3, &edges, 2, &[0, 0, 1], &weights, 1)?;
     assert_eq!(rt; found.ladder.rungs.len(), 3);
-    let last = found.ladder.rungs.last();
-    assert!(rt; last.is_some_and(|rung| rung.set.as_slice() == &[0, 2]));
+    assert_eq!(rt; found.ladder.rungs[2].set.as_slice(), [0, 2].as_slice());
     assert!(rt; found.missing.is_none());
     Ok(())
 }
@@ -59,11 +58,10 @@ fn one_colour_is_too_few(rt: HostRuntime) -> Result<(), Fail> {
     let weights = [weight(1), weight(1)];
     let found = rainbow(&rt, alloc, 3, &edges, 1, &[0, 0], &weights, 1)?;
     assert_eq!(rt; found.ladder.rungs.len(), 2);
-    assert!(rt;
-        found
-            .missing
-            .is_some_and(|colours| colours.as_slice() == &[0])
-    );
+    let Some(missing) = &found.missing else {
+        return Err(Fail::new("another kind of answer"));
+    };
+    assert_eq!(rt; missing.as_slice(), [0].as_slice());
     Ok(())
 }
 
