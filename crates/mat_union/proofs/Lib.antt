@@ -1,0 +1,7 @@
+pub mod GraphSteps
+pub mod WalkMoves
+pub mod MovedSets
+pub mod Agreement
+pub mod RowsOfParts
+pub mod UnionRows
+pub mod SearchesOfRows

@@ -1,0 +1,93 @@
+-- Steps of the loops that make the parts after moves.
+use Rattle.std.proofs.Common.{◌≡◌, ℕ, suc, ◌+◌, ◌<◌, ◌≤◌, Bool, true, false, not, ◌||◌, ◌&&◌, cond, eqb, List, [], ◌∷◌, ◌++◌, length, get_or, map, take, refl, sym, ap, ◌∙◌, inl, inr, arith}
+use Rattle.std.proofs.lemmas.Bool.{cases_Bool, eqb-true}
+use Rattle.std.proofs.lemmas.List.{map_more, map-append}
+use Rattle.std.proofs.lemmas.List.Elements.{filter_more}
+use Rattle.std.specs.List.{filter}
+use Rattle.mat_sets.specs.Sets.{all_below, is_member, minus, union, with_one, without_one, IsRising}
+use Rattle.mat_sets.proofs.Members.{set_members, same_members, is_member-minus, is_member-union, is_member-with_one, is_member-without_one, IsRising-minus, IsRising-union, IsRising-with_one, IsRising-without_one}
+use Rattle.mat_sets.proofs.ListParts.{is_member-push}
+use Rattle.mat_sets.proofs.Ground.{all_below-more, all_below-none}
+use Rattle.mat_union.specs.Moves.{elements, entering, no_move}
+use Rattle.mat_union.specs.declared.moves.Move.{Move}
+
+pub elements-more : (moves : List Move) (i : ℕ) → i < length moves → elements (take (i + 1) moves) ≡ elements (take i moves) ++ (get_or moves i no_move).element ∷ []
+elements-more moves i l = map_more (λ v. v.element) moves i no_move l
+
+pub without-more : (part set : List ℕ) (moves : List Move) (i : ℕ) → IsRising part → i < length moves → set ≡ minus part (elements (take i moves))
+    → without_one set (get_or moves i no_move).element ≡ minus part (elements (take (i + 1) moves))
+without-more part set moves i r l e =
+    ap (λ s. without_one s x) e
+    ∙ same_members _ _ (IsRising-without_one _ x (IsRising-minus part _ r)) (IsRising-minus part _ r) (λ k.
+    is_member-without_one k x (minus part (elements (take i moves))) ∙ ap (λ b. b && not (eqb k x)) (is_member-minus k part (elements (take i moves)))
+    ∙ both (is_member k part) (is_member k (elements (take i moves))) (eqb k x)
+    ∙ ap (λ b. is_member k part && not b) (sym (is_member-push k x (elements (take i moves))) ∙ ap (is_member k) (sym (elements-more moves i l)))
+    ∙ sym (is_member-minus k part (elements (take (i + 1) moves))))
+  where
+    x : ℕ
+    x = (get_or moves i no_move).element
+
+    both : (a b c : Bool) → ((a && not b) && not c) ≡ (a && not (b || c))
+    both true true c = refl
+    both true false c = refl
+    both false b c = refl
+
+entering-more : (moves : List Move) (q i : ℕ) → i < length moves
+    → entering (take (i + 1) moves) q ≡ entering (take i moves) q ++ map (λ v. v.element) (cond (eqb (get_or moves i no_move).part q) (get_or moves i no_move ∷ []) [])
+entering-more moves q i l = ap (map (λ v. v.element)) (filter_more (λ v. eqb v.part q) moves i no_move l)
+    ∙ map-append (λ v. v.element) (filter (λ v. eqb v.part q) (take i moves)) (cond (eqb (get_or moves i no_move).part q) (get_or moves i no_move ∷ []) [])
+
+pub entering-found : (start set : List ℕ) (moves : List Move) (q i : ℕ) → IsRising start → i < length moves → eqb (get_or moves i no_move).part q ≡ true
+    → set ≡ union (entering (take i moves) q) start → with_one set (get_or moves i no_move).element ≡ union (entering (take (i + 1) moves) q) start
+entering-found start set moves q i r l here e =
+    ap (λ s. with_one s x) e
+    ∙ same_members _ _ (IsRising-with_one _ x (IsRising-union _ start r)) (IsRising-union _ start r) (λ k.
+    is_member-with_one k x (union (entering (take i moves) q) start) ∙ ap (λ b. eqb k x || b) (is_member-union k (entering (take i moves) q) start)
+    ∙ turn (eqb k x) (is_member k (entering (take i moves) q)) (is_member k start)
+    ∙ ap (λ b. b || is_member k start) (sym (is_member-push k x (entering (take i moves) q)) ∙ ap (is_member k) (sym pushed))
+    ∙ sym (is_member-union k (entering (take (i + 1) moves) q) start))
+  where
+    x : ℕ
+    x = (get_or moves i no_move).element
+
+    pushed : entering (take (i + 1) moves) q ≡ entering (take i moves) q ++ x ∷ []
+    pushed = entering-more moves q i l ∙ rw here refl
+
+    turn : (a b c : Bool) → (a || (b || c)) ≡ ((b || a) || c)
+    turn true true c = refl
+    turn true false c = refl
+    turn false true c = refl
+    turn false false c = refl
+
+pub entering-passed : (moves : List Move) (q i : ℕ) → i < length moves → eqb (get_or moves i no_move).part q ≡ false
+    → entering (take (i + 1) moves) q ≡ entering (take i moves) q
+entering-passed moves q i l other = entering-more moves q i l ∙ rw other (nothing (entering (take i moves) q))
+  where
+    nothing : (xs : List ℕ) → xs ++ [] ≡ xs
+    nothing [] = refl
+    nothing (x ∷ xs) = ap (λ t. x ∷ t) (nothing xs)
+
+pub all-more : (f : ℕ → List ℕ) (n : ℕ) (sets : List (List ℕ)) (set : List ℕ) → sets ≡ map f (all_below n) → set ≡ f n → sets ++ set ∷ [] ≡ map f (all_below (n + 1))
+all-more f n sets set e h = ap (λ s. s ++ set ∷ []) e ∙ ap (λ s. map f (all_below n) ++ s ∷ []) h ∙ sym (ap (map f) (all_below-more n) ∙ map-append f (all_below n) (n ∷ []))
+
+pub all-none : (f : ℕ → List ℕ) → [] ≡ map f (all_below 0)
+all-none f = sym (ap (map f) all_below-none)
+
+pub entering-step : (start set set' : List ℕ) (moves : List Move) (q i : ℕ) → IsRising start → i < length moves
+    → set ≡ union (entering (take i moves) q) start → set' ≡ cond (eqb (get_or moves i no_move).part q) (with_one set (get_or moves i no_move).element) set
+    → set' ≡ union (entering (take (i + 1) moves) q) start
+entering-step start set set' moves q i r l e is = elim (cases_Bool (eqb (get_or moves i no_move).part q)) [
+  | inl a ↦ is ∙ rw a (entering-found start set moves q i r l a e)
+  | inr a ↦ is ∙ rw a (e ∙ ap (λ xs. union xs start) (sym (entering-passed moves q i l a)))
+]
+
+pub union-nil : (a : List ℕ) → a ≡ union [] a
+unfolding union
+union-nil a = refl
+
+pub without-none : (part : List ℕ) → IsRising part → part ≡ minus part []
+without-none part r = same_members part (minus part []) r (IsRising-minus part [] r) (λ k. sym (is_member-minus k part [] ∙ keeps (is_member k part)))
+  where
+    keeps : (a : Bool) → (a && not false) ≡ a
+    keeps true = refl
+    keeps false = refl

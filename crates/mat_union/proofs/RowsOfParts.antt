@@ -1,0 +1,39 @@
+-- Where each list has the rows of the elements of within at its part, it tells the exchanges of these elements: a search for moves, which
+-- stays within, finds what it would find among all exchanges.
+use Rattle.std.proofs.Common.{◌≡◌, ℕ, ◌<◌, Bool, true, false, not, ◌&&◌, List, [], length, get_or, inl, inr, refl, sym, ap, ◌∙◌, subst, arith}
+use Rattle.std.proofs.lemmas.Bool.{and_parts, and_right, cases_Bool, cond-false, cond-true}
+use Rattle.mat_sets.specs.Sets.{is_member, with_one, without_one}
+use Rattle.mat_sets.proofs.Families.{family_union-from}
+use Rattle.mat_sets.proofs.Members.{is_member-filter}
+use Rattle.mat_laws.specs.declared.exchange.Exchange.{Exchange}
+use Rattle.mat_laws.specs.Exchanges.{row_of}
+use Rattle.mat_laws.specs.TightPaths.{exchanges_at, row_in}
+use Rattle.mat_union.specs.Unions.{part_at, test_at}
+use Rattle.mat_union.specs.Moves.{exchanges_of, exchanges_with, is_free}
+use Rattle.mat_union.specs.MoveGraphs.{AreMovable, AreRowsAt}
+use Rattle.mat_union.proofs.Agreement.{AgreeWithin}
+
+pub row_of-adds : (p : List ℕ → Bool) (I : List ℕ) (x : ℕ) → (row_of p I x).addable ≡ (exchanges_at p I).adds x
+row_of-adds p I x = elim (cases_Bool (is_member x I)) [
+  | inl i ↦ ap (λ (r : Exchange). r.addable) (cond-true (is_member x I) _ _ i) ∙ sym (ap (λ b. not b && p (with_one I x)) i)
+  | inr o ↦ ap (λ (r : Exchange). r.addable) (cond-false (is_member x I) _ _ o) ∙ sym (ap (λ b. not b && p (with_one I x)) o)
+]
+
+pub row_of-trades : (p : List ℕ → Bool) (I : List ℕ) (y x : ℕ) → is_member y (row_of p I x).with ≡ (exchanges_at p I).trades y x
+row_of-trades p I y x =
+    let test : Bool → Bool = λ b. is_member y I && (not b && p (with_one (without_one I y) x)) in
+    elim (cases_Bool (is_member x I)) [
+      | inl i ↦ ap (λ (r : Exchange). is_member y r.with) (cond-true (is_member x I) _ _ i) ∙ sym (ap test i ∙ and_right (is_member y I) false refl)
+      | inr o ↦ ap (λ (r : Exchange). is_member y r.with) (cond-false (is_member x I) _ _ o)
+          ∙ is_member-filter (λ z. p (with_one (without_one I z) x)) y I ∙ sym (ap test o)
+    ]
+
+pub rows_agree : {n : ℕ} {tests : List (List ℕ → Bool)} {parts : List (List ℕ)} {rows : List (List Exchange)} {within : List ℕ}
+    → AreMovable n rows parts within → AreRowsAt tests parts within rows
+    → AgreeWithin (length rows) within (exchanges_of rows) (exchanges_with tests parts) (is_free parts within)
+rows_agree {n} {tests} {parts} {rows} {within} movable at = record {
+  adds = λ i x l h. ap (λ (r : Exchange). r.addable) (at.each i x l h) ∙ row_of-adds (test_at tests i) (part_at parts i) x;
+  trades = λ i y x l h. ap (λ (r : Exchange). is_member y r.with) (at.each i x l h) ∙ row_of-trades (test_at tests i) (part_at parts i) y x;
+  starts = λ x h. (and_parts (is_member x within) _ h).0;
+  stays = λ i y x l h t. movable.inside.inside y (family_union-from y parts i (let e = movable.one_each in omega arith) ((movable.trades i x l).inside y t));
+}

@@ -1,0 +1,90 @@
+-- The exchanges of an element at an independent set of the union, by one search for moves from its parts.
+use Rattle.std.proofs.Common.{◌≡◌, ℕ, suc, ◌+◌, ◌<◌, ◌≤◌, Bool, true, false, not, ◌||◌, ◌&&◌, eqb, List, [], length, get_or, refl, sym, ap, ◌∙◌, subst, arith}
+use Rattle.std.proofs.lemmas.Bool.{and_parts, and_from, both_ways, false_from_ne_true, not-true, not_from_false, eqb-true, eq-eqb, or_cases}
+use Rattle.std.specs.List.{filter}
+use Rattle.mat_sets.specs.Sets.{is_member, IsSet, IsSubset, intersection, minus, with_one, without_one}
+use Rattle.mat_sets.specs.Families.{family_union}
+use Rattle.mat_sets.specs.Walks.{IsReachedSet, IsWalk}
+use Rattle.mat_sets.proofs.Members.{filter_same_at, is_member-with_one, IsRising-with_one}
+use Rattle.mat_sets.proofs.Families.{IsRising-family_union}
+use Rattle.mat_sets.proofs.Filters.{filter_whole}
+use Rattle.mat_sets.proofs.Ground.{below_member, IsSet-with_one}
+use Rattle.mat_sets.proofs.Subsets.{IsSubset-refl, IsSubset-with_one}
+use Rattle.mat_sets.proofs.Equalities.{intersection-subset}
+use Rattle.mat_sets.proofs.Cardinalities.{length-with_one}
+use Rattle.mat_laws.specs.declared.exchange.Exchange.{Exchange}
+use Rattle.mat_laws.specs.Exchanges.{row_of}
+use Rattle.mat_laws.proofs.Rows.{exchanged, row_outside}
+use Rattle.mat_union.specs.Unions.{AreMatroids, AreParts, union_test, ranks_sum}
+use Rattle.mat_union.specs.Moves.{can_push, element_at, exchanges_with, is_free, row_found, IsMoves, IsShortestMovePath, IsStuck}
+use Rattle.mat_union.specs.PartLists.{cut_bounds, parts_pass, parts_set, union_only}
+use Rattle.mat_union.specs.UnionLaws.{addable_takes_all, exchanges_reached, moves_keep, reach_inside, stuck_cut}
+use Rattle.mat_union.specs.declared.moves.Move.{Move}
+use Rattle.mat_union.specs.declared.moves.Moves.{Moves}
+use Rattle.mat_union.specs.declared.moves.Moves.TheVariants.{Path, Stuck}
+
+module _ {n : ℕ} (tests : List (List ℕ → Bool)) (laws : AreMatroids n tests) (parts : List (List ℕ)) (are : AreParts tests parts)
+    (x : ℕ) (small : x < n) (out : is_member x (family_union parts) ≡ false) where
+  abbrev held : List ℕ
+  held = family_union parts
+
+  abbrev larger : List ℕ
+  larger = with_one (family_union parts) x
+
+  larger_set : IsSet n larger
+  larger_set = IsSet-with_one n held x (parts_set laws are) small
+
+  -- the only free element of the set with x is x
+  free_is : (v : ℕ) → is_free parts larger v ≡ eqb v x
+  free_is v = ap (λ b. b && not (is_member v held)) (is_member-with_one v x held) ∙ only (eqb v x) (is_member v held) (λ e. ap (λ z. is_member z held) (eqb-true v x e) ∙ out)
+    where
+      only : (a b : Bool) → (a ≡ true → b ≡ false) → ((a || b) && not b) ≡ a
+      only true b h = let f = h refl in grind arith
+      only false true h = refl
+      only false false h = refl
+
+  found_adds : (moves : List Move) → IsShortestMovePath (length parts) (exchanges_with tests parts) (is_free parts larger) moves → union_test n tests larger ≡ true
+  found_adds moves p =
+      let new = moves_keep laws are (is_free parts larger) (λ v h. below_member larger_set (and_parts (is_member v larger) _ h).0)
+      (λ v h. not-true _ (and_parts (is_member v larger) (not (is_member v held)) h).1) moves p in
+      let first : element_at moves 0 ≡ x = eqb-true (element_at moves 0) x (sym (free_is (element_at moves 0)) ∙ p.path.first) in
+      ap (union_test n tests) (sym (new.1.together ∙ ap (with_one held) first)) ∙ parts_pass tests laws new.0 new.1.are
+
+  found_row : (moves : List Move) → IsShortestMovePath (length parts) (exchanges_with tests parts) (is_free parts larger) moves
+      → record { addable = true; with = held } ≡ row_of (union_test n tests) held x
+  found_row moves p =
+      let ok = found_adds moves p in
+      row_outside (union_test n tests) held x (record { addable = true; with = held }) out (sym ok)
+      (sym (filter_whole (exchanged (union_test n tests) held x) held (λ y h. addable_takes_all tests laws held x y (IsRising-family_union parts) ok)))
+
+  module _ (reach : List ℕ) (stuck : IsStuck n (length parts) (exchanges_with tests parts) (is_free parts larger) reach) where
+    stuck_refuses : union_test n tests larger ≡ false
+    stuck_refuses = false_from_ne_true _ (λ ok.
+        let u = union_only tests laws larger ok in
+        let inside : IsSubset held larger = IsSubset-with_one held x in
+        let cut = stuck_cut laws are larger larger_set inside reach stuck in
+        let bound = cut_bounds tests u.parts larger reach laws u.are larger_set.rising stuck.reached.set.rising (reach_inside laws are larger inside reach stuck.reached) in
+        let all = ap length (ap (λ X. intersection X larger) u.together ∙ intersection-subset larger larger larger_set.rising (IsSubset-refl larger)) in
+        let more = length-with_one held x (IsRising-family_union parts) out in
+        let no : ⊥ = omega arith in no)
+
+    from_x : IsReachedSet n (can_push (length parts) (exchanges_with tests parts)) (λ v. eqb v x) reach
+    from_x =
+        let r = stuck.reached in
+        record {
+          set = r.set;
+          starts = λ v l h. r.starts v l (free_is v ∙ h);
+          closed = r.closed;
+          walks = λ v h. (let w = r.walks v h in (w.0, record { arcs = w.1.arcs; long = w.1.long; below = w.1.below; first = sym (free_is (get_or w.0 0 0)) ∙ w.1.first; last = w.1.last; steps = w.1.steps }));
+        }
+
+    unfolding_row : filter (λ y. is_member y reach) held ≡ filter (exchanged (union_test n tests) held x) held
+    unfolding_row = filter_same_at (λ y. is_member y reach) (exchanged (union_test n tests) held x) held (λ y h. sym (exchanges_reached tests laws parts are x small out reach from_x stuck_refuses y h))
+
+    stuck_row : record { addable = false; with = intersection held reach } ≡ row_of (union_test n tests) held x
+    unfolding intersection
+    stuck_row = row_outside (union_test n tests) held x (record { addable = false; with = intersection held reach }) out (sym stuck_refuses) unfolding_row
+
+  pub search_row : (moves : Moves) → IsMoves n (length parts) (exchanges_with tests parts) (is_free parts larger) moves → row_found held moves ≡ row_of (union_test n tests) held x
+  search_row (Path moves) h = found_row moves.items h
+  search_row (Stuck reach) h = stuck_row reach h

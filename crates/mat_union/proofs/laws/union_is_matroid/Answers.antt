@@ -1,0 +1,5 @@
+use Rattle.mat_union.specs.UnionLaws.{union_laws}
+use Rattle.mat_union.proofs.laws.union_is_matroid.Goals as goal
+
+pub returns : goal.returns
+returns c = λ n tests laws. union_laws tests laws

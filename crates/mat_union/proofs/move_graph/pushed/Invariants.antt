@@ -1,0 +1,7 @@
+use Rattle.std.proofs.Common.{◌≡◌, ℕ}
+use Rattle.mat_sets.specs.Sets.{is_member}
+use Rattle.mat_union.specs.Moves.{can_push, exchanges_of}
+use Rattle.mat_union.proofs.move_graph.pushed.Given as goal
+
+abbrev pub invariant-loop-i : goal.invariant-loop-i
+invariant-loop-i l = (v : ℕ) → is_member v l.set ≡ can_push l.i (exchanges_of l.rows) l.u v

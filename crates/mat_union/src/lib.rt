@@ -1,0 +1,14 @@
+//! The union of matroids, and the moves of elements between the parts of an independent set of it.
+#![tactic(auto)]
+
+mod exchange_list;
+pub mod laws;
+mod move_graph;
+mod moved_sets;
+mod moves;
+mod search;
+
+pub use exchange_list::ExchangeList;
+pub use moved_sets::moved_parts;
+pub use moves::{Move, Moves};
+pub use search::union_search;

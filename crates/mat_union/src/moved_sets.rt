@@ -1,0 +1,57 @@
+//! The parts after moves.
+ghost use Rattle.std.specs.Prelude.{◌≡◌, ◌<◌, ◌^◌, length, map, if◌then◌else◌, IfOk, OnOk};
+ghost use Rattle.mat_sets.specs.Families.{AllRising};
+ghost use Rattle.mat_sets.specs.Sets.{all_below, minus, union, with_one, IsRising};
+ghost use Rattle.mat_union.specs.Moves.{elements, entering, moved};
+
+use crate::moves::Move;
+use mat_sets::{ElemSet, SetList};
+use std::alloc::{AllocError, Global};
+
+/// The part without the elements of these moves.
+fn without_moved(alloc: Global, part: &ElemSet, moves: &[Move]) -> Result<ElemSet, AllocError>
+    ensures set { IfOk result (λ s. s ≡ minus part.now (elements moves.now)) }
+    ensures rises { IfOk result (λ s. IsRising s) }
+{
+    let mut set = part.copy(alloc)?;
+    for i in 0..moves.len() {
+        set.take_out(moves[i].element);
+    }
+    Ok(set)
+}
+
+/// Puts x in, where it belongs here.
+fn add_if(set: &mut ElemSet, x: u32, here: bool) -> Result<(), AllocError>
+    ensures ok { OnOk result (set.new ≡ (if here then with_one set.old x else set.old)) }
+    ensures rises { IsRising set.new }
+{
+    set.rises();
+    if here {
+        set.add(x)?;
+    }
+    Ok(())
+}
+
+/// Part q after all moves.
+fn moved_part(alloc: Global, part: &ElemSet, moves: &[Move], q: u32) -> Result<ElemSet, AllocError>
+    ensures set { IfOk result (λ s. s ≡ union (entering moves.now q) (minus part.now (elements moves.now))) }
+    ensures rises { IfOk result (λ s. IsRising s) }
+{
+    let mut set = without_moved(alloc, part, moves)?;
+    for i in 0..moves.len() {
+        add_if(&mut set, moves[i].element, moves[i].part == q)?;
+    }
+    Ok(set)
+}
+
+/// All parts after all moves: each loses the elements that move, and gains those that move into it.
+pub fn moved_parts(alloc: Global, parts: &SetList, moves: &[Move]) -> Result<SetList, AllocError>
+    requires { length parts.now < 2 ^ 32 }
+    ensures { IfOk result (λ new. new ≡ map (moved parts.now moves.now) (all_below (length parts.now))) }
+{
+    let mut sets = Vec::new(alloc);
+    for q in 0..parts.len() {
+        sets.push(moved_part(alloc, parts.get(q), moves, q as u32)?)?;
+    }
+    Ok(SetList::new(sets))
+}
