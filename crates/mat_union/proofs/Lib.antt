@@ -5,3 +5,7 @@ pub mod Agreement
 pub mod RowsOfParts
 pub mod UnionRows
 pub mod SearchesOfRows
+pub mod Taking
+pub mod Asking
+pub mod MovesAlong
+pub mod FoundMoves

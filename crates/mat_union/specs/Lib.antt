@@ -4,4 +4,5 @@ pub mod MoveGraphs
 pub mod PartLists
 pub mod Shifts
 pub mod MoveWalks
+pub mod MoveSearches
 pub mod UnionLaws

@@ -28,7 +28,7 @@ use Rattle.mat_union.specs.MoveWalks.{found_below, found_passes, element_of_list
 use Rattle.mat_union.specs.declared.moves.Move.{Move}
 
 module _ (tests : List (List ℕ → Bool)) (parts : List (List ℕ)) where
-  trade_gives : (q y x : ℕ) → (exchanges_with tests parts q).trades y x ≡ true
+  pub trade_gives : (q y x : ℕ) → (exchanges_with tests parts q).trades y x ≡ true
       → (is_member y (part_at parts q) ≡ true) × (is_member x (part_at parts q) ≡ false) × (test_at tests q (with_one (without_one (part_at parts q) y) x) ≡ true)
   trade_gives q y x h =
       let a = and_parts (is_member y (part_at parts q)) _ h in
@@ -72,26 +72,23 @@ module _ {n : ℕ} {tests : List (List ℕ → Bool)} {parts : List (List ℕ)} 
 
   -- ---- moves along a path with fewest moves
 
-  pub moves_keep : (start : ℕ → Bool) → ((x : ℕ) → start x ≡ true → x < n) → ((x : ℕ) → start x ≡ true → is_member x (family_union parts) ≡ false)
-      → (moves : List Move) → IsShortestMovePath m ex start moves → (new : List (List ℕ)) × AreMoved tests parts moves new
-  moves_keep start small fresh moves p =
-      let b = below_start start small in
-      let c = shortest_walk_is_chordless n (can_push m ex) start (can_enter m ex) (elements moves) (shortest_path_is_walk b moves p) in
-      let le = p.path.long in
-      let long : length (elements moves) ≡ length moves = length-map moves (λ v. v.element) in
-      let k = p.path.steps in
+  -- along moves without a shortcut, of which no element but the last can be added
+  pub chordless_moves : (moves : List Move) (k : ℕ) → length moves ≡ suc k → is_member (element_at moves 0) (family_union parts) ≡ false
+      → ((i : ℕ) → i < suc k → place_at moves i < m)
+      → ((i : ℕ) → i < k → (ex (place_at moves i)).trades (element_at moves (suc i)) (element_at moves i) ≡ true)
+      → ((i j : ℕ) → i < j → j ≤ k → element_at moves i ≢ element_at moves j)
+      → ((i j : ℕ) → suc i < j → j ≤ k → can_push m ex (element_at moves i) (element_at moves j) ≡ false)
+      → ((i : ℕ) → i < k → can_enter m ex (element_at moves i) ≡ false)
+      → (ex (place_at moves k)).adds (element_at moves k) ≡ true
+      → (new : List (List ℕ)) × AreMoved tests parts moves new
+  chordless_moves moves k long fresh places next differ no_chord none adding =
       let e : ℕ → ℕ = λ i. element_at moves i in
       let t : ℕ → ℕ = λ i. place_at moves i in
-      let at : (i : ℕ) → i ≤ k → get_or (elements moves) i 0 ≡ e i = λ i l. element_of_list moves i (omega arith) in
-      let places : (i : ℕ) → i < suc k → t i < m = λ i l. p.path.places i (omega arith) in
-      let s : IsShift tests parts k e t = shift_from k e t (fresh (element_at moves 0) p.path.first) (λ i l. places i (omega arith)) (λ i l. p.path.next i (omega arith))
-      (λ i j l h same. c.differ i j l (omega arith) (at i (omega arith) ∙ same ∙ sym (at j h)))
-      (λ i j l h. pushes_none (e i) (get_or (elements moves) i 0) (e j) (get_or (elements moves) j 0) (sym (at i (omega arith))) (sym (at j h)) (c.no_chord i j l (omega arith))) in
+      let s : IsShift tests parts k e t = shift_from k e t fresh (λ i l. places i (omega arith)) next differ no_chord in
       let blocked : (q : ℕ) → q < m → (i : ℕ) → i < k → t i ≡ q → test_at tests q (with_one (part_at parts q) (e i)) ≡ false = λ q ql i l h.
-      add_none tests parts q (e i)
-      (some_below_none m q (λ r. (ex r).adds (e i)) (ap (can_enter m ex) (sym (at i (omega arith))) ∙ c.goal_once i (omega arith)) ql)
-      (subst (λ r. is_member (e i) (part_at parts r) ≡ false) h (trade_gives tests parts (t i) (e (suc i)) (e i) (p.path.next i (omega arith))).1) in
-      let adds = and_parts (not (is_member (e k) (part_at parts (t k)))) (test_at tests (t k) (with_one (part_at parts (t k)) (e k))) p.path.last in
+      add_none tests parts q (e i) (some_below_none m q (λ r. (ex r).adds (e i)) (none i l) ql)
+      (subst (λ r. is_member (e i) (part_at parts r) ≡ false) h (trade_gives tests parts (t i) (e (suc i)) (e i) (next i l)).1) in
+      let adds = and_parts (not (is_member (e k) (part_at parts (t k)))) (test_at tests (t k) (with_one (part_at parts (t k)) (e k))) adding in
       let passing : (q : ℕ) → q < m → test_at tests q (shifted parts k (suc k) e t q) ≡ true = λ q ql.
       elim (cases_eq (t k) q) [
         | inl here ↦ shifted_passes_last laws are s q ql here (subst (λ r. is_member (e k) (part_at parts r) ≡ false) here (not-true _ adds.0))
@@ -102,14 +99,11 @@ module _ {n : ℕ} {tests : List (List ℕ → Bool)} {parts : List (List ℕ)} 
         record {
           are = new_are laws are s (suc k) (omega arith) (omega arith) places passing;
           each = λ q l. (let ql : q < m = (let r = length-new laws are s (suc k) (omega arith) (omega arith) places passing in omega arith) in
-              part_at-new laws are s (suc k) (omega arith) (omega arith) places passing q ql ∙ same_part k p.path.long q ql);
+              part_at-new laws are s (suc k) (omega arith) (omega arith) places passing q ql ∙ same_part k long q ql);
           together = together_added laws are s places passing;
         },
       )
     where
-      pushes_none : (x x' y y' : ℕ) → x ≡ x' → y ≡ y' → can_push m ex x' y' ≡ false → can_push m ex x y ≡ false
-      pushes_none x x' y y' a c h = rw (a, c) h
-
       same_part : (k : ℕ) → length moves ≡ suc k → (q : ℕ) → q < m → shifted parts k (suc k) (λ i. element_at moves i) (λ i. place_at moves i) q ≡ moved parts moves q
       same_part k long q ql =
           let e : ℕ → ℕ = λ i. element_at moves i in
@@ -132,6 +126,23 @@ module _ {n : ℕ} {tests : List (List ℕ → Bool)} {parts : List (List ℕ)} 
         where
           four : (a b c d : Bool) → a ≡ b → c ≡ d → (a || c) ≡ (b || d)
           four a b c d f g = cc
+
+  pub moves_keep : (start : ℕ → Bool) → ((x : ℕ) → start x ≡ true → x < n) → ((x : ℕ) → start x ≡ true → is_member x (family_union parts) ≡ false)
+      → (moves : List Move) → IsShortestMovePath m ex start moves → (new : List (List ℕ)) × AreMoved tests parts moves new
+  moves_keep start small fresh moves p =
+      let b = below_start start small in
+      let c = shortest_walk_is_chordless n (can_push m ex) start (can_enter m ex) (elements moves) (shortest_path_is_walk b moves p) in
+      let le = p.path.long in
+      let long : length (elements moves) ≡ length moves = length-map moves (λ v. v.element) in
+      let k = p.path.steps in
+      let at : (i : ℕ) → i ≤ k → get_or (elements moves) i 0 ≡ element_at moves i = λ i l. element_of_list moves i (omega arith) in
+      chordless_moves moves k p.path.long (fresh (element_at moves 0) p.path.first) (λ i l. p.path.places i (omega arith)) (λ i l. p.path.next i (omega arith))
+      (λ i j l h same. c.differ i j l (omega arith) (at i (omega arith) ∙ same ∙ sym (at j h)))
+      (λ i j l h. pushes_none (element_at moves i) (get_or (elements moves) i 0) (element_at moves j) (get_or (elements moves) j 0) (sym (at i (omega arith))) (sym (at j h)) (c.no_chord i j l (omega arith)))
+      (λ i l. ap (can_enter m ex) (sym (at i (omega arith))) ∙ c.goal_once i (omega arith)) p.path.last
+    where
+      pushes_none : (x x' y y' : ℕ) → x ≡ x' → y ≡ y' → can_push m ex x' y' ≡ false → can_push m ex x y ≡ false
+      pushes_none x x' y y' a c h = rw (a, c) h
 
   -- ---- the cut of a stuck search
 

@@ -4,11 +4,13 @@
 mod exchange_list;
 pub mod laws;
 mod move_graph;
+mod move_search;
 mod moved_sets;
 mod moves;
 mod search;
 
 pub use exchange_list::ExchangeList;
+pub use move_search::{MoveSearch, Question};
 pub use moved_sets::moved_parts;
 pub use moves::{Move, Moves};
 pub use search::union_search;

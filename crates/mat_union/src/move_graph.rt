@@ -77,7 +77,7 @@ pub(crate) fn enters(rows: &[ExchangeList], u: u32) -> bool
 }
 
 /// Puts these numbers in.
-fn insert_all(set: &mut BitSet, items: &[u32]) -> Result<(), AllocError>
+pub(crate) fn insert_all(set: &mut BitSet, items: &[u32]) -> Result<(), AllocError>
     ensures { OnOk result ((v : ℕ) → is_member v set.new ≡ (is_member v set.old || is_member v items.now)) }
 {
     for x in items {

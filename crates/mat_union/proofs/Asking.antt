@@ -1,0 +1,230 @@
+-- The steps of a search that asks for exchanges: it begins, hears those of an element at one part after the other, and goes on to the next
+-- element of the queue. Whatever holds of the start and goes on along the known arcs holds of what they lead to.
+use Rattle.std.proofs.Common.{◌≡◌, ◌≢◌, ℕ, suc, zero, ◌+◌, ◌*◌, ◌-◌, ◌<◌, ◌≤◌, Bool, true, false, not, ◌||◌, ◌&&◌, ◌⊎◌, eqb, List, [], ◌∷◌, ◌++◌, length, get_or, set, take, inl, inr, refl, sym, ap, ◌∙◌, subst, arith, length-append}
+use Rattle.std.proofs.Math.Nat.{suc-mul}
+use Rattle.std.proofs.Math.Numerals.{add-one}
+use Rattle.std.proofs.lemmas.Bool.{and_parts, both_ways, cases_Bool, cases_eq, cases_lt, eq-eqb, eqb-true, false_from_ne_true, false≢true, ne_eqb, or_cases, or_from, or_left, or_right}
+use Rattle.std.proofs.lemmas.List.{get_or-set_other, get_or-set_same, get_or_append_left, get_or_past, length-set, take-append-le}
+use Rattle.std.proofs.Math.Seq.{get_or-append_seam}
+use Rattle.mat_sets.specs.Search.{some_below}
+use Rattle.mat_sets.specs.Sets.{is_member, without_one}
+use Rattle.mat_sets.proofs.Members.{is_member-append, is_member-get_or, is_member-without_one}
+use Rattle.mat_sets.proofs.Steps.{is_member-take_more}
+use Rattle.mat_laws.specs.TightPaths.{Exchanges}
+use Rattle.mat_union.specs.Moves.{can_enter, can_push}
+use Rattle.mat_union.specs.MoveSearches.{left_over, row_of_table, AreTaken, IsReachingTo, IsSilent}
+use Rattle.mat_union.proofs.Taking.{without-no_longer}
+
+more_below : (i : ℕ) (test : ℕ → Bool) → some_below (suc i) test ≡ (test i || some_below i test)
+unfolding some_below
+more_below i test = refl
+
+nothing_below : (test : ℕ → Bool) → some_below 0 test ≡ false
+unfolding some_below
+nothing_below test = refl
+
+-- ---- the beginning
+
+pub search_begins : (n m : ℕ) (exchanges : ℕ → Exchanges) (among unreached pushes queue : List ℕ) (table : List (List ℕ)) (start : ℕ) → start < n
+    → ((v : ℕ) → is_member v among ≡ true → v < n) → unreached ≡ without_one among start → queue ≡ start ∷ [] → pushes ≡ [] → IsSilent n table
+    → IsReachingTo n m exchanges among start 0 0 queue pushes unreached table
+search_begins n m exchanges among unreached pushes queue table start l small u q p t = rw (u, q, p) (record {
+  size = t.long;
+  told_some = omega arith;
+  first = or_left (eqb start start) false (eq-eqb start start refl);
+  below = λ v h. subst (λ z. z < n) (sym (only v h)) l;
+  among_below = small;
+  inside = λ v h. (and_parts (is_member v among) (not (eqb v start)) (sym (is_member-without_one v start among) ∙ h)).0;
+  reached = λ v h. or_left (eqb v start) (is_member v among) (eq-eqb v start (only v h));
+  left = λ v h o. or_left (eqb v start) false (gone (is_member v among) (eqb v start) h (sym (is_member-without_one v start among) ∙ o));
+  told = λ w v h. absurd (false≢true h);
+  silent = λ w v h. t.empty w v;
+  refused = λ w h. absurd (false≢true h);
+  closed = λ w v h a. absurd (false≢true h);
+  pushed = λ v. sym (nothing_below (λ i. (exchanges i).trades v start));
+  none = nothing_below (λ i. (exchanges i).adds start);
+  least = λ test base step v h. ap test (only v h) ∙ base;
+  fuel = (let s = without-no_longer among start in omega arith);
+})
+  where
+    only : (v : ℕ) → is_member v (start ∷ []) ≡ true → v ≡ start
+    only v h = elim (or_cases (eqb v start) false h) [ inl e ↦ eqb-true v start e | inr e ↦ absurd (false≢true e) ]
+
+    gone : (a e : Bool) → a ≡ true → (a && not e) ≡ false → e ≡ true
+    gone a e h o = grind arith
+
+-- ---- the exchanges at one more part
+
+pub heard_more : {n m : ℕ} {exchanges : ℕ → Exchanges} {among : List ℕ} {start heard head : ℕ} {queue pushes unreached : List ℕ} {table : List (List ℕ)}
+    → IsReachingTo n m exchanges among start heard head queue pushes unreached table → (more row : List ℕ)
+    → ((v : ℕ) → is_member v more ≡ (is_member v pushes || is_member v row))
+    → ((v : ℕ) → is_member v row ≡ (exchanges heard).trades v (get_or queue head 0)) → (exchanges heard).adds (get_or queue head 0) ≡ false
+    → (next : ℕ) → next ≡ suc heard → IsReachingTo n m exchanges among start next head queue more unreached table
+heard_more {n} {m} {exchanges} {among} {start} {heard} {head} {queue} {pushes} {unreached} {table} s more row members trades adds next e = rw e (record {
+  size = s.size;
+  told_some = s.told_some;
+  first = s.first;
+  below = s.below;
+  among_below = s.among_below;
+  inside = s.inside;
+  reached = s.reached;
+  left = s.left;
+  told = s.told;
+  silent = s.silent;
+  refused = s.refused;
+  closed = s.closed;
+  pushed = λ v. members v ∙ join (is_member v pushes) (is_member v row) _ _ (s.pushed v) (trades v) ∙ sym (more_below heard (λ i. (exchanges i).trades v (get_or queue head 0)));
+  none = more_below heard (λ i. (exchanges i).adds (get_or queue head 0)) ∙ or_from _ _ adds s.none;
+  least = s.least;
+  fuel = s.fuel;
+})
+  where
+    join : (a b c d : Bool) → a ≡ c → b ≡ d → (a || b) ≡ (d || c)
+    join true true c d f g = rw (sym f, sym g) refl
+    join true false c d f g = rw (sym f, sym g) refl
+    join false true c d f g = rw (sym f, sym g) refl
+    join false false c d f g = rw (sym f, sym g) refl
+
+-- ---- the next element
+
+module _ {n m : ℕ} {exchanges : ℕ → Exchanges} {among : List ℕ} {start head : ℕ} {queue pushes unreached : List ℕ} {table : List (List ℕ)}
+    (s : IsReachingTo n m exchanges among start m head queue pushes unreached table) (rest more : List ℕ) (t : AreTaken pushes unreached queue rest more)
+    (l : head < length queue) where
+  abbrev u : ℕ
+  u = get_or queue head 0
+
+  abbrev later : List (List ℕ)
+  later = set table u pushes
+
+  u_in : is_member u queue ≡ true
+  u_in = is_member-get_or queue head u l refl
+
+  u_small : u < length table
+  u_small = let h = s.below u u_in in let e = s.size in omega arith
+
+  more_is : (v : ℕ) → is_member v more ≡ (is_member v queue || (is_member v unreached && is_member v pushes))
+  more_is v = ap (is_member v) t.behind ∙ is_member-append v queue t.found ∙ ap (λ b. is_member v queue || b) (t.found_is v)
+
+  more_cases : (v : ℕ) → is_member v more ≡ true → (is_member v queue ≡ true) ⊎ ((is_member v unreached ≡ true) × (is_member v pushes ≡ true))
+  more_cases v h = elim (or_cases (is_member v queue) (is_member v unreached && is_member v pushes) (sym (more_is v) ∙ h)) [
+    | inl a ↦ inl a
+    | inr b ↦ inr (and_parts (is_member v unreached) (is_member v pushes) b)
+  ]
+
+  told_is : (z : ℕ) → is_member z (take (suc head) more) ≡ (is_member z (take head queue) || eqb z u)
+  told_is z = ap (λ xs. is_member z (take (suc head) xs)) t.behind ∙ ap (is_member z) (take-append-le (suc head) queue t.found (omega arith))
+      ∙ ap (λ k. is_member z (take k queue)) (sym (add-one head)) ∙ is_member-take_more queue head z l
+
+  at_u : row_of_table later u ≡ pushes
+  at_u = get_or-set_same table u pushes [] u_small
+
+  elsewhere : (z : ℕ) → z ≢ u → row_of_table later z ≡ row_of_table table z
+  elsewhere z d = get_or-set_other table u z pushes [] d
+
+  not_told : (z : ℕ) → is_member z (take (suc head) more) ≡ false → (is_member z (take head queue) ≡ false) × (z ≢ u)
+  not_told z h = (parts (is_member z (take head queue)) (eqb z u) (sym (told_is z) ∙ h), λ e. both_ways _ (other (is_member z (take head queue)) (eqb z u) (sym (told_is z) ∙ h)) (eq-eqb z u e))
+    where
+      parts : (a b : Bool) → (a || b) ≡ false → a ≡ false
+      parts a b e = grind arith
+
+      other : (a b : Bool) → (a || b) ≡ false → b ≡ false
+      other a b e = grind arith
+
+  told_other : (z : ℕ) → is_member z (take (suc head) more) ≡ true → z ≢ u → is_member z (take head queue) ≡ true
+  told_other z h d = elim (or_cases (is_member z (take head queue)) (eqb z u) (sym (told_is z) ∙ h)) [ inl a ↦ a | inr e ↦ absurd (d (eqb-true z u e)) ]
+
+  -- the arcs that were known are still known
+  arcs_stay : (z v : ℕ) → is_member v (row_of_table table z) ≡ true → is_member v (row_of_table later z) ≡ true
+  arcs_stay z v h = elim (cases_eq z u) [
+    | inl e ↦ subst (λ y. is_member v (row_of_table later y) ≡ true) (sym e) (ap (is_member v) at_u ∙ s.pushed v ∙ known (subst (λ y. is_member v (row_of_table table y) ≡ true) e h))
+    | inr d ↦ ap (is_member v) (elsewhere z d) ∙ h
+  ]
+    where
+      known : is_member v (row_of_table table u) ≡ true → can_push m exchanges u v ≡ true
+      known k = elim (cases_Bool (is_member u (take head queue))) [
+        | inl a ↦ sym (s.told u v a) ∙ k
+        | inr o ↦ absurd (both_ways _ (s.silent u v o) k)
+      ]
+
+  pub search_goes_on : (none : can_enter m exchanges u ≡ false) → (next : ℕ) → next ≡ suc head → (fresh : List ℕ) → fresh ≡ [] → (table' : List (List ℕ)) → table' ≡ later
+      → IsReachingTo n m exchanges among start 0 next more fresh rest table'
+  search_goes_on none next e fresh f table' g = rw (e, f, g) (record {
+    size = length-set table u pushes ∙ s.size;
+    told_some = (let h = ap length t.behind in let k = length-append queue t.found in omega arith);
+    first = more_is start ∙ or_left (is_member start queue) _ s.first;
+    below = λ v h. elim (more_cases v h) [ inl a ↦ s.below v a | inr b ↦ s.among_below v (s.inside v b.0) ];
+    among_below = s.among_below;
+    inside = λ v h. s.inside v (still v h);
+    reached = λ v h. elim (more_cases v h) [ inl a ↦ s.reached v a | inr b ↦ or_right (eqb v start) (is_member v among) (s.inside v b.0) ];
+    left = λ v h o. more_is v ∙ elim (cases_Bool (is_member v unreached)) [
+      | inl a ↦ or_right (is_member v queue) _ (taken (is_member v unreached) (is_member v pushes) a (sym (t.rest_is v) ∙ o))
+      | inr a ↦ or_left (is_member v queue) _ (s.left v h a)
+    ];
+    told = λ z v h. elim (cases_eq z u) [
+      | inl d ↦ subst (λ y. is_member v (row_of_table later y) ≡ can_push m exchanges y v) (sym d) (ap (is_member v) at_u ∙ s.pushed v)
+      | inr d ↦ ap (is_member v) (elsewhere z d) ∙ s.told z v (told_other z h d)
+    ];
+    silent = λ z v h. (let o = not_told z h in ap (is_member v) (elsewhere z o.1) ∙ s.silent z v o.0);
+    refused = λ z h. elim (cases_eq z u) [
+      | inl d ↦ ap (can_enter m exchanges) d ∙ none
+      | inr d ↦ s.refused z (told_other z h d)
+    ];
+    closed = λ z v h a. t.rest_is v ∙ elim (cases_eq z u) [
+      | inl d ↦ hidden (is_member v unreached) (is_member v pushes) (s.pushed v ∙ subst (λ y. can_push m exchanges y v ≡ true) d a)
+      | inr d ↦ missing (is_member v unreached) (is_member v pushes) (s.closed z v (told_other z h d) a)
+    ];
+    pushed = λ v. sym (nothing_below (λ i. (exchanges i).trades v (get_or more (suc head) 0)));
+    none = nothing_below (λ i. (exchanges i).adds (get_or more (suc head) 0));
+    least = λ test base step v h.
+        (let old : (y : ℕ) → is_member y queue ≡ true → test y ≡ true = s.least test base (λ z y k a. step z y k (arcs_stay z y a)) in
+        elim (more_cases v h) [ inl a ↦ old v a | inr b ↦ step u v (old u u_in) (ap (is_member v) at_u ∙ b.1) ]);
+    fuel = (let a = t.fuel in let b = s.fuel in omega arith);
+  })
+    where
+      still : (v : ℕ) → is_member v rest ≡ true → is_member v unreached ≡ true
+      still v h = (and_parts (is_member v unreached) (not (is_member v pushes)) (sym (t.rest_is v) ∙ h)).0
+
+      taken : (a p : Bool) → a ≡ true → (a && not p) ≡ false → (a && p) ≡ true
+      taken a p h o = grind arith
+
+      hidden : (a p : Bool) → p ≡ true → (a && not p) ≡ false
+      hidden a p h = grind arith
+
+      missing : (a p : Bool) → a ≡ false → (a && not p) ≡ false
+      missing a p h = grind arith
+
+-- ---- the questions that are left
+
+pub same_set : (table : List (List ℕ)) (u w : ℕ) (a b : List ℕ) → u ≡ w → a ≡ b → set table u a ≡ set table w b
+same_set table u w a b e f = rw (e, f) refl
+
+pub entered_left : (e e' : Bool) (bound head count part : ℕ) → e ≡ false → e' ≡ true → left_over e' bound head count part < left_over e bound head count part
+entered_left e e' bound head count part a b = rw (a, b) (omega arith)
+
+pub part_left : (e e' : Bool) (bound head count part next : ℕ) → e ≡ false → e' ≡ false → next ≡ suc part → part < count
+    → left_over e' bound head count next < left_over e bound head count part
+part_left e e' bound head count part next a b n l = rw (a, b) (omega arith)
+
+pub closed_left : (e e' : Bool) (bound head next count count' part fresh : ℕ) → e ≡ false → e' ≡ false → count' ≡ count → next ≡ suc head → fresh ≡ 0 → head < bound → suc part ≡ count
+    → left_over e' bound next count' fresh < left_over e bound head count part
+closed_left e e' bound head next count count' part fresh a b c n f l last = rw (a, b, c, f) (fewer (bound - next) (bound - head) (omega arith))
+  where
+    fewer : (x y : ℕ) → y ≡ suc x → suc (x * count + (count - 0)) < suc (y * count + (count - part))
+    fewer x y g = rw g (omega (arith, suc-mul x count))
+
+-- ---- a table with no arcs
+
+pub silent_none : IsSilent 0 []
+silent_none = record { long = refl; empty = λ u v. refl }
+
+pub silent_more : (n : ℕ) (table : List (List ℕ)) (row : List ℕ) → IsSilent n table → row ≡ [] → IsSilent (n + 1) (table ++ row ∷ [])
+silent_more n table row s e = rw e (record {
+  long = (let l = length-append table ([] ∷ []) in let k = s.long in omega arith);
+  empty = λ u v. elim (cases_lt u (length table)) [
+    | inl l ↦ ap (is_member v) (get_or_append_left table ([] ∷ []) [] u l) ∙ s.empty u v
+    | inr g ↦ elim (cases_eq u (length table)) [
+      | inl d ↦ ap (λ k. is_member v (get_or (table ++ [] ∷ []) k [])) d ∙ ap (is_member v) (get_or-append_seam table [] [] [])
+      | inr d ↦ ap (is_member v) (get_or_past (table ++ [] ∷ []) u [] (let l = length-append table ([] ∷ []) in omega arith))
+    ]
+  ];
+})

@@ -1,0 +1,16 @@
+use Rattle.std.proofs.Common.{◌≡◌, ◌∙◌, ◌++◌, ◌∷◌, [], ap, refl}
+use Rattle.std.proofs.lemmas.Bool.{false≢true}
+use Rattle.mat_sets.specs.Sets.{without_one}
+use Rattle.mat_union.proofs.Asking.{search_begins}
+use Rattle.mat_union.proofs.move_search.MoveSearch.new.Goals as goal
+
+pub returns : goal.returns
+returns c = λ exchanges. record {
+  from_start = refl;
+  count = refl;
+  here = c.requires.some;
+  so_far = search_begins c.args.n c.args.count exchanges c.args.among.now _ _ _ _ c.args.start c.requires.below c.requires.among
+      (c.remove.ensures ∙ ap (λ s. without_one s c.args.start) c.in_ok-unreached.ensures)
+      (c.in_ok-push.ensures.items ∙ ap (λ l. l ++ c.args.start ∷ []) c.new-queue.ensures.items) c.new.ensures c.in_ok-table.ensures;
+  enters = λ e. absurd (false≢true e);
+}

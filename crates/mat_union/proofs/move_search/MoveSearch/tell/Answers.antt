@@ -1,0 +1,42 @@
+use Rattle.std.proofs.Common.{◌≡◌, ◌∙◌, ◌<◌, ◌+◌, ◌||◌, ℕ, suc, false, refl, sym, ap, subst, arith, length}
+use Rattle.std.proofs.Math.Numerals.{add-one}
+use Rattle.std.proofs.lemmas.Bool.{both_ways}
+use Rattle.mat_sets.specs.Sets.{is_member}
+use Rattle.mat_union.proofs.Asking.{closed_left, entered_left, heard_more, part_left}
+use Rattle.mat_union.proofs.move_search.MoveSearch.tell.Goals as goal
+
+pub returns-then-row : goal.returns-then-row
+returns-then-row c = λ n m exchanges among start h asks heard. (
+  record { from_start = h.from_start; count = h.count; here = h.here; so_far = h.so_far; enters = λ e. (c.requires.open.more, sym heard.adds ∙ c.if-row.true) },
+  entered_left c.args.self.now.entered _ (suc (length among)) c.args.self.now.head c.args.self.now.count c.args.self.now.part asks refl,
+)
+
+pub returns-then-self : goal.returns-then-self
+returns-then-self c = λ n m exchanges among start h asks heard. (
+  record {
+    from_start = h.from_start;
+    count = h.count;
+    here = (let a = h.count in let b = c.if-self.true in omega arith);
+    so_far = heard_more h.so_far c.insert_all.new.set c.args.row.now.with (λ v. c.in_ok-insert_all.ensures v ∙ ap (λ xs. is_member v c.args.self.now.pushes || is_member v xs) c.as_slice.ensures.items)
+        heard.trades (sym heard.adds ∙ c.if-row.false) (c.args.self.now.part + 1) (add-one c.args.self.now.part);
+    enters = λ e. absurd (both_ways _ asks e);
+  },
+  part_left c.args.self.now.entered c.args.self.now.entered (suc (length among)) c.args.self.now.head c.args.self.now.count c.args.self.now.part (c.args.self.now.part + 1) asks asks (add-one c.args.self.now.part) c.requires.part,
+)
+
+pub returns : goal.returns
+returns c = λ n m exchanges among start h asks heard.
+    let s = c.args.self.now in
+    let a = h.count in
+    let b = c.if-self.false in
+    let d = c.requires.part in
+    let last : suc s.part ≡ m = omega arith in
+    let r = c.in_ok-close.ensures n m exchanges among start (record {
+      from_start = h.from_start;
+      count = h.count;
+      some = (let l = h.here in omega arith);
+      refused = asks;
+      so_far = heard_more h.so_far c.insert_all.new.set c.args.row.now.with (λ v. c.in_ok-insert_all.ensures v ∙ ap (λ xs. is_member v s.pushes || is_member v xs) c.as_slice.ensures.items)
+          heard.trades (sym heard.adds ∙ c.if-row.false) m (sym last);
+    }) in
+    (r.0, closed_left s.entered c.close.new.self.entered (suc (length among)) s.head c.close.new.self.head s.count c.close.new.self.count s.part c.close.new.self.part asks r.1 r.2 r.3 r.4 (let f = h.so_far.fuel in let k = c.requires.open.more in omega arith) (omega arith))

@@ -1,0 +1,264 @@
+//! A search for moves from one element.
+ghost use Rattle.std.specs.Prelude.{◌≡◌, ◌<◌, ◌^◌, ℕ, suc, List, Bool, true, false, [], length, slice_index_or, IfOk, OnOk, MatchOption};
+ghost use Rattle.mat_sets.specs.Families.{family_union, AreDisjoint};
+ghost use Rattle.mat_sets.specs.Sets.{is_member};
+ghost use Rattle.mat_laws.specs.TightPaths.{Exchanges};
+ghost use Rattle.mat_union.specs.Moves.{exchanges_with};
+ghost use Rattle.mat_union.specs.MoveSearches.{questions_left, AreFoundMoves, AreMovesAt, AreTaken, IsHeard, IsHeardAll, IsOpen, IsQuestion, IsReaching, IsSilent};
+ghost use Rattle.mat_union.specs.Unions.{part_at, AreMatroids, AreParts};
+
+use crate::move_graph::insert_all;
+use crate::moves::Move;
+use mat_laws::Exchange;
+use mat_sets::{BitSet, ElemSet, Relation, WalkSearch, shortest_walk};
+use std::alloc::{AllocError, Global};
+
+/// What a search for moves asks for: the exchanges of an element at a part.
+#[derive(Clone, Copy, Debug, Drop)]
+pub struct Question {
+    /// The element.
+    pub element: u32,
+    /// The number of the part.
+    pub part: u32,
+}
+
+/// A search for moves from an element in no part, which asks for the exchanges of the elements that it reaches, part by part, until one
+/// can be added to a part (Schrijver, chapter 42).
+#[derive(Debug, Drop)]
+pub struct MoveSearch {
+    start: u32,
+    // How many parts there are.
+    count: u32,
+    // The elements that were reached, in the order in which they were; the exchanges of the first `head` are told.
+    queue: Vec<u32>,
+    head: usize,
+    // Of the next one they are told at so many parts, and there it can take the place of these.
+    part: u32,
+    pushes: BitSet,
+    // It can be added to the next part.
+    entered: bool,
+    unreached: BitSet,
+    // At each element whose exchanges are told, those whose place it can take.
+    table: Vec<BitSet>,
+}
+
+// A table with no arcs.
+fn empty_table(alloc: Global, n: u32) -> Result<Vec<BitSet>, AllocError>
+    ensures { IfOk result (λ table. IsSilent n table.items) }
+{
+    let mut table = Vec::new(alloc);
+    for _ in 0..n {
+        table.push(BitSet::new(alloc))?;
+    }
+    Ok(table)
+}
+
+// Puts the unreached elements among these into the queue.
+fn take_common(
+    pushes: &BitSet,
+    unreached: &mut BitSet,
+    queue: &mut Vec<u32>,
+) -> Result<(), AllocError>
+    ensures { OnOk result (AreTaken pushes.now unreached.old queue.old.items unreached.new queue.new.items) }
+{
+    while let Some(v) = unreached.next_common(pushes, 0) {
+        queue.push(v)?;
+        unreached.remove(v);
+    }
+    Ok(())
+}
+
+impl MoveSearch {
+    /// A search that reaches no elements but the start and those among these, where there are so many elements and parts. The only
+    /// error is want of memory.
+    pub fn new(
+        alloc: Global,
+        n: u32,
+        count: u32,
+        start: u32,
+        among: &BitSet,
+    ) -> Result<MoveSearch, AllocError>
+        requires some { 0 < count }
+        requires below { start < n }
+        requires among { (v : ℕ) → is_member v among.now ≡ true → v < n }
+        ensures { IfOk result (λ s. (exchanges : ℕ → Exchanges) → IsReaching n count exchanges among.now start s) }
+    {
+        let mut unreached = among.copy(alloc)?;
+        unreached.remove(start);
+        let mut queue = Vec::new(alloc);
+        queue.push(start)?;
+        let table = empty_table(alloc, n)?;
+        Ok(MoveSearch {
+            start,
+            count,
+            queue,
+            head: 0,
+            part: 0,
+            pushes: BitSet::new(alloc),
+            entered: false,
+            unreached,
+            table,
+        })
+    }
+
+    /// The exchanges that are asked for next. None once an element can be added to a part, or all elements that were reached are told.
+    pub fn question(&self) -> Option<Question>
+        ensures { IsQuestion self.now result }
+    {
+        if self.entered || self.head >= self.queue.len() {
+            return None;
+        }
+        Some(Question {
+            element: self.queue[self.head],
+            part: self.part,
+        })
+    }
+
+    /// The elements that were reached.
+    pub fn reached(&self) -> &[u32]
+        ensures { result.now ≡ self.now.queue.items }
+    {
+        &self.queue
+    }
+
+    // All exchanges of the next element are told.
+    fn close(&mut self, alloc: Global) -> Result<(), AllocError>
+        requires { IsOpen self.old }
+        ensures { OnOk result ((n m : ℕ) (exchanges : ℕ → Exchanges) (among : List ℕ) (start : ℕ)
+            → IsHeardAll n m exchanges among start self.old → IsReaching n m exchanges among start self.new
+            × (self.new.entered ≡ false) × (self.new.count ≡ self.old.count) × (self.new.head ≡ suc self.old.head) × (self.new.part ≡ 0)) }
+    {
+        let pushes = std::mem::replace(&mut self.pushes, BitSet::new(alloc));
+        take_common(&pushes, &mut self.unreached, &mut self.queue)?;
+        let u = self.queue[self.head];
+        self.table[u as usize] = pushes;
+        self.head += 1;
+        self.part = 0;
+        Ok(())
+    }
+
+    /// Tells the exchanges that were asked for. The only error is want of memory.
+    pub fn tell(&mut self, alloc: Global, row: &Exchange) -> Result<(), AllocError>
+        requires open { IsOpen self.old }
+        requires part { self.old.part < self.old.count }
+        ensures { OnOk result ((n m : ℕ) (exchanges : ℕ → Exchanges) (among : List ℕ) (start : ℕ) → IsReaching n m exchanges among start self.old
+            → self.old.entered ≡ false → IsHeard exchanges self.old row.now
+            → IsReaching n m exchanges among start self.new × (questions_left among self.new < questions_left among self.old)) }
+    {
+        if row.addable {
+            self.entered = true;
+            return Ok(());
+        }
+        insert_all(&mut self.pushes, row.with.as_slice())?;
+        self.part += 1;
+        if self.part < self.count {
+            return Ok(());
+        }
+        self.close(alloc)?;
+        Ok(())
+    }
+
+    /// The moves that were found, where an element can be added, at these parts. The only error is want of memory.
+    pub fn moves(&self, alloc: Global, parts: &[ElemSet]) -> Result<Option<Vec<Move>>, AllocError>
+        requires few { length self.now.table.items < 2 ^ 32 }
+        requires parts { length parts.now < 2 ^ 32 }
+        requires open { self.now.entered ≡ true → self.now.head < length self.now.queue.items }
+        ensures { IfOk result (λ found. (n : ℕ) (tests : List (List ℕ → Bool)) (among : List ℕ) (start : ℕ) → AreMatroids n tests
+            → AreParts tests parts.now → IsReaching n (length parts.now) (exchanges_with tests parts.now) among start self.now
+            → is_member start (family_union parts.now) ≡ false 
+            → MatchOption found (self.now.entered ≡ false) (λ moves. AreFoundMoves tests parts.now self.now moves.items)) }
+    {
+        if !self.entered {
+            return Ok(None);
+        }
+        let arcs = KnownArcs {
+            table: self.table.as_slice(),
+            start: self.start,
+            goal: self.queue[self.head],
+        };
+        match shortest_walk(alloc, &arcs)? {
+            WalkSearch::Walk(walk) => Ok(Some(moves_to(alloc, parts, &walk, self.part)?)),
+            WalkSearch::Reached(_) => Ok(None),
+        }
+    }
+}
+
+/// The arcs that a search knows, from its start to the element that can be added.
+#[derive(Drop)]
+struct KnownArcs<'a> {
+    table: &'a [BitSet],
+    start: u32,
+    goal: u32,
+}
+
+impl Relation for KnownArcs<'_> {
+    ghost use Rattle.std.specs.Prelude.{◌==◌, ◌<◌, ◌^◌, length};
+    ghost use Rattle.mat_sets.specs.Sets.{is_member};
+    ghost use Rattle.mat_union.specs.MoveSearches.{row_of_table};
+
+    ghost count = { λ g. length g.table.now };
+
+    ghost sound = { λ g. length g.table.now < 2 ^ 32 };
+
+    ghost arc = { λ g u v. is_member v (row_of_table g.table.now u) };
+
+    ghost start = { λ g v. v == g.start };
+
+    ghost goal = { λ g v. v == g.goal };
+
+    fn size(&self) -> u32 {
+        self.table.len() as u32
+    }
+
+    fn is_start(&self, v: u32) -> bool {
+        v == self.start
+    }
+
+    fn is_goal(&self, v: u32) -> bool {
+        v == self.goal
+    }
+
+    fn next_arc(&self, u: u32, among: &BitSet, from: u32) -> Option<u32> {
+        among.next_common(&self.table[u as usize], from)
+    }
+}
+
+// The number of the part that holds an element, or 0 where none does.
+fn place_of(parts: &[ElemSet], v: u32) -> u32
+    requires { length parts.now < 2 ^ 32 }
+    ensures { (q : ℕ) → AreDisjoint parts.now → q < length parts.now → is_member v (part_at parts.now q) ≡ true → result ≡ q }
+{
+    for i in 0..parts.len() {
+        if parts[i].contains(v) {
+            return i as u32;
+        }
+    }
+    0
+}
+
+// The moves along a walk, of which the last goes to this part.
+fn moves_to(
+    alloc: Global,
+    parts: &[ElemSet],
+    walk: &[u32],
+    part: u32,
+) -> Result<Vec<Move>, AllocError>
+    requires few { length parts.now < 2 ^ 32 }
+    requires some { 0 < length walk.now }
+    ensures { IfOk result (λ moves. AreMovesAt parts.now walk.now part moves.items) }
+{
+    let mut moves = Vec::new(alloc);
+    let last = walk.len() - 1;
+    for i in 0..last {
+        let place = place_of(parts, walk[i + 1]);
+        moves.push(Move {
+            element: walk[i],
+            part: place,
+        })?;
+    }
+    moves.push(Move {
+        element: walk[last],
+        part,
+    })?;
+    Ok(moves)
+}
