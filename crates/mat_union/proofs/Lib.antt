@@ -9,3 +9,14 @@ pub mod Taking
 pub mod Asking
 pub mod MovesAlong
 pub mod FoundMoves
+pub mod GrowingParts
+pub mod GrowingSteps
+pub mod SoundMatroids
+pub mod Dominated
+pub mod LevelsShow
+pub mod LevelSteps
+pub mod Killing
+pub mod GrowthLoops
+pub mod NextWeights
+pub mod EmptyParts
+pub mod AskedRows

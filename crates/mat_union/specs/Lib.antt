@@ -6,3 +6,6 @@ pub mod Shifts
 pub mod MoveWalks
 pub mod MoveSearches
 pub mod UnionLaws
+pub mod GrownParts
+pub mod RightUnions
+pub mod WeightLevels

@@ -2,13 +2,16 @@
 
 ghost use Rattle.std.specs.Prelude.{◌≡◌, ◌≤◌, ◌+◌, ℕ, List, Bool, true, false, length};
 ghost use Rattle.mat_sets.specs.Families.{family_union};
+ghost use Rattle.mat_sets.specs.declared.weight.Weight.{Weight};
 ghost use Rattle.mat_sets.specs.Sets.{is_member, IsRising, IsSubset, with_one, minus, intersection};
 ghost use Rattle.mat_laws.specs.declared.exchange.Exchange.{Exchange};
 ghost use Rattle.mat_laws.specs.Exchanges.{row_of};
 ghost use Rattle.mat_laws.specs.Matroids.{IsMatroid};
 ghost use Rattle.mat_union.specs.MoveGraphs.{AreMovable, AreRowsAt};
 ghost use Rattle.mat_union.specs.Moves.{exchanges_of, is_free, row_found, AreMoved, IsMoves, IsShortestMovePath, IsStuck};
+ghost use Rattle.mat_union.specs.RightUnions.{IsBestUnion, IsRightUnion};
 ghost use Rattle.mat_union.specs.Unions.{ranks_sum, union_test, AreMatroids, AreParts, IsInUnion};
+ghost use Rattle.mat_union.specs.declared.best.Level.{Level};
 ghost use Rattle.mat_union.specs.declared.moves.Move.{Move};
 ghost use Rattle.mat_union.specs.declared.moves.Moves.{Moves};
 
@@ -56,4 +59,11 @@ pub fn search_tells_exchanges()
         → AreMovable n rows parts (with_one (family_union parts) x) → AreRowsAt tests parts (with_one (family_union parts) x) rows
         → (moves : Moves) → IsMoves n (length rows) (exchanges_of rows) (is_free parts (with_one (family_union parts) x)) moves
         → row_found (family_union parts) moves ≡ row_of (union_test n tests) (family_union parts) x }
+{}
+
+/// Parts with a cut for each weight are best: no disjoint independent sets hold more elements, and those that hold as many weigh at most as
+/// much (Schrijver, chapter 42).
+pub fn levels_show_best()
+    ensures { (n : ℕ) (tests : List (List ℕ → Bool)) → AreMatroids n tests → (w : List Weight) → length w ≡ n
+        → (parts : List (List ℕ)) (levels : List Level) → IsRightUnion n tests w parts levels → IsBestUnion tests w parts }
 {}

@@ -1,7 +1,9 @@
 //! The union of matroids, and the moves of elements between the parts of an independent set of it.
 #![tactic(auto)]
 
+mod best;
 mod exchange_list;
+mod growth;
 pub mod laws;
 mod move_graph;
 mod move_search;
@@ -9,6 +11,7 @@ mod moved_sets;
 mod moves;
 mod search;
 
+pub use best::{Level, UnionAnswer, best_union};
 pub use exchange_list::ExchangeList;
 pub use move_search::{MoveSearch, Question};
 pub use moved_sets::moved_parts;

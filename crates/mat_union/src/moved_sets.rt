@@ -21,7 +21,7 @@ fn without_moved(alloc: Global, part: &ElemSet, moves: &[Move]) -> Result<ElemSe
 }
 
 /// Puts x in, where it belongs here.
-fn add_if(set: &mut ElemSet, x: u32, here: bool) -> Result<(), AllocError>
+pub(crate) fn add_if(set: &mut ElemSet, x: u32, here: bool) -> Result<(), AllocError>
     ensures ok { OnOk result (set.new ≡ (if here then with_one set.old x else set.old)) }
     ensures rises { IsRising set.new }
 {

@@ -1,0 +1,168 @@
+-- Growing parts. A set that each part spans is closed: from its elements nothing can be added, nor can they take the place of another; so a
+-- search may leave it out. Moves of other elements leave it spanned, and what a stuck search reached is spanned with it.
+use Rattle.std.proofs.Common.{◌≡◌, ◌≢◌, ◌⊎◌, ℕ, suc, ◌+◌, ◌<◌, ◌≤◌, Bool, true, false, not, ◌||◌, ◌&&◌, eqb, ltb, List, [], length, get_or, map, take, inl, inr, refl, sym, ap, ◌∙◌, subst, arith}
+use Rattle.std.proofs.lemmas.Bool.{and_from, and_parts, both_ways, cases_Bool, eq-eqb, eqb-true, false_from_ne_true, lt-ltb, not-true, not_from_false, or_cases, or_left, or_right}
+use Rattle.std.proofs.lemmas.List.{length-map, take_all}
+use Rattle.mat_sets.specs.Families.{family_union}
+use Rattle.mat_sets.specs.Sets.{is_member, IsRising, IsSet, IsSubset, intersection, minus, union, with_one, without_one}
+use Rattle.mat_sets.proofs.Cardinalities.{length-with_one}
+use Rattle.mat_sets.proofs.Families.{family_union-from, family_union-gives, IsRising-family_union}
+use Rattle.mat_sets.proofs.Ground.{below_member}
+use Rattle.mat_sets.proofs.Members.{same_members, is_member-get_or, is_member-intersection, is_member-minus, is_member-union, is_member-with_one, is_member-without_one, IsRising-intersection, IsRising-with_one, set_members}
+use Rattle.mat_sets.proofs.Search.{some_below_from, some_below_gives, some_below_none}
+use Rattle.mat_laws.specs.Matroids.{IsMatroid}
+use Rattle.mat_laws.specs.Ranks.{rank}
+use Rattle.mat_laws.specs.TightPaths.{Exchanges}
+use Rattle.mat_laws.proofs.Cuts.{rank-in_reach}
+use Rattle.mat_laws.proofs.Independent.{rising}
+use Rattle.mat_laws.proofs.RankLaws.{rank_is}
+use Rattle.mat_union.specs.Unions.{part_at, test_at, AreMatroids, AreParts}
+use Rattle.mat_union.specs.GrownParts.{AreDone, AreGrowing}
+use Rattle.mat_union.specs.Moves.{can_enter, can_push, elements, entering, exchanges_with, moved, AreMoved}
+use Rattle.mat_union.specs.MoveSearches.{AreFoundMoves, IsReaching}
+use Rattle.mat_union.specs.MoveWalks.{element_of_list, entering_gives}
+use Rattle.mat_union.specs.PartLists.{law_at, part_set}
+use Rattle.mat_union.specs.UnionLaws.{trade_gives}
+use Rattle.mat_union.specs.declared.move_search.MoveSearch.{MoveSearch}
+use Rattle.mat_union.specs.declared.moves.Move.{Move}
+
+entering_elements : (moves : List Move) (q z : ℕ) → is_member z (entering moves q) ≡ true → is_member z (elements moves) ≡ true
+entering_elements moves q z h =
+    let w = entering_gives moves q z h in
+    let l : w.0 < length (elements moves) = (let a = w.1 in let b : length (elements moves) ≡ length moves = length-map moves (λ v. v.element) in omega arith) in
+    is_member-get_or (elements moves) w.0 z l (element_of_list moves w.0 w.1 ∙ w.3)
+
+-- ---- a set that an independent set spans
+
+module _ {n : ℕ} {p : List ℕ → Bool} (laws : IsMatroid n p) (I D : List ℕ) (rd : IsRising D) (spans : rank p D ≡ length (intersection I D)) (ri : IsRising I) where
+  -- with its members in D it has no other element of D in an independent set
+  no_more : (u : ℕ) → is_member u D ≡ true → is_member u I ≡ false → (J : List ℕ) → p J ≡ true
+      → ((z : ℕ) → is_member z I ≡ true → is_member z D ≡ true → is_member z J ≡ true) → is_member u J ≡ true → ⊥
+  no_more u u_in out J ok holds u_J =
+      let K = with_one (intersection I D) u in
+      let rk = IsRising-with_one (intersection I D) u (IsRising-intersection I D ri) in
+      let pass = laws.subsets K J rk (record { inside = λ z h. elim (or_cases (eqb z u) (is_member z (intersection I D)) (sym (is_member-with_one z u (intersection I D)) ∙ h)) [
+        | inl e ↦ ap (λ y. is_member y J) (eqb-true z u e) ∙ u_J
+        | inr k ↦ (let b = and_parts (is_member z I) (is_member z D) (sym (is_member-intersection z I D) ∙ k) in holds z b.0 b.1)
+      ] }) ok in
+      let most = (rank_is laws D rd).most K pass (record { inside = λ z h. elim (or_cases (eqb z u) (is_member z (intersection I D)) (sym (is_member-with_one z u (intersection I D)) ∙ h)) [
+        | inl e ↦ ap (λ y. is_member y D) (eqb-true z u e) ∙ u_in
+        | inr k ↦ (and_parts (is_member z I) (is_member z D) (sym (is_member-intersection z I D) ∙ k)).1
+      ] }) in
+      let size = length-with_one (intersection I D) u (IsRising-intersection I D ri) (is_member-intersection u I D ∙ ap (λ b. b && is_member u D) out) in
+      let no : ⊥ = omega arith in
+      no
+
+  pub spanned_adds : (u : ℕ) → is_member u D ≡ true → is_member u I ≡ false → p (with_one I u) ≡ false
+  spanned_adds u u_in out = false_from_ne_true _ (λ ok. no_more u u_in out (with_one I u) ok
+      (λ z h d. is_member-with_one z u I ∙ or_right (eqb z u) (is_member z I) h) (is_member-with_one u u I ∙ or_left (eqb u u) (is_member u I) (eq-eqb u u refl)))
+
+  pub spanned_trades : (u y : ℕ) → is_member u D ≡ true → is_member u I ≡ false → is_member y D ≡ false → p (with_one (without_one I y) u) ≡ false
+  spanned_trades u y u_in out y_out = false_from_ne_true _ (λ ok. no_more u u_in out (with_one (without_one I y) u) ok
+      (λ z h d. is_member-with_one z u (without_one I y) ∙ or_right (eqb z u) (is_member z (without_one I y)) (is_member-without_one z y I ∙ kept z h d (eqb z y) refl))
+      (is_member-with_one u u (without_one I y) ∙ or_left (eqb u u) (is_member u (without_one I y)) (eq-eqb u u refl)))
+    where
+      kept : (z : ℕ) → is_member z I ≡ true → is_member z D ≡ true → (b : Bool) → eqb z y ≡ b → (is_member z I && not (eqb z y)) ≡ true
+      kept z h d true e = absurd (both_ways _ y_out (ap (λ v. is_member v D) (sym (eqb-true z y e)) ∙ d))
+      kept z h d false e = rw (h, e) refl
+
+module _ {n : ℕ} {tests : List (List ℕ → Bool)} {parts : List (List ℕ)} {dead alive : List ℕ} (laws : AreMatroids n tests) (g : AreGrowing n tests parts dead alive) where
+  abbrev ex : ℕ → Exchanges
+  ex = exchanges_with tests parts
+
+  alive_or_dead : (v : ℕ) → v < n → is_member v dead ≡ false → is_member v alive ≡ true
+  alive_or_dead v l o = g.others v ∙ and_from (ltb v n) (not (is_member v dead)) (lt-ltb v n l) (not_from_false (is_member v dead) o)
+
+  alive_below : (v : ℕ) → is_member v alive ≡ true → is_member v dead ≡ false
+  alive_below v h = not-true (is_member v dead) (and_parts (ltb v n) (not (is_member v dead)) (sym (g.others v) ∙ h)).1
+
+  -- ---- after moves of other elements
+
+  module _ {s : MoveSearch} {moves : List Move} {start : ℕ} (found : AreFoundMoves tests parts s moves) (from : s.start ≡ start) (lives : is_member start alive ≡ true)
+      (reached : (v : ℕ) → is_member v s.queue.items ≡ true → (eqb v start || is_member v alive) ≡ true) where
+    lives_on : (z : ℕ) → is_member z (elements moves) ≡ true → is_member z dead ≡ false
+    lives_on z h = elim (or_cases (eqb z start) (is_member z alive) (reached z (found.reached z h))) [
+      | inl e ↦ ap (λ v. is_member v dead) (eqb-true z start e) ∙ alive_below start lives
+      | inr k ↦ alive_below z k
+    ]
+
+    same_in_dead : (q : ℕ) → q < length found.new → intersection (part_at found.new q) dead ≡ intersection (part_at parts q) dead
+    same_in_dead q l =
+        let e = found.moved.each q l in
+        let lo : q < length parts = (let a = found.moved.are.one_each in let b = g.are.one_each in omega arith) in
+        same_members _ _ (IsRising-intersection _ dead (part_set laws found.moved.are q l).rising) (IsRising-intersection _ dead (part_set laws g.are q lo).rising) (λ z.
+        is_member-intersection z (part_at found.new q) dead ∙ ap (λ P. is_member z P && is_member z dead) e
+        ∙ ap (λ b. b && is_member z dead) (is_member-union z (entering moves q) (minus (part_at parts q) (elements moves)) ∙ ap (λ b. is_member z (entering moves q) || b) (is_member-minus z (part_at parts q) (elements moves)))
+        ∙ unmoved (is_member z (entering moves q)) (is_member z (elements moves)) (is_member z (part_at parts q)) (is_member z dead) (λ h. lives_on z (entering_elements moves q z h)) (lives_on z)
+        ∙ sym (is_member-intersection z (part_at parts q) dead))
+      where
+        unmoved : (i e p d : Bool) → (i ≡ true → d ≡ false) → (e ≡ true → d ≡ false) → ((i || (p && not e)) && d) ≡ (p && d)
+        unmoved true e p d f h = rw (f refl) (none p)
+          where
+            none : (p : Bool) → (true && false) ≡ (p && false)
+            none true = refl
+            none false = refl
+        unmoved false true p d f h = rw (h refl) (none p)
+          where
+            none : (p : Bool) → ((p && not true) && false) ≡ (p && false)
+            none true = refl
+            none false = refl
+        unmoved false false true d f h = refl
+        unmoved false false false d f h = refl
+
+    pub moves_grow : AreGrowing n tests found.new dead alive
+    moves_grow = record {
+      are = found.moved.are;
+      set = g.set;
+      spans = λ i l. g.spans i (let a = found.moved.are.one_each in let b = g.are.one_each in omega arith) ∙ ap length (sym (same_in_dead i l));
+      others = g.others;
+    }
+
+  -- ---- after a stuck search
+
+  module _ {start : ℕ} {s : MoveSearch} (reaching : IsReaching n (length parts) (exchanges_with tests parts) alive start s) (end : length s.queue.items ≤ s.head) where
+    all_told : take s.head s.queue.items ≡ s.queue.items
+    all_told = take_all s.head s.queue.items end
+
+    is_told : (u : ℕ) → is_member u s.queue.items ≡ true → is_member u (take s.head s.queue.items) ≡ true
+    is_told u h = ap (is_member u) all_told ∙ h
+
+    module _ (dead' alive' : List ℕ) (rises : IsRising dead') (dead_is : (v : ℕ) → is_member v dead' ≡ (is_member v dead || is_member v s.queue.items))
+        (below' : IsSet n dead') (alive_is : (v : ℕ) → is_member v alive' ≡ (is_member v alive && not (is_member v s.queue.items))) where
+      cases_dead : (v : ℕ) → is_member v dead' ≡ true → (is_member v dead ≡ true) ⊎ (is_member v s.queue.items ≡ true)
+      cases_dead v h = or_cases (is_member v dead) (is_member v s.queue.items) (sym (dead_is v) ∙ h)
+
+      not_dead : (v : ℕ) → is_member v dead' ≡ false → (is_member v dead ≡ false) × (is_member v s.queue.items ≡ false)
+      not_dead v h = neither (is_member v dead) (is_member v s.queue.items) (sym (dead_is v) ∙ h)
+        where
+          neither : (a b : Bool) → (a || b) ≡ false → (a ≡ false) × (b ≡ false)
+          neither a b e = grind arith
+
+      no_addition : (i u : ℕ) → i < length parts → is_member u (part_at parts i) ≡ false → is_member u dead' ≡ true → test_at tests i (with_one (part_at parts i) u) ≡ false
+      no_addition i u l out h = elim (cases_dead u h) [
+        | inl d ↦ spanned_adds (law_at laws g.are i l) (part_at parts i) dead g.set.rising (g.spans i l) (part_set laws g.are i l).rising u d out
+        | inr r ↦ false_from_ne_true _ (λ ok. both_ways _ (reaching.so_far.refused u (is_told u r))
+            (some_below_from (length parts) i (λ q. (ex q).adds u) l (and_from _ _ (not_from_false _ out) ok)))
+      ]
+
+      no_exchange : (i u y : ℕ) → i < length parts → is_member u (part_at parts i) ≡ false → is_member u dead' ≡ true → is_member y (part_at parts i) ≡ true → is_member y dead' ≡ false
+          → test_at tests i (with_one (without_one (part_at parts i) y) u) ≡ false
+      no_exchange i u y l out h y_in y_out = elim (cases_dead u h) [
+        | inl d ↦ spanned_trades (law_at laws g.are i l) (part_at parts i) dead g.set.rising (g.spans i l) (part_set laws g.are i l).rising u y d out (not_dead y y_out).0
+        | inr r ↦ false_from_ne_true _ (λ ok.
+            let push : can_push (length parts) ex u y ≡ true = some_below_from (length parts) i (λ q. (ex q).trades y u) l (and_from _ _ y_in (and_from _ _ (not_from_false _ out) ok)) in
+            both_ways _ (not_dead y y_out).1 (reaching.so_far.left y (alive_or_dead y (below_member (part_set laws g.are i l) y_in) (not_dead y y_out).0) (reaching.so_far.closed u y (is_told u r) push)))
+      ]
+
+      pub death_grows : AreGrowing n tests parts dead' alive'
+      death_grows = record {
+        are = g.are;
+        set = below';
+        spans = λ i l. rank-in_reach (law_at laws g.are i l) (part_at parts i) dead' (g.are.passes i l) rises (λ x o h. no_addition i x l o h) (λ x y o h y_in y_out. no_exchange i x y l o h y_in y_out);
+        others = λ v. alive_is v ∙ ap (λ b. b && not (is_member v s.queue.items)) (g.others v) ∙ both (ltb v n) (is_member v dead) (is_member v s.queue.items) ∙ ap (λ b. ltb v n && not b) (sym (dead_is v));
+      }
+        where
+          both : (a b c : Bool) → ((a && not b) && not c) ≡ (a && not (b || c))
+          both true true c = refl
+          both true false c = refl
+          both false b c = refl

@@ -1,0 +1,95 @@
+use Rattle.std.proofs.Common.{◌≡◌, ◌<◌, ◌∙◌, ◌^◌, length, map, refl, subst, sym, ap, arith}
+use Rattle.mat_sets.specs.Sets.{IsRising}
+use Rattle.mat_union.specs.GrownParts.{AreSound}
+use Rattle.mat_union.specs.RightUnions.{IsRightUnion}
+use Rattle.mat_union.proofs.LevelSteps.{fewer_left, level_done, level_fresh, levels_end, levels_more, levels_none, AreLevelsSo}
+use Rattle.mat_union.proofs.SoundMatroids.{sound_at}
+use Rattle.mat_union.proofs.best.best_union.Goals as goal
+
+pub all_lawful-requires-clause-sound : goal.all_lawful-requires-clause-sound
+all_lawful-requires-clause-sound g c κs within =
+    let size = g.M.Matroid.ground_size in
+    let sound = g.M.Matroid.sound in
+    let matroids = c.args.matroids.now in
+    let w = c.args.weights.now in
+    let n_is : c.size-n.result ≡ length w = c.size-n.ensures ∙ (sound_at size sound (length w) matroids c.requires.sound 0 c.index-matroids-0.result c.requires.some c.index-matroids-0.is).1 in
+    subst (λ k. AreSound size sound k matroids) (sym n_is) c.requires.sound
+
+pub no_growth-requires-clause-sound : goal.no_growth-requires-clause-sound
+no_growth-requires-clause-sound g c κs within =
+    let size = g.M.Matroid.ground_size in
+    let sound = g.M.Matroid.sound in
+    let matroids = c.args.matroids.now in
+    let w = c.args.weights.now in
+    let n_is : c.size-n.result ≡ length w = c.size-n.ensures ∙ (sound_at size sound (length w) matroids c.requires.sound 0 c.index-matroids-0.result c.requires.some c.index-matroids-0.is).1 in
+    subst (λ k. AreSound size sound k matroids) (sym n_is) c.requires.sound
+
+pub grow_by-requires-clause-sound : goal.grow_by-requires-clause-sound
+grow_by-requires-clause-sound g c κs within =
+    let size = g.M.Matroid.ground_size in
+    let sound = g.M.Matroid.sound in
+    let matroids = c.args.matroids.now in
+    let w = c.args.weights.now in
+    let n_is : c.size-n.result ≡ length w = c.size-n.ensures ∙ (sound_at size sound (length w) matroids c.requires.sound 0 c.index-matroids-0.result c.requires.some c.index-matroids-0.is).1 in
+    subst (λ k. AreSound size sound k matroids) (sym n_is) c.requires.sound
+
+pub elements_of-requires : goal.elements_of-requires
+elements_of-requires g c =
+    let size = g.M.Matroid.ground_size in
+    let sound = g.M.Matroid.sound in
+    let matroids = c.args.matroids.now in
+    let w = c.args.weights.now in
+    let n_is : c.size-n.result ≡ length w = c.size-n.ensures ∙ (sound_at size sound (length w) matroids c.requires.sound 0 c.index-matroids-0.result c.requires.some c.index-matroids-0.is).1 in
+    let fits = c.size-n.type_inv in
+    omega arith
+
+pub grow_by-requires-clause-rises : goal.grow_by-requires-clause-rises
+grow_by-requires-clause-rises g c κs within = subst IsRising (sym c.as_slice.ensures.items) c.as_slice.ensures.rises
+
+pub grow_by-requires-clause-fresh : goal.grow_by-requires-clause-fresh
+grow_by-requires-clause-fresh g c κs within =
+    let size = g.M.Matroid.ground_size in
+    let sound = g.M.Matroid.sound in
+    let matroids = c.args.matroids.now in
+    let w = c.args.weights.now in
+    let n_is : c.size-n.result ≡ length w = c.size-n.ensures ∙ (sound_at size sound (length w) matroids c.requires.sound 0 c.index-matroids-0.result c.requires.some c.index-matroids-0.is).1 in
+    level_fresh c.size-n.result w c.loop-at.last c.in-Some.at c.loop-at.growth.parts c.loop-at.growth.dead (sym n_is) c.in-Some.ensures.0 c.loop-at.invariant.done c.as_slice.result.now (c.as_slice.ensures.items ∙ c.in_ok-elements.ensures)
+
+pub loop-at-init : goal.loop-at-init
+loop-at-init g c = record {
+  growing = c.in_ok-growth.ensures.growing;
+  kept = c.in_ok-growth.ensures.kept;
+  done = c.in_ok-growth.ensures.done;
+  levels = levels_none c.size-n.result (map g.M.Matroid.indep c.args.matroids.now) c.args.weights.now _ _ c.new-levels.ensures.items;
+}
+
+pub loop-at-preserved : goal.loop-at-preserved
+loop-at-preserved g c =
+    let size = g.M.Matroid.ground_size in
+    let sound = g.M.Matroid.sound in
+    let matroids = c.args.matroids.now in
+    let w = c.args.weights.now in
+    let n_is : c.size-n.result ≡ length w = c.size-n.ensures ∙ (sound_at size sound (length w) matroids c.requires.sound 0 c.index-matroids-0.result c.requires.some c.index-matroids-0.is).1 in
+    let told = c.in_ok-grow_by.ensures in
+    let done = level_done w c.loop-at.last c.in-Some.at c.all_lawful.ensures told.growing (sym n_is) c.in-Some.ensures c.as_slice.result.now (c.as_slice.ensures.items ∙ c.in_ok-elements.ensures) (told.done _ c.loop-at.invariant.done) in
+    record {
+      growing = told.growing;
+      kept = told.kept;
+      done = done;
+      levels = subst (AreLevelsSo c.size-n.result (map g.M.Matroid.indep matroids) w _ _) (sym c.in_ok-push.ensures.items)
+          (levels_more c.all_lawful.ensures (sym n_is) c.loop-at.invariant.levels c.in-Some.ensures _ _ told.growing done told.holds _ refl c.in_ok-cut.ensures.equal);
+    }
+
+pub loop-at-smaller : goal.loop-at-smaller
+loop-at-smaller g c = fewer_left (length c.args.weights.now) c.args.weights.now c.loop-at.last c.in-Some.at c.in-Some.ensures
+
+pub returns : goal.returns
+returns g c =
+    let size = g.M.Matroid.ground_size in
+    let sound = g.M.Matroid.sound in
+    let matroids = c.args.matroids.now in
+    let w = c.args.weights.now in
+    let n_is : c.size-n.result ≡ length w = c.size-n.ensures ∙ (sound_at size sound (length w) matroids c.requires.sound 0 c.index-matroids-0.result c.requires.some c.index-matroids-0.is).1 in
+    let tests = map g.M.Matroid.indep matroids in
+    subst (λ k. IsRightUnion k tests w c.loop-at.growth.parts c.loop-at.levels.items) n_is
+    (levels_end c.size-n.result tests w c.loop-at.last c.loop-at.growth.parts c.loop-at.levels.items c.loop-at.invariant.levels c.loop-at.invariant.growing.are c.in_default.ensures)

@@ -1,0 +1,157 @@
+//! Parts that grow by one element at a time.
+ghost use Rattle.std.specs.Prelude.{◌≡◌, ◌<◌, ◌^◌, ◌||◌, ◌&&◌, ◌==◌, ℕ, Bool, true, false, not, List, [], length, map, None, IfOk, OnOk};
+ghost use Rattle.mat_sets.specs.Families.{family_union};
+ghost use Rattle.mat_sets.specs.Sets.{is_member, IsRising, IsSubset};
+ghost use Rattle.mat_laws.specs.Exchanges.{row_of};
+ghost use Rattle.mat_union.specs.GrownParts.{AreDone, AreGrowing, AreKept, AreSound};
+ghost use Rattle.mat_union.specs.Moves.{exchanges_with};
+ghost use Rattle.mat_union.specs.MoveSearches.{IsQuestion, IsReaching};
+ghost use Rattle.mat_union.specs.Unions.{AreMatroids, AreParts};
+
+use crate::move_search::MoveSearch;
+use crate::moved_sets::moved_parts;
+use mat_laws::{Exchange, Matroid};
+use mat_sets::{BitSet, ElemSet, SetList};
+use std::alloc::{AllocError, Global};
+
+/// Disjoint independent sets, what each matroid keeps of its set, and the elements that no set can take any more.
+#[derive(Drop)]
+pub(crate) struct Growth<K: Drop> {
+    pub(crate) parts: SetList,
+    pub(crate) kept: Vec<K>,
+    pub(crate) dead: ElemSet,
+    // The elements that are not dead.
+    pub(crate) alive: BitSet,
+}
+
+/// The laws hold of each of these matroids.
+pub(crate) fn all_lawful<M: Matroid>(matroids: &[M], n: u32)
+    requires sound { AreSound M.ground_size M.sound n matroids.now }
+    ensures { AreMatroids n (map M.indep matroids.now) }
+{
+    let _size = n;
+    for i in 0..matroids.len() {
+        matroids[i].lawful();
+    }
+}
+
+/// The exchanges of x at a part, by what is kept of it: a member has none.
+fn row_at<M: Matroid>(
+    alloc: Global,
+    m: &M,
+    part: &ElemSet,
+    kept: &M::Kept,
+    x: u32,
+) -> Result<Exchange, AllocError>
+    requires sound { M.sound m.now }
+    requires independent { M.indep m.now part.now ≡ true }
+    requires kept { M.keeps m.now part.now kept.now }
+    requires below { x < M.ground_size m.now }
+    ensures { IfOk result (λ e. e ≡ row_of (M.indep m.now) part.now x) }
+{
+    if part.contains(x) {
+        return Ok(Exchange {
+            addable: false,
+            with: ElemSet::new(alloc),
+        });
+    }
+    m.row(alloc, part, kept, x)
+}
+
+/// What each matroid keeps of its part.
+pub(crate) fn keep_all<M: Matroid>(
+    alloc: Global,
+    matroids: &[M],
+    parts: &SetList,
+    n: u32,
+) -> Result<Vec<M::Kept>, AllocError>
+    requires sound { AreSound M.ground_size M.sound n matroids.now }
+    requires parts { AreParts (map M.indep matroids.now) parts.now }
+    ensures { IfOk result (λ kept. AreKept M.keeps matroids.now parts.now kept.items) }
+{
+    let _size = n;
+    let mut kept = Vec::new(alloc);
+    for i in 0..matroids.len() {
+        kept.push(matroids[i].keep(alloc, parts.get(i))?)?;
+    }
+    Ok(kept)
+}
+
+/// A search for moves from x among the elements that are alive, to its end.
+fn search_from<M: Matroid>(
+    alloc: Global,
+    matroids: &[M],
+    parts: &SetList,
+    kept: &[M::Kept],
+    alive: &BitSet,
+    n: u32,
+    x: u32,
+) -> Result<MoveSearch, AllocError>
+    requires some { 0 < length matroids.now }
+    requires few { length matroids.now < 2 ^ 32 }
+    requires sound { AreSound M.ground_size M.sound n matroids.now }
+    requires parts { AreParts (map M.indep matroids.now) parts.now }
+    requires kept { AreKept M.keeps matroids.now parts.now kept.now }
+    requires alive { (v : ℕ) → is_member v alive.now ≡ true → v < n }
+    requires below { x < n }
+    ensures reaching { IfOk result (λ s. IsReaching n (length parts.now) (exchanges_with (map M.indep matroids.now) parts.now) alive.now x s) }
+    ensures end { IfOk result (λ s. IsQuestion s None) }
+{
+    let mut search = MoveSearch::new(alloc, n, matroids.len() as u32, x, alive)?;
+    while let Some(asked) = search.question() {
+        let i = asked.part as usize;
+        let row = row_at(alloc, &matroids[i], parts.get(i), &kept[i], asked.element)?;
+        search.tell(alloc, &row)?;
+    }
+    Ok(search)
+}
+
+/// These elements are dead.
+fn kill(dead: &mut ElemSet, alive: &mut BitSet, elements: &[u32]) -> Result<(), AllocError>
+    ensures dead { OnOk result ((v : ℕ) → is_member v dead.new ≡ (is_member v dead.old || is_member v elements.now)) }
+    ensures alive { OnOk result ((v : ℕ) → is_member v alive.new ≡ (is_member v alive.old && not (is_member v elements.now))) }
+    ensures rises { IsRising dead.new }
+{
+    dead.rises();
+    for v in elements {
+        dead.add(*v)?;
+        alive.remove(*v);
+    }
+    Ok(())
+}
+
+/// Adds x to the parts by moves along a path, or else all that x reaches is dead (Schrijver, chapter 42).
+pub(crate) fn grow<M: Matroid>(
+    alloc: Global,
+    matroids: &[M],
+    growth: &mut Growth<M::Kept>,
+    n: u32,
+    x: u32,
+) -> Result<(), AllocError>
+    requires some { 0 < length matroids.now }
+    requires few { length matroids.now < 2 ^ 32 }
+    requires sound { AreSound M.ground_size M.sound n matroids.now }
+    requires growing { AreGrowing n (map M.indep matroids.now) growth.old.parts growth.old.dead growth.old.alive }
+    requires kept { AreKept M.keeps matroids.now growth.old.parts growth.old.kept.items }
+    requires fresh { is_member x (family_union growth.old.parts) ≡ false }
+    requires lives { is_member x growth.old.alive ≡ true }
+    ensures growing { OnOk result (AreGrowing n (map M.indep matroids.now) growth.new.parts growth.new.dead growth.new.alive) }
+    ensures kept { OnOk result (AreKept M.keeps matroids.now growth.new.parts growth.new.kept.items) }
+    ensures done { OnOk result ((done : ℕ → Bool) → AreDone n done growth.old.parts growth.old.dead
+        → AreDone n (λ v. done v || v == x) growth.new.parts growth.new.dead) }
+    ensures holds { OnOk result (IsSubset (family_union growth.old.parts) (family_union growth.new.parts)) }
+{
+    all_lawful(matroids, n);
+    let search = search_from(alloc, matroids, &growth.parts, &growth.kept, &growth.alive, n, x)?;
+    match search.moves(alloc, growth.parts.as_slice())? {
+        Some(moves) => {
+            growth.parts = moved_parts(alloc, &growth.parts, &moves)?;
+            growth.kept = keep_all(alloc, matroids, &growth.parts, n)?;
+            Ok(())
+        }
+        None => {
+            kill(&mut growth.dead, &mut growth.alive, search.reached())?;
+            Ok(())
+        }
+    }
+}
