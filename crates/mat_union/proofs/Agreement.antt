@@ -1,6 +1,5 @@
 -- A search for moves reads the rows of the elements in within alone: two families of exchanges that agree there have the same ends.
-use Rattle.std.proofs.Common.{◌≡◌, ℕ, suc, zero, ◌<◌, ◌≤◌, Bool, true, false, eqb, List, length, get_or, refl, sym, ap, ◌∙◌, subst, arith}
-use Rattle.std.proofs.lemmas.Bool.{eqb-true}
+use Rattle.std.proofs.Common.{◌≡◌, ℕ, suc, zero, ◌<◌, Bool, true, eqb, List, length, get_or, sym, ◌∙◌, arith}
 use Rattle.mat_sets.specs.Sets.{is_member}
 use Rattle.mat_sets.specs.Walks.{IsReachedSet, IsWalk}
 use Rattle.mat_sets.proofs.Reach.{reached_by_induction}
@@ -62,10 +61,17 @@ module _ (n : ℕ) {m : ℕ} {within : List ℕ} {one other : ℕ → Exchanges}
         set = r.set;
         starts = r.starts;
         closed = λ u v h l p. r.closed u v h l (same_push (agree_turned a) u v (inside u h) p);
-        walks = λ v h. (let w = r.walks v h in (w.0, record {
-          arcs = w.1.arcs; long = w.1.long; below = w.1.below; first = w.1.first; last = w.1.last;
-          steps = λ i l. same_push a (get_or w.0 i 0) (get_or w.0 (suc i) 0) (walk_inside a n (λ u. eqb u v) w.0 w.1 i (omega arith)) (w.1.steps i l);
-        }));
+        walks = λ v h. (let w = r.walks v h in (
+          w.0,
+          record {
+            arcs = w.1.arcs;
+            long = w.1.long;
+            below = w.1.below;
+            first = w.1.first;
+            last = w.1.last;
+            steps = λ i l. same_push a (get_or w.0 i 0) (get_or w.0 (suc i) 0) (walk_inside a n (λ u. eqb u v) w.0 w.1 i (omega arith)) (w.1.steps i l);
+          },
+        ));
       }
 
   pub same_shortest : (moves : List Move) → IsShortestMovePath m one start moves → IsShortestMovePath m other start moves

@@ -1,6 +1,6 @@
 -- A set that has, for each weight of a member of another set of its size, at least as many members of at least this weight, is as heavy: take
 -- a heaviest member out of both.
-use Rattle.std.proofs.Common.{◌≡◌, ℕ, suc, zero, ◌+◌, ◌<◌, ◌≤◌, Bool, true, false, not, ◌||◌, ◌&&◌, eqb, List, [], ◌∷◌, length, inl, inr, refl, sym, ap, ◌∙◌, subst, arith}
+use Rattle.std.proofs.Common.{◌≡◌, ℕ, suc, zero, ◌≤◌, Bool, true, false, not, ◌&&◌, eqb, List, [], ◌∷◌, length, inl, inr, refl, sym, ap, ◌∙◌, subst, arith}
 use Rattle.std.proofs.lemmas.Bool.{and_from, and_parts, both_ways, cases_Bool, eq-eqb, eqb-true, false_from_ne_true, not-true, not_from_false, or_cases, or_left, or_right}
 use Rattle.std.proofs.lemmas.Int.{ints}
 use Rattle.std.specs.List.{filter}
@@ -10,7 +10,7 @@ use Rattle.mat_sets.specs.declared.weight.Weight.{Weight}
 use Rattle.mat_sets.proofs.Cardinalities.{length-without_one}
 use Rattle.mat_sets.proofs.Filters.{filter_whole, IsRising-filter}
 use Rattle.mat_sets.proofs.Members.{is_member-filter, is_member-without_one, same_members, IsRising-without_one}
-use Rattle.mat_sets.proofs.WeightOrder.{at_most_same, at_most_trans, by_below, below_at_most, below_gives, not_below_from, not_below_gives, pairs}
+use Rattle.mat_sets.proofs.WeightOrder.{at_most_same, at_most_trans, by_below, not_below_from, not_below_gives, pairs}
 use Rattle.mat_sets.proofs.WeightSums.{weight_sum-without_one}
 
 -- whether z weighs at least t
@@ -29,14 +29,22 @@ heaviest_of w x [] = (x, or_left (eqb x x) false (eq-eqb x x refl), λ z h. at_m
 heaviest_of w x (x' ∷ X) =
     let t = heaviest_of w x' X in
     by_below (w t.0) (w x)
-    (λ less. (x, or_left (eqb x x) (is_member x (x' ∷ X)) (eq-eqb x x refl), λ z h. elim (or_cases (eqb z x) (is_member z (x' ∷ X)) h) [
-      | inl e ↦ at_most_same (w z) (w x) (ap w (eqb-true z x e))
-      | inr k ↦ at_most_trans (w z) (w t.0) (w x) (t.2 z k) (omega (arith, ints))
-    ]))
-    (λ most. (t.0, or_right (eqb t.0 x) (is_member t.0 (x' ∷ X)) t.1, λ z h. elim (or_cases (eqb z x) (is_member z (x' ∷ X)) h) [
-      | inl e ↦ subst (λ v. v ≼ w t.0) (sym (ap w (eqb-true z x e))) most
-      | inr k ↦ t.2 z k
-    ]))
+    (λ less. (
+      x,
+      or_left (eqb x x) (is_member x (x' ∷ X)) (eq-eqb x x refl),
+      λ z h. elim (or_cases (eqb z x) (is_member z (x' ∷ X)) h) [
+        | inl e ↦ at_most_same (w z) (w x) (ap w (eqb-true z x e))
+        | inr k ↦ at_most_trans (w z) (w t.0) (w x) (t.2 z k) (omega (arith, ints))
+      ],
+    ))
+    (λ most. (
+      t.0,
+      or_right (eqb t.0 x) (is_member t.0 (x' ∷ X)) t.1,
+      λ z h. elim (or_cases (eqb z x) (is_member z (x' ∷ X)) h) [
+        | inl e ↦ subst (λ v. v ≼ w t.0) (sym (ap w (eqb-true z x e))) most
+        | inr k ↦ t.2 z k
+      ],
+    ))
 
 -- without a member that passes
 filter_without : (f : ℕ → Bool) (x : ℕ) (X : List ℕ) → IsRising X → is_member x X ≡ true → f x ≡ true → suc (length (filter f (without_one X x))) ≡ length (filter f X)

@@ -1,5 +1,5 @@
 -- Empty parts, with which parts begin to grow.
-use Rattle.std.proofs.Common.{◌≡◌, ℕ, suc, ◌+◌, ◌<◌, ◌≤◌, Bool, true, false, not, ◌&&◌, ltb, cond, List, [], ◌∷◌, ◌++◌, length, get_or, map, inl, inr, refl, sym, ap, ◌∙◌, subst, arith, length-append}
+use Rattle.std.proofs.Common.{◌≡◌, ℕ, ◌+◌, Bool, true, false, not, ◌&&◌, ltb, cond, List, [], ◌∷◌, ◌++◌, length, get_or, inl, inr, refl, sym, ap, ◌∙◌, arith, length-append}
 use Rattle.std.proofs.Math.Seq.{get_or-append_seam}
 use Rattle.std.proofs.lemmas.Bool.{both_ways, cases_Bool, cases_eq, cases_lt, false≢true, false_from_ne_true}
 use Rattle.std.proofs.lemmas.List.{get_or_append_left, get_or_past}
@@ -10,7 +10,6 @@ use Rattle.mat_sets.proofs.Families.{family_union-gives}
 use Rattle.mat_sets.proofs.Ground.{is_member-all_below, IsSet-nil}
 use Rattle.mat_sets.proofs.Members.{intersection-none}
 use Rattle.mat_sets.proofs.Rounds.{those_below-put, those_below-skip}
-use Rattle.mat_laws.specs.Ranks.{rank}
 use Rattle.mat_laws.proofs.RankLaws.{rank-maximal}
 use Rattle.mat_sets.proofs.Members.{IsRising-nil}
 use Rattle.mat_union.specs.GrownParts.{AreDone, AreGrowing}

@@ -1,28 +1,24 @@
 -- Growing parts. A set that each part spans is closed: from its elements nothing can be added, nor can they take the place of another; so a
 -- search may leave it out. Moves of other elements leave it spanned, and what a stuck search reached is spanned with it.
-use Rattle.std.proofs.Common.{◌≡◌, ◌≢◌, ◌⊎◌, ℕ, suc, ◌+◌, ◌<◌, ◌≤◌, Bool, true, false, not, ◌||◌, ◌&&◌, eqb, ltb, List, [], length, get_or, map, take, inl, inr, refl, sym, ap, ◌∙◌, subst, arith}
-use Rattle.std.proofs.lemmas.Bool.{and_from, and_parts, both_ways, cases_Bool, eq-eqb, eqb-true, false_from_ne_true, lt-ltb, not-true, not_from_false, or_cases, or_left, or_right}
+use Rattle.std.proofs.Common.{◌≡◌, ◌⊎◌, ℕ, ◌<◌, ◌≤◌, Bool, true, false, not, ◌||◌, ◌&&◌, eqb, ltb, List, length, take, inl, inr, refl, sym, ap, ◌∙◌, arith}
+use Rattle.std.proofs.lemmas.Bool.{and_from, and_parts, both_ways, eq-eqb, eqb-true, false_from_ne_true, lt-ltb, not-true, not_from_false, or_cases, or_left, or_right}
 use Rattle.std.proofs.lemmas.List.{length-map, take_all}
-use Rattle.mat_sets.specs.Families.{family_union}
-use Rattle.mat_sets.specs.Sets.{is_member, IsRising, IsSet, IsSubset, intersection, minus, union, with_one, without_one}
+use Rattle.mat_sets.specs.Sets.{is_member, IsRising, IsSet, intersection, minus, with_one, without_one}
 use Rattle.mat_sets.proofs.Cardinalities.{length-with_one}
-use Rattle.mat_sets.proofs.Families.{family_union-from, family_union-gives, IsRising-family_union}
 use Rattle.mat_sets.proofs.Ground.{below_member}
-use Rattle.mat_sets.proofs.Members.{same_members, is_member-get_or, is_member-intersection, is_member-minus, is_member-union, is_member-with_one, is_member-without_one, IsRising-intersection, IsRising-with_one, set_members}
-use Rattle.mat_sets.proofs.Search.{some_below_from, some_below_gives, some_below_none}
+use Rattle.mat_sets.proofs.Members.{same_members, is_member-get_or, is_member-intersection, is_member-minus, is_member-union, is_member-with_one, is_member-without_one, IsRising-intersection, IsRising-with_one}
+use Rattle.mat_sets.proofs.Search.{some_below_from}
 use Rattle.mat_laws.specs.Matroids.{IsMatroid}
 use Rattle.mat_laws.specs.Ranks.{rank}
 use Rattle.mat_laws.specs.TightPaths.{Exchanges}
 use Rattle.mat_laws.proofs.Cuts.{rank-in_reach}
-use Rattle.mat_laws.proofs.Independent.{rising}
 use Rattle.mat_laws.proofs.RankLaws.{rank_is}
-use Rattle.mat_union.specs.Unions.{part_at, test_at, AreMatroids, AreParts}
-use Rattle.mat_union.specs.GrownParts.{AreDone, AreGrowing}
-use Rattle.mat_union.specs.Moves.{can_enter, can_push, elements, entering, exchanges_with, moved, AreMoved}
+use Rattle.mat_union.specs.Unions.{part_at, test_at, AreMatroids}
+use Rattle.mat_union.specs.GrownParts.{AreGrowing}
+use Rattle.mat_union.specs.Moves.{can_push, elements, entering, exchanges_with}
 use Rattle.mat_union.specs.MoveSearches.{AreFoundMoves, IsReaching}
 use Rattle.mat_union.specs.MoveWalks.{element_of_list, entering_gives}
 use Rattle.mat_union.specs.PartLists.{law_at, part_set}
-use Rattle.mat_union.specs.UnionLaws.{trade_gives}
 use Rattle.mat_union.specs.declared.move_search.MoveSearch.{MoveSearch}
 use Rattle.mat_union.specs.declared.moves.Move.{Move}
 
@@ -41,14 +37,18 @@ module _ {n : ℕ} {p : List ℕ → Bool} (laws : IsMatroid n p) (I D : List �
   no_more u u_in out J ok holds u_J =
       let K = with_one (intersection I D) u in
       let rk = IsRising-with_one (intersection I D) u (IsRising-intersection I D ri) in
-      let pass = laws.subsets K J rk (record { inside = λ z h. elim (or_cases (eqb z u) (is_member z (intersection I D)) (sym (is_member-with_one z u (intersection I D)) ∙ h)) [
-        | inl e ↦ ap (λ y. is_member y J) (eqb-true z u e) ∙ u_J
-        | inr k ↦ (let b = and_parts (is_member z I) (is_member z D) (sym (is_member-intersection z I D) ∙ k) in holds z b.0 b.1)
-      ] }) ok in
-      let most = (rank_is laws D rd).most K pass (record { inside = λ z h. elim (or_cases (eqb z u) (is_member z (intersection I D)) (sym (is_member-with_one z u (intersection I D)) ∙ h)) [
-        | inl e ↦ ap (λ y. is_member y D) (eqb-true z u e) ∙ u_in
-        | inr k ↦ (and_parts (is_member z I) (is_member z D) (sym (is_member-intersection z I D) ∙ k)).1
-      ] }) in
+      let pass = laws.subsets K J rk (record {
+        inside = λ z h. elim (or_cases (eqb z u) (is_member z (intersection I D)) (sym (is_member-with_one z u (intersection I D)) ∙ h)) [
+          | inl e ↦ ap (λ y. is_member y J) (eqb-true z u e) ∙ u_J
+          | inr k ↦ (let b = and_parts (is_member z I) (is_member z D) (sym (is_member-intersection z I D) ∙ k) in holds z b.0 b.1)
+        ];
+      }) ok in
+      let most = (rank_is laws D rd).most K pass (record {
+        inside = λ z h. elim (or_cases (eqb z u) (is_member z (intersection I D)) (sym (is_member-with_one z u (intersection I D)) ∙ h)) [
+          | inl e ↦ ap (λ y. is_member y D) (eqb-true z u e) ∙ u_in
+          | inr k ↦ (and_parts (is_member z I) (is_member z D) (sym (is_member-intersection z I D) ∙ k)).1
+        ];
+      }) in
       let size = length-with_one (intersection I D) u (IsRising-intersection I D ri) (is_member-intersection u I D ∙ ap (λ b. b && is_member u D) out) in
       let no : ⊥ = omega arith in
       no

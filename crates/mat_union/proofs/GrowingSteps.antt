@@ -1,18 +1,18 @@
 -- One more element is done: it came into the parts, or it and all that it reaches are dead.
-use Rattle.std.proofs.Common.{◌≡◌, ◌⊎◌, ℕ, suc, ◌+◌, ◌<◌, ◌≤◌, Bool, true, false, not, ◌||◌, ◌&&◌, eqb, ltb, List, [], length, get_or, map, take, inl, inr, refl, sym, ap, ◌∙◌, subst, arith}
+use Rattle.std.proofs.Common.{◌≡◌, ℕ, ◌≤◌, Bool, true, not, ◌||◌, ◌&&◌, eqb, List, [], length, map, take, inl, inr, refl, sym, ap, ◌∙◌, subst, arith}
 use Rattle.std.proofs.Math.Seq.{ext_get_or}
-use Rattle.std.proofs.lemmas.Bool.{and_parts, both_ways, cases_Bool, eq-eqb, eqb-true, ltb-true, or_cases, or_left, or_right}
-use Rattle.std.proofs.lemmas.List.{get_or-map, length-map, take_all}
+use Rattle.std.proofs.lemmas.Bool.{both_ways, cases_Bool, eq-eqb, eqb-true, or_cases, or_left, or_right}
+use Rattle.std.proofs.lemmas.List.{get_or-map, length-map}
 use Rattle.mat_sets.specs.Families.{family_union}
 use Rattle.mat_sets.specs.Sets.{all_below, is_member, IsRising, IsSet, IsSubset, with_one}
 use Rattle.mat_sets.proofs.Families.{family_union-from}
 use Rattle.mat_sets.proofs.Ground.{below_member, get_or-all_below, length-all_below, AllBelow-from_members}
 use Rattle.mat_sets.proofs.Members.{is_member-with_one}
 use Rattle.mat_sets.proofs.Search.{some_below_gives}
-use Rattle.mat_union.specs.Unions.{part_at, AreMatroids, AreParts}
+use Rattle.mat_union.specs.Unions.{AreMatroids, AreParts}
 use Rattle.mat_union.specs.GrownParts.{AreDone, AreGrowing}
 use Rattle.mat_union.specs.Moves.{exchanges_with, moved, AreMoved}
-use Rattle.mat_union.specs.MoveSearches.{row_of_table, AreFoundMoves, IsReaching}
+use Rattle.mat_union.specs.MoveSearches.{AreFoundMoves, IsReaching}
 use Rattle.mat_union.specs.UnionLaws.{trade_gives}
 use Rattle.mat_union.proofs.GrowingParts.{death_grows, moves_grow}
 use Rattle.mat_union.specs.declared.move_search.MoveSearch.{MoveSearch}

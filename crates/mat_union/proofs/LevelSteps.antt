@@ -1,8 +1,8 @@
 -- One level more: its elements come into the parts or are dead, and then the dead elements are a cut of the level. The cuts of earlier levels
 -- stay right, since the parts lose no element and no parts hold more than a cut allows.
-use Rattle.std.proofs.Common.{◌≡◌, ◌⊎◌, ℕ, suc, zero, ◌+◌, ◌<◌, ◌≤◌, Bool, true, false, not, ◌||◌, ◌&&◌, eqb, ltb, List, [], ◌∷◌, ◌++◌, length, get_or, Option, None, Some, inl, inr, refl, sym, ap, ◌∙◌, subst, arith, length-append}
+use Rattle.std.proofs.Common.{◌≡◌, ℕ, suc, ◌<◌, Bool, true, false, not, ◌||◌, ◌&&◌, ltb, List, [], ◌∷◌, ◌++◌, length, Option, None, Some, inl, inr, refl, sym, ap, ◌∙◌, subst, arith, length-append}
 use Rattle.std.proofs.Math.Seq.{get_or-append_seam}
-use Rattle.std.proofs.lemmas.Bool.{and_from, and_parts, both_ways, cases_Bool, cases_eq, false_from_ne_true, lt-ltb, ltb-true, not-true, not_from_false, or_cases, or_left, or_right, false≢true}
+use Rattle.std.proofs.lemmas.Bool.{and_from, and_parts, both_ways, cases_Bool, cases_eq, false_from_ne_true, lt-ltb, ltb-true, not_from_false, false≢true}
 use Rattle.std.proofs.lemmas.Int.{ints}
 use Rattle.std.proofs.lemmas.List.{get_or_append_left}
 use Rattle.mat_sets.specs.Families.{family_union}
@@ -17,10 +17,10 @@ use Rattle.mat_sets.proofs.Ground.{below_member}
 use Rattle.mat_sets.proofs.Members.{same_members, is_member-intersection, is_member-minus, IsRising-intersection, IsRising-minus}
 use Rattle.mat_sets.proofs.Search.{is_member-those_below, IsSet-those_below, length-those_below_less}
 use Rattle.mat_sets.proofs.Subsets.{length-subset}
-use Rattle.mat_sets.proofs.WeightOrder.{at_most_trans, below_from, below_gives, not_below_from, not_below_gives, pairs, same_from, same_gives}
+use Rattle.mat_sets.proofs.WeightOrder.{below_from, below_gives, not_below_from, not_below_gives, pairs, same_from, same_gives}
 use Rattle.mat_union.specs.GrownParts.{AreDone, AreFresh, AreGrowing}
-use Rattle.mat_union.specs.RightUnions.{heavy, level_at, AreFalling, IsLevelCut, IsRightUnion}
-use Rattle.mat_union.specs.Unions.{AreMatroids, AreParts, ranks_sum}
+use Rattle.mat_union.specs.RightUnions.{heavy, level_at, IsLevelCut, IsRightUnion}
+use Rattle.mat_union.specs.Unions.{AreMatroids, AreParts}
 use Rattle.mat_union.specs.WeightLevels.{is_left, IsNextWeight}
 use Rattle.mat_union.specs.PartLists.{cut_bounds, parts_set, ranks_reached}
 use Rattle.mat_union.specs.declared.best.Level.{Level}
@@ -122,8 +122,10 @@ level_stays {n} {tests} {parts} {parts'} laws w t cut are holds c =
     let rf = (IsSet-those_below n (came w (Some t))).rising in
     let most = cut_bounds tests parts' F cut laws are rf c.rises c.inside in
     let least = length-subset (intersection (family_union parts) F) (intersection (family_union parts') F) (IsRising-intersection _ F (IsRising-family_union parts)) (IsRising-intersection _ F (IsRising-family_union parts'))
-    (record { inside = λ v h. (let b = and_parts (is_member v (family_union parts)) (is_member v F) (sym (is_member-intersection v (family_union parts) F) ∙ h) in
-        is_member-intersection v (family_union parts') F ∙ and_from (is_member v (family_union parts')) (is_member v F) (holds.inside v b.0) b.1) }) in
+    (record {
+      inside = λ v h. (let b = and_parts (is_member v (family_union parts)) (is_member v F) (sym (is_member-intersection v (family_union parts) F) ∙ h) in
+          is_member-intersection v (family_union parts') F ∙ and_from (is_member v (family_union parts')) (is_member v F) (holds.inside v b.0) b.1);
+    }) in
     let e = c.count in
     record { rises = c.rises; inside = c.inside; count = omega arith }
 

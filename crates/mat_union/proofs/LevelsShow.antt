@@ -1,12 +1,11 @@
 -- The cuts of the levels show that parts are best: for each weight no parts hold more elements of at least this weight; then those that hold as
 -- many elements weigh at most as much.
-use Rattle.std.proofs.Common.{◌≡◌, ℕ, suc, ◌+◌, ◌<◌, ◌≤◌, Bool, true, false, not, ◌&&◌, cond, ltb, List, [], ◌∷◌, length, refl, sym, ap, ◌∙◌, subst, arith}
+use Rattle.std.proofs.Common.{◌≡◌, ℕ, suc, ◌<◌, ◌≤◌, Bool, true, false, ◌&&◌, cond, List, [], ◌∷◌, length, refl, ap, ◌∙◌, subst, arith}
 use Rattle.std.proofs.lemmas.Bool.{lt-ltb}
 use Rattle.std.specs.List.{filter}
 use Rattle.mat_sets.specs.Families.{family_union}
-use Rattle.mat_sets.specs.Search.{those_below}
-use Rattle.mat_sets.specs.Sets.{is_member, IsRising, IsSet, intersection}
-use Rattle.mat_sets.specs.Weights.{is_below, weight_at}
+use Rattle.mat_sets.specs.Sets.{is_member, IsSet, intersection}
+use Rattle.mat_sets.specs.Weights.{weight_at}
 use Rattle.mat_sets.specs.declared.weight.Weight.{Weight}
 use Rattle.mat_sets.proofs.Families.{IsRising-family_union}
 use Rattle.mat_sets.proofs.Ground.{below_member}

@@ -1,11 +1,11 @@
 -- Steps of the loops that make the parts after moves.
-use Rattle.std.proofs.Common.{◌≡◌, ℕ, suc, ◌+◌, ◌<◌, ◌≤◌, Bool, true, false, not, ◌||◌, ◌&&◌, cond, eqb, List, [], ◌∷◌, ◌++◌, length, get_or, map, take, refl, sym, ap, ◌∙◌, inl, inr, arith}
-use Rattle.std.proofs.lemmas.Bool.{cases_Bool, eqb-true}
+use Rattle.std.proofs.Common.{◌≡◌, ℕ, ◌+◌, ◌<◌, Bool, true, false, not, ◌||◌, ◌&&◌, cond, eqb, List, [], ◌∷◌, ◌++◌, length, get_or, map, take, refl, sym, ap, ◌∙◌, inl, inr}
+use Rattle.std.proofs.lemmas.Bool.{cases_Bool}
 use Rattle.std.proofs.lemmas.List.{map_more, map-append}
 use Rattle.std.proofs.lemmas.List.Elements.{filter_more}
 use Rattle.std.specs.List.{filter}
 use Rattle.mat_sets.specs.Sets.{all_below, is_member, minus, union, with_one, without_one, IsRising}
-use Rattle.mat_sets.proofs.Members.{set_members, same_members, is_member-minus, is_member-union, is_member-with_one, is_member-without_one, IsRising-minus, IsRising-union, IsRising-with_one, IsRising-without_one}
+use Rattle.mat_sets.proofs.Members.{same_members, is_member-minus, is_member-union, is_member-with_one, is_member-without_one, IsRising-minus, IsRising-union, IsRising-with_one, IsRising-without_one}
 use Rattle.mat_sets.proofs.ListParts.{is_member-push}
 use Rattle.mat_sets.proofs.Ground.{all_below-more, all_below-none}
 use Rattle.mat_union.specs.Moves.{elements, entering, no_move}

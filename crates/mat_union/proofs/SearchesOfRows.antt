@@ -1,5 +1,5 @@
 -- What a search for moves among right rows shows: moves that keep the parts independent, a cut, or the exchanges of an element.
-use Rattle.std.proofs.Common.{◌≡◌, ℕ, ◌+◌, Bool, true, false, not, List, length, refl, sym, subst, ap, ◌∙◌}
+use Rattle.std.proofs.Common.{◌≡◌, ℕ, ◌+◌, Bool, false, not, List, length, refl, sym, subst, ◌∙◌}
 use Rattle.std.proofs.lemmas.Bool.{and_parts, eq-eqb, not-true, or_left}
 use Rattle.mat_sets.specs.Sets.{is_member, minus, with_one}
 use Rattle.mat_sets.specs.Families.{family_union}

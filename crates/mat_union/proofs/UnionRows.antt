@@ -1,21 +1,20 @@
 -- The exchanges of an element at an independent set of the union, by one search for moves from its parts.
-use Rattle.std.proofs.Common.{◌≡◌, ℕ, suc, ◌+◌, ◌<◌, ◌≤◌, Bool, true, false, not, ◌||◌, ◌&&◌, eqb, List, [], length, get_or, refl, sym, ap, ◌∙◌, subst, arith}
-use Rattle.std.proofs.lemmas.Bool.{and_parts, and_from, both_ways, false_from_ne_true, not-true, not_from_false, eqb-true, eq-eqb, or_cases}
+use Rattle.std.proofs.Common.{◌≡◌, ℕ, ◌<◌, Bool, true, false, not, ◌||◌, ◌&&◌, eqb, List, length, get_or, refl, sym, ap, ◌∙◌, arith}
+use Rattle.std.proofs.lemmas.Bool.{and_parts, false_from_ne_true, not-true, eqb-true}
 use Rattle.std.specs.List.{filter}
-use Rattle.mat_sets.specs.Sets.{is_member, IsSet, IsSubset, intersection, minus, with_one, without_one}
+use Rattle.mat_sets.specs.Sets.{is_member, IsSet, IsSubset, intersection, with_one}
 use Rattle.mat_sets.specs.Families.{family_union}
-use Rattle.mat_sets.specs.Walks.{IsReachedSet, IsWalk}
-use Rattle.mat_sets.proofs.Members.{filter_same_at, is_member-with_one, IsRising-with_one}
+use Rattle.mat_sets.specs.Walks.{IsReachedSet}
+use Rattle.mat_sets.proofs.Members.{filter_same_at, is_member-with_one}
 use Rattle.mat_sets.proofs.Families.{IsRising-family_union}
 use Rattle.mat_sets.proofs.Filters.{filter_whole}
 use Rattle.mat_sets.proofs.Ground.{below_member, IsSet-with_one}
 use Rattle.mat_sets.proofs.Subsets.{IsSubset-refl, IsSubset-with_one}
 use Rattle.mat_sets.proofs.Equalities.{intersection-subset}
 use Rattle.mat_sets.proofs.Cardinalities.{length-with_one}
-use Rattle.mat_laws.specs.declared.exchange.Exchange.{Exchange}
 use Rattle.mat_laws.specs.Exchanges.{row_of}
 use Rattle.mat_laws.proofs.Rows.{exchanged, row_outside}
-use Rattle.mat_union.specs.Unions.{AreMatroids, AreParts, union_test, ranks_sum}
+use Rattle.mat_union.specs.Unions.{AreMatroids, AreParts, union_test}
 use Rattle.mat_union.specs.Moves.{can_push, element_at, exchanges_with, is_free, row_found, IsMoves, IsShortestMovePath, IsStuck}
 use Rattle.mat_union.specs.PartLists.{cut_bounds, parts_pass, parts_set, union_only}
 use Rattle.mat_union.specs.UnionLaws.{addable_takes_all, exchanges_reached, moves_keep, reach_inside, stuck_cut}

@@ -1,5 +1,5 @@
 -- Parts that grow by one element at a time, and the elements that can no longer be placed (Schrijver, chapter 42).
-use Rattle.std.specs.Prelude.{◌≡◌, ℕ, ◌<◌, Bool, true, false, not, ◌||◌, ◌&&◌, nat_lt, List, [], length, map, slice_index_or, All}
+use Rattle.std.specs.Prelude.{◌≡◌, ℕ, ◌<◌, Bool, true, false, not, ◌||◌, ◌&&◌, nat_lt, List, length, slice_index_or, All}
 use Rattle.mat_sets.specs.Families.{family_union}
 use Rattle.mat_sets.specs.Sets.{is_member, IsSet, intersection}
 use Rattle.mat_laws.specs.Ranks.{rank}

@@ -6,7 +6,7 @@ use Rattle.mat_laws.specs.declared.exchange.Exchange.{Exchange}
 use Rattle.mat_laws.specs.Exchanges.{row_of}
 use Rattle.mat_laws.specs.TightPaths.{row_in}
 use Rattle.mat_union.specs.Unions.{part_at, test_at}
-use Rattle.mat_union.specs.Moves.{can_enter, can_push, exchanges_of, element_at, place_at}
+use Rattle.mat_union.specs.Moves.{can_push, exchanges_of, element_at, place_at}
 use Rattle.mat_union.specs.declared.moves.Move.{Move}
 
 -- each list has a row for u

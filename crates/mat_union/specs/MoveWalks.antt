@@ -1,14 +1,13 @@
 -- Move paths are walks from an element to one whose place it can take, from an element that starts to one that can be added; a move path
 -- with fewest moves is a walk with fewest vertices.
-use Rattle.std.proofs.Common.{◌≡◌, ◌≢◌, ℕ, suc, zero, ◌+◌, ◌<◌, ◌≤◌, Bool, true, false, cond, not, ◌||◌, ◌&&◌, eqb, ltb, List, [], ◌∷◌, length, get_or, map, inl, inr, refl, sym, ap, ◌∙◌, subst, arith}
-use Rattle.std.proofs.lemmas.Bool.{cases_Bool, cases_eq, and_parts, and_from, or_cases, or_left, or_right, both_ways, eqb-true, eq-eqb, false≢true, lt-ltb, le-ltb}
+use Rattle.std.proofs.Common.{◌≡◌, ℕ, suc, zero, ◌<◌, Bool, true, false, cond, eqb, ltb, List, [], ◌∷◌, length, get_or, map, inl, inr, refl, sym, ap, ◌∙◌, subst, arith}
+use Rattle.std.proofs.lemmas.Bool.{cases_Bool, cases_eq, or_cases, or_right, eqb-true, eq-eqb, false≢true, lt-ltb, le-ltb}
 use Rattle.std.proofs.lemmas.List.{get_or-map, length-map}
-use Rattle.std.specs.List.{filter}
 use Rattle.mat_sets.specs.Sets.{all_below, is_member}
 use Rattle.mat_sets.specs.Search.{some_below}
 use Rattle.mat_sets.specs.Walks.{IsReachedSet, IsShortestWalk, IsWalk}
-use Rattle.mat_sets.proofs.Members.{is_member-get_or, place_of_member, is_member-head}
-use Rattle.mat_sets.proofs.Search.{some_below_from, some_below_gives}
+use Rattle.mat_sets.proofs.Members.{is_member-head}
+use Rattle.mat_sets.proofs.Search.{some_below_from}
 use Rattle.mat_sets.proofs.Ground.{get_or-all_below, length-all_below}
 use Rattle.mat_sets.proofs.Reach.{missed_goals_have_no_walk}
 use Rattle.mat_laws.specs.TightPaths.{Exchanges}

@@ -1,7 +1,7 @@
 -- Moves of elements between parts (Schrijver, chapter 42; Knuth 1973).
 use Rattle.std.specs.Prelude.{◌≡◌, ℕ, suc, ◌<◌, ◌≤◌, Bool, true, false, not, ◌&&◌, ◌==◌, List, [], length, map, filter, slice_index_or}
-use Rattle.mat_sets.specs.Sets.{is_member, IsSet, IsSubset, intersection, minus, union, with_one}
-use Rattle.mat_sets.specs.Families.{AreDisjoint, family_union}
+use Rattle.mat_sets.specs.Sets.{is_member, intersection, minus, union, with_one}
+use Rattle.mat_sets.specs.Families.{family_union}
 use Rattle.mat_sets.specs.Search.{some_below}
 use Rattle.mat_sets.specs.Walks.{IsReachedSet}
 use Rattle.mat_laws.specs.declared.exchange.Exchange.{Exchange}

@@ -1,22 +1,18 @@
 -- Lists of disjoint independent sets: their members and sizes, and that the test of the union finds them.
-use Rattle.std.proofs.Common.{◌≡◌, ◌≢◌, ℕ, suc, zero, ◌+◌, ◌<◌, ◌≤◌, Bool, true, false, not, ◌||◌, ◌&&◌, eqb, List, [], ◌∷◌, length, get_or, pos, inl, inr, refl, sym, ap, ◌∙◌, subst, arith}
-use Rattle.std.proofs.lemmas.Bool.{cases_Bool, cases_eq, and_parts, and_from, or_cases, or_left, or_right, both_ways, false_from_ne_true, not-true, eqb-true, eq-eqb, false≢true}
-use Rattle.std.proofs.lemmas.Int.{ints}
-use Rattle.std.proofs.lemmas.List.{get_or_past}
-use Rattle.mat_sets.specs.Sets.{is_member, AllBelow, IsRising, IsSet, IsSubset, minus, union, intersection}
-use Rattle.mat_sets.specs.Families.{AllRising, AreDisjoint, family_sum, family_union, multiplicity}
-use Rattle.mat_sets.specs.Search.{some_subset}
+use Rattle.std.proofs.Common.{◌≡◌, ◌≢◌, ℕ, suc, zero, ◌+◌, ◌<◌, ◌≤◌, Bool, true, false, not, ◌||◌, ◌&&◌, List, [], ◌∷◌, length, inl, inr, refl, sym, ap, ◌∙◌, subst, arith}
+use Rattle.std.proofs.lemmas.Bool.{cases_eq, and_parts, and_from, both_ways, false_from_ne_true, eqb-true, false≢true}
+use Rattle.mat_sets.specs.Sets.{is_member, IsRising, IsSet, IsSubset, minus, union, intersection}
+use Rattle.mat_sets.specs.Families.{AreDisjoint, family_union, multiplicity}
 use Rattle.mat_sets.specs.SetTests.{is_set}
-use Rattle.mat_sets.proofs.Members.{set_members, same_members, is_member-minus, is_member-union, is_member-intersection, intersection-none, IsRising-nil, IsRising-minus, IsRising-union, IsRising-intersection}
+use Rattle.mat_sets.proofs.Members.{set_members, same_members, is_member-minus, is_member-union, is_member-intersection, intersection-none, IsRising-minus, IsRising-union, IsRising-intersection}
 use Rattle.mat_sets.proofs.Families.{IsRising-family_union, family_union-gives, family_union-from, AllBelow-family_union, AreDisjoint-cons, AreDisjoint-tail, AreDisjoint-apart, disjoint-apart}
-use Rattle.mat_sets.proofs.DisjointSets.{no_members, minus_parts, minus_from}
+use Rattle.mat_sets.proofs.DisjointSets.{no_members}
 use Rattle.mat_sets.proofs.DisjointLists.{AreDisjoint-first}
 use Rattle.mat_sets.proofs.Equalities.{union-minus}
 use Rattle.mat_sets.proofs.Cardinalities.{length-union_apart, length-minus-intersection}
-use Rattle.mat_sets.proofs.Subsets.{IsSubset-refl, union-left, minus-IsSubset, intersection-left, intersection-right, length-subset}
+use Rattle.mat_sets.proofs.Subsets.{union-left, intersection-left, intersection-right, length-subset}
 use Rattle.mat_sets.proofs.Search.{some_subset_gives, some_subset_from}
 use Rattle.mat_sets.proofs.SetTests.{IsSet-from_test, test_from-IsSet}
-use Rattle.mat_sets.proofs.Ground.{IsSet-subset}
 use Rattle.mat_laws.specs.Matroids.{IsMatroid}
 use Rattle.mat_laws.specs.Ranks.{rank}
 use Rattle.mat_laws.proofs.RankLaws.{rank_is}

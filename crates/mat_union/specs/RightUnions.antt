@@ -1,5 +1,5 @@
 -- Right answers on the union of matroids with weights: parts, and a cut for each weight (Schrijver, chapter 42).
-use Rattle.std.specs.Prelude.{◌≡◌, ℕ, ◌+◌, ◌<◌, ◌≤◌, Bool, not, List, [], length, map, slice_index_or}
+use Rattle.std.specs.Prelude.{◌≡◌, ℕ, ◌+◌, ◌<◌, ◌≤◌, Bool, not, List, [], length, slice_index_or}
 use Rattle.mat_sets.specs.Families.{family_union}
 use Rattle.mat_sets.specs.Search.{those_below}
 use Rattle.mat_sets.specs.Sets.{IsRising, IsSubset, intersection, minus}

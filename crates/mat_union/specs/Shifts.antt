@@ -1,25 +1,23 @@
 -- Elements that shift along a walk: each takes the place of the next one in the part where that stands, and the last one leaves, or is
 -- added to a part. In each part the pairs are triangular, since the walk has no shortcut; where an element is added, none of the earlier
 -- ones could be, and it joins the exchanged part.
-use Rattle.std.proofs.Common.{◌≡◌, ◌≢◌, ℕ, suc, zero, ◌+◌, ◌<◌, ◌≤◌, Bool, true, false, not, ◌||◌, ◌&&◌, eqb, List, [], ◌∷◌, length, get_or, map, pos, ℤ, ◌≤ℤ◌, inl, inr, refl, sym, ap, ◌∙◌, subst, arith, ◌⊎◌}
-use Rattle.std.proofs.lemmas.Bool.{cases_Bool, cases_eq, cases_lt, and_parts, and_from, or_cases, or_left, or_right, both_ways, false_from_ne_true, not-true, not_from_false, eqb-true, eq-eqb, ne_eqb, false≢true, lt-ltb, ltb-true, eqb-false}
+use Rattle.std.proofs.Common.{◌≡◌, ◌≢◌, ℕ, suc, zero, ◌<◌, ◌≤◌, Bool, true, false, not, ◌||◌, ◌&&◌, eqb, List, [], ◌∷◌, length, get_or, map, pos, inl, inr, refl, sym, ap, ◌∙◌, subst, arith, ◌⊎◌}
+use Rattle.std.proofs.lemmas.Bool.{cases_Bool, cases_eq, cases_lt, and_parts, and_from, or_cases, or_left, or_right, both_ways, false_from_ne_true, not-true, not_from_false, eqb-true, eq-eqb, ne_eqb, lt-ltb, ltb-true, eqb-false}
 use Rattle.std.proofs.lemmas.Int.{ints}
 use Rattle.std.proofs.lemmas.List.{get_or-map, length-map}
 use Rattle.std.specs.List.{filter}
-use Rattle.mat_sets.specs.Sets.{all_below, is_member, IsRising, IsSet, minus, union, with_one, without_one}
+use Rattle.mat_sets.specs.Sets.{all_below, is_member, IsRising, minus, union, with_one, without_one}
 use Rattle.mat_sets.specs.Sums.{sum_of}
 use Rattle.mat_sets.specs.Weights.{zero_weight}
 use Rattle.mat_sets.proofs.WeightOrder.{pairs as weight_pairs}
-use Rattle.mat_sets.specs.Families.{AreDisjoint, family_union}
-use Rattle.mat_sets.proofs.Members.{set_members, same_members, is_member-minus, is_member-union, is_member-filter, is_member-get_or, is_member-with_one, is_member-without_one, IsRising-minus, IsRising-union, IsRising-with_one, IsRising-without_one, RisesFrom-index}
+use Rattle.mat_sets.specs.Families.{family_union}
+use Rattle.mat_sets.proofs.Members.{same_members, is_member-minus, is_member-union, is_member-filter, is_member-get_or, is_member-with_one, is_member-without_one, IsRising-minus, IsRising-union, IsRising-with_one, IsRising-without_one, RisesFrom-index}
 use Rattle.mat_sets.proofs.Families.{IsRising-family_union, family_union-gives, family_union-from}
 use Rattle.mat_sets.proofs.Filters.{IsRising-filter}
 use Rattle.mat_sets.proofs.Ground.{IsRising-all_below, is_member-all_below, length-all_below, get_or-all_below}
 use Rattle.mat_sets.proofs.MappedLists.{is_member-map, mapped_member}
 use Rattle.mat_laws.specs.Matroids.{IsMatroid}
 use Rattle.mat_laws.specs.Exchanges.{IsTriangular}
-use Rattle.mat_laws.specs.Heaviest.{IsHeaviest}
-use Rattle.mat_laws.proofs.Independent.{rising}
 use Rattle.mat_laws.proofs.PathSides.{path_side_step}
 use Rattle.mat_laws.proofs.Triangular.{triangular_exchange, is_value, is_value-list}
 use Rattle.mat_union.specs.Unions.{test_at, part_at, AreMatroids, AreParts}
@@ -115,7 +113,6 @@ pub record IsShift (tests : List (List ℕ → Bool)) (parts : List (List ℕ)) 
 
 module _ {n : ℕ} {tests : List (List ℕ → Bool)} {parts : List (List ℕ)} (laws : AreMatroids n tests) (are : AreParts tests parts)
     {k : ℕ} {e t : ℕ → ℕ} (s : IsShift tests parts k e t) where
-
   same_index : (i j : ℕ) → i ≤ k → j ≤ k → e i ≡ e j → i ≡ j
   same_index i j il jl h = elim (cases_eq i j) [
     | inl q ↦ q
@@ -247,7 +244,6 @@ module _ {n : ℕ} {tests : List (List ℕ → Bool)} {parts : List (List ℕ)} 
 
   module _ (c : ℕ) (up : k ≤ c) (down : c ≤ suc k) (places : (i : ℕ) → i < c → t i < length parts)
       (passing : (q : ℕ) → q < length parts → test_at tests q (shifted parts k c e t q) ≡ true) where
-
     abbrev new : List (List ℕ)
     new = all_shifted parts k c e t
 

@@ -1,30 +1,29 @@
 -- The laws of unions: moves along a path with fewest moves, the cut of a stuck search, that the union is a matroid, and its exchanges.
-use Rattle.std.proofs.Common.{◌≡◌, ◌≢◌, ◌⊎◌, ℕ, suc, zero, ◌+◌, ◌<◌, ◌≤◌, Bool, true, false, not, ◌||◌, ◌&&◌, eqb, List, [], ◌∷◌, length, get_or, map, inl, inr, refl, sym, ap, ◌∙◌, subst, arith}
-use Rattle.std.proofs.lemmas.Bool.{cases_Bool, cases_eq, cases_lt, and_parts, and_from, or_cases, or_left, or_right, both_ways, false_from_ne_true, not-true, not_from_false, eqb-true, eq-eqb, ne_eqb, false≢true}
-use Rattle.std.proofs.lemmas.List.{get_or-map, length-map}
+use Rattle.std.proofs.Common.{◌≡◌, ◌≢◌, ◌⊎◌, ℕ, suc, ◌+◌, ◌<◌, ◌≤◌, Bool, true, false, not, ◌||◌, ◌&&◌, eqb, List, [], ◌∷◌, length, get_or, inl, inr, refl, sym, ap, ◌∙◌, subst, arith}
+use Rattle.std.proofs.lemmas.Bool.{cases_Bool, cases_eq, cases_lt, and_parts, and_from, both_ways, false_from_ne_true, not-true, not_from_false, eqb-true, eq-eqb}
+use Rattle.std.proofs.lemmas.List.{length-map}
 use Rattle.mat_sets.specs.Sets.{is_member, IsRising, IsSet, IsSubset, minus, union, intersection, with_one, without_one}
 use Rattle.mat_sets.specs.Families.{family_union}
-use Rattle.mat_sets.specs.Search.{some_below, some_subset}
+use Rattle.mat_sets.specs.Search.{some_subset}
 use Rattle.mat_sets.specs.SetTests.{is_set}
-use Rattle.mat_sets.specs.Walks.{IsChordless, IsReachedSet, IsShortestWalk, IsWalk}
-use Rattle.mat_sets.proofs.Members.{set_members, same_members, is_member-minus, is_member-union, is_member-get_or, is_member-intersection, is_member-with_one, is_member-without_one, place_of_member, minus-none, IsRising-nil, IsRising-minus, IsRising-union, IsRising-intersection, IsRising-with_one, IsRising-without_one}
-use Rattle.mat_sets.proofs.Families.{IsRising-family_union, family_union-gives, family_union-from}
-use Rattle.mat_sets.proofs.Subsets.{IsSubset-refl, IsSubset-with_one, length-subset, intersection-left, union-left, union-right}
+use Rattle.mat_sets.specs.Walks.{IsReachedSet, IsShortestWalk}
+use Rattle.mat_sets.proofs.Members.{set_members, same_members, is_member-minus, is_member-union, is_member-get_or, is_member-intersection, is_member-with_one, is_member-without_one, place_of_member, minus-none, IsRising-minus, IsRising-union, IsRising-intersection, IsRising-with_one, IsRising-without_one}
+use Rattle.mat_sets.proofs.Families.{IsRising-family_union, family_union-from}
+use Rattle.mat_sets.proofs.Subsets.{length-subset, intersection-left, union-left, union-right}
 use Rattle.mat_sets.proofs.Equalities.{intersection-subset}
 use Rattle.mat_sets.proofs.Cardinalities.{length-minus-intersection, length-with_one}
 use Rattle.mat_sets.proofs.Search.{some_below_from, some_below_gives, some_below_none, some_subset_from, some_subset_gives}
-use Rattle.mat_sets.proofs.SetTests.{test_from-IsSet, IsSet-from_test}
+use Rattle.mat_sets.proofs.SetTests.{test_from-IsSet}
 use Rattle.mat_sets.proofs.Ground.{below_member, IsSet-subset, IsSet-union, IsSet-nil}
 use Rattle.mat_sets.proofs.Reach.{finite_reach, missed_goals_have_no_walk, reached_set_is_unique, reached_by_induction, shortest_walk_is_chordless}
 use Rattle.mat_laws.specs.Matroids.{IsMatroid, Augments}
-use Rattle.mat_laws.specs.Ranks.{rank}
 use Rattle.mat_laws.specs.TightPaths.{Exchanges}
 use Rattle.mat_laws.proofs.Cuts.{rank-in_reach}
 use Rattle.mat_union.specs.Unions.{test_at, part_at, AreMatroids, AreParts, IsInUnion, divides, union_test, ranks_sum}
-use Rattle.mat_union.specs.Moves.{can_push, can_enter, elements, entering, element_at, place_at, exchanges_with, is_free, moved, AreMoved, IsMovePath, IsShortestMovePath, IsStuck}
-use Rattle.mat_union.specs.PartLists.{law_at, part_set, parts_set, nowhere, parts_pass, union_only, union_set, cut_bounds, ranks_bound, ranks_reached, AreMatroids-tail}
+use Rattle.mat_union.specs.Moves.{can_push, can_enter, elements, entering, element_at, place_at, exchanges_with, is_free, moved, AreMoved, IsShortestMovePath, IsStuck}
+use Rattle.mat_union.specs.PartLists.{law_at, part_set, parts_set, parts_pass, union_only, union_set, cut_bounds, ranks_bound, ranks_reached, AreMatroids-tail}
 use Rattle.mat_union.specs.Shifts.{IsShift, same_tests, shifted, all_shifted, elements_into, elements_on, into_gives, into_from, on_gives, on_from, length-new, part_at-new, new_are, shifted_passes, shifted_passes_last, shifted_passes_other, together_added, together_exchanged}
-use Rattle.mat_union.specs.MoveWalks.{found_below, found_passes, element_of_list, entering_gives, entering_from, path_of_walk, shortest_path_is_walk, shortest_walk_is_path, walk_moves, stuck_from, stuck_adds_none, walk_element, walk_is_path, AreBelow}
+use Rattle.mat_union.specs.MoveWalks.{found_below, found_passes, element_of_list, entering_gives, entering_from, shortest_path_is_walk, shortest_walk_is_path, walk_moves, stuck_from, stuck_adds_none, AreBelow}
 use Rattle.mat_union.specs.declared.moves.Move.{Move}
 
 module _ (tests : List (List ℕ → Bool)) (parts : List (List ℕ)) where

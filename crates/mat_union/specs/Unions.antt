@@ -1,6 +1,6 @@
 -- The union of matroids (Schrijver, chapter 42), and lists of disjoint sets, one for each matroid.
-use Rattle.std.specs.Prelude.{◌≡◌, ℕ, zero, suc, ◌<◌, ◌+◌, Bool, true, false, ◌&&◌, ◌==◌, List, [], ◌∷◌, length, slice_index_or, filter}
-use Rattle.mat_sets.specs.Sets.{is_member, minus}
+use Rattle.std.specs.Prelude.{◌≡◌, ℕ, ◌<◌, ◌+◌, Bool, true, false, ◌&&◌, ◌==◌, List, [], ◌∷◌, length, slice_index_or}
+use Rattle.mat_sets.specs.Sets.{minus}
 use Rattle.mat_sets.specs.Families.{AreDisjoint, family_union}
 use Rattle.mat_sets.specs.Search.{some_subset}
 use Rattle.mat_sets.specs.SetTests.{is_set}

@@ -1,5 +1,5 @@
 -- The distinct weights one after the other, falling.
-use Rattle.std.specs.Prelude.{◌≡◌, ℕ, ◌<◌, Bool, true, false, if◌then◌else◌, List, length, Option, None, Some}
+use Rattle.std.specs.Prelude.{◌≡◌, ℕ, ◌<◌, Bool, true, false, if◌then◌else◌, List, Option, None, Some}
 use Rattle.mat_sets.specs.Weights.{is_below, weight_at, ◌≼◌}
 use Rattle.mat_sets.specs.declared.weight.Weight.{Weight}
 

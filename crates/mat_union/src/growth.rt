@@ -142,7 +142,15 @@ pub(crate) fn grow<M: Matroid>(
     ensures holds { OnOk result (IsSubset (family_union growth.old.parts) (family_union growth.new.parts)) }
 {
     all_lawful(matroids, n);
-    let search = search_from(alloc, matroids, &growth.parts, &growth.kept, &growth.alive, n, x)?;
+    let search = search_from(
+        alloc,
+        matroids,
+        &growth.parts,
+        &growth.kept,
+        &growth.alive,
+        n,
+        x,
+    )?;
     match search.moves(alloc, growth.parts.as_slice())? {
         Some(moves) => {
             growth.parts = moved_parts(alloc, &growth.parts, &moves)?;

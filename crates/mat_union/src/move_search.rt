@@ -165,7 +165,7 @@ impl MoveSearch {
         requires open { self.now.entered ≡ true → self.now.head < length self.now.queue.items }
         ensures { IfOk result (λ found. (n : ℕ) (tests : List (List ℕ → Bool)) (among : List ℕ) (start : ℕ) → AreMatroids n tests
             → AreParts tests parts.now → IsReaching n (length parts.now) (exchanges_with tests parts.now) among start self.now
-            → is_member start (family_union parts.now) ≡ false 
+            → is_member start (family_union parts.now) ≡ false
             → MatchOption found (self.now.entered ≡ false) (λ moves. AreFoundMoves tests parts.now self.now moves.items)) }
     {
         if !self.entered {

@@ -65,7 +65,9 @@ pub fn union_search(
         table: table.as_slice(),
     };
     match shortest_walk(alloc, &graph)? {
-        WalkSearch::Walk(walk) => Ok(Moves::Path(moves_along(alloc, rows, parts, within, n, &walk)?)),
+        WalkSearch::Walk(walk) => Ok(Moves::Path(moves_along(
+            alloc, rows, parts, within, n, &walk,
+        )?)),
         WalkSearch::Reached(reach) => Ok(Moves::Stuck(reach)),
     }
 }

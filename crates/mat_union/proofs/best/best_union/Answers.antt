@@ -1,4 +1,4 @@
-use Rattle.std.proofs.Common.{◌≡◌, ◌<◌, ◌∙◌, ◌^◌, length, map, refl, subst, sym, ap, arith}
+use Rattle.std.proofs.Common.{◌≡◌, ◌∙◌, length, map, refl, subst, sym, arith}
 use Rattle.mat_sets.specs.Sets.{IsRising}
 use Rattle.mat_union.specs.GrownParts.{AreSound}
 use Rattle.mat_union.specs.RightUnions.{IsRightUnion}

@@ -1,4 +1,4 @@
-use Rattle.std.proofs.Common.{◌≡◌, ◌∙◌, length, subst, sym, ap, arith}
+use Rattle.std.proofs.Common.{◌∙◌, length, subst, sym, ap, arith}
 use Rattle.mat_union.specs.Unions.{part_at}
 use Rattle.mat_union.proofs.EmptyParts.{empty_more, empty_none, AreEmpty}
 use Rattle.mat_union.proofs.best.empty_parts.Goals as goal

@@ -1,4 +1,4 @@
-use Rattle.std.proofs.Common.{◌≡◌, ◌∙◌, length, subst, sym, arith}
+use Rattle.std.proofs.Common.{◌≡◌, length, subst, arith}
 use Rattle.mat_union.specs.WeightLevels.{IsNextWeight}
 use Rattle.mat_union.proofs.NextWeights.{next_more, next_none}
 use Rattle.mat_union.proofs.best.next_weight.Goals as goal

@@ -1,4 +1,4 @@
-use Rattle.std.proofs.Common.{◌≡◌, ◌∙◌, false, length, map, subst, sym}
+use Rattle.std.proofs.Common.{◌∙◌, false, map, subst, sym}
 use Rattle.std.proofs.lemmas.List.{length-map}
 use Rattle.mat_union.specs.GrownParts.{AreDone, AreGrowing}
 use Rattle.mat_union.proofs.EmptyParts.{empty_are, empty_done, empty_grow}

@@ -1,5 +1,4 @@
-use Rattle.std.proofs.Common.{◌≡◌, ◌<◌, ◌+◌, ◌∙◌, length, map, arith, subst, sym}
-use Rattle.mat_union.specs.GrownParts.{AreKept}
+use Rattle.std.proofs.Common.{◌+◌, arith, subst, sym}
 use Rattle.mat_union.proofs.SoundMatroids.{kept_end, kept_more, kept_none, part_passes, parts_count, sound_at, AreKeptSo}
 use Rattle.mat_union.proofs.growth.keep_all.Goals as goal
 

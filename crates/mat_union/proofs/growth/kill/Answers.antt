@@ -1,4 +1,3 @@
-use Rattle.std.proofs.Common.{◌≡◌, ◌<◌, ◌+◌, ◌∙◌, ◌||◌, ◌&&◌, not, take, length, get_or, ap, sym, arith, refl}
 use Rattle.mat_sets.specs.Sets.{is_member}
 use Rattle.mat_union.proofs.Killing.{kill_alive, kill_dead, kill_none_alive, kill_none_dead}
 use Rattle.mat_union.proofs.growth.kill.Goals as goal

@@ -1,5 +1,4 @@
-use Rattle.std.proofs.Common.{◌≡◌, ◌<◌, ◌∙◌, length, get_or, map, arith, subst, sym, ap, refl}
-use Rattle.mat_sets.proofs.Members.{is_member-get_or}
+use Rattle.std.proofs.Common.{◌<◌, length, get_or, map, arith, subst, sym}
 use Rattle.mat_union.specs.Moves.{exchanges_with}
 use Rattle.mat_union.specs.MoveSearches.{IsReaching}
 use Rattle.mat_union.proofs.AskedRows.{asked_below, row_answers}

@@ -1,4 +1,4 @@
-use Rattle.std.proofs.Common.{◌∙◌, ap, sym}
+use Rattle.std.proofs.Common.{◌∙◌, ap}
 use Rattle.mat_union.specs.Moves.{moved, entering, elements}
 use Rattle.mat_sets.specs.Sets.{union, minus}
 use Rattle.mat_union.proofs.MovedSets.{all-more, all-none}

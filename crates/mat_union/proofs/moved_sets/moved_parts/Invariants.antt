@@ -1,5 +1,4 @@
 use Rattle.std.proofs.Common.{◌≡◌, map}
-use Rattle.mat_sets.specs.Families.{AllRising}
 use Rattle.mat_sets.specs.Sets.{all_below}
 use Rattle.mat_union.specs.Moves.{moved}
 use Rattle.mat_union.proofs.moved_sets.moved_parts.Given as goal

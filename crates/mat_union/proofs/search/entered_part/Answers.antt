@@ -1,4 +1,4 @@
-use Rattle.std.proofs.Common.{true, false, sym}
+use Rattle.std.proofs.Common.{false}
 use Rattle.mat_union.specs.Moves.{exchanges_of}
 use Rattle.mat_union.proofs.GraphSteps.{adds_at, fails_more, none_below}
 use Rattle.mat_union.proofs.search.entered_part.Goals as goal

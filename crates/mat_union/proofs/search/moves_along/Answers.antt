@@ -1,6 +1,6 @@
-use Rattle.std.proofs.Common.{◌≡◌, ◌<◌, ◌+◌, ◌-◌, ◌∙◌, ℕ, suc, true, length, get_or, subst, sym, refl, arith}
+use Rattle.std.proofs.Common.{◌≡◌, ◌<◌, ◌+◌, ◌-◌, suc, true, length, get_or, subst, sym, refl, arith}
 use Rattle.std.proofs.Math.Numerals.{add-one}
-use Rattle.mat_union.specs.Moves.{can_enter, can_push, exchanges_of, is_free, IsShortestMovePath}
+use Rattle.mat_union.specs.Moves.{can_push, exchanges_of, is_free, IsShortestMovePath}
 use Rattle.mat_union.specs.MoveGraphs.{AreMovesAlong}
 use Rattle.mat_union.proofs.WalkMoves.{along_none, along_more, path_along, walk_some, last_enters}
 use Rattle.mat_union.proofs.search.moves_along.Goals as goal

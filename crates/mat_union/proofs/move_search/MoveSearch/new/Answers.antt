@@ -1,4 +1,4 @@
-use Rattle.std.proofs.Common.{◌≡◌, ◌∙◌, ◌++◌, ◌∷◌, [], ap, refl}
+use Rattle.std.proofs.Common.{◌∙◌, ◌++◌, ◌∷◌, [], ap, refl}
 use Rattle.std.proofs.lemmas.Bool.{false≢true}
 use Rattle.mat_sets.specs.Sets.{without_one}
 use Rattle.mat_union.proofs.Asking.{search_begins}
