@@ -20,3 +20,4 @@ pub mod GrowthLoops
 pub mod NextWeights
 pub mod EmptyParts
 pub mod AskedRows
+pub mod StuckParts

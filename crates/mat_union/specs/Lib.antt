@@ -9,3 +9,4 @@ pub mod UnionLaws
 pub mod GrownParts
 pub mod RightUnions
 pub mod WeightLevels
+pub mod UnionsOf

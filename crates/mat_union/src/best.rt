@@ -1,5 +1,5 @@
 //! Unions of greatest weight.
-ghost use Rattle.std.specs.Prelude.{◌≡◌, ◌<◌, ◌^◌, ◌||◌, ℕ, Bool, false, [], length, map, IfOk, OnOk};
+ghost use Rattle.std.specs.Prelude.{◌≡◌, ◌<◌, ◌^◌, ◌||◌, ℕ, Bool, false, length, map, IfOk, OnOk};
 ghost use Rattle.mat_sets.specs.Families.{family_union};
 ghost use Rattle.mat_sets.specs.Search.{those_below};
 ghost use Rattle.mat_sets.specs.Sets.{is_member, IsRising, IsSubset};
@@ -7,8 +7,8 @@ ghost use Rattle.mat_sets.specs.Weights.{is_same, weight_at};
 ghost use Rattle.mat_union.specs.GrownParts.{AreDone, AreFresh, AreGrowing, AreKept, AreSound};
 ghost use Rattle.mat_union.specs.RightUnions.{IsRightUnion};
 ghost use Rattle.mat_union.specs.WeightLevels.{heavier_left, is_left, IsNextWeight};
-ghost use Rattle.mat_union.specs.Unions.{part_at};
 
+use crate::empty::empty_parts;
 use crate::growth::{Growth, all_lawful, grow, keep_all};
 use crate::moved_sets::add_if;
 use mat_laws::Matroid;
@@ -85,18 +85,6 @@ fn elements_of(alloc: Global, weights: &[Weight], at: Weight) -> Result<ElemSet,
         add_if(&mut set, x as u32, has_weight(weights, x, at))?;
     }
     Ok(set)
-}
-
-/// So many empty sets.
-pub(crate) fn empty_parts(alloc: Global, count: usize) -> Result<SetList, AllocError>
-    ensures long { IfOk result (λ parts. length parts ≡ count) }
-    ensures empty { IfOk result (λ parts. (i : ℕ) → part_at parts i ≡ []) }
-{
-    let mut parts = Vec::new(alloc);
-    for _ in 0..count {
-        parts.push(ElemSet::new(alloc))?;
-    }
-    Ok(SetList::new(parts))
 }
 
 // No element is in a part, and all are alive.

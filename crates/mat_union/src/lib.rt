@@ -2,6 +2,7 @@
 #![tactic(auto)]
 
 mod best;
+mod empty;
 mod exchange_list;
 mod growth;
 pub mod laws;
@@ -10,6 +11,7 @@ mod move_search;
 mod moved_sets;
 mod moves;
 mod search;
+mod union_of;
 
 pub use best::{Level, UnionAnswer, best_union};
 pub use exchange_list::ExchangeList;
@@ -17,3 +19,4 @@ pub use move_search::{MoveSearch, Question};
 pub use moved_sets::moved_parts;
 pub use moves::{Move, Moves};
 pub use search::union_search;
+pub use union_of::UnionOf;

@@ -1,7 +1,7 @@
 use Rattle.std.proofs.Common.{◌∙◌, length, subst, sym, ap, arith}
 use Rattle.mat_union.specs.Unions.{part_at}
 use Rattle.mat_union.proofs.EmptyParts.{empty_more, empty_none, AreEmpty}
-use Rattle.mat_union.proofs.best.empty_parts.Goals as goal
+use Rattle.mat_union.proofs.empty.empty_parts.Goals as goal
 
 pub loop-init : goal.loop-init
 loop-init c = empty_none _ c.new-parts.ensures.items
