@@ -14,6 +14,7 @@ mod real;
 mod reports;
 mod routes;
 mod shared;
+mod unions;
 
 use crate::faults::fault_report;
 use crate::kinds::{KINDS, kinds_report};
@@ -22,6 +23,7 @@ use crate::meeting::meeting_report;
 use crate::real::real_report;
 use crate::reports::cases_report;
 use crate::routes::{ROUTES, route_report};
+use crate::unions::unions_report;
 use std::io::Write;
 use std::{env, fs, io};
 
@@ -78,6 +80,8 @@ fn main(rt: HostRuntime) -> io::Result<()> {
     }
     let meeting = meeting_report(&rt, alloc)?;
     rt.stdout().write_all(meeting.as_bytes())?;
+    let unions = unions_report(alloc)?;
+    rt.stdout().write_all(unions.as_bytes())?;
     let known = known_report(alloc)?;
     rt.stdout().write_all(known.as_bytes())
 }
