@@ -1,5 +1,6 @@
 //! Matroids of all kinds, which descriptions give as lists, each told in three lines.
 
+ghost use Rattle.std.specs.Prelude.{◌<◌};
 ghost use Rattle.mat_desc.specs.Soundness.{IsSoundInstance};
 ghost use Rattle.mat_desc.specs.Views.{instance_of};
 ghost use Rattle.mat_any.specs.Trees.{IsSound};
@@ -16,6 +17,15 @@ use std::alloc::{AllocError, Global};
 /// The files of the lists.
 pub(crate) const KINDS: [&str; 3] = ["kinds_5.txt", "kinds_7.txt", "kinds_9.txt"];
 
+// The element after x, and after the last one the first.
+fn after(x: u32, n: u32) -> u32
+    requires { x < n }
+    ensures { result < n }
+{
+    let next = x + 1;
+    if next == n { 0 } else { next }
+}
+
 // For each element, whether it and the two after it, around the end, are independent together.
 fn told_triples(alloc: Global, matroid: &AnyMatroid) -> Result<String, AllocError>
     requires { IsSound (tree_of matroid.now) }
@@ -23,7 +33,9 @@ fn told_triples(alloc: Global, matroid: &AnyMatroid) -> Result<String, AllocErro
     let n = matroid.size();
     let mut text = String::from_str(alloc, "triples")?;
     for x in 0..n {
-        let triple = set_below(alloc, n, &[x, (x + 1) % n, (x + 2) % n])?;
+        let second = after(x, n);
+        let third = after(second, n);
+        let triple = set_below(alloc, n, &[x, second, third])?;
         let answer = matroid.independent(alloc, &triple)?;
         text = format!(in alloc; "{text} {answer}")?;
     }
