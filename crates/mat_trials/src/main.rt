@@ -1,13 +1,12 @@
 //! The program `mat_trials`, a test: it runs the top call over the cases of the file `cases.txt`, over files and sinks that fail, and over
-//! the real files; the search for disjoint paths over the graphs of the files `routes_*.txt`; and the calls of matroids over those of
-//! the files `kinds_*.txt` and over small known ones. It prints what came of each. What it has to print was worked out without it. With
-//! names of descriptions as words it prints the lines of these alone.
+//! the real files; the search for disjoint paths over the graphs of the files `routes_*.txt`; and the calls of matroids over small known
+//! ones. It prints what came of each. What it has to print was worked out without it. With names of descriptions as words it prints the
+//! lines of these alone.
 #![tactic(auto)]
 
 mod calls;
 mod cases;
 mod faults;
-mod kinds;
 mod known;
 mod meeting;
 mod real;
@@ -17,7 +16,6 @@ mod shared;
 mod unions;
 
 use crate::faults::fault_report;
-use crate::kinds::{KINDS, kinds_report};
 use crate::known::known_report;
 use crate::meeting::meeting_report;
 use crate::real::real_report;
@@ -26,14 +24,6 @@ use crate::routes::{ROUTES, route_report};
 use crate::unions::unions_report;
 use std::io::Write;
 use std::{env, fs, io};
-
-// Prints the lines of the matroids of a description.
-fn print_kinds(rt: &HostRuntime, name: &str) -> io::Result<()> {
-    let text = fs::read(rt, name)?;
-    let report = kinds_report(rt.alloc(), text.as_slice())?;
-    println!(rt; "{name}")?;
-    rt.stdout().write_all(report.as_bytes())
-}
 
 // Prints the line of a description.
 fn print_route(rt: &HostRuntime, name: &str, ranked: bool) -> io::Result<()> {
@@ -74,9 +64,6 @@ fn main(rt: HostRuntime) -> io::Result<()> {
     rt.stdout().write_all(report.as_slice())?;
     for name in ROUTES.iter() {
         print_route(&rt, *name, true)?;
-    }
-    for name in KINDS.iter() {
-        print_kinds(&rt, *name)?;
     }
     let meeting = meeting_report(&rt, alloc)?;
     rt.stdout().write_all(meeting.as_bytes())?;
