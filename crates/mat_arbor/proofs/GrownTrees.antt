@@ -3,14 +3,13 @@
 use Rattle.std.proofs.Common.{◌≡◌, ℕ, suc, zero, ◌+◌, ◌-◌, ◌<◌, ◌≤◌, true, false, not, ◌&&◌, eqb, List, [], ◌∷◌, length, ◌⊎◌, inl, inr, refl, sym, ap, ◌∙◌, subst, arith}
 use Rattle.std.proofs.lemmas.Bool.{cases_Bool, eqb-true, eq-eqb, ltb-true, lt-ltb, and_parts, and_from, both_ways, false_from_ne_true, not-true, or_cases, or_left, or_right, false≢true}
 use Rattle.mat_sets.specs.Sets.{is_member, all_below, minus, with_one}
-use Rattle.mat_sets.specs.Graphs.{IsSpanningArborescence, Reaches, ends_of}
+use Rattle.mat_sets.specs.Graphs.{IsSpanningArborescence, Reaches, ends_of, IsUnentered}
 use Rattle.mat_sets.proofs.Cardinalities.{length-with_one}
 use Rattle.mat_sets.proofs.Crossings.{walk_enters}
 use Rattle.mat_sets.proofs.Ground.{IsSet-all_below, IsSet-length, IsSet-minus, IsSet-nil, IsSet-with_one, below_member, is_member-all_below, length-complement}
 use Rattle.mat_sets.proofs.Members.{is_member-head, is_member-minus, is_member-with_one, IsRising-nil}
 use Rattle.mat_sets.proofs.Subsets.{IsSubset-with_one, find_member}
 use Rattle.mat_sets.proofs.Walking.{Reaches-arc, Reaches-itself, Reaches-subset, Reaches-trans}
-use Rattle.mat_arbor.specs.Arborescences.{IsUnentered}
 use Rattle.mat_arbor.specs.Growing.{IsGrownTree, Leaves}
 
 member_with_one : (a : List ℕ) (x : ℕ) → is_member x (with_one a x) ≡ true
@@ -92,10 +91,12 @@ pub unentered_rest : (vertices : ℕ) (arcs : List (ℕ × ℕ)) (root : ℕ) (R
     → ((a : ℕ) → a < length arcs → Leaves (ends_of arcs) R a → ⊥) → length R < vertices
     → IsUnentered vertices arcs root (minus (all_below vertices) R)
 unentered_rest vertices arcs root R tails g none few = record {
-  set = IsSet-minus vertices (all_below vertices) R (IsSet-all_below vertices);
-  some = omega (arith, length-complement vertices R g.set.rising g.set.below);
-  without_root = false_from_ne_true _ (λ m. both_ways _ (rest root m).1 g.with_root);
-  unentered = λ a l. false_from_ne_true _ (λ e.
+  root_free = record {
+    set = IsSet-minus vertices (all_below vertices) R (IsSet-all_below vertices);
+    some = omega (arith, length-complement vertices R g.set.rising g.set.below);
+    free = false_from_ne_true _ (λ m. both_ways _ (rest root m).1 g.with_root);
+  };
+  none = λ a l. false_from_ne_true _ (λ e.
       let p = and_parts (is_member (ends_of arcs a).1 (minus (all_below vertices) R)) (not (is_member (ends_of arcs a).0 (minus (all_below vertices) R))) e in
       none a l (record { from = inside (ends_of arcs a).0 (tails a l) (not-true _ p.1); to = (rest (ends_of arcs a).1 p.0).1 }));
 }
@@ -112,19 +113,6 @@ unentered_rest vertices arcs root R tails g none few = record {
       | inr o ↦ absurd (both_ways _ out (is_member-minus v (all_below vertices) R
           ∙ and_from (is_member v (all_below vertices)) (not (is_member v R)) (is_member-all_below v vertices ∙ lt-ltb v vertices l) (ap not o)))
     ]
-
--- a set that no arc enters keeps out every walk from the root
-pub unentered_unreached : (vertices : ℕ) (arcs : List (ℕ × ℕ)) (root : ℕ) (U : List ℕ) → IsUnentered vertices arcs root U → (X : List ℕ)
-    → IsSpanningArborescence vertices (length arcs) (ends_of arcs) root X → ⊥
-unentered_unreached vertices arcs root U u X t = from U refl
-  where
-    from : (Y : List ℕ) → Y ≡ U → ⊥
-    from [] e = absurd (omega (arith, ap length e, u.some))
-    from (v ∷ Y) e =
-        let m : is_member v U ≡ true = subst (λ Z. is_member v Z ≡ true) e (is_member-head v Y) in
-        let r = t.reached v (below_member u.set m) in
-        let a = walk_enters (ends_of arcs) U r.along root v r.walk u.without_root m in
-        both_ways _ (u.unentered a.0 (below_member t.set (r.inside.inside a.0 a.1))) a.2
 
 -- ---- there is one or the other
 

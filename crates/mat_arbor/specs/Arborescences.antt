@@ -1,7 +1,7 @@
 -- Least spanning arborescences with a split of the costs that proves them least, and vertex sets that no arc enters (Schrijver, chapter 52;
 -- the split is Frank's).
 use Rattle.std.specs.Prelude.{◌≡◌, ℕ, ◌<◌, Bool, true, false, List, length}
-use Rattle.mat_sets.specs.Graphs.{IsSpanningArborescence, ends_of, enters}
+use Rattle.mat_sets.specs.Graphs.{IsSpanningArborescence, ends_of, enters, IsUnentered}
 use Rattle.mat_sets.specs.Sets.{is_member, IsSet}
 use Rattle.mat_sets.specs.Weights.{◌⊕◌, negated, weight_at, AreWeightsWithin}
 use Rattle.mat_sets.specs.declared.weight.Weight.{Weight}
@@ -23,13 +23,6 @@ pub record IsSplitArborescence (vertices : ℕ) (arcs : List (ℕ × ℕ)) (cost
   pub split : (a : ℕ) → a < length arcs → weight_at first a ⊕ weight_at second a ≡ negated (weight_at costs a)
   pub first_heaviest : IsHeaviest (is_graphic (length arcs) (ends_of arcs)) (weight_at first) tree
   pub second_heaviest : IsHeaviest (is_entering_once (length arcs) vertices (ends_of arcs) root) (weight_at second) tree
-
--- a set of vertices, not empty and without the root, that no arc enters
-pub record IsUnentered (vertices : ℕ) (arcs : List (ℕ × ℕ)) (root : ℕ) (U : List ℕ) : Type 0 where
-  pub set : IsSet vertices U
-  pub some : 0 < length U
-  pub without_root : is_member root U ≡ false
-  pub unentered : (a : ℕ) → a < length arcs → enters (ends_of arcs) U a ≡ false
 
 -- there is no spanning arborescence
 abbrev pub HasNoArborescence : ℕ → List (ℕ × ℕ) → ℕ → Type 0

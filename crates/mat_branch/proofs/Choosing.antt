@@ -11,23 +11,14 @@ use Rattle.mat_sets.proofs.Cardinalities.{length-without_one}
 use Rattle.mat_sets.proofs.DisjointSets.{no_members, minus_from, minus_parts}
 use Rattle.mat_sets.proofs.Equalities.{intersection-commute, intersection-subset}
 use Rattle.mat_sets.proofs.Ground.{is_member-all_below, length-all_below, below_member, AllBelow-subset, IsRising-all_below, IsSet-all_below, IsSet-intersection, IsSet-minus, IsSet-union, IsSubset-all_below}
-use Rattle.mat_sets.proofs.Members.{is_member-head, is_member-intersection, is_member-union, is_member-without_one, IsRising-without_one}
+use Rattle.mat_sets.proofs.Members.{is_member-head, is_member-intersection, is_member-union, is_member-without_one, IsRising-without_one, some_from_member}
 use Rattle.mat_sets.proofs.Search.{some_subset_gives, some_subset_none}
 use Rattle.mat_sets.proofs.Subsets.{intersection-left, length-subset}
-use Rattle.mat_sets.specs.Graphs.{enters, entering}
+use Rattle.mat_sets.specs.Graphs.{enters, entering, IsRootFree}
 use Rattle.mat_sets.proofs.Crossings.{entering-more, entering-one_less, entering-same, entering-submodular, is_member-entering}
-use Rattle.mat_branch.specs.Arborescences.{IsRootFree}
 use Rattle.mat_branch.specs.Growth.{AreEntered, AreEnteredOutside, IsTakable}
 
 -- ---- sets that are not empty
-
-pub some_from_member : (x : ℕ) (xs : List ℕ) → is_member x xs ≡ true → 0 < length xs
-some_from_member x [] m = absurd (false≢true m)
-some_from_member x (y ∷ xs) m = omega arith
-
-pub member_from_some : (xs : List ℕ) → 0 < length xs → (x : ℕ) × (is_member x xs ≡ true)
-member_from_some [] l = absurd (omega arith)
-member_from_some (x ∷ xs) l = (x, is_member-head x xs)
 
 -- a set without a member of another and inside it is smaller
 smaller : (A X : List ℕ) (x : ℕ) → IsRising A → IsRising X → IsSubset A X → is_member x X ≡ true → is_member x A ≡ false → length A < length X

@@ -5,15 +5,15 @@ use Rattle.std.proofs.lemmas.Bool.{cases_Bool}
 use Rattle.std.proofs.lemmas.List.Elements.{All-get_or, All-nil, All-push}
 use Rattle.std.specs.List.{All}
 use Rattle.mat_sets.specs.Families.{indicator, multiplicity, AreDisjoint}
-use Rattle.mat_sets.specs.Graphs.{entering, IsSpanningArborescence}
+use Rattle.mat_sets.specs.Graphs.{entering, IsSpanningArborescence, IsRootFree}
 use Rattle.mat_sets.specs.Sets.{all_below, is_member, IsSet}
 use Rattle.mat_sets.proofs.Families.{multiplicity-append, AreDisjoint-tail}
 use Rattle.mat_sets.proofs.Ground.{below_member, IsRising-all_below, IsSet-all_below, IsSubset-all_below}
 use Rattle.mat_sets.proofs.Crossings.{at_most_entering, walk_enters}
-use Rattle.mat_branch.specs.Arborescences.{AreDisjointArborescences, IsRootFree, IsSeldomEntered}
+use Rattle.mat_sets.proofs.Members.{member_from_some}
+use Rattle.mat_branch.specs.Arborescences.{AreDisjointArborescences, IsSeldomEntered}
 use Rattle.mat_branch.specs.Growth.{AreEntered, IsGrown, IsSeldomEnteredBy, TellsSeldom}
 use Rattle.mat_branch.specs.Spanning.{some_seldom_entered}
-use Rattle.mat_branch.proofs.Choosing.{member_from_some}
 use Rattle.mat_branch.proofs.GrowthSteps.{grow, Grows-start}
 use Rattle.mat_branch.proofs.Seldom.{none_gives, some_gives}
 

@@ -8,9 +8,9 @@ use Rattle.mat_sets.specs.Sets.{is_member, IsSet}
 use Rattle.mat_sets.proofs.Crossings.{is_member-entering, walk_enters}
 use Rattle.mat_sets.proofs.Ground.{below_member}
 use Rattle.mat_sets.proofs.Walking.{Reaches-subset}
+use Rattle.mat_sets.proofs.Members.{member_from_some, some_from_member}
 use Rattle.mat_branch.specs.Growth.{AreEntered, IsSeldomEnteredBy}
 use Rattle.mat_branch.specs.Spanning.{is_spanning_arborescence, some_seldom_entered}
-use Rattle.mat_branch.proofs.Choosing.{member_from_some, some_from_member}
 use Rattle.mat_branch.proofs.GrowthSteps.{grow, Grows-start}
 use Rattle.mat_branch.proofs.Seldom.{found_none, found_some, none_gives}
 

@@ -1,9 +1,8 @@
 -- What is kept while disjoint arborescences grow arc by arc, one after the other (Lovász 1976; Schrijver, chapter 53).
 use Rattle.std.specs.Prelude.{◌≡◌, ℕ, suc, ◌+◌, ◌<◌, ◌≤◌, Bool, true, false, List, length, Option, MatchOption}
 use Rattle.mat_sets.specs.Families.{indicator}
-use Rattle.mat_sets.specs.Graphs.{entering, IsSpanningArborescence, Reaches}
+use Rattle.mat_sets.specs.Graphs.{entering, IsSpanningArborescence, Reaches, IsRootFree}
 use Rattle.mat_sets.specs.Sets.{is_member, without_one, IsSet}
-use Rattle.mat_branch.specs.Arborescences.{IsRootFree}
 
 -- each root-free set is entered by at least m of these arcs
 pub record AreEntered (vertices root : ℕ) (ends : ℕ → ℕ × ℕ) (live : List ℕ) (m : ℕ) : Type 0 where

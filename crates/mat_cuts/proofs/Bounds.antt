@@ -4,37 +4,21 @@ use Rattle.std.proofs.lemmas.Bool.{both_ways, cases_Bool, false≢true}
 use Rattle.std.proofs.lemmas.Int.{ints}
 use Rattle.std.proofs.lemmas.List.Elements.{All-get_or}
 use Rattle.std.specs.List.{AllByRecursion}
-use Rattle.mat_sets.specs.Graphs.{ends_of, enters, IsSpanningArborescence}
+use Rattle.mat_sets.specs.Graphs.{ends_of, enters, IsSpanningArborescence, IsRootFree, IsUnentered}
 use Rattle.mat_sets.specs.Sets.{is_member}
 use Rattle.mat_sets.specs.Sums.{sum_of}
 use Rattle.mat_cuts.specs.Costs.{cost_at, cost_of, IsCost}
 use Rattle.mat_sets.proofs.Cardinalities.{sum_of-high, sum_of-le, sum_of-plus}
-use Rattle.mat_sets.proofs.Crossings.{walk_enters}
+use Rattle.mat_sets.proofs.Crossings.{arborescence_enters, unentered_has_none}
 use Rattle.mat_sets.proofs.Ground.{below_member}
 use Rattle.mat_sets.proofs.Members.{is_member-head}
-use Rattle.mat_cuts.specs.Cuts.{all_weight, weight_on, weight_where, AreRightCuts, IsCut, IsRootFree, IsUnreached}
+use Rattle.mat_cuts.specs.Cuts.{all_weight, weight_on, weight_where, AreRightCuts, IsCut}
 use Rattle.mat_cuts.specs.Answers.{AreInRange, AreRight, IsCutInRange, TellsReached}
 use Rattle.mat_cuts.specs.declared.cut_weight.Cuts.{Cuts}
 use Rattle.mat_cuts.specs.declared.cut_weight.Cuts.TheVariants.{Tree, Unreached}
 use Rattle.mat_cuts.specs.declared.cut_weight.CutWeight.{CutWeight}
 
-pub member_from_some : (xs : List ℕ) → 0 < length xs → (x : ℕ) × (is_member x xs ≡ true)
-member_from_some [] l = absurd (omega arith)
-member_from_some (x ∷ xs) l = (x, is_member-head x xs)
-
-pub some_from_member : (x : ℕ) (xs : List ℕ) → is_member x xs ≡ true → 0 < length xs
-some_from_member x [] m = absurd (false≢true m)
-some_from_member x (y ∷ xs) m = omega arith
-
 module _ (ends : ℕ → ℕ × ℕ) where
-  pub arborescence_enters : (vertices count root : ℕ) (tree set : List ℕ) → IsSpanningArborescence vertices count ends root tree
-      → IsRootFree vertices root set → (a : ℕ) × (is_member a tree ≡ true) × (enters ends set a ≡ true)
-  arborescence_enters vertices count root tree set s f =
-      let v = member_from_some set f.some in
-      let r = s.reached v.0 (below_member f.set v.1) in
-      let w = walk_enters ends set r.along root v.0 r.walk f.free v.1 in
-      (w.0, r.inside.inside w.0 w.1, w.2)
-
   where-low : (b : Bool) (w : ℤ) → pos 0 <ℤ w → pos 0 ≤ℤ weight_where b w
   where-low true w p = omega (arith, ints)
   where-low false w p = omega (arith, ints)
@@ -81,17 +65,11 @@ right_cuts_are_cheapest vertices arcs costs root tree cuts r other s =
     let same = r.total in
     omega (arith, ints)
 
-pub unreached_has_none : (vertices : ℕ) (arcs : List (ℕ × ℕ)) (root : ℕ) (set tree : List ℕ) → IsUnreached vertices arcs root set
-    → IsSpanningArborescence vertices (length arcs) (ends_of arcs) root tree → ⊥
-unreached_has_none vertices arcs root set tree u s =
-    let w = arborescence_enters (ends_of arcs) vertices (length arcs) root tree set s u.root_free in
-    both_ways _ (u.none w.0 (below_member s.set w.1)) w.2
-
 -- right answers tell whether there is a spanning arborescence
 pub tells_reached : (vertices : ℕ) (arcs : List (ℕ × ℕ)) (costs : List ℤ) (root : ℕ) (cuts : Cuts) → AreRight vertices arcs costs root cuts
     → TellsReached vertices arcs root cuts
 tells_reached vertices arcs costs root (Tree tree cuts) r = (tree, r.spans)
-tells_reached vertices arcs costs root (Unreached set) r = λ tree s. unreached_has_none vertices arcs root set tree r s
+tells_reached vertices arcs costs root (Unreached set) r = λ tree s. unentered_has_none vertices arcs root set tree r s
 
 -- ---- right answers are in range
 

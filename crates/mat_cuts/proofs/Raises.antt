@@ -3,10 +3,10 @@
 use Rattle.std.proofs.Common.{◌≡◌, ℕ, suc, ◌+◌, ◌<◌, ◌≤◌, ◌⊎◌, true, List, [], ◌∷◌, ◌++◌, length, inl, inr, ◌∙◌, subst, arith, ℤ, pos, ◌+ℤ◌, ◌≤ℤ◌, ◌<ℤ◌, length-append}
 use Rattle.std.proofs.lemmas.Bool.{cases_Bool, cases_lt}
 use Rattle.std.proofs.lemmas.Int.{ints}
-use Rattle.mat_sets.specs.Graphs.{ends_of, enters}
+use Rattle.mat_sets.specs.Graphs.{ends_of, enters, IsRootFree}
 use Rattle.mat_sets.specs.Sets.{is_member}
 use Rattle.mat_cuts.specs.Costs.{cost_at}
-use Rattle.mat_cuts.specs.Cuts.{weight_on, weight_where, IsCut, IsRootFree}
+use Rattle.mat_cuts.specs.Cuts.{weight_on, weight_where, IsCut}
 use Rattle.mat_cuts.specs.Raising.{at, AreNested, IsLowered, IsNested, IsRaised, Leads}
 use Rattle.mat_cuts.specs.declared.cut_weight.CutWeight.{CutWeight}
 use Rattle.mat_cuts.proofs.EachItem.{AllByRecursion-push}

@@ -3,21 +3,20 @@ use Rattle.std.proofs.Common.{◌≡◌, ◌≢◌, ℕ, suc, ◌+◌, ◌*◌, 
 use Rattle.std.proofs.lemmas.Bool.{and_from, and_parts, both_ways, cases_Bool, cases_eq, cases_lt, eq-eqb, eqb-true, false_from_ne_true, lt-ltb, ltb-true, ne_eqb}
 use Rattle.std.proofs.lemmas.Int.{ints}
 use Rattle.std.proofs.lemmas.List.Elements.{All-get_or}
-use Rattle.mat_sets.specs.Graphs.{ends_of, enters, IsGraph}
+use Rattle.mat_sets.specs.Graphs.{ends_of, enters, IsGraph, IsRootFree, IsUnentered}
 use Rattle.mat_sets.specs.Search.{those_below}
 use Rattle.mat_sets.specs.Sets.{all_below, is_member, without_one, IsSet}
 use Rattle.mat_cuts.specs.Costs.{cost_at, IsCost}
 use Rattle.mat_sets.proofs.Cardinalities.{length-without_one}
 use Rattle.mat_sets.proofs.Ground.{is_member-all_below, length-all_below, IsRising-all_below, IsSet-all_below, IsSet-without_one}
-use Rattle.mat_sets.proofs.Members.{is_member-without_one}
+use Rattle.mat_sets.proofs.Members.{is_member-without_one, some_from_member}
 use Rattle.mat_sets.proofs.Search.{is_member-those_below, IsSet-those_below}
-use Rattle.mat_cuts.specs.Cuts.{weight_where, IsRootFree, IsUnreached}
+use Rattle.mat_cuts.specs.Cuts.{weight_where}
 use Rattle.mat_cuts.specs.Listing.{IsBegun, IsFollowed, IsPaid, IsSpent}
 use Rattle.mat_cuts.specs.declared.growing.Raised.{Raised}
 use Rattle.mat_cuts.specs.declared.joining.Path.{Path}
 use Rattle.mat_cuts.specs.Raising.{at, comes, falls, IsFirstTime, IsLeast, IsLowered, IsPath, IsRaised, Leads}
 use Rattle.mat_cuts.specs.declared.cut_weight.CutWeight.{CutWeight}
-use Rattle.mat_cuts.proofs.Bounds.{some_from_member}
 use Rattle.mat_cuts.proofs.Loops.{comes-parts}
 use Rattle.mat_cuts.proofs.Paths.{Leads-arc, Leads-itself, Leads-trans, IsPath-join, IsPath-later, IsPath-push}
 use Rattle.mat_cuts.proofs.Raises.{soon-later, IsLater-raise, IsRaised-raise}
@@ -142,7 +141,7 @@ module _ (vertices : ℕ) (arcs : List (ℕ × ℕ)) (graph : IsGraph vertices a
     pub IsSearching-unreached : (reduced : List ℤ) (since : List ℕ) (cuts : List CutWeight) (place fresh : List ℕ) (last : ℕ)
         → IsSearching vertices arcs costs root reduced since cuts place fresh last → 0 < last
         → ((b : ℕ) → b < length arcs → comes (ends_of arcs) place last b ≡ false)
-        → IsUnreached vertices arcs root (last_set vertices place last)
+        → IsUnentered vertices arcs root (last_set vertices place last)
     IsSearching-unreached reduced since cuts place fresh last s some none = record {
       root_free = root_free reduced since cuts place fresh last s some;
       none = λ a l. sym (comes-enters place last a l) ∙ none a l;

@@ -12,13 +12,12 @@ use Rattle.mat_sets.specs.Sets.{is_member, with_one, IsSet}
 use Rattle.mat_cuts.specs.Costs.{cost_at, cost_of}
 use Rattle.mat_sets.proofs.Cardinalities.{length-with_one, sum_of-with_one}
 use Rattle.mat_sets.proofs.Ground.{below_member, IsSet-nil, IsSet-with_one}
-use Rattle.mat_sets.proofs.Members.{is_member-head, is_member-with_one}
+use Rattle.mat_sets.proofs.Members.{is_member-head, is_member-with_one, member_from_some}
 use Rattle.mat_sets.proofs.Subsets.{IsSubset-with_one}
 use Rattle.mat_cuts.specs.Cuts.{all_weight, weight_on, weight_where, IsCut}
 use Rattle.mat_cuts.specs.Growing.{is_timed, leaves, IsEarliest}
 use Rattle.mat_cuts.specs.Raising.{at, AreNested, IsNested, IsRaised, Leads}
 use Rattle.mat_cuts.specs.declared.cut_weight.CutWeight.{CutWeight}
-use Rattle.mat_cuts.proofs.Bounds.{member_from_some}
 use Rattle.mat_cuts.proofs.Reached.{all_reached, one_unreached, reached_spans, root_alone, IsReached, IsReached-more, IsReached-start, IsReached-wider}
 use Rattle.mat_cuts.proofs.Loops.{stays, those-is, those-passes, those-set}
 

@@ -1,10 +1,10 @@
 -- Right answers to the question for a cheapest spanning arborescence.
 use Rattle.std.specs.Prelude.{ℕ, ◌≤◌, ◌*◌, ◌^◌, List, length, ℤ}
 use Rattle.std.specs.List.{AllByRecursion}
-use Rattle.mat_sets.specs.Graphs.{ends_of, IsSpanningArborescence}
+use Rattle.mat_sets.specs.Graphs.{ends_of, IsSpanningArborescence, IsUnentered}
 use Rattle.mat_sets.specs.Sets.{AllBelow}
 use Rattle.mat_sets.specs.Sums.{IsWithin}
-use Rattle.mat_cuts.specs.Cuts.{AreRightCuts, IsUnreached}
+use Rattle.mat_cuts.specs.Cuts.{AreRightCuts}
 use Rattle.mat_cuts.specs.declared.cut_weight.CutWeight.{CutWeight}
 use Rattle.mat_cuts.specs.declared.cut_weight.Cuts.{Cuts}
 use Rattle.mat_cuts.specs.declared.cut_weight.Cuts.TheVariants.{Tree, Unreached}
@@ -12,7 +12,7 @@ use Rattle.mat_cuts.specs.declared.cut_weight.Cuts.TheVariants.{Tree, Unreached}
 -- right cuts with a tree, or a root-free vertex set that no arc enters
 abbrev pub AreRight : (vertices : ℕ) (arcs : List (ℕ × ℕ)) (costs : List ℤ) (root : ℕ) → Cuts → Type 0
 AreRight vertices arcs costs root (Tree tree cuts) = AreRightCuts vertices arcs costs root tree cuts.items
-AreRight vertices arcs costs root (Unreached set) = IsUnreached vertices arcs root set
+AreRight vertices arcs costs root (Unreached set) = IsUnentered vertices arcs root set
 
 -- Unreached comes exactly where there is no spanning arborescence
 abbrev pub TellsReached : (vertices : ℕ) (arcs : List (ℕ × ℕ)) (root : ℕ) → Cuts → Type 0

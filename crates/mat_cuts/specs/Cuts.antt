@@ -1,16 +1,10 @@
 -- Vertex sets with weights that bound the cost of each spanning arborescence from below (Fulkerson 1974; Schrijver, chapter 52).
 use Rattle.std.specs.Prelude.{◌≡◌, ℕ, ◌<◌, ◌≤◌, ◌*◌, Bool, false, if◌then◌else◌, List, [], ◌∷◌, length, ℤ, pos, ◌+ℤ◌, ◌≤ℤ◌, ◌<ℤ◌}
 use Rattle.std.specs.List.{AllByRecursion}
-use Rattle.mat_sets.specs.Graphs.{ends_of, enters, IsSpanningArborescence}
+use Rattle.mat_sets.specs.Graphs.{ends_of, enters, IsSpanningArborescence, IsRootFree}
 use Rattle.mat_sets.specs.Sets.{is_member, IsSet}
 use Rattle.mat_cuts.specs.Costs.{cost_at, cost_of}
 use Rattle.mat_cuts.specs.declared.cut_weight.CutWeight.{CutWeight}
-
--- a vertex set that is not empty and does not hold the root
-pub record IsRootFree (vertices root : ℕ) (part : List ℕ) : Type 0 where
-  pub set : IsSet vertices part
-  pub some : 0 < length part
-  pub free : is_member root part ≡ false
 
 -- the weight where the arc enters, and 0 where it does not
 abbrev pub weight_where : Bool → ℤ → ℤ
@@ -40,11 +34,6 @@ pub record AreRightCuts (vertices : ℕ) (arcs : List (ℕ × ℕ)) (costs : Lis
   pub each : AllByRecursion (IsCut vertices root) cuts
   pub within : (a : ℕ) → a < length arcs → weight_on (ends_of arcs) cuts a ≤ℤ cost_at costs a
   pub total : all_weight cuts ≡ cost_of costs tree
-
--- a root-free vertex set that no arc enters
-pub record IsUnreached (vertices : ℕ) (arcs : List (ℕ × ℕ)) (root : ℕ) (set : List ℕ) : Type 0 where
-  pub root_free : IsRootFree vertices root set
-  pub none : (a : ℕ) → a < length arcs → enters (ends_of arcs) set a ≡ false
 
 -- no spanning arborescence costs less
 abbrev pub IsCheapest : (vertices : ℕ) (arcs : List (ℕ × ℕ)) (costs : List ℤ) (root : ℕ) (tree : List ℕ) → Type 0

@@ -1,14 +1,14 @@
 //! Whether cuts are right.
 ghost use Rattle.std.specs.Prelude.{◌≡◌, ◌≤◌, ◌<◌, ◌*◌, ◌^◌, ◌≤ℤ◌, ◌↔◌, ℕ, length, false, All, IfOk, IsTrue};
 ghost use Rattle.std.specs.List.{AllByRecursion};
-ghost use Rattle.mat_sets.specs.Graphs.{ends_of, enters, IsGraph, IsSpanningArborescence};
+ghost use Rattle.mat_sets.specs.Graphs.{ends_of, enters, IsGraph, IsSpanningArborescence, IsRootFree, IsUnentered};
 ghost use Rattle.mat_sets.specs.Sets.{AllBelow, IsRising};
 ghost use Rattle.mat_sets.specs.Sums.{IsWithin};
 ghost use Rattle.mat_cuts.specs.Answers.{AreInRange, AreRight, IsCutInRange};
 ghost use Rattle.mat_cuts.specs.Checking.{IsAdded};
 ghost use Rattle.mat_cuts.specs.Costs.{cost_at, cost_of, IsCost};
 ghost use Rattle.mat_cuts.specs.Growing.{TellsLeaving};
-ghost use Rattle.mat_cuts.specs.Cuts.{all_weight, weight_on, AreRightCuts, IsCut, IsRootFree, IsUnreached};
+ghost use Rattle.mat_cuts.specs.Cuts.{all_weight, weight_on, AreRightCuts, IsCut};
 
 use crate::cut_weight::{CutWeight, Cuts};
 use crate::growing::leaves;
@@ -212,7 +212,7 @@ fn is_unreached(
 ) -> Result<bool, AllocError>
     requires graph { IsGraph vertices arcs.now }
     requires below { AllBelow vertices set.now }
-    ensures { IfOk result (λ right. IsTrue right ↔ IsUnreached vertices arcs.now root set.now) }
+    ensures { IfOk result (λ right. IsTrue right ↔ IsUnentered vertices arcs.now root set.now) }
 {
     if !is_root_free(root, set) {
         return Ok(false);

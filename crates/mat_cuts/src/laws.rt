@@ -1,8 +1,8 @@
 //! Laws of weighted cuts, for any graph.
 ghost use Rattle.std.specs.Prelude.{◌≡◌, ℕ, ℤ, List, length, true};
-ghost use Rattle.mat_sets.specs.Graphs.{ends_of, enters, IsSpanningArborescence};
+ghost use Rattle.mat_sets.specs.Graphs.{ends_of, enters, IsSpanningArborescence, IsRootFree, IsUnentered};
 ghost use Rattle.mat_sets.specs.Sets.{is_member};
-ghost use Rattle.mat_cuts.specs.Cuts.{AreRightCuts, IsCheapest, IsRootFree, IsUnreached};
+ghost use Rattle.mat_cuts.specs.Cuts.{AreRightCuts, IsCheapest};
 ghost use Rattle.mat_cuts.specs.declared.cut_weight.CutWeight.{CutWeight};
 
 /// Each spanning arborescence has an arc that enters each root-free vertex set.
@@ -21,5 +21,5 @@ pub fn right_cuts_are_cheapest()
 /// Where no arc enters a root-free vertex set, there is no spanning arborescence.
 pub fn unreached_has_none()
     ensures { (vertices : ℕ) (arcs : List (ℕ × ℕ)) (root : ℕ) (set tree : List ℕ)
-        → IsUnreached vertices arcs root set → ¬ IsSpanningArborescence vertices (length arcs) (ends_of arcs) root tree }
+        → IsUnentered vertices arcs root set → ¬ IsSpanningArborescence vertices (length arcs) (ends_of arcs) root tree }
 {}

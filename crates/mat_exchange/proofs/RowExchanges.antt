@@ -32,22 +32,6 @@ row_in-past n p I x h = get_or_past (rows_of n p I) x (record { addable = false;
 
 -- ---- one row
 
-pub row_of-adds : (p : List ℕ → Bool) (I : List ℕ) (x : ℕ) → (row_of p I x).addable ≡ (exchanges_at p I).adds x
-row_of-adds p I x = elim (cases_Bool (is_member x I)) [
-  | inl i ↦ ap (λ (r : Exchange). r.addable) (cond-true (is_member x I) _ _ i) ∙ sym (ap (λ b. not b && p (with_one I x)) i)
-  | inr o ↦ ap (λ (r : Exchange). r.addable) (cond-false (is_member x I) _ _ o) ∙ sym (ap (λ b. not b && p (with_one I x)) o)
-]
-
-pub row_of-trades : (p : List ℕ → Bool) (I : List ℕ) (y x : ℕ) → is_member y (row_of p I x).with ≡ (exchanges_at p I).trades y x
-row_of-trades p I y x =
-    let test : Bool → Bool = λ b. is_member y I && (not b && p (with_one (without_one I y) x)) in
-    elim (cases_Bool (is_member x I)) [
-      | inl i ↦ ap (λ (r : Exchange). is_member y r.with) (cond-true (is_member x I) _ _ i)
-          ∙ sym (ap test i ∙ and_right (is_member y I) false refl)
-      | inr o ↦ ap (λ (r : Exchange). is_member y r.with) (cond-false (is_member x I) _ _ o)
-          ∙ is_member-filter (λ z. p (with_one (without_one I z) x)) y I ∙ sym (ap test o)
-    ]
-
 -- ---- all rows
 
 exchanges_of : (ℕ → Bool) → (ℕ → ℕ → Bool) → Exchanges

@@ -15,7 +15,7 @@ use Rattle.mat_sets.proofs.Subsets.{minus-IsSubset}
 use Rattle.mat_laws.specs.Ranks.{rank}
 use Rattle.mat_laws.specs.Ladders.{IsCut}
 use Rattle.mat_laws.specs.Matroids.{IsMatroid}
-use Rattle.mat_laws.proofs.RankLaws.{rank_is}
+use Rattle.mat_laws.proofs.RankLaws.{rank_is, rank-subset}
 use Rattle.mat_count.specs.Labels.{AreApart}
 use Rattle.mat_sets.proofs.OneToOne.{length-one_to_one}
 use Rattle.mat_graphic.specs.Forests.{is_graphic, number_of_components}
@@ -24,13 +24,6 @@ use Rattle.mat_graphic.proofs.ComponentCounts.{rank_and_number}
 use Rattle.mat_fronts.specs.Once.{AreLabelsOf, is_once}
 use Rattle.mat_fronts.specs.Rainbow.{IsMissingColours, edges_without}
 use Rattle.mat_fronts.proofs.OnceEach.{length-labels}
-
--- a subset has at most the rank
-rank-subset : {n : ℕ} {p : List ℕ → Bool} → IsMatroid n p → (X Y : List ℕ) → IsRising X → IsRising Y → IsSubset X Y → rank p X ≤ rank p Y
-rank-subset {n} {p} laws X Y r q s =
-    let few = rank_is laws X r in
-    let many = rank_is laws Y q in
-    omega (arith, few.size, many.most few.largest few.passes (record { inside = λ x m. s.inside x (few.inside.inside x m) }))
 
 module _ (n vertices : ℕ) (ends : ℕ → ℕ × ℕ) (ends_below : (e : ℕ) → e < n → ((ends e).0 < vertices) × ((ends e).1 < vertices)) (label : ℕ → ℕ) where
   without_member : (C : List ℕ) (e : ℕ) → is_member e (edges_without n label C) ≡ (ltb e n && not (is_member (label e) C))

@@ -1,7 +1,7 @@
 -- The rank is the largest size of an independent subset; a largest one is maximal.
 use Rattle.std.proofs.Common.{◌≡◌, ℕ, suc, zero, ◌≤◌, Bool, true, ◌&&◌, eqb, List, [], length, inl, inr, refl, sym, ap, ◌∙◌, arith}
 use Rattle.std.proofs.lemmas.Bool.{cases_Bool, cases_eq, eqb-true, eq-eqb, both_ways, false_from_ne_true, and_parts, and_from}
-use Rattle.mat_sets.specs.Sets.{IsRising, with_one}
+use Rattle.mat_sets.specs.Sets.{IsRising, IsSubset, with_one}
 use Rattle.mat_sets.proofs.Members.{IsRising-nil}
 use Rattle.mat_sets.proofs.Subsets.{length-subset, with_one-IsSubset}
 use Rattle.mat_sets.proofs.Cardinalities.{length-with_one}
@@ -70,3 +70,10 @@ module _ {n : ℕ} {p : List ℕ → Bool} (laws : IsMatroid n p) where
   -- the rank is the size of each maximal independent subset
   pub rank-maximal : (X A : List ℕ) → IsRising X → IsMaximal p X A → rank p X ≡ length A
   rank-maximal X A q m = IsRank-unique p X (rank p X) (length A) (rank_is X q) (IsRank-maximal laws X A m)
+
+-- a subset has at most the rank
+pub rank-subset : {n : ℕ} {p : List ℕ → Bool} → IsMatroid n p → (X Y : List ℕ) → IsRising X → IsRising Y → IsSubset X Y → rank p X ≤ rank p Y
+rank-subset {n} {p} laws X Y r q s =
+    let few = rank_is laws X r in
+    let many = rank_is laws Y q in
+    omega (arith, few.size, many.most few.largest few.passes (record { inside = λ x m. s.inside x (few.inside.inside x m) }))

@@ -1,14 +1,15 @@
 -- The members y of an independent set I for which x can be exchanged are collected one after the other, by questions about I + x - y, which
 -- is I - y + x.
-use Rattle.std.proofs.Common.{◌≡◌, ℕ, ◌+◌, ◌<◌, ◌≤◌, Bool, true, false, ◌||◌, cond, eqb, List, [], ◌∷◌, length}
+use Rattle.std.proofs.Common.{◌≡◌, ℕ, ◌+◌, ◌<◌, ◌≤◌, Bool, true, false, not, ◌&&◌, ◌||◌, cond, inl, inr, eqb, List, [], ◌∷◌, length}
 use Rattle.std.proofs.Common.{get_or, drop, refl, sym, ap, ◌∙◌}
-use Rattle.std.proofs.lemmas.Bool.{both_ways, cond-false, ne_eqb}
+use Rattle.std.proofs.lemmas.Bool.{and_right, both_ways, cases_Bool, cond-false, cond-true, ne_eqb}
 use Rattle.std.proofs.lemmas.List.{drop_all, drop_more}
 use Rattle.std.specs.List.{filter}
 use Rattle.mat_sets.specs.Sets.{is_member, IsRising, with_one, without_one}
 use Rattle.mat_laws.specs.declared.exchange.Exchange.{Exchange}
 use Rattle.mat_laws.specs.Exchanges.{row_of}
-use Rattle.mat_sets.proofs.Members.{is_member-get_or, is_member-with_one, same_members, IsRising-nil, IsRising-with_one, RisesFrom-filter}
+use Rattle.mat_laws.specs.TightPaths.{exchanges_at}
+use Rattle.mat_sets.proofs.Members.{is_member-filter, is_member-get_or, is_member-with_one, same_members, IsRising-nil, IsRising-with_one, RisesFrom-filter}
 use Rattle.mat_sets.proofs.Changes.{without_one-with_one}
 
 -- whether x can be exchanged for y
@@ -99,3 +100,20 @@ row_outside independent I x row o a t = same_row row.addable _ row.with _ a t �
   where
     same_row : (a b : Bool) (xs ys : List ℕ) → a ≡ b → xs ≡ ys → row_with a xs ≡ row_with b ys
     same_row a b xs ys d e = ap (λ c. row_with c xs) d ∙ ap (row_with b) e
+
+-- ---- what a row tells
+
+pub row_of-adds : (p : List ℕ → Bool) (I : List ℕ) (x : ℕ) → (row_of p I x).addable ≡ (exchanges_at p I).adds x
+row_of-adds p I x = elim (cases_Bool (is_member x I)) [
+  | inl i ↦ ap (λ (r : Exchange). r.addable) (cond-true (is_member x I) _ _ i) ∙ sym (ap (λ b. not b && p (with_one I x)) i)
+  | inr o ↦ ap (λ (r : Exchange). r.addable) (cond-false (is_member x I) _ _ o) ∙ sym (ap (λ b. not b && p (with_one I x)) o)
+]
+
+pub row_of-trades : (p : List ℕ → Bool) (I : List ℕ) (y x : ℕ) → is_member y (row_of p I x).with ≡ (exchanges_at p I).trades y x
+row_of-trades p I y x =
+    let test : Bool → Bool = λ b. is_member y I && (not b && p (with_one (without_one I y) x)) in
+    elim (cases_Bool (is_member x I)) [
+      | inl i ↦ ap (λ (r : Exchange). is_member y r.with) (cond-true (is_member x I) _ _ i) ∙ sym (ap test i ∙ and_right (is_member y I) false refl)
+      | inr o ↦ ap (λ (r : Exchange). is_member y r.with) (cond-false (is_member x I) _ _ o)
+          ∙ is_member-filter (λ z. p (with_one (without_one I z) x)) y I ∙ sym (ap test o)
+    ]

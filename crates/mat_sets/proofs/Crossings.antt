@@ -4,15 +4,15 @@ use Rattle.std.proofs.Common.{if◌then◌else◌, ◌≡◌, ℕ, suc, ◌+◌,
 use Rattle.std.proofs.lemmas.Bool.{and_from, and_parts, both_ways, cases_Bool, eqb-true, false_from_ne_true, false≢true, not-true, or_cases}
 use Rattle.std.specs.List.{concat, filter}
 use Rattle.mat_sets.specs.Families.{indicator, AreDisjoint}
-use Rattle.mat_sets.specs.Graphs.{enters, entering, DirectedWalk}
+use Rattle.mat_sets.specs.Graphs.{ends_of, enters, entering, DirectedWalk, IsRootFree, IsSpanningArborescence, IsUnentered}
 use Rattle.mat_sets.specs.Sets.{is_member, intersection, union, without_one, AreDistinct, IsRising, IsSubset}
 use Rattle.mat_sets.proofs.Cardinalities.{length-without_one}
 use Rattle.mat_sets.proofs.DisjointLists.{AreDisjoint-first}
 use Rattle.mat_sets.proofs.Families.{AreDisjoint-tail}
 use Rattle.mat_sets.proofs.Filters.{IsRising-filter}
-use Rattle.mat_sets.proofs.Ground.{length-distinct_subset}
+use Rattle.mat_sets.proofs.Ground.{below_member, length-distinct_subset}
 use Rattle.mat_sets.proofs.ListParts.{is_member-left, is_member-right}
-use Rattle.mat_sets.proofs.Members.{is_member-filter, is_member-head, is_member-intersection, is_member-union, is_member-without_one, same_members, without_one-missing, IsRising-without_one}
+use Rattle.mat_sets.proofs.Members.{is_member-filter, is_member-head, is_member-intersection, is_member-union, is_member-without_one, member_from_some, same_members, without_one-missing, IsRising-without_one}
 use Rattle.mat_sets.proofs.Subsets.{find_member}
 
 -- ---- how many pass
@@ -123,6 +123,15 @@ module _ (ends : ℕ → ℕ × ℕ) where
     | inr later ↦ (let f = walk_enters cut along (ends a).1 w walk.1 later inside in (f.0, (let m = f.1 in grind arith), f.2))
   ]
 
+  -- a spanning arborescence enters each root-free set
+  pub arborescence_enters : (vertices count root : ℕ) (tree cut : List ℕ) → IsSpanningArborescence vertices count ends root tree
+      → IsRootFree vertices root cut → (a : ℕ) × (is_member a tree ≡ true) × (enters ends cut a ≡ true)
+  arborescence_enters vertices count root tree cut s f =
+      let v = member_from_some cut f.some in
+      let r = s.reached v.0 (below_member f.set v.1) in
+      let w = walk_enters cut r.along root v.0 r.walk f.free v.1 in
+      (w.0, r.inside.inside w.0 w.1, w.2)
+
   -- lists that share no arc, each of live arcs and with one that enters
   pub record Comes (live cut : List ℕ) (arcs : List ℕ) : Type 0 where
     pub arc : ℕ
@@ -167,3 +176,10 @@ module _ (ends : ℕ → ℕ × ℕ) where
   at_most_entering live cut lists r apart each =
       let c = comers live cut lists apart each in
       omega (arith, c.many, length-distinct_subset c.arcs (entering ends live cut) c.distinct (IsRising-entering live cut r) c.enter)
+
+-- where no arc enters a root-free set, there is no spanning arborescence
+pub unentered_has_none : (vertices : ℕ) (arcs : List (ℕ × ℕ)) (root : ℕ) (cut tree : List ℕ) → IsUnentered vertices arcs root cut
+    → IsSpanningArborescence vertices (length arcs) (ends_of arcs) root tree → ⊥
+unentered_has_none vertices arcs root cut tree u s =
+    let w = arborescence_enters (ends_of arcs) vertices (length arcs) root tree cut s u.root_free in
+    both_ways _ (u.none w.0 (below_member s.set w.1)) w.2

@@ -2,7 +2,7 @@
 -- each operation has one law that says its members: so an equation of sets is proved member by member.
 use Rattle.std.proofs.Common.{Bool, List, [], ap, arith, cond, eqb, false, get_or, inl, inr, length, ltb, not, refl, subst, suc, sym, true, zero, ℕ, ◌&&◌, ◌++◌, ◌+◌, ◌<◌, ◌||◌, ◌∙◌, ◌∷◌, ◌≡◌, ◌≤◌}
 use Rattle.std.proofs.Math.Numerals.{add-one}
-use Rattle.std.proofs.lemmas.Bool.{and_right, both_ways, cases_eq, cases_lt, cases_order, eq-eqb, le-ltb, lt-ltb, ne_eqb, or_from, or_right}
+use Rattle.std.proofs.lemmas.Bool.{and_right, both_ways, cases_eq, cases_lt, cases_order, eq-eqb, false≢true, le-ltb, lt-ltb, ne_eqb, or_from, or_right}
 use Rattle.std.specs.List.{filter}
 use Rattle.std.specs.List.Sorted.{IsStrictlyIncreasing}
 use Rattle.mat_sets.specs.Sets.{IsRising, RisesFrom, intersection, is_member, minus, rising_insert, union, with_one, without_one}
@@ -274,3 +274,13 @@ minus-none b = refl
 pub intersection-none : (b : List ℕ) → intersection [] b ≡ []
 unfolding intersection
 intersection-none b = refl
+
+-- ---- sets that are not empty
+
+pub member_from_some : (xs : List ℕ) → 0 < length xs → (x : ℕ) × (is_member x xs ≡ true)
+member_from_some [] l = absurd (omega arith)
+member_from_some (x ∷ xs) l = (x, is_member-head x xs)
+
+pub some_from_member : (x : ℕ) (xs : List ℕ) → is_member x xs ≡ true → 0 < length xs
+some_from_member x [] m = absurd (false≢true m)
+some_from_member x (y ∷ xs) m = omega arith

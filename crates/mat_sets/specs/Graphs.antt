@@ -1,6 +1,6 @@
 -- Graphs whose edges or arcs are numbered, walks along them, arcs that enter a vertex set, and spanning arborescences (Schrijver,
 -- chapters 3 and 52).
-use Rattle.std.specs.Prelude.{◌≡◌, ℕ, suc, ◌<◌, ◌^◌, ◌⊎◌, Bool, not, ◌&&◌, List, [], ◌∷◌, filter, length, slice_index_or}
+use Rattle.std.specs.Prelude.{◌≡◌, ℕ, suc, ◌<◌, ◌^◌, ◌⊎◌, Bool, false, not, ◌&&◌, List, [], ◌∷◌, filter, length, slice_index_or}
 use Rattle.mat_sets.specs.Sets.{is_member, IsSet, IsSubset}
 
 -- the two ends of edge e; for an arc first its tail and then its head
@@ -40,6 +40,17 @@ enters ends cut a = is_member (ends a).1 cut && not (is_member (ends a).0 cut)
 -- the arcs among these that enter a vertex set (Schrijver, chapter 3)
 unfoldable pub entering : (ℕ → ℕ × ℕ) → List ℕ → List ℕ → List ℕ
 entering ends arcs cut = filter (enters ends cut) arcs
+
+-- a vertex set that is not empty and does not hold the root
+pub record IsRootFree (vertices root : ℕ) (cut : List ℕ) : Type 0 where
+  pub set : IsSet vertices cut
+  pub some : 0 < length cut
+  pub free : is_member root cut ≡ false
+
+-- such a set that no arc enters
+pub record IsUnentered (vertices : ℕ) (arcs : List (ℕ × ℕ)) (root : ℕ) (cut : List ℕ) : Type 0 where
+  pub root_free : IsRootFree vertices root cut
+  pub none : (a : ℕ) → a < length arcs → enters (ends_of arcs) cut a ≡ false
 
 -- a spanning arborescence: one arc fewer than there are vertices, along which the root reaches each vertex
 pub record IsSpanningArborescence (vertices count : ℕ) (ends : ℕ → ℕ × ℕ) (root : ℕ) (arcs : List ℕ) : Type 0 where

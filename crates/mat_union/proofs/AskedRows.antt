@@ -10,7 +10,7 @@ use Rattle.mat_union.specs.Moves.{exchanges_with}
 use Rattle.mat_union.specs.MoveSearches.{element_asked, IsHeard, IsReaching}
 use Rattle.mat_union.specs.Unions.{part_at, test_at}
 use Rattle.mat_union.specs.declared.move_search.MoveSearch.{MoveSearch}
-use Rattle.mat_union.proofs.RowsOfParts.{row_of-adds, row_of-trades}
+use Rattle.mat_laws.proofs.Rows.{row_of-adds, row_of-trades}
 
 pub row_answers : (tests : List (List ℕ → Bool)) (parts : List (List ℕ)) (s : MoveSearch) (test : List ℕ → Bool) (part : List ℕ) (x q : ℕ) (row : Exchange)
     → x ≡ element_asked s → q ≡ s.part → test_at tests q ≡ test → part ≡ part_at parts q → row ≡ row_of test part x → IsHeard (exchanges_with tests parts) s row

@@ -1,11 +1,11 @@
 use Rattle.std.proofs.Common.{◌≡◌, ◌∙◌, ◌-◌, ℕ, ◌<◌, List, ap, get_or, length, refl, subst, sym, arith}
 use Rattle.std.proofs.lemmas.Bool.{false≢true}
-use Rattle.mat_sets.specs.Graphs.{ends_of}
+use Rattle.mat_sets.specs.Graphs.{ends_of, IsUnentered}
 use Rattle.mat_sets.specs.Sets.{all_below, minus}
 use Rattle.mat_graphic.specs.declared.graphic.Graphic.{Graphic}
-use Rattle.mat_arbor.specs.Arborescences.{IsUnentered}
 use Rattle.mat_arbor.specs.Growing.{IsGrownTree, Leaves}
-use Rattle.mat_arbor.proofs.GrownTrees.{grown_size, grown_spans, unentered_rest, unentered_unreached}
+use Rattle.mat_sets.proofs.Crossings.{unentered_has_none}
+use Rattle.mat_arbor.proofs.GrownTrees.{grown_size, grown_spans, unentered_rest}
 use Rattle.mat_arbor.proofs.Negating.{negated_small}
 use Rattle.mat_arbor.proofs.FoundTrees.{tree_of_ladder, made_ladder}
 use Rattle.mat_arbor.proofs.least.least_arborescence.Goals as goal
@@ -24,7 +24,7 @@ returns-then-len-vertices-clause-right g c =
 
 pub returns-then-len-vertices-clause-unreached : goal.returns-then-len-vertices-clause-unreached
 returns-then-len-vertices-clause-unreached g c = (
-  (λ _. unentered_unreached c.args.vertices c.args.arcs.now c.args.root c.in_ok-rest.rest (returns-then-len-vertices-clause-right g c)),
+  (λ _. unentered_has_none c.args.vertices c.args.arcs.now c.args.root c.in_ok-rest.rest (returns-then-len-vertices-clause-right g c)),
   λ _. refl,
 )
 

@@ -5,7 +5,7 @@ use Rattle.mat_sets.proofs.Cardinalities.{length-without_one}
 use Rattle.mat_sets.proofs.Ground.{is_member-all_below, length-all_below, IsRising-all_below}
 use Rattle.mat_cuts.proofs.Loops.{places-start}
 use Rattle.mat_sets.specs.Search.{those_below}
-use Rattle.mat_cuts.specs.Cuts.{IsUnreached}
+use Rattle.mat_sets.specs.Graphs.{IsUnentered}
 use Rattle.mat_cuts.specs.Listing.{TellsSpent}
 use Rattle.mat_cuts.specs.Raising.{at}
 use Rattle.mat_cuts.proofs.Searching.{last_set-is, IsSearching, IsSearching-start, IsSearching-begun, IsSearching-turn, IsSearching-unreached}
@@ -77,6 +77,6 @@ returns-in_default c =
     let none = subst (TellsSpent arcs place last raised c.spend.new.raised) c.in_default.is c.in_ok-spent.ensures in
     let set_is = c.in_ok-at_place.ensures ∙ ap (λ p. those_below (length p) (λ v. eqb (at p v) last)) c.deref.ensures.value
     ∙ ap (λ n. those_below n (λ v. eqb (at place v) last)) begun.0.path.long ∙ sym (last_set-is vertices place last) in
-    subst (IsUnreached vertices arcs root) (sym set_is)
+    subst (IsUnentered vertices arcs root) (sym set_is)
     (IsSearching-unreached vertices arcs graph costs root raised.reduced.items raised.since.items raised.cuts.items place
     c.begin.new.path.fresh last begun.0 begun.1 none)

@@ -1,7 +1,8 @@
 use Rattle.std.proofs.Common.{◌↔◌, IfOk, IsTrue, sym, subst}
 use Rattle.mat_cuts.specs.Answers.{AreRight}
-use Rattle.mat_cuts.specs.Cuts.{AreRightCuts, IsUnreached}
+use Rattle.mat_cuts.specs.Cuts.{AreRightCuts}
 use Rattle.mat_cuts.proofs.checking.right_cuts.Goals as goal
+use Rattle.mat_sets.specs.Graphs.{IsUnentered}
 
 pub returns-in-Tree : goal.returns-in-Tree
 returns-in-Tree c =
@@ -23,5 +24,5 @@ returns-in-Unreached c =
     let root = c.args.root in
     let result = c.is_unreached.result in
     subst (λ k. IfOk result (λ right. IsTrue right ↔ AreRight vertices arcs c.args.costs.now root k)) (sym c.in-Unreached.is)
-    (subst (λ k. IfOk result (λ right. IsTrue right ↔ IsUnreached vertices k root c.in-Unreached.set)) c.as_slice-ends.ensures
+    (subst (λ k. IfOk result (λ right. IsTrue right ↔ IsUnentered vertices k root c.in-Unreached.set)) c.as_slice-ends.ensures
     c.is_unreached.ensures)
