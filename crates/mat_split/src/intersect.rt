@@ -12,18 +12,6 @@ use mat_sets::{ElemSet, PairWeights, Weight};
 use std::alloc::{AllocError, Global};
 use std::thread::Threads;
 
-/// The fewest elements whose rows are shared among workers: those of fewer take less time than a thread takes to start.
-const FEWEST_SHARED: u32 = 100;
-
-/// How many workers are worth their threads for the rows of n elements: one where n is small, and otherwise all. It changes the
-/// time alone.
-fn worthwhile_workers(n: u32, workers: u32) -> u32
-    requires { (1 ≤ workers) × (workers ≤ 16) }
-    ensures { (1 ≤ result) × (result ≤ 16) }
-{
-    if n < FEWEST_SHARED { 1 } else { workers }
-}
-
 /// The empty set, under the whole weights for the first matroid and none for the second.
 fn first_rung(alloc: Global, weights: &[Weight]) -> Result<Rung, AllocError>
     ensures set { IfOk result (λ r. r.set ≡ []) }
@@ -42,8 +30,8 @@ fn first_rung(alloc: Global, weights: &[Weight]) -> Result<Rung, AllocError>
 /// A heaviest common independent set of two matroids for each size from 0 to the largest, each with a split of the weights that
 /// proves it, and a set that proves that there is no larger one, by weight splitting (Frank 1981; Schrijver, chapter 41). Both
 /// matroids have the same elements, at most 500; both numbers of each weight are at least -10^12 and at most 10^12; there are 1 to 16
-/// workers, who share the rows of a matroid where there are enough of them to be worth a thread. For n elements the rows of each
-/// matroid are made at most n + 1 times, and as many reached sets grow. The only error is want of memory.
+/// workers, who share the rows of each matroid: more than one pay where a row takes longer than a thread takes to start. For n elements
+/// the rows of each matroid are made at most n + 1 times, and as many reached sets grow. The only error is want of memory.
 pub fn intersect_all<R: Threads + Sync, A: Matroid, B: Matroid>(
     rt: &R,
     alloc: Global,
@@ -63,7 +51,6 @@ pub fn intersect_all<R: Threads + Sync, A: Matroid, B: Matroid>(
 {
     a.lawful();
     b.lawful();
-    let workers = worthwhile_workers(a.size(), workers);
     let mut rungs = Vec::new(alloc);
     let mut rung = first_rung(alloc, weights)?;
     loop {
