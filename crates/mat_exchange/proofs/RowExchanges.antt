@@ -11,6 +11,7 @@ use Rattle.mat_sets.proofs.Ground.{AllBelow-from_members, below_member, get_or-a
 use Rattle.mat_laws.specs.declared.exchange.Exchange.{Exchange}
 use Rattle.mat_laws.specs.Exchanges.{row_of, rows_of}
 use Rattle.mat_laws.specs.Matroids.{IsMatroid}
+use Rattle.mat_laws.proofs.Rows.{row_of-adds, row_of-trades}
 use Rattle.mat_laws.specs.TightPaths.{Exchanges, exchanges_at, exchanges_in, row_in}
 use Rattle.mat_exchange.specs.RowTables.{AreWhole}
 use Rattle.mat_exchange.specs.Tables.{IsTableAt}
