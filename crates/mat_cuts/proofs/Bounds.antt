@@ -51,7 +51,7 @@ module _ (ends : ℕ → ℕ × ℕ) where
       none [] = omega (arith, ints)
       none (x ∷ xs) = omega (arith, ints, none xs)
   all_weight-le vertices count root tree (c ∷ cuts) s each =
-      let w = arborescence_enters vertices count root tree c.set s each.0.root_free in
+      let w = arborescence_enters ends vertices count root tree c.set s each.0.root_free in
       let split = sum_of-plus (weight_on ends (c ∷ cuts)) (λ a. weight_where (enters ends c.set a) c.weight) (weight_on ends cuts) tree (λ k m. refl) in
       omega (arith, ints, split, where-sum c.set c.weight tree w.0 each.0.positive w.1 w.2, all_weight-le vertices count root tree cuts s each.1)
 
