@@ -1,7 +1,9 @@
 #!/usr/bin/env python3
 """Prints a large description: `cases.py list`, `cases.py junk`, or `cases.py NAME N` for a pair of N elements, where NAME is one of
 `partitions`, `graphic`, `gf2`, `laminar`, `transversal`, `gammoid`, `dual` and `nested` (against a partition), `graphs` (a graph against
-another), `free`, `routes` and `matching` (against `uniform N`). `cases.py certificate N` prints a right certificate of `cases.py free N`,
+another), `free`, `routes` and `matching` (against `uniform N`), and `joined` (the union of two graphs against a partition); or for the other
+commands on N elements, where NAME is one of `union` (two graphs), `unions` (eight graphs), `uniforms` (64 matroids of at most 5 elements), `one` (a
+graph alone), `graph`, `rooted`, `coloured` and `table`. `cases.py certificate N` prints a right certificate of `cases.py free N`,
 with weights of 62 bytes in each split."""
 import random
 import sys
@@ -145,8 +147,57 @@ def nested(numbers, n):
     graphic(numbers, n)
 
 
+def joined(numbers, n):
+    """The union of two graphs of N edges on N / 2 vertices."""
+    print('union 2')
+    graphic(numbers, n)
+    graphic(numbers, n)
+
+
+def matroids(kind, count, n):
+    """As many matroids of N elements."""
+    numbers = random.Random(n)
+    print('matroids 1')
+    print('list', n, count)
+    print('weights', *weights_of_all_sizes(numbers, n))
+    for _ in range(count):
+        kind(numbers, n)
+    print('end')
+
+
+def few(numbers, n):
+    """At most 5 elements."""
+    print('uniform 5')
+
+
+def dense(numbers, n):
+    """A graph of N edges on N / 8 + 2 vertices, without loops."""
+    vertices = n // 8 + 2
+    print('graphic', vertices)
+    for _ in range(n):
+        print('edge', *numbers.sample(range(vertices), 2))
+
+
+def form(name, n):
+    """A graph, a directed graph with costs, a coloured graph or a table of N edges, arcs or cells."""
+    numbers = random.Random(n)
+    weights = weights_of_all_sizes(numbers, n)
+    vertices = n // 8 + 2 if name in ('graph', 'rooted') else n // 4 + 2
+    head = {'graph': f'graph {vertices} {n}', 'rooted': f'rooted {vertices} {n} 0', 'coloured': f'coloured {vertices} {n} {n // 4}',
+            'table': f'table {vertices} {vertices} {n}'}
+    print('matroids 1')
+    print(head[name])
+    for e in range(n):
+        ends = f'{numbers.randrange(vertices)} {numbers.randrange(vertices)}'
+        print({'graph': f'edge {ends}', 'rooted': f'arc {ends} {weights[e]}', 'coloured': f'edge {ends} {numbers.randrange(n // 4)} {weights[e]}',
+               'table': f'cell {ends} {weights[e]}'}[name])
+    print('end')
+
+
+LISTS = {'union': (graphic, 2), 'unions': (graphic, 8), 'uniforms': (few, 64), 'one': (dense, 1)}
+FORMS = ('graph', 'rooted', 'coloured', 'table')
 AGAINST_A_PARTITION = {'partitions': partition, 'graphic': graphic, 'gf2': gf2, 'laminar': laminar, 'transversal': transversal,
-                       'gammoid': gammoid, 'dual': dual, 'nested': nested}
+                       'gammoid': gammoid, 'dual': dual, 'nested': nested, 'joined': joined}
 AGAINST_NOTHING = {'free': uniform, 'routes': many_routes, 'matching': transversal}
 WHOLE = {'list': many_classes, 'junk': junk}
 name = sys.argv[1]
@@ -156,6 +207,10 @@ elif name == 'certificate':
     certificate(int(sys.argv[2]))
 elif name == 'graphs':
     pair(graphic, graphic, int(sys.argv[2]))
+elif name in LISTS:
+    matroids(*LISTS[name], int(sys.argv[2]))
+elif name in FORMS:
+    form(name, int(sys.argv[2]))
 elif name in AGAINST_A_PARTITION:
     pair(AGAINST_A_PARTITION[name], partition, int(sys.argv[2]))
 else:

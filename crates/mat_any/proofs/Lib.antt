@@ -1,0 +1,2 @@
+mod GrownRuns
+pub mod JoinedMatroids

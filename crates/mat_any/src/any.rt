@@ -5,10 +5,10 @@ ghost use Rattle.mat_any.specs.TreeLaws.{tree_laws};
 ghost use Rattle.mat_any.specs.Views.{tree_of};
 
 use crate::any_kept::AnyKept;
-use crate::independence::{independent, size_of};
-use crate::keeping::keep;
+use crate::independence::independent;
 use crate::rows::row;
-use crate::runs::run;
+use crate::runs::{keep, run};
+use crate::sizes::size_of;
 use mat_count::{Laminar, Partition, Uniform};
 use mat_gf2::Gf2;
 use mat_graphic::Graphic;
@@ -43,6 +43,10 @@ pub enum AnyMatroid {
     Contract {
         away: ElemSet,
         inner: Box<AnyMatroid>,
+    },
+    /// The union of matroids on the same elements.
+    Union {
+        parts: Vec<AnyMatroid>,
     },
 }
 

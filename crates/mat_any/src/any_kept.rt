@@ -5,7 +5,7 @@ use mat_gf2::TaggedBasis;
 use mat_graphic::RootedForest;
 use mat_linked::{KeptLinking, KeptMatching};
 use mat_minors::DualKept;
-use mat_sets::ElemSet;
+use mat_sets::{ElemSet, SetList};
 
 /// What a matroid of any kind keeps of an independent set. A truncation or a restriction keeps what the matroid within it
 /// keeps, and so has no case.
@@ -33,5 +33,10 @@ pub enum AnyKept {
         chosen: ElemSet,
         joined: ElemSet,
         inner: Box<AnyKept>,
+    },
+    /// Parts of the set, one for each matroid of a union and independent in it, and what each keeps of its part.
+    Union {
+        parts: SetList,
+        kept: Vec<AnyKept>,
     },
 }

@@ -3,37 +3,19 @@ ghost use Rattle.std.specs.Prelude.{◌≡◌, IfOk};
 ghost use Rattle.mat_sets.specs.Sets.{AllBelow, IsSet};
 ghost use Rattle.mat_laws.specs.Matroids.{IsMaximal};
 ghost use Rattle.mat_minors.specs.Minors.{is_dual, is_contracted};
+ghost use Rattle.mat_union.specs.UnionsOf.{AreJoined};
+ghost use Rattle.mat_any.specs.Joined.{elements_in, size_in, union_in, IsSoundOne};
 ghost use Rattle.mat_any.specs.Trees.{element_count, is_independent, IsSound};
 ghost use Rattle.mat_any.specs.Views.{tree_of};
 
 use crate::any::AnyMatroid;
-use crate::runs::{dual_run, run};
+use crate::runs::{dual_run, run, union_run};
 use mat_laws::Matroid;
 use mat_sets::ElemSet;
 use std::alloc::{AllocError, Global};
 
-/// The number of elements of a matroid.
-pub(crate) fn size_of(matroid: &AnyMatroid) -> u32
-    requires { IsSound (tree_of matroid.now) }
-    ensures { result ≡ element_count (tree_of matroid.now) }
-{
-    match matroid {
-        AnyMatroid::Uniform(uniform) => uniform.size(),
-        AnyMatroid::Partition(partition) => partition.size(),
-        AnyMatroid::Laminar(laminar) => laminar.size(),
-        AnyMatroid::Graphic(graphic) => graphic.size(),
-        AnyMatroid::Transversal(transversal) => transversal.size(),
-        AnyMatroid::Gammoid(gammoid) => gammoid.size(),
-        AnyMatroid::Gf2(gf2) => gf2.size(),
-        AnyMatroid::Dual(inner) => size_of(inner),
-        AnyMatroid::Truncate { inner, .. } => size_of(inner),
-        AnyMatroid::Restrict { inner, .. } => size_of(inner),
-        AnyMatroid::Contract { inner, .. } => size_of(inner),
-    }
-}
-
 /// Whether a set of elements below the size is independent. A truncation or a restriction asks the matroid within it at
-/// most once; a dual runs it once, and a contraction runs it once and asks it once. The only error is want of memory.
+/// most once; a dual runs it once, a contraction runs it once and asks it once, and a union makes one run. The only error is want of memory.
 #[cycle(asking)]
 pub(crate) fn independent(
     alloc: Global,
@@ -66,6 +48,7 @@ pub(crate) fn independent(
             independent(alloc, inner, set)
         }
         AnyMatroid::Contract { away, inner } => contraction_independent(alloc, inner, away, set),
+        AnyMatroid::Union { parts } => union_independent(alloc, parts, set),
     }
 }
 
@@ -77,6 +60,21 @@ fn dual_independent(alloc: Global, inner: &AnyMatroid, set: &ElemSet) -> Result<
 {
     set.rises();
     let taken = dual_run(alloc, inner, set.as_slice())?;
+    Ok(taken.len() == set.len())
+}
+
+// Whether the set is independent in the union of matroids: the run of the union through its members takes each of them.
+fn union_independent(
+    alloc: Global,
+    matroids: &[AnyMatroid],
+    set: &ElemSet,
+) -> Result<bool, AllocError>
+    requires joined { AreJoined elements_in IsSoundOne matroids.now }
+    requires below { AllBelow (size_in matroids.now) set.now }
+    ensures { IfOk result (λ b. b ≡ union_in matroids.now set.now) }
+{
+    set.rises();
+    let taken = union_run(alloc, matroids, set.as_slice())?;
     Ok(taken.len() == set.len())
 }
 

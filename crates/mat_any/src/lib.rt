@@ -4,9 +4,9 @@
 mod any;
 mod any_kept;
 mod independence;
-mod keeping;
 mod rows;
 mod runs;
+mod sizes;
 
 pub use any::AnyMatroid;
 pub use any_kept::AnyKept;

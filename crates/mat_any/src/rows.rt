@@ -1,24 +1,31 @@
 //! The exchanges of an element in a matroid of any kind, by what is kept of the set and by recursion on the matroids within it.
-ghost use Rattle.std.specs.Prelude.{◌≡◌, ◌<◌, true, false, IfOk};
+ghost use Rattle.std.specs.Prelude.{◌≡◌, ◌<◌, true, false, [], map, IfOk};
+ghost use Rattle.mat_sets.specs.Families.{family_union};
 ghost use Rattle.mat_sets.specs.Sets.{IsRising, IsSet, is_member, union};
 ghost use Rattle.mat_laws.specs.Exchanges.{row_of};
 ghost use Rattle.mat_laws.specs.Matroids.{IsMaximal};
 ghost use Rattle.mat_minors.specs.DualRows.{IsDualKept};
 ghost use Rattle.mat_minors.specs.Minors.{is_contracted, is_dual, is_restricted, is_truncated};
+ghost use Rattle.mat_union.specs.EndedSearches.{IsEnded, IsReady};
+ghost use Rattle.mat_union.specs.GrownParts.{AreKept};
+ghost use Rattle.mat_union.specs.Unions.{AreParts};
+ghost use Rattle.mat_union.specs.UnionsOf.{AreJoined};
 ghost use Rattle.mat_any.specs.AnyKeeps.{KeepsAny};
+ghost use Rattle.mat_any.specs.Joined.{elements_in, size_in, test_in, union_in, IsSoundOne, KeepsOne};
 ghost use Rattle.mat_any.specs.Trees.{element_count, is_independent, IsSound};
 ghost use Rattle.mat_any.specs.Views.{tree_of};
 
 use crate::any::AnyMatroid;
 use crate::any_kept::AnyKept;
+use crate::sizes::common_size_of;
 use mat_laws::{Exchange, Matroid};
 use mat_minors::{DualKept, dual_row};
-use mat_sets::ElemSet;
+use mat_sets::{BitSet, ElemSet, SetList};
+use mat_union::{MoveSearch, row_by_search};
 use std::alloc::{AllocError, Global};
 
-/// The exchanges of an element x outside an independent set of which something is kept. A truncation, a restriction or a
-/// contraction asks the matroid within it at most once, and a dual none. Where what is kept is of another kind, questions of
-/// independence are asked. The only error is want of memory.
+/// The exchanges of an element x outside an independent set, by what is kept of it. A truncation, a restriction or a contraction asks
+/// the matroid within it at most once, and a dual none; a union makes one search for moves. The only error is want of memory.
 #[cycle(rows)]
 pub(crate) fn row(
     alloc: Global,
@@ -72,7 +79,21 @@ pub(crate) fn row(
                 inner: within,
             },
         ) => contraction_row(alloc, inner, away, base, chosen, joined, within, x),
-        _ => matroid.circuit_by_questions(alloc, base, x),
+        (AnyMatroid::Union { parts: matroids }, AnyKept::Union { parts, kept }) => {
+            union_row(alloc, matroids, base, parts, kept, x)
+        }
+        // What is kept is of the matroid's kind.
+        _ => Ok(no_exchange(alloc)),
+    }
+}
+
+// No exchanges.
+fn no_exchange(alloc: Global) -> Exchange
+    ensures { result ≡ record { addable = false; with = [] } }
+{
+    Exchange {
+        addable: false,
+        with: ElemSet::new(alloc),
     }
 }
 
@@ -141,10 +162,7 @@ fn restriction_row(
     ensures rises { IfOk result (λ e. IsRising e.with) }
 {
     if !elements.contains(x) {
-        return Ok(Exchange {
-            addable: false,
-            with: ElemSet::new(alloc),
-        });
+        return Ok(no_exchange(alloc));
     }
     row(alloc, inner, base, kept, x)
 }
@@ -175,14 +193,83 @@ fn contraction_row(
     ensures rises { IfOk result (λ e. IsRising e.with) }
 {
     if away.contains(x) {
-        return Ok(Exchange {
-            addable: false,
-            with: ElemSet::new(alloc),
-        });
+        return Ok(no_exchange(alloc));
     }
     let exchange = row(alloc, inner, joined, kept, x)?;
     Ok(Exchange {
         addable: exchange.addable,
         with: exchange.with.minus(alloc, chosen)?,
     })
+}
+
+// The exchanges in a union, by one search for moves from parts of the set.
+#[cycle(rows)]
+fn union_row(
+    alloc: Global,
+    matroids: &[AnyMatroid],
+    base: &ElemSet,
+    parts: &SetList,
+    kept: &[AnyKept],
+    x: u32,
+) -> Result<Exchange, AllocError>
+    requires joined { AreJoined elements_in IsSoundOne matroids.now }
+    requires parts { AreParts (map test_in matroids.now) parts.now }
+    requires together { family_union parts.now ≡ base.now }
+    requires kept { AreKept KeepsOne matroids.now parts.now kept.now }
+    requires below { x < size_in matroids.now }
+    requires outside { is_member x base.now ≡ false }
+    ensures row { IfOk result (λ e. e ≡ row_of (union_in matroids.now) base.now x) }
+    ensures rises { IfOk result (λ e. IsRising e.with) }
+{
+    let search = search_from(alloc, matroids, parts, kept, x)?;
+    row_by_search(alloc, base, parts, &search)
+}
+
+/// A search for moves from x among all elements, to its end, by what is kept of the parts. The only error is want of memory.
+#[cycle(rows)]
+pub(crate) fn search_from(
+    alloc: Global,
+    matroids: &[AnyMatroid],
+    parts: &SetList,
+    kept: &[AnyKept],
+    x: u32,
+) -> Result<MoveSearch, AllocError>
+    requires joined { AreJoined elements_in IsSoundOne matroids.now }
+    requires parts { AreParts (map test_in matroids.now) parts.now }
+    requires kept { AreKept KeepsOne matroids.now parts.now kept.now }
+    requires below { x < size_in matroids.now }
+    requires fresh { is_member x (family_union parts.now) ≡ false }
+    ensures ready { IfOk result (λ s. IsReady s) }
+    ensures ended { IfOk result (λ s. IsEnded (size_in matroids.now) (map test_in matroids.now) parts.now x s) }
+{
+    let n = common_size_of(matroids);
+    let all = BitSet::all_below(alloc, n)?;
+    let mut search = MoveSearch::new(alloc, n, matroids.len() as u32, x, &all)?;
+    while let Some(asked) = search.question() {
+        let i = asked.part as usize;
+        let row = row_at(alloc, &matroids[i], parts.get(i), &kept[i], asked.element)?;
+        search.tell(alloc, &row)?;
+    }
+    Ok(search)
+}
+
+// The exchanges of x at a part, by what is kept of it: a member has none.
+#[cycle(rows)]
+fn row_at(
+    alloc: Global,
+    matroid: &AnyMatroid,
+    part: &ElemSet,
+    kept: &AnyKept,
+    x: u32,
+) -> Result<Exchange, AllocError>
+    requires sound { IsSound (tree_of matroid.now) }
+    requires base { is_independent (tree_of matroid.now) part.now ≡ true }
+    requires kept { KeepsAny (tree_of matroid.now) part.now kept.now }
+    requires below { x < element_count (tree_of matroid.now) }
+    ensures { IfOk result (λ e. e ≡ row_of (is_independent (tree_of matroid.now)) part.now x) }
+{
+    if part.contains(x) {
+        return Ok(no_exchange(alloc));
+    }
+    row(alloc, matroid, part, kept, x)
 }

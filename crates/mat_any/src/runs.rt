@@ -1,20 +1,33 @@
-//! Greedy runs of a matroid of any kind, by recursion on the matroids within it.
-ghost use Rattle.std.specs.Prelude.{◌≡◌, [], IfOk};
-ghost use Rattle.mat_sets.specs.Sets.{AllBelow, AreDistinct, IsSet};
+//! Greedy runs of a matroid of any kind, and what it keeps of an independent set, by recursion on the matroids within it: a union grows
+//! parts by what its matroids keep of them, and a dual or a contraction keeps something of a run.
+ghost use Rattle.std.specs.Prelude.{◌≡◌, ℕ, true, List, [], map, IfOk};
+ghost use Rattle.mat_sets.specs.Families.{family_union};
+ghost use Rattle.mat_sets.specs.Sets.{AllBelow, AreDistinct, IsSet, union};
 ghost use Rattle.mat_laws.specs.GreedyRuns.{grown_along};
+ghost use Rattle.mat_laws.specs.Matroids.{IsMaximal};
+ghost use Rattle.mat_minors.specs.DualRows.{IsDualKept};
 ghost use Rattle.mat_minors.specs.Minors.{is_contracted, is_dual, is_restricted, is_truncated};
-ghost use Rattle.mat_any.specs.Trees.{element_count, is_independent, IsSound};
+ghost use Rattle.mat_union.specs.GrownParts.{AreKept};
+ghost use Rattle.mat_union.specs.Unions.{AreParts};
+ghost use Rattle.mat_union.specs.UnionsOf.{AreJoined};
+ghost use Rattle.mat_any.specs.AnyKeeps.{KeepsAny};
+ghost use Rattle.mat_any.specs.Joined.{elements_in, size_in, test_in, union_in, IsSoundOne, KeepsOne, KeepsUnion};
+ghost use Rattle.mat_any.specs.declared.any.AnyMatroid.{AnyMatroid};
+ghost use Rattle.mat_any.specs.Trees.{Tree, contract, element_count, is_independent, IsSound};
 ghost use Rattle.mat_any.specs.Views.{tree_of};
 
 use crate::any::AnyMatroid;
-use crate::independence::size_of;
+use crate::any_kept::AnyKept;
+use crate::rows::search_from;
+use crate::sizes::size_of;
 use mat_laws::Matroid;
-use mat_minors::{first_taken, items_in, members_first, others_first};
-use mat_sets::ElemSet;
+use mat_minors::{DualKept, first_taken, items_in, members_first, others_first};
+use mat_sets::{ElemSet, SetList};
+use mat_union::{empty_parts, parts_found};
 use std::alloc::{AllocError, Global};
 
 /// The greedy run along an order in which no element stands twice. A dual, a truncation, a restriction or a contraction is one
-/// run of the matroid within it. The only error is want of memory.
+/// run of the matroid within it; a union searches for moves once for each element. The only error is want of memory.
 #[cycle(running)]
 pub(crate) fn run(alloc: Global, matroid: &AnyMatroid, order: &[u32]) -> Result<ElemSet, AllocError>
     requires sound { IsSound (tree_of matroid.now) }
@@ -34,6 +47,7 @@ pub(crate) fn run(alloc: Global, matroid: &AnyMatroid, order: &[u32]) -> Result<
         AnyMatroid::Truncate { cap, inner } => truncation_run(alloc, inner, *cap, order),
         AnyMatroid::Restrict { kept, inner } => restriction_run(alloc, inner, kept, order),
         AnyMatroid::Contract { away, inner } => contraction_run(alloc, inner, away, order),
+        AnyMatroid::Union { parts } => union_run(alloc, parts, order),
     }
 }
 
@@ -108,4 +122,181 @@ fn contraction_run(
     let items = members_first(alloc, away, order)?;
     let all = run(alloc, inner, &items)?;
     all.minus(alloc, away)
+}
+
+/// What a run of the union of matroids takes. The only error is want of memory.
+#[cycle(running)]
+pub(crate) fn union_run(
+    alloc: Global,
+    matroids: &[AnyMatroid],
+    order: &[u32],
+) -> Result<ElemSet, AllocError>
+    requires joined { AreJoined elements_in IsSoundOne matroids.now }
+    requires below { AllBelow (size_in matroids.now) order.now }
+    requires distinct { AreDistinct order.now }
+    ensures { IfOk result (λ s. s ≡ grown_along (union_in matroids.now) [] order.now) }
+{
+    let grown = grown_parts(alloc, matroids, order)?;
+    Ok(grown.taken)
+}
+
+// Parts of a set, and the set.
+#[derive(Drop)]
+pub(crate) struct GrownParts {
+    pub(crate) parts: SetList,
+    pub(crate) taken: ElemSet,
+}
+
+// What a run of the union takes, in parts: each element by a search for moves, and then the matroids keep something of the new parts.
+#[cycle(running)]
+fn grown_parts(
+    alloc: Global,
+    matroids: &[AnyMatroid],
+    order: &[u32],
+) -> Result<GrownParts, AllocError>
+    requires joined { AreJoined elements_in IsSoundOne matroids.now }
+    requires below { AllBelow (size_in matroids.now) order.now }
+    requires distinct { AreDistinct order.now }
+    ensures are { IfOk result (λ g. AreParts (map test_in matroids.now) g.parts) }
+    ensures together { IfOk result (λ g. family_union g.parts ≡ g.taken) }
+    ensures taken { IfOk result (λ g. g.taken ≡ grown_along (union_in matroids.now) [] order.now) }
+{
+    let mut taken = ElemSet::new(alloc);
+    let mut parts = empty_parts(alloc, matroids.len())?;
+    let mut kept = keep_each(alloc, matroids, &parts)?;
+    for x in order {
+        let search = search_from(alloc, matroids, &parts, &kept, *x)?;
+        match parts_found(alloc, &parts, &search)? {
+            Some(more) => {
+                taken.add(*x)?;
+                parts = more;
+                kept = keep_each(alloc, matroids, &parts)?;
+            }
+            None => {}
+        }
+    }
+    Ok(GrownParts { parts, taken })
+}
+
+// What each matroid keeps of its part.
+#[cycle(running)]
+fn keep_each(
+    alloc: Global,
+    matroids: &[AnyMatroid],
+    parts: &SetList,
+) -> Result<Vec<AnyKept>, AllocError>
+    requires joined { AreJoined elements_in IsSoundOne matroids.now }
+    requires parts { AreParts (map test_in matroids.now) parts.now }
+    ensures { IfOk result (λ kept. AreKept KeepsOne matroids.now parts.now kept.items) }
+{
+    let mut kept = Vec::new(alloc);
+    for i in 0..matroids.len() {
+        kept.push(keep(alloc, &matroids[i], parts.get(i))?)?;
+    }
+    Ok(kept)
+}
+
+/// What is kept of an independent set. A truncation or a restriction keeps what the matroid within it keeps; a dual makes one run
+/// of it, and asks it for the exchanges of each element outside; a contraction makes one run; a union grows parts of the set. The only
+/// error is want of memory.
+#[cycle(running)]
+pub(crate) fn keep(
+    alloc: Global,
+    matroid: &AnyMatroid,
+    base: &ElemSet,
+) -> Result<AnyKept, AllocError>
+    requires sound { IsSound (tree_of matroid.now) }
+    requires base { is_independent (tree_of matroid.now) base.now ≡ true }
+    ensures { IfOk result (λ kept. KeepsAny (tree_of matroid.now) base.now kept) }
+{
+    match matroid {
+        AnyMatroid::Uniform(_) => Ok(AnyKept::Nothing),
+        AnyMatroid::Partition(partition) => Ok(AnyKept::Partition(partition.keep(alloc, base)?)),
+        AnyMatroid::Laminar(laminar) => Ok(AnyKept::Laminar(laminar.keep(alloc, base)?)),
+        AnyMatroid::Graphic(graphic) => Ok(AnyKept::Graphic(graphic.keep(alloc, base)?)),
+        AnyMatroid::Transversal(transversal) => {
+            Ok(AnyKept::Transversal(transversal.keep(alloc, base)?))
+        }
+        AnyMatroid::Gammoid(gammoid) => Ok(AnyKept::Gammoid(gammoid.keep(alloc, base)?)),
+        AnyMatroid::Gf2(gf2) => Ok(AnyKept::Gf2(gf2.keep(alloc, base)?)),
+        AnyMatroid::Dual(inner) => Ok(AnyKept::Dual(dual_keep(alloc, inner, base)?)),
+        AnyMatroid::Truncate { inner, .. } => keep(alloc, inner, base),
+        AnyMatroid::Restrict { inner, .. } => keep(alloc, inner, base),
+        AnyMatroid::Contract { away, inner } => contraction_keep(alloc, inner, away, base),
+        AnyMatroid::Union { parts } => union_keep(alloc, parts, base),
+    }
+}
+
+// A base that is disjoint from the set, by one run, and the exchanges at it, column by column.
+#[cycle(running)]
+fn dual_keep(alloc: Global, inner: &AnyMatroid, set: &ElemSet) -> Result<DualKept, AllocError>
+    requires sound { IsSound (tree_of inner.now) }
+    requires base { is_dual (element_count (tree_of inner.now)) (is_independent (tree_of inner.now)) set.now ≡ true }
+    ensures { IfOk result (λ k. IsDualKept (element_count (tree_of inner.now)) (is_independent (tree_of inner.now)) set.now k.base k.columns.items) }
+{
+    inner.lawful();
+    let outside = ElemSet::all_below(alloc, size_of(inner))?.minus(alloc, set)?;
+    let base = run(alloc, inner, outside.as_slice())?;
+    let kept = keep(alloc, inner, &base)?;
+    let columns = inner.columns(alloc, &base, &kept)?;
+    Ok(DualKept { base, columns })
+}
+
+// A maximal independent subset of the contracted elements, the set together with it, and what is kept of their union.
+#[cycle(running)]
+fn contraction_keep(
+    alloc: Global,
+    inner: &AnyMatroid,
+    away: &ElemSet,
+    set: &ElemSet,
+) -> Result<AnyKept, AllocError>
+    requires sound { IsSound (tree_of inner.now) }
+    requires away { IsSet (element_count (tree_of inner.now)) away.now }
+    requires base { is_contracted (element_count (tree_of inner.now)) away.now (is_independent (tree_of inner.now)) set.now ≡ true }
+    ensures { IfOk result (λ k. KeepsAny (contract away.now (tree_of inner.now)) set.now k) }
+{
+    inner.lawful();
+    away.rises();
+    let chosen = run(alloc, inner, away.as_slice())?;
+    let joined = set.union(alloc, &chosen)?;
+    let kept = keep(alloc, inner, &joined)?;
+    joined_kept(alloc, chosen, joined, kept)
+}
+
+// Parts of the set, and what each matroid keeps of its part.
+#[cycle(running)]
+fn union_keep(alloc: Global, matroids: &[AnyMatroid], set: &ElemSet) -> Result<AnyKept, AllocError>
+    requires joined { AreJoined elements_in IsSoundOne matroids.now }
+    requires base { union_in matroids.now set.now ≡ true }
+    ensures { IfOk result (λ k. KeepsUnion matroids.now set.now k) }
+{
+    set.rises();
+    let grown = grown_parts(alloc, matroids, set.as_slice())?;
+    let kept = keep_each(alloc, matroids, &grown.parts)?;
+    Ok(parts_kept(grown.parts, kept))
+}
+
+// What a union keeps, of its parts.
+fn parts_kept(parts: SetList, kept: Vec<AnyKept>) -> AnyKept
+    ensures { (matroids : List AnyMatroid) (set : List ℕ) → AreParts (map test_in matroids) parts → family_union parts ≡ set
+        → AreKept KeepsOne matroids parts kept.items → KeepsUnion matroids set result }
+{
+    AnyKept::Union { parts, kept }
+}
+
+// What a contraction keeps, of its parts.
+fn joined_kept(
+    alloc: Global,
+    chosen: ElemSet,
+    joined: ElemSet,
+    inner: AnyKept,
+) -> Result<AnyKept, AllocError>
+    ensures { IfOk result (λ k. (t : Tree) (away set : List ℕ) → IsMaximal (is_independent t) away chosen → joined ≡ union set chosen
+        → KeepsAny t joined inner → KeepsAny (contract away t) set k) }
+{
+    Ok(AnyKept::Contract {
+        chosen,
+        joined,
+        inner: Box::new(alloc, inner)?,
+    })
 }

@@ -1,8 +1,9 @@
 -- How long texts are. A numeral of at most k digits has at most k + 1 bytes, a line of at most m words of at most b bytes at most
--- m * (b + 1) + 1 with its byte 10, and a certificate in range at most 2008 lines of at most 501 words of at most 65 bytes.
+-- m * (b + 1) + 1 with its byte 10, and a certificate in range at most 2009 lines of at most 502 words of at most 65 bytes.
 use Rattle.std.proofs.Common.{◌≡◌, ℕ, zero, suc, Bool, true, false, cond, ◌+◌, ◌*◌, ◌^◌, ◌<◌, ◌≤◌}
 use Rattle.std.proofs.Common.{codes, List, [], ◌∷◌, ◌++◌}
-use Rattle.std.proofs.Common.{length, map, arith, refl, Some, slice_get, ℤ, pos, negsuc, neg_ℤ, ◌<ℤ◌}
+use Rattle.std.proofs.Common.{length, map, arith, refl, None, Some, slice_get, ℤ, pos, negsuc, neg_ℤ, ◌<ℤ◌}
+use Rattle.std.specs.Prelude.{Option, nat_lt}
 use Rattle.std.specs.Ordering.{int_eq}
 use Rattle.std.specs.Int.Digits.{digits_of}
 use Rattle.std.specs.List.{All, join_with_byte}
@@ -16,17 +17,18 @@ use Rattle.mat_sets.specs.Sets.{AllBelow, IsSet}
 use Rattle.mat_sets.specs.Sums.{IsWithin}
 use Rattle.mat_sets.specs.declared.weight.Weight.{Weight}
 use Rattle.mat_sets.proofs.Ground.{length-complement}
-use Rattle.mat_words.specs.Lines.{text_of}
-use Rattle.mat_words.specs.Numbers.{numeral}
+use Rattle.mat_words.specs.Lines.{Line, text_of}
+use Rattle.mat_words.specs.Numbers.{numeral, numerals}
 use Rattle.mat_words.specs.Weights.{weight_word}
 use Rattle.mat_words.specs.Writing.{end_line, members_line, weights_line}
+use Rattle.mat_cert.specs.declared.answer.LevelLine.{LevelLine}
 use Rattle.mat_cert.specs.declared.answer.PlainRung.{PlainRung}
 use Rattle.mat_cert.specs.declared.answer.PricedRung.{PricedRung}
 use Rattle.mat_cert.specs.Limits.{certificate_limit}
-use Rattle.mat_cert.specs.Certificates.{AreRangedRungs, Certificate, IsCertificateWeight, IsPrintedWeight, IsRanged, IsRangedPart}
-use Rattle.mat_cert.specs.Certificates.{IsRangedPlainRung, IsRangedPricedRung}
-use Rattle.mat_cert.specs.Certificates.{certificate_text, intersect, best, version_line, ladder_header, last_rung, rung_line, plain_rung_lines}
-use Rattle.mat_cert.specs.Certificates.{priced_rung_lines, rungs_lines}
+use Rattle.mat_cert.specs.Certificates.{AreRangedRungs, Certificate, IsCertificateWeight, IsPrintedWeight, IsRanged, IsRangedLadder, IsRangedLevel}
+use Rattle.mat_cert.specs.Certificates.{IsRangedOption, IsRangedPart, IsRangedPlainRung, IsRangedPricedRung, is_short_of_tree}
+use Rattle.mat_cert.specs.Certificates.{certificate_text, intersect, best, version_line, header_line, last_rung, rung_line, plain_rung_lines}
+use Rattle.mat_cert.specs.Certificates.{priced_rung_lines, rungs_lines, level_line, sets_lines, option_lines}
 use Rattle.mat_cert.specs.Certificates as certificates
 use Rattle.mat_cert.proofs.LineTexts.{opening}
 
@@ -74,9 +76,9 @@ length-text_of m b (words ∷ lines) short =
 abbrev pub IsShort : List ℕ → Type 0
 IsShort w = length w ≤ 65
 
--- at most 501 words of at most 65 bytes
+-- at most 502 words of at most 65 bytes
 abbrev pub IsShortHere : List (List ℕ) → Type 0
-IsShortHere words = IsShortLine 501 65 words
+IsShortHere words = IsShortLine 502 65 words
 
 -- the word of a weight whose numbers have numerals of at most b bytes
 length-weight_word : (b : ℕ) (w : Weight) → length (numeral w.main) ≤ b → length (numeral w.tie) ≤ b
@@ -107,17 +109,18 @@ length-small x small =
     let few = length-numeral 39 (pos x) (omega arith) (omega (arith, ints)) (omega (arith, ints)) in
     omega arith
 
-short_members : (n : ℕ) (set : List ℕ) → n ≤ 500 → AllBelow n set → All IsShort (map (λ x. numeral (pos x)) set)
-short_members n [] few below = All-nil IsShort
-short_members n (x ∷ xs) few below =
-    All-cons IsShort (numeral (pos x)) (map (λ x. numeral (pos x)) xs) (length-small x (omega arith)) (short_members n xs few below.1)
+-- the numerals of numbers below 502
+pub short_numerals : (n : ℕ) (xs : List ℕ) → n ≤ 502 → AllBelow n xs → All IsShort (numerals xs)
+short_numerals n [] few below = All-nil IsShort
+short_numerals n (x ∷ xs) few below =
+    All-cons IsShort (numeral (pos x)) (numerals xs) (length-small x (omega (arith, below.0))) (short_numerals n xs few below.1)
 
 pub short_set_line : (n : ℕ) (keyword set : List ℕ) → n ≤ 500 → IsShort keyword → IsSet n set → IsShortHere (members_line keyword set)
 short_set_line n keyword set few short is_set = record {
   few =
       let size = length-complement n set is_set.rising is_set.below in
       omega (arith, length-map set (λ x. numeral (pos x)));
-  short = All-cons IsShort keyword (map (λ x. numeral (pos x)) set) short (short_members n set few is_set.below);
+  short = All-cons IsShort keyword (numerals set) short (short_numerals n set (omega arith) is_set.below);
 }
 
 short_weights_line : (keyword : List ℕ) (weights : List Weight) → IsShort keyword → length weights ≤ 500 → All IsCertificateWeight weights
@@ -179,9 +182,25 @@ length-rungs_lines lines_of_rung k (rung ∷ rungs) each =
     let rest = length-rungs_lines lines_of_rung (suc k) rungs each in
     omega (arith, length-append (lines_of_rung k rung) (rungs_lines lines_of_rung (suc k) rungs))
 
-pub short_opening : (command : List ℕ) (n k : ℕ) → IsShort command → n ≤ 501 → k ≤ 501 → All IsShortHere (opening command n k)
-short_opening command n k short few small =
-    let header = ladder_header command n k in
+-- the words of a header, behind its command
+pub record IsShortHeader (command : List ℕ) (words : Line) : Type 0 where
+  pub short_command : IsShort command
+  pub few : length words ≤ 5
+  pub short_words : All IsShort words
+
+-- a header of numbers
+pub short_numbers : (command : List ℕ) (numbers : List ℕ) → IsShort command → length numbers ≤ 5 → AllBelow 502 numbers
+    → IsShortHeader command (numerals numbers)
+short_numbers command numbers short few below = record {
+  short_command = short;
+  few = omega (arith, length-map numbers (λ x. numeral (pos x)));
+  short_words = short_numerals 502 numbers (omega arith) below;
+}
+
+pub short_opening : (command : List ℕ) (words : Line) → IsShortHeader command words → All IsShortHere (opening command words)
+short_opening command words short =
+    let header = header_line command words in
+    let few = short.few in
     All-cons IsShortHere version_line (header ∷ [])
     (record {
       few = omega arith;
@@ -191,11 +210,7 @@ short_opening command n k short few small =
     (All-cons IsShortHere header []
     (record {
       few = omega arith;
-      short =
-          All-cons IsShort (codes "answer") (command ∷ numeral (pos n) ∷ numeral (pos k) ∷ []) (omega arith)
-          (All-cons IsShort command (numeral (pos n) ∷ numeral (pos k) ∷ []) short
-          (All-cons IsShort (numeral (pos n)) (numeral (pos k) ∷ []) (length-small n few)
-          (All-cons IsShort (numeral (pos k)) [] (length-small k small) (All-nil IsShort))));
+      short = All-cons IsShort (codes "answer") (command ∷ words) (omega arith) (All-cons IsShort command words short.short_command short.short_words);
     })
     (All-nil IsShortHere))
 
@@ -205,15 +220,87 @@ short_end =
     (record { few = omega arith; short = All-cons IsShort (codes "end") [] (omega arith) (All-nil IsShort) })
     (All-nil IsShortHere)
 
--- a ladder with its last lines, which are at most two, has at most 2^26 bytes
-length-ladder : {R : Type 0} (lines_of_rung : ℕ → R → List (List (List ℕ))) (IsRangedAt : ℕ → R → Type 0) (command : List ℕ)
-    (n : ℕ) (rungs : List R) (last : List (List (List ℕ)))
+-- ---- the lines below a header
+
+-- a set, and the lines behind it
+short_set_and : (n : ℕ) (keyword set : List ℕ) (last : List Line) → n ≤ 500 → IsShort keyword → IsSet n set → All IsShortHere last
+    → All IsShortHere (members_line keyword set ∷ last)
+short_set_and n keyword set last few short is_set behind =
+    All-cons IsShortHere (members_line keyword set) last (short_set_line n keyword set few short is_set) behind
+
+-- a part of a split, and the lines behind it
+short_part_and : (n : ℕ) (keyword : List ℕ) (part : List Weight) (last : List Line) → n ≤ 500 → IsShort keyword → IsRangedPart n part
+    → All IsShortHere last → All IsShortHere (weights_line keyword part ∷ last)
+short_part_and n keyword part last few short range behind =
+    All-cons IsShortHere (weights_line keyword part) last (short_part n keyword part short few range) behind
+
+short_sets : (n : ℕ) (keyword : List ℕ) (sets : List (List ℕ)) → n ≤ 500 → IsShort keyword → All (IsSet n) sets
+    → All IsShortHere (sets_lines keyword sets)
+short_sets n keyword sets few short each =
+    All-map IsShortHere (members_line keyword) sets
+    (All-weaker (IsSet n) (λ set. IsShortHere (members_line keyword set)) (λ set is_set. short_set_line n keyword set few short is_set) sets each)
+
+short_option : (n : ℕ) (keyword : List ℕ) (needed : Bool) (option : Option (List ℕ)) → n ≤ 500 → IsShort keyword
+    → IsRangedOption n needed option → All IsShortHere (option_lines keyword option)
+short_option n keyword needed None few short range = All-nil IsShortHere
+short_option n keyword needed (Some set) few short range = short_set_and n keyword set [] few short range.1 (All-nil IsShortHere)
+
+length-option : (keyword : List ℕ) (option : Option (List ℕ)) → length (option_lines keyword option) ≤ 1
+length-option keyword None = omega arith
+length-option keyword (Some set) = omega arith
+
+short_level : (n : ℕ) (level : LevelLine) → n ≤ 500 → IsRangedLevel n level → IsShortHere (level_line level)
+short_level n level few range = record {
+  few =
+      let size = length-complement n level.cut range.set_in_range.rising range.set_in_range.below in
+      omega (arith, length-map level.cut (λ x. numeral (pos x)));
+  short =
+      All-cons IsShort (codes "level") (weight_word level.at ∷ numerals level.cut) (omega arith)
+      (All-cons IsShort (weight_word level.at) (numerals level.cut) (length-weight level.at range.weight_in_range)
+      (short_numerals n level.cut (omega arith) range.set_in_range.below));
+}
+
+short_levels : (n : ℕ) (levels : List LevelLine) → n ≤ 500 → All (IsRangedLevel n) levels → All IsShortHere (map level_line levels)
+short_levels n levels few each =
+    All-map IsShortHere level_line levels
+    (All-weaker (IsRangedLevel n) (λ level. IsShortHere (level_line level)) (λ level range. short_level n level few range) levels each)
+
+-- ---- ladders
+
+-- the last lines of a ladder on n elements, behind the cut
+pub short_cut : (n : ℕ) (cut : List ℕ) (last : List Line) → n ≤ 500 → IsSet n cut → All IsShortHere last
+    → All IsShortHere (members_line (codes "cut") cut ∷ last)
+short_cut n cut last few is_set behind = short_set_and n (codes "cut") cut last few (omega arith) is_set behind
+
+-- the header of a ladder, with numbers behind that of its last rung
+pub short_ladder_header : {R : Type 0} (IsRangedAt : ℕ → R → Type 0) (command : List ℕ) (n : ℕ) (rungs : List R) (numbers : List ℕ)
+    → IsShort command → AreRangedRungs IsRangedAt n rungs → length numbers ≤ 2 → AllBelow 502 numbers
+    → IsShortHeader command (numerals (n ∷ last_rung rungs ∷ numbers))
+short_ladder_header IsRangedAt command n rungs numbers short range few small =
+    let most = range.no_more in
+    let less = range.few in
+    short_numbers command (n ∷ last_rung rungs ∷ numbers) short (omega arith) (omega arith, (omega arith, small))
+
+-- the lines behind the cut of a ladder of forests, and their number
+pub short_missing : (n : ℕ) (needed : Bool) (missing : Option (List ℕ)) → n ≤ 500 → IsRangedOption n needed missing
+    → All IsShortHere (option_lines (codes "colours") missing ++ end_line ∷ [])
+short_missing n needed missing few range =
+    All-append IsShortHere (option_lines (codes "colours") missing) (end_line ∷ [])
+    (short_option n (codes "colours") needed missing few (omega arith) range) short_end
+
+pub length-missing : (missing : Option (List ℕ)) → length (option_lines (codes "colours") missing ++ end_line ∷ []) ≤ 2
+length-missing missing =
+    omega (arith, length-option (codes "colours") missing, length-append (option_lines (codes "colours") missing) (end_line ∷ []))
+
+-- a ladder with its last lines, which are at most three, has at most 2^26 bytes
+length-ladder : {R : Type 0} (lines_of_rung : ℕ → R → List Line) (IsRangedAt : ℕ → R → Type 0) (command : List ℕ) (words : Line)
+    (n : ℕ) (rungs : List R) (last : List Line)
     → ((i : ℕ) (rung : R) → length (lines_of_rung i rung) ≤ 4)
     → ((k : ℕ) (rung : R) → k ≤ 501 → IsRangedAt k rung → All IsShortHere (lines_of_rung k rung))
-    → IsShort command → AreRangedRungs IsRangedAt n rungs → All IsShortHere last → length last ≤ 2
-    → length (text_of (opening command n (last_rung rungs) ++ (rungs_lines lines_of_rung 0 rungs ++ last))) ≤ 67108864
-length-ladder {R} lines_of_rung IsRangedAt command n rungs last four short_at short range short_last two =
-    let start = opening command n (last_rung rungs) in
+    → IsShortHeader command words → AreRangedRungs IsRangedAt n rungs → All IsShortHere last → length last ≤ 3
+    → length (text_of (opening command words ++ (rungs_lines lines_of_rung 0 rungs ++ last))) ≤ 67108864
+length-ladder {R} lines_of_rung IsRangedAt command words n rungs last four short_at short range short_last three =
+    let start = opening command words in
     let lines = rungs_lines lines_of_rung 0 rungs in
     let few = range.few in
     let most = range.no_more in
@@ -221,36 +308,208 @@ length-ladder {R} lines_of_rung IsRangedAt command n rungs last four short_at sh
     let within : i < length rungs = slice_get_within rungs i rung at in
     let same : 0 + i ≡ i = omega arith in
     rw same (short_at i rung (omega arith) (range.each i rung at))) in
-    let all = All-append IsShortHere start (lines ++ last) (short_opening command n (last_rung rungs) short (omega arith) (omega arith))
+    let all = All-append IsShortHere start (lines ++ last) (short_opening command words short)
     (All-append IsShortHere lines last short_lines short_last) in
-    let whole = length-text_of 501 65 (start ++ (lines ++ last)) all in
-    let count : length (start ++ (lines ++ last)) ≤ 2008 =
+    let whole = length-text_of 502 65 (start ++ (lines ++ last)) all in
+    let count : length (start ++ (lines ++ last)) ≤ 2009 =
     omega (arith, length-append start (lines ++ last), length-append lines last, length-rungs_lines lines_of_rung 0 rungs four) in
     omega arith
+
+-- a ladder of rungs with splits
+length-priced : (command : List ℕ) (numbers : List ℕ) (n : ℕ) (rungs : List PricedRung) (cut : List ℕ) (last : List Line) → IsShort command
+    → length numbers ≤ 2 → AllBelow 502 numbers → IsRangedLadder n rungs cut → All IsShortHere last → length last ≤ 2
+    → length (text_of (opening command (numerals (n ∷ last_rung rungs ∷ numbers))
+    ++ (rungs_lines priced_rung_lines 0 rungs ++ members_line (codes "cut") cut ∷ last))) ≤ 67108864
+length-priced command numbers n rungs cut last short some small range short_last two =
+    let few = range.0.few in
+    length-ladder priced_rung_lines (IsRangedPricedRung n) command (numerals (n ∷ last_rung rungs ∷ numbers)) n rungs
+    (members_line (codes "cut") cut ∷ last) (λ i rung. omega arith) (λ k rung small ranged. short_priced_rung n k rung few small ranged)
+    (short_ladder_header (IsRangedPricedRung n) command n rungs numbers short range.0 some small) range.0
+    (short_cut n cut last few range.1 short_last) (omega arith)
+
+-- ---- the other certificates
+
+-- short lines of which there are few
+length-few : (command : List ℕ) (words : Line) (lines : List Line) → IsShortHeader command words → All IsShortHere lines → length lines ≤ 598
+    → length (text_of (opening command words ++ lines)) < 24000000
+length-few command words lines short all few =
+    let whole = length-text_of 502 65 (opening command words ++ lines)
+    (All-append IsShortHere (opening command words) lines (short_opening command words short) all) in
+    let most = mul-le-mul {n₁ = length (opening command words ++ lines)} {m₁ = 33133} {n₂ = 600} {m₂ = 33133} (omega arith) (omega arith) in
+    omega arith
+
+-- a header of numbers, sets, and at most two lines
+length-sets : (command : List ℕ) (words : Line) (n : ℕ) (keyword : List ℕ) (sets : List (List ℕ)) (last : List Line)
+    → IsShortHeader command words → n ≤ 500 → IsShort keyword → All (IsSet n) sets → length sets ≤ 500 → All IsShortHere last
+    → length last ≤ 2
+    → length (text_of (opening command words ++ (sets_lines keyword sets ++ last))) < 24000000
+length-sets command words n keyword sets last header few short each small behind two =
+    length-few command words (sets_lines keyword sets ++ last) header
+    (All-append IsShortHere (sets_lines keyword sets) last (short_sets n keyword sets few short each) behind)
+    (omega (arith, length-append (sets_lines keyword sets) last, length-map sets (members_line keyword)))
+
+-- a header of numbers, and of words behind them
+short_header_and : (command : List ℕ) (numbers : List ℕ) (back : Line) → IsShort command → AllBelow 502 numbers → All IsShort back
+    → length numbers + length back ≤ 5 → IsShortHeader command (numerals numbers ++ back)
+short_header_and command numbers back short small behind few = record {
+  short_command = short;
+  few = omega (arith, length-append (numerals numbers) back, length-map numbers (λ x. numeral (pos x)));
+  short_words = All-append IsShort (numerals numbers) back (short_numerals 502 numbers (omega arith) small) behind;
+}
+
+one_short : (word : List ℕ) → IsShort word → All IsShort (word ∷ [])
+one_short word short = All-cons IsShort word [] short (All-nil IsShort)
+
+-- a word and then numbers
+word_and : (word : List ℕ) (numbers : List ℕ) → IsShort word → AllBelow 502 numbers → All IsShort (word ∷ numerals numbers)
+word_and word numbers short small = All-cons IsShort word (numerals numbers) short (short_numerals 502 numbers (omega arith) small)
+
+-- no ladder
+abbrev IsPlain : Certificate → Type 0
+IsPlain (intersect n rungs cut) = ⊥
+IsPlain (best n rungs) = ⊥
+IsPlain (certificates.rainbow n v c rungs cut missing) = ⊥
+IsPlain (certificates.assign n r c rungs cut) = ⊥
+IsPlain certificate = Unit {0}
+
+-- a certificate in range that is no ladder is shorter than those that are printed may be
+pub length-plain : (c : Certificate) → IsPlain c → IsRanged c → length (certificate_text c) < 24000000
+unfolding certificate_text
+length-plain (intersect n rungs cut) plain range = absurd plain
+length-plain (best n rungs) plain range = absurd plain
+length-plain (certificates.rainbow n v c rungs cut missing) plain range = absurd plain
+length-plain (certificates.assign n r c rungs cut) plain range = absurd plain
+length-plain (certificates.union_of n weight parts levels) plain range =
+    let few = range.few in
+    let parts_few = range.parts_in_range.no_more in
+    let levels_few = range.few_levels in
+    let numbers = n ∷ length parts ∷ length levels ∷ [] in
+    let header = short_header_and (codes "union") numbers (weight_word weight ∷ []) (omega arith)
+    (omega arith, (omega arith, (omega arith, tt))) (one_short (weight_word weight) (length-weight weight range.weight_in_range)) (omega arith) in
+    let last = map level_line levels ++ end_line ∷ [] in
+    length-few (codes "union") (numerals numbers ++ weight_word weight ∷ []) (sets_lines (codes "part") parts ++ last) header
+    (All-append IsShortHere (sets_lines (codes "part") parts) last
+    (short_sets n (codes "part") parts few (omega arith) range.parts_in_range.each)
+    (All-append IsShortHere (map level_line levels) (end_line ∷ []) (short_levels n levels few range.levels_in_range) short_end))
+    (omega (
+      arith,
+      length-append (sets_lines (codes "part") parts) last,
+      length-append (map level_line levels) (end_line ∷ []),
+      length-map parts (members_line (codes "part")),
+      length-map levels level_line,
+    ))
+length-plain (certificates.pack_any n) plain range =
+    let few : n ≤ 500 = range in
+    length-few (codes "pack") (numerals (n ∷ []) ++ codes "any" ∷ []) (end_line ∷ [])
+    (short_header_and (codes "pack") (n ∷ []) (codes "any" ∷ []) (omega arith) (omega arith, tt) (one_short (codes "any") (omega arith))
+    (omega arith)) short_end (omega arith)
+length-plain (certificates.pack n bases cut) plain range =
+    let few = range.few in
+    let many = range.bases_in_range.no_more in
+    length-sets (codes "pack") (numerals (n ∷ length bases ∷ [])) n (codes "base") bases (members_line (codes "cut") cut ∷ end_line ∷ [])
+    (short_numbers (codes "pack") (n ∷ length bases ∷ []) (omega arith) (omega arith) (omega arith, (omega arith, tt))) few (omega arith)
+    range.bases_in_range.each (omega arith) (short_cut n cut (end_line ∷ []) few range.cut_in_range short_end) (omega arith)
+length-plain (certificates.cover_never n x) plain range =
+    let few : n ≤ 500 = range.0 in
+    let below : x < n = range.1 in
+    length-few (codes "cover") (numerals (n ∷ []) ++ codes "never" ∷ numerals (x ∷ [])) (end_line ∷ [])
+    (short_header_and (codes "cover") (n ∷ []) (codes "never" ∷ numerals (x ∷ [])) (omega arith) (omega arith, tt)
+    (word_and (codes "never") (x ∷ []) (omega arith) (omega arith, tt)) (omega arith)) short_end (omega arith)
+length-plain (certificates.cover n sets cut) plain range =
+    let few = range.few in
+    let many = range.sets_in_range.no_more in
+    length-sets (codes "cover") (numerals (n ∷ length sets ∷ [])) n (codes "part") sets (option_lines (codes "cut") cut ++ end_line ∷ [])
+    (short_numbers (codes "cover") (n ∷ length sets ∷ []) (omega arith) (omega arith) (omega arith, (omega arith, tt))) few (omega arith)
+    range.sets_in_range.each (omega arith)
+    (All-append IsShortHere (option_lines (codes "cut") cut) (end_line ∷ [])
+    (short_option n (codes "cut") (nat_lt 0 (length sets)) cut few (omega arith) range.cut_in_range) short_end)
+    (omega (arith, length-option (codes "cut") cut, length-append (option_lines (codes "cut") cut) (end_line ∷ [])))
+length-plain (certificates.trees n sets) plain range =
+    let few = range.few in
+    let many = range.sets_in_range.no_more in
+    length-sets (codes "trees") (numerals (n ∷ length sets ∷ [])) n (codes "tree") sets (end_line ∷ [])
+    (short_numbers (codes "trees") (n ∷ length sets ∷ []) (omega arith) (omega arith) (omega arith, (omega arith, tt))) few (omega arith)
+    range.sets_in_range.each (omega arith) short_end (omega arith)
+length-plain (certificates.trees_none n k v classes) plain range =
+    let few = range.0.few in
+    let trees_few = range.0.few_trees in
+    let v_few = range.0.vertices_in_range.few in
+    let many = range.1.no_more in
+    let back = v ∷ length classes ∷ [] in
+    length-sets (codes "trees") (numerals (n ∷ k ∷ []) ++ codes "none" ∷ numerals back) v (codes "class") classes (end_line ∷ [])
+    (short_header_and (codes "trees") (n ∷ k ∷ []) (codes "none" ∷ numerals back) (omega arith) (omega arith, (omega arith, tt))
+    (word_and (codes "none") back (omega arith) (omega arith, (omega arith, tt))) (omega arith)) v_few (omega arith)
+    range.1.each (omega arith) short_end (omega arith)
+length-plain (certificates.arbor n cost arcs first second) plain range =
+    let few = range.few in
+    let last = weights_line (codes "second") second ∷ end_line ∷ [] in
+    length-few (codes "arborescence") (numerals (n ∷ []) ++ codes "tree" ∷ weight_word cost ∷ [])
+    (members_line (codes "set") arcs ∷ weights_line (codes "first") first ∷ last)
+    (short_header_and (codes "arborescence") (n ∷ []) (codes "tree" ∷ weight_word cost ∷ []) (omega arith) (omega arith, tt)
+    (All-cons IsShort (codes "tree") (weight_word cost ∷ []) (omega arith)
+    (one_short (weight_word cost) (length-weight cost range.cost_in_range))) (omega arith))
+    (short_set_and n (codes "set") arcs (weights_line (codes "first") first ∷ last) few (omega arith) range.arcs_in_range
+    (short_part_and n (codes "first") first last few (omega arith) range.first_in_range
+    (short_part_and n (codes "second") second (end_line ∷ []) few (omega arith) range.second_in_range short_end))) (omega arith)
+length-plain (certificates.unreached n v set) plain range =
+    let few = range.few in
+    let v_few = range.vertices_in_range.few in
+    length-few (codes "arborescence") (numerals (n ∷ []) ++ codes "unreached" ∷ numerals (v ∷ []))
+    (members_line (codes "vertices") set ∷ end_line ∷ [])
+    (short_header_and (codes "arborescence") (n ∷ []) (codes "unreached" ∷ numerals (v ∷ [])) (omega arith) (omega arith, tt)
+    (word_and (codes "unreached") (v ∷ []) (omega arith) (omega arith, tt)) (omega arith))
+    (short_set_and v (codes "vertices") set (end_line ∷ []) v_few (omega arith) range.set_in_range short_end) (omega arith)
+length-plain (certificates.disjoint n sets) plain range =
+    let few = range.few in
+    let many = range.sets_in_range.no_more in
+    length-sets (codes "disjoint") (numerals (n ∷ length sets ∷ [])) n (codes "tree") sets (end_line ∷ [])
+    (short_numbers (codes "disjoint") (n ∷ length sets ∷ []) (omega arith) (omega arith) (omega arith, (omega arith, tt))) few (omega arith)
+    range.sets_in_range.each (omega arith) short_end (omega arith)
+length-plain (certificates.disjoint_none n k v set) plain range =
+    let few = range.0.few in
+    let trees_few = range.0.few_trees in
+    let v_few = range.0.vertices_in_range.few in
+    length-few (codes "disjoint") (numerals (n ∷ k ∷ []) ++ codes "none" ∷ numerals (v ∷ []))
+    (members_line (codes "vertices") set ∷ end_line ∷ [])
+    (short_header_and (codes "disjoint") (n ∷ k ∷ []) (codes "none" ∷ numerals (v ∷ [])) (omega arith) (omega arith, (omega arith, tt))
+    (word_and (codes "none") (v ∷ []) (omega arith) (omega arith, tt)) (omega arith))
+    (short_set_and v (codes "vertices") set (end_line ∷ []) v_few (omega arith) range.1 short_end) (omega arith)
+
+-- ---- all certificates
 
 -- a certificate in range has at most 2^26 bytes
 pub length-certificate_text : (c : Certificate) → IsRanged c → length (certificate_text c) ≤ certificate_limit
 unfolding certificate_text
 length-certificate_text (intersect n rungs cut) range =
-    let few = range.0.few in
-    length-ladder priced_rung_lines (IsRangedPricedRung n) (codes "intersect") n rungs (members_line (codes "cut") cut ∷ end_line ∷ [])
-    (λ i rung. omega arith) (λ k rung small ranged. short_priced_rung n k rung few small ranged) (omega arith) range.0
-    (All-cons IsShortHere (members_line (codes "cut") cut) (end_line ∷ []) (short_set_line n (codes "cut") cut few (omega arith) range.1)
-    short_end) (omega arith)
+    length-priced (codes "intersect") [] n rungs cut (end_line ∷ []) (omega arith) (omega arith) tt range short_end (omega arith)
 length-certificate_text (best n rungs) range =
     let few = range.few in
-    length-ladder plain_rung_lines (IsRangedPlainRung n) (codes "best") n rungs (end_line ∷ [])
-    (λ i rung. omega arith) (λ k rung small ranged. short_plain_rung n k rung few small ranged) (omega arith) range short_end (omega arith)
-length-certificate_text (certificates.union_of _ _ _ _) range = elim range [ ]
-length-certificate_text (certificates.pack_any _) range = elim range [ ]
-length-certificate_text (certificates.pack _ _ _) range = elim range [ ]
-length-certificate_text (certificates.cover_never _ _) range = elim range [ ]
-length-certificate_text (certificates.cover _ _ _) range = elim range [ ]
-length-certificate_text (certificates.trees _ _) range = elim range [ ]
-length-certificate_text (certificates.trees_none _ _ _ _) range = elim range [ ]
-length-certificate_text (certificates.arbor _ _ _ _ _) range = elim range [ ]
-length-certificate_text (certificates.unreached _ _ _) range = elim range [ ]
-length-certificate_text (certificates.disjoint _ _) range = elim range [ ]
-length-certificate_text (certificates.disjoint_none _ _ _ _) range = elim range [ ]
-length-certificate_text (certificates.rainbow _ _ _ _ _ _) range = elim range [ ]
-length-certificate_text (certificates.assign _ _ _ _ _) range = elim range [ ]
+    length-ladder plain_rung_lines (IsRangedPlainRung n) (codes "best") (numerals (n ∷ last_rung rungs ∷ [])) n rungs (end_line ∷ [])
+    (λ i rung. omega arith) (λ k rung small ranged. short_plain_rung n k rung few small ranged)
+    (short_ladder_header (IsRangedPlainRung n) (codes "best") n rungs [] (omega arith) range (omega arith) tt) range short_end (omega arith)
+length-certificate_text (certificates.rainbow n v c rungs cut missing) range =
+    let v_few = range.vertices_in_range.few in
+    let c_few = range.few_colours in
+    length-priced (codes "rainbow") (v ∷ c ∷ []) n rungs cut (option_lines (codes "colours") missing ++ end_line ∷ []) (omega arith) (omega arith)
+    (omega arith, (omega arith, tt)) range.ladder_in_range
+    (short_missing c (is_short_of_tree (last_rung rungs) v) missing c_few range.missing_in_range) (length-missing missing)
+length-certificate_text (certificates.assign n r c rungs cut) range =
+    let r_few = range.few_rows in
+    let c_few = range.few_columns in
+    length-priced (codes "assign") (r ∷ c ∷ []) n rungs cut (end_line ∷ []) (omega arith) (omega arith) (omega arith, (omega arith, tt))
+    range.ladder_in_range short_end (omega arith)
+length-certificate_text (certificates.union_of n weight parts levels) range =
+    omega (arith, length-plain (certificates.union_of n weight parts levels) tt range)
+length-certificate_text (certificates.pack_any n) range = omega (arith, length-plain (certificates.pack_any n) tt range)
+length-certificate_text (certificates.pack n bases cut) range = omega (arith, length-plain (certificates.pack n bases cut) tt range)
+length-certificate_text (certificates.cover_never n x) range = omega (arith, length-plain (certificates.cover_never n x) tt range)
+length-certificate_text (certificates.cover n sets cut) range = omega (arith, length-plain (certificates.cover n sets cut) tt range)
+length-certificate_text (certificates.trees n sets) range = omega (arith, length-plain (certificates.trees n sets) tt range)
+length-certificate_text (certificates.trees_none n k v classes) range =
+    omega (arith, length-plain (certificates.trees_none n k v classes) tt range)
+length-certificate_text (certificates.arbor n cost arcs first second) range =
+    omega (arith, length-plain (certificates.arbor n cost arcs first second) tt range)
+length-certificate_text (certificates.unreached n v set) range = omega (arith, length-plain (certificates.unreached n v set) tt range)
+length-certificate_text (certificates.disjoint n sets) range = omega (arith, length-plain (certificates.disjoint n sets) tt range)
+length-certificate_text (certificates.disjoint_none n k v set) range =
+    omega (arith, length-plain (certificates.disjoint_none n k v set) tt range)

@@ -6,6 +6,12 @@ pub mod WordCounts
 pub mod MemberLists
 pub mod RungLists
 pub mod WordLaws
-pub mod KeyedLineLaws
+pub mod LineLaws
+pub mod ListLaws
+pub mod HeaderLaws
 pub mod RungLaws
+pub mod AnswerReading
+pub mod LadderAnswers
+pub mod PackingAnswers
+pub mod SpanningAnswers
 pub mod CertificateLaws

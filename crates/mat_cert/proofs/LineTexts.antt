@@ -1,14 +1,10 @@
 -- The text of the lines of rungs, one rung after the other, and of a certificate, part by part.
-use Rattle.std.proofs.Common.{◌≡◌, ℕ, ◌+◌, ◌<◌, suc, codes, List, [], ◌∷◌, ◌++◌, length, take, get_or, sym, ap}
+use Rattle.std.proofs.Common.{◌≡◌, ℕ, ◌+◌, ◌<◌, suc, List, [], ◌∷◌, ◌++◌, length, map, take, get_or, sym, ap}
 use Rattle.std.proofs.Common.{◌∙◌, arith, zero-add}
-use Rattle.std.proofs.lemmas.List.{append_assoc, append-nil, take_more, length-take}
+use Rattle.std.proofs.lemmas.List.{append_assoc, append-nil, map-append, take_more, length-take}
 use Rattle.mat_words.specs.Lines.{Line, text_of}
-use Rattle.mat_words.specs.Writing.{end_line, members_line}
 use Rattle.mat_words.proofs.LineLemmas.{text_of-append}
-use Rattle.mat_cert.specs.declared.answer.PlainRung.{PlainRung}
-use Rattle.mat_cert.specs.declared.answer.PricedRung.{PricedRung}
-use Rattle.mat_cert.specs.Certificates.{certificate_text, intersect, best, version_line, ladder_header, last_rung}
-use Rattle.mat_cert.specs.Certificates.{plain_rung_lines, priced_rung_lines, rungs_lines}
+use Rattle.mat_cert.specs.Certificates.{version_line, header_line, rungs_lines}
 
 -- the lines of one more rung
 rungs_lines_push : {R : Type 0} (lines_of_rung : ℕ → R → List Line) (k : ℕ) (rungs : List R) (rung : R)
@@ -35,43 +31,42 @@ rung_written {R} lines_of_rung old rungs k rung out new inside at loop last =
     last ∙ ap (λ (t : List ℕ). t ++ text_of (lines_of_rung k rung)) loop ∙ append_assoc old (text_of so_far) (text_of (lines_of_rung k rung))
     ∙ ap (λ (t : List ℕ). old ++ t) (sym (ap text_of lines ∙ text_of-append so_far (lines_of_rung k rung)))
 
--- the two lines that begin a ladder
-abbrev pub opening : List ℕ → ℕ → ℕ → List Line
-opening command n k = version_line ∷ ladder_header command n k ∷ []
+-- the two lines that begin a certificate
+abbrev pub opening : List ℕ → Line → List Line
+opening command words = version_line ∷ header_line command words ∷ []
 
--- the text of three pieces of a certificate, piece by piece
-text_of-pieces : (first second third : List Line) → text_of (first ++ (second ++ third)) ≡ (text_of first ++ text_of second) ++ text_of third
-text_of-pieces first second third =
-    text_of-append first (second ++ third) ∙ ap (λ (t : List ℕ). text_of first ++ t) (text_of-append second third)
-    ∙ sym (append_assoc (text_of first) (text_of second) (text_of third))
+-- the text after one more item was written on a line of its own
+pub line_added : {A : Type 0} (line_of : A → Line) (old : List ℕ) (items : List A) (k : ℕ) (item : A) (out new : List ℕ)
+    → k < length items → item ≡ get_or items k item
+    → out ≡ old ++ text_of (map line_of (take k items)) → new ≡ out ++ text_of (line_of item ∷ [])
+    → new ≡ old ++ text_of (map line_of (take (k + 1) items))
+line_added {A} line_of old items k item out new inside at so_far last =
+    let before = map line_of (take k items) in
+    let more : take (k + 1) items ≡ take k items ++ item ∷ [] = take_more items k item inside ∙ ap (λ x. take k items ++ x ∷ []) (sym at) in
+    let lines : map line_of (take (k + 1) items) ≡ before ++ line_of item ∷ [] =
+    ap (map line_of) more ∙ map-append line_of (take k items) (item ∷ []) in
+    last ∙ ap (λ (t : List ℕ). t ++ text_of (line_of item ∷ [])) so_far ∙ append_assoc old (text_of before) (text_of (line_of item ∷ []))
+    ∙ ap (λ (t : List ℕ). old ++ t) (sym (ap text_of lines ∙ text_of-append before (line_of item ∷ [])))
 
--- the text after the parts of an `intersect` certificate were written in turn
-pub intersect_written : (n : ℕ) (rungs : List PricedRung) (cut : List ℕ) (k : ℕ) (header ladder parts new : List ℕ) → k ≡ last_rung rungs
-    → header ≡ text_of (opening (codes "intersect") n k) → ladder ≡ header ++ text_of (rungs_lines priced_rung_lines 0 rungs)
-    → parts ≡ ladder ++ text_of (members_line (codes "cut") cut ∷ []) → new ≡ parts ++ text_of (end_line ∷ [])
-    → new ≡ certificate_text (intersect n rungs cut)
-unfolding certificate_text
-intersect_written n rungs cut k header ladder parts new last first second third fourth =
-    let lines = rungs_lines priced_rung_lines 0 rungs in
-    let cut_line = members_line (codes "cut") cut in
-    let start = opening (codes "intersect") n (last_rung rungs) in
-    let begun : header ≡ text_of start = first ∙ ap (λ (i : ℕ). text_of (opening (codes "intersect") n i)) last in
-    let laddered : ladder ≡ text_of start ++ text_of lines = second ∙ ap (λ (t : List ℕ). t ++ text_of lines) begun in
-    let closed : new ≡ ladder ++ text_of (cut_line ∷ end_line ∷ []) =
-    fourth ∙ ap (λ (t : List ℕ). t ++ text_of (end_line ∷ [])) third ∙ append_assoc ladder (text_of (cut_line ∷ []))
-    (text_of (end_line ∷ []))
-    ∙ ap (λ (t : List ℕ). ladder ++ t) (sym (text_of-append (cut_line ∷ []) (end_line ∷ []))) in
-    closed ∙ ap (λ (t : List ℕ). t ++ text_of (cut_line ∷ end_line ∷ [])) laddered ∙ sym
-    (text_of-pieces start lines (cut_line ∷ end_line ∷ []))
+-- ---- pieces of a text that were written one after the other
 
--- the text after the parts of a `best` certificate were written in turn
-pub best_written : (n : ℕ) (rungs : List PlainRung) (k : ℕ) (header ladder new : List ℕ) → k ≡ last_rung rungs
-    → header ≡ text_of (opening (codes "best") n k) → ladder ≡ header ++ text_of (rungs_lines plain_rung_lines 0 rungs)
-    → new ≡ ladder ++ text_of (end_line ∷ []) → new ≡ certificate_text (best n rungs)
-unfolding certificate_text
-best_written n rungs k header ladder new last first second third =
-    let lines = rungs_lines plain_rung_lines 0 rungs in
-    let start = opening (codes "best") n (last_rung rungs) in
-    let begun : header ≡ text_of start = first ∙ ap (λ (i : ℕ). text_of (opening (codes "best") n i)) last in
-    let laddered : ladder ≡ text_of start ++ text_of lines = second ∙ ap (λ (t : List ℕ). t ++ text_of lines) begun in
-    third ∙ ap (λ (t : List ℕ). t ++ text_of (end_line ∷ [])) laddered ∙ sym (text_of-pieces start lines (end_line ∷ []))
+pub two_pieces : (head last : List Line) (a b : List ℕ) → a ≡ text_of head → b ≡ a ++ text_of last → b ≡ text_of (head ++ last)
+two_pieces head last a b first second = second ∙ ap (λ (t : List ℕ). t ++ text_of last) first ∙ sym (text_of-append head last)
+
+pub three_pieces : (head middle last : List Line) (a b c : List ℕ) → a ≡ text_of head → b ≡ a ++ text_of middle → c ≡ b ++ text_of last
+    → c ≡ text_of (head ++ (middle ++ last))
+three_pieces head middle last a b c first second third =
+    two_pieces (head ++ middle) last b c (two_pieces head middle a b first second) third ∙ ap text_of (append_assoc head middle last)
+
+pub four_pieces : (head one two last : List Line) (a b c d : List ℕ) → a ≡ text_of head → b ≡ a ++ text_of one → c ≡ b ++ text_of two
+    → d ≡ c ++ text_of last → d ≡ text_of (head ++ (one ++ (two ++ last)))
+four_pieces head one two last a b c d first second third fourth =
+    three_pieces (head ++ one) two last b c d (two_pieces head one a b first second) third fourth
+    ∙ ap text_of (append_assoc head one (two ++ last))
+
+pub five_pieces : (head one two three last : List Line) (a b c d e : List ℕ) → a ≡ text_of head → b ≡ a ++ text_of one
+    → c ≡ b ++ text_of two → d ≡ c ++ text_of three → e ≡ d ++ text_of last
+    → e ≡ text_of (head ++ (one ++ (two ++ (three ++ last))))
+five_pieces head one two three last a b c d e first second third fourth fifth =
+    four_pieces (head ++ one) two three last b c d e (two_pieces head one a b first second) third fourth fifth
+    ∙ ap text_of (append_assoc head one (two ++ (three ++ last)))

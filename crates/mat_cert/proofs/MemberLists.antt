@@ -8,23 +8,15 @@ use Rattle.mat_sets.specs.Sets.{AllBelow, with_one}
 use Rattle.mat_words.specs.Numbers.{numeral}
 use Rattle.mat_words.specs.Cursors.{WordsLeft}
 use Rattle.mat_words.specs.Steps.{◌>>=◌}
-use Rattle.mat_words.specs.Reading as any_text
-use Rattle.mat_words.proofs.WordReading.{IsBelowRead, below_found}
 use Rattle.mat_cert.specs.declared.refusal.CertKind.TheVariants.{NotRising}
 use Rattle.mat_cert.specs.declared.refusal.CertRefusal.{CertRefusal}
 use Rattle.mat_cert.specs.declared.refusal.CertRefusal.TheVariants as refusals
 use Rattle.mat_cert.specs.Faults.{Fault, Fails}
-use Rattle.mat_cert.specs.Reading.{below_at, members_from}
-use Rattle.mat_cert.proofs.Told.{told_found}
+use Rattle.mat_cert.specs.LineReading.{below_at, members_from}
+use Rattle.mat_cert.proofs.WordLaws.{below_read}
 
 abbrev ok : {A : Type 0} → A → Result A Fault
 ok x = Ok x
-
-below_read : (bound n : ℕ) (words : List (List ℕ)) (x : ℕ) (q : WordsLeft) → below_at bound (record { line = n; words = words }) ≡ Ok (x, q)
-    → IsBelowRead bound (record { line = n; words = words }) x q
-below_read bound n words x q e =
-    let w : WordsLeft = record { line = n; words = words } in
-    below_found bound w x q (told_found (any_text.below_at bound w) (x, q) e)
 
 -- a number above all members is put at the end
 with_one-end : (set : List ℕ) (x : ℕ) → AllBelow x set → with_one set x ≡ set ++ x ∷ []
@@ -61,9 +53,9 @@ pub members_go_on : (bound n least : ℕ) (set : List ℕ) (words : List (List �
     → below_at bound (record { line = n; words = words }) ≡ Ok (x, q) → least ≤ x → AllBelow least set
     → with_members set (members_from bound n least words) ≡ total → GoesOn bound set words x q total
 unfolding members_from
-members_go_on bound n least set [] x q total e rises below so_far = let read = below_read bound n [] x q e in absurd cc
+members_go_on bound n least set [] x q total e rises below so_far = let read = below_read bound (record { line = n; words = [] }) x q e in absurd cc
 members_go_on bound n least set (word ∷ words) x q total e rises below so_far =
-    let read = below_read bound n (word ∷ words) x q e in
+    let read = below_read bound (record { line = n; words = word ∷ words }) x q e in
     let cut : word ∷ words ≡ numeral (pos x) ∷ q.words = read.cut in
     let same : words ≡ q.words = cc in
     let above : nat_lt x least ≡ false = grind arith in
@@ -80,7 +72,7 @@ pub members_fall : (bound n least : ℕ) (set : List ℕ) (words : List (List �
     → below_at bound (record { line = n; words = words }) ≡ Ok (x, q) → x < least
     → with_members set (members_from bound n least words) ≡ total → total ≡ Err (NotRising, n)
 unfolding members_from
-members_fall bound n least set [] x q total e falls so_far = let read = below_read bound n [] x q e in absurd cc
+members_fall bound n least set [] x q total e falls so_far = let read = below_read bound (record { line = n; words = [] }) x q e in absurd cc
 members_fall bound n least set (word ∷ words) x q total e falls so_far =
     let below : nat_lt x least ≡ true = grind arith in
     sym (rw (e, below) at so_far)

@@ -20,11 +20,12 @@ use Rattle.mat_words.proofs.LineLemmas.{text_of-append}
 use Rattle.mat_cert.specs.declared.answer.PlainRung.{PlainRung}
 use Rattle.mat_cert.specs.declared.answer.PricedRung.{PricedRung}
 use Rattle.mat_cert.specs.Certificates.{AreRangedRungs, Certificate, IsPrinted, IsPrintedRung, IsPrintedWeight, IsRanged, IsRangedRung}
-use Rattle.mat_cert.specs.Certificates.{IsRangedPlainRung, IsRangedPricedRung, certificate_text, intersect, best, last_rung, rung_line}
-use Rattle.mat_cert.specs.Certificates.{plain_rung_lines, priced_rung_lines, rungs_lines}
+use Rattle.mat_cert.specs.Certificates.{IsRangedLadder, IsRangedPlainRung, IsRangedPricedRung, is_short_of_tree, certificate_text, intersect, best}
+use Rattle.mat_cert.specs.Certificates.{last_rung, rung_line, plain_rung_lines, priced_rung_lines, rungs_lines, option_lines}
 use Rattle.mat_cert.specs.Certificates as certificates
 use Rattle.mat_cert.proofs.LineTexts.{opening}
-use Rattle.mat_cert.proofs.Lengths.{IsShortHere, length-join_with_byte, length-printed, length-text_of, short_end, short_opening, short_set_line}
+use Rattle.mat_cert.proofs.Lengths.{IsShortHeader, IsShortHere, length-join_with_byte, length-missing, length-plain, length-printed}
+use Rattle.mat_cert.proofs.Lengths.{length-text_of, short_cut, short_end, short_ladder_header, short_missing, short_opening}
 
 -- ---- one line
 
@@ -139,26 +140,26 @@ rungs_length {R} lines_of_rung k e (rung ∷ rungs) at short =
     rw both (add_rung (length (text_of (lines_of_rung k rung))) (length (text_of others)) k (k * k) (suc k * suc k) e (e * e) here
     (square_step k) rest)
 
--- a ladder of rungs that are printed, with its last lines, which are at most two
-ladder_length : {R : Type 0} (lines_of_rung : ℕ → R → List Line) (IsRangedAt : ℕ → R → Type 0) (command : List ℕ) (n : ℕ)
+-- a ladder of rungs that are printed, with its last lines, which are at most three
+ladder_length : {R : Type 0} (lines_of_rung : ℕ → R → List Line) (IsRangedAt : ℕ → R → Type 0) (command : List ℕ) (words : Line) (n : ℕ)
     (rungs : List R) (last : List Line)
     → ((k : ℕ) (rung : R) → slice_get rungs k ≡ Some rung → k ≤ 500 → IsRangedAt k rung → IsShortRung lines_of_rung k rung)
-    → length command ≤ 65 → AreRangedRungs IsRangedAt n rungs → All IsShortHere last → length last ≤ 2
-    → length (text_of (opening command n (last_rung rungs) ++ (rungs_lines lines_of_rung 0 rungs ++ last))) < 24000000
-ladder_length {R} lines_of_rung IsRangedAt command n rungs last short_at short range short_last two =
-    let start = opening command n (last_rung rungs) in
+    → IsShortHeader command words → AreRangedRungs IsRangedAt n rungs → All IsShortHere last → length last ≤ 3
+    → length (text_of (opening command words ++ (rungs_lines lines_of_rung 0 rungs ++ last))) < 24000000
+ladder_length {R} lines_of_rung IsRangedAt command words n rungs last short_at short range short_last three =
+    let start = opening command words in
     let lines = rungs_lines lines_of_rung 0 rungs in
     let few = range.few in
     let most = range.no_more in
     let small : length rungs ≤ 501 = omega arith in
-    let first = length-text_of 501 65 start (short_opening command n (last_rung rungs) short (omega arith) (omega arith)) in
+    let first = length-text_of 502 65 start (short_opening command words short) in
     let each : (i : ℕ) (rung : R) → slice_get rungs i ≡ Some rung → IsShortRung lines_of_rung (0 + i) rung = λ i rung at.
     let within : i < length rungs = slice_get_within rungs i rung at in
     let place : i ≡ 0 + i = omega arith in
     subst (λ (j : ℕ). IsShortRung lines_of_rung j rung) place (short_at i rung at (omega arith) (range.each i rung at)) in
     let middle = rungs_length lines_of_rung 0 (length rungs) rungs (omega arith) each in
-    let end = length-text_of 501 65 last short_last in
-    let ends = mul-le-mul {n₁ = length last} {m₁ = 33067} {n₂ = 2} {m₂ = 33067} two (omega arith) in
+    let end = length-text_of 502 65 last short_last in
+    let ends = mul-le-mul {n₁ = length last} {m₁ = 33133} {n₂ = 3} {m₂ = 33133} three (omega arith) in
     let square = mul-le-mul {n₁ = length rungs} {m₁ = length rungs} {n₂ = 501} {m₂ = 501} small small in
     let whole = ap length (text_of-append start (lines ++ last)) ∙ length-append (text_of start) (text_of (lines ++ last)) in
     let back = ap length (text_of-append lines last) ∙ length-append (text_of lines) (text_of last) in
@@ -169,32 +170,52 @@ of_all : {R : Type 0} (P : R → Type 0) (xs : List R) (i : ℕ) (x : R) → sli
 of_all P xs i x at all =
     subst P (get_or_from_slice_get xs i x x at) (All-get_or P xs i x (slice_get_within xs i x at) all)
 
+-- a ladder of rungs with splits
+priced_length : (command : List ℕ) (numbers : List ℕ) (n : ℕ) (rungs : List PricedRung) (cut : List ℕ) (last : List Line)
+    → length command ≤ 65 → length numbers ≤ 2 → AllBelow 502 numbers → IsRangedLadder n rungs cut → All IsPrintedRung rungs
+    → All IsShortHere last → length last ≤ 2
+    → length (text_of (opening command (numerals (n ∷ last_rung rungs ∷ numbers))
+    ++ (rungs_lines priced_rung_lines 0 rungs ++ members_line (codes "cut") cut ∷ last))) < 24000000
+priced_length command numbers n rungs cut last short some small range printed short_last two =
+    let few = range.0.few in
+    ladder_length priced_rung_lines (IsRangedPricedRung n) command (numerals (n ∷ last_rung rungs ∷ numbers)) n rungs
+    (members_line (codes "cut") cut ∷ last)
+    (λ k rung at small ranged. priced_rung_length n k rung few small ranged (of_all IsPrintedRung rungs k rung at printed))
+    (short_ladder_header (IsRangedPricedRung n) command n rungs numbers short range.0 some small) range.0
+    (short_cut n cut last few range.1 short_last) (omega arith)
+
 -- a certificate in range whose weights may be printed has less than 24,000,000 bytes
 pub length-printed_text : (c : Certificate) → IsRanged c → IsPrinted c → length (certificate_text c) < 24000000
 unfolding certificate_text
 length-printed_text (intersect n rungs cut) range printed =
-    let few = range.0.few in
-    ladder_length priced_rung_lines (IsRangedPricedRung n) (codes "intersect") n rungs (members_line (codes "cut") cut ∷ end_line ∷ [])
-    (λ k rung at small ranged. priced_rung_length n k rung few small ranged (of_all IsPrintedRung rungs k rung at printed))
-    (omega arith) range.0
-    (All-cons IsShortHere (members_line (codes "cut") cut) (end_line ∷ []) (short_set_line n (codes "cut") cut few (omega arith) range.1)
-    short_end) (omega arith)
+    priced_length (codes "intersect") [] n rungs cut (end_line ∷ []) (omega arith) (omega arith) tt range printed short_end (omega arith)
 length-printed_text (best n rungs) range printed =
     let few = range.few in
-    ladder_length plain_rung_lines (IsRangedPlainRung n) (codes "best") n rungs (end_line ∷ [])
+    ladder_length plain_rung_lines (IsRangedPlainRung n) (codes "best") (numerals (n ∷ last_rung rungs ∷ [])) n rungs (end_line ∷ [])
     (λ k rung at small ranged. plain_rung_length n k rung few small ranged
     (of_all (λ (r : PlainRung). IsPrintedWeight r.weight) rungs k rung at printed))
-    (omega arith) range short_end (omega arith)
-length-printed_text (certificates.union_of _ _ _ _) range printed = elim range [ ]
-length-printed_text (certificates.pack_any _) range printed = elim range [ ]
-length-printed_text (certificates.pack _ _ _) range printed = elim range [ ]
-length-printed_text (certificates.cover_never _ _) range printed = elim range [ ]
-length-printed_text (certificates.cover _ _ _) range printed = elim range [ ]
-length-printed_text (certificates.trees _ _) range printed = elim range [ ]
-length-printed_text (certificates.trees_none _ _ _ _) range printed = elim range [ ]
-length-printed_text (certificates.arbor _ _ _ _ _) range printed = elim range [ ]
-length-printed_text (certificates.unreached _ _ _) range printed = elim range [ ]
-length-printed_text (certificates.disjoint _ _) range printed = elim range [ ]
-length-printed_text (certificates.disjoint_none _ _ _ _) range printed = elim range [ ]
-length-printed_text (certificates.rainbow _ _ _ _ _ _) range printed = elim range [ ]
-length-printed_text (certificates.assign _ _ _ _ _) range printed = elim range [ ]
+    (short_ladder_header (IsRangedPlainRung n) (codes "best") n rungs [] (omega arith) range (omega arith) tt) range short_end (omega arith)
+length-printed_text (certificates.rainbow n v c rungs cut missing) range printed =
+    let v_few = range.vertices_in_range.few in
+    let c_few = range.few_colours in
+    priced_length (codes "rainbow") (v ∷ c ∷ []) n rungs cut (option_lines (codes "colours") missing ++ end_line ∷ []) (omega arith) (omega arith)
+    (omega arith, (omega arith, tt)) range.ladder_in_range printed
+    (short_missing c (is_short_of_tree (last_rung rungs) v) missing c_few range.missing_in_range) (length-missing missing)
+length-printed_text (certificates.assign n r c rungs cut) range printed =
+    let r_few = range.few_rows in
+    let c_few = range.few_columns in
+    priced_length (codes "assign") (r ∷ c ∷ []) n rungs cut (end_line ∷ []) (omega arith) (omega arith) (omega arith, (omega arith, tt))
+    range.ladder_in_range printed short_end (omega arith)
+length-printed_text (certificates.union_of n weight parts levels) range printed =
+    length-plain (certificates.union_of n weight parts levels) tt range
+length-printed_text (certificates.pack_any n) range printed = length-plain (certificates.pack_any n) tt range
+length-printed_text (certificates.pack n bases cut) range printed = length-plain (certificates.pack n bases cut) tt range
+length-printed_text (certificates.cover_never n x) range printed = length-plain (certificates.cover_never n x) tt range
+length-printed_text (certificates.cover n sets cut) range printed = length-plain (certificates.cover n sets cut) tt range
+length-printed_text (certificates.trees n sets) range printed = length-plain (certificates.trees n sets) tt range
+length-printed_text (certificates.trees_none n k v classes) range printed = length-plain (certificates.trees_none n k v classes) tt range
+length-printed_text (certificates.arbor n cost arcs first second) range printed =
+    length-plain (certificates.arbor n cost arcs first second) tt range
+length-printed_text (certificates.unreached n v set) range printed = length-plain (certificates.unreached n v set) tt range
+length-printed_text (certificates.disjoint n sets) range printed = length-plain (certificates.disjoint n sets) tt range
+length-printed_text (certificates.disjoint_none n k v set) range printed = length-plain (certificates.disjoint_none n k v set) tt range

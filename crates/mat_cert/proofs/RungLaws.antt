@@ -10,19 +10,14 @@ use Rattle.mat_cert.specs.declared.answer.PlainRung.{PlainRung}
 use Rattle.mat_cert.specs.declared.answer.PricedRung.{PricedRung}
 use Rattle.mat_cert.specs.Certificates.{IsRangedPlainRung, IsRangedPricedRung, plain_rung_lines, priced_rung_lines, rungs_lines}
 use Rattle.mat_cert.specs.Faults.{Fault}
-use Rattle.mat_cert.specs.Reading.{rung_at, counted_set_at, part_at, plain_rung_at, priced_rung_at, rungs_at}
+use Rattle.mat_cert.specs.LineReading.{counted_set_at, part_at}
+use Rattle.mat_cert.specs.Reading.{rung_at, plain_rung_at, priced_rung_at, rungs_at}
 use Rattle.mat_words.proofs.ReadingSteps.{found-same, bind_found}
 use Rattle.mat_words.proofs.LineReading.{AreLeft}
-use Rattle.mat_cert.proofs.KeyedLineLaws.{counted_set_found, counted_set_again, part_found, part_again, rung_found, rung_again}
-
--- rung k was read
-pub record IsRungRead {R : Type 0} (lines_of_rung : ℕ → R → List Line) (IsRangedAt : ℕ → R → Type 0) (k : ℕ) (p : LinesLeft)
-    (rung : R) (q : LinesLeft) : Type 0 where
-  pub ranged : IsRangedAt k rung
-  pub spelled : (rest : List Line) → AreLeft rest q → AreLeft (lines_of_rung k rung ++ rest) p
+use Rattle.mat_cert.proofs.LineLaws.{IsRead, IsReadAgain, counted_set_found, counted_set_again, part_found, part_again, rung_found, rung_again}
 
 pub plain_rung_found : (n k : ℕ) (p : LinesLeft) (rung : PlainRung) (q : LinesLeft) → plain_rung_at n k p ≡ Ok (rung, q)
-    → IsRungRead plain_rung_lines (IsRangedPlainRung n) k p rung q
+    → IsRead (IsRangedPlainRung n k rung) (plain_rung_lines k rung) p q
 unfolding plain_rung_at
 plain_rung_found n k p rung q e =
     let weight = bind_found (rung_at k p)
@@ -31,15 +26,14 @@ plain_rung_found n k p rung q e =
     let head = rung_found k p weight.0.0 weight.0.1 weight.1 in
     let members = counted_set_found n k weight.0.1 set.0.0 set.0.1 set.1 in
     let one : PlainRung = record { weight = weight.0.0; set = set.0.0 } in
-    subst (λ (r : PlainRung × LinesLeft). IsRungRead plain_rung_lines (IsRangedPlainRung n) k p r.0 r.1)
+    subst (λ (r : PlainRung × LinesLeft). IsRead (IsRangedPlainRung n k r.0) (plain_rung_lines k r.0) p r.1)
     (found-same (one, set.0.1) (rung, q) set.2) (record {
-      ranged = record { weight_in_range = head.in_range; set_in_range = members.in_range; size = members.size };
+      in_range = record { weight_in_range = head.in_range; set_in_range = members.in_range.0; size = members.in_range.1 };
       spelled = λ rest left. head.spelled (members_line (codes "set") set.0.0 ∷ rest) (members.spelled rest left);
     })
 
 pub plain_rung_again : (n k : ℕ) (p : LinesLeft) (rung : PlainRung) (rest : List Line) → IsRangedPlainRung n k rung
-    → AreLeft (plain_rung_lines k rung ++ rest) p
-    → (q : LinesLeft) × (plain_rung_at n k p ≡ Ok (rung, q)) × AreLeft rest q
+    → AreLeft (plain_rung_lines k rung ++ rest) p → IsReadAgain (plain_rung_at n k p) rung rest
 unfolding plain_rung_at
 plain_rung_again n k p rung rest ranged left =
     let head = rung_again k p rung.weight (members_line (codes "set") rung.set ∷ rest) ranged.weight_in_range left in
@@ -47,7 +41,7 @@ plain_rung_again n k p rung rest ranged left =
     (members.0, rw (head.1, members.1) refl, members.2)
 
 pub priced_rung_found : (n k : ℕ) (p : LinesLeft) (rung : PricedRung) (q : LinesLeft) → priced_rung_at n k p ≡ Ok (rung, q)
-    → IsRungRead priced_rung_lines (IsRangedPricedRung n) k p rung q
+    → IsRead (IsRangedPricedRung n k rung) (priced_rung_lines k rung) p q
 unfolding priced_rung_at
 priced_rung_found n k p rung q e =
     let weight = bind_found (rung_at k p)
@@ -66,9 +60,13 @@ priced_rung_found n k p rung q e =
     let one = part_found (codes "first") n set.0.1 first.0.0 first.0.1 first.1 in
     let two = part_found (codes "second") n first.0.1 second.0.0 second.0.1 second.1 in
     let made : PricedRung = record { weight = weight.0.0; set = set.0.0; first = first.0.0; second = second.0.0 } in
-    subst (λ (r : PricedRung × LinesLeft). IsRungRead priced_rung_lines (IsRangedPricedRung n) k p r.0 r.1)
+    subst (λ (r : PricedRung × LinesLeft). IsRead (IsRangedPricedRung n k r.0) (priced_rung_lines k r.0) p r.1)
     (found-same (made, second.0.1) (rung, q) second.2) (record {
-      ranged = (record { weight_in_range = head.in_range; set_in_range = members.in_range; size = members.size }, one.in_range, two.in_range);
+      in_range = (
+        record { weight_in_range = head.in_range; set_in_range = members.in_range.0; size = members.in_range.1 },
+        one.in_range,
+        two.in_range,
+      );
       spelled = λ rest left.
           head.spelled (members_line (codes "set") set.0.0 ∷ weights_line (codes "first") first.0.0 ∷ weights_line (codes "second")
           second.0.0 ∷ rest)
@@ -77,8 +75,7 @@ priced_rung_found n k p rung q e =
     })
 
 pub priced_rung_again : (n k : ℕ) (p : LinesLeft) (rung : PricedRung) (rest : List Line) → IsRangedPricedRung n k rung
-    → AreLeft (priced_rung_lines k rung ++ rest) p
-    → (q : LinesLeft) × (priced_rung_at n k p ≡ Ok (rung, q)) × AreLeft rest q
+    → AreLeft (priced_rung_lines k rung ++ rest) p → IsReadAgain (priced_rung_at n k p) rung rest
 unfolding priced_rung_at
 priced_rung_again n k p rung rest ranged left =
     let second = weights_line (codes "second") rung.second ∷ rest in
@@ -100,7 +97,7 @@ pub record AreRungsRead {R : Type 0} (lines_of_rung : ℕ → R → List Line) (
 
 pub rungs_found : {R : Type 0} (reader : ℕ → LinesLeft → Result (R × LinesLeft) Fault) (lines_of_rung : ℕ → R → List Line)
     (IsRangedAt : ℕ → R → Type 0)
-    → ((k : ℕ) (p : LinesLeft) (rung : R) (q : LinesLeft) → reader k p ≡ Ok (rung, q) → IsRungRead lines_of_rung IsRangedAt k p rung q)
+    → ((k : ℕ) (p : LinesLeft) (rung : R) (q : LinesLeft) → reader k p ≡ Ok (rung, q) → IsRead (IsRangedAt k rung) (lines_of_rung k rung) p q)
     → (k many : ℕ) (p : LinesLeft) (rungs : List R) (q : LinesLeft) → rungs_at reader k many p ≡ Ok (rungs, q)
     → AreRungsRead lines_of_rung IsRangedAt k many p rungs q
 unfolding rungs_at
@@ -116,7 +113,7 @@ rungs_found {R} reader lines_of_rung IsRangedAt one k (suc many) p rungs q e =
     subst (λ (r : List R × LinesLeft). AreRungsRead lines_of_rung IsRangedAt k (suc many) p r.0 r.1)
     (found-same (first.0.0 ∷ others.0.0, others.0.1) (rungs, q) others.2) (record {
       count = ap suc more.count;
-      each = each_of k first.0.0 others.0.0 here.ranged more.each;
+      each = each_of k first.0.0 others.0.0 here.in_range more.each;
       spelled = λ rest left.
           subst (λ (ls : List Line). AreLeft ls p)
           (sym (append_assoc (lines_of_rung k first.0.0) (rungs_lines lines_of_rung (suc k) others.0.0) rest))
@@ -137,11 +134,11 @@ rungs_found {R} reader lines_of_rung IsRangedAt one k (suc many) p rungs q e =
 pub rungs_again : {R : Type 0} (reader : ℕ → LinesLeft → Result (R × LinesLeft) Fault) (lines_of_rung : ℕ → R → List Line)
     (IsRangedAt : ℕ → R → Type 0)
     → ((k : ℕ) (p : LinesLeft) (rung : R) (rest : List Line) → IsRangedAt k rung → AreLeft (lines_of_rung k rung ++ rest) p
-    → (q : LinesLeft) × (reader k p ≡ Ok (rung, q)) × AreLeft rest q)
+    → IsReadAgain (reader k p) rung rest)
     → (k : ℕ) (p : LinesLeft) (rungs : List R) (rest : List Line)
     → ((i : ℕ) (rung : R) → slice_get rungs i ≡ Some rung → IsRangedAt (k + i) rung)
     → AreLeft (rungs_lines lines_of_rung k rungs ++ rest) p
-    → (q : LinesLeft) × (rungs_at reader k (length rungs) p ≡ Ok (rungs, q)) × AreLeft rest q
+    → IsReadAgain (rungs_at reader k (length rungs) p) rungs rest
 unfolding rungs_at
 rungs_again reader lines_of_rung IsRangedAt one k p [] rest each left = (p, refl, left)
 rungs_again {R} reader lines_of_rung IsRangedAt one k p (rung ∷ rungs) rest each left =

@@ -1,6 +1,8 @@
 pub mod Limits
 pub mod Certificates
 pub mod Faults
+pub mod LineReading
+pub mod HeaderReading
 pub mod Reading
 pub mod Kinds
 pub mod Views

@@ -5,6 +5,34 @@ use Rattle.std.specs.Prelude.{ℕ, ◌^◌}
 abbrev pub most_elements : ℕ
 most_elements = 500
 
+-- the most vertices of a graph
+abbrev pub most_vertices : ℕ
+most_vertices = 500
+
+-- the most colours
+abbrev pub most_colours : ℕ
+most_colours = 500
+
+-- the most rows of a table
+abbrev pub most_rows : ℕ
+most_rows = 500
+
+-- the most columns of a table
+abbrev pub most_columns : ℕ
+most_columns = 500
+
+-- the most matroids of a list
+abbrev pub most_matroids : ℕ
+most_matroids = 64
+
+-- the most different weights of a union's elements
+abbrev pub most_levels : ℕ
+most_levels = 500
+
+-- the most trees that can be asked for
+abbrev pub most_trees : ℕ
+most_trees = 64
+
 -- the largest number of a weight, and of a weight of a split; with a `-` the smallest
 abbrev pub largest_number : ℕ
 largest_number = 10 ^ 30

@@ -1,107 +1,22 @@
 -- Reading a certificate: the answer that a text spells, or its first fault. Each function takes what is left of the text or of a line, and
 -- the order of its lines is the order in which faults are looked for.
-use Rattle.std.specs.Prelude.{ℕ, zero, suc, ◌==◌, nat_lt, ℤ, pos, neg_ℤ, if◌then◌else◌}
+use Rattle.std.specs.Prelude.{ℕ, zero, suc, ◌==◌, nat_lt, pos, if◌then◌else◌}
 use Rattle.std.specs.Prelude.{List, [], ◌∷◌, length, codes, bytes_eq, Result, Ok, Err}
 use Rattle.mat_sets.specs.declared.weight.Weight.{Weight}
 use Rattle.mat_words.specs.Cursors.{WordsLeft, LinesLeft}
-use Rattle.mat_words.specs.Steps.{◌>>=◌}
+use Rattle.mat_words.specs.Steps.{◌>>=◌, repeat_at}
 use Rattle.mat_words.specs.Lines.{lines_of}
-use Rattle.mat_words.specs.Reading as any_text
 use Rattle.mat_cert.specs.declared.answer.PlainRung.{PlainRung}
 use Rattle.mat_cert.specs.declared.answer.PricedRung.{PricedRung}
 use Rattle.mat_cert.specs.declared.refusal.CertKind.TheVariants as kinds
-use Rattle.mat_cert.specs.Faults.{Fault, told}
-use Rattle.mat_cert.specs.Limits.{most_elements, largest_number}
-use Rattle.mat_cert.specs.Certificates.{Certificate, intersect, best}
-
--- ---- the words of a line
-
--- the next word, and the words behind it
-abbrev pub word_at : WordsLeft → Result (List ℕ × WordsLeft) Fault
-word_at p = told (any_text.word_at p)
-
--- exactly so many words have to be left
-unfoldable pub has_words : ℕ → WordsLeft → Result (Unit {0}) Fault
-has_words many p = if length p.words == many then Ok tt else Err (kinds.WrongCount, p.line)
-
--- the next word as a number in low..high
-abbrev pub number_at : ℤ → ℤ → WordsLeft → Result (ℤ × WordsLeft) Fault
-number_at low high p = told (any_text.number_at low high p)
-
--- the next word as a number in 0..most
-abbrev pub size_at : ℕ → WordsLeft → Result (ℕ × WordsLeft) Fault
-size_at most p = told (any_text.size_at 0 most p)
-
--- the next word as a weight
-abbrev pub weight_at : WordsLeft → Result (Weight × WordsLeft) Fault
-weight_at p = told (any_text.weight_at (neg_ℤ (pos largest_number)) (pos largest_number) p)
-
--- the next words as that many weights
-abbrev pub weights_at : ℕ → WordsLeft → Result (List Weight × WordsLeft) Fault
-weights_at count p = told (any_text.weights_at (neg_ℤ (pos largest_number)) (pos largest_number) count p)
-
--- the next word as a number below the bound
-abbrev pub below_at : ℕ → WordsLeft → Result (ℕ × WordsLeft) Fault
-below_at bound p = told (any_text.below_at bound p)
-
--- the set of numbers below n that the words left of a line list in rising order, of which none is below `least`
-unfoldable pub members_from : ℕ → ℕ → ℕ → List (List ℕ) → Result (List ℕ) Fault
-members_from n line least [] = Ok []
-members_from n line least (word ∷ words) = do
-  member ← below_at n (record { line = line; words = word ∷ words })
-  if nat_lt member.0 least then Err (kinds.NotRising, line) else
-      (members_from n line (suc member.0) words >>= λ others. Ok (member.0 ∷ others))
-
--- ---- lines of a kind
-
--- a line that begins with this word: the words behind it, and the lines behind it
-abbrev pub keyed_at : List ℕ → LinesLeft → Result (WordsLeft × LinesLeft) Fault
-keyed_at key p = told (any_text.keyed_at key p)
-
--- a line of this word and as many others
-unfoldable pub counted_at : List ℕ → ℕ → LinesLeft → Result (WordsLeft × LinesLeft) Fault
-counted_at key many p = do
-  line ← keyed_at key p
-  counted ← has_words many line.0
-  Ok line
-
--- the first line, which names the version
-unfoldable pub version_at : LinesLeft → Result LinesLeft Fault
-version_at p = do
-  line ← counted_at (codes "certificate") 1 p
-  word ← word_at line.0
-  if bytes_eq word.0 (codes "1") then Ok line.1 else Err (kinds.UnknownWord, p.line)
-
--- a set of any length below n
-unfoldable pub set_at : List ℕ → ℕ → LinesLeft → Result (List ℕ × LinesLeft) Fault
-set_at key n p = do
-  line ← keyed_at key p
-  set ← members_from n line.0.line 0 line.0.words
-  Ok (set, line.1)
-
--- a set of k numbers below n
-unfoldable pub counted_set_at : ℕ → ℕ → LinesLeft → Result (List ℕ × LinesLeft) Fault
-counted_set_at n k p = do
-  line ← counted_at (codes "set") k p
-  set ← members_from n line.0.line 0 line.0.words
-  Ok (set, line.1)
-
--- one part of a split of n weights
-unfoldable pub part_at : List ℕ → ℕ → LinesLeft → Result (List Weight × LinesLeft) Fault
-part_at key n p = do
-  line ← counted_at key n p
-  weights ← weights_at n line.0
-  Ok (weights.0, line.1)
-
--- the last line
-unfoldable pub end_at : LinesLeft → Result LinesLeft Fault
-end_at p = do
-  line ← counted_at (codes "end") 0 p
-  Ok line.1
-
--- the end of the text, behind the last line
-unfoldable pub closed_at : LinesLeft → Result (Unit {0}) Fault
-closed_at p = if any_text.is_closed p.lines then Ok tt else Err (kinds.AfterEnd, p.line)
+use Rattle.mat_cert.specs.Faults.{Fault}
+use Rattle.mat_cert.specs.Limits.{most_vertices}
+use Rattle.mat_cert.specs.LineReading.{word_at, has_words, number_at, size_at, weight_at, keyed_at, counted_at, version_at, set_at, option_at}
+use Rattle.mat_cert.specs.LineReading.{sets_at, counted_set_at, part_at, level_at, end_at, closed_at}
+use Rattle.mat_cert.specs.HeaderReading.{count_at, ladder_header_at, union_header_at, never_header_at, trees_header_at, classes_header_at}
+use Rattle.mat_cert.specs.HeaderReading.{entered_header_at, rainbow_header_at, assign_header_at}
+use Rattle.mat_cert.specs.Certificates.{Certificate, intersect, best, union_of, pack_any, pack, cover_never, cover, trees, trees_none}
+use Rattle.mat_cert.specs.Certificates.{arbor, unreached, disjoint, disjoint_none, rainbow, assign, is_short_of_tree}
 
 -- ---- rungs
 
@@ -138,36 +53,157 @@ rungs_at reader k (suc many) p = do
   others ← rungs_at reader (suc k) many first.1
   Ok (first.0 ∷ others.0, others.1)
 
--- ---- answers
+-- the rungs 0 to `last` of a ladder on n elements, with its cut
+unfoldable pub ladder_at : ℕ → ℕ → LinesLeft → Result (List PricedRung × List ℕ × LinesLeft) Fault
+ladder_at n last lines = do
+  rungs ← rungs_at (priced_rung_at n) 0 (suc last) lines
+  cut ← set_at (codes "cut") n rungs.1
+  Ok (rungs.0, cut.0, cut.1)
 
--- the two numbers of the header of a ladder: the elements, and the last rung
-unfoldable pub ladder_header_at : WordsLeft → Result (ℕ × ℕ) Fault
-ladder_header_at words = do
-  counted ← has_words 2 words
-  count ← size_at most_elements words
-  last ← size_at count.0 count.1
-  Ok (count.0, last.0)
+-- ---- answers, each from the words behind its command on
 
--- an `intersect` answer, from the words behind its command on
+-- `intersect`
 unfoldable pub intersect_at : WordsLeft → LinesLeft → Result (Certificate × LinesLeft) Fault
 intersect_at words lines = do
   header ← ladder_header_at words
-  rungs ← rungs_at (priced_rung_at header.0) 0 (suc header.1) lines
-  cut ← set_at (codes "cut") header.0 rungs.1
-  Ok (intersect header.0 rungs.0 cut.0, cut.1)
+  ladder ← ladder_at header.0 header.1 lines
+  Ok (intersect header.0 ladder.0 ladder.1, ladder.2)
 
--- a `best` answer, from the words behind its command on
+-- `best`
 unfoldable pub best_at : WordsLeft → LinesLeft → Result (Certificate × LinesLeft) Fault
 best_at words lines = do
   header ← ladder_header_at words
   rungs ← rungs_at (plain_rung_at header.0) 0 (suc header.1) lines
   Ok (best header.0 rungs.0, rungs.1)
 
+-- `union`
+unfoldable pub union_at : WordsLeft → LinesLeft → Result (Certificate × LinesLeft) Fault
+union_at words lines = do
+  header ← union_header_at words
+  parts ← sets_at (codes "part") header.0 header.1 lines
+  levels ← repeat_at (level_at header.0) header.2 parts.1
+  Ok (union_of header.0 header.3 parts.0 levels.0, levels.1)
+
+-- `pack` of n elements with a number of bases
+unfoldable pub bases_at : ℕ → WordsLeft → LinesLeft → Result (Certificate × LinesLeft) Fault
+bases_at n words lines = do
+  many ← size_at 0 n words
+  bases ← sets_at (codes "base") n many.0 lines
+  cut ← set_at (codes "cut") n bases.1
+  Ok (pack n bases.0 cut.0, cut.1)
+
+-- `pack`: with `any` or with a number of bases
+unfoldable pub pack_at : WordsLeft → LinesLeft → Result (Certificate × LinesLeft) Fault
+pack_at words lines = do
+  counted ← has_words 2 words
+  count ← count_at words
+  word ← word_at count.1
+  if bytes_eq word.0 (codes "any") then Ok (pack_any count.0, lines) else bases_at count.0 count.1 lines
+
+-- `cover` that says `never`
+unfoldable pub never_at : WordsLeft → LinesLeft → Result (Certificate × LinesLeft) Fault
+never_at words lines = do
+  header ← never_header_at words
+  Ok (cover_never header.0 header.1, lines)
+
+-- `cover` with sets
+unfoldable pub covering_at : WordsLeft → LinesLeft → Result (Certificate × LinesLeft) Fault
+covering_at words lines = do
+  header ← ladder_header_at words
+  sets ← sets_at (codes "part") header.0 header.1 lines
+  cut ← option_at (codes "cut") header.0 (nat_lt 0 header.1) sets.1
+  Ok (cover header.0 sets.0 cut.0, cut.1)
+
+-- `cover`: with three words or with two
+unfoldable pub cover_at : WordsLeft → LinesLeft → Result (Certificate × LinesLeft) Fault
+cover_at words lines = if length words.words == 3 then never_at words lines else covering_at words lines
+
+-- trees that are there, of edges or of arcs
+unfoldable pub found_trees_at : WordsLeft → LinesLeft → Result (ℕ × List (List ℕ) × LinesLeft) Fault
+found_trees_at words lines = do
+  header ← trees_header_at words
+  sets ← sets_at (codes "tree") header.0 header.1 lines
+  Ok (header.0, sets.0, sets.1)
+
+-- `trees` that says `none`
+unfoldable pub classes_at : WordsLeft → LinesLeft → Result (Certificate × LinesLeft) Fault
+classes_at words lines = do
+  header ← classes_header_at words
+  classes ← sets_at (codes "class") header.2 header.3 lines
+  Ok (trees_none header.0 header.1 header.2 classes.0, classes.1)
+
+-- `trees`: with five words or with two
+unfoldable pub trees_at : WordsLeft → LinesLeft → Result (Certificate × LinesLeft) Fault
+trees_at words lines = if length words.words == 5 then classes_at words lines else
+    (found_trees_at words lines >>= λ found. Ok (trees found.0 found.1, found.2))
+
+-- `arborescence` of n arcs that says `tree`
+unfoldable pub arbor_at : ℕ → WordsLeft → LinesLeft → Result (Certificate × LinesLeft) Fault
+arbor_at n words lines = do
+  cost ← weight_at words
+  arcs ← set_at (codes "set") n lines
+  first ← part_at (codes "first") n arcs.1
+  second ← part_at (codes "second") n first.1
+  Ok (arbor n cost.0 arcs.0 first.0 second.0, second.1)
+
+-- `arborescence` of n arcs that says `unreached`
+unfoldable pub unreached_at : ℕ → WordsLeft → LinesLeft → Result (Certificate × LinesLeft) Fault
+unreached_at n words lines = do
+  vertices ← size_at 1 most_vertices words
+  set ← set_at (codes "vertices") vertices.0 lines
+  Ok (unreached n vertices.0 set.0, set.1)
+
+-- `arborescence`: with `tree` or with `unreached`
+unfoldable pub arborescence_at : WordsLeft → LinesLeft → Result (Certificate × LinesLeft) Fault
+arborescence_at words lines = do
+  counted ← has_words 3 words
+  count ← count_at words
+  word ← word_at count.1
+  if bytes_eq word.0 (codes "tree") then arbor_at count.0 word.1 lines else
+      (if bytes_eq word.0 (codes "unreached") then unreached_at count.0 word.1 lines else Err (kinds.UnknownWord, words.line))
+
+-- `disjoint` that says `none`
+unfoldable pub entered_at : WordsLeft → LinesLeft → Result (Certificate × LinesLeft) Fault
+entered_at words lines = do
+  header ← entered_header_at words
+  set ← set_at (codes "vertices") header.2 lines
+  Ok (disjoint_none header.0 header.1 header.2 set.0, set.1)
+
+-- `disjoint`: with four words or with two
+unfoldable pub disjoint_at : WordsLeft → LinesLeft → Result (Certificate × LinesLeft) Fault
+disjoint_at words lines = if length words.words == 4 then entered_at words lines else
+    (found_trees_at words lines >>= λ found. Ok (disjoint found.0 found.1, found.2))
+
+-- `rainbow`
+unfoldable pub rainbow_at : WordsLeft → LinesLeft → Result (Certificate × LinesLeft) Fault
+rainbow_at words lines = do
+  header ← rainbow_header_at words
+  ladder ← ladder_at header.0 header.1 lines
+  missing ← option_at (codes "colours") header.3 (is_short_of_tree header.1 header.2) ladder.2
+  Ok (rainbow header.0 header.2 header.3 ladder.0 ladder.1 missing.0, missing.1)
+
+-- `assign`
+unfoldable pub assign_at : WordsLeft → LinesLeft → Result (Certificate × LinesLeft) Fault
+assign_at words lines = do
+  header ← assign_header_at words
+  ladder ← ladder_at header.0 header.1 lines
+  Ok (assign header.0 header.2 header.3 ladder.0 ladder.1, ladder.2)
+
+-- ---- whole certificates
+
 -- the answer of the command that this word names, from the words behind it on
 unfoldable pub answer_of_command : List ℕ → WordsLeft → LinesLeft → Result (Certificate × LinesLeft) Fault
 answer_of_command command words lines =
     if bytes_eq command (codes "intersect") then intersect_at words lines else
-    (if bytes_eq command (codes "best") then best_at words lines else Err (kinds.UnknownWord, words.line))
+    (if bytes_eq command (codes "best") then best_at words lines else
+    (if bytes_eq command (codes "union") then union_at words lines else
+    (if bytes_eq command (codes "pack") then pack_at words lines else
+    (if bytes_eq command (codes "cover") then cover_at words lines else
+    (if bytes_eq command (codes "trees") then trees_at words lines else
+    (if bytes_eq command (codes "arborescence") then arborescence_at words lines else
+    (if bytes_eq command (codes "disjoint") then disjoint_at words lines else
+    (if bytes_eq command (codes "rainbow") then rainbow_at words lines else
+    (if bytes_eq command (codes "assign") then assign_at words lines else Err (kinds.UnknownWord, words.line))))))))))
 
 -- the answer from its header line on
 unfoldable pub answer_at : LinesLeft → Result (Certificate × LinesLeft) Fault

@@ -1,158 +1,21 @@
 //! Reading an answer from its text.
 
-ghost use Rattle.std.specs.Prelude.{◌≡◌, ◌≤◌, suc, length, IfOk, Ok};
+ghost use Rattle.std.specs.Prelude.{◌≡◌, ◌≤◌, length, IfOk, Ok};
 ghost use Rattle.mat_words.specs.Cursors.{lines_left, words_left};
 ghost use Rattle.mat_cert.specs.Certificates.{Certificate, IsRanged, certificate_text};
 ghost use Rattle.mat_cert.specs.Faults.{Gives};
-ghost use Rattle.mat_cert.specs.Limits.{most_elements, certificate_limit};
-ghost use Rattle.mat_cert.specs.Reading.{rung_at, plain_rung_at, priced_rung_at, rungs_at, ladder_header_at, intersect_at, best_at};
+ghost use Rattle.mat_cert.specs.Limits.{certificate_limit};
 ghost use Rattle.mat_cert.specs.Reading.{answer_of_command, answer_at, certificate_at, read_of};
 ghost use Rattle.mat_cert.specs.Views.{certificate_of};
 
-use crate::answer::{Answer, PlainRung, PricedRung};
-use crate::limits::{LARGEST_NUMBER, MOST_ELEMENTS};
-use crate::reading::{
-    closed, counted_line, counted_set_line, has_this_many, last_line, part_line, set_line,
-    version_line,
-};
+use crate::answer::Answer;
+use crate::ladders::{assign, best, intersect, rainbow};
+use crate::lines::{closed, last_line, version_line};
+use crate::packing::{cover, pack, union};
 use crate::refusal::{CertKind, CertRefusal, fault};
-use mat_sets::Weight;
-use mat_words::{
-    LineCursor, WordCursor, keyed_line, next_number, next_size, next_weight, next_word,
-};
+use crate::spanning::{arborescence, disjoint, trees};
+use mat_words::{LineCursor, WordCursor, keyed_line, next_word};
 use std::alloc::Global;
-
-/// The first line of rung k, with its weight.
-#[tactic(auto, unfolding(crate::specs::Reading::rung_at))]
-fn rung_line<'a>(lines: LineCursor<'a>, k: u32) -> Result<(Weight, LineCursor<'a>), CertRefusal>
-    ensures { Gives (λ x. (x.0, lines_left x.1)) result (rung_at k (lines_left lines.entry)) }
-{
-    let (words, rest) = counted_line(lines, b"rung", 2)?;
-    let (_, words) = next_number(words, k as i128, k as i128)?;
-    let (weight, _) = next_weight(words, -LARGEST_NUMBER, LARGEST_NUMBER)?;
-    Ok((weight, rest))
-}
-
-/// Rung k of `count` elements without a split.
-#[tactic(auto, unfolding(crate::specs::Reading::plain_rung_at))]
-fn plain_rung<'a>(
-    alloc: Global,
-    lines: LineCursor<'a>,
-    count: u32,
-    k: u32,
-) -> Result<(PlainRung, LineCursor<'a>), CertRefusal>
-    ensures { Gives (λ x. (x.0, lines_left x.1)) result (plain_rung_at count k (lines_left lines.entry)) }
-{
-    let (weight, lines) = rung_line(lines, k)?;
-    let (set, lines) = counted_set_line(alloc, lines, count, k)?;
-    Ok((PlainRung { weight, set }, lines))
-}
-
-/// Rung k of `count` elements with a split.
-#[tactic(auto, unfolding(crate::specs::Reading::priced_rung_at))]
-fn priced_rung<'a>(
-    alloc: Global,
-    lines: LineCursor<'a>,
-    count: u32,
-    k: u32,
-) -> Result<(PricedRung, LineCursor<'a>), CertRefusal>
-    ensures { Gives (λ x. (x.0, lines_left x.1)) result (priced_rung_at count k (lines_left lines.entry)) }
-{
-    let (weight, lines) = rung_line(lines, k)?;
-    let (set, lines) = counted_set_line(alloc, lines, count, k)?;
-    let (first, lines) = part_line(alloc, lines, b"first", count)?;
-    let (second, lines) = part_line(alloc, lines, b"second", count)?;
-    let rung = PricedRung {
-        weight,
-        set,
-        first,
-        second,
-    };
-    Ok((rung, lines))
-}
-
-/// The rungs from 0 on of `count` elements without a split.
-fn plain_rungs<'a>(
-    alloc: Global,
-    lines: LineCursor<'a>,
-    count: u32,
-    many: u32,
-) -> Result<(Vec<PlainRung>, LineCursor<'a>), CertRefusal>
-    ensures { Gives (λ x. (x.0.items, lines_left x.1)) result
-        (rungs_at (plain_rung_at count) 0 many (lines_left lines.entry)) }
-{
-    let mut rungs = Vec::new(alloc);
-    let mut rest = lines;
-    for k in 0..many {
-        let (rung, after) = plain_rung(alloc, rest, count, k)?;
-        rungs.push(rung)?;
-        rest = after;
-    }
-    Ok((rungs, rest))
-}
-
-/// The rungs from 0 on of `count` elements with a split.
-fn priced_rungs<'a>(
-    alloc: Global,
-    lines: LineCursor<'a>,
-    count: u32,
-    many: u32,
-) -> Result<(Vec<PricedRung>, LineCursor<'a>), CertRefusal>
-    ensures { Gives (λ x. (x.0.items, lines_left x.1)) result
-        (rungs_at (priced_rung_at count) 0 many (lines_left lines.entry)) }
-{
-    let mut rungs = Vec::new(alloc);
-    let mut rest = lines;
-    for k in 0..many {
-        let (rung, after) = priced_rung(alloc, rest, count, k)?;
-        rungs.push(rung)?;
-        rest = after;
-    }
-    Ok((rungs, rest))
-}
-
-/// The two numbers of the header of a ladder: the elements, and the last rung.
-#[tactic(auto, unfolding(crate::specs::Reading::ladder_header_at))]
-fn ladder_header(words: WordCursor<'_>) -> Result<(u32, u32), CertRefusal>
-    ensures value { Gives (λ x. x) result (ladder_header_at (words_left words.entry)) }
-    ensures range { IfOk result (λ x. (x.1 ≤ x.0) × (x.0 ≤ most_elements)) }
-{
-    has_this_many(words, 2)?;
-    let (count, words) = next_size(words, 0, MOST_ELEMENTS)?;
-    let (last, _) = next_size(words, 0, count)?;
-    Ok((count, last))
-}
-
-/// An `intersect` answer, from the words behind its command on.
-#[tactic(auto, unfolding(crate::specs::Reading::intersect_at))]
-fn intersect<'a>(
-    alloc: Global,
-    words: WordCursor<'a>,
-    lines: LineCursor<'a>,
-) -> Result<(Answer, LineCursor<'a>), CertRefusal>
-    ensures { Gives (λ x. (certificate_of x.0, lines_left x.1)) result
-        (intersect_at (words_left words.entry) (lines_left lines.entry)) }
-{
-    let (count, last) = ladder_header(words)?;
-    let (rungs, lines) = priced_rungs(alloc, lines, count, last + 1)?;
-    let (cut, lines) = set_line(alloc, lines, b"cut", count)?;
-    Ok((Answer::Intersect { count, rungs, cut }, lines))
-}
-
-/// A `best` answer, from the words behind its command on.
-#[tactic(auto, unfolding(crate::specs::Reading::best_at))]
-fn best<'a>(
-    alloc: Global,
-    words: WordCursor<'a>,
-    lines: LineCursor<'a>,
-) -> Result<(Answer, LineCursor<'a>), CertRefusal>
-    ensures { Gives (λ x. (certificate_of x.0, lines_left x.1)) result
-        (best_at (words_left words.entry) (lines_left lines.entry)) }
-{
-    let (count, last) = ladder_header(words)?;
-    let (rungs, lines) = plain_rungs(alloc, lines, count, last + 1)?;
-    Ok((Answer::Best { count, rungs }, lines))
-}
 
 /// The answer of the command that this word names, from the words behind it on.
 #[tactic(auto, unfolding(crate::specs::Reading::answer_of_command))]
@@ -169,6 +32,22 @@ fn answer_to_command<'a>(
         intersect(alloc, words, lines)
     } else if command == b"best".as_slice() {
         best(alloc, words, lines)
+    } else if command == b"union".as_slice() {
+        union(alloc, words, lines)
+    } else if command == b"pack".as_slice() {
+        pack(alloc, words, lines)
+    } else if command == b"cover".as_slice() {
+        cover(alloc, words, lines)
+    } else if command == b"trees".as_slice() {
+        trees(alloc, words, lines)
+    } else if command == b"arborescence".as_slice() {
+        arborescence(alloc, words, lines)
+    } else if command == b"disjoint".as_slice() {
+        disjoint(alloc, words, lines)
+    } else if command == b"rainbow".as_slice() {
+        rainbow(alloc, words, lines)
+    } else if command == b"assign".as_slice() {
+        assign(alloc, words, lines)
     } else {
         Err(fault(CertKind::UnknownWord, words.line))
     }
@@ -220,6 +99,8 @@ pub fn read_answer(alloc: Global, text: &[u8]) -> Result<Answer, CertRefusal>
 #[cfg(test)]
 mod tests {
     use super::*;
+    use crate::write::write_answer;
+    use std::test::Fail;
 
     // The kind's number and the line of the first fault, or 0 and 0.
     fn first_fault(alloc: Global, text: &[u8]) -> (u32, u32)
@@ -246,10 +127,7 @@ mod tests {
             (1, 2)
         );
         assert_eq!(rt; first_fault(alloc, b"certificate 2\n"), (2, 1));
-        assert_eq!(rt;
-            first_fault(alloc, b"certificate 1\nanswer cover\n"),
-            (2, 2)
-        );
+        assert_eq!(rt; first_fault(alloc, b"certificate 1\nanswer cuts\n"), (2, 2));
         assert_eq!(rt;
             first_fault(alloc, b"certificate 1\nanswer best 01 0\n"),
             (3, 2)
@@ -288,5 +166,173 @@ mod tests {
             ),
             (8, 6)
         );
+    }
+
+    #[test]
+    fn tells_the_first_fault_of_a_header(rt: HostRuntime) {
+        let alloc = rt.alloc();
+        assert_eq!(rt;
+            first_fault(alloc, b"certificate 1\nanswer cover 2 nope 0\n"),
+            (2, 2)
+        );
+        assert_eq!(rt;
+            first_fault(alloc, b"certificate 1\nanswer cover 2 never\n"),
+            (3, 2)
+        );
+        assert_eq!(rt;
+            first_fault(alloc, b"certificate 1\nanswer cover 2 never 2\n"),
+            (4, 2)
+        );
+        assert_eq!(rt;
+            first_fault(alloc, b"certificate 1\nanswer trees 1 1 none 2\n"),
+            (6, 2)
+        );
+        assert_eq!(rt;
+            first_fault(alloc, b"certificate 1\nanswer arborescence 1 forest 0\n"),
+            (2, 2)
+        );
+        assert_eq!(rt;
+            first_fault(alloc, b"certificate 1\nanswer pack 1 2\n"),
+            (4, 2)
+        );
+        assert_eq!(rt;
+            first_fault(
+                alloc,
+                b"certificate 1\nanswer disjoint 9 1 none 3\nvertices 3\n"
+            ),
+            (4, 3)
+        );
+        assert_eq!(rt;
+            first_fault(
+                alloc,
+                b"certificate 1\nanswer union 2 1 1 0\npart 1\nlevel\n"
+            ),
+            (6, 4)
+        );
+    }
+
+    // Whether a text is read, and written as it was.
+    fn comes_back(alloc: Global, text: &[u8]) -> Result<bool, Fail>
+        requires { length text.now ≤ certificate_limit }
+    {
+        let answer = read_answer(alloc, text)?;
+        let written = write_answer(alloc, &answer)?;
+        Ok(written.as_slice() == text)
+    }
+
+    #[test]
+    fn writes_ladders_as_they_were_read(rt: HostRuntime) -> Result<(), Fail> {
+        let alloc = rt.alloc();
+        assert!(rt;
+            comes_back(
+                alloc,
+                b"certificate 1\nanswer intersect 3 1\n\
+rung 0 0\nset\nfirst 4 -1:2 3\nsecond 0 0 0\n\
+rung 1 -1000000000000000000000000000000\nset 2\nfirst 4 -1:2 3\nsecond 0 0 1000000000000000000000000000000:-1\n\
+cut 0 2\nend\n"
+            )?
+        );
+        assert!(rt;
+            comes_back(
+                alloc,
+                b"certificate 1\nanswer best 2 1\nrung 0 0\nset\nrung 1 7\nset 1\nend\n"
+            )?
+        );
+        assert!(rt;
+            comes_back(
+                alloc,
+                b"certificate 1\nanswer rainbow 3 2 3 2\n\
+rung 0 0\nset\nfirst 3 2 1\nsecond 0 0 0\n\
+rung 1 3\nset 0\nfirst 3 2 1\nsecond 0 0 0\n\
+rung 2 4\nset 0 2\nfirst 2 1 1\nsecond 1 1 0\n\
+cut\nend\n"
+            )?
+        );
+        assert!(rt;
+            comes_back(
+                alloc,
+                b"certificate 1\nanswer rainbow 2 1 3 1\n\
+rung 0 0\nset\nfirst 1 1\nsecond 0 0\n\
+rung 1 1\nset 0\nfirst 1 1\nsecond 0 0\n\
+cut 0 1\ncolours 0\nend\n"
+            )?
+        );
+        assert!(rt;
+            comes_back(
+                alloc,
+                b"certificate 1\nanswer assign 1 1 2 2\n\
+rung 0 0\nset\nfirst 5\nsecond 0\nrung 1 5\nset 0\nfirst 5\nsecond 0\ncut\nend\n"
+            )?
+        );
+        Ok(())
+    }
+
+    #[test]
+    fn writes_packings_and_covers_as_they_were_read(rt: HostRuntime) -> Result<(), Fail> {
+        let alloc = rt.alloc();
+        assert!(rt;
+            comes_back(
+                alloc,
+                b"certificate 1\nanswer union 3 2 2 10\npart 0\npart 1\nlevel 5\nlevel 2 0 1 2\nend\n"
+            )?
+        );
+        assert!(rt; comes_back(alloc, b"certificate 1\nanswer pack 2 any\nend\n")?);
+        assert!(rt;
+            comes_back(
+                alloc,
+                b"certificate 1\nanswer pack 5 2\nbase 0 1\nbase 2 3\ncut\nend\n"
+            )?
+        );
+        assert!(rt; comes_back(alloc, b"certificate 1\nanswer cover 2 never 0\nend\n")?);
+        assert!(rt;
+            comes_back(
+                alloc,
+                b"certificate 1\nanswer cover 5 3\npart 0 1\npart 2 3\npart 4\ncut 0 1 2 3 4\nend\n"
+            )?
+        );
+        assert!(rt; comes_back(alloc, b"certificate 1\nanswer cover 0 0\nend\n")?);
+        Ok(())
+    }
+
+    #[test]
+    fn writes_trees_as_they_were_read(rt: HostRuntime) -> Result<(), Fail> {
+        let alloc = rt.alloc();
+        assert!(rt;
+            comes_back(
+                alloc,
+                b"certificate 1\nanswer trees 6 2\ntree 0 3 5\ntree 1 2 4\nend\n"
+            )?
+        );
+        assert!(rt;
+            comes_back(
+                alloc,
+                b"certificate 1\nanswer trees 6 3 none 4 4\nclass 0\nclass 1\nclass 2\nclass 3\nend\n"
+            )?
+        );
+        assert!(rt;
+            comes_back(
+                alloc,
+                b"certificate 1\nanswer arborescence 4 tree 3\nset 1 2\nfirst -3 -2 0 0\nsecond -2 0 -1 0\nend\n"
+            )?
+        );
+        assert!(rt;
+            comes_back(
+                alloc,
+                b"certificate 1\nanswer arborescence 0 unreached 2\nvertices 1\nend\n"
+            )?
+        );
+        assert!(rt;
+            comes_back(
+                alloc,
+                b"certificate 1\nanswer disjoint 4 2\ntree 0 2\ntree 1 3\nend\n"
+            )?
+        );
+        assert!(rt;
+            comes_back(
+                alloc,
+                b"certificate 1\nanswer disjoint 3 2 none 3\nvertices 2\nend\n"
+            )?
+        );
+        Ok(())
     }
 }

@@ -2,11 +2,21 @@
 #![tactic(auto)]
 
 mod answer;
+mod answer_texts;
 mod certificate;
+mod header_text;
+mod headers;
+mod ladders;
 mod laws;
 mod limits;
-mod reading;
+mod lines;
+mod packing;
 mod refusal;
+mod rung_texts;
+mod set_lines;
+mod set_texts;
+mod spanning;
+mod words;
 mod write;
 
 pub use answer::{Answer, LevelLine, PlainRung, PricedRung};

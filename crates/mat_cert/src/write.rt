@@ -1,174 +1,16 @@
 //! The text of an answer.
-ghost use Rattle.std.specs.Prelude.{◌≡◌, ◌++◌, ◌∷◌, [], codes, pos, IfOk, OnOk};
-ghost use Rattle.mat_words.specs.Lines.{text_of};
-ghost use Rattle.mat_words.specs.Writing.{end_line, members_line};
-ghost use Rattle.mat_cert.specs.Certificates.{IsRanged, certificate_text, intersect, best};
-ghost use Rattle.mat_cert.specs.Certificates.{version_line, ladder_header, rung_line, plain_rung_lines, priced_rung_lines, rungs_lines};
+
+ghost use Rattle.std.specs.Prelude.{◌≡◌, IfOk};
+ghost use Rattle.mat_cert.specs.Certificates.{IsRanged, certificate_text};
 ghost use Rattle.mat_cert.specs.Views.{certificate_of};
-ghost use Rattle.mat_cert.specs.Writing.{IsWeightsLine};
 
-use crate::answer::{Answer, PlainRung, PricedRung};
-use mat_sets::{ElemSet, Weight};
-use mat_words::{put_members_line, put_number_word, put_weight_word, put_weights_line};
+use crate::answer::Answer;
+use crate::answer_texts::{
+    arbor_text, assign_text, best_text, classes_text, cover_text, disjoint_text, entered_text,
+    intersect_text, never_text, pack_any_text, pack_text, rainbow_text, trees_text, union_text,
+    unreached_text,
+};
 use std::alloc::{AllocError, Global};
-
-// Appends the first line of rung k.
-fn put_rung_line(out: &mut Vec<u8>, k: usize, weight: Weight) -> Result<(), AllocError>
-    ensures { OnOk result (out.new.items ≡ out.old.items ++ text_of (rung_line k weight ∷ [])) }
-{
-    out.extend_from_slice(b"rung")?;
-    put_number_word(out, k as i128)?;
-    put_weight_word(out, weight)?;
-    out.push(b'\n')?;
-    Ok(())
-}
-
-// A line of weights with its text, at hand for the next rung, whose weights are often the same.
-#[derive(Drop)]
-struct WrittenLine<'a> {
-    weights: &'a [Weight],
-    text: Vec<u8>,
-}
-
-// The line of a keyword and no weights.
-fn empty_line<'a>(alloc: Global, keyword: &[u8]) -> Result<WrittenLine<'a>, AllocError>
-    ensures { IfOk result (λ line. IsWeightsLine keyword.now line.weights.now line.text.items) }
-{
-    let mut text = Vec::new(alloc);
-    put_weights_line(&mut text, keyword, &[])?;
-    Ok(WrittenLine { weights: &[], text })
-}
-
-// The line of these weights. It is written anew only where they are others than those of the line before.
-fn renewed_line<'a>(
-    before: WrittenLine<'a>,
-    keyword: &[u8],
-    weights: &'a [Weight],
-) -> Result<WrittenLine<'a>, AllocError>
-    requires { IsWeightsLine keyword.now before.weights.now before.text.items }
-    ensures weights { IfOk result (λ line. line.weights.now ≡ weights.now) }
-    ensures text { IfOk result (λ line. IsWeightsLine keyword.now weights.now line.text.items) }
-{
-    if before.weights == weights {
-        return Ok(before);
-    }
-    let mut text = before.text;
-    text.clear();
-    put_weights_line(&mut text, keyword, weights)?;
-    Ok(WrittenLine { weights, text })
-}
-
-// Appends the two lines of rung k that tell its weight and its set.
-fn put_weighted_set(
-    out: &mut Vec<u8>,
-    k: usize,
-    weight: Weight,
-    set: &ElemSet,
-) -> Result<(), AllocError>
-    ensures { OnOk result (out.new.items ≡ out.old.items ++ text_of (rung_line k weight ∷ members_line (codes "set") set.now ∷ [])) }
-{
-    put_rung_line(out, k, weight)?;
-    put_members_line(out, b"set", set.as_slice())?;
-    Ok(())
-}
-
-// Appends the four lines of rung k with a split, of which the last two were written before.
-fn put_priced_rung(
-    out: &mut Vec<u8>,
-    k: usize,
-    rung: &PricedRung,
-    first: &[u8],
-    second: &[u8],
-) -> Result<(), AllocError>
-    requires first { IsWeightsLine (codes "first") rung.now.first first.now }
-    requires second { IsWeightsLine (codes "second") rung.now.second second.now }
-    ensures { OnOk result (out.new.items ≡ out.old.items ++ text_of (priced_rung_lines k rung.now)) }
-{
-    put_weighted_set(out, k, rung.weight, &rung.set)?;
-    out.extend_from_slice(first)?;
-    out.extend_from_slice(second)?;
-    Ok(())
-}
-
-// Appends the lines of all rungs without a split.
-fn put_plain_rungs(out: &mut Vec<u8>, rungs: &[PlainRung]) -> Result<(), AllocError>
-    ensures { OnOk result (out.new.items ≡ out.old.items ++ text_of (rungs_lines plain_rung_lines 0 rungs.now)) }
-{
-    for (k, rung) in rungs.iter().enumerate() {
-        put_weighted_set(out, k, rung.weight, &rung.set)?;
-    }
-    Ok(())
-}
-
-// Appends the lines of all rungs with a split.
-fn put_priced_rungs(
-    alloc: Global,
-    out: &mut Vec<u8>,
-    rungs: &[PricedRung],
-) -> Result<(), AllocError>
-    ensures { OnOk result (out.new.items ≡ out.old.items ++ text_of (rungs_lines priced_rung_lines 0 rungs.now)) }
-{
-    let mut first = empty_line(alloc, b"first")?;
-    let mut second = empty_line(alloc, b"second")?;
-    for (k, rung) in rungs.iter().enumerate() {
-        first = renewed_line(first, b"first", rung.first.as_slice())?;
-        second = renewed_line(second, b"second", rung.second.as_slice())?;
-        put_priced_rung(out, k, rung, &first.text, &second.text)?;
-    }
-    Ok(())
-}
-
-// Appends the two lines that begin a ladder of this command on `count` elements with rungs 0 to `last`.
-fn put_ladder_header(
-    out: &mut Vec<u8>,
-    command: &[u8],
-    count: u32,
-    last: usize,
-) -> Result<(), AllocError>
-    ensures { OnOk result (out.new.items ≡ out.old.items ++ text_of (version_line ∷ ladder_header command.now count last ∷ [])) }
-{
-    out.extend_from_slice(b"certificate 1\nanswer ")?;
-    out.extend_from_slice(command)?;
-    put_number_word(out, i128::from(count))?;
-    put_number_word(out, last as i128)?;
-    out.push(b'\n')?;
-    Ok(())
-}
-
-// Appends the last line.
-fn put_end_line(out: &mut Vec<u8>) -> Result<(), AllocError>
-    ensures { OnOk result (out.new.items ≡ out.old.items ++ text_of (end_line ∷ [])) }
-{
-    out.extend_from_slice(b"end\n")
-}
-
-// The text of an `intersect` certificate.
-fn intersect_text(
-    alloc: Global,
-    count: u32,
-    rungs: &[PricedRung],
-    cut: &ElemSet,
-) -> Result<Vec<u8>, AllocError>
-    ensures { IfOk result (λ v. v.items ≡ certificate_text (intersect count rungs.now cut.now)) }
-{
-    let mut out = Vec::new(alloc);
-    put_ladder_header(&mut out, b"intersect", count, rungs.len().saturating_sub(1))?;
-    put_priced_rungs(alloc, &mut out, rungs)?;
-    put_members_line(&mut out, b"cut", cut.as_slice())?;
-    put_end_line(&mut out)?;
-    Ok(out)
-}
-
-// The text of a `best` certificate.
-fn best_text(alloc: Global, count: u32, rungs: &[PlainRung]) -> Result<Vec<u8>, AllocError>
-    ensures { IfOk result (λ v. v.items ≡ certificate_text (best count rungs.now)) }
-{
-    let mut out = Vec::new(alloc);
-    put_ladder_header(&mut out, b"best", count, rungs.len().saturating_sub(1))?;
-    put_plain_rungs(&mut out, rungs)?;
-    put_end_line(&mut out)?;
-    Ok(out)
-}
 
 /// The one text of an answer whose numbers and lists are in range. It takes memory for the text and for two of its lines.
 pub fn write_answer(alloc: Global, answer: &Answer) -> Result<Vec<u8>, AllocError>
@@ -178,38 +20,56 @@ pub fn write_answer(alloc: Global, answer: &Answer) -> Result<Vec<u8>, AllocErro
     match answer {
         Answer::Intersect { count, rungs, cut } => intersect_text(alloc, *count, rungs, cut),
         Answer::Best { count, rungs } => best_text(alloc, *count, rungs),
-        _ => unreachable!(),
-    }
-}
-
-#[cfg(test)]
-mod tests {
-    use super::*;
-    use crate::certificate::read_answer;
-    use std::test::Fail;
-
-    #[test]
-    fn writes_a_ladder_with_splits_as_it_was_read(rt: HostRuntime) -> Result<(), Fail> {
-        let alloc = rt.alloc();
-        let text = b"certificate 1\nanswer intersect 3 1\n\
-rung 0 0\nset\nfirst 4 -1:2 3\nsecond 0 0 0\n\
-rung 1 -1000000000000000000000000000000\nset 2\nfirst 4 -1:2 3\nsecond 0 0 1000000000000000000000000000000:-1\n\
-cut 0 2\nend\n"
-            .as_slice();
-        let answer = read_answer(alloc, text)?;
-        let written = write_answer(alloc, &answer)?;
-        assert!(rt; written.as_slice() == text);
-        Ok(())
-    }
-
-    #[test]
-    fn writes_a_ladder_without_splits_as_it_was_read(rt: HostRuntime) -> Result<(), Fail> {
-        let alloc = rt.alloc();
-        let text =
-            b"certificate 1\nanswer best 2 1\nrung 0 0\nset\nrung 1 7\nset 1\nend\n".as_slice();
-        let answer = read_answer(alloc, text)?;
-        let written = write_answer(alloc, &answer)?;
-        assert!(rt; written.as_slice() == text);
-        Ok(())
+        Answer::UnionOf {
+            count,
+            weight,
+            parts,
+            levels,
+        } => union_text(alloc, *count, *weight, parts, levels),
+        Answer::PackAny { count } => pack_any_text(alloc, *count),
+        Answer::Pack { count, bases, cut } => pack_text(alloc, *count, bases, cut),
+        Answer::CoverNever { count, loop_at } => never_text(alloc, *count, *loop_at),
+        Answer::Cover { count, sets, cut } => cover_text(alloc, *count, sets, cut),
+        Answer::Trees { count, trees } => trees_text(alloc, *count, trees),
+        Answer::TreesNone {
+            count,
+            k,
+            vertices,
+            classes,
+        } => classes_text(alloc, *count, *k, *vertices, classes),
+        Answer::Arbor {
+            count,
+            cost,
+            arcs,
+            first,
+            second,
+        } => arbor_text(alloc, *count, *cost, arcs, first, second),
+        Answer::Unreached {
+            count,
+            vertices,
+            set,
+        } => unreached_text(alloc, *count, *vertices, set),
+        Answer::Disjoint { count, trees } => disjoint_text(alloc, *count, trees),
+        Answer::DisjointNone {
+            count,
+            k,
+            vertices,
+            set,
+        } => entered_text(alloc, *count, *k, *vertices, set),
+        Answer::Rainbow {
+            count,
+            vertices,
+            colours,
+            rungs,
+            cut,
+            missing,
+        } => rainbow_text(alloc, *count, *vertices, *colours, rungs, cut, missing),
+        Answer::Assign {
+            count,
+            rows,
+            columns,
+            rungs,
+            cut,
+        } => assign_text(alloc, *count, *rows, *columns, rungs, cut),
     }
 }

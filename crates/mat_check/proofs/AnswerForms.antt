@@ -1,86 +1,287 @@
--- The two forms of answers that can be right or in range: a ladder of two matroids, and the heaviest sets of one.
-use Rattle.std.proofs.Common.{◌≡◌, ℕ, true, List, [], ◌∷◌, length, arith}
+-- The forms of answers that fit a problem: what holds of each of these forms holds of every answer that fits, and a right one does.
+use Rattle.std.proofs.Common.{◌≡◌, ◌↔◌, ℕ, true, List, [], ◌∷◌, length, Option, None, refl, arith}
 use Rattle.std.proofs.lemmas.Bool.{eqb-true, false≢true}
 use Rattle.mat_sets.specs.declared.weight.Weight.{Weight}
 use Rattle.mat_any.specs.Trees.{Tree}
+use Rattle.mat_desc.specs.Grammar.{IsValid}
 use Rattle.mat_desc.specs.Instances.{Instance, pair, list, graph, rooted, coloured, table}
+use Rattle.mat_desc.specs.Soundness.{IsSoundInstance}
 use Rattle.mat_cert.specs.Certificates.{Certificate, IsRanged, intersect, best, union_of, pack_any, pack, cover_never, cover, trees, trees_none}
 use Rattle.mat_cert.specs.Certificates.{arbor, unreached, disjoint, disjoint_none, rainbow, assign}
+use Rattle.mat_cert.specs.declared.answer.LevelLine.{LevelLine}
 use Rattle.mat_cert.specs.declared.answer.PlainRung.{PlainRung}
 use Rattle.mat_cert.specs.declared.answer.PricedRung.{PricedRung}
-use Rattle.mat_check.specs.Fitting.{fits}
+use Rattle.mat_check.specs.AnswerClauses.{failure_of}
+use Rattle.mat_check.specs.Fitting.{fits, is_pair, is_list, is_single, is_graph, is_rooted, is_coloured, is_table}
+use Rattle.mat_check.specs.Optimal.{IsOptimal}
 use Rattle.mat_check.specs.Right.{IsRight}
 
-module _ (P : Instance → Certificate → Type 0)
-    (ladder : (w : List Weight) (first second : Tree) (n : ℕ) (rungs : List PricedRung) (cut : List ℕ)
-    → P (pair w first second) (intersect n rungs cut))
-    (single : (w : List Weight) (matroid : Tree) (n : ℕ) (rungs : List PlainRung) → P (list w (matroid ∷ [])) (best n rungs)) where
-  -- what holds of both forms holds of every answer in range that fits
-  pub by_fitting : (answer : Certificate) (instance : Instance) → IsRanged answer → fits instance answer ≡ true → P instance answer
-  by_fitting (intersect n rungs cut) (pair w first second) ranged fitting = ladder w first second n rungs cut
-  by_fitting (intersect n rungs cut) (list _ _) ranged fitting = absurd (false≢true fitting)
-  by_fitting (intersect n rungs cut) (graph _ _) ranged fitting = absurd (false≢true fitting)
-  by_fitting (intersect n rungs cut) (rooted _ _ _ _) ranged fitting = absurd (false≢true fitting)
-  by_fitting (intersect n rungs cut) (coloured _ _ _ _ _) ranged fitting = absurd (false≢true fitting)
-  by_fitting (intersect n rungs cut) (table _ _ _ _) ranged fitting = absurd (false≢true fitting)
-  by_fitting (best n rungs) (pair w first second) ranged fitting = absurd (false≢true fitting)
-  by_fitting (best n rungs) (list w []) ranged fitting = absurd (false≢true fitting)
-  by_fitting (best n rungs) (list w (matroid ∷ [])) ranged fitting = single w matroid n rungs
-  by_fitting (best n rungs) (list w (matroid ∷ other ∷ others)) ranged fitting =
-      let one = eqb-true (length (matroid ∷ other ∷ others)) 1 fitting in absurd (omega arith)
-  by_fitting (best n rungs) (graph _ _) ranged fitting = absurd (false≢true fitting)
-  by_fitting (best n rungs) (rooted _ _ _ _) ranged fitting = absurd (false≢true fitting)
-  by_fitting (best n rungs) (coloured _ _ _ _ _) ranged fitting = absurd (false≢true fitting)
-  by_fitting (best n rungs) (table _ _ _ _) ranged fitting = absurd (false≢true fitting)
-  by_fitting (union_of _ _ _ _) instance ranged fitting = absurd ranged
-  by_fitting (pack_any _) instance ranged fitting = absurd ranged
-  by_fitting (pack _ _ _) instance ranged fitting = absurd ranged
-  by_fitting (cover_never _ _) instance ranged fitting = absurd ranged
-  by_fitting (cover _ _ _) instance ranged fitting = absurd ranged
-  by_fitting (trees _ _) instance ranged fitting = absurd ranged
-  by_fitting (trees_none _ _ _ _) instance ranged fitting = absurd ranged
-  by_fitting (arbor _ _ _ _ _) instance ranged fitting = absurd ranged
-  by_fitting (unreached _ _ _) instance ranged fitting = absurd ranged
-  by_fitting (disjoint _ _) instance ranged fitting = absurd ranged
-  by_fitting (disjoint_none _ _ _ _) instance ranged fitting = absurd ranged
-  by_fitting (rainbow _ _ _ _ _ _) instance ranged fitting = absurd ranged
-  by_fitting (assign _ _ _ _ _) instance ranged fitting = absurd ranged
+-- ---- what is shown of each form
 
-  -- and of every right answer
-  pub by_right : (instance : Instance) (answer : Certificate) → IsRight instance answer → P instance answer
-  by_right (pair w first second) (intersect n rungs cut) right = ladder w first second n rungs cut
-  by_right (pair w first second) (best n rungs) right = absurd right
-  by_right (pair w first second) (union_of _ _ _ _) right = absurd right
-  by_right (pair w first second) (pack_any _) right = absurd right
-  by_right (pair w first second) (pack _ _ _) right = absurd right
-  by_right (pair w first second) (cover_never _ _) right = absurd right
-  by_right (pair w first second) (cover _ _ _) right = absurd right
-  by_right (pair w first second) (trees _ _) right = absurd right
-  by_right (pair w first second) (trees_none _ _ _ _) right = absurd right
-  by_right (pair w first second) (arbor _ _ _ _ _) right = absurd right
-  by_right (pair w first second) (unreached _ _ _) right = absurd right
-  by_right (pair w first second) (disjoint _ _) right = absurd right
-  by_right (pair w first second) (disjoint_none _ _ _ _) right = absurd right
-  by_right (pair w first second) (rainbow _ _ _ _ _ _) right = absurd right
-  by_right (pair w first second) (assign _ _ _ _ _) right = absurd right
-  by_right (list w []) answer right = absurd right
-  by_right (list w (matroid ∷ other ∷ others)) answer right = absurd right
-  by_right (list w (matroid ∷ [])) (best n rungs) right = single w matroid n rungs
-  by_right (list w (matroid ∷ [])) (intersect n rungs cut) right = absurd right
-  by_right (list w (matroid ∷ [])) (union_of _ _ _ _) right = absurd right
-  by_right (list w (matroid ∷ [])) (pack_any _) right = absurd right
-  by_right (list w (matroid ∷ [])) (pack _ _ _) right = absurd right
-  by_right (list w (matroid ∷ [])) (cover_never _ _) right = absurd right
-  by_right (list w (matroid ∷ [])) (cover _ _ _) right = absurd right
-  by_right (list w (matroid ∷ [])) (trees _ _) right = absurd right
-  by_right (list w (matroid ∷ [])) (trees_none _ _ _ _) right = absurd right
-  by_right (list w (matroid ∷ [])) (arbor _ _ _ _ _) right = absurd right
-  by_right (list w (matroid ∷ [])) (unreached _ _ _) right = absurd right
-  by_right (list w (matroid ∷ [])) (disjoint _ _) right = absurd right
-  by_right (list w (matroid ∷ [])) (disjoint_none _ _ _ _) right = absurd right
-  by_right (list w (matroid ∷ [])) (rainbow _ _ _ _ _ _) right = absurd right
-  by_right (list w (matroid ∷ [])) (assign _ _ _ _ _) right = absurd right
-  by_right (graph _ _) answer right = absurd right
-  by_right (rooted _ _ _ _) answer right = absurd right
-  by_right (coloured _ _ _ _ _) answer right = absurd right
-  by_right (table _ _ _ _) answer right = absurd right
+-- an answer in range is right exactly where none of its clauses fails
+abbrev pub RightHasNoFailure : Instance → Certificate → Type 0
+RightHasNoFailure instance answer =
+    IsValid instance → IsSoundInstance instance → IsRanged answer → IsRight instance answer ↔ (failure_of instance answer ≡ None)
+
+-- no better answer exists than a right one
+abbrev pub RightIsOptimal : Instance → Certificate → Type 0
+RightIsOptimal instance answer = IsValid instance → IsSoundInstance instance → IsRight instance answer → IsOptimal instance answer
+
+-- ---- the forms of problems
+
+module _ (P : Instance → Type 0) where
+  on_pair : ((w : List Weight) (first second : Tree) → P (pair w first second)) → (instance : Instance) → is_pair instance ≡ true → P instance
+  on_pair f (pair w first second) h = f w first second
+  on_pair f (list _ _) h = absurd (false≢true h)
+  on_pair f (graph _ _) h = absurd (false≢true h)
+  on_pair f (rooted _ _ _ _) h = absurd (false≢true h)
+  on_pair f (coloured _ _ _ _ _) h = absurd (false≢true h)
+  on_pair f (table _ _ _ _) h = absurd (false≢true h)
+
+  on_list : ((w : List Weight) (matroids : List Tree) → P (list w matroids)) → (instance : Instance) → is_list instance ≡ true → P instance
+  on_list f (pair _ _ _) h = absurd (false≢true h)
+  on_list f (list w matroids) h = f w matroids
+  on_list f (graph _ _) h = absurd (false≢true h)
+  on_list f (rooted _ _ _ _) h = absurd (false≢true h)
+  on_list f (coloured _ _ _ _ _) h = absurd (false≢true h)
+  on_list f (table _ _ _ _) h = absurd (false≢true h)
+
+  on_graph : ((vertices : ℕ) (edges : List (ℕ × ℕ)) → P (graph vertices edges)) → (instance : Instance) → is_graph instance ≡ true → P instance
+  on_graph f (pair _ _ _) h = absurd (false≢true h)
+  on_graph f (list _ _) h = absurd (false≢true h)
+  on_graph f (graph vertices edges) h = f vertices edges
+  on_graph f (rooted _ _ _ _) h = absurd (false≢true h)
+  on_graph f (coloured _ _ _ _ _) h = absurd (false≢true h)
+  on_graph f (table _ _ _ _) h = absurd (false≢true h)
+
+  on_rooted : ((vertices root : ℕ) (arcs : List (ℕ × ℕ)) (costs : List Weight) → P (rooted vertices root arcs costs)) → (instance : Instance) → is_rooted instance ≡ true → P instance
+  on_rooted f (pair _ _ _) h = absurd (false≢true h)
+  on_rooted f (list _ _) h = absurd (false≢true h)
+  on_rooted f (graph _ _) h = absurd (false≢true h)
+  on_rooted f (rooted vertices root arcs costs) h = f vertices root arcs costs
+  on_rooted f (coloured _ _ _ _ _) h = absurd (false≢true h)
+  on_rooted f (table _ _ _ _) h = absurd (false≢true h)
+
+  on_coloured : ((vertices colours : ℕ) (edges : List (ℕ × ℕ)) (colour_of : List ℕ) (w : List Weight) → P (coloured vertices colours edges colour_of w)) → (instance : Instance) → is_coloured instance ≡ true → P instance
+  on_coloured f (pair _ _ _) h = absurd (false≢true h)
+  on_coloured f (list _ _) h = absurd (false≢true h)
+  on_coloured f (graph _ _) h = absurd (false≢true h)
+  on_coloured f (rooted _ _ _ _) h = absurd (false≢true h)
+  on_coloured f (coloured vertices colours edges colour_of w) h = f vertices colours edges colour_of w
+  on_coloured f (table _ _ _ _) h = absurd (false≢true h)
+
+  on_table : ((rows columns : ℕ) (cells : List (ℕ × ℕ)) (w : List Weight) → P (table rows columns cells w)) → (instance : Instance) → is_table instance ≡ true → P instance
+  on_table f (pair _ _ _) h = absurd (false≢true h)
+  on_table f (list _ _) h = absurd (false≢true h)
+  on_table f (graph _ _) h = absurd (false≢true h)
+  on_table f (rooted _ _ _ _) h = absurd (false≢true h)
+  on_table f (coloured _ _ _ _ _) h = absurd (false≢true h)
+  on_table f (table rows columns cells w) h = f rows columns cells w
+
+  on_single : ((w : List Weight) (matroid : Tree) → P (list w (matroid ∷ []))) → (instance : Instance) → is_single instance ≡ true → P instance
+  on_single f (list w []) h = absurd (false≢true h)
+  on_single f (list w (matroid ∷ [])) h = f w matroid
+  on_single f (list w (matroid ∷ other ∷ others)) h =
+      let one = eqb-true (length (matroid ∷ other ∷ others)) 1 h in absurd (omega arith)
+  on_single f (pair _ _ _) h = absurd (false≢true h)
+  on_single f (graph _ _) h = absurd (false≢true h)
+  on_single f (rooted _ _ _ _) h = absurd (false≢true h)
+  on_single f (coloured _ _ _ _ _) h = absurd (false≢true h)
+  on_single f (table _ _ _ _) h = absurd (false≢true h)
+
+-- ---- the forms of answers
+
+-- what holds of each answer of each form
+pub record OnEachForm (P : Instance → Certificate → Type 0) : Type 0 where
+  pub ladder : (w : List Weight) (first second : Tree) (n : ℕ) (rungs : List PricedRung) (cut : List ℕ)
+      → P (pair w first second) (intersect n rungs cut)
+  pub single : (w : List Weight) (matroid : Tree) (n : ℕ) (rungs : List PlainRung)
+      → P (list w (matroid ∷ [])) (best n rungs)
+  pub union : (w : List Weight) (matroids : List Tree) (n : ℕ) (weight : Weight) (parts : List (List ℕ)) (levels : List LevelLine)
+      → P (list w matroids) (union_of n weight parts levels)
+  pub packing_of_none : (w : List Weight) (matroid : Tree) (n : ℕ)
+      → P (list w (matroid ∷ [])) (pack_any n)
+  pub packing : (w : List Weight) (matroid : Tree) (n : ℕ) (bases : List (List ℕ)) (cut : List ℕ)
+      → P (list w (matroid ∷ [])) (pack n bases cut)
+  pub loop : (w : List Weight) (matroid : Tree) (n loop_at : ℕ)
+      → P (list w (matroid ∷ [])) (cover_never n loop_at)
+  pub covering : (w : List Weight) (matroid : Tree) (n : ℕ) (sets : List (List ℕ)) (cut : Option (List ℕ))
+      → P (list w (matroid ∷ [])) (cover n sets cut)
+  pub trees_found : (vertices : ℕ) (edges : List (ℕ × ℕ)) (n : ℕ) (sets : List (List ℕ))
+      → P (graph vertices edges) (trees n sets)
+  pub partition : (vertices : ℕ) (edges : List (ℕ × ℕ)) (n k v : ℕ) (classes : List (List ℕ))
+      → P (graph vertices edges) (trees_none n k v classes)
+  pub arborescence : (vertices root : ℕ) (arcs : List (ℕ × ℕ)) (costs : List Weight) (n : ℕ) (cost : Weight) (tree : List ℕ) (first second : List Weight)
+      → P (rooted vertices root arcs costs) (arbor n cost tree first second)
+  pub unreached_set : (vertices root : ℕ) (arcs : List (ℕ × ℕ)) (costs : List Weight) (n v : ℕ) (set : List ℕ)
+      → P (rooted vertices root arcs costs) (unreached n v set)
+  pub arborescences : (vertices root : ℕ) (arcs : List (ℕ × ℕ)) (costs : List Weight) (n : ℕ) (sets : List (List ℕ))
+      → P (rooted vertices root arcs costs) (disjoint n sets)
+  pub seldom_entered : (vertices root : ℕ) (arcs : List (ℕ × ℕ)) (costs : List Weight) (n k v : ℕ) (set : List ℕ)
+      → P (rooted vertices root arcs costs) (disjoint_none n k v set)
+  pub rainbow_ladder : (vertices colours : ℕ) (edges : List (ℕ × ℕ)) (colour_of : List ℕ) (w : List Weight) (n v c : ℕ) (rungs : List PricedRung) (cut : List ℕ) (missing : Option (List ℕ))
+      → P (coloured vertices colours edges colour_of w) (rainbow n v c rungs cut missing)
+  pub assignment : (rows columns : ℕ) (cells : List (ℕ × ℕ)) (w : List Weight) (n r c : ℕ) (rungs : List PricedRung) (cut : List ℕ)
+      → P (table rows columns cells w) (assign n r c rungs cut)
+
+-- holds of every answer that fits
+pub by_fitting : (P : Instance → Certificate → Type 0) → OnEachForm P → (answer : Certificate) (instance : Instance)
+    → fits instance answer ≡ true → P instance answer
+by_fitting P each (intersect n rungs cut) instance h =
+    on_pair (λ i. P i (intersect n rungs cut)) (λ w first second. each.ladder w first second n rungs cut) instance h
+by_fitting P each (best n rungs) instance h =
+    on_single (λ i. P i (best n rungs)) (λ w matroid. each.single w matroid n rungs) instance h
+by_fitting P each (union_of n weight parts levels) instance h =
+    on_list (λ i. P i (union_of n weight parts levels)) (λ w matroids. each.union w matroids n weight parts levels) instance h
+by_fitting P each (pack_any n) instance h =
+    on_single (λ i. P i (pack_any n)) (λ w matroid. each.packing_of_none w matroid n) instance h
+by_fitting P each (pack n bases cut) instance h =
+    on_single (λ i. P i (pack n bases cut)) (λ w matroid. each.packing w matroid n bases cut) instance h
+by_fitting P each (cover_never n loop_at) instance h =
+    on_single (λ i. P i (cover_never n loop_at)) (λ w matroid. each.loop w matroid n loop_at) instance h
+by_fitting P each (cover n sets cut) instance h =
+    on_single (λ i. P i (cover n sets cut)) (λ w matroid. each.covering w matroid n sets cut) instance h
+by_fitting P each (trees n sets) instance h =
+    on_graph (λ i. P i (trees n sets)) (λ vertices edges. each.trees_found vertices edges n sets) instance h
+by_fitting P each (trees_none n k v classes) instance h =
+    on_graph (λ i. P i (trees_none n k v classes)) (λ vertices edges. each.partition vertices edges n k v classes) instance h
+by_fitting P each (arbor n cost tree first second) instance h =
+    on_rooted (λ i. P i (arbor n cost tree first second)) (λ vertices root arcs costs. each.arborescence vertices root arcs costs n cost tree first second) instance h
+by_fitting P each (unreached n v set) instance h =
+    on_rooted (λ i. P i (unreached n v set)) (λ vertices root arcs costs. each.unreached_set vertices root arcs costs n v set) instance h
+by_fitting P each (disjoint n sets) instance h =
+    on_rooted (λ i. P i (disjoint n sets)) (λ vertices root arcs costs. each.arborescences vertices root arcs costs n sets) instance h
+by_fitting P each (disjoint_none n k v set) instance h =
+    on_rooted (λ i. P i (disjoint_none n k v set)) (λ vertices root arcs costs. each.seldom_entered vertices root arcs costs n k v set) instance h
+by_fitting P each (rainbow n v c rungs cut missing) instance h =
+    on_coloured (λ i. P i (rainbow n v c rungs cut missing)) (λ vertices colours edges colour_of w. each.rainbow_ladder vertices colours edges colour_of w n v c rungs cut missing) instance h
+by_fitting P each (assign n r c rungs cut) instance h =
+    on_table (λ i. P i (assign n r c rungs cut)) (λ rows columns cells w. each.assignment rows columns cells w n r c rungs cut) instance h
+
+-- a right answer fits
+pub right_fits : (instance : Instance) (answer : Certificate) → IsRight instance answer → fits instance answer ≡ true
+right_fits (pair _ _ _) (intersect _ _ _) right = refl
+right_fits (pair _ _ _) (best _ _) right = absurd right
+right_fits (pair _ _ _) (union_of _ _ _ _) right = absurd right
+right_fits (pair _ _ _) (pack_any _) right = absurd right
+right_fits (pair _ _ _) (pack _ _ _) right = absurd right
+right_fits (pair _ _ _) (cover_never _ _) right = absurd right
+right_fits (pair _ _ _) (cover _ _ _) right = absurd right
+right_fits (pair _ _ _) (trees _ _) right = absurd right
+right_fits (pair _ _ _) (trees_none _ _ _ _) right = absurd right
+right_fits (pair _ _ _) (arbor _ _ _ _ _) right = absurd right
+right_fits (pair _ _ _) (unreached _ _ _) right = absurd right
+right_fits (pair _ _ _) (disjoint _ _) right = absurd right
+right_fits (pair _ _ _) (disjoint_none _ _ _ _) right = absurd right
+right_fits (pair _ _ _) (rainbow _ _ _ _ _ _) right = absurd right
+right_fits (pair _ _ _) (assign _ _ _ _ _) right = absurd right
+right_fits (list _ []) (intersect _ _ _) right = absurd right
+right_fits (list _ []) (best _ _) right = absurd right
+right_fits (list _ []) (union_of _ _ _ _) right = refl
+right_fits (list _ []) (pack_any _) right = absurd right
+right_fits (list _ []) (pack _ _ _) right = absurd right
+right_fits (list _ []) (cover_never _ _) right = absurd right
+right_fits (list _ []) (cover _ _ _) right = absurd right
+right_fits (list _ []) (trees _ _) right = absurd right
+right_fits (list _ []) (trees_none _ _ _ _) right = absurd right
+right_fits (list _ []) (arbor _ _ _ _ _) right = absurd right
+right_fits (list _ []) (unreached _ _ _) right = absurd right
+right_fits (list _ []) (disjoint _ _) right = absurd right
+right_fits (list _ []) (disjoint_none _ _ _ _) right = absurd right
+right_fits (list _ []) (rainbow _ _ _ _ _ _) right = absurd right
+right_fits (list _ []) (assign _ _ _ _ _) right = absurd right
+right_fits (list _ (_ ∷ [])) (intersect _ _ _) right = absurd right
+right_fits (list _ (_ ∷ [])) (best _ _) right = refl
+right_fits (list _ (_ ∷ [])) (union_of _ _ _ _) right = refl
+right_fits (list _ (_ ∷ [])) (pack_any _) right = refl
+right_fits (list _ (_ ∷ [])) (pack _ _ _) right = refl
+right_fits (list _ (_ ∷ [])) (cover_never _ _) right = refl
+right_fits (list _ (_ ∷ [])) (cover _ _ _) right = refl
+right_fits (list _ (_ ∷ [])) (trees _ _) right = absurd right
+right_fits (list _ (_ ∷ [])) (trees_none _ _ _ _) right = absurd right
+right_fits (list _ (_ ∷ [])) (arbor _ _ _ _ _) right = absurd right
+right_fits (list _ (_ ∷ [])) (unreached _ _ _) right = absurd right
+right_fits (list _ (_ ∷ [])) (disjoint _ _) right = absurd right
+right_fits (list _ (_ ∷ [])) (disjoint_none _ _ _ _) right = absurd right
+right_fits (list _ (_ ∷ [])) (rainbow _ _ _ _ _ _) right = absurd right
+right_fits (list _ (_ ∷ [])) (assign _ _ _ _ _) right = absurd right
+right_fits (list _ (_ ∷ _ ∷ _)) (intersect _ _ _) right = absurd right
+right_fits (list _ (_ ∷ _ ∷ _)) (best _ _) right = absurd right
+right_fits (list _ (_ ∷ _ ∷ _)) (union_of _ _ _ _) right = refl
+right_fits (list _ (_ ∷ _ ∷ _)) (pack_any _) right = absurd right
+right_fits (list _ (_ ∷ _ ∷ _)) (pack _ _ _) right = absurd right
+right_fits (list _ (_ ∷ _ ∷ _)) (cover_never _ _) right = absurd right
+right_fits (list _ (_ ∷ _ ∷ _)) (cover _ _ _) right = absurd right
+right_fits (list _ (_ ∷ _ ∷ _)) (trees _ _) right = absurd right
+right_fits (list _ (_ ∷ _ ∷ _)) (trees_none _ _ _ _) right = absurd right
+right_fits (list _ (_ ∷ _ ∷ _)) (arbor _ _ _ _ _) right = absurd right
+right_fits (list _ (_ ∷ _ ∷ _)) (unreached _ _ _) right = absurd right
+right_fits (list _ (_ ∷ _ ∷ _)) (disjoint _ _) right = absurd right
+right_fits (list _ (_ ∷ _ ∷ _)) (disjoint_none _ _ _ _) right = absurd right
+right_fits (list _ (_ ∷ _ ∷ _)) (rainbow _ _ _ _ _ _) right = absurd right
+right_fits (list _ (_ ∷ _ ∷ _)) (assign _ _ _ _ _) right = absurd right
+right_fits (graph _ _) (intersect _ _ _) right = absurd right
+right_fits (graph _ _) (best _ _) right = absurd right
+right_fits (graph _ _) (union_of _ _ _ _) right = absurd right
+right_fits (graph _ _) (pack_any _) right = absurd right
+right_fits (graph _ _) (pack _ _ _) right = absurd right
+right_fits (graph _ _) (cover_never _ _) right = absurd right
+right_fits (graph _ _) (cover _ _ _) right = absurd right
+right_fits (graph _ _) (trees _ _) right = refl
+right_fits (graph _ _) (trees_none _ _ _ _) right = refl
+right_fits (graph _ _) (arbor _ _ _ _ _) right = absurd right
+right_fits (graph _ _) (unreached _ _ _) right = absurd right
+right_fits (graph _ _) (disjoint _ _) right = absurd right
+right_fits (graph _ _) (disjoint_none _ _ _ _) right = absurd right
+right_fits (graph _ _) (rainbow _ _ _ _ _ _) right = absurd right
+right_fits (graph _ _) (assign _ _ _ _ _) right = absurd right
+right_fits (rooted _ _ _ _) (intersect _ _ _) right = absurd right
+right_fits (rooted _ _ _ _) (best _ _) right = absurd right
+right_fits (rooted _ _ _ _) (union_of _ _ _ _) right = absurd right
+right_fits (rooted _ _ _ _) (pack_any _) right = absurd right
+right_fits (rooted _ _ _ _) (pack _ _ _) right = absurd right
+right_fits (rooted _ _ _ _) (cover_never _ _) right = absurd right
+right_fits (rooted _ _ _ _) (cover _ _ _) right = absurd right
+right_fits (rooted _ _ _ _) (trees _ _) right = absurd right
+right_fits (rooted _ _ _ _) (trees_none _ _ _ _) right = absurd right
+right_fits (rooted _ _ _ _) (arbor _ _ _ _ _) right = refl
+right_fits (rooted _ _ _ _) (unreached _ _ _) right = refl
+right_fits (rooted _ _ _ _) (disjoint _ _) right = refl
+right_fits (rooted _ _ _ _) (disjoint_none _ _ _ _) right = refl
+right_fits (rooted _ _ _ _) (rainbow _ _ _ _ _ _) right = absurd right
+right_fits (rooted _ _ _ _) (assign _ _ _ _ _) right = absurd right
+right_fits (coloured _ _ _ _ _) (intersect _ _ _) right = absurd right
+right_fits (coloured _ _ _ _ _) (best _ _) right = absurd right
+right_fits (coloured _ _ _ _ _) (union_of _ _ _ _) right = absurd right
+right_fits (coloured _ _ _ _ _) (pack_any _) right = absurd right
+right_fits (coloured _ _ _ _ _) (pack _ _ _) right = absurd right
+right_fits (coloured _ _ _ _ _) (cover_never _ _) right = absurd right
+right_fits (coloured _ _ _ _ _) (cover _ _ _) right = absurd right
+right_fits (coloured _ _ _ _ _) (trees _ _) right = absurd right
+right_fits (coloured _ _ _ _ _) (trees_none _ _ _ _) right = absurd right
+right_fits (coloured _ _ _ _ _) (arbor _ _ _ _ _) right = absurd right
+right_fits (coloured _ _ _ _ _) (unreached _ _ _) right = absurd right
+right_fits (coloured _ _ _ _ _) (disjoint _ _) right = absurd right
+right_fits (coloured _ _ _ _ _) (disjoint_none _ _ _ _) right = absurd right
+right_fits (coloured _ _ _ _ _) (rainbow _ _ _ _ _ _) right = refl
+right_fits (coloured _ _ _ _ _) (assign _ _ _ _ _) right = absurd right
+right_fits (table _ _ _ _) (intersect _ _ _) right = absurd right
+right_fits (table _ _ _ _) (best _ _) right = absurd right
+right_fits (table _ _ _ _) (union_of _ _ _ _) right = absurd right
+right_fits (table _ _ _ _) (pack_any _) right = absurd right
+right_fits (table _ _ _ _) (pack _ _ _) right = absurd right
+right_fits (table _ _ _ _) (cover_never _ _) right = absurd right
+right_fits (table _ _ _ _) (cover _ _ _) right = absurd right
+right_fits (table _ _ _ _) (trees _ _) right = absurd right
+right_fits (table _ _ _ _) (trees_none _ _ _ _) right = absurd right
+right_fits (table _ _ _ _) (arbor _ _ _ _ _) right = absurd right
+right_fits (table _ _ _ _) (unreached _ _ _) right = absurd right
+right_fits (table _ _ _ _) (disjoint _ _) right = absurd right
+right_fits (table _ _ _ _) (disjoint_none _ _ _ _) right = absurd right
+right_fits (table _ _ _ _) (rainbow _ _ _ _ _ _) right = absurd right
+right_fits (table _ _ _ _) (assign _ _ _ _ _) right = refl
+
+-- so what holds of each form holds of every right answer
+pub by_right : (P : Instance → Certificate → Type 0) → OnEachForm P → (instance : Instance) (answer : Certificate) → IsRight instance answer
+    → P instance answer
+by_right P each instance answer right = by_fitting P each answer instance (right_fits instance answer right)

@@ -5,7 +5,7 @@ use Rattle.std.proofs.lemmas.Bool.{cases_Bool, cond-true, cond-false, eqb-true, 
 use Rattle.std.proofs.lemmas.Option.{none-some, same_Some}
 use Rattle.mat_sets.specs.Sets.{is_member}
 use Rattle.mat_sets.proofs.Members.{is_member-head}
-use Rattle.mat_check.specs.Clauses.{Clause, first_failure, rungs_clauses}
+use Rattle.mat_check.specs.Clauses.{Clause, first_failure, numbered_clauses}
 
 -- each clause holds
 abbrev pub AllHold : List Clause → Type 0
@@ -59,40 +59,40 @@ AllHold-at clause_of (y ∷ xs) h x m = elim (or_cases (eqb x y) (is_member x xs
 -- ---- the clauses of the rungs from rung k on
 
 module _ {R : Type 0} (clauses_of_rung : ℕ → R → List Clause) where
-  pub rung_holds : (k : ℕ) (rungs : List R) → AllHold (rungs_clauses clauses_of_rung k rungs)
+  pub rung_holds : (k : ℕ) (rungs : List R) → AllHold (numbered_clauses clauses_of_rung k rungs)
       → (j : ℕ) (rung : R) → slice_get rungs j ≡ Some rung → AllHold (clauses_of_rung (k + j) rung)
   rung_holds k [] h j rung at = absurd (none-some rung at)
   rung_holds k (first ∷ rungs) h zero rung at =
-      let here = AllHold-front (clauses_of_rung k first) (rungs_clauses clauses_of_rung (suc k) rungs) h in
+      let here = AllHold-front (clauses_of_rung k first) (numbered_clauses clauses_of_rung (suc k) rungs) h in
       let same : k ≡ k + 0 = omega arith in
       subst (λ m. AllHold (clauses_of_rung m rung)) same
       (subst (λ r. AllHold (clauses_of_rung k r)) (same_Some first rung at) here)
   rung_holds k (first ∷ rungs) h (suc j) rung at =
-      let after = AllHold-back (clauses_of_rung k first) (rungs_clauses clauses_of_rung (suc k) rungs) h in
+      let after = AllHold-back (clauses_of_rung k first) (numbered_clauses clauses_of_rung (suc k) rungs) h in
       let same : suc k + j ≡ k + suc j = omega arith in
       subst (λ m. AllHold (clauses_of_rung m rung)) same (rung_holds (suc k) rungs after j rung at)
 
   pub rungs_hold : (k : ℕ) (rungs : List R)
       → ((j : ℕ) (rung : R) → slice_get rungs j ≡ Some rung → AllHold (clauses_of_rung (k + j) rung))
-      → AllHold (rungs_clauses clauses_of_rung k rungs)
+      → AllHold (numbered_clauses clauses_of_rung k rungs)
   rungs_hold k [] each = tt
   rungs_hold k (first ∷ rungs) each =
       let start : k + 0 ≡ k = omega arith in
-      AllHold-append (clauses_of_rung k first) (rungs_clauses clauses_of_rung (suc k) rungs)
+      AllHold-append (clauses_of_rung k first) (numbered_clauses clauses_of_rung (suc k) rungs)
       (subst (λ m. AllHold (clauses_of_rung m first)) start (each 0 first refl))
       (rungs_hold (suc k) rungs (λ j rung at.
       let same : k + suc j ≡ suc k + j = omega arith in
       subst (λ m. AllHold (clauses_of_rung m rung)) same (each (suc j) rung at)))
 
   -- the same for the rungs from rung 0 on
-  pub each_rung_holds : (rungs : List R) → AllHold (rungs_clauses clauses_of_rung 0 rungs)
+  pub each_rung_holds : (rungs : List R) → AllHold (numbered_clauses clauses_of_rung 0 rungs)
       → (k : ℕ) (rung : R) → slice_get rungs k ≡ Some rung → AllHold (clauses_of_rung k rung)
   each_rung_holds rungs h k rung at =
       let same : 0 + k ≡ k = omega arith in
       subst (λ m. AllHold (clauses_of_rung m rung)) same (rung_holds 0 rungs h k rung at)
 
   pub all_rungs_hold : (rungs : List R) → ((k : ℕ) (rung : R) → slice_get rungs k ≡ Some rung → AllHold (clauses_of_rung k rung))
-      → AllHold (rungs_clauses clauses_of_rung 0 rungs)
+      → AllHold (numbered_clauses clauses_of_rung 0 rungs)
   all_rungs_hold rungs each =
       rungs_hold 0 rungs (λ k rung at.
       let same : k ≡ 0 + k = omega arith in

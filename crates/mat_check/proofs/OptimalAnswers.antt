@@ -1,55 +1,35 @@
--- No better answer exists than a right one: the splits show that each set is heaviest, and the cut or the base that none is larger.
-use Rattle.std.proofs.Common.{ℕ, Bool, List, [], ◌∷◌, inl, inr, sym, subst, arith}
-use Rattle.std.proofs.lemmas.Option.{slice_get_cases}
-use Rattle.mat_sets.specs.declared.weight.Weight.{Weight}
-use Rattle.mat_laws.specs.Matroids.{IsMatroid}
-use Rattle.mat_laws.proofs.BestLadders.{rung_is_heaviest, cut_bounds}
-use Rattle.mat_laws.proofs.Maximal.{base_largest}
-use Rattle.mat_any.specs.Trees.{Tree, is_independent}
-use Rattle.mat_desc.specs.Instances.{Instance, pair, list}
+-- No better answer exists than a right one: form by form.
+use Rattle.mat_desc.specs.Grammar.{IsValid}
+use Rattle.mat_desc.specs.Instances.{Instance}
 use Rattle.mat_desc.specs.Soundness.{IsSoundInstance}
-use Rattle.mat_cert.specs.Certificates.{Certificate, intersect, best, last_rung}
-use Rattle.mat_cert.specs.declared.answer.PlainRung.{PlainRung}
-use Rattle.mat_cert.specs.declared.answer.PricedRung.{PricedRung}
-use Rattle.mat_check.specs.Optimal.{IsOptimal, IsOptimalLadder, AreOptimalRungs}
-use Rattle.mat_check.specs.Right.{IsRight, IsRightLadder, AreRightRungs}
-use Rattle.mat_check.proofs.AnswerForms.{by_right}
-use Rattle.mat_check.proofs.RightAnswers.{laws_on_weights, laws_of_one}
+use Rattle.mat_cert.specs.Certificates.{Certificate}
+use Rattle.mat_check.specs.Optimal.{IsOptimal}
+use Rattle.mat_check.specs.Right.{IsRight}
+use Rattle.mat_check.proofs.AnswerForms.{by_right, OnEachForm, RightIsOptimal}
+use Rattle.mat_check.proofs.OptimalFronts.{right_arborescence_is_optimal, right_assignment_is_optimal, right_rainbow_is_optimal}
+use Rattle.mat_check.proofs.OptimalLadders.{right_ladder_is_optimal, right_rungs_are_optimal}
+use Rattle.mat_check.proofs.OptimalSets as sets
+use Rattle.mat_check.proofs.OptimalTrees as trees
 
-ladder_is_optimal : {n : ℕ} {p q : List ℕ → Bool} → IsMatroid n p → IsMatroid n q
-    → (w : List Weight) (rungs : List PricedRung) (cut : List ℕ) → IsRightLadder n p q w rungs cut → IsOptimalLadder p q w rungs
-ladder_is_optimal lp lq w rungs cut r = record {
-  heaviest = λ k rung at. rung_is_heaviest lp lq w k rung.set rung.first rung.second (r.each k rung at).right;
-  none_larger = λ X in_p in_q. omega (arith, r.some, cut_bounds lp lq (last_rung rungs) cut r.ends X in_p in_q);
+on_each_form : OnEachForm RightIsOptimal
+on_each_form = record {
+  ladder = right_ladder_is_optimal;
+  single = right_rungs_are_optimal;
+  union = sets.union_case;
+  packing_of_none = sets.packing_of_none_case;
+  packing = sets.packing_case;
+  loop = sets.loop_case;
+  covering = sets.covering_case;
+  trees_found = trees.trees_found;
+  partition = trees.partition;
+  arborescence = right_arborescence_is_optimal;
+  unreached_set = trees.unreached_set;
+  arborescences = trees.arborescences;
+  seldom_entered = trees.seldom_entered;
+  rainbow_ladder = right_rainbow_is_optimal;
+  assignment = right_assignment_is_optimal;
 }
 
-rungs_are_optimal : {n : ℕ} {p : List ℕ → Bool} → IsMatroid n p → (w : List Weight) (rungs : List PlainRung)
-    → AreRightRungs n p w rungs → AreOptimalRungs p w rungs
-rungs_are_optimal lp w rungs r = record {
-  size = λ k rung at. (r.each k rung at).size;
-  heaviest = λ k rung at. (r.each k rung at).heaviest;
-  none_larger = λ X in_p. elim (slice_get_cases rungs (last_rung rungs)).1 [
-    | inl found ↦
-        omega (arith, r.some, base_largest lp found.0.set X (r.last found.0 found.2) in_p, (r.each (last_rung rungs) found.0 found.2).size)
-    | inr past ↦ absurd (omega (arith, r.some, past.0))
-  ];
-}
-
-abbrev RightIsOptimal : Instance → Certificate → Type 0
-RightIsOptimal instance answer = IsSoundInstance instance → IsRight instance answer → IsOptimal instance answer
-
-ladder_case : (w : List Weight) (first second : Tree) (n : ℕ) (rungs : List PricedRung) (cut : List ℕ)
-    → RightIsOptimal (pair w first second) (intersect n rungs cut)
-ladder_case w first second n rungs cut sound right =
-    let lp = subst (λ m. IsMatroid m (is_independent first)) (sym right.0) (laws_on_weights w first sound.0 sound.1) in
-    let lq = subst (λ m. IsMatroid m (is_independent second)) (sym right.0) (laws_on_weights w second sound.2 sound.3) in
-    ladder_is_optimal lp lq w rungs cut right.1
-
-single_case : (w : List Weight) (matroid : Tree) (n : ℕ) (rungs : List PlainRung) → RightIsOptimal (list w (matroid ∷ [])) (best n rungs)
-single_case w matroid n rungs sound right =
-    let lp = subst (λ m. IsMatroid m (is_independent matroid)) (sym right.0) (laws_of_one w matroid sound) in
-    rungs_are_optimal lp w rungs right.1
-
-pub right_is_optimal : (instance : Instance) (answer : Certificate) → IsSoundInstance instance → IsRight instance answer
+pub right_is_optimal : (instance : Instance) (answer : Certificate) → IsValid instance → IsSoundInstance instance → IsRight instance answer
     → IsOptimal instance answer
-right_is_optimal instance answer sound right = by_right RightIsOptimal ladder_case single_case instance answer right sound right
+right_is_optimal instance answer valid sound right = by_right RightIsOptimal on_each_form instance answer right valid sound right

@@ -5,7 +5,7 @@ use Rattle.std.proofs.lemmas.Option.{none-some, same_Some}
 use Rattle.std.proofs.Math.Seq.{drop-cons}
 use Rattle.mat_work.specs.Rows.{StandFrom}
 use Rattle.mat_work.proofs.StandingRows.{StandFrom_items}
-use Rattle.mat_check.specs.Clauses.{Clause, Failure, first_failure, rungs_clauses}
+use Rattle.mat_check.specs.Clauses.{Clause, Failure, first_failure, numbered_clauses}
 use Rattle.mat_check.specs.RungFailures.{rungs_failures, first_in_order}
 use Rattle.mat_check.proofs.FailingClauses.{first_in_back, first_in_front}
 
@@ -53,9 +53,9 @@ module _ {R : Type 0} (clauses_of_rung : ℕ → R → List Clause) where
       failure_from 0 k rungs rung at ∙ ap (λ m. first_failure (clauses_of_rung m rung)) same
 
   pub first_of_rungs : (k : ℕ) (rungs : List R)
-      → first_in_order (rungs_failures clauses_of_rung k rungs) ≡ first_failure (rungs_clauses clauses_of_rung k rungs)
+      → first_in_order (rungs_failures clauses_of_rung k rungs) ≡ first_failure (numbered_clauses clauses_of_rung k rungs)
   first_of_rungs k [] = refl
-  first_of_rungs k (rung ∷ rungs) = first_of_joined (clauses_of_rung k rung) (rungs_clauses clauses_of_rung (suc k) rungs)
+  first_of_rungs k (rung ∷ rungs) = first_of_joined (clauses_of_rung k rung) (numbered_clauses clauses_of_rung (suc k) rungs)
       (first_failure (clauses_of_rung k rung)) (rungs_failures clauses_of_rung (suc k) rungs) refl (first_of_rungs (suc k) rungs)
 
   -- a job's list of failures has one for each rung
@@ -71,7 +71,7 @@ module _ {R : Type 0} (clauses_of_rung : ℕ → R → List Clause) where
   -- the failures that a job finds tell the first of all
   pub first_of_found : (rungs : List R) (found : List (Option Failure)) → length found ≡ length rungs
       → StandFrom (λ k o. o ≡ get_or (rungs_failures clauses_of_rung 0 rungs) k None) 0 found
-      → first_in_order found ≡ first_failure (rungs_clauses clauses_of_rung 0 rungs)
+      → first_in_order found ≡ first_failure (numbered_clauses clauses_of_rung 0 rungs)
   first_of_found rungs found count h =
       ap first_in_order (StandFrom_items found (rungs_failures clauses_of_rung 0 rungs) None (count ∙ sym (length-rungs_failures 0 rungs)) h)
       ∙ first_of_rungs 0 rungs

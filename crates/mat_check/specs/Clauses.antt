@@ -1,4 +1,4 @@
--- The clauses of the checker, in the order in which they are tried, and the first that fails.
+-- Clauses of the checker, the first that fails, and the clauses of rungs.
 use Rattle.std.specs.Prelude.{ℕ, suc, ◌+◌, Bool, not, ◌==◌, if◌then◌else◌, List}
 use Rattle.std.specs.Prelude.{[], ◌∷◌, ◌++◌, length, map, Option, Some, None, slice_get}
 use Rattle.mat_sets.specs.Sets.{minus, all_below}
@@ -6,9 +6,7 @@ use Rattle.mat_sets.specs.Weights.{◌⊕◌, is_same, weight, weight_at}
 use Rattle.mat_sets.specs.declared.weight.Weight.{Weight}
 use Rattle.mat_laws.specs.Ranks.{rank}
 use Rattle.mat_laws.specs.Searches.{is_beaten, has_addable}
-use Rattle.mat_any.specs.Trees.{is_independent}
-use Rattle.mat_desc.specs.Instances.{Instance, pair, list}
-use Rattle.mat_cert.specs.Certificates.{Certificate, intersect, best, last_rung}
+use Rattle.mat_cert.specs.Certificates.{last_rung}
 use Rattle.mat_cert.specs.declared.answer.PlainRung.{PlainRung}
 use Rattle.mat_cert.specs.declared.answer.PricedRung.{PricedRung}
 use Rattle.mat_check.specs.declared.reason.Reason.{Reason}
@@ -27,6 +25,15 @@ pub record Clause : Type 0 where
 abbrev pub first_failure : List Clause → Option Failure
 first_failure [] = None
 first_failure (clause ∷ clauses) = if clause.holds then first_failure clauses else Some clause.failure
+
+-- the clauses of each item of a list, of which the first has the number k
+abbrev pub numbered_clauses : {R : Type 0} → (ℕ → R → List Clause) → ℕ → List R → List Clause
+numbered_clauses clauses_of_item k [] = []
+numbered_clauses clauses_of_item k (item ∷ items) = clauses_of_item k item ++ numbered_clauses clauses_of_item (suc k) items
+
+-- the header has the problem's numbers
+abbrev pub header_clause : Bool → Clause
+header_clause same = record { holds = same; failure = (reasons.Header, 0, 0) }
 
 -- ---- the clauses of a rung
 
@@ -64,16 +71,7 @@ abbrev pub plain_rung_clauses : ℕ → (List ℕ → Bool) → List Weight → 
 plain_rung_clauses n p w k rung =
     weight_clause w k rung.weight rung.set ∷ independence_clause p 0 k rung.set ∷ heaviest_clause n p w 0 k rung.set ∷ []
 
--- the rungs, of which the first is rung k
-abbrev pub rungs_clauses : {R : Type 0} → (ℕ → R → List Clause) → ℕ → List R → List Clause
-rungs_clauses clauses_of_rung k [] = []
-rungs_clauses clauses_of_rung k (rung ∷ rungs) = clauses_of_rung k rung ++ rungs_clauses clauses_of_rung (suc k) rungs
-
--- ---- the clauses of an answer
-
--- the answer has the problem's number of elements
-abbrev pub header_clause : ℕ → List Weight → Clause
-header_clause n w = record { holds = n == length w; failure = (reasons.Header, 0, 0) }
+-- ---- the clauses of rungs together
 
 -- the ranks of the cut in the second matroid and of its complement in the first add up to the size of the last rung
 abbrev pub cut_clause : ℕ → (List ℕ → Bool) → (List ℕ → Bool) → ℕ → List ℕ → Clause
@@ -82,21 +80,17 @@ cut_clause n p q last cut = record {
   failure = (reasons.Cut, 0, 0);
 }
 
+-- a ladder of two matroids on n elements
+abbrev pub ladder_clauses : ℕ → (List ℕ → Bool) → (List ℕ → Bool) → List Weight → List PricedRung → List ℕ → List Clause
+ladder_clauses n p q w rungs cut =
+    numbered_clauses (priced_rung_clauses n p q w) 0 rungs ++ cut_clause n p q (last_rung rungs) cut ∷ []
+
 -- no element can be added to the last set
 abbrev pub last_clause : ℕ → (List ℕ → Bool) → ℕ → Option PlainRung → List Clause
 last_clause n p last None = []
 last_clause n p last (Some rung) = record { holds = not (has_addable n p rung.set); failure = (reasons.Short, last, 0) } ∷ []
 
--- the clauses of an answer that fits the problem, in the order in which they are tried; of any other answer none
-abbrev pub clauses_of : Instance → Certificate → List Clause
-clauses_of (pair w first second) (intersect n rungs cut) =
-    header_clause n w ∷ rungs_clauses (priced_rung_clauses n (is_independent first) (is_independent second) w) 0 rungs
-    ++ cut_clause n (is_independent first) (is_independent second) (last_rung rungs) cut ∷ []
-clauses_of (list w (matroid ∷ [])) (best n rungs) =
-    header_clause n w ∷ rungs_clauses (plain_rung_clauses n (is_independent matroid) w) 0 rungs
-    ++ last_clause n (is_independent matroid) (last_rung rungs) (slice_get rungs (last_rung rungs))
-clauses_of instance answer = []
-
--- the first clause of an answer that fails, with its places
-abbrev pub failure_of : Instance → Certificate → Option Failure
-failure_of instance answer = first_failure (clauses_of instance answer)
+-- the heaviest independent sets of a matroid on n elements
+abbrev pub best_clauses : ℕ → (List ℕ → Bool) → List Weight → List PlainRung → List Clause
+best_clauses n p w rungs =
+    numbered_clauses (plain_rung_clauses n p w) 0 rungs ++ last_clause n p (last_rung rungs) (slice_get rungs (last_rung rungs))

@@ -56,3 +56,8 @@ fits instance (disjoint n sets) = is_rooted instance
 fits instance (disjoint_none n k vertices set) = is_rooted instance
 fits instance (rainbow n vertices colours rungs cut missing) = is_coloured instance
 fits instance (assign n rows columns rungs cut) = is_table instance
+
+-- whether the answer is one about a whole list of matroids
+abbrev pub is_union : Certificate → Bool
+is_union (union_of n weight parts levels) = true
+is_union answer = false

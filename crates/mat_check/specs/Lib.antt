@@ -1,6 +1,9 @@
 pub mod Reasons
 pub mod Fitting
 pub mod Clauses
+pub mod SetClauses
+pub mod TreeClauses
+pub mod AnswerClauses
 pub mod Views
 pub mod Right
 pub mod Optimal

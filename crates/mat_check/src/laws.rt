@@ -2,21 +2,22 @@
 
 ghost use Rattle.std.specs.Prelude.{◌≡◌, ◌↔◌, true, None};
 ghost use Rattle.mat_cert.specs.Certificates.{Certificate, IsRanged};
-ghost use Rattle.mat_check.specs.Clauses.{failure_of};
+ghost use Rattle.mat_check.specs.AnswerClauses.{failure_of};
 ghost use Rattle.mat_check.specs.Fitting.{fits};
 ghost use Rattle.mat_check.specs.Optimal.{IsOptimal};
 ghost use Rattle.mat_check.specs.Right.{IsRight};
+ghost use Rattle.mat_desc.specs.Grammar.{IsValid};
 ghost use Rattle.mat_desc.specs.Instances.{Instance};
 ghost use Rattle.mat_desc.specs.Soundness.{IsSoundInstance};
 
 /// An answer in range to a problem that it fits is right exactly where none of its clauses fails.
 pub fn right_has_no_failure()
-    ensures { (instance : Instance) (answer : Certificate) → IsSoundInstance instance → IsRanged answer → fits instance answer ≡ true
-        → IsRight instance answer ↔ (failure_of instance answer ≡ None) }
+    ensures { (instance : Instance) (answer : Certificate) → IsValid instance → IsSoundInstance instance → IsRanged answer
+        → fits instance answer ≡ true → IsRight instance answer ↔ (failure_of instance answer ≡ None) }
 {}
 
 /// No better answer of the command exists than a right one (Frank 1981; the bound by the cut is Edmonds').
 pub fn right_is_optimal()
-    ensures { (instance : Instance) (answer : Certificate) → IsSoundInstance instance → IsRight instance answer
+    ensures { (instance : Instance) (answer : Certificate) → IsValid instance → IsSoundInstance instance → IsRight instance answer
         → IsOptimal instance answer }
 {}

@@ -8,12 +8,12 @@ use Rattle.std.proofs.lemmas.List.Elements.{All-head, All-tail}
 use Rattle.mat_sets.specs.Sets.{IsSet}
 use Rattle.mat_sets.proofs.Ground.{AreDistinct-rising}
 use Rattle.mat_words.specs.Lines.{Line}
-use Rattle.mat_any.specs.Trees.{Tree, uniform, partition, laminar, graphic, transversal, gammoid, gf2, dual, truncate, restrict, contract}
+use Rattle.mat_any.specs.Trees.{Tree, Trees, uniform, partition, laminar, graphic, transversal, gammoid, gf2, dual, truncate, restrict, contract, union, no_trees, more_trees}
 use Rattle.mat_desc.specs.Instances.{Instance, pair, list, graph, rooted, coloured, table}
 use Rattle.mat_words.specs.Writing.{end_line, members_line}
-use Rattle.mat_desc.specs.Grammar.{Lists, CappedLines, FamilyLines, MatroidLines, MatroidsLines}
-use Rattle.mat_desc.specs.Grammar.{InstanceLines, IsValidTree, IsValidMatroid, IsValid, Spells}
-use Rattle.mat_desc.specs.Canonical.{capped_lines, matroid_lines, canonical_lines, canonical_text}
+use Rattle.mat_desc.specs.Grammar.{Lists, CappedLines, FamilyLines, MatroidLines, MatroidsLines, TreeLines}
+use Rattle.mat_desc.specs.Grammar.{InstanceLines, IsValidTree, IsValidMatroid, AreValidTrees, IsValid, Spells}
+use Rattle.mat_desc.specs.Canonical.{capped_lines, matroid_lines, tree_lines, canonical_lines, canonical_text}
 use Rattle.mat_desc.proofs.ProblemLaws.{one_problem}
 
 -- a set lists its own members
@@ -47,30 +47,41 @@ family_lines_spelled n (set ∷ family) rest in_range = (
   family_lines_spelled n family rest (All-tail (IsSet n) set family in_range),
 )
 
-matroid_spelled : (n : ℕ) (tree : Tree) (rest : List Line) → IsValidTree n tree → MatroidLines tree (matroid_lines tree ++ rest) rest
-matroid_spelled n (uniform m cap) rest valid = refl
-matroid_spelled n (partition m classes caps) rest valid = (
-  capped_lines (codes "class") classes caps ++ rest,
-  refl,
-  capped_lines_spelled (codes "class") n classes caps rest valid.1.as_many valid.1.sets,
-)
-matroid_spelled n (laminar m sets caps) rest valid = (
-  capped_lines (codes "set") sets caps ++ rest,
-  refl,
-  capped_lines_spelled (codes "set") n sets caps rest valid.1.as_many valid.1.sets_inside,
-)
-matroid_spelled n (graphic vertices edges) rest valid = refl
-matroid_spelled n (transversal m family) rest valid = (
-  map (members_line (codes "set")) family ++ rest,
-  refl,
-  family_lines_spelled n family rest valid.2,
-)
-matroid_spelled n (gammoid vertices arcs sources targets) rest valid = (sources, set_lists vertices sources valid.5, refl)
-matroid_spelled n (gf2 dim columns) rest valid = refl
-matroid_spelled n (dual t) rest valid = (matroid_lines t ++ rest, refl, matroid_spelled n t rest valid)
-matroid_spelled n (truncate cap t) rest valid = (matroid_lines t ++ rest, refl, matroid_spelled n t rest valid.1)
-matroid_spelled n (restrict kept t) rest valid = (kept, matroid_lines t ++ rest, set_lists n kept valid.0, refl, matroid_spelled n t rest valid.1)
-matroid_spelled n (contract away t) rest valid = (away, matroid_lines t ++ rest, set_lists n away valid.0, refl, matroid_spelled n t rest valid.1)
+mutual
+  matroid_spelled : (n : ℕ) (tree : Tree) (rest : List Line) → IsValidTree n tree → MatroidLines tree (matroid_lines tree ++ rest) rest
+  matroid_spelled n (uniform m cap) rest valid = refl
+  matroid_spelled n (partition m classes caps) rest valid = (
+    capped_lines (codes "class") classes caps ++ rest,
+    refl,
+    capped_lines_spelled (codes "class") n classes caps rest valid.1.as_many valid.1.sets,
+  )
+  matroid_spelled n (laminar m sets caps) rest valid = (
+    capped_lines (codes "set") sets caps ++ rest,
+    refl,
+    capped_lines_spelled (codes "set") n sets caps rest valid.1.as_many valid.1.sets_inside,
+  )
+  matroid_spelled n (graphic vertices edges) rest valid = refl
+  matroid_spelled n (transversal m family) rest valid = (
+    map (members_line (codes "set")) family ++ rest,
+    refl,
+    family_lines_spelled n family rest valid.2,
+  )
+  matroid_spelled n (gammoid vertices arcs sources targets) rest valid = (sources, set_lists vertices sources valid.5, refl)
+  matroid_spelled n (gf2 dim columns) rest valid = refl
+  matroid_spelled n (dual t) rest valid = (matroid_lines t ++ rest, refl, matroid_spelled n t rest valid)
+  matroid_spelled n (truncate cap t) rest valid = (matroid_lines t ++ rest, refl, matroid_spelled n t rest valid.1)
+  matroid_spelled n (restrict kept t) rest valid = (kept, matroid_lines t ++ rest, set_lists n kept valid.0, refl, matroid_spelled n t rest valid.1)
+  matroid_spelled n (contract away t) rest valid = (away, matroid_lines t ++ rest, set_lists n away valid.0, refl, matroid_spelled n t rest valid.1)
+  matroid_spelled n (union ts) rest valid = (tree_lines ts ++ rest, refl, trees_spelled n ts rest valid.2)
+
+  trees_spelled : (n : ℕ) (ts : Trees) (rest : List Line) → AreValidTrees n ts → TreeLines ts (tree_lines ts ++ rest) rest
+  trees_spelled n no_trees rest valid = refl
+  trees_spelled n (more_trees t ts) rest valid =
+      let behind = tree_lines ts ++ rest in (
+        behind,
+        subst (λ (ls : List Line). MatroidLines t ls behind) (sym (append_assoc (matroid_lines t) (tree_lines ts) rest)) (matroid_spelled n t behind valid.0),
+        trees_spelled n ts rest valid.1,
+      )
 
 matroids_spelled : (n : ℕ) (matroids : List Tree) (rest : List Line) → All (IsValidMatroid n) matroids
     → MatroidsLines matroids (flat_map matroid_lines matroids ++ rest) rest

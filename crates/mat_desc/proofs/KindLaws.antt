@@ -37,6 +37,7 @@ spelling_of keywords.Dual = codes "dual"
 spelling_of keywords.Truncate = codes "truncate"
 spelling_of keywords.Restrict = codes "restrict"
 spelling_of keywords.Contract = codes "contract"
+spelling_of keywords.Union = codes "union"
 
 some_same : (a b : Keyword) → Some a ≡ Some b → a ≡ b
 some_same a b e = cc
@@ -59,7 +60,8 @@ keyword_found word keyword is =
     chosen word keywords.Uniform keyword _ (chosen word keywords.Partition keyword _ (chosen word keywords.Laminar keyword _
     (chosen word keywords.Graphic keyword _ (chosen word keywords.Transversal keyword _ (chosen word keywords.Gammoid keyword _
     (chosen word keywords.Gf2 keyword _ (chosen word keywords.Dual keyword _ (chosen word keywords.Truncate keyword _
-    (chosen word keywords.Restrict keyword _ (chosen word keywords.Contract keyword _ (none_chosen word keyword))))))))))) is
+    (chosen word keywords.Restrict keyword _ (chosen word keywords.Contract keyword _ (chosen word keywords.Union keyword _
+    (none_chosen word keyword)))))))))))) is
 
 -- ---- one kind
 

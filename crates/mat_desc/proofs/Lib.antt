@@ -20,4 +20,6 @@ pub mod InstanceLaws
 pub mod ProblemLaws
 pub mod Columns
 pub mod Writing
+pub mod UnionLines
+pub mod Rooms
 pub mod CanonicalLaws

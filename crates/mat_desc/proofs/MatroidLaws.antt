@@ -1,7 +1,7 @@
 -- The lines of a matroid: what is read is spelled so, and what is spelled so is read. The laws of the lines of one matroid are over any reader
 -- that is right for the matroids within it, in which fewer stand within one another. So each is right, by induction on that number.
 use Rattle.std.proofs.Common.{◌≡◌, ℕ, zero, suc, ◌≤◌, true, List, [], ◌∷◌, ◌++◌, length, map}
-use Rattle.std.proofs.Common.{pos, Option, Some, None, Result, Ok, refl, ap, subst, ◌∙◌, arith}
+use Rattle.std.proofs.Common.{pos, Option, Some, None, Result, Ok, refl, sym, ap, subst, ◌∙◌, arith}
 use Rattle.std.specs.Prelude.{codes}
 use Rattle.std.specs.List.{list_all}
 use Rattle.std.proofs.lemmas.Bool.{and_from}
@@ -9,19 +9,19 @@ use Rattle.mat_sets.specs.Families.{multiplicity}
 use Rattle.mat_words.specs.Words.{is_word}
 use Rattle.mat_words.specs.Numbers.{numeral, numerals}
 use Rattle.mat_words.proofs.NumberLemmas.{numeral_word}
-use Rattle.mat_any.specs.Trees.{Tree, uniform, partition, laminar, graphic, transversal, gammoid, gf2, dual, truncate, restrict, contract, depth}
+use Rattle.mat_any.specs.Trees.{Tree, Trees, uniform, partition, laminar, graphic, transversal, gammoid, gf2, dual, truncate, restrict, contract, union, no_trees, more_trees, tree_count, trees_from, depth, greatest_depth}
 use Rattle.mat_words.specs.Lines.{Line}
-use Rattle.mat_desc.specs.Limits.{most_elements, most_vertices, most_sets, most_digits, deepest}
+use Rattle.mat_desc.specs.Limits.{most_elements, most_vertices, most_sets, most_digits, most_matroids, deepest}
 use Rattle.mat_desc.specs.declared.keywords.Keyword.{Keyword}
 use Rattle.mat_desc.specs.declared.keywords.Keyword.TheVariants as keywords
 use Rattle.mat_words.specs.Cursors.{WordsLeft, LinesLeft}
-use Rattle.mat_words.specs.Steps.{◌>>=◌}
+use Rattle.mat_words.specs.Steps.{◌>>=◌, repeat_at}
 use Rattle.mat_words.specs.Reading.{word_at as word_read}
 use Rattle.mat_desc.specs.Faults.{Fault}
 use Rattle.mat_desc.specs.Reading.{line_at, word_at, size_at, ended_at, elements_at, uniform_at, partition_at}
 use Rattle.mat_desc.specs.Reading.{laminar_at, ends_line_at, graphic_at, column_at, gf2_at, TreeReader, dual_at}
-use Rattle.mat_desc.specs.Reading.{truncate_at, restrict_at, contract_at, keyword_of, kind_at, matroid_within, matroid_at}
-use Rattle.mat_desc.specs.Grammar.{IsPairBelow, IsValidTree, IsValidMatroid, AreClasses, AreNestedSets, MatroidLines, ends_line, column_line}
+use Rattle.mat_desc.specs.Reading.{truncate_at, restrict_at, contract_at, union_at, keyword_of, kind_at, matroid_within, matroid_at}
+use Rattle.mat_desc.specs.Grammar.{IsPairBelow, IsValidTree, IsValidMatroid, AreClasses, AreNestedSets, AreValidTrees, MatroidLines, TreeLines, ends_line, column_line}
 use Rattle.mat_words.proofs.ReadingSteps.{found-same, bind_found}
 use Rattle.mat_words.proofs.WordReading.{size_again, numerals_words}
 use Rattle.mat_words.proofs.LineReading.{AreLeft, line_again}
@@ -118,6 +118,56 @@ contract_found room n inner right words lines tree q e =
     made_found room n keywords.Contract (contract away.0.0) inner right (λ t valid. (in_range, valid)) (λ t. refl) words
     (λ t more rest spelled. (read.xs, more, lists, ap (λ (w : Line). (codes "contract" ∷ w) ∷ more) read.cut, spelled)) lines tree q away.2
 
+-- matroids were read one after the other, in each of which at most so many stand within one another
+record AreTreesRead (room n many : ℕ) (p : LinesLeft) (ts : Trees) (q : LinesLeft) : Type 0 where
+  count : tree_count ts ≡ many
+  valid : AreValidTrees n ts × (greatest_depth ts ≤ room)
+  spelled : (rest : List Line) → AreLeft rest q → (lines : List Line) × AreLeft lines p × TreeLines ts lines rest
+
+trees_found : (room n many : ℕ) (inner : TreeReader) → ReadsSpelled room n inner → (p : LinesLeft) (trees : List Tree) (q : LinesLeft)
+    → repeat_at inner many p ≡ Ok (trees, q) → AreTreesRead room n many p (trees_from trees) q
+unfolding repeat_at
+trees_found room n zero inner right p trees q e =
+    let same = found-same ([], p) (trees, q) e in
+    subst (λ (r : List Tree × LinesLeft). AreTreesRead room n 0 p (trees_from r.0) r.1) same
+    (record { count = refl; valid = (tt, omega arith); spelled = λ rest left. (rest, left, refl) })
+trees_found room n (suc many) inner right p trees q e =
+    let first = bind_found (inner p) _ (trees, q) e in
+    let others = bind_found (repeat_at inner many first.0.1) _ (trees, q) first.2 in
+    let same = found-same (first.0.0 ∷ others.0.0, others.0.1) (trees, q) others.2 in
+    let here = right p first.0.0 first.0.1 first.1 in
+    let more = trees_found room n many inner right first.0.1 others.0.0 others.0.1 others.1 in
+    subst (λ (r : List Tree × LinesLeft). AreTreesRead room n (suc many) p (trees_from r.0) r.1) same (record {
+      count = ap suc more.count;
+      valid = ((here.valid.0, more.valid.0), omega (arith, here.valid.1, more.valid.1));
+      spelled = λ rest left.
+          let behind = more.spelled rest left in
+          let lines = here.spelled behind.0 behind.1 in
+          (lines.0, lines.1, (behind.0, lines.2, behind.2));
+    })
+
+union_found : (room n : ℕ) (inner : TreeReader) → ReadsSpelled room n inner
+    → (words : WordsLeft) (lines : LinesLeft) (tree : Tree) (q : LinesLeft) → union_at inner words lines ≡ Ok (tree, q)
+    → IsKindRead room n keywords.Union words lines tree q
+unfolding union_at
+union_found room n inner right words lines tree q e =
+    let many = bind_found (size_at 1 most_matroids words) _ (tree, q) e in
+    let end = bind_found (ended_at many.0.1) _ (tree, q) many.2 in
+    let trees = bind_found (repeat_at inner many.0.0 lines) _ (tree, q) end.2 in
+    let ts = trees_from trees.0.0 in
+    let same = found-same (union ts, trees.0.1) (tree, q) trees.2 in
+    let number = size_found 1 most_matroids words many.0.0 many.0.1 many.1 in
+    let read = trees_found room n many.0.0 inner right lines trees.0.0 trees.0.1 trees.1 in
+    let line = cut_then (numeral (pos many.0.0)) words.words many.0.1.words [] number.cut (ended_found many.0.1 end.0 end.1) in
+    let one : IsKindRead room n keywords.Union words lines (union ts) trees.0.1 = record {
+      valid = ((omega (arith, read.count, number.least), omega (arith, read.count, number.most), read.valid.0), omega (arith, read.valid.1));
+      spelled = λ rest left.
+          let behind = read.spelled rest left in
+          let first = ap (λ (w : Line). (codes "union" ∷ w) ∷ behind.0) (line ∙ ap (λ k. numeral (pos k) ∷ []) (sym read.count)) in
+          (behind.0, behind.1, (behind.0, first, behind.2));
+    } in
+    subst (λ (r : Tree × LinesLeft). IsKindRead room n keywords.Union words lines r.0 r.1) same one
+
 kind_found : (room n line : ℕ) (inner : TreeReader) → ReadsSpelled room n inner
     → (keyword : Keyword) (words : WordsLeft) (lines : LinesLeft) (tree : Tree) (q : LinesLeft)
     → kind_at inner n line (Some keyword) words lines ≡ Ok (tree, q) → IsKindRead room n keyword words lines tree q
@@ -132,6 +182,7 @@ kind_found room n line inner right keywords.Dual words lines tree q e = dual_fou
 kind_found room n line inner right keywords.Truncate words lines tree q e = truncate_found room n inner right words lines tree q e
 kind_found room n line inner right keywords.Restrict words lines tree q e = restrict_found room n inner right words lines tree q e
 kind_found room n line inner right keywords.Contract words lines tree q e = contract_found room n inner right words lines tree q e
+kind_found room n line inner right keywords.Union words lines tree q e = union_found room n inner right words lines tree q e
 
 -- the next matroid, where `inner` reads a matroid within it
 abbrev node_at : TreeReader → ℕ → TreeReader
@@ -175,8 +226,19 @@ matroid_found n p tree q e = within_found deepest n p tree q e
 
 -- ---- what is spelled is read
 
+trees_again : (room n : ℕ) (inner : TreeReader) → SpelledIsRead room n inner → (p : LinesLeft) (ts : Trees) (lines rest : List Line)
+    → AreValidTrees n ts → greatest_depth ts ≤ room → TreeLines ts lines rest → AreLeft lines p
+    → (q : LinesLeft) × (trees : List Tree) × (repeat_at inner (tree_count ts) p ≡ Ok (trees, q)) × (trees_from trees ≡ ts) × AreLeft rest q
+unfolding repeat_at
+trees_again room n inner right p no_trees lines rest valid shallow spelled left =
+    (p, [], refl, refl, subst (λ (ls : List Line). AreLeft ls p) spelled left)
+trees_again room n inner right p (more_trees t ts) lines rest valid shallow spelled left =
+    let first = right p t lines spelled.0 valid.0 (omega (arith, shallow)) spelled.1 left in
+    let others = trees_again room n inner right first.0 ts spelled.0 rest valid.1 (omega (arith, shallow)) spelled.2 first.2 in
+    (others.0, t ∷ others.1, rw (first.1, others.2) refl, ap (more_trees t) others.3, others.4)
+
 node_again : (room n : ℕ) (inner : TreeReader) → SpelledIsRead room n inner → SpelledIsRead (suc room) n (node_at inner n)
-unfolding word_read uniform_at partition_at laminar_at graphic_at gf2_at dual_at truncate_at restrict_at contract_at multiplicity
+unfolding word_read uniform_at partition_at laminar_at graphic_at gf2_at dual_at truncate_at restrict_at contract_at union_at multiplicity
 node_again room n inner right p (uniform m cap) lines rest valid shallow spelled left =
     let number_word : list_all is_word (codes "uniform" ∷ numeral (pos cap) ∷ []) ≡ true =
     and_from (is_word (numeral (pos cap))) true (numeral_word (pos cap)) refl in
@@ -260,6 +322,13 @@ node_again room n inner right p (contract away t) lines rest valid shallow spell
     let set = set_again n p.line [] away xs valid.0 spelled.2 (λ x h. refl) in
     let within = right line.0 t spelled.1 rest valid.1 (omega (arith, shallow)) spelled.4 line.2 in
     (within.0, rw (line.1, set, within.1) refl, within.2)
+node_again room n inner right p (union ts) lines rest valid shallow spelled left =
+    let words : Line = codes "union" ∷ numeral (pos (tree_count ts)) ∷ [] in
+    let line = line_again p words spelled.0 (omega arith) (numerals_words (tree_count ts ∷ []))
+    (subst (λ (ls : List Line). AreLeft ls p) spelled.1 left) in
+    let number = size_again 1 most_matroids p.line (tree_count ts) [] valid.0 (omega (arith, valid.1)) in
+    let read = trees_again room n inner right line.0 ts spelled.0 rest valid.2 (omega (arith, shallow)) spelled.2 line.2 in
+    (read.0, rw (line.1, number, ended_again p.line, read.2, read.3) refl, read.4)
 
 -- a matroid stands in itself
 depth_some : (tree : Tree) → 1 ≤ depth tree
@@ -274,6 +343,7 @@ depth_some (dual t) = omega arith
 depth_some (truncate cap t) = omega arith
 depth_some (restrict kept t) = omega arith
 depth_some (contract away t) = omega arith
+depth_some (union ts) = omega arith
 
 within_again : (room n : ℕ) → SpelledIsRead room n (matroid_within room n)
 unfolding matroid_within

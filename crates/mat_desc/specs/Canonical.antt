@@ -3,7 +3,7 @@ use Rattle.std.specs.Prelude.{ℕ, List, [], ◌∷◌, ◌++◌, length, map, c
 use Rattle.std.specs.List.{zip, flat_map}
 use Rattle.mat_words.specs.Numbers.{numeral, numerals}
 use Rattle.mat_words.specs.Lines.{Line, text_of}
-use Rattle.mat_any.specs.Trees.{Tree, uniform, partition, laminar, graphic, transversal, gammoid, gf2, dual, truncate, restrict, contract}
+use Rattle.mat_any.specs.Trees.{Tree, Trees, uniform, partition, laminar, graphic, transversal, gammoid, gf2, dual, truncate, restrict, contract, union, no_trees, more_trees, tree_count}
 use Rattle.mat_words.specs.Writing.{end_line, members_line, weights_line}
 use Rattle.mat_desc.specs.Grammar.{ends_line, column_line, weighted_line, coloured_edge_line}
 use Rattle.mat_desc.specs.Grammar.{version_line, pair_header, list_header, graph_header, rooted_header, coloured_header, table_header}
@@ -17,20 +17,27 @@ capped_line key item = key ∷ numeral (pos item.1) ∷ numerals item.0
 abbrev pub capped_lines : List ℕ → List (List ℕ) → List ℕ → List Line
 capped_lines key sets caps = map (capped_line key) (zip sets caps)
 
--- the lines of a matroid
-abbrev pub matroid_lines : Tree → List Line
-matroid_lines (uniform n cap) = (codes "uniform" ∷ numeral (pos cap) ∷ []) ∷ []
-matroid_lines (partition n classes caps) = (codes "partition" ∷ numeral (pos (length classes)) ∷ []) ∷ capped_lines (codes "class") classes caps
-matroid_lines (laminar n sets caps) = (codes "laminar" ∷ numeral (pos (length sets)) ∷ []) ∷ capped_lines (codes "set") sets caps
-matroid_lines (graphic vertices edges) = (codes "graphic" ∷ numeral (pos vertices) ∷ []) ∷ map (ends_line (codes "edge")) edges
-matroid_lines (transversal n family) = (codes "transversal" ∷ numeral (pos (length family)) ∷ []) ∷ map (members_line (codes "set")) family
-matroid_lines (gammoid vertices arcs sources targets) = (codes "gammoid" ∷ numeral (pos vertices) ∷ numeral (pos (length arcs)) ∷ [])
-    ∷ members_line (codes "sources") sources ∷ members_line (codes "targets") targets ∷ map (ends_line (codes "arc")) arcs
-matroid_lines (gf2 dim columns) = (codes "gf2" ∷ numeral (pos dim) ∷ []) ∷ map (column_line dim) columns
-matroid_lines (dual t) = (codes "dual" ∷ []) ∷ matroid_lines t
-matroid_lines (truncate cap t) = (codes "truncate" ∷ numeral (pos cap) ∷ []) ∷ matroid_lines t
-matroid_lines (restrict kept t) = members_line (codes "restrict") kept ∷ matroid_lines t
-matroid_lines (contract away t) = members_line (codes "contract") away ∷ matroid_lines t
+abbrev mutual
+  -- the lines of a matroid
+  pub matroid_lines : Tree → List Line
+  matroid_lines (uniform n cap) = (codes "uniform" ∷ numeral (pos cap) ∷ []) ∷ []
+  matroid_lines (partition n classes caps) = (codes "partition" ∷ numeral (pos (length classes)) ∷ []) ∷ capped_lines (codes "class") classes caps
+  matroid_lines (laminar n sets caps) = (codes "laminar" ∷ numeral (pos (length sets)) ∷ []) ∷ capped_lines (codes "set") sets caps
+  matroid_lines (graphic vertices edges) = (codes "graphic" ∷ numeral (pos vertices) ∷ []) ∷ map (ends_line (codes "edge")) edges
+  matroid_lines (transversal n family) = (codes "transversal" ∷ numeral (pos (length family)) ∷ []) ∷ map (members_line (codes "set")) family
+  matroid_lines (gammoid vertices arcs sources targets) = (codes "gammoid" ∷ numeral (pos vertices) ∷ numeral (pos (length arcs)) ∷ [])
+      ∷ members_line (codes "sources") sources ∷ members_line (codes "targets") targets ∷ map (ends_line (codes "arc")) arcs
+  matroid_lines (gf2 dim columns) = (codes "gf2" ∷ numeral (pos dim) ∷ []) ∷ map (column_line dim) columns
+  matroid_lines (dual t) = (codes "dual" ∷ []) ∷ matroid_lines t
+  matroid_lines (truncate cap t) = (codes "truncate" ∷ numeral (pos cap) ∷ []) ∷ matroid_lines t
+  matroid_lines (restrict kept t) = members_line (codes "restrict") kept ∷ matroid_lines t
+  matroid_lines (contract away t) = members_line (codes "contract") away ∷ matroid_lines t
+  matroid_lines (union ts) = (codes "union" ∷ numeral (pos (tree_count ts)) ∷ []) ∷ tree_lines ts
+
+  -- the lines of each matroid of a union
+  pub tree_lines : Trees → List Line
+  tree_lines no_trees = []
+  tree_lines (more_trees t ts) = matroid_lines t ++ tree_lines ts
 
 -- the lines between the first and the last: the form line and those that follow it
 abbrev pub form_lines : Instance → List Line

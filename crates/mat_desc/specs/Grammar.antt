@@ -10,7 +10,7 @@ use Rattle.mat_words.specs.Weights.{weight_word}
 use Rattle.mat_words.specs.Lines.{Line, text_of}
 use Rattle.mat_words.specs.Writing.{end_line, members_line, weights_line}
 use Rattle.mat_count.specs.Laminar.{IsLaminarFamily}
-use Rattle.mat_any.specs.Trees.{Tree, uniform, partition, laminar, graphic, transversal, gammoid, gf2, dual, truncate, restrict, contract, depth}
+use Rattle.mat_any.specs.Trees.{Tree, Trees, uniform, partition, laminar, graphic, transversal, gammoid, gf2, dual, truncate, restrict, contract, union, no_trees, more_trees, tree_count, depth}
 use Rattle.mat_desc.specs.Binary.{binary}
 use Rattle.mat_desc.specs.Limits.{most_elements, most_vertices, most_sets, most_arcs, most_digits, most_matroids, deepest, largest_weight}
 use Rattle.mat_desc.specs.Instances.{Instance, pair, list, graph, rooted, coloured, table}
@@ -37,21 +37,28 @@ pub record AreNestedSets (n : ℕ) (sets : List (List ℕ)) (caps : List ℕ) : 
 abbrev pub IsPairBelow : ℕ → ℕ → ℕ × ℕ → Type 0
 IsPairBelow first_bound second_bound ends = (ends.0 < first_bound) × (ends.1 < second_bound)
 
--- a matroid on n elements whose numbers and lists are in range
-abbrev pub IsValidTree : ℕ → Tree → Type 0
-IsValidTree n (uniform m cap) = (m ≡ n) × (cap ≤ most_elements)
-IsValidTree n (partition m classes caps) = (m ≡ n) × AreClasses n classes caps
-IsValidTree n (laminar m sets caps) = (m ≡ n) × AreNestedSets n sets caps
-IsValidTree n (graphic vertices edges) = (length edges ≡ n) × (1 ≤ vertices) × (vertices ≤ most_vertices)
-    × All (IsPairBelow vertices vertices) edges
-IsValidTree n (transversal m family) = (m ≡ n) × (length family ≤ most_sets) × All (IsSet n) family
-IsValidTree n (gammoid vertices arcs sources targets) = (length targets ≡ n) × (1 ≤ vertices) × (vertices ≤ most_vertices)
-    × (length arcs ≤ most_arcs) × All (IsPairBelow vertices vertices) arcs × IsSet vertices sources × AllBelow vertices targets × AreDistinct targets
-IsValidTree n (gf2 dim columns) = (length columns ≡ n) × (1 ≤ dim) × (dim ≤ most_digits) × All (λ column. column < 2 ^ dim) columns
-IsValidTree n (dual t) = IsValidTree n t
-IsValidTree n (truncate cap t) = (cap ≤ most_elements) × IsValidTree n t
-IsValidTree n (restrict kept t) = IsSet n kept × IsValidTree n t
-IsValidTree n (contract away t) = IsSet n away × IsValidTree n t
+abbrev mutual
+  -- a matroid on n elements whose numbers and lists are in range
+  pub IsValidTree : ℕ → Tree → Type 0
+  IsValidTree n (uniform m cap) = (m ≡ n) × (cap ≤ most_elements)
+  IsValidTree n (partition m classes caps) = (m ≡ n) × AreClasses n classes caps
+  IsValidTree n (laminar m sets caps) = (m ≡ n) × AreNestedSets n sets caps
+  IsValidTree n (graphic vertices edges) = (length edges ≡ n) × (1 ≤ vertices) × (vertices ≤ most_vertices)
+      × All (IsPairBelow vertices vertices) edges
+  IsValidTree n (transversal m family) = (m ≡ n) × (length family ≤ most_sets) × All (IsSet n) family
+  IsValidTree n (gammoid vertices arcs sources targets) = (length targets ≡ n) × (1 ≤ vertices) × (vertices ≤ most_vertices)
+      × (length arcs ≤ most_arcs) × All (IsPairBelow vertices vertices) arcs × IsSet vertices sources × AllBelow vertices targets × AreDistinct targets
+  IsValidTree n (gf2 dim columns) = (length columns ≡ n) × (1 ≤ dim) × (dim ≤ most_digits) × All (λ column. column < 2 ^ dim) columns
+  IsValidTree n (dual t) = IsValidTree n t
+  IsValidTree n (truncate cap t) = (cap ≤ most_elements) × IsValidTree n t
+  IsValidTree n (restrict kept t) = IsSet n kept × IsValidTree n t
+  IsValidTree n (contract away t) = IsSet n away × IsValidTree n t
+  IsValidTree n (union ts) = (1 ≤ tree_count ts) × (tree_count ts ≤ most_matroids) × AreValidTrees n ts
+
+  -- such matroids
+  pub AreValidTrees : ℕ → Trees → Type 0
+  AreValidTrees n no_trees = Unit {0}
+  AreValidTrees n (more_trees t ts) = IsValidTree n t × AreValidTrees n ts
 
 -- a matroid of a form: no more matroids than may stand within one another do
 abbrev pub IsValidMatroid : ℕ → Tree → Type 0
@@ -112,28 +119,36 @@ ends_line key ends = key ∷ numeral (pos ends.0) ∷ numeral (pos ends.1) ∷ [
 abbrev pub column_line : ℕ → ℕ → Line
 column_line dim column = codes "column" ∷ binary dim column ∷ []
 
--- the lines of a matroid, and then the rest
-abbrev pub MatroidLines : Tree → List Line → List Line → Type 0
-MatroidLines (uniform n cap) lines rest = lines ≡ (codes "uniform" ∷ numeral (pos cap) ∷ []) ∷ rest
-MatroidLines (partition n classes caps) lines rest = (more : List Line)
-    × (lines ≡ (codes "partition" ∷ numeral (pos (length classes)) ∷ []) ∷ more) × CappedLines (codes "class") classes caps more rest
-MatroidLines (laminar n sets caps) lines rest = (more : List Line)
-    × (lines ≡ (codes "laminar" ∷ numeral (pos (length sets)) ∷ []) ∷ more) × CappedLines (codes "set") sets caps more rest
-MatroidLines (graphic vertices edges) lines rest =
-    lines ≡ (codes "graphic" ∷ numeral (pos vertices) ∷ []) ∷ (map (ends_line (codes "edge")) edges ++ rest)
-MatroidLines (transversal n family) lines rest = (more : List Line)
-    × (lines ≡ (codes "transversal" ∷ numeral (pos (length family)) ∷ []) ∷ more) × FamilyLines family more rest
-MatroidLines (gammoid vertices arcs sources targets) lines rest = (xs : List ℕ) × Lists xs sources
-    × (lines ≡ (codes "gammoid" ∷ numeral (pos vertices) ∷ numeral (pos (length arcs)) ∷ []) ∷ members_line (codes "sources") xs
-    ∷ members_line (codes "targets") targets ∷ (map (ends_line (codes "arc")) arcs ++ rest))
-MatroidLines (gf2 dim columns) lines rest = lines ≡ (codes "gf2" ∷ numeral (pos dim) ∷ []) ∷ (map (column_line dim) columns ++ rest)
-MatroidLines (dual t) lines rest = (more : List Line) × (lines ≡ (codes "dual" ∷ []) ∷ more) × MatroidLines t more rest
-MatroidLines (truncate cap t) lines rest = (more : List Line)
-    × (lines ≡ (codes "truncate" ∷ numeral (pos cap) ∷ []) ∷ more) × MatroidLines t more rest
-MatroidLines (restrict kept t) lines rest = (xs : List ℕ) × (more : List Line) × Lists xs kept
-    × (lines ≡ members_line (codes "restrict") xs ∷ more) × MatroidLines t more rest
-MatroidLines (contract away t) lines rest = (xs : List ℕ) × (more : List Line) × Lists xs away
-    × (lines ≡ members_line (codes "contract") xs ∷ more) × MatroidLines t more rest
+abbrev mutual
+  -- the lines of a matroid, and then the rest
+  pub MatroidLines : Tree → List Line → List Line → Type 0
+  MatroidLines (uniform n cap) lines rest = lines ≡ (codes "uniform" ∷ numeral (pos cap) ∷ []) ∷ rest
+  MatroidLines (partition n classes caps) lines rest = (more : List Line)
+      × (lines ≡ (codes "partition" ∷ numeral (pos (length classes)) ∷ []) ∷ more) × CappedLines (codes "class") classes caps more rest
+  MatroidLines (laminar n sets caps) lines rest = (more : List Line)
+      × (lines ≡ (codes "laminar" ∷ numeral (pos (length sets)) ∷ []) ∷ more) × CappedLines (codes "set") sets caps more rest
+  MatroidLines (graphic vertices edges) lines rest =
+      lines ≡ (codes "graphic" ∷ numeral (pos vertices) ∷ []) ∷ (map (ends_line (codes "edge")) edges ++ rest)
+  MatroidLines (transversal n family) lines rest = (more : List Line)
+      × (lines ≡ (codes "transversal" ∷ numeral (pos (length family)) ∷ []) ∷ more) × FamilyLines family more rest
+  MatroidLines (gammoid vertices arcs sources targets) lines rest = (xs : List ℕ) × Lists xs sources
+      × (lines ≡ (codes "gammoid" ∷ numeral (pos vertices) ∷ numeral (pos (length arcs)) ∷ []) ∷ members_line (codes "sources") xs
+      ∷ members_line (codes "targets") targets ∷ (map (ends_line (codes "arc")) arcs ++ rest))
+  MatroidLines (gf2 dim columns) lines rest = lines ≡ (codes "gf2" ∷ numeral (pos dim) ∷ []) ∷ (map (column_line dim) columns ++ rest)
+  MatroidLines (dual t) lines rest = (more : List Line) × (lines ≡ (codes "dual" ∷ []) ∷ more) × MatroidLines t more rest
+  MatroidLines (truncate cap t) lines rest = (more : List Line)
+      × (lines ≡ (codes "truncate" ∷ numeral (pos cap) ∷ []) ∷ more) × MatroidLines t more rest
+  MatroidLines (restrict kept t) lines rest = (xs : List ℕ) × (more : List Line) × Lists xs kept
+      × (lines ≡ members_line (codes "restrict") xs ∷ more) × MatroidLines t more rest
+  MatroidLines (contract away t) lines rest = (xs : List ℕ) × (more : List Line) × Lists xs away
+      × (lines ≡ members_line (codes "contract") xs ∷ more) × MatroidLines t more rest
+  MatroidLines (union ts) lines rest = (more : List Line)
+      × (lines ≡ (codes "union" ∷ numeral (pos (tree_count ts)) ∷ []) ∷ more) × TreeLines ts more rest
+
+  -- the lines of each matroid of a union, and then the rest
+  pub TreeLines : Trees → List Line → List Line → Type 0
+  TreeLines no_trees lines rest = lines ≡ rest
+  TreeLines (more_trees t ts) lines rest = (more : List Line) × MatroidLines t lines more × TreeLines ts more rest
 
 -- the lines of each matroid, and then the rest
 abbrev pub MatroidsLines : List Tree → List Line → List Line → Type 0

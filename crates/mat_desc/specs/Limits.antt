@@ -21,7 +21,7 @@ most_arcs = 20000
 abbrev pub most_digits : ℕ
 most_digits = 128
 
--- the most matroids of a list
+-- the most matroids of a list or of a union
 abbrev pub most_matroids : ℕ
 most_matroids = 64
 

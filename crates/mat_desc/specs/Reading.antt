@@ -8,7 +8,7 @@ use Rattle.mat_words.specs.Lines.{lines_of}
 use Rattle.mat_words.specs.Reading as reading
 use Rattle.mat_sets.specs.declared.weight.Weight.{Weight}
 use Rattle.mat_count.specs.Laminar.{is_crossed}
-use Rattle.mat_any.specs.Trees.{Tree, uniform, partition, laminar, graphic, transversal, gammoid, gf2, dual, truncate, restrict, contract}
+use Rattle.mat_any.specs.Trees.{Tree, uniform, partition, laminar, graphic, transversal, gammoid, gf2, dual, truncate, restrict, contract, union, trees_from}
 use Rattle.mat_desc.specs.declared.refusal.DescKind.TheVariants as kinds
 use Rattle.mat_desc.specs.declared.keywords.Form.{Form}
 use Rattle.mat_desc.specs.declared.keywords.Form.TheVariants as forms
@@ -277,6 +277,14 @@ contract_at inner n words lines = do
   t ← inner lines
   Ok (contract away.0 t.0, t.1)
 
+-- a union, from the words behind its keyword on; `inner` reads each matroid within
+unfoldable pub union_at : TreeReader → WordsLeft → LinesLeft → Result (Tree × LinesLeft) Fault
+union_at inner words lines = do
+  many ← size_at 1 most_matroids words
+  end ← ended_at many.1
+  matroids ← repeat_at inner many.0 lines
+  Ok (union (trees_from matroids.0), matroids.1)
+
 -- the keyword of a matroid that a word is, if it is one
 abbrev pub keyword_of : List ℕ → Option Keyword
 keyword_of word = if bytes_eq word (codes "uniform") then Some keywords.Uniform else
@@ -289,7 +297,8 @@ keyword_of word = if bytes_eq word (codes "uniform") then Some keywords.Uniform 
     (if bytes_eq word (codes "dual") then Some keywords.Dual else
     (if bytes_eq word (codes "truncate") then Some keywords.Truncate else
     (if bytes_eq word (codes "restrict") then Some keywords.Restrict else
-    (if bytes_eq word (codes "contract") then Some keywords.Contract else None))))))))))
+    (if bytes_eq word (codes "contract") then Some keywords.Contract else
+    (if bytes_eq word (codes "union") then Some keywords.Union else None)))))))))))
 
 -- a matroid on n elements, from the words behind its keyword in line number `line` on; `inner` reads a matroid within it
 abbrev pub kind_at : TreeReader → ℕ → ℕ → Option Keyword → WordsLeft → LinesLeft → Result (Tree × LinesLeft) Fault
@@ -305,6 +314,7 @@ kind_at inner n line (Some keywords.Dual) words lines = dual_at inner words line
 kind_at inner n line (Some keywords.Truncate) words lines = truncate_at inner words lines
 kind_at inner n line (Some keywords.Restrict) words lines = restrict_at inner n words lines
 kind_at inner n line (Some keywords.Contract) words lines = contract_at inner n words lines
+kind_at inner n line (Some keywords.Union) words lines = union_at inner words lines
 
 -- A matroid on n elements, in which at most so many matroids stand within one another. Where there is no room for one more, its line is
 -- still needed, has to be well spaced and to have words, and is then too deep, whatever its words are.

@@ -45,6 +45,8 @@ pub enum Keyword {
     Restrict,
     /// `contract`: a matroid with a set of its elements contracted.
     Contract,
+    /// `union`: sets that are made up of an independent set of each of some matroids.
+    Union,
 }
 
 /// The form that a word names.
@@ -94,6 +96,8 @@ pub(crate) fn keyword_from(word: &[u8]) -> Option<Keyword>
         Some(Keyword::Restrict)
     } else if word == b"contract".as_slice() {
         Some(Keyword::Contract)
+    } else if word == b"union".as_slice() {
+        Some(Keyword::Union)
     } else {
         None
     }

@@ -15,7 +15,7 @@ pub(crate) const MOST_ARCS: u32 = 20_000;
 /// The most binary digits of a column.
 pub(crate) const MOST_DIGITS: u32 = 128;
 
-/// The most matroids of a list.
+/// The most matroids of a list or of a union.
 pub(crate) const MOST_MATROIDS: u32 = 64;
 
 /// The most matroids that stand within one another.

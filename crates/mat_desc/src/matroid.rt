@@ -1,17 +1,18 @@
 //! Reading matroids.
 
 ghost use Rattle.std.specs.Prelude.{◌≡◌, ◌<◌, ◌^◌, [], length, map};
+ghost use Rattle.mat_any.specs.Trees.{trees_from, union};
 ghost use Rattle.mat_any.specs.Views.{tree_of};
 ghost use Rattle.mat_desc.specs.Faults.{Gives};
 ghost use Rattle.mat_words.specs.Steps.{repeat_at};
 ghost use Rattle.mat_desc.specs.Reading.{class_at, classes_at, nested_set_at, nested_sets_at};
-ghost use Rattle.mat_desc.specs.Reading.{uniform_at, partition_at, laminar_at, graphic_at, gf2_at, dual_at, truncate_at, restrict_at, contract_at};
+ghost use Rattle.mat_desc.specs.Reading.{uniform_at, partition_at, laminar_at, graphic_at, gf2_at, dual_at, truncate_at, restrict_at, contract_at, union_at};
 ghost use Rattle.mat_desc.specs.Reading.{matroid_within, matroid_at};
 ghost use Rattle.mat_words.specs.Cursors.{lines_left, words_left};
 
 use crate::item_lines::{column_lines, ends_lines};
 use crate::keywords::{Keyword, keyword_from};
-use crate::limits::{DEEPEST, MOST_DIGITS, MOST_ELEMENTS, MOST_SETS, MOST_VERTICES};
+use crate::limits::{DEEPEST, MOST_DIGITS, MOST_ELEMENTS, MOST_MATROIDS, MOST_SETS, MOST_VERTICES};
 use crate::linked_lines::{gammoid, transversal};
 use crate::reading::{elements_line, ended};
 use crate::refusal::{DescKind, DescRefusal, fault};
@@ -274,6 +275,54 @@ fn contraction<'a>(
     Ok((AnyMatroid::Contract { away, inner }, rest))
 }
 
+/// A union, from the words behind its keyword on, with `room` as of a dual.
+#[cycle(reading)]
+#[tactic(auto, unfolding(crate::specs::Reading::union_at))]
+fn union_of<'a>(
+    alloc: Global,
+    room: u32,
+    count: u32,
+    words: WordCursor<'a>,
+    lines: LineCursor<'a>,
+) -> Result<(AnyMatroid, LineCursor<'a>), DescRefusal>
+    ensures { Gives (λ x. (tree_of x.0, lines_left x.1)) result
+        (union_at (matroid_within room count) (words_left words.entry) (lines_left lines.entry)) }
+{
+    let (many, words) = next_size(words, 1, MOST_MATROIDS)?;
+    ended(words)?;
+    let (parts, rest) = matroids_within(alloc, room, count, many, lines)?;
+    Ok((joined(parts), rest))
+}
+
+/// The union of these matroids. It takes no memory.
+fn joined(parts: Vec<AnyMatroid>) -> AnyMatroid
+    ensures { tree_of result ≡ union (trees_from (map tree_of parts.items)) }
+{
+    AnyMatroid::Union { parts }
+}
+
+/// As many matroids within another, with `room` as of a dual.
+#[cycle(reading)]
+fn matroids_within<'a>(
+    alloc: Global,
+    room: u32,
+    count: u32,
+    many: u32,
+    lines: LineCursor<'a>,
+) -> Result<(Vec<AnyMatroid>, LineCursor<'a>), DescRefusal>
+    ensures { Gives (λ x. (map tree_of x.0.items, lines_left x.1)) result
+        (repeat_at (matroid_within room count) many (lines_left lines.entry)) }
+{
+    let mut matroids = Vec::new(alloc);
+    let mut rest = lines;
+    for _ in 0..many {
+        let (matroid, after) = next_matroid_within(alloc, room, count, rest)?;
+        matroids.push(matroid)?;
+        rest = after;
+    }
+    Ok((matroids, rest))
+}
+
 /// The next matroid, on `count` elements, in which at most `room` matroids stand within one another. The recursion goes no deeper than that.
 #[cycle(reading)]
 #[tactic(auto, unfolding(crate::specs::Reading::matroid_within))]
@@ -305,6 +354,7 @@ fn next_matroid_within<'a>(
         Some(Keyword::Truncate) => truncation(alloc, room - 1, count, words, rest),
         Some(Keyword::Restrict) => restriction(alloc, room - 1, count, words, rest),
         Some(Keyword::Contract) => contraction(alloc, room - 1, count, words, rest),
+        Some(Keyword::Union) => union_of(alloc, room - 1, count, words, rest),
     }
 }
 

@@ -168,7 +168,8 @@ fn put_gf2(out: &mut Vec<u8>, matroid: &Gf2) -> Result<(), AllocError>
     Ok(())
 }
 
-/// Appends the lines of a matroid, and behind its line those of the matroid within it, if there is one.
+/// Appends the lines of a matroid, and behind its line those of the matroids within it, if there are any.
+#[cycle(writing)]
 fn put_matroid(out: &mut Vec<u8>, matroid: &AnyMatroid) -> Result<(), AllocError>
     ensures { OnOk result (out.new.items ≡ out.old.items ++ text_of (matroid_lines (tree_of matroid.now))) }
 {
@@ -200,10 +201,16 @@ fn put_matroid(out: &mut Vec<u8>, matroid: &AnyMatroid) -> Result<(), AllocError
             put_members_line(out, b"contract", away.as_slice())?;
             put_matroid(out, inner)
         }
+        AnyMatroid::Union { parts } => {
+            put_numbers_line(out, b"union", &[parts.len() as i128])?;
+            put_matroids(out, parts)?;
+            Ok(())
+        }
     }
 }
 
 /// Appends the lines of each matroid.
+#[cycle(writing)]
 fn put_matroids(out: &mut Vec<u8>, matroids: &[AnyMatroid]) -> Result<(), AllocError>
     ensures { OnOk result (out.new.items ≡ out.old.items ++ text_of (flat_map matroid_lines (map tree_of matroids.now))) }
 {

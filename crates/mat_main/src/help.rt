@@ -10,6 +10,15 @@ matbench: weighted optimisation over matroids, with answers that are proved best
 usage: matbench show FILE                          the canonical text of a description
        matbench best [--workers N] FILE            a heaviest set of each size that is independent in one matroid
        matbench intersect [--workers N] FILE       a heaviest set of each size that is independent in both matroids
+       matbench union [--workers N] FILE           disjoint sets, one for each matroid of a list and independent in
+                                                   it, as many elements as can be, and then of greatest weight
+       matbench pack [--workers N] FILE            as many disjoint bases of one matroid as there are
+       matbench cover [--workers N] FILE           as few independent sets of one matroid as cover all elements
+       matbench trees [--workers N] K FILE         K spanning trees of a graph that share no edge, or why not
+       matbench arborescence [--workers N] FILE    arcs of least cost along which a root reaches all vertices
+       matbench disjoint [--workers N] K FILE      K such sets of arcs that share no arc, or why not
+       matbench rainbow [--workers N] FILE         a heaviest forest of each size of edges of different colours
+       matbench assign [--workers N] FILE          heaviest cells of each number, no two in one row or column
        matbench check [--workers N] FILE CERT      whether a certificate is right for a description: yes, or what
                                                    fails of it
        matbench --help                             this text
@@ -18,7 +27,7 @@ usage: matbench show FILE                          the canonical text of a descr
 FILE is the name of a description, CERT that of a certificate, and - is standard input. What a command gives is
 written to standard output. N is from 1 to 16: so many workers compute the answer side by side, where there is
 enough to do; without the option there is one. Right behind a command --workers is always the option, and names no
-file; show takes none.
+file; show takes none. K is from 1 to 64.
 
 A description is a text. Each line ends with a newline, and its words have one space between them.
     matroids 1                     the version of the format
@@ -29,17 +38,20 @@ A description is a text. Each line ends with a newline, and its words have one s
     class CAP E E ..               .. each with at most CAP of its elements in a set; no element in two classes
     uniform CAP                    the second matroid: sets of at most CAP elements (or a partition again)
     end
-For best the form is list N 1, then weights and one matroid. Other forms, which show reads: list N M, then
-weights and M matroids; graph V E, then E lines edge U W; rooted V E R, then E lines arc T H COST;
-coloured V E C, then E lines edge U W COLOUR WEIGHT; table R C E, then E lines cell ROW COLUMN WEIGHT.
+For best, pack and cover the form is list N 1, then weights and one matroid; for union list N M, then weights and M
+matroids; for trees graph V E, then E lines edge U W; for arborescence and disjoint rooted V E R, then E lines
+arc T H COST; for rainbow coloured V E C, then E lines edge U W COLOUR WEIGHT; for assign table R C E, then E lines
+cell ROW COLUMN WEIGHT.
 Other matroids: laminar Q, then Q lines set CAP E E .., of which any two are apart or nested; graphic V, then N
 lines edge U W, whose sets are forests; gf2 D, then N lines column BITS of D digits 0 or 1, whose sets have no
 part that adds up to zero; transversal Q, then Q lines set E E .., whose sets can be given to different ones of
 them; gammoid V A, then sources S S .., targets T T .. and A lines arc T H, whose sets are reached from the
 sources at once by routes that do not meet.
-Matroids of the matroid that follows: dual; truncate CAP; restrict E E ..; contract E E ..; at most 16 deep.
+Matroids of the matroid that follows: dual; truncate CAP; restrict E E ..; contract E E ..; of M that follow: union M;
+at most 16 deep.
 
-A certificate is a text of such lines, the answer of best or of intersect. It has a rung for each size from 0 on.
+A certificate is a text of such lines, the answer of a command; docs/FORMATS.md has those of each. That of best or
+intersect has a rung for each size from 0 on.
     certificate 1                  the version of the format
     answer intersect N K           the command (best, or intersect), the number of elements, and the largest size
     rung SIZE WEIGHT               for each size the weight of a set of so many elements ..
@@ -52,7 +64,8 @@ A certificate is a text of such lines, the answer of best or of intersect. It ha
 exit statuses, and the line that is then written to standard error:
     0  done
     1  the certificate is not right: the first clause of it that fails (header, weight, dependent, sum, beaten,
-       short or cut), with two numbers that say where
+       short, cut, overlap, level, outside, missed, claim, empty, root, crossing, tree or colours), with two
+       numbers that say where
     2  usage: the words are none of the above
     3  bad description: its first fault, by number and name, and the line
     4  bad certificate: likewise

@@ -1,7 +1,13 @@
 pub mod ReadingLemmas
 pub mod SetWeights
+pub mod FamilySets
 pub mod PricedLadder
 pub mod PlainLadder
+pub mod FrontSolutions
+pub mod TreeSolutions
+pub mod UnionSolutions
+pub mod PackSolutions
+pub mod GraphSolutions
 pub mod Refusing
 pub mod Judging
 pub mod Ending

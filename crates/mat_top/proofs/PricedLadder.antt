@@ -1,4 +1,4 @@
--- A ladder of two matroids as an answer: the weight of each set is in range, since it has at most as many elements as there are, and so
+-- Ladders of two matroids as answers: the weight of each set is in range, since it has at most as many elements as there are, and so
 -- are the numbers of each split, within the bound for as many elements.
 use Rattle.std.proofs.Common.{◌≡◌, ℕ, zero, suc, ◌+◌, ◌-◌, ◌*◌, ◌^◌, ◌<◌, ◌≤◌, Bool, List, [], ◌∷◌, length}
 use Rattle.std.proofs.Common.{get_or, Some, refl, arith}
@@ -16,10 +16,11 @@ use Rattle.mat_any.specs.Trees.{Tree, is_independent}
 use Rattle.mat_split.specs.declared.ladder.Rung.{Rung}
 use Rattle.mat_split.specs.Ladders.{IsBoundedRung, IsLadder}
 use Rattle.mat_desc.specs.Instances.{pair}
-use Rattle.mat_cert.specs.Certificates.{IsRangedPricedRung, intersect, last_rung}
+use Rattle.mat_cert.specs.Certificates.{IsRangedPricedRung, IsRangedLadder, intersect, last_rung}
 use Rattle.mat_cert.specs.declared.answer.PricedRung.{PricedRung}
+use Rattle.mat_check.specs.Right.{IsRightLadder}
 use Rattle.mat_top.proofs.SetWeights.{set_in_range, weight_within_more}
-use Rattle.mat_top.specs.Answers.{IsSolution}
+use Rattle.mat_top.specs.Answers.{IsSolution, HaveBoundedSplits}
 use Rattle.mat_top.specs.PricedRungs.{priced_rung, HaveFewElements}
 
 -- ---- bounds
@@ -33,7 +34,7 @@ split_bound-small n few =
     (2 * 10 ^ 12 * 501 * 500) 501 b (omega arith) in
     omega arith
 
-split_bound-less : (n : ℕ) → n ≤ 500 → split_bound n ≤ 10 ^ 30
+pub split_bound-less : (n : ℕ) → n ≤ 500 → split_bound n ≤ 10 ^ 30
 split_bound-less n few =
     let small = split_bound-small n few in
     omega arith
@@ -85,32 +86,53 @@ rung_of w (rung ∷ rungs) zero priced at = (rung, refl, some_is priced (priced_
     some_is x y h = cc
 rung_of w (rung ∷ rungs) (suc k) priced at = rung_of w rungs k priced at
 
+-- ---- ladders
+
+module _ {n : ℕ} {p q : List ℕ → Bool} (laws : IsMatroid n p) {w : List Weight} (few : n ≤ 500) (small : AreWeightsWithin (10 ^ 12) w)
+    (rungs : List Rung) (cut : List ℕ) (ladder : IsLadder n p q w rungs cut) where
+  rungs_count : length (map (priced_rung w) rungs) ≡ length rungs
+  rungs_count = length-map rungs (priced_rung w)
+
+  some_rung : 0 < length (map (priced_rung w) rungs)
+  some_rung = omega (arith, rungs_count, ladder.some)
+
+  cut_at_end : IsCut n p q (last_rung (map (priced_rung w) rungs)) cut
+  cut_at_end = (let count = rungs_count in let some = some_rung in ladder.last _ (omega arith))
+
+  -- the rungs with the weights of their sets, and the cut, are in range
+  pub priced_ranged : IsRangedLadder n (map (priced_rung w) rungs) cut
+  priced_ranged = (
+    record {
+      few = few;
+      some = some_rung;
+      no_more = omega (arith, few_rungs laws few small rungs cut ladder, rungs_count);
+      each = λ k priced at. (let r = rung_of w rungs k priced at in rw r.2 (ranged_rung laws few small k r.0 (ladder.each k r.0 r.1)));
+    },
+    cut_at_end.set,
+  )
+
+  -- they are right
+  pub priced_right : IsRightLadder n p q w (map (priced_rung w) rungs) cut
+  priced_right = record {
+    some = some_rung;
+    each = λ k priced at. (let r = rung_of w rungs k priced at in rw r.2 (record { priced = refl; right = (ladder.each k r.0 r.1).right }));
+    ends = cut_at_end;
+  }
+
+  -- the numbers of their splits are within the bound
+  pub priced_bounded : HaveBoundedSplits n (map (priced_rung w) rungs)
+  priced_bounded k priced at =
+      let r = rung_of w rungs k priced at in
+      let b = ladder.each k r.0 r.1 in
+      rw r.2 (b.first_bounded, b.second_bounded)
+
 -- a ladder of two matroids, with the weights of its sets, is a solution
 pub priced_solution : (n : ℕ) (first second : Tree) (w : List Weight) (rungs : List Rung) (cut : List ℕ) → n ≡ length w
     → IsMatroid n (is_independent first) → n ≤ 500 → AreWeightsWithin (10 ^ 12) w
     → IsLadder n (is_independent first) (is_independent second) w rungs cut
     → IsSolution (pair w first second) (intersect n (map (priced_rung w) rungs) cut)
-priced_solution n first second w rungs cut same laws few small ladder =
-    let count : length (map (priced_rung w) rungs) ≡ length rungs = length-map rungs (priced_rung w) in
-    let some : 0 < length (map (priced_rung w) rungs) = omega (arith, ladder.some) in
-    let cut_is : IsCut n (is_independent first) (is_independent second) (last_rung (map (priced_rung w) rungs)) cut = ladder.last _ (omega arith) in
-    record {
-      ranged = (
-        record {
-          few = few;
-          some = some;
-          no_more = omega (arith, few_rungs laws few small rungs cut ladder);
-          each = λ k priced at. (let r = rung_of w rungs k priced at in rw r.2 (ranged_rung laws few small k r.0 (ladder.each k r.0 r.1)));
-        },
-        cut_is.set,
-      );
-      right = (
-        same,
-        record {
-          some = some;
-          each = λ k priced at. (let r = rung_of w rungs k priced at in rw r.2 (record { priced = refl; right = (ladder.each k r.0 r.1).right }));
-          ends = cut_is;
-        },
-      );
-      bounded = λ k priced at. (let r = rung_of w rungs k priced at in let b = ladder.each k r.0 r.1 in rw r.2 (b.first_bounded, b.second_bounded));
-    }
+priced_solution n first second w rungs cut same laws few small ladder = record {
+  ranged = priced_ranged laws few small rungs cut ladder;
+  right = (same, priced_right laws few small rungs cut ladder);
+  bounded = priced_bounded laws few small rungs cut ladder;
+}

@@ -13,7 +13,7 @@ use Rattle.mat_top.specs.declared.status.Status.{Status}
 use Rattle.mat_top.specs.declared.status.Status.TheVariants as statuses
 use Rattle.mat_top.specs.declared.status.Refusal.{Refusal}
 use Rattle.mat_top.specs.declared.status.Refusal.TheVariants as refusals
-use Rattle.mat_top.specs.CommandLines.{Task, show, best, intersect, check, description_file}
+use Rattle.mat_top.specs.CommandLines.{Task, show, solve, check, description_file}
 use Rattle.mat_top.specs.Statuses.{refusal_of_unread, refusal_of_description}
 use Rattle.mat_top.specs.Outcomes.{description_limit, IsFaulty, IsDescribed, IsProblemOutcome, IsBytesOutcome, IsCertificateOutcome}
 use Rattle.mat_top.specs.Outcomes.{Tells, TellsCertificate, IsOutcome, CallReaches, IsTextFor, IsAnswerTo}
@@ -47,8 +47,7 @@ told_with (Some bytes) P Q R tells h f = f bytes h
 -- the call reaches the file of the description
 reaches_description : (held : List ℕ → Option (List ℕ)) (task : Task) → CallReaches held (Some task) (description_file task)
 reaches_description held (show file) = refl
-reaches_description held (best file) = refl
-reaches_description held (intersect file) = refl
+reaches_description held (solve query file) = refl
 reaches_description held (check file certificate) = inl refl
 
 -- why the description was not read
@@ -136,8 +135,7 @@ module _ (held after : List ℕ → Option (List ℕ)) (same : (name : List ℕ)
     where
       moved : (task : Task) → IsTextFor after task instance text → IsTextFor held task instance text
       moved (show file) answer = answer
-      moved (best file) answer = answer
-      moved (intersect file) answer = answer
+      moved (solve query file) answer = answer
       moved (check file certificate) answer =
           (answer.0, subst (λ o. IfSome o (λ bytes. IsCertificateOutcome instance bytes statuses.Done)) (same certificate) answer.1)
 
@@ -148,8 +146,7 @@ module _ (held after : List ℕ → Option (List ℕ)) (same : (name : List ℕ)
     where
       moved : (task : Task) → HasNoText after task instance before now refusal → HasNoText held task instance earlier now refusal
       moved (show file) why = why
-      moved (best file) why = why
-      moved (intersect file) why = why
+      moved (solve query file) why = why
       moved (check file certificate) why = subst (λ o. IsUncertified instance o (earlier certificate) (now certificate) refusal) (same certificate)
           (uncertified_before instance (after certificate) (earlier certificate) (before certificate) (now certificate) refusal (le certificate) why)
 
@@ -184,8 +181,7 @@ module _ (held : List ℕ → Option (List ℕ)) (bytes : List ℕ) (instance : 
       done : (task : Task) → IsTextFor held task instance text → TellsCertificate held task bytes
           → IsProblemOutcome held task instance statuses.Done
       done (show file) answer t = tt
-      done (best file) answer t = answer.0
-      done (intersect file) answer t = answer.0
+      done (solve query file) answer t = answer.0
       done (check file certificate) answer t = told (held certificate) _ _ (t instance described) answer.1 (λ all outcome. outcome)
 
   -- why the certificate gives no text
@@ -233,24 +229,15 @@ module _ (held : List ℕ → Option (List ℕ)) (bytes : List ℕ) (instance : 
   not_written (show file) before now (refusals.BadDescription kind number) same why = absurd why
   not_written (show file) before now refusals.Usage same why = absurd why
   not_written (show file) before now refusals.WriteFault same why = absurd why
-  not_written (best file) before now refusals.Memory same why = tt
-  not_written (best file) before now refusals.WrongShape same why = (problem_outcome (best file) statuses.WrongShape same (λ t. why), tt)
-  not_written (best file) before now refusals.ReadFault same why = absurd why
-  not_written (best file) before now refusals.TooLong same why = absurd why
-  not_written (best file) before now (refusals.BadCertificate kind number) same why = absurd why
-  not_written (best file) before now (refusals.No reason first second) same why = absurd why
-  not_written (best file) before now (refusals.BadDescription kind number) same why = absurd why
-  not_written (best file) before now refusals.Usage same why = absurd why
-  not_written (best file) before now refusals.WriteFault same why = absurd why
-  not_written (intersect file) before now refusals.Memory same why = tt
-  not_written (intersect file) before now refusals.WrongShape same why = (problem_outcome (intersect file) statuses.WrongShape same (λ t. why), tt)
-  not_written (intersect file) before now refusals.ReadFault same why = absurd why
-  not_written (intersect file) before now refusals.TooLong same why = absurd why
-  not_written (intersect file) before now (refusals.BadCertificate kind number) same why = absurd why
-  not_written (intersect file) before now (refusals.No reason first second) same why = absurd why
-  not_written (intersect file) before now (refusals.BadDescription kind number) same why = absurd why
-  not_written (intersect file) before now refusals.Usage same why = absurd why
-  not_written (intersect file) before now refusals.WriteFault same why = absurd why
+  not_written (solve query file) before now refusals.Memory same why = tt
+  not_written (solve query file) before now refusals.WrongShape same why = (problem_outcome (solve query file) statuses.WrongShape same (λ t. why), tt)
+  not_written (solve query file) before now refusals.ReadFault same why = absurd why
+  not_written (solve query file) before now refusals.TooLong same why = absurd why
+  not_written (solve query file) before now (refusals.BadCertificate kind number) same why = absurd why
+  not_written (solve query file) before now (refusals.No reason first second) same why = absurd why
+  not_written (solve query file) before now (refusals.BadDescription kind number) same why = absurd why
+  not_written (solve query file) before now refusals.Usage same why = absurd why
+  not_written (solve query file) before now refusals.WriteFault same why = absurd why
 
 -- ---- what was found of the problem, as what is found of the call
 

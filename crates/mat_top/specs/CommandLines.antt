@@ -1,17 +1,17 @@
--- Command lines: a command, the option `--workers N` for a command that takes it, and the names of files.
+-- Command lines: a command, the option `--workers N` for a command that takes it, a number of trees for two of them, and the names of files.
 use Rattle.std.specs.Prelude.{ℕ, pos, nat_abs, Bool, true, false, if◌then◌else◌, List, [], ◌∷◌, bytes_eq, codes}
 use Rattle.std.specs.Prelude.{Option, Some, None, option_map}
 use Rattle.std.specs.Result.{result_ok}
 use Rattle.mat_words.specs.Numbers.{number_in}
+use Rattle.mat_top.specs.declared.query.Query.{Query}
+use Rattle.mat_top.specs.declared.query.Query.TheVariants.{Best, Intersect, Union, Pack, Cover, Trees, Arborescence, Disjoint, Rainbow, Assign}
 
 -- what a command line asks for
 pub data Task : Type 0 where
   -- write the canonical text of the description in the file of this name
   show : List ℕ → Task
-  -- solve the problem of one matroid in the file of this name
-  best : List ℕ → Task
-  -- solve the problem of two matroids in the file of this name
-  intersect : List ℕ → Task
+  -- answer this query about the problem in the file of this name
+  solve : Query → List ℕ → Task
   -- judge the certificate in the second file against the description in the first
   check : List ℕ → List ℕ → Task
 
@@ -32,21 +32,46 @@ None >>= f = None
 
 -- ---- a command and its arguments
 
+-- the query of a command that takes a file alone
+abbrev pub query_for : List ℕ → Option Query
+query_for command =
+    if bytes_eq command (codes "best") then Some Best else
+    (if bytes_eq command (codes "intersect") then Some Intersect else
+    (if bytes_eq command (codes "union") then Some Union else
+    (if bytes_eq command (codes "pack") then Some Pack else
+    (if bytes_eq command (codes "cover") then Some Cover else
+    (if bytes_eq command (codes "arborescence") then Some Arborescence else
+    (if bytes_eq command (codes "rainbow") then Some Rainbow else
+    (if bytes_eq command (codes "assign") then Some Assign else None)))))))
+
+-- the query of a command that takes a number of trees
+abbrev pub query_of_trees : List ℕ → ℕ → Option Query
+query_of_trees command k =
+    if bytes_eq command (codes "trees") then Some (Trees k) else (if bytes_eq command (codes "disjoint") then Some (Disjoint k) else None)
+
+-- how many trees a word asks for: the number from 1 to 64 that it spells
+abbrev pub trees_in : List ℕ → Option ℕ
+trees_in word = option_map nat_abs (result_ok (number_in (pos 1) (pos 64) word))
+
 -- a command and its one file
 abbrev pub with_file : List ℕ → List ℕ → Option Task
 with_file command file =
-    if bytes_eq command (codes "show") then Some (show file) else
-    (if bytes_eq command (codes "best") then Some (best file) else
-    (if bytes_eq command (codes "intersect") then Some (intersect file) else None))
+    if bytes_eq command (codes "show") then Some (show file) else option_map (λ query. solve query file) (query_for command)
 
--- a command and its two files
-abbrev pub with_files : List ℕ → List ℕ → List ℕ → Option Task
-with_files command file certificate = if bytes_eq command (codes "check") then Some (check file certificate) else None
+-- a command, a number of trees and a file
+abbrev pub with_number : List ℕ → List ℕ → List ℕ → Option Task
+with_number command number file = do
+  k ← trees_in number
+  option_map (λ query. solve query file) (query_of_trees command k)
+
+-- a command and two arguments
+abbrev pub with_two : List ℕ → List ℕ → List ℕ → Option Task
+with_two command first second = if bytes_eq command (codes "check") then Some (check first second) else with_number command first second
 
 -- what a command with these arguments asks for
 abbrev pub task_for : List ℕ → List (List ℕ) → Option Task
 task_for command (file ∷ []) = with_file command file
-task_for command (file ∷ certificate ∷ []) = with_files command file certificate
+task_for command (first ∷ second ∷ []) = with_two command first second
 task_for command arguments = None
 
 -- ---- the option
@@ -89,6 +114,5 @@ asked_by words = option_map (λ line. line.task) (command_line words)
 -- the file of the description
 abbrev pub description_file : Task → List ℕ
 description_file (show file) = file
-description_file (best file) = file
-description_file (intersect file) = file
+description_file (solve query file) = file
 description_file (check file certificate) = file

@@ -1,5 +1,7 @@
 pub mod CommandLines
 pub mod Commands
+pub mod Views
+pub mod Queries
 pub mod Statuses
 pub mod Answers
 pub mod Outcomes

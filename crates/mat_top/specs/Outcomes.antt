@@ -12,15 +12,17 @@ use Rattle.mat_cert.specs.Certificates.{Certificate, certificate_text, IsRanged}
 use Rattle.mat_cert.specs.Faults as certificate_faults
 use Rattle.mat_cert.specs.Limits.{certificate_limit}
 use Rattle.mat_cert.specs.Reading as certificate_reading
-use Rattle.mat_check.specs.Clauses.{Failure, failure_of}
-use Rattle.mat_check.specs.Fitting.{fits, is_single, is_pair}
+use Rattle.mat_check.specs.AnswerClauses.{failure_of}
+use Rattle.mat_check.specs.Clauses.{Failure}
+use Rattle.mat_check.specs.Fitting.{fits}
 use Rattle.mat_check.specs.Right.{IsRight}
 use Rattle.mat_top.specs.declared.status.Status.{Status}
 use Rattle.mat_top.specs.declared.status.Status.TheVariants as statuses
 use Rattle.mat_top.specs.declared.status.Refusal.{Refusal}
 use Rattle.mat_top.specs.declared.status.Refusal.TheVariants as refusals
 use Rattle.mat_top.specs.Statuses.{status_of, note_of}
-use Rattle.mat_top.specs.CommandLines.{Task, show, best, intersect, check, description_file}
+use Rattle.mat_top.specs.CommandLines.{Task, show, solve, check, description_file}
+use Rattle.mat_top.specs.Queries.{has_form}
 use Rattle.mat_top.specs.Answers.{IsSolutionText}
 
 -- the most bytes that a description may have
@@ -50,11 +52,10 @@ pub record IsCertified (bytes : List ℕ) (answer : Certificate) : Type 0 where
   pub ranged : IsRanged answer
   pub text : bytes ≡ certificate_text answer
 
--- the form of the problem is that of the solving command; every form can be shown
+-- the form of the problem is that of the query; every form can be shown
 abbrev pub HasForm : Task → Instance → Type 0
 HasForm (show file) instance = Unit {0}
-HasForm (best file) instance = is_single instance ≡ true
-HasForm (intersect file) instance = is_pair instance ≡ true
+HasForm (solve query file) instance = has_form query instance ≡ true
 HasForm (check file certificate) instance = Unit {0}
 
 -- ---- the outcome
@@ -123,7 +124,7 @@ abbrev pub IsTextFor : (List ℕ → Option (List ℕ)) → Task → Instance �
 IsTextFor held (show file) instance text = text ≡ canonical_text instance
 IsTextFor held (check file certificate) instance text =
     (text ≡ yes_text) × IfSome (held certificate) (λ bytes. IsCertificateOutcome instance bytes statuses.Done)
-IsTextFor held task instance text = HasForm task instance × IsSolutionText task instance text
+IsTextFor held (solve query file) instance text = HasForm (solve query file) instance × IsSolutionText query instance text
 
 -- the text is what the command writes for the problem that the bytes spell
 pub record IsAnswerTo (held : List ℕ → Option (List ℕ)) (task : Task) (bytes text : List ℕ) : Type 0 where
@@ -133,8 +134,7 @@ pub record IsAnswerTo (held : List ℕ → Option (List ℕ)) (task : Task) (byt
 
 -- the text of a solving command is no longer than a certificate may be
 abbrev pub IsShort : Task → List ℕ → Type 0
-IsShort (best file) text = length text ≤ certificate_limit
-IsShort (intersect file) text = length text ≤ certificate_limit
+IsShort (solve query file) text = length text ≤ certificate_limit
 IsShort task text = Unit {0}
 
 -- what may be written where the command is done: where the file is told, what the command writes

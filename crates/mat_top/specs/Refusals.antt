@@ -1,10 +1,9 @@
 -- How a call ends: why it writes nothing, or what it writes.
-use Rattle.std.specs.Prelude.{◌≡◌, ℕ, ◌<◌, ◌≤◌, Bool, true, List, length, Option, IfSome, Some, Result, Ok, Err}
+use Rattle.std.specs.Prelude.{◌≡◌, ℕ, ◌<◌, ◌≤◌, true, List, length, Option, IfSome, Some, Result, Ok, Err}
 use Rattle.mat_shelf.specs.Faults.{Rose}
 use Rattle.mat_shelf.specs.Writing.{Appended, AppendedPrefix}
 use Rattle.mat_desc.specs.Instances.{Instance}
 use Rattle.mat_cert.specs.declared.answer.Answer.{Answer}
-use Rattle.mat_cert.specs.Certificates.{Certificate, certificate_text}
 use Rattle.mat_cert.specs.Limits.{certificate_limit}
 use Rattle.mat_cert.specs.Views.{certificate_of}
 use Rattle.mat_top.specs.declared.status.Status.TheVariants as statuses
@@ -12,30 +11,30 @@ use Rattle.mat_top.specs.declared.status.Refusal.{Refusal}
 use Rattle.mat_top.specs.declared.status.Refusal.TheVariants as refusals
 use Rattle.mat_top.specs.Statuses.{status_of}
 use Rattle.mat_top.specs.CommandLines.{Task, check}
-use Rattle.mat_top.specs.Answers.{IsSolution}
+use Rattle.mat_top.specs.Queries.{has_form, IsAnswerOf}
+use Rattle.mat_top.specs.declared.query.Query.{Query}
+use Rattle.mat_top.specs.Answers.{IsSolution, IsSolutionText}
 use Rattle.mat_top.specs.Outcomes.{HasForm, IsCertificateOutcome, IsFaultyCertificate, IsTextFor, IsShort}
 use Rattle.mat_top.specs.Outcomes.{CallReaches, Tells, IsOutcome, IsOutput, IsTrueOf, HasClauseFailure}
 
 -- ---- solving
 
--- why a problem is not solved, where the form is one that this test knows
-abbrev pub IsUnsolved : (Instance → Bool) → Instance → Refusal → Type 0
-IsUnsolved has_form instance refusals.Memory = Unit {0}
-IsUnsolved has_form instance refusals.WrongShape = has_form instance ≡ true → ⊥
-IsUnsolved has_form instance refusal = ⊥
+-- why a problem is not solved
+abbrev pub IsUnsolved : Query → Instance → Refusal → Type 0
+IsUnsolved query instance refusals.Memory = Unit {0}
+IsUnsolved query instance refusals.WrongShape = has_form query instance ≡ true → ⊥
+IsUnsolved query instance refusal = ⊥
 
--- a right answer to a problem of the form, and a refusal of every other problem
-abbrev pub IsSolved : (Instance → Bool) → Instance → Result Answer Refusal → Type 0
-IsSolved has_form instance (Ok answer) = (has_form instance ≡ true) × IsSolution instance (certificate_of answer)
-IsSolved has_form instance (Err refusal) = IsUnsolved has_form instance refusal
+-- a right answer to the query about a problem of its form, and a refusal of every other problem
+abbrev pub IsSolved : Query → Instance → Result Answer Refusal → Type 0
+IsSolved query instance (Ok answer) =
+    (has_form query instance ≡ true) × IsAnswerOf query (certificate_of answer) × IsSolution instance (certificate_of answer)
+IsSolved query instance (Err refusal) = IsUnsolved query instance refusal
 
--- the text is that of a right answer of this variant to a problem of the form, and no longer than a certificate may be
-pub record HasSolutionText (has_form : Instance → Bool) (IsVariant : Certificate → Type 0) (instance : Instance) (text : List ℕ) : Type 0 where
-  pub form : has_form instance ≡ true
-  pub certificate : Certificate
-  pub variant : IsVariant certificate
-  pub solution : IsSolution instance certificate
-  pub whole : text ≡ certificate_text certificate
+-- the text is that of a right answer to the query, and no longer than a certificate may be
+pub record HasSolutionText (query : Query) (instance : Instance) (text : List ℕ) : Type 0 where
+  pub form : has_form query instance ≡ true
+  pub solution : IsSolutionText query instance text
   pub short : length text ≤ certificate_limit
 
 -- ---- judging

@@ -1,6 +1,9 @@
 //! Commands, and how many workers compute them.
 
 ghost use Rattle.std.specs.Prelude.{◌≡◌, ◌≤◌};
+ghost use Rattle.mat_top.specs.Commands.{task_of, IsTaskInRange, IsTaskInRange-prop};
+
+use crate::query::Query;
 
 /// What the words of a command line ask for.
 #[derive(Clone, Copy)]
@@ -10,13 +13,10 @@ pub(crate) enum Command<'a> {
         /// The name of the description's file.
         file: &'a str,
     },
-    /// Solve the problem of one matroid in the file of this name.
-    Best {
-        /// The name of the description's file.
-        file: &'a str,
-    },
-    /// Solve the problem of two matroids in the file of this name.
-    Intersect {
+    /// Answer a query about the problem in the file of this name.
+    Solve {
+        /// What is asked for.
+        query: Query,
         /// The name of the description's file.
         file: &'a str,
     },
@@ -37,4 +37,5 @@ pub(crate) struct CommandLine<'a> {
     /// What is asked for.
     pub(crate) command: Command<'a>,
     ghost in_range: { (1 ≤ workers) × (workers ≤ 16) },
+    ghost task_in_range: { IsTaskInRange (task_of command) } by { IsTaskInRange-prop (task_of command) },
 }

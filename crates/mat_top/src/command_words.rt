@@ -1,42 +1,102 @@
 //! The words of a command line.
 
 ghost use Rattle.std.specs.Prelude.{◌≡◌, ◌≤◌, map, string_bytes, option_map, IfSome};
-ghost use Rattle.mat_top.specs.CommandLines.{with_file, with_files, task_for, begins_with_option, workers_in, takes_workers};
-ghost use Rattle.mat_top.specs.CommandLines.{with_option, without_option, command_line, description_file};
-ghost use Rattle.mat_top.specs.Commands.{task_of, line_of};
+ghost use Rattle.mat_top.specs.CommandLines.{query_for, query_of_trees, trees_in, with_file, with_number, with_two, task_for};
+ghost use Rattle.mat_top.specs.CommandLines.{begins_with_option, workers_in, takes_workers, with_option, without_option, command_line};
+ghost use Rattle.mat_top.specs.CommandLines.{description_file};
+ghost use Rattle.mat_top.specs.Commands.{task_of, IsQueryInRange, IsTaskInRange};
+ghost use Rattle.mat_top.specs.Views.{line_of};
 
 use crate::command::{Command, CommandLine};
+use crate::query::Query;
 use mat_words::read_number;
 
-// A command and its one file.
-fn with_file<'a>(command: &str, file: &'a str) -> Option<Command<'a>>
-    ensures { option_map task_of result ≡ with_file command.now file.now }
+// The query of a command that takes a file alone.
+fn query_for(command: &str) -> Option<Query>
+    ensures query { result ≡ query_for command.now }
+    ensures range { IfSome result IsQueryInRange }
 {
     match command {
-        "show" => Some(Command::Show { file }),
-        "best" => Some(Command::Best { file }),
-        "intersect" => Some(Command::Intersect { file }),
+        "best" => Some(Query::Best),
+        "intersect" => Some(Query::Intersect),
+        "union" => Some(Query::Union),
+        "pack" => Some(Query::Pack),
+        "cover" => Some(Query::Cover),
+        "arborescence" => Some(Query::Arborescence),
+        "rainbow" => Some(Query::Rainbow),
+        "assign" => Some(Query::Assign),
         _ => None,
     }
 }
 
-// A command and its two files.
-fn with_files<'a>(command: &str, file: &'a str, certificate: &'a str) -> Option<Command<'a>>
-    ensures { option_map task_of result ≡ with_files command.now file.now certificate.now }
+// The query of a command that takes a number of trees.
+fn query_of_trees(command: &str, k: u32) -> Option<Query>
+    requires { (1 ≤ k) × (k ≤ 64) }
+    ensures query { result ≡ query_of_trees command.now k }
+    ensures range { IfSome result IsQueryInRange }
 {
     match command {
-        "check" => Some(Command::Check { file, certificate }),
+        "trees" => Some(Query::Trees(k)),
+        "disjoint" => Some(Query::Disjoint(k)),
         _ => None,
     }
+}
+
+// How many trees a word asks for: None where it spells no number from 1 to 64.
+fn trees_in(word: &str) -> Option<u32>
+    ensures trees { result ≡ trees_in word.now }
+    ensures range { IfSome result (λ k. (1 ≤ k) × (k ≤ 64)) }
+{
+    match read_number(word.as_bytes(), 1, 64) {
+        Ok(number) => Some(number as u32),
+        Err(_) => None,
+    }
+}
+
+// A command and its one file.
+fn with_file<'a>(command: &str, file: &'a str) -> Option<Command<'a>>
+    ensures task { option_map task_of result ≡ with_file command.now file.now }
+    ensures range { IfSome result (λ c. IsTaskInRange (task_of c)) }
+{
+    if command == "show" {
+        return Some(Command::Show { file });
+    }
+    let query = query_for(command)?;
+    Some(Command::Solve { query, file })
+}
+
+// A command, a number of trees and a file.
+fn with_number<'a>(command: &str, number: &str, file: &'a str) -> Option<Command<'a>>
+    ensures task { option_map task_of result ≡ with_number command.now number.now file.now }
+    ensures range { IfSome result (λ c. IsTaskInRange (task_of c)) }
+{
+    let k = trees_in(number)?;
+    let query = query_of_trees(command, k)?;
+    Some(Command::Solve { query, file })
+}
+
+// A command and two arguments.
+fn with_two<'a>(command: &str, first: &'a str, second: &'a str) -> Option<Command<'a>>
+    ensures task { option_map task_of result ≡ with_two command.now first.now second.now }
+    ensures range { IfSome result (λ c. IsTaskInRange (task_of c)) }
+{
+    if command == "check" {
+        return Some(Command::Check {
+            file: first,
+            certificate: second,
+        });
+    }
+    with_number(command, first, second)
 }
 
 // A command with its arguments.
 fn command_for<'a>(command: &str, arguments: &'a [String]) -> Option<Command<'a>>
-    ensures { option_map task_of result ≡ task_for command.now (map string_bytes arguments.now) }
+    ensures task { option_map task_of result ≡ task_for command.now (map string_bytes arguments.now) }
+    ensures range { IfSome result (λ c. IsTaskInRange (task_of c)) }
 {
     match arguments {
         [file] => with_file(command, file.as_str()),
-        [file, certificate] => with_files(command, file.as_str(), certificate.as_str()),
+        [first, second] => with_two(command, first.as_str(), second.as_str()),
         _ => None,
     }
 }
@@ -76,8 +136,7 @@ impl<'a> Command<'a> {
     {
         match self {
             Command::Show { file } => file,
-            Command::Best { file } => file,
-            Command::Intersect { file } => file,
+            Command::Solve { file, .. } => file,
             Command::Check { file, .. } => file,
         }
     }

@@ -5,9 +5,10 @@ ghost use Rattle.mat_desc.specs.Grammar.{IsValid};
 ghost use Rattle.mat_desc.specs.Instances.{Instance};
 ghost use Rattle.mat_cert.specs.Certificates.{Certificate, certificate_text};
 ghost use Rattle.mat_top.specs.Answers.{IsSolution, IsSolutionText};
-ghost use Rattle.mat_top.specs.CommandLines.{Task, check, by_workers, begins_with_option, command_line, asked_by};
+ghost use Rattle.mat_top.specs.CommandLines.{check, by_workers, begins_with_option, command_line, asked_by};
 ghost use Rattle.mat_top.specs.Outcomes.{IsCertificateOutcome, IsDescribed, IsOutcome};
 
+use crate::query::Query;
 use crate::status::Status;
 
 /// What holds of every solution. The text of one to a problem in range, which is what is printed, has less than 24,000,000 bytes. The
@@ -17,8 +18,8 @@ pub fn solution_laws()
         → length (certificate_text certificate) < 24000000 }
     ensures accepted { (instance : Instance) (certificate : Certificate) → IsSolution instance certificate
         → IsCertificateOutcome instance (certificate_text certificate) Status.Done }
-    ensures checked { (held : List ℕ → Option (List ℕ)) (task : Task) (file other bytes text : List ℕ) (instance : Instance)
-        → held file ≡ Some bytes → IsDescribed bytes instance → IsSolutionText task instance text → held other ≡ Some text
+    ensures checked { (held : List ℕ → Option (List ℕ)) (query : Query) (file other bytes text : List ℕ) (instance : Instance)
+        → held file ≡ Some bytes → IsDescribed bytes instance → IsSolutionText query instance text → held other ≡ Some text
         → IsOutcome held (Some (check file other)) Status.Done }
 {}
 

@@ -1,182 +1,55 @@
-//! The answers of the solving commands.
+//! The answers to queries.
 
-ghost use Rattle.std.specs.Prelude.{◌≡◌, ◌≤◌, ◌^◌, length, map, IfOk, [], ◌∷◌};
-ghost use Rattle.mat_sets.specs.Sets.{AllBelow};
-ghost use Rattle.mat_sets.specs.Weights.{AreWeightsWithin};
-ghost use Rattle.mat_any.specs.Views.{tree_of};
-ghost use Rattle.mat_check.specs.Fitting.{is_single, is_pair};
-ghost use Rattle.mat_desc.specs.Instances.{pair, list};
-ghost use Rattle.mat_desc.specs.Views.{instance_of};
+ghost use Rattle.std.specs.Prelude.{◌≡◌, ◌≤◌};
 ghost use Rattle.mat_desc.specs.Grammar.{IsValid};
 ghost use Rattle.mat_desc.specs.Soundness.{IsSoundInstance};
-ghost use Rattle.mat_cert.specs.Views.{certificate_of};
-ghost use Rattle.mat_top.specs.Answers.{IsSolution, IsBestAnswer, IsIntersectAnswer};
-ghost use Rattle.mat_top.specs.PricedRungs.{priced_rung, plain_rung, HaveFewElements, AreSmallSets};
+ghost use Rattle.mat_desc.specs.Views.{instance_of};
+ghost use Rattle.mat_top.specs.Commands.{IsQueryInRange};
 ghost use Rattle.mat_top.specs.Refusals.{IsSolved};
 
+use crate::query::Query;
+use crate::solve_ladders::{assign, best, intersect, rainbow};
+use crate::solve_sets::{cover, pack, union};
+use crate::solve_trees::{arborescence, disjoint, trees};
 use crate::status::Refusal;
-use mat_any::AnyMatroid;
-use mat_cert::{Answer, PlainRung, PricedRung};
+use mat_cert::Answer;
 use mat_desc::Problem;
-use mat_greedy::heaviest_each;
-use mat_laws::Matroid;
-use mat_sets::{ElemSet, PairWeights, Weight, weigh};
-use mat_split::{Rung, intersect_all};
-use std::alloc::{AllocError, Global};
+use std::alloc::Global;
 use std::thread::Threads;
 
-// The rung with the weight of its set.
-fn priced(rung: Rung, weights: &[Weight]) -> PricedRung
-    requires inside { AllBelow (length weights.now) rung.set }
-    requires few { length rung.set ≤ 500 }
-    requires small { AreWeightsWithin (10 ^ 30) weights.now }
-    ensures { result ≡ priced_rung weights.now rung }
-{
-    let weight = weigh(&rung.set, weights);
-    PricedRung {
-        weight,
-        set: rung.set,
-        first: rung.first,
-        second: rung.second,
-    }
-}
-
-// The rungs with the weights of their sets, in their order.
-fn priced_rungs(
-    alloc: Global,
-    rungs: Vec<Rung>,
-    weights: &[Weight],
-) -> Result<Vec<PricedRung>, AllocError>
-    requires rungs { HaveFewElements (length weights.now) rungs.items }
-    requires small { AreWeightsWithin (10 ^ 30) weights.now }
-    ensures { IfOk result (λ all. all.items ≡ map (priced_rung weights.now) rungs.items) }
-{
-    let mut all = Vec::with_capacity(alloc, rungs.len())?;
-    for rung in rungs {
-        all.push(priced(rung, weights))?;
-    }
-    Ok(all)
-}
-
-// A right answer to a pair of matroids.
-fn solve_pair<R: Threads + Sync>(
-    rt: &R,
-    alloc: Global,
-    weights: &PairWeights,
-    first: &AnyMatroid,
-    second: &AnyMatroid,
-    workers: u32,
-) -> Result<Answer, AllocError>
-    requires valid { IsValid (pair weights.now (tree_of first.now) (tree_of second.now)) }
-    requires sound { IsSoundInstance (pair weights.now (tree_of first.now) (tree_of second.now)) }
-    requires workers { (1 ≤ workers) × (workers ≤ 16) }
-    ensures solution { IfOk result (λ answer. IsSolution (pair weights.now (tree_of first.now) (tree_of second.now)) (certificate_of answer)) }
-    ensures variant { IfOk result (λ answer. IsIntersectAnswer (certificate_of answer)) }
-{
-    first.lawful();
-    second.lawful();
-    let ladder = intersect_all(rt, alloc, first, second, weights.as_slice(), workers)?;
-    let rungs = priced_rungs(alloc, ladder.rungs, weights.as_slice())?;
-    Ok(Answer::Intersect {
-        count: weights.len() as u32,
-        rungs,
-        cut: ladder.cut,
-    })
-}
-
-// The sets with their weights, in their order.
-fn plain_rungs(
-    alloc: Global,
-    sets: &[ElemSet],
-    weights: &[Weight],
-) -> Result<Vec<PlainRung>, AllocError>
-    requires sets { AreSmallSets (length weights.now) sets.now }
-    requires small { AreWeightsWithin (10 ^ 30) weights.now }
-    ensures { IfOk result (λ all. all.items ≡ map (plain_rung weights.now) sets.now) }
-{
-    let mut all = Vec::with_capacity(alloc, sets.len())?;
-    for set in sets {
-        let weight = weigh(set, weights);
-        let set = set.copy(alloc)?;
-        all.push(PlainRung { weight, set })?;
-    }
-    Ok(all)
-}
-
-// A right answer to one matroid.
-fn solve_single(
-    alloc: Global,
-    weights: &PairWeights,
-    matroid: &AnyMatroid,
-) -> Result<Answer, AllocError>
-    requires valid { IsValid (list weights.now (tree_of matroid.now ∷ [])) }
-    requires sound { IsSoundInstance (list weights.now (tree_of matroid.now ∷ [])) }
-    ensures solution { IfOk result (λ answer. IsSolution (list weights.now (tree_of matroid.now ∷ [])) (certificate_of answer)) }
-    ensures variant { IfOk result (λ answer. IsBestAnswer (certificate_of answer)) }
-{
-    matroid.lawful();
-    let sets = heaviest_each(alloc, matroid, weights.as_slice())?;
-    let rungs = plain_rungs(alloc, sets.as_slice(), weights.as_slice())?;
-    Ok(Answer::Best {
-        count: weights.len() as u32,
-        rungs,
-    })
-}
-
-/// A right answer to a pair of matroids, found by so many workers. `WrongShape` comes exactly where the problem is no pair, and `Memory` is
-/// want of memory.
-pub(crate) fn intersect<R: Threads + Sync>(
+/// A right answer to the query about a problem of its form, found by so many workers. `WrongShape` comes exactly where the problem is
+/// of another form, and `Memory` is want of memory.
+pub(crate) fn solve<R: Threads + Sync>(
     rt: &R,
     alloc: Global,
     problem: &Problem,
+    query: Query,
     workers: u32,
 ) -> Result<Answer, Refusal>
     requires valid { IsValid (instance_of problem.now) }
     requires sound { IsSoundInstance (instance_of problem.now) }
+    requires range { IsQueryInRange query }
     requires workers { (1 ≤ workers) × (workers ≤ 16) }
-    ensures solved { IsSolved is_pair (instance_of problem.now) result }
-    ensures variant { IfOk result (λ answer. IsIntersectAnswer (certificate_of answer)) }
+    ensures { IsSolved query (instance_of problem.now) result }
 {
-    match problem {
-        Problem::Pair {
-            weights,
-            first,
-            second,
-        } => Ok(solve_pair(rt, alloc, weights, first, second, workers)?),
-        Problem::List { .. }
-        | Problem::Graph { .. }
-        | Problem::Rooted { .. }
-        | Problem::Coloured { .. }
-        | Problem::Table { .. } => Err(Refusal::WrongShape),
+    match query {
+        Query::Best => best(alloc, problem),
+        Query::Intersect => intersect(rt, alloc, problem, worthwhile_workers(workers)),
+        Query::Union => union(alloc, problem),
+        Query::Pack => pack(alloc, problem),
+        Query::Cover => cover(alloc, problem),
+        Query::Trees(k) => trees(alloc, problem, k),
+        Query::Arborescence => arborescence(rt, alloc, problem, worthwhile_workers(workers)),
+        Query::Disjoint(k) => disjoint(alloc, problem, k),
+        Query::Rainbow => rainbow(rt, alloc, problem, worthwhile_workers(workers)),
+        Query::Assign => assign(rt, alloc, problem, worthwhile_workers(workers)),
     }
 }
 
-// A right answer to a list of one matroid.
-fn best_of_list(
-    alloc: Global,
-    weights: &PairWeights,
-    matroids: &[AnyMatroid],
-) -> Result<Answer, Refusal>
-    requires valid { IsValid (list weights.now (map tree_of matroids.now)) }
-    requires sound { IsSoundInstance (list weights.now (map tree_of matroids.now)) }
-    ensures solved { IsSolved is_single (list weights.now (map tree_of matroids.now)) result }
-    ensures variant { IfOk result (λ answer. IsBestAnswer (certificate_of answer)) }
+/// How many of the workers pay where a solver makes rows of two matroids: one, since a row of a kind that stands within no other takes
+/// less time than a thread takes to start.
+fn worthwhile_workers(_workers: u32) -> u32
+    ensures { result ≡ 1 }
 {
-    let [matroid] = matroids else {
-        return Err(Refusal::WrongShape);
-    };
-    Ok(solve_single(alloc, weights, matroid)?)
-}
-
-/// A right answer to a list of one matroid. `WrongShape` comes exactly where the problem is no such list, and `Memory` is want of memory.
-pub(crate) fn best(alloc: Global, problem: &Problem) -> Result<Answer, Refusal>
-    requires valid { IsValid (instance_of problem.now) }
-    requires sound { IsSoundInstance (instance_of problem.now) }
-    ensures solved { IsSolved is_single (instance_of problem.now) result }
-    ensures variant { IfOk result (λ answer. IsBestAnswer (certificate_of answer)) }
-{
-    match problem {
-        Problem::List { weights, matroids } => best_of_list(alloc, weights, matroids.as_slice()),
-        _ => Err(Refusal::WrongShape),
-    }
+    1
 }

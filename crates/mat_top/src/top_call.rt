@@ -3,13 +3,11 @@
 ghost use Rattle.std.specs.Prelude.{◌≡◌, ◌≤◌, ◌<◌, ◌↔◌, ◌⊎◌, ℕ, List, map, string_bytes, length};
 ghost use Rattle.std.specs.Prelude.{IfOk, IfErr, IfSome, Some, None};
 ghost use Rattle.mat_shelf.specs.Faults.{Rose};
-ghost use Rattle.mat_check.specs.Fitting.{is_single, is_pair};
 ghost use Rattle.mat_desc.specs.Grammar.{IsValid};
 ghost use Rattle.mat_desc.specs.Soundness.{IsSoundInstance};
 ghost use Rattle.mat_desc.specs.Views.{instance_of};
 ghost use Rattle.mat_top.specs.CommandLines.{command_line, asked_by};
-ghost use Rattle.mat_top.specs.Commands.{task_of};
-ghost use Rattle.mat_top.specs.Answers.{IsBestAnswer, IsIntersectAnswer};
+ghost use Rattle.mat_top.specs.Commands.{task_of, IsQueryInRange};
 ghost use Rattle.mat_top.specs.Outcomes.{Tells, IsStatus, IsOutcome, IsWritten, CallReaches, IsNote, IsNoted, yes_text};
 ghost use Rattle.mat_top.specs.Refusals.{HasText, HasNoText, HasSolutionText, IsUnsolved, MayBeWritten, IsRefusal, IsPut, IsEnded};
 
@@ -17,8 +15,9 @@ use crate::command::{Command, CommandLine};
 use crate::command_words::command_line;
 use crate::judge::judge;
 use crate::notes::put_note;
+use crate::query::Query;
 use crate::reading::read_all;
-use crate::solve::{best, intersect};
+use crate::solve::solve;
 use crate::status::{Refusal, Status};
 use crate::writing::put_all;
 use mat_cert::write_answer;
@@ -30,31 +29,22 @@ use std::thread::Threads;
 /// The most bytes that a description may have.
 const DESCRIPTION_LIMIT: usize = 4_194_304;
 
-// The text of a right answer to one matroid.
-fn best_text(alloc: Global, problem: &Problem) -> Result<Vec<u8>, Refusal>
-    requires valid { IsValid (instance_of problem.now) }
-    requires sound { IsSoundInstance (instance_of problem.now) }
-    ensures text { IfOk result (λ v. HasSolutionText is_single IsBestAnswer (instance_of problem.now) v.items) }
-    ensures refusal { IfErr result (λ e. IsUnsolved is_single (instance_of problem.now) e) }
-{
-    let answer = best(alloc, problem)?;
-    Ok(write_answer(alloc, &answer)?)
-}
-
-// The text of a right answer to a pair of matroids.
-fn intersect_text<R: Threads + Sync>(
+// The text of a right answer to the query.
+fn solution_text<R: Threads + Sync>(
     rt: &R,
     alloc: Global,
     problem: &Problem,
+    query: Query,
     workers: u32,
 ) -> Result<Vec<u8>, Refusal>
     requires valid { IsValid (instance_of problem.now) }
     requires sound { IsSoundInstance (instance_of problem.now) }
+    requires range { IsQueryInRange query }
     requires workers { (1 ≤ workers) × (workers ≤ 16) }
-    ensures text { IfOk result (λ v. HasSolutionText is_pair IsIntersectAnswer (instance_of problem.now) v.items) }
-    ensures refusal { IfErr result (λ e. IsUnsolved is_pair (instance_of problem.now) e) }
+    ensures text { IfOk result (λ v. HasSolutionText query (instance_of problem.now) v.items) }
+    ensures refusal { IfErr result (λ e. IsUnsolved query (instance_of problem.now) e) }
 {
-    let answer = intersect(rt, alloc, problem, workers)?;
+    let answer = solve(rt, alloc, problem, query, workers)?;
     Ok(write_answer(alloc, &answer)?)
 }
 
@@ -83,8 +73,7 @@ fn text_for<R: Threads + Sync, F: Shelf>(
 {
     match line.command {
         Command::Show { .. } => Ok(write_problem(alloc, problem)?),
-        Command::Best { .. } => best_text(alloc, problem),
-        Command::Intersect { .. } => intersect_text(rt, alloc, problem, line.workers),
+        Command::Solve { query, .. } => solution_text(rt, alloc, problem, query, line.workers),
         Command::Check { certificate, .. } => {
             judge(rt, alloc, files, certificate, problem, line.workers)?;
             Ok(yes(alloc)?)
@@ -136,9 +125,9 @@ fn perform<R: Threads + Sync, F: Shelf, O: Sink>(
 }
 
 /// Does what the words ask for: reads its files from the shelf, writes the answer to `out` and, where it is refused, a note to
-/// `notes`, and answers how it ended. The words are those after the program's name. As many workers as they name, from 1 to 16 and 1
-/// where they name none, compute the rows of tables side by side; what is right doesn't depend on how many. Threads are started
-/// by `rt`, and each has ended when the call returns.
+/// `notes`, and answers how it ended. The words are those after the program's name. Up to as many workers as they name, from 1 to 16 and
+/// 1 where they name none, compute the rows of tables side by side; what is right doesn't depend on how many. Threads are started by
+/// `rt`, and each has ended when the call returns.
 ///
 /// Usage comes exactly where the words are no command, ReadFault only where the shelf's count of faults rose for a file of the call, and
 /// WriteFault only where the count of `out` rose. Where the shelf tells the files, each other status but Memory is the one of the

@@ -1,7 +1,7 @@
 //! The program `mat_trials`, a test: it runs the top call over the cases of the file `cases.txt`, over files and sinks that fail, and over
-//! the real files; the search for disjoint paths over the graphs of the files `routes_*.txt`; and the calls of matroids over small known
-//! ones. It prints what came of each. What it has to print was worked out without it. With names of descriptions as words it prints the
-//! lines of these alone.
+//! the real files; the search for disjoint paths over the graphs of the files `routes_*.txt`; the calls of matroids over small known
+//! ones; and it makes problems from a number. It prints what came of each. What it has to print was worked out without it. With names of
+//! descriptions as words it prints the lines of these alone.
 #![tactic(auto)]
 
 mod calls;
@@ -12,6 +12,7 @@ mod meeting;
 mod real;
 mod reports;
 mod routes;
+mod samples;
 mod shared;
 mod unions;
 
@@ -21,6 +22,7 @@ use crate::meeting::meeting_report;
 use crate::real::real_report;
 use crate::reports::cases_report;
 use crate::routes::{ROUTES, route_report};
+use crate::samples::samples_report;
 use crate::unions::unions_report;
 use std::io::Write;
 use std::{env, fs, io};
@@ -70,5 +72,7 @@ fn main(rt: HostRuntime) -> io::Result<()> {
     let unions = unions_report(alloc)?;
     rt.stdout().write_all(unions.as_bytes())?;
     let known = known_report(alloc)?;
-    rt.stdout().write_all(known.as_bytes())
+    rt.stdout().write_all(known.as_bytes())?;
+    let samples = samples_report(alloc)?;
+    rt.stdout().write_all(samples.as_slice())
 }

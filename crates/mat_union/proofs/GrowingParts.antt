@@ -2,11 +2,11 @@
 -- search may leave it out. Moves of other elements leave it spanned, and what a stuck search reached is spanned with it.
 use Rattle.std.proofs.Common.{◌≡◌, ◌⊎◌, ℕ, ◌<◌, ◌≤◌, Bool, true, false, not, ◌||◌, ◌&&◌, eqb, ltb, List, length, take, inl, inr, refl, sym, ap, ◌∙◌, arith}
 use Rattle.std.proofs.lemmas.Bool.{and_from, and_parts, both_ways, eq-eqb, eqb-true, false_from_ne_true, lt-ltb, not-true, not_from_false, or_cases, or_left, or_right}
-use Rattle.std.proofs.lemmas.List.{length-map, take_all}
-use Rattle.mat_sets.specs.Sets.{is_member, IsRising, IsSet, intersection, minus, with_one, without_one}
+use Rattle.std.proofs.lemmas.List.{take_all}
+use Rattle.mat_sets.specs.Sets.{is_member, IsRising, IsSet, intersection, with_one, without_one}
 use Rattle.mat_sets.proofs.Cardinalities.{length-with_one}
 use Rattle.mat_sets.proofs.Ground.{below_member}
-use Rattle.mat_sets.proofs.Members.{same_members, is_member-get_or, is_member-intersection, is_member-minus, is_member-union, is_member-with_one, is_member-without_one, IsRising-intersection, IsRising-with_one}
+use Rattle.mat_sets.proofs.Members.{same_members, is_member-intersection, is_member-with_one, is_member-without_one, IsRising-intersection, IsRising-with_one}
 use Rattle.mat_sets.proofs.Search.{some_below_from}
 use Rattle.mat_laws.specs.Matroids.{IsMatroid}
 use Rattle.mat_laws.specs.Ranks.{rank}
@@ -15,18 +15,11 @@ use Rattle.mat_laws.proofs.Cuts.{rank-in_reach}
 use Rattle.mat_laws.proofs.RankLaws.{rank_is}
 use Rattle.mat_union.specs.Unions.{part_at, test_at, AreMatroids}
 use Rattle.mat_union.specs.GrownParts.{AreGrowing}
-use Rattle.mat_union.specs.Moves.{can_push, elements, entering, exchanges_with}
-use Rattle.mat_union.specs.MoveSearches.{AreFoundMoves, IsReaching}
-use Rattle.mat_union.specs.MoveWalks.{element_of_list, entering_gives}
+use Rattle.mat_union.specs.Moves.{can_push, exchanges_with}
+use Rattle.mat_union.specs.MoveSearches.{IsReaching}
+use Rattle.mat_union.specs.Placings.{ArePlaced}
 use Rattle.mat_union.specs.PartLists.{law_at, part_set}
 use Rattle.mat_union.specs.declared.move_search.MoveSearch.{MoveSearch}
-use Rattle.mat_union.specs.declared.moves.Move.{Move}
-
-entering_elements : (moves : List Move) (q z : ℕ) → is_member z (entering moves q) ≡ true → is_member z (elements moves) ≡ true
-entering_elements moves q z h =
-    let w = entering_gives moves q z h in
-    let l : w.0 < length (elements moves) = (let a = w.1 in let b : length (elements moves) ≡ length moves = length-map moves (λ v. v.element) in omega arith) in
-    is_member-get_or (elements moves) w.0 z l (element_of_list moves w.0 w.1 ∙ w.3)
 
 -- ---- a set that an independent set spans
 
@@ -78,43 +71,33 @@ module _ {n : ℕ} {tests : List (List ℕ → Bool)} {parts : List (List ℕ)} 
 
   -- ---- after moves of other elements
 
-  module _ {s : MoveSearch} {moves : List Move} {start : ℕ} (found : AreFoundMoves tests parts s moves) (from : s.start ≡ start) (lives : is_member start alive ≡ true)
-      (reached : (v : ℕ) → is_member v s.queue.items ≡ true → (eqb v start || is_member v alive) ≡ true) where
-    lives_on : (z : ℕ) → is_member z (elements moves) ≡ true → is_member z dead ≡ false
-    lives_on z h = elim (or_cases (eqb z start) (is_member z alive) (reached z (found.reached z h))) [
-      | inl e ↦ ap (λ v. is_member v dead) (eqb-true z start e) ∙ alive_below start lives
-      | inr k ↦ alive_below z k
-    ]
+  module _ {x : ℕ} {new : List (List ℕ)} (p : ArePlaced tests parts alive x new) (lives : is_member x alive ≡ true) where
+    -- a dead element is not among those that moved
+    dead_stays : (z : ℕ) → is_member z dead ≡ true → (eqb z x || is_member z alive) ≡ false
+    dead_stays z d = false_from_ne_true _ (λ h. elim (or_cases (eqb z x) (is_member z alive) h) [
+      | inl e ↦ both_ways _ (alive_below x lives) (ap (λ v. is_member v dead) (sym (eqb-true z x e)) ∙ d)
+      | inr k ↦ both_ways _ (alive_below z k) d
+    ])
 
-    same_in_dead : (q : ℕ) → q < length found.new → intersection (part_at found.new q) dead ≡ intersection (part_at parts q) dead
+    same_in_dead : (q : ℕ) → q < length new → intersection (part_at new q) dead ≡ intersection (part_at parts q) dead
     same_in_dead q l =
-        let e = found.moved.each q l in
-        let lo : q < length parts = (let a = found.moved.are.one_each in let b = g.are.one_each in omega arith) in
-        same_members _ _ (IsRising-intersection _ dead (part_set laws found.moved.are q l).rising) (IsRising-intersection _ dead (part_set laws g.are q lo).rising) (λ z.
-        is_member-intersection z (part_at found.new q) dead ∙ ap (λ P. is_member z P && is_member z dead) e
-        ∙ ap (λ b. b && is_member z dead) (is_member-union z (entering moves q) (minus (part_at parts q) (elements moves)) ∙ ap (λ b. is_member z (entering moves q) || b) (is_member-minus z (part_at parts q) (elements moves)))
-        ∙ unmoved (is_member z (entering moves q)) (is_member z (elements moves)) (is_member z (part_at parts q)) (is_member z dead) (λ h. lives_on z (entering_elements moves q z h)) (lives_on z)
+        let lo : q < length parts = (let a = p.are.one_each in let b = g.are.one_each in omega arith) in
+        same_members _ _ (IsRising-intersection _ dead (part_set laws p.are q l).rising) (IsRising-intersection _ dead (part_set laws g.are q lo).rising) (λ z.
+        is_member-intersection z (part_at new q) dead ∙ within (is_member z (part_at new q)) (is_member z (part_at parts q)) (is_member z dead) (λ d. p.others q z l (dead_stays z d))
         ∙ sym (is_member-intersection z (part_at parts q) dead))
       where
-        unmoved : (i e p d : Bool) → (i ≡ true → d ≡ false) → (e ≡ true → d ≡ false) → ((i || (p && not e)) && d) ≡ (p && d)
-        unmoved true e p d f h = rw (f refl) (none p)
-          where
-            none : (p : Bool) → (true && false) ≡ (p && false)
-            none true = refl
-            none false = refl
-        unmoved false true p d f h = rw (h refl) (none p)
-          where
-            none : (p : Bool) → ((p && not true) && false) ≡ (p && false)
-            none true = refl
-            none false = refl
-        unmoved false false true d f h = refl
-        unmoved false false false d f h = refl
+        within : (a b d : Bool) → (d ≡ true → a ≡ b) → (a && d) ≡ (b && d)
+        within a b true f = ap (λ c. c && true) (f refl)
+        within true true false f = refl
+        within true false false f = refl
+        within false true false f = refl
+        within false false false f = refl
 
-    pub moves_grow : AreGrowing n tests found.new dead alive
-    moves_grow = record {
-      are = found.moved.are;
+    pub placed_grow : AreGrowing n tests new dead alive
+    placed_grow = record {
+      are = p.are;
       set = g.set;
-      spans = λ i l. g.spans i (let a = found.moved.are.one_each in let b = g.are.one_each in omega arith) ∙ ap length (sym (same_in_dead i l));
+      spans = λ i l. g.spans i (let a = p.are.one_each in let b = g.are.one_each in omega arith) ∙ ap length (sym (same_in_dead i l));
       others = g.others;
     }
 

@@ -9,6 +9,7 @@ pub mod Taking
 pub mod Asking
 pub mod MovesAlong
 pub mod FoundMoves
+pub mod PlacedElements
 pub mod GrowingParts
 pub mod GrowingSteps
 pub mod SoundMatroids
@@ -21,3 +22,7 @@ pub mod NextWeights
 pub mod EmptyParts
 pub mod AskedRows
 pub mod StuckParts
+pub mod FillingParts
+pub mod PartsOfSets
+pub mod KeptRows
+pub mod SearchEnds

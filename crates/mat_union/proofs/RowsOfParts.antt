@@ -1,13 +1,10 @@
 -- Where each list has the rows of the elements of within at its part, it tells the exchanges of these elements: a search for moves, which
 -- stays within, finds what it would find among all exchanges.
-use Rattle.std.proofs.Common.{◌≡◌, ℕ, Bool, false, not, ◌&&◌, List, length, inl, inr, refl, sym, ap, ◌∙◌, arith}
-use Rattle.std.proofs.lemmas.Bool.{and_parts, and_right, cases_Bool, cond-false, cond-true}
-use Rattle.mat_sets.specs.Sets.{is_member, with_one, without_one}
+use Rattle.std.proofs.Common.{ℕ, Bool, List, length, ap, ◌∙◌, arith}
+use Rattle.std.proofs.lemmas.Bool.{and_parts}
+use Rattle.mat_sets.specs.Sets.{is_member}
 use Rattle.mat_sets.proofs.Families.{family_union-from}
-use Rattle.mat_sets.proofs.Members.{is_member-filter}
 use Rattle.mat_laws.specs.declared.exchange.Exchange.{Exchange}
-use Rattle.mat_laws.specs.Exchanges.{row_of}
-use Rattle.mat_laws.specs.TightPaths.{exchanges_at}
 use Rattle.mat_laws.proofs.Rows.{row_of-adds, row_of-trades}
 use Rattle.mat_union.specs.Unions.{part_at, test_at}
 use Rattle.mat_union.specs.Moves.{exchanges_of, exchanges_with, is_free}

@@ -1,8 +1,8 @@
 -- A list of matroids by its places: each is sound, has its test and its law, and keeps what is right for its part.
-use Rattle.std.proofs.Common.{◌≡◌, ℕ, ◌+◌, ◌<◌, ◌≤◌, Bool, true, false, List, [], ◌∷◌, ◌++◌, length, get_or, map, inl, inr, refl, sym, ap, ◌∙◌, subst, arith, length-append}
+use Rattle.std.proofs.Common.{◌≡◌, ℕ, ◌+◌, ◌<◌, ◌≤◌, Bool, true, false, List, [], ◌∷◌, ◌++◌, length, get_or, map, set, inl, inr, refl, sym, ap, ◌∙◌, subst, arith, length-append}
 use Rattle.std.proofs.Math.Seq.{get_or-append_seam}
 use Rattle.std.proofs.lemmas.Bool.{cases_eq}
-use Rattle.std.proofs.lemmas.List.{get_or-map, get_or_append_left, get_or_default, length-map}
+use Rattle.std.proofs.lemmas.List.{get_or-map, get_or-set_other, get_or-set_same, get_or_append_left, get_or_default, length-map, length-set}
 use Rattle.std.proofs.lemmas.List.Elements.{All-get_or}
 use Rattle.mat_laws.specs.Matroids.{IsMatroid}
 use Rattle.mat_union.specs.GrownParts.{AreKept, AreSound}
@@ -73,3 +73,51 @@ module _ {M K : Type 0} (keeps : M → List ℕ → K → Type 0) (matroids : Li
 
   pub kept_end : (i : ℕ) (kept : List K) → length matroids ≡ i → AreKeptSo i kept → AreKept keeps matroids parts kept
   kept_end i kept e all = record { one_each = all.long ∙ sym e; each = λ j m k l. all.each j m k (omega arith) }
+
+-- ---- what is kept anew where the parts change
+
+module _ {M K : Type 0} (keeps : M → List ℕ → K → Type 0) (matroids : List M) (old new : List (List ℕ)) where
+  -- the first i keep what is right for their new parts, and the others what was right for the old ones
+  pub record AreKeptAnew (i : ℕ) (kept : List K) : Type 0 where
+    pub long : length kept ≡ length matroids
+    pub anew : (j : ℕ) (m : M) (k : K) → j < i → j < length matroids → keeps (get_or matroids j m) (part_at new j) (get_or kept j k)
+    pub left : (j : ℕ) (m : M) (k : K) → i ≤ j → j < length matroids → keeps (get_or matroids j m) (part_at old j) (get_or kept j k)
+
+  pub anew_none : (kept : List K) → AreKept keeps matroids old kept → AreKeptAnew 0 kept
+  anew_none kept all = record { long = all.one_each; anew = λ j m k l. absurd (omega arith); left = λ j m k l h. all.each j m k h }
+
+  -- a part that did not change
+  pub anew_same : (i : ℕ) (kept : List K) (a b : List ℕ) → AreKeptAnew i kept → a ≡ part_at new i → b ≡ part_at old i → a ≡ b → AreKeptAnew (i + 1) kept
+  anew_same i kept a b all n o e = record {
+    long = all.long;
+    anew = λ j m k l h. elim (cases_eq j i) [
+      | inl q ↦ (let same : part_at old j ≡ part_at new j = ap (part_at old) q ∙ sym o ∙ sym e ∙ n ∙ ap (part_at new) (sym q) in
+          subst (λ P. keeps (get_or matroids j m) P (get_or kept j k)) same (all.left j m k (omega arith) h))
+      | inr q ↦ all.anew j m k (omega arith) h
+    ];
+    left = λ j m k l h. all.left j m k (omega arith) h;
+  }
+
+  -- a part that is kept anew
+  pub anew_set : (i : ℕ) (kept : List K) (m : M) (part : List ℕ) (k : K) → AreKeptAnew i kept → i < length matroids → m ≡ get_or matroids i m → part ≡ part_at new i → keeps m part k
+      → AreKeptAnew (i + 1) (set kept i k)
+  anew_set i kept m part k all l e p h = record {
+    long = length-set kept i k ∙ all.long;
+    anew = λ j d f q b. elim (cases_eq j i) [
+      | inl w ↦ last j w d f
+      | inr w ↦ (let less : j < i = omega arith in subst (keeps (get_or matroids j d) (part_at new j)) (sym (get_or-set_other kept i j k f w)) (all.anew j d f less b))
+    ];
+    left = λ j d f q b. subst (keeps (get_or matroids j d) (part_at old j)) (sym (get_or-set_other kept i j k f (λ w. let r : ⊥ = omega arith in r))) (all.left j d f (omega arith) b);
+  }
+    where
+      here : (d : M) (f : K) → keeps (get_or matroids i d) (part_at new i) (get_or (set kept i k) i f)
+      here d f =
+          let a : get_or matroids i d ≡ m = sym (e ∙ get_or_default matroids i m d l) in
+          let b : get_or (set kept i k) i f ≡ k = get_or-set_same kept i k f (let n = all.long in omega arith) in
+          rw (a, b) (subst (λ x. keeps m x k) p h)
+
+      last : (j : ℕ) → j ≡ i → (d : M) (f : K) → keeps (get_or matroids j d) (part_at new j) (get_or (set kept i k) j f)
+      last j w d f = subst (λ c. keeps (get_or matroids c d) (part_at new c) (get_or (set kept i k) c f)) (sym w) (here d f)
+
+  pub anew_end : (i : ℕ) (kept : List K) → length matroids ≤ i → AreKeptAnew i kept → AreKept keeps matroids new kept
+  anew_end i kept g all = record { one_each = all.long; each = λ j m k l. all.anew j m k (omega arith) l }

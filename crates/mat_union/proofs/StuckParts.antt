@@ -1,25 +1,22 @@
 -- Where a search among all elements is stuck, its start cannot be added to the set that the parts make up: what it reached is spanned by the
 -- parts, and would have to hold one element more.
-use Rattle.std.proofs.Common.{◌≡◌, ℕ, ◌+◌, ◌<◌, ◌≤◌, Bool, true, false, not, ◌||◌, ◌&&◌, eqb, ltb, List, [], length, get_or, take, inl, inr, refl, sym, ap, ◌∙◌, subst, arith}
-use Rattle.std.proofs.lemmas.Bool.{both_ways, eqb-true, false_from_ne_true, false≢true, or_cases}
+use Rattle.std.proofs.Common.{◌≡◌, ℕ, ◌<◌, ◌≤◌, Bool, true, false, not, ◌||◌, ◌&&◌, eqb, ltb, List, [], length, get_or, refl, sym, ap, ◌∙◌, subst, arith}
+use Rattle.std.proofs.lemmas.Bool.{eqb-true, false_from_ne_true, false≢true}
 use Rattle.mat_sets.specs.Families.{family_union}
-use Rattle.mat_sets.specs.Sets.{all_below, is_member, AllBelow, IsRising, intersection, minus, union, with_one}
+use Rattle.mat_sets.specs.Sets.{all_below, is_member, AllBelow, intersection, minus, union, with_one}
 use Rattle.mat_sets.proofs.Cardinalities.{length-with_one}
 use Rattle.mat_sets.proofs.Families.{IsRising-family_union}
 use Rattle.mat_sets.proofs.Filters.{filter_none}
 use Rattle.mat_sets.proofs.Ground.{is_member-all_below, IsSet-nil}
-use Rattle.mat_sets.proofs.Members.{same_members, is_member-get_or, is_member-intersection, is_member-minus, is_member-union, is_member-with_one, IsRising-intersection, IsRising-nil, IsRising-union, IsRising-with_one}
-use Rattle.mat_sets.proofs.Steps.{is_member-take_more, is_member-take_next}
+use Rattle.mat_sets.proofs.Members.{same_members, is_member-intersection, is_member-minus, is_member-union, is_member-with_one, IsRising-intersection, IsRising-nil, IsRising-union, IsRising-with_one}
 use Rattle.mat_sets.proofs.Sums.{AllBelow-at}
 use Rattle.mat_laws.proofs.RankLaws.{rank-maximal}
 use Rattle.mat_union.specs.GrownParts.{AreGrowing}
 use Rattle.mat_union.specs.Moves.{exchanges_with}
 use Rattle.mat_union.specs.MoveSearches.{IsReaching}
-use Rattle.mat_union.specs.PartLists.{law_at, parts_pass, ranks_bound, ranks_reached, union_only}
+use Rattle.mat_union.specs.PartLists.{law_at, ranks_bound, ranks_reached, union_only}
 use Rattle.mat_union.specs.Unions.{part_at, union_test, AreMatroids, AreParts}
 use Rattle.mat_union.specs.declared.move_search.MoveSearch.{MoveSearch}
-use Rattle.mat_union.specs.UnionLaws.{union_laws}
-use Rattle.mat_union.proofs.FoundMoves.{is_member-taken}
 use Rattle.mat_union.proofs.GrowingSteps.{death_grown}
 
 none_in : (P : List ℕ) → intersection P [] ≡ []
@@ -81,36 +78,3 @@ module _ {n : ℕ} {tests : List (List ℕ → Bool)} {parts : List (List ℕ)} 
 
 pub next_below : (xs set : List ℕ) (n i : ℕ) → xs ≡ set → AllBelow n set → i < length xs → get_or xs i 0 < n
 next_below xs set n i e b l = AllBelow-at n xs i (subst (AllBelow n) (sym e) b) l
-
-pub next_outside : (xs set : List ℕ) (i : ℕ) → xs ≡ set → IsRising set → i < length xs → is_member (get_or xs i 0) (take i xs) ≡ false
-next_outside xs set i e r l = is_member-take_next xs i (subst IsRising (sym e) r) l
-
-module _ {n : ℕ} {tests : List (List ℕ → Bool)} (laws : AreMatroids n tests) where
-  -- the parts hold one element more
-  pub sets_more : (parts : List (List ℕ)) (xs : List ℕ) (i : ℕ) (new : List (List ℕ)) → i < length xs → ((v : ℕ) → is_member v (family_union parts) ≡ is_member v (take i xs))
-      → family_union new ≡ with_one (family_union parts) (get_or xs i 0) → (v : ℕ) → is_member v (family_union new) ≡ is_member v (take (i + 1) xs)
-  sets_more parts xs i new l before e v = ap (is_member v) e ∙ is_member-with_one v (get_or xs i 0) (family_union parts) ∙ ap (λ b. eqb v (get_or xs i 0) || b) (before v)
-      ∙ swap (eqb v (get_or xs i 0)) (is_member v (take i xs)) ∙ sym (is_member-take_more xs i v l)
-    where
-      swap : (a b : Bool) → (a || b) ≡ (b || a)
-      swap a b = grind arith
-
-  -- parts of the whole set
-  pub set_passes : (parts : List (List ℕ)) (set : List ℕ) → AreParts tests parts → IsRising set → ((v : ℕ) → is_member v (family_union parts) ≡ is_member v set) → true ≡ union_test n tests set
-  set_passes parts set are r same = sym (ap (union_test n tests) (sym (same_members _ _ (IsRising-family_union parts) r same)) ∙ parts_pass tests laws parts are)
-
-  -- some member cannot be added to parts of others
-  pub set_refused : (parts : List (List ℕ)) (xs set : List ℕ) (i : ℕ) → xs ≡ set → IsRising set → i < length xs → ((v : ℕ) → is_member v (family_union parts) ≡ is_member v (take i xs))
-      → union_test n tests (with_one (family_union parts) (get_or xs i 0)) ≡ false → false ≡ union_test n tests set
-  set_refused parts xs set i e r l before refused = sym (false_from_ne_true _ (λ ok. both_ways _ refused
-      ((union_laws tests laws).subsets (with_one (family_union parts) (get_or xs i 0)) set (IsRising-with_one _ _ (IsRising-family_union parts)) (record {
-        inside = λ v h.
-            ap (is_member v) (sym e) ∙ elim (or_cases (eqb v (get_or xs i 0)) (is_member v (family_union parts)) (sym (is_member-with_one v (get_or xs i 0) (family_union parts)) ∙ h)) [
-              | inl a ↦ ap (λ z. is_member z xs) (eqb-true v (get_or xs i 0) a) ∙ is_member-get_or xs i (get_or xs i 0) l refl
-              | inr b ↦ is_member-taken i xs v (sym (before v) ∙ b)
-            ];
-      }) ok)))
-
--- an equal test
-pub same_test : (n k : ℕ) (tests : List (List ℕ → Bool)) (set : List ℕ) (b : Bool) → n ≡ k → b ≡ union_test n tests set → b ≡ union_test k tests set
-same_test n k tests set b e h = subst (λ m. b ≡ union_test m tests set) e h

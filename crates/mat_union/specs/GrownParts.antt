@@ -1,5 +1,5 @@
 -- Parts that grow by one element at a time, and the elements that can no longer be placed (Schrijver, chapter 42).
-use Rattle.std.specs.Prelude.{◌≡◌, ℕ, ◌<◌, Bool, true, false, not, ◌||◌, ◌&&◌, nat_lt, List, length, slice_index_or, All}
+use Rattle.std.specs.Prelude.{◌≡◌, ℕ, ◌<◌, Bool, true, false, not, ◌||◌, ◌&&◌, nat_lt, List, length, map, slice_index_or, All}
 use Rattle.mat_sets.specs.Families.{family_union}
 use Rattle.mat_sets.specs.Sets.{is_member, IsSet, intersection}
 use Rattle.mat_laws.specs.Ranks.{rank}
@@ -13,6 +13,13 @@ pub record AreSound {M : Type 0} (size : M → ℕ) (sound : M → Type 0) (n : 
 pub record AreKept {M K : Type 0} (keeps : M → List ℕ → K → Type 0) (matroids : List M) (parts : List (List ℕ)) (kept : List K) : Type 0 where
   pub one_each : length kept ≡ length matroids
   pub each : (i : ℕ) (m : M) (k : K) → i < length matroids → keeps (slice_index_or matroids i m) (part_at parts i) (slice_index_or kept i k)
+
+-- parts of a set, and what each matroid keeps of its part
+pub record AreKeptParts {M K : Type 0} (indep : M → List ℕ → Bool) (keeps : M → List ℕ → K → Type 0) (matroids : List M) (set : List ℕ)
+    (parts : List (List ℕ)) (kept : List K) : Type 0 where
+  pub are : AreParts (map indep matroids) parts
+  pub together : family_union parts ≡ set
+  pub each : AreKept keeps matroids parts kept
 
 -- parts, and a set that each of them spans: its members in the set are as many as the rank; the others below n are alive
 pub record AreGrowing (n : ℕ) (tests : List (List ℕ → Bool)) (parts : List (List ℕ)) (dead alive : List ℕ) : Type 0 where

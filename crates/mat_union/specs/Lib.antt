@@ -7,6 +7,9 @@ pub mod MoveWalks
 pub mod MoveSearches
 pub mod UnionLaws
 pub mod GrownParts
+pub mod Placings
 pub mod RightUnions
 pub mod WeightLevels
 pub mod UnionsOf
+pub mod FilledParts
+pub mod EndedSearches

@@ -303,7 +303,7 @@ module _ {n : ℕ} (tests : List (List ℕ → Bool)) (laws : AreMatroids n test
 
     module _ (full : union_test n tests (with_one S x) ≡ false) where
       -- where x cannot be added, nothing that it reaches can enter a part
-      none_enters : (v : ℕ) → is_member v R ≡ true → can_enter (length parts) swaps v ≡ true → ⊥
+      pub none_enters : (v : ℕ) → is_member v R ≡ true → can_enter (length parts) swaps v ≡ true → ⊥
       none_enters v h enters = elim (finite_reach n (can_push (length parts) swaps) (λ v. eqb v x) (can_enter (length parts) swaps)) [
         | inl q ↦ (let b = below_start laws are (λ v. eqb v x) (λ z e. subst (λ u. u < n) (sym (eqb-true z x e)) small) in
             let p = shortest_walk_is_path b q.0 q.1 in

@@ -110,7 +110,7 @@ fn no_growth<M: Matroid>(
 }
 
 // Adds these elements one after the other, or refuses them.
-fn grow_by<M: Matroid>(
+pub(crate) fn grow_by<M: Matroid>(
     alloc: Global,
     matroids: &[M],
     growth: &mut Growth<M::Kept>,
@@ -137,9 +137,10 @@ fn grow_by<M: Matroid>(
 }
 
 /// Disjoint sets, one for each matroid and independent in it, that hold as many elements together as any and then weigh as much, with a
-/// cut for each weight that shows it (Schrijver, chapter 42). Elements come by falling weight, each by a search for moves among those that
-/// are not yet cut off; the searches ask for the exchanges of the elements that they reach, by what is kept of the parts. The only error
-/// is want of memory.
+/// cut for each weight that shows it (Schrijver, chapter 42). There is at least one matroid, all are sound, and each has as many elements as
+/// there are weights. Elements come by falling weight, each by a search for moves among those that are not yet cut off, which asks for one row
+/// at each part for each element that it reaches, by what is kept of the parts; after a path only the parts that changed are kept anew. The
+/// only error is want of memory.
 pub fn best_union<M: Matroid>(
     alloc: Global,
     matroids: &[M],

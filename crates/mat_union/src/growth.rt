@@ -6,8 +6,10 @@ ghost use Rattle.mat_laws.specs.Exchanges.{row_of};
 ghost use Rattle.mat_union.specs.GrownParts.{AreDone, AreGrowing, AreKept, AreSound};
 ghost use Rattle.mat_union.specs.Moves.{exchanges_with};
 ghost use Rattle.mat_union.specs.MoveSearches.{IsQuestion, IsReaching};
+ghost use Rattle.mat_union.specs.Placings.{IsPlacing};
 ghost use Rattle.mat_union.specs.Unions.{AreMatroids, AreParts};
 
+use crate::asked::Asked;
 use crate::move_search::MoveSearch;
 use crate::moved_sets::moved_parts;
 use mat_laws::{Exchange, Matroid};
@@ -25,18 +27,18 @@ pub(crate) struct Growth<K: Drop> {
 }
 
 /// The laws hold of each of these matroids.
-pub(crate) fn all_lawful<M: Matroid>(matroids: &[M], n: u32)
+pub(crate) fn all_lawful<M: Asked>(matroids: &[M], n: u32)
     requires sound { AreSound M.ground_size M.sound n matroids.now }
     ensures { AreMatroids n (map M.indep matroids.now) }
 {
     let _size = n;
     for i in 0..matroids.len() {
-        matroids[i].lawful();
+        matroids[i].obeys();
     }
 }
 
 /// The exchanges of x at a part, by what is kept of it: a member has none.
-fn row_at<M: Matroid>(
+fn row_at<M: Asked>(
     alloc: Global,
     m: &M,
     part: &ElemSet,
@@ -55,11 +57,11 @@ fn row_at<M: Matroid>(
             with: ElemSet::new(alloc),
         });
     }
-    m.row(alloc, part, kept, x)
+    m.row_from(alloc, part, kept, x)
 }
 
 /// What each matroid keeps of its part.
-pub(crate) fn keep_all<M: Matroid>(
+pub(crate) fn keep_all<M: Asked>(
     alloc: Global,
     matroids: &[M],
     parts: &SetList,
@@ -72,13 +74,13 @@ pub(crate) fn keep_all<M: Matroid>(
     let _size = n;
     let mut kept = Vec::new(alloc);
     for i in 0..matroids.len() {
-        kept.push(matroids[i].keep(alloc, parts.get(i))?)?;
+        kept.push(matroids[i].keep_of(alloc, parts.get(i))?)?;
     }
     Ok(kept)
 }
 
 /// A search for moves from x among the elements that are alive, to its end.
-fn search_from<M: Matroid>(
+pub(crate) fn search_from<M: Asked>(
     alloc: Global,
     matroids: &[M],
     parts: &SetList,
@@ -104,6 +106,65 @@ fn search_from<M: Matroid>(
         search.tell(alloc, &row)?;
     }
     Ok(search)
+}
+
+/// What each matroid keeps of its new part: anew only where that is another one than before.
+fn keep_changed<M: Asked>(
+    alloc: Global,
+    matroids: &[M],
+    old: &SetList,
+    new: &SetList,
+    kept: &mut Vec<M::Kept>,
+    n: u32,
+) -> Result<(), AllocError>
+    requires sound { AreSound M.ground_size M.sound n matroids.now }
+    requires before { AreParts (map M.indep matroids.now) old.now }
+    requires parts { AreParts (map M.indep matroids.now) new.now }
+    requires kept { AreKept M.keeps matroids.now old.now kept.old.items }
+    ensures { OnOk result (AreKept M.keeps matroids.now new.now kept.new.items) }
+{
+    let _size = n;
+    for i in 0..matroids.len() {
+        if new.get(i) != old.get(i) {
+            kept[i] = matroids[i].keep_of(alloc, new.get(i))?;
+        }
+    }
+    Ok(())
+}
+
+/// Brings x into the parts by moves along a path, of x and of elements among these, or else gives back the search that is stuck; what
+/// changed is kept anew (Schrijver, chapter 42).
+pub(crate) fn place<M: Asked>(
+    alloc: Global,
+    matroids: &[M],
+    parts: &mut SetList,
+    kept: &mut Vec<M::Kept>,
+    among: &BitSet,
+    n: u32,
+    x: u32,
+) -> Result<Option<MoveSearch>, AllocError>
+    requires some { 0 < length matroids.now }
+    requires few { length matroids.now < 2 ^ 32 }
+    requires sound { AreSound M.ground_size M.sound n matroids.now }
+    requires parts { AreParts (map M.indep matroids.now) parts.old }
+    requires kept { AreKept M.keeps matroids.now parts.old kept.old.items }
+    requires among { (v : ℕ) → is_member v among.now ≡ true → v < n }
+    requires below { x < n }
+    requires fresh { is_member x (family_union parts.old) ≡ false }
+    ensures placed { IfOk result (IsPlacing n (map M.indep matroids.now) parts.old among.now x parts.new) }
+    ensures kept { OnOk result (AreKept M.keeps matroids.now parts.new kept.new.items) }
+{
+    all_lawful(matroids, n);
+    let search = search_from(alloc, matroids, parts, kept.as_slice(), among, n, x)?;
+    match search.moves(alloc, parts.as_slice())? {
+        Some(moves) => {
+            let new = moved_parts(alloc, parts, &moves)?;
+            keep_changed(alloc, matroids, parts, &new, kept, n)?;
+            *parts = new;
+            Ok(None)
+        }
+        None => Ok(Some(search)),
+    }
 }
 
 /// These elements are dead.
@@ -142,23 +203,12 @@ pub(crate) fn grow<M: Matroid>(
     ensures holds { OnOk result (IsSubset (family_union growth.old.parts) (family_union growth.new.parts)) }
 {
     all_lawful(matroids, n);
-    let search = search_from(
-        alloc,
-        matroids,
-        &growth.parts,
-        &growth.kept,
-        &growth.alive,
-        n,
-        x,
-    )?;
-    match search.moves(alloc, growth.parts.as_slice())? {
-        Some(moves) => {
-            growth.parts = moved_parts(alloc, &growth.parts, &moves)?;
-            growth.kept = keep_all(alloc, matroids, &growth.parts, n)?;
-            Ok(())
-        }
-        None => {
-            kill(&mut growth.dead, &mut growth.alive, search.reached())?;
+    let parts = &mut growth.parts;
+    let kept = &mut growth.kept;
+    match place(alloc, matroids, parts, kept, &growth.alive, n, x)? {
+        None => Ok(()),
+        Some(stuck) => {
+            kill(&mut growth.dead, &mut growth.alive, stuck.reached())?;
             Ok(())
         }
     }

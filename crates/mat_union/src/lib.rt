@@ -1,10 +1,14 @@
 //! The union of matroids, and the moves of elements between the parts of an independent set of it.
 #![tactic(auto)]
 
+mod asked;
 mod best;
 mod empty;
+mod ended;
 mod exchange_list;
+mod filling;
 mod growth;
+mod kept_parts;
 pub mod laws;
 mod move_graph;
 mod move_search;
@@ -14,7 +18,11 @@ mod search;
 mod union_of;
 
 pub use best::{Level, UnionAnswer, best_union};
+pub use empty::empty_parts;
+pub use ended::{parts_found, row_by_search};
 pub use exchange_list::ExchangeList;
+pub use filling::{Filled, fill_parts};
+pub use kept_parts::KeptParts;
 pub use move_search::{MoveSearch, Question};
 pub use moved_sets::moved_parts;
 pub use moves::{Move, Moves};

@@ -23,23 +23,23 @@ pub struct Question {
 }
 
 /// A search for moves from an element in no part, which asks for the exchanges of the elements that it reaches, part by part, until one
-/// can be added to a part (Schrijver, chapter 42).
+/// can be added to a part (Schrijver, chapter 42). It asks at most once for each element and part.
 #[derive(Debug, Drop)]
 pub struct MoveSearch {
-    start: u32,
+    pub(crate) start: u32,
     // How many parts there are.
-    count: u32,
+    pub(crate) count: u32,
     // The elements that were reached, in the order in which they were; the exchanges of the first `head` are told.
-    queue: Vec<u32>,
-    head: usize,
+    pub(crate) queue: Vec<u32>,
+    pub(crate) head: usize,
     // Of the next one they are told at so many parts, and there it can take the place of these.
-    part: u32,
-    pushes: BitSet,
+    pub(crate) part: u32,
+    pub(crate) pushes: BitSet,
     // It can be added to the next part.
-    entered: bool,
-    unreached: BitSet,
+    pub(crate) entered: bool,
+    pub(crate) unreached: BitSet,
     // At each element whose exchanges are told, those whose place it can take.
-    table: Vec<BitSet>,
+    pub(crate) table: Vec<BitSet>,
 }
 
 // A table with no arcs.
@@ -158,7 +158,8 @@ impl MoveSearch {
         Ok(())
     }
 
-    /// The moves that were found, where an element can be added, at these parts. The only error is want of memory.
+    /// The moves that were found, where an element can be added, at these parts: a walk with fewest steps along the arcs that were told. The
+    /// only error is want of memory.
     pub fn moves(&self, alloc: Global, parts: &[ElemSet]) -> Result<Option<Vec<Move>>, AllocError>
         requires few { length self.now.table.items < 2 ^ 32 }
         requires parts { length parts.now < 2 ^ 32 }

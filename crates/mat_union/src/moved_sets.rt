@@ -44,7 +44,8 @@ fn moved_part(alloc: Global, part: &ElemSet, moves: &[Move], q: u32) -> Result<E
     Ok(set)
 }
 
-/// All parts after all moves: each loses the elements that move, and gains those that move into it.
+/// All parts after all moves: each loses the elements that move, and gains those that move into it. For each part its copy is made, and all
+/// moves are gone through. The only error is want of memory.
 pub fn moved_parts(alloc: Global, parts: &SetList, moves: &[Move]) -> Result<SetList, AllocError>
     requires { length parts.now < 2 ^ 32 }
     ensures { IfOk result (λ new. new ≡ map (moved parts.now moves.now) (all_below (length parts.now))) }

@@ -43,7 +43,8 @@ fn entered_part(rows: &[ExchangeList], u: u32) -> u32
     0
 }
 
-/// A move path with fewest moves, or all that the elements in no part reach (Schrijver, chapter 42). The only error is want of memory.
+/// A move path with fewest moves, or all that the elements in no part reach (Schrijver, chapter 42). Each list has a row for each element, at
+/// the part of its number; the arcs of all rows are gone through once, and then those that are reached. The only error is want of memory.
 pub fn union_search(
     alloc: Global,
     rows: &[ExchangeList],

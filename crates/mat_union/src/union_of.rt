@@ -1,27 +1,16 @@
 //! The union of matroids.
-ghost use Rattle.std.specs.Prelude.{◌≡◌, false, [], map};
+ghost use Rattle.std.specs.Prelude.{◌≡◌, map};
+ghost use Rattle.mat_union.specs.GrownParts.{AreKeptParts};
 ghost use Rattle.mat_union.specs.UnionsOf.{common_size, AreJoined, joined_laws};
 ghost use Rattle.mat_union.specs.Unions.{union_test};
 
-use crate::empty::empty_parts;
-use crate::move_search::MoveSearch;
-use crate::moved_sets::moved_parts;
+use crate::kept_parts::{KeptParts, parts_of, row_of_parts};
 use mat_laws::{Exchange, Matroid};
-use mat_sets::{BitSet, ElemSet};
+use mat_sets::ElemSet;
 use std::alloc::{AllocError, Global};
 
-// The exchanges of a member of a part.
-fn no_exchange(alloc: Global) -> Exchange
-    ensures { result ≡ record { addable = false; with = [] } }
-{
-    Exchange {
-        addable: false,
-        with: ElemSet::new(alloc),
-    }
-}
-
 /// The union of matroids on the same elements: a set is independent where it is the union of pairwise disjoint sets, one for each matroid
-/// and independent in it (Schrijver, chapter 42).
+/// and independent in it (Schrijver, chapter 42). What is kept of a set is parts of it, so that each row costs one search for moves.
 #[derive(Debug, Drop)]
 pub struct UnionOf<M: Matroid> {
     parts: Vec<M>,
@@ -52,9 +41,9 @@ impl<M: Matroid> Matroid for UnionOf<M> {
 
     ghost indep = { λ u. union_test (common_size M.ground_size u.parts.items) (map M.indep u.parts.items) };
 
-    type Kept = ();
+    type Kept = KeptParts<M::Kept>;
 
-    ghost keeps = { λ u base kept. AreJoined M.ground_size M.sound u.parts.items };
+    ghost keeps = { λ u base kept. AreJoined M.ground_size M.sound u.parts.items × AreKeptParts M.indep M.keeps u.parts.items base kept.parts kept.kept.items };
 
     ghost laws = { λ u h. joined_laws M.ground_size M.sound M.indep M.laws u.parts.items h };
 
@@ -62,34 +51,40 @@ impl<M: Matroid> Matroid for UnionOf<M> {
         self.parts[0].size()
     }
 
-    /// The members come one after the other into parts of the set, each by a search for moves, which asks the matroids for the exchanges of
-    /// the elements that it reaches. The only error is want of memory.
+    /// Whether the set has parts: each matroid takes by one greedy run what it can, and the other members come one after the other, each by a
+    /// search for moves, which asks for one row, by what is kept, at each part for each element that it reaches. The only error is want of
+    /// memory.
     fn independent(&self, alloc: Global, set: &ElemSet) -> Result<bool, AllocError> {
         let n = self.size();
-        let matroids = self.parts.as_slice();
-        let all = BitSet::all_below(alloc, n)?;
-        let mut parts = empty_parts(alloc, matroids.len())?;
-        for x in set.as_slice() {
-            let mut search = MoveSearch::new(alloc, n, matroids.len() as u32, *x, &all)?;
-            while let Some(asked) = search.question() {
-                let i = asked.part as usize;
-                let row = if parts.get(i).contains(asked.element) {
-                    no_exchange(alloc)
-                } else {
-                    matroids[i].circuit(alloc, parts.get(i), asked.element)?
-                };
-                search.tell(alloc, &row)?;
-            }
-            match search.moves(alloc, parts.as_slice())? {
-                Some(moves) => parts = moved_parts(alloc, &parts, &moves)?,
-                None => return Ok(false),
-            }
-        }
-        Ok(true)
+        let found = parts_of(alloc, self.parts.as_slice(), n, set)?;
+        Ok(found.is_some())
     }
 
-    /// Nothing is kept: the exchanges of an element come by questions of independence.
-    fn keep(&self, _alloc: Global, _base: &ElemSet) -> Result<(), AllocError> {
-        Ok(())
+    /// The exchanges of x, by what is kept of the set for this one. The only error is want of memory.
+    fn circuit(&self, alloc: Global, base: &ElemSet, x: u32) -> Result<Exchange, AllocError> {
+        let kept = self.keep(alloc, base)?;
+        self.row(alloc, base, &kept, x)
+    }
+
+    /// Parts of the set, found as `independent` does, and what each matroid keeps of its part. The only error is want of memory.
+    fn keep(&self, alloc: Global, base: &ElemSet) -> Result<KeptParts<M::Kept>, AllocError> {
+        let n = self.size();
+        match parts_of(alloc, self.parts.as_slice(), n, base)? {
+            Some(kept) => Ok(kept),
+            None => unreachable!(),
+        }
+    }
+
+    /// One search for moves from x, among the parts that are kept, which asks for one row, by what is kept, at each part for each element that
+    /// it reaches. The only error is want of memory.
+    fn row(
+        &self,
+        alloc: Global,
+        base: &ElemSet,
+        kept: &KeptParts<M::Kept>,
+        x: u32,
+    ) -> Result<Exchange, AllocError> {
+        let n = self.size();
+        row_of_parts(alloc, self.parts.as_slice(), n, base, kept, x)
     }
 }

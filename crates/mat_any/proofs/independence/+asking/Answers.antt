@@ -6,6 +6,8 @@ use Rattle.mat_sets.proofs.Ground.{IsSet-union}
 use Rattle.mat_minors.specs.Minors.{is_contracted}
 use Rattle.mat_minors.proofs.Joining.{dependent_outside, dependent_where_met, restricted_inside}
 use Rattle.mat_minors.proofs.MinorRows.{contracted_apart}
+use Rattle.mat_any.specs.Joined.{union_in}
+use Rattle.mat_any.proofs.JoinedMatroids.{joined_at, size_at, test_at_node}
 use Rattle.mat_any.specs.Trees.{element_count, is_independent}
 use Rattle.mat_any.specs.TreeLaws.{tree_laws}
 use Rattle.mat_any.specs.Views.{tree_of}
@@ -53,3 +55,18 @@ contraction_independent-returns t c =
     (record { rising = c.is_disjoint.ensures.rises; below = c.requires.below }) disjoint in
     IfOk-weaker c.independent.result (λ b. b ≡ p c.in_ok-joined.joined) (λ b. b ≡ is_contracted n away p set)
     (λ b told. told ∙ ap p c.in_ok-joined.ensures.members ∙ sym apart) c.independent.ensures
+
+pub independent-union_independent-requires-clause-joined : goal.independent-union_independent-requires-clause-joined
+independent-union_independent-requires-clause-joined t c =
+    joined_at c.args.matroid.now c.in-Union.parts c.deref-in-Union.result.now c.in-Union.is c.deref-in-Union.ensures.value c.requires.sound
+
+pub independent-union_independent-requires-clause-below : goal.independent-union_independent-requires-clause-below
+independent-union_independent-requires-clause-below t c =
+    subst (λ k. AllBelow k c.args.set.now) (size_at c.args.matroid.now c.in-Union.parts c.deref-in-Union.result.now c.in-Union.is c.deref-in-Union.ensures.value) c.requires.below
+
+pub independent-returns-in-Union : goal.independent-returns-in-Union
+independent-returns-in-Union t c =
+    let test = test_at_node c.args.matroid.now c.in-Union.parts c.deref-in-Union.result.now c.in-Union.is c.deref-in-Union.ensures.value in
+    IfOk-weaker c.union_independent.result (λ b. b ≡ union_in c.deref-in-Union.result.now c.args.set.now)
+    (λ b. b ≡ is_independent (tree_of c.args.matroid.now) c.args.set.now)
+    (λ b told. told ∙ ap (λ p. p c.args.set.now) (sym test)) c.union_independent.ensures

@@ -1,9 +1,23 @@
-use Rattle.std.proofs.Common.{◌&&◌, ltb, length, refl, sym, ap, ◌∙◌, rules}
+use Rattle.std.proofs.Common.{◌≡◌, ◌&&◌, ◌<◌, ltb, length, get_or, map, refl, subst, sym, ap, ◌∙◌, rules}
+use Rattle.std.proofs.lemmas.Bool.{ltb-true}
 use Rattle.std.proofs.lemmas.Result.{IfOk-weaker}
-use Rattle.mat_sets.specs.Sets.{is_member}
+use Rattle.mat_sets.specs.Sets.{all_below, is_member}
+use Rattle.mat_sets.proofs.Ground.{is_member-all_below}
+use Rattle.mat_laws.specs.declared.exchange.Exchange.{Exchange}
 use Rattle.mat_laws.specs.Exchanges.{row_of}
 use Rattle.mat_minors.specs.ContractionLaws.{IsJoined-gives}
 use Rattle.mat_minors.proofs.MinorRows.{truncated_row, restricted_row, restricted_row_outside, contracted_row, contracted_row_outside, outside_joined}
+use Rattle.mat_union.specs.EndedSearches.{IsEnded}
+use Rattle.mat_union.specs.GrownParts.{AreKept}
+use Rattle.mat_union.specs.Moves.{exchanges_with}
+use Rattle.mat_union.specs.MoveSearches.{IsReaching}
+use Rattle.mat_union.specs.Unions.{AreMatroids}
+use Rattle.mat_union.proofs.AskedRows.{asked_below, row_answers}
+use Rattle.mat_union.proofs.SoundMatroids.{kept_at, part_passes, parts_count, sound_at, test_is}
+use Rattle.mat_any.specs.Joined.{elements_in, size_in, test_in, union_in, IsSoundOne, KeepsOne, KeepsUnion}
+use Rattle.mat_any.specs.declared.any.AnyMatroid.{the_lemmas}
+use Rattle.mat_any.proofs.GrownRuns.{each_lawful}
+use Rattle.mat_any.proofs.JoinedMatroids.{joined_at, keeps_of, size_at, test_at_node, union_kept}
 use Rattle.mat_any.specs.Trees.{element_count, is_independent}
 use Rattle.mat_any.specs.TreeLaws.{tree_laws}
 use Rattle.mat_any.specs.Views.{tree_of}
@@ -27,7 +41,8 @@ truncation_row-returns-clause-row t c =
 pub restriction_row-returns-then-not-contains-clause-row : goal.restriction_row-returns-then-not-contains-clause-row
 restriction_row-returns-then-not-contains-clause-row t c =
     restricted_row_outside (is_independent (tree_of c.args.inner.now)) c.args.elements.now c.args.base.now c.args.x _ c.requires.outside
-    (sym c.contains.ensures.found ∙ c.if-not-contains.true) refl c.new.ensures.members
+    (sym c.contains.ensures.found ∙ c.if-not-contains.true)
+    (ap (λ (e : Exchange). e.addable) c.no_exchange.ensures) (ap (λ (e : Exchange). e.with) c.no_exchange.ensures)
 
 pub restriction_row-returns-clause-row : goal.restriction_row-returns-clause-row
 restriction_row-returns-clause-row t c =
@@ -39,7 +54,8 @@ pub contraction_row-returns-then-contains-clause-row : goal.contraction_row-retu
 contraction_row-returns-then-contains-clause-row t c =
     let tree = tree_of c.args.inner.now in
     contracted_row_outside (element_count tree) (is_independent tree) c.args.away.now c.args.base.now c.args.x _
-    c.requires.away.rising c.requires.outside (sym c.contains.ensures.found ∙ c.if-contains.true) refl c.new.ensures.members
+    c.requires.away.rising c.requires.outside (sym c.contains.ensures.found ∙ c.if-contains.true)
+    (ap (λ (e : Exchange). e.addable) c.no_exchange.ensures) (ap (λ (e : Exchange). e.with) c.no_exchange.ensures)
 
 pub contraction_row-row-requires : goal.contraction_row-row-requires
 contraction_row-row-requires t c =
@@ -76,3 +92,115 @@ contraction_row-returns-clause-row t c =
     (sym c.contains.ensures.found ∙ c.if-contains.false)
     (c.in_ok-exchange.ensures.row ∙ ap (λ J. row_of (is_independent tree) J c.args.x) c.requires.joined)
     refl c.in_ok-minus.ensures.members
+
+pub row-union_row-requires : goal.row-union_row-requires
+row-union_row-requires t c =
+    let at = c.in-Union-Union in
+    let ms = c.deref-in-Union-Union.result.now in
+    let same = c.deref-in-Union-Union.ensures.value in
+    let m = c.args.matroid.now in
+    let size = size_at m at.matroids ms at.is-0 same in
+    let kept = union_kept ms c.args.base.now at.parts at.kept (subst (KeepsUnion ms c.args.base.now) at.is-1 (keeps_of m at.matroids ms at.is-0 same c.args.base.now c.args.kept.now c.requires.kept)) in (
+      search (rules, the_lemmas),
+      (
+        joined_at m at.matroids ms at.is-0 same c.requires.sound,
+        (
+          kept.0,
+          (
+            kept.1,
+            (
+              subst (AreKept KeepsOne ms at.parts) (sym c.deref-in-Union-Union-2.ensures.value) kept.2,
+              (subst (λ k. c.args.x < k) size c.requires.below, c.requires.outside),
+            ),
+          ),
+        ),
+      ),
+    )
+
+pub row-returns-in-Union-Union-clause-row : goal.row-returns-in-Union-Union-clause-row
+row-returns-in-Union-Union-clause-row t c =
+    let at = c.in-Union-Union in
+    let test = test_at_node c.args.matroid.now at.matroids c.deref-in-Union-Union.result.now at.is-0 c.deref-in-Union-Union.ensures.value in
+    IfOk-weaker c.union_row.result (λ (e : Exchange). e ≡ row_of (union_in c.deref-in-Union-Union.result.now) c.args.base.now c.args.x)
+    (λ (e : Exchange). e ≡ row_of (is_independent (tree_of c.args.matroid.now)) c.args.base.now c.args.x)
+    (λ e told. told ∙ ap (λ p. row_of p c.args.base.now c.args.x) (sym test)) c.union_row.ensures.row
+
+pub search_from-loop-asked-init : goal.search_from-loop-asked-init
+search_from-loop-asked-init t c =
+    let ms = c.args.matroids.now in
+    let P = c.args.parts.now in
+    let n = c.common_size_of-n.result in
+    let ex = exchanges_with (map test_in ms) P in
+    let count = parts_count test_in ms P c.requires.parts in
+    subst (λ a. IsReaching n (length P) ex a c.args.x c.in_ok-search.search) c.in_ok-all.ensures
+    (subst (λ k. IsReaching n k ex c.in_ok-all.all c.args.x c.in_ok-search.search) (sym count) (c.in_ok-search.ensures ex))
+
+pub search_from-row_at-requires : goal.search_from-row_at-requires
+search_from-row_at-requires t c =
+    let ms = c.args.matroids.now in
+    let P = c.args.parts.now in
+    let q = c.in-Some.asked.part in
+    let count = parts_count test_in ms P c.requires.parts in
+    let l : q < length ms = subst (λ k. q < k) count (subst (λ k. k < length P) (sym c.in-Some.ensures.3) c.loop-asked.invariant.here) in
+    let at = sound_at elements_in IsSoundOne (size_in ms) ms c.requires.joined.each q c.index-matroids-i.result l c.index-matroids-i.is in (
+      search (rules, the_lemmas),
+      (
+        at.0,
+        (
+          part_passes test_in ms P c.requires.parts q c.index-matroids-i.result c.get.result.now l c.index-matroids-i.is c.get.ensures.item,
+          (
+            kept_at KeepsOne ms P c.args.kept.now c.requires.kept q c.index-matroids-i.result c.get.result.now c.index-kept-i.result l c.index-matroids-i.is c.get.ensures.item c.index-kept-i.is,
+            subst (λ k. c.in-Some.asked.element < k) (c.common_size_of-n.ensures ∙ sym at.1)
+                (subst (λ y. y < c.common_size_of-n.result) (sym c.in-Some.ensures.2) (asked_below c.loop-asked.invariant c.in-Some.ensures.1)),
+          ),
+        ),
+      ),
+    )
+
+pub search_from-tell-requires-clause-open : goal.search_from-tell-requires-clause-open
+search_from-tell-requires-clause-open t c = record {
+  more = c.in-Some.ensures.1;
+  inside = subst (λ k. get_or c.loop-asked.search.queue.items c.loop-asked.search.head 0 < k) (sym c.loop-asked.invariant.so_far.size) (asked_below c.loop-asked.invariant c.in-Some.ensures.1);
+}
+
+pub search_from-loop-asked-preserved : goal.search_from-loop-asked-preserved
+search_from-loop-asked-preserved t c = (
+    let ms = c.args.matroids.now in
+    let P = c.args.parts.now in
+    let q = c.in-Some.asked.part in
+    let n = c.common_size_of-n.result in
+    let s = c.loop-asked.search in
+    let count = parts_count test_in ms P c.requires.parts in
+    let l : q < length ms = subst (λ k. q < k) count (subst (λ k. k < length P) (sym c.in-Some.ensures.3) c.loop-asked.invariant.here) in
+    let heard = row_answers (map test_in ms) P s (test_in c.index-matroids-i.result) c.get.result.now c.in-Some.asked.element q c.in_ok-row.row c.in-Some.ensures.2 c.in-Some.ensures.3
+    (test_is test_in ms q c.index-matroids-i.result l c.index-matroids-i.is) c.get.ensures.item c.in_ok-row.ensures in
+    c.in_ok-tell.ensures n (length P) (exchanges_with (map test_in ms) P) (all_below n) c.args.x c.loop-asked.invariant c.in-Some.ensures.0 heard
+    ).0
+
+pub search_from-loop-asked-smaller : goal.search_from-loop-asked-smaller
+search_from-loop-asked-smaller t c = (
+    let ms = c.args.matroids.now in
+    let P = c.args.parts.now in
+    let q = c.in-Some.asked.part in
+    let n = c.common_size_of-n.result in
+    let s = c.loop-asked.search in
+    let count = parts_count test_in ms P c.requires.parts in
+    let l : q < length ms = subst (λ k. q < k) count (subst (λ k. k < length P) (sym c.in-Some.ensures.3) c.loop-asked.invariant.here) in
+    let heard = row_answers (map test_in ms) P s (test_in c.index-matroids-i.result) c.get.result.now c.in-Some.asked.element q c.in_ok-row.row c.in-Some.ensures.2 c.in-Some.ensures.3
+    (test_is test_in ms q c.index-matroids-i.result l c.index-matroids-i.is) c.get.ensures.item c.in_ok-row.ensures in
+    c.in_ok-tell.ensures n (length P) (exchanges_with (map test_in ms) P) (all_below n) c.args.x c.loop-asked.invariant c.in-Some.ensures.0 heard
+    ).1
+
+pub search_from-returns-clause-ended : goal.search_from-returns-clause-ended
+search_from-returns-clause-ended t c =
+    subst (λ k. IsEnded k (map test_in c.args.matroids.now) c.args.parts.now c.args.x c.loop-asked.search) c.common_size_of-n.ensures (record {
+      laws = subst (λ k. AreMatroids k (map test_in c.args.matroids.now)) (sym c.common_size_of-n.ensures) (each_lawful c.args.matroids.now c.requires.joined);
+      are = c.requires.parts;
+      fresh = c.requires.fresh;
+      reaching = c.loop-asked.invariant;
+      end = c.in_default.ensures;
+    })
+
+pub search_from-new-requires-clause-among : goal.search_from-new-requires-clause-among
+search_from-new-requires-clause-among t c =
+    λ v h. ltb-true v c.common_size_of-n.result (sym (is_member-all_below v c.common_size_of-n.result) ∙ ap (is_member v) (sym c.in_ok-all.ensures) ∙ h)

@@ -25,7 +25,7 @@ returns-then-len-vertices-clause-right g c =
 pub returns-then-len-vertices-clause-unreached : goal.returns-then-len-vertices-clause-unreached
 returns-then-len-vertices-clause-unreached g c = (
   (λ _ tree spans. unentered_has_none c.args.vertices c.args.arcs.now c.args.root c.in_ok-rest.rest tree
-  (returns-then-len-vertices-clause-right g c) spans),
+      (returns-then-len-vertices-clause-right g c) spans),
   λ _. refl,
 )
 

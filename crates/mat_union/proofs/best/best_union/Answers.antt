@@ -6,14 +6,14 @@ use Rattle.mat_union.proofs.LevelSteps.{fewer_left, level_done, level_fresh, lev
 use Rattle.mat_union.proofs.SoundMatroids.{sound_at}
 use Rattle.mat_union.proofs.best.best_union.Goals as goal
 
-pub all_lawful-requires-clause-sound : goal.all_lawful-requires-clause-sound
-all_lawful-requires-clause-sound g c κs within =
+pub all_lawful-requires : goal.all_lawful-requires
+all_lawful-requires g c =
     let size = g.M.Matroid.ground_size in
     let sound = g.M.Matroid.sound in
     let matroids = c.args.matroids.now in
     let w = c.args.weights.now in
     let n_is : c.size-n.result ≡ length w = c.size-n.ensures ∙ (sound_at size sound (length w) matroids c.requires.sound 0 c.index-matroids-0.result c.requires.some c.index-matroids-0.is).1 in
-    subst (λ k. AreSound size sound k matroids) (sym n_is) c.requires.sound
+    record { sound = subst (λ k. AreSound size sound k matroids) (sym n_is) c.requires.sound }
 
 pub no_growth-requires-clause-sound : goal.no_growth-requires-clause-sound
 no_growth-requires-clause-sound g c κs within =

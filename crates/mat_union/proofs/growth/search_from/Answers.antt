@@ -7,18 +7,18 @@ use Rattle.mat_union.proofs.growth.search_from.Goals as goal
 
 pub loop-asked-init : goal.loop-asked-init
 loop-asked-init g c =
-    let tests = map g.M.Matroid.indep c.args.matroids.now in
+    let tests = map g.M.Asked.indep c.args.matroids.now in
     subst (λ m. IsReaching c.args.n m (exchanges_with tests c.args.parts.now) c.args.alive.now c.args.x c.in_ok-search.search)
-    (sym (parts_count g.M.Matroid.indep c.args.matroids.now c.args.parts.now c.requires.parts)) (c.in_ok-search.ensures (exchanges_with tests c.args.parts.now))
+    (sym (parts_count g.M.Asked.indep c.args.matroids.now c.args.parts.now c.requires.parts)) (c.in_ok-search.ensures (exchanges_with tests c.args.parts.now))
 
 pub get-requires : goal.get-requires
 get-requires g c = subst (λ q. q < length c.args.parts.now) (sym c.in-Some.ensures.3) c.loop-asked.invariant.here
 
 pub row_at-requires-clause-below : goal.row_at-requires-clause-below
-row_at-requires-clause-below g c κs within =
-    let e = parts_count g.M.Matroid.indep c.args.matroids.now c.args.parts.now c.requires.parts in
+row_at-requires-clause-below g c =
+    let e = parts_count g.M.Asked.indep c.args.matroids.now c.args.parts.now c.requires.parts in
     let l : c.in-Some.asked.part < length c.args.matroids.now = subst (λ q. q < length c.args.matroids.now) (sym c.in-Some.ensures.3) (let h = c.loop-asked.invariant.here in omega arith) in
-    let m = (sound_at g.M.Matroid.ground_size g.M.Matroid.sound c.args.n c.args.matroids.now c.requires.sound c.in-Some.asked.part c.index-matroids-i.result l c.index-matroids-i.is).1 in
+    let m = (sound_at g.M.Asked.ground_size g.M.Asked.sound c.args.n c.args.matroids.now c.requires.sound c.in-Some.asked.part c.index-matroids-i.result l c.index-matroids-i.is).1 in
     subst (λ k. c.in-Some.asked.element < k) (sym m) (subst (λ x. x < c.args.n) (sym c.in-Some.ensures.2) (asked_below c.loop-asked.invariant c.in-Some.ensures.1))
 
 pub tell-requires-clause-open : goal.tell-requires-clause-open
@@ -29,22 +29,22 @@ tell-requires-clause-open g c = record {
 
 pub loop-asked-preserved : goal.loop-asked-preserved
 loop-asked-preserved g c =
-    let tests = map g.M.Matroid.indep c.args.matroids.now in
+    let tests = map g.M.Asked.indep c.args.matroids.now in
     let s = c.loop-asked.search in
-    let e = parts_count g.M.Matroid.indep c.args.matroids.now c.args.parts.now c.requires.parts in
+    let e = parts_count g.M.Asked.indep c.args.matroids.now c.args.parts.now c.requires.parts in
     let l : c.in-Some.asked.part < length c.args.matroids.now = subst (λ q. q < length c.args.matroids.now) (sym c.in-Some.ensures.3) (let h = c.loop-asked.invariant.here in omega arith) in
-    let heard = row_answers tests c.args.parts.now s (g.M.Matroid.indep c.index-matroids-i.result) c.get.result.now c.in-Some.asked.element c.in-Some.asked.part c.in_ok-row.row c.in-Some.ensures.2 c.in-Some.ensures.3
-    (test_is g.M.Matroid.indep c.args.matroids.now c.in-Some.asked.part c.index-matroids-i.result l c.index-matroids-i.is) c.get.ensures.item c.in_ok-row.ensures in
+    let heard = row_answers tests c.args.parts.now s (g.M.Asked.indep c.index-matroids-i.result) c.get.result.now c.in-Some.asked.element c.in-Some.asked.part c.in_ok-row.row c.in-Some.ensures.2 c.in-Some.ensures.3
+    (test_is g.M.Asked.indep c.args.matroids.now c.in-Some.asked.part c.index-matroids-i.result l c.index-matroids-i.is) c.get.ensures.item c.in_ok-row.ensures in
     (c.in_ok-tell.ensures c.args.n (length c.args.parts.now) (exchanges_with tests c.args.parts.now) c.args.alive.now c.args.x c.loop-asked.invariant c.in-Some.ensures.0 heard).0
 
 pub loop-asked-smaller : goal.loop-asked-smaller
 loop-asked-smaller g c =
-    let tests = map g.M.Matroid.indep c.args.matroids.now in
+    let tests = map g.M.Asked.indep c.args.matroids.now in
     let s = c.loop-asked.search in
-    let e = parts_count g.M.Matroid.indep c.args.matroids.now c.args.parts.now c.requires.parts in
+    let e = parts_count g.M.Asked.indep c.args.matroids.now c.args.parts.now c.requires.parts in
     let l : c.in-Some.asked.part < length c.args.matroids.now = subst (λ q. q < length c.args.matroids.now) (sym c.in-Some.ensures.3) (let h = c.loop-asked.invariant.here in omega arith) in
-    let heard = row_answers tests c.args.parts.now s (g.M.Matroid.indep c.index-matroids-i.result) c.get.result.now c.in-Some.asked.element c.in-Some.asked.part c.in_ok-row.row c.in-Some.ensures.2 c.in-Some.ensures.3
-    (test_is g.M.Matroid.indep c.args.matroids.now c.in-Some.asked.part c.index-matroids-i.result l c.index-matroids-i.is) c.get.ensures.item c.in_ok-row.ensures in
+    let heard = row_answers tests c.args.parts.now s (g.M.Asked.indep c.index-matroids-i.result) c.get.result.now c.in-Some.asked.element c.in-Some.asked.part c.in_ok-row.row c.in-Some.ensures.2 c.in-Some.ensures.3
+    (test_is g.M.Asked.indep c.args.matroids.now c.in-Some.asked.part c.index-matroids-i.result l c.index-matroids-i.is) c.get.ensures.item c.in_ok-row.ensures in
     (c.in_ok-tell.ensures c.args.n (length c.args.parts.now) (exchanges_with tests c.args.parts.now) c.args.alive.now c.args.x c.loop-asked.invariant c.in-Some.ensures.0 heard).1
 
 pub returns-clause-reaching : goal.returns-clause-reaching

@@ -1,0 +1,57 @@
+-- What it is that an answer was read behind its command, and that it is read again.
+use Rattle.std.proofs.Common.{◌≡◌, Bool, true, false, cond, ℕ, ◌≤◌, List, [], ◌∷◌, ◌++◌, length, Result, Ok, refl, ap, ◌∙◌, sym, subst}
+use Rattle.std.specs.Prelude.{codes, bytes_eq}
+use Rattle.std.specs.List.{All, list_all}
+use Rattle.std.proofs.lemmas.Bool.{and_from, and_parts}
+use Rattle.std.proofs.lemmas.Slice.Eq.{bytes_eq-Decides}
+use Rattle.mat_sets.specs.Sets.{IsSet}
+use Rattle.mat_words.specs.Lines.{Line}
+use Rattle.mat_words.specs.Words.{is_word}
+use Rattle.mat_words.specs.Writing.{end_line}
+use Rattle.mat_words.specs.Cursors.{WordsLeft, LinesLeft}
+use Rattle.mat_words.proofs.LineReading.{AreLeft}
+use Rattle.mat_cert.specs.Faults.{Fault}
+use Rattle.mat_cert.specs.Certificates.{Certificate, AreRangedSets, IsRanged, certificate_lines, header_line, version_line}
+
+-- an answer was read from the words behind its command on
+pub record IsCommandRead (command : List ℕ) (words : WordsLeft) (lines : LinesLeft) (answer : Certificate × LinesLeft) : Type 0 where
+  pub ranged : IsRanged answer.0
+  pub spelled : AreLeft (end_line ∷ []) answer.1
+      → (more : List Line) × AreLeft more lines × (certificate_lines answer.0 ≡ version_line ∷ header_line command words.words ∷ more)
+
+-- the lines of a certificate begin with the header that was read
+pub with_header : (command : List ℕ) (words spelling : Line) (more : List Line) → words ≡ spelling
+    → version_line ∷ header_line command spelling ∷ more ≡ version_line ∷ header_line command words ∷ more
+with_header command words spelling more cut = ap (λ (t : Line). version_line ∷ header_line command t ∷ more) (sym cut)
+
+-- as many sets as a header says are in range
+pub ranged_sets : (n least most many : ℕ) (sets : List (List ℕ)) → (length sets ≡ many) × All (IsSet n) sets → least ≤ many → many ≤ most
+    → AreRangedSets n least most sets
+ranged_sets n least most many sets read enough few = record {
+  enough = subst (λ (k : ℕ). least ≤ k) (sym read.0) enough;
+  no_more = subst (λ (k : ℕ). k ≤ most) (sym read.0) few;
+  each = read.1;
+}
+
+-- what was read where a word is tested: it is that word, or another
+pub by_word : {B : Type 0} {P : Type 0} (word name : List ℕ) (first second : Result B Fault) (y : B) → (word ≡ name → first ≡ Ok y → P)
+    → (second ≡ Ok y → P) → cond (bytes_eq word name) first second ≡ Ok y → P
+by_word {B} {P} word name first second y same other e = by (bytes_eq word name) (λ h. (bytes_eq-Decides word name).0 h) e
+  where
+    by : (test : Bool) → (test ≡ true → word ≡ name) → cond test first second ≡ Ok y → P
+    by true is h = same (is refl) h
+    by false is h = other h
+
+-- what was read where a number of words is tested
+pub by_test : {B : Type 0} {P : Type 0} (test : Bool) (first second : Result B Fault) (y : B) → (first ≡ Ok y → P) → (second ≡ Ok y → P)
+    → cond test first second ≡ Ok y → P
+by_test true first second y held failed e = held e
+by_test false first second y held failed e = failed e
+
+-- words in front of words
+pub words_append : (first second : Line) → list_all is_word first ≡ true → list_all is_word second ≡ true
+    → list_all is_word (first ++ second) ≡ true
+words_append [] second one two = two
+words_append (word ∷ first) second one two =
+    let both = and_parts (is_word word) (list_all is_word first) one in
+    and_from (is_word word) (list_all is_word (first ++ second)) both.0 (words_append first second both.1 two)

@@ -1,0 +1,29 @@
+use Rattle.std.proofs.Common.{◌≡◌, [], length, sym, subst, ◌∙◌}
+use Rattle.std.specs.Prelude.{IfOk}
+use Rattle.std.proofs.lemmas.Bool.{eqb-true}
+use Rattle.std.proofs.lemmas.List.Elements.{All-head}
+use Rattle.mat_any.specs.Trees.{IsSound, element_count, is_independent}
+use Rattle.mat_any.specs.Views.{tree_of}
+use Rattle.mat_check.specs.Clauses.{first_failure}
+use Rattle.mat_check.specs.SetClauses.{cover_clauses, pack_clauses}
+use Rattle.mat_check.proofs.matroid_answers.single_failure.Goals as goal
+
+pub returns-in-Pack : goal.returns-in-Pack
+returns-in-Pack g c =
+    let t = tree_of c.args.m.now in
+    let w = c.args.weights.now in
+    let sound = All-head (λ tree. IsSound tree × (element_count tree ≡ length w)) t [] c.requires.sound in
+    let count : c.in-Pack.count ≡ length w = eqb-true c.in-Pack.count (length w) (rw c.in-Pack.is at c.requires.header) in
+    rw c.in-Pack.is (subst
+    (λ n. IfOk c.pack_failure.result (λ found. found ≡ first_failure (pack_clauses n (is_independent t) c.in-Pack.bases c.in-Pack.cut)))
+    (sound.1 ∙ sym count) (rw c.as_slice.ensures.items at c.pack_failure.ensures))
+
+pub returns-in-Cover : goal.returns-in-Cover
+returns-in-Cover g c =
+    let t = tree_of c.args.m.now in
+    let w = c.args.weights.now in
+    let sound = All-head (λ tree. IsSound tree × (element_count tree ≡ length w)) t [] c.requires.sound in
+    let count : c.in-Cover.count ≡ length w = eqb-true c.in-Cover.count (length w) (rw c.in-Cover.is at c.requires.header) in
+    rw c.in-Cover.is (subst
+    (λ n. IfOk c.cover_failure.result (λ found. found ≡ first_failure (cover_clauses n (is_independent t) c.in-Cover.sets c.in-Cover.cut)))
+    (sound.1 ∙ sym count) (rw c.as_slice-in-Cover.ensures.items at c.cover_failure.ensures))

@@ -1,0 +1,87 @@
+//! Whether colours show that there is no rainbow spanning tree.
+
+ghost use Rattle.std.specs.Prelude.{◌≡◌, ◌==◌, ◌<◌, ◌≤◌, ◌^◌, length, slice_index, IfOk};
+ghost use Rattle.mat_sets.specs.Graphs.{IsGraph, ends_of};
+ghost use Rattle.mat_sets.specs.Search.{those_below};
+ghost use Rattle.mat_sets.specs.Sets.{AllBelow};
+ghost use Rattle.mat_graphic.specs.Forests.{number_of_components};
+ghost use Rattle.mat_fronts.specs.Rainbow.{edges_without};
+ghost use Rattle.mat_check.specs.Clauses.{first_failure};
+ghost use Rattle.mat_check.specs.TreeClauses.{colours_clauses};
+
+use crate::reason::Reason;
+use mat_graphic::Graphic;
+use mat_sets::{ElemSet, Pairs};
+use std::alloc::{AllocError, Global};
+
+// The edges whose colour is not in the set.
+fn edges_without(alloc: Global, colour_of: &[u32], colours: &ElemSet) -> Result<ElemSet, AllocError>
+    requires few { length colour_of.now ≤ 500 }
+    ensures { IfOk result (λ s. s ≡ edges_without (length colour_of.now) (slice_index colour_of.now) colours.now) }
+{
+    let mut rest = ElemSet::new(alloc);
+    for e in 0..colour_of.len() as u32 {
+        if !colours.contains(colour_of[e as usize]) {
+            rest.add(e)?;
+        }
+    }
+    Ok(rest)
+}
+
+// How many numbers stand at their own place.
+fn own_places(least: &[u32]) -> usize
+    requires { length least.now < 2 ^ 32 }
+    ensures { result ≡ length (those_below (length least.now) (λ v. slice_index least.now v == v)) }
+{
+    let mut count = 0;
+    for v in 0..least.len() {
+        if least[v] as usize == v {
+            count += 1;
+        }
+    }
+    count
+}
+
+// How many components these edges make of the vertices: as many as vertices that are the least of theirs.
+fn component_count(
+    alloc: Global,
+    vertices: u32,
+    edges: &Pairs,
+    set: &ElemSet,
+) -> Result<usize, AllocError>
+    requires graph { IsGraph vertices edges.now }
+    requires below { AllBelow (length edges.now) set.now }
+    ensures { IfOk result (λ count. count ≡ number_of_components vertices (ends_of edges.now) set.now) }
+{
+    set.rises();
+    let graphic = Graphic::new(alloc, vertices, edges.copy(alloc)?)?;
+    let least = graphic.components(alloc, set)?;
+    let count = own_places(&least);
+    Ok(count)
+}
+
+/// The clause of missing colours, where it fails: without the edges of these colours there are no more components than one more than there
+/// are such colours (Schrijver, chapter 41). The time is nearly linear in the number of vertices and of edges. The only error is want of
+/// memory.
+pub(crate) fn colours_failure(
+    alloc: Global,
+    vertices: u32,
+    edges: &Pairs,
+    colour_of: &[u32],
+    missing: &Option<ElemSet>,
+) -> Result<Option<(Reason, u32, u32)>, AllocError>
+    requires graph { IsGraph vertices edges.now }
+    requires long { length colour_of.now ≡ length edges.now }
+    requires few { length edges.now ≤ 500 }
+    ensures { IfOk result (λ found. found ≡ first_failure (colours_clauses vertices (length edges.now) (ends_of edges.now)
+        (slice_index colour_of.now) missing.now)) }
+{
+    if let Some(colours) = missing {
+        let rest = edges_without(alloc, colour_of, colours)?;
+        let components = component_count(alloc, vertices, edges, &rest)?;
+        if components.saturating_sub(1) <= colours.len() {
+            return Ok(Some((Reason::Colours, 0, 0)));
+        }
+    }
+    Ok(None)
+}

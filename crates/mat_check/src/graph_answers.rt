@@ -1,0 +1,83 @@
+//! The clauses of answers about graphs and tables.
+
+ghost use Rattle.std.specs.Prelude.{◌≡◌, ◌≤◌, true, IfOk};
+ghost use Rattle.mat_cert.specs.Certificates.{IsRanged};
+ghost use Rattle.mat_cert.specs.Views.{certificate_of};
+ghost use Rattle.mat_check.specs.AnswerClauses.{answer_clauses, has_header};
+ghost use Rattle.mat_check.specs.Clauses.{first_failure};
+ghost use Rattle.mat_desc.specs.Grammar.{IsValid};
+ghost use Rattle.mat_desc.specs.Instances.{graph, rooted};
+
+use crate::arborescences::{disjoint_failure, seldom_entered_failure};
+use crate::least::arborescence_failure;
+use crate::reason::Reason;
+use crate::trees::{partition_failure, trees_failure};
+use mat_cert::Answer;
+use mat_sets::{Pairs, Weight};
+use std::alloc::{AllocError, Global};
+
+/// The first clause behind the header of an answer about a graph that fails. The only error is want of memory.
+pub(crate) fn graph_failure(
+    alloc: Global,
+    vertices: u32,
+    edges: &Pairs,
+    answer: &Answer,
+) -> Result<Option<(Reason, u32, u32)>, AllocError>
+    requires valid { IsValid (graph vertices edges.now) }
+    requires ranged { IsRanged (certificate_of answer.now) }
+    requires header { has_header (graph vertices edges.now) (certificate_of answer.now) ≡ true }
+    ensures { IfOk result (λ found. found ≡ first_failure (answer_clauses (graph vertices edges.now) (certificate_of answer.now))) }
+{
+    match answer {
+        Answer::Trees { trees, .. } => trees_failure(alloc, vertices, edges, trees.as_slice()),
+        Answer::TreesNone { k, classes, .. } => {
+            Ok(partition_failure(vertices, edges, *k, classes.as_slice()))
+        }
+        _ => Ok(None),
+    }
+}
+
+/// The first clause behind the header of an answer about a directed graph that fails. The only error is want of memory.
+pub(crate) fn rooted_failure(
+    alloc: Global,
+    vertices: u32,
+    root: u32,
+    arcs: &Pairs,
+    costs: &[Weight],
+    answer: &Answer,
+) -> Result<Option<(Reason, u32, u32)>, AllocError>
+    requires valid { IsValid (rooted vertices root arcs.now costs.now) }
+    requires ranged { IsRanged (certificate_of answer.now) }
+    requires header { has_header (rooted vertices root arcs.now costs.now) (certificate_of answer.now) ≡ true }
+    ensures { IfOk result (λ found. found ≡ first_failure (answer_clauses (rooted vertices root arcs.now costs.now) (certificate_of answer.now))) }
+{
+    match answer {
+        Answer::Arbor {
+            cost,
+            arcs: tree,
+            first,
+            second,
+            ..
+        } => arborescence_failure(
+            alloc,
+            vertices,
+            arcs,
+            costs,
+            root,
+            *cost,
+            tree,
+            first.as_slice(),
+            second.as_slice(),
+        ),
+        Answer::Unreached { set, .. } => {
+            seldom_entered_failure(alloc, vertices, arcs, root, 1, set)
+        }
+        Answer::Disjoint { trees, .. } => {
+            disjoint_failure(alloc, vertices, arcs, root, trees.as_slice())
+        }
+        Answer::DisjointNone { k, set, .. } => {
+            seldom_entered_failure(alloc, vertices, arcs, root, *k, set)
+        }
+        _ => Ok(None),
+    }
+}

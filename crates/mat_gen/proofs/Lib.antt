@@ -1,0 +1,4 @@
+pub mod Draws
+pub mod Classes
+pub mod Validity
+pub mod PairMade

@@ -1,0 +1,188 @@
+-- What is drawn is in range: each draw is below its bound, and so the numbers of a sample are those of a valid problem.
+use Rattle.std.proofs.Common.{◌≡◌, ℕ, zero, suc, ◌+◌, ◌*◌, ◌/◌, ◌<◌, ◌≤◌, List, [], ◌∷◌, length, map}
+use Rattle.std.proofs.Common.{replicate, pos, ◌-ℤ◌, Result, Ok, Err, refl, sym, subst, ◌∙◌, arith}
+use Rattle.std.specs.Prelude.{IfOk}
+use Rattle.std.specs.List.{All}
+use Rattle.std.proofs.Math.Nat.{mod-lt}
+use Rattle.std.proofs.lemmas.Int.{ints}
+use Rattle.std.proofs.lemmas.List.{length-map, length-replicate}
+use Rattle.std.proofs.lemmas.List.Elements.{All-nil, All-cons}
+use Rattle.mat_sets.specs.Sets.{IsSet, all_below}
+use Rattle.mat_sets.specs.Sums.{IsWithin}
+use Rattle.mat_sets.specs.Graphs.{IsGraph}
+use Rattle.mat_sets.proofs.Ground.{length-all_below}
+use Rattle.mat_sets.proofs.Search.{IsSet-those_below}
+use Rattle.mat_count.specs.Labels.{classes_by}
+use Rattle.mat_count.proofs.LabelClasses.{IsPartition-classes_by}
+use Rattle.mat_any.specs.Trees.{Tree, graphic, partition}
+use Rattle.mat_desc.specs.Instances.{Instance}
+use Rattle.mat_desc.specs.Limits.{most_elements, largest_weight}
+use Rattle.mat_desc.specs.Grammar.{AreClasses, IsPairBelow, IsValidMatroid, IsWeight, IsValid}
+use Rattle.mat_desc.specs.Soundness.{IsSoundInstance}
+use Rattle.mat_desc.proofs.ItemLaws.{IsGraph-pairs}
+use Rattle.mat_desc.proofs.ProblemLaws.{IsSoundInstance-valid}
+use Rattle.mat_gen.specs.Draws.{state_after, draw}
+use Rattle.mat_gen.specs.Samples.{weight_drawn, cost_drawn, pair_drawn, pairs_drawn, weights_drawn, class_drawn, sample_of}
+use Rattle.mat_gen.specs.declared.kind.SampleKind.{SampleKind}
+use Rattle.mat_gen.specs.declared.kind.SampleKind.TheVariants as kinds
+
+-- ---- one draw
+
+pub draw-below : (seed k m : ℕ) → 0 < m → draw seed k m < m
+draw-below seed k m some = mod-lt (state_after seed (suc k)) some
+
+pair_below : (seed k m : ℕ) → 0 < m → IsPairBelow m m (pair_drawn seed k m)
+pair_below seed k m some = (draw-below seed k m some, draw-below seed (suc k) m some)
+
+small_weight : (d : ℕ) → d < 2001 → IsWithin largest_weight (pos d -ℤ pos 1000)
+small_weight d l = (omega (arith, ints), omega (arith, ints))
+
+small_cost : (d : ℕ) → d < 1001 → IsWithin largest_weight (pos d)
+small_cost d l = (omega (arith, ints), omega (arith, ints))
+
+weight_within : (seed k : ℕ) → IsWeight (weight_drawn seed k)
+weight_within seed k = (small_weight (draw seed k 2001) (draw-below seed k 2001 (omega arith)), small_cost 0 (omega arith))
+
+cost_within : (seed k : ℕ) → IsWeight (cost_drawn seed k)
+cost_within seed k = (small_cost (draw seed k 1001) (draw-below seed k 1001 (omega arith)), small_cost 0 (omega arith))
+
+-- ---- a list of draws
+
+pub All-map_each : {A B : Type 0} (P : B → Type 0) (f : A → B) → ((x : A) → P (f x)) → (xs : List A) → All P (map f xs)
+All-map_each P f h [] = All-nil P
+All-map_each P f h (x ∷ xs) = All-cons P (f x) (map f xs) (h x) (All-map_each P f h xs)
+
+All-replicate : {A : Type 0} (P : A → Type 0) (x : A) → P x → (n : ℕ) → All P (replicate n x)
+All-replicate P x h zero = All-nil P
+All-replicate P x h (suc n) = All-cons P x (replicate n x) h (All-replicate P x h n)
+
+-- one for each element
+pub length-drawn : {A : Type 0} (f : ℕ → A) (n : ℕ) → length (map f (all_below n)) ≡ n
+length-drawn f n = length-map (all_below n) f ∙ length-all_below n
+
+pairs_below : (seed n each from m : ℕ) → 0 < m → All (IsPairBelow m m) (pairs_drawn seed n each from m)
+pairs_below seed n each from m some =
+    All-map_each (IsPairBelow m m) (λ e. pair_drawn seed (each * e + from) m) (λ e. pair_below seed (each * e + from) m some) (all_below n)
+
+length-pairs : (seed n each from m : ℕ) → length (pairs_drawn seed n each from m) ≡ n
+length-pairs seed n each from m = length-drawn (λ e. pair_drawn seed (each * e + from) m) n
+
+weights_within : (seed n each from : ℕ) → All IsWeight (weights_drawn seed n each from)
+weights_within seed n each from =
+    All-map_each IsWeight (λ e. weight_drawn seed (each * e + from)) (λ e. weight_within seed (each * e + from)) (all_below n)
+
+length-weights : (seed n each from : ℕ) → length (weights_drawn seed n each from) ≡ n
+length-weights seed n each from = length-drawn (λ e. weight_drawn seed (each * e + from)) n
+
+-- edges that are drawn are those of a graph
+pub graph_drawn : (seed n each from m : ℕ) (edges : List (ℕ × ℕ)) → n ≤ 500 → 0 < m → edges ≡ pairs_drawn seed n each from m
+    → IsGraph m edges
+graph_drawn seed n each from m edges few some is =
+    subst (IsGraph m) (sym is)
+    (IsGraph-pairs m (pairs_drawn seed n each from m) (rw (length-pairs seed n each from m) (omega (arith, few)))
+    (pairs_below seed n each from m some))
+
+-- ---- matroids
+
+graphic_valid : (seed n each from m : ℕ) → 1 ≤ m → m ≤ 500 → IsValidMatroid n (graphic m (pairs_drawn seed n each from m))
+graphic_valid seed n each from m some few =
+    ((length-pairs seed n each from m, some, few, pairs_below seed n each from m (omega (arith, some))), omega arith)
+
+classes_valid : (seed n q : ℕ) → q ≤ 500 → AreClasses n (map (class_drawn seed n q) (all_below q)) (replicate q 1)
+unfolding classes_by
+classes_valid seed n q few =
+    let label : ℕ → ℕ = λ e. draw seed (4 * e + 2) q in
+    let long : length (replicate q 1) ≡ q = length-replicate q 1 in
+    let many : length (map (class_drawn seed n q) (all_below q)) ≡ q = length-drawn (class_drawn seed n q) q in
+    let parts = IsPartition-classes_by n q label (replicate q 1) long in
+    record {
+      few = few_classes (length (map (class_drawn seed n q) (all_below q))) many;
+      as_many = long ∙ sym many;
+      caps_small = All-replicate (λ cap. cap ≤ most_elements) 1 one_small q;
+      sets = All-map_each (IsSet n) (class_drawn seed n q) (λ c. IsSet-those_below n _) (all_below q);
+      disjoint = parts.disjoint;
+    }
+  where
+    few_classes : (many : ℕ) → many ≡ q → many ≤ 500
+    few_classes many is = omega (arith, is, few)
+
+    one_small : 1 ≤ most_elements
+    one_small = omega arith
+
+-- ---- samples
+
+-- numbers of vertices, rows and classes
+vertices_few : (n : ℕ) → n ≤ 500 → n / 4 + 2 ≤ 500
+vertices_few n few = omega (arith, few)
+
+eighths_few : (n : ℕ) → n ≤ 500 → n / 8 + 2 ≤ 500
+eighths_few n few = omega (arith, few)
+
+classes_few : (n : ℕ) → n ≤ 500 → n / 5 + 1 ≤ 500
+classes_few n few = omega (arith, few)
+
+-- a sample of at most 500 elements is in range
+pub sample_valid : (kind : SampleKind) (n seed : ℕ) → n ≤ 500 → IsValid (sample_of kind n seed)
+sample_valid kinds.Pair n seed few =
+    let v = n / 4 + 2 in
+    let q = n / 5 + 1 in
+    let long = length-weights seed n 4 3 in (
+      (omega (arith, long, few), weights_within seed n 4 3),
+      subst (λ (m : ℕ). IsValidMatroid m (graphic v (pairs_drawn seed n 4 0 v))) (sym long)
+          (graphic_valid seed n 4 0 v (omega arith) (vertices_few n few)),
+      subst (λ (m : ℕ). IsValidMatroid m (partition n (map (class_drawn seed n q) (all_below q)) (replicate q 1))) (sym long)
+          ((refl, classes_valid seed n q (classes_few n few)), omega arith),
+    )
+sample_valid kinds.List n seed few =
+    let v = n / 4 + 2 in
+    let long = length-weights seed n 5 4 in
+    let first : Tree = graphic v (pairs_drawn seed n 5 0 v) in
+    let second : Tree = graphic v (pairs_drawn seed n 5 2 v) in
+    let one : IsValidMatroid n first = graphic_valid seed n 5 0 v (omega arith) (vertices_few n few) in
+    let two : IsValidMatroid n second = graphic_valid seed n 5 2 v (omega arith) (vertices_few n few) in (
+      (omega (arith, long, few), weights_within seed n 5 4),
+      omega arith,
+      omega arith,
+      subst (λ (m : ℕ). All (IsValidMatroid m) (first ∷ second ∷ [])) (sym long)
+          (All-cons (IsValidMatroid n) first (second ∷ []) one (All-cons (IsValidMatroid n) second [] two (All-nil (IsValidMatroid n)))),
+    )
+sample_valid kinds.Graph n seed few =
+    let v = n / 8 + 2 in
+    let long = length-pairs seed n 2 0 v in
+    (omega arith, eighths_few n few, (omega (arith, long, few), pairs_below seed n 2 0 v (omega arith)))
+sample_valid kinds.Rooted n seed few =
+    let v = n / 4 + 2 in
+    let long = length-pairs seed n 3 0 v in
+    let paid = length-drawn (λ e. cost_drawn seed (3 * e + 2)) n in (
+      omega arith,
+      vertices_few n few,
+      omega arith,
+      (omega (arith, long, few), pairs_below seed n 3 0 v (omega arith)),
+      paid ∙ sym long,
+      All-map_each IsWeight (λ e. cost_drawn seed (3 * e + 2)) (λ e. cost_within seed (3 * e + 2)) (all_below n),
+    )
+sample_valid kinds.Table n seed few =
+    let v = n / 4 + 1 in
+    let long = length-pairs seed n 3 0 v in
+    let weighed = length-weights seed n 3 2 in (
+      omega (arith, vertices_few n few),
+      omega (arith, vertices_few n few),
+      (omega (arith, long, few), pairs_below seed n 3 0 v (omega arith)),
+      weighed ∙ sym long,
+      weights_within seed n 3 2,
+    )
+
+-- ---- answers
+
+-- an answer that is the sample is in range
+pub answer_valid : {X E : Type 0} (view : X → Instance) (kind : SampleKind) (n seed : ℕ) → n ≤ 500 → (result : Result X E)
+    → IfOk result (λ x. view x ≡ sample_of kind n seed) → IfOk result (λ x. IsValid (view x))
+answer_valid view kind n seed few (Ok x) is = subst IsValid (sym is) (sample_valid kind n seed few)
+answer_valid view kind n seed few (Err e) is = tt
+
+-- and so its matroids are sound
+pub answer_sound : {X E : Type 0} (view : X → Instance) (kind : SampleKind) (n seed : ℕ) → n ≤ 500 → (result : Result X E)
+    → IfOk result (λ x. view x ≡ sample_of kind n seed) → IfOk result (λ x. IsSoundInstance (view x))
+answer_sound view kind n seed few (Ok x) is =
+    IsSoundInstance-valid (view x) (subst IsValid (sym is) (sample_valid kind n seed few))
+answer_sound view kind n seed few (Err e) is = tt

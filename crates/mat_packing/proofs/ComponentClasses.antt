@@ -1,0 +1,193 @@
+-- The components of the cut of filled copies are a partition that allows few spanning trees: each crossing edge is outside the cut, and there
+-- are as many classes as components.
+use Rattle.std.proofs.Common.{◌≡◌, ◌≢◌, ◌∙◌, ℕ, zero, suc, ◌+◌, ◌-◌, ◌*◌, ◌<◌, ◌≤◌, Bool, true, false, not, ◌&&◌, ◌||◌, eqb, ltb, List, [], ◌∷◌, ◌++◌, length, get_or, map, take, inl, inr, refl, sym, ap, subst, arith}
+use Rattle.std.proofs.Math.Numerals.{add-one}
+use Rattle.std.proofs.lemmas.Bool.{and_from, and_parts, both_ways, cases_Bool, eq-eqb, eqb-true, false_from_ne_true, lt-ltb, ltb-true, not-true}
+use Rattle.std.proofs.lemmas.List.{get_or-map, length-map, map-append}
+use Rattle.mat_sets.specs.Families.{indicator, multiplicity}
+use Rattle.mat_sets.specs.Graphs.{ends_of, IsGraph}
+use Rattle.mat_sets.specs.Sets.{all_below, is_member, minus, IsSet, RisesFrom}
+use Rattle.mat_sets.proofs.DisjointSets.{minus_from}
+use Rattle.mat_sets.proofs.Ground.{below_member, is_member-all_below, IsRising-all_below}
+use Rattle.mat_sets.proofs.Members.{is_member-get_or, missing_below, same_members, IsRising-minus}
+use Rattle.mat_sets.proofs.Search.{is_member-those_below, some_below_from, IsSet-those_below}
+use Rattle.mat_sets.proofs.Subsets.{length-subset}
+use Rattle.mat_laws.specs.Ranks.{rank}
+use Rattle.mat_laws.proofs.Independent.{rising}
+use Rattle.mat_graphic.specs.Forests.{is_graphic, least_reached, number_of_components, IsLeastReached}
+use Rattle.mat_graphic.specs.Mergings.{least_merged}
+use Rattle.mat_graphic.specs.ComponentLaws.{least_merged-fixed, least_merged-le, member_within}
+use Rattle.mat_graphic.specs.ForestLaws.{graphic_laws}
+use Rattle.mat_graphic.proofs.ComponentCounts.{least_reached-merged, rank_and_number, IsLeastReached-unique}
+use Rattle.mat_union.specs.Unions.{part_at}
+use Rattle.mat_packing.specs.Components.{class_of, roots_of}
+use Rattle.mat_packing.specs.FilledCopies.{AreFilledCopies}
+use Rattle.mat_packing.specs.Trees.{crossing, stays, AreTrees, IsRightPartition}
+use Rattle.mat_packing.proofs.BaseCounts.{short_by, union_short, AreAtMost}
+use Rattle.mat_packing.proofs.Partitions.{forest_size, rank_less}
+
+-- ---- lists
+
+take_more : (xs : List ℕ) (i : ℕ) → i < length xs → take (i + 1) xs ≡ take i xs ++ get_or xs i 0 ∷ []
+take_more [] i l = absurd (omega arith)
+take_more (x ∷ xs) zero l = refl
+take_more (x ∷ xs) (suc i) l = rw (add-one (suc i)) (let rest = rw (add-one i) at (take_more xs i (omega arith)) in ap (λ ys. x ∷ ys) rest)
+
+map_more : (f : ℕ → List ℕ) (xs : List ℕ) (i : ℕ) → i < length xs → map f (take (i + 1) xs) ≡ map f (take i xs) ++ f (get_or xs i 0) ∷ []
+map_more f xs i l = ap (map f) (take_more xs i l) ∙ map-append f (take i xs) (get_or xs i 0 ∷ [])
+
+-- one class more
+pub classes_pushed : (f : ℕ → List ℕ) (roots : List ℕ) (i : ℕ) (classes new : List (List ℕ)) (class : List ℕ) → i < length roots → new ≡ classes ++ class ∷ [] → classes ≡ map f (take i roots)
+    → class ≡ f (get_or roots i 0) → new ≡ map f (take (i + 1) roots)
+classes_pushed f roots i classes new class l pushed before own =
+    pushed ∙ ap (λ c. classes ++ c ∷ []) own ∙ ap (λ cs. cs ++ f (get_or roots i 0) ∷ []) before ∙ sym (map_more f roots i l)
+
+-- a set that holds x exactly where its number is y
+once_in : (f : ℕ → List ℕ) (x y : ℕ) → ((r : ℕ) → is_member x (f r) ≡ eqb y r) → (lo : ℕ) (rs : List ℕ) → RisesFrom lo rs → multiplicity x (map f rs) ≡ indicator (is_member y rs)
+unfolding multiplicity
+once_in f x y same lo [] r = refl
+once_in f x y same lo (s ∷ rs) r =
+    let rest = once_in f x y same (suc s) rs r.1 in
+    let here = ap indicator (same s) in
+    one (eqb y s) (is_member y rs) (λ e. subst (λ z. is_member z rs ≡ false) (sym (eqb-true y s e)) (missing_below s (suc s) rs (omega arith) r.1)) here rest
+  where
+    one : {m k : ℕ} (a b : Bool) → (a ≡ true → b ≡ false) → k ≡ indicator a → m ≡ indicator b → k + m ≡ indicator (a || b)
+    one true true h e f = absurd (both_ways true (h refl) refl)
+    one true false h e f = omega (arith, e, f)
+    one false true h e f = omega (arith, e, f)
+    one false false h e f = omega (arith, e, f)
+
+member_somewhere : (x : ℕ) (family : List (List ℕ)) → 0 < multiplicity x family → (q : ℕ) × (q < length family) × (is_member x (part_at family q) ≡ true)
+unfolding multiplicity
+member_somewhere x [] some = absurd (omega arith)
+member_somewhere x (a ∷ family) some = elim (cases_Bool (is_member x a)) [
+  | inl h ↦ (0, omega arith, h)
+  | inr o ↦ (let e : indicator (is_member x a) ≡ 0 = rw o refl in
+      let w = member_somewhere x family (omega (arith, e)) in
+      let l = w.1 in
+      (suc w.0, omega arith, w.2))
+]
+
+holds_some : (xs : List ℕ) (x : ℕ) → is_member x xs ≡ true → 0 < length xs
+holds_some [] x m = absurd (both_ways false refl m)
+holds_some (y ∷ xs) x m = omega arith
+
+-- ---- components
+
+module _ (ends : ℕ → ℕ × ℕ) (vertices count : ℕ) (inside : (e : ℕ) → e < count → ((ends e).0 < vertices) × ((ends e).1 < vertices)) (A : List ℕ) (set : IsSet count A)
+    (t : ℕ → ℕ) (least : (v : ℕ) → v < vertices → IsLeastReached ends A v (t v)) where
+  abbrev R : List ℕ
+  R = roots_of vertices t
+
+  abbrev pub C : List (List ℕ)
+  C = map (class_of vertices t) R
+
+  t_is : (v : ℕ) → v < vertices → least_merged ends A v ≡ t v
+  t_is v l = IsLeastReached-unique ends A v (t v) set.rising (least v l)
+
+  in_class : (x r : ℕ) → is_member x (class_of vertices t r) ≡ (ltb x vertices && eqb (t x) r)
+  in_class x r = is_member-those_below x vertices (λ v. eqb (t v) r)
+
+  length_C : length C ≡ length R
+  length_C = length-map R (class_of vertices t)
+
+  class_at : (q : ℕ) → q < length C → part_at C q ≡ class_of vertices t (get_or R q 0)
+  class_at q l = get_or-map (class_of vertices t) R q 0 [] (let e = length_C in omega arith)
+
+  root_at : (q : ℕ) → q < length C → (ltb (get_or R q 0) vertices ≡ true) × (eqb (t (get_or R q 0)) (get_or R q 0) ≡ true)
+  root_at q l =
+      let r = get_or R q 0 in
+      and_parts (ltb r vertices) (eqb (t r) r) (sym (is_member-those_below r vertices (λ v. eqb (t v) v)) ∙ is_member-get_or R q r (let e = length_C in omega arith) refl)
+
+  small : (x : ℕ) → x < vertices → t x < vertices
+  small x l = let a = t_is x l in let b = least_merged-le ends A x in omega arith
+
+  t_fixed : (x : ℕ) → x < vertices → t (t x) ≡ t x
+  t_fixed x l = sym (t_is (t x) (small x l)) ∙ ap (least_merged ends A) (sym (t_is x l)) ∙ least_merged-fixed ends A x ∙ t_is x l
+
+  t_root : (x : ℕ) → x < vertices → is_member (t x) R ≡ true
+  t_root x l = is_member-those_below (t x) vertices (λ v. eqb (t v) v) ∙ and_from (ltb (t x) vertices) (eqb (t (t x)) (t x)) (lt-ltb (t x) vertices (small x l)) (eq-eqb (t (t x)) (t x) (t_fixed x l))
+
+  once : (x : ℕ) → x < vertices → multiplicity x C ≡ 1
+  once x l = once_in (class_of vertices t) x (t x) (λ r. in_class x r ∙ ap (λ b. b && eqb (t x) r) (lt-ltb x vertices l)) 0 R (IsSet-those_below vertices (λ v. eqb (t v) v)).rising.rises ∙ ap indicator (t_root x l)
+
+  -- both ends of an edge of the cut are in one class
+  cut_stays : (e : ℕ) → is_member e A ≡ true → stays ends C e ≡ true
+  cut_stays e m =
+      let l = inside e (below_member set m) in
+      let w = member_somewhere (ends e).0 C (let o = once (ends e).0 l.0 in omega arith) in
+      let r = get_or R w.0 0 in
+      let at = ap (λ c. is_member (ends e).0 c) (class_at w.0 w.1) in
+      let first = and_parts (ltb (ends e).0 vertices) (eqb (t (ends e).0) r) (sym (in_class (ends e).0 r) ∙ sym at ∙ w.2) in
+      let same : t (ends e).1 ≡ r = sym (t_is (ends e).1 l.1) ∙ sym (member_within ends A e m) ∙ t_is (ends e).0 l.0 ∙ eqb-true (t (ends e).0) r first.1 in
+      let second : is_member (ends e).1 (part_at C w.0) ≡ true = ap (λ c. is_member (ends e).1 c) (class_at w.0 w.1) ∙ in_class (ends e).1 r
+      ∙ and_from (ltb (ends e).1 vertices) (eqb (t (ends e).1) r) (lt-ltb (ends e).1 vertices l.1) (eq-eqb (t (ends e).1) r same) in
+      some_below_from (length C) w.0 (λ q. is_member (ends e).0 (part_at C q) && is_member (ends e).1 (part_at C q)) w.1 (and_from _ _ w.2 second)
+
+  crossing_outside : length (crossing count ends C) ≤ length (minus (all_below count) A)
+  crossing_outside = length-subset (crossing count ends C) (minus (all_below count) A) (IsSet-those_below count (λ e. not (stays ends C e))).rising (IsRising-minus (all_below count) A (IsRising-all_below count)) (record {
+    inside = λ e m.
+        (let b = and_parts (ltb e count) (not (stays ends C e)) (sym (is_member-those_below e count (λ e. not (stays ends C e))) ∙ m) in
+        minus_from (all_below count) A e (is_member-all_below e count ∙ b.0) (false_from_ne_true _ (λ h. both_ways _ (not-true _ b.1) (cut_stays e h))));
+  })
+
+  number : length C ≡ number_of_components vertices ends A
+  unfolding number_of_components
+  number = length_C ∙ ap length (same_members _ _ (IsSet-those_below vertices (λ v. eqb (t v) v)).rising (IsSet-those_below vertices (λ v. eqb (least_reached ends A v) v)).rising
+      (λ v. is_member-those_below v vertices (λ v. eqb (t v) v) ∙ within (ltb v vertices) (λ h. ap (λ z. eqb z v) (sym (t_is v (ltb-true v vertices h)) ∙ sym (least_reached-merged ends A v set.rising)))
+      ∙ sym (is_member-those_below v vertices (λ v. eqb (least_reached ends A v) v))))
+    where
+      within : {a b : Bool} (l : Bool) → (l ≡ true → a ≡ b) → (l && a) ≡ (l && b)
+      within true h = h refl
+      within false h = refl
+
+  module _ (k : ℕ) (some : 0 < vertices) (parts : List (List ℕ)) (f : AreFilledCopies count (is_graphic count ends) k parts A) where
+    at_most : AreAtMost (vertices - 1) parts
+    at_most = record {
+      rise = λ i l. rising (graphic_laws count ends) (part_at parts i) (f.passes i l);
+      most = λ i l. (let a = forest_size ends vertices count inside (part_at parts i) (f.passes i l) in let b = rank_less ends vertices count inside some in omega arith);
+    }
+
+    few : (i : ℕ) → i < length parts → length (part_at parts i) ≢ vertices - 1 → length (crossing count ends C) < k * (length C - 1)
+    few i l other =
+        let less = union_short (vertices - 1) parts at_most i l (let m = at_most.most i l in omega arith) in
+        let same : length parts * (vertices - 1) ≡ k * (vertices - 1) = ap (λ j. j * (vertices - 1)) f.long in
+        let size = f.size in
+        let short = short_by (length (minus (all_below count) A)) (rank (is_graphic count ends) A) (vertices - 1) k (omega arith) in
+        let sum = rank_and_number ends count vertices A set (λ e m. inside e (below_member set m)) in
+        let classes = number in
+        let gap : (vertices - 1) - rank (is_graphic count ends) A ≡ length C - 1 = omega arith in
+        let last = subst (λ d. length (minus (all_below count) A) < k * d) gap short.1 in
+        let cross = crossing_outside in
+        omega (arith, last, cross)
+
+    pub right_partition : (i : ℕ) → i < length parts → length (part_at parts i) ≢ vertices - 1 → IsRightPartition vertices count ends k C
+    right_partition i l other = record {
+      filled = λ q h.
+          (let r = get_or R q 0 in
+          let b = root_at q h in
+          subst (λ c. 0 < length c) (sym (class_at q h)) (holds_some (class_of vertices t r) r (in_class r r ∙ and_from (ltb r vertices) (eqb (t r) r) b.0 b.1)));
+      below = λ q x h m. ltb-true x vertices (and_parts (ltb x vertices) (eqb (t x) (get_or R q 0)) (sym (in_class x (get_or R q 0)) ∙ sym (ap (is_member x) (class_at q h)) ∙ m)).0;
+      once = once;
+      few = few i l other;
+    }
+
+pub right_trees : (ends : ℕ → ℕ × ℕ) (vertices count k : ℕ) (parts : List (List ℕ)) (cut : List ℕ) → 0 < vertices → AreFilledCopies count (is_graphic count ends) k parts cut
+    → ((i : ℕ) → i < length parts → length (part_at parts i) ≡ vertices - 1) → AreTrees vertices count ends parts
+right_trees ends vertices count k parts cut some f full = record {
+  disjoint = f.disjoint;
+  each = λ i l. record { size = (let e = full i l in omega arith); forest = f.passes i l };
+}
+
+-- what the parts of `pack_trees` tell
+pub partition_told : (edges graph_edges : List (ℕ × ℕ)) (vertices graph_vertices k : ℕ) (parts : List (List ℕ)) (cut table : List ℕ) (classes : List (List ℕ)) → IsGraph vertices edges → graph_edges ≡ edges
+    → graph_vertices ≡ vertices → 0 < vertices → AreFilledCopies (length graph_edges) (is_graphic (length graph_edges) (ends_of graph_edges)) k parts cut
+    → ((v : ℕ) → v < graph_vertices → IsLeastReached (ends_of graph_edges) cut v (get_or table v 0))
+    → classes ≡ map (class_of vertices (λ v. get_or table v 0)) (roots_of vertices (λ v. get_or table v 0))
+    → (i : ℕ) → i < length parts → length (part_at parts i) ≢ vertices - 1 → IsRightPartition vertices (length edges) (ends_of edges) k classes
+partition_told edges graph_edges vertices graph_vertices k parts cut table classes graph e n some f least told i l other =
+    let filled = subst (λ E. AreFilledCopies (length E) (is_graphic (length E) (ends_of E)) k parts cut) e f in
+    let near = subst (λ E. (v : ℕ) → v < graph_vertices → IsLeastReached (ends_of E) cut v (get_or table v 0)) e least in
+    let lowest = subst (λ m. (v : ℕ) → v < m → IsLeastReached (ends_of edges) cut v (get_or table v 0)) n near in
+    subst (λ C. IsRightPartition vertices (length edges) (ends_of edges) k C) (sym told)
+    (right_partition (ends_of edges) vertices (length edges) (λ e l. (graph.first e l, graph.second e l)) cut filled.set (λ v. get_or table v 0) lowest k some parts filled i l other)

@@ -1,0 +1,6 @@
+use Rattle.std.proofs.Common.{◌≡◌, get_or}
+use Rattle.mat_packing.specs.Components.{class_of}
+use Rattle.mat_packing.proofs.trees.members_with.Given as goal
+
+abbrev pub invariant-loop-v : goal.invariant-loop-v
+invariant-loop-v l = l.set ≡ class_of l.v (λ v. get_or l.least v 0) l.root

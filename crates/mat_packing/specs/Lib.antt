@@ -1,0 +1,6 @@
+pub mod Packings
+pub mod Trees
+pub mod Answers
+pub mod FilledCopies
+pub mod Rooms
+pub mod Components

@@ -1,0 +1,82 @@
+//! Disjoint spanning trees of a graph.
+ghost use Rattle.std.specs.Prelude.{◌≡◌, ◌<◌, ◌≤◌, ◌^◌, ◌==◌, length, map, slice_index, IfOk};
+ghost use Rattle.mat_sets.specs.Graphs.{IsGraph, ends_of};
+ghost use Rattle.mat_packing.specs.Answers.{IsRightTreesAnswer};
+ghost use Rattle.mat_packing.specs.Components.{class_of, roots_of};
+
+use crate::filling::{are_full, fill_copies};
+use mat_graphic::Graphic;
+use mat_sets::{ElemSet, Pairs, SetList};
+use std::alloc::{AllocError, Global};
+
+/// Disjoint spanning trees of a graph, or a partition of its vertices that allows no so many of them.
+#[derive(Debug, Drop)]
+pub enum Trees {
+    /// The trees, by their edges.
+    Trees(SetList),
+    /// The classes of the partition: fewer edges run between them than so many spanning trees need.
+    Partition(SetList),
+}
+
+// The vertices whose least vertex is this one.
+fn members_with(alloc: Global, least: &[u32], root: u32) -> Result<ElemSet, AllocError>
+    requires few { length least.now < 2 ^ 32 }
+    ensures { IfOk result (λ s. s ≡ class_of (length least.now) (slice_index least.now) root) }
+{
+    let mut set = ElemSet::new(alloc);
+    for v in 0..least.len() {
+        if least[v] == root {
+            set.add(v as u32)?;
+        }
+    }
+    Ok(set)
+}
+
+// The vertices that are their own least ones.
+fn least_vertices(alloc: Global, least: &[u32]) -> Result<ElemSet, AllocError>
+    requires few { length least.now < 2 ^ 32 }
+    ensures { IfOk result (λ s. s ≡ roots_of (length least.now) (slice_index least.now)) }
+{
+    let mut set = ElemSet::new(alloc);
+    for v in 0..least.len() {
+        if least[v] == v as u32 {
+            set.add(v as u32)?;
+        }
+    }
+    Ok(set)
+}
+
+// The classes of these least vertices.
+fn classes_of(alloc: Global, least: &[u32], roots: &[u32]) -> Result<SetList, AllocError>
+    requires few { length least.now < 2 ^ 32 }
+    ensures { IfOk result (λ classes. classes ≡ map (class_of (length least.now) (slice_index least.now)) roots.now) }
+{
+    let mut classes = Vec::new(alloc);
+    for root in roots {
+        classes.push(members_with(alloc, least, *root)?)?;
+    }
+    Ok(SetList::new(classes))
+}
+
+/// So many disjoint spanning trees, or a partition of the vertices with fewer edges between its classes than these need (Tutte;
+/// Nash-Williams; Schrijver, chapter 51). So many copies of the graphic matroid are filled; where they don't become spanning trees, the
+/// classes are the components of the cut. The only error is want of memory.
+pub fn pack_trees(alloc: Global, vertices: u32, edges: &Pairs, k: u32) -> Result<Trees, AllocError>
+    requires graph { IsGraph vertices edges.now }
+    requires some_vertex { 1 ≤ vertices }
+    requires few_vertices { vertices ≤ 500 }
+    requires few_edges { length edges.now ≤ 500 }
+    requires some_tree { 1 ≤ k }
+    requires few_trees { k ≤ 64 }
+    ensures { IfOk result (IsRightTreesAnswer vertices edges.now k) }
+{
+    let graph = Graphic::new(alloc, vertices, edges.copy(alloc)?)?;
+    let filled = fill_copies(alloc, &graph, k)?;
+    if are_full(&filled.parts, vertices - 1) {
+        return Ok(Trees::Trees(filled.parts));
+    }
+    let least = graph.components(alloc, &filled.cut)?;
+    let roots = least_vertices(alloc, &least)?;
+    let classes = classes_of(alloc, &least, roots.as_slice())?;
+    Ok(Trees::Partition(classes))
+}

@@ -1,0 +1,25 @@
+use Rattle.std.proofs.Common.{length, arith}
+use Rattle.mat_packing.specs.Answers.{IsRightCoveringAnswer}
+use Rattle.mat_packing.specs.declared.covering.Covering.TheVariants.{Never, Least}
+use Rattle.mat_any.specs.Trees.{is_independent}
+use Rattle.mat_any.specs.Views.{tree_of}
+use Rattle.mat_top.proofs.PackSolutions.{never_solution, cover_solution}
+use Rattle.mat_top.proofs.solve_sets.solve_cover.Goals as goal
+
+pub returns-in-Never-clause-solution : goal.returns-in-Never-clause-solution
+returns-in-Never-clause-solution c =
+    let w = c.args.weights.now in
+    let tree = tree_of c.args.matroid.now in
+    let sound = c.requires.sound 0 tree (omega arith) in
+    let found : IsRightCoveringAnswer (length w) (is_independent tree) (Never c.in-Never.loop_at) =
+    rw (sound.1, c.in-Never.is) at c.in_ok-found.ensures in
+    rw c.len-count.ensures (never_solution w tree c.requires.valid c.requires.sound c.in-Never.loop_at found)
+
+pub returns-in-Least-clause-solution : goal.returns-in-Least-clause-solution
+returns-in-Least-clause-solution c =
+    let w = c.args.weights.now in
+    let tree = tree_of c.args.matroid.now in
+    let sound = c.requires.sound 0 tree (omega arith) in
+    let found : IsRightCoveringAnswer (length w) (is_independent tree) (Least c.in-Least.sets c.in-Least.cut) =
+    rw (sound.1, c.in-Least.is) at c.in_ok-found.ensures in
+    rw c.len-count.ensures (cover_solution w tree c.requires.valid c.requires.sound c.in-Least.sets found.0 c.in-Least.cut found.1)

@@ -1,0 +1,83 @@
+-- Parts that are filled up: the elements that are in none are new, and when all of them came, each element is in a part or dead; then the dead
+-- elements are a cut.
+use Rattle.std.proofs.Common.{◌≡◌, ◌∙◌, ℕ, Bool, true, false, not, ◌||◌, ◌&&◌, ltb, List, [], length, refl, sym, ap, inl, inr, arith}
+use Rattle.std.proofs.lemmas.Bool.{and_from, and_parts, both_ways, cases_Bool, false_from_ne_true, false≢true, lt-ltb, ltb-true, not-true, not_from_false, or_left, or_right}
+use Rattle.mat_sets.specs.Families.{family_union}
+use Rattle.mat_sets.specs.Search.{those_below}
+use Rattle.mat_sets.specs.Sets.{all_below, is_member, minus, IsSubset}
+use Rattle.mat_sets.proofs.Cardinalities.{length-minus-intersection}
+use Rattle.mat_sets.proofs.DisjointSets.{apart_from}
+use Rattle.mat_sets.proofs.Families.{IsRising-family_union}
+use Rattle.mat_sets.proofs.Ground.{below_member, is_member-all_below, IsRising-all_below, IsSet-nil}
+use Rattle.mat_sets.proofs.Members.{is_member-minus, same_members, IsRising-minus, IsRising-nil}
+use Rattle.mat_sets.proofs.Search.{is_member-those_below}
+use Rattle.mat_laws.proofs.RankLaws.{rank-maximal}
+use Rattle.mat_union.specs.FilledParts.{IsFilled}
+use Rattle.mat_union.specs.GrownParts.{AreDone, AreFresh, AreGrowing}
+use Rattle.mat_union.specs.PartLists.{parts_set, ranks_reached}
+use Rattle.mat_union.specs.Unions.{part_at, AreMatroids, AreParts}
+
+-- with nothing dead
+module _ {n : ℕ} {tests : List (List ℕ → Bool)} (laws : AreMatroids n tests) (parts : List (List ℕ)) (are : AreParts tests parts) where
+  pub start_growing : (dead alive : List ℕ) → dead ≡ [] → alive ≡ all_below n → AreGrowing n tests parts dead alive
+  start_growing dead alive e f = rw (e, f) (record {
+    are = are;
+    set = IsSet-nil n;
+    spans = λ i l.
+        (let law = laws.each i (let o = are.one_each in omega arith) in
+        rank-maximal law [] [] IsRising-nil (record { passes = law.empty; inside = record { inside = λ x h. h }; full = λ x h o. absurd (false≢true h) })
+        ∙ sym (ap length (apart_from (part_at parts i) [] (λ x h. refl))));
+    others = λ v. is_member-all_below v n ∙ whole (ltb v n);
+  })
+    where
+      whole : (b : Bool) → b ≡ (b && not false)
+      whole true = refl
+      whole false = refl
+
+pub start_done : (n : ℕ) (parts : List (List ℕ)) (dead : List ℕ) → dead ≡ [] → AreDone n (λ v. is_member v (family_union parts)) parts dead
+start_done n parts dead e = rw e (record {
+  placed = λ v h. h;
+  refused = λ v h. absurd (false≢true h);
+  all = λ v l h. or_left (is_member v (family_union parts)) (is_member v []) h;
+})
+
+module _ (n : ℕ) (old : List (List ℕ)) (elements : List ℕ) (left_out : elements ≡ those_below n (λ x. not (is_member x (family_union old)))) where
+  comes : (v : ℕ) → is_member v elements ≡ (ltb v n && not (is_member v (family_union old)))
+  comes v = ap (is_member v) left_out ∙ is_member-those_below v n (λ x. not (is_member x (family_union old)))
+
+  pub left_out_fresh : (parts : List (List ℕ)) (dead : List ℕ) → AreDone n (λ v. is_member v (family_union old)) parts dead → AreFresh n elements parts dead
+  left_out_fresh parts dead d = record {
+    below = λ x h. ltb-true x n (of x h).0;
+    new = λ x h. false_from_ne_true _ (λ k. both_ways _ (not-true _ (of x h).1) (d.placed x k));
+    alive = λ x h. false_from_ne_true _ (λ k. both_ways _ (not-true _ (of x h).1) (d.refused x k));
+  }
+    where
+      of : (x : ℕ) → is_member x elements ≡ true → (ltb x n ≡ true) × (not (is_member x (family_union old)) ≡ true)
+      of x h = and_parts (ltb x n) (not (is_member x (family_union old))) (sym (comes x) ∙ h)
+
+  pub filled : {tests : List (List ℕ → Bool)} {new : List (List ℕ)} {dead alive : List ℕ} → AreMatroids n tests → AreGrowing n tests new dead alive
+      → AreDone n (λ v. is_member v (family_union old) || is_member v elements) new dead → IsSubset (family_union old) (family_union new) → IsFilled n tests old new dead
+  filled {tests} {new} {dead} laws g d holds =
+      let S = family_union new in
+      let rs = IsRising-family_union new in
+      let split = length-minus-intersection S dead rs in
+      let ranks = ranks_reached tests new dead laws g.are g.set.rising g.spans in
+      let same : minus (all_below n) dead ≡ minus S dead = same_members _ _ (IsRising-minus (all_below n) dead (IsRising-all_below n)) (IsRising-minus S dead rs)
+      (λ v. is_member-minus v (all_below n) dead ∙ ap (λ b. b && not (is_member v dead)) (is_member-all_below v n)
+      ∙ outside (ltb v n) (is_member v S) (is_member v dead) (λ h. lt-ltb v n (below_member (parts_set laws g.are) h)) (λ h. d.all v (ltb-true v n h) (came v h))
+      ∙ sym (is_member-minus v S dead)) in
+      let size = ap length same in
+      record { are = g.are; holds = holds; set = g.set; count = omega arith }
+    where
+      came : (v : ℕ) → ltb v n ≡ true → (is_member v (family_union old) || is_member v elements) ≡ true
+      came v l = elim (cases_Bool (is_member v (family_union old))) [
+        | inl a ↦ or_left (is_member v (family_union old)) (is_member v elements) a
+        | inr o ↦ or_right (is_member v (family_union old)) (is_member v elements) (comes v ∙ and_from (ltb v n) (not (is_member v (family_union old))) l (not_from_false _ o))
+      ]
+
+      outside : (f s e : Bool) → (s ≡ true → f ≡ true) → (f ≡ true → (s || e) ≡ true) → (f && not e) ≡ (s && not e)
+      outside true true e a b = refl
+      outside true false true a b = refl
+      outside true false false a b = absurd (false≢true (b refl))
+      outside false true e a b = absurd (false≢true (a refl))
+      outside false false e a b = refl

@@ -1,0 +1,92 @@
+-- Moves along a path bring their first element into the parts, and no element moves that the search did not reach.
+use Rattle.std.proofs.Common.{Global, Vec, None, Some, Option, ◌≡◌, ℕ, ◌<◌, Bool, true, false, not, ◌||◌, ◌&&◌, eqb, List, [], length, map, refl, sym, ap, ◌∙◌, subst, arith}
+use Rattle.std.specs.Prelude.{MatchOption}
+use Rattle.std.proofs.Math.Seq.{ext_get_or}
+use Rattle.std.proofs.lemmas.Bool.{both_ways, false_from_ne_true, false≢true}
+use Rattle.std.proofs.lemmas.List.{get_or-map, length-map}
+use Rattle.mat_sets.specs.Families.{family_union}
+use Rattle.mat_sets.specs.Sets.{all_below, is_member, minus, with_one}
+use Rattle.mat_sets.proofs.Ground.{get_or-all_below, length-all_below}
+use Rattle.mat_sets.proofs.Members.{is_member-get_or, is_member-minus, is_member-union}
+use Rattle.mat_union.specs.Moves.{elements, entering, exchanges_with, moved, AreMoved}
+use Rattle.mat_union.specs.MoveSearches.{AreFoundMoves, IsQuestion, IsReaching}
+use Rattle.mat_union.specs.MoveWalks.{element_of_list, entering_gives}
+use Rattle.mat_union.specs.Placings.{ArePlaced, IsStuckSearch}
+use Rattle.mat_union.specs.Unions.{part_at, AreMatroids, AreParts}
+use Rattle.mat_union.specs.declared.move_search.MoveSearch.{MoveSearch}
+use Rattle.mat_union.specs.declared.moves.Move.{Move}
+
+entering_elements : (moves : List Move) (q z : ℕ) → is_member z (entering moves q) ≡ true → is_member z (elements moves) ≡ true
+entering_elements moves q z h =
+    let w = entering_gives moves q z h in
+    let l : w.0 < length (elements moves) = (let a = w.1 in let b : length (elements moves) ≡ length moves = length-map moves (λ v. v.element) in omega arith) in
+    is_member-get_or (elements moves) w.0 z l (element_of_list moves w.0 w.1 ∙ w.3)
+
+-- the parts that were made are those that the law tells
+pub moved_list : (tests : List (List ℕ → Bool)) (parts : List (List ℕ)) (moves : List Move) (new : List (List ℕ)) → AreParts tests parts → AreMoved tests parts moves new
+    → map (moved parts moves) (all_below (length parts)) ≡ new
+moved_list tests parts moves new are m =
+    let count : length (map (moved parts moves) (all_below (length parts))) ≡ length parts = length-map (all_below (length parts)) (moved parts moves) ∙ length-all_below (length parts) in
+    let a = m.are.one_each in
+    let b = are.one_each in
+    ext_get_or [] _ new (omega arith) (λ i l.
+    get_or-map (moved parts moves) (all_below (length parts)) i 0 [] (let e = length-all_below (length parts) in omega arith)
+    ∙ ap (moved parts moves) (get_or-all_below (length parts) i 0 (omega arith)) ∙ sym (m.each i (omega arith)))
+
+module _ {n : ℕ} {tests : List (List ℕ → Bool)} {parts : List (List ℕ)} {among : List ℕ} {start : ℕ} {s : MoveSearch} (are : AreParts tests parts)
+    (reaching : IsReaching n (length parts) (exchanges_with tests parts) among start s) (moves : List Move) (found : AreFoundMoves tests parts s moves) (new : List (List ℕ))
+    (made : new ≡ map (moved parts moves) (all_below (length parts))) where
+  is_new : found.new ≡ new
+  is_new = sym (made ∙ moved_list tests parts moves found.new are found.moved)
+
+  -- what was not reached does not move
+  stays : (z : ℕ) → (eqb z start || is_member z among) ≡ false → is_member z (elements moves) ≡ false
+  stays z o = false_from_ne_true _ (λ h. both_ways _ o (reaching.so_far.reached z (found.reached z h)))
+
+  stays_where : (q z : ℕ) → q < length found.new → (eqb z start || is_member z among) ≡ false → is_member z (part_at found.new q) ≡ is_member z (part_at parts q)
+  stays_where q z l o =
+      ap (is_member z) (found.moved.each q l) ∙ is_member-union z (entering moves q) (minus (part_at parts q) (elements moves))
+      ∙ ap (λ b. is_member z (entering moves q) || b) (is_member-minus z (part_at parts q) (elements moves))
+      ∙ unmoved (is_member z (entering moves q)) (is_member z (elements moves)) (is_member z (part_at parts q)) (false_from_ne_true _ (λ h. both_ways _ (stays z o) (entering_elements moves q z h))) (stays z o)
+    where
+      unmoved : (i e p : Bool) → i ≡ false → e ≡ false → (i || (p && not e)) ≡ p
+      unmoved true e p a b = absurd (false≢true (sym a))
+      unmoved false true p a b = absurd (false≢true (sym b))
+      unmoved false false true a b = refl
+      unmoved false false false a b = refl
+
+  pub moves_place : ArePlaced tests parts among start new
+  moves_place = subst (ArePlaced tests parts among start) is_new (record {
+    are = found.moved.are;
+    together = found.moved.together ∙ ap (with_one (family_union parts)) (found.first ∙ reaching.from_start);
+    others = stays_where;
+  })
+
+-- ---- what a search tells of the moves that it found
+
+-- at the same parts by another name
+pub moves_told : (slice parts : List (List ℕ)) → slice ≡ parts → (s : MoveSearch) (found : Option (Vec Move Global))
+    → ((n : ℕ) (tests : List (List ℕ → Bool)) (among : List ℕ) (start : ℕ) → AreMatroids n tests → AreParts tests slice
+    → IsReaching n (length slice) (exchanges_with tests slice) among start s → is_member start (family_union slice) ≡ false
+    → MatchOption found (s.entered ≡ false) (λ (m : Vec Move Global). AreFoundMoves tests slice s m.items))
+    → {n : ℕ} {tests : List (List ℕ → Bool)} {among : List ℕ} {start : ℕ} → AreMatroids n tests → AreParts tests parts
+    → IsReaching n (length parts) (exchanges_with tests parts) among start s → is_member start (family_union parts) ≡ false
+    → MatchOption found (s.entered ≡ false) (λ (m : Vec Move Global). AreFoundMoves tests parts s m.items)
+moves_told slice parts e s found told {n} {tests} {among} {start} laws are reaching fresh =
+    subst (λ q. MatchOption found (s.entered ≡ false) (λ (m : Vec Move Global). AreFoundMoves tests q s m.items)) e
+    (told n tests among start laws (subst (AreParts tests) (sym e) are) (subst (λ q. IsReaching n (length q) (exchanges_with tests q) among start s) (sym e) reaching)
+    (subst (λ q. is_member start (family_union q) ≡ false) (sym e) fresh))
+
+module _ {n : ℕ} {tests : List (List ℕ → Bool)} {parts : List (List ℕ)} {among : List ℕ} {start : ℕ} {s : MoveSearch} (are : AreParts tests parts)
+    (reaching : IsReaching n (length parts) (exchanges_with tests parts) among start s) (found : Option (Vec Move Global))
+    (told : MatchOption found (s.entered ≡ false) (λ (m : Vec Move Global). AreFoundMoves tests parts s m.items)) where
+  pub told_place : (moves : Vec Move Global) → found ≡ Some moves → (items : List Move) → items ≡ moves.items → (new : List (List ℕ))
+      → new ≡ map (moved parts items) (all_below (length parts)) → ArePlaced tests parts among start new
+  told_place moves is items e new made = moves_place are reaching moves.items
+      (subst (λ f. MatchOption f (s.entered ≡ false) (λ (m : Vec Move Global). AreFoundMoves tests parts s m.items)) is told) new (made ∙ ap (λ m. map (moved parts m) (all_below (length parts))) e)
+
+  pub told_stuck : found ≡ None → IsQuestion s None → IsStuckSearch n tests parts among start s
+  told_stuck is end = record {
+    reaching = reaching;
+    end = end (subst (λ f. MatchOption f (s.entered ≡ false) (λ (m : Vec Move Global). AreFoundMoves tests parts s m.items)) is told);
+  }

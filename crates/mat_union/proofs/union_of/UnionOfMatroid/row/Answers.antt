@@ -1,0 +1,33 @@
+use Rattle.std.proofs.Common.{◌≡◌, ◌<◌, map, subst, sym}
+use Rattle.std.specs.Prelude.{IfOk}
+use Rattle.mat_laws.specs.declared.exchange.Exchange.{Exchange}
+use Rattle.mat_laws.specs.Exchanges.{row_of}
+use Rattle.mat_union.specs.GrownParts.{AreKeptParts, AreSound}
+use Rattle.mat_union.specs.Unions.{union_test}
+use Rattle.mat_union.proofs.union_of.UnionOfMatroid.row.Goals as goal
+
+pub row_of_parts-requires-clause-sound : goal.row_of_parts-requires-clause-sound
+row_of_parts-requires-clause-sound g c =
+    let items = c.args.self.now.parts.items in
+    let size = g.M.Matroid.ground_size in
+    let sound = g.M.Matroid.sound in
+    subst (AreSound size sound c.size-n.result) (sym c.as_slice.ensures.value) (subst (λ k. AreSound size sound k items) (sym c.size-n.ensures) c.requires.sound.each)
+
+pub row_of_parts-requires-clause-kept : goal.row_of_parts-requires-clause-kept
+row_of_parts-requires-clause-kept g c =
+    subst (λ m. AreKeptParts g.M.Matroid.indep g.M.Matroid.keeps m c.args.base.now c.args.kept.now.parts c.args.kept.now.kept.items) (sym c.as_slice.ensures.value) c.requires.kept.1
+
+pub row_of_parts-requires-clause-below : goal.row_of_parts-requires-clause-below
+row_of_parts-requires-clause-below g c = subst (λ k. c.args.x < k) (sym c.size-n.ensures) c.requires.below
+
+pub returns : goal.returns
+returns g c =
+    let items = c.args.self.now.parts.items in
+    let indep = g.M.Matroid.indep in
+    let slice = c.as_slice.result.now in
+    let r = c.row_of_parts.result in
+    record {
+      row = subst (λ k. IfOk r (λ (e : Exchange). e ≡ row_of (union_test k (map indep items)) c.args.base.now c.args.x)) c.size-n.ensures
+          (subst (λ m. IfOk r (λ (e : Exchange). e ≡ row_of (union_test c.size-n.result (map indep m)) c.args.base.now c.args.x)) c.as_slice.ensures.value c.row_of_parts.ensures.row);
+      rises = c.row_of_parts.ensures.rises;
+    }

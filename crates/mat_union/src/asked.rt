@@ -1,0 +1,95 @@
+//! What is asked of each matroid of a union.
+ghost use Rattle.std.specs.Prelude.{◌≡◌, ◌<◌, ℕ, List, [], Bool, true, false, IfOk};
+ghost use Rattle.mat_sets.specs.Sets.{AllBelow, is_member, IsSubset, union};
+ghost use Rattle.mat_laws.specs.Exchanges.{row_of};
+ghost use Rattle.mat_laws.specs.Matroids.{IsMatroid, IsMaximal};
+
+use mat_laws::{Exchange, Matroid};
+use mat_sets::ElemSet;
+use std::alloc::{AllocError, Global};
+
+/// What the searches for moves ask of a matroid, with the contracts of `Matroid`. A matroid's own methods call no function that is generic
+/// over `Matroid`, whose values may go to other threads; they call those that are generic over this.
+pub(crate) trait Asked {
+    /// How many elements there are.
+    ghost ground_size: { Self → ℕ };
+
+    /// The value meets the conditions of its constructor.
+    ghost sound: { Self → Type 0 };
+
+    /// Whether a set is independent.
+    ghost indep: { Self → List ℕ → Bool };
+
+    /// What is kept of an independent set.
+    type Kept: Drop;
+
+    /// What is kept is right for this independent set of this matroid.
+    ghost keeps: { Self → List ℕ → Self.Kept → Type 0 };
+
+    /// The laws hold of a sound value.
+    fn obeys(&self)
+        requires { sound self.now }
+        ensures { IsMatroid (ground_size self.now) (indep self.now) };
+
+    /// A maximal independent subset.
+    fn base_within(&self, alloc: Global, within: &ElemSet) -> Result<ElemSet, AllocError>
+        requires sound { sound self.now }
+        requires below { AllBelow (ground_size self.now) within.now }
+        ensures { IfOk result (λ base. IsMaximal (indep self.now) (union [] within.now) base) };
+
+    /// What is kept of an independent set.
+    fn keep_of(&self, alloc: Global, base: &ElemSet) -> Result<Self::Kept, AllocError>
+        requires sound { sound self.now }
+        requires base { indep self.now base.now ≡ true }
+        ensures { IfOk result (λ kept. keeps self.now base.now kept) };
+
+    /// The exchanges of an element outside an independent set of which something is kept.
+    fn row_from(
+        &self,
+        alloc: Global,
+        base: &ElemSet,
+        kept: &Self::Kept,
+        x: u32,
+    ) -> Result<Exchange, AllocError>
+        requires sound { sound self.now }
+        requires base { indep self.now base.now ≡ true }
+        requires kept { keeps self.now base.now kept.now }
+        requires below { x < ground_size self.now }
+        requires outside { is_member x base.now ≡ false }
+        ensures { IfOk result (λ e. e ≡ row_of (indep self.now) base.now x) };
+}
+
+impl<M: Matroid> Asked for M {
+    ghost ground_size = { M.ground_size };
+
+    ghost sound = { M.sound };
+
+    ghost indep = { M.indep };
+
+    type Kept = M::Kept;
+
+    ghost keeps = { M.keeps };
+
+    fn obeys(&self) {
+        self.lawful()
+    }
+
+    fn base_within(&self, alloc: Global, within: &ElemSet) -> Result<ElemSet, AllocError> {
+        self.lawful();
+        self.grown_base(alloc, &ElemSet::new(alloc), within)
+    }
+
+    fn keep_of(&self, alloc: Global, base: &ElemSet) -> Result<M::Kept, AllocError> {
+        self.keep(alloc, base)
+    }
+
+    fn row_from(
+        &self,
+        alloc: Global,
+        base: &ElemSet,
+        kept: &M::Kept,
+        x: u32,
+    ) -> Result<Exchange, AllocError> {
+        self.row(alloc, base, kept, x)
+    }
+}
