@@ -51,21 +51,15 @@ fn is_fixed(line: &[u8]) -> bool {
     line.starts_with(b"answer ") || line.starts_with(b"rung ")
 }
 
-// Where the last word of a line begins, with the space before it.
-fn last_word(line: &[u8]) -> usize {
-    let mut at = 0;
-    for i in 0..line.len() {
-        if line[i] == b' ' {
-            at = i;
-        }
-    }
-    at
+// Whether a header says that there are not so many trees: it is open in how many classes the vertices fall.
+fn has_classes(line: &[u8]) -> bool {
+    line.starts_with(b"answer trees ") && line.split(|byte| *byte == b' ').count() == 7
 }
 
-// The part of such a line that every right answer has: it is open in how many classes the vertices fall.
-fn fixed_part(line: &[u8]) -> &[u8] {
-    if line.starts_with(b"answer trees ") && line.split(|byte| *byte == b' ').count() == 7 {
-        &line[..last_word(line)]
+// What is told of such a line: of classes only that they are there.
+fn told_line(line: &[u8]) -> &[u8] {
+    if has_classes(line) {
+        b"answer trees none"
     } else {
         line
     }
@@ -75,7 +69,7 @@ fn fixed_part(line: &[u8]) -> &[u8] {
 fn add_fixed_lines(report: &mut Vec<u8>, certificate: &[u8]) -> Result<(), AllocError> {
     for line in certificate.split(|byte| *byte == b'\n') {
         if is_fixed(line) {
-            report.extend_from_slice(fixed_part(line))?;
+            report.extend_from_slice(told_line(line))?;
             report.push(b'\n')?;
         }
     }
