@@ -3,7 +3,7 @@
 `partitions`, `graphic`, `gf2`, `laminar`, `transversal`, `gammoid`, `dual` and `nested` (against a partition), `graphs` (a graph against
 another), `free`, `routes` and `matching` (against `uniform N`), and `joined` (the union of two graphs against a partition); or for the other
 commands on N elements, where NAME is one of `union` (two graphs), `unions` (eight graphs), `uniforms` (64 matroids of at most 5 elements), `one` (a
-graph alone), `graph`, `rooted`, `coloured` and `table`. `cases.py certificate N` prints a right certificate of `cases.py free N`,
+graph alone), `graph`, `rooted`, `payable` (no cost is below 0), `coloured` and `table`. `cases.py certificate N` prints a right certificate of `cases.py free N`,
 with weights of 62 bytes in each split."""
 import random
 import sys
@@ -182,7 +182,9 @@ def form(name, n):
     """A graph, a directed graph with costs, a coloured graph or a table of N edges, arcs or cells."""
     numbers = random.Random(n)
     weights = weights_of_all_sizes(numbers, n)
-    vertices = n // 8 + 2 if name in ('graph', 'rooted') else n // 4 + 2
+    vertices = n // 4 + 2 if name in ('coloured', 'table') else n // 8 + 2
+    if name == 'payable':
+        weights, name = [abs(weight) for weight in weights], 'rooted'
     head = {'graph': f'graph {vertices} {n}', 'rooted': f'rooted {vertices} {n} 0', 'coloured': f'coloured {vertices} {n} {n // 4}',
             'table': f'table {vertices} {vertices} {n}'}
     print('matroids 1')
@@ -195,7 +197,7 @@ def form(name, n):
 
 
 LISTS = {'union': (graphic, 2), 'unions': (graphic, 8), 'uniforms': (few, 64), 'one': (dense, 1)}
-FORMS = ('graph', 'rooted', 'coloured', 'table')
+FORMS = ('graph', 'rooted', 'payable', 'coloured', 'table')
 AGAINST_A_PARTITION = {'partitions': partition, 'graphic': graphic, 'gf2': gf2, 'laminar': laminar, 'transversal': transversal,
                        'gammoid': gammoid, 'dual': dual, 'nested': nested, 'joined': joined}
 AGAINST_NOTHING = {'free': uniform, 'routes': many_routes, 'matching': transversal}

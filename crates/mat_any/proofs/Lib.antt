@@ -1,2 +1,2 @@
-mod GrownRuns
+mod JoinedLaws
 pub mod JoinedMatroids

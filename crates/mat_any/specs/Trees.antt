@@ -1,5 +1,5 @@
 -- Kind trees: what contracts see of any matroid (Schrijver, chapter 39).
-use Rattle.std.specs.Prelude.{◌≡◌, ℕ, suc, ◌<◌, ◌^◌, max, Bool, List, [], ◌∷◌, length}
+use Rattle.std.specs.Prelude.{◌≡◌, ℕ, suc, ◌<◌, ◌^◌, max, Bool, true, false, List, [], ◌∷◌, length}
 use Rattle.mat_sets.specs.Sets.{IsSet}
 use Rattle.mat_sets.specs.Graphs.{ends_of, IsGraph}
 use Rattle.mat_count.specs.Counts.{is_uniform, is_counted}
@@ -139,3 +139,12 @@ abbrev mutual
   pub greatest_depth : Trees → ℕ
   greatest_depth no_trees = 0
   greatest_depth (more_trees t ts) = max (depth t) (greatest_depth ts)
+
+-- whether a union stands within a matroid
+abbrev pub has_union : Tree → Bool
+has_union (dual t) = has_union t
+has_union (truncate cap t) = has_union t
+has_union (restrict kept t) = has_union t
+has_union (contract away t) = has_union t
+has_union (union ts) = true
+has_union t = false

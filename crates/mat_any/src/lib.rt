@@ -7,6 +7,8 @@ mod independence;
 mod rows;
 mod runs;
 mod sizes;
+mod unions;
 
 pub use any::AnyMatroid;
 pub use any_kept::AnyKept;
+pub use unions::has_union;

@@ -1,5 +1,5 @@
 //! The exchanges of an element in a matroid of any kind, by what is kept of the set and by recursion on the matroids within it.
-ghost use Rattle.std.specs.Prelude.{◌≡◌, ◌<◌, true, false, [], map, IfOk};
+ghost use Rattle.std.specs.Prelude.{◌≡◌, ◌<◌, ℕ, true, false, [], length, map, IfOk, IfSome};
 ghost use Rattle.mat_sets.specs.Families.{family_union};
 ghost use Rattle.mat_sets.specs.Sets.{IsRising, IsSet, is_member, union};
 ghost use Rattle.mat_laws.specs.Exchanges.{row_of};
@@ -8,6 +8,8 @@ ghost use Rattle.mat_minors.specs.DualRows.{IsDualKept};
 ghost use Rattle.mat_minors.specs.Minors.{is_contracted, is_dual, is_restricted, is_truncated};
 ghost use Rattle.mat_union.specs.EndedSearches.{IsEnded, IsReady};
 ghost use Rattle.mat_union.specs.GrownParts.{AreKept};
+ghost use Rattle.mat_union.specs.Moves.{exchanges_with};
+ghost use Rattle.mat_union.specs.Placings.{IsPlaceSearch};
 ghost use Rattle.mat_union.specs.Unions.{AreParts};
 ghost use Rattle.mat_union.specs.UnionsOf.{AreJoined};
 ghost use Rattle.mat_any.specs.AnyKeeps.{KeepsAny};
@@ -21,7 +23,7 @@ use crate::sizes::common_size_of;
 use mat_laws::{Exchange, Matroid};
 use mat_minors::{DualKept, dual_row};
 use mat_sets::{BitSet, ElemSet, SetList};
-use mat_union::{MoveSearch, row_by_search};
+use mat_union::{MoveSearch, PlaceSearch, found_place, parts_with, row_by_search};
 use std::alloc::{AllocError, Global};
 
 /// The exchanges of an element x outside an independent set, by what is kept of it. A truncation, a restriction or a contraction asks
@@ -221,30 +223,32 @@ fn union_row(
     ensures row { IfOk result (λ e. e ≡ row_of (union_in matroids.now) base.now x) }
     ensures rises { IfOk result (λ e. IsRising e.with) }
 {
-    let search = search_from(alloc, matroids, parts, kept, x)?;
+    let all = BitSet::all_below(alloc, common_size_of(matroids))?;
+    let search = search_from(alloc, matroids, parts, kept, &all, x)?;
     row_by_search(alloc, base, parts, &search)
 }
 
-/// A search for moves from x among all elements, to its end, by what is kept of the parts. The only error is want of memory.
+// A search for moves from x among these elements, to its end, by what is kept of the parts.
 #[cycle(rows)]
-pub(crate) fn search_from(
+fn search_from(
     alloc: Global,
     matroids: &[AnyMatroid],
     parts: &SetList,
     kept: &[AnyKept],
+    among: &BitSet,
     x: u32,
 ) -> Result<MoveSearch, AllocError>
     requires joined { AreJoined elements_in IsSoundOne matroids.now }
     requires parts { AreParts (map test_in matroids.now) parts.now }
     requires kept { AreKept KeepsOne matroids.now parts.now kept.now }
+    requires among { (v : ℕ) → is_member v among.now ≡ true → v < size_in matroids.now }
     requires below { x < size_in matroids.now }
     requires fresh { is_member x (family_union parts.now) ≡ false }
     ensures ready { IfOk result (λ s. IsReady s) }
-    ensures ended { IfOk result (λ s. IsEnded (size_in matroids.now) (map test_in matroids.now) parts.now x s) }
+    ensures ended { IfOk result (λ s. IsEnded (size_in matroids.now) (map test_in matroids.now) parts.now among.now x s) }
 {
     let n = common_size_of(matroids);
-    let all = BitSet::all_below(alloc, n)?;
-    let mut search = MoveSearch::new(alloc, n, matroids.len() as u32, x, &all)?;
+    let mut search = MoveSearch::new(alloc, n, matroids.len() as u32, x, among)?;
     while let Some(asked) = search.question() {
         let i = asked.part as usize;
         let row = row_at(alloc, &matroids[i], parts.get(i), &kept[i], asked.element)?;
@@ -272,4 +276,53 @@ fn row_at(
         return Ok(no_exchange(alloc));
     }
     row(alloc, matroid, part, kept, x)
+}
+
+// The first part to which x can be added, by what is kept of the parts.
+fn part_that_takes(
+    alloc: Global,
+    matroids: &[AnyMatroid],
+    parts: &SetList,
+    kept: &[AnyKept],
+    x: u32,
+) -> Result<Option<u32>, AllocError>
+    requires joined { AreJoined elements_in IsSoundOne matroids.now }
+    requires parts { AreParts (map test_in matroids.now) parts.now }
+    requires kept { AreKept KeepsOne matroids.now parts.now kept.now }
+    requires below { x < size_in matroids.now }
+    ensures below { IfOk result (λ found. IfSome found (λ q. q < length parts.now)) }
+    ensures takes { IfOk result (λ found. IfSome found (λ q. (exchanges_with (map test_in matroids.now) parts.now q).adds x ≡ true)) }
+{
+    for i in 0..matroids.len() {
+        let row = row_at(alloc, &matroids[i], parts.get(i), &kept[i], x)?;
+        if row.addable {
+            return Ok(Some(i as u32));
+        }
+    }
+    Ok(None)
+}
+
+/// A place for x: a part to which it can be added, or moves along a path, of x and of elements among these; else the search that is
+/// stuck. The only error is want of memory.
+pub(crate) fn place_for(
+    alloc: Global,
+    matroids: &[AnyMatroid],
+    parts: &SetList,
+    kept: &[AnyKept],
+    among: &BitSet,
+    x: u32,
+) -> Result<PlaceSearch, AllocError>
+    requires joined { AreJoined elements_in IsSoundOne matroids.now }
+    requires parts { AreParts (map test_in matroids.now) parts.now }
+    requires kept { AreKept KeepsOne matroids.now parts.now kept.now }
+    requires among { (v : ℕ) → is_member v among.now ≡ true → v < size_in matroids.now }
+    requires below { x < size_in matroids.now }
+    requires fresh { is_member x (family_union parts.now) ≡ false }
+    ensures { IfOk result (IsPlaceSearch (size_in matroids.now) (map test_in matroids.now) parts.now among.now x) }
+{
+    if let Some(q) = part_that_takes(alloc, matroids, parts, kept, x)? {
+        return Ok(PlaceSearch::Placed(parts_with(alloc, parts, x, q)?));
+    }
+    let search = search_from(alloc, matroids, parts, kept, among, x)?;
+    found_place(alloc, parts, search)
 }

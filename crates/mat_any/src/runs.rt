@@ -1,14 +1,14 @@
 //! Greedy runs of a matroid of any kind, and what it keeps of an independent set, by recursion on the matroids within it: a union grows
 //! parts by what its matroids keep of them, and a dual or a contraction keeps something of a run.
-ghost use Rattle.std.specs.Prelude.{◌≡◌, ℕ, true, List, [], map, IfOk};
+ghost use Rattle.std.specs.Prelude.{◌≡◌, ◌<◌, ℕ, true, List, [], map, IfOk, OnOk};
 ghost use Rattle.mat_sets.specs.Families.{family_union};
 ghost use Rattle.mat_sets.specs.Sets.{AllBelow, AreDistinct, IsSet, union};
-ghost use Rattle.mat_laws.specs.GreedyRuns.{grown_along};
+ghost use Rattle.mat_laws.specs.GreedyRuns.{grown_along, grown_by};
 ghost use Rattle.mat_laws.specs.Matroids.{IsMaximal};
 ghost use Rattle.mat_minors.specs.DualRows.{IsDualKept};
 ghost use Rattle.mat_minors.specs.Minors.{is_contracted, is_dual, is_restricted, is_truncated};
-ghost use Rattle.mat_union.specs.GrownParts.{AreKept};
-ghost use Rattle.mat_union.specs.Unions.{AreParts};
+ghost use Rattle.mat_union.specs.GrownParts.{AreGrowing, AreKept};
+ghost use Rattle.mat_union.specs.Unions.{test_at, AreParts};
 ghost use Rattle.mat_union.specs.UnionsOf.{AreJoined};
 ghost use Rattle.mat_any.specs.AnyKeeps.{KeepsAny};
 ghost use Rattle.mat_any.specs.Joined.{elements_in, size_in, test_in, union_in, IsSoundOne, KeepsOne, KeepsUnion};
@@ -18,12 +18,12 @@ ghost use Rattle.mat_any.specs.Views.{tree_of};
 
 use crate::any::AnyMatroid;
 use crate::any_kept::AnyKept;
-use crate::rows::search_from;
-use crate::sizes::size_of;
+use crate::rows::place_for;
+use crate::sizes::{common_size_of, size_of};
 use mat_laws::Matroid;
 use mat_minors::{DualKept, first_taken, items_in, members_first, others_first};
-use mat_sets::{ElemSet, SetList};
-use mat_union::{empty_parts, parts_found};
+use mat_sets::{BitSet, ElemSet, SetList};
+use mat_union::{Growth, PlaceSearch, first_parts, is_changed, kill, members_of, put_kept, stands};
 use std::alloc::{AllocError, Global};
 
 /// The greedy run along an order in which no element stands twice. A dual, a truncation, a restriction or a contraction is one
@@ -136,46 +136,114 @@ pub(crate) fn union_run(
     requires distinct { AreDistinct order.now }
     ensures { IfOk result (λ s. s ≡ grown_along (union_in matroids.now) [] order.now) }
 {
-    let grown = grown_parts(alloc, matroids, order)?;
-    Ok(grown.taken)
+    let growth = grown_parts(alloc, matroids, order)?;
+    members_of(alloc, &growth.parts)
 }
 
-// Parts of a set, and the set.
-#[derive(Drop)]
-pub(crate) struct GrownParts {
-    pub(crate) parts: SetList,
-    pub(crate) taken: ElemSet,
-}
-
-// What a run of the union takes, in parts: each element by a search for moves, and then the matroids keep something of the new parts.
+// What a run of the union takes, in parts: the first matroid takes by its own run what it can, and the others of the order come one
+// after the other.
 #[cycle(running)]
 fn grown_parts(
     alloc: Global,
     matroids: &[AnyMatroid],
     order: &[u32],
-) -> Result<GrownParts, AllocError>
+) -> Result<Growth<AnyKept>, AllocError>
     requires joined { AreJoined elements_in IsSoundOne matroids.now }
     requires below { AllBelow (size_in matroids.now) order.now }
     requires distinct { AreDistinct order.now }
     ensures are { IfOk result (λ g. AreParts (map test_in matroids.now) g.parts) }
-    ensures together { IfOk result (λ g. family_union g.parts ≡ g.taken) }
-    ensures taken { IfOk result (λ g. g.taken ≡ grown_along (union_in matroids.now) [] order.now) }
+    ensures kept { IfOk result (λ g. AreKept KeepsOne matroids.now g.parts g.kept.items) }
+    ensures taken { IfOk result (λ g. family_union g.parts ≡ grown_along (union_in matroids.now) [] order.now) }
 {
-    let mut taken = ElemSet::new(alloc);
-    let mut parts = empty_parts(alloc, matroids.len())?;
-    let mut kept = keep_each(alloc, matroids, &parts)?;
+    let mut growth = first_growth(alloc, matroids, order)?;
     for x in order {
-        let search = search_from(alloc, matroids, &parts, &kept, *x)?;
-        match parts_found(alloc, &parts, &search)? {
-            Some(more) => {
-                taken.add(*x)?;
-                parts = more;
-                kept = keep_each(alloc, matroids, &parts)?;
-            }
-            None => {}
+        take_turn(alloc, matroids, &mut growth, *x)?;
+    }
+    Ok(growth)
+}
+
+// The first part holds what the first matroid takes, the others are empty, and all elements are alive.
+#[cycle(running)]
+fn first_growth(
+    alloc: Global,
+    matroids: &[AnyMatroid],
+    order: &[u32],
+) -> Result<Growth<AnyKept>, AllocError>
+    requires joined { AreJoined elements_in IsSoundOne matroids.now }
+    requires below { AllBelow (size_in matroids.now) order.now }
+    requires distinct { AreDistinct order.now }
+    ensures growing { IfOk result (λ g. AreGrowing (size_in matroids.now) (map test_in matroids.now) g.parts g.dead g.alive) }
+    ensures kept { IfOk result (λ g. AreKept KeepsOne matroids.now g.parts g.kept.items) }
+    ensures first { IfOk result (λ g. family_union g.parts ≡ grown_along (test_at (map test_in matroids.now) 0) [] order.now) }
+{
+    let first = run(alloc, &matroids[0], order)?;
+    let parts = first_parts(alloc, first, matroids.len())?;
+    let kept = keep_each(alloc, matroids, &parts)?;
+    let alive = BitSet::all_below(alloc, common_size_of(matroids))?;
+    Ok(Growth {
+        parts,
+        kept,
+        dead: ElemSet::new(alloc),
+        alive,
+    })
+}
+
+// One turn of the run: an element that is in no part and alive comes into the parts where it can, and what changed is kept anew; else all
+// that it reaches is dead.
+#[cycle(running)]
+fn take_turn(
+    alloc: Global,
+    matroids: &[AnyMatroid],
+    growth: &mut Growth<AnyKept>,
+    x: u32,
+) -> Result<(), AllocError>
+    requires joined { AreJoined elements_in IsSoundOne matroids.now }
+    requires growing { AreGrowing (size_in matroids.now) (map test_in matroids.now) growth.old.parts growth.old.dead growth.old.alive }
+    requires kept { AreKept KeepsOne matroids.now growth.old.parts growth.old.kept.items }
+    requires below { x < size_in matroids.now }
+    ensures growing { OnOk result (AreGrowing (size_in matroids.now) (map test_in matroids.now) growth.new.parts growth.new.dead growth.new.alive) }
+    ensures kept { OnOk result (AreKept KeepsOne matroids.now growth.new.parts growth.new.kept.items) }
+    ensures step { OnOk result (family_union growth.new.parts ≡ grown_by (union_in matroids.now) (family_union growth.old.parts) x) }
+{
+    if stands(&growth.parts, x) || !growth.alive.contains(x) {
+        return Ok(());
+    }
+    let kept = growth.kept.as_slice();
+    match place_for(alloc, matroids, &growth.parts, kept, &growth.alive, x)? {
+        PlaceSearch::Placed(new) => {
+            keep_changed(alloc, matroids, &growth.parts, &new, &mut growth.kept)?;
+            growth.parts = new;
+            Ok(())
+        }
+        PlaceSearch::Stuck(search) => {
+            kill(&mut growth.dead, &mut growth.alive, search.reached())?;
+            Ok(())
         }
     }
-    Ok(GrownParts { parts, taken })
+}
+
+// What each matroid keeps of its new part: anew only where that is another one than before.
+#[cycle(running)]
+fn keep_changed(
+    alloc: Global,
+    matroids: &[AnyMatroid],
+    old: &SetList,
+    new: &SetList,
+    kept: &mut Vec<AnyKept>,
+) -> Result<(), AllocError>
+    requires joined { AreJoined elements_in IsSoundOne matroids.now }
+    requires before { AreParts (map test_in matroids.now) old.now }
+    requires parts { AreParts (map test_in matroids.now) new.now }
+    requires kept { AreKept KeepsOne matroids.now old.now kept.old.items }
+    ensures { OnOk result (AreKept KeepsOne matroids.now new.now kept.new.items) }
+{
+    for i in 0..matroids.len() {
+        if is_changed(old, new, i) {
+            let one = keep(alloc, &matroids[i], new.get(i))?;
+            put_kept(kept, i, one);
+        }
+    }
+    Ok(())
 }
 
 // What each matroid keeps of its part.
@@ -271,9 +339,8 @@ fn union_keep(alloc: Global, matroids: &[AnyMatroid], set: &ElemSet) -> Result<A
     ensures { IfOk result (λ k. KeepsUnion matroids.now set.now k) }
 {
     set.rises();
-    let grown = grown_parts(alloc, matroids, set.as_slice())?;
-    let kept = keep_each(alloc, matroids, &grown.parts)?;
-    Ok(parts_kept(grown.parts, kept))
+    let growth = grown_parts(alloc, matroids, set.as_slice())?;
+    Ok(parts_kept(growth.parts, growth.kept))
 }
 
 // What a union keeps, of its parts.

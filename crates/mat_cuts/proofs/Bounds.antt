@@ -1,17 +1,16 @@
 -- Each spanning arborescence enters each root-free set, so that weights which the costs pay are together at most its cost.
-use Rattle.std.proofs.Common.{◌≡◌, ℕ, ◌<◌, ◌≤◌, ◌^◌, Bool, true, false, List, [], ◌∷◌, length, inl, inr, refl, arith, ℤ, pos, ◌≤ℤ◌, ◌<ℤ◌, All}
-use Rattle.std.proofs.lemmas.Bool.{both_ways, cases_Bool, false≢true}
+use Rattle.std.proofs.Common.{◌≡◌, ℕ, ◌≤◌, ◌^◌, Bool, true, false, List, [], ◌∷◌, length, inl, inr, refl, arith, ℤ, pos, ◌≤ℤ◌, ◌<ℤ◌, All}
+use Rattle.std.proofs.lemmas.Bool.{cases_Bool, false≢true}
 use Rattle.std.proofs.lemmas.Int.{ints}
 use Rattle.std.proofs.lemmas.List.Elements.{All-get_or}
 use Rattle.std.specs.List.{AllByRecursion}
-use Rattle.mat_sets.specs.Graphs.{ends_of, enters, IsSpanningArborescence, IsRootFree, IsUnentered}
+use Rattle.mat_sets.specs.Graphs.{ends_of, enters, IsSpanningArborescence}
 use Rattle.mat_sets.specs.Sets.{is_member}
 use Rattle.mat_sets.specs.Sums.{sum_of}
 use Rattle.mat_cuts.specs.Costs.{cost_at, cost_of, IsCost}
 use Rattle.mat_sets.proofs.Cardinalities.{sum_of-high, sum_of-le, sum_of-plus}
 use Rattle.mat_sets.proofs.Crossings.{arborescence_enters, unentered_has_none}
 use Rattle.mat_sets.proofs.Ground.{below_member}
-use Rattle.mat_sets.proofs.Members.{is_member-head}
 use Rattle.mat_cuts.specs.Cuts.{all_weight, weight_on, weight_where, AreRightCuts, IsCut}
 use Rattle.mat_cuts.specs.Answers.{AreInRange, AreRight, IsCutInRange, TellsReached}
 use Rattle.mat_cuts.specs.declared.cut_weight.Cuts.{Cuts}

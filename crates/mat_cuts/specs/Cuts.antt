@@ -1,8 +1,7 @@
 -- Vertex sets with weights that bound the cost of each spanning arborescence from below (Fulkerson 1974; Schrijver, chapter 52).
-use Rattle.std.specs.Prelude.{◌≡◌, ℕ, ◌<◌, ◌≤◌, ◌*◌, Bool, false, if◌then◌else◌, List, [], ◌∷◌, length, ℤ, pos, ◌+ℤ◌, ◌≤ℤ◌, ◌<ℤ◌}
+use Rattle.std.specs.Prelude.{◌≡◌, ℕ, ◌<◌, ◌≤◌, ◌*◌, Bool, if◌then◌else◌, List, [], ◌∷◌, length, ℤ, pos, ◌+ℤ◌, ◌≤ℤ◌, ◌<ℤ◌}
 use Rattle.std.specs.List.{AllByRecursion}
 use Rattle.mat_sets.specs.Graphs.{ends_of, enters, IsSpanningArborescence, IsRootFree}
-use Rattle.mat_sets.specs.Sets.{is_member, IsSet}
 use Rattle.mat_cuts.specs.Costs.{cost_at, cost_of}
 use Rattle.mat_cuts.specs.declared.cut_weight.CutWeight.{CutWeight}
 

@@ -155,8 +155,8 @@ fn total_weight(cuts: &[CutWeight]) -> i128
     total
 }
 
-/// The cost of a set of arcs.
-fn total_cost(costs: &[i128], arcs: &[u32]) -> i128
+/// The cost of a set of arcs: at most 2,000 of them, each with a cost from 0 to 10^12. The time is linear in the set.
+pub fn total_cost(costs: &[i128], arcs: &[u32]) -> i128
     requires below { AllBelow (length costs.now) arcs.now }
     requires few { length arcs.now ≤ 2000 }
     requires range { All IsCost costs.now }

@@ -12,5 +12,5 @@ mod lowering;
 mod tests;
 
 pub use cheapest_tree::cheapest;
-pub use checking::right_cuts;
+pub use checking::{right_cuts, total_cost};
 pub use cut_weight::{CutWeight, Cuts};

@@ -3,7 +3,7 @@ ghost use Rattle.std.specs.Prelude.{◌≡◌, ◌<◌, ◌≤◌, ◌^◌, leng
 ghost use Rattle.mat_sets.specs.Graphs.{IsGraph};
 ghost use Rattle.mat_cuts.specs.Costs.{IsCost};
 
-use crate::{Cuts, cheapest, right_cuts};
+use crate::{Cuts, cheapest, right_cuts, total_cost};
 use mat_sets::Pairs;
 use std::alloc::{AllocError, Global};
 use std::test::Fail;
@@ -79,6 +79,8 @@ fn the_cheapest_arborescence_costs_three(rt: HostRuntime) -> Result<(), Fail> {
         Cuts::Unreached(_) => false,
     };
     assert!(rt; tree);
+    let costs = [5, 2, 1, 0];
+    assert!(rt; total_cost(&costs, &[1, 2]) == 3);
     assert!(rt; right_cuts(alloc, 3, &graph.arcs, &graph.costs, 0, &answer)?);
     let dearer = graph_of(alloc, 3, &[(0, 1, 5), (0, 2, 3), (2, 1, 1), (1, 2, 0)])?;
     assert!(rt; !right_cuts(alloc, 3, &dearer.arcs, &dearer.costs, 0, &answer)?);

@@ -5,7 +5,8 @@ ghost use Rattle.mat_laws.specs.Exchanges.{rows_of};
 use crate::row_table::{RowTable, table_of};
 use mat_laws::{Exchange, Matroid};
 use mat_sets::ElemSet;
-use mat_work::{RowJob, all_rows};
+use mat_ticket::ticket_rows;
+use mat_work::RowJob;
 use std::alloc::{AllocError, Global};
 use std::marker::Model;
 use std::thread::Threads;
@@ -77,6 +78,6 @@ pub fn rows<R: Threads + Sync, M: Matroid>(
         set,
         kept: &kept,
     };
-    let exchanges = all_rows(rt, alloc, &job, m.size(), workers)?;
-    table_of(alloc, &exchanges, set)
+    let drawn = ticket_rows(rt, alloc, &job, m.size(), workers)?;
+    table_of(alloc, &drawn.rows, set)
 }

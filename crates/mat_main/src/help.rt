@@ -19,15 +19,21 @@ usage: matbench show FILE                          the canonical text of a descr
        matbench disjoint [--workers N] K FILE      K such sets of arcs that share no arc, or why not
        matbench rainbow [--workers N] FILE         a heaviest forest of each size of edges of different colours
        matbench assign [--workers N] FILE          heaviest cells of each number, no two in one row or column
+       matbench cuts FILE                          arcs of least cost, and prices of vertex sets that pay for them
        matbench check [--workers N] FILE CERT      whether a certificate is right for a description: yes, or what
                                                    fails of it
+       matbench sample [--workers N] KIND SIZE SEED
+                                                   a problem made from a number, solved and checked, in one line
+       matbench batch [--workers N] LIST           the answers to the jobs of a list, one after the other
        matbench --help                             this text
        matbench --version                          the version
 
-FILE is the name of a description, CERT that of a certificate, and - is standard input. What a command gives is
+FILE is the name of a description, CERT that of a certificate, LIST that of a list, and - is standard input. What a command gives is
 written to standard output. N is from 1 to 16: so many workers compute the answer side by side, where there is
 enough to do; without the option there is one. Right behind a command --workers is always the option, and names no
-file; show takes none. K is from 1 to 64.
+file; show and cuts take none. K is from 1 to 64. KIND is pair, list, graph, rooted or table, SIZE from 1 to 500, and
+SEED from 1 to 2147483646. A list is jobs 1, then up to 32 lines job with the words of a command that answers about a
+file (best to assign), without its option, then end.
 
 A description is a text. Each line ends with a newline, and its words have one space between them.
     matroids 1                     the version of the format
@@ -39,7 +45,7 @@ A description is a text. Each line ends with a newline, and its words have one s
     uniform CAP                    the second matroid: sets of at most CAP elements (or a partition again)
     end
 For best, pack and cover the form is list N 1, then weights and one matroid; for union list N M, then weights and M
-matroids; for trees graph V E, then E lines edge U W; for arborescence and disjoint rooted V E R, then E lines
+matroids; for trees graph V E, then E lines edge U W; for arborescence, disjoint and cuts rooted V E R, then E lines
 arc T H COST; for rainbow coloured V E C, then E lines edge U W COLOUR WEIGHT; for assign table R C E, then E lines
 cell ROW COLUMN WEIGHT.
 Other matroids: laminar Q, then Q lines set CAP E E .., of which any two are apart or nested; graphic V, then N
@@ -72,7 +78,9 @@ exit statuses, and the line that is then written to standard error:
     5  read fault: a file could not be opened or read
     6  write fault: the answer could not be written whole
     7  memory: there was not enough
-    8  too long: a description of more than 4194304 bytes, or a certificate of more than 67108864
+    8  too long: a description or a list of more than 4194304 bytes, or a certificate of more than 67108864
     9  wrong shape: the form of the problem is not the command's, or not that of the certificate's command
+   13  bad cost: for cuts a cost is below 0 or has a tie
+   14  bad list: the line of the first fault
 The script ./matbench ends with 70 where it cannot build the program.
 ";

@@ -48,6 +48,7 @@ fn text_of(words: &[String]) -> Option<&'static str> {
 
 fn main(rt: HostRuntime) -> ExitCode {
     let Ok(words) = words_of(&rt) else {
+        let _ = rt.stderr().write_all(b"refused: memory\n");
         return ExitCode::from(Status::Memory.number());
     };
     if let Some(text) = text_of(&words) {
@@ -96,11 +97,16 @@ mod tests {
             "matbench disjoint [--workers N] K FILE",
             "matbench rainbow [--workers N] FILE",
             "matbench assign [--workers N] FILE",
+            "matbench cuts FILE",
             "matbench check [--workers N] FILE CERT",
+            "matbench sample [--workers N] KIND SIZE SEED",
+            "matbench batch [--workers N] LIST",
             "matbench --help",
             "matbench --version",
             "\n    0  done\n    1  the certificate is not right",
             "\n    9  wrong shape: ",
+            "\n   13  bad cost: ",
+            "\n   14  bad list: ",
         ];
         for part in parts {
             assert!(rt; help.contains(part));

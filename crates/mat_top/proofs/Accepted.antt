@@ -21,6 +21,6 @@ solution_accepted instance answer solution = (
 
 pub solution_checked : (held : List ℕ → Option (List ℕ)) (query : Query) (file other bytes text : List ℕ) (instance : Instance)
     → held file ≡ Some bytes → IsDescribed bytes instance → IsSolutionText query instance text → held other ≡ Some text
-    → IsOutcome held (Some (commands.check file other)) statuses.Done
+    → IsOutcome held (Some (commands.about file (commands.check other))) statuses.Done
 solution_checked held query file other bytes text instance at described solved there =
     rw at (inr (instance, described, rw there (rw solved.whole (solution_accepted instance solved.certificate solved.solution))))

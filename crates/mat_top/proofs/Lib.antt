@@ -8,6 +8,8 @@ pub mod TreeSolutions
 pub mod UnionSolutions
 pub mod PackSolutions
 pub mod GraphSolutions
+pub mod Told
+pub mod Describing
 pub mod Refusing
 pub mod Judging
 pub mod Ending
@@ -15,3 +17,16 @@ pub mod Pieces
 pub mod PrintedSolutions
 pub mod Accepted
 pub mod Options
+pub mod JobReading
+pub mod PayableCosts
+pub mod PosedJobs
+pub mod JobTexts
+pub mod Batches
+mod SummaryTotals
+mod SummaryRanges
+mod SummaryLines
+mod SampleForms
+mod QueryAnswers
+mod SameLadders
+mod SameUnions
+mod OneSummary

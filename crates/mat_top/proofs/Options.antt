@@ -4,38 +4,63 @@ use Rattle.std.proofs.lemmas.Int.{ints}
 use Rattle.std.specs.Prelude.{IfSome, bytes_eq, codes, option_map, if◌then◌else◌}
 use Rattle.mat_words.specs.Numbers.{numeral}
 use Rattle.mat_words.proofs.NumberLemmas.{number_again}
+use Rattle.mat_gen.specs.declared.kind.SampleKind.{SampleKind}
 use Rattle.mat_top.specs.declared.query.Query.{Query}
-use Rattle.mat_top.specs.CommandLines.{Task, solve, check, by_workers, ◌>>=◌, query_for, query_of_trees, trees_in, with_number, task_for}
-use Rattle.mat_top.specs.CommandLines.{takes_workers, workers_in, begins_with_option, command_line, asked_by}
+use Rattle.mat_top.specs.CommandLines.{Task, about, sample, batch, solve, check, by_workers, ◌>>=◌, query_for, query_of_trees, kind_in}
+use Rattle.mat_top.specs.CommandLines.{number_up_to, request_for, with_number, sample_for, task_for}
+use Rattle.mat_top.specs.CommandLines.{takes_workers, begins_with_option, command_line, asked_by}
 
 -- a number from 1 to 16 is read as it is spelled
-workers_again : (n : ℕ) → 1 ≤ n → n ≤ 16 → workers_in (numeral (pos n)) ≡ Some n
+workers_again : (n : ℕ) → 1 ≤ n → n ≤ 16 → number_up_to 16 (numeral (pos n)) ≡ Some n
 workers_again n least most = rw (number_again (pos 1) (pos 16) (pos n) (omega (arith, ints)) (omega (arith, ints))) refl
 
--- every command but `show` takes the option
+-- ---- every command but `show` and `cuts` takes the option
+
 if_takes : (test : Bool) (task : Task) (rest : Option Task) → takes_workers task ≡ true → IfSome rest (λ t. takes_workers t ≡ true)
     → IfSome (if test then Some task else rest) (λ t. takes_workers t ≡ true)
 if_takes true task rest h k = h
 if_takes false task rest h k = k
 
-solving_takes : (found : Option Query) (file : List ℕ)
-    → IfSome (option_map (λ query. solve query file) found) (λ t. takes_workers t ≡ true)
-solving_takes None file = tt
-solving_takes (Some query) file = refl
+solving_takes : (file : List ℕ) (found : Option Query)
+    → IfSome (option_map (about file) (option_map solve found)) (λ t. takes_workers t ≡ true)
+solving_takes file None = tt
+solving_takes file (Some query) = refl
 
-number_takes : (number : Option ℕ) (found : ℕ → Option Query) (file : List ℕ)
-    → IfSome (number >>= λ k. option_map (λ query. solve query file) (found k)) (λ t. takes_workers t ≡ true)
-number_takes None found file = tt
-number_takes (Some k) found file = solving_takes (found k) file
+number_takes : (file : List ℕ) (number : Option ℕ) (found : ℕ → Option Query)
+    → IfSome (number >>= λ k. option_map (λ query. about file (solve query)) (found k)) (λ t. takes_workers t ≡ true)
+number_takes file None found = tt
+number_takes file (Some k) found = from (found k)
+  where
+    from : (found : Option Query) → IfSome (option_map (λ query. about file (solve query)) found) (λ t. takes_workers t ≡ true)
+    from None = tt
+    from (Some query) = refl
+
+sample_takes : (kind : Option SampleKind) (size seed : Option ℕ)
+    → IfSome (kind >>= λ k. size >>= λ n. option_map (sample k n) seed) (λ t. takes_workers t ≡ true)
+sample_takes None size seed = tt
+sample_takes (Some kind) None seed = tt
+sample_takes (Some kind) (Some size) None = tt
+sample_takes (Some kind) (Some size) (Some seed) = refl
+
+named_takes : (test : Bool) (rest : Option Task) → IfSome rest (λ t. takes_workers t ≡ true)
+    → IfSome (if test then rest else None) (λ t. takes_workers t ≡ true)
+named_takes true rest h = h
+named_takes false rest h = tt
 
 all_take : (command : List ℕ) (arguments : List (List ℕ)) → bytes_eq command (codes "show") ≡ false
+    → bytes_eq command (codes "cuts") ≡ false
     → IfSome (task_for command arguments) (λ task. takes_workers task ≡ true)
-all_take command [] other = tt
-all_take command (file ∷ []) other = rw other (solving_takes (query_for command) file)
-all_take command (first ∷ second ∷ []) other =
-    if_takes (bytes_eq command (codes "check")) (check first second) (with_number command first second) refl
-    (number_takes (trees_in first) (query_of_trees command) second)
-all_take command (first ∷ second ∷ third ∷ more) other = tt
+all_take command [] other apart = tt
+all_take command (file ∷ []) other apart =
+    if_takes (bytes_eq command (codes "batch")) (batch file) (option_map (about file) (request_for command)) refl
+    (rw (other, apart) (solving_takes file (query_for command)))
+all_take command (first ∷ second ∷ []) other apart =
+    if_takes (bytes_eq command (codes "check")) (about first (check second)) (with_number command first second) refl
+    (number_takes second (number_up_to 64 first) (query_of_trees command))
+all_take command (first ∷ second ∷ third ∷ []) other apart =
+    named_takes (bytes_eq command (codes "sample")) (sample_for first second third)
+    (sample_takes (kind_in first) (number_up_to 500 second) (number_up_to 2147483646 third))
+all_take command (first ∷ second ∷ third ∷ fourth ∷ more) other apart = tt
 
 with_workers : (n : ℕ) (o : Option Task) → IfSome o (λ task. takes_workers task ≡ true)
     → (o >>= λ task. if takes_workers task then Some (by_workers n task) else None)
@@ -44,8 +69,9 @@ with_workers n None take = refl
 with_workers n (Some task) take = rw take refl
 
 pub same_task : (command : List ℕ) (arguments : List (List ℕ)) (n : ℕ) → 1 ≤ n → n ≤ 16
-    → bytes_eq command (codes "show") ≡ false → begins_with_option arguments ≡ false
-    → command_line (command ∷ codes "--workers" ∷ numeral (pos n) ∷ arguments) ≡ option_map (by_workers n) (asked_by (command ∷ arguments))
+    → bytes_eq command (codes "show") ≡ false → bytes_eq command (codes "cuts") ≡ false → begins_with_option arguments ≡ false
+    → command_line (command ∷ codes "--workers" ∷ numeral (pos n) ∷ arguments)
+    ≡ option_map (by_workers n) (asked_by (command ∷ arguments))
 unfolding command_line
-same_task command arguments n least most other plain =
-    rw (workers_again n least most, plain) (with_workers n (task_for command arguments) (all_take command arguments other))
+same_task command arguments n least most other apart plain =
+    rw (workers_again n least most, plain) (with_workers n (task_for command arguments) (all_take command arguments other apart))

@@ -2,7 +2,6 @@
 use Rattle.std.proofs.Common.{◌≡◌, ℕ, ◌+◌, ◌-◌, ◌<◌, List, ◌++◌, length, take, drop, get_or, Option, sym, ap, subst}
 use Rattle.std.proofs.Common.{◌∙◌}
 use Rattle.std.specs.Prelude.{flat_map}
-use Rattle.std.specs.Borrow.{Bor}
 use Rattle.std.proofs.lemmas.List.{take_rest, take-append-drop, drop_more}
 use Rattle.std.proofs.lemmas.List.Concat.{flat_map-append}
 use Rattle.mat_shelf.specs.Writing.{Appended, AppendedPrefix}
@@ -14,14 +13,12 @@ flat_map-at {X} f xs i d lt =
     ap (flat_map f) (sym (take-append-drop i xs)) ∙ flat_map-append f (take i xs) (drop i xs)
     ∙ ap (λ (t : List X). flat_map f (take i xs) ++ flat_map f t) (drop_more xs i d lt)
 
-pub pieces_prefix : (a b c : Option (List ℕ)) (pieces : List (Bor (List ℕ))) (i : ℕ) (d : Bor (List ℕ)) → i < length pieces
-    → Appended a (flat_map (λ piece. piece.now) (take i pieces)) b
-    → AppendedPrefix b (get_or pieces i d).now c → AppendedPrefix a (flat_map (λ piece. piece.now) pieces) c
-pieces_prefix a b c pieces i d lt p q =
-    let before = flat_map (λ (piece : Bor (List ℕ)). piece.now) (take i pieces) in
-    let after = flat_map (λ (piece : Bor (List ℕ)). piece.now) (drop (i + 1) pieces) in
-    subst (λ (t : List ℕ). AppendedPrefix a t c) (sym (flat_map-at (λ (piece : Bor (List ℕ)). piece.now) pieces i d lt))
-    (AppendedPrefix-then a b c before ((get_or pieces i d).now ++ after) p (AppendedPrefix-append b c (get_or pieces i d).now after q))
+pub pieces_prefix : {X : Type 0} (f : X → List ℕ) (a b c : Option (List ℕ)) (pieces : List X) (i : ℕ) (d : X) → i < length pieces
+    → Appended a (flat_map f (take i pieces)) b → AppendedPrefix b (f (get_or pieces i d)) c → AppendedPrefix a (flat_map f pieces) c
+pieces_prefix {X} f a b c pieces i d lt p q =
+    subst (λ (t : List ℕ). AppendedPrefix a t c) (sym (flat_map-at f pieces i d lt))
+    (AppendedPrefix-then a b c (flat_map f (take i pieces)) (f (get_or pieces i d) ++ flat_map f (drop (i + 1) pieces)) p
+    (AppendedPrefix-append b c (f (get_or pieces i d)) (flat_map f (drop (i + 1) pieces)) q))
 
 -- what stands at the end of a buffer
 pub piece_is : (buffer : List ℕ) (at : ℕ) (text : List ℕ) → length buffer ≡ 40 → drop at buffer ≡ text

@@ -1,19 +1,32 @@
--- Command lines: a command, the option `--workers N` for a command that takes it, a number of trees for two of them, and the names of files.
+-- Command lines: a command, the option `--workers N` for a command that takes it, its numbers, and the names of files.
 use Rattle.std.specs.Prelude.{ℕ, pos, nat_abs, Bool, true, false, if◌then◌else◌, List, [], ◌∷◌, bytes_eq, codes}
 use Rattle.std.specs.Prelude.{Option, Some, None, option_map}
 use Rattle.std.specs.Result.{result_ok}
 use Rattle.mat_words.specs.Numbers.{number_in}
+use Rattle.mat_gen.specs.declared.kind.SampleKind.{SampleKind}
+use Rattle.mat_gen.specs.declared.kind.SampleKind.TheVariants.{Pair, List as ListKind, Graph, Rooted, Table}
 use Rattle.mat_top.specs.declared.query.Query.{Query}
 use Rattle.mat_top.specs.declared.query.Query.TheVariants.{Best, Intersect, Union, Pack, Cover, Trees, Arborescence, Disjoint, Rainbow, Assign}
 
+-- what is asked about the problem that a file describes
+pub data Request : Type 0 where
+  -- its canonical text
+  show : Request
+  -- the answer to this query
+  solve : Query → Request
+  -- a cheapest spanning arborescence with weighted vertex sets that prove it
+  cuts : Request
+  -- whether the certificate in the file of this name is right
+  check : List ℕ → Request
+
 -- what a command line asks for
 pub data Task : Type 0 where
-  -- write the canonical text of the description in the file of this name
-  show : List ℕ → Task
-  -- answer this query about the problem in the file of this name
-  solve : Query → List ℕ → Task
-  -- judge the certificate in the second file against the description in the first
-  check : List ℕ → List ℕ → Task
+  -- this about the problem that the file of this name describes
+  about : List ℕ → Request → Task
+  -- the summary of a right answer to the problem of this kind, size and seed
+  sample : SampleKind → ℕ → ℕ → Task
+  -- the answers to the jobs in the file of this name
+  batch : List ℕ → Task
 
 -- a command line: what it asks for, and how many workers compute it
 pub record CommandLine : Type 0 where
@@ -49,29 +62,58 @@ abbrev pub query_of_trees : List ℕ → ℕ → Option Query
 query_of_trees command k =
     if bytes_eq command (codes "trees") then Some (Trees k) else (if bytes_eq command (codes "disjoint") then Some (Disjoint k) else None)
 
--- how many trees a word asks for: the number from 1 to 64 that it spells
-abbrev pub trees_in : List ℕ → Option ℕ
-trees_in word = option_map nat_abs (result_ok (number_in (pos 1) (pos 64) word))
+-- the number from 1 to this bound that a word spells
+abbrev pub number_up_to : ℕ → List ℕ → Option ℕ
+number_up_to most word = option_map nat_abs (result_ok (number_in (pos 1) (pos most) word))
+
+-- the kind of sample that a word names
+abbrev pub kind_in : List ℕ → Option SampleKind
+kind_in word =
+    if bytes_eq word (codes "pair") then Some Pair else
+    (if bytes_eq word (codes "list") then Some ListKind else
+    (if bytes_eq word (codes "graph") then Some Graph else
+    (if bytes_eq word (codes "rooted") then Some Rooted else
+    (if bytes_eq word (codes "table") then Some Table else None))))
+
+-- what a command asks about a problem, where it takes its file alone
+abbrev pub request_for : List ℕ → Option Request
+request_for command =
+    if bytes_eq command (codes "show") then Some show else
+    (if bytes_eq command (codes "cuts") then Some cuts else option_map solve (query_for command))
 
 -- a command and its one file
 abbrev pub with_file : List ℕ → List ℕ → Option Task
 with_file command file =
-    if bytes_eq command (codes "show") then Some (show file) else option_map (λ query. solve query file) (query_for command)
+    if bytes_eq command (codes "batch") then Some (batch file) else option_map (about file) (request_for command)
 
--- a command, a number of trees and a file
+-- a command, a number of trees from 1 to 64 and a file
 abbrev pub with_number : List ℕ → List ℕ → List ℕ → Option Task
 with_number command number file = do
-  k ← trees_in number
-  option_map (λ query. solve query file) (query_of_trees command k)
+  k ← number_up_to 64 number
+  option_map (λ query. about file (solve query)) (query_of_trees command k)
 
 -- a command and two arguments
 abbrev pub with_two : List ℕ → List ℕ → List ℕ → Option Task
-with_two command first second = if bytes_eq command (codes "check") then Some (check first second) else with_number command first second
+with_two command first second =
+    if bytes_eq command (codes "check") then Some (about first (check second)) else with_number command first second
+
+-- the sample that three words ask for: its kind, its size from 1 to 500, and its seed from 1 to 2147483646
+abbrev pub sample_for : List ℕ → List ℕ → List ℕ → Option Task
+sample_for first second third = do
+  kind ← kind_in first
+  size ← number_up_to 500 second
+  option_map (sample kind size) (number_up_to 2147483646 third)
+
+-- a command and three arguments
+abbrev pub with_three : List ℕ → List ℕ → List ℕ → List ℕ → Option Task
+with_three command first second third =
+    if bytes_eq command (codes "sample") then sample_for first second third else None
 
 -- what a command with these arguments asks for
 abbrev pub task_for : List ℕ → List (List ℕ) → Option Task
 task_for command (file ∷ []) = with_file command file
 task_for command (first ∷ second ∷ []) = with_two command first second
+task_for command (first ∷ second ∷ third ∷ []) = with_three command first second third
 task_for command arguments = None
 
 -- ---- the option
@@ -81,19 +123,16 @@ abbrev pub begins_with_option : List (List ℕ) → Bool
 begins_with_option [] = false
 begins_with_option (first ∷ others) = bytes_eq first (codes "--workers")
 
--- how many workers a word asks for: the number from 1 to 16 that it spells
-abbrev pub workers_in : List ℕ → Option ℕ
-workers_in word = option_map nat_abs (result_ok (number_in (pos 1) (pos 16) word))
-
 -- whether the command takes the option
 abbrev pub takes_workers : Task → Bool
-takes_workers (show file) = false
+takes_workers (about file show) = false
+takes_workers (about file cuts) = false
 takes_workers task = true
 
--- a command with the option, its number and the arguments behind it
+-- a command with the option, its number from 1 to 16 and the arguments behind it
 abbrev pub with_option : List ℕ → List (List ℕ) → Option CommandLine
 with_option command (option ∷ number ∷ arguments) = do
-  workers ← workers_in number
+  workers ← number_up_to 16 number
   task ← task_for command arguments
   if takes_workers task then Some (by_workers workers task) else None
 with_option command others = None
@@ -110,9 +149,3 @@ command_line (command ∷ others) = if begins_with_option others then with_optio
 -- what the words ask for, however many workers there are, or nothing
 abbrev pub asked_by : List (List ℕ) → Option Task
 asked_by words = option_map (λ line. line.task) (command_line words)
-
--- the file of the description
-abbrev pub description_file : Task → List ℕ
-description_file (show file) = file
-description_file (solve query file) = file
-description_file (check file certificate) = file

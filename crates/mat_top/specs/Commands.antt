@@ -1,17 +1,26 @@
 -- Commands of the program as what their words ask for, and the ranges of their numbers.
 use Rattle.std.specs.Coded.{×_prop, Unit-prop, le_prop}
-use Rattle.std.specs.Prelude.{◌≤◌}
+use Rattle.std.specs.Prelude.{ℕ, ◌≤◌}
 use Rattle.mat_top.specs.declared.command.Command.{Command}
-use Rattle.mat_top.specs.declared.command.Command.TheVariants.{Show, Solve, Check}
+use Rattle.mat_top.specs.declared.command.Command.TheVariants.{About, Sample, Batch}
+use Rattle.mat_top.specs.declared.command.Request as declared
+use Rattle.mat_top.specs.declared.command.Request.TheVariants.{Show, Solve, Cuts, Check}
 use Rattle.mat_top.specs.declared.query.Query.{Query}
 use Rattle.mat_top.specs.declared.query.Query.TheVariants.{Best, Intersect, Union, Pack, Cover, Trees, Arborescence, Disjoint, Rainbow, Assign}
-use Rattle.mat_top.specs.CommandLines.{Task, show, solve, check}
+use Rattle.mat_top.specs.CommandLines.{Request, show, solve, cuts, check, Task, about, sample, batch}
+
+-- what is asked about a problem
+abbrev pub request_of : declared.Request → Request
+request_of Show = show
+request_of (Solve query) = solve query
+request_of Cuts = cuts
+request_of (Check certificate) = check certificate.now
 
 -- what a command asks for
 abbrev pub task_of : Command → Task
-task_of (Show file) = show file.now
-task_of (Solve query file) = solve query file.now
-task_of (Check file certificate) = check file.now certificate.now
+task_of (About file request) = about file.now (request_of request)
+task_of (Sample kind size seed) = sample kind size seed
+task_of (Batch list) = batch list.now
 
 -- a number of trees that is asked for is from 1 to 64
 abbrev pub IsQueryInRange : Query → Type 0
@@ -19,12 +28,22 @@ IsQueryInRange (Trees k) = (1 ≤ k) × (k ≤ 64)
 IsQueryInRange (Disjoint k) = (1 ≤ k) × (k ≤ 64)
 IsQueryInRange query = Unit {0}
 
+-- the numbers of a request are in range
+abbrev pub IsRequestInRange : Request → Type 0
+IsRequestInRange (solve query) = IsQueryInRange query
+IsRequestInRange request = Unit {0}
+
+-- the size of a sample is from 1 to 500, and its seed from 1 to 2147483646
+abbrev pub IsSampleInRange : (size seed : ℕ) → Type 0
+IsSampleInRange size seed = ((1 ≤ size) × (size ≤ 500)) × ((1 ≤ seed) × (seed ≤ 2147483646))
+
 -- the numbers of a task are in range
 abbrev pub IsTaskInRange : Task → Type 0
-IsTaskInRange (solve query file) = IsQueryInRange query
-IsTaskInRange task = Unit {0}
+IsTaskInRange (about file request) = IsRequestInRange request
+IsTaskInRange (sample kind size seed) = IsSampleInRange size seed
+IsTaskInRange (batch list) = Unit {0}
 
--- ---- both have at most one proof
+-- ---- each has at most one proof
 
 pub IsQueryInRange-prop : (query : Query) → IsProp (IsQueryInRange query)
 IsQueryInRange-prop Best = Unit-prop
@@ -38,7 +57,13 @@ IsQueryInRange-prop (Disjoint k) = ×_prop le_prop le_prop
 IsQueryInRange-prop Rainbow = Unit-prop
 IsQueryInRange-prop Assign = Unit-prop
 
+pub IsRequestInRange-prop : (request : Request) → IsProp (IsRequestInRange request)
+IsRequestInRange-prop show = Unit-prop
+IsRequestInRange-prop (solve query) = IsQueryInRange-prop query
+IsRequestInRange-prop cuts = Unit-prop
+IsRequestInRange-prop (check certificate) = Unit-prop
+
 pub IsTaskInRange-prop : (task : Task) → IsProp (IsTaskInRange task)
-IsTaskInRange-prop (show file) = Unit-prop
-IsTaskInRange-prop (solve query file) = IsQueryInRange-prop query
-IsTaskInRange-prop (check file certificate) = Unit-prop
+IsTaskInRange-prop (about file request) = IsRequestInRange-prop request
+IsTaskInRange-prop (sample kind size seed) = ×_prop (×_prop le_prop le_prop) (×_prop le_prop le_prop)
+IsTaskInRange-prop (batch list) = Unit-prop

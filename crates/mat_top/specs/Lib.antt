@@ -4,7 +4,13 @@ pub mod Views
 pub mod Queries
 pub mod Statuses
 pub mod Answers
+pub mod CutTexts
+pub mod JobLists
+pub mod JobLines
+pub mod Summaries
+pub mod SummaryTexts
 pub mod Outcomes
 pub mod WholeFiles
 pub mod PricedRungs
 pub mod Refusals
+pub mod PosedJobs

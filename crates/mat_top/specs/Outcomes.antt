@@ -1,6 +1,6 @@
 -- What a call does, where the shelf tells the files that it needs.
-use Rattle.std.specs.Prelude.{◌≡◌, ℕ, ◌<◌, ◌≤◌, ◌⊎◌, true, false, List, [], ◌∷◌, ◌++◌, length, codes}
-use Rattle.std.specs.Prelude.{Option, Some, None, IsSome, IfSome, IsSomeAnd, Err}
+use Rattle.std.specs.Prelude.{◌≡◌, ◌≢◌, ℕ, ◌<◌, ◌≤◌, ◌⊎◌, true, false, List, [], ◌∷◌, ◌++◌, length, codes}
+use Rattle.std.specs.Prelude.{Option, Some, None, IsSome, IfSome, IsSomeAnd, Ok, Err, All}
 use Rattle.mat_shelf.specs.Faults.{Rose}
 use Rattle.mat_shelf.specs.Writing.{Appended, AppendedPrefix}
 use Rattle.mat_desc.specs.Faults.{Fault}
@@ -14,18 +14,22 @@ use Rattle.mat_cert.specs.Limits.{certificate_limit}
 use Rattle.mat_cert.specs.Reading as certificate_reading
 use Rattle.mat_check.specs.AnswerClauses.{failure_of}
 use Rattle.mat_check.specs.Clauses.{Failure}
-use Rattle.mat_check.specs.Fitting.{fits}
+use Rattle.mat_check.specs.Fitting.{fits, is_rooted}
 use Rattle.mat_check.specs.Right.{IsRight}
 use Rattle.mat_top.specs.declared.status.Status.{Status}
 use Rattle.mat_top.specs.declared.status.Status.TheVariants as statuses
 use Rattle.mat_top.specs.declared.status.Refusal.{Refusal}
 use Rattle.mat_top.specs.declared.status.Refusal.TheVariants as refusals
-use Rattle.mat_top.specs.Statuses.{status_of, note_of}
-use Rattle.mat_top.specs.CommandLines.{Task, show, solve, check, description_file}
+use Rattle.mat_top.specs.Statuses.{status_of, note_of, joined}
+use Rattle.mat_top.specs.CommandLines.{Request, show, solve, cuts, check, Task, about, sample, batch}
+use Rattle.mat_top.specs.CutTexts.{HasPayableCosts, IsCutsText}
+use Rattle.mat_top.specs.JobLists.{Job, jobs_of}
 use Rattle.mat_top.specs.Queries.{has_form}
+use Rattle.mat_top.specs.declared.query.Query.{Query}
 use Rattle.mat_top.specs.Answers.{IsSolutionText}
+use Rattle.mat_top.specs.Summaries.{IsSummary}
 
--- the most bytes that a description may have
+-- the most bytes that a description or a list of jobs may have
 abbrev pub description_limit : ℕ
 description_limit = 4194304
 
@@ -52,13 +56,13 @@ pub record IsCertified (bytes : List ℕ) (answer : Certificate) : Type 0 where
   pub ranged : IsRanged answer
   pub text : bytes ≡ certificate_text answer
 
--- the form of the problem is that of the query; every form can be shown
-abbrev pub HasForm : Task → Instance → Type 0
-HasForm (show file) instance = Unit {0}
-HasForm (solve query file) instance = has_form query instance ≡ true
-HasForm (check file certificate) instance = Unit {0}
+-- the form of the problem is that of the request; every form can be shown
+abbrev pub HasForm : Request → Instance → Type 0
+HasForm (solve query) instance = has_form query instance ≡ true
+HasForm cuts instance = is_rooted instance ≡ true
+HasForm request instance = Unit {0}
 
--- ---- the outcome
+-- ---- the outcome of a request about a problem
 
 -- the first row of the table that applies to the bytes of a description alone, by its status
 abbrev pub IsDescriptionOutcome : List ℕ → Status → Type 0
@@ -77,41 +81,114 @@ IsCertificateOutcome instance bytes statuses.No =
     (answer : Certificate) × IsCertified bytes answer × (fits instance answer ≡ true) × (IsRight instance answer → ⊥)
 IsCertificateOutcome instance bytes status = ⊥
 
--- the first row that applies once the description spells this problem
-abbrev pub IsProblemOutcome : (List ℕ → Option (List ℕ)) → Task → Instance → Status → Type 0
-IsProblemOutcome held (check file certificate) instance status =
-    IsSomeAnd (held certificate) (λ bytes. IsCertificateOutcome instance bytes status)
-IsProblemOutcome held task instance statuses.WrongShape = HasForm task instance → ⊥
-IsProblemOutcome held task instance statuses.Done = HasForm task instance
-IsProblemOutcome held task instance status = ⊥
+-- the first row that applies to a problem whose costs have to be paid by weights of vertex sets
+abbrev pub IsCutsOutcome : Instance → Status → Type 0
+IsCutsOutcome instance statuses.WrongShape = HasForm cuts instance → ⊥
+IsCutsOutcome instance statuses.BadCost = HasForm cuts instance × (HasPayableCosts instance → ⊥)
+IsCutsOutcome instance statuses.Done = HasForm cuts instance × HasPayableCosts instance
+IsCutsOutcome instance status = ⊥
 
--- the first row that applies to a command over the bytes of its description
-abbrev pub IsBytesOutcome : (List ℕ → Option (List ℕ)) → Task → List ℕ → Status → Type 0
-IsBytesOutcome held task bytes status =
-    IsDescriptionOutcome bytes status ⊎ ((instance : Instance) × IsDescribed bytes instance × IsProblemOutcome held task instance status)
+-- the first row that applies to a problem that is to be solved
+abbrev pub IsSolveOutcome : Query → Instance → Status → Type 0
+IsSolveOutcome query instance statuses.WrongShape = HasForm (solve query) instance → ⊥
+IsSolveOutcome query instance statuses.Done = HasForm (solve query) instance
+IsSolveOutcome query instance status = ⊥
+
+-- the first row that applies once the description spells this problem
+abbrev pub IsProblemOutcome : (List ℕ → Option (List ℕ)) → Request → Instance → Status → Type 0
+IsProblemOutcome held show instance status = status ≡ statuses.Done
+IsProblemOutcome held (solve query) instance status = IsSolveOutcome query instance status
+IsProblemOutcome held cuts instance status = IsCutsOutcome instance status
+IsProblemOutcome held (check certificate) instance status =
+    IsSomeAnd (held certificate) (λ bytes. IsCertificateOutcome instance bytes status)
+
+-- the first row that applies to a request about the problem that these bytes describe
+abbrev pub IsBytesOutcome : (List ℕ → Option (List ℕ)) → Request → List ℕ → Status → Type 0
+IsBytesOutcome held request bytes status =
+    IsDescriptionOutcome bytes status ⊎ ((instance : Instance) × IsDescribed bytes instance × IsProblemOutcome held request instance status)
+
+-- ---- jobs
+
+-- the first row that applies to a job by itself
+abbrev pub IsJobOutcome : (List ℕ → Option (List ℕ)) → Job → Status → Type 0
+IsJobOutcome held job status = IsSomeAnd (held job.file) (λ bytes. IsBytesOutcome held (solve job.query) bytes status)
+
+-- nothing that is told of the job's file refuses it
+abbrev pub MayBeSolved : (List ℕ → Option (List ℕ)) → Job → Type 0
+MayBeSolved held job = IfSome (held job.file) (λ bytes. IsBytesOutcome held (solve job.query) bytes statuses.Done)
+
+-- the first job that is refused gives its status, and Done comes where none is
+abbrev pub IsJobsOutcome : (List ℕ → Option (List ℕ)) → List Job → Status → Type 0
+IsJobsOutcome held [] status = status ≡ statuses.Done
+IsJobsOutcome held (job ∷ jobs) status =
+    ((status ≢ statuses.Done) × IsJobOutcome held job status) ⊎ (IsJobOutcome held job statuses.Done × IsJobsOutcome held jobs status)
+
+-- the bytes are a list of these jobs
+pub record IsListed (bytes : List ℕ) (jobs : List Job) : Type 0 where
+  pub within : length bytes ≤ description_limit
+  pub listed : jobs_of bytes ≡ Ok jobs
+
+-- the bytes are no list of jobs: this line is the first that is not the needed one
+pub record IsMislisted (bytes : List ℕ) (line : ℕ) : Type 0 where
+  pub within : length bytes ≤ description_limit
+  pub first : jobs_of bytes ≡ Err line
+
+-- the first row of the table that applies to the bytes of a list alone
+abbrev pub IsListOutcome : List ℕ → Status → Type 0
+IsListOutcome bytes statuses.TooLong = description_limit < length bytes
+IsListOutcome bytes statuses.BadList = (line : ℕ) × IsMislisted bytes line
+IsListOutcome bytes status = ⊥
+
+-- the first row that applies to the bytes of a list
+abbrev pub IsBatchOutcome : (List ℕ → Option (List ℕ)) → List ℕ → Status → Type 0
+IsBatchOutcome held bytes status = IsListOutcome bytes status ⊎ ((jobs : List Job) × IsListed bytes jobs × IsJobsOutcome held jobs status)
+
+-- ---- the outcome
 
 -- The status is that of the first row of the table that applies: Usage where the words are no command, and else what the files' bytes say.
+-- A sample needs no file.
 abbrev pub IsOutcome : (List ℕ → Option (List ℕ)) → Option Task → Status → Type 0
 IsOutcome held None status = status ≡ statuses.Usage
-IsOutcome held (Some task) status = IsSomeAnd (held (description_file task)) (λ bytes. IsBytesOutcome held task bytes status)
+IsOutcome held (Some (about file request)) status = IsSomeAnd (held file) (λ bytes. IsBytesOutcome held request bytes status)
+IsOutcome held (Some (sample kind size seed)) status = status ≡ statuses.Done
+IsOutcome held (Some (batch list)) status = IsSomeAnd (held list) (λ bytes. IsBatchOutcome held bytes status)
 
 -- the shelf tells the certificate where the outcome needs it
-abbrev pub TellsCertificate : (List ℕ → Option (List ℕ)) → Task → List ℕ → Type 0
-TellsCertificate held (check file certificate) bytes = (instance : Instance) → IsDescribed bytes instance → IsSome (held certificate)
-TellsCertificate held task bytes = Unit {0}
+abbrev pub TellsCertificate : (List ℕ → Option (List ℕ)) → Request → List ℕ → Type 0
+TellsCertificate held (check certificate) bytes = (instance : Instance) → IsDescribed bytes instance → IsSome (held certificate)
+TellsCertificate held request bytes = Unit {0}
+
+-- the shelf tells the file of each job up to the first that is refused
+abbrev pub TellsJobs : (List ℕ → Option (List ℕ)) → List Job → Type 0
+TellsJobs held [] = Unit {0}
+TellsJobs held (job ∷ jobs) = IsSome (held job.file) × (IsJobOutcome held job statuses.Done → TellsJobs held jobs)
 
 -- the shelf tells the files that the outcome needs
 abbrev pub Tells : (List ℕ → Option (List ℕ)) → Option Task → Type 0
 Tells held None = Unit {0}
-Tells held (Some task) = IsSomeAnd (held (description_file task)) (TellsCertificate held task)
+Tells held (Some (about file request)) = IsSomeAnd (held file) (TellsCertificate held request)
+Tells held (Some (sample kind size seed)) = Unit {0}
+Tells held (Some (batch list)) = IsSomeAnd (held list) (λ bytes. (jobs : List Job) → IsListed bytes jobs → TellsJobs held jobs)
 
--- the files that the call reaches: that of the description, and that of the certificate where nothing that is told of the description
--- refuses the call before
+-- the files that a request about the problem in this file reaches: that file, and that of the certificate where nothing that is told of the
+-- description refuses the call before
+abbrev pub RequestReaches : (List ℕ → Option (List ℕ)) → List ℕ → Request → List ℕ → Type 0
+RequestReaches held file (check certificate) name =
+    (name ≡ file) ⊎ ((name ≡ certificate) × IfSome (held file) (λ bytes. (instance : Instance) × IsDescribed bytes instance))
+RequestReaches held file request name = name ≡ file
+
+-- the files that jobs reach: each up to that of the first job that what is told of its file refuses
+abbrev pub JobsReach : (List ℕ → Option (List ℕ)) → List Job → List ℕ → Type 0
+JobsReach held [] name = ⊥
+JobsReach held (job ∷ jobs) name = (name ≡ job.file) ⊎ (MayBeSolved held job × JobsReach held jobs name)
+
+-- the files that the call reaches; where a list is not told, each name may be that of a job's file
 abbrev pub CallReaches : (List ℕ → Option (List ℕ)) → Option Task → List ℕ → Type 0
 CallReaches held None name = ⊥
-CallReaches held (Some (check file certificate)) name =
-    (name ≡ file) ⊎ ((name ≡ certificate) × IfSome (held file) (λ bytes. (instance : Instance) × IsDescribed bytes instance))
-CallReaches held (Some task) name = name ≡ description_file task
+CallReaches held (Some (about file request)) name = RequestReaches held file request name
+CallReaches held (Some (sample kind size seed)) name = ⊥
+CallReaches held (Some (batch list)) name =
+    (name ≡ list) ⊎ IfSome (held list) (λ bytes. (jobs : List Job) × IsListed bytes jobs × JobsReach held jobs name)
 
 -- ---- what is written
 
@@ -119,29 +196,50 @@ CallReaches held (Some task) name = name ≡ description_file task
 abbrev pub yes_text : List ℕ
 yes_text = codes "yes" ++ 10 ∷ []
 
--- the text is what the command writes for the problem
-abbrev pub IsTextFor : (List ℕ → Option (List ℕ)) → Task → Instance → List ℕ → Type 0
-IsTextFor held (show file) instance text = text ≡ canonical_text instance
-IsTextFor held (check file certificate) instance text =
+-- the text is what a request about a problem writes
+abbrev pub IsTextFor : (List ℕ → Option (List ℕ)) → Request → Instance → List ℕ → Type 0
+IsTextFor held show instance text = text ≡ canonical_text instance
+IsTextFor held (solve query) instance text = HasForm (solve query) instance × IsSolutionText query instance text
+IsTextFor held cuts instance text = HasPayableCosts instance × IsCutsText instance text
+IsTextFor held (check certificate) instance text =
     (text ≡ yes_text) × IfSome (held certificate) (λ bytes. IsCertificateOutcome instance bytes statuses.Done)
-IsTextFor held (solve query file) instance text = HasForm (solve query file) instance × IsSolutionText query instance text
 
--- the text is what the command writes for the problem that the bytes spell
-pub record IsAnswerTo (held : List ℕ → Option (List ℕ)) (task : Task) (bytes text : List ℕ) : Type 0 where
+-- the text is what the request writes for the problem that the bytes spell
+pub record IsAnswerTo (held : List ℕ → Option (List ℕ)) (request : Request) (bytes text : List ℕ) : Type 0 where
   pub instance : Instance
   pub described : IsDescribed bytes instance
-  pub answer : IsTextFor held task instance text
+  pub answer : IsTextFor held request instance text
 
 -- the text of a solving command is no longer than a certificate may be
-abbrev pub IsShort : Task → List ℕ → Type 0
-IsShort (solve query file) text = length text ≤ certificate_limit
-IsShort task text = Unit {0}
+abbrev pub IsShort : Request → List ℕ → Type 0
+IsShort (solve query) text = length text ≤ certificate_limit
+IsShort request text = Unit {0}
 
--- what may be written where the command is done: where the file is told, what the command writes
+-- what may be written for a request about the problem in a file: where the file is told, what the request writes for it
+pub record IsRequestOutput (held : List ℕ → Option (List ℕ)) (file : List ℕ) (request : Request) (text : List ℕ) : Type 0 where
+  pub short : IsShort request text
+  pub answer : IfSome (held file) (λ bytes. IsAnswerTo held request bytes text)
+
+-- texts of jobs: for each in turn what may be written for it
+abbrev pub AreJobTexts : (List ℕ → Option (List ℕ)) → List Job → List (List ℕ) → Type 0
+AreJobTexts held [] [] = Unit {0}
+AreJobTexts held (job ∷ jobs) (text ∷ texts) = IsRequestOutput held job.file (solve job.query) text × AreJobTexts held jobs texts
+AreJobTexts held jobs texts = ⊥
+
+-- what may be written for a list of jobs: texts one after the other, each no longer than a certificate may be, and where the list is told
+-- those of its jobs in their order
+pub record IsBatchOutput (held : List ℕ → Option (List ℕ)) (list text : List ℕ) : Type 0 where
+  pub texts : List (List ℕ)
+  pub whole : text ≡ joined texts
+  pub short : All (λ piece. length piece ≤ certificate_limit) texts
+  pub answers : IfSome (held list) (λ bytes. (jobs : List Job) × IsListed bytes jobs × AreJobTexts held jobs texts)
+
+-- what may be written where the command is done
 abbrev pub IsOutput : (List ℕ → Option (List ℕ)) → Option Task → List ℕ → Type 0
 IsOutput held None text = ⊥
-IsOutput held (Some task) text =
-    IsShort task text × IfSome (held (description_file task)) (λ bytes. IsAnswerTo held task bytes text)
+IsOutput held (Some (about file request)) text = IsRequestOutput held file request text
+IsOutput held (Some (sample kind size seed)) text = IsSummary kind size seed text
+IsOutput held (Some (batch list)) text = IsBatchOutput held list text
 
 -- ---- the clauses of the top call
 
@@ -171,13 +269,33 @@ pub record HasFailure (description certificate : List ℕ) (failure : Failure) :
   pub described : IsDescribed description instance
   pub failed : HasClauseFailure instance certificate failure
 
--- a refusal tells what is so: the first fault of a description is that of its bytes, where they are told
-abbrev pub IsTrueOf : (List ℕ → Option (List ℕ)) → Option Task → Refusal → Type 0
-IsTrueOf held (Some task) (refusals.BadDescription kind number) = IfSome (held (description_file task)) (λ bytes. IsFaulty bytes (kind, number))
-IsTrueOf held (Some (check file certificate)) (refusals.BadCertificate kind number) =
+-- a refusal of a request about the problem in this file tells what is so: the first fault of the description, the first fault of the
+-- certificate, and the first clause that fails, where the files are told
+abbrev pub IsTrueOfRequest : (List ℕ → Option (List ℕ)) → List ℕ → Request → Refusal → Type 0
+IsTrueOfRequest held file request (refusals.BadDescription kind number) = IfSome (held file) (λ bytes. IsFaulty bytes (kind, number))
+IsTrueOfRequest held file (check certificate) (refusals.BadCertificate kind number) =
     IfSome (held certificate) (λ bytes. IsFaultyCertificate bytes (kind, number))
-IsTrueOf held (Some (check file certificate)) (refusals.No reason first second) =
+IsTrueOfRequest held file (check certificate) (refusals.No reason first second) =
     IfSome (held file) (λ description. IfSome (held certificate) (λ bytes. HasFailure description bytes (reason, first, second)))
+IsTrueOfRequest held file request refusal = Unit {0}
+
+-- a refusal of jobs tells what is so of the first that is refused
+abbrev pub IsTrueOfJobs : (List ℕ → Option (List ℕ)) → List Job → Refusal → Type 0
+IsTrueOfJobs held [] refusal = ⊥
+IsTrueOfJobs held (job ∷ jobs) refusal =
+    IsTrueOfRequest held job.file (solve job.query) refusal ⊎ (MayBeSolved held job × IsTrueOfJobs held jobs refusal)
+
+-- a refusal of a list tells what is so: the first line that is not the needed one, or the first fault of the first job that is refused
+abbrev pub IsTrueOfList : (List ℕ → Option (List ℕ)) → List ℕ → Refusal → Type 0
+IsTrueOfList held list (refusals.BadList line) = IfSome (held list) (λ bytes. IsMislisted bytes line)
+IsTrueOfList held list (refusals.BadDescription kind number) = IfSome (held list)
+    (λ bytes. (jobs : List Job) × IsListed bytes jobs × IsTrueOfJobs held jobs (refusals.BadDescription kind number))
+IsTrueOfList held list refusal = Unit {0}
+
+-- a refusal tells what is so
+abbrev pub IsTrueOf : (List ℕ → Option (List ℕ)) → Option Task → Refusal → Type 0
+IsTrueOf held (Some (about file request)) refusal = IsTrueOfRequest held file request refusal
+IsTrueOf held (Some (batch list)) refusal = IsTrueOfList held list refusal
 IsTrueOf held asked refusal = Unit {0}
 
 -- the note of a call that ended so: none on Done

@@ -10,12 +10,25 @@ use Rattle.mat_top.specs.declared.status.Status.TheVariants as statuses
 use Rattle.mat_top.specs.declared.status.Refusal.{Refusal}
 use Rattle.mat_top.specs.declared.status.Refusal.TheVariants as refusals
 use Rattle.mat_top.specs.Statuses.{status_of}
-use Rattle.mat_top.specs.CommandLines.{Task, check}
+use Rattle.mat_top.specs.CommandLines.{Request, show, solve, cuts, check, Task}
+use Rattle.mat_top.specs.CutTexts.{HasPayableCosts}
+use Rattle.mat_top.specs.JobLists.{Job}
 use Rattle.mat_top.specs.Queries.{has_form, IsAnswerOf}
 use Rattle.mat_top.specs.declared.query.Query.{Query}
 use Rattle.mat_top.specs.Answers.{IsSolution, IsSolutionText}
-use Rattle.mat_top.specs.Outcomes.{HasForm, IsCertificateOutcome, IsFaultyCertificate, IsTextFor, IsShort}
+use Rattle.mat_top.specs.Outcomes.{description_limit, HasForm, IsFaulty, IsDescribed, IsMislisted}
+use Rattle.mat_top.specs.Outcomes.{IsCertificateOutcome, IsFaultyCertificate, IsTextFor, IsShort}
 use Rattle.mat_top.specs.Outcomes.{CallReaches, Tells, IsOutcome, IsOutput, IsTrueOf, HasClauseFailure}
+
+-- ---- reading a problem
+
+-- why a file describes no problem: with what it holds, and the count of its faults before and after
+abbrev pub IsUndescribed : Option (List ℕ) → ℕ → ℕ → Refusal → Type 0
+IsUndescribed held before now refusals.ReadFault = Rose before now
+IsUndescribed held before now refusals.Memory = Unit {0}
+IsUndescribed held before now refusals.TooLong = IfSome held (λ bytes. description_limit < length bytes)
+IsUndescribed held before now (refusals.BadDescription kind number) = IfSome held (λ bytes. IsFaulty bytes (kind, number))
+IsUndescribed held before now refusal = ⊥
 
 -- ---- solving
 
@@ -37,6 +50,13 @@ pub record HasSolutionText (query : Query) (instance : Instance) (text : List �
   pub solution : IsSolutionText query instance text
   pub short : length text ≤ certificate_limit
 
+-- why a problem has no weighted vertex sets that prove an arborescence
+abbrev pub HasNoCuts : Instance → Refusal → Type 0
+HasNoCuts instance refusals.Memory = Unit {0}
+HasNoCuts instance refusals.WrongShape = HasForm cuts instance → ⊥
+HasNoCuts instance refusals.BadCost = HasForm cuts instance × (HasPayableCosts instance → ⊥)
+HasNoCuts instance refusal = ⊥
+
 -- ---- judging
 
 -- why the bytes of a certificate, within their limit, don't let a call say yes
@@ -55,24 +75,39 @@ IsUncertified instance held before now refusals.ReadFault = Rose before now
 IsUncertified instance held before now refusals.TooLong = IfSome held (λ bytes. certificate_limit < length bytes)
 IsUncertified instance held before now refusals.Usage = ⊥
 IsUncertified instance held before now refusals.WriteFault = ⊥
+IsUncertified instance held before now refusals.BadCost = ⊥
+IsUncertified instance held before now (refusals.BadList line) = ⊥
 IsUncertified instance held before now (refusals.BadDescription kind number) = ⊥
 IsUncertified instance held before now refusal = IfSome held (λ bytes. IsDenial instance bytes refusal)
 
--- ---- what a command writes for a problem
+-- ---- what a request writes for a problem
 
 -- why there is no text for a problem: with the counts of the shelf's faults before and after
-abbrev pub HasNoText : (List ℕ → Option (List ℕ)) → Task → Instance → (List ℕ → ℕ) → (List ℕ → ℕ) → Refusal
+abbrev pub HasNoText : (List ℕ → Option (List ℕ)) → Request → Instance → (List ℕ → ℕ) → (List ℕ → ℕ) → Refusal
     → Type 0
-HasNoText held (check file certificate) instance before now refusal =
+HasNoText held show instance before now refusal = refusal ≡ refusals.Memory
+HasNoText held (solve query) instance before now refusal = IsUnsolved query instance refusal
+HasNoText held cuts instance before now refusal = HasNoCuts instance refusal
+HasNoText held (check certificate) instance before now refusal =
     IsUncertified instance (held certificate) (before certificate) (now certificate) refusal
-HasNoText held task instance before now refusals.Memory = Unit {0}
-HasNoText held task instance before now refusals.WrongShape = HasForm task instance → ⊥
-HasNoText held task instance before now refusal = ⊥
 
--- there is a text for a problem: the command writes this
-pub record HasText (held : List ℕ → Option (List ℕ)) (task : Task) (instance : Instance) (text : List ℕ) : Type 0 where
-  pub answer : IsTextFor held task instance text
-  pub short : IsShort task text
+-- there is a text for a problem: the request writes this
+pub record HasText (held : List ℕ → Option (List ℕ)) (request : Request) (instance : Instance) (text : List ℕ) : Type 0 where
+  pub answer : IsTextFor held request instance text
+  pub short : IsShort request text
+
+-- ---- jobs
+
+-- the problem of a job: what its file holds describes it, where that is told, and its form is that of the query
+pub record IsJobProblem (held : List ℕ → Option (List ℕ)) (job : Job) (instance : Instance) : Type 0 where
+  pub described : IfSome (held job.file) (λ bytes. IsDescribed bytes instance)
+  pub form : has_form job.query instance ≡ true
+
+-- why a list gives no jobs
+abbrev pub HasNoJobs : List ℕ → Refusal → Type 0
+HasNoJobs bytes refusals.Memory = Unit {0}
+HasNoJobs bytes (refusals.BadList line) = IsMislisted bytes line
+HasNoJobs bytes refusal = ⊥
 
 -- ---- the whole call
 

@@ -28,6 +28,8 @@ status_number statuses.WriteFault = 6
 status_number statuses.Memory = 7
 status_number statuses.TooLong = 8
 status_number statuses.WrongShape = 9
+status_number statuses.BadCost = 13
+status_number statuses.BadList = 14
 
 -- the status of a call that was refused
 abbrev pub status_of : Refusal → Status
@@ -40,6 +42,8 @@ status_of refusals.WriteFault = statuses.WriteFault
 status_of refusals.Memory = statuses.Memory
 status_of refusals.TooLong = statuses.TooLong
 status_of refusals.WrongShape = statuses.WrongShape
+status_of refusals.BadCost = statuses.BadCost
+status_of (refusals.BadList line) = statuses.BadList
 
 -- the refusal of a call that did not read a file
 abbrev pub refusal_of_unread : Unread → Refusal
@@ -80,3 +84,5 @@ note_of refusals.WriteFault = codes "refused: write fault" ++ 10 ∷ []
 note_of refusals.Memory = codes "refused: memory" ++ 10 ∷ []
 note_of refusals.TooLong = codes "refused: too long" ++ 10 ∷ []
 note_of refusals.WrongShape = codes "refused: wrong shape" ++ 10 ∷ []
+note_of refusals.BadCost = codes "refused: bad cost" ++ 10 ∷ []
+note_of (refusals.BadList line) = joined (codes "refused: list line " ∷ numeral (pos line) ∷ (10 ∷ []) ∷ [])

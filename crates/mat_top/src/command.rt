@@ -4,28 +4,47 @@ ghost use Rattle.std.specs.Prelude.{◌≡◌, ◌≤◌};
 ghost use Rattle.mat_top.specs.Commands.{task_of, IsTaskInRange, IsTaskInRange-prop};
 
 use crate::query::Query;
+use mat_gen::SampleKind;
+
+/// What is asked about the problem that a file describes.
+#[derive(Clone, Copy)]
+pub(crate) enum Request<'a> {
+    /// Its canonical text.
+    Show,
+    /// The answer to a query.
+    Solve(Query),
+    /// A cheapest spanning arborescence with weighted vertex sets that prove it.
+    Cuts,
+    /// Whether a certificate is right.
+    Check {
+        /// The name of the certificate's file.
+        certificate: &'a str,
+    },
+}
 
 /// What the words of a command line ask for.
 #[derive(Clone, Copy)]
 pub(crate) enum Command<'a> {
-    /// Write the canonical text of the description in the file of this name.
-    Show {
+    /// Something about the problem that a file describes.
+    About {
         /// The name of the description's file.
         file: &'a str,
+        /// What is asked about the problem.
+        request: Request<'a>,
     },
-    /// Answer a query about the problem in the file of this name.
-    Solve {
-        /// What is asked for.
-        query: Query,
-        /// The name of the description's file.
-        file: &'a str,
+    /// The summary of a right answer to a problem that is made from a number.
+    Sample {
+        /// The kind of the problem.
+        kind: SampleKind,
+        /// How many elements, edges, arcs or cells it has, from 1 to 500.
+        size: u32,
+        /// The number that it is made from, from 1 to 2147483646.
+        seed: u64,
     },
-    /// Judge the certificate in the second file against the description in the first.
-    Check {
-        /// The name of the description's file.
-        file: &'a str,
-        /// The name of the certificate's file.
-        certificate: &'a str,
+    /// The answers to the jobs of a list.
+    Batch {
+        /// The name of the list's file.
+        list: &'a str,
     },
 }
 

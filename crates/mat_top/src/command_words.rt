@@ -1,14 +1,15 @@
 //! The words of a command line.
 
 ghost use Rattle.std.specs.Prelude.{◌≡◌, ◌≤◌, map, string_bytes, option_map, IfSome};
-ghost use Rattle.mat_top.specs.CommandLines.{query_for, query_of_trees, trees_in, with_file, with_number, with_two, task_for};
-ghost use Rattle.mat_top.specs.CommandLines.{begins_with_option, workers_in, takes_workers, with_option, without_option, command_line};
-ghost use Rattle.mat_top.specs.CommandLines.{description_file};
-ghost use Rattle.mat_top.specs.Commands.{task_of, IsQueryInRange, IsTaskInRange};
+ghost use Rattle.mat_top.specs.CommandLines.{query_for, request_for, query_of_trees, number_up_to, kind_in};
+ghost use Rattle.mat_top.specs.CommandLines.{with_file, with_number, with_two, sample_for, with_three, task_for};
+ghost use Rattle.mat_top.specs.CommandLines.{begins_with_option, takes_workers, with_option, without_option, command_line};
+ghost use Rattle.mat_top.specs.Commands.{task_of, request_of, IsQueryInRange, IsRequestInRange, IsTaskInRange};
 ghost use Rattle.mat_top.specs.Views.{line_of};
 
-use crate::command::{Command, CommandLine};
+use crate::command::{Command, CommandLine, Request};
 use crate::query::Query;
+use mat_gen::SampleKind;
 use mat_words::read_number;
 
 // The query of a command that takes a file alone.
@@ -42,14 +43,40 @@ fn query_of_trees(command: &str, k: u32) -> Option<Query>
     }
 }
 
-// How many trees a word asks for: None where it spells no number from 1 to 64.
-fn trees_in(word: &str) -> Option<u32>
-    ensures trees { result ≡ trees_in word.now }
-    ensures range { IfSome result (λ k. (1 ≤ k) × (k ≤ 64)) }
+// The number from 1 to this bound that a word spells: None where it spells none.
+fn number_up_to(most: u32, word: &str) -> Option<u32>
+    ensures number { result ≡ number_up_to most word.now }
+    ensures range { IfSome result (λ k. (1 ≤ k) × (k ≤ most)) }
 {
-    match read_number(word.as_bytes(), 1, 64) {
+    match read_number(word.as_bytes(), 1, i128::from(most)) {
         Ok(number) => Some(number as u32),
         Err(_) => None,
+    }
+}
+
+// The kind of sample that a word names.
+fn kind_in(word: &str) -> Option<SampleKind>
+    ensures { result ≡ kind_in word.now }
+{
+    match word {
+        "pair" => Some(SampleKind::Pair),
+        "list" => Some(SampleKind::List),
+        "graph" => Some(SampleKind::Graph),
+        "rooted" => Some(SampleKind::Rooted),
+        "table" => Some(SampleKind::Table),
+        _ => None,
+    }
+}
+
+// What a command asks about a problem, where it takes its file alone.
+fn request_for<'a>(command: &str) -> Option<Request<'a>>
+    ensures request { option_map request_of result ≡ request_for command.now }
+    ensures range { IfSome result (λ r. IsRequestInRange (request_of r)) }
+{
+    match command {
+        "show" => Some(Request::Show),
+        "cuts" => Some(Request::Cuts),
+        _ => Some(Request::Solve(query_for(command)?)),
     }
 }
 
@@ -58,11 +85,11 @@ fn with_file<'a>(command: &str, file: &'a str) -> Option<Command<'a>>
     ensures task { option_map task_of result ≡ with_file command.now file.now }
     ensures range { IfSome result (λ c. IsTaskInRange (task_of c)) }
 {
-    if command == "show" {
-        return Some(Command::Show { file });
+    if command == "batch" {
+        return Some(Command::Batch { list: file });
     }
-    let query = query_for(command)?;
-    Some(Command::Solve { query, file })
+    let request = request_for(command)?;
+    Some(Command::About { file, request })
 }
 
 // A command, a number of trees and a file.
@@ -70,9 +97,9 @@ fn with_number<'a>(command: &str, number: &str, file: &'a str) -> Option<Command
     ensures task { option_map task_of result ≡ with_number command.now number.now file.now }
     ensures range { IfSome result (λ c. IsTaskInRange (task_of c)) }
 {
-    let k = trees_in(number)?;
-    let query = query_of_trees(command, k)?;
-    Some(Command::Solve { query, file })
+    let k = number_up_to(64, number)?;
+    let request = Request::Solve(query_of_trees(command, k)?);
+    Some(Command::About { file, request })
 }
 
 // A command and two arguments.
@@ -81,28 +108,55 @@ fn with_two<'a>(command: &str, first: &'a str, second: &'a str) -> Option<Comman
     ensures range { IfSome result (λ c. IsTaskInRange (task_of c)) }
 {
     if command == "check" {
-        return Some(Command::Check {
+        return Some(Command::About {
             file: first,
-            certificate: second,
+            request: Request::Check {
+                certificate: second,
+            },
         });
     }
     with_number(command, first, second)
 }
 
+// The sample that three words ask for.
+fn sample_for<'a>(first: &str, second: &str, third: &str) -> Option<Command<'a>>
+    ensures task { option_map task_of result ≡ sample_for first.now second.now third.now }
+    ensures range { IfSome result (λ c. IsTaskInRange (task_of c)) }
+{
+    let kind = kind_in(first)?;
+    let size = number_up_to(500, second)?;
+    let seed = u64::from(number_up_to(2_147_483_646, third)?);
+    Some(Command::Sample { kind, size, seed })
+}
+
+// A command and three arguments.
+fn with_three<'a>(command: &str, first: &str, second: &str, third: &str) -> Option<Command<'a>>
+    ensures task { option_map task_of result ≡ with_three command.now first.now second.now third.now }
+    ensures range { IfSome result (λ c. IsTaskInRange (task_of c)) }
+{
+    if command != "sample" {
+        return None;
+    }
+    sample_for(first, second, third)
+}
+
 // A command with its arguments.
-fn command_for<'a>(command: &str, arguments: &'a [String]) -> Option<Command<'a>>
+pub(crate) fn command_for<'a>(command: &str, arguments: &'a [String]) -> Option<Command<'a>>
     ensures task { option_map task_of result ≡ task_for command.now (map string_bytes arguments.now) }
     ensures range { IfSome result (λ c. IsTaskInRange (task_of c)) }
 {
     match arguments {
         [file] => with_file(command, file.as_str()),
         [first, second] => with_two(command, first.as_str(), second.as_str()),
+        [first, second, third] => {
+            with_three(command, first.as_str(), second.as_str(), third.as_str())
+        }
         _ => None,
     }
 }
 
 // Whether the first argument is the option, which names no file.
-fn begins_with_option(arguments: &[String]) -> bool
+pub(crate) fn begins_with_option(arguments: &[String]) -> bool
     ensures { result ≡ begins_with_option (map string_bytes arguments.now) }
 {
     match arguments {
@@ -111,33 +165,14 @@ fn begins_with_option(arguments: &[String]) -> bool
     }
 }
 
-// How many workers a word asks for: None where it spells no number from 1 to 16.
-fn workers_in(word: &str) -> Option<u32>
-    ensures workers { result ≡ workers_in word.now }
-    ensures range { IfSome result (λ n. (1 ≤ n) × (n ≤ 16)) }
-{
-    match read_number(word.as_bytes(), 1, 16) {
-        Ok(number) => Some(number as u32),
-        Err(_) => None,
-    }
-}
-
 impl<'a> Command<'a> {
     // Whether it takes the option.
     fn takes_workers(&self) -> bool
         ensures { result ≡ takes_workers (task_of self.now) }
     {
-        !matches!(self, Command::Show { .. })
-    }
-
-    /// The file of the description.
-    pub(crate) fn description(&self) -> &'a str
-        ensures { result.now ≡ description_file (task_of self.now) }
-    {
         match self {
-            Command::Show { file } => file,
-            Command::Solve { file, .. } => file,
-            Command::Check { file, .. } => file,
+            Command::About { request, .. } => !matches!(request, Request::Show | Request::Cuts),
+            _ => true,
         }
     }
 }
@@ -149,7 +184,7 @@ fn with_option<'a>(command: &str, others: &'a [String]) -> Option<CommandLine<'a
     let [_, number, arguments @ ..] = others else {
         return None;
     };
-    let workers = workers_in(number.as_str())?;
+    let workers = number_up_to(16, number.as_str())?;
     let command = command_for(command, arguments)?;
     if !command.takes_workers() {
         return None;

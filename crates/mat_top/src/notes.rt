@@ -97,6 +97,23 @@ fn put_no<N: Sink>(notes: &mut N, reason: Reason, first: u32, second: u32)
     );
 }
 
+// Writes the note of a list of jobs whose line with this number is not the needed one.
+fn put_bad_list<N: Sink>(notes: &mut N, line: u32)
+    ensures { IsNoted (note_of (Refusal.BadList line))
+        (N.written notes.old) (N.faults notes.old) (N.written notes.new) (N.faults notes.new) }
+{
+    let mut place = [0; 40];
+    let place_at = number_into(&mut place, line);
+    put_line(
+        notes,
+        &[
+            b"refused: list line ".as_slice(),
+            &place[place_at..],
+            b"\n".as_slice(),
+        ],
+    );
+}
+
 /// Writes the note of a refusal, or a prefix of it where the sink fails. It takes no memory.
 pub(crate) fn put_note<N: Sink>(notes: &mut N, refusal: Refusal)
     ensures { IsNoted (note_of refusal) (N.written notes.old) (N.faults notes.old) (N.written notes.new) (N.faults notes.new) }
@@ -117,5 +134,7 @@ pub(crate) fn put_note<N: Sink>(notes: &mut N, refusal: Refusal)
         Refusal::Memory => put_text(notes, b"refused: memory\n"),
         Refusal::TooLong => put_text(notes, b"refused: too long\n"),
         Refusal::WrongShape => put_text(notes, b"refused: wrong shape\n"),
+        Refusal::BadCost => put_text(notes, b"refused: bad cost\n"),
+        Refusal::BadList(line) => put_bad_list(notes, line),
     }
 }

@@ -12,6 +12,7 @@ use crate::solve_ladders::{assign, best, intersect, rainbow};
 use crate::solve_sets::{cover, pack, union};
 use crate::solve_trees::{arborescence, disjoint, trees};
 use crate::status::Refusal;
+use mat_any::has_union;
 use mat_cert::Answer;
 use mat_desc::Problem;
 use std::alloc::Global;
@@ -34,22 +35,37 @@ pub(crate) fn solve<R: Threads + Sync>(
 {
     match query {
         Query::Best => best(alloc, problem),
-        Query::Intersect => intersect(rt, alloc, problem, worthwhile_workers(workers)),
+        Query::Intersect => intersect(rt, alloc, problem, worthwhile_workers(problem, workers)),
         Query::Union => union(alloc, problem),
         Query::Pack => pack(alloc, problem),
         Query::Cover => cover(alloc, problem),
         Query::Trees(k) => trees(alloc, problem, k),
-        Query::Arborescence => arborescence(rt, alloc, problem, worthwhile_workers(workers)),
+        Query::Arborescence => arborescence(
+            rt,
+            alloc,
+            problem,
+            worthwhile_workers(problem, workers),
+        ),
         Query::Disjoint(k) => disjoint(alloc, problem, k),
-        Query::Rainbow => rainbow(rt, alloc, problem, worthwhile_workers(workers)),
-        Query::Assign => assign(rt, alloc, problem, worthwhile_workers(workers)),
+        Query::Rainbow => rainbow(rt, alloc, problem, worthwhile_workers(problem, workers)),
+        Query::Assign => assign(rt, alloc, problem, worthwhile_workers(problem, workers)),
     }
 }
 
-/// How many of the workers pay where a solver makes rows of two matroids: one, since a row of a kind that stands within no other takes
-/// less time than a thread takes to start.
-fn worthwhile_workers(_workers: u32) -> u32
-    ensures { result ≡ 1 }
+/// How many of the workers pay where a solver makes rows of the problem's matroids: all where a union stands within one of a pair, since each
+/// row takes a search then, and else one, since a row takes less time than a thread takes to start.
+fn worthwhile_workers(problem: &Problem, workers: u32) -> u32
+    requires { (1 ≤ workers) × (workers ≤ 16) }
+    ensures { (1 ≤ result) × (result ≤ 16) }
 {
-    1
+    match problem {
+        Problem::Pair { first, second, .. } => {
+            if has_union(first) || has_union(second) {
+                workers
+            } else {
+                1
+            }
+        }
+        _ => 1,
+    }
 }

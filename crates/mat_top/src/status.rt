@@ -34,6 +34,10 @@ pub enum Status {
     TooLong,
     /// The form of the problem is not the command's.
     WrongShape,
+    /// A cost is below 0 or has a tie, so that no weights of vertex sets can pay for it.
+    BadCost,
+    /// The list of jobs has a line that is not the needed one.
+    BadList,
 }
 
 impl Status {
@@ -52,6 +56,8 @@ impl Status {
             Status::Memory => 7,
             Status::TooLong => 8,
             Status::WrongShape => 9,
+            Status::BadCost => 13,
+            Status::BadList => 14,
         }
     }
 }
@@ -86,6 +92,12 @@ pub(crate) enum Refusal {
     /// The form of the problem is not the command's.
     #[error("the form of the problem is not the command's")]
     WrongShape,
+    /// A cost is below 0 or has a tie.
+    #[error("a cost is below 0 or has a tie")]
+    BadCost,
+    /// The first line of the list that is not the needed one, by its number.
+    #[error("line {0} of the list is not the needed one")]
+    BadList(u32),
 }
 
 impl Refusal {
@@ -103,6 +115,8 @@ impl Refusal {
             Refusal::Memory => Status::Memory,
             Refusal::TooLong => Status::TooLong,
             Refusal::WrongShape => Status::WrongShape,
+            Refusal::BadCost => Status::BadCost,
+            Refusal::BadList(_) => Status::BadList,
         }
     }
 }

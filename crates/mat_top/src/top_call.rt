@@ -3,107 +3,61 @@
 ghost use Rattle.std.specs.Prelude.{◌≡◌, ◌≤◌, ◌<◌, ◌↔◌, ◌⊎◌, ℕ, List, map, string_bytes, length};
 ghost use Rattle.std.specs.Prelude.{IfOk, IfErr, IfSome, Some, None};
 ghost use Rattle.mat_shelf.specs.Faults.{Rose};
-ghost use Rattle.mat_desc.specs.Grammar.{IsValid};
-ghost use Rattle.mat_desc.specs.Soundness.{IsSoundInstance};
-ghost use Rattle.mat_desc.specs.Views.{instance_of};
 ghost use Rattle.mat_top.specs.CommandLines.{command_line, asked_by};
-ghost use Rattle.mat_top.specs.Commands.{task_of, IsQueryInRange};
-ghost use Rattle.mat_top.specs.Outcomes.{Tells, IsStatus, IsOutcome, IsWritten, CallReaches, IsNote, IsNoted, yes_text};
-ghost use Rattle.mat_top.specs.Refusals.{HasText, HasNoText, HasSolutionText, IsUnsolved, MayBeWritten, IsRefusal, IsPut, IsEnded};
+ghost use Rattle.mat_top.specs.Commands.{task_of};
+ghost use Rattle.mat_top.specs.Outcomes.{Tells, IsStatus, IsOutcome, IsWritten, CallReaches, IsNote, IsNoted};
+ghost use Rattle.mat_top.specs.Refusals.{MayBeWritten, IsRefusal, IsPut, IsEnded};
+ghost use Rattle.mat_top.specs.Views.{all_texts};
 
+use crate::about::text_about;
+use crate::batch::batch_texts;
 use crate::command::{Command, CommandLine};
 use crate::command_words::command_line;
-use crate::judge::judge;
 use crate::notes::put_note;
-use crate::query::Query;
-use crate::reading::read_all;
-use crate::solve::solve;
+use crate::sampling::sample_text;
 use crate::status::{Refusal, Status};
-use crate::writing::put_all;
-use mat_cert::write_answer;
-use mat_desc::{Problem, read_problem, write_problem};
+use crate::writing::put_texts;
 use mat_shelf::{Shelf, Sink};
 use std::alloc::{AllocError, Global};
 use std::thread::Threads;
 
-/// The most bytes that a description may have.
-const DESCRIPTION_LIMIT: usize = 4_194_304;
-
-// The text of a right answer to the query.
-fn solution_text<R: Threads + Sync>(
-    rt: &R,
-    alloc: Global,
-    problem: &Problem,
-    query: Query,
-    workers: u32,
-) -> Result<Vec<u8>, Refusal>
-    requires valid { IsValid (instance_of problem.now) }
-    requires sound { IsSoundInstance (instance_of problem.now) }
-    requires range { IsQueryInRange query }
-    requires workers { (1 ≤ workers) × (workers ≤ 16) }
-    ensures text { IfOk result (λ v. HasSolutionText query (instance_of problem.now) v.items) }
-    ensures refusal { IfErr result (λ e. IsUnsolved query (instance_of problem.now) e) }
+// One text, as the only one.
+fn alone(alloc: Global, text: Vec<u8>) -> Result<Vec<Vec<u8>>, AllocError>
+    ensures { IfOk result (λ v. all_texts v.items ≡ text.items) }
 {
-    let answer = solve(rt, alloc, problem, query, workers)?;
-    Ok(write_answer(alloc, &answer)?)
+    Ok(vec![in alloc; text]?)
 }
 
-// The text that says that a certificate is right.
-fn yes(alloc: Global) -> Result<Vec<u8>, AllocError>
-    ensures { IfOk result (λ v. v.items ≡ yes_text) }
-{
-    b"yes\n".to_vec(alloc)
-}
-
-// What the command writes for a problem.
-fn text_for<R: Threads + Sync, F: Shelf>(
+// What the command writes: texts, one after the other.
+fn texts_for<R: Threads + Sync, F: Shelf>(
     rt: &R,
     alloc: Global,
     files: &mut F,
     line: &CommandLine<'_>,
-    problem: &Problem,
-) -> Result<Vec<u8>, Refusal>
-    requires valid { IsValid (instance_of problem.now) }
-    requires sound { IsSoundInstance (instance_of problem.now) }
+) -> Result<Vec<Vec<u8>>, Refusal>
     ensures held { (name : List ℕ) → F.held files.new name ≡ F.held files.old name }
     ensures grows { (name : List ℕ) → F.faults files.old name ≤ F.faults files.new name }
-    ensures text { IfOk result (λ v. HasText (F.held files.old) (task_of line.now.command) (instance_of problem.now) v.items) }
-    ensures refusal { IfErr result (λ e. HasNoText (F.held files.old) (task_of line.now.command) (instance_of problem.now)
-        (F.faults files.old) (F.faults files.new) e) }
-{
-    match line.command {
-        Command::Show { .. } => Ok(write_problem(alloc, problem)?),
-        Command::Solve { query, .. } => solution_text(rt, alloc, problem, query, line.workers),
-        Command::Check { certificate, .. } => {
-            judge(rt, alloc, files, certificate, problem, line.workers)?;
-            Ok(yes(alloc)?)
-        }
-    }
-}
-
-// What the command writes for the description in its file.
-fn answer<R: Threads + Sync, F: Shelf>(
-    rt: &R,
-    alloc: Global,
-    files: &mut F,
-    line: &CommandLine<'_>,
-) -> Result<Vec<u8>, Refusal>
-    ensures held { (name : List ℕ) → F.held files.new name ≡ F.held files.old name }
-    ensures grows { (name : List ℕ) → F.faults files.old name ≤ F.faults files.new name }
-    ensures text { IfOk result (λ v. MayBeWritten (F.held files.old) (task_of line.now.command) v.items) }
+    ensures text { IfOk result (λ v. MayBeWritten (F.held files.old) (task_of line.now.command) (all_texts v.items)) }
     ensures refusal { IfErr result (λ e. IsRefusal (F.held files.old) (task_of line.now.command) (F.faults files.old) (F.faults files.new) e) }
 {
-    let bytes = read_all(alloc, files, line.command.description(), DESCRIPTION_LIMIT)?;
-    let problem = read_problem(alloc, &bytes)?;
-    text_for(rt, alloc, files, line, &problem)
+    let text = match line.command {
+        Command::About { file, request } => {
+            text_about(rt, alloc, files, file, request, line.workers)?
+        }
+        Command::Sample { kind, size, seed } => {
+            sample_text(rt, alloc, kind, size, seed, line.workers)?
+        }
+        Command::Batch { list } => return batch_texts(rt, alloc, files, list, line.workers),
+    };
+    Ok(alone(alloc, text)?)
 }
 
-// Writes a text, and tells how that ended.
-fn written<O: Sink>(out: &mut O, text: &[u8]) -> Result<(), Refusal>
+// Writes texts one after the other, and tells how that ended.
+fn written<O: Sink>(out: &mut O, texts: &[Vec<u8>]) -> Result<(), Refusal>
     ensures grows { O.faults out.old ≤ O.faults out.new }
-    ensures put { IsPut text.now (O.written out.old) (O.faults out.old) (O.written out.new) (O.faults out.new) result }
+    ensures put { IsPut (all_texts texts.now) (O.written out.old) (O.faults out.old) (O.written out.new) (O.faults out.new) result }
 {
-    put_all(out, text).map_err(|_failed| Refusal::WriteFault)
+    put_texts(out, texts).map_err(|_failed| Refusal::WriteFault)
 }
 
 // Does what the command says, and tells how that ended.
@@ -120,19 +74,19 @@ fn perform<R: Threads + Sync, F: Shelf, O: Sink>(
     ensures ended { IsEnded (F.held files.old) (task_of line.now.command) (F.faults files.old) (F.faults files.new)
         (O.written out.old) (O.faults out.old) (O.written out.new) (O.faults out.new) result }
 {
-    let text = answer(rt, alloc, files, line)?;
-    written(out, &text)
+    let texts = texts_for(rt, alloc, files, line)?;
+    written(out, &texts)
 }
 
 /// Does what the words ask for: reads its files from the shelf, writes the answer to `out` and, where it is refused, a note to
 /// `notes`, and answers how it ended. The words are those after the program's name. Up to as many workers as they name, from 1 to 16 and
-/// 1 where they name none, compute the rows of tables side by side; what is right doesn't depend on how many. Threads are started by
-/// `rt`, and each has ended when the call returns.
+/// 1 where they name none, compute the rows of tables or answer the jobs of a list side by side; what is right doesn't depend on how many.
+/// Threads are started by `rt`, and each has ended when the call returns.
 ///
 /// Usage comes exactly where the words are no command, ReadFault only where the shelf's count of faults rose for a file of the call, and
 /// WriteFault only where the count of `out` rose. Where the shelf tells the files, each other status but Memory is the one of the
-/// table in docs/DEFINITIONS.md: TooLong, BadDescription, BadCertificate, WrongShape, No or Done. Nothing is written to `out` but on Done, when it
-/// is the whole answer, and on WriteFault, when it is a prefix of it.
+/// table in docs/DEFINITIONS.md: TooLong, BadList, BadDescription, BadCertificate, WrongShape, BadCost, No or Done. Nothing is written to
+/// `out` but on Done, when it is the whole answer, and on WriteFault, when it is a prefix of it.
 pub fn run<R: Threads + Sync, F: Shelf, O: Sink, N: Sink>(
     rt: &R,
     alloc: Global,

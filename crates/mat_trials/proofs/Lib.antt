@@ -1,1 +1,2 @@
 pub mod FreeTables
+pub mod OpenParts

@@ -41,6 +41,22 @@ pub(crate) fn one_file(alloc: Global, bytes: Vec<u8>) -> Result<Vec<NamedFile>, 
     Ok(files)
 }
 
+/// The two files `f` and `c` with these bytes.
+pub(crate) fn two_files(
+    alloc: Global,
+    first: Vec<u8>,
+    second: Vec<u8>,
+) -> Result<Vec<NamedFile>, AllocError>
+    ensures { IfOk result (λ files. HaveDifferentNames files.items) }
+{
+    let first = NamedFile::new(String::from_str(alloc, "f")?, first);
+    let second = NamedFile::new(String::from_str(alloc, "c")?, second);
+    let mut files = Vec::new(alloc);
+    files.push(first)?;
+    files.push(second)?;
+    Ok(files)
+}
+
 /// A sink that never fails before it is full.
 pub(crate) fn sink(alloc: Global) -> Result<MemSink, AllocError> {
     MemSink::new(alloc, ROOM, STEP, Vec::new(alloc))

@@ -6,6 +6,7 @@
 
 mod calls;
 mod cases;
+mod each;
 mod faults;
 mod known;
 mod meeting;
@@ -16,6 +17,7 @@ mod samples;
 mod shared;
 mod unions;
 
+use crate::each::each_report;
 use crate::faults::fault_report;
 use crate::known::known_report;
 use crate::meeting::meeting_report;
@@ -59,6 +61,9 @@ fn main(rt: HostRuntime) -> io::Result<()> {
     }
     let cases = fs::read_to_string(&rt, "cases.txt")?;
     let report = cases_report(&rt, alloc, cases.as_str())?;
+    rt.stdout().write_all(report.as_slice())?;
+    let cases = fs::read_to_string(&rt, "each.txt")?;
+    let report = each_report(&rt, alloc, cases.as_str())?;
     rt.stdout().write_all(report.as_slice())?;
     let report = fault_report(&rt, alloc)?;
     rt.stdout().write_all(report.as_slice())?;

@@ -8,11 +8,14 @@ use std::io::Input;
 use std::rt::Files;
 use std::thread::Threads;
 
-// The words of the calls: a description that is there, one that isn't, and a certificate that isn't.
-const LINES: [&[&str]; 3] = [
+// The words of the calls: a description that is there, one that isn't, a certificate that isn't, and two lists of jobs, of which the second
+// names a file that isn't there.
+const LINES: [&[&str]; 5] = [
     &["show", "pair.txt"],
     &["show", "missing.txt"],
     &["check", "pair.txt", "missing.txt"],
+    &["batch", "--workers", "4", "jobs.txt"],
+    &["batch", "more_jobs.txt"],
 ];
 
 /// What is told of files that are there and of files that aren't.

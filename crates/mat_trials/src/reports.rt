@@ -1,13 +1,13 @@
 //! What is printed of a case.
 
-use crate::calls::{ended_alone, ended_beside, words_of};
+use crate::calls::{ended_beside, words_of};
 use crate::cases::{Case, cases_of};
-use crate::shared::is_same_for_all;
+use crate::shared::{ended_of, is_same_for_all};
 use std::alloc::{AllocError, Global};
 use std::thread::Threads;
 
-// The line of the words of a case.
-fn heading_of(alloc: Global, words: &[String]) -> Result<Vec<u8>, AllocError> {
+/// The line of the words of a case.
+pub(crate) fn heading_of(alloc: Global, words: &[String]) -> Result<Vec<u8>, AllocError> {
     let mut heading = Vec::new(alloc);
     heading.push(b'>')?;
     for word in words {
@@ -32,11 +32,16 @@ const SOLVING: [&str; 10] = [
     "assign",
 ];
 
-// Whether the command is one that prints a certificate.
-fn asks_to_solve(words: &[String]) -> bool {
+/// Whether the command is one that prints a certificate.
+pub(crate) fn asks_to_solve(words: &[String]) -> bool {
     words
         .first()
         .is_some_and(|word| SOLVING.iter().any(|name| *name == word.as_str()))
+}
+
+/// Whether this is the command.
+pub(crate) fn is_command(words: &[String], name: &str) -> bool {
+    words.first().is_some_and(|word| word.as_str() == name)
 }
 
 // Whether the words have the option.
@@ -76,6 +81,20 @@ fn add_fixed_lines(report: &mut Vec<u8>, certificate: &[u8]) -> Result<(), Alloc
     Ok(())
 }
 
+// Adds the header of an answer that weighted vertex sets prove, without the number of these sets, which is open.
+fn add_cost(report: &mut Vec<u8>, text: &[u8]) -> Result<(), AllocError> {
+    for line in text.split(|byte| *byte == b'\n') {
+        if line.starts_with(b"answer ") {
+            for word in line.split(|byte| *byte == b' ').take(4) {
+                report.extend_from_slice(word)?;
+                report.push(b' ')?;
+            }
+            report.push(b'\n')?;
+        }
+    }
+    Ok(())
+}
+
 // Adds what the judge says of a certificate that was printed.
 fn add_judgement<R: Threads + Sync>(
     rt: &R,
@@ -91,47 +110,59 @@ fn add_judgement<R: Threads + Sync>(
     report.extend_from_slice(judged.out.taken())
 }
 
-// Adds whether a certificate that was printed is the same for each number of workers, where the words have no option.
+// Adds whether what was printed is the same for each number of workers, where the words have no option.
 fn add_comparison<R: Threads + Sync>(
     rt: &R,
     alloc: Global,
     report: &mut Vec<u8>,
     case: &Case,
-    certificate: &[u8],
+    text: &[u8],
 ) -> Result<(), AllocError> {
     if has_option(&case.words) {
         return Ok(());
     }
-    let description = case.description.as_str();
-    if is_same_for_all(rt, alloc, &case.words, description, certificate)? {
+    if is_same_for_all(rt, alloc, case, text)? {
         report.extend_from_slice(b"workers same\n")
     } else {
         report.extend_from_slice(b"workers differ\n")
     }
 }
 
-// The words of a case, the status with which the top call ends, its note, and what it writes: of a certificate the lines that every
-// right answer has, what the judge says of it, and whether it is the same for each number of workers, and every other text whole.
+// Adds what is told of what a command that was done wrote: of certificates the lines that every right answer has, what the judge says of one,
+// and whether they are the same for each number of workers; of an answer with weighted vertex sets its cost; and every other text whole.
+fn add_output<R: Threads + Sync>(
+    rt: &R,
+    alloc: Global,
+    report: &mut Vec<u8>,
+    case: &Case,
+    text: &[u8],
+) -> Result<(), AllocError> {
+    if is_command(&case.words, "cuts") {
+        return add_cost(report, text);
+    }
+    if is_command(&case.words, "batch") {
+        add_fixed_lines(report, text)?;
+        return add_comparison(rt, alloc, report, case, text);
+    }
+    if asks_to_solve(&case.words) {
+        add_fixed_lines(report, text)?;
+        add_judgement(rt, alloc, report, case.description.as_str(), text)?;
+        return add_comparison(rt, alloc, report, case, text);
+    }
+    report.extend_from_slice(text)
+}
+
+// The words of a case, the status with which the top call ends, its note, and what is told of what it writes.
 fn report_of<R: Threads + Sync>(rt: &R, alloc: Global, case: &Case) -> Result<Vec<u8>, AllocError> {
-    let description = case.description.as_str();
-    let ended = match &case.certificate {
-        Some(text) => {
-            let bytes = text.as_bytes().to_vec(alloc)?;
-            ended_beside(rt, alloc, &case.words, description, bytes)?
-        }
-        None => ended_alone(rt, alloc, &case.words, description)?,
-    };
+    let ended = ended_of(rt, alloc, case, &case.words)?;
     let number = ended.status.number();
     let mut report = heading_of(alloc, &case.words)?;
     report.extend_from_slice(format!(in alloc; "status {number}\n")?.as_bytes())?;
     report.extend_from_slice(ended.notes.taken())?;
-    if !asks_to_solve(&case.words) {
+    if number == 0 {
+        add_output(rt, alloc, &mut report, case, ended.out.taken())?;
+    } else {
         report.extend_from_slice(ended.out.taken())?;
-    } else if number == 0 {
-        let certificate = ended.out.taken();
-        add_fixed_lines(&mut report, certificate)?;
-        add_judgement(rt, alloc, &mut report, description, certificate)?;
-        add_comparison(rt, alloc, &mut report, case, certificate)?;
     }
     Ok(report)
 }

@@ -1,6 +1,7 @@
-//! Certificates that several workers compute.
+//! Cases that several workers compute.
 
-use crate::calls::ended_alone;
+use crate::calls::{Ended, ended_alone, ended_beside};
+use crate::cases::Case;
 use std::alloc::{AllocError, Global};
 use std::thread::Threads;
 
@@ -20,18 +21,34 @@ fn with_workers(alloc: Global, words: &[String], number: &str) -> Result<Vec<Str
     Ok(all)
 }
 
-/// Whether a solving command over the file `f`, without the option, writes these bytes for each number of workers.
+/// Runs the top call with these words over the files of a case.
+pub(crate) fn ended_of<R: Threads + Sync>(
+    rt: &R,
+    alloc: Global,
+    case: &Case,
+    words: &[String],
+) -> Result<Ended, AllocError> {
+    let description = case.description.as_str();
+    match &case.certificate {
+        Some(text) => {
+            let bytes = text.as_bytes().to_vec(alloc)?;
+            ended_beside(rt, alloc, words, description, bytes)
+        }
+        None => ended_alone(rt, alloc, words, description),
+    }
+}
+
+/// Whether a case, whose words have no option, writes these bytes for each number of workers.
 pub(crate) fn is_same_for_all<R: Threads + Sync>(
     rt: &R,
     alloc: Global,
-    words: &[String],
-    description: &str,
-    certificate: &[u8],
+    case: &Case,
+    text: &[u8],
 ) -> Result<bool, AllocError> {
     for number in WORKERS.iter() {
-        let words = with_workers(alloc, words, *number)?;
-        let ended = ended_alone(rt, alloc, &words, description)?;
-        if ended.out.taken() != certificate {
+        let words = with_workers(alloc, &case.words, *number)?;
+        let ended = ended_of(rt, alloc, case, &words)?;
+        if ended.out.taken() != text {
             return Ok(false);
         }
     }

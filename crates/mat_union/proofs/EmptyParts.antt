@@ -1,19 +1,20 @@
--- Empty parts, with which parts begin to grow.
-use Rattle.std.proofs.Common.{◌≡◌, ℕ, ◌+◌, Bool, true, false, not, ◌&&◌, ltb, cond, List, [], ◌∷◌, ◌++◌, length, get_or, inl, inr, refl, sym, ap, ◌∙◌, arith, length-append}
+-- Empty parts, and one set with empty ones, with which parts begin to grow.
+use Rattle.std.proofs.Common.{◌≡◌, ℕ, ◌+◌, ◌<◌, Bool, true, false, not, ◌&&◌, ltb, cond, List, [], ◌∷◌, ◌++◌, length, get_or, inl, inr, refl, sym, ap, ◌∙◌, arith, length-append}
 use Rattle.std.proofs.Math.Seq.{get_or-append_seam}
 use Rattle.std.proofs.lemmas.Bool.{both_ways, cases_Bool, cases_eq, cases_lt, false≢true, false_from_ne_true}
 use Rattle.std.proofs.lemmas.List.{get_or_append_left, get_or_past}
 use Rattle.mat_sets.specs.Families.{family_union}
 use Rattle.mat_sets.specs.Search.{those_below}
-use Rattle.mat_sets.specs.Sets.{all_below, is_member, intersection, with_one}
-use Rattle.mat_sets.proofs.Families.{family_union-gives}
+use Rattle.mat_sets.specs.Sets.{all_below, is_member, intersection, with_one, IsRising}
+use Rattle.mat_sets.proofs.Families.{family_union-from, family_union-gives, IsRising-family_union}
 use Rattle.mat_sets.proofs.Ground.{is_member-all_below, IsSet-nil}
-use Rattle.mat_sets.proofs.Members.{intersection-none}
+use Rattle.mat_sets.proofs.Members.{intersection-none, same_members}
 use Rattle.mat_sets.proofs.Rounds.{those_below-put, those_below-skip}
 use Rattle.mat_laws.proofs.RankLaws.{rank-maximal}
 use Rattle.mat_sets.proofs.Members.{IsRising-nil}
 use Rattle.mat_union.specs.GrownParts.{AreDone, AreGrowing}
 use Rattle.mat_union.specs.PartLists.{AreDisjoint-index}
+use Rattle.mat_union.specs.Shifts.{same_tests}
 use Rattle.mat_union.specs.Unions.{part_at, test_at, AreMatroids, AreParts}
 
 -- so many empty sets
@@ -67,6 +68,49 @@ module _ {n : ℕ} {tests : List (List ℕ → Bool)} (laws : AreMatroids n test
     refused = λ v h. h;
     all = λ v l h. absurd (false≢true h);
   })
+
+-- ---- a set and empty ones
+
+-- the first of so many sets is this one, and the others are empty
+pub record AreFirst (n : ℕ) (sets : List (List ℕ)) (first : List ℕ) : Type 0 where
+  pub long : length sets ≡ n
+  pub begins : part_at sets 0 ≡ first
+  pub others : (i : ℕ) → 0 < i → part_at sets i ≡ []
+
+pub first_one : (sets : List (List ℕ)) (first : List ℕ) → sets ≡ first ∷ [] → AreFirst 1 sets first
+first_one sets first e = rw e (record { long = refl; begins = refl; others = λ i l. get_or_past (first ∷ []) i [] (omega arith) })
+
+pub first_more : (n : ℕ) (sets : List (List ℕ)) (first set : List ℕ) → 0 < n → AreFirst n sets first → set ≡ [] → AreFirst (n + 1) (sets ++ set ∷ []) first
+first_more n sets first set some a e = rw e (record {
+  long = (let l = length-append sets ([] ∷ []) in let k = a.long in omega arith);
+  begins = get_or_append_left sets ([] ∷ []) [] 0 (let k = a.long in omega arith) ∙ a.begins;
+  others = λ i h. elim (cases_lt i (length sets)) [
+    | inl l ↦ get_or_append_left sets ([] ∷ []) [] i l ∙ a.others i h
+    | inr g ↦ elim (cases_eq i (length sets)) [
+      | inl d ↦ ap (λ k. get_or (sets ++ [] ∷ []) k []) d ∙ get_or-append_seam sets [] [] []
+      | inr d ↦ get_or_past (sets ++ [] ∷ []) i [] (let l = length-append sets ([] ∷ []) in omega arith)
+    ]
+  ];
+})
+
+module _ (sets : List (List ℕ)) (first : List ℕ) (at : part_at sets 0 ≡ first) (others : (i : ℕ) → 0 < i → part_at sets i ≡ []) where
+  only_first : (i v : ℕ) → is_member v (part_at sets i) ≡ true → i ≡ 0
+  only_first i v h = elim (cases_eq i 0) [ inl e ↦ e | inr d ↦ absurd (both_ways false refl (ap (is_member v) (sym (others i (omega arith))) ∙ h)) ]
+
+  pub first_together : 0 < length sets → IsRising first → family_union sets ≡ first
+  first_together some rises = same_members (family_union sets) first (IsRising-family_union sets) rises (λ v. same_tests (is_member v (family_union sets)) (is_member v first)
+      (λ h. let w = family_union-gives v sets h in ap (is_member v) (sym at) ∙ ap (λ i. is_member v (part_at sets i)) (sym (only_first w.0 v w.2)) ∙ w.2)
+      (λ h. family_union-from v sets 0 some (ap (is_member v) at ∙ h)))
+
+  pub first_are : {n : ℕ} {tests : List (List ℕ → Bool)} → AreMatroids n tests → length sets ≡ length tests → test_at tests 0 first ≡ true → AreParts tests sets
+  first_are {n} {tests} laws long passes = record {
+    one_each = long;
+    disjoint = AreDisjoint-index sets (λ i j x l h m. ap (is_member x) (others j (omega arith)));
+    passes = λ i l. elim (cases_eq i 0) [
+      | inl e ↦ ap (λ k. test_at tests k (part_at sets k)) e ∙ ap (test_at tests 0) at ∙ passes
+      | inr d ↦ ap (test_at tests i) (others i (omega arith)) ∙ (laws.each i (omega arith)).empty
+    ];
+  }
 
 -- ---- the elements below n that pass, one after the other
 

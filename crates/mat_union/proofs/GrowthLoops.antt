@@ -1,5 +1,5 @@
 -- The loop that adds elements one after the other: what is done is what was done before and those that came; the others are still new.
-use Rattle.std.proofs.Common.{◌≡◌, ℕ, ◌+◌, ◌<◌, ◌≤◌, Bool, true, false, not, ◌||◌, eqb, ltb, List, length, get_or, take, refl, sym, ap, ◌∙◌, arith}
+use Rattle.std.proofs.Common.{◌≡◌, ℕ, ◌+◌, ◌<◌, ◌≤◌, Bool, true, false, not, ◌||◌, ◌&&◌, eqb, ltb, List, length, get_or, take, refl, sym, ap, ◌∙◌, arith}
 use Rattle.std.proofs.lemmas.Bool.{and_from, both_ways, false_from_ne_true, lt-ltb, not_from_false, or_from, or_left, or_right}
 use Rattle.std.proofs.lemmas.List.{take_all}
 use Rattle.mat_sets.specs.Families.{family_union}
@@ -71,6 +71,13 @@ module _ {n : ℕ} {elements : List ℕ} {i : ℕ} {start : List (List ℕ)} {st
 -- what is not dead is alive
 pub lives : {n : ℕ} {tests : List (List ℕ → Bool)} {parts : List (List ℕ)} {dead alive : List ℕ} → AreGrowing n tests parts dead alive → (v : ℕ) → v < n → is_member v dead ≡ false → is_member v alive ≡ true
 lives {n} {tests} {parts} {dead} g v l o = g.others v ∙ and_from (ltb v n) (not (is_member v dead)) (lt-ltb v n l) (not_from_false (is_member v dead) o)
+
+-- what is not alive is dead
+pub dies : {n : ℕ} {tests : List (List ℕ → Bool)} {parts : List (List ℕ)} {dead alive : List ℕ} → AreGrowing n tests parts dead alive → (v : ℕ) → v < n → is_member v alive ≡ false → is_member v dead ≡ true
+dies {n} {tests} {parts} {dead} g v l o = gone (ltb v n) (is_member v dead) (lt-ltb v n l) (sym (g.others v) ∙ o)
+  where
+    gone : (a d : Bool) → a ≡ true → (a && not d) ≡ false → d ≡ true
+    gone a d e h = grind arith
 
 pub coming_end : {n : ℕ} {elements : List ℕ} {i : ℕ} {start : List (List ℕ)} {start_dead : List ℕ} {parts : List (List ℕ)} {dead : List ℕ} → AreComing n elements i start start_dead parts dead → length elements ≤ i
     → (done : ℕ → Bool) → AreDone n done start start_dead → AreDone n (λ v. done v || is_member v elements) parts dead

@@ -26,3 +26,5 @@ pub mod FillingParts
 pub mod PartsOfSets
 pub mod KeptRows
 pub mod SearchEnds
+pub mod AddedElements
+pub mod UnionRuns

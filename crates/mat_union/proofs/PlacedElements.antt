@@ -16,7 +16,7 @@ use Rattle.mat_union.specs.Unions.{part_at, AreMatroids, AreParts}
 use Rattle.mat_union.specs.declared.move_search.MoveSearch.{MoveSearch}
 use Rattle.mat_union.specs.declared.moves.Move.{Move}
 
-entering_elements : (moves : List Move) (q z : ℕ) → is_member z (entering moves q) ≡ true → is_member z (elements moves) ≡ true
+pub entering_elements : (moves : List Move) (q z : ℕ) → is_member z (entering moves q) ≡ true → is_member z (elements moves) ≡ true
 entering_elements moves q z h =
     let w = entering_gives moves q z h in
     let l : w.0 < length (elements moves) = (let a = w.1 in let b : length (elements moves) ≡ length moves = length-map moves (λ v. v.element) in omega arith) in

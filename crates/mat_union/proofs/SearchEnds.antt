@@ -1,6 +1,6 @@
--- At the end of a search among all elements: moves make parts that hold one element more; where there are none, what was reached is what is
+-- At the end of a search among all elements: after moves the start takes any place; where there are none, what was reached is what is
 -- reached along all exchanges, since each element that was reached is told, and so it tells the exchanges of the start.
-use Rattle.std.proofs.Common.{Global, Vec, ◌≡◌, ℕ, ◌<◌, ◌≤◌, Bool, true, false, not, ◌&&◌, eqb, List, [], length, map, take, Option, inl, inr, refl, sym, ap, ◌∙◌, subst, arith}
+use Rattle.std.proofs.Common.{Global, Vec, ◌≡◌, ℕ, ◌<◌, Bool, true, false, eqb, List, length, take, Option, inl, inr, sym, ap, ◌∙◌, subst, arith}
 use Rattle.std.proofs.lemmas.Bool.{both_ways, cases_Bool, eqb-true, lt-ltb}
 use Rattle.std.proofs.lemmas.List.{take_all}
 use Rattle.std.specs.List.{filter}
@@ -18,31 +18,30 @@ use Rattle.mat_laws.specs.declared.exchange.Exchange.{Exchange}
 use Rattle.mat_laws.specs.Exchanges.{row_of}
 use Rattle.mat_laws.specs.TightPaths.{Exchanges}
 use Rattle.mat_laws.proofs.Rows.{exchanged, row_outside}
-use Rattle.mat_union.specs.EndedSearches.{HoldMore, IsEnded}
-use Rattle.mat_union.specs.Moves.{can_push, exchanges_with, moved}
+use Rattle.mat_union.specs.EndedSearches.{IsEnded}
+use Rattle.mat_union.specs.Moves.{can_push, exchanges_with}
 use Rattle.mat_union.specs.MoveSearches.{row_of_table, AreFoundMoves, IsReaching}
 use Rattle.mat_union.specs.PartLists.{part_set, parts_pass}
 use Rattle.mat_union.specs.Unions.{AreMatroids, AreParts, union_test}
 use Rattle.mat_union.specs.UnionLaws.{addable_takes_all, exchanges_reached, trade_gives}
 use Rattle.mat_union.specs.declared.move_search.MoveSearch.{MoveSearch}
 use Rattle.mat_union.specs.declared.moves.Move.{Move}
-use Rattle.mat_union.proofs.PlacedElements.{moved_list}
 use Rattle.mat_union.proofs.StuckParts.{stuck_refuses}
 
 -- what a search tells of its moves, at parts that are given in another way
-pub moves_told : {n : ℕ} {tests : List (List ℕ → Bool)} {parts : List (List ℕ)} {x : ℕ} {s : MoveSearch} → IsEnded n tests parts x s → (p : List (List ℕ)) → p ≡ parts
+pub moves_told : {n : ℕ} {tests : List (List ℕ → Bool)} {parts : List (List ℕ)} {among : List ℕ} {x : ℕ} {s : MoveSearch} → IsEnded n tests parts among x s → (p : List (List ℕ)) → p ≡ parts
     → (found : Option (Vec Move Global))
     → ((n : ℕ) (tests : List (List ℕ → Bool)) (among : List ℕ) (start : ℕ) → AreMatroids n tests → AreParts tests p
     → IsReaching n (length p) (exchanges_with tests p) among start s → is_member start (family_union p) ≡ false
     → MatchOption found (s.entered ≡ false) (λ (m : Vec Move Global). AreFoundMoves tests p s m.items))
     → MatchOption found (s.entered ≡ false) (λ (m : Vec Move Global). AreFoundMoves tests parts s m.items)
-moves_told {n} {tests} {parts} {x} {s} e p same found told =
+moves_told {n} {tests} {parts} {among} {x} {s} e p same found told =
     let at = subst (λ q. (n : ℕ) (tests : List (List ℕ → Bool)) (among : List ℕ) (start : ℕ) → AreMatroids n tests → AreParts tests q
     → IsReaching n (length q) (exchanges_with tests q) among start s → is_member start (family_union q) ≡ false
     → MatchOption found (s.entered ≡ false) (λ (m : Vec Move Global). AreFoundMoves tests q s m.items)) same told in
-    at n tests (all_below n) x e.laws e.are e.reaching e.fresh
+    at n tests among x e.laws e.are e.reaching e.fresh
 
-module _ {n : ℕ} {tests : List (List ℕ → Bool)} {parts : List (List ℕ)} {x : ℕ} {s : MoveSearch} (e : IsEnded n tests parts x s) where
+module _ {n : ℕ} {tests : List (List ℕ → Bool)} {parts : List (List ℕ)} {x : ℕ} {s : MoveSearch} (e : IsEnded n tests parts (all_below n) x s) where
   abbrev S : List ℕ
   S = family_union parts
 
@@ -52,15 +51,7 @@ module _ {n : ℕ} {tests : List (List ℕ → Bool)} {parts : List (List ℕ)} 
   small : x < n
   small = e.reaching.so_far.below x e.reaching.so_far.first
 
-  pub more_parts : (moves : List Move) → AreFoundMoves tests parts s moves → (new : List (List ℕ)) → new ≡ map (moved parts moves) (all_below (length parts)) → HoldMore tests parts x new
-  more_parts moves found new made =
-      let is : new ≡ found.new = made ∙ moved_list tests parts moves found.new e.are found.moved in
-      record {
-        are = subst (AreParts tests) (sym is) found.moved.are;
-        together = ap family_union is ∙ found.moved.together ∙ ap (with_one S) (found.first ∙ e.reaching.from_start);
-      }
-
-  pub none_more : s.entered ≡ false → union_test n tests (with_one S x) ≡ false
+  none_more : s.entered ≡ false → union_test n tests (with_one S x) ≡ false
   none_more stuck = stuck_refuses e.laws e.are x s e.reaching (e.end stuck) e.fresh
 
   adds : (moves : List Move) → AreFoundMoves tests parts s moves → union_test n tests (with_one S x) ≡ true

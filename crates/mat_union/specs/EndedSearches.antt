@@ -1,7 +1,7 @@
--- Searches for moves that may reach all elements, at their end (Schrijver, chapter 42).
+-- Searches for moves at their end (Schrijver, chapter 42).
 use Rattle.std.specs.Prelude.{◌≡◌, ℕ, Bool, true, false, List, length, None, ◌<◌, ◌^◌}
 use Rattle.mat_sets.specs.Families.{family_union}
-use Rattle.mat_sets.specs.Sets.{all_below, is_member, with_one}
+use Rattle.mat_sets.specs.Sets.{is_member}
 use Rattle.mat_union.specs.Moves.{exchanges_with}
 use Rattle.mat_union.specs.MoveSearches.{IsQuestion, IsReaching}
 use Rattle.mat_union.specs.Unions.{AreMatroids, AreParts}
@@ -12,15 +12,10 @@ pub record IsReady (s : MoveSearch) : Type 0 where
   pub few : length s.table.items < 2 ^ 32
   pub asked : s.entered ≡ true → s.head < length s.queue.items
 
--- a search from x in no part, which may reach all elements below n and asks for nothing more
-pub record IsEnded (n : ℕ) (tests : List (List ℕ → Bool)) (parts : List (List ℕ)) (x : ℕ) (s : MoveSearch) : Type 0 where
+-- a search from x in no part, which may reach these elements and asks for nothing more
+pub record IsEnded (n : ℕ) (tests : List (List ℕ → Bool)) (parts : List (List ℕ)) (among : List ℕ) (x : ℕ) (s : MoveSearch) : Type 0 where
   pub laws : AreMatroids n tests
   pub are : AreParts tests parts
   pub fresh : is_member x (family_union parts) ≡ false
-  pub reaching : IsReaching n (length parts) (exchanges_with tests parts) (all_below n) x s
+  pub reaching : IsReaching n (length parts) (exchanges_with tests parts) among x s
   pub end : IsQuestion s None
-
--- parts that hold x too
-pub record HoldMore (tests : List (List ℕ → Bool)) (parts : List (List ℕ)) (x : ℕ) (new : List (List ℕ)) : Type 0 where
-  pub are : AreParts tests new
-  pub together : family_union new ≡ with_one (family_union parts) x

@@ -6,6 +6,8 @@ use Rattle.mat_union.specs.Moves.{exchanges_with}
 use Rattle.mat_union.specs.MoveSearches.{IsReaching}
 use Rattle.mat_union.specs.Unions.{part_at, union_test, AreParts}
 use Rattle.mat_union.specs.declared.move_search.MoveSearch.{MoveSearch}
+use Rattle.mat_union.specs.declared.ended.PlaceSearch.{PlaceSearch}
+use Rattle.mat_union.specs.declared.ended.PlaceSearch.TheVariants.{Placed, Stuck}
 
 -- new parts that hold x too; of the other elements only those among these have moved
 pub record ArePlaced (tests : List (List ℕ → Bool)) (parts : List (List ℕ)) (among : List ℕ) (x : ℕ) (new : List (List ℕ)) : Type 0 where
@@ -17,6 +19,11 @@ pub record ArePlaced (tests : List (List ℕ → Bool)) (parts : List (List ℕ)
 pub record IsStuckSearch (n : ℕ) (tests : List (List ℕ → Bool)) (parts : List (List ℕ)) (among : List ℕ) (x : ℕ) (s : MoveSearch) : Type 0 where
   pub reaching : IsReaching n (length parts) (exchanges_with tests parts) among x s
   pub end : length s.queue.items ≤ s.head
+
+-- new parts that hold x too, or a search from x that is stuck
+abbrev pub IsPlaceSearch : ℕ → List (List ℕ → Bool) → List (List ℕ) → List ℕ → ℕ → PlaceSearch → Type 0
+IsPlaceSearch n tests parts among x (Placed new) = ArePlaced tests parts among x new
+IsPlaceSearch n tests parts among x (Stuck s) = IsStuckSearch n tests parts among x s
 
 -- x has come into the parts, or they are as they were and a search from x is stuck
 abbrev pub IsPlacing : ℕ → List (List ℕ → Bool) → List (List ℕ) → List ℕ → ℕ → List (List ℕ) → Option MoveSearch → Type 0

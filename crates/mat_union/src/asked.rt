@@ -1,7 +1,8 @@
 //! What is asked of each matroid of a union.
 ghost use Rattle.std.specs.Prelude.{◌≡◌, ◌<◌, ℕ, List, [], Bool, true, false, IfOk};
-ghost use Rattle.mat_sets.specs.Sets.{AllBelow, is_member, IsSubset, union};
+ghost use Rattle.mat_sets.specs.Sets.{AllBelow, AreDistinct, is_member, union};
 ghost use Rattle.mat_laws.specs.Exchanges.{row_of};
+ghost use Rattle.mat_laws.specs.GreedyRuns.{grown_along};
 ghost use Rattle.mat_laws.specs.Matroids.{IsMatroid, IsMaximal};
 
 use mat_laws::{Exchange, Matroid};
@@ -36,6 +37,13 @@ pub(crate) trait Asked {
         requires sound { sound self.now }
         requires below { AllBelow (ground_size self.now) within.now }
         ensures { IfOk result (λ base. IsMaximal (indep self.now) (union [] within.now) base) };
+
+    /// The greedy run along an order in which no element stands twice.
+    fn run_along(&self, alloc: Global, order: &[u32]) -> Result<ElemSet, AllocError>
+        requires sound { sound self.now }
+        requires below { AllBelow (ground_size self.now) order.now }
+        requires distinct { AreDistinct order.now }
+        ensures { IfOk result (λ set. set ≡ grown_along (indep self.now) [] order.now) };
 
     /// What is kept of an independent set.
     fn keep_of(&self, alloc: Global, base: &ElemSet) -> Result<Self::Kept, AllocError>
@@ -77,6 +85,10 @@ impl<M: Matroid> Asked for M {
     fn base_within(&self, alloc: Global, within: &ElemSet) -> Result<ElemSet, AllocError> {
         self.lawful();
         self.grown_base(alloc, &ElemSet::new(alloc), within)
+    }
+
+    fn run_along(&self, alloc: Global, order: &[u32]) -> Result<ElemSet, AllocError> {
+        self.run(alloc, order)
     }
 
     fn keep_of(&self, alloc: Global, base: &ElemSet) -> Result<M::Kept, AllocError> {

@@ -1,9 +1,10 @@
-//! What a search for moves has found at its end, where it may reach all elements.
-ghost use Rattle.std.specs.Prelude.{◌≡◌, ◌<◌, ◌^◌, ℕ, List, Bool, false, length, IfOk, MatchOption};
+//! What a search for moves has found at its end.
+ghost use Rattle.std.specs.Prelude.{◌≡◌, ◌<◌, ◌^◌, ℕ, List, Bool, length, IfOk};
 ghost use Rattle.mat_sets.specs.Families.{family_union};
-ghost use Rattle.mat_sets.specs.Sets.{with_one, IsRising};
+ghost use Rattle.mat_sets.specs.Sets.{all_below, IsRising};
 ghost use Rattle.mat_laws.specs.Exchanges.{row_of};
-ghost use Rattle.mat_union.specs.EndedSearches.{HoldMore, IsEnded, IsReady};
+ghost use Rattle.mat_union.specs.EndedSearches.{IsEnded, IsReady};
+ghost use Rattle.mat_union.specs.Placings.{IsPlaceSearch};
 ghost use Rattle.mat_union.specs.Unions.{union_test};
 
 use crate::move_search::MoveSearch;
@@ -12,26 +13,35 @@ use mat_laws::Exchange;
 use mat_sets::{ElemSet, SetList};
 use std::alloc::{AllocError, Global};
 
-/// The parts after the moves that the search found, which hold its first element too; none where no disjoint independent sets hold that
-/// element and all in the parts. The only error is want of memory.
-pub fn parts_found(
+/// A place for an element among the parts.
+#[derive(Debug, Drop)]
+pub enum PlaceSearch {
+    /// New parts, which hold the element too.
+    Placed(SetList),
+    /// A search from the element that found no moves.
+    Stuck(MoveSearch),
+}
+
+/// The parts after the moves that the search found, which hold its first element too; else the search itself. The only error is want of
+/// memory.
+pub fn found_place(
     alloc: Global,
     parts: &SetList,
-    search: &MoveSearch,
-) -> Result<Option<SetList>, AllocError>
-    requires ready { IsReady search.now }
+    search: MoveSearch,
+) -> Result<PlaceSearch, AllocError>
+    requires ready { IsReady search }
     requires parts { length parts.now < 2 ^ 32 }
-    ensures { IfOk result (λ found. (n : ℕ) (tests : List (List ℕ → Bool)) (x : ℕ) → IsEnded n tests parts.now x search.now
-        → MatchOption found (union_test n tests (with_one (family_union parts.now) x) ≡ false) (λ new. HoldMore tests parts.now x new)) }
+    ensures { IfOk result (λ found. (n : ℕ) (tests : List (List ℕ → Bool)) (among : List ℕ) (x : ℕ)
+        → IsEnded n tests parts.now among x search → IsPlaceSearch n tests parts.now among x found) }
 {
     match search.moves(alloc, parts.as_slice())? {
-        Some(moves) => Ok(Some(moved_parts(alloc, parts, &moves)?)),
-        None => Ok(None),
+        Some(moves) => Ok(PlaceSearch::Placed(moved_parts(alloc, parts, &moves)?)),
+        None => Ok(PlaceSearch::Stuck(search)),
     }
 }
 
-/// The exchanges of the first element of the search at the set that the parts make up, in the union: after moves it can be added and takes
-/// any place, else it takes the places that were reached (Schrijver, chapter 42). The only error is want of memory.
+/// The exchanges of the first element of a search that may reach all elements, at the set that the parts make up, in the union: after moves
+/// it can be added and takes any place, else it takes the places that were reached (Schrijver, chapter 42). The only error is want of memory.
 pub fn row_by_search(
     alloc: Global,
     set: &ElemSet,
@@ -41,7 +51,7 @@ pub fn row_by_search(
     requires ready { IsReady search.now }
     requires parts { length parts.now < 2 ^ 32 }
     requires set { family_union parts.now ≡ set.now }
-    ensures row { IfOk result (λ e. (n : ℕ) (tests : List (List ℕ → Bool)) (x : ℕ) → IsEnded n tests parts.now x search.now
+    ensures row { IfOk result (λ e. (n : ℕ) (tests : List (List ℕ → Bool)) (x : ℕ) → IsEnded n tests parts.now (all_below n) x search.now
         → e ≡ row_of (union_test n tests) set.now x) }
     ensures rises { IfOk result (λ e. IsRising e.with) }
 {

@@ -8,6 +8,7 @@ ghost use Rattle.mat_union.specs.GrownParts.{AreDone, AreGrowing, AreKept, AreSo
 ghost use Rattle.mat_union.specs.Unions.{AreParts};
 ghost use Rattle.mat_union.specs.UnionsOf.{common_size, AreJoined};
 
+use crate::asked::Asked;
 use crate::best::grow_by;
 use crate::growth::{Growth, all_lawful, keep_all};
 use crate::move_graph::stands;
@@ -44,7 +45,7 @@ fn elements_left_out(alloc: Global, parts: &SetList, n: u32) -> Result<ElemSet, 
 }
 
 // These parts, and all elements are alive.
-fn growth_from<M: Matroid>(
+pub(crate) fn growth_from<M: Asked>(
     alloc: Global,
     matroids: &[M],
     parts: SetList,

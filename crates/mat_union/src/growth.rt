@@ -1,29 +1,34 @@
 //! Parts that grow by one element at a time.
-ghost use Rattle.std.specs.Prelude.{◌≡◌, ◌<◌, ◌^◌, ◌||◌, ◌&&◌, ◌==◌, ℕ, Bool, true, false, not, List, [], length, map, None, IfOk, OnOk};
+ghost use Rattle.std.specs.Prelude.{◌≡◌, ◌<◌, ◌^◌, ◌||◌, ◌&&◌, ◌==◌, ℕ, Bool, true, false, not, List, [], length, map, slice_set, None, IfOk, IfSome, OnOk, ◌≢◌};
 ghost use Rattle.mat_sets.specs.Families.{family_union};
 ghost use Rattle.mat_sets.specs.Sets.{is_member, IsRising, IsSubset};
 ghost use Rattle.mat_laws.specs.Exchanges.{row_of};
+ghost use Rattle.mat_laws.specs.GreedyRuns.{grown_by};
 ghost use Rattle.mat_union.specs.GrownParts.{AreDone, AreGrowing, AreKept, AreSound};
 ghost use Rattle.mat_union.specs.Moves.{exchanges_with};
 ghost use Rattle.mat_union.specs.MoveSearches.{IsQuestion, IsReaching};
-ghost use Rattle.mat_union.specs.Placings.{IsPlacing};
-ghost use Rattle.mat_union.specs.Unions.{AreMatroids, AreParts};
+ghost use Rattle.mat_union.specs.Placings.{IsPlaceSearch, IsPlacing};
+ghost use Rattle.mat_union.specs.Unions.{part_at, union_test, AreMatroids, AreParts};
 
 use crate::asked::Asked;
+use crate::ended::{PlaceSearch, found_place};
 use crate::move_search::MoveSearch;
-use crate::moved_sets::moved_parts;
-use mat_laws::{Exchange, Matroid};
+use crate::moved_sets::parts_with;
+use mat_laws::Exchange;
 use mat_sets::{BitSet, ElemSet, SetList};
 use std::alloc::{AllocError, Global};
 
 /// Disjoint independent sets, what each matroid keeps of its set, and the elements that no set can take any more.
 #[derive(Drop)]
-pub(crate) struct Growth<K: Drop> {
-    pub(crate) parts: SetList,
-    pub(crate) kept: Vec<K>,
-    pub(crate) dead: ElemSet,
-    // The elements that are not dead.
-    pub(crate) alive: BitSet,
+pub struct Growth<K: Drop> {
+    /// The sets.
+    pub parts: SetList,
+    /// What each matroid keeps of its set.
+    pub kept: Vec<K>,
+    /// The elements that no set can take any more, with those that stand in the way.
+    pub dead: ElemSet,
+    /// The elements that are not dead.
+    pub alive: BitSet,
 }
 
 /// The laws hold of each of these matroids.
@@ -108,6 +113,24 @@ pub(crate) fn search_from<M: Asked>(
     Ok(search)
 }
 
+/// Whether part i is another one than before.
+pub fn is_changed(old: &SetList, new: &SetList, i: usize) -> bool
+    requires old { i < length old.now }
+    requires new { i < length new.now }
+    ensures same { result ≡ false → part_at new.now i ≡ part_at old.now i }
+    ensures changed { result ≡ true → part_at new.now i ≢ part_at old.now i }
+{
+    new.get(i) != old.get(i)
+}
+
+/// This is kept of part i.
+pub fn put_kept<K: Drop>(kept: &mut Vec<K>, i: usize, one: K)
+    requires { i < length kept.old.items }
+    ensures { kept.new.items ≡ slice_set kept.old.items i one }
+{
+    kept[i] = one;
+}
+
 /// What each matroid keeps of its new part: anew only where that is another one than before.
 fn keep_changed<M: Asked>(
     alloc: Global,
@@ -125,11 +148,68 @@ fn keep_changed<M: Asked>(
 {
     let _size = n;
     for i in 0..matroids.len() {
-        if new.get(i) != old.get(i) {
-            kept[i] = matroids[i].keep_of(alloc, new.get(i))?;
+        if is_changed(old, new, i) {
+            let one = matroids[i].keep_of(alloc, new.get(i))?;
+            put_kept(kept, i, one);
         }
     }
     Ok(())
+}
+
+/// The first part to which x can be added, by what is kept of the parts.
+fn part_that_takes<M: Asked>(
+    alloc: Global,
+    matroids: &[M],
+    parts: &SetList,
+    kept: &[M::Kept],
+    n: u32,
+    x: u32,
+) -> Result<Option<u32>, AllocError>
+    requires few { length matroids.now < 2 ^ 32 }
+    requires sound { AreSound M.ground_size M.sound n matroids.now }
+    requires parts { AreParts (map M.indep matroids.now) parts.now }
+    requires kept { AreKept M.keeps matroids.now parts.now kept.now }
+    requires below { x < n }
+    ensures below { IfOk result (λ found. IfSome found (λ q. q < length parts.now)) }
+    ensures takes { IfOk result (λ found. IfSome found (λ q. (exchanges_with (map M.indep matroids.now) parts.now q).adds x ≡ true)) }
+{
+    let _size = n;
+    for i in 0..matroids.len() {
+        let row = row_at(alloc, &matroids[i], parts.get(i), &kept[i], x)?;
+        if row.addable {
+            return Ok(Some(i as u32));
+        }
+    }
+    Ok(None)
+}
+
+/// A place for x: a part to which it can be added, or moves along a path, of x and of elements among these; else the search that is stuck
+/// (Schrijver, chapter 42).
+fn place_for<M: Asked>(
+    alloc: Global,
+    matroids: &[M],
+    parts: &SetList,
+    kept: &[M::Kept],
+    among: &BitSet,
+    n: u32,
+    x: u32,
+) -> Result<PlaceSearch, AllocError>
+    requires some { 0 < length matroids.now }
+    requires few { length matroids.now < 2 ^ 32 }
+    requires sound { AreSound M.ground_size M.sound n matroids.now }
+    requires parts { AreParts (map M.indep matroids.now) parts.now }
+    requires kept { AreKept M.keeps matroids.now parts.now kept.now }
+    requires among { (v : ℕ) → is_member v among.now ≡ true → v < n }
+    requires below { x < n }
+    requires fresh { is_member x (family_union parts.now) ≡ false }
+    ensures { IfOk result (IsPlaceSearch n (map M.indep matroids.now) parts.now among.now x) }
+{
+    all_lawful(matroids, n);
+    if let Some(q) = part_that_takes(alloc, matroids, parts, kept, n, x)? {
+        return Ok(PlaceSearch::Placed(parts_with(alloc, parts, x, q)?));
+    }
+    let search = search_from(alloc, matroids, parts, kept, among, n, x)?;
+    found_place(alloc, parts, search)
 }
 
 /// Brings x into the parts by moves along a path, of x and of elements among these, or else gives back the search that is stuck; what
@@ -154,21 +234,18 @@ pub(crate) fn place<M: Asked>(
     ensures placed { IfOk result (IsPlacing n (map M.indep matroids.now) parts.old among.now x parts.new) }
     ensures kept { OnOk result (AreKept M.keeps matroids.now parts.new kept.new.items) }
 {
-    all_lawful(matroids, n);
-    let search = search_from(alloc, matroids, parts, kept.as_slice(), among, n, x)?;
-    match search.moves(alloc, parts.as_slice())? {
-        Some(moves) => {
-            let new = moved_parts(alloc, parts, &moves)?;
+    match place_for(alloc, matroids, parts, kept.as_slice(), among, n, x)? {
+        PlaceSearch::Placed(new) => {
             keep_changed(alloc, matroids, parts, &new, kept, n)?;
             *parts = new;
             Ok(None)
         }
-        None => Ok(Some(search)),
+        PlaceSearch::Stuck(search) => Ok(Some(search)),
     }
 }
 
-/// These elements are dead.
-fn kill(dead: &mut ElemSet, alive: &mut BitSet, elements: &[u32]) -> Result<(), AllocError>
+/// These elements are dead. The only error is want of memory.
+pub fn kill(dead: &mut ElemSet, alive: &mut BitSet, elements: &[u32]) -> Result<(), AllocError>
     ensures dead { OnOk result ((v : ℕ) → is_member v dead.new ≡ (is_member v dead.old || is_member v elements.now)) }
     ensures alive { OnOk result ((v : ℕ) → is_member v alive.new ≡ (is_member v alive.old && not (is_member v elements.now))) }
     ensures rises { IsRising dead.new }
@@ -182,7 +259,7 @@ fn kill(dead: &mut ElemSet, alive: &mut BitSet, elements: &[u32]) -> Result<(), 
 }
 
 /// Adds x to the parts by moves along a path, or else all that x reaches is dead (Schrijver, chapter 42).
-pub(crate) fn grow<M: Matroid>(
+pub(crate) fn grow<M: Asked>(
     alloc: Global,
     matroids: &[M],
     growth: &mut Growth<M::Kept>,
@@ -201,6 +278,8 @@ pub(crate) fn grow<M: Matroid>(
     ensures done { OnOk result ((done : ℕ → Bool) → AreDone n done growth.old.parts growth.old.dead
         → AreDone n (λ v. done v || v == x) growth.new.parts growth.new.dead) }
     ensures holds { OnOk result (IsSubset (family_union growth.old.parts) (family_union growth.new.parts)) }
+    ensures step { OnOk result (family_union growth.new.parts
+        ≡ grown_by (union_test n (map M.indep matroids.now)) (family_union growth.old.parts) x) }
 {
     all_lawful(matroids, n);
     let parts = &mut growth.parts;

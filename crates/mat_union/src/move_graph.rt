@@ -52,7 +52,7 @@ impl Relation for MoveGraph<'_> {
 }
 
 /// Whether v is in some part.
-pub(crate) fn stands(parts: &SetList, v: u32) -> bool
+pub fn stands(parts: &SetList, v: u32) -> bool
     ensures { result ≡ is_member v (family_union parts.now) }
 {
     for i in 0..parts.len() {

@@ -1,8 +1,10 @@
 //! The parts after moves.
-ghost use Rattle.std.specs.Prelude.{◌≡◌, ◌<◌, ◌^◌, length, map, if◌then◌else◌, IfOk, OnOk};
-ghost use Rattle.mat_sets.specs.Families.{AllRising};
-ghost use Rattle.mat_sets.specs.Sets.{all_below, minus, union, with_one, IsRising};
-ghost use Rattle.mat_union.specs.Moves.{elements, entering, moved};
+ghost use Rattle.std.specs.Prelude.{◌≡◌, ◌<◌, ◌^◌, ℕ, List, Bool, true, false, length, map, if◌then◌else◌, IfOk, OnOk};
+ghost use Rattle.mat_sets.specs.Families.{family_union, AllRising};
+ghost use Rattle.mat_sets.specs.Sets.{all_below, is_member, minus, union, with_one, IsRising};
+ghost use Rattle.mat_union.specs.Moves.{elements, entering, exchanges_with, moved};
+ghost use Rattle.mat_union.specs.Placings.{ArePlaced};
+ghost use Rattle.mat_union.specs.Unions.{AreMatroids, AreParts};
 
 use crate::moves::Move;
 use mat_sets::{ElemSet, SetList};
@@ -55,4 +57,30 @@ pub fn moved_parts(alloc: Global, parts: &SetList, moves: &[Move]) -> Result<Set
         sets.push(moved_part(alloc, parts.get(q), moves, q as u32)?)?;
     }
     Ok(SetList::new(sets))
+}
+
+/// The parts with one element more, which can be added to part q. The only error is want of memory.
+pub fn parts_with(alloc: Global, parts: &SetList, x: u32, q: u32) -> Result<SetList, AllocError>
+    requires { length parts.now < 2 ^ 32 }
+    ensures { IfOk result (λ new. (n : ℕ) (tests : List (List ℕ → Bool)) (among : List ℕ) → AreMatroids n tests
+        → AreParts tests parts.now → is_member x (family_union parts.now) ≡ false → q < length parts.now → (exchanges_with tests parts.now q).adds x ≡ true
+        → ArePlaced tests parts.now among x new) }
+{
+    let moves = [Move {
+        element: x,
+        part: q,
+    }];
+    moved_parts(alloc, parts, &moves)
+}
+
+/// The members of all parts. The only error is want of memory.
+#[tactic(auto, using(mat_sets::proofs::Steps::set_steps))]
+pub fn members_of(alloc: Global, parts: &SetList) -> Result<ElemSet, AllocError>
+    ensures { IfOk result (λ s. s ≡ family_union parts.now) }
+{
+    let mut members = ElemSet::new(alloc);
+    for i in 0..parts.len() {
+        members = parts.get(i).union(alloc, &members)?;
+    }
+    Ok(members)
 }

@@ -5,6 +5,7 @@ ghost use Rattle.mat_union.specs.UnionsOf.{common_size, AreJoined, joined_laws};
 ghost use Rattle.mat_union.specs.Unions.{union_test};
 
 use crate::kept_parts::{KeptParts, parts_of, row_of_parts};
+use crate::running::run_along;
 use mat_laws::{Exchange, Matroid};
 use mat_sets::ElemSet;
 use std::alloc::{AllocError, Global};
@@ -58,6 +59,14 @@ impl<M: Matroid> Matroid for UnionOf<M> {
         let n = self.size();
         let found = parts_of(alloc, self.parts.as_slice(), n, set)?;
         Ok(found.is_some())
+    }
+
+    /// The run of the first matroid, into which the other elements of the order come one after the other: each is added to a part that can
+    /// take it at once, or comes by a search for moves; what a stuck search reached needs no search any more. The only error is want of
+    /// memory.
+    fn run(&self, alloc: Global, order: &[u32]) -> Result<ElemSet, AllocError> {
+        let n = self.size();
+        run_along(alloc, self.parts.as_slice(), n, order)
     }
 
     /// The exchanges of x, by what is kept of the set for this one. The only error is want of memory.

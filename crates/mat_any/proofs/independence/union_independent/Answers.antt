@@ -3,7 +3,7 @@ use Rattle.mat_sets.proofs.Ground.{AreDistinct-rising}
 use Rattle.mat_laws.specs.GreedyRuns.{grown_along}
 use Rattle.mat_laws.proofs.GreedyRunSets.{run_length}
 use Rattle.mat_any.specs.Joined.{union_in}
-use Rattle.mat_any.proofs.GrownRuns.{union_lawful}
+use Rattle.mat_any.proofs.JoinedLaws.{union_lawful}
 use Rattle.mat_any.proofs.independence.union_independent.Goals as goal
 
 pub union_run-requires-clause-distinct : goal.union_run-requires-clause-distinct

@@ -16,7 +16,7 @@ use Rattle.mat_union.proofs.AskedRows.{asked_below, row_answers}
 use Rattle.mat_union.proofs.SoundMatroids.{kept_at, part_passes, parts_count, sound_at, test_is}
 use Rattle.mat_any.specs.Joined.{elements_in, size_in, test_in, union_in, IsSoundOne, KeepsOne, KeepsUnion}
 use Rattle.mat_any.specs.declared.any.AnyMatroid.{the_lemmas}
-use Rattle.mat_any.proofs.GrownRuns.{each_lawful}
+use Rattle.mat_any.proofs.JoinedLaws.{each_lawful}
 use Rattle.mat_any.proofs.JoinedMatroids.{joined_at, keeps_of, size_at, test_at_node, union_kept}
 use Rattle.mat_any.specs.Trees.{element_count, is_independent}
 use Rattle.mat_any.specs.TreeLaws.{tree_laws}
@@ -132,8 +132,7 @@ search_from-loop-asked-init t c =
     let n = c.common_size_of-n.result in
     let ex = exchanges_with (map test_in ms) P in
     let count = parts_count test_in ms P c.requires.parts in
-    subst (λ a. IsReaching n (length P) ex a c.args.x c.in_ok-search.search) c.in_ok-all.ensures
-    (subst (λ k. IsReaching n k ex c.in_ok-all.all c.args.x c.in_ok-search.search) (sym count) (c.in_ok-search.ensures ex))
+    subst (λ k. IsReaching n k ex c.args.among.now c.args.x c.in_ok-search.search) (sym count) (c.in_ok-search.ensures ex)
 
 pub search_from-row_at-requires : goal.search_from-row_at-requires
 search_from-row_at-requires t c =
@@ -174,7 +173,7 @@ search_from-loop-asked-preserved t c = (
     let l : q < length ms = subst (λ k. q < k) count (subst (λ k. k < length P) (sym c.in-Some.ensures.3) c.loop-asked.invariant.here) in
     let heard = row_answers (map test_in ms) P s (test_in c.index-matroids-i.result) c.get.result.now c.in-Some.asked.element q c.in_ok-row.row c.in-Some.ensures.2 c.in-Some.ensures.3
     (test_is test_in ms q c.index-matroids-i.result l c.index-matroids-i.is) c.get.ensures.item c.in_ok-row.ensures in
-    c.in_ok-tell.ensures n (length P) (exchanges_with (map test_in ms) P) (all_below n) c.args.x c.loop-asked.invariant c.in-Some.ensures.0 heard
+    c.in_ok-tell.ensures n (length P) (exchanges_with (map test_in ms) P) c.args.among.now c.args.x c.loop-asked.invariant c.in-Some.ensures.0 heard
     ).0
 
 pub search_from-loop-asked-smaller : goal.search_from-loop-asked-smaller
@@ -188,12 +187,12 @@ search_from-loop-asked-smaller t c = (
     let l : q < length ms = subst (λ k. q < k) count (subst (λ k. k < length P) (sym c.in-Some.ensures.3) c.loop-asked.invariant.here) in
     let heard = row_answers (map test_in ms) P s (test_in c.index-matroids-i.result) c.get.result.now c.in-Some.asked.element q c.in_ok-row.row c.in-Some.ensures.2 c.in-Some.ensures.3
     (test_is test_in ms q c.index-matroids-i.result l c.index-matroids-i.is) c.get.ensures.item c.in_ok-row.ensures in
-    c.in_ok-tell.ensures n (length P) (exchanges_with (map test_in ms) P) (all_below n) c.args.x c.loop-asked.invariant c.in-Some.ensures.0 heard
+    c.in_ok-tell.ensures n (length P) (exchanges_with (map test_in ms) P) c.args.among.now c.args.x c.loop-asked.invariant c.in-Some.ensures.0 heard
     ).1
 
 pub search_from-returns-clause-ended : goal.search_from-returns-clause-ended
 search_from-returns-clause-ended t c =
-    subst (λ k. IsEnded k (map test_in c.args.matroids.now) c.args.parts.now c.args.x c.loop-asked.search) c.common_size_of-n.ensures (record {
+    subst (λ k. IsEnded k (map test_in c.args.matroids.now) c.args.parts.now c.args.among.now c.args.x c.loop-asked.search) c.common_size_of-n.ensures (record {
       laws = subst (λ k. AreMatroids k (map test_in c.args.matroids.now)) (sym c.common_size_of-n.ensures) (each_lawful c.args.matroids.now c.requires.joined);
       are = c.requires.parts;
       fresh = c.requires.fresh;
@@ -202,5 +201,31 @@ search_from-returns-clause-ended t c =
     })
 
 pub search_from-new-requires-clause-among : goal.search_from-new-requires-clause-among
-search_from-new-requires-clause-among t c =
-    λ v h. ltb-true v c.common_size_of-n.result (sym (is_member-all_below v c.common_size_of-n.result) ∙ ap (is_member v) (sym c.in_ok-all.ensures) ∙ h)
+search_from-new-requires-clause-among t c = λ v h. subst (λ k. v < k) (sym c.common_size_of-n.ensures) (c.requires.among v h)
+
+pub union_row-search_from-requires : goal.union_row-search_from-requires
+union_row-search_from-requires t c =
+    let n = size_in c.args.matroids.now in
+    let all = c.in_ok-all.ensures ∙ ap all_below c.common_size_of.ensures in (
+      search rules,
+      (
+        c.requires.joined,
+        (
+          c.requires.parts,
+          (
+            c.requires.kept,
+            (
+              λ v h. ltb-true v n (sym (is_member-all_below v n) ∙ ap (is_member v) (sym all) ∙ h),
+              (c.requires.below, ap (is_member c.args.x) c.requires.together ∙ c.requires.outside),
+            ),
+          ),
+        ),
+      ),
+    )
+
+pub union_row-returns-clause-row : goal.union_row-returns-clause-row
+union_row-returns-clause-row t c =
+    let ms = c.args.matroids.now in
+    let all = c.in_ok-all.ensures ∙ ap all_below c.common_size_of.ensures in
+    let ended = subst (λ a. IsEnded (size_in ms) (map test_in ms) c.args.parts.now a c.args.x c.in_ok-search.search) all c.in_ok-search.ensures.ended in
+    IfOk-weaker c.row_by_search.result _ _ (λ e told. told (size_in ms) (map test_in ms) c.args.x ended) c.row_by_search.ensures.row

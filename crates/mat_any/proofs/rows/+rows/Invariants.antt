@@ -1,12 +1,11 @@
 use Rattle.std.proofs.Common.{length, map}
-use Rattle.mat_sets.specs.Sets.{all_below}
 use Rattle.mat_union.specs.Moves.{exchanges_with}
 use Rattle.mat_union.specs.MoveSearches.{questions_left, IsReaching}
 use Rattle.mat_any.specs.Joined.{test_in}
 use Rattle.mat_any.proofs.rows.+rows.Given as goal
 
 abbrev pub invariant-search_from-loop-asked : goal.invariant-search_from-loop-asked
-invariant-search_from-loop-asked l = IsReaching l.n (length l.parts) (exchanges_with (map test_in l.matroids) l.parts) (all_below l.n) l.x l.search
+invariant-search_from-loop-asked l = IsReaching l.n (length l.parts) (exchanges_with (map test_in l.matroids) l.parts) l.among l.x l.search
 
 abbrev pub decreases-search_from-loop-asked : goal.decreases-search_from-loop-asked
-decreases-search_from-loop-asked l = questions_left (all_below l.n) l.search
+decreases-search_from-loop-asked l = questions_left l.among l.search

@@ -1,14 +1,16 @@
-use Rattle.std.proofs.Common.{◌≡◌, ℕ, ◌+◌, List, Bool, false, ◌++◌, [], get_or, map, reverse, Option, None, Some, refl, subst, sym, ap, ◌∙◌, rules}
+use Rattle.std.proofs.Common.{◌≡◌, ℕ, ◌+◌, ◌<◌, List, Bool, ◌++◌, [], get_or, map, reverse, refl, subst, sym, ap, ◌∙◌, rules}
 use Rattle.std.proofs.lemmas.Result.{IfOk-weaker}
-use Rattle.std.specs.Prelude.{MatchOption}
+use Rattle.std.proofs.lemmas.Bool.{or_right}
+use Rattle.std.proofs.lemmas.List.{length-map}
 use Rattle.mat_sets.specs.Families.{family_union}
-use Rattle.mat_sets.specs.Sets.{is_member, AllBelow, AreDistinct, minus, all_below, union, with_one}
+use Rattle.mat_sets.specs.Sets.{is_member, AllBelow, AreDistinct, minus, all_below, union}
 use Rattle.mat_sets.proofs.DistinctLists.{AreDistinct-filter}
 use Rattle.mat_sets.proofs.Ground.{AllBelow-filter, AreDistinct-rising, IsSet-minus, IsSet-all_below}
 use Rattle.mat_sets.proofs.Sums.{AllBelow-at}
 use Rattle.mat_laws.specs.GreedyRuns.{grown_along}
 use Rattle.mat_laws.specs.Matroids.{IsMatroid}
 use Rattle.mat_laws.proofs.GreedyRunSets.{run_all, run_maximal_of}
+use Rattle.mat_laws.proofs.GreedyRunSteps.{IsRunning-end}
 use Rattle.mat_minors.specs.ContractionLaws.{IsJoined-gives}
 use Rattle.mat_minors.proofs.DualExchanges.{kept_is}
 use Rattle.mat_minors.specs.Minors.{is_contracted, is_dual, is_restricted, is_truncated}
@@ -16,19 +18,24 @@ use Rattle.mat_minors.specs.MinorLaws.{contracted_laws, restricted_laws}
 use Rattle.mat_minors.proofs.GreedyReversed.{dual_greedy_of}
 use Rattle.mat_minors.proofs.MinorRuns.{contracted_greedy, restricted_along}
 use Rattle.mat_minors.proofs.RunOrders.{after_below, after_distinct, turned_below, turned_distinct}
-use Rattle.mat_union.proofs.SoundMatroids.{kept_more, AreKeptSo}
+use Rattle.mat_union.proofs.FillingParts.{start_growing}
+use Rattle.mat_union.proofs.GrowingParts.{placed_grow}
+use Rattle.mat_union.proofs.GrowingSteps.{death_grown}
+use Rattle.mat_union.proofs.GrowthLoops.{dies}
+use Rattle.mat_union.proofs.SoundMatroids.{anew_same, anew_set, kept_more, test_is, AreKeptAnew, AreKeptSo}
+use Rattle.mat_union.proofs.UnionRuns.{dead_turn, first_run_are, first_run_holds, placed_turn, running_first, running_more, turn_stands}
+use Rattle.mat_union.specs.Placings.{ArePlaced, IsPlaceSearch, IsStuckSearch}
+use Rattle.mat_union.specs.Unions.{part_at}
 use Rattle.mat_any.specs.AnyKeeps.{KeepsAny}
 use Rattle.mat_any.specs.Joined.{size_in, test_in, union_in, KeepsOne, KeepsUnion}
 use Rattle.mat_any.specs.declared.any.AnyMatroid.{the_lemmas}
-use Rattle.mat_any.proofs.GrownRuns.{comes_fresh, run_left, run_none, run_taken, union_lawful}
+use Rattle.mat_any.proofs.JoinedLaws.{each_lawful, union_lawful}
 use Rattle.mat_any.proofs.JoinedMatroids.{joined_at, keeps_at, size_at, test_at_node}
 use Rattle.mat_any.specs.Trees.{element_count, is_independent}
 use Rattle.mat_any.specs.TreeLaws.{tree_laws}
 use Rattle.mat_any.specs.Views.{tree_of}
-use Rattle.mat_any.specs.declared.any.AnyMatroid.{AnyMatroid}
-use Rattle.mat_union.specs.EndedSearches.{HoldMore}
 use Rattle.mat_any.proofs.runs.+running.Goals as goal
-use Rattle.mat_any.proofs.runs.+running.Goals.{grown_parts-in-Some+in_ok-add-in-Some+in_ok-kept-in-Some, grown_parts-in-None}
+use Rattle.mat_any.proofs.runs.+running.Goals.{keep_changed-then-is_changed+in_ok-one, keep_changed-else-is_changed, take_turn-then-stands-via-then-stands, take_turn-then-stands-via-else-stands+then-not-contains}
 
 pub dual_run-run-requires : goal.dual_run-run-requires
 dual_run-run-requires t c =
@@ -220,10 +227,9 @@ union_keep-grown_parts-requires t c =
 pub union_keep-returns : goal.union_keep-returns
 union_keep-returns t c =
     let ms = c.args.matroids.now in
-    c.parts_kept.ensures ms c.args.set.now c.in_ok-grown.ensures.are
-    (c.in_ok-grown.ensures.together ∙ c.in_ok-grown.ensures.taken ∙ ap (grown_along (union_in ms) []) c.as_slice.ensures.items
-    ∙ run_all (union_lawful ms c.requires.joined) c.args.set.now c.requires.base)
-    c.in_ok-kept.ensures
+    c.parts_kept.ensures ms c.args.set.now c.in_ok-growth.ensures.are
+    (c.in_ok-growth.ensures.taken ∙ ap (grown_along (union_in ms) []) c.as_slice.ensures.items ∙ run_all (union_lawful ms c.requires.joined) c.args.set.now c.requires.base)
+    c.in_ok-growth.ensures.kept
 
 pub keep_each-loop-i-preserved : goal.keep_each-loop-i-preserved
 keep_each-loop-i-preserved t c =
@@ -243,60 +249,124 @@ dual_keep-columns-requires-clause-base t c =
     let p = is_independent (tree_of c.args.inner.now) in
     (run_maximal_of c.lawful.ensures c.in_ok-outside.outside c.in_ok-base.base (c.in_ok-base.ensures ∙ ap (grown_along p []) c.as_slice.ensures.items)).passes
 
-pub grown_parts-keep_each-requires : goal.grown_parts-keep_each-requires
-grown_parts-keep_each-requires t c = (
-  search rules,
-  (c.requires.joined, (run_none c.args.matroids.now c.requires.joined c.args.order.now c.in_ok-parts.parts [] c.in_ok-parts.ensures.long c.in_ok-parts.ensures.empty refl).are),
-)
-
 pub grown_parts-loop-x-init : goal.grown_parts-loop-x-init
-grown_parts-loop-x-init t c = record {
-  run = run_none c.args.matroids.now c.requires.joined c.args.order.now c.in_ok-parts.parts c.new-taken.result c.in_ok-parts.ensures.long c.in_ok-parts.ensures.empty c.new-taken.ensures.members;
-  kept = c.in_ok-kept.ensures;
-}
-
-pub grown_parts-search_from-requires-clause-below : goal.grown_parts-search_from-requires-clause-below
-grown_parts-search_from-requires-clause-below t c = AllBelow-at (size_in c.args.matroids.now) c.args.order.now c.loop-x.x-index c.requires.below c.loop-x-test.true
-
-pub grown_parts-search_from-requires-clause-fresh : goal.grown_parts-search_from-requires-clause-fresh
-grown_parts-search_from-requires-clause-fresh t c =
-    comes_fresh c.args.matroids.now c.requires.joined c.args.order.now c.requires.distinct c.loop-x.x-index c.loop-x-test.true _ _ c.loop-x.invariant.run
-
--- what the search found, of what it tells
-found_more : (ms : List AnyMatroid) (parts : List (List ℕ)) (x : ℕ) (found : Option (List (List ℕ))) (more : List (List ℕ)) → found ≡ Some more
-    → MatchOption found (union_in ms (with_one (family_union parts) x) ≡ false) (λ new. HoldMore (map test_in ms) parts x new) → HoldMore (map test_in ms) parts x more
-found_more ms parts x found more is told =
-    subst (λ f. MatchOption f (union_in ms (with_one (family_union parts) x) ≡ false) (λ new. HoldMore (map test_in ms) parts x new)) is told
-
-found_none : (ms : List AnyMatroid) (parts : List (List ℕ)) (x : ℕ) (found : Option (List (List ℕ))) → found ≡ None
-    → MatchOption found (union_in ms (with_one (family_union parts) x) ≡ false) (λ new. HoldMore (map test_in ms) parts x new) → union_in ms (with_one (family_union parts) x) ≡ false
-found_none ms parts x found is told =
-    subst (λ f. MatchOption f (union_in ms (with_one (family_union parts) x) ≡ false) (λ new. HoldMore (map test_in ms) parts x new)) is told
-
-pub grown_parts-keep_each-requires-in-Some : goal.grown_parts-keep_each-requires-in-Some
-grown_parts-keep_each-requires-in-Some t c =
+grown_parts-loop-x-init t c =
     let ms = c.args.matroids.now in
-    let x = get_or c.args.order.now c.loop-x.x-index 0 in
-    let told = c.in_ok-more.ensures (size_in ms) (map test_in ms) x c.in_ok-search.ensures.ended in
-    let hold = found_more ms c.loop-x.parts x c.in_ok-more.field-0 c.in-Some.more c.in-Some.is told in
-    (search rules, (c.requires.joined, hold.are))
+    record {
+      growing = c.in_ok-growth.ensures.growing;
+      kept = c.in_ok-growth.ensures.kept;
+      running = running_first (each_lawful ms c.requires.joined) (subst (λ k. 0 < k) (sym (length-map ms test_in)) c.requires.joined.some)
+          c.args.order.now c.in_ok-growth.growth.parts c.in_ok-growth.ensures.growing.are c.in_ok-growth.ensures.first;
+    }
 
 pub grown_parts-loop-x-preserved : goal.grown_parts-loop-x-preserved
-grown_parts-loop-x-preserved t c =
+grown_parts-loop-x-preserved t c = record {
+  growing = c.in_ok-take_turn.ensures.growing;
+  kept = c.in_ok-take_turn.ensures.kept;
+  running = running_more c.loop-x.invariant.running (get_or c.args.order.now c.loop-x.x-index 0) c.loop-x-test.true refl
+      (family_union c.take_turn.new.growth.parts) c.in_ok-take_turn.ensures.step;
+}
+
+pub grown_parts-take_turn-requires : goal.grown_parts-take_turn-requires
+grown_parts-take_turn-requires t c = (
+  search rules,
+  (c.requires.joined, (c.loop-x.invariant.growing, (c.loop-x.invariant.kept, AllBelow-at (size_in c.args.matroids.now) c.args.order.now c.loop-x.x-index c.requires.below c.loop-x-test.true))),
+)
+
+pub grown_parts-returns-clause-are : goal.grown_parts-returns-clause-are
+grown_parts-returns-clause-are t c = c.loop-x.invariant.growing.are
+
+pub grown_parts-returns-clause-taken : goal.grown_parts-returns-clause-taken
+grown_parts-returns-clause-taken t c =
+    IsRunning-end (union_in c.args.matroids.now) c.args.order.now (family_union c.loop-x.growth.parts) c.loop-x.x-index c.loop-x-test.false c.loop-x.invariant.running
+
+pub first_growth-keep_each-requires : goal.first_growth-keep_each-requires
+first_growth-keep_each-requires t c =
     let ms = c.args.matroids.now in
-    let order = c.args.order.now in
-    let i = c.loop-x.x-index in
-    let x = get_or order i 0 in
-    let told = c.in_ok-more.ensures (size_in ms) (map test_in ms) x c.in_ok-search.ensures.ended in
-    elim c.match-branch-5.branch [
-      | grown_parts-in-Some+in_ok-add-in-Some+in_ok-kept-in-Some w ↦ rw (w.taken-is, w.parts-is, w.kept-is) (record {
-        run = run_taken ms c.requires.joined order c.requires.distinct i c.loop-x-test.true c.loop-x.parts c.loop-x.taken c.loop-x.invariant.run w.in-Some.more w.add.new.self
-            (found_more ms c.loop-x.parts x c.in_ok-more.field-0 w.in-Some.more w.in-Some.is told) w.in_ok-add-in-Some.ensures.ok.1;
-        kept = w.in_ok-kept-in-Some.ensures;
-      })
-      | grown_parts-in-None w ↦ rw (w.taken-is, w.parts-is, w.kept-is) (record {
-        run = run_left ms c.requires.joined order c.requires.distinct i c.loop-x-test.true c.loop-x.parts c.loop-x.taken c.loop-x.invariant.run
-            (found_none ms c.loop-x.parts x c.in_ok-more.field-0 w.in-None.is told);
-        kept = c.loop-x.invariant.kept;
-      })
+    let some = c.requires.joined.some in
+    let count = length-map ms test_in in
+    let test = test_is test_in ms 0 c.index-matroids-0.result some c.index-matroids-0.is in
+    let are = first_run_are (each_lawful ms c.requires.joined) (subst (λ k. 0 < k) (sym count) some) c.args.order.now c.in_ok-first.first
+    (c.in_ok-first.ensures ∙ ap (λ p. grown_along p [] c.args.order.now) (sym test)) c.in_ok-parts.parts (c.in_ok-parts.ensures.long ∙ sym count) c.in_ok-parts.ensures.first c.in_ok-parts.ensures.others in
+    (search rules, (c.requires.joined, are))
+
+pub first_growth-returns-clause-growing : goal.first_growth-returns-clause-growing
+first_growth-returns-clause-growing t c =
+    let ms = c.args.matroids.now in
+    let some = c.requires.joined.some in
+    let count = length-map ms test_in in
+    let test = test_is test_in ms 0 c.index-matroids-0.result some c.index-matroids-0.is in
+    let are = first_run_are (each_lawful ms c.requires.joined) (subst (λ k. 0 < k) (sym count) some) c.args.order.now c.in_ok-first.first
+    (c.in_ok-first.ensures ∙ ap (λ p. grown_along p [] c.args.order.now) (sym test)) c.in_ok-parts.parts (c.in_ok-parts.ensures.long ∙ sym count) c.in_ok-parts.ensures.first c.in_ok-parts.ensures.others in
+    start_growing (each_lawful ms c.requires.joined) c.in_ok-parts.parts are _ _ c.new.ensures.members (c.in_ok-alive.ensures ∙ ap all_below c.common_size_of.ensures)
+
+pub first_growth-returns-clause-first : goal.first_growth-returns-clause-first
+first_growth-returns-clause-first t c =
+    let ms = c.args.matroids.now in
+    let some = c.requires.joined.some in
+    let count = length-map ms test_in in
+    let test = test_is test_in ms 0 c.index-matroids-0.result some c.index-matroids-0.is in
+    first_run_holds (each_lawful ms c.requires.joined) (subst (λ k. 0 < k) (sym count) some) c.args.order.now c.in_ok-first.first
+    (c.in_ok-first.ensures ∙ ap (λ p. grown_along p [] c.args.order.now) (sym test)) c.in_ok-parts.parts (c.in_ok-parts.ensures.long ∙ sym count) c.in_ok-parts.ensures.first c.in_ok-parts.ensures.others
+
+pub take_turn-returns-then-stands-clause-step : goal.take_turn-returns-then-stands-clause-step
+take_turn-returns-then-stands-clause-step t c =
+    let ms = c.args.matroids.now in
+    let old = c.args.growth.now in
+    let x = c.args.x in
+    elim c.then-stands.branch [
+      | take_turn-then-stands-via-then-stands w ↦ turn_stands (union_in ms) (family_union old.parts) x (sym c.stands.ensures ∙ w.if-stands.true)
+      | take_turn-then-stands-via-else-stands+then-not-contains w ↦ dead_turn (each_lawful ms c.requires.joined) x (sym c.stands.ensures ∙ w.if-stands.false) c.requires.growing
+          (dies c.requires.growing x c.requires.below (sym w.contains.ensures ∙ w.if-not-contains.true))
+    ]
+
+pub take_turn-returns-in_ok-keep_changed-in-Placed-clause-growing : goal.take_turn-returns-in_ok-keep_changed-in-Placed-clause-growing
+take_turn-returns-in_ok-keep_changed-in-Placed-clause-growing t c =
+    let ms = c.args.matroids.now in
+    let old = c.args.growth.now in
+    let placed : ArePlaced (map test_in ms) old.parts old.alive c.args.x c.in-Placed.new =
+    subst (IsPlaceSearch (size_in ms) (map test_in ms) old.parts old.alive c.args.x) c.in-Placed.is c.in_ok-new.ensures in
+    placed_grow (each_lawful ms c.requires.joined) c.requires.growing placed (sym c.contains.ensures ∙ c.if-not-contains.false)
+
+pub take_turn-returns-in_ok-keep_changed-in-Placed-clause-step : goal.take_turn-returns-in_ok-keep_changed-in-Placed-clause-step
+take_turn-returns-in_ok-keep_changed-in-Placed-clause-step t c =
+    let ms = c.args.matroids.now in
+    let old = c.args.growth.now in
+    let placed : ArePlaced (map test_in ms) old.parts old.alive c.args.x c.in-Placed.new =
+    subst (IsPlaceSearch (size_in ms) (map test_in ms) old.parts old.alive c.args.x) c.in-Placed.is c.in_ok-new.ensures in
+    placed_turn (each_lawful ms c.requires.joined) c.args.x (sym c.stands.ensures ∙ c.if-stands.false) placed
+
+pub take_turn-returns-in_ok-kill-in-Stuck-clause-growing : goal.take_turn-returns-in_ok-kill-in-Stuck-clause-growing
+take_turn-returns-in_ok-kill-in-Stuck-clause-growing t c =
+    let ms = c.args.matroids.now in
+    let old = c.args.growth.now in
+    let stuck : IsStuckSearch (size_in ms) (map test_in ms) old.parts old.alive c.args.x c.in-Stuck.search =
+    subst (IsPlaceSearch (size_in ms) (map test_in ms) old.parts old.alive c.args.x) c.in-Stuck.is c.in_ok-new.ensures in
+    death_grown (each_lawful ms c.requires.joined) c.requires.growing stuck.reaching stuck.end c.kill.new.dead c.kill.new.alive c.reached.result.now c.reached.ensures
+    c.kill.ensures.rises c.in_ok-kill-in-Stuck.ensures.dead c.in_ok-kill-in-Stuck.ensures.alive
+
+pub take_turn-returns-in_ok-kill-in-Stuck-clause-step : goal.take_turn-returns-in_ok-kill-in-Stuck-clause-step
+take_turn-returns-in_ok-kill-in-Stuck-clause-step t c =
+    let ms = c.args.matroids.now in
+    let old = c.args.growth.now in
+    let x = c.args.x in
+    let stuck : IsStuckSearch (size_in ms) (map test_in ms) old.parts old.alive x c.in-Stuck.search =
+    subst (IsPlaceSearch (size_in ms) (map test_in ms) old.parts old.alive x) c.in-Stuck.is c.in_ok-new.ensures in
+    let grown = death_grown (each_lawful ms c.requires.joined) c.requires.growing stuck.reaching stuck.end c.kill.new.dead c.kill.new.alive c.reached.result.now c.reached.ensures
+    c.kill.ensures.rises c.in_ok-kill-in-Stuck.ensures.dead c.in_ok-kill-in-Stuck.ensures.alive in
+    dead_turn (each_lawful ms c.requires.joined) x (sym c.stands.ensures ∙ c.if-stands.false) grown
+    (c.in_ok-kill-in-Stuck.ensures.dead x ∙ or_right (is_member x old.dead) (is_member x c.reached.result.now) (ap (is_member x) c.reached.ensures ∙ stuck.reaching.so_far.first))
+
+pub keep_changed-loop-i-preserved : goal.keep_changed-loop-i-preserved
+keep_changed-loop-i-preserved t c =
+    let ms = c.args.matroids.now in
+    let old = c.args.old.now in
+    let new = c.args.new.now in
+    let i = c.loop-i.i in
+    elim c.if-is_changed.branch [
+      | keep_changed-then-is_changed+in_ok-one w ↦ rw w.kept-is (subst (AreKeptAnew KeepsOne ms old new (i + 1)) (sym w.put_kept.ensures)
+          (anew_set KeepsOne ms old new i c.loop-i.kept.items w.index-matroids-i.result w.get.result.now w.in_ok-one.one c.loop-i.invariant c.loop-i-test.true w.index-matroids-i.is
+          w.get.ensures.item w.in_ok-one.ensures))
+      | keep_changed-else-is_changed w ↦ rw w.kept-is (anew_same KeepsOne ms old new i c.loop-i.kept.items (part_at new i) (part_at old i) c.loop-i.invariant refl refl
+          (c.is_changed.ensures.same w.if-is_changed.false))
     ]

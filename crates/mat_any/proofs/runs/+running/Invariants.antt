@@ -1,14 +1,20 @@
-use Rattle.mat_union.proofs.SoundMatroids.{AreKeptSo}
-use Rattle.mat_union.specs.GrownParts.{AreKept}
-use Rattle.mat_any.specs.Joined.{KeepsOne}
-use Rattle.mat_any.proofs.GrownRuns.{AreRun}
+use Rattle.std.proofs.Common.{map}
+use Rattle.mat_sets.specs.Families.{family_union}
+use Rattle.mat_laws.proofs.GreedyRunSteps.{IsRunning}
+use Rattle.mat_union.proofs.SoundMatroids.{AreKeptAnew, AreKeptSo}
+use Rattle.mat_union.specs.GrownParts.{AreGrowing, AreKept}
+use Rattle.mat_any.specs.Joined.{size_in, test_in, union_in, KeepsOne}
 use Rattle.mat_any.proofs.runs.+running.Given as goal
 
 abbrev pub invariant-grown_parts-loop-x : goal.invariant-grown_parts-loop-x
 invariant-grown_parts-loop-x l = record {
-  run : AreRun l.matroids l.order l.x-index l.parts l.taken;
-  kept : AreKept KeepsOne l.matroids l.parts l.kept.items;
+  growing : AreGrowing (size_in l.matroids) (map test_in l.matroids) l.growth.parts l.growth.dead l.growth.alive;
+  kept : AreKept KeepsOne l.matroids l.growth.parts l.growth.kept.items;
+  running : IsRunning (union_in l.matroids) l.order l.x-index (family_union l.growth.parts);
 }
 
 abbrev pub invariant-keep_each-loop-i : goal.invariant-keep_each-loop-i
 invariant-keep_each-loop-i l = AreKeptSo KeepsOne l.matroids l.parts l.i l.kept.items
+
+abbrev pub invariant-keep_changed-loop-i : goal.invariant-keep_changed-loop-i
+invariant-keep_changed-loop-i l = AreKeptAnew KeepsOne l.matroids l.old l.new l.i l.kept.items

@@ -4,5 +4,7 @@ use Rattle.mat_top.proofs.notes.put_pieces.Goals as goal
 
 pub returns-in-Err-clause-err : goal.returns-in-Err-clause-err
 returns-in-Err-clause-err g c =
-    pieces_prefix (g.N.Sink.written c.args.notes.now) (g.N.Sink.written c.loop-piece.notes) (g.N.Sink.written c.put_all.new.sink) c.args.pieces.now
-    c.loop-piece.piece-index (record { ref_ptr = (0, 0); now = [] }) c.loop-piece-test.true c.loop-piece.invariant.appended c.in-Err.ensures.err
+    let old = g.N.Sink.written c.args.notes.now in
+    let between = g.N.Sink.written c.loop-piece.notes in
+    pieces_prefix (λ piece. piece.now) old between (g.N.Sink.written c.put_all.new.sink) c.args.pieces.now c.loop-piece.piece-index
+    (record { ref_ptr = (0, 0); now = [] }) c.loop-piece-test.true c.loop-piece.invariant.appended c.in-Err.ensures.err

@@ -14,10 +14,10 @@ loop-x-preserved g c = record {
 }
 
 pub grow-requires-clause-fresh : goal.grow-requires-clause-fresh
-grow-requires-clause-fresh g c κs within = (next_new c.loop-x.invariant.coming c.requires.rises c.loop-x-test.true).0
+grow-requires-clause-fresh g c = (next_new c.loop-x.invariant.coming c.requires.rises c.loop-x-test.true).0
 
 pub grow-requires-clause-lives : goal.grow-requires-clause-lives
-grow-requires-clause-lives g c κs within = lives c.loop-x.invariant.growing _ (c.requires.fresh.below _ (is_member-get_or c.args.elements.now c.loop-x.x-index _ c.loop-x-test.true refl)) (next_new c.loop-x.invariant.coming c.requires.rises c.loop-x-test.true).1
+grow-requires-clause-lives g c = lives c.loop-x.invariant.growing _ (c.requires.fresh.below _ (is_member-get_or c.args.elements.now c.loop-x.x-index _ c.loop-x-test.true refl)) (next_new c.loop-x.invariant.coming c.requires.rises c.loop-x-test.true).1
 
 pub returns-clause-done : goal.returns-clause-done
 returns-clause-done g c = coming_end c.loop-x.invariant.coming c.loop-x-test.false

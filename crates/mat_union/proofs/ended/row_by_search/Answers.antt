@@ -2,9 +2,7 @@ use Rattle.std.proofs.Common.{Global, Vec, ◌≡◌, ◌∙◌, ◌||◌, Bool,
 use Rattle.std.specs.Prelude.{MatchOption}
 use Rattle.mat_sets.specs.Sets.{is_member, IsRising}
 use Rattle.mat_sets.proofs.Members.{is_member-union}
-use Rattle.mat_laws.specs.Exchanges.{row_of}
 use Rattle.mat_union.specs.MoveSearches.{AreFoundMoves}
-use Rattle.mat_union.specs.Unions.{union_test}
 use Rattle.mat_union.specs.declared.moves.Move.{Move}
 use Rattle.mat_union.proofs.SearchEnds.{found_row, moves_told, stuck_row}
 use Rattle.mat_union.proofs.ended.row_by_search.Goals as goal

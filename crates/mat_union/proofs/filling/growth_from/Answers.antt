@@ -6,7 +6,7 @@ use Rattle.mat_union.proofs.FillingParts.{start_done, start_growing}
 use Rattle.mat_union.proofs.filling.growth_from.Goals as goal
 
 pub returns-clause-growing : goal.returns-clause-growing
-returns-clause-growing g c = subst (λ p. AreGrowing c.args.n (map g.M.Matroid.indep c.args.matroids.now) p c.new.result c.in_ok-all_below.field-0) (sym c.parts.view_is)
+returns-clause-growing g c = subst (λ p. AreGrowing c.args.n (map g.M.Asked.indep c.args.matroids.now) p c.new.result c.in_ok-all_below.field-0) (sym c.parts.view_is)
     (start_growing c.all_lawful.ensures c.args.parts c.requires.parts _ _ c.new.ensures.members c.in_ok-all_below.ensures)
 
 pub returns-clause-done : goal.returns-clause-done

@@ -1,0 +1,150 @@
+#!/usr/bin/env python3
+"""Runs the worst inputs at each limit: `worst.py [PROGRAM]`, at the top of the repository.
+
+Prints for each a line of a table: the command, how it ended, the seconds on the clock and the peak memory. The aims are ten seconds and a
+gigabyte. The program is crates/mat_main/out/mat_main where none is named.
+"""
+import os
+import random
+import subprocess
+import sys
+import tempfile
+import time
+
+N = 500
+DESCRIPTION_LIMIT, CERTIFICATE_LIMIT = 4194304, 67108864
+
+
+def line(*words):
+    return ' '.join(str(word) for word in words)
+
+
+def weights(numbers, n=N):
+    return line('weights', *(numbers.randint(-10 ** 12, 10 ** 12) for _ in range(n)))
+
+
+def graphic(numbers):
+    return [f'graphic {N // 2}'] + [line('edge', numbers.randrange(N // 2), numbers.randrange(N // 2)) for _ in range(N)]
+
+
+def transversal(numbers):
+    return [f'transversal {N}'] + [line('set', *sorted(numbers.sample(range(N), 250))) for _ in range(N)]
+
+
+def gammoid(numbers):
+    return ([f'gammoid {N} 20000', line('sources', *numbers.sample(range(N), N // 2)), line('targets', *numbers.sample(range(N), N))]
+            + [line('arc', numbers.randrange(N), numbers.randrange(N)) for _ in range(20000)])
+
+
+def gf2(numbers):
+    return ['gf2 128'] + ['column ' + format(numbers.getrandbits(128), '0128b') for _ in range(N)]
+
+
+def partition(numbers):
+    classes = [[] for _ in range(N // 4)]
+    for x in range(N):
+        numbers.choice(classes).append(x)
+    return [f'partition {len(classes)}'] + [line('class', 1, *members) for members in classes]
+
+
+WRAPPERS = {'dual': lambda numbers: 'dual', 'truncate': lambda numbers: f'truncate {N // 3}',
+            'restrict': lambda numbers: line('restrict', *sorted(numbers.sample(range(N), N - 5))),
+            'contract': lambda numbers: line('contract', *sorted(numbers.sample(range(N), 4)))}
+
+
+def wrapped(names, inner):
+    """A matroid in fifteen wrappers, of these kinds in turn: with it sixteen stand within one another."""
+    def lines(numbers):
+        return [WRAPPERS[names[i % len(names)]](numbers) for i in range(15)] + inner(numbers)
+    return lines
+
+
+def union(count, inner):
+    return lambda numbers: [f'union {count}'] + [text for _ in range(count) for text in inner(numbers)]
+
+
+def uniform(cap):
+    return lambda numbers: [f'uniform {cap}']
+
+
+def pair(first, second):
+    numbers = random.Random(1)
+    return '\n'.join(['matroids 1', f'pair {N}', weights(numbers)] + first(numbers) + second(numbers) + ['end', '']).encode()
+
+
+def listed(kinds):
+    numbers = random.Random(1)
+    body = [text for kind in kinds for text in kind(numbers)]
+    return '\n'.join(['matroids 1', f'list {N} {len(kinds)}', weights(numbers)] + body + ['end', '']).encode()
+
+
+def solved():
+    """Descriptions, each with the command that solves it; `check` judges the answer."""
+    for name in WRAPPERS:
+        yield f'a graph in fifteen times `{name}`, against a partition', 'intersect', pair(wrapped([name], graphic), partition)
+    mixed = wrapped(['dual', 'truncate', 'restrict', 'contract'], graphic)
+    yield 'a graph in fifteen mixed wrappers, against a partition', 'intersect', pair(mixed, partition)
+    yield 'the same, against a transversal matroid in such wrappers', 'intersect', pair(mixed, wrapped(['contract', 'dual'], transversal))
+    yield 'a gammoid of 20,000 arcs, against another', 'intersect', pair(gammoid, gammoid)
+    yield 'a gammoid in fifteen duals, against 128 digits', 'intersect', pair(wrapped(['dual'], gammoid), gf2)
+    yield '500 sets of 250 elements, against another such family', 'intersect', pair(transversal, transversal)
+    yield 'the union of two graphs, against the union of two others', 'intersect', pair(union(2, graphic), union(2, graphic))
+    yield 'the union of two gammoids, against a partition', 'intersect', pair(union(2, gammoid), partition)
+    yield 'the dual of a union of four graphs, against a graph', 'intersect', pair(lambda numbers: ['dual'] + union(4, graphic)(numbers), graphic)
+    yield 'the union of 64 unions of 64 uniform matroids, against a partition', 'intersect', pair(union(64, union(64, uniform(1))), partition)
+    yield 'two free matroids, 501 rungs of weights of 13 digits', 'intersect', pair(uniform(N), uniform(N))
+    yield '64 gammoids of 500 arcs', 'union', listed([lambda numbers: ['gammoid 500 500', line('sources', *range(250)), line('targets', *range(500))]
+                                                   + [line('arc', numbers.randrange(N), numbers.randrange(N)) for _ in range(500)]] * 64)
+    yield 'a gammoid of 20,000 arcs', 'best', listed([gammoid])
+    yield 'the same', 'pack', listed([gammoid])
+    yield 'the same', 'cover', listed([gammoid])
+
+
+def refused():
+    """Texts at the limits of their length, each with the words that read it, and the description beside a certificate."""
+    free = pair(uniform(N), uniform(N))
+    for name, text in [('one long line', b'x' * DESCRIPTION_LIMIT), ('only newlines', b'\n' * DESCRIPTION_LIMIT),
+                       ('numbers of 31 digits', (b'matroids 1\npair 500\nweights' + b' 1' + b'0' * 30) * (DESCRIPTION_LIMIT // 64)),
+                       ('one word more than the limit', b'x' * (DESCRIPTION_LIMIT + 1))]:
+        yield f'a description of 4 MB: {name}', 'show f', text, b''
+    head = b'certificate 1\nanswer intersect 500 500\nrung 0 0\nset\nfirst'
+    for name, text in [('one long line', b'x' * CERTIFICATE_LIMIT), ('only newlines', b'\n' * CERTIFICATE_LIMIT),
+                       ('numbers of 31 digits in one line', (head + (b' 1' + b'0' * 30) * (CERTIFICATE_LIMIT // 32))[:CERTIFICATE_LIMIT]),
+                       ('a line of many words', (head + b' 1' * (CERTIFICATE_LIMIT // 2))[:CERTIFICATE_LIMIT])]:
+        yield f'a certificate of 64 MB: {name}', 'check f c', free, text
+
+
+def run(program, folder, words):
+    """How a run ended, its seconds, its peak memory in MB (which GNU `time` tells) and its output."""
+    with tempfile.NamedTemporaryFile('r') as told:
+        begin = time.perf_counter()
+        run = subprocess.run(['/usr/bin/time', '-f', '%M', '-o', told.name, program] + words.split(), cwd=folder, capture_output=True)
+        took = time.perf_counter() - begin
+        return run.returncode, took, int(told.read().split()[-1]) / 1024, run.stdout
+
+
+def write(folder, name, text):
+    with open(os.path.join(folder, name), 'wb') as to:
+        to.write(text)
+
+
+def main():
+    program = os.path.abspath(sys.argv[1] if len(sys.argv) > 1 else 'crates/mat_main/out/mat_main')
+    print('| input | command | status | seconds | MB |\n|---|---|---|---|---|')
+    with tempfile.TemporaryDirectory() as folder:
+        for name, command, text in solved():
+            write(folder, 'f', text)
+            status, seconds, memory, answer = run(program, folder, command + ' f')
+            print(f'| {name} | `{command}` | {status} | {seconds:.2f} | {memory:.0f} |', flush=True)
+            write(folder, 'c', answer)
+            status, seconds, memory, _ = run(program, folder, 'check f c')
+            print(f'| | `check` | {status} | {seconds:.2f} | {memory:.0f} |', flush=True)
+        for name, words, text, certificate in refused():
+            write(folder, 'f', text)
+            write(folder, 'c', certificate)
+            status, seconds, memory, _ = run(program, folder, words)
+            print(f'| {name} | `{words.split()[0]}` | {status} | {seconds:.2f} | {memory:.0f} |', flush=True)
+
+
+if __name__ == '__main__':
+    main()

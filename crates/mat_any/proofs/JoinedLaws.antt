@@ -1,0 +1,15 @@
+-- The laws of a list of matroids, and of their union.
+use Rattle.std.proofs.Common.{List, map}
+use Rattle.mat_laws.specs.Matroids.{IsMatroid}
+use Rattle.mat_union.specs.Unions.{AreMatroids}
+use Rattle.mat_union.specs.UnionsOf.{joined_laws, tests_are_matroids, AreJoined}
+use Rattle.mat_any.specs.Joined.{elements_in, size_in, test_in, union_in, IsSoundOne}
+use Rattle.mat_any.specs.TreeLaws.{tree_laws}
+use Rattle.mat_any.specs.Views.{tree_of}
+use Rattle.mat_any.specs.declared.any.AnyMatroid.{AnyMatroid}
+
+pub each_lawful : (ms : List AnyMatroid) → AreJoined elements_in IsSoundOne ms → AreMatroids (size_in ms) (map test_in ms)
+each_lawful ms j = tests_are_matroids elements_in IsSoundOne test_in (λ m h. tree_laws (tree_of m) h) ms j
+
+pub union_lawful : (ms : List AnyMatroid) → AreJoined elements_in IsSoundOne ms → IsMatroid (size_in ms) (union_in ms)
+union_lawful ms j = joined_laws elements_in IsSoundOne test_in (λ m h. tree_laws (tree_of m) h) ms j

@@ -1,0 +1,14 @@
+use Rattle.std.proofs.Common.{◌≡◌, ◌<◌, true, length, map, subst}
+use Rattle.std.specs.Prelude.{IfSome}
+use Rattle.mat_union.specs.Moves.{exchanges_with}
+use Rattle.mat_any.specs.Joined.{size_in, test_in}
+use Rattle.mat_any.proofs.JoinedLaws.{each_lawful}
+use Rattle.mat_any.proofs.rows.place_for.Goals as goal
+
+pub returns-in-Some : goal.returns-in-Some
+returns-in-Some c =
+    let ms = c.args.matroids.now in
+    let parts = c.args.parts.now in
+    c.in_ok-parts_with.ensures (size_in ms) (map test_in ms) c.args.among.now (each_lawful ms c.requires.joined) c.requires.parts c.requires.fresh
+    (subst (λ f. IfSome f (λ q. q < length parts)) c.in-Some.is c.in_ok-q.ensures.below)
+    (subst (λ f. IfSome f (λ q. (exchanges_with (map test_in ms) parts q).adds c.args.x ≡ true)) c.in-Some.is c.in_ok-q.ensures.takes)

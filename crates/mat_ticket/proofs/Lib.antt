@@ -1,0 +1,9 @@
+pub mod Sums
+pub mod Views
+pub mod WordSteps
+pub mod Drawing
+pub mod Teams
+pub mod JoinedSeats
+pub mod Slots
+pub mod Arranging
+pub mod AllTickets

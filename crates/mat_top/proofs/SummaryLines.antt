@@ -1,0 +1,30 @@
+-- The text of a line that was written in pieces, each of words behind spaces.
+use Rattle.std.proofs.Common.{◌≡◌, ℕ, List, [], ◌∷◌, ◌++◌, ◌∙◌, length, take, sym, ap, arith}
+use Rattle.std.specs.List.{flat_map}
+use Rattle.std.proofs.lemmas.Grind.{flat_map-append}
+use Rattle.std.proofs.lemmas.List.{append_assoc, map-id, take_all}
+use Rattle.mat_words.specs.Lines.{Line, text_of}
+use Rattle.mat_words.proofs.WrittenLines.{line_written}
+use Rattle.mat_top.specs.SummaryTexts.{spaced}
+
+-- three pieces are one
+spaced_pieces : (word : List ℕ) (first second third : Line)
+    → ((word ++ spaced first) ++ spaced second) ++ spaced third ≡ word ++ spaced (first ++ (second ++ third))
+spaced_pieces word first second third =
+    ap (λ (t : List ℕ). t ++ spaced third) (append_assoc word (spaced first) (spaced second))
+    ∙ append_assoc word (spaced first ++ spaced second) (spaced third)
+    ∙ ap (λ (t : List ℕ). word ++ t) (append_assoc (spaced first) (spaced second) (spaced third)
+    ∙ ap (λ (t : List ℕ). spaced first ++ t) (sym (flat_map-append (λ v. 32 ∷ v) second third))
+    ∙ sym (flat_map-append (λ v. 32 ∷ v) first (second ++ third)))
+
+-- a line of a word and three pieces
+pub line_of_pieces : (word : List ℕ) (first second third : Line) (one two three new : List ℕ)
+    → one ≡ word ++ spaced first → two ≡ one ++ spaced second → three ≡ two ++ spaced third → new ≡ three ++ 10 ∷ []
+    → new ≡ text_of ((word ∷ first ++ (second ++ third)) ∷ [])
+line_of_pieces word first second third one two three new a b c d =
+    let words = first ++ (second ++ third) in
+    let whole : three ≡ word ++ spaced words =
+    c ∙ ap (λ (t : List ℕ). t ++ spaced third) (b ∙ ap (λ (t : List ℕ). t ++ spaced second) a) ∙ spaced_pieces word first second third in
+    let all : three ≡ word ++ flat_map (λ v. 32 ∷ v) (take (length words) words) = rw (take_all (length words) words (omega arith)) whole in
+    let line = line_written (λ v. v) [] word words (length words) three new (omega arith) all d in
+    rw (map-id words) at line

@@ -1,0 +1,24 @@
+-- What is known of a file where the shelf tells what it holds.
+use Rattle.std.proofs.Common.{◌≡◌, ℕ, List, Option, Some, None, refl, sym, subst}
+use Rattle.std.specs.Prelude.{IfSome, IsSome, IsSomeAnd}
+
+-- what holds of the bytes that were read holds of the file
+pub of_file : (held : Option (List ℕ)) (bytes : List ℕ) (P : List ℕ → Type 0) → IfSome held (λ all. all ≡ bytes) → P bytes
+    → IfSome held P
+of_file None bytes P same h = tt
+of_file (Some all) bytes P same h = subst P (sym same) h
+
+-- where a file is told, a fact of what is told
+pub told : (o : Option (List ℕ)) (P Q : List ℕ → Type 0) → IsSome o → IfSome o P → ((bytes : List ℕ) → P bytes → Q bytes)
+    → IsSomeAnd o Q
+told None P Q some h f = absurd cc
+told (Some bytes) P Q some h f = f bytes h
+
+pub if_told : (o : Option (List ℕ)) (P Q : List ℕ → Type 0) → ((bytes : List ℕ) → P bytes → Q bytes) → IfSome o P → IfSome o Q
+if_told None P Q f h = tt
+if_told (Some bytes) P Q f h = f bytes h
+
+-- a file of whose bytes a fact is told is told
+pub some_told : (o : Option (List ℕ)) (P : List ℕ → Type 0) → IsSomeAnd o P → IsSome o
+some_told None P h = absurd h
+some_told (Some bytes) P h = refl

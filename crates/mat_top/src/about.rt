@@ -1,0 +1,121 @@
+//! What is asked about the problem that a file describes.
+
+ghost use Rattle.std.specs.Prelude.{◌≡◌, ◌≤◌, ℕ, List, IfOk, IfErr, IfSome};
+ghost use Rattle.mat_desc.specs.Grammar.{IsValid};
+ghost use Rattle.mat_desc.specs.Soundness.{IsSoundInstance};
+ghost use Rattle.mat_desc.specs.Views.{instance_of};
+ghost use Rattle.mat_top.specs.CommandLines.{about};
+ghost use Rattle.mat_top.specs.Commands.{request_of, IsQueryInRange, IsRequestInRange};
+ghost use Rattle.mat_top.specs.Outcomes.{IsDescribed, yes_text};
+ghost use Rattle.mat_top.specs.Refusals.{IsUndescribed, HasText, HasNoText, HasSolutionText, IsUnsolved, MayBeWritten, IsRefusal};
+
+use crate::command::Request;
+use crate::cuts_text::cuts_text;
+use crate::judge::judge;
+use crate::query::Query;
+use crate::reading::read_all;
+use crate::solve::solve;
+use crate::status::Refusal;
+use mat_cert::write_answer;
+use mat_desc::{Problem, read_problem, write_problem};
+use mat_shelf::Shelf;
+use std::alloc::{AllocError, Global};
+use std::thread::Threads;
+
+/// The most bytes that a description may have.
+const DESCRIPTION_LIMIT: usize = 4_194_304;
+
+/// The problem that the file of this name describes.
+pub(crate) fn problem_in<F: Shelf>(
+    alloc: Global,
+    files: &mut F,
+    name: &str,
+) -> Result<Problem, Refusal>
+    ensures held { (other : List ℕ) → F.held files.new other ≡ F.held files.old other }
+    ensures grows { (other : List ℕ) → F.faults files.old other ≤ F.faults files.new other }
+    ensures valid { IfOk result (λ p. IsValid (instance_of p)) }
+    ensures sound { IfOk result (λ p. IsSoundInstance (instance_of p)) }
+    ensures described { IfOk result (λ p. IfSome (F.held files.old name.now) (λ bytes. IsDescribed bytes (instance_of p))) }
+    ensures refusal { IfErr result (λ e. IsUndescribed (F.held files.old name.now)
+        (F.faults files.old name.now) (F.faults files.new name.now) e) }
+{
+    let bytes = read_all(alloc, files, name, DESCRIPTION_LIMIT)?;
+    Ok(read_problem(alloc, &bytes)?)
+}
+
+/// The text of a right answer to the query.
+pub(crate) fn solution_text<R: Threads + Sync>(
+    rt: &R,
+    alloc: Global,
+    problem: &Problem,
+    query: Query,
+    workers: u32,
+) -> Result<Vec<u8>, Refusal>
+    requires valid { IsValid (instance_of problem.now) }
+    requires sound { IsSoundInstance (instance_of problem.now) }
+    requires range { IsQueryInRange query }
+    requires workers { (1 ≤ workers) × (workers ≤ 16) }
+    ensures text { IfOk result (λ v. HasSolutionText query (instance_of problem.now) v.items) }
+    ensures refusal { IfErr result (λ e. IsUnsolved query (instance_of problem.now) e) }
+{
+    let answer = solve(rt, alloc, problem, query, workers)?;
+    Ok(write_answer(alloc, &answer)?)
+}
+
+// The text that says that a certificate is right.
+fn yes(alloc: Global) -> Result<Vec<u8>, AllocError>
+    ensures { IfOk result (λ v. v.items ≡ yes_text) }
+{
+    b"yes\n".to_vec(alloc)
+}
+
+// What the request writes for a problem.
+fn text_for<R: Threads + Sync, F: Shelf>(
+    rt: &R,
+    alloc: Global,
+    files: &mut F,
+    request: Request<'_>,
+    problem: &Problem,
+    workers: u32,
+) -> Result<Vec<u8>, Refusal>
+    requires valid { IsValid (instance_of problem.now) }
+    requires sound { IsSoundInstance (instance_of problem.now) }
+    requires range { IsRequestInRange (request_of request) }
+    requires workers { (1 ≤ workers) × (workers ≤ 16) }
+    ensures held { (name : List ℕ) → F.held files.new name ≡ F.held files.old name }
+    ensures grows { (name : List ℕ) → F.faults files.old name ≤ F.faults files.new name }
+    ensures text { IfOk result (λ v. HasText (F.held files.old) (request_of request.entry) (instance_of problem.now) v.items) }
+    ensures refusal { IfErr result (λ e. HasNoText (F.held files.old) (request_of request.entry) (instance_of problem.now)
+        (F.faults files.old) (F.faults files.new) e) }
+{
+    match request {
+        Request::Show => Ok(write_problem(alloc, problem)?),
+        Request::Solve(query) => solution_text(rt, alloc, problem, query, workers),
+        Request::Cuts => cuts_text(alloc, problem),
+        Request::Check { certificate } => {
+            judge(rt, alloc, files, certificate, problem, workers)?;
+            Ok(yes(alloc)?)
+        }
+    }
+}
+
+/// What the request writes for the problem that the file of this name describes.
+pub(crate) fn text_about<R: Threads + Sync, F: Shelf>(
+    rt: &R,
+    alloc: Global,
+    files: &mut F,
+    name: &str,
+    request: Request<'_>,
+    workers: u32,
+) -> Result<Vec<u8>, Refusal>
+    requires range { IsRequestInRange (request_of request) }
+    requires workers { (1 ≤ workers) × (workers ≤ 16) }
+    ensures held { (other : List ℕ) → F.held files.new other ≡ F.held files.old other }
+    ensures grows { (other : List ℕ) → F.faults files.old other ≤ F.faults files.new other }
+    ensures text { IfOk result (λ v. MayBeWritten (F.held files.old) (about name.now (request_of request.entry)) v.items) }
+    ensures refusal { IfErr result (λ e. IsRefusal (F.held files.old) (about name.now (request_of request.entry))
+        (F.faults files.old) (F.faults files.new) e) }
+{
+    let problem = problem_in(alloc, files, name)?;
+    text_for(rt, alloc, files, request, &problem, workers)
+}

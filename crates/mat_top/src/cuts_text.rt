@@ -1,0 +1,78 @@
+//! Cheapest spanning arborescences with the weighted vertex sets that prove them, as texts.
+
+ghost use Rattle.std.specs.Prelude.{◌≡◌, ◌↔◌, All, IfOk, IfErr, IsTrue};
+ghost use Rattle.mat_desc.specs.Grammar.{IsValid};
+ghost use Rattle.mat_desc.specs.Instances.{rooted};
+ghost use Rattle.mat_desc.specs.Views.{instance_of};
+ghost use Rattle.mat_top.specs.CutTexts.{mains, HasPayableCosts, IsCutsText, IsPayable};
+ghost use Rattle.mat_top.specs.Refusals.{HasNoCuts};
+
+use crate::cut_lines::{tree_text, unreached_text};
+use crate::status::Refusal;
+use mat_cuts::{Cuts, cheapest, total_cost};
+use mat_desc::Problem;
+use mat_sets::{Pairs, Weight};
+use std::alloc::{AllocError, Global};
+
+// Whether weights of vertex sets can pay every cost: none is below 0 or has a tie.
+fn are_payable(costs: &[Weight]) -> bool
+    ensures { IsTrue result ↔ All IsPayable costs.now }
+{
+    costs.iter().all(|cost| cost.main >= 0 && cost.tie == 0)
+}
+
+// The numbers that the costs stand for.
+fn mains_of(alloc: Global, costs: &[Weight]) -> Result<Vec<i128>, AllocError>
+    ensures { IfOk result (λ v. v.items ≡ mains costs.now) }
+{
+    costs.iter().map(|cost| cost.main).collect(alloc)
+}
+
+// The text of a cheapest spanning arborescence and of weighted vertex sets that prove it, or of a vertex set that no arc enters.
+fn payable_text(
+    alloc: Global,
+    vertices: u32,
+    root: u32,
+    arcs: &Pairs,
+    costs: &[Weight],
+) -> Result<Vec<u8>, AllocError>
+    requires valid { IsValid (rooted vertices root arcs.now costs.now) }
+    requires payable { All IsPayable costs.now }
+    ensures { IfOk result (λ v. IsCutsText (rooted vertices root arcs.now costs.now) v.items) }
+{
+    let count = arcs.len() as u32;
+    let mains = mains_of(alloc, costs)?;
+    let answer = cheapest(alloc, vertices, arcs, &mains, root)?;
+    match &answer {
+        Cuts::Tree { arcs: tree, cuts } => {
+            let cost = total_cost(&mains, tree.as_slice());
+            tree_text(alloc, count, cost, tree, cuts)
+        }
+        Cuts::Unreached(set) => unreached_text(alloc, count, vertices, set),
+    }
+}
+
+/// The text of a cheapest spanning arborescence of a problem with costs, and of weighted vertex sets that prove it, or of a vertex set that
+/// no arc enters. `WrongShape` comes exactly where the problem has no arcs with costs and no root, `BadCost` exactly where it has them and a
+/// cost is below 0 or has a tie, and `Memory` is want of memory.
+pub(crate) fn cuts_text(alloc: Global, problem: &Problem) -> Result<Vec<u8>, Refusal>
+    requires valid { IsValid (instance_of problem.now) }
+    ensures payable { IfOk result (λ v. HasPayableCosts (instance_of problem.now)) }
+    ensures text { IfOk result (λ v. IsCutsText (instance_of problem.now) v.items) }
+    ensures refusal { IfErr result (λ e. HasNoCuts (instance_of problem.now) e) }
+{
+    match problem {
+        Problem::Rooted {
+            vertices,
+            root,
+            arcs,
+            costs,
+        } => {
+            if !are_payable(costs.as_slice()) {
+                return Err(Refusal::BadCost);
+            }
+            Ok(payable_text(alloc, *vertices, *root, arcs, costs.as_slice())?)
+        }
+        _ => Err(Refusal::WrongShape),
+    }
+}

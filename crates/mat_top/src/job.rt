@@ -1,0 +1,15 @@
+//! A job of a list.
+
+ghost use Rattle.mat_top.specs.Commands.{IsQueryInRange, IsQueryInRange-prop};
+
+use crate::query::Query;
+
+/// A query about the problem that a file describes.
+#[derive(Drop)]
+pub(crate) struct Job {
+    /// What is asked for.
+    pub(crate) query: Query,
+    /// The name of the description's file.
+    pub(crate) file: String,
+    ghost in_range: { IsQueryInRange query } by { IsQueryInRange-prop query },
+}

@@ -1,0 +1,117 @@
+//! The texts of right answers to queries about problems, computed by workers that draw them.
+
+ghost use Rattle.std.specs.Prelude.{◌≤◌, length, IfOk, All};
+ghost use denote.Param.Send.{IsSync};
+ghost use Rattle.mat_desc.specs.Views.{instance_of};
+ghost use Rattle.mat_top.specs.JobLists.{most_jobs};
+ghost use Rattle.mat_top.specs.PosedJobs.{IsPosable, HaveTexts};
+ghost use Rattle.mat_top.specs.Refusals.{HasSolutionText};
+
+use crate::about::solution_text;
+use crate::posed::PosedJob;
+use mat_ticket::ticket_rows;
+use mat_work::RowJob;
+use std::alloc::{AllocError, Global};
+use std::marker::Model;
+use std::thread::Threads;
+
+/// What writes the texts of right answers. The workers call it through this trait, since a row's code is not told that it may share a handle.
+trait Answering {
+    /// Other threads may be handed a reference to the value.
+    ghost can_answer: { Self → Type 0 };
+
+    /// The text of a right answer to the query about its problem. The only error is want of memory.
+    fn text_of(&self, alloc: Global, posed: &PosedJob) -> Result<Vec<u8>, AllocError>
+        requires answering { can_answer self.now }
+        requires posable { IsPosable posed.now }
+        ensures { IfOk result (λ v. HasSolutionText posed.now.query (instance_of posed.now.problem) v.items) };
+}
+
+impl<R: Threads + Sync> Answering for R {
+    ghost can_answer = { λ _. IsSync R.row };
+
+    fn text_of(&self, alloc: Global, posed: &PosedJob) -> Result<Vec<u8>, AllocError> {
+        match solution_text(self, alloc, &posed.problem, posed.query, 1) {
+            Ok(text) => Ok(text),
+            Err(_) => Err(AllocError),
+        }
+    }
+}
+
+/// The texts for queries about problems, each to be computed by one worker. It is seen as the queries with their problems.
+#[derive(Drop)]
+struct TextRows<'a, S: Answering + Sync> {
+    alloc: Global,
+    solver: &'a S,
+    jobs: &'a [PosedJob],
+}
+
+impl<'a, S: Answering + Sync> Model for TextRows<'a, S> {
+    ghost use Rattle.std.specs.Prelude.{List, All};
+    ghost use Rattle.std.specs.Coded.{codes};
+    ghost use Rattle.mat_top.specs.contracts.posed.PosedJob as posed;
+    ghost use Rattle.mat_top.specs.declared.posed.PosedJob.{PosedJob};
+    ghost use Rattle.mat_top.specs.PosedJobs.{IsPosable};
+
+    ghost Value = { List PosedJob };
+
+    ghost coded = { Prim.hlevel (codes, posed.the_row.coded) };
+
+    ghost view = { λ rows. rows.jobs.now };
+
+    ghost invariant = { λ rows. S.can_answer rows.solver.now × All IsPosable rows.jobs.now };
+}
+
+impl<'a, S: Answering + Sync> RowJob for TextRows<'a, S> {
+    type Row = Vec<u8>;
+
+    ghost use Rattle.std.specs.Prelude.{length};
+    ghost use Rattle.mat_top.specs.PosedJobs.{IsTextAt};
+
+    ghost jobs = { length };
+
+    ghost stands = { IsTextAt };
+
+    fn row(&self, i: u32) -> Result<Vec<u8>, AllocError> {
+        self.solver.text_of(self.alloc, &self.jobs[i as usize])
+    }
+}
+
+// The texts, by so many workers that hand this solver to each job.
+fn texts_by<R: Threads + Sync, S: Answering + Sync>(
+    rt: &R,
+    alloc: Global,
+    solver: &S,
+    jobs: &[PosedJob],
+    workers: u32,
+) -> Result<Vec<Vec<u8>>, AllocError>
+    requires answering { S.can_answer solver.now }
+    requires posable { All IsPosable jobs.now }
+    requires few { length jobs.now ≤ most_jobs }
+    requires workers { (1 ≤ workers) × (workers ≤ 16) }
+    ensures { IfOk result (λ v. HaveTexts jobs.now v.items) }
+{
+    let rows = TextRows {
+        alloc,
+        solver,
+        jobs,
+    };
+    let drawn = ticket_rows(rt, alloc, &rows, jobs.len() as u32, workers)?;
+    Ok(drawn.rows)
+}
+
+/// The texts of right answers to the queries about their problems, in their order. So many workers draw the jobs, and each job is computed by
+/// the one that drew it. The only error is want of memory.
+pub(crate) fn job_texts<R: Threads + Sync>(
+    rt: &R,
+    alloc: Global,
+    jobs: &[PosedJob],
+    workers: u32,
+) -> Result<Vec<Vec<u8>>, AllocError>
+    requires posable { All IsPosable jobs.now }
+    requires few { length jobs.now ≤ most_jobs }
+    requires workers { (1 ≤ workers) × (workers ≤ 16) }
+    ensures { IfOk result (λ v. HaveTexts jobs.now v.items) }
+{
+    texts_by(rt, alloc, rt, jobs, workers)
+}

@@ -1,0 +1,81 @@
+//! The summary of a right answer to a problem that is made from a number.
+
+ghost use Rattle.std.specs.Prelude.{◌≡◌, ◌≤◌, true, IfOk, IfErr};
+ghost use Rattle.mat_desc.specs.Grammar.{IsValid};
+ghost use Rattle.mat_desc.specs.Soundness.{IsSoundInstance};
+ghost use Rattle.mat_desc.specs.Views.{instance_of};
+ghost use Rattle.mat_cert.specs.Views.{certificate_of};
+ghost use Rattle.mat_top.specs.Answers.{IsSolution};
+ghost use Rattle.mat_top.specs.Commands.{IsQueryInRange, IsSampleInRange};
+ghost use Rattle.mat_top.specs.Queries.{has_form, IsAnswerOf};
+ghost use Rattle.mat_top.specs.Summaries.{query_of_kind, IsSummary};
+ghost use Rattle.mat_top.specs.declared.status.Refusal.TheVariants as refusals;
+
+use crate::query::Query;
+use crate::solve::solve;
+use crate::status::Refusal;
+use crate::summary::summary_text;
+use mat_cert::Answer;
+use mat_check::{Verdict, check};
+use mat_desc::Problem;
+use mat_gen::{SampleKind, sample};
+use std::alloc::Global;
+use std::thread::Threads;
+
+// The query that is answered for a sample of this kind.
+fn query_of_kind(kind: SampleKind) -> Query
+    ensures query { result ≡ query_of_kind kind }
+    ensures range { IsQueryInRange result }
+{
+    match kind {
+        SampleKind::Pair => Query::Intersect,
+        SampleKind::List => Query::Union,
+        SampleKind::Graph => Query::Trees(2),
+        SampleKind::Rooted => Query::Arborescence,
+        SampleKind::Table => Query::Assign,
+    }
+}
+
+// A right answer to the query about a problem of its form, found by so many workers, and then checked. The only refusal is want of memory.
+fn checked_answer<R: Threads + Sync>(
+    rt: &R,
+    alloc: Global,
+    problem: &Problem,
+    query: Query,
+    workers: u32,
+) -> Result<Answer, Refusal>
+    requires valid { IsValid (instance_of problem.now) }
+    requires sound { IsSoundInstance (instance_of problem.now) }
+    requires range { IsQueryInRange query }
+    requires form { has_form query (instance_of problem.now) ≡ true }
+    requires workers { (1 ≤ workers) × (workers ≤ 16) }
+    ensures of_query { IfOk result (λ answer. IsAnswerOf query (certificate_of answer)) }
+    ensures solution { IfOk result (λ answer. IsSolution (instance_of problem.now) (certificate_of answer)) }
+    ensures refusal { IfErr result (λ e. e ≡ refusals.Memory) }
+{
+    let answer = solve(rt, alloc, problem, query, workers)?;
+    match check(rt, alloc, problem, &answer, workers)? {
+        Verdict::Yes => Ok(answer),
+        Verdict::No { .. } => unreachable!(),
+    }
+}
+
+/// The summary of a right answer to the problem of this kind, size and seed: it is made, answered by so many workers, and the answer is
+/// checked. The only refusal is want of memory.
+pub(crate) fn sample_text<R: Threads + Sync>(
+    rt: &R,
+    alloc: Global,
+    kind: SampleKind,
+    size: u32,
+    seed: u64,
+    workers: u32,
+) -> Result<Vec<u8>, Refusal>
+    requires range { IsSampleInRange size seed }
+    requires workers { (1 ≤ workers) × (workers ≤ 16) }
+    ensures text { IfOk result (λ v. IsSummary kind size seed v.items) }
+    ensures refusal { IfErr result (λ e. e ≡ refusals.Memory) }
+{
+    let problem = sample(alloc, kind, size, seed)?;
+    let answer = checked_answer(rt, alloc, &problem, query_of_kind(kind), workers)?;
+    Ok(summary_text(alloc, kind, size, seed, &answer)?)
+}

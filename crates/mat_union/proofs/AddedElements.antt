@@ -1,0 +1,62 @@
+-- An element that can be added to a part comes into the parts by one move, and no other element moves.
+use Rattle.std.proofs.Common.{◌≡◌, ℕ, suc, zero, ◌<◌, Bool, true, false, not, ◌||◌, ◌&&◌, eqb, List, [], ◌∷◌, length, map, refl, sym, ap, ◌∙◌, subst, arith}
+use Rattle.std.proofs.lemmas.Bool.{both_ways, false_from_ne_true}
+use Rattle.mat_sets.specs.Families.{family_union}
+use Rattle.mat_sets.specs.Sets.{all_below, is_member, minus}
+use Rattle.mat_sets.proofs.Members.{is_member-minus, is_member-union}
+use Rattle.mat_laws.specs.declared.exchange.Exchange.{Exchange}
+use Rattle.mat_laws.specs.Exchanges.{row_of}
+use Rattle.mat_laws.proofs.Rows.{row_of-adds}
+use Rattle.mat_union.specs.Moves.{elements, entering, exchanges_with, moved, place_at, AreMoved}
+use Rattle.mat_union.specs.Placings.{ArePlaced}
+use Rattle.mat_union.specs.UnionLaws.{chordless_moves}
+use Rattle.mat_union.specs.Unions.{part_at, test_at, AreMatroids, AreParts}
+use Rattle.mat_union.specs.declared.moves.Move.{Move}
+use Rattle.mat_union.proofs.PlacedElements.{entering_elements, moved_list}
+
+-- what a row tells at its part
+pub row_adds : (tests : List (List ℕ → Bool)) (parts : List (List ℕ)) (test : List ℕ → Bool) (part : List ℕ) (x q : ℕ) (row : Exchange)
+    → test_at tests q ≡ test → part ≡ part_at parts q → row ≡ row_of test part x → row.addable ≡ true → (exchanges_with tests parts q).adds x ≡ true
+row_adds tests parts test part x q row t p e adds =
+    sym (row_of-adds (test_at tests q) (part_at parts q) x) ∙ sym (ap (λ (r : Exchange). r.addable) (e ∙ named test (test_at tests q) part (part_at parts q) (sym t) p)) ∙ adds
+  where
+    named : (f g : List ℕ → Bool) (a b : List ℕ) → f ≡ g → a ≡ b → row_of f a x ≡ row_of g b x
+    named f g a b h k = rw (h, k) refl
+
+module _ {n : ℕ} {tests : List (List ℕ → Bool)} {parts : List (List ℕ)} (laws : AreMatroids n tests) (are : AreParts tests parts) (x q : ℕ)
+    (fresh : is_member x (family_union parts) ≡ false) (l : q < length parts) (adds : (exchanges_with tests parts q).adds x ≡ true) where
+  abbrev move : List Move
+  move = record { element = x; part = q } ∷ []
+
+  place : (i : ℕ) → i < suc 0 → place_at move i < length parts
+  place zero h = l
+  place (suc i) h = absurd (omega arith)
+
+  pub one_move : (new : List (List ℕ)) × AreMoved tests parts move new
+  one_move = chordless_moves laws are move 0 refl fresh place (λ i h. absurd (omega arith)) (λ i j h k. absurd (omega arith)) (λ i j h k. absurd (omega arith)) (λ i h. absurd (omega arith)) adds
+
+  -- another element stays where it is
+  stays : (p z : ℕ) → eqb z x ≡ false → is_member z (moved parts move p) ≡ is_member z (part_at parts p)
+  stays p z o =
+      is_member-union z (entering move p) (minus (part_at parts p) (elements move)) ∙ ap (λ b. is_member z (entering move p) || b) (is_member-minus z (part_at parts p) (elements move))
+      ∙ unmoved (is_member z (entering move p)) (is_member z (elements move)) (is_member z (part_at parts p))
+      (false_from_ne_true _ (λ h. both_ways _ out (entering_elements move p z h))) out
+    where
+      out : is_member z (elements move) ≡ false
+      out = rw o refl
+
+      unmoved : (i e b : Bool) → i ≡ false → e ≡ false → (i || (b && not e)) ≡ b
+      unmoved i e true f g = rw (f, g) refl
+      unmoved i e false f g = rw f refl
+
+  pub move_places : (among : List ℕ) (new : List (List ℕ)) → new ≡ map (moved parts move) (all_below (length parts)) → ArePlaced tests parts among x new
+  move_places among new made =
+      let is : one_move.0 ≡ new = sym (made ∙ moved_list tests parts move one_move.0 are one_move.1) in
+      subst (ArePlaced tests parts among x) is (record {
+        are = one_move.1.are;
+        together = one_move.1.together;
+        others = λ p z h o. ap (is_member z) (one_move.1.each p h) ∙ stays p z (neither (eqb z x) (is_member z among) o);
+      })
+    where
+      neither : (a b : Bool) → (a || b) ≡ false → a ≡ false
+      neither a b e = grind arith

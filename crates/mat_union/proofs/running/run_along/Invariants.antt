@@ -1,0 +1,13 @@
+use Rattle.std.proofs.Common.{map}
+use Rattle.mat_sets.specs.Families.{family_union}
+use Rattle.mat_laws.proofs.GreedyRunSteps.{IsRunning}
+use Rattle.mat_union.specs.GrownParts.{AreGrowing, AreKept}
+use Rattle.mat_union.specs.Unions.{union_test}
+use Rattle.mat_union.proofs.running.run_along.Given as goal
+
+abbrev pub invariant-loop-x : goal.invariant-loop-x
+invariant-loop-x g l = record {
+  growing : AreGrowing l.n (map g.M.Asked.indep l.matroids) l.growth.parts l.growth.dead l.growth.alive;
+  kept : AreKept g.M.Asked.keeps l.matroids l.growth.parts l.growth.kept.items;
+  running : IsRunning (union_test l.n (map g.M.Asked.indep l.matroids)) l.order l.x-index (family_union l.growth.parts);
+}

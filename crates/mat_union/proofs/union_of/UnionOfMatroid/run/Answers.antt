@@ -1,0 +1,25 @@
+use Rattle.std.proofs.Common.{◌≡◌, [], map, subst, sym}
+use Rattle.std.specs.Prelude.{IfOk}
+use Rattle.mat_sets.specs.Sets.{AllBelow}
+use Rattle.mat_laws.specs.GreedyRuns.{grown_along}
+use Rattle.mat_union.specs.GrownParts.{AreSound}
+use Rattle.mat_union.specs.Unions.{union_test}
+use Rattle.mat_union.proofs.union_of.UnionOfMatroid.run.Goals as goal
+
+pub run_along-requires-clause-sound : goal.run_along-requires-clause-sound
+run_along-requires-clause-sound g c =
+    let items = c.args.self.now.parts.items in
+    let size = g.M.Matroid.ground_size in
+    let sound = g.M.Matroid.sound in
+    subst (AreSound size sound c.size-n.result) (sym c.as_slice.ensures.value) (subst (λ k. AreSound size sound k items) (sym c.size-n.ensures) c.requires.sound.each)
+
+pub run_along-requires-clause-below : goal.run_along-requires-clause-below
+run_along-requires-clause-below g c = subst (λ k. AllBelow k c.args.order.now) (sym c.size-n.ensures) c.requires.below
+
+pub returns : goal.returns
+returns g c =
+    let items = c.args.self.now.parts.items in
+    let indep = g.M.Matroid.indep in
+    let r = c.run_along.result in
+    subst (λ k. IfOk r (λ s. s ≡ grown_along (union_test k (map indep items)) [] c.args.order.now)) c.size-n.ensures
+    (subst (λ m. IfOk r (λ s. s ≡ grown_along (union_test c.size-n.result (map indep m)) [] c.args.order.now)) c.as_slice.ensures.value c.run_along.ensures)
