@@ -2,7 +2,8 @@
 use Rattle.std.proofs.Common.{List, map}
 use Rattle.mat_laws.specs.Matroids.{IsMatroid}
 use Rattle.mat_union.specs.Unions.{AreMatroids}
-use Rattle.mat_union.specs.UnionsOf.{joined_laws, tests_are_matroids, AreJoined}
+use Rattle.mat_union.specs.UnionOfLaws.{joined_laws, tests_are_matroids}
+use Rattle.mat_union.specs.UnionsOf.{AreJoined}
 use Rattle.mat_any.specs.Joined.{elements_in, size_in, test_in, union_in, IsSoundOne}
 use Rattle.mat_any.specs.TreeLaws.{tree_laws}
 use Rattle.mat_any.specs.Views.{tree_of}

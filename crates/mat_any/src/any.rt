@@ -7,7 +7,7 @@ ghost use Rattle.mat_any.specs.Views.{tree_of};
 use crate::any_kept::AnyKept;
 use crate::independence::independent;
 use crate::rows::row;
-use crate::runs::{keep, run};
+use crate::runs::{keep, keep_next, run};
 use crate::sizes::size_of;
 use mat_count::{Laminar, Partition, Uniform};
 use mat_gf2::Gf2;
@@ -83,6 +83,16 @@ impl Matroid for AnyMatroid {
 
     fn keep(&self, alloc: Global, base: &ElemSet) -> Result<AnyKept, AllocError> {
         keep(alloc, self, base)
+    }
+
+    fn keep_next(
+        &self,
+        alloc: Global,
+        base: &ElemSet,
+        kept: &AnyKept,
+        next: &ElemSet,
+    ) -> Result<AnyKept, AllocError> {
+        keep_next(alloc, self, base, kept, next)
     }
 
     fn row(

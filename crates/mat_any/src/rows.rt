@@ -252,7 +252,7 @@ fn search_from(
     while let Some(asked) = search.question() {
         let i = asked.part as usize;
         let row = row_at(alloc, &matroids[i], parts.get(i), &kept[i], asked.element)?;
-        search.tell(alloc, &row)?;
+        search = search.tell(alloc, &row)?;
     }
     Ok(search)
 }

@@ -137,7 +137,7 @@ pub(crate) fn union_run(
     ensures { IfOk result (λ s. s ≡ grown_along (union_in matroids.now) [] order.now) }
 {
     let growth = grown_parts(alloc, matroids, order)?;
-    members_of(alloc, &growth.parts)
+    members_of(alloc, growth.parts.as_slice())
 }
 
 // What a run of the union takes, in parts: the first matroid takes by its own run what it can, and the others of the order come one
@@ -216,13 +216,13 @@ fn take_turn(
             Ok(())
         }
         PlaceSearch::Stuck(search) => {
-            kill(&mut growth.dead, &mut growth.alive, search.reached())?;
+            kill(alloc, &mut growth.dead, &mut growth.alive, search.reached())?;
             Ok(())
         }
     }
 }
 
-// What each matroid keeps of its new part: anew only where that is another one than before.
+// What each matroid keeps of its new part: where that is another one than before, from what it kept of the old one.
 #[cycle(running)]
 fn keep_changed(
     alloc: Global,
@@ -239,7 +239,7 @@ fn keep_changed(
 {
     for i in 0..matroids.len() {
         if is_changed(old, new, i) {
-            let one = keep(alloc, &matroids[i], new.get(i))?;
+            let one = keep_next(alloc, &matroids[i], old.get(i), &kept[i], new.get(i))?;
             put_kept(kept, i, one);
         }
     }
@@ -292,6 +292,32 @@ pub(crate) fn keep(
         AnyMatroid::Restrict { inner, .. } => keep(alloc, inner, base),
         AnyMatroid::Contract { away, inner } => contraction_keep(alloc, inner, away, base),
         AnyMatroid::Union { parts } => union_keep(alloc, parts, base),
+    }
+}
+
+/// What is kept of another independent set, where something is kept of this one. A gammoid makes it from that, and a truncation or a
+/// restriction asks the matroid within it; each other kind makes it anew. The only error is want of memory.
+#[cycle(running)]
+pub(crate) fn keep_next(
+    alloc: Global,
+    matroid: &AnyMatroid,
+    base: &ElemSet,
+    kept: &AnyKept,
+    next: &ElemSet,
+) -> Result<AnyKept, AllocError>
+    requires sound { IsSound (tree_of matroid.now) }
+    requires base { is_independent (tree_of matroid.now) base.now ≡ true }
+    requires kept { KeepsAny (tree_of matroid.now) base.now kept.now }
+    requires next { is_independent (tree_of matroid.now) next.now ≡ true }
+    ensures { IfOk result (λ k. KeepsAny (tree_of matroid.now) next.now k) }
+{
+    match (matroid, kept) {
+        (AnyMatroid::Gammoid(gammoid), AnyKept::Gammoid(linking)) => Ok(AnyKept::Gammoid(
+            gammoid.keep_next(alloc, base, linking, next)?,
+        )),
+        (AnyMatroid::Truncate { inner, .. }, _) => keep_next(alloc, inner, base, kept, next),
+        (AnyMatroid::Restrict { inner, .. }, _) => keep_next(alloc, inner, base, kept, next),
+        _ => keep(alloc, matroid, next),
     }
 }
 

@@ -1,19 +1,16 @@
 -- A tree that grows from the root: it starts at the root alone, an arc that leaves it makes it larger, and where none does it spans all
 -- vertices or leaves a set that no arc enters.
-use Rattle.std.proofs.Common.{◌≡◌, ℕ, suc, zero, ◌+◌, ◌-◌, ◌<◌, ◌≤◌, true, false, not, ◌&&◌, eqb, List, [], ◌∷◌, length, ◌⊎◌, inl, inr, refl, sym, ap, ◌∙◌, subst, arith}
-use Rattle.std.proofs.lemmas.Bool.{cases_Bool, eqb-true, eq-eqb, ltb-true, lt-ltb, and_parts, and_from, both_ways, false_from_ne_true, not-true, or_cases, or_left, or_right, false≢true}
+use Rattle.std.proofs.Common.{◌≡◌, ℕ, suc, zero, ◌+◌, ◌-◌, ◌<◌, ◌≤◌, true, false, not, ◌&&◌, eqb, List, [], length, ◌⊎◌, inl, inr, refl, sym, ap, ◌∙◌, subst, arith}
+use Rattle.std.proofs.lemmas.Bool.{cases_Bool, eqb-true, ltb-true, lt-ltb, and_parts, and_from, both_ways, false_from_ne_true, not-true, or_cases, or_right, false≢true}
 use Rattle.mat_sets.specs.Sets.{is_member, all_below, minus, with_one}
 use Rattle.mat_sets.specs.Graphs.{IsSpanningArborescence, Reaches, ends_of, IsUnentered}
 use Rattle.mat_sets.proofs.Cardinalities.{length-with_one}
-use Rattle.mat_sets.proofs.Crossings.{walk_enters}
-use Rattle.mat_sets.proofs.Ground.{IsSet-all_below, IsSet-length, IsSet-minus, IsSet-nil, IsSet-with_one, below_member, is_member-all_below, length-complement}
-use Rattle.mat_sets.proofs.Members.{is_member-head, is_member-minus, is_member-with_one, IsRising-nil}
+use Rattle.mat_sets.proofs.Ground.{IsSet-all_below, IsSet-length, IsSet-minus, IsSet-nil, IsSet-with_one, is_member-all_below, length-complement}
+use Rattle.mat_sets.proofs.Members.{is_member-minus, is_member-with_one, IsRising-nil}
 use Rattle.mat_sets.proofs.Subsets.{IsSubset-with_one, find_member}
 use Rattle.mat_sets.proofs.Walking.{Reaches-arc, Reaches-itself, Reaches-subset, Reaches-trans}
+use Rattle.mat_sets.proofs.DisjointSets.{no_member, with_one-holds}
 use Rattle.mat_arbor.specs.Growing.{IsGrownTree, Leaves}
-
-member_with_one : (a : List ℕ) (x : ℕ) → is_member x (with_one a x) ≡ true
-member_with_one a x = is_member-with_one x x a ∙ or_left (eqb x x) (is_member x a) (eq-eqb x x refl)
 
 stays_with_one : (a : List ℕ) (x y : ℕ) → is_member y a ≡ true → is_member y (with_one a x) ≡ true
 stays_with_one a x y m = is_member-with_one y x a ∙ or_right (eqb y x) (is_member y a) m
@@ -26,7 +23,7 @@ pub IsGrownTree-root : (vertices n : ℕ) (ends : ℕ → ℕ × ℕ) (root : �
     → IsGrownTree vertices n ends root R
 IsGrownTree-root vertices n ends root R small is = rw is (record {
   set = IsSet-with_one vertices [] root (IsSet-nil vertices) small;
-  with_root = member_with_one [] root;
+  with_root = with_one-holds [] root;
   tree = [];
   arcs = IsSet-nil n;
   size = sym (length-with_one [] root IsRising-nil refl);
@@ -50,14 +47,14 @@ module _ {vertices n : ℕ} {ends : ℕ → ℕ × ℕ} {root : ℕ} {R : List �
         arcs = IsSet-with_one n g.tree a g.arcs small;
         size = omega (arith, g.size, length-with_one g.tree a g.arcs.rising new, length-with_one R (ends a).1 g.set.rising l.to);
         into = λ b m. elim (parts_with_one g.tree a b m) [
-          | inl same ↦ ap (λ z. is_member (ends z).1 (with_one R (ends a).1)) same ∙ member_with_one R (ends a).1
+          | inl same ↦ ap (λ z. is_member (ends z).1 (with_one R (ends a).1)) same ∙ with_one-holds R (ends a).1
           | inr h ↦ stays_with_one R (ends a).1 (ends b).1 (g.into b h)
         ];
         reached = λ v m. elim (parts_with_one R (ends a).1 v m) [
           | inl same ↦ subst (λ z. Reaches ends (with_one g.tree a) root z) (sym same)
               (Reaches-trans ends (with_one g.tree a) root (ends a).0 (ends a).1
               (Reaches-subset ends g.tree (with_one g.tree a) root (ends a).0 more (g.reached (ends a).0 l.from))
-              (Reaches-arc ends (with_one g.tree a) a (member_with_one g.tree a)))
+              (Reaches-arc ends (with_one g.tree a) a (with_one-holds g.tree a)))
           | inr h ↦ Reaches-subset ends g.tree (with_one g.tree a) root v more (g.reached v h)
         ];
       }
@@ -73,14 +70,10 @@ module _ {vertices n : ℕ} {ends : ℕ → ℕ × ℕ} {root : ℕ} {R : List �
     reached = λ v l. g.reached v (in_R v l);
   }
     where
-      empty : (U : List ℕ) (v : ℕ) → length U ≡ 0 → is_member v U ≡ false
-      empty [] v e = refl
-      empty (u ∷ U) v e = absurd (omega arith)
-
       in_R : (v : ℕ) → v < vertices → is_member v R ≡ true
       in_R v l = elim (cases_Bool (is_member v R)) [
         | inl h ↦ h
-        | inr o ↦ absurd (both_ways _ (empty (minus (all_below vertices) R) v (omega (arith, length-complement vertices R g.set.rising g.set.below)))
+        | inr o ↦ absurd (both_ways _ (no_member (minus (all_below vertices) R) v (omega (arith, length-complement vertices R g.set.rising g.set.below)))
             (is_member-minus v (all_below vertices) R ∙ and_from (is_member v (all_below vertices)) (not (is_member v R))
             (is_member-all_below v vertices ∙ lt-ltb v vertices l) (ap not o)))
       ]

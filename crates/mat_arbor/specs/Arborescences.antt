@@ -1,8 +1,7 @@
 -- Least spanning arborescences with a split of the costs that proves them least, and vertex sets that no arc enters (Schrijver, chapter 52;
 -- the split is Frank's).
 use Rattle.std.specs.Prelude.{◌≡◌, ℕ, ◌<◌, Bool, true, false, List, length}
-use Rattle.mat_sets.specs.Graphs.{IsSpanningArborescence, ends_of, enters, IsUnentered}
-use Rattle.mat_sets.specs.Sets.{is_member, IsSet}
+use Rattle.mat_sets.specs.Graphs.{IsSpanningArborescence, ends_of, IsUnentered}
 use Rattle.mat_sets.specs.Weights.{◌⊕◌, negated, weight_at, AreWeightsWithin}
 use Rattle.mat_sets.specs.declared.weight.Weight.{Weight}
 use Rattle.mat_laws.specs.Heaviest.{IsHeaviest}

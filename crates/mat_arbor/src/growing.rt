@@ -1,5 +1,5 @@
 //! What the root reaches.
-ghost use Rattle.std.specs.Prelude.{◌≡◌, ◌<◌, ℕ, length, IfOk, MatchOption};
+ghost use Rattle.std.specs.Prelude.{◌<◌, ℕ, length, IfOk, MatchOption};
 ghost use Rattle.mat_sets.specs.Graphs.{IsGraph, ends_of};
 ghost use Rattle.mat_arbor.specs.Growing.{IsGrownTree, Leaves};
 

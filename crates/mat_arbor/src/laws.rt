@@ -1,8 +1,8 @@
 //! What an answer proves of a graph. Each law is the contract of a function that does nothing.
 
-ghost use Rattle.std.specs.Prelude.{◌≡◌, ◌<◌, ◌↔◌, ℕ, List, Bool, true, length, suc, ◌&&◌, ◌⊎◌};
+ghost use Rattle.std.specs.Prelude.{◌≡◌, ◌<◌, ◌↔◌, ℕ, List, true, length, suc, ◌⊎◌};
 ghost use Rattle.mat_sets.specs.Graphs.{IsGraph, IsSpanningArborescence, ends_of, IsUnentered};
-ghost use Rattle.mat_sets.specs.Sets.{is_member, IsSet};
+ghost use Rattle.mat_sets.specs.Sets.{IsSet};
 ghost use Rattle.mat_sets.specs.Weights.{◌≼◌, weight};
 ghost use Rattle.mat_sets.specs.declared.weight.Weight.{Weight};
 ghost use Rattle.mat_graphic.specs.Forests.{is_graphic};

@@ -1,5 +1,6 @@
 //! The search for a least spanning arborescence.
 ghost use Rattle.std.specs.Prelude.{◌≡◌, ◌<◌, ◌≤◌, ◌^◌, ◌↔◌, true, length, map, IfOk};
+ghost use Rattle.mat_sets.specs.Limits.{largest_weight, most_vertices, most_elements};
 ghost use Rattle.mat_sets.specs.Graphs.{IsGraph, ends_of};
 ghost use Rattle.mat_sets.specs.Weights.{negated, AreWeightsWithin};
 ghost use Rattle.mat_count.specs.Labels.{caps_by, classes_by};
@@ -18,7 +19,7 @@ use std::thread::Threads;
 
 /// The negated costs.
 fn negated_costs(alloc: Global, costs: &[Weight]) -> Result<Vec<Weight>, AllocError>
-    requires { AreWeightsWithin (10 ^ 12) costs.now }
+    requires { AreWeightsWithin largest_weight costs.now }
     ensures { IfOk result (λ v. v.items ≡ map negated costs.now) }
 {
     let mut all = Vec::with_capacity(alloc, costs.len())?;
@@ -73,10 +74,10 @@ pub fn least_arborescence<R: Threads + Sync>(
 ) -> Result<Arbor, AllocError>
     requires graph { IsGraph vertices arcs.now }
     requires root { root < vertices }
-    requires vertices { vertices ≤ 500 }
-    requires few { length arcs.now ≤ 500 }
+    requires vertices { vertices ≤ most_vertices }
+    requires few { length arcs.now ≤ most_elements }
     requires lengths { length costs.now ≡ length arcs.now }
-    requires small { AreWeightsWithin (10 ^ 12) costs.now }
+    requires small { AreWeightsWithin largest_weight costs.now }
     requires workers { (1 ≤ workers) × (workers ≤ 16) }
     ensures right { IfOk result (IsRightArbor vertices arcs.now costs.now root) }
     ensures unreached { IfOk result (λ a. (is_unreached a ≡ true) ↔ HasNoArborescence vertices arcs.now root) }

@@ -18,9 +18,6 @@ module _ (vertices root : ℕ) (ends : ℕ → ℕ × ℕ) (live reached : List 
     pub passed : (j : ℕ) → j < i → IsTakable vertices root ends live reached m (get_or live j 0) → ⊥
     pub refused_each : AreRefused vertices root ends live m refused
 
-  pub IsScanned-start : (refused : List ℕ) → AreRefused vertices root ends live m refused → IsScanned 0 refused
-  IsScanned-start refused r = record { passed = λ j l t. absurd (omega arith); refused_each = r }
-
   IsScanned-next : (i : ℕ) (refused more : List ℕ) → (IsTakable vertices root ends live reached m (get_or live i 0) → ⊥)
       → AreRefused vertices root ends live m more → IsScanned i refused → IsScanned (i + 1) more
   IsScanned-next i refused more out r s = record {

@@ -3,15 +3,15 @@
 -- reached to its other vertices, since these others are entered by more. Where a set Y that only m live arcs enter is entered by that arc,
 -- X ∩ Y is a smaller such set: it has the head of the arc and not its tail, and the number of entering arcs is submodular. One begins with
 -- the set of all vertices, which no arc enters.
-use Rattle.std.proofs.Common.{◌≡◌, ℕ, zero, suc, ◌<◌, ◌≤◌, Bool, true, false, not, ◌&&◌, leb, List, [], ◌∷◌, length, inl, inr, refl, sym, ap, ◌∙◌, subst, arith}
-use Rattle.std.proofs.lemmas.Bool.{eqb-true, lt-ltb, and_from, and_parts, both_ways, cases_Bool, cases_lt, false_from_ne_true, false≢true, le-leb, leb-true, not-true, or_from}
+use Rattle.std.proofs.Common.{◌≡◌, ℕ, zero, suc, ◌<◌, ◌≤◌, Bool, true, false, not, ◌&&◌, leb, List, [], length, inl, inr, refl, sym, ap, ◌∙◌, subst, arith}
+use Rattle.std.proofs.lemmas.Bool.{eqb-true, lt-ltb, and_from, and_parts, both_ways, cases_Bool, cases_lt, false_from_ne_true, le-leb, leb-true, not-true, or_from, and_right}
 use Rattle.mat_sets.specs.Search.{some_subset}
 use Rattle.mat_sets.specs.Sets.{all_below, intersection, is_member, minus, union, without_one, IsRising, IsSet, IsSubset}
 use Rattle.mat_sets.proofs.Cardinalities.{length-without_one}
 use Rattle.mat_sets.proofs.DisjointSets.{no_members, minus_from, minus_parts}
 use Rattle.mat_sets.proofs.Equalities.{intersection-commute, intersection-subset}
 use Rattle.mat_sets.proofs.Ground.{is_member-all_below, length-all_below, below_member, AllBelow-subset, IsRising-all_below, IsSet-all_below, IsSet-intersection, IsSet-minus, IsSet-union, IsSubset-all_below}
-use Rattle.mat_sets.proofs.Members.{is_member-head, is_member-intersection, is_member-union, is_member-without_one, IsRising-without_one, some_from_member}
+use Rattle.mat_sets.proofs.Members.{is_member-intersection, is_member-union, is_member-without_one, IsRising-without_one, some_from_member}
 use Rattle.mat_sets.proofs.Search.{some_subset_gives, some_subset_none}
 use Rattle.mat_sets.proofs.Subsets.{intersection-left, length-subset}
 use Rattle.mat_sets.specs.Graphs.{enters, entering, IsRootFree}
@@ -124,8 +124,8 @@ module _ (vertices root : ℕ) (ends : ℕ → ℕ × ℕ) where
               let Z_set = IsSet-intersection vertices X Y set in
               let head_in : is_member (ends w.arc).1 Z ≡ true = is_member-intersection _ X Y ∙ and_from _ _ w.head_in comes.0 in
               let few_Z = meets Y (ends w.arc).1 Y_free few_Y w.head_in comes.0 in
-              let root_out : is_member root Z ≡ false = is_member-intersection root X Y ∙ rw (not-true _ q.0) (none_of (is_member root X)) in
-              let tail_out : is_member (ends w.arc).0 Z ≡ false = is_member-intersection _ X Y ∙ rw (not-true _ comes.1) (none_of (is_member (ends w.arc).0 X)) in
+              let root_out : is_member root Z ≡ false = is_member-intersection root X Y ∙ rw (not-true _ q.0) (and_right (is_member root X) false refl) in
+              let tail_out : is_member (ends w.arc).0 Z ≡ false = is_member-intersection _ X Y ∙ rw (not-true _ comes.1) (and_right (is_member (ends w.arc).0 X) false refl) in
               let less = smaller Z X (ends w.arc).0 Z_set.rising set.rising (intersection-left X Y) w.tail_in tail_out in
               choose size Z (ends w.arc).1 (omega arith) Z_set few_Z head_in w.head (λ W y W_free few_W in_Z in_W.
               let join : IsRootFree vertices root (union Z W) = record {
@@ -135,10 +135,6 @@ module _ (vertices root : ℕ) (ends : ℕ → ℕ × ℕ) where
               } in
               omega (arith, entering-submodular ends live Z W, entered.each (union Z W) join)))
         ]
-      where
-        none_of : (b : Bool) → (b && false) ≡ false
-        none_of true = refl
-        none_of false = refl
 
     -- no live arc enters the set of all vertices
     none_enters_all : entering ends live (all_below vertices) ≡ []

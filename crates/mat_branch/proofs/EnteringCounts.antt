@@ -1,36 +1,11 @@
--- The arcs that enter a vertex set, counted one after the other.
-use Rattle.std.proofs.Common.{◌≡◌, ℕ, ◌+◌, ◌≤◌, true, false, ltb, List, length, sym, ap, ◌∙◌, arith}
-use Rattle.std.proofs.lemmas.Bool.{and_parts, false_from_ne_true, ltb-true}
+-- The arcs that enter a vertex set, counted one after the other, are those of all arcs that enter it.
+use Rattle.std.proofs.Common.{◌≡◌, ℕ, List, length}
 use Rattle.mat_sets.specs.Graphs.{enters, entering}
 use Rattle.mat_sets.specs.Search.{those_below}
-use Rattle.mat_sets.specs.Sets.{all_below, is_member}
-use Rattle.mat_sets.proofs.Cardinalities.{length-with_one}
-use Rattle.mat_sets.proofs.Rounds.{those_below-put, those_below-skip}
-use Rattle.mat_sets.proofs.Search.{is_member-those_below, IsSet-those_below, length-those_below_most}
+use Rattle.mat_sets.specs.Sets.{all_below}
+use Rattle.mat_sets.proofs.Counting.{IsCounted}
 
-module _ (ends : ℕ → ℕ × ℕ) (cut : List ℕ) where
-  -- so many of the first n arcs enter
-  pub record IsCounted (n count : ℕ) : Type 0 where
-    pub many : count ≡ length (those_below n (enters ends cut))
-
-  pub IsCounted-few : (n count : ℕ) → IsCounted n count → count ≤ n
-  IsCounted-few n count c = let most = length-those_below_most n (enters ends cut) in omega (arith, c.many)
-
-  pub IsCounted-start : IsCounted 0 0
-  IsCounted-start = record { many = (let most = length-those_below_most 0 (enters ends cut) in omega arith) }
-
-  pub IsCounted-put : (n count : ℕ) → enters ends cut n ≡ true → IsCounted n count → IsCounted (n + 1) (count + 1)
-  IsCounted-put n count e c =
-      let fresh : is_member n (those_below n (enters ends cut)) ≡ false = false_from_ne_true _ (λ h.
-      let p = and_parts (ltb n n) _ (sym (is_member-those_below n n (enters ends cut)) ∙ h) in
-      let l = ltb-true n n p.0 in absurd (omega arith)) in
-      let size = length-with_one (those_below n (enters ends cut)) n (IsSet-those_below n (enters ends cut)).rising fresh in
-      let more = ap length (those_below-put n (enters ends cut) e) in
-      record { many = omega (arith, c.many) }
-
-  pub IsCounted-skip : (n count : ℕ) → enters ends cut n ≡ false → IsCounted n count → IsCounted (n + 1) count
-  IsCounted-skip n count e c = record { many = c.many ∙ ap length (those_below-skip n (enters ends cut) e) }
-
-  pub IsCounted-end : (n count : ℕ) → IsCounted n count → count ≡ length (entering ends (all_below n) cut)
-  unfolding entering those_below
-  IsCounted-end n count c = c.many
+pub IsCounted-entering : (ends : ℕ → ℕ × ℕ) (cut : List ℕ) (n count : ℕ) → IsCounted (enters ends cut) n count
+    → count ≡ length (entering ends (all_below n) cut)
+unfolding entering those_below
+IsCounted-entering ends cut n count c = c.many

@@ -9,7 +9,7 @@ use Rattle.mat_flow.specs.ArcPaths.{AreArcPaths, IsArcCut}
 use Rattle.mat_sets.specs.Graphs.{enters, entering}
 use Rattle.mat_flow.proofs.ArcPathLaws.{paths_enter}
 use Rattle.mat_sets.proofs.Crossings.{entering-same, is_member-entering, IsRising-entering}
-use Rattle.mat_branch.specs.Growth.{AreEntered, IsRefused, IsSeldomEnteredBy, TellsSpare}
+use Rattle.mat_branch.specs.Growth.{AreEntered, IsRefused, TellsSpare}
 
 module _ (vertices root : ℕ) (ends : ℕ → ℕ × ℕ) where
   -- k paths to each vertex but the root
@@ -21,14 +21,6 @@ module _ (vertices root : ℕ) (ends : ℕ → ℕ × ℕ) where
         let v = member_from_some cut free.some in
         let p = each v.0 (below_member free.set v.1) (λ e. both_ways _ free.free (subst (λ z. is_member z cut ≡ true) e v.1)) in
         paths_enter ends live root v.0 k cut p.0 r free.free v.1 p.1;
-  }
-
-  -- a cut of one vertex from the root
-  pub IsSeldomEnteredBy-cut : (live : List ℕ) (k v : ℕ) (cut : List ℕ) → IsArcCut vertices ends live root v k cut
-      → IsSeldomEnteredBy vertices root ends live k cut
-  IsSeldomEnteredBy-cut live k v cut c = record {
-    root_free = record { set = c.set; some = some_from_member v cut c.holds; free = c.misses };
-    few = c.few;
   }
 
   -- m paths to the head over the other live arcs
@@ -72,9 +64,6 @@ module _ (vertices root : ℕ) (ends : ℕ → ℕ × ℕ) where
 -- so many paths lead from the root to each of the first n vertices but the root itself
 pub record AreServed (ends : ℕ → ℕ × ℕ) (live : List ℕ) (root k n : ℕ) : Type 0 where
   pub each : (v : ℕ) → v < n → (v ≡ root → ⊥) → (paths : List (List ℕ)) × AreArcPaths ends live root v k paths
-
-pub AreServed-none : (ends : ℕ → ℕ × ℕ) (live : List ℕ) (root k : ℕ) → AreServed ends live root k 0
-AreServed-none ends live root k = record { each = λ v l d. absurd (omega arith) }
 
 pub AreServed-root : (ends : ℕ → ℕ × ℕ) (live : List ℕ) (root k n : ℕ) → n ≡ root → AreServed ends live root k n → AreServed ends live root k (n + 1)
 AreServed-root ends live root k n e s = record { each = λ v l d. s.each v (omega (arith, d)) d }

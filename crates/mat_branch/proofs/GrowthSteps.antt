@@ -7,7 +7,7 @@ use Rattle.mat_sets.specs.Graphs.{Reaches, IsSpanningArborescence}
 use Rattle.mat_sets.specs.Sets.{all_below, is_member, with_one, without_one, IsSet}
 use Rattle.mat_sets.proofs.Cardinalities.{length-with_one}
 use Rattle.mat_sets.proofs.Ground.{below_member, is_member-all_below, length-all_below, IsRising-all_below, IsSet-nil, IsSet-with_one, IsSet-without_one, IsSubset-all_below}
-use Rattle.mat_sets.proofs.Members.{is_member-with_one, is_member-without_one}
+use Rattle.mat_sets.proofs.Members.{is_member-with_one, is_member-without_one, only_member}
 use Rattle.mat_sets.proofs.Subsets.{larger_has, same_size_subset, IsSubset-with_one}
 use Rattle.mat_sets.proofs.Walking.{Reaches-arc, Reaches-itself, Reaches-subset, Reaches-trans}
 use Rattle.mat_sets.proofs.Crossings.{entering-same}
@@ -15,9 +15,6 @@ use Rattle.mat_branch.specs.Growth.{AreEntered, Grows, IsGrown, IsTakable}
 use Rattle.mat_branch.proofs.Choosing.{some_takable}
 
 module _ (vertices arcs root : ℕ) (ends : ℕ → ℕ × ℕ) where
-  is_one : (x y : ℕ) → is_member x (y ∷ []) ≡ true → x ≡ y
-  is_one x y m = elim (or_cases (eqb x y) false m) [ inl e ↦ eqb-true x y e | inr n ↦ absurd (false≢true n) ]
-
   pub Grows-start : (live : List ℕ) (m : ℕ) → IsSet arcs live → root < vertices → AreEntered vertices root ends live (suc m)
       → Grows vertices arcs root ends live m live (root ∷ []) []
   Grows-start live m set below e = record {
@@ -26,7 +23,7 @@ module _ (vertices arcs root : ℕ) (ends : ℕ → ℕ × ℕ) where
     reached_set = record { rising = record { rises = (omega arith, tt) }; below = (below, tt) };
     start = or_left (eqb root root) false (eq-eqb root root refl);
     size = refl;
-    reaches = λ v h. subst (Reaches ends [] root) (sym (is_one v root h)) (Reaches-itself ends [] root);
+    reaches = λ v h. subst (Reaches ends [] root) (sym (only_member v root h)) (Reaches-itself ends [] root);
     parts = λ a. omega arith;
     entered = record { each = λ cut free. let h = e.each cut free in omega arith };
     outside = record { each = λ cut free none. e.each cut free };

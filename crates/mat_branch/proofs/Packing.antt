@@ -1,7 +1,7 @@
 -- One arborescence after the other is packed: what is kept, that packing ends with as many as each root-free set lets in, and that no more
 -- can be packed than the arcs that enter a root-free set.
-use Rattle.std.proofs.Common.{◌≡◌, ℕ, zero, suc, ◌+◌, ◌-◌, ◌<◌, ◌≤◌, ◌⊎◌, Option, None, Some, Bool, true, false, List, [], ◌∷◌, ◌++◌, length, inl, inr, refl, sym, ap, subst, arith, length-append}
-use Rattle.std.proofs.lemmas.Bool.{cases_Bool}
+use Rattle.std.proofs.Common.{◌≡◌, ℕ, zero, suc, ◌+◌, ◌-◌, ◌<◌, ◌≤◌, ◌⊎◌, ◌↔◌, Option, None, Some, Bool, true, false, List, [], ◌∷◌, ◌++◌, length, inl, inr, refl, sym, ap, subst, arith, length-append}
+use Rattle.std.proofs.lemmas.Bool.{cases_Bool, false≢true}
 use Rattle.std.proofs.lemmas.List.Elements.{All-get_or, All-nil, All-push}
 use Rattle.std.specs.List.{All}
 use Rattle.mat_sets.specs.Families.{indicator, multiplicity, AreDisjoint}
@@ -12,7 +12,10 @@ use Rattle.mat_sets.proofs.Ground.{below_member, IsRising-all_below, IsSet-all_b
 use Rattle.mat_sets.proofs.Crossings.{at_most_entering, walk_enters}
 use Rattle.mat_sets.proofs.Members.{member_from_some}
 use Rattle.mat_branch.specs.Arborescences.{AreDisjointArborescences, IsSeldomEntered}
-use Rattle.mat_branch.specs.Growth.{AreEntered, IsGrown, IsSeldomEnteredBy, TellsSeldom}
+use Rattle.mat_branch.specs.Growth.{AreEntered, IsGrown, TellsSeldom, IsSeldomEnteredBy}
+use Rattle.mat_branch.specs.Branches.{is_cut, HasNoArborescences, IsBranching}
+use Rattle.mat_branch.specs.declared.branching.Branch.{Branch}
+use Rattle.mat_branch.specs.declared.branching.Branch.TheVariants.{All as Branches, Cut}
 use Rattle.mat_branch.specs.Spanning.{some_seldom_entered}
 use Rattle.mat_branch.proofs.GrowthSteps.{grow, Grows-start}
 use Rattle.mat_branch.proofs.Seldom.{none_gives, some_gives}
@@ -102,6 +105,12 @@ module _ (vertices arcs root : ℕ) (ends : ℕ → ℕ × ℕ) where
   pub seldom_entered_has_none : (k : ℕ) (trees : List (List ℕ)) (cut : List ℕ) → AreDisjointArborescences vertices arcs ends root k trees
       → IsSeldomEntered vertices arcs ends root k cut → ⊥
   seldom_entered_has_none k trees cut d c = let most = each_enters k trees d cut c.root_free in let few = c.few in absurd (omega arith)
+
+  -- a right answer is such a set exactly where there are no such arborescences
+  pub no_arborescences_told : (k : ℕ) (found : Branch) → IsBranching vertices arcs ends root k found
+      → (is_cut found ≡ true) ↔ HasNoArborescences vertices arcs ends root k
+  no_arborescences_told k (Branches trees) b = ((λ e. absurd (false≢true e)), λ none. absurd (none trees b))
+  no_arborescences_told k (Cut cut) b = ((λ _ trees d. seldom_entered_has_none k trees cut d b), λ _. refl)
 
 -- ---- the loop
 

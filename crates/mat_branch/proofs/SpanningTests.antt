@@ -1,7 +1,7 @@
 -- The test of spanning arborescences is exact: where each root-free set is entered, an arborescence grows in the arcs, so the root reaches each
 -- vertex along them; and a walk from the root to a member of such a set enters it.
 use Rattle.std.proofs.Common.{◌≡◌, ◌↔◌, ℕ, suc, ◌+◌, ◌<◌, ◌≤◌, Bool, true, false, not, ◌&&◌, eqb, List, [], ◌∷◌, length, refl, sym, ap, ◌∙◌, arith}
-use Rattle.std.proofs.lemmas.Bool.{and_from, and_parts, eq-eqb, eqb-true, not-true}
+use Rattle.std.proofs.lemmas.Bool.{and_from, and_parts, eq-eqb, eqb-true, not-true, and_right}
 use Rattle.mat_sets.specs.Families.{indicator}
 use Rattle.mat_sets.specs.Graphs.{entering, IsSpanningArborescence}
 use Rattle.mat_sets.specs.Sets.{is_member, IsSet}
@@ -57,11 +57,7 @@ module _ (vertices arcs root : ℕ) (ends : ℕ → ℕ × ℕ) (tree : List ℕ
 
   pub told_cut : (cut : List ℕ) → IsSeldomEnteredBy vertices root ends tree 1 cut → false ≡ is_spanning_arborescence vertices ends root tree
   told_cut cut s = sym (ap (λ b. eqb (suc (length tree)) vertices && not b) (found_some vertices root ends tree 1 cut s)
-      ∙ none_of (eqb (suc (length tree)) vertices))
-    where
-      none_of : (b : Bool) → (b && false) ≡ false
-      none_of true = refl
-      none_of false = refl
+      ∙ and_right (eqb (suc (length tree)) vertices) false refl)
 
   pub told_entered : suc (length tree) ≡ vertices → AreEntered vertices root ends tree 1 → true ≡ is_spanning_arborescence vertices ends root tree
   told_entered size e = sym (and_from _ _ (eq-eqb (suc (length tree)) vertices size) (ap not (found_none vertices root ends tree 1 e)))

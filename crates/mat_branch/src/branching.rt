@@ -1,7 +1,7 @@
 //! Disjoint spanning arborescences, one grown after the other.
-ghost use Rattle.std.specs.Prelude.{◌<◌, length, IfOk};
+ghost use Rattle.std.specs.Prelude.{◌≡◌, ◌<◌, ◌↔◌, true, length, IfOk};
 ghost use Rattle.mat_sets.specs.Graphs.{ends_of};
-ghost use Rattle.mat_branch.specs.Branches.{IsBranching};
+ghost use Rattle.mat_branch.specs.Branches.{is_cut, HasNoArborescences, IsBranching};
 
 use crate::growing::grow_tree;
 use crate::spare::seldom_entered;
@@ -19,11 +19,13 @@ pub enum Branch {
 }
 
 /// k spanning arborescences from the root that share no arc, or a non-empty vertex set without the root that fewer than k arcs enter
-/// (Edmonds 1973, by the proof of Lovász 1976; Schrijver, chapter 53): then there are no such arborescences. At most k paths are sought
-/// to each vertex, and for each arborescence at most k to the head of each arc. The only error is want of memory.
+/// (Edmonds 1973, by the proof of Lovász 1976; Schrijver, chapter 53): the set comes exactly where there are no such arborescences. At
+/// most k paths are sought to each vertex, and for each arborescence at most k to the head of each arc. The only error is want of memory.
 pub fn disjoint(alloc: Global, graph: &Digraph, root: u32, k: u32) -> Result<Branch, AllocError>
     requires { root < graph.now.vertices }
-    ensures { IfOk result (IsBranching graph.now.vertices (length graph.now.arcs) (ends_of graph.now.arcs) root k) }
+    ensures right { IfOk result (IsBranching graph.now.vertices (length graph.now.arcs) (ends_of graph.now.arcs) root k) }
+    ensures cut { IfOk result (λ found. (is_cut found ≡ true)
+        ↔ HasNoArborescences graph.now.vertices (length graph.now.arcs) (ends_of graph.now.arcs) root k) }
 {
     let mut live = ElemSet::all_below(alloc, graph.arcs().len() as u32)?;
     if let Some(cut) = seldom_entered(alloc, graph, &live, root, k)? {

@@ -4,7 +4,6 @@ use Rattle.std.proofs.Common.{◌≡◌, ℕ, pos, true, cond, List, [], ◌∷�
 use Rattle.std.proofs.Common.{subst, ◌∙◌}
 use Rattle.std.specs.Prelude.{codes, bytes_eq}
 use Rattle.std.specs.List.{list_all, join_with_byte}
-use Rattle.std.proofs.lemmas.Bool.{and_from}
 use Rattle.std.proofs.lemmas.List.Splits.{join_with_byte-slice_split}
 use Rattle.mat_words.specs.Lines.{Line, lines_of, text_of}
 use Rattle.mat_words.specs.Words.{is_word}
@@ -12,21 +11,18 @@ use Rattle.mat_words.specs.Numbers.{numeral, numerals}
 use Rattle.mat_words.specs.Weights.{weight_word}
 use Rattle.mat_words.specs.Writing.{end_line, members_line, weights_line}
 use Rattle.mat_words.specs.Cursors.{WordsLeft, LinesLeft}
-use Rattle.mat_words.specs.Steps.{◌>>=◌}
 use Rattle.mat_words.specs.Reading as any_text
 use Rattle.mat_words.proofs.ReadingSteps.{found-same, bind_found}
 use Rattle.mat_words.proofs.WordReading.{numerals_words, weights_words}
 use Rattle.mat_words.proofs.LineReading.{AreLeft, keyed_again}
-use Rattle.mat_cert.specs.declared.refusal.CertKind.TheVariants.{UnknownWord}
 use Rattle.mat_cert.specs.declared.refusal.CertRefusal.{CertRefusal}
 use Rattle.mat_cert.specs.declared.refusal.CertRefusal.TheVariants as refusals
 use Rattle.mat_cert.specs.Certificates as certificates
 use Rattle.mat_cert.specs.Certificates.{Certificate, IsRanged, certificate_lines, certificate_text, header_line, last_rung, version_line}
 use Rattle.mat_cert.specs.Certificates.{level_line, option_lines, sets_lines, rungs_lines, plain_rung_lines, priced_rung_lines}
 use Rattle.mat_cert.specs.Faults.{Fault, Gives}
-use Rattle.mat_cert.specs.LineReading.{word_at, keyed_at, version_at, end_at, closed_at}
-use Rattle.mat_cert.specs.Reading.{intersect_at, best_at, union_at, pack_at, cover_at, trees_at, arborescence_at, disjoint_at, rainbow_at}
-use Rattle.mat_cert.specs.Reading.{assign_at, answer_of_command, answer_at, certificate_at, read_of}
+use Rattle.mat_cert.specs.LineReading.{version_at}
+use Rattle.mat_cert.specs.Reading.{answer_of_command, answer_at, certificate_at, read_of}
 use Rattle.mat_cert.proofs.WordLaws.{word_read}
 use Rattle.mat_cert.proofs.LineLaws.{IsReadAgain, line_read, version_found, version_again, end_found, end_again, closed_found, closed_again}
 use Rattle.mat_cert.proofs.AnswerReading.{IsCommandRead, by_word, words_append}

@@ -13,6 +13,7 @@ use Rattle.std.proofs.lemmas.Int.Digits.{length-digits_of-le}
 use Rattle.std.proofs.lemmas.List.{length-append, length-map}
 use Rattle.std.proofs.lemmas.Option.{slice_get_within}
 use Rattle.std.proofs.lemmas.List.Elements.{All-append, All-cons, All-head, All-map, All-nil, All-tail, All-weaker}
+use Rattle.mat_sets.specs.Limits.{largest_number, most_elements}
 use Rattle.mat_sets.specs.Sets.{AllBelow, IsSet}
 use Rattle.mat_sets.specs.Sums.{IsWithin}
 use Rattle.mat_sets.specs.declared.weight.Weight.{Weight}
@@ -101,8 +102,8 @@ length-printed w range =
 
 length-weight : (w : Weight) → IsCertificateWeight w → IsShort (weight_word w)
 length-weight w range =
-    length-weight_word 32 w (length-within 31 (10 ^ 30) w.main (omega arith) (omega arith) range.0)
-    (length-within 31 (10 ^ 30) w.tie (omega arith) (omega arith) range.1)
+    length-weight_word 32 w (length-within 31 largest_number w.main (omega arith) (omega arith) range.0)
+    (length-within 31 largest_number w.tie (omega arith) (omega arith) range.1)
 
 length-small : (x : ℕ) → x ≤ 501 → IsShort (numeral (pos x))
 length-small x small =
@@ -115,7 +116,7 @@ short_numerals n [] few below = All-nil IsShort
 short_numerals n (x ∷ xs) few below =
     All-cons IsShort (numeral (pos x)) (numerals xs) (length-small x (omega (arith, below.0))) (short_numerals n xs few below.1)
 
-pub short_set_line : (n : ℕ) (keyword set : List ℕ) → n ≤ 500 → IsShort keyword → IsSet n set → IsShortHere (members_line keyword set)
+pub short_set_line : (n : ℕ) (keyword set : List ℕ) → n ≤ most_elements → IsShort keyword → IsSet n set → IsShortHere (members_line keyword set)
 short_set_line n keyword set few short is_set = record {
   few =
       let size = length-complement n set is_set.rising is_set.below in
@@ -123,7 +124,7 @@ short_set_line n keyword set few short is_set = record {
   short = All-cons IsShort keyword (numerals set) short (short_numerals n set (omega arith) is_set.below);
 }
 
-short_weights_line : (keyword : List ℕ) (weights : List Weight) → IsShort keyword → length weights ≤ 500 → All IsCertificateWeight weights
+short_weights_line : (keyword : List ℕ) (weights : List Weight) → IsShort keyword → length weights ≤ most_elements → All IsCertificateWeight weights
     → IsShortHere (weights_line keyword weights)
 short_weights_line keyword weights short few range = record {
   few = omega (arith, length-map weights weight_word);
@@ -141,18 +142,18 @@ short_rung_line k weight few range = record {
       (All-cons IsShort (weight_word weight) [] (length-weight weight range) (All-nil IsShort)));
 }
 
-short_plain_rung : (n k : ℕ) (rung : PlainRung) → n ≤ 500 → k ≤ 501 → IsRangedPlainRung n k rung
+short_plain_rung : (n k : ℕ) (rung : PlainRung) → n ≤ most_elements → k ≤ 501 → IsRangedPlainRung n k rung
     → All IsShortHere (plain_rung_lines k rung)
 short_plain_rung n k rung few small range =
     let set = members_line (codes "set") rung.set in
     All-cons IsShortHere (rung_line k rung.weight) (set ∷ []) (short_rung_line k rung.weight small range.weight_in_range)
     (All-cons IsShortHere set [] (short_set_line n (codes "set") rung.set few (omega arith) range.set_in_range) (All-nil IsShortHere))
 
-short_part : (n : ℕ) (keyword : List ℕ) (part : List Weight) → IsShort keyword → n ≤ 500 → IsRangedPart n part
+short_part : (n : ℕ) (keyword : List ℕ) (part : List Weight) → IsShort keyword → n ≤ most_elements → IsRangedPart n part
     → IsShortHere (weights_line keyword part)
 short_part n keyword part short few range = short_weights_line keyword part short (omega (arith, range.size)) range.weights
 
-short_priced_rung : (n k : ℕ) (rung : PricedRung) → n ≤ 500 → k ≤ 501 → IsRangedPricedRung n k rung
+short_priced_rung : (n k : ℕ) (rung : PricedRung) → n ≤ most_elements → k ≤ 501 → IsRangedPricedRung n k rung
     → All IsShortHere (priced_rung_lines k rung)
 short_priced_rung n k rung few small range =
     let set = members_line (codes "set") rung.set in
@@ -223,24 +224,24 @@ short_end =
 -- ---- the lines below a header
 
 -- a set, and the lines behind it
-short_set_and : (n : ℕ) (keyword set : List ℕ) (last : List Line) → n ≤ 500 → IsShort keyword → IsSet n set → All IsShortHere last
+short_set_and : (n : ℕ) (keyword set : List ℕ) (last : List Line) → n ≤ most_elements → IsShort keyword → IsSet n set → All IsShortHere last
     → All IsShortHere (members_line keyword set ∷ last)
 short_set_and n keyword set last few short is_set behind =
     All-cons IsShortHere (members_line keyword set) last (short_set_line n keyword set few short is_set) behind
 
 -- a part of a split, and the lines behind it
-short_part_and : (n : ℕ) (keyword : List ℕ) (part : List Weight) (last : List Line) → n ≤ 500 → IsShort keyword → IsRangedPart n part
+short_part_and : (n : ℕ) (keyword : List ℕ) (part : List Weight) (last : List Line) → n ≤ most_elements → IsShort keyword → IsRangedPart n part
     → All IsShortHere last → All IsShortHere (weights_line keyword part ∷ last)
 short_part_and n keyword part last few short range behind =
     All-cons IsShortHere (weights_line keyword part) last (short_part n keyword part short few range) behind
 
-short_sets : (n : ℕ) (keyword : List ℕ) (sets : List (List ℕ)) → n ≤ 500 → IsShort keyword → All (IsSet n) sets
+short_sets : (n : ℕ) (keyword : List ℕ) (sets : List (List ℕ)) → n ≤ most_elements → IsShort keyword → All (IsSet n) sets
     → All IsShortHere (sets_lines keyword sets)
 short_sets n keyword sets few short each =
     All-map IsShortHere (members_line keyword) sets
     (All-weaker (IsSet n) (λ set. IsShortHere (members_line keyword set)) (λ set is_set. short_set_line n keyword set few short is_set) sets each)
 
-short_option : (n : ℕ) (keyword : List ℕ) (needed : Bool) (option : Option (List ℕ)) → n ≤ 500 → IsShort keyword
+short_option : (n : ℕ) (keyword : List ℕ) (needed : Bool) (option : Option (List ℕ)) → n ≤ most_elements → IsShort keyword
     → IsRangedOption n needed option → All IsShortHere (option_lines keyword option)
 short_option n keyword needed None few short range = All-nil IsShortHere
 short_option n keyword needed (Some set) few short range = short_set_and n keyword set [] few short range.1 (All-nil IsShortHere)
@@ -249,7 +250,7 @@ length-option : (keyword : List ℕ) (option : Option (List ℕ)) → length (op
 length-option keyword None = omega arith
 length-option keyword (Some set) = omega arith
 
-short_level : (n : ℕ) (level : LevelLine) → n ≤ 500 → IsRangedLevel n level → IsShortHere (level_line level)
+short_level : (n : ℕ) (level : LevelLine) → n ≤ most_elements → IsRangedLevel n level → IsShortHere (level_line level)
 short_level n level few range = record {
   few =
       let size = length-complement n level.cut range.set_in_range.rising range.set_in_range.below in
@@ -260,7 +261,7 @@ short_level n level few range = record {
       (short_numerals n level.cut (omega arith) range.set_in_range.below));
 }
 
-short_levels : (n : ℕ) (levels : List LevelLine) → n ≤ 500 → All (IsRangedLevel n) levels → All IsShortHere (map level_line levels)
+short_levels : (n : ℕ) (levels : List LevelLine) → n ≤ most_elements → All (IsRangedLevel n) levels → All IsShortHere (map level_line levels)
 short_levels n levels few each =
     All-map IsShortHere level_line levels
     (All-weaker (IsRangedLevel n) (λ level. IsShortHere (level_line level)) (λ level range. short_level n level few range) levels each)
@@ -268,7 +269,7 @@ short_levels n levels few each =
 -- ---- ladders
 
 -- the last lines of a ladder on n elements, behind the cut
-pub short_cut : (n : ℕ) (cut : List ℕ) (last : List Line) → n ≤ 500 → IsSet n cut → All IsShortHere last
+pub short_cut : (n : ℕ) (cut : List ℕ) (last : List Line) → n ≤ most_elements → IsSet n cut → All IsShortHere last
     → All IsShortHere (members_line (codes "cut") cut ∷ last)
 short_cut n cut last few is_set behind = short_set_and n (codes "cut") cut last few (omega arith) is_set behind
 
@@ -282,7 +283,7 @@ short_ladder_header IsRangedAt command n rungs numbers short range few small =
     short_numbers command (n ∷ last_rung rungs ∷ numbers) short (omega arith) (omega arith, (omega arith, small))
 
 -- the lines behind the cut of a ladder of forests, and their number
-pub short_missing : (n : ℕ) (needed : Bool) (missing : Option (List ℕ)) → n ≤ 500 → IsRangedOption n needed missing
+pub short_missing : (n : ℕ) (needed : Bool) (missing : Option (List ℕ)) → n ≤ most_elements → IsRangedOption n needed missing
     → All IsShortHere (option_lines (codes "colours") missing ++ end_line ∷ [])
 short_missing n needed missing few range =
     All-append IsShortHere (option_lines (codes "colours") missing) (end_line ∷ [])
@@ -340,7 +341,7 @@ length-few command words lines short all few =
 
 -- a header of numbers, sets, and at most two lines
 length-sets : (command : List ℕ) (words : Line) (n : ℕ) (keyword : List ℕ) (sets : List (List ℕ)) (last : List Line)
-    → IsShortHeader command words → n ≤ 500 → IsShort keyword → All (IsSet n) sets → length sets ≤ 500 → All IsShortHere last
+    → IsShortHeader command words → n ≤ most_elements → IsShort keyword → All (IsSet n) sets → length sets ≤ most_elements → All IsShortHere last
     → length last ≤ 2
     → length (text_of (opening command words ++ (sets_lines keyword sets ++ last))) < 24000000
 length-sets command words n keyword sets last header few short each small behind two =
@@ -399,7 +400,7 @@ length-plain (certificates.union_of n weight parts levels) plain range =
       length-map levels level_line,
     ))
 length-plain (certificates.pack_any n) plain range =
-    let few : n ≤ 500 = range in
+    let few : n ≤ most_elements = range in
     length-few (codes "pack") (numerals (n ∷ []) ++ codes "any" ∷ []) (end_line ∷ [])
     (short_header_and (codes "pack") (n ∷ []) (codes "any" ∷ []) (omega arith) (omega arith, tt) (one_short (codes "any") (omega arith))
     (omega arith)) short_end (omega arith)
@@ -410,7 +411,7 @@ length-plain (certificates.pack n bases cut) plain range =
     (short_numbers (codes "pack") (n ∷ length bases ∷ []) (omega arith) (omega arith) (omega arith, (omega arith, tt))) few (omega arith)
     range.bases_in_range.each (omega arith) (short_cut n cut (end_line ∷ []) few range.cut_in_range short_end) (omega arith)
 length-plain (certificates.cover_never n x) plain range =
-    let few : n ≤ 500 = range.0 in
+    let few : n ≤ most_elements = range.0 in
     let below : x < n = range.1 in
     length-few (codes "cover") (numerals (n ∷ []) ++ codes "never" ∷ numerals (x ∷ [])) (end_line ∷ [])
     (short_header_and (codes "cover") (n ∷ []) (codes "never" ∷ numerals (x ∷ [])) (omega arith) (omega arith, tt)

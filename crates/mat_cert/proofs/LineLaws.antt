@@ -1,5 +1,5 @@
 -- The lines of a certificate: what is read is spelled so, and what is spelled so is read.
-use Rattle.std.proofs.Common.{◌≡◌, ℕ, pos, neg_ℤ, Bool, true, false, cond, eqb, List, [], ◌∷◌, ◌++◌, length, map, Result, Ok, Err}
+use Rattle.std.proofs.Common.{◌≡◌, ℕ, pos, neg_ℤ, Bool, true, false, eqb, List, [], ◌∷◌, ◌++◌, length, map, Result, Ok}
 use Rattle.std.proofs.Common.{Some, None, refl, sym, ap, subst, ◌∙◌, arith}
 use Rattle.std.specs.Prelude.{Option, codes}
 use Rattle.std.specs.List.{list_all}
@@ -24,7 +24,7 @@ use Rattle.mat_words.proofs.LineReading.{AreLeft, keyed_found, keyed_again}
 use Rattle.mat_cert.specs.declared.answer.LevelLine.{LevelLine}
 use Rattle.mat_cert.specs.declared.refusal.CertKind.TheVariants.{AfterEnd}
 use Rattle.mat_cert.specs.Faults.{Fault}
-use Rattle.mat_cert.specs.Limits.{largest_number}
+use Rattle.mat_sets.specs.Limits.{largest_number}
 use Rattle.mat_cert.specs.Certificates.{IsCertificateWeight, IsRangedLevel, IsRangedOption, IsRangedPart, level_line, option_lines, rung_line}
 use Rattle.mat_cert.specs.Certificates.{version_line}
 use Rattle.mat_cert.specs.LineReading.{fixed_at, has_words, number_at, weight_at, weights_at, members_from, keyed_at, counted_at}

@@ -12,7 +12,7 @@ use Rattle.mat_words.proofs.ReadingSteps.{found-same, bind_found}
 use Rattle.mat_words.proofs.LineReading.{AreLeft}
 use Rattle.mat_cert.specs.declared.answer.LevelLine.{LevelLine}
 use Rattle.mat_cert.specs.Faults.{Fault}
-use Rattle.mat_cert.specs.Certificates.{AreRangedSets, IsRangedLevel, level_line, sets_lines}
+use Rattle.mat_cert.specs.Certificates.{IsRangedLevel, level_line, sets_lines}
 use Rattle.mat_cert.specs.LineReading.{set_at, sets_at, level_at}
 use Rattle.mat_cert.proofs.LineLaws.{IsRead, IsReadAgain, set_found, set_again, level_found, level_again}
 

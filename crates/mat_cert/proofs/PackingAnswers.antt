@@ -4,19 +4,18 @@ use Rattle.std.proofs.Common.{◌∙◌, arith}
 use Rattle.std.specs.Prelude.{Option, codes, bytes_eq, nat_lt}
 use Rattle.std.proofs.lemmas.Slice.Eq.{bytes_eq-Decides}
 use Rattle.mat_sets.specs.declared.weight.Weight.{Weight}
-use Rattle.mat_words.specs.Lines.{Line}
 use Rattle.mat_words.specs.Numbers.{number_of, numeral, numerals}
 use Rattle.mat_words.specs.Weights.{weight_word}
 use Rattle.mat_words.specs.Writing.{end_line, members_line}
 use Rattle.mat_words.specs.Cursors.{WordsLeft, LinesLeft}
-use Rattle.mat_words.specs.Steps.{◌>>=◌}
 use Rattle.mat_words.specs.Reading as any_text
 use Rattle.mat_words.proofs.NumberLemmas.{read_again}
 use Rattle.mat_words.proofs.ReadingSteps.{found-same, bind_found}
 use Rattle.mat_words.proofs.WordReading.{size_again}
 use Rattle.mat_words.proofs.LineReading.{AreLeft}
 use Rattle.mat_cert.specs.declared.answer.LevelLine.{LevelLine}
-use Rattle.mat_cert.specs.Limits.{most_elements, most_matroids}
+use Rattle.mat_cert.specs.Limits.{most_matroids}
+use Rattle.mat_sets.specs.Limits.{most_elements}
 use Rattle.mat_cert.specs.Certificates.{Certificate, union_of, pack_any, pack, cover_never, cover, IsRangedUnion, IsRangedPacking}
 use Rattle.mat_cert.specs.Certificates.{IsRangedCover, IsRangedOption, level_line, sets_lines, option_lines}
 use Rattle.mat_cert.specs.Reading.{union_at, bases_at, pack_at, never_at, covering_at, cover_at}

@@ -10,6 +10,7 @@ use Rattle.std.proofs.lemmas.Int.Digits.{length-digits_of-le}
 use Rattle.std.proofs.lemmas.List.{length-append, length-map}
 use Rattle.std.proofs.lemmas.Option.{slice_get_within, get_or_from_slice_get}
 use Rattle.std.proofs.lemmas.List.Elements.{All-cons, All-get_or, All-map, All-nil, All-weaker}
+use Rattle.mat_sets.specs.Limits.{most_elements}
 use Rattle.mat_sets.specs.Sets.{AllBelow}
 use Rattle.mat_sets.specs.declared.weight.Weight.{Weight}
 use Rattle.mat_words.specs.Lines.{Line, text_of}
@@ -59,7 +60,7 @@ natural_length k (suc x) some small =
 
 -- ---- one rung
 
-members_short : (n : ℕ) (set : List ℕ) → n ≤ 500 → AllBelow n set → All (IsAtMost 3) (numerals set)
+members_short : (n : ℕ) (set : List ℕ) → n ≤ most_elements → AllBelow n set → All (IsAtMost 3) (numerals set)
 members_short n [] few below = All-nil (IsAtMost 3)
 members_short n (x ∷ xs) few below =
     All-cons (IsAtMost 3) (numeral (pos x)) (numerals xs) (natural_length 3 x (omega arith) (omega (arith, below.0)))
@@ -70,7 +71,7 @@ weights_short weights printed =
     All-map (IsAtMost 45) weight_word weights
     (All-weaker IsPrintedWeight (λ w. IsAtMost 45 (weight_word w)) length-printed weights printed)
 
-rung_line-short : (k : ℕ) (weight : Weight) → k ≤ 500 → IsPrintedWeight weight
+rung_line-short : (k : ℕ) (weight : Weight) → k ≤ most_elements → IsPrintedWeight weight
     → All (IsAtMost 45) (numeral (pos k) ∷ weight_word weight ∷ [])
 rung_line-short k weight few printed =
     let number = natural_length 3 k (omega arith) (omega arith) in
@@ -78,7 +79,7 @@ rung_line-short k weight few printed =
     (All-cons (IsAtMost 45) (weight_word weight) [] (length-printed weight printed) (All-nil (IsAtMost 45)))
 
 -- the two lines that tell the weight and the set of a rung
-weighted_set_length : (n k : ℕ) (weight : Weight) (set : List ℕ) → n ≤ 500 → k ≤ 500 → IsRangedRung n k weight set
+weighted_set_length : (n k : ℕ) (weight : Weight) (set : List ℕ) → n ≤ most_elements → k ≤ most_elements → IsRangedRung n k weight set
     → IsPrintedWeight weight
     → length (text_of (rung_line k weight ∷ members_line (codes "set") set ∷ [])) ≤ 103 + 4 * k
 weighted_set_length n k weight set few small range printed =
@@ -91,13 +92,13 @@ weighted_set_length n k weight set few small range printed =
 abbrev IsShortRung : {R : Type 0} → (ℕ → R → List Line) → ℕ → R → Type 0
 IsShortRung lines_of_rung k rung = length (text_of (lines_of_rung k rung)) ≤ 46118 + 4 * k
 
-plain_rung_length : (n k : ℕ) (rung : PlainRung) → n ≤ 500 → k ≤ 500 → IsRangedPlainRung n k rung → IsPrintedWeight rung.weight
+plain_rung_length : (n k : ℕ) (rung : PlainRung) → n ≤ most_elements → k ≤ most_elements → IsRangedPlainRung n k rung → IsPrintedWeight rung.weight
     → IsShortRung plain_rung_lines k rung
 plain_rung_length n k rung few small range printed =
     let both = weighted_set_length n k rung.weight rung.set few small range printed in
     omega arith
 
-priced_rung_length : (n k : ℕ) (rung : PricedRung) → n ≤ 500 → k ≤ 500 → IsRangedPricedRung n k rung → IsPrintedRung rung
+priced_rung_length : (n k : ℕ) (rung : PricedRung) → n ≤ most_elements → k ≤ most_elements → IsRangedPricedRung n k rung → IsPrintedRung rung
     → IsShortRung priced_rung_lines k rung
 priced_rung_length n k rung few small range printed =
     let head = rung_line k rung.weight in
@@ -143,7 +144,7 @@ rungs_length {R} lines_of_rung k e (rung ∷ rungs) at short =
 -- a ladder of rungs that are printed, with its last lines, which are at most three
 ladder_length : {R : Type 0} (lines_of_rung : ℕ → R → List Line) (IsRangedAt : ℕ → R → Type 0) (command : List ℕ) (words : Line) (n : ℕ)
     (rungs : List R) (last : List Line)
-    → ((k : ℕ) (rung : R) → slice_get rungs k ≡ Some rung → k ≤ 500 → IsRangedAt k rung → IsShortRung lines_of_rung k rung)
+    → ((k : ℕ) (rung : R) → slice_get rungs k ≡ Some rung → k ≤ most_elements → IsRangedAt k rung → IsShortRung lines_of_rung k rung)
     → IsShortHeader command words → AreRangedRungs IsRangedAt n rungs → All IsShortHere last → length last ≤ 3
     → length (text_of (opening command words ++ (rungs_lines lines_of_rung 0 rungs ++ last))) < 24000000
 ladder_length {R} lines_of_rung IsRangedAt command words n rungs last short_at short range short_last three =

@@ -16,14 +16,15 @@ use Rattle.mat_words.proofs.WordReading.{size_again, weight_at_again}
 use Rattle.mat_words.proofs.LineReading.{AreLeft}
 use Rattle.mat_cert.specs.declared.refusal.CertKind.TheVariants.{UnknownWord}
 use Rattle.mat_cert.specs.Faults.{Fault}
-use Rattle.mat_cert.specs.Limits.{most_elements, most_trees, most_vertices, largest_number}
+use Rattle.mat_cert.specs.Limits.{most_trees}
+use Rattle.mat_sets.specs.Limits.{largest_number, most_vertices, most_elements}
 use Rattle.mat_cert.specs.Certificates.{Certificate, trees, trees_none, arbor, unreached, disjoint, disjoint_none, AreRangedTrees, AreRangedSets}
 use Rattle.mat_cert.specs.Certificates.{AreRangedNone, IsRangedArborescence, IsRangedUnreached, sets_lines}
 use Rattle.mat_cert.specs.Reading.{found_trees_at, classes_at, trees_at, arbor_at, unreached_at, arborescence_at, entered_at, disjoint_at}
 use Rattle.mat_cert.proofs.WordLaws.{has_words_found, has_words_again, whole_line, then_words, word_read, size_read, weight_read}
-use Rattle.mat_cert.proofs.LineLaws.{IsRead, IsReadAgain, set_found, set_again, part_found, part_again}
+use Rattle.mat_cert.proofs.LineLaws.{IsReadAgain, set_found, set_again, part_found, part_again}
 use Rattle.mat_cert.proofs.ListLaws.{sets_found, sets_again}
-use Rattle.mat_cert.proofs.HeaderLaws.{IsHeaderRead, trees_header_found, trees_header_again, classes_header_found, classes_header_again}
+use Rattle.mat_cert.proofs.HeaderLaws.{trees_header_found, trees_header_again, classes_header_found, classes_header_again}
 use Rattle.mat_cert.proofs.HeaderLaws.{entered_header_found, entered_header_again}
 use Rattle.mat_cert.proofs.AnswerReading.{IsCommandRead, with_header, ranged_sets, by_word, by_test}
 

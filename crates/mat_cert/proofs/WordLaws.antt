@@ -16,7 +16,7 @@ use Rattle.mat_words.proofs.ReadingSteps.{found-same, bind_found, test_found, re
 use Rattle.mat_words.proofs.WordReading.{IsSizeRead, IsBelowRead, IsWeightRead, word_found, number_found, number_at_again, size_found}
 use Rattle.mat_words.proofs.WordReading.{below_found, below_again, weight_found}
 use Rattle.mat_cert.specs.declared.refusal.CertKind.TheVariants.{NotRising, UnknownWord, WrongCount}
-use Rattle.mat_cert.specs.Limits.{largest_number}
+use Rattle.mat_sets.specs.Limits.{largest_number}
 use Rattle.mat_cert.specs.LineReading.{word_at, fixed_at, has_words, number_at, size_at, below_at, weight_at, members_from}
 use Rattle.mat_cert.proofs.Told.{told_found, told_again}
 

@@ -1,10 +1,11 @@
 -- Reading the words of a header behind its command: how many there are first, and then each of them, from left to right.
-use Rattle.std.specs.Prelude.{ℕ, List, codes, Result, Ok}
+use Rattle.std.specs.Prelude.{ℕ, codes, Result, Ok}
 use Rattle.mat_sets.specs.declared.weight.Weight.{Weight}
 use Rattle.mat_words.specs.Cursors.{WordsLeft}
 use Rattle.mat_words.specs.Steps.{◌>>=◌}
 use Rattle.mat_cert.specs.Faults.{Fault}
-use Rattle.mat_cert.specs.Limits.{most_elements, most_vertices, most_colours, most_rows, most_columns, most_matroids, most_levels, most_trees}
+use Rattle.mat_cert.specs.Limits.{most_colours, most_rows, most_columns, most_matroids, most_levels, most_trees}
+use Rattle.mat_sets.specs.Limits.{most_vertices, most_elements}
 use Rattle.mat_cert.specs.LineReading.{fixed_at, has_words, size_at, below_at, weight_at}
 
 -- the number of elements

@@ -1,13 +1,5 @@
 -- The limits of what a certificate may state.
-use Rattle.std.specs.Prelude.{ℕ, ◌^◌}
-
--- the most elements
-abbrev pub most_elements : ℕ
-most_elements = 500
-
--- the most vertices of a graph
-abbrev pub most_vertices : ℕ
-most_vertices = 500
+use Rattle.std.specs.Prelude.{ℕ}
 
 -- the most colours
 abbrev pub most_colours : ℕ
@@ -32,10 +24,6 @@ most_levels = 500
 -- the most trees that can be asked for
 abbrev pub most_trees : ℕ
 most_trees = 64
-
--- the largest number of a weight, and of a weight of a split; with a `-` the smallest
-abbrev pub largest_number : ℕ
-largest_number = 10 ^ 30
 
 -- the most bytes that a certificate may have
 abbrev pub certificate_limit : ℕ

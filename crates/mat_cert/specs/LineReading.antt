@@ -9,7 +9,7 @@ use Rattle.mat_words.specs.Reading as any_text
 use Rattle.mat_cert.specs.declared.answer.LevelLine.{LevelLine}
 use Rattle.mat_cert.specs.declared.refusal.CertKind.TheVariants as kinds
 use Rattle.mat_cert.specs.Faults.{Fault, told}
-use Rattle.mat_cert.specs.Limits.{largest_number}
+use Rattle.mat_sets.specs.Limits.{largest_number}
 
 -- ---- the words of a line
 

@@ -10,7 +10,7 @@ use Rattle.mat_cert.specs.declared.answer.PlainRung.{PlainRung}
 use Rattle.mat_cert.specs.declared.answer.PricedRung.{PricedRung}
 use Rattle.mat_cert.specs.declared.refusal.CertKind.TheVariants as kinds
 use Rattle.mat_cert.specs.Faults.{Fault}
-use Rattle.mat_cert.specs.Limits.{most_vertices}
+use Rattle.mat_sets.specs.Limits.{most_vertices}
 use Rattle.mat_cert.specs.LineReading.{word_at, has_words, number_at, size_at, weight_at, keyed_at, counted_at, version_at, set_at, option_at}
 use Rattle.mat_cert.specs.LineReading.{sets_at, counted_set_at, part_at, level_at, end_at, closed_at}
 use Rattle.mat_cert.specs.HeaderReading.{count_at, ladder_header_at, union_header_at, never_header_at, trees_header_at, classes_header_at}

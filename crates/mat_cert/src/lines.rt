@@ -1,6 +1,5 @@
 //! The lines of a certificate that hold no set.
 
-ghost use Rattle.std.specs.Prelude.{◌≡◌};
 ghost use Rattle.mat_words.specs.Cursors.{lines_left, words_left};
 ghost use Rattle.mat_cert.specs.Faults.{Gives};
 ghost use Rattle.mat_cert.specs.LineReading.{counted_at, version_at, part_at, end_at, closed_at};

@@ -1,6 +1,5 @@
 //! Sets on lines of their own, one or many, and levels.
 
-ghost use Rattle.std.specs.Prelude.{◌≡◌, codes};
 ghost use Rattle.mat_words.specs.Cursors.{lines_left};
 ghost use Rattle.mat_words.specs.Steps.{repeat_at};
 ghost use Rattle.mat_cert.specs.Faults.{Gives};

@@ -1,6 +1,5 @@
 //! Spanning trees and arborescences, and sets of vertices that exclude them.
 
-ghost use Rattle.std.specs.Prelude.{◌≡◌};
 ghost use Rattle.mat_words.specs.Cursors.{lines_left, words_left};
 ghost use Rattle.mat_cert.specs.Faults.{Gives};
 ghost use Rattle.mat_cert.specs.Reading.{found_trees_at, classes_at, trees_at, arbor_at, unreached_at, arborescence_at, entered_at, disjoint_at};

@@ -1,9 +1,9 @@
 -- Looking for an element that can be added: the elements are tried in their order, and the set is unchanged until one is found.
-use Rattle.std.proofs.Common.{◌≡◌, ℕ, suc, ◌+◌, ◌<◌, Bool, true, false, not, ◌&&◌, ◌||◌, List, if◌then◌else◌}
-use Rattle.std.proofs.Common.{refl, sym, subst, ◌∙◌, ap, arith}
+use Rattle.std.proofs.Common.{◌≡◌, ℕ, ◌+◌, ◌<◌, Bool, true, false, not, ◌&&◌, List, if◌then◌else◌}
+use Rattle.std.proofs.Common.{sym, ◌∙◌, ap}
 use Rattle.mat_sets.specs.Sets.{is_member, with_one}
 use Rattle.mat_sets.specs.Search.{some_below}
-use Rattle.mat_sets.proofs.Search.{some_below_from}
+use Rattle.mat_sets.proofs.Search.{some_below_from, some_below-next, some_below-zero}
 use Rattle.mat_laws.specs.Searches.{has_addable}
 
 -- whether e can be added
@@ -15,16 +15,8 @@ pub record IsTrying (p : List ℕ → Bool) (X larger : List ℕ) (e : ℕ) : Ty
   pub same : larger ≡ X
   pub none : some_below e (can_add p X) ≡ false
 
-more_none : (e : ℕ) (test : ℕ → Bool) → test e ≡ false → some_below e test ≡ false → some_below (suc e) test ≡ false
-unfolding some_below
-more_none e test h none = ap (λ b. b || some_below e test) h ∙ none
-
-none_yet : (test : ℕ → Bool) → some_below 0 test ≡ false
-unfolding some_below
-none_yet test = refl
-
 pub IsTrying-start : (p : List ℕ → Bool) (X larger : List ℕ) → larger ≡ X → IsTrying p X larger 0
-IsTrying-start p X larger same = record { same = same; none = none_yet (can_add p X) }
+IsTrying-start p X larger same = record { same = same; none = some_below-zero (can_add p X) }
 
 module _ (p : List ℕ → Bool) (X larger : List ℕ) (e : ℕ) (trying : IsTrying p X larger e) where
   pub IsTrying-found : (n : ℕ) (added : Bool) → e < n → added ≡ can_add p larger e → added ≡ true → true ≡ has_addable n p X
@@ -36,8 +28,7 @@ module _ (p : List ℕ → Bool) (X larger : List ℕ) (e : ℕ) (trying : IsTry
       → next ≡ (if added then with_one larger e else larger) → added ≡ false → IsTrying p X next (e + 1)
   IsTrying-next next added told set h =
       let can : can_add p X e ≡ false = ap (λ Y. can_add p Y e) (sym trying.same) ∙ sym told ∙ h in
-      let next_is : suc e ≡ e + 1 = omega arith in
       record {
         same = set ∙ ap (λ b. if b then with_one larger e else larger) h ∙ trying.same;
-        none = subst (λ m. some_below m (can_add p X) ≡ false) next_is (more_none e (can_add p X) can trying.none);
+        none = some_below-next e (can_add p X) can trying.none;
       }

@@ -2,15 +2,13 @@
 use Rattle.std.proofs.Common.{◌≡◌, ℕ, ◌<◌, Bool, true, List, [], length, get_or, inl, inr, sym, subst, ap, ◌∙◌, arith}
 use Rattle.std.proofs.lemmas.Bool.{cases_Bool, both_ways}
 use Rattle.std.proofs.lemmas.List.{get_or-map, length-map}
-use Rattle.mat_sets.specs.Sets.{all_below}
 use Rattle.mat_sets.specs.Weights.{is_below, weight_sum, zero_weight}
 use Rattle.mat_sets.specs.declared.weight.Weight.{Weight}
-use Rattle.mat_sets.proofs.Ground.{IsRising-all_below, IsSubset-all_below}
 use Rattle.mat_sets.proofs.WeightOrder.{not_below_gives, not_below_from, at_most_trans}
 use Rattle.mat_laws.specs.Matroids.{IsMatroid}
 use Rattle.mat_laws.specs.Heaviest.{IsHeaviest}
 use Rattle.mat_laws.specs.Searches.{is_beaten}
-use Rattle.mat_laws.proofs.RankLaws.{rank_is}
+use Rattle.mat_laws.proofs.RankLaws.{length-independent}
 use Rattle.mat_laws.proofs.Searches.{IsHeaviest-not_beaten, not_beaten-IsHeaviest}
 use Rattle.mat_greedy.specs.Greedy.{AreHeaviestWeights}
 
@@ -35,7 +33,7 @@ module _ {n : ℕ} {p : List ℕ → Bool} (laws : IsMatroid n p) (w : ℕ → W
     (heaviest : AreHeaviestWeights n p w weights) (X : List ℕ) (in_p : p X ≡ true) where
   inside_sets : length X < length heaviest.sets
   inside_sets =
-      let most = (rank_is laws (all_below n) (IsRising-all_below n)).most X in_p (IsSubset-all_below n X (laws.sets X in_p).below) in
+      let most = length-independent laws X in_p in
       omega (arith, most, heaviest.heaviest.count)
 
   -- there is a weight for the size of each independent set

@@ -4,9 +4,8 @@ use Rattle.std.proofs.Common.{map}
 use Rattle.std.proofs.Common.{Some, None, inl, inr, refl, sym, subst, ap, ◌∙◌, arith}
 use Rattle.std.proofs.lemmas.Bool.{cases_Bool, cond-true, cond-false}
 use Rattle.std.proofs.lemmas.Option.{none-some}
-use Rattle.std.proofs.lemmas.List.{map-append}
 use Rattle.mat_sets.specs.Sets.{all_below}
-use Rattle.mat_sets.proofs.Ground.{all_below-more, all_below-none}
+use Rattle.mat_sets.proofs.Ground.{map-all_below_more, map-all_below_none}
 use Rattle.mat_check.specs.Clauses.{Clause, Failure, first_failure}
 
 pub first_of_holding : (clause : Clause) (clauses : List Clause) → clause.holds ≡ true
@@ -42,7 +41,7 @@ lt_or_same e n small = grind (arith, small)
 
 module _ (clause_of : ℕ → Clause) where
   one_more : (n : ℕ) → map clause_of (all_below (n + 1)) ≡ map clause_of (all_below n) ++ clause_of n ∷ []
-  one_more n = ap (map clause_of) (all_below-more n) ∙ map-append clause_of (all_below n) (n ∷ [])
+  one_more n = map-all_below_more clause_of n
 
   one_more_suc : (n : ℕ) → map clause_of (all_below (suc n)) ≡ map clause_of (all_below n) ++ clause_of n ∷ []
   one_more_suc n =
@@ -50,7 +49,7 @@ module _ (clause_of : ℕ → Clause) where
       ap (λ m. map clause_of (all_below m)) next ∙ one_more n
 
   pub none_below_none : first_failure (map clause_of (all_below 0)) ≡ None
-  none_below_none = ap (λ xs. first_failure (map clause_of xs)) all_below-none
+  none_below_none = ap first_failure (map-all_below_none clause_of)
 
   pub none_below_next : (e : ℕ) → first_failure (map clause_of (all_below e)) ≡ None → (clause_of e).holds ≡ true
       → first_failure (map clause_of (all_below (e + 1))) ≡ None

@@ -25,7 +25,6 @@ pub mod RightRungs
 pub mod ListedMatroids
 pub mod AnswerForms
 pub mod ValidGraphs
-pub mod CountedEdges
 pub mod PartitionFailures
 pub mod TreeFailures
 pub mod RightTrees

@@ -1,8 +1,8 @@
 -- No union, packing or covering is better than a right one: the laws of the crates below, at the matroids of the problem.
-use Rattle.std.proofs.Common.{◌≡◌, ℕ, ◌<◌, false, List, [], ◌∷◌, Bool, length, map, get_or, Option, Some, None, sym, ◌∙◌}
+use Rattle.std.proofs.Common.{◌≡◌, ℕ, ◌<◌, false, List, [], ◌∷◌, Bool, length, map, get_or, Option, Some, None, sym}
 use Rattle.std.proofs.Common.{subst, arith}
 use Rattle.std.proofs.lemmas.List.{length-map, get_or-map}
-use Rattle.std.proofs.lemmas.List.Elements.{All-get_or, All-head}
+use Rattle.std.proofs.lemmas.List.Elements.{All-get_or}
 use Rattle.mat_sets.specs.declared.weight.Weight.{Weight}
 use Rattle.mat_laws.specs.Matroids.{IsMatroid}
 use Rattle.mat_union.specs.Unions.{AreMatroids}
@@ -10,7 +10,6 @@ use Rattle.mat_union.proofs.LevelsShow.{right_is_best}
 use Rattle.mat_packing.specs.Packings.{IsRightCovering}
 use Rattle.mat_packing.proofs.Copies.{covering_is_least, loop_has_no_cover, packing_is_most, rank_none}
 use Rattle.mat_any.specs.Trees.{Tree, element_count, is_independent, IsSound}
-use Rattle.mat_any.specs.TreeLaws.{tree_laws}
 use Rattle.mat_desc.specs.Instances.{list}
 use Rattle.mat_desc.specs.Soundness.{IsSoundInstance}
 use Rattle.mat_cert.specs.Certificates.{union_of, pack_any, pack, cover_never, cover}
@@ -18,18 +17,14 @@ use Rattle.mat_cert.specs.declared.answer.LevelLine.{LevelLine}
 use Rattle.mat_check.specs.Optimal.{AreFewestSets}
 use Rattle.mat_check.specs.Right.{level_of}
 use Rattle.mat_check.proofs.AnswerForms.{RightIsOptimal}
+use Rattle.mat_check.proofs.RightLadders.{laws_as_said, laws_of_one, laws_on_weights}
 
 -- ---- the matroids
-
--- a sound tree with as many elements as there are weights is a matroid on them
-matroid_on : (w : List Weight) (n : ℕ) (tree : Tree) → n ≡ length w → IsSound tree × (element_count tree ≡ length w)
-    → IsMatroid n (is_independent tree)
-matroid_on w n tree same sound = subst (λ m. IsMatroid m (is_independent tree)) (sound.1 ∙ sym same) (tree_laws tree sound.0)
 
 the_matroid : (w : List Weight) (n : ℕ) (matroid : Tree) → n ≡ length w → IsSoundInstance (list w (matroid ∷ []))
     → IsMatroid n (is_independent matroid)
 the_matroid w n matroid same sound =
-    matroid_on w n matroid same (All-head (λ tree. IsSound tree × (element_count tree ≡ length w)) matroid [] sound)
+    laws_as_said n w (is_independent matroid) same (laws_of_one w matroid sound)
 
 -- each matroid of a list; the list has some, which serves as any
 the_matroids : (w : List Weight) (n : ℕ) (matroids : List Tree) → n ≡ length w → IsSoundInstance (list w matroids)
@@ -39,8 +34,8 @@ the_matroids w n (m ∷ ms) same sound = record {
   each = λ i l.
       let inside : i < length (m ∷ ms) = subst (λ k. i < k) (length-map (m ∷ ms) is_independent) l in
       subst (IsMatroid n) (sym (get_or-map is_independent (m ∷ ms) i m (λ X. false) inside))
-      (matroid_on w n (get_or (m ∷ ms) i m) same
-      (All-get_or (λ tree. IsSound tree × (element_count tree ≡ length w)) (m ∷ ms) i m inside sound));
+      (let here = All-get_or (λ tree. IsSound tree × (element_count tree ≡ length w)) (m ∷ ms) i m inside sound in
+      laws_as_said n w (is_independent (get_or (m ∷ ms) i m)) same (laws_on_weights w (get_or (m ∷ ms) i m) here.0 here.1));
 }
 
 -- ---- unions

@@ -1,26 +1,15 @@
 -- No two sets of a family on n elements share a member exactly where each element below n stands in at most one, as no other number stands
 -- in any. The clauses of families hold where their sentences do.
-use Rattle.std.proofs.Common.{◌≡◌, ℕ, suc, ◌<◌, ◌≤◌, false, List, [], ◌∷◌, length, get_or, inl, inr, refl, sym, ◌∙◌, arith}
-use Rattle.std.proofs.lemmas.Bool.{cases_lt, false_from_ne_true, le-leb, leb-true, lt-ltb, ltb-true}
+use Rattle.std.proofs.Common.{ℕ, ◌<◌, ◌≤◌, List, inl, inr, sym, ◌∙◌, arith}
+use Rattle.std.proofs.lemmas.Bool.{cases_lt, le-leb, leb-true, lt-ltb, ltb-true}
 use Rattle.std.specs.List.{All}
-use Rattle.mat_sets.specs.Families.{AreDisjoint, indicator, multiplicity}
-use Rattle.mat_sets.specs.Sets.{all_below, is_member, IsSet}
-use Rattle.mat_sets.proofs.Ground.{below_member, is_member-all_below}
+use Rattle.mat_sets.specs.Families.{AreDisjoint, multiplicity}
+use Rattle.mat_sets.specs.Sets.{all_below, IsSet}
+use Rattle.mat_sets.proofs.Ground.{is_member-all_below}
+use Rattle.mat_sets.proofs.Families.{multiplicity-past}
 use Rattle.mat_check.specs.SetClauses.{missed_clauses, overlap_clauses}
 use Rattle.mat_check.proofs.FirstFailures.{AllHold, AllHold-at, AllHold-map}
 use Rattle.mat_check.proofs.Multiplicities.{missed_clause, overlap_clause}
-
--- what is not below n stands in no set on n elements
-multiplicity-past : (n x : ℕ) (sets : List (List ℕ)) → n ≤ x → ((i : ℕ) → i < length sets → IsSet n (get_or sets i []))
-    → multiplicity x sets ≡ 0
-unfolding multiplicity
-multiplicity-past n x [] past each = refl
-multiplicity-past n x (a ∷ sets) past each =
-    let set : IsSet n a = each 0 (omega arith) in
-    let out : is_member x a ≡ false = false_from_ne_true _ (λ m. let l = below_member set m in absurd (omega arith)) in
-    let none : indicator (is_member x a) ≡ 0 = rw out refl in
-    let rest = multiplicity-past n x sets past (λ i l. each (suc i) (omega arith)) in
-    omega (arith, none, rest)
 
 module _ (n : ℕ) (sets : List (List ℕ)) where
   -- ---- at most one
@@ -37,7 +26,7 @@ module _ (n : ℕ) (sets : List (List ℕ)) where
   disjoint_where_none_overlaps ranged h = record {
     once = λ x. elim (cases_lt x n) [
       | inl small ↦ overlap_none h x small
-      | inr past ↦ (let none = multiplicity-past n x sets past (λ i l. ranged i [] l) in omega arith)
+      | inr past ↦ (let none = multiplicity-past n x sets past ranged in omega arith)
     ];
   }
 

@@ -1,5 +1,6 @@
 -- A valid problem states a graph, a colouring or a table indeed: ends, colours and places are within their numbers, and there are few of them.
 use Rattle.std.proofs.Common.{ℕ, ◌<◌, ◌≤◌, List, length, arith}
+use Rattle.mat_sets.specs.Limits.{most_elements}
 use Rattle.mat_sets.specs.Graphs.{IsGraph}
 use Rattle.mat_sets.specs.declared.weight.Weight.{Weight}
 use Rattle.mat_fronts.specs.Assignments.{AreCells}
@@ -11,7 +12,7 @@ use Rattle.mat_desc.proofs.ItemLaws.{IsGraph-pairs}
 -- few pairs with both numbers below that of the vertices
 graph_of_pairs : (vertices : ℕ) (edges : List (ℕ × ℕ)) → ArePairs vertices vertices edges → IsGraph vertices edges
 graph_of_pairs vertices edges pairs =
-    let few : length edges ≤ 500 = pairs.0 in
+    let few : length edges ≤ most_elements = pairs.0 in
     IsGraph-pairs vertices edges (omega arith) pairs.1
 
 pub graph_is_graph : (vertices : ℕ) (edges : List (ℕ × ℕ)) → IsValid (graph vertices edges) → IsGraph vertices edges

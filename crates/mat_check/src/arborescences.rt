@@ -1,6 +1,7 @@
 //! The clauses of disjoint spanning arborescences, and of a vertex set that shows that there are no more (Edmonds 1973; Schrijver, chapter 53).
 
 ghost use Rattle.std.specs.Prelude.{◌≡◌, ◌<◌, ◌≤◌, ◌∷◌, [], length, IfOk};
+ghost use Rattle.mat_sets.specs.Limits.{most_elements, most_vertices};
 ghost use Rattle.mat_sets.specs.Graphs.{ends_of, IsGraph};
 ghost use Rattle.mat_cert.specs.Certificates.{AreRangedTrees};
 ghost use Rattle.mat_check.specs.Clauses.{first_failure, numbered_clauses};
@@ -43,8 +44,8 @@ pub(crate) fn disjoint_failure(
     trees: &[ElemSet],
 ) -> Result<Option<(Reason, u32, u32)>, AllocError>
     requires graph { IsGraph vertices arcs.now }
-    requires few { length arcs.now ≤ 500 }
-    requires few_vertices { vertices ≤ 500 }
+    requires few { length arcs.now ≤ most_elements }
+    requires few_vertices { vertices ≤ most_vertices }
     requires root { root < vertices }
     requires ranged { AreRangedTrees (length arcs.now) trees.now }
     ensures { IfOk result (λ found. found ≡ first_failure (disjoint_clauses vertices (length arcs.now) (ends_of arcs.now) root trees.now)) }

@@ -1,6 +1,7 @@
 //! Whether colours show that there is no rainbow spanning tree.
 
 ghost use Rattle.std.specs.Prelude.{◌≡◌, ◌==◌, ◌<◌, ◌≤◌, ◌^◌, length, slice_index, IfOk};
+ghost use Rattle.mat_sets.specs.Limits.{most_elements};
 ghost use Rattle.mat_sets.specs.Graphs.{IsGraph, ends_of};
 ghost use Rattle.mat_sets.specs.Search.{those_below};
 ghost use Rattle.mat_sets.specs.Sets.{AllBelow};
@@ -16,7 +17,7 @@ use std::alloc::{AllocError, Global};
 
 // The edges whose colour is not in the set.
 fn edges_without(alloc: Global, colour_of: &[u32], colours: &ElemSet) -> Result<ElemSet, AllocError>
-    requires few { length colour_of.now ≤ 500 }
+    requires few { length colour_of.now ≤ most_elements }
     ensures { IfOk result (λ s. s ≡ edges_without (length colour_of.now) (slice_index colour_of.now) colours.now) }
 {
     let mut rest = ElemSet::new(alloc);
@@ -72,7 +73,7 @@ pub(crate) fn colours_failure(
 ) -> Result<Option<(Reason, u32, u32)>, AllocError>
     requires graph { IsGraph vertices edges.now }
     requires long { length colour_of.now ≡ length edges.now }
-    requires few { length edges.now ≤ 500 }
+    requires few { length edges.now ≤ most_elements }
     ensures { IfOk result (λ found. found ≡ first_failure (colours_clauses vertices (length edges.now) (ends_of edges.now)
         (slice_index colour_of.now) missing.now)) }
 {

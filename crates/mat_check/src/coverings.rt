@@ -1,7 +1,8 @@
 //! The clauses of coverings by independent sets.
 
 ghost use Rattle.std.specs.Prelude.{◌≡◌, ◌≤◌, ◌<◌, ◌-◌, ◌*◌, ◌∷◌, [], All, length, nat_lt, IfOk};
-ghost use Rattle.mat_sets.specs.Sets.{AllBelow, IsSet};
+ghost use Rattle.mat_sets.specs.Limits.{most_elements};
+ghost use Rattle.mat_sets.specs.Sets.{IsSet};
 ghost use Rattle.mat_laws.specs.Ranks.{rank};
 ghost use Rattle.mat_cert.specs.Certificates.{IsRangedCover, IsRangedOption};
 ghost use Rattle.mat_check.specs.Clauses.{first_failure, numbered_clauses};
@@ -38,7 +39,7 @@ fn sets_failure<M: Matroid>(
     sets: &[ElemSet],
 ) -> Result<Option<(Reason, u32, u32)>, AllocError>
     requires sound { M.sound m.now }
-    requires few { length sets.now ≤ 500 }
+    requires few { length sets.now ≤ most_elements }
     requires sets { All (IsSet (M.ground_size m.now)) sets.now }
     ensures { IfOk result (λ found. found
         ≡ first_failure (numbered_clauses (λ i set. independent_clause (M.indep m.now) i set ∷ []) 0 sets.now)) }
@@ -53,7 +54,7 @@ fn sets_failure<M: Matroid>(
 
 // Whether one set fewer, each with as many members as the rank, has no room for so many elements.
 fn has_no_room(sets: usize, rank: u32, elements: usize) -> bool
-    requires { sets ≤ 500 }
+    requires { sets ≤ most_elements }
     ensures { result ≡ nat_lt ((sets - 1) * rank) elements }
 {
     (sets.saturating_sub(1) as u64) * u64::from(rank) < elements as u64
@@ -67,7 +68,7 @@ fn cover_cut_failure<M: Matroid>(
     cut: &Option<ElemSet>,
 ) -> Result<Option<(Reason, u32, u32)>, AllocError>
     requires sound { M.sound m.now }
-    requires few { sets ≤ 500 }
+    requires few { sets ≤ most_elements }
     requires ranged { IsRangedOption (M.ground_size m.now) (nat_lt 0 sets) cut.now }
     ensures { IfOk result (λ found. found ≡ first_failure (cover_cut_clauses (M.indep m.now) sets cut.now)) }
 {

@@ -1,6 +1,6 @@
 //! The clauses at the end of all rungs.
 
-ghost use Rattle.std.specs.Prelude.{◌≡◌, ◌+◌, ◌==◌, length, IfOk, slice_get};
+ghost use Rattle.std.specs.Prelude.{◌≡◌, ◌+◌, ◌==◌, IfOk, slice_get};
 ghost use Rattle.mat_sets.specs.Sets.{all_below, minus, AllBelow};
 ghost use Rattle.mat_laws.specs.Ranks.{rank};
 ghost use Rattle.mat_cert.specs.Certificates.{AreRangedRungs, IsRangedPlainRung, last_rung};

@@ -1,7 +1,7 @@
-//! Families of sets: how often elements stand in them, and their union.
+//! Families of sets: how often elements stand in them, and whether the sets are independent.
 
 ghost use Rattle.std.specs.Prelude.{◌≡◌, ◌≤◌, ◌∷◌, [], nat_le, nat_lt, IfOk};
-ghost use Rattle.mat_sets.specs.Families.{family_union, indicator, multiplicity};
+ghost use Rattle.mat_sets.specs.Families.{indicator, multiplicity};
 ghost use Rattle.mat_sets.specs.Sets.{AllBelow, is_member};
 ghost use Rattle.mat_check.specs.Clauses.{first_failure};
 ghost use Rattle.mat_check.specs.SetClauses.{independent_clause, missed_clauses, overlap_clauses};
@@ -66,17 +66,6 @@ pub(crate) fn missed_failure(n: u32, sets: &[ElemSet]) -> Option<(Reason, u32, u
         }
     }
     None
-}
-
-/// The members of all sets. The only error is want of memory.
-pub(crate) fn union_of_all(alloc: Global, sets: &[ElemSet]) -> Result<ElemSet, AllocError>
-    ensures { IfOk result (λ all. all ≡ family_union sets.now) }
-{
-    let mut all = ElemSet::new(alloc);
-    for i in 0..sets.len() {
-        all = sets[i].union(alloc, &all)?;
-    }
-    Ok(all)
 }
 
 /// The clause that set i is independent, where it fails. The only error is want of memory.

@@ -1,6 +1,7 @@
 //! The clauses of rainbow spanning trees and of assignments: ladders of the two matroids that they are common independent sets of.
 
-ghost use Rattle.std.specs.Prelude.{◌≡◌, ◌≤◌, ◌^◌, ◌++◌, length, slice_index, IfOk};
+ghost use Rattle.std.specs.Prelude.{◌≡◌, ◌≤◌, ◌++◌, length, slice_index, IfOk};
+ghost use Rattle.mat_sets.specs.Limits.{largest_weight};
 ghost use Rattle.mat_sets.specs.Graphs.{IsGraph, ends_of};
 ghost use Rattle.mat_sets.specs.Weights.{AreWeightsWithin};
 ghost use Rattle.mat_graphic.specs.Forests.{is_graphic};
@@ -36,7 +37,7 @@ pub(crate) fn assign_failure<R: Threads + Sync>(
     workers: u32,
 ) -> Result<Option<(Reason, u32, u32)>, AllocError>
     requires lengths { length weights.now ≡ length cells.now }
-    requires small { AreWeightsWithin (10 ^ 12) weights.now }
+    requires small { AreWeightsWithin largest_weight weights.now }
     requires ranged { IsRangedLadder (length cells.now) rungs.now cut.now }
     requires workers { (1 ≤ workers) × (workers ≤ 16) }
     ensures { IfOk result (λ found. found ≡ first_failure (ladder_clauses (length cells.now) (is_once (length cells.now) rows (row_at cells.now))
@@ -50,6 +51,39 @@ pub(crate) fn assign_failure<R: Threads + Sync>(
         weights,
         first: &by_row,
         second: &by_column,
+    };
+    ladder_failure(rt, alloc, &both, rungs, cut, workers)
+}
+
+// The first clause of the rainbow forests of each size that fails, as a ladder of the graphic matroid and of the partition matroid of the
+// colours (Schrijver, chapter 41).
+fn rainbow_ladder_failure<R: Threads + Sync>(
+    rt: &R,
+    alloc: Global,
+    vertices: u32,
+    edges: &Pairs,
+    colours: u32,
+    colour_of: &[u32],
+    weights: &[Weight],
+    rungs: &[PricedRung],
+    cut: &ElemSet,
+    workers: u32,
+) -> Result<Option<(Reason, u32, u32)>, AllocError>
+    requires graph { IsGraph vertices edges.now }
+    requires long { length colour_of.now ≡ length edges.now }
+    requires lengths { length weights.now ≡ length edges.now }
+    requires small { AreWeightsWithin largest_weight weights.now }
+    requires ranged { IsRangedLadder (length edges.now) rungs.now cut.now }
+    requires workers { (1 ≤ workers) × (workers ≤ 16) }
+    ensures { IfOk result (λ found. found ≡ first_failure (ladder_clauses (length edges.now) (is_graphic (length edges.now) (ends_of edges.now))
+        (is_once (length edges.now) colours (slice_index colour_of.now)) weights.now rungs.now cut.now)) }
+{
+    let graphic = AnyMatroid::Graphic(Graphic::new(alloc, vertices, edges.copy(alloc)?)?);
+    let classes = AnyMatroid::Partition(at_most_one(alloc, colour_of, colours)?);
+    let both = Pair {
+        weights,
+        first: &graphic,
+        second: &classes,
     };
     ladder_failure(rt, alloc, &both, rungs, cut, workers)
 }
@@ -72,23 +106,18 @@ pub(crate) fn rainbow_failure<R: Threads + Sync>(
     requires graph { IsGraph vertices edges.now }
     requires long { length colour_of.now ≡ length edges.now }
     requires lengths { length weights.now ≡ length edges.now }
-    requires small { AreWeightsWithin (10 ^ 12) weights.now }
+    requires small { AreWeightsWithin largest_weight weights.now }
     requires ranged { IsRangedLadder (length edges.now) rungs.now cut.now }
     requires workers { (1 ≤ workers) × (workers ≤ 16) }
     ensures { IfOk result (λ found. found ≡ first_failure (ladder_clauses (length edges.now) (is_graphic (length edges.now) (ends_of edges.now))
         (is_once (length edges.now) colours (slice_index colour_of.now)) weights.now rungs.now cut.now
         ++ colours_clauses vertices (length edges.now) (ends_of edges.now) (slice_index colour_of.now) missing.now)) }
 {
-    let graphic = AnyMatroid::Graphic(Graphic::new(alloc, vertices, edges.copy(alloc)?)?);
-    let classes = AnyMatroid::Partition(at_most_one(alloc, colour_of, colours)?);
-    let both = Pair {
-        weights,
-        first: &graphic,
-        second: &classes,
-    };
-    if let Some(failure) = ladder_failure(rt, alloc, &both, rungs, cut, workers)? {
+    let found = rainbow_ladder_failure(
+        rt, alloc, vertices, edges, colours, colour_of, weights, rungs, cut, workers,
+    )?;
+    if let Some(failure) = found {
         return Ok(Some(failure));
     }
-    let found = colours_failure(alloc, vertices, edges, colour_of, missing)?;
-    Ok(found)
+    colours_failure(alloc, vertices, edges, colour_of, missing)
 }

@@ -1,6 +1,6 @@
 //! The clauses of answers about graphs and tables.
 
-ghost use Rattle.std.specs.Prelude.{◌≡◌, ◌≤◌, true, IfOk};
+ghost use Rattle.std.specs.Prelude.{◌≡◌, true, IfOk};
 ghost use Rattle.mat_cert.specs.Certificates.{IsRanged};
 ghost use Rattle.mat_cert.specs.Views.{certificate_of};
 ghost use Rattle.mat_check.specs.AnswerClauses.{answer_clauses, has_header};

@@ -1,6 +1,7 @@
 //! The clauses of a ladder of two matroids, and of the heaviest sets of one.
 
-ghost use Rattle.std.specs.Prelude.{◌≡◌, ◌≤◌, ◌^◌, length, IfOk};
+ghost use Rattle.std.specs.Prelude.{◌≡◌, ◌≤◌, length, IfOk};
+ghost use Rattle.mat_sets.specs.Limits.{largest_weight};
 ghost use Rattle.mat_sets.specs.Weights.{AreWeightsWithin};
 ghost use Rattle.mat_any.specs.Trees.{element_count, is_independent, IsSound};
 ghost use Rattle.mat_any.specs.Views.{tree_of};
@@ -31,7 +32,7 @@ pub(crate) fn ladder_failure<R: Threads + Sync>(
     requires second_sound { IsSound (tree_of both.now.second.now) }
     requires first_lengths { length both.now.weights.now ≡ element_count (tree_of both.now.first.now) }
     requires second_lengths { length both.now.weights.now ≡ element_count (tree_of both.now.second.now) }
-    requires small { AreWeightsWithin (10 ^ 12) both.now.weights.now }
+    requires small { AreWeightsWithin largest_weight both.now.weights.now }
     requires ranged { IsRangedLadder (length both.now.weights.now) rungs.now cut.now }
     requires workers { (1 ≤ workers) × (workers ≤ 16) }
     ensures { IfOk result (λ found. found ≡ first_failure (ladder_clauses (length both.now.weights.now) (is_independent (tree_of both.now.first.now))
@@ -58,7 +59,7 @@ pub(crate) fn best_failure<R: Threads + Sync>(
 ) -> Result<Option<(Reason, u32, u32)>, AllocError>
     requires sound { IsSound (tree_of m.now) }
     requires lengths { length weights.now ≡ element_count (tree_of m.now) }
-    requires small { AreWeightsWithin (10 ^ 12) weights.now }
+    requires small { AreWeightsWithin largest_weight weights.now }
     requires ranged { AreRangedRungs (IsRangedPlainRung (length weights.now)) (length weights.now) rungs.now }
     requires workers { (1 ≤ workers) × (workers ≤ 16) }
     ensures { IfOk result (λ found. found ≡ first_failure (best_clauses (length weights.now) (is_independent (tree_of m.now)) weights.now rungs.now)) }

@@ -1,6 +1,7 @@
 //! The clauses of a least spanning arborescence with a split of its negated costs.
 
-ghost use Rattle.std.specs.Prelude.{◌≡◌, ◌<◌, ◌≤◌, ◌^◌, ◌∷◌, ◌++◌, [], true, length, map, IfOk};
+ghost use Rattle.std.specs.Prelude.{◌≡◌, ◌<◌, ◌≤◌, ◌∷◌, ◌++◌, [], true, length, map, IfOk};
+ghost use Rattle.mat_sets.specs.Limits.{largest_weight, largest_number, most_elements};
 ghost use Rattle.mat_sets.specs.Graphs.{ends_of, IsGraph, IsSpanningArborescence};
 ghost use Rattle.mat_sets.specs.Sets.{all_below, AllBelow, IsSet};
 ghost use Rattle.mat_sets.specs.Weights.{◌⊕◌, is_same, negated, weight_at, AreWeightsWithin};
@@ -28,9 +29,9 @@ fn negates(costs: &[Weight], first: &[Weight], second: &[Weight], e: u32) -> boo
     requires below { e < length costs.now }
     requires first { length first.now ≡ length costs.now }
     requires second { length second.now ≡ length costs.now }
-    requires small { AreWeightsWithin (10 ^ 12) costs.now }
-    requires first_small { AreWeightsWithin (10 ^ 30) first.now }
-    requires second_small { AreWeightsWithin (10 ^ 30) second.now }
+    requires small { AreWeightsWithin largest_weight costs.now }
+    requires first_small { AreWeightsWithin largest_number first.now }
+    requires second_small { AreWeightsWithin largest_number second.now }
     ensures { result ≡ is_same (weight_at first.now e ⊕ weight_at second.now e) (negated (weight_at costs.now e)) }
 {
     let at = e as usize;
@@ -39,12 +40,12 @@ fn negates(costs: &[Weight], first: &[Weight], second: &[Weight], e: u32) -> boo
 
 // The first arc at which the two parts don't add up to the negated cost, as the failure that it is.
 fn cost_failure(costs: &[Weight], first: &[Weight], second: &[Weight]) -> Option<(Reason, u32, u32)>
-    requires few { length costs.now ≤ 500 }
+    requires few { length costs.now ≤ most_elements }
     requires first { length first.now ≡ length costs.now }
     requires second { length second.now ≡ length costs.now }
-    requires small { AreWeightsWithin (10 ^ 12) costs.now }
-    requires first_small { AreWeightsWithin (10 ^ 30) first.now }
-    requires second_small { AreWeightsWithin (10 ^ 30) second.now }
+    requires small { AreWeightsWithin largest_weight costs.now }
+    requires first_small { AreWeightsWithin largest_number first.now }
+    requires second_small { AreWeightsWithin largest_number second.now }
     ensures { result ≡ first_failure (map (cost_clause costs.now first.now second.now) (all_below (length costs.now))) }
 {
     let count = costs.len() as u32;
@@ -64,7 +65,7 @@ fn is_beaten_under<M: Matroid>(
     set: &ElemSet,
 ) -> Result<bool, AllocError>
     requires sound { M.sound m.now }
-    requires few { M.ground_size m.now ≤ 500 }
+    requires few { M.ground_size m.now ≤ most_elements }
     requires ranged { IsRangedPart (M.ground_size m.now) weights.now }
     requires passes { M.indep m.now set.now ≡ true }
     ensures { IfOk result (λ b. b ≡ is_beaten (M.ground_size m.now) (M.indep m.now) (weight_at weights.now) set.now) }
@@ -86,7 +87,7 @@ fn beaten_failure(
 ) -> Result<Option<(Reason, u32, u32)>, AllocError>
     requires graph { IsGraph vertices arcs.now }
     requires root { root < vertices }
-    requires few { length arcs.now ≤ 500 }
+    requires few { length arcs.now ≤ most_elements }
     requires first { IsRangedPart (length arcs.now) first.now }
     requires second { IsRangedPart (length arcs.now) second.now }
     requires spanning { IsSpanningArborescence vertices (length arcs.now) (ends_of arcs.now) root tree.now }
@@ -118,9 +119,9 @@ fn split_failure(
 ) -> Result<Option<(Reason, u32, u32)>, AllocError>
     requires graph { IsGraph vertices arcs.now }
     requires root { root < vertices }
-    requires few { length arcs.now ≤ 500 }
+    requires few { length arcs.now ≤ most_elements }
     requires lengths { length costs.now ≡ length arcs.now }
-    requires small { AreWeightsWithin (10 ^ 12) costs.now }
+    requires small { AreWeightsWithin largest_weight costs.now }
     requires first { IsRangedPart (length arcs.now) first.now }
     requires second { IsRangedPart (length arcs.now) second.now }
     requires spanning { is_spanning_arborescence vertices (ends_of arcs.now) root tree.now ≡ true }
@@ -172,7 +173,7 @@ pub(crate) fn arborescence_failure(
     requires graph { IsGraph vertices arcs.now }
     requires root { root < vertices }
     requires lengths { length costs.now ≡ length arcs.now }
-    requires small { AreWeightsWithin (10 ^ 12) costs.now }
+    requires small { AreWeightsWithin largest_weight costs.now }
     requires ranged { IsRangedArborescence (length arcs.now) cost tree.now first.now second.now }
     ensures { IfOk result (λ found. found ≡ first_failure (arborescence_clauses vertices (length arcs.now) (ends_of arcs.now) costs.now root cost
         tree.now first.now second.now)) }

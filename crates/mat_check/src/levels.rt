@@ -2,6 +2,7 @@
 
 ghost use Rattle.std.specs.Prelude.{◌≡◌, ◌<◌, ◌≤◌, ◌+◌, ◌*◌, ◌^◌, ◌==◌, if◌then◌else◌, All, length, map, IfOk};
 ghost use Rattle.std.specs.Prelude.{OnOk};
+ghost use Rattle.mat_sets.specs.Limits.{most_elements};
 ghost use Rattle.mat_sets.specs.Families.{family_union};
 ghost use Rattle.mat_sets.specs.Sets.{AllBelow, intersection, minus, with_one};
 ghost use Rattle.mat_sets.specs.Weights.{is_below, is_same, weight_at};
@@ -56,7 +57,7 @@ fn enter_if(set: &mut ElemSet, x: u32, here: bool) -> Result<(), AllocError>
 
 // The elements that weigh at least as much.
 fn heavy_elements(alloc: Global, weights: &[Weight], at: Weight) -> Result<ElemSet, AllocError>
-    requires { length weights.now ≤ 500 }
+    requires { length weights.now ≤ most_elements }
     ensures { IfOk result (λ set. set ≡ heavy (length weights.now) weights.now at) }
 {
     let mut set = ElemSet::new(alloc);
@@ -107,7 +108,7 @@ fn is_cut_filled<M: Matroid>(
     level: &LevelLine,
 ) -> Result<bool, AllocError>
     requires sound { AreSound M.ground_size M.sound (length joined.now.weights.now) joined.now.matroids.now }
-    requires few { length joined.now.weights.now ≤ 500 }
+    requires few { length joined.now.weights.now ≤ most_elements }
     requires few_matroids { length joined.now.matroids.now ≤ 64 }
     requires cut { AllBelow (length joined.now.weights.now) level.now.cut }
     ensures { IfOk result (λ filled. filled
@@ -136,7 +137,7 @@ fn level_failure<M: Matroid>(
     level: &LevelLine,
 ) -> Result<Option<(Reason, u32, u32)>, AllocError>
     requires sound { AreSound M.ground_size M.sound (length joined.now.weights.now) joined.now.matroids.now }
-    requires few { length joined.now.weights.now ≤ 500 }
+    requires few { length joined.now.weights.now ≤ most_elements }
     requires few_matroids { length joined.now.matroids.now ≤ 64 }
     requires all { joined.now.all.now ≡ family_union joined.now.parts.now }
     requires falling { falling.now ≡ falling_weights joined.now.weights.now }
@@ -164,10 +165,10 @@ pub(crate) fn levels_failure<M: Matroid>(
     levels: &[LevelLine],
 ) -> Result<Option<(Reason, u32, u32)>, AllocError>
     requires sound { AreSound M.ground_size M.sound (length joined.now.weights.now) joined.now.matroids.now }
-    requires few { length joined.now.weights.now ≤ 500 }
+    requires few { length joined.now.weights.now ≤ most_elements }
     requires few_matroids { length joined.now.matroids.now ≤ 64 }
     requires all { joined.now.all.now ≡ family_union joined.now.parts.now }
-    requires few_levels { length levels.now ≤ 500 }
+    requires few_levels { length levels.now ≤ most_elements }
     requires one_each { length levels.now ≡ length (falling_weights joined.now.weights.now) }
     requires ranged { All (IsRangedLevel (length joined.now.weights.now)) levels.now }
     ensures { IfOk result (λ found. found ≡ first_failure (numbered_clauses (level_clauses (length joined.now.weights.now)

@@ -1,6 +1,7 @@
 //! The clauses of packings of bases.
 
 ghost use Rattle.std.specs.Prelude.{◌≡◌, ◌≤◌, ◌<◌, ◌+◌, ◌-◌, ◌*◌, ◌∷◌, [], All, length, nat_lt, IfOk};
+ghost use Rattle.mat_sets.specs.Limits.{most_elements};
 ghost use Rattle.mat_sets.specs.Sets.{AllBelow, IsSet, all_below, minus};
 ghost use Rattle.mat_laws.specs.Ranks.{rank};
 ghost use Rattle.mat_cert.specs.Certificates.{IsRangedPacking};
@@ -57,7 +58,7 @@ fn bases_failure<M: Matroid>(
     bases: &[ElemSet],
 ) -> Result<Option<(Reason, u32, u32)>, AllocError>
     requires sound { M.sound m.now }
-    requires few { length bases.now ≤ 500 }
+    requires few { length bases.now ≤ most_elements }
     requires bases { All (IsSet (M.ground_size m.now)) bases.now }
     ensures { IfOk result (λ found. found ≡ first_failure (numbered_clauses (λ i base. independent_clause (M.indep m.now) i base
         ∷ full_clause (M.ground_size m.now) (M.indep m.now) i base ∷ []) 0 bases.now)) }
@@ -72,7 +73,7 @@ fn bases_failure<M: Matroid>(
 
 // Whether there are fewer elements than so many bases and one more need, where each needs as many as are missing.
 fn are_too_few(elements: usize, bases: usize, missing: u32) -> bool
-    requires { bases ≤ 500 }
+    requires { bases ≤ most_elements }
     ensures { result ≡ nat_lt elements ((bases + 1) * missing) }
 {
     (elements as u64) < (bases as u64 + 1) * u64::from(missing)
@@ -86,7 +87,7 @@ fn cut_shows_most<M: Matroid>(
     cut: &ElemSet,
 ) -> Result<bool, AllocError>
     requires sound { M.sound m.now }
-    requires few { bases ≤ 500 }
+    requires few { bases ≤ most_elements }
     requires below { AllBelow (M.ground_size m.now) cut.now }
     ensures { IfOk result (λ shows. shows ≡ nat_lt (length (minus (all_below (M.ground_size m.now)) cut.now))
         ((bases + 1) * (rank (M.indep m.now) (all_below (M.ground_size m.now)) - rank (M.indep m.now) cut.now))) }

@@ -3,44 +3,56 @@
 ghost use Rattle.std.specs.Prelude.{◌≡◌};
 ghost use Rattle.mat_check.specs.Reasons.{reason_word};
 
-/// The clause of an answer that fails. Its two places are those of the variant's line. Those behind `Cut` are of answers that no command
-/// gives yet.
+/// The clause of an answer that fails. A verdict has two places beside it, the numbers `a` and `b`; each variant says what they are, and of
+/// which answers it is told. A place that isn't mentioned is 0, and an element, an edge, an arc or a vertex that is told is the least such.
 #[derive(Clone, Copy, Debug, PartialEq, Eq)]
 pub enum Reason {
-    /// The answer's number of elements isn't the problem's. Places 0 and 0.
+    /// Of every answer: a number in the header isn't the problem's. Each answer states how many elements, edges, arcs or cells there are. A
+    /// union also states how many matroids there are, and how many different weights; classes, vertices that too few arcs enter and a
+    /// rainbow ladder, how many vertices; a rainbow ladder, how many colours; an assignment, how many rows and columns.
     Header,
-    /// The printed weight of rung `a` isn't that of its set. The second place is 0.
+    /// Of each rung of a ladder: the weight of rung `a` isn't that of its set. Of a union: the weight isn't that of all parts. Of an
+    /// arborescence: the cost isn't that of its arcs.
     Weight,
-    /// The set of rung `a` is dependent in the first matroid, where `b` is 0, or in the second, where it is 1. Of one matroid `b` is 0.
+    /// Of each rung of a ladder: the set of rung `a` is dependent in the first matroid, where `b` is 0, or in the second, where it is 1; in
+    /// the only one `b` is 0. Of a union, of bases and of a covering: part, base or set `a` is dependent in its matroid.
     Dependent,
-    /// The two parts of the split of rung `a` don't add up to the weight of element `b`, the least such.
+    /// Of each rung of a ladder of two matroids: the two parts of the split of rung `a` don't add up to the weight of element `b`. Of an
+    /// arborescence: they don't add up to the negated cost of arc `b`.
     Sum,
-    /// An independent set of as many elements as rung `a` has is heavier: in the first matroid under the first part of the split, where `b`
-    /// is 0, or in the second under the second part, where it is 1. Of one matroid, under the given weights, `b` is 0.
+    /// Of each rung of a ladder, and of an arborescence, for which `a` is 0: an independent set of as many elements as rung `a` has is
+    /// heavier, in the first matroid under the first part of the split, where `b` is 0, or in the second under the second part, where it is
+    /// 1. Of one matroid, under the given weights, `b` is 0.
     Beaten,
-    /// An element can be added to the set of rung `a`, the last. The second place is 0.
+    /// Of the ladder of one matroid: an element can be added to the set of rung `a`, the last. Of bases: one can be added to base `a`.
     Short,
-    /// The ranks of the cut and its complement don't add up to the size of the last rung. Places 0 and 0.
+    /// Of a ladder of two matroids: the ranks of the cut and its complement don't add up to the size of the last rung. Of a union: the
+    /// parts don't hold as many elements of level `a` as its cut allows. Of bases: the cut leaves room for one base more. Of a covering:
+    /// one set fewer has room for the cut.
     Cut,
-    /// Element or vertex `a` stands in two parts, bases, trees or classes; it is the least such. The second place is 0.
+    /// Of a union, of bases, of spanning trees and of disjoint arborescences: element, edge or arc `a` stands in two of them. Of classes:
+    /// vertex `a` stands in two.
     Overlap,
-    /// The weight of level `a` isn't the next of the given weights in falling order. The second place is 0.
+    /// Of a union: the weight of level `a` isn't the one of this number among the different weights, which fall.
     Level,
-    /// Element `b`, the least such in the cut of level `a`, weighs less than the level.
+    /// Of a union: element `b` of the cut of level `a` weighs less than the level.
     Outside,
-    /// Element or vertex `a`, the least such, stands in no set or class. The second place is 0.
+    /// Of a covering: element `a` stands in no set. Of classes: vertex `a` stands in none.
     Missed,
-    /// What the answer says of the rank, or of a loop, isn't so. Places 0 and 0.
+    /// Of the answer that there are bases in every number: the rank isn't 0. Of the answer that an element is in no independent set: it is
+    /// independent alone.
     Claim,
-    /// Class `a`, or the only set of vertices, is empty. The second place is 0.
+    /// Of classes: class `a` is empty. Of vertices that too few arcs enter: there are none.
     Empty,
-    /// The set of vertices holds the root. Places 0 and 0.
+    /// Of vertices that too few arcs enter: the root is one of them.
     Root,
-    /// Too many edges or arcs cross the classes, or enter the set of vertices. Places 0 and 0.
+    /// Of classes: too many edges have their ends in different ones. Of vertices that too few arcs enter: too many arcs enter them.
     Crossing,
-    /// Set `a` is no spanning tree, or no spanning arborescence from the root. The second place is 0.
+    /// Of spanning trees: set `a` is none. Of an arborescence, for which `a` is 0, and of disjoint ones: set `a` is no spanning
+    /// arborescence from the root.
     Tree,
-    /// Without the edges of these colours there are not more components than a tree can join. Places 0 and 0.
+    /// Of a rainbow ladder that ends below a spanning tree: without the edges of these colours there are at most as many components as one
+    /// more than there are such colours.
     Colours,
 }
 

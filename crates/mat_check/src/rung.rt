@@ -1,6 +1,7 @@
 //! The clauses of a rung.
 
-ghost use Rattle.std.specs.Prelude.{◌≡◌, ◌<◌, ◌≤◌, ◌^◌, ◌++◌, ◌∷◌, [], length, map, true, IfOk};
+ghost use Rattle.std.specs.Prelude.{◌≡◌, ◌<◌, ◌≤◌, ◌++◌, ◌∷◌, [], length, map, true, IfOk};
+ghost use Rattle.mat_sets.specs.Limits.{largest_number, most_elements};
 ghost use Rattle.mat_sets.specs.Sets.{all_below};
 ghost use Rattle.mat_sets.specs.Weights.{◌⊕◌, is_same, AreWeightsWithin, weight_at};
 ghost use Rattle.mat_cert.specs.Certificates.{IsRangedPlainRung, IsRangedPricedRung};
@@ -27,8 +28,8 @@ fn adds_up(weights: &[Weight], first: &[Weight], second: &[Weight], e: u32) -> b
     requires below { e < length weights.now }
     requires first { length first.now ≡ length weights.now }
     requires second { length second.now ≡ length weights.now }
-    requires first_small { AreWeightsWithin (10 ^ 30) first.now }
-    requires second_small { AreWeightsWithin (10 ^ 30) second.now }
+    requires first_small { AreWeightsWithin largest_number first.now }
+    requires second_small { AreWeightsWithin largest_number second.now }
     ensures { result ≡ is_same (weight_at first.now e ⊕ weight_at second.now e) (weight_at weights.now e) }
 {
     let at = e as usize;
@@ -42,11 +43,11 @@ fn sum_failure(
     second: &[Weight],
     k: u32,
 ) -> Option<(Reason, u32, u32)>
-    requires few { length weights.now ≤ 500 }
+    requires few { length weights.now ≤ most_elements }
     requires first { length first.now ≡ length weights.now }
     requires second { length second.now ≡ length weights.now }
-    requires first_small { AreWeightsWithin (10 ^ 30) first.now }
-    requires second_small { AreWeightsWithin (10 ^ 30) second.now }
+    requires first_small { AreWeightsWithin largest_number first.now }
+    requires second_small { AreWeightsWithin largest_number second.now }
     ensures { result ≡ first_failure (map (sum_clause weights.now k first.now second.now) (all_below (length weights.now))) }
 {
     let count = weights.len() as u32;
@@ -70,8 +71,8 @@ pub(crate) fn plain_rung_failure<M: Matroid>(
 ) -> Result<Option<(Reason, u32, u32)>, AllocError>
     requires sound { M.sound m.now }
     requires lengths { length weights.now ≡ M.ground_size m.now }
-    requires few { length weights.now ≤ 500 }
-    requires small { AreWeightsWithin (10 ^ 30) weights.now }
+    requires few { length weights.now ≤ most_elements }
+    requires small { AreWeightsWithin largest_number weights.now }
     requires heaviest { AreHeaviestWeights (M.ground_size m.now) (M.indep m.now) (weight_at weights.now) heaviest.now }
     requires ranged { IsRangedPlainRung (length weights.now) k rung.now }
     ensures { IfOk result (λ found. found ≡ first_failure (plain_rung_clauses (length weights.now) (M.indep m.now) weights.now k rung.now)) }
@@ -100,9 +101,9 @@ fn beaten_failure<A: Matroid, B: Matroid>(
     requires second_sound { B.sound pair.now.second.now }
     requires first_lengths { length rung.now.first ≡ A.ground_size pair.now.first.now }
     requires second_lengths { length rung.now.second ≡ B.ground_size pair.now.second.now }
-    requires few { length rung.now.set ≤ 500 }
-    requires first_small { AreWeightsWithin (10 ^ 30) rung.now.first }
-    requires second_small { AreWeightsWithin (10 ^ 30) rung.now.second }
+    requires few { length rung.now.set ≤ most_elements }
+    requires first_small { AreWeightsWithin largest_number rung.now.first }
+    requires second_small { AreWeightsWithin largest_number rung.now.second }
     requires first_heaviest { AreHeaviestWeights (A.ground_size pair.now.first.now) (A.indep pair.now.first.now) (weight_at rung.now.first) first.now }
     requires second_heaviest { AreHeaviestWeights (B.ground_size pair.now.second.now) (B.indep pair.now.second.now) (weight_at rung.now.second) second.now }
     requires first_passes { A.indep pair.now.first.now rung.now.set ≡ true }
@@ -131,7 +132,7 @@ fn split_failure<A: Matroid, B: Matroid>(
     requires second_sound { B.sound pair.now.second.now }
     requires first_lengths { length pair.now.weights.now ≡ A.ground_size pair.now.first.now }
     requires second_lengths { length pair.now.weights.now ≡ B.ground_size pair.now.second.now }
-    requires few { length pair.now.weights.now ≤ 500 }
+    requires few { length pair.now.weights.now ≤ most_elements }
     requires ranged { IsRangedPricedRung (length pair.now.weights.now) k rung.now }
     requires first_heaviest { AreHeaviestWeights (A.ground_size pair.now.first.now) (A.indep pair.now.first.now) (weight_at rung.now.first) first.now }
     requires second_heaviest { AreHeaviestWeights (B.ground_size pair.now.second.now) (B.indep pair.now.second.now) (weight_at rung.now.second) second.now }
@@ -167,8 +168,8 @@ pub(crate) fn priced_rung_failure<A: Matroid, B: Matroid>(
     requires second_sound { B.sound pair.now.second.now }
     requires first_lengths { length pair.now.weights.now ≡ A.ground_size pair.now.first.now }
     requires second_lengths { length pair.now.weights.now ≡ B.ground_size pair.now.second.now }
-    requires few { length pair.now.weights.now ≤ 500 }
-    requires small { AreWeightsWithin (10 ^ 30) pair.now.weights.now }
+    requires few { length pair.now.weights.now ≤ most_elements }
+    requires small { AreWeightsWithin largest_number pair.now.weights.now }
     requires ranged { IsRangedPricedRung (length pair.now.weights.now) k rung.now }
     requires first_heaviest { AreHeaviestWeights (A.ground_size pair.now.first.now) (A.indep pair.now.first.now) (weight_at rung.now.first) first.now }
     requires second_heaviest { AreHeaviestWeights (B.ground_size pair.now.second.now) (B.indep pair.now.second.now) (weight_at rung.now.second) second.now }

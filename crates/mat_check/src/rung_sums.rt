@@ -1,6 +1,7 @@
 //! The weights of heaviest sets under the halves of the splits of rungs.
 
 ghost use Rattle.std.specs.Prelude.{◌≡◌, ℕ, ◌<◌, ◌≤◌, [], length, slice_index_or, IfOk};
+ghost use Rattle.mat_sets.specs.Limits.{most_elements};
 ghost use Rattle.mat_sets.specs.Weights.{weight_at};
 ghost use Rattle.mat_any.specs.Trees.{element_count, is_independent, IsSound};
 ghost use Rattle.mat_any.specs.Views.{tree_of};
@@ -30,6 +31,7 @@ struct GreedyRuns<'a> {
 
 impl<'a> Model for GreedyRuns<'a> {
     ghost use Rattle.std.specs.Prelude.{ℕ, ◌<◌, ◌≤◌, List, length, map, slice_index_or};
+    ghost use Rattle.mat_sets.specs.Limits.{most_elements};
     ghost use Rattle.std.specs.Coded.{codes};
     ghost use Rattle.mat_sets.specs.declared.weight.Weight.{Weight};
     ghost use Rattle.mat_any.specs.Trees.{element_count, IsSound};
@@ -45,7 +47,7 @@ impl<'a> Model for GreedyRuns<'a> {
 
     ghost view = { λ runs. (runs.matroid.now, map (half_at (halves_of runs.side runs.rungs.now)) runs.listed.now) };
 
-    ghost invariant = { λ runs. IsSound (tree_of runs.matroid.now) × (element_count (tree_of runs.matroid.now) ≤ 500)
+    ghost invariant = { λ runs. IsSound (tree_of runs.matroid.now) × (element_count (tree_of runs.matroid.now) ≤ most_elements)
         × ((j : ℕ) → j < length runs.listed.now → slice_index_or runs.listed.now j 0 < length runs.rungs.now)
         × ((k : ℕ) → k < length runs.rungs.now
         → IsRangedPart (element_count (tree_of runs.matroid.now)) (half_at (halves_of runs.side runs.rungs.now) k)) };
@@ -54,7 +56,7 @@ impl<'a> Model for GreedyRuns<'a> {
 // The weights of heaviest sets under this half, by one run of the greedy algorithm.
 fn sums_under(alloc: Global, m: &AnyMatroid, half: &[Weight]) -> Result<PairWeights, AllocError>
     requires sound { IsSound (tree_of m.now) }
-    requires few { element_count (tree_of m.now) ≤ 500 }
+    requires few { element_count (tree_of m.now) ≤ most_elements }
     requires ranged { IsRangedPart (element_count (tree_of m.now)) half.now }
     ensures { IfOk result (AreHeaviestWeights (element_count (tree_of m.now)) (is_independent (tree_of m.now)) (weight_at half.now)) }
 {
@@ -120,7 +122,7 @@ pub(crate) fn rung_sums<R: Threads + Sync>(
     workers: u32,
 ) -> Result<RungSums, AllocError>
     requires sound { IsSound (tree_of m.now) }
-    requires few { element_count (tree_of m.now) ≤ 500 }
+    requires few { element_count (tree_of m.now) ≤ most_elements }
     requires no_more { length rungs.now ≤ 501 }
     requires ranged { (k : ℕ) → k < length rungs.now → IsRangedPart (element_count (tree_of m.now)) (half_at (halves_of side rungs.now) k) }
     requires workers { (1 ≤ workers) × (workers ≤ 16) }

@@ -1,6 +1,7 @@
 //! The clauses of all rungs: each rung is judged from its own data.
 
-ghost use Rattle.std.specs.Prelude.{◌≡◌, ◌≤◌, ◌^◌, length, IfOk};
+ghost use Rattle.std.specs.Prelude.{◌≡◌, ◌≤◌, length, IfOk};
+ghost use Rattle.mat_sets.specs.Limits.{largest_number};
 ghost use Rattle.mat_sets.specs.Weights.{AreWeightsWithin};
 ghost use Rattle.mat_any.specs.Trees.{element_count, is_independent, IsSound};
 ghost use Rattle.mat_any.specs.Views.{tree_of};
@@ -32,7 +33,8 @@ struct PlainFailures<'a> {
 }
 
 impl<'a> Model for PlainFailures<'a> {
-    ghost use Rattle.std.specs.Prelude.{◌≡◌, ◌^◌, List, Option, length};
+    ghost use Rattle.std.specs.Prelude.{◌≡◌, List, Option, length};
+    ghost use Rattle.mat_sets.specs.Limits.{largest_number};
     ghost use Rattle.mat_sets.specs.Weights.{weight_at, AreWeightsWithin};
     ghost use Rattle.mat_any.specs.Trees.{element_count, is_independent, IsSound};
     ghost use Rattle.mat_any.specs.Views.{tree_of};
@@ -47,7 +49,7 @@ impl<'a> Model for PlainFailures<'a> {
         (plain_rung_clauses (length job.weights.now) (is_independent (tree_of job.matroid.now)) job.weights.now) 0 job.rungs.now };
 
     ghost invariant = { λ job. IsSound (tree_of job.matroid.now) × (length job.weights.now ≡ element_count (tree_of job.matroid.now))
-        × AreWeightsWithin (10 ^ 30) job.weights.now
+        × AreWeightsWithin largest_number job.weights.now
         × AreHeaviestWeights (element_count (tree_of job.matroid.now)) (is_independent (tree_of job.matroid.now)) (weight_at job.weights.now)
         job.heaviest.now
         × AreRangedRungs (IsRangedPlainRung (length job.weights.now)) (length job.weights.now) job.rungs.now };
@@ -86,7 +88,8 @@ struct PricedFailures<'a> {
 }
 
 impl<'a> Model for PricedFailures<'a> {
-    ghost use Rattle.std.specs.Prelude.{◌≡◌, ◌<◌, ◌^◌, ℕ, List, [], Option, length, slice_index_or};
+    ghost use Rattle.std.specs.Prelude.{◌≡◌, ◌<◌, ℕ, List, [], Option, length, slice_index_or};
+    ghost use Rattle.mat_sets.specs.Limits.{largest_number};
     ghost use Rattle.mat_sets.specs.Weights.{weight_at, AreWeightsWithin};
     ghost use Rattle.mat_any.specs.Trees.{element_count, is_independent, IsSound};
     ghost use Rattle.mat_any.specs.Views.{tree_of};
@@ -106,7 +109,7 @@ impl<'a> Model for PricedFailures<'a> {
     ghost invariant = { λ job. IsSound (tree_of job.pair.now.first.now) × IsSound (tree_of job.pair.now.second.now)
         × (length job.pair.now.weights.now ≡ element_count (tree_of job.pair.now.first.now))
         × (length job.pair.now.weights.now ≡ element_count (tree_of job.pair.now.second.now))
-        × AreWeightsWithin (10 ^ 30) job.pair.now.weights.now
+        × AreWeightsWithin largest_number job.pair.now.weights.now
         × AreRangedRungs (IsRangedPricedRung (length job.pair.now.weights.now)) (length job.pair.now.weights.now) job.rungs.now
         × (length job.first.now ≡ length job.rungs.now) × (length job.second.now ≡ length job.rungs.now)
         × ((k : ℕ) → k < length job.rungs.now → AreHeaviestWeights (element_count (tree_of job.pair.now.first.now))
@@ -158,7 +161,7 @@ pub(crate) fn plain_rungs_failure<R: Threads + Sync>(
 ) -> Result<Option<(Reason, u32, u32)>, AllocError>
     requires sound { IsSound (tree_of m.now) }
     requires lengths { length weights.now ≡ element_count (tree_of m.now) }
-    requires small { AreWeightsWithin (10 ^ 30) weights.now }
+    requires small { AreWeightsWithin largest_number weights.now }
     requires ranged { AreRangedRungs (IsRangedPlainRung (length weights.now)) (length weights.now) rungs.now }
     requires workers { (1 ≤ workers) × (workers ≤ 16) }
     ensures { IfOk result (λ found. found
@@ -191,7 +194,7 @@ pub(crate) fn priced_rungs_failure<R: Threads + Sync>(
     requires second_sound { IsSound (tree_of pair.now.second.now) }
     requires first_lengths { length pair.now.weights.now ≡ element_count (tree_of pair.now.first.now) }
     requires second_lengths { length pair.now.weights.now ≡ element_count (tree_of pair.now.second.now) }
-    requires small { AreWeightsWithin (10 ^ 30) pair.now.weights.now }
+    requires small { AreWeightsWithin largest_number pair.now.weights.now }
     requires ranged { AreRangedRungs (IsRangedPricedRung (length pair.now.weights.now)) (length pair.now.weights.now) rungs.now }
     requires workers { (1 ≤ workers) × (workers ≤ 16) }
     ensures { IfOk result (λ found. found

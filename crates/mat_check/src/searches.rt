@@ -1,6 +1,7 @@
 //! Whether a heavier independent set of the same size is there, and whether an element can be added.
 
-ghost use Rattle.std.specs.Prelude.{◌≡◌, ◌≤◌, ◌^◌, length, true, IfOk};
+ghost use Rattle.std.specs.Prelude.{◌≡◌, ◌≤◌, length, true, IfOk};
+ghost use Rattle.mat_sets.specs.Limits.{most_elements, largest_number};
 ghost use Rattle.mat_sets.specs.Sets.{AllBelow};
 ghost use Rattle.mat_sets.specs.Weights.{AreWeightsWithin, is_below, weight, weight_at};
 ghost use Rattle.mat_laws.specs.Searches.{is_beaten, has_addable};
@@ -13,8 +14,8 @@ use std::alloc::{AllocError, Global};
 // Whether a set weighs less than this.
 fn is_lighter(set: &ElemSet, weights: &[Weight], other: Weight) -> bool
     requires inside { AllBelow (length weights.now) set.now }
-    requires few { length set.now ≤ 500 }
-    requires small { AreWeightsWithin (10 ^ 30) weights.now }
+    requires few { length set.now ≤ most_elements }
+    requires small { AreWeightsWithin largest_number weights.now }
     ensures { result ≡ is_below (weight weights.now set.now) other }
 {
     weigh(set, weights) < other
@@ -30,8 +31,8 @@ pub(crate) fn is_beaten<M: Matroid>(
 ) -> bool
     requires sound { M.sound m.now }
     requires lengths { length weights.now ≡ M.ground_size m.now }
-    requires few { length set.now ≤ 500 }
-    requires small { AreWeightsWithin (10 ^ 30) weights.now }
+    requires few { length set.now ≤ most_elements }
+    requires small { AreWeightsWithin largest_number weights.now }
     requires heaviest { AreHeaviestWeights (M.ground_size m.now) (M.indep m.now) (weight_at weights.now) heaviest.now }
     requires passes { M.indep m.now set.now ≡ true }
     ensures { result ≡ is_beaten (M.ground_size m.now) (M.indep m.now) (weight_at weights.now) set.now }

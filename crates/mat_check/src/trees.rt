@@ -1,6 +1,7 @@
 //! The clauses of disjoint spanning trees, and of a partition of the vertices that shows that there are no more (Schrijver, chapter 51).
 
 ghost use Rattle.std.specs.Prelude.{◌≡◌, ◌<◌, ◌≤◌, ◌&&◌, ◌∷◌, [], length, slice_index_or, IfOk};
+ghost use Rattle.mat_sets.specs.Limits.{most_elements, most_vertices};
 ghost use Rattle.mat_sets.specs.Graphs.{ends_of, IsGraph};
 ghost use Rattle.mat_sets.specs.Search.{some_below};
 ghost use Rattle.mat_sets.specs.Sets.{is_member, AllBelow};
@@ -59,9 +60,9 @@ pub(crate) fn trees_failure(
     trees: &[ElemSet],
 ) -> Result<Option<(Reason, u32, u32)>, AllocError>
     requires graph { IsGraph vertices edges.now }
-    requires few { length edges.now ≤ 500 }
+    requires few { length edges.now ≤ most_elements }
     requires some_vertices { 1 ≤ vertices }
-    requires few_vertices { vertices ≤ 500 }
+    requires few_vertices { vertices ≤ most_vertices }
     requires ranged { AreRangedTrees (length edges.now) trees.now }
     ensures { IfOk result (λ found. found ≡ first_failure (trees_clauses vertices (length edges.now) (ends_of edges.now) trees.now)) }
 {
@@ -74,7 +75,7 @@ pub(crate) fn trees_failure(
 
 // The first of these classes that is empty.
 fn empty_failure(classes: &[ElemSet]) -> Option<(Reason, u32, u32)>
-    requires few { length classes.now ≤ 500 }
+    requires few { length classes.now ≤ most_elements }
     ensures { result ≡ first_failure (numbered_clauses (λ i class. some_clause i class ∷ []) 0 classes.now) }
 {
     for i in 0..classes.len() {
@@ -107,7 +108,7 @@ fn is_inside(classes: &[ElemSet], first: u32, second: u32) -> bool
 
 // How many edges have their ends in different classes.
 fn crossing_count(edges: &Pairs, classes: &[ElemSet]) -> usize
-    requires { length edges.now ≤ 500 }
+    requires { length edges.now ≤ most_elements }
     ensures { result ≡ length (crossing (length edges.now) (ends_of edges.now) classes.now) }
 {
     let mut count = 0;
@@ -129,9 +130,9 @@ pub(crate) fn partition_failure(
     k: u32,
     classes: &[ElemSet],
 ) -> Option<(Reason, u32, u32)>
-    requires few { length edges.now ≤ 500 }
+    requires few { length edges.now ≤ most_elements }
     requires some_vertices { 1 ≤ vertices }
-    requires few_vertices { vertices ≤ 500 }
+    requires few_vertices { vertices ≤ most_vertices }
     requires some_trees { 1 ≤ k }
     requires few_trees { k ≤ 64 }
     requires ranged { AreRangedSets vertices 1 vertices classes.now }

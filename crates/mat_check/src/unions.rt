@@ -1,6 +1,7 @@
 //! The clauses of a union of matroids.
 
-ghost use Rattle.std.specs.Prelude.{◌≡◌, ◌≤◌, ◌^◌, ◌∷◌, [], All, length, map, IfOk};
+ghost use Rattle.std.specs.Prelude.{◌≡◌, ◌≤◌, ◌∷◌, [], All, length, map, IfOk};
+ghost use Rattle.mat_sets.specs.Limits.{most_elements, largest_number};
 ghost use Rattle.mat_sets.specs.Sets.{IsSet};
 ghost use Rattle.mat_sets.specs.Weights.{AreWeightsWithin, is_same, weight};
 ghost use Rattle.mat_union.specs.GrownParts.{AreSound};
@@ -9,12 +10,13 @@ ghost use Rattle.mat_cert.specs.Certificates.{IsRangedUnion};
 ghost use Rattle.mat_check.specs.Clauses.{first_failure, numbered_clauses};
 ghost use Rattle.mat_check.specs.SetClauses.{falling_weights, independent_clause, union_clauses};
 
-use crate::families::{dependent_failure, overlap_failure, union_of_all};
+use crate::families::{dependent_failure, overlap_failure};
 use crate::levels::{Joined, levels_failure};
 use crate::reason::Reason;
 use mat_cert::LevelLine;
 use mat_laws::Matroid;
 use mat_sets::{ElemSet, Weight, weigh};
+use mat_union::members_of;
 use std::alloc::{AllocError, Global};
 
 // The first part that is dependent in its matroid, as the failure that it is.
@@ -42,8 +44,8 @@ fn parts_failure<M: Matroid>(
 
 // Whether a printed weight is that of a set.
 fn is_weight_of(weights: &[Weight], all: &ElemSet, printed: Weight) -> bool
-    requires few { length weights.now ≤ 500 }
-    requires small { AreWeightsWithin (10 ^ 30) weights.now }
+    requires few { length weights.now ≤ most_elements }
+    requires small { AreWeightsWithin largest_number weights.now }
     requires set { IsSet (length weights.now) all.now }
     ensures { result ≡ is_same printed (weight weights.now all.now) }
 {
@@ -61,7 +63,7 @@ pub(crate) fn union_failure<M: Matroid>(
     levels: &[LevelLine],
 ) -> Result<Option<(Reason, u32, u32)>, AllocError>
     requires sound { AreSound M.ground_size M.sound (length weights.now) matroids.now }
-    requires small { AreWeightsWithin (10 ^ 30) weights.now }
+    requires small { AreWeightsWithin largest_number weights.now }
     requires ranged { IsRangedUnion (length weights.now) printed parts.now levels.now }
     requires one_each { length parts.now ≡ length matroids.now }
     requires levels { length levels.now ≡ length (falling_weights weights.now) }
@@ -75,7 +77,7 @@ pub(crate) fn union_failure<M: Matroid>(
     if let Some(failure) = parts_failure(alloc, matroids, n, parts)? {
         return Ok(Some(failure));
     }
-    let all = union_of_all(alloc, parts)?;
+    let all = members_of(alloc, parts)?;
     if !is_weight_of(weights, &all, printed) {
         return Ok(Some((Reason::Weight, 0, 0)));
     }

@@ -12,19 +12,19 @@ use Rattle.mat_sets.proofs.Sums.{AllBelow-at}
 use Rattle.mat_sets.proofs.Members.{intersection-none}
 use Rattle.mat_sets.specs.Families.{AreDisjoint, indicator}
 use Rattle.mat_sets.proofs.Families.{disjoint-apart}
-use Rattle.mat_count.specs.Partitions.{names, IsClassTable, IsEntered, CountsMembers}
+use Rattle.mat_count.specs.Partitions.{names, IsClassTable, IsClassEntered, CountsMembers}
 use Rattle.mat_count.specs.Counts.{is_within_caps, is_counted}
 use Rattle.mat_count.specs.LaminarLaws.{IsWithinCaps-from_test, test_from-IsWithinCaps}
 
 -- ---- entering one class
 
-pub IsEntered-none : (table : List (Option ℕ)) (class : List ℕ) (place : ℕ) → IsEntered table (take 0 class) place table
-IsEntered-none table class place = record { at = λ e l. refl }
+pub IsClassEntered-none : (table : List (Option ℕ)) (class : List ℕ) (place : ℕ) → IsClassEntered table (take 0 class) place table
+IsClassEntered-none table class place = record { at = λ e l. refl }
 
-pub IsEntered-more : (before table : List (Option ℕ)) (class : List ℕ) (place i : ℕ) → i < length class → length table ≡ length before
-    → get_or class i 0 < length before → IsEntered before (take i class) place table
-    → IsEntered before (take (i + 1) class) place (set table (get_or class i 0) (Some place))
-IsEntered-more before table class place i inside long small entered = record {
+pub IsClassEntered-more : (before table : List (Option ℕ)) (class : List ℕ) (place i : ℕ) → i < length class → length table ≡ length before
+    → get_or class i 0 < length before → IsClassEntered before (take i class) place table
+    → IsClassEntered before (take (i + 1) class) place (set table (get_or class i 0) (Some place))
+IsClassEntered-more before table class place i inside long small entered = record {
   at = λ e l. elim (cases_eq e (get_or class i 0)) [
     | inl same ↦ here e same (is_member e (take i class)) (is_member-take_more class i e inside)
     | inr other ↦ there e other l (is_member e (take i class)) (is_member-take_more class i e inside) (entered.at e l)
@@ -44,7 +44,7 @@ IsEntered-more before table class place i inside long small entered = record {
     there e other l false is was =
         rw (is, ne_eqb e (get_or class i 0) other) (get_or-set_other table (get_or class i 0) e (Some place) None other ∙ was)
 
-pub ruleset entering = (IsEntered-none, IsEntered-more, AllBelow-at)
+pub ruleset entering = (IsClassEntered-none, IsClassEntered-more, AllBelow-at)
 
 -- ---- entering each class in turn
 
@@ -63,7 +63,7 @@ past_place sets n i l = get_or_past (take n sets) i [] (omega (arith, length-tak
 
 pub IsClassTable-more : (count : ℕ) (classes : List (List ℕ)) (before table : List (Option ℕ)) (k : ℕ) → k < length classes
     → AreDisjoint classes → IsClassTable count (take k classes) before → length table ≡ length before
-    → IsEntered before (get_or classes k []) k table → IsClassTable count (take (k + 1) classes) table
+    → IsClassEntered before (get_or classes k []) k table → IsClassTable count (take (k + 1) classes) table
 IsClassTable-more count classes before table k inside apart was long entered = record {
   entries = long ∙ was.entries;
   right = λ e i l. let here : e < length before = (let entries = was.entries in omega arith) in

@@ -1,12 +1,13 @@
 -- One walk along two sets counts the members that they share: of the two next items the smaller stands in one set alone, and
 -- equal ones stand in both. Then sets are looked at in order, and the first that an earlier one crosses is found.
-use Rattle.std.proofs.Common.{◌≡◌, ℕ, zero, suc, ◌+◌, ◌<◌, ◌≤◌, true, false, ◌&&◌, ◌||◌, ltb, min, List, [], ◌∷◌, length, get_or, take, drop, length-take, inl, inr, refl, sym, ap, ◌∙◌, subst, arith}
+use Rattle.std.proofs.Common.{◌≡◌, ℕ, suc, ◌+◌, ◌<◌, ◌≤◌, true, false, ◌&&◌, ◌||◌, ltb, min, List, [], ◌∷◌, length, get_or, take, drop, length-take, inl, inr, refl, sym, ap, ◌∙◌, arith}
 use Rattle.std.proofs.lemmas.Bool.{cases_eq, cases_lt, both_ways, and_parts, false_from_ne_true, ltb-true, ne_eqb, le-ltb, lt-ltb}
 use Rattle.std.proofs.lemmas.List.{drop_more, drop_all, get_or-take}
-use Rattle.mat_sets.specs.Sets.{is_member, IsRising, RisesFrom, minus, intersection}
+use Rattle.mat_sets.specs.Sets.{is_member, IsRising, minus, intersection}
 use Rattle.mat_sets.proofs.Members.{filter_same_at, is_member-head, missing_below}
 use Rattle.mat_sets.proofs.Cardinalities.{length-minus-intersection}
 use Rattle.mat_sets.proofs.Equalities.{intersection-commute}
+use Rattle.mat_sets.proofs.UnionWalks.{RisesFrom-drop, RisesFrom-drop_more}
 use Rattle.mat_count.specs.Laminar.{crosses, IsLaminarFamily}
 use Rattle.mat_count.specs.LaminarFaults.{IsFirstCrossing, NoneCrosses, IsFirstPair}
 
@@ -49,20 +50,11 @@ IsWalked-start a b =
     let same : length (intersection (drop 0 a) (drop 0 b)) ≡ length (intersection a b) = refl in
     record { most = omega arith; shared = omega arith }
 
--- the rest of a rising list, and what is left after its first item
-rest_rises : (lo : ℕ) (xs : List ℕ) (i : ℕ) → RisesFrom lo xs → i < length xs → RisesFrom (get_or xs i 0) (drop i xs)
-rest_rises lo [] i r l = absurd (omega arith)
-rest_rises lo (x ∷ t) zero r l = (omega arith, r.1)
-rest_rises lo (x ∷ t) (suc i) r l = rest_rises (suc x) t i r.1 (omega arith)
-
-tail_rises : (xs : List ℕ) (i : ℕ) → IsRising xs → i < length xs → RisesFrom (suc (get_or xs i 0)) (drop (i + 1) xs)
-tail_rises xs i r l = (subst (RisesFrom (get_or xs i 0)) (drop_more xs i 0 l) (rest_rises 0 xs i r.rises l)).1
-
 -- the smaller next item stands in the first list alone
 pub IsWalked-first : (a b : List ℕ) (i j n : ℕ) → IsRising b → i < length a → j < length b → get_or a i 0 < get_or b j 0
     → IsWalked a b i j n → IsWalked a b (i + 1) j n
 IsWalked-first a b i j n t l m less w =
-    let absent = missing_below (get_or a i 0) (get_or b j 0) (drop j b) less (rest_rises 0 b j t.rises m) in
+    let absent = missing_below (get_or a i 0) (get_or b j 0) (drop j b) less (RisesFrom-drop 0 b j t.rises m) in
     let skipped = ap (λ A. length (intersection A (drop j b))) (drop_more a i 0 l)
     ∙ shared-skipped (get_or a i 0) (drop (i + 1) a) (drop j b) absent in
     let most = w.most in
@@ -72,7 +64,7 @@ IsWalked-first a b i j n t l m less w =
 pub IsWalked-second : (a b : List ℕ) (i j n : ℕ) → IsRising a → i < length a → j < length b → get_or b j 0 < get_or a i 0
     → IsWalked a b i j n → IsWalked a b i (j + 1) n
 IsWalked-second a b i j n r l m less w =
-    let absent = missing_below (get_or b j 0) (get_or a i 0) (drop i a) less (rest_rises 0 a i r.rises l) in
+    let absent = missing_below (get_or b j 0) (get_or a i 0) (drop i a) less (RisesFrom-drop 0 a i r.rises l) in
     let skipped = ap (λ B. length (intersection (drop i a) B)) (drop_more b j 0 m)
     ∙ shared-other (get_or b j 0) (drop i a) (drop (j + 1) b) absent in
     record { most = w.most; shared = w.shared ∙ ap (λ k. n + k) skipped }
@@ -83,7 +75,7 @@ pub IsWalked-both : (a b : List ℕ) (i j n : ℕ) → IsRising a → i < length
 IsWalked-both a b i j n r l m low high w =
     let same : get_or a i 0 ≡ get_or b j 0 = omega arith in
     let inside = ap (λ k. is_member k (get_or b j 0 ∷ drop (j + 1) b)) same ∙ is_member-head (get_or b j 0) (drop (j + 1) b) in
-    let outside = missing_below (get_or b j 0) (suc (get_or a i 0)) (drop (i + 1) a) (omega arith) (tail_rises a i r l) in
+    let outside = missing_below (get_or b j 0) (suc (get_or a i 0)) (drop (i + 1) a) (omega arith) (RisesFrom-drop_more a i r l) in
     let next = ap (λ A. length (intersection A (drop j b))) (drop_more a i 0 l)
     ∙ ap (λ B. length (intersection (get_or a i 0 ∷ drop (i + 1) a) B)) (drop_more b j 0 m) in
     let one = shared-found (get_or a i 0) (drop (i + 1) a) (get_or b j 0 ∷ drop (j + 1) b) inside in

@@ -4,8 +4,8 @@ use Rattle.std.specs.Prelude.{⊤, MatchOption}
 use Rattle.std.proofs.lemmas.Bool.{cases_lt, both_ways, or_cases, eqb-true, eq-eqb, ltb-true, ltb-false, le-ltb, or_right}
 use Rattle.std.proofs.lemmas.List.{get_or_append_left, get_or_push}
 use Rattle.mat_sets.specs.Sets.{is_member, IsRising, intersection}
-use Rattle.mat_sets.proofs.Members.{IsRising-intersection, same_members, set_members}
 use Rattle.mat_sets.proofs.Steps.{is_member-take_more}
+use Rattle.mat_sets.proofs.Equalities.{intersection-commute}
 use Rattle.mat_count.specs.FullSets.{IsSmallest, kept_at, has_fewer, where_full}
 
 -- ---- set by set
@@ -14,9 +14,6 @@ use Rattle.mat_count.specs.FullSets.{IsSmallest, kept_at, has_fewer, where_full}
 pub record AreKept (sets : List (List ℕ)) (caps base : List ℕ) (i : ℕ) (entries : List (Option (List ℕ))) : Type 0 where
   pub long : length entries ≡ i
   pub at : (k : ℕ) → k < i → get_or entries k None ≡ where_full (get_or caps k 0) (intersection base (get_or sets k []))
-
-intersection-swapped : (a b : List ℕ) → IsRising a → IsRising b → intersection a b ≡ intersection b a
-intersection-swapped a b r s = same_members _ _ (IsRising-intersection a b r) (IsRising-intersection b a s) (λ k. grind (arith, set_members))
 
 pub AreKept-more : (sets : List (List ℕ)) (caps base : List ℕ) (i : ℕ) (entries : List (Option (List ℕ))) (entry : Option (List ℕ)) (members : List ℕ)
     → IsRising base → IsRising (get_or sets i []) → members ≡ intersection (get_or sets i []) base → entry ≡ where_full (get_or caps i 0) members
@@ -28,7 +25,7 @@ AreKept-more sets caps base i entries entry members r s is told kept = record {
     | inr past ↦ (
         let here : k ≡ i = omega arith in
         get_or_push entries entry None k (omega arith) ∙ told
-        ∙ ap (where_full (get_or caps i 0)) (is ∙ intersection-swapped (get_or sets i []) base s r)
+        ∙ ap (where_full (get_or caps i 0)) (is ∙ intersection-commute (get_or sets i []) base s r)
         ∙ ap (λ j. where_full (get_or caps j 0) (intersection base (get_or sets j []))) (sym here))
   ];
 }
@@ -73,16 +70,13 @@ module _ {entries : List (Option (List ℕ))} {places : List ℕ} {i : ℕ} {fou
     smallest = record {
       listed = λ j same.
           ap (λ k. is_member k (take (i + 1) places)) (sym (ap place_in same)) ∙ is_member-take_more places i place inside
-          ∙ or_right (is_member place (take i places)) (eqb place (get_or places i 0)) (ap (eqb place) (sym at) ∙ same_item place);
+          ∙ or_right (is_member place (take i places)) (eqb place (get_or places i 0)) (ap (eqb place) (sym at) ∙ eq-eqb place place refl);
       least = λ j h. either j h
           (λ before. fewer_still (get_or entries place None) (kept_at entries found) (get_or entries j None) fewer (w.smallest.least j before))
           (λ last. ap (λ k. has_fewer (get_or entries k None) (get_or entries place None)) last ∙ not_itself (get_or entries place None));
     };
     known = known;
   }
-    where
-      same_item : (k : ℕ) → eqb k k ≡ true
-      same_item k = eq-eqb k k refl
 
   pub IsLooking-passed : has_fewer (get_or entries place None) (kept_at entries found) ≡ false → IsLooking entries places (i + 1) found
   IsLooking-passed never = record {

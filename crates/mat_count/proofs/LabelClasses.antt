@@ -1,13 +1,12 @@
 -- Classes by a label are a partition, and what the matroid with a cap for each label says of the members of a set.
 use Rattle.std.proofs.Common.{◌≡◌, ◌≢◌, ℕ, suc, zero, ◌+◌, ◌<◌, ◌≤◌, Bool, true, false, ◌&&◌, ◌||◌, eqb, ltb, List, [], ◌∷◌, ◌++◌, length, get_or, map, ◌⊎◌, inl, inr, refl, sym, ap, ◌∙◌, subst, arith}
 use Rattle.std.proofs.lemmas.Bool.{cases_Bool, cases_order, eqb-true, eq-eqb, ne_eqb, both_ways, and_parts, and_from, lt-ltb, le-ltb, false≢true}
-use Rattle.std.proofs.lemmas.List.{length-map, get_or-map, map-append}
 use Rattle.std.proofs.lemmas.List.Elements.{All-from_get_or}
 use Rattle.mat_sets.specs.Families.{AreDisjoint, indicator, multiplicity}
 use Rattle.mat_sets.specs.Search.{those_below}
 use Rattle.mat_sets.specs.Sets.{is_member, AllBelow, IsRising, IsSet, all_below, counted_from, intersection, with_one}
 use Rattle.mat_sets.specs.SetTests.{is_set}
-use Rattle.mat_sets.proofs.Ground.{all_below-more, below_member, get_or-all_below, length-all_below}
+use Rattle.mat_sets.proofs.Ground.{below_member, length-map_all_below, get_or-map_all_below, map-all_below_more, map-all_below_none}
 use Rattle.mat_sets.proofs.Members.{IsRising-intersection, IsRising-with_one, is_member-head, is_member-intersection, is_member-with_one, same_members}
 use Rattle.mat_sets.proofs.Search.{IsSet-those_below, is_member-those_below}
 use Rattle.mat_sets.proofs.SetTests.{IsSet-from_test, test_from-IsSet}
@@ -16,34 +15,34 @@ use Rattle.mat_count.specs.LaminarLaws.{IsWithinCaps-from_test, test_from-IsWith
 use Rattle.mat_count.specs.Labels.{labelled, classes_by, caps_by, is_labelled, AreApart}
 use Rattle.mat_count.specs.Partitions.{IsPartition}
 use Rattle.mat_sets.proofs.OneToOne.{length-same, same-length}
+use Rattle.mat_sets.proofs.Truths.{or_none}
 
 -- ---- the lists of classes and of caps
 
 pub length-classes_by : (n k : ℕ) (label : ℕ → ℕ) → length (classes_by n k label) ≡ k
 unfolding classes_by
-length-classes_by n k label = length-map (all_below k) (labelled n label) ∙ length-all_below k
+length-classes_by n k label = length-map_all_below (labelled n label) k
 
 pub length-caps_by : (k : ℕ) (cap : ℕ → ℕ) → length (caps_by k cap) ≡ k
 unfolding caps_by
-length-caps_by k cap = length-map (all_below k) cap ∙ length-all_below k
+length-caps_by k cap = length-map_all_below cap k
 
 pub classes_by-at : (n k : ℕ) (label : ℕ → ℕ) (c : ℕ) → c < k → get_or (classes_by n k label) c [] ≡ labelled n label c
 unfolding classes_by
-classes_by-at n k label c l =
-    get_or-map (labelled n label) (all_below k) c 0 [] (rw (length-all_below k) l) ∙ ap (labelled n label) (get_or-all_below k c 0 l)
+classes_by-at n k label c l = get_or-map_all_below (labelled n label) k c [] l
 
 pub caps_by-at : (k : ℕ) (cap : ℕ → ℕ) (c : ℕ) → c < k → get_or (caps_by k cap) c 0 ≡ cap c
 unfolding caps_by
-caps_by-at k cap c l = get_or-map cap (all_below k) c 0 0 (rw (length-all_below k) l) ∙ ap cap (get_or-all_below k c 0 l)
+caps_by-at k cap c l = get_or-map_all_below cap k c 0 l
 
 -- one class more
 pub classes_by-more : (n k : ℕ) (label : ℕ → ℕ) → classes_by n (k + 1) label ≡ classes_by n k label ++ labelled n label k ∷ []
 unfolding classes_by
-classes_by-more n k label = ap (map (labelled n label)) (all_below-more k) ∙ map-append (labelled n label) (all_below k) (k ∷ [])
+classes_by-more n k label = map-all_below_more (labelled n label) k
 
 pub classes_by-none : (n : ℕ) (label : ℕ → ℕ) → classes_by n 0 label ≡ []
-unfolding classes_by all_below
-classes_by-none n label = refl
+unfolding classes_by
+classes_by-none n label = map-all_below_none (labelled n label)
 
 -- ---- a partition
 
@@ -166,10 +165,6 @@ labelled_step n label c x = is_labelled_at (n + 1) label c x ∙ elim (cases_ord
   | inr (inl less) ↦ rw (lt-ltb x (n + 1) (omega arith), lt-ltb x n less, ne_eqb x n (omega arith)) (sym (or_none (eqb (label x) c)))
   | inr (inr more) ↦ rw (le-ltb x (n + 1) (omega arith), le-ltb x n (omega arith), ne_eqb x n (omega arith)) refl
 ]
-  where
-    or_none : (a : Bool) → (a || false) ≡ a
-    or_none true = refl
-    or_none false = refl
 
 IsRising-labelled : (n : ℕ) (label : ℕ → ℕ) (c : ℕ) → IsRising (labelled n label c)
 IsRising-labelled n label c = (IsSet-those_below n (λ e. eqb (label e) c)).rising

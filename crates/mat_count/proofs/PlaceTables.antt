@@ -11,6 +11,7 @@ use Rattle.mat_sets.proofs.Ground.{AllBelow-from_members}
 use Rattle.mat_sets.proofs.Members.{RisesFrom-index, is_member-head, is_member-with_one, place_of_member}
 use Rattle.mat_sets.proofs.Steps.{intersection-more, is_member-take_more, is_member-take_next}
 use Rattle.mat_sets.proofs.Sums.{AllBelow-at}
+use Rattle.mat_sets.proofs.Truths.{or_none}
 use Rattle.mat_count.specs.LaminarFaults.{SomeOutside}
 use Rattle.mat_count.specs.LaminarMatroids.{IsPlaced, IsPlaceTable}
 use Rattle.mat_count.specs.Partitions.{CountsMembers}
@@ -88,10 +89,6 @@ IsPlaced-more before table S place k inside long small placed = record {
   where
     x : ℕ
     x = get_or S k 0
-
-    or_none : (a : Bool) → (a || false) ≡ a
-    or_none true = refl
-    or_none false = refl
 
     here : (a b c : Bool) → (b || ((a && b) || c)) ≡ ((true && b) || c)
     here true true c = refl
@@ -186,10 +183,6 @@ AreCounted-more before places numbers k x rises inside item below long counted =
         ∙ or_none (is_member i (take k places))))
   ];
 }
-  where
-    or_none : (a : Bool) → (a || false) ≡ a
-    or_none true = refl
-    or_none false = refl
 
 pub ruleset counting = (AreCounted-none, AreCounted-more, CountsMembers-none, AllBelow-at)
 

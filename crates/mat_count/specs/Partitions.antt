@@ -27,7 +27,7 @@ pub record IsClassTable (count : ℕ) (classes : List (List ℕ)) (table : List 
   pub right : (e i : ℕ) → e < count → names (slice_index_or table e None) i ≡ is_member e (slice_index_or classes i [])
 
 -- the table has this class at each of its members, and elsewhere what it had before
-pub record IsEntered (before : List (Option ℕ)) (class : List ℕ) (place : ℕ) (table : List (Option ℕ)) : Type 0 where
+pub record IsClassEntered (before : List (Option ℕ)) (class : List ℕ) (place : ℕ) (table : List (Option ℕ)) : Type 0 where
   pub at : (e : ℕ) → e < length before
       → slice_index_or table e None ≡ (if is_member e class then Some place else slice_index_or before e None)
 

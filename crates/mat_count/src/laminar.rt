@@ -1,5 +1,5 @@
 //! Laminar matroids.
-ghost use Rattle.std.specs.Prelude.{◌≡◌, ◌↔◌, ◌+◌, ℕ, ◌<◌, ◌^◌, length, replicate, filter, slice_index, slice_index_or, [], IfOk, IfErr, IsTrue, IsFalse, MatchOption, ◌-◌};
+ghost use Rattle.std.specs.Prelude.{◌≡◌, ◌↔◌, ◌+◌, ℕ, ◌<◌, ◌^◌, length, replicate, filter, slice_index, [], IfOk, IfErr, IsTrue, IsFalse, MatchOption, ◌-◌};
 ghost use Rattle.std.specs.List.{All};
 ghost use Rattle.mat_sets.specs.Sets.{is_member, AllBelow, IsRising};
 ghost use Rattle.mat_sets.specs.Families.{indicator};
@@ -9,7 +9,7 @@ ghost use Rattle.mat_count.specs.Counts.{is_counted};
 ghost use Rattle.mat_count.specs.FullSets.{AreFullSets};
 ghost use Rattle.mat_count.specs.Partitions.{CountsMembers};
 ghost use Rattle.mat_count.specs.Laminar.{IsLaminarFamily};
-ghost use Rattle.mat_count.specs.LaminarMatroids.{CappedSets, IsLaminar, IsPlaceTable, IsPlaced};
+ghost use Rattle.mat_count.specs.LaminarMatroids.{IsLaminar, IsPlaceTable, IsPlaced};
 ghost use Rattle.mat_count.specs.LaminarRows.{is_full, has_each};
 ghost use Rattle.mat_count.specs.LaminarFaults.{IsFirstPair, SomeOutside, IsFaultOf};
 ghost use Rattle.mat_count.specs.LaminarLaws.{counted_laws};

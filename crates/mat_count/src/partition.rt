@@ -9,7 +9,7 @@ ghost use Rattle.mat_count.specs.FullSets.{AreFullSets};
 ghost use Rattle.mat_count.specs.Labels.{classes_by};
 ghost use Rattle.mat_count.specs.ClassMembers.{named_members};
 ghost use Rattle.mat_count.specs.Counters.{is_named_full};
-ghost use Rattle.mat_count.specs.Partitions.{names, CappedClasses, IsPartition, IsClassTable, IsEntered, CountsMembers};
+ghost use Rattle.mat_count.specs.Partitions.{names, IsPartition, IsClassTable, IsClassEntered, CountsMembers};
 ghost use Rattle.mat_count.specs.PartitionLaws.{partition_laws};
 
 use crate::caps::are_within;
@@ -44,7 +44,7 @@ impl Model for Partition {
 #[tactic(auto, using(crate::proofs::ClassTables::entering))]
 fn enter(class_of: &mut [Option<usize>], class: &ElemSet, place: usize)
     requires { AllBelow (length class_of.old) class.now }
-    ensures { IsEntered class_of.old class.now place class_of.new }
+    ensures { IsClassEntered class_of.old class.now place class_of.new }
 {
     for i in 0..class.len() {
         class_of[class.get(i) as usize] = Some(place);

@@ -1,9 +1,10 @@
 -- The weights of cuts added at arcs, one cut after the other, and how large the sums are.
-use Rattle.std.proofs.Common.{◌≡◌, ℕ, ◌+◌, ◌*◌, ◌<◌, ◌≤◌, ◌^◌, Bool, true, false, List, [], ◌∷◌, ◌++◌, length, get_or, set, take, inl, inr, refl, ap, ◌∙◌, arith, ℤ, pos, ◌+ℤ◌}
+use Rattle.std.proofs.Common.{◌≡◌, ℕ, ◌+◌, ◌*◌, ◌<◌, ◌≤◌, Bool, true, false, List, [], ◌∷◌, ◌++◌, length, get_or, set, take, inl, inr, ap, ◌∙◌, arith, ℤ, pos, ◌+ℤ◌}
 use Rattle.std.proofs.lemmas.Bool.{cases_eq}
 use Rattle.std.proofs.lemmas.Int.{ints}
 use Rattle.std.proofs.lemmas.List.{get_or-set_other, get_or-set_same, length-set, take_more}
 use Rattle.std.specs.List.{AllByRecursion}
+use Rattle.mat_sets.specs.Limits.{largest_number}
 use Rattle.mat_sets.specs.Graphs.{enters}
 use Rattle.mat_sets.specs.Sums.{IsWithin}
 use Rattle.mat_cuts.specs.Answers.{IsCutInRange}
@@ -20,9 +21,6 @@ module _ (test : ℕ → Bool) (weight : ℤ) (before : List ℤ) where
   pub record IsAdding (n : ℕ) (after : List ℤ) : Type 0 where
     pub added : IsAdded n test weight before after
     pub rest : (a : ℕ) → n ≤ a → cost_at after a ≡ cost_at before a
-
-  pub IsAdding-start : IsAdding 0 before
-  IsAdding-start = record { added = record { long = refl; each = λ a l. absurd (omega arith) }; rest = λ a l. refl }
 
   pub IsAdding-skip : (n : ℕ) (after : List ℤ) → test n ≡ false → IsAdding n after → IsAdding (n + 1) after
   IsAdding-skip n after out w = record {
@@ -58,7 +56,7 @@ module _ (test : ℕ → Bool) (weight : ℤ) (before : List ℤ) where
 
 -- the weights of cuts in range
 pub small_weights : (vertices : ℕ) (cuts : List CutWeight) → AllByRecursion (IsCutInRange vertices) cuts
-    → AllByRecursion (λ c. IsWithin (10 ^ 30) c.weight) cuts
+    → AllByRecursion (λ c. IsWithin largest_number c.weight) cuts
 small_weights vertices [] all = tt
 small_weights vertices (c ∷ cuts) all = (all.0.small, small_weights vertices cuts all.1)
 

@@ -1,9 +1,11 @@
 -- Each spanning arborescence enters each root-free set, so that weights which the costs pay are together at most its cost.
-use Rattle.std.proofs.Common.{◌≡◌, ℕ, ◌≤◌, ◌^◌, Bool, true, false, List, [], ◌∷◌, length, inl, inr, refl, arith, ℤ, pos, ◌≤ℤ◌, ◌<ℤ◌, All}
+use Rattle.std.proofs.Common.{◌≡◌, ℕ, ◌≤◌, Bool, true, false, List, [], ◌∷◌, length, inl, inr, refl, arith, ℤ, pos, ◌≤ℤ◌, ◌<ℤ◌, All}
 use Rattle.std.proofs.lemmas.Bool.{cases_Bool, false≢true}
 use Rattle.std.proofs.lemmas.Int.{ints}
 use Rattle.std.proofs.lemmas.List.Elements.{All-get_or}
 use Rattle.std.specs.List.{AllByRecursion}
+use Rattle.mat_cuts.specs.Limits.{vertex_bound}
+use Rattle.mat_sets.specs.Limits.{largest_number, largest_weight}
 use Rattle.mat_sets.specs.Graphs.{ends_of, enters, IsSpanningArborescence}
 use Rattle.mat_sets.specs.Sets.{is_member}
 use Rattle.mat_sets.specs.Sums.{sum_of}
@@ -11,7 +13,7 @@ use Rattle.mat_cuts.specs.Costs.{cost_at, cost_of, IsCost}
 use Rattle.mat_sets.proofs.Cardinalities.{sum_of-high, sum_of-le, sum_of-plus}
 use Rattle.mat_sets.proofs.Crossings.{arborescence_enters, unentered_has_none}
 use Rattle.mat_sets.proofs.Ground.{below_member}
-use Rattle.mat_cuts.specs.Cuts.{all_weight, weight_on, weight_where, AreRightCuts, IsCut}
+use Rattle.mat_cuts.specs.Cuts.{all_weight, weight_on, weight_where, AreRightCuts, IsWeightedCut}
 use Rattle.mat_cuts.specs.Answers.{AreInRange, AreRight, IsCutInRange, TellsReached}
 use Rattle.mat_cuts.specs.declared.cut_weight.Cuts.{Cuts}
 use Rattle.mat_cuts.specs.declared.cut_weight.Cuts.TheVariants.{Tree, Unreached}
@@ -43,7 +45,7 @@ module _ (ends : ℕ → ℕ × ℕ) where
   -- all weights are together at most what the arcs of an arborescence pay
   pub all_weight-le : (vertices count root : ℕ) (tree : List ℕ) (cuts : List CutWeight)
       → IsSpanningArborescence vertices count ends root tree
-      → AllByRecursion (IsCut vertices root) cuts → all_weight cuts ≤ℤ sum_of (weight_on ends cuts) tree
+      → AllByRecursion (IsWeightedCut vertices root) cuts → all_weight cuts ≤ℤ sum_of (weight_on ends cuts) tree
   all_weight-le vertices count root tree [] s each = none tree
     where
       none : (xs : List ℕ) → pos 0 ≤ℤ sum_of (weight_on ends []) xs
@@ -73,7 +75,7 @@ tells_reached vertices arcs costs root (Unreached set) r = λ tree s. unentered_
 -- ---- right answers are in range
 
 -- weights above 0 are each at most all of them together
-cuts_in_range : (vertices root : ℕ) (cuts : List CutWeight) → AllByRecursion (IsCut vertices root) cuts → all_weight cuts ≤ℤ pos (10 ^ 30)
+cuts_in_range : (vertices root : ℕ) (cuts : List CutWeight) → AllByRecursion (IsWeightedCut vertices root) cuts → all_weight cuts ≤ℤ pos largest_number
     → AllByRecursion (IsCutInRange vertices) cuts × (pos 0 ≤ℤ all_weight cuts)
 cuts_in_range vertices root [] each most = (tt, omega (arith, ints))
 cuts_in_range vertices root (c ∷ cuts) each most =
@@ -82,10 +84,10 @@ cuts_in_range vertices root (c ∷ cuts) each most =
     let low = rest.1 in
     ((record { below = each.0.root_free.set.below; small = (omega (arith, ints), omega (arith, ints)) }, rest.0), omega (arith, ints))
 
-pub right_in_range : (vertices : ℕ) (arcs : List (ℕ × ℕ)) (costs : List ℤ) (root : ℕ) (cuts : Cuts) → vertices ≤ 2000 → All IsCost costs
+pub right_in_range : (vertices : ℕ) (arcs : List (ℕ × ℕ)) (costs : List ℤ) (root : ℕ) (cuts : Cuts) → vertices ≤ vertex_bound → All IsCost costs
     → length costs ≡ length arcs → AreRight vertices arcs costs root cuts → AreInRange vertices (length arcs) cuts
 right_in_range vertices arcs costs root (Tree tree cuts) few range long r =
-    let most = sum_of-high (cost_at costs) (10 ^ 12) tree
+    let most = sum_of-high (cost_at costs) largest_weight tree
     (λ a m. (All-get_or IsCost costs a (pos 0) (let l = below_member r.spans.set m in omega arith) range).1) in
     let size = r.spans.size in
     let total = r.total in

@@ -1,4 +1,3 @@
-pub mod EachItem
 pub mod Bounds
 pub mod Paths
 pub mod Raises

@@ -1,9 +1,10 @@
 -- What the loops over arcs and vertices keep.
-use Rattle.std.proofs.Common.{if◌then◌else◌, ◌≡◌, ◌≢◌, ℕ, zero, suc, ◌+◌, ◌<◌, ◌≤◌, ◌⊎◌, Bool, true, false, not, ◌&&◌, ◌||◌, eqb, List, [], ◌∷◌, ◌++◌, length, filter, get_or, replicate, set, take, Option, None, Some, MatchOption, inl, inr, refl, sym, ap, ◌∙◌, subst, arith, ℤ, pos, ◌+ℤ◌, ◌≤ℤ◌, ◌<ℤ◌, length-append, below_more}
+use Rattle.std.proofs.Common.{if◌then◌else◌, ◌≡◌, ◌≢◌, ℕ, suc, ◌+◌, ◌<◌, ◌≤◌, ◌⊎◌, Bool, true, false, not, ◌&&◌, ◌||◌, eqb, List, [], ◌∷◌, ◌++◌, length, filter, get_or, replicate, set, take, Option, None, Some, MatchOption, inl, inr, refl, sym, ap, ◌∙◌, subst, arith, ℤ, pos, ◌+ℤ◌, ◌≤ℤ◌, ◌<ℤ◌, below_more}
 use Rattle.std.proofs.lemmas.Bool.{and_from, and_left, and_parts, both_ways, cases_eq, cases_lt, eq-eqb, eqb-true, false_from_ne_true, false≢true, lt-ltb, ne_eqb, or_cases, or_left, or_right}
 use Rattle.std.proofs.lemmas.Int.{ints}
-use Rattle.std.proofs.lemmas.List.{get_or-replicate, get_or_append_left, get_or-set_other, get_or-set_same, get_or_past, length-replicate, length-set, take_all}
+use Rattle.std.proofs.lemmas.List.{get_or-replicate, get_or-set_other, get_or-set_same, get_or_past, length-replicate, length-set, take_all}
 use Rattle.std.proofs.lemmas.List.Elements.{filter-append}
+use Rattle.mat_cuts.specs.Limits.{never}
 use Rattle.mat_sets.specs.Graphs.{ends_of}
 use Rattle.mat_sets.specs.Search.{those_below}
 use Rattle.mat_sets.specs.Sets.{all_below, is_member, IsRising, IsSet}
@@ -12,6 +13,7 @@ use Rattle.mat_sets.proofs.Members.{is_member-get_or}
 use Rattle.mat_sets.proofs.Search.{is_member-those_below, IsSet-those_below}
 use Rattle.mat_sets.proofs.Steps.{is_member-take_more, is_member-take_next}
 use Rattle.mat_sets.proofs.Sums.{AllBelow-at}
+use Rattle.mat_sets.proofs.Truths.{and_not_none}
 use Rattle.mat_cuts.specs.Costs.{cost_at}
 use Rattle.mat_cuts.specs.Cuts.{weight_where}
 use Rattle.mat_cuts.specs.Growing.{leaves, TellsEarliest}
@@ -87,13 +89,10 @@ IsLeastSoFar-end items reduced i best past s = record {
 module _ (ends : ℕ → ℕ × ℕ) (since reached : List ℕ) where
   -- among the first arcs of a list
   pub record IsBest (done : List ℕ) (best : ℕ) (found : Option ℕ) : Type 0 where
-    pub most : best ≤ 1000000
+    pub most : best ≤ never
     pub first : (b : ℕ) → is_member b done ≡ true → leaves ends reached b ≡ true → best ≤ at since b
-    pub found_is : MatchOption found (best ≡ 1000000)
-        (λ a. (is_member a done ≡ true) × ((at since a ≡ best) × (best < 1000000)) × (leaves ends reached a ≡ true))
-
-  pub IsBest-start : IsBest [] 1000000 None
-  IsBest-start = record { most = omega arith; first = λ b m. absurd (false≢true m); found_is = refl }
+    pub found_is : MatchOption found (best ≡ never)
+        (λ a. (is_member a done ≡ true) × ((at since a ≡ best) × (best < never)) × (leaves ends reached a ≡ true))
 
   pub IsBest-take : (items : List ℕ) (i best : ℕ) (found : Option ℕ) → i < length items → at since (get_or items i 0) < best
       → leaves ends reached (get_or items i 0) ≡ true
@@ -116,15 +115,15 @@ module _ (ends : ℕ → ℕ × ℕ) (since reached : List ℕ) where
   }
     where
       kept : (found : Option ℕ)
-          → MatchOption found (best ≡ 1000000)
-          (λ a. (is_member a (take i items) ≡ true) × ((at since a ≡ best) × (best < 1000000)) × (leaves ends reached a ≡ true))
-          → MatchOption found (best ≡ 1000000)
-          (λ a. (is_member a (take (i + 1) items) ≡ true) × ((at since a ≡ best) × (best < 1000000)) × (leaves ends reached a ≡ true))
+          → MatchOption found (best ≡ never)
+          (λ a. (is_member a (take i items) ≡ true) × ((at since a ≡ best) × (best < never)) × (leaves ends reached a ≡ true))
+          → MatchOption found (best ≡ never)
+          (λ a. (is_member a (take (i + 1) items) ≡ true) × ((at since a ≡ best) × (best < never)) × (leaves ends reached a ≡ true))
       kept None h = h
       kept (Some a) h = (is_member-take_more items i a l ∙ or_left (is_member a (take i items)) _ h.0, h.1, h.2)
 
   pub IsBest-end : (items : List ℕ) (i best : ℕ) (found : Option ℕ) → length items ≤ i
-      → ((a : ℕ) → is_member a items ≡ true → at since a < 1000000) → IsBest (take i items) best found
+      → ((a : ℕ) → is_member a items ≡ true → at since a < never) → IsBest (take i items) best found
       → TellsEarliest ends since items reached found
   IsBest-end items i best None past timed b = λ c m. false_from_ne_true _ (λ t.
       let k = b.first c (ap (is_member c) (take_all i items past) ∙ m) t in let e = b.found_is in let early = timed c m in absurd (omega arith))
@@ -140,9 +139,6 @@ pub record AreFalling (to last : ℕ) (before place : List ℕ) (n : ℕ) : Type
   pub long : length place ≡ length before
   pub done : (w : ℕ) → w < n → at place w ≡ falls to last (at before w)
   pub rest : (w : ℕ) → n ≤ w → at place w ≡ at before w
-
-pub AreFalling-start : (to last : ℕ) (before : List ℕ) → AreFalling to last before before 0
-AreFalling-start to last before = record { long = refl; done = λ w l. absurd (omega arith); rest = λ w l. refl }
 
 pub AreFalling-keep : (to last : ℕ) (before place : List ℕ) (n : ℕ) → falls to last (at place n) ≡ at place n
     → AreFalling to last before place n
@@ -199,37 +195,9 @@ pub record AreFirstTimes (costs : List ℤ) (since : List ℕ) (n : ℕ) : Type 
   pub long : length since ≡ n
   pub times : (a : ℕ) → a < n → IsFirstTime (cost_at costs a) (at since a)
 
-pub AreFirstTimes-push : (costs : List ℤ) (since : List ℕ) (n t : ℕ) → IsFirstTime (cost_at costs n) t → AreFirstTimes costs since n
-    → AreFirstTimes costs (since ++ t ∷ []) (n + 1)
-AreFirstTimes-push costs since n t new f = (let long = f.long in record {
-  long = length-append since (t ∷ []) ∙ ap (λ k. k + 1) long;
-  times = below_more (λ a. IsFirstTime (cost_at costs a) (at (since ++ t ∷ []) a)) n
-      (λ a l. subst (IsFirstTime (cost_at costs a)) (sym (get_or_append_left since (t ∷ []) 0 a (omega arith))) (f.times a l))
-      (subst (IsFirstTime (cost_at costs n)) (sym (last since n t long)) new);
-})
-  where
-    last : (since : List ℕ) (n t : ℕ) → length since ≡ n → get_or (since ++ t ∷ []) n 0 ≡ t
-    last [] n t e = rw (sym e) refl
-    last (x ∷ since) zero t e = absurd (omega arith)
-    last (x ∷ since) (suc n) t e = last since n t (omega arith)
-
-pub IsFirstTime-zero : (z : ℤ) → z ≡ pos 0 → IsFirstTime z 0
-IsFirstTime-zero z e = record { spent = λ l. e; soon = λ e. refl }
-
-pub IsFirstTime-some : (z : ℤ) → (z ≡ pos 0 → ⊥) → IsFirstTime z 1000000
-IsFirstTime-some z n = record { spent = λ l. absurd (omega arith); soon = λ e. absurd (n e) }
-
 -- ---- what is lowered
 
 module _ (count : ℕ) (least : ℤ) (next : ℕ) (reduced : List ℤ) (since : List ℕ) where
-  pub IsLowered-none : IsLowered count (λ a. false) least next reduced reduced since since
-  IsLowered-none = record {
-    left_long = refl;
-    later_long = refl;
-    left_is = λ a l. omega (arith, ints);
-    later_is = λ a l. inl (refl, λ m. absurd (false≢true m));
-  }
-
   pub IsLowered-same : (test other : ℕ → Bool) (left : List ℤ) (later : List ℕ) → ((a : ℕ) → a < count → test a ≡ other a)
       → IsLowered count test least next reduced left since later → IsLowered count other least next reduced left since later
   IsLowered-same test other left later same w = record {
@@ -320,11 +288,7 @@ module _ (arcs : List (ℕ × ℕ)) (place : List ℕ) (last a : ℕ) where
   pub comes-no : ((at place (ends_of arcs a).1 ≡ last → ⊥) ⊎ (at place (ends_of arcs a).0 ≡ last))
       → comes (ends_of arcs) place last a ≡ false
   comes-no (inl n) = and_left _ _ (ne_eqb _ last n)
-  comes-no (inr e) = and_none _ _ (eq-eqb _ last e)
-    where
-      and_none : (b c : Bool) → c ≡ true → (b && not c) ≡ false
-      and_none true c e = rw e refl
-      and_none false c e = refl
+  comes-no (inr e) = and_not_none _ _ (eq-eqb _ last e)
 
   pub comes-parts : comes (ends_of arcs) place last a ≡ true
       → (at place (ends_of arcs a).1 ≡ last) × (at place (ends_of arcs a).0 ≡ last → ⊥)
@@ -332,14 +296,14 @@ module _ (arcs : List (ℕ × ℕ)) (place : List ℕ) (last a : ℕ) where
       (eqb-true _ last p.0, λ e. both_ways _ (ap not (eq-eqb _ last e)) p.1))
 
 -- the places at the start
-pub places-start : (vertices root : ℕ) (items : List ℕ) → items ≡ replicate vertices 1000000 → root < vertices
+pub places-start : (vertices root : ℕ) (items : List ℕ) → items ≡ replicate vertices never → root < vertices
     → (length (set items root 0) ≡ vertices) × ((at (set items root 0) root ≡ 0)
-    × ((v : ℕ) → v < vertices → v ≢ root → at (set items root 0) v ≡ 1000000))
+    × ((v : ℕ) → v < vertices → v ≢ root → at (set items root 0) v ≡ never))
 places-start vertices root items e l = (
-  length-set items root 0 ∙ ap length e ∙ length-replicate vertices 1000000,
+  length-set items root 0 ∙ ap length e ∙ length-replicate vertices never,
   (
-    get_or-set_same items root 0 0 (let k = ap length e ∙ length-replicate vertices 1000000 in omega arith),
-    λ v lv d. get_or-set_other items root v 0 0 d ∙ ap (λ i. at i v) e ∙ get_or-replicate vertices v 1000000 0 lv,
+    get_or-set_same items root 0 0 (let k = ap length e ∙ length-replicate vertices never in omega arith),
+    λ v lv d. get_or-set_other items root v 0 0 d ∙ ap (λ i. at i v) e ∙ get_or-replicate vertices v never 0 lv,
   ),
 )
 

@@ -2,6 +2,7 @@
 use Rattle.std.proofs.Common.{if◌then◌else◌, ◌≡◌, ◌≢◌, ℕ, ◌+◌, ◌<◌, ◌≤◌, ◌⊎◌, Bool, true, false, not, ◌&&◌, leb, eqb, List, length, inl, inr, refl, sym, ap, ◌∙◌, subst, arith}
 use Rattle.std.proofs.lemmas.Bool.Decides.{nat_tests}
 use Rattle.std.proofs.lemmas.Bool.{and_parts, both_ways, cases_Bool, cases_eq, cases_lt, eq-eqb, false_from_ne_true, le-leb, ne_eqb}
+use Rattle.mat_cuts.specs.Limits.{never}
 use Rattle.mat_sets.specs.Graphs.{ends_of}
 use Rattle.mat_sets.specs.Sets.{is_member, without_one}
 use Rattle.mat_sets.proofs.Ground.{below_member, IsSet-without_one}
@@ -51,7 +52,7 @@ falls-cases j last p = elim (cases_lt p j) [
 
 module _ (vertices : ℕ) (arcs : List (ℕ × ℕ)) (root : ℕ) (since : List ℕ) (now : ℕ) where
   -- an unseen vertex becomes the last one of the path
-  pub IsPath-push : (place next fresh : List ℕ) (last t : ℕ) → IsPath vertices arcs root since now place fresh last → last + 1 < 1000000
+  pub IsPath-push : (place next fresh : List ℕ) (last t : ℕ) → IsPath vertices arcs root since now place fresh last → last + 1 < never
       → is_member t fresh ≡ true
       → ((y : ℕ) → y < vertices → 0 < at place y → at place y ≤ last → Leads (length arcs) (ends_of arcs) since now t y)
       → length next ≡ vertices → at next t ≡ last + 1 → ((w : ℕ) → w ≢ t → at next w ≡ at place w)
@@ -69,7 +70,7 @@ module _ (vertices : ℕ) (arcs : List (ℕ × ℕ)) (root : ℕ) (since : List 
               let out : is_member v fresh ≡ false = kept (is_member v fresh) (eqb v t) (ne_eqb v t d) (sym (is_member-without_one v t fresh) ∙ m) in
               let s = p.seen v l out in omega arith)
         ];
-        root_place = other root (λ e. let z = p.root_place in let u : at place root ≡ 1000000 = ap (at place) e ∙ unseen_t in absurd (omega arith)) ∙ p.root_place;
+        root_place = other root (λ e. let z = p.root_place in let u : at place root ≡ never = ap (at place) e ∙ unseen_t in absurd (omega arith)) ∙ p.root_place;
         rooted = λ v l z. elim (cases_eq v t) [
           | inl e ↦ (let h : at next v ≡ last + 1 = ap (at next) e ∙ here in absurd (omega arith))
           | inr d ↦ p.rooted v l (sym (other v d) ∙ z)
@@ -104,7 +105,7 @@ module _ (vertices : ℕ) (arcs : List (ℕ × ℕ)) (root : ℕ) (since : List 
       kept false c e h = refl
 
   -- an early arc from the path or from what the root reaches enters its last set: all sets in between are joined
-  pub IsPath-join : (place next fresh : List ℕ) (last a : ℕ) → IsPath vertices arcs root since now place fresh last → last < 1000000
+  pub IsPath-join : (place next fresh : List ℕ) (last a : ℕ) → IsPath vertices arcs root since now place fresh last → last < never
       → a < length arcs → (ends_of arcs a).0 < vertices → (ends_of arcs a).1 < vertices → at since a ≤ now
       → at place (ends_of arcs a).1 ≡ last
       → at place (ends_of arcs a).0 < last → length next ≡ vertices

@@ -3,13 +3,14 @@
 use Rattle.std.proofs.Common.{◌≡◌, ℕ, suc, ◌+◌, ◌<◌, ◌≤◌, ◌⊎◌, true, List, [], ◌∷◌, ◌++◌, length, inl, inr, ◌∙◌, subst, arith, ℤ, pos, ◌+ℤ◌, ◌≤ℤ◌, ◌<ℤ◌, length-append}
 use Rattle.std.proofs.lemmas.Bool.{cases_Bool, cases_lt}
 use Rattle.std.proofs.lemmas.Int.{ints}
+use Rattle.mat_cuts.specs.Limits.{never}
 use Rattle.mat_sets.specs.Graphs.{ends_of, enters, IsRootFree}
 use Rattle.mat_sets.specs.Sets.{is_member}
 use Rattle.mat_cuts.specs.Costs.{cost_at}
-use Rattle.mat_cuts.specs.Cuts.{weight_on, weight_where, IsCut}
+use Rattle.mat_cuts.specs.Cuts.{weight_on, weight_where, IsWeightedCut}
 use Rattle.mat_cuts.specs.Raising.{at, AreNested, IsLowered, IsNested, IsRaised, Leads}
 use Rattle.mat_cuts.specs.declared.cut_weight.CutWeight.{CutWeight}
-use Rattle.mat_cuts.proofs.EachItem.{AllByRecursion-push}
+use Rattle.mat_sets.proofs.EachItem.{AllByRecursion-push}
 use Rattle.mat_cuts.proofs.Paths.{Leads-later}
 
 pub weight_on-push : (ends : ℕ → ℕ × ℕ) (cuts : List CutWeight) (c : CutWeight) (a : ℕ)
@@ -61,14 +62,14 @@ module _ (count : ℕ) (ends : ℕ → ℕ × ℕ) where
 module _ (vertices : ℕ) (arcs : List (ℕ × ℕ)) (costs : List ℤ) (root : ℕ) where
   -- an arc that enters the set had no time
   untimed : (reduced : List ℤ) (since : List ℕ) (cuts : List CutWeight) (a : ℕ) → IsRaised vertices arcs costs root reduced since cuts
-      → length cuts < 1000000 → a < length arcs → pos 0 <ℤ cost_at reduced a → length cuts < at since a
+      → length cuts < never → a < length arcs → pos 0 <ℤ cost_at reduced a → length cuts < at since a
   untimed reduced since cuts a r few la some = elim (cases_lt (length cuts) (at since a)) [
     | inl l ↦ l
     | inr early ↦ (let z = r.spent a la (omega arith) in absurd (omega (arith, ints)))
   ]
 
   pub IsLater-raise : (reduced left : List ℤ) (since later : List ℕ) (cuts : List CutWeight) (part : List ℕ) (least : ℤ)
-      → IsRaised vertices arcs costs root reduced since cuts → length cuts < 1000000 → pos 0 <ℤ least
+      → IsRaised vertices arcs costs root reduced since cuts → length cuts < never → pos 0 <ℤ least
       → ((a : ℕ) → a < length arcs → enters (ends_of arcs) part a ≡ true → least ≤ℤ cost_at reduced a)
       → IsLowered (length arcs) (enters (ends_of arcs) part) least (suc (length cuts)) reduced left since later
       → IsLater (length arcs) (ends_of arcs) since later (length cuts)
@@ -80,7 +81,7 @@ module _ (vertices : ℕ) (arcs : List (ℕ × ℕ)) (costs : List ℤ) (root : 
   }
 
   pub IsRaised-raise : (reduced left : List ℤ) (since later : List ℕ) (cuts : List CutWeight) (c : CutWeight)
-      → IsRaised vertices arcs costs root reduced since cuts → length cuts + 1 < 1000000 → pos 0 <ℤ c.weight
+      → IsRaised vertices arcs costs root reduced since cuts → length cuts + 1 < never → pos 0 <ℤ c.weight
       → IsRootFree vertices root c.set
       → ((x y : ℕ) → is_member x c.set ≡ true → is_member y c.set ≡ true → Leads (length arcs) (ends_of arcs) since (length cuts) x y)
       → ((a : ℕ) → a < length arcs → enters (ends_of arcs) c.set a ≡ true → c.weight ≤ℤ cost_at reduced a)
@@ -120,7 +121,7 @@ module _ (vertices : ℕ) (arcs : List (ℕ × ℕ)) (costs : List ℤ) (root : 
                 let s = r.soon a la was in omega arith)
           ])
         ];
-        each = AllByRecursion-push (IsCut vertices root) cuts c r.each (record { root_free = free; positive = some });
+        each = AllByRecursion-push (IsWeightedCut vertices root) cuts c r.each (record { root_free = free; positive = some });
         nested = nested-push count ends later 0 cuts c
             (nested-later count ends since later (length cuts) 0 cuts changes (omega arith) r.nested)
             (record {

@@ -1,11 +1,11 @@
 -- What arcs of a tree reach from the root: it grows by an arc that leaves it; where no arc leaves it, the tree reaches nothing else.
-use Rattle.std.proofs.Common.{◌≡◌, ℕ, suc, ◌+◌, ◌<◌, Bool, true, false, not, List, [], ◌∷◌, length, get_or, take, None, inl, inr, refl, sym, ap, ◌∙◌, subst, arith, eqb}
-use Rattle.std.proofs.lemmas.Bool.{and_parts, both_ways, eqb-true, eq-eqb, false≢true, lt-ltb, ltb-true, or_cases, or_left, or_right}
+use Rattle.std.proofs.Common.{◌≡◌, ℕ, suc, ◌+◌, ◌<◌, true, false, not, List, [], ◌∷◌, length, get_or, take, None, inl, inr, refl, sym, ap, ◌∙◌, subst, arith, eqb}
+use Rattle.std.proofs.lemmas.Bool.{and_parts, both_ways, eqb-true, eq-eqb, lt-ltb, ltb-true, or_cases, or_left, or_right, not-true}
 use Rattle.mat_sets.specs.Graphs.{DirectedWalk, IsSpanningArborescence, Reaches}
 use Rattle.mat_sets.specs.Sets.{all_below, is_member, with_one, IsSet, IsSubset}
 use Rattle.mat_sets.proofs.Cardinalities.{length-with_one}
 use Rattle.mat_sets.proofs.Ground.{is_member-all_below, length-all_below, IsRising-all_below, IsSet-with_one, IsSubset-all_below}
-use Rattle.mat_sets.proofs.Members.{is_member-head, is_member-with_one}
+use Rattle.mat_sets.proofs.Members.{is_member-head, is_member-with_one, only_member}
 use Rattle.mat_sets.proofs.Subsets.{larger_has, same_size_subset}
 use Rattle.mat_sets.proofs.Walking.{Reaches-arc, Reaches-itself, Reaches-subset, Reaches-trans}
 use Rattle.mat_cuts.specs.Growing.{leaves, IsLeaving, TellsLeaving}
@@ -27,11 +27,8 @@ module _ (vertices : ℕ) (ends : ℕ → ℕ × ℕ) (root : ℕ) (tree : List 
   IsReached-start below = record {
     set = record { rising = record { rises = (omega arith, tt) }; below = (below, tt) };
     start = or_left (eqb root root) false (eq-eqb root root refl);
-    reaches = λ v m. subst (Reaches ends tree root) (sym (alone v m)) (Reaches-itself ends tree root);
+    reaches = λ v m. subst (Reaches ends tree root) (sym (only_member v root m)) (Reaches-itself ends tree root);
   }
-    where
-      alone : (v : ℕ) → is_member v (root ∷ []) ≡ true → v ≡ root
-      alone v m = elim (or_cases (eqb v root) false m) [ inl e ↦ eqb-true v root e | inr n ↦ absurd (false≢true n) ]
 
   -- the root alone
   pub IsReached-first : (none reached : List ℕ) → none ≡ [] → reached ≡ with_one none root → root < vertices
@@ -58,14 +55,10 @@ module _ (vertices : ℕ) (ends : ℕ → ℕ × ℕ) (root : ℕ) (tree : List 
   pub IsReached-next : (reached more : List ℕ) (a : ℕ) → IsReached reached → (ends a).1 < vertices → IsLeaving ends tree reached a
       → more ≡ with_one reached (ends a).1 → IsReached more × (length more ≡ length reached + 1)
   IsReached-next reached more a r below l e =
-      let head_out = not_true (is_member (ends a).1 reached) (and_parts (is_member (ends a).0 reached) (not (is_member (ends a).1 reached)) l.leaving).1 in (
+      let head_out = not-true (is_member (ends a).1 reached) (and_parts (is_member (ends a).0 reached) (not (is_member (ends a).1 reached)) l.leaving).1 in (
         subst IsReached (sym e) (IsReached-more reached a r below l),
         ap length e ∙ length-with_one reached (ends a).1 r.set.rising head_out ∙ omega arith,
       )
-    where
-      not_true : (b : Bool) → not b ≡ true → b ≡ false
-      not_true true h = absurd (false≢true h)
-      not_true false h = refl
 
   -- as many reached vertices as there are vertices are all of them
   pub all_reached : (reached : List ℕ) → IsReached reached → length reached ≡ vertices → (v : ℕ) → v < vertices → is_member v reached ≡ true

@@ -3,6 +3,7 @@ use Rattle.std.proofs.Common.{◌≡◌, ◌≢◌, ℕ, suc, ◌+◌, ◌*◌, 
 use Rattle.std.proofs.lemmas.Bool.{and_from, and_parts, both_ways, cases_Bool, cases_eq, cases_lt, eq-eqb, eqb-true, false_from_ne_true, lt-ltb, ltb-true, ne_eqb}
 use Rattle.std.proofs.lemmas.Int.{ints}
 use Rattle.std.proofs.lemmas.List.Elements.{All-get_or}
+use Rattle.mat_cuts.specs.Limits.{never, vertex_bound}
 use Rattle.mat_sets.specs.Graphs.{ends_of, enters, IsGraph, IsRootFree, IsUnentered}
 use Rattle.mat_sets.specs.Search.{those_below}
 use Rattle.mat_sets.specs.Sets.{all_below, is_member, without_one, IsSet}
@@ -70,7 +71,7 @@ module _ (vertices : ℕ) (arcs : List (ℕ × ℕ)) (graph : IsGraph vertices a
 
     pub IsSearching-start : (since place fresh : List ℕ) → root < vertices → length costs ≡ length arcs → All IsCost costs
         → length since ≡ length costs → ((a : ℕ) → a < length costs → IsFirstTime (cost_at costs a) (at since a))
-        → length place ≡ vertices → at place root ≡ 0 → ((v : ℕ) → v < vertices → v ≢ root → at place v ≡ 1000000)
+        → length place ≡ vertices → at place root ≡ 0 → ((v : ℕ) → v < vertices → v ≢ root → at place v ≡ never)
         → fresh ≡ without_one (all_below vertices) root → IsSearching vertices arcs costs root costs since [] place fresh 0
     IsSearching-start since place fresh below long range timed times place_long here others ef = record {
       path = record {
@@ -149,7 +150,7 @@ module _ (vertices : ℕ) (arcs : List (ℕ × ℕ)) (graph : IsGraph vertices a
 
     -- it is listed; then the least arc that enters it is spent
     pub IsSearching-raise : (reduced left : List ℤ) (since later : List ℕ) (cuts : List CutWeight) (c : CutWeight) (place fresh : List ℕ) (last a : ℕ)
-        → IsSearching vertices arcs costs root reduced since cuts place fresh last → 0 < last → length cuts + 1 < 1000000
+        → IsSearching vertices arcs costs root reduced since cuts place fresh last → 0 < last → length cuts + 1 < never
         → 2 * length fresh + last + suc (length cuts) ≤ 2 * vertices
         → IsLeast (length arcs) (comes (ends_of arcs) place last) reduced a → pos 0 <ℤ cost_at reduced a → c.weight ≡ cost_at reduced a
         → c.set ≡ last_set vertices place last
@@ -193,9 +194,9 @@ module _ (vertices : ℕ) (arcs : List (ℕ × ℕ)) (graph : IsGraph vertices a
     -- ---- the arc is followed back
 
     pub IsSearching-push : (reduced : List ℤ) (since : List ℕ) (cuts : List CutWeight) (place next fresh : List ℕ) (last a : ℕ)
-        → IsSearching vertices arcs costs root reduced since cuts place fresh last → last + 1 < 1000000 → a < length arcs
+        → IsSearching vertices arcs costs root reduced since cuts place fresh last → last + 1 < never → a < length arcs
         → comes (ends_of arcs) place last a ≡ true → at since a ≤ length cuts
-        → at place (ends_of arcs a).0 ≡ 1000000 → length next ≡ length place → at next (ends_of arcs a).0 ≡ last + 1
+        → at place (ends_of arcs a).0 ≡ never → length next ≡ length place → at next (ends_of arcs a).0 ≡ last + 1
         → ((w : ℕ) → w ≢ (ends_of arcs a).0 → at next w ≡ at place w)
         → IsSearching vertices arcs costs root reduced since cuts next (without_one fresh (ends_of arcs a).0) (last + 1)
     IsSearching-push reduced since cuts place next fresh last a s few la come early unseen long here others =
@@ -217,9 +218,9 @@ module _ (vertices : ℕ) (arcs : List (ℕ × ℕ)) (graph : IsGraph vertices a
         }
 
     pub IsSearching-join : (reduced : List ℤ) (since : List ℕ) (cuts : List CutWeight) (place next fresh : List ℕ) (last a : ℕ)
-        → IsSearching vertices arcs costs root reduced since cuts place fresh last → last < 1000000 → a < length arcs
+        → IsSearching vertices arcs costs root reduced since cuts place fresh last → last < never → a < length arcs
         → comes (ends_of arcs) place last a ≡ true → at since a ≤ length cuts
-        → (at place (ends_of arcs a).0 ≡ 1000000 → ⊥) → length next ≡ length place
+        → (at place (ends_of arcs a).0 ≡ never → ⊥) → length next ≡ length place
         → ((w : ℕ) → at next w ≡ falls (at place (ends_of arcs a).0) last (at place w))
         → IsSearching vertices arcs costs root reduced since cuts next fresh (at place (ends_of arcs a).0) × (at place (ends_of arcs a).0 < last)
     IsSearching-join reduced since cuts place next fresh last a s few la come early seen long fell =
@@ -239,12 +240,6 @@ module _ (vertices : ℕ) (arcs : List (ℕ × ℕ)) (graph : IsGraph vertices a
         )
 
     -- ---- the end
-
-    pub IsSearching-end : (reduced : List ℤ) (since : List ℕ) (cuts : List CutWeight) (place fresh : List ℕ)
-        → IsSearching vertices arcs costs root reduced since cuts place fresh 0 → fresh ≡ [] → (v : ℕ) → v < vertices
-        → Leads (length arcs) (ends_of arcs) since (length cuts) root v
-    IsSearching-end reduced since cuts place fresh s none v l =
-        let k = s.path.seen v l (ap (is_member v) none) in s.path.rooted v l (omega arith)
 
     -- ---- one turn of the loop
 
@@ -273,7 +268,7 @@ module _ (vertices : ℕ) (arcs : List (ℕ × ℕ)) (graph : IsGraph vertices a
 
     pub IsSearching-paid : (before after : Raised) (place fresh : List ℕ) (last a : ℕ)
         → IsSearching vertices arcs costs root before.reduced.items before.since.items before.cuts.items place fresh last → 0 < last
-        → length before.cuts.items + 1 < 1000000
+        → length before.cuts.items + 1 < never
         → 2 * length fresh + last + suc (length before.cuts.items) ≤ 2 * vertices
         → IsLeast (length arcs) (comes (ends_of arcs) place last) before.reduced.items a
         → IsPaid (comes (ends_of arcs) place last) place last a before after
@@ -304,7 +299,7 @@ module _ (vertices : ℕ) (arcs : List (ℕ × ℕ)) (graph : IsGraph vertices a
         )
 
     pub IsSearching-followed : (reduced : List ℤ) (since : List ℕ) (cuts : List CutWeight) (before after : Path) (a : ℕ)
-        → IsSearching vertices arcs costs root reduced since cuts before.place.items before.fresh before.last → before.last + 1 < 1000000
+        → IsSearching vertices arcs costs root reduced since cuts before.place.items before.fresh before.last → before.last + 1 < never
         → a < length arcs
         → comes (ends_of arcs) before.place.items before.last a ≡ true → at since a ≤ length cuts
         → IsFollowed (ends_of arcs a).0 before after
@@ -330,7 +325,7 @@ module _ (vertices : ℕ) (arcs : List (ℕ × ℕ)) (graph : IsGraph vertices a
         )
 
     -- a path begins where there is none, the last set is paid for, and its arc is followed back
-    pub IsSearching-turn : (before after : Raised) (start begun next : Path) (a : ℕ) → vertices ≤ 2000
+    pub IsSearching-turn : (before after : Raised) (start begun next : Path) (a : ℕ) → vertices ≤ vertex_bound
         → IsSearching vertices arcs costs root before.reduced.items before.since.items before.cuts.items start.place.items start.fresh start.last
         → 2 * length start.fresh + start.last + length before.cuts.items + 1 ≤ 2 * vertices
         → IsBegun start begun true → IsSpent arcs begun.place.items begun.last before after a → IsFollowed (ends_of arcs a).0 begun next

@@ -3,9 +3,9 @@
 -- set was joined, so one of these would have been taken. So the cost of the tree is always the weight of the listed sets that it has met.
 use Rattle.std.proofs.Common.{◌≡◌, ℕ, suc, ◌+◌, ◌<◌, ◌≤◌, Bool, true, false, not, ◌&&◌, ◌||◌, eqb, List, [], ◌∷◌, length, inl, inr, refl, sym, ap, ◌∙◌, subst, arith, ℤ, pos, ◌+ℤ◌}
 use Rattle.std.proofs.lemmas.Bool.{and_from, and_parts, both_ways, cases_Bool, cases_lt, eqb-true, eq-eqb, false_from_ne_true, false≢true, lt-ltb, ltb-true, or_cases, or_left, or_right}
-use Rattle.std.proofs.lemmas.Bool.Decides.{nat_tests}
 use Rattle.std.proofs.lemmas.Int.{ints}
 use Rattle.std.specs.List.{AllByRecursion}
+use Rattle.mat_cuts.specs.Limits.{never}
 use Rattle.mat_sets.specs.Graphs.{ends_of, enters, IsGraph, IsSpanningArborescence}
 use Rattle.mat_sets.specs.Search.{those_below}
 use Rattle.mat_sets.specs.Sets.{is_member, with_one, IsSet}
@@ -14,7 +14,8 @@ use Rattle.mat_sets.proofs.Cardinalities.{length-with_one, sum_of-with_one}
 use Rattle.mat_sets.proofs.Ground.{below_member, IsSet-nil, IsSet-with_one}
 use Rattle.mat_sets.proofs.Members.{is_member-head, is_member-with_one, member_from_some}
 use Rattle.mat_sets.proofs.Subsets.{IsSubset-with_one}
-use Rattle.mat_cuts.specs.Cuts.{all_weight, weight_on, weight_where, IsCut}
+use Rattle.mat_sets.proofs.Truths.{eqb-turned}
+use Rattle.mat_cuts.specs.Cuts.{all_weight, weight_on, weight_where, IsWeightedCut}
 use Rattle.mat_cuts.specs.Growing.{is_timed, leaves, IsEarliest}
 use Rattle.mat_cuts.specs.Raising.{at, AreNested, IsNested, IsRaised, Leads}
 use Rattle.mat_cuts.specs.declared.cut_weight.CutWeight.{CutWeight}
@@ -49,7 +50,7 @@ met_weight [] reached = pos 0
 met_weight (c ∷ cuts) reached = weight_where (meets c.set reached) c.weight +ℤ met_weight cuts reached
 
 -- none is met at the root
-met_weight-start : (vertices root : ℕ) (cuts : List CutWeight) → AllByRecursion (IsCut vertices root) cuts
+met_weight-start : (vertices root : ℕ) (cuts : List CutWeight) → AllByRecursion (IsWeightedCut vertices root) cuts
     → met_weight cuts (root ∷ []) ≡ pos 0
 unfolding met_weight
 met_weight-start vertices root [] each = refl
@@ -63,7 +64,7 @@ met_weight-start vertices root (c ∷ cuts) each =
     omega (arith, ints, met_weight-start vertices root cuts each.1)
 
 -- all are met where all vertices are reached
-met_weight-end : (vertices root : ℕ) (cuts : List CutWeight) (reached : List ℕ) → AllByRecursion (IsCut vertices root) cuts
+met_weight-end : (vertices root : ℕ) (cuts : List CutWeight) (reached : List ℕ) → AllByRecursion (IsWeightedCut vertices root) cuts
     → ((v : ℕ) → v < vertices → is_member v reached ≡ true) → met_weight cuts reached ≡ all_weight cuts
 unfolding met_weight
 met_weight-end vertices root [] reached each all = refl
@@ -76,7 +77,7 @@ met_weight-end vertices root (c ∷ cuts) reached each all =
 -- an arc with the earliest time among the arcs that leave the reached vertices
 pub record LeavesFirst (count : ℕ) (ends : ℕ → ℕ × ℕ) (since reached : List ℕ) (a : ℕ) : Type 0 where
   pub below : a < count
-  pub timed : at since a < 1000000
+  pub timed : at since a < never
   pub tail : is_member (ends a).0 reached ≡ true
   pub head : is_member (ends a).1 reached ≡ false
   pub first : (b : ℕ) → b < count → is_member (ends b).0 reached ≡ true → is_member (ends b).1 reached ≡ false → at since a ≤ at since b
@@ -86,14 +87,14 @@ LeavesFirst-earliest : (count : ℕ) (ends : ℕ → ℕ × ℕ) (since reached 
     → IsEarliest ends since timed reached a → LeavesFirst count ends since reached a
 LeavesFirst-earliest count ends since reached timed a those e =
     let parts = and_parts (is_member (ends a).0 reached) (not (is_member (ends a).1 reached)) e.leaving in
-    let early = ltb-true (at since a) 1000000 (those-passes count (is_timed since) timed those a e.member) in
+    let early = ltb-true (at since a) never (those-passes count (is_timed since) timed those a e.member) in
     record {
       below = below_member (those-set count (is_timed since) timed those) e.member;
       timed = early;
       tail = parts.0;
       head = false_from_ne_true _ (λ inside. both_ways _ (ap not inside) parts.1);
-      first = λ b l tail head. elim (cases_lt (at since b) 1000000) [
-        | inl has ↦ e.first b (those-is count (is_timed since) timed those b l ∙ lt-ltb (at since b) 1000000 has) (and_from _ _ tail (ap not head))
+      first = λ b l tail head. elim (cases_lt (at since b) never) [
+        | inl has ↦ e.first b (those-is count (is_timed since) timed those b l ∙ lt-ltb (at since b) never has) (and_from _ _ tail (ap not head))
         | inr never ↦ omega arith
       ];
     }
@@ -115,7 +116,7 @@ module _ (count : ℕ) (ends : ℕ → ℕ × ℕ) (since reached : List ℕ) (a
   meets-with [] h = refl
   meets-with (x ∷ part) h = ap (λ b. b || meets part (with_one reached h)) (is_member-with_one x h reached)
       ∙ ap (λ b. (eqb x h || is_member x reached) || b) (meets-with part h)
-      ∙ ap (λ b. (b || is_member x reached) || (is_member h part || meets part reached)) (turn x h)
+      ∙ ap (λ b. (b || is_member x reached) || (is_member h part || meets part reached)) (eqb-turned x h)
       ∙ swap (eqb h x) (is_member x reached) (is_member h part) (meets part reached)
     where
       swap : (p q r s : Bool) → ((p || q) || (r || s)) ≡ ((p || r) || (q || s))
@@ -123,9 +124,6 @@ module _ (count : ℕ) (ends : ℕ → ℕ × ℕ) (since reached : List ℕ) (a
       swap false true true s = refl
       swap false true false s = refl
       swap false false r s = refl
-
-      turn : (x h : ℕ) → eqb x h ≡ eqb h x
-      turn x h = grind (arith, nat_tests)
 
   more : (part : List ℕ) (w : ℤ) (i : ℕ) → IsNested count ends since i part
       → weight_where (meets part (with_one reached (ends a).1)) w ≡ weight_where (meets part reached) w +ℤ weight_where (enters ends part a) w
@@ -156,7 +154,7 @@ module _ (vertices : ℕ) (arcs : List (ℕ × ℕ)) (costs : List ℤ) (root : 
     pub heads : (a : ℕ) → is_member a tree ≡ true → is_member (ends_of arcs a).1 reached ≡ true
     pub cost : cost_of costs tree ≡ met_weight cuts reached
 
-  pub IsGrowing-start : root < vertices → AllByRecursion (IsCut vertices root) cuts → IsGrowing (root ∷ []) []
+  pub IsGrowing-start : root < vertices → AllByRecursion (IsWeightedCut vertices root) cuts → IsGrowing (root ∷ []) []
   IsGrowing-start below each = record {
     tree_set = IsSet-nil (length arcs);
     reaching = IsReached-start vertices (ends_of arcs) root [] below;
@@ -195,7 +193,7 @@ module _ (vertices : ℕ) (arcs : List (ℕ × ℕ)) (costs : List ℤ) (root : 
       }
 
   -- while a vertex is not reached, some arc with a time leaves the reached ones
-  pub some_leaves : (since timed reached tree : List ℕ) (now : ℕ) → now < 1000000 → timed ≡ those_below (length arcs) (is_timed since)
+  pub some_leaves : (since timed reached tree : List ℕ) (now : ℕ) → now < never → timed ≡ those_below (length arcs) (is_timed since)
       → ((v : ℕ) → v < vertices → Leads (length arcs) (ends_of arcs) since now root v) → IsGrowing reached tree
       → suc (length tree) < vertices
       → ((b : ℕ) → is_member b timed ≡ true → leaves (ends_of arcs) reached b ≡ false) → ⊥
@@ -203,14 +201,14 @@ module _ (vertices : ℕ) (arcs : List (ℕ × ℕ)) (costs : List ℤ) (root : 
       let out = one_unreached vertices (ends_of arcs) root tree reached g.reaching (let size = g.size in omega arith) in
       both_ways _ out.2 ((leads out.0 out.1).to (λ v. is_member v reached)
       (λ b lb early. stays (is_member (ends_of arcs b).0 reached) (is_member (ends_of arcs b).1 reached)
-      (closed b (those-is (length arcs) (is_timed since) timed those b lb ∙ lt-ltb (at since b) 1000000 (omega arith)))) g.reaching.start)
+      (closed b (those-is (length arcs) (is_timed since) timed those b lb ∙ lt-ltb (at since b) never (omega arith)))) g.reaching.start)
 
   pub IsGrowing-spans : (reached tree : List ℕ) → IsGrowing reached tree → suc (length tree) ≡ vertices
       → IsSpanningArborescence vertices (length arcs) (ends_of arcs) root tree
   IsGrowing-spans reached tree g long =
       reached_spans vertices (ends_of arcs) root tree (length arcs) reached g.reaching (sym g.size ∙ long) g.tree_set long
 
-  pub IsGrowing-cost : (reached tree : List ℕ) → AllByRecursion (IsCut vertices root) cuts → IsGrowing reached tree
+  pub IsGrowing-cost : (reached tree : List ℕ) → AllByRecursion (IsWeightedCut vertices root) cuts → IsGrowing reached tree
       → suc (length tree) ≡ vertices
       → all_weight cuts ≡ cost_of costs tree
   IsGrowing-cost reached tree each g long = sym (g.cost ∙ met_weight-end vertices root cuts reached each
@@ -219,7 +217,7 @@ module _ (vertices : ℕ) (arcs : List (ℕ × ℕ)) (costs : List ℤ) (root : 
   -- ---- the loop
 
   pub IsGrowing-first : (none reached tree : List ℕ) → none ≡ [] → reached ≡ with_one none root → tree ≡ [] → root < vertices
-      → AllByRecursion (IsCut vertices root) cuts → IsGrowing reached tree
+      → AllByRecursion (IsWeightedCut vertices root) cuts → IsGrowing reached tree
   IsGrowing-first none reached tree en er et below each =
       let alone = root_alone root none reached en er in
       subst (λ t. IsGrowing reached t) (sym et) (subst (λ r. IsGrowing r []) (sym alone) (IsGrowing-start below each))

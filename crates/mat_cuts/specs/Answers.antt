@@ -1,6 +1,7 @@
 -- Right answers to the question for a cheapest spanning arborescence.
-use Rattle.std.specs.Prelude.{ℕ, ◌≤◌, ◌*◌, ◌^◌, List, length, ℤ}
+use Rattle.std.specs.Prelude.{ℕ, ◌≤◌, ◌*◌, List, length, ℤ}
 use Rattle.std.specs.List.{AllByRecursion}
+use Rattle.mat_sets.specs.Limits.{largest_number}
 use Rattle.mat_sets.specs.Graphs.{ends_of, IsSpanningArborescence, IsUnentered}
 use Rattle.mat_sets.specs.Sets.{AllBelow}
 use Rattle.mat_sets.specs.Sums.{IsWithin}
@@ -22,7 +23,7 @@ TellsReached vertices arcs root (Unreached set) = (tree : List ℕ) → IsSpanni
 -- a vertex set with a weight, both in range
 pub record IsCutInRange (vertices : ℕ) (c : CutWeight) : Type 0 where
   pub below : AllBelow vertices c.set
-  pub small : IsWithin (10 ^ 30) c.weight
+  pub small : IsWithin largest_number c.weight
 
 -- arcs, sets and weights in range, and not too many sets
 abbrev pub AreInRange : (vertices count : ℕ) → Cuts → Type 0

@@ -20,7 +20,7 @@ all_weight [] = pos 0
 all_weight (c ∷ cuts) = c.weight +ℤ all_weight cuts
 
 -- a root-free vertex set with a weight above 0
-pub record IsCut (vertices root : ℕ) (c : CutWeight) : Type 0 where
+pub record IsWeightedCut (vertices root : ℕ) (c : CutWeight) : Type 0 where
   pub root_free : IsRootFree vertices root c.set
   pub positive : pos 0 <ℤ c.weight
 
@@ -30,7 +30,7 @@ pub record AreRightCuts (vertices : ℕ) (arcs : List (ℕ × ℕ)) (costs : Lis
     (tree : List ℕ) (cuts : List CutWeight) : Type 0 where
   pub spans : IsSpanningArborescence vertices (length arcs) (ends_of arcs) root tree
   pub few : length cuts ≤ 2 * vertices
-  pub each : AllByRecursion (IsCut vertices root) cuts
+  pub each : AllByRecursion (IsWeightedCut vertices root) cuts
   pub within : (a : ℕ) → a < length arcs → weight_on (ends_of arcs) cuts a ≤ℤ cost_at costs a
   pub total : all_weight cuts ≡ cost_of costs tree
 

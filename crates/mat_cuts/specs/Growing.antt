@@ -1,5 +1,6 @@
 -- Which arc is taken while a tree grows from the root.
 use Rattle.std.specs.Prelude.{◌≡◌, ℕ, ◌≤◌, Bool, true, false, not, ◌&&◌, nat_lt, List, Option, MatchOption}
+use Rattle.mat_cuts.specs.Limits.{never}
 use Rattle.mat_sets.specs.Sets.{is_member}
 use Rattle.mat_cuts.specs.Raising.{at}
 
@@ -19,7 +20,7 @@ TellsLeaving ends among reached found =
 
 -- whether the arc has a time
 abbrev pub is_timed : List ℕ → ℕ → Bool
-is_timed since a = nat_lt (at since a) 1000000
+is_timed since a = nat_lt (at since a) never
 
 -- an arc of a list with the earliest time among its arcs that leave the reached vertices
 pub record IsEarliest (ends : ℕ → ℕ × ℕ) (since among reached : List ℕ) (a : ℕ) : Type 0 where

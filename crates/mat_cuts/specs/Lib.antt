@@ -5,3 +5,4 @@ pub mod Answers
 pub mod Listing
 pub mod Growing
 pub mod Checking
+pub mod Limits

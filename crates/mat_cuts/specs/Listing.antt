@@ -1,5 +1,6 @@
 -- What the parts of the search do.
 use Rattle.std.specs.Prelude.{◌≡◌, ◌≢◌, ◌⊎◌, ℕ, suc, ◌+◌, ◌<◌, ◌==◌, Bool, true, false, List, [], ◌∷◌, ◌++◌, length, Option, MatchOption, ℤ, pos, ◌≤ℤ◌, ◌<ℤ◌}
+use Rattle.mat_cuts.specs.Limits.{never}
 use Rattle.mat_sets.specs.Graphs.{ends_of}
 use Rattle.mat_sets.specs.Search.{those_below}
 use Rattle.mat_sets.specs.Sets.{is_member, without_one}
@@ -53,8 +54,8 @@ pub record IsJoined (to : ℕ) (before after : Path) : Type 0 where
 -- an unseen vertex comes to the end of the path; for another all sets from its place on are joined
 abbrev pub IsFollowed : ℕ → Path → Path → Type 0
 IsFollowed t before after =
-    ((at before.place.items t ≡ 1000000) × IsPushed t before after)
-    ⊎ ((at before.place.items t ≢ 1000000) × IsJoined (at before.place.items t) before after)
+    ((at before.place.items t ≡ never) × IsPushed t before after)
+    ⊎ ((at before.place.items t ≢ never) × IsJoined (at before.place.items t) before after)
 
 -- the path stays where there is one, and begins at an unseen vertex where there is one; else all vertices are seen
 abbrev pub IsBegun : Path → Path → Bool → Type 0

@@ -1,11 +1,13 @@
 -- What is kept while the weights of cuts are raised: the cost that is left at each arc, since when it is spent, and the sets that were listed.
 -- A path of sets grows backwards from an unreached vertex, each set joined by spent arcs to the next.
-use Rattle.std.specs.Prelude.{◌≡◌, ◌≢◌, ℕ, suc, ◌<◌, ◌≤◌, ◌^◌, ◌⊎◌, Bool, true, false, not, ◌&&◌, ◌==◌, if◌then◌else◌, nat_le, List, [], ◌∷◌, length, slice_index_or, Option, MatchOption, ℤ, pos, ◌+ℤ◌, ◌≤ℤ◌}
+use Rattle.std.specs.Prelude.{◌≡◌, ◌≢◌, ℕ, suc, ◌<◌, ◌≤◌, ◌⊎◌, Bool, true, false, not, ◌&&◌, ◌==◌, if◌then◌else◌, nat_le, List, [], ◌∷◌, length, slice_index_or, Option, MatchOption, ℤ, pos, ◌+ℤ◌, ◌≤ℤ◌}
 use Rattle.std.specs.List.{AllByRecursion}
+use Rattle.mat_cuts.specs.Limits.{never}
+use Rattle.mat_sets.specs.Limits.{largest_weight}
 use Rattle.mat_sets.specs.Graphs.{ends_of, enters}
 use Rattle.mat_sets.specs.Sets.{is_member, IsSet}
 use Rattle.mat_cuts.specs.Costs.{cost_at}
-use Rattle.mat_cuts.specs.Cuts.{weight_on, weight_where, IsCut}
+use Rattle.mat_cuts.specs.Cuts.{weight_on, weight_where, IsWeightedCut}
 use Rattle.mat_cuts.specs.declared.cut_weight.CutWeight.{CutWeight}
 
 -- the number at a place, 0 past the end
@@ -35,10 +37,10 @@ pub record IsRaised (vertices : ℕ) (arcs : List (ℕ × ℕ)) (costs : List �
   pub since_long : length since ≡ length arcs
   pub paid : (a : ℕ) → a < length arcs → cost_at costs a ≡ cost_at reduced a +ℤ weight_on (ends_of arcs) cuts a
   pub low : (a : ℕ) → a < length arcs → pos 0 ≤ℤ cost_at reduced a
-  pub high : (a : ℕ) → a < length arcs → cost_at reduced a ≤ℤ pos (10 ^ 12)
-  pub spent : (a : ℕ) → a < length arcs → at since a < 1000000 → cost_at reduced a ≡ pos 0
+  pub high : (a : ℕ) → a < length arcs → cost_at reduced a ≤ℤ pos largest_weight
+  pub spent : (a : ℕ) → a < length arcs → at since a < never → cost_at reduced a ≡ pos 0
   pub soon : (a : ℕ) → a < length arcs → cost_at reduced a ≡ pos 0 → at since a ≤ length cuts
-  pub each : AllByRecursion (IsCut vertices root) cuts
+  pub each : AllByRecursion (IsWeightedCut vertices root) cuts
   pub nested : AreNested (length arcs) (ends_of arcs) since 0 cuts
 
 -- places of the vertices: 0 for those that the root reaches by early arcs, 1 to `last` for those on the path, 1000000 for those not seen
@@ -46,7 +48,7 @@ pub record IsPath (vertices : ℕ) (arcs : List (ℕ × ℕ)) (root : ℕ) (sinc
     (place fresh : List ℕ) (last : ℕ) : Type 0 where
   pub long : length place ≡ vertices
   pub fresh_set : IsSet vertices fresh
-  pub unseen : (v : ℕ) → is_member v fresh ≡ true → at place v ≡ 1000000
+  pub unseen : (v : ℕ) → is_member v fresh ≡ true → at place v ≡ never
   pub seen : (v : ℕ) → v < vertices → is_member v fresh ≡ false → at place v ≤ last
   pub root_place : at place root ≡ 0
   pub rooted : (v : ℕ) → v < vertices → at place v ≡ 0 → Leads (length arcs) (ends_of arcs) since now root v
@@ -87,5 +89,5 @@ pub record IsLowered (count : ℕ) (test : ℕ → Bool) (least : ℤ) (next : �
 
 -- an arc that costs nothing is spent from the start
 pub record IsFirstTime (cost : ℤ) (time : ℕ) : Type 0 where
-  pub spent : time < 1000000 → cost ≡ pos 0
+  pub spent : time < never → cost ≡ pos 0
   pub soon : cost ≡ pos 0 → time ≡ 0

@@ -4,12 +4,13 @@
 //! left at an arc that enters it, and this weight is taken from each arc that enters it. So one of them is spent; its tail comes to the
 //! end of the path, or closes up all sets from its place on. When an arc is spent it gets a time: how many sets were listed.
 //! At the end a tree grows from the root, always by the arc with the earliest time, and enters each listed set once.
-ghost use Rattle.std.specs.Prelude.{◌≡◌, ◌≤◌, ◌<◌, ◌*◌, ◌+◌, ◌-◌, ◌≤ℤ◌, ◌<ℤ◌, ℕ, length, true, pos, All, IfOk, OnOk};
-ghost use Rattle.mat_sets.specs.Graphs.{ends_of, IsGraph};
+ghost use Rattle.std.specs.Prelude.{◌≡◌, ◌≤◌, ◌<◌, ◌+◌, ◌-◌, ◌≤ℤ◌, ◌<ℤ◌, ℕ, length, true, pos, All, IfOk, OnOk};
+ghost use Rattle.mat_cuts.specs.Limits.{never, vertex_bound, arc_bound};
+ghost use Rattle.mat_sets.specs.Graphs.{IsGraph};
 ghost use Rattle.mat_cuts.specs.Costs.{cost_at, IsCost};
 ghost use Rattle.mat_cuts.specs.Answers.{AreInRange, AreRight, TellsReached};
 ghost use Rattle.mat_cuts.specs.Listing.{IsBegun, IsFollowed, IsListed, IsPaid, TellsSpent};
-ghost use Rattle.mat_cuts.specs.Raising.{at, IsLeastOf};
+ghost use Rattle.mat_cuts.specs.Raising.{IsLeastOf};
 ghost use Rattle.mat_sets.specs.Sets.{is_member, AllBelow, IsSet};
 
 use crate::cut_weight::{CutWeight, Cuts};
@@ -33,7 +34,7 @@ fn list_set(
     requires range { (a : ℕ) → a < length raised.old.reduced.items → IsCost (cost_at raised.old.reduced.items a) }
     requires set { IsSet (length raised.old.reduced.items) entering.now }
     requires enough { (a : ℕ) → is_member a entering.now ≡ true → least ≤ℤ cost_at raised.old.reduced.items a }
-    requires places { length path.now.place.items < 1000000 }
+    requires places { length path.now.place.items < never }
     ensures { OnOk result (IsListed (λ a. is_member a entering.now) path.now.place.items path.now.last least raised.old raised.new) }
 {
     let set = at_place(alloc, &path.place, path.last)?;
@@ -62,7 +63,7 @@ fn pay(
     requires range { (b : ℕ) → b < length raised.old.reduced.items → IsCost (cost_at raised.old.reduced.items b) }
     requires set { IsSet (length raised.old.reduced.items) entering.now }
     requires least { IsLeastOf entering.now raised.old.reduced.items a }
-    requires places { length path.now.place.items < 1000000 }
+    requires places { length path.now.place.items < never }
     ensures { OnOk result (IsPaid (λ b. is_member b entering.now) path.now.place.items path.now.last a raised.old raised.new) }
 {
     let least = raised.reduced[a as usize];
@@ -85,7 +86,7 @@ fn spend(
     requires reduced { length raised.old.reduced.items ≡ length arcs.now }
     requires since { length raised.old.since.items ≡ length arcs.now }
     requires range { (b : ℕ) → b < length arcs.now → IsCost (cost_at raised.old.reduced.items b) }
-    requires places { length path.now.place.items < 1000000 }
+    requires places { length path.now.place.items < never }
     ensures { IfOk result (TellsSpent arcs.now path.now.place.items path.now.last raised.old raised.new) }
 {
     let place = path.place.as_slice();
@@ -102,7 +103,7 @@ fn spend(
 /// Begins a path at an unseen vertex, where there is none. False where all vertices are seen.
 fn begin(path: &mut Path) -> bool
     requires below { AllBelow (length path.old.place.items) path.old.fresh }
-    requires few { path.old.last + 1 < 1000000 }
+    requires few { path.old.last + 1 < never }
     ensures { IsBegun path.old path.new result }
 {
     if path.last > 0 {
@@ -119,7 +120,7 @@ fn begin(path: &mut Path) -> bool
 /// Goes back along the arc: its tail comes to the end of the path, or all sets from its place on are joined.
 fn follow(path: &mut Path, t: u32)
     requires below { t < length path.old.place.items }
-    requires few { path.old.last + 1 < 1000000 }
+    requires few { path.old.last + 1 < never }
     ensures { IsFollowed t path.old path.new }
 {
     let to = path.place[t as usize];
@@ -138,10 +139,10 @@ fn cheapest_among(
     costs: &[i128],
     root: u32,
 ) -> Result<Cuts, AllocError>
-    requires few { vertices ≤ 2000 }
+    requires few { vertices ≤ vertex_bound }
     requires root { root < vertices }
     requires graph { IsGraph vertices arcs.now }
-    requires many { length arcs.now ≤ 20000 }
+    requires many { length arcs.now ≤ arc_bound }
     requires costs { length costs.now ≡ length arcs.now }
     requires range { All IsCost costs.now }
     ensures { IfOk result (AreRight vertices arcs.now costs.now root) }
@@ -185,10 +186,10 @@ pub fn cheapest(
     costs: &[i128],
     root: u32,
 ) -> Result<Cuts, AllocError>
-    requires few { vertices ≤ 2000 }
+    requires few { vertices ≤ vertex_bound }
     requires root { root < vertices }
     requires graph { IsGraph vertices arcs.now }
-    requires many { length arcs.now ≤ 20000 }
+    requires many { length arcs.now ≤ arc_bound }
     requires costs { length costs.now ≡ length arcs.now }
     requires range { All IsCost costs.now }
     ensures right { IfOk result (AreRight vertices arcs.now costs.now root) }

@@ -1,14 +1,16 @@
 //! Whether cuts are right.
 ghost use Rattle.std.specs.Prelude.{◌≡◌, ◌≤◌, ◌<◌, ◌*◌, ◌^◌, ◌≤ℤ◌, ◌↔◌, ℕ, length, false, All, IfOk, IsTrue};
 ghost use Rattle.std.specs.List.{AllByRecursion};
+ghost use Rattle.mat_sets.specs.Limits.{largest_number};
+ghost use Rattle.mat_cuts.specs.Limits.{cut_bound, vertex_bound, arc_bound};
 ghost use Rattle.mat_sets.specs.Graphs.{ends_of, enters, IsGraph, IsSpanningArborescence, IsRootFree, IsUnentered};
-ghost use Rattle.mat_sets.specs.Sets.{AllBelow, IsRising};
+ghost use Rattle.mat_sets.specs.Sets.{AllBelow};
 ghost use Rattle.mat_sets.specs.Sums.{IsWithin};
 ghost use Rattle.mat_cuts.specs.Answers.{AreInRange, AreRight, IsCutInRange};
 ghost use Rattle.mat_cuts.specs.Checking.{IsAdded};
 ghost use Rattle.mat_cuts.specs.Costs.{cost_at, cost_of, IsCost};
 ghost use Rattle.mat_cuts.specs.Growing.{TellsLeaving};
-ghost use Rattle.mat_cuts.specs.Cuts.{all_weight, weight_on, AreRightCuts, IsCut};
+ghost use Rattle.mat_cuts.specs.Cuts.{all_weight, weight_on, AreRightCuts, IsWeightedCut};
 
 use crate::cut_weight::{CutWeight, Cuts};
 use crate::growing::leaves;
@@ -86,7 +88,7 @@ fn is_spanning(
 
 /// Whether each set is a cut: it is root-free, and its weight is above 0.
 fn are_cuts(root: u32, cuts: &[CutWeight]) -> bool
-    ensures { (vertices : ℕ) → AllByRecursion (IsCutInRange vertices) cuts.now → (IsTrue result ↔ AllByRecursion (IsCut vertices root) cuts.now) }
+    ensures { (vertices : ℕ) → AllByRecursion (IsCutInRange vertices) cuts.now → (IsTrue result ↔ AllByRecursion (IsWeightedCut vertices root) cuts.now) }
 {
     for cut in cuts {
         if cut.weight <= 0 || !is_root_free(root, &cut.set) {
@@ -116,8 +118,8 @@ fn paid_costs(
     arcs: &[(u32, u32)],
     cuts: &[CutWeight],
 ) -> Result<Vec<i128>, AllocError>
-    requires few { length cuts.now ≤ 4000 }
-    requires small { AllByRecursion (λ c. IsWithin (10 ^ 30) c.weight) cuts.now }
+    requires few { length cuts.now ≤ cut_bound }
+    requires small { AllByRecursion (λ c. IsWithin largest_number c.weight) cuts.now }
     ensures long { IfOk result (λ paid. length paid.items ≡ length arcs.now) }
     ensures paid { IfOk result (λ paid. (a : ℕ) → a < length arcs.now → cost_at paid.items a ≡ weight_on (ends_of arcs.now) cuts.now a) }
 {
@@ -144,8 +146,8 @@ fn is_within(paid: &[i128], costs: &[i128]) -> bool
 
 /// All weights, added.
 fn total_weight(cuts: &[CutWeight]) -> i128
-    requires few { length cuts.now ≤ 4000 }
-    requires small { AllByRecursion (λ c. IsWithin (10 ^ 30) c.weight) cuts.now }
+    requires few { length cuts.now ≤ cut_bound }
+    requires small { AllByRecursion (λ c. IsWithin largest_number c.weight) cuts.now }
     ensures { result ≡ all_weight cuts.now }
 {
     let mut total = 0i128;
@@ -158,7 +160,7 @@ fn total_weight(cuts: &[CutWeight]) -> i128
 /// The cost of a set of arcs: at most 2,000 of them, each with a cost from 0 to 10^12. The time is linear in the set.
 pub fn total_cost(costs: &[i128], arcs: &[u32]) -> i128
     requires below { AllBelow (length costs.now) arcs.now }
-    requires few { length arcs.now ≤ 2000 }
+    requires few { length arcs.now ≤ vertex_bound }
     requires range { All IsCost costs.now }
     ensures { result ≡ cost_of costs.now arcs.now }
 {
@@ -179,7 +181,7 @@ fn are_right_cuts(
     tree: &ElemSet,
     cuts: &[CutWeight],
 ) -> Result<bool, AllocError>
-    requires vertices { vertices ≤ 2000 }
+    requires vertices { vertices ≤ vertex_bound }
     requires root { root < vertices }
     requires graph { IsGraph vertices arcs.now }
     requires costs { length costs.now ≡ length arcs.now }
@@ -232,10 +234,10 @@ pub fn right_cuts(
     root: u32,
     cuts: &Cuts,
 ) -> Result<bool, AllocError>
-    requires few { vertices ≤ 2000 }
+    requires few { vertices ≤ vertex_bound }
     requires root { root < vertices }
     requires graph { IsGraph vertices arcs.now }
-    requires many { length arcs.now ≤ 20000 }
+    requires many { length arcs.now ≤ arc_bound }
     requires costs { length costs.now ≡ length arcs.now }
     requires range { All IsCost costs.now }
     requires cuts { AreInRange vertices (length arcs.now) cuts.now }

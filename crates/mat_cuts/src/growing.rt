@@ -1,5 +1,6 @@
 //! The tree that grows from the root by the earliest arcs.
 ghost use Rattle.std.specs.Prelude.{◌≡◌, ◌<◌, ◌^◌, ℕ, length, true, IfOk};
+ghost use Rattle.mat_cuts.specs.Limits.{never};
 ghost use Rattle.mat_sets.specs.Graphs.{ends_of, IsGraph, IsSpanningArborescence};
 ghost use Rattle.mat_sets.specs.Search.{those_below};
 ghost use Rattle.mat_sets.specs.Sets.{is_member, IsSet};
@@ -45,7 +46,7 @@ pub(crate) fn earliest(
 ) -> Option<u32>
     requires long { length since.now ≡ length arcs.now }
     requires set { IsSet (length arcs.now) timed.now }
-    requires timed { (a : ℕ) → is_member a timed.now ≡ true → at since.now a < 1000000 }
+    requires timed { (a : ℕ) → is_member a timed.now ≡ true → at since.now a < never }
     ensures { TellsEarliest (ends_of arcs.now) since.now timed.now reached.now result }
 {
     let mut best = NEVER;
@@ -83,7 +84,7 @@ pub(crate) fn grow(
     requires root { root < vertices }
     requires graph { IsGraph vertices arcs.now }
     requires raised { IsRaised vertices arcs.now costs.now root raised.now.reduced.items raised.now.since.items raised.now.cuts.items }
-    requires few { length raised.now.cuts.items < 1000000 }
+    requires few { length raised.now.cuts.items < never }
     requires leads { (v : ℕ) → v < vertices → Leads (length arcs.now) (ends_of arcs.now) raised.now.since.items (length raised.now.cuts.items) root v }
     ensures spans { IfOk result (IsSpanningArborescence vertices (length arcs.now) (ends_of arcs.now) root) }
     ensures cost { IfOk result (λ tree. all_weight raised.now.cuts.items ≡ cost_of costs.now tree) }

@@ -1,5 +1,6 @@
 //! The path of joined vertex sets, as places of the vertices.
-ghost use Rattle.std.specs.Prelude.{◌≡◌, ◌≢◌, ◌+◌, ◌<◌, ◌==◌, ℕ, length, IfOk};
+ghost use Rattle.std.specs.Prelude.{◌≡◌, ◌+◌, ◌<◌, ◌==◌, length, IfOk};
+ghost use Rattle.mat_cuts.specs.Limits.{never};
 ghost use Rattle.mat_sets.specs.Search.{those_below};
 ghost use Rattle.mat_cuts.specs.Listing.{IsJoined, IsPushed};
 ghost use Rattle.mat_cuts.specs.Raising.{at};
@@ -24,7 +25,7 @@ pub(crate) struct Path {
 /// Puts an unseen vertex at the end of the path.
 pub(crate) fn push(path: &mut Path, t: u32)
     requires below { t < length path.old.place.items }
-    requires few { path.old.last + 1 < 1000000 }
+    requires few { path.old.last + 1 < never }
     ensures { IsPushed t path.old path.new }
 {
     path.fresh.take_out(t);
@@ -47,7 +48,7 @@ pub(crate) fn join(path: &mut Path, to: u32)
 
 /// The vertices at a place.
 pub(crate) fn at_place(alloc: Global, place: &[u32], last: u32) -> Result<ElemSet, AllocError>
-    requires { length place.now < 1000000 }
+    requires { length place.now < never }
     ensures { IfOk result (λ s. s ≡ those_below (length place.now) (λ v. at place.now v == last)) }
 {
     let mut part = ElemSet::new(alloc);

@@ -8,8 +8,6 @@ mod growing;
 mod joining;
 pub mod laws;
 mod lowering;
-#[cfg(test)]
-mod tests;
 
 pub use cheapest_tree::cheapest;
 pub use checking::{right_cuts, total_cost};

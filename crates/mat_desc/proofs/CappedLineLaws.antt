@@ -9,7 +9,7 @@ use Rattle.mat_words.specs.Words.{is_word}
 use Rattle.mat_words.specs.Numbers.{numerals, numeral}
 use Rattle.mat_words.specs.Lines.{Line}
 use Rattle.mat_words.proofs.NumberLemmas.{numeral_word}
-use Rattle.mat_desc.specs.Limits.{most_elements}
+use Rattle.mat_sets.specs.Limits.{most_elements}
 use Rattle.mat_words.specs.Cursors.{WordsLeft, LinesLeft}
 use Rattle.mat_words.specs.Steps.{◌>>=◌}
 use Rattle.mat_desc.specs.Faults.{Fault}

@@ -8,7 +8,8 @@ use Rattle.mat_sets.specs.Sets.{is_member, AllBelow, IsSet}
 use Rattle.mat_sets.specs.Families.{indicator, multiplicity, AreDisjoint}
 use Rattle.mat_count.specs.Partitions.{IsPartition}
 use Rattle.mat_words.specs.Lines.{Line}
-use Rattle.mat_desc.specs.Limits.{most_elements, most_sets}
+use Rattle.mat_desc.specs.Limits.{most_sets}
+use Rattle.mat_sets.specs.Limits.{most_elements}
 use Rattle.mat_words.specs.Cursors.{LinesLeft}
 use Rattle.mat_desc.specs.Reading.{class_at, classes_at}
 use Rattle.mat_desc.specs.Grammar.{Lists, CappedLines, AreClasses}

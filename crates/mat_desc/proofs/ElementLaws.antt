@@ -1,10 +1,11 @@
 -- Lists of elements: what is read is spelled so, and what is spelled so is read.
 use Rattle.std.proofs.Common.{◌≡◌, ℕ, Bool, true, false, ◌||◌, eqb, List, [], ◌∷◌}
 use Rattle.std.proofs.Common.{pos, Ok, refl, sym, ap, subst, ◌∙◌, inl, inr}
-use Rattle.std.proofs.lemmas.Bool.{cases_Bool, eq-eqb, eqb-true}
+use Rattle.std.proofs.lemmas.Bool.{cases_Bool, eq-eqb, eqb-true, or_parts}
 use Rattle.mat_sets.specs.Sets.{is_member, IsRising, AllBelow, IsSet, AreDistinct, with_one}
 use Rattle.mat_sets.proofs.Members.{is_member-with_one, IsRising-with_one, IsRising-nil, same_members}
 use Rattle.mat_sets.proofs.Ground.{AllBelow-member, AllBelow-from_members, IsSet-from}
+use Rattle.mat_sets.proofs.Truths.{or_none}
 use Rattle.mat_words.specs.Numbers.{numerals, numeral}
 use Rattle.mat_desc.specs.declared.refusal.DescKind.TheVariants.{Repeated}
 use Rattle.mat_desc.specs.Reading.{below_at, elements_from}
@@ -45,10 +46,6 @@ pub record AreElementsRead (n : ℕ) (taken set : List ℕ) (words : List (List 
   pub set_made : made ≡ with_each set xs
   pub taken_left : left ≡ with_each taken xs
 
-or_false : (a b : Bool) → (a || b) ≡ false → (a ≡ false) × (b ≡ false)
-or_false true b h = absurd cc
-or_false false b h = (refl, h)
-
 -- where no later item is x or is taken, and x is not taken
 pub fresh_first : (x : ℕ) (xs taken : List ℕ) → is_member x taken ≡ false
     → ((y : ℕ) → is_member y xs ≡ true → is_member y (with_one taken x) ≡ false)
@@ -57,7 +54,7 @@ fresh_first x xs taken free later = (apart, each)
   where
     apart : is_member x xs ≡ false
     apart = elim (cases_Bool (is_member x xs)) [
-      | inl stands ↦ let both = or_false (eqb x x) (is_member x taken) (sym (is_member-with_one x x taken) ∙ later x stands) in absurd
+      | inl stands ↦ let both = or_parts (eqb x x) (is_member x taken) (sym (is_member-with_one x x taken) ∙ later x stands) in absurd
           (cc (eq-eqb x x refl, both.0))
       | inr free ↦ free
     ]
@@ -65,7 +62,7 @@ fresh_first x xs taken free later = (apart, each)
     each : (y : ℕ) → is_member y (x ∷ xs) ≡ true → is_member y taken ≡ false
     each y stands = elim (cases_Bool (eqb y x)) [
       | inl same ↦ subst (λ (z : ℕ). is_member z taken ≡ false) (sym (eqb-true y x same)) free
-      | inr other ↦ (or_false (eqb y x) (is_member y taken) (sym (is_member-with_one y x taken) ∙ later y (rw other at stands))).1
+      | inr other ↦ (or_parts (eqb y x) (is_member y taken) (sym (is_member-with_one y x taken) ∙ later y (rw other at stands))).1
     ]
 
 -- where x and later items are not taken, and x is none of the later ones, these are not taken behind x
@@ -121,12 +118,8 @@ elements_again n line taken set (x ∷ xs) distinct below fresh =
 
 -- ---- the set that a list of elements makes
 
-or-false : (b : Bool) → (b || false) ≡ b
-or-false true = refl
-or-false false = refl
-
 pub is_member-made : (k : ℕ) (xs : List ℕ) → is_member k (with_each [] xs) ≡ is_member k xs
-is_member-made k xs = is_member-with_each k [] xs ∙ or-false (is_member k xs)
+is_member-made k xs = is_member-with_each k [] xs ∙ or_none (is_member k xs)
 
 -- the members of the set that was made, and of what is taken behind it
 pub members_made : (taken xs made : List ℕ) → made ≡ with_each [] xs → (x : ℕ) → is_member x made ≡ is_member x xs

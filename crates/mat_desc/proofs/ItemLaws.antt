@@ -14,7 +14,8 @@ use Rattle.mat_words.specs.Lines.{Line}
 use Rattle.mat_words.specs.Steps.{repeat_at}
 use Rattle.mat_words.specs.Cursors.{WordsLeft, LinesLeft}
 use Rattle.mat_sets.specs.declared.weight.Weight.{Weight}
-use Rattle.mat_desc.specs.Limits.{most_digits, largest_weight}
+use Rattle.mat_desc.specs.Limits.{most_digits}
+use Rattle.mat_sets.specs.Limits.{largest_weight}
 use Rattle.mat_desc.specs.Faults.{Fault}
 use Rattle.mat_desc.specs.Reading.{keyed_at, below_at, weight_at, ended_at, ends_at}
 use Rattle.mat_desc.specs.Reading.{ends_line_at, column_at, binary_at, weighted_at, coloured_edge_at}

@@ -5,7 +5,7 @@ use Rattle.std.proofs.lemmas.List.Elements.{All-weaker}
 use Rattle.mat_sets.specs.Sets.{IsSet, AllBelow}
 use Rattle.mat_any.specs.Trees.{Tree, Trees, uniform, partition, laminar, graphic, transversal, gammoid}
 use Rattle.mat_any.specs.Trees.{gf2, dual, truncate, restrict, contract, union, no_trees, more_trees, tree_count, element_count, first_count, IsSound, AreSoundOn}
-use Rattle.mat_desc.specs.Limits.{most_elements}
+use Rattle.mat_sets.specs.Limits.{most_elements}
 use Rattle.mat_desc.specs.declared.refusal.DescRefusal.{DescRefusal}
 use Rattle.mat_desc.specs.declared.refusal.DescRefusal.TheVariants as refusals
 use Rattle.mat_desc.specs.Faults.{Fault, Gives}

@@ -12,7 +12,7 @@ use Rattle.mat_words.proofs.ReadingSteps.{found-same, test_found}
 use Rattle.mat_words.proofs.Repeats.{with_front, repeat_fails}
 use Rattle.mat_words.proofs.WordReading as words
 use Rattle.mat_words.proofs.LineReading as lines
-use Rattle.mat_desc.specs.Limits.{largest_weight}
+use Rattle.mat_sets.specs.Limits.{largest_weight}
 use Rattle.mat_desc.specs.declared.refusal.DescKind.TheVariants.{TooManyWords}
 use Rattle.mat_desc.specs.declared.refusal.DescRefusal.{DescRefusal}
 use Rattle.mat_desc.specs.declared.refusal.DescRefusal.TheVariants as refusals

@@ -18,7 +18,8 @@ use Rattle.mat_desc.specs.Binary.{binary_value, is_binary}
 use Rattle.mat_words.specs.Cursors.{WordsLeft, LinesLeft}
 use Rattle.mat_words.specs.Steps.{◌>>=◌, repeat_at}
 use Rattle.mat_desc.specs.Faults.{Fault, told}
-use Rattle.mat_desc.specs.Limits.{most_elements, most_vertices, most_sets, most_arcs, most_digits, most_matroids, deepest, largest_weight}
+use Rattle.mat_desc.specs.Limits.{most_sets, most_arcs, most_digits, most_matroids, deepest}
+use Rattle.mat_sets.specs.Limits.{largest_weight, most_vertices, most_elements}
 use Rattle.mat_desc.specs.Instances.{Instance, pair, list, graph, rooted, coloured, table}
 
 -- ---- lines and words

@@ -1,6 +1,6 @@
 //! Reading transversal matroids and gammoids.
 
-ghost use Rattle.std.specs.Prelude.{◌≡◌, []};
+ghost use Rattle.std.specs.Prelude.{[]};
 ghost use Rattle.mat_any.specs.Views.{tree_of};
 ghost use Rattle.mat_desc.specs.Faults.{Gives};
 ghost use Rattle.mat_words.specs.Steps.{repeat_at};

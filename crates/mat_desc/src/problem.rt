@@ -1,6 +1,6 @@
 //! Problems, and reading them.
 
-ghost use Rattle.std.specs.Prelude.{◌≡◌, ◌≤◌, length, IfOk};
+ghost use Rattle.std.specs.Prelude.{◌≤◌, length, IfOk};
 ghost use Rattle.mat_desc.specs.Faults.{Gives};
 ghost use Rattle.mat_desc.specs.Grammar.{IsValid, Spells};
 ghost use Rattle.mat_desc.specs.Instances.{Instance};

@@ -1,6 +1,5 @@
 //! Reading the end of a line, a line of weights, and a line of elements.
 
-ghost use Rattle.std.specs.Prelude.{◌≡◌};
 ghost use Rattle.mat_words.specs.Cursors.{lines_left, words_left};
 ghost use Rattle.mat_desc.specs.Faults.{Gives};
 ghost use Rattle.mat_desc.specs.Reading.{ended_at, elements_at, weights_at};

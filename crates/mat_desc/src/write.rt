@@ -1,6 +1,6 @@
 //! The canonical text of a problem.
 
-ghost use Rattle.std.specs.Prelude.{◌≡◌, ◌++◌, ◌∷◌, [], codes, map, pos, IfOk, OnOk};
+ghost use Rattle.std.specs.Prelude.{◌≡◌, ◌++◌, ◌∷◌, [], codes, map, IfOk, OnOk};
 ghost use Rattle.std.specs.List.{zip, flat_map};
 ghost use Rattle.mat_words.specs.Lines.{text_of};
 ghost use Rattle.mat_words.specs.Writing.{members_line};

@@ -1,24 +1,17 @@
 -- The fringe of a reached set: what offers do to the greatest entries of the elements outside it.
-use Rattle.std.proofs.Common.{◌≡◌, ◌≢◌, ℕ, ◌+◌, ◌<◌, ◌≤◌, Bool, true, false, ◌&&◌, ◌||◌, eqb, ltb, List, length, set, ◌⊎◌, inl, inr, refl, sym, ap, ◌∙◌, subst, arith}
-use Rattle.std.proofs.lemmas.Bool.{cases_Bool, cases_eq, cases_lt, both_ways, and_parts, and_from, and_left, and_right, eqb-true, eq-eqb, ne_eqb, lt-ltb, ltb-true}
+use Rattle.std.proofs.Common.{◌≡◌, ◌≢◌, ℕ, ◌+◌, ◌<◌, Bool, true, false, ◌&&◌, ◌||◌, eqb, ltb, List, length, set, ◌⊎◌, inl, inr, refl, sym, ap, ◌∙◌, subst, arith}
+use Rattle.std.proofs.lemmas.Bool.{cases_Bool, cases_eq, cases_lt, both_ways, and_parts, and_from, and_right, eqb-true, eq-eqb, ne_eqb, lt-ltb, ltb-true}
 use Rattle.std.proofs.lemmas.Int.{ints}
 use Rattle.std.proofs.lemmas.List.{get_or-set_same, get_or-set_other}
 use Rattle.mat_sets.specs.Sets.{is_member, with_one}
 use Rattle.mat_sets.proofs.Members.{is_member-with_one}
 use Rattle.mat_sets.specs.Search.{IsFirstFrom}
-use Rattle.mat_sets.specs.Weights.{zero_weight, ◌≺◌, ◌≼◌, weight_at}
+use Rattle.mat_sets.specs.Weights.{zero_weight, ◌≼◌, weight_at}
 use Rattle.mat_sets.specs.declared.weight.Weight.{Weight}
-use Rattle.mat_sets.proofs.WeightOrder.{pairs}
+use Rattle.mat_sets.proofs.WeightOrder.{pairs, at_most_trans}
 use Rattle.mat_exchange.specs.Growing.{IsFringe, IsMet, IsOffered}
 
 -- ---- offers
-
--- nothing is offered at first
-pub offered_none : (test : ℕ → Bool) (f : ℕ → Weight) (F : List ℕ) (g : ℕ → Weight) → IsOffered (λ x. test x && ltb x 0) f F g F g
-offered_none test f F g = record {
-  met = λ x h. absurd (let l = ltb-true x 0 (and_parts (test x) (ltb x 0) h).1 in omega arith);
-  kept = λ x h. (refl, refl);
-}
 
 -- one offer after others, at another element
 met_before : (f : Weight) (x : ℕ) (F F1 F2 : List ℕ) (g g1 g2 : ℕ → Weight) → IsMet f x F g F1 g1 → is_member x F2 ≡ is_member x F1
@@ -81,17 +74,6 @@ offered_next test f from v F F1 F2 g g1 g2 first before one = record {
     here : (x : ℕ) → x ≡ v → IsMet (f x) x F g F2 g2
     here x same = subst (λ z. IsMet (f z) z F g F2 g2) (sym same) at_v
 
--- at the end all that pass were offered
-pub offered_all : (test : ℕ → Bool) (f : ℕ → Weight) (from : ℕ) (F F' : List ℕ) (g g' : ℕ → Weight) → ((x : ℕ) → from ≤ x → test x ≡ false)
-    → IsOffered (λ x. test x && ltb x from) f F g F' g' → IsOffered test f F g F' g'
-offered_all test f from F F' g g' past o = record {
-  met = λ x h. elim (cases_lt x from) [
-    | inl l ↦ o.met x (and_from (test x) (ltb x from) h (lt-ltb x from l))
-    | inr c ↦ absurd (both_ways _ (past x c) h)
-  ];
-  kept = λ x h. o.kept x (and_left (test x) (ltb x from) h);
-}
-
 -- the same for tests and offers that agree
 pub offered_same : (test test' : ℕ → Bool) (f f' : ℕ → Weight) (F F' : List ℕ) (g g' : ℕ → Weight) → ((x : ℕ) → test' x ≡ test x)
     → ((x : ℕ) → f' x ≡ f x) → IsOffered test f F g F' g' → IsOffered test' f' F g F' g'
@@ -123,7 +105,7 @@ fringe_offered O F F' E E' test f g g' fringe o inside new more back = record {
   ];
   most = λ x e xo entry. elim (cases_Bool (test x)) [
     | inl t ↦ (let met = o.met x t in elim (back x e xo entry) [
-      | inl before ↦ (let h = fringe.most x e xo before in let up = met.old h.0 in let le = h.1 in (met.inside, le_trans e (g x) (g' x) le up))
+      | inl before ↦ (let h = fringe.most x e xo before in let up = met.old h.0 in let le = h.1 in (met.inside, at_most_trans e (g x) (g' x) le up))
       | inr now ↦ (met.inside, rw now.1 met.own)
     ])
     | inr t ↦ elim (back x e xo entry) [
@@ -132,9 +114,6 @@ fringe_offered O F F' E E' test f g g' fringe o inside new more back = record {
     ]
   ];
 }
-  where
-    le_trans : (a b c : Weight) → a ≼ b → b ≼ c → a ≼ c
-    le_trans a b c h k = omega (arith, ints, pairs)
 
 -- ---- one offer
 
@@ -156,25 +135,5 @@ offered_one_new F F' gains z gain y l e same out = record {
       inside = ap (is_member z) e ∙ is_member-with_one z z F ∙ ap (λ b. b || is_member z F) (eq-eqb z z refl);
       own = rw value (omega (arith, ints, pairs));
       old = λ h. absurd (both_ways _ out h);
-      from = inl value;
-    }
-
--- one that was in the set and had less
-pub offered_one_more : (F : List ℕ) (gains : List Weight) (z : ℕ) (gain y : Weight) → z < length gains → y ≡ gain
-    → is_member z F ≡ true → weight_at gains z ≺ gain
-    → IsOffered (λ v. eqb v z) (λ v. gain) F (weight_at gains) F (weight_at (set gains z y))
-offered_one_more F gains z gain y l same in_f less = record {
-  met = λ x h. (let at = eqb-true x z h in subst (λ v. IsMet gain v F (weight_at gains) F (weight_at (set gains z y))) (sym at) here);
-  kept = λ x h. (let other : x ≢ z = λ s. both_ways _ h (eq-eqb x z s) in (refl, get_or-set_other gains z x y (zero_weight) other));
-}
-  where
-    value : weight_at (set gains z y) z ≡ gain
-    value = get_or-set_same gains z y (zero_weight) l ∙ same
-
-    here : IsMet gain z F (weight_at gains) F (weight_at (set gains z y))
-    here = record {
-      inside = in_f;
-      own = rw value (omega (arith, ints, pairs));
-      old = λ h. rw value (omega (arith, ints, pairs));
       from = inl value;
     }

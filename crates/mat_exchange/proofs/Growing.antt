@@ -4,6 +4,7 @@
 use Rattle.std.proofs.Common.{◌≡◌, ℕ, suc, ◌+◌, ◌*◌, ◌^◌, ◌<◌, ◌≤◌, Bool, true, false, ◌&&◌, ◌||◌, not, eqb, ltb, List, [], length, ℤ, pos, ◌+ℤ◌, ◌≤ℤ◌, ◌⊎◌, inl, inr, refl, sym, ap, ◌∙◌, subst, arith}
 use Rattle.std.proofs.lemmas.Bool.{cases_Bool, both_ways, and_parts, and_from, or_cases, or_left, or_right, not-true, eqb-true, eq-eqb, lt-ltb, ltb-true, cond-true, cond-false, false≢true}
 use Rattle.std.proofs.lemmas.Int.{ints}
+use Rattle.mat_sets.specs.Limits.{largest_weight}
 use mathlib.Core.Path.{fun_ext}
 use Rattle.mat_sets.specs.Sets.{is_member, IsSet, with_one, without_one}
 use Rattle.mat_sets.specs.Walks.{IsReachedSet}
@@ -14,6 +15,7 @@ use Rattle.mat_sets.proofs.Reach.{reached_by_induction}
 use Rattle.mat_sets.specs.Weights.{zero_weight, ◌⊕◌, ◌⊖◌, ◌≺◌, ◌≼◌, is_same, IsWeightWithin}
 use Rattle.mat_sets.specs.declared.weight.Weight.{Weight}
 use Rattle.mat_sets.proofs.WeightOrder.{pairs, same_gives, same_from, by_below}
+use Rattle.mat_sets.proofs.Truths.{or_none}
 use Rattle.mat_laws.specs.TightPaths.{Exchanges, is_heaviest_addable, is_tight, IsStuckReach}
 use Rattle.mat_laws.specs.Slacks.{IsSlack}
 use Rattle.mat_laws.specs.Slacks.IsSlack.{first_addition, first_exchange, second_exchange, second_addition}
@@ -115,7 +117,7 @@ near_more : (r : ℕ) (a b c : Weight) → IsClose a b → IsNear r b c → IsNe
 near_more r a b c close near = omega (arith, ints)
 
 -- two elements of one first weight are close in the second
-first_close : (a1 b1 a2 b2 wa wb : Weight) → a1 ⊕ a2 ≡ wa → b1 ⊕ b2 ≡ wb → IsWeightWithin (10 ^ 12) wa → IsWeightWithin (10 ^ 12) wb
+first_close : (a1 b1 a2 b2 wa wb : Weight) → a1 ⊕ a2 ≡ wa → b1 ⊕ b2 ≡ wb → IsWeightWithin largest_weight wa → IsWeightWithin largest_weight wb
     → a1 ≡ b1 → IsClose a2 b2
 first_close a1 b1 a2 b2 wa wb ea eb ra rb same = omega (arith, ints, pairs)
 
@@ -123,8 +125,8 @@ second_close : (a b : Weight) → a ≡ b → IsClose a b
 second_close a b same = omega (arith, ints, pairs)
 
 -- u gets level with x in the first weight, and x is within h in the second
-first_levels : (u1 x1 u2 x2 wu wx d : Weight) (h : ℕ) → u1 ⊕ u2 ≡ wu → x1 ⊕ x2 ≡ wx → IsWeightWithin (10 ^ 12) wu
-    → IsWeightWithin (10 ^ 12) wx → IsWeightWithin h x2 → (x1 ⊖ u1) ⊕ d ≡ zero_weight → IsWeightWithin (h + 2 * 10 ^ 12) (u2 ⊕ d)
+first_levels : (u1 x1 u2 x2 wu wx d : Weight) (h : ℕ) → u1 ⊕ u2 ≡ wu → x1 ⊕ x2 ≡ wx → IsWeightWithin largest_weight wu
+    → IsWeightWithin largest_weight wx → IsWeightWithin h x2 → (x1 ⊖ u1) ⊕ d ≡ zero_weight → IsWeightWithin (h + 2 * 10 ^ 12) (u2 ⊕ d)
 first_levels u1 x1 u2 x2 wu wx d h eu ex ru rx le e = omega (arith, ints, pairs)
 
 -- and in the second
@@ -140,7 +142,7 @@ still_within : (a b : Weight) (h n : ℕ) → a ≡ b → IsWeightWithin h b →
 still_within a b h n e le = omega (arith, ints, pairs)
 
 module _ {n : ℕ} {I : List ℕ} {a b : Exchanges} {w old : ℕ → Weight} {root : ℕ} {R O : List ℕ} {w1 w2 : ℕ → Weight}
-    (on_a : AreExchangesOn n I a) (on_b : AreExchangesOn n I b) (small : (x : ℕ) → x < n → IsWeightWithin (10 ^ 12) (w x))
+    (on_a : AreExchangesOn n I a) (on_b : AreExchangesOn n I b) (small : (x : ℕ) → x < n → IsWeightWithin largest_weight (w x))
     (now : IsGrowing n a b w old root R O w1 w2) where
   pub in_others : (x : ℕ) → x < n → is_member x R ≡ false → is_member x O ≡ true
   in_others x l out = now.others x ∙ and_from (ltb x n) (not (is_member x R)) (lt-ltb x n l) (ap not out)
@@ -393,7 +395,7 @@ module _ {n : ℕ} {I : List ℕ} {a b : Exchanges} {w old : ℕ → Weight} {ro
 -- ---- the end
 
 module _ {n : ℕ} {I : List ℕ} {a b : Exchanges} {w old : ℕ → Weight} {root : ℕ} {R O : List ℕ} {w1 w2 : ℕ → Weight}
-    (on_a : AreExchangesOn n I a) (on_b : AreExchangesOn n I b) (small : (x : ℕ) → x < n → IsWeightWithin (10 ^ 12) (w x))
+    (on_a : AreExchangesOn n I a) (on_b : AreExchangesOn n I b) (small : (x : ℕ) → x < n → IsWeightWithin largest_weight (w x))
     (now : IsGrowing n a b w old root R O w1 w2) where
   grown_split : EndsSearch n a b w1 w2 → IsGrownSplit n a b w old w1 w2
   grown_split ends = record {
@@ -469,7 +471,7 @@ sink_by_slack {n} {b} {w2} {R} d below slack = let s = slack.has in (
 -- ---- one step of the search
 
 module _ {n : ℕ} {I : List ℕ} {a b : Exchanges} {w old : ℕ → Weight} {root : ℕ} {R O : List ℕ} {w1 w2 : ℕ → Weight}
-    (on_a : AreExchangesOn n I a) (on_b : AreExchangesOn n I b) (small : (x : ℕ) → x < n → IsWeightWithin (10 ^ 12) (w x))
+    (on_a : AreExchangesOn n I a) (on_b : AreExchangesOn n I b) (small : (x : ℕ) → x < n → IsWeightWithin largest_weight (w x))
     (now : IsGrowing n a b w old root R O w1 w2) where
   -- a gain is at most 0
   pub entry_not_above : (x : ℕ) (e : Weight) → x < n → IsEntry a b w1 w2 root R x e → e ≼ zero_weight
@@ -584,7 +586,7 @@ module _ {n : ℕ} {a b : Exchanges} {w old : ℕ → Weight} {root : ℕ} {O : 
   pub growing_start : IsGrowing n a b w old root (with_one [] root) O w1 w2
   growing_start = record {
     set = IsSet-with_one n [] root (IsSet-nil n) root_below;
-    others = λ x. others x ∙ ap (λ t. ltb x n && not t) (or_none (eqb x root) ∙ sym (is_member-with_one x root []));
+    others = λ x. others x ∙ ap (λ t. ltb x n && not t) (sym (or_none (eqb x root)) ∙ sym (is_member-with_one x root []));
     root_in = is_member-with_one root root [] ∙ or_left (eqb root root) false (eq-eqb root root refl);
     root_top = top;
     spanned = record {
@@ -599,9 +601,6 @@ module _ {n : ℕ} {a b : Exchanges} {w old : ℕ → Weight} {root : ℕ} {O : 
     near = λ v m. rw (root_length root, is_root root v m) (near_same (w2 root));
     within = λ h olds x l. still_within (w2 x) (old x) h n (same x) (olds x l);
   }
-    where
-      or_none : (t : Bool) → t ≡ (t || false)
-      or_none t = grind arith
 
 -- the elements that can be added enter as heaviest ones
 pub fringe_start : {a b : Exchanges} {w1 w2 : ℕ → Weight} {root : ℕ} {O F' : List ℕ} {g g' : ℕ → Weight}

@@ -1,7 +1,8 @@
 -- What has grown: where nothing can be added in the first matroid nothing changes, and a search after the changes has no slack.
-use Rattle.std.proofs.Common.{◌≡◌, ℕ, ◌+◌, ◌*◌, ◌^◌, ◌<◌, ◌≤◌, false, ◌&&◌, List, length, Some, None, inl, inr, refl, sym, ◌∙◌, subst, arith}
-use Rattle.std.proofs.lemmas.Bool.{and_parts, and_from, cases_Bool, both_ways}
+use Rattle.std.proofs.Common.{◌≡◌, ℕ, ◌+◌, ◌*◌, ◌^◌, ◌<◌, ◌≤◌, false, ◌&&◌, List, length, Some, None, inl, inr, refl, ◌∙◌, subst, arith}
+use Rattle.std.proofs.lemmas.Bool.{and_from, cases_Bool, both_ways}
 use Rattle.std.proofs.lemmas.Nat.{mul-le}
+use Rattle.mat_sets.specs.Limits.{most_elements, largest_weight, largest_number}
 use Rattle.mat_sets.specs.Sets.{is_member}
 use Rattle.mat_sets.specs.Weights.{◌⊕◌, weight_at, IsWeightWithin, AreWeightsWithin}
 use Rattle.mat_sets.specs.declared.weight.Weight.{Weight}
@@ -12,7 +13,7 @@ use Rattle.mat_exchange.specs.declared.found.Found.{Found}
 use Rattle.mat_exchange.specs.declared.found.Found.TheVariants.{Path, Stuck}
 use Rattle.mat_exchange.specs.declared.grown.Grown.{Grown}
 use Rattle.mat_exchange.specs.Searching.{IsFound}
-use Rattle.mat_exchange.specs.Growing.{NoExchangeGains, EndsSearch, IsGrownSplit, IsGrown, IsHeaviestOf, HasNoSlack, StaysHeaviest, sum_at}
+use Rattle.mat_exchange.specs.Growing.{NoExchangeGains, EndsSearch, IsGrownSplit, IsGrown, HasNoSlack, StaysHeaviest, sum_at}
 use Rattle.mat_exchange.proofs.HeaviestExchanges.{heaviest_in_rows}
 use Rattle.mat_exchange.proofs.Growing.{grown_unchanged}
 use Rattle.mat_exchange.proofs.WeightBounds.{IsWeightWithin-weaken, AreWeightsWithin-from, first_within, second_within}
@@ -26,14 +27,6 @@ grown_without_source n a b u1 u2 A tells none gains1 gains2 = grown_unchanged n 
   | inl k ↦ absurd (let m = tells x ∙ k in both_ways _ (none x) (and_from (is_member x A) (is_member x A) m m))
 ]) gains1 gains2
 
--- a heaviest member of the addable elements is heaviest of what can be added
-pub heaviest_root : (a : Exchanges) (w : ℕ → Weight) (A : List ℕ) (root : ℕ) → ((x : ℕ) → is_member x A ≡ a.adds x)
-    → IsHeaviestOf (λ x. is_member x A && is_member x A) w root → IsHeaviestOf a.adds w root
-heaviest_root a w A root tells top = record {
-  passes = sym (tells root) ∙ (and_parts (is_member root A) (is_member root A) top.passes).0;
-  most = λ y k. (let m = tells y ∙ k in top.most y (and_from (is_member y A) (is_member y A) m m));
-}
-
 -- ---- the answer
 
 no_slack : (n : ℕ) (a b : Exchanges) (v1 v2 : ℕ → Weight) (found : Found) → EndsSearch n a b v1 v2 → IsFound n a b v1 v2 found → HasNoSlack found
@@ -46,19 +39,19 @@ within_more z h n some within =
     let more : 2 * 10 ^ 12 * 2 * n ≤ 2 * 10 ^ 12 * (n + 1) * n = mul-le (2 * 10 ^ 12 * 2) n (2 * 10 ^ 12 * (n + 1)) n (omega arith) (omega arith) in
     IsWeightWithin-weaken (h + 4 * 10 ^ 12 * n) (h + 2 * 10 ^ 12 * (n + 1) * n) z (omega arith) within
 
-module _ {n : ℕ} {a b : Exchanges} (u1 u2 v1 v2 : List Weight) (few : n ≤ 500)
-    (small : (x : ℕ) → x < n → IsWeightWithin (10 ^ 12) (weight_at u1 x ⊕ weight_at u2 x)) (old : AreWeightsWithin (10 ^ 25) u2)
+module _ {n : ℕ} {a b : Exchanges} (u1 u2 v1 v2 : List Weight) (few : n ≤ most_elements)
+    (small : (x : ℕ) → x < n → IsWeightWithin largest_weight (weight_at u1 x ⊕ weight_at u2 x)) (old : AreWeightsWithin (10 ^ 25) u2)
     (long1 : length v1 ≡ n) (long2 : length v2 ≡ n)
     (grown : IsGrownSplit n a b (sum_at (weight_at u1) (weight_at u2)) (weight_at u2) (weight_at v1) (weight_at v2)) where
   second_in : (x : ℕ) → x < n → IsWeightWithin (10 ^ 26) (weight_at v2 x)
   second_in x l = second_within (weight_at v2 x) n few (grown.within (10 ^ 25) (λ y k. weight_within_at (10 ^ 25) u2 old y) x l)
 
-  pub grown_first_within : AreWeightsWithin (10 ^ 30) v1
-  grown_first_within = AreWeightsWithin-from (10 ^ 30) n v1 long1 (λ x l.
-      IsWeightWithin-weaken (10 ^ 27) (10 ^ 30) (weight_at v1 x) (omega arith) (first_within (weight_at v1 x) (weight_at v2 x) _ (grown.adds x l) (small x l) (second_in x l)))
+  pub grown_first_within : AreWeightsWithin largest_number v1
+  grown_first_within = AreWeightsWithin-from largest_number n v1 long1 (λ x l.
+      IsWeightWithin-weaken (10 ^ 27) largest_number (weight_at v1 x) (omega arith) (first_within (weight_at v1 x) (weight_at v2 x) _ (grown.adds x l) (small x l) (second_in x l)))
 
-  pub grown_second_within : AreWeightsWithin (10 ^ 30) v2
-  grown_second_within = AreWeightsWithin-from (10 ^ 30) n v2 long2 (λ x l. IsWeightWithin-weaken (10 ^ 26) (10 ^ 30) (weight_at v2 x) (omega arith) (second_in x l))
+  pub grown_second_within : AreWeightsWithin largest_number v2
+  grown_second_within = AreWeightsWithin-from largest_number n v2 long2 (λ x l. IsWeightWithin-weaken (10 ^ 26) largest_number (weight_at v2 x) (omega arith) (second_in x l))
 
   pub grown_found : (found : Found) → IsFound n a b (weight_at v1) (weight_at v2) found
       → IsGrown n a b u1 u2 (record { first = v1; second = v2; found = found })

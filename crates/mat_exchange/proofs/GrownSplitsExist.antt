@@ -1,8 +1,9 @@
 -- Every split can grow until a search has no slack: by the least slack of the reached set, which lets one element more in, or makes one of its
 -- elements a sink.
-use Rattle.std.proofs.Common.{◌≡◌, ℕ, suc, zero, ◌+◌, ◌^◌, ◌<◌, true, false, List, length, ◌⊎◌, inl, inr, refl, subst, arith}
+use Rattle.std.proofs.Common.{◌≡◌, ℕ, suc, zero, ◌+◌, ◌<◌, true, false, List, length, ◌⊎◌, inl, inr, refl, subst, arith}
 use Rattle.std.proofs.lemmas.Bool.{cases_Bool, both_ways}
 use Rattle.std.proofs.lemmas.Int.{ints}
+use Rattle.mat_sets.specs.Limits.{largest_weight}
 use Rattle.mat_sets.specs.Sets.{is_member, with_one, without_one, all_below}
 use Rattle.mat_sets.specs.Search.{some_below}
 use Rattle.mat_sets.specs.Weights.{zero_weight, ◌⊕◌, ◌⊖◌, IsWeightWithin}
@@ -34,7 +35,7 @@ abbrev pub SomeGrownSplit : ℕ → Exchanges → Exchanges → (ℕ → Weight)
 SomeGrownSplit n a b w old = (v1 : ℕ → Weight) × (v2 : ℕ → Weight) × IsGrownSplit n a b w old v1 v2
 
 module _ {n : ℕ} {I : List ℕ} {a b : Exchanges} {w old : ℕ → Weight} {root : ℕ}
-    (on_a : AreExchangesOn n I a) (on_b : AreExchangesOn n I b) (small : (x : ℕ) → x < n → IsWeightWithin (10 ^ 12) (w x)) where
+    (on_a : AreExchangesOn n I a) (on_b : AreExchangesOn n I b) (small : (x : ℕ) → x < n → IsWeightWithin largest_weight (w x)) where
   module _ {R O : List ℕ} {w1 w2 : ℕ → Weight} (now : IsGrowing n a b w old root R O w1 w2) where
     root_below : root < n
     root_below = below_member now.set now.root_in
@@ -114,7 +115,7 @@ module _ {n : ℕ} {I : List ℕ} {a b : Exchanges} {w old : ℕ → Weight} {ro
 
 -- some halves of the sum of u1 and u2, that little from u2, end the search
 pub grown_split_exists : {n : ℕ} {I : List ℕ} {a b : Exchanges} → AreExchangesOn n I a → AreExchangesOn n I b → (u1 u2 : ℕ → Weight)
-    → ((x : ℕ) → x < n → IsWeightWithin (10 ^ 12) (sum_at u1 u2 x)) → NoExchangeGains a u1 → NoExchangeGains b u2
+    → ((x : ℕ) → x < n → IsWeightWithin largest_weight (sum_at u1 u2 x)) → NoExchangeGains a u1 → NoExchangeGains b u2
     → SomeGrownSplit n a b (sum_at u1 u2) u2
 grown_split_exists {n} {I} {a} {b} on_a on_b u1 u2 small gains1 gains2 = elim (cases_Bool (some_below n a.adds)) [
   | inr none ↦ (

@@ -5,6 +5,7 @@ use Rattle.std.proofs.Common.{length, Option, None, Some, IfSome, inl, inr, refl
 use Rattle.std.proofs.lemmas.Bool.{cases_Bool, cases_lt, both_ways, cond-false, and_parts, and_right, eq-eqb, ne_eqb, or_left, ltb-true}
 use Rattle.std.proofs.lemmas.Int.{ints}
 use Rattle.std.proofs.lemmas.List.{get_or_past}
+use Rattle.mat_sets.specs.Limits.{most_elements, largest_weight, largest_number}
 use Rattle.mat_sets.specs.Sets.{is_member, with_one, without_one, all_below}
 use Rattle.mat_sets.proofs.Members.{is_member-with_one, is_member-without_one}
 use Rattle.mat_sets.proofs.Ground.{below_member, IsSet-length, is_member-all_below}
@@ -60,10 +61,10 @@ exchanges_on n I rows t = record {
 -- the weights as they are: what is kept of them, and the change so far on the reached set
 pub record IsShifted (n : ℕ) (I : List ℕ) (first second : List Exchange) (u1 u2 : List Weight) (root : ℕ) (R O : List ℕ)
     (total : Weight) (w1 w2 : List Weight) : Type 0 where
-  pub few : n ≤ 500
+  pub few : n ≤ most_elements
   pub first_on : AreExchangesOn n I (exchanges_in first)
   pub second_on : AreExchangesOn n I (exchanges_in second)
-  pub small : (x : ℕ) → x < n → IsWeightWithin (10 ^ 12) (sum_at (weight_at u1) (weight_at u2) x)
+  pub small : (x : ℕ) → x < n → IsWeightWithin largest_weight (sum_at (weight_at u1) (weight_at u2) x)
   pub old_small : AreWeightsWithin (10 ^ 25) u2
   pub first_length : length w1 ≡ n
   pub second_length : length w2 ≡ n
@@ -111,11 +112,11 @@ module _ {n : ℕ} {I : List ℕ} {first second : List Exchange} {u1 u2 : List W
         (subst (IsWeightWithin (10 ^ 26)) (raised-outside (weight_at w2) R total x k) (second_small x l))
   ]
 
-  pub first_within : AreWeightsWithin (10 ^ 30) w1
-  first_within = AreWeightsWithin-from (10 ^ 30) n w1 now.first_length (λ x l. IsWeightWithin-weaken _ _ _ (omega arith) (kept_first x l))
+  pub first_within : AreWeightsWithin largest_number w1
+  first_within = AreWeightsWithin-from largest_number n w1 now.first_length (λ x l. IsWeightWithin-weaken _ _ _ (omega arith) (kept_first x l))
 
-  pub second_within : AreWeightsWithin (10 ^ 30) w2
-  second_within = AreWeightsWithin-from (10 ^ 30) n w2 now.second_length (λ x l. IsWeightWithin-weaken _ _ _ (omega arith) (kept_second x l))
+  pub second_within : AreWeightsWithin largest_number w2
+  second_within = AreWeightsWithin-from largest_number n w2 now.second_length (λ x l. IsWeightWithin-weaken _ _ _ (omega arith) (kept_second x l))
 
   pub total_within : IsWeightWithin (10 ^ 31) total
   total_within = IsWeightWithin-weaken _ _ _ (omega arith) total_small
@@ -153,25 +154,25 @@ module _ {n : ℕ} {I : List ℕ} {first second : List Exchange} {u1 u2 : List W
   gain_small x m = stored_second (weight_at g x) total _ (raised-member (weight_at g) F total x m)
       (entry_small now.shifted x _ (fringe_below x m) (now.fringe.has x m)) (total_small now.shifted)
 
-  pub gains_within : (x : ℕ) → is_member x F ≡ true → IsWeightWithin (10 ^ 30) (weight_at g x)
+  pub gains_within : (x : ℕ) → is_member x F ≡ true → IsWeightWithin largest_number (weight_at g x)
   gains_within x m = IsWeightWithin-weaken _ _ _ (omega arith) (gain_small x m)
 
-  pub top_within : IfSome top (IsWeightWithin (10 ^ 30))
+  pub top_within : IfSome top (IsWeightWithin largest_number)
   top_within = within_top top now.top_now
     where
       within_top : (top : Option Weight) → IsHeaviestWeightOrNone (exchanges_in second).adds (raised (weight_at w2) R total) top
-          → IfSome top (IsWeightWithin (10 ^ 30))
+          → IfSome top (IsWeightWithin largest_number)
       within_top None h = _
-      within_top (Some t) h = subst (IsWeightWithin (10 ^ 30)) h.weighs
+      within_top (Some t) h = subst (IsWeightWithin largest_number) h.weighs
           (IsWeightWithin-weaken _ _ _ (omega arith) (second_small now.shifted h.element (now.shifted.second_on.adds_below h.element h.passes)))
 
-  pub inside_within : IfSome inside (IsWeightWithin (10 ^ 30))
+  pub inside_within : IfSome inside (IsWeightWithin largest_number)
   inside_within = within_inside inside now.inside_now
     where
       within_inside : (inside : Option Weight) → IsHeaviestWeightOrNone (λ x. (exchanges_in second).adds x && is_member x R) (weight_at w2) inside
-          → IfSome inside (IsWeightWithin (10 ^ 30))
+          → IfSome inside (IsWeightWithin largest_number)
       within_inside None h = _
-      within_inside (Some t) h = subst (IsWeightWithin (10 ^ 30)) h.weighs (weight_within_at (10 ^ 30) w2 (second_within now.shifted) h.element)
+      within_inside (Some t) h = subst (IsWeightWithin largest_number) h.weighs (weight_within_at largest_number w2 (second_within now.shifted) h.element)
 
   -- ---- an element enters
 
@@ -433,10 +434,10 @@ fringe_of_root {n} {root} {I} {first} {second} {R} {O} {F} {F'} A u1 u2 g g' h t
     (λ z. ap (λ t. t && is_member z O) (sym (tells z))) (λ z. refl) offered1)) offered2)
 
 pub growth_start : {n root : ℕ} {I : List ℕ} {first second : List Exchange} {u1 u2 : List Weight} {R O F : List ℕ} {h : List Weight}
-    {total : Weight} {top inside : Option Weight} → n ≤ 500
+    {total : Weight} {top inside : Option Weight} → n ≤ most_elements
     → IsTableAt n I first → IsTableAt n I second → IsHeaviestOf (exchanges_in first).adds (weight_at u1) root
     → NoExchangeGains (exchanges_in first) (weight_at u1) → NoExchangeGains (exchanges_in second) (weight_at u2)
-    → ((x : ℕ) → x < n → IsWeightWithin (10 ^ 12) (sum_at (weight_at u1) (weight_at u2) x)) → AreWeightsWithin (10 ^ 25) u2
+    → ((x : ℕ) → x < n → IsWeightWithin largest_weight (sum_at (weight_at u1) (weight_at u2) x)) → AreWeightsWithin (10 ^ 25) u2
     → length u1 ≡ n → length u2 ≡ n → length h ≡ n
     → R ≡ with_one [] root → ((x : ℕ) → is_member x O ≡ (ltb x n && not (eqb x root)))
     → IsFringe O F (IsEntry (exchanges_in first) (exchanges_in second) (weight_at u1) (weight_at u2) root R) (weight_at h)
@@ -485,12 +486,12 @@ others_start_below n root O A e a x m =
 
 -- the first weights at the start
 pub first_start : (n : ℕ) (u1 u2 : List Weight) → length u1 ≡ n
-    → ((x : ℕ) → x < n → IsWeightWithin (10 ^ 12) (sum_at (weight_at u1) (weight_at u2) x))
-    → AreWeightsWithin (10 ^ 25) u2 → AreWeightsWithin (10 ^ 30) u1
-first_start n u1 u2 long small old = AreWeightsWithin-from (10 ^ 30) n u1 long (λ x l.
+    → ((x : ℕ) → x < n → IsWeightWithin largest_weight (sum_at (weight_at u1) (weight_at u2) x))
+    → AreWeightsWithin (10 ^ 25) u2 → AreWeightsWithin largest_number u1
+first_start n u1 u2 long small old = AreWeightsWithin-from largest_number n u1 long (λ x l.
     difference_bound (weight_at u1 x) (weight_at u2 x) (small x l) (weight_within_at (10 ^ 25) u2 old x))
   where
-    difference_bound : (a b : Weight) → IsWeightWithin (10 ^ 12) (a ⊕ b) → IsWeightWithin (10 ^ 25) b → IsWeightWithin (10 ^ 30) a
+    difference_bound : (a b : Weight) → IsWeightWithin largest_weight (a ⊕ b) → IsWeightWithin (10 ^ 25) b → IsWeightWithin largest_number a
     difference_bound a b sum within = omega (arith, ints)
 
 pub others_less : {n : ℕ} {O' : List ℕ} (O : List ℕ) (x : ℕ) → O' ≡ without_one O x → ((v : ℕ) → is_member v O ≡ true → v < n)

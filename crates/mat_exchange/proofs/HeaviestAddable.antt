@@ -1,6 +1,6 @@
 -- The greatest weight of the elements that pass a test: found by going through them in rising order, and with it whether an element
 -- is a heaviest one that can be added.
-use Rattle.std.proofs.Common.{◌≡◌, ℕ, ◌+◌, ◌<◌, ◌≤◌, Bool, true, false, ◌&&◌, cond, List, [], length, Option, Some, None, MatchOption, ◌⊎◌, inl, inr, refl, sym, ap, subst, arith}
+use Rattle.std.proofs.Common.{◌≡◌, ℕ, ◌+◌, ◌<◌, Bool, true, false, ◌&&◌, cond, List, [], length, Option, Some, None, MatchOption, ◌⊎◌, inl, inr, refl, sym, ap, subst, arith}
 use Rattle.std.specs.Cmp.{both_ways as both_tests}
 use Rattle.std.proofs.lemmas.Bool.{and_from, and_parts, cases_Bool, cases_lt, cases_eq, both_ways}
 use Rattle.std.proofs.lemmas.List.{get_or_past}
@@ -11,7 +11,7 @@ use Rattle.mat_sets.proofs.WeightOrder.{same_gives, same_from, at_most_both, at_
 use Rattle.mat_laws.specs.declared.exchange.Exchange.{Exchange}
 use Rattle.mat_laws.specs.TightPaths.{Exchanges, exchanges_in, is_heaviest_addable}
 use Rattle.mat_laws.proofs.TightArcs.{heaviest_addable_gives, heaviest_addable_from}
-use Rattle.mat_exchange.specs.HeaviestAddable.{IsHeaviestWeight, IsHeaviestWeightOrNone, greater_of}
+use Rattle.mat_exchange.specs.HeaviestAddable.{IsHeaviestWeight, greater_of}
 
 -- ---- going through the elements
 
@@ -25,11 +25,8 @@ pub record IsHeaviestBefore (test : ℕ → Bool) (w : ℕ → Weight) (from : �
 abbrev pub IsHeaviestBeforeOrNone : (ℕ → Bool) → (ℕ → Weight) → ℕ → Option Weight → Type 0
 IsHeaviestBeforeOrNone test w from heaviest = MatchOption heaviest ((x : ℕ) → x < from → test x ≡ false) (IsHeaviestBefore test w from)
 
-pub heaviest_before_none : (test : ℕ → Bool) (w : ℕ → Weight) → IsHeaviestBeforeOrNone test w 0 None
-heaviest_before_none test w = λ x l. absurd (omega arith)
-
 -- each that passes before v + 1 passes before `from` or is v
-passes_next : (test : ℕ → Bool) (from v x : ℕ) → IsFirstFrom test from v → x < v + 1 → test x ≡ true → (x < from) ⊎ (x ≡ v)
+pub passes_next : (test : ℕ → Bool) (from v x : ℕ) → IsFirstFrom test from v → x < v + 1 → test x ≡ true → (x < from) ⊎ (x ≡ v)
 passes_next test from v x f l p = elim (cases_lt x from) [
   | inl a ↦ inl a
   | inr a ↦ elim (cases_eq x v) [ inl e ↦ inr e | inr d ↦ absurd (both_ways _ (f.none_before x a (omega arith)) p) ]
@@ -66,16 +63,6 @@ heaviest_before_next test w from v (Some t) f h = elim (cases_Bool (is_below t (
     ];
   })
 ]
-
-pub heaviest_before_all : (test : ℕ → Bool) (w : ℕ → Weight) (from : ℕ) (heaviest : Option Weight) → ((x : ℕ) → from ≤ x → test x ≡ false)
-    → IsHeaviestBeforeOrNone test w from heaviest → IsHeaviestWeightOrNone test w heaviest
-heaviest_before_all test w from None past h = λ x. elim (cases_lt x from) [ inl l ↦ h x l | inr g ↦ past x g ]
-heaviest_before_all test w from (Some t) past h = record {
-  element = h.element;
-  passes = h.passes;
-  weighs = h.weighs;
-  most = λ x p. elim (cases_lt x from) [ inl l ↦ h.most x l p | inr g ↦ absurd (both_ways _ (past x g) p) ];
-}
 
 -- ---- the heaviest elements that can be added
 

@@ -1,12 +1,13 @@
 -- A heaviest element of those that pass, found by going through them in rising order.
-use Rattle.std.proofs.Common.{◌≡◌, ℕ, ◌<◌, ◌≤◌, ◌+◌, Bool, true, false, cond, Option, Some, None, MatchOption, IfSome, ◌⊎◌, inl, inr, sym, ap, subst, arith}
-use Rattle.std.proofs.lemmas.Bool.{cases_Bool, cases_lt, cases_eq, both_ways}
+use Rattle.std.proofs.Common.{◌≡◌, ℕ, ◌<◌, ◌+◌, Bool, true, false, cond, Option, Some, None, MatchOption, IfSome, inl, inr, sym, ap, subst, arith}
+use Rattle.std.proofs.lemmas.Bool.{cases_Bool, both_ways}
 use Rattle.std.proofs.lemmas.Int.{ints}
 use Rattle.mat_sets.specs.Search.{IsFirstFrom}
 use Rattle.mat_sets.specs.Weights.{zero_weight, negated, ◌⊕◌, ◌≼◌, is_below}
 use Rattle.mat_sets.specs.declared.weight.Weight.{Weight}
 use Rattle.mat_sets.proofs.WeightOrder.{pairs, at_most_same, at_most_trans, below_at_most, not_below_gives}
-use Rattle.mat_exchange.specs.Growing.{IsHeaviestOrNone, heavier_of}
+use Rattle.mat_exchange.specs.Growing.{heavier_of}
+use Rattle.mat_exchange.proofs.HeaviestAddable.{passes_next}
 
 -- y passes, and none before `from` that passes weighs more
 pub record IsHeaviestTo (test : ℕ → Bool) (w : ℕ → Weight) (from y : ℕ) : Type 0 where
@@ -16,20 +17,11 @@ pub record IsHeaviestTo (test : ℕ → Bool) (w : ℕ → Weight) (from y : ℕ
 abbrev pub IsHeaviestToOrNone : (ℕ → Bool) → (ℕ → Weight) → ℕ → Option ℕ → Type 0
 IsHeaviestToOrNone test w from found = MatchOption found ((x : ℕ) → x < from → test x ≡ false) (IsHeaviestTo test w from)
 
-pub heaviest_to_none : (test : ℕ → Bool) (w : ℕ → Weight) → IsHeaviestToOrNone test w 0 None
-heaviest_to_none test w = λ x l. absurd (omega arith)
-
-next_passes : (test : ℕ → Bool) (from v x : ℕ) → IsFirstFrom test from v → x < v + 1 → test x ≡ true → (x < from) ⊎ (x ≡ v)
-next_passes test from v x f l p = elim (cases_lt x from) [
-  | inl a ↦ inl a
-  | inr a ↦ elim (cases_eq x v) [ inl e ↦ inr e | inr d ↦ absurd (both_ways _ (f.none_before x a (omega arith)) p) ]
-]
-
 heaviest_here : (test : ℕ → Bool) (w : ℕ → Weight) (from v : ℕ) → IsFirstFrom test from v
     → ((x : ℕ) → x < from → test x ≡ true → w x ≼ w v) → IsHeaviestTo test w (v + 1) v
 heaviest_here test w from v f before = record {
   passes = f.passes;
-  most = λ x l p. elim (next_passes test from v x f l p) [ inl a ↦ before x a p | inr e ↦ at_most_same (w x) (w v) (ap w e) ];
+  most = λ x l p. elim (passes_next test from v x f l p) [ inl a ↦ before x a p | inr e ↦ at_most_same (w x) (w v) (ap w e) ];
 }
 
 pub heaviest_to_next : (test : ℕ → Bool) (w : ℕ → Weight) (from v : ℕ) (found : Option ℕ) → IsFirstFrom test from v
@@ -40,20 +32,12 @@ heaviest_to_next test w from v (Some y) f h = elim (cases_Bool (is_below (w y) (
       (heaviest_here test w from v f (λ x l p. at_most_trans (w x) (w y) (w v) (h.most x l p) (below_at_most (w y) (w v) more)))
   | inr less ↦ subst (λ c. IsHeaviestTo test w (v + 1) (cond c v y)) (sym less) (record {
     passes = h.passes;
-    most = λ x l p. elim (next_passes test from v x f l p) [
+    most = λ x l p. elim (passes_next test from v x f l p) [
       | inl a ↦ h.most x a p
       | inr e ↦ at_most_trans (w x) (w v) (w y) (at_most_same (w x) (w v) (ap w e)) (not_below_gives (w y) (w v) less)
     ];
   })
 ]
-
-pub heaviest_to_all : (test : ℕ → Bool) (w : ℕ → Weight) (from : ℕ) (found : Option ℕ) → ((x : ℕ) → from ≤ x → test x ≡ false)
-    → IsHeaviestToOrNone test w from found → IsHeaviestOrNone test w found
-heaviest_to_all test w from None past h = λ x. elim (cases_lt x from) [ inl l ↦ h x l | inr g ↦ past x g ]
-heaviest_to_all test w from (Some y) past h = record {
-  passes = h.passes;
-  most = λ x p. elim (cases_lt x from) [ inl l ↦ h.most x l p | inr g ↦ absurd (both_ways _ (past x g) p) ];
-}
 
 -- what was found so far stands below a bound on all that passes
 pub found_below : (test : ℕ → Bool) (w : ℕ → Weight) (from n : ℕ) (found : Option ℕ) → ((x : ℕ) → test x ≡ true → x < n)

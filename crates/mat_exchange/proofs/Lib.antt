@@ -8,7 +8,6 @@ pub mod RowTables
 pub mod TableSteps
 pub mod HeaviestAddable
 pub mod SlackParts
-pub mod TightArcTests
 pub mod WeightBounds
 pub mod Fringes
 pub mod Growing
@@ -17,5 +16,6 @@ pub mod Raising
 pub mod ChangesSoFar
 pub mod GrowthSteps
 pub mod GrownSplits
+pub mod StuckSearches
 pub mod HeaviestExchanges
 pub mod GrownSplitsExist

@@ -1,12 +1,13 @@
 -- Weights that rise member by member, in rising order: the next member was not met before, so its weight is still as at the start.
-use Rattle.std.proofs.Common.{◌≡◌, ◌≢◌, ℕ, ◌+◌, ◌<◌, ◌≤◌, ◌^◌, Bool, true, false, ◌&&◌, ltb, cond, List, length, set, ◌+ℤ◌, SFits, inl, inr, sym, ap, ◌∙◌, subst, arith}
+use Rattle.std.proofs.Common.{◌≡◌, ◌≢◌, ℕ, ◌+◌, ◌<◌, ◌≤◌, ◌^◌, false, ◌&&◌, ltb, cond, List, length, set, ◌+ℤ◌, SFits, inl, inr, sym, ap, ◌∙◌, subst, arith}
 use Rattle.std.proofs.lemmas.Bool.{cases_Bool, cases_eq, cases_lt, both_ways, and_parts, and_from, and_left, and_right, lt-ltb, le-ltb, cond-true, cond-false}
 use Rattle.std.specs.Int.{w128}
 use Rattle.std.proofs.lemmas.Int.{ints}
 use Rattle.std.proofs.lemmas.List.{get_or-set_same, get_or-set_other}
+use Rattle.mat_sets.specs.Limits.{largest_number}
 use Rattle.mat_sets.specs.Sets.{is_member}
 use Rattle.mat_sets.specs.Search.{IsFirstFrom}
-use Rattle.mat_sets.specs.Weights.{zero_weight, negated, ◌⊕◌, ◌⊖◌, weight_at, IsWeightWithin}
+use Rattle.mat_sets.specs.Weights.{zero_weight, ◌⊕◌, ◌⊖◌, weight_at, IsWeightWithin}
 use Rattle.mat_sets.specs.declared.weight.Weight.{Weight}
 use Rattle.mat_sets.proofs.WeightOrder.{pairs}
 use Rattle.mat_exchange.specs.Changes.{lowered, raised}
@@ -14,9 +15,6 @@ use Rattle.mat_exchange.specs.Changes.{lowered, raised}
 -- w, with d more on the members before `from`
 abbrev pub raised_to : (ℕ → Weight) → List ℕ → Weight → ℕ → ℕ → Weight
 raised_to w R d from x = cond (is_member x R && ltb x from) (w x ⊕ d) (w x)
-
-pub raised_to_none : (w : ℕ → Weight) (R : List ℕ) (d : Weight) (x : ℕ) → w x ≡ raised_to w R d 0 x
-raised_to_none w R d x = sym (cond-false (is_member x R && ltb x 0) (w x ⊕ d) (w x) (and_right (is_member x R) (ltb x 0) (le-ltb x 0 (omega arith))))
 
 -- the next member's weight is still the one at the start
 pub raised_to_here : (w : ℕ → Weight) (R : List ℕ) (d : Weight) (from v : ℕ) → from ≤ v → raised_to w R d from v ≡ w v
@@ -44,19 +42,6 @@ raised_to_next w now R d y from v f l h e x = elim (cases_eq x v) [
       ]
     ]
 
-pub raised_to_all : (w : ℕ → Weight) (R : List ℕ) (d : Weight) (from x : ℕ) → ((v : ℕ) → from ≤ v → (is_member v R && is_member v R) ≡ false)
-    → raised_to w R d from x ≡ raised w R d x
-raised_to_all w R d from x past = ap (λ b. cond b (w x ⊕ d) (w x)) (elim (cases_lt x from) [
-  | inl l ↦ ap (λ t. is_member x R && t) (lt-ltb x from l) ∙ whole (is_member x R)
-  | inr g ↦ (let out : is_member x R ≡ false = elim (cases_Bool (is_member x R)) [
-    | inr k ↦ k
-    | inl k ↦ absurd (both_ways _ (past x g) (and_from (is_member x R) (is_member x R) k k))
-  ] in and_left (is_member x R) _ out ∙ sym out)
-])
-  where
-    whole : (t : Bool) → (t && true) ≡ t
-    whole t = grind arith
-
 -- ---- a change by 0
 
 pub lowered_zero : (w : ℕ → Weight) (R : List ℕ) (d : Weight) (x : ℕ) → d ≡ zero_weight → w x ≡ lowered w R d x
@@ -71,14 +56,7 @@ raised_zero w R d x e = elim (cases_Bool (is_member x R)) [
   | inr k ↦ sym (cond-false (is_member x R) (w x ⊕ d) (w x) k)
 ]
 
--- to rise by -d is to fall by d
-pub raised_back : (w : ℕ → Weight) (R : List ℕ) (d e : Weight) (x : ℕ) → e ≡ negated d → raised w R e x ≡ lowered w R d x
-raised_back w R d e x h = elim (cases_Bool (is_member x R)) [
-  | inl k ↦ cond-true (is_member x R) (w x ⊕ e) (w x) k ∙ omega (arith, ints, pairs) ∙ sym (cond-true (is_member x R) (w x ⊖ d) (w x) k)
-  | inr k ↦ cond-false (is_member x R) (w x ⊕ e) (w x) k ∙ sym (cond-false (is_member x R) (w x ⊖ d) (w x) k)
-]
-
 -- both numbers of the sum of a weight and a step are an `i128`
-pub sums_fit : (a d : Weight) → IsWeightWithin (10 ^ 30) a → IsWeightWithin (10 ^ 31) d
+pub sums_fit : (a d : Weight) → IsWeightWithin largest_number a → IsWeightWithin (10 ^ 31) d
     → SFits w128 (a.main +ℤ d.main) × SFits w128 (a.tie +ℤ d.tie)
 sums_fit a d small step = omega (arith, ints)

@@ -3,11 +3,12 @@
 use Rattle.std.proofs.Common.{◌≡◌, ℕ, ◌<◌, ◌≤◌, Bool, true, false, not, ◌&&◌, List, [], length, inl, inr, refl, sym, ap}
 use Rattle.std.proofs.Common.{◌∙◌, subst, arith}
 use Rattle.std.proofs.lemmas.Bool.{and_parts, and_right, both_ways, cases_Bool, cases_lt, cond-false, cond-true, eq-eqb, false_from_ne_true, not-true}
-use Rattle.std.proofs.lemmas.List.{get_or_past, get_or-map, length-map}
-use Rattle.mat_sets.specs.Sets.{is_member, AllBelow, all_below, with_one, without_one}
+use Rattle.std.proofs.lemmas.List.{get_or_past}
+use Rattle.mat_sets.specs.Sets.{is_member, AllBelow, with_one, without_one}
 use Rattle.mat_sets.proofs.Members.{set_members, is_member-filter, same_members, IsRising-with_one, IsRising-without_one}
 use Rattle.mat_sets.proofs.Filters.{IsRising-filter}
-use Rattle.mat_sets.proofs.Ground.{AllBelow-from_members, below_member, get_or-all_below, length-all_below}
+use Rattle.mat_sets.proofs.Ground.{AllBelow-from_members, below_member, length-map_all_below, get_or-map_all_below}
+use Rattle.mat_sets.proofs.Truths.{and_all}
 use Rattle.mat_laws.specs.declared.exchange.Exchange.{Exchange}
 use Rattle.mat_laws.specs.Exchanges.{row_of, rows_of}
 use Rattle.mat_laws.specs.Matroids.{IsMatroid}
@@ -20,12 +21,10 @@ use mathlib.Core.Path.{fun_ext}
 -- ---- the rows by index
 
 pub length-rows_of : (n : ℕ) (p : List ℕ → Bool) (I : List ℕ) → length (rows_of n p I) ≡ n
-length-rows_of n p I = length-map (all_below n) (row_of p I) ∙ length-all_below n
+length-rows_of n p I = length-map_all_below (row_of p I) n
 
 pub row_in-rows_of : (n : ℕ) (p : List ℕ → Bool) (I : List ℕ) (x : ℕ) → x < n → row_in (rows_of n p I) x ≡ row_of p I x
-row_in-rows_of n p I x h =
-    get_or-map (row_of p I) (all_below n) x 0 (record { addable = false; with = [] }) (subst (λ l. x < l) (sym (length-all_below n)) h)
-    ∙ ap (row_of p I) (get_or-all_below n x 0 h)
+row_in-rows_of n p I x h = get_or-map_all_below (row_of p I) n x (record { addable = false; with = [] }) h
 
 pub row_in-past : (n : ℕ) (p : List ℕ → Bool) (I : List ℕ) (x : ℕ) → n ≤ x
     → row_in (rows_of n p I) x ≡ record { addable = false; with = [] }
@@ -43,9 +42,6 @@ unfolding exchanges_of
 same_exchanges a b f g =
     ap (λ (t : ℕ → Bool). exchanges_of t a.trades) (fun_ext (λ x. f x))
     ∙ ap (λ (t : ℕ → ℕ → Bool). exchanges_of b.adds t) (fun_ext (λ y. fun_ext (λ x. g y x)))
-
-and_true : (b : Bool) → (b && true) ≡ b
-and_true b = grind arith
 
 module _ {n : ℕ} {p : List ℕ → Bool} (laws : IsMatroid n p) (I : List ℕ) where
   -- nothing from n on is in an independent set
@@ -98,7 +94,7 @@ module _ {n : ℕ} {p : List ℕ → Bool} (laws : IsMatroid n p) (I : List ℕ)
           let rises = (laws.sets I ok).rising in
           let less = laws.subsets (with_one (without_one I y) x) (with_one I x) (IsRising-with_one _ x (IsRising-without_one I y rises))
           (record { inside = λ k m. grind (arith, set_members) }) fits in
-          ap (λ b. is_member y I && b) less ∙ and_true (is_member y I)
+          ap (λ b. is_member y I && b) less ∙ and_all (is_member y I)
 
   pub AreWhole-rows_of : p I ≡ true → AreWhole I (rows_of n p I)
   AreWhole-rows_of ok = record {

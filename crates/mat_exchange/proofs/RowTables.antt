@@ -1,16 +1,13 @@
 -- A table that is kept as sets tells the exchanges of its rows: what stands in them, and in the columns, which are their transpose.
-use Rattle.std.proofs.Common.{◌≡◌, ℕ, ◌<◌, ◌≤◌, false, List, [], length, get_or, inl, inr, subst, sym, ap, ◌∙◌, arith}
+use Rattle.std.proofs.Common.{◌≡◌, ℕ, ◌<◌, ◌≤◌, false, List, [], length, inl, inr, subst, sym, ap, ◌∙◌, arith}
 use Rattle.std.proofs.lemmas.Bool.{cases_lt, false_from_ne_true}
-use Rattle.std.proofs.lemmas.List.{get_or_default, get_or_past, get_or-map, length-map}
+use Rattle.std.proofs.lemmas.List.{get_or_past, get_or-map, length-map}
 use Rattle.mat_sets.specs.Sets.{is_member, all_below}
 use Rattle.mat_sets.proofs.Ground.{get_or-all_below, length-all_below}
 use Rattle.mat_laws.specs.declared.exchange.Exchange.{Exchange}
 use Rattle.mat_laws.specs.TightPaths.{row_in, exchanges_in}
-use Rattle.mat_exchange.specs.RowTables.{AreTransposed, row_from, set_at, table_of}
-
--- the set that an index reads
-pub set_at-read : (sets : List (List ℕ)) (x : ℕ) (s : List ℕ) → x < length sets → s ≡ get_or sets x s → s ≡ set_at sets x
-set_at-read sets x s h e = e ∙ get_or_default sets x s [] h
+use Rattle.mat_exchange.specs.RowTables.{AreTransposed, row_from, table_of}
+use Rattle.mat_sets.specs.Rows.{row_at}
 
 pub length-table_of : (addable : List ℕ) (rows : List (List ℕ)) → length (table_of addable rows) ≡ length rows
 length-table_of addable rows = length-map (all_below (length rows)) (row_from addable rows) ∙ length-all_below (length rows)
@@ -29,7 +26,7 @@ row_in-table_past addable rows x h =
 
 -- what stands in the row of x
 pub trades_by_rows : (addable : List ℕ) (rows : List (List ℕ)) (y x : ℕ)
-    → is_member y (set_at rows x) ≡ (exchanges_in (table_of addable rows)).trades y x
+    → is_member y (row_at rows x) ≡ (exchanges_in (table_of addable rows)).trades y x
 trades_by_rows addable rows y x = elim (cases_lt x (length rows)) [
   | inl l ↦ sym (ap (λ (r : Exchange). is_member y r.with) (row_in-table_of addable rows x l))
   | inr g ↦ ap (is_member y) (get_or_past rows x [] g) ∙ sym (ap (λ (r : Exchange). is_member y r.with) (row_in-table_past addable rows x g))
@@ -44,10 +41,10 @@ module _ {addable : List ℕ} {rows columns : List (List ℕ)} (t : AreTranspose
   pub has_column : (y : ℕ) → y < length table → y < length columns
   has_column y h = subst (λ l. y < l) (sym t.count) (has_row y h)
 
-  pub row_tells : (y x : ℕ) → is_member y (set_at rows x) ≡ (exchanges_in table).trades y x
+  pub row_tells : (y x : ℕ) → is_member y (row_at rows x) ≡ (exchanges_in table).trades y x
   row_tells y x = trades_by_rows addable rows y x ∙ ap (λ r. (exchanges_in r).trades y x) is
 
-  pub column_tells : (y x : ℕ) → y < length table → is_member x (set_at columns y) ≡ (exchanges_in table).trades y x
+  pub column_tells : (y x : ℕ) → y < length table → is_member x (row_at columns y) ≡ (exchanges_in table).trades y x
   column_tells y x h = t.transposed x y (has_row y h) ∙ row_tells y x
 
   adds_by_rows : (x : ℕ) → is_member x addable ≡ (exchanges_in (table_of addable rows)).adds x

@@ -1,5 +1,5 @@
 -- The least slack of each kind comes from the greatest weight of an element, and the least of several numbers from the lesser of two.
-use Rattle.std.proofs.Common.{◌≡◌, ◌∙◌, ℕ, ◌+◌, ◌<◌, Bool, true, false, not, ◌&&◌, ltb, cond, List, length, take, get_or}
+use Rattle.std.proofs.Common.{◌≡◌, ◌∙◌, ℕ, ◌+◌, ◌<◌, true, false, not, ◌&&◌, ltb, cond, List, length, take, get_or}
 use Rattle.std.proofs.Common.{Option, Some, None, ◌⊎◌, inl, inr, sym, ap, subst, arith}
 use Rattle.std.proofs.lemmas.Bool.{and_from, and_parts, cases_Bool, cases_eq, lt-ltb, ltb-true, not-true}
 use Rattle.std.proofs.lemmas.Int.{ints}
@@ -7,9 +7,9 @@ use Rattle.mat_sets.specs.Sets.{all_below, is_member, without_one, AllBelow}
 use Rattle.mat_sets.proofs.Ground.{AllBelow-member, is_member-all_below}
 use Rattle.mat_sets.proofs.Members.{is_member-without_one}
 use Rattle.mat_sets.proofs.Steps.{is_member-take_more}
-use Rattle.mat_sets.specs.Weights.{◌⊖◌, ◌≼◌, is_below, weight_at, IsWeightWithin, AreWeightsWithin}
+use Rattle.mat_sets.specs.Weights.{◌⊖◌, ◌≼◌, is_below}
 use Rattle.mat_sets.specs.declared.weight.Weight.{Weight}
-use Rattle.mat_sets.proofs.WeightOrder.{pairs, weight_within_at, at_most_trans, below_at_most, not_below_gives}
+use Rattle.mat_sets.proofs.WeightOrder.{pairs, at_most_trans, below_at_most, not_below_gives}
 use Rattle.mat_laws.specs.declared.exchange.Exchange.{Exchange}
 use Rattle.mat_laws.specs.TightPaths.{Exchanges, exchanges_in}
 use Rattle.mat_laws.specs.Slacks.{IsSlack, IsLeastSlackOrNone}
@@ -51,10 +51,6 @@ least_of_same P Q None f g p = λ d q. p d (g d q)
 least_of_same P Q (Some x) f g p = record { has = f x p.has; least = λ e q. p.least e (g e q) }
 
 -- ---- weights within bounds
-
-pub heaviest_within : (bound : ℕ) (w : List Weight) (test : ℕ → Bool) (t : Weight) → AreWeightsWithin bound w
-    → IsHeaviestWeight test (weight_at w) t → IsWeightWithin bound t
-heaviest_within bound w test t small h = subst (IsWeightWithin bound) h.weighs (weight_within_at bound w small h.element)
 
 -- ---- additions
 

@@ -70,7 +70,7 @@ member_not_value f (suc m) k I h all =
 -- ---- the path by its even and its odd places
 
 -- the members of the exchanged set
-is_member-exchanged_along : (k : ℕ) (I path : List ℕ)
+pub is_member-exchanged_along : (k : ℕ) (I path : List ℕ)
     → is_member k (exchanged_along I path) ≡ ((is_member k path && not (is_member k I)) || (is_member k I && not (is_member k path)))
 is_member-exchanged_along k I path = grind (arith, set_members)
 

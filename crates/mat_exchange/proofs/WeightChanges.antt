@@ -36,6 +36,16 @@ raised-member w R d x h = cond-true (is_member x R) (w x ⊕ d) (w x) h
 pub raised-outside : (w : ℕ → Weight) (R : List ℕ) (d : Weight) (x : ℕ) → is_member x R ≡ false → raised w R d x ≡ w x
 raised-outside w R d x h = cond-false (is_member x R) (w x ⊕ d) (w x) h
 
+-- the two weights of an element keep their sum
+pub changed_adds : (w1 w2 : ℕ → Weight) (R : List ℕ) (d : Weight) (x : ℕ) → lowered w1 R d x ⊕ raised w2 R d x ≡ w1 x ⊕ w2 x
+changed_adds w1 w2 R d x = elim (cases_Bool (is_member x R)) [
+  | inl m ↦ rw (lowered-member w1 R d x m, raised-member w2 R d x m) (kept (w1 x) (w2 x))
+  | inr o ↦ rw (lowered-outside w1 R d x o, raised-outside w2 R d x o) refl
+]
+  where
+    kept : (a b : Weight) → (a ⊖ d) ⊕ (b ⊕ d) ≡ a ⊕ b
+    kept a b = omega (arith, ints, pairs)
+
 -- an exchange that gains nothing gains nothing after the first weight falls, where the slack of one that leaves R is at least d
 pub lowered-keeps : (w : ℕ → Weight) (R : List ℕ) (d : Weight) (x y : ℕ) → zero_weight ≺ d → w x ≼ w y
     → (is_member y R ≡ true → is_member x R ≡ false → d ≼ (w y ⊖ w x)) → lowered w R d x ≼ lowered w R d y
@@ -230,6 +240,7 @@ module _ {n : ℕ} {p q : List ℕ → Bool} (lp : IsMatroid n p) (lq : IsMatroi
   pub change_by_least_slack : (d : Weight) → IsLeastSlack n (exchanges_at p I) (exchanges_at q I) w1 w2 R d → IsChange n p q w1 w2 I R d
   change_by_least_slack d slack = record {
     positive = slack_positive d slack.slack;
+    adds = changed_adds w1 w2 R d;
     first = first_stays_heaviest d slack;
     second = second_stays_heaviest d slack;
     stays = λ S reached. record { inside = all_stays d slack S reached };

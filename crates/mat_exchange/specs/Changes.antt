@@ -16,10 +16,11 @@ lowered w R d x = if is_member x R then w x ⊖ d else w x
 abbrev pub raised : (ℕ → Weight) → List ℕ → Weight → ℕ → Weight
 raised w R d x = if is_member x R then w x ⊕ d else w x
 
--- what a change by d at R does to a set I that is heaviest of its size in both matroids: d is above 0, I stays heaviest in both,
--- what was reached stays reached, and every later search that again finds no path reaches more elements
+-- what a change by d at R does to a set I that is heaviest of its size in both matroids: d is above 0, the two weights of each element keep
+-- their sum, I stays heaviest in both, what was reached stays reached, and every later search that again finds no path reaches more elements
 pub record IsChange (n : ℕ) (p q : List ℕ → Bool) (w1 w2 : ℕ → Weight) (I R : List ℕ) (d : Weight) : Type 0 where
   pub positive : zero_weight ≺ d
+  pub adds : (x : ℕ) → lowered w1 R d x ⊕ raised w2 R d x ≡ w1 x ⊕ w2 x
   pub first : IsHeaviest p (lowered w1 R d) I
   pub second : IsHeaviest q (raised w2 R d) I
   pub stays : (S : List ℕ) → IsReachedSet n (is_tight (exchanges_at p I) (exchanges_at q I) (lowered w1 R d) (raised w2 R d))

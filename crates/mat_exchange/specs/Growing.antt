@@ -1,7 +1,8 @@
 -- One search that only grows: the changes of a split of the weights between the first reached set and the last, as in the Hungarian
 -- method (Frank 1981; Schrijver, chapter 41).
-use Rattle.std.specs.Prelude.{◌≡◌, ℕ, ◌<◌, ◌+◌, ◌*◌, ◌^◌, Bool, true, false, if◌then◌else◌, List, length, Option, Some}
+use Rattle.std.specs.Prelude.{◌≡◌, ℕ, ◌<◌, ◌+◌, ◌*◌, Bool, true, false, if◌then◌else◌, List, length, Option, Some}
 use Rattle.std.specs.Prelude.{None, MatchOption, ◌⊎◌}
+use Rattle.mat_sets.specs.Limits.{largest_weight}
 use Rattle.mat_sets.specs.Sets.{is_member}
 use Rattle.mat_sets.specs.Weights.{zero_weight, ◌⊕◌, ◌⊖◌, ◌≺◌, ◌≼◌, is_below, weight_at, IsWeightWithin, AreWeightsWithin}
 use Rattle.mat_sets.specs.declared.weight.Weight.{Weight}
@@ -37,7 +38,7 @@ pub record IsGrownSplit (n : ℕ) (first second : Exchanges) (w old w1 w2 : ℕ 
   pub second_gains : NoExchangeGains second w2
   pub adds : (x : ℕ) → x < n → w1 x ⊕ w2 x ≡ w x
   pub within : (h : ℕ) → ((x : ℕ) → x < n → IsWeightWithin h (old x)) → (x : ℕ) → x < n
-      → IsWeightWithin (h + 4 * 10 ^ 12 * n) (w2 x)
+      → IsWeightWithin (h + 4 * largest_weight * n) (w2 x)
   pub ends : EndsSearch n first second w1 w2
 
 -- what is found is no stuck search with a slack
@@ -52,7 +53,7 @@ pub record IsGrown (n : ℕ) (first second : Exchanges) (w1 w2 : List Weight) (g
   pub adds : (x : ℕ) → x < n → weight_at grown.first x ⊕ weight_at grown.second x ≡ weight_at w1 x ⊕ weight_at w2 x
   pub first_gains : NoExchangeGains first (weight_at grown.first)
   pub second_gains : NoExchangeGains second (weight_at grown.second)
-  pub bounded : (h : ℕ) → AreWeightsWithin h w2 → AreWeightsWithin (h + 2 * 10 ^ 12 * (n + 1) * n) grown.second
+  pub bounded : (h : ℕ) → AreWeightsWithin h w2 → AreWeightsWithin (h + 2 * largest_weight * (n + 1) * n) grown.second
   pub found : IsFound n first second (weight_at grown.first) (weight_at grown.second) grown.found
   pub no_slack : HasNoSlack grown.found
 

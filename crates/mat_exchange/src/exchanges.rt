@@ -1,5 +1,6 @@
 //! The exchanges of all elements at an independent set of a matroid.
 ghost use Rattle.std.specs.Prelude.{◌≡◌, ◌≤◌, true, IfOk};
+ghost use Rattle.mat_sets.specs.Limits.{most_elements};
 ghost use Rattle.mat_laws.specs.Exchanges.{rows_of};
 
 use crate::row_table::{RowTable, table_of};
@@ -66,7 +67,7 @@ pub fn rows<R: Threads + Sync, M: Matroid>(
 ) -> Result<RowTable, AllocError>
     requires sound { M.sound m.now }
     requires independent { M.indep m.now set.now ≡ true }
-    requires few { M.ground_size m.now ≤ 500 }
+    requires few { M.ground_size m.now ≤ most_elements }
     requires workers { (1 ≤ workers) × (workers ≤ 16) }
     ensures { IfOk result (λ t. t ≡ rows_of (M.ground_size m.now) (M.indep m.now) set.now) }
 {

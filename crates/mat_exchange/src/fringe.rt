@@ -1,5 +1,6 @@
 //! The elements outside a reached set that a change of the weights lets in, each with the greatest of its gains.
 ghost use Rattle.std.specs.Prelude.{◌≡◌, ◌&&◌, ◌==◌, if◌then◌else◌, ◌<◌, ◌≤◌, ◌^◌, ℕ, true, length, OnOk};
+ghost use Rattle.mat_sets.specs.Limits.{largest_number, most_elements};
 ghost use Rattle.mat_sets.specs.Sets.{is_member};
 ghost use Rattle.mat_sets.specs.Weights.{◌⊕◌, ◌⊖◌, weight_at, IsWeightWithin, AreWeightsWithin};
 ghost use Rattle.mat_laws.specs.TightPaths.{exchanges_in};
@@ -13,7 +14,7 @@ use std::alloc::AllocError;
 
 /// By how much z weighs more than x, or the other way round.
 fn gain_of(weights: &[Weight], x: u32, z: u32, inside: bool) -> Weight
-    requires small { AreWeightsWithin (10 ^ 30) weights.now }
+    requires small { AreWeightsWithin largest_number weights.now }
     requires from_below { x < length weights.now }
     requires to_below { z < length weights.now }
     ensures { result ≡ gain_at inside (weight_at weights.now) x z }
@@ -55,9 +56,9 @@ pub(crate) fn offer(
     fringe: &mut BitSet,
     gains: &mut [Weight],
 ) -> Result<(), AllocError>
-    requires few { length weights.now ≤ 500 }
+    requires few { length weights.now ≤ most_elements }
     requires lengths { length gains.old ≡ length weights.now }
-    requires small { AreWeightsWithin (10 ^ 30) weights.now }
+    requires small { AreWeightsWithin largest_number weights.now }
     requires from_below { x < length weights.now }
     requires others { (v : ℕ) → is_member v others.now ≡ true → v < length weights.now }
     ensures length { length gains.new ≡ length gains.old }
@@ -85,13 +86,13 @@ pub(crate) fn offer_exchanges(
     fringe: &mut BitSet,
     gains: &mut [Weight],
 ) -> Result<(), AllocError>
-    requires few { length w1.now ≤ 500 }
+    requires few { length w1.now ≤ most_elements }
     requires lengths { length w2.now ≡ length w1.now }
     requires gains { length gains.old ≡ length w1.now }
     requires first_count { length first.now ≡ length w1.now }
     requires second_count { length second.now ≡ length w1.now }
-    requires first_small { AreWeightsWithin (10 ^ 30) w1.now }
-    requires second_small { AreWeightsWithin (10 ^ 30) w2.now }
+    requires first_small { AreWeightsWithin largest_number w1.now }
+    requires second_small { AreWeightsWithin largest_number w2.now }
     requires from_below { x < length w1.now }
     requires others { (v : ℕ) → is_member v others.now ≡ true → v < length w1.now }
     ensures length { length gains.new ≡ length gains.old }
@@ -107,9 +108,9 @@ pub(crate) fn offer_exchanges(
 
 /// Adds `step` to the weights of the members.
 fn raise_on(weights: &mut [Weight], members: &BitSet, step: Weight)
-    requires few { length weights.old ≤ 500 }
+    requires few { length weights.old ≤ most_elements }
     requires below { (x : ℕ) → is_member x members.now ≡ true → x < length weights.old }
-    requires small { (x : ℕ) → is_member x members.now ≡ true → IsWeightWithin (10 ^ 30) (weight_at weights.old x) }
+    requires small { (x : ℕ) → is_member x members.now ≡ true → IsWeightWithin largest_number (weight_at weights.old x) }
     requires step { IsWeightWithin (10 ^ 31) step }
     ensures length { length weights.new ≡ length weights.old }
     ensures weights { (x : ℕ) → weight_at weights.new x ≡ raised (weight_at weights.old) members.now step x }
@@ -125,8 +126,8 @@ fn raise_on(weights: &mut [Weight], members: &BitSet, step: Weight)
 pub(crate) fn put_back(w1: &mut [Weight], w2: &mut [Weight], x: u32, total: Weight)
     requires lengths { length w2.old ≡ length w1.old }
     requires below { x < length w1.old }
-    requires first_small { AreWeightsWithin (10 ^ 30) w1.old }
-    requires second_small { AreWeightsWithin (10 ^ 30) w2.old }
+    requires first_small { AreWeightsWithin largest_number w1.old }
+    requires second_small { AreWeightsWithin largest_number w2.old }
     requires total { IsWeightWithin (10 ^ 31) total }
     ensures first_length { length w1.new ≡ length w1.old }
     ensures second_length { length w2.new ≡ length w2.old }
@@ -139,11 +140,11 @@ pub(crate) fn put_back(w1: &mut [Weight], w2: &mut [Weight], x: u32, total: Weig
 
 /// The change of the weights of the reached set by `step`: the first fall, and the second rise.
 pub(crate) fn change(w1: &mut [Weight], w2: &mut [Weight], reached: &BitSet, step: Weight)
-    requires few { length w1.old ≤ 500 }
+    requires few { length w1.old ≤ most_elements }
     requires lengths { length w2.old ≡ length w1.old }
     requires reached { (x : ℕ) → is_member x reached.now ≡ true → x < length w1.old }
-    requires first_small { AreWeightsWithin (10 ^ 30) w1.old }
-    requires second_small { AreWeightsWithin (10 ^ 30) w2.old }
+    requires first_small { AreWeightsWithin largest_number w1.old }
+    requires second_small { AreWeightsWithin largest_number w2.old }
     requires step { IsWeightWithin (10 ^ 31) step }
     ensures first_length { length w1.new ≡ length w1.old }
     ensures second_length { length w2.new ≡ length w2.old }

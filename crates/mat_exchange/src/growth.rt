@@ -1,9 +1,11 @@
 //! The search that grows until it finds a tight path or has no slack.
-ghost use Rattle.std.specs.Prelude.{◌≡◌, ◌<◌, ◌≤◌, ◌^◌, ◌&&◌, ◌==◌, ℕ, true, not, nat_lt, [], length, IfOk, OnOk};
+ghost use Rattle.std.specs.Prelude.{◌≡◌, ◌<◌, ◌≤◌, ◌^◌, ◌&&◌, ◌==◌, ℕ, true, not, nat_lt, [], length, IfOk, OnOk, ◌↔◌};
+ghost use Rattle.mat_sets.specs.Limits.{most_elements, largest_number, largest_weight};
 ghost use Rattle.mat_sets.specs.Sets.{is_member, with_one};
 ghost use Rattle.mat_sets.specs.Weights.{◌⊕◌, weight_at, IsWeightWithin, AreWeightsWithin};
 ghost use Rattle.mat_laws.specs.TightPaths.{exchanges_in};
 ghost use Rattle.mat_exchange.specs.Tables.{IsTableAt};
+ghost use Rattle.mat_exchange.specs.Searching.{is_stuck, HasNoTightPath};
 ghost use Rattle.mat_exchange.specs.Growing.{IsEntry, IsFringe, NoExchangeGains, IsGrown, IsGrownSplit, IsHeaviestOf, StaysHeaviest, sum_at};
 
 use crate::fringe::{change, offer, offer_exchanges, put_back};
@@ -37,13 +39,13 @@ fn reach_root(
     w2: &[Weight],
     gains: &mut [Weight],
 ) -> Result<GrowingReach, AllocError>
-    requires few { length w1.now ≤ 500 }
+    requires few { length w1.now ≤ most_elements }
     requires lengths { length w2.now ≡ length w1.now }
     requires gains { length gains.old ≡ length w1.now }
     requires first_table { IsTableAt (length w1.now) set.now first.now }
     requires second_table { IsTableAt (length w1.now) set.now second.now }
-    requires first_small { AreWeightsWithin (10 ^ 30) w1.now }
-    requires second_small { AreWeightsWithin (10 ^ 30) w2.now }
+    requires first_small { AreWeightsWithin largest_number w1.now }
+    requires second_small { AreWeightsWithin largest_number w2.now }
     requires root { root < length w1.now }
     ensures length { length gains.new ≡ length gains.old }
     ensures reached { IfOk result (λ g. g.reached ≡ with_one [] root) }
@@ -97,7 +99,7 @@ fn grow_from(
     w2: &mut [Weight],
     gains: &mut [Weight],
 ) -> Result<(), AllocError>
-    requires few { length w1.old ≤ 500 }
+    requires few { length w1.old ≤ most_elements }
     requires lengths { length w2.old ≡ length w1.old }
     requires gains { length gains.old ≡ length w1.old }
     requires first_table { IsTableAt (length w1.old) set.now first.now }
@@ -105,7 +107,7 @@ fn grow_from(
     requires root { IsHeaviestOf (exchanges_in first.now).adds (weight_at w1.old) root }
     requires first_gains { NoExchangeGains (exchanges_in first.now) (weight_at w1.old) }
     requires second_gains { NoExchangeGains (exchanges_in second.now) (weight_at w2.old) }
-    requires small { (x : ℕ) → x < length w1.old → IsWeightWithin (10 ^ 12) (weight_at w1.old x ⊕ weight_at w2.old x) }
+    requires small { (x : ℕ) → x < length w1.old → IsWeightWithin largest_weight (weight_at w1.old x ⊕ weight_at w2.old x) }
     requires second_small { AreWeightsWithin (10 ^ 25) w2.old }
     ensures first_length { length w1.new ≡ length w1.old }
     ensures second_length { length w2.new ≡ length w2.old }
@@ -153,13 +155,13 @@ fn grow_weights(
     w1: &mut [Weight],
     w2: &mut [Weight],
 ) -> Result<(), AllocError>
-    requires few { length w1.old ≤ 500 }
+    requires few { length w1.old ≤ most_elements }
     requires lengths { length w2.old ≡ length w1.old }
     requires first_table { IsTableAt (length w1.old) set.now first.now }
     requires second_table { IsTableAt (length w1.old) set.now second.now }
     requires first_gains { NoExchangeGains (exchanges_in first.now) (weight_at w1.old) }
     requires second_gains { NoExchangeGains (exchanges_in second.now) (weight_at w2.old) }
-    requires small { (x : ℕ) → x < length w1.old → IsWeightWithin (10 ^ 12) (weight_at w1.old x ⊕ weight_at w2.old x) }
+    requires small { (x : ℕ) → x < length w1.old → IsWeightWithin largest_weight (weight_at w1.old x ⊕ weight_at w2.old x) }
     requires second_small { AreWeightsWithin (10 ^ 25) w2.old }
     ensures first_length { length w1.new ≡ length w1.old }
     ensures second_length { length w2.new ≡ length w2.old }
@@ -174,8 +176,8 @@ fn grow_weights(
     grow_from(alloc, first, second, set, root, w1, w2, &mut gains)
 }
 
-/// Changes the two weights until a tight path with fewest vertices is found, or nothing is left to change (Frank 1981; Schrijver,
-/// chapter 41). One reached set grows, and a table has the least change after which each element outside enters it, as in the
+/// Changes the two weights until a tight path with fewest vertices is found, or nothing is left to change and no tight path is there
+/// (Frank 1981; Schrijver, chapter 41). One reached set grows, and a table has the least change after which each element outside enters it, as in the
 /// Hungarian method; so the time is that of the pairs of elements, and of one search. The only error is want of memory.
 pub fn grow(
     alloc: Global,
@@ -185,15 +187,17 @@ pub fn grow(
     w1: &[Weight],
     w2: &[Weight],
 ) -> Result<Grown, AllocError>
-    requires few { length w1.now ≤ 500 }
+    requires few { length w1.now ≤ most_elements }
     requires lengths { length w2.now ≡ length w1.now }
     requires first_table { IsTableAt (length w1.now) set.now first.now }
     requires second_table { IsTableAt (length w1.now) set.now second.now }
     requires first_gains { NoExchangeGains (exchanges_in first.now) (weight_at w1.now) }
     requires second_gains { NoExchangeGains (exchanges_in second.now) (weight_at w2.now) }
-    requires small { (x : ℕ) → x < length w1.now → IsWeightWithin (10 ^ 12) (weight_at w1.now x ⊕ weight_at w2.now x) }
+    requires small { (x : ℕ) → x < length w1.now → IsWeightWithin largest_weight (weight_at w1.now x ⊕ weight_at w2.now x) }
     requires second_small { AreWeightsWithin (10 ^ 25) w2.now }
     ensures grown { IfOk result (IsGrown (length w1.now) (exchanges_in first.now) (exchanges_in second.now) w1.now w2.now) }
+    ensures stuck { IfOk result (λ grown. (is_stuck grown.found ≡ true)
+        ↔ HasNoTightPath (length w1.now) (exchanges_in first.now) (exchanges_in second.now) (weight_at grown.first) (weight_at grown.second)) }
     ensures heaviest { IfOk result (StaysHeaviest (length w1.now) first.now second.now set.now w1.now w2.now) }
 {
     let mut new1 = Vec::from_slice(alloc, w1)?;

@@ -1,5 +1,6 @@
 //! The greatest weight among the elements that can be added.
 ghost use Rattle.std.specs.Prelude.{◌≡◌, ◌<◌, ◌≤◌, if◌then◌else◌, length};
+ghost use Rattle.mat_sets.specs.Limits.{most_elements};
 ghost use Rattle.mat_sets.specs.Weights.{weight_at};
 ghost use Rattle.mat_laws.specs.TightPaths.{exchanges_in};
 ghost use Rattle.mat_exchange.specs.HeaviestAddable.{IsHeaviestWeightOrNone, greater_of};
@@ -11,7 +12,7 @@ use mat_sets::Weight;
 /// The greatest weight of the elements that can be added; none where none can be. The time is that of those elements.
 pub(crate) fn heaviest_addable(table: &RowTable, weights: &[Weight]) -> Option<Weight>
     requires count { length table.now ≡ length weights.now }
-    requires few { length weights.now ≤ 500 }
+    requires few { length weights.now ≤ most_elements }
     ensures { IsHeaviestWeightOrNone (exchanges_in table.now).adds (weight_at weights.now) result }
 {
     let addable = table.addable_elements();

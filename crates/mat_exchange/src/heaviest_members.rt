@@ -1,5 +1,6 @@
 //! A heaviest member that two sets have in common.
 ghost use Rattle.std.specs.Prelude.{◌≡◌, ◌&&◌, ◌<◌, ◌≤◌, ℕ, true, length, IfSome};
+ghost use Rattle.mat_sets.specs.Limits.{most_elements};
 ghost use Rattle.mat_sets.specs.Sets.{is_member};
 ghost use Rattle.mat_sets.specs.Weights.{weight_at};
 ghost use Rattle.mat_exchange.specs.Growing.{heavier_of, IsHeaviestOrNone};
@@ -25,7 +26,7 @@ fn heavier(heaviest: Option<u32>, x: u32, weights: &[Weight]) -> Option<u32>
 /// A heaviest member that two sets have in common; none where they have none. The time is that of those members and of the words
 /// of the sets.
 pub(crate) fn heaviest_member(first: &BitSet, second: &BitSet, weights: &[Weight]) -> Option<u32>
-    requires few { length weights.now ≤ 500 }
+    requires few { length weights.now ≤ most_elements }
     requires below { (x : ℕ) → (is_member x first.now && is_member x second.now) ≡ true → x < length weights.now }
     ensures { IsHeaviestOrNone (λ x. is_member x first.now && is_member x second.now) (weight_at weights.now) result }
 {

@@ -1,8 +1,9 @@
 //! The search for a tight path.
-ghost use Rattle.std.specs.Prelude.{◌≡◌, ◌≤◌, ◌^◌, length, IfOk};
+ghost use Rattle.std.specs.Prelude.{◌≡◌, ◌≤◌, length, IfOk, ◌↔◌, true};
+ghost use Rattle.mat_sets.specs.Limits.{most_elements, largest_number};
 ghost use Rattle.mat_sets.specs.Weights.{weight_at, AreWeightsWithin};
 ghost use Rattle.mat_laws.specs.TightPaths.{exchanges_in};
-ghost use Rattle.mat_exchange.specs.Searching.{IsFound};
+ghost use Rattle.mat_exchange.specs.Searching.{is_stuck, HasNoTightPath, IsFound};
 ghost use Rattle.mat_exchange.specs.Tables.{IsTableAt};
 
 use crate::found::Found;
@@ -13,8 +14,9 @@ use crate::tight_arcs::TightArcs;
 use mat_sets::{ElemSet, WalkSearch, Weight, shortest_walk};
 use std::alloc::{AllocError, Global};
 
-/// A tight path with fewest vertices at a common independent set, or all that the sources reach along tight arcs and its least
-/// slack (Frank 1981; Schrijver, chapter 41). The time is that of the numbers in both tables. The only error is want of memory.
+/// A tight path with fewest vertices at a common independent set, or, exactly where there is no tight path, all that the sources reach
+/// along tight arcs and its least slack (Frank 1981; Schrijver, chapter 41). The time is that of the numbers in both tables. The only
+/// error is want of memory.
 pub fn tight_search(
     alloc: Global,
     first: &RowTable,
@@ -23,13 +25,15 @@ pub fn tight_search(
     w1: &[Weight],
     w2: &[Weight],
 ) -> Result<Found, AllocError>
-    requires few { length w1.now ≤ 500 }
+    requires few { length w1.now ≤ most_elements }
     requires lengths { length w2.now ≡ length w1.now }
     requires first_table { IsTableAt (length w1.now) set.now first.now }
     requires second_table { IsTableAt (length w1.now) set.now second.now }
-    requires first_small { AreWeightsWithin (10 ^ 30) w1.now }
-    requires second_small { AreWeightsWithin (10 ^ 30) w2.now }
-    ensures { IfOk result (IsFound (length w1.now) (exchanges_in first.now) (exchanges_in second.now) (weight_at w1.now) (weight_at w2.now)) }
+    requires first_small { AreWeightsWithin largest_number w1.now }
+    requires second_small { AreWeightsWithin largest_number w2.now }
+    ensures found { IfOk result (IsFound (length w1.now) (exchanges_in first.now) (exchanges_in second.now) (weight_at w1.now) (weight_at w2.now)) }
+    ensures stuck { IfOk result (λ found. (is_stuck found ≡ true)
+        ↔ HasNoTightPath (length w1.now) (exchanges_in first.now) (exchanges_in second.now) (weight_at w1.now) (weight_at w2.now)) }
 {
     let top1 = heaviest_addable(first, w1);
     let top2 = heaviest_addable(second, w2);

@@ -1,12 +1,13 @@
 //! The exchanges of all elements at an independent set, as rows of bits.
-ghost use Rattle.std.specs.Prelude.{◌≡◌, ℕ, ◌<◌, ◌≤◌, ◌+◌, true, List, [], length, IfOk, OnOk};
+ghost use Rattle.std.specs.Prelude.{◌≡◌, ℕ, ◌<◌, ◌≤◌, ◌+◌, true, List, length, IfOk, OnOk};
+ghost use Rattle.mat_sets.specs.Limits.{most_elements};
 ghost use Rattle.mat_sets.specs.Sets.{is_member, AllBelow};
 ghost use Rattle.mat_laws.specs.TightPaths.{exchanges_in, row_in};
 ghost use Rattle.mat_laws.specs.declared.exchange.Exchange.{Exchange};
-ghost use Rattle.mat_exchange.specs.RowTables.{set_at, AreUnited, AreWhole, IsEntered, IsFilled};
+ghost use Rattle.mat_exchange.specs.RowTables.{AreWhole, IsFilledTable};
 
 use mat_laws::Exchange;
-use mat_sets::{BitSet, ElemSet};
+use mat_sets::{BitRows, BitSet, ElemSet};
 use std::alloc::{AllocError, Global};
 use std::marker::Model;
 
@@ -15,8 +16,8 @@ use std::marker::Model;
 pub struct RowTable {
     addable: BitSet,
     // At x the members that x can be exchanged for, and at y the elements that can be exchanged for y.
-    rows: Vec<BitSet>,
-    columns: Vec<BitSet>,
+    rows: BitRows,
+    columns: BitRows,
 }
 
 impl Model for RowTable {
@@ -26,72 +27,29 @@ impl Model for RowTable {
 
     ghost Value = { List Exchange };
 
-    ghost view = { λ t. table_of t.addable t.rows.items };
+    ghost view = { λ t. table_of t.addable t.rows };
 
-    ghost invariant = { λ t. AreTransposed t.addable t.rows.items t.columns.items };
-}
-
-/// n empty sets, each with room for the numbers below n.
-fn empty_sets(alloc: Global, n: u32) -> Result<Vec<BitSet>, AllocError>
-    ensures count { IfOk result (λ sets. length sets.items ≡ n) }
-    ensures empty { IfOk result (λ sets. (y : ℕ) → set_at sets.items y ≡ []) }
-{
-    let mut sets = Vec::new(alloc);
-    for _ in 0..n {
-        sets.push(BitSet::with_capacity(alloc, n)?)?;
-    }
-    Ok(sets)
-}
-
-/// The row of x, which is put into the column of each member of the row.
-fn enter_row(
-    alloc: Global,
-    x: u32,
-    with: &ElemSet,
-    columns: &mut [BitSet],
-) -> Result<BitSet, AllocError>
-    requires few { length columns.old ≤ 500 }
-    requires below { AllBelow (length columns.old) with.now }
-    ensures row { IfOk result (λ row. row ≡ with.now) }
-    ensures columns { OnOk result (IsEntered x with.now columns.old columns.new) }
-{
-    let mut row = BitSet::with_capacity(alloc, columns.len() as u32)?;
-    for y in with.as_slice() {
-        row.insert(*y)?;
-        columns[*y as usize].insert(x)?;
-    }
-    Ok(row)
-}
-
-/// Puts the elements that can be added into the column of each member of the base.
-fn enter_addable(columns: &mut [BitSet], base: &ElemSet, addable: &BitSet) -> Result<(), AllocError>
-    requires { AllBelow (length columns.old) base.now }
-    ensures { OnOk result (AreUnited addable.now base.now columns.old columns.new) }
-{
-    for y in base.as_slice() {
-        columns[*y as usize].unite(addable)?;
-    }
-    Ok(())
+    ghost invariant = { λ t. AreTransposed t.addable t.rows t.columns };
 }
 
 /// A table of which the rows of the first elements are entered. The elements that can be added do not yet stand in the columns.
 #[derive(Debug, Drop)]
 struct PartialTable {
     addable: BitSet,
-    rows: Vec<BitSet>,
-    columns: Vec<BitSet>,
+    rows: BitRows,
+    columns: BitRows,
 }
 
 impl PartialTable {
     /// No row of n elements.
     fn new(alloc: Global, n: u32) -> Result<PartialTable, AllocError>
         ensures { IfOk result (λ t. (exchanges : List Exchange) → length exchanges ≡ n
-            → IsFilled exchanges 0 t.addable t.rows.items t.columns.items) }
+            → IsFilledTable exchanges 0 t.addable t.rows t.columns) }
     {
         Ok(PartialTable {
             addable: BitSet::with_capacity(alloc, n)?,
-            rows: Vec::with_capacity(alloc, n as usize)?,
-            columns: empty_sets(alloc, n)?,
+            rows: BitRows::new(alloc),
+            columns: BitRows::with_rows(alloc, n, n)?,
         })
     }
 
@@ -103,31 +61,29 @@ impl PartialTable {
         row: &Exchange,
         base: &BitSet,
     ) -> Result<(), AllocError>
-        requires few { length self.old.columns.items ≤ 500 }
-        requires below { AllBelow (length self.old.columns.items) row.now.with }
+        requires below { AllBelow (length self.old.columns) row.now.with }
         requires whole { row.now.addable ≡ true → row.now.with ≡ base.now }
-        ensures columns { length self.new.columns.items ≡ length self.old.columns.items }
-        ensures entered { OnOk result ((exchanges : List Exchange) → x < length exchanges → row_in exchanges x ≡ row.now
-            → IsFilled exchanges x self.old.addable self.old.rows.items self.old.columns.items
-            → IsFilled exchanges (x + 1) self.new.addable self.new.rows.items self.new.columns.items) }
+        ensures { OnOk result ((exchanges : List Exchange) → x < length exchanges → row_in exchanges x ≡ row.now
+            → IsFilledTable exchanges x self.old.addable self.old.rows self.old.columns
+            → IsFilledTable exchanges (x + 1) self.new.addable self.new.rows self.new.columns) }
     {
         if row.addable {
             self.addable.insert(x)?;
             self.rows.push(base.copy(alloc)?)?;
         } else {
-            let bits = enter_row(alloc, x, &row.with, &mut self.columns)?;
-            self.rows.push(bits)?;
+            self.columns.insert_each(row.with.as_slice(), x)?;
+            self.rows.push(row.with.to_bits(alloc)?)?;
         }
         Ok(())
     }
 
     /// The table, once all rows are entered. The time is that of the words of a row for each member of the base.
     fn finish(self, base: &ElemSet) -> Result<RowTable, AllocError>
-        requires below { AllBelow (length self.columns.items) base.now }
-        requires filled { (exchanges : List Exchange) × IsFilled exchanges (length exchanges) self.addable self.rows.items self.columns.items
+        requires below { AllBelow (length self.columns) base.now }
+        requires filled { (exchanges : List Exchange) × IsFilledTable exchanges (length exchanges) self.addable self.rows self.columns
             × AreWhole base.now exchanges }
         ensures { IfOk result (λ t. (exchanges : List Exchange)
-            → IsFilled exchanges (length exchanges) self.addable self.rows.items self.columns.items
+            → IsFilledTable exchanges (length exchanges) self.addable self.rows self.columns
             → AreWhole base.now exchanges → t ≡ exchanges) }
     {
         let PartialTable {
@@ -135,7 +91,7 @@ impl PartialTable {
             rows,
             mut columns,
         } = self;
-        enter_addable(&mut columns, base, &addable)?;
+        columns.unite_each(base.as_slice(), &addable)?;
         Ok(RowTable {
             addable,
             rows,
@@ -151,7 +107,7 @@ pub(crate) fn table_of(
     exchanges: &[Exchange],
     base: &ElemSet,
 ) -> Result<RowTable, AllocError>
-    requires few { length exchanges.now ≤ 500 }
+    requires few { length exchanges.now ≤ most_elements }
     requires base { AllBelow (length exchanges.now) base.now }
     requires below { (x : ℕ) → AllBelow (length exchanges.now) (row_in exchanges.now x).with }
     requires whole { AreWhole base.now exchanges.now }
@@ -181,7 +137,7 @@ impl RowTable {
         requires element { x < length self.now }
         ensures { result ≡ (exchanges_in self.now).trades y x }
     {
-        self.rows[x as usize].contains(y)
+        self.rows.row(x).contains(y)
     }
 
     /// The elements that can be added.
@@ -196,7 +152,7 @@ impl RowTable {
         requires { x < length self.now }
         ensures { (y : ℕ) → is_member y result.now ≡ (exchanges_in self.now).trades y x }
     {
-        &self.rows[x as usize]
+        self.rows.row(x)
     }
 
     /// The elements that can be exchanged for y.
@@ -204,6 +160,6 @@ impl RowTable {
         requires { y < length self.now }
         ensures { (x : ℕ) → is_member x result.now ≡ (exchanges_in self.now).trades y x }
     {
-        &self.columns[y as usize]
+        self.columns.row(y)
     }
 }

@@ -1,5 +1,6 @@
 //! The least slack of a reached set.
-ghost use Rattle.std.specs.Prelude.{◌≡◌, ◌<◌, ◌≤◌, ◌^◌, ℕ, true, length, IfOk, IfSome};
+ghost use Rattle.std.specs.Prelude.{◌≡◌, ◌<◌, ◌≤◌, ℕ, true, length, IfOk, IfSome};
+ghost use Rattle.mat_sets.specs.Limits.{largest_number, most_elements};
 ghost use Rattle.mat_sets.specs.Sets.{is_member, AllBelow};
 ghost use Rattle.mat_sets.specs.Weights.{◌⊖◌, weight_at, IsWeightWithin, AreWeightsWithin};
 ghost use Rattle.mat_laws.specs.TightPaths.{exchanges_in};
@@ -27,8 +28,8 @@ fn lesser(a: Option<Weight>, b: Option<Weight>) -> Option<Weight>
 
 /// By how much one weight exceeds another.
 pub(crate) fn excess(weight: Weight, other: Weight) -> Weight
-    requires small { IsWeightWithin (10 ^ 30) weight }
-    requires other_small { IsWeightWithin (10 ^ 30) other }
+    requires small { IsWeightWithin largest_number weight }
+    requires other_small { IsWeightWithin largest_number other }
     ensures { result ≡ weight ⊖ other }
 {
     weight - other
@@ -36,8 +37,8 @@ pub(crate) fn excess(weight: Weight, other: Weight) -> Weight
 
 /// By how much one weight exceeds another, where there are both.
 pub(crate) fn excess_or_none(weight: Option<Weight>, other: Option<Weight>) -> Option<Weight>
-    requires small { IfSome weight (IsWeightWithin (10 ^ 30)) }
-    requires other_small { IfSome other (IsWeightWithin (10 ^ 30)) }
+    requires small { IfSome weight (IsWeightWithin largest_number) }
+    requires other_small { IfSome other (IsWeightWithin largest_number) }
     ensures { result ≡ excess_of weight other }
 {
     Some(excess(weight?, other?))
@@ -45,9 +46,9 @@ pub(crate) fn excess_or_none(weight: Option<Weight>, other: Option<Weight>) -> O
 
 /// By how much a heaviest addable element outweighs the heaviest addable element of a set.
 fn addition_slack(table: &RowTable, into: &BitSet, weights: &[Weight]) -> Option<Weight>
-    requires few { length weights.now ≤ 500 }
+    requires few { length weights.now ≤ most_elements }
     requires count { length table.now ≡ length weights.now }
-    requires small { AreWeightsWithin (10 ^ 30) weights.now }
+    requires small { AreWeightsWithin largest_number weights.now }
     requires below { (x : ℕ) → is_member x into.now ≡ true → x < length weights.now }
     ensures { IsLeastOrNone (IsAdditionSlack (length weights.now) (exchanges_in table.now) (weight_at weights.now) into.now) result }
 {
@@ -64,9 +65,9 @@ fn exchange_slack_at(
     into: &BitSet,
     weights: &[Weight],
 ) -> Option<Weight>
-    requires few { length weights.now ≤ 500 }
+    requires few { length weights.now ≤ most_elements }
     requires count { length table.now ≡ length weights.now }
-    requires small { AreWeightsWithin (10 ^ 30) weights.now }
+    requires small { AreWeightsWithin largest_number weights.now }
     requires below { (x : ℕ) → is_member x into.now ≡ true → x < length weights.now }
     requires replaced { y < length weights.now }
     ensures { IsLeastOrNone (IsExchangeSlackAt y (exchanges_in table.now) (weight_at weights.now) from.now into.now) result }
@@ -85,9 +86,9 @@ fn exchange_slack(
     into: &BitSet,
     weights: &[Weight],
 ) -> Option<Weight>
-    requires few { length weights.now ≤ 500 }
+    requires few { length weights.now ≤ most_elements }
     requires count { length table.now ≡ length weights.now }
-    requires small { AreWeightsWithin (10 ^ 30) weights.now }
+    requires small { AreWeightsWithin largest_number weights.now }
     requires below { (x : ℕ) → is_member x into.now ≡ true → x < length weights.now }
     ensures { IsLeastOrNone (IsExchangeSlack (length weights.now) (exchanges_in table.now) (weight_at weights.now) from.now into.now) result }
 {
@@ -109,13 +110,13 @@ pub(crate) fn least_slack(
     w1: &[Weight],
     w2: &[Weight],
 ) -> Result<Option<Weight>, AllocError>
-    requires few { length w1.now ≤ 500 }
+    requires few { length w1.now ≤ most_elements }
     requires lengths { length w2.now ≡ length w1.now }
     requires first_count { length first.now ≡ length w1.now }
     requires second_count { length second.now ≡ length w1.now }
     requires below { AllBelow (length w1.now) reach.now }
-    requires first_small { AreWeightsWithin (10 ^ 30) w1.now }
-    requires second_small { AreWeightsWithin (10 ^ 30) w2.now }
+    requires first_small { AreWeightsWithin largest_number w1.now }
+    requires second_small { AreWeightsWithin largest_number w2.now }
     ensures { IfOk result (IsLeastSlackOrNone (length w1.now) (exchanges_in first.now) (exchanges_in second.now)
         (weight_at w1.now) (weight_at w2.now) reach.now) }
 {

@@ -1,5 +1,6 @@
 //! How a reached set grows next.
-ghost use Rattle.std.specs.Prelude.{◌≡◌, ◌^◌, ◌<◌, ◌≤◌, ℕ, true, length};
+ghost use Rattle.std.specs.Prelude.{◌≡◌, ◌<◌, ◌≤◌, ℕ, true, length};
+ghost use Rattle.mat_sets.specs.Limits.{most_elements, largest_number};
 ghost use Rattle.mat_sets.specs.Sets.{is_member};
 ghost use Rattle.mat_sets.specs.Weights.{weight_at, IsWeightWithin};
 ghost use Rattle.mat_exchange.specs.Growing.{IsNextStep, IsBefore};
@@ -30,9 +31,9 @@ fn is_before(slack: Option<Weight>, step: Weight) -> Option<Weight>
 
 /// The step of least change: an element of the fringe, which enters where its gain is used up, or a sink of this slack.
 pub(crate) fn next_step(fringe: &BitSet, gains: &[Weight], slack: Option<Weight>) -> NextStep
-    requires few { length gains.now ≤ 500 }
+    requires few { length gains.now ≤ most_elements }
     requires below { (x : ℕ) → is_member x fringe.now ≡ true → x < length gains.now }
-    requires small { (x : ℕ) → is_member x fringe.now ≡ true → IsWeightWithin (10 ^ 30) (weight_at gains.now x) }
+    requires small { (x : ℕ) → is_member x fringe.now ≡ true → IsWeightWithin largest_number (weight_at gains.now x) }
     ensures { IsNextStep fringe.now (weight_at gains.now) slack result }
 {
     let Some(x) = heaviest_member(fringe, fringe, gains) else {

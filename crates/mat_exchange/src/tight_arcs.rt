@@ -1,5 +1,6 @@
 //! The tight arcs at a common independent set of two matroids.
 ghost use Rattle.std.specs.Prelude.{◌≡◌, ◌<◌, ◌≤◌, ◌&&◌, ℕ, true, length};
+ghost use Rattle.mat_sets.specs.Limits.{most_elements};
 ghost use Rattle.mat_sets.specs.Search.{IsNextFrom};
 ghost use Rattle.mat_sets.specs.Sets.{is_member};
 ghost use Rattle.mat_sets.specs.Weights.{is_same, weight_at};
@@ -87,7 +88,7 @@ fn next_equal(
     u: u32,
     from: u32,
 ) -> Option<u32>
-    requires few { length weights.now ≤ 500 }
+    requires few { length weights.now ≤ most_elements }
     requires below { u < length weights.now }
     requires among { (v : ℕ) → is_member v among.now ≡ true → v < length weights.now }
     ensures { IsNextFrom (λ v. (is_member v candidates.now && is_member v among.now)

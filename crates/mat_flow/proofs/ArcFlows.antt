@@ -1,66 +1,53 @@
 -- What the loops of the search for paths that share no arc keep.
-use Rattle.std.proofs.Common.{◌≡◌, ℕ, zero, suc, ◌+◌, ◌<◌, Bool, true, false, not, ◌&&◌, ◌||◌, eqb, ltb, List, [], ◌∷◌, ◌++◌, length, get_or, set, take, Option, Some, None, inl, inr, refl, sym, ap, ◌∙◌, subst, arith, length-append, length-set, get_or-set_other, get_or-set_same}
+use Rattle.std.proofs.Common.{◌≡◌, ℕ, zero, suc, ◌+◌, ◌<◌, Bool, true, false, not, ◌&&◌, ◌||◌, eqb, ltb, List, [], ◌∷◌, length, get_or, replicate, set, take, Option, Some, None, inl, inr, refl, sym, ap, ◌∙◌, subst, arith, length-set}
 use Rattle.std.proofs.Math.Numerals.{add-one}
-use Rattle.std.proofs.lemmas.Bool.{cases_eq, eq-eqb, eqb-true, lt-ltb, ltb-true, ne_eqb}
-use Rattle.std.proofs.lemmas.List.{get_or_append_left, get_or_default, get_or_push}
+use Rattle.std.proofs.lemmas.Bool.{cases_eq, lt-ltb, ltb-true}
+use Rattle.std.proofs.lemmas.List.{get_or-replicate, length-replicate}
 use Rattle.mat_sets.specs.Graphs.{ends_of, IsGraph}
 use Rattle.mat_sets.specs.Search.{IsNextFrom}
 use Rattle.mat_sets.specs.Sets.{all_below, is_member, with_one, without_one, AllBelow, IsRising, IsSet}
 use Rattle.mat_sets.specs.Walks.{IsReachedSet}
 use Rattle.mat_flow.specs.ArcPaths.{AreArcPaths, IsArcCut}
 use Rattle.mat_sets.proofs.Ground.{is_member-all_below, IsRising-all_below, IsSet-without_one}
-use Rattle.mat_sets.proofs.Members.{is_member-with_one, is_member-without_one, IsRising-nil}
+use Rattle.mat_sets.proofs.Members.{is_member-without_one, IsRising-nil}
 use Rattle.mat_sets.proofs.Steps.{is_member-take_more}
-use Rattle.mat_flow.specs.Digraphs.{row_at}
+use Rattle.mat_sets.specs.Rows.{row_at}
 use Rattle.mat_flow.specs.LineGraphs.{arcs_from, arcs_to, is_head_there, is_passed, line_arcs, AreLeaving, IsLeftOut}
-use Rattle.mat_flow.specs.LinkTables.{entry_at, is_member_there, leads_to, residual_arc, residual_goal, starts_among, starts_in, IsLinkTable}
+use Rattle.mat_flow.specs.LinkTables.{entry_at, is_member_there, leads_to, residual_arc, residual_goal, starts_in, IsLinkTable}
 use Rattle.mat_flow.specs.Trails.{AreTrails, IsReversed}
 use Rattle.mat_flow.proofs.DisjointPaths.{AreDisjointPaths-trails}
 use Rattle.mat_flow.proofs.LineGraphs.{has_arc-line, is_member-arcs_from, is_member-arcs_to, starts_among-le, AreArcPaths-line, IsArcCut-reached}
 use Rattle.mat_flow.proofs.PathsOfTables.{starts_of_all}
 use Rattle.mat_flow.proofs.LinkTables.{none_is_not_some, AreOwn, IsLinkTable-own}
+use Rattle.mat_sets.proofs.Rows.{is_member-inserted}
 
 -- ---- the rows of live arcs
 
-pub AreLeaving-push : (n : ℕ) (ends : ℕ → ℕ × ℕ) (rows : List (List ℕ)) (row : List ℕ) → AreLeaving n ends [] rows → row ≡ []
-    → AreLeaving (n + 1) ends [] (rows ++ row ∷ [])
-AreLeaving-push n ends rows row r e = record {
-  count = length-append rows (row ∷ []) ∙ ap (λ m. m + 1) r.count;
-  members = λ v a l. let count = r.count in elim (cases_eq v n) [
-    | inl same ↦ ap (is_member a) (get_or_push rows row [] v (r.count ∙ sym same) ∙ e)
-    | inr d ↦ ap (is_member a) (get_or_append_left rows (row ∷ []) [] v (omega arith)) ∙ r.members v a (omega arith)
-  ];
+pub AreLeaving-none : (n : ℕ) (ends : ℕ → ℕ × ℕ) (rows : List (List ℕ)) → rows ≡ replicate n [] → AreLeaving n ends [] rows
+AreLeaving-none n ends rows e = record {
+  count = ap length e ∙ length-replicate n [];
+  members = λ v a l. ap (λ r. is_member a (row_at r v)) e ∙ ap (is_member a) (get_or-replicate n v [] [] l);
 }
 
-pub AreLeaving-more : (n : ℕ) (ends : ℕ → ℕ × ℕ) (live : List ℕ) (i : ℕ) (rows : List (List ℕ)) (row : List ℕ) → i < length live
-    → (ends (get_or live i 0)).0 < n → row ≡ with_one (row_at rows (ends (get_or live i 0)).0) (get_or live i 0)
-    → AreLeaving n ends (take i live) rows → AreLeaving n ends (take (i + 1) live) (set rows (ends (get_or live i 0)).0 row)
-AreLeaving-more n ends live i rows row l inside e r =
+pub AreLeaving-more : (n : ℕ) (ends : ℕ → ℕ × ℕ) (live : List ℕ) (i : ℕ) (rows : List (List ℕ)) → i < length live
+    → (ends (get_or live i 0)).0 < n → AreLeaving n ends (take i live) rows
+    → AreLeaving n ends (take (i + 1) live)
+    (set rows (ends (get_or live i 0)).0 (with_one (row_at rows (ends (get_or live i 0)).0) (get_or live i 0)))
+AreLeaving-more n ends live i rows l inside r =
     let b = get_or live i 0 in
     let tail = (ends b).0 in
-    let count = r.count in
-    let within : tail < length rows = omega arith in
     record {
-      count = length-set rows tail row ∙ r.count;
-      members = λ v a m. elim (cases_eq v tail) [
-        | inl same ↦ ap (λ w. is_member a (row_at (set rows tail row) w)) same ∙ ap (is_member a) (get_or-set_same rows tail row [] within ∙ e)
-            ∙ is_member-with_one a b (row_at rows tail)
-            ∙ ap (λ x. eqb a b || x) (ap (λ w. is_member a (row_at rows w)) (sym same) ∙ r.members v a m)
-            ∙ put (eqb a b) (is_member a (take i live)) (eqb (ends a).0 v) (λ h. eq-eqb (ends a).0 v (ap (λ z. (ends z).0) (eqb-true a b h) ∙ sym same))
-            ∙ ap (λ x. x && eqb (ends a).0 v) (sym (is_member-take_more live i a l))
-        | inr d ↦ ap (is_member a) (get_or-set_other rows tail v row [] d) ∙ r.members v a m
-            ∙ left (eqb a b) (is_member a (take i live)) (eqb (ends a).0 v) (λ h. ne_eqb (ends a).0 v (λ q. d (sym q ∙ ap (λ z. (ends z).0) (eqb-true a b h))))
-            ∙ ap (λ x. x && eqb (ends a).0 v) (sym (is_member-take_more live i a l))
-      ];
+      count = length-set rows tail (with_one (row_at rows tail) b) ∙ r.count;
+      members = λ v a m. is_member-inserted rows tail b v a (subst (λ c. tail < c) (sym r.count) inside)
+          ∙ ap (λ x. x || (eqb tail v && eqb b a)) (r.members v a m)
+          ∙ put a b v (is_member a (take i live)) ∙ ap (λ x. x && eqb (ends a).0 v) (sym (is_member-take_more live i a l));
     }
   where
-    put : (same old here : Bool) → (same ≡ true → here ≡ true) → (same || (old && here)) ≡ ((old || same) && here)
-    put true old here h = let k = h refl in grind arith
-    put false old here h = grind arith
-
-    left : (same old here : Bool) → (same ≡ true → here ≡ false) → (old && here) ≡ ((old || same) && here)
-    left true old here h = let k = h refl in grind arith
-    left false old here h = grind arith
+    put : (a b v : ℕ) (old : Bool) → ((old && eqb (ends a).0 v) || (eqb (ends b).0 v && eqb b a)) ≡ ((old || eqb a b) && eqb (ends a).0 v)
+    put a b v old = elim (cases_eq a b) [
+      | inl same ↦ (let e : (ends a).0 ≡ (ends b).0 = ap (λ z. (ends z).0) same in grind arith)
+      | inr d ↦ grind arith
+    ]
 
 -- ---- the vertices that are left out
 
@@ -152,15 +139,10 @@ HoldsPaths-own count ends live from to before own = record {
 
 -- ---- what the relation answers
 
--- the row of a vertex, as an index reads it
-row_read : (rows : List (List ℕ)) (v : ℕ) (d : List ℕ) → v < length rows → get_or rows v d ≡ row_at rows v
-row_read rows v d l = sym (get_or_default rows v [] d l)
-
 -- the live arcs that leave a vertex are those of its row
-pub row_is_arcs_from : (vertices : ℕ) (ends : ℕ → ℕ × ℕ) (live : List ℕ) (rows : List (List ℕ)) (v a : ℕ) (d : List ℕ) → v < vertices
-    → AreLeaving vertices ends live rows → is_member a (get_or rows v d) ≡ is_member a (arcs_from ends live v)
-row_is_arcs_from vertices ends live rows v a d l r =
-    ap (is_member a) (row_read rows v d (subst (λ n. v < n) (sym r.count) l)) ∙ r.members v a l ∙ sym (is_member-arcs_from ends live v a)
+pub row_is_arcs_from : (vertices : ℕ) (ends : ℕ → ℕ × ℕ) (live : List ℕ) (rows : List (List ℕ)) (v a : ℕ) → v < vertices
+    → AreLeaving vertices ends live rows → is_member a (row_at rows v) ≡ is_member a (arcs_from ends live v)
+row_is_arcs_from vertices ends live rows v a l r = r.members v a l ∙ sym (is_member-arcs_from ends live v a)
 
 -- an arc before another one, with the end of the paths for its head
 pub is_goal_there : (ends : ℕ → ℕ × ℕ) (count to : ℕ) (before : List (Option ℕ)) (a u : ℕ) → entry_at before a ≡ Some u → u < count
@@ -170,12 +152,11 @@ is_goal_there ends count to before a u e l =
     ∙ sym (ap (λ f. is_member_there f (arcs_to ends count to)) e)
 
 -- the next arc in the residual graph
-pub next_there : (vertices count : ℕ) (ends : ℕ → ℕ × ℕ) (live : List ℕ) (rows : List (List ℕ)) (before : List (Option ℕ)) (a u h : ℕ) (d : List ℕ)
+pub next_there : (vertices count : ℕ) (ends : ℕ → ℕ × ℕ) (live : List ℕ) (rows : List (List ℕ)) (before : List (Option ℕ)) (a u h : ℕ)
     → entry_at before a ≡ Some u → u < count → (ends u).1 < vertices → h ≡ (ends u).1 → AreLeaving vertices ends live rows
-    → (b : ℕ) → (eqb b u || is_member b (get_or rows h d)) ≡ residual_arc (line_arcs ends count live) before a b
-next_there vertices count ends live rows before a u h d e l inside same r b =
-    ap (λ x. eqb b u || x) (ap (λ v. is_member b (get_or rows v d)) same
-    ∙ ap (is_member b) (row_read rows (ends u).1 d (subst (λ n. (ends u).1 < n) (sym r.count) inside)) ∙ r.members (ends u).1 b inside
+    → (b : ℕ) → (eqb b u || is_member b (row_at rows h)) ≡ residual_arc (line_arcs ends count live) before a b
+next_there vertices count ends live rows before a u h e l inside same r b =
+    ap (λ x. eqb b u || x) (ap (λ v. is_member b (row_at rows v)) same ∙ r.members (ends u).1 b inside
     ∙ ap (λ x. x && (is_member b live && eqb (ends b).0 (ends u).1)) (sym (lt-ltb u count l)) ∙ sym (has_arc-line ends live count u b))
     ∙ sym (ap (λ f. leads_to (line_arcs ends count live) f b) e)
 

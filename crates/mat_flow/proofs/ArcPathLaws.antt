@@ -1,8 +1,12 @@
 -- Paths that share no arc are at most as many as the live arcs that enter a vertex set with their end and without their start.
-use Rattle.std.proofs.Common.{◌≡◌, ℕ, ◌≤◌, true, false, List, [], length, subst, arith}
+use Rattle.std.proofs.Common.{◌≡◌, ℕ, ◌≤◌, ◌↔◌, true, false, List, [], length, refl, subst, arith}
+use Rattle.std.proofs.lemmas.Bool.{false≢true}
 use Rattle.mat_sets.specs.Sets.{is_member, IsRising}
 use Rattle.mat_sets.proofs.DisjointLists.{AreDisjoint-distinct}
+use Rattle.mat_flow.specs.ArcAnswers.{is_arc_cut, HasNoArcPaths, IsArcAnswer}
 use Rattle.mat_flow.specs.ArcPaths.{AreArcPaths, IsArcCut, IsArcPath}
+use Rattle.mat_flow.specs.declared.arc_flow.ArcAnswer.{ArcAnswer}
+use Rattle.mat_flow.specs.declared.arc_flow.ArcAnswer.TheVariants.{Paths, Cut}
 use Rattle.mat_sets.specs.Graphs.{entering}
 use Rattle.mat_sets.proofs.Crossings.{at_most_entering, walk_enters, Comes}
 
@@ -24,3 +28,9 @@ module _ (ends : ℕ → ℕ × ℕ) (live : List ℕ) (from to want : ℕ) wher
   pub paths_have_no_cut : (vertices : ℕ) (cut : List ℕ) (paths : List (List ℕ)) → IsRising live → AreArcPaths ends live from to want paths
       → IsArcCut vertices ends live from to want cut → ⊥
   paths_have_no_cut vertices cut paths r p c = let most = paths_enter cut paths r c.misses c.holds p in let few = c.few in absurd (omega arith)
+
+  -- a right answer is a cut exactly where there are no such paths
+  pub no_paths_told : (vertices : ℕ) (answer : ArcAnswer) → IsRising live → IsArcAnswer vertices ends live from to want answer
+      → (is_arc_cut answer ≡ true) ↔ HasNoArcPaths ends live from to want
+  no_paths_told vertices (Paths paths) r a = ((λ e. absurd (false≢true e)), λ none. absurd (none paths.items a))
+  no_paths_told vertices (Cut cut) r a = ((λ _ paths p. paths_have_no_cut vertices cut paths r p a), λ _. refl)

@@ -1,12 +1,13 @@
 -- The reached vertices that are before no reached vertex: the loop takes the vertex before each reached one out, and as none is before two,
 -- each takes out one more, but for those with none before them.
-use Rattle.std.proofs.Common.{◌≡◌, ℕ, zero, suc, ◌+◌, ◌<◌, Bool, true, false, not, ◌||◌, ◌&&◌, eqb, List, [], ◌∷◌, length, get_or, take, Option, Some, None, inl, inr, refl, sym, ap, ◌∙◌, subst, arith}
+use Rattle.std.proofs.Common.{◌≡◌, ℕ, zero, suc, ◌+◌, ◌<◌, Bool, true, false, not, ◌||◌, ◌&&◌, eqb, List, [], ◌∷◌, length, get_or, take, Option, Some, None, inl, inr, refl, sym, ap, ◌∙◌, subst, arith, ◌≤◌}
 use Rattle.std.proofs.Math.Numerals.{add-one}
 use Rattle.std.proofs.lemmas.Bool.{and_from, both_ways, eqb-true, false_from_ne_true, or_cases, or_right}
 use Rattle.mat_sets.specs.Sets.{is_member, IsRising, without_one}
 use Rattle.mat_sets.proofs.Cardinalities.{length-without_one}
 use Rattle.mat_sets.proofs.Members.{is_member-get_or, is_member-without_one, IsRising-without_one}
 use Rattle.mat_sets.proofs.Steps.{is_member-take_next}
+use Rattle.mat_sets.proofs.Truths.{or_assoc, or_none, and_all}
 use Rattle.mat_flow.specs.LinkTables.{entry_at, is_before, is_there, one_if_none, starts_among}
 use Rattle.mat_flow.proofs.DisjointPaths.{starts_among-more}
 
@@ -16,23 +17,15 @@ pub is_before-more : (before : List (Option ℕ)) (vs : List ℕ) (i x : ℕ) �
     → is_before before (take (i + 1) vs) x ≡ (is_before before (take i vs) x || is_there x (entry_at before (get_or vs i 0)))
 is_before-more before [] i x l = absurd (omega arith)
 is_before-more before (v ∷ vs) zero x l = or_none (is_there x (entry_at before v))
-  where
-    or_none : (a : Bool) → (a || false) ≡ a
-    or_none true = refl
-    or_none false = refl
 is_before-more before (v ∷ vs) (suc i) x l =
     rw (add-one (suc i)) (rest (rw (add-one i) at (is_before-more before vs i x (omega arith))))
   where
-    or_assoc : (a b c : Bool) → (a || (b || c)) ≡ ((a || b) || c)
-    or_assoc true b c = refl
-    or_assoc false b c = refl
-
     rest : is_before before (take (suc i) vs) x ≡ (is_before before (take i vs) x || is_there x (entry_at before (get_or vs i 0)))
         → (is_there x (entry_at before v) || is_before before (take (suc i) vs) x)
         ≡ ((is_there x (entry_at before v) || is_before before (take i vs) x) || is_there x (entry_at before (get_or vs i 0)))
     rest e = rw e (or_assoc (is_there x (entry_at before v)) (is_before before (take i vs) x) (is_there x (entry_at before (get_or vs i 0))))
 
-there_is : (x : ℕ) (entry : Option ℕ) → is_there x entry ≡ true → entry ≡ Some x
+pub there_is : (x : ℕ) (entry : Option ℕ) → is_there x entry ≡ true → entry ≡ Some x
 there_is x None h = absurd (both_ways false refl h)
 there_is x (Some u) h = ap Some (sym (eqb-true x u h))
 
@@ -57,17 +50,13 @@ pub IsCutting-skip : (before : List (Option ℕ)) (reached : List ℕ) (i : ℕ)
 IsCutting-skip before reached i rest l none c = record {
   rises = c.rises;
   members = λ x. c.members x ∙ ap (λ b. is_member x reached && not b)
-      (same (is_before before (take i reached) x) ∙ ap (λ e. is_before before (take i reached) x || is_there x e) (sym none)
+      (sym (or_none (is_before before (take i reached) x)) ∙ ap (λ e. is_before before (take i reached) x || is_there x e) (sym none)
       ∙ sym (is_before-more before reached i x l));
   size = (let more = starts_among-more before reached i l in
       let one : one_if_none (entry_at before (get_or reached i 0)) ≡ 1 = ap one_if_none none in
       let size = c.size in
       omega arith);
 }
-  where
-    same : (b : Bool) → b ≡ (b || false)
-    same true = refl
-    same false = refl
 
 cut_member : (x u : ℕ) (reached rest : List ℕ) (b now : Bool) → is_member x rest ≡ (is_member x reached && not b) → now ≡ (b || eqb x u)
     → is_member x (without_one rest u) ≡ (is_member x reached && not now)
@@ -93,3 +82,23 @@ IsCutting-cut before reached i u rest rises l once inside some c =
           let size = c.size in
           omega arith);
     }
+
+-- so those of the reached vertices that are before none of the first i
+pub cut_so_far : (before : List (Option ℕ)) (reached : List ℕ) → IsRising reached
+    → ((v w x : ℕ) → entry_at before v ≡ Some x → entry_at before w ≡ Some x → v ≡ w)
+    → ((v u : ℕ) → is_member v reached ≡ true → entry_at before v ≡ Some u → is_member u reached ≡ true)
+    → (i : ℕ) → i ≤ length reached → (rest : List ℕ) × IsCutting before reached i rest
+cut_so_far before reached rises once closed zero l =
+    (reached, record { rises = rises; members = λ x. sym (and_all (is_member x reached)); size = omega arith })
+cut_so_far before reached rises once closed (suc i) l =
+    let so_far = cut_so_far before reached rises once closed i (omega arith) in
+    by_entry so_far.0 so_far.1 (entry_at before (get_or reached i 0)) refl
+  where
+    by_entry : (rest : List ℕ) → IsCutting before reached i rest → (entry : Option ℕ) → entry_at before (get_or reached i 0) ≡ entry
+        → (other : List ℕ) × IsCutting before reached (suc i) other
+    by_entry rest c None e = (rest, subst (λ j. IsCutting before reached j rest) (add-one i) (IsCutting-skip before reached i rest (omega arith) e c))
+    by_entry rest c (Some u) e = (
+      without_one rest u,
+      subst (λ j. IsCutting before reached j (without_one rest u)) (add-one i)
+          (IsCutting-cut before reached i u rest rises (omega arith) once (closed (get_or reached i 0) u (is_member-get_or reached i _ (omega arith) refl) e) e c),
+    )

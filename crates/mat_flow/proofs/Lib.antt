@@ -1,3 +1,15 @@
+pub mod RoutePartLaws
+pub mod TurnedPathLaws
+pub mod VertexBoundLaws
+pub mod RouteSearchLaws
+pub mod RouteCrossingLaws
+pub mod RouteExtensionLaws
+pub mod RouteReturnLaws
+pub mod RouteStepLaws
+pub mod PathFamilyLaws
+pub mod SimplePathLaws
+pub mod PathChoiceLaws
+pub mod PathLaws
 pub mod Rows
 pub mod LinkTables
 pub mod Augmenting
@@ -7,7 +19,10 @@ pub mod Frontiers
 pub mod Separators
 pub mod PathsOfTables
 pub mod LinkedEnds
+pub mod PathsTakenOut
 pub mod Rerouting
 pub mod ArcPathLaws
 pub mod LineGraphs
 pub mod ArcFlows
+pub mod RouteFamilies
+pub mod Routes

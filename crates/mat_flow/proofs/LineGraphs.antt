@@ -1,17 +1,16 @@
 -- The line graph: where its arcs lead; its paths are walks of the graph; and what its residual graph reaches cuts off the end where it has no
 -- goal: of the arcs that enter the other vertices each is reached and is before no reached one.
-use Rattle.std.proofs.Common.{if◌then◌else◌, ◌≡◌, ℕ, zero, suc, ◌+◌, ◌<◌, ◌≤◌, Bool, true, false, not, ◌&&◌, ◌||◌, eqb, ltb, List, [], ◌∷◌, ◌++◌, length, get_or, Option, Some, None, inl, inr, refl, sym, ap, ◌∙◌, subst, arith}
-use Rattle.std.proofs.Math.Numerals.{add-one}
+use Rattle.std.proofs.Common.{if◌then◌else◌, ◌≡◌, ℕ, ◌+◌, ◌<◌, ◌≤◌, Bool, true, false, not, ◌&&◌, ◌||◌, eqb, ltb, List, [], ◌∷◌, ◌++◌, length, Option, Some, None, inl, inr, refl, sym, ap, ◌∙◌, subst, arith}
 use Rattle.std.proofs.Math.Seq.{take-length}
-use Rattle.std.proofs.lemmas.Bool.{and_from, and_parts, both_ways, cases_Bool, cases_eq, eq-eqb, eqb-true, false_from_ne_true, false≢true, lt-ltb, ne_eqb, not-true, or_cases, or_from, or_left, or_parts, or_right}
+use Rattle.std.proofs.lemmas.Bool.{and_from, and_parts, both_ways, cases_Bool, cases_eq, eq-eqb, eqb-true, false_from_ne_true, false≢true, lt-ltb, ne_eqb, not-true, or_cases, or_from, or_left, or_parts, or_right, and_right}
 use Rattle.std.proofs.lemmas.List.Elements.{All-weaker}
 use Rattle.std.specs.List.{filter}
 use Rattle.mat_sets.specs.Graphs.{entering, DirectedWalk}
-use Rattle.mat_sets.specs.Sets.{all_below, is_member, without_one, IsRising, IsSet, IsSubset}
+use Rattle.mat_sets.specs.Sets.{all_below, is_member, IsRising, IsSet, IsSubset}
 use Rattle.mat_sets.specs.Walks.{IsReachedSet}
 use Rattle.mat_sets.proofs.Filters.{IsRising-filter}
 use Rattle.mat_sets.proofs.Ground.{below_member, is_member-all_below, IsRising-all_below}
-use Rattle.mat_sets.proofs.Members.{is_member-filter, is_member-get_or, is_member-head}
+use Rattle.mat_sets.proofs.Members.{is_member-filter, is_member-head}
 use Rattle.mat_sets.proofs.Search.{is_member-those_below}
 use Rattle.mat_sets.proofs.Subsets.{length-subset}
 use Rattle.mat_flow.specs.ArcPaths.{AreArcPaths, IsArcCut, IsArcPath}
@@ -19,7 +18,8 @@ use Rattle.mat_flow.specs.LineGraphs.{arcs_from, arcs_to, is_head_there, is_pass
 use Rattle.mat_flow.specs.LinkTables.{entry_at, is_before, is_member_there, leads_to, one_if_none, residual_arc, residual_goal, starts_among, starts_in, IsLinkTable}
 use Rattle.mat_flow.specs.Paths.{has_arc, last_of, AreDisjointPaths, IsPath, IsPathBetween}
 use Rattle.mat_sets.proofs.Crossings.{is_member-entering, IsRising-entering}
-use Rattle.mat_flow.proofs.Frontiers.{is_before_gives, IsCutting, IsCutting-cut, IsCutting-skip}
+use Rattle.mat_sets.proofs.Truths.{eqb-turned, or_assoc}
+use Rattle.mat_flow.proofs.Frontiers.{is_before_gives, cut_so_far}
 use Rattle.mat_flow.proofs.PathsOfTables.{starts_of_all}
 use Rattle.mat_flow.proofs.Separators.{before_reached}
 
@@ -27,11 +27,7 @@ use Rattle.mat_flow.proofs.Separators.{before_reached}
 
 has_arc-append : (xs ys : List (ℕ × ℕ)) (u v : ℕ) → has_arc (xs ++ ys) u v ≡ (has_arc xs u v || has_arc ys u v)
 has_arc-append [] ys u v = refl
-has_arc-append (x ∷ xs) ys u v = rw (has_arc-append xs ys u v) (assoc (eqb x.0 u && eqb x.1 v) (has_arc xs u v) (has_arc ys u v))
-  where
-    assoc : (a b c : Bool) → (a || (b || c)) ≡ ((a || b) || c)
-    assoc true b c = refl
-    assoc false b c = refl
+has_arc-append (x ∷ xs) ys u v = rw (has_arc-append xs ys u v) (or_assoc (eqb x.0 u && eqb x.1 v) (has_arc xs u v) (has_arc ys u v))
 
 has_arc-pairs : (a : ℕ) (bs : List ℕ) (u v : ℕ) → has_arc (pairs_with a bs) u v ≡ (eqb u a && is_member v bs)
 has_arc-pairs a [] u v = none (eqb u a)
@@ -39,14 +35,8 @@ has_arc-pairs a [] u v = none (eqb u a)
     none : (b : Bool) → false ≡ (b && false)
     none true = refl
     none false = refl
-has_arc-pairs a (b ∷ bs) u v = rw (has_arc-pairs a bs u v, swapped a u, swapped b v) (sides (eqb u a) (eqb v b) (is_member v bs))
+has_arc-pairs a (b ∷ bs) u v = rw (has_arc-pairs a bs u v, eqb-turned a u, eqb-turned b v) (sides (eqb u a) (eqb v b) (is_member v bs))
   where
-    swapped : (x y : ℕ) → eqb x y ≡ eqb y x
-    swapped x y = elim (cases_eq x y) [
-      | inl e ↦ eq-eqb x y e ∙ sym (eq-eqb y x (sym e))
-      | inr d ↦ ne_eqb x y d ∙ sym (ne_eqb y x (λ e. d (sym e)))
-    ]
-
     sides : (x y z : Bool) → ((x && y) || (x && z)) ≡ (x && (y || z))
     sides true y z = refl
     sides false y z = refl
@@ -137,10 +127,6 @@ module _ (ends : ℕ → ℕ × ℕ) (live : List ℕ) where
 
 -- ---- how many paths there are
 
-starts_among-append : (before : List (Option ℕ)) (xs ys : List ℕ) → starts_among before (xs ++ ys) ≡ starts_among before xs + starts_among before ys
-starts_among-append before [] ys = omega arith
-starts_among-append before (x ∷ xs) ys = omega (arith, starts_among-append before xs ys)
-
 abbrev is_none : Option ℕ → Bool
 is_none None = true
 is_none (Some u) = false
@@ -183,30 +169,6 @@ starts_among-le before vs ws r s h =
     none_there : (entry : Option ℕ) → is_none entry ≡ true → entry ≡ None
     none_there None h = refl
     none_there (Some u) h = absurd (false≢true h)
-
--- ---- the frontier, as a list alone
-
-cut_so_far : (before : List (Option ℕ)) (reached : List ℕ) → IsRising reached
-    → ((v w x : ℕ) → entry_at before v ≡ Some x → entry_at before w ≡ Some x → v ≡ w)
-    → ((v u : ℕ) → is_member v reached ≡ true → entry_at before v ≡ Some u → is_member u reached ≡ true)
-    → (i : ℕ) → i ≤ length reached → (rest : List ℕ) × IsCutting before reached i rest
-cut_so_far before reached rises once closed zero l = (reached, record { rises = rises; members = λ x. all (is_member x reached); size = omega arith })
-  where
-    all : (b : Bool) → b ≡ (b && true)
-    all true = refl
-    all false = refl
-cut_so_far before reached rises once closed (suc i) l =
-    let so_far = cut_so_far before reached rises once closed i (omega arith) in
-    by_entry so_far.0 so_far.1 (entry_at before (get_or reached i 0)) refl
-  where
-    by_entry : (rest : List ℕ) → IsCutting before reached i rest → (entry : Option ℕ) → entry_at before (get_or reached i 0) ≡ entry
-        → (other : List ℕ) × IsCutting before reached (suc i) other
-    by_entry rest c None e = (rest, subst (λ j. IsCutting before reached j rest) (add-one i) (IsCutting-skip before reached i rest (omega arith) e c))
-    by_entry rest c (Some u) e = (
-      without_one rest u,
-      subst (λ j. IsCutting before reached j (without_one rest u)) (add-one i)
-          (IsCutting-cut before reached i u rest rises (omega arith) once (closed (get_or reached i 0) u (is_member-get_or reached i _ (omega arith) refl) e) e c),
-    )
 
 -- ---- the cut
 
@@ -276,14 +238,10 @@ module _ (vertices count : ℕ) (ends : ℕ → ℕ × ℕ) (live : List ℕ) (f
             let w = passed_gives reached to h in
             both_ways _ (missed w.0 w.2) (ap (λ e. is_member_there e (arcs_to ends count to)) w.3
             ∙ is_member-arcs_to ends live count to w.1 ∙ and_from _ _ (lt-ltb w.1 count (t.below w.0 w.1 w.3)) (eq-eqb (ends w.1).1 to (sym w.4)))))));
-        misses = out.members from ∙ rw (eq-eqb from from refl) (none_of (ltb from vertices));
+        misses = out.members from ∙ rw (eq-eqb from from refl) (and_right (ltb from vertices) false refl);
         few = omega (arith, c.1.size, ap (starts_among before) (take-length reached), starts_of_all before (length before) refl);
       }
     where
-      none_of : (b : Bool) → (b && false) ≡ false
-      none_of true = refl
-      none_of false = refl
-
       ends_out : (x : ℕ) → x < vertices → is_member x cut ≡ false → (eqb x from || is_passed ends before reached x) ≡ true
       ends_out x l h = elim (cases_Bool (eqb x from || is_passed ends before reached x)) [
         | inl here ↦ here

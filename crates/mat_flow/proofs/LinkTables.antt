@@ -65,7 +65,7 @@ pub record AreOwn (n : ℕ) (table : List (Option ℕ)) : Type 0 where
   pub long : length table ≡ n
   pub own : (v : ℕ) → v < n → entry_at table v ≡ Some v
 
-leads_to_itself : (arcs : List (ℕ × ℕ)) (v : ℕ) → leads_to arcs (Some v) v ≡ true
+pub leads_to_itself : (arcs : List (ℕ × ℕ)) (v : ℕ) → leads_to arcs (Some v) v ≡ true
 leads_to_itself arcs v = grind arith
 
 pub IsLinkTable-own : (n : ℕ) (arcs : List (ℕ × ℕ)) (sources targets : List ℕ) (table : List (Option ℕ)) → AreOwn n table

@@ -1,8 +1,7 @@
 -- The ends of a table's paths change along a walk of the residual graph: a vertex becomes an end beside the others, or in the place of one of
 -- them. Where no such walk leads to it, the reached vertices that are before no reached vertex, but for the end that gives way, meet each
 -- path to the changed ends, and they are fewer.
-use Rattle.std.proofs.Common.{◌≡◌, ℕ, zero, suc, ◌+◌, ◌<◌, ◌≤◌, ◌≢◌, Bool, true, false, not, ◌&&◌, eqb, List, [], ◌∷◌, length, get_or, map, Option, Some, None, ◌⊎◌, inl, inr, refl, sym, ap, ◌∙◌, subst, arith}
-use Rattle.std.proofs.Math.Numerals.{add-one}
+use Rattle.std.proofs.Common.{◌≡◌, ℕ, suc, ◌+◌, ◌<◌, ◌≤◌, ◌≢◌, Bool, true, false, not, ◌&&◌, eqb, List, [], ◌∷◌, length, get_or, map, Option, Some, None, ◌⊎◌, inl, inr, refl, sym, ap, ◌∙◌, subst, arith}
 use Rattle.std.proofs.lemmas.Bool.{and_from, both_ways, cases_Bool, eq-eqb, eqb-true, false_from_ne_true, false≢true, ne_eqb, or_cases, or_left, or_right}
 use Rattle.std.proofs.lemmas.List.{length-map, take_all}
 use Rattle.mat_sets.specs.Graphs.{ends_of}
@@ -10,15 +9,15 @@ use Rattle.mat_sets.specs.Sets.{is_member, with_one, without_one, AllBelow, IsRi
 use Rattle.mat_sets.specs.Walks.{IsReachedSet, IsShortestWalk, IsWalk}
 use Rattle.mat_sets.proofs.Cardinalities.{length-exchange_one, length-with_one, length-without_one}
 use Rattle.mat_sets.proofs.Ground.{AllBelow-from_members, AllBelow-member, AreDistinct-rising, IsSet-nil, below_member, length-distinct, length-distinct_subset}
-use Rattle.mat_sets.proofs.Members.{IsRising-nil, IsRising-union, IsRising-with_one, IsRising-without_one, is_member-get_or, is_member-head, is_member-with_one, is_member-without_one}
+use Rattle.mat_sets.proofs.Members.{IsRising-nil, IsRising-union, IsRising-with_one, IsRising-without_one, is_member-head, is_member-with_one, is_member-without_one}
 use Rattle.mat_sets.proofs.Reach.{walk_differs}
 use Rattle.mat_flow.specs.LinkTables.{entry_at, is_before, is_member_there, leads_to, one_if_none, residual_arc, residual_goal, starts_among, starts_in, HasEnds, IsShifted}
-use Rattle.mat_flow.specs.PathFamilies.{AreDistinct-ends, ends_of as all_ends, is_member-ends_of}
-use Rattle.mat_flow.specs.PathLaws.{at_most_a_separator}
+use Rattle.mat_flow.proofs.PathFamilyLaws.{AreDistinct-ends, ends_of as all_ends, is_member-ends_of}
+use Rattle.mat_flow.proofs.PathLaws.{at_most_a_separator}
 use Rattle.mat_flow.specs.Paths.{first_of, has_arc, last_of, HasPathsToEach, IsPath, IsSeparator}
-use Rattle.mat_flow.specs.SimplePaths.{ArePathsApart-disjoint}
+use Rattle.mat_flow.proofs.SimplePathLaws.{ArePathsApart-disjoint}
 use Rattle.mat_flow.proofs.Augmenting.{gone_free, source_comes, starts_in-shifted, stays_free, IsComing, IsLinkTable-shifted}
-use Rattle.mat_flow.proofs.Frontiers.{is_before_gives, IsCutting, IsCutting-cut, IsCutting-skip}
+use Rattle.mat_flow.proofs.Frontiers.{is_before_gives, IsCutting, cut_so_far}
 use Rattle.mat_flow.proofs.LinkTables.{none_is_not_some, some_is_one, AreOwn, IsLinkTable-own}
 use Rattle.mat_flow.proofs.PathsOfTables.{paths_to_ends, shifted_table, starts_at_most}
 use Rattle.mat_flow.proofs.Rows.{head_below}
@@ -118,29 +117,6 @@ module _ (vertices : ℕ) (arcs : List (ℕ × ℕ)) (sources ends : List ℕ) (
 
 -- ---- where none leads there
 
--- of the reached vertices those that are before no reached one
-cutting : (before : List (Option ℕ)) (reached : List ℕ) → IsRising reached
-    → ((v w x : ℕ) → entry_at before v ≡ Some x → entry_at before w ≡ Some x → v ≡ w)
-    → ((v u : ℕ) → is_member v reached ≡ true → entry_at before v ≡ Some u → is_member u reached ≡ true) → (i : ℕ) → i ≤ length reached
-    → (rest : List ℕ) × IsCutting before reached i rest
-cutting before reached rises once closed zero l = (reached, record { rises = rises; members = λ x. alone (is_member x reached); size = refl })
-  where
-    alone : (a : Bool) → a ≡ (a && not false)
-    alone true = refl
-    alone false = refl
-cutting before reached rises once closed (suc i) l =
-    let p = cutting before reached rises once closed i (omega arith) in step p.0 p.1 (entry_at before (get_or reached i 0)) refl
-  where
-    step : (rest : List ℕ) → IsCutting before reached i rest → (entry : Option ℕ) → entry_at before (get_or reached i 0) ≡ entry
-        → (less : List ℕ) × IsCutting before reached (suc i) less
-    step rest k None e = (rest, subst (λ j. IsCutting before reached j rest) (add-one i) (IsCutting-skip before reached i rest (omega arith) e k))
-    step rest k (Some u) e = (
-      without_one rest u,
-      subst (λ j. IsCutting before reached j (without_one rest u)) (add-one i)
-          (IsCutting-cut before reached i u rest rises (omega arith) once
-          (closed (get_or reached i 0) u (is_member-get_or reached i _ (omega arith) refl) e) e k),
-    )
-
 -- a path from a reached vertex to a target meets a set, where each reached vertex is in it, or is no target and all arcs from it lead to reached ones
 met_along : (arcs : List (ℕ × ℕ)) (targets reached separator : List ℕ)
     → ((x : ℕ) → is_member x reached ≡ true → (is_member x separator ≡ true)
@@ -174,7 +150,7 @@ module _ (vertices : ℕ) (arcs : List (ℕ × ℕ)) (sources ends : List ℕ) (
   goes_back w u m e = closed w u m (h.table.below w u e) (ap (λ x. leads_to arcs x u) e ∙ or_left (eqb u u) (has_arc arcs u u) (eq-eqb u u refl))
 
   cut : (rest : List ℕ) × IsCutting before reached (length reached) rest
-  cut = cutting before reached set.rising h.table.once goes_back (length reached) (omega arith)
+  cut = cut_so_far before reached set.rising h.table.once goes_back (length reached) (omega arith)
 
   rest_member : (x : ℕ) → is_member x cut.0 ≡ (is_member x reached && not (is_before before reached x))
   rest_member x =
@@ -307,6 +283,15 @@ module _ (vertices : ℕ) (arcs : List (ℕ × ℕ)) (sources ends : List ℕ) (
       no_paths vertices arcs sources ends before h None v (with_one ends v) (IsReplaced-more ends v h.set.rising new) heads reached found.set
       (λ w m. found.starts w (AllBelow-member vertices sources w below m) m) (λ w l none. absurd (false≢true none)) found.closed
       (λ w m. there_alone v (entry_at before w) (sym (ap (λ b. residual_goal goal b w) same ∙ ap (λ g. residual_goal g before w) only) ∙ missed w m))
+
+-- a vertex to which such a walk leads is no end yet
+pub walk_to_no_end : (vertices : ℕ) (arcs : List (ℕ × ℕ)) (sources ends : List ℕ) (before : List (Option ℕ)) (v : ℕ) (goal : List ℕ) → goal ≡ with_one [] v
+    → HasEnds vertices arcs sources ends before → (read : List (Option ℕ)) (walk : List ℕ) → read ≡ before
+    → IsShortestWalk vertices (residual_arc arcs read) (λ w. is_member w sources) (residual_goal goal read) walk → is_member v ends ≡ false
+walk_to_no_end vertices arcs sources ends before v goal only h read walk same shortest =
+    let last = get_or walk shortest.walk.arcs 0 in
+    let found = sym (ap (λ b. residual_goal goal b last) same ∙ ap (λ g. residual_goal g before last) only) ∙ shortest.walk.last in
+    false_from_ne_true (is_member v ends) (λ old. h.free v last old (alone_there v (entry_at before last) found))
 
 -- the table without paths has no ends
 pub HasEnds-own : (n : ℕ) (arcs : List (ℕ × ℕ)) (sources : List ℕ) (table : List (Option ℕ)) → AreOwn n table

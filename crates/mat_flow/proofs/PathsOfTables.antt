@@ -10,8 +10,8 @@ use Rattle.mat_sets.proofs.Members.{IsRising-nil, IsRising-union}
 use Rattle.mat_sets.proofs.Subsets.{same_size_subset}
 use Rattle.mat_sets.proofs.Sums.{AllBelow-at}
 use Rattle.mat_flow.specs.LinkTables.{entry_at, one_if_none, starts_among, starts_in, HasEnds, IsLinkTable, IsShifted}
-use Rattle.mat_flow.specs.PathChoices.{ends_are_targets}
-use Rattle.mat_flow.specs.PathFamilies.{AreDistinct-ends, ends_of, is_member-ends_of}
+use Rattle.mat_flow.proofs.PathChoiceLaws.{ends_are_targets}
+use Rattle.mat_flow.proofs.PathFamilyLaws.{AreDistinct-ends, ends_of, is_member-ends_of}
 use Rattle.mat_flow.specs.Paths.{last_of, AreDisjointPaths, HasPathsToEach}
 use Rattle.mat_flow.specs.Trails.{AreTrails, IsReversed, IsTrail, IsTrailAmong}
 use Rattle.mat_flow.proofs.DisjointPaths.{AreDisjointPaths-trails, AreTrails-push, AreTrails-skip, starts_among-more}

@@ -1,16 +1,16 @@
 -- The entries that can be pushed on to a vertex v: v itself, and each u that leads to the place of one of them. Where the place of such an entry
 -- is a source, there is one path more, to v; where none is, an end can give way to v exactly where it is such an entry. For a walk that
 -- pushes entries on to v is a walk of the residual graph, read from its goal; each of the four ways is one induction along walks.
-use Rattle.std.proofs.Common.{◌≡◌, ℕ, ◌<◌, ◌≢◌, Bool, true, false, not, ◌+◌, ◌||◌, ◌&&◌, eqb, zero, suc, List, [], ◌∷◌, ◌++◌, length, get_or, take, Option, Some, None, inl, inr, refl, sym, ap, ◌∙◌, subst, arith}
-use Rattle.std.proofs.lemmas.Bool.{and_from, and_parts, both_ways, eq-eqb, eqb-true, false_from_ne_true, false≢true, ne_eqb, or_cases, or_left, or_right}
-use Rattle.std.proofs.Math.Numerals.{add-one}
+use Rattle.std.proofs.Common.{◌≡◌, ℕ, ◌<◌, ◌≢◌, Bool, true, false, not, ◌||◌, ◌&&◌, eqb, List, [], ◌∷◌, length, get_or, Option, Some, None, inl, inr, refl, sym, ap, ◌∙◌, subst, arith, zero, suc}
+use Rattle.std.proofs.lemmas.Bool.{and_from, and_parts, both_ways, eq-eqb, eqb-true, false_from_ne_true, false≢true, ne_eqb, or_cases, or_left, or_right, not-true, cases_Bool}
 use Rattle.std.proofs.lemmas.List.{get_or-map, length-map}
 use Rattle.mat_sets.specs.Graphs.{ends_of, IsGraph}
 use Rattle.mat_sets.specs.Sets.{is_member, with_one, without_one, AllBelow}
-use Rattle.mat_sets.specs.Walks.{IsReachedSet, IsShortestWalk}
+use Rattle.mat_sets.specs.Walks.{IsReachedSet, IsShortestWalk, IsWalk}
 use Rattle.mat_sets.proofs.Ground.{AllBelow-member, below_member}
-use Rattle.mat_sets.proofs.Members.{is_member-with_one}
+use Rattle.mat_sets.proofs.Members.{is_member-with_one, same_members, IsRising-nil, IsRising-with_one}
 use Rattle.mat_sets.proofs.Reach.{finite_reach, reached_by_induction, reached_set_exists, walk_stays_reached}
+use Rattle.mat_sets.proofs.Truths.{eqb-turned}
 use Rattle.mat_flow.specs.LinkTables.{entry_at, is_member_there, is_there, leads_to, residual_arc, residual_goal, HasEnds}
 use Rattle.mat_flow.specs.Paths.{has_arc, HasPathsToEach}
 use Rattle.mat_flow.specs.Reroutes.{reversed_arcs, AreReroutes, GiveWay}
@@ -18,7 +18,8 @@ use Rattle.mat_flow.specs.declared.reroutes.Reroutes.{Reroutes}
 use Rattle.mat_flow.specs.Trails.{IsReversed}
 use Rattle.mat_flow.proofs.Augmenting.{source_comes, IsComing}
 use Rattle.mat_flow.proofs.LinkedEnds.{no_paths, paths_by_walk, IsReplaced-exchange, IsReplaced-more}
-use Rattle.mat_flow.proofs.LinkTables.{entry_inside, none_is_not_some, some_is_one}
+use Rattle.mat_flow.proofs.LinkTables.{entry_inside, none_is_not_some, some_is_one, none_from}
+use Rattle.mat_flow.proofs.Frontiers.{there_is}
 
 -- a member that is there
 there : (entry : Option ℕ) (set : List ℕ) → is_member_there entry set ≡ true → (u : ℕ) × (entry ≡ Some u) × (is_member u set ≡ true)
@@ -30,20 +31,11 @@ led : (arcs : List (ℕ × ℕ)) (entry : Option ℕ) (w : ℕ) → leads_to arc
 led arcs None w h = absurd (false≢true h)
 led arcs (Some u) w h = (u, refl, h)
 
--- it is v
-is_there_gives : (v : ℕ) (entry : Option ℕ) → is_there v entry ≡ true → entry ≡ Some v
-is_there_gives v None h = absurd (false≢true h)
-is_there_gives v (Some u) h = ap Some (sym (eqb-true v u h))
-
 is_there_from : (v : ℕ) (entry : Option ℕ) → entry ≡ Some v → is_there v entry ≡ true
 is_there_from v entry e = ap (is_there v) e ∙ eq-eqb v v refl
 
 only_one : (u v : ℕ) → is_member u (with_one [] v) ≡ true → eqb u v ≡ true
 only_one u v m = elim (or_cases (eqb u v) false (sym (is_member-with_one u v []) ∙ m)) [ inl same ↦ same | inr none ↦ absurd (false≢true none) ]
-
-not_false : (a : Bool) → not a ≡ true → a ≡ false
-not_false true h = absurd (false≢true h)
-not_false false h = refl
 
 -- a vertex stands in its place
 pub placed : (before after : List (Option ℕ)) → IsReversed before after
@@ -92,7 +84,7 @@ module _ (vertices : ℕ) (arcs back : List (ℕ × ℕ)) (sources ends : List �
     cold_step x u m l c a =
         let p = led back (entry_at after x) u a in
         let outside : is_member p.0 reached ≡ false = sym (ap (λ q. is_member_there q reached) p.1)
-        ∙ not_false _ (and_parts (not (is_member_there (entry_at after x) reached)) (not (hot x)) c).0 in
+        ∙ not-true _ (and_parts (not (is_member_there (entry_at after x) reached)) (not (hot x)) c).0 in
         let small = place_below x p.0 p.1 in
         let leads : leads_to arcs (Some u) p.0 ≡ true = sym (opposite u p.0) ∙ p.2 in
         cold_from u
@@ -105,7 +97,7 @@ module _ (vertices : ℕ) (arcs back : List (ℕ × ℕ)) (sources ends : List �
     stays_cold u m =
         let c = and_parts (not (is_member_there (entry_at after u) reached)) (not (hot u))
         (reached_by_induction pushes cold push cold_start cold_step u m) in
-        (not_false _ c.0, not_false _ c.1)
+        (not-true _ c.0, not-true _ c.1)
 
   -- ---- where nothing that starts is pushed on to v, v is not reached
 
@@ -122,13 +114,13 @@ module _ (vertices : ℕ) (arcs back : List (ℕ × ℕ)) (sources ends : List �
     free_step : (w y : ℕ) → is_member w reached ≡ true → y < vertices → free w ≡ true → residual_arc arcs before w y ≡ true → free y ≡ true
     free_step w y m l f a = free_from y (λ x e k.
         let u = led arcs (entry_at before w) y a in
-        both_ways (is_member u.0 pushes) (sym (ap (λ q. is_member_there q pushes) u.1) ∙ not_false _ f)
+        both_ways (is_member u.0 pushes) (sym (ap (λ q. is_member_there q pushes) u.1) ∙ not-true _ f)
         (push.closed x u.0 k (h.table.below w u.0 u.1) (pushed x u.0 y (in_place y x e) u.2)))
 
     stays_missed : (w : ℕ) → is_member w reached ≡ true → entry_at before w ≢ Some v
     stays_missed w m e =
         both_ways (is_member v pushes) (sym (ap (λ q. is_member_there q pushes) e)
-        ∙ not_false _ (reached_by_induction reached free reach (λ y l s. free_from y (λ u. apart y u l s)) free_step w m))
+        ∙ not-true _ (reached_by_induction reached free reach (λ y l s. free_from y (λ u. apart y u l s)) free_step w m))
         (push.starts v (h.table.below w v e) (is_member-with_one v v [] ∙ or_left (eqb v v) false (eq-eqb v v refl)))
 
   -- ---- one path more
@@ -142,7 +134,7 @@ module _ (vertices : ℕ) (arcs back : List (ℕ × ℕ)) (sources ends : List �
         elim (finite_reach vertices (residual_arc arcs before) start goal) [
           | inl q ↦ paths_by_walk vertices arcs sources ends before h None v (with_one ends v) (IsReplaced-more ends v h.set.rising new) start goal q.0 q.1
               (source_comes vertices arcs sources before (get_or q.0 0 0) q.1.walk.first)
-              (is_there_gives v (entry_at before (get_or q.0 q.1.walk.arcs 0)) q.1.walk.last)
+              (there_is v (entry_at before (get_or q.0 q.1.walk.arcs 0)) q.1.walk.last)
           | inr q ↦ (let p = reached_set_exists vertices (residual_arc back after) (λ u. is_member u (with_one [] v)) in
               let w = found.walk in
               let last = get_or walk w.arcs 0 in
@@ -186,7 +178,7 @@ module _ (vertices : ℕ) (arcs back : List (ℕ × ℕ)) (sources ends : List �
             elim (finite_reach vertices (residual_arc arcs before) start goal) [
               | inl q ↦ paths_by_walk vertices arcs sources ends before h (Some e) v (with_one (without_one ends e) v)
                   (IsReplaced-exchange ends e v h.set.rising old new) start goal q.0 q.1 (end_comes (get_or q.0 0 0) q.1.walk.first)
-                  (is_there_gives v (entry_at before (get_or q.0 q.1.walk.arcs 0)) q.1.walk.last)
+                  (there_is v (entry_at before (get_or q.0 q.1.walk.arcs 0)) q.1.walk.last)
               | inr q ↦
                   absurd (both_ways (eqb e e) (stays_cold start q.0 pushes q.1 q.2 push (λ u. eqb u e)
                   (ne_eqb v e (λ same. both_ways (is_member v ends) new (ap (λ y. is_member y ends) same ∙ old)))
@@ -207,13 +199,6 @@ module _ (vertices : ℕ) (arcs back : List (ℕ × ℕ)) (sources ends : List �
             ]))
 
 -- ---- the arcs, turned round
-
-pub reversed_arcs-more : (arcs : List (ℕ × ℕ)) (i : ℕ) → i < length arcs
-    → reversed_arcs (take (i + 1) arcs) ≡ reversed_arcs (take i arcs) ++ ((ends_of arcs i).1, (ends_of arcs i).0) ∷ []
-reversed_arcs-more [] i l = absurd (omega arith)
-reversed_arcs-more (arc ∷ arcs) zero l = refl
-reversed_arcs-more (arc ∷ arcs) (suc i) l =
-    rw (add-one (suc i)) (ap (λ t. (arc.1, arc.0) ∷ t) (rw (add-one i) at (reversed_arcs-more arcs i (omega arith))))
 
 pub IsGraph-reversed : (vertices : ℕ) (arcs : List (ℕ × ℕ)) → IsGraph vertices arcs → IsGraph vertices (reversed_arcs arcs)
 IsGraph-reversed vertices arcs g =
@@ -236,13 +221,10 @@ has_arc-reversed (arc ∷ arcs) u w =
 
 -- from w one leads back to u exactly where from u one leads to w
 opposite_ways : (arcs : List (ℕ × ℕ)) (u w : ℕ) → leads_to (reversed_arcs arcs) (Some w) u ≡ leads_to arcs (Some u) w
-opposite_ways arcs u w = same_either (eqb u w) (eqb w u) _ _ (turned_eq u w) (has_arc-reversed arcs u w)
+opposite_ways arcs u w = same_either (eqb u w) (eqb w u) _ _ (eqb-turned u w) (has_arc-reversed arcs u w)
   where
     same_either : (a b c d : Bool) → a ≡ b → c ≡ d → (a || c) ≡ (b || d)
     same_either a b c d e f = grind arith
-
-    turned_eq : (u w : ℕ) → eqb u w ≡ eqb w u
-    turned_eq u w = grind arith
 
 -- ---- what the code reads
 
@@ -255,8 +237,7 @@ module _ (vertices : ℕ) (arcs : List (ℕ × ℕ)) (sources ends : List ℕ) (
     λ x w e. (let inside = entry_inside k.before w x (k.turned.turned x w e) in let b = k.table.table.long in let c = k.back_vertices in omega arith),
   )
 
-  module _ (v : ℕ) (new : is_member v ends ≡ false) (starts : List ℕ) (only : starts ≡ with_one [] v) (read : List (Option ℕ))
-      (same : read ≡ kept.after.items) where
+  module _ (v : ℕ) (starts : List ℕ) (only : starts ≡ with_one [] v) (read : List (Option ℕ)) (same : read ≡ kept.after.items) where
     read_so : (P : ℕ → List (ℕ × ℕ) → List (Option ℕ) → List ℕ → Type 0) → P kept.back.vertices kept.back.arcs read starts
         → P vertices (reversed_arcs arcs) kept.after.items (with_one [] v)
     read_so P h =
@@ -264,35 +245,75 @@ module _ (vertices : ℕ) (arcs : List (ℕ × ℕ)) (sources ends : List ℕ) (
         (subst (λ r. P vertices (reversed_arcs arcs) r starts) same
         (subst (λ b. P vertices b read starts) k.back_arcs (subst (λ n. P n kept.back.arcs read starts) k.back_vertices h)))
 
-    pub walk_tells : (walk : List ℕ) → IsShortestWalk kept.back.vertices (residual_arc kept.back.arcs read) (λ w. is_member w starts)
-        (residual_goal sources read) walk
-        → HasPathsToEach arcs sources (with_one ends v)
-    walk_tells walk found =
-        more_by_push vertices arcs (reversed_arcs arcs) sources ends k.before kept.after.items (opposite_ways arcs) k.turned k.table v new k.inside walk
-        (read_so (λ n b r s. IsShortestWalk n (residual_arc b r) (λ w. is_member w s) (residual_goal sources r) walk) found)
+    -- ---- where v is an end, it has no place, and so nothing more is reached
 
-    pub reached_tells : (reached : List ℕ) → IsReachedSet kept.back.vertices (residual_arc kept.back.arcs read) (λ w. is_member w starts) reached
-        → ((x : ℕ) → is_member x reached ≡ true → residual_goal sources read x ≡ false) → GiveWay arcs sources ends v reached
-    reached_tells reached reach missed =
-        let push = read_so (λ n b r s. IsReachedSet n (residual_arc b r) (λ w. is_member w s) reached) reach in
-        let none : (x : ℕ) → is_member x reached ≡ true → residual_goal sources kept.after.items x ≡ false =
-        λ x m. sym (ap (λ r. residual_goal sources r x) same) ∙ missed x m in
-        let back = reversed_arcs arcs in
-        let after = kept.after.items in
-        record {
-          none_more = none_more vertices arcs back sources ends k.before after (opposite_ways arcs) k.turned k.table v new k.inside k.graph.second reached
-              push none;
-          give_way = λ e old. (
-            gives_way vertices arcs back sources ends k.before after (opposite_ways arcs) k.turned k.table v new k.inside k.graph.second reached push none
-                e old,
-            λ p. by_cases e old p (is_member e reached) refl
-                (holds_out vertices arcs back sources ends k.before after (opposite_ways arcs) k.turned k.table v new k.inside k.graph.second reached push
-                none e old),
-          );
-        }
-      where
-        by_cases : (e : ℕ) → is_member e ends ≡ true → HasPathsToEach arcs sources (with_one (without_one ends e) v) → (b : Bool)
-            → is_member e reached ≡ b
-            → (is_member e reached ≡ false → HasPathsToEach arcs sources (with_one (without_one ends e) v) → ⊥) → is_member e reached ≡ true
-        by_cases e old p true is out = is
-        by_cases e old p false is out = absurd (out is p)
+    module _ (old : is_member v ends ≡ true) where
+      no_place : (x : ℕ) → x ≡ v → entry_at kept.after.items x ≡ None
+      no_place x e =
+          ap (entry_at kept.after.items) e
+          ∙ none_from (entry_at kept.after.items v) (λ w at. k.table.free v w old (k.turned.turned v w at))
+
+      nowhere : (x w : ℕ) → x ≡ v → residual_arc (reversed_arcs arcs) kept.after.items x w ≡ true → ⊥
+      nowhere x w e a = false≢true (sym (ap (λ p. leads_to (reversed_arcs arcs) p w) (no_place x e)) ∙ a)
+
+      walks_nowhere : (walk : List ℕ) (steps : ℕ) (w : IsWalk vertices (residual_arc (reversed_arcs arcs) kept.after.items)
+          (λ u. is_member u (with_one [] v)) (residual_goal sources kept.after.items) walk) → w.arcs ≡ steps → ⊥
+      walks_nowhere walk zero w e =
+          let at = eqb-true (get_or walk 0 0) v (only_one (get_or walk 0 0) v w.first) in
+          false≢true (sym (ap (λ p. is_member_there p sources) (no_place (get_or walk 0 0) at))
+          ∙ subst (λ i. residual_goal sources kept.after.items (get_or walk i 0) ≡ true) e w.last)
+      walks_nowhere walk (suc steps) w e =
+          let at = eqb-true (get_or walk 0 0) v (only_one (get_or walk 0 0) v w.first) in
+          nowhere (get_or walk 0 0) (get_or walk 1 0) at (w.steps 0 (let long = w.long in omega arith))
+
+      pub no_walk_from_end : (walk : List ℕ) → IsShortestWalk kept.back.vertices (residual_arc kept.back.arcs read) (λ w. is_member w starts)
+          (residual_goal sources read) walk → ⊥
+      no_walk_from_end walk found =
+          let w = read_so (λ n b r s. IsShortestWalk n (residual_arc b r) (λ w. is_member w s) (residual_goal sources r) walk) found in
+          walks_nowhere walk w.walk.arcs w.walk refl
+
+      pub only_the_end : (reached : List ℕ) → IsReachedSet kept.back.vertices (residual_arc kept.back.arcs read) (λ w. is_member w starts) reached
+          → reached ≡ with_one [] v
+      only_the_end reached reach =
+          let push = read_so (λ n b r s. IsReachedSet n (residual_arc b r) (λ w. is_member w s) reached) reach in
+          let all : (x : ℕ) → is_member x reached ≡ true → eqb x v ≡ true =
+          reached_by_induction reached (λ u. eqb u v) push (λ u l m. only_one u v m) (λ x u m l is a. absurd (nowhere x u (eqb-true x v is) a)) in
+          same_members reached (with_one [] v) push.set.rising (IsRising-with_one [] v IsRising-nil) (λ x. elim (cases_Bool (is_member x reached)) [
+            | inl m ↦ m ∙ sym (is_member-with_one x v [] ∙ or_left (eqb x v) false (all x m))
+            | inr out ↦ out ∙ sym (false_from_ne_true _ (λ m. both_ways (is_member x reached) out
+                (push.starts x (subst (λ u. u < vertices) (sym (eqb-true x v (only_one x v m))) (below_member k.table.set old)) m)))
+          ])
+
+    module _ (new : is_member v ends ≡ false) where
+      pub walk_tells : (walk : List ℕ) → IsShortestWalk kept.back.vertices (residual_arc kept.back.arcs read) (λ w. is_member w starts)
+          (residual_goal sources read) walk
+          → HasPathsToEach arcs sources (with_one ends v)
+      walk_tells walk found =
+          more_by_push vertices arcs (reversed_arcs arcs) sources ends k.before kept.after.items (opposite_ways arcs) k.turned k.table v new k.inside walk
+          (read_so (λ n b r s. IsShortestWalk n (residual_arc b r) (λ w. is_member w s) (residual_goal sources r) walk) found)
+
+      pub reached_tells : (reached : List ℕ) → IsReachedSet kept.back.vertices (residual_arc kept.back.arcs read) (λ w. is_member w starts) reached
+          → ((x : ℕ) → is_member x reached ≡ true → residual_goal sources read x ≡ false) → GiveWay arcs sources ends v reached
+      reached_tells reached reach missed =
+          let push = read_so (λ n b r s. IsReachedSet n (residual_arc b r) (λ w. is_member w s) reached) reach in
+          let none : (x : ℕ) → is_member x reached ≡ true → residual_goal sources kept.after.items x ≡ false =
+          λ x m. sym (ap (λ r. residual_goal sources r x) same) ∙ missed x m in
+          let back = reversed_arcs arcs in
+          let after = kept.after.items in
+          record {
+            none_more = none_more vertices arcs back sources ends k.before after (opposite_ways arcs) k.turned k.table v new k.inside k.graph.second reached
+                push none;
+            give_way = λ e old. (
+              gives_way vertices arcs back sources ends k.before after (opposite_ways arcs) k.turned k.table v new k.inside k.graph.second reached push none
+                  e old,
+              λ p. by_cases e old p (is_member e reached) refl
+                  (holds_out vertices arcs back sources ends k.before after (opposite_ways arcs) k.turned k.table v new k.inside k.graph.second reached push
+                  none e old),
+            );
+          }
+        where
+          by_cases : (e : ℕ) → is_member e ends ≡ true → HasPathsToEach arcs sources (with_one (without_one ends e) v) → (b : Bool)
+              → is_member e reached ≡ b
+              → (is_member e reached ≡ false → HasPathsToEach arcs sources (with_one (without_one ends e) v) → ⊥) → is_member e reached ≡ true
+          by_cases e old p true is out = is
+          by_cases e old p false is out = absurd (out is p)

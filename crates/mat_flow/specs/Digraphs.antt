@@ -1,6 +1,7 @@
 -- Directed graphs, and the rows that tell quickly where arcs lead (Schrijver, chapter 3).
-use Rattle.std.specs.Prelude.{◌≡◌, ℕ, ◌<◌, ◌||◌, ◌==◌, List, [], length, slice_index_or}
+use Rattle.std.specs.Prelude.{◌≡◌, ℕ, ◌<◌, ◌||◌, ◌==◌, List, length}
 use Rattle.mat_sets.specs.Graphs.{IsGraph}
+use Rattle.mat_sets.specs.Rows.{row_at}
 use Rattle.mat_sets.specs.Sets.{is_member}
 use Rattle.mat_flow.specs.Paths.{has_arc}
 
@@ -8,10 +9,6 @@ use Rattle.mat_flow.specs.Paths.{has_arc}
 pub record DirectedGraph : Type 0 where
   pub vertices : ℕ
   pub arcs : List (ℕ × ℕ)
-
--- the set at a place, or none
-abbrev pub row_at : List (List ℕ) → ℕ → List ℕ
-row_at rows u = slice_index_or rows u []
 
 -- the row of each vertex has the vertex itself and the heads of the arcs that leave it
 pub record AreRows (vertices : ℕ) (arcs : List (ℕ × ℕ)) (rows : List (List ℕ)) : Type 0 where

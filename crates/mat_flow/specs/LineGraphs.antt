@@ -4,7 +4,7 @@ use Rattle.std.specs.Prelude.{◌≡◌, ℕ, ◌<◌, Bool, false, not, ◌&&�
 use Rattle.std.specs.List.{filter}
 use Rattle.mat_sets.specs.Search.{those_below}
 use Rattle.mat_sets.specs.Sets.{all_below, is_member}
-use Rattle.mat_flow.specs.Digraphs.{row_at}
+use Rattle.mat_sets.specs.Rows.{row_at}
 use Rattle.mat_flow.specs.LinkTables.{entry_at}
 
 -- the live arcs that leave a vertex

@@ -2,7 +2,7 @@
 -- starts at it. Such a table is a matching of the vertices with themselves and with the tails of the arcs that enter them; one path more is
 -- an augmenting path of that matching (Schrijver, chapters 9 and 16).
 use Rattle.std.specs.Prelude.{◌≡◌, ◌≢◌, ℕ, zero, suc, ◌+◌, ◌<◌, Bool, true, false, not, ◌&&◌, ◌||◌, ◌==◌, List, [], ◌∷◌, length, slice_index, slice_index_or, Option, Some, None}
-use Rattle.mat_sets.specs.Sets.{is_member, IsSet}
+use Rattle.mat_sets.specs.Sets.{is_member, with_one, IsSet}
 use Rattle.mat_flow.specs.Paths.{has_arc}
 
 -- the vertex that the table has at v
@@ -58,6 +58,17 @@ pub record HasEnds (vertices : ℕ) (arcs : List (ℕ × ℕ)) (sources ends : L
   pub table : IsLinkTable vertices arcs sources ends before
   pub free : (u v : ℕ) → is_member u ends ≡ true → entry_at before v ≢ Some u
   pub count : starts_in before ≡ length ends
+
+-- a set, and with it the vertex that there is
+abbrev pub with_there : List ℕ → Option ℕ → List ℕ
+with_there set None = set
+with_there set (Some u) = with_one set u
+
+-- a table whose paths end at exactly the vertices of this set and at another vertex, to which what is left of a path leads, or none is left
+pub record HasPathLeft (vertices : ℕ) (arcs : List (ℕ × ℕ)) (sources rest : List ℕ) (left : Option ℕ) (before : List (Option ℕ)) : Type 0 where
+  pub set : IsSet vertices rest
+  pub other : (u : ℕ) → left ≡ Some u → is_member u rest ≡ false
+  pub linked : HasEnds vertices arcs sources (with_there rest left) before
 
 -- the entry of the vertex before place k of a walk, and at its first place what comes to it
 abbrev pub entry_before : Option ℕ → List (Option ℕ) → List ℕ → ℕ → Option ℕ

@@ -1,8 +1,8 @@
 //! Paths from one vertex to another that share no arc, or a cut that few live arcs enter.
-ghost use Rattle.std.specs.Prelude.{◌≡◌, ◌≢◌, ◌<◌, ℕ, Some, length, IfOk};
+ghost use Rattle.std.specs.Prelude.{◌≡◌, ◌≢◌, ◌<◌, ◌↔◌, ℕ, true, Some, length, IfOk};
 ghost use Rattle.mat_sets.specs.Graphs.{ends_of, IsGraph};
 ghost use Rattle.mat_sets.specs.Sets.{AllBelow, IsSet};
-ghost use Rattle.mat_flow.specs.ArcAnswers.{IsArcAnswer};
+ghost use Rattle.mat_flow.specs.ArcAnswers.{is_arc_cut, HasNoArcPaths, IsArcAnswer};
 ghost use Rattle.mat_flow.specs.LineGraphs.{AreLeaving, IsLeftOut};
 ghost use Rattle.mat_flow.specs.LinkTables.{entry_at};
 
@@ -12,7 +12,7 @@ use crate::digraph::Digraph;
 use crate::link_table::{no_links, shift_along};
 use crate::trails::{after_table, paths_among};
 use crate::walk::Walk;
-use mat_sets::{BitSet, ElemSet, WalkSearch, shortest_walk};
+use mat_sets::{BitRows, ElemSet, WalkSearch, shortest_walk};
 use std::alloc::{AllocError, Global};
 
 /// So many paths that share no arc, or the cut that shows that there are not so many.
@@ -30,18 +30,14 @@ fn leaving_rows(
     vertices: u32,
     arcs: &[(u32, u32)],
     live: &[u32],
-) -> Result<Vec<BitSet>, AllocError>
+) -> Result<BitRows, AllocError>
     requires graph { IsGraph vertices arcs.now }
     requires live { AllBelow (length arcs.now) live.now }
-    ensures { IfOk result (λ rows. AreLeaving vertices (ends_of arcs.now) live.now rows.items) }
+    ensures { IfOk result (λ rows. AreLeaving vertices (ends_of arcs.now) live.now rows) }
 {
-    let mut rows = Vec::new(alloc);
-    for _ in 0..vertices {
-        rows.push(BitSet::new(alloc))?;
-    }
+    let mut rows = BitRows::with_rows(alloc, vertices, 0)?;
     for a in live {
-        let tail = arcs[*a as usize].0;
-        rows[tail as usize].insert(*a)?;
+        rows.insert(arcs[*a as usize].0, *a)?;
     }
     Ok(rows)
 }
@@ -82,7 +78,8 @@ fn left_out(
 }
 
 /// `want` paths from one vertex to another over live arcs that share no arc, by shortest augmenting walks from arc to arc; or a vertex
-/// set with the end and without the start that fewer than `want` live arcs enter (Menger's theorem for arcs; Schrijver, chapter 9).
+/// set with the end and without the start that fewer than `want` live arcs enter (Menger's theorem for arcs; Schrijver, chapter 9): the
+/// set comes exactly where there are not so many paths.
 /// There is one search for each path, and each looks at an arc once. The only error is want of memory.
 pub fn arc_paths(
     alloc: Global,
@@ -96,7 +93,8 @@ pub fn arc_paths(
     requires from { from < graph.now.vertices }
     requires to { to < graph.now.vertices }
     requires differ { from ≢ to }
-    ensures { IfOk result (IsArcAnswer graph.now.vertices (ends_of graph.now.arcs) live.now from to want) }
+    ensures right { IfOk result (IsArcAnswer graph.now.vertices (ends_of graph.now.arcs) live.now from to want) }
+    ensures cut { IfOk result (λ answer. (is_arc_cut answer ≡ true) ↔ HasNoArcPaths (ends_of graph.now.arcs) live.now from to want) }
 {
     let arcs = graph.arcs().as_slice();
     let count = arcs.len() as u32;

@@ -4,7 +4,7 @@ ghost use Rattle.mat_sets.specs.Search.{IsNextFrom};
 ghost use Rattle.mat_sets.specs.Sets.{is_member};
 
 use crate::digraph::Digraph;
-use mat_sets::{BitSet, ElemSet, Relation};
+use mat_sets::{BitRows, BitSet, ElemSet, Relation};
 
 /// The residual graph of the line graph of the live arcs, whose vertices are the arcs: starts are the live arcs that leave `from`, and
 /// goals the arcs with an arc to `to` before them.
@@ -13,7 +13,7 @@ pub(crate) struct ArcResidual<'a> {
     pub(crate) graph: &'a Digraph,
     pub(crate) live: &'a ElemSet,
     // For each vertex the live arcs that leave it.
-    pub(crate) leaving: &'a [BitSet],
+    pub(crate) leaving: &'a BitRows,
     pub(crate) from: u32,
     pub(crate) to: u32,
     pub(crate) before: &'a [Option<u32>],
@@ -58,7 +58,7 @@ impl Relation for ArcResidual<'_> {
     }
 
     fn is_start(&self, a: u32) -> bool {
-        self.leaving[self.from as usize].contains(a)
+        self.leaving.row(self.from).contains(a)
     }
 
     fn is_goal(&self, a: u32) -> bool {
@@ -72,7 +72,7 @@ impl Relation for ArcResidual<'_> {
         match self.before[a as usize] {
             Some(u) => {
                 let head = self.graph.arcs().get(u as usize).1;
-                next_of(u, &self.leaving[head as usize], among, from)
+                next_of(u, self.leaving.row(head), among, from)
             }
             None => None,
         }

@@ -5,7 +5,7 @@ ghost use Rattle.mat_sets.specs.Sets.{is_member};
 ghost use Rattle.mat_flow.specs.Digraphs.{AreRows};
 ghost use Rattle.mat_flow.specs.Paths.{has_arc};
 
-use mat_sets::{BitSet, Pairs};
+use mat_sets::{BitRows, BitSet, Pairs};
 use std::alloc::{AllocError, Global};
 use std::marker::Model;
 
@@ -16,7 +16,7 @@ pub struct Digraph {
     vertices: u32,
     arcs: Pairs,
     // At u the vertex u itself and the heads of the arcs that leave it.
-    rows: Vec<BitSet>,
+    rows: BitRows,
 }
 
 impl Model for Digraph {
@@ -26,31 +26,29 @@ impl Model for Digraph {
 
     ghost view = { λ g. record { vertices = g.vertices; arcs = g.arcs } };
 
-    ghost invariant = { λ g. IsAdjacency g.vertices g.arcs g.rows.items };
+    ghost invariant = { λ g. IsAdjacency g.vertices g.arcs g.rows };
 }
 
 // The rows of the graph without arcs.
-fn lone_rows(alloc: Global, vertices: u32) -> Result<Vec<BitSet>, AllocError>
-    ensures { IfOk result (λ rows. AreRows vertices [] rows.items) }
+fn lone_rows(alloc: Global, vertices: u32) -> Result<BitRows, AllocError>
+    ensures { IfOk result (λ rows. AreRows vertices [] rows) }
 {
-    let mut rows = Vec::new(alloc);
+    let mut rows = BitRows::with_rows(alloc, vertices, vertices)?;
     for u in 0..vertices {
-        let mut row = BitSet::with_capacity(alloc, vertices)?;
-        row.insert(u)?;
-        rows.push(row)?;
+        rows.insert(u, u)?;
     }
     Ok(rows)
 }
 
 // The rows of a graph.
-fn rows_of(alloc: Global, vertices: u32, arcs: &[(u32, u32)]) -> Result<Vec<BitSet>, AllocError>
+fn rows_of(alloc: Global, vertices: u32, arcs: &[(u32, u32)]) -> Result<BitRows, AllocError>
     requires { IsGraph vertices arcs.now }
-    ensures { IfOk result (λ rows. AreRows vertices arcs.now rows.items) }
+    ensures { IfOk result (λ rows. AreRows vertices arcs.now rows) }
 {
     let mut rows = lone_rows(alloc, vertices)?;
     for i in 0..arcs.len() {
         let (tail, head) = arcs[i];
-        rows[tail as usize].insert(head)?;
+        rows.insert(tail, head)?;
     }
     Ok(rows)
 }
@@ -91,6 +89,6 @@ impl Digraph {
         requires { u < self.now.vertices }
         ensures { (v : ℕ) → is_member v result.now ≡ (v == u || has_arc self.now.arcs u v) }
     {
-        &self.rows[u as usize]
+        self.rows.row(u)
     }
 }

@@ -1,7 +1,7 @@
 //! The table of the vertex before each vertex, which holds disjoint paths, and how it takes one path more.
 ghost use Rattle.std.specs.Prelude.{◌≡◌, ◌≢◌, ◌<◌, ◌↔◌, ℕ, List, [], Some, true, false, if◌then◌else◌, length, slice_index, IfOk, OnErr};
-ghost use Rattle.mat_sets.specs.Sets.{is_member, with_one, AllBelow};
-ghost use Rattle.mat_flow.specs.LinkTables.{entry_at, IsShifted};
+ghost use Rattle.mat_sets.specs.Sets.{is_member, with_one, without_one, AllBelow};
+ghost use Rattle.mat_flow.specs.LinkTables.{entry_at, HasEnds, HasPathLeft, IsShifted};
 ghost use Rattle.mat_flow.specs.LinkedEnds.{IsLinkedTo};
 ghost use Rattle.mat_flow.specs.Paths.{HasPathsToEach};
 
@@ -26,6 +26,24 @@ impl LinkTable {
         Ok(LinkTable { before })
     }
 
+    /// An equal table. The only error is want of memory.
+    pub fn copy(&self, alloc: Global) -> Result<LinkTable, AllocError>
+        ensures { IfOk result (λ links. links.before.items ≡ self.now.before.items) }
+    {
+        let before = Vec::from_slice(alloc, &self.before)?;
+        Ok(LinkTable { before })
+    }
+
+    /// Takes the path to an end out, which is an end no more. It takes no memory.
+    pub fn unlink(&mut self, v: u32)
+        requires { (vertices : ℕ) × (arcs : List (ℕ × ℕ)) × (sources : List ℕ) × (ends : List ℕ)
+            × (is_member v ends ≡ true) × IsLinkedTo vertices arcs sources ends self.old }
+        ensures { (vertices : ℕ) (arcs : List (ℕ × ℕ)) (sources ends : List ℕ) → IsLinkedTo vertices arcs sources ends self.old
+            → is_member v ends ≡ true → IsLinkedTo vertices arcs sources (without_one ends v) self.new }
+    {
+        take_path_out(&mut self.before, v);
+    }
+
     /// The vertex before each vertex.
     pub(crate) fn before(&self) -> &[Option<u32>]
         ensures { result.now ≡ self.now.before.items }
@@ -33,8 +51,8 @@ impl LinkTable {
         &self.before
     }
 
-    /// Makes v an end beside the present ones, where disjoint paths lead from the sources to all of them and to v, and tells
-    /// whether there are such paths: one search for an augmenting walk (Schrijver, chapters 9 and 16). After an error nothing
+    /// Makes v an end beside the present ones, where it is none yet and disjoint paths lead from the sources to all of them and to v,
+    /// and tells whether that is so: one search for an augmenting walk (Schrijver, chapters 9 and 16). After an error nothing
     /// has changed. The only error is want of memory.
     pub fn link(
         &mut self,
@@ -46,10 +64,9 @@ impl LinkTable {
         requires sources { AllBelow graph.now.vertices sources.now }
         requires paths { (ends : List ℕ) × IsLinkedTo graph.now.vertices graph.now.arcs sources.now ends self.old }
         ensures ends { IfOk result (λ found. (ends : List ℕ) → IsLinkedTo graph.now.vertices graph.now.arcs sources.now ends self.old
-            → is_member v ends ≡ false
             → IsLinkedTo graph.now.vertices graph.now.arcs sources.now (if found then with_one ends v else ends) self.new) }
         ensures answer { IfOk result (λ found. (ends : List ℕ) → IsLinkedTo graph.now.vertices graph.now.arcs sources.now ends self.old
-            → is_member v ends ≡ false → (found ≡ true) ↔ HasPathsToEach graph.now.arcs sources.now (with_one ends v)) }
+            → (found ≡ true) ↔ ((is_member v ends ≡ false) × HasPathsToEach graph.now.arcs sources.now (with_one ends v))) }
         ensures err { OnErr result (self.new ≡ self.old) }
     {
         let _ = graph.vertices();
@@ -68,6 +85,20 @@ impl LinkTable {
             }
             WalkSearch::Reached(_) => Ok(false),
         }
+    }
+}
+
+// Takes the path to v out of a table: each vertex of it has itself before it then.
+fn take_path_out(table: &mut Vec<Option<u32>>, v: u32)
+    requires { (vertices : ℕ) × (arcs : List (ℕ × ℕ)) × (sources : List ℕ) × (rest : List ℕ)
+        × HasPathLeft vertices arcs sources rest (Some v) table.old.items }
+    ensures { (vertices : ℕ) (arcs : List (ℕ × ℕ)) (sources rest : List ℕ) → HasPathLeft vertices arcs sources rest (Some v) table.old.items
+        → HasEnds vertices arcs sources rest table.new.items }
+{
+    let mut left = Some(v);
+    while let Some(u) = left {
+        left = table[u as usize];
+        table[u as usize] = Some(u);
     }
 }
 

@@ -1,6 +1,6 @@
 //! Which ends of disjoint paths can give way to another vertex.
-ghost use Rattle.std.specs.Prelude.{◌≡◌, ℕ, List, false, IfOk};
-ghost use Rattle.mat_sets.specs.Sets.{is_member, AllBelow};
+ghost use Rattle.std.specs.Prelude.{◌≡◌, ℕ, List, [], true, false, Some, IfOk};
+ghost use Rattle.mat_sets.specs.Sets.{is_member, with_one, AllBelow};
 ghost use Rattle.mat_flow.specs.LinkedEnds.{IsLinkedTo};
 ghost use Rattle.mat_flow.specs.Reroutes.{reversed_arcs, AreReroutes, TellsWays};
 
@@ -47,8 +47,8 @@ impl Reroutes {
     }
 
     /// None where disjoint paths lead from the sources to all ends and to v; otherwise a set of vertices, of which the ends are
-    /// those that can give way to v: disjoint paths lead to the other ends and to v. One search, back from v, in what the paths
-    /// leave (Schrijver, chapters 9 and 16). The only error is want of memory.
+    /// those that can give way to v: disjoint paths lead to the other ends and to v. Where v is an end itself, the set is v alone.
+    /// One search, back from v, in what the paths leave (Schrijver, chapters 9 and 16). The only error is want of memory.
     pub fn giving_way(
         &self,
         alloc: Global,
@@ -56,8 +56,10 @@ impl Reroutes {
         v: u32,
     ) -> Result<Option<ElemSet>, AllocError>
         requires { (vertices : ℕ) × (arcs : List (ℕ × ℕ)) × (ends : List ℕ) × AreReroutes vertices arcs sources.now ends self.now }
-        ensures { IfOk result (λ ways. (vertices : ℕ) (arcs : List (ℕ × ℕ)) (ends : List ℕ) → AreReroutes vertices arcs sources.now ends self.now
+        ensures ways { IfOk result (λ ways. (vertices : ℕ) (arcs : List (ℕ × ℕ)) (ends : List ℕ) → AreReroutes vertices arcs sources.now ends self.now
             → is_member v ends ≡ false → TellsWays arcs sources.now ends v ways) }
+        ensures own { IfOk result (λ ways. (vertices : ℕ) (arcs : List (ℕ × ℕ)) (ends : List ℕ) → AreReroutes vertices arcs sources.now ends self.now
+            → is_member v ends ≡ true → ways ≡ Some (with_one [] v)) }
     {
         let mut starts = ElemSet::new(alloc);
         starts.add(v)?;

@@ -2,7 +2,7 @@
 -- Idea of the first: such a tree has at most |C| edges with colours of C, and its other edges are a forest among the others.
 -- Idea of the second: the edges of other colours lie outside the cut, so their rank is at most that of the rest, and the rank of the cut
 -- is at least the number of its colours.
-use Rattle.std.proofs.Common.{◌≡◌, ◌≢◌, ℕ, suc, ◌+◌, ◌<◌, ◌≤◌, Bool, true, false, not, ◌&&◌, ltb, List, length, sym, ap, ◌∙◌, arith}
+use Rattle.std.proofs.Common.{◌≡◌, ◌≢◌, ℕ, suc, ◌+◌, ◌<◌, ◌≤◌, true, false, not, ◌&&◌, ltb, List, length, sym, ap, ◌∙◌, arith}
 use Rattle.std.proofs.lemmas.Bool.{lt-ltb, and_parts, and_from, both_ways, false_from_ne_true, not-true}
 use Rattle.std.specs.List.{filter}
 use Rattle.mat_sets.specs.Sets.{is_member, IsRising, IsSet, IsSubset, all_below, minus}
@@ -14,7 +14,6 @@ use Rattle.mat_sets.proofs.Search.{IsSet-those_below, is_member-those_below}
 use Rattle.mat_sets.proofs.Subsets.{minus-IsSubset}
 use Rattle.mat_laws.specs.Ranks.{rank}
 use Rattle.mat_laws.specs.Ladders.{IsCut}
-use Rattle.mat_laws.specs.Matroids.{IsMatroid}
 use Rattle.mat_laws.proofs.RankLaws.{rank_is, rank-subset}
 use Rattle.mat_count.specs.Labels.{AreApart}
 use Rattle.mat_sets.proofs.OneToOne.{length-one_to_one}

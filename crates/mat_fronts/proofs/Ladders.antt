@@ -1,10 +1,11 @@
 -- What a ladder of the graphic matroid and of the colours tells.
-use Rattle.std.proofs.Common.{◌≡◌, ◌≢◌, ℕ, suc, ◌-◌, ◌<◌, ◌^◌, Bool, true, false, ◌||◌, List, [], ◌∷◌, length, get_or, map, replicate, ◌⊎◌, inl, inr, refl, sym, ap, ◌∙◌, subst, arith, pos}
-use Rattle.std.proofs.lemmas.Bool.{cases_eq, and_parts, and_from}
+use Rattle.std.proofs.Common.{◌≡◌, ◌≢◌, ℕ, suc, ◌-◌, ◌<◌, true, false, List, [], ◌∷◌, length, get_or, map, replicate, ◌⊎◌, inl, inr, refl, sym, ap, ◌∙◌, subst, arith, pos}
+use Rattle.std.proofs.lemmas.Bool.{cases_eq, and_parts, and_from, or_left}
 use Rattle.std.proofs.lemmas.Int.{ints}
 use Rattle.std.proofs.lemmas.List.{length-replicate, length-map}
 use Rattle.std.proofs.lemmas.List.Elements.{All-replicate}
 use Rattle.std.proofs.lemmas.Option.{slice_get-get_or}
+use Rattle.mat_sets.specs.Limits.{largest_weight}
 use Rattle.mat_sets.specs.Sets.{is_member, IsRising, union}
 use Rattle.mat_sets.specs.SetTests.{is_set}
 use Rattle.mat_sets.specs.Sums.{IsWithin}
@@ -24,6 +25,7 @@ use Rattle.mat_graphic.specs.ForestLaws.{graphic_laws, IsForest-from_test, test_
 use Rattle.mat_graphic.proofs.ComponentCounts.{rank_and_number}
 use Rattle.mat_graphic.proofs.ForestSizes.{some_component}
 use Rattle.mat_sets.proofs.Subsets.{IsSubset-refl}
+use Rattle.mat_sets.proofs.Truths.{or_none}
 use Rattle.mat_split.specs.Ladders.{IsBoundedRung, IsLadder}
 use Rattle.mat_split.specs.declared.ladder.Rung.{Rung}
 use Rattle.mat_split.proofs.LaddersExist.{ladder_exists}
@@ -125,17 +127,9 @@ module _ (vertices : ℕ) (edges : List (ℕ × ℕ)) (colours : ℕ) (colour_of
   -- the labels of a set, as a set
   labels_of : (X : List ℕ) → AreLabelsOf colour X (union (map colour X) [])
   labels_of X = record {
-    given = λ c m. mapped_member colour X c (only (is_member c (map colour X)) (sym (is_member-union c (map colour X) []) ∙ m));
-    held = λ e m. is_member-union (colour e) (map colour X) [] ∙ also (is_member (colour e) (map colour X)) (is_member-map colour X e m);
+    given = λ c m. mapped_member colour X c (sym (or_none (is_member c (map colour X))) ∙ (sym (is_member-union c (map colour X) []) ∙ m));
+    held = λ e m. is_member-union (colour e) (map colour X) [] ∙ or_left (is_member (colour e) (map colour X)) false (is_member-map colour X e m);
   }
-    where
-      only : (a : Bool) → (a || false) ≡ true → a ≡ true
-      only true h = refl
-      only false h = h
-
-      also : (a : Bool) → a ≡ true → (a || false) ≡ true
-      also true h = refl
-      also false h = h
 
   pub tree_or_missing : IsGraph vertices edges → 0 < vertices → IsColouring (length edges) colours colour_of
       → ((X : List ℕ) × IsRainbowTree vertices (length edges) (ends_of edges) colour X)
@@ -144,7 +138,7 @@ module _ (vertices : ℕ) (edges : List (ℕ × ℕ)) (colours : ℕ) (colour_of
       let n = length edges in
       let zeros = replicate n zero_weight in
       let q = ladder_exists (graphic_laws n (ends_of edges)) (once_laws n colours colour) zeros (length-replicate n zero_weight)
-      (All-replicate (IsWeightWithin (10 ^ 12)) n zero_weight (none, none)) in
+      (All-replicate (IsWeightWithin largest_weight) n zero_weight (none, none)) in
       elim (cases_eq (length q.0) vertices) [
         | inl same ↦ inl (tree_of_ladder g k some zeros q.0 q.1 q.2 same)
         | inr other ↦ inr (
@@ -153,7 +147,7 @@ module _ (vertices : ℕ) (edges : List (ℕ × ℕ)) (colours : ℕ) (colour_of
         )
       ]
     where
-      none : IsWithin (10 ^ 12) (pos 0)
+      none : IsWithin largest_weight (pos 0)
       none = (omega (arith, ints), omega (arith, ints))
 
 -- ---- assignments

@@ -1,6 +1,6 @@
 -- At most one element of each label: the matroid, in words; and its rank is at least the number of labels.
-use Rattle.std.proofs.Common.{◌≡◌, ◌≢◌, ℕ, ◌+◌, ◌<◌, ◌≤◌, Bool, true, false, eqb, List, [], length, get_or, map, take, replicate, ◌⊎◌, inl, inr, refl, sym, ap, ◌∙◌, subst, arith}
-use Rattle.std.proofs.lemmas.Bool.{eqb-true, eq-eqb, both_ways, false_from_ne_true, false≢true, or_cases, or_left, or_right}
+use Rattle.std.proofs.Common.{◌≡◌, ◌≢◌, ℕ, ◌+◌, ◌<◌, ◌≤◌, Bool, true, false, eqb, List, length, get_or, map, take, replicate, ◌⊎◌, inl, inr, refl, sym, ap, ◌∙◌, subst, arith}
+use Rattle.std.proofs.lemmas.Bool.{eqb-true, eq-eqb, both_ways, false_from_ne_true, or_cases, or_left, or_right}
 use Rattle.std.proofs.lemmas.Grind.{same_number_lists}
 use Rattle.std.proofs.lemmas.List.{get_or-replicate, length-map, length-replicate}
 use Rattle.std.proofs.Math.ListN.{get_or-map as get_or_map}
@@ -103,9 +103,6 @@ classes_read f items k labels classes start is made =
     made ∙ ap (λ (g : ℕ → ℕ). classes_by (length labels) k g) label ∙ ap (λ (m : ℕ). classes_by m k (λ e. f (get_or items e (0, 0)))) long
 
 -- ---- labels gathered one by one
-
-labels_start : (label : ℕ → ℕ) → AreLabelsOf label [] []
-labels_start label = record { given = λ c m. absurd (false≢true m); held = λ e m. absurd (false≢true m) }
 
 pub labels_more : (label : ℕ → ℕ) (xs : List ℕ) (i : ℕ) (C : List ℕ) → i < length xs → AreLabelsOf label (take i xs) C
     → AreLabelsOf label (take (i + 1) xs) (with_one C (label (get_or xs i 0)))

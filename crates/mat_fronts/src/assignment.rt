@@ -1,5 +1,6 @@
 //! Heaviest assignments.
-ghost use Rattle.std.specs.Prelude.{◌≡◌, ◌≤◌, ◌^◌, length, IfOk};
+ghost use Rattle.std.specs.Prelude.{◌≡◌, ◌≤◌, length, IfOk};
+ghost use Rattle.mat_sets.specs.Limits.{most_elements, largest_weight};
 ghost use Rattle.mat_sets.specs.Weights.{AreWeightsWithin};
 ghost use Rattle.mat_fronts.specs.Assignments.{AreCells, IsAssignmentLadder};
 
@@ -24,9 +25,9 @@ pub fn assign<R: Threads + Sync>(
     workers: u32,
 ) -> Result<Ladder, AllocError>
     requires cells { AreCells rows columns cells.now }
-    requires few { length cells.now ≤ 500 }
+    requires few { length cells.now ≤ most_elements }
     requires lengths { length weights.now ≡ length cells.now }
-    requires small { AreWeightsWithin (10 ^ 12) weights.now }
+    requires small { AreWeightsWithin largest_weight weights.now }
     requires workers { (1 ≤ workers) × (workers ≤ 16) }
     ensures { IfOk result (λ l. IsAssignmentLadder rows columns cells.now weights.now l.rungs.items l.cut) }
 {

@@ -1,6 +1,6 @@
 //! What the answers prove. Each law is the contract of a function that does nothing.
 
-ghost use Rattle.std.specs.Prelude.{◌≡◌, ◌<◌, ◌≤◌, ◌+◌, ◌↔◌, ◌&&◌, ◌⊎◌, ℕ, List, Bool, true, length, suc, slice_index};
+ghost use Rattle.std.specs.Prelude.{◌≡◌, ◌<◌, ◌≤◌, ◌+◌, ◌↔◌, ℕ, List, true, length, suc, slice_index};
 ghost use Rattle.mat_sets.specs.Graphs.{IsGraph, ends_of};
 ghost use Rattle.mat_sets.specs.Sets.{IsRising, IsSet};
 ghost use Rattle.mat_sets.specs.declared.weight.Weight.{Weight};

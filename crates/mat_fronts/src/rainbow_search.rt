@@ -1,5 +1,6 @@
 //! The search for rainbow spanning trees.
-ghost use Rattle.std.specs.Prelude.{◌≡◌, ◌<◌, ◌≤◌, ◌^◌, length, slice_index, IfOk};
+ghost use Rattle.std.specs.Prelude.{◌≡◌, ◌<◌, ◌≤◌, length, slice_index, IfOk};
+ghost use Rattle.mat_sets.specs.Limits.{most_vertices, most_elements, largest_weight};
 ghost use Rattle.mat_sets.specs.Graphs.{IsGraph};
 ghost use Rattle.mat_sets.specs.Sets.{AllBelow, IsRising};
 ghost use Rattle.mat_sets.specs.Weights.{AreWeightsWithin};
@@ -43,11 +44,11 @@ pub fn rainbow<R: Threads + Sync>(
     workers: u32,
 ) -> Result<RainbowLadder, AllocError>
     requires graph { IsGraph vertices edges.now }
-    requires vertices { (1 ≤ vertices) × (vertices ≤ 500) }
-    requires few { length edges.now ≤ 500 }
+    requires vertices { (1 ≤ vertices) × (vertices ≤ most_vertices) }
+    requires few { length edges.now ≤ most_elements }
     requires colouring { IsColouring (length edges.now) colours colour_of.now }
     requires lengths { length weights.now ≡ length edges.now }
-    requires small { AreWeightsWithin (10 ^ 12) weights.now }
+    requires small { AreWeightsWithin largest_weight weights.now }
     requires workers { (1 ≤ workers) × (workers ≤ 16) }
     ensures { IfOk result (λ r. IsRainbowLadder vertices edges.now colours colour_of.now weights.now r.ladder.rungs.items r.ladder.cut r.missing) }
 {

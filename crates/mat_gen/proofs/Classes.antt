@@ -1,44 +1,29 @@
 -- The classes of a partition by the labels that are drawn.
-use Rattle.std.proofs.Common.{◌≡◌, ℕ, ◌+◌, ◌*◌, ◌<◌, Bool, true, false, ◌&&◌, eqb, ltb, List, [], ◌∷◌, length}
-use Rattle.std.proofs.Common.{get_or, map, refl, sym, ap, ◌∙◌}
-use Rattle.std.proofs.lemmas.Bool.{ltb-true}
-use Rattle.std.proofs.lemmas.List.{length-map, get_or-map}
-use Rattle.mat_sets.specs.Search.{those_below}
+use Rattle.std.proofs.Common.{◌≡◌, ℕ, ◌+◌, ◌*◌, ◌<◌, eqb, List, [], ◌∷◌, length}
+use Rattle.std.proofs.Common.{get_or, map, refl, ap, ◌∙◌}
 use Rattle.mat_sets.specs.Sets.{all_below}
-use Rattle.mat_sets.proofs.Ground.{get_or-all_below, length-all_below}
-use Rattle.mat_sets.proofs.Members.{same_members}
-use Rattle.mat_sets.proofs.Search.{IsSet-those_below, is_member-those_below}
+use Rattle.mat_sets.proofs.Ground.{length-map_all_below, get_or-map_all_below}
+use Rattle.mat_sets.proofs.Search.{those_below-same}
 use Rattle.mat_count.specs.Labels.{classes_by, labelled}
 use Rattle.mat_gen.specs.Draws.{draw}
 use Rattle.mat_gen.specs.Samples.{class_drawn}
-
--- tests that agree below n pick the same numbers
-pub those_below-agree : (n : ℕ) (f g : ℕ → Bool) → ((x : ℕ) → x < n → f x ≡ g x) → those_below n f ≡ those_below n g
-those_below-agree n f g agree =
-    same_members _ _ (IsSet-those_below n f).rising (IsSet-those_below n g).rising
-    (λ k. is_member-those_below k n f ∙ at k (ltb k n) refl ∙ sym (is_member-those_below k n g))
-  where
-    at : (k : ℕ) (b : Bool) → ltb k n ≡ b → (b && f k) ≡ (b && g k)
-    at k true is = agree k (ltb-true k n is)
-    at k false is = refl
 
 -- the label at each place of a list that is made so
 pub label_at : (label : ℕ → ℕ) (n e : ℕ) (labels : List ℕ) → labels ≡ map label (all_below n) → e < n
     → get_or labels e 0 ≡ label e
 label_at label n e labels is l =
-    ap (λ (xs : List ℕ). get_or xs e 0) is ∙ get_or-map label (all_below n) e 0 0 (rw (length-all_below n) l)
-    ∙ ap label (get_or-all_below n e 0 l)
+    ap (λ (xs : List ℕ). get_or xs e 0) is ∙ get_or-map_all_below label n e 0 l
 
 -- classes by the labels at the places of a list
 pub classes_labelled : (label : ℕ → ℕ) (n q : ℕ) (labels : List ℕ) → labels ≡ map label (all_below n)
     → classes_by (length labels) q (λ e. get_or labels e 0) ≡ map (labelled n label) (all_below q)
 unfolding classes_by
 classes_labelled label n q labels is =
-    let long : length labels ≡ n = ap length is ∙ length-map (all_below n) label ∙ length-all_below n in
+    let long : length labels ≡ n = ap length is ∙ length-map_all_below label n in
     ap (λ (m : ℕ). map (labelled m (λ e. get_or labels e 0)) (all_below q)) long ∙ each (all_below q)
   where
     same : (c : ℕ) → labelled n (λ e. get_or labels e 0) c ≡ labelled n label c
-    same c = those_below-agree n (λ e. eqb (get_or labels e 0) c) (λ e. eqb (label e) c)
+    same c = those_below-same n (λ e. eqb (get_or labels e 0) c) (λ e. eqb (label e) c)
         (λ x l. ap (λ (y : ℕ). eqb y c) (label_at label n x labels is l))
 
     each : (cs : List ℕ) → map (labelled n (λ e. get_or labels e 0)) cs ≡ map (labelled n label) cs

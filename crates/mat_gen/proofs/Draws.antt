@@ -1,9 +1,8 @@
 -- One draw, and lists of what is drawn: element by element, the next one is put behind those before it.
 use Rattle.std.proofs.Common.{◌≡◌, ℕ, ◌+◌, ◌*◌, ◌%◌, suc, List, [], ◌∷◌, ◌++◌, map, sym, ap, ◌∙◌}
-use Rattle.std.proofs.lemmas.List.{map-append}
 use Rattle.mat_sets.specs.Sets.{all_below}
 use Rattle.mat_sets.specs.declared.weight.Weight.{Weight}
-use Rattle.mat_sets.proofs.Ground.{all_below-more, all_below-none}
+use Rattle.mat_sets.proofs.Ground.{map-all_below_more, map-all_below_none}
 use Rattle.mat_gen.specs.Draws.{state_after, draw}
 use Rattle.mat_gen.specs.Samples.{cost_drawn, pair_drawn, pairs_drawn, weight_drawn, weights_drawn}
 
@@ -28,14 +27,13 @@ state_is seed s k j is same = is ∙ ap (state_after seed) same
 
 -- nothing is drawn for no element
 pub drawn_none : {A : Type 0} (f : ℕ → A) (xs : List A) → xs ≡ [] → xs ≡ map f (all_below 0)
-drawn_none f xs none = none ∙ ap (map f) (sym all_below-none)
+drawn_none f xs none = none ∙ sym (map-all_below_none f)
 
 -- what is drawn for one element more
 pub drawn_more : {A : Type 0} (f : ℕ → A) (n : ℕ) (xs : List A) (x : A) → xs ≡ map f (all_below n) → x ≡ f n
     → xs ++ x ∷ [] ≡ map f (all_below (n + 1))
 drawn_more {A} f n xs x before is =
-    ap (λ (ys : List A). ys ++ x ∷ []) before ∙ ap (λ (y : A). map f (all_below n) ++ y ∷ []) is
-    ∙ sym (map-append f (all_below n) (n ∷ [])) ∙ ap (map f) (sym (all_below-more n))
+    ap (λ (ys : List A). ys ++ x ∷ []) before ∙ ap (λ (y : A). map f (all_below n) ++ y ∷ []) is ∙ sym (map-all_below_more f n)
 
 pub pairs_none : (seed each from m : ℕ) (xs : List (ℕ × ℕ)) → xs ≡ [] → xs ≡ pairs_drawn seed 0 each from m
 pairs_none seed each from m xs none = drawn_none (λ (e : ℕ). pair_drawn seed (each * e + from) m) xs none

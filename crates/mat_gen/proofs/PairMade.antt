@@ -3,6 +3,7 @@ use Rattle.std.proofs.Common.{◌≡◌, ℕ, ◌+◌, ◌*◌, ◌/◌, List, l
 use Rattle.std.proofs.lemmas.List.{length-replicate}
 use Rattle.mat_sets.specs.Sets.{all_below}
 use Rattle.mat_sets.specs.declared.weight.Weight.{Weight}
+use Rattle.mat_sets.proofs.Ground.{length-map_all_below}
 use Rattle.mat_count.specs.Labels.{classes_by}
 use Rattle.mat_count.specs.Partitions.{CappedClasses}
 use Rattle.mat_graphic.specs.declared.graphic.Graphic.{Graphic}
@@ -12,7 +13,6 @@ use Rattle.mat_gen.specs.Draws.{draw}
 use Rattle.mat_gen.specs.Samples.{class_drawn, pairs_drawn, weights_drawn, sample_of}
 use Rattle.mat_gen.specs.declared.kind.SampleKind.TheVariants as kinds
 use Rattle.mat_gen.proofs.Classes.{classes_drawn}
-use Rattle.mat_gen.proofs.Validity.{length-drawn}
 
 -- the pair of a graphic matroid and a partition as they are made
 pub pair_made : (seed n : ℕ) (weights : List Weight) (edges : List (ℕ × ℕ)) (labels caps : List ℕ)
@@ -25,7 +25,7 @@ pub pair_made : (seed n : ℕ) (weights : List Weight) (edges : List (ℕ × ℕ
 pair_made seed n weights edges labels caps first second weighed ends labelled capped one two =
     let v = n / 4 + 2 in
     let q = n / 5 + 1 in
-    let long : length labels ≡ n = ap length labelled ∙ length-drawn (λ (e : ℕ). draw seed (4 * e + 2) q) n in
+    let long : length labels ≡ n = ap length labelled ∙ length-map_all_below (λ (e : ℕ). draw seed (4 * e + 2) q) n in
     let many : length caps ≡ q = ap length capped ∙ length-replicate q 1 in
     let classes : classes_by (length labels) (length caps) (λ e. get_or labels e 0) ≡ map (class_drawn seed n q) (all_below q) =
     ap (λ (k : ℕ). classes_by (length labels) k (λ e. get_or labels e 0)) many ∙ classes_drawn seed n q labels labelled in

@@ -5,18 +5,18 @@ use Rattle.std.specs.Prelude.{IfOk}
 use Rattle.std.specs.List.{All}
 use Rattle.std.proofs.Math.Nat.{mod-lt}
 use Rattle.std.proofs.lemmas.Int.{ints}
-use Rattle.std.proofs.lemmas.List.{length-map, length-replicate}
+use Rattle.std.proofs.lemmas.List.{length-replicate}
 use Rattle.std.proofs.lemmas.List.Elements.{All-nil, All-cons}
 use Rattle.mat_sets.specs.Sets.{IsSet, all_below}
 use Rattle.mat_sets.specs.Sums.{IsWithin}
 use Rattle.mat_sets.specs.Graphs.{IsGraph}
-use Rattle.mat_sets.proofs.Ground.{length-all_below}
+use Rattle.mat_sets.proofs.Ground.{length-map_all_below}
 use Rattle.mat_sets.proofs.Search.{IsSet-those_below}
 use Rattle.mat_count.specs.Labels.{classes_by}
 use Rattle.mat_count.proofs.LabelClasses.{IsPartition-classes_by}
 use Rattle.mat_any.specs.Trees.{Tree, graphic, partition}
 use Rattle.mat_desc.specs.Instances.{Instance}
-use Rattle.mat_desc.specs.Limits.{most_elements, largest_weight}
+use Rattle.mat_sets.specs.Limits.{largest_weight, most_elements}
 use Rattle.mat_desc.specs.Grammar.{AreClasses, IsPairBelow, IsValidMatroid, IsWeight, IsValid}
 use Rattle.mat_desc.specs.Soundness.{IsSoundInstance}
 use Rattle.mat_desc.proofs.ItemLaws.{IsGraph-pairs}
@@ -56,26 +56,22 @@ All-replicate : {A : Type 0} (P : A → Type 0) (x : A) → P x → (n : ℕ) �
 All-replicate P x h zero = All-nil P
 All-replicate P x h (suc n) = All-cons P x (replicate n x) h (All-replicate P x h n)
 
--- one for each element
-pub length-drawn : {A : Type 0} (f : ℕ → A) (n : ℕ) → length (map f (all_below n)) ≡ n
-length-drawn f n = length-map (all_below n) f ∙ length-all_below n
-
 pairs_below : (seed n each from m : ℕ) → 0 < m → All (IsPairBelow m m) (pairs_drawn seed n each from m)
 pairs_below seed n each from m some =
     All-map_each (IsPairBelow m m) (λ e. pair_drawn seed (each * e + from) m) (λ e. pair_below seed (each * e + from) m some) (all_below n)
 
 length-pairs : (seed n each from m : ℕ) → length (pairs_drawn seed n each from m) ≡ n
-length-pairs seed n each from m = length-drawn (λ e. pair_drawn seed (each * e + from) m) n
+length-pairs seed n each from m = length-map_all_below (λ e. pair_drawn seed (each * e + from) m) n
 
 weights_within : (seed n each from : ℕ) → All IsWeight (weights_drawn seed n each from)
 weights_within seed n each from =
     All-map_each IsWeight (λ e. weight_drawn seed (each * e + from)) (λ e. weight_within seed (each * e + from)) (all_below n)
 
 length-weights : (seed n each from : ℕ) → length (weights_drawn seed n each from) ≡ n
-length-weights seed n each from = length-drawn (λ e. weight_drawn seed (each * e + from)) n
+length-weights seed n each from = length-map_all_below (λ e. weight_drawn seed (each * e + from)) n
 
 -- edges that are drawn are those of a graph
-pub graph_drawn : (seed n each from m : ℕ) (edges : List (ℕ × ℕ)) → n ≤ 500 → 0 < m → edges ≡ pairs_drawn seed n each from m
+pub graph_drawn : (seed n each from m : ℕ) (edges : List (ℕ × ℕ)) → n ≤ most_elements → 0 < m → edges ≡ pairs_drawn seed n each from m
     → IsGraph m edges
 graph_drawn seed n each from m edges few some is =
     subst (IsGraph m) (sym is)
@@ -84,16 +80,16 @@ graph_drawn seed n each from m edges few some is =
 
 -- ---- matroids
 
-graphic_valid : (seed n each from m : ℕ) → 1 ≤ m → m ≤ 500 → IsValidMatroid n (graphic m (pairs_drawn seed n each from m))
+graphic_valid : (seed n each from m : ℕ) → 1 ≤ m → m ≤ most_elements → IsValidMatroid n (graphic m (pairs_drawn seed n each from m))
 graphic_valid seed n each from m some few =
     ((length-pairs seed n each from m, some, few, pairs_below seed n each from m (omega (arith, some))), omega arith)
 
-classes_valid : (seed n q : ℕ) → q ≤ 500 → AreClasses n (map (class_drawn seed n q) (all_below q)) (replicate q 1)
+classes_valid : (seed n q : ℕ) → q ≤ most_elements → AreClasses n (map (class_drawn seed n q) (all_below q)) (replicate q 1)
 unfolding classes_by
 classes_valid seed n q few =
     let label : ℕ → ℕ = λ e. draw seed (4 * e + 2) q in
     let long : length (replicate q 1) ≡ q = length-replicate q 1 in
-    let many : length (map (class_drawn seed n q) (all_below q)) ≡ q = length-drawn (class_drawn seed n q) q in
+    let many : length (map (class_drawn seed n q) (all_below q)) ≡ q = length-map_all_below (class_drawn seed n q) q in
     let parts = IsPartition-classes_by n q label (replicate q 1) long in
     record {
       few = few_classes (length (map (class_drawn seed n q) (all_below q))) many;
@@ -103,7 +99,7 @@ classes_valid seed n q few =
       disjoint = parts.disjoint;
     }
   where
-    few_classes : (many : ℕ) → many ≡ q → many ≤ 500
+    few_classes : (many : ℕ) → many ≡ q → many ≤ most_elements
     few_classes many is = omega (arith, is, few)
 
     one_small : 1 ≤ most_elements
@@ -112,17 +108,17 @@ classes_valid seed n q few =
 -- ---- samples
 
 -- numbers of vertices, rows and classes
-vertices_few : (n : ℕ) → n ≤ 500 → n / 4 + 2 ≤ 500
+vertices_few : (n : ℕ) → n ≤ most_elements → n / 4 + 2 ≤ most_elements
 vertices_few n few = omega (arith, few)
 
-eighths_few : (n : ℕ) → n ≤ 500 → n / 8 + 2 ≤ 500
+eighths_few : (n : ℕ) → n ≤ most_elements → n / 8 + 2 ≤ most_elements
 eighths_few n few = omega (arith, few)
 
-classes_few : (n : ℕ) → n ≤ 500 → n / 5 + 1 ≤ 500
+classes_few : (n : ℕ) → n ≤ most_elements → n / 5 + 1 ≤ most_elements
 classes_few n few = omega (arith, few)
 
 -- a sample of at most 500 elements is in range
-pub sample_valid : (kind : SampleKind) (n seed : ℕ) → n ≤ 500 → IsValid (sample_of kind n seed)
+pub sample_valid : (kind : SampleKind) (n seed : ℕ) → n ≤ most_elements → IsValid (sample_of kind n seed)
 sample_valid kinds.Pair n seed few =
     let v = n / 4 + 2 in
     let q = n / 5 + 1 in
@@ -153,7 +149,7 @@ sample_valid kinds.Graph n seed few =
 sample_valid kinds.Rooted n seed few =
     let v = n / 4 + 2 in
     let long = length-pairs seed n 3 0 v in
-    let paid = length-drawn (λ e. cost_drawn seed (3 * e + 2)) n in (
+    let paid = length-map_all_below (λ e. cost_drawn seed (3 * e + 2)) n in (
       omega arith,
       vertices_few n few,
       omega arith,
@@ -175,13 +171,13 @@ sample_valid kinds.Table n seed few =
 -- ---- answers
 
 -- an answer that is the sample is in range
-pub answer_valid : {X E : Type 0} (view : X → Instance) (kind : SampleKind) (n seed : ℕ) → n ≤ 500 → (result : Result X E)
+pub answer_valid : {X E : Type 0} (view : X → Instance) (kind : SampleKind) (n seed : ℕ) → n ≤ most_elements → (result : Result X E)
     → IfOk result (λ x. view x ≡ sample_of kind n seed) → IfOk result (λ x. IsValid (view x))
 answer_valid view kind n seed few (Ok x) is = subst IsValid (sym is) (sample_valid kind n seed few)
 answer_valid view kind n seed few (Err e) is = tt
 
 -- and so its matroids are sound
-pub answer_sound : {X E : Type 0} (view : X → Instance) (kind : SampleKind) (n seed : ℕ) → n ≤ 500 → (result : Result X E)
+pub answer_sound : {X E : Type 0} (view : X → Instance) (kind : SampleKind) (n seed : ℕ) → n ≤ most_elements → (result : Result X E)
     → IfOk result (λ x. view x ≡ sample_of kind n seed) → IfOk result (λ x. IsSoundInstance (view x))
 answer_sound view kind n seed few (Ok x) is =
     IsSoundInstance-valid (view x) (subst IsValid (sym is) (sample_valid kind n seed few))

@@ -1,6 +1,7 @@
 //! Lists of two graphic matroids that are made from a number.
 
 ghost use Rattle.std.specs.Prelude.{◌≡◌, ◌<◌, ◌≤◌, ◌∷◌, [], map, IfOk};
+ghost use Rattle.mat_sets.specs.Limits.{most_elements};
 ghost use Rattle.mat_sets.specs.Graphs.{IsGraph};
 ghost use Rattle.mat_any.specs.Trees.{graphic};
 ghost use Rattle.mat_any.specs.Views.{tree_of};
@@ -74,7 +75,7 @@ fn two_graphic(
 
 /// The list of two graphic matroids with so many elements. The only error is want of memory.
 pub(crate) fn list_sample(alloc: Global, count: u32, seed: u64) -> Result<Problem, AllocError>
-    requires few { count ≤ 500 }
+    requires few { count ≤ most_elements }
     requires seeded { seed < 2147483647 }
     ensures { IfOk result (λ p. instance_of p ≡ sample_of kinds.List count seed) }
 {

@@ -1,12 +1,11 @@
 //! Pairs of a graphic matroid and a partition that are made from a number.
 
-ghost use Rattle.std.specs.Prelude.{◌≡◌, ◌<◌, ◌≤◌, ◌+◌, ◌*◌, map, replicate, IfOk};
+ghost use Rattle.std.specs.Prelude.{◌≡◌, ◌<◌, ◌≤◌, ◌+◌, ◌*◌, map, IfOk};
+ghost use Rattle.mat_sets.specs.Limits.{most_elements};
 ghost use Rattle.mat_sets.specs.Sets.{all_below};
-ghost use Rattle.mat_any.specs.Trees.{partition};
-ghost use Rattle.mat_any.specs.Views.{tree_of};
 ghost use Rattle.mat_desc.specs.Views.{instance_of};
 ghost use Rattle.mat_gen.specs.Draws.{draw};
-ghost use Rattle.mat_gen.specs.Samples.{class_drawn, pairs_drawn, weights_drawn, sample_of};
+ghost use Rattle.mat_gen.specs.Samples.{pairs_drawn, weights_drawn, sample_of};
 ghost use Rattle.mat_gen.specs.declared.kind.SampleKind.TheVariants as kinds;
 
 use crate::generator::Generator;
@@ -64,7 +63,7 @@ fn pair_draws(
 
 /// The pair with so many elements. The only error is want of memory.
 pub(crate) fn pair_sample(alloc: Global, count: u32, seed: u64) -> Result<Problem, AllocError>
-    requires few { count ≤ 500 }
+    requires few { count ≤ most_elements }
     requires seeded { seed < 2147483647 }
     ensures { IfOk result (λ p. instance_of p ≡ sample_of kinds.Pair count seed) }
 {

@@ -1,6 +1,7 @@
 //! Directed graphs with costs and a root that are made from a number.
 
 ghost use Rattle.std.specs.Prelude.{◌≡◌, ◌<◌, ◌≤◌, ◌+◌, ◌*◌, map, IfOk};
+ghost use Rattle.mat_sets.specs.Limits.{most_elements};
 ghost use Rattle.mat_sets.specs.Sets.{all_below};
 ghost use Rattle.mat_desc.specs.Views.{instance_of};
 ghost use Rattle.mat_gen.specs.Samples.{cost_drawn, pairs_drawn, sample_of};
@@ -44,7 +45,7 @@ fn arc_draws(alloc: Global, seed: u64, count: u32, vertices: u32) -> Result<ArcD
 
 /// The directed graph with so many arcs, whose root is vertex 0. The only error is want of memory.
 pub(crate) fn rooted_sample(alloc: Global, count: u32, seed: u64) -> Result<Problem, AllocError>
-    requires few { count ≤ 500 }
+    requires few { count ≤ most_elements }
     requires seeded { seed < 2147483647 }
     ensures { IfOk result (λ p. instance_of p ≡ sample_of kinds.Rooted count seed) }
 {

@@ -1,6 +1,7 @@
 //! A problem of each kind.
 
 ghost use Rattle.std.specs.Prelude.{◌≡◌, ◌≤◌, IfOk};
+ghost use Rattle.mat_sets.specs.Limits.{most_elements};
 ghost use Rattle.mat_desc.specs.Grammar.{IsValid};
 ghost use Rattle.mat_desc.specs.Soundness.{IsSoundInstance};
 ghost use Rattle.mat_desc.specs.Views.{instance_of};
@@ -19,7 +20,7 @@ use std::alloc::{AllocError, Global};
 /// 2147483646. One number, one problem. The only error is want of memory.
 pub fn sample(alloc: Global, kind: SampleKind, size: u32, seed: u64) -> Result<Problem, AllocError>
     requires some { 1 ≤ size }
-    requires few { size ≤ 500 }
+    requires few { size ≤ most_elements }
     requires seed_least { 1 ≤ seed }
     requires seed_most { seed ≤ 2147483646 }
 

@@ -1,6 +1,7 @@
 //! Tables that are made from a number.
 
 ghost use Rattle.std.specs.Prelude.{◌≡◌, ◌<◌, ◌≤◌, IfOk};
+ghost use Rattle.mat_sets.specs.Limits.{most_elements};
 ghost use Rattle.mat_desc.specs.Views.{instance_of};
 ghost use Rattle.mat_gen.specs.Samples.{pairs_drawn, weights_drawn, sample_of};
 ghost use Rattle.mat_gen.specs.declared.kind.SampleKind.TheVariants as kinds;
@@ -43,7 +44,7 @@ fn cell_draws(alloc: Global, seed: u64, count: u32, rows: u32) -> Result<CellDra
 
 /// The table with so many cells. The only error is want of memory.
 pub(crate) fn table_sample(alloc: Global, count: u32, seed: u64) -> Result<Problem, AllocError>
-    requires few { count ≤ 500 }
+    requires few { count ≤ most_elements }
     requires seeded { seed < 2147483647 }
     ensures { IfOk result (λ p. instance_of p ≡ sample_of kinds.Table count seed) }
 {

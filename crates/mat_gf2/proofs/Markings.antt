@@ -1,5 +1,5 @@
 -- The members that a tag marks are collected in rising order, place by place.
-use Rattle.std.proofs.Common.{◌≡◌, ℕ, ◌+◌, ◌/◌, ◌^◌, ◌<◌, ◌≤◌, Bool, true, false, ◌||◌, cond, eqb, List, ◌∷◌, length, get_or, drop, refl, sym, ap, ◌∙◌}
+use Rattle.std.proofs.Common.{◌≡◌, ℕ, ◌+◌, ◌/◌, ◌^◌, ◌<◌, ◌≤◌, ◌||◌, cond, eqb, List, ◌∷◌, length, get_or, drop, sym, ap, ◌∙◌}
 use Rattle.std.proofs.Math.Numerals.{add-one}
 use Rattle.std.proofs.lemmas.Bool.{eq-eqb, ne_eqb}
 use Rattle.std.proofs.lemmas.List.{drop_all, drop_more}
@@ -8,6 +8,7 @@ use Rattle.std.specs.Int.{bit_at}
 use Rattle.std.specs.Int.Bits.{bit_and}
 use Rattle.mat_sets.specs.Sets.{is_member, IsRising, with_one}
 use Rattle.mat_sets.proofs.Members.{is_member-with_one, same_members, IsRising-with_one}
+use Rattle.mat_sets.proofs.Truths.{or_assoc, or_commute, or_none}
 use Rattle.mat_gf2.specs.TaggedColumns.{marked_from, marked}
 use Rattle.mat_gf2.proofs.Tags.{IsRising-marked}
 
@@ -33,7 +34,8 @@ pub IsMarking-found : (tag : ℕ) (X : List ℕ) (place y : ℕ) (members : List
     → IsMarking tag X place members → IsMarking tag X (place + 1) (with_one members y)
 IsMarking-found tag X place y members l at set h = record {
   rising = IsRising-with_one members y h.rising;
-  all = λ k. ap (λ b. b || is_member k rest) (is_member-with_one k y members) ∙ swap (eqb k y) (is_member k members) (is_member k rest)
+  all = λ k. ap (λ b. b || is_member k rest) (is_member-with_one k y members ∙ or_commute (eqb k y) (is_member k members))
+      ∙ sym (or_assoc (is_member k members) (eqb k y) (is_member k rest))
       ∙ ap (λ s. is_member k members || is_member k s) (sym next) ∙ h.all k;
 }
   where
@@ -43,11 +45,6 @@ IsMarking-found tag X place y members l at set h = record {
     next : marked_from place tag (drop place X) ≡ y ∷ rest
     next = marked_from-next tag X place l ∙ ap (λ b. cond b (get_or X place 0 ∷ rest) rest) (eq-eqb _ 1 (sym (shr_and_one tag place) ∙ set))
         ∙ ap (λ z. z ∷ rest) (sym at)
-
-    swap : (a b d : Bool) → ((a || b) || d) ≡ (b || (a || d))
-    swap true true d = refl
-    swap true false d = refl
-    swap false b d = refl
 
 -- another is passed over
 pub IsMarking-passed : (tag : ℕ) (X : List ℕ) (place : ℕ) (members : List ℕ) → place < length X
@@ -70,9 +67,5 @@ pub IsMarking-end : (tag : ℕ) (X : List ℕ) (place : ℕ) (members : List ℕ
 unfolding marked_from
 IsMarking-end tag X place members rising l h =
     same_members members (marked tag X) h.rising (IsRising-marked tag X rising)
-    (λ k. or_false (is_member k members) ∙ ap (λ s. is_member k members || is_member k (marked_from place tag s)) (sym (drop_all place X l))
+    (λ k. sym (or_none (is_member k members)) ∙ ap (λ s. is_member k members || is_member k (marked_from place tag s)) (sym (drop_all place X l))
     ∙ h.all k)
-  where
-    or_false : (b : Bool) → b ≡ (b || false)
-    or_false true = refl
-    or_false false = refl

@@ -1,6 +1,6 @@
 //! Matroids of columns over the field of two elements.
 ghost use Rattle.std.specs.Prelude.{◌≡◌, length, IfOk};
-ghost use Rattle.mat_gf2.specs.Columns.{BinaryMatrix, IsBinaryMatrix, column_of, is_gf2};
+ghost use Rattle.mat_gf2.specs.Columns.{IsBinaryMatrix, column_of, is_gf2};
 ghost use Rattle.mat_gf2.specs.Gf2Laws.{gf2_laws};
 ghost use Rattle.mat_gf2.specs.KeptBases.{IsKeptBasis};
 

@@ -1,13 +1,14 @@
 -- Climbing in a rooted forest from two places, always from the later one, until both meet: the edges so far lead from the first vertex up to
 -- one place and from the other place down to the second vertex. Each has an end at a place after both, so no edge is used twice.
-use Rattle.std.proofs.Common.{◌≡◌, ℕ, ◌<◌, ◌≢◌, max, Bool, true, false, ◌||◌, eqb, List, [], ◌∷◌, ◌++◌, length, get_or, Option, ◌⊎◌, inl, inr, refl, sym, ap, ◌∙◌, subst, arith, append_assoc}
-use Rattle.std.proofs.lemmas.Bool.{cases_lt, eqb-true, or_cases, or_parts, false≢true, false_from_ne_true}
+use Rattle.std.proofs.Common.{◌≡◌, ℕ, ◌<◌, ◌≢◌, max, true, false, ◌||◌, eqb, List, [], ◌∷◌, ◌++◌, length, get_or, Option, ◌⊎◌, inl, inr, refl, sym, ap, ◌∙◌, subst, arith, append_assoc}
+use Rattle.std.proofs.lemmas.Bool.{cases_lt, eqb-true, or_cases, or_parts, false≢true, false_from_ne_true, or_from}
 use Rattle.std.proofs.lemmas.Bool.Decides.{nat_tests}
 use Rattle.mat_sets.specs.Sets.{is_member, AreDistinct, IsSubset, with_one}
 use Rattle.mat_sets.specs.Graphs.{Joins, Walk}
 use Rattle.mat_sets.proofs.Members.{is_member-append, is_member-with_one}
+use Rattle.mat_sets.proofs.Truths.{eqb-turned, or_swap}
 use Rattle.mat_graphic.specs.Mergings.{least_merged}
-use Rattle.mat_graphic.specs.ComponentLaws.{differ_turned, member_within, walk_append, walk_same}
+use Rattle.mat_graphic.specs.ComponentLaws.{member_within, walk_append, walk_same}
 use Rattle.mat_graphic.specs.TrailSearches.{IsOrder, IsTree, IsTrailSet}
 use Rattle.mat_graphic.proofs.TrailScans.{order-differ}
 
@@ -15,21 +16,13 @@ use Rattle.mat_graphic.proofs.TrailScans.{order-differ}
 
 is_member-between : (z e : ℕ) (P Q : List ℕ) → is_member z (P ++ e ∷ Q) ≡ (eqb z e || is_member z (P ++ Q))
 is_member-between z e [] Q = refl
-is_member-between z e (x ∷ P) Q = ap (λ b. eqb z x || b) (is_member-between z e P Q) ∙ turned (eqb z x) (eqb z e) (is_member z (P ++ Q))
-  where
-    turned : (a b c : Bool) → (a || (b || c)) ≡ (b || (a || c))
-    turned true true c = refl
-    turned true false c = refl
-    turned false b c = refl
+is_member-between z e (x ∷ P) Q = ap (λ b. eqb z x || b) (is_member-between z e P Q) ∙ or_swap (eqb z x) (eqb z e) (is_member z (P ++ Q))
 
 AreDistinct-between : (e : ℕ) (P Q : List ℕ) → AreDistinct (P ++ Q) → is_member e (P ++ Q) ≡ false → AreDistinct (P ++ e ∷ Q)
 AreDistinct-between e [] Q d out = (out, d)
 AreDistinct-between e (x ∷ P) Q d out =
     let parts = or_parts (eqb e x) (is_member e (P ++ Q)) out in
-    (is_member-between x e P Q ∙ none (differ_turned e x parts.0) d.0, AreDistinct-between e P Q d.1 parts.1)
-  where
-    none : {a b : Bool} → a ≡ false → b ≡ false → (a || b) ≡ false
-    none {a} {b} h k = rw (h, k) refl
+    (is_member-between x e P Q ∙ or_from (eqb x e) (is_member x (P ++ Q)) (eqb-turned x e ∙ parts.0) d.0, AreDistinct-between e P Q d.1 parts.1)
 
 -- ---- the edges so far
 

@@ -1,7 +1,7 @@
 -- The exchanges of an edge x at a forest I: where its ends are in two components it can be added and exchanged for any member; else the
 -- members for which it can be exchanged are those of a trail between its ends. A closed walk through one of these uses it once.
-use Rattle.std.proofs.Common.{◌≡◌, ℕ, ◌<◌, ◌≢◌, Bool, true, false, not, ◌&&◌, eqb, List, inl, inr, sym, ap, ◌∙◌, arith}
-use Rattle.std.proofs.lemmas.Bool.{cases_Bool, ne_eqb, or_left, or_right, and_parts, and_from, both_ways, false_from_ne_true}
+use Rattle.std.proofs.Common.{◌≡◌, ℕ, ◌<◌, ◌≢◌, Bool, true, false, not, ◌&&◌, eqb, List, inl, inr, sym, ap, ◌∙◌, arith, refl}
+use Rattle.std.proofs.lemmas.Bool.{cases_Bool, ne_eqb, or_left, or_right, and_parts, and_from, both_ways, false_from_ne_true, eq-eqb}
 use Rattle.std.proofs.lemmas.Bool.Decides.{nat_tests}
 use Rattle.mat_sets.specs.Sets.{is_member, IsRising, IsSubset, IsSet, with_one, without_one}
 use Rattle.mat_sets.specs.SetTests.{is_set}
@@ -57,26 +57,20 @@ module _ (ends : ℕ → ℕ × ℕ) where
       → IsForest ends (with_one (without_one I y) x) → ⊥
   exchanged-off I x y out P off forest =
       never_joined ends P.edges (with_one (without_one I y) x) x forest (false_from_ne_true _ (λ m. both_ways _ out (P.inside.inside x m)))
-      (is_member-with_one x x (without_one I y) ∙ or_left (eqb x x) _ (own x))
+      (is_member-with_one x x (without_one I y) ∙ or_left (eqb x x) _ (eq-eqb x x refl))
       (record {
         inside = λ z m. is_member-with_one z x (without_one I y)
             ∙ or_right (eqb z x) _ (is_member-without_one z y I ∙ and_from _ _ (P.inside.inside z m)
             (ap not (ne_eqb z y (λ same. both_ways _ off (ap (λ w. is_member w P.edges) (sym same) ∙ m)))));
       })
       (record { edges = P.edges; distinct = P.distinct; inside = record { inside = λ z m. m }; walk = P.walk })
-    where
-      own : (x : ℕ) → eqb x x ≡ true
-      own x = grind (arith, nat_tests)
 
   -- x itself cannot be added
   pub added-closed : (I : List ℕ) (x : ℕ) → is_member x I ≡ false → Trail ends I (ends x).1 (ends x).0
       → IsForest ends (with_one I x) → ⊥
   added-closed I x out P forest =
-      never_joined ends I (with_one I x) x forest out (is_member-with_one x x I ∙ or_left (eqb x x) _ (own x))
+      never_joined ends I (with_one I x) x forest out (is_member-with_one x x I ∙ or_left (eqb x x) _ (eq-eqb x x refl))
       (record { inside = λ z m. is_member-with_one z x I ∙ or_right (eqb z x) _ m }) P
-    where
-      own : (x : ℕ) → eqb x x ≡ true
-      own x = grind (arith, nat_tests)
 
 -- ---- the rows
 

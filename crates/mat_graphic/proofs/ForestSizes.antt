@@ -2,17 +2,18 @@
 -- edge fewer than there are vertices, is a forest.
 -- Idea of the first: a forest has as many edges as there are vertices from which it reaches a lower one, and among the touched vertices
 -- the lowest is none of these.
-use Rattle.std.proofs.Common.{◌≡◌, ◌≢◌, ℕ, suc, ◌+◌, ◌<◌, ◌≤◌, Bool, true, false, not, ◌&&◌, eqb, ltb, List, [], ◌∷◌, length, inl, inr, refl, sym, ap, ◌∙◌, subst, arith}
-use Rattle.std.proofs.lemmas.Bool.{cases_eq, ltb-true, lt-ltb, eqb-true, eqb-false, eq-eqb, ne_eqb, and_parts, and_from, both_ways, not-true, or_cases, false≢true}
-use Rattle.mat_sets.specs.Sets.{is_member, IsRising, RisesFrom, IsSet, IsSubset}
+use Rattle.std.proofs.Common.{◌≡◌, ◌≢◌, ℕ, suc, ◌<◌, ◌≤◌, Bool, true, eqb, ltb, List, [], ◌∷◌, length, inl, inr, sym, ◌∙◌, subst, arith}
+use Rattle.std.proofs.lemmas.Bool.{ltb-true, lt-ltb, eqb-true, eqb-false, eq-eqb, ne_eqb, and_parts, and_from, not-true}
+use Rattle.mat_sets.specs.Sets.{is_member, IsRising, RisesFrom, IsSet, all_below}
 use Rattle.mat_sets.specs.SetTests.{is_set}
 use Rattle.mat_sets.specs.Search.{those_below}
 use Rattle.mat_sets.specs.Graphs.{Walk}
-use Rattle.mat_sets.proofs.Members.{RisesFrom-weaken, is_member-head, member_from, missing_below}
+use Rattle.mat_sets.proofs.Members.{RisesFrom-weaken, is_member-head, member_from, some_from_member}
 use Rattle.mat_sets.proofs.Search.{IsSet-those_below, is_member-those_below}
 use Rattle.mat_sets.proofs.SetTests.{IsSet-from_test}
 use Rattle.mat_sets.proofs.Subsets.{length-subset, same_size_subset}
 use Rattle.mat_sets.proofs.ListParts.{is_member-tail}
+use Rattle.mat_sets.proofs.Ground.{below_member, IsRising-all_below, IsSet-all_below}
 use Rattle.mat_laws.specs.Ranks.{rank}
 use Rattle.mat_laws.proofs.RankLaws.{rank_is}
 use Rattle.mat_graphic.specs.Forests.{IsForest, is_forest, is_graphic, least_reached, number_of_components}
@@ -96,12 +97,16 @@ module _ (ends : ℕ → ℕ × ℕ) where
   -- there is a component where there is a vertex
   pub some_component : (n : ℕ) (X : List ℕ) → IsRising X → 0 < n → 0 < number_of_components n ends X
   unfolding number_of_components
-  some_component n X rising some = has (those_below n least) (is_member-those_below 0 n least ∙ and_from (ltb 0 n) (least 0) (lt-ltb 0 n some)
+  some_component n X rising some = some_from_member 0 (those_below n least) (is_member-those_below 0 n least ∙ and_from (ltb 0 n) (least 0) (lt-ltb 0 n some)
       (eq-eqb _ _ (omega (arith, least_reached-merged ends X 0 rising, least_merged-le ends X 0))))
     where
       least : ℕ → Bool
       least v = eqb (least_reached ends X v) v
 
-      has : (xs : List ℕ) → is_member 0 xs ≡ true → 0 < length xs
-      has [] m = absurd (false≢true m)
-      has (x ∷ xs) m = omega arith
+-- a forest has fewer edges than there are vertices
+pub rank_below_vertices : (ends : ℕ → ℕ × ℕ) (vertices count : ℕ) → ((e : ℕ) → e < count → ((ends e).0 < vertices) × ((ends e).1 < vertices))
+    → 0 < vertices → rank (is_graphic count ends) (all_below count) < vertices
+rank_below_vertices ends vertices count inside some =
+    let sum = rank_and_number ends count vertices (all_below count) (IsSet-all_below count) (λ e m. inside e (below_member (IsSet-all_below count) m)) in
+    let one = some_component ends vertices (all_below count) (IsRising-all_below count) some in
+    omega arith

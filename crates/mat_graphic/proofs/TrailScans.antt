@@ -1,6 +1,6 @@
 -- The search that roots the trees of a forest: going through the places of a vertex, and asking each found vertex once for its edges. What was
 -- found when all were asked holds both ends of an edge or none, so the next root is in another component.
-use Rattle.std.proofs.Common.{◌≡◌, ℕ, suc, ◌+◌, ◌-◌, ◌<◌, ◌≤◌, ◌≢◌, Bool, true, false, eqb, ltb, List, [], ◌∷◌, length, get_or, Option, Some, None, is_some, inl, inr, refl, sym, ap, ◌∙◌, subst, arith}
+use Rattle.std.proofs.Common.{◌≡◌, ℕ, suc, ◌+◌, ◌-◌, ◌<◌, ◌≤◌, ◌≢◌, true, false, eqb, ltb, List, [], ◌∷◌, length, get_or, Option, Some, None, is_some, inl, inr, refl, sym, ap, ◌∙◌, subst, arith}
 use Rattle.std.proofs.lemmas.Bool.{cases_lt, eqb-true, ltb-true, and_parts, or_right, both_ways}
 use Rattle.std.proofs.lemmas.List.{get_or_default}
 use Rattle.mat_sets.specs.Sets.{is_member, AllBelow, IsRising}
@@ -10,6 +10,7 @@ use Rattle.mat_sets.proofs.Members.{is_member-get_or, is_member-head, members_by
 use Rattle.mat_sets.proofs.Ground.{AllBelow-from_members, length-distinct_below}
 use Rattle.mat_sets.proofs.Sums.{AllBelow-at}
 use Rattle.mat_sets.proofs.ListParts.{AreDistinct-index}
+use Rattle.mat_sets.proofs.Truths.{same_truth}
 use Rattle.mat_graphic.specs.Mergings.{least_merged}
 use Rattle.mat_graphic.specs.ComponentLaws.{trail_of_same}
 use Rattle.mat_graphic.specs.TrailSearches.{AreJoined, stands_at, AreEnds, IsExploring, IsFindable, IsFront, IsOrder, IsTree}
@@ -219,15 +220,10 @@ pub IsExploring-end : (firsts seconds set : List ℕ) (n at : ℕ) (place : List
     → length order ≤ at → length firsts ≡ length seconds
     → IsExploring firsts seconds set n at place order through before
     → (i : ℕ) → i < length firsts → is_member (get_or firsts i 0) order ≡ is_member (get_or seconds i 0) order
-IsExploring-end firsts seconds set n at place order through before past same x i l = both (is_member (get_or firsts i 0) order)
+IsExploring-end firsts seconds set n at place order through before past same x i l = same_truth (is_member (get_or firsts i 0) order)
     (is_member (get_or seconds i 0) order)
     (λ m. let w = place_of_member (get_or firsts i 0) order m in let k = w.1 in x.forth w.0 i (omega arith) l (sym w.2))
     (λ m. let w = place_of_member (get_or seconds i 0) order m in let k = w.1 in x.back w.0 i (omega arith) (omega arith) (sym w.2))
-  where
-    both : (a b : Bool) → (a ≡ true → b ≡ true) → (b ≡ true → a ≡ true) → a ≡ b
-    both true b f g = sym (f refl)
-    both false true f g = g refl
-    both false false f g = refl
 
 pub IsExploring-none : (firsts seconds set : List ℕ) (n at : ℕ) (place : List (Option ℕ)) (order through before : List ℕ)
     → length place ≡ n → ((v : ℕ) → v < length place → get_or place v None ≡ None) → at ≡ 0 → order ≡ []

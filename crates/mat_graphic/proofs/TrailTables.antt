@@ -1,7 +1,7 @@
 -- The tables of the search that roots the trees of a forest: the places of each vertex in a list, the ends of the members of a set, and the
 -- vertices found so far.
-use Rattle.std.proofs.Common.{is_some, ◌≡◌, ℕ, suc, ◌<◌, ◌≤◌, ◌≢◌, Bool, true, false, ◌&&◌, ltb, List, [], ◌∷◌, ◌++◌, length, get_or, set, Option, Some, None, ◌⊎◌, inl, inr, refl, sym, ap, ◌∙◌, subst, arith, get_or-set_other, get_or-set_same, length-set, length-append}
-use Rattle.std.proofs.lemmas.Bool.{cases_eq, cases_lt, eq-eqb, ne_eqb, lt-ltb, both_ways, false_from_ne_true}
+use Rattle.std.proofs.Common.{is_some, ◌≡◌, ℕ, suc, ◌<◌, ◌≤◌, ◌≢◌, Bool, true, false, ltb, List, [], ◌∷◌, ◌++◌, length, get_or, set, Option, Some, None, ◌⊎◌, inl, inr, refl, sym, ap, ◌∙◌, subst, arith, get_or-set_other, get_or-set_same, length-set, length-append}
+use Rattle.std.proofs.lemmas.Bool.{cases_eq, cases_lt, eq-eqb, ne_eqb, lt-ltb, both_ways, false_from_ne_true, and_right}
 use Rattle.std.proofs.lemmas.List.{get_or_append_left, get_or_default}
 use Rattle.std.proofs.Math.Seq.{get_or-append_seam}
 use Rattle.mat_sets.specs.Sets.{is_member, AllBelow}
@@ -15,11 +15,7 @@ stands_here : (list : List ℕ) (i : ℕ) → i < length list → stands_at list
 stands_here list i l = rw (lt-ltb i (length list) l, eq-eqb (get_or list i 0) (get_or list i 0) refl) refl
 
 stands_not : (list : List ℕ) (v i : ℕ) → get_or list i 0 ≢ v → stands_at list v i ≡ false
-stands_not list v i other = rw (ne_eqb (get_or list i 0) v other) (none (ltb i (length list)))
-  where
-    none : (b : Bool) → (b && false) ≡ false
-    none true = refl
-    none false = refl
+stands_not list v i other = rw (ne_eqb (get_or list i 0) v other) (and_right (ltb i (length list)) false refl)
 
 -- where the test fails at i, the next from i on is the next after it
 IsNextFrom-lower : (test : ℕ → Bool) (i : ℕ) (found : Option ℕ) → test i ≡ false → IsNextFrom test (suc i) found

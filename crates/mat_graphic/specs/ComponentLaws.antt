@@ -6,6 +6,7 @@ use Rattle.std.proofs.lemmas.Bool.Decides.{nat_tests}
 use Rattle.mat_sets.specs.Sets.{is_member, IsRising, RisesFrom, AreDistinct}
 use Rattle.mat_sets.specs.Graphs.{Joins, Walk}
 use Rattle.mat_sets.proofs.Members.{is_member-append, is_member-head, missing_below}
+use Rattle.mat_sets.proofs.Truths.{eqb-turned}
 use Rattle.mat_graphic.specs.TrailSearches.{Trail}
 use Rattle.mat_graphic.specs.Mergings.{merged, least_merged}
 
@@ -79,9 +80,6 @@ merged-fixed f a b v ha hb hv = elim (merged_cases (f a) (f b) (f v)) [
 
 -- ---- lists of different edges
 
-pub differ_turned : (e x : ℕ) → eqb e x ≡ false → eqb x e ≡ false
-differ_turned e x h = grind (arith, nat_tests)
-
 pub in_tail : (e f : ℕ) (edges : List ℕ) → is_member e (f ∷ edges) ≡ true → eqb e f ≡ false → is_member e edges ≡ true
 in_tail e f edges a b = grind (arith, nat_tests)
 
@@ -94,7 +92,7 @@ AreDistinct-joined : (e : ℕ) (P Q : List ℕ) → AreDistinct P → AreDistinc
 AreDistinct-joined e [] Q p q a b c = (b, q)
 AreDistinct-joined e (x ∷ P) Q p q a b c =
     let h = or_parts (eqb e x) (is_member e P) a in (
-      missing_joined x e P Q p.0 (c x (is_member-head x P)) (differ_turned e x h.0),
+      missing_joined x e P Q p.0 (c x (is_member-head x P)) (eqb-turned x e ∙ h.0),
       AreDistinct-joined e P Q p.1 q h.1 b (λ f m. c f (or_right (eqb f x) (is_member f P) m)),
     )
 

@@ -13,12 +13,13 @@ use Rattle.mat_sets.proofs.Cardinalities.{length-with_one}
 use Rattle.mat_sets.proofs.Subsets.{find_member, length-subset}
 use Rattle.mat_sets.proofs.Ground.{AllBelow-member, AllBelow-subset}
 use Rattle.mat_sets.proofs.SetTests.{IsSet-from_test, is_set-true, is_set-with_one}
+use Rattle.mat_sets.proofs.Truths.{eqb-turned}
 use Rattle.mat_laws.specs.Matroids.{IsMatroid}
 use Rattle.mat_graphic.specs.Forests.{IsForest, some_distinct_list, is_closed_walk, is_forest, is_graphic}
 use Rattle.mat_graphic.specs.Mergings.{merged, least_merged}
 use Rattle.mat_graphic.specs.SearchLaws.{some_distinct_list-gives, some_distinct_list-from, closed-from_Walk, Walk-from_closed}
 use Rattle.mat_graphic.specs.TrailSearches.{Trail}
-use Rattle.mat_graphic.specs.ComponentLaws.{IsWithin, in_tail, merged_cases, merged-same, least_merged-le, least_merged-fixed, member_within, joins_same, walk_same, trail_of_same, differ_turned}
+use Rattle.mat_graphic.specs.ComponentLaws.{IsWithin, in_tail, merged_cases, merged-same, least_merged-le, least_merged-fixed, member_within, joins_same, walk_same, trail_of_same}
 
 -- ---- the vertices from which a lower one is reached
 
@@ -79,7 +80,7 @@ module _ (ends : ℕ → ℕ × ℕ) where
         walk_same ends X edges k.0 w (λ g n. h g (or_right (eqb g f) (is_member g edges) n) (other g f e edges d.0 n r)) k.2 in
         subst (IsWithin ends X) (sym r) (turned (same ∙ sym rest) k.1))
     | inr q ↦ crossed_once X e edges k.0 w d.1 (in_tail e f edges m q) (λ g n. h g (or_right (eqb g f) (is_member g edges) n)) k.2
-        (sym (joins_same ends X f v k.0 (h f (is_member-head f edges) (differ_turned e f q)) k.1) ∙ same)
+        (sym (joins_same ends X f v k.0 (h f (is_member-head f edges) (eqb-turned f e ∙ q)) k.1) ∙ same)
   ]
     where
       other : (g f e : ℕ) (edges : List ℕ) → is_member f edges ≡ false → is_member g edges ≡ true → e ≡ f → eqb g e ≡ false

@@ -1,7 +1,7 @@
 -- Forests and components of a graph, and the graph whose forests are the independent sets of a matroid (Schrijver, chapters 1 and 39).
-use Rattle.std.specs.Prelude.{◌≢◌, ℕ, zero, suc, ◌≤◌, Bool, true, false, not, ◌&&◌, ◌||◌, ◌==◌, List, [], ◌∷◌, length, slice_index_or}
-use Rattle.mat_sets.specs.Sets.{AreDistinct, IsSubset, is_member}
-use Rattle.mat_sets.specs.SetTests.{is_set}
+use Rattle.std.specs.Prelude.{◌≢◌, ℕ, zero, suc, ◌≤◌, Bool, false, not, ◌&&◌, ◌||◌, ◌==◌, List, [], ◌∷◌, length, slice_index_or}
+use Rattle.mat_sets.specs.Sets.{AreDistinct, IsSubset}
+use Rattle.mat_sets.specs.SetTests.{are_distinct, is_set}
 use Rattle.mat_sets.specs.Search.{some_below, those_below}
 use Rattle.mat_sets.specs.Graphs.{Walk}
 
@@ -16,11 +16,6 @@ some_member (x ∷ X) test = test x || some_member X test
 unfoldable pub some_list_of : ℕ → List ℕ → (List ℕ → Bool) → Bool
 some_list_of zero X test = test []
 some_list_of (suc k) X test = some_member X (λ x. some_list_of k X (λ xs. test (x ∷ xs)))
-
--- whether no item stands twice
-abbrev pub are_distinct : List ℕ → Bool
-are_distinct [] = true
-are_distinct (x ∷ xs) = not (is_member x xs) && are_distinct xs
 
 -- whether some list of different members of X passes: such a list has at most as many items as X
 unfoldable pub some_distinct_list : List ℕ → (List ℕ → Bool) → Bool

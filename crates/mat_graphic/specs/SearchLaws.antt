@@ -1,13 +1,15 @@
 -- The searches and the tests of walks hold exactly where the sentences do: a list of different members of a set that passes is found, as it
 -- has at most as many items as the set.
-use Rattle.std.proofs.Common.{◌≡◌, ℕ, zero, suc, Bool, true, not, ◌&&◌, eqb, List, [], ◌∷◌, length, inl, inr, refl, sym, ap, ◌∙◌, subst, arith}
-use Rattle.std.proofs.lemmas.Bool.{eqb-true, eq-eqb, or_cases, or_left, or_right, and_parts, and_from, false≢true, not-true}
+use Rattle.std.proofs.Common.{◌≡◌, ℕ, zero, suc, Bool, true, ◌&&◌, eqb, List, [], ◌∷◌, length, inl, inr, refl, sym, ap, ◌∙◌, subst, arith}
+use Rattle.std.proofs.lemmas.Bool.{eqb-true, eq-eqb, or_cases, or_left, or_right, and_parts, and_from, false≢true}
 use Rattle.mat_sets.specs.Sets.{is_member, IsRising, IsSubset, AreDistinct}
 use Rattle.mat_sets.specs.Graphs.{Walk}
 use Rattle.mat_sets.proofs.Members.{is_member-head}
 use Rattle.mat_sets.proofs.Ground.{length-distinct_subset}
 use Rattle.mat_sets.proofs.Search.{some_below_gives, some_below_from}
-use Rattle.mat_graphic.specs.Forests.{some_member, some_list_of, are_distinct, some_distinct_list, is_walk, is_closed_walk}
+use Rattle.mat_graphic.specs.Forests.{some_member, some_list_of, some_distinct_list, is_walk, is_closed_walk}
+use Rattle.mat_sets.specs.SetTests.{are_distinct}
+use Rattle.mat_sets.proofs.SetTests.{are_distinct-from, are_distinct-gives}
 
 -- ---- lists of members
 
@@ -51,16 +53,6 @@ some_list_of-from X (x ∷ xs) test s h =
     some_member-from X x (λ y. some_list_of (length xs) X (λ ys. test (y ∷ ys))) (s.inside x (is_member-head x xs))
     (some_list_of-from X xs (λ ys. test (x ∷ ys)) (record { inside = λ z k. s.inside z (or_right (eqb z x) (is_member z xs) k) }) h)
 
-AreDistinct-from_test : (xs : List ℕ) → are_distinct xs ≡ true → AreDistinct xs
-AreDistinct-from_test [] h = tt
-AreDistinct-from_test (x ∷ xs) h =
-    let parts = and_parts (not (is_member x xs)) (are_distinct xs) h in
-    (not-true _ parts.0, AreDistinct-from_test xs parts.1)
-
-test_from-AreDistinct : (xs : List ℕ) → AreDistinct xs → are_distinct xs ≡ true
-test_from-AreDistinct [] d = refl
-test_from-AreDistinct (x ∷ xs) d = and_from (not (is_member x xs)) (are_distinct xs) (ap not d.0) (test_from-AreDistinct xs d.1)
-
 pub some_distinct_list-gives : (X : List ℕ) (test : List ℕ → Bool) → some_distinct_list X test ≡ true
     → (xs : List ℕ) × AreDistinct xs × IsSubset xs X × (test xs ≡ true)
 unfolding some_distinct_list
@@ -69,7 +61,7 @@ some_distinct_list-gives X test h =
     let a = some_below_gives (suc (length X)) (λ k. some_list_of k X both) h in
     let b = some_list_of-gives a.0 X both a.2 in
     let parts = and_parts (are_distinct b.0) (test b.0) b.2 in
-    (b.0, AreDistinct-from_test b.0 parts.0, b.1, parts.1)
+    (b.0, are_distinct-gives b.0 parts.0, b.1, parts.1)
 
 pub some_distinct_list-from : (X xs : List ℕ) (test : List ℕ → Bool) → IsRising X → AreDistinct xs → IsSubset xs X → test xs ≡ true
     → some_distinct_list X test ≡ true
@@ -78,7 +70,7 @@ some_distinct_list-from X xs test r d s h =
     let both = λ (ys : List ℕ). are_distinct ys && test ys in
     let most = length-distinct_subset xs X d r s in
     some_below_from (suc (length X)) (length xs) (λ k. some_list_of k X both) (omega arith)
-    (some_list_of-from X xs both s (and_from (are_distinct xs) (test xs) (test_from-AreDistinct xs d) h))
+    (some_list_of-from X xs both s (and_from (are_distinct xs) (test xs) (are_distinct-from xs d) h))
 
 -- ---- walks
 

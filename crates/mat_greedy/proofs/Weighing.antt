@@ -6,6 +6,7 @@ use Rattle.std.specs.Int.{w128}
 use Rattle.std.proofs.lemmas.Bool.{and_parts, not-true}
 use Rattle.std.proofs.lemmas.Int.{ints}
 use Rattle.std.proofs.lemmas.List.{map-append}
+use Rattle.mat_sets.specs.Limits.{largest_number, most_elements}
 use Rattle.mat_sets.specs.Sets.{is_member, with_one}
 use Rattle.mat_sets.specs.Sums.{sum_of, IsWithin}
 use Rattle.mat_sets.specs.Weights.{◌⊕◌, zero_weight, weight_at, weight_sum, AreWeightsWithin}
@@ -23,23 +24,23 @@ use Rattle.mat_greedy.proofs.Climbing.{IsClimbing, IsClimbing-start, IsClimbing-
 
 -- ---- sums that fit
 
-sum_within : (f : ℕ → ℤ) → ((k : ℕ) → IsWithin (10 ^ 30) (f k)) → (xs : List ℕ) → IsWithin (10 ^ 30 * length xs) (sum_of f xs)
+sum_within : (f : ℕ → ℤ) → ((k : ℕ) → IsWithin largest_number (f k)) → (xs : List ℕ) → IsWithin (10 ^ 30 * length xs) (sum_of f xs)
 sum_within f each [] = (omega (arith, ints), omega (arith, ints))
 sum_within f each (x ∷ xs) =
     let here = each x in
     let rest = sum_within f each xs in
     (omega (arith, ints), omega (arith, ints))
 
-both_fit : (m : ℕ) (a b : ℤ) → m ≤ 500 → IsWithin (10 ^ 30 * m) a → IsWithin (10 ^ 30) b → FitsSigned w128 (a +ℤ b)
+both_fit : (m : ℕ) (a b : ℤ) → m ≤ most_elements → IsWithin (10 ^ 30 * m) a → IsWithin largest_number b → FitsSigned w128 (a +ℤ b)
 both_fit m a b few small step = omega (arith, ints)
 
 -- the weight of at most 500 members, and one more
-pub weights_fit : (weights : List Weight) → AreWeightsWithin (10 ^ 30) weights → (set : List ℕ) → length set ≤ 500 → (a : Weight)
+pub weights_fit : (weights : List Weight) → AreWeightsWithin largest_number weights → (set : List ℕ) → length set ≤ most_elements → (a : Weight)
     → a ≡ weight_sum (weight_at weights) set → (x : ℕ)
     → FitsSigned w128 (a.main +ℤ (weight_at weights x).main) × FitsSigned w128 (a.tie +ℤ (weight_at weights x).tie)
 weights_fit weights small set few a e x =
     let w = weight_at weights in
-    let each = weight_within_at (10 ^ 30) weights small in
+    let each = weight_within_at largest_number weights small in
     rw e (
       both_fit (length set) (sum_of (λ k. (w k).main) set) (w x).main few (sum_within (λ k. (w k).main) (λ k. (each k).0) set) (each x).0,
       both_fit (length set) (sum_of (λ k. (w k).tie) set) (w x).tie few (sum_within (λ k. (w k).tie) (λ k. (each k).1) set) (each x).1,

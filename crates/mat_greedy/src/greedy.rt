@@ -1,6 +1,7 @@
 //! The greedy algorithm on a matroid.
 
-ghost use Rattle.std.specs.Prelude.{◌≡◌, ◌<◌, ◌≤◌, ◌^◌, length, IfOk, IfSome, IsNone, ◌↔◌};
+ghost use Rattle.std.specs.Prelude.{◌≡◌, ◌<◌, ◌≤◌, length, IfOk, IfSome, IsNone, ◌↔◌};
+ghost use Rattle.mat_sets.specs.Limits.{most_elements, largest_number};
 ghost use Rattle.mat_sets.specs.Sets.{all_below};
 ghost use Rattle.mat_sets.specs.Weights.{weight_at, AreWeightsWithin};
 ghost use Rattle.mat_laws.specs.Ranks.{rank};
@@ -48,8 +49,8 @@ pub fn heaviest_weights<M: Matroid>(
 ) -> Result<PairWeights, AllocError>
     requires sound { M.sound m.now }
     requires lengths { length weights.now ≡ M.ground_size m.now }
-    requires few { length weights.now ≤ 500 }
-    requires small { AreWeightsWithin (10 ^ 30) weights.now }
+    requires few { length weights.now ≤ most_elements }
+    requires small { AreWeightsWithin largest_number weights.now }
     ensures { IfOk result (AreHeaviestWeights (M.ground_size m.now) (M.indep m.now) (weight_at weights.now)) }
 {
     m.lawful();

@@ -1,8 +1,9 @@
 -- The exchanges at an independent set I are turned: the elements outside it enter, one after the other, the columns of the members
 -- whose place they can take.
 use Rattle.std.proofs.Common.{◌≡◌, ℕ, ◌+◌, ◌<◌, Bool, true, false, not, ◌&&◌, ◌||◌, eqb, ltb, List, [], length, get_or}
-use Rattle.std.proofs.Common.{refl, sym, ap, ◌∙◌, arith}
-use Rattle.std.proofs.lemmas.Bool.{eqb-true}
+use Rattle.std.proofs.Common.{inl, inr, refl, ap, ◌∙◌, arith}
+use Rattle.std.proofs.lemmas.Bool.{cases_lt, eqb-true}
+use Rattle.std.proofs.lemmas.List.{get_or_past}
 use Rattle.std.proofs.lemmas.Bool.Decides.{nat_tests}
 use Rattle.mat_sets.specs.Sets.{is_member, with_one, without_one, AllBelow}
 use Rattle.mat_sets.proofs.Members.{is_member-filter}
@@ -12,22 +13,13 @@ use Rattle.mat_laws.specs.Exchanges.{row_of}
 use Rattle.mat_laws.specs.declared.exchange.Exchange.{Exchange}
 use Rattle.mat_laws.proofs.Rows.{exchanged, row-with}
 use Rattle.mat_laws.proofs.Independent.{below}
-use Rattle.mat_laws.specs.Columns.{takes_place, AreColumns}
+use Rattle.mat_laws.specs.Columns.{takes_place}
 
 -- the elements below z have entered
 pub record AreEntering (n : ℕ) (p : List ℕ → Bool) (I : List ℕ) (z : ℕ) (columns : List (List ℕ)) : Type 0 where
   pub long : length columns ≡ n
   pub columns_are : (y k : ℕ) → is_member y I ≡ true → is_member k (get_or columns y []) ≡ (ltb k z && takes_place n p I y k)
-
-pub AreEntering-start : (n : ℕ) (p : List ℕ → Bool) (I : List ℕ) (columns : List (List ℕ)) → length columns ≡ n
-    → ((y : ℕ) → get_or columns y [] ≡ []) → AreEntering n p I 0 columns
-AreEntering-start n p I columns l none = record {
-  long = l;
-  columns_are = λ y k m. ap (is_member k) (none y) ∙ sym (nothing k (takes_place n p I y k));
-}
-  where
-    nothing : (k : ℕ) (b : Bool) → (ltb k 0 && b) ≡ false
-    nothing k b = grind (arith, nat_tests)
+  pub others_are : (y k : ℕ) → is_member y I ≡ false → is_member k (get_or columns y []) ≡ false
 
 pub row_below : {n : ℕ} {p : List ℕ → Bool} → IsMatroid n p → (I : List ℕ) (x : ℕ) (row : Exchange) → p I ≡ true
     → is_member x I ≡ false → row ≡ row_of p I x → AllBelow n row.with
@@ -47,8 +39,19 @@ AreEntering-entered {n} {p} I z columns new row members laws ok small out e list
       ∙ ap (λ b. (ltb k z && takes_place n p I y k) || (eqb k z && b)) (ap (is_member y) (listed ∙ row-with p I z row out e)
       ∙ is_member-filter (exchanged p I z) y I ∙ ap (λ b. b && exchanged p I z y) m)
       ∙ last y k;
+  others_are = λ y k m. elim (cases_lt y (length columns)) [
+    | inl inside ↦ entered y k inside
+        ∙ ap (λ b. b || (eqb k z && is_member y members)) (a.others_are y k m)
+        ∙ ap (λ b. false || (eqb k z && b)) (ap (is_member y) (listed ∙ row-with p I z row out e)
+        ∙ is_member-filter (exchanged p I z) y I ∙ ap (λ b. b && exchanged p I z y) m)
+        ∙ neither (eqb k z)
+    | inr past ↦ ap (is_member k) (get_or_past new y [] (omega (arith, l, past)))
+  ];
 }
   where
+    neither : (b : Bool) → (false || (b && false)) ≡ false
+    neither b = grind arith
+
     here : (y k : ℕ) → k ≡ z → takes_place n p I y k ≡ exchanged p I z y
     here y k same = rw same (let s = small in rw out (let t : ltb z n ≡ true = grind (arith, nat_tests) in rw t refl))
 
@@ -66,6 +69,7 @@ pub AreEntering-passed : (n : ℕ) (p : List ℕ → Bool) (I : List ℕ) (z : �
 AreEntering-passed n p I z columns m a = record {
   long = a.long;
   columns_are = λ y k h. a.columns_are y k h ∙ join k (takes_place n p I y k) (λ s. none y k (eqb-true k z s));
+  others_are = a.others_are;
 }
   where
     none : (y k : ℕ) → k ≡ z → takes_place n p I y k ≡ false
@@ -76,14 +80,3 @@ AreEntering-passed n p I z columns m a = record {
 
     join : (k : ℕ) (t : Bool) → (eqb k z ≡ true → t ≡ false) → (ltb k z && t) ≡ (ltb k (z + 1) && t)
     join k t same = grind (arith, nat_tests)
-
-pub AreEntering-end : (n : ℕ) (p : List ℕ → Bool) (I : List ℕ) (z : ℕ) (columns : List (List ℕ)) → z ≡ n
-    → AreEntering n p I z columns → AreColumns n p I columns
-AreEntering-end n p I z columns all a = record {
-  long = a.long;
-  columns_are = λ y k m. a.columns_are y k m ∙ ap (λ j. ltb k j && takes_place n p I y k) all
-      ∙ once (ltb k n) (not (is_member k I) && p (with_one (without_one I y) k));
-}
-  where
-    once : (b c : Bool) → (b && (b && c)) ≡ (b && c)
-    once b c = grind arith

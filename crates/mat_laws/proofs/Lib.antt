@@ -14,6 +14,5 @@ pub mod Searches
 pub mod GreedyRunSteps
 pub mod GreedyRunSets
 pub mod GreedyRunTraces
-pub mod ColumnEntries
 pub mod ColumnSteps
 pub mod TightArcs

@@ -1,7 +1,8 @@
 -- The rank is the largest size of an independent subset; a largest one is maximal.
 use Rattle.std.proofs.Common.{◌≡◌, ℕ, suc, zero, ◌≤◌, Bool, true, ◌&&◌, eqb, List, [], length, inl, inr, refl, sym, ap, ◌∙◌, arith}
 use Rattle.std.proofs.lemmas.Bool.{cases_Bool, cases_eq, eqb-true, eq-eqb, both_ways, false_from_ne_true, and_parts, and_from}
-use Rattle.mat_sets.specs.Sets.{IsRising, IsSubset, with_one}
+use Rattle.mat_sets.specs.Sets.{IsRising, IsSubset, all_below, with_one}
+use Rattle.mat_sets.proofs.Ground.{IsRising-all_below, IsSubset-all_below}
 use Rattle.mat_sets.proofs.Members.{IsRising-nil}
 use Rattle.mat_sets.proofs.Subsets.{length-subset, with_one-IsSubset}
 use Rattle.mat_sets.proofs.Cardinalities.{length-with_one}
@@ -9,7 +10,7 @@ use Rattle.mat_sets.proofs.Search.{some_subset_gives, some_subset_from}
 use Rattle.mat_sets.proofs.Steps.{IsSubset-none}
 use Rattle.mat_laws.specs.Matroids.{IsMatroid, IsMaximal}
 use Rattle.mat_laws.specs.Ranks.{IsRank, largest_up_to, has_independent, rank}
-use Rattle.mat_laws.proofs.Independent.{rising}
+use Rattle.mat_laws.proofs.Independent.{below, rising}
 use Rattle.mat_laws.proofs.Maximal.{IsRank-maximal, IsRank-unique}
 
 -- ---- the largest number that passes
@@ -77,3 +78,7 @@ rank-subset {n} {p} laws X Y r q s =
     let few = rank_is laws X r in
     let many = rank_is laws Y q in
     omega (arith, few.size, many.most few.largest few.passes (record { inside = λ x m. s.inside x (few.inside.inside x m) }))
+
+-- an independent set has at most as many members as the rank of all elements
+pub length-independent : {n : ℕ} {p : List ℕ → Bool} → IsMatroid n p → (I : List ℕ) → p I ≡ true → length I ≤ rank p (all_below n)
+length-independent {n} {p} laws I ok = (rank_is laws (all_below n) (IsRising-all_below n)).most I ok (IsSubset-all_below n I (below laws I ok))

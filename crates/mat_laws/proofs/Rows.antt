@@ -11,6 +11,7 @@ use Rattle.mat_laws.specs.Exchanges.{row_of}
 use Rattle.mat_laws.specs.TightPaths.{exchanges_at}
 use Rattle.mat_sets.proofs.Members.{is_member-filter, is_member-get_or, is_member-with_one, same_members, IsRising-nil, IsRising-with_one, RisesFrom-filter}
 use Rattle.mat_sets.proofs.Changes.{without_one-with_one}
+use Rattle.mat_sets.proofs.Truths.{or_none}
 
 -- whether x can be exchanged for y
 abbrev pub exchanged : (List ℕ → Bool) → List ℕ → ℕ → ℕ → Bool
@@ -76,12 +77,8 @@ module _ {independent : List ℕ → Bool} {I found : List ℕ} {x i : ℕ} (c :
   pub IsCollecting-end : IsRising I → length I ≤ i → found ≡ filter (exchanged independent I x) I
   IsCollecting-end rises l = same_members _ _ c.rising (record { rises = RisesFrom-filter _ 0 I rises.rises }) (λ k. none k ∙ c.members k)
     where
-      or_false : (b : Bool) → b ≡ (b || false)
-      or_false true = refl
-      or_false false = refl
-
       none : (k : ℕ) → is_member k found ≡ (is_member k found || is_member k (filter (exchanged independent I x) (drop i I)))
-      none k = or_false (is_member k found)
+      none k = sym (or_none (is_member k found))
           ∙ ap (λ s. is_member k found || is_member k (filter (exchanged independent I x) s)) (sym (drop_all i I l))
 
 -- the two parts of the row of x outside I
@@ -94,12 +91,12 @@ pub row-with : (independent : List ℕ → Bool) (I : List ℕ) (x : ℕ) (row :
 row-with independent I x row out e = ap (λ r. r.with) (e ∙ cond-false (is_member x I) _ _ out)
 
 -- and the row by its two parts
+pub same_row : (a b : Bool) (xs ys : List ℕ) → a ≡ b → xs ≡ ys → row_with a xs ≡ row_with b ys
+same_row a b xs ys d e = ap (λ c. row_with c xs) d ∙ ap (row_with b) e
+
 pub row_outside : (independent : List ℕ → Bool) (I : List ℕ) (x : ℕ) (row : Exchange) → is_member x I ≡ false
     → row.addable ≡ independent (with_one I x) → row.with ≡ filter (exchanged independent I x) I → row ≡ row_of independent I x
 row_outside independent I x row o a t = same_row row.addable _ row.with _ a t ∙ sym (cond-false (is_member x I) _ _ o)
-  where
-    same_row : (a b : Bool) (xs ys : List ℕ) → a ≡ b → xs ≡ ys → row_with a xs ≡ row_with b ys
-    same_row a b xs ys d e = ap (λ c. row_with c xs) d ∙ ap (row_with b) e
 
 -- ---- what a row tells
 

@@ -6,13 +6,11 @@ use Rattle.mat_sets.specs.Sets.{is_member, IsRising, IsSubset, with_one, without
 use Rattle.mat_sets.proofs.Members.{set_members, same_members, IsRising-with_one, IsRising-without_one, IsRising-minus, IsRising-union}
 use Rattle.mat_sets.proofs.Changes.{with_one-swapped, with_one-returned, without_one-two, without_one-with_one}
 use Rattle.mat_sets.proofs.Cardinalities.{length-with_one}
+use Rattle.mat_sets.proofs.Truths.{same_truth}
 use Rattle.mat_laws.specs.Matroids.{IsMatroid}
 use Rattle.mat_laws.specs.Exchanges.{IsTriangular}
 use Rattle.mat_laws.proofs.Independent.{rising}
 use Rattle.mat_laws.proofs.Symmetric.{IsRising-exchange}
-
-same_tests : (a b : Bool) → (a ≡ true → b ≡ true) → (b ≡ true → a ≡ true) → a ≡ b
-same_tests a b f g = grind arith
 
 pub apart_by : (I : List ℕ) (x y : ℕ) → is_member x I ≡ false → is_member y I ≡ true → eqb x y ≡ false
 apart_by I x y o i = grind arith
@@ -73,7 +71,7 @@ module _ {n : ℕ} {p : List ℕ → Bool} (laws : IsMatroid n p) where
       let with_x' : p (with_one (with_one K y') x') ≡ false = ap (λ s. p (with_one s x')) third ∙ none in
       let there : p (with_one (with_one K x) x') ≡ true → p (with_one (with_one K y) x') ≡ true = takes_other_place K y y' x x' rk y_out y'_out x'_none with_y with_x' in
       let back : p (with_one (with_one K y) x') ≡ true → p (with_one (with_one K x) x') ≡ true = takes_other_place K x y' y x' rk x_none y'_out x'_none with_x with_x' in
-      ap (λ s. p (with_one s x')) first ∙ same_tests _ _ there back ∙ sym (ap (λ s. p (with_one s x')) second)
+      ap (λ s. p (with_one s x')) first ∙ same_truth _ _ there back ∙ sym (ap (λ s. p (with_one s x')) second)
 
 -- ---- pairs by functions of an index
 

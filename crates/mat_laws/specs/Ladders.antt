@@ -1,5 +1,6 @@
 -- Ladders of heaviest common independent sets with split weights, and the cut that ends them (Frank 1981; Schrijver, chapter 41).
-use Rattle.std.specs.Prelude.{◌≡◌, ℕ, ◌+◌, ◌*◌, ◌^◌, ◌<◌, Bool, List, length}
+use Rattle.std.specs.Prelude.{◌≡◌, ℕ, ◌+◌, ◌*◌, ◌<◌, Bool, List, length}
+use Rattle.mat_sets.specs.Limits.{largest_weight}
 use Rattle.mat_sets.specs.Sets.{IsSet, minus, all_below}
 use Rattle.mat_sets.specs.Weights.{◌⊕◌, weight_at}
 use Rattle.mat_sets.specs.declared.weight.Weight.{Weight}
@@ -24,4 +25,4 @@ pub record IsCut (n : ℕ) (p q : List ℕ → Bool) (k : ℕ) (cut : List ℕ) 
 
 -- the bound on the numbers of a split of weights whose numbers are from -10^12 to 10^12 on n elements
 abbrev pub split_bound : ℕ → ℕ
-split_bound n = 2 * 10 ^ 12 * (n + 1) * n * (n + 1) + 10 ^ 12
+split_bound n = 2 * largest_weight * (n + 1) * n * (n + 1) + largest_weight

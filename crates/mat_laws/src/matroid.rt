@@ -161,6 +161,24 @@ pub trait Matroid: Sync + Drop {
         requires base { indep self.now base.now ≡ true }
         ensures { IfOk result (λ kept. keeps self.now base.now kept) };
 
+    /// What is kept of another independent set, where something is kept of this one: a kind may make it from that in less time, and this
+    /// body makes it anew. The only error is want of memory.
+    fn keep_next(
+        &self,
+        alloc: Global,
+        _base: &ElemSet,
+        _kept: &Self::Kept,
+        next: &ElemSet,
+    ) -> Result<Self::Kept, AllocError>
+        requires sound { sound self.now }
+        requires base { indep self.now _base.now ≡ true }
+        requires kept { keeps self.now _base.now _kept.now }
+        requires next { indep self.now next.now ≡ true }
+        ensures { IfOk result (λ kept. keeps self.now next.now kept) }
+    {
+        self.keep(alloc, next)
+    }
+
     /// The exchanges of an element x outside an independent set of which something is kept. A kind that keeps something has
     /// a faster body; this one asks `circuit`. The only error is want of memory.
     fn row(
@@ -240,6 +258,16 @@ impl<M: Matroid> Matroid for &M {
 
     fn keep(&self, alloc: Global, base: &ElemSet) -> Result<M::Kept, AllocError> {
         (**self).keep(alloc, base)
+    }
+
+    fn keep_next(
+        &self,
+        alloc: Global,
+        base: &ElemSet,
+        kept: &M::Kept,
+        next: &ElemSet,
+    ) -> Result<M::Kept, AllocError> {
+        (**self).keep_next(alloc, base, kept, next)
     }
 
     fn row(

@@ -7,7 +7,7 @@ use Rattle.mat_sets.specs.Walks.{IsShortestWalk, IsWalk}
 use Rattle.mat_sets.proofs.ListParts.{same_place}
 use Rattle.mat_sets.proofs.Members.{is_member-get_or, is_member-with_one, place_of_member}
 use Rattle.mat_sets.proofs.Reach.{walk_differs}
-use Rattle.mat_flow.specs.Digraphs.{row_at}
+use Rattle.mat_sets.specs.Rows.{row_at}
 use Rattle.mat_flow.specs.LinkTables.{entry_at, entry_before, IsShifted}
 use Rattle.mat_flow.proofs.LinkTables.{some_is_one}
 use Rattle.mat_linked.specs.Matchings.{is_held, IsMatching}

@@ -8,7 +8,7 @@ use Rattle.mat_sets.specs.Sets.{is_member, with_one, without_one}
 use Rattle.mat_sets.specs.Walks.{IsReachedSet, IsShortestWalk}
 use Rattle.mat_sets.proofs.Members.{set_members, is_member-with_one, is_member-without_one}
 use Rattle.mat_sets.proofs.Reach.{finite_reach, reached_by_induction, walk_differs}
-use Rattle.mat_flow.specs.Digraphs.{row_at}
+use Rattle.mat_sets.specs.Rows.{row_at}
 use Rattle.mat_flow.specs.LinkTables.{entry_at, IsShifted}
 use Rattle.mat_flow.proofs.LinkTables.{entry_inside, none_is_not_some, some_is_one, IsShifting, IsShifting-end, IsShifting-next}
 use Rattle.mat_linked.specs.Matchings.{is_held, AreMatchable, IsMatching}

@@ -8,7 +8,7 @@ use Rattle.mat_sets.specs.Walks.{IsReachedSet, IsShortestWalk}
 use Rattle.mat_sets.proofs.Filters.{filter_whole}
 use Rattle.mat_sets.proofs.Ground.{AllBelow-member, IsSet-with_one, IsSet-without_one}
 use Rattle.mat_sets.proofs.Members.{filter_same_at, is_member-with_one, set_members}
-use Rattle.mat_flow.specs.Digraphs.{row_at}
+use Rattle.mat_sets.specs.Rows.{row_at}
 use Rattle.mat_flow.specs.LinkTables.{entry_at, is_there}
 use Rattle.mat_flow.proofs.Frontiers.{is_before_gives, is_before-more}
 use Rattle.mat_laws.specs.declared.exchange.Exchange.{Exchange}
@@ -36,10 +36,8 @@ IsMatching-any_rows n family rows others X matched below r s t = record {
 }
 
 -- the rows that a matroid has are those of its family
-pub indices_of : (made m : Family) (rows lent : List (List ℕ)) → made ≡ m → lent ≡ rows → AreIndices made.count made.sets rows
-    → AreIndices m.count m.sets lent
-indices_of made m rows lent e f r =
-    subst (λ k. AreIndices k.count k.sets lent) e (subst (AreIndices made.count made.sets) (sym f) r)
+pub indices_of : (made m : Family) (rows : List (List ℕ)) → made ≡ m → AreIndices made.count made.sets rows → AreIndices m.count m.sets rows
+indices_of made m rows e r = subst (λ k. AreIndices k.count k.sets rows) e r
 
 pub base_below : (n : ℕ) (family rows : List (List ℕ)) (X : List ℕ) → AreIndices n family rows → is_transversal n family X ≡ true
     → AllBelow (length rows) X

@@ -8,3 +8,6 @@ pub mod MatchingRuns
 pub mod MatchableSets
 pub mod LinkedRuns
 pub mod LinkedRows
+pub mod MorePaths
+pub mod FewerPaths
+pub mod EnteredSets

@@ -1,6 +1,6 @@
 -- A set is linked exactly where as many disjoint paths as it has members lead to its vertices: they end at different ones of them, so at
 -- each; and where there are such paths, no separator has fewer vertices than the set has members.
-use Rattle.std.proofs.Common.{◌≡◌, ℕ, ◌<◌, ◌≤◌, Bool, true, false, ◌||◌, eqb, List, [], length, map, inl, inr, refl, sym, ap, ◌∙◌, subst, arith}
+use Rattle.std.proofs.Common.{◌≡◌, ℕ, ◌<◌, ◌≤◌, true, eqb, List, [], length, map, inl, inr, sym, ap, ◌∙◌, subst, arith}
 use Rattle.std.proofs.lemmas.Bool.{both_ways, cases_Bool, eq-eqb, eqb-true}
 use Rattle.std.proofs.lemmas.List.{length-map}
 use Rattle.mat_sets.specs.Sets.{is_member, union, AllBelow, IsRising, IsSet}
@@ -8,14 +8,15 @@ use Rattle.mat_sets.proofs.Ground.{AllBelow-from_members, AllBelow-member, lengt
 use Rattle.mat_sets.proofs.Members.{IsRising-nil, IsRising-union, is_member-union, same_members}
 use Rattle.mat_sets.proofs.Subsets.{same_size_subset}
 use Rattle.mat_sets.proofs.Sums.{AllBelow-at}
-use Rattle.mat_flow.specs.PathChoices.{ends_are_targets}
-use Rattle.mat_flow.specs.PathFamilies.{AreDistinct-ends, ends_of, is_member-ends_of}
-use Rattle.mat_flow.specs.PathLaws.{at_most_a_separator}
+use Rattle.mat_sets.proofs.Truths.{or_none}
+use Rattle.mat_flow.proofs.PathChoiceLaws.{ends_are_targets}
+use Rattle.mat_flow.proofs.PathFamilyLaws.{AreDistinct-ends, ends_of, is_member-ends_of}
+use Rattle.mat_flow.proofs.PathLaws.{at_most_a_separator}
 use Rattle.mat_flow.specs.Paths.{last_of, IsLinking}
-use Rattle.mat_flow.specs.SimplePaths.{ArePathsApart-disjoint}
+use Rattle.mat_flow.proofs.SimplePathLaws.{ArePathsApart-disjoint}
 use Rattle.mat_linked.specs.GammoidLaws.{is_gammoid-from, is_gammoid-gives}
 use Rattle.mat_linked.specs.Gammoids.{is_gammoid, vertices_of, IsGammoid, LinkedVertices}
-use Rattle.mat_linked.specs.LinkedSets.{AreDistinct-vertices_of, for_more, linked_by, size_of, vertex_member}
+use Rattle.mat_linked.specs.LinkedSetLaws.{AreDistinct-vertices_of, for_more, linked_by, size_of, vertex_member}
 use Rattle.mat_linked.proofs.VertexSets.{length-vertices_of}
 
 module _ (vertices : ℕ) (arcs : List (ℕ × ℕ)) (sources targets : List ℕ) (given : IsGammoid vertices arcs sources targets)
@@ -26,12 +27,8 @@ module _ (vertices : ℕ) (arcs : List (ℕ × ℕ)) (sources targets : List ℕ
   size_of_ends =
       let vs = vertices_of targets X in
       ap length (same_members ends (union vs []) rises (IsRising-union vs [] IsRising-nil)
-      (λ v. members v ∙ sym (is_member-union v vs [] ∙ nothing_else (is_member v vs))))
+      (λ v. members v ∙ sym (is_member-union v vs [] ∙ or_none (is_member v vs))))
       ∙ length-distinct vs (AreDistinct-vertices_of targets X given.distinct set) ∙ length-vertices_of targets X
-    where
-      nothing_else : (a : Bool) → (a || false) ≡ a
-      nothing_else true = refl
-      nothing_else false = refl
 
   -- the last vertices of the paths are ends
   ended : (v : ℕ) → is_member v (map last_of paths) ≡ true → is_member v ends ≡ true

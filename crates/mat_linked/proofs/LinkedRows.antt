@@ -5,6 +5,7 @@ use Rattle.mat_sets.specs.Sets.{is_member, with_one, without_one, AreDistinct, I
 use Rattle.mat_sets.proofs.Filters.{filter_whole}
 use Rattle.mat_sets.proofs.Ground.{IsSet-with_one, IsSet-without_one, below_member}
 use Rattle.mat_sets.proofs.Members.{filter_same_at, is_member-with_one, is_member-without_one, same_members, IsRising-nil, IsRising-union, IsRising-with_one, IsRising-without_one}
+use Rattle.mat_sets.proofs.Truths.{same_truth}
 use Rattle.mat_flow.specs.Paths.{HasPathsToEach}
 use Rattle.mat_flow.specs.Reroutes.{GiveWay}
 use Rattle.mat_laws.specs.Exchanges.{row_of}
@@ -12,16 +13,11 @@ use Rattle.mat_laws.proofs.Rows.{row_outside}
 use Rattle.mat_linked.specs.GammoidLaws.{gammoid_laws}
 use Rattle.mat_linked.specs.Gammoids.{is_gammoid, set_of_vertices, vertices_of, IsGammoid}
 use Rattle.mat_linked.specs.KeptLinkings.{has_vertex_in}
-use Rattle.mat_linked.specs.LinkedSets.{member_vertex, same_vertex, vertex_member}
+use Rattle.mat_linked.specs.LinkedSetLaws.{member_vertex, same_vertex, vertex_member}
 use Rattle.mat_linked.proofs.LinkedRuns.{is_member-set_of_vertices, new_vertex, set_of_vertices-with_one, told_by_paths}
 
-same_truth : (a b : Bool) → (a ≡ true → b ≡ true) → (b ≡ true → a ≡ true) → a ≡ b
-same_truth true b f g = sym (f refl)
-same_truth false true f g = g refl
-same_truth false false f g = refl
-
 -- the vertices of a set with one element fewer
-set_of_vertices-without_one : (targets X : List ℕ) (y : ℕ) → AreDistinct targets → IsSet (length targets) X → y < length targets
+pub set_of_vertices-without_one : (targets X : List ℕ) (y : ℕ) → AreDistinct targets → IsSet (length targets) X → y < length targets
     → without_one (set_of_vertices targets X) (get_or targets y 0) ≡ set_of_vertices targets (without_one X y)
 set_of_vertices-without_one targets X y distinct set l =
     let e = get_or targets y 0 in

@@ -6,22 +6,19 @@ use Rattle.mat_sets.specs.Sets.{is_member, union, with_one, AreDistinct, IsSet}
 use Rattle.mat_sets.proofs.Ground.{IsSet-with_one, below_member}
 use Rattle.mat_sets.proofs.Members.{IsRising-nil, IsRising-union, IsRising-with_one, is_member-get_or, is_member-union, is_member-with_one, same_members}
 use Rattle.mat_sets.proofs.Steps.{is_member-take_more}
+use Rattle.mat_sets.proofs.Truths.{or_none, same_truth}
 use Rattle.mat_flow.specs.LinkedEnds.{IsLinkedTo}
 use Rattle.mat_flow.specs.Paths.{HasPathsToEach}
 use Rattle.mat_flow.specs.declared.link_table.LinkTable.{LinkTable}
 use Rattle.mat_laws.proofs.GreedyRunSteps.{IsRunning, IsRunning-next, IsRunning-start}
 use Rattle.mat_linked.specs.GammoidLaws.{gammoid_laws, is_gammoid-from, is_gammoid-gives}
 use Rattle.mat_linked.specs.Gammoids.{is_gammoid, set_of_vertices, vertices_of, IsGammoid}
-use Rattle.mat_linked.specs.LinkedSets.{for_more, linked_by, member_vertex, same_vertex, vertex_member}
+use Rattle.mat_linked.specs.LinkedSetLaws.{for_more, linked_by, member_vertex, same_vertex, vertex_member}
 
 -- ---- vertices of sets
 
 pub is_member-set_of_vertices : (targets X : List ℕ) (v : ℕ) → is_member v (set_of_vertices targets X) ≡ is_member v (vertices_of targets X)
-is_member-set_of_vertices targets X v = is_member-union v (vertices_of targets X) [] ∙ nothing_else (is_member v (vertices_of targets X))
-  where
-    nothing_else : (a : Bool) → (a || false) ≡ a
-    nothing_else true = refl
-    nothing_else false = refl
+is_member-set_of_vertices targets X v = is_member-union v (vertices_of targets X) [] ∙ or_none (is_member v (vertices_of targets X))
 
 vertices_of-with_one : (targets X : List ℕ) (x v : ℕ) → (is_member v (vertices_of targets (with_one X x)))
     ≡ (eqb v (get_or targets x 0) || is_member v (vertices_of targets X))
@@ -38,11 +35,6 @@ vertices_of-with_one targets X x v = same_truth (is_member v (vertices_of target
           ap (λ u. is_member u (vertices_of targets (with_one X x))) (sym w.2)
           ∙ member_vertex targets (with_one X x) w.0 (is_member-with_one w.0 x X ∙ or_right (eqb w.0 x) (is_member w.0 X) w.1))
     ])
-  where
-    same_truth : (a b : Bool) → (a ≡ true → b ≡ true) → (b ≡ true → a ≡ true) → a ≡ b
-    same_truth true b f g = sym (f refl)
-    same_truth false true f g = g refl
-    same_truth false false f g = refl
 
 no_vertices : (targets : List ℕ) → [] ≡ set_of_vertices targets []
 unfolding union

@@ -139,7 +139,7 @@ AreMatchable-part rows sets X Y inside m = record {
   differ = λ x y k l. m.differ x y (inside x k) (inside y l);
 }
 
-take_inside : (xs : List ℕ) (i x : ℕ) → is_member x (take i xs) ≡ true → is_member x xs ≡ true
+pub take_inside : (xs : List ℕ) (i x : ℕ) → is_member x (take i xs) ≡ true → is_member x xs ≡ true
 take_inside [] zero x m = m
 take_inside [] (suc i) x m = m
 take_inside (y ∷ xs) zero x m = absurd (false≢true m)

@@ -8,7 +8,7 @@ use Rattle.mat_sets.specs.Walks.{IsReachedSet}
 use Rattle.mat_sets.proofs.Ground.{AreDistinct-rising, length-distinct_subset}
 use Rattle.mat_sets.proofs.MappedLists.{AreDistinct-map, mapped_member}
 use Rattle.mat_sets.proofs.Members.{is_member-with_one}
-use Rattle.mat_flow.specs.Digraphs.{row_at}
+use Rattle.mat_sets.specs.Rows.{row_at}
 use Rattle.mat_flow.specs.LinkTables.{entry_at}
 use Rattle.mat_linked.specs.Matchings.{is_held, AreMatchable, IsMatching}
 

@@ -5,8 +5,8 @@ use Rattle.mat_sets.specs.SetTests.{is_set}
 use Rattle.mat_sets.proofs.SetTests.{IsSet-from_test, test_from-IsSet}
 use Rattle.mat_laws.specs.Matroids.{Augments, IsMatroid}
 use Rattle.mat_linked.specs.Gammoids.{has_paths_to, is_gammoid, vertices_of, IsGammoid, IsLinked}
-use Rattle.mat_linked.specs.LinkedSets.{augments, linked_nil, linked_subset}
-use Rattle.mat_linked.specs.PathSearch.{has_paths_to-from, has_paths_to-gives}
+use Rattle.mat_linked.specs.LinkedSetLaws.{augments, linked_nil, linked_subset}
+use Rattle.mat_linked.specs.PathSearchLaws.{has_paths_to-from, has_paths_to-gives}
 
 module _ (vertices : ℕ) (arcs : List (ℕ × ℕ)) (sources targets : List ℕ) where
   pub is_gammoid-gives : (X : List ℕ) → is_gammoid vertices arcs sources targets X ≡ true → IsLinked arcs sources targets X

@@ -2,11 +2,10 @@
 -- (Schrijver, chapter 39).
 use Rattle.std.specs.Prelude.{◌≡◌, ℕ, suc, ◌<◌, ◌^◌, Bool, true, false, ◌&&◌, ◌==◌, List, [], ◌∷◌, ◌++◌, length, map, slice_index_or}
 use Rattle.mat_sets.specs.Sets.{is_member, union, IsSet, AllBelow, AreDistinct}
-use Rattle.mat_sets.specs.SetTests.{is_set}
+use Rattle.mat_sets.specs.SetTests.{is_set, are_distinct}
 use Rattle.mat_sets.specs.Search.{some_below, some_list}
 use Rattle.mat_sets.specs.Graphs.{IsGraph}
 use Rattle.mat_flow.specs.Paths.{has_arc, first_of, last_of, AreDisjointPaths}
-use Rattle.mat_linked.specs.Transversals.{are_distinct}
 
 -- whether a list of vertices is a path
 abbrev pub is_path : List (ℕ × ℕ) → List ℕ → Bool

@@ -1,9 +1,9 @@
 pub mod Transversals
 pub mod Gammoids
-pub mod PathSearch
-pub mod LinkedSets
+pub mod PathSearchLaws
+pub mod LinkedSetLaws
 pub mod GammoidLaws
-pub mod TransversalPaths
+pub mod TransversalPathLaws
 pub mod TransversalLaws
 pub mod Matchings
 pub mod KeptMatchings

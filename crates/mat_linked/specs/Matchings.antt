@@ -1,8 +1,8 @@
 -- Matchings of elements with sets that hold them, as tables that have at each index the element that the set with this index is matched
 -- with (Schrijver, chapters 16 and 22).
-use Rattle.std.specs.Prelude.{◌≡◌, ℕ, ◌<◌, Bool, true, false, ◌&&◌, nat_lt, List, length, Option, Some, None}
+use Rattle.std.specs.Prelude.{◌≡◌, ℕ, ◌<◌, Bool, true, false, List, length, Option, Some, None}
 use Rattle.mat_sets.specs.Sets.{is_member}
-use Rattle.mat_flow.specs.Digraphs.{row_at}
+use Rattle.mat_sets.specs.Rows.{row_at}
 use Rattle.mat_flow.specs.LinkTables.{entry_at, is_before}
 
 -- for each element the indices of the sets that hold it
@@ -37,8 +37,3 @@ IsMatchedOrNone rows X matched false = AreMatchable rows (length matched) X → 
 -- whether the element is the one that one of the sets with these indices is matched with
 abbrev pub is_matched_among : List (Option ℕ) → List ℕ → ℕ → Bool
 is_matched_among matched indices x = is_before matched indices x
-
--- for each element the indices of those of the first k sets that hold it
-pub record AreEntered (count k : ℕ) (family rows : List (List ℕ)) : Type 0 where
-  pub long : length rows ≡ count
-  pub members : (x j : ℕ) → x < count → is_member j (row_at rows x) ≡ (nat_lt j k && is_member x (row_at family j))

@@ -5,17 +5,17 @@ use Rattle.std.proofs.lemmas.Bool.{and_from, and_parts, false≢true}
 use Rattle.std.proofs.lemmas.List.Elements.{All-head, All-tail}
 use Rattle.std.specs.List.{All}
 use Rattle.mat_sets.specs.Search.{some_list}
-use Rattle.mat_sets.specs.SetTests.{is_set}
+use Rattle.mat_sets.specs.SetTests.{is_set, are_distinct}
 use Rattle.mat_sets.specs.Sets.{is_member, all_below, with_one, AllBelow}
 use Rattle.mat_sets.proofs.Ground.{AllBelow-member, AreDistinct-rising, IsRising-all_below}
 use Rattle.mat_sets.proofs.Search.{some_list_from, some_list_gives}
 use Rattle.mat_sets.proofs.SetTests.{IsSet-from_test, test_from-IsSet}
 use Rattle.mat_laws.specs.Matroids.{IsMatroid}
 use Rattle.mat_linked.specs.Gammoids.{IsLinked}
-use Rattle.mat_linked.specs.LinkedSets.{augments, linked_nil, linked_subset}
-use Rattle.mat_linked.specs.PathSearch.{are_distinct-from, are_distinct-gives}
-use Rattle.mat_linked.specs.TransversalPaths.{index_vertices, membership_arcs, IsLinked-transversal, IsPartialTransversal-linked}
-use Rattle.mat_linked.specs.Transversals.{are_distinct, is_transversal, lie_in_sets, IsPartialTransversal}
+use Rattle.mat_linked.specs.LinkedSetLaws.{augments, linked_nil, linked_subset}
+use Rattle.mat_sets.proofs.SetTests.{are_distinct-from, are_distinct-gives}
+use Rattle.mat_linked.specs.TransversalPathLaws.{index_vertices, membership_arcs, IsLinked-transversal, IsPartialTransversal-linked}
+use Rattle.mat_linked.specs.Transversals.{is_transversal, lie_in_sets, IsPartialTransversal}
 
 -- as many indices as elements
 length-lie_in_sets : (family : List (List ℕ)) (X indices : List ℕ) → lie_in_sets family X indices ≡ true → length indices ≡ length X

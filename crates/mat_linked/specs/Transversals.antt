@@ -1,14 +1,9 @@
 -- Transversal matroids: elements that can be matched to different sets of a family, each to a set that holds it (Schrijver, chapter 39).
-use Rattle.std.specs.Prelude.{◌≡◌, ℕ, ◌<◌, ◌^◌, Bool, true, false, not, ◌&&◌, List, [], ◌∷◌, length, slice_index_or}
+use Rattle.std.specs.Prelude.{◌≡◌, ℕ, ◌<◌, ◌^◌, Bool, true, false, ◌&&◌, List, [], ◌∷◌, length, slice_index_or}
 use Rattle.std.specs.List.{All}
 use Rattle.mat_sets.specs.Sets.{is_member, IsSet, AllBelow, AreDistinct}
-use Rattle.mat_sets.specs.SetTests.{is_set}
+use Rattle.mat_sets.specs.SetTests.{are_distinct, is_set}
 use Rattle.mat_sets.specs.Search.{some_list}
-
--- whether no item stands twice
-abbrev pub are_distinct : List ℕ → Bool
-are_distinct [] = true
-are_distinct (x ∷ xs) = not (is_member x xs) && are_distinct xs
 
 -- whether there are as many indices as elements, and the first element lies in the set with the first index, and so on
 abbrev pub lie_in_sets : List (List ℕ) → List ℕ → List ℕ → Bool

@@ -1,13 +1,13 @@
 //! The graph in which the walks are sought that match one element more.
 
-use mat_sets::{BitSet, Relation};
+use mat_sets::{BitRows, BitSet, Relation};
 
 /// The indices of a family of sets, some of which are matched with elements: an arc leads from an index to those of the sets that
 /// hold the element that it is matched with; starts are the indices of the sets that hold a new element, and goals those that
 /// are not matched (Schrijver, chapter 16).
 #[derive(Drop)]
 pub(crate) struct Alternating<'a> {
-    pub(crate) rows: &'a [BitSet],
+    pub(crate) rows: &'a BitRows,
     pub(crate) matched: &'a [Option<u32>],
     pub(crate) element: u32,
 }
@@ -15,7 +15,7 @@ pub(crate) struct Alternating<'a> {
 impl Relation for Alternating<'_> {
     ghost use Rattle.std.specs.Prelude.{ℕ, ◌≡◌, ◌<◌, ◌^◌, length, is_none, Some};
     ghost use Rattle.mat_sets.specs.Sets.{is_member};
-    ghost use Rattle.mat_flow.specs.Digraphs.{row_at};
+    ghost use Rattle.mat_sets.specs.Rows.{row_at};
     ghost use Rattle.mat_flow.specs.LinkTables.{entry_at};
     ghost use Rattle.mat_linked.specs.Matchings.{is_held};
 
@@ -35,7 +35,7 @@ impl Relation for Alternating<'_> {
     }
 
     fn is_start(&self, j: u32) -> bool {
-        self.rows[self.element as usize].contains(j)
+        self.rows.row(self.element).contains(j)
     }
 
     fn is_goal(&self, j: u32) -> bool {
@@ -44,7 +44,7 @@ impl Relation for Alternating<'_> {
 
     fn next_arc(&self, j: u32, among: &BitSet, from: u32) -> Option<u32> {
         match self.matched[j as usize] {
-            Some(x) => among.next_common(&self.rows[x as usize], from),
+            Some(x) => among.next_common(self.rows.row(x), from),
             None => None,
         }
     }

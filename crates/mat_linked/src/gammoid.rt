@@ -5,7 +5,7 @@ ghost use Rattle.mat_flow.specs.LinkedEnds.{IsLinkedTo};
 ghost use Rattle.mat_flow.specs.Reroutes.{AreReroutes};
 ghost use Rattle.mat_laws.specs.Exchanges.{row_of};
 ghost use Rattle.mat_laws.specs.GreedyRuns.{grown_along};
-ghost use Rattle.mat_linked.specs.Gammoids.{is_gammoid, set_of_vertices, vertices_of, IsGammoid, LinkedVertices};
+ghost use Rattle.mat_linked.specs.Gammoids.{is_gammoid, set_of_vertices, vertices_of, IsGammoid};
 ghost use Rattle.mat_linked.specs.GammoidLaws.{gammoid_laws};
 ghost use Rattle.mat_linked.specs.KeptLinkings.{has_vertex_in, IsKeptLinking};
 
@@ -89,7 +89,37 @@ fn keep_paths(
 {
     let (_, links) = link_along(alloc, graph, sources, targets, base.as_slice())?;
     let reroutes = Reroutes::new(alloc, graph, &links)?;
-    Ok(KeptLinking { reroutes })
+    Ok(KeptLinking { links, reroutes })
+}
+
+// Disjoint paths to the vertices of an independent set, from such as are kept of another one: the path to each member that is gone is
+// taken out, and then there is one path more for each new one.
+fn keep_next_paths(
+    alloc: Global,
+    graph: &Digraph,
+    sources: &ElemSet,
+    targets: &[u32],
+    base: &ElemSet,
+    kept: &KeptLinking,
+    next: &ElemSet,
+) -> Result<KeptLinking, AllocError>
+    requires gammoid { IsGammoid graph.now.vertices graph.now.arcs sources.now targets.now }
+    requires base { is_gammoid graph.now.vertices graph.now.arcs sources.now targets.now base.now ≡ true }
+    requires kept { IsKeptLinking graph.now.vertices graph.now.arcs sources.now targets.now base.now kept.now }
+    requires next { is_gammoid graph.now.vertices graph.now.arcs sources.now targets.now next.now ≡ true }
+    ensures { IfOk result (λ kept. IsKeptLinking graph.now.vertices graph.now.arcs sources.now targets.now next.now kept) }
+{
+    let mut links = kept.links.copy(alloc)?;
+    let gone = base.minus(alloc, next)?;
+    for y in gone.as_slice() {
+        links.unlink(targets[*y as usize]);
+    }
+    let more = next.minus(alloc, base)?;
+    for x in more.as_slice() {
+        links.link(alloc, graph, sources, targets[*x as usize])?;
+    }
+    let reroutes = Reroutes::new(alloc, graph, &links)?;
+    Ok(KeptLinking { links, reroutes })
 }
 
 // Those of the elements whose vertices are of this set.
@@ -242,6 +272,26 @@ impl Matroid for Gammoid {
     /// turned round. The only error is want of memory.
     fn keep(&self, alloc: Global, base: &ElemSet) -> Result<KeptLinking, AllocError> {
         keep_paths(alloc, &self.graph, &self.sources, &self.targets, base)
+    }
+
+    /// One search of the bits of the graph for each member that is new; the path to each that is gone is taken out. The only error is
+    /// want of memory.
+    fn keep_next(
+        &self,
+        alloc: Global,
+        base: &ElemSet,
+        kept: &KeptLinking,
+        next: &ElemSet,
+    ) -> Result<KeptLinking, AllocError> {
+        keep_next_paths(
+            alloc,
+            &self.graph,
+            &self.sources,
+            &self.targets,
+            base,
+            kept,
+            next,
+        )
     }
 
     /// One search of the bits of the graph, back from the vertex of x in what the paths leave. The only error is want of memory.

@@ -10,7 +10,7 @@ ghost use Rattle.mat_linked.specs.Transversals.{is_transversal};
 use crate::alternating::Alternating;
 use crate::matching::matching_of;
 use mat_laws::Exchange;
-use mat_sets::{BitSet, ElemSet, WalkSearch, shortest_walk};
+use mat_sets::{BitRows, BitSet, ElemSet, WalkSearch, shortest_walk};
 use std::alloc::{AllocError, Global};
 
 /// A matching of the members of an independent set with different sets of the family, each of which holds its member
@@ -44,7 +44,7 @@ impl KeptMatching {
     /// error is want of memory.
     pub(crate) fn new(
         alloc: Global,
-        rows: &[BitSet],
+        rows: &BitRows,
         sets: u32,
         base: &[u32],
     ) -> Result<KeptMatching, AllocError>
@@ -64,7 +64,7 @@ impl KeptMatching {
     pub(crate) fn row(
         &self,
         alloc: Global,
-        rows: &[BitSet],
+        rows: &BitRows,
         base: &ElemSet,
         x: u32,
     ) -> Result<Exchange, AllocError>

@@ -8,14 +8,14 @@ ghost use Rattle.mat_linked.specs.Transversals.{is_transversal};
 
 use crate::alternating::Alternating;
 use mat_flow::shift_along;
-use mat_sets::{BitSet, ElemSet, WalkSearch, shortest_walk};
+use mat_sets::{BitRows, ElemSet, WalkSearch, shortest_walk};
 use std::alloc::{AllocError, Global};
 
 // Matches one element more, where that can be done, and tells whether it was: each element on the walk that is found moves on.
 // Where it cannot be done the matching stays as it was.
 fn match_one(
     alloc: Global,
-    rows: &[BitSet],
+    rows: &BitRows,
     matched: &mut Vec<Option<u32>>,
     element: u32,
 ) -> Result<bool, AllocError>
@@ -45,7 +45,7 @@ fn match_one(
 /// indices of the sets that hold it: one search of the bits of the rows for each element. The only error is want of memory.
 pub(crate) fn are_matchable(
     alloc: Global,
-    rows: &[BitSet],
+    rows: &BitRows,
     sets: u32,
     elements: &[u32],
 ) -> Result<bool, AllocError>
@@ -67,7 +67,7 @@ pub(crate) fn are_matchable(
 /// is want of memory.
 pub(crate) fn matching_of(
     alloc: Global,
-    rows: &[BitSet],
+    rows: &BitRows,
     sets: u32,
     elements: &[u32],
 ) -> Result<Vec<Option<u32>>, AllocError>
@@ -88,7 +88,7 @@ pub(crate) fn matching_of(
 /// it is where the element cannot be matched beside the others. The only error is want of memory.
 pub(crate) fn matched_along(
     alloc: Global,
-    rows: &[BitSet],
+    rows: &BitRows,
     sets: u32,
     order: &[u32],
 ) -> Result<ElemSet, AllocError>

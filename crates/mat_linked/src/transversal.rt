@@ -1,17 +1,16 @@
 //! Transversal matroids.
-ghost use Rattle.std.specs.Prelude.{◌≡◌, ◌<◌, ◌^◌, ◌&&◌, ◌||◌, ◌==◌, ℕ, [], length, IfOk, OnOk};
+ghost use Rattle.std.specs.Prelude.{◌≡◌, ◌<◌, ◌^◌, length, IfOk};
 ghost use Rattle.std.specs.List.{All};
-ghost use Rattle.mat_sets.specs.Sets.{is_member, AllBelow};
-ghost use Rattle.mat_flow.specs.Digraphs.{row_at};
+ghost use Rattle.mat_sets.specs.Sets.{AllBelow};
 ghost use Rattle.mat_linked.specs.KeptMatchings.{IsKeptMatching};
-ghost use Rattle.mat_linked.specs.Matchings.{AreEntered, AreIndices};
-ghost use Rattle.mat_linked.specs.Transversals.{is_transversal, Family, IsFamily};
+ghost use Rattle.mat_linked.specs.Matchings.{AreIndices};
+ghost use Rattle.mat_linked.specs.Transversals.{is_transversal, IsFamily};
 ghost use Rattle.mat_linked.specs.TransversalLaws.{transversal_laws};
 
 use crate::kept_matching::KeptMatching;
 use crate::matching::{are_matchable, matched_along};
 use mat_laws::{Exchange, Matroid};
-use mat_sets::{BitSet, ElemSet, SetList};
+use mat_sets::{BitRows, ElemSet, SetList};
 use std::alloc::{AllocError, Global};
 use std::marker::Model;
 
@@ -22,7 +21,7 @@ pub struct Transversal {
     count: u32,
     family: SetList,
     // At x the indices of the sets that hold the element x.
-    rows: Vec<BitSet>,
+    rows: BitRows,
 }
 
 impl Model for Transversal {
@@ -33,42 +32,18 @@ impl Model for Transversal {
 
     ghost view = { λ t. record { count = t.count; sets = t.family } };
 
-    ghost invariant = { λ t. AreIndices t.count t.family t.rows.items };
-}
-
-// No index for each of this many elements.
-fn empty_rows(alloc: Global, count: u32, sets: u32) -> Result<Vec<BitSet>, AllocError>
-    ensures { IfOk result (λ rows. AreEntered count 0 [] rows.items) }
-{
-    let mut rows = Vec::new(alloc);
-    for _ in 0..count {
-        rows.push(BitSet::with_capacity(alloc, sets)?)?;
-    }
-    Ok(rows)
-}
-
-// Puts an index into the row of each of these elements.
-fn enter(rows: &mut Vec<BitSet>, index: u32, elements: &[u32]) -> Result<(), AllocError>
-    requires { AllBelow (length rows.old.items) elements.now }
-    ensures long { OnOk result (length rows.new.items ≡ length rows.old.items) }
-    ensures rows { OnOk result ((x j : ℕ) → x < length rows.old.items
-        → is_member j (row_at rows.new.items x) ≡ (is_member j (row_at rows.old.items x) || (j == index && is_member x elements.now))) }
-{
-    for x in elements {
-        rows[*x as usize].insert(index)?;
-    }
-    Ok(())
+    ghost invariant = { λ t. AreIndices t.count t.family t.rows };
 }
 
 // For each element the indices of the sets that hold it.
-fn rows_of(alloc: Global, count: u32, family: &SetList) -> Result<Vec<BitSet>, AllocError>
+fn rows_of(alloc: Global, count: u32, family: &SetList) -> Result<BitRows, AllocError>
     requires inside { All (AllBelow count) family.now }
     requires few { length family.now < 2 ^ 32 }
-    ensures { IfOk result (λ rows. AreIndices count family.now rows.items) }
+    ensures { IfOk result (λ rows. AreIndices count family.now rows) }
 {
-    let mut rows = empty_rows(alloc, count, family.len() as u32)?;
+    let mut rows = BitRows::with_rows(alloc, count, family.len() as u32)?;
     for j in 0..family.len() {
-        enter(&mut rows, j as u32, family.get(j).as_slice())?;
+        rows.insert_each(family.get(j).as_slice(), j as u32)?;
     }
     Ok(rows)
 }

@@ -3,7 +3,7 @@
 use Rattle.std.proofs.Common.{◌≡◌, ℕ, ◌<◌, Bool, true, false, not, ◌&&◌, ◌||◌, ◌⊎◌, cond, eqb, ltb, List, [], ◌∷◌}
 use Rattle.std.proofs.Common.{◌++◌, length, reverse}
 use Rattle.std.proofs.Common.{inl, inr, refl, subst, sym, ap, ◌∙◌, arith}
-use Rattle.std.proofs.lemmas.Bool.{cases_Bool, cases_eq, both_ways, ne_eqb, eq-eqb, or_left, or_right, lt-ltb}
+use Rattle.std.proofs.lemmas.Bool.{cases_Bool, cases_eq, both_ways, ne_eqb, eq-eqb, or_left, or_right, lt-ltb, and_right}
 use Rattle.std.proofs.lemmas.List.{append_assoc}
 use Rattle.mat_sets.specs.Sets.{is_member, IsRising, IsSet, IsSubset, AllBelow, AreDistinct, with_one, minus, union, all_below}
 use Rattle.mat_sets.proofs.ListParts.{reverse-cons, is_member-reverse}
@@ -13,6 +13,7 @@ use Rattle.mat_sets.proofs.Equalities.{union-with_one}
 use Rattle.mat_sets.proofs.Subsets.{IsSubset-refl, IsSubset-trans}
 use Rattle.mat_sets.proofs.Ground.{IsSet-with_one, IsSet-nil, AllBelow-member, is_member-all_below}
 use Rattle.mat_sets.proofs.DisjointSets.{with_one-holds}
+use Rattle.mat_sets.proofs.Truths.{or_none}
 use Rattle.mat_laws.specs.Matroids.{IsMatroid, IsBase, IsMaximal}
 use Rattle.mat_laws.specs.GreedyRuns.{grown_by, grown_along}
 use Rattle.mat_laws.proofs.Maximal.{IsBase-maximal}
@@ -32,14 +33,10 @@ module _ {n : ℕ} {p : List ℕ → Bool} (laws : IsMatroid n p) where
     without : (a b c : Bool) → c ≡ false → (a || b) ≡ (a || (c || b))
     without a b c e = rw e refl
 
-    never : (b : Bool) → (b && false) ≡ false
-    never true = refl
-    never false = refl
-
     taken : (k x : ℕ) (P : List ℕ) → k ≡ x → is_member k (minus (all_below n) (with_one P x)) ≡ false
     taken k x P same = is_member-minus k (all_below n) (with_one P x)
         ∙ ap (λ b. is_member k (all_below n) && not b) (ap (λ z. is_member z (with_one P x)) same ∙ with_one-holds P x)
-        ∙ never (is_member k (all_below n))
+        ∙ and_right (is_member k (all_below n)) false refl
 
     kept : (k x : ℕ) (P : List ℕ) → eqb k x ≡ false
         → is_member k (minus (all_below n) P) ≡ is_member k (minus (all_below n) (with_one P x))
@@ -74,10 +71,6 @@ module _ {n : ℕ} {p : List ℕ → Bool} (laws : IsMatroid n p) where
           chain rest order (with_one P x) d.1 (λ k m. apart k (or_right (eqb k x) (is_member k order) m)) next inside,
         )
 
-    no_and : (b : Bool) → (b && not true) ≡ false
-    no_and true = refl
-    no_and false = refl
-
     unchanged : (P : List ℕ) (x k : ℕ) → eqb k x ≡ false → is_member k (minus P B) ≡ is_member k (minus (with_one P x) B)
     unchanged P x k e = grind (arith, set_members)
 
@@ -90,12 +83,12 @@ module _ {n : ℕ} {p : List ℕ → Bool} (laws : IsMatroid n p) where
     step P x set small new c (inl here) =
         ap (λ b. cond (not (is_member x (minus P B)) && b) (with_one (minus P B) x) (minus P B))
         (dual_leaves laws B base P x set small new here c.0 c.1 c.2)
-        ∙ ap (λ b. cond b (with_one (minus P B) x) (minus P B)) (never (not (is_member x (minus P B))))
+        ∙ ap (λ b. cond b (with_one (minus P B) x) (minus P B)) (and_right (not (is_member x (minus P B))) false refl)
         ∙ same_members _ _ (IsRising-minus P B set.rising) (IsRising-minus (with_one P x) B (IsRising-with_one P x set.rising))
         (λ k. elim (cases_eq k x) [
           | inl same ↦ ap (λ z. is_member z (minus P B)) same ∙ (is_member-minus x P B ∙ ap (λ b. b && not (is_member x B)) new)
               ∙ sym (ap (λ z. is_member z (minus (with_one P x) B)) same ∙ is_member-minus x (with_one P x) B
-              ∙ ap (λ b. is_member x (with_one P x) && not b) here ∙ no_and (is_member x (with_one P x)))
+              ∙ ap (λ b. is_member x (with_one P x) && not b) here ∙ and_right (is_member x (with_one P x)) false refl)
           | inr differ ↦ unchanged P x k (ne_eqb k x differ)
         ])
     step P x set small new c (inr out) =
@@ -147,18 +140,10 @@ module _ {n : ℕ} {p : List ℕ → Bool} (laws : IsMatroid n p) where
       rest_members : (k : ℕ) → is_member k (minus (all_below n) (union order [])) ≡ (ltb k n && not (is_member k order))
       rest_members k = is_member-minus k (all_below n) (union order [])
           ∙ ap (λ a. a && not (is_member k (union order []))) (is_member-all_below k n)
-          ∙ ap (λ a. ltb k n && not a) (is_member-union k order [] ∙ or_false (is_member k order))
-        where
-          or_false : (a : Bool) → (a || false) ≡ a
-          or_false true = refl
-          or_false false = refl
+          ∙ ap (λ a. ltb k n && not a) (is_member-union k order [] ∙ or_none (is_member k order))
 
       out : (k : ℕ) → is_member k order ≡ true → is_member k (minus (all_below n) (union order [])) ≡ false
-      out k m = rest_members k ∙ ap (λ a. ltb k n && not a) m ∙ no_more (ltb k n)
-        where
-          no_more : (a : Bool) → (a && not true) ≡ false
-          no_more true = refl
-          no_more false = refl
+      out k m = rest_members k ∙ ap (λ a. ltb k n && not a) m ∙ and_right (ltb k n) false refl
 
       whole : (k : ℕ) → (is_member k (minus (all_below n) (union order [])) || is_member k order) ≡ is_member k (all_below n)
       whole k =

@@ -3,7 +3,7 @@
 use Rattle.std.proofs.Common.{◌≡◌, ℕ, ◌+◌, ◌<◌, ◌≤◌, Bool, true, false, not, ◌&&◌, ◌||◌, cond, if◌then◌else◌, eqb}
 use Rattle.std.proofs.Common.{leb, List, [], ◌∷◌, ◌++◌, length, get_or, drop, inl, inr, refl, subst, sym, ap, ◌∙◌, arith}
 use Rattle.std.specs.List.{filter}
-use Rattle.std.proofs.lemmas.Bool.{cases_Bool, and_parts, and_from, both_ways, false_from_ne_true}
+use Rattle.std.proofs.lemmas.Bool.{cases_Bool, and_parts, and_from, both_ways, false_from_ne_true, and_right}
 use Rattle.std.proofs.lemmas.Bool.Decides.{nat_tests}
 use Rattle.mat_sets.specs.Sets.{is_member, IsRising, IsSet, IsSubset, AllBelow, AreDistinct, with_one, minus, intersection, union}
 use Rattle.mat_sets.proofs.Members.{same_members, is_member-minus, is_member-union, IsRising-minus, IsRising-union}
@@ -11,6 +11,7 @@ use Rattle.mat_sets.proofs.Cardinalities.{length-with_one}
 use Rattle.mat_sets.proofs.Subsets.{with_one-IsSubset}
 use Rattle.mat_sets.proofs.Ground.{IsSet-with_one}
 use Rattle.mat_sets.proofs.DisjointSets.{inside_test, inside_test_from, apart_with, apart_at, union-with_one_left, with_one-holds}
+use Rattle.mat_sets.proofs.Truths.{and_all}
 use Rattle.mat_laws.specs.GreedyRuns.{grown_by, grown_along}
 use Rattle.mat_laws.specs.Matroids.{IsMatroid, IsMaximal}
 use Rattle.mat_laws.proofs.Independent.{rising}
@@ -54,12 +55,8 @@ module _ {n : ℕ} {p : List ℕ → Bool} (laws : IsMatroid n p) (cap : ℕ) (o
         | inr out ↦
             let longer = length-with_one set x (rising laws set c.tracing.running.passes) out in
             let few : leb (length (with_one set x)) cap ≡ true = rw longer (grind (arith, nat_tests)) in
-            rw (out, few) (sym (whole (p (with_one set x))))
+            rw (out, few) (sym (and_all (p (with_one set x))))
       ]
-        where
-          whole : (b : Bool) → (b && true) ≡ b
-          whole true = refl
-          whole false = refl
 
   -- at the cap it takes nothing more
   stays : (rest set : List ℕ) → IsRising set → cap ≤ length set → grown_along (is_truncated cap p) set rest ≡ set
@@ -102,7 +99,7 @@ restricted_along p kept I (x ∷ order) ok = elim (cases_Bool (is_member x kept)
       ∙ sym (ap (grown_along p I) (ap (λ b. cond b (x ∷ filter (λ y. is_member y kept) order) (filter (λ y. is_member y kept) order)) here))
   | inr out ↦
       ap (λ b. grown_along (is_restricted kept p) (cond (not (is_member x I) && b) (with_one I x) I) order) (fails out)
-      ∙ ap (λ b. grown_along (is_restricted kept p) (cond b (with_one I x) I) order) (never (not (is_member x I)))
+      ∙ ap (λ b. grown_along (is_restricted kept p) (cond b (with_one I x) I) order) (and_right (not (is_member x I)) false refl)
       ∙ restricted_along p kept I order ok
       ∙ sym (ap (grown_along p I) (ap (λ b. cond b (x ∷ filter (λ y. is_member y kept) order) (filter (λ y. is_member y kept) order)) out))
 ]
@@ -110,18 +107,10 @@ restricted_along p kept I (x ∷ order) ok = elim (cases_Bool (is_member x kept)
     inside : IsSubset I kept
     inside = inside_test I kept (and_parts (p I) (eqb (length (minus I kept)) 0) ok).1
 
-    whole : (b : Bool) → (b && true) ≡ b
-    whole true = refl
-    whole false = refl
-
-    never : (b : Bool) → (b && false) ≡ false
-    never true = refl
-    never false = refl
-
     adds : is_member x kept ≡ true → is_restricted kept p (with_one I x) ≡ p (with_one I x)
     adds here =
         ap (λ b. p (with_one I x) && b) (inside_test_from (with_one I x) kept (with_one-IsSubset I kept x inside here))
-        ∙ whole (p (with_one I x))
+        ∙ and_all (p (with_one I x))
 
     fails : is_member x kept ≡ false → is_restricted kept p (with_one I x) ≡ false
     fails out = false_from_ne_true _ (λ h. both_ways _ out
@@ -154,14 +143,10 @@ module _ {n : ℕ} {p : List ℕ → Bool} (laws : IsMatroid n p) (away B : List
       j : (IsSet n X) × (intersection X away ≡ [])
       j = let g = IsJoined-gives laws away B X set.rising max ok in (g.set, g.disjoint)
 
-      never : (b : Bool) → (b && false) ≡ false
-      never true = refl
-      never false = refl
-
       fails : is_member x away ≡ true → (not (is_member x X) && is_contracted n away p (with_one X x)) ≡ false
       fails gone = ap (λ b. not (is_member x X) && b) (false_from_ne_true (is_contracted n away p (with_one X x)) (λ h.
           both_ways _ (apart_at (with_one X x) away (contraction-gives n p away (with_one X x) set.rising h).disjoint x (with_one-holds X x)) gone))
-          ∙ never (not (is_member x X))
+          ∙ and_right (not (is_member x X)) false refl
 
       not_chosen : is_member x away ≡ false → is_member x B ≡ false
       not_chosen out = false_from_ne_true _ (λ m. both_ways _ out (max.inside.inside x m))

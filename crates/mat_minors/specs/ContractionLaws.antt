@@ -17,7 +17,7 @@ use Rattle.mat_laws.specs.Matroids.{IsMatroid, IsMaximal, Augments}
 use Rattle.mat_laws.proofs.Independent.{rising, grow_to_size}
 use Rattle.mat_laws.proofs.Maximal.{IsMaximal-one_size}
 use Rattle.mat_minors.specs.Minors.{is_maximal, is_contracted, IsContractedIndependent}
-use Rattle.mat_minors.specs.MaximalSubsets.{is_maximal-gives, is_maximal-from}
+use Rattle.mat_minors.specs.MaximalSubsetLaws.{is_maximal-gives, is_maximal-from}
 
 -- a set that is apart from the contracted elements and independent together with a chosen subset B of them
 pub record IsJoined (n : ℕ) (p : List ℕ → Bool) (away B X : List ℕ) : Type 0 where

@@ -15,7 +15,7 @@ use Rattle.mat_laws.specs.Matroids.{IsMatroid, Augments}
 use Rattle.mat_laws.proofs.Independent.{rising, grow_to_size}
 use Rattle.mat_laws.proofs.Maximal.{IsBase-maximal, IsBase-size, IsMaximal-base, base_largest}
 use Rattle.mat_minors.specs.Minors.{is_maximal, is_dual, IsDualIndependent}
-use Rattle.mat_minors.specs.MaximalSubsets.{is_maximal-gives, is_maximal-from}
+use Rattle.mat_minors.specs.MaximalSubsetLaws.{is_maximal-gives, is_maximal-from}
 
 -- what the test of the dual says
 pub dual-gives : (n : ℕ) (p : List ℕ → Bool) (X : List ℕ) → is_dual n p X ≡ true → IsDualIndependent n p X

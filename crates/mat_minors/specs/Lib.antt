@@ -1,5 +1,5 @@
 pub mod Minors
-pub mod MaximalSubsets
+pub mod MaximalSubsetLaws
 pub mod ContractionLaws
 pub mod DualLaws
 pub mod MinorLaws

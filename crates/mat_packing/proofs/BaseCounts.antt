@@ -7,12 +7,12 @@ use Rattle.mat_sets.specs.Sets.{all_below, minus, with_one, IsRising, IsSet}
 use Rattle.mat_sets.proofs.Cardinalities.{length-union-intersection, length-with_one}
 use Rattle.mat_sets.proofs.DisjointSets.{no_members}
 use Rattle.mat_sets.proofs.Families.{IsRising-family_union}
-use Rattle.mat_sets.proofs.Ground.{length-complement, IsRising-all_below, IsSet-nil, IsSubset-all_below}
+use Rattle.mat_sets.proofs.Ground.{length-complement, IsSet-nil}
 use Rattle.mat_sets.proofs.Members.{IsRising-nil}
 use Rattle.mat_laws.specs.Matroids.{IsBase, IsMatroid}
 use Rattle.mat_laws.specs.Ranks.{rank}
-use Rattle.mat_laws.proofs.Independent.{below, rising}
-use Rattle.mat_laws.proofs.RankLaws.{rank_is}
+use Rattle.mat_laws.proofs.Independent.{rising}
+use Rattle.mat_laws.proofs.RankLaws.{rank_is, length-independent}
 use Rattle.mat_union.specs.Unions.{part_at}
 use Rattle.mat_packing.specs.FilledCopies.{AreFilledCopies}
 use Rattle.mat_packing.specs.Packings.{AreBases, IsRightPacking}
@@ -89,13 +89,10 @@ module _ {n : ℕ} {p : List ℕ → Bool} (laws : IsMatroid n p) where
   abbrev E : List ℕ
   E = all_below n
 
-  pub most_of : (I : List ℕ) → p I ≡ true → length I ≤ rank p E
-  most_of I ok = (rank_is laws E (IsRising-all_below n)).most I ok (IsSubset-all_below n I (below laws I ok))
-
   pub full_base : (B : List ℕ) → p B ≡ true → length B ≡ rank p E → IsBase n p B
   full_base B ok size = record {
     passes = ok;
-    full = λ x l o. false_from_ne_true _ (λ h. let more = length-with_one B x (rising laws B ok) o in let most = most_of (with_one B x) h in omega arith);
+    full = λ x l o. false_from_ne_true _ (λ h. let more = length-with_one B x (rising laws B ok) o in let most = length-independent laws (with_one B x) h in omega arith);
   }
 
   pub rank-nil : rank p [] ≡ 0
@@ -116,12 +113,12 @@ module _ {n : ℕ} {p : List ℕ → Bool} (laws : IsMatroid n p) where
 
   module _ {count : ℕ} {sets : List (List ℕ)} {cut : List ℕ} (f : AreFilledCopies n p count sets cut) where
     at_most : AreAtMost (rank p E) sets
-    at_most = record { rise = λ i l. rising laws (part_at sets i) (f.passes i l); most = λ i l. most_of (part_at sets i) (f.passes i l) }
+    at_most = record { rise = λ i l. rising laws (part_at sets i) (f.passes i l); most = λ i l. length-independent laws (part_at sets i) (f.passes i l) }
 
     -- where some set is no base
     pub cut_short : (i : ℕ) → i < length sets → length (part_at sets i) ≢ rank p E → (rank p cut < rank p E) × (length (minus E cut) < count * (rank p E - rank p cut))
     cut_short i l other =
-        let less = union_short (rank p E) sets at_most i l (let m = most_of (part_at sets i) (f.passes i l) in omega arith) in
+        let less = union_short (rank p E) sets at_most i l (let m = length-independent laws (part_at sets i) (f.passes i l) in omega arith) in
         let same : length sets * rank p E ≡ count * rank p E = ap (λ k. k * rank p E) f.long in
         let size = f.size in
         short_by (length (minus E cut)) (rank p cut) (rank p E) count (omega arith)

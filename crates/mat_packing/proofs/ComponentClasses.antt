@@ -1,40 +1,40 @@
 -- The components of the cut of filled copies are a partition that allows few spanning trees: each crossing edge is outside the cut, and there
 -- are as many classes as components.
-use Rattle.std.proofs.Common.{◌≡◌, ◌≢◌, ◌∙◌, ℕ, zero, suc, ◌+◌, ◌-◌, ◌*◌, ◌<◌, ◌≤◌, Bool, true, false, not, ◌&&◌, ◌||◌, eqb, ltb, List, [], ◌∷◌, ◌++◌, length, get_or, map, take, inl, inr, refl, sym, ap, subst, arith}
-use Rattle.std.proofs.Math.Numerals.{add-one}
-use Rattle.std.proofs.lemmas.Bool.{and_from, and_parts, both_ways, cases_Bool, eq-eqb, eqb-true, false_from_ne_true, lt-ltb, ltb-true, not-true}
-use Rattle.std.proofs.lemmas.List.{get_or-map, length-map, map-append}
+use Rattle.std.proofs.Common.{◌≡◌, ◌≢◌, ◌∙◌, ℕ, suc, ◌+◌, ◌-◌, ◌*◌, ◌<◌, ◌≤◌, Bool, true, false, not, ◌&&◌, ◌||◌, eqb, ltb, List, [], ◌∷◌, ◌++◌, length, get_or, map, take, refl, sym, ap, subst, arith, ◌↔◌}
+use Rattle.std.proofs.lemmas.Bool.{and_from, and_parts, both_ways, eq-eqb, eqb-true, false_from_ne_true, lt-ltb, ltb-true, not-true, false≢true}
+use Rattle.std.proofs.lemmas.List.{get_or-map, length-map, map-append, take_more}
 use Rattle.mat_sets.specs.Families.{indicator, multiplicity}
 use Rattle.mat_sets.specs.Graphs.{ends_of, IsGraph}
 use Rattle.mat_sets.specs.Sets.{all_below, is_member, minus, IsSet, RisesFrom}
 use Rattle.mat_sets.proofs.DisjointSets.{minus_from}
 use Rattle.mat_sets.proofs.Ground.{below_member, is_member-all_below, IsRising-all_below}
-use Rattle.mat_sets.proofs.Members.{is_member-get_or, missing_below, same_members, IsRising-minus}
+use Rattle.mat_sets.proofs.Members.{is_member-get_or, missing_below, same_members, IsRising-minus, some_from_member}
 use Rattle.mat_sets.proofs.Search.{is_member-those_below, some_below_from, IsSet-those_below}
 use Rattle.mat_sets.proofs.Subsets.{length-subset}
+use Rattle.mat_sets.proofs.Families.{multiplicity-gives}
 use Rattle.mat_laws.specs.Ranks.{rank}
 use Rattle.mat_laws.proofs.Independent.{rising}
+use Rattle.mat_laws.proofs.RankLaws.{length-independent}
 use Rattle.mat_graphic.specs.Forests.{is_graphic, least_reached, number_of_components, IsLeastReached}
 use Rattle.mat_graphic.specs.Mergings.{least_merged}
 use Rattle.mat_graphic.specs.ComponentLaws.{least_merged-fixed, least_merged-le, member_within}
 use Rattle.mat_graphic.specs.ForestLaws.{graphic_laws}
 use Rattle.mat_graphic.proofs.ComponentCounts.{least_reached-merged, rank_and_number, IsLeastReached-unique}
+use Rattle.mat_graphic.proofs.ForestSizes.{rank_below_vertices}
 use Rattle.mat_union.specs.Unions.{part_at}
+use Rattle.mat_packing.specs.Answers.{is_partition, HasNoTrees, IsRightTreesAnswer}
+use Rattle.mat_packing.specs.declared.trees.Trees.{Trees}
+use Rattle.mat_packing.specs.declared.trees.Trees.TheVariants.{Trees as AllTrees, Partition}
 use Rattle.mat_packing.specs.Components.{class_of, roots_of}
 use Rattle.mat_packing.specs.FilledCopies.{AreFilledCopies}
 use Rattle.mat_packing.specs.Trees.{crossing, stays, AreTrees, IsRightPartition}
 use Rattle.mat_packing.proofs.BaseCounts.{short_by, union_short, AreAtMost}
-use Rattle.mat_packing.proofs.Partitions.{forest_size, rank_less}
+use Rattle.mat_packing.proofs.Partitions.{few_trees}
 
 -- ---- lists
 
-take_more : (xs : List ℕ) (i : ℕ) → i < length xs → take (i + 1) xs ≡ take i xs ++ get_or xs i 0 ∷ []
-take_more [] i l = absurd (omega arith)
-take_more (x ∷ xs) zero l = refl
-take_more (x ∷ xs) (suc i) l = rw (add-one (suc i)) (let rest = rw (add-one i) at (take_more xs i (omega arith)) in ap (λ ys. x ∷ ys) rest)
-
 map_more : (f : ℕ → List ℕ) (xs : List ℕ) (i : ℕ) → i < length xs → map f (take (i + 1) xs) ≡ map f (take i xs) ++ f (get_or xs i 0) ∷ []
-map_more f xs i l = ap (map f) (take_more xs i l) ∙ map-append f (take i xs) (get_or xs i 0 ∷ [])
+map_more f xs i l = ap (map f) (take_more xs i 0 l) ∙ map-append f (take i xs) (get_or xs i 0 ∷ [])
 
 -- one class more
 pub classes_pushed : (f : ℕ → List ℕ) (roots : List ℕ) (i : ℕ) (classes new : List (List ℕ)) (class : List ℕ) → i < length roots → new ≡ classes ++ class ∷ [] → classes ≡ map f (take i roots)
@@ -56,21 +56,6 @@ once_in f x y same lo (s ∷ rs) r =
     one true false h e f = omega (arith, e, f)
     one false true h e f = omega (arith, e, f)
     one false false h e f = omega (arith, e, f)
-
-member_somewhere : (x : ℕ) (family : List (List ℕ)) → 0 < multiplicity x family → (q : ℕ) × (q < length family) × (is_member x (part_at family q) ≡ true)
-unfolding multiplicity
-member_somewhere x [] some = absurd (omega arith)
-member_somewhere x (a ∷ family) some = elim (cases_Bool (is_member x a)) [
-  | inl h ↦ (0, omega arith, h)
-  | inr o ↦ (let e : indicator (is_member x a) ≡ 0 = rw o refl in
-      let w = member_somewhere x family (omega (arith, e)) in
-      let l = w.1 in
-      (suc w.0, omega arith, w.2))
-]
-
-holds_some : (xs : List ℕ) (x : ℕ) → is_member x xs ≡ true → 0 < length xs
-holds_some [] x m = absurd (both_ways false refl m)
-holds_some (y ∷ xs) x m = omega arith
 
 -- ---- components
 
@@ -115,7 +100,7 @@ module _ (ends : ℕ → ℕ × ℕ) (vertices count : ℕ) (inside : (e : ℕ) 
   cut_stays : (e : ℕ) → is_member e A ≡ true → stays ends C e ≡ true
   cut_stays e m =
       let l = inside e (below_member set m) in
-      let w = member_somewhere (ends e).0 C (let o = once (ends e).0 l.0 in omega arith) in
+      let w = multiplicity-gives (ends e).0 C (let o = once (ends e).0 l.0 in omega arith) in
       let r = get_or R w.0 0 in
       let at = ap (λ c. is_member (ends e).0 c) (class_at w.0 w.1) in
       let first = and_parts (ltb (ends e).0 vertices) (eqb (t (ends e).0) r) (sym (in_class (ends e).0 r) ∙ sym at ∙ w.2) in
@@ -145,7 +130,7 @@ module _ (ends : ℕ → ℕ × ℕ) (vertices count : ℕ) (inside : (e : ℕ) 
     at_most : AreAtMost (vertices - 1) parts
     at_most = record {
       rise = λ i l. rising (graphic_laws count ends) (part_at parts i) (f.passes i l);
-      most = λ i l. (let a = forest_size ends vertices count inside (part_at parts i) (f.passes i l) in let b = rank_less ends vertices count inside some in omega arith);
+      most = λ i l. (let a = length-independent (graphic_laws count ends) (part_at parts i) (f.passes i l) in let b = rank_below_vertices ends vertices count inside some in omega arith);
     }
 
     few : (i : ℕ) → i < length parts → length (part_at parts i) ≢ vertices - 1 → length (crossing count ends C) < k * (length C - 1)
@@ -166,7 +151,7 @@ module _ (ends : ℕ → ℕ × ℕ) (vertices count : ℕ) (inside : (e : ℕ) 
       filled = λ q h.
           (let r = get_or R q 0 in
           let b = root_at q h in
-          subst (λ c. 0 < length c) (sym (class_at q h)) (holds_some (class_of vertices t r) r (in_class r r ∙ and_from (ltb r vertices) (eqb (t r) r) b.0 b.1)));
+          subst (λ c. 0 < length c) (sym (class_at q h)) (some_from_member r (class_of vertices t r) (in_class r r ∙ and_from (ltb r vertices) (eqb (t r) r) b.0 b.1)));
       below = λ q x h m. ltb-true x vertices (and_parts (ltb x vertices) (eqb (t x) (get_or R q 0)) (sym (in_class x (get_or R q 0)) ∙ sym (ap (is_member x) (class_at q h)) ∙ m)).0;
       once = once;
       few = few i l other;
@@ -191,3 +176,14 @@ partition_told edges graph_edges vertices graph_vertices k parts cut table class
     let lowest = subst (λ m. (v : ℕ) → v < m → IsLeastReached (ends_of edges) cut v (get_or table v 0)) n near in
     subst (λ C. IsRightPartition vertices (length edges) (ends_of edges) k C) (sym told)
     (right_partition (ends_of edges) vertices (length edges) (λ e l. (graph.first e l, graph.second e l)) cut filled.set (λ v. get_or table v 0) lowest k some parts filled i l other)
+
+-- a right answer is a partition exactly where there are no so many trees
+pub no_trees_told : (vertices : ℕ) (edges : List (ℕ × ℕ)) (k : ℕ) → IsGraph vertices edges → (found : Trees) → IsRightTreesAnswer vertices edges k found
+    → (is_partition found ≡ true) ↔ HasNoTrees vertices edges k
+no_trees_told vertices edges k graph (AllTrees trees) right = ((λ e. absurd (false≢true e)), λ none. absurd (none trees right.0 right.1))
+no_trees_told vertices edges k graph (Partition classes) right = (
+  (λ _ trees are same.
+      let fewer = few_trees (ends_of edges) vertices (length edges) (λ e l. (graph.first e l, graph.second e l)) k classes right trees are in
+      absurd (omega arith)),
+  λ _. refl,
+)

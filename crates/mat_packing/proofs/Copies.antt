@@ -1,10 +1,10 @@
 -- Copies of one matroid: disjoint bases hold as many elements as there are bases times the rank, of which a cut leaves no more than it
 -- allows; and sets that cover A have room for it.
-use Rattle.std.proofs.Common.{◌≡◌, ℕ, suc, zero, ◌+◌, ◌-◌, ◌*◌, ◌<◌, ◌≤◌, Bool, true, false, List, [], ◌∷◌, length, eqb, inl, inr, refl, sym, ap, ◌∙◌, subst, arith}
-use Rattle.std.proofs.lemmas.Bool.{cases_lt, both_ways, eqb-true, or_cases}
+use Rattle.std.proofs.Common.{◌≡◌, ℕ, suc, zero, ◌+◌, ◌-◌, ◌*◌, ◌<◌, ◌≤◌, Bool, true, false, List, [], ◌∷◌, length, inl, inr, refl, sym, ap, ◌∙◌, subst, arith}
+use Rattle.std.proofs.lemmas.Bool.{cases_lt, both_ways}
 use Rattle.mat_sets.specs.Sets.{all_below, is_member, minus, union, intersection, IsRising, IsSubset}
 use Rattle.mat_sets.specs.Families.{family_union}
-use Rattle.mat_sets.proofs.Members.{set_members, IsRising-minus, IsRising-intersection}
+use Rattle.mat_sets.proofs.Members.{set_members, IsRising-minus, IsRising-intersection, only_member}
 use Rattle.mat_sets.proofs.Families.{family_union-gives}
 use Rattle.mat_sets.proofs.DisjointSets.{no_member, no_members}
 use Rattle.mat_sets.proofs.Subsets.{IsSubset-trans, intersection-left, intersection-right, minus-IsSubset}
@@ -17,7 +17,7 @@ use Rattle.mat_laws.proofs.Independent.{rising, below}
 use Rattle.mat_laws.proofs.Maximal.{IsMaximal-base}
 use Rattle.mat_laws.proofs.RankLaws.{rank_is, rank-maximal}
 use Rattle.mat_union.specs.Unions.{part_at, test_at, AreMatroids, AreParts, ranks_sum}
-use Rattle.mat_union.specs.PartLists.{cut_bounds, ranks_reached}
+use Rattle.mat_union.specs.PartListLaws.{cut_bounds, ranks_reached}
 use Rattle.mat_packing.specs.Packings.{AreBases, IsCover, IsCoverCut, IsLoop, IsRightPacking}
 
 -- as many copies of a test
@@ -127,8 +127,5 @@ module _ {n : ℕ} {p : List ℕ → Bool} (laws : IsMatroid n p) where
   pub loop_has_no_cover : (x : ℕ) → IsLoop n p x → (sets : List (List ℕ)) → IsCover n p sets → ⊥
   loop_has_no_cover x loop sets c =
       let w = family_union-gives x sets (c.all x loop.0) in
-      let alone : IsSubset (x ∷ []) (part_at sets w.0) = record { inside = λ z m. ap (λ y. is_member y (part_at sets w.0)) (only z x m) ∙ w.2 } in
+      let alone : IsSubset (x ∷ []) (part_at sets w.0) = record { inside = λ z m. ap (λ y. is_member y (part_at sets w.0)) (only_member z x m) ∙ w.2 } in
       both_ways _ loop.1 (laws.subsets (x ∷ []) (part_at sets w.0) (record { rises = (omega arith, tt) }) alone (c.passes w.0 w.1))
-    where
-      only : (z x : ℕ) → is_member z (x ∷ []) ≡ true → z ≡ x
-      only z x m = elim (or_cases (eqb z x) false m) [ inl e ↦ eqb-true z x e | inr o ↦ absurd (both_ways false refl o) ]

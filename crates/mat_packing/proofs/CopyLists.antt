@@ -9,7 +9,7 @@ use Rattle.mat_sets.proofs.Ground.{IsSet-all_below}
 use Rattle.mat_sets.proofs.Steps.{family_union-nil, multiplicity-none}
 use Rattle.mat_union.specs.FilledParts.{IsFilled}
 use Rattle.mat_union.specs.Unions.{part_at, AreParts}
-use Rattle.mat_union.specs.UnionsOf.{common_size, AreJoined}
+use Rattle.mat_union.specs.UnionsOf.{AreJoined, common_size}
 use Rattle.mat_packing.specs.FilledCopies.{AreFilledCopies}
 use Rattle.mat_packing.proofs.Copies.{copies, copy_at, length-copies, ranks-copies}
 

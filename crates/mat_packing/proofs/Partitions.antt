@@ -2,67 +2,31 @@
 -- classes, so their rank leaves room for few of the trees' edges, and the others cross.
 -- Idea of the components: along the edges inside no class is left, so the least vertex of a component is in each class that the component
 -- meets; and a set that meets each of disjoint classes has at least as many members as there are classes.
-use Rattle.std.proofs.Common.{◌≡◌, ℕ, suc, ◌+◌, ◌-◌, ◌*◌, ◌<◌, ◌≤◌, Bool, true, false, not, ◌&&◌, ◌⊎◌, eqb, ltb, List, [], ◌∷◌, length, inl, inr, refl, sym, ap, ◌∙◌, arith}
-use Rattle.std.proofs.lemmas.Bool.{cases_eq, cases_lt, and_parts, and_from, both_ways, eq-eqb, false_from_ne_true, lt-ltb, not_from_false}
-use Rattle.mat_sets.specs.Sets.{all_below, is_member, minus, intersection, with_one, IsRising}
-use Rattle.mat_sets.specs.Families.{AreDisjoint, indicator, multiplicity}
+use Rattle.std.proofs.Common.{◌≡◌, ℕ, suc, ◌+◌, ◌-◌, ◌*◌, ◌<◌, ◌≤◌, Bool, true, false, not, ◌&&◌, ◌⊎◌, eqb, ltb, List, length, inl, inr, refl, sym, ap, ◌∙◌, arith}
+use Rattle.std.proofs.lemmas.Bool.{cases_eq, cases_lt, and_parts, and_from, eq-eqb, false_from_ne_true, lt-ltb}
+use Rattle.mat_sets.specs.Sets.{all_below, is_member, minus, with_one}
+use Rattle.mat_sets.specs.Families.{AreDisjoint, indicator}
 use Rattle.mat_sets.specs.Search.{those_below}
-use Rattle.mat_sets.proofs.Cardinalities.{length-minus-intersection, length-with_one}
-use Rattle.mat_sets.proofs.Families.{AreDisjoint-tail, disjoint-apart}
-use Rattle.mat_sets.proofs.Ground.{below_member, is_member-all_below, IsSet-all_below, IsRising-all_below, IsSubset-all_below}
-use Rattle.mat_sets.proofs.Members.{is_member-head, is_member-intersection, is_member-minus, same_members, IsRising-minus}
+use Rattle.mat_sets.proofs.Cardinalities.{length-with_one}
+use Rattle.mat_sets.proofs.Families.{disjoint-apart, length-meeting, multiplicity-nowhere}
+use Rattle.mat_sets.proofs.Ground.{below_member, is_member-all_below, IsRising-all_below, IsSubset-all_below}
+use Rattle.mat_sets.proofs.Members.{is_member-minus, same_members, IsRising-minus, member_from_some}
 use Rattle.mat_sets.proofs.Search.{IsSet-those_below, is_member-those_below, some_below_gives}
 use Rattle.mat_laws.specs.Matroids.{IsBase}
 use Rattle.mat_laws.specs.Ranks.{rank}
-use Rattle.mat_laws.proofs.Independent.{below, rising}
-use Rattle.mat_laws.proofs.RankLaws.{rank_is}
+use Rattle.mat_laws.proofs.Independent.{rising}
+use Rattle.mat_laws.proofs.RankLaws.{length-independent}
 use Rattle.mat_graphic.specs.Forests.{is_graphic, least_reached, number_of_components}
 use Rattle.mat_graphic.specs.Mergings.{least_merged}
 use Rattle.mat_graphic.specs.ComponentLaws.{constant_on_components, least_merged-le, least_merged-fixed}
 use Rattle.mat_graphic.specs.ForestLaws.{graphic_laws}
 use Rattle.mat_graphic.proofs.ComponentCounts.{least_reached-merged, rank_and_number}
-use Rattle.mat_graphic.proofs.ForestSizes.{some_component}
+use Rattle.mat_graphic.proofs.ForestSizes.{rank_below_vertices}
 use Rattle.mat_union.specs.Unions.{part_at}
-use Rattle.mat_union.specs.PartLists.{cut_bounds}
+use Rattle.mat_union.specs.PartListLaws.{cut_bounds}
 use Rattle.mat_packing.specs.Packings.{AreBases}
 use Rattle.mat_packing.specs.Trees.{crossing, stays, AreTrees, IsRightPartition, IsSpanningTree}
 use Rattle.mat_packing.proofs.Copies.{bases_are_parts, bases_count, copies, copy_laws, ranks-copies}
-
--- ---- sets
-
-member_some : (xs : List ℕ) (x : ℕ) → is_member x xs ≡ true → 0 < length xs
-member_some [] x m = absurd (both_ways false refl m)
-member_some (y ∷ xs) x m = omega arith
-
-pub some_member_of : (xs : List ℕ) → 0 < length xs → (x : ℕ) × (is_member x xs ≡ true)
-some_member_of [] some = absurd (omega arith)
-some_member_of (x ∷ xs) some = (x, is_member-head x xs)
-
--- a set that meets each of disjoint sets has at least as many members as there are of them
-pub length-meeting : (S : List ℕ) (classes : List (List ℕ)) → IsRising S → AreDisjoint classes
-    → ((q : ℕ) → q < length classes → (x : ℕ) × (is_member x S ≡ true) × (is_member x (part_at classes q) ≡ true)) → length classes ≤ length S
-length-meeting S [] r d h = omega arith
-length-meeting S (C ∷ classes) r d h =
-    let split = length-minus-intersection S C r in
-    let first = h 0 (omega arith) in
-    let some = member_some (intersection S C) first.0 (is_member-intersection first.0 S C ∙ and_from _ _ first.1 first.2) in
-    let rest = length-meeting (minus S C) classes (IsRising-minus S C r) (AreDisjoint-tail C classes d)
-    (λ q l. let w = h (suc q) (omega arith) in (
-      w.0,
-      is_member-minus w.0 S C ∙ and_from _ _ w.1 (not_from_false _ (disjoint-apart (C ∷ classes) (suc q) 0 w.0 d (λ e. omega arith) w.2)),
-      w.2,
-    )) in
-    omega arith
-
--- what is in no set of a family stands in none
-nowhere : (x : ℕ) (family : List (List ℕ)) → ((i : ℕ) → i < length family → is_member x (part_at family i) ≡ true → ⊥) → multiplicity x family ≡ 0
-unfolding multiplicity
-nowhere x [] h = refl
-nowhere x (a ∷ family) h =
-    let e : is_member x a ≡ false = false_from_ne_true _ (h 0 (omega arith)) in
-    let f : indicator (is_member x a) ≡ 0 = rw e refl in
-    let rest = nowhere x family (λ i l. h (suc i) (omega arith)) in
-    omega (arith, f, rest)
 
 -- ---- partitions
 
@@ -75,16 +39,6 @@ module _ (ends : ℕ → ℕ × ℕ) (vertices count : ℕ) (inside : (e : ℕ) 
 
   abbrev pub p : List ℕ → Bool
   p = is_graphic count ends
-
-  -- a forest has as many edges as the rank at most, and that is less than there are vertices
-  pub forest_size : (F : List ℕ) → p F ≡ true → length F ≤ rank p E
-  forest_size F ok = (rank_is (graphic_laws count ends) E (IsRising-all_below count)).most F ok (IsSubset-all_below count F (below (graphic_laws count ends) F ok))
-
-  pub rank_less : 0 < vertices → rank p E < vertices
-  rank_less some =
-      let sum = rank_and_number ends count vertices E (IsSet-all_below count) (λ e m. inside e (below_member (IsSet-all_below count) m)) in
-      let one = some_component ends vertices E (IsRising-all_below count) some in
-      omega arith
 
   -- an edge inside a class has both ends in each class that has one
   same_class : (classes : List (List ℕ)) → AreDisjoint classes → (q e : ℕ) → stays ends classes e ≡ true
@@ -102,7 +56,7 @@ module _ (ends : ℕ → ℕ × ℕ) (vertices count : ℕ) (inside : (e : ℕ) 
     apart = record {
       once = λ x. elim (cases_lt x vertices) [
         | inl l ↦ (let e = r.once x l in omega arith)
-        | inr g ↦ (let e = nowhere x classes (λ i l m. let b = r.below i x l m in omega arith) in omega arith)
+        | inr g ↦ (let e = multiplicity-nowhere x classes (λ i l m. let b = r.below i x l m in omega arith) in omega arith)
       ];
     }
 
@@ -127,7 +81,7 @@ module _ (ends : ℕ → ℕ × ℕ) (vertices count : ℕ) (inside : (e : ℕ) 
         let rx = (IsSet-those_below count (stays ends classes)).rising in
         let least = λ (v : ℕ). eqb (least_reached ends X v) v in
         length-meeting (those_below vertices least) classes (IsSet-those_below vertices least).rising apart (λ q l.
-        let x = some_member_of (part_at classes q) (r.filled q l) in
+        let x = member_from_some (part_at classes q) (r.filled q l) in
         let v = least_merged ends X x.0 in
         let small : v < vertices = (let a = r.below q x.0 l x.1 in let b = least_merged-le ends X x.0 in omega arith) in
         (v, is_member-those_below v vertices least ∙ and_from (ltb v vertices) (least v) (lt-ltb v vertices small) (eq-eqb _ _ (least_reached-merged ends X v rx ∙ least_merged-fixed ends X x.0)), least_in q x.0 x.1))
@@ -149,8 +103,8 @@ module _ (ends : ℕ → ℕ × ℕ) (vertices count : ℕ) (inside : (e : ℕ) 
       full = λ x l o. false_from_ne_true _ (λ h.
           let size = t.size in
           let more = length-with_one tree x (rising (graphic_laws count ends) tree t.forest) o in
-          let some = forest_size (with_one tree x) h in
-          let most = rank_less (omega arith) in
+          let some = length-independent (graphic_laws count ends) (with_one tree x) h in
+          let most = rank_below_vertices ends vertices count inside (omega arith) in
           omega arith);
     }
 
@@ -173,8 +127,8 @@ module _ (ends : ℕ → ℕ × ℕ) (vertices count : ℕ) (inside : (e : ℕ) 
         full trees t = elim (cases_lt 0 (length trees)) [
           | inl some ↦ (let tree = t.each 0 some in
               let size = tree.size in
-              let least = forest_size (part_at trees 0) tree.forest in
-              let most = rank_less (omega arith) in
+              let least = length-independent (graphic_laws count ends) (part_at trees 0) tree.forest in
+              let most = rank_below_vertices ends vertices count inside (omega arith) in
               inr (omega arith))
           | inr none ↦ inl (omega arith)
         ]

@@ -1,5 +1,5 @@
 -- The test of spanning trees and its sentence say the same.
-use Rattle.std.proofs.Common.{◌≡◌, ◌↔◌, ℕ, suc, true, List, length}
+use Rattle.std.proofs.Common.{◌≡◌, ℕ, suc, true, List, length}
 use Rattle.std.proofs.lemmas.Bool.{and_from, and_parts, eq-eqb, eqb-true}
 use Rattle.mat_packing.specs.Trees.{is_spanning_tree, IsSpanningTree}
 
@@ -8,6 +8,3 @@ spanning_tree_from {vertices} {count} {ends} {tree} t = and_from _ _ (eq-eqb (su
 
 pub spanning_tree_gives : {vertices count : ℕ} {ends : ℕ → ℕ × ℕ} {tree : List ℕ} → is_spanning_tree vertices count ends tree ≡ true → IsSpanningTree vertices count ends tree
 spanning_tree_gives {vertices} {count} {ends} {tree} h = let both = and_parts _ _ h in record { size = eqb-true (suc (length tree)) vertices both.0; forest = both.1 }
-
-pub spanning_tree_means : (vertices count : ℕ) (ends : ℕ → ℕ × ℕ) (tree : List ℕ) → (is_spanning_tree vertices count ends tree ≡ true) ↔ IsSpanningTree vertices count ends tree
-spanning_tree_means vertices count ends tree = (spanning_tree_gives, spanning_tree_from)

@@ -1,5 +1,5 @@
 -- Right answers to the questions for most disjoint bases, for fewest sets that cover the elements, and for k disjoint spanning trees.
-use Rattle.std.specs.Prelude.{◌≡◌, ℕ, ◌<◌, Bool, true, List, [], ◌∷◌, length, MatchOption}
+use Rattle.std.specs.Prelude.{◌≡◌, ◌≢◌, ℕ, ◌<◌, Bool, true, false, List, [], ◌∷◌, length, MatchOption}
 use Rattle.mat_sets.specs.Graphs.{ends_of}
 use Rattle.mat_sets.specs.Sets.{all_below}
 use Rattle.mat_laws.specs.Ranks.{rank}
@@ -31,3 +31,12 @@ IsRightCoveringAnswer n independent (Least sets cut) =
 abbrev pub IsRightTreesAnswer : ℕ → List (ℕ × ℕ) → ℕ → Trees → Type 0
 IsRightTreesAnswer vertices edges k (AllTrees trees) = AreTrees vertices (length edges) (ends_of edges) trees × (length trees ≡ k)
 IsRightTreesAnswer vertices edges k (Partition classes) = IsRightPartition vertices (length edges) (ends_of edges) k classes
+
+-- there are no k disjoint spanning trees
+abbrev pub HasNoTrees : ℕ → List (ℕ × ℕ) → ℕ → Type 0
+HasNoTrees vertices edges k = (trees : List (List ℕ)) → AreTrees vertices (length edges) (ends_of edges) trees → length trees ≢ k
+
+-- whether the answer is that there are none
+abbrev pub is_partition : Trees → Bool
+is_partition (AllTrees trees) = false
+is_partition (Partition classes) = true

@@ -1,5 +1,6 @@
 //! Fewest independent sets that cover the elements of a matroid.
 ghost use Rattle.std.specs.Prelude.{◌≡◌, ◌≢◌, ◌<◌, ◌≤◌, true, false, [], ◌∷◌, length, IfOk, MatchOption};
+ghost use Rattle.mat_sets.specs.Limits.{most_elements};
 ghost use Rattle.mat_sets.specs.Families.{family_union};
 ghost use Rattle.mat_sets.specs.Sets.{IsSet};
 ghost use Rattle.mat_laws.specs.Ranks.{rank};
@@ -7,9 +8,10 @@ ghost use Rattle.mat_packing.specs.Answers.{HasNoLoop, IsRightCoveringAnswer};
 ghost use Rattle.mat_packing.specs.Packings.{IsLoop};
 ghost use Rattle.mat_packing.specs.Rooms.{IsEnough};
 
-use crate::filling::{fill_copies, members_of};
+use crate::filling::fill_copies;
 use mat_laws::{Matroid, rank_of};
 use mat_sets::{ElemSet, SetList};
+use mat_union::members_of;
 use std::alloc::{AllocError, Global};
 
 /// Independent sets in which each element stands, as few as there can be, or an element that stands in none.
@@ -75,7 +77,7 @@ fn hold_all(alloc: Global, sets: &SetList, n: u32) -> Result<bool, AllocError>
     ensures full { IfOk result (λ all. all ≡ true → length (family_union sets.now) ≡ n) }
     ensures other { IfOk result (λ all. all ≡ false → length (family_union sets.now) ≢ n) }
 {
-    let members = members_of(alloc, sets)?;
+    let members = members_of(alloc, sets.as_slice())?;
     Ok(members.len() == n as usize)
 }
 
@@ -84,7 +86,7 @@ fn hold_all(alloc: Global, sets: &SetList, n: u32) -> Result<bool, AllocError>
 /// needs more. The only error is want of memory.
 pub fn cover<M: Matroid>(alloc: Global, m: &M) -> Result<Covering, AllocError>
     requires sound { M.sound m.now }
-    requires few { M.ground_size m.now ≤ 500 }
+    requires few { M.ground_size m.now ≤ most_elements }
     ensures { IfOk result (IsRightCoveringAnswer (M.ground_size m.now) (M.indep m.now)) }
 {
     m.lawful();

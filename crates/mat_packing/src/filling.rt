@@ -1,6 +1,6 @@
 //! Copies of one matroid, whose parts are filled up.
 ghost use Rattle.std.specs.Prelude.{◌≡◌, ◌≢◌, ◌<◌, ℕ, true, false, length, All, IfOk};
-ghost use Rattle.mat_sets.specs.Families.{family_union, AreDisjoint};
+ghost use Rattle.mat_sets.specs.Families.{AreDisjoint};
 ghost use Rattle.mat_packing.specs.FilledCopies.{AreFilledCopies};
 ghost use Rattle.mat_union.specs.Unions.{part_at};
 
@@ -72,15 +72,4 @@ pub(crate) fn are_full(sets: &SetList, size: u32) -> bool
         }
     }
     true
-}
-
-/// The members of all sets.
-pub(crate) fn members_of(alloc: Global, sets: &SetList) -> Result<ElemSet, AllocError>
-    ensures { IfOk result (λ s. s ≡ family_union sets.now) }
-{
-    let mut members = ElemSet::new(alloc);
-    for i in 0..sets.len() {
-        members = sets.get(i).union(alloc, &members)?;
-    }
-    Ok(members)
 }

@@ -1,5 +1,6 @@
 //! Most disjoint bases of a matroid.
-ghost use Rattle.std.specs.Prelude.{◌≡◌, ◌-◌, ◌<◌, ◌≤◌, length, IfOk};
+ghost use Rattle.std.specs.Prelude.{◌-◌, ◌<◌, ◌≤◌, length, IfOk};
+ghost use Rattle.mat_sets.specs.Limits.{most_elements};
 ghost use Rattle.mat_sets.specs.Sets.{all_below, minus, IsSet};
 ghost use Rattle.mat_laws.specs.Ranks.{rank};
 ghost use Rattle.mat_packing.specs.Answers.{IsRightPackingAnswer};
@@ -46,7 +47,7 @@ fn bases_allowed<M: Matroid>(
 /// as a first cut allows; where they don't become bases, the cut of the filled parts allows fewer. The only error is want of memory.
 pub fn pack_bases<M: Matroid>(alloc: Global, m: &M) -> Result<Packing, AllocError>
     requires sound { M.sound m.now }
-    requires few { M.ground_size m.now ≤ 500 }
+    requires few { M.ground_size m.now ≤ most_elements }
     ensures { IfOk result (IsRightPackingAnswer (M.ground_size m.now) (M.indep m.now)) }
 {
     m.lawful();

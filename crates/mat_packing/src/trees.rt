@@ -1,7 +1,8 @@
 //! Disjoint spanning trees of a graph.
-ghost use Rattle.std.specs.Prelude.{◌≡◌, ◌<◌, ◌≤◌, ◌^◌, ◌==◌, length, map, slice_index, IfOk};
-ghost use Rattle.mat_sets.specs.Graphs.{IsGraph, ends_of};
-ghost use Rattle.mat_packing.specs.Answers.{IsRightTreesAnswer};
+ghost use Rattle.std.specs.Prelude.{◌≡◌, ◌<◌, ◌≤◌, ◌^◌, ◌↔◌, ◌==◌, true, length, map, slice_index, IfOk};
+ghost use Rattle.mat_sets.specs.Limits.{most_vertices, most_elements};
+ghost use Rattle.mat_sets.specs.Graphs.{IsGraph};
+ghost use Rattle.mat_packing.specs.Answers.{is_partition, HasNoTrees, IsRightTreesAnswer};
 ghost use Rattle.mat_packing.specs.Components.{class_of, roots_of};
 
 use crate::filling::{are_full, fill_copies};
@@ -59,16 +60,17 @@ fn classes_of(alloc: Global, least: &[u32], roots: &[u32]) -> Result<SetList, Al
 }
 
 /// So many disjoint spanning trees, or a partition of the vertices with fewer edges between its classes than these need (Tutte;
-/// Nash-Williams; Schrijver, chapter 51). So many copies of the graphic matroid are filled; where they don't become spanning trees, the
-/// classes are the components of the cut. The only error is want of memory.
+/// Nash-Williams; Schrijver, chapter 51): the partition comes exactly where there are not so many of them. So many copies of the graphic
+/// matroid are filled; where they don't become spanning trees, the classes are the components of the cut. The only error is want of memory.
 pub fn pack_trees(alloc: Global, vertices: u32, edges: &Pairs, k: u32) -> Result<Trees, AllocError>
     requires graph { IsGraph vertices edges.now }
     requires some_vertex { 1 ≤ vertices }
-    requires few_vertices { vertices ≤ 500 }
-    requires few_edges { length edges.now ≤ 500 }
+    requires few_vertices { vertices ≤ most_vertices }
+    requires few_edges { length edges.now ≤ most_elements }
     requires some_tree { 1 ≤ k }
     requires few_trees { k ≤ 64 }
-    ensures { IfOk result (IsRightTreesAnswer vertices edges.now k) }
+    ensures right { IfOk result (IsRightTreesAnswer vertices edges.now k) }
+    ensures partition { IfOk result (λ found. (is_partition found ≡ true) ↔ HasNoTrees vertices edges.now k) }
 {
     let graph = Graphic::new(alloc, vertices, edges.copy(alloc)?)?;
     let filled = fill_copies(alloc, &graph, k)?;

@@ -1,6 +1,6 @@
 -- Words of 64 bits seen as sets: a number is a member exactly where its bit is set, so each change of a word is proved
 -- bit by bit, and two lists of words with the same bits are one set.
-use Rattle.std.proofs.Common.{Bool, List, [], ap, arith, bit_and, bit_or, cond, eqb, false, get_or, inl, inr, length, ltb, max, not, refl, replicate, set, subst, suc, sym, true, w64, zero, ℕ, ◌+◌, ◌&&◌, ◌++◌, ◌-◌, ◌*◌, ◌/◌, ◌%◌, ◌^◌, ◌<◌, ◌||◌, ◌∙◌, ◌∷◌, ◌≡◌, ◌≤◌}
+use Rattle.std.proofs.Common.{List, [], ap, arith, bit_and, bit_or, cond, eqb, false, get_or, inl, inr, length, ltb, max, not, refl, replicate, set, subst, suc, sym, w64, zero, ℕ, ◌+◌, ◌&&◌, ◌++◌, ◌-◌, ◌*◌, ◌/◌, ◌%◌, ◌^◌, ◌<◌, ◌||◌, ◌∙◌, ◌∷◌, ◌≡◌, ◌≤◌}
 use Rattle.std.specs.Int.{bit_at, bit_not}
 use Rattle.std.specs.Int.Bits.{or_zero_r}
 use Rattle.std.proofs.lemmas.Bool.{and_right, cases_eq, cases_lt, cond-false, cond-true, eq-eqb, le-ltb, lt-ltb, ne_eqb}
@@ -11,6 +11,7 @@ use Rattle.mat_sets.specs.Sets.{IsRising, all_below, is_member, with_one, withou
 use Rattle.mat_sets.proofs.Ground.{IsRising-all_below, is_member-all_below}
 use Rattle.mat_sets.proofs.Members.{IsRising-nil, IsRising-with_one, IsRising-without_one, is_member-with_one, is_member-without_one, same_members, without_one-missing}
 use Rattle.mat_sets.proofs.Search.{IsSet-those_below, is_member-those_below}
+use Rattle.mat_sets.proofs.Truths.{and_all}
 
 -- ---- the members
 
@@ -98,7 +99,7 @@ has_bit-cut words x k l =
     let old = get_or words (x / 64) 0 in
     let new = bit_and old (bit_not w64 (1 * 2 ^ (x % 64) % 2 ^ 64)) in
     let small : x % 64 < 64 = omega arith in
-    let other : (k ≡ x → ⊥) → has_bit words k ≡ (has_bit words k && not (eqb k x)) = λ d. rw (ne_eqb k x d) (and_true (has_bit words k)) in
+    let other : (k ≡ x → ⊥) → has_bit words k ≡ (has_bit words k && not (eqb k x)) = λ d. rw (ne_eqb k x d) (sym (and_all (has_bit words k))) in
     elim (cases_eq (k / 64) (x / 64)) [
       | inl e ↦ elim (cases_eq (k % 64) (x % 64)) [
         | inl f ↦ has_bit-set_here words (x / 64) new k l e ∙ rw (f, bit_at_clear_same w64 old (x % 64) small, eq-eqb k x (omega arith))
@@ -107,10 +108,6 @@ has_bit-cut words x k l =
       ]
       | inr d ↦ has_bit-set_other words (x / 64) new k d ∙ other (omega arith)
     ]
-  where
-    and_true : (b : Bool) → b ≡ (b && true)
-    and_true true = refl
-    and_true false = refl
 
 pub bits_of-put : (words : List ℕ) (x word : ℕ) → x / 64 < length words → word ≡ get_or words (x / 64) word
     → bits_of (set words (x / 64) (bit_or word (1 * 2 ^ (x % 64) % 2 ^ 64))) ≡ with_one (bits_of words) x

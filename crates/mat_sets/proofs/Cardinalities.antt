@@ -1,11 +1,10 @@
 -- Sizes and sums of the sets made of others, and induction over sets.
-use Rattle.std.proofs.Common.{List, [], arith, false, length, neg_ℤ, pos, refl, subst, suc, true, zero, ℕ, ℤ, ◌*◌, ◌++◌, ◌+ℤ◌, ◌+◌, ◌<◌, ◌∷◌, ◌≡◌, ◌≤ℤ◌, ◌≤◌}
-use Rattle.std.proofs.lemmas.Bool.{lt-ltb}
+use Rattle.std.proofs.Common.{List, [], arith, false, length, neg_ℤ, pos, refl, suc, true, ℕ, ℤ, ◌*◌, ◌+ℤ◌, ◌+◌, ◌∷◌, ◌≡◌, ◌≤ℤ◌}
 use Rattle.std.proofs.lemmas.Int.{ints}
 use Rattle.mat_sets.specs.Families.{indicator}
-use Rattle.mat_sets.specs.Sets.{IsRising, IsSubset, RisesFrom, intersection, is_member, minus, rising_insert, union, with_one, without_one}
+use Rattle.mat_sets.specs.Sets.{IsRising, IsSubset, intersection, is_member, minus, union, with_one, without_one}
 use Rattle.mat_sets.specs.Sums.{sum_of}
-use Rattle.mat_sets.proofs.Members.{IsRising-intersection, IsRising-minus, IsRising-nil, IsRising-union, IsRising-with_one, IsRising-without_one, RisesFrom-weaken, is_member-head, missing_below, set_members}
+use Rattle.mat_sets.proofs.Members.{IsRising-intersection, IsRising-minus, IsRising-nil, IsRising-union, IsRising-with_one, IsRising-without_one, is_member-head, set_members}
 use Rattle.mat_sets.proofs.Sums.{balance, sizes}
 
 IsRising-one : (x : ℕ) → IsRising (x ∷ [])
@@ -66,14 +65,6 @@ pub ruleset set_sizes = (length-with_one, length-without_one)
 
 -- ---- sums
 
-pub sum_of-union-intersection : (f : ℕ → ℤ) (a b : List ℕ) → IsRising a → IsRising b
-    → sum_of f a +ℤ sum_of f b ≡ sum_of f (union a b) +ℤ sum_of f (intersection a b)
-sum_of-union-intersection f a b r s = balance f a b _ _ r s (IsRising-union a b s) (IsRising-intersection a b r) (bits-union a b)
-
-pub sum_of-minus-intersection : (f : ℕ → ℤ) (a b : List ℕ) → IsRising a
-    → sum_of f a ≡ sum_of f (minus a b) +ℤ sum_of f (intersection a b)
-sum_of-minus-intersection f a b r = let h = balance f a [] _ _ r IsRising-nil (IsRising-minus a b r) (IsRising-intersection a b r) (bits-minus a b) in omega (arith, ints)
-
 pub sum_of-with_one : (f : ℕ → ℤ) (a : List ℕ) (x : ℕ) → IsRising a → is_member x a ≡ false
     → sum_of f (with_one a x) ≡ sum_of f a +ℤ f x
 sum_of-with_one f a x r h = let e = balance f _ [] a _ (IsRising-with_one a x r) IsRising-nil r (IsRising-one x) (bits-with a x h) in omega (arith, ints)
@@ -99,10 +90,6 @@ pub sum_of-same : (f g : ℕ → ℤ) (a : List ℕ) → ((k : ℕ) → is_membe
 sum_of-same f g [] e = refl
 sum_of-same f g (x ∷ xs) e = omega (arith, ints, e x (is_member-head x xs), sum_of-same f g xs (λ k m. e k (grind arith)))
 
-pub sum_of-append : (f : ℕ → ℤ) (xs ys : List ℕ) → sum_of f (xs ++ ys) ≡ sum_of f xs +ℤ sum_of f ys
-sum_of-append f [] ys = omega (arith, ints)
-sum_of-append f (x ∷ xs) ys = omega (arith, ints, sum_of-append f xs ys)
-
 pub sum_of-le : (f g : ℕ → ℤ) (a : List ℕ) → ((k : ℕ) → is_member k a ≡ true → f k ≤ℤ g k) → sum_of f a ≤ℤ sum_of g a
 sum_of-le f g [] e = omega (arith, ints)
 sum_of-le f g (x ∷ t) e = omega (arith, ints, e x (is_member-head x t), sum_of-le f g t (λ k m. e k (grind arith)))
@@ -123,39 +110,6 @@ pub length-minus_subset : (a b : List ℕ) → IsRising a → IsRising b → IsS
     → length (minus a b) + length b ≡ length a
 length-minus_subset a b r s h = let e = sizes _ b a [] (IsRising-minus a b r) s r IsRising-nil (bits-minus_subset a b h) in omega arith
 
-pub sum_of-minus_subset : (f : ℕ → ℤ) (a b : List ℕ) → IsRising a → IsRising b → IsSubset b a
-    → sum_of f (minus a b) +ℤ sum_of f b ≡ sum_of f a
-sum_of-minus_subset f a b r s h = let e = balance f _ b a [] (IsRising-minus a b r) s r IsRising-nil (bits-minus_subset a b h) in omega (arith, ints)
-
 pub length-union_apart : (a b : List ℕ) → IsRising a → IsRising b
     → ((x : ℕ) → is_member x a ≡ true → is_member x b ≡ false) → length (union a b) ≡ length a + length b
 length-union_apart a b r s h = let e = sizes _ [] a b (IsRising-union a b s) IsRising-nil r s (bits-apart a b h) in omega arith
-
-pub sum_of-union_apart : (f : ℕ → ℤ) (a b : List ℕ) → IsRising a → IsRising b
-    → ((x : ℕ) → is_member x a ≡ true → is_member x b ≡ false) → sum_of f (union a b) ≡ sum_of f a +ℤ sum_of f b
-sum_of-union_apart f a b r s h = let e = balance f _ [] a b (IsRising-union a b s) IsRising-nil r s (bits-apart a b h) in omega (arith, ints)
-
--- ---- induction
-
-cons-rising_insert : (x : ℕ) (t : List ℕ) → RisesFrom (suc x) t → rising_insert x t ≡ x ∷ t
-cons-rising_insert x [] r = refl
-cons-rising_insert x (y ∷ t) r = let l : suc x ≤ y = r.0 in rw (lt-ltb x y (omega arith))
-
-pub by_adding : (P : List ℕ → Type 0) → P []
-    → ((a : List ℕ) (x : ℕ) → IsRising a → is_member x a ≡ false → P a → P (with_one a x)) → (a : List ℕ) → IsRising a
-    → P a
-unfolding with_one
-by_adding P p step a r = go 0 a r.rises
-  where
-    go : (lo : ℕ) (a : List ℕ) → RisesFrom lo a → P a
-    go lo [] r = p
-    go lo (x ∷ t) r = subst P (cons-rising_insert x t r.1) (step t x (record { rises = RisesFrom-weaken 0 (suc x) t (omega arith) r.1 }) (missing_below x (suc x) t (omega arith) r.1) (go (suc x) t r.1))
-
-pub by_size : (P : List ℕ → Type 0)
-    → ((a : List ℕ) → IsRising a → ((b : List ℕ) → IsRising b → length b < length a → P b) → P a) → (a : List ℕ)
-    → IsRising a → P a
-by_size P step a r = go (suc (length a)) a r (omega arith)
-  where
-    go : (n : ℕ) (a : List ℕ) → IsRising a → length a < n → P a
-    go zero a r h = absurd (omega arith)
-    go (suc n) a r h = step a r (λ b s l. go n b s (omega arith))

@@ -1,7 +1,7 @@
 -- The number of arcs that enter a vertex set: it is submodular, one arc less lowers it by at most one, and lists of arcs that share none,
 -- each of which has an arc that enters, are at most as many.
 use Rattle.std.proofs.Common.{if◌then◌else◌, ◌≡◌, ℕ, suc, ◌+◌, ◌<◌, ◌≤◌, Bool, true, false, not, ◌&&◌, ◌||◌, eqb, List, [], ◌∷◌, length, get_or, inl, inr, refl, sym, ap, ◌∙◌, subst, arith}
-use Rattle.std.proofs.lemmas.Bool.{and_from, and_parts, both_ways, cases_Bool, eqb-true, false_from_ne_true, false≢true, not-true, or_cases}
+use Rattle.std.proofs.lemmas.Bool.{and_right, and_from, and_parts, both_ways, cases_Bool, eqb-true, false_from_ne_true, false≢true, not-true, or_cases}
 use Rattle.std.specs.List.{concat, filter}
 use Rattle.mat_sets.specs.Families.{indicator, AreDisjoint}
 use Rattle.mat_sets.specs.Graphs.{ends_of, enters, entering, DirectedWalk, IsRootFree, IsSpanningArborescence, IsUnentered}
@@ -99,11 +99,7 @@ module _ (ends : ℕ → ℕ × ℕ) where
   pub entering-same : (live cut : List ℕ) (a : ℕ) → IsRising live → enters ends cut a ≡ false
       → length (entering ends (without_one live a) cut) ≡ length (entering ends live cut)
   entering-same live cut a r out = ap length (entering-without live cut a r ∙ without_one-missing (entering ends live cut) a (IsRising-entering live cut r)
-      (is_member-entering a live cut ∙ rw out (none (is_member a live))))
-    where
-      none : (b : Bool) → (b && false) ≡ false
-      none true = refl
-      none false = refl
+      (is_member-entering a live cut ∙ rw out (and_right (is_member a live) false refl)))
 
   -- an arc that enters is missed once
   pub entering-one_less : (live cut : List ℕ) (a : ℕ) → IsRising live → is_member a live ≡ true → enters ends cut a ≡ true

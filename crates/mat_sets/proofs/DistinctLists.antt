@@ -1,6 +1,6 @@
 -- Lists in which no item stands twice. Of n items among which each number below n stands, none stands twice, since the set of the
 -- items has n members.
-use Rattle.std.proofs.Common.{◌≡◌, ℕ, suc, ◌<◌, ◌≤◌, Bool, true, false, ◌&&◌, ◌||◌, cond, List, [], ◌∷◌, length}
+use Rattle.std.proofs.Common.{◌≡◌, ℕ, suc, ◌<◌, ◌≤◌, Bool, true, false, ◌&&◌, cond, List, [], ◌∷◌, length}
 use Rattle.std.proofs.Common.{inl, inr, refl, sym, ap, ◌∙◌, arith}
 use Rattle.std.specs.List.{filter}
 use Rattle.std.proofs.lemmas.Bool.{cases_Bool, ltb-true}
@@ -9,13 +9,10 @@ use Rattle.mat_sets.proofs.Members.{is_member-filter, is_member-union, with_one-
 use Rattle.mat_sets.proofs.Cardinalities.{length-with_one}
 use Rattle.mat_sets.proofs.Subsets.{length-subset, union-left}
 use Rattle.mat_sets.proofs.Ground.{is_member-all_below, length-all_below, IsRising-all_below}
+use Rattle.mat_sets.proofs.Truths.{or_none}
 
 is_member-items : (x : ℕ) (xs : List ℕ) → is_member x (union xs []) ≡ is_member x xs
 is_member-items x xs = is_member-union x xs [] ∙ or_none (is_member x xs)
-  where
-    or_none : (b : Bool) → (b || false) ≡ b
-    or_none true = refl
-    or_none false = refl
 
 -- the set of the items, with one item more
 union-cons : (x : ℕ) (xs : List ℕ) → union (x ∷ xs) [] ≡ with_one (union xs []) x
@@ -33,7 +30,7 @@ new : (x : ℕ) (xs : List ℕ) → is_member x xs ≡ false → length (union (
 new x xs o = ap length (union-cons x xs) ∙ length-with_one (union xs []) x (items-rise xs) (is_member-items x xs ∙ o)
 
 -- the set of the items has at most as many members as the list has items
-length-items : (xs : List ℕ) → length (union xs []) ≤ length xs
+pub length-items : (xs : List ℕ) → length (union xs []) ≤ length xs
 unfolding union
 length-items [] = omega arith
 length-items (x ∷ xs) = elim (cases_Bool (is_member x xs)) [

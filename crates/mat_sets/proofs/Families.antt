@@ -1,25 +1,17 @@
 -- Families of sets: how often a number stands in them, their union and their sums.
-use Rattle.std.proofs.Common.{Bool, List, [], ap, arith, false, get_or, inl, inr, length, pos, refl, suc, sym, true, zero, ℕ, ℤ, ◌++◌, ◌+ℤ◌, ◌+◌, ◌<◌, ◌||◌, ◌∙◌, ◌∷◌, ◌≡◌, ◌≢◌, ◌≤◌}
-use Rattle.std.proofs.lemmas.Bool.{false≢true, or_cases, or_left, or_right, both_ways, cases_lt, cases_order, false_from_ne_true}
+use Rattle.std.proofs.Common.{Bool, List, [], ap, arith, false, get_or, inl, inr, length, pos, refl, suc, sym, true, zero, ℕ, ℤ, ◌++◌, ◌+◌, ◌<◌, ◌||◌, ◌∙◌, ◌∷◌, ◌≡◌, ◌≢◌, ◌≤◌}
+use Rattle.std.proofs.lemmas.Bool.{and_from, cases_Bool, false≢true, or_cases, or_left, or_right, both_ways, cases_lt, cases_order, false_from_ne_true, not_from_false}
 use Rattle.std.proofs.lemmas.Int.{ints}
 use Rattle.std.proofs.lemmas.List.{get_or_past}
 use Rattle.std.proofs.lemmas.List.Sums.{sum_by-cons}
-use Rattle.std.specs.List.{sum_by}
+use Rattle.std.specs.List.{sum_by, All}
 use Rattle.mat_sets.specs.Families.{AllRising, AreDisjoint, family_sum, family_union, indicator, multiplicity}
-use Rattle.mat_sets.specs.Sets.{AllBelow, IsRising, is_member}
+use Rattle.mat_sets.specs.Sets.{AllBelow, IsRising, IsSet, intersection, is_member, minus}
 use Rattle.mat_sets.specs.Sums.{sum_of}
-use Rattle.mat_sets.proofs.Ground.{AllBelow-from_members, AllBelow-member}
-use Rattle.mat_sets.proofs.Members.{IsRising-nil, IsRising-union, is_member-union}
+use Rattle.mat_sets.proofs.Cardinalities.{length-minus-intersection}
+use Rattle.mat_sets.proofs.Ground.{AllBelow-from_members, AllBelow-member, below_member}
+use Rattle.mat_sets.proofs.Members.{IsRising-minus, IsRising-nil, IsRising-union, is_member-intersection, is_member-minus, is_member-union, some_from_member}
 use Rattle.mat_sets.proofs.Sums.{family_balance, sum_of-ones}
-
-pub multiplicity-le : (k : ℕ) (sets : List (List ℕ)) → multiplicity k sets ≤ length sets
-unfolding multiplicity
-multiplicity-le k [] = omega arith
-multiplicity-le k (a ∷ t) = let ih = multiplicity-le k t in one (is_member k a) ih
-  where
-    one : {m n : ℕ} (b : Bool) → m ≤ n → indicator b + m ≤ suc n
-    one true h = omega arith
-    one false h = omega arith
 
 -- ---- how often a number stands
 
@@ -36,6 +28,34 @@ unfolding multiplicity
 multiplicity-at x [] i h m = absurd (omega arith)
 multiplicity-at x (a ∷ family) zero h m = let e : indicator (is_member x a) ≡ 1 = rw m in omega (arith, e)
 multiplicity-at x (a ∷ family) (suc i) h m = omega (arith, multiplicity-at x family i (omega arith) m)
+
+-- what stands somewhere is a member of one of the sets
+pub multiplicity-gives : (x : ℕ) (family : List (List ℕ)) → 0 < multiplicity x family
+    → (i : ℕ) × (i < length family) × (is_member x (get_or family i []) ≡ true)
+unfolding multiplicity
+multiplicity-gives x [] some = absurd (omega arith)
+multiplicity-gives x (a ∷ family) some = elim (cases_Bool (is_member x a)) [
+  | inl here ↦ (0, omega arith, here)
+  | inr out ↦ (let none : indicator (is_member x a) ≡ 0 = rw out refl in
+      let w = multiplicity-gives x family (omega (arith, none)) in
+      let l = w.1 in
+      (suc w.0, omega arith, w.2))
+]
+
+-- what is in none of the sets stands nowhere
+pub multiplicity-nowhere : (x : ℕ) (family : List (List ℕ)) → ((i : ℕ) → i < length family → is_member x (get_or family i []) ≡ true → ⊥)
+    → multiplicity x family ≡ 0
+unfolding multiplicity
+multiplicity-nowhere x [] out = refl
+multiplicity-nowhere x (a ∷ family) out =
+    let first : is_member x a ≡ false = false_from_ne_true _ (out 0 (omega arith)) in
+    let none : indicator (is_member x a) ≡ 0 = rw first refl in
+    let rest = multiplicity-nowhere x family (λ i l. out (suc i) (omega arith)) in
+    omega (arith, none, rest)
+
+-- and so does what is not below n, where the sets are on n elements
+pub multiplicity-past : (n x : ℕ) (family : List (List ℕ)) → n ≤ x → All (IsSet n) family → multiplicity x family ≡ 0
+multiplicity-past n x family past sets = multiplicity-nowhere x family (λ i l m. let below = below_member (sets i [] l) m in omega (arith, past))
 
 -- ---- the union of a family
 
@@ -63,6 +83,12 @@ family_union-from x (a ∷ family) (suc i) h m = is_member-union x a (family_uni
 pub AllBelow-family_union : (n : ℕ) (family : List (List ℕ))
     → ((i : ℕ) → i < length family → AllBelow n (get_or family i [])) → AllBelow n (family_union family)
 AllBelow-family_union n family h = AllBelow-from_members n _ (λ x m. let w = family_union-gives x family m in AllBelow-member n _ x (h w.0 w.1) w.2)
+
+pub IsSet-family_union : (n : ℕ) (family : List (List ℕ)) → All (IsSet n) family → IsSet n (family_union family)
+IsSet-family_union n family sets = record {
+  rising = IsRising-family_union family;
+  below = AllBelow-family_union n family (λ i l. (sets i [] l).below);
+}
 
 -- ---- disjoint sets
 
@@ -131,21 +157,26 @@ disjoint-apart sets i j x apart other h = false_from_ne_true _ (λ k. elim (case
 
 -- ---- sums
 
-pub family_sum-append : (f : ℕ → ℤ) (family others : List (List ℕ))
-    → family_sum f (family ++ others) ≡ family_sum f family +ℤ family_sum f others
-unfolding family_sum
-family_sum-append f [] others = omega (arith, ints)
-family_sum-append f (a ∷ family) others = omega (arith, ints, family_sum-append f family others)
-
 -- the sum of the sizes
 pub family_sum-ones : (family : List (List ℕ)) → family_sum (λ k. pos 1) family ≡ pos (sum_by length family)
 unfolding family_sum
 family_sum-ones [] = refl
 family_sum-ones (a ∷ family) = rw (sum_by-cons length a family) (omega (arith, ints, sum_of-ones a, family_sum-ones family))
 
--- two families in which each number stands equally often have as many members all together
-pub family_sizes : (family others : List (List ℕ)) → AllRising family → AllRising others
-    → ((x : ℕ) → multiplicity x family ≡ multiplicity x others) → sum_by length family ≡ sum_by length others
-family_sizes family others r s e =
-    let h = family_balance (λ k. pos 1) family others r s e in
-    omega (arith, ints, h, family_sum-ones family, family_sum-ones others)
+-- ---- sizes
+
+-- a set that meets each of disjoint sets has at least as many members as there are of them
+pub length-meeting : (S : List ℕ) (family : List (List ℕ)) → IsRising S → AreDisjoint family
+    → ((i : ℕ) → i < length family → (x : ℕ) × (is_member x S ≡ true) × (is_member x (get_or family i []) ≡ true)) → length family ≤ length S
+length-meeting S [] r d h = omega arith
+length-meeting S (a ∷ family) r d h =
+    let split = length-minus-intersection S a r in
+    let first = h 0 (omega arith) in
+    let some = some_from_member first.0 (intersection S a) (is_member-intersection first.0 S a ∙ and_from _ _ first.1 first.2) in
+    let rest = length-meeting (minus S a) family (IsRising-minus S a r) (AreDisjoint-tail a family d)
+    (λ i l. let w = h (suc i) (omega arith) in (
+      w.0,
+      is_member-minus w.0 S a ∙ and_from _ _ w.1 (not_from_false _ (disjoint-apart (a ∷ family) (suc i) 0 w.0 d (λ e. omega arith) w.2)),
+      w.2,
+    )) in
+    omega arith

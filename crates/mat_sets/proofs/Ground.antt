@@ -1,15 +1,13 @@
 -- Sets on n elements: the set of all numbers below n, complements, and unions with a list in any order.
-use Rattle.std.proofs.Common.{Bool, List, [], ap, arith, eqb, false, get_or, inl, inr, leb, length, ltb, refl, suc, sym, true, zero, ℕ, ℤ, ◌&&◌, ◌++◌, ◌+ℤ◌, ◌+◌, ◌<◌, ◌||◌, ◌∙◌, ◌∷◌, ◌≡◌, ◌≤◌}
+use Rattle.std.proofs.Common.{Bool, List, [], ap, arith, eqb, false, get_or, inl, inr, leb, length, ltb, map, refl, suc, sym, true, zero, ℕ, ◌&&◌, ◌++◌, ◌+◌, ◌<◌, ◌||◌, ◌∙◌, ◌∷◌, ◌≡◌, ◌≤◌}
 use Rattle.std.proofs.Math.Numerals.{add-one}
 use Rattle.std.proofs.lemmas.Bool.{and_parts, and_right, both_ways, cases_lt, cases_order, eq-eqb, eqb-true, false≢true, le-leb, le-ltb, lt-leb, lt-ltb, ltb-true, ne_eqb, or_cases}
-use Rattle.std.proofs.lemmas.Int.{ints}
+use Rattle.std.proofs.lemmas.List.{get_or-map, length-map, map-append}
 use Rattle.std.specs.List.{filter}
 use Rattle.mat_sets.specs.Sets.{AllBelow, AreDistinct, IsRising, IsSet, IsSubset, RisesFrom, all_below, counted_from, intersection, is_member, minus, rising_insert, union, with_one, without_one}
-use Rattle.mat_sets.specs.Sums.{sum_of}
-use Rattle.mat_sets.proofs.Cardinalities.{length-minus-intersection, length-with_one, sum_of-with_one}
+use Rattle.mat_sets.proofs.Cardinalities.{length-minus-intersection, length-with_one}
 use Rattle.mat_sets.proofs.Members.{IsRising-intersection, IsRising-minus, IsRising-nil, IsRising-union, IsRising-with_one, IsRising-without_one, is_member-filter, is_member-head, is_member-union, is_member-with_one, missing_below, same_members, set_members}
 use Rattle.mat_sets.proofs.Subsets.{intersection-left, length-subset, minus-IsSubset, union-IsSubset, without_one-IsSubset}
-use Rattle.mat_sets.proofs.Sums.{AllBelow-weaken}
 
 -- ---- each item is below n
 
@@ -46,9 +44,6 @@ IsSet-from n a r h = record { rising = r; below = AllBelow-from_members n a h }
 
 pub IsSet-subset : (n : ℕ) (a b : List ℕ) → IsRising a → IsSubset a b → IsSet n b → IsSet n a
 IsSet-subset n a b r s q = record { rising = r; below = AllBelow-subset n a b s q.below }
-
-pub IsSet-weaken : (m n : ℕ) (a : List ℕ) → m ≤ n → IsSet m a → IsSet n a
-IsSet-weaken m n a h s = record { rising = s.rising; below = AllBelow-weaken m n a h s.below }
 
 pub IsSet-nil : (n : ℕ) → IsSet n []
 IsSet-nil n = record { rising = IsRising-nil; below = tt }
@@ -139,6 +134,20 @@ IsSubset-all_below n a b = record { inside = λ k h. is_member-all_below k n ∙
 pub IsSet-all_below : (n : ℕ) → IsSet n (all_below n)
 IsSet-all_below n = record { rising = IsRising-all_below n; below = AllBelow-from_members n (all_below n) (λ x m. ltb-true x n (sym (is_member-all_below x n) ∙ m)) }
 
+-- ---- lists made number by number
+
+pub length-map_all_below : {A : Type 0} (f : ℕ → A) (n : ℕ) → length (map f (all_below n)) ≡ n
+length-map_all_below f n = length-map (all_below n) f ∙ length-all_below n
+
+pub get_or-map_all_below : {A : Type 0} (f : ℕ → A) (n i : ℕ) (d : A) → i < n → get_or (map f (all_below n)) i d ≡ f i
+get_or-map_all_below f n i d l = get_or-map f (all_below n) i 0 d (rw (length-all_below n) l) ∙ ap f (get_or-all_below n i 0 l)
+
+pub map-all_below_none : {A : Type 0} (f : ℕ → A) → map f (all_below 0) ≡ []
+map-all_below_none f = ap (map f) all_below-none
+
+pub map-all_below_more : {A : Type 0} (f : ℕ → A) (n : ℕ) → map f (all_below (n + 1)) ≡ map f (all_below n) ++ f n ∷ []
+map-all_below_more f n = ap (map f) (all_below-more n) ∙ map-append f (all_below n) (n ∷ [])
+
 pub ruleset counting = (all_below-more, all_below-none, IsRising-all_below, IsSet-all_below)
 
 pub ruleset set_bounds = (IsSet-nil, IsSet-with_one, IsSet-without_one, IsSet-minus, IsSet-intersection, IsSet-union, IsSet-all_below)
@@ -153,12 +162,6 @@ pub length-complement : (n : ℕ) (a : List ℕ) → IsRising a → AllBelow n a
 length-complement n a r b =
     let e = IsRising-all_below n in
     omega (arith, length-minus-intersection (all_below n) a e, ap length (intersection-inside a (all_below n) r e (IsSubset-all_below n a b)), length-all_below n)
-
-pub complement-twice : (n : ℕ) (a : List ℕ) → IsRising a → AllBelow n a
-    → minus (all_below n) (minus (all_below n) a) ≡ a
-complement-twice n a r b =
-    let s = IsSubset-all_below n a b in
-    same_members _ _ (IsRising-minus _ _ (IsRising-all_below n)) r (λ k. grind (arith, set_members, s.inside k))
 
 -- a set on n elements has at most n members
 pub IsSet-length : (n : ℕ) (a : List ℕ) → IsSet n a → length a ≤ n
@@ -178,14 +181,6 @@ length-union_distinct (x ∷ t) b r d apart =
     added : (a : List ℕ) (x : ℕ) → IsRising a → is_member x a ≡ false → length (rising_insert x a) ≡ suc (length a)
     added a x r h = length-with_one a x r h
 
-pub sum_of-union_distinct : (f : ℕ → ℤ) (xs b : List ℕ) → IsRising b → AreDistinct xs
-    → ((k : ℕ) → is_member k xs ≡ true → is_member k b ≡ false) → sum_of f (union xs b) ≡ sum_of f xs +ℤ sum_of f b
-unfolding union with_one
-sum_of-union_distinct f [] b r d apart = omega (arith, ints)
-sum_of-union_distinct f (x ∷ t) b r d apart =
-    let fresh : is_member x (union t b) ≡ false = let h = apart x (is_member-head x t) in let d0 = d.0 in rw (is_member-union x t b, d0, h) in
-    omega (arith, ints, sum_of-with_one f (union t b) x (IsRising-union t b r) fresh, sum_of-union_distinct f t b r d.1 (λ k m. apart k (grind arith)))
-
 pub AreDistinct-rising : (a : List ℕ) → IsRising a → AreDistinct a
 AreDistinct-rising a r = from_rising 0 a r.rises
   where
@@ -203,34 +198,3 @@ length-distinct_subset xs a d r s =
 
 pub length-distinct_below : (n : ℕ) (xs : List ℕ) → AreDistinct xs → AllBelow n xs → length xs ≤ n
 length-distinct_below n xs d b = omega (arith, length-distinct_subset xs (all_below n) d (IsRising-all_below n) (IsSubset-all_below n xs b), length-all_below n)
-
--- ---- an exchange along two lists: ys go out, and xs come in
-
-exchange_back : (a ys : List ℕ) → IsRising a → IsSubset ys a → union ys (minus a ys) ≡ a
-exchange_back a ys r s = same_members _ _ (IsRising-union ys _ (IsRising-minus a ys r)) r (λ k. grind (arith, set_members))
-
-apart_out : (a ys : List ℕ) (k : ℕ) → is_member k ys ≡ true → is_member k (minus a ys) ≡ false
-apart_out a ys k h = grind (arith, set_members)
-
-apart_in : (a xs ys : List ℕ) (k : ℕ) → (is_member k xs ≡ true → is_member k a ≡ false) → is_member k xs ≡ true
-    → is_member k (minus a ys) ≡ false
-apart_in a xs ys k o h = let e = o h in grind (arith, set_members)
-
-pub length-exchange : (a xs ys : List ℕ) → IsRising a → AreDistinct xs → AreDistinct ys → IsSubset ys a
-    → ((k : ℕ) → is_member k xs ≡ true → is_member k a ≡ false)
-    → length (union xs (minus a ys)) + length ys ≡ length a + length xs
-length-exchange a xs ys r dx dy s o =
-    let rest = IsRising-minus a ys r in
-    let came = length-union_distinct xs (minus a ys) rest dx (λ k. apart_in a xs ys k (o k)) in
-    let went = length-union_distinct ys (minus a ys) rest dy (apart_out a ys) in
-    omega (arith, came, went, ap length (exchange_back a ys r s))
-
-pub sum_of-exchange : (f : ℕ → ℤ) (a xs ys : List ℕ) → IsRising a → AreDistinct xs → AreDistinct ys → IsSubset ys a
-    → ((k : ℕ) → is_member k xs ≡ true → is_member k a ≡ false)
-    → sum_of f (union xs (minus a ys)) +ℤ sum_of f ys ≡ sum_of f a +ℤ sum_of f xs
-sum_of-exchange f a xs ys r dx dy s o =
-    let rest = IsRising-minus a ys r in
-    let came = sum_of-union_distinct f xs (minus a ys) rest dx (λ k. apart_in a xs ys k (o k)) in
-    let went = sum_of-union_distinct f ys (minus a ys) rest dy (apart_out a ys) in
-    let whole : sum_of f (union ys (minus a ys)) ≡ sum_of f a = ap (sum_of f) (exchange_back a ys r s) in
-    omega (arith, ints, came, went, whole)

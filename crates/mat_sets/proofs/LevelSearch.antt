@@ -11,8 +11,8 @@ use Rattle.mat_sets.specs.Walks.{IsReachedSet, IsShortestWalk}
 use Rattle.mat_sets.proofs.DisjointSets.{no_member}
 use Rattle.mat_sets.proofs.Ground.{is_member-all_below}
 use Rattle.mat_sets.proofs.Levels.{AreLevels, first_levels, follows, follows_level, missed_goals, next_level, next_level_is, next_levels, shortest_by}
-use Rattle.mat_sets.proofs.Members.{is_member-head, same_members}
-use Rattle.mat_sets.proofs.Search.{IsSet-those_below, is_member-those_below, length-those_below_less, length-those_below_most, some_below_gives}
+use Rattle.mat_sets.proofs.Members.{is_member-head}
+use Rattle.mat_sets.proofs.Search.{length-those_below_less, length-those_below_most, some_below_gives, those_below-same}
 
 -- how many vertices are not reached
 abbrev pub count_unreached : ℕ → List ℕ → ℕ
@@ -186,13 +186,6 @@ module _ {n : ℕ} {arc : ℕ → ℕ → Bool} {start goal : ℕ → Bool} (k :
       (next_search s none r x m)
 
 -- ---- the end of the search
-
-those_below-same : (n : ℕ) (f g : ℕ → Bool) → ((v : ℕ) → v < n → f v ≡ g v) → those_below n f ≡ those_below n g
-those_below-same n f g h = same_members _ _ (IsSet-those_below n f).rising (IsSet-those_below n g).rising
-    (λ v. is_member-those_below v n f ∙ elim (cases_lt v n) [
-      | inl l ↦ ap (λ b. ltb v n && b) (h v l)
-      | inr o ↦ rw (le-ltb v n o)
-    ] ∙ sym (is_member-those_below v n g))
 
 pub some_member : (xs : List ℕ) → (length xs ≡ 0 → ⊥) → (x : ℕ) × (is_member x xs ≡ true)
 some_member [] h = absurd (h refl)

@@ -1,3 +1,4 @@
+pub mod Truths
 pub mod Members
 pub mod Sums
 pub mod Cardinalities
@@ -16,7 +17,6 @@ pub mod Search
 pub mod Bits
 pub mod BitScan
 pub mod SetTests
-pub mod Decisions
 pub mod Places
 pub mod UnionWalks
 pub mod Levels
@@ -30,3 +30,6 @@ pub mod WeightOrder
 pub mod WeightSums
 pub mod Crossings
 pub mod OneToOne
+pub mod Rows
+pub mod Counting
+pub mod EachItem

@@ -1,11 +1,10 @@
 -- Members of rising lists, and of the sets made of others. Two rising lists with the same members are one list, and
 -- each operation has one law that says its members: so an equation of sets is proved member by member.
-use Rattle.std.proofs.Common.{Bool, List, [], ap, arith, cond, eqb, false, get_or, inl, inr, length, ltb, not, refl, subst, suc, sym, true, zero, ℕ, ◌&&◌, ◌++◌, ◌+◌, ◌<◌, ◌||◌, ◌∙◌, ◌∷◌, ◌≡◌, ◌≤◌}
-use Rattle.std.proofs.Math.Numerals.{add-one}
-use Rattle.std.proofs.lemmas.Bool.{and_right, both_ways, cases_eq, cases_lt, cases_order, eq-eqb, false≢true, le-ltb, lt-ltb, ne_eqb, or_from, or_right}
+use Rattle.std.proofs.Common.{Bool, List, [], ap, arith, cond, eqb, false, get_or, inl, inr, length, ltb, not, refl, subst, suc, sym, true, zero, ℕ, ◌&&◌, ◌++◌, ◌<◌, ◌||◌, ◌∙◌, ◌∷◌, ◌≡◌, ◌≤◌}
+use Rattle.std.proofs.lemmas.Bool.{and_right, both_ways, cases_eq, cases_lt, cases_order, eq-eqb, eqb-true, false≢true, le-ltb, lt-ltb, ne_eqb, or_from, or_right}
 use Rattle.std.specs.List.{filter}
-use Rattle.std.specs.List.Sorted.{IsStrictlyIncreasing}
 use Rattle.mat_sets.specs.Sets.{IsRising, RisesFrom, intersection, is_member, minus, rising_insert, union, with_one, without_one}
+use Rattle.mat_sets.proofs.Truths.{or_assoc, or_none, or_swap}
 
 -- ---- order
 
@@ -66,21 +65,6 @@ members_by_place P xs h x m = let w = place_of_member x xs m in subst P w.2 (h w
 pub is_member-append : (x : ℕ) (xs ys : List ℕ) → is_member x (xs ++ ys) ≡ (is_member x xs || is_member x ys)
 is_member-append x [] ys = refl
 is_member-append x (y ∷ xs) ys = rw (is_member-append x xs ys) (or_assoc (eqb x y) (is_member x xs) (is_member x ys))
-  where
-    or_assoc : (a b c : Bool) → (a || (b || c)) ≡ ((a || b) || c)
-    or_assoc true b c = refl
-    or_assoc false b c = refl
-
-pub IsRising-index : (xs : List ℕ) → IsRising xs → IsStrictlyIncreasing xs
-IsRising-index xs r k h = RisesFrom-index 0 xs k (k + 1) r.rises (omega arith) h
-
-rises_by_index : (lo : ℕ) (xs : List ℕ) → (0 < length xs → lo ≤ get_or xs 0 0)
-    → ((k : ℕ) → suc k < length xs → get_or xs k 0 < get_or xs (suc k) 0) → RisesFrom lo xs
-rises_by_index lo [] f h = tt
-rises_by_index lo (x ∷ t) f h = (f (omega arith), rises_by_index (suc x) t (λ l. h 0 (omega arith)) (λ k l. h (suc k) (omega arith)))
-
-pub IsRising-from_index : (xs : List ℕ) → IsStrictlyIncreasing xs → IsRising xs
-IsRising-from_index xs h = record { rises = rises_by_index 0 xs (λ l. omega arith) (λ k l. rw add-one at (h k (omega arith))) }
 
 -- ---- the same members, the same list
 
@@ -162,12 +146,6 @@ add_step k x y t u ih =
       | inr (inr more) ↦ rw (le-ltb x y (omega arith), ne_eqb x y (omega arith), ih) (or_swap (eqb k y) (eqb k x) (is_member k t))
     ]
   where
-    or_swap : (a b c : Bool) → (a || (b || c)) ≡ (b || (a || c))
-    or_swap true true c = refl
-    or_swap true false c = refl
-    or_swap false true c = refl
-    or_swap false false c = refl
-
     or_same : (k x y : ℕ) (c : Bool) → x ≡ y → (eqb k x || (eqb k y || c)) ≡ (eqb k y || c)
     or_same k x y c same = rw same (or_twice (eqb k y) c)
       where
@@ -211,10 +189,6 @@ pub is_member-union : (k : ℕ) (a b : List ℕ) → is_member k (union a b) ≡
 unfolding union
 is_member-union k [] b = refl
 is_member-union k (x ∷ t) b = rw (is_member-rising_insert k x (union t b), is_member-union k t b) (or_assoc (eqb k x) (is_member k t) (is_member k b))
-  where
-    or_assoc : (a b c : Bool) → (a || (b || c)) ≡ ((a || b) || c)
-    or_assoc true b c = refl
-    or_assoc false b c = refl
 
 pub ruleset set_members = (is_member-with_one, is_member-without_one, is_member-minus, is_member-intersection, is_member-union)
 
@@ -284,3 +258,8 @@ member_from_some (x ∷ xs) l = (x, is_member-head x xs)
 pub some_from_member : (x : ℕ) (xs : List ℕ) → is_member x xs ≡ true → 0 < length xs
 some_from_member x [] m = absurd (false≢true m)
 some_from_member x (y ∷ xs) m = omega arith
+
+-- ---- a single item
+
+pub only_member : (x y : ℕ) → is_member x (y ∷ []) ≡ true → x ≡ y
+only_member x y m = eqb-true x y (sym (or_none (eqb x y)) ∙ m)

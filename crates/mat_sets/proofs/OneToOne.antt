@@ -1,27 +1,13 @@
 -- How many items a set has, by a function on them: one to one into a set, or onto one.
-use Rattle.std.proofs.Common.{◌≡◌, ℕ, suc, ◌≤◌, Bool, true, false, eqb, ltb, cond, List, [], ◌∷◌, length, map, refl, sym, ap, ◌∙◌, arith}
+use Rattle.std.proofs.Common.{◌≡◌, ℕ, ◌≤◌, true, eqb, List, [], ◌∷◌, length, map, refl, sym, ap, ◌∙◌, arith}
 use Rattle.std.proofs.lemmas.Bool.{eqb-true, false≢true}
 use Rattle.std.proofs.lemmas.List.{length-map}
-use Rattle.mat_sets.specs.Sets.{is_member, IsRising, IsSubset, rising_insert, union}
+use Rattle.mat_sets.specs.Sets.{is_member, IsRising, IsSubset, union}
+use Rattle.mat_sets.proofs.DistinctLists.{length-items}
 use Rattle.mat_sets.proofs.Ground.{AreDistinct-rising, length-distinct_subset}
 use Rattle.mat_sets.proofs.MappedLists.{AreDistinct-map, is_member-map, mapped_member}
 use Rattle.mat_sets.proofs.Members.{IsRising-nil, IsRising-union, is_member-union}
 use Rattle.mat_sets.proofs.Subsets.{length-subset}
-
-length-rising_insert : (x : ℕ) (t : List ℕ) → length (rising_insert x t) ≤ suc (length t)
-length-rising_insert x [] = omega arith
-length-rising_insert x (y ∷ t) = let h = length-rising_insert x t in step (ltb x y) (eqb x y) (rising_insert x t) h
-  where
-    step : (a b : Bool) (u : List ℕ) → length u ≤ suc (length t)
-        → length (cond a (x ∷ y ∷ t) (y ∷ cond b t u)) ≤ suc (length (y ∷ t))
-    step true b u h = omega arith
-    step false true u h = omega arith
-    step false false u h = omega arith
-
-length-union_most : (xs : List ℕ) → length (union xs []) ≤ length xs
-unfolding union
-length-union_most [] = omega arith
-length-union_most (x ∷ xs) = omega (arith, length-rising_insert x (union xs []), length-union_most xs)
 
 -- a set each of whose members is the value of some item has at most as many members as there are items
 pub length-covered : (f : ℕ → ℕ) (X S : List ℕ) → IsRising S
@@ -33,7 +19,7 @@ length-covered f X S r covers =
           let w = covers v m in
           is_member-union v (map f X) [] ∙ grind (arith, ap (λ z. is_member z (map f X)) (sym w.2) ∙ is_member-map f X w.0 w.1);
     } in
-    omega (arith, length-subset S values r (IsRising-union (map f X) [] IsRising-nil) inside, length-union_most (map f X), length-map X f)
+    omega (arith, length-subset S values r (IsRising-union (map f X) [] IsRising-nil) inside, length-items (map f X), length-map X f)
 
 -- a set that a function maps one to one into another has at most as many members
 pub length-one_to_one : (f : ℕ → ℕ) (X S : List ℕ) → IsRising X → IsRising S

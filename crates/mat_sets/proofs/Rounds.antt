@@ -1,7 +1,7 @@
 -- The loops of a round of the search for a shortest walk: the arcs of one vertex, the vertices found last, and the trace back
 -- along the vertices before. Each loop keeps what the whole does, for the numbers or vertices that it has passed.
 use Rattle.std.proofs.Common.{Bool, List, [], ap, arith, cond, eqb, false, get_or, inl, inr, length, ltb, not, refl, set, subst, sym, take, true, ℕ, ◌&&◌, ◌++◌, ◌+◌, ◌<◌, ◌||◌, ◌∙◌, ◌∷◌, ◌≡◌, ◌≤◌, ◌⊎◌}
-use Rattle.std.proofs.lemmas.Bool.{and_parts, both_ways, cases_Bool, cases_eq, eq-eqb, eqb-true, ne_eqb, or_cases, or_left, or_right}
+use Rattle.std.proofs.lemmas.Bool.{and_right, and_parts, both_ways, cases_Bool, cases_eq, eq-eqb, eqb-true, ne_eqb, or_cases, or_left, or_right}
 use Rattle.std.proofs.lemmas.Bool.Decides.{nat_tests}
 use Rattle.std.proofs.lemmas.List.{get_or-set_other, get_or-set_same, length-set}
 use Rattle.mat_sets.specs.Rounds.{AreTaken, IsRound, is_next}
@@ -11,6 +11,7 @@ use Rattle.mat_sets.proofs.ListParts.{is_member-push}
 use Rattle.mat_sets.proofs.Members.{IsRising-with_one, is_member-with_one, is_member-without_one, same_members}
 use Rattle.mat_sets.proofs.Search.{IsSet-those_below, is_member-those_below}
 use Rattle.mat_sets.proofs.Steps.{is_member-take_more}
+use Rattle.mat_sets.proofs.Truths.{and_all, or_assoc, or_none}
 
 -- ---- the numbers below n that pass
 
@@ -29,19 +30,21 @@ those_below-put n test t = same_members _ _ (IsRising-with_one _ n (IsSet-those_
     at k (inl e) = here k n (test k) e (ap test e ∙ t)
     at k (inr d) = other k n (test k) d
 
+pub starts_skip : (v x : ℕ) (start : ℕ → Bool) → start v ≡ false → (ltb x v && start x) ≡ (ltb x (v + 1) && start x)
+starts_skip v x start s = elim (cases_eq x v) [
+  | inl q ↦ here x v (start x) (ap start q ∙ s)
+  | inr d ↦ other x v (start x) d
+]
+  where
+    here : (x v : ℕ) (b : Bool) → b ≡ false → (ltb x v && b) ≡ (ltb x (v + 1) && b)
+    here x v b s = grind (arith, nat_tests)
+
+    other : (x v : ℕ) (b : Bool) → (x ≡ v → ⊥) → (ltb x v && b) ≡ (ltb x (v + 1) && b)
+    other x v b d = grind (arith, nat_tests)
+
 pub those_below-skip : (n : ℕ) (test : ℕ → Bool) → test n ≡ false → those_below n test ≡ those_below (n + 1) test
 those_below-skip n test t = same_members _ _ (IsSet-those_below n test).rising (IsSet-those_below (n + 1) test).rising
-    (λ k. is_member-those_below k n test ∙ at k (cases_eq k n) ∙ sym (is_member-those_below k (n + 1) test))
-  where
-    other : (k n : ℕ) (b : Bool) → (k ≡ n → ⊥) → (ltb k n && b) ≡ (ltb k (n + 1) && b)
-    other k n b d = grind (arith, nat_tests)
-
-    here : (k n : ℕ) (b : Bool) → b ≡ false → (ltb k n && b) ≡ (ltb k (n + 1) && b)
-    here k n b e = grind (arith, nat_tests)
-
-    at : (k : ℕ) → ((k ≡ n) ⊎ (k ≡ n → ⊥)) → (ltb k n && test k) ≡ (ltb k (n + 1) && test k)
-    at k (inl e) = here k n (test k) (ap test e ∙ t)
-    at k (inr d) = other k n (test k) d
+    (λ k. is_member-those_below k n test ∙ starts_skip n k test t ∙ sym (is_member-those_below k (n + 1) test))
 
 -- ---- the arcs of one vertex
 
@@ -77,16 +80,16 @@ AreTaken-more test u from v unreached found before rest more after t f l =
     record {
       rest_is = λ x. elim (cases_eq x v) [
         | inl e ↦ subst (λ z. is_member z (without_one rest v) ≡ (is_member z unreached && not (ltb z (v + 1) && test z))) (sym e)
-            (is_member-without_one v v rest ∙ rw (eq-eqb v v refl) (and_not_true (is_member v rest)
+            (is_member-without_one v v rest ∙ rw (eq-eqb v v refl) (and_right (is_member v rest) false refl
             ∙ taken_rest (is_member v unreached) (test v) (is_member v rest) from v (t.rest_is v) f.reaches f.passes))
-        | inr d ↦ is_member-without_one x v rest ∙ rw (ne_eqb x v d) (and_true (is_member x rest)
+        | inr d ↦ is_member-without_one x v rest ∙ rw (ne_eqb x v d) (and_all (is_member x rest)
             ∙ sym (not_others_stay (is_member x unreached) (test x) (is_member x rest) x from v (t.rest_is x) f.reaches d (f.none_before x)))
       ];
       more_is = λ x. elim (cases_eq x v) [
         | inl e ↦ subst (λ z. is_member z (more ++ v ∷ []) ≡ (is_member z found || (is_member z unreached && (ltb z (v + 1) && test z)))) (sym e)
             (is_member-push v v more ∙ or_right (is_member v more) (eqb v v) (eq-eqb v v refl)
             ∙ taken_more (is_member v found) (is_member v unreached) (test v) (is_member v rest) from v (t.rest_is v) f.reaches f.passes)
-        | inr d ↦ is_member-push x v more ∙ rw (ne_eqb x v d) (or_false (is_member x more) ∙ t.more_is x
+        | inr d ↦ is_member-push x v more ∙ rw (ne_eqb x v d) (or_none (is_member x more) ∙ t.more_is x
             ∙ ap (λ b. is_member x found || b) (sym (same x d)))
       ];
       after_is = λ x. elim (cases_eq x v) [
@@ -97,32 +100,12 @@ AreTaken-more test u from v unreached found before rest more after t f l =
       ];
       long = length-set after v u ∙ t.long;
     }
-  where
-    and_true : (b : Bool) → (b && true) ≡ b
-    and_true true = refl
-    and_true false = refl
-
-    and_not_true : (b : Bool) → (b && not true) ≡ false
-    and_not_true true = refl
-    and_not_true false = refl
-
-    or_false : (b : Bool) → (b || false) ≡ b
-    or_false true = refl
-    or_false false = refl
 
 -- ---- the vertices found last
 
 is_next-append : (arc : ℕ → ℕ → Bool) (us : List ℕ) (u v : ℕ) → is_next arc (us ++ u ∷ []) v ≡ (is_next arc us v || arc u v)
-is_next-append arc [] u v = or_false (arc u v)
-  where
-    or_false : (b : Bool) → (b || false) ≡ b
-    or_false true = refl
-    or_false false = refl
+is_next-append arc [] u v = or_none (arc u v)
 is_next-append arc (w ∷ us) u v = ap (λ b. arc w v || b) (is_next-append arc us u v) ∙ or_assoc (arc w v) (is_next arc us v) (arc u v)
-  where
-    or_assoc : (a b c : Bool) → (a || (b || c)) ≡ ((a || b) || c)
-    or_assoc true b c = refl
-    or_assoc false b c = refl
 
 -- what is unreached then was unreached before
 pub AreTaken-rest : (test : ℕ → Bool) (u : ℕ) (unreached found before rest more after : List ℕ) (v : ℕ)
@@ -148,11 +131,7 @@ passed : (test : ℕ → Bool) (u : ℕ) (unreached found before rest more after
     → AreTaken test u unreached found before rest more after → (v : ℕ) → (is_member v unreached && test v) ≡ false
     → (get_or after v 0 ≡ get_or before v 0) × (is_member v more ≡ is_member v found)
 passed test u unreached found before rest more after t v e =
-    (t.after_is v ∙ ap (λ b. cond b u (get_or before v 0)) e, t.more_is v ∙ ap (λ b. is_member v found || b) e ∙ or_false (is_member v found))
-  where
-    or_false : (b : Bool) → (b || false) ≡ b
-    or_false true = refl
-    or_false false = refl
+    (t.after_is v ∙ ap (λ b. cond b u (get_or before v 0)) e, t.more_is v ∙ ap (λ b. is_member v found || b) e ∙ or_none (is_member v found))
 
 pub IsRound-more : (arc : ℕ → ℕ → Bool) (us : List ℕ) (u : ℕ) (unreached before rest found after less more later : List ℕ)
     → IsRound arc us unreached before rest found after → AreTaken (arc u) u rest found after less more later
@@ -232,15 +211,3 @@ starts_cut v x start m rest s e = is_member-without_one x v rest ∙ elim (cases
 
     other : (x v : ℕ) (r m b : Bool) → (x ≡ v → ⊥) → r ≡ (m && not (ltb x v && b)) → (r && not (eqb x v)) ≡ (m && not (ltb x (v + 1) && b))
     other x v r m b d e = grind (arith, nat_tests)
-
-pub starts_skip : (v x : ℕ) (start : ℕ → Bool) → start v ≡ false → (ltb x v && start x) ≡ (ltb x (v + 1) && start x)
-starts_skip v x start s = elim (cases_eq x v) [
-  | inl q ↦ here x v (start x) (ap start q ∙ s)
-  | inr d ↦ other x v (start x) d
-]
-  where
-    here : (x v : ℕ) (b : Bool) → b ≡ false → (ltb x v && b) ≡ (ltb x (v + 1) && b)
-    here x v b s = grind (arith, nat_tests)
-
-    other : (x v : ℕ) (b : Bool) → (x ≡ v → ⊥) → (ltb x v && b) ≡ (ltb x (v + 1) && b)
-    other x v b d = grind (arith, nat_tests)

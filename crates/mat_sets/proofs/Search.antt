@@ -1,13 +1,13 @@
 -- Tests that look through finitely many numbers, lists or subsets: where the test holds there is one that passes, and
 -- where it fails none does. The set of the numbers below n that pass.
-use Rattle.std.proofs.Common.{Bool, List, [], ap, arith, eqb, false, inl, inr, length, ltb, refl, subst, suc, sym, true, zero, ℕ, ◌&&◌, ◌<◌, ◌∙◌, ◌∷◌, ◌≡◌, ◌≤◌}
-use Rattle.std.proofs.lemmas.Bool.{and_from, and_parts, and_right, both_ways, cases_eq, false_from_ne_true, false≢true, lt-ltb, ltb-true, ne_eqb, or_cases, or_left, or_right}
+use Rattle.std.proofs.Common.{Bool, List, None, Option, Some, [], ap, arith, eqb, false, inl, inr, length, ltb, refl, subst, suc, sym, true, zero, ℕ, ◌&&◌, ◌+◌, ◌||◌, ◌<◌, ◌∙◌, ◌∷◌, ◌≡◌, ◌≤◌}
+use Rattle.std.proofs.lemmas.Bool.{and_from, and_parts, and_right, both_ways, cases_eq, cases_lt, false_from_ne_true, false≢true, le-ltb, lt-ltb, ltb-true, ne_eqb, or_cases, or_left, or_right}
 use Rattle.std.proofs.lemmas.Bool.Decides.{nat_tests}
-use Rattle.mat_sets.specs.Search.{some_below, some_list, some_subset, those_below}
+use Rattle.mat_sets.specs.Search.{IsNextFrom, some_below, some_list, some_subset, those_below}
 use Rattle.mat_sets.specs.Sets.{AllBelow, IsRising, IsSet, IsSubset, RisesFrom, all_below, is_member, with_one}
 use Rattle.mat_sets.proofs.Cardinalities.{length-with_one}
 use Rattle.mat_sets.proofs.Ground.{IsRising-all_below, IsSet-from, IsSubset-all_below, is_member-all_below, length-all_below}
-use Rattle.mat_sets.proofs.Members.{IsRising-with_one, RisesFrom-filter, RisesFrom-weaken, is_member-filter, is_member-head, member_from}
+use Rattle.mat_sets.proofs.Members.{IsRising-with_one, RisesFrom-filter, RisesFrom-weaken, is_member-filter, is_member-head, member_from, same_members}
 use Rattle.mat_sets.proofs.Subsets.{IsSubset-refl, length-subset, with_one-IsSubset}
 
 -- ---- numbers
@@ -27,6 +27,29 @@ some_below_from (suc n) x test l h = elim (cases_eq x n)
 pub some_below_none : (n x : ℕ) (test : ℕ → Bool) → some_below n test ≡ false → x < n → test x ≡ false
 some_below_none n x test h l = false_from_ne_true (test x) (λ p. both_ways _ h (some_below_from n x test l p))
 
+-- a search that has found none yet
+pub some_below-zero : (test : ℕ → Bool) → some_below 0 test ≡ false
+unfolding some_below
+some_below-zero test = refl
+
+one_more : (n : ℕ) (test : ℕ → Bool) → test n ≡ false → some_below n test ≡ false → some_below (suc n) test ≡ false
+unfolding some_below
+one_more n test h none = ap (λ b. b || some_below n test) h ∙ none
+
+pub some_below-next : (n : ℕ) (test : ℕ → Bool) → test n ≡ false → some_below n test ≡ false → some_below (n + 1) test ≡ false
+some_below-next n test h none =
+    let next : suc n ≡ n + 1 = omega arith in
+    subst (λ m. some_below m test ≡ false) next (one_more n test h none)
+
+-- a test that answers the same
+pub IsNextFrom-same : (f g : ℕ → Bool) (from : ℕ) (found : Option ℕ) → ((x : ℕ) → f x ≡ g x) → IsNextFrom f from found → IsNextFrom g from found
+IsNextFrom-same f g from None same h = λ x l. sym (same x) ∙ h x l
+IsNextFrom-same f g from (Some y) same h = record {
+  reaches = h.reaches;
+  passes = sym (same y) ∙ h.passes;
+  none_before = λ x l m. sym (same x) ∙ h.none_before x l m;
+}
+
 -- ---- lists
 
 pub some_list_gives : (k n : ℕ) (test : List ℕ → Bool) → some_list k n test ≡ true
@@ -43,10 +66,6 @@ pub some_list_from : (n : ℕ) (xs : List ℕ) (test : List ℕ → Bool) → Al
 unfolding some_list
 some_list_from n [] test b h = h
 some_list_from n (x ∷ xs) test b h = some_below_from n x (λ y. some_list (length xs) n (λ ys. test (y ∷ ys))) b.0 (some_list_from n xs (λ ys. test (x ∷ ys)) b.1 h)
-
-pub some_list_none : (n : ℕ) (xs : List ℕ) (test : List ℕ → Bool) → some_list (length xs) n test ≡ false
-    → AllBelow n xs → test xs ≡ false
-some_list_none n xs test h b = false_from_ne_true (test xs) (λ p. both_ways _ h (some_list_from n xs test b p))
 
 -- ---- subsets
 
@@ -115,6 +134,14 @@ IsSet-those_below n test = IsSet-from n _ (record { rises = RisesFrom-filter tes
     and_left : (a b : Bool) → (a && b) ≡ true → a ≡ true
     and_left true b h = refl
     and_left false b h = h
+
+-- tests that agree below n pick the same numbers
+pub those_below-same : (n : ℕ) (f g : ℕ → Bool) → ((x : ℕ) → x < n → f x ≡ g x) → those_below n f ≡ those_below n g
+those_below-same n f g h = same_members _ _ (IsSet-those_below n f).rising (IsSet-those_below n g).rising
+    (λ x. is_member-those_below x n f ∙ elim (cases_lt x n) [
+      | inl l ↦ ap (λ b. ltb x n && b) (h x l)
+      | inr o ↦ rw (le-ltb x n o)
+    ] ∙ sym (is_member-those_below x n g))
 
 -- what holds of fewer numbers has a smaller set
 pub length-those_below : (n : ℕ) (few many : ℕ → Bool) → ((x : ℕ) → x < n → few x ≡ true → many x ≡ true)

@@ -1,8 +1,8 @@
--- The test of a set holds exactly of the sets.
-use Rattle.std.proofs.Common.{◌≡◌, ℕ, ◌<◌, suc, true, ◌&&◌, leb, ltb, List, [], ◌∷◌, refl}
-use Rattle.std.proofs.lemmas.Bool.{and_parts, and_from, leb-true, ltb-true, le-leb, lt-ltb}
-use Rattle.mat_sets.specs.Sets.{RisesFrom, IsRising, AllBelow, IsSet, with_one}
-use Rattle.mat_sets.specs.SetTests.{rises_within, is_set}
+-- The test of a set holds exactly of the sets, and the test of different items exactly of lists without repetition.
+use Rattle.std.proofs.Common.{◌≡◌, ℕ, ◌<◌, suc, true, not, ◌&&◌, leb, ltb, List, [], ◌∷◌, refl}
+use Rattle.std.proofs.lemmas.Bool.{and_parts, not-true, and_from, leb-true, ltb-true, le-leb, lt-ltb}
+use Rattle.mat_sets.specs.Sets.{is_member, RisesFrom, IsRising, AllBelow, AreDistinct, IsSet, with_one}
+use Rattle.mat_sets.specs.SetTests.{are_distinct, rises_within, is_set}
 use Rattle.mat_sets.proofs.Ground.{IsSet-with_one}
 
 rises_from_test : (lo n : ℕ) (xs : List ℕ) → rises_within lo n xs ≡ true → RisesFrom lo xs
@@ -40,3 +40,13 @@ is_set-true n xs rising below = test_from-IsSet n xs (record { rising = rising; 
 -- one more element makes a set on n elements
 pub is_set-with_one : (n : ℕ) (X : List ℕ) (x : ℕ) → IsSet n X → x < n → is_set n (with_one X x) ≡ true
 is_set-with_one n X x set small = test_from-IsSet n _ (IsSet-with_one n X x set small)
+
+pub are_distinct-gives : (xs : List ℕ) → are_distinct xs ≡ true → AreDistinct xs
+are_distinct-gives [] h = tt
+are_distinct-gives (x ∷ xs) h =
+    let a = and_parts (not (is_member x xs)) (are_distinct xs) h in
+    (not-true (is_member x xs) a.0, are_distinct-gives xs a.1)
+
+pub are_distinct-from : (xs : List ℕ) → AreDistinct xs → are_distinct xs ≡ true
+are_distinct-from [] d = refl
+are_distinct-from (x ∷ xs) d = rw d.0 (are_distinct-from xs d.1)

@@ -10,6 +10,7 @@ use Rattle.mat_sets.specs.Sets.{AllBelow, AreDistinct, IsRising, IsSubset, Rises
 use Rattle.mat_sets.proofs.Members.{IsRising-nil, IsRising-union, IsRising-with_one, RisesFrom-at, intersection-none, is_member-get_or, minus-none, same_members, set_members, is_member-union}
 use Rattle.mat_sets.proofs.Families.{IsRising-family_union}
 use Rattle.mat_sets.proofs.Sums.{AllBelow-at}
+use Rattle.mat_sets.proofs.Truths.{or_assoc, or_none, or_swap}
 
 -- ---- the members before a place
 
@@ -17,19 +18,11 @@ pub is_member-take_more : (xs : List ℕ) (i k : ℕ) → i < length xs
     → is_member k (take (i + 1) xs) ≡ (is_member k (take i xs) || eqb k (get_or xs i 0))
 is_member-take_more [] i k h = absurd (omega arith)
 is_member-take_more (x ∷ t) zero k h = or_none (eqb k x)
-  where
-    or_none : (a : Bool) → (a || false) ≡ a
-    or_none true = refl
-    or_none false = refl
 is_member-take_more (x ∷ t) (suc i) k h = rw (add-one (suc i)) (rest (rw (add-one i) at (is_member-take_more t i k (omega arith))))
   where
     rest : is_member k (take (suc i) t) ≡ (is_member k (take i t) || eqb k (get_or t i 0))
         → (eqb k x || is_member k (take (suc i) t)) ≡ ((eqb k x || is_member k (take i t)) || eqb k (get_or t i 0))
     rest e = rw e (or_assoc (eqb k x) (is_member k (take i t)) (eqb k (get_or t i 0)))
-      where
-        or_assoc : (a b c : Bool) → (a || (b || c)) ≡ ((a || b) || c)
-        or_assoc true b c = refl
-        or_assoc false b c = refl
 
 RisesFrom-take : (lo : ℕ) (xs : List ℕ) (i : ℕ) → RisesFrom lo xs → RisesFrom lo (take i xs)
 RisesFrom-take lo [] zero r = tt
@@ -165,12 +158,6 @@ family_union-more sets i h = same_members _ _ (IsRising-family_union (take (i + 
     one_more x (a ∷ sets) (suc i) h = rw (add-one (suc i)) (
         is_member-union x a (family_union (take (suc i) sets)) ∙ rw (rw (add-one i) at (one_more x sets i (omega arith))) (
         or_swap (is_member x a) (is_member x (get_or sets i [])) (is_member x (family_union (take i sets))) ∙ ap (λ b. is_member x (get_or sets i []) || b) (sym (is_member-union x a (family_union (take i sets))))))
-      where
-        or_swap : (a b c : Bool) → (a || (b || c)) ≡ (b || (a || c))
-        or_swap true true c = refl
-        or_swap true false c = refl
-        or_swap false true c = refl
-        or_swap false false c = refl
 
 pub ruleset set_steps = (intersection-none, minus-none, union-none, union-more, intersection-more, IsSubset-none, IsSubset-more, not-IsSubset, AllBelow-none, AllBelow-more, AreDistinct-more, AllBelow-at, multiplicity-none, multiplicity-more, family_union-none, family_union-less, family_union-nil, family_union-more)
 

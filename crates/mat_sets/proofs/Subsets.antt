@@ -1,10 +1,8 @@
 -- Subsets, and how their sizes compare.
-use Rattle.std.proofs.Common.{Bool, List, [], ap, arith, false, inl, inr, length, not, pos, refl, true, ℕ, ℤ, ◌<◌, ◌∷◌, ◌≡◌, ◌≤ℤ◌, ◌≤◌, ◌⊎◌}
+use Rattle.std.proofs.Common.{Bool, List, [], ap, arith, false, inl, inr, length, not, refl, true, ℕ, ◌<◌, ◌∷◌, ◌≡◌, ◌≤◌, ◌⊎◌}
 use Rattle.std.proofs.lemmas.Bool.{both_ways, cases_Bool}
-use Rattle.std.proofs.lemmas.Int.{ints}
 use Rattle.mat_sets.specs.Sets.{IsRising, IsSubset, intersection, is_member, minus, union, with_one, without_one}
-use Rattle.mat_sets.specs.Sums.{sum_of}
-use Rattle.mat_sets.proofs.Cardinalities.{length-minus-intersection, length-with_one, sum_of-minus_subset}
+use Rattle.mat_sets.proofs.Cardinalities.{length-minus-intersection, length-with_one}
 use Rattle.mat_sets.proofs.Members.{IsRising-intersection, IsRising-union, IsRising-with_one, is_member-head, same_members, set_members}
 
 pub IsSubset-refl : (a : List ℕ) → IsSubset a a
@@ -98,17 +96,3 @@ same_size_subset a b r s h l =
 
 pub subsets_equal : (a b : List ℕ) → IsRising a → IsRising b → IsSubset a b → IsSubset b a → a ≡ b
 subsets_equal a b r s h g = same_members a b r s (λ k. grind (arith, h.inside k, g.inside k))
-
--- ---- sums
-
--- where no number counts negative, more members give more
-pub sum_of-subset : (f : ℕ → ℤ) (a b : List ℕ) → IsRising a → IsRising b → IsSubset a b
-    → ((k : ℕ) → is_member k b ≡ true → pos 0 ≤ℤ f k) → sum_of f a ≤ℤ sum_of f b
-sum_of-subset f a b r s h p = omega (arith, ints, sum_of-minus_subset f b a s r h, not_negative f (minus b a) (λ k m. p k (inside_left b a k m)))
-  where
-    inside_left : (b a : List ℕ) (k : ℕ) → is_member k (minus b a) ≡ true → is_member k b ≡ true
-    inside_left b a k m = grind (arith, set_members)
-
-    not_negative : (f : ℕ → ℤ) (a : List ℕ) → ((k : ℕ) → is_member k a ≡ true → pos 0 ≤ℤ f k) → pos 0 ≤ℤ sum_of f a
-    not_negative f [] p = omega (arith, ints)
-    not_negative f (x ∷ xs) p = omega (arith, ints, p x (is_member-head x xs), not_negative f xs (λ k m. p k (grind arith)))

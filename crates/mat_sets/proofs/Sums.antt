@@ -87,10 +87,6 @@ pub above_all : List ℕ → ℕ
 above_all [] = 0
 above_all (x ∷ t) = max (suc x) (above_all t)
 
-pub AllBelow-weaken : (m n : ℕ) (a : List ℕ) → m ≤ n → AllBelow m a → AllBelow n a
-AllBelow-weaken m n [] h b = tt
-AllBelow-weaken m n (x ∷ t) h b = (omega arith, AllBelow-weaken m n t h b.1)
-
 pub AllBelow-above_all : (a : List ℕ) (n : ℕ) → above_all a ≤ n → AllBelow n a
 unfolding above_all
 AllBelow-above_all [] n h = tt

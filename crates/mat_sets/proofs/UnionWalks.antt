@@ -42,17 +42,18 @@ union-both x a b r s = ap (rising_insert x) (union-second x a b r s) ∙ inserte
 
 -- ---- what is to come of a rising list
 
-from_place : (lo : ℕ) (xs : List ℕ) (i : ℕ) → RisesFrom lo xs → i < length xs → RisesFrom (get_or xs i 0) (drop i xs)
-from_place lo [] i r l = absurd (omega arith)
-from_place lo (x ∷ xs) zero r l = (omega arith, r.1)
-from_place lo (x ∷ xs) (suc i) r l = from_place (suc x) xs i r.1 (omega arith)
+pub RisesFrom-drop : (lo : ℕ) (xs : List ℕ) (i : ℕ) → RisesFrom lo xs → i < length xs → RisesFrom (get_or xs i 0) (drop i xs)
+RisesFrom-drop lo [] i r l = absurd (omega arith)
+RisesFrom-drop lo (x ∷ xs) zero r l = (omega arith, r.1)
+RisesFrom-drop lo (x ∷ xs) (suc i) r l = RisesFrom-drop (suc x) xs i r.1 (omega arith)
 
-after_place : (xs : List ℕ) (i : ℕ) → IsRising xs → i < length xs → RisesFrom (suc (get_or xs i 0)) (drop (i + 1) xs)
-after_place xs i r l = (subst (RisesFrom (get_or xs i 0)) (drop_more xs i 0 l) (from_place 0 xs i r.rises l)).1
+-- and of what stands after a place
+pub RisesFrom-drop_more : (xs : List ℕ) (i : ℕ) → IsRising xs → i < length xs → RisesFrom (suc (get_or xs i 0)) (drop (i + 1) xs)
+RisesFrom-drop_more xs i r l = (subst (RisesFrom (get_or xs i 0)) (drop_more xs i 0 l) (RisesFrom-drop 0 xs i r.rises l)).1
 
 -- where the next item is above x, so are all to come
 all_above : (x : ℕ) (xs : List ℕ) (i : ℕ) → IsRising xs → i < length xs → x < get_or xs i 0 → RisesFrom (suc x) (drop i xs)
-all_above x xs i r l above = RisesFrom-weaken (suc x) (get_or xs i 0) (drop i xs) above (from_place 0 xs i r.rises l)
+all_above x xs i r l above = RisesFrom-weaken (suc x) (get_or xs i 0) (drop i xs) above (RisesFrom-drop 0 xs i r.rises l)
 
 -- ---- the walk
 
@@ -77,14 +78,14 @@ module _ (a b : List ℕ) (rises : IsRising a) (others_rise : IsRising b) (i j :
   pub IsMerging-first : x < y → IsMerging a b (i + 1) j (all ++ x ∷ [])
   IsMerging-first low = record {
     rest = next x (drop (i + 1) a) (drop j b) (ap (λ s. union s (drop j b)) (drop_more a i 0 more)
-        ∙ union-first x (drop (i + 1) a) (drop j b) (after_place a i rises more) (all_above x b j others_rise others low));
+        ∙ union-first x (drop (i + 1) a) (drop j b) (RisesFrom-drop_more a i rises more) (all_above x b j others_rise others low));
   }
 
   -- that of b is the lower one
   pub IsMerging-second : y < x → IsMerging a b i (j + 1) (all ++ y ∷ [])
   IsMerging-second low = record {
     rest = next y (drop i a) (drop (j + 1) b) (ap (union (drop i a)) (drop_more b j 0 others)
-        ∙ union-second y (drop i a) (drop (j + 1) b) (all_above y a i rises more low) (after_place b j others_rise others));
+        ∙ union-second y (drop i a) (drop (j + 1) b) (all_above y a i rises more low) (RisesFrom-drop_more b j others_rise others));
   }
 
   -- they are equal
@@ -92,8 +93,8 @@ module _ (a b : List ℕ) (rises : IsRising a) (others_rise : IsRising b) (i j :
   IsMerging-both same = record {
     rest = next x (drop (i + 1) a) (drop (j + 1) b) (ap (λ s. union s (drop j b)) (drop_more a i 0 more)
         ∙ ap (union (x ∷ drop (i + 1) a)) (drop_more b j 0 others ∙ ap (λ z. z ∷ drop (j + 1) b) (sym same))
-        ∙ union-both x (drop (i + 1) a) (drop (j + 1) b) (after_place a i rises more)
-        (subst (λ z. RisesFrom (suc z) (drop (j + 1) b)) (sym same) (after_place b j others_rise others)));
+        ∙ union-both x (drop (i + 1) a) (drop (j + 1) b) (RisesFrom-drop_more a i rises more)
+        (subst (λ z. RisesFrom (suc z) (drop (j + 1) b)) (sym same) (RisesFrom-drop_more b j others_rise others)));
   }
 
 -- where one list has ended, the rest of the other comes as it is
@@ -109,7 +110,7 @@ pub IsMerging-end_second : (a b : List ℕ) (i j : ℕ) (all : List ℕ) → IsR
     → (all ++ drop i a) ++ drop j b ≡ union a b
 IsMerging-end_second a b i j all rises more ended m =
     let none = drop_all j b ended in
-    let rest = rising (get_or a i 0) (drop i a) (from_place 0 a i rises.rises more) in
+    let rest = rising (get_or a i 0) (drop i a) (RisesFrom-drop 0 a i rises.rises more) in
     ap (λ s. (all ++ drop i a) ++ s) none ∙ append-nil (all ++ drop i a)
     ∙ ap (λ s. all ++ s) (sym (union-none (drop i a) rest)) ∙ ap (λ s. all ++ union (drop i a) s) (sym none) ∙ m.rest
 

@@ -1,32 +1,10 @@
--- Walks along edges and arcs: joined end to end, turned round, and within a set of arcs (Schrijver, chapter 3).
-use Rattle.std.proofs.Common.{List, [], inl, inr, refl, reverse, subst, sym, true, ℕ, ◌++◌, ◌∷◌, ◌≡◌, ◌∙◌, eqb}
-use Rattle.std.proofs.lemmas.List.{reverse-append}
+-- Walks along arcs: joined end to end, and within a set of arcs (Schrijver, chapter 3).
+use Rattle.std.proofs.Common.{List, [], inl, inr, refl, subst, sym, true, ℕ, ◌++◌, ◌∷◌, ◌≡◌, ◌∙◌, eqb}
 use Rattle.std.proofs.lemmas.Bool.{or_cases, false≢true, eqb-true}
-use Rattle.mat_sets.specs.Graphs.{DirectedWalk, Joins, Reaches, Walk}
+use Rattle.mat_sets.specs.Graphs.{DirectedWalk, Reaches}
 use Rattle.mat_sets.specs.Sets.{IsSubset, is_member}
 use Rattle.mat_sets.proofs.Members.{is_member-append}
 use Rattle.mat_sets.proofs.Subsets.{IsSubset-trans}
-
--- ---- walks along edges
-
-pub Joins-turn : (ends : ℕ → ℕ × ℕ) (e v u : ℕ) → Joins ends e v u → Joins ends e u v
-Joins-turn ends e v u j = elim j [ inl a ↦ inr a | inr b ↦ inl b ]
-
-pub Walk-append : (ends : ℕ → ℕ × ℕ) (edges others : List ℕ) (v u w : ℕ) → Walk ends edges v u → Walk ends others u w
-    → Walk ends (edges ++ others) v w
-Walk-append ends [] others v u w a b = subst (λ z. Walk ends others z w) (sym a) b
-Walk-append ends (e ∷ edges) others v u w a b = (a.0, a.1, Walk-append ends edges others a.0 u w a.2 b)
-
-pub Walk-one : (ends : ℕ → ℕ × ℕ) (e v u : ℕ) → Joins ends e v u → Walk ends (e ∷ []) v u
-Walk-one ends e v u j = (u, j, refl)
-
-pub Walk-reverse : (ends : ℕ → ℕ × ℕ) (edges : List ℕ) (v w : ℕ) → Walk ends edges v w → Walk ends (reverse edges) w v
-Walk-reverse ends [] v w a = sym a
-Walk-reverse ends (e ∷ edges) v w a =
-    subst (λ z. Walk ends z w v) (sym (reverse-append (e ∷ []) edges))
-    (Walk-append ends (reverse edges) (e ∷ []) w a.0 v (Walk-reverse ends edges a.0 w a.2) (Walk-one ends e a.0 v (Joins-turn ends e v a.0 a.1)))
-
--- ---- walks along arcs
 
 pub DirectedWalk-append : (ends : ℕ → ℕ × ℕ) (arcs others : List ℕ) (v u w : ℕ) → DirectedWalk ends arcs v u
     → DirectedWalk ends others u w → DirectedWalk ends (arcs ++ others) v w

@@ -10,3 +10,5 @@ pub mod Rounds
 pub mod WalkSearches
 pub mod Graphs
 pub mod SetTests
+pub mod Rows
+pub mod Limits

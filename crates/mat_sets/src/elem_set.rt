@@ -1,5 +1,5 @@
 //! A set of numbers, seen as a strictly rising list.
-ghost use Rattle.std.specs.Prelude.{◌≡◌, ◌==◌, ◌↔◌, ◌<◌, List, [], length, slice_index, not, IfOk, IsTrue, OnErr, MatchResult};
+ghost use Rattle.std.specs.Prelude.{◌≡◌, ◌==◌, ◌↔◌, ◌<◌, [], length, slice_index, not, IfOk, IsTrue, OnErr, MatchResult};
 ghost use Rattle.std.proofs.Common.{rules};
 ghost use Rattle.std.specs.Cmp.Lexicographic.{pointwise};
 ghost use Rattle.std.specs.Cmp.Rules.{comparing};

@@ -1,5 +1,5 @@
 //! The search for a shortest walk, round by round.
-ghost use Rattle.std.specs.Prelude.{◌≡◌, ◌<◌, ◌≤◌, ◌&&◌, ◌||◌, ◌^◌, ℕ, true, false, not, length, slice_index, IfOk, OnOk, MatchOption, nat_lt};
+ghost use Rattle.std.specs.Prelude.{◌≡◌, ◌<◌, ◌&&◌, ◌^◌, ℕ, true, false, not, length, slice_index, IfOk, OnOk, MatchOption, nat_lt};
 ghost use Rattle.mat_sets.specs.Rounds.{AreTaken, IsRound, IsTrace};
 ghost use Rattle.mat_sets.specs.Search.{those_below};
 ghost use Rattle.mat_sets.specs.Sets.{is_member};

@@ -1,9 +1,10 @@
 //! Weights of elements with ties, and the weight of a set.
-ghost use Rattle.std.specs.Prelude.{◌≡◌, ◌<◌, ◌≤◌, ◌^◌, length, slice_index_or};
+ghost use Rattle.std.specs.Prelude.{◌≡◌, ◌<◌, ◌≤◌, length, slice_index_or};
 ghost use Rattle.std.proofs.Common.{rules};
 ghost use Rattle.std.specs.Cmp.Lexicographic.{pointwise};
 ghost use Rattle.std.specs.Cmp.Rules.{comparing};
 ghost use Rattle.std.specs.Ordering.{eq_of_both, int_eq, on};
+ghost use Rattle.mat_sets.specs.Limits.{largest_number, most_elements};
 ghost use Rattle.mat_sets.specs.Sets.{AllBelow, IsRising};
 ghost use Rattle.mat_sets.specs.Weights.{zero_weight, weight, AreWeightsWithin};
 
@@ -76,8 +77,8 @@ impl PairWeights {
 #[tactic(auto, using(crate::proofs::Sums::summing))]
 pub fn weigh(set: &ElemSet, weights: &[Weight]) -> Weight
     requires inside { AllBelow (length weights.now) set.now }
-    requires few { length set.now ≤ 500 }
-    requires small { AreWeightsWithin (10 ^ 30) weights.now }
+    requires few { length set.now ≤ most_elements }
+    requires small { AreWeightsWithin largest_number weights.now }
     ensures sum { result ≡ weight weights.now set.now }
     ensures rises { IsRising set.now }
 {

@@ -156,6 +156,3 @@ fault_of_other files read other name place same found at =
 -- one file, or two files of different names, for callers that make a shelf
 pub HaveDifferentNames-one : (files : List FileState) (f : FileState) → files ≡ f ∷ [] → HaveDifferentNames files
 HaveDifferentNames-one files f e = rw e (refl, tt)
-
-pub HaveDifferentNames-two : (files : List FileState) (f g : FileState) → files ≡ f ∷ g ∷ [] → has_name f.name g ≡ false → HaveDifferentNames files
-HaveDifferentNames-two files f g e different = rw (e, different) (refl, (refl, tt))

@@ -1,16 +1,11 @@
 -- Pieces that are appended one after the other, for callers that put a text piece by piece.
-use Rattle.std.proofs.Common.{◌≡◌, ℕ, ◌+◌, List, [], ◌++◌, take, drop, Option, Some, None, refl, sym, ap, subst, ◌∙◌, append_assoc}
-use Rattle.std.proofs.lemmas.List.{take-append-drop, append-nil}
+use Rattle.std.proofs.Common.{◌≡◌, ℕ, ◌+◌, List, ◌++◌, take, drop, Option, Some, None, sym, ap, subst, ◌∙◌, append_assoc}
+use Rattle.std.proofs.lemmas.List.{take-append-drop}
 use Rattle.std.proofs.Math.Seq.{take-add}
 use Rattle.mat_shelf.specs.Writing.{Appended, AppendedPrefix}
 
 some_same : (x y : List ℕ) → Some x ≡ Some y → x ≡ y
 some_same x y e = cc
-
--- appending nothing leaves what is told
-pub Appended-nil : (a : Option (List ℕ)) → Appended a [] a
-Appended-nil None = tt
-Appended-nil (Some v) = (v, refl, sym (append-nil v))
 
 -- two pieces after one another are one piece
 pub Appended-then : (a : Option (List ℕ)) (x : List ℕ) (b : Option (List ℕ)) (y : List ℕ) (c : Option (List ℕ)) → Appended a x b → Appended b y c → Appended a (x ++ y) c
@@ -28,10 +23,6 @@ Appended-take a b c text i k p q =
 -- the first i bytes are a front of the text
 pub AppendedPrefix-take : (a b : Option (List ℕ)) (text : List ℕ) (i : ℕ) → Appended a (take i text) b → AppendedPrefix a text b
 AppendedPrefix-take a b text i p = (take i text, drop i text, sym (take-append-drop i text), p)
-
--- the whole text is a front of itself
-pub AppendedPrefix-whole : (a b : Option (List ℕ)) (text : List ℕ) → Appended a text b → AppendedPrefix a text b
-AppendedPrefix-whole a b text p = (text, [], sym (append-nil text), p)
 
 -- a piece, and then a front of what follows it
 pub AppendedPrefix-then : (a b c : Option (List ℕ)) (x y : List ℕ) → Appended a x b → AppendedPrefix b y c → AppendedPrefix a (x ++ y) c

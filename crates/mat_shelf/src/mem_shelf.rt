@@ -1,6 +1,6 @@
 //! A shelf in memory whose calls fail by their numbers.
 
-ghost use Rattle.std.specs.Prelude.{◌≡◌, ◌≤◌, ◌<◌, ◌↔◌, ◌⊎◌, ℕ, List, None, [], length, min, Contains, take};
+ghost use Rattle.std.specs.Prelude.{◌≡◌, ◌≤◌, ◌<◌, ◌↔◌, ℕ, List, None, length, take};
 ghost use Rattle.std.specs.Prelude.{IsErr, IsSome, OnOk, OnErr, IfOk, IfSome};
 ghost use Rattle.mat_shelf.specs.Faults.{Rose, last_count};
 ghost use Rattle.mat_shelf.specs.Reading.{Gave};

@@ -1,9 +1,9 @@
 //! Files of the objects in memory.
 
 ghost use Rattle.std.specs.Prelude.{◌≡◌, ◌+◌, ◌^◌, ◌<◌, ◌≤◌, position, min, length, take, drop};
-ghost use Rattle.std.specs.Prelude.{string_bytes, bytes_eq, IfOk};
+ghost use Rattle.std.specs.Prelude.{string_bytes};
 ghost use Rattle.mat_shelf.specs.Faults.{last_count};
-ghost use Rattle.mat_shelf.specs.Files.{HaveDifferentNames, has_name, with_fault, files_with_fault, other_with_fault, count_in};
+ghost use Rattle.mat_shelf.specs.Files.{has_name, with_fault, files_with_fault, other_with_fault, count_in};
 
 use std::marker::Model;
 

@@ -1,7 +1,6 @@
 //! A shelf in memory that never fails.
 
-ghost use Rattle.std.specs.Prelude.{◌≡◌, ◌≤◌, ℕ, List, Some, [], length, take, IfOk, IfSome, OnErr};
-ghost use Rattle.mat_shelf.specs.Faults.{Rose};
+ghost use Rattle.std.specs.Prelude.{◌≡◌, ℕ, List, Some, [], length};
 ghost use Rattle.mat_shelf.specs.Reading.{Gave};
 ghost use Rattle.mat_shelf.specs.Files.{HaveDifferentNames, bytes_at, held_or, sure_read_count, after_sure_open, after_sure_read};
 

@@ -1,7 +1,6 @@
 //! A sink in memory that never fails.
 
-ghost use Rattle.std.specs.Prelude.{◌≡◌, ◌≤◌, ◌<◌, [], Some, length, take, IsOk, OnErr, IfOk, IfSome};
-ghost use Rattle.mat_shelf.specs.Faults.{Rose};
+ghost use Rattle.std.specs.Prelude.{◌≡◌, ◌≤◌, ◌<◌, [], Some, length, take, IfOk, IfSome};
 ghost use Rattle.mat_shelf.specs.Writing.{Appended};
 ghost use Rattle.mat_shelf.specs.Sinks.{after_sure_put};
 

@@ -2,16 +2,13 @@
 use Rattle.std.proofs.Common.{◌≡◌, ℕ, ◌+◌, ◌<◌, Bool, true, false, ◌||◌, ◌&&◌, not, eqb, List, [], length, get_or, take, refl, sym, subst, arith}
 use Rattle.std.proofs.lemmas.Bool.{eqb-true, both_ways}
 use Rattle.mat_sets.specs.Sets.{is_member, minus, with_one, without_one, IsRising}
-use Rattle.mat_sets.proofs.Members.{same_members, is_member-with_one, is_member-without_one, set_members, IsRising-with_one, IsRising-without_one, IsRising-union, IsRising-minus}
+use Rattle.mat_sets.proofs.Members.{same_members, is_member-with_one, is_member-without_one, IsRising-with_one, IsRising-without_one, IsRising-union, IsRising-minus}
 use Rattle.mat_sets.proofs.Steps.{is_member-take_more}
 use Rattle.mat_laws.specs.TightPaths.{exchanged_along}
+use Rattle.mat_exchange.proofs.TightPathSteps.{is_member-exchanged_along}
 
 pub IsRising-exchanged_along : (I path : List ℕ) → IsRising I → IsRising (exchanged_along I path)
 IsRising-exchanged_along I path r = IsRising-union (minus path I) (minus I path) (IsRising-minus I path r)
-
-is_member-exchanged_along : (z : ℕ) (I path : List ℕ)
-    → is_member z (exchanged_along I path) ≡ ((is_member z path && not (is_member z I)) || (is_member z I && not (is_member z path)))
-is_member-exchanged_along z I path = grind (arith, set_members)
 
 -- whether an element is in the set, by whether it stood on the path so far, is a member, and is the next vertex
 taken : (so_far member here : Bool) → (here ≡ true → member ≡ true)

@@ -6,6 +6,7 @@ use Rattle.std.proofs.lemmas.Int.{ints}
 use Rattle.std.proofs.lemmas.Option.{same_Some, none-some}
 use Rattle.std.proofs.lemmas.List.Elements.{All-get_or, All-from_get_or}
 use Rattle.std.specs.Prelude.{slice_get, Some}
+use Rattle.mat_sets.specs.Limits.{largest_weight}
 use Rattle.mat_sets.specs.Sets.{counted_from}
 use Rattle.mat_sets.proofs.WeightSums.{weight_sum-same}
 use Rattle.mat_sets.proofs.Ground.{below_member, IsSet-length}
@@ -74,7 +75,7 @@ parts_within n w w1 w2 m h b x l small s fits =
     omega (arith, ints, pairs)
 
 module _ {n : ℕ} {p q : List ℕ → Bool} (lp : IsMatroid n p) (lq : IsMatroid n q) (w : List Weight)
-    (small : (x : ℕ) → x < n → IsWeightWithin (10 ^ 12) (weight_at w x)) where
+    (small : (x : ℕ) → x < n → IsWeightWithin largest_weight (weight_at w x)) where
   IsRung-rung_of : (k h : ℕ) (I : List ℕ) (w1 w2 : ℕ → Weight) → IsSplitAt n p q (weight_at w) k h I w1 w2
       → IsRung n p q w k I (weights_below n w1) (weights_below n w2)
   IsRung-rung_of k h I w1 w2 at =
@@ -95,7 +96,7 @@ module _ {n : ℕ} {p q : List ℕ → Bool} (lp : IsMatroid n p) (lq : IsMatroi
       let few : k ≤ n = omega (arith, at.size, IsSet-length n I (lp.sets I at.first.passes)) in
       let most = mul-le-mul_left (2 * 10 ^ 12 * (n + 1) * (n + 1)) few in
       let within : (x : ℕ) → x < n → IsWeightWithin (split_bound n) (w1 x) × IsWeightWithin (split_bound n) (w2 x) = λ x l.
-      parts_within n (weight_at w) w1 w2 (10 ^ 12) (2 * 10 ^ 12 * (n + 1) * (n + 1) * k) (split_bound n) x l (small x l) at.split (omega arith) in
+      parts_within n (weight_at w) w1 w2 largest_weight (2 * 10 ^ 12 * (n + 1) * (n + 1) * k) (split_bound n) x l (small x l) at.split (omega arith) in
       record {
         right = IsRung-rung_of k (2 * 10 ^ 12 * (n + 1) * (n + 1) * k) I w1 w2 at;
         first_bounded = AreWeightsWithin-weights_below (split_bound n) n w1 (λ x l. (within x l).0);
@@ -135,7 +136,7 @@ abbrev SomeLadder : ℕ → (List ℕ → Bool) → (List ℕ → Bool) → List
 SomeLadder n p q w k = (rungs : List Rung) × (cut : List ℕ) × IsLadderFrom n p q w k rungs cut
 
 module _ {n : ℕ} {p q : List ℕ → Bool} (lp : IsMatroid n p) (lq : IsMatroid n q) (w : List Weight)
-    (small : (x : ℕ) → x < n → IsWeightWithin (10 ^ 12) (weight_at w x)) where
+    (small : (x : ℕ) → x < n → IsWeightWithin largest_weight (weight_at w x)) where
   ladder_from : (d k : ℕ) (I : List ℕ) (w1 w2 : ℕ → Weight) → d + k ≡ suc n
       → IsSplitAt n p q (weight_at w) k (2 * 10 ^ 12 * (n + 1) * (n + 1) * k) I w1 w2 → SomeLadder n p q w k
   ladder_from zero k I w1 w2 e at = absurd (omega (arith, at.size, IsSet-length n I (lp.sets I at.first.passes)))
@@ -184,6 +185,6 @@ module _ {n : ℕ} {p q : List ℕ → Bool} (lp : IsMatroid n p) (lq : IsMatroi
       )
 
 -- every pair of matroids has a ladder
-pub ladder_exists : {n : ℕ} {p q : List ℕ → Bool} → IsMatroid n p → IsMatroid n q → (w : List Weight) → length w ≡ n → AreWeightsWithin (10 ^ 12) w
+pub ladder_exists : {n : ℕ} {p q : List ℕ → Bool} → IsMatroid n p → IsMatroid n q → (w : List Weight) → length w ≡ n → AreWeightsWithin largest_weight w
     → (rungs : List Rung) × (cut : List ℕ) × IsLadder n p q w rungs cut
-ladder_exists lp lq w long small = ladder_exists_within lp lq w (λ x l. All-get_or (IsWeightWithin (10 ^ 12)) w x zero_weight (omega arith) small)
+ladder_exists lp lq w long small = ladder_exists_within lp lq w (λ x l. All-get_or (IsWeightWithin largest_weight) w x zero_weight (omega arith) small)

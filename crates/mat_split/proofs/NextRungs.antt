@@ -2,6 +2,7 @@
 -- set is exchanged along it, and otherwise the reached set is the cut.
 use Rattle.std.proofs.Common.{◌≡◌, ℕ, suc, ◌+◌, ◌*◌, ◌^◌, ◌<◌, ◌≤◌, Bool, true, List, length, ◌⊎◌, inl, inr, sym, ◌∙◌, subst, arith}
 use Rattle.std.proofs.lemmas.Nat.{mul-le}
+use Rattle.mat_sets.specs.Limits.{largest_weight}
 use Rattle.mat_sets.proofs.Reach.{finite_reach}
 use Rattle.mat_sets.specs.Weights.{IsWeightWithin}
 use Rattle.mat_sets.specs.declared.weight.Weight.{Weight}
@@ -36,7 +37,7 @@ exchanges_at_on {n} {p} laws I ok =
     subst (AreExchangesOn n I) (rows_tell_exchanges laws I) (exchanges_on n I (rows_of n p I) (IsTableAt-rows_of laws I ok))
 
 module _ {n : ℕ} {p q : List ℕ → Bool} (lp : IsMatroid n p) (lq : IsMatroid n q) (w : ℕ → Weight) (base : ℕ)
-    (small : (x : ℕ) → x < n → IsWeightWithin (10 ^ 12) (w x)) (I : List ℕ) where
+    (small : (x : ℕ) → x < n → IsWeightWithin largest_weight (w x)) (I : List ℕ) where
   -- the next set, or the cut
   pub next_or_cut : (w1 w2 : ℕ → Weight) → IsSplitAt n p q w (length I) base I w1 w2
       → NextOrCut n p q w (length I) (base + 2 * 10 ^ 12 * (n + 1) * (n + 1))
@@ -44,7 +45,7 @@ module _ {n : ℕ} {p q : List ℕ → Bool} (lp : IsMatroid n p) (lq : IsMatroi
       let a = exchanges_at p I in
       let b = exchanges_at q I in
       let grown = grown_split_exists (exchanges_at_on lp I at.first.passes) (exchanges_at_on lq I at.second.passes) w1 w2
-      (λ x l. subst (IsWeightWithin (10 ^ 12)) (sym (at.split.adds x l)) (small x l)) (gains_at_heaviest lp w1 I at.first) (gains_at_heaviest lq w2 I at.second) in
+      (λ x l. subst (IsWeightWithin largest_weight) (sym (at.split.adds x l)) (small x l)) (gains_at_heaviest lp w1 I at.first) (gains_at_heaviest lq w2 I at.second) in
       let v1 = grown.0 in
       let v2 = grown.1 in
       let now = grown.2 in

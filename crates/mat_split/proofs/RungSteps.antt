@@ -6,6 +6,7 @@ use Rattle.std.proofs.lemmas.Option.{same_Some, none-some}
 use Rattle.std.proofs.lemmas.List.{length-replicate}
 use Rattle.std.proofs.lemmas.List.Elements.{All-get_or}
 use Rattle.std.specs.Prelude.{slice_get}
+use Rattle.mat_sets.specs.Limits.{largest_weight}
 use Rattle.mat_sets.proofs.Ground.{IsSet-length}
 use Rattle.mat_sets.specs.Weights.{zero_weight, weight_at, IsWeightWithin, AreWeightsWithin}
 use Rattle.mat_sets.specs.declared.weight.Weight.{Weight}
@@ -23,7 +24,7 @@ use mathlib.Core.Path.{fun_ext}
 pub record AreRungs (n : ℕ) (p q : List ℕ → Bool) (w : List Weight) (rungs : List Rung) (next : Rung) : Type 0 where
   pub first_laws : IsMatroid n p
   pub second_laws : IsMatroid n q
-  pub small : (x : ℕ) → x < n → IsWeightWithin (10 ^ 12) (weight_at w x)
+  pub small : (x : ℕ) → x < n → IsWeightWithin largest_weight (weight_at w x)
   pub each : (k : ℕ) (rung : Rung) → slice_get rungs k ≡ Some rung → IsBoundedRung n p q w k rung
   pub next_rung : IsSplitRung n p q (weight_at w) (length rungs) next
 
@@ -64,7 +65,7 @@ weight_at-zeros (suc n) (suc x) = weight_at-zeros n x
 
 -- before the first set
 pub AreRungs-start : {n m : ℕ} {p q : List ℕ → Bool} {w : List Weight} {none : List Rung} {rung : Rung} → IsMatroid n p → IsMatroid m q
-    → m ≡ n → length w ≡ n → AreWeightsWithin (10 ^ 12) w → none ≡ [] → rung.set ≡ []
+    → m ≡ n → length w ≡ n → AreWeightsWithin largest_weight w → none ≡ [] → rung.set ≡ []
     → rung.first ≡ w → rung.second ≡ replicate (length w) zero_weight → AreRungs n p q w none rung
 AreRungs-start {n} {m} {p} {q} {w} {none} {rung} lp lq ground_size long within none_is set_is first_is second_is = rw none_is (record {
   first_laws = lp;
@@ -81,8 +82,8 @@ AreRungs-start {n} {m} {p} {q} {w} {none} {rung} lp lq ground_size long within n
     second_laws : IsMatroid n q
     second_laws = rw ground_size at lq
 
-    small : (x : ℕ) → x < n → IsWeightWithin (10 ^ 12) (weight_at w x)
-    small x l = All-get_or (IsWeightWithin (10 ^ 12)) w x zero_weight (rw long l) within
+    small : (x : ℕ) → x < n → IsWeightWithin largest_weight (weight_at w x)
+    small x l = All-get_or (IsWeightWithin largest_weight) w x zero_weight (rw long l) within
 
     zeros : weight_at (replicate (length w) zero_weight) ≡ (λ x. zero_weight)
     zeros = fun_ext (λ x. weight_at-zeros (length w) x)
@@ -99,8 +100,8 @@ module _ {n : ℕ} {p q : List ℕ → Bool} {w : List Weight} {rungs : List Run
   same_weights = now.next_rung.at.split.adds
 
   -- what the step to the next size takes
-  pub weights_within : (x : ℕ) → x < n → IsWeightWithin (10 ^ 12) (weights_of rung x)
-  weights_within x l = subst (IsWeightWithin (10 ^ 12)) (sym (same_weights x l)) (now.small x l)
+  pub weights_within : (x : ℕ) → x < n → IsWeightWithin largest_weight (weights_of rung x)
+  weights_within x l = subst (IsWeightWithin largest_weight) (sym (same_weights x l)) (now.small x l)
 
   pub own_rung : IsSplitRung n p q (weights_of rung) (length rung.set) rung
   own_rung =
@@ -113,7 +114,7 @@ module _ {n : ℕ} {p q : List ℕ → Bool} {w : List Weight} {rungs : List Run
       let s = now.next_rung in
       let most = mul-le-mul_left (2 * 10 ^ 12 * (n + 1) * (n + 1)) few_rungs in
       let within : (x : ℕ) → x < n → IsWeightWithin (split_bound n) (weight_at rung.first x) × IsWeightWithin (split_bound n) (weight_at rung.second x) =
-      λ x l. parts_within n (weight_at w) (weight_at rung.first) (weight_at rung.second) (10 ^ 12) (size_bound n (length rungs)) (split_bound n) x l
+      λ x l. parts_within n (weight_at w) (weight_at rung.first) (weight_at rung.second) largest_weight (size_bound n (length rungs)) (split_bound n) x l
       (now.small x l) s.at.split (omega arith) in
       record {
         right = record {

@@ -3,6 +3,7 @@
 use Rattle.std.proofs.Common.{Vec, Global, ◌≡◌, ℕ, suc, ◌+◌, ◌*◌, ◌^◌, ◌≤◌, Bool, List, length, Option, None, ap, ◌∙◌, subst, arith}
 use Rattle.std.proofs.Math.Nat.{mul-le-mul_left}
 use Rattle.std.proofs.lemmas.Nat.{mul-le}
+use Rattle.mat_sets.specs.Limits.{most_elements}
 use Rattle.mat_sets.proofs.Ground.{IsSet-length}
 use Rattle.mat_sets.specs.Weights.{weight_at, AreWeightsWithin}
 use Rattle.mat_sets.specs.declared.weight.Weight.{Weight}
@@ -27,7 +28,7 @@ use Rattle.mat_exchange.proofs.WeightBounds.{IsWeightWithin-weaken, AreWeightsWi
 use Rattle.mat_split.specs.Augmenting.{IsSplitRung, size_bound, weights_of}
 use Rattle.mat_split.specs.declared.ladder.Rung.{Rung}
 
-bound_fits : (n k : ℕ) → n ≤ 500 → k ≤ n → size_bound n k ≤ 10 ^ 25
+bound_fits : (n k : ℕ) → n ≤ most_elements → k ≤ n → size_bound n k ≤ 10 ^ 25
 bound_fits n k hn hk =
     let a = mul-le (n + 1) (n + 1) 501 501 (omega arith) (omega arith) in
     let b = mul-le ((n + 1) * (n + 1)) k (501 * 501) 500 a (omega arith) in
@@ -37,7 +38,7 @@ bound_fits n k hn hk =
 next_bound : (n k : ℕ) → size_bound n k + 2 * 10 ^ 12 * (n + 1) * n ≤ size_bound n (suc k)
 next_bound n k = let le : n ≤ n + 1 = omega arith in let a = mul-le-mul_left (2 * 10 ^ 12 * (n + 1)) le in omega arith
 
-module _ {n : ℕ} {p q : List ℕ → Bool} {rung : Rung} (first_laws : IsMatroid n p) (second_laws : IsMatroid n q) (few : n ≤ 500)
+module _ {n : ℕ} {p q : List ℕ → Bool} {rung : Rung} (first_laws : IsMatroid n p) (second_laws : IsMatroid n q) (few : n ≤ most_elements)
     (s : IsSplitRung n p q (weights_of rung) (length rung.set) rung) where
   -- what the search takes
   pub first_table : {t : List Exchange} {d : List Weight} → t ≡ rows_of n p rung.set → d ≡ rung.first → IsTableAt (length d) rung.set t

@@ -1,6 +1,7 @@
 -- One step of weight splitting: from a set that is heaviest in both matroids to one of one more element, or to the cut (Frank 1981;
 -- Schrijver, chapter 41).
-use Rattle.std.specs.Prelude.{◌≡◌, ℕ, suc, ◌+◌, ◌*◌, ◌^◌, Bool, List, length}
+use Rattle.std.specs.Prelude.{◌≡◌, ℕ, suc, ◌+◌, ◌*◌, Bool, List, length}
+use Rattle.mat_sets.specs.Limits.{largest_weight}
 use Rattle.mat_sets.specs.Weights.{◌⊕◌, weight_at}
 use Rattle.mat_sets.specs.declared.weight.Weight.{Weight}
 use Rattle.mat_laws.specs.Heaviest.{IsHeaviest}
@@ -21,7 +22,7 @@ pub record IsSplitAt (n : ℕ) (p q : List ℕ → Bool) (w : ℕ → Weight) (k
 -- the bound on the second weights of the set of k elements, which leaves 2 * 10^12 * (n + 1) * (n + 1) to each size; a search adds at
 -- most 2 * 10^12 * (n + 1) * n
 abbrev pub size_bound : ℕ → ℕ → ℕ
-size_bound n k = 2 * 10 ^ 12 * (n + 1) * (n + 1) * k
+size_bound n k = 2 * largest_weight * (n + 1) * (n + 1) * k
 
 -- the weights that the two weights of a rung add up to
 abbrev pub weights_of : Rung → ℕ → Weight

@@ -1,6 +1,7 @@
 //! The step of weight splitting from one size to the next.
 
-ghost use Rattle.std.specs.Prelude.{◌≡◌, ◌<◌, ◌≤◌, ◌^◌, ℕ, length, IfOk};
+ghost use Rattle.std.specs.Prelude.{◌≡◌, ◌<◌, ◌≤◌, ℕ, length, IfOk};
+ghost use Rattle.mat_sets.specs.Limits.{most_elements, largest_weight};
 ghost use Rattle.mat_sets.specs.Weights.{IsWeightWithin};
 ghost use Rattle.mat_split.specs.Augmenting.{weights_of, IsSplitRung, IsAugmented};
 
@@ -27,9 +28,9 @@ pub fn augment<R: Threads + Sync, A: Matroid, B: Matroid>(
     requires first_sound { A.sound a.now }
     requires second_sound { B.sound b.now }
     requires ground { B.ground_size b.now ≡ A.ground_size a.now }
-    requires few { A.ground_size a.now ≤ 500 }
+    requires few { A.ground_size a.now ≤ most_elements }
     requires workers { (1 ≤ workers) × (workers ≤ 16) }
-    requires small { (e : ℕ) → e < A.ground_size a.now → IsWeightWithin (10 ^ 12) (weights_of rung.now e) }
+    requires small { (e : ℕ) → e < A.ground_size a.now → IsWeightWithin largest_weight (weights_of rung.now e) }
     requires rung { IsSplitRung (A.ground_size a.now) (A.indep a.now) (B.indep b.now) (weights_of rung.now) (length rung.now.set) rung.now }
     ensures { IfOk result (IsAugmented (A.ground_size a.now) (A.indep a.now) (B.indep b.now) (weights_of rung.now) (length rung.now.set)) }
 {

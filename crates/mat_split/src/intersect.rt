@@ -1,6 +1,7 @@
 //! Weighted matroid intersection.
 
-ghost use Rattle.std.specs.Prelude.{◌≡◌, ◌≤◌, ◌^◌, [], length, replicate, IfOk};
+ghost use Rattle.std.specs.Prelude.{◌≡◌, ◌≤◌, [], length, replicate, IfOk};
+ghost use Rattle.mat_sets.specs.Limits.{most_elements, largest_weight};
 ghost use Rattle.mat_sets.specs.Weights.{zero_weight, AreWeightsWithin};
 ghost use Rattle.mat_split.specs.Ladders.{IsLadder};
 
@@ -43,10 +44,10 @@ pub fn intersect_all<R: Threads + Sync, A: Matroid, B: Matroid>(
     requires first_sound { A.sound a.now }
     requires second_sound { B.sound b.now }
     requires ground { B.ground_size b.now ≡ A.ground_size a.now }
-    requires few { A.ground_size a.now ≤ 500 }
+    requires few { A.ground_size a.now ≤ most_elements }
     requires workers { (1 ≤ workers) × (workers ≤ 16) }
     requires lengths { length weights.now ≡ A.ground_size a.now }
-    requires small { AreWeightsWithin (10 ^ 12) weights.now }
+    requires small { AreWeightsWithin largest_weight weights.now }
     ensures { IfOk result (λ l. IsLadder (A.ground_size a.now) (A.indep a.now) (B.indep b.now) weights.now l.rungs.items l.cut) }
 {
     a.lawful();

@@ -1,6 +1,7 @@
 //! What a ladder proves of two matroids. Each law is the contract of a function that does nothing.
 
-ghost use Rattle.std.specs.Prelude.{◌≡◌, ◌<◌, ◌^◌, ℕ, List, Bool, true, length, Some, slice_get};
+ghost use Rattle.std.specs.Prelude.{◌≡◌, ◌<◌, ℕ, List, Bool, true, length, Some, slice_get};
+ghost use Rattle.mat_sets.specs.Limits.{largest_weight};
 ghost use Rattle.mat_sets.specs.Sets.{IsSet};
 ghost use Rattle.mat_sets.specs.Weights.{◌⊕◌, weight, AreWeightsWithin};
 ghost use Rattle.mat_sets.specs.declared.weight.Weight.{Weight};
@@ -27,6 +28,6 @@ pub fn ladder_is_best()
 /// Every pair of matroids on n elements has a ladder, for all weights whose numbers are at least -10^12 and at most 10^12 (Frank 1981).
 pub fn ladder_exists()
     ensures { (n : ℕ) (p q : List ℕ → Bool) → IsMatroid n p → IsMatroid n q
-        → (w : List Weight) → length w ≡ n → AreWeightsWithin (10 ^ 12) w
+        → (w : List Weight) → length w ≡ n → AreWeightsWithin largest_weight w
         → (rungs : List Rung) × (cut : List ℕ) × IsLadder n p q w rungs cut }
 {}

@@ -10,7 +10,7 @@ use Rattle.mat_sets.specs.Sets.{is_member}
 use Rattle.mat_sets.proofs.Families.{multiplicity-append}
 use Rattle.mat_sets.proofs.Steps.{multiplicity-none}
 use Rattle.mat_ticket.specs.declared.output.Output.{Output}
-use Rattle.mat_ticket.specs.Placing.{IsFilled, IsRowIn, ArePlaced, FitsRoom, tickets_of}
+use Rattle.mat_ticket.specs.Placing.{HasItem, IsRowIn, ArePlaced, FitsRoom, tickets_of}
 use Rattle.mat_ticket.proofs.Drawing.{slice_get-push}
 use Rattle.mat_ticket.proofs.Slots.{slice_get-set_else}
 
@@ -46,7 +46,7 @@ pub record IsArranging {X : Type 0} (room : ℕ) (whole outputs : List (Output X
   pub parts : map tickets_of whole ≡ lists ++ map tickets_of outputs
   pub origin : (i : ℕ) (row : X) → slice_get slots i ≡ Some (Some row) → IsRowIn whole i row
   pub inside : (i : ℕ) (row : X) → IsRowIn outputs i row → IsRowIn whole i row
-  pub filled : (x : ℕ) → 0 < multiplicity x lists → IsFilled slots x
+  pub filled : (x : ℕ) → 0 < multiplicity x lists → HasItem slots x
 
 module _ {X : Type 0} (room : ℕ) where
   pub arranging-start : (whole : List (Output X)) (slots : List (Option X)) (lists : List (List ℕ)) → length slots ≡ room

@@ -6,7 +6,7 @@ use Rattle.std.proofs.lemmas.List.{append_assoc, length-append, length-set}
 use Rattle.std.proofs.lemmas.Option.{same_Some, slice_get_within, slice_get-get_or}
 use Rattle.mat_sets.specs.Sets.{AllBelow}
 use Rattle.mat_sets.proofs.Sums.{AllBelow-at}
-use Rattle.mat_ticket.specs.Placing.{IsFilled, ArePlaced}
+use Rattle.mat_ticket.specs.Placing.{HasItem, ArePlaced}
 
 slice_get-set : {X : Type 0} (xs : List X) (i j : ℕ) (y z : X) → slice_get (set xs i y) j ≡ Some z
     → ((j ≡ i) × (y ≡ z)) ⊎ (slice_get xs j ≡ Some z)
@@ -42,7 +42,7 @@ same_or_not i j = elim (cases_lt i j) [
 ]
 
 module _ {X : Type 0} where
-  filled-set : (slots : List (Option X)) (t : ℕ) (y : X) (i : ℕ) → t < length slots → IsFilled slots i → IsFilled (set slots t (Some y)) i
+  filled-set : (slots : List (Option X)) (t : ℕ) (y : X) (i : ℕ) → t < length slots → HasItem slots i → HasItem (set slots t (Some y)) i
   filled-set slots t y i l f = elim (same_or_not i t) [
     | inl e ↦ record {
       row = y;
@@ -84,7 +84,7 @@ module _ {X : Type 0} where
             (slice_get-set slots t i (Some y) (Some row) h);
         filled = λ j u l h. elim (same_or_not j k) [
           | inl s ↦ (let same : t ≡ u = same_Some _ _ (sym here ∙ ap (slice_get tickets) (sym s) ∙ h) in
-              subst (IsFilled (set slots t (Some y))) same (record { row = y; here = slice_get-set_here slots t (Some y) room }))
+              subst (HasItem (set slots t (Some y))) same (record { row = y; here = slice_get-set_here slots t (Some y) room }))
           | inr n ↦ filled-set slots t y u room (p.filled j u (let more : k < j = grind (arith) in omega (arith, length-append init (y ∷ []))) h)
         ];
         kept = λ i f. filled-set slots t y i room (p.kept i f);

@@ -1,16 +1,13 @@
 -- The shares of a team of workers: with one worker more, and after the work.
 use Rattle.std.proofs.Common.{◌≡◌, ℕ, suc, ◌+◌, ◌<◌, List, [], ◌∷◌, ◌++◌, length, get_or, refl, arith}
-use Rattle.std.specs.List.{AllByRecursion, sum_by}
+use Rattle.std.specs.List.{sum_by}
 use Rattle.std.proofs.lemmas.List.Sums.{sum_by-cons, sum_by_push}
+use Rattle.mat_sets.proofs.EachItem.{AllByRecursion-push}
 use Rattle.mat_ticket.specs.declared.worker.Worker.{Worker}
 use Rattle.mat_ticket.specs.Workers.{share_of}
 
 pub share_of-push : {X : Type 0} (ws : List (Worker X)) (w : Worker X) → sum_by share_of (ws ++ w ∷ []) ≡ sum_by share_of ws + share_of w
 share_of-push ws w = sum_by_push share_of ws w
-
-pub AllByRecursion-push : {X : Type 0} (P : X → Type 0) (xs : List X) (x : X) → AllByRecursion P xs → P x → AllByRecursion P (xs ++ x ∷ [])
-AllByRecursion-push P [] x h p = (p, tt)
-AllByRecursion-push P (y ∷ xs) x h p = (h.0, AllByRecursion-push P xs x h.1 p)
 
 -- one worker more
 pub ruleset more_workers = (share_of-push, AllByRecursion-push)

@@ -4,7 +4,7 @@ use Rattle.mat_sets.specs.Sets.{AllBelow}
 use Rattle.mat_ticket.specs.declared.output.Output.{Output}
 
 -- the place i is filled
-pub record IsFilled {X : Type 0} (slots : List (Option X)) (i : ℕ) : Type 0 where
+pub record HasItem {X : Type 0} (slots : List (Option X)) (i : ℕ) : Type 0 where
   pub row : X
   pub here : slice_get slots i ≡ Some (Some row)
 
@@ -18,8 +18,8 @@ pub record IsRowOf {X : Type 0} (tickets : List ℕ) (rows : List X) (ticket : �
 pub record ArePlaced {X : Type 0} (from : ℕ) (tickets : List ℕ) (rows : List X) (before after : List (Option X)) : Type 0 where
   pub count : length after ≡ length before
   pub origin : (i : ℕ) (row : X) → slice_get after i ≡ Some (Some row) → (slice_get before i ≡ Some (Some row)) ⊎ IsRowOf tickets rows i row
-  pub filled : (k t : ℕ) → from ≤ k → slice_get tickets k ≡ Some t → IsFilled after t
-  pub kept : (i : ℕ) → IsFilled before i → IsFilled after i
+  pub filled : (k t : ℕ) → from ≤ k → slice_get tickets k ≡ Some t → HasItem after t
+  pub kept : (i : ℕ) → HasItem before i → HasItem after i
 
 -- a row for each ticket, and the tickets are below the count
 pub record FitsRoom {X : Type 0} (count : ℕ) (a : Output X) : Type 0 where

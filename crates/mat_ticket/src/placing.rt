@@ -3,7 +3,7 @@ ghost use Rattle.std.specs.Prelude.{◌≡◌, ℕ, ◌<◌, IfOk, length, map, 
 ghost use Rattle.std.specs.List.{AllByRecursion};
 ghost use Rattle.mat_sets.specs.Families.{multiplicity};
 ghost use Rattle.mat_sets.specs.Sets.{AllBelow};
-ghost use Rattle.mat_ticket.specs.Placing.{tickets_of, ArePlaced, FitsRoom, IsFilled, IsRowIn};
+ghost use Rattle.mat_ticket.specs.Placing.{tickets_of, ArePlaced, FitsRoom, HasItem, IsRowIn};
 
 use crate::drawn::Drawn;
 use crate::output::Output;
@@ -43,7 +43,7 @@ fn empty_slots<X: Drop>(alloc: Global, count: u32) -> Result<Vec<Option<X>>, All
 
 /// The rows of places that are all filled.
 fn rows_of_slots<X: Drop>(alloc: Global, slots: &mut [Option<X>]) -> Result<Vec<X>, AllocError>
-    requires { (i : ℕ) → i < length slots.old → IsFilled slots.old i }
+    requires { (i : ℕ) → i < length slots.old → HasItem slots.old i }
     ensures count { IfOk result (λ rows. length rows.items ≡ length slots.old) }
     ensures rows { IfOk result (λ rows. (i : ℕ) (row : _) → slice_get rows.items i ≡ Some row
         → slice_get slots.old i ≡ Some (Some row)) }

@@ -1,5 +1,5 @@
 //! Two threads that meet, and the rows and tickets of small jobs.
-ghost use Rattle.std.specs.Prelude.{◌≡◌, ◌*◌, ◌<◌, ◌^◌, ℕ};
+ghost use Rattle.std.specs.Prelude.{◌≡◌, ◌*◌, ◌<◌, ◌^◌};
 
 use crate::{TicketList, ticket_rows};
 use mat_work::RowJob;

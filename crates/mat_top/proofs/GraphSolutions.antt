@@ -9,15 +9,15 @@ use Rattle.mat_sets.specs.Graphs.{ends_of}
 use Rattle.mat_sets.specs.Sets.{all_below, is_member, IsSet}
 use Rattle.mat_sets.proofs.Ground.{IsRising-all_below, IsSet-from, is_member-all_below, length-all_below}
 use Rattle.mat_sets.proofs.Steps.{AllRising-at}
+use Rattle.mat_sets.proofs.Families.{length-meeting, multiplicity-nowhere}
+use Rattle.mat_sets.proofs.Members.{member_from_some}
 use Rattle.mat_graphic.specs.ForestLaws.{graphic_laws}
 use Rattle.mat_union.specs.Unions.{part_at}
 use Rattle.mat_packing.specs.Trees.{AreTrees, IsRightPartition}
-use Rattle.mat_packing.proofs.Partitions.{length-meeting, some_member_of}
 use Rattle.mat_desc.specs.Grammar.{IsValid}
 use Rattle.mat_desc.specs.Instances.{graph}
 use Rattle.mat_cert.specs.Certificates.{trees, trees_none}
 use Rattle.mat_top.specs.Answers.{IsSolution}
-use Rattle.mat_top.proofs.FamilySets.{nowhere}
 
 -- there are classes where edges between them are needed
 some_class : (k classes crossing : ℕ) → crossing < k * (classes - 1) → 1 ≤ classes
@@ -46,14 +46,14 @@ module _ (vertices : ℕ) (edges : List (ℕ × ℕ)) (valid : IsValid (graph ve
     at_most_once : (x : ℕ) → multiplicity x classes ≤ 1
     at_most_once x = elim (cases_lt x vertices) [
       | inl lt ↦ (let once = found.once x lt in omega arith)
-      | inr ge ↦ (let none = nowhere x classes (λ q small m. let below = found.below q x small m in omega arith) in omega arith)
+      | inr ge ↦ (let none = multiplicity-nowhere x classes (λ q small m. let below = found.below q x small m in omega arith) in omega arith)
     ]
 
     -- a vertex of each class
     own_vertex : (q : ℕ) → q < length classes
         → (x : ℕ) × (is_member x (all_below vertices) ≡ true) × (is_member x (part_at classes q) ≡ true)
     own_vertex q lt =
-        let some = some_member_of (part_at classes q) (found.filled q lt) in
+        let some = member_from_some (part_at classes q) (found.filled q lt) in
         (some.0, is_member-all_below some.0 vertices ∙ lt-ltb some.0 vertices (found.below q some.0 lt some.1), some.1)
 
     few_classes : length classes ≤ vertices

@@ -1,6 +1,5 @@
 pub mod ReadingLemmas
 pub mod SetWeights
-pub mod FamilySets
 pub mod PricedLadder
 pub mod PlainLadder
 pub mod FrontSolutions

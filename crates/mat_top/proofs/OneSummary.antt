@@ -1,5 +1,6 @@
 -- One sample has one summary: two right answers to a problem are both best, and what a summary says of an answer is what is best.
 use Rattle.std.proofs.Common.{◌≡◌, ℕ, ◌≤◌, List, [], ◌∷◌, ◌++◌, length, map, codes, pos, refl, sym, ap, subst, ◌∙◌, arith}
+use Rattle.mat_sets.specs.Limits.{most_elements}
 use Rattle.mat_sets.specs.Weights.{weight}
 use Rattle.mat_sets.specs.declared.weight.Weight.{Weight}
 use Rattle.mat_sets.proofs.WeightOrder.{at_most_both}
@@ -179,7 +180,7 @@ abbrev sample_line : SampleKind → ℕ → ℕ → Line → List ℕ
 sample_line kind size seed words =
     text_of ((codes "sample" ∷ kind_word kind ∷ numeral (pos size) ∷ numeral (pos seed) ∷ words ++ codes "accepted" ∷ []) ∷ [])
 
-pub one_summary : (kind : SampleKind) (size seed : ℕ) (text other : List ℕ) → size ≤ 500 → IsSummary kind size seed text
+pub one_summary : (kind : SampleKind) (size seed : ℕ) (text other : List ℕ) → size ≤ most_elements → IsSummary kind size seed text
     → IsSummary kind size seed other → text ≡ other
 one_summary kind size seed text other few one two =
     let valid = sample_valid kind size seed few in

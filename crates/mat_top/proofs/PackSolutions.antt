@@ -2,7 +2,7 @@
 -- more sets cover the elements than there are, since each element alone is independent.
 use Rattle.std.proofs.Common.{◌≡◌, ℕ, ◌-◌, ◌<◌, ◌≤◌, true, List, [], ◌∷◌, length, Option, Some, None, refl, sym, subst, arith}
 use Rattle.std.specs.Prelude.{All, MatchOption, nat_lt}
-use Rattle.std.proofs.lemmas.Bool.{eqb-true, le-ltb, lt-ltb}
+use Rattle.std.proofs.lemmas.Bool.{le-ltb, lt-ltb}
 use Rattle.std.proofs.lemmas.List.{get_or_default}
 use Rattle.std.proofs.lemmas.Nat.{mul-le}
 use Rattle.mat_sets.specs.Families.{family_union}
@@ -10,13 +10,14 @@ use Rattle.mat_sets.specs.Sets.{all_below, is_member, IsSet, IsSubset}
 use Rattle.mat_sets.specs.declared.weight.Weight.{Weight}
 use Rattle.mat_sets.proofs.Cardinalities.{length-minus-intersection}
 use Rattle.mat_sets.proofs.Ground.{IsSet-length, below_member}
+use Rattle.mat_sets.proofs.Families.{IsSet-family_union}
+use Rattle.mat_sets.proofs.Members.{member_from_some, only_member}
 use Rattle.mat_laws.specs.Matroids.{IsMatroid}
 use Rattle.mat_laws.specs.Ranks.{rank}
 use Rattle.mat_laws.proofs.RankLaws.{rank_is}
 use Rattle.mat_packing.specs.Answers.{HasNoLoop}
 use Rattle.mat_packing.specs.Packings.{IsLoop, IsCoverCut, IsRightCovering, IsRightPacking}
 use Rattle.mat_packing.proofs.Copies.{bases_count}
-use Rattle.mat_packing.proofs.Partitions.{some_member_of}
 use Rattle.mat_any.specs.TreeLaws.{tree_laws}
 use Rattle.mat_any.specs.Trees.{Tree, is_independent}
 use Rattle.mat_desc.specs.Grammar.{IsValid}
@@ -24,7 +25,6 @@ use Rattle.mat_desc.specs.Instances.{list}
 use Rattle.mat_desc.specs.Soundness.{IsSoundInstance}
 use Rattle.mat_cert.specs.Certificates.{pack_any, pack, cover_never, cover, IsRangedOption}
 use Rattle.mat_top.specs.Answers.{IsSolution}
-use Rattle.mat_top.proofs.FamilySets.{family_set}
 
 module _ (w : List Weight) (matroid : Tree) (valid : IsValid (list w (matroid ∷ []))) (sound : IsSoundInstance (list w (matroid ∷ []))) where
   laws : IsMatroid (length w) (is_independent matroid)
@@ -44,7 +44,7 @@ module _ (w : List Weight) (matroid : Tree) (valid : IsValid (list w (matroid �
     -- each base has as many elements as the rank
     few_bases : length bases ≤ length w
     few_bases =
-        let set = family_set (length w) bases base_sets in
+        let set = IsSet-family_union (length w) bases base_sets in
         let split = length-minus-intersection (family_union bases) (all_below (length w)) set.rising in
         let whole = IsSet-length (length w) (family_union bases) set in
         let count = bases_count laws bases found.are in
@@ -75,14 +75,11 @@ module _ (w : List Weight) (matroid : Tree) (valid : IsValid (list w (matroid �
     few_by_cut : (cut : List ℕ) → IsCoverCut (length w) (is_independent matroid) (length sets) cut → length sets ≤ length w
     few_by_cut cut is =
         let long = is.long in
-        let some = some_member_of cut (omega (arith, long)) in
-        let alone : IsSubset (some.0 ∷ []) cut = record { inside = λ x m. subst (λ y. is_member y cut ≡ true) (sym (only x some.0 m)) some.1 } in
+        let some = member_from_some cut (omega (arith, long)) in
+        let alone : IsSubset (some.0 ∷ []) cut = record { inside = λ x m. subst (λ y. is_member y cut ≡ true) (sym (only_member x some.0 m)) some.1 } in
         let one = (rank_is laws cut is.set.rising).most (some.0 ∷ []) (no_loop some.0 (below_member is.set some.1)) alone in
         let least = mul-le (length sets - 1) 1 (length sets - 1) (rank (is_independent matroid) cut) (omega arith) one in
         omega (arith, long, least, IsSet-length (length w) cut is.set)
-      where
-        only : (x y : ℕ) → is_member x (y ∷ []) ≡ true → x ≡ y
-        only x y m = eqb-true x y (grind arith)
 
     few_sets : (cut : Option (List ℕ))
         → MatchOption cut (length sets ≡ 0) (λ A. (0 < length sets) × IsCoverCut (length w) (is_independent matroid) (length sets) A)

@@ -1,9 +1,10 @@
 -- The heaviest independent sets of a matroid as an answer: the weight of each set is in range, since it has at most as many elements as
 -- there are; and as many elements as the rank has make a base.
-use Rattle.std.proofs.Common.{◌≡◌, ℕ, zero, suc, ◌+◌, ◌-◌, ◌^◌, ◌<◌, ◌≤◌, Bool, true, List, [], ◌∷◌, length}
+use Rattle.std.proofs.Common.{◌≡◌, ℕ, zero, suc, ◌+◌, ◌-◌, ◌<◌, ◌≤◌, Bool, true, List, [], ◌∷◌, length}
 use Rattle.std.proofs.Common.{get_or, Some, refl, arith}
 use Rattle.std.specs.Prelude.{map, slice_get}
 use Rattle.std.proofs.lemmas.List.{length-map, get_or_default}
+use Rattle.mat_sets.specs.Limits.{most_elements, largest_weight}
 use Rattle.mat_sets.specs.Sets.{IsSet, all_below}
 use Rattle.mat_sets.specs.Weights.{weight_at, AreWeightsWithin}
 use Rattle.mat_sets.specs.declared.weight.Weight.{Weight}
@@ -35,7 +36,7 @@ set_is : {n : ℕ} {p : List ℕ → Bool} → IsMatroid n p → (X : List ℕ) 
 set_is {n} laws X passes = let set = laws.sets X passes in (set, IsSet-length n X set)
 
 module _ {n : ℕ} {p : List ℕ → Bool} (laws : IsMatroid n p) {h : ℕ → Weight} where
-  pub few_in_sets : n ≤ 500 → (sets : List (List ℕ)) → AreHeaviestEach n p h sets → AreSmallSets n sets
+  pub few_in_sets : n ≤ most_elements → (sets : List (List ℕ)) → AreHeaviestEach n p h sets → AreSmallSets n sets
   few_in_sets few sets heaviest = λ k d lt.
       let at = heaviest.each k lt in
       let same : get_or sets k d ≡ get_or sets k [] = get_or_default sets k d [] lt in
@@ -62,7 +63,7 @@ module _ {n : ℕ} {p : List ℕ → Bool} (laws : IsMatroid n p) {h : ℕ → W
 
 -- they are a solution, with their weights
 pub plain_solution : (n : ℕ) (matroid : Tree) (w : List Weight) (sets : List (List ℕ)) → n ≡ length w
-    → IsMatroid n (is_independent matroid) → n ≤ 500 → AreWeightsWithin (10 ^ 12) w
+    → IsMatroid n (is_independent matroid) → n ≤ most_elements → AreWeightsWithin largest_weight w
     → AreHeaviestEach n (is_independent matroid) (weight_at w) sets → IsSolution (list w (matroid ∷ [])) (best n (map (plain_rung w) sets))
 plain_solution n matroid w sets same laws few small heaviest =
     let p = is_independent matroid in

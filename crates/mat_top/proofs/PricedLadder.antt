@@ -6,6 +6,7 @@ use Rattle.std.specs.Prelude.{map, slice_get}
 use Rattle.std.proofs.lemmas.List.{length-map}
 use Rattle.std.proofs.lemmas.Option.{slice_get-get_or}
 use Rattle.std.proofs.lemmas.Nat.{mul-le}
+use Rattle.mat_sets.specs.Limits.{most_elements, largest_weight, largest_number}
 use Rattle.mat_sets.specs.Sets.{IsSet}
 use Rattle.mat_sets.specs.Weights.{AreWeightsWithin}
 use Rattle.mat_sets.specs.declared.weight.Weight.{Weight}
@@ -26,7 +27,7 @@ use Rattle.mat_top.specs.PricedRungs.{priced_rung, HaveFewElements}
 -- ---- bounds
 
 -- the bound on a split of at most 500 elements
-pub split_bound-small : (n : ℕ) → n ≤ 500 → split_bound n ≤ 3 * 10 ^ 20
+pub split_bound-small : (n : ℕ) → n ≤ most_elements → split_bound n ≤ 3 * 10 ^ 20
 split_bound-small n few =
     let a : 2 * 10 ^ 12 * (n + 1) ≤ 2 * 10 ^ 12 * 501 = omega arith in
     let b : 2 * 10 ^ 12 * (n + 1) * n ≤ 2 * 10 ^ 12 * 501 * 500 = mul-le (2 * 10 ^ 12 * (n + 1)) n (2 * 10 ^ 12 * 501) 500 a few in
@@ -34,14 +35,14 @@ split_bound-small n few =
     (2 * 10 ^ 12 * 501 * 500) 501 b (omega arith) in
     omega arith
 
-pub split_bound-less : (n : ℕ) → n ≤ 500 → split_bound n ≤ 10 ^ 30
+pub split_bound-less : (n : ℕ) → n ≤ most_elements → split_bound n ≤ 10 ^ 30
 split_bound-less n few =
     let small = split_bound-small n few in
     omega arith
 
 -- ---- rungs
 
-module _ {n : ℕ} {p q : List ℕ → Bool} (laws : IsMatroid n p) {w : List Weight} (few : n ≤ 500) (small : AreWeightsWithin (10 ^ 12) w) where
+module _ {n : ℕ} {p q : List ℕ → Bool} (laws : IsMatroid n p) {w : List Weight} (few : n ≤ most_elements) (small : AreWeightsWithin largest_weight w) where
   -- the set of a rung
   set_of : (k : ℕ) (rung : Rung) → IsBoundedRung n p q w k rung → IsSet n rung.set × (length rung.set ≤ n)
   set_of k rung r = let set = laws.sets rung.set r.right.first_heaviest.passes in (set, IsSet-length n rung.set set)
@@ -49,8 +50,8 @@ module _ {n : ℕ} {p q : List ℕ → Bool} (laws : IsMatroid n p) {w : List We
   ranged_rung : (k : ℕ) (rung : Rung) → IsBoundedRung n p q w k rung → IsRangedPricedRung n k (priced_rung w rung)
   ranged_rung k rung r =
       let set = set_of k rung r in
-      let in_range : (half : List Weight) → AreWeightsWithin (split_bound n) half → AreWeightsWithin (10 ^ 30) half =
-      λ half all e d lt. weight_within_more (split_bound n) (10 ^ 30) (get_or half e d) (split_bound-less n few) (all e d lt) in (
+      let in_range : (half : List Weight) → AreWeightsWithin (split_bound n) half → AreWeightsWithin largest_number half =
+      λ half all e d lt. weight_within_more (split_bound n) largest_number (get_or half e d) (split_bound-less n few) (all e d lt) in (
         record { weight_in_range = set_in_range w rung.set small (omega (arith, set.1)); set_in_range = set.0; size = r.right.size },
         record { size = r.right.first_length; weights = in_range rung.first r.first_bounded },
         record { size = r.right.second_length; weights = in_range rung.second r.second_bounded },
@@ -88,7 +89,7 @@ rung_of w (rung ∷ rungs) (suc k) priced at = rung_of w rungs k priced at
 
 -- ---- ladders
 
-module _ {n : ℕ} {p q : List ℕ → Bool} (laws : IsMatroid n p) {w : List Weight} (few : n ≤ 500) (small : AreWeightsWithin (10 ^ 12) w)
+module _ {n : ℕ} {p q : List ℕ → Bool} (laws : IsMatroid n p) {w : List Weight} (few : n ≤ most_elements) (small : AreWeightsWithin largest_weight w)
     (rungs : List Rung) (cut : List ℕ) (ladder : IsLadder n p q w rungs cut) where
   rungs_count : length (map (priced_rung w) rungs) ≡ length rungs
   rungs_count = length-map rungs (priced_rung w)
@@ -128,7 +129,7 @@ module _ {n : ℕ} {p q : List ℕ → Bool} (laws : IsMatroid n p) {w : List We
 
 -- a ladder of two matroids, with the weights of its sets, is a solution
 pub priced_solution : (n : ℕ) (first second : Tree) (w : List Weight) (rungs : List Rung) (cut : List ℕ) → n ≡ length w
-    → IsMatroid n (is_independent first) → n ≤ 500 → AreWeightsWithin (10 ^ 12) w
+    → IsMatroid n (is_independent first) → n ≤ most_elements → AreWeightsWithin largest_weight w
     → IsLadder n (is_independent first) (is_independent second) w rungs cut
     → IsSolution (pair w first second) (intersect n (map (priced_rung w) rungs) cut)
 priced_solution n first second w rungs cut same laws few small ladder = record {

@@ -4,6 +4,7 @@ use Rattle.std.specs.Prelude.{map, slice_index}
 use Rattle.std.specs.List.{All}
 use Rattle.std.proofs.lemmas.List.{length-map, get_or-map}
 use Rattle.std.proofs.lemmas.Option.{slice_get-get_or}
+use Rattle.mat_sets.specs.Limits.{largest_weight, most_elements}
 use Rattle.mat_sets.specs.Families.{family_union}
 use Rattle.mat_sets.specs.Graphs.{ends_of}
 use Rattle.mat_sets.specs.Sets.{IsSet}
@@ -11,6 +12,7 @@ use Rattle.mat_sets.specs.declared.weight.Weight.{Weight}
 use Rattle.mat_sets.specs.Weights.{weight, weight_at, AreWeightsWithin}
 use Rattle.mat_sets.proofs.Ground.{IsSet-length}
 use Rattle.mat_sets.proofs.WeightOrder.{weight_within_at}
+use Rattle.mat_sets.proofs.Families.{IsSet-family_union}
 use Rattle.mat_laws.specs.Ladders.{split_bound}
 use Rattle.mat_graphic.specs.Forests.{is_graphic}
 use Rattle.mat_union.specs.RightUnions.{AreFalling, level_at}
@@ -28,28 +30,27 @@ use Rattle.mat_cert.proofs.PrintedLengths.{length-printed_text}
 use Rattle.mat_check.specs.Right.{IsRightPricedRung, IsRightLadder, AreRightRungs, level_of}
 use Rattle.mat_check.proofs.AnswerForms.{OnEachForm, by_right}
 use Rattle.mat_top.specs.Answers.{IsSolution, HaveBoundedSplits}
-use Rattle.mat_top.proofs.FamilySets.{family_set}
 use Rattle.mat_top.proofs.PricedLadder.{split_bound-small}
 use Rattle.mat_top.proofs.SetWeights.{weight_within_more, within_set}
 
 -- the weight of a set of at most 500 elements, where it is the one that is told
-printed_set : (w : List Weight) (X : List ℕ) (told : Weight) → told ≡ weight w X → AreWeightsWithin (10 ^ 12) w → length X ≤ 500
+printed_set : (w : List Weight) (X : List ℕ) (told : Weight) → told ≡ weight w X → AreWeightsWithin largest_weight w → length X ≤ most_elements
     → IsPrintedWeight told
 printed_set w X told priced small few =
     let sum : IsPrintedWeight (weight w X) = weight_within_more (5 * 10 ^ 14) (3 * 10 ^ 20) (weight w X) (omega arith) (within_set w X small few) in
     subst IsPrintedWeight (sym priced) sum
 
 -- a half of a split
-printed_half : (n : ℕ) (half : List Weight) → n ≤ 500 → AreWeightsWithin (split_bound n) half → All IsPrintedWeight half
+printed_half : (n : ℕ) (half : List Weight) → n ≤ most_elements → AreWeightsWithin (split_bound n) half → All IsPrintedWeight half
 printed_half n half few all = λ e d lt. weight_within_more (split_bound n) (3 * 10 ^ 20) (get_or half e d) (split_bound-small n few) (all e d lt)
 
 -- a rung of at most 500 elements
-printed_rung : (n k : ℕ) (p q : List ℕ → Bool) (w : List Weight) (rung : PricedRung) → n ≤ 500 → k ≤ 500
-    → AreWeightsWithin (10 ^ 12) w
+printed_rung : (n k : ℕ) (p q : List ℕ → Bool) (w : List Weight) (rung : PricedRung) → n ≤ most_elements → k ≤ most_elements
+    → AreWeightsWithin largest_weight w
     → IsRightPricedRung n p q w k rung → AreWeightsWithin (split_bound n) rung.first → AreWeightsWithin (split_bound n) rung.second
     → IsPrintedRung rung
 printed_rung n k p q w rung few small within right first second =
-    let size : length rung.set ≤ 500 = omega (arith, right.right.size) in
+    let size : length rung.set ≤ most_elements = omega (arith, right.right.size) in
     record {
       weight = printed_set w rung.set rung.weight right.priced within size;
       first = printed_half n rung.first few first;
@@ -58,7 +59,7 @@ printed_rung n k p q w rung few small within right first second =
 
 -- the rungs of a ladder
 printed_rungs : (n : ℕ) (p q : List ℕ → Bool) (w : List Weight) (rungs : List PricedRung) (cut : List ℕ)
-    → AreWeightsWithin (10 ^ 12) w → IsRangedLadder n rungs cut → IsRightLadder n p q w rungs cut → HaveBoundedSplits n rungs
+    → AreWeightsWithin largest_weight w → IsRangedLadder n rungs cut → IsRightLadder n p q w rungs cut → HaveBoundedSplits n rungs
     → All IsPrintedRung rungs
 printed_rungs n p q w rungs cut small ranged right bounded = λ k d lt.
     let rung = get_or rungs k d in
@@ -67,7 +68,7 @@ printed_rungs n p q w rungs cut small ranged right bounded = λ k d lt.
     printed_rung n k p q w rung ranged.0.few (omega (arith, lt, ranged.0.few, ranged.0.no_more)) small (right.each k rung at) bounds.0 bounds.1
 
 -- the rungs of one matroid
-printed_plain_rungs : (n : ℕ) (p : List ℕ → Bool) (w : List Weight) (rungs : List PlainRung) → AreWeightsWithin (10 ^ 12) w
+printed_plain_rungs : (n : ℕ) (p : List ℕ → Bool) (w : List Weight) (rungs : List PlainRung) → AreWeightsWithin largest_weight w
     → IsRanged (best n rungs) → AreRightRungs n p w rungs → All (λ rung. IsPrintedWeight rung.weight) rungs
 printed_plain_rungs n p w rungs small ranged rights = λ k d lt.
     let rung = get_or rungs k d in
@@ -75,19 +76,19 @@ printed_plain_rungs n p w rungs small ranged rights = λ k d lt.
     printed_set w rung.set rung.weight right.priced small (omega (arith, lt, ranged.few, ranged.no_more, right.size))
 
 -- the levels of a union are weights of elements
-printed_levels : (w : List Weight) (levels : List LevelLine) → AreWeightsWithin (10 ^ 12) w → AreFalling w (map level_of levels)
+printed_levels : (w : List Weight) (levels : List LevelLine) → AreWeightsWithin largest_weight w → AreFalling w (map level_of levels)
     → All (λ level. IsPrintedWeight level.at) levels
 printed_levels w levels small falling = λ j d lt.
     let given = falling.given j (omega (arith, lt, length-map levels level_of)) in
     let at : (level_at (map level_of levels) j).at ≡ (get_or levels j d).at = ap (λ level. level.at) (get_or-map level_of levels j d _ lt) in
-    let within = weight_within_at (10 ^ 12) w small given.0 in
-    subst IsPrintedWeight (given.2 ∙ at) (weight_within_more (10 ^ 12) (3 * 10 ^ 20) (weight_at w given.0) (omega arith) within)
+    let within = weight_within_at largest_weight w small given.0 in
+    subst IsPrintedWeight (given.2 ∙ at) (weight_within_more largest_weight (3 * 10 ^ 20) (weight_at w given.0) (omega arith) within)
 
 -- the weight of the parts of a union together
-printed_union : (n : ℕ) (w : List Weight) (told : Weight) (parts : List (List ℕ)) → AreWeightsWithin (10 ^ 12) w → n ≤ 500
+printed_union : (n : ℕ) (w : List Weight) (told : Weight) (parts : List (List ℕ)) → AreWeightsWithin largest_weight w → n ≤ most_elements
     → All (IsSet n) parts → told ≡ weight w (family_union parts) → IsPrintedWeight told
 printed_union n w told parts small few sets priced =
-    let together = family_set n parts sets in
+    let together = IsSet-family_union n parts sets in
     printed_set w (family_union parts) told priced small (omega (arith, few, IsSet-length n (family_union parts) together))
 
 -- ---- of every form

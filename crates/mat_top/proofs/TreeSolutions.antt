@@ -1,5 +1,6 @@
 -- Arborescences and disjoint arborescences as answers: their sets are sets of arcs or of vertices, and so in range.
-use Rattle.std.proofs.Common.{◌≡◌, ℕ, ◌^◌, ◌≤◌, List, length, get_or, refl, arith}
+use Rattle.std.proofs.Common.{◌≡◌, ℕ, ◌≤◌, List, length, get_or, refl, arith}
+use Rattle.mat_sets.specs.Limits.{most_elements, largest_number}
 use Rattle.mat_sets.specs.Graphs.{ends_of, IsUnentered}
 use Rattle.mat_sets.specs.Sets.{IsSet, AllBelow}
 use Rattle.mat_sets.specs.Weights.{weight, AreWeightsWithin}
@@ -18,15 +19,15 @@ use Rattle.mat_top.proofs.SetWeights.{set_in_range, weight_within_more}
 -- ---- arborescences
 
 -- a part of a split within the bound is in range
-ranged_part : (n : ℕ) (part : List Weight) → n ≤ 500 → length part ≡ n → AreWeightsWithin (split_bound n) part → IsRangedPart n part
+ranged_part : (n : ℕ) (part : List Weight) → n ≤ most_elements → length part ≡ n → AreWeightsWithin (split_bound n) part → IsRangedPart n part
 ranged_part n part few size bounded = record {
   size = size;
-  weights = λ e d lt. weight_within_more (split_bound n) (10 ^ 30) (get_or part e d) (split_bound-less n few) (bounded e d lt);
+  weights = λ e d lt. weight_within_more (split_bound n) largest_number (get_or part e d) (split_bound-less n few) (bounded e d lt);
 }
 
 module _ (vertices root : ℕ) (arcs : List (ℕ × ℕ)) (costs : List Weight) (valid : IsValid (rooted vertices root arcs costs)) where
   -- the arcs of an arborescence have costs, and are few
-  pub arbor_few : (tree : List ℕ) → IsSet (length arcs) tree → AllBelow (length costs) tree × (length tree ≤ 500)
+  pub arbor_few : (tree : List ℕ) → IsSet (length arcs) tree → AllBelow (length costs) tree × (length tree ≤ most_elements)
   arbor_few tree set = (rw valid.4 set.below, omega (arith, valid.3.0, IsSet-length (length arcs) tree set))
 
   -- a least arborescence with its split and its cost

@@ -1,11 +1,12 @@
 -- The parts of a union with their levels as an answer. There are no more levels than elements, since each has the weight of an element, and
 -- no two have the same.
-use Rattle.std.proofs.Common.{◌≡◌, ℕ, ◌^◌, ◌<◌, ◌≤◌, true, false, List, [], length, get_or, refl, inl, inr, sym, subst, ◌∙◌, arith}
+use Rattle.std.proofs.Common.{◌≡◌, ℕ, ◌<◌, ◌≤◌, true, false, List, [], length, get_or, refl, inl, inr, sym, subst, ◌∙◌, arith}
 use Rattle.std.specs.Prelude.{map, All}
 use Rattle.std.proofs.lemmas.Bool.{cases_lt, cases_order, lt-ltb, ltb-true}
 use Rattle.std.proofs.lemmas.Int.{ints}
 use Rattle.std.proofs.lemmas.List.{length-map, get_or-map, get_or_default}
 use Rattle.std.proofs.lemmas.Simd.{map-map}
+use Rattle.mat_sets.specs.Limits.{most_elements, largest_weight, largest_number}
 use Rattle.mat_sets.specs.Families.{family_union}
 use Rattle.mat_sets.specs.Sets.{is_member, all_below, AllBelow, IsSet}
 use Rattle.mat_sets.specs.Weights.{◌≺◌, weight, weight_at}
@@ -14,9 +15,10 @@ use Rattle.mat_sets.proofs.Ground.{IsRising-all_below, IsSet-length, IsSet-subse
 use Rattle.mat_sets.proofs.OneToOne.{length-covered}
 use Rattle.mat_sets.proofs.Search.{IsSet-those_below}
 use Rattle.mat_sets.proofs.WeightOrder.{weight_within_at}
+use Rattle.mat_sets.proofs.Families.{IsSet-family_union}
 use Rattle.mat_laws.specs.Matroids.{IsMatroid}
 use Rattle.mat_union.specs.GrownParts.{AreSound}
-use Rattle.mat_union.specs.PartLists.{part_set}
+use Rattle.mat_union.specs.PartListLaws.{part_set}
 use Rattle.mat_union.specs.RightUnions.{AreFalling, IsRightUnion, level_at}
 use Rattle.mat_union.specs.Unions.{AreMatroids, AreParts}
 use Rattle.mat_union.specs.declared.best.Level.{Level}
@@ -31,7 +33,6 @@ use Rattle.mat_cert.specs.Certificates.{union_of, IsCertificateWeight, IsRangedL
 use Rattle.mat_cert.specs.declared.answer.LevelLine.{LevelLine}
 use Rattle.mat_check.specs.Right.{level_of}
 use Rattle.mat_top.specs.Answers.{IsSolution}
-use Rattle.mat_top.proofs.FamilySets.{family_set}
 use Rattle.mat_top.proofs.SetWeights.{set_in_range, weight_within_more}
 
 -- ---- the number of levels
@@ -94,9 +95,9 @@ module _ (w : List Weight) (matroids : List Tree) (valid : IsValid (list w matro
   part_sets i d lt = rw (get_or_default parts i d [] lt) (part_set laws are i lt)
 
   -- the members of the parts together are below the number of elements, and few
-  pub union_few : AllBelow (length w) (family_union parts) × (length (family_union parts) ≤ 500)
+  pub union_few : AllBelow (length w) (family_union parts) × (length (family_union parts) ≤ most_elements)
   union_few =
-      let set = family_set (length w) parts part_sets in
+      let set = IsSet-family_union (length w) parts part_sets in
       (set.below, omega (arith, valid.0.0, IsSet-length (length w) (family_union parts) set))
 
 module _ (w : List Weight) (matroids : List Tree) (valid : IsValid (list w matroids)) (sound : IsSoundInstance (list w matroids))
@@ -109,7 +110,7 @@ module _ (w : List Weight) (matroids : List Tree) (valid : IsValid (list w matro
       let cut = found.cuts j small in
       let level = level_at (map level_of lines) j in
       let within : IsCertificateWeight level.at = subst IsCertificateWeight given.2
-      (weight_within_more (10 ^ 12) (10 ^ 30) (weight_at w given.0) (omega arith) (weight_within_at (10 ^ 12) w valid.0.1 given.0)) in
+      (weight_within_more largest_weight largest_number (weight_at w given.0) (omega arith) (weight_within_at largest_weight w valid.0.1 given.0)) in
       let set : IsSet (length w) level.cut = IsSet-subset (length w) level.cut _ cut.rises cut.inside (IsSet-those_below (length w) _) in
       let same : level ≡ level_of (get_or lines j d) = get_or-map level_of lines j d _ lt in
       let both = subst (λ (l : Level). IsCertificateWeight l.at × IsSet (length w) l.cut) same (within, set) in

@@ -2,6 +2,7 @@
 use Rattle.std.specs.Prelude.{ℕ, pos, nat_abs, Bool, true, false, if◌then◌else◌, List, [], ◌∷◌, bytes_eq, codes}
 use Rattle.std.specs.Prelude.{Option, Some, None, option_map}
 use Rattle.std.specs.Result.{result_ok}
+use Rattle.mat_sets.specs.Limits.{most_elements}
 use Rattle.mat_words.specs.Numbers.{number_in}
 use Rattle.mat_gen.specs.declared.kind.SampleKind.{SampleKind}
 use Rattle.mat_gen.specs.declared.kind.SampleKind.TheVariants.{Pair, List as ListKind, Graph, Rooted, Table}
@@ -101,7 +102,7 @@ with_two command first second =
 abbrev pub sample_for : List ℕ → List ℕ → List ℕ → Option Task
 sample_for first second third = do
   kind ← kind_in first
-  size ← number_up_to 500 second
+  size ← number_up_to most_elements second
   option_map (sample kind size) (number_up_to 2147483646 third)
 
 -- a command and three arguments

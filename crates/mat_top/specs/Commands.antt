@@ -1,6 +1,7 @@
 -- Commands of the program as what their words ask for, and the ranges of their numbers.
 use Rattle.std.specs.Coded.{×_prop, Unit-prop, le_prop}
 use Rattle.std.specs.Prelude.{ℕ, ◌≤◌}
+use Rattle.mat_sets.specs.Limits.{most_elements}
 use Rattle.mat_top.specs.declared.command.Command.{Command}
 use Rattle.mat_top.specs.declared.command.Command.TheVariants.{About, Sample, Batch}
 use Rattle.mat_top.specs.declared.command.Request as declared
@@ -35,7 +36,7 @@ IsRequestInRange request = Unit {0}
 
 -- the size of a sample is from 1 to 500, and its seed from 1 to 2147483646
 abbrev pub IsSampleInRange : (size seed : ℕ) → Type 0
-IsSampleInRange size seed = ((1 ≤ size) × (size ≤ 500)) × ((1 ≤ seed) × (seed ≤ 2147483646))
+IsSampleInRange size seed = ((1 ≤ size) × (size ≤ most_elements)) × ((1 ≤ seed) × (seed ≤ 2147483646))
 
 -- the numbers of a task are in range
 abbrev pub IsTaskInRange : Task → Type 0

@@ -1,5 +1,6 @@
 -- Rungs with the weights of their sets.
 use Rattle.std.specs.Prelude.{ℕ, ◌≤◌, List, length, All}
+use Rattle.mat_sets.specs.Limits.{most_elements}
 use Rattle.mat_sets.specs.Sets.{AllBelow}
 use Rattle.mat_sets.specs.declared.weight.Weight.{Weight}
 use Rattle.mat_sets.specs.Weights.{weight}
@@ -17,8 +18,8 @@ plain_rung w set = record { weight = weight w set; set = set }
 
 -- the set of each rung has elements below n, and at most 500
 abbrev pub HaveFewElements : ℕ → List Rung → Type 0
-HaveFewElements n rungs = All (λ rung. AllBelow n rung.set × (length rung.set ≤ 500)) rungs
+HaveFewElements n rungs = All (λ rung. AllBelow n rung.set × (length rung.set ≤ most_elements)) rungs
 
 -- each set has elements below n, and at most 500
 abbrev pub AreSmallSets : ℕ → List (List ℕ) → Type 0
-AreSmallSets n sets = All (λ set. AllBelow n set × (length set ≤ 500)) sets
+AreSmallSets n sets = All (λ set. AllBelow n set × (length set ≤ most_elements)) sets

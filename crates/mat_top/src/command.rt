@@ -1,6 +1,6 @@
 //! Commands, and how many workers compute them.
 
-ghost use Rattle.std.specs.Prelude.{◌≡◌, ◌≤◌};
+ghost use Rattle.std.specs.Prelude.{◌≤◌};
 ghost use Rattle.mat_top.specs.Commands.{task_of, IsTaskInRange, IsTaskInRange-prop};
 
 use crate::query::Query;

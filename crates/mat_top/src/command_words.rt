@@ -12,6 +12,18 @@ use crate::query::Query;
 use mat_gen::SampleKind;
 use mat_words::read_number;
 
+// The most trees that a command asks for.
+const MOST_TREES: u32 = 64;
+
+// The most elements of a sample.
+const LARGEST_SIZE: u32 = 500;
+
+// The largest number that a sample is drawn from.
+const LARGEST_SEED: u32 = 2_147_483_646;
+
+// The most workers.
+const MOST_WORKERS: u32 = 16;
+
 // The query of a command that takes a file alone.
 fn query_for(command: &str) -> Option<Query>
     ensures query { result ≡ query_for command.now }
@@ -97,7 +109,7 @@ fn with_number<'a>(command: &str, number: &str, file: &'a str) -> Option<Command
     ensures task { option_map task_of result ≡ with_number command.now number.now file.now }
     ensures range { IfSome result (λ c. IsTaskInRange (task_of c)) }
 {
-    let k = number_up_to(64, number)?;
+    let k = number_up_to(MOST_TREES, number)?;
     let request = Request::Solve(query_of_trees(command, k)?);
     Some(Command::About { file, request })
 }
@@ -124,8 +136,8 @@ fn sample_for<'a>(first: &str, second: &str, third: &str) -> Option<Command<'a>>
     ensures range { IfSome result (λ c. IsTaskInRange (task_of c)) }
 {
     let kind = kind_in(first)?;
-    let size = number_up_to(500, second)?;
-    let seed = u64::from(number_up_to(2_147_483_646, third)?);
+    let size = number_up_to(LARGEST_SIZE, second)?;
+    let seed = u64::from(number_up_to(LARGEST_SEED, third)?);
     Some(Command::Sample { kind, size, seed })
 }
 
@@ -184,7 +196,7 @@ fn with_option<'a>(command: &str, others: &'a [String]) -> Option<CommandLine<'a
     let [_, number, arguments @ ..] = others else {
         return None;
     };
-    let workers = number_up_to(16, number.as_str())?;
+    let workers = number_up_to(MOST_WORKERS, number.as_str())?;
     let command = command_for(command, arguments)?;
     if !command.takes_workers() {
         return None;

@@ -1,6 +1,7 @@
 //! Ladders: heaviest sets of each size.
 
-ghost use Rattle.std.specs.Prelude.{◌≡◌, ◌≤◌, ◌^◌, length, map, IfOk, [], ◌∷◌};
+ghost use Rattle.std.specs.Prelude.{◌≡◌, ◌≤◌, length, map, IfOk, [], ◌∷◌};
+ghost use Rattle.mat_sets.specs.Limits.{most_elements, largest_number};
 ghost use Rattle.mat_sets.specs.Sets.{AllBelow};
 ghost use Rattle.mat_sets.specs.Weights.{AreWeightsWithin};
 ghost use Rattle.mat_any.specs.Views.{tree_of};
@@ -29,8 +30,8 @@ use std::thread::Threads;
 // The rung with the weight of its set.
 fn priced(rung: Rung, weights: &[Weight]) -> PricedRung
     requires inside { AllBelow (length weights.now) rung.set }
-    requires few { length rung.set ≤ 500 }
-    requires small { AreWeightsWithin (10 ^ 30) weights.now }
+    requires few { length rung.set ≤ most_elements }
+    requires small { AreWeightsWithin largest_number weights.now }
     ensures { result ≡ priced_rung weights.now rung }
 {
     let weight = weigh(&rung.set, weights);
@@ -49,7 +50,7 @@ fn priced_rungs(
     weights: &[Weight],
 ) -> Result<Vec<PricedRung>, AllocError>
     requires rungs { HaveFewElements (length weights.now) rungs.items }
-    requires small { AreWeightsWithin (10 ^ 30) weights.now }
+    requires small { AreWeightsWithin largest_number weights.now }
     ensures { IfOk result (λ all. all.items ≡ map (priced_rung weights.now) rungs.items) }
 {
     let mut all = Vec::with_capacity(alloc, rungs.len())?;
@@ -66,7 +67,7 @@ fn plain_rungs(
     weights: &[Weight],
 ) -> Result<Vec<PlainRung>, AllocError>
     requires sets { AreSmallSets (length weights.now) sets.now }
-    requires small { AreWeightsWithin (10 ^ 30) weights.now }
+    requires small { AreWeightsWithin largest_number weights.now }
     ensures { IfOk result (λ all. all.items ≡ map (plain_rung weights.now) sets.now) }
 {
     let mut all = Vec::with_capacity(alloc, sets.len())?;

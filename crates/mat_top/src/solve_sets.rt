@@ -1,7 +1,6 @@
 //! Disjoint and covering sets: unions, packings and coverings.
 
 ghost use Rattle.std.specs.Prelude.{◌≡◌, ◌∷◌, [], map, IfOk};
-ghost use Rattle.mat_sets.specs.Families.{family_union};
 ghost use Rattle.mat_any.specs.Views.{tree_of};
 ghost use Rattle.mat_desc.specs.Instances.{list};
 ghost use Rattle.mat_desc.specs.Views.{instance_of};
@@ -19,21 +18,9 @@ use mat_any::AnyMatroid;
 use mat_cert::{Answer, LevelLine};
 use mat_desc::Problem;
 use mat_packing::{Covering, Packing, pack_bases};
-use mat_sets::{ElemSet, PairWeights, weigh};
-use mat_union::{Level, best_union};
+use mat_sets::{PairWeights, weigh};
+use mat_union::{Level, best_union, members_of};
 use std::alloc::{AllocError, Global};
-
-// The members of all parts together.
-#[tactic(auto, using(mat_sets::proofs::Steps::set_steps))]
-fn together(alloc: Global, parts: &[ElemSet]) -> Result<ElemSet, AllocError>
-    ensures { IfOk result (λ set. set ≡ family_union parts.now) }
-{
-    let mut set = ElemSet::new(alloc);
-    for part in parts {
-        set = part.union(alloc, &set)?;
-    }
-    Ok(set)
-}
 
 // The levels as an answer has them, in their order.
 fn level_lines(alloc: Global, levels: Vec<Level>) -> Result<Vec<LevelLine>, AllocError>
@@ -61,7 +48,7 @@ fn solve_union(
     ensures of_query { IfOk result (λ answer. IsAnswerOf Query.Union (certificate_of answer)) }
 {
     let found = best_union(alloc, matroids, weights.as_slice())?;
-    let all = together(alloc, found.parts.as_slice())?;
+    let all = members_of(alloc, found.parts.as_slice())?;
     let weight = weigh(&all, weights.as_slice());
     let levels = level_lines(alloc, found.levels)?;
     Ok(Answer::UnionOf {

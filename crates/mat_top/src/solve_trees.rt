@@ -1,6 +1,6 @@
 //! Trees: spanning trees and arborescences.
 
-ghost use Rattle.std.specs.Prelude.{◌≡◌, ◌≤◌, IfOk};
+ghost use Rattle.std.specs.Prelude.{◌≤◌, IfOk};
 ghost use Rattle.mat_desc.specs.Instances.{graph, rooted};
 ghost use Rattle.mat_desc.specs.Views.{instance_of};
 ghost use Rattle.mat_desc.specs.Grammar.{IsValid};

@@ -1,7 +1,7 @@
 //! The top call.
 
-ghost use Rattle.std.specs.Prelude.{◌≡◌, ◌≤◌, ◌<◌, ◌↔◌, ◌⊎◌, ℕ, List, map, string_bytes, length};
-ghost use Rattle.std.specs.Prelude.{IfOk, IfErr, IfSome, Some, None};
+ghost use Rattle.std.specs.Prelude.{◌≡◌, ◌≤◌, ◌<◌, ◌↔◌, ◌⊎◌, ℕ, List, map, string_bytes};
+ghost use Rattle.std.specs.Prelude.{IfOk, IfErr, Some, None};
 ghost use Rattle.mat_shelf.specs.Faults.{Rose};
 ghost use Rattle.mat_top.specs.CommandLines.{command_line, asked_by};
 ghost use Rattle.mat_top.specs.Commands.{task_of};

@@ -1,6 +1,7 @@
 //! What the numbers of an answer come to.
 
-ghost use Rattle.std.specs.Prelude.{◌≡◌, ◌≤◌, ◌^◌, List, ℕ, length, All};
+ghost use Rattle.std.specs.Prelude.{◌≡◌, ◌≤◌, length, All};
+ghost use Rattle.mat_sets.specs.Limits.{largest_number, most_elements};
 ghost use Rattle.mat_sets.specs.Weights.{IsWeightWithin};
 ghost use Rattle.mat_top.specs.Summaries.{all_members, ladder_weight, last_weight};
 
@@ -20,7 +21,7 @@ pub(crate) fn last_weight(rungs: &[PricedRung]) -> Weight
 /// The weights of all rungs, added: at most 501 rungs, both numbers of each weight within ±10^30. It takes no memory.
 pub(crate) fn ladder_weight(rungs: &[PricedRung]) -> Weight
     requires few { length rungs.now ≤ 501 }
-    requires small { All (λ rung. IsWeightWithin (10 ^ 30) rung.weight) rungs.now }
+    requires small { All (λ rung. IsWeightWithin largest_number rung.weight) rungs.now }
     ensures { result ≡ ladder_weight rungs.now }
 {
     let mut sum = Weight::ZERO;
@@ -33,7 +34,7 @@ pub(crate) fn ladder_weight(rungs: &[PricedRung]) -> Weight
 /// How many members the sets have together: at most 64 sets of at most 500 members each. It takes no memory.
 pub(crate) fn all_members(sets: &[ElemSet]) -> usize
     requires few { length sets.now ≤ 64 }
-    requires small { All (λ set. length set ≤ 500) sets.now }
+    requires small { All (λ set. length set ≤ most_elements) sets.now }
     ensures { result ≡ all_members sets.now }
 {
     let mut count = 0;

@@ -7,7 +7,7 @@ use Rattle.mat_laws.specs.declared.exchange.Exchange.{Exchange}
 use Rattle.mat_laws.specs.TightPaths.{row_in}
 use Rattle.mat_union.specs.Unions.{part_at}
 use Rattle.mat_union.specs.MoveGraphs.{AreMovable}
-use Rattle.mat_union.specs.PartLists.{AreDisjoint-index}
+use Rattle.mat_union.specs.PartListLaws.{AreDisjoint-index}
 use Rattle.mat_union.proofs.EmptyParts.{nothing}
 
 module _ (n : ℕ) (a b : List Exchange) (long-a : length a ≡ n) (long-b : length b ≡ n)

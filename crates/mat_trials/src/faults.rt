@@ -23,8 +23,8 @@ struct Failing<'a> {
     notes: &'a [u64],
 }
 
-// What a call is, its status, its note and what it wrote.
-fn told(
+/// What a call is, its status, its note and what it wrote.
+pub(crate) fn told(
     alloc: Global,
     name: &str,
     status: Status,

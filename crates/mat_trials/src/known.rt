@@ -1,6 +1,6 @@
 //! Small matroids of known structure, each told in a line. What is printed was worked out by hand from closed walks, lines and bases.
 
-ghost use Rattle.std.specs.Prelude.{◌≡◌, length, true, IfOk};
+ghost use Rattle.std.specs.Prelude.{◌≡◌, length, IfOk};
 ghost use Rattle.mat_sets.specs.Graphs.{IsGraph};
 ghost use Rattle.mat_sets.specs.Sets.{AllBelow, AreDistinct};
 ghost use Rattle.mat_gf2.specs.Columns.{IsBinaryMatrix};

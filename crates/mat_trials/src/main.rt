@@ -1,6 +1,6 @@
 //! The program `mat_trials`, a test: it runs the top call over the cases of the file `cases.txt`, over files and sinks that fail, and over
-//! the real files; the search for disjoint paths over the graphs of the files `routes_*.txt`; the calls of matroids over small known
-//! ones; and it makes problems from a number. It prints what came of each. What it has to print was worked out without it. With names of
+//! the real files; the search for disjoint paths over the graphs of the files `routes_*.txt`; cheapest arborescences of small and large
+//! graphs; the calls of matroids over small known ones; and it makes problems from a number. It prints what came of each. What it has to print was worked out without it. With names of
 //! descriptions as words it prints the lines of these alone.
 #![tactic(auto)]
 
@@ -9,7 +9,9 @@ mod cases;
 mod each;
 mod faults;
 mod known;
+mod longest;
 mod meeting;
+mod networks;
 mod real;
 mod reports;
 mod routes;
@@ -20,7 +22,9 @@ mod unions;
 use crate::each::each_report;
 use crate::faults::fault_report;
 use crate::known::known_report;
+use crate::longest::longest_report;
 use crate::meeting::meeting_report;
+use crate::networks::networks_report;
 use crate::real::real_report;
 use crate::reports::cases_report;
 use crate::routes::{ROUTES, route_report};
@@ -67,6 +71,8 @@ fn main(rt: HostRuntime) -> io::Result<()> {
     rt.stdout().write_all(report.as_slice())?;
     let report = fault_report(&rt, alloc)?;
     rt.stdout().write_all(report.as_slice())?;
+    let report = longest_report(&rt, alloc)?;
+    rt.stdout().write_all(report.as_slice())?;
     let report = real_report(&rt, alloc)?;
     rt.stdout().write_all(report.as_slice())?;
     for name in ROUTES.iter() {
@@ -76,6 +82,8 @@ fn main(rt: HostRuntime) -> io::Result<()> {
     rt.stdout().write_all(meeting.as_bytes())?;
     let unions = unions_report(alloc)?;
     rt.stdout().write_all(unions.as_bytes())?;
+    let networks = networks_report(alloc)?;
+    rt.stdout().write_all(networks.as_bytes())?;
     let known = known_report(alloc)?;
     rt.stdout().write_all(known.as_bytes())?;
     let samples = samples_report(alloc)?;

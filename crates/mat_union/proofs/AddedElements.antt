@@ -4,24 +4,12 @@ use Rattle.std.proofs.lemmas.Bool.{both_ways, false_from_ne_true}
 use Rattle.mat_sets.specs.Families.{family_union}
 use Rattle.mat_sets.specs.Sets.{all_below, is_member, minus}
 use Rattle.mat_sets.proofs.Members.{is_member-minus, is_member-union}
-use Rattle.mat_laws.specs.declared.exchange.Exchange.{Exchange}
-use Rattle.mat_laws.specs.Exchanges.{row_of}
-use Rattle.mat_laws.proofs.Rows.{row_of-adds}
 use Rattle.mat_union.specs.Moves.{elements, entering, exchanges_with, moved, place_at, AreMoved}
 use Rattle.mat_union.specs.Placings.{ArePlaced}
 use Rattle.mat_union.specs.UnionLaws.{chordless_moves}
-use Rattle.mat_union.specs.Unions.{part_at, test_at, AreMatroids, AreParts}
+use Rattle.mat_union.specs.Unions.{part_at, AreMatroids, AreParts}
 use Rattle.mat_union.specs.declared.moves.Move.{Move}
 use Rattle.mat_union.proofs.PlacedElements.{entering_elements, moved_list}
-
--- what a row tells at its part
-pub row_adds : (tests : List (List ℕ → Bool)) (parts : List (List ℕ)) (test : List ℕ → Bool) (part : List ℕ) (x q : ℕ) (row : Exchange)
-    → test_at tests q ≡ test → part ≡ part_at parts q → row ≡ row_of test part x → row.addable ≡ true → (exchanges_with tests parts q).adds x ≡ true
-row_adds tests parts test part x q row t p e adds =
-    sym (row_of-adds (test_at tests q) (part_at parts q) x) ∙ sym (ap (λ (r : Exchange). r.addable) (e ∙ named test (test_at tests q) part (part_at parts q) (sym t) p)) ∙ adds
-  where
-    named : (f g : List ℕ → Bool) (a b : List ℕ) → f ≡ g → a ≡ b → row_of f a x ≡ row_of g b x
-    named f g a b h k = rw (h, k) refl
 
 module _ {n : ℕ} {tests : List (List ℕ → Bool)} {parts : List (List ℕ)} (laws : AreMatroids n tests) (are : AreParts tests parts) (x q : ℕ)
     (fresh : is_member x (family_union parts) ≡ false) (l : q < length parts) (adds : (exchanges_with tests parts q).adds x ≡ true) where

@@ -1,6 +1,5 @@
 -- The row of an element at a part answers what a search asks for.
-use Rattle.std.proofs.Common.{◌≡◌, ℕ, ◌<◌, Bool, true, false, List, [], length, refl, sym, ap, ◌∙◌}
-use Rattle.std.proofs.lemmas.Bool.{cond-true}
+use Rattle.std.proofs.Common.{◌≡◌, ℕ, ◌<◌, Bool, List, length, refl, sym, ap, ◌∙◌}
 use Rattle.mat_sets.specs.Sets.{is_member}
 use Rattle.mat_laws.specs.declared.exchange.Exchange.{Exchange}
 use Rattle.mat_laws.specs.Exchanges.{row_of}
@@ -27,7 +26,3 @@ row_answers tests parts s test part x q row xe qe te pe re = record {
 
 pub asked_below : {n m : ℕ} {exchanges : ℕ → Exchanges} {among : List ℕ} {start : ℕ} {s : MoveSearch} → IsReaching n m exchanges among start s → s.head < length s.queue.items → element_asked s < n
 asked_below {n} {m} {exchanges} {among} {start} {s} r l = r.so_far.below (element_asked s) (is_member-get_or s.queue.items s.head (element_asked s) l refl)
-
--- a member of a part has no exchanges there
-pub member_row : (test : List ℕ → Bool) (part : List ℕ) (x : ℕ) (row : Exchange) → is_member x part ≡ true → row ≡ record { addable = false; with = [] } → row ≡ row_of test part x
-member_row test part x row h e = e ∙ sym (cond-true (is_member x part) _ _ h)

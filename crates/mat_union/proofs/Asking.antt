@@ -1,57 +1,50 @@
 -- The steps of a search that asks for exchanges: it begins, hears those of an element at one part after the other, and goes on to the next
 -- element of the queue. Whatever holds of the start and goes on along the known arcs holds of what they lead to.
-use Rattle.std.proofs.Common.{◌≡◌, ◌≢◌, ℕ, suc, ◌+◌, ◌*◌, ◌-◌, ◌<◌, Bool, true, false, not, ◌||◌, ◌&&◌, ◌⊎◌, eqb, List, [], ◌∷◌, ◌++◌, length, get_or, set, take, inl, inr, refl, sym, ap, ◌∙◌, subst, arith, length-append}
+use Rattle.std.proofs.Common.{◌≡◌, ◌≢◌, ℕ, suc, ◌+◌, ◌*◌, ◌-◌, ◌<◌, Bool, true, false, not, ◌||◌, ◌&&◌, ◌⊎◌, eqb, List, [], ◌∷◌, length, get_or, replicate, set, take, inl, inr, refl, sym, ap, ◌∙◌, subst, arith, length-append}
 use Rattle.std.proofs.Math.Nat.{suc-mul}
 use Rattle.std.proofs.Math.Numerals.{add-one}
-use Rattle.std.proofs.lemmas.Bool.{and_parts, both_ways, cases_Bool, cases_eq, cases_lt, eq-eqb, eqb-true, false≢true, or_cases, or_from, or_left, or_right}
-use Rattle.std.proofs.lemmas.List.{get_or-set_other, get_or-set_same, get_or_append_left, get_or_past, length-set, take-append-le}
-use Rattle.std.proofs.Math.Seq.{get_or-append_seam}
+use Rattle.std.proofs.lemmas.Bool.{and_parts, both_ways, cases_Bool, cases_eq, eq-eqb, eqb-true, false≢true, or_cases, or_from, or_left, or_right}
+use Rattle.std.proofs.lemmas.List.{get_or-set_other, get_or-set_same, length-replicate, length-set, take-append-le}
 use Rattle.mat_sets.specs.Search.{some_below}
 use Rattle.mat_sets.specs.Sets.{is_member, without_one}
-use Rattle.mat_sets.proofs.Members.{is_member-append, is_member-get_or, is_member-without_one}
+use Rattle.mat_sets.proofs.Members.{is_member-append, is_member-get_or, is_member-without_one, only_member}
 use Rattle.mat_sets.proofs.Steps.{is_member-take_more}
 use Rattle.mat_laws.specs.TightPaths.{Exchanges}
 use Rattle.mat_union.specs.Moves.{can_enter, can_push}
-use Rattle.mat_union.specs.MoveSearches.{left_over, row_of_table, AreTaken, IsReachingTo, IsSilent}
+use Rattle.mat_union.specs.MoveSearches.{left_over, AreTaken, IsReachingTo}
+use Rattle.mat_sets.specs.Rows.{row_at}
+use Rattle.mat_sets.proofs.Truths.{and_not_gives, and_not_none}
+use Rattle.mat_sets.proofs.Search.{some_below-zero}
+use Rattle.mat_union.proofs.EmptyParts.{part_at-empty}
 use Rattle.mat_union.proofs.Taking.{without-no_longer}
 
 more_below : (i : ℕ) (test : ℕ → Bool) → some_below (suc i) test ≡ (test i || some_below i test)
 unfolding some_below
 more_below i test = refl
 
-nothing_below : (test : ℕ → Bool) → some_below 0 test ≡ false
-unfolding some_below
-nothing_below test = refl
-
 -- ---- the beginning
 
 pub search_begins : (n m : ℕ) (exchanges : ℕ → Exchanges) (among unreached pushes queue : List ℕ) (table : List (List ℕ)) (start : ℕ) → start < n
-    → ((v : ℕ) → is_member v among ≡ true → v < n) → unreached ≡ without_one among start → queue ≡ start ∷ [] → pushes ≡ [] → IsSilent n table
+    → ((v : ℕ) → is_member v among ≡ true → v < n) → unreached ≡ without_one among start → queue ≡ start ∷ [] → pushes ≡ [] → table ≡ replicate n []
     → IsReachingTo n m exchanges among start 0 0 queue pushes unreached table
-search_begins n m exchanges among unreached pushes queue table start l small u q p t = rw (u, q, p) (record {
-  size = t.long;
+search_begins n m exchanges among unreached pushes queue table start l small u q p t = rw (u, q, p, t) (record {
+  size = length-replicate n [];
   told_some = omega arith;
   first = or_left (eqb start start) false (eq-eqb start start refl);
-  below = λ v h. subst (λ z. z < n) (sym (only v h)) l;
+  below = λ v h. subst (λ z. z < n) (sym (only_member v start h)) l;
   among_below = small;
   inside = λ v h. (and_parts (is_member v among) (not (eqb v start)) (sym (is_member-without_one v start among) ∙ h)).0;
-  reached = λ v h. or_left (eqb v start) (is_member v among) (eq-eqb v start (only v h));
-  left = λ v h o. or_left (eqb v start) false (gone (is_member v among) (eqb v start) h (sym (is_member-without_one v start among) ∙ o));
+  reached = λ v h. or_left (eqb v start) (is_member v among) (eq-eqb v start (only_member v start h));
+  left = λ v h o. or_left (eqb v start) false (and_not_gives (is_member v among) (eqb v start) h (sym (is_member-without_one v start among) ∙ o));
   told = λ w v h. absurd (false≢true h);
-  silent = λ w v h. t.empty w v;
+  silent = λ w v h. ap (is_member v) (part_at-empty n w);
   refused = λ w h. absurd (false≢true h);
   closed = λ w v h a. absurd (false≢true h);
-  pushed = λ v. sym (nothing_below (λ i. (exchanges i).trades v start));
-  none = nothing_below (λ i. (exchanges i).adds start);
-  least = λ test base step v h. ap test (only v h) ∙ base;
+  pushed = λ v. sym (some_below-zero (λ i. (exchanges i).trades v start));
+  none = some_below-zero (λ i. (exchanges i).adds start);
+  least = λ test base step v h. ap test (only_member v start h) ∙ base;
   fuel = (let s = without-no_longer among start in omega arith);
 })
-  where
-    only : (v : ℕ) → is_member v (start ∷ []) ≡ true → v ≡ start
-    only v h = elim (or_cases (eqb v start) false h) [ inl e ↦ eqb-true v start e | inr e ↦ absurd (false≢true e) ]
-
-    gone : (a e : Bool) → a ≡ true → (a && not e) ≡ false → e ≡ true
-    gone a e h o = grind arith
 
 -- ---- the exchanges at one more part
 
@@ -115,10 +108,10 @@ module _ {n m : ℕ} {exchanges : ℕ → Exchanges} {among : List ℕ} {start h
   told_is z = ap (λ xs. is_member z (take (suc head) xs)) t.behind ∙ ap (is_member z) (take-append-le (suc head) queue t.found (omega arith))
       ∙ ap (λ k. is_member z (take k queue)) (sym (add-one head)) ∙ is_member-take_more queue head z l
 
-  at_u : row_of_table later u ≡ pushes
+  at_u : row_at later u ≡ pushes
   at_u = get_or-set_same table u pushes [] u_small
 
-  elsewhere : (z : ℕ) → z ≢ u → row_of_table later z ≡ row_of_table table z
+  elsewhere : (z : ℕ) → z ≢ u → row_at later z ≡ row_at table z
   elsewhere z d = get_or-set_other table u z pushes [] d
 
   not_told : (z : ℕ) → is_member z (take (suc head) more) ≡ false → (is_member z (take head queue) ≡ false) × (z ≢ u)
@@ -134,13 +127,13 @@ module _ {n m : ℕ} {exchanges : ℕ → Exchanges} {among : List ℕ} {start h
   told_other z h d = elim (or_cases (is_member z (take head queue)) (eqb z u) (sym (told_is z) ∙ h)) [ inl a ↦ a | inr e ↦ absurd (d (eqb-true z u e)) ]
 
   -- the arcs that were known are still known
-  arcs_stay : (z v : ℕ) → is_member v (row_of_table table z) ≡ true → is_member v (row_of_table later z) ≡ true
+  arcs_stay : (z v : ℕ) → is_member v (row_at table z) ≡ true → is_member v (row_at later z) ≡ true
   arcs_stay z v h = elim (cases_eq z u) [
-    | inl e ↦ subst (λ y. is_member v (row_of_table later y) ≡ true) (sym e) (ap (is_member v) at_u ∙ s.pushed v ∙ known (subst (λ y. is_member v (row_of_table table y) ≡ true) e h))
+    | inl e ↦ subst (λ y. is_member v (row_at later y) ≡ true) (sym e) (ap (is_member v) at_u ∙ s.pushed v ∙ known (subst (λ y. is_member v (row_at table y) ≡ true) e h))
     | inr d ↦ ap (is_member v) (elsewhere z d) ∙ h
   ]
     where
-      known : is_member v (row_of_table table u) ≡ true → can_push m exchanges u v ≡ true
+      known : is_member v (row_at table u) ≡ true → can_push m exchanges u v ≡ true
       known k = elim (cases_Bool (is_member u (take head queue))) [
         | inl a ↦ sym (s.told u v a) ∙ k
         | inr o ↦ absurd (both_ways _ (s.silent u v o) k)
@@ -161,7 +154,7 @@ module _ {n m : ℕ} {exchanges : ℕ → Exchanges} {among : List ℕ} {start h
       | inr a ↦ or_left (is_member v queue) _ (s.left v h a)
     ];
     told = λ z v h. elim (cases_eq z u) [
-      | inl d ↦ subst (λ y. is_member v (row_of_table later y) ≡ can_push m exchanges y v) (sym d) (ap (is_member v) at_u ∙ s.pushed v)
+      | inl d ↦ subst (λ y. is_member v (row_at later y) ≡ can_push m exchanges y v) (sym d) (ap (is_member v) at_u ∙ s.pushed v)
       | inr d ↦ ap (is_member v) (elsewhere z d) ∙ s.told z v (told_other z h d)
     ];
     silent = λ z v h. (let o = not_told z h in ap (is_member v) (elsewhere z o.1) ∙ s.silent z v o.0);
@@ -170,11 +163,11 @@ module _ {n m : ℕ} {exchanges : ℕ → Exchanges} {among : List ℕ} {start h
       | inr d ↦ s.refused z (told_other z h d)
     ];
     closed = λ z v h a. t.rest_is v ∙ elim (cases_eq z u) [
-      | inl d ↦ hidden (is_member v unreached) (is_member v pushes) (s.pushed v ∙ subst (λ y. can_push m exchanges y v ≡ true) d a)
+      | inl d ↦ and_not_none (is_member v unreached) (is_member v pushes) (s.pushed v ∙ subst (λ y. can_push m exchanges y v ≡ true) d a)
       | inr d ↦ missing (is_member v unreached) (is_member v pushes) (s.closed z v (told_other z h d) a)
     ];
-    pushed = λ v. sym (nothing_below (λ i. (exchanges i).trades v (get_or more (suc head) 0)));
-    none = nothing_below (λ i. (exchanges i).adds (get_or more (suc head) 0));
+    pushed = λ v. sym (some_below-zero (λ i. (exchanges i).trades v (get_or more (suc head) 0)));
+    none = some_below-zero (λ i. (exchanges i).adds (get_or more (suc head) 0));
     least = λ test base step v h.
         (let old : (y : ℕ) → is_member y queue ≡ true → test y ≡ true = s.least test base (λ z y k a. step z y k (arcs_stay z y a)) in
         elim (more_cases v h) [ inl a ↦ old v a | inr b ↦ step u v (old u u_in) (ap (is_member v) at_u ∙ b.1) ]);
@@ -186,9 +179,6 @@ module _ {n m : ℕ} {exchanges : ℕ → Exchanges} {among : List ℕ} {start h
 
       taken : (a p : Bool) → a ≡ true → (a && not p) ≡ false → (a && p) ≡ true
       taken a p h o = grind arith
-
-      hidden : (a p : Bool) → p ≡ true → (a && not p) ≡ false
-      hidden a p h = grind arith
 
       missing : (a p : Bool) → a ≡ false → (a && not p) ≡ false
       missing a p h = grind arith
@@ -211,20 +201,3 @@ closed_left e e' bound head next count count' part fresh a b c n f l last = rw (
   where
     fewer : (x y : ℕ) → y ≡ suc x → suc (x * count + (count - 0)) < suc (y * count + (count - part))
     fewer x y g = rw g (omega (arith, suc-mul x count))
-
--- ---- a table with no arcs
-
-pub silent_none : IsSilent 0 []
-silent_none = record { long = refl; empty = λ u v. refl }
-
-pub silent_more : (n : ℕ) (table : List (List ℕ)) (row : List ℕ) → IsSilent n table → row ≡ [] → IsSilent (n + 1) (table ++ row ∷ [])
-silent_more n table row s e = rw e (record {
-  long = (let l = length-append table ([] ∷ []) in let k = s.long in omega arith);
-  empty = λ u v. elim (cases_lt u (length table)) [
-    | inl l ↦ ap (is_member v) (get_or_append_left table ([] ∷ []) [] u l) ∙ s.empty u v
-    | inr g ↦ elim (cases_eq u (length table)) [
-      | inl d ↦ ap (λ k. is_member v (get_or (table ++ [] ∷ []) k [])) d ∙ ap (is_member v) (get_or-append_seam table [] [] [])
-      | inr d ↦ ap (is_member v) (get_or_past (table ++ [] ∷ []) u [] (let l = length-append table ([] ∷ []) in omega arith))
-    ]
-  ];
-})

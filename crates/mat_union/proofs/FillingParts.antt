@@ -11,10 +11,11 @@ use Rattle.mat_sets.proofs.Families.{IsRising-family_union}
 use Rattle.mat_sets.proofs.Ground.{below_member, is_member-all_below, IsRising-all_below, IsSet-nil}
 use Rattle.mat_sets.proofs.Members.{is_member-minus, same_members, IsRising-minus, IsRising-nil}
 use Rattle.mat_sets.proofs.Search.{is_member-those_below}
+use Rattle.mat_sets.proofs.Truths.{and_all}
 use Rattle.mat_laws.proofs.RankLaws.{rank-maximal}
 use Rattle.mat_union.specs.FilledParts.{IsFilled}
 use Rattle.mat_union.specs.GrownParts.{AreDone, AreFresh, AreGrowing}
-use Rattle.mat_union.specs.PartLists.{parts_set, ranks_reached}
+use Rattle.mat_union.specs.PartListLaws.{parts_set, ranks_reached}
 use Rattle.mat_union.specs.Unions.{part_at, AreMatroids, AreParts}
 
 -- with nothing dead
@@ -27,12 +28,8 @@ module _ {n : ℕ} {tests : List (List ℕ → Bool)} (laws : AreMatroids n test
         (let law = laws.each i (let o = are.one_each in omega arith) in
         rank-maximal law [] [] IsRising-nil (record { passes = law.empty; inside = record { inside = λ x h. h }; full = λ x h o. absurd (false≢true h) })
         ∙ sym (ap length (apart_from (part_at parts i) [] (λ x h. refl))));
-    others = λ v. is_member-all_below v n ∙ whole (ltb v n);
+    others = λ v. is_member-all_below v n ∙ sym (and_all (ltb v n));
   })
-    where
-      whole : (b : Bool) → b ≡ (b && not false)
-      whole true = refl
-      whole false = refl
 
 pub start_done : (n : ℕ) (parts : List (List ℕ)) (dead : List ℕ) → dead ≡ [] → AreDone n (λ v. is_member v (family_union parts)) parts dead
 start_done n parts dead e = rw e (record {

@@ -16,9 +16,10 @@ use Rattle.mat_sets.proofs.Search.{some_below_gives}
 use Rattle.mat_laws.specs.TightPaths.{Exchanges}
 use Rattle.mat_union.specs.Unions.{part_at, AreMatroids, AreParts}
 use Rattle.mat_union.specs.Moves.{can_enter, can_push, element_at, elements, exchanges_with, place_at}
-use Rattle.mat_union.specs.MoveSearches.{element_asked, row_of_table, AreFoundMoves, AreMovesAt, IsReaching}
-use Rattle.mat_union.specs.MoveWalks.{element_of_list}
-use Rattle.mat_union.specs.PartLists.{part_set}
+use Rattle.mat_union.specs.MoveSearches.{element_asked, AreFoundMoves, AreMovesAt, IsReaching}
+use Rattle.mat_sets.specs.Rows.{row_at}
+use Rattle.mat_union.specs.MoveWalkLaws.{element_of_list}
+use Rattle.mat_union.specs.PartListLaws.{part_set}
 use Rattle.mat_union.specs.UnionLaws.{chordless_moves, trade_gives}
 use Rattle.mat_union.specs.declared.move_search.MoveSearch.{MoveSearch}
 use Rattle.mat_union.specs.declared.moves.Move.{Move}
@@ -40,7 +41,7 @@ module _ {n : ℕ} {tests : List (List ℕ → Bool)} {parts : List (List ℕ)} 
   ex = exchanges_with tests parts
 
   abbrev known : ℕ → ℕ → Bool
-  known u v = is_member v (row_of_table s.table.items u)
+  known u v = is_member v (row_at s.table u)
 
   known_told : (u v : ℕ) → known u v ≡ true → is_member u (take s.head s.queue.items) ≡ true
   known_told u v h = elim (cases_Bool (is_member u (take s.head s.queue.items))) [
@@ -133,19 +134,15 @@ module _ {n : ℕ} {tests : List (List ℕ → Bool)} {parts : List (List ℕ)} 
               | inr d ↦ ap (λ x. is_member x s.queue.items) (is ∙ element i (omega arith)) ∙ is_member-taken s.head s.queue.items (get_or walk i 0) (told i (omega arith))
             ]
 
-  abbrev known_in : List (List ℕ) → ℕ → ℕ → Bool
-  known_in table u v = is_member v (row_of_table table u)
-
   -- what a search for a walk along the arcs that are known tells
-  pub walk_shows : (table : List (List ℕ)) → table ≡ s.table.items → (goal : ℕ) → goal ≡ element_asked s → (found : WalkSearch) (walk : Vec ℕ Global) → found ≡ Walk walk
-      → IsWalkSearch (length table) (known_in table) (λ v. eqb v s.start) (λ v. eqb v goal) found
+  pub walk_shows : (goal : ℕ) → goal ≡ element_asked s → (found : WalkSearch) (walk : Vec ℕ Global) → found ≡ Walk walk
+      → IsWalkSearch (length s.table) known (λ v. eqb v s.start) (λ v. eqb v goal) found
       → (vertices : List ℕ) → vertices ≡ walk.items → (moves : List Move) → AreMovesAt parts vertices s.part moves → is_member start (family_union parts) ≡ false → AreFoundMoves tests parts s moves
-  walk_shows table e goal g found walk is told vertices f moves at fresh = moves_are_found (length table) goal g walk.items
-      (subst (λ t. IsShortestWalk (length table) (known_in t) (λ v. eqb v s.start) (λ v. eqb v goal) walk.items) e
-      (subst (IsWalkSearch (length table) (known_in table) (λ v. eqb v s.start) (λ v. eqb v goal)) is told)) moves (subst (λ l. AreMovesAt parts l s.part moves) f at) fresh
+  walk_shows goal g found walk is told vertices f moves at fresh = moves_are_found (length s.table) goal g walk.items
+      (subst (IsWalkSearch (length s.table) known (λ v. eqb v s.start) (λ v. eqb v goal)) is told) moves (subst (λ l. AreMovesAt parts l s.part moves) f at) fresh
 
-  pub reach_shows : (table : List (List ℕ)) → table ≡ s.table.items → (goal : ℕ) → goal ≡ element_asked s → (found : WalkSearch) (reach : List ℕ) → found ≡ Reached reach
-      → IsWalkSearch (length table) (known_in table) (λ v. eqb v s.start) (λ v. eqb v goal) found → ⊥
-  reach_shows table e goal g found reach is told =
-      let r = subst (IsWalkSearch (length table) (known_in table) (λ v. eqb v s.start) (λ v. eqb v goal)) is told in
-      goal_is_reached (length table) (ap length e ∙ reaching.so_far.size) goal g reach (subst (λ t. IsReachedSet (length table) (known_in t) (λ v. eqb v s.start) reach) e r.0) r.1
+  pub reach_shows : (goal : ℕ) → goal ≡ element_asked s → (found : WalkSearch) (reach : List ℕ) → found ≡ Reached reach
+      → IsWalkSearch (length s.table) known (λ v. eqb v s.start) (λ v. eqb v goal) found → ⊥
+  reach_shows goal g found reach is told =
+      let r = subst (IsWalkSearch (length s.table) known (λ v. eqb v s.start) (λ v. eqb v goal)) is told in
+      goal_is_reached (length s.table) reaching.so_far.size goal g reach r.0 r.1

@@ -1,5 +1,5 @@
 -- Steps of the loops that read rows and parts.
-use Rattle.std.proofs.Common.{◌≡◌, ℕ, ◌+◌, ◌<◌, ◌≤◌, Bool, true, false, ◌||◌, eqb, List, [], ◌∷◌, ◌++◌, length, get_or, take, Option, None, Some, refl, sym, ap, ◌∙◌, subst, inl, inr, arith, length-append}
+use Rattle.std.proofs.Common.{◌≡◌, ℕ, ◌+◌, ◌<◌, ◌≤◌, Bool, true, false, ◌||◌, eqb, List, [], ◌∷◌, ◌++◌, length, get_or, take, Option, None, Some, refl, sym, ap, ◌∙◌, inl, inr, arith, length-append}
 use Rattle.std.proofs.Math.Numerals.{add-one}
 use Rattle.std.proofs.lemmas.Bool.{cases_eq, both_ways, false_from_ne_true, or_from}
 use Rattle.std.proofs.lemmas.List.{get_or_default, get_or_append_left}
@@ -14,7 +14,7 @@ use Rattle.mat_laws.specs.declared.exchange.Exchange.{Exchange}
 use Rattle.mat_laws.specs.TightPaths.{row_in}
 use Rattle.mat_union.specs.Unions.{part_at}
 use Rattle.mat_union.specs.Moves.{can_push, exchanges_of}
-use Rattle.mat_union.specs.MoveGraphs.{AreLong, IsPushTable}
+use Rattle.mat_union.specs.MoveGraphs.{IsPushTable}
 
 some_below-more : (i : ℕ) (test : ℕ → Bool) → some_below (i + 1) test ≡ (test i || some_below i test)
 unfolding some_below
@@ -34,9 +34,6 @@ adds_at rows row x i u b at l is h = ap (λ r. (row_in r u).addable) (sym (at �
 pub trades_at : (rows : List (List Exchange)) (row : List Exchange) (x : Exchange) (i u v : ℕ) → row ≡ get_or rows i row → i < length rows → x ≡ row_in row u
     → (exchanges_of rows i).trades v u ≡ is_member v x.with
 trades_at rows row x i u v at l is = ap (λ r. is_member v (row_in r u).with) (sym (at ∙ get_or_default rows i row [] l)) ∙ ap (λ e. is_member v e.with) (sym is)
-
-pub long_at : (rows : List (List Exchange)) (row : List Exchange) (i u : ℕ) → AreLong u rows → row ≡ get_or rows i row → i < length rows → u < length row
-long_at rows row i u long at l = subst (λ r. u < length r) (sym (at ∙ get_or_default rows i row [] l)) (long.long i l)
 
 pub stands_at : (parts : List (List ℕ)) (i v : ℕ) (part : List ℕ) → i < length parts → part ≡ part_at parts i → true ≡ is_member v part → true ≡ is_member v (family_union parts)
 stands_at parts i v part l at h = sym (family_union-from v parts i l (ap (is_member v) (sym at) ∙ sym h))

@@ -1,13 +1,14 @@
 -- Growing parts. A set that each part spans is closed: from its elements nothing can be added, nor can they take the place of another; so a
 -- search may leave it out. Moves of other elements leave it spanned, and what a stuck search reached is spanned with it.
 use Rattle.std.proofs.Common.{◌≡◌, ◌⊎◌, ℕ, ◌<◌, ◌≤◌, Bool, true, false, not, ◌||◌, ◌&&◌, eqb, ltb, List, length, take, inl, inr, refl, sym, ap, ◌∙◌, arith}
-use Rattle.std.proofs.lemmas.Bool.{and_from, and_parts, both_ways, eq-eqb, eqb-true, false_from_ne_true, lt-ltb, not-true, not_from_false, or_cases, or_left, or_right}
+use Rattle.std.proofs.lemmas.Bool.{and_from, and_parts, both_ways, eq-eqb, eqb-true, false_from_ne_true, lt-ltb, not-true, not_from_false, or_cases, or_left, or_right, or_parts}
 use Rattle.std.proofs.lemmas.List.{take_all}
 use Rattle.mat_sets.specs.Sets.{is_member, IsRising, IsSet, intersection, with_one, without_one}
 use Rattle.mat_sets.proofs.Cardinalities.{length-with_one}
 use Rattle.mat_sets.proofs.Ground.{below_member}
 use Rattle.mat_sets.proofs.Members.{same_members, is_member-intersection, is_member-with_one, is_member-without_one, IsRising-intersection, IsRising-with_one}
 use Rattle.mat_sets.proofs.Search.{some_below_from}
+use Rattle.mat_sets.proofs.Truths.{and_neither}
 use Rattle.mat_laws.specs.Matroids.{IsMatroid}
 use Rattle.mat_laws.specs.Ranks.{rank}
 use Rattle.mat_laws.specs.TightPaths.{Exchanges}
@@ -18,7 +19,7 @@ use Rattle.mat_union.specs.GrownParts.{AreGrowing}
 use Rattle.mat_union.specs.Moves.{can_push, exchanges_with}
 use Rattle.mat_union.specs.MoveSearches.{IsReaching}
 use Rattle.mat_union.specs.Placings.{ArePlaced}
-use Rattle.mat_union.specs.PartLists.{law_at, part_set}
+use Rattle.mat_union.specs.PartListLaws.{law_at, part_set}
 use Rattle.mat_union.specs.declared.move_search.MoveSearch.{MoveSearch}
 
 -- ---- a set that an independent set spans
@@ -116,10 +117,7 @@ module _ {n : ℕ} {tests : List (List ℕ → Bool)} {parts : List (List ℕ)} 
       cases_dead v h = or_cases (is_member v dead) (is_member v s.queue.items) (sym (dead_is v) ∙ h)
 
       not_dead : (v : ℕ) → is_member v dead' ≡ false → (is_member v dead ≡ false) × (is_member v s.queue.items ≡ false)
-      not_dead v h = neither (is_member v dead) (is_member v s.queue.items) (sym (dead_is v) ∙ h)
-        where
-          neither : (a b : Bool) → (a || b) ≡ false → (a ≡ false) × (b ≡ false)
-          neither a b e = grind arith
+      not_dead v h = or_parts (is_member v dead) (is_member v s.queue.items) (sym (dead_is v) ∙ h)
 
       no_addition : (i u : ℕ) → i < length parts → is_member u (part_at parts i) ≡ false → is_member u dead' ≡ true → test_at tests i (with_one (part_at parts i) u) ≡ false
       no_addition i u l out h = elim (cases_dead u h) [
@@ -142,10 +140,5 @@ module _ {n : ℕ} {tests : List (List ℕ → Bool)} {parts : List (List ℕ)} 
         are = g.are;
         set = below';
         spans = λ i l. rank-in_reach (law_at laws g.are i l) (part_at parts i) dead' (g.are.passes i l) rises (λ x o h. no_addition i x l o h) (λ x y o h y_in y_out. no_exchange i x y l o h y_in y_out);
-        others = λ v. alive_is v ∙ ap (λ b. b && not (is_member v s.queue.items)) (g.others v) ∙ both (ltb v n) (is_member v dead) (is_member v s.queue.items) ∙ ap (λ b. ltb v n && not b) (sym (dead_is v));
+        others = λ v. alive_is v ∙ ap (λ b. b && not (is_member v s.queue.items)) (g.others v) ∙ and_neither (ltb v n) (is_member v dead) (is_member v s.queue.items) ∙ ap (λ b. ltb v n && not b) (sym (dead_is v));
       }
-        where
-          both : (a b c : Bool) → ((a && not b) && not c) ≡ (a && not (b || c))
-          both true true c = refl
-          both true false c = refl
-          both false b c = refl

@@ -1,12 +1,13 @@
 -- The loop that adds elements one after the other: what is done is what was done before and those that came; the others are still new.
-use Rattle.std.proofs.Common.{◌≡◌, ℕ, ◌+◌, ◌<◌, ◌≤◌, Bool, true, false, not, ◌||◌, ◌&&◌, eqb, ltb, List, length, get_or, take, refl, sym, ap, ◌∙◌, arith}
-use Rattle.std.proofs.lemmas.Bool.{and_from, both_ways, false_from_ne_true, lt-ltb, not_from_false, or_from, or_left, or_right}
+use Rattle.std.proofs.Common.{◌≡◌, ℕ, ◌+◌, ◌<◌, ◌≤◌, Bool, true, false, not, ◌||◌, eqb, ltb, List, length, get_or, take, refl, sym, ap, ◌∙◌}
+use Rattle.std.proofs.lemmas.Bool.{and_from, both_ways, false_from_ne_true, lt-ltb, not_from_false, or_from, or_left, or_right, or_parts}
 use Rattle.std.proofs.lemmas.List.{take_all}
 use Rattle.mat_sets.specs.Families.{family_union}
 use Rattle.mat_sets.specs.Sets.{is_member, IsRising, IsSubset}
 use Rattle.mat_sets.proofs.Members.{is_member-get_or}
 use Rattle.mat_sets.proofs.Steps.{is_member-take_more, is_member-take_next}
 use Rattle.mat_sets.proofs.Subsets.{IsSubset-trans}
+use Rattle.mat_sets.proofs.Truths.{and_not_gives, or_none, or_assoc}
 use Rattle.mat_union.specs.GrownParts.{AreDone, AreFresh, AreGrowing}
 
 pub done_ext : {n : ℕ} {parts : List (List ℕ)} {dead : List ℕ} (done other : ℕ → Bool) → ((v : ℕ) → done v ≡ other v) → AreDone n done parts dead → AreDone n other parts dead
@@ -22,13 +23,9 @@ pub record AreComing (n : ℕ) (elements : List ℕ) (i : ℕ) (start : List (Li
   pub holds : IsSubset (family_union start) (family_union parts)
   pub new : (x : ℕ) → is_member x elements ≡ true → is_member x (take i elements) ≡ false → (is_member x (family_union parts) ≡ false) × (is_member x dead ≡ false)
 
-or_none : (a : Bool) → a ≡ (a || false)
-or_none true = refl
-or_none false = refl
-
 pub coming_none : {n : ℕ} {elements : List ℕ} {parts : List (List ℕ)} {dead : List ℕ} → AreFresh n elements parts dead → AreComing n elements 0 parts dead parts dead
 coming_none {n} {elements} f = record {
-  done = λ done d. done_ext done (λ v. done v || is_member v (take 0 elements)) (λ v. or_none (done v)) d;
+  done = λ done d. done_ext done (λ v. done v || is_member v (take 0 elements)) (λ v. sym (or_none (done v))) d;
   holds = record { inside = λ x h. h };
   new = λ x h o. (f.new x h, f.alive x h);
 }
@@ -53,20 +50,14 @@ module _ {n : ℕ} {elements : List ℕ} {i : ℕ} {start : List (List ℕ)} {st
       }) in
       record {
         done = λ done d. done_ext (λ v. (done v || is_member v (take i elements)) || eqb v x) (λ v. done v || is_member v (take (i + 1) elements))
-            (λ v. turn (done v) (is_member v (take i elements)) (eqb v x) ∙ ap (λ b. done v || b) (sym (is_member-take_more elements i v l))) (more (λ v. done v || is_member v (take i elements)) (c.done done d));
+            (λ v. sym (or_assoc (done v) (is_member v (take i elements)) (eqb v x)) ∙ ap (λ b. done v || b) (sym (is_member-take_more elements i v l))) (more (λ v. done v || is_member v (take i elements)) (c.done done d));
         holds = IsSubset-trans (family_union start) (family_union parts) (family_union parts') c.holds holds;
         new = λ z h o.
-            (let apart = neither (is_member z (take i elements)) (eqb z x) (sym (is_member-take_more elements i z l) ∙ o) in
+            (let apart = or_parts (is_member z (take i elements)) (eqb z x) (sym (is_member-take_more elements i z l) ∙ o) in
             let old = c.new z h apart.0 in
             let not_own : ((is_member z (family_union parts) || is_member z dead) || eqb z x) ≡ false = or_from _ (eqb z x) (or_from (is_member z (family_union parts)) (is_member z dead) old.0 old.1) apart.1 in
             (false_from_ne_true _ (λ k. both_ways _ not_own (own.placed z k)), false_from_ne_true _ (λ k. both_ways _ not_own (own.refused z k))));
       }
-    where
-      turn : (a b c : Bool) → ((a || b) || c) ≡ (a || (b || c))
-      turn a b c = grind arith
-
-      neither : (a b : Bool) → (a || b) ≡ false → (a ≡ false) × (b ≡ false)
-      neither a b e = grind arith
 
 -- what is not dead is alive
 pub lives : {n : ℕ} {tests : List (List ℕ → Bool)} {parts : List (List ℕ)} {dead alive : List ℕ} → AreGrowing n tests parts dead alive → (v : ℕ) → v < n → is_member v dead ≡ false → is_member v alive ≡ true
@@ -74,10 +65,7 @@ lives {n} {tests} {parts} {dead} g v l o = g.others v ∙ and_from (ltb v n) (no
 
 -- what is not alive is dead
 pub dies : {n : ℕ} {tests : List (List ℕ → Bool)} {parts : List (List ℕ)} {dead alive : List ℕ} → AreGrowing n tests parts dead alive → (v : ℕ) → v < n → is_member v alive ≡ false → is_member v dead ≡ true
-dies {n} {tests} {parts} {dead} g v l o = gone (ltb v n) (is_member v dead) (lt-ltb v n l) (sym (g.others v) ∙ o)
-  where
-    gone : (a d : Bool) → a ≡ true → (a && not d) ≡ false → d ≡ true
-    gone a d e h = grind arith
+dies {n} {tests} {parts} {dead} g v l o = and_not_gives (ltb v n) (is_member v dead) (lt-ltb v n l) (sym (g.others v) ∙ o)
 
 pub coming_end : {n : ℕ} {elements : List ℕ} {i : ℕ} {start : List (List ℕ)} {start_dead : List ℕ} {parts : List (List ℕ)} {dead : List ℕ} → AreComing n elements i start start_dead parts dead → length elements ≤ i
     → (done : ℕ → Bool) → AreDone n done start start_dead → AreDone n (λ v. done v || is_member v elements) parts dead

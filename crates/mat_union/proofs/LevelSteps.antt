@@ -17,12 +17,12 @@ use Rattle.mat_sets.proofs.Ground.{below_member}
 use Rattle.mat_sets.proofs.Members.{same_members, is_member-intersection, is_member-minus, IsRising-intersection, IsRising-minus}
 use Rattle.mat_sets.proofs.Search.{is_member-those_below, IsSet-those_below, length-those_below_less}
 use Rattle.mat_sets.proofs.Subsets.{length-subset}
-use Rattle.mat_sets.proofs.WeightOrder.{below_from, below_gives, not_below_from, not_below_gives, pairs, same_from, same_gives}
+use Rattle.mat_sets.proofs.WeightOrder.{below_from, below_gives, not_below_from, not_below_gives, pairs, same_from, same_gives, at_most_both}
 use Rattle.mat_union.specs.GrownParts.{AreDone, AreFresh, AreGrowing}
 use Rattle.mat_union.specs.RightUnions.{heavy, level_at, IsLevelCut, IsRightUnion}
 use Rattle.mat_union.specs.Unions.{AreMatroids, AreParts}
 use Rattle.mat_union.specs.WeightLevels.{is_left, IsNextWeight}
-use Rattle.mat_union.specs.PartLists.{cut_bounds, parts_set, ranks_reached}
+use Rattle.mat_union.specs.PartListLaws.{cut_bounds, parts_set, ranks_reached}
 use Rattle.mat_union.specs.declared.best.Level.{Level}
 
 -- whether the level of v came
@@ -183,7 +183,7 @@ module _ {n : ℕ} {tests : List (List ℕ → Bool)} {w : List Weight} {last : 
         | inl a ↦ (
           length levels,
           (let s = size in omega arith),
-          ap (λ b. b.at) at_end ∙ at ∙ same t (weight_at w x) (not_below_gives (weight_at w x) t h) (next.2 x l a),
+          ap (λ b. b.at) at_end ∙ at ∙ at_most_both t (weight_at w x) (not_below_gives (weight_at w x) t h) (next.2 x l a),
         )
         | inr a ↦ (let j = so.all x l a in (j.0, (let s = size in let k = j.1 in omega arith), ap (λ b. b.at) (before j.0 j.1) ∙ j.2))
       ];
@@ -191,9 +191,6 @@ module _ {n : ℕ} {tests : List (List ℕ → Bool)} {w : List Weight} {last : 
           (λ e. two v.at t v.cut dead at cut (cut_of_level laws g w t d));
     }
       where
-        same : (a b : Weight) → a ≼ b → b ≼ a → a ≡ b
-        same a b h k = omega (arith, ints, pairs)
-
         two : (a b : Weight) (x y : List ℕ) → a ≡ b → x ≡ y → IsLevelCut n tests w parts' b y → IsLevelCut n tests w parts' a x
         two a b x y e f h = rw (e, f) h
 

@@ -12,7 +12,7 @@ use Rattle.mat_sets.proofs.Ground.{below_member}
 use Rattle.mat_sets.proofs.Members.{filter_same_at}
 use Rattle.mat_sets.proofs.Search.{is_member-those_below, IsSet-those_below}
 use Rattle.mat_union.specs.Unions.{AreMatroids, AreParts}
-use Rattle.mat_union.specs.PartLists.{cut_bounds, parts_set}
+use Rattle.mat_union.specs.PartListLaws.{cut_bounds, parts_set}
 use Rattle.mat_union.specs.RightUnions.{heavy, level_at, IsBestUnion, IsRightUnion}
 use Rattle.mat_union.specs.declared.best.Level.{Level}
 use Rattle.mat_union.proofs.Dominated.{dominated, lightest_of, weighs}

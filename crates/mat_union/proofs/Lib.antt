@@ -24,7 +24,6 @@ pub mod AskedRows
 pub mod StuckParts
 pub mod FillingParts
 pub mod PartsOfSets
-pub mod KeptRows
 pub mod SearchEnds
 pub mod AddedElements
 pub mod UnionRuns

@@ -8,6 +8,7 @@ use Rattle.mat_sets.specs.Sets.{all_below, is_member, minus, union, with_one, wi
 use Rattle.mat_sets.proofs.Members.{same_members, is_member-minus, is_member-union, is_member-with_one, is_member-without_one, IsRising-minus, IsRising-union, IsRising-with_one, IsRising-without_one}
 use Rattle.mat_sets.proofs.ListParts.{is_member-push}
 use Rattle.mat_sets.proofs.Ground.{all_below-more, all_below-none}
+use Rattle.mat_sets.proofs.Truths.{and_neither}
 use Rattle.mat_union.specs.Moves.{elements, entering, no_move}
 use Rattle.mat_union.specs.declared.moves.Move.{Move}
 
@@ -20,17 +21,12 @@ without-more part set moves i r l e =
     ap (λ s. without_one s x) e
     ∙ same_members _ _ (IsRising-without_one _ x (IsRising-minus part _ r)) (IsRising-minus part _ r) (λ k.
     is_member-without_one k x (minus part (elements (take i moves))) ∙ ap (λ b. b && not (eqb k x)) (is_member-minus k part (elements (take i moves)))
-    ∙ both (is_member k part) (is_member k (elements (take i moves))) (eqb k x)
+    ∙ and_neither (is_member k part) (is_member k (elements (take i moves))) (eqb k x)
     ∙ ap (λ b. is_member k part && not b) (sym (is_member-push k x (elements (take i moves))) ∙ ap (is_member k) (sym (elements-more moves i l)))
     ∙ sym (is_member-minus k part (elements (take (i + 1) moves))))
   where
     x : ℕ
     x = (get_or moves i no_move).element
-
-    both : (a b c : Bool) → ((a && not b) && not c) ≡ (a && not (b || c))
-    both true true c = refl
-    both true false c = refl
-    both false b c = refl
 
 entering-more : (moves : List Move) (q i : ℕ) → i < length moves
     → entering (take (i + 1) moves) q ≡ entering (take i moves) q ++ map (λ v. v.element) (cond (eqb (get_or moves i no_move).part q) (get_or moves i no_move ∷ []) [])

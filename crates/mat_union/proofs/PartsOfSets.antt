@@ -3,7 +3,7 @@ use Rattle.std.proofs.Common.{None, Some, Option, map, ◌≡◌, ℕ, ◌+◌, 
 use Rattle.std.specs.Option.{is_some}
 use Rattle.std.specs.Prelude.{MatchOption}
 use Rattle.std.proofs.Math.Seq.{get_or-append_seam}
-use Rattle.std.proofs.lemmas.Bool.{and_parts, both_ways, cases_eq, eq-eqb, eqb-true, ne_eqb, false_from_ne_true, false≢true, not-true, or_cases}
+use Rattle.std.proofs.lemmas.Bool.{and_parts, both_ways, cases_eq, eqb-true, false_from_ne_true, false≢true, not-true, or_cases}
 use Rattle.std.proofs.lemmas.List.{get_or_append_left, take_all}
 use Rattle.mat_sets.specs.Families.{family_union}
 use Rattle.mat_sets.specs.Sets.{is_member, AllBelow, IsRising, IsSubset, minus, union, with_one}
@@ -14,7 +14,7 @@ use Rattle.mat_sets.proofs.Subsets.{subsets_equal, IsSubset-refl}
 use Rattle.mat_sets.proofs.Ground.{AllBelow-subset}
 use Rattle.mat_laws.specs.Matroids.{IsMaximal}
 use Rattle.mat_union.specs.GrownParts.{AreKeptParts}
-use Rattle.mat_union.specs.PartLists.{parts_pass, AreDisjoint-index}
+use Rattle.mat_union.specs.PartListLaws.{parts_pass, AreDisjoint-index}
 use Rattle.mat_union.specs.UnionLaws.{union_laws}
 use Rattle.mat_union.specs.Unions.{part_at, test_at, union_test, AreMatroids, AreParts}
 
@@ -96,16 +96,6 @@ module _ {tests : List (List ℕ → Bool)} {set : List ℕ} {i : ℕ} {parts : 
   taken_inside = record { inside = λ x h. (let w = family_union-gives x parts h in let l = w.1 in t.inside w.0 x (let a = t.long in omega arith) w.2) }
 
 -- ---- one element comes
-
--- it is there already
-pub stands_brought : (parts : List (List ℕ)) (x : ℕ) → is_member x (family_union parts) ≡ true → (v : ℕ) → is_member v (family_union parts) ≡ (eqb v x || is_member v (family_union parts))
-stands_brought parts x h v = elim (cases_eq v x) [
-  | inl e ↦ ap (λ z. is_member z (family_union parts)) e ∙ h ∙ sym (first (eqb v x) _ (eq-eqb v x e))
-  | inr d ↦ sym (ap (λ b. b || is_member v (family_union parts)) (ne_eqb v x d))
-]
-  where
-    first : (a b : Bool) → a ≡ true → (a || b) ≡ true
-    first a b e = rw e refl
 
 -- ---- the members of a set one after the other
 

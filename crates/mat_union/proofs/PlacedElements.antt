@@ -8,9 +8,10 @@ use Rattle.mat_sets.specs.Families.{family_union}
 use Rattle.mat_sets.specs.Sets.{all_below, is_member, minus, with_one}
 use Rattle.mat_sets.proofs.Ground.{get_or-all_below, length-all_below}
 use Rattle.mat_sets.proofs.Members.{is_member-get_or, is_member-minus, is_member-union}
+use Rattle.mat_union.specs.EndedSearches.{IsEnded}
 use Rattle.mat_union.specs.Moves.{elements, entering, exchanges_with, moved, AreMoved}
 use Rattle.mat_union.specs.MoveSearches.{AreFoundMoves, IsQuestion, IsReaching}
-use Rattle.mat_union.specs.MoveWalks.{element_of_list, entering_gives}
+use Rattle.mat_union.specs.MoveWalkLaws.{element_of_list, entering_gives}
 use Rattle.mat_union.specs.Placings.{ArePlaced, IsStuckSearch}
 use Rattle.mat_union.specs.Unions.{part_at, AreMatroids, AreParts}
 use Rattle.mat_union.specs.declared.move_search.MoveSearch.{MoveSearch}
@@ -65,17 +66,17 @@ module _ {n : ℕ} {tests : List (List ℕ → Bool)} {parts : List (List ℕ)} 
 -- ---- what a search tells of the moves that it found
 
 -- at the same parts by another name
-pub moves_told : (slice parts : List (List ℕ)) → slice ≡ parts → (s : MoveSearch) (found : Option (Vec Move Global))
-    → ((n : ℕ) (tests : List (List ℕ → Bool)) (among : List ℕ) (start : ℕ) → AreMatroids n tests → AreParts tests slice
-    → IsReaching n (length slice) (exchanges_with tests slice) among start s → is_member start (family_union slice) ≡ false
-    → MatchOption found (s.entered ≡ false) (λ (m : Vec Move Global). AreFoundMoves tests slice s m.items))
-    → {n : ℕ} {tests : List (List ℕ → Bool)} {among : List ℕ} {start : ℕ} → AreMatroids n tests → AreParts tests parts
-    → IsReaching n (length parts) (exchanges_with tests parts) among start s → is_member start (family_union parts) ≡ false
+pub moves_told : {n : ℕ} {tests : List (List ℕ → Bool)} {parts : List (List ℕ)} {among : List ℕ} {x : ℕ} {s : MoveSearch} → IsEnded n tests parts among x s → (p : List (List ℕ)) → p ≡ parts
+    → (found : Option (Vec Move Global))
+    → ((n : ℕ) (tests : List (List ℕ → Bool)) (among : List ℕ) (start : ℕ) → AreMatroids n tests → AreParts tests p
+    → IsReaching n (length p) (exchanges_with tests p) among start s → is_member start (family_union p) ≡ false
+    → MatchOption found (s.entered ≡ false) (λ (m : Vec Move Global). AreFoundMoves tests p s m.items))
     → MatchOption found (s.entered ≡ false) (λ (m : Vec Move Global). AreFoundMoves tests parts s m.items)
-moves_told slice parts e s found told {n} {tests} {among} {start} laws are reaching fresh =
-    subst (λ q. MatchOption found (s.entered ≡ false) (λ (m : Vec Move Global). AreFoundMoves tests q s m.items)) e
-    (told n tests among start laws (subst (AreParts tests) (sym e) are) (subst (λ q. IsReaching n (length q) (exchanges_with tests q) among start s) (sym e) reaching)
-    (subst (λ q. is_member start (family_union q) ≡ false) (sym e) fresh))
+moves_told {n} {tests} {parts} {among} {x} {s} e p same found told =
+    let at = subst (λ q. (n : ℕ) (tests : List (List ℕ → Bool)) (among : List ℕ) (start : ℕ) → AreMatroids n tests → AreParts tests q
+    → IsReaching n (length q) (exchanges_with tests q) among start s → is_member start (family_union q) ≡ false
+    → MatchOption found (s.entered ≡ false) (λ (m : Vec Move Global). AreFoundMoves tests q s m.items)) same told in
+    at n tests among x e.laws e.are e.reaching e.fresh
 
 module _ {n : ℕ} {tests : List (List ℕ → Bool)} {parts : List (List ℕ)} {among : List ℕ} {start : ℕ} {s : MoveSearch} (are : AreParts tests parts)
     (reaching : IsReaching n (length parts) (exchanges_with tests parts) among start s) (found : Option (Vec Move Global))

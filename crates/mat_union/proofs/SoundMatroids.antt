@@ -83,9 +83,6 @@ module _ {M K : Type 0} (keeps : M → List ℕ → K → Type 0) (matroids : Li
     pub anew : (j : ℕ) (m : M) (k : K) → j < i → j < length matroids → keeps (get_or matroids j m) (part_at new j) (get_or kept j k)
     pub left : (j : ℕ) (m : M) (k : K) → i ≤ j → j < length matroids → keeps (get_or matroids j m) (part_at old j) (get_or kept j k)
 
-  pub anew_none : (kept : List K) → AreKept keeps matroids old kept → AreKeptAnew 0 kept
-  anew_none kept all = record { long = all.one_each; anew = λ j m k l. absurd (omega arith); left = λ j m k l h. all.each j m k h }
-
   -- a part that did not change
   pub anew_same : (i : ℕ) (kept : List K) (a b : List ℕ) → AreKeptAnew i kept → a ≡ part_at new i → b ≡ part_at old i → a ≡ b → AreKeptAnew (i + 1) kept
   anew_same i kept a b all n o e = record {
@@ -118,6 +115,3 @@ module _ {M K : Type 0} (keeps : M → List ℕ → K → Type 0) (matroids : Li
 
       last : (j : ℕ) → j ≡ i → (d : M) (f : K) → keeps (get_or matroids j d) (part_at new j) (get_or (set kept i k) j f)
       last j w d f = subst (λ c. keeps (get_or matroids c d) (part_at new c) (get_or (set kept i k) c f)) (sym w) (here d f)
-
-  pub anew_end : (i : ℕ) (kept : List K) → length matroids ≤ i → AreKeptAnew i kept → AreKept keeps matroids new kept
-  anew_end i kept g all = record { one_each = all.long; each = λ j m k l. all.anew j m k (omega arith) l }

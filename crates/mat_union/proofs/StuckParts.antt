@@ -1,6 +1,6 @@
 -- Where a search among all elements is stuck, its start cannot be added to the set that the parts make up: what it reached is spanned by the
 -- parts, and would have to hold one element more.
-use Rattle.std.proofs.Common.{◌≡◌, ℕ, ◌<◌, ◌≤◌, Bool, true, false, not, ◌||◌, ◌&&◌, eqb, ltb, List, [], length, get_or, refl, sym, ap, ◌∙◌, subst, arith}
+use Rattle.std.proofs.Common.{◌≡◌, ℕ, ◌<◌, ◌≤◌, Bool, true, false, ◌||◌, ◌&&◌, eqb, ltb, List, [], length, get_or, refl, sym, ap, ◌∙◌, subst, arith}
 use Rattle.std.proofs.lemmas.Bool.{eqb-true, false_from_ne_true, false≢true}
 use Rattle.mat_sets.specs.Families.{family_union}
 use Rattle.mat_sets.specs.Sets.{all_below, is_member, AllBelow, intersection, minus, union, with_one}
@@ -10,11 +10,12 @@ use Rattle.mat_sets.proofs.Filters.{filter_none}
 use Rattle.mat_sets.proofs.Ground.{is_member-all_below, IsSet-nil}
 use Rattle.mat_sets.proofs.Members.{same_members, is_member-intersection, is_member-minus, is_member-union, is_member-with_one, IsRising-intersection, IsRising-nil, IsRising-union, IsRising-with_one}
 use Rattle.mat_sets.proofs.Sums.{AllBelow-at}
+use Rattle.mat_sets.proofs.Truths.{and_all}
 use Rattle.mat_laws.proofs.RankLaws.{rank-maximal}
 use Rattle.mat_union.specs.GrownParts.{AreGrowing}
 use Rattle.mat_union.specs.Moves.{exchanges_with}
 use Rattle.mat_union.specs.MoveSearches.{IsReaching}
-use Rattle.mat_union.specs.PartLists.{law_at, ranks_bound, ranks_reached, union_only}
+use Rattle.mat_union.specs.PartListLaws.{law_at, ranks_bound, ranks_reached, union_only}
 use Rattle.mat_union.specs.Unions.{part_at, union_test, AreMatroids, AreParts}
 use Rattle.mat_union.specs.declared.move_search.MoveSearch.{MoveSearch}
 use Rattle.mat_union.proofs.GrowingSteps.{death_grown}
@@ -31,12 +32,8 @@ module _ {n : ℕ} {tests : List (List ℕ → Bool)} {parts : List (List ℕ)} 
     set = IsSet-nil n;
     spans = λ i l. rank-maximal (law_at laws are i l) [] [] IsRising-nil (record { passes = (law_at laws are i l).empty; inside = record { inside = λ x h. h }; full = λ x h o. absurd (false≢true h) })
         ∙ sym (ap length (none_in (part_at parts i)));
-    others = λ v. is_member-all_below v n ∙ whole (ltb v n);
+    others = λ v. is_member-all_below v n ∙ sym (and_all (ltb v n));
   }
-    where
-      whole : (b : Bool) → b ≡ (b && not false)
-      whole true = refl
-      whole false = refl
 
   -- a dead element cannot be added
   pub dead_refused : (dead alive : List ℕ) → AreGrowing n tests parts dead alive → (x : ℕ) → is_member x dead ≡ true → is_member x (family_union parts) ≡ false

@@ -5,6 +5,7 @@ use Rattle.mat_sets.specs.Search.{IsFirstFrom}
 use Rattle.mat_sets.specs.Sets.{is_member, without_one}
 use Rattle.mat_sets.proofs.ListParts.{is_member-push}
 use Rattle.mat_sets.proofs.Members.{is_member-without_one}
+use Rattle.mat_sets.proofs.Truths.{and_not_gives}
 use Rattle.mat_union.specs.MoveSearches.{AreTaken}
 
 -- a list without one of its members is shorter
@@ -64,7 +65,7 @@ module _ {pushes unreached queue rest more : List ℕ} (t : AreTakenSo pushes un
             ∙ ap (λ b. is_member z unreached && not b) (sym (is_member-without_one z v rest));
         inside = λ z h. t.inside z (and_parts (is_member z rest) (not (eqb z v)) (sym (is_member-without_one z v rest) ∙ h)).0;
         took = λ z h o. elim (cases_Bool (is_member z rest)) [
-          | inl a ↦ ap (λ y. is_member y pushes) (eqb-true z v (gone (is_member z rest) (eqb z v) a (sym (is_member-without_one z v rest) ∙ o))) ∙ both.1
+          | inl a ↦ ap (λ y. is_member y pushes) (eqb-true z v (and_not_gives (is_member z rest) (eqb z v) a (sym (is_member-without_one z v rest) ∙ o))) ∙ both.1
           | inr a ↦ t.took z h a
         ];
         fuel = (let l = length-append more (v ∷ []) in let s = without-shorter rest v both.0 in let g = t.fuel in omega arith);
@@ -75,9 +76,6 @@ module _ {pushes unreached queue rest more : List ℕ} (t : AreTakenSo pushes un
       new true true false h = refl
       new true false false h = refl
       new false r false h = refl
-
-      gone : (r e : Bool) → r ≡ true → (r && not e) ≡ false → e ≡ true
-      gone r e a o = grind arith
 
   pub taken_all : ((v : ℕ) → 0 ≤ v → (is_member v rest && is_member v pushes) ≡ false) → AreTaken pushes unreached queue rest more
   taken_all none = record {

@@ -1,7 +1,6 @@
 -- The exchanges of an element at an independent set of the union, by one search for moves from its parts.
 use Rattle.std.proofs.Common.{◌≡◌, ℕ, ◌<◌, Bool, true, false, not, ◌||◌, ◌&&◌, eqb, List, length, get_or, refl, sym, ap, ◌∙◌, arith}
 use Rattle.std.proofs.lemmas.Bool.{and_parts, false_from_ne_true, not-true, eqb-true}
-use Rattle.std.specs.List.{filter}
 use Rattle.mat_sets.specs.Sets.{is_member, IsSet, IsSubset, intersection, with_one}
 use Rattle.mat_sets.specs.Families.{family_union}
 use Rattle.mat_sets.specs.Walks.{IsReachedSet}
@@ -12,11 +11,12 @@ use Rattle.mat_sets.proofs.Ground.{below_member, IsSet-with_one}
 use Rattle.mat_sets.proofs.Subsets.{IsSubset-refl, IsSubset-with_one}
 use Rattle.mat_sets.proofs.Equalities.{intersection-subset}
 use Rattle.mat_sets.proofs.Cardinalities.{length-with_one}
+use Rattle.mat_laws.specs.declared.exchange.Exchange.{Exchange}
 use Rattle.mat_laws.specs.Exchanges.{row_of}
 use Rattle.mat_laws.proofs.Rows.{exchanged, row_outside}
 use Rattle.mat_union.specs.Unions.{AreMatroids, AreParts, union_test}
 use Rattle.mat_union.specs.Moves.{can_push, element_at, exchanges_with, is_free, row_found, IsMoves, IsShortestMovePath, IsStuck}
-use Rattle.mat_union.specs.PartLists.{cut_bounds, parts_pass, parts_set, union_only}
+use Rattle.mat_union.specs.PartListLaws.{cut_bounds, parts_pass, parts_set, union_only}
 use Rattle.mat_union.specs.UnionLaws.{addable_takes_all, exchanges_reached, moves_keep, reach_inside, stuck_cut}
 use Rattle.mat_union.specs.declared.moves.Move.{Move}
 use Rattle.mat_union.specs.declared.moves.Moves.{Moves}
@@ -33,6 +33,17 @@ module _ {n : ℕ} (tests : List (List ℕ → Bool)) (laws : AreMatroids n test
   larger_set : IsSet n larger
   larger_set = IsSet-with_one n held x (parts_set laws are) small
 
+  -- where x can be added it takes any place
+  pub added_row : union_test n tests larger ≡ true → (row : Exchange) → row.addable ≡ true → row.with ≡ held → row ≡ row_of (union_test n tests) held x
+  added_row ok row a w = row_outside (union_test n tests) held x row out (a ∙ sym ok)
+      (w ∙ sym (filter_whole (exchanged (union_test n tests) held x) held (λ y h. addable_takes_all tests laws held x y (IsRising-family_union parts) ok)))
+
+  -- else it takes the places of those that were reached
+  pub refused_row : union_test n tests larger ≡ false → (reach : List ℕ) → ((y : ℕ) → is_member y held ≡ true → is_member y reach ≡ exchanged (union_test n tests) held x y)
+      → (row : Exchange) → row.addable ≡ false → row.with ≡ intersection held reach → row ≡ row_of (union_test n tests) held x
+  unfolding intersection
+  refused_row full reach told row a w = row_outside (union_test n tests) held x row out (a ∙ sym full) (w ∙ filter_same_at (λ y. is_member y reach) (exchanged (union_test n tests) held x) held told)
+
   -- the only free element of the set with x is x
   free_is : (v : ℕ) → is_free parts larger v ≡ eqb v x
   free_is v = ap (λ b. b && not (is_member v held)) (is_member-with_one v x held) ∙ only (eqb v x) (is_member v held) (λ e. ap (λ z. is_member z held) (eqb-true v x e) ∙ out)
@@ -48,13 +59,6 @@ module _ {n : ℕ} (tests : List (List ℕ → Bool)) (laws : AreMatroids n test
       (λ v h. not-true _ (and_parts (is_member v larger) (not (is_member v held)) h).1) moves p in
       let first : element_at moves 0 ≡ x = eqb-true (element_at moves 0) x (sym (free_is (element_at moves 0)) ∙ p.path.first) in
       ap (union_test n tests) (sym (new.1.together ∙ ap (with_one held) first)) ∙ parts_pass tests laws new.0 new.1.are
-
-  found_row : (moves : List Move) → IsShortestMovePath (length parts) (exchanges_with tests parts) (is_free parts larger) moves
-      → record { addable = true; with = held } ≡ row_of (union_test n tests) held x
-  found_row moves p =
-      let ok = found_adds moves p in
-      row_outside (union_test n tests) held x (record { addable = true; with = held }) out (sym ok)
-      (sym (filter_whole (exchanged (union_test n tests) held x) held (λ y h. addable_takes_all tests laws held x y (IsRising-family_union parts) ok)))
 
   module _ (reach : List ℕ) (stuck : IsStuck n (length parts) (exchanges_with tests parts) (is_free parts larger) reach) where
     stuck_refuses : union_test n tests larger ≡ false
@@ -77,13 +81,7 @@ module _ {n : ℕ} (tests : List (List ℕ → Bool)) (laws : AreMatroids n test
           walks = λ v h. (let w = r.walks v h in (w.0, record { arcs = w.1.arcs; long = w.1.long; below = w.1.below; first = sym (free_is (get_or w.0 0 0)) ∙ w.1.first; last = w.1.last; steps = w.1.steps }));
         }
 
-    unfolding_row : filter (λ y. is_member y reach) held ≡ filter (exchanged (union_test n tests) held x) held
-    unfolding_row = filter_same_at (λ y. is_member y reach) (exchanged (union_test n tests) held x) held (λ y h. sym (exchanges_reached tests laws parts are x small out reach from_x stuck_refuses y h))
-
-    stuck_row : record { addable = false; with = intersection held reach } ≡ row_of (union_test n tests) held x
-    unfolding intersection
-    stuck_row = row_outside (union_test n tests) held x (record { addable = false; with = intersection held reach }) out (sym stuck_refuses) unfolding_row
-
   pub search_row : (moves : Moves) → IsMoves n (length parts) (exchanges_with tests parts) (is_free parts larger) moves → row_found held moves ≡ row_of (union_test n tests) held x
-  search_row (Path moves) h = found_row moves.items h
-  search_row (Stuck reach) h = stuck_row reach h
+  search_row (Path moves) h = added_row (found_adds moves.items h) (record { addable = true; with = held }) refl refl
+  search_row (Stuck reach) h = refused_row (stuck_refuses reach h) reach (λ y m. sym (exchanges_reached tests laws parts are x small out reach (from_x reach h) (stuck_refuses reach h) y m))
+      (record { addable = false; with = intersection held reach }) refl refl

@@ -1,7 +1,7 @@
 -- Greedy runs of a union. The run of the first matroid is a maximal independent subset of the run of the union: what the first matroid can
 -- take, the union can. A run that begins with some of what a run from nothing takes ends with the same set.
 use Rattle.std.proofs.Common.{◌≡◌, ◌⊎◌, ℕ, ◌+◌, ◌<◌, Bool, true, false, not, ◌||◌, ◌&&◌, eqb, List, [], ◌∷◌, length, get_or, inl, inr, refl, sym, ap, ◌∙◌, arith}
-use Rattle.std.proofs.lemmas.Bool.{and_from, and_parts, both_ways, cases_Bool, eqb-true, false_from_ne_true, not-true, not_from_false, or_cases}
+use Rattle.std.proofs.lemmas.Bool.{and_from, and_parts, both_ways, cases_Bool, eqb-true, false_from_ne_true, not-true, not_from_false, or_cases, or_parts}
 use Rattle.mat_sets.specs.Families.{family_union}
 use Rattle.mat_sets.specs.Sets.{is_member, IsRising, IsSubset, with_one}
 use Rattle.mat_sets.proofs.Cardinalities.{length-with_one}
@@ -17,7 +17,7 @@ use Rattle.mat_laws.proofs.GreedyRunSteps.{IsRunning, IsRunning-next}
 use Rattle.mat_laws.proofs.Independent.{full_in_larger, grow_to_size, rising}
 use Rattle.mat_laws.proofs.Maximal.{IsMaximal-largest}
 use Rattle.mat_union.specs.GrownParts.{AreGrowing}
-use Rattle.mat_union.specs.PartLists.{nowhere, parts_pass, union_only}
+use Rattle.mat_union.specs.PartListLaws.{nowhere, parts_pass, union_only}
 use Rattle.mat_union.specs.Placings.{ArePlaced}
 use Rattle.mat_union.specs.UnionLaws.{union_laws}
 use Rattle.mat_union.specs.Unions.{part_at, test_at, union_test, AreMatroids, AreParts}
@@ -149,14 +149,11 @@ module _ {n : ℕ} {p : List ℕ → Bool} (law : IsMatroid n p) where
   maximal_both C A x m ok = record {
     passes = ok;
     inside = with_one-both A C x m.inside;
-    full = λ k h o. (let out = neither (eqb k x) (is_member k A) (sym (is_member-with_one k x A) ∙ o) in
+    full = λ k h o. (let out = or_parts (eqb k x) (is_member k A) (sym (is_member-with_one k x A) ∙ o) in
         full_in_larger law A (with_one A x) k (rising law A m.passes) (IsSubset-with_one A x)
         (m.full k (other (eqb k x) (is_member k C) out.0 (sym (is_member-with_one k x C) ∙ h)) out.1));
   }
     where
-      neither : (a b : Bool) → (a || b) ≡ false → (a ≡ false) × (b ≡ false)
-      neither a b e = grind arith
-
       other : (a b : Bool) → a ≡ false → (a || b) ≡ true → b ≡ true
       other a b f e = grind arith
 

@@ -9,7 +9,7 @@ use Rattle.mat_union.specs.declared.move_search.MoveSearch.{MoveSearch}
 
 -- a search that can be asked for moves
 pub record IsReady (s : MoveSearch) : Type 0 where
-  pub few : length s.table.items < 2 ^ 32
+  pub few : length s.table < 2 ^ 32
   pub asked : s.entered ≡ true → s.head < length s.queue.items
 
 -- a search from x in no part, which may reach these elements and asks for nothing more

@@ -1,9 +1,9 @@
 pub mod Unions
 pub mod Moves
 pub mod MoveGraphs
-pub mod PartLists
-pub mod Shifts
-pub mod MoveWalks
+pub mod PartListLaws
+pub mod ShiftLaws
+pub mod MoveWalkLaws
 pub mod MoveSearches
 pub mod UnionLaws
 pub mod GrownParts
@@ -11,5 +11,6 @@ pub mod Placings
 pub mod RightUnions
 pub mod WeightLevels
 pub mod UnionsOf
+pub mod UnionOfLaws
 pub mod FilledParts
 pub mod EndedSearches

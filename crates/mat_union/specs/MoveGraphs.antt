@@ -1,13 +1,13 @@
 -- What a search for moves asks of the rows, the parts and the elements, and the table of its arcs.
-use Rattle.std.specs.Prelude.{◌≡◌, ℕ, suc, ◌<◌, ◌^◌, Bool, true, List, [], length, slice_index_or, slice_index}
+use Rattle.std.specs.Prelude.{◌≡◌, ℕ, ◌<◌, ◌^◌, Bool, true, List, [], length, slice_index_or}
 use Rattle.mat_sets.specs.Sets.{is_member, IsSet, IsSubset}
 use Rattle.mat_sets.specs.Families.{AreDisjoint, family_union}
+use Rattle.mat_sets.specs.Rows.{row_at}
 use Rattle.mat_laws.specs.declared.exchange.Exchange.{Exchange}
 use Rattle.mat_laws.specs.Exchanges.{row_of}
 use Rattle.mat_laws.specs.TightPaths.{row_in}
 use Rattle.mat_union.specs.Unions.{part_at, test_at}
-use Rattle.mat_union.specs.Moves.{can_push, exchanges_of, element_at, place_at}
-use Rattle.mat_union.specs.declared.moves.Move.{Move}
+use Rattle.mat_union.specs.Moves.{can_push, exchanges_of}
 
 -- each list has a row for u
 pub record AreLong (u : ℕ) (rows : List (List Exchange)) : Type 0 where
@@ -31,17 +31,10 @@ pub record AreRowsAt (tests : List (List ℕ → Bool)) (parts : List (List ℕ)
 -- for each element below n those whose place it can take
 pub record IsPushTable (rows : List (List Exchange)) (n : ℕ) (table : List (List ℕ)) : Type 0 where
   pub long : length table ≡ n
-  pub arcs : (u v : ℕ) → u < n → is_member v (slice_index_or table u []) ≡ can_push (length rows) (exchanges_of rows) u v
+  pub arcs : (u v : ℕ) → u < n → is_member v (row_at table u) ≡ can_push (length rows) (exchanges_of rows) u v
 
 -- the table is that of the rows, and each list has a row for each element
 pub record IsMoveGraph (rows : List (List Exchange)) (table : List (List ℕ)) : Type 0 where
   pub few : length table < 2 ^ 32
   pub long : (u : ℕ) → u < length table → AreLong u rows
   pub arcs : IsPushTable rows (length table) table
-
--- the first k moves along a walk
-pub record AreMovesAlong (rows : List (List Exchange)) (walk : List ℕ) (k : ℕ) (moves : List Move) : Type 0 where
-  pub long : length moves ≡ k
-  pub elements : (i : ℕ) → i < k → element_at moves i ≡ slice_index walk i
-  pub places : (i : ℕ) → i < k → place_at moves i < length rows
-  pub next : (i : ℕ) → i < k → suc i < length walk → (exchanges_of rows (place_at moves i)).trades (slice_index walk (suc i)) (slice_index walk i) ≡ true

@@ -1,5 +1,6 @@
 -- A search for moves from one element, which asks for the exchanges of the elements that it reaches (Schrijver, chapter 42).
-use Rattle.std.specs.Prelude.{◌≡◌, ℕ, suc, ◌+◌, ◌*◌, ◌-◌, ◌<◌, ◌≤◌, Bool, true, false, not, ◌&&◌, ◌||◌, ◌==◌, if◌then◌else◌, List, [], ◌++◌, length, slice_index_or, take, Option, None, Some}
+use Rattle.std.specs.Prelude.{◌≡◌, ℕ, suc, ◌+◌, ◌*◌, ◌-◌, ◌<◌, ◌≤◌, Bool, true, false, not, ◌&&◌, ◌||◌, ◌==◌, if◌then◌else◌, List, ◌++◌, length, slice_index_or, take, Option, None, Some}
+use Rattle.mat_sets.specs.Rows.{row_at}
 use Rattle.mat_sets.specs.Sets.{is_member}
 use Rattle.mat_laws.specs.declared.exchange.Exchange.{Exchange}
 use Rattle.mat_laws.specs.TightPaths.{Exchanges}
@@ -9,15 +10,6 @@ use Rattle.mat_union.specs.Unions.{part_at}
 use Rattle.mat_union.specs.declared.moves.Move.{Move}
 use Rattle.mat_union.specs.declared.move_search.MoveSearch.{MoveSearch}
 use Rattle.mat_union.specs.declared.move_search.Question.{Question}
-
--- those at place u of a table
-abbrev pub row_of_table : List (List ℕ) → ℕ → List ℕ
-row_of_table table u = slice_index_or table u []
-
--- n empty sets
-pub record IsSilent (n : ℕ) (table : List (List ℕ)) : Type 0 where
-  pub long : length table ≡ n
-  pub empty : (u v : ℕ) → is_member v (row_of_table table u) ≡ false
 
 -- the unreached elements among these are put at the end of the queue
 pub record AreTaken (pushes unreached queue rest more : List ℕ) : Type 0 where
@@ -34,7 +26,7 @@ element_asked s = slice_index_or s.queue.items s.head 0
 -- some exchanges are asked for
 pub record IsOpen (s : MoveSearch) : Type 0 where
   pub more : s.head < length s.queue.items
-  pub inside : element_asked s < length s.table.items
+  pub inside : element_asked s < length s.table
 
 -- what is asked for: nothing, once an element can be added or all that were reached are told
 abbrev pub IsQuestion : MoveSearch → Option Question → Type 0
@@ -58,14 +50,14 @@ pub record IsReachingTo (n m : ℕ) (exchanges : ℕ → Exchanges) (among : Lis
   pub inside : (v : ℕ) → is_member v unreached ≡ true → is_member v among ≡ true
   pub reached : (v : ℕ) → is_member v queue ≡ true → (v == start || is_member v among) ≡ true
   pub left : (v : ℕ) → is_member v among ≡ true → is_member v unreached ≡ false → is_member v queue ≡ true
-  pub told : (u v : ℕ) → is_member u (take head queue) ≡ true → is_member v (row_of_table table u) ≡ can_push m exchanges u v
-  pub silent : (u v : ℕ) → is_member u (take head queue) ≡ false → is_member v (row_of_table table u) ≡ false
+  pub told : (u v : ℕ) → is_member u (take head queue) ≡ true → is_member v (row_at table u) ≡ can_push m exchanges u v
+  pub silent : (u v : ℕ) → is_member u (take head queue) ≡ false → is_member v (row_at table u) ≡ false
   pub refused : (u : ℕ) → is_member u (take head queue) ≡ true → can_enter m exchanges u ≡ false
   pub closed : (u v : ℕ) → is_member u (take head queue) ≡ true → can_push m exchanges u v ≡ true → is_member v unreached ≡ false
   pub pushed : (v : ℕ) → is_member v pushes ≡ can_push heard exchanges (slice_index_or queue head 0) v
   pub none : can_enter heard exchanges (slice_index_or queue head 0) ≡ false
   pub least : (test : ℕ → Bool) → test start ≡ true
-      → ((u v : ℕ) → test u ≡ true → is_member v (row_of_table table u) ≡ true → test v ≡ true)
+      → ((u v : ℕ) → test u ≡ true → is_member v (row_at table u) ≡ true → test v ≡ true)
       → (v : ℕ) → is_member v queue ≡ true → test v ≡ true
   pub fuel : length queue + length unreached ≤ suc (length among)
 
@@ -74,7 +66,7 @@ pub record IsReaching (n m : ℕ) (exchanges : ℕ → Exchanges) (among : List 
   pub from_start : s.start ≡ start
   pub count : s.count ≡ m
   pub here : s.part < m
-  pub so_far : IsReachingTo n m exchanges among start s.part s.head s.queue.items s.pushes s.unreached s.table.items
+  pub so_far : IsReachingTo n m exchanges among start s.part s.head s.queue.items s.pushes s.unreached s.table
   pub enters : s.entered ≡ true → (s.head < length s.queue.items) × ((exchanges s.part).adds (element_asked s) ≡ true)
 
 -- a search that is told all exchanges of the next element, and that it cannot be added
@@ -83,7 +75,7 @@ pub record IsHeardAll (n m : ℕ) (exchanges : ℕ → Exchanges) (among : List 
   pub count : s.count ≡ m
   pub some : 0 < m
   pub refused : s.entered ≡ false
-  pub so_far : IsReachingTo n m exchanges among start m s.head s.queue.items s.pushes s.unreached s.table.items
+  pub so_far : IsReachingTo n m exchanges among start m s.head s.queue.items s.pushes s.unreached s.table
 
 -- how many questions there can still be, where a queue has at most `bound` elements
 abbrev pub left_over : Bool → ℕ → ℕ → ℕ → ℕ → ℕ

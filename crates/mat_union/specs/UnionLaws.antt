@@ -16,14 +16,15 @@ use Rattle.mat_sets.proofs.Search.{some_below_from, some_below_gives, some_below
 use Rattle.mat_sets.proofs.SetTests.{test_from-IsSet}
 use Rattle.mat_sets.proofs.Ground.{below_member, IsSet-subset, IsSet-union, IsSet-nil}
 use Rattle.mat_sets.proofs.Reach.{finite_reach, missed_goals_have_no_walk, reached_set_is_unique, reached_by_induction, shortest_walk_is_chordless}
+use Rattle.mat_sets.proofs.Truths.{same_truth}
 use Rattle.mat_laws.specs.Matroids.{IsMatroid, Augments}
 use Rattle.mat_laws.specs.TightPaths.{Exchanges}
 use Rattle.mat_laws.proofs.Cuts.{rank-in_reach}
 use Rattle.mat_union.specs.Unions.{test_at, part_at, AreMatroids, AreParts, IsInUnion, divides, union_test, ranks_sum}
 use Rattle.mat_union.specs.Moves.{can_push, can_enter, elements, entering, element_at, place_at, exchanges_with, is_free, moved, AreMoved, IsShortestMovePath, IsStuck}
-use Rattle.mat_union.specs.PartLists.{law_at, part_set, parts_set, parts_pass, union_only, union_set, cut_bounds, ranks_bound, ranks_reached, AreMatroids-tail}
-use Rattle.mat_union.specs.Shifts.{IsShift, same_tests, shifted, all_shifted, elements_into, elements_on, into_gives, into_from, on_gives, on_from, length-new, part_at-new, new_are, shifted_passes, shifted_passes_last, shifted_passes_other, together_added, together_exchanged}
-use Rattle.mat_union.specs.MoveWalks.{found_below, found_passes, element_of_list, entering_gives, entering_from, shortest_path_is_walk, shortest_walk_is_path, walk_moves, stuck_from, stuck_adds_none, AreBelow}
+use Rattle.mat_union.specs.PartListLaws.{law_at, part_set, parts_set, parts_pass, union_only, union_set, cut_bounds, ranks_bound, ranks_reached, AreMatroids-tail}
+use Rattle.mat_union.specs.ShiftLaws.{IsShift, shifted, all_shifted, elements_into, elements_on, into_gives, into_from, on_gives, on_from, length-new, part_at-new, new_are, shifted_passes, shifted_passes_last, shifted_passes_other, together_added, together_exchanged}
+use Rattle.mat_union.specs.MoveWalkLaws.{found_below, found_passes, element_of_list, entering_gives, entering_from, shortest_path_is_walk, shortest_walk_is_path, walk_moves, stuck_from, stuck_adds_none, AreBelow}
 use Rattle.mat_union.specs.declared.moves.Move.{Move}
 
 module _ (tests : List (List ℕ → Bool)) (parts : List (List ℕ)) where
@@ -110,10 +111,10 @@ module _ {n : ℕ} {tests : List (List ℕ → Bool)} {parts : List (List ℕ)} 
           let P = part_at parts q in
           let rp = (part_set laws are q ql).rising in
           let el : length (elements moves) ≡ length moves = length-map moves (λ v. v.element) in
-          let enters : (z : ℕ) → is_member z (elements_into (suc k) e t q) ≡ is_member z (entering moves q) = λ z. same_tests _ _
+          let enters : (z : ℕ) → is_member z (elements_into (suc k) e t q) ≡ is_member z (entering moves q) = λ z. same_truth _ _
           (λ h. let w = into_gives (suc k) e t q z h in let l = w.1 in subst (λ v. is_member v (entering moves q) ≡ true) w.3 (entering_from moves q w.0 (omega arith) w.2))
           (λ h. let w = entering_gives moves q z h in let l = w.1 in subst (λ v. is_member v (elements_into (suc k) e t q) ≡ true) w.3 (into_from (suc k) e t q w.0 (omega arith) w.2)) in
-          let on : (z : ℕ) → is_member z (elements_on k e) ≡ is_member z (elements moves) = λ z. same_tests _ _
+          let on : (z : ℕ) → is_member z (elements_on k e) ≡ is_member z (elements moves) = λ z. same_truth _ _
           (λ h. let w = on_gives k e z h in let l = w.1 in is_member-get_or (elements moves) w.0 z (omega arith) (element_of_list moves w.0 (omega arith) ∙ w.2))
           (λ h. let w = place_of_member z (elements moves) h in let l = w.1 in
           subst (λ v. is_member v (elements_on k e) ≡ true) (sym (element_of_list moves w.0 (omega arith)) ∙ w.2) (on_from k e w.0 (omega arith))) in

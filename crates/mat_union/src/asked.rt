@@ -51,6 +51,20 @@ pub(crate) trait Asked {
         requires base { indep self.now base.now ≡ true }
         ensures { IfOk result (λ kept. keeps self.now base.now kept) };
 
+    /// What is kept of another independent set, where something is kept of this one.
+    fn keep_next_of(
+        &self,
+        alloc: Global,
+        base: &ElemSet,
+        kept: &Self::Kept,
+        next: &ElemSet,
+    ) -> Result<Self::Kept, AllocError>
+        requires sound { sound self.now }
+        requires base { indep self.now base.now ≡ true }
+        requires kept { keeps self.now base.now kept.now }
+        requires next { indep self.now next.now ≡ true }
+        ensures { IfOk result (λ kept. keeps self.now next.now kept) };
+
     /// The exchanges of an element outside an independent set of which something is kept.
     fn row_from(
         &self,
@@ -93,6 +107,16 @@ impl<M: Matroid> Asked for M {
 
     fn keep_of(&self, alloc: Global, base: &ElemSet) -> Result<M::Kept, AllocError> {
         self.keep(alloc, base)
+    }
+
+    fn keep_next_of(
+        &self,
+        alloc: Global,
+        base: &ElemSet,
+        kept: &M::Kept,
+        next: &ElemSet,
+    ) -> Result<M::Kept, AllocError> {
+        self.keep_next(alloc, base, kept, next)
     }
 
     fn row_from(

@@ -1,5 +1,5 @@
 //! Unions of greatest weight.
-ghost use Rattle.std.specs.Prelude.{◌≡◌, ◌<◌, ◌^◌, ◌||◌, ℕ, Bool, false, length, map, IfOk, OnOk};
+ghost use Rattle.std.specs.Prelude.{◌≡◌, ◌<◌, ◌^◌, ◌||◌, ℕ, Bool, length, map, IfOk, OnOk};
 ghost use Rattle.mat_sets.specs.Families.{family_union};
 ghost use Rattle.mat_sets.specs.Search.{those_below};
 ghost use Rattle.mat_sets.specs.Sets.{is_member, IsRising, IsSubset};
@@ -9,10 +9,10 @@ ghost use Rattle.mat_union.specs.RightUnions.{IsRightUnion};
 ghost use Rattle.mat_union.specs.WeightLevels.{heavier_left, is_left, IsNextWeight};
 
 use crate::empty::empty_parts;
-use crate::growth::{Growth, all_lawful, grow, keep_all};
+use crate::growth::{Growth, all_lawful, grow, growth_from};
 use crate::moved_sets::add_if;
 use mat_laws::Matroid;
-use mat_sets::{BitSet, ElemSet, SetList, Weight};
+use mat_sets::{ElemSet, SetList, Weight};
 use std::alloc::{AllocError, Global};
 
 /// A weight, and a cut of the elements that weigh at least as much.
@@ -87,28 +87,6 @@ fn elements_of(alloc: Global, weights: &[Weight], at: Weight) -> Result<ElemSet,
     Ok(set)
 }
 
-// No element is in a part, and all are alive.
-fn no_growth<M: Matroid>(
-    alloc: Global,
-    matroids: &[M],
-    n: u32,
-) -> Result<Growth<M::Kept>, AllocError>
-    requires sound { AreSound M.ground_size M.sound n matroids.now }
-    ensures growing { IfOk result (λ g. AreGrowing n (map M.indep matroids.now) g.parts g.dead g.alive) }
-    ensures kept { IfOk result (λ g. AreKept M.keeps matroids.now g.parts g.kept.items) }
-    ensures done { IfOk result (λ g. AreDone n (λ v. false) g.parts g.dead) }
-{
-    all_lawful(matroids, n);
-    let parts = empty_parts(alloc, matroids.len())?;
-    let kept = keep_all(alloc, matroids, &parts, n)?;
-    Ok(Growth {
-        parts,
-        kept,
-        dead: ElemSet::new(alloc),
-        alive: BitSet::all_below(alloc, n)?,
-    })
-}
-
 // Adds these elements one after the other, or refuses them.
 pub(crate) fn grow_by<M: Matroid>(
     alloc: Global,
@@ -153,7 +131,8 @@ pub fn best_union<M: Matroid>(
 {
     let n = matroids[0].size();
     all_lawful(matroids, n);
-    let mut growth = no_growth(alloc, matroids, n)?;
+    let parts = empty_parts(alloc, matroids.len())?;
+    let mut growth = growth_from(alloc, matroids, parts, n)?;
     let mut levels = Vec::new(alloc);
     let mut last = None;
     while let Some(at) = next_weight(weights, last) {

@@ -7,10 +7,11 @@ ghost use Rattle.mat_union.specs.EndedSearches.{IsEnded, IsReady};
 ghost use Rattle.mat_union.specs.Placings.{IsPlaceSearch};
 ghost use Rattle.mat_union.specs.Unions.{union_test};
 
+use crate::move_graph::insert_all;
 use crate::move_search::MoveSearch;
 use crate::moved_sets::moved_parts;
 use mat_laws::Exchange;
-use mat_sets::{ElemSet, SetList};
+use mat_sets::{BitSet, ElemSet, SetList};
 use std::alloc::{AllocError, Global};
 
 /// A place for an element among the parts.
@@ -55,17 +56,16 @@ pub fn row_by_search(
         → e ≡ row_of (union_test n tests) set.now x) }
     ensures rises { IfOk result (λ e. IsRising e.with) }
 {
-    match search.moves(alloc, parts.as_slice())? {
-        Some(_) => Ok(Exchange {
+    if search.entered {
+        return Ok(Exchange {
             addable: true,
             with: set.copy(alloc)?,
-        }),
-        None => {
-            let reached = ElemSet::from_members(alloc, search.reached())?.to_bits(alloc)?;
-            Ok(Exchange {
-                addable: false,
-                with: set.among(alloc, &reached)?,
-            })
-        }
+        });
     }
+    let mut reached = BitSet::new(alloc);
+    insert_all(&mut reached, search.reached())?;
+    Ok(Exchange {
+        addable: false,
+        with: set.among(alloc, &reached)?,
+    })
 }

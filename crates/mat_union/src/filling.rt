@@ -1,20 +1,18 @@
 //! Parts that are filled up.
-ghost use Rattle.std.specs.Prelude.{◌≡◌, ◌<◌, ◌^◌, not, length, map, IfOk};
+ghost use Rattle.std.specs.Prelude.{◌≡◌, ◌<◌, not, map, IfOk};
 ghost use Rattle.mat_sets.specs.Families.{family_union};
 ghost use Rattle.mat_sets.specs.Search.{those_below};
 ghost use Rattle.mat_sets.specs.Sets.{is_member};
 ghost use Rattle.mat_union.specs.FilledParts.{IsFilled};
-ghost use Rattle.mat_union.specs.GrownParts.{AreDone, AreGrowing, AreKept, AreSound};
 ghost use Rattle.mat_union.specs.Unions.{AreParts};
-ghost use Rattle.mat_union.specs.UnionsOf.{common_size, AreJoined};
+ghost use Rattle.mat_union.specs.UnionsOf.{AreJoined, common_size};
 
-use crate::asked::Asked;
 use crate::best::grow_by;
-use crate::growth::{Growth, all_lawful, keep_all};
+use crate::growth::{all_lawful, growth_from};
 use crate::move_graph::stands;
 use crate::moved_sets::add_if;
 use mat_laws::Matroid;
-use mat_sets::{BitSet, ElemSet, SetList};
+use mat_sets::{ElemSet, SetList};
 use std::alloc::{AllocError, Global};
 
 /// Disjoint sets, one for each matroid and independent in it, that hold as many elements as any, and a cut that shows it.
@@ -26,46 +24,15 @@ pub struct Filled {
     pub cut: ElemSet,
 }
 
-// Whether an element is in no part.
-fn is_left_out(parts: &SetList, x: u32) -> bool
-    ensures { result ≡ not (is_member x (family_union parts.now)) }
-{
-    !stands(parts, x)
-}
-
 // The elements below n that are in no part.
 fn elements_left_out(alloc: Global, parts: &SetList, n: u32) -> Result<ElemSet, AllocError>
     ensures { IfOk result (λ s. s ≡ those_below n (λ x. not (is_member x (family_union parts.now)))) }
 {
     let mut set = ElemSet::new(alloc);
     for x in 0..n {
-        add_if(&mut set, x, is_left_out(parts, x))?;
+        add_if(&mut set, x, !stands(parts, x))?;
     }
     Ok(set)
-}
-
-// These parts, and all elements are alive.
-pub(crate) fn growth_from<M: Asked>(
-    alloc: Global,
-    matroids: &[M],
-    parts: SetList,
-    n: u32,
-) -> Result<Growth<M::Kept>, AllocError>
-    requires sound { AreSound M.ground_size M.sound n matroids.now }
-    requires parts { AreParts (map M.indep matroids.now) parts }
-    ensures growing { IfOk result (λ g. AreGrowing n (map M.indep matroids.now) g.parts g.dead g.alive) }
-    ensures kept { IfOk result (λ g. AreKept M.keeps matroids.now g.parts g.kept.items) }
-    ensures done { IfOk result (λ g. AreDone n (λ v. is_member v (family_union parts)) g.parts g.dead) }
-    ensures same { IfOk result (λ g. g.parts ≡ parts) }
-{
-    all_lawful(matroids, n);
-    let kept = keep_all(alloc, matroids, &parts, n)?;
-    Ok(Growth {
-        parts,
-        kept,
-        dead: ElemSet::new(alloc),
-        alive: BitSet::all_below(alloc, n)?,
-    })
 }
 
 /// Fills up disjoint sets, one for each matroid and independent in it, until they hold as many elements together as any; no element that

@@ -1,5 +1,5 @@
 //! Parts that grow by one element at a time.
-ghost use Rattle.std.specs.Prelude.{◌≡◌, ◌<◌, ◌^◌, ◌||◌, ◌&&◌, ◌==◌, ℕ, Bool, true, false, not, List, [], length, map, slice_set, None, IfOk, IfSome, OnOk, ◌≢◌};
+ghost use Rattle.std.specs.Prelude.{◌≡◌, ◌<◌, ◌^◌, ◌||◌, ◌&&◌, ◌==◌, ℕ, Bool, true, false, not, length, map, slice_set, None, IfOk, IfSome, OnErr, OnOk, ◌≢◌};
 ghost use Rattle.mat_sets.specs.Families.{family_union};
 ghost use Rattle.mat_sets.specs.Sets.{is_member, IsRising, IsSubset};
 ghost use Rattle.mat_laws.specs.Exchanges.{row_of};
@@ -84,6 +84,30 @@ pub(crate) fn keep_all<M: Asked>(
     Ok(kept)
 }
 
+/// These parts, and all elements are alive.
+pub(crate) fn growth_from<M: Asked>(
+    alloc: Global,
+    matroids: &[M],
+    parts: SetList,
+    n: u32,
+) -> Result<Growth<M::Kept>, AllocError>
+    requires sound { AreSound M.ground_size M.sound n matroids.now }
+    requires parts { AreParts (map M.indep matroids.now) parts }
+    ensures growing { IfOk result (λ g. AreGrowing n (map M.indep matroids.now) g.parts g.dead g.alive) }
+    ensures kept { IfOk result (λ g. AreKept M.keeps matroids.now g.parts g.kept.items) }
+    ensures done { IfOk result (λ g. AreDone n (λ v. is_member v (family_union parts)) g.parts g.dead) }
+    ensures same { IfOk result (λ g. g.parts ≡ parts) }
+{
+    all_lawful(matroids, n);
+    let kept = keep_all(alloc, matroids, &parts, n)?;
+    Ok(Growth {
+        parts,
+        kept,
+        dead: ElemSet::new(alloc),
+        alive: BitSet::all_below(alloc, n)?,
+    })
+}
+
 /// A search for moves from x among the elements that are alive, to its end.
 pub(crate) fn search_from<M: Asked>(
     alloc: Global,
@@ -108,7 +132,7 @@ pub(crate) fn search_from<M: Asked>(
     while let Some(asked) = search.question() {
         let i = asked.part as usize;
         let row = row_at(alloc, &matroids[i], parts.get(i), &kept[i], asked.element)?;
-        search.tell(alloc, &row)?;
+        search = search.tell(alloc, &row)?;
     }
     Ok(search)
 }
@@ -131,7 +155,7 @@ pub fn put_kept<K: Drop>(kept: &mut Vec<K>, i: usize, one: K)
     kept[i] = one;
 }
 
-/// What each matroid keeps of its new part: anew only where that is another one than before.
+/// What each matroid keeps of its new part: where that is another one than before, from what it kept of the old one.
 fn keep_changed<M: Asked>(
     alloc: Global,
     matroids: &[M],
@@ -149,7 +173,7 @@ fn keep_changed<M: Asked>(
     let _size = n;
     for i in 0..matroids.len() {
         if is_changed(old, new, i) {
-            let one = matroids[i].keep_of(alloc, new.get(i))?;
+            let one = matroids[i].keep_next_of(alloc, old.get(i), &kept[i], new.get(i))?;
             put_kept(kept, i, one);
         }
     }
@@ -244,15 +268,23 @@ pub(crate) fn place<M: Asked>(
     }
 }
 
-/// These elements are dead. The only error is want of memory.
-pub fn kill(dead: &mut ElemSet, alive: &mut BitSet, elements: &[u32]) -> Result<(), AllocError>
+/// These elements are dead. After an error nothing has changed. The only error is want of memory.
+pub fn kill(
+    alloc: Global,
+    dead: &mut ElemSet,
+    alive: &mut BitSet,
+    elements: &[u32],
+) -> Result<(), AllocError>
     ensures dead { OnOk result ((v : ℕ) → is_member v dead.new ≡ (is_member v dead.old || is_member v elements.now)) }
     ensures alive { OnOk result ((v : ℕ) → is_member v alive.new ≡ (is_member v alive.old && not (is_member v elements.now))) }
     ensures rises { IsRising dead.new }
+    ensures dead_err { OnErr result (dead.new ≡ dead.old) }
+    ensures alive_err { OnErr result (alive.new ≡ alive.old) }
 {
     dead.rises();
+    let more = ElemSet::from_members(alloc, elements)?;
+    *dead = dead.union(alloc, &more)?;
     for v in elements {
-        dead.add(*v)?;
         alive.remove(*v);
     }
     Ok(())
@@ -287,7 +319,7 @@ pub(crate) fn grow<M: Asked>(
     match place(alloc, matroids, parts, kept, &growth.alive, n, x)? {
         None => Ok(()),
         Some(stuck) => {
-            kill(&mut growth.dead, &mut growth.alive, stuck.reached())?;
+            kill(alloc, &mut growth.dead, &mut growth.alive, stuck.reached())?;
             Ok(())
         }
     }

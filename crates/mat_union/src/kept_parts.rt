@@ -1,5 +1,5 @@
 //! Parts of an independent set of a union, with what each matroid keeps of its part.
-ghost use Rattle.std.specs.Prelude.{◌≡◌, ◌<◌, ◌^◌, ℕ, true, false, length, map, IfOk, OnOk, MatchOption};
+ghost use Rattle.std.specs.Prelude.{◌≡◌, ◌<◌, ◌^◌, true, false, length, map, IfOk, OnOk, MatchOption};
 ghost use Rattle.mat_sets.specs.Families.{family_union};
 ghost use Rattle.mat_sets.specs.Sets.{all_below, is_member, AllBelow, IsRising, IsSubset};
 ghost use Rattle.mat_laws.specs.Exchanges.{row_of};
@@ -8,8 +8,9 @@ ghost use Rattle.mat_union.specs.Placings.{IsBrought};
 ghost use Rattle.mat_union.specs.Unions.{union_test, AreParts};
 
 use crate::asked::Asked;
+use crate::ended::row_by_search;
 use crate::growth::{all_lawful, keep_all, place, search_from};
-use crate::move_graph::{insert_all, stands};
+use crate::move_graph::stands;
 use mat_laws::Exchange;
 use mat_sets::{BitSet, ElemSet, SetList};
 use std::alloc::{AllocError, Global};
@@ -127,16 +128,5 @@ pub(crate) fn row_of_parts<M: Asked>(
     let all = BitSet::all_below(alloc, n)?;
     let kept = held.kept.as_slice();
     let search = search_from(alloc, matroids, &held.parts, kept, &all, n, x)?;
-    if search.entered {
-        return Ok(Exchange {
-            addable: true,
-            with: base.copy(alloc)?,
-        });
-    }
-    let mut reached = BitSet::new(alloc);
-    insert_all(&mut reached, search.reached())?;
-    Ok(Exchange {
-        addable: false,
-        with: base.among(alloc, &reached)?,
-    })
+    row_by_search(alloc, base, &held.parts, &search)
 }

@@ -1,12 +1,12 @@
 //! The graph in which a search for moves looks for a walk.
-ghost use Rattle.std.specs.Prelude.{◌≡◌, ◌<◌, ◌||◌, ◌^◌, ℕ, true, length, slice_index_or, [], IfOk, OnOk};
+ghost use Rattle.std.specs.Prelude.{◌≡◌, ◌<◌, ◌||◌, ℕ, true, length, IfOk, OnOk};
 ghost use Rattle.mat_sets.specs.Families.{family_union};
 ghost use Rattle.mat_sets.specs.Sets.{is_member};
 ghost use Rattle.mat_union.specs.MoveGraphs.{AreLong, IsPushTable};
 ghost use Rattle.mat_union.specs.Moves.{can_enter, can_push, exchanges_of};
 
 use crate::exchange_list::ExchangeList;
-use mat_sets::{BitSet, ElemSet, Relation, SetList};
+use mat_sets::{BitRows, BitSet, ElemSet, Relation, SetList};
 use std::alloc::{AllocError, Global};
 
 /// An arc leads from an element to each whose place it can take in some part; starts are the elements in no part, and goals those that
@@ -16,7 +16,7 @@ pub(crate) struct MoveGraph<'a> {
     pub(crate) rows: &'a [ExchangeList],
     pub(crate) parts: &'a SetList,
     pub(crate) within: &'a ElemSet,
-    pub(crate) table: &'a [BitSet],
+    pub(crate) table: &'a BitRows,
 }
 
 impl Relation for MoveGraph<'_> {
@@ -47,7 +47,7 @@ impl Relation for MoveGraph<'_> {
     }
 
     fn next_arc(&self, u: u32, among: &BitSet, from: u32) -> Option<u32> {
-        among.next_common(&self.table[u as usize], from)
+        among.next_common(self.table.row(u), from)
     }
 }
 
@@ -103,11 +103,11 @@ pub(crate) fn push_table(
     alloc: Global,
     rows: &[ExchangeList],
     n: u32,
-) -> Result<Vec<BitSet>, AllocError>
+) -> Result<BitRows, AllocError>
     requires { (u : ℕ) → u < n → AreLong u rows.now }
-    ensures { IfOk result (λ table. IsPushTable rows.now n table.items) }
+    ensures { IfOk result (λ table. IsPushTable rows.now n table) }
 {
-    let mut table = Vec::new(alloc);
+    let mut table = BitRows::new(alloc);
     for u in 0..n {
         table.push(pushed(alloc, rows, u)?)?;
     }

@@ -1,16 +1,16 @@
 //! A search for moves from one element.
-ghost use Rattle.std.specs.Prelude.{◌≡◌, ◌<◌, ◌^◌, ℕ, suc, List, Bool, true, false, [], length, slice_index_or, IfOk, OnOk, MatchOption};
+ghost use Rattle.std.specs.Prelude.{◌≡◌, ◌<◌, ◌^◌, ℕ, suc, List, Bool, true, false, length, IfOk, OnOk, MatchOption};
 ghost use Rattle.mat_sets.specs.Families.{family_union, AreDisjoint};
 ghost use Rattle.mat_sets.specs.Sets.{is_member};
 ghost use Rattle.mat_laws.specs.TightPaths.{Exchanges};
 ghost use Rattle.mat_union.specs.Moves.{exchanges_with};
-ghost use Rattle.mat_union.specs.MoveSearches.{questions_left, AreFoundMoves, AreMovesAt, AreTaken, IsHeard, IsHeardAll, IsOpen, IsQuestion, IsReaching, IsSilent};
+ghost use Rattle.mat_union.specs.MoveSearches.{questions_left, AreFoundMoves, AreMovesAt, AreTaken, IsHeard, IsHeardAll, IsOpen, IsQuestion, IsReaching};
 ghost use Rattle.mat_union.specs.Unions.{part_at, AreMatroids, AreParts};
 
 use crate::move_graph::insert_all;
 use crate::moves::Move;
 use mat_laws::Exchange;
-use mat_sets::{BitSet, ElemSet, Relation, WalkSearch, shortest_walk};
+use mat_sets::{BitRows, BitSet, ElemSet, Relation, WalkSearch, shortest_walk};
 use std::alloc::{AllocError, Global};
 
 /// What a search for moves asks for: the exchanges of an element at a part.
@@ -39,18 +39,7 @@ pub struct MoveSearch {
     pub(crate) entered: bool,
     pub(crate) unreached: BitSet,
     // At each element whose exchanges are told, those whose place it can take.
-    pub(crate) table: Vec<BitSet>,
-}
-
-// A table with no arcs.
-fn empty_table(alloc: Global, n: u32) -> Result<Vec<BitSet>, AllocError>
-    ensures { IfOk result (λ table. IsSilent n table.items) }
-{
-    let mut table = Vec::new(alloc);
-    for _ in 0..n {
-        table.push(BitSet::new(alloc))?;
-    }
-    Ok(table)
+    pub(crate) table: BitRows,
 }
 
 // Puts the unreached elements among these into the queue.
@@ -87,7 +76,7 @@ impl MoveSearch {
         unreached.remove(start);
         let mut queue = Vec::new(alloc);
         queue.push(start)?;
-        let table = empty_table(alloc, n)?;
+        let table = BitRows::with_rows(alloc, n, 0)?;
         Ok(MoveSearch {
             start,
             count,
@@ -131,37 +120,38 @@ impl MoveSearch {
         let pushes = std::mem::replace(&mut self.pushes, BitSet::new(alloc));
         take_common(&pushes, &mut self.unreached, &mut self.queue)?;
         let u = self.queue[self.head];
-        self.table[u as usize] = pushes;
+        self.table.replace(u, pushes);
         self.head += 1;
         self.part = 0;
         Ok(())
     }
 
-    /// Tells the exchanges that were asked for. The only error is want of memory.
-    pub fn tell(&mut self, alloc: Global, row: &Exchange) -> Result<(), AllocError>
-        requires open { IsOpen self.old }
-        requires part { self.old.part < self.old.count }
-        ensures { OnOk result ((n m : ℕ) (exchanges : ℕ → Exchanges) (among : List ℕ) (start : ℕ) → IsReaching n m exchanges among start self.old
-            → self.old.entered ≡ false → IsHeard exchanges self.old row.now
-            → IsReaching n m exchanges among start self.new × (questions_left among self.new < questions_left among self.old)) }
+    /// The search with the exchanges that were asked for told. The only error is want of memory.
+    pub fn tell(self, alloc: Global, row: &Exchange) -> Result<MoveSearch, AllocError>
+        requires open { IsOpen self }
+        requires part { self.part < self.count }
+        ensures { IfOk result (λ s. (n m : ℕ) (exchanges : ℕ → Exchanges) (among : List ℕ) (start : ℕ) → IsReaching n m exchanges among start self
+            → self.entered ≡ false → IsHeard exchanges self row.now
+            → IsReaching n m exchanges among start s × (questions_left among s < questions_left among self)) }
     {
+        let mut search = self;
         if row.addable {
-            self.entered = true;
-            return Ok(());
+            search.entered = true;
+            return Ok(search);
         }
-        insert_all(&mut self.pushes, row.with.as_slice())?;
-        self.part += 1;
-        if self.part < self.count {
-            return Ok(());
+        insert_all(&mut search.pushes, row.with.as_slice())?;
+        search.part += 1;
+        if search.part < search.count {
+            return Ok(search);
         }
-        self.close(alloc)?;
-        Ok(())
+        search.close(alloc)?;
+        Ok(search)
     }
 
     /// The moves that were found, where an element can be added, at these parts: a walk with fewest steps along the arcs that were told. The
     /// only error is want of memory.
     pub fn moves(&self, alloc: Global, parts: &[ElemSet]) -> Result<Option<Vec<Move>>, AllocError>
-        requires few { length self.now.table.items < 2 ^ 32 }
+        requires few { length self.now.table < 2 ^ 32 }
         requires parts { length parts.now < 2 ^ 32 }
         requires open { self.now.entered ≡ true → self.now.head < length self.now.queue.items }
         ensures { IfOk result (λ found. (n : ℕ) (tests : List (List ℕ → Bool)) (among : List ℕ) (start : ℕ) → AreMatroids n tests
@@ -173,7 +163,7 @@ impl MoveSearch {
             return Ok(None);
         }
         let arcs = KnownArcs {
-            table: self.table.as_slice(),
+            table: &self.table,
             start: self.start,
             goal: self.queue[self.head],
         };
@@ -187,7 +177,7 @@ impl MoveSearch {
 /// The arcs that a search knows, from its start to the element that can be added.
 #[derive(Drop)]
 struct KnownArcs<'a> {
-    table: &'a [BitSet],
+    table: &'a BitRows,
     start: u32,
     goal: u32,
 }
@@ -195,13 +185,13 @@ struct KnownArcs<'a> {
 impl Relation for KnownArcs<'_> {
     ghost use Rattle.std.specs.Prelude.{◌==◌, ◌<◌, ◌^◌, length};
     ghost use Rattle.mat_sets.specs.Sets.{is_member};
-    ghost use Rattle.mat_union.specs.MoveSearches.{row_of_table};
+    ghost use Rattle.mat_sets.specs.Rows.{row_at};
 
     ghost count = { λ g. length g.table.now };
 
     ghost sound = { λ g. length g.table.now < 2 ^ 32 };
 
-    ghost arc = { λ g u v. is_member v (row_of_table g.table.now u) };
+    ghost arc = { λ g u v. is_member v (row_at g.table.now u) };
 
     ghost start = { λ g v. v == g.start };
 
@@ -220,7 +210,7 @@ impl Relation for KnownArcs<'_> {
     }
 
     fn next_arc(&self, u: u32, among: &BitSet, from: u32) -> Option<u32> {
-        among.next_common(&self.table[u as usize], from)
+        among.next_common(self.table.row(u), from)
     }
 }
 
@@ -237,8 +227,8 @@ fn place_of(parts: &[ElemSet], v: u32) -> u32
     0
 }
 
-// The moves along a walk, of which the last goes to this part.
-fn moves_to(
+/// The moves along a walk, of which the last goes to this part.
+pub(crate) fn moves_to(
     alloc: Global,
     parts: &[ElemSet],
     walk: &[u32],

@@ -1,6 +1,6 @@
 //! The parts after moves.
 ghost use Rattle.std.specs.Prelude.{◌≡◌, ◌<◌, ◌^◌, ℕ, List, Bool, true, false, length, map, if◌then◌else◌, IfOk, OnOk};
-ghost use Rattle.mat_sets.specs.Families.{family_union, AllRising};
+ghost use Rattle.mat_sets.specs.Families.{family_union};
 ghost use Rattle.mat_sets.specs.Sets.{all_below, is_member, minus, union, with_one, IsRising};
 ghost use Rattle.mat_union.specs.Moves.{elements, entering, exchanges_with, moved};
 ghost use Rattle.mat_union.specs.Placings.{ArePlaced};
@@ -73,14 +73,14 @@ pub fn parts_with(alloc: Global, parts: &SetList, x: u32, q: u32) -> Result<SetL
     moved_parts(alloc, parts, &moves)
 }
 
-/// The members of all parts. The only error is want of memory.
+/// The members of any of these sets. The only error is want of memory.
 #[tactic(auto, using(mat_sets::proofs::Steps::set_steps))]
-pub fn members_of(alloc: Global, parts: &SetList) -> Result<ElemSet, AllocError>
-    ensures { IfOk result (λ s. s ≡ family_union parts.now) }
+pub fn members_of(alloc: Global, sets: &[ElemSet]) -> Result<ElemSet, AllocError>
+    ensures { IfOk result (λ s. s ≡ family_union sets.now) }
 {
     let mut members = ElemSet::new(alloc);
-    for i in 0..parts.len() {
-        members = parts.get(i).union(alloc, &members)?;
+    for set in sets {
+        members = set.union(alloc, &members)?;
     }
     Ok(members)
 }

@@ -8,8 +8,7 @@ ghost use Rattle.mat_union.specs.Unions.{test_at, union_test};
 
 use crate::asked::Asked;
 use crate::empty::first_parts;
-use crate::filling::growth_from;
-use crate::growth::{Growth, all_lawful, grow};
+use crate::growth::{Growth, all_lawful, grow, growth_from};
 use crate::move_graph::stands;
 use crate::moved_sets::members_of;
 use mat_sets::ElemSet;
@@ -84,5 +83,5 @@ pub(crate) fn run_along<M: Asked>(
     for x in order {
         take_turn(alloc, matroids, &mut growth, n, *x)?;
     }
-    members_of(alloc, &growth.parts)
+    members_of(alloc, growth.parts.as_slice())
 }

@@ -1,31 +1,15 @@
 //! The search for moves.
-ghost use Rattle.std.specs.Prelude.{◌≡◌, ◌<◌, ◌^◌, ℕ, true, length, slice_index_or, [], IfOk};
-ghost use Rattle.mat_sets.specs.Sets.{is_member, IsSet};
+ghost use Rattle.std.specs.Prelude.{◌≡◌, ◌<◌, ◌^◌, true, length, slice_index_or, [], IfOk};
 ghost use Rattle.mat_sets.specs.Walks.{IsShortestWalk};
 ghost use Rattle.mat_union.specs.MoveGraphs.{AreLong, AreMovable};
 ghost use Rattle.mat_union.specs.Moves.{can_enter, can_push, exchanges_of, is_free, IsMoves, IsShortestMovePath};
 
 use crate::exchange_list::ExchangeList;
 use crate::move_graph::{MoveGraph, push_table};
+use crate::move_search::moves_to;
 use crate::moves::{Move, Moves};
 use mat_sets::{ElemSet, SetList, WalkSearch, shortest_walk};
 use std::alloc::{AllocError, Global};
-
-/// The number of a part in which u can take the place of v.
-fn pushing_part(rows: &[ExchangeList], u: u32, v: u32) -> u32
-    requires few { length rows.now < 2 ^ 32 }
-    requires long { AreLong u rows.now }
-    requires some { can_push (length rows.now) (exchanges_of rows.now) u v ≡ true }
-    ensures below { result < length rows.now }
-    ensures found { (exchanges_of rows.now result).trades v u ≡ true }
-{
-    for i in 0..rows.len() {
-        if rows[i].get(u as usize).with.contains(v) {
-            return i as u32;
-        }
-    }
-    0
-}
 
 /// The number of a part to which u can be added.
 fn entered_part(rows: &[ExchangeList], u: u32) -> u32
@@ -63,7 +47,7 @@ pub fn union_search(
         rows,
         parts,
         within,
-        table: table.as_slice(),
+        table: &table,
     };
     match shortest_walk(alloc, &graph)? {
         WalkSearch::Walk(walk) => Ok(Moves::Path(moves_along(
@@ -73,7 +57,7 @@ pub fn union_search(
     }
 }
 
-/// The moves along a walk: each element moves into a part in which it can take the place of the next, and the last is added to one.
+/// The moves along a walk: each element moves into the part of the next, whose place it can take there, and the last is added to one.
 fn moves_along(
     alloc: Global,
     rows: &[ExchangeList],
@@ -87,19 +71,7 @@ fn moves_along(
     requires walk { IsShortestWalk n (can_push (length rows.now) (exchanges_of rows.now)) (is_free parts.now within.now) (can_enter (length rows.now) (exchanges_of rows.now)) walk.now }
     ensures { IfOk result (λ moves. IsShortestMovePath (length rows.now) (exchanges_of rows.now) (is_free parts.now within.now) moves.items) }
 {
-    let mut moves = Vec::new(alloc);
     let last = walk.len() - 1;
-    for i in 0..last {
-        let part = pushing_part(rows, walk[i], walk[i + 1]);
-        moves.push(Move {
-            element: walk[i],
-            part,
-        })?;
-    }
     let part = entered_part(rows, walk[last]);
-    moves.push(Move {
-        element: walk[last],
-        part,
-    })?;
-    Ok(moves)
+    moves_to(alloc, parts.as_slice(), walk, part)
 }

@@ -28,6 +28,12 @@ abbrev pub Gives : {X Y : Type 0} → (X → Y) → Result X ReadingRefusal → 
 Gives view (Ok x) reading = reading ≡ Ok (view x)
 Gives view (Err refusal) reading = Fails refusal reading
 
+-- what a call returned that takes no memory is no want of memory
+abbrev pub IsTold : {X : Type 0} → Result X ReadingRefusal → Type 0
+IsTold (Ok x) = Unit {0}
+IsTold (Err refusals.Memory) = ⊥
+IsTold (Err (refusals.Fault kind line)) = Unit {0}
+
 -- ---- lines
 
 -- the line with number n, which is needed, has to be ended and well spaced and to have words

@@ -1,8 +1,8 @@
 //! Reading a text line by line and word by word. What is read comes with what is left behind it, and the first fault ends the reading.
 
-ghost use Rattle.std.specs.Prelude.{◌≡◌, ◌<◌, ◌≤◌, ◌≤ℤ◌, IfOk, length};
+ghost use Rattle.std.specs.Prelude.{◌≡◌, ◌<◌, ◌≤◌, ◌≤ℤ◌, IfOk};
 ghost use Rattle.mat_words.specs.Cursors.{lines_left, words_left};
-ghost use Rattle.mat_words.specs.Reading.{Gives, line_at, word_at, number_at, size_at, below_at, weight_at, weights_at, keyed_at, is_closed};
+ghost use Rattle.mat_words.specs.Reading.{Gives, IsTold, line_at, word_at, number_at, size_at, below_at, weight_at, weights_at, keyed_at, is_closed};
 
 use crate::cursor::{LineCursor, WordCursor};
 use crate::lines::split_line;
@@ -13,12 +13,14 @@ use crate::words::{split_word, well_spaced};
 use mat_sets::Weight;
 use std::alloc::Global;
 
-/// The words of the next line, which has to have words, and the lines behind it.
+/// The words of the next line, which has to have words, and the lines behind it. It takes no memory, as all calls here but
+/// `next_weights`.
 #[tactic(auto, unfolding(crate::specs::Reading::line_at))]
 pub fn words_line<'a>(
     lines: LineCursor<'a>,
 ) -> Result<(WordCursor<'a>, LineCursor<'a>), ReadingRefusal>
-    ensures { Gives (λ x. (words_left x.0, lines_left x.1)) result (line_at (lines_left lines.entry)) }
+    ensures value { Gives (λ x. (words_left x.0, lines_left x.1)) result (line_at (lines_left lines.entry)) }
+    ensures told { IsTold result }
 {
     let line = lines.line;
     let Some((content, rest)) = split_line(lines.text) else {
@@ -52,7 +54,8 @@ pub fn nothing_left(lines: LineCursor<'_>) -> bool
 /// The next word of a line, and what is left behind it.
 #[tactic(auto, unfolding(crate::specs::Reading::word_at))]
 pub fn next_word<'a>(words: WordCursor<'a>) -> Result<(&'a [u8], WordCursor<'a>), ReadingRefusal>
-    ensures { Gives (λ x. (x.0.now, words_left x.1)) result (word_at (words_left words.entry)) }
+    ensures value { Gives (λ x. (x.0.now, words_left x.1)) result (word_at (words_left words.entry)) }
+    ensures told { IsTold result }
 {
     let line = words.line;
     let Some(left) = words.left else {
@@ -71,6 +74,7 @@ pub fn next_number<'a>(
 ) -> Result<(i128, WordCursor<'a>), ReadingRefusal>
     ensures value { Gives (λ x. (x.0, words_left x.1)) result (number_at low high (words_left words.entry)) }
     ensures range { IfOk result (λ x. (low ≤ℤ x.0) × (x.0 ≤ℤ high)) }
+    ensures told { IsTold result }
 {
     let (word, rest) = next_word(words)?;
     match read_number(word, low, high) {
@@ -88,6 +92,7 @@ pub fn next_size<'a>(
 ) -> Result<(u32, WordCursor<'a>), ReadingRefusal>
     ensures value { Gives (λ x. (x.0, words_left x.1)) result (size_at low most (words_left words.entry)) }
     ensures range { IfOk result (λ x. (low ≤ x.0) × (x.0 ≤ most)) }
+    ensures told { IsTold result }
 {
     let (number, words) = next_number(words, low as i128, most as i128)?;
     Ok((number as u32, words))
@@ -101,6 +106,7 @@ pub fn next_below<'a>(
 ) -> Result<(u32, WordCursor<'a>), ReadingRefusal>
     ensures value { Gives (λ x. (x.0, words_left x.1)) result (below_at bound (words_left words.entry)) }
     ensures range { IfOk result (λ x. x.0 < bound) }
+    ensures told { IsTold result }
 {
     let (number, words) = next_number(words, 0, bound as i128 - 1)?;
     Ok((number as u32, words))
@@ -113,7 +119,8 @@ pub fn next_weight<'a>(
     low: i128,
     high: i128,
 ) -> Result<(Weight, WordCursor<'a>), ReadingRefusal>
-    ensures { Gives (λ x. (x.0, words_left x.1)) result (weight_at low high (words_left words.entry)) }
+    ensures value { Gives (λ x. (x.0, words_left x.1)) result (weight_at low high (words_left words.entry)) }
+    ensures told { IsTold result }
 {
     let (word, rest) = next_word(words)?;
     match read_weight(word, low, high) {
@@ -148,7 +155,8 @@ pub fn keyed_line<'a>(
     lines: LineCursor<'a>,
     key: &[u8],
 ) -> Result<(WordCursor<'a>, LineCursor<'a>), ReadingRefusal>
-    ensures { Gives (λ x. (words_left x.0, lines_left x.1)) result (keyed_at key.now (lines_left lines.entry)) }
+    ensures value { Gives (λ x. (words_left x.0, lines_left x.1)) result (keyed_at key.now (lines_left lines.entry)) }
+    ensures told { IsTold result }
 {
     let line = lines.line;
     let (words, rest) = words_line(lines)?;

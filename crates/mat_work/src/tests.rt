@@ -1,5 +1,5 @@
 //! All rows of small jobs, by one worker and by several, and two threads that meet.
-ghost use Rattle.std.specs.Prelude.{◌≡◌, ◌+◌, ◌*◌, ◌<◌, ◌≤◌, ℕ, List, [], ◌∷◌};
+ghost use Rattle.std.specs.Prelude.{◌≡◌, ◌+◌, ◌*◌, ◌<◌, ◌≤◌, [], ◌∷◌};
 
 use crate::{RowJob, all_rows};
 use std::alloc::{AllocError, Global};

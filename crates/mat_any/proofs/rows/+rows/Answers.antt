@@ -173,7 +173,7 @@ search_from-loop-asked-preserved t c = (
     let l : q < length ms = subst (λ k. q < k) count (subst (λ k. k < length P) (sym c.in-Some.ensures.3) c.loop-asked.invariant.here) in
     let heard = row_answers (map test_in ms) P s (test_in c.index-matroids-i.result) c.get.result.now c.in-Some.asked.element q c.in_ok-row.row c.in-Some.ensures.2 c.in-Some.ensures.3
     (test_is test_in ms q c.index-matroids-i.result l c.index-matroids-i.is) c.get.ensures.item c.in_ok-row.ensures in
-    c.in_ok-tell.ensures n (length P) (exchanges_with (map test_in ms) P) c.args.among.now c.args.x c.loop-asked.invariant c.in-Some.ensures.0 heard
+    c.in_ok-search-2.ensures n (length P) (exchanges_with (map test_in ms) P) c.args.among.now c.args.x c.loop-asked.invariant c.in-Some.ensures.0 heard
     ).0
 
 pub search_from-loop-asked-smaller : goal.search_from-loop-asked-smaller
@@ -187,7 +187,7 @@ search_from-loop-asked-smaller t c = (
     let l : q < length ms = subst (λ k. q < k) count (subst (λ k. k < length P) (sym c.in-Some.ensures.3) c.loop-asked.invariant.here) in
     let heard = row_answers (map test_in ms) P s (test_in c.index-matroids-i.result) c.get.result.now c.in-Some.asked.element q c.in_ok-row.row c.in-Some.ensures.2 c.in-Some.ensures.3
     (test_is test_in ms q c.index-matroids-i.result l c.index-matroids-i.is) c.get.ensures.item c.in_ok-row.ensures in
-    c.in_ok-tell.ensures n (length P) (exchanges_with (map test_in ms) P) c.args.among.now c.args.x c.loop-asked.invariant c.in-Some.ensures.0 heard
+    c.in_ok-search-2.ensures n (length P) (exchanges_with (map test_in ms) P) c.args.among.now c.args.x c.loop-asked.invariant c.in-Some.ensures.0 heard
     ).1
 
 pub search_from-returns-clause-ended : goal.search_from-returns-clause-ended

@@ -365,8 +365,8 @@ keep_changed-loop-i-preserved t c =
     let i = c.loop-i.i in
     elim c.if-is_changed.branch [
       | keep_changed-then-is_changed+in_ok-one w ↦ rw w.kept-is (subst (AreKeptAnew KeepsOne ms old new (i + 1)) (sym w.put_kept.ensures)
-          (anew_set KeepsOne ms old new i c.loop-i.kept.items w.index-matroids-i.result w.get.result.now w.in_ok-one.one c.loop-i.invariant c.loop-i-test.true w.index-matroids-i.is
-          w.get.ensures.item w.in_ok-one.ensures))
+          (anew_set KeepsOne ms old new i c.loop-i.kept.items w.index-matroids-i.result w.get-then-is_changed.result.now w.in_ok-one.one c.loop-i.invariant c.loop-i-test.true w.index-matroids-i.is
+          w.get-then-is_changed.ensures.item w.in_ok-one.ensures))
       | keep_changed-else-is_changed w ↦ rw w.kept-is (anew_same KeepsOne ms old new i c.loop-i.kept.items (part_at new i) (part_at old i) c.loop-i.invariant refl refl
           (c.is_changed.ensures.same w.if-is_changed.false))
     ]

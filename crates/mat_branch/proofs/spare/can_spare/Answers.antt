@@ -17,13 +17,13 @@ pub returns-in-Paths : goal.returns-in-Paths
 returns-in-Paths c =
     TellsSpare-paths c.args.graph.now.vertices c.args.root (ends_of c.args.graph.now.arcs) c.args.live.now c.args.m c.args.a c.in_ok-rest.rest
     c.get-head.result.1 c.in_ok-rest.ensures.members (ap (λ p. p.1) (c.get-head.ensures ∙ ap (λ l. ends_of l c.args.a) c.arcs.ensures.arcs))
-    c.in-Paths.field-0.items c.requires.live.rising c.requires.entered (rw c.in-Paths.is at c.in_ok-arc_paths.ensures)
+    c.in-Paths.field-0.items c.requires.live.rising c.requires.entered (rw c.in-Paths.is at c.in_ok-arc_paths.ensures.right)
 
 pub returns : goal.returns
 returns c =
     TellsSpare-cut c.args.graph.now.vertices c.args.root (ends_of c.args.graph.now.arcs) c.args.live.now c.args.m c.args.a c.in_ok-rest.rest
     c.get-head.result.1 c.in_ok-rest.ensures.members (ap (λ p. p.1) (c.get-head.ensures ∙ ap (λ l. ends_of l c.args.a) c.arcs.ensures.arcs))
-    c.in-Cut.field-0 (rw c.in-Cut.is at c.in_ok-arc_paths.ensures)
+    c.in-Cut.field-0 (rw c.in-Cut.is at c.in_ok-arc_paths.ensures.right)
 
 pub returns-then-m-eq0 : goal.returns-then-m-eq0
 returns-then-m-eq0 c = TellsSpare-none c.args.graph.now.vertices c.args.root (ends_of c.args.graph.now.arcs) c.args.live.now c.args.m c.args.a c.if-m-eq0.true

@@ -13,9 +13,9 @@ loop-v-preserved c =
     let v = c.loop-v.v in
     elim c.if-v-root.branch [
       | then-v-root+in_ok-cut+in-Paths+in-Paths-1 w ↦
-          AreServed-paths ends live root k v w.in-Paths.field-0.items (rw w.in-Paths.is at w.in_ok-cut.ensures) c.loop-v.invariant
+          AreServed-paths ends live root k v w.in-Paths.field-0.items (rw w.in-Paths.is at w.in_ok-cut.ensures.right) c.loop-v.invariant
       | then-v-root+in_ok-cut+in-Paths+in-Cut-1 w ↦
-          AreServed-paths ends live root k v w.in-Paths.field-0.items (rw w.in-Paths.is at w.in_ok-cut.ensures) c.loop-v.invariant
+          AreServed-paths ends live root k v w.in-Paths.field-0.items (rw w.in-Paths.is at w.in_ok-cut.ensures.right) c.loop-v.invariant
       | else-v-root w ↦ AreServed-root ends live root k v w.if-v-root.false c.loop-v.invariant
     ]
 

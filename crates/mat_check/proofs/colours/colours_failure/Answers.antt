@@ -1,4 +1,4 @@
-use Rattle.std.proofs.Common.{◌≡◌, ◌∙◌, ℕ, get_or, length, ap, subst, sym}
+use Rattle.std.proofs.Common.{ℕ, get_or, length, subst, sym}
 use Rattle.mat_sets.specs.Sets.{AllBelow, is_member}
 use Rattle.std.specs.Prelude.{not}
 use Rattle.mat_sets.specs.Search.{those_below}

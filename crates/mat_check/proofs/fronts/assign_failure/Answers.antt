@@ -1,11 +1,11 @@
-use Rattle.std.proofs.Common.{◌≡◌, ◌∙◌, ℕ, ap, length, refl, subst, sym}
+use Rattle.std.proofs.Common.{◌∙◌, ap, length, refl, subst, sym}
 use Rattle.std.proofs.lemmas.Result.{IfOk-weaker}
 use Rattle.mat_count.specs.Partitions.{CappedClasses}
 use Rattle.mat_fronts.specs.Assignments.{column_at, row_at}
 use Rattle.mat_fronts.specs.Once.{is_once, one_each}
 use Rattle.mat_cert.specs.Certificates.{IsRangedLadder}
 use Rattle.mat_check.specs.Clauses.{first_failure}
-use Rattle.mat_check.proofs.LabelledMatroids.{by_labels, labels_read, same_ladder, test_of}
+use Rattle.mat_check.proofs.LabelledMatroids.{labels_read, same_ladder, test_of}
 use Rattle.mat_check.proofs.fronts.assign_failure.Goals as goal
 
 pub ladder_failure-requires-clause-first_lengths : goal.ladder_failure-requires-clause-first_lengths

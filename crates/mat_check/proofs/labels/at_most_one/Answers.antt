@@ -1,4 +1,4 @@
-use Rattle.std.proofs.Common.{ℕ, ◌∙◌, get_or, length}
+use Rattle.std.proofs.Common.{◌∙◌, get_or, length}
 use Rattle.std.proofs.lemmas.Result.{IfOk-weaker}
 use Rattle.mat_fronts.specs.Once.{one_each}
 use Rattle.mat_fronts.proofs.OnceEach.{caps_by-ones}

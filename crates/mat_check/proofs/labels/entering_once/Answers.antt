@@ -1,4 +1,4 @@
-use Rattle.std.proofs.Common.{ℕ, ◌∙◌, ap, get_or, length, refl, arith}
+use Rattle.std.proofs.Common.{◌∙◌, ap, get_or, length, refl, arith}
 use Rattle.std.proofs.lemmas.Result.{IfOk-weaker}
 use Rattle.mat_count.proofs.LabelClasses.{length-caps_by}
 use Rattle.mat_arbor.specs.Heads.{cap_at}

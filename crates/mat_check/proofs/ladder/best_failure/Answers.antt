@@ -1,4 +1,4 @@
-use Rattle.std.proofs.Common.{◌≡◌, ℕ, length, slice_get, sym, ap, subst, ◌∙◌}
+use Rattle.std.proofs.Common.{ℕ, length, slice_get, sym, ap, subst, ◌∙◌}
 use Rattle.mat_any.specs.Trees.{is_independent}
 use Rattle.mat_any.specs.Views.{tree_of}
 use Rattle.mat_cert.specs.Certificates.{AreRangedRungs, IsRangedPlainRung, last_rung}

@@ -1,4 +1,4 @@
-use Rattle.std.proofs.Common.{◌∙◌, sym, arith}
+use Rattle.std.proofs.Common.{arith}
 use Rattle.mat_sets.proofs.Ground.{IsSet-length}
 use Rattle.mat_check.proofs.least.arborescence_failure.Goals as goal
 

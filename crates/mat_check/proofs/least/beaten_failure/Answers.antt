@@ -7,7 +7,6 @@ use Rattle.mat_graphic.specs.Forests.{is_graphic}
 use Rattle.mat_graphic.specs.declared.graphic.Graphic.{Graphic}
 use Rattle.mat_arbor.specs.Heads.{is_entering_once}
 use Rattle.mat_arbor.proofs.LeastTrees.{common_from_arborescence}
-use Rattle.mat_cert.specs.Certificates.{IsRangedPart}
 use Rattle.mat_check.specs.Clauses.{heaviest_clause}
 use Rattle.mat_check.proofs.FailingClauses.{first_of_failing, first_of_holding}
 use Rattle.mat_check.proofs.LabelledMatroids.{test_of}

@@ -1,6 +1,5 @@
-use Rattle.std.proofs.Common.{◌≡◌, ◌∙◌, ◌<◌, ℕ, List, ap, length, subst, sym}
+use Rattle.std.proofs.Common.{◌∙◌, ℕ, List, ap}
 use Rattle.mat_sets.specs.Graphs.{ends_of}
-use Rattle.mat_sets.specs.Sets.{AllBelow}
 use Rattle.mat_branch.specs.Spanning.{is_spanning_arborescence}
 use Rattle.mat_flow.specs.Digraphs.{DirectedGraph}
 use Rattle.mat_check.proofs.least.is_arborescence.Goals as goal

@@ -4,7 +4,7 @@ use Rattle.mat_sets.specs.Search.{some_below}
 use Rattle.mat_sets.specs.Sets.{is_member}
 use Rattle.mat_union.specs.Unions.{part_at}
 use Rattle.mat_packing.specs.Trees.{stays}
-use Rattle.mat_check.proofs.CountedEdges.{IsCounted, IsCounted-few, IsCounted-put, IsCounted-skip, IsCounted-start}
+use Rattle.mat_sets.proofs.Counting.{IsCounted, IsCounted-few, IsCounted-put, IsCounted-skip, IsCounted-start}
 use Rattle.mat_check.proofs.trees.crossing_count.Goals as goal
 use Rattle.mat_check.proofs.trees.crossing_count.Goals.{else-not-is_inside, then-not-is_inside}
 

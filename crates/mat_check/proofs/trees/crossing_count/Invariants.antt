@@ -2,7 +2,7 @@
 use Rattle.std.proofs.Common.{not}
 use Rattle.mat_sets.specs.Graphs.{ends_of}
 use Rattle.mat_packing.specs.Trees.{stays}
-use Rattle.mat_check.proofs.CountedEdges.{IsCounted}
+use Rattle.mat_sets.proofs.Counting.{IsCounted}
 use Rattle.mat_check.proofs.trees.crossing_count.Given as goal
 
 abbrev pub invariant-loop-e : goal.invariant-loop-e

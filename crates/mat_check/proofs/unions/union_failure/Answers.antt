@@ -2,9 +2,10 @@ use Rattle.std.proofs.Common.{◌≡◌, ◌∷◌, length, map, sym, subst, ap,
 use Rattle.mat_sets.specs.Families.{family_union}
 use Rattle.mat_sets.specs.Sets.{IsSet}
 use Rattle.mat_sets.specs.Weights.{is_same, weight}
+use Rattle.mat_sets.proofs.Families.{IsSet-family_union}
 use Rattle.mat_check.specs.SetClauses.{overlap_clauses}
 use Rattle.mat_check.proofs.FailingClauses.{first_of_failing, first_of_holding}
-use Rattle.mat_check.proofs.JoinedClauses.{in_first, in_second, in_third, IsSet-family_union}
+use Rattle.mat_check.proofs.JoinedClauses.{in_first, in_second, in_third}
 use Rattle.mat_check.proofs.RightUnions.{all_levels, all_parts, weight_clause}
 use Rattle.mat_check.proofs.unions.union_failure.Goals as goal
 

@@ -1,6 +1,6 @@
 use Rattle.std.proofs.Common.{take}
-use Rattle.mat_count.specs.Partitions.{IsEntered}
+use Rattle.mat_count.specs.Partitions.{IsClassEntered}
 use Rattle.mat_count.proofs.partition.enter.Given as goal
 
 abbrev pub invariant-loop-i : goal.invariant-loop-i
-invariant-loop-i l = IsEntered l.fn.class_of (take l.i l.class) l.place l.class_of
+invariant-loop-i l = IsClassEntered l.fn.class_of (take l.i l.class) l.place l.class_of

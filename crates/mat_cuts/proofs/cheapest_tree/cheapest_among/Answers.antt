@@ -1,5 +1,6 @@
 use Rattle.std.proofs.Common.{◌≡◌, replicate, set, eqb, [], rules, length, sym, ap, subst, arith, ◌∙◌}
 use Rattle.std.proofs.lemmas.Bool.{lt-ltb}
+use Rattle.mat_cuts.specs.Limits.{never}
 use Rattle.mat_sets.specs.Sets.{all_below, without_one, AllBelow}
 use Rattle.mat_sets.proofs.Cardinalities.{length-without_one}
 use Rattle.mat_sets.proofs.Ground.{is_member-all_below, length-all_below, IsRising-all_below}
@@ -45,7 +46,7 @@ search-init c =
     let arcs = c.args.arcs.now in
     let costs = c.args.costs.now in
     let root = c.args.root in
-    let unseen : c.in_ok-vec.field-0.items ≡ replicate vertices 1000000 = search rules in
+    let unseen : c.in_ok-vec.field-0.items ≡ replicate vertices never = search rules in
     let places = places-start vertices root c.in_ok-vec.field-0.items unseen c.requires.root in
     let fresh = c.take_out.ensures.items ∙ ap (λ l. without_one l root) c.in_ok-all_below.ensures.members in
     let since = c.in_ok-first_times.field-0.items in

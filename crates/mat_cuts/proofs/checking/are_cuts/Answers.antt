@@ -4,8 +4,8 @@ use Rattle.std.proofs.lemmas.Int.{ints}
 use Rattle.std.proofs.lemmas.List.{take_all}
 use Rattle.std.specs.List.{AllByRecursion}
 use Rattle.mat_cuts.specs.Answers.{IsCutInRange}
-use Rattle.mat_cuts.specs.Cuts.{IsCut}
-use Rattle.mat_cuts.proofs.EachItem.{AllByRecursion-at, AllByRecursion-more}
+use Rattle.mat_cuts.specs.Cuts.{IsWeightedCut}
+use Rattle.mat_sets.proofs.EachItem.{AllByRecursion-at, AllByRecursion-more}
 use Rattle.mat_cuts.proofs.checking.are_cuts.Goals as goal
 use Rattle.mat_cuts.proofs.checking.are_cuts.Goals.{then-cut-le0-via-then-cut-le0, then-cut-le0-via-else-cut-le0+then-not-is_root_free}
 
@@ -17,8 +17,8 @@ returns-then-cut-le0 c = λ vertices range.
     (AllByRecursion-at (IsCutInRange vertices) cuts c.loop-cut.cut-index item c.loop-cut-test.true range) in (
       λ right. absurd (false≢true right),
       λ all.
-          let one = subst (IsCut vertices c.args.root) (sym c.cut-item.is)
-          (AllByRecursion-at (IsCut vertices c.args.root) cuts c.loop-cut.cut-index item c.loop-cut-test.true all) in
+          let one = subst (IsWeightedCut vertices c.args.root) (sym c.cut-item.is)
+          (AllByRecursion-at (IsWeightedCut vertices c.args.root) cuts c.loop-cut.cut-index item c.loop-cut-test.true all) in
           elim c.then-cut-le0.branch [
             | then-cut-le0-via-then-cut-le0 w ↦ absurd (let low = w.if-cut-le0.true in let positive = one.positive in omega (arith, ints))
             | then-cut-le0-via-else-cut-le0+then-not-is_root_free w ↦
@@ -33,14 +33,14 @@ loop-cut-preserved c = λ vertices range.
     let in_range = subst (IsCutInRange vertices) (sym c.cut-item.is)
     (AllByRecursion-at (IsCutInRange vertices) cuts c.loop-cut.cut-index item c.loop-cut-test.true range) in
     let positive : pos 0 <ℤ item.weight = (let high = c.if-cut-le0.false in omega (arith, ints)) in
-    AllByRecursion-more (IsCut vertices c.args.root) cuts c.loop-cut.cut-index item c.loop-cut-test.true
+    AllByRecursion-more (IsWeightedCut vertices c.args.root) cuts c.loop-cut.cut-index item c.loop-cut-test.true
     (c.loop-cut.invariant vertices range)
-    (subst (IsCut vertices c.args.root) c.cut-item.is
+    (subst (IsWeightedCut vertices c.args.root) c.cut-item.is
     (record { root_free = (c.if-not-is_root_free.ensures vertices in_range.below).0 refl; positive = positive }))
 
 pub returns : goal.returns
 returns c = λ vertices range. (
-  λ right. subst (AllByRecursion (IsCut vertices c.args.root)) (take_all c.loop-cut.cut-index c.args.cuts.now (let past = c.loop-cut-test.false in omega arith))
+  λ right. subst (AllByRecursion (IsWeightedCut vertices c.args.root)) (take_all c.loop-cut.cut-index c.args.cuts.now (let past = c.loop-cut-test.false in omega arith))
       (c.loop-cut.invariant vertices range),
   λ all. refl,
 )

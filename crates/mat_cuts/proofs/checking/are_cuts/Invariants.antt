@@ -1,8 +1,8 @@
 use Rattle.std.proofs.Common.{ℕ, take}
 use Rattle.std.specs.List.{AllByRecursion}
 use Rattle.mat_cuts.specs.Answers.{IsCutInRange}
-use Rattle.mat_cuts.specs.Cuts.{IsCut}
+use Rattle.mat_cuts.specs.Cuts.{IsWeightedCut}
 use Rattle.mat_cuts.proofs.checking.are_cuts.Given as goal
 
 abbrev pub invariant-loop-cut : goal.invariant-loop-cut
-invariant-loop-cut l = (vertices : ℕ) → AllByRecursion (IsCutInRange vertices) l.cuts → AllByRecursion (IsCut vertices l.root) (take l.cut-index l.cuts)
+invariant-loop-cut l = (vertices : ℕ) → AllByRecursion (IsCutInRange vertices) l.cuts → AllByRecursion (IsWeightedCut vertices l.root) (take l.cut-index l.cuts)

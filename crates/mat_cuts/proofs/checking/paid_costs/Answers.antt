@@ -1,13 +1,14 @@
 use mir.Syntax.{w128}
-use Rattle.std.proofs.Common.{◌≡◌, ◌∙◌, ◌^◌, take, sym, ap, subst, arith, to_z, of_z}
+use Rattle.std.proofs.Common.{◌≡◌, ◌∙◌, take, sym, ap, subst, arith, to_z, of_z}
 use Rattle.std.proofs.lemmas.Int.{ints}
 use Rattle.std.proofs.lemmas.List.{length-take-le}
+use Rattle.mat_sets.specs.Limits.{largest_number}
 use Rattle.mat_sets.specs.Graphs.{ends_of, enters}
 use Rattle.mat_sets.specs.Sums.{IsWithin}
 use Rattle.mat_cuts.specs.Cuts.{weight_where}
 use Rattle.mat_cuts.specs.declared.cut_weight.CutWeight.{CutWeight}
 use Rattle.mat_cuts.proofs.Adding.{weight_on-more, weight_on-within}
-use Rattle.mat_cuts.proofs.EachItem.{AllByRecursion-at, AllByRecursion-take}
+use Rattle.mat_sets.proofs.EachItem.{AllByRecursion-at, AllByRecursion-take}
 use Rattle.mat_cuts.proofs.checking.paid_costs.Goals as goal
 
 pub add_at_entering-requires-clause-room : goal.add_at_entering-requires-clause-room
@@ -15,7 +16,7 @@ add_at_entering-requires-clause-room c = λ a l.
     let cuts = c.args.cuts.now in
     let i = c.loop-cut.cut-index in
     let each = c.loop-cut.invariant.each a l in
-    let within = weight_on-within (10 ^ 30) (ends_of c.args.arcs.now) (take i cuts) a (AllByRecursion-take (λ d. IsWithin (10 ^ 30) d.weight) cuts i c.requires.small) in
+    let within = weight_on-within largest_number (ends_of c.args.arcs.now) (take i cuts) a (AllByRecursion-take (λ d. IsWithin largest_number d.weight) cuts i c.requires.small) in
     let long = length-take-le i cuts (omega arith) in
     let few = c.requires.few in
     let inside = c.loop-cut-test.true in
@@ -27,8 +28,8 @@ loop-cut-preserved c =
     let cuts = c.args.cuts.now in
     let i = c.loop-cut.cut-index in
     let item = c.cut-item.result in
-    let one = subst (λ (d : CutWeight). IsWithin (10 ^ 30) d.weight) (sym c.cut-item.is)
-    (AllByRecursion-at (λ d. IsWithin (10 ^ 30) d.weight) cuts i item c.loop-cut-test.true c.requires.small) in
+    let one = subst (λ (d : CutWeight). IsWithin largest_number d.weight) (sym c.cut-item.is)
+    (AllByRecursion-at (λ d. IsWithin largest_number d.weight) cuts i item c.loop-cut-test.true c.requires.small) in
     let fits : to_z w128 (of_z w128 item.weight) ≡ item.weight = omega (arith, ints) in
     record {
       long = c.add_at_entering.ensures.long ∙ c.loop-cut.invariant.long;

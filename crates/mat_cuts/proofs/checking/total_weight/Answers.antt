@@ -1,16 +1,17 @@
-use Rattle.std.proofs.Common.{◌≡◌, ◌^◌, get_or, sym, ap, subst, arith}
+use Rattle.std.proofs.Common.{◌≡◌, get_or, sym, ap, subst, arith}
 use Rattle.std.proofs.lemmas.Int.{ints}
+use Rattle.mat_sets.specs.Limits.{largest_number}
 use Rattle.mat_sets.specs.Sums.{IsWithin}
 use Rattle.mat_cuts.specs.declared.cut_weight.CutWeight.{CutWeight}
 use Rattle.mat_cuts.proofs.Adding.{all_weight-more}
-use Rattle.mat_cuts.proofs.EachItem.{AllByRecursion-at}
+use Rattle.mat_sets.proofs.EachItem.{AllByRecursion-at}
 use Rattle.mat_cuts.proofs.checking.total_weight.Goals as goal
 
 pub overflow_add-total : goal.overflow_add-total
 overflow_add-total c =
     let item = c.cut-item.result in
-    let one = subst (λ (d : CutWeight). IsWithin (10 ^ 30) d.weight) (sym c.cut-item.is)
-    (AllByRecursion-at (λ d. IsWithin (10 ^ 30) d.weight) c.args.cuts.now c.loop-cut.cut-index item c.loop-cut-test.true c.requires.small) in
+    let one = subst (λ (d : CutWeight). IsWithin largest_number d.weight) (sym c.cut-item.is)
+    (AllByRecursion-at (λ d. IsWithin largest_number d.weight) c.args.cuts.now c.loop-cut.cut-index item c.loop-cut-test.true c.requires.small) in
     let small = c.loop-cut.invariant.small in
     let few = c.requires.few in
     let inside = c.loop-cut-test.true in
@@ -19,8 +20,8 @@ overflow_add-total c =
 pub loop-cut-preserved : goal.loop-cut-preserved
 loop-cut-preserved c =
     let item = c.cut-item.result in
-    let one = subst (λ (d : CutWeight). IsWithin (10 ^ 30) d.weight) (sym c.cut-item.is)
-    (AllByRecursion-at (λ d. IsWithin (10 ^ 30) d.weight) c.args.cuts.now c.loop-cut.cut-index item c.loop-cut-test.true c.requires.small) in
+    let one = subst (λ (d : CutWeight). IsWithin largest_number d.weight) (sym c.cut-item.is)
+    (AllByRecursion-at (λ d. IsWithin largest_number d.weight) c.args.cuts.now c.loop-cut.cut-index item c.loop-cut-test.true c.requires.small) in
     let more = all_weight-more c.args.cuts.now c.loop-cut.cut-index item c.loop-cut-test.true in
     let same : item.weight ≡ (get_or c.args.cuts.now c.loop-cut.cut-index item).weight = ap (λ (d : CutWeight). d.weight) c.cut-item.is in
     let so_far = c.loop-cut.invariant.so_far in

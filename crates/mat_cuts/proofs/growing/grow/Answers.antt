@@ -1,5 +1,6 @@
 use Rattle.std.proofs.Common.{◌∙◌, suc, length, ap, subst, arith}
 use Rattle.std.proofs.lemmas.Bool.{ltb-true}
+use Rattle.mat_cuts.specs.Limits.{never}
 use Rattle.mat_sets.specs.Graphs.{ends_of}
 use Rattle.mat_sets.specs.Search.{those_below}
 use Rattle.mat_cuts.specs.Growing.{is_timed, TellsEarliest}
@@ -37,7 +38,7 @@ earliest-requires-clause-timed c = λ a m.
     let since = c.args.raised.now.since.items in
     let those = c.deref.ensures.value ∙ c.in_ok-timed.ensures ∙ ap (λ s. those_below (length s) (is_timed s)) c.as_slice-since.ensures.value
     ∙ ap (λ n. those_below n (is_timed since)) c.requires.raised.since_long in
-    let early = ltb-true (at since a) 1000000 (those-passes (length c.args.arcs.now) (is_timed since) c.deref.result.now those a m) in
+    let early = ltb-true (at since a) never (those-passes (length c.args.arcs.now) (is_timed since) c.deref.result.now those a m) in
     let read = ap (λ s. at s a) c.as_slice-since.ensures.value in
     omega arith
 

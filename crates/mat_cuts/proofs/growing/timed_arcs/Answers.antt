@@ -1,5 +1,6 @@
 use Rattle.std.proofs.Common.{◌∙◌, ◌++◌, ◌∷◌, [], sym, ap}
 use Rattle.std.proofs.lemmas.Bool.{le-ltb, lt-ltb}
+use Rattle.mat_cuts.specs.Limits.{never}
 use Rattle.mat_sets.proofs.Rounds.{those_below-none, those_below-skip}
 use Rattle.mat_cuts.specs.Growing.{is_timed}
 use Rattle.mat_cuts.proofs.Loops.{those_below-push}
@@ -16,7 +17,7 @@ loop-a-preserved c =
     elim c.if-since-a-lt-NEVER.branch [
       | then-since-a-lt-NEVER+in_ok-push w ↦ rw w.timed-is
           (w.in_ok-push.ensures.items ∙ ap (λ s. s ++ a ∷ []) c.loop-a.invariant
-          ∙ sym (those_below-push a test (lt-ltb _ 1000000 w.if-since-a-lt-NEVER.true)))
+          ∙ sym (those_below-push a test (lt-ltb _ never w.if-since-a-lt-NEVER.true)))
       | else-since-a-lt-NEVER w ↦ rw w.timed-is
-          (c.loop-a.invariant ∙ those_below-skip a test (le-ltb _ 1000000 w.if-since-a-lt-NEVER.false))
+          (c.loop-a.invariant ∙ those_below-skip a test (le-ltb _ never w.if-since-a-lt-NEVER.false))
     ]

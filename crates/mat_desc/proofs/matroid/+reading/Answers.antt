@@ -37,32 +37,32 @@ next_matroid_within-returns-in-Some-Dual t c =
     let keyword : keyword_of c.in_ok-word.word.now ≡ Some keywords.Dual = search rules in
     let some : 0 < c.args.room = omega (arith, c.if-room-eq0.false) in
     rw (within_is c.args.room c.args.count (lines_left c.args.lines) (words_left c.in_ok-words.words) (lines_left c.in_ok-words.rest)
-    c.in_ok-word.word.now (words_left c.in_ok-word.words) keywords.Dual some c.in_ok-words.ensures c.in_ok-word.ensures keyword) c.dual.ensures
+    c.in_ok-word.word.now (words_left c.in_ok-word.words) keywords.Dual some c.in_ok-words.ensures.value c.in_ok-word.ensures.value keyword) c.dual.ensures
 
 pub next_matroid_within-returns-in-Some-Truncate : goal.next_matroid_within-returns-in-Some-Truncate
 next_matroid_within-returns-in-Some-Truncate t c =
     let keyword : keyword_of c.in_ok-word.word.now ≡ Some keywords.Truncate = search rules in
     let some : 0 < c.args.room = omega (arith, c.if-room-eq0.false) in
     rw (within_is c.args.room c.args.count (lines_left c.args.lines) (words_left c.in_ok-words.words) (lines_left c.in_ok-words.rest)
-    c.in_ok-word.word.now (words_left c.in_ok-word.words) keywords.Truncate some c.in_ok-words.ensures c.in_ok-word.ensures keyword) c.truncation.ensures
+    c.in_ok-word.word.now (words_left c.in_ok-word.words) keywords.Truncate some c.in_ok-words.ensures.value c.in_ok-word.ensures.value keyword) c.truncation.ensures
 
 pub next_matroid_within-returns-in-Some-Restrict : goal.next_matroid_within-returns-in-Some-Restrict
 next_matroid_within-returns-in-Some-Restrict t c =
     let keyword : keyword_of c.in_ok-word.word.now ≡ Some keywords.Restrict = search rules in
     let some : 0 < c.args.room = omega (arith, c.if-room-eq0.false) in
     rw (within_is c.args.room c.args.count (lines_left c.args.lines) (words_left c.in_ok-words.words) (lines_left c.in_ok-words.rest)
-    c.in_ok-word.word.now (words_left c.in_ok-word.words) keywords.Restrict some c.in_ok-words.ensures c.in_ok-word.ensures keyword) c.restriction.ensures
+    c.in_ok-word.word.now (words_left c.in_ok-word.words) keywords.Restrict some c.in_ok-words.ensures.value c.in_ok-word.ensures.value keyword) c.restriction.ensures
 
 pub next_matroid_within-returns-in-Some-Contract : goal.next_matroid_within-returns-in-Some-Contract
 next_matroid_within-returns-in-Some-Contract t c =
     let keyword : keyword_of c.in_ok-word.word.now ≡ Some keywords.Contract = search rules in
     let some : 0 < c.args.room = omega (arith, c.if-room-eq0.false) in
     rw (within_is c.args.room c.args.count (lines_left c.args.lines) (words_left c.in_ok-words.words) (lines_left c.in_ok-words.rest)
-    c.in_ok-word.word.now (words_left c.in_ok-word.words) keywords.Contract some c.in_ok-words.ensures c.in_ok-word.ensures keyword) c.contraction.ensures
+    c.in_ok-word.word.now (words_left c.in_ok-word.words) keywords.Contract some c.in_ok-words.ensures.value c.in_ok-word.ensures.value keyword) c.contraction.ensures
 
 pub next_matroid_within-returns-in-Some-Union : goal.next_matroid_within-returns-in-Some-Union
 next_matroid_within-returns-in-Some-Union t c =
     let keyword : keyword_of c.in_ok-word.word.now ≡ Some keywords.Union = search rules in
     let some : 0 < c.args.room = omega (arith, c.if-room-eq0.false) in
     rw (within_is c.args.room c.args.count (lines_left c.args.lines) (words_left c.in_ok-words.words) (lines_left c.in_ok-words.rest)
-    c.in_ok-word.word.now (words_left c.in_ok-word.words) keywords.Union some c.in_ok-words.ensures c.in_ok-word.ensures keyword) c.union_of.ensures
+    c.in_ok-word.word.now (words_left c.in_ok-word.words) keywords.Union some c.in_ok-words.ensures.value c.in_ok-word.ensures.value keyword) c.union_of.ensures

@@ -1,6 +1,7 @@
 -- The computed rows are those of all elements, which are the rows of a table at the set.
 use Rattle.std.proofs.Common.{◌≤◌, ◌∙◌, length, sym, ap, subst, arith}
 use Rattle.std.proofs.lemmas.Result.{IfOk-weaker}
+use Rattle.mat_sets.specs.Limits.{most_elements}
 use Rattle.mat_sets.specs.Sets.{AllBelow}
 use Rattle.mat_sets.proofs.Ground.{AllBelow-from_members, below_member}
 use Rattle.mat_laws.specs.TightPaths.{row_in}
@@ -17,7 +18,7 @@ ticket_rows-requires-clause-below g c κs within =
 pub table_of-requires-clause-few : goal.table_of-requires-clause-few
 table_of-requires-clause-few g c =
     let count = ap length c.deref.ensures.value ∙ c.in_ok-drawn.ensures.count ∙ c.size.ensures in
-    subst (λ k. k ≤ 500) (sym count) c.requires.few
+    subst (λ k. k ≤ most_elements) (sym count) c.requires.few
 
 pub table_of-requires-clause-base : goal.table_of-requires-clause-base
 table_of-requires-clause-base g c =

@@ -1,6 +1,7 @@
-use Rattle.std.proofs.Common.{List, ◌<◌, ◌^◌, sym, subst, ap, ◌∙◌}
+use Rattle.std.proofs.Common.{List, ◌<◌, sym, subst, ap, ◌∙◌}
 use Rattle.std.proofs.lemmas.Bool.{and_parts}
 use Rattle.std.proofs.lemmas.List.{length-set}
+use Rattle.mat_sets.specs.Limits.{largest_number}
 use Rattle.mat_sets.specs.Sets.{is_member}
 use Rattle.mat_sets.specs.Weights.{◌⊕◌, weight_at, IsWeightWithin}
 use Rattle.mat_sets.specs.declared.weight.Weight.{Weight}
@@ -15,7 +16,7 @@ add_assign-requires c =
     let first = c.in-Some.ensures in
     let small = c.requires.small x (and_parts (is_member x R) (is_member x R) first.passes).0 in
     let old = c.loop-x.invariant.weights x ∙ raised_to_here (weight_at w) R c.args.step c.loop-x.from x first.reaches in
-    sums_fit _ c.args.step (subst (IsWeightWithin (10 ^ 30)) (sym old) small) c.requires.step
+    sums_fit _ c.args.step (subst (IsWeightWithin largest_number) (sym old) small) c.requires.step
 
 pub loop-x-preserved : goal.loop-x-preserved
 loop-x-preserved c =

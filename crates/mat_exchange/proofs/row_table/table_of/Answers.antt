@@ -1,8 +1,8 @@
-use Rattle.std.proofs.Common.{◌≡◌, ◌<◌, ◌≤◌, ◌∙◌, false, [], length, sym, ap, subst, arith}
+use Rattle.std.proofs.Common.{◌≡◌, ◌<◌, ◌∙◌, false, [], length, sym, ap, subst, arith}
 use Rattle.std.proofs.lemmas.List.{get_or_default}
 use Rattle.mat_sets.specs.Sets.{AllBelow}
 use Rattle.mat_laws.specs.declared.exchange.Exchange.{Exchange}
-use Rattle.mat_exchange.specs.RowTables.{IsFilled}
+use Rattle.mat_exchange.specs.RowTables.{IsFilledTable}
 use Rattle.mat_exchange.proofs.TableSteps.{ok_gives}
 use Rattle.mat_exchange.proofs.row_table.table_of.Goals as goal
 
@@ -14,11 +14,8 @@ loop-x-preserved c =
     let exchanges = c.args.exchanges.now in
     let none : Exchange = record { addable = false; with = [] } in
     let l : c.loop-x.x < length exchanges = omega (arith, c.loop-x-test.true, c.requires.few) in
-    c.in_ok-enter.ensures.entered exchanges l
+    c.in_ok-enter.ensures exchanges l
     (sym (c.index-exchanges-x.is ∙ get_or_default exchanges c.loop-x.x c.index-exchanges-x.result none l)) c.loop-x.invariant
-
-pub enter-requires-clause-few : goal.enter-requires-clause-few
-enter-requires-clause-few c = subst (λ k. k ≤ 500) (sym c.loop-x.invariant.columns_count) c.requires.few
 
 pub enter-requires-clause-below : goal.enter-requires-clause-below
 enter-requires-clause-below c =
@@ -46,7 +43,7 @@ finish-requires-clause-filled c =
     let exchanges = c.args.exchanges.now in
     let all : c.loop-x.x ≡ length exchanges = omega (arith, c.loop-x-test.false, c.loop-x.auto.x-end, c.requires.few) in (
       exchanges,
-      subst (λ k. IsFilled exchanges k c.loop-x.table.addable c.loop-x.table.rows.items c.loop-x.table.columns.items)
+      subst (λ k. IsFilledTable exchanges k c.loop-x.table.addable c.loop-x.table.rows c.loop-x.table.columns)
           all c.loop-x.invariant,
       c.requires.whole,
     )
@@ -56,6 +53,6 @@ returns c =
     let exchanges = c.args.exchanges.now in
     let all : c.loop-x.x ≡ length exchanges = omega (arith, c.loop-x-test.false, c.loop-x.auto.x-end, c.requires.few) in
     ok_gives c.finish.result (λ t made. made exchanges
-    (subst (λ k. IsFilled exchanges k c.loop-x.table.addable c.loop-x.table.rows.items c.loop-x.table.columns.items) all c.loop-x.invariant)
+    (subst (λ k. IsFilledTable exchanges k c.loop-x.table.addable c.loop-x.table.rows c.loop-x.table.columns) all c.loop-x.invariant)
     c.requires.whole)
     c.finish.ensures

@@ -1,10 +1,7 @@
-use Rattle.std.proofs.Common.{[], take}
+use Rattle.std.proofs.Common.{take}
 use Rattle.mat_sets.specs.Graphs.{ends_of}
 use Rattle.mat_flow.specs.LineGraphs.{AreLeaving}
 use Rattle.mat_flow.proofs.arc_flow.leaving_rows.Given as goal
 
-abbrev pub invariant-loop : goal.invariant-loop
-invariant-loop l = AreLeaving l.counter (ends_of l.arcs) [] l.rows.items
-
 abbrev pub invariant-loop-a : goal.invariant-loop-a
-invariant-loop-a l = AreLeaving l.vertices (ends_of l.arcs) (take l.a-index l.live) l.rows.items
+invariant-loop-a l = AreLeaving l.vertices (ends_of l.arcs) (take l.a-index l.live) l.rows

@@ -1,11 +1,16 @@
-use Rattle.std.proofs.Common.{◌∙◌, ap}
-use Rattle.mat_sets.specs.Sets.{with_one}
-use Rattle.mat_flow.proofs.Rows.{AreRows-push}
+use Rattle.std.proofs.Common.{◌≡◌, ◌+◌, arith, subst, sym}
+use Rattle.mat_flow.proofs.Rows.{AreLone, AreLone-more, AreLone-none, AreRows-lone}
 use Rattle.mat_flow.proofs.digraph.lone_rows.Goals as goal
+
+pub loop-u-init : goal.loop-u-init
+loop-u-init c = AreLone-none c.args.vertices c.in_ok-rows.rows c.in_ok-rows.ensures
 
 pub loop-u-preserved : goal.loop-u-preserved
 loop-u-preserved c =
-    let u = c.loop-u.u in
-    rw c.in_ok-push.ensures.items
-    (AreRows-push u c.loop-u.rows.items c.insert.new.self c.loop-u.invariant
-    (c.in_ok-insert.ensures.ok ∙ ap (λ row. with_one row u) c.in_ok-row.ensures))
+    subst (AreLone c.args.vertices (c.loop-u.u + 1)) (sym c.in_ok-insert.ensures.ok)
+    (AreLone-more c.args.vertices c.loop-u.u c.loop-u.rows c.loop-u-test.true c.loop-u.invariant)
+
+pub returns : goal.returns
+returns c =
+    let end : c.loop-u.u ≡ c.args.vertices = omega (arith, c.loop-u.auto.u-end, c.loop-u-test.false) in
+    AreRows-lone c.args.vertices c.loop-u.rows (subst (λ i. AreLone c.args.vertices i c.loop-u.rows) end c.loop-u.invariant)

@@ -1,4 +1,4 @@
-use Rattle.mat_flow.specs.PathLaws.{menger as law}
+use Rattle.mat_flow.proofs.PathLaws.{menger as law}
 use Rattle.mat_flow.proofs.laws.menger.Goals as goal
 
 pub returns : goal.returns

@@ -1,4 +1,4 @@
-use Rattle.mat_flow.specs.PathLaws.{one_path_more as law}
+use Rattle.mat_flow.proofs.PathLaws.{one_path_more as law}
 use Rattle.mat_flow.proofs.laws.one_path_more.Goals as goal
 
 pub returns : goal.returns

@@ -27,5 +27,9 @@ returns c =
     let laws = gammoid_laws graph.vertices graph.arcs sources targets c.requires.gammoid in
     let same = c.in_ok-links.ensures.set ∙ ap (grown_along (is_gammoid graph.vertices graph.arcs sources targets) []) c.as_slice.ensures.items
     ∙ run_all laws base c.requires.base in
-    c.in_ok-reroutes.ensures sources (set_of_vertices targets base) c.requires.gammoid.sources_inside.below
-    (subst (λ b. IsLinkedTo graph.vertices graph.arcs sources (set_of_vertices targets b) c.in_ok-links.links) same c.in_ok-links.ensures.links)
+    let linked = subst (λ b. IsLinkedTo graph.vertices graph.arcs sources (set_of_vertices targets b) c.in_ok-links.links) same
+    c.in_ok-links.ensures.links in
+    record {
+      linked = linked;
+      reroutes = c.in_ok-reroutes.ensures sources (set_of_vertices targets base) c.requires.gammoid.sources_inside.below linked;
+    }

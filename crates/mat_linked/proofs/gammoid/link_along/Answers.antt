@@ -26,6 +26,7 @@ loop-x-preserved c =
     let set = c.loop-x.set in
     let found = c.in_ok-link.field-0 in
     let r = c.loop-x.invariant in
+    let told = c.in_ok-link.ensures.answer (set_of_vertices targets set) r.linked in
     let below = AllBelow-at (length targets) order i c.requires.below c.loop-x-test.true in
     let new = vertex_is_new graph.vertices graph.arcs sources targets c.requires.gammoid order i x set c.loop-x.links c.requires.distinct
     c.loop-x-test.true refl below r in
@@ -35,5 +36,4 @@ loop-x-preserved c =
     ] in
     IsLinkedRun-next graph.vertices graph.arcs sources targets c.requires.gammoid order i x set c.loop-x.links c.requires.distinct
     c.loop-x-test.true refl below r found c.link.new.self c.if-branch.set
-    (c.in_ok-link.ensures.ends (set_of_vertices targets set) r.linked new)
-    (c.in_ok-link.ensures.answer (set_of_vertices targets set) r.linked new) is
+    (c.in_ok-link.ensures.ends (set_of_vertices targets set) r.linked) (λ e. (told.0 e).1, λ p. told.1 (new, p)) is

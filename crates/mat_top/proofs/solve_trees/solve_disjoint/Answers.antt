@@ -13,7 +13,7 @@ pub returns-in-All-clause-solution : goal.returns-in-All-clause-solution
 returns-in-All-clause-solution c =
     let arcs = c.args.arcs.now in
     let found : IsBranching c.args.vertices (length arcs) (ends_of arcs) c.args.root c.args.k (All c.in-All.trees) =
-    rw (c.in_ok-graph.ensures, c.in_ok-copy.ensures, c.in-All.is) at c.in_ok-found.ensures in
+    rw (c.in_ok-graph.ensures, c.in_ok-copy.ensures, c.in-All.is) at c.in_ok-found.ensures.right in
     rw c.len-count.ensures
     (disjoint_solution c.args.vertices c.args.root arcs c.args.costs.now c.requires.valid c.args.k c.in-All.trees c.requires.range.0
     c.requires.range.1 found)
@@ -22,7 +22,7 @@ pub returns-clause-solution : goal.returns-clause-solution
 returns-clause-solution c =
     let arcs = c.args.arcs.now in
     let found : IsBranching c.args.vertices (length arcs) (ends_of arcs) c.args.root c.args.k (Cut c.in-Cut.set) =
-    rw (c.in_ok-graph.ensures, c.in_ok-copy.ensures, c.in-Cut.is) at c.in_ok-found.ensures in
+    rw (c.in_ok-graph.ensures, c.in_ok-copy.ensures, c.in-Cut.is) at c.in_ok-found.ensures.right in
     rw c.len-count.ensures
     (seldom_solution c.args.vertices c.args.root arcs c.args.costs.now c.requires.valid c.args.k c.in-Cut.set c.requires.range.0
     c.requires.range.1 found)

@@ -9,14 +9,14 @@ pack_trees-requires-clause-graph c = graph_is_graph c.args.vertices c.args.edges
 
 pub returns-in-Trees-clause-solution : goal.returns-in-Trees-clause-solution
 returns-in-Trees-clause-solution c =
-    let found : IsRightTreesAnswer c.args.vertices c.args.edges.now c.args.k (Trees c.in-Trees.trees) = rw c.in-Trees.is at c.in_ok-found.ensures in
+    let found : IsRightTreesAnswer c.args.vertices c.args.edges.now c.args.k (Trees c.in-Trees.trees) = rw c.in-Trees.is at c.in_ok-found.ensures.right in
     rw c.len-count.ensures
     (trees_solution c.args.vertices c.args.edges.now c.requires.valid c.args.k c.in-Trees.trees c.requires.range.0 c.requires.range.1 found.1 found.0)
 
 pub returns-in-Partition-clause-solution : goal.returns-in-Partition-clause-solution
 returns-in-Partition-clause-solution c =
     let found : IsRightTreesAnswer c.args.vertices c.args.edges.now c.args.k (Partition c.in-Partition.classes) =
-    rw c.in-Partition.is at c.in_ok-found.ensures in
+    rw c.in-Partition.is at c.in_ok-found.ensures.right in
     rw c.len-count.ensures
     (partition_solution c.args.vertices c.args.edges.now c.requires.valid c.args.k c.in-Partition.classes c.as_slice-classes.ensures.rise found
     c.requires.range.0 c.requires.range.1)

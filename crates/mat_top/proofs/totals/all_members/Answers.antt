@@ -1,5 +1,6 @@
 use Rattle.std.proofs.Common.{◌≡◌, ◌≤◌, List, ℕ, length, get_or, ap, arith}
 use Rattle.std.proofs.lemmas.List.Elements.{All-get_or}
+use Rattle.mat_sets.specs.Limits.{most_elements}
 use Rattle.mat_top.proofs.SummaryTotals.{all_members-more}
 use Rattle.mat_top.proofs.totals.all_members.Goals as goal
 
@@ -9,7 +10,7 @@ loop-set-preserved c =
     let i = c.loop-set.set-index in
     let set = c.set-item.result in
     let same : length set ≡ length (get_or sets i set) = ap (λ (s : List ℕ). length s) c.set-item.is in
-    let few = All-get_or (λ (s : List ℕ). length s ≤ 500) sets i set c.loop-set-test.true c.requires.small in
+    let few = All-get_or (λ (s : List ℕ). length s ≤ most_elements) sets i set c.loop-set-test.true c.requires.small in
     let more = all_members-more sets i set c.loop-set-test.true in
     let so_far = c.loop-set.invariant.so_far in
     let small = c.loop-set.invariant.small in

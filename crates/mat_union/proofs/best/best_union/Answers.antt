@@ -1,8 +1,12 @@
-use Rattle.std.proofs.Common.{◌≡◌, ◌∙◌, length, map, refl, subst, sym, arith}
-use Rattle.mat_sets.specs.Sets.{IsRising}
+use Rattle.std.proofs.Common.{◌≡◌, ◌∙◌, None, length, map, refl, subst, sym, arith}
+use Rattle.std.proofs.lemmas.List.{length-map}
+use Rattle.mat_sets.specs.Families.{family_union}
+use Rattle.mat_sets.specs.Sets.{is_member, IsRising}
 use Rattle.mat_union.specs.GrownParts.{AreSound}
 use Rattle.mat_union.specs.RightUnions.{IsRightUnion}
-use Rattle.mat_union.proofs.LevelSteps.{fewer_left, level_done, level_fresh, levels_end, levels_more, levels_none, AreLevelsSo}
+use Rattle.mat_union.proofs.EmptyParts.{empty_are, nothing}
+use Rattle.mat_union.proofs.GrowthLoops.{done_ext}
+use Rattle.mat_union.proofs.LevelSteps.{came, fewer_left, level_done, level_fresh, levels_end, levels_more, levels_none, AreLevelsSo}
 use Rattle.mat_union.proofs.SoundMatroids.{sound_at}
 use Rattle.mat_union.proofs.best.best_union.Goals as goal
 
@@ -15,14 +19,17 @@ all_lawful-requires g c =
     let n_is : c.size-n.result ≡ length w = c.size-n.ensures ∙ (sound_at size sound (length w) matroids c.requires.sound 0 c.index-matroids-0.result c.requires.some c.index-matroids-0.is).1 in
     record { sound = subst (λ k. AreSound size sound k matroids) (sym n_is) c.requires.sound }
 
-pub no_growth-requires-clause-sound : goal.no_growth-requires-clause-sound
-no_growth-requires-clause-sound g c κs within =
+pub growth_from-requires-clause-sound : goal.growth_from-requires-clause-sound
+growth_from-requires-clause-sound g c =
     let size = g.M.Matroid.ground_size in
     let sound = g.M.Matroid.sound in
     let matroids = c.args.matroids.now in
     let w = c.args.weights.now in
     let n_is : c.size-n.result ≡ length w = c.size-n.ensures ∙ (sound_at size sound (length w) matroids c.requires.sound 0 c.index-matroids-0.result c.requires.some c.index-matroids-0.is).1 in
     subst (λ k. AreSound size sound k matroids) (sym n_is) c.requires.sound
+
+pub growth_from-requires-clause-parts : goal.growth_from-requires-clause-parts
+growth_from-requires-clause-parts g c = empty_are c.all_lawful.ensures c.in_ok-parts.parts (c.in_ok-parts.ensures.long ∙ sym (length-map c.args.matroids.now g.M.Matroid.indep)) c.in_ok-parts.ensures.empty
 
 pub grow_by-requires-clause-sound : goal.grow_by-requires-clause-sound
 grow_by-requires-clause-sound g c κs within =
@@ -59,7 +66,7 @@ pub loop-at-init : goal.loop-at-init
 loop-at-init g c = record {
   growing = c.in_ok-growth.ensures.growing;
   kept = c.in_ok-growth.ensures.kept;
-  done = c.in_ok-growth.ensures.done;
+  done = done_ext (λ v. is_member v (family_union c.in_ok-parts.parts)) (came c.args.weights.now None) (nothing c.in_ok-parts.parts c.in_ok-parts.ensures.empty) c.in_ok-growth.ensures.done;
   levels = levels_none c.size-n.result (map g.M.Matroid.indep c.args.matroids.now) c.args.weights.now _ _ c.new-levels.ensures.items;
 }
 

@@ -1,5 +1,5 @@
-use Rattle.mat_union.proofs.EmptyParts.{AreEmpty}
+use Rattle.std.proofs.Common.{◌≡◌, [], replicate}
 use Rattle.mat_union.proofs.empty.empty_parts.Given as goal
 
 abbrev pub invariant-loop : goal.invariant-loop
-invariant-loop l = AreEmpty l.counter l.parts.items
+invariant-loop l = l.parts.items ≡ replicate l.counter []

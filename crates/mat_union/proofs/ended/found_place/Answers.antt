@@ -1,5 +1,4 @@
-use Rattle.mat_union.proofs.PlacedElements.{told_place, told_stuck}
-use Rattle.mat_union.proofs.SearchEnds.{moves_told}
+use Rattle.mat_union.proofs.PlacedElements.{moves_told, told_place, told_stuck}
 use Rattle.mat_union.proofs.ended.found_place.Goals as goal
 
 pub returns-in_ok-moved_parts-in-Some : goal.returns-in_ok-moved_parts-in-Some

@@ -2,5 +2,5 @@ use Rattle.std.proofs.Common.{◌≡◌, take}
 use Rattle.mat_sets.specs.Families.{family_union}
 use Rattle.mat_union.proofs.moved_sets.members_of.Given as goal
 
-abbrev pub invariant-loop-i : goal.invariant-loop-i
-invariant-loop-i l = l.members ≡ family_union (take l.i l.parts)
+abbrev pub invariant-loop-set : goal.invariant-loop-set
+invariant-loop-set l = l.members ≡ family_union (take l.set-index l.sets)

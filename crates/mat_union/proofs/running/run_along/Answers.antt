@@ -1,4 +1,4 @@
-use Rattle.std.proofs.Common.{◌<◌, ◌∙◌, get_or, map, refl, subst, sym}
+use Rattle.std.proofs.Common.{◌<◌, ◌∙◌, ap, get_or, map, refl, subst, sym}
 use Rattle.std.proofs.lemmas.List.{length-map}
 use Rattle.std.proofs.lemmas.Result.{IfOk-weaker}
 use Rattle.mat_sets.specs.Families.{family_union}
@@ -29,5 +29,5 @@ take_turn-requires-clause-below g c = AllBelow-at c.args.n c.args.order.now c.lo
 
 pub returns : goal.returns
 returns g c = IfOk-weaker c.members_of.result _ _
-    (λ s told. told ∙ IsRunning-end (union_test c.args.n (map g.M.Asked.indep c.args.matroids.now)) c.args.order.now (family_union c.loop-x.growth.parts) c.loop-x.x-index c.loop-x-test.false
+    (λ s told. told ∙ ap family_union c.as_slice.ensures.items ∙ IsRunning-end (union_test c.args.n (map g.M.Asked.indep c.args.matroids.now)) c.args.order.now (family_union c.loop-x.growth.parts) c.loop-x.x-index c.loop-x-test.false
     c.loop-x.invariant.running) c.members_of.ensures

@@ -30,7 +30,7 @@ returns-in_err-weight c =
     let high_kept : high ≡ c.args.high = grind (arith, ints, c.ranges.high) in
     let p = err_from_is_err_and c.from_residual.result c.from_residual.ensures.1 in
     let failed = weight_fails low high c.in_err-weight.field-0.0 c.loop.weights.items c.args.count c.loop.counter (words_left c.loop.rest)
-    (repeat_at (weight_at low high) c.args.count (words_left c.args.words)) c.loop-test.true c.in_err-weight.ensures c.loop.invariant in
+    (repeat_at (weight_at low high) c.args.count (words_left c.args.words)) c.loop-test.true c.in_err-weight.ensures.value c.loop.invariant in
     rw (p.1, p.2) (rw (low_kept, high_kept) at failed)
 
 pub loop-preserved : goal.loop-preserved
@@ -39,7 +39,7 @@ loop-preserved c =
     let high = to_z w128 (of_z w128 c.args.high) in
     rw c.in_ok-push.ensures.items (repeat_more (weight_at low high) c.loop.weights.items c.args.count c.loop.counter
     (words_left c.loop.rest) c.in_ok-weight.weight (words_left c.in_ok-weight.after)
-    (repeat_at (weight_at low high) c.args.count (words_left c.args.words)) c.loop-test.true c.in_ok-weight.ensures
+    (repeat_at (weight_at low high) c.args.count (words_left c.args.words)) c.loop-test.true c.in_ok-weight.ensures.value
     c.loop.invariant)
 
 pub returns : goal.returns

@@ -1,5 +1,6 @@
-use Rattle.std.proofs.Common.{◌∙◌}
+use Rattle.std.proofs.Common.{◌∙◌, ap}
 use Rattle.mat_sets.specs.Graphs.{ends_of}
+use Rattle.mat_sets.specs.Sets.{is_member}
 use Rattle.mat_flow.proofs.ArcFlows.{row_is_arcs_from}
 use Rattle.mat_flow.proofs.arc_residual.ArcResidualRelation.is_start.Goals as goal
 
@@ -7,5 +8,5 @@ pub returns : goal.returns
 returns c =
     let r = c.args.self.now in
     let sound = c.requires.sound in
-    c.contains.ensures ∙ row_is_arcs_from r.graph.now.vertices (ends_of r.graph.now.arcs) r.live.now r.leaving.now r.from c.args.a c.index-self-self.result
-    sound.1 sound.2
+    c.contains.ensures ∙ ap (is_member c.args.a) c.row.ensures
+    ∙ row_is_arcs_from r.graph.now.vertices (ends_of r.graph.now.arcs) r.live.now r.leaving.now r.from c.args.a sound.1 sound.2

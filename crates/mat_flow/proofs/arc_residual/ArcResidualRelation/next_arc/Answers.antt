@@ -1,4 +1,4 @@
-use Rattle.std.proofs.Common.{◌∙◌, ◌&&◌, length, ap}
+use Rattle.std.proofs.Common.{◌∙◌, ◌&&◌, ◌||◌, length, ap, eqb}
 use Rattle.mat_sets.specs.Graphs.{ends_of}
 use Rattle.mat_sets.specs.Sets.{is_member}
 use Rattle.mat_flow.proofs.ArcFlows.{next_there, IsNextFrom-same}
@@ -12,6 +12,7 @@ returns-in-Some c =
     let sound = c.requires.sound in
     let below = sound.4 c.args.a u c.in-Some.is in
     IsNextFrom-same _ _ c.args.from c.next_of.result (λ b. ap (λ x. is_member b c.args.among.now && x)
-    (next_there r.graph.now.vertices (length arcs) (ends_of arcs) r.live.now r.leaving.now r.before.now c.args.a u c.get-head.result.1
-    c.index-self-head.result c.in-Some.is below (sound.0.second u below)
+    (ap (λ row. eqb b u || is_member b row) c.row.ensures
+    ∙ next_there r.graph.now.vertices (length arcs) (ends_of arcs) r.live.now r.leaving.now r.before.now c.args.a u c.get-head.result.1
+    c.in-Some.is below (sound.0.second u below)
     (ap (λ p. p.1) (c.get-head.ensures ∙ ap (λ l. ends_of l u) c.arcs.ensures.arcs)) sound.2 b)) c.next_of.ensures

@@ -17,7 +17,7 @@ loop-z-preserved g c = elim c.if-not-contains.branch [
       omega (arith, c.size-size.ensures, c.loop-z.auto.z-end, c.loop-z-test.true) in
       rw w.columns-is (AreEntering-entered c.args.base.now c.loop-z.z c.loop-z.columns.items _ w.in_ok-row.row w.as_slice.result.now
       c.lawful.ensures c.requires.base small out w.in_ok-row.ensures.row w.as_slice.ensures.items
-      w.in_ok-enter.ensures.long w.in_ok-enter.ensures.columns c.loop-z.invariant)
+      w.in_ok-enter.ensures.count (λ y k m. w.in_ok-enter.ensures.members k y m) c.loop-z.invariant)
   | else-not-contains w ↦
       rw w.columns-is (AreEntering-passed _ _ c.args.base.now c.loop-z.z c.loop-z.columns.items
       (sym c.contains.ensures.found ∙ w.if-not-contains.false) c.loop-z.invariant)

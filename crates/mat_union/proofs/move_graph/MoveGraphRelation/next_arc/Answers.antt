@@ -1,5 +1,4 @@
-use Rattle.std.proofs.Common.{◌&&◌, ◌∙◌, [], ap, get_or, length}
-use Rattle.std.proofs.lemmas.List.{get_or_default}
+use Rattle.std.proofs.Common.{◌&&◌, ◌∙◌, ap, length}
 use Rattle.mat_sets.specs.Sets.{is_member}
 use Rattle.mat_union.specs.Moves.{can_push, exchanges_of}
 use Rattle.mat_union.proofs.GraphSteps.{next_same}
@@ -8,7 +7,6 @@ use Rattle.mat_union.proofs.move_graph.MoveGraphRelation.next_arc.Goals as goal
 pub returns : goal.returns
 returns c =
     let g = c.args.self.now in
-    next_same (λ v. is_member v c.args.among.now && is_member v (get_or g.table.now c.args.u c.index-self-u.result)) (λ v. is_member v c.args.among.now && can_push (length g.rows.now) (exchanges_of g.rows.now) c.args.u v) c.args.from c.next_common.result
-    (λ v. ap (λ b. is_member v c.args.among.now && b)
-    (ap (is_member v) (get_or_default g.table.now c.args.u c.index-self-u.result [] c.requires.below) ∙ c.requires.sound.arcs.arcs c.args.u v c.requires.below))
+    next_same (λ v. is_member v c.args.among.now && is_member v c.row.result.now) (λ v. is_member v c.args.among.now && can_push (length g.rows.now) (exchanges_of g.rows.now) c.args.u v) c.args.from c.next_common.result
+    (λ v. ap (λ b. is_member v c.args.among.now && b) (ap (is_member v) c.row.ensures ∙ c.requires.sound.arcs.arcs c.args.u v c.requires.below))
     c.next_common.ensures

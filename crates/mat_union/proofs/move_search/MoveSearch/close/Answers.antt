@@ -19,7 +19,7 @@ returns c = λ n m exchanges among start h.
         count = h.count;
         here = h.some;
         so_far = search_goes_on h.so_far c.take_common.new.unreached more t c.requires.more h.so_far.none (s.head + 1) (add-one s.head) _ (c.replace-pushes.ensures.after ∙ c.new.ensures) _
-            (same_set s.table.items c.index-u.result.now (get_or s.queue.items s.head 0) c.replace-pushes.result s.pushes element c.replace-pushes.ensures.value);
+            (c.replace.ensures ∙ same_set s.table c.index-u.result.now (get_or s.queue.items s.head 0) c.replace-pushes.result s.pushes element c.replace-pushes.ensures.value);
         enters = λ e. absurd (both_ways _ h.refused e);
       },
       h.refused,

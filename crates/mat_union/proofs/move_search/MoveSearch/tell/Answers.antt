@@ -8,27 +8,27 @@ use Rattle.mat_union.proofs.move_search.MoveSearch.tell.Goals as goal
 pub returns-then-row : goal.returns-then-row
 returns-then-row c = λ n m exchanges among start h asks heard. (
   record { from_start = h.from_start; count = h.count; here = h.here; so_far = h.so_far; enters = λ e. (c.requires.open.more, sym heard.adds ∙ c.if-row.true) },
-  entered_left c.args.self.now.entered _ (suc (length among)) c.args.self.now.head c.args.self.now.count c.args.self.now.part asks refl,
+  entered_left c.args.self.entered _ (suc (length among)) c.args.self.head c.args.self.count c.args.self.part asks refl,
 )
 
-pub returns-then-self : goal.returns-then-self
-returns-then-self c = λ n m exchanges among start h asks heard. (
+pub returns-then-search : goal.returns-then-search
+returns-then-search c = λ n m exchanges among start h asks heard. (
   record {
     from_start = h.from_start;
     count = h.count;
-    here = (let a = h.count in let b = c.if-self.true in omega arith);
-    so_far = heard_more h.so_far c.insert_all.new.set c.args.row.now.with (λ v. c.in_ok-insert_all.ensures v ∙ ap (λ xs. is_member v c.args.self.now.pushes || is_member v xs) c.as_slice.ensures.items)
-        heard.trades (sym heard.adds ∙ c.if-row.false) (c.args.self.now.part + 1) (add-one c.args.self.now.part);
+    here = (let a = h.count in let b = c.if-search.true in omega arith);
+    so_far = heard_more h.so_far c.insert_all.new.set c.args.row.now.with (λ v. c.in_ok-insert_all.ensures v ∙ ap (λ xs. is_member v c.args.self.pushes || is_member v xs) c.as_slice.ensures.items)
+        heard.trades (sym heard.adds ∙ c.if-row.false) (c.args.self.part + 1) (add-one c.args.self.part);
     enters = λ e. absurd (both_ways _ asks e);
   },
-  part_left c.args.self.now.entered c.args.self.now.entered (suc (length among)) c.args.self.now.head c.args.self.now.count c.args.self.now.part (c.args.self.now.part + 1) asks asks (add-one c.args.self.now.part) c.requires.part,
+  part_left c.args.self.entered c.args.self.entered (suc (length among)) c.args.self.head c.args.self.count c.args.self.part (c.args.self.part + 1) asks asks (add-one c.args.self.part) c.requires.part,
 )
 
 pub returns : goal.returns
 returns c = λ n m exchanges among start h asks heard.
-    let s = c.args.self.now in
+    let s = c.args.self in
     let a = h.count in
-    let b = c.if-self.false in
+    let b = c.if-search.false in
     let d = c.requires.part in
     let last : suc s.part ≡ m = omega arith in
     let r = c.in_ok-close.ensures n m exchanges among start (record {

@@ -2,7 +2,8 @@ use Rattle.std.proofs.Common.{◌∙◌, map, subst, sym}
 use Rattle.mat_sets.specs.Sets.{AllBelow}
 use Rattle.mat_union.specs.GrownParts.{AreSound}
 use Rattle.mat_union.specs.Unions.{AreMatroids}
-use Rattle.mat_union.specs.UnionsOf.{common_size, tests_are_matroids}
+use Rattle.mat_union.specs.UnionOfLaws.{tests_are_matroids}
+use Rattle.mat_union.specs.UnionsOf.{common_size}
 use Rattle.mat_union.proofs.PartsOfSets.{found_tells}
 use Rattle.mat_union.proofs.union_of.UnionOfMatroid.independent.Goals as goal
 

@@ -1,0 +1,86 @@
+-- Numbers are put into the rows at several places of a list, one place after the other: the rows at the first places have them.
+use Rattle.std.proofs.Common.{◌≡◌, ℕ, ◌+◌, ◌<◌, Bool, true, false, ◌&&◌, ◌||◌, eqb, List, [], length, get_or, set, take}
+use Rattle.std.proofs.Common.{inl, inr, refl, sym, ap, ◌∙◌, arith, get_or-set_other, get_or-set_same, length-set}
+use Rattle.std.proofs.lemmas.Bool.{cases_eq, eq-eqb, ne_eqb}
+use Rattle.mat_sets.specs.Rows.{row_at, AreUnited, IsEntered}
+use Rattle.mat_sets.specs.Sets.{is_member, with_one}
+use Rattle.mat_sets.proofs.Members.{is_member-with_one}
+use Rattle.mat_sets.proofs.Steps.{is_member-take_more}
+use Rattle.mat_sets.proofs.Truths.{or_commute}
+
+put_here : (old now own before more row : Bool) → now ≡ (old || (own && before)) → row ≡ (now || own) → more ≡ (before || true)
+    → row ≡ (old || (own && more))
+put_here old now own before more row e r f = grind arith
+
+put_elsewhere : (old now own before more : Bool) → now ≡ (old || (own && before)) → more ≡ (before || false)
+    → now ≡ (old || (own && more))
+put_elsewhere old now own before more e f = grind arith
+
+put_nowhere : (old own : Bool) → old ≡ (old || (own && false))
+put_nowhere old own = grind arith
+
+-- the numbers of a test are put into the row at place i
+row_more : (own : ℕ → Bool) (places : List ℕ) (i : ℕ) (old new : List (List ℕ)) (row : List ℕ) → i < length places
+    → get_or places i 0 < length new → ((j : ℕ) → is_member j row ≡ (is_member j (row_at new (get_or places i 0)) || own j))
+    → ((j x : ℕ) → x < length old → is_member j (row_at new x) ≡ (is_member j (row_at old x) || (own j && is_member x (take i places))))
+    → (j x : ℕ) → x < length old
+    → is_member j (row_at (set new (get_or places i 0) row) x) ≡ (is_member j (row_at old x) || (own j && is_member x (take (i + 1) places)))
+row_more own places i old new row l within put so_far j x m =
+    let here = get_or places i 0 in
+    elim (cases_eq x here) [
+      | inl same ↦ ap (λ w. is_member j (row_at (set new here row) w)) same
+          ∙ ap (is_member j) (get_or-set_same new here row [] within)
+          ∙ put_here (is_member j (row_at old x)) (is_member j (row_at new here)) (own j) (is_member x (take i places))
+          (is_member x (take (i + 1) places)) (is_member j row) (ap (λ w. is_member j (row_at new w)) (sym same) ∙ so_far j x m) (put j)
+          (is_member-take_more places i x l ∙ ap (λ b. is_member x (take i places) || b) (eq-eqb x here same))
+      | inr d ↦ ap (is_member j) (get_or-set_other new here x row [] d)
+          ∙ put_elsewhere (is_member j (row_at old x)) (is_member j (row_at new x)) (own j) (is_member x (take i places))
+          (is_member x (take (i + 1) places)) (so_far j x m)
+          (is_member-take_more places i x l ∙ ap (λ b. is_member x (take i places) || b) (ne_eqb x here d))
+    ]
+
+pub IsEntered-more : (k : ℕ) (places : List ℕ) (i : ℕ) (old new : List (List ℕ)) (row : List ℕ) → i < length places
+    → get_or places i 0 < length old → row ≡ with_one (row_at new (get_or places i 0)) k → IsEntered k (take i places) old new
+    → IsEntered k (take (i + 1) places) old (set new (get_or places i 0) row)
+IsEntered-more k places i old new row l below e r =
+    let here = get_or places i 0 in
+    let within : here < length new = omega (arith, below, r.count) in
+    record {
+      count = length-set new here row ∙ r.count;
+      members = row_more (λ j. eqb j k) places i old new row l within
+          (λ j. ap (is_member j) e ∙ is_member-with_one j k (row_at new here) ∙ or_commute (eqb j k) (is_member j (row_at new here))) r.members;
+    }
+
+pub AreUnited-none : (numbers : List ℕ) (rows : List (List ℕ)) → AreUnited numbers [] rows rows
+AreUnited-none numbers rows = record {
+  count = refl;
+  members = λ j i m. put_nowhere (is_member j (row_at rows i)) (is_member j numbers);
+}
+
+pub AreUnited-more : (numbers places : List ℕ) (i : ℕ) (old new : List (List ℕ)) (row : List ℕ) → i < length places
+    → get_or places i 0 < length old
+    → ((j : ℕ) → is_member j row ≡ (is_member j (row_at new (get_or places i 0)) || is_member j numbers))
+    → AreUnited numbers (take i places) old new → AreUnited numbers (take (i + 1) places) old (set new (get_or places i 0) row)
+AreUnited-more numbers places i old new row l below put r =
+    let here = get_or places i 0 in
+    let within : here < length new = omega (arith, below, r.count) in
+    record {
+      count = length-set new here row ∙ r.count;
+      members = row_more (λ j. is_member j numbers) places i old new row l within put r.members;
+    }
+
+-- what a number that is put into a row changes
+pub is_member-inserted : (rows : List (List ℕ)) (i k u v : ℕ) → i < length rows
+    → is_member v (row_at (set rows i (with_one (row_at rows i) k)) u) ≡ (is_member v (row_at rows u) || (eqb i u && eqb k v))
+is_member-inserted rows i k u v within = elim (cases_eq u i) [
+  | inl same ↦ ap (λ w. is_member v (row_at (set rows i (with_one (row_at rows i) k)) w)) same
+      ∙ ap (is_member v) (get_or-set_same rows i (with_one (row_at rows i) k) [] within) ∙ is_member-with_one v k (row_at rows i)
+      ∙ ap (λ w. eqb v k || is_member v (row_at rows w)) (sym same) ∙ here u v (is_member v (row_at rows u)) same
+  | inr d ↦ ap (is_member v) (get_or-set_other rows i u (with_one (row_at rows i) k) [] d) ∙ elsewhere u v (is_member v (row_at rows u)) d
+]
+  where
+    here : (u v : ℕ) (old : Bool) → u ≡ i → (eqb v k || old) ≡ (old || (eqb i u && eqb k v))
+    here u v old same = grind arith
+
+    elsewhere : (u v : ℕ) (old : Bool) → (u ≡ i → ⊥) → old ≡ (old || (eqb i u && eqb k v))
+    elsewhere u v old differ = grind arith

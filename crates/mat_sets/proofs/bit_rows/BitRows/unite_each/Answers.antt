@@ -1,0 +1,18 @@
+use Rattle.std.proofs.Common.{◌+◌, length, take, arith, subst, sym}
+use Rattle.mat_sets.specs.Rows.{AreUnited}
+use Rattle.mat_sets.proofs.Rows.{AreUnited-more}
+use Rattle.mat_sets.proofs.Sums.{AllBelow-at}
+use Rattle.mat_sets.proofs.bit_rows.BitRows.unite_each.Goals as goal
+
+pub unite-requires : goal.unite-requires
+unite-requires c =
+    let below = AllBelow-at (length c.args.self.now) c.args.places.now c.loop-i.i-index c.requires c.loop-i-test.true in
+    omega (arith, below, c.loop-i.invariant.count)
+
+pub loop-i-preserved : goal.loop-i-preserved
+loop-i-preserved c =
+    let i = c.loop-i.i-index in
+    let places = c.args.places.now in
+    subst (λ rows. AreUnited c.args.numbers.now (take (i + 1) places) c.args.self.now rows) (sym c.in_ok-unite.ensures.others)
+    (AreUnited-more c.args.numbers.now places i c.args.self.now c.loop-i.self _ c.loop-i-test.true
+    (AllBelow-at (length c.args.self.now) places i c.requires c.loop-i-test.true) c.in_ok-unite.ensures.row c.loop-i.invariant)

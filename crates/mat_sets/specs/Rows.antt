@@ -1,0 +1,19 @@
+-- Rows of sets: a set of numbers at each place of a list.
+use Rattle.std.specs.Prelude.{◌≡◌, ℕ, ◌<◌, ◌&&◌, ◌||◌, ◌==◌, List, [], length, slice_index_or}
+use Rattle.mat_sets.specs.Sets.{is_member}
+
+-- the row at a place, or none
+abbrev pub row_at : List (List ℕ) → ℕ → List ℕ
+row_at rows i = slice_index_or rows i []
+
+-- a number is put into the rows at these places, and nothing else is
+pub record IsEntered (k : ℕ) (places : List ℕ) (before after : List (List ℕ)) : Type 0 where
+  pub count : length after ≡ length before
+  pub members : (j i : ℕ) → i < length before
+      → is_member j (row_at after i) ≡ (is_member j (row_at before i) || (j == k && is_member i places))
+
+-- some numbers are put into the rows at these places, and nothing else is
+pub record AreUnited (numbers places : List ℕ) (before after : List (List ℕ)) : Type 0 where
+  pub count : length after ≡ length before
+  pub members : (j i : ℕ) → i < length before
+      → is_member j (row_at after i) ≡ (is_member j (row_at before i) || (is_member j numbers && is_member i places))

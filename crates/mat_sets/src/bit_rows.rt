@@ -1,0 +1,117 @@
+//! Rows of bits: a set of numbers at each place of a list.
+ghost use Rattle.std.specs.Prelude.{◌≡◌, ℕ, ◌<◌, ◌||◌, ◌++◌, ◌∷◌, [], length, replicate, slice_set, IfOk, OnOk, OnErr};
+ghost use Rattle.mat_sets.specs.Rows.{row_at, AreUnited, IsEntered};
+ghost use Rattle.mat_sets.specs.Sets.{is_member, with_one, AllBelow};
+
+use crate::bit_set::BitSet;
+use std::alloc::{AllocError, Global};
+use std::marker::Model;
+
+/// A list of sets of numbers, each kept as bits: the rows of a relation.
+#[derive(Debug, Drop)]
+pub struct BitRows {
+    rows: Vec<BitSet>,
+}
+
+impl Model for BitRows {
+    ghost use Rattle.std.specs.Prelude.{ℕ, List};
+
+    ghost Value = { List (List ℕ) };
+
+    ghost view = { λ r. r.rows.items };
+}
+
+impl BitRows {
+    /// No rows. It takes no memory; `alloc` is where later rows get theirs.
+    pub fn new(alloc: Global) -> BitRows
+        ensures { result ≡ [] }
+    {
+        BitRows {
+            rows: Vec::new(alloc),
+        }
+    }
+
+    /// This many empty rows, each with room for the numbers below `width`. The only error is want of memory.
+    pub fn with_rows(alloc: Global, count: u32, width: u32) -> Result<BitRows, AllocError>
+        ensures { IfOk result (λ r. r ≡ replicate count []) }
+    {
+        let mut rows = Vec::with_capacity(alloc, count as usize)?;
+        for _ in 0..count {
+            rows.push(BitSet::with_capacity(alloc, width)?)?;
+        }
+        Ok(BitRows { rows })
+    }
+
+    /// How many rows there are.
+    pub fn len(&self) -> usize
+        ensures { result ≡ length self.now }
+    {
+        self.rows.len()
+    }
+
+    /// The row at place i.
+    pub fn row(&self, i: u32) -> &BitSet
+        requires { i < length self.now }
+        ensures { result.now ≡ row_at self.now i }
+    {
+        &self.rows[i as usize]
+    }
+
+    /// Puts a row at the end. After an error the rows are as before.
+    pub fn push(&mut self, row: BitSet) -> Result<(), AllocError>
+        ensures ok { OnOk result (self.new ≡ self.old ++ row ∷ []) }
+        ensures err { OnErr result (self.new ≡ self.old) }
+    {
+        self.rows.push(row)?;
+        Ok(())
+    }
+
+    /// Puts another row at place i. It takes no memory.
+    pub fn replace(&mut self, i: u32, row: BitSet)
+        requires { i < length self.old }
+        ensures { self.new ≡ slice_set self.old i row }
+    {
+        self.rows[i as usize] = row;
+    }
+
+    /// Puts k into the row at place i. After an error the rows are as before.
+    pub fn insert(&mut self, i: u32, k: u32) -> Result<(), AllocError>
+        requires { i < length self.old }
+        ensures ok { OnOk result (self.new ≡ slice_set self.old i (with_one (row_at self.old i) k)) }
+        ensures err { OnErr result (self.new ≡ self.old) }
+    {
+        self.rows[i as usize].insert(k)
+    }
+
+    /// Puts k into the rows at these places. The only error is want of memory.
+    pub fn insert_each(&mut self, places: &[u32], k: u32) -> Result<(), AllocError>
+        requires { AllBelow (length self.old) places.now }
+        ensures { OnOk result (IsEntered k places.now self.old self.new) }
+    {
+        for i in places {
+            self.insert(*i, k)?;
+        }
+        Ok(())
+    }
+
+    /// Puts these numbers into the row at place i, 64 numbers at a time. After an error the rows are as before.
+    pub fn unite(&mut self, i: u32, numbers: &BitSet) -> Result<(), AllocError>
+        requires { i < length self.old }
+        ensures others { OnOk result (self.new ≡ slice_set self.old i (row_at self.new i)) }
+        ensures row { OnOk result ((j : ℕ) → is_member j (row_at self.new i) ≡ (is_member j (row_at self.old i) || is_member j numbers.now)) }
+        ensures err { OnErr result (self.new ≡ self.old) }
+    {
+        self.rows[i as usize].unite(numbers)
+    }
+
+    /// Puts these numbers into the rows at these places. The only error is want of memory.
+    pub fn unite_each(&mut self, places: &[u32], numbers: &BitSet) -> Result<(), AllocError>
+        requires { AllBelow (length self.old) places.now }
+        ensures { OnOk result (AreUnited numbers.now places.now self.old self.new) }
+    {
+        for i in places {
+            self.unite(*i, numbers)?;
+        }
+        Ok(())
+    }
+}
