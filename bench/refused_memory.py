@@ -57,13 +57,16 @@ GAMMOID = ('matroids 1\npair 3\nweights 2 1 3\ngammoid 6 4\nsources 0 1\ntargets
            'dual\ntransversal 2\nset 0 1\nset 1 2\nend\n')
 GRAPH = 'matroids 1\nlist 6 1\nweights 3 1 4 1 5 9\ngraphic 4\nedge 0 1\nedge 0 2\nedge 0 3\nedge 1 2\nedge 1 3\nedge 2 3\nend\n'
 ROOTED = 'matroids 1\nrooted 3 4 0\narc 0 1 5\narc 0 2 2\narc 2 1 1\narc 1 2 0\nend\n'
+NAMED = ('matroids 2\npair 3\nelements a b c\nweights 1 2 3\npartition 2\nclass 1 a\nclass 1 c b\nrestrict c a\nuniform 2\nend\n')
+NAMED_ROOT = 'matroids 2\nrooted 3 2\nelements p q\nvertices A B C\nroot B\narc A B 1\narc B C 2\nend\n'
 TREES = 'matroids 1\ngraph 4 6\nedge 0 1\nedge 0 2\nedge 0 3\nedge 1 2\nedge 1 3\nedge 2 3\nend\n'
 COLOURED = 'matroids 1\ncoloured 3 3 2\nedge 0 1 0 4\nedge 1 2 0 3\nedge 0 2 1 2\nend\n'
 TABLE = 'matroids 1\ntable 2 2 3\ncell 0 0 3\ncell 0 1 2\ncell 1 0 1\nend\n'
 LIST = 'jobs 1\njob best graph.txt\njob trees 2 trees.txt\njob disjoint 2 rooted.txt\nend\n'
 FILES = {'assignment.txt': ASSIGNMENT, 'certificate.txt': CERTIFICATE, 'gammoid.txt': GAMMOID, 'graph.txt': GRAPH, 'rooted.txt': ROOTED,
-         'trees.txt': TREES, 'coloured.txt': COLOURED, 'table.txt': TABLE, 'list.txt': LIST}
-CASES = ['show gammoid.txt', 'intersect assignment.txt', 'intersect --workers 4 assignment.txt', 'intersect gammoid.txt', 'best graph.txt',
+         'trees.txt': TREES, 'coloured.txt': COLOURED, 'table.txt': TABLE, 'list.txt': LIST, 'named.txt': NAMED,
+         'named_root.txt': NAMED_ROOT}
+CASES = ['show gammoid.txt', 'show named.txt', 'convert named.txt', 'convert named_root.txt', 'convert gammoid.txt', 'intersect assignment.txt', 'intersect --workers 4 assignment.txt', 'intersect gammoid.txt', 'best graph.txt',
          'union graph.txt', 'pack graph.txt', 'cover graph.txt', 'trees 2 trees.txt', 'trees 3 trees.txt', 'arborescence rooted.txt',
          'disjoint 1 rooted.txt', 'disjoint 2 rooted.txt', 'cuts rooted.txt', 'rainbow coloured.txt', 'assign table.txt',
          'check assignment.txt certificate.txt', 'check --workers 4 assignment.txt certificate.txt', 'sample pair 8 7', 'sample list 6 7',

@@ -7,6 +7,7 @@ use Rattle.mat_desc.specs.declared.refusal.DescRefusal.TheVariants as refusals
 use Rattle.mat_words.specs.Cursors.{LinesLeft}
 use Rattle.mat_words.specs.Steps.{◌>>=◌}
 use Rattle.mat_desc.specs.Faults.{Fault, Fails}
+use Rattle.mat_desc.specs.Labels.{Naming}
 use Rattle.mat_desc.specs.Reading.{class_at, classes_at}
 
 -- sets and their caps, and the lines behind them
@@ -23,36 +24,38 @@ with_front-cons sets caps set cap (Ok x) = simp append_assoc
 with_front-cons sets caps set cap (Err fault) = refl
 
 -- one more class was read
-pub classes_more : (n many i : ℕ) (taken : List ℕ) (p : LinesLeft) (classes : List (List ℕ)) (caps : List ℕ) (cap : ℕ)
+pub classes_more : (naming : Naming) (n many i : ℕ) (taken : List ℕ) (p : LinesLeft) (classes : List (List ℕ)) (caps : List ℕ) (cap : ℕ)
     (class taken_more : List ℕ) (after : LinesLeft) (total : SetsRead)
-    → i < many → class_at n taken p ≡ Ok (cap, class, taken_more, after) → with_front classes caps (classes_at n (many - i) taken p) ≡ total
-    → with_front (classes ++ class ∷ []) (caps ++ cap ∷ []) (classes_at n (many - (i + 1)) taken_more after) ≡ total
+    → i < many → class_at naming n taken p ≡ Ok (cap, class, taken_more, after)
+    → with_front classes caps (classes_at naming n (many - i) taken p) ≡ total
+    → with_front (classes ++ class ∷ []) (caps ++ cap ∷ []) (classes_at naming n (many - (i + 1)) taken_more after) ≡ total
 unfolding classes_at
-classes_more n many i taken p classes caps cap class taken_more after total lt read so_far =
+classes_more naming n many i taken p classes caps cap class taken_more after total lt read so_far =
     let left : many - i ≡ suc (many - (i + 1)) = omega arith in
-    let step : with_front classes caps (classes_at n (many - i) taken p) ≡ with_front (classes ++ class ∷ []) (caps ++ cap ∷ [])
-    (classes_at n (many - (i + 1)) taken_more after) =
-    rw (left, read) (with_front-cons classes caps class cap (classes_at n (many - (i + 1)) taken_more after)) in
+    let step : with_front classes caps (classes_at naming n (many - i) taken p) ≡ with_front (classes ++ class ∷ []) (caps ++ cap ∷ [])
+    (classes_at naming n (many - (i + 1)) taken_more after) =
+    rw (left, read) (with_front-cons classes caps class cap (classes_at naming n (many - (i + 1)) taken_more after)) in
     sym step ∙ so_far
 
 -- the next class fails
-pub classes_fail : (refusal : DescRefusal) (n many i : ℕ) (taken : List ℕ) (p : LinesLeft) (classes : List (List ℕ)) (caps : List ℕ)
-    (total : SetsRead)
-    → i < many → Fails refusal (class_at n taken p) → with_front classes caps (classes_at n (many - i) taken p) ≡ total
+pub classes_fail : (refusal : DescRefusal) (naming : Naming) (n many i : ℕ) (taken : List ℕ) (p : LinesLeft) (classes : List (List ℕ))
+    (caps : List ℕ) (total : SetsRead)
+    → i < many → Fails refusal (class_at naming n taken p) → with_front classes caps (classes_at naming n (many - i) taken p) ≡ total
     → Fails refusal total
 unfolding classes_at
-classes_fail refusals.Memory n many i taken p classes caps total lt failed so_far = tt
-classes_fail (refusals.Fault kind line) n many i taken p classes caps total lt failed so_far =
+classes_fail refusals.Memory naming n many i taken p classes caps total lt failed so_far = tt
+classes_fail (refusals.Fault kind line) naming n many i taken p classes caps total lt failed so_far =
     let left : many - i ≡ suc (many - (i + 1)) = omega arith in
-    let step : with_front classes caps (classes_at n (many - i) taken p) ≡ Err (kind, line) = rw (left, failed) refl in
+    let step : with_front classes caps (classes_at naming n (many - i) taken p) ≡ Err (kind, line) = rw (left, failed) refl in
     sym so_far ∙ step
 
 -- all classes are read
-pub classes_done : (n many i : ℕ) (taken : List ℕ) (p : LinesLeft) (classes : List (List ℕ)) (caps : List ℕ) (total : SetsRead)
-    → many ≤ i → with_front classes caps (classes_at n (many - i) taken p) ≡ total → total ≡ Ok (classes, caps, p)
+pub classes_done : (naming : Naming) (n many i : ℕ) (taken : List ℕ) (p : LinesLeft) (classes : List (List ℕ)) (caps : List ℕ)
+    (total : SetsRead)
+    → many ≤ i → with_front classes caps (classes_at naming n (many - i) taken p) ≡ total → total ≡ Ok (classes, caps, p)
 unfolding classes_at
-classes_done n many i taken p classes caps total le so_far =
+classes_done naming n many i taken p classes caps total le so_far =
     let left : many - i ≡ 0 = omega arith in
-    let step : with_front classes caps (classes_at n (many - i) taken p) ≡ Ok (classes, caps, p) =
+    let step : with_front classes caps (classes_at naming n (many - i) taken p) ≡ Ok (classes, caps, p) =
     rw left (ap₂ (λ (a : List (List ℕ)) (b : List ℕ). Ok (a, b, p)) (append-nil classes) (append-nil caps)) in
     sym so_far ∙ step

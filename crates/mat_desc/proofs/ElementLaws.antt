@@ -1,18 +1,17 @@
 -- Lists of elements: what is read is spelled so, and what is spelled so is read.
 use Rattle.std.proofs.Common.{◌≡◌, ℕ, Bool, true, false, ◌||◌, eqb, List, [], ◌∷◌}
-use Rattle.std.proofs.Common.{pos, Ok, refl, sym, ap, subst, ◌∙◌, inl, inr}
+use Rattle.std.proofs.Common.{Ok, refl, sym, ap, subst, ◌∙◌, inl, inr}
 use Rattle.std.proofs.lemmas.Bool.{cases_Bool, eq-eqb, eqb-true, or_parts}
 use Rattle.mat_sets.specs.Sets.{is_member, IsRising, AllBelow, IsSet, AreDistinct, with_one}
 use Rattle.mat_sets.proofs.Members.{is_member-with_one, IsRising-with_one, IsRising-nil, same_members}
 use Rattle.mat_sets.proofs.Ground.{AllBelow-member, AllBelow-from_members, IsSet-from}
 use Rattle.mat_sets.proofs.Truths.{or_none}
-use Rattle.mat_words.specs.Numbers.{numerals, numeral}
 use Rattle.mat_desc.specs.declared.refusal.DescKind.TheVariants.{Repeated}
-use Rattle.mat_desc.specs.Reading.{below_at, elements_from}
+use Rattle.mat_desc.specs.Labels.{Naming, word_for, words_for, IsNaming}
+use Rattle.mat_desc.specs.Reading.{member_at, elements_from}
 use Rattle.mat_desc.specs.Grammar.{Lists}
 use Rattle.mat_words.proofs.ReadingSteps.{found-same, bind_found, refused_found}
-use Rattle.mat_words.proofs.WordReading.{below_again}
-use Rattle.mat_desc.proofs.Told.{below_found}
+use Rattle.mat_desc.proofs.LabelLaws.{member_found, member_again}
 
 -- the set with each of the items added
 pub with_each : List ℕ → List ℕ → List ℕ
@@ -37,9 +36,9 @@ IsRising-with_each set [] rising = rising
 IsRising-with_each set (x ∷ xs) rising = IsRising-with_each (with_one set x) xs (IsRising-with_one set x rising)
 
 -- words were read as elements, each once and none of them taken before
-pub record AreElementsRead (n : ℕ) (taken set : List ℕ) (words : List (List ℕ)) (made left : List ℕ) : Type 0 where
+pub record AreElementsRead (naming : Naming) (n : ℕ) (taken set : List ℕ) (words : List (List ℕ)) (made left : List ℕ) : Type 0 where
   pub xs : List ℕ
-  pub cut : words ≡ numerals xs
+  pub cut : words ≡ words_for naming xs
   pub distinct : AreDistinct xs
   pub below : AllBelow n xs
   pub fresh : (x : ℕ) → is_member x xs ≡ true → is_member x taken ≡ false
@@ -74,10 +73,11 @@ later_free x xs taken apart fresh y stands = elim (cases_Bool (eqb y x)) [
   | inr other ↦ let free : is_member y taken ≡ false = fresh y (rw (other, stands) refl) in is_member-with_one y x taken ∙ rw (other, free) refl
 ]
 
-pub elements_found : (n line : ℕ) (taken set : List ℕ) (words : List (List ℕ)) (made left : List ℕ)
-    → elements_from n line taken set words ≡ Ok (made, left) → AreElementsRead n taken set words made left
+pub elements_found : (naming : Naming) (n : ℕ) → IsNaming n naming → (line : ℕ) (taken set : List ℕ) (words : List (List ℕ))
+    (made left : List ℕ)
+    → elements_from naming n line taken set words ≡ Ok (made, left) → AreElementsRead naming n taken set words made left
 unfolding elements_from with_each
-elements_found n line taken set [] made left e =
+elements_found naming n named line taken set [] made left e =
     let same = found-same (set, taken) (made, left) e in
     record {
       xs = [];
@@ -88,17 +88,17 @@ elements_found n line taken set [] made left e =
       set_made = sym (ap (λ (p : List ℕ × List ℕ). p.0) same);
       taken_left = sym (ap (λ (p : List ℕ × List ℕ). p.1) same);
     }
-elements_found n line taken set (word ∷ words) made left e =
-    let element = bind_found (below_at n (record { line = line; words = word ∷ words })) _ (made, left) e in
+elements_found naming n named line taken set (word ∷ words) made left e =
+    let element = bind_found (member_at naming n (record { line = line; words = word ∷ words })) _ (made, left) e in
     let test = refused_found (is_member element.0.0 taken) (Repeated, line) _ (made, left) element.2 in
-    let first = below_found n (record { line = line; words = word ∷ words }) element.0.0 element.0.1 element.1 in
-    let cut : word ∷ words ≡ numeral (pos element.0.0) ∷ element.0.1.words = first.cut in
+    let first = member_found naming n named (record { line = line; words = word ∷ words }) element.0.0 element.0.1 element.1 in
+    let cut : word ∷ words ≡ word_for naming element.0.0 ∷ element.0.1.words = first.cut in
     let behind : words ≡ element.0.1.words = cc in
-    let more = elements_found n line (with_one taken element.0.0) (with_one set element.0.0) words made left test.1 in
+    let more = elements_found naming n named line (with_one taken element.0.0) (with_one set element.0.0) words made left test.1 in
     let parts = fresh_first element.0.0 more.xs taken test.0 more.fresh in
     record {
       xs = element.0.0 ∷ more.xs;
-      cut = cut ∙ ap (λ (t : List (List ℕ)). numeral (pos element.0.0) ∷ t) (sym behind ∙ more.cut);
+      cut = cut ∙ ap (λ (t : List (List ℕ)). word_for naming element.0.0 ∷ t) (sym behind ∙ more.cut);
       distinct = (parts.0, more.distinct);
       below = (first.most, more.below);
       fresh = parts.1;
@@ -106,15 +106,15 @@ elements_found n line taken set (word ∷ words) made left e =
       taken_left = more.taken_left;
     }
 
-pub elements_again : (n line : ℕ) (taken set xs : List ℕ) → AreDistinct xs → AllBelow n xs
+pub elements_again : (naming : Naming) (n : ℕ) → IsNaming n naming → (line : ℕ) (taken set xs : List ℕ) → AreDistinct xs → AllBelow n xs
     → ((x : ℕ) → is_member x xs ≡ true → is_member x taken ≡ false)
-    → elements_from n line taken set (numerals xs) ≡ Ok (with_each set xs, with_each taken xs)
+    → elements_from naming n line taken set (words_for naming xs) ≡ Ok (with_each set xs, with_each taken xs)
 unfolding elements_from with_each
-elements_again n line taken set [] distinct below fresh = refl
-elements_again n line taken set (x ∷ xs) distinct below fresh =
+elements_again naming n named line taken set [] distinct below fresh = refl
+elements_again naming n named line taken set (x ∷ xs) distinct below fresh =
     let free : is_member x taken ≡ false = fresh x (rw (eq-eqb x x refl) refl) in
-    rw (below_again n line x (numerals xs) below.0, free) (elements_again n line (with_one taken x) (with_one set x) xs distinct.1 below.1
-    (later_free x xs taken distinct.0 fresh))
+    rw (member_again naming n named line x (words_for naming xs) below.0, free)
+    (elements_again naming n named line (with_one taken x) (with_one set x) xs distinct.1 below.1 (later_free x xs taken distinct.0 fresh))
 
 -- ---- the set that a list of elements makes
 
@@ -144,19 +144,23 @@ made-listed n xs set is_set lists = same_members (with_each [] xs) set (IsRising
     (λ k. is_member-made k xs ∙ lists.members k)
 
 -- elements that were read list the set that they make
-pub Lists-read : (n : ℕ) (taken : List ℕ) (words : List (List ℕ)) (set left : List ℕ)
-    (read : AreElementsRead n taken [] words set left) → Lists read.xs set
-Lists-read n taken words set left read = subst (λ (s : List ℕ). Lists read.xs s) (sym read.set_made) (Lists-made read.xs read.distinct)
+pub Lists-read : (naming : Naming) (n : ℕ) (taken : List ℕ) (words : List (List ℕ)) (set left : List ℕ)
+    (read : AreElementsRead naming n taken [] words set left) → Lists read.xs set
+Lists-read naming n taken words set left read = subst (λ (s : List ℕ). Lists read.xs s) (sym read.set_made) (Lists-made read.xs read.distinct)
 
-pub IsSet-read : (n : ℕ) (taken : List ℕ) (words : List (List ℕ)) (set left : List ℕ) → AreElementsRead n taken [] words set left
-    → IsSet n set
-IsSet-read n taken words set left read = subst (λ (s : List ℕ). IsSet n s) (sym read.set_made) (IsSet-made n read.xs read.below)
+pub IsSet-read : (naming : Naming) (n : ℕ) (taken : List ℕ) (words : List (List ℕ)) (set left : List ℕ)
+    → AreElementsRead naming n taken [] words set left → IsSet n set
+IsSet-read naming n taken words set left read = subst (λ (s : List ℕ). IsSet n s) (sym read.set_made) (IsSet-made n read.xs read.below)
+
+-- elements that list a set are below the bound that it has
+pub listed_below : (n : ℕ) (xs set : List ℕ) → IsSet n set → Lists xs set → AllBelow n xs
+listed_below n xs set in_range lists = AllBelow-from_members n xs (λ k h. AllBelow-member n set k in_range.below (sym (lists.members k) ∙ h))
 
 -- elements that list a set are read as that set
-pub set_again : (n line : ℕ) (taken set xs : List ℕ) → IsSet n set → Lists xs set
+pub set_again : (naming : Naming) (n : ℕ) → IsNaming n naming → (line : ℕ) (taken set xs : List ℕ) → IsSet n set → Lists xs set
     → ((x : ℕ) → is_member x set ≡ true → is_member x taken ≡ false)
-    → elements_from n line taken [] (numerals xs) ≡ Ok (set, with_each taken xs)
-set_again n line taken set xs in_range lists fresh =
-    let below = AllBelow-from_members n xs (λ k h. AllBelow-member n set k in_range.below (sym (lists.members k) ∙ h)) in
-    elements_again n line taken [] xs lists.distinct below (λ x h. fresh x (sym (lists.members x) ∙ h)) ∙ rw
+    → elements_from naming n line taken [] (words_for naming xs) ≡ Ok (set, with_each taken xs)
+set_again naming n named line taken set xs in_range lists fresh =
+    let below = listed_below n xs set in_range lists in
+    elements_again naming n named line taken [] xs lists.distinct below (λ x h. fresh x (sym (lists.members x) ∙ h)) ∙ rw
     (made-listed n xs set in_range lists) refl

@@ -1,8 +1,9 @@
 -- The lines of a problem, form by form: what is read is spelled so, and what is spelled so is read.
-use Rattle.std.proofs.Common.{◌<◌, ◌≡◌, ℕ, ◌≤◌, Bool, true, false, cond, List, [], ◌∷◌, ◌++◌, length}
+use Rattle.std.proofs.Common.{◌<◌, ◌≡◌, ℕ, ◌≤◌, ◌^◌, Bool, true, false, cond, List, [], ◌∷◌, ◌++◌, length}
 use Rattle.std.proofs.Common.{map, pos, Option, Some, None, Ok, refl, sym, ap, subst, ◌∙◌, arith}
 use Rattle.std.specs.Prelude.{codes, bytes_eq, neg_ℤ}
 use Rattle.std.specs.List.{list_all}
+use Rattle.std.proofs.lemmas.Bool.{and_from}
 use Rattle.std.proofs.lemmas.List.{append-nil}
 use Rattle.std.proofs.lemmas.Slice.Eq.{bytes_eq-Decides}
 use Rattle.mat_words.specs.Words.{is_word}
@@ -16,17 +17,23 @@ use Rattle.mat_desc.specs.declared.keywords.Form.{Form}
 use Rattle.mat_desc.specs.declared.keywords.Form.TheVariants as forms
 use Rattle.mat_words.specs.Steps.{repeat_at}
 use Rattle.mat_words.specs.Cursors.{WordsLeft, LinesLeft}
-use Rattle.mat_desc.specs.Reading.{size_at, below_at, next_weights_at, ended_at, keyed_at, weights_at}
+use Rattle.mat_desc.specs.declared.keywords.Version.{Version}
+use Rattle.mat_desc.specs.declared.keywords.Version.TheVariants as versions
+use Rattle.mat_desc.specs.Labels.{Naming, IsNaming, word_for, Labels, numbers, names, element_naming, vertex_naming, AreLabels}
+use Rattle.mat_desc.specs.Reading.{Labelled, size_at, below_at, member_at, next_weights_at, ended_at, keyed_at, weights_at, labels_at}
+use Rattle.mat_desc.specs.Reading.{header_root_at, root_at}
 use Rattle.mat_desc.specs.Reading.{ends_line_at, weighted_at, coloured_edge_at, matroid_at, pair_at, list_at}
 use Rattle.mat_desc.specs.Reading.{graph_at, rooted_at, coloured_at, table_at, form_of, form_at}
 use Rattle.mat_desc.specs.Instances.{Instance, pair, list, graph, rooted, coloured, table}
 use Rattle.mat_words.specs.Writing.{end_line}
-use Rattle.mat_desc.specs.Grammar.{version_line, ends_line, weighted_line, coloured_edge_line, IsPairBelow}
+use Rattle.mat_desc.specs.Grammar.{version_line, label_lines, root_words, root_lines, ends_line, weighted_line, coloured_edge_line, IsPairBelow}
 use Rattle.mat_desc.specs.Grammar.{IsWeight, AreWeights, IsValid, InstanceLines}
 use Rattle.mat_words.proofs.ReadingSteps.{found-same, bind_found}
+use Rattle.mat_words.proofs.NumberLemmas.{numeral_word}
 use Rattle.mat_words.proofs.WordReading.{numerals_words, size_again, below_again, weights_again, weights_words}
 use Rattle.mat_words.proofs.LineReading.{AreLeft, keyed_again}
-use Rattle.mat_desc.proofs.Told.{count_line, ended_found, ended_again, size_found, below_found, weights_found, keyed_found}
+use Rattle.mat_desc.proofs.Told.{cut_then, count_line, ended_found, ended_again, size_found, below_found, weights_found, keyed_found}
+use Rattle.mat_desc.proofs.LabelLaws.{version_for, member_found, member_again, word_for-word, labels_found, labels_again}
 use Rattle.mat_desc.proofs.MatroidLaws.{matroid_found, matroid_again}
 use Rattle.mat_desc.proofs.MatroidRows.{matroids_found, matroids_again}
 use Rattle.std.specs.List.{All, zip}
@@ -131,105 +138,149 @@ form_word forms.Rooted = refl
 form_word forms.Coloured = refl
 form_word forms.Table = refl
 
--- a problem was read from the words behind the form's word on
-pub record IsFormRead (form : Form) (words : WordsLeft) (lines : LinesLeft) (instance : Instance) (q : LinesLeft) : Type 0 where
-  pub valid : IsValid instance
-  pub spelled : AreLeft (end_line ∷ []) q → (more : List Line) × AreLeft more lines × InstanceLines instance
-      (version_line ∷ (form_spelling form ∷ words.words) ∷ more)
+-- a problem and what stands for its elements and its vertices
+abbrev pub labelled_as : Instance → Labels → Labelled
+labelled_as instance labels = record { instance = instance; labels = labels }
 
-pair_found : (words : WordsLeft) (lines : LinesLeft) (instance : Instance) (q : LinesLeft) → pair_at words lines ≡ Ok (instance, q)
-    → IsFormRead forms.Pair words lines instance q
+-- a problem was read from the words behind the form's word on
+pub record IsFormRead (version : Version) (form : Form) (words : WordsLeft) (lines : LinesLeft) (read : Labelled) (q : LinesLeft) : Type 0 where
+  pub valid : IsValid read.instance
+  pub labelled : AreLabels read.instance read.labels
+  pub same : version ≡ version_for read.labels
+  pub spelled : AreLeft (end_line ∷ []) q → (more : List Line) × AreLeft more lines × InstanceLines read.labels read.instance
+      (version_line read.labels ∷ (form_spelling form ∷ words.words) ∷ more)
+
+-- names of so many numbers are those of as many
+naming_of : (naming : Naming) (n m : ℕ) → m ≡ n → IsNaming n naming → IsNaming m naming
+naming_of naming n m same lawful = subst (λ (k : ℕ). IsNaming k naming) (sym same) lawful
+
+-- numbers of elements and of vertices are small
+elements_fit : (n : ℕ) → n ≤ most_elements → n < 2 ^ 32
+elements_fit n few = omega arith
+
+vertices_fit : (v : ℕ) → v ≤ most_vertices → v < 2 ^ 32
+vertices_fit v few = omega arith
+
+no_vertices : 0 < 2 ^ 32
+no_vertices = omega arith
+
+-- as many as are few are few
+at_most : (x y most : ℕ) → x ≡ y → y ≤ most → x ≤ most
+at_most x y most same le = subst (λ (k : ℕ). k ≤ most) (sym same) le
+
+pair_found : (version : Version) (words : WordsLeft) (lines : LinesLeft) (read : Labelled) (q : LinesLeft)
+    → pair_at version words lines ≡ Ok (read, q) → IsFormRead version forms.Pair words lines read q
 unfolding pair_at
-pair_found words lines instance q e =
-    let count = bind_found (size_at 0 most_elements words) _ (instance, q) e in
-    let end = bind_found (ended_at count.0.1) _ (instance, q) count.2 in
-    let weights = bind_found (weights_at count.0.0 lines) _ (instance, q) end.2 in
-    let first = bind_found (matroid_at count.0.0 weights.0.1) _ (instance, q) weights.2 in
-    let second = bind_found (matroid_at count.0.0 first.0.1) _ (instance, q) first.2 in
-    let same = found-same (pair weights.0.0 first.0.0 second.0.0, second.0.1) (instance, q) second.2 in
+pair_found version words lines read q e =
+    let count = bind_found (size_at 0 most_elements words) _ (read, q) e in
+    let end = bind_found (ended_at count.0.1) _ (read, q) count.2 in
+    let labels = bind_found (labels_at version count.0.0 0 lines) _ (read, q) end.2 in
+    let naming = element_naming labels.0.0 in
+    let weights = bind_found (weights_at count.0.0 labels.0.1) _ (read, q) labels.2 in
+    let first = bind_found (matroid_at naming count.0.0 weights.0.1) _ (read, q) weights.2 in
+    let second = bind_found (matroid_at naming count.0.0 first.0.1) _ (read, q) first.2 in
+    let same = found-same (labelled_as (pair weights.0.0 first.0.0 second.0.0) labels.0.0, second.0.1) (read, q) second.2 in
     let number = size_found 0 most_elements words count.0.0 count.0.1 count.1 in
     let last = ended_found count.0.1 end.0 end.1 in
-    let all = weights_line_found count.0.0 lines weights.0.0 weights.0.1 weights.1 in
-    let one = matroid_found count.0.0 weights.0.1 first.0.0 first.0.1 first.1 in
-    let two = matroid_found count.0.0 first.0.1 second.0.0 second.0.1 second.1 in
-    let few : count.0.0 ≤ most_elements = omega (arith, number.most) in
+    let named = labels_found version count.0.0 0 (elements_fit count.0.0 number.most) no_vertices lines labels.0.0 labels.0.1 labels.1 in
+    let all = weights_line_found count.0.0 labels.0.1 weights.0.0 weights.0.1 weights.1 in
+    let one = matroid_found naming count.0.0 named.elements weights.0.1 first.0.0 first.0.1 first.1 in
+    let two = matroid_found naming count.0.0 named.elements first.0.1 second.0.0 second.0.1 second.1 in
     let line : words.words ≡ numeral (pos (length weights.0.0)) ∷ [] =
     count_line count.0.0 (length weights.0.0) words.words count.0.1.words number.cut last all.count in
-    let whole : IsFormRead forms.Pair words lines (pair weights.0.0 first.0.0 second.0.0) second.0.1 = record {
-      valid = (all.valid few, rw all.count one.valid, rw all.count two.valid);
+    let whole : IsFormRead version forms.Pair words lines (labelled_as (pair weights.0.0 first.0.0 second.0.0) labels.0.0) second.0.1 = record {
+      valid = (all.valid number.most, rw all.count one.valid, rw all.count two.valid);
+      labelled = (naming_of naming count.0.0 (length weights.0.0) all.count named.elements, named.vertices);
+      same = named.same;
       spelled = λ left.
           let behind = two.spelled (end_line ∷ []) left in
           let before = one.spelled behind.0 behind.1 in
-          let more : List Line = (codes "weights" ∷ map weight_word weights.0.0) ∷ before.0 in
-          let header = ap (λ (t : Line). version_line ∷ (codes "pair" ∷ t) ∷ more) line in
-          (more, all.spelled before.0 before.1, (before.0, behind.0, header, before.2, behind.2));
+          let body : List Line = (codes "weights" ∷ map weight_word weights.0.0) ∷ before.0 in
+          let more : List Line = label_lines labels.0.0 ++ body in
+          let header = ap (λ (t : Line). version_line labels.0.0 ∷ (codes "pair" ∷ t) ∷ more) line in
+          (more, named.spelled body (all.spelled before.0 before.1), (before.0, behind.0, header, before.2, behind.2));
     } in
-    subst (λ (r : Instance × LinesLeft). IsFormRead forms.Pair words lines r.0 r.1) same whole
+    subst (λ (r : Labelled × LinesLeft). IsFormRead version forms.Pair words lines r.0 r.1) same whole
 
-list_found : (words : WordsLeft) (lines : LinesLeft) (instance : Instance) (q : LinesLeft) → list_at words lines ≡ Ok (instance, q)
-    → IsFormRead forms.List words lines instance q
+list_found : (version : Version) (words : WordsLeft) (lines : LinesLeft) (read : Labelled) (q : LinesLeft)
+    → list_at version words lines ≡ Ok (read, q) → IsFormRead version forms.List words lines read q
 unfolding list_at
-list_found words lines instance q e =
-    let count = bind_found (size_at 0 most_elements words) _ (instance, q) e in
-    let many = bind_found (size_at 1 most_matroids count.0.1) _ (instance, q) count.2 in
-    let end = bind_found (ended_at many.0.1) _ (instance, q) many.2 in
-    let weights = bind_found (weights_at count.0.0 lines) _ (instance, q) end.2 in
-    let matroids = bind_found (repeat_at (matroid_at count.0.0) many.0.0 weights.0.1) _ (instance, q) weights.2 in
-    let same = found-same (list weights.0.0 matroids.0.0, matroids.0.1) (instance, q) matroids.2 in
+list_found version words lines read q e =
+    let count = bind_found (size_at 0 most_elements words) _ (read, q) e in
+    let many = bind_found (size_at 1 most_matroids count.0.1) _ (read, q) count.2 in
+    let end = bind_found (ended_at many.0.1) _ (read, q) many.2 in
+    let labels = bind_found (labels_at version count.0.0 0 lines) _ (read, q) end.2 in
+    let naming = element_naming labels.0.0 in
+    let weights = bind_found (weights_at count.0.0 labels.0.1) _ (read, q) labels.2 in
+    let matroids = bind_found (repeat_at (matroid_at naming count.0.0) many.0.0 weights.0.1) _ (read, q) weights.2 in
+    let same = found-same (labelled_as (list weights.0.0 matroids.0.0) labels.0.0, matroids.0.1) (read, q) matroids.2 in
     let number = size_found 0 most_elements words count.0.0 count.0.1 count.1 in
     let length_read = size_found 1 most_matroids count.0.1 many.0.0 many.0.1 many.1 in
     let last = ended_found many.0.1 end.0 end.1 in
-    let all = weights_line_found count.0.0 lines weights.0.0 weights.0.1 weights.1 in
-    let read = matroids_found count.0.0 many.0.0 weights.0.1 matroids.0.0 matroids.0.1 matroids.1 in
-    let few : count.0.0 ≤ most_elements = omega (arith, number.most) in
+    let named = labels_found version count.0.0 0 (elements_fit count.0.0 number.most) no_vertices lines labels.0.0 labels.0.1 labels.1 in
+    let all = weights_line_found count.0.0 labels.0.1 weights.0.0 weights.0.1 weights.1 in
+    let rows = matroids_found naming count.0.0 named.elements many.0.0 weights.0.1 matroids.0.0 matroids.0.1 matroids.1 in
     let line : words.words ≡ numeral (pos (length weights.0.0)) ∷ numeral (pos (length matroids.0.0)) ∷ [] =
-    number.cut ∙ rw (length_read.cut, last, all.count, read.count) refl in
-    subst (λ (r : Instance × LinesLeft). IsFormRead forms.List words lines r.0 r.1) same (record {
-      valid = (all.valid few, omega (arith, read.count, length_read.least), omega (arith, read.count, length_read.most), rw all.count read.each);
+    number.cut ∙ rw (length_read.cut, last, all.count, rows.count) refl in
+    subst (λ (r : Labelled × LinesLeft). IsFormRead version forms.List words lines r.0 r.1) same (record {
+      valid = (all.valid number.most, omega (arith, rows.count, length_read.least), at_most (length matroids.0.0) many.0.0 most_matroids rows.count length_read.most, rw all.count rows.each);
+      labelled = (naming_of naming count.0.0 (length weights.0.0) all.count named.elements, named.vertices);
+      same = named.same;
       spelled = λ left.
-          let behind = read.spelled (end_line ∷ []) left in
-          let more : List Line = (codes "weights" ∷ map weight_word weights.0.0) ∷ behind.0 in
-          let header = ap (λ (t : Line). version_line ∷ (codes "list" ∷ t) ∷ more) line in
-          (more, all.spelled behind.0 behind.1, (behind.0, header, behind.2));
+          let behind = rows.spelled (end_line ∷ []) left in
+          let body : List Line = (codes "weights" ∷ map weight_word weights.0.0) ∷ behind.0 in
+          let more : List Line = label_lines labels.0.0 ++ body in
+          let header = ap (λ (t : Line). version_line labels.0.0 ∷ (codes "list" ∷ t) ∷ more) line in
+          (more, named.spelled body (all.spelled behind.0 behind.1), (behind.0, header, behind.2));
     })
 
-graph_found : (words : WordsLeft) (lines : LinesLeft) (instance : Instance) (q : LinesLeft) → graph_at words lines ≡ Ok (instance, q)
-    → IsFormRead forms.Graph words lines instance q
+graph_found : (version : Version) (words : WordsLeft) (lines : LinesLeft) (read : Labelled) (q : LinesLeft)
+    → graph_at version words lines ≡ Ok (read, q) → IsFormRead version forms.Graph words lines read q
 unfolding graph_at
-graph_found words lines instance q e =
-    let vertices = bind_found (size_at 1 most_vertices words) _ (instance, q) e in
-    let many = bind_found (size_at 0 most_elements vertices.0.1) _ (instance, q) vertices.2 in
-    let end = bind_found (ended_at many.0.1) _ (instance, q) many.2 in
-    let edges = bind_found (repeat_at (ends_line_at (codes "edge") vertices.0.0) many.0.0 lines) _ (instance, q) end.2 in
-    let same = found-same (graph vertices.0.0 edges.0.0, edges.0.1) (instance, q) edges.2 in
+graph_found version words lines read q e =
+    let vertices = bind_found (size_at 1 most_vertices words) _ (read, q) e in
+    let many = bind_found (size_at 0 most_elements vertices.0.1) _ (read, q) vertices.2 in
+    let end = bind_found (ended_at many.0.1) _ (read, q) many.2 in
+    let labels = bind_found (labels_at version many.0.0 vertices.0.0 lines) _ (read, q) end.2 in
+    let naming = vertex_naming labels.0.0 in
+    let edges = bind_found (repeat_at (ends_line_at naming (codes "edge") vertices.0.0) many.0.0 labels.0.1) _ (read, q) labels.2 in
+    let same = found-same (labelled_as (graph vertices.0.0 edges.0.0) labels.0.0, edges.0.1) (read, q) edges.2 in
     let v = size_found 1 most_vertices words vertices.0.0 vertices.0.1 vertices.1 in
     let m = size_found 0 most_elements vertices.0.1 many.0.0 many.0.1 many.1 in
     let last = ended_found many.0.1 end.0 end.1 in
-    let read = items_found (ends_line_at (codes "edge") vertices.0.0) (ends_line (codes "edge")) (IsPairBelow vertices.0.0 vertices.0.0)
-    (ends_line_found (codes "edge") vertices.0.0) many.0.0 lines edges.0.0 edges.0.1 edges.1 in
-    let line : words.words ≡ numeral (pos vertices.0.0) ∷ numeral (pos (length edges.0.0)) ∷ [] = v.cut ∙ rw (m.cut, last, read.count) refl in
-    subst (λ (r : Instance × LinesLeft). IsFormRead forms.Graph words lines r.0 r.1) same (record {
-      valid = (v.least, omega (arith, v.most), (omega (arith, read.count, m.most), read.each));
+    let named = labels_found version many.0.0 vertices.0.0 (elements_fit many.0.0 m.most) (vertices_fit vertices.0.0 v.most) lines labels.0.0 labels.0.1 labels.1 in
+    let items = items_found (ends_line_at naming (codes "edge") vertices.0.0) (ends_line naming (codes "edge"))
+    (IsPairBelow vertices.0.0 vertices.0.0) (ends_line_found naming (codes "edge") vertices.0.0 named.vertices) many.0.0 labels.0.1
+    edges.0.0 edges.0.1 edges.1 in
+    let line : words.words ≡ numeral (pos vertices.0.0) ∷ numeral (pos (length edges.0.0)) ∷ [] = v.cut ∙ rw (m.cut, last, items.count) refl in
+    subst (λ (r : Labelled × LinesLeft). IsFormRead version forms.Graph words lines r.0 r.1) same (record {
+      valid = (v.least, v.most, (at_most (length edges.0.0) many.0.0 most_elements items.count m.most, items.each));
+      labelled = (naming_of (element_naming labels.0.0) many.0.0 (length edges.0.0) items.count named.elements, named.vertices);
+      same = named.same;
       spelled = λ left.
-          let more : List Line = map (ends_line (codes "edge")) edges.0.0 ++ end_line ∷ [] in
-          (more, read.spelled (end_line ∷ []) left, ap (λ (t : Line). version_line ∷ (codes "graph" ∷ t) ∷ more) line);
+          let body : List Line = map (ends_line naming (codes "edge")) edges.0.0 ++ end_line ∷ [] in
+          let more : List Line = label_lines labels.0.0 ++ body in
+          let header = ap (λ (t : Line). version_line labels.0.0 ∷ (codes "graph" ∷ t) ∷ more) line in
+          (more, named.spelled body (items.spelled (end_line ∷ []) left), header);
     })
 
 -- items of a pair and a weight, as two lists
-record AreColumns (a b : ℕ) (key : List ℕ) (many : ℕ) (lines : LinesLeft) (pairs : List (ℕ × ℕ)) (weights : List Weight)
+record AreColumns (naming : Naming) (a b : ℕ) (key : List ℕ) (many : ℕ) (lines : LinesLeft) (pairs : List (ℕ × ℕ)) (weights : List Weight)
     (q : LinesLeft) : Type 0 where
   count : length pairs ≡ many
   as_many : length weights ≡ length pairs
   pairs_valid : All (IsPairBelow a b) pairs
   weights_valid : All IsWeight weights
-  spelled : AreLeft (end_line ∷ []) q → AreLeft (map (weighted_line key) (zip pairs weights) ++ end_line ∷ []) lines
+  spelled : AreLeft (end_line ∷ []) q → AreLeft (map (weighted_line naming key) (zip pairs weights) ++ end_line ∷ []) lines
 
-columns_found : (a b : ℕ) (key : List ℕ) (many : ℕ) (lines : LinesLeft) (items : List ((ℕ × ℕ) × Weight)) (q : LinesLeft)
-    → repeat_at (weighted_at key a b) many lines ≡ Ok (items, q)
-    → AreColumns a b key many lines (map (λ (item : (ℕ × ℕ) × Weight). item.0) items)
+columns_found : (naming : Naming) (a b : ℕ) → IsNaming a naming → IsNaming b naming → (key : List ℕ) (many : ℕ) (lines : LinesLeft)
+    (items : List ((ℕ × ℕ) × Weight)) (q : LinesLeft)
+    → repeat_at (weighted_at naming key a b) many lines ≡ Ok (items, q)
+    → AreColumns naming a b key many lines (map (λ (item : (ℕ × ℕ) × Weight). item.0) items)
     (map (λ (item : (ℕ × ℕ) × Weight). item.1) items) q
-columns_found a b key many lines items q e =
-    let read = items_found (weighted_at key a b) (weighted_line key) (IsWeighted a b) (weighted_found key a b) many lines items q e in
+columns_found naming a b first_named second_named key many lines items q e =
+    let read = items_found (weighted_at naming key a b) (weighted_line naming key) (IsWeighted a b)
+    (weighted_found naming key a b first_named second_named) many lines items q e in
     let firsts = length-map_same (λ (item : (ℕ × ℕ) × Weight). item.0) items in
     let seconds = length-map_same (λ (item : (ℕ × ℕ) × Weight). item.1) items in
     record {
@@ -237,78 +288,180 @@ columns_found a b key many lines items q e =
       as_many = seconds ∙ sym firsts;
       pairs_valid = All-map (IsWeighted a b) (IsPairBelow a b) (λ (item : (ℕ × ℕ) × Weight). item.0) (λ item valid. valid.0) items read.each;
       weights_valid = All-map (IsWeighted a b) IsWeight (λ (item : (ℕ × ℕ) × Weight). item.1) (λ item valid. valid.1) items read.each;
-      spelled = λ left. subst (λ (t : List ((ℕ × ℕ) × Weight)). AreLeft (map (weighted_line key) t ++ end_line ∷ []) lines)
+      spelled = λ left. subst (λ (t : List ((ℕ × ℕ) × Weight)). AreLeft (map (weighted_line naming key) t ++ end_line ∷ []) lines)
           (sym (zip-parts items)) (read.spelled (end_line ∷ []) left);
     }
 
-columns_again : (a b : ℕ) (key : List ℕ) → is_word key ≡ true
+columns_again : (naming : Naming) (a b : ℕ) → IsNaming a naming → IsNaming b naming → (key : List ℕ) → is_word key ≡ true
     → (lines : LinesLeft) (pairs : List (ℕ × ℕ)) (weights : List Weight) → All (IsPairBelow a b) pairs → All IsWeight weights
     → length weights ≡ length pairs
-    → AreLeft (map (weighted_line key) (zip pairs weights) ++ end_line ∷ []) lines
-    → (q : LinesLeft) × (repeat_at (weighted_at key a b) (length pairs) lines ≡ Ok (zip pairs weights, q)) × AreLeft (end_line ∷ []) q
-columns_again a b key keyword lines pairs weights pairs_valid weights_valid same left =
-    let read = items_again (weighted_at key a b) (weighted_line key) (IsWeighted a b) (weighted_again key a b keyword) lines
+    → AreLeft (map (weighted_line naming key) (zip pairs weights) ++ end_line ∷ []) lines
+    → (q : LinesLeft) × (repeat_at (weighted_at naming key a b) (length pairs) lines ≡ Ok (zip pairs weights, q)) × AreLeft (end_line ∷ []) q
+columns_again naming a b first_named second_named key keyword lines pairs weights pairs_valid weights_valid same left =
+    let read = items_again (weighted_at naming key a b) (weighted_line naming key) (IsWeighted a b)
+    (weighted_again naming key a b first_named second_named keyword) lines
     (zip pairs weights) (end_line ∷ []) (All-zip (IsPairBelow a b) IsWeight pairs weights pairs_valid weights_valid same) left in (
       read.0,
-      subst (λ (k : ℕ). repeat_at (weighted_at key a b) k lines ≡ Ok (zip pairs weights, read.0))
+      subst (λ (k : ℕ). repeat_at (weighted_at naming key a b) k lines ≡ Ok (zip pairs weights, read.0))
           (length-zip_same pairs weights same) read.1,
       read.2,
     )
 
-rooted_found : (words : WordsLeft) (lines : LinesLeft) (instance : Instance) (q : LinesLeft) → rooted_at words lines ≡ Ok (instance, q)
-    → IsFormRead forms.Rooted words lines instance q
+-- ---- the root
+
+-- the root was read, in the form line or in its own
+record IsRootRead (labels : Labels) (v : ℕ) (before behind : WordsLeft) (p : LinesLeft) (root : ℕ) (q : LinesLeft) : Type 0 where
+  below : root < v
+  words : before.words ≡ root_words labels root ++ behind.words
+  spelled : (rest : List Line) → AreLeft rest q → AreLeft (root_lines labels root ++ rest) p
+
+root_found : (version : Version) (labels : Labels) (v : ℕ) → version ≡ version_for labels → IsNaming v (vertex_naming labels)
+    → (before : WordsLeft) (known : Option ℕ) (behind : WordsLeft) → header_root_at version v before ≡ Ok (known, behind)
+    → (p : LinesLeft) (root : ℕ) (q : LinesLeft) → root_at (vertex_naming labels) v known p ≡ Ok (root, q)
+    → IsRootRead labels v before behind p root q
+unfolding header_root_at root_at
+root_found versions.One numbers v is lawful before known behind e p root q f =
+    let word = bind_found (below_at v before) _ (known, behind) e in
+    let same = found-same (Some word.0.0, word.0.1) (known, behind) word.2 in
+    let from : root_at None v (Some word.0.0) p ≡ Ok (root, q) =
+    subst (λ (o : Option ℕ). root_at None v o p ≡ Ok (root, q)) (sym (ap (λ (x : Option ℕ × WordsLeft). x.0) same)) f in
+    let there = found-same (word.0.0, p) (root, q) from in
+    let read = below_found v before word.0.0 word.0.1 word.1 in
+    let rest : word.0.1 ≡ behind = ap (λ (x : Option ℕ × WordsLeft). x.1) same in
+    let whole : IsRootRead numbers v before behind p word.0.0 p = record {
+      below = read.most;
+      words = read.cut ∙ ap (λ (w : WordsLeft). numeral (pos word.0.0) ∷ w.words) rest;
+      spelled = λ more left. left;
+    } in
+    subst (λ (x : ℕ × LinesLeft). IsRootRead numbers v before behind p x.0 x.1) there whole
+root_found versions.One (names elements vertices) v is lawful before known behind e p root q f = absurd cc
+root_found versions.Two numbers v is lawful before known behind e p root q f = absurd cc
+root_found versions.Two (names elements vertices) v is lawful before known behind e p root q f =
+    let none : Option ℕ = None in
+    let same = found-same (none, before) (known, behind) e in
+    let from : root_at (Some vertices) v none p ≡ Ok (root, q) =
+    subst (λ (o : Option ℕ). root_at (Some vertices) v o p ≡ Ok (root, q)) (sym (ap (λ (x : Option ℕ × WordsLeft). x.0) same)) f in
+    let line = bind_found (keyed_at (codes "root") p) _ (root, q) from in
+    let word = bind_found (member_at (Some vertices) v line.0.0) _ (root, q) line.2 in
+    let end = bind_found (ended_at word.0.1) _ (root, q) word.2 in
+    let there = found-same (word.0.0, line.0.1) (root, q) end.2 in
+    let read = member_found (Some vertices) v lawful line.0.0 word.0.0 word.0.1 word.1 in
+    let last = ended_found word.0.1 end.0 end.1 in
+    let whole : IsRootRead (names elements vertices) v before behind p word.0.0 line.0.1 = record {
+      below = read.most;
+      words = ap (λ (x : Option ℕ × WordsLeft). x.1.words) same;
+      spelled = λ more left. subst (λ (ws : Line). AreLeft ((codes "root" ∷ ws) ∷ more) p)
+          (cut_then (word_for (Some vertices) word.0.0) line.0.0.words word.0.1.words [] read.cut last)
+          (keyed_found (codes "root") p line.0.0 line.0.1 line.1 more left);
+    } in
+    subst (λ (x : ℕ × LinesLeft). IsRootRead (names elements vertices) v before behind p x.0 x.1) there whole
+
+-- what is known of the root from the form line
+abbrev known_root : Labels → ℕ → Option ℕ
+known_root numbers root = Some root
+known_root (names elements vertices) root = None
+
+header_root_again : (labels : Labels) (v n root : ℕ) → root < v
+    → header_root_at (version_for labels) v (record { line = n; words = root_words labels root })
+    ≡ Ok (known_root labels root, record { line = n; words = [] })
+unfolding header_root_at
+header_root_again numbers v n root lt = rw (below_again v n root [] lt) refl
+header_root_again (names elements vertices) v n root lt = refl
+
+root_again : (labels : Labels) (v : ℕ) → IsNaming v (vertex_naming labels) → (p : LinesLeft) (root : ℕ) (rest : List Line) → root < v
+    → AreLeft (root_lines labels root ++ rest) p
+    → (q : LinesLeft) × (root_at (vertex_naming labels) v (known_root labels root) p ≡ Ok (root, q)) × AreLeft rest q
+unfolding root_at
+root_again numbers v lawful p root rest lt left = (p, refl, left)
+root_again (names elements vertices) v lawful p root rest lt left =
+    let word = word_for (Some vertices) root in
+    let is : list_all is_word (word ∷ []) ≡ true = and_from (is_word word) true (word_for-word (Some vertices) v lawful root lt) refl in
+    let line = keyed_again (codes "root") p (word ∷ []) rest refl is left in
+    (line.0, rw (line.1, member_again (Some vertices) v lawful p.line root [] lt, ended_again p.line) refl, line.2)
+
+root_words-words : (labels : Labels) (root : ℕ) → list_all is_word (root_words labels root) ≡ true
+root_words-words numbers root = numerals_words (root ∷ [])
+root_words-words (names elements vertices) root = refl
+
+rooted_found : (version : Version) (words : WordsLeft) (lines : LinesLeft) (read : Labelled) (q : LinesLeft)
+    → rooted_at version words lines ≡ Ok (read, q) → IsFormRead version forms.Rooted words lines read q
 unfolding rooted_at
-rooted_found words lines instance q e =
-    let vertices = bind_found (size_at 1 most_vertices words) _ (instance, q) e in
-    let many = bind_found (size_at 0 most_elements vertices.0.1) _ (instance, q) vertices.2 in
-    let root = bind_found (below_at vertices.0.0 many.0.1) _ (instance, q) many.2 in
-    let end = bind_found (ended_at root.0.1) _ (instance, q) root.2 in
-    let arcs = bind_found (repeat_at (weighted_at (codes "arc") vertices.0.0 vertices.0.0) many.0.0 lines) _ (instance, q) end.2 in
+rooted_found version words lines read q e =
+    let vertices = bind_found (size_at 1 most_vertices words) _ (read, q) e in
+    let many = bind_found (size_at 0 most_elements vertices.0.1) _ (read, q) vertices.2 in
+    let known = bind_found (header_root_at version vertices.0.0 many.0.1) _ (read, q) many.2 in
+    let end = bind_found (ended_at known.0.1) _ (read, q) known.2 in
+    let labels = bind_found (labels_at version many.0.0 vertices.0.0 lines) _ (read, q) end.2 in
+    let naming = vertex_naming labels.0.0 in
+    let root = bind_found (root_at naming vertices.0.0 known.0.0 labels.0.1) _ (read, q) labels.2 in
+    let arcs = bind_found (repeat_at (weighted_at naming (codes "arc") vertices.0.0 vertices.0.0) many.0.0 root.0.1) _ (read, q) root.2 in
     let pairs = map (λ (arc : (ℕ × ℕ) × Weight). arc.0) arcs.0.0 in
     let costs = map (λ (arc : (ℕ × ℕ) × Weight). arc.1) arcs.0.0 in
-    let same = found-same (rooted vertices.0.0 root.0.0 pairs costs, arcs.0.1) (instance, q) arcs.2 in
+    let same = found-same (labelled_as (rooted vertices.0.0 root.0.0 pairs costs) labels.0.0, arcs.0.1) (read, q) arcs.2 in
     let v = size_found 1 most_vertices words vertices.0.0 vertices.0.1 vertices.1 in
     let m = size_found 0 most_elements vertices.0.1 many.0.0 many.0.1 many.1 in
-    let r = below_found vertices.0.0 many.0.1 root.0.0 root.0.1 root.1 in
-    let last = ended_found root.0.1 end.0 end.1 in
-    let read = columns_found vertices.0.0 vertices.0.0 (codes "arc") many.0.0 lines arcs.0.0 arcs.0.1 arcs.1 in
-    let line : words.words ≡ numeral (pos vertices.0.0) ∷ numeral (pos (length pairs)) ∷ numeral (pos root.0.0) ∷ [] =
-    v.cut ∙ rw (m.cut, r.cut, last, read.count) refl in
-    subst (λ (x : Instance × LinesLeft). IsFormRead forms.Rooted words lines x.0 x.1) same (record {
-      valid = (v.least, omega (arith, v.most), r.most, (omega (arith, read.count, m.most), read.pairs_valid), read.as_many, read.weights_valid);
+    let last = ended_found known.0.1 end.0 end.1 in
+    let named = labels_found version many.0.0 vertices.0.0 (elements_fit many.0.0 m.most) (vertices_fit vertices.0.0 v.most) lines labels.0.0 labels.0.1 labels.1 in
+    let r = root_found version labels.0.0 vertices.0.0 named.same named.vertices many.0.1 known.0.0 known.0.1 known.1 labels.0.1
+    root.0.0 root.0.1 root.1 in
+    let items = columns_found naming vertices.0.0 vertices.0.0 named.vertices named.vertices (codes "arc") many.0.0 root.0.1
+    arcs.0.0 arcs.0.1 arcs.1 in
+    let from : many.0.1.words ≡ root_words labels.0.0 root.0.0 =
+    r.words ∙ ap (λ (t : Line). root_words labels.0.0 root.0.0 ++ t) last ∙ append-nil (root_words labels.0.0 root.0.0) in
+    let line : words.words ≡ numeral (pos vertices.0.0) ∷ numeral (pos (length pairs)) ∷ root_words labels.0.0 root.0.0 =
+    v.cut ∙ rw (m.cut, from, items.count) refl in
+    subst (λ (x : Labelled × LinesLeft). IsFormRead version forms.Rooted words lines x.0 x.1) same (record {
+      valid = (v.least, v.most, r.below, (at_most (length pairs) many.0.0 most_elements items.count m.most, items.pairs_valid), items.as_many, items.weights_valid);
+      labelled = (naming_of (element_naming labels.0.0) many.0.0 (length pairs) items.count named.elements, named.vertices);
+      same = named.same;
       spelled = λ left.
-          let more : List Line = map (weighted_line (codes "arc")) (zip pairs costs) ++ end_line ∷ [] in
-          (more, read.spelled left, ap (λ (t : Line). version_line ∷ (codes "rooted" ∷ t) ∷ more) line);
+          let arc_lines : List Line = map (weighted_line naming (codes "arc")) (zip pairs costs) ++ end_line ∷ [] in
+          let body : List Line = root_lines labels.0.0 root.0.0 ++ arc_lines in
+          let more : List Line = label_lines labels.0.0 ++ body in
+          let header = ap (λ (t : Line). version_line labels.0.0 ∷ (codes "rooted" ∷ t) ∷ more) line in
+          (more, named.spelled body (r.spelled arc_lines (items.spelled left)), header);
     })
 
-table_found : (words : WordsLeft) (lines : LinesLeft) (instance : Instance) (q : LinesLeft) → table_at words lines ≡ Ok (instance, q)
-    → IsFormRead forms.Table words lines instance q
+table_found : (version : Version) (words : WordsLeft) (lines : LinesLeft) (read : Labelled) (q : LinesLeft)
+    → table_at version words lines ≡ Ok (read, q) → IsFormRead version forms.Table words lines read q
 unfolding table_at
-table_found words lines instance q e =
-    let rows = bind_found (size_at 0 most_sets words) _ (instance, q) e in
-    let columns = bind_found (size_at 0 most_sets rows.0.1) _ (instance, q) rows.2 in
-    let many = bind_found (size_at 0 most_elements columns.0.1) _ (instance, q) columns.2 in
-    let end = bind_found (ended_at many.0.1) _ (instance, q) many.2 in
-    let cells = bind_found (repeat_at (weighted_at (codes "cell") rows.0.0 columns.0.0) many.0.0 lines) _ (instance, q) end.2 in
+table_found version words lines read q e =
+    let rows = bind_found (size_at 0 most_sets words) _ (read, q) e in
+    let columns = bind_found (size_at 0 most_sets rows.0.1) _ (read, q) rows.2 in
+    let many = bind_found (size_at 0 most_elements columns.0.1) _ (read, q) columns.2 in
+    let end = bind_found (ended_at many.0.1) _ (read, q) many.2 in
+    let labels = bind_found (labels_at version many.0.0 0 lines) _ (read, q) end.2 in
+    let cells = bind_found (repeat_at (weighted_at None (codes "cell") rows.0.0 columns.0.0) many.0.0 labels.0.1) _ (read, q) labels.2 in
     let pairs = map (λ (cell : (ℕ × ℕ) × Weight). cell.0) cells.0.0 in
     let weights = map (λ (cell : (ℕ × ℕ) × Weight). cell.1) cells.0.0 in
-    let same = found-same (table rows.0.0 columns.0.0 pairs weights, cells.0.1) (instance, q) cells.2 in
+    let same = found-same (labelled_as (table rows.0.0 columns.0.0 pairs weights) labels.0.0, cells.0.1) (read, q) cells.2 in
     let r = size_found 0 most_sets words rows.0.0 rows.0.1 rows.1 in
     let c = size_found 0 most_sets rows.0.1 columns.0.0 columns.0.1 columns.1 in
     let m = size_found 0 most_elements columns.0.1 many.0.0 many.0.1 many.1 in
     let last = ended_found many.0.1 end.0 end.1 in
-    let read = columns_found rows.0.0 columns.0.0 (codes "cell") many.0.0 lines cells.0.0 cells.0.1 cells.1 in
+    let named = labels_found version many.0.0 0 (elements_fit many.0.0 m.most) no_vertices lines labels.0.0 labels.0.1 labels.1 in
+    let items = columns_found None rows.0.0 columns.0.0 tt tt (codes "cell") many.0.0 labels.0.1 cells.0.0 cells.0.1 cells.1 in
     let line : words.words ≡ numeral (pos rows.0.0) ∷ numeral (pos columns.0.0) ∷ numeral (pos (length pairs)) ∷ [] =
-    r.cut ∙ rw (c.cut, m.cut, last, read.count) refl in
-    subst (λ (x : Instance × LinesLeft). IsFormRead forms.Table words lines x.0 x.1) same (record {
-      valid = (omega (arith, r.most), omega (arith, c.most), (omega (arith, read.count, m.most), read.pairs_valid), read.as_many, read.weights_valid);
+    r.cut ∙ rw (c.cut, m.cut, last, items.count) refl in
+    subst (λ (x : Labelled × LinesLeft). IsFormRead version forms.Table words lines x.0 x.1) same (record {
+      valid = (
+        r.most,
+        c.most,
+        (at_most (length pairs) many.0.0 most_elements items.count m.most, items.pairs_valid),
+        items.as_many,
+        items.weights_valid,
+      );
+      labelled = (naming_of (element_naming labels.0.0) many.0.0 (length pairs) items.count named.elements, named.vertices);
+      same = named.same;
       spelled = λ left.
-          let more : List Line = map (weighted_line (codes "cell")) (zip pairs weights) ++ end_line ∷ [] in
-          (more, read.spelled left, ap (λ (t : Line). version_line ∷ (codes "table" ∷ t) ∷ more) line);
+          let body : List Line = map (weighted_line None (codes "cell")) (zip pairs weights) ++ end_line ∷ [] in
+          let more : List Line = label_lines labels.0.0 ++ body in
+          let header = ap (λ (t : Line). version_line labels.0.0 ∷ (codes "table" ∷ t) ∷ more) line in
+          (more, named.spelled body (items.spelled left), header);
     })
 
 -- items of a pair, a colour and a weight, as three lists
-record AreColouredColumns (v c many : ℕ) (lines : LinesLeft) (edges : List (ℕ × ℕ)) (colours : List ℕ) (weights : List Weight)
+record AreColouredColumns (naming : Naming) (v c many : ℕ) (lines : LinesLeft) (edges : List (ℕ × ℕ)) (colours : List ℕ) (weights : List Weight)
     (q : LinesLeft) : Type 0 where
   count : length edges ≡ many
   as_many_colours : length colours ≡ length edges
@@ -316,7 +469,7 @@ record AreColouredColumns (v c many : ℕ) (lines : LinesLeft) (edges : List (�
   edges_valid : All (IsPairBelow v v) edges
   colours_valid : All (λ colour. colour < c) colours
   weights_valid : All IsWeight weights
-  spelled : AreLeft (end_line ∷ []) q → AreLeft (map coloured_edge_line (zip edges (zip colours weights)) ++ end_line ∷ []) lines
+  spelled : AreLeft (end_line ∷ []) q → AreLeft (map (coloured_edge_line naming) (zip edges (zip colours weights)) ++ end_line ∷ []) lines
 
 zip-three_parts : (items : List ((ℕ × ℕ) × (ℕ × Weight))) → zip (map (λ (item : (ℕ × ℕ) × (ℕ × Weight)). item.0) items)
     (zip (map (λ (item : (ℕ × ℕ) × (ℕ × Weight)). item.1.0) items)
@@ -324,12 +477,14 @@ zip-three_parts : (items : List ((ℕ × ℕ) × (ℕ × Weight))) → zip (map 
 zip-three_parts [] = refl
 zip-three_parts (item ∷ items) = ap (λ (t : List ((ℕ × ℕ) × (ℕ × Weight))). item ∷ t) (zip-three_parts items)
 
-coloured_columns_found : (v c many : ℕ) (lines : LinesLeft) (items : List ((ℕ × ℕ) × (ℕ × Weight))) (q : LinesLeft)
-    → repeat_at (coloured_edge_at v c) many lines ≡ Ok (items, q)
-    → AreColouredColumns v c many lines (map (λ (item : (ℕ × ℕ) × (ℕ × Weight)). item.0) items)
+coloured_columns_found : (naming : Naming) (v c : ℕ) → IsNaming v naming → (many : ℕ) (lines : LinesLeft)
+    (items : List ((ℕ × ℕ) × (ℕ × Weight))) (q : LinesLeft)
+    → repeat_at (coloured_edge_at naming v c) many lines ≡ Ok (items, q)
+    → AreColouredColumns naming v c many lines (map (λ (item : (ℕ × ℕ) × (ℕ × Weight)). item.0) items)
     (map (λ (item : (ℕ × ℕ) × (ℕ × Weight)). item.1.0) items) (map (λ (item : (ℕ × ℕ) × (ℕ × Weight)). item.1.1) items) q
-coloured_columns_found v c many lines items q e =
-    let read = items_found (coloured_edge_at v c) coloured_edge_line (IsColoured v c) (coloured_edge_found v c) many lines items q e in
+coloured_columns_found naming v c lawful many lines items q e =
+    let read = items_found (coloured_edge_at naming v c) (coloured_edge_line naming) (IsColoured v c)
+    (coloured_edge_found naming v c lawful) many lines items q e in
     let firsts = length-map_same (λ (item : (ℕ × ℕ) × (ℕ × Weight)). item.0) items in
     let seconds = length-map_same (λ (item : (ℕ × ℕ) × (ℕ × Weight)). item.1.0) items in
     let thirds = length-map_same (λ (item : (ℕ × ℕ) × (ℕ × Weight)). item.1.1) items in
@@ -343,175 +498,216 @@ coloured_columns_found v c many lines items q e =
           (λ item valid. valid.1) items read.each;
       weights_valid = All-map (IsColoured v c) IsWeight (λ (item : (ℕ × ℕ) × (ℕ × Weight)). item.1.1) (λ item valid. valid.2) items
           read.each;
-      spelled = λ left. subst (λ (t : List ((ℕ × ℕ) × (ℕ × Weight))). AreLeft (map coloured_edge_line t ++ end_line ∷ []) lines)
+      spelled = λ left. subst (λ (t : List ((ℕ × ℕ) × (ℕ × Weight))). AreLeft (map (coloured_edge_line naming) t ++ end_line ∷ []) lines)
           (sym (zip-three_parts items)) (read.spelled (end_line ∷ []) left);
     }
 
-coloured_columns_again : (v c : ℕ) (lines : LinesLeft) (edges : List (ℕ × ℕ)) (colours : List ℕ) (weights : List Weight)
+coloured_columns_again : (naming : Naming) (v c : ℕ) → IsNaming v naming → (lines : LinesLeft) (edges : List (ℕ × ℕ)) (colours : List ℕ) (weights : List Weight)
     → All (IsPairBelow v v) edges → All (λ colour. colour < c) colours → All IsWeight weights
     → length colours ≡ length edges → length weights ≡ length edges
-    → AreLeft (map coloured_edge_line (zip edges (zip colours weights)) ++ end_line ∷ []) lines
-    → (q : LinesLeft) × (repeat_at (coloured_edge_at v c) (length edges) lines ≡ Ok (zip edges (zip colours weights), q)) × AreLeft
+    → AreLeft (map (coloured_edge_line naming) (zip edges (zip colours weights)) ++ end_line ∷ []) lines
+    → (q : LinesLeft) × (repeat_at (coloured_edge_at naming v c) (length edges) lines ≡ Ok (zip edges (zip colours weights), q)) × AreLeft
     (end_line ∷ []) q
-coloured_columns_again v c lines edges colours weights edges_valid colours_valid weights_valid one two left =
+coloured_columns_again naming v c lawful lines edges colours weights edges_valid colours_valid weights_valid one two left =
     let inner = length-zip_same colours weights (two ∙ sym one) in
     let pairs = All-zip (λ colour. colour < c) IsWeight colours weights colours_valid weights_valid (two ∙ sym one) in
     let triples = All-zip (IsPairBelow v v) (λ (item : ℕ × Weight). (item.0 < c) × IsWeight item.1) edges (zip colours weights)
     edges_valid pairs (inner ∙ one) in
     let valid = All-weaker (λ (item : (ℕ × ℕ) × (ℕ × Weight)). IsPairBelow v v item.0 × ((item.1.0 < c) × IsWeight item.1.1))
     (IsColoured v c) (λ item h. (h.0, h.1.0, h.1.1)) (zip edges (zip colours weights)) triples in
-    let read = items_again (coloured_edge_at v c) coloured_edge_line (IsColoured v c) (coloured_edge_again v c) lines
+    let read = items_again (coloured_edge_at naming v c) (coloured_edge_line naming) (IsColoured v c) (coloured_edge_again naming v c lawful) lines
     (zip edges (zip colours weights)) (end_line ∷ []) valid left in (
       read.0,
-      subst (λ (k : ℕ). repeat_at (coloured_edge_at v c) k lines ≡ Ok (zip edges (zip colours weights), read.0))
+      subst (λ (k : ℕ). repeat_at (coloured_edge_at naming v c) k lines ≡ Ok (zip edges (zip colours weights), read.0))
           (length-zip_same edges (zip colours weights) (inner ∙ one)) read.1,
       read.2,
     )
 
-coloured_found : (words : WordsLeft) (lines : LinesLeft) (instance : Instance) (q : LinesLeft) → coloured_at words lines ≡ Ok (instance, q)
-    → IsFormRead forms.Coloured words lines instance q
+coloured_found : (version : Version) (words : WordsLeft) (lines : LinesLeft) (read : Labelled) (q : LinesLeft)
+    → coloured_at version words lines ≡ Ok (read, q) → IsFormRead version forms.Coloured words lines read q
 unfolding coloured_at
-coloured_found words lines instance q e =
-    let vertices = bind_found (size_at 1 most_vertices words) _ (instance, q) e in
-    let many = bind_found (size_at 0 most_elements vertices.0.1) _ (instance, q) vertices.2 in
-    let colours = bind_found (size_at 0 most_sets many.0.1) _ (instance, q) many.2 in
-    let end = bind_found (ended_at colours.0.1) _ (instance, q) colours.2 in
-    let edges = bind_found (repeat_at (coloured_edge_at vertices.0.0 colours.0.0) many.0.0 lines) _ (instance, q) end.2 in
+coloured_found version words lines read q e =
+    let vertices = bind_found (size_at 1 most_vertices words) _ (read, q) e in
+    let many = bind_found (size_at 0 most_elements vertices.0.1) _ (read, q) vertices.2 in
+    let colours = bind_found (size_at 0 most_sets many.0.1) _ (read, q) many.2 in
+    let end = bind_found (ended_at colours.0.1) _ (read, q) colours.2 in
+    let labels = bind_found (labels_at version many.0.0 vertices.0.0 lines) _ (read, q) end.2 in
+    let naming = vertex_naming labels.0.0 in
+    let edges = bind_found (repeat_at (coloured_edge_at naming vertices.0.0 colours.0.0) many.0.0 labels.0.1) _ (read, q) labels.2 in
     let pairs = map (λ (edge : (ℕ × ℕ) × (ℕ × Weight)). edge.0) edges.0.0 in
     let colour_of = map (λ (edge : (ℕ × ℕ) × (ℕ × Weight)). edge.1.0) edges.0.0 in
     let weights = map (λ (edge : (ℕ × ℕ) × (ℕ × Weight)). edge.1.1) edges.0.0 in
-    let same = found-same (coloured vertices.0.0 colours.0.0 pairs colour_of weights, edges.0.1) (instance, q) edges.2 in
+    let same = found-same (labelled_as (coloured vertices.0.0 colours.0.0 pairs colour_of weights) labels.0.0, edges.0.1) (read, q) edges.2 in
     let v = size_found 1 most_vertices words vertices.0.0 vertices.0.1 vertices.1 in
     let m = size_found 0 most_elements vertices.0.1 many.0.0 many.0.1 many.1 in
     let c = size_found 0 most_sets many.0.1 colours.0.0 colours.0.1 colours.1 in
     let last = ended_found colours.0.1 end.0 end.1 in
-    let read = coloured_columns_found vertices.0.0 colours.0.0 many.0.0 lines edges.0.0 edges.0.1 edges.1 in
+    let named = labels_found version many.0.0 vertices.0.0 (elements_fit many.0.0 m.most) (vertices_fit vertices.0.0 v.most) lines labels.0.0 labels.0.1 labels.1 in
+    let items = coloured_columns_found naming vertices.0.0 colours.0.0 named.vertices many.0.0 labels.0.1 edges.0.0 edges.0.1 edges.1 in
     let line : words.words ≡ numeral (pos vertices.0.0) ∷ numeral (pos (length pairs)) ∷ numeral (pos colours.0.0) ∷ [] =
-    v.cut ∙ rw (m.cut, c.cut, last, read.count) refl in
-    subst (λ (x : Instance × LinesLeft). IsFormRead forms.Coloured words lines x.0 x.1) same (record {
+    v.cut ∙ rw (m.cut, c.cut, last, items.count) refl in
+    subst (λ (x : Labelled × LinesLeft). IsFormRead version forms.Coloured words lines x.0 x.1) same (record {
       valid = (
         v.least,
-        omega (arith, v.most),
-        omega (arith, c.most),
-        (omega (arith, read.count, m.most), read.edges_valid),
-        read.as_many_colours,
-        read.colours_valid,
-        read.as_many_weights,
-        read.weights_valid,
+        v.most,
+        c.most,
+        (at_most (length pairs) many.0.0 most_elements items.count m.most, items.edges_valid),
+        items.as_many_colours,
+        items.colours_valid,
+        items.as_many_weights,
+        items.weights_valid,
       );
+      labelled = (naming_of (element_naming labels.0.0) many.0.0 (length pairs) items.count named.elements, named.vertices);
+      same = named.same;
       spelled = λ left.
-          let more : List Line = map coloured_edge_line (zip pairs (zip colour_of weights)) ++ end_line ∷ [] in
-          (more, read.spelled left, ap (λ (t : Line). version_line ∷ (codes "coloured" ∷ t) ∷ more) line);
+          let body : List Line = map (coloured_edge_line naming) (zip pairs (zip colour_of weights)) ++ end_line ∷ [] in
+          let more : List Line = label_lines labels.0.0 ++ body in
+          let header = ap (λ (t : Line). version_line labels.0.0 ∷ (codes "coloured" ∷ t) ∷ more) line in
+          (more, named.spelled body (items.spelled left), header);
     })
 
-pub any_form_found : (line : ℕ) (form : Form) (words : WordsLeft) (lines : LinesLeft) (instance : Instance) (q : LinesLeft)
-    → form_at line (Some form) words lines ≡ Ok (instance, q) → IsFormRead form words lines instance q
-any_form_found line forms.Pair words lines instance q e = pair_found words lines instance q e
-any_form_found line forms.List words lines instance q e = list_found words lines instance q e
-any_form_found line forms.Graph words lines instance q e = graph_found words lines instance q e
-any_form_found line forms.Rooted words lines instance q e = rooted_found words lines instance q e
-any_form_found line forms.Coloured words lines instance q e = coloured_found words lines instance q e
-any_form_found line forms.Table words lines instance q e = table_found words lines instance q e
+pub any_form_found : (version : Version) (line : ℕ) (form : Form) (words : WordsLeft) (lines : LinesLeft) (read : Labelled) (q : LinesLeft)
+    → form_at version line (Some form) words lines ≡ Ok (read, q) → IsFormRead version form words lines read q
+any_form_found version line forms.Pair words lines read q e = pair_found version words lines read q e
+any_form_found version line forms.List words lines read q e = list_found version words lines read q e
+any_form_found version line forms.Graph words lines read q e = graph_found version words lines read q e
+any_form_found version line forms.Rooted words lines read q e = rooted_found version words lines read q e
+any_form_found version line forms.Coloured words lines read q e = coloured_found version words lines read q e
+any_form_found version line forms.Table words lines read q e = table_found version words lines read q e
 
 -- ---- what is spelled is read
 
 -- lines that spell a problem: the form line, whose words behind the form's word and the lines behind it are read as the problem
-pub record IsFormSpelled (instance : Instance) (lines : List Line) : Type 0 where
+pub record IsFormSpelled (labels : Labels) (instance : Instance) (lines : List Line) : Type 0 where
   pub form : Form
   pub words : Line
   pub more : List Line
-  pub cut : lines ≡ version_line ∷ (form_spelling form ∷ words) ∷ more
+  pub cut : lines ≡ version_line labels ∷ (form_spelling form ∷ words) ∷ more
   pub are_words : list_all is_word words ≡ true
-  pub again : (n : ℕ) (p : LinesLeft) → AreLeft more p → (q : LinesLeft) × (form_at n (Some form) (record { line = n; words = words }) p
-      ≡ Ok (instance, q)) × AreLeft (end_line ∷ []) q
+  pub again : (n : ℕ) (p : LinesLeft) → AreLeft more p
+      → (q : LinesLeft) × (form_at (version_for labels) n (Some form) (record { line = n; words = words }) p
+      ≡ Ok (labelled_as instance labels, q)) × AreLeft (end_line ∷ []) q
 
-pub any_form_spelled : (instance : Instance) (lines : List Line) → IsValid instance → InstanceLines instance lines
-    → IsFormSpelled instance lines
+pub any_form_spelled : (labels : Labels) (instance : Instance) (lines : List Line) → IsValid instance → AreLabels instance labels
+    → InstanceLines labels instance lines → IsFormSpelled labels instance lines
 unfolding pair_at list_at graph_at rooted_at coloured_at table_at
-any_form_spelled (pair weights first second) lines valid spelled = record {
+any_form_spelled labels (pair weights first second) lines valid labelled spelled = record {
   form = forms.Pair;
   words = numeral (pos (length weights)) ∷ [];
-  more = (codes "weights" ∷ map weight_word weights) ∷ spelled.0;
+  more = label_lines labels ++ (codes "weights" ∷ map weight_word weights) ∷ spelled.0;
   cut = spelled.2;
   are_words = numerals_words (length weights ∷ []);
   again = λ n p left.
+      let naming = element_naming labels in
       let number = size_again 0 most_elements n (length weights) [] (omega arith) (omega (arith, valid.0.0)) in
-      let all = weights_line_again p weights spelled.0 valid.0 left in
-      let one = matroid_again (length weights) all.0 first spelled.0 spelled.1 valid.1 spelled.3 all.2 in
-      let two = matroid_again (length weights) one.0 second spelled.1 (end_line ∷ []) valid.2 spelled.4 one.2 in
-      (two.0, rw (number, ended_again n, all.1, one.1, two.1) refl, two.2);
+      let named = labels_again labels (length weights) 0 labelled.0 labelled.1 p ((codes "weights" ∷ map weight_word weights) ∷ spelled.0) left in
+      let all = weights_line_again named.0 weights spelled.0 valid.0 named.2 in
+      let one = matroid_again naming (length weights) labelled.0 all.0 first spelled.0 spelled.1 valid.1 spelled.3 all.2 in
+      let two = matroid_again naming (length weights) labelled.0 one.0 second spelled.1 (end_line ∷ []) valid.2 spelled.4 one.2 in
+      (two.0, rw (number, ended_again n, named.1, all.1, one.1, two.1) refl, two.2);
 }
-any_form_spelled (list weights matroids) lines valid spelled = record {
+any_form_spelled labels (list weights matroids) lines valid labelled spelled = record {
   form = forms.List;
   words = numeral (pos (length weights)) ∷ numeral (pos (length matroids)) ∷ [];
-  more = (codes "weights" ∷ map weight_word weights) ∷ spelled.0;
+  more = label_lines labels ++ (codes "weights" ∷ map weight_word weights) ∷ spelled.0;
   cut = spelled.1;
   are_words = numerals_words (length weights ∷ length matroids ∷ []);
   again = λ n p left.
       let number = size_again 0 most_elements n (length weights) (numeral (pos (length matroids)) ∷ []) (omega arith) (omega (arith, valid.0.0)) in
       let many = size_again 1 most_matroids n (length matroids) [] valid.1 (omega (arith, valid.2)) in
-      let all = weights_line_again p weights spelled.0 valid.0 left in
-      let read = matroids_again (length weights) all.0 matroids spelled.0 (end_line ∷ []) valid.3 spelled.2 all.2 in
-      (read.0, rw (number, many, ended_again n, all.1, read.1) refl, read.2);
+      let named = labels_again labels (length weights) 0 labelled.0 labelled.1 p ((codes "weights" ∷ map weight_word weights) ∷ spelled.0) left in
+      let all = weights_line_again named.0 weights spelled.0 valid.0 named.2 in
+      let read = matroids_again (element_naming labels) (length weights) labelled.0 all.0 matroids spelled.0 (end_line ∷ []) valid.3 spelled.2
+      all.2 in
+      (read.0, rw (number, many, ended_again n, named.1, all.1, read.1) refl, read.2);
 }
-any_form_spelled (graph vertices edges) lines valid spelled = record {
+any_form_spelled labels (graph vertices edges) lines valid labelled spelled = record {
   form = forms.Graph;
   words = numeral (pos vertices) ∷ numeral (pos (length edges)) ∷ [];
-  more = map (ends_line (codes "edge")) edges ++ end_line ∷ [];
+  more = label_lines labels ++ (map (ends_line (vertex_naming labels) (codes "edge")) edges ++ end_line ∷ []);
   cut = spelled;
   are_words = numerals_words (vertices ∷ length edges ∷ []);
   again = λ n p left.
+      let naming = vertex_naming labels in
       let number = size_again 1 most_vertices n vertices (numeral (pos (length edges)) ∷ []) valid.0 (omega (arith, valid.1)) in
       let many = size_again 0 most_elements n (length edges) [] (omega arith) (omega (arith, valid.2.0)) in
-      let read = items_again (ends_line_at (codes "edge") vertices) (ends_line (codes "edge")) (IsPairBelow vertices vertices)
-      (ends_line_again (codes "edge") vertices refl) p edges (end_line ∷ []) valid.2.1 left in
-      (read.0, rw (number, many, ended_again n, read.1) refl, read.2);
+      let named = labels_again labels (length edges) vertices labelled.0 labelled.1 p
+      (map (ends_line naming (codes "edge")) edges ++ end_line ∷ []) left in
+      let read = items_again (ends_line_at naming (codes "edge") vertices) (ends_line naming (codes "edge")) (IsPairBelow vertices vertices)
+      (ends_line_again naming (codes "edge") vertices labelled.1 refl) named.0 edges (end_line ∷ []) valid.2.1 named.2 in
+      (read.0, rw (number, many, ended_again n, named.1, read.1) refl, read.2);
 }
-any_form_spelled (rooted vertices root arcs costs) lines valid spelled = record {
+any_form_spelled labels (rooted vertices root arcs costs) lines valid labelled spelled = record {
   form = forms.Rooted;
-  words = numeral (pos vertices) ∷ numeral (pos (length arcs)) ∷ numeral (pos root) ∷ [];
-  more = map (weighted_line (codes "arc")) (zip arcs costs) ++ end_line ∷ [];
+  words = numeral (pos vertices) ∷ numeral (pos (length arcs)) ∷ root_words labels root;
+  more = label_lines labels
+      ++ (root_lines labels root ++ (map (weighted_line (vertex_naming labels) (codes "arc")) (zip arcs costs) ++ end_line ∷ []));
   cut = spelled;
-  are_words = numerals_words (vertices ∷ length arcs ∷ root ∷ []);
+  are_words =
+      and_from (is_word (numeral (pos vertices))) (list_all is_word (numeral (pos (length arcs)) ∷ root_words labels root))
+      (numeral_word (pos vertices)) (and_from (is_word (numeral (pos (length arcs)))) (list_all is_word (root_words labels root))
+      (numeral_word (pos (length arcs))) (root_words-words labels root));
   again = λ n p left.
-      let number = size_again 1 most_vertices n vertices (numeral (pos (length arcs)) ∷ numeral (pos root) ∷ []) valid.0
+      let naming = vertex_naming labels in
+      let arc_lines : List Line = map (weighted_line naming (codes "arc")) (zip arcs costs) ++ end_line ∷ [] in
+      let number = size_again 1 most_vertices n vertices (numeral (pos (length arcs)) ∷ root_words labels root) valid.0
       (omega (arith, valid.1)) in
-      let many = size_again 0 most_elements n (length arcs) (numeral (pos root) ∷ []) (omega arith) (omega (arith, valid.3.0)) in
-      let from = below_again vertices n root [] valid.2 in
-      let read = columns_again vertices vertices (codes "arc") refl p arcs costs valid.3.1 valid.5 valid.4 left in
-      (read.0, rw (number, many, from, ended_again n, read.1, firsts-zip arcs costs valid.4, seconds-zip arcs costs valid.4) refl, read.2);
+      let many = size_again 0 most_elements n (length arcs) (root_words labels root) (omega arith) (omega (arith, valid.3.0)) in
+      let known = header_root_again labels vertices n root valid.2 in
+      let named = labels_again labels (length arcs) vertices labelled.0 labelled.1 p (root_lines labels root ++ arc_lines) left in
+      let from = root_again labels vertices labelled.1 named.0 root arc_lines valid.2 named.2 in
+      let read = columns_again naming vertices vertices labelled.1 labelled.1 (codes "arc") refl from.0 arcs costs valid.3.1 valid.5 valid.4
+      from.2 in (
+        read.0,
+        rw (
+          number,
+          many,
+          known,
+          ended_again n,
+          named.1,
+          from.1,
+          read.1,
+          firsts-zip arcs costs valid.4,
+          seconds-zip arcs costs valid.4,
+        ) refl,
+        read.2,
+      );
 }
-any_form_spelled (coloured vertices colours edges colour_of weights) lines valid spelled = record {
+any_form_spelled labels (coloured vertices colours edges colour_of weights) lines valid labelled spelled = record {
   form = forms.Coloured;
   words = numeral (pos vertices) ∷ numeral (pos (length edges)) ∷ numeral (pos colours) ∷ [];
-  more = map coloured_edge_line (zip edges (zip colour_of weights)) ++ end_line ∷ [];
+  more = label_lines labels ++ (map (coloured_edge_line (vertex_naming labels)) (zip edges (zip colour_of weights)) ++ end_line ∷ []);
   cut = spelled;
   are_words = numerals_words (vertices ∷ length edges ∷ colours ∷ []);
   again = λ n p left.
+      let naming = vertex_naming labels in
       let number = size_again 1 most_vertices n vertices (numeral (pos (length edges)) ∷ numeral (pos colours) ∷ []) valid.0
       (omega (arith, valid.1)) in
       let many = size_again 0 most_elements n (length edges) (numeral (pos colours) ∷ []) (omega arith) (omega (arith, valid.3.0)) in
       let hues = size_again 0 most_sets n colours [] (omega arith) (omega (arith, valid.2)) in
-      let read = coloured_columns_again vertices colours p edges colour_of weights valid.3.1 valid.5 valid.7 valid.4 valid.6 left in (
+      let named = labels_again labels (length edges) vertices labelled.0 labelled.1 p
+      (map (coloured_edge_line naming) (zip edges (zip colour_of weights)) ++ end_line ∷ []) left in
+      let read = coloured_columns_again naming vertices colours labelled.1 named.0 edges colour_of weights valid.3.1 valid.5 valid.7
+      valid.4 valid.6 named.2 in (
         read.0,
         rw (
           number,
           many,
           hues,
           ended_again n,
+          named.1,
           read.1,
           edges-zip edges colour_of weights valid.4 valid.6,
-          colours-zip edges colour_of
-              weights valid.4 valid.6,
+          colours-zip edges colour_of weights valid.4 valid.6,
           weights-zip edges colour_of weights valid.4 valid.6,
         ) refl,
         read.2,
       );
 }
-any_form_spelled (table rows columns cells weights) lines valid spelled = record {
+any_form_spelled labels (table rows columns cells weights) lines valid labelled spelled = record {
   form = forms.Table;
   words = numeral (pos rows) ∷ numeral (pos columns) ∷ numeral (pos (length cells)) ∷ [];
-  more = map (weighted_line (codes "cell")) (zip cells weights) ++ end_line ∷ [];
+  more = label_lines labels ++ (map (weighted_line None (codes "cell")) (zip cells weights) ++ end_line ∷ []);
   cut = spelled;
   are_words = numerals_words (rows ∷ columns ∷ length cells ∷ []);
   again = λ n p left.
@@ -519,6 +715,20 @@ any_form_spelled (table rows columns cells weights) lines valid spelled = record
       (omega (arith, valid.0)) in
       let across = size_again 0 most_sets n columns (numeral (pos (length cells)) ∷ []) (omega arith) (omega (arith, valid.1)) in
       let many = size_again 0 most_elements n (length cells) [] (omega arith) (omega (arith, valid.2.0)) in
-      let read = columns_again rows columns (codes "cell") refl p cells weights valid.2.1 valid.4 valid.3 left in
-      (read.0, rw (down, across, many, ended_again n, read.1, firsts-zip cells weights valid.3, seconds-zip cells weights valid.3) refl, read.2);
+      let named = labels_again labels (length cells) 0 labelled.0 labelled.1 p
+      (map (weighted_line None (codes "cell")) (zip cells weights) ++ end_line ∷ []) left in
+      let read = columns_again None rows columns tt tt (codes "cell") refl named.0 cells weights valid.2.1 valid.4 valid.3 named.2 in (
+        read.0,
+        rw (
+          down,
+          across,
+          many,
+          ended_again n,
+          named.1,
+          read.1,
+          firsts-zip cells weights valid.3,
+          seconds-zip cells weights valid.3,
+        ) refl,
+        read.2,
+      );
 }

@@ -1,10 +1,12 @@
 pub mod Told
+pub mod LabelLaws
 pub mod ElementLists
 pub mod Classes
 pub mod NestedSets
 pub mod DistinctNumbers
 pub mod ElementLaws
 pub mod BinaryLaws
+pub mod NumberedNames
 pub mod CappedLineLaws
 pub mod ClassLaws
 pub mod NestedSetLaws
@@ -17,8 +19,11 @@ pub mod MatroidLaws
 pub mod MatroidRows
 pub mod FormLaws
 pub mod InstanceLaws
+pub mod NamedCounts
 pub mod ProblemLaws
 pub mod Columns
+pub mod NextNumberedName
+pub mod NamedParts
 pub mod Writing
 pub mod UnionLines
 pub mod Rooms

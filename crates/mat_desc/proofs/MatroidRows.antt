@@ -4,6 +4,7 @@ use Rattle.std.specs.List.{All}
 use Rattle.std.proofs.lemmas.List.Elements.{All-nil, All-cons, All-head, All-tail}
 use Rattle.mat_words.specs.Lines.{Line}
 use Rattle.mat_any.specs.Trees.{Tree}
+use Rattle.mat_desc.specs.Labels.{Naming, IsNaming}
 use Rattle.mat_words.specs.Cursors.{LinesLeft}
 use Rattle.mat_words.specs.Steps.{repeat_at}
 use Rattle.mat_desc.specs.Reading.{matroid_at}
@@ -13,25 +14,26 @@ use Rattle.mat_words.proofs.LineReading.{AreLeft}
 use Rattle.mat_desc.proofs.MatroidLaws.{matroid_found, matroid_again}
 
 -- as many matroids were read
-pub record AreMatroidsRead (n many : ℕ) (p : LinesLeft) (trees : List Tree) (q : LinesLeft) : Type 0 where
+pub record AreMatroidsRead (naming : Naming) (n many : ℕ) (p : LinesLeft) (trees : List Tree) (q : LinesLeft) : Type 0 where
   pub count : length trees ≡ many
   pub each : All (IsValidMatroid n) trees
-  pub spelled : (rest : List Line) → AreLeft rest q → (lines : List Line) × AreLeft lines p × MatroidsLines trees lines rest
+  pub spelled : (rest : List Line) → AreLeft rest q → (lines : List Line) × AreLeft lines p × MatroidsLines naming trees lines rest
 
-pub matroids_found : (n many : ℕ) (p : LinesLeft) (trees : List Tree) (q : LinesLeft) → repeat_at (matroid_at n) many p ≡ Ok (trees, q)
-    → AreMatroidsRead n many p trees q
+pub matroids_found : (naming : Naming) (n : ℕ) → IsNaming n naming → (many : ℕ) (p : LinesLeft) (trees : List Tree) (q : LinesLeft)
+    → repeat_at (matroid_at naming n) many p ≡ Ok (trees, q)
+    → AreMatroidsRead naming n many p trees q
 unfolding repeat_at
-matroids_found n zero p trees q e =
+matroids_found naming n named zero p trees q e =
     let same = found-same ([], p) (trees, q) e in
-    subst (λ (r : List Tree × LinesLeft). AreMatroidsRead n 0 p r.0 r.1) same
+    subst (λ (r : List Tree × LinesLeft). AreMatroidsRead naming n 0 p r.0 r.1) same
     (record { count = refl; each = All-nil (IsValidMatroid n); spelled = λ rest left. (rest, left, refl) })
-matroids_found n (suc many) p trees q e =
-    let first = bind_found (matroid_at n p) _ (trees, q) e in
-    let others = bind_found (repeat_at (matroid_at n) many first.0.1) _ (trees, q) first.2 in
+matroids_found naming n named (suc many) p trees q e =
+    let first = bind_found (matroid_at naming n p) _ (trees, q) e in
+    let others = bind_found (repeat_at (matroid_at naming n) many first.0.1) _ (trees, q) first.2 in
     let same = found-same (first.0.0 ∷ others.0.0, others.0.1) (trees, q) others.2 in
-    let here = matroid_found n p first.0.0 first.0.1 first.1 in
-    let more = matroids_found n many first.0.1 others.0.0 others.0.1 others.1 in
-    subst (λ (r : List Tree × LinesLeft). AreMatroidsRead n (suc many) p r.0 r.1) same (record {
+    let here = matroid_found naming n named p first.0.0 first.0.1 first.1 in
+    let more = matroids_found naming n named many first.0.1 others.0.0 others.0.1 others.1 in
+    subst (λ (r : List Tree × LinesLeft). AreMatroidsRead naming n (suc many) p r.0 r.1) same (record {
       count = ap suc more.count;
       each = All-cons (IsValidMatroid n) first.0.0 others.0.0 here.valid more.each;
       spelled = λ rest left.
@@ -40,12 +42,13 @@ matroids_found n (suc many) p trees q e =
           (lines.0, lines.1, (behind.0, lines.2, behind.2));
     })
 
-pub matroids_again : (n : ℕ) (p : LinesLeft) (trees : List Tree) (lines rest : List Line) → All (IsValidMatroid n) trees
-    → MatroidsLines trees lines rest → AreLeft lines p
-    → (q : LinesLeft) × (repeat_at (matroid_at n) (length trees) p ≡ Ok (trees, q)) × AreLeft rest q
+pub matroids_again : (naming : Naming) (n : ℕ) → IsNaming n naming → (p : LinesLeft) (trees : List Tree) (lines rest : List Line)
+    → All (IsValidMatroid n) trees
+    → MatroidsLines naming trees lines rest → AreLeft lines p
+    → (q : LinesLeft) × (repeat_at (matroid_at naming n) (length trees) p ≡ Ok (trees, q)) × AreLeft rest q
 unfolding repeat_at
-matroids_again n p [] lines rest valid spelled left = (p, refl, subst (λ (ls : List Line). AreLeft ls p) spelled left)
-matroids_again n p (tree ∷ trees) lines rest valid spelled left =
-    let first = matroid_again n p tree lines spelled.0 (All-head (IsValidMatroid n) tree trees valid) spelled.1 left in
-    let others = matroids_again n first.0 trees spelled.0 rest (All-tail (IsValidMatroid n) tree trees valid) spelled.2 first.2 in
+matroids_again naming n named p [] lines rest valid spelled left = (p, refl, subst (λ (ls : List Line). AreLeft ls p) spelled left)
+matroids_again naming n named p (tree ∷ trees) lines rest valid spelled left =
+    let first = matroid_again naming n named p tree lines spelled.0 (All-head (IsValidMatroid n) tree trees valid) spelled.1 left in
+    let others = matroids_again naming n named first.0 trees spelled.0 rest (All-tail (IsValidMatroid n) tree trees valid) spelled.2 first.2 in
     (others.0, rw (first.1, others.1) refl, others.2)

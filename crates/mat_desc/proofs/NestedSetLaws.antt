@@ -15,6 +15,7 @@ use Rattle.mat_desc.specs.Limits.{most_sets}
 use Rattle.mat_sets.specs.Limits.{most_elements}
 use Rattle.mat_desc.specs.declared.refusal.DescKind.TheVariants.{Crossing}
 use Rattle.mat_words.specs.Cursors.{WordsLeft, LinesLeft}
+use Rattle.mat_desc.specs.Labels.{Naming, IsNaming}
 use Rattle.mat_desc.specs.Reading.{keyed_at, size_at, elements_at, nested_set_at, nested_sets_at}
 use Rattle.mat_desc.specs.Grammar.{Lists, CappedLines, AreNestedSets}
 use Rattle.mat_words.proofs.ReadingSteps.{found-same, bind_found, refused_found}
@@ -23,35 +24,37 @@ use Rattle.mat_desc.proofs.CappedLineLaws.{listed_line, capped_at, capped_steps,
 use Rattle.mat_desc.proofs.ElementLaws.{with_each}
 
 -- a set line was read: none of the earlier sets crosses it
-record IsNestedRead (n : ℕ) (earlier : List (List ℕ)) (p : LinesLeft) (cap : ℕ) (set : List ℕ) (q : LinesLeft) : Type 0 where
+record IsNestedRead (naming : Naming) (n : ℕ) (earlier : List (List ℕ)) (p : LinesLeft) (cap : ℕ) (set : List ℕ)
+    (q : LinesLeft) : Type 0 where
   xs : List ℕ
   lists : Lists xs set
   small : cap ≤ most_elements
   in_range : IsSet n set
   free : is_crossed earlier set ≡ false
-  spelled : (rest : List Line) → AreLeft rest q → AreLeft (listed_line (codes "set") cap xs ∷ rest) p
+  spelled : (rest : List Line) → AreLeft rest q → AreLeft (listed_line naming (codes "set") cap xs ∷ rest) p
 
 -- the steps of a set line, and the test behind them
-nested_steps : (n : ℕ) (earlier : List (List ℕ)) (p : LinesLeft) (line : WordsLeft × LinesLeft) (cap : ℕ × WordsLeft)
+nested_steps : (naming : Naming) (n : ℕ) (earlier : List (List ℕ)) (p : LinesLeft) (line : WordsLeft × LinesLeft) (cap : ℕ × WordsLeft)
     (elements : List ℕ × List ℕ)
-    → keyed_at (codes "set") p ≡ Ok line → size_at 0 most_elements line.0 ≡ Ok cap → elements_at n [] cap.1 ≡ Ok elements
+    → keyed_at (codes "set") p ≡ Ok line → size_at 0 most_elements line.0 ≡ Ok cap → elements_at naming n [] cap.1 ≡ Ok elements
     → is_crossed earlier elements.0 ≡ false
-    → nested_set_at n earlier p ≡ Ok (cap.0, elements.0, line.1)
+    → nested_set_at naming n earlier p ≡ Ok (cap.0, elements.0, line.1)
 unfolding nested_set_at
-nested_steps n earlier p line cap elements e f g free = rw (e, f, g, free) refl
+nested_steps naming n earlier p line cap elements e f g free = rw (e, f, g, free) refl
 
-nested_read : (n : ℕ) (earlier : List (List ℕ)) (p : LinesLeft) (cap : ℕ) (set : List ℕ) (q : LinesLeft)
-    → nested_set_at n earlier p ≡ Ok (cap, set, q) → IsNestedRead n earlier p cap set q
+nested_read : (naming : Naming) (n : ℕ) → IsNaming n naming → (earlier : List (List ℕ)) (p : LinesLeft) (cap : ℕ) (set : List ℕ)
+    (q : LinesLeft)
+    → nested_set_at naming n earlier p ≡ Ok (cap, set, q) → IsNestedRead naming n earlier p cap set q
 unfolding nested_set_at
-nested_read n earlier p cap set q e =
+nested_read naming n named earlier p cap set q e =
     let line = bind_found (keyed_at (codes "set") p) _ (cap, set, q) e in
     let caps = bind_found (size_at 0 most_elements line.0.0) _ (cap, set, q) line.2 in
-    let elements = bind_found (elements_at n [] caps.0.1) _ (cap, set, q) caps.2 in
+    let elements = bind_found (elements_at naming n [] caps.0.1) _ (cap, set, q) caps.2 in
     let test = refused_found (is_crossed earlier elements.0.0) (Crossing, p.line) _ (cap, set, q) elements.2 in
     let same = found-same (caps.0.0, elements.0.0, line.0.1) (cap, set, q) test.1 in
-    let steps = capped_steps (codes "set") n [] p line.0 caps.0 elements.0 line.1 caps.1 elements.1 in
-    let read = capped_read (codes "set") n [] p caps.0.0 elements.0.0 elements.0.1 line.0.1 steps in
-    let one : IsNestedRead n earlier p caps.0.0 elements.0.0 line.0.1 = record {
+    let steps = capped_steps naming (codes "set") n [] p line.0 caps.0 elements.0 line.1 caps.1 elements.1 in
+    let read = capped_read naming (codes "set") n named [] p caps.0.0 elements.0.0 elements.0.1 line.0.1 steps in
+    let one : IsNestedRead naming n earlier p caps.0.0 elements.0.0 line.0.1 = record {
       xs = read.xs;
       lists = read.lists;
       small = read.small;
@@ -59,45 +62,47 @@ nested_read n earlier p cap set q e =
       free = test.0;
       spelled = read.spelled;
     } in
-    subst (λ (r : ℕ × List ℕ × LinesLeft). IsNestedRead n earlier p r.0 r.1 r.2) same one
+    subst (λ (r : ℕ × List ℕ × LinesLeft). IsNestedRead naming n earlier p r.0 r.1 r.2) same one
 
-nested_again : (n : ℕ) (earlier : List (List ℕ)) (p : LinesLeft) (cap : ℕ) (set xs : List ℕ) (rest : List Line)
+nested_again : (naming : Naming) (n : ℕ) → IsNaming n naming → (earlier : List (List ℕ)) (p : LinesLeft) (cap : ℕ) (set xs : List ℕ)
+    (rest : List Line)
     → cap ≤ most_elements → IsSet n set → Lists xs set → is_crossed earlier set ≡ false
-    → AreLeft (listed_line (codes "set") cap xs ∷ rest) p
-    → (q : LinesLeft) × (nested_set_at n earlier p ≡ Ok (cap, set, q)) × AreLeft rest q
-nested_again n earlier p cap set xs rest small in_range lists free left =
-    let whole = capped_again (codes "set") n [] p cap set xs rest refl small in_range lists (λ x h. refl) left in
+    → AreLeft (listed_line naming (codes "set") cap xs ∷ rest) p
+    → (q : LinesLeft) × (nested_set_at naming n earlier p ≡ Ok (cap, set, q)) × AreLeft rest q
+nested_again naming n named earlier p cap set xs rest small in_range lists free left =
+    let whole = capped_again naming (codes "set") n named [] p cap set xs rest refl small in_range lists (λ x h. refl) left in
     (whole.0, judged (with_each [] xs) whole.0 whole.1, whole.2)
   where
-    judged : (taken : List ℕ) (q : LinesLeft) → capped_at (codes "set") n [] p ≡ Ok (cap, set, taken, q)
-        → nested_set_at n earlier p ≡ Ok (cap, set, q)
+    judged : (taken : List ℕ) (q : LinesLeft) → capped_at naming (codes "set") n [] p ≡ Ok (cap, set, taken, q)
+        → nested_set_at naming n earlier p ≡ Ok (cap, set, q)
     judged taken q e =
         let line = bind_found (keyed_at (codes "set") p) _ (cap, set, taken, q) e in
         let caps = bind_found (size_at 0 most_elements line.0.0) _ (cap, set, taken, q) line.2 in
-        let elements = bind_found (elements_at n [] caps.0.1) _ (cap, set, taken, q) caps.2 in
+        let elements = bind_found (elements_at naming n [] caps.0.1) _ (cap, set, taken, q) caps.2 in
         let same = found-same (caps.0.0, elements.0.0, elements.0.1, line.0.1) (cap, set, taken, q) elements.2 in
         let here = ap (λ (r : ℕ × List ℕ × List ℕ × LinesLeft). is_crossed earlier r.1) same ∙ free in
-        nested_steps n earlier p line.0 caps.0 elements.0 line.1 caps.1 elements.1 here ∙ ap
+        nested_steps naming n earlier p line.0 caps.0 elements.0 line.1 caps.1 elements.1 here ∙ ap
         (λ (r : ℕ × List ℕ × List ℕ × LinesLeft). Ok (r.0, r.1, r.3)) same
 
 -- ---- all sets
 
 -- set lines were read, and with the earlier sets, if those are a laminar family, they are one
-pub record AreNestedSetsRead (n many : ℕ) (earlier : List (List ℕ)) (p : LinesLeft) (sets : List (List ℕ)) (caps : List ℕ)
-    (q : LinesLeft) : Type 0 where
+pub record AreNestedSetsRead (naming : Naming) (n many : ℕ) (earlier : List (List ℕ)) (p : LinesLeft) (sets : List (List ℕ))
+    (caps : List ℕ) (q : LinesLeft) : Type 0 where
   pub count : length sets ≡ many
   pub as_many : length caps ≡ length sets
   pub small : All (λ cap. cap ≤ most_elements) caps
   pub in_range : All (IsSet n) sets
   pub family : IsLaminarFamily earlier → IsLaminarFamily (earlier ++ sets)
-  pub spelled : (rest : List Line) → AreLeft rest q → (lines : List Line) × CappedLines (codes "set") sets caps lines rest × AreLeft lines p
+  pub spelled : (rest : List Line) → AreLeft rest q → (lines : List Line) × CappedLines naming (codes "set") sets caps lines rest × AreLeft lines p
 
-pub nested_sets_read : (n many : ℕ) (earlier : List (List ℕ)) (p : LinesLeft) (sets : List (List ℕ)) (caps : List ℕ) (q : LinesLeft)
-    → nested_sets_at n many earlier p ≡ Ok (sets, caps, q) → AreNestedSetsRead n many earlier p sets caps q
+pub nested_sets_read : (naming : Naming) (n : ℕ) → IsNaming n naming → (many : ℕ) (earlier : List (List ℕ)) (p : LinesLeft)
+    (sets : List (List ℕ)) (caps : List ℕ) (q : LinesLeft)
+    → nested_sets_at naming n many earlier p ≡ Ok (sets, caps, q) → AreNestedSetsRead naming n many earlier p sets caps q
 unfolding nested_sets_at
-nested_sets_read n zero earlier p sets caps q e =
+nested_sets_read naming n named zero earlier p sets caps q e =
     let same = found-same ([], [], p) (sets, caps, q) e in
-    let none : AreNestedSetsRead n 0 earlier p [] [] p = record {
+    let none : AreNestedSetsRead naming n 0 earlier p [] [] p = record {
       count = refl;
       as_many = refl;
       small = All-nil (λ cap. cap ≤ most_elements);
@@ -105,14 +110,14 @@ nested_sets_read n zero earlier p sets caps q e =
       family = subst IsLaminarFamily (sym (append-nil earlier));
       spelled = λ rest left. (rest, refl, left);
     } in
-    subst (λ (r : List (List ℕ) × List ℕ × LinesLeft). AreNestedSetsRead n 0 earlier p r.0 r.1 r.2) same none
-nested_sets_read n (suc many) earlier p sets caps q e =
-    let first = bind_found (nested_set_at n earlier p) _ (sets, caps, q) e in
-    let others = bind_found (nested_sets_at n many (earlier ++ first.0.1 ∷ []) first.0.2) _ (sets, caps, q) first.2 in
+    subst (λ (r : List (List ℕ) × List ℕ × LinesLeft). AreNestedSetsRead naming n 0 earlier p r.0 r.1 r.2) same none
+nested_sets_read naming n named (suc many) earlier p sets caps q e =
+    let first = bind_found (nested_set_at naming n earlier p) _ (sets, caps, q) e in
+    let others = bind_found (nested_sets_at naming n many (earlier ++ first.0.1 ∷ []) first.0.2) _ (sets, caps, q) first.2 in
     let same = found-same (first.0.1 ∷ others.0.0, first.0.0 ∷ others.0.1, others.0.2) (sets, caps, q) others.2 in
-    let one = nested_read n earlier p first.0.0 first.0.1 first.0.2 first.1 in
-    let more = nested_sets_read n many (earlier ++ first.0.1 ∷ []) first.0.2 others.0.0 others.0.1 others.0.2 others.1 in
-    let all : AreNestedSetsRead n (suc many) earlier p (first.0.1 ∷ others.0.0) (first.0.0 ∷ others.0.1) others.0.2 = record {
+    let one = nested_read naming n named earlier p first.0.0 first.0.1 first.0.2 first.1 in
+    let more = nested_sets_read naming n named many (earlier ++ first.0.1 ∷ []) first.0.2 others.0.0 others.0.1 others.0.2 others.1 in
+    let all : AreNestedSetsRead naming n (suc many) earlier p (first.0.1 ∷ others.0.0) (first.0.0 ∷ others.0.1) others.0.2 = record {
       count = ap suc more.count;
       as_many = ap suc more.as_many;
       small = All-cons (λ cap. cap ≤ most_elements) first.0.0 others.0.1 one.small more.small;
@@ -121,37 +126,42 @@ nested_sets_read n (suc many) earlier p sets caps q e =
           (more.family (IsLaminarFamily-more earlier first.0.1 before one.free));
       spelled = λ rest left.
           let behind = more.spelled rest left in
-          (listed_line (codes "set") first.0.0 one.xs ∷ behind.0, (one.xs, behind.0, one.lists, refl, behind.1), one.spelled behind.0 behind.2);
+          let here = listed_line naming (codes "set") first.0.0 one.xs in
+          (here ∷ behind.0, (one.xs, behind.0, one.lists, refl, behind.1), one.spelled behind.0 behind.2);
     } in
-    subst (λ (r : List (List ℕ) × List ℕ × LinesLeft). AreNestedSetsRead n (suc many) earlier p r.0 r.1 r.2) same all
+    subst (λ (r : List (List ℕ) × List ℕ × LinesLeft). AreNestedSetsRead naming n (suc many) earlier p r.0 r.1 r.2) same all
 
-pub nested_sets_again : (n : ℕ) (earlier : List (List ℕ)) (p : LinesLeft) (sets : List (List ℕ)) (caps : List ℕ) (lines rest : List Line)
+pub nested_sets_again : (naming : Naming) (n : ℕ) → IsNaming n naming → (earlier : List (List ℕ)) (p : LinesLeft)
+    (sets : List (List ℕ)) (caps : List ℕ) (lines rest : List Line)
     → All (λ cap. cap ≤ most_elements) caps → All (IsSet n) sets → IsLaminarFamily (earlier ++ sets)
-    → CappedLines (codes "set") sets caps lines rest → AreLeft lines p
-    → (q : LinesLeft) × (nested_sets_at n (length sets) earlier p ≡ Ok (sets, caps, q)) × AreLeft rest q
+    → CappedLines naming (codes "set") sets caps lines rest → AreLeft lines p
+    → (q : LinesLeft) × (nested_sets_at naming n (length sets) earlier p ≡ Ok (sets, caps, q)) × AreLeft rest q
 unfolding nested_sets_at
-nested_sets_again n earlier p [] [] lines rest small in_range family spelled left = (p, refl, subst (λ (ls : List Line). AreLeft ls p) spelled left)
-nested_sets_again n earlier p [] (cap ∷ caps) lines rest small in_range family spelled left = absurd spelled
-nested_sets_again n earlier p (set ∷ sets) [] lines rest small in_range family spelled left = absurd spelled
-nested_sets_again n earlier p (set ∷ sets) (cap ∷ caps) lines rest small in_range family spelled left =
+nested_sets_again naming n named earlier p [] [] lines rest small in_range family spelled left =
+    (p, refl, subst (λ (ls : List Line). AreLeft ls p) spelled left)
+nested_sets_again naming n named earlier p [] (cap ∷ caps) lines rest small in_range family spelled left = absurd spelled
+nested_sets_again naming n named earlier p (set ∷ sets) [] lines rest small in_range family spelled left = absurd spelled
+nested_sets_again naming n named earlier p (set ∷ sets) (cap ∷ caps) lines rest small in_range family spelled left =
     let here = subst (λ (ls : List Line). AreLeft ls p) spelled.3 left in
     let free = IsLaminarFamily-free earlier set sets family in
     let first_small = All-head (λ cap. cap ≤ most_elements) cap caps small in
     let first_set = All-head (IsSet n) set sets in_range in
-    let first = nested_again n earlier p cap set spelled.0 spelled.1 first_small first_set spelled.2 free here in
+    let first = nested_again naming n named earlier p cap set spelled.0 spelled.1 first_small first_set spelled.2 free here in
     let later = subst IsLaminarFamily (sym (append_assoc earlier (set ∷ []) sets)) family in
     let others_small = All-tail (λ cap. cap ≤ most_elements) cap caps small in
     let others_sets = All-tail (IsSet n) set sets in_range in
-    let others = nested_sets_again n (earlier ++ set ∷ []) first.0 sets caps spelled.1 rest others_small others_sets later spelled.4 first.2 in
+    let others = nested_sets_again naming n named (earlier ++ set ∷ []) first.0 sets caps spelled.1 rest others_small others_sets later
+    spelled.4 first.2 in
     (others.0, rw (first.1, others.1) refl, others.2)
 
 -- ---- the sets of a laminar matroid
 
 -- sets that are read meet the conditions of a laminar matroid
-pub nested_sets_sound : (n many : ℕ) (p : LinesLeft) (sets : List (List ℕ)) (caps : List ℕ) (q : LinesLeft)
-    → nested_sets_at n many [] p ≡ Ok (sets, caps, q) → IsLaminar n sets caps
-nested_sets_sound n many p sets caps q e =
-    let read = nested_sets_read n many [] p sets caps q e in
+pub nested_sets_sound : (naming : Naming) (n : ℕ) → IsNaming n naming → (many : ℕ) (p : LinesLeft) (sets : List (List ℕ))
+    (caps : List ℕ) (q : LinesLeft)
+    → nested_sets_at naming n many [] p ≡ Ok (sets, caps, q) → IsLaminar n sets caps
+nested_sets_sound naming n named many p sets caps q e =
+    let read = nested_sets_read naming n named many [] p sets caps q e in
     record {
       capped = read.as_many;
       inside = All-weaker (IsSet n) (AllBelow n) (λ set is. is.below) sets read.in_range;
@@ -160,15 +170,16 @@ nested_sets_sound n many p sets caps q e =
     }
 
 -- they are as many as were asked for
-pub nested_sets_few : (n many : ℕ) (p : LinesLeft) (sets : List (List ℕ)) (caps : List ℕ) (q : LinesLeft)
-    → nested_sets_at n many [] p ≡ Ok (sets, caps, q) → many ≤ most_sets → length sets < 2 ^ 32
-nested_sets_few n many p sets caps q e few = let count = (nested_sets_read n many [] p sets caps q e).count in omega arith
+pub nested_sets_few : (naming : Naming) (n : ℕ) → IsNaming n naming → (many : ℕ) (p : LinesLeft) (sets : List (List ℕ))
+    (caps : List ℕ) (q : LinesLeft)
+    → nested_sets_at naming n many [] p ≡ Ok (sets, caps, q) → many ≤ most_sets → length sets < 2 ^ 32
+nested_sets_few naming n named many p sets caps q e few = let count = (nested_sets_read naming n named many [] p sets caps q e).count in omega arith
 
 pub ruleset nested_building = (nested_sets_sound, nested_sets_few)
 
-pub nested_sets_valid : (n many : ℕ) (p : LinesLeft) (sets : List (List ℕ)) (caps : List ℕ) (q : LinesLeft)
-    → many ≤ most_sets → AreNestedSetsRead n many [] p sets caps q → AreNestedSets n sets caps
-nested_sets_valid n many p sets caps q few read = record {
+pub nested_sets_valid : (naming : Naming) (n many : ℕ) (p : LinesLeft) (sets : List (List ℕ)) (caps : List ℕ) (q : LinesLeft)
+    → many ≤ most_sets → AreNestedSetsRead naming n many [] p sets caps q → AreNestedSets n sets caps
+nested_sets_valid naming n many p sets caps q few read = record {
   few = omega (arith, read.count);
   as_many = read.as_many;
   caps_small = read.small;

@@ -7,41 +7,43 @@ use Rattle.mat_desc.specs.declared.refusal.DescRefusal.{DescRefusal}
 use Rattle.mat_desc.specs.declared.refusal.DescRefusal.TheVariants as refusals
 use Rattle.mat_words.specs.Cursors.{LinesLeft}
 use Rattle.mat_desc.specs.Faults.{Fails}
+use Rattle.mat_desc.specs.Labels.{Naming}
 use Rattle.mat_desc.specs.Reading.{nested_set_at, nested_sets_at}
 use Rattle.mat_desc.proofs.Classes.{SetsRead, with_front, with_front-cons}
 
 pub ruleset searching = (is_crossed-search)
 
 -- one more set was read
-pub nested_sets_more : (n many i : ℕ) (p : LinesLeft) (sets : List (List ℕ)) (caps : List ℕ) (cap : ℕ) (set : List ℕ)
+pub nested_sets_more : (naming : Naming) (n many i : ℕ) (p : LinesLeft) (sets : List (List ℕ)) (caps : List ℕ) (cap : ℕ) (set : List ℕ)
     (after : LinesLeft) (total : SetsRead)
-    → i < many → nested_set_at n sets p ≡ Ok (cap, set, after) → with_front sets caps (nested_sets_at n (many - i) sets p) ≡ total
-    → with_front (sets ++ set ∷ []) (caps ++ cap ∷ []) (nested_sets_at n (many - (i + 1)) (sets ++ set ∷ []) after) ≡ total
+    → i < many → nested_set_at naming n sets p ≡ Ok (cap, set, after) → with_front sets caps (nested_sets_at naming n (many - i) sets p) ≡ total
+    → with_front (sets ++ set ∷ []) (caps ++ cap ∷ []) (nested_sets_at naming n (many - (i + 1)) (sets ++ set ∷ []) after) ≡ total
 unfolding nested_sets_at
-nested_sets_more n many i p sets caps cap set after total lt read so_far =
+nested_sets_more naming n many i p sets caps cap set after total lt read so_far =
     let left : many - i ≡ suc (many - (i + 1)) = omega arith in
-    let step : with_front sets caps (nested_sets_at n (many - i) sets p) ≡ with_front (sets ++ set ∷ []) (caps ++ cap ∷ [])
-    (nested_sets_at n (many - (i + 1)) (sets ++ set ∷ []) after) =
-    rw (left, read) (with_front-cons sets caps set cap (nested_sets_at n (many - (i + 1)) (sets ++ set ∷ []) after)) in
+    let step : with_front sets caps (nested_sets_at naming n (many - i) sets p) ≡ with_front (sets ++ set ∷ []) (caps ++ cap ∷ [])
+    (nested_sets_at naming n (many - (i + 1)) (sets ++ set ∷ []) after) =
+    rw (left, read) (with_front-cons sets caps set cap (nested_sets_at naming n (many - (i + 1)) (sets ++ set ∷ []) after)) in
     sym step ∙ so_far
 
 -- the next set fails
-pub nested_sets_fail : (refusal : DescRefusal) (n many i : ℕ) (p : LinesLeft) (sets : List (List ℕ)) (caps : List ℕ) (total : SetsRead)
-    → i < many → Fails refusal (nested_set_at n sets p) → with_front sets caps (nested_sets_at n (many - i) sets p) ≡ total
+pub nested_sets_fail : (refusal : DescRefusal) (naming : Naming) (n many i : ℕ) (p : LinesLeft) (sets : List (List ℕ)) (caps : List ℕ)
+    (total : SetsRead)
+    → i < many → Fails refusal (nested_set_at naming n sets p) → with_front sets caps (nested_sets_at naming n (many - i) sets p) ≡ total
     → Fails refusal total
 unfolding nested_sets_at
-nested_sets_fail refusals.Memory n many i p sets caps total lt failed so_far = tt
-nested_sets_fail (refusals.Fault kind line) n many i p sets caps total lt failed so_far =
+nested_sets_fail refusals.Memory naming n many i p sets caps total lt failed so_far = tt
+nested_sets_fail (refusals.Fault kind line) naming n many i p sets caps total lt failed so_far =
     let left : many - i ≡ suc (many - (i + 1)) = omega arith in
-    let step : with_front sets caps (nested_sets_at n (many - i) sets p) ≡ Err (kind, line) = rw (left, failed) refl in
+    let step : with_front sets caps (nested_sets_at naming n (many - i) sets p) ≡ Err (kind, line) = rw (left, failed) refl in
     sym so_far ∙ step
 
 -- all sets are read
-pub nested_sets_done : (n many i : ℕ) (p : LinesLeft) (sets : List (List ℕ)) (caps : List ℕ) (total : SetsRead)
-    → many ≤ i → with_front sets caps (nested_sets_at n (many - i) sets p) ≡ total → total ≡ Ok (sets, caps, p)
+pub nested_sets_done : (naming : Naming) (n many i : ℕ) (p : LinesLeft) (sets : List (List ℕ)) (caps : List ℕ) (total : SetsRead)
+    → many ≤ i → with_front sets caps (nested_sets_at naming n (many - i) sets p) ≡ total → total ≡ Ok (sets, caps, p)
 unfolding nested_sets_at
-nested_sets_done n many i p sets caps total le so_far =
+nested_sets_done naming n many i p sets caps total le so_far =
     let left : many - i ≡ 0 = omega arith in
-    let step : with_front sets caps (nested_sets_at n (many - i) sets p) ≡ Ok (sets, caps, p) =
+    let step : with_front sets caps (nested_sets_at naming n (many - i) sets p) ≡ Ok (sets, caps, p) =
     rw left (ap₂ (λ (a : List (List ℕ)) (b : List ℕ). Ok (a, b, p)) (append-nil sets) (append-nil caps)) in
     sym so_far ∙ step

@@ -1,5 +1,5 @@
 -- Different numbers on a line, and the line of the targets: what is read is spelled so, and what is spelled so is read.
-use Rattle.std.proofs.Common.{◌≡◌, ℕ, zero, suc, ◌<◌, ◌^◌, true, false, List, []}
+use Rattle.std.proofs.Common.{◌≡◌, ℕ, zero, suc, ◌<◌, ◌^◌, true, false, List, [], None}
 use Rattle.std.proofs.Common.{◌∷◌, ◌++◌, length, pos, Ok, refl, ap, subst, ◌∙◌, arith}
 use Rattle.std.specs.Prelude.{codes}
 use Rattle.std.proofs.lemmas.Bool.{eq-eqb}
@@ -107,9 +107,9 @@ targets_again vertices n p targets rest count below distinct left =
 -- ---- the parts of a gammoid
 
 -- sources and targets that are read are vertices, and no two targets are equal
-pub sources_inside : (key : List ℕ) (n : ℕ) (p : LinesLeft) (set : List ℕ) (q : LinesLeft) → set_line_at key n p ≡ Ok (set, q)
+pub sources_inside : (key : List ℕ) (n : ℕ) (p : LinesLeft) (set : List ℕ) (q : LinesLeft) → set_line_at None key n p ≡ Ok (set, q)
     → AllBelow n set
-sources_inside key n p set q e = (set_line_found key n p set q e).in_range.below
+sources_inside key n p set q e = (set_line_found None key n tt p set q e).in_range.below
 
 pub targets_inside : (vertices n : ℕ) (p : LinesLeft) (targets : List ℕ) (q : LinesLeft)
     → targets_at vertices n p ≡ Ok (targets, q) → AllBelow vertices targets

@@ -1,8 +1,10 @@
 -- Reading lines, words, numbers and weights, as a description tells of it: what is told was read, and so is spelled.
-use Rattle.std.proofs.Common.{◌≡◌, ℕ, ◌-◌, ◌<◌, eqb, List, [], ◌∷◌, length, pos, Result, Ok, Err, refl, ap, ◌∙◌, arith}
+use Rattle.std.proofs.Common.{◌≡◌, ℕ, ◌-◌, ◌<◌, true, eqb, List, [], ◌∷◌, length, pos, Result, Ok, Err, refl, ap, ◌∙◌, arith}
 use Rattle.std.specs.Prelude.{neg_ℤ}
+use Rattle.std.specs.List.{list_all}
 use Rattle.std.proofs.lemmas.Bool.{eqb-true}
 use Rattle.mat_sets.specs.declared.weight.Weight.{Weight}
+use Rattle.mat_words.specs.Words.{is_word}
 use Rattle.mat_words.specs.Numbers.{numeral}
 use Rattle.mat_words.specs.Lines.{Line}
 use Rattle.mat_words.specs.Cursors.{WordsLeft, LinesLeft}
@@ -33,8 +35,15 @@ pub keyed_found : (key : List ℕ) (p : LinesLeft) (w : WordsLeft) (q : LinesLef
     → lines.AreLeft rest q → lines.AreLeft ((key ∷ w.words) ∷ rest) p
 keyed_found key p w q e = lines.keyed_found key p w q (told_found (reading.keyed_at key p) (w, q) e)
 
+pub keyed_words : (key : List ℕ) (p : LinesLeft) (w : WordsLeft) (q : LinesLeft) → keyed_at key p ≡ Ok (w, q)
+    → list_all is_word w.words ≡ true
+keyed_words key p w q e = lines.keyed_words key p w q (told_found (reading.keyed_at key p) (w, q) e)
+
 pub word_found : (w : WordsLeft) (word : List ℕ) (q : WordsLeft) → word_at w ≡ Ok (word, q) → w.words ≡ word ∷ q.words
 word_found w word q e = words.word_found w word q (told_found (reading.word_at w) (word, q) e)
+
+pub word_line : (w : WordsLeft) (word : List ℕ) (q : WordsLeft) → word_at w ≡ Ok (word, q) → q.line ≡ w.line
+word_line w word q e = words.word_line w word q (told_found (reading.word_at w) (word, q) e)
 
 pub size_found : (low high : ℕ) (w : WordsLeft) (x : ℕ) (q : WordsLeft) → size_at low high w ≡ Ok (x, q) → words.IsSizeRead low high w x q
 size_found low high w x q e = words.size_found low high w x q (told_found (reading.size_at low high w) (x, q) e)

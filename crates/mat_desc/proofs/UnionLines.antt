@@ -5,16 +5,19 @@ use Rattle.std.specs.Prelude.{codes}
 use Rattle.mat_words.specs.Numbers.{numeral}
 use Rattle.mat_words.specs.Lines.{Line}
 use Rattle.mat_any.specs.Trees.{Tree, union, tree_count, trees_from}
+use Rattle.mat_desc.specs.Labels.{Naming}
 use Rattle.mat_desc.specs.Canonical.{matroid_lines, tree_lines}
 
 count_from : (trees : List Tree) → tree_count (trees_from trees) ≡ length trees
 count_from [] = refl
 count_from (t ∷ trees) = ap suc (count_from trees)
 
-lines_from : (trees : List Tree) → tree_lines (trees_from trees) ≡ flat_map matroid_lines trees
-lines_from [] = refl
-lines_from (t ∷ trees) = ap (λ (ls : List Line). matroid_lines t ++ ls) (lines_from trees)
+lines_from : (naming : Naming) (trees : List Tree) → tree_lines naming (trees_from trees) ≡ flat_map (matroid_lines naming) trees
+lines_from naming [] = refl
+lines_from naming (t ∷ trees) = ap (λ (ls : List Line). matroid_lines naming t ++ ls) (lines_from naming trees)
 
-pub union_lines : (trees : List Tree) → matroid_lines (union (trees_from trees)) ≡ (codes "union" ∷ numeral (pos (length trees)) ∷ []) ∷ flat_map matroid_lines trees
-union_lines trees = ap (λ k. (codes "union" ∷ numeral (pos k) ∷ []) ∷ tree_lines (trees_from trees)) (count_from trees)
-    ∙ ap (λ (ls : List Line). (codes "union" ∷ numeral (pos (length trees)) ∷ []) ∷ ls) (lines_from trees)
+pub union_lines : (naming : Naming) (trees : List Tree)
+    → matroid_lines naming (union (trees_from trees))
+    ≡ (codes "union" ∷ numeral (pos (length trees)) ∷ []) ∷ flat_map (matroid_lines naming) trees
+union_lines naming trees = ap (λ k. (codes "union" ∷ numeral (pos k) ∷ []) ∷ tree_lines naming (trees_from trees)) (count_from trees)
+    ∙ ap (λ (ls : List Line). (codes "union" ∷ numeral (pos (length trees)) ∷ []) ∷ ls) (lines_from naming trees)

@@ -1,33 +1,51 @@
 -- The text that is written line by line: the lines of a list of items are those of one item after the other.
 use Rattle.std.proofs.Common.{◌≡◌, ℕ, ◌+◌, ◌<◌, ◌≤◌, List, [], ◌∷◌, ◌++◌, length}
-use Rattle.std.proofs.Common.{map, min, take, get_or, sym, ap, ◌∙◌, refl, arith, pos}
+use Rattle.std.proofs.Common.{map, min, take, get_or, sym, ap, ◌∙◌, refl, arith, pos, map-id}
 use Rattle.std.specs.List.{flat_map, zip}
 use Rattle.std.proofs.lemmas.List.{append_assoc, take_all}
 use Rattle.std.proofs.lemmas.List.Concat.{flat_map_single}
+use Rattle.std.proofs.lemmas.List.Folds.{flat_map-map}
 use Rattle.std.proofs.lemmas.Slice.Zip.{get_or-zip, length-zip}
 use Rattle.mat_words.specs.Lines.{Line, text_of}
 use Rattle.mat_words.specs.Numbers.{numeral}
 use Rattle.mat_words.specs.Writing.{end_line}
 use Rattle.mat_words.proofs.LineLemmas.{text_of-append}
 use Rattle.mat_words.proofs.WrittenLines.{item_written, line_written}
-use Rattle.mat_desc.specs.Grammar.{version_line}
+use Rattle.mat_desc.specs.Grammar.{version_line, label_lines}
 use Rattle.mat_desc.specs.Instances.{Instance}
-use Rattle.mat_desc.specs.Canonical.{capped_line, form_lines, canonical_text}
+use Rattle.mat_desc.specs.Labels.{Labels}
+use Rattle.mat_desc.specs.Canonical.{spaced, header, body_lines, canonical_lines}
 
 -- ---- one line
 
--- the line of a set and its cap was written, member by member
-pub capped_written : (old key set : List ℕ) (cap n : ℕ) (out new : List ℕ) → length set ≤ n
-    → out ≡ ((old ++ key) ++ 32 ∷ numeral (pos cap)) ++ flat_map (λ x. 32 ∷ numeral (pos x)) (take n set) → new ≡ out ++ 10 ∷ []
-    → new ≡ old ++ text_of (capped_line key (set, cap) ∷ [])
-capped_written old key set cap n out new done so_far last =
-    let f = λ (x : ℕ). numeral (pos x) in
-    let start = old ++ key in
-    let items = flat_map (λ x. 32 ∷ f x) set in
-    let whole : out ≡ start ++ flat_map (λ x. 32 ∷ f x) (take (length (cap ∷ set)) (cap ∷ set)) =
-    so_far ∙ ap (λ t. (start ++ 32 ∷ f cap) ++ flat_map (λ x. 32 ∷ f x) t) (take_all n set done) ∙ append_assoc start (32 ∷ f cap) items
-    ∙ ap (λ t. start ++ flat_map (λ x. 32 ∷ f x) t) (sym (take_all (length (cap ∷ set)) (cap ∷ set) (omega arith))) in
-    line_written f old key (cap ∷ set) (length (cap ∷ set)) out new (omega arith) whole last
+-- words were written, each behind a space
+pub all_written : (start : List ℕ) (words : Line) (n : ℕ) (out : List ℕ) → length words ≤ n
+    → out ≡ start ++ spaced (take n words) → out ≡ start ++ spaced words
+all_written start words n out done so_far = so_far ∙ ap (λ (ws : Line). start ++ spaced ws) (take_all n words done)
+
+-- the word for each item was written, behind a space
+pub words_done : {A : Type 0} (f : A → List ℕ) (start : List ℕ) (xs : List A) (n : ℕ) (out : List ℕ) → length xs ≤ n
+    → out ≡ start ++ flat_map (λ x. 32 ∷ f x) (take n xs) → out ≡ start ++ spaced (map f xs)
+words_done f start xs n out done so_far =
+    so_far ∙ ap (λ t. start ++ flat_map (λ x. 32 ∷ f x) t) (take_all n xs done)
+    ∙ ap (λ (t : List ℕ). start ++ t) (sym (flat_map-map (λ w. 32 ∷ w) f xs))
+
+-- a line of a keyword and words was written
+pub words_written : (old key : List ℕ) (words : Line) (out new : List ℕ) → out ≡ (old ++ key) ++ spaced words → new ≡ out ++ 10 ∷ []
+    → new ≡ old ++ text_of ((key ∷ words) ∷ [])
+words_written old key words out new so_far last =
+    let all : out ≡ (old ++ key) ++ spaced (take (length words) words) =
+    so_far ∙ ap (λ (ws : Line). (old ++ key) ++ spaced ws) (sym (take_all (length words) words (omega arith))) in
+    line_written (λ w. w) old key words (length words) out new (omega arith) all last
+    ∙ ap (λ (ws : Line). old ++ text_of ((key ∷ ws) ∷ [])) (map-id words)
+
+-- the line of a set and its cap was written
+pub capped_written : (old key : List ℕ) (cap : ℕ) (words : Line) (out new : List ℕ)
+    → out ≡ ((old ++ key) ++ 32 ∷ numeral (pos cap)) ++ spaced words → new ≡ out ++ 10 ∷ []
+    → new ≡ old ++ text_of ((key ∷ numeral (pos cap) ∷ words) ∷ [])
+capped_written old key cap words out new so_far last =
+    words_written old key (numeral (pos cap) ∷ words) out new
+    (so_far ∙ append_assoc (old ++ key) (32 ∷ numeral (pos cap)) (spaced words)) last
 
 -- ---- many lines
 
@@ -94,21 +112,21 @@ triple_written {A} {B} {C} f old xs ys zs i d e g out new inside so_far last =
 
 -- ---- whole problems
 
--- two weighted matroids were written
-pub pair_form_written : (old one two three new : List ℕ) (header weights : Line) (first second : List Line)
-    → one ≡ old ++ text_of (header ∷ [])
-    → two ≡ one ++ text_of (weights ∷ []) → three ≡ two ++ text_of first → new ≡ three ++ text_of second
-    → new ≡ old ++ text_of (header ∷ weights ∷ (first ++ second))
-pair_form_written old one two three new header weights first second a b c d =
-    both_written old one new (header ∷ []) (weights ∷ (first ++ second)) a
-    (both_written one two new (weights ∷ []) (first ++ second) b (both_written two three new first second c d))
+-- a line and then the lines of two matroids were written
+pub pair_written_out : (old one two new : List ℕ) (line : Line) (first second : List Line) → one ≡ old ++ text_of (line ∷ [])
+    → two ≡ one ++ text_of first → new ≡ two ++ text_of second → new ≡ old ++ text_of (line ∷ (first ++ second))
+pair_written_out old one two new line first second a b c =
+    both_written old one new (line ∷ []) (first ++ second) a (both_written one two new first second b c)
 
 -- a problem was written
-pub problem_written : (instance : Instance) (start form new : List ℕ) → start ≡ text_of (version_line ∷ [])
-    → form ≡ start ++ text_of (form_lines instance)
-    → new ≡ form ++ text_of (end_line ∷ []) → new ≡ canonical_text instance
-unfolding canonical_text
-problem_written instance start form new one two three =
-    let behind : new ≡ start ++ text_of (form_lines instance ++ end_line ∷ []) =
-    both_written start form new (form_lines instance) (end_line ∷ []) two three in
-    both_written [] start new (version_line ∷ []) (form_lines instance ++ end_line ∷ []) one behind
+pub problem_written : (labels : Labels) (instance : Instance) (one two three four new : List ℕ) → one ≡ text_of (version_line labels ∷ [])
+    → two ≡ one ++ text_of (header labels instance ∷ []) → three ≡ two ++ text_of (label_lines labels)
+    → four ≡ three ++ text_of (body_lines labels instance) → new ≡ four ++ text_of (end_line ∷ [])
+    → new ≡ text_of (canonical_lines labels instance)
+problem_written labels instance one two three four new a b c d e =
+    let body = body_lines labels instance ++ end_line ∷ [] in
+    let behind_labels : new ≡ three ++ text_of body = both_written three four new (body_lines labels instance) (end_line ∷ []) d e in
+    let behind_header : new ≡ two ++ text_of (label_lines labels ++ body) = both_written two three new (label_lines labels) body c behind_labels in
+    let behind_version : new ≡ one ++ text_of (header labels instance ∷ (label_lines labels ++ body)) =
+    both_written one two new (header labels instance ∷ []) (label_lines labels ++ body) b behind_header in
+    both_written [] one new (version_line labels ∷ []) (header labels instance ∷ (label_lines labels ++ body)) a behind_version

@@ -1,61 +1,91 @@
 -- The text of a problem that is written: the elements of each set in rising order, and everything else in its own order.
-use Rattle.std.specs.Prelude.{ℕ, List, [], ◌∷◌, ◌++◌, length, map, codes, pos}
+use Rattle.std.specs.Prelude.{ℕ, List, [], ◌∷◌, ◌++◌, length, map, codes, pos, None}
 use Rattle.std.specs.List.{zip, flat_map}
-use Rattle.mat_words.specs.Numbers.{numeral, numerals}
+use Rattle.mat_words.specs.Numbers.{numeral}
 use Rattle.mat_words.specs.Lines.{Line, text_of}
 use Rattle.mat_any.specs.Trees.{Tree, Trees, uniform, partition, laminar, graphic, transversal, gammoid, gf2, dual, truncate, restrict, contract, union, no_trees, more_trees, tree_count}
 use Rattle.mat_words.specs.Writing.{end_line, members_line, weights_line}
-use Rattle.mat_desc.specs.Grammar.{ends_line, column_line, weighted_line, coloured_edge_line}
-use Rattle.mat_desc.specs.Grammar.{version_line, pair_header, list_header, graph_header, rooted_header, coloured_header, table_header}
+use Rattle.mat_desc.specs.Grammar.{listing_line, ends_line, column_line, weighted_line, coloured_edge_line}
+use Rattle.mat_desc.specs.Grammar.{version_line, label_lines, root_lines, IsValid}
+use Rattle.mat_desc.specs.Grammar.{pair_header, list_header, graph_header, rooted_header, coloured_header, table_header}
 use Rattle.mat_desc.specs.Instances.{Instance, pair, list, graph, rooted, coloured, table}
+use Rattle.mat_desc.specs.Labels.{Naming, words_for, Labels, numbers, names, element_naming, vertex_naming, AreLabels, NamedInstance}
+
+-- the bytes of words, each behind a space
+abbrev pub spaced : Line → List ℕ
+spaced words = flat_map (λ word. 32 ∷ word) words
 
 -- the line of this keyword with a set and its cap
-abbrev pub capped_line : List ℕ → List ℕ × ℕ → Line
-capped_line key item = key ∷ numeral (pos item.1) ∷ numerals item.0
+abbrev pub capped_line : Naming → List ℕ → List ℕ × ℕ → Line
+capped_line naming key item = key ∷ numeral (pos item.1) ∷ words_for naming item.0
 
 -- a line of this keyword for each set with its cap
-abbrev pub capped_lines : List ℕ → List (List ℕ) → List ℕ → List Line
-capped_lines key sets caps = map (capped_line key) (zip sets caps)
+abbrev pub capped_lines : Naming → List ℕ → List (List ℕ) → List ℕ → List Line
+capped_lines naming key sets caps = map (capped_line naming key) (zip sets caps)
 
 abbrev mutual
-  -- the lines of a matroid
-  pub matroid_lines : Tree → List Line
-  matroid_lines (uniform n cap) = (codes "uniform" ∷ numeral (pos cap) ∷ []) ∷ []
-  matroid_lines (partition n classes caps) = (codes "partition" ∷ numeral (pos (length classes)) ∷ []) ∷ capped_lines (codes "class") classes caps
-  matroid_lines (laminar n sets caps) = (codes "laminar" ∷ numeral (pos (length sets)) ∷ []) ∷ capped_lines (codes "set") sets caps
-  matroid_lines (graphic vertices edges) = (codes "graphic" ∷ numeral (pos vertices) ∷ []) ∷ map (ends_line (codes "edge")) edges
-  matroid_lines (transversal n family) = (codes "transversal" ∷ numeral (pos (length family)) ∷ []) ∷ map (members_line (codes "set")) family
-  matroid_lines (gammoid vertices arcs sources targets) = (codes "gammoid" ∷ numeral (pos vertices) ∷ numeral (pos (length arcs)) ∷ [])
-      ∷ members_line (codes "sources") sources ∷ members_line (codes "targets") targets ∷ map (ends_line (codes "arc")) arcs
-  matroid_lines (gf2 dim columns) = (codes "gf2" ∷ numeral (pos dim) ∷ []) ∷ map (column_line dim) columns
-  matroid_lines (dual t) = (codes "dual" ∷ []) ∷ matroid_lines t
-  matroid_lines (truncate cap t) = (codes "truncate" ∷ numeral (pos cap) ∷ []) ∷ matroid_lines t
-  matroid_lines (restrict kept t) = members_line (codes "restrict") kept ∷ matroid_lines t
-  matroid_lines (contract away t) = members_line (codes "contract") away ∷ matroid_lines t
-  matroid_lines (union ts) = (codes "union" ∷ numeral (pos (tree_count ts)) ∷ []) ∷ tree_lines ts
+  -- the lines of a matroid, the members of whose sets of elements are written by this naming
+  pub matroid_lines : Naming → Tree → List Line
+  matroid_lines naming (uniform n cap) = (codes "uniform" ∷ numeral (pos cap) ∷ []) ∷ []
+  matroid_lines naming (partition n classes caps) =
+      (codes "partition" ∷ numeral (pos (length classes)) ∷ []) ∷ capped_lines naming (codes "class") classes caps
+  matroid_lines naming (laminar n sets caps) =
+      (codes "laminar" ∷ numeral (pos (length sets)) ∷ []) ∷ capped_lines naming (codes "set") sets caps
+  matroid_lines naming (graphic vertices edges) =
+      (codes "graphic" ∷ numeral (pos vertices) ∷ []) ∷ map (ends_line None (codes "edge")) edges
+  matroid_lines naming (transversal n family) =
+      (codes "transversal" ∷ numeral (pos (length family)) ∷ []) ∷ map (listing_line naming (codes "set")) family
+  matroid_lines naming (gammoid vertices arcs sources targets) =
+      (codes "gammoid" ∷ numeral (pos vertices) ∷ numeral (pos (length arcs)) ∷ [])
+      ∷ members_line (codes "sources") sources ∷ members_line (codes "targets") targets ∷ map (ends_line None (codes "arc")) arcs
+  matroid_lines naming (gf2 dim columns) = (codes "gf2" ∷ numeral (pos dim) ∷ []) ∷ map (column_line dim) columns
+  matroid_lines naming (dual t) = (codes "dual" ∷ []) ∷ matroid_lines naming t
+  matroid_lines naming (truncate cap t) = (codes "truncate" ∷ numeral (pos cap) ∷ []) ∷ matroid_lines naming t
+  matroid_lines naming (restrict kept t) = listing_line naming (codes "restrict") kept ∷ matroid_lines naming t
+  matroid_lines naming (contract away t) = listing_line naming (codes "contract") away ∷ matroid_lines naming t
+  matroid_lines naming (union ts) = (codes "union" ∷ numeral (pos (tree_count ts)) ∷ []) ∷ tree_lines naming ts
 
   -- the lines of each matroid of a union
-  pub tree_lines : Trees → List Line
-  tree_lines no_trees = []
-  tree_lines (more_trees t ts) = matroid_lines t ++ tree_lines ts
+  pub tree_lines : Naming → Trees → List Line
+  tree_lines naming no_trees = []
+  tree_lines naming (more_trees t ts) = matroid_lines naming t ++ tree_lines naming ts
 
--- the lines between the first and the last: the form line and those that follow it
-abbrev pub form_lines : Instance → List Line
-form_lines (pair weights first second) =
-    pair_header (length weights) ∷ weights_line (codes "weights") weights ∷ (matroid_lines first ++ matroid_lines second)
-form_lines (list weights matroids) =
-    list_header (length weights) (length matroids) ∷ weights_line (codes "weights") weights ∷ flat_map matroid_lines matroids
-form_lines (graph vertices edges) = graph_header vertices (length edges) ∷ map (ends_line (codes "edge")) edges
-form_lines (rooted vertices root arcs costs) = rooted_header vertices (length arcs) root ∷ map (weighted_line (codes "arc")) (zip arcs costs)
-form_lines (coloured vertices colours edges colour_of weights) =
-    coloured_header vertices (length edges) colours ∷ map coloured_edge_line (zip edges (zip colour_of weights))
-form_lines (table rows columns cells weights) =
-    table_header rows columns (length cells) ∷ map (weighted_line (codes "cell")) (zip cells weights)
+-- the line of a form
+abbrev pub header : Labels → Instance → Line
+header labels (pair weights first second) = pair_header (length weights)
+header labels (list weights matroids) = list_header (length weights) (length matroids)
+header labels (graph vertices edges) = graph_header vertices (length edges)
+header labels (rooted vertices root arcs costs) = rooted_header labels vertices (length arcs) root
+header labels (coloured vertices colours edges colour_of weights) = coloured_header vertices (length edges) colours
+header labels (table rows columns cells weights) = table_header rows columns (length cells)
 
--- the lines of a problem
-abbrev pub canonical_lines : Instance → List Line
-canonical_lines instance = version_line ∷ (form_lines instance ++ end_line ∷ [])
+-- the lines behind those of a form and of its labels
+abbrev pub body_lines : Labels → Instance → List Line
+body_lines labels (pair weights first second) = weights_line (codes "weights") weights
+    ∷ (matroid_lines (element_naming labels) first ++ matroid_lines (element_naming labels) second)
+body_lines labels (list weights matroids) =
+    weights_line (codes "weights") weights ∷ flat_map (matroid_lines (element_naming labels)) matroids
+body_lines labels (graph vertices edges) = map (ends_line (vertex_naming labels) (codes "edge")) edges
+body_lines labels (rooted vertices root arcs costs) =
+    root_lines labels root ++ map (weighted_line (vertex_naming labels) (codes "arc")) (zip arcs costs)
+body_lines labels (coloured vertices colours edges colour_of weights) =
+    map (coloured_edge_line (vertex_naming labels)) (zip edges (zip colour_of weights))
+body_lines labels (table rows columns cells weights) = map (weighted_line None (codes "cell")) (zip cells weights)
+
+-- what is written with names has to be in range, and to have a name for each element and each vertex
+abbrev pub MayBeWritten : Labels → Instance → Type 0
+MayBeWritten numbers instance = Unit {0}
+MayBeWritten (names elements vertices) instance = IsValid instance × AreLabels instance (names elements vertices)
+
+-- the lines of a problem with these labels
+abbrev pub canonical_lines : Labels → Instance → List Line
+canonical_lines labels instance =
+    version_line labels ∷ header labels instance ∷ (label_lines labels ++ (body_lines labels instance ++ end_line ∷ []))
 
 -- the canonical text of a problem
 unfoldable pub canonical_text : Instance → List ℕ
-canonical_text instance = text_of (canonical_lines instance)
+canonical_text instance = text_of (canonical_lines numbers instance)
+
+-- the canonical text of a problem with names for its elements and its vertices; a set rises by the numbers of its members, not by their names
+unfoldable pub named_text : NamedInstance → List ℕ
+named_text problem = text_of (canonical_lines (names problem.elements problem.vertices) problem.instance)

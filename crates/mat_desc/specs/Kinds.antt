@@ -17,6 +17,8 @@ kind_number kinds.Repeated = 9
 kind_number kinds.TooDeep = 10
 kind_number kinds.TooManyLines = 11
 kind_number kinds.EndsEarly = 12
+kind_number kinds.UnknownName = 13
+kind_number kinds.NameSpelling = 14
 
 -- the name by which a note tells the kind
 abbrev pub kind_name : DescKind → List ℕ
@@ -32,3 +34,5 @@ kind_name kinds.Repeated = codes "Repeated"
 kind_name kinds.TooDeep = codes "TooDeep"
 kind_name kinds.TooManyLines = codes "TooManyLines"
 kind_name kinds.EndsEarly = codes "EndsEarly"
+kind_name kinds.UnknownName = codes "UnknownName"
+kind_name kinds.NameSpelling = codes "NameSpelling"

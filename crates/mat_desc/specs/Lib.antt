@@ -1,6 +1,7 @@
 pub mod Binary
 pub mod Limits
 pub mod Instances
+pub mod Labels
 pub mod Grammar
 pub mod Faults
 pub mod Reading

@@ -1,6 +1,6 @@
 -- Reading a description: the problem that a text spells, or its first fault. Each function takes what is left of the text or of a line, and
 -- the order of its lines is the order in which faults are looked for.
-use Rattle.std.specs.Prelude.{ℕ, zero, suc, ◌==◌, pos, neg_ℤ, ◌&&◌}
+use Rattle.std.specs.Prelude.{ℕ, zero, suc, ◌==◌, pos, neg_ℤ, nat_lt, ◌&&◌}
 use Rattle.std.specs.Prelude.{if◌then◌else◌, List, [], ◌∷◌, ◌++◌, length, map, codes, bytes_eq}
 use Rattle.std.specs.Prelude.{Option, Some, None, Result, Ok, Err}
 use Rattle.mat_sets.specs.Sets.{is_member, with_one}
@@ -12,15 +12,19 @@ use Rattle.mat_any.specs.Trees.{Tree, uniform, partition, laminar, graphic, tran
 use Rattle.mat_desc.specs.declared.refusal.DescKind.TheVariants as kinds
 use Rattle.mat_desc.specs.declared.keywords.Form.{Form}
 use Rattle.mat_desc.specs.declared.keywords.Form.TheVariants as forms
+use Rattle.mat_desc.specs.declared.keywords.Version.{Version}
+use Rattle.mat_desc.specs.declared.keywords.Version.TheVariants as versions
 use Rattle.mat_desc.specs.declared.keywords.Keyword.{Keyword}
 use Rattle.mat_desc.specs.declared.keywords.Keyword.TheVariants as keywords
 use Rattle.mat_desc.specs.Binary.{binary_value, is_binary}
 use Rattle.mat_words.specs.Cursors.{WordsLeft, LinesLeft}
+use Rattle.mat_words.specs.Names.{longest_name, name_index, is_among}
 use Rattle.mat_words.specs.Steps.{◌>>=◌, repeat_at}
 use Rattle.mat_desc.specs.Faults.{Fault, told}
 use Rattle.mat_desc.specs.Limits.{most_sets, most_arcs, most_digits, most_matroids, deepest}
 use Rattle.mat_sets.specs.Limits.{largest_weight, most_vertices, most_elements}
 use Rattle.mat_desc.specs.Instances.{Instance, pair, list, graph, rooted, coloured, table}
+use Rattle.mat_desc.specs.Labels.{Naming, Labels, numbers, names, element_naming, vertex_naming, NamedInstance, named_by}
 
 -- ---- lines and words
 
@@ -60,27 +64,46 @@ ended_from n words = if length words == 0 then Ok tt else Err (kinds.TooManyWord
 unfoldable pub ended_at : WordsLeft → Result (Unit {0}) Fault
 ended_at p = ended_from p.line p.words
 
+-- what a word that names a number is taken for, with the words behind it
+abbrev pub named_as : WordsLeft → Option ℕ → Result (ℕ × WordsLeft) Fault
+named_as rest None = Err (kinds.UnknownName, rest.line)
+named_as rest (Some x) = Ok (x, rest)
+
+-- the next word as a number below the bound: by its numeral, or by its name where numbers have names, which are as many as the bound
+unfoldable pub member_at : Naming → ℕ → WordsLeft → Result (ℕ × WordsLeft) Fault
+member_at None bound p = below_at bound p
+member_at (Some listed) bound p = word_at p >>= λ word. named_as word.1 (name_index listed word.0)
+
 -- The set that the words left of line number `line` list, of elements below n, and `taken` with these elements added. An element that
 -- is in `taken` already is repeated.
-unfoldable pub elements_from : ℕ → ℕ → List ℕ → List ℕ → List (List ℕ) → Result (List ℕ × List ℕ) Fault
-elements_from n line taken set [] = Ok (set, taken)
-elements_from n line taken set (word ∷ words) = do
-  element ← below_at n (record { line = line; words = word ∷ words })
+unfoldable pub elements_from : Naming → ℕ → ℕ → List ℕ → List ℕ → List (List ℕ) → Result (List ℕ × List ℕ) Fault
+elements_from naming n line taken set [] = Ok (set, taken)
+elements_from naming n line taken set (word ∷ words) = do
+  element ← member_at naming n (record { line = line; words = word ∷ words })
   if is_member element.0 taken then Err (kinds.Repeated, line) else
-      elements_from n line (with_one taken element.0) (with_one set element.0) words
+      elements_from naming n line (with_one taken element.0) (with_one set element.0) words
 
 -- the set of the elements below n that are left of a line, and what is taken behind it
-abbrev pub elements_at : ℕ → List ℕ → WordsLeft → Result (List ℕ × List ℕ) Fault
-elements_at n taken p = elements_from n p.line taken [] p.words
+abbrev pub elements_at : Naming → ℕ → List ℕ → WordsLeft → Result (List ℕ × List ℕ) Fault
+elements_at naming n taken p = elements_from naming n p.line taken [] p.words
 
 -- ---- lines of a kind
 
+-- the version that a word names, if it names one
+abbrev pub version_of : List ℕ → Option Version
+version_of word = if bytes_eq word (codes "1") then Some versions.One else (if bytes_eq word (codes "2") then Some versions.Two else None)
+
+-- the version, from the words behind its word in line number `line` on
+abbrev pub version_named : ℕ → Option Version → WordsLeft → LinesLeft → Result (Version × LinesLeft) Fault
+version_named line None words lines = Err (kinds.Version, line)
+version_named line (Some version) words lines = ended_at words >>= λ end. Ok (version, lines)
+
 -- the first line, which names the version
-unfoldable pub version_at : LinesLeft → Result LinesLeft Fault
+unfoldable pub version_at : LinesLeft → Result (Version × LinesLeft) Fault
 version_at p = do
   line ← keyed_at (codes "matroids") p
   word ← word_at line.0
-  if bytes_eq word.0 (codes "1") then (ended_at word.1 >>= λ end. Ok line.1) else Err (kinds.Version, p.line)
+  version_named p.line (version_of word.0) word.1 line.1
 
 -- the weights line of n elements
 unfoldable pub weights_at : ℕ → LinesLeft → Result (List Weight × LinesLeft) Fault
@@ -101,22 +124,53 @@ end_at p = do
 unfoldable pub closed_at : LinesLeft → Result (Unit {0}) Fault
 closed_at p = if reading.is_closed p.lines then Ok tt else Err (kinds.TooManyLines, p.line)
 
+-- ---- names
+
+-- the names `listed` with `many` more behind them, none of which stands twice
+unfoldable pub names_from : ℕ → List (List ℕ) → WordsLeft → Result (List (List ℕ) × WordsLeft) Fault
+names_from zero listed p = Ok (listed, p)
+names_from (suc many) listed p = do
+  word ← word_at p
+  if nat_lt longest_name (length word.0) then Err (kinds.NameSpelling, p.line) else
+      (if is_among listed word.0 then Err (kinds.Repeated, p.line) else names_from many (listed ++ word.0 ∷ []) word.1)
+
+-- a line of this keyword and as many names
+unfoldable pub names_line_at : List ℕ → ℕ → LinesLeft → Result (List (List ℕ) × LinesLeft) Fault
+names_line_at key many p = do
+  line ← keyed_at key p
+  listed ← names_from many [] line.0
+  end ← ended_at listed.1
+  Ok (listed.0, line.1)
+
+-- the names of so many vertices, which have a line where there are any; a form without vertices has 0
+unfoldable pub vertex_names_at : ℕ → LinesLeft → Result (List (List ℕ) × LinesLeft) Fault
+vertex_names_at zero p = Ok ([], p)
+vertex_names_at (suc vertices) p = names_line_at (codes "vertices") (suc vertices) p
+
+-- what stands for so many elements and vertices: in version 1 their numbers, and no line, and in version 2 the names that it lists
+unfoldable pub labels_at : Version → ℕ → ℕ → LinesLeft → Result (Labels × LinesLeft) Fault
+labels_at versions.One elements vertices p = Ok (numbers, p)
+labels_at versions.Two elements vertices p = do
+  first ← names_line_at (codes "elements") elements p
+  second ← vertex_names_at vertices first.1
+  Ok (names first.0 second.0, second.1)
+
 -- ---- matroids
 
 -- a class line of a partition of n elements: the cap, the class, what is taken behind it, and the lines behind it
-unfoldable pub class_at : ℕ → List ℕ → LinesLeft → Result (ℕ × List ℕ × List ℕ × LinesLeft) Fault
-class_at n taken p = do
+unfoldable pub class_at : Naming → ℕ → List ℕ → LinesLeft → Result (ℕ × List ℕ × List ℕ × LinesLeft) Fault
+class_at naming n taken p = do
   line ← keyed_at (codes "class") p
   cap ← size_at 0 most_elements line.0
-  elements ← elements_at n taken cap.1
+  elements ← elements_at naming n taken cap.1
   Ok (cap.0, elements.0, elements.1, line.1)
 
 -- as many class lines, no two of which share an element: the classes, their caps, and the lines behind them
-unfoldable pub classes_at : ℕ → ℕ → List ℕ → LinesLeft → Result (List (List ℕ) × List ℕ × LinesLeft) Fault
-classes_at n zero taken p = Ok ([], [], p)
-classes_at n (suc many) taken p = do
-  first ← class_at n taken p
-  others ← classes_at n many first.2 first.3
+unfoldable pub classes_at : Naming → ℕ → ℕ → List ℕ → LinesLeft → Result (List (List ℕ) × List ℕ × LinesLeft) Fault
+classes_at naming n zero taken p = Ok ([], [], p)
+classes_at naming n (suc many) taken p = do
+  first ← class_at naming n taken p
+  others ← classes_at naming n many first.2 first.3
   Ok (first.1 ∷ others.0, first.0 ∷ others.1, others.2)
 
 -- a uniform matroid on n elements, from the words behind its keyword on
@@ -127,49 +181,49 @@ uniform_at n words lines = do
   Ok (uniform n cap.0, lines)
 
 -- a partition matroid on n elements, from the words behind its keyword on
-unfoldable pub partition_at : ℕ → WordsLeft → LinesLeft → Result (Tree × LinesLeft) Fault
-partition_at n words lines = do
+unfoldable pub partition_at : Naming → ℕ → WordsLeft → LinesLeft → Result (Tree × LinesLeft) Fault
+partition_at naming n words lines = do
   many ← size_at 0 most_sets words
   end ← ended_at many.1
-  classes ← classes_at n many.0 [] lines
+  classes ← classes_at naming n many.0 [] lines
   Ok (partition n classes.0 classes.1, classes.2)
 
 -- a set line of a laminar family on n elements, of which the earlier sets are given: the cap, the set, and the lines behind it
-unfoldable pub nested_set_at : ℕ → List (List ℕ) → LinesLeft → Result (ℕ × List ℕ × LinesLeft) Fault
-nested_set_at n earlier p = do
+unfoldable pub nested_set_at : Naming → ℕ → List (List ℕ) → LinesLeft → Result (ℕ × List ℕ × LinesLeft) Fault
+nested_set_at naming n earlier p = do
   line ← keyed_at (codes "set") p
   cap ← size_at 0 most_elements line.0
-  elements ← elements_at n [] cap.1
+  elements ← elements_at naming n [] cap.1
   if is_crossed earlier elements.0 then Err (kinds.Crossing, p.line) else Ok (cap.0, elements.0, line.1)
 
 -- as many set lines, no two of which cross: the sets, their caps, and the lines behind them
-unfoldable pub nested_sets_at : ℕ → ℕ → List (List ℕ) → LinesLeft → Result (List (List ℕ) × List ℕ × LinesLeft) Fault
-nested_sets_at n zero earlier p = Ok ([], [], p)
-nested_sets_at n (suc many) earlier p = do
-  first ← nested_set_at n earlier p
-  others ← nested_sets_at n many (earlier ++ first.1 ∷ []) first.2
+unfoldable pub nested_sets_at : Naming → ℕ → ℕ → List (List ℕ) → LinesLeft → Result (List (List ℕ) × List ℕ × LinesLeft) Fault
+nested_sets_at naming n zero earlier p = Ok ([], [], p)
+nested_sets_at naming n (suc many) earlier p = do
+  first ← nested_set_at naming n earlier p
+  others ← nested_sets_at naming n many (earlier ++ first.1 ∷ []) first.2
   Ok (first.1 ∷ others.0, first.0 ∷ others.1, others.2)
 
 -- a laminar matroid on n elements, from the words behind its keyword on
-unfoldable pub laminar_at : ℕ → WordsLeft → LinesLeft → Result (Tree × LinesLeft) Fault
-laminar_at n words lines = do
+unfoldable pub laminar_at : Naming → ℕ → WordsLeft → LinesLeft → Result (Tree × LinesLeft) Fault
+laminar_at naming n words lines = do
   many ← size_at 0 most_sets words
   end ← ended_at many.1
-  sets ← nested_sets_at n many.0 [] lines
+  sets ← nested_sets_at naming n many.0 [] lines
   Ok (laminar n sets.0 sets.1, sets.2)
 
--- two numbers, one below each bound
-unfoldable pub ends_at : ℕ → ℕ → WordsLeft → Result ((ℕ × ℕ) × WordsLeft) Fault
-ends_at first_bound second_bound words = do
-  first ← below_at first_bound words
-  second ← below_at second_bound first.1
+-- the words for two numbers, one below each bound
+unfoldable pub ends_at : Naming → ℕ → ℕ → WordsLeft → Result ((ℕ × ℕ) × WordsLeft) Fault
+ends_at naming first_bound second_bound words = do
+  first ← member_at naming first_bound words
+  second ← member_at naming second_bound first.1
   Ok ((first.0, second.0), second.1)
 
 -- a line of this keyword with the two ends of an edge or of an arc
-unfoldable pub ends_line_at : List ℕ → ℕ → LinesLeft → Result ((ℕ × ℕ) × LinesLeft) Fault
-ends_line_at key vertices p = do
+unfoldable pub ends_line_at : Naming → List ℕ → ℕ → LinesLeft → Result ((ℕ × ℕ) × LinesLeft) Fault
+ends_line_at naming key vertices p = do
   line ← keyed_at key p
-  ends ← ends_at vertices vertices line.0
+  ends ← ends_at naming vertices vertices line.0
   end ← ended_at ends.1
   Ok (ends.0, line.1)
 
@@ -178,22 +232,22 @@ unfoldable pub graphic_at : ℕ → WordsLeft → LinesLeft → Result (Tree × 
 graphic_at n words lines = do
   vertices ← size_at 1 most_vertices words
   end ← ended_at vertices.1
-  edges ← repeat_at (ends_line_at (codes "edge") vertices.0) n lines
+  edges ← repeat_at (ends_line_at None (codes "edge") vertices.0) n lines
   Ok (graphic vertices.0 edges.0, edges.1)
 
 -- a line of this keyword and a set of numbers below n
-unfoldable pub set_line_at : List ℕ → ℕ → LinesLeft → Result (List ℕ × LinesLeft) Fault
-set_line_at key n p = do
+unfoldable pub set_line_at : Naming → List ℕ → ℕ → LinesLeft → Result (List ℕ × LinesLeft) Fault
+set_line_at naming key n p = do
   line ← keyed_at key p
-  set ← elements_at n [] line.0
+  set ← elements_at naming n [] line.0
   Ok (set.0, line.1)
 
 -- a transversal matroid on n elements, from the words behind its keyword on
-unfoldable pub transversal_at : ℕ → WordsLeft → LinesLeft → Result (Tree × LinesLeft) Fault
-transversal_at n words lines = do
+unfoldable pub transversal_at : Naming → ℕ → WordsLeft → LinesLeft → Result (Tree × LinesLeft) Fault
+transversal_at naming n words lines = do
   many ← size_at 0 most_sets words
   end ← ended_at many.1
-  family ← repeat_at (set_line_at (codes "set") n) many.0 lines
+  family ← repeat_at (set_line_at naming (codes "set") n) many.0 lines
   Ok (transversal n family.0, family.1)
 
 -- as many numbers below the bound, none of which is in `taken` or stands twice
@@ -218,9 +272,9 @@ gammoid_at n words lines = do
   vertices ← size_at 1 most_vertices words
   many ← size_at 0 most_arcs vertices.1
   end ← ended_at many.1
-  sources ← set_line_at (codes "sources") vertices.0 lines
+  sources ← set_line_at None (codes "sources") vertices.0 lines
   targets ← targets_at vertices.0 n sources.1
-  arcs ← repeat_at (ends_line_at (codes "arc") vertices.0) many.0 targets.1
+  arcs ← repeat_at (ends_line_at None (codes "arc") vertices.0) many.0 targets.1
   Ok (gammoid vertices.0 arcs.0 sources.0 targets.0, arcs.1)
 
 -- the next word as a binary number of so many digits
@@ -265,16 +319,16 @@ truncate_at inner words lines = do
   Ok (truncate cap.0 t.0, t.1)
 
 -- a restriction on n elements, from the words behind its keyword on; `inner` reads the matroid within
-unfoldable pub restrict_at : TreeReader → ℕ → WordsLeft → LinesLeft → Result (Tree × LinesLeft) Fault
-restrict_at inner n words lines = do
-  kept ← elements_at n [] words
+unfoldable pub restrict_at : TreeReader → Naming → ℕ → WordsLeft → LinesLeft → Result (Tree × LinesLeft) Fault
+restrict_at inner naming n words lines = do
+  kept ← elements_at naming n [] words
   t ← inner lines
   Ok (restrict kept.0 t.0, t.1)
 
 -- a contraction on n elements, from the words behind its keyword on; `inner` reads the matroid within
-unfoldable pub contract_at : TreeReader → ℕ → WordsLeft → LinesLeft → Result (Tree × LinesLeft) Fault
-contract_at inner n words lines = do
-  away ← elements_at n [] words
+unfoldable pub contract_at : TreeReader → Naming → ℕ → WordsLeft → LinesLeft → Result (Tree × LinesLeft) Fault
+contract_at inner naming n words lines = do
+  away ← elements_at naming n [] words
   t ← inner lines
   Ok (contract away.0 t.0, t.1)
 
@@ -302,113 +356,145 @@ keyword_of word = if bytes_eq word (codes "uniform") then Some keywords.Uniform 
     (if bytes_eq word (codes "union") then Some keywords.Union else None)))))))))))
 
 -- a matroid on n elements, from the words behind its keyword in line number `line` on; `inner` reads a matroid within it
-abbrev pub kind_at : TreeReader → ℕ → ℕ → Option Keyword → WordsLeft → LinesLeft → Result (Tree × LinesLeft) Fault
-kind_at inner n line None words lines = Err (kinds.UnknownWord, line)
-kind_at inner n line (Some keywords.Uniform) words lines = uniform_at n words lines
-kind_at inner n line (Some keywords.Partition) words lines = partition_at n words lines
-kind_at inner n line (Some keywords.Laminar) words lines = laminar_at n words lines
-kind_at inner n line (Some keywords.Graphic) words lines = graphic_at n words lines
-kind_at inner n line (Some keywords.Transversal) words lines = transversal_at n words lines
-kind_at inner n line (Some keywords.Gammoid) words lines = gammoid_at n words lines
-kind_at inner n line (Some keywords.Gf2) words lines = gf2_at n words lines
-kind_at inner n line (Some keywords.Dual) words lines = dual_at inner words lines
-kind_at inner n line (Some keywords.Truncate) words lines = truncate_at inner words lines
-kind_at inner n line (Some keywords.Restrict) words lines = restrict_at inner n words lines
-kind_at inner n line (Some keywords.Contract) words lines = contract_at inner n words lines
-kind_at inner n line (Some keywords.Union) words lines = union_at inner words lines
+abbrev pub kind_at : TreeReader → Naming → ℕ → ℕ → Option Keyword → WordsLeft → LinesLeft → Result (Tree × LinesLeft) Fault
+kind_at inner naming n line None words lines = Err (kinds.UnknownWord, line)
+kind_at inner naming n line (Some keywords.Uniform) words lines = uniform_at n words lines
+kind_at inner naming n line (Some keywords.Partition) words lines = partition_at naming n words lines
+kind_at inner naming n line (Some keywords.Laminar) words lines = laminar_at naming n words lines
+kind_at inner naming n line (Some keywords.Graphic) words lines = graphic_at n words lines
+kind_at inner naming n line (Some keywords.Transversal) words lines = transversal_at naming n words lines
+kind_at inner naming n line (Some keywords.Gammoid) words lines = gammoid_at n words lines
+kind_at inner naming n line (Some keywords.Gf2) words lines = gf2_at n words lines
+kind_at inner naming n line (Some keywords.Dual) words lines = dual_at inner words lines
+kind_at inner naming n line (Some keywords.Truncate) words lines = truncate_at inner words lines
+kind_at inner naming n line (Some keywords.Restrict) words lines = restrict_at inner naming n words lines
+kind_at inner naming n line (Some keywords.Contract) words lines = contract_at inner naming n words lines
+kind_at inner naming n line (Some keywords.Union) words lines = union_at inner words lines
 
 -- A matroid on n elements, in which at most so many matroids stand within one another. Where there is no room for one more, its line is
 -- still needed, has to be well spaced and to have words, and is then too deep, whatever its words are.
-unfoldable pub matroid_within : ℕ → ℕ → LinesLeft → Result (Tree × LinesLeft) Fault
-matroid_within zero n p = line_at p >>= λ line. Err (kinds.TooDeep, p.line)
-matroid_within (suc room) n p = do
+unfoldable pub matroid_within : ℕ → Naming → ℕ → LinesLeft → Result (Tree × LinesLeft) Fault
+matroid_within zero naming n p = line_at p >>= λ line. Err (kinds.TooDeep, p.line)
+matroid_within (suc room) naming n p = do
   line ← line_at p
   word ← word_at line.0
-  kind_at (matroid_within room n) n p.line (keyword_of word.0) word.1 line.1
+  kind_at (matroid_within room naming n) naming n p.line (keyword_of word.0) word.1 line.1
 
 -- a matroid on n elements
-abbrev pub matroid_at : ℕ → LinesLeft → Result (Tree × LinesLeft) Fault
-matroid_at n p = matroid_within deepest n p
+abbrev pub matroid_at : Naming → ℕ → LinesLeft → Result (Tree × LinesLeft) Fault
+matroid_at naming n p = matroid_within deepest naming n p
 
 -- ---- problems
 
+-- a problem, and what its description calls its elements and its vertices
+pub record Labelled : Type 0 where
+  pub instance : Instance
+  pub labels : Labels
+
 -- two matroids, from the words behind the form's word on
-unfoldable pub pair_at : WordsLeft → LinesLeft → Result (Instance × LinesLeft) Fault
-pair_at words lines = do
+unfoldable pub pair_at : Version → WordsLeft → LinesLeft → Result (Labelled × LinesLeft) Fault
+pair_at version words lines = do
   count ← size_at 0 most_elements words
   end ← ended_at count.1
-  weights ← weights_at count.0 lines
-  first ← matroid_at count.0 weights.1
-  second ← matroid_at count.0 first.1
-  Ok (pair weights.0 first.0 second.0, second.1)
+  labels ← labels_at version count.0 0 lines
+  weights ← weights_at count.0 labels.1
+  first ← matroid_at (element_naming labels.0) count.0 weights.1
+  second ← matroid_at (element_naming labels.0) count.0 first.1
+  Ok (record { instance = pair weights.0 first.0 second.0; labels = labels.0 }, second.1)
 
 -- a list of matroids, from the words behind the form's word on
-unfoldable pub list_at : WordsLeft → LinesLeft → Result (Instance × LinesLeft) Fault
-list_at words lines = do
+unfoldable pub list_at : Version → WordsLeft → LinesLeft → Result (Labelled × LinesLeft) Fault
+list_at version words lines = do
   count ← size_at 0 most_elements words
   many ← size_at 1 most_matroids count.1
   end ← ended_at many.1
-  weights ← weights_at count.0 lines
-  matroids ← repeat_at (matroid_at count.0) many.0 weights.1
-  Ok (list weights.0 matroids.0, matroids.1)
+  labels ← labels_at version count.0 0 lines
+  weights ← weights_at count.0 labels.1
+  matroids ← repeat_at (matroid_at (element_naming labels.0) count.0) many.0 weights.1
+  Ok (record { instance = list weights.0 matroids.0; labels = labels.0 }, matroids.1)
 
--- a line of this keyword with two numbers and a weight: an arc with its cost, or a cell with its weight
-unfoldable pub weighted_at : List ℕ → ℕ → ℕ → LinesLeft → Result (((ℕ × ℕ) × Weight) × LinesLeft) Fault
-weighted_at key first_bound second_bound p = do
+-- a line of this keyword with the words for two numbers, and a weight: an arc with its cost, or a cell with its weight
+unfoldable pub weighted_at : Naming → List ℕ → ℕ → ℕ → LinesLeft → Result (((ℕ × ℕ) × Weight) × LinesLeft) Fault
+weighted_at naming key first_bound second_bound p = do
   line ← keyed_at key p
-  ends ← ends_at first_bound second_bound line.0
+  ends ← ends_at naming first_bound second_bound line.0
   weight ← weight_at ends.1
   end ← ended_at weight.1
   Ok ((ends.0, weight.0), line.1)
 
 -- an edge line with a colour and a weight
-unfoldable pub coloured_edge_at : ℕ → ℕ → LinesLeft → Result (((ℕ × ℕ) × (ℕ × Weight)) × LinesLeft) Fault
-coloured_edge_at vertices colours p = do
+unfoldable pub coloured_edge_at : Naming → ℕ → ℕ → LinesLeft → Result (((ℕ × ℕ) × (ℕ × Weight)) × LinesLeft) Fault
+coloured_edge_at naming vertices colours p = do
   line ← keyed_at (codes "edge") p
-  ends ← ends_at vertices vertices line.0
+  ends ← ends_at naming vertices vertices line.0
   colour ← below_at colours ends.1
   weight ← weight_at colour.1
   end ← ended_at weight.1
   Ok ((ends.0, (colour.0, weight.0)), line.1)
 
 -- a graph, from the words behind the form's word on
-unfoldable pub graph_at : WordsLeft → LinesLeft → Result (Instance × LinesLeft) Fault
-graph_at words lines = do
+unfoldable pub graph_at : Version → WordsLeft → LinesLeft → Result (Labelled × LinesLeft) Fault
+graph_at version words lines = do
   vertices ← size_at 1 most_vertices words
   many ← size_at 0 most_elements vertices.1
   end ← ended_at many.1
-  edges ← repeat_at (ends_line_at (codes "edge") vertices.0) many.0 lines
-  Ok (graph vertices.0 edges.0, edges.1)
+  labels ← labels_at version many.0 vertices.0 lines
+  edges ← repeat_at (ends_line_at (vertex_naming labels.0) (codes "edge") vertices.0) many.0 labels.1
+  Ok (record { instance = graph vertices.0 edges.0; labels = labels.0 }, edges.1)
+
+-- the root in the form line, where it stands in version 1
+unfoldable pub header_root_at : Version → ℕ → WordsLeft → Result (Option ℕ × WordsLeft) Fault
+header_root_at versions.One vertices words = below_at vertices words >>= λ root. Ok (Some root.0, root.1)
+header_root_at versions.Two vertices words = Ok (None, words)
+
+-- the root, which has a line of its own where it isn't known from the form line
+unfoldable pub root_at : Naming → ℕ → Option ℕ → LinesLeft → Result (ℕ × LinesLeft) Fault
+root_at naming vertices (Some root) p = Ok (root, p)
+root_at naming vertices None p = do
+  line ← keyed_at (codes "root") p
+  root ← member_at naming vertices line.0
+  end ← ended_at root.1
+  Ok (root.0, line.1)
 
 -- a directed graph with a root, from the words behind the form's word on
-unfoldable pub rooted_at : WordsLeft → LinesLeft → Result (Instance × LinesLeft) Fault
-rooted_at words lines = do
+unfoldable pub rooted_at : Version → WordsLeft → LinesLeft → Result (Labelled × LinesLeft) Fault
+rooted_at version words lines = do
   vertices ← size_at 1 most_vertices words
   many ← size_at 0 most_elements vertices.1
-  root ← below_at vertices.0 many.1
-  end ← ended_at root.1
-  arcs ← repeat_at (weighted_at (codes "arc") vertices.0 vertices.0) many.0 lines
-  Ok (rooted vertices.0 root.0 (map (λ arc. arc.0) arcs.0) (map (λ arc. arc.1) arcs.0), arcs.1)
+  known ← header_root_at version vertices.0 many.1
+  end ← ended_at known.1
+  labels ← labels_at version many.0 vertices.0 lines
+  root ← root_at (vertex_naming labels.0) vertices.0 known.0 labels.1
+  arcs ← repeat_at (weighted_at (vertex_naming labels.0) (codes "arc") vertices.0 vertices.0) many.0 root.1
+  Ok (record { instance = rooted vertices.0 root.0 (map (λ arc. arc.0) arcs.0) (map (λ arc. arc.1) arcs.0); labels = labels.0 }, arcs.1)
 
 -- a graph with coloured edges, from the words behind the form's word on
-unfoldable pub coloured_at : WordsLeft → LinesLeft → Result (Instance × LinesLeft) Fault
-coloured_at words lines = do
+unfoldable pub coloured_at : Version → WordsLeft → LinesLeft → Result (Labelled × LinesLeft) Fault
+coloured_at version words lines = do
   vertices ← size_at 1 most_vertices words
   many ← size_at 0 most_elements vertices.1
   colours ← size_at 0 most_sets many.1
   end ← ended_at colours.1
-  edges ← repeat_at (coloured_edge_at vertices.0 colours.0) many.0 lines
-  Ok (coloured vertices.0 colours.0 (map (λ edge. edge.0) edges.0) (map (λ edge. edge.1.0) edges.0) (map (λ edge. edge.1.1) edges.0), edges.1)
+  labels ← labels_at version many.0 vertices.0 lines
+  edges ← repeat_at (coloured_edge_at (vertex_naming labels.0) vertices.0 colours.0) many.0 labels.1
+  Ok (
+    record {
+      instance = coloured vertices.0 colours.0 (map (λ edge. edge.0) edges.0) (map (λ edge. edge.1.0) edges.0) (map (λ edge. edge.1.1) edges.0);
+      labels = labels.0;
+    },
+    edges.1,
+  )
 
 -- a table of cells, from the words behind the form's word on
-unfoldable pub table_at : WordsLeft → LinesLeft → Result (Instance × LinesLeft) Fault
-table_at words lines = do
+unfoldable pub table_at : Version → WordsLeft → LinesLeft → Result (Labelled × LinesLeft) Fault
+table_at version words lines = do
   rows ← size_at 0 most_sets words
   columns ← size_at 0 most_sets rows.1
   many ← size_at 0 most_elements columns.1
   end ← ended_at many.1
-  cells ← repeat_at (weighted_at (codes "cell") rows.0 columns.0) many.0 lines
-  Ok (table rows.0 columns.0 (map (λ cell. cell.0) cells.0) (map (λ cell. cell.1) cells.0), cells.1)
+  labels ← labels_at version many.0 0 lines
+  cells ← repeat_at (weighted_at None (codes "cell") rows.0 columns.0) many.0 labels.1
+  Ok (record { instance = table rows.0 columns.0 (map (λ cell. cell.0) cells.0) (map (λ cell. cell.1) cells.0); labels = labels.0 }, cells.1)
 
 -- the form that a word names, if it names one
 abbrev pub form_of : List ℕ → Option Form
@@ -420,31 +506,39 @@ form_of word = if bytes_eq word (codes "pair") then Some forms.Pair else
     (if bytes_eq word (codes "table") then Some forms.Table else None)))))
 
 -- a problem, from the words behind the form's word in line number `line` on
-abbrev pub form_at : ℕ → Option Form → WordsLeft → LinesLeft → Result (Instance × LinesLeft) Fault
-form_at line None words lines = Err (kinds.UnknownWord, line)
-form_at line (Some forms.Pair) words lines = pair_at words lines
-form_at line (Some forms.List) words lines = list_at words lines
-form_at line (Some forms.Graph) words lines = graph_at words lines
-form_at line (Some forms.Rooted) words lines = rooted_at words lines
-form_at line (Some forms.Coloured) words lines = coloured_at words lines
-form_at line (Some forms.Table) words lines = table_at words lines
+abbrev pub form_at : Version → ℕ → Option Form → WordsLeft → LinesLeft → Result (Labelled × LinesLeft) Fault
+form_at version line None words lines = Err (kinds.UnknownWord, line)
+form_at version line (Some forms.Pair) words lines = pair_at version words lines
+form_at version line (Some forms.List) words lines = list_at version words lines
+form_at version line (Some forms.Graph) words lines = graph_at version words lines
+form_at version line (Some forms.Rooted) words lines = rooted_at version words lines
+form_at version line (Some forms.Coloured) words lines = coloured_at version words lines
+form_at version line (Some forms.Table) words lines = table_at version words lines
 
 -- a problem, from its form line on
-unfoldable pub instance_at : LinesLeft → Result (Instance × LinesLeft) Fault
-instance_at p = do
+unfoldable pub instance_at : Version → LinesLeft → Result (Labelled × LinesLeft) Fault
+instance_at version p = do
   line ← line_at p
   word ← word_at line.0
-  form_at p.line (form_of word.0) word.1 line.1
+  form_at version p.line (form_of word.0) word.1 line.1
 
 -- a whole description
-unfoldable pub description_at : LinesLeft → Result Instance Fault
+unfoldable pub description_at : LinesLeft → Result Labelled Fault
 description_at p = do
-  form ← version_at p
-  instance ← instance_at form
+  version ← version_at p
+  instance ← instance_at version.0 version.1
   rest ← end_at instance.1
   close ← closed_at rest
   Ok instance.0
 
+-- what a text says: a problem with its labels, or its first fault
+abbrev pub labelled_of : List ℕ → Result Labelled Fault
+labelled_of text = description_at (record { line = 1; lines = lines_of text })
+
 -- what a text says: the problem that it spells, or its first fault
 abbrev pub read_of : List ℕ → Result Instance Fault
-read_of text = description_at (record { line = 1; lines = lines_of text })
+read_of text = labelled_of text >>= λ read. Ok read.instance
+
+-- what a text says: the problem that it spells with the names of its elements and vertices, or its first fault
+abbrev pub named_of : List ℕ → Result NamedInstance Fault
+named_of text = labelled_of text >>= λ read. Ok (named_by read.labels read.instance)

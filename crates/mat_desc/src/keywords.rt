@@ -1,7 +1,16 @@
 //! The words that begin the line of a form or of a matroid.
 
 ghost use Rattle.std.specs.Prelude.{◌≡◌};
-ghost use Rattle.mat_desc.specs.Reading.{keyword_of, form_of};
+ghost use Rattle.mat_desc.specs.Reading.{keyword_of, form_of, version_of};
+
+/// The version of a description.
+#[derive(Clone, Copy)]
+pub enum Version {
+    /// Elements and vertices are numbers: `1`.
+    One,
+    /// Elements and vertices have names: `2`.
+    Two,
+}
 
 /// The form of a problem.
 #[derive(Clone, Copy)]
@@ -47,6 +56,19 @@ pub enum Keyword {
     Contract,
     /// `union`: sets that are made up of an independent set of each of some matroids.
     Union,
+}
+
+/// The version that a word names.
+pub(crate) fn version_from(word: &[u8]) -> Option<Version>
+    ensures { result ≡ version_of word.now }
+{
+    if word == b"1".as_slice() {
+        Some(Version::One)
+    } else if word == b"2".as_slice() {
+        Some(Version::Two)
+    } else {
+        None
+    }
 }
 
 /// The form that a word names.

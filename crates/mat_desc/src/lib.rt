@@ -4,16 +4,21 @@
 mod binary;
 mod item_lines;
 mod keywords;
+mod labels;
 mod laws;
 mod limits;
 mod linked_lines;
 mod matroid;
+mod named;
 mod problem;
 mod reading;
 mod refusal;
 mod write;
+mod write_lines;
+mod write_matroid;
 
 pub use laws::{reading_laws, soundness_laws, writing_laws};
+pub use named::{Named, read_named};
 pub use problem::{Problem, read_problem};
 pub use refusal::{DescKind, DescRefusal};
-pub use write::write_problem;
+pub use write::{write_named, write_problem};

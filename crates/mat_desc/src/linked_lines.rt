@@ -1,6 +1,8 @@
 //! Reading transversal matroids and gammoids.
 
 ghost use Rattle.std.specs.Prelude.{[]};
+ghost use Rattle.mat_desc.specs.Labels.{IsNaming};
+ghost use Rattle.mat_desc.specs.Views.{naming};
 ghost use Rattle.mat_any.specs.Views.{tree_of};
 ghost use Rattle.mat_desc.specs.Faults.{Gives};
 ghost use Rattle.mat_words.specs.Steps.{repeat_at};
@@ -15,40 +17,42 @@ use mat_any::AnyMatroid;
 use mat_flow::Digraph;
 use mat_linked::{Gammoid, Transversal};
 use mat_sets::{ElemSet, SetList};
-use mat_words::{LineCursor, WordCursor, keyed_line, next_below, next_size};
+use mat_words::{LineCursor, Names, WordCursor, keyed_line, next_below, next_size};
 use std::alloc::Global;
 
 /// A line of this keyword and a set of numbers below `count`.
 #[tactic(auto, unfolding(crate::specs::Reading::set_line_at))]
 fn set_line<'a>(
     alloc: Global,
+    names: Option<&Names>,
     key: &[u8],
     count: u32,
     lines: LineCursor<'a>,
 ) -> Result<(ElemSet, LineCursor<'a>), DescRefusal>
-    ensures { Gives (λ x. (x.0, lines_left x.1)) result (set_line_at key.now count (lines_left lines.entry)) }
+    ensures { Gives (λ x. (x.0, lines_left x.1)) result (set_line_at (naming names.entry) key.now count (lines_left lines.entry)) }
 {
     let (words, rest) = keyed_line(lines, key)?;
     let mut taken = ElemSet::new(alloc);
-    let set = elements_line(alloc, words, count, &mut taken)?;
+    let set = elements_line(alloc, words, names, count, &mut taken)?;
     Ok((set, rest))
 }
 
 /// As many lines of this keyword and a set of numbers below `count`.
 fn set_lines<'a>(
     alloc: Global,
+    names: Option<&Names>,
     key: &[u8],
     count: u32,
     many: u32,
     lines: LineCursor<'a>,
 ) -> Result<(SetList, LineCursor<'a>), DescRefusal>
     ensures { Gives (λ x. (x.0, lines_left x.1)) result
-        (repeat_at (set_line_at key.now count) many (lines_left lines.entry)) }
+        (repeat_at (set_line_at (naming names.entry) key.now count) many (lines_left lines.entry)) }
 {
     let mut sets = Vec::new(alloc);
     let mut rest = lines;
     for _ in 0..many {
-        let (set, after) = set_line(alloc, key, count, rest)?;
+        let (set, after) = set_line(alloc, names, key, count, rest)?;
         sets.push(set)?;
         rest = after;
     }
@@ -98,16 +102,18 @@ fn targets_line<'a>(
 #[tactic(auto, using(crate::proofs::SetLineLaws::family_building), unfolding(crate::specs::Reading::transversal_at))]
 pub(crate) fn transversal<'a>(
     alloc: Global,
+    names: Option<&Names>,
     count: u32,
     words: WordCursor<'a>,
     lines: LineCursor<'a>,
 ) -> Result<(AnyMatroid, LineCursor<'a>), DescRefusal>
+    requires { IsNaming count (naming names) }
     ensures { Gives (λ x. (tree_of x.0, lines_left x.1)) result
-        (transversal_at count (words_left words.entry) (lines_left lines.entry)) }
+        (transversal_at (naming names.entry) count (words_left words.entry) (lines_left lines.entry)) }
 {
     let (many, words) = next_size(words, 0, MOST_SETS)?;
     ended(words)?;
-    let (family, rest) = set_lines(alloc, b"set", count, many, lines)?;
+    let (family, rest) = set_lines(alloc, names, b"set", count, many, lines)?;
     let matroid = Transversal::new(alloc, count, family)?;
     Ok((AnyMatroid::Transversal(matroid), rest))
 }
@@ -126,9 +132,9 @@ pub(crate) fn gammoid<'a>(
     let (vertices, words) = next_size(words, 1, MOST_VERTICES)?;
     let (many, words) = next_size(words, 0, MOST_ARCS)?;
     ended(words)?;
-    let (sources, rest) = set_line(alloc, b"sources", vertices, lines)?;
+    let (sources, rest) = set_line(alloc, None, b"sources", vertices, lines)?;
     let (targets, rest) = targets_line(alloc, vertices, count, rest)?;
-    let (arcs, rest) = ends_lines(alloc, b"arc", vertices, many, rest)?;
+    let (arcs, rest) = ends_lines(alloc, None, b"arc", vertices, many, rest)?;
     let graph = Digraph::new(alloc, vertices, arcs)?;
     let matroid = Gammoid::new(alloc, graph, sources, targets)?;
     Ok((AnyMatroid::Gammoid(matroid), rest))

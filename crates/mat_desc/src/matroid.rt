@@ -4,6 +4,8 @@ ghost use Rattle.std.specs.Prelude.{◌≡◌, ◌<◌, ◌^◌, [], length, map
 ghost use Rattle.mat_any.specs.Trees.{trees_from, union};
 ghost use Rattle.mat_any.specs.Views.{tree_of};
 ghost use Rattle.mat_desc.specs.Faults.{Gives};
+ghost use Rattle.mat_desc.specs.Labels.{IsNaming};
+ghost use Rattle.mat_desc.specs.Views.{naming};
 ghost use Rattle.mat_words.specs.Steps.{repeat_at};
 ghost use Rattle.mat_desc.specs.Reading.{class_at, classes_at, nested_set_at, nested_sets_at};
 ghost use Rattle.mat_desc.specs.Reading.{uniform_at, partition_at, laminar_at, graphic_at, gf2_at, dual_at, truncate_at, restrict_at, contract_at, union_at};
@@ -21,42 +23,44 @@ use mat_count::{Laminar, Partition, Uniform, crossing};
 use mat_gf2::Gf2;
 use mat_graphic::Graphic;
 use mat_sets::{ElemSet, SetList};
-use mat_words::{LineCursor, WordCursor, keyed_line, next_size, next_word, words_line};
+use mat_words::{LineCursor, Names, WordCursor, keyed_line, next_size, next_word, words_line};
 use std::alloc::Global;
 
 /// A class line of a partition of `count` elements: the cap, and the class, whose elements are put among the taken ones.
 #[tactic(auto, unfolding(crate::specs::Reading::class_at))]
 fn class_line<'a>(
     alloc: Global,
+    names: Option<&Names>,
     count: u32,
     taken: &mut ElemSet,
     lines: LineCursor<'a>,
 ) -> Result<(u32, ElemSet, LineCursor<'a>), DescRefusal>
     ensures { Gives (λ x. (x.0, x.1, taken.new, lines_left x.2)) result
-        (class_at count taken.old (lines_left lines.entry)) }
+        (class_at (naming names.entry) count taken.old (lines_left lines.entry)) }
 {
     let (words, rest) = keyed_line(lines, b"class")?;
     let (cap, words) = next_size(words, 0, MOST_ELEMENTS)?;
-    let class = elements_line(alloc, words, count, taken)?;
+    let class = elements_line(alloc, words, names, count, taken)?;
     Ok((cap, class, rest))
 }
 
 /// As many class lines: the classes and their caps.
 fn class_lines<'a>(
     alloc: Global,
+    names: Option<&Names>,
     count: u32,
     many: u32,
     lines: LineCursor<'a>,
 ) -> Result<(SetList, Vec<u32>, LineCursor<'a>), DescRefusal>
     ensures { Gives (λ x. (x.0, x.1.items, lines_left x.2)) result
-        (classes_at count many [] (lines_left lines.entry)) }
+        (classes_at (naming names.entry) count many [] (lines_left lines.entry)) }
 {
     let mut classes = Vec::new(alloc);
     let mut caps = Vec::new(alloc);
     let mut taken = ElemSet::new(alloc);
     let mut rest = lines;
     for _ in 0..many {
-        let (cap, class, after) = class_line(alloc, count, &mut taken, rest)?;
+        let (cap, class, after) = class_line(alloc, names, count, &mut taken, rest)?;
         classes.push(class)?;
         caps.push(cap)?;
         rest = after;
@@ -68,19 +72,20 @@ fn class_lines<'a>(
 #[tactic(auto, using(crate::proofs::NestedSets::searching), unfolding(crate::specs::Reading::nested_set_at))]
 fn nested_set_line<'a>(
     alloc: Global,
+    names: Option<&Names>,
     count: u32,
     earlier: &[ElemSet],
     lines: LineCursor<'a>,
 ) -> Result<(u32, ElemSet, LineCursor<'a>), DescRefusal>
     requires { length earlier.now < 2 ^ 32 }
     ensures { Gives (λ x. (x.0, x.1, lines_left x.2)) result
-        (nested_set_at count earlier.now (lines_left lines.entry)) }
+        (nested_set_at (naming names.entry) count earlier.now (lines_left lines.entry)) }
 {
     let line = lines.line;
     let (words, rest) = keyed_line(lines, b"set")?;
     let (cap, words) = next_size(words, 0, MOST_ELEMENTS)?;
     let mut taken = ElemSet::new(alloc);
-    let set = elements_line(alloc, words, count, &mut taken)?;
+    let set = elements_line(alloc, words, names, count, &mut taken)?;
     if crossing(earlier, &set).is_some() {
         return Err(fault(DescKind::Crossing, line));
     }
@@ -90,18 +95,19 @@ fn nested_set_line<'a>(
 /// As many set lines, no two of which cross: the sets and their caps.
 fn nested_set_lines<'a>(
     alloc: Global,
+    names: Option<&Names>,
     count: u32,
     many: u32,
     lines: LineCursor<'a>,
 ) -> Result<(SetList, Vec<u32>, LineCursor<'a>), DescRefusal>
     ensures { Gives (λ x. (x.0, x.1.items, lines_left x.2)) result
-        (nested_sets_at count many [] (lines_left lines.entry)) }
+        (nested_sets_at (naming names.entry) count many [] (lines_left lines.entry)) }
 {
     let mut sets = Vec::new(alloc);
     let mut caps = Vec::new(alloc);
     let mut rest = lines;
     for _ in 0..many {
-        let (cap, set, after) = nested_set_line(alloc, count, &sets, rest)?;
+        let (cap, set, after) = nested_set_line(alloc, names, count, &sets, rest)?;
         sets.push(set)?;
         caps.push(cap)?;
         rest = after;
@@ -128,16 +134,18 @@ fn uniform<'a>(
 #[tactic(auto, using(crate::proofs::ClassLaws::classes_sound), unfolding(crate::specs::Reading::partition_at))]
 fn partition<'a>(
     alloc: Global,
+    names: Option<&Names>,
     count: u32,
     words: WordCursor<'a>,
     lines: LineCursor<'a>,
 ) -> Result<(AnyMatroid, LineCursor<'a>), DescRefusal>
+    requires { IsNaming count (naming names) }
     ensures { Gives (λ x. (tree_of x.0, lines_left x.1)) result
-        (partition_at count (words_left words.entry) (lines_left lines.entry)) }
+        (partition_at (naming names.entry) count (words_left words.entry) (lines_left lines.entry)) }
 {
     let (many, words) = next_size(words, 0, MOST_SETS)?;
     ended(words)?;
-    let (classes, caps, rest) = class_lines(alloc, count, many, lines)?;
+    let (classes, caps, rest) = class_lines(alloc, names, count, many, lines)?;
     let matroid = Partition::new(alloc, count, classes, caps)?;
     Ok((AnyMatroid::Partition(matroid), rest))
 }
@@ -146,16 +154,18 @@ fn partition<'a>(
 #[tactic(auto, using(crate::proofs::NestedSetLaws::nested_building), unfolding(crate::specs::Reading::laminar_at))]
 fn laminar<'a>(
     alloc: Global,
+    names: Option<&Names>,
     count: u32,
     words: WordCursor<'a>,
     lines: LineCursor<'a>,
 ) -> Result<(AnyMatroid, LineCursor<'a>), DescRefusal>
+    requires { IsNaming count (naming names) }
     ensures { Gives (λ x. (tree_of x.0, lines_left x.1)) result
-        (laminar_at count (words_left words.entry) (lines_left lines.entry)) }
+        (laminar_at (naming names.entry) count (words_left words.entry) (lines_left lines.entry)) }
 {
     let (many, words) = next_size(words, 0, MOST_SETS)?;
     ended(words)?;
-    let (sets, caps, rest) = nested_set_lines(alloc, count, many, lines)?;
+    let (sets, caps, rest) = nested_set_lines(alloc, names, count, many, lines)?;
     let matroid = Laminar::from_family(alloc, count, sets, caps)?;
     Ok((AnyMatroid::Laminar(matroid), rest))
 }
@@ -173,7 +183,7 @@ fn graphic<'a>(
 {
     let (vertices, words) = next_size(words, 1, MOST_VERTICES)?;
     ended(words)?;
-    let (edges, rest) = ends_lines(alloc, b"edge", vertices, count, lines)?;
+    let (edges, rest) = ends_lines(alloc, None, b"edge", vertices, count, lines)?;
     let matroid = Graphic::new(alloc, vertices, edges)?;
     Ok((AnyMatroid::Graphic(matroid), rest))
 }
@@ -202,15 +212,17 @@ fn gf2<'a>(
 fn dual<'a>(
     alloc: Global,
     room: u32,
+    names: Option<&Names>,
     count: u32,
     words: WordCursor<'a>,
     lines: LineCursor<'a>,
 ) -> Result<(AnyMatroid, LineCursor<'a>), DescRefusal>
+    requires { IsNaming count (naming names) }
     ensures { Gives (λ x. (tree_of x.0, lines_left x.1)) result
-        (dual_at (matroid_within room count) (words_left words.entry) (lines_left lines.entry)) }
+        (dual_at (matroid_within room (naming names.entry) count) (words_left words.entry) (lines_left lines.entry)) }
 {
     ended(words)?;
-    let (inner, rest) = next_matroid_within(alloc, room, count, lines)?;
+    let (inner, rest) = next_matroid_within(alloc, room, names, count, lines)?;
     let inner = Box::new(alloc, inner)?;
     Ok((AnyMatroid::Dual(inner), rest))
 }
@@ -221,16 +233,18 @@ fn dual<'a>(
 fn truncation<'a>(
     alloc: Global,
     room: u32,
+    names: Option<&Names>,
     count: u32,
     words: WordCursor<'a>,
     lines: LineCursor<'a>,
 ) -> Result<(AnyMatroid, LineCursor<'a>), DescRefusal>
+    requires { IsNaming count (naming names) }
     ensures { Gives (λ x. (tree_of x.0, lines_left x.1)) result
-        (truncate_at (matroid_within room count) (words_left words.entry) (lines_left lines.entry)) }
+        (truncate_at (matroid_within room (naming names.entry) count) (words_left words.entry) (lines_left lines.entry)) }
 {
     let (cap, words) = next_size(words, 0, MOST_ELEMENTS)?;
     ended(words)?;
-    let (inner, rest) = next_matroid_within(alloc, room, count, lines)?;
+    let (inner, rest) = next_matroid_within(alloc, room, names, count, lines)?;
     let inner = Box::new(alloc, inner)?;
     Ok((AnyMatroid::Truncate { cap, inner }, rest))
 }
@@ -241,16 +255,18 @@ fn truncation<'a>(
 fn restriction<'a>(
     alloc: Global,
     room: u32,
+    names: Option<&Names>,
     count: u32,
     words: WordCursor<'a>,
     lines: LineCursor<'a>,
 ) -> Result<(AnyMatroid, LineCursor<'a>), DescRefusal>
+    requires { IsNaming count (naming names) }
     ensures { Gives (λ x. (tree_of x.0, lines_left x.1)) result
-        (restrict_at (matroid_within room count) count (words_left words.entry) (lines_left lines.entry)) }
+        (restrict_at (matroid_within room (naming names.entry) count) (naming names.entry) count (words_left words.entry) (lines_left lines.entry)) }
 {
     let mut taken = ElemSet::new(alloc);
-    let kept = elements_line(alloc, words, count, &mut taken)?;
-    let (inner, rest) = next_matroid_within(alloc, room, count, lines)?;
+    let kept = elements_line(alloc, words, names, count, &mut taken)?;
+    let (inner, rest) = next_matroid_within(alloc, room, names, count, lines)?;
     let inner = Box::new(alloc, inner)?;
     Ok((AnyMatroid::Restrict { kept, inner }, rest))
 }
@@ -261,16 +277,18 @@ fn restriction<'a>(
 fn contraction<'a>(
     alloc: Global,
     room: u32,
+    names: Option<&Names>,
     count: u32,
     words: WordCursor<'a>,
     lines: LineCursor<'a>,
 ) -> Result<(AnyMatroid, LineCursor<'a>), DescRefusal>
+    requires { IsNaming count (naming names) }
     ensures { Gives (λ x. (tree_of x.0, lines_left x.1)) result
-        (contract_at (matroid_within room count) count (words_left words.entry) (lines_left lines.entry)) }
+        (contract_at (matroid_within room (naming names.entry) count) (naming names.entry) count (words_left words.entry) (lines_left lines.entry)) }
 {
     let mut taken = ElemSet::new(alloc);
-    let away = elements_line(alloc, words, count, &mut taken)?;
-    let (inner, rest) = next_matroid_within(alloc, room, count, lines)?;
+    let away = elements_line(alloc, words, names, count, &mut taken)?;
+    let (inner, rest) = next_matroid_within(alloc, room, names, count, lines)?;
     let inner = Box::new(alloc, inner)?;
     Ok((AnyMatroid::Contract { away, inner }, rest))
 }
@@ -281,16 +299,18 @@ fn contraction<'a>(
 fn union_of<'a>(
     alloc: Global,
     room: u32,
+    names: Option<&Names>,
     count: u32,
     words: WordCursor<'a>,
     lines: LineCursor<'a>,
 ) -> Result<(AnyMatroid, LineCursor<'a>), DescRefusal>
+    requires { IsNaming count (naming names) }
     ensures { Gives (λ x. (tree_of x.0, lines_left x.1)) result
-        (union_at (matroid_within room count) (words_left words.entry) (lines_left lines.entry)) }
+        (union_at (matroid_within room (naming names.entry) count) (words_left words.entry) (lines_left lines.entry)) }
 {
     let (many, words) = next_size(words, 1, MOST_MATROIDS)?;
     ended(words)?;
-    let (parts, rest) = matroids_within(alloc, room, count, many, lines)?;
+    let (parts, rest) = matroids_within(alloc, room, names, count, many, lines)?;
     Ok((joined(parts), rest))
 }
 
@@ -306,17 +326,19 @@ fn joined(parts: Vec<AnyMatroid>) -> AnyMatroid
 fn matroids_within<'a>(
     alloc: Global,
     room: u32,
+    names: Option<&Names>,
     count: u32,
     many: u32,
     lines: LineCursor<'a>,
 ) -> Result<(Vec<AnyMatroid>, LineCursor<'a>), DescRefusal>
+    requires { IsNaming count (naming names) }
     ensures { Gives (λ x. (map tree_of x.0.items, lines_left x.1)) result
-        (repeat_at (matroid_within room count) many (lines_left lines.entry)) }
+        (repeat_at (matroid_within room (naming names.entry) count) many (lines_left lines.entry)) }
 {
     let mut matroids = Vec::new(alloc);
     let mut rest = lines;
     for _ in 0..many {
-        let (matroid, after) = next_matroid_within(alloc, room, count, rest)?;
+        let (matroid, after) = next_matroid_within(alloc, room, names, count, rest)?;
         matroids.push(matroid)?;
         rest = after;
     }
@@ -329,11 +351,13 @@ fn matroids_within<'a>(
 fn next_matroid_within<'a>(
     alloc: Global,
     room: u32,
+    names: Option<&Names>,
     count: u32,
     lines: LineCursor<'a>,
 ) -> Result<(AnyMatroid, LineCursor<'a>), DescRefusal>
+    requires { IsNaming count (naming names) }
     ensures { Gives (λ x. (tree_of x.0, lines_left x.1)) result
-        (matroid_within room count (lines_left lines.entry)) }
+        (matroid_within room (naming names.entry) count (lines_left lines.entry)) }
 {
     let line = lines.line;
     let (words, rest) = words_line(lines)?;
@@ -344,46 +368,50 @@ fn next_matroid_within<'a>(
     match keyword_from(word) {
         None => Err(fault(DescKind::UnknownWord, line)),
         Some(Keyword::Uniform) => uniform(count, words, rest),
-        Some(Keyword::Partition) => partition(alloc, count, words, rest),
-        Some(Keyword::Laminar) => laminar(alloc, count, words, rest),
+        Some(Keyword::Partition) => partition(alloc, names, count, words, rest),
+        Some(Keyword::Laminar) => laminar(alloc, names, count, words, rest),
         Some(Keyword::Graphic) => graphic(alloc, count, words, rest),
-        Some(Keyword::Transversal) => transversal(alloc, count, words, rest),
+        Some(Keyword::Transversal) => transversal(alloc, names, count, words, rest),
         Some(Keyword::Gammoid) => gammoid(alloc, count, words, rest),
         Some(Keyword::Gf2) => gf2(alloc, count, words, rest),
-        Some(Keyword::Dual) => dual(alloc, room - 1, count, words, rest),
-        Some(Keyword::Truncate) => truncation(alloc, room - 1, count, words, rest),
-        Some(Keyword::Restrict) => restriction(alloc, room - 1, count, words, rest),
-        Some(Keyword::Contract) => contraction(alloc, room - 1, count, words, rest),
-        Some(Keyword::Union) => union_of(alloc, room - 1, count, words, rest),
+        Some(Keyword::Dual) => dual(alloc, room - 1, names, count, words, rest),
+        Some(Keyword::Truncate) => truncation(alloc, room - 1, names, count, words, rest),
+        Some(Keyword::Restrict) => restriction(alloc, room - 1, names, count, words, rest),
+        Some(Keyword::Contract) => contraction(alloc, room - 1, names, count, words, rest),
+        Some(Keyword::Union) => union_of(alloc, room - 1, names, count, words, rest),
     }
 }
 
 /// The next matroid, on `count` elements.
 pub(crate) fn next_matroid<'a>(
     alloc: Global,
+    names: Option<&Names>,
     count: u32,
     lines: LineCursor<'a>,
 ) -> Result<(AnyMatroid, LineCursor<'a>), DescRefusal>
+    requires { IsNaming count (naming names) }
     ensures { Gives (λ x. (tree_of x.0, lines_left x.1)) result
-        (matroid_at count (lines_left lines.entry)) }
+        (matroid_at (naming names.entry) count (lines_left lines.entry)) }
 {
-    next_matroid_within(alloc, DEEPEST, count, lines)
+    next_matroid_within(alloc, DEEPEST, names, count, lines)
 }
 
 /// As many matroids, on `count` elements each.
 pub(crate) fn next_matroids<'a>(
     alloc: Global,
+    names: Option<&Names>,
     count: u32,
     many: u32,
     lines: LineCursor<'a>,
 ) -> Result<(Vec<AnyMatroid>, LineCursor<'a>), DescRefusal>
+    requires { IsNaming count (naming names) }
     ensures { Gives (λ x. (map tree_of x.0.items, lines_left x.1)) result
-        (repeat_at (matroid_at count) many (lines_left lines.entry)) }
+        (repeat_at (matroid_at (naming names.entry) count) many (lines_left lines.entry)) }
 {
     let mut matroids = Vec::new(alloc);
     let mut rest = lines;
     for _ in 0..many {
-        let (matroid, after) = next_matroid(alloc, count, rest)?;
+        let (matroid, after) = next_matroid(alloc, names, count, rest)?;
         matroids.push(matroid)?;
         rest = after;
     }

@@ -5,13 +5,14 @@ ghost use Rattle.mat_desc.specs.Faults.{Gives};
 ghost use Rattle.mat_desc.specs.Grammar.{IsValid, Spells};
 ghost use Rattle.mat_desc.specs.Instances.{Instance};
 ghost use Rattle.mat_desc.specs.Reading.{version_at, end_at, closed_at, pair_at, list_at, graph_at, rooted_at, coloured_at, table_at};
-ghost use Rattle.mat_desc.specs.Reading.{instance_at, description_at, read_of};
+ghost use Rattle.mat_desc.specs.Reading.{instance_at, description_at, labelled_of, read_of};
 ghost use Rattle.mat_desc.specs.Soundness.{IsSoundInstance};
 ghost use Rattle.mat_words.specs.Cursors.{lines_left, words_left};
-ghost use Rattle.mat_desc.specs.Views.{instance_of};
+ghost use Rattle.mat_desc.specs.Views.{instance_of, labelled};
 
 use crate::item_lines::{coloured_edge_lines, ends_lines, weighted_lines};
-use crate::keywords::{Form, form_from};
+use crate::keywords::{Form, Version, form_from, version_from};
+use crate::labels::{Labelling, header_root, read_labels, root_line};
 use crate::limits::{MOST_ELEMENTS, MOST_MATROIDS, MOST_SETS, MOST_VERTICES};
 use crate::matroid::{next_matroid, next_matroids};
 use crate::reading::{ended, weights_line};
@@ -19,7 +20,7 @@ use crate::refusal::{DescKind, DescRefusal, fault};
 use mat_any::AnyMatroid;
 use mat_sets::{PairWeights, Pairs};
 use mat_words::{
-    LineCursor, WordCursor, keyed_line, next_below, next_size, next_word, nothing_left, words_line,
+    LineCursor, WordCursor, keyed_line, next_size, next_word, nothing_left, words_line,
 };
 use std::alloc::Global;
 
@@ -88,17 +89,17 @@ pub enum Problem {
 
 /// The first line, which names the version.
 #[tactic(auto, unfolding(crate::specs::Reading::version_at))]
-fn version_line<'a>(lines: LineCursor<'a>) -> Result<LineCursor<'a>, DescRefusal>
-    ensures { Gives lines_left result (version_at (lines_left lines.entry)) }
+fn version_line<'a>(lines: LineCursor<'a>) -> Result<(Version, LineCursor<'a>), DescRefusal>
+    ensures { Gives (λ x. (x.0, lines_left x.1)) result (version_at (lines_left lines.entry)) }
 {
     let line = lines.line;
     let (words, rest) = keyed_line(lines, b"matroids")?;
     let (word, words) = next_word(words)?;
-    if word != b"1".as_slice() {
+    let Some(version) = version_from(word) else {
         return Err(fault(DescKind::Version, line));
-    }
+    };
     ended(words)?;
-    Ok(rest)
+    Ok((version, rest))
 }
 
 /// The last line.
@@ -127,99 +128,113 @@ fn closed(lines: LineCursor<'_>) -> Result<(), DescRefusal>
 #[tactic(auto, unfolding(crate::specs::Reading::pair_at))]
 fn pair<'a>(
     alloc: Global,
+    version: Version,
     words: WordCursor<'a>,
     lines: LineCursor<'a>,
-) -> Result<(Problem, LineCursor<'a>), DescRefusal>
-    ensures { Gives (λ x. (instance_of x.0, lines_left x.1)) result
-        (pair_at (words_left words.entry) (lines_left lines.entry)) }
+) -> Result<(Problem, Labelling, LineCursor<'a>), DescRefusal>
+    ensures { Gives (λ x. (labelled x.0 x.1, lines_left x.2)) result
+        (pair_at version (words_left words.entry) (lines_left lines.entry)) }
 {
     let (count, words) = next_size(words, 0, MOST_ELEMENTS)?;
     ended(words)?;
+    let (labels, lines) = read_labels(alloc, version, count, 0, lines)?;
     let (weights, lines) = weights_line(alloc, count, lines)?;
-    let (first, lines) = next_matroid(alloc, count, lines)?;
-    let (second, lines) = next_matroid(alloc, count, lines)?;
+    let (first, lines) = next_matroid(alloc, labels.element_names(), count, lines)?;
+    let (second, lines) = next_matroid(alloc, labels.element_names(), count, lines)?;
     let problem = Problem::Pair {
         weights,
         first,
         second,
     };
-    Ok((problem, lines))
+    Ok((problem, labels, lines))
 }
 
 /// A list of matroids, from the words behind the form's word on.
 #[tactic(auto, unfolding(crate::specs::Reading::list_at))]
 fn list<'a>(
     alloc: Global,
+    version: Version,
     words: WordCursor<'a>,
     lines: LineCursor<'a>,
-) -> Result<(Problem, LineCursor<'a>), DescRefusal>
-    ensures { Gives (λ x. (instance_of x.0, lines_left x.1)) result
-        (list_at (words_left words.entry) (lines_left lines.entry)) }
+) -> Result<(Problem, Labelling, LineCursor<'a>), DescRefusal>
+    ensures { Gives (λ x. (labelled x.0 x.1, lines_left x.2)) result
+        (list_at version (words_left words.entry) (lines_left lines.entry)) }
 {
     let (count, words) = next_size(words, 0, MOST_ELEMENTS)?;
     let (many, words) = next_size(words, 1, MOST_MATROIDS)?;
     ended(words)?;
+    let (labels, lines) = read_labels(alloc, version, count, 0, lines)?;
     let (weights, lines) = weights_line(alloc, count, lines)?;
-    let (matroids, lines) = next_matroids(alloc, count, many, lines)?;
-    Ok((Problem::List { weights, matroids }, lines))
+    let (matroids, lines) = next_matroids(alloc, labels.element_names(), count, many, lines)?;
+    Ok((Problem::List { weights, matroids }, labels, lines))
 }
 
 /// A graph, from the words behind the form's word on.
 #[tactic(auto, unfolding(crate::specs::Reading::graph_at))]
 fn graph<'a>(
     alloc: Global,
+    version: Version,
     words: WordCursor<'a>,
     lines: LineCursor<'a>,
-) -> Result<(Problem, LineCursor<'a>), DescRefusal>
-    ensures { Gives (λ x. (instance_of x.0, lines_left x.1)) result
-        (graph_at (words_left words.entry) (lines_left lines.entry)) }
+) -> Result<(Problem, Labelling, LineCursor<'a>), DescRefusal>
+    ensures { Gives (λ x. (labelled x.0 x.1, lines_left x.2)) result
+        (graph_at version (words_left words.entry) (lines_left lines.entry)) }
 {
     let (vertices, words) = next_size(words, 1, MOST_VERTICES)?;
     let (many, words) = next_size(words, 0, MOST_ELEMENTS)?;
     ended(words)?;
-    let (edges, lines) = ends_lines(alloc, b"edge", vertices, many, lines)?;
-    Ok((Problem::Graph { vertices, edges }, lines))
+    let (labels, lines) = read_labels(alloc, version, many, vertices, lines)?;
+    let names = labels.vertex_names();
+    let (edges, lines) = ends_lines(alloc, names, b"edge", vertices, many, lines)?;
+    Ok((Problem::Graph { vertices, edges }, labels, lines))
 }
 
 /// A directed graph with a root, from the words behind the form's word on.
 #[tactic(auto, using(crate::proofs::Columns::columns), unfolding(crate::specs::Reading::rooted_at))]
 fn rooted<'a>(
     alloc: Global,
+    version: Version,
     words: WordCursor<'a>,
     lines: LineCursor<'a>,
-) -> Result<(Problem, LineCursor<'a>), DescRefusal>
-    ensures { Gives (λ x. (instance_of x.0, lines_left x.1)) result
-        (rooted_at (words_left words.entry) (lines_left lines.entry)) }
+) -> Result<(Problem, Labelling, LineCursor<'a>), DescRefusal>
+    ensures { Gives (λ x. (labelled x.0 x.1, lines_left x.2)) result
+        (rooted_at version (words_left words.entry) (lines_left lines.entry)) }
 {
     let (vertices, words) = next_size(words, 1, MOST_VERTICES)?;
     let (many, words) = next_size(words, 0, MOST_ELEMENTS)?;
-    let (root, words) = next_below(words, vertices)?;
+    let (known, words) = header_root(version, vertices, words)?;
     ended(words)?;
-    let (items, lines) = weighted_lines(alloc, b"arc", vertices, vertices, many, lines)?;
+    let (labels, lines) = read_labels(alloc, version, many, vertices, lines)?;
+    let names = labels.vertex_names();
+    let (root, lines) = root_line(names, vertices, known, lines)?;
+    let (items, lines) = weighted_lines(alloc, names, b"arc", vertices, vertices, many, lines)?;
     let problem = Problem::Rooted {
         vertices,
         root,
         arcs: items.pairs,
         costs: items.weights,
     };
-    Ok((problem, lines))
+    Ok((problem, labels, lines))
 }
 
 /// A graph with coloured edges, from the words behind the form's word on.
 #[tactic(auto, using(crate::proofs::Columns::columns), unfolding(crate::specs::Reading::coloured_at))]
 fn coloured<'a>(
     alloc: Global,
+    version: Version,
     words: WordCursor<'a>,
     lines: LineCursor<'a>,
-) -> Result<(Problem, LineCursor<'a>), DescRefusal>
-    ensures { Gives (λ x. (instance_of x.0, lines_left x.1)) result
-        (coloured_at (words_left words.entry) (lines_left lines.entry)) }
+) -> Result<(Problem, Labelling, LineCursor<'a>), DescRefusal>
+    ensures { Gives (λ x. (labelled x.0 x.1, lines_left x.2)) result
+        (coloured_at version (words_left words.entry) (lines_left lines.entry)) }
 {
     let (vertices, words) = next_size(words, 1, MOST_VERTICES)?;
     let (many, words) = next_size(words, 0, MOST_ELEMENTS)?;
     let (colours, words) = next_size(words, 0, MOST_SETS)?;
     ended(words)?;
-    let (items, lines) = coloured_edge_lines(alloc, vertices, colours, many, lines)?;
+    let (labels, lines) = read_labels(alloc, version, many, vertices, lines)?;
+    let names = labels.vertex_names();
+    let (items, lines) = coloured_edge_lines(alloc, names, vertices, colours, many, lines)?;
     let problem = Problem::Coloured {
         vertices,
         colours,
@@ -227,65 +242,85 @@ fn coloured<'a>(
         colour_of: items.colour_of,
         weights: items.weights,
     };
-    Ok((problem, lines))
+    Ok((problem, labels, lines))
 }
 
 /// A table of cells, from the words behind the form's word on.
 #[tactic(auto, using(crate::proofs::Columns::columns), unfolding(crate::specs::Reading::table_at))]
 fn table<'a>(
     alloc: Global,
+    version: Version,
     words: WordCursor<'a>,
     lines: LineCursor<'a>,
-) -> Result<(Problem, LineCursor<'a>), DescRefusal>
-    ensures { Gives (λ x. (instance_of x.0, lines_left x.1)) result
-        (table_at (words_left words.entry) (lines_left lines.entry)) }
+) -> Result<(Problem, Labelling, LineCursor<'a>), DescRefusal>
+    ensures { Gives (λ x. (labelled x.0 x.1, lines_left x.2)) result
+        (table_at version (words_left words.entry) (lines_left lines.entry)) }
 {
     let (rows, words) = next_size(words, 0, MOST_SETS)?;
     let (columns, words) = next_size(words, 0, MOST_SETS)?;
     let (many, words) = next_size(words, 0, MOST_ELEMENTS)?;
     ended(words)?;
-    let (items, lines) = weighted_lines(alloc, b"cell", rows, columns, many, lines)?;
+    let (labels, lines) = read_labels(alloc, version, many, 0, lines)?;
+    let (items, lines) = weighted_lines(alloc, None, b"cell", rows, columns, many, lines)?;
     let problem = Problem::Table {
         rows,
         columns,
         cells: items.pairs,
         weights: items.weights,
     };
-    Ok((problem, lines))
+    Ok((problem, labels, lines))
 }
 
 /// A problem, from its form line on.
 #[tactic(auto, unfolding(crate::specs::Reading::instance_at))]
 fn problem_lines<'a>(
     alloc: Global,
+    version: Version,
     lines: LineCursor<'a>,
-) -> Result<(Problem, LineCursor<'a>), DescRefusal>
-    ensures { Gives (λ x. (instance_of x.0, lines_left x.1)) result
-        (instance_at (lines_left lines.entry)) }
+) -> Result<(Problem, Labelling, LineCursor<'a>), DescRefusal>
+    ensures { Gives (λ x. (labelled x.0 x.1, lines_left x.2)) result
+        (instance_at version (lines_left lines.entry)) }
 {
     let line = lines.line;
     let (words, rest) = words_line(lines)?;
     let (word, words) = next_word(words)?;
     match form_from(word) {
         None => Err(fault(DescKind::UnknownWord, line)),
-        Some(Form::Pair) => pair(alloc, words, rest),
-        Some(Form::List) => list(alloc, words, rest),
-        Some(Form::Graph) => graph(alloc, words, rest),
-        Some(Form::Rooted) => rooted(alloc, words, rest),
-        Some(Form::Coloured) => coloured(alloc, words, rest),
-        Some(Form::Table) => table(alloc, words, rest),
+        Some(Form::Pair) => pair(alloc, version, words, rest),
+        Some(Form::List) => list(alloc, version, words, rest),
+        Some(Form::Graph) => graph(alloc, version, words, rest),
+        Some(Form::Rooted) => rooted(alloc, version, words, rest),
+        Some(Form::Coloured) => coloured(alloc, version, words, rest),
+        Some(Form::Table) => table(alloc, version, words, rest),
     }
 }
 
 /// A whole description.
 #[tactic(auto, unfolding(crate::specs::Reading::description_at))]
-fn description(alloc: Global, lines: LineCursor<'_>) -> Result<Problem, DescRefusal>
-    ensures { Gives instance_of result (description_at (lines_left lines.entry)) }
+fn description(alloc: Global, lines: LineCursor<'_>) -> Result<(Problem, Labelling), DescRefusal>
+    ensures { Gives (λ x. labelled x.0 x.1) result (description_at (lines_left lines.entry)) }
 {
-    let lines = version_line(lines)?;
-    let (problem, lines) = problem_lines(alloc, lines)?;
+    let (version, lines) = version_line(lines)?;
+    let (problem, labels, lines) = problem_lines(alloc, version, lines)?;
     let lines = end_line(lines)?;
     closed(lines)?;
+    Ok((problem, labels))
+}
+
+/// The problem that a text of at most 4194304 bytes states, and what its elements and its vertices are called there.
+pub(crate) fn read_labelled(alloc: Global, text: &[u8]) -> Result<(Problem, Labelling), DescRefusal>
+    requires { length text.now ≤ 4194304 }
+    ensures { Gives (λ x. labelled x.0 x.1) result (labelled_of text.now) }
+{
+    description(alloc, LineCursor { line: 1, text })
+}
+
+/// The problem that a text of at most 4194304 bytes states, whatever its elements and its vertices are called.
+fn problem_alone(alloc: Global, text: &[u8]) -> Result<Problem, DescRefusal>
+    requires { length text.now ≤ 4194304 }
+    ensures { Gives instance_of result (read_of text.now) }
+{
+    let (problem, _) = read_labelled(alloc, text)?;
     Ok(problem)
 }
 
@@ -307,5 +342,5 @@ pub fn read_problem(alloc: Global, text: &[u8]) -> Result<Problem, DescRefusal>
     ensures valid { IfOk result (λ problem. IsValid (instance_of problem)) }
     ensures sound { IfOk result (λ problem. IsSoundInstance (instance_of problem)) }
 {
-    description(alloc, LineCursor { line: 1, text })
+    problem_alone(alloc, text)
 }

@@ -3,11 +3,13 @@
 ghost use Rattle.mat_words.specs.Cursors.{lines_left, words_left};
 ghost use Rattle.mat_desc.specs.Faults.{Gives};
 ghost use Rattle.mat_desc.specs.Reading.{ended_at, elements_at, weights_at};
+ghost use Rattle.mat_desc.specs.Views.{naming};
 
+use crate::labels::next_member;
 use crate::limits::{LARGEST_WEIGHT, SMALLEST_WEIGHT};
 use crate::refusal::{DescKind, DescRefusal, fault};
 use mat_sets::{ElemSet, PairWeights};
-use mat_words::{LineCursor, WordCursor, keyed_line, next_below, next_weights};
+use mat_words::{LineCursor, Names, WordCursor, keyed_line, next_weights};
 use std::alloc::Global;
 
 /// The end of a line.
@@ -40,15 +42,16 @@ pub(crate) fn weights_line<'a>(
 pub(crate) fn elements_line(
     alloc: Global,
     words: WordCursor<'_>,
+    names: Option<&Names>,
     count: u32,
     taken: &mut ElemSet,
 ) -> Result<ElemSet, DescRefusal>
-    ensures { Gives (λ set. (set, taken.new)) result (elements_at count taken.old (words_left words.entry)) }
+    ensures { Gives (λ set. (set, taken.new)) result (elements_at (naming names.entry) count taken.old (words_left words.entry)) }
 {
     let mut set = ElemSet::new(alloc);
     let mut rest = words;
     while rest.left.is_some() {
-        let (element, after) = next_below(rest, count)?;
+        let (element, after) = next_member(rest, names, count)?;
         if !taken.add(element)? {
             return Err(fault(DescKind::Repeated, rest.line));
         }

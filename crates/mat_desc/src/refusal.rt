@@ -14,7 +14,7 @@ use thiserror::Error;
 pub enum DescKind {
     /// The line isn't well spaced: a byte outside 32..126, or a space that doesn't stand alone between two words.
     BadByte,
-    /// The word after `matroids` isn't `1`.
+    /// The word after `matroids` is neither `1` nor `2`.
     Version,
     /// The first word isn't one of those that may stand here.
     UnknownWord,
@@ -28,7 +28,7 @@ pub enum DescKind {
     TooManyWords,
     /// A set of a laminar family crosses an earlier set of it.
     Crossing,
-    /// A member of a list stood in this list before, or in an earlier class of the same partition.
+    /// A member of a list, or a name where names are listed, stood in this list before, or in an earlier class of the same partition.
     Repeated,
     /// A matroid stands within too many others.
     TooDeep,
@@ -36,6 +36,10 @@ pub enum DescKind {
     TooManyLines,
     /// A line is needed, and no byte 10 is left.
     EndsEarly,
+    /// A word where a listed name is needed isn't one.
+    UnknownName,
+    /// A word where names are listed has more than 32 bytes.
+    NameSpelling,
 }
 
 impl DescKind {
@@ -56,6 +60,8 @@ impl DescKind {
             DescKind::TooDeep => 10,
             DescKind::TooManyLines => 11,
             DescKind::EndsEarly => 12,
+            DescKind::UnknownName => 13,
+            DescKind::NameSpelling => 14,
         }
     }
 
@@ -76,6 +82,8 @@ impl DescKind {
             DescKind::TooDeep => "TooDeep",
             DescKind::TooManyLines => "TooManyLines",
             DescKind::EndsEarly => "EndsEarly",
+            DescKind::UnknownName => "UnknownName",
+            DescKind::NameSpelling => "NameSpelling",
         }
     }
 }

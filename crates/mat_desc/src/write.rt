@@ -1,451 +1,272 @@
 //! The canonical text of a problem.
 
-ghost use Rattle.std.specs.Prelude.{◌≡◌, ◌++◌, ◌∷◌, [], codes, map, IfOk, OnOk};
-ghost use Rattle.std.specs.List.{zip, flat_map};
+ghost use Rattle.std.specs.Prelude.{◌≡◌, ◌++◌, ◌∷◌, ◌<◌, [], codes, length, IfOk, IfSome, OnOk};
 ghost use Rattle.mat_words.specs.Lines.{text_of};
-ghost use Rattle.mat_words.specs.Writing.{members_line};
-ghost use Rattle.mat_any.specs.Trees.{partition, laminar, graphic, transversal, gammoid, gf2};
+ghost use Rattle.mat_words.specs.NameLists.{names_of};
+ghost use Rattle.mat_words.specs.Writing.{weights_line};
 ghost use Rattle.mat_any.specs.Views.{tree_of};
-ghost use Rattle.mat_desc.specs.Grammar.{ends_line, column_line, weighted_line, coloured_edge_line};
-ghost use Rattle.mat_desc.specs.Instances.{pair, list, graph, rooted, coloured, table};
-ghost use Rattle.mat_desc.specs.Canonical.{capped_line, capped_lines, matroid_lines, form_lines, canonical_text};
-ghost use Rattle.mat_desc.specs.Views.{instance_of};
+ghost use Rattle.mat_desc.specs.Grammar.{rooted_header, version_line, vertex_name_lines, label_lines, root_lines, IsValid, IsValidTree};
+ghost use Rattle.mat_desc.specs.Labels.{names, element_naming, vertex_naming, AreLabels};
+ghost use Rattle.mat_desc.specs.Canonical.{matroid_lines, header, body_lines, canonical_lines, canonical_text, named_text, MayBeWritten};
+ghost use Rattle.mat_desc.specs.Views.{instance_of, naming, named_instance, written_labels};
 
-use crate::binary::put_binary;
+use crate::named::Named;
 use crate::problem::Problem;
-use mat_any::AnyMatroid;
-use mat_count::{Laminar, Partition};
-use mat_gf2::Gf2;
-use mat_graphic::Graphic;
-use mat_linked::{Gammoid, Transversal};
-use mat_sets::{ElemSet, Weight};
-use mat_words::{
-    put_members_line, put_number_word, put_numbers_line, put_weight_word, put_weights_line,
+use crate::write_lines::{
+    put_coloured_edge_lines, put_ends_lines, put_member_word, put_names_line, put_weighted_lines,
 };
+use crate::write_matroid::{put_matroid, put_matroids};
+use mat_any::AnyMatroid;
+use mat_sets::Weight;
+use mat_words::{Names, put_numbers_line, put_weights_line};
 use std::alloc::{AllocError, Global};
 
-/// Appends the line of this keyword with a set and its cap.
-fn put_capped_line(
+/// The names that a text is written with.
+#[derive(Clone, Copy)]
+pub(crate) struct Lists<'a> {
+    /// The name of each element.
+    elements: &'a Names,
+    /// The name of each vertex.
+    vertices: &'a Names,
+}
+
+/// The names of the elements, where they have names.
+fn element_names<'a>(lists: Option<Lists<'a>>) -> Option<&'a Names>
+    ensures { naming result ≡ element_naming (written_labels lists.entry) }
+{
+    match lists {
+        None => None,
+        Some(lists) => Some(lists.elements),
+    }
+}
+
+/// The names of the vertices, where they have names.
+fn vertex_names<'a>(lists: Option<Lists<'a>>) -> Option<&'a Names>
+    ensures { naming result ≡ vertex_naming (written_labels lists.entry) }
+{
+    match lists {
+        None => None,
+        Some(lists) => Some(lists.vertices),
+    }
+}
+
+/// Appends the line of the version: 1 where elements and vertices are numbers, 2 where they have names.
+fn put_version_line(out: &mut Vec<u8>, lists: Option<Lists<'_>>) -> Result<(), AllocError>
+    ensures { OnOk result (out.new.items ≡ out.old.items ++ text_of (version_line (written_labels lists.entry) ∷ [])) }
+{
+    match lists {
+        None => out.extend_from_slice(b"matroids 1\n"),
+        Some(_) => out.extend_from_slice(b"matroids 2\n"),
+    }
+}
+
+/// Appends the form line of a directed graph with a root, which stands in it where vertices have no names.
+fn put_rooted_header(
     out: &mut Vec<u8>,
-    keyword: &[u8],
-    set: &[u32],
-    cap: u32,
+    lists: Option<Lists<'_>>,
+    vertices: u32,
+    arcs: usize,
+    root: u32,
 ) -> Result<(), AllocError>
-    ensures { OnOk result (out.new.items ≡ out.old.items ++ text_of (capped_line keyword.now (set.now, cap) ∷ [])) }
+    ensures { OnOk result (out.new.items ≡ out.old.items ++ text_of (rooted_header (written_labels lists.entry) vertices arcs root ∷ [])) }
 {
-    out.extend_from_slice(keyword)?;
-    put_number_word(out, i128::from(cap))?;
-    for x in set {
-        put_number_word(out, i128::from(*x))?;
+    let (vertices, arcs) = (i128::from(vertices), arcs as i128);
+    match lists {
+        None => put_numbers_line(out, b"rooted", &[vertices, arcs, i128::from(root)]),
+        Some(_) => put_numbers_line(out, b"rooted", &[vertices, arcs]),
     }
-    out.push(b'\n')?;
-    Ok(())
 }
 
-/// Appends a line of this keyword for each set with its cap.
-fn put_capped_lines(
+/// Appends the line of the form of a problem.
+fn put_header(
     out: &mut Vec<u8>,
-    keyword: &[u8],
-    sets: &[ElemSet],
-    caps: &[u32],
+    lists: Option<Lists<'_>>,
+    problem: &Problem,
 ) -> Result<(), AllocError>
-    ensures { OnOk result (out.new.items ≡ out.old.items ++ text_of (capped_lines keyword.now sets.now caps.now)) }
-{
-    for i in 0..sets.len().min(caps.len()) {
-        put_capped_line(out, keyword, sets[i].as_slice(), caps[i])?;
-    }
-    Ok(())
-}
-
-/// Appends the lines of a partition matroid.
-fn put_partition(out: &mut Vec<u8>, matroid: &Partition) -> Result<(), AllocError>
     ensures { OnOk result (out.new.items ≡ out.old.items
-        ++ text_of (matroid_lines (partition matroid.now.count matroid.now.classes matroid.now.caps))) }
+        ++ text_of (header (written_labels lists.entry) (instance_of problem.now) ∷ [])) }
 {
-    let classes = matroid.classes().as_slice();
-    put_numbers_line(out, b"partition", &[classes.len() as i128])?;
-    put_capped_lines(out, b"class", classes, matroid.caps())?;
-    Ok(())
-}
-
-/// Appends the lines of a laminar matroid.
-fn put_laminar(out: &mut Vec<u8>, matroid: &Laminar) -> Result<(), AllocError>
-    ensures { OnOk result (out.new.items ≡ out.old.items
-        ++ text_of (matroid_lines (laminar matroid.now.count matroid.now.sets matroid.now.caps))) }
-{
-    let sets = matroid.sets().as_slice();
-    put_numbers_line(out, b"laminar", &[sets.len() as i128])?;
-    put_capped_lines(out, b"set", sets, matroid.caps())?;
-    Ok(())
-}
-
-/// Appends a line of this keyword for the two ends of each edge or arc.
-fn put_ends_lines(out: &mut Vec<u8>, keyword: &[u8], pairs: &[(u32, u32)]) -> Result<(), AllocError>
-    ensures { OnOk result (out.new.items ≡ out.old.items ++ text_of (map (ends_line keyword.now) pairs.now)) }
-{
-    for ends in pairs {
-        put_numbers_line(out, keyword, &[i128::from(ends.0), i128::from(ends.1)])?;
-    }
-    Ok(())
-}
-
-/// Appends the lines of a graphic matroid.
-fn put_graphic(out: &mut Vec<u8>, matroid: &Graphic) -> Result<(), AllocError>
-    ensures { OnOk result (out.new.items ≡ out.old.items
-        ++ text_of (matroid_lines (graphic matroid.now.vertices matroid.now.edges))) }
-{
-    put_numbers_line(out, b"graphic", &[i128::from(matroid.vertices())])?;
-    put_ends_lines(out, b"edge", matroid.edges().as_slice())?;
-    Ok(())
-}
-
-/// Appends a set line for each set of a family.
-fn put_family_lines(out: &mut Vec<u8>, family: &[ElemSet]) -> Result<(), AllocError>
-    ensures { OnOk result (out.new.items ≡ out.old.items ++ text_of (map (members_line (codes "set")) family.now)) }
-{
-    for set in family {
-        put_members_line(out, b"set", set.as_slice())?;
-    }
-    Ok(())
-}
-
-/// Appends the lines of a transversal matroid.
-fn put_transversal(out: &mut Vec<u8>, matroid: &Transversal) -> Result<(), AllocError>
-    ensures { OnOk result (out.new.items ≡ out.old.items
-        ++ text_of (matroid_lines (transversal matroid.now.count matroid.now.sets))) }
-{
-    let family = matroid.family().as_slice();
-    put_numbers_line(out, b"transversal", &[family.len() as i128])?;
-    put_family_lines(out, family)?;
-    Ok(())
-}
-
-/// Appends the lines of a gammoid.
-fn put_gammoid(out: &mut Vec<u8>, matroid: &Gammoid) -> Result<(), AllocError>
-    ensures { OnOk result (out.new.items ≡ out.old.items
-        ++ text_of (matroid_lines (gammoid matroid.now.vertices matroid.now.arcs matroid.now.sources matroid.now.targets))) }
-{
-    let graph = matroid.graph();
-    let arcs = graph.arcs().as_slice();
-    put_numbers_line(
-        out,
-        b"gammoid",
-        &[i128::from(graph.vertices()), arcs.len() as i128],
-    )?;
-    put_members_line(out, b"sources", matroid.sources().as_slice())?;
-    put_members_line(out, b"targets", matroid.targets())?;
-    put_ends_lines(out, b"arc", arcs)?;
-    Ok(())
-}
-
-/// Appends a column line.
-fn put_column_line(out: &mut Vec<u8>, dim: u32, column: u128) -> Result<(), AllocError>
-    ensures { OnOk result (out.new.items ≡ out.old.items ++ text_of (column_line dim column ∷ [])) }
-{
-    out.extend_from_slice(b"column ")?;
-    put_binary(out, dim, column)?;
-    out.push(b'\n')?;
-    Ok(())
-}
-
-/// Appends a line for each column.
-fn put_column_lines(out: &mut Vec<u8>, dim: u32, columns: &[u128]) -> Result<(), AllocError>
-    ensures { OnOk result (out.new.items ≡ out.old.items ++ text_of (map (column_line dim) columns.now)) }
-{
-    for column in columns {
-        put_column_line(out, dim, *column)?;
-    }
-    Ok(())
-}
-
-/// Appends the lines of a matroid of columns over the field of two elements.
-fn put_gf2(out: &mut Vec<u8>, matroid: &Gf2) -> Result<(), AllocError>
-    ensures { OnOk result (out.new.items ≡ out.old.items
-        ++ text_of (matroid_lines (gf2 matroid.now.dim matroid.now.columns))) }
-{
-    put_numbers_line(out, b"gf2", &[i128::from(matroid.dim())])?;
-    put_column_lines(out, matroid.dim(), matroid.columns())?;
-    Ok(())
-}
-
-/// Appends the lines of a matroid, and behind its line those of the matroids within it, if there are any.
-#[cycle(writing)]
-fn put_matroid(out: &mut Vec<u8>, matroid: &AnyMatroid) -> Result<(), AllocError>
-    ensures { OnOk result (out.new.items ≡ out.old.items ++ text_of (matroid_lines (tree_of matroid.now))) }
-{
-    match matroid {
-        AnyMatroid::Uniform(uniform) => put_numbers_line(
+    match problem {
+        Problem::Pair { weights, .. } => put_numbers_line(out, b"pair", &[weights.len() as i128]),
+        Problem::List { weights, matroids } => put_numbers_line(
             out,
-            b"uniform",
-            &[i128::from(uniform.cap())],
+            b"list",
+            &[weights.len() as i128, matroids.len() as i128],
         ),
-        AnyMatroid::Partition(partition) => put_partition(out, partition),
-        AnyMatroid::Laminar(laminar) => put_laminar(out, laminar),
-        AnyMatroid::Graphic(graphic) => put_graphic(out, graphic),
-        AnyMatroid::Transversal(transversal) => put_transversal(out, transversal),
-        AnyMatroid::Gammoid(gammoid) => put_gammoid(out, gammoid),
-        AnyMatroid::Gf2(gf2) => put_gf2(out, gf2),
-        AnyMatroid::Dual(inner) => {
-            put_numbers_line(out, b"dual", &[])?;
-            put_matroid(out, inner)
+        Problem::Graph { vertices, edges } => {
+            put_numbers_line(out, b"graph", &[i128::from(*vertices), edges.len() as i128])
         }
-        AnyMatroid::Truncate { cap, inner } => {
-            put_numbers_line(out, b"truncate", &[i128::from(*cap)])?;
-            put_matroid(out, inner)
-        }
-        AnyMatroid::Restrict { kept, inner } => {
-            put_members_line(out, b"restrict", kept.as_slice())?;
-            put_matroid(out, inner)
-        }
-        AnyMatroid::Contract { away, inner } => {
-            put_members_line(out, b"contract", away.as_slice())?;
-            put_matroid(out, inner)
-        }
-        AnyMatroid::Union { parts } => {
-            put_numbers_line(out, b"union", &[parts.len() as i128])?;
-            put_matroids(out, parts)?;
-            Ok(())
-        }
+        Problem::Rooted {
+            vertices,
+            root,
+            arcs,
+            ..
+        } => put_rooted_header(out, lists, *vertices, arcs.len(), *root),
+        Problem::Coloured {
+            vertices,
+            colours,
+            edges,
+            ..
+        } => put_numbers_line(
+            out,
+            b"coloured",
+            &[
+                i128::from(*vertices),
+                edges.len() as i128,
+                i128::from(*colours),
+            ],
+        ),
+        Problem::Table {
+            rows,
+            columns,
+            cells,
+            ..
+        } => put_numbers_line(
+            out,
+            b"table",
+            &[i128::from(*rows), i128::from(*columns), cells.len() as i128],
+        ),
     }
 }
 
-/// Appends the lines of each matroid.
-#[cycle(writing)]
-fn put_matroids(out: &mut Vec<u8>, matroids: &[AnyMatroid]) -> Result<(), AllocError>
-    ensures { OnOk result (out.new.items ≡ out.old.items ++ text_of (flat_map matroid_lines (map tree_of matroids.now))) }
+/// Appends the line of the names of vertices, if there are any.
+fn put_vertex_names(out: &mut Vec<u8>, vertices: &Names) -> Result<(), AllocError>
+    ensures { OnOk result (out.new.items ≡ out.old.items ++ text_of (vertex_name_lines (names_of vertices.now))) }
 {
-    for matroid in matroids {
-        put_matroid(out, matroid)?;
+    if vertices.len() == 0 {
+        return Ok(());
     }
-    Ok(())
+    put_names_line(out, b"vertices", vertices)
 }
 
-/// Appends a line of this keyword with two numbers and a weight.
-fn put_weighted_line(
-    out: &mut Vec<u8>,
-    keyword: &[u8],
-    pair: (u32, u32),
-    weight: Weight,
-) -> Result<(), AllocError>
-    ensures { OnOk result (out.new.items ≡ out.old.items ++ text_of (weighted_line keyword.now (pair, weight) ∷ [])) }
+/// Appends the lines that list names.
+fn put_label_lines(out: &mut Vec<u8>, lists: Option<Lists<'_>>) -> Result<(), AllocError>
+    ensures { OnOk result (out.new.items ≡ out.old.items ++ text_of (label_lines (written_labels lists.entry))) }
 {
-    out.extend_from_slice(keyword)?;
-    put_number_word(out, i128::from(pair.0))?;
-    put_number_word(out, i128::from(pair.1))?;
-    put_weight_word(out, weight)?;
+    let Some(lists) = lists else {
+        return Ok(());
+    };
+    put_names_line(out, b"elements", lists.elements)?;
+    put_vertex_names(out, lists.vertices)
+}
+
+/// Appends the line of the root, where vertices have names.
+fn put_root_line(out: &mut Vec<u8>, lists: Option<Lists<'_>>, root: u32) -> Result<(), AllocError>
+    requires { IfSome (vertex_naming (written_labels lists)) (λ listed. root < length listed) }
+    ensures { OnOk result (out.new.items ≡ out.old.items ++ text_of (root_lines (written_labels lists.entry) root)) }
+{
+    let Some(lists) = lists else {
+        return Ok(());
+    };
+    out.extend_from_slice(b"root")?;
+    put_member_word(out, Some(lists.vertices), root)?;
     out.push(b'\n')?;
-    Ok(())
-}
-
-/// Appends a line of this keyword for each pair of numbers with its weight.
-fn put_weighted_lines(
-    out: &mut Vec<u8>,
-    keyword: &[u8],
-    pairs: &[(u32, u32)],
-    weights: &[Weight],
-) -> Result<(), AllocError>
-    ensures { OnOk result (out.new.items ≡ out.old.items
-        ++ text_of (map (weighted_line keyword.now) (zip pairs.now weights.now))) }
-{
-    for i in 0..pairs.len().min(weights.len()) {
-        put_weighted_line(out, keyword, pairs[i], weights[i])?;
-    }
-    Ok(())
-}
-
-/// Appends the line of an edge with its colour and its weight.
-fn put_coloured_edge_line(
-    out: &mut Vec<u8>,
-    edge: (u32, u32),
-    colour: u32,
-    weight: Weight,
-) -> Result<(), AllocError>
-    ensures { OnOk result (out.new.items ≡ out.old.items ++ text_of (coloured_edge_line (edge, (colour, weight)) ∷ [])) }
-{
-    out.extend_from_slice(b"edge")?;
-    put_number_word(out, i128::from(edge.0))?;
-    put_number_word(out, i128::from(edge.1))?;
-    put_number_word(out, i128::from(colour))?;
-    put_weight_word(out, weight)?;
-    out.push(b'\n')?;
-    Ok(())
-}
-
-/// Appends a line for each edge with its colour and its weight.
-fn put_coloured_edge_lines(
-    out: &mut Vec<u8>,
-    edges: &[(u32, u32)],
-    colour_of: &[u32],
-    weights: &[Weight],
-) -> Result<(), AllocError>
-    ensures { OnOk result (out.new.items ≡ out.old.items
-        ++ text_of (map coloured_edge_line (zip edges.now (zip colour_of.now weights.now)))) }
-{
-    for i in 0..edges.len().min(colour_of.len().min(weights.len())) {
-        put_coloured_edge_line(out, edges[i], colour_of[i], weights[i])?;
-    }
     Ok(())
 }
 
 /// Appends the lines of two weighted matroids.
 fn put_pair(
     out: &mut Vec<u8>,
+    names: Option<&Names>,
     weights: &[Weight],
     first: &AnyMatroid,
     second: &AnyMatroid,
 ) -> Result<(), AllocError>
-    ensures { OnOk result (out.new.items ≡ out.old.items
-        ++ text_of (form_lines (pair weights.now (tree_of first.now) (tree_of second.now)))) }
+    requires first { IfSome (naming names) (λ listed. IsValidTree (length listed) (tree_of first.now)) }
+    requires second { IfSome (naming names) (λ listed. IsValidTree (length listed) (tree_of second.now)) }
+    ensures { OnOk result (out.new.items ≡ out.old.items ++ text_of (weights_line (codes "weights") weights.now
+        ∷ (matroid_lines (naming names.entry) (tree_of first.now) ++ matroid_lines (naming names.entry) (tree_of second.now)))) }
 {
-    put_numbers_line(out, b"pair", &[weights.len() as i128])?;
     put_weights_line(out, b"weights", weights)?;
-    put_matroid(out, first)?;
-    put_matroid(out, second)?;
+    put_matroid(out, names, first)?;
+    put_matroid(out, names, second)?;
     Ok(())
 }
 
-/// Appends the lines of a list of weighted matroids.
-fn put_list(
+/// Appends the lines behind those of a form and of its names.
+fn put_body(
     out: &mut Vec<u8>,
-    weights: &[Weight],
-    matroids: &[AnyMatroid],
+    lists: Option<Lists<'_>>,
+    problem: &Problem,
 ) -> Result<(), AllocError>
-    ensures { OnOk result (out.new.items ≡ out.old.items
-        ++ text_of (form_lines (list weights.now (map tree_of matroids.now)))) }
+    requires { MayBeWritten (written_labels lists) (instance_of problem.now) }
+    ensures { OnOk result (out.new.items ≡ out.old.items ++ text_of (body_lines (written_labels lists.entry) (instance_of problem.now))) }
 {
-    put_numbers_line(
-        out,
-        b"list",
-        &[weights.len() as i128, matroids.len() as i128],
-    )?;
-    put_weights_line(out, b"weights", weights)?;
-    put_matroids(out, matroids)?;
-    Ok(())
-}
-
-/// Appends the lines of a graph.
-fn put_graph(out: &mut Vec<u8>, vertices: u32, edges: &[(u32, u32)]) -> Result<(), AllocError>
-    ensures { OnOk result (out.new.items ≡ out.old.items ++ text_of (form_lines (graph vertices edges.now))) }
-{
-    put_numbers_line(out, b"graph", &[i128::from(vertices), edges.len() as i128])?;
-    put_ends_lines(out, b"edge", edges)?;
-    Ok(())
-}
-
-/// Appends the lines of a directed graph with a root.
-fn put_rooted(
-    out: &mut Vec<u8>,
-    vertices: u32,
-    root: u32,
-    arcs: &[(u32, u32)],
-    costs: &[Weight],
-) -> Result<(), AllocError>
-    ensures { OnOk result (out.new.items ≡ out.old.items
-        ++ text_of (form_lines (rooted vertices root arcs.now costs.now))) }
-{
-    put_numbers_line(
-        out,
-        b"rooted",
-        &[i128::from(vertices), arcs.len() as i128, i128::from(root)],
-    )?;
-    put_weighted_lines(out, b"arc", arcs, costs)?;
-    Ok(())
-}
-
-/// Appends the lines of a graph with coloured edges.
-fn put_coloured(
-    out: &mut Vec<u8>,
-    vertices: u32,
-    colours: u32,
-    edges: &[(u32, u32)],
-    colour_of: &[u32],
-    weights: &[Weight],
-) -> Result<(), AllocError>
-    ensures { OnOk result (out.new.items ≡ out.old.items
-        ++ text_of (form_lines (coloured vertices colours edges.now colour_of.now weights.now))) }
-{
-    put_numbers_line(
-        out,
-        b"coloured",
-        &[
-            i128::from(vertices),
-            edges.len() as i128,
-            i128::from(colours),
-        ],
-    )?;
-    put_coloured_edge_lines(out, edges, colour_of, weights)?;
-    Ok(())
-}
-
-/// Appends the lines of a table.
-fn put_table(
-    out: &mut Vec<u8>,
-    rows: u32,
-    columns: u32,
-    cells: &[(u32, u32)],
-    weights: &[Weight],
-) -> Result<(), AllocError>
-    ensures { OnOk result (out.new.items ≡ out.old.items
-        ++ text_of (form_lines (table rows columns cells.now weights.now))) }
-{
-    put_numbers_line(
-        out,
-        b"table",
-        &[i128::from(rows), i128::from(columns), cells.len() as i128],
-    )?;
-    put_weighted_lines(out, b"cell", cells, weights)?;
-    Ok(())
-}
-
-/// Appends the form line and the lines that follow it.
-fn put_form(out: &mut Vec<u8>, problem: &Problem) -> Result<(), AllocError>
-    ensures { OnOk result (out.new.items ≡ out.old.items ++ text_of (form_lines (instance_of problem.now))) }
-{
+    let elements = element_names(lists);
+    let vertices = vertex_names(lists);
     match problem {
         Problem::Pair {
             weights,
             first,
             second,
-        } => put_pair(out, weights.as_slice(), first, second),
-        Problem::List { weights, matroids } => put_list(out, weights.as_slice(), matroids),
-        Problem::Graph { vertices, edges } => put_graph(out, *vertices, edges.as_slice()),
+        } => put_pair(out, elements, weights.as_slice(), first, second),
+        Problem::List { weights, matroids } => {
+            put_weights_line(out, b"weights", weights.as_slice())?;
+            put_matroids(out, elements, matroids)
+        }
+        Problem::Graph { edges, .. } => put_ends_lines(out, vertices, b"edge", edges.as_slice()),
         Problem::Rooted {
-            vertices,
             root,
             arcs,
             costs,
-        } => put_rooted(out, *vertices, *root, arcs.as_slice(), costs.as_slice()),
+            ..
+        } => {
+            put_root_line(out, lists, *root)?;
+            put_weighted_lines(out, vertices, b"arc", arcs.as_slice(), costs.as_slice())
+        }
         Problem::Coloured {
-            vertices,
-            colours,
             edges,
             colour_of,
             weights,
-        } => put_coloured(
+            ..
+        } => put_coloured_edge_lines(
             out,
-            *vertices,
-            *colours,
+            vertices,
             edges.as_slice(),
             colour_of,
             weights.as_slice(),
         ),
-        Problem::Table {
-            rows,
-            columns,
-            cells,
-            weights,
-        } => put_table(out, *rows, *columns, cells.as_slice(), weights.as_slice()),
+        Problem::Table { cells, weights, .. } => {
+            put_weighted_lines(out, None, b"cell", cells.as_slice(), weights.as_slice())
+        }
     }
+}
+
+/// The canonical text of a problem, with these names or with none.
+fn text(alloc: Global, lists: Option<Lists<'_>>, problem: &Problem) -> Result<Vec<u8>, AllocError>
+    requires { MayBeWritten (written_labels lists) (instance_of problem.now) }
+    ensures { IfOk result (λ v. v.items ≡ text_of (canonical_lines (written_labels lists.entry) (instance_of problem.now))) }
+{
+    let mut out = Vec::new(alloc);
+    put_version_line(&mut out, lists)?;
+    put_header(&mut out, lists, problem)?;
+    put_label_lines(&mut out, lists)?;
+    put_body(&mut out, lists, problem)?;
+    out.extend_from_slice(b"end\n")?;
+    Ok(out)
 }
 
 /// The canonical text of a problem: the elements of each set in rising order, and everything else in its own order. It takes memory for
 /// the text alone, and an error is want of it.
+#[tactic(auto, unfolding(crate::specs::Canonical::canonical_text))]
 pub fn write_problem(alloc: Global, problem: &Problem) -> Result<Vec<u8>, AllocError>
     ensures { IfOk result (λ v. v.items ≡ canonical_text (instance_of problem.now)) }
 {
-    let mut out = Vec::new(alloc);
-    out.extend_from_slice(b"matroids 1\n")?;
-    put_form(&mut out, problem)?;
-    out.extend_from_slice(b"end\n")?;
-    Ok(out)
+    text(alloc, None, problem)
+}
+
+/// The canonical text of a problem in version 2, which has names for elements and vertices: the elements of each set in rising order of
+/// their numbers, and everything else in its own order. The problem has to be in range and to have a name for each element and each
+/// vertex. It takes memory for the text alone, and an error is want of it.
+#[tactic(auto, unfolding(crate::specs::Canonical::named_text))]
+pub fn write_named(alloc: Global, named: &Named) -> Result<Vec<u8>, AllocError>
+    requires valid { IsValid (instance_of named.now.problem) }
+    requires labelled { AreLabels (instance_of named.now.problem) (names (names_of named.now.elements) (names_of named.now.vertices)) }
+    ensures { IfOk result (λ v. v.items ≡ named_text (named_instance named.now)) }
+{
+    let lists = Lists {
+        elements: &named.elements,
+        vertices: &named.vertices,
+    };
+    text(alloc, Some(lists), &named.problem)
 }

@@ -8,6 +8,7 @@ pub(crate) const HELP: &str = "\
 matbench: weighted optimisation over matroids, with answers that are proved best
 
 usage: matbench show FILE                          the canonical text of a description
+       matbench convert FILE                       the same with names for its elements and its vertices
        matbench best [--workers N] FILE            a heaviest set of each size that is independent in one matroid
        matbench intersect [--workers N] FILE       a heaviest set of each size that is independent in both matroids
        matbench union [--workers N] FILE           disjoint sets, one for each matroid of a list and independent in
@@ -31,7 +32,7 @@ usage: matbench show FILE                          the canonical text of a descr
 FILE is the name of a description, CERT that of a certificate, LIST that of a list, and - is standard input. What a command gives is
 written to standard output. N is from 1 to 16: so many workers compute the answer side by side, where there is
 enough to do; without the option there is one. Right behind a command --workers is always the option, and names no
-file; show and cuts take none. K is from 1 to 64. KIND is pair, list, graph, rooted or table, SIZE from 1 to 500, and
+file; show, convert and cuts take none. K is from 1 to 64. KIND is pair, list, graph, rooted or table, SIZE from 1 to 500, and
 SEED from 1 to 2147483646. A list is jobs 1, then up to 32 lines job with the words of a command that answers about a
 file (best to assign), without its option, then end.
 
@@ -55,6 +56,11 @@ them; gammoid V A, then sources S S .., targets T T .. and A lines arc T H, whos
 sources at once by routes that do not meet.
 Matroids of the matroid that follows: dual; truncate CAP; restrict E E ..; contract E E ..; of M that follow: union M;
 at most 16 deep.
+Elements and vertices may have names, words of at most 32 bytes: the first line is then matroids 2, and behind the
+form line come elements NAME NAME .., and in graph, rooted and coloured vertices NAME NAME ..; rooted V E has its root
+in a line root NAME behind these. Names then stand in the lists of elements (class, set, restrict, contract), for the
+ends of the form's edges and arcs, and for the root; all else stays a number, in certificates too. convert gives the
+names e0, e1 .. and v0, v1 .. where there are none.
 
 A certificate is a text of such lines, the answer of a command; docs/FORMATS.md has those of each. That of best or
 intersect has a rung for each size from 0 on.

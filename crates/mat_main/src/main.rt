@@ -87,6 +87,7 @@ mod tests {
         let help = text_for(rt.alloc(), &["--help"])?.unwrap_or("");
         let parts = [
             "matbench show FILE",
+            "matbench convert FILE",
             "matbench best [--workers N] FILE",
             "matbench intersect [--workers N] FILE",
             "matbench union [--workers N] FILE",

@@ -5,7 +5,7 @@ use Rattle.mat_top.specs.declared.status.Status.{Status}
 use Rattle.mat_top.specs.declared.status.Status.TheVariants as statuses
 use Rattle.mat_top.specs.declared.status.Refusal.{Refusal}
 use Rattle.mat_top.specs.declared.status.Refusal.TheVariants as refusals
-use Rattle.mat_top.specs.CommandLines.{Task, about, sample, batch}
+use Rattle.mat_top.specs.CommandLines.{Task, about, sample, batch, convert}
 use Rattle.mat_top.specs.Statuses.{status_of, note_of}
 use Rattle.mat_top.specs.Outcomes.{IsWritten, IsNote, IsTrueOf}
 use Rattle.mat_top.specs.Refusals.{IsRefusal, IsEnded}
@@ -48,6 +48,7 @@ tells_nothing : (held : List ℕ → Option (List ℕ)) (task : Task) → IsTrue
 tells_nothing held (about file request) = (tt, tt, tt)
 tells_nothing held (sample kind size seed) = (tt, tt, tt)
 tells_nothing held (batch list) = (tt, tt, tt)
+tells_nothing held (convert file) = (tt, tt, tt)
 
 module _ (held : List ℕ → Option (List ℕ)) (task : Task) (before now : List ℕ → ℕ) (old : Option (List ℕ)) (out_before : ℕ)
     (new : Option (List ℕ)) (out_now : ℕ) where
@@ -104,3 +105,4 @@ usage_noted held None = (refusals.Usage, refl, refl, tt)
 usage_noted held (Some (about file request)) = (refusals.Usage, refl, refl, tt)
 usage_noted held (Some (sample kind size seed)) = (refusals.Usage, refl, refl, tt)
 usage_noted held (Some (batch list)) = (refusals.Usage, refl, refl, tt)
+usage_noted held (Some (convert file)) = (refusals.Usage, refl, refl, tt)

@@ -12,6 +12,7 @@ pub mod Describing
 pub mod Refusing
 pub mod Judging
 pub mod Ending
+pub mod Converting
 pub mod Pieces
 pub mod PrintedSolutions
 pub mod Accepted

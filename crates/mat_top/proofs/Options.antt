@@ -7,7 +7,7 @@ use Rattle.mat_words.specs.Numbers.{numeral}
 use Rattle.mat_words.proofs.NumberLemmas.{number_again}
 use Rattle.mat_gen.specs.declared.kind.SampleKind.{SampleKind}
 use Rattle.mat_top.specs.declared.query.Query.{Query}
-use Rattle.mat_top.specs.CommandLines.{Task, about, sample, batch, solve, check, by_workers, ◌>>=◌, query_for, query_of_trees, kind_in}
+use Rattle.mat_top.specs.CommandLines.{Task, about, sample, batch, convert, solve, check, by_workers, ◌>>=◌, query_for, query_of_trees, kind_in}
 use Rattle.mat_top.specs.CommandLines.{number_up_to, request_for, with_number, sample_for, task_for}
 use Rattle.mat_top.specs.CommandLines.{takes_workers, begins_with_option, command_line, asked_by}
 
@@ -15,7 +15,7 @@ use Rattle.mat_top.specs.CommandLines.{takes_workers, begins_with_option, comman
 workers_again : (n : ℕ) → 1 ≤ n → n ≤ 16 → number_up_to 16 (numeral (pos n)) ≡ Some n
 workers_again n least most = rw (number_again (pos 1) (pos 16) (pos n) (omega (arith, ints)) (omega (arith, ints))) refl
 
--- ---- every command but `show` and `cuts` takes the option
+-- ---- every command but `show`, `cuts` and `convert` takes the option
 
 if_takes : (test : Bool) (task : Task) (rest : Option Task) → takes_workers task ≡ true → IfSome rest (λ t. takes_workers t ≡ true)
     → IfSome (if test then Some task else rest) (λ t. takes_workers t ≡ true)
@@ -49,19 +49,20 @@ named_takes true rest h = h
 named_takes false rest h = tt
 
 all_take : (command : List ℕ) (arguments : List (List ℕ)) → bytes_eq command (codes "show") ≡ false
-    → bytes_eq command (codes "cuts") ≡ false
+    → bytes_eq command (codes "cuts") ≡ false → bytes_eq command (codes "convert") ≡ false
     → IfSome (task_for command arguments) (λ task. takes_workers task ≡ true)
-all_take command [] other apart = tt
-all_take command (file ∷ []) other apart =
-    if_takes (bytes_eq command (codes "batch")) (batch file) (option_map (about file) (request_for command)) refl
-    (rw (other, apart) (solving_takes file (query_for command)))
-all_take command (first ∷ second ∷ []) other apart =
+all_take command [] other apart same = tt
+all_take command (file ∷ []) other apart same =
+    if_takes (bytes_eq command (codes "batch")) (batch file)
+    (if bytes_eq command (codes "convert") then Some (convert file) else option_map (about file) (request_for command)) refl
+    (rw (other, apart, same) (solving_takes file (query_for command)))
+all_take command (first ∷ second ∷ []) other apart same =
     if_takes (bytes_eq command (codes "check")) (about first (check second)) (with_number command first second) refl
     (number_takes second (number_up_to 64 first) (query_of_trees command))
-all_take command (first ∷ second ∷ third ∷ []) other apart =
+all_take command (first ∷ second ∷ third ∷ []) other apart same =
     named_takes (bytes_eq command (codes "sample")) (sample_for first second third)
     (sample_takes (kind_in first) (number_up_to most_elements second) (number_up_to 2147483646 third))
-all_take command (first ∷ second ∷ third ∷ fourth ∷ more) other apart = tt
+all_take command (first ∷ second ∷ third ∷ fourth ∷ more) other apart same = tt
 
 with_workers : (n : ℕ) (o : Option Task) → IfSome o (λ task. takes_workers task ≡ true)
     → (o >>= λ task. if takes_workers task then Some (by_workers n task) else None)
@@ -70,9 +71,10 @@ with_workers n None take = refl
 with_workers n (Some task) take = rw take refl
 
 pub same_task : (command : List ℕ) (arguments : List (List ℕ)) (n : ℕ) → 1 ≤ n → n ≤ 16
-    → bytes_eq command (codes "show") ≡ false → bytes_eq command (codes "cuts") ≡ false → begins_with_option arguments ≡ false
+    → bytes_eq command (codes "show") ≡ false → bytes_eq command (codes "cuts") ≡ false
+    → bytes_eq command (codes "convert") ≡ false → begins_with_option arguments ≡ false
     → command_line (command ∷ codes "--workers" ∷ numeral (pos n) ∷ arguments)
     ≡ option_map (by_workers n) (asked_by (command ∷ arguments))
 unfolding command_line
-same_task command arguments n least most other apart plain =
-    rw (workers_again n least most, plain) (with_workers n (task_for command arguments) (all_take command arguments other apart))
+same_task command arguments n least most other apart same plain =
+    rw (workers_again n least most, plain) (with_workers n (task_for command arguments) (all_take command arguments other apart same))

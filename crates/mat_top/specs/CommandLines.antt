@@ -28,6 +28,8 @@ pub data Task : Type 0 where
   sample : SampleKind → ℕ → ℕ → Task
   -- the answers to the jobs in the file of this name
   batch : List ℕ → Task
+  -- the description in the file of this name, with names for its elements and its vertices
+  convert : List ℕ → Task
 
 -- a command line: what it asks for, and how many workers compute it
 pub record CommandLine : Type 0 where
@@ -85,7 +87,8 @@ request_for command =
 -- a command and its one file
 abbrev pub with_file : List ℕ → List ℕ → Option Task
 with_file command file =
-    if bytes_eq command (codes "batch") then Some (batch file) else option_map (about file) (request_for command)
+    if bytes_eq command (codes "batch") then Some (batch file) else
+    (if bytes_eq command (codes "convert") then Some (convert file) else option_map (about file) (request_for command))
 
 -- a command, a number of trees from 1 to 64 and a file
 abbrev pub with_number : List ℕ → List ℕ → List ℕ → Option Task
@@ -128,6 +131,7 @@ begins_with_option (first ∷ others) = bytes_eq first (codes "--workers")
 abbrev pub takes_workers : Task → Bool
 takes_workers (about file show) = false
 takes_workers (about file cuts) = false
+takes_workers (convert file) = false
 takes_workers task = true
 
 -- a command with the option, its number from 1 to 16 and the arguments behind it

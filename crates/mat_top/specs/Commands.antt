@@ -3,12 +3,12 @@ use Rattle.std.specs.Coded.{×_prop, Unit-prop, le_prop}
 use Rattle.std.specs.Prelude.{ℕ, ◌≤◌}
 use Rattle.mat_sets.specs.Limits.{most_elements}
 use Rattle.mat_top.specs.declared.command.Command.{Command}
-use Rattle.mat_top.specs.declared.command.Command.TheVariants.{About, Sample, Batch}
+use Rattle.mat_top.specs.declared.command.Command.TheVariants.{About, Sample, Batch, Convert}
 use Rattle.mat_top.specs.declared.command.Request as declared
 use Rattle.mat_top.specs.declared.command.Request.TheVariants.{Show, Solve, Cuts, Check}
 use Rattle.mat_top.specs.declared.query.Query.{Query}
 use Rattle.mat_top.specs.declared.query.Query.TheVariants.{Best, Intersect, Union, Pack, Cover, Trees, Arborescence, Disjoint, Rainbow, Assign}
-use Rattle.mat_top.specs.CommandLines.{Request, show, solve, cuts, check, Task, about, sample, batch}
+use Rattle.mat_top.specs.CommandLines.{Request, show, solve, cuts, check, Task, about, sample, batch, convert}
 
 -- what is asked about a problem
 abbrev pub request_of : declared.Request → Request
@@ -22,6 +22,7 @@ abbrev pub task_of : Command → Task
 task_of (About file request) = about file.now (request_of request)
 task_of (Sample kind size seed) = sample kind size seed
 task_of (Batch list) = batch list.now
+task_of (Convert file) = convert file.now
 
 -- a number of trees that is asked for is from 1 to 64
 abbrev pub IsQueryInRange : Query → Type 0
@@ -43,6 +44,7 @@ abbrev pub IsTaskInRange : Task → Type 0
 IsTaskInRange (about file request) = IsRequestInRange request
 IsTaskInRange (sample kind size seed) = IsSampleInRange size seed
 IsTaskInRange (batch list) = Unit {0}
+IsTaskInRange (convert file) = Unit {0}
 
 -- ---- each has at most one proof
 
@@ -68,3 +70,4 @@ pub IsTaskInRange-prop : (task : Task) → IsProp (IsTaskInRange task)
 IsTaskInRange-prop (about file request) = IsRequestInRange-prop request
 IsTaskInRange-prop (sample kind size seed) = ×_prop (×_prop le_prop le_prop) (×_prop le_prop le_prop)
 IsTaskInRange-prop (batch list) = Unit-prop
+IsTaskInRange-prop (convert file) = Unit-prop

@@ -5,9 +5,10 @@ use Rattle.mat_shelf.specs.Faults.{Rose}
 use Rattle.mat_shelf.specs.Writing.{Appended, AppendedPrefix}
 use Rattle.mat_desc.specs.Faults.{Fault}
 use Rattle.mat_desc.specs.Instances.{Instance}
-use Rattle.mat_desc.specs.Grammar.{Spells}
+use Rattle.mat_desc.specs.Grammar.{Spells, SpellsNamed}
+use Rattle.mat_desc.specs.Labels.{NamedInstance}
 use Rattle.mat_desc.specs.Reading.{read_of}
-use Rattle.mat_desc.specs.Canonical.{canonical_text}
+use Rattle.mat_desc.specs.Canonical.{canonical_text, named_text}
 use Rattle.mat_cert.specs.Certificates.{Certificate, certificate_text, IsRanged}
 use Rattle.mat_cert.specs.Faults as certificate_faults
 use Rattle.mat_cert.specs.Limits.{certificate_limit}
@@ -21,7 +22,7 @@ use Rattle.mat_top.specs.declared.status.Status.TheVariants as statuses
 use Rattle.mat_top.specs.declared.status.Refusal.{Refusal}
 use Rattle.mat_top.specs.declared.status.Refusal.TheVariants as refusals
 use Rattle.mat_top.specs.Statuses.{status_of, note_of, joined}
-use Rattle.mat_top.specs.CommandLines.{Request, show, solve, cuts, check, Task, about, sample, batch}
+use Rattle.mat_top.specs.CommandLines.{Request, show, solve, cuts, check, Task, about, sample, batch, convert}
 use Rattle.mat_top.specs.CutTexts.{HasPayableCosts, IsCutsText}
 use Rattle.mat_top.specs.JobLists.{Job, jobs_of}
 use Rattle.mat_top.specs.Queries.{has_form}
@@ -44,6 +45,11 @@ pub record IsFaulty (bytes : List ℕ) (fault : Fault) : Type 0 where
 pub record IsDescribed (bytes : List ℕ) (instance : Instance) : Type 0 where
   pub within : length bytes ≤ description_limit
   pub spelled : Spells bytes instance
+
+-- the bytes spell this problem, and name its elements and its vertices so
+pub record IsNamed (bytes : List ℕ) (problem : NamedInstance) : Type 0 where
+  pub within : length bytes ≤ description_limit
+  pub spelled : SpellsNamed bytes problem
 
 -- the bytes of a certificate have this first fault
 pub record IsFaultyCertificate (bytes : List ℕ) (fault : certificate_faults.Fault) : Type 0 where
@@ -146,12 +152,13 @@ IsBatchOutcome held bytes status = IsListOutcome bytes status ⊎ ((jobs : List 
 -- ---- the outcome
 
 -- The status is that of the first row of the table that applies: Usage where the words are no command, and else what the files' bytes say.
--- A sample needs no file.
+-- A sample needs no file. A description that is converted is refused where it would not be shown.
 abbrev pub IsOutcome : (List ℕ → Option (List ℕ)) → Option Task → Status → Type 0
 IsOutcome held None status = status ≡ statuses.Usage
 IsOutcome held (Some (about file request)) status = IsSomeAnd (held file) (λ bytes. IsBytesOutcome held request bytes status)
 IsOutcome held (Some (sample kind size seed)) status = status ≡ statuses.Done
 IsOutcome held (Some (batch list)) status = IsSomeAnd (held list) (λ bytes. IsBatchOutcome held bytes status)
+IsOutcome held (Some (convert file)) status = IsSomeAnd (held file) (λ bytes. IsBytesOutcome held show bytes status)
 
 -- the shelf tells the certificate where the outcome needs it
 abbrev pub TellsCertificate : (List ℕ → Option (List ℕ)) → Request → List ℕ → Type 0
@@ -169,6 +176,7 @@ Tells held None = Unit {0}
 Tells held (Some (about file request)) = IsSomeAnd (held file) (TellsCertificate held request)
 Tells held (Some (sample kind size seed)) = Unit {0}
 Tells held (Some (batch list)) = IsSomeAnd (held list) (λ bytes. (jobs : List Job) → IsListed bytes jobs → TellsJobs held jobs)
+Tells held (Some (convert file)) = IsSomeAnd (held file) (TellsCertificate held show)
 
 -- the files that a request about the problem in this file reaches: that file, and that of the certificate where nothing that is told of the
 -- description refuses the call before
@@ -189,6 +197,7 @@ CallReaches held (Some (about file request)) name = RequestReaches held file req
 CallReaches held (Some (sample kind size seed)) name = ⊥
 CallReaches held (Some (batch list)) name =
     (name ≡ list) ⊎ IfSome (held list) (λ bytes. (jobs : List Job) × IsListed bytes jobs × JobsReach held jobs name)
+CallReaches held (Some (convert file)) name = RequestReaches held file show name
 
 -- ---- what is written
 
@@ -234,12 +243,19 @@ pub record IsBatchOutput (held : List ℕ → Option (List ℕ)) (list text : Li
   pub short : All (λ piece. length piece ≤ certificate_limit) texts
   pub answers : IfSome (held list) (λ bytes. (jobs : List Job) × IsListed bytes jobs × AreJobTexts held jobs texts)
 
+-- the text is the description of the problem that the bytes spell, with their names
+pub record IsConversion (bytes text : List ℕ) : Type 0 where
+  pub problem : NamedInstance
+  pub named : IsNamed bytes problem
+  pub whole : text ≡ named_text problem
+
 -- what may be written where the command is done
 abbrev pub IsOutput : (List ℕ → Option (List ℕ)) → Option Task → List ℕ → Type 0
 IsOutput held None text = ⊥
 IsOutput held (Some (about file request)) text = IsRequestOutput held file request text
 IsOutput held (Some (sample kind size seed)) text = IsSummary kind size seed text
 IsOutput held (Some (batch list)) text = IsBatchOutput held list text
+IsOutput held (Some (convert file)) text = IfSome (held file) (λ bytes. IsConversion bytes text)
 
 -- ---- the clauses of the top call
 
@@ -296,6 +312,7 @@ IsTrueOfList held list refusal = Unit {0}
 abbrev pub IsTrueOf : (List ℕ → Option (List ℕ)) → Option Task → Refusal → Type 0
 IsTrueOf held (Some (about file request)) refusal = IsTrueOfRequest held file request refusal
 IsTrueOf held (Some (batch list)) refusal = IsTrueOfList held list refusal
+IsTrueOf held (Some (convert file)) refusal = IsTrueOfRequest held file show refusal
 IsTrueOf held asked refusal = Unit {0}
 
 -- the note of a call that ended so: none on Done

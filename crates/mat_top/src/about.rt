@@ -23,7 +23,7 @@ use std::alloc::{AllocError, Global};
 use std::thread::Threads;
 
 /// The most bytes that a description may have.
-const DESCRIPTION_LIMIT: usize = 4_194_304;
+pub(crate) const DESCRIPTION_LIMIT: usize = 4_194_304;
 
 /// The problem that the file of this name describes.
 pub(crate) fn problem_in<F: Shelf>(

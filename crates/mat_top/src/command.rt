@@ -46,6 +46,11 @@ pub(crate) enum Command<'a> {
         /// The name of the list's file.
         list: &'a str,
     },
+    /// A description with names for its elements and its vertices.
+    Convert {
+        /// The name of the description's file.
+        file: &'a str,
+    },
 }
 
 /// A command line.

@@ -100,6 +100,9 @@ fn with_file<'a>(command: &str, file: &'a str) -> Option<Command<'a>>
     if command == "batch" {
         return Some(Command::Batch { list: file });
     }
+    if command == "convert" {
+        return Some(Command::Convert { file });
+    }
     let request = request_for(command)?;
     Some(Command::About { file, request })
 }
@@ -184,7 +187,8 @@ impl<'a> Command<'a> {
     {
         match self {
             Command::About { request, .. } => !matches!(request, Request::Show | Request::Cuts),
-            _ => true,
+            Command::Convert { .. } => false,
+            Command::Sample { .. } | Command::Batch { .. } => true,
         }
     }
 }

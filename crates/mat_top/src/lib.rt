@@ -5,6 +5,7 @@ mod about;
 mod batch;
 mod command;
 mod command_words;
+mod convert;
 mod cut_lines;
 mod cuts_text;
 mod forms;

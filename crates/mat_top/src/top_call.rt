@@ -13,6 +13,7 @@ use crate::about::text_about;
 use crate::batch::batch_texts;
 use crate::command::{Command, CommandLine};
 use crate::command_words::command_line;
+use crate::convert::converted_text;
 use crate::notes::put_note;
 use crate::sampling::sample_text;
 use crate::status::{Refusal, Status};
@@ -48,6 +49,7 @@ fn texts_for<R: Threads + Sync, F: Shelf>(
             sample_text(rt, alloc, kind, size, seed, line.workers)?
         }
         Command::Batch { list } => return batch_texts(rt, alloc, files, list, line.workers),
+        Command::Convert { file } => converted_text(alloc, files, file)?,
     };
     Ok(alone(alloc, text)?)
 }

@@ -10,3 +10,4 @@ pub mod Repeats
 pub mod Closing
 pub mod WordReading
 pub mod LineReading
+pub mod NameLemmas

@@ -3,7 +3,7 @@ use Rattle.std.proofs.Common.{◌≡◌, ℕ, ◌+◌, ◌<◌, true, false, not
 use Rattle.std.proofs.Common.{sym, ap, subst, ◌∙◌, arith}
 use Rattle.std.specs.Prelude.{bytes_eq}
 use Rattle.std.specs.List.{list_all, join_with_byte}
-use Rattle.std.proofs.lemmas.Bool.{ne_eqb, and_from, not-false}
+use Rattle.std.proofs.lemmas.Bool.{ne_eqb, and_from, and_parts, not-false}
 use Rattle.std.proofs.lemmas.Slice.Eq.{bytes_eq-Decides}
 use Rattle.mat_words.specs.Lines.{Line, lines_of, text_of, is_newline}
 use Rattle.mat_words.specs.Words.{is_space, is_word, words_of, is_well_spaced}
@@ -79,11 +79,11 @@ line_again p words rest some spelled left =
       record { same = refl },
     )
 
--- a line that begins with a word
-pub keyed_found : (key : List ℕ) (p : LinesLeft) (w : WordsLeft) (q : LinesLeft) → keyed_at key p ≡ Ok (w, q) → (rest : List Line)
-    → AreLeft rest q → AreLeft ((key ∷ w.words) ∷ rest) p
+-- a line that begins with a word was read as a line
+keyed_line : (key : List ℕ) (p : LinesLeft) (w : WordsLeft) (q : LinesLeft) → keyed_at key p ≡ Ok (w, q)
+    → (line : WordsLeft) × (line_at p ≡ Ok (line, q)) × (line.words ≡ key ∷ w.words)
 unfolding keyed_at
-keyed_found key p w q e rest left =
+keyed_line key p w q e =
     let line = bind_found (line_at p) (λ line. word_at line.0
     >>= λ word. cond (bytes_eq word.0 key) (Ok (word.1, line.1)) (Err (UnknownWord, p.line))) (w, q) e in
     let word = bind_found (word_at line.0.0) (λ word. cond (bytes_eq word.0 key) (Ok (word.1, line.0.1)) (Err (UnknownWord, p.line))) (w, q)
@@ -93,10 +93,26 @@ keyed_found key p w q e rest left =
     let cut = word_found line.0.0 word.0.0 word.0.1 word.1 in
     let is_key : word.0.0 ≡ key = (bytes_eq-Decides word.0.0 key).0 test.0 in
     let words : word.0.1.words ≡ w.words = ap (λ (x : WordsLeft × LinesLeft). x.0.words) same in
-    let behind : AreLeft rest line.0.1 = subst (λ (x : LinesLeft). AreLeft rest x) (sym (ap (λ (x : WordsLeft × LinesLeft). x.1) same)) left in
-    let whole : line.0.0.words ≡ key ∷ w.words = cut ∙ rw (is_key, words) refl in
-    subst (λ (v : Line). AreLeft (v ∷ rest) p) whole (line_found p line.0.0 line.0.1 line.1 rest behind)
+    let behind : line.0.1 ≡ q = ap (λ (x : WordsLeft × LinesLeft). x.1) same in
+    (line.0.0, subst (λ (x : LinesLeft). line_at p ≡ Ok (line.0.0, x)) behind line.1, cut ∙ rw (is_key, words) refl)
 
+-- a line that begins with a word, which is read, stands in front of the lines behind it
+pub keyed_found : (key : List ℕ) (p : LinesLeft) (w : WordsLeft) (q : LinesLeft) → keyed_at key p ≡ Ok (w, q) → (rest : List Line)
+    → AreLeft rest q → AreLeft ((key ∷ w.words) ∷ rest) p
+keyed_found key p w q e rest left =
+    let line = keyed_line key p w q e in
+    subst (λ (v : Line). AreLeft (v ∷ rest) p) line.2 (line_found p line.0 q line.1 rest left)
+
+-- the words behind its first are words
+pub keyed_words : (key : List ℕ) (p : LinesLeft) (w : WordsLeft) (q : LinesLeft) → keyed_at key p ≡ Ok (w, q)
+    → list_all is_word w.words ≡ true
+keyed_words key p w q e =
+    let line = keyed_line key p w q e in
+    let all : list_all is_word (key ∷ w.words) ≡ true = subst (λ (v : Line). list_all is_word v ≡ true) line.2
+    (line_read p line.0 q line.1).words in
+    (and_parts (is_word key) (list_all is_word w.words) all).1
+
+-- a line that begins with a word, which stands in front, is read
 pub keyed_again : (key : List ℕ) (p : LinesLeft) (words : Line) (rest : List Line) → is_word key ≡ true → list_all is_word words ≡ true
     → AreLeft ((key ∷ words) ∷ rest) p
     → (q : LinesLeft) × (keyed_at key p ≡ Ok (record { line = p.line; words = words }, q)) × AreLeft rest q

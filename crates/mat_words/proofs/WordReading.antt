@@ -32,6 +32,22 @@ word_found w word q e = from w.words e
         let same = found-same (v, record { line = w.line; words = vs }) (word, q) h in
         ap (λ (p : List ℕ × WordsLeft). p.0 ∷ p.1.words) same
 
+-- what is left is left of the same line
+pub word_line : (w : WordsLeft) (word : List ℕ) (q : WordsLeft) → word_at w ≡ Ok (word, q) → q.line ≡ w.line
+unfolding word_at
+word_line w word q e = from w.words e
+  where
+    from : (words : List (List ℕ)) → word_at (record { line = w.line; words = words }) ≡ Ok (word, q) → q.line ≡ w.line
+    from [] h = absurd cc
+    from (v ∷ vs) h =
+        let same = found-same (v, record { line = w.line; words = vs }) (word, q) h in
+        sym (ap (λ (p : List ℕ × WordsLeft). p.1.line) same)
+
+pub word_again : (n : ℕ) (word : List ℕ) (words : List (List ℕ))
+    → word_at (record { line = n; words = word ∷ words }) ≡ Ok (word, record { line = n; words = words })
+unfolding word_at
+word_again n word words = refl
+
 pub some_left : (o : Option (Bor (List ℕ))) → is_some o ≡ true → 0 < length (parts_left o)
 some_left None h = absurd cc
 some_left (Some bytes) h = some_parts is_space bytes.now

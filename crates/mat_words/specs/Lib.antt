@@ -6,3 +6,5 @@ pub mod Writing
 pub mod Cursors
 pub mod Steps
 pub mod Reading
+pub mod Names
+pub mod NameLists

@@ -6,10 +6,13 @@
 //!
 //! A text is read from what is left of it, line by line and word by word: each reader gives what it read with what is left behind it, or
 //! ends at a [`ReadingFault`] in a line. A format tells these faults by kinds of its own.
+//!
+//! The words that name elements or vertices are kept as [`Names`], each once.
 #![tactic(auto)]
 
 mod cursor;
 mod lines;
+mod names;
 mod numbers;
 mod reading;
 mod refusal;
@@ -19,6 +22,7 @@ mod writing;
 
 pub use cursor::{LineCursor, WordCursor};
 pub use lines::{line_laws, next_line, split_line};
+pub use names::{LONGEST_NAME, Names};
 pub use numbers::{NumberFault, number_laws, put_number, read_number, spell_into};
 pub use reading::{
     keyed_line, next_below, next_number, next_size, next_weight, next_weights, next_word,

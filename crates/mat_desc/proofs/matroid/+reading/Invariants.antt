@@ -4,6 +4,7 @@ use Rattle.mat_words.specs.Steps.{repeat_at}
 use Rattle.mat_words.specs.Cursors.{lines_left}
 use Rattle.mat_words.proofs.Repeats.{with_front}
 use Rattle.mat_desc.specs.Reading.{matroid_within}
+use Rattle.mat_desc.specs.Views.{naming}
 use Rattle.mat_desc.proofs.matroid.+reading.Given as goal
 
 abbrev pub decreases-next_matroid_within : goal.decreases-next_matroid_within
@@ -29,5 +30,5 @@ decreases-union_of l = 3 * l.room + 2
 
 abbrev pub invariant-matroids_within-loop : goal.invariant-matroids_within-loop
 invariant-matroids_within-loop l =
-    with_front (map tree_of l.matroids.items) (repeat_at (matroid_within l.room l.count) (l.many - l.counter) (lines_left l.rest))
-    ≡ repeat_at (matroid_within l.room l.count) l.many (lines_left l.fn.lines)
+    with_front (map tree_of l.matroids.items) (repeat_at (matroid_within l.room (naming l.names) l.count) (l.many - l.counter) (lines_left l.rest))
+    ≡ repeat_at (matroid_within l.room (naming l.names) l.count) l.many (lines_left l.fn.lines)

@@ -1,4 +1,4 @@
-use Rattle.std.proofs.Common.{refl}
+use Rattle.std.proofs.Common.{refl, sym}
 use Rattle.mat_desc.specs.Reading.{coloured_at}
 use Rattle.mat_desc.proofs.Columns.{edges-zip, colours-zip, weights-zip}
 use Rattle.mat_desc.proofs.problem.coloured.Goals as goal
@@ -13,6 +13,8 @@ returns c =
       c.in_ok-many.ensures.value,
       c.in_ok-colours.ensures.value,
       c.in_ok-ended.ensures,
+      c.in_ok-labels.ensures.value,
+      sym c.vertex_names-names.ensures,
       read.value,
       edges-zip items.edges items.colour_of.items items.weights read.coloured read.as_many,
       colours-zip items.edges items.colour_of.items items.weights read.coloured read.as_many,

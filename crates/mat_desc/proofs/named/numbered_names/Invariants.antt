@@ -1,0 +1,8 @@
+use Rattle.std.proofs.Common.{◌≡◌, [], ◌∷◌}
+use Rattle.mat_words.specs.NameLists.{names_of}
+use Rattle.mat_desc.specs.Labels.{numbered}
+use Rattle.mat_desc.proofs.named.numbered_names.Given as goal
+
+-- the names so far
+abbrev pub invariant-loop-i : goal.invariant-loop-i
+invariant-loop-i l = names_of l.names ≡ numbered (l.letter ∷ []) l.i

@@ -1,0 +1,134 @@
+//! Problems with names for their elements and their vertices.
+
+ghost use Rattle.std.specs.Prelude.{◌≡◌, ◌<◌, ◌≤◌, ◌^◌, true, [], ◌∷◌, length, IfOk};
+ghost use Rattle.mat_desc.specs.Faults.{Gives};
+ghost use Rattle.mat_desc.specs.Grammar.{IsValid, SpellsNamed};
+ghost use Rattle.mat_desc.specs.Labels.{AreLabels, NamedInstance, named_by, names, numbered, numbers};
+ghost use Rattle.mat_desc.specs.Reading.{named_of};
+ghost use Rattle.mat_desc.specs.Soundness.{IsSoundInstance};
+ghost use Rattle.mat_desc.specs.Views.{instance_of, labels_of, named_instance};
+ghost use Rattle.mat_words.specs.NameLists.{names_of};
+ghost use Rattle.mat_words.specs.Words.{is_letter};
+
+use crate::labels::Labelling;
+use crate::problem::{Problem, read_labelled};
+use crate::refusal::DescRefusal;
+use mat_words::{Names, put_number};
+use std::alloc::{AllocError, Global};
+
+/// A problem, and the names of its elements and of its vertices.
+#[derive(Drop)]
+pub struct Named {
+    /// The problem.
+    pub problem: Problem,
+    /// The name of each element.
+    pub elements: Names,
+    /// The name of each vertex: none where the form of the problem has no vertices.
+    pub vertices: Names,
+}
+
+/// A letter with each number below `count`, as `e0`, `e1` and so on. The only error is want of memory.
+fn numbered_names(alloc: Global, letter: u8, count: usize) -> Result<Names, AllocError>
+    requires letter { is_letter letter ≡ true }
+    requires few { count < 2 ^ 32 }
+    ensures { IfOk result (λ listed. names_of listed ≡ numbered (letter ∷ []) count) }
+{
+    let mut names = Names::new(alloc);
+    for i in 0..count {
+        let mut name = Vec::new(alloc);
+        name.push(letter)?;
+        put_number(&mut name, i as i128)?;
+        names.add(&name)?;
+    }
+    Ok(names)
+}
+
+impl Problem {
+    ghost use Rattle.std.specs.Prelude.{◌≡◌};
+    ghost use Rattle.mat_desc.specs.Labels.{count_of_elements, count_of_vertices};
+    ghost use Rattle.mat_desc.specs.Views.{instance_of};
+
+    /// How many elements the problem has: edges, arcs or cells where its form has these.
+    fn element_count(&self) -> usize
+        ensures { result ≡ count_of_elements (instance_of self.now) }
+    {
+        match self {
+            Problem::Pair { weights, .. } | Problem::List { weights, .. } => weights.len(),
+            Problem::Graph { edges, .. } | Problem::Coloured { edges, .. } => edges.len(),
+            Problem::Rooted { arcs, .. } => arcs.len(),
+            Problem::Table { cells, .. } => cells.len(),
+        }
+    }
+
+    /// How many vertices the form of the problem has: 0 where it has none.
+    fn vertex_count(&self) -> usize
+        ensures { result ≡ count_of_vertices (instance_of self.now) }
+    {
+        match self {
+            Problem::Graph { vertices, .. }
+            | Problem::Rooted { vertices, .. }
+            | Problem::Coloured { vertices, .. } => *vertices as usize,
+            Problem::Pair { .. } | Problem::List { .. } | Problem::Table { .. } => 0,
+        }
+    }
+}
+
+/// The problem with numbered names: `e0`, `e1` and so on, and `v0`, `v1` and so on. The only error is want of memory.
+fn with_numbered_names(alloc: Global, problem: Problem) -> Result<Named, AllocError>
+    requires { IsValid (instance_of problem) }
+    ensures { IfOk result (λ named. named_instance named ≡ named_by numbers (instance_of problem)) }
+{
+    let elements = numbered_names(alloc, b'e', problem.element_count())?;
+    let vertices = numbered_names(alloc, b'v', problem.vertex_count())?;
+    Ok(Named {
+        problem,
+        elements,
+        vertices,
+    })
+}
+
+/// The problem with the names that its description gives, or else with numbered ones. The only error is want of memory.
+fn with_names(alloc: Global, problem: Problem, labels: Labelling) -> Result<Named, AllocError>
+    requires { IsValid (instance_of problem) }
+    ensures { IfOk result (λ named. named_instance named ≡ named_by (labels_of labels) (instance_of problem)) }
+{
+    match labels {
+        Labelling::Numbers => with_numbered_names(alloc, problem),
+        Labelling::Names { elements, vertices } => Ok(Named {
+            problem,
+            elements,
+            vertices,
+        }),
+    }
+}
+
+/// The problem that a text of at most 4194304 bytes states, with the names that the text lists, or else with numbered ones.
+fn named_problem(alloc: Global, text: &[u8]) -> Result<Named, DescRefusal>
+    requires { length text.now ≤ 4194304 }
+    ensures { Gives named_instance result (named_of text.now) }
+{
+    let (problem, labels) = read_labelled(alloc, text)?;
+    Ok(with_names(alloc, problem, labels)?)
+}
+
+/// The problem that a text of at most 4194304 bytes spells, with the names of its elements and of its vertices: those that the text
+/// lists, or else `e0`, `e1` and so on, and `v0`, `v1` and so on.
+///
+/// The errors are those of [`read_problem`](crate::read_problem).
+pub fn read_named(alloc: Global, text: &[u8]) -> Result<Named, DescRefusal>
+    requires { length text.now ≤ 4194304 }
+
+    // The answer is what the reading of the text gives: its problem with the names, or its first fault.
+    ensures exact { Gives named_instance result (named_of text.now) }
+
+    // What is read is spelled by the text, and what is spelled is read.
+    ensures found { IfOk result (λ named. SpellsNamed text.now (named_instance named)) }
+    ensures only { (named : NamedInstance) → SpellsNamed text.now named → Gives named_instance result (Ok named) }
+
+    // The problem is in range, its matroids are sound, and it has a name for each element and each vertex.
+    ensures valid { IfOk result (λ named. IsValid (instance_of named.problem)) }
+    ensures sound { IfOk result (λ named. IsSoundInstance (instance_of named.problem)) }
+    ensures labelled { IfOk result (λ named. AreLabels (instance_of named.problem) (names (names_of named.elements) (names_of named.vertices))) }
+{
+    named_problem(alloc, text)
+}
