@@ -55,6 +55,8 @@ CERTIFICATE = ('certificate 1\nanswer intersect 4 2\nrung 0 0\nset\nfirst 5 4 4 
                'second 0 0 0 0\nrung 2 8\nset 1 2\nfirst 4 4 3 1\nsecond 1 0 1 0\ncut\nend\n')
 GAMMOID = ('matroids 1\npair 3\nweights 2 1 3\ngammoid 6 4\nsources 0 1\ntargets 3 4 5\narc 0 2\narc 2 3\narc 1 4\narc 2 5\nunion 2\nuniform 1\n'
            'dual\ntransversal 2\nset 0 1\nset 1 2\nend\n')
+KINDS = ('matroids 1\npair 4\nweights 4 3 2 1\ngraphic 4\nedge 0 1\nedge 1 2\nedge 0 2\nedge 2 3\ngf2 3\ncolumn 011\ncolumn 101\ncolumn 110\ncolumn 001\nend\n')
+OTHERS = ('matroids 1\npair 3\nweights 2 1 3\ngammoid 6 4\nsources 0 1\ntargets 3 4 5\narc 0 2\narc 2 3\narc 1 4\narc 2 5\nlaminar 2\nset 2 0 1 2\nset 1 1 2\nend\n')
 GRAPH = 'matroids 1\nlist 6 1\nweights 3 1 4 1 5 9\ngraphic 4\nedge 0 1\nedge 0 2\nedge 0 3\nedge 1 2\nedge 1 3\nedge 2 3\nend\n'
 ROOTED = 'matroids 1\nrooted 3 4 0\narc 0 1 5\narc 0 2 2\narc 2 1 1\narc 1 2 0\nend\n'
 NAMED = ('matroids 2\npair 3\nelements a b c\nweights 1 2 3\npartition 2\nclass 1 a\nclass 1 c b\nrestrict c a\nuniform 2\nend\n')
@@ -65,11 +67,15 @@ TABLE = 'matroids 1\ntable 2 2 3\ncell 0 0 3\ncell 0 1 2\ncell 1 0 1\nend\n'
 LIST = 'jobs 1\njob best graph.txt\njob trees 2 trees.txt\njob disjoint 2 rooted.txt\nend\n'
 FILES = {'assignment.txt': ASSIGNMENT, 'certificate.txt': CERTIFICATE, 'gammoid.txt': GAMMOID, 'graph.txt': GRAPH, 'rooted.txt': ROOTED,
          'trees.txt': TREES, 'coloured.txt': COLOURED, 'table.txt': TABLE, 'list.txt': LIST, 'named.txt': NAMED,
-         'named_root.txt': NAMED_ROOT}
+         'named_root.txt': NAMED_ROOT, 'kinds.txt': KINDS, 'others.txt': OTHERS}
+# Files that the program writes before anything is refused.
+MADE = {'kinds.cert': 'intersect kinds.txt', 'others.cert': 'intersect others.txt', 'kinds.wit': 'witness 2 kinds.txt kinds.cert',
+        'others.wit': 'witness 2 others.txt others.cert'}
 CASES = ['show gammoid.txt', 'show named.txt', 'convert named.txt', 'convert named_root.txt', 'convert gammoid.txt', 'intersect assignment.txt', 'intersect --workers 4 assignment.txt', 'intersect gammoid.txt', 'best graph.txt',
          'union graph.txt', 'pack graph.txt', 'cover graph.txt', 'trees 2 trees.txt', 'trees 3 trees.txt', 'arborescence rooted.txt',
          'disjoint 1 rooted.txt', 'disjoint 2 rooted.txt', 'cuts rooted.txt', 'rainbow coloured.txt', 'assign table.txt',
-         'check assignment.txt certificate.txt', 'check --workers 4 assignment.txt certificate.txt', 'sample pair 8 7', 'sample list 6 7',
+         'check assignment.txt certificate.txt', 'check --workers 4 assignment.txt certificate.txt', 'witness 2 kinds.txt kinds.cert', 'witness 2 others.txt others.cert',
+         'verify 2 kinds.txt kinds.cert kinds.wit', 'verify 2 others.txt others.cert others.wit', 'sample pair 8 7', 'sample list 6 7',
          'sample graph 6 7', 'sample rooted 6 15', 'sample table 6 7', 'batch list.txt', 'batch --workers 4 list.txt']
 
 
@@ -109,6 +115,9 @@ def main():
         for name, text in FILES.items():
             with open(os.path.join(folder, name), 'w') as to:
                 to.write(text)
+        for name, words in MADE.items():
+            with open(os.path.join(folder, name), 'wb') as to:
+                subprocess.run([program] + words.split(), cwd=folder, stdout=to, check=True)
         for case in CASES:
             total, needless = allocations(program, library, folder, case.split())
             print(f'{case}: {total}, of which {needless} are not needed', flush=True)

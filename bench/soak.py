@@ -3,7 +3,7 @@
 
 Problems of every form, with matroids of every kind within one another, are solved by every command that takes them, with one and with four
 workers; `check` has to say yes to each answer, and both answers have to be the same bytes. Commands for other forms have to end with
-the status of a wrong shape. Then bytes, words and lines of the texts are changed, and `show` and `check` have to end with a status and a note
+the status of a wrong shape. Where both matroids are of kinds that have witnesses, `verify` has to say yes to the witness of each rung. Then bytes, words and lines of the texts are changed, and `show`, `check` and `verify` have to end with a status and a note
 that they can have. It ends with 1 and keeps the files at the first run that ends otherwise or takes more than ten seconds, and else
 prints how many runs of each command ended with each status. The program is crates/mat_main/out/mat_main where none is named.
 """
@@ -21,7 +21,8 @@ COMMANDS = {'pair': ['intersect'], 'one': ['best', 'pack', 'cover', 'union'], 'l
 EVERY = sorted({command for commands in COMMANDS.values() for command in commands})
 WORD = '[A-Za-z]+'
 NOTES = {0: '', 1: f'no {WORD} [0-9]+ [0-9]+\n', 2: 'refused: usage\n', 3: f'refused: description [0-9]+ {WORD} line [0-9]+\n',
-         4: f'refused: certificate [0-9]+ {WORD} line [0-9]+\n', 9: 'refused: wrong shape\n', 13: 'refused: bad cost\n',
+         4: f'refused: certificate [0-9]+ {WORD} line [0-9]+\n', 9: 'refused: wrong shape\n', 11: 'refused: unwitnessed\n',
+         12: f'refused: witness [0-9]+ {WORD} line [0-9]+\n', 13: 'refused: bad cost\n',
          14: 'refused: list line [0-9]+\n'}
 SECONDS = 10
 
@@ -186,6 +187,20 @@ class Soak:
         self.write('c', answer)
         self.expect(f'{command}: an answer is not right', self.run('check f c', (0,)) == b'yes\n')
 
+    def witness(self, numbers):
+        """Witnesses of the rungs of the answer in `c`, and one with changes."""
+        answer = open(os.path.join(self.folder, 'c'), 'rb').read()
+        last = int(answer.split(b'\n')[1].split(b' ')[3])
+        self.run(f'witness {last + 1} f c', (9,))
+        for rung in range(last + 1):
+            witness = self.run(f'witness {rung} f c', (0, 11))
+            if not witness:
+                return
+            self.write('w', witness)
+            self.expect(f'rung {rung}: a witness does not show it', self.run(f'verify {rung} f c w', (0,)) == b'yes\n')
+        self.write('w', changed(numbers, witness))
+        self.run(f'verify {rung} f c w', (0, 1, 12))
+
     def problem(self, numbers):
         """A problem, its answers, and their texts with changes."""
         form, text = problem(numbers)
@@ -193,6 +208,8 @@ class Soak:
         canonical = self.run('show f', (0,))
         for command in COMMANDS[form]:
             self.solve(command)
+        if form == 'pair':
+            self.witness(numbers)
         self.write('l', '\n'.join(['jobs 1'] + [f'job {c} f' for c in COMMANDS[form] if c != 'cuts'] + ['end', '']).encode())
         self.expect('jobs: other bytes for four workers', self.run('batch l', (0,)) == self.run('batch --workers 4 l', (0,)))
         other = numbers.choice(EVERY)

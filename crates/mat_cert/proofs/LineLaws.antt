@@ -1,10 +1,10 @@
 -- The lines of a certificate: what is read is spelled so, and what is spelled so is read.
-use Rattle.std.proofs.Common.{◌≡◌, ℕ, pos, neg_ℤ, Bool, true, false, eqb, List, [], ◌∷◌, ◌++◌, length, map, Result, Ok}
-use Rattle.std.proofs.Common.{Some, None, refl, sym, ap, subst, ◌∙◌, arith}
+use Rattle.std.proofs.Common.{◌≡◌, ℕ, pos, neg_ℤ, Bool, true, false, List, [], ◌∷◌, ◌++◌, length, map, Result, Ok}
+use Rattle.std.proofs.Common.{Some, None, refl, sym, ap, subst, ◌∙◌}
 use Rattle.std.specs.Prelude.{Option, codes}
 use Rattle.std.specs.List.{list_all}
-use Rattle.std.proofs.lemmas.Bool.{and_from, and_parts, eqb-true}
-use Rattle.std.proofs.lemmas.List.{length-map}
+use Rattle.std.proofs.lemmas.Bool.{and_from}
+use Rattle.std.proofs.lemmas.List.{length-map, nil_from_length}
 use Rattle.mat_sets.specs.Sets.{IsSet}
 use Rattle.mat_sets.specs.declared.weight.Weight.{Weight}
 use Rattle.mat_words.specs.Words.{is_word}
@@ -20,7 +20,7 @@ use Rattle.mat_words.proofs.NumberLemmas.{numeral_word}
 use Rattle.mat_words.proofs.WeightLemmas.{weight_word-word}
 use Rattle.mat_words.proofs.ReadingSteps.{found-same, bind_found, test_found}
 use Rattle.mat_words.proofs.WordReading.{weight_at_again, weights_found, weights_again, numerals_words, weights_words}
-use Rattle.mat_words.proofs.LineReading.{AreLeft, keyed_found, keyed_again}
+use Rattle.mat_words.proofs.LineReading.{AreLeft, keyed_found, keyed_again, known_line, closed_left}
 use Rattle.mat_cert.specs.declared.answer.LevelLine.{LevelLine}
 use Rattle.mat_cert.specs.declared.refusal.CertKind.TheVariants.{AfterEnd}
 use Rattle.mat_cert.specs.Faults.{Fault}
@@ -48,17 +48,14 @@ pub line_read : (key : List ℕ) (p : LinesLeft) (x : WordsLeft × LinesLeft) �
     → AreLeft ((key ∷ x.0.words) ∷ rest) p
 line_read key p x e = keyed_found key p x.0 x.1 (told_found (any_text.keyed_at key p) x e)
 
-no_items : {A : Type 0} (xs : List A) → length xs ≡ 0 → xs ≡ []
-no_items [] e = refl
-no_items (x ∷ xs) e = absurd (omega arith)
-
 -- ---- a keyword and as many words
 
-record IsCountedRead (key : List ℕ) (many : ℕ) (p : LinesLeft) (w : WordsLeft) (q : LinesLeft) : Type 0 where
-  count : length w.words ≡ many
-  spelled : (rest : List Line) → AreLeft rest q → AreLeft ((key ∷ w.words) ∷ rest) p
+-- a line of a keyword and as many words was read
+pub record IsCountedRead (key : List ℕ) (many : ℕ) (p : LinesLeft) (w : WordsLeft) (q : LinesLeft) : Type 0 where
+  pub count : length w.words ≡ many
+  pub spelled : (rest : List Line) → AreLeft rest q → AreLeft ((key ∷ w.words) ∷ rest) p
 
-counted_found : (key : List ℕ) (many : ℕ) (p : LinesLeft) (w : WordsLeft) (q : LinesLeft) → counted_at key many p ≡ Ok (w, q)
+pub counted_found : (key : List ℕ) (many : ℕ) (p : LinesLeft) (w : WordsLeft) (q : LinesLeft) → counted_at key many p ≡ Ok (w, q)
     → IsCountedRead key many p w q
 unfolding counted_at
 counted_found key many p w q e =
@@ -69,7 +66,7 @@ counted_found key many p w q e =
       spelled = line_read key p line.0 line.1;
     })
 
-counted_again : (key : List ℕ) (many : ℕ) (p : LinesLeft) (words : Line) (rest : List Line) → is_word key ≡ true
+pub counted_again : (key : List ℕ) (many : ℕ) (p : LinesLeft) (words : Line) (rest : List Line) → is_word key ≡ true
     → list_all is_word words ≡ true → length words ≡ many
     → AreLeft ((key ∷ words) ∷ rest) p
     → IsReadAgain (counted_at key many p) (record { line = p.line; words = words }) rest
@@ -87,8 +84,7 @@ version_found p q e rest left =
     let one = bind_found (fixed_at (codes "1") line.0.0) (λ behind. Ok line.0.1) q line.2 in
     let read = counted_found (codes "certificate") 1 p line.0.0 line.0.1 line.1 in
     let words = whole_line (codes "1" ∷ []) one.0.words line.0.0.words (fixed_found (codes "1") line.0.0 one.0 one.1) read.count in
-    let behind : AreLeft rest line.0.1 = subst (λ (x : LinesLeft). AreLeft rest x) (sym (found-same line.0.1 q one.2)) left in
-    subst (λ (ws : Line). AreLeft ((codes "certificate" ∷ ws) ∷ rest) p) words (read.spelled rest behind)
+    known_line (codes "certificate") p line.0.0.words (codes "1" ∷ []) line.0.1 q read.spelled words (found-same line.0.1 q one.2) rest left
 
 pub version_again : (p : LinesLeft) (rest : List Line) → AreLeft (version_line ∷ rest) p
     → (q : LinesLeft) × (version_at p ≡ Ok q) × AreLeft rest q
@@ -102,8 +98,8 @@ unfolding end_at
 end_found p q e rest left =
     let line = bind_found (counted_at (codes "end") 0 p) (λ line. Ok line.1) q e in
     let read = counted_found (codes "end") 0 p line.0.0 line.0.1 line.1 in
-    let behind : AreLeft rest line.0.1 = subst (λ (x : LinesLeft). AreLeft rest x) (sym (found-same line.0.1 q line.2)) left in
-    subst (λ (ws : Line). AreLeft ((codes "end" ∷ ws) ∷ rest) p) (no_items line.0.0.words read.count) (read.spelled rest behind)
+    known_line (codes "end") p line.0.0.words [] line.0.1 q read.spelled (nil_from_length line.0.0.words read.count)
+    (found-same line.0.1 q line.2) rest left
 
 pub end_again : (p : LinesLeft) (rest : List Line) → AreLeft (end_line ∷ rest) p → (q : LinesLeft) × (end_at p ≡ Ok q) × AreLeft rest q
 unfolding end_at
@@ -111,15 +107,9 @@ end_again p rest left =
     let line = counted_again (codes "end") 0 p [] rest refl refl refl left in
     (line.0, rw line.1 refl, line.2)
 
-one_empty : (lines : List (List ℕ)) → is_closed lines ≡ true → lines ≡ [] ∷ []
-one_empty [] e = absurd cc
-one_empty (line ∷ lines) e =
-    let both = and_parts (eqb (length line) 0) (eqb (length lines) 0) e in
-    rw (no_items line (eqb-true (length line) 0 both.0), no_items lines (eqb-true (length lines) 0 both.1)) refl
-
 pub closed_found : (p : LinesLeft) (u : Unit {0}) → closed_at p ≡ Ok u → AreLeft [] p
 unfolding closed_at
-closed_found p u e = record { same = one_empty p.lines (test_found (is_closed p.lines) (AfterEnd, p.line) (Ok tt) u e).0 }
+closed_found p u e = closed_left p (test_found (is_closed p.lines) (AfterEnd, p.line) (Ok tt) u e).0
 
 pub closed_again : (p : LinesLeft) → AreLeft [] p → closed_at p ≡ Ok tt
 unfolding closed_at

@@ -17,11 +17,11 @@ use Rattle.mat_cert.specs.LineReading.{set_at, sets_at, level_at}
 use Rattle.mat_cert.proofs.LineLaws.{IsRead, IsReadAgain, set_found, set_again, level_found, level_again}
 
 -- as many items were read, each of which is in range
-record AreItemsRead {A : Type 0} (IsIn : A → Type 0) (many : ℕ) (items : List A) : Type 0 where
-  count : length items ≡ many
-  each : All IsIn items
+pub record AreItemsRead {A : Type 0} (IsIn : A → Type 0) (many : ℕ) (items : List A) : Type 0 where
+  pub count : length items ≡ many
+  pub each : All IsIn items
 
-items_found : {A : Type 0} (reader : LinesLeft → Result (A × LinesLeft) Fault) (IsIn : A → Type 0) (line_of : A → Line)
+pub items_found : {A : Type 0} (reader : LinesLeft → Result (A × LinesLeft) Fault) (IsIn : A → Type 0) (line_of : A → Line)
     → ((p : LinesLeft) (item : A) (q : LinesLeft) → reader p ≡ Ok (item, q) → IsRead (IsIn item) (line_of item ∷ []) p q)
     → (many : ℕ) (p : LinesLeft) (items : List A) (q : LinesLeft) → repeat_at reader many p ≡ Ok (items, q)
     → IsRead (AreItemsRead IsIn many items) (map line_of items) p q
@@ -43,7 +43,7 @@ items_found {A} reader IsIn line_of one (suc many) p items q e =
       spelled = λ rest left. here.spelled (map line_of others.0.0 ++ rest) (more.spelled rest left);
     })
 
-items_again : {A : Type 0} (reader : LinesLeft → Result (A × LinesLeft) Fault) (IsIn : A → Type 0) (line_of : A → Line)
+pub items_again : {A : Type 0} (reader : LinesLeft → Result (A × LinesLeft) Fault) (IsIn : A → Type 0) (line_of : A → Line)
     → ((p : LinesLeft) (item : A) (rest : List Line) → IsIn item → AreLeft (line_of item ∷ rest) p → IsReadAgain (reader p) item rest)
     → (p : LinesLeft) (items : List A) (rest : List Line) → All IsIn items → AreLeft (map line_of items ++ rest) p
     → IsReadAgain (repeat_at reader (length items) p) items rest

@@ -31,11 +31,11 @@ use Rattle.mat_cert.proofs.Lengths.{length-text_of, short_cut, short_end, short_
 -- ---- one line
 
 -- at most b bytes
-abbrev IsAtMost : ℕ → List ℕ → Type 0
+abbrev pub IsAtMost : ℕ → List ℕ → Type 0
 IsAtMost b w = length w ≤ b
 
 -- a keyword and words of at most b bytes
-line_length : (b : ℕ) (key : List ℕ) (words : Line) → All (IsAtMost b) words
+pub line_length : (b : ℕ) (key : List ℕ) (words : Line) → All (IsAtMost b) words
     → length (text_of ((key ∷ words) ∷ [])) ≤ length key + 2 + length words * (b + 1)
 line_length b key [] short = omega (arith, length-append key (10 ∷ []))
 line_length b key (v ∷ vs) short =
@@ -45,14 +45,14 @@ line_length b key (v ∷ vs) short =
     omega arith
 
 -- the first line, and the others
-text_length : (line : Line) (lines : List Line) → length (text_of (line ∷ lines)) ≡ length (text_of (line ∷ [])) + length (text_of lines)
+pub text_length : (line : Line) (lines : List Line) → length (text_of (line ∷ lines)) ≡ length (text_of (line ∷ [])) + length (text_of lines)
 text_length line lines =
     let one = length-append (join_with_byte 32 line) (10 ∷ []) in
     let all = length-append (join_with_byte 32 line) (10 ∷ text_of lines) in
     omega arith
 
 -- the numeral of a number from 0 on with at most k digits
-natural_length : (k x : ℕ) → 0 < k → x < 10 ^ k → length (numeral (pos x)) ≤ k
+pub natural_length : (k x : ℕ) → 0 < k → x < 10 ^ k → length (numeral (pos x)) ≤ k
 natural_length k zero some small = omega arith
 natural_length k (suc x) some small =
     let few : length (digits_of 10 (suc x)) ≤ k = length-digits_of-le 10 k (suc x) (omega arith) small in
@@ -60,7 +60,7 @@ natural_length k (suc x) some small =
 
 -- ---- one rung
 
-members_short : (n : ℕ) (set : List ℕ) → n ≤ most_elements → AllBelow n set → All (IsAtMost 3) (numerals set)
+pub members_short : (n : ℕ) (set : List ℕ) → n ≤ most_elements → AllBelow n set → All (IsAtMost 3) (numerals set)
 members_short n [] few below = All-nil (IsAtMost 3)
 members_short n (x ∷ xs) few below =
     All-cons (IsAtMost 3) (numeral (pos x)) (numerals xs) (natural_length 3 x (omega arith) (omega (arith, below.0)))

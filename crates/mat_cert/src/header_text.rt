@@ -57,8 +57,8 @@ pub(crate) fn begun(alloc: Global, words: &[HeaderWord<'_>]) -> Result<Vec<u8>, 
     Ok(out)
 }
 
-/// Appends the last line.
-pub(crate) fn put_end_line(out: &mut Vec<u8>) -> Result<(), AllocError>
+/// Appends the last line: the word `end` alone.
+pub fn put_end_line(out: &mut Vec<u8>) -> Result<(), AllocError>
     ensures { OnOk result (out.new.items ≡ out.old.items ++ text_of (end_line ∷ [])) }
 {
     out.extend_from_slice(b"end\n")

@@ -1,4 +1,6 @@
 //! Certificates: the answers that carry their own proof, the one text of each, and the reader of these texts.
+//!
+//! What goes with an answer in a text of its own is read line by line with the calls that read a certificate, and has the same faults.
 #![tactic(auto)]
 
 mod answer;
@@ -21,6 +23,10 @@ mod write;
 
 pub use answer::{Answer, LevelLine, PlainRung, PricedRung};
 pub use certificate::read_answer;
+pub use header_text::put_end_line;
 pub use laws::{certificate_laws, reading_laws};
-pub use refusal::{CertKind, CertRefusal};
+pub use lines::{closed, counted_line, last_line};
+pub use refusal::{CertKind, CertRefusal, fault};
+pub use set_lines::set_line;
+pub use words::{fixed_word, has_this_many};
 pub use write::write_answer;

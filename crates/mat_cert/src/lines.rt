@@ -11,9 +11,9 @@ use mat_sets::PairWeights;
 use mat_words::{LineCursor, WordCursor, keyed_line, next_weights, nothing_left};
 use std::alloc::Global;
 
-/// The next line, which has to be of this word and as many others.
+/// The next line, which has to be of this word and as many others. Another number of words is [`CertKind::WrongCount`].
 #[tactic(auto, unfolding(crate::specs::LineReading::counted_at))]
-pub(crate) fn counted_line<'a>(
+pub fn counted_line<'a>(
     lines: LineCursor<'a>,
     key: &[u8],
     many: u32,
@@ -50,18 +50,18 @@ pub(crate) fn part_line<'a>(
     Ok((PairWeights::new(weights), rest))
 }
 
-/// The last line.
+/// The last line: the word `end` alone.
 #[tactic(auto, unfolding(crate::specs::LineReading::end_at))]
-pub(crate) fn last_line<'a>(lines: LineCursor<'a>) -> Result<LineCursor<'a>, CertRefusal>
+pub fn last_line<'a>(lines: LineCursor<'a>) -> Result<LineCursor<'a>, CertRefusal>
     ensures { Gives lines_left result (end_at (lines_left lines.entry)) }
 {
     let (_, rest) = counted_line(lines, b"end", 0)?;
     Ok(rest)
 }
 
-/// The end of the text.
+/// The end of the text. A byte that is left is [`CertKind::AfterEnd`].
 #[tactic(auto, unfolding(crate::specs::LineReading::closed_at))]
-pub(crate) fn closed(lines: LineCursor<'_>) -> Result<(), CertRefusal>
+pub fn closed(lines: LineCursor<'_>) -> Result<(), CertRefusal>
     ensures { Gives (λ x. x) result (closed_at (lines_left lines.entry)) }
 {
     if nothing_left(lines) {

@@ -81,7 +81,7 @@ pub enum CertRefusal {
 }
 
 /// The fault of this kind in the line with this number.
-pub(crate) fn fault(kind: CertKind, line: u32) -> CertRefusal
+pub fn fault(kind: CertKind, line: u32) -> CertRefusal
     ensures { result ≡ Fault kind line }
 {
     CertRefusal::Fault { kind, line }

@@ -13,9 +13,9 @@ use mat_sets::{ElemSet, SetList};
 use mat_words::{LineCursor, WordCursor, keyed_line};
 use std::alloc::Global;
 
-/// A line of this word and a set of numbers below the bound.
+/// A line of this word and a set of numbers below the bound, in rising order.
 #[tactic(auto, unfolding(crate::specs::LineReading::set_at))]
-pub(crate) fn set_line<'a>(
+pub fn set_line<'a>(
     alloc: Global,
     lines: LineCursor<'a>,
     key: &[u8],

@@ -28,9 +28,9 @@ pub(crate) fn are_this_many(words: WordCursor<'_>, many: u32) -> bool
     }
 }
 
-/// Exactly so many words have to be left of a line.
+/// Exactly so many words have to be left of a line: else it is [`CertKind::WrongCount`].
 #[tactic(auto, unfolding(crate::specs::LineReading::has_words))]
-pub(crate) fn has_this_many(words: WordCursor<'_>, many: u32) -> Result<(), CertRefusal>
+pub fn has_this_many(words: WordCursor<'_>, many: u32) -> Result<(), CertRefusal>
     ensures { Gives (λ x. x) result (has_words many (words_left words.entry)) }
 {
     if are_this_many(words, many) {
@@ -40,12 +40,9 @@ pub(crate) fn has_this_many(words: WordCursor<'_>, many: u32) -> Result<(), Cert
     }
 }
 
-/// The next word of a line has to be this one.
+/// The next word of a line has to be this one: another is [`CertKind::UnknownWord`]. What is left behind it.
 #[tactic(auto, unfolding(crate::specs::LineReading::fixed_at))]
-pub(crate) fn fixed_word<'a>(
-    words: WordCursor<'a>,
-    word: &[u8],
-) -> Result<WordCursor<'a>, CertRefusal>
+pub fn fixed_word<'a>(words: WordCursor<'a>, word: &[u8]) -> Result<WordCursor<'a>, CertRefusal>
     ensures { Gives words_left result (fixed_at word.now (words_left words.entry)) }
 {
     let line = words.line;

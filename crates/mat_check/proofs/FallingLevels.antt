@@ -6,9 +6,9 @@ use Rattle.mat_sets.specs.declared.weight.Weight.{Weight}
 use Rattle.mat_union.specs.RightUnions.{level_at, AreFalling}
 use Rattle.mat_cert.specs.declared.answer.LevelLine.{LevelLine}
 use Rattle.mat_check.specs.Right.{level_of}
-use Rattle.mat_check.specs.SetClauses.{falling_weights}
-use Rattle.mat_check.proofs.FallingWeights.{same_falling, falling_weights-Falls, falling_weights-gives, falling_weights-holds}
-use Rattle.mat_check.proofs.FallingWeights.{Falls-at, Falls-places, IsIn, IsIn-place, place-IsIn}
+use Rattle.mat_greedy.specs.FallingWeights.{falling_weights}
+use Rattle.mat_greedy.proofs.FallingWeights.{same_falling, falling_weights-Falls, falling_weights-gives, falling_weights-holds}
+use Rattle.mat_greedy.proofs.FallingWeights.{Falls-at, Falls-places, IsIn, IsIn-place, place-IsIn}
 
 -- the weights of the levels
 abbrev pub level_weights : List LevelLine → List Weight

@@ -10,8 +10,6 @@ pub mod NumberedFailures
 pub mod Multiplicities
 pub mod JoinedClauses
 pub mod Overlaps
-pub mod FallingWeights
-pub mod EnteredWeights
 pub mod AddedRanks
 pub mod LevelFailures
 pub mod FallingLevels

@@ -17,7 +17,8 @@ use Rattle.mat_cert.specs.Certificates.{IsRangedLevel, IsRangedUnion}
 use Rattle.mat_cert.specs.declared.answer.LevelLine.{LevelLine}
 use Rattle.mat_check.specs.Clauses.{Clause, numbered_clauses}
 use Rattle.mat_check.specs.Right.{level_of, IsRightUnionAnswer}
-use Rattle.mat_check.specs.SetClauses.{falling_weights, independent_clause, level_clauses, level_cut_clause, outside_clause, overlap_clauses}
+use Rattle.mat_greedy.specs.FallingWeights.{falling_weights}
+use Rattle.mat_check.specs.SetClauses.{independent_clause, level_clauses, level_cut_clause, outside_clause, overlap_clauses}
 use Rattle.mat_check.specs.SetClauses.{union_clauses}
 use Rattle.mat_check.specs.declared.reason.Reason.TheVariants as reasons
 use Rattle.mat_check.proofs.FallingLevels.{falling_from, falling_gives, level_is, line_at}

@@ -1,5 +1,5 @@
 -- Clauses of unions, packings and coverings, in the order in which they are tried (Schrijver, chapter 42).
-use Rattle.std.specs.Prelude.{ℕ, suc, ◌+◌, ◌-◌, ◌*◌, Bool, not, ◌==◌, nat_lt, nat_le, if◌then◌else◌, List, [], ◌∷◌, ◌++◌, length, map}
+use Rattle.std.specs.Prelude.{ℕ, ◌+◌, ◌-◌, ◌*◌, Bool, not, ◌==◌, nat_lt, nat_le, List, [], ◌∷◌, ◌++◌, length, map}
 use Rattle.std.specs.Prelude.{Option, Some, None, slice_index_or}
 use Rattle.mat_sets.specs.Families.{family_union, multiplicity}
 use Rattle.mat_sets.specs.Sets.{all_below, intersection, minus}
@@ -7,6 +7,7 @@ use Rattle.mat_sets.specs.Weights.{is_below, is_same, weight, weight_at, zero_we
 use Rattle.mat_sets.specs.declared.weight.Weight.{Weight}
 use Rattle.mat_laws.specs.Ranks.{rank}
 use Rattle.mat_laws.specs.Searches.{has_addable}
+use Rattle.mat_greedy.specs.FallingWeights.{falling_weights}
 use Rattle.mat_union.specs.RightUnions.{heavy}
 use Rattle.mat_union.specs.Unions.{ranks_sum, test_at}
 use Rattle.mat_cert.specs.declared.answer.LevelLine.{LevelLine}
@@ -30,16 +31,6 @@ abbrev pub full_clause : ℕ → (List ℕ → Bool) → ℕ → List ℕ → Cl
 full_clause n independent i set = record { holds = not (has_addable n independent set); failure = (reasons.Short, i, 0) }
 
 -- ---- unions
-
--- a weight put in its place among falling ones, where it is not there yet
-abbrev pub with_weight : Weight → List Weight → List Weight
-with_weight w [] = w ∷ []
-with_weight w (v ∷ vs) = if is_below v w then w ∷ v ∷ vs else (if is_same v w then v ∷ vs else v ∷ with_weight w vs)
-
--- the distinct weights, falling
-abbrev pub falling_weights : List Weight → List Weight
-falling_weights [] = []
-falling_weights (w ∷ ws) = with_weight w (falling_weights ws)
 
 -- the weight of level j is the j-th of the distinct weights
 abbrev pub level_clause : List Weight → ℕ → LevelLine → Clause

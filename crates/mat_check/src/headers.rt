@@ -8,10 +8,10 @@ ghost use Rattle.mat_check.specs.AnswerClauses.{has_header};
 ghost use Rattle.mat_desc.specs.Instances.{list, graph, rooted};
 ghost use Rattle.mat_desc.specs.Views.{instance_of};
 
-use crate::falling::falling_weights;
 use mat_any::AnyMatroid;
 use mat_cert::Answer;
 use mat_desc::Problem;
+use mat_greedy::falling_weights;
 use mat_sets::Weight;
 use std::alloc::{AllocError, Global};
 

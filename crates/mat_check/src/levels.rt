@@ -1,21 +1,21 @@
 //! The clauses of the levels of a union.
 
-ghost use Rattle.std.specs.Prelude.{◌≡◌, ◌<◌, ◌≤◌, ◌+◌, ◌*◌, ◌^◌, ◌==◌, if◌then◌else◌, All, length, map, IfOk};
-ghost use Rattle.std.specs.Prelude.{OnOk};
+ghost use Rattle.std.specs.Prelude.{◌≡◌, ◌<◌, ◌≤◌, ◌+◌, ◌*◌, ◌^◌, ◌==◌, All, length, map, IfOk};
 ghost use Rattle.mat_sets.specs.Limits.{most_elements};
 ghost use Rattle.mat_sets.specs.Families.{family_union};
-ghost use Rattle.mat_sets.specs.Sets.{AllBelow, intersection, minus, with_one};
+ghost use Rattle.mat_sets.specs.Sets.{AllBelow, intersection, minus};
 ghost use Rattle.mat_sets.specs.Weights.{is_below, is_same, weight_at};
 ghost use Rattle.mat_union.specs.GrownParts.{AreSound};
 ghost use Rattle.mat_union.specs.RightUnions.{heavy};
 ghost use Rattle.mat_union.specs.Unions.{ranks_sum};
 ghost use Rattle.mat_cert.specs.Certificates.{IsRangedLevel};
 ghost use Rattle.mat_check.specs.Clauses.{first_failure, numbered_clauses};
-ghost use Rattle.mat_check.specs.SetClauses.{falling_weights, level_clauses, outside_clause};
+ghost use Rattle.mat_greedy.specs.FallingWeights.{falling_weights};
+ghost use Rattle.mat_check.specs.SetClauses.{level_clauses, outside_clause};
 
-use crate::falling::falling_weights;
 use crate::reason::Reason;
 use mat_cert::LevelLine;
+use mat_greedy::{falling_weights, heavy_elements};
 use mat_laws::{Matroid, rank_of};
 use mat_sets::{ElemSet, Weight};
 use std::alloc::{AllocError, Global};
@@ -43,28 +43,6 @@ fn is_at(falling: &[Weight], j: u32, at: Weight) -> bool
     ensures { result ≡ is_same at (weight_at falling.now j) }
 {
     at == falling[j as usize]
-}
-
-// Puts an element in where it belongs there.
-fn enter_if(set: &mut ElemSet, x: u32, here: bool) -> Result<(), AllocError>
-    ensures { OnOk result (set.new ≡ (if here then with_one set.old x else set.old)) }
-{
-    if here {
-        set.add(x)?;
-    }
-    Ok(())
-}
-
-// The elements that weigh at least as much.
-fn heavy_elements(alloc: Global, weights: &[Weight], at: Weight) -> Result<ElemSet, AllocError>
-    requires { length weights.now ≤ most_elements }
-    ensures { IfOk result (λ set. set ≡ heavy (length weights.now) weights.now at) }
-{
-    let mut set = ElemSet::new(alloc);
-    for x in 0..weights.len() as u32 {
-        enter_if(&mut set, x, !is_lighter(weights, x, at))?;
-    }
-    Ok(set)
 }
 
 // The sum of the ranks of a set in all matroids.

@@ -6,7 +6,6 @@ mod checker;
 mod colours;
 mod coverings;
 mod ends;
-mod falling;
 mod families;
 mod fitting;
 mod fronts;

@@ -1,9 +1,9 @@
 -- Whole descriptions: a text that is read spells the problem that was read, and a text that spells a problem is read as that problem.
-use Rattle.std.proofs.Common.{◌≡◌, ℕ, Bool, true, false, cond, Result, eqb, List, [], ◌∷◌, length, Option}
+use Rattle.std.proofs.Common.{◌≡◌, ℕ, Bool, true, false, cond, Result, List, [], ◌∷◌, Option}
 use Rattle.std.proofs.Common.{Some, None, Ok, refl, sym, ap, subst, ◌∙◌, arith}
 use Rattle.std.specs.Prelude.{codes, bytes_eq}
 use Rattle.std.specs.List.{list_all, join_with_byte}
-use Rattle.std.proofs.lemmas.Bool.{and_from, and_parts, eqb-true}
+use Rattle.std.proofs.lemmas.Bool.{and_from}
 use Rattle.std.proofs.lemmas.List.Splits.{join_with_byte-slice_split}
 use Rattle.std.proofs.lemmas.Slice.Eq.{bytes_eq-Decides}
 use Rattle.mat_words.specs.Lines.{Line, lines_of, text_of}
@@ -23,7 +23,7 @@ use Rattle.mat_desc.specs.Labels.{Labels, numbers, names, AreLabels, NamedInstan
 use Rattle.mat_words.specs.Writing.{end_line}
 use Rattle.mat_desc.specs.Grammar.{version_line, IsValid, InstanceLines, Spells, SpellsNamed}
 use Rattle.mat_words.proofs.ReadingSteps.{found, found-same, bind_found, test_found}
-use Rattle.mat_words.proofs.LineReading.{AreLeft, line_again, keyed_again}
+use Rattle.mat_words.proofs.LineReading.{AreLeft, line_again, keyed_again, known_line, closed_left}
 use Rattle.mat_desc.proofs.Told.{word_found, ended_found, ended_again, line_found, keyed_found}
 use Rattle.mat_desc.proofs.LabelLaws.{version_for}
 use Rattle.mat_desc.proofs.FormLaws.{form_spelling, form_found, form_of-form_spelling, form_word, labelled_as, any_form_found, any_form_spelled}
@@ -75,10 +75,9 @@ version_found p version q e labels is rest left =
     version_word_found word.0.0 version named.0 ∙ ap version_spelling is in
     let words : line.0.0.words ≡ version_spelling (version_for labels) ∷ [] =
     word_found line.0.0 word.0.0 word.0.1 word.1 ∙ rw (one, named.1) refl in
-    let behind : AreLeft rest line.0.1 = subst (λ (x : LinesLeft). AreLeft rest x) (sym named.2) left in
     let whole : AreLeft ((codes "matroids" ∷ version_spelling (version_for labels) ∷ []) ∷ rest) p =
-    subst (λ (ws : Line). AreLeft ((codes "matroids" ∷ ws) ∷ rest) p) words
-    (keyed_found (codes "matroids") p line.0.0 line.0.1 line.1 rest behind) in
+    known_line (codes "matroids") p line.0.0.words (version_spelling (version_for labels) ∷ []) line.0.1 q
+    (keyed_found (codes "matroids") p line.0.0 line.0.1 line.1) words named.2 rest left in
     subst (λ (first : Line). AreLeft (first ∷ rest) p) (sym (version_line-spelling labels)) whole
 
 version_again : (labels : Labels) (p : LinesLeft) (rest : List Line) → AreLeft (version_line labels ∷ rest) p
@@ -96,9 +95,8 @@ unfolding end_at
 end_found p q e rest left =
     let line = bind_found (keyed_at (codes "end") p) _ q e in
     let end = bind_found (ended_at line.0.0) _ q line.2 in
-    let behind : AreLeft rest line.0.1 = subst (λ (x : LinesLeft). AreLeft rest x) (sym (found-same line.0.1 q end.2)) left in
-    subst (λ (ws : Line). AreLeft ((codes "end" ∷ ws) ∷ rest) p) (ended_found line.0.0 end.0 end.1)
-    (keyed_found (codes "end") p line.0.0 line.0.1 line.1 rest behind)
+    known_line (codes "end") p line.0.0.words [] line.0.1 q (keyed_found (codes "end") p line.0.0 line.0.1 line.1)
+    (ended_found line.0.0 end.0 end.1) (found-same line.0.1 q end.2) rest left
 
 end_again : (p : LinesLeft) (rest : List Line) → AreLeft (end_line ∷ rest) p → (q : LinesLeft) × (end_at p ≡ Ok q) × AreLeft rest q
 unfolding end_at
@@ -106,19 +104,9 @@ end_again p rest left =
     let line = keyed_again (codes "end") p [] rest refl refl left in
     (line.0, rw (line.1, ended_again p.line) refl, line.2)
 
-no_items : {A : Type 0} (xs : List A) → length xs ≡ 0 → xs ≡ []
-no_items [] e = refl
-no_items (x ∷ xs) e = absurd (omega arith)
-
-one_empty : (lines : List (List ℕ)) → is_closed lines ≡ true → lines ≡ [] ∷ []
-one_empty [] e = absurd cc
-one_empty (line ∷ lines) e =
-    let both = and_parts (eqb (length line) 0) (eqb (length lines) 0) e in
-    rw (no_items line (eqb-true (length line) 0 both.0), no_items lines (eqb-true (length lines) 0 both.1)) refl
-
 closed_found : (p : LinesLeft) (u : Unit {0}) → closed_at p ≡ Ok u → AreLeft [] p
 unfolding closed_at
-closed_found p u e = record { same = one_empty p.lines (test_found (is_closed p.lines) (TooManyLines, p.line) _ u e).0 }
+closed_found p u e = closed_left p (test_found (is_closed p.lines) (TooManyLines, p.line) _ u e).0
 
 closed_again : (p : LinesLeft) → AreLeft [] p → closed_at p ≡ Ok tt
 unfolding closed_at

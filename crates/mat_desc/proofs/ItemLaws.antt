@@ -20,14 +20,14 @@ use Rattle.mat_desc.specs.Faults.{Fault}
 use Rattle.mat_desc.specs.Labels.{Naming, word_for, IsNaming}
 use Rattle.mat_desc.specs.Reading.{keyed_at, below_at, weight_at, ended_at, ends_at, member_at}
 use Rattle.mat_desc.specs.Reading.{ends_line_at, column_at, binary_at, weighted_at, coloured_edge_at}
-use Rattle.mat_desc.specs.Binary.{binary}
+use Rattle.mat_words.specs.Binary.{binary}
 use Rattle.mat_desc.specs.Grammar.{IsWeight, IsPairBelow, ends_line, column_line, weighted_line, coloured_edge_line}
 use Rattle.mat_words.proofs.ReadingSteps.{found-same, bind_found}
 use Rattle.mat_words.proofs.WordReading.{below_again, weight_at_again}
+use Rattle.mat_words.proofs.BinaryLaws.{binary_word, binary_again}
 use Rattle.mat_words.proofs.LineReading.{AreLeft, keyed_again}
-use Rattle.mat_desc.proofs.Told.{cut_then, below_found, weight_found, ended_found, ended_again, keyed_found}
+use Rattle.mat_desc.proofs.Told.{cut_then, below_found, binary_found, weight_found, ended_found, ended_again, keyed_found}
 use Rattle.mat_desc.proofs.LabelLaws.{member_found, member_again, word_for-word}
-use Rattle.mat_desc.proofs.BinaryLaws.{binary_word, binary_found, binary_again}
 use Rattle.mat_sets.specs.Graphs.{IsGraph}
 use Rattle.mat_gf2.specs.Columns.{IsBinaryMatrix}
 

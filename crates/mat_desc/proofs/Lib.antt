@@ -5,7 +5,6 @@ pub mod Classes
 pub mod NestedSets
 pub mod DistinctNumbers
 pub mod ElementLaws
-pub mod BinaryLaws
 pub mod NumberedNames
 pub mod CappedLineLaws
 pub mod ClassLaws

@@ -13,13 +13,14 @@ use Rattle.mat_words.specs.Reading as reading
 use Rattle.mat_words.proofs.ReadingSteps.{found-same, test_found}
 use Rattle.mat_words.proofs.Repeats.{with_front, repeat_fails}
 use Rattle.mat_words.proofs.WordReading as words
+use Rattle.mat_words.proofs.BinaryLaws as digits
 use Rattle.mat_words.proofs.LineReading as lines
 use Rattle.mat_sets.specs.Limits.{largest_weight}
 use Rattle.mat_desc.specs.declared.refusal.DescKind.TheVariants.{TooManyWords}
 use Rattle.mat_desc.specs.declared.refusal.DescRefusal.{DescRefusal}
 use Rattle.mat_desc.specs.declared.refusal.DescRefusal.TheVariants as refusals
 use Rattle.mat_desc.specs.Faults.{Fault, Fails, told}
-use Rattle.mat_desc.specs.Reading.{line_at, keyed_at, word_at, size_at, below_at, weight_at, next_weights_at, ended_at}
+use Rattle.mat_desc.specs.Reading.{line_at, keyed_at, word_at, size_at, below_at, binary_at, weight_at, next_weights_at, ended_at}
 
 -- ---- what is read
 
@@ -50,6 +51,9 @@ size_found low high w x q e = words.size_found low high w x q (told_found (readi
 
 pub below_found : (bound : ℕ) (w : WordsLeft) (x : ℕ) (q : WordsLeft) → below_at bound w ≡ Ok (x, q) → words.IsBelowRead bound w x q
 below_found bound w x q e = words.below_found bound w x q (told_found (reading.below_at bound w) (x, q) e)
+
+pub binary_found : (many : ℕ) (w : WordsLeft) (z : ℕ) (q : WordsLeft) → binary_at many w ≡ Ok (z, q) → digits.IsBinaryRead many w z q
+binary_found many w z q e = digits.binary_found many w z q (told_found (reading.binary_at many w) (z, q) e)
 
 pub weight_found : (w : WordsLeft) (weight : Weight) (q : WordsLeft) → weight_at w ≡ Ok (weight, q)
     → words.IsWeightRead (neg_ℤ (pos largest_weight)) (pos largest_weight) w weight q

@@ -11,7 +11,7 @@ use Rattle.mat_words.specs.Lines.{Line, text_of}
 use Rattle.mat_words.specs.Writing.{end_line, members_line, weights_line}
 use Rattle.mat_count.specs.Laminar.{IsLaminarFamily}
 use Rattle.mat_any.specs.Trees.{Tree, Trees, uniform, partition, laminar, graphic, transversal, gammoid, gf2, dual, truncate, restrict, contract, union, no_trees, more_trees, tree_count, depth}
-use Rattle.mat_desc.specs.Binary.{binary}
+use Rattle.mat_words.specs.Binary.{binary}
 use Rattle.mat_desc.specs.Limits.{most_sets, most_arcs, most_digits, most_matroids, deepest}
 use Rattle.mat_sets.specs.Limits.{largest_weight, most_vertices, most_elements}
 use Rattle.mat_desc.specs.Instances.{Instance, pair, list, graph, rooted, coloured, table}

@@ -1,4 +1,3 @@
-pub mod Binary
 pub mod Limits
 pub mod Instances
 pub mod Labels

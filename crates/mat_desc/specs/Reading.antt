@@ -1,6 +1,6 @@
 -- Reading a description: the problem that a text spells, or its first fault. Each function takes what is left of the text or of a line, and
 -- the order of its lines is the order in which faults are looked for.
-use Rattle.std.specs.Prelude.{ℕ, zero, suc, ◌==◌, pos, neg_ℤ, nat_lt, ◌&&◌}
+use Rattle.std.specs.Prelude.{ℕ, zero, suc, ◌==◌, pos, neg_ℤ, nat_lt}
 use Rattle.std.specs.Prelude.{if◌then◌else◌, List, [], ◌∷◌, ◌++◌, length, map, codes, bytes_eq}
 use Rattle.std.specs.Prelude.{Option, Some, None, Result, Ok, Err}
 use Rattle.mat_sets.specs.Sets.{is_member, with_one}
@@ -16,7 +16,6 @@ use Rattle.mat_desc.specs.declared.keywords.Version.{Version}
 use Rattle.mat_desc.specs.declared.keywords.Version.TheVariants as versions
 use Rattle.mat_desc.specs.declared.keywords.Keyword.{Keyword}
 use Rattle.mat_desc.specs.declared.keywords.Keyword.TheVariants as keywords
-use Rattle.mat_desc.specs.Binary.{binary_value, is_binary}
 use Rattle.mat_words.specs.Cursors.{WordsLeft, LinesLeft}
 use Rattle.mat_words.specs.Names.{longest_name, name_index, is_among}
 use Rattle.mat_words.specs.Steps.{◌>>=◌, repeat_at}
@@ -47,6 +46,10 @@ size_at low most p = told (reading.size_at low most p)
 -- the next word as a number below the bound
 abbrev pub below_at : ℕ → WordsLeft → Result (ℕ × WordsLeft) Fault
 below_at bound p = told (reading.below_at bound p)
+
+-- the next word as a number of so many binary digits
+abbrev pub binary_at : ℕ → WordsLeft → Result (ℕ × WordsLeft) Fault
+binary_at digits p = told (reading.binary_at digits p)
 
 -- the next word as a weight
 abbrev pub weight_at : WordsLeft → Result (Weight × WordsLeft) Fault
@@ -276,12 +279,6 @@ gammoid_at n words lines = do
   targets ← targets_at vertices.0 n sources.1
   arcs ← repeat_at (ends_line_at None (codes "arc") vertices.0) many.0 targets.1
   Ok (gammoid vertices.0 arcs.0 sources.0 targets.0, arcs.1)
-
--- the next word as a binary number of so many digits
-unfoldable pub binary_at : ℕ → WordsLeft → Result (ℕ × WordsLeft) Fault
-binary_at digits p = do
-  word ← word_at p
-  if (length word.0 == digits) && is_binary word.0 then Ok (binary_value 0 word.0, word.1) else Err (kinds.NumberSpelling, word.1.line)
 
 -- a column line
 unfoldable pub column_at : ℕ → LinesLeft → Result (ℕ × LinesLeft) Fault

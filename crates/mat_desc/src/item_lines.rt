@@ -9,13 +9,12 @@ ghost use Rattle.mat_desc.specs.Reading.{ends_at, ends_line_at, column_at, weigh
 ghost use Rattle.mat_desc.specs.Views.{naming};
 ghost use Rattle.mat_words.specs.Cursors.{lines_left, words_left};
 
-use crate::binary::next_binary;
 use crate::labels::next_member;
 use crate::limits::{LARGEST_WEIGHT, SMALLEST_WEIGHT};
 use crate::reading::ended;
 use crate::refusal::DescRefusal;
 use mat_sets::{PairWeights, Pairs, Weight};
-use mat_words::{LineCursor, Names, WordCursor, keyed_line, next_below, next_weight};
+use mat_words::{LineCursor, Names, WordCursor, keyed_line, next_below, next_binary, next_weight};
 use std::alloc::Global;
 
 /// Two numbers with a weight: an arc with its cost, or a cell with its weight.

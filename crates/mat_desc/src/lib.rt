@@ -1,7 +1,6 @@
 //! Descriptions of problems: the text format, its reader, which names the first fault of a text that spells no problem, and its writer.
 #![tactic(auto)]
 
-mod binary;
 mod item_lines;
 mod keywords;
 mod labels;

@@ -9,14 +9,13 @@ ghost use Rattle.mat_desc.specs.Canonical.{matroid_lines};
 ghost use Rattle.mat_desc.specs.Grammar.{column_line, IsValidTree};
 ghost use Rattle.mat_desc.specs.Views.{naming};
 
-use crate::binary::put_binary;
 use crate::write_lines::{put_capped_lines, put_ends_lines, put_family_lines, put_listing_line};
 use mat_any::AnyMatroid;
 use mat_count::{Laminar, Partition};
 use mat_gf2::Gf2;
 use mat_graphic::Graphic;
 use mat_linked::{Gammoid, Transversal};
-use mat_words::{Names, put_members_line, put_numbers_line};
+use mat_words::{Names, put_binary, put_members_line, put_numbers_line};
 use std::alloc::AllocError;
 
 /// Appends the lines of a partition matroid.

@@ -1,3 +1,5 @@
 pub mod OrderLemmas
 pub mod Climbing
 pub mod Weighing
+pub mod FallingWeights
+pub mod EnteredWeights

@@ -1,2 +1,3 @@
 pub mod Order
+pub mod FallingWeights
 pub mod Greedy

@@ -23,17 +23,20 @@ usage: matbench show FILE                          the canonical text of a descr
        matbench cuts FILE                          arcs of least cost, and prices of vertex sets that pay for them
        matbench check [--workers N] FILE CERT      whether a certificate is right for a description: yes, or what
                                                    fails of it
+       matbench witness RUNG FILE CERT             what shows without a search that a rung of a right certificate of
+                                                   intersect is best
+       matbench verify RUNG FILE CERT WIT          whether a witness shows this: yes, or which part of it fails
        matbench sample [--workers N] KIND SIZE SEED
                                                    a problem made from a number, solved and checked, in one line
        matbench batch [--workers N] LIST           the answers to the jobs of a list, one after the other
        matbench --help                             this text
        matbench --version                          the version
 
-FILE is the name of a description, CERT that of a certificate, LIST that of a list, and - is standard input. What a command gives is
-written to standard output. N is from 1 to 16: so many workers compute the answer side by side, where there is
+FILE is the name of a description, CERT that of a certificate, WIT that of a witness, LIST that of a list, and - is standard
+input. What a command gives is written to standard output. N is from 1 to 16: so many workers compute the answer side by side, where there is
 enough to do; without the option there is one. Right behind a command --workers is always the option, and names no
-file; show, convert and cuts take none. K is from 1 to 64. KIND is pair, list, graph, rooted or table, SIZE from 1 to 500, and
-SEED from 1 to 2147483646. A list is jobs 1, then up to 32 lines job with the words of a command that answers about a
+file; show, convert, cuts, witness and verify take none. K is from 1 to 64, RUNG from 0 to 500. KIND is pair, list, graph,
+rooted or table, SIZE from 1 to 500, and SEED from 1 to 2147483646. A list is jobs 1, then up to 32 lines job with the words of a command that answers about a
 file (best to assign), without its option, then end.
 
 A description is a text. Each line ends with a newline, and its words have one space between them.
@@ -77,15 +80,19 @@ exit statuses, and the line that is then written to standard error:
     0  done
     1  the certificate is not right: the first clause of it that fails (header, weight, dependent, sum, beaten,
        short, cut, overlap, level, outside, missed, claim, empty, root, crossing, tree or colours), with two
-       numbers that say where
+       numbers that say where; or the witness does not show the rung: its first part that fails, from 1 to 4
     2  usage: the words are none of the above
     3  bad description: its first fault, by number and name, and the line
     4  bad certificate: likewise
     5  read fault: a file could not be opened or read
     6  write fault: the answer could not be written whole
     7  memory: there was not enough
-    8  too long: a description or a list of more than 4194304 bytes, or a certificate of more than 67108864
-    9  wrong shape: the form of the problem is not the command's, or not that of the certificate's command
+    8  too long: a description or a list of more than 4194304 bytes, or a certificate or a witness of more
+       than 67108864
+    9  wrong shape: the form of the problem is not the command's, or not that of the certificate's command; or the
+       certificate has no rung of this number
+   11  unwitnessed: a matroid is not uniform, partition, laminar, graphic, gammoid or gf2
+   12  bad witness: its first fault, by number and name, and the line
    13  bad cost: for cuts a cost is below 0 or has a tie
    14  bad list: the line of the first fault
 The script ./matbench ends with 70 where it cannot build the program.

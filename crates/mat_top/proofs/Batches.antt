@@ -94,6 +94,9 @@ module _ (held : List ℕ → Option (List ℕ)) (before now : List ℕ → ℕ)
   refused_jobs list jobs (refusals.BadCertificate kind number) listed why = absurd (unposed_never jobs _ (λ none. none) (λ job none. none) why)
   refused_jobs list jobs refusals.WriteFault listed why = absurd (unposed_never jobs _ (λ none. none) (λ job none. none) why)
   refused_jobs list jobs refusals.BadCost listed why = absurd (unposed_never jobs _ (λ none. none) (λ job none. none) why)
+  refused_jobs list jobs refusals.Unwitnessed listed why = absurd (unposed_never jobs _ (λ none. none) (λ job none. none) why)
+  refused_jobs list jobs (refusals.BadWitness kind number) listed why = absurd (unposed_never jobs _ (λ none. none) (λ job none. none) why)
+  refused_jobs list jobs (refusals.NotShown part) listed why = absurd (unposed_never jobs _ (λ none. none) (λ job none. none) why)
   refused_jobs list jobs (refusals.BadList line) listed why = absurd (unposed_never jobs _ (λ none. none) (λ job none. none) why)
 
 -- ---- the texts

@@ -23,6 +23,9 @@ module _ (held : List ℕ → Option (List ℕ)) (file : List ℕ) where
   as_shown before now refusals.TooLong why = why
   as_shown before now refusals.WrongShape why = why
   as_shown before now refusals.BadCost why = why
+  as_shown before now refusals.Unwitnessed why = why
+  as_shown before now (refusals.BadWitness kind number) why = why
+  as_shown before now (refusals.NotShown part) why = why
   as_shown before now (refusals.BadList line) why = why
   as_shown before now (refusals.BadDescription kind number) why = why
   as_shown before now (refusals.BadCertificate kind number) why = why

@@ -1,6 +1,6 @@
 -- How a command ended, as each clause of the top call says it: by cases on the refusal.
 use Rattle.std.proofs.Common.{◌≡◌, ℕ, List, Option, Some, None, Result, Ok, Err, refl, sym, subst}
-use Rattle.std.specs.Prelude.{IsErrAnd}
+use Rattle.std.specs.Prelude.{IfErr, IsErrAnd}
 use Rattle.mat_top.specs.declared.status.Status.{Status}
 use Rattle.mat_top.specs.declared.status.Status.TheVariants as statuses
 use Rattle.mat_top.specs.declared.status.Refusal.{Refusal}
@@ -32,6 +32,9 @@ refused held task before now old out_before out_now refusals.Memory cause = (cau
 refused held task before now old out_before out_now refusals.TooLong cause = (cause, refl)
 refused held task before now old out_before out_now refusals.WrongShape cause = (cause, refl)
 refused held task before now old out_before out_now refusals.BadCost cause = (cause, refl)
+refused held task before now old out_before out_now refusals.Unwitnessed cause = (cause, refl)
+refused held task before now old out_before out_now (refusals.BadWitness kind number) cause = (cause, refl)
+refused held task before now old out_before out_now (refusals.NotShown part) cause = (cause, refl)
 refused held task before now old out_before out_now (refusals.BadList line) cause = (cause, refl)
 
 pub ended-refused : (held : List ℕ → Option (List ℕ)) (task : Task) (before now : List ℕ → ℕ) (old : Option (List ℕ))
@@ -41,6 +44,13 @@ pub ended-refused : (held : List ℕ → Option (List ℕ)) (task : Task) (befor
 ended-refused held task before now old out_before out_now refusal (Ok done) is cause = absurd is
 ended-refused held task before now old out_before out_now refusal (Err e) is cause =
     refused held task before now old out_before out_now e (subst (λ r. IsRefusal held task before now r) (sym is) cause)
+
+-- there is no text
+pub text-refused : {X : Type 0} (held : List ℕ → Option (List ℕ)) (task : Task) (before now : List ℕ → ℕ) (refusal : Refusal)
+    (found : Result X Refusal)
+    → IsErrAnd found (λ e. e ≡ refusal) → IsRefusal held task before now refusal → IfErr found (λ e. IsRefusal held task before now e)
+text-refused held task before now refusal (Ok x) is cause = absurd is
+text-refused held task before now refusal (Err e) is cause = subst (λ r. IsRefusal held task before now r) (sym is) cause
 
 -- a fault of writing or reading and want of memory tell nothing of a file
 tells_nothing : (held : List ℕ → Option (List ℕ)) (task : Task) → IsTrueOf held (Some task) refusals.WriteFault
@@ -68,6 +78,9 @@ module _ (held : List ℕ → Option (List ℕ)) (task : Task) (before now : Lis
   ended-written (Err refusals.TooLong) e = e.1
   ended-written (Err refusals.WrongShape) e = e.1
   ended-written (Err refusals.BadCost) e = e.1
+  ended-written (Err refusals.Unwitnessed) e = e.1
+  ended-written (Err (refusals.BadWitness kind number)) e = e.1
+  ended-written (Err (refusals.NotShown part)) e = e.1
   ended-written (Err (refusals.BadList line)) e = e.1
 
   -- the refusal tells what is so
@@ -82,6 +95,9 @@ module _ (held : List ℕ → Option (List ℕ)) (task : Task) (before now : Lis
   ended-true refusals.TooLong e = e.0.1
   ended-true refusals.WrongShape e = e.0.1
   ended-true refusals.BadCost e = e.0.1
+  ended-true refusals.Unwitnessed e = e.0.1
+  ended-true (refusals.BadWitness kind number) e = e.0.1
+  ended-true (refusals.NotShown part) e = e.0.1
   ended-true (refusals.BadList line) e = e.0.1
 
 -- a refusal's note is that of its status
@@ -97,6 +113,9 @@ note_is held asked (refusals.No reason first second) h = (refusals.No reason fir
 note_is held asked refusals.TooLong h = (refusals.TooLong, refl, refl, h)
 note_is held asked refusals.WrongShape h = (refusals.WrongShape, refl, refl, h)
 note_is held asked refusals.BadCost h = (refusals.BadCost, refl, refl, h)
+note_is held asked refusals.Unwitnessed h = (refusals.Unwitnessed, refl, refl, h)
+note_is held asked (refusals.BadWitness kind number) h = (refusals.BadWitness kind number, refl, refl, h)
+note_is held asked (refusals.NotShown part) h = (refusals.NotShown part, refl, refl, h)
 note_is held asked (refusals.BadList line) h = (refusals.BadList line, refl, refl, h)
 
 -- the note of words that are no command

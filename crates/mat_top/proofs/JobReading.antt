@@ -1,4 +1,4 @@
--- Reading a list of jobs: the words of a line are text, no more than the first six of them matter, and the lines are read one job after the
+-- Reading a list of jobs: the words of a line are text, no more than the first seven of them matter, and the lines are read one job after the
 -- other, as a loop reads them: the jobs so far, in front of those that are still read, are the jobs that are read in all.
 use Rattle.std.proofs.Common.{◌≡◌, ℕ, zero, suc, ◌-◌, ◌+◌, ◌≤◌, ◌<◌, Bool, true, false, not, cond, eqb, leb}
 use Rattle.std.proofs.Common.{List, [], ◌∷◌, ◌++◌, length}
@@ -62,7 +62,7 @@ pub first_kept : (words rest whole : List (List ℕ)) → words ++ rest ≡ whol
 first_kept words rest whole e many =
     sym (take_all kept_words words (omega arith)) ∙ sym (take-append-le kept_words words rest (omega arith)) ∙ ap (take kept_words) e
 
--- ---- the words behind the first six say nothing
+-- ---- the words behind the first seven say nothing
 
 head_kept : (words : List (List ℕ)) → is_head (take kept_words words) ≡ is_head words
 head_kept [] = refl
@@ -82,7 +82,8 @@ job_kept (a ∷ b ∷ []) = refl
 job_kept (a ∷ b ∷ c ∷ []) = refl
 job_kept (a ∷ b ∷ c ∷ d ∷ []) = refl
 job_kept (a ∷ b ∷ c ∷ d ∷ e ∷ []) = refl
-job_kept (a ∷ b ∷ c ∷ d ∷ e ∷ f ∷ words) = refl
+job_kept (a ∷ b ∷ c ∷ d ∷ e ∷ f ∷ []) = refl
+job_kept (a ∷ b ∷ c ∷ d ∷ e ∷ f ∷ g ∷ words) = refl
 
 -- ---- the lines
 

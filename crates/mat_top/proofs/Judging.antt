@@ -19,7 +19,8 @@ use Rattle.mat_check.specs.declared.verdict.Verdict.TheVariants.{Yes, No}
 use Rattle.mat_top.specs.declared.status.Status.TheVariants as statuses
 use Rattle.mat_top.specs.declared.status.Refusal.TheVariants as refusals
 use Rattle.mat_top.specs.Statuses.{refusal_of_certificate}
-use Rattle.mat_top.specs.Outcomes.{IsCertified, IsCertificateOutcome}
+use Rattle.mat_top.specs.Certified.{IsCertified}
+use Rattle.mat_top.specs.Outcomes.{IsCertificateOutcome}
 use Rattle.mat_top.specs.Refusals.{IsDenial}
 
 -- why the bytes are no answer

@@ -9,6 +9,10 @@ pub mod PackSolutions
 pub mod GraphSolutions
 pub mod Told
 pub mod Describing
+pub mod Unwitnessed
+pub mod RungAnswers
+pub mod WitnessRefusals
+pub mod NoCommands
 pub mod Refusing
 pub mod Judging
 pub mod Ending

@@ -15,7 +15,7 @@ use Rattle.mat_top.specs.CommandLines.{takes_workers, begins_with_option, comman
 workers_again : (n : ℕ) → 1 ≤ n → n ≤ 16 → number_up_to 16 (numeral (pos n)) ≡ Some n
 workers_again n least most = rw (number_again (pos 1) (pos 16) (pos n) (omega (arith, ints)) (omega (arith, ints))) refl
 
--- ---- every command but `show`, `cuts` and `convert` takes the option
+-- ---- every command but `show`, `cuts`, `convert`, `witness` and `verify` takes the option
 
 if_takes : (test : Bool) (task : Task) (rest : Option Task) → takes_workers task ≡ true → IfSome rest (λ t. takes_workers t ≡ true)
     → IfSome (if test then Some task else rest) (λ t. takes_workers t ≡ true)
@@ -50,19 +50,21 @@ named_takes false rest h = tt
 
 all_take : (command : List ℕ) (arguments : List (List ℕ)) → bytes_eq command (codes "show") ≡ false
     → bytes_eq command (codes "cuts") ≡ false → bytes_eq command (codes "convert") ≡ false
+    → bytes_eq command (codes "witness") ≡ false → bytes_eq command (codes "verify") ≡ false
     → IfSome (task_for command arguments) (λ task. takes_workers task ≡ true)
-all_take command [] other apart same = tt
-all_take command (file ∷ []) other apart same =
+all_take command [] other apart same unwitnessed unverified = tt
+all_take command (file ∷ []) other apart same unwitnessed unverified =
     if_takes (bytes_eq command (codes "batch")) (batch file)
     (if bytes_eq command (codes "convert") then Some (convert file) else option_map (about file) (request_for command)) refl
     (rw (other, apart, same) (solving_takes file (query_for command)))
-all_take command (first ∷ second ∷ []) other apart same =
+all_take command (first ∷ second ∷ []) other apart same unwitnessed unverified =
     if_takes (bytes_eq command (codes "check")) (about first (check second)) (with_number command first second) refl
     (number_takes second (number_up_to 64 first) (query_of_trees command))
-all_take command (first ∷ second ∷ third ∷ []) other apart same =
-    named_takes (bytes_eq command (codes "sample")) (sample_for first second third)
-    (sample_takes (kind_in first) (number_up_to most_elements second) (number_up_to 2147483646 third))
-all_take command (first ∷ second ∷ third ∷ fourth ∷ more) other apart same = tt
+all_take command (first ∷ second ∷ third ∷ []) other apart same unwitnessed unverified =
+    rw unwitnessed (named_takes (bytes_eq command (codes "sample")) (sample_for first second third)
+    (sample_takes (kind_in first) (number_up_to most_elements second) (number_up_to 2147483646 third)))
+all_take command (first ∷ second ∷ third ∷ fourth ∷ []) other apart same unwitnessed unverified = rw unverified tt
+all_take command (first ∷ second ∷ third ∷ fourth ∷ fifth ∷ more) other apart same unwitnessed unverified = tt
 
 with_workers : (n : ℕ) (o : Option Task) → IfSome o (λ task. takes_workers task ≡ true)
     → (o >>= λ task. if takes_workers task then Some (by_workers n task) else None)
@@ -72,9 +74,10 @@ with_workers n (Some task) take = rw take refl
 
 pub same_task : (command : List ℕ) (arguments : List (List ℕ)) (n : ℕ) → 1 ≤ n → n ≤ 16
     → bytes_eq command (codes "show") ≡ false → bytes_eq command (codes "cuts") ≡ false
-    → bytes_eq command (codes "convert") ≡ false → begins_with_option arguments ≡ false
+    → bytes_eq command (codes "convert") ≡ false → bytes_eq command (codes "witness") ≡ false
+    → bytes_eq command (codes "verify") ≡ false → begins_with_option arguments ≡ false
     → command_line (command ∷ codes "--workers" ∷ numeral (pos n) ∷ arguments)
     ≡ option_map (by_workers n) (asked_by (command ∷ arguments))
 unfolding command_line
-same_task command arguments n least most other apart same plain =
-    rw (workers_again n least most, plain) (with_workers n (task_for command arguments) (all_take command arguments other apart same))
+same_task command arguments n least most other apart same unwitnessed unverified plain =
+    rw (workers_again n least most, plain) (with_workers n (task_for command arguments) (all_take command arguments other apart same unwitnessed unverified))

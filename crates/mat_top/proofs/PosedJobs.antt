@@ -5,7 +5,6 @@ use Rattle.std.proofs.Common.{refl, inl, inr, sym, ap, subst, ◌∙◌, arith}
 use Rattle.std.specs.Prelude.{map, length, drop, get_or, IfSome}
 use Rattle.std.proofs.lemmas.List.{append_assoc, append-nil, drop_more, drop_all}
 use Rattle.std.proofs.lemmas.List.Elements.{All-push}
-use Rattle.mat_shelf.specs.Faults.{Rose}
 use Rattle.mat_desc.specs.Instances.{Instance}
 use Rattle.mat_desc.specs.Views.{instance_of}
 use Rattle.mat_top.specs.declared.posed.PosedJob.{PosedJob}
@@ -20,7 +19,7 @@ use Rattle.mat_top.specs.PosedJobs.{IsPosed, ArePosed, IsPosable, IsOfOtherForm,
 use Rattle.mat_top.specs.Queries.{has_form}
 use Rattle.mat_top.specs.Refusals.{IsJobProblem}
 use Rattle.mat_top.specs.Views.{job_of}
-use Rattle.mat_top.proofs.Told.{if_told}
+use Rattle.mat_top.proofs.Told.{if_told, rose_before}
 
 pub may_be_solved : (held : List ℕ → Option (List ℕ)) (job : Job) (instance : Instance) → IsJobProblem held job instance
     → MayBeSolved held job
@@ -47,10 +46,6 @@ posed_there held there job posed same is = record {
   };
 }
 
-rose_before : (first before now : ℕ) → first ≤ before → Rose before now → Rose first now
-rose_before first before now earlier (inl less) = inl (omega arith)
-rose_before first before now earlier (inr last) = inr last
-
 unposed_there : (held there : List ℕ → Option (List ℕ)) (job : Job) (first before now : List ℕ → ℕ) (refusal : Refusal)
     → there job.file ≡ held job.file → first job.file ≤ before job.file → IsUnposed held job before now refusal
     → IsUnposed there job first now refusal
@@ -69,6 +64,9 @@ unposed_there held there job first before now refusals.Usage same earlier why = 
 unposed_there held there job first before now (refusals.BadCertificate kind number) same earlier why = absurd why
 unposed_there held there job first before now refusals.WriteFault same earlier why = absurd why
 unposed_there held there job first before now refusals.BadCost same earlier why = absurd why
+unposed_there held there job first before now refusals.Unwitnessed same earlier why = absurd why
+unposed_there held there job first before now (refusals.BadWitness kind number) same earlier why = absurd why
+unposed_there held there job first before now (refusals.NotShown part) same earlier why = absurd why
 unposed_there held there job first before now (refusals.BadList line) same earlier why = absurd why
 
 pub are_posed_there : (held there : List ℕ → Option (List ℕ)) (jobs : List Job) (posed : List PosedJob)

@@ -1,6 +1,7 @@
 -- What is known of a file where the shelf tells what it holds.
-use Rattle.std.proofs.Common.{◌≡◌, ℕ, List, Option, Some, None, refl, sym, subst}
+use Rattle.std.proofs.Common.{◌≡◌, ℕ, ◌≤◌, List, Option, Some, None, inl, inr, refl, sym, subst, arith}
 use Rattle.std.specs.Prelude.{IfSome, IsSome, IsSomeAnd}
+use Rattle.mat_shelf.specs.Faults.{Rose}
 
 -- what holds of the bytes that were read holds of the file
 pub of_file : (held : Option (List ℕ)) (bytes : List ℕ) (P : List ℕ → Type 0) → IfSome held (λ all. all ≡ bytes) → P bytes
@@ -14,6 +15,12 @@ pub told : (o : Option (List ℕ)) (P Q : List ℕ → Type 0) → IsSome o → 
 told None P Q some h f = absurd cc
 told (Some bytes) P Q some h f = f bytes h
 
+-- and where a fact of what is told comes with it
+pub told_both : (o : Option (List ℕ)) (P Q R : List ℕ → Type 0) → IsSomeAnd o P → IfSome o Q
+    → ((bytes : List ℕ) → P bytes → Q bytes → R bytes) → IsSomeAnd o R
+told_both None P Q R h k f = absurd h
+told_both (Some bytes) P Q R h k f = f bytes h k
+
 pub if_told : (o : Option (List ℕ)) (P Q : List ℕ → Type 0) → ((bytes : List ℕ) → P bytes → Q bytes) → IfSome o P → IfSome o Q
 if_told None P Q f h = tt
 if_told (Some bytes) P Q f h = f bytes h
@@ -22,3 +29,8 @@ if_told (Some bytes) P Q f h = f bytes h
 pub some_told : (o : Option (List ℕ)) (P : List ℕ → Type 0) → IsSomeAnd o P → IsSome o
 some_told None P h = absurd h
 some_told (Some bytes) P h = refl
+
+-- a count that rose rose from a lesser one
+pub rose_before : (first before now : ℕ) → first ≤ before → Rose before now → Rose first now
+rose_before first before now earlier (inl less) = inl (omega arith)
+rose_before first before now earlier (inr last) = inr last

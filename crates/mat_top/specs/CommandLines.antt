@@ -19,6 +19,10 @@ pub data Request : Type 0 where
   cuts : Request
   -- whether the certificate in the file of this name is right
   check : List ℕ → Request
+  -- a witness for the rung with this number of the certificate in the file of this name
+  witness : ℕ → List ℕ → Request
+  -- whether the witness in the file of the last name shows this rung of the certificate in the file of the first
+  verify : ℕ → List ℕ → List ℕ → Request
 
 -- what a command line asks for
 pub data Task : Type 0 where
@@ -65,9 +69,17 @@ abbrev pub query_of_trees : List ℕ → ℕ → Option Query
 query_of_trees command k =
     if bytes_eq command (codes "trees") then Some (Trees k) else (if bytes_eq command (codes "disjoint") then Some (Disjoint k) else None)
 
+-- the number from `least` to `most` that a word spells
+abbrev pub number_from : ℕ → ℕ → List ℕ → Option ℕ
+number_from least most word = option_map nat_abs (result_ok (number_in (pos least) (pos most) word))
+
 -- the number from 1 to this bound that a word spells
 abbrev pub number_up_to : ℕ → List ℕ → Option ℕ
-number_up_to most word = option_map nat_abs (result_ok (number_in (pos 1) (pos most) word))
+number_up_to most word = number_from 1 most word
+
+-- the number of a rung, from 0 to 500, that a word spells
+abbrev pub rung_number : List ℕ → Option ℕ
+rung_number word = number_from 0 most_elements word
 
 -- the kind of sample that a word names
 abbrev pub kind_in : List ℕ → Option SampleKind
@@ -108,16 +120,27 @@ sample_for first second third = do
   size ← number_up_to most_elements second
   option_map (sample kind size) (number_up_to 2147483646 third)
 
+-- a witness for a rung of the certificate in a file
+abbrev pub witness_of : List ℕ → List ℕ → List ℕ → Option Task
+witness_of rung file certificate = option_map (λ k. about file (witness k certificate)) (rung_number rung)
+
 -- a command and three arguments
 abbrev pub with_three : List ℕ → List ℕ → List ℕ → List ℕ → Option Task
 with_three command first second third =
-    if bytes_eq command (codes "sample") then sample_for first second third else None
+    if bytes_eq command (codes "sample") then sample_for first second third else
+    (if bytes_eq command (codes "witness") then witness_of first second third else None)
+
+-- a command and four arguments
+abbrev pub with_four : List ℕ → List ℕ → List ℕ → List ℕ → List ℕ → Option Task
+with_four command rung file certificate shown =
+    if bytes_eq command (codes "verify") then option_map (λ k. about file (verify k certificate shown)) (rung_number rung) else None
 
 -- what a command with these arguments asks for
 abbrev pub task_for : List ℕ → List (List ℕ) → Option Task
 task_for command (file ∷ []) = with_file command file
 task_for command (first ∷ second ∷ []) = with_two command first second
 task_for command (first ∷ second ∷ third ∷ []) = with_three command first second third
+task_for command (first ∷ second ∷ third ∷ fourth ∷ []) = with_four command first second third fourth
 task_for command arguments = None
 
 -- ---- the option
@@ -131,6 +154,8 @@ begins_with_option (first ∷ others) = bytes_eq first (codes "--workers")
 abbrev pub takes_workers : Task → Bool
 takes_workers (about file show) = false
 takes_workers (about file cuts) = false
+takes_workers (about file (witness k certificate)) = false
+takes_workers (about file (verify k certificate shown)) = false
 takes_workers (convert file) = false
 takes_workers task = true
 

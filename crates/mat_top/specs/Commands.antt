@@ -5,10 +5,10 @@ use Rattle.mat_sets.specs.Limits.{most_elements}
 use Rattle.mat_top.specs.declared.command.Command.{Command}
 use Rattle.mat_top.specs.declared.command.Command.TheVariants.{About, Sample, Batch, Convert}
 use Rattle.mat_top.specs.declared.command.Request as declared
-use Rattle.mat_top.specs.declared.command.Request.TheVariants.{Show, Solve, Cuts, Check}
+use Rattle.mat_top.specs.declared.command.Request.TheVariants.{Show, Solve, Cuts, Check, Witness, Verify}
 use Rattle.mat_top.specs.declared.query.Query.{Query}
 use Rattle.mat_top.specs.declared.query.Query.TheVariants.{Best, Intersect, Union, Pack, Cover, Trees, Arborescence, Disjoint, Rainbow, Assign}
-use Rattle.mat_top.specs.CommandLines.{Request, show, solve, cuts, check, Task, about, sample, batch, convert}
+use Rattle.mat_top.specs.CommandLines.{Request, show, solve, cuts, check, witness, verify, Task, about, sample, batch, convert}
 
 -- what is asked about a problem
 abbrev pub request_of : declared.Request → Request
@@ -16,6 +16,8 @@ request_of Show = show
 request_of (Solve query) = solve query
 request_of Cuts = cuts
 request_of (Check certificate) = check certificate.now
+request_of (Witness rung certificate) = witness rung certificate.now
+request_of (Verify rung certificate shown) = verify rung certificate.now shown.now
 
 -- what a command asks for
 abbrev pub task_of : Command → Task
@@ -65,6 +67,8 @@ IsRequestInRange-prop show = Unit-prop
 IsRequestInRange-prop (solve query) = IsQueryInRange-prop query
 IsRequestInRange-prop cuts = Unit-prop
 IsRequestInRange-prop (check certificate) = Unit-prop
+IsRequestInRange-prop (witness rung certificate) = Unit-prop
+IsRequestInRange-prop (verify rung certificate shown) = Unit-prop
 
 pub IsTaskInRange-prop : (task : Task) → IsProp (IsTaskInRange task)
 IsTaskInRange-prop (about file request) = IsRequestInRange-prop request

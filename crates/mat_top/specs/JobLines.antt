@@ -18,9 +18,9 @@ abbrev pub Gives : {X Y : Type 0} → (X → Y) → Result X Refusal → Result 
 Gives view (Ok x) reading = reading ≡ Ok (view x)
 Gives view (Err refusal) reading = Fails refusal reading
 
--- how many words of a line are kept: one more than a line of a list may have
+-- how many words of a line are kept: one more than `job` and any command with its arguments
 abbrev pub kept_words : ℕ
-kept_words = 6
+kept_words = 7
 
 -- the first words of the next line, and the lines behind it
 unfoldable pub words_at : LinesLeft → Result (List (List ℕ) × LinesLeft) ℕ

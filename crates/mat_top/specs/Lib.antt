@@ -9,6 +9,8 @@ pub mod JobLists
 pub mod JobLines
 pub mod Summaries
 pub mod SummaryTexts
+pub mod Certified
+pub mod Witnessing
 pub mod Outcomes
 pub mod WholeFiles
 pub mod PricedRungs

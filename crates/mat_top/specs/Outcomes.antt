@@ -9,20 +9,23 @@ use Rattle.mat_desc.specs.Grammar.{Spells, SpellsNamed}
 use Rattle.mat_desc.specs.Labels.{NamedInstance}
 use Rattle.mat_desc.specs.Reading.{read_of}
 use Rattle.mat_desc.specs.Canonical.{canonical_text, named_text}
-use Rattle.mat_cert.specs.Certificates.{Certificate, certificate_text, IsRanged}
+use Rattle.mat_cert.specs.Certificates.{Certificate}
 use Rattle.mat_cert.specs.Faults as certificate_faults
 use Rattle.mat_cert.specs.Limits.{certificate_limit}
-use Rattle.mat_cert.specs.Reading as certificate_reading
 use Rattle.mat_check.specs.AnswerClauses.{failure_of}
 use Rattle.mat_check.specs.Clauses.{Failure}
 use Rattle.mat_check.specs.Fitting.{fits, is_rooted}
 use Rattle.mat_check.specs.Right.{IsRight}
+use Rattle.mat_witness.specs.Kinds.{is_witnessed_pair}
+use Rattle.mat_witness.specs.Lines.{witness_limit}
 use Rattle.mat_top.specs.declared.status.Status.{Status}
 use Rattle.mat_top.specs.declared.status.Status.TheVariants as statuses
 use Rattle.mat_top.specs.declared.status.Refusal.{Refusal}
 use Rattle.mat_top.specs.declared.status.Refusal.TheVariants as refusals
 use Rattle.mat_top.specs.Statuses.{status_of, note_of, joined}
-use Rattle.mat_top.specs.CommandLines.{Request, show, solve, cuts, check, Task, about, sample, batch, convert}
+use Rattle.mat_top.specs.CommandLines.{Request, show, solve, cuts, check, witness, verify, Task, about, sample, batch, convert}
+use Rattle.mat_top.specs.Certified.{IsCertified, IsFaultyCertificate}
+use Rattle.mat_top.specs.Witnessing.{fits_rung, IsFaultyWitness, IsNotShowing, IsRungAnswer, IsShowing}
 use Rattle.mat_top.specs.CutTexts.{HasPayableCosts, IsCutsText}
 use Rattle.mat_top.specs.JobLists.{Job, jobs_of}
 use Rattle.mat_top.specs.Queries.{has_form}
@@ -51,17 +54,6 @@ pub record IsNamed (bytes : List ℕ) (problem : NamedInstance) : Type 0 where
   pub within : length bytes ≤ description_limit
   pub spelled : SpellsNamed bytes problem
 
--- the bytes of a certificate have this first fault
-pub record IsFaultyCertificate (bytes : List ℕ) (fault : certificate_faults.Fault) : Type 0 where
-  pub within : length bytes ≤ certificate_limit
-  pub first : certificate_reading.read_of bytes ≡ Err fault
-
--- the bytes are the text of this answer
-pub record IsCertified (bytes : List ℕ) (answer : Certificate) : Type 0 where
-  pub within : length bytes ≤ certificate_limit
-  pub ranged : IsRanged answer
-  pub text : bytes ≡ certificate_text answer
-
 -- the form of the problem is that of the request; every form can be shown
 abbrev pub HasForm : Request → Instance → Type 0
 HasForm (solve query) instance = has_form query instance ≡ true
@@ -87,6 +79,31 @@ IsCertificateOutcome instance bytes statuses.No =
     (answer : Certificate) × IsCertified bytes answer × (fits instance answer ≡ true) × (IsRight instance answer → ⊥)
 IsCertificateOutcome instance bytes status = ⊥
 
+-- the first row that applies to the bytes of a certificate before a rung of it is witnessed
+abbrev pub IsRungOutcome : Instance → ℕ → List ℕ → Status → Type 0
+IsRungOutcome instance k bytes statuses.TooLong = certificate_limit < length bytes
+IsRungOutcome instance k bytes statuses.BadCertificate = (fault : certificate_faults.Fault) × IsFaultyCertificate bytes fault
+IsRungOutcome instance k bytes statuses.WrongShape =
+    (answer : Certificate) × IsCertified bytes answer × (fits_rung instance answer k ≡ false)
+IsRungOutcome instance k bytes statuses.Unwitnessed =
+    (answer : Certificate) × IsCertified bytes answer × (fits_rung instance answer k ≡ true) × (is_witnessed_pair instance ≡ false)
+IsRungOutcome instance k bytes status = ⊥
+
+-- the first row that applies to an answer whose rung is to be witnessed
+abbrev pub IsWitnessOutcome : Instance → Certificate → Status → Type 0
+IsWitnessOutcome instance answer statuses.Done = IsRight instance answer
+IsWitnessOutcome instance answer statuses.No = IsRight instance answer → ⊥
+IsWitnessOutcome instance answer status = ⊥
+
+-- the first row that applies to the bytes of a witness for rung k of an answer
+abbrev pub IsVerifyOutcome : Instance → Certificate → ℕ → List ℕ → Status → Type 0
+IsVerifyOutcome instance answer k bytes statuses.TooLong = witness_limit < length bytes
+IsVerifyOutcome instance answer k bytes statuses.BadWitness =
+    (fault : certificate_faults.Fault) × IsFaultyWitness instance answer k bytes fault
+IsVerifyOutcome instance answer k bytes statuses.Done = IsShowing instance answer k bytes
+IsVerifyOutcome instance answer k bytes statuses.No = (part : ℕ) × IsNotShowing instance answer k bytes part
+IsVerifyOutcome instance answer k bytes status = ⊥
+
 -- the first row that applies to a problem whose costs have to be paid by weights of vertex sets
 abbrev pub IsCutsOutcome : Instance → Status → Type 0
 IsCutsOutcome instance statuses.WrongShape = HasForm cuts instance → ⊥
@@ -107,6 +124,11 @@ IsProblemOutcome held (solve query) instance status = IsSolveOutcome query insta
 IsProblemOutcome held cuts instance status = IsCutsOutcome instance status
 IsProblemOutcome held (check certificate) instance status =
     IsSomeAnd (held certificate) (λ bytes. IsCertificateOutcome instance bytes status)
+IsProblemOutcome held (witness k certificate) instance status = IsSomeAnd (held certificate) (λ bytes.
+    IsRungOutcome instance k bytes status ⊎ ((answer : Certificate) × IsRungAnswer instance k bytes answer × IsWitnessOutcome instance answer status))
+IsProblemOutcome held (verify k certificate shown) instance status = IsSomeAnd (held certificate) (λ bytes.
+    IsRungOutcome instance k bytes status ⊎ ((answer : Certificate) × IsRungAnswer instance k bytes answer
+    × IsSomeAnd (held shown) (λ text. IsVerifyOutcome instance answer k text status)))
 
 -- the first row that applies to a request about the problem that these bytes describe
 abbrev pub IsBytesOutcome : (List ℕ → Option (List ℕ)) → Request → List ℕ → Status → Type 0
@@ -160,9 +182,12 @@ IsOutcome held (Some (sample kind size seed)) status = status ≡ statuses.Done
 IsOutcome held (Some (batch list)) status = IsSomeAnd (held list) (λ bytes. IsBatchOutcome held bytes status)
 IsOutcome held (Some (convert file)) status = IsSomeAnd (held file) (λ bytes. IsBytesOutcome held show bytes status)
 
--- the shelf tells the certificate where the outcome needs it
+-- the shelf tells the certificate, and the witness, where the outcome needs it
 abbrev pub TellsCertificate : (List ℕ → Option (List ℕ)) → Request → List ℕ → Type 0
 TellsCertificate held (check certificate) bytes = (instance : Instance) → IsDescribed bytes instance → IsSome (held certificate)
+TellsCertificate held (witness k certificate) bytes = (instance : Instance) → IsDescribed bytes instance → IsSome (held certificate)
+TellsCertificate held (verify k certificate shown) bytes = (instance : Instance) → IsDescribed bytes instance
+    → IsSomeAnd (held certificate) (λ text. (answer : Certificate) → IsRungAnswer instance k text answer → IsSome (held shown))
 TellsCertificate held request bytes = Unit {0}
 
 -- the shelf tells the file of each job up to the first that is refused
@@ -178,11 +203,17 @@ Tells held (Some (sample kind size seed)) = Unit {0}
 Tells held (Some (batch list)) = IsSomeAnd (held list) (λ bytes. (jobs : List Job) → IsListed bytes jobs → TellsJobs held jobs)
 Tells held (Some (convert file)) = IsSomeAnd (held file) (TellsCertificate held show)
 
--- the files that a request about the problem in this file reaches: that file, and that of the certificate where nothing that is told of the
--- description refuses the call before
+-- the files that a request about the problem in this file reaches: that file, that of the certificate where nothing that is told of the
+-- description refuses the call before, and that of the witness where nothing that is told of the certificate does
 abbrev pub RequestReaches : (List ℕ → Option (List ℕ)) → List ℕ → Request → List ℕ → Type 0
 RequestReaches held file (check certificate) name =
     (name ≡ file) ⊎ ((name ≡ certificate) × IfSome (held file) (λ bytes. (instance : Instance) × IsDescribed bytes instance))
+RequestReaches held file (witness k certificate) name =
+    (name ≡ file) ⊎ ((name ≡ certificate) × IfSome (held file) (λ bytes. (instance : Instance) × IsDescribed bytes instance))
+RequestReaches held file (verify k certificate shown) name =
+    (name ≡ file) ⊎ (((name ≡ certificate) × IfSome (held file) (λ bytes. (instance : Instance) × IsDescribed bytes instance))
+    ⊎ ((name ≡ shown) × IfSome (held file) (λ bytes. (instance : Instance) × IsDescribed bytes instance
+    × IfSome (held certificate) (λ text. (answer : Certificate) × IsRungAnswer instance k text answer))))
 RequestReaches held file request name = name ≡ file
 
 -- the files that jobs reach: each up to that of the first job that what is told of its file refuses
@@ -205,6 +236,13 @@ CallReaches held (Some (convert file)) name = RequestReaches held file show name
 abbrev pub yes_text : List ℕ
 yes_text = codes "yes" ++ 10 ∷ []
 
+-- the text is that of a witness that shows rung k of the right answer in the certificate
+pub record IsWitnessFound (instance : Instance) (k : ℕ) (bytes text : List ℕ) : Type 0 where
+  pub answer : Certificate
+  pub of_rung : IsRungAnswer instance k bytes answer
+  pub right : IsRight instance answer
+  pub shows : IsShowing instance answer k text
+
 -- the text is what a request about a problem writes
 abbrev pub IsTextFor : (List ℕ → Option (List ℕ)) → Request → Instance → List ℕ → Type 0
 IsTextFor held show instance text = text ≡ canonical_text instance
@@ -212,6 +250,10 @@ IsTextFor held (solve query) instance text = HasForm (solve query) instance × I
 IsTextFor held cuts instance text = HasPayableCosts instance × IsCutsText instance text
 IsTextFor held (check certificate) instance text =
     (text ≡ yes_text) × IfSome (held certificate) (λ bytes. IsCertificateOutcome instance bytes statuses.Done)
+IsTextFor held (witness k certificate) instance text = IfSome (held certificate) (λ bytes. IsWitnessFound instance k bytes text)
+IsTextFor held (verify k certificate shown) instance text =
+    (text ≡ yes_text) × IfSome (held certificate) (λ bytes. (answer : Certificate) × IsRungAnswer instance k bytes answer
+    × IfSome (held shown) (λ witness. IsVerifyOutcome instance answer k witness statuses.Done))
 
 -- the text is what the request writes for the problem that the bytes spell
 pub record IsAnswerTo (held : List ℕ → Option (List ℕ)) (request : Request) (bytes text : List ℕ) : Type 0 where
@@ -219,9 +261,10 @@ pub record IsAnswerTo (held : List ℕ → Option (List ℕ)) (request : Request
   pub described : IsDescribed bytes instance
   pub answer : IsTextFor held request instance text
 
--- the text of a solving command is no longer than a certificate may be
+-- the text of a solving command is no longer than a certificate may be, and a witness no longer than one may be
 abbrev pub IsShort : Request → List ℕ → Type 0
 IsShort (solve query) text = length text ≤ certificate_limit
+IsShort (witness k certificate) text = length text ≤ witness_limit
 IsShort request text = Unit {0}
 
 -- what may be written for a request about the problem in a file: where the file is told, what the request writes for it
@@ -285,14 +328,44 @@ pub record HasFailure (description certificate : List ℕ) (failure : Failure) :
   pub described : IsDescribed description instance
   pub failed : HasClauseFailure instance certificate failure
 
--- a refusal of a request about the problem in this file tells what is so: the first fault of the description, the first fault of the
--- certificate, and the first clause that fails, where the files are told
+-- the witness for rung k of the answer in the certificate, over the problem in the description, has this first fault
+pub record HasWitnessFault (k : ℕ) (description certificate bytes : List ℕ) (fault : certificate_faults.Fault) : Type 0 where
+  pub instance : Instance
+  pub described : IsDescribed description instance
+  pub answer : Certificate
+  pub of_rung : IsRungAnswer instance k certificate answer
+  pub faulty : IsFaultyWitness instance answer k bytes fault
+
+-- this part is the first of the witness that fails
+pub record HasFailingPart (k : ℕ) (description certificate bytes : List ℕ) (part : ℕ) : Type 0 where
+  pub instance : Instance
+  pub described : IsDescribed description instance
+  pub answer : Certificate
+  pub of_rung : IsRungAnswer instance k certificate answer
+  pub fails : IsNotShowing instance answer k bytes part
+
+-- a refusal of a request about the problem in this file tells what is so: the first fault of the description, of the certificate or of the
+-- witness, and the first clause or part that fails, where the files are told
 abbrev pub IsTrueOfRequest : (List ℕ → Option (List ℕ)) → List ℕ → Request → Refusal → Type 0
 IsTrueOfRequest held file request (refusals.BadDescription kind number) = IfSome (held file) (λ bytes. IsFaulty bytes (kind, number))
 IsTrueOfRequest held file (check certificate) (refusals.BadCertificate kind number) =
     IfSome (held certificate) (λ bytes. IsFaultyCertificate bytes (kind, number))
 IsTrueOfRequest held file (check certificate) (refusals.No reason first second) =
     IfSome (held file) (λ description. IfSome (held certificate) (λ bytes. HasFailure description bytes (reason, first, second)))
+IsTrueOfRequest held file (check certificate) (refusals.NotShown part) = ⊥
+IsTrueOfRequest held file (witness k certificate) (refusals.BadCertificate kind number) =
+    IfSome (held certificate) (λ bytes. IsFaultyCertificate bytes (kind, number))
+IsTrueOfRequest held file (witness k certificate) (refusals.No reason first second) =
+    IfSome (held file) (λ description. IfSome (held certificate) (λ bytes. HasFailure description bytes (reason, first, second)))
+IsTrueOfRequest held file (witness k certificate) (refusals.NotShown part) = ⊥
+IsTrueOfRequest held file (verify k certificate shown) (refusals.BadCertificate kind number) =
+    IfSome (held certificate) (λ bytes. IsFaultyCertificate bytes (kind, number))
+IsTrueOfRequest held file (verify k certificate shown) (refusals.BadWitness kind number) =
+    IfSome (held file) (λ description. IfSome (held certificate) (λ bytes. IfSome (held shown) (λ text.
+    HasWitnessFault k description bytes text (kind, number))))
+IsTrueOfRequest held file (verify k certificate shown) (refusals.No reason first second) = ⊥
+IsTrueOfRequest held file (verify k certificate shown) (refusals.NotShown part) =
+    IfSome (held file) (λ description. IfSome (held certificate) (λ bytes. IfSome (held shown) (λ text. HasFailingPart k description bytes text part)))
 IsTrueOfRequest held file request refusal = Unit {0}
 
 -- a refusal of jobs tells what is so of the first that is refused

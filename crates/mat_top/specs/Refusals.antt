@@ -1,23 +1,29 @@
 -- How a call ends: why it writes nothing, or what it writes.
-use Rattle.std.specs.Prelude.{◌≡◌, ℕ, ◌<◌, ◌≤◌, true, List, length, Option, IfSome, Some, Result, Ok, Err}
+use Rattle.std.specs.Prelude.{◌≡◌, ℕ, ◌<◌, ◌≤◌, ◌⊎◌, true, List, length, Option, IfSome, Some, Result, Ok, Err}
 use Rattle.mat_shelf.specs.Faults.{Rose}
 use Rattle.mat_shelf.specs.Writing.{Appended, AppendedPrefix}
 use Rattle.mat_desc.specs.Instances.{Instance}
 use Rattle.mat_cert.specs.declared.answer.Answer.{Answer}
+use Rattle.mat_cert.specs.Certificates.{Certificate}
 use Rattle.mat_cert.specs.Limits.{certificate_limit}
 use Rattle.mat_cert.specs.Views.{certificate_of}
+use Rattle.mat_check.specs.AnswerClauses.{failure_of}
+use Rattle.mat_check.specs.Right.{IsRight}
+use Rattle.mat_witness.specs.Lines.{witness_limit}
 use Rattle.mat_top.specs.declared.status.Status.TheVariants as statuses
 use Rattle.mat_top.specs.declared.status.Refusal.{Refusal}
 use Rattle.mat_top.specs.declared.status.Refusal.TheVariants as refusals
 use Rattle.mat_top.specs.Statuses.{status_of}
-use Rattle.mat_top.specs.CommandLines.{Request, show, solve, cuts, check, Task}
+use Rattle.mat_top.specs.CommandLines.{Request, show, solve, cuts, check, witness, verify, Task}
 use Rattle.mat_top.specs.CutTexts.{HasPayableCosts}
 use Rattle.mat_top.specs.JobLists.{Job}
 use Rattle.mat_top.specs.Queries.{has_form, IsAnswerOf}
 use Rattle.mat_top.specs.declared.query.Query.{Query}
 use Rattle.mat_top.specs.Answers.{IsSolution, IsSolutionText}
 use Rattle.mat_top.specs.Outcomes.{description_limit, HasForm, IsFaulty, IsDescribed, IsMislisted}
-use Rattle.mat_top.specs.Outcomes.{IsCertificateOutcome, IsFaultyCertificate, IsTextFor, IsShort}
+use Rattle.mat_top.specs.Certified.{IsFaultyCertificate}
+use Rattle.mat_top.specs.Witnessing.{IsFaultyWitness, IsNotShowing, IsRungAnswer}
+use Rattle.mat_top.specs.Outcomes.{IsCertificateOutcome, IsRungOutcome, IsTextFor, IsShort}
 use Rattle.mat_top.specs.Outcomes.{CallReaches, Tells, IsOutcome, IsOutput, IsTrueOf, HasClauseFailure}
 
 -- ---- reading a problem
@@ -75,10 +81,84 @@ IsUncertified instance held before now refusals.ReadFault = Rose before now
 IsUncertified instance held before now refusals.TooLong = IfSome held (λ bytes. certificate_limit < length bytes)
 IsUncertified instance held before now refusals.Usage = ⊥
 IsUncertified instance held before now refusals.WriteFault = ⊥
+IsUncertified instance held before now refusals.Unwitnessed = ⊥
+IsUncertified instance held before now (refusals.BadWitness kind number) = ⊥
+IsUncertified instance held before now (refusals.NotShown part) = ⊥
 IsUncertified instance held before now refusals.BadCost = ⊥
 IsUncertified instance held before now (refusals.BadList line) = ⊥
 IsUncertified instance held before now (refusals.BadDescription kind number) = ⊥
 IsUncertified instance held before now refusal = IfSome held (λ bytes. IsDenial instance bytes refusal)
+
+-- ---- witnesses
+
+-- why the bytes of a certificate, within their limit, have no answer of which this rung can be witnessed
+abbrev pub HasNoRung : Instance → ℕ → List ℕ → Refusal → Type 0
+HasNoRung instance k bytes refusals.Memory = Unit {0}
+HasNoRung instance k bytes (refusals.BadCertificate kind number) = IsFaultyCertificate bytes (kind, number)
+HasNoRung instance k bytes refusals.WrongShape = IsRungOutcome instance k bytes statuses.WrongShape
+HasNoRung instance k bytes refusals.Unwitnessed = IsRungOutcome instance k bytes statuses.Unwitnessed
+HasNoRung instance k bytes refusal = ⊥
+
+-- why a file has none: with what it holds, and the count of its faults before and after
+abbrev pub HasNoRungIn : Instance → ℕ → Option (List ℕ) → ℕ → ℕ → Refusal → Type 0
+HasNoRungIn instance k held before now refusals.Memory = Unit {0}
+HasNoRungIn instance k held before now refusals.ReadFault = Rose before now
+HasNoRungIn instance k held before now refusals.TooLong = IfSome held (λ bytes. certificate_limit < length bytes)
+HasNoRungIn instance k held before now (refusals.BadCertificate kind number) =
+    IfSome held (λ bytes. HasNoRung instance k bytes (refusals.BadCertificate kind number))
+HasNoRungIn instance k held before now refusals.WrongShape = IfSome held (λ bytes. HasNoRung instance k bytes refusals.WrongShape)
+HasNoRungIn instance k held before now refusals.Unwitnessed = IfSome held (λ bytes. HasNoRung instance k bytes refusals.Unwitnessed)
+HasNoRungIn instance k held before now refusal = ⊥
+
+-- why an answer is not right: the first of its clauses that fails
+abbrev pub IsNotRight : Instance → Certificate → Refusal → Type 0
+IsNotRight instance answer refusals.Memory = Unit {0}
+IsNotRight instance answer (refusals.No reason first second) =
+    (IsRight instance answer → ⊥) × (failure_of instance answer ≡ Some (reason, first, second))
+IsNotRight instance answer refusal = ⊥
+
+-- why there is no witness for a rung of the certificate in a file
+abbrev pub HasNoWitness : Instance → ℕ → Option (List ℕ) → ℕ → ℕ → Refusal → Type 0
+HasNoWitness instance k held before now (refusals.No reason first second) = IfSome held (λ bytes. (answer : Certificate)
+    × IsRungAnswer instance k bytes answer × IsNotRight instance answer (refusals.No reason first second))
+HasNoWitness instance k held before now refusal = HasNoRungIn instance k held before now refusal
+
+-- why the bytes of a witness, within their limit, don't show rung k of an answer
+abbrev pub IsUnshown : Instance → Certificate → ℕ → List ℕ → Refusal → Type 0
+IsUnshown instance answer k bytes refusals.Memory = Unit {0}
+IsUnshown instance answer k bytes (refusals.BadWitness kind number) = IsFaultyWitness instance answer k bytes (kind, number)
+IsUnshown instance answer k bytes (refusals.NotShown part) = IsNotShowing instance answer k bytes part
+IsUnshown instance answer k bytes refusal = ⊥
+
+-- and why all bytes of a witness don't
+abbrev pub IsUnshownText : Instance → Certificate → ℕ → List ℕ → Refusal → Type 0
+IsUnshownText instance answer k bytes refusals.TooLong = witness_limit < length bytes
+IsUnshownText instance answer k bytes refusal = IsUnshown instance answer k bytes refusal
+
+-- the certificate in a file has an answer of which this rung can be witnessed
+abbrev pub HasRungAnswer : Instance → ℕ → Option (List ℕ) → Type 0
+HasRungAnswer instance k held = IfSome held (λ bytes. (answer : Certificate) × IsRungAnswer instance k bytes answer)
+
+-- the certificate has such an answer, where it is told, and the witness in a file, where it is told, doesn't show its rung, for this reason
+abbrev pub IsUnshownFile : (List ℕ → Option (List ℕ)) → Instance → ℕ → List ℕ → List ℕ → Refusal → Type 0
+IsUnshownFile held instance k certificate shown refusal = (answer : Certificate)
+    × IfSome (held certificate) (λ bytes. IsRungAnswer instance k bytes answer)
+    × IfSome (held shown) (λ bytes. IsUnshownText instance answer k bytes refusal)
+
+-- why the file of the second name doesn't show a rung of the certificate in that of the first: with the counts of the shelf's faults before
+-- and after
+abbrev pub IsUnverified : (List ℕ → Option (List ℕ)) → Instance → ℕ → List ℕ → List ℕ → (List ℕ → ℕ) → (List ℕ → ℕ) → Refusal → Type 0
+IsUnverified held instance k certificate shown before now refusals.ReadFault =
+    Rose (before certificate) (now certificate) ⊎ (Rose (before shown) (now shown) × HasRungAnswer instance k (held certificate))
+IsUnverified held instance k certificate shown before now refusals.TooLong =
+    HasNoRungIn instance k (held certificate) (before certificate) (now certificate) refusals.TooLong
+    ⊎ IsUnshownFile held instance k certificate shown refusals.TooLong
+IsUnverified held instance k certificate shown before now (refusals.BadWitness kind number) =
+    IsUnshownFile held instance k certificate shown (refusals.BadWitness kind number)
+IsUnverified held instance k certificate shown before now (refusals.NotShown part) =
+    IsUnshownFile held instance k certificate shown (refusals.NotShown part)
+IsUnverified held instance k certificate shown before now refusal =
+    HasNoRungIn instance k (held certificate) (before certificate) (now certificate) refusal
 
 -- ---- what a request writes for a problem
 
@@ -90,6 +170,10 @@ HasNoText held (solve query) instance before now refusal = IsUnsolved query inst
 HasNoText held cuts instance before now refusal = HasNoCuts instance refusal
 HasNoText held (check certificate) instance before now refusal =
     IsUncertified instance (held certificate) (before certificate) (now certificate) refusal
+HasNoText held (witness k certificate) instance before now refusal =
+    HasNoWitness instance k (held certificate) (before certificate) (now certificate) refusal
+HasNoText held (verify k certificate shown) instance before now refusal =
+    IsUnverified held instance k certificate shown before now refusal
 
 -- there is a text for a problem: the request writes this
 pub record HasText (held : List ℕ → Option (List ℕ)) (request : Request) (instance : Instance) (text : List ℕ) : Type 0 where

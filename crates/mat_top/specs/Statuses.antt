@@ -28,12 +28,15 @@ status_number statuses.WriteFault = 6
 status_number statuses.Memory = 7
 status_number statuses.TooLong = 8
 status_number statuses.WrongShape = 9
+status_number statuses.Unwitnessed = 11
+status_number statuses.BadWitness = 12
 status_number statuses.BadCost = 13
 status_number statuses.BadList = 14
 
 -- the status of a call that was refused
 abbrev pub status_of : Refusal → Status
 status_of (refusals.No reason first second) = statuses.No
+status_of (refusals.NotShown part) = statuses.No
 status_of refusals.Usage = statuses.Usage
 status_of (refusals.BadDescription kind line) = statuses.BadDescription
 status_of (refusals.BadCertificate kind line) = statuses.BadCertificate
@@ -42,6 +45,8 @@ status_of refusals.WriteFault = statuses.WriteFault
 status_of refusals.Memory = statuses.Memory
 status_of refusals.TooLong = statuses.TooLong
 status_of refusals.WrongShape = statuses.WrongShape
+status_of refusals.Unwitnessed = statuses.Unwitnessed
+status_of (refusals.BadWitness kind line) = statuses.BadWitness
 status_of refusals.BadCost = statuses.BadCost
 status_of (refusals.BadList line) = statuses.BadList
 
@@ -61,6 +66,11 @@ abbrev pub refusal_of_certificate : CertRefusal → Refusal
 refusal_of_certificate (cert_refusals.Fault kind line) = refusals.BadCertificate kind line
 refusal_of_certificate cert_refusals.Memory = refusals.Memory
 
+-- the refusal of a call that read no witness
+abbrev pub refusal_of_witness : CertRefusal → Refusal
+refusal_of_witness (cert_refusals.Fault kind line) = refusals.BadWitness kind line
+refusal_of_witness cert_refusals.Memory = refusals.Memory
+
 -- pieces one after the other
 abbrev pub joined : List (List ℕ) → List ℕ
 joined pieces = flat_map (λ piece. piece) pieces
@@ -74,6 +84,7 @@ fault_note file number name line =
 abbrev pub note_of : Refusal → List ℕ
 note_of (refusals.No reason first second) =
     joined (codes "no " ∷ reason_word reason ∷ codes " " ∷ numeral (pos first) ∷ codes " " ∷ numeral (pos second) ∷ (10 ∷ []) ∷ [])
+note_of (refusals.NotShown part) = joined (codes "no witness " ∷ numeral (pos part) ∷ codes " 0" ∷ (10 ∷ []) ∷ [])
 note_of refusals.Usage = codes "refused: usage" ++ 10 ∷ []
 note_of (refusals.BadDescription kind line) =
     fault_note (codes "refused: description ") (kind_number kind) (kind_name kind) line
@@ -84,5 +95,8 @@ note_of refusals.WriteFault = codes "refused: write fault" ++ 10 ∷ []
 note_of refusals.Memory = codes "refused: memory" ++ 10 ∷ []
 note_of refusals.TooLong = codes "refused: too long" ++ 10 ∷ []
 note_of refusals.WrongShape = codes "refused: wrong shape" ++ 10 ∷ []
+note_of refusals.Unwitnessed = codes "refused: unwitnessed" ++ 10 ∷ []
+note_of (refusals.BadWitness kind line) =
+    fault_note (codes "refused: witness ") (cert_kinds.kind_number kind) (cert_kinds.kind_name kind) line
 note_of refusals.BadCost = codes "refused: bad cost" ++ 10 ∷ []
 note_of (refusals.BadList line) = joined (codes "refused: list line " ∷ numeral (pos line) ∷ (10 ∷ []) ∷ [])

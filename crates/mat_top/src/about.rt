@@ -16,6 +16,7 @@ use crate::query::Query;
 use crate::reading::read_all;
 use crate::solve::solve;
 use crate::status::Refusal;
+use crate::witnessing::{verify_in, witness_text};
 use mat_cert::write_answer;
 use mat_desc::{Problem, read_problem, write_problem};
 use mat_shelf::Shelf;
@@ -94,6 +95,17 @@ fn text_for<R: Threads + Sync, F: Shelf>(
         Request::Cuts => cuts_text(alloc, problem),
         Request::Check { certificate } => {
             judge(rt, alloc, files, certificate, problem, workers)?;
+            Ok(yes(alloc)?)
+        }
+        Request::Witness { rung, certificate } => {
+            witness_text(rt, alloc, files, certificate, problem, rung)
+        }
+        Request::Verify {
+            rung,
+            certificate,
+            witness,
+        } => {
+            verify_in(alloc, files, certificate, witness, problem, rung)?;
             Ok(yes(alloc)?)
         }
     }

@@ -20,6 +20,22 @@ pub(crate) enum Request<'a> {
         /// The name of the certificate's file.
         certificate: &'a str,
     },
+    /// A witness for a rung of a certificate.
+    Witness {
+        /// The number of the rung.
+        rung: u32,
+        /// The name of the certificate's file.
+        certificate: &'a str,
+    },
+    /// Whether a witness shows a rung of a certificate.
+    Verify {
+        /// The number of the rung.
+        rung: u32,
+        /// The name of the certificate's file.
+        certificate: &'a str,
+        /// The name of the witness's file.
+        witness: &'a str,
+    },
 }
 
 /// What the words of a command line ask for.

@@ -1,8 +1,8 @@
 //! The words of a command line.
 
 ghost use Rattle.std.specs.Prelude.{◌≡◌, ◌≤◌, map, string_bytes, option_map, IfSome};
-ghost use Rattle.mat_top.specs.CommandLines.{query_for, request_for, query_of_trees, number_up_to, kind_in};
-ghost use Rattle.mat_top.specs.CommandLines.{with_file, with_number, with_two, sample_for, with_three, task_for};
+ghost use Rattle.mat_top.specs.CommandLines.{query_for, request_for, query_of_trees, number_from, number_up_to, rung_number, kind_in};
+ghost use Rattle.mat_top.specs.CommandLines.{with_file, with_number, with_two, sample_for, witness_of, with_three, with_four, task_for};
 ghost use Rattle.mat_top.specs.CommandLines.{begins_with_option, takes_workers, with_option, without_option, command_line};
 ghost use Rattle.mat_top.specs.Commands.{task_of, request_of, IsQueryInRange, IsRequestInRange, IsTaskInRange};
 ghost use Rattle.mat_top.specs.Views.{line_of};
@@ -17,6 +17,9 @@ const MOST_TREES: u32 = 64;
 
 // The most elements of a sample.
 const LARGEST_SIZE: u32 = 500;
+
+// The most elements of a rung.
+const LAST_RUNG: u32 = 500;
 
 // The largest number that a sample is drawn from.
 const LARGEST_SEED: u32 = 2_147_483_646;
@@ -55,15 +58,30 @@ fn query_of_trees(command: &str, k: u32) -> Option<Query>
     }
 }
 
+// The number from `least` to `most` that a word spells: None where it spells none.
+fn number_from(least: u32, most: u32, word: &str) -> Option<u32>
+    ensures number { result ≡ number_from least most word.now }
+    ensures range { IfSome result (λ k. (least ≤ k) × (k ≤ most)) }
+{
+    match read_number(word.as_bytes(), i128::from(least), i128::from(most)) {
+        Ok(number) => Some(number as u32),
+        Err(_) => None,
+    }
+}
+
 // The number from 1 to this bound that a word spells: None where it spells none.
 fn number_up_to(most: u32, word: &str) -> Option<u32>
     ensures number { result ≡ number_up_to most word.now }
     ensures range { IfSome result (λ k. (1 ≤ k) × (k ≤ most)) }
 {
-    match read_number(word.as_bytes(), 1, i128::from(most)) {
-        Ok(number) => Some(number as u32),
-        Err(_) => None,
-    }
+    number_from(1, most, word)
+}
+
+// The number of a rung that a word spells.
+fn rung_number(word: &str) -> Option<u32>
+    ensures { result ≡ rung_number word.now }
+{
+    number_from(0, LAST_RUNG, word)
 }
 
 // The kind of sample that a word names.
@@ -144,15 +162,58 @@ fn sample_for<'a>(first: &str, second: &str, third: &str) -> Option<Command<'a>>
     Some(Command::Sample { kind, size, seed })
 }
 
+// The witness that is asked for of a rung of a certificate.
+fn witness_of<'a>(rung: &str, file: &'a str, certificate: &'a str) -> Option<Command<'a>>
+    ensures task { option_map task_of result ≡ witness_of rung.now file.now certificate.now }
+    ensures range { IfSome result (λ c. IsTaskInRange (task_of c)) }
+{
+    let rung = rung_number(rung)?;
+    Some(Command::About {
+        file,
+        request: Request::Witness { rung, certificate },
+    })
+}
+
 // A command and three arguments.
-fn with_three<'a>(command: &str, first: &str, second: &str, third: &str) -> Option<Command<'a>>
+fn with_three<'a>(
+    command: &str,
+    first: &'a str,
+    second: &'a str,
+    third: &'a str,
+) -> Option<Command<'a>>
     ensures task { option_map task_of result ≡ with_three command.now first.now second.now third.now }
     ensures range { IfSome result (λ c. IsTaskInRange (task_of c)) }
 {
-    if command != "sample" {
+    match command {
+        "sample" => sample_for(first, second, third),
+        "witness" => witness_of(first, second, third),
+        _ => None,
+    }
+}
+
+// A command and four arguments.
+fn with_four<'a>(
+    command: &str,
+    rung: &str,
+    file: &'a str,
+    certificate: &'a str,
+    witness: &'a str,
+) -> Option<Command<'a>>
+    ensures task { option_map task_of result ≡ with_four command.now rung.now file.now certificate.now witness.now }
+    ensures range { IfSome result (λ c. IsTaskInRange (task_of c)) }
+{
+    if command != "verify" {
         return None;
     }
-    sample_for(first, second, third)
+    let rung = rung_number(rung)?;
+    Some(Command::About {
+        file,
+        request: Request::Verify {
+            rung,
+            certificate,
+            witness,
+        },
+    })
 }
 
 // A command with its arguments.
@@ -166,6 +227,13 @@ pub(crate) fn command_for<'a>(command: &str, arguments: &'a [String]) -> Option<
         [first, second, third] => {
             with_three(command, first.as_str(), second.as_str(), third.as_str())
         }
+        [rung, file, certificate, witness] => with_four(
+            command,
+            rung.as_str(),
+            file.as_str(),
+            certificate.as_str(),
+            witness.as_str(),
+        ),
         _ => None,
     }
 }
@@ -186,7 +254,9 @@ impl<'a> Command<'a> {
         ensures { result ≡ takes_workers (task_of self.now) }
     {
         match self {
-            Command::About { request, .. } => !matches!(request, Request::Show | Request::Cuts),
+            Command::About { request, .. } => {
+                matches!(request, Request::Solve(_) | Request::Check { .. })
+            }
             Command::Convert { .. } => false,
             Command::Sample { .. } | Command::Batch { .. } => true,
         }

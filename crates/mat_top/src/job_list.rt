@@ -17,8 +17,8 @@ use crate::status::Refusal;
 use mat_words::{LineCursor, ReadingRefusal, WordCursor, nothing_left, split_word, words_line};
 use std::alloc::{AllocError, Global};
 
-// How many words of a line are kept: one more than a line of a list may have.
-const KEPT_WORDS: u32 = 6;
+// How many words of a line are kept: one more than `job` and any command with its arguments.
+const KEPT_WORDS: u32 = 7;
 
 // The most jobs of a list.
 const MOST_JOBS: u32 = 32;

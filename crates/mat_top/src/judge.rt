@@ -17,8 +17,8 @@ use mat_shelf::Shelf;
 use std::alloc::Global;
 use std::thread::Threads;
 
-// The most bytes that a certificate may have.
-const CERTIFICATE_LIMIT: usize = 67_108_864;
+/// The most bytes that a certificate may have.
+pub(crate) const CERTIFICATE_LIMIT: usize = 67_108_864;
 
 // Judges the certificate in these bytes.
 fn judge_bytes<R: Threads + Sync>(

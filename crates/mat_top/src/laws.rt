@@ -26,11 +26,12 @@ pub fn solution_laws()
 {}
 
 /// What holds of each number of workers from 1 to 16: with the option a command asks for what it asks for without it, but for `show`,
-/// `cuts` and `convert`, which take none. So what is said of a task is said for each number of workers.
+/// `cuts`, `convert`, `witness` and `verify`, which take none. So what is said of a task is said for each number of workers.
 pub fn command_line_laws()
     ensures option { (command : List ℕ) (arguments : List (List ℕ)) (n : ℕ) → 1 ≤ n → n ≤ 16
         → bytes_eq command (codes "show") ≡ false → bytes_eq command (codes "cuts") ≡ false
-        → bytes_eq command (codes "convert") ≡ false → begins_with_option arguments ≡ false
+        → bytes_eq command (codes "convert") ≡ false → bytes_eq command (codes "witness") ≡ false
+        → bytes_eq command (codes "verify") ≡ false → begins_with_option arguments ≡ false
         → command_line (command ∷ codes "--workers" ∷ numeral (pos n) ∷ arguments)
         ≡ option_map (by_workers n) (asked_by (command ∷ arguments)) }
 {}

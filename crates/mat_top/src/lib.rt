@@ -29,6 +29,7 @@ mod summary;
 mod summary_laws;
 mod top_call;
 mod totals;
+mod witnessing;
 mod writing;
 
 pub use laws::{command_line_laws, solution_laws};

@@ -97,6 +97,24 @@ fn put_no<N: Sink>(notes: &mut N, reason: Reason, first: u32, second: u32)
     );
 }
 
+// Writes the note of a witness of which this part fails.
+fn put_not_shown<N: Sink>(notes: &mut N, part: u32)
+    ensures { IsNoted (note_of (Refusal.NotShown part))
+        (N.written notes.old) (N.faults notes.old) (N.written notes.new) (N.faults notes.new) }
+{
+    let mut number = [0; 40];
+    let number_at = number_into(&mut number, part);
+    put_line(
+        notes,
+        &[
+            b"no witness ".as_slice(),
+            &number[number_at..],
+            b" 0".as_slice(),
+            b"\n".as_slice(),
+        ],
+    );
+}
+
 // Writes the note of a list of jobs whose line with this number is not the needed one.
 fn put_bad_list<N: Sink>(notes: &mut N, line: u32)
     ensures { IsNoted (note_of (Refusal.BadList line))
@@ -120,6 +138,7 @@ pub(crate) fn put_note<N: Sink>(notes: &mut N, refusal: Refusal)
 {
     match refusal {
         Refusal::No(reason, first, second) => put_no(notes, reason, first, second),
+        Refusal::NotShown(part) => put_not_shown(notes, part),
         Refusal::Usage => put_text(notes, b"refused: usage\n"),
         Refusal::BadDescription(kind, line) => {
             let file = b"refused: description ".as_slice();
@@ -134,6 +153,11 @@ pub(crate) fn put_note<N: Sink>(notes: &mut N, refusal: Refusal)
         Refusal::Memory => put_text(notes, b"refused: memory\n"),
         Refusal::TooLong => put_text(notes, b"refused: too long\n"),
         Refusal::WrongShape => put_text(notes, b"refused: wrong shape\n"),
+        Refusal::Unwitnessed => put_text(notes, b"refused: unwitnessed\n"),
+        Refusal::BadWitness(kind, line) => {
+            let file = b"refused: witness ".as_slice();
+            put_fault(notes, file, kind.number(), kind.name(), line)
+        }
         Refusal::BadCost => put_text(notes, b"refused: bad cost\n"),
         Refusal::BadList(line) => put_bad_list(notes, line),
     }

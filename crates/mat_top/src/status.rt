@@ -16,7 +16,7 @@ use thiserror::Error;
 pub enum Status {
     /// The command was done.
     Done,
-    /// The answer in the certificate isn't right.
+    /// The answer in the certificate isn't right, or the witness doesn't show its rung.
     No,
     /// The words are no command.
     Usage,
@@ -34,6 +34,10 @@ pub enum Status {
     TooLong,
     /// The form of the problem is not the command's.
     WrongShape,
+    /// A matroid is not of a kind that has witnesses.
+    Unwitnessed,
+    /// The witness has a fault.
+    BadWitness,
     /// A cost is below 0 or has a tie, so that no weights of vertex sets can pay for it.
     BadCost,
     /// The list of jobs has a line that is not the needed one.
@@ -56,6 +60,8 @@ impl Status {
             Status::Memory => 7,
             Status::TooLong => 8,
             Status::WrongShape => 9,
+            Status::Unwitnessed => 11,
+            Status::BadWitness => 12,
             Status::BadCost => 13,
             Status::BadList => 14,
         }
@@ -68,6 +74,9 @@ pub(crate) enum Refusal {
     /// The first clause of the answer that fails, and its two places.
     #[error("the answer isn't right: {0:?} {1} {2}")]
     No(Reason, u32, u32),
+    /// The first part of the witness that fails.
+    #[error("part {0} of the witness does not hold")]
+    NotShown(u32),
     /// The words are no command.
     #[error("the words are no command")]
     Usage,
@@ -92,6 +101,12 @@ pub(crate) enum Refusal {
     /// The form of the problem is not the command's.
     #[error("the form of the problem is not the command's")]
     WrongShape,
+    /// A matroid is not of a kind that has witnesses.
+    #[error("a matroid is not of a kind that has witnesses")]
+    Unwitnessed,
+    /// The witness's first fault, and the number of its line.
+    #[error("line {1} of the witness: {0:?}")]
+    BadWitness(CertKind, u32),
     /// A cost is below 0 or has a tie.
     #[error("a cost is below 0 or has a tie")]
     BadCost,
@@ -106,7 +121,7 @@ impl Refusal {
         ensures { result ≡ status_of self }
     {
         match self {
-            Refusal::No(_, _, _) => Status::No,
+            Refusal::No(_, _, _) | Refusal::NotShown(_) => Status::No,
             Refusal::Usage => Status::Usage,
             Refusal::BadDescription(_, _) => Status::BadDescription,
             Refusal::BadCertificate(_, _) => Status::BadCertificate,
@@ -115,6 +130,8 @@ impl Refusal {
             Refusal::Memory => Status::Memory,
             Refusal::TooLong => Status::TooLong,
             Refusal::WrongShape => Status::WrongShape,
+            Refusal::Unwitnessed => Status::Unwitnessed,
+            Refusal::BadWitness(_, _) => Status::BadWitness,
             Refusal::BadCost => Status::BadCost,
             Refusal::BadList(_) => Status::BadList,
         }

@@ -87,8 +87,8 @@ fn perform<R: Threads + Sync, F: Shelf, O: Sink>(
 ///
 /// Usage comes exactly where the words are no command, ReadFault only where the shelf's count of faults rose for a file of the call, and
 /// WriteFault only where the count of `out` rose. Where the shelf tells the files, each other status but Memory is the one of the
-/// table in docs/DEFINITIONS.md: TooLong, BadList, BadDescription, BadCertificate, WrongShape, BadCost, No or Done. Nothing is written to
-/// `out` but on Done, when it is the whole answer, and on WriteFault, when it is a prefix of it.
+/// table in docs/DEFINITIONS.md: TooLong, BadList, BadDescription, BadCertificate, WrongShape, BadCost, Unwitnessed, BadWitness, No or
+/// Done. Nothing is written to `out` but on Done, when it is the whole answer, and on WriteFault, when it is a prefix of it.
 pub fn run<R: Threads + Sync, F: Shelf, O: Sink, N: Sink>(
     rt: &R,
     alloc: Global,

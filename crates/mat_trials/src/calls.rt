@@ -57,6 +57,25 @@ pub(crate) fn two_files(
     Ok(files)
 }
 
+/// The three files `f`, `c` and `w` with these bytes.
+pub(crate) fn three_files(
+    alloc: Global,
+    first: Vec<u8>,
+    second: Vec<u8>,
+    third: Vec<u8>,
+) -> Result<Vec<NamedFile>, AllocError>
+    ensures { IfOk result (λ files. HaveDifferentNames files.items) }
+{
+    let first = NamedFile::new(String::from_str(alloc, "f")?, first);
+    let second = NamedFile::new(String::from_str(alloc, "c")?, second);
+    let third = NamedFile::new(String::from_str(alloc, "w")?, third);
+    let mut files = Vec::new(alloc);
+    files.push(first)?;
+    files.push(second)?;
+    files.push(third)?;
+    Ok(files)
+}
+
 /// A sink that never fails before it is full.
 pub(crate) fn sink(alloc: Global) -> Result<MemSink, AllocError> {
     MemSink::new(alloc, ROOM, STEP, Vec::new(alloc))
@@ -83,6 +102,21 @@ pub(crate) fn ended_alone<R: Threads + Sync>(
     description: &str,
 ) -> Result<Ended, AllocError> {
     let files = one_file(alloc, description.as_bytes().to_vec(alloc)?)?;
+    let mut shelf = MemShelf::new(files, STEP, Vec::new(alloc));
+    ended_over(rt, alloc, words, &mut shelf)
+}
+
+/// Runs the top call where the files `f`, `c` and `w` have the description, the certificate and the witness.
+pub(crate) fn ended_among<R: Threads + Sync>(
+    rt: &R,
+    alloc: Global,
+    words: &[String],
+    description: &str,
+    certificate: Vec<u8>,
+    witness: Vec<u8>,
+) -> Result<Ended, AllocError> {
+    let description = description.as_bytes().to_vec(alloc)?;
+    let files = three_files(alloc, description, certificate, witness)?;
     let mut shelf = MemShelf::new(files, STEP, Vec::new(alloc));
     ended_over(rt, alloc, words, &mut shelf)
 }

@@ -1,8 +1,8 @@
 //! Cases of the top call, and the file that they stand in.
 //!
 //! A line that begins with `>` begins a case, and its further words are those of the command line. The lines below it are the text
-//! of the file `f`, and those below a line that is `--` alone the text of the file `c`. A last line of a text that is `<` alone is no
-//! part of it, and says that the line above it has no end.
+//! of the file `f`, those below a line that is `--` alone the text of the file `c`, and those below another such line the text of the file
+//! `w`. A last line of a text that is `<` alone is no part of it, and says that the line above it has no end.
 
 use std::alloc::{AllocError, Global};
 
@@ -14,6 +14,8 @@ pub(crate) struct Case {
     pub(crate) description: String,
     /// The text of the file `c`, if there is one.
     pub(crate) certificate: Option<String>,
+    /// The text of the file `w`, if there is one.
+    pub(crate) witness: Option<String>,
 }
 
 // The words of a line.
@@ -33,16 +35,38 @@ fn text_of(alloc: Global, lines: &str) -> Result<String, AllocError> {
     }
 }
 
+// The text of the lines before the first that is `--` alone, and the lines behind that.
+fn text_before<'a>(alloc: Global, lines: &'a str) -> Result<(String, Option<&'a str>), AllocError> {
+    match lines.split_once("\n--\n") {
+        Some((first, others)) => Ok((text_of(alloc, first)?, Some(others))),
+        None => Ok((text_of(alloc, lines)?, None)),
+    }
+}
+
+// The same where there are lines.
+fn text_within<'a>(
+    alloc: Global,
+    lines: Option<&'a str>,
+) -> Result<(Option<String>, Option<&'a str>), AllocError> {
+    match lines {
+        Some(lines) => {
+            let (text, others) = text_before(alloc, lines)?;
+            Ok((Some(text), others))
+        }
+        None => Ok((None, None)),
+    }
+}
+
 // The case of these words and of the lines of its texts, of which the last has no end.
 fn case_with(alloc: Global, words: Vec<String>, lines: &str) -> Result<Case, AllocError> {
-    let (description, certificate) = match lines.split_once("\n--\n") {
-        Some((first, second)) => (text_of(alloc, first)?, Some(text_of(alloc, second)?)),
-        None => (text_of(alloc, lines)?, None),
-    };
+    let (description, others) = text_before(alloc, lines)?;
+    let (certificate, others) = text_within(alloc, others)?;
+    let (witness, _) = text_within(alloc, others)?;
     Ok(Case {
         words,
         description,
         certificate,
+        witness,
     })
 }
 
@@ -54,6 +78,7 @@ fn case_of(alloc: Global, lines: &str) -> Result<Case, AllocError> {
             words: words_of(alloc, lines)?,
             description: String::new(alloc),
             certificate: None,
+            witness: None,
         }),
     }
 }

@@ -3,7 +3,9 @@
 ghost use Rattle.std.specs.Prelude.{IfOk};
 ghost use Rattle.mat_shelf.specs.Files.{HaveDifferentNames};
 
-use crate::calls::{Ended, ended_beside, ended_over, one_file, sink, two_files, words_of};
+use crate::calls::{
+    Ended, ended_beside, ended_over, one_file, sink, three_files, two_files, words_of,
+};
 use crate::cases::{Case, cases_of};
 use crate::reports::{asks_to_solve, heading_of, is_command};
 use mat_shelf::{MemShelf, MemSink, NamedFile};
@@ -19,9 +21,18 @@ fn files_of(alloc: Global, case: &Case) -> Result<Vec<NamedFile>, AllocError>
     ensures { IfOk result (λ files. HaveDifferentNames files.items) }
 {
     let description = case.description.as_bytes().to_vec(alloc)?;
-    match &case.certificate {
-        Some(text) => two_files(alloc, description, text.as_bytes().to_vec(alloc)?),
-        None => one_file(alloc, description),
+    let Some(text) = &case.certificate else {
+        return one_file(alloc, description);
+    };
+    let certificate = text.as_bytes().to_vec(alloc)?;
+    match &case.witness {
+        Some(text) => three_files(
+            alloc,
+            description,
+            certificate,
+            text.as_bytes().to_vec(alloc)?,
+        ),
+        None => two_files(alloc, description, certificate),
     }
 }
 
@@ -186,13 +197,21 @@ fn certificates_end<R: Threads + Sync>(
     Ok(told)
 }
 
-// How many calls of the shelf a case makes where none fails: one opens a file, and then one reads each byte and one the end.
-fn calls_of(case: &Case) -> usize {
-    let first = case.description.len().saturating_add(2);
-    match &case.certificate {
-        Some(text) => first.saturating_add(text.len().saturating_add(2)),
-        None => first,
+// How many calls of the shelf read a file: one opens it, and then one reads each byte and one the end.
+fn calls_for(text: &Option<String>) -> usize {
+    match text {
+        Some(text) => text.len().saturating_add(2),
+        None => 0,
     }
+}
+
+// How many calls of the shelf a case makes where none fails.
+fn calls_of(case: &Case) -> usize {
+    case.description
+        .len()
+        .saturating_add(2)
+        .saturating_add(calls_for(&case.certificate))
+        .saturating_add(calls_for(&case.witness))
 }
 
 // What is told of the parts of a certificate, and of each byte behind it.

@@ -18,6 +18,7 @@ mod routes;
 mod samples;
 mod shared;
 mod unions;
+mod witnesses;
 
 use crate::each::each_report;
 use crate::faults::fault_report;

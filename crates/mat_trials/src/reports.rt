@@ -3,6 +3,7 @@
 use crate::calls::{ended_beside, words_of};
 use crate::cases::{Case, cases_of};
 use crate::shared::{ended_of, is_same_for_all};
+use crate::witnesses::{add_verification, ended_witnessed};
 use std::alloc::{AllocError, Global};
 use std::thread::Threads;
 
@@ -42,6 +43,11 @@ pub(crate) fn asks_to_solve(words: &[String]) -> bool {
 /// Whether this is the command.
 pub(crate) fn is_command(words: &[String], name: &str) -> bool {
     words.first().is_some_and(|word| word.as_str() == name)
+}
+
+// Whether the command makes a witness or verifies one.
+fn is_about_witness(words: &[String]) -> bool {
+    is_command(words, "witness") || is_command(words, "verify")
 }
 
 // Whether the words have the option.
@@ -129,7 +135,8 @@ fn add_comparison<R: Threads + Sync>(
 }
 
 // Adds what is told of what a command that was done wrote: of certificates the lines that every right answer has, what the judge says of one,
-// and whether they are the same for each number of workers; of an answer with weighted vertex sets its cost; and every other text whole.
+// and whether they are the same for each number of workers; of an answer with weighted vertex sets its cost; what is said of a witness; and
+// every other text whole.
 fn add_output<R: Threads + Sync>(
     rt: &R,
     alloc: Global,
@@ -139,6 +146,9 @@ fn add_output<R: Threads + Sync>(
 ) -> Result<(), AllocError> {
     if is_command(&case.words, "cuts") {
         return add_cost(report, text);
+    }
+    if is_command(&case.words, "witness") {
+        return add_verification(rt, alloc, report, case, text);
     }
     if is_command(&case.words, "batch") {
         add_fixed_lines(report, text)?;
@@ -154,7 +164,11 @@ fn add_output<R: Threads + Sync>(
 
 // The words of a case, the status with which the top call ends, its note, and what is told of what it writes.
 fn report_of<R: Threads + Sync>(rt: &R, alloc: Global, case: &Case) -> Result<Vec<u8>, AllocError> {
-    let ended = ended_of(rt, alloc, case, &case.words)?;
+    let ended = if is_about_witness(&case.words) {
+        ended_witnessed(rt, alloc, case)?
+    } else {
+        ended_of(rt, alloc, case, &case.words)?
+    };
     let number = ended.status.number();
     let mut report = heading_of(alloc, &case.words)?;
     report.extend_from_slice(format!(in alloc; "status {number}\n")?.as_bytes())?;

@@ -9,5 +9,6 @@ pub mod ReadingSteps
 pub mod Repeats
 pub mod Closing
 pub mod WordReading
+pub mod BinaryLaws
 pub mod LineReading
 pub mod NameLemmas

@@ -3,7 +3,8 @@ use Rattle.std.proofs.Common.{◌≡◌, ℕ, ◌+◌, ◌<◌, true, false, not
 use Rattle.std.proofs.Common.{sym, ap, subst, ◌∙◌, arith}
 use Rattle.std.specs.Prelude.{bytes_eq}
 use Rattle.std.specs.List.{list_all, join_with_byte}
-use Rattle.std.proofs.lemmas.Bool.{ne_eqb, and_from, and_parts, not-false}
+use Rattle.std.proofs.lemmas.Bool.{ne_eqb, and_from, and_parts, not-false, eqb-true}
+use Rattle.std.proofs.lemmas.List.{nil_from_length}
 use Rattle.std.proofs.lemmas.Slice.Eq.{bytes_eq-Decides}
 use Rattle.mat_words.specs.Lines.{Line, lines_of, text_of, is_newline}
 use Rattle.mat_words.specs.Words.{is_space, is_word, words_of, is_well_spaced}
@@ -13,7 +14,7 @@ use Rattle.mat_words.proofs.WordLemmas.{joined_words, joined_laws}
 use Rattle.mat_words.specs.declared.refusal.ReadingFault.TheVariants.{EndsEarly, BadByte, NoWord, UnknownWord}
 use Rattle.mat_words.specs.Cursors.{WordsLeft, LinesLeft}
 use Rattle.mat_words.specs.Steps.{◌>>=◌}
-use Rattle.mat_words.specs.Reading.{Fault, line_from, line_at, word_at, keyed_at}
+use Rattle.mat_words.specs.Reading.{Fault, line_from, line_at, word_at, keyed_at, is_closed}
 use Rattle.mat_words.proofs.ReadingSteps.{found-same, bind_found, test_found, refused_found}
 use Rattle.mat_words.proofs.WordReading.{word_found}
 
@@ -103,6 +104,14 @@ keyed_found key p w q e rest left =
     let line = keyed_line key p w q e in
     subst (λ (v : Line). AreLeft (v ∷ rest) p) line.2 (line_found p line.0 q line.1 rest left)
 
+-- so it does where its words are known to be these, and what is left behind it
+pub known_line : (key : List ℕ) (p : LinesLeft) (words known : Line) (q behind : LinesLeft)
+    → ((rest : List Line) → AreLeft rest q → AreLeft ((key ∷ words) ∷ rest) p) → words ≡ known → q ≡ behind
+    → (rest : List Line) → AreLeft rest behind → AreLeft ((key ∷ known) ∷ rest) p
+known_line key p words known q behind spelled same_words same_rest rest left =
+    let there : AreLeft rest q = subst (λ (x : LinesLeft). AreLeft rest x) (sym same_rest) left in
+    subst (λ (v : Line). AreLeft ((key ∷ v) ∷ rest) p) same_words (spelled rest there)
+
 -- the words behind its first are words
 pub keyed_words : (key : List ℕ) (p : LinesLeft) (w : WordsLeft) (q : LinesLeft) → keyed_at key p ≡ Ok (w, q)
     → list_all is_word w.words ≡ true
@@ -121,3 +130,13 @@ keyed_again key p words rest keyword spelled left =
     let line = line_again p (key ∷ words) rest (omega arith) (and_from (is_word key) (list_all is_word words) keyword spelled) left in
     let test : bytes_eq key key ≡ true = (bytes_eq-Decides key key).1 refl in
     (line.0, rw (line.1, test) refl, line.2)
+
+-- nothing is left of a text that is closed
+pub closed_left : (p : LinesLeft) → is_closed p.lines ≡ true → AreLeft [] p
+closed_left p closed = record { same = one_empty p.lines closed }
+  where
+    one_empty : (lines : List (List ℕ)) → is_closed lines ≡ true → lines ≡ [] ∷ []
+    one_empty [] e = absurd cc
+    one_empty (line ∷ lines) e =
+        let both = and_parts (eqb (length line) 0) (eqb (length lines) 0) e in
+        rw (nil_from_length line (eqb-true (length line) 0 both.0), nil_from_length lines (eqb-true (length lines) 0 both.1)) refl

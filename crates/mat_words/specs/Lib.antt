@@ -2,6 +2,7 @@ pub mod Lines
 pub mod Words
 pub mod Numbers
 pub mod Weights
+pub mod Binary
 pub mod Writing
 pub mod Cursors
 pub mod Steps

@@ -8,6 +8,7 @@ use Rattle.mat_words.specs.Steps.{◌>>=◌, repeat_at}
 use Rattle.mat_words.specs.Words.{words_of, is_well_spaced}
 use Rattle.mat_words.specs.Numbers.{number_in}
 use Rattle.mat_words.specs.Weights.{weight_in}
+use Rattle.mat_words.specs.Binary.{binary_in}
 use Rattle.mat_words.specs.declared.numbers.NumberFault.{NumberFault}
 use Rattle.mat_words.specs.declared.refusal.ReadingFault.{ReadingFault}
 use Rattle.mat_words.specs.declared.refusal.ReadingFault.TheVariants as faults
@@ -89,6 +90,10 @@ unfoldable pub below_at : ℕ → WordsLeft → Result (ℕ × WordsLeft) Fault
 below_at bound p = do
   number ← number_at (pos 0) (pos bound -ℤ pos 1) p
   Ok (nat_abs number.0, number.1)
+
+-- the next word as a number of so many binary digits
+unfoldable pub binary_at : ℕ → WordsLeft → Result (ℕ × WordsLeft) Fault
+binary_at digits p = item_at (binary_in digits) p
 
 -- the next word as a weight of which each number is in low..high
 unfoldable pub weight_at : ℤ → ℤ → WordsLeft → Result (Weight × WordsLeft) Fault

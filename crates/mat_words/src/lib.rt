@@ -10,6 +10,7 @@
 //! The words that name elements or vertices are kept as [`Names`], each once.
 #![tactic(auto)]
 
+mod binary;
 mod cursor;
 mod lines;
 mod names;
@@ -20,13 +21,14 @@ mod weights;
 mod words;
 mod writing;
 
+pub use binary::put_binary;
 pub use cursor::{LineCursor, WordCursor};
 pub use lines::{line_laws, next_line, split_line};
 pub use names::{LONGEST_NAME, Names};
 pub use numbers::{NumberFault, number_laws, put_number, read_number, spell_into};
 pub use reading::{
-    keyed_line, next_below, next_number, next_size, next_weight, next_weights, next_word,
-    nothing_left, words_line,
+    keyed_line, next_below, next_binary, next_number, next_size, next_weight, next_weights,
+    next_word, nothing_left, words_line,
 };
 pub use refusal::{ReadingFault, ReadingRefusal};
 pub use weights::{put_weight, read_weight, weight_laws};

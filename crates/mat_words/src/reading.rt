@@ -1,9 +1,10 @@
 //! Reading a text line by line and word by word. What is read comes with what is left behind it, and the first fault ends the reading.
 
-ghost use Rattle.std.specs.Prelude.{◌≡◌, ◌<◌, ◌≤◌, ◌≤ℤ◌, IfOk};
+ghost use Rattle.std.specs.Prelude.{◌≡◌, ◌<◌, ◌≤◌, ◌≤ℤ◌, ◌^◌, IfOk};
 ghost use Rattle.mat_words.specs.Cursors.{lines_left, words_left};
-ghost use Rattle.mat_words.specs.Reading.{Gives, IsTold, line_at, word_at, number_at, size_at, below_at, weight_at, weights_at, keyed_at, is_closed};
+ghost use Rattle.mat_words.specs.Reading.{Gives, IsTold, line_at, word_at, number_at, size_at, below_at, binary_at, weight_at, weights_at, keyed_at, is_closed};
 
+use crate::binary::read_binary;
 use crate::cursor::{LineCursor, WordCursor};
 use crate::lines::split_line;
 use crate::numbers::read_number;
@@ -110,6 +111,24 @@ pub fn next_below<'a>(
 {
     let (number, words) = next_number(words, 0, bound as i128 - 1)?;
     Ok((number as u32, words))
+}
+
+/// The next word of a line as a number of so many binary digits.
+#[tactic(auto, unfolding(crate::specs::Reading::binary_at))]
+pub fn next_binary<'a>(
+    words: WordCursor<'a>,
+    digits: u32,
+) -> Result<(u128, WordCursor<'a>), ReadingRefusal>
+    requires { digits ≤ 128 }
+    ensures value { Gives (λ x. (x.0, words_left x.1)) result (binary_at digits (words_left words.entry)) }
+    ensures range { IfOk result (λ x. x.0 < 2 ^ digits) }
+    ensures told { IsTold result }
+{
+    let (word, rest) = next_word(words)?;
+    match read_binary(word, digits) {
+        Ok(number) => Ok((number, rest)),
+        Err(number) => Err(fault(ReadingFault::Number(number), rest.line)),
+    }
 }
 
 /// The next word of a line as a weight of which each number is in `low..=high`.

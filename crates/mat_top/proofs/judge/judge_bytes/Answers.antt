@@ -3,7 +3,7 @@ use Rattle.mat_desc.specs.Views.{instance_of}
 use Rattle.mat_cert.specs.Views.{certificate_of}
 use Rattle.mat_check.specs.Fitting.{fits}
 use Rattle.mat_check.specs.Views.{failure_in}
-use Rattle.mat_top.specs.Outcomes.{IsCertified}
+use Rattle.mat_top.specs.Certified.{IsCertified}
 use Rattle.mat_top.proofs.Judging.{right_outcome, wrong_outcome, yes_or_no}
 use Rattle.mat_top.proofs.judge.judge_bytes.Goals as goal
 

@@ -11,3 +11,8 @@ pub returns-in-BadCertificate : goal.returns-in-BadCertificate
 returns-in-BadCertificate g c =
     rw c.in-BadCertificate.is (rw (c.as_slice-file-in-BadCertificate.ensures, c.number-in-BadCertificate.ensures, c.name-in-BadCertificate.ensures) at
     c.put_fault-in-BadCertificate.ensures)
+
+pub returns-in-BadWitness : goal.returns-in-BadWitness
+returns-in-BadWitness g c =
+    rw c.in-BadWitness.is (rw (c.as_slice-file-in-BadWitness.ensures, c.number-in-BadWitness.ensures, c.name-in-BadWitness.ensures) at
+    c.put_fault-in-BadWitness.ensures)

@@ -1,7 +1,0 @@
-use Rattle.std.proofs.Common.{◌≡◌, ◌++◌}
-use Rattle.mat_desc.specs.Binary.{binary}
-use Rattle.mat_desc.proofs.binary.put_binary.Given as goal
-
--- what stands there, and behind it the digits that are left
-abbrev pub invariant-loop-place : goal.invariant-loop-place
-invariant-loop-place l = l.out.items ++ binary l.place l.number ≡ l.fn.out.items ++ binary l.digits l.number

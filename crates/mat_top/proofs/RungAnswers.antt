@@ -1,0 +1,83 @@
+-- The rungs of a right answer are right, and what is written of a witness that shows one is its text.
+use Rattle.std.proofs.Common.{◌≡◌, ℕ, true, List, length, ◌-◌, arith}
+use Rattle.std.proofs.lemmas.Bool.{and_parts, false≢true, leb-true}
+use Rattle.std.proofs.lemmas.Option.{slice_get-get_or}
+use Rattle.mat_sets.specs.declared.weight.Weight.{Weight}
+use Rattle.mat_any.specs.Trees.{Tree}
+use Rattle.mat_desc.specs.Grammar.{IsValid}
+use Rattle.mat_desc.specs.Instances.{Instance, pair, list, graph, rooted, coloured, table}
+use Rattle.mat_cert.specs.declared.answer.PricedRung.{PricedRung}
+use Rattle.mat_cert.specs.Certificates.{Certificate, IsRanged, intersect, best, union_of, pack_any, pack, cover_never, cover, trees, trees_none}
+use Rattle.mat_cert.specs.Certificates.{arbor, unreached, disjoint, disjoint_none, rainbow, assign}
+use Rattle.mat_check.specs.Fitting.{fits}
+use Rattle.mat_check.specs.Right.{IsRight}
+use Rattle.mat_witness.specs.Kinds.{has_rung}
+use Rattle.mat_witness.specs.Lines.{witness_text}
+use Rattle.mat_witness.specs.Parts.{WitnessParts}
+use Rattle.mat_witness.specs.Shown.{IsRightRungOf, IsShown, IsWitnessFor, rung_at}
+use Rattle.mat_witness.proofs.WitnessLengths.{text_short}
+use Rattle.mat_top.specs.Witnessing.{IsShowing, fits_rung}
+
+-- ---- the rungs of a right answer
+
+pub has_such_rung : (instance : Instance) (answer : Certificate) (k : ℕ) → fits_rung instance answer k ≡ true → has_rung answer k ≡ true
+has_such_rung instance answer k fitting = (and_parts (fits instance answer) (has_rung answer k) fitting).1
+
+-- of an answer to a pair
+pair_rung : (w : List Weight) (first second : Tree) (n : ℕ) (rungs : List PricedRung) (cut : List ℕ) (k : ℕ)
+    → has_rung (intersect n rungs cut) k ≡ true → IsRight (pair w first second) (intersect n rungs cut)
+    → IsRightRungOf (pair w first second) (intersect n rungs cut) k
+pair_rung w first second n rungs cut k has right =
+    let one = right.1.each k (rung_at rungs k)
+    (slice_get-get_or rungs k _ (omega (arith, right.1.some, leb-true k (length rungs - 1) has))) in
+    record { counted = right.0; priced = one.priced; right = one.right; ends = right.1.ends }
+
+-- of a ladder of two matroids
+ladder_rung : (instance : Instance) (n : ℕ) (rungs : List PricedRung) (cut : List ℕ) (k : ℕ) → fits instance (intersect n rungs cut) ≡ true
+    → has_rung (intersect n rungs cut) k ≡ true → IsRight instance (intersect n rungs cut) → IsRightRungOf instance (intersect n rungs cut) k
+ladder_rung (pair w first second) n rungs cut k fitting has right = pair_rung w first second n rungs cut k has right
+ladder_rung (list _ _) n rungs cut k fitting has right = absurd (false≢true fitting)
+ladder_rung (graph _ _) n rungs cut k fitting has right = absurd (false≢true fitting)
+ladder_rung (rooted _ _ _ _) n rungs cut k fitting has right = absurd (false≢true fitting)
+ladder_rung (coloured _ _ _ _ _) n rungs cut k fitting has right = absurd (false≢true fitting)
+ladder_rung (table _ _ _ _) n rungs cut k fitting has right = absurd (false≢true fitting)
+
+some_rung : (instance : Instance) (answer : Certificate) (k : ℕ) → fits instance answer ≡ true → has_rung answer k ≡ true
+    → IsRight instance answer → IsRightRungOf instance answer k
+some_rung instance (intersect n rungs cut) k fitting has right = ladder_rung instance n rungs cut k fitting has right
+some_rung instance (best _ _) k fitting has right = absurd (false≢true has)
+some_rung instance (union_of _ _ _ _) k fitting has right = absurd (false≢true has)
+some_rung instance (pack_any _) k fitting has right = absurd (false≢true has)
+some_rung instance (pack _ _ _) k fitting has right = absurd (false≢true has)
+some_rung instance (cover_never _ _) k fitting has right = absurd (false≢true has)
+some_rung instance (cover _ _ _) k fitting has right = absurd (false≢true has)
+some_rung instance (trees _ _) k fitting has right = absurd (false≢true has)
+some_rung instance (trees_none _ _ _ _) k fitting has right = absurd (false≢true has)
+some_rung instance (arbor _ _ _ _ _) k fitting has right = absurd (false≢true has)
+some_rung instance (unreached _ _ _) k fitting has right = absurd (false≢true has)
+some_rung instance (disjoint _ _) k fitting has right = absurd (false≢true has)
+some_rung instance (disjoint_none _ _ _ _) k fitting has right = absurd (false≢true has)
+some_rung instance (rainbow _ _ _ _ _ _) k fitting has right = absurd (false≢true has)
+some_rung instance (assign _ _ _ _ _) k fitting has right = absurd (false≢true has)
+
+pub right_rung : (instance : Instance) (answer : Certificate) (k : ℕ) → fits_rung instance answer k ≡ true → IsRight instance answer
+    → IsRightRungOf instance answer k
+right_rung instance answer k fitting right =
+    let both = and_parts (fits instance answer) (has_rung answer k) fitting in
+    some_rung instance answer k both.0 both.1 right
+
+-- ---- the witness
+
+-- the text that is written of a witness that shows its rung
+pub written_shows : (instance : Instance) (answer : Certificate) (k : ℕ) (bytes : List ℕ) (parts : WitnessParts) → IsValid instance
+    → IsRanged answer → fits_rung instance answer k ≡ true → IsWitnessFor instance answer k parts
+    → IsShown instance answer k parts → bytes ≡ witness_text instance answer k parts → IsShowing instance answer k bytes
+written_shows instance answer k bytes parts valid ranged fitting kinds shown whole = record {
+  parts = parts;
+  text = record {
+    within = rw whole (text_short instance answer k parts valid ranged (has_such_rung instance answer k fitting) kinds shown);
+    fitting = kinds;
+    whole = whole;
+  };
+  shown = shown;
+}

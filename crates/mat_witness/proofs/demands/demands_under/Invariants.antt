@@ -1,0 +1,11 @@
+-- The demands of the values so far are listed.
+use Rattle.std.proofs.Common.{◌≡◌, filter, ltb, map, take}
+use Rattle.mat_greedy.specs.FallingWeights.{falling_weights}
+use Rattle.mat_any.specs.Trees.{Tree}
+use Rattle.mat_witness.specs.Demands.{demand_for}
+use Rattle.mat_witness.specs.Shown.{demand_at}
+use Rattle.mat_witness.proofs.demands.demands_under.Given as goal
+
+abbrev pub invariant-loop-at : goal.invariant-loop-at
+invariant-loop-at l = (tree : Tree) → map (demand_for tree) l.demands.items
+    ≡ filter (λ demand. ltb demand.most l.k) (map (demand_at tree l.set l.half) (take l.at-index (falling_weights l.half)))

@@ -1,0 +1,9 @@
+-- The bounds so far meet the demands so far.
+use Rattle.std.proofs.Common.{take}
+use Rattle.std.specs.List.{AllZip}
+use Rattle.mat_any.specs.Views.{tree_of}
+use Rattle.mat_witness.proofs.MadeWitnesses.{IsMetBy}
+use Rattle.mat_witness.proofs.make.half_bounds.Given as goal
+
+abbrev pub invariant-loop-demand : goal.invariant-loop-demand
+invariant-loop-demand l = AllZip (IsMetBy (tree_of l.matroid)) (take l.demand-index l.demand-items) l.bounds.items

@@ -1,0 +1,16 @@
+pub mod Kinds
+pub mod Parts
+pub mod FreeParts
+pub mod BoundParts
+pub mod Shown
+pub mod Views
+pub mod Demands
+pub mod FilledSets
+pub mod EndSums
+pub mod GammoidSteps
+pub mod Rows
+pub mod Making
+pub mod Lines
+pub mod Reading
+pub mod BoundRows
+pub mod RungRanges

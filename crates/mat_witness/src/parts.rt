@@ -1,0 +1,91 @@
+//! The parts of a witness, by the kind of the matroid.
+
+ghost use Rattle.std.specs.Prelude.{◌≡◌, ◌≤◌, true, length, IfOk};
+ghost use Rattle.mat_sets.specs.Sets.{IsSet};
+ghost use Rattle.mat_laws.specs.Matroids.{IsMaximal};
+ghost use Rattle.mat_any.specs.Trees.{element_count, is_independent};
+ghost use Rattle.mat_any.specs.Views.{tree_of};
+ghost use Rattle.mat_witness.specs.BoundParts.{bound_of, shows_bound};
+ghost use Rattle.mat_witness.specs.FreeParts.{shows_free};
+ghost use Rattle.mat_witness.specs.Making.{IsWitnessed};
+ghost use Rattle.mat_witness.specs.Parts.{IsBoundFor, IsFreeFor};
+ghost use Rattle.mat_witness.specs.Views.{bound_part, free_part};
+
+use crate::closing::closing_sets;
+use crate::counted::{filled_bound, filled_uniform};
+use crate::forests::{component_labels, forest_pairs};
+use crate::paths::paths_to;
+use crate::probes::probes_of;
+use crate::witness::{Free, Most};
+use crate::zeros::zeros_of;
+use mat_any::AnyMatroid;
+use mat_sets::ElemSet;
+use std::alloc::{AllocError, Global};
+
+/// What shows that an independent set is independent. The only error is want of memory.
+pub(crate) fn free_of(
+    alloc: Global,
+    matroid: &AnyMatroid,
+    set: &ElemSet,
+) -> Result<Free, AllocError>
+    requires witnessed { IsWitnessed (tree_of matroid.now) }
+    requires set { is_independent (tree_of matroid.now) set.now ≡ true }
+    ensures part { IfOk result (λ part. IsFreeFor (element_count (tree_of matroid.now)) (length set.now) (tree_of matroid.now) (free_part part)) }
+    ensures shows { IfOk result (λ part. shows_free (tree_of matroid.now) (free_part part) set.now ≡ true) }
+{
+    match matroid {
+        AnyMatroid::Uniform(_) | AnyMatroid::Partition(_) | AnyMatroid::Laminar(_) => {
+            Ok(Free::Count)
+        }
+        AnyMatroid::Graphic(graphic) => Ok(Free::Forest(forest_pairs(alloc, graphic, set)?)),
+        AnyMatroid::Gammoid(gammoid) => Ok(Free::Paths(paths_to(alloc, gammoid, set)?)),
+        AnyMatroid::Gf2(gf2) => Ok(Free::Probes(probes_of(alloc, gf2, set)?)),
+        _ => unreachable!(),
+    }
+}
+
+/// What shows that the rank of a set is at most the number of elements of a maximal independent subset. The only error is want of memory.
+pub(crate) fn bound_for(
+    alloc: Global,
+    matroid: &AnyMatroid,
+    set: &ElemSet,
+    inside: &ElemSet,
+) -> Result<Most, AllocError>
+    requires witnessed { IsWitnessed (tree_of matroid.now) }
+    requires set { IsSet (element_count (tree_of matroid.now)) set.now }
+    requires maximal { IsMaximal (is_independent (tree_of matroid.now)) set.now inside.now }
+    ensures part { IfOk result (λ part. IsBoundFor (element_count (tree_of matroid.now)) (tree_of matroid.now) (bound_part part)) }
+    ensures shows { IfOk result (λ part. shows_bound (tree_of matroid.now) (bound_part part) set.now ≡ true) }
+    ensures number { IfOk result (λ part. bound_of (tree_of matroid.now) (bound_part part) ≤ length inside.now) }
+{
+    match matroid {
+        AnyMatroid::Uniform(uniform) => {
+            filled_uniform(alloc, uniform.count(), uniform.cap(), set, inside)
+        }
+        AnyMatroid::Partition(partition) => filled_bound(
+            alloc,
+            partition.count(),
+            partition.classes(),
+            partition.caps(),
+            set,
+            inside,
+        ),
+        AnyMatroid::Laminar(laminar) => filled_bound(
+            alloc,
+            laminar.count(),
+            laminar.sets(),
+            laminar.caps(),
+            set,
+            inside,
+        ),
+        AnyMatroid::Graphic(graphic) => {
+            Ok(Most::Labels(component_labels(alloc, graphic, set, inside)?))
+        }
+        AnyMatroid::Gammoid(gammoid) => {
+            let (reach, gate) = closing_sets(alloc, gammoid, set, inside)?;
+            Ok(Most::Gate { reach, gate })
+        }
+        AnyMatroid::Gf2(gf2) => Ok(Most::Zeros(zeros_of(alloc, gf2, set, inside)?)),
+        _ => unreachable!(),
+    }
+}
