@@ -1,8 +1,9 @@
 #!/usr/bin/env python3
-"""Makes the table of all commands at 500 elements: `table.py [N] [PROGRAM [OTHER]]`, at the top of the repository.
+"""Makes the tables of all commands at 500 elements: `table.py [N] [PROGRAM [OTHER]]`, at the top of the repository.
 
 For each case of `cases.py` and each command that takes it the table has the seconds on the clock (the best of three runs) and the peak memory
-with 1 and with 4 workers, and those of `check` on the answer; for a second program, such as that of another commit, the same beside it. The
+with 1 and with 4 workers, and those of `check` on the answer; then, for the rung in the middle of each answer about matroids that have witnesses,
+those of `witness` and `verify`, with the bytes of the text; for a second program, such as that of another commit, the same beside it. The
 answers for 1 and for 4 workers have to be the same bytes, and `check` has to say yes. The memory is what GNU `time` (/usr/bin/time) tells. The program is crates/mat_main/out/mat_main where none is
 named. Run it ahead of other work (`chrt -r 50 python3 bench/table.py`), or the figures say little.
 """
@@ -17,6 +18,7 @@ CASES = ([(name, ['intersect']) for name in PAIRS]
          + [('union', ['union']), ('unions', ['union']), ('uniforms', ['union']), ('one', ['best']), ('one', ['pack']), ('one', ['cover']),
             ('graph', ['trees', '2']), ('graph', ['trees', '4']), ('rooted', ['arborescence']), ('rooted', ['disjoint', '1']),
             ('rooted', ['disjoint', '4']), ('payable', ['cuts']), ('coloured', ['rainbow']), ('table', ['assign'])])
+WITNESSED = ['free', 'partitions', 'graphic', 'gf2', 'laminar', 'graphs', 'gammoid']
 SAMPLES = ['pair', 'list', 'graph', 'rooted', 'table']
 RUNS = 3
 
@@ -66,6 +68,21 @@ def figures(program, command, path, folder):
     return cells
 
 
+def witnessed(program, path, folder):
+    """A rung in the middle of the answer, seconds and memory of `witness` and of `verify` on it, and the length of its text."""
+    answer, witness = os.path.join(folder, 'answer'), os.path.join(folder, 'witness')
+    with open(answer, 'wb') as to:
+        to.write(measured(program, ['intersect', path])[0])
+    with open(answer, 'rb') as certificate:
+        rung = str(int(certificate.read(100).split()[5]) // 2)
+    out, seconds, memory = measured(program, ['witness', rung, path, answer])
+    with open(witness, 'wb') as to:
+        to.write(out)
+    cells = [rung, f'{seconds:.3f} ({memory:.0f})']
+    out, seconds, memory = measured(program, ['verify', rung, path, answer, witness])
+    return cells + [f'{seconds:.3f} ({memory:.0f})', f'{os.path.getsize(witness):,}']
+
+
 def main():
     arguments = sys.argv[1:]
     count = int(arguments.pop(0)) if arguments and arguments[0].isdigit() else 500
@@ -78,6 +95,19 @@ def main():
             path = described(name, count, folder)
             cells = [cell for program in programs for cell in figures(program, command, path, folder)]
             print(f'| `{name}` | `{" ".join(command)}` |', ' | '.join(cells), '|', flush=True)
+    samples(programs, count)
+    heads = ['rung', '`witness`', '`verify`', 'bytes']
+    print('\n| case |', ' | '.join(head for _ in programs for head in heads), '|')
+    print('|---|' + '---|' * (len(heads) * len(programs)))
+    with tempfile.TemporaryDirectory() as folder:
+        for name in WITNESSED:
+            path = described(name, count, folder)
+            cells = [cell for program in programs for cell in witnessed(program, path, folder)]
+            print(f'| `{name}` |', ' | '.join(cells), '|', flush=True)
+
+
+def samples(programs, count):
+    """The rows of `sample`."""
     for kind in SAMPLES:
         words = [kind, str(count), '7']
         cells = []

@@ -100,7 +100,7 @@ fn contraction_independent(
     independent(alloc, inner, &joined)
 }
 
-// A maximal independent subset, by one greedy run.
+/// A maximal independent subset, by one greedy run. The only error is want of memory.
 pub(crate) fn maximal_subset(
     alloc: Global,
     matroid: &AnyMatroid,

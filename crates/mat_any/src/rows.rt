@@ -225,7 +225,7 @@ fn union_row(
 {
     let all = BitSet::all_below(alloc, common_size_of(matroids))?;
     let search = search_from(alloc, matroids, parts, kept, &all, x)?;
-    row_by_search(alloc, base, parts, &search)
+    row_by_search(alloc, base, &search)
 }
 
 // A search for moves from x among these elements, to its end, by what is kept of the parts.

@@ -23,7 +23,9 @@ use crate::sizes::{common_size_of, size_of};
 use mat_laws::Matroid;
 use mat_minors::{DualKept, first_taken, items_in, members_first, others_first};
 use mat_sets::{BitSet, ElemSet, SetList};
-use mat_union::{Growth, PlaceSearch, first_parts, is_changed, kill, members_of, put_kept, stands};
+use mat_union::{
+    Growth, PlaceSearch, first_parts, is_changed, mark_spanned, members_of, put_kept, stands,
+};
 use std::alloc::{AllocError, Global};
 
 /// The greedy run along an order in which no element stands twice. A dual, a truncation, a restriction or a contraction is one
@@ -162,7 +164,7 @@ fn grown_parts(
     Ok(growth)
 }
 
-// The first part holds what the first matroid takes, the others are empty, and all elements are alive.
+// The first part holds what the first matroid takes, the others are empty, and no element is found to be spanned yet.
 #[cycle(running)]
 fn first_growth(
     alloc: Global,
@@ -172,24 +174,24 @@ fn first_growth(
     requires joined { AreJoined elements_in IsSoundOne matroids.now }
     requires below { AllBelow (size_in matroids.now) order.now }
     requires distinct { AreDistinct order.now }
-    ensures growing { IfOk result (λ g. AreGrowing (size_in matroids.now) (map test_in matroids.now) g.parts g.dead g.alive) }
+    ensures growing { IfOk result (λ g. AreGrowing (size_in matroids.now) (map test_in matroids.now) g.parts g.spanned g.unspanned) }
     ensures kept { IfOk result (λ g. AreKept KeepsOne matroids.now g.parts g.kept.items) }
     ensures first { IfOk result (λ g. family_union g.parts ≡ grown_along (test_at (map test_in matroids.now) 0) [] order.now) }
 {
     let first = run(alloc, &matroids[0], order)?;
     let parts = first_parts(alloc, first, matroids.len())?;
     let kept = keep_each(alloc, matroids, &parts)?;
-    let alive = BitSet::all_below(alloc, common_size_of(matroids))?;
+    let unspanned = BitSet::all_below(alloc, common_size_of(matroids))?;
     Ok(Growth {
         parts,
         kept,
-        dead: ElemSet::new(alloc),
-        alive,
+        spanned: ElemSet::new(alloc),
+        unspanned,
     })
 }
 
-// One turn of the run: an element that is in no part and alive comes into the parts where it can, and what changed is kept anew; else all
-// that it reaches is dead.
+// One turn of the run: an element that is in no part and not found to be spanned comes into the parts where it can, and what changed is kept
+// anew; else all that it reaches is marked as spanned.
 #[cycle(running)]
 fn take_turn(
     alloc: Global,
@@ -198,25 +200,30 @@ fn take_turn(
     x: u32,
 ) -> Result<(), AllocError>
     requires joined { AreJoined elements_in IsSoundOne matroids.now }
-    requires growing { AreGrowing (size_in matroids.now) (map test_in matroids.now) growth.old.parts growth.old.dead growth.old.alive }
+    requires growing { AreGrowing (size_in matroids.now) (map test_in matroids.now) growth.old.parts growth.old.spanned growth.old.unspanned }
     requires kept { AreKept KeepsOne matroids.now growth.old.parts growth.old.kept.items }
     requires below { x < size_in matroids.now }
-    ensures growing { OnOk result (AreGrowing (size_in matroids.now) (map test_in matroids.now) growth.new.parts growth.new.dead growth.new.alive) }
+    ensures growing { OnOk result (AreGrowing (size_in matroids.now) (map test_in matroids.now) growth.new.parts growth.new.spanned growth.new.unspanned) }
     ensures kept { OnOk result (AreKept KeepsOne matroids.now growth.new.parts growth.new.kept.items) }
     ensures step { OnOk result (family_union growth.new.parts ≡ grown_by (union_in matroids.now) (family_union growth.old.parts) x) }
 {
-    if stands(&growth.parts, x) || !growth.alive.contains(x) {
+    if stands(&growth.parts, x) || !growth.unspanned.contains(x) {
         return Ok(());
     }
     let kept = growth.kept.as_slice();
-    match place_for(alloc, matroids, &growth.parts, kept, &growth.alive, x)? {
+    match place_for(alloc, matroids, &growth.parts, kept, &growth.unspanned, x)? {
         PlaceSearch::Placed(new) => {
             keep_changed(alloc, matroids, &growth.parts, &new, &mut growth.kept)?;
             growth.parts = new;
             Ok(())
         }
         PlaceSearch::Stuck(search) => {
-            kill(alloc, &mut growth.dead, &mut growth.alive, search.reached())?;
+            mark_spanned(
+                alloc,
+                &mut growth.spanned,
+                &mut growth.unspanned,
+                search.reached(),
+            )?;
             Ok(())
         }
     }

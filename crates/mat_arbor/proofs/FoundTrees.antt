@@ -23,7 +23,8 @@ use Rattle.mat_arbor.proofs.LeastTrees.{arborescence_from_common, common_from_ar
 use Rattle.std.proofs.Math.ListN.{get_or-map as get_or_map}
 use mathlib.Core.Path.{fun_ext}
 
-entering_once_laws : (n vertices : ℕ) (ends : ℕ → ℕ × ℕ) (root : ℕ) → IsMatroid n (is_entering_once n vertices ends root)
+-- at most one arc into each vertex and none into the root: the laws of independence hold of it
+pub entering_once_laws : (n vertices : ℕ) (ends : ℕ → ℕ × ℕ) (root : ℕ) → IsMatroid n (is_entering_once n vertices ends root)
 entering_once_laws n vertices ends root =
     partition_laws n (classes_by n vertices (head_of ends)) (caps_by vertices (cap_at root))
     (IsPartition-classes_by n vertices (head_of ends) (caps_by vertices (cap_at root)) (length-caps_by vertices (cap_at root)))

@@ -1,12 +1,12 @@
 -- A tree that grows from the root: it starts at the root alone, an arc that leaves it makes it larger, and where none does it spans all
 -- vertices or leaves a set that no arc enters.
-use Rattle.std.proofs.Common.{◌≡◌, ℕ, suc, zero, ◌+◌, ◌-◌, ◌<◌, ◌≤◌, true, false, not, ◌&&◌, eqb, List, [], length, ◌⊎◌, inl, inr, refl, sym, ap, ◌∙◌, subst, arith}
+use Rattle.std.proofs.Common.{◌≡◌, ℕ, suc, zero, ◌+◌, ◌-◌, ◌<◌, ◌≤◌, true, false, not, ◌&&◌, eqb, List, [], ◌∷◌, length, ◌⊎◌, inl, inr, refl, sym, ap, ◌∙◌, subst, arith}
 use Rattle.std.proofs.lemmas.Bool.{cases_Bool, eqb-true, ltb-true, lt-ltb, and_parts, and_from, both_ways, false_from_ne_true, not-true, or_cases, or_right, false≢true}
-use Rattle.mat_sets.specs.Sets.{is_member, all_below, minus, with_one}
-use Rattle.mat_sets.specs.Graphs.{IsSpanningArborescence, Reaches, ends_of, IsUnentered}
+use Rattle.mat_sets.specs.Sets.{is_member, all_below, minus, with_one, IsSet}
+use Rattle.mat_sets.specs.Graphs.{DirectedWalk, IsSpanningArborescence, Reaches, ends_of, IsUnentered}
 use Rattle.mat_sets.proofs.Cardinalities.{length-with_one}
-use Rattle.mat_sets.proofs.Ground.{IsSet-all_below, IsSet-length, IsSet-minus, IsSet-nil, IsSet-with_one, is_member-all_below, length-complement}
-use Rattle.mat_sets.proofs.Members.{is_member-minus, is_member-with_one, IsRising-nil}
+use Rattle.mat_sets.proofs.Ground.{AllBelow-from_members, below_member, IsSet-all_below, IsSet-length, IsSet-minus, IsSet-nil, IsSet-with_one, is_member-all_below, length-complement}
+use Rattle.mat_sets.proofs.Members.{is_member-head, is_member-minus, is_member-with_one, IsRising-nil, IsRising-with_one}
 use Rattle.mat_sets.proofs.Subsets.{IsSubset-with_one, find_member}
 use Rattle.mat_sets.proofs.Walking.{Reaches-arc, Reaches-itself, Reaches-subset, Reaches-trans}
 use Rattle.mat_sets.proofs.DisjointSets.{no_member, with_one-holds}
@@ -19,10 +19,9 @@ parts_with_one : (a : List ℕ) (x y : ℕ) → is_member y (with_one a x) ≡ t
 parts_with_one a x y m = elim (or_cases (eqb y x) (is_member y a) (sym (is_member-with_one y x a) ∙ m)) [ inl e ↦ inl (eqb-true y x e) | inr h ↦ inr h ]
 
 -- the root alone
-pub IsGrownTree-root : (vertices n : ℕ) (ends : ℕ → ℕ × ℕ) (root : ℕ) (R : List ℕ) → root < vertices → R ≡ with_one [] root
-    → IsGrownTree vertices n ends root R
-IsGrownTree-root vertices n ends root R small is = rw is (record {
-  set = IsSet-with_one vertices [] root (IsSet-nil vertices) small;
+pub IsGrownTree-root : (n : ℕ) (ends : ℕ → ℕ × ℕ) (root : ℕ) (R : List ℕ) → R ≡ with_one [] root → IsGrownTree n ends root R
+IsGrownTree-root n ends root R is = rw is (record {
+  rises = IsRising-with_one [] root IsRising-nil;
   with_root = with_one-holds [] root;
   tree = [];
   arcs = IsSet-nil n;
@@ -34,18 +33,25 @@ IsGrownTree-root vertices n ends root R small is = rw is (record {
   ];
 })
 
-module _ {vertices n : ℕ} {ends : ℕ → ℕ × ℕ} {root : ℕ} {R : List ℕ} (g : IsGrownTree vertices n ends root R) where
+-- a walk along arcs whose heads are vertices ends at a vertex
+walk_below : (vertices : ℕ) (ends : ℕ → ℕ × ℕ) (along : List ℕ) (v w : ℕ) → ((a : ℕ) → is_member a along ≡ true → (ends a).1 < vertices)
+    → v < vertices → DirectedWalk ends along v w → w < vertices
+walk_below vertices ends [] v w heads small walk = subst (λ z. z < vertices) walk small
+walk_below vertices ends (a ∷ along) v w heads small walk =
+    walk_below vertices ends along (ends a).1 w (λ b m. heads b (or_right (eqb b a) (is_member b along) m)) (heads a (is_member-head a along)) walk.1
+
+module _ {n : ℕ} {ends : ℕ → ℕ × ℕ} {root : ℕ} {R : List ℕ} (g : IsGrownTree n ends root R) where
   -- an arc that leaves R brings its head
-  pub IsGrownTree-more : (a : ℕ) → a < n → (ends a).1 < vertices → Leaves ends R a → IsGrownTree vertices n ends root (with_one R (ends a).1)
-  IsGrownTree-more a small head l =
+  pub IsGrownTree-more : (a : ℕ) → a < n → Leaves ends R a → IsGrownTree n ends root (with_one R (ends a).1)
+  IsGrownTree-more a small l =
       let new : is_member a g.tree ≡ false = false_from_ne_true _ (λ m. both_ways _ l.to (g.into a m)) in
       let more = IsSubset-with_one g.tree a in
       record {
-        set = IsSet-with_one vertices R (ends a).1 g.set head;
+        rises = IsRising-with_one R (ends a).1 g.rises;
         with_root = stays_with_one R (ends a).1 root g.with_root;
         tree = with_one g.tree a;
         arcs = IsSet-with_one n g.tree a g.arcs small;
-        size = omega (arith, g.size, length-with_one g.tree a g.arcs.rising new, length-with_one R (ends a).1 g.set.rising l.to);
+        size = omega (arith, g.size, length-with_one g.tree a g.arcs.rising new, length-with_one R (ends a).1 g.rises l.to);
         into = λ b m. elim (parts_with_one g.tree a b m) [
           | inl same ↦ ap (λ z. is_member (ends z).1 (with_one R (ends a).1)) same ∙ with_one-holds R (ends a).1
           | inr h ↦ stays_with_one R (ends a).1 (ends b).1 (g.into b h)
@@ -59,12 +65,22 @@ module _ {vertices n : ℕ} {ends : ℕ → ℕ × ℕ} {root : ℕ} {R : List �
         ];
       }
 
-  pub grown_size : length R ≤ vertices
-  grown_size = IsSet-length vertices R g.set
+  -- it has at most one vertex more than there are arcs
+  pub grown_size : length R ≤ suc n
+  grown_size = omega (arith, g.size, IsSet-length n g.tree g.arcs)
+
+  -- it is a set of vertices
+  pub grown_set : (vertices : ℕ) → ((a : ℕ) → a < n → (ends a).1 < vertices) → root < vertices → IsSet vertices R
+  grown_set vertices heads small = record {
+    rising = g.rises;
+    below = AllBelow-from_members vertices R (λ v m.
+        let r = g.reached v m in
+        walk_below vertices ends r.along root v (λ a q. heads a (below_member g.arcs (r.inside.inside a q))) small r.walk);
+  }
 
   -- where it holds all vertices it is a spanning arborescence
-  pub grown_spans : length R ≡ vertices → IsSpanningArborescence vertices n ends root g.tree
-  grown_spans full = record {
+  pub grown_spans : (vertices : ℕ) → IsSet vertices R → length R ≡ vertices → IsSpanningArborescence vertices n ends root g.tree
+  grown_spans vertices set full = record {
     set = g.arcs;
     size = g.size ∙ full;
     reached = λ v l. g.reached v (in_R v l);
@@ -73,20 +89,20 @@ module _ {vertices n : ℕ} {ends : ℕ → ℕ × ℕ} {root : ℕ} {R : List �
       in_R : (v : ℕ) → v < vertices → is_member v R ≡ true
       in_R v l = elim (cases_Bool (is_member v R)) [
         | inl h ↦ h
-        | inr o ↦ absurd (both_ways _ (no_member (minus (all_below vertices) R) v (omega (arith, length-complement vertices R g.set.rising g.set.below)))
+        | inr o ↦ absurd (both_ways _ (no_member (minus (all_below vertices) R) v (omega (arith, length-complement vertices R set.rising set.below)))
             (is_member-minus v (all_below vertices) R ∙ and_from (is_member v (all_below vertices)) (not (is_member v R))
             (is_member-all_below v vertices ∙ lt-ltb v vertices l) (ap not o)))
       ]
 
 -- where no arc leaves it and some vertex is outside, no arc enters the rest
 pub unentered_rest : (vertices : ℕ) (arcs : List (ℕ × ℕ)) (root : ℕ) (R : List ℕ) → ((a : ℕ) → a < length arcs → (ends_of arcs a).0 < vertices)
-    → IsGrownTree vertices (length arcs) (ends_of arcs) root R
+    → IsGrownTree (length arcs) (ends_of arcs) root R → IsSet vertices R
     → ((a : ℕ) → a < length arcs → Leaves (ends_of arcs) R a → ⊥) → length R < vertices
     → IsUnentered vertices arcs root (minus (all_below vertices) R)
-unentered_rest vertices arcs root R tails g none few = record {
+unentered_rest vertices arcs root R tails g set none few = record {
   root_free = record {
     set = IsSet-minus vertices (all_below vertices) R (IsSet-all_below vertices);
-    some = omega (arith, length-complement vertices R g.set.rising g.set.below);
+    some = omega (arith, length-complement vertices R set.rising set.below);
     free = false_from_ne_true _ (λ m. both_ways _ (rest root m).1 g.with_root);
   };
   none = λ a l. false_from_ne_true _ (λ e.
@@ -123,14 +139,14 @@ pub arborescence_or : (vertices : ℕ) (arcs : List (ℕ × ℕ)) (root : ℕ) �
     → ((a : ℕ) → a < length arcs → (ends_of arcs a).1 < vertices) → root < vertices
     → ((X : List ℕ) × IsSpanningArborescence vertices (length arcs) (ends_of arcs) root X) ⊎ ((U : List ℕ) × IsUnentered vertices arcs root U)
 arborescence_or vertices arcs root tails heads small =
-    go (vertices - 1) (with_one [] root) (IsGrownTree-root vertices (length arcs) (ends_of arcs) root _ small refl)
+    go (vertices - 1) (with_one [] root) (IsGrownTree-root (length arcs) (ends_of arcs) root _ refl)
     (omega (arith, length-with_one [] root IsRising-nil refl))
   where
-    go : (left : ℕ) (R : List ℕ) → IsGrownTree vertices (length arcs) (ends_of arcs) root R → left + length R ≡ vertices
+    go : (left : ℕ) (R : List ℕ) → IsGrownTree (length arcs) (ends_of arcs) root R → left + length R ≡ vertices
         → ((X : List ℕ) × IsSpanningArborescence vertices (length arcs) (ends_of arcs) root X) ⊎ ((U : List ℕ) × IsUnentered vertices arcs root U)
-    go zero R g e = inl (g.tree, grown_spans g (omega arith))
+    go zero R g e = inl (g.tree, grown_spans g vertices (grown_set g vertices heads small) (omega arith))
     go (suc left) R g e = elim (leaving_or (ends_of arcs) R (length arcs)) [
-      | inl w ↦ go left (with_one R (ends_of arcs w.0).1) (IsGrownTree-more g w.0 w.1 (heads w.0 w.1) w.2)
-          (omega (arith, length-with_one R (ends_of arcs w.0).1 g.set.rising w.2.to))
-      | inr none ↦ inr (minus (all_below vertices) R, unentered_rest vertices arcs root R tails g none (omega arith))
+      | inl w ↦ go left (with_one R (ends_of arcs w.0).1) (IsGrownTree-more g w.0 w.1 w.2)
+          (omega (arith, length-with_one R (ends_of arcs w.0).1 g.rises w.2.to))
+      | inr none ↦ inr (minus (all_below vertices) R, unentered_rest vertices arcs root R tails g (grown_set g vertices heads small) none (omega arith))
     ]

@@ -1,11 +1,11 @@
 -- A tree that grows from the root along arcs (Schrijver, chapter 6).
 use Rattle.std.specs.Prelude.{◌≡◌, ℕ, suc, true, false, List, length}
 use Rattle.mat_sets.specs.Graphs.{Reaches}
-use Rattle.mat_sets.specs.Sets.{is_member, IsSet}
+use Rattle.mat_sets.specs.Sets.{is_member, IsRising, IsSet}
 
 -- the root reaches each vertex of R along a set of arcs into R that are one fewer than the vertices of R
-pub record IsGrownTree (vertices n : ℕ) (ends : ℕ → ℕ × ℕ) (root : ℕ) (R : List ℕ) : Type 0 where
-  pub set : IsSet vertices R
+pub record IsGrownTree (n : ℕ) (ends : ℕ → ℕ × ℕ) (root : ℕ) (R : List ℕ) : Type 0 where
+  pub rises : IsRising R
   pub with_root : is_member root R ≡ true
   pub tree : List ℕ
   pub arcs : IsSet n tree

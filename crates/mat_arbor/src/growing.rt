@@ -1,6 +1,6 @@
 //! What the root reaches.
 ghost use Rattle.std.specs.Prelude.{◌<◌, ℕ, length, IfOk, MatchOption};
-ghost use Rattle.mat_sets.specs.Graphs.{IsGraph, ends_of};
+ghost use Rattle.mat_sets.specs.Graphs.{ends_of};
 ghost use Rattle.mat_arbor.specs.Growing.{IsGrownTree, Leaves};
 
 use mat_sets::ElemSet;
@@ -20,15 +20,8 @@ fn leaving_arc(arcs: &[(u32, u32)], set: &ElemSet) -> Option<usize>
 }
 
 /// The vertices that the root reaches: the head of one arc after the other that leaves them is added. The only error is want of memory.
-pub fn reached_from(
-    alloc: Global,
-    vertices: u32,
-    arcs: &[(u32, u32)],
-    root: u32,
-) -> Result<ElemSet, AllocError>
-    requires graph { IsGraph vertices arcs.now }
-    requires root { root < vertices }
-    ensures grown { IfOk result (IsGrownTree vertices (length arcs.now) (ends_of arcs.now) root) }
+pub fn reached_from(alloc: Global, arcs: &[(u32, u32)], root: u32) -> Result<ElemSet, AllocError>
+    ensures grown { IfOk result (IsGrownTree (length arcs.now) (ends_of arcs.now) root) }
     ensures closed { IfOk result (λ s. (a : ℕ) → a < length arcs.now → ¬ Leaves (ends_of arcs.now) s a) }
 {
     let mut reached = ElemSet::new(alloc);

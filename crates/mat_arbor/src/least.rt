@@ -82,7 +82,7 @@ pub fn least_arborescence<R: Threads + Sync>(
     ensures right { IfOk result (IsRightArbor vertices arcs.now costs.now root) }
     ensures unreached { IfOk result (λ a. (is_unreached a ≡ true) ↔ HasNoArborescence vertices arcs.now root) }
 {
-    let reached = reached_from(alloc, vertices, arcs.as_slice(), root)?;
+    let reached = reached_from(alloc, arcs.as_slice(), root)?;
     if reached.len() < vertices as usize {
         let rest = ElemSet::all_below(alloc, vertices)?.minus(alloc, &reached)?;
         return Ok(Arbor::Unreached(rest));

@@ -3,8 +3,7 @@
 use Rattle.std.proofs.Common.{◌≡◌, ℕ, pos, true, cond, List, [], ◌∷◌, ◌++◌, length, map, ◌⊎◌, inl, inr, Result, Ok, Err, IfOk, refl, sym, ap}
 use Rattle.std.proofs.Common.{subst, ◌∙◌}
 use Rattle.std.specs.Prelude.{codes, bytes_eq}
-use Rattle.std.specs.List.{list_all, join_with_byte}
-use Rattle.std.proofs.lemmas.List.Splits.{join_with_byte-slice_split}
+use Rattle.std.specs.List.{list_all}
 use Rattle.mat_words.specs.Lines.{Line, lines_of, text_of}
 use Rattle.mat_words.specs.Words.{is_word}
 use Rattle.mat_words.specs.Numbers.{numeral, numerals}
@@ -14,6 +13,7 @@ use Rattle.mat_words.specs.Cursors.{WordsLeft, LinesLeft}
 use Rattle.mat_words.specs.Reading as any_text
 use Rattle.mat_words.proofs.ReadingSteps.{found-same, bind_found}
 use Rattle.mat_words.proofs.WordReading.{numerals_words, weights_words}
+use Rattle.mat_words.proofs.LineLemmas.{same_text}
 use Rattle.mat_words.proofs.LineReading.{AreLeft, keyed_again}
 use Rattle.mat_cert.specs.declared.refusal.CertRefusal.{CertRefusal}
 use Rattle.mat_cert.specs.declared.refusal.CertRefusal.TheVariants as refusals
@@ -89,10 +89,6 @@ answer_found p answer e =
     }
 
 -- ---- whole texts
-
--- texts with the same lines are the same
-same_text : (first second : List ℕ) → lines_of first ≡ lines_of second → first ≡ second
-same_text first second e = sym (join_with_byte-slice_split 10 first) ∙ ap (join_with_byte 10) e ∙ join_with_byte-slice_split 10 second
 
 pub certificate_found : (text : List ℕ) (c : Certificate) → read_of text ≡ Ok c → IsRanged c × (text ≡ certificate_text c)
 unfolding certificate_at certificate_text

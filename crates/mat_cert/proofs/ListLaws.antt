@@ -1,15 +1,14 @@
 -- Items that stand in a row, each on a line: what is read is spelled so, and what is spelled so is read.
-use Rattle.std.proofs.Common.{◌≡◌, ℕ, zero, suc, List, [], ◌∷◌, ◌++◌, length, map, Result, Ok, refl, ap, subst, true}
+use Rattle.std.proofs.Common.{◌≡◌, ℕ, List, [], ◌∷◌, ◌++◌, length, map, Result, Ok, true}
 use Rattle.std.specs.List.{All}
-use Rattle.std.proofs.lemmas.List.Elements.{All-nil, All-cons, All-head, All-tail}
 use Rattle.mat_sets.specs.Sets.{IsSet}
 use Rattle.mat_words.specs.Lines.{Line}
 use Rattle.mat_words.specs.Words.{is_word}
 use Rattle.mat_words.specs.Writing.{members_line}
 use Rattle.mat_words.specs.Cursors.{LinesLeft}
-use Rattle.mat_words.specs.Steps.{◌>>=◌, repeat_at}
-use Rattle.mat_words.proofs.ReadingSteps.{found-same, bind_found}
+use Rattle.mat_words.specs.Steps.{repeat_at}
 use Rattle.mat_words.proofs.LineReading.{AreLeft}
+use Rattle.mat_words.proofs.ItemLines as any_items
 use Rattle.mat_cert.specs.declared.answer.LevelLine.{LevelLine}
 use Rattle.mat_cert.specs.Faults.{Fault}
 use Rattle.mat_cert.specs.Certificates.{IsRangedLevel, level_line, sets_lines}
@@ -25,34 +24,16 @@ pub items_found : {A : Type 0} (reader : LinesLeft → Result (A × LinesLeft) F
     → ((p : LinesLeft) (item : A) (q : LinesLeft) → reader p ≡ Ok (item, q) → IsRead (IsIn item) (line_of item ∷ []) p q)
     → (many : ℕ) (p : LinesLeft) (items : List A) (q : LinesLeft) → repeat_at reader many p ≡ Ok (items, q)
     → IsRead (AreItemsRead IsIn many items) (map line_of items) p q
-unfolding repeat_at
-items_found {A} reader IsIn line_of one zero p items q e =
-    subst (λ (r : List A × LinesLeft). IsRead (AreItemsRead IsIn 0 r.0) (map line_of r.0) p r.1) (found-same ([], p) (items, q) e)
-    (record { in_range = record { count = refl; each = All-nil IsIn }; spelled = λ rest left. left })
-items_found {A} reader IsIn line_of one (suc many) p items q e =
-    let first = bind_found (reader p) (λ first. repeat_at reader many first.1 >>= λ others. Ok (first.0 ∷ others.0, others.1)) (items, q) e in
-    let others = bind_found (repeat_at reader many first.0.1) (λ others. Ok (first.0.0 ∷ others.0, others.1)) (items, q) first.2 in
-    let here = one p first.0.0 first.0.1 first.1 in
-    let more = items_found reader IsIn line_of one many first.0.1 others.0.0 others.0.1 others.1 in
-    subst (λ (r : List A × LinesLeft). IsRead (AreItemsRead IsIn (suc many) r.0) (map line_of r.0) p r.1)
-    (found-same (first.0.0 ∷ others.0.0, others.0.1) (items, q) others.2) (record {
-      in_range = record {
-        count = ap suc more.in_range.count;
-        each = All-cons IsIn first.0.0 others.0.0 here.in_range more.in_range.each;
-      };
-      spelled = λ rest left. here.spelled (map line_of others.0.0 ++ rest) (more.spelled rest left);
-    })
+items_found reader IsIn line_of one many p items q e =
+    let read = any_items.items_found reader line_of IsIn
+    (λ p item q e. let here = one p item q e in record { valid = here.in_range; spelled = here.spelled }) many p items q e in
+    record { in_range = record { count = read.count; each = read.each }; spelled = read.spelled }
 
 pub items_again : {A : Type 0} (reader : LinesLeft → Result (A × LinesLeft) Fault) (IsIn : A → Type 0) (line_of : A → Line)
     → ((p : LinesLeft) (item : A) (rest : List Line) → IsIn item → AreLeft (line_of item ∷ rest) p → IsReadAgain (reader p) item rest)
     → (p : LinesLeft) (items : List A) (rest : List Line) → All IsIn items → AreLeft (map line_of items ++ rest) p
     → IsReadAgain (repeat_at reader (length items) p) items rest
-unfolding repeat_at
-items_again reader IsIn line_of one p [] rest each left = (p, refl, left)
-items_again reader IsIn line_of one p (item ∷ items) rest each left =
-    let first = one p item (map line_of items ++ rest) (All-head IsIn item items each) left in
-    let others = items_again reader IsIn line_of one first.0 items rest (All-tail IsIn item items each) first.2 in
-    (others.0, rw (first.1, others.1) refl, others.2)
+items_again reader IsIn line_of one p items rest each left = any_items.items_again reader line_of IsIn one p items rest each left
 
 -- ---- sets, and levels
 

@@ -11,7 +11,10 @@ use mat_sets::PairWeights;
 use mat_words::{LineCursor, WordCursor, keyed_line, next_weights, nothing_left};
 use std::alloc::Global;
 
-/// The next line, which has to be of this word and as many others. Another number of words is [`CertKind::WrongCount`].
+/// The next line, which has to be of this word and as many others.
+///
+/// [`CertKind::EndsEarly`] where no byte 10 is left, [`CertKind::BadByte`] where the line isn't well spaced, [`CertKind::UnknownWord`]
+/// where its first word is another, and [`CertKind::WrongCount`] where it has another number of words.
 #[tactic(auto, unfolding(crate::specs::LineReading::counted_at))]
 pub fn counted_line<'a>(
     lines: LineCursor<'a>,
@@ -50,7 +53,7 @@ pub(crate) fn part_line<'a>(
     Ok((PairWeights::new(weights), rest))
 }
 
-/// The last line: the word `end` alone.
+/// The last line: the word `end` alone. The faults are those of [`counted_line`].
 #[tactic(auto, unfolding(crate::specs::LineReading::end_at))]
 pub fn last_line<'a>(lines: LineCursor<'a>) -> Result<LineCursor<'a>, CertRefusal>
     ensures { Gives lines_left result (end_at (lines_left lines.entry)) }

@@ -14,6 +14,11 @@ use mat_words::{LineCursor, WordCursor, keyed_line};
 use std::alloc::Global;
 
 /// A line of this word and a set of numbers below the bound, in rising order.
+///
+/// The faults are of these kinds of [`CertKind`](crate::CertKind): `EndsEarly` where no byte 10 is left, `BadByte` where the line isn't
+/// well spaced, `WrongCount` where it is empty, `UnknownWord` where its first word is another, `NumberSpelling` where a word behind that is
+/// no number, `NumberRange` where it is one out of range, and `NotRising` where it isn't above the one before it. [`CertRefusal::Memory`]
+/// is want of memory.
 #[tactic(auto, unfolding(crate::specs::LineReading::set_at))]
 pub fn set_line<'a>(
     alloc: Global,

@@ -40,7 +40,8 @@ pub fn has_this_many(words: WordCursor<'_>, many: u32) -> Result<(), CertRefusal
     }
 }
 
-/// The next word of a line has to be this one: another is [`CertKind::UnknownWord`]. What is left behind it.
+/// What is left of a line behind its next word, which has to be this one. [`CertKind::UnknownWord`] where it is another, and
+/// [`CertKind::WrongCount`] where none is left.
 #[tactic(auto, unfolding(crate::specs::LineReading::fixed_at))]
 pub fn fixed_word<'a>(words: WordCursor<'a>, word: &[u8]) -> Result<WordCursor<'a>, CertRefusal>
     ensures { Gives words_left result (fixed_at word.now (words_left words.entry)) }

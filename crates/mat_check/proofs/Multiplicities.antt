@@ -1,6 +1,5 @@
 -- Counting in how many sets of a family an element stands, set by set; and the clauses that none stands in two, and none in no set.
-use Rattle.std.proofs.Common.{◌≡◌, ℕ, ◌+◌, ◌<◌, ◌≤◌, List, [], length, get_or, take, nat_le, nat_lt, sym, ap, ◌∙◌, arith}
-use Rattle.std.proofs.lemmas.List.{take_all}
+use Rattle.std.proofs.Common.{◌≡◌, ℕ, ◌+◌, ◌<◌, List, [], length, get_or, take, nat_le, nat_lt, sym, arith}
 use Rattle.mat_sets.specs.Families.{indicator, multiplicity}
 use Rattle.mat_sets.specs.Sets.{is_member}
 use Rattle.mat_sets.proofs.Steps.{multiplicity-more, multiplicity-none}
@@ -30,6 +29,3 @@ module _ (e : ℕ) (sets : List (List ℕ)) (i count : ℕ) (counted : IsCounted
   pub counted_next : (more : ℕ) → i < length sets → more ≡ indicator (is_member e (get_or sets i []))
       → IsCounted e sets (i + 1) (count + more)
   counted_next more inside one = omega (arith, one, counted, multiplicity-more e sets i inside)
-
-  pub counted_all : length sets ≤ i → count ≡ multiplicity e sets
-  counted_all past = counted ∙ ap (multiplicity e) (take_all i sets past)

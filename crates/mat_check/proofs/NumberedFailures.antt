@@ -1,11 +1,11 @@
 -- The clauses of the items of a list, place by place: all hold exactly where those at each place do, and a walk along the places finds the
 -- first that fails, since what is left of the list tells it as long as none has failed.
-use Rattle.std.proofs.Common.{◌≡◌, ℕ, ◌+◌, suc, ◌<◌, ◌≤◌, true, false, List, ◌∷◌, ◌++◌, length, get_or, map, drop}
-use Rattle.std.proofs.Common.{Some, None, refl, sym, subst, ap, ◌∙◌, arith}
-use Rattle.std.proofs.lemmas.List.{drop_more, drop_all}
+use Rattle.std.proofs.Common.{◌≡◌, ℕ, ◌+◌, suc, ◌<◌, List, ◌++◌, length, get_or, map, drop}
+use Rattle.std.proofs.Common.{Some, None, sym, subst, ap, ◌∙◌, arith}
+use Rattle.std.proofs.lemmas.List.{drop_more}
 use Rattle.std.proofs.lemmas.Option.{get_or_from_slice_get, slice_get-get_or, slice_get_within}
 use Rattle.mat_check.specs.Clauses.{Clause, Failure, first_failure, numbered_clauses}
-use Rattle.mat_check.proofs.FailingClauses.{first_in_back, first_in_front, first_of_failing, first_of_holding}
+use Rattle.mat_check.proofs.FailingClauses.{first_in_back, first_in_front}
 use Rattle.mat_check.proofs.FirstFailures.{AllHold, each_rung_holds, all_rungs_hold}
 
 module _ {R : Type 0} (clauses_of_item : ℕ → R → List Clause) (items : List R) where
@@ -26,12 +26,6 @@ module _ {R : Type 0} (clauses_of_item : ℕ → R → List Clause) (items : Lis
   -- none fails at a place before i
   abbrev pub IsPassed : ℕ → Type 0
   IsPassed i = first_failure (numbered_clauses clauses_of_item 0 items) ≡ first_failure (numbered_clauses clauses_of_item i (drop i items))
-
-  pub passed_none : IsPassed 0
-  passed_none = refl
-
-  pub passed_all : (i : ℕ) → length items ≤ i → IsPassed i → None ≡ first_failure (numbered_clauses clauses_of_item 0 items)
-  passed_all i past passed = sym (passed ∙ ap (λ rest. first_failure (numbered_clauses clauses_of_item i rest)) (drop_all i items past))
 
   module _ (i : ℕ) (item : R) (inside : i < length items) (at : item ≡ get_or items i item) (passed : IsPassed i) where
     rest_is : numbered_clauses clauses_of_item i (drop i items)
@@ -59,19 +53,3 @@ module _ {R : Type 0} (clause_of : R → Clause) (items : List R) where
   -- none fails at a place before i
   abbrev pub IsClear : ℕ → Type 0
   IsClear i = first_failure (map clause_of items) ≡ first_failure (map clause_of (drop i items))
-
-  pub clear_none : IsClear 0
-  clear_none = refl
-
-  pub clear_all : (i : ℕ) → length items ≤ i → IsClear i → None ≡ first_failure (map clause_of items)
-  clear_all i past clear = sym (clear ∙ ap (λ rest. first_failure (map clause_of rest)) (drop_all i items past))
-
-  module _ (i : ℕ) (item : R) (inside : i < length items) (at : item ≡ get_or items i item) (clear : IsClear i) where
-    left : map clause_of (drop i items) ≡ clause_of item ∷ map clause_of (drop (i + 1) items)
-    left = ap (map clause_of) (drop_more items i item inside) ∙ ap (λ r. clause_of r ∷ map clause_of (drop (i + 1) items)) (sym at)
-
-    pub clear_next : (clause_of item).holds ≡ true → IsClear (i + 1)
-    clear_next h = clear ∙ ap first_failure left ∙ first_of_holding (clause_of item) (map clause_of (drop (i + 1) items)) h
-
-    pub not_clear : (clause_of item).holds ≡ false → Some (clause_of item).failure ≡ first_failure (map clause_of items)
-    not_clear h = sym (clear ∙ ap first_failure left ∙ first_of_failing (clause_of item) (map clause_of (drop (i + 1) items)) h)

@@ -1,6 +1,6 @@
 -- No better assignments, rainbow trees or arborescences exist than right ones: the first two are ladders, where no rainbow tree is there the
 -- missing colours show it, and the split of an arborescence shows that it costs least.
-use Rattle.std.proofs.Common.{◌≡◌, ℕ, ◌<◌, ◌≤◌, List, length, get_or, Option, Some, None, subst, arith}
+use Rattle.std.proofs.Common.{ℕ, ◌<◌, ◌≤◌, List, length, get_or, Option, Some, None, subst, arith}
 use Rattle.std.specs.Prelude.{MatchOption}
 use Rattle.mat_sets.specs.Graphs.{ends_of, IsGraph}
 use Rattle.mat_sets.specs.declared.weight.Weight.{Weight}
@@ -10,7 +10,6 @@ use Rattle.mat_fronts.specs.Once.{is_once}
 use Rattle.mat_fronts.specs.Rainbow.{IsMissingColours, IsRainbowTree}
 use Rattle.mat_fronts.proofs.Ladders.{missing_colours_exclude}
 use Rattle.mat_fronts.proofs.OnceEach.{once_laws}
-use Rattle.mat_graphic.specs.Forests.{is_graphic}
 use Rattle.mat_graphic.specs.ForestLaws.{graphic_laws}
 use Rattle.mat_desc.specs.Instances.{rooted, coloured, table}
 use Rattle.mat_cert.specs.Certificates.{arbor, rainbow, assign}

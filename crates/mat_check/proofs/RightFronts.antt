@@ -1,26 +1,23 @@
 -- Rainbow ladders, assignments and arborescences in range are right exactly where none of their clauses fails. The first two are ladders;
 -- of an arborescence the tests tell what they should since it is independent in both matroids.
-use Rattle.std.proofs.Common.{◌≡◌, ◌↔◌, ℕ, suc, ◌<◌, ◌≤◌, Bool, true, false, not, ◌&&◌, eqb, nat_lt, List, [], ◌∷◌, ◌++◌, length, get_or, map, Option, Some, None}
-use Rattle.std.proofs.Common.{refl, sym, subst, ◌∙◌, arith}
+use Rattle.std.proofs.Common.{◌≡◌, ◌↔◌, ℕ, suc, ◌<◌, ◌≤◌, true, ◌&&◌, eqb, List, [], ◌∷◌, length, get_or, map, Option, Some, None}
+use Rattle.std.proofs.Common.{sym, subst, ◌∙◌, arith}
 use Rattle.std.specs.Prelude.{MatchOption}
-use Rattle.std.proofs.lemmas.Bool.{eqb-true, eq-eqb, and_parts, and_from, lt-ltb, le-ltb, ltb-true, ltb-false, not-true, not_from_false}
+use Rattle.std.proofs.lemmas.Bool.{eqb-true, eq-eqb, and_parts, and_from, lt-ltb, ltb-true, ltb-false, not-true, not_from_false}
 use Rattle.mat_sets.specs.Graphs.{ends_of, IsGraph, IsSpanningArborescence}
 use Rattle.mat_sets.specs.Sets.{all_below, IsSet}
-use Rattle.mat_sets.specs.Weights.{negated, weight, weight_at}
+use Rattle.mat_sets.specs.Weights.{weight, weight_at}
 use Rattle.mat_sets.specs.declared.weight.Weight.{Weight}
 use Rattle.mat_sets.proofs.Ground.{is_member-all_below}
 use Rattle.mat_sets.proofs.WeightOrder.{same_gives, same_from}
-use Rattle.mat_laws.specs.Matroids.{IsMatroid}
 use Rattle.mat_laws.proofs.Searches.{IsHeaviest-not_beaten, not_beaten-IsHeaviest}
-use Rattle.mat_count.specs.Labels.{caps_by, classes_by}
-use Rattle.mat_count.specs.PartitionLaws.{partition_laws}
-use Rattle.mat_count.proofs.LabelClasses.{IsPartition-classes_by, length-caps_by}
 use Rattle.mat_graphic.specs.Forests.{is_graphic, number_of_components}
 use Rattle.mat_graphic.specs.ForestLaws.{graphic_laws}
 use Rattle.mat_branch.specs.Spanning.{is_spanning_arborescence}
 use Rattle.mat_branch.proofs.SpanningTests.{spanning_is_told}
 use Rattle.mat_arbor.specs.Arborescences.{IsSplitArborescence}
-use Rattle.mat_arbor.specs.Heads.{cap_at, head_of, is_entering_once}
+use Rattle.mat_arbor.specs.Heads.{is_entering_once}
+use Rattle.mat_arbor.proofs.FoundTrees.{entering_once_laws}
 use Rattle.mat_arbor.proofs.LeastTrees.{common_from_arborescence}
 use Rattle.mat_fronts.specs.Assignments.{column_at, row_at}
 use Rattle.mat_fronts.specs.Once.{is_once}
@@ -31,7 +28,6 @@ use Rattle.mat_cert.specs.Certificates.{IsRangedArborescence, IsRangedOption, is
 use Rattle.mat_cert.specs.declared.answer.PricedRung.{PricedRung}
 use Rattle.mat_check.specs.AnswerClauses.{clauses_of}
 use Rattle.mat_check.specs.Clauses.{Clause, heaviest_clause, ladder_clauses}
-use Rattle.mat_check.specs.Right.{IsRightLadder}
 use Rattle.mat_check.specs.TreeClauses.{arborescence_clauses, colours_clauses, cost_clause}
 use Rattle.mat_check.proofs.AnswerForms.{RightHasNoFailure}
 use Rattle.mat_check.proofs.FirstFailures.{AllHold, all_hold, none_fails, AllHold-append, AllHold-at, AllHold-back, AllHold-front, AllHold-map}
@@ -124,11 +120,6 @@ right_rainbow_has_no_failure vertices colours edges colour_of w n v c rungs cut 
 
 -- ---- arborescences
 
-entering_laws : (n vertices : ℕ) (ends : ℕ → ℕ × ℕ) (root : ℕ) → IsMatroid n (is_entering_once n vertices ends root)
-entering_laws n vertices ends root =
-    partition_laws n (classes_by n vertices (head_of ends)) (caps_by vertices (cap_at root))
-    (IsPartition-classes_by n vertices (head_of ends) (caps_by vertices (cap_at root)) (length-caps_by vertices (cap_at root)))
-
 module _ (vertices : ℕ) (arcs : List (ℕ × ℕ)) (costs : List Weight) (root : ℕ) (g : IsGraph vertices arcs) (small : root < vertices)
     (cost : Weight) (tree : List ℕ) (first second : List Weight) where
   abbrev n : ℕ
@@ -162,7 +153,7 @@ module _ (vertices : ℕ) (arcs : List (ℕ × ℕ)) (costs : List Weight) (root
               (is_member-all_below a n ∙ lt-ltb a n l));
           first_heaviest = not_beaten-IsHeaviest (graphic_laws n ends) (weight_at first) tree common.0 (not-true _ heaviest.0);
           second_heaviest =
-              not_beaten-IsHeaviest (entering_laws n vertices ends root) (weight_at second) tree common.1 (not-true _ heaviest.1.0);
+              not_beaten-IsHeaviest (entering_once_laws n vertices ends root) (weight_at second) tree common.1 (not-true _ heaviest.1.0);
         },
       )
 

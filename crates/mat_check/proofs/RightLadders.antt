@@ -1,6 +1,6 @@
 -- A ladder in range is right exactly where none of its clauses fails: the rungs one by one, and then what ends them. So it is for any two
 -- matroids, and for the heaviest sets of any one.
-use Rattle.std.proofs.Common.{◌≡◌, ◌↔◌, ℕ, Bool, true, List, [], ◌∷◌, ◌++◌}
+use Rattle.std.proofs.Common.{◌≡◌, ℕ, Bool, true, List, [], ◌∷◌}
 use Rattle.std.proofs.Common.{length, Option, Some, None, slice_get, refl, sym, subst}
 use Rattle.std.proofs.lemmas.List.Elements.{All-head}
 use Rattle.std.proofs.lemmas.Bool.{eqb-true, eq-eqb, not-true, not_from_false}

@@ -1,29 +1,12 @@
 -- The first failures, rung by rung: the first of them in order is the first of all clauses.
-use Rattle.std.proofs.Common.{◌≡◌, ℕ, zero, suc, ◌+◌, ◌<◌, List, [], ◌∷◌, ◌++◌, length, drop, get_or}
+use Rattle.std.proofs.Common.{◌≡◌, ℕ, zero, suc, ◌+◌, ◌<◌, List, [], ◌∷◌, ◌++◌, length, get_or}
 use Rattle.std.proofs.Common.{Option, Some, None, slice_get, refl, sym, subst, ap, ◌∙◌, arith}
 use Rattle.std.proofs.lemmas.Option.{none-some, same_Some}
-use Rattle.std.proofs.Math.Seq.{drop-cons}
 use Rattle.mat_work.specs.Rows.{StandFrom}
 use Rattle.mat_work.proofs.StandingRows.{StandFrom_items}
 use Rattle.mat_check.specs.Clauses.{Clause, Failure, first_failure, numbered_clauses}
 use Rattle.mat_check.specs.RungFailures.{rungs_failures, first_in_order}
 use Rattle.mat_check.proofs.FailingClauses.{first_in_back, first_in_front}
-
--- ---- looking for the first in order
-
-pub none_at : (failures : List (Option Failure)) (i : ℕ) → i < length failures → get_or failures i None ≡ None
-    → first_in_order (drop i failures) ≡ first_in_order (drop (i + 1) failures)
-none_at failures i inside none =
-    let next : suc i ≡ i + 1 = omega arith in
-    ap first_in_order (drop-cons failures i None inside) ∙ ap (λ o. first_in_order (o ∷ drop (suc i) failures)) none
-    ∙ ap (λ m. first_in_order (drop m failures)) next
-
-pub some_at : (failures : List (Option Failure)) (i : ℕ) (failure : Failure) → i < length failures → get_or failures i None ≡ Some failure
-    → first_in_order (drop i failures) ≡ Some failure
-some_at failures i failure inside found =
-    ap first_in_order (drop-cons failures i None inside) ∙ ap (λ o. first_in_order (o ∷ drop (suc i) failures)) found
-
--- ---- those of the rungs
 
 first_of_joined : (front back : List Clause) (found : Option Failure) (failures : List (Option Failure)) → first_failure front ≡ found
     → first_in_order failures ≡ first_failure back → first_in_order (found ∷ failures) ≡ first_failure (front ++ back)

@@ -1,6 +1,6 @@
 -- Clauses of the checker, the first that fails, and the clauses of rungs.
 use Rattle.std.specs.Prelude.{ℕ, suc, ◌+◌, Bool, not, ◌==◌, if◌then◌else◌, List}
-use Rattle.std.specs.Prelude.{[], ◌∷◌, ◌++◌, length, map, Option, Some, None, slice_get}
+use Rattle.std.specs.Prelude.{[], ◌∷◌, ◌++◌, map, Option, Some, None, slice_get}
 use Rattle.mat_sets.specs.Sets.{minus, all_below}
 use Rattle.mat_sets.specs.Weights.{◌⊕◌, is_same, weight, weight_at}
 use Rattle.mat_sets.specs.declared.weight.Weight.{Weight}

@@ -1,11 +1,10 @@
 -- Clauses of spanning trees, of partitions, of spanning arborescences and of vertex sets, in the order in which they are tried (Schrijver,
 -- chapters 51 to 53).
-use Rattle.std.specs.Prelude.{ℕ, suc, ◌-◌, ◌*◌, Bool, not, ◌==◌, nat_lt, List, [], ◌∷◌, ◌++◌, length, map, Option, Some, None}
+use Rattle.std.specs.Prelude.{ℕ, suc, ◌-◌, ◌*◌, not, nat_lt, List, [], ◌∷◌, ◌++◌, length, map, Option, Some, None}
 use Rattle.mat_sets.specs.Graphs.{entering}
 use Rattle.mat_sets.specs.Sets.{all_below, is_member}
 use Rattle.mat_sets.specs.Weights.{◌⊕◌, is_same, negated, weight, weight_at}
 use Rattle.mat_sets.specs.declared.weight.Weight.{Weight}
-use Rattle.mat_laws.specs.Searches.{is_beaten}
 use Rattle.mat_graphic.specs.Forests.{is_graphic, number_of_components}
 use Rattle.mat_packing.specs.Trees.{crossing, is_spanning_tree}
 use Rattle.mat_arbor.specs.Heads.{is_entering_once}

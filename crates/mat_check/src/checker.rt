@@ -13,8 +13,7 @@ ghost use Rattle.mat_desc.specs.Grammar.{IsValid};
 ghost use Rattle.mat_desc.specs.Soundness.{IsSoundInstance};
 ghost use Rattle.mat_desc.specs.Views.{instance_of};
 
-use crate::fronts::{assign_failure, rainbow_failure};
-use crate::graph_answers::{graph_failure, rooted_failure};
+use crate::graph_answers::{coloured_failure, graph_failure, rooted_failure, table_failure};
 use crate::headers::has_header;
 use crate::matroid_answers::{list_failure, pair_failure};
 use crate::reason::Reason;
@@ -69,46 +68,15 @@ fn answer_failure<R: Threads + Sync>(
             edges,
             colour_of,
             weights,
-        } => match answer {
-            Answer::Rainbow {
-                rungs,
-                cut,
-                missing,
-                ..
-            } => rainbow_failure(
-                rt,
-                alloc,
-                *vertices,
-                edges,
-                *colours,
-                colour_of,
-                weights.as_slice(),
-                rungs,
-                cut,
-                missing,
-                workers,
-            ),
-            _ => Ok(None),
-        },
+        } => coloured_failure(
+            rt, alloc, *vertices, *colours, edges, colour_of, weights, answer, workers,
+        ),
         Problem::Table {
             rows,
             columns,
             cells,
             weights,
-        } => match answer {
-            Answer::Assign { rungs, cut, .. } => assign_failure(
-                rt,
-                alloc,
-                *rows,
-                *columns,
-                cells,
-                weights.as_slice(),
-                rungs,
-                cut,
-                workers,
-            ),
-            _ => Ok(None),
-        },
+        } => table_failure(rt, alloc, *rows, *columns, cells, weights, answer, workers),
     }
 }
 

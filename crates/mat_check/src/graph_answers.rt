@@ -1,20 +1,22 @@
 //! The clauses of answers about graphs and tables.
 
-ghost use Rattle.std.specs.Prelude.{◌≡◌, true, IfOk};
+ghost use Rattle.std.specs.Prelude.{◌≡◌, ◌≤◌, true, IfOk};
 ghost use Rattle.mat_cert.specs.Certificates.{IsRanged};
 ghost use Rattle.mat_cert.specs.Views.{certificate_of};
 ghost use Rattle.mat_check.specs.AnswerClauses.{answer_clauses, has_header};
 ghost use Rattle.mat_check.specs.Clauses.{first_failure};
 ghost use Rattle.mat_desc.specs.Grammar.{IsValid};
-ghost use Rattle.mat_desc.specs.Instances.{graph, rooted};
+ghost use Rattle.mat_desc.specs.Instances.{coloured, graph, rooted, table};
 
 use crate::arborescences::{disjoint_failure, seldom_entered_failure};
+use crate::fronts::{assign_failure, rainbow_failure};
 use crate::least::arborescence_failure;
 use crate::reason::Reason;
 use crate::trees::{partition_failure, trees_failure};
 use mat_cert::Answer;
-use mat_sets::{Pairs, Weight};
+use mat_sets::{PairWeights, Pairs, Weight};
 use std::alloc::{AllocError, Global};
+use std::thread::Threads;
 
 /// The first clause behind the header of an answer about a graph that fails. The only error is want of memory.
 pub(crate) fn graph_failure(
@@ -78,6 +80,81 @@ pub(crate) fn rooted_failure(
         Answer::DisjointNone { k, set, .. } => {
             seldom_entered_failure(alloc, vertices, arcs, root, *k, set)
         }
+        _ => Ok(None),
+    }
+}
+
+/// The first clause behind the header of an answer about a graph with colours that fails. The only error is want of memory.
+pub(crate) fn coloured_failure<R: Threads + Sync>(
+    rt: &R,
+    alloc: Global,
+    vertices: u32,
+    colours: u32,
+    edges: &Pairs,
+    colour_of: &[u32],
+    weights: &PairWeights,
+    answer: &Answer,
+    workers: u32,
+) -> Result<Option<(Reason, u32, u32)>, AllocError>
+    requires valid { IsValid (coloured vertices colours edges.now colour_of.now weights.now) }
+    requires ranged { IsRanged (certificate_of answer.now) }
+    requires header { has_header (coloured vertices colours edges.now colour_of.now weights.now) (certificate_of answer.now) ≡ true }
+    requires workers { (1 ≤ workers) × (workers ≤ 16) }
+    ensures { IfOk result (λ found. found ≡ first_failure (answer_clauses
+        (coloured vertices colours edges.now colour_of.now weights.now) (certificate_of answer.now))) }
+{
+    match answer {
+        Answer::Rainbow {
+            rungs,
+            cut,
+            missing,
+            ..
+        } => rainbow_failure(
+            rt,
+            alloc,
+            vertices,
+            edges,
+            colours,
+            colour_of,
+            weights.as_slice(),
+            rungs,
+            cut,
+            missing,
+            workers,
+        ),
+        _ => Ok(None),
+    }
+}
+
+/// The first clause behind the header of an answer about a table that fails. The only error is want of memory.
+pub(crate) fn table_failure<R: Threads + Sync>(
+    rt: &R,
+    alloc: Global,
+    rows: u32,
+    columns: u32,
+    cells: &Pairs,
+    weights: &PairWeights,
+    answer: &Answer,
+    workers: u32,
+) -> Result<Option<(Reason, u32, u32)>, AllocError>
+    requires valid { IsValid (table rows columns cells.now weights.now) }
+    requires ranged { IsRanged (certificate_of answer.now) }
+    requires header { has_header (table rows columns cells.now weights.now) (certificate_of answer.now) ≡ true }
+    requires workers { (1 ≤ workers) × (workers ≤ 16) }
+    ensures { IfOk result (λ found. found ≡ first_failure (answer_clauses (table rows columns cells.now weights.now) (certificate_of answer.now))) }
+{
+    match answer {
+        Answer::Assign { rungs, cut, .. } => assign_failure(
+            rt,
+            alloc,
+            rows,
+            columns,
+            cells,
+            weights.as_slice(),
+            rungs,
+            cut,
+            workers,
+        ),
         _ => Ok(None),
     }
 }

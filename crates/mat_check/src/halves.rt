@@ -1,6 +1,7 @@
 //! The halves of the splits of rungs, of which many are the same as that of the rung before.
 
 ghost use Rattle.std.specs.Prelude.{◌≡◌, ◌+◌, ◌-◌, ◌<◌, ◌≤◌, ◌++◌, ◌∷◌, [], ℕ, List, true, length, slice_index_or, IfOk, OnOk};
+ghost use Rattle.mat_sets.specs.Limits.{most_elements};
 ghost use Rattle.mat_check.specs.Halves.{half_of, halves_of, half_at, AreListed};
 
 use mat_cert::PricedRung;
@@ -54,7 +55,7 @@ fn enter_half(
     k: u32,
 ) -> Result<u32, AllocError>
     requires below { k < length rungs.now }
-    requires few { length listed.old.items ≤ 501 }
+    requires few { length listed.old.items ≤ most_elements + 1 }
     requires listed { (j : ℕ) → j < length listed.old.items → slice_index_or listed.old.items j 0 < length rungs.now }
     ensures few { OnOk result (length listed.new.items ≤ length listed.old.items + 1) }
     ensures entered { IfOk result (λ j. (own : List ℕ) → length own ≡ k → AreListed (halves_of side rungs.now) listed.old.items own
@@ -73,9 +74,9 @@ pub(crate) fn list_halves(
     rungs: &[PricedRung],
     side: Side,
 ) -> Result<ListedHalves, AllocError>
-    requires few { length rungs.now ≤ 501 }
+    requires few { length rungs.now ≤ most_elements + 1 }
     ensures count { IfOk result (λ halves. length halves.own.items ≡ length rungs.now) }
-    ensures few { IfOk result (λ halves. length halves.listed.items ≤ 501) }
+    ensures few { IfOk result (λ halves. length halves.listed.items ≤ most_elements + 1) }
     ensures listed { IfOk result (λ halves. AreListed (halves_of side rungs.now) halves.listed.items halves.own.items) }
 {
     let count = rungs.len() as u32;

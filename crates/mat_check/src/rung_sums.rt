@@ -1,6 +1,6 @@
 //! The weights of heaviest sets under the halves of the splits of rungs.
 
-ghost use Rattle.std.specs.Prelude.{◌≡◌, ℕ, ◌<◌, ◌≤◌, [], length, slice_index_or, IfOk};
+ghost use Rattle.std.specs.Prelude.{◌≡◌, ℕ, ◌+◌, ◌<◌, ◌≤◌, [], length, slice_index_or, IfOk};
 ghost use Rattle.mat_sets.specs.Limits.{most_elements};
 ghost use Rattle.mat_sets.specs.Weights.{weight_at};
 ghost use Rattle.mat_any.specs.Trees.{element_count, is_independent, IsSound};
@@ -123,7 +123,7 @@ pub(crate) fn rung_sums<R: Threads + Sync>(
 ) -> Result<RungSums, AllocError>
     requires sound { IsSound (tree_of m.now) }
     requires few { element_count (tree_of m.now) ≤ most_elements }
-    requires no_more { length rungs.now ≤ 501 }
+    requires no_more { length rungs.now ≤ most_elements + 1 }
     requires ranged { (k : ℕ) → k < length rungs.now → IsRangedPart (element_count (tree_of m.now)) (half_at (halves_of side rungs.now) k) }
     requires workers { (1 ≤ workers) × (workers ≤ 16) }
     ensures count { IfOk result (λ sums. length sums ≡ length rungs.now) }

@@ -6,7 +6,7 @@ ghost use Rattle.mat_count.specs.LaminarFaults.{IsFirstCrossing, NoneCrosses};
 
 use mat_sets::ElemSet;
 
-// How many items two rising lists share, by one walk along both.
+/// How many items two rising lists share, by one walk along both.
 #[tactic(auto, using(crate::proofs::CrossingWalks::walking))]
 pub(crate) fn count_shared(a: &[u32], b: &[u32]) -> usize
     requires a_rises { IsRising a.now }

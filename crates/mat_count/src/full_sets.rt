@@ -25,7 +25,7 @@ fn if_full(members: ElemSet, cap: u32) -> Option<ElemSet>
 }
 
 impl FullSets {
-    // What is kept of a set. The time is that of reading the set and each listed one.
+    /// What is kept of a set. The time is that of reading the set and each listed one. The only error is want of memory.
     pub(crate) fn of(
         alloc: Global,
         sets: &SetList,
@@ -62,7 +62,7 @@ impl FullSets {
         }
     }
 
-    // One of these places whose set is full and has the fewest members, if one of the sets is full.
+    /// One of these places whose set is full and has the fewest members, if one of the sets is full.
     pub(crate) fn smallest(&self, places: &ElemSet) -> Option<usize>
         requires { AllBelow (length self.now.members.items) places.now }
         ensures smallest { IsSmallest self.now.members.items places.now result }
@@ -77,7 +77,8 @@ impl FullSets {
         smallest
     }
 
-    // The exchanges at the base of an element outside: the set at the place is the smallest full one that holds it, if one is full.
+    /// The exchanges at the base of an element outside: the set at the place is the smallest full one that holds it, if one is full.
+    /// The only error is want of memory.
     pub(crate) fn row_at(
         &self,
         alloc: Global,

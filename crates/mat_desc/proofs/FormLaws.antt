@@ -40,7 +40,8 @@ use Rattle.std.specs.List.{All, zip}
 use Rattle.std.proofs.lemmas.List.Elements.{All-weaker}
 use Rattle.std.proofs.lemmas.Slice.Zip.{firsts-zip, seconds-zip}
 use Rattle.mat_desc.proofs.Columns.{length-zip_same, edges-zip, colours-zip, weights-zip}
-use Rattle.mat_desc.proofs.ItemLaws.{items_found, items_again, ends_line_found, ends_line_again, IsWeighted, weighted_found, weighted_again}
+use Rattle.mat_words.proofs.ItemLines.{items_found, items_again}
+use Rattle.mat_desc.proofs.ItemLaws.{ends_line_found, ends_line_again, IsWeighted, weighted_found, weighted_again}
 use Rattle.mat_desc.proofs.ItemLaws.{IsColoured, coloured_edge_found, coloured_edge_again, All-map, All-zip, zip-parts, length-map_same}
 
 -- ---- weights

@@ -2,9 +2,8 @@
 use Rattle.std.proofs.Common.{◌≡◌, ℕ, Bool, true, false, cond, Result, List, [], ◌∷◌, Option}
 use Rattle.std.proofs.Common.{Some, None, Ok, refl, sym, ap, subst, ◌∙◌, arith}
 use Rattle.std.specs.Prelude.{codes, bytes_eq}
-use Rattle.std.specs.List.{list_all, join_with_byte}
+use Rattle.std.specs.List.{list_all}
 use Rattle.std.proofs.lemmas.Bool.{and_from}
-use Rattle.std.proofs.lemmas.List.Splits.{join_with_byte-slice_split}
 use Rattle.std.proofs.lemmas.Slice.Eq.{bytes_eq-Decides}
 use Rattle.mat_words.specs.Lines.{Line, lines_of, text_of}
 use Rattle.mat_words.specs.Words.{is_word}
@@ -23,6 +22,7 @@ use Rattle.mat_desc.specs.Labels.{Labels, numbers, names, AreLabels, NamedInstan
 use Rattle.mat_words.specs.Writing.{end_line}
 use Rattle.mat_desc.specs.Grammar.{version_line, IsValid, InstanceLines, Spells, SpellsNamed}
 use Rattle.mat_words.proofs.ReadingSteps.{found, found-same, bind_found, test_found}
+use Rattle.mat_words.proofs.LineLemmas.{same_text}
 use Rattle.mat_words.proofs.LineReading.{AreLeft, line_again, keyed_again, known_line, closed_left}
 use Rattle.mat_desc.proofs.Told.{word_found, ended_found, ended_again, line_found, keyed_found}
 use Rattle.mat_desc.proofs.LabelLaws.{version_for}
@@ -151,10 +151,6 @@ instance_found version p read q e =
                 behind.2,
               );
         }
-
--- texts with the same lines are the same
-same_text : (first second : List ℕ) → lines_of first ≡ lines_of second → first ≡ second
-same_text first second e = sym (join_with_byte-slice_split 10 first) ∙ ap (join_with_byte 10) e ∙ join_with_byte-slice_split 10 second
 
 -- a text that is read spells the problem that was read, with the labels that were read
 pub description_found : (text : List ℕ) (read : Labelled) → labelled_of text ≡ Ok read

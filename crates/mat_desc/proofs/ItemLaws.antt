@@ -1,6 +1,6 @@
 -- A line for each item: what is read is spelled so, and what is spelled so is read.
-use Rattle.std.proofs.Common.{◌≡◌, ℕ, zero, suc, ◌<◌, ◌≤◌, ◌^◌, pos, true, List, []}
-use Rattle.std.proofs.Common.{◌∷◌, ◌++◌, length, map, Result, Ok, None, refl, ap, subst, ◌∙◌, arith}
+use Rattle.std.proofs.Common.{◌≡◌, ℕ, suc, ◌<◌, ◌≤◌, ◌^◌, pos, true, List, []}
+use Rattle.std.proofs.Common.{◌∷◌, length, map, Ok, None, refl, ap, subst, ◌∙◌, arith}
 use Rattle.std.specs.Prelude.{codes, neg_ℤ}
 use Rattle.std.specs.List.{All, list_all, zip}
 use Rattle.std.proofs.lemmas.Bool.{and_from}
@@ -16,7 +16,6 @@ use Rattle.mat_words.specs.Cursors.{WordsLeft, LinesLeft}
 use Rattle.mat_sets.specs.declared.weight.Weight.{Weight}
 use Rattle.mat_desc.specs.Limits.{most_digits}
 use Rattle.mat_sets.specs.Limits.{largest_weight}
-use Rattle.mat_desc.specs.Faults.{Fault}
 use Rattle.mat_desc.specs.Labels.{Naming, word_for, IsNaming}
 use Rattle.mat_desc.specs.Reading.{keyed_at, below_at, weight_at, ended_at, ends_at, member_at}
 use Rattle.mat_desc.specs.Reading.{ends_line_at, column_at, binary_at, weighted_at, coloured_edge_at}
@@ -26,57 +25,11 @@ use Rattle.mat_words.proofs.ReadingSteps.{found-same, bind_found}
 use Rattle.mat_words.proofs.WordReading.{below_again, weight_at_again}
 use Rattle.mat_words.proofs.BinaryLaws.{binary_word, binary_again}
 use Rattle.mat_words.proofs.LineReading.{AreLeft, keyed_again}
+use Rattle.mat_words.proofs.ItemLines.{IsItemRead, items_found}
 use Rattle.mat_desc.proofs.Told.{cut_then, below_found, binary_found, weight_found, ended_found, ended_again, keyed_found}
 use Rattle.mat_desc.proofs.LabelLaws.{member_found, member_again, word_for-word}
 use Rattle.mat_sets.specs.Graphs.{IsGraph}
 use Rattle.mat_gf2.specs.Columns.{IsBinaryMatrix}
-
--- ---- items in a row
-
--- a line was read as an item
-pub record IsItemRead {A : Type 0} (line : A → Line) (Valid : A → Type 0) (p : LinesLeft) (item : A) (q : LinesLeft) : Type 0 where
-  pub valid : Valid item
-  pub spelled : (rest : List Line) → AreLeft rest q → AreLeft (line item ∷ rest) p
-
--- as many lines were read as items
-pub record AreItemsRead {A : Type 0} (line : A → Line) (Valid : A → Type 0) (many : ℕ) (p : LinesLeft) (items : List A)
-    (q : LinesLeft) : Type 0 where
-  pub count : length items ≡ many
-  pub each : All Valid items
-  pub spelled : (rest : List Line) → AreLeft rest q → AreLeft (map line items ++ rest) p
-
-pub items_found : {A : Type 0} (reader : LinesLeft → Result (A × LinesLeft) Fault) (line : A → Line) (Valid : A → Type 0)
-    → ((p : LinesLeft) (item : A) (q : LinesLeft) → reader p ≡ Ok (item, q) → IsItemRead line Valid p item q)
-    → (many : ℕ) (p : LinesLeft) (items : List A) (q : LinesLeft) → repeat_at reader many p ≡ Ok (items, q)
-    → AreItemsRead line Valid many p items q
-unfolding repeat_at
-items_found {A} reader line Valid one zero p items q e =
-    let same = found-same ([], p) (items, q) e in
-    subst (λ (r : List A × LinesLeft). AreItemsRead line Valid 0 p r.0 r.1) same
-    (record { count = refl; each = All-nil Valid; spelled = λ rest left. left })
-items_found {A} reader line Valid one (suc many) p items q e =
-    let first = bind_found (reader p) _ (items, q) e in
-    let others = bind_found (repeat_at reader many first.0.1) _ (items, q) first.2 in
-    let same = found-same (first.0.0 ∷ others.0.0, others.0.1) (items, q) others.2 in
-    let here = one p first.0.0 first.0.1 first.1 in
-    let more = items_found reader line Valid one many first.0.1 others.0.0 others.0.1 others.1 in
-    subst (λ (r : List A × LinesLeft). AreItemsRead line Valid (suc many) p r.0 r.1) same (record {
-      count = ap suc more.count;
-      each = All-cons Valid first.0.0 others.0.0 here.valid more.each;
-      spelled = λ rest left. here.spelled (map line others.0.0 ++ rest) (more.spelled rest left);
-    })
-
-pub items_again : {A : Type 0} (reader : LinesLeft → Result (A × LinesLeft) Fault) (line : A → Line) (Valid : A → Type 0)
-    → ((p : LinesLeft) (item : A) (rest : List Line) → Valid item → AreLeft (line item ∷ rest) p
-    → (q : LinesLeft) × (reader p ≡ Ok (item, q)) × AreLeft rest q)
-    → (p : LinesLeft) (items : List A) (rest : List Line) → All Valid items → AreLeft (map line items ++ rest) p
-    → (q : LinesLeft) × (repeat_at reader (length items) p ≡ Ok (items, q)) × AreLeft rest q
-unfolding repeat_at
-items_again reader line Valid one p [] rest valid left = (p, refl, left)
-items_again reader line Valid one p (item ∷ items) rest valid left =
-    let first = one p item (map line items ++ rest) (All-head Valid item items valid) left in
-    let others = items_again reader line Valid one first.0 items rest (All-tail Valid item items valid) first.2 in
-    (others.0, rw (first.1, others.1) refl, others.2)
 
 -- ---- edges, columns, arcs and cells
 

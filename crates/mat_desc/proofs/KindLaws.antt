@@ -22,7 +22,8 @@ use Rattle.mat_words.proofs.LineReading.{AreLeft}
 use Rattle.mat_desc.proofs.Told.{cut_then, count_line, ended_found, size_found}
 use Rattle.mat_desc.proofs.ClassLaws.{classes_read, classes_valid}
 use Rattle.mat_desc.proofs.NestedSetLaws.{nested_sets_read, nested_sets_valid}
-use Rattle.mat_desc.proofs.ItemLaws.{items_found, ends_line_found, IsColumn, column_found}
+use Rattle.mat_words.proofs.ItemLines.{items_found}
+use Rattle.mat_desc.proofs.ItemLaws.{ends_line_found, IsColumn, column_found}
 
 -- ---- keywords
 

@@ -17,7 +17,8 @@ use Rattle.mat_words.proofs.ReadingSteps.{found-same, bind_found}
 use Rattle.mat_words.proofs.WordReading.{size_again}
 use Rattle.mat_words.proofs.LineReading.{AreLeft}
 use Rattle.mat_desc.proofs.Told.{count_line, ended_found, ended_again, size_found}
-use Rattle.mat_desc.proofs.ItemLaws.{items_found, items_again, ends_line_found, ends_line_again}
+use Rattle.mat_words.proofs.ItemLines.{items_found, items_again}
+use Rattle.mat_desc.proofs.ItemLaws.{ends_line_found, ends_line_again}
 use Rattle.mat_desc.proofs.SetLineLaws.{set_line_found, set_line_again, family_found, family_again}
 use Rattle.mat_desc.proofs.TargetLaws.{targets_found, targets_again}
 use Rattle.mat_desc.proofs.KindLaws.{IsKindRead}

@@ -32,7 +32,8 @@ use Rattle.mat_desc.proofs.LabelLaws.{words_for-words}
 use Rattle.mat_desc.proofs.ElementLaws.{elements_found, Lists-read, IsSet-read, listed_below, set_again}
 use Rattle.mat_desc.proofs.ClassLaws.{classes_again}
 use Rattle.mat_desc.proofs.NestedSetLaws.{nested_sets_again}
-use Rattle.mat_desc.proofs.ItemLaws.{items_again, ends_line_again, IsColumn, column_again}
+use Rattle.mat_words.proofs.ItemLines.{items_again}
+use Rattle.mat_desc.proofs.ItemLaws.{ends_line_again, IsColumn, column_again}
 use Rattle.mat_desc.proofs.KindLaws.{spelling_of, keyword_found, IsKindRead, uniform_found, partition_found, laminar_found, graphic_found, gf2_found}
 use Rattle.mat_desc.proofs.LinkedKindLaws.{transversal_found, transversal_again, gammoid_found, gammoid_again}
 

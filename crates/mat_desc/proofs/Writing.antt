@@ -8,13 +8,13 @@ use Rattle.std.proofs.lemmas.List.Folds.{flat_map-map}
 use Rattle.std.proofs.lemmas.Slice.Zip.{get_or-zip, length-zip}
 use Rattle.mat_words.specs.Lines.{Line, text_of}
 use Rattle.mat_words.specs.Numbers.{numeral}
-use Rattle.mat_words.specs.Writing.{end_line}
+use Rattle.mat_words.specs.Writing.{end_line, spaced}
 use Rattle.mat_words.proofs.LineLemmas.{text_of-append}
 use Rattle.mat_words.proofs.WrittenLines.{item_written, line_written}
 use Rattle.mat_desc.specs.Grammar.{version_line, label_lines}
 use Rattle.mat_desc.specs.Instances.{Instance}
 use Rattle.mat_desc.specs.Labels.{Labels}
-use Rattle.mat_desc.specs.Canonical.{spaced, header, body_lines, canonical_lines}
+use Rattle.mat_desc.specs.Canonical.{header, body_lines, canonical_lines}
 
 -- ---- one line
 

@@ -11,10 +11,6 @@ use Rattle.mat_desc.specs.Grammar.{pair_header, list_header, graph_header, roote
 use Rattle.mat_desc.specs.Instances.{Instance, pair, list, graph, rooted, coloured, table}
 use Rattle.mat_desc.specs.Labels.{Naming, words_for, Labels, numbers, names, element_naming, vertex_naming, AreLabels, NamedInstance}
 
--- the bytes of words, each behind a space
-abbrev pub spaced : Line → List ℕ
-spaced words = flat_map (λ word. 32 ∷ word) words
-
 -- the line of this keyword with a set and its cap
 abbrev pub capped_line : Naming → List ℕ → List ℕ × ℕ → Line
 capped_line naming key item = key ∷ numeral (pos item.1) ∷ words_for naming item.0

@@ -20,3 +20,7 @@ most_matroids = 64
 -- the most matroids that stand within one another
 abbrev pub deepest : ℕ
 deepest = 16
+
+-- the most bytes that a description may have
+abbrev pub description_limit : ℕ
+description_limit = 4194304

@@ -4,6 +4,7 @@ ghost use Rattle.std.specs.Prelude.{◌≡◌, ◌<◌, ◌≤◌, ◌^◌, true
 ghost use Rattle.mat_desc.specs.Faults.{Gives};
 ghost use Rattle.mat_desc.specs.Grammar.{IsValid, SpellsNamed};
 ghost use Rattle.mat_desc.specs.Labels.{AreLabels, NamedInstance, named_by, names, numbered, numbers};
+ghost use Rattle.mat_desc.specs.Limits.{description_limit};
 ghost use Rattle.mat_desc.specs.Reading.{named_of};
 ghost use Rattle.mat_desc.specs.Soundness.{IsSoundInstance};
 ghost use Rattle.mat_desc.specs.Views.{instance_of, labels_of, named_instance};
@@ -102,9 +103,9 @@ fn with_names(alloc: Global, problem: Problem, labels: Labelling) -> Result<Name
     }
 }
 
-/// The problem that a text of at most 4194304 bytes states, with the names that the text lists, or else with numbered ones.
+/// The problem that a text states, with the names that the text lists, or else with numbered ones.
 fn named_problem(alloc: Global, text: &[u8]) -> Result<Named, DescRefusal>
-    requires { length text.now ≤ 4194304 }
+    requires { length text.now ≤ description_limit }
     ensures { Gives named_instance result (named_of text.now) }
 {
     let (problem, labels) = read_labelled(alloc, text)?;
@@ -116,7 +117,7 @@ fn named_problem(alloc: Global, text: &[u8]) -> Result<Named, DescRefusal>
 ///
 /// The errors are those of [`read_problem`](crate::read_problem).
 pub fn read_named(alloc: Global, text: &[u8]) -> Result<Named, DescRefusal>
-    requires { length text.now ≤ 4194304 }
+    requires { length text.now ≤ description_limit }
 
     // The answer is what the reading of the text gives: its problem with the names, or its first fault.
     ensures exact { Gives named_instance result (named_of text.now) }

@@ -4,6 +4,7 @@ ghost use Rattle.std.specs.Prelude.{◌≤◌, length, IfOk};
 ghost use Rattle.mat_desc.specs.Faults.{Gives};
 ghost use Rattle.mat_desc.specs.Grammar.{IsValid, Spells};
 ghost use Rattle.mat_desc.specs.Instances.{Instance};
+ghost use Rattle.mat_desc.specs.Limits.{description_limit};
 ghost use Rattle.mat_desc.specs.Reading.{version_at, end_at, closed_at, pair_at, list_at, graph_at, rooted_at, coloured_at, table_at};
 ghost use Rattle.mat_desc.specs.Reading.{instance_at, description_at, labelled_of, read_of};
 ghost use Rattle.mat_desc.specs.Soundness.{IsSoundInstance};
@@ -307,17 +308,17 @@ fn description(alloc: Global, lines: LineCursor<'_>) -> Result<(Problem, Labelli
     Ok((problem, labels))
 }
 
-/// The problem that a text of at most 4194304 bytes states, and what its elements and its vertices are called there.
+/// The problem that a text states, and what its elements and its vertices are called there.
 pub(crate) fn read_labelled(alloc: Global, text: &[u8]) -> Result<(Problem, Labelling), DescRefusal>
-    requires { length text.now ≤ 4194304 }
+    requires { length text.now ≤ description_limit }
     ensures { Gives (λ x. labelled x.0 x.1) result (labelled_of text.now) }
 {
     description(alloc, LineCursor { line: 1, text })
 }
 
-/// The problem that a text of at most 4194304 bytes states, whatever its elements and its vertices are called.
+/// The problem that a text states, whatever its elements and its vertices are called.
 fn problem_alone(alloc: Global, text: &[u8]) -> Result<Problem, DescRefusal>
-    requires { length text.now ≤ 4194304 }
+    requires { length text.now ≤ description_limit }
     ensures { Gives instance_of result (read_of text.now) }
 {
     let (problem, _) = read_labelled(alloc, text)?;
@@ -329,7 +330,7 @@ fn problem_alone(alloc: Global, text: &[u8]) -> Result<Problem, DescRefusal>
 /// [`DescRefusal::Fault`] comes exactly where the text spells no problem, and names the first fault. [`DescRefusal::Memory`] is want of
 /// memory.
 pub fn read_problem(alloc: Global, text: &[u8]) -> Result<Problem, DescRefusal>
-    requires { length text.now ≤ 4194304 }
+    requires { length text.now ≤ description_limit }
 
     // The answer is what the reading of the text gives: its problem, or its first fault.
     ensures exact { Gives instance_of result (read_of text.now) }

@@ -1,5 +1,5 @@
 -- A heaviest element of those that pass, found by going through them in rising order.
-use Rattle.std.proofs.Common.{◌≡◌, ℕ, ◌<◌, ◌+◌, Bool, true, false, cond, Option, Some, None, MatchOption, IfSome, inl, inr, sym, ap, subst, arith}
+use Rattle.std.proofs.Common.{◌≡◌, ℕ, ◌<◌, ◌+◌, Bool, true, false, cond, Option, Some, None, MatchOption, inl, inr, sym, ap, subst, arith}
 use Rattle.std.proofs.lemmas.Bool.{cases_Bool, both_ways}
 use Rattle.std.proofs.lemmas.Int.{ints}
 use Rattle.mat_sets.specs.Search.{IsFirstFrom}
@@ -38,12 +38,6 @@ heaviest_to_next test w from v (Some y) f h = elim (cases_Bool (is_below (w y) (
     ];
   })
 ]
-
--- what was found so far stands below a bound on all that passes
-pub found_below : (test : ℕ → Bool) (w : ℕ → Weight) (from n : ℕ) (found : Option ℕ) → ((x : ℕ) → test x ≡ true → x < n)
-    → IsHeaviestToOrNone test w from found → IfSome found (λ y. y < n)
-found_below test w from n None below h = _
-found_below test w from n (Some y) below h = below y h.passes
 
 -- a sink that comes no later than the heaviest of the fringe comes no later than all of it
 pub sink_not_late : (gain most step slack : Weight) → gain ≼ most → step ≡ negated most → slack ≼ step → (gain ⊕ slack) ≼ zero_weight

@@ -11,8 +11,9 @@ use Rattle.mat_sets.specs.Sets.{is_member, with_one}
 use Rattle.mat_sets.proofs.Members.{is_member-with_one}
 use Rattle.mat_laws.specs.declared.exchange.Exchange.{Exchange}
 use Rattle.mat_laws.specs.TightPaths.{row_in}
+use Rattle.mat_laws.proofs.Rows.{same_row}
 use Rattle.mat_exchange.specs.RowTables.{AreTransposed, AreWhole, IsFilledTable, row_from, table_of}
-use Rattle.mat_sets.specs.Rows.{AreUnited, IsEntered, row_at}
+use Rattle.mat_sets.specs.Rows.{AreUnited, row_at}
 use Rattle.mat_exchange.proofs.RowTables.{length-table_of, row_in-table_of}
 
 -- ---- the elements that can be added
@@ -30,17 +31,6 @@ added_more exchanges x addable a h k = elim (cases_eq k x) [
       let q = eq-eqb k x e in
       grind (arith, nat_tests))
   | inr d ↦ (let b = a k in let m = is_member-with_one k x addable in let l = less_next k x in let q = ne_eqb k x d in grind (arith, nat_tests))
-]
-
-added_same : (exchanges : List Exchange) (x : ℕ) (addable : List ℕ)
-    → ((k : ℕ) → is_member k addable ≡ (ltb k x && (row_in exchanges k).addable)) → (row_in exchanges x).addable ≡ false
-    → (k : ℕ) → is_member k addable ≡ (ltb k (x + 1) && (row_in exchanges k).addable)
-added_same exchanges x addable a h k = elim (cases_eq k x) [
-  | inl e ↦ (let c = ap (λ z. (row_in exchanges z).addable) e ∙ h in
-      let b = a k in
-      let l = le-ltb k x (omega arith) in
-      grind (arith, nat_tests))
-  | inr d ↦ (let b = a k in let l = less_next k x in let q = ne_eqb k x d in grind (arith, nat_tests))
 ]
 
 -- ---- all rows
@@ -86,40 +76,7 @@ IsFilledTable-add exchanges x addable addable' rows columns row f h put e = reco
   transposed = λ k y l. f.transposed k y l ∙ passed_over exchanges x k y h;
 }
 
-filled_more : (exchanges : List Exchange) (x k y : ℕ) (row : List ℕ) (after before : Bool) → row ≡ (row_in exchanges x).with
-    → (row_in exchanges x).addable ≡ false → after ≡ (before || (eqb k x && is_member y row))
-    → before ≡ (ltb k x && (not (row_in exchanges k).addable && is_member y (row_in exchanges k).with))
-    → after ≡ (ltb k (x + 1) && (not (row_in exchanges k).addable && is_member y (row_in exchanges k).with))
-filled_more exchanges x k y row after before e o a b = elim (cases_eq k x) [
-  | inl s ↦ (let c = ap (is_member y) e ∙ sym (ap (λ z. is_member y (row_in exchanges z).with) s) in
-      let i = ap (λ z. (row_in exchanges z).addable) s ∙ o in
-      let d = lt-ltb k (x + 1) (omega arith) in
-      let f = le-ltb k x (omega arith) in
-      let g = eq-eqb k x s in
-      grind arith)
-  | inr n ↦ (let d = less_next k x in let g = ne_eqb k x n in grind arith)
-]
-
--- x cannot be added
-pub IsFilledTable-push : (exchanges : List Exchange) (x : ℕ) (addable : List ℕ) (rows columns columns' : List (List ℕ)) (row : List ℕ)
-    → IsFilledTable exchanges x addable rows columns → (row_in exchanges x).addable ≡ false → row ≡ (row_in exchanges x).with
-    → IsEntered x row columns columns' → IsFilledTable exchanges (x + 1) addable (rows ++ row ∷ []) columns'
-IsFilledTable-push exchanges x addable rows columns columns' row f out e entered = record {
-  count = length-append rows (row ∷ []) ∙ ap (λ m. m + 1) f.count;
-  adds = added_same exchanges x addable f.adds out;
-  same = same_more exchanges x rows row f.count f.same e;
-  columns_count = entered.count ∙ f.columns_count;
-  transposed = λ k y h. filled_more exchanges x k y row _ _ e out (entered.members k y (let c = f.columns_count in omega arith))
-      (f.transposed k y h);
-}
-
 -- ---- the whole table
-
-row_with : Bool → List ℕ → Exchange
-row_with addable with' = record { addable = addable; with = with' }
-
-same_row : (a b : Bool) (xs ys : List ℕ) → a ≡ b → xs ≡ ys → row_with a xs ≡ row_with b ys
-same_row a b xs ys d e = ap (λ c. row_with c xs) d ∙ ap (row_with b) e
 
 module _ (exchanges : List Exchange) (addable base : List ℕ) (rows columns after : List (List ℕ))
     (f : IsFilledTable exchanges (length exchanges) addable rows columns) (u : AreUnited addable base columns after) (w : AreWhole base exchanges) where
@@ -167,7 +124,6 @@ module _ (exchanges : List Exchange) (addable base : List ℕ) (rows columns aft
       }
 
   pub table_of-filled : table_of addable rows ≡ exchanges
-  unfolding row_with
   table_of-filled = same_lists (table_of addable rows) exchanges (length-table_of addable rows ∙ f.count) (λ k d h.
       let l : k < length rows = subst (λ m. k < m) (length-table_of addable rows) h in
       let m : k < length exchanges = subst (λ m. k < m) f.count l in

@@ -4,7 +4,6 @@ use Rattle.std.proofs.Math.Numerals.{add-one}
 use Rattle.std.proofs.lemmas.Bool.{cases_eq, lt-ltb, ltb-true}
 use Rattle.std.proofs.lemmas.List.{get_or-replicate, length-replicate}
 use Rattle.mat_sets.specs.Graphs.{ends_of, IsGraph}
-use Rattle.mat_sets.specs.Search.{IsNextFrom}
 use Rattle.mat_sets.specs.Sets.{all_below, is_member, with_one, without_one, AllBelow, IsRising, IsSet}
 use Rattle.mat_sets.specs.Walks.{IsReachedSet}
 use Rattle.mat_flow.specs.ArcPaths.{AreArcPaths, IsArcCut}
@@ -159,15 +158,6 @@ next_there vertices count ends live rows before a u h e l inside same r b =
     ap (λ x. eqb b u || x) (ap (λ v. is_member b (row_at rows v)) same ∙ r.members (ends u).1 b inside
     ∙ ap (λ x. x && (is_member b live && eqb (ends b).0 (ends u).1)) (sym (lt-ltb u count l)) ∙ sym (has_arc-line ends live count u b))
     ∙ sym (ap (λ f. leads_to (line_arcs ends count live) f b) e)
-
--- a test that answers the same
-pub IsNextFrom-same : (f g : ℕ → Bool) (from : ℕ) (found : Option ℕ) → ((b : ℕ) → f b ≡ g b) → IsNextFrom f from found → IsNextFrom g from found
-IsNextFrom-same f g from None e h = λ x l. sym (e x) ∙ h x l
-IsNextFrom-same f g from (Some b) e h = record {
-  reaches = h.reaches;
-  passes = sym (e b) ∙ h.passes;
-  none_before = λ x l m. sym (e x) ∙ h.none_before x l m;
-}
 
 -- ---- the cut that is found
 

@@ -46,10 +46,6 @@ module _ (ends : ℕ → ℕ × ℕ) (live : List ℕ) where
   unfolding arcs_from
   is_member-arcs_from v a = is_member-filter (λ b. eqb (ends b).0 v) a live
 
-  pub IsRising-arcs_from : (v : ℕ) → IsRising live → IsRising (arcs_from ends live v)
-  unfolding arcs_from
-  IsRising-arcs_from v r = IsRising-filter (λ b. eqb (ends b).0 v) live r
-
   has_arc-rows : (arcs : List ℕ) (u v : ℕ) → has_arc (line_rows ends live arcs) u v ≡ (is_member u arcs && is_member v (arcs_from ends live (ends u).1))
   has_arc-rows [] u v = refl
   has_arc-rows (a ∷ arcs) u v =

@@ -7,10 +7,11 @@ use Rattle.mat_split.specs.Ladders.{IsLadder}
 use Rattle.mat_split.specs.declared.ladder.Rung.{Rung}
 use Rattle.mat_fronts.specs.Once.{is_once}
 
--- the row and the column of cell e
+-- the row of cell e
 abbrev pub row_at : List (ℕ × ℕ) → ℕ → ℕ
 row_at cells e = (slice_index_or cells e (0, 0)).0
 
+-- the column of cell e
 abbrev pub column_at : List (ℕ × ℕ) → ℕ → ℕ
 column_at cells e = (slice_index_or cells e (0, 0)).1
 

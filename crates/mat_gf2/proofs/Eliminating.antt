@@ -3,7 +3,7 @@ use Rattle.std.proofs.Common.{◌≡◌, ℕ, suc, zero, ◌+◌, ◌-◌, ◌<�
 use Rattle.std.proofs.lemmas.Bool.{false≢true, false_from_ne_true}
 use Rattle.std.proofs.lemmas.List.{drop_all, drop_more}
 use Rattle.mat_sets.specs.Sets.{AllBelow, IsRising, IsSubset, RisesFrom}
-use Rattle.mat_sets.proofs.Members.{RisesFrom-weaken, is_member-head, missing_below}
+use Rattle.mat_sets.proofs.Members.{RisesFrom-suffix, is_member-head, missing_below}
 use Rattle.mat_sets.proofs.Subsets.{IsSubset-refl, IsSubset-trans}
 use Rattle.mat_sets.proofs.Sums.{AllBelow-at}
 use Rattle.mat_sets.proofs.SetTests.{is_set-true}
@@ -28,12 +28,6 @@ drop_before X count place e same some within at =
 pub below_before : (n : ℕ) (X : List ℕ) (count place e : ℕ) → AllBelow n X → count ≡ length X → 0 < place → place ≤ count
     → e ≡ get_or X (place - 1) 0 → e < n
 below_before n X count place e below same some within at = subst (λ k. k < n) (sym at) (AllBelow-at n X (place - 1) below (omega arith))
-
-RisesFrom-drop : (k lo : ℕ) (X : List ℕ) → RisesFrom lo X → RisesFrom lo (drop k X)
-RisesFrom-drop zero lo X r = r
-RisesFrom-drop (suc k) lo [] r = r
-RisesFrom-drop (suc k) lo (x ∷ X) r =
-    let l : lo ≤ x = r.0 in RisesFrom-weaken lo (suc x) (drop k X) (omega arith) (RisesFrom-drop k (suc x) X r.1)
 
 drop-IsSubset : (k : ℕ) (X : List ℕ) → IsSubset (drop k X) X
 drop-IsSubset zero X = IsSubset-refl X
@@ -74,7 +68,7 @@ module _ (column : ℕ → ℕ) (Y : List ℕ) (basis : List ℕ) (e left : ℕ)
   -- a set whose last members are e and Y is dependent where nothing is left of e
   pub dependent_from : (X : List ℕ) (k : ℕ) → IsRising X → drop k X ≡ e ∷ Y → left ≡ 0 → is_linearly_independent column X ≡ false
   dependent_from X k r last nothing = false_from_ne_true _ (λ passed.
-      let rises : RisesFrom 0 (e ∷ Y) = subst (RisesFrom 0) last (RisesFrom-drop k 0 X r.rises) in
+      let rises : RisesFrom 0 (e ∷ Y) = subst (RisesFrom 0) last (RisesFrom-suffix k 0 X r.rises) in
       let ins : IsSubset (e ∷ Y) X = subst (λ s. IsSubset s X) last (drop-IsSubset k X) in
       left_of_independent column Y e (missing_below e (suc e) Y (omega arith) rises.1)
       (IsLinearlyIndependent-subset column (e ∷ Y) X ins (IsLinearlyIndependent-from_test column X r passed)) (sym own ∙ nothing))

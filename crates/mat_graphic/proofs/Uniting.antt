@@ -3,7 +3,7 @@
 use Rattle.std.proofs.Common.{◌≡◌, ℕ, suc, zero, ◌+◌, ◌≤◌, Bool, true, false, not, eqb, List, [], ◌∷◌, length, get_or, drop, refl, sym, ap, ◌∙◌, subst, arith}
 use Rattle.std.proofs.lemmas.Bool.{eqb-true, eqb-false, not-true, not-false, false_from_ne_true}
 use Rattle.mat_sets.specs.Sets.{IsRising, RisesFrom, IsSubset}
-use Rattle.mat_sets.proofs.Members.{RisesFrom-weaken, missing_below}
+use Rattle.mat_sets.proofs.Members.{RisesFrom-suffix, missing_below}
 use Rattle.mat_sets.proofs.Subsets.{IsSubset-refl, IsSubset-trans}
 use Rattle.std.proofs.lemmas.List.{drop_all, drop_more}
 use Rattle.mat_graphic.specs.Forests.{IsForest, is_forest}
@@ -14,12 +14,6 @@ use Rattle.mat_graphic.specs.ParentTables.{IsParentTable}
 use Rattle.mat_graphic.proofs.ParentTables.{IsParentTable-equal}
 
 -- ---- the last items of a set
-
-RisesFrom-drop : (k lo : ℕ) (X : List ℕ) → RisesFrom lo X → RisesFrom lo (drop k X)
-RisesFrom-drop zero lo X r = r
-RisesFrom-drop (suc k) lo [] r = r
-RisesFrom-drop (suc k) lo (x ∷ X) r =
-    let l : lo ≤ x = r.0 in RisesFrom-weaken lo (suc x) (drop k X) (omega arith) (RisesFrom-drop k (suc x) X r.1)
 
 drop-IsSubset : (k : ℕ) (X : List ℕ) → IsSubset (drop k X) X
 drop-IsSubset zero X = IsSubset-refl X
@@ -66,8 +60,8 @@ module _ (ends : ℕ → ℕ × ℕ) where
     -- where they are in one, the set is no forest
     pub not_forest : IsRising X → apart ≡ false → false ≡ is_forest ends X
     not_forest r fails = sym (false_from_ne_true _ (λ passed.
-        let rises : RisesFrom 0 (e ∷ drop i X) = subst (RisesFrom 0) at_place (RisesFrom-drop k 0 X r.rises) in
-        let rising : IsRising (drop i X) = record { rises = RisesFrom-drop i 0 X r.rises } in
+        let rises : RisesFrom 0 (e ∷ drop i X) = subst (RisesFrom 0) at_place (RisesFrom-suffix k 0 X r.rises) in
+        let rising : IsRising (drop i X) = record { rises = RisesFrom-suffix i 0 X r.rises } in
         let forest = IsForest-subset ends (drop k X) X (drop-IsSubset k X) (IsForest-from_test ends X r passed) in
         apart_of_forest ends (drop i X) e rising (missing_below e (suc e) (drop i X) (omega arith) rises.1)
         (subst (IsForest ends) at_place forest) (eqb-true _ _ (not-false _ (sym told ∙ fails)))))

@@ -5,7 +5,7 @@ ghost use Rattle.mat_graphic.specs.ParentTables.{IsDescending, IsParentTable};
 
 use std::alloc::{AllocError, Global};
 
-// The table in which each vertex is a component of its own. The only error is want of memory.
+/// The table in which each vertex is a component of its own. The only error is want of memory.
 #[tactic(auto, using(crate::proofs::ParentTables::singletons))]
 pub fn singletons(alloc: Global, vertices: u32) -> Result<Vec<u32>, AllocError>
     ensures long { IfOk result (λ t. length t.items ≡ vertices) }
@@ -19,8 +19,8 @@ pub fn singletons(alloc: Global, vertices: u32) -> Result<Vec<u32>, AllocError>
     Ok(parent)
 }
 
-// The least vertex of the component of `start`. Every other vertex on the way gets the parent of its parent (path
-// halving), so that many calls take logarithmic time each on average.
+/// The least vertex of the component of `start`. Every other vertex on the way gets the parent of its parent (path
+/// halving), so that many calls take logarithmic time each on average.
 pub fn find(parent: &mut [u32], start: u32) -> u32
     requires descending { IsDescending parent.old }
     requires inside { start < length parent.old }
@@ -38,7 +38,7 @@ pub fn find(parent: &mut [u32], start: u32) -> u32
     v
 }
 
-// Makes one of the components of two vertices, and tells whether they were two.
+/// Makes one of the components of two vertices, and tells whether they were two.
 pub fn unite(parent: &mut [u32], a: u32, b: u32) -> bool
     requires descending { IsDescending parent.old }
     requires first { a < length parent.old }
@@ -57,7 +57,7 @@ pub fn unite(parent: &mut [u32], a: u32, b: u32) -> bool
     true
 }
 
-// Makes each parent the least vertex of the component.
+/// Makes each parent the least vertex of the component.
 pub fn settle(parent: &mut [u32])
     requires { IsDescending parent.old }
     ensures { (least : ℕ → ℕ) → IsParentTable least parent.old → (v : ℕ) → v < length parent.new

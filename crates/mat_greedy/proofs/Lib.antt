@@ -2,4 +2,3 @@ pub mod OrderLemmas
 pub mod Climbing
 pub mod Weighing
 pub mod FallingWeights
-pub mod EnteredWeights

@@ -89,8 +89,8 @@ exit statuses, and the line that is then written to standard error:
     7  memory: there was not enough
     8  too long: a description or a list of more than 4194304 bytes, or a certificate or a witness of more
        than 67108864
-    9  wrong shape: the form of the problem is not the command's, or not that of the certificate's command; or the
-       certificate has no rung of this number
+    9  wrong shape: the form of the problem is not the command's, or not that of the certificate's command; or
+       for witness and verify the certificate is none of intersect, or has no rung of this number
    11  unwitnessed: a matroid is not uniform, partition, laminar, graphic, gammoid or gf2
    12  bad witness: its first fault, by number and name, and the line
    13  bad cost: for cuts a cost is below 0 or has a tie

@@ -60,9 +60,6 @@ length-exchange_one a x y r hy hx =
     let u : is_member x (without_one a y) ≡ false = grind (arith, set_members) in
     omega (arith, length-with_one _ x (IsRising-without_one a y r) u, length-without_one a y r hy)
 
--- sizes after one change, for `using(mat_sets::proofs::Cardinalities::set_sizes)`
-pub ruleset set_sizes = (length-with_one, length-without_one)
-
 -- ---- sums
 
 pub sum_of-with_one : (f : ℕ → ℤ) (a : List ℕ) (x : ℕ) → IsRising a → is_member x a ≡ false

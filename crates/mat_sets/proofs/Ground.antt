@@ -150,8 +150,6 @@ map-all_below_more f n = ap (map f) (all_below-more n) ∙ map-append f (all_bel
 
 pub ruleset counting = (all_below-more, all_below-none, IsRising-all_below, IsSet-all_below)
 
-pub ruleset set_bounds = (IsSet-nil, IsSet-with_one, IsSet-without_one, IsSet-minus, IsSet-intersection, IsSet-union, IsSet-all_below)
-
 -- ---- complements
 
 intersection-inside : (a e : List ℕ) → IsRising a → IsRising e → IsSubset a e → intersection e a ≡ a

@@ -1,6 +1,6 @@
 -- Members of rising lists, and of the sets made of others. Two rising lists with the same members are one list, and
 -- each operation has one law that says its members: so an equation of sets is proved member by member.
-use Rattle.std.proofs.Common.{Bool, List, [], ap, arith, cond, eqb, false, get_or, inl, inr, length, ltb, not, refl, subst, suc, sym, true, zero, ℕ, ◌&&◌, ◌++◌, ◌<◌, ◌||◌, ◌∙◌, ◌∷◌, ◌≡◌, ◌≤◌}
+use Rattle.std.proofs.Common.{Bool, List, [], ap, arith, cond, drop, eqb, false, get_or, inl, inr, length, ltb, not, refl, subst, suc, sym, true, zero, ℕ, ◌&&◌, ◌++◌, ◌<◌, ◌||◌, ◌∙◌, ◌∷◌, ◌≡◌, ◌≤◌}
 use Rattle.std.proofs.lemmas.Bool.{and_right, both_ways, cases_eq, cases_lt, cases_order, eq-eqb, eqb-true, false≢true, le-ltb, lt-ltb, ne_eqb, or_from, or_right}
 use Rattle.std.specs.List.{filter}
 use Rattle.mat_sets.specs.Sets.{IsRising, RisesFrom, intersection, is_member, minus, rising_insert, union, with_one, without_one}
@@ -11,6 +11,13 @@ use Rattle.mat_sets.proofs.Truths.{or_assoc, or_none, or_swap}
 pub RisesFrom-weaken : (lo hi : ℕ) (t : List ℕ) → lo ≤ hi → RisesFrom hi t → RisesFrom lo t
 RisesFrom-weaken lo hi [] h r = tt
 RisesFrom-weaken lo hi (x ∷ t) h r = (omega arith, r.1)
+
+-- the last items rise from the same bound
+pub RisesFrom-suffix : (k lo : ℕ) (xs : List ℕ) → RisesFrom lo xs → RisesFrom lo (drop k xs)
+RisesFrom-suffix zero lo xs r = r
+RisesFrom-suffix (suc k) lo [] r = r
+RisesFrom-suffix (suc k) lo (x ∷ t) r =
+    let l : lo ≤ x = r.0 in RisesFrom-weaken lo (suc x) (drop k t) (omega arith) (RisesFrom-suffix k (suc x) t r.1)
 
 -- nothing below the first bound is a member
 pub missing_below : (k lo : ℕ) (t : List ℕ) → k < lo → RisesFrom lo t → is_member k t ≡ false

@@ -1,6 +1,6 @@
 -- Numbers are put into the rows at several places of a list, one place after the other: the rows at the first places have them.
 use Rattle.std.proofs.Common.{◌≡◌, ℕ, ◌+◌, ◌<◌, Bool, true, false, ◌&&◌, ◌||◌, eqb, List, [], length, get_or, set, take}
-use Rattle.std.proofs.Common.{inl, inr, refl, sym, ap, ◌∙◌, arith, get_or-set_other, get_or-set_same, length-set}
+use Rattle.std.proofs.Common.{inl, inr, sym, ap, ◌∙◌, arith, get_or-set_other, get_or-set_same, length-set}
 use Rattle.std.proofs.lemmas.Bool.{cases_eq, eq-eqb, ne_eqb}
 use Rattle.mat_sets.specs.Rows.{row_at, AreUnited, IsEntered}
 use Rattle.mat_sets.specs.Sets.{is_member, with_one}
@@ -15,9 +15,6 @@ put_here old now own before more row e r f = grind arith
 put_elsewhere : (old now own before more : Bool) → now ≡ (old || (own && before)) → more ≡ (before || false)
     → now ≡ (old || (own && more))
 put_elsewhere old now own before more e f = grind arith
-
-put_nowhere : (old own : Bool) → old ≡ (old || (own && false))
-put_nowhere old own = grind arith
 
 -- the numbers of a test are put into the row at place i
 row_more : (own : ℕ → Bool) (places : List ℕ) (i : ℕ) (old new : List (List ℕ)) (row : List ℕ) → i < length places
@@ -50,12 +47,6 @@ IsEntered-more k places i old new row l below e r =
       members = row_more (λ j. eqb j k) places i old new row l within
           (λ j. ap (is_member j) e ∙ is_member-with_one j k (row_at new here) ∙ or_commute (eqb j k) (is_member j (row_at new here))) r.members;
     }
-
-pub AreUnited-none : (numbers : List ℕ) (rows : List (List ℕ)) → AreUnited numbers [] rows rows
-AreUnited-none numbers rows = record {
-  count = refl;
-  members = λ j i m. put_nowhere (is_member j (row_at rows i)) (is_member j numbers);
-}
 
 pub AreUnited-more : (numbers places : List ℕ) (i : ℕ) (old new : List (List ℕ)) (row : List ℕ) → i < length places
     → get_or places i 0 < length old

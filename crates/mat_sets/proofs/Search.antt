@@ -168,5 +168,3 @@ pub length-those_below_most : (n : ℕ) (test : ℕ → Bool) → length (those_
 length-those_below_most n test =
     let s = IsSet-those_below n test in
     omega (arith, length-subset _ _ s.rising (IsRising-all_below n) (IsSubset-all_below n _ s.below), length-all_below n)
-
-pub ruleset those_members = (is_member-those_below, IsSet-those_below)

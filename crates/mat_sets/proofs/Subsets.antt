@@ -41,11 +41,6 @@ union-right a b = record { inside = λ k h. grind (arith, set_members) }
 pub union-IsSubset : (a b c : List ℕ) → IsSubset a c → IsSubset b c → IsSubset (union a b) c
 union-IsSubset a b c s t = record { inside = λ k h. grind (arith, set_members) }
 
-pub IsSubset-intersection : (a b c : List ℕ) → IsSubset a b → IsSubset a c → IsSubset a (intersection b c)
-IsSubset-intersection a b c s t = record { inside = λ k h. grind (arith, set_members) }
-
-pub ruleset subsets = (IsSubset-refl, IsSubset-with_one, with_one-IsSubset, without_one-IsSubset, minus-IsSubset, intersection-left, intersection-right, union-left, union-right, union-IsSubset, IsSubset-intersection)
-
 -- ---- a member that passes, or none
 
 -- some number in a passes, or none does

@@ -9,8 +9,8 @@ use Rattle.mat_sets.specs.declared.weight.Weight.{Weight}
 abbrev pub zero_weight : Weight
 zero_weight = record { main = pos 0; tie = pos 0 }
 
--- the sum of two weights
 infixl 6 ◌⊕◌
+-- the sum of two weights
 abbrev pub ◌⊕◌ : Weight → Weight → Weight
 a ⊕ b = record { main = a.main +ℤ b.main; tie = a.tie +ℤ b.tie }
 
@@ -18,18 +18,18 @@ a ⊕ b = record { main = a.main +ℤ b.main; tie = a.tie +ℤ b.tie }
 abbrev pub negated : Weight → Weight
 negated a = record { main = neg_ℤ a.main; tie = neg_ℤ a.tie }
 
--- by how much one weight exceeds another
 infixl 6 ◌⊖◌
+-- by how much one weight exceeds another
 abbrev pub ◌⊖◌ : Weight → Weight → Weight
 a ⊖ b = record { main = a.main -ℤ b.main; tie = a.tie -ℤ b.tie }
 
--- a is below b: its main is at most that of b and, where the mains are equal, its tie is below that of b
 infix 4 ◌≺◌
+-- a is below b: its main is at most that of b and, where the mains are equal, its tie is below that of b
 abbrev pub ◌≺◌ : Weight → Weight → Type 0
 a ≺ b = (a.main ≤ℤ b.main) × (a.main ≡ b.main → a.tie <ℤ b.tie)
 
--- a is at most b: its main is at most that of b and, where the mains are equal, so is its tie
 infix 4 ◌≼◌
+-- a is at most b: its main is at most that of b and, where the mains are equal, so is its tie
 abbrev pub ◌≼◌ : Weight → Weight → Type 0
 a ≼ b = (a.main ≤ℤ b.main) × (a.main ≡ b.main → a.tie ≤ℤ b.tie)
 

@@ -35,7 +35,7 @@ impl BitSet {
         }
     }
 
-    /// The empty set, with room for the numbers below n.
+    /// The empty set, with room for the numbers below n. The only error is want of memory.
     pub fn with_capacity(alloc: Global, n: u32) -> Result<BitSet, AllocError>
         ensures { IfOk result (λ s. s ≡ []) }
     {
@@ -43,7 +43,7 @@ impl BitSet {
         Ok(BitSet { words })
     }
 
-    /// The set of all numbers below n.
+    /// The set of all numbers below n. The only error is want of memory.
     pub fn all_below(alloc: Global, n: u32) -> Result<BitSet, AllocError>
         ensures { IfOk result (λ s. s ≡ all_below n) }
     {
@@ -81,7 +81,7 @@ impl BitSet {
         }
     }
 
-    /// Another set of the same members. The time is that of the words.
+    /// Another set of the same members. The time is that of the words. The only error is want of memory.
     pub fn copy(&self, alloc: Global) -> Result<BitSet, AllocError>
         ensures { IfOk result (λ s. s ≡ self.now) }
     {

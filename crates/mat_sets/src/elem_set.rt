@@ -46,6 +46,7 @@ impl Eq for ElemSet {
 /// The first place whose item is not above the one before it.
 #[derive(Clone, Copy, Debug, PartialEq, Eq, Drop)]
 pub struct NotRising {
+    /// The place, counted from 0.
     pub at: usize,
 }
 
@@ -77,6 +78,7 @@ impl ElemSet {
     }
 
     /// The set of the items of a list, which may stand in any order and more than once. It is fastest where they rise.
+    /// The only error is want of memory.
     pub fn from_members(alloc: Global, items: &[u32]) -> Result<ElemSet, AllocError>
         ensures members { IfOk result (λ s. s ≡ union items.now []) }
         ensures set { IfOk result (λ s. IsRising s) }
@@ -168,7 +170,7 @@ impl ElemSet {
         }
     }
 
-    /// An equal set.
+    /// An equal set. The only error is want of memory.
     pub fn copy(&self, alloc: Global) -> Result<ElemSet, AllocError>
         ensures equal { IfOk result (λ s. s ≡ self.now) }
         ensures set { IfOk result (λ s. IsRising s) }
@@ -178,7 +180,7 @@ impl ElemSet {
         Ok(ElemSet { items })
     }
 
-    /// The set without x.
+    /// The set without x. The only error is want of memory.
     #[tactic(auto, using(crate::proofs::Members::set_rises), unfolding(crate::specs::Sets::without_one))]
     pub fn without(&self, alloc: Global, x: u32) -> Result<ElemSet, AllocError>
         ensures members { IfOk result (λ s. s ≡ without_one self.now x) }
@@ -194,7 +196,7 @@ impl ElemSet {
         Ok(ElemSet { items })
     }
 
-    /// The members that are not in the other set. The time is linear in both sizes.
+    /// The members that are not in the other set. The time is linear in both sizes. The only error is want of memory.
     #[tactic(auto, using(crate::proofs::Members::set_rises))]
     pub fn minus(&self, alloc: Global, other: &ElemSet) -> Result<ElemSet, AllocError>
         ensures members { IfOk result (λ s. s ≡ minus self.now other.now) }
@@ -206,7 +208,7 @@ impl ElemSet {
         Ok(ElemSet { items })
     }
 
-    /// The members of either set. The time is linear in both sizes.
+    /// The members of either set. The time is linear in both sizes. The only error is want of memory.
     #[tactic(auto, using(crate::proofs::Members::set_rises))]
     pub fn union(&self, alloc: Global, other: &ElemSet) -> Result<ElemSet, AllocError>
         ensures members { IfOk result (λ s. s ≡ union self.now other.now) }
@@ -265,7 +267,7 @@ impl ElemSet {
         is_disjoint(&self.items, &other.items)
     }
 
-    /// The set of all numbers below n.
+    /// The set of all numbers below n. The only error is want of memory.
     #[tactic(auto, using(crate::proofs::Ground::counting))]
     pub fn all_below(alloc: Global, n: u32) -> Result<ElemSet, AllocError>
         ensures members { IfOk result (λ s. s ≡ all_below n) }

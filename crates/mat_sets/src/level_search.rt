@@ -12,7 +12,8 @@ use crate::walk_search::WalkSearch;
 use std::alloc::{AllocError, Global};
 
 /// A walk from a start to a goal with fewest vertices, or the set of all vertices that the starts reach
-/// (Schrijver, chapter 6). Each reached vertex is asked once for its arcs to unreached vertices.
+/// (Schrijver, chapter 6). Each reached vertex is asked once for its arcs to unreached vertices. The only error is
+/// want of memory.
 pub fn shortest_walk<R: Relation>(alloc: Global, relation: &R) -> Result<WalkSearch, AllocError>
     requires { R.sound relation.now }
     ensures { IfOk result (IsWalkSearch (R.count relation.now) (R.arc relation.now) (R.start relation.now) (R.goal relation.now)) }

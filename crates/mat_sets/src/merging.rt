@@ -31,7 +31,7 @@ fn stands_at(items: &[u32], at: usize, x: u32) -> bool
     at < items.len() && items[at] == x
 }
 
-/// The items of a that are not in b. The time is linear in both lengths.
+/// The items of a that are not in b. The time is linear in both lengths. The only error is want of memory.
 #[tactic(auto, using(crate::proofs::Places::merging))]
 pub fn difference(alloc: Global, a: &[u32], b: &[u32]) -> Result<Vec<u32>, AllocError>
     requires a_rises { IsRising a.now }
@@ -49,7 +49,8 @@ pub fn difference(alloc: Global, a: &[u32], b: &[u32]) -> Result<Vec<u32>, Alloc
     Ok(kept)
 }
 
-/// The items of a and those of b, each once, in rising order. The time is linear in both lengths.
+/// The items of a and those of b, each once, in rising order. The time is linear in both lengths. The only error is
+/// want of memory.
 pub fn merged(alloc: Global, a: &[u32], b: &[u32]) -> Result<Vec<u32>, AllocError>
     requires a_rises { IsRising a.now }
     requires b_rises { IsRising b.now }

@@ -39,6 +39,6 @@ pub fn ticket_rows<R: Threads + Sync, J: RowJob>(
     let team = form_team(alloc, word, seat, count, workers)?;
     let room = Vec::with_capacity(alloc, workers as usize)?;
     let done = work_all(rt, word, job, count, team)?;
-    let outputs = join_seats(word, count, done, room)?;
+    let outputs = join_seats(word, done, room)?;
     arrange(alloc, count, outputs)
 }

@@ -1,4 +1,4 @@
-//! All seats are joined, and the one that is left shows that the tickets are the numbers below the count.
+//! All seats are joined, and the one that is left shows that the tickets are the numbers below the count, which is the word's key.
 ghost use Rattle.std.specs.Prelude.{◌≡◌, ℕ, ◌<◌, IfOk, [], length, map};
 ghost use Rattle.std.specs.List.{AllByRecursion, sum_by};
 ghost use Rattle.mat_sets.specs.Families.{multiplicity};
@@ -16,18 +16,17 @@ use std::alloc::AllocError;
 /// ended for want of it.
 pub(crate) fn join_seats<X: Drop>(
     word: &TicketWord,
-    count: u32,
     mut team: Vec<Worker<X>>,
     mut outputs: Vec<Output<X>>,
 ) -> Result<Vec<Output<X>>, AllocError>
     requires word { word.now.table_id.words ≡ 1 }
     requires some { 0 < length team.items }
     requires shares { sum_by share_of team.items ≡ 16 }
-    requires seated { AllByRecursion (IsSeated word.now.table_id count) team.items }
+    requires seated { AllByRecursion (IsSeated word.now.table_id word.now.key) team.items }
     requires empty { outputs.items ≡ [] }
     ensures outputs { IfOk result (λ outputs. outputs.items ≡ map output_of team.items) }
     ensures finished { IfOk result (λ outputs. AllByRecursion HasFinished team.items) }
-    ensures once { IfOk result (λ outputs. (x : ℕ) → x < count → multiplicity x (map tickets_of outputs.items) ≡ 1) }
+    ensures once { IfOk result (λ outputs. (x : ℕ) → x < word.now.key → multiplicity x (map tickets_of outputs.items) ≡ 1) }
 {
     let Worker {
         seat: mut whole,

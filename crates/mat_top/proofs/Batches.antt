@@ -1,7 +1,7 @@
 -- What a list of jobs comes to: the refusal of the first job without a problem is that of the call, and the texts of all may be written.
-use Rattle.std.proofs.Common.{◌≡◌, ℕ, ◌≤◌, List, [], ◌∷◌, ◌++◌, Option, Some, None, refl, inl, inr, ap, subst}
+use Rattle.std.proofs.Common.{◌≡◌, ℕ, ◌≤◌, List, [], ◌∷◌, ◌++◌, Option, Some, refl, inl, inr, ap, subst}
 use Rattle.std.specs.Global.{Vec}
-use Rattle.std.specs.Prelude.{◌≢◌, length, map, All, IfSome, IsSome, IsSomeAnd}
+use Rattle.std.specs.Prelude.{◌≢◌, length, map, All, IfSome, IsSome}
 use Rattle.std.proofs.lemmas.List.Elements.{All-nil, All-cons}
 use Rattle.mat_shelf.specs.Faults.{Rose}
 use Rattle.mat_desc.specs.Views.{instance_of}
@@ -20,13 +20,7 @@ use Rattle.mat_top.specs.PosedJobs.{IsPosed, ArePosed, IsUnposed, AreUnposed, Ha
 use Rattle.mat_top.specs.Refusals.{HasSolutionText, MayBeWritten, IsRefusal}
 use Rattle.mat_top.specs.Statuses.{joined}
 use Rattle.mat_top.specs.Views.{all_texts}
-use Rattle.mat_top.proofs.Told.{told, if_told}
-
--- what a file that is told holds, with a fact of what it holds
-told_both : (o : Option (List ℕ)) (P Q R : List ℕ → Type 0) → IsSomeAnd o P → IfSome o Q
-    → ((bytes : List ℕ) → P bytes → Q bytes → R bytes) → IsSomeAnd o R
-told_both None P Q R tells is f = absurd tells
-told_both (Some bytes) P Q R tells is f = f bytes tells is
+use Rattle.mat_top.proofs.Told.{told, told_both, if_told}
 
 -- ---- the first job without a problem
 

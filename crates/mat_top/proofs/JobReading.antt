@@ -20,7 +20,7 @@ use Rattle.mat_top.specs.JobLists.{Job, on_line, ended, with_job, job_before, is
 use Rattle.mat_top.specs.JobLines.{Fails, Gives, kept_words, words_at, head_at, no_job, some_job, job_at}
 use Rattle.mat_top.specs.declared.status.Refusal.{Refusal}
 use Rattle.mat_top.specs.declared.status.Refusal.TheVariants as refusals
-use Rattle.mat_top.specs.Outcomes.{description_limit}
+use Rattle.mat_desc.specs.Limits.{description_limit}
 use Rattle.mat_top.specs.Refusals.{HasNoJobs}
 
 -- ---- the words of a line

@@ -1,13 +1,8 @@
 -- What the reader and the checker say of the bytes of a certificate, as the call tells it: the verdict is yes exactly where the answer is right.
-use Rattle.std.proofs.Common.{◌≡◌, ◌≤◌, ℕ, List, true, false, length, Some, sym, ap, ◌∙◌}
+use Rattle.std.proofs.Common.{◌≡◌, ℕ, List, true, Some, sym, ap, ◌∙◌}
 use Rattle.std.proofs.lemmas.Option.{none-some}
 use Rattle.mat_desc.specs.Instances.{Instance}
-use Rattle.mat_cert.specs.declared.refusal.CertRefusal.{CertRefusal}
-use Rattle.mat_cert.specs.declared.refusal.CertRefusal.TheVariants as cert_refusals
 use Rattle.mat_cert.specs.Certificates.{Certificate}
-use Rattle.mat_cert.specs.Faults.{Fails}
-use Rattle.mat_cert.specs.Limits.{certificate_limit}
-use Rattle.mat_cert.specs.Reading.{read_of}
 use Rattle.mat_check.specs.AnswerClauses.{failure_of}
 use Rattle.mat_check.specs.Clauses.{Failure}
 use Rattle.mat_check.specs.Fitting.{fits}
@@ -18,35 +13,24 @@ use Rattle.mat_check.specs.declared.verdict.Verdict.{Verdict}
 use Rattle.mat_check.specs.declared.verdict.Verdict.TheVariants.{Yes, No}
 use Rattle.mat_top.specs.declared.status.Status.TheVariants as statuses
 use Rattle.mat_top.specs.declared.status.Refusal.TheVariants as refusals
-use Rattle.mat_top.specs.Statuses.{refusal_of_certificate}
 use Rattle.mat_top.specs.Certified.{IsCertified}
 use Rattle.mat_top.specs.Outcomes.{IsCertificateOutcome}
 use Rattle.mat_top.specs.Refusals.{IsDenial}
-
--- why the bytes are no answer
-pub faulty_certificate : (instance : Instance) (bytes : List ℕ) (refusal : CertRefusal) → length bytes ≤ certificate_limit
-    → Fails refusal (read_of bytes) → IsDenial instance bytes (refusal_of_certificate refusal)
-faulty_certificate instance bytes cert_refusals.Memory within fails = tt
-faulty_certificate instance bytes (cert_refusals.Fault kind number) within fails = record { within = within; first = fails }
 
 -- a verdict is not both
 pub yes_or_no : (verdict : Verdict) (reason : Reason) (a b : ℕ) → verdict ≡ Yes → verdict ≡ No reason a b → ⊥
 yes_or_no verdict reason a b right wrong = none-some (reason, a, b) (ap failure_in (sym right ∙ wrong))
 
-module _ (instance : Instance) (bytes : List ℕ) (answer : Certificate) (certified : IsCertified bytes answer) where
-  -- the answer is one to problems of another form
-  pub misfit : fits instance answer ≡ false → IsCertificateOutcome instance bytes statuses.WrongShape
-  misfit other = (answer, certified, other)
+module _ (instance : Instance) (bytes : List ℕ) (answer : Certificate) (certified : IsCertified bytes answer)
+    (fitting : fits instance answer ≡ true) where
+  -- no clause fails
+  pub right_outcome : IsRight instance answer → IsCertificateOutcome instance bytes statuses.Done
+  right_outcome right = (answer, certified, fitting, right)
 
-  module _ (fitting : fits instance answer ≡ true) where
-    -- no clause fails
-    pub right_outcome : IsRight instance answer → IsCertificateOutcome instance bytes statuses.Done
-    right_outcome right = (answer, certified, fitting, right)
-
-    -- a clause fails
-    pub wrong_outcome : (failure : Failure) → (IsRight instance answer → ⊥) → failure_of instance answer ≡ Some failure
-        → IsDenial instance bytes (refusals.No failure.0 failure.1 failure.2)
-    wrong_outcome failure wrong fails = (
-      (answer, certified, fitting, wrong),
-      record { answer = answer; certified = certified; fails = fails },
-    )
+  -- a clause fails
+  pub wrong_outcome : (failure : Failure) → (IsRight instance answer → ⊥) → failure_of instance answer ≡ Some failure
+      → IsDenial instance bytes (refusals.No failure.0 failure.1 failure.2)
+  wrong_outcome failure wrong fails = (
+    (answer, certified, fitting, wrong),
+    record { answer = answer; certified = certified; fails = fails },
+  )

@@ -1,4 +1,3 @@
-pub mod ReadingLemmas
 pub mod SetWeights
 pub mod PricedLadder
 pub mod PlainLadder
@@ -8,7 +7,6 @@ pub mod UnionSolutions
 pub mod PackSolutions
 pub mod GraphSolutions
 pub mod Told
-pub mod Describing
 pub mod Unwitnessed
 pub mod RungAnswers
 pub mod WitnessRefusals
@@ -16,7 +14,6 @@ pub mod NoCommands
 pub mod Refusing
 pub mod Judging
 pub mod Ending
-pub mod Converting
 pub mod Pieces
 pub mod PrintedSolutions
 pub mod Accepted

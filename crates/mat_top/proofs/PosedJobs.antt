@@ -14,7 +14,8 @@ use Rattle.mat_top.specs.declared.status.Refusal.TheVariants as refusals
 use Rattle.mat_top.specs.declared.status.Status.TheVariants as statuses
 use Rattle.mat_top.specs.JobLists.{Job}
 use Rattle.mat_top.specs.CommandLines.{solve}
-use Rattle.mat_top.specs.Outcomes.{IsFaulty, IsDescribed, IsBytesOutcome, MayBeSolved, description_limit}
+use Rattle.mat_top.specs.Outcomes.{IsFaulty, IsDescribed, IsBytesOutcome, MayBeSolved}
+use Rattle.mat_desc.specs.Limits.{description_limit}
 use Rattle.mat_top.specs.PosedJobs.{IsPosed, ArePosed, IsPosable, IsOfOtherForm, IsUnposed, AreUnposed, IsPosing}
 use Rattle.mat_top.specs.Queries.{has_form}
 use Rattle.mat_top.specs.Refusals.{IsJobProblem}

@@ -1,5 +1,5 @@
 -- What is found of a problem and of a certificate is the outcome of a request about the problem in a file, where the shelf tells its files.
-use Rattle.std.proofs.Common.{◌≡◌, ◌⊎◌, ℕ, ◌≤◌, List, Option, Some, None, Result, Ok, Err, true, refl, inl, inr, sym, subst, arith}
+use Rattle.std.proofs.Common.{◌≡◌, ◌⊎◌, ℕ, ◌≤◌, List, Option, Some, None, Result, Ok, Err, true, refl, inl, inr, sym, subst}
 use Rattle.std.specs.Prelude.{IfSome, IsSome, IsSomeAnd, IfOk, IfErr}
 use Rattle.mat_desc.specs.Instances.{Instance, pair, list, graph, rooted, coloured, table}
 use Rattle.mat_cert.specs.Certificates.{Certificate}
@@ -14,48 +14,11 @@ use Rattle.mat_top.specs.CutTexts.{IsCutsText}
 use Rattle.mat_top.specs.Outcomes.{IsDescribed, IsProblemOutcome, IsBytesOutcome, IsCertificateOutcome, IsRungOutcome, IsWitnessOutcome}
 use Rattle.mat_top.specs.Outcomes.{IsVerifyOutcome, IsWitnessFound}
 use Rattle.mat_top.specs.Witnessing.{IsRungAnswer}
-use Rattle.mat_top.specs.Outcomes.{Tells, TellsCertificate, IsOutcome, RequestReaches, IsTextFor}
-use Rattle.mat_top.specs.Refusals.{IsUndescribed, HasText, HasNoText, HasNoCuts, IsUnsolved, IsDenial, IsUncertified, IsRefusal, MayBeWritten}
+use Rattle.mat_top.specs.Outcomes.{Tells, TellsCertificate, IsOutcome, IsTextFor}
+use Rattle.mat_top.specs.Refusals.{HasText, HasNoText, HasNoCuts, IsUnsolved, IsDenial, IsUncertified, IsRefusal, MayBeWritten}
 use Rattle.mat_top.specs.Refusals.{HasNoWitness, IsUnshownFile, IsUnshownText, IsUnverified}
-use Rattle.mat_top.proofs.Told.{of_file, told, told_both, if_told, rose_before, some_told}
+use Rattle.mat_top.proofs.Told.{of_file, told, told_both, if_told, rose_before}
 use Rattle.mat_top.proofs.Unwitnessed.{no_witness_before, unverified_before}
-use Rattle.mat_top.proofs.Describing.{undescribed_outcome, undescribed_true}
-
--- ---- the description
-
--- a request reaches the file of the description
-reaches_description : (held : List ℕ → Option (List ℕ)) (file : List ℕ) (request : Request) → RequestReaches held file request file
-reaches_description held file show = refl
-reaches_description held file (solve query) = refl
-reaches_description held file cuts = refl
-reaches_description held file (check certificate) = inl refl
-reaches_description held file (witness k certificate) = inl refl
-reaches_description held file (verify k certificate shown) = inl refl
-
--- the file describes no problem
-pub undescribed : (held : List ℕ → Option (List ℕ)) (file : List ℕ) (request : Request) (before now : List ℕ → ℕ) (refusal : Refusal)
-    → IsUndescribed (held file) (before file) (now file) refusal → IsRefusal held (about file request) before now refusal
-undescribed held file request before now refusals.ReadFault why = (file, reaches_description held file request, why)
-undescribed held file request before now refusals.Memory why = tt
-undescribed held file request before now refusals.TooLong why = (
-  λ tells. undescribed_outcome held request (held file) (before file) (now file) refusals.TooLong tt (some_told (held file) _ tells) why,
-  undescribed_true held file request (before file) (now file) refusals.TooLong why,
-)
-undescribed held file request before now (refusals.BadDescription kind number) why = (
-  λ tells. undescribed_outcome held request (held file) (before file) (now file) (refusals.BadDescription kind number) tt
-      (some_told (held file) _ tells) why,
-  undescribed_true held file request (before file) (now file) (refusals.BadDescription kind number) why,
-)
-undescribed held file request before now refusals.Usage why = absurd why
-undescribed held file request before now refusals.WriteFault why = absurd why
-undescribed held file request before now refusals.WrongShape why = absurd why
-undescribed held file request before now refusals.BadCost why = absurd why
-undescribed held file request before now refusals.Unwitnessed why = absurd why
-undescribed held file request before now (refusals.BadWitness kind number) why = absurd why
-undescribed held file request before now (refusals.NotShown part) why = absurd why
-undescribed held file request before now (refusals.BadList line) why = absurd why
-undescribed held file request before now (refusals.BadCertificate kind number) why = absurd why
-undescribed held file request before now (refusals.No reason first second) why = absurd why
 
 -- ---- the certificate
 
@@ -331,7 +294,7 @@ module _ (held : List ℕ → Option (List ℕ)) (file : List ℕ) (instance : I
   unverified_by k certificate shown before now refusals.ReadFault (inl rose) =
       (certificate, inr (inl (refl, if_told (held file) _ _ (λ bytes spelled. (instance, spelled)) described)), rose)
   unverified_by k certificate shown before now refusals.ReadFault (inr why) =
-      (shown, inr (inr (refl, if_told (held file) _ _ (λ bytes spelled. (instance, spelled, why.1)) described)), why.0)
+      (shown, inr (inr (refl, instance, described, why.1)), why.0)
   unverified_by k certificate shown before now refusals.TooLong (inl why) =
       (verify_outcome k certificate shown _ statuses.TooLong why (λ all long needs. inl long), tt)
   unverified_by k certificate shown before now refusals.TooLong (inr why) =

@@ -1,6 +1,6 @@
 -- The rungs of a right answer are right, and what is written of a witness that shows one is its text.
-use Rattle.std.proofs.Common.{◌≡◌, ℕ, true, List, length, ◌-◌, arith}
-use Rattle.std.proofs.lemmas.Bool.{and_parts, false≢true, leb-true}
+use Rattle.std.proofs.Common.{◌≡◌, ℕ, true, List, length}
+use Rattle.std.proofs.lemmas.Bool.{and_parts, false≢true, ltb-true}
 use Rattle.std.proofs.lemmas.Option.{slice_get-get_or}
 use Rattle.mat_sets.specs.declared.weight.Weight.{Weight}
 use Rattle.mat_any.specs.Trees.{Tree}
@@ -28,8 +28,7 @@ pair_rung : (w : List Weight) (first second : Tree) (n : ℕ) (rungs : List Pric
     → has_rung (intersect n rungs cut) k ≡ true → IsRight (pair w first second) (intersect n rungs cut)
     → IsRightRungOf (pair w first second) (intersect n rungs cut) k
 pair_rung w first second n rungs cut k has right =
-    let one = right.1.each k (rung_at rungs k)
-    (slice_get-get_or rungs k _ (omega (arith, right.1.some, leb-true k (length rungs - 1) has))) in
+    let one = right.1.each k (rung_at rungs k) (slice_get-get_or rungs k _ (ltb-true k (length rungs) has)) in
     record { counted = right.0; priced = one.priced; right = one.right; ends = right.1.ends }
 
 -- of a ladder of two matroids

@@ -5,7 +5,7 @@ use Rattle.std.proofs.lemmas.Grind.{flat_map-append}
 use Rattle.std.proofs.lemmas.List.{append_assoc, map-id, take_all}
 use Rattle.mat_words.specs.Lines.{Line, text_of}
 use Rattle.mat_words.proofs.WrittenLines.{line_written}
-use Rattle.mat_top.specs.SummaryTexts.{spaced}
+use Rattle.mat_words.specs.Writing.{spaced}
 
 -- three pieces are one
 spaced_pieces : (word : List ℕ) (first second third : Line)

@@ -1,5 +1,5 @@
 -- What is known of a file where the shelf tells what it holds.
-use Rattle.std.proofs.Common.{◌≡◌, ℕ, ◌≤◌, List, Option, Some, None, inl, inr, refl, sym, subst, arith}
+use Rattle.std.proofs.Common.{◌≡◌, ℕ, ◌≤◌, List, Option, Some, None, inl, inr, sym, subst, arith}
 use Rattle.std.specs.Prelude.{IfSome, IsSome, IsSomeAnd}
 use Rattle.mat_shelf.specs.Faults.{Rose}
 
@@ -24,11 +24,6 @@ told_both (Some bytes) P Q R h k f = f bytes h k
 pub if_told : (o : Option (List ℕ)) (P Q : List ℕ → Type 0) → ((bytes : List ℕ) → P bytes → Q bytes) → IfSome o P → IfSome o Q
 if_told None P Q f h = tt
 if_told (Some bytes) P Q f h = f bytes h
-
--- a file of whose bytes a fact is told is told
-pub some_told : (o : Option (List ℕ)) (P : List ℕ → Type 0) → IsSomeAnd o P → IsSome o
-some_told None P h = absurd h
-some_told (Some bytes) P h = refl
 
 -- a count that rose rose from a lesser one
 pub rose_before : (first before now : ℕ) → first ≤ before → Rose before now → Rose first now

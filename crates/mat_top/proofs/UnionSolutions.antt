@@ -5,7 +5,6 @@ use Rattle.std.specs.Prelude.{map, All}
 use Rattle.std.proofs.lemmas.Bool.{cases_lt, cases_order, lt-ltb, ltb-true}
 use Rattle.std.proofs.lemmas.Int.{ints}
 use Rattle.std.proofs.lemmas.List.{length-map, get_or-map, get_or_default}
-use Rattle.std.proofs.lemmas.Simd.{map-map}
 use Rattle.mat_sets.specs.Limits.{most_elements, largest_weight, largest_number}
 use Rattle.mat_sets.specs.Families.{family_union}
 use Rattle.mat_sets.specs.Sets.{is_member, all_below, AllBelow, IsSet}
@@ -17,15 +16,12 @@ use Rattle.mat_sets.proofs.Search.{IsSet-those_below}
 use Rattle.mat_sets.proofs.WeightOrder.{weight_within_at}
 use Rattle.mat_sets.proofs.Families.{IsSet-family_union}
 use Rattle.mat_laws.specs.Matroids.{IsMatroid}
-use Rattle.mat_union.specs.GrownParts.{AreSound}
 use Rattle.mat_union.specs.PartListLaws.{part_set}
 use Rattle.mat_union.specs.RightUnions.{AreFalling, IsRightUnion, level_at}
 use Rattle.mat_union.specs.Unions.{AreMatroids, AreParts}
 use Rattle.mat_union.specs.declared.best.Level.{Level}
 use Rattle.mat_any.specs.TreeLaws.{tree_laws}
-use Rattle.mat_any.specs.Trees.{Tree, uniform, element_count, is_independent, IsSound}
-use Rattle.mat_any.specs.Views.{tree_of}
-use Rattle.mat_any.specs.declared.any.AnyMatroid.{AnyMatroid}
+use Rattle.mat_any.specs.Trees.{Tree, uniform, is_independent}
 use Rattle.mat_desc.specs.Grammar.{IsValid}
 use Rattle.mat_desc.specs.Instances.{list}
 use Rattle.mat_desc.specs.Soundness.{IsSoundInstance}

@@ -32,7 +32,7 @@ IsQueryInRange (Trees k) = (1 ≤ k) × (k ≤ 64)
 IsQueryInRange (Disjoint k) = (1 ≤ k) × (k ≤ 64)
 IsQueryInRange query = Unit {0}
 
--- the numbers of a request are in range
+-- a number of trees that a request asks for is in range
 abbrev pub IsRequestInRange : Request → Type 0
 IsRequestInRange (solve query) = IsQueryInRange query
 IsRequestInRange request = Unit {0}
@@ -41,7 +41,7 @@ IsRequestInRange request = Unit {0}
 abbrev pub IsSampleInRange : (size seed : ℕ) → Type 0
 IsSampleInRange size seed = ((1 ≤ size) × (size ≤ most_elements)) × ((1 ≤ seed) × (seed ≤ 2147483646))
 
--- the numbers of a task are in range
+-- a number of trees that a task asks for is in range, and so are the size and the seed of a sample
 abbrev pub IsTaskInRange : Task → Type 0
 IsTaskInRange (about file request) = IsRequestInRange request
 IsTaskInRange (sample kind size seed) = IsSampleInRange size seed
@@ -50,6 +50,7 @@ IsTaskInRange (convert file) = Unit {0}
 
 -- ---- each has at most one proof
 
+-- that the number of trees that a query asks for is in range
 pub IsQueryInRange-prop : (query : Query) → IsProp (IsQueryInRange query)
 IsQueryInRange-prop Best = Unit-prop
 IsQueryInRange-prop Intersect = Unit-prop
@@ -62,6 +63,7 @@ IsQueryInRange-prop (Disjoint k) = ×_prop le_prop le_prop
 IsQueryInRange-prop Rainbow = Unit-prop
 IsQueryInRange-prop Assign = Unit-prop
 
+-- that the numbers of a request are
 pub IsRequestInRange-prop : (request : Request) → IsProp (IsRequestInRange request)
 IsRequestInRange-prop show = Unit-prop
 IsRequestInRange-prop (solve query) = IsQueryInRange-prop query
@@ -70,6 +72,7 @@ IsRequestInRange-prop (check certificate) = Unit-prop
 IsRequestInRange-prop (witness rung certificate) = Unit-prop
 IsRequestInRange-prop (verify rung certificate shown) = Unit-prop
 
+-- that the numbers of a task are
 pub IsTaskInRange-prop : (task : Task) → IsProp (IsTaskInRange task)
 IsTaskInRange-prop (about file request) = IsRequestInRange-prop request
 IsTaskInRange-prop (sample kind size seed) = ×_prop (×_prop le_prop le_prop) (×_prop le_prop le_prop)

@@ -9,6 +9,7 @@ use Rattle.mat_desc.specs.Grammar.{Spells, SpellsNamed}
 use Rattle.mat_desc.specs.Labels.{NamedInstance}
 use Rattle.mat_desc.specs.Reading.{read_of}
 use Rattle.mat_desc.specs.Canonical.{canonical_text, named_text}
+use Rattle.mat_desc.specs.Limits.{description_limit}
 use Rattle.mat_cert.specs.Certificates.{Certificate}
 use Rattle.mat_cert.specs.Faults as certificate_faults
 use Rattle.mat_cert.specs.Limits.{certificate_limit}
@@ -32,10 +33,6 @@ use Rattle.mat_top.specs.Queries.{has_form}
 use Rattle.mat_top.specs.declared.query.Query.{Query}
 use Rattle.mat_top.specs.Answers.{IsSolutionText}
 use Rattle.mat_top.specs.Summaries.{IsSummary}
-
--- the most bytes that a description or a list of jobs may have
-abbrev pub description_limit : ℕ
-description_limit = 4194304
 
 -- ---- the description
 
@@ -151,7 +148,7 @@ IsJobsOutcome held [] status = status ≡ statuses.Done
 IsJobsOutcome held (job ∷ jobs) status =
     ((status ≢ statuses.Done) × IsJobOutcome held job status) ⊎ (IsJobOutcome held job statuses.Done × IsJobsOutcome held jobs status)
 
--- the bytes are a list of these jobs
+-- the bytes, no more than a description may have, are a list of these jobs
 pub record IsListed (bytes : List ℕ) (jobs : List Job) : Type 0 where
   pub within : length bytes ≤ description_limit
   pub listed : jobs_of bytes ≡ Ok jobs
@@ -212,8 +209,8 @@ RequestReaches held file (witness k certificate) name =
     (name ≡ file) ⊎ ((name ≡ certificate) × IfSome (held file) (λ bytes. (instance : Instance) × IsDescribed bytes instance))
 RequestReaches held file (verify k certificate shown) name =
     (name ≡ file) ⊎ (((name ≡ certificate) × IfSome (held file) (λ bytes. (instance : Instance) × IsDescribed bytes instance))
-    ⊎ ((name ≡ shown) × IfSome (held file) (λ bytes. (instance : Instance) × IsDescribed bytes instance
-    × IfSome (held certificate) (λ text. (answer : Certificate) × IsRungAnswer instance k text answer))))
+    ⊎ ((name ≡ shown) × (instance : Instance) × IfSome (held file) (λ bytes. IsDescribed bytes instance)
+    × IfSome (held certificate) (λ text. (answer : Certificate) × IsRungAnswer instance k text answer)))
 RequestReaches held file request name = name ≡ file
 
 -- the files that jobs reach: each up to that of the first job that what is told of its file refuses

@@ -11,7 +11,8 @@ use Rattle.mat_top.specs.declared.status.Refusal.{Refusal}
 use Rattle.mat_top.specs.declared.status.Refusal.TheVariants as refusals
 use Rattle.mat_top.specs.Commands.{IsQueryInRange}
 use Rattle.mat_top.specs.JobLists.{Job}
-use Rattle.mat_top.specs.Outcomes.{description_limit, IsDescribed, IsMislisted, MayBeSolved}
+use Rattle.mat_desc.specs.Limits.{description_limit}
+use Rattle.mat_top.specs.Outcomes.{IsDescribed, IsMislisted, MayBeSolved}
 use Rattle.mat_top.specs.Queries.{has_form}
 use Rattle.mat_top.specs.Refusals.{IsUndescribed, IsJobProblem, HasSolutionText}
 

@@ -20,7 +20,8 @@ use Rattle.mat_top.specs.JobLists.{Job}
 use Rattle.mat_top.specs.Queries.{has_form, IsAnswerOf}
 use Rattle.mat_top.specs.declared.query.Query.{Query}
 use Rattle.mat_top.specs.Answers.{IsSolution, IsSolutionText}
-use Rattle.mat_top.specs.Outcomes.{description_limit, HasForm, IsFaulty, IsDescribed, IsMislisted}
+use Rattle.mat_desc.specs.Limits.{description_limit}
+use Rattle.mat_top.specs.Outcomes.{HasForm, IsFaulty, IsDescribed, IsMislisted}
 use Rattle.mat_top.specs.Certified.{IsFaultyCertificate}
 use Rattle.mat_top.specs.Witnessing.{IsFaultyWitness, IsNotShowing, IsRungAnswer}
 use Rattle.mat_top.specs.Outcomes.{IsCertificateOutcome, IsRungOutcome, IsTextFor, IsShort}

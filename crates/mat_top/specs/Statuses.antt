@@ -66,11 +66,6 @@ abbrev pub refusal_of_certificate : CertRefusal → Refusal
 refusal_of_certificate (cert_refusals.Fault kind line) = refusals.BadCertificate kind line
 refusal_of_certificate cert_refusals.Memory = refusals.Memory
 
--- the refusal of a call that read no witness
-abbrev pub refusal_of_witness : CertRefusal → Refusal
-refusal_of_witness (cert_refusals.Fault kind line) = refusals.BadWitness kind line
-refusal_of_witness cert_refusals.Memory = refusals.Memory
-
 -- pieces one after the other
 abbrev pub joined : List (List ℕ) → List ℕ
 joined pieces = flat_map (λ piece. piece) pieces

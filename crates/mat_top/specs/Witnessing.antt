@@ -1,10 +1,9 @@
 -- Rungs of certificates that witnesses show: which answers have them, and what the bytes of a certificate and of a witness say.
-use Rattle.std.specs.Prelude.{◌≡◌, ℕ, ◌<◌, ◌≤◌, Bool, true, false, ◌&&◌, List, length, Some, Err}
+use Rattle.std.specs.Prelude.{◌≡◌, ℕ, ◌≤◌, Bool, true, ◌&&◌, List, length, Some, Err}
 use Rattle.mat_desc.specs.Instances.{Instance}
 use Rattle.mat_cert.specs.Certificates.{Certificate}
 use Rattle.mat_cert.specs.Faults.{Fault}
 use Rattle.mat_check.specs.Fitting.{fits}
-use Rattle.mat_check.specs.Right.{IsRight}
 use Rattle.mat_witness.specs.Kinds.{has_rung, is_witnessed_pair}
 use Rattle.mat_witness.specs.Lines.{witness_limit, witness_text}
 use Rattle.mat_witness.specs.Parts.{WitnessParts}
@@ -12,7 +11,7 @@ use Rattle.mat_witness.specs.Reading as witness_reading
 use Rattle.mat_witness.specs.Shown.{IsShown, IsWitnessFor, failing_part}
 use Rattle.mat_top.specs.Certified.{IsCertified}
 
--- whether the answer fits the problem and is a ladder of two matroids that has this rung
+-- whether the answer fits the problem and is one to `intersect` that has this rung
 abbrev pub fits_rung : Instance → Certificate → ℕ → Bool
 fits_rung instance answer k = fits instance answer && has_rung answer k
 

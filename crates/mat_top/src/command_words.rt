@@ -216,7 +216,7 @@ fn with_four<'a>(
     })
 }
 
-// A command with its arguments.
+/// A command with its arguments.
 pub(crate) fn command_for<'a>(command: &str, arguments: &'a [String]) -> Option<Command<'a>>
     ensures task { option_map task_of result ≡ task_for command.now (map string_bytes arguments.now) }
     ensures range { IfSome result (λ c. IsTaskInRange (task_of c)) }
@@ -238,7 +238,7 @@ pub(crate) fn command_for<'a>(command: &str, arguments: &'a [String]) -> Option<
     }
 }
 
-// Whether the first argument is the option, which names no file.
+/// Whether the first argument is the option, which names no file.
 pub(crate) fn begins_with_option(arguments: &[String]) -> bool
     ensures { result ≡ begins_with_option (map string_bytes arguments.now) }
 {

@@ -6,7 +6,7 @@ ghost use Rattle.mat_words.specs.Cursors.{lines_left, words_left};
 ghost use Rattle.mat_words.specs.Words.{is_word};
 ghost use Rattle.mat_top.specs.JobLists.{is_head, is_end, job_of_command, job_of_line, most_jobs, jobs_at, jobs_of};
 ghost use Rattle.mat_top.specs.JobLines.{Gives, kept_words, words_at, head_at, job_at};
-ghost use Rattle.mat_top.specs.Outcomes.{description_limit};
+ghost use Rattle.mat_desc.specs.Limits.{description_limit};
 ghost use Rattle.mat_top.specs.Refusals.{HasNoJobs};
 ghost use Rattle.mat_top.specs.Views.{job_of};
 

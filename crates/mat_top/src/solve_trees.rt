@@ -1,9 +1,11 @@
 //! Trees: spanning trees and arborescences.
 
-ghost use Rattle.std.specs.Prelude.{◌≤◌, IfOk};
+ghost use Rattle.std.specs.Prelude.{◌<◌, ◌≤◌, List, IfOk};
+ghost use Rattle.mat_sets.specs.Limits.{most_vertices};
+ghost use Rattle.mat_sets.specs.declared.weight.Weight.{Weight};
 ghost use Rattle.mat_desc.specs.Instances.{graph, rooted};
 ghost use Rattle.mat_desc.specs.Views.{instance_of};
-ghost use Rattle.mat_desc.specs.Grammar.{IsValid};
+ghost use Rattle.mat_desc.specs.Grammar.{ArePairs, IsValid};
 ghost use Rattle.mat_cert.specs.Views.{certificate_of};
 ghost use Rattle.mat_top.specs.Answers.{IsSolution};
 ghost use Rattle.mat_top.specs.Queries.{IsAnswerOf};
@@ -61,18 +63,19 @@ fn solve_arborescence<R: Threads + Sync>(
     }
 }
 
-// So many disjoint spanning arborescences, or a vertex set that fewer arcs enter.
+// So many disjoint spanning arborescences, or a vertex set that fewer arcs enter, whatever the arcs cost.
 fn solve_disjoint(
     alloc: Global,
     vertices: u32,
     root: u32,
     arcs: &Pairs,
-    costs: &PairWeights,
     k: u32,
 ) -> Result<Answer, AllocError>
-    requires valid { IsValid (rooted vertices root arcs.now costs.now) }
+    requires vertices { (1 ≤ vertices) × (vertices ≤ most_vertices) }
+    requires root { root < vertices }
+    requires arcs { ArePairs vertices vertices arcs.now }
     requires range { (1 ≤ k) × (k ≤ 64) }
-    ensures solution { IfOk result (λ answer. IsSolution (rooted vertices root arcs.now costs.now) (certificate_of answer)) }
+    ensures solution { IfOk result (λ answer. (costs : List Weight) → IsSolution (rooted vertices root arcs.now costs) (certificate_of answer)) }
     ensures of_query { IfOk result (λ answer. IsAnswerOf (Query.Disjoint k) (certificate_of answer)) }
 {
     let count = arcs.len() as u32;
@@ -124,8 +127,8 @@ pub(crate) fn disjoint(alloc: Global, problem: &Problem, k: u32) -> Result<Answe
             vertices,
             root,
             arcs,
-            costs,
-        } => Ok(solve_disjoint(alloc, *vertices, *root, arcs, costs, k)?),
+            ..
+        } => Ok(solve_disjoint(alloc, *vertices, *root, arcs, k)?),
         _ => Err(Refusal::WrongShape),
     }
 }

@@ -32,7 +32,7 @@ pub enum Status {
     Memory,
     /// A file has more bytes than its limit.
     TooLong,
-    /// The form of the problem is not the command's.
+    /// The form of the problem is not the command's or the certificate's, or the certificate has no such rung.
     WrongShape,
     /// A matroid is not of a kind that has witnesses.
     Unwitnessed,
@@ -98,7 +98,7 @@ pub(crate) enum Refusal {
     /// A file has more bytes than its limit.
     #[error("a file is too long")]
     TooLong,
-    /// The form of the problem is not the command's.
+    /// The form of the problem is not the command's or the certificate's, or the certificate has no such rung.
     #[error("the form of the problem is not the command's")]
     WrongShape,
     /// A matroid is not of a kind that has witnesses.

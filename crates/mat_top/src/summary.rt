@@ -1,15 +1,16 @@
 //! The line that sums up an answer.
 
-ghost use Rattle.std.specs.Prelude.{◌≡◌, ◌≤◌, ◌++◌, ◌∷◌, [], length, map, codes, pos, All, IfOk, OnOk};
+ghost use Rattle.std.specs.Prelude.{◌≡◌, ◌+◌, ◌≤◌, ◌++◌, ◌∷◌, [], length, map, codes, pos, All, IfOk, OnOk};
 ghost use Rattle.mat_sets.specs.Limits.{largest_number, most_elements};
 ghost use Rattle.mat_sets.specs.Weights.{IsWeightWithin};
 ghost use Rattle.mat_words.specs.Lines.{text_of};
 ghost use Rattle.mat_words.specs.Numbers.{numeral};
 ghost use Rattle.mat_words.specs.Weights.{weight_word};
+ghost use Rattle.mat_words.specs.Writing.{spaced};
 ghost use Rattle.mat_cert.specs.Certificates.{IsRanged};
 ghost use Rattle.mat_cert.specs.Views.{certificate_of};
 ghost use Rattle.mat_top.specs.Summaries.{all_members, kind_word, ladder_words, summary_line, summary_words};
-ghost use Rattle.mat_top.specs.SummaryTexts.{spaced, summary_word};
+ghost use Rattle.mat_top.specs.SummaryTexts.{summary_word};
 
 use crate::totals::{all_members, ladder_weight, last_weight};
 use mat_cert::{Answer, PricedRung};
@@ -55,7 +56,7 @@ fn put_words(out: &mut Vec<u8>, words: &[SummaryWord<'_>]) -> Result<(), AllocEr
 
 // Appends what a ladder comes to.
 fn put_ladder_words(out: &mut Vec<u8>, rungs: &[PricedRung]) -> Result<(), AllocError>
-    requires few { length rungs.now ≤ 501 }
+    requires few { length rungs.now ≤ most_elements + 1 }
     requires small { All (λ rung. IsWeightWithin largest_number rung.weight) rungs.now }
     ensures { OnOk result (out.new.items ≡ out.old.items ++ spaced (ladder_words rungs.now)) }
 {

@@ -1,6 +1,6 @@
 //! What the numbers of an answer come to.
 
-ghost use Rattle.std.specs.Prelude.{◌≡◌, ◌≤◌, length, All};
+ghost use Rattle.std.specs.Prelude.{◌≡◌, ◌+◌, ◌≤◌, length, All};
 ghost use Rattle.mat_sets.specs.Limits.{largest_number, most_elements};
 ghost use Rattle.mat_sets.specs.Weights.{IsWeightWithin};
 ghost use Rattle.mat_top.specs.Summaries.{all_members, ladder_weight, last_weight};
@@ -20,7 +20,7 @@ pub(crate) fn last_weight(rungs: &[PricedRung]) -> Weight
 
 /// The weights of all rungs, added: at most 501 rungs, both numbers of each weight within ±10^30. It takes no memory.
 pub(crate) fn ladder_weight(rungs: &[PricedRung]) -> Weight
-    requires few { length rungs.now ≤ 501 }
+    requires few { length rungs.now ≤ most_elements + 1 }
     requires small { All (λ rung. IsWeightWithin largest_number rung.weight) rungs.now }
     ensures { result ≡ ladder_weight rungs.now }
 {

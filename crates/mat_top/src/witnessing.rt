@@ -4,6 +4,7 @@ ghost use Rattle.std.specs.Prelude.{◌≡◌, ◌≤◌, ℕ, List, true, lengt
 ghost use Rattle.mat_cert.specs.Certificates.{Certificate, IsRanged};
 ghost use Rattle.mat_cert.specs.Limits.{certificate_limit};
 ghost use Rattle.mat_cert.specs.Views.{certificate_of};
+ghost use Rattle.mat_check.specs.Fitting.{fits};
 ghost use Rattle.mat_check.specs.Right.{IsRight};
 ghost use Rattle.mat_desc.specs.Grammar.{IsValid};
 ghost use Rattle.mat_desc.specs.Soundness.{IsSoundInstance};
@@ -31,14 +32,14 @@ use std::thread::Threads;
 // The most bytes that a witness may have.
 const WITNESS_LIMIT: usize = 67_108_864;
 
-// The answer in these bytes, which fits the problem and has the rung, over matroids of witnessed kinds.
-fn rung_answer(alloc: Global, problem: &Problem, rung: u32, bytes: &[u8]) -> Result<Answer, Refusal>
+// The answer in these bytes, which fits the problem and has rung k, over matroids of witnessed kinds.
+fn rung_answer(alloc: Global, problem: &Problem, k: u32, bytes: &[u8]) -> Result<Answer, Refusal>
     requires within { length bytes.now ≤ certificate_limit }
-    ensures answer { IfOk result (λ a. IsRungAnswer (instance_of problem.now) rung bytes.now (certificate_of a)) }
-    ensures refusal { IfErr result (λ e. HasNoRung (instance_of problem.now) rung bytes.now e) }
+    ensures answer { IfOk result (λ a. IsRungAnswer (instance_of problem.now) k bytes.now (certificate_of a)) }
+    ensures refusal { IfErr result (λ e. HasNoRung (instance_of problem.now) k bytes.now e) }
 {
     let answer = read_answer(alloc, bytes)?;
-    if !fits(problem, &answer) || !has_rung(&answer, rung) {
+    if !fits(problem, &answer) || !has_rung(&answer, k) {
         return Err(Refusal::WrongShape);
     }
     if !are_witnessed(problem) {
@@ -53,20 +54,20 @@ fn rung_answer_in<F: Shelf>(
     files: &mut F,
     name: &str,
     problem: &Problem,
-    rung: u32,
+    k: u32,
 ) -> Result<Answer, Refusal>
     ensures held { (other : List ℕ) → F.held files.new other ≡ F.held files.old other }
     ensures grows { (other : List ℕ) → F.faults files.old other ≤ F.faults files.new other }
     ensures answer { IfOk result (λ a. IfSome (F.held files.old name.now)
-        (λ bytes. IsRungAnswer (instance_of problem.now) rung bytes (certificate_of a))) }
+        (λ bytes. IsRungAnswer (instance_of problem.now) k bytes (certificate_of a))) }
     ensures ranged { IfOk result (λ a. IsRanged (certificate_of a)) }
-    ensures rung { IfOk result (λ a. fits_rung (instance_of problem.now) (certificate_of a) rung ≡ true) }
+    ensures rung { IfOk result (λ a. fits_rung (instance_of problem.now) (certificate_of a) k ≡ true) }
     ensures witnessed { IfOk result (λ a. is_witnessed_pair (instance_of problem.now) ≡ true) }
-    ensures refusal { IfErr result (λ e. HasNoRungIn (instance_of problem.now) rung (F.held files.old name.now)
+    ensures refusal { IfErr result (λ e. HasNoRungIn (instance_of problem.now) k (F.held files.old name.now)
         (F.faults files.old name.now) (F.faults files.new name.now) e) }
 {
     let bytes = read_all(alloc, files, name, CERTIFICATE_LIMIT)?;
-    rung_answer(alloc, problem, rung, &bytes)
+    rung_answer(alloc, problem, k, &bytes)
 }
 
 // A right answer is needed.
@@ -75,12 +76,11 @@ fn judge_answer<R: Threads + Sync>(
     alloc: Global,
     problem: &Problem,
     answer: &Answer,
-    rung: u32,
 ) -> Result<(), Refusal>
+    requires fitting { fits (instance_of problem.now) (certificate_of answer.now) ≡ true }
     requires valid { IsValid (instance_of problem.now) }
     requires sound { IsSoundInstance (instance_of problem.now) }
     requires ranged { IsRanged (certificate_of answer.now) }
-    requires rung { fits_rung (instance_of problem.now) (certificate_of answer.now) rung ≡ true }
     ensures right { OnOk result (IsRight (instance_of problem.now) (certificate_of answer.now)) }
     ensures refusal { IfErr result (λ e. IsNotRight (instance_of problem.now) (certificate_of answer.now) e) }
 {
@@ -90,48 +90,48 @@ fn judge_answer<R: Threads + Sync>(
     }
 }
 
-// The text of a witness for the rung of a right answer.
+// The text of a witness for rung k of a right answer.
 fn text_of_witness(
     alloc: Global,
     problem: &Problem,
     answer: &Answer,
-    rung: u32,
+    k: u32,
 ) -> Result<Vec<u8>, Refusal>
     requires valid { IsValid (instance_of problem.now) }
     requires sound { IsSoundInstance (instance_of problem.now) }
     requires ranged { IsRanged (certificate_of answer.now) }
-    requires rung { fits_rung (instance_of problem.now) (certificate_of answer.now) rung ≡ true }
+    requires rung { fits_rung (instance_of problem.now) (certificate_of answer.now) k ≡ true }
     requires witnessed { is_witnessed_pair (instance_of problem.now) ≡ true }
     requires right { IsRight (instance_of problem.now) (certificate_of answer.now) }
-    ensures text { IfOk result (λ v. IsShowing (instance_of problem.now) (certificate_of answer.now) rung v.items) }
+    ensures text { IfOk result (λ v. IsShowing (instance_of problem.now) (certificate_of answer.now) k v.items) }
     ensures refusal { IfErr result (λ e. e ≡ Refusal.Memory) }
 {
-    let witness = make_witness(alloc, problem, answer, rung)?;
-    Ok(write_witness(alloc, &witness, problem, answer, rung)?)
+    let witness = make_witness(alloc, problem, answer, k)?;
+    Ok(write_witness(alloc, &witness, problem, answer, k)?)
 }
 
-/// The text of a witness for a rung of the certificate in the file of this name, which has to be right.
+/// The text of a witness for rung k of the certificate in the file of this name, which has to be right.
 pub(crate) fn witness_text<R: Threads + Sync, F: Shelf>(
     rt: &R,
     alloc: Global,
     files: &mut F,
     certificate: &str,
     problem: &Problem,
-    rung: u32,
+    k: u32,
 ) -> Result<Vec<u8>, Refusal>
     requires valid { IsValid (instance_of problem.now) }
     requires sound { IsSoundInstance (instance_of problem.now) }
     ensures held { (name : List ℕ) → F.held files.new name ≡ F.held files.old name }
     ensures grows { (name : List ℕ) → F.faults files.old name ≤ F.faults files.new name }
     ensures text { IfOk result (λ v. IfSome (F.held files.old certificate.now)
-        (λ bytes. IsWitnessFound (instance_of problem.now) rung bytes v.items)) }
+        (λ bytes. IsWitnessFound (instance_of problem.now) k bytes v.items)) }
     ensures short { IfOk result (λ v. length v.items ≤ witness_limit) }
-    ensures refusal { IfErr result (λ e. HasNoWitness (instance_of problem.now) rung (F.held files.old certificate.now)
+    ensures refusal { IfErr result (λ e. HasNoWitness (instance_of problem.now) k (F.held files.old certificate.now)
         (F.faults files.old certificate.now) (F.faults files.new certificate.now) e) }
 {
-    let answer = rung_answer_in(alloc, files, certificate, problem, rung)?;
-    judge_answer(rt, alloc, problem, &answer, rung)?;
-    text_of_witness(alloc, problem, &answer, rung)
+    let answer = rung_answer_in(alloc, files, certificate, problem, k)?;
+    judge_answer(rt, alloc, problem, &answer)?;
+    text_of_witness(alloc, problem, &answer, k)
 }
 
 // The witness in these bytes.
@@ -139,19 +139,19 @@ fn witness_in(
     alloc: Global,
     problem: &Problem,
     answer: &Answer,
-    rung: u32,
+    k: u32,
     bytes: &[u8],
 ) -> Result<Witness, Refusal>
     requires within { length bytes.now ≤ witness_limit }
     requires valid { IsValid (instance_of problem.now) }
     requires sound { IsSoundInstance (instance_of problem.now) }
     requires ranged { IsRanged (certificate_of answer.now) }
-    requires rung { has_rung (certificate_of answer.now) rung ≡ true }
+    requires rung { has_rung (certificate_of answer.now) k ≡ true }
     requires witnessed { is_witnessed_pair (instance_of problem.now) ≡ true }
-    ensures text { IfOk result (λ w. IsWitnessText (instance_of problem.now) (certificate_of answer.now) rung bytes.now (witness_parts w)) }
-    ensures refusal { IfErr result (λ e. IsUnshown (instance_of problem.now) (certificate_of answer.now) rung bytes.now e) }
+    ensures text { IfOk result (λ w. IsWitnessText (instance_of problem.now) (certificate_of answer.now) k bytes.now (witness_parts w)) }
+    ensures refusal { IfErr result (λ e. IsUnshown (instance_of problem.now) (certificate_of answer.now) k bytes.now e) }
 {
-    match read_witness(alloc, bytes, problem, answer, rung) {
+    match read_witness(alloc, bytes, problem, answer, k) {
         Ok(witness) => Ok(witness),
         Err(CertRefusal::Fault { kind, line }) => Err(Refusal::BadWitness(kind, line)),
         Err(CertRefusal::Memory) => Err(Refusal::Memory),
@@ -163,26 +163,26 @@ fn verify_bytes(
     alloc: Global,
     problem: &Problem,
     answer: &Answer,
-    rung: u32,
+    k: u32,
     bytes: &[u8],
 ) -> Result<(), Refusal>
     requires within { length bytes.now ≤ witness_limit }
     requires valid { IsValid (instance_of problem.now) }
     requires sound { IsSoundInstance (instance_of problem.now) }
     requires ranged { IsRanged (certificate_of answer.now) }
-    requires rung { has_rung (certificate_of answer.now) rung ≡ true }
+    requires rung { has_rung (certificate_of answer.now) k ≡ true }
     requires witnessed { is_witnessed_pair (instance_of problem.now) ≡ true }
-    ensures shown { OnOk result (IsVerifyOutcome (instance_of problem.now) (certificate_of answer.now) rung bytes.now Status.Done) }
-    ensures refusal { IfErr result (λ e. IsUnshown (instance_of problem.now) (certificate_of answer.now) rung bytes.now e) }
+    ensures shown { OnOk result (IsVerifyOutcome (instance_of problem.now) (certificate_of answer.now) k bytes.now Status.Done) }
+    ensures refusal { IfErr result (λ e. IsUnshown (instance_of problem.now) (certificate_of answer.now) k bytes.now e) }
 {
-    let witness = witness_in(alloc, problem, answer, rung, bytes)?;
-    match verify(alloc, problem, answer, rung, &witness)? {
+    let witness = witness_in(alloc, problem, answer, k, bytes)?;
+    match verify(alloc, problem, answer, k, &witness)? {
         None => Ok(()),
         Some(part) => Err(Refusal::NotShown(part)),
     }
 }
 
-/// Verifies the witness in the file of the second name for a rung of the certificate in the file of the first: it shows the rung, or a
+/// Verifies the witness in the file of the second name for rung k of the certificate in the file of the first: it shows the rung, or a
 /// refusal tells why not.
 pub(crate) fn verify_in<F: Shelf>(
     alloc: Global,
@@ -190,19 +190,19 @@ pub(crate) fn verify_in<F: Shelf>(
     certificate: &str,
     witness: &str,
     problem: &Problem,
-    rung: u32,
+    k: u32,
 ) -> Result<(), Refusal>
     requires valid { IsValid (instance_of problem.now) }
     requires sound { IsSoundInstance (instance_of problem.now) }
     ensures held { (name : List ℕ) → F.held files.new name ≡ F.held files.old name }
     ensures grows { (name : List ℕ) → F.faults files.old name ≤ F.faults files.new name }
     ensures shown { OnOk result (IfSome (F.held files.old certificate.now) (λ bytes. (answer : Certificate)
-        × IsRungAnswer (instance_of problem.now) rung bytes answer
-        × IfSome (F.held files.old witness.now) (λ text. IsVerifyOutcome (instance_of problem.now) answer rung text Status.Done))) }
-    ensures refusal { IfErr result (λ e. IsUnverified (F.held files.old) (instance_of problem.now) rung certificate.now witness.now
+        × IsRungAnswer (instance_of problem.now) k bytes answer
+        × IfSome (F.held files.old witness.now) (λ text. IsVerifyOutcome (instance_of problem.now) answer k text Status.Done))) }
+    ensures refusal { IfErr result (λ e. IsUnverified (F.held files.old) (instance_of problem.now) k certificate.now witness.now
         (F.faults files.old) (F.faults files.new) e) }
 {
-    let answer = rung_answer_in(alloc, files, certificate, problem, rung)?;
+    let answer = rung_answer_in(alloc, files, certificate, problem, k)?;
     let bytes = read_all(alloc, files, witness, WITNESS_LIMIT)?;
-    verify_bytes(alloc, problem, &answer, rung, &bytes)
+    verify_bytes(alloc, problem, &answer, k, &bytes)
 }

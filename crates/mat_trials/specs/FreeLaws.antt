@@ -1,6 +1,5 @@
 -- The free matroid, in which each set is independent (Schrijver, chapter 39).
 use Rattle.std.proofs.Common.{ℕ, []}
-use Rattle.mat_sets.specs.Sets.{with_one}
 use Rattle.mat_sets.specs.SetTests.{is_set}
 use Rattle.mat_sets.proofs.Members.{IsRising-nil}
 use Rattle.mat_sets.proofs.Subsets.{larger_has}

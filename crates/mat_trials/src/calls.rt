@@ -8,6 +8,9 @@ use mat_top::{Status, run};
 use std::alloc::{AllocError, Global};
 use std::thread::Threads;
 
+/// The most bytes that a description may have.
+pub(crate) const DESCRIPTION_LIMIT: usize = 4_194_304;
+
 // How many bytes one read of the file gives, and one write takes.
 const STEP: usize = 4096;
 

@@ -1,6 +1,6 @@
 //! Calls of the top call over objects that fail at known calls, over objects that never do, and over files that are too long.
 
-use crate::calls::{Ended, ended_over, one_file, words_of};
+use crate::calls::{DESCRIPTION_LIMIT, Ended, ended_over, one_file, words_of};
 use mat_shelf::{MemShelf, MemSink, SureShelf, SureSink};
 use mat_top::{Status, run};
 use std::alloc::{AllocError, Global};
@@ -8,9 +8,6 @@ use std::thread::Threads;
 
 // Two matroids on no elements.
 const EMPTY_PAIR: &str = "matroids 1\npair 0\nweights\nuniform 0\nuniform 0\nend\n";
-
-// The most bytes that a description may have.
-const DESCRIPTION_LIMIT: usize = 4_194_304;
 
 // The most bytes that a certificate may have.
 const CERTIFICATE_LIMIT: usize = 67_108_864;
@@ -22,6 +19,58 @@ struct Failing<'a> {
     out: &'a [u64],
     notes: &'a [u64],
 }
+
+// The numbers of calls that fail, each under a name.
+const FAILING: [(&str, Failing<'static>); 6] = [
+    (
+        "nothing fails",
+        Failing {
+            shelf: &[],
+            out: &[],
+            notes: &[],
+        },
+    ),
+    (
+        "no note is due",
+        Failing {
+            shelf: &[],
+            out: &[],
+            notes: &[1],
+        },
+    ),
+    (
+        "a read fails",
+        Failing {
+            shelf: &[2],
+            out: &[],
+            notes: &[],
+        },
+    ),
+    (
+        "a read and the note fail",
+        Failing {
+            shelf: &[2],
+            out: &[],
+            notes: &[1],
+        },
+    ),
+    (
+        "a write fails",
+        Failing {
+            shelf: &[],
+            out: &[3],
+            notes: &[],
+        },
+    ),
+    (
+        "a write and the note fail",
+        Failing {
+            shelf: &[],
+            out: &[3],
+            notes: &[1],
+        },
+    ),
+];
 
 /// What a call is, its status, its note and what it wrote.
 pub(crate) fn told(
@@ -112,58 +161,8 @@ fn told_long_certificate<R: Threads + Sync>(rt: &R, alloc: Global) -> Result<Vec
 
 // The calls of objects that fail.
 fn told_faults<R: Threads + Sync>(rt: &R, alloc: Global) -> Result<Vec<u8>, AllocError> {
-    let lines: [(&str, Failing<'_>); 6] = [
-        (
-            "nothing fails",
-            Failing {
-                shelf: &[],
-                out: &[],
-                notes: &[],
-            },
-        ),
-        (
-            "no note is due",
-            Failing {
-                shelf: &[],
-                out: &[],
-                notes: &[1],
-            },
-        ),
-        (
-            "a read fails",
-            Failing {
-                shelf: &[2],
-                out: &[],
-                notes: &[],
-            },
-        ),
-        (
-            "a read and the note fail",
-            Failing {
-                shelf: &[2],
-                out: &[],
-                notes: &[1],
-            },
-        ),
-        (
-            "a write fails",
-            Failing {
-                shelf: &[],
-                out: &[3],
-                notes: &[],
-            },
-        ),
-        (
-            "a write and the note fail",
-            Failing {
-                shelf: &[],
-                out: &[3],
-                notes: &[1],
-            },
-        ),
-    ];
     let mut report = Vec::new(alloc);
-    for (name, failing) in lines.iter() {
+    for (name, failing) in FAILING.iter() {
         let told = told_failing(rt, alloc, name, failing)?;
         report.extend_from_slice(told.as_slice())?;
     }

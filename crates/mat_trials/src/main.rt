@@ -1,7 +1,7 @@
 //! The program `mat_trials`, a test: it runs the top call over the cases of the file `cases.txt`, over files and sinks that fail, and over
 //! the real files; the search for disjoint paths over the graphs of the files `routes_*.txt`; cheapest arborescences of small and large
-//! graphs; the calls of matroids over small known ones; and it makes problems from a number. It prints what came of each. What it has to print was worked out without it. With names of
-//! descriptions as words it prints the lines of these alone.
+//! graphs; the calls of matroids over small known ones; and it makes problems from a number. It prints what came of each. What it has to
+//! print was worked out without it. With names of descriptions as words it prints the lines of these alone.
 #![tactic(auto)]
 
 mod calls;

@@ -87,15 +87,21 @@ fn add_fixed_lines(report: &mut Vec<u8>, certificate: &[u8]) -> Result<(), Alloc
     Ok(())
 }
 
+// Adds the first words of a header, up to the cost, as a line.
+fn add_words_to_cost(report: &mut Vec<u8>, header: &[u8]) -> Result<(), AllocError> {
+    for word in header.split(|byte| *byte == b' ').take(4) {
+        report.extend_from_slice(word)?;
+        report.push(b' ')?;
+    }
+    report.push(b'\n')?;
+    Ok(())
+}
+
 // Adds the header of an answer that weighted vertex sets prove, without the number of these sets, which is open.
 fn add_cost(report: &mut Vec<u8>, text: &[u8]) -> Result<(), AllocError> {
     for line in text.split(|byte| *byte == b'\n') {
         if line.starts_with(b"answer ") {
-            for word in line.split(|byte| *byte == b' ').take(4) {
-                report.extend_from_slice(word)?;
-                report.push(b' ')?;
-            }
-            report.push(b'\n')?;
+            add_words_to_cost(report, line)?;
         }
     }
     Ok(())

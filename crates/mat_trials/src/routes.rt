@@ -8,6 +8,7 @@ ghost use Rattle.mat_linked.specs.Gammoids.{IsGammoid};
 ghost use Rattle.mat_any.specs.Trees.{IsSound};
 ghost use Rattle.mat_any.specs.Views.{tree_of};
 
+use crate::calls::DESCRIPTION_LIMIT;
 use mat_any::AnyMatroid;
 use mat_desc::{Problem, read_problem};
 use mat_flow::linked;
@@ -29,9 +30,6 @@ pub(crate) const ROUTES: [&str; 10] = [
     "routes_8.txt",
     "routes_9.txt",
 ];
-
-/// The most bytes that a description may have.
-pub(crate) const LIMIT: usize = 4_194_304;
 
 /// The set of these members, each of which is below n.
 pub(crate) fn set_below(alloc: Global, n: u32, members: &[u32]) -> Result<ElemSet, AllocError>
@@ -111,7 +109,7 @@ fn told_of(alloc: Global, problem: &Problem, ranked: bool) -> Result<String, All
 /// What is told of the first matroid of a description. Of a gammoid: how many disjoint paths there are, how many vertices separate the
 /// targets from the sources, and, where that is asked for, its rank. Of another: whether all elements are independent.
 pub(crate) fn route_report(alloc: Global, text: &[u8], ranked: bool) -> Result<String, AllocError> {
-    if text.len() > LIMIT {
+    if text.len() > DESCRIPTION_LIMIT {
         return String::from_str(alloc, "too long");
     }
     match read_problem(alloc, text) {

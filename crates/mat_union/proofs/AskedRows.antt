@@ -6,13 +6,13 @@ use Rattle.mat_laws.specs.Exchanges.{row_of}
 use Rattle.mat_laws.specs.TightPaths.{Exchanges}
 use Rattle.mat_sets.proofs.Members.{is_member-get_or}
 use Rattle.mat_union.specs.Moves.{exchanges_with}
-use Rattle.mat_union.specs.MoveSearches.{element_asked, IsHeard, IsReaching}
+use Rattle.mat_union.specs.MoveSearches.{element_asked, IsAnswered, IsReaching}
 use Rattle.mat_union.specs.Unions.{part_at, test_at}
 use Rattle.mat_union.specs.declared.move_search.MoveSearch.{MoveSearch}
 use Rattle.mat_laws.proofs.Rows.{row_of-adds, row_of-trades}
 
 pub row_answers : (tests : List (List ℕ → Bool)) (parts : List (List ℕ)) (s : MoveSearch) (test : List ℕ → Bool) (part : List ℕ) (x q : ℕ) (row : Exchange)
-    → x ≡ element_asked s → q ≡ s.part → test_at tests q ≡ test → part ≡ part_at parts q → row ≡ row_of test part x → IsHeard (exchanges_with tests parts) s row
+    → x ≡ element_asked s → q ≡ s.part → test_at tests q ≡ test → part ≡ part_at parts q → row ≡ row_of test part x → IsAnswered (exchanges_with tests parts) s row
 row_answers tests parts s test part x q row xe qe te pe re = record {
   adds = ap (λ (r : Exchange). r.addable) is ∙ row_of-adds (test_at tests s.part) (part_at parts s.part) (element_asked s);
   trades = λ v. ap (λ (r : Exchange). is_member v r.with) is ∙ row_of-trades (test_at tests s.part) (part_at parts s.part) v (element_asked s);

@@ -1,4 +1,4 @@
--- The steps of a search that asks for exchanges: it begins, hears those of an element at one part after the other, and goes on to the next
+-- The steps of a search that asks for exchanges: it begins, is told those of an element at one part after the other, and goes on to the next
 -- element of the queue. Whatever holds of the start and goes on along the known arcs holds of what they lead to.
 use Rattle.std.proofs.Common.{◌≡◌, ◌≢◌, ℕ, suc, ◌+◌, ◌*◌, ◌-◌, ◌<◌, Bool, true, false, not, ◌||◌, ◌&&◌, ◌⊎◌, eqb, List, [], ◌∷◌, length, get_or, replicate, set, take, inl, inr, refl, sym, ap, ◌∙◌, subst, arith, length-append}
 use Rattle.std.proofs.Math.Nat.{suc-mul}
@@ -48,12 +48,12 @@ search_begins n m exchanges among unreached pushes queue table start l small u q
 
 -- ---- the exchanges at one more part
 
-pub heard_more : {n m : ℕ} {exchanges : ℕ → Exchanges} {among : List ℕ} {start heard head : ℕ} {queue pushes unreached : List ℕ} {table : List (List ℕ)}
-    → IsReachingTo n m exchanges among start heard head queue pushes unreached table → (more row : List ℕ)
+pub told_more : {n m : ℕ} {exchanges : ℕ → Exchanges} {among : List ℕ} {start parts_told head : ℕ} {queue pushes unreached : List ℕ} {table : List (List ℕ)}
+    → IsReachingTo n m exchanges among start parts_told head queue pushes unreached table → (more row : List ℕ)
     → ((v : ℕ) → is_member v more ≡ (is_member v pushes || is_member v row))
-    → ((v : ℕ) → is_member v row ≡ (exchanges heard).trades v (get_or queue head 0)) → (exchanges heard).adds (get_or queue head 0) ≡ false
-    → (next : ℕ) → next ≡ suc heard → IsReachingTo n m exchanges among start next head queue more unreached table
-heard_more {n} {m} {exchanges} {among} {start} {heard} {head} {queue} {pushes} {unreached} {table} s more row members trades adds next e = rw e (record {
+    → ((v : ℕ) → is_member v row ≡ (exchanges parts_told).trades v (get_or queue head 0)) → (exchanges parts_told).adds (get_or queue head 0) ≡ false
+    → (next : ℕ) → next ≡ suc parts_told → IsReachingTo n m exchanges among start next head queue more unreached table
+told_more {n} {m} {exchanges} {among} {start} {parts_told} {head} {queue} {pushes} {unreached} {table} s more row members trades adds next e = rw e (record {
   size = s.size;
   told_some = s.told_some;
   first = s.first;
@@ -66,8 +66,8 @@ heard_more {n} {m} {exchanges} {among} {start} {heard} {head} {queue} {pushes} {
   silent = s.silent;
   refused = s.refused;
   closed = s.closed;
-  pushed = λ v. members v ∙ join (is_member v pushes) (is_member v row) _ _ (s.pushed v) (trades v) ∙ sym (more_below heard (λ i. (exchanges i).trades v (get_or queue head 0)));
-  none = more_below heard (λ i. (exchanges i).adds (get_or queue head 0)) ∙ or_from _ _ adds s.none;
+  pushed = λ v. members v ∙ join (is_member v pushes) (is_member v row) _ _ (s.pushed v) (trades v) ∙ sym (more_below parts_told (λ i. (exchanges i).trades v (get_or queue head 0)));
+  none = more_below parts_told (λ i. (exchanges i).adds (get_or queue head 0)) ∙ or_from _ _ adds s.none;
   least = s.least;
   fuel = s.fuel;
 })

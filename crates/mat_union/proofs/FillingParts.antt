@@ -1,5 +1,5 @@
--- Parts that are filled up: the elements that are in none are new, and when all of them came, each element is in a part or dead; then the dead
--- elements are a cut.
+-- Parts that are filled up: the elements that are in none are new, and when all of them came, each element is in a part or spanned; then the
+-- spanned elements are a cut.
 use Rattle.std.proofs.Common.{◌≡◌, ◌∙◌, ℕ, Bool, true, false, not, ◌||◌, ◌&&◌, ltb, List, [], length, refl, sym, ap, inl, inr, arith}
 use Rattle.std.proofs.lemmas.Bool.{and_from, and_parts, both_ways, cases_Bool, false_from_ne_true, false≢true, lt-ltb, ltb-true, not-true, not_from_false, or_left, or_right}
 use Rattle.mat_sets.specs.Families.{family_union}
@@ -18,10 +18,10 @@ use Rattle.mat_union.specs.GrownParts.{AreDone, AreFresh, AreGrowing}
 use Rattle.mat_union.specs.PartListLaws.{parts_set, ranks_reached}
 use Rattle.mat_union.specs.Unions.{part_at, AreMatroids, AreParts}
 
--- with nothing dead
+-- with no element marked as spanned
 module _ {n : ℕ} {tests : List (List ℕ → Bool)} (laws : AreMatroids n tests) (parts : List (List ℕ)) (are : AreParts tests parts) where
-  pub start_growing : (dead alive : List ℕ) → dead ≡ [] → alive ≡ all_below n → AreGrowing n tests parts dead alive
-  start_growing dead alive e f = rw (e, f) (record {
+  pub start_growing : (spanned unspanned : List ℕ) → spanned ≡ [] → unspanned ≡ all_below n → AreGrowing n tests parts spanned unspanned
+  start_growing spanned unspanned e f = rw (e, f) (record {
     are = are;
     set = IsSet-nil n;
     spans = λ i l.
@@ -31,8 +31,8 @@ module _ {n : ℕ} {tests : List (List ℕ → Bool)} (laws : AreMatroids n test
     others = λ v. is_member-all_below v n ∙ sym (and_all (ltb v n));
   })
 
-pub start_done : (n : ℕ) (parts : List (List ℕ)) (dead : List ℕ) → dead ≡ [] → AreDone n (λ v. is_member v (family_union parts)) parts dead
-start_done n parts dead e = rw e (record {
+pub start_done : (n : ℕ) (parts : List (List ℕ)) (spanned : List ℕ) → spanned ≡ [] → AreDone n (λ v. is_member v (family_union parts)) parts spanned
+start_done n parts spanned e = rw e (record {
   placed = λ v h. h;
   refused = λ v h. absurd (false≢true h);
   all = λ v l h. or_left (is_member v (family_union parts)) (is_member v []) h;
@@ -42,27 +42,27 @@ module _ (n : ℕ) (old : List (List ℕ)) (elements : List ℕ) (left_out : ele
   comes : (v : ℕ) → is_member v elements ≡ (ltb v n && not (is_member v (family_union old)))
   comes v = ap (is_member v) left_out ∙ is_member-those_below v n (λ x. not (is_member x (family_union old)))
 
-  pub left_out_fresh : (parts : List (List ℕ)) (dead : List ℕ) → AreDone n (λ v. is_member v (family_union old)) parts dead → AreFresh n elements parts dead
-  left_out_fresh parts dead d = record {
+  pub left_out_fresh : (parts : List (List ℕ)) (spanned : List ℕ) → AreDone n (λ v. is_member v (family_union old)) parts spanned → AreFresh n elements parts spanned
+  left_out_fresh parts spanned d = record {
     below = λ x h. ltb-true x n (of x h).0;
     new = λ x h. false_from_ne_true _ (λ k. both_ways _ (not-true _ (of x h).1) (d.placed x k));
-    alive = λ x h. false_from_ne_true _ (λ k. both_ways _ (not-true _ (of x h).1) (d.refused x k));
+    unspanned = λ x h. false_from_ne_true _ (λ k. both_ways _ (not-true _ (of x h).1) (d.refused x k));
   }
     where
       of : (x : ℕ) → is_member x elements ≡ true → (ltb x n ≡ true) × (not (is_member x (family_union old)) ≡ true)
       of x h = and_parts (ltb x n) (not (is_member x (family_union old))) (sym (comes x) ∙ h)
 
-  pub filled : {tests : List (List ℕ → Bool)} {new : List (List ℕ)} {dead alive : List ℕ} → AreMatroids n tests → AreGrowing n tests new dead alive
-      → AreDone n (λ v. is_member v (family_union old) || is_member v elements) new dead → IsSubset (family_union old) (family_union new) → IsFilled n tests old new dead
-  filled {tests} {new} {dead} laws g d holds =
+  pub filled : {tests : List (List ℕ → Bool)} {new : List (List ℕ)} {spanned unspanned : List ℕ} → AreMatroids n tests → AreGrowing n tests new spanned unspanned
+      → AreDone n (λ v. is_member v (family_union old) || is_member v elements) new spanned → IsSubset (family_union old) (family_union new) → IsFilled n tests old new spanned
+  filled {tests} {new} {spanned} laws g d holds =
       let S = family_union new in
       let rs = IsRising-family_union new in
-      let split = length-minus-intersection S dead rs in
-      let ranks = ranks_reached tests new dead laws g.are g.set.rising g.spans in
-      let same : minus (all_below n) dead ≡ minus S dead = same_members _ _ (IsRising-minus (all_below n) dead (IsRising-all_below n)) (IsRising-minus S dead rs)
-      (λ v. is_member-minus v (all_below n) dead ∙ ap (λ b. b && not (is_member v dead)) (is_member-all_below v n)
-      ∙ outside (ltb v n) (is_member v S) (is_member v dead) (λ h. lt-ltb v n (below_member (parts_set laws g.are) h)) (λ h. d.all v (ltb-true v n h) (came v h))
-      ∙ sym (is_member-minus v S dead)) in
+      let split = length-minus-intersection S spanned rs in
+      let ranks = ranks_reached tests new spanned laws g.are g.set.rising g.spans in
+      let same : minus (all_below n) spanned ≡ minus S spanned = same_members _ _ (IsRising-minus (all_below n) spanned (IsRising-all_below n)) (IsRising-minus S spanned rs)
+      (λ v. is_member-minus v (all_below n) spanned ∙ ap (λ b. b && not (is_member v spanned)) (is_member-all_below v n)
+      ∙ outside (ltb v n) (is_member v S) (is_member v spanned) (λ h. lt-ltb v n (below_member (parts_set laws g.are) h)) (λ h. d.all v (ltb-true v n h) (came v h))
+      ∙ sym (is_member-minus v S spanned)) in
       let size = ap length same in
       record { are = g.are; holds = holds; set = g.set; count = omega arith }
     where

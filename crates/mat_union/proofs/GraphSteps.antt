@@ -1,11 +1,11 @@
 -- Steps of the loops that read rows and parts.
-use Rattle.std.proofs.Common.{◌≡◌, ℕ, ◌+◌, ◌<◌, ◌≤◌, Bool, true, false, ◌||◌, eqb, List, [], ◌∷◌, ◌++◌, length, get_or, take, Option, None, Some, refl, sym, ap, ◌∙◌, inl, inr, arith, length-append}
+use Rattle.std.proofs.Common.{◌≡◌, ℕ, ◌+◌, ◌<◌, ◌≤◌, Bool, true, false, ◌||◌, eqb, List, [], ◌∷◌, ◌++◌, length, get_or, take, refl, sym, ap, ◌∙◌, inl, inr, arith, length-append}
 use Rattle.std.proofs.Math.Numerals.{add-one}
-use Rattle.std.proofs.lemmas.Bool.{cases_eq, both_ways, false_from_ne_true, or_from}
+use Rattle.std.proofs.lemmas.Bool.{cases_eq, both_ways, false_from_ne_true}
 use Rattle.std.proofs.lemmas.List.{get_or_default, get_or_append_left}
 use Rattle.std.proofs.Math.Seq.{get_or-append_seam}
 use Rattle.mat_sets.specs.Families.{family_union}
-use Rattle.mat_sets.specs.Search.{some_below, IsNextFrom}
+use Rattle.mat_sets.specs.Search.{some_below}
 use Rattle.mat_sets.specs.Sets.{is_member, with_one}
 use Rattle.mat_sets.proofs.Families.{family_union-gives, family_union-from}
 use Rattle.mat_sets.proofs.Members.{is_member-with_one}
@@ -19,13 +19,6 @@ use Rattle.mat_union.specs.MoveGraphs.{IsPushTable}
 some_below-more : (i : ℕ) (test : ℕ → Bool) → some_below (i + 1) test ≡ (test i || some_below i test)
 unfolding some_below
 some_below-more i test = rw (add-one i) refl
-
-pub none_below : (test : ℕ → Bool) → some_below 0 test ≡ false
-unfolding some_below
-none_below test = refl
-
-pub fails_more : (i : ℕ) (test : ℕ → Bool) → some_below i test ≡ false → test i ≡ false → some_below (i + 1) test ≡ false
-fails_more i test h f = some_below-more i test ∙ or_from (test i) (some_below i test) f h
 
 pub adds_at : (rows : List (List Exchange)) (row : List Exchange) (x : Exchange) (i u : ℕ) (b : Bool) → row ≡ get_or rows i row → i < length rows → x ≡ row_in row u → x.addable ≡ b
     → (exchanges_of rows i).adds u ≡ b
@@ -103,7 +96,3 @@ table_more rows n table row t told =
 
 pub table_none : (rows : List (List Exchange)) → IsPushTable rows 0 []
 table_none rows = record { long = refl; arcs = λ u v l. absurd (omega arith) }
-
-pub next_same : (f g : ℕ → Bool) (from : ℕ) (found : Option ℕ) → ((v : ℕ) → f v ≡ g v) → IsNextFrom f from found → IsNextFrom g from found
-next_same f g from None same h = λ x l. sym (same x) ∙ h x l
-next_same f g from (Some v) same h = record { reaches = h.reaches; passes = sym (same v) ∙ h.passes; none_before = λ x a b. sym (same x) ∙ h.none_before x a b }

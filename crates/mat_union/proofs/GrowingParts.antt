@@ -60,32 +60,32 @@ module _ {n : ℕ} {p : List ℕ → Bool} (laws : IsMatroid n p) (I D : List �
       kept z h d true e = absurd (both_ways _ y_out (ap (λ v. is_member v D) (sym (eqb-true z y e)) ∙ d))
       kept z h d false e = rw (h, e) refl
 
-module _ {n : ℕ} {tests : List (List ℕ → Bool)} {parts : List (List ℕ)} {dead alive : List ℕ} (laws : AreMatroids n tests) (g : AreGrowing n tests parts dead alive) where
+module _ {n : ℕ} {tests : List (List ℕ → Bool)} {parts : List (List ℕ)} {spanned unspanned : List ℕ} (laws : AreMatroids n tests) (g : AreGrowing n tests parts spanned unspanned) where
   abbrev ex : ℕ → Exchanges
   ex = exchanges_with tests parts
 
-  alive_or_dead : (v : ℕ) → v < n → is_member v dead ≡ false → is_member v alive ≡ true
-  alive_or_dead v l o = g.others v ∙ and_from (ltb v n) (not (is_member v dead)) (lt-ltb v n l) (not_from_false (is_member v dead) o)
+  unspanned_or_spanned : (v : ℕ) → v < n → is_member v spanned ≡ false → is_member v unspanned ≡ true
+  unspanned_or_spanned v l o = g.others v ∙ and_from (ltb v n) (not (is_member v spanned)) (lt-ltb v n l) (not_from_false (is_member v spanned) o)
 
-  alive_below : (v : ℕ) → is_member v alive ≡ true → is_member v dead ≡ false
-  alive_below v h = not-true (is_member v dead) (and_parts (ltb v n) (not (is_member v dead)) (sym (g.others v) ∙ h)).1
+  unspanned_below : (v : ℕ) → is_member v unspanned ≡ true → is_member v spanned ≡ false
+  unspanned_below v h = not-true (is_member v spanned) (and_parts (ltb v n) (not (is_member v spanned)) (sym (g.others v) ∙ h)).1
 
   -- ---- after moves of other elements
 
-  module _ {x : ℕ} {new : List (List ℕ)} (p : ArePlaced tests parts alive x new) (lives : is_member x alive ≡ true) where
-    -- a dead element is not among those that moved
-    dead_stays : (z : ℕ) → is_member z dead ≡ true → (eqb z x || is_member z alive) ≡ false
-    dead_stays z d = false_from_ne_true _ (λ h. elim (or_cases (eqb z x) (is_member z alive) h) [
-      | inl e ↦ both_ways _ (alive_below x lives) (ap (λ v. is_member v dead) (sym (eqb-true z x e)) ∙ d)
-      | inr k ↦ both_ways _ (alive_below z k) d
+  module _ {x : ℕ} {new : List (List ℕ)} (p : ArePlaced tests parts unspanned x new) (is_unspanned : is_member x unspanned ≡ true) where
+    -- a spanned element is not among those that moved
+    spanned_stays : (z : ℕ) → is_member z spanned ≡ true → (eqb z x || is_member z unspanned) ≡ false
+    spanned_stays z d = false_from_ne_true _ (λ h. elim (or_cases (eqb z x) (is_member z unspanned) h) [
+      | inl e ↦ both_ways _ (unspanned_below x is_unspanned) (ap (λ v. is_member v spanned) (sym (eqb-true z x e)) ∙ d)
+      | inr k ↦ both_ways _ (unspanned_below z k) d
     ])
 
-    same_in_dead : (q : ℕ) → q < length new → intersection (part_at new q) dead ≡ intersection (part_at parts q) dead
-    same_in_dead q l =
+    same_in_spanned : (q : ℕ) → q < length new → intersection (part_at new q) spanned ≡ intersection (part_at parts q) spanned
+    same_in_spanned q l =
         let lo : q < length parts = (let a = p.are.one_each in let b = g.are.one_each in omega arith) in
-        same_members _ _ (IsRising-intersection _ dead (part_set laws p.are q l).rising) (IsRising-intersection _ dead (part_set laws g.are q lo).rising) (λ z.
-        is_member-intersection z (part_at new q) dead ∙ within (is_member z (part_at new q)) (is_member z (part_at parts q)) (is_member z dead) (λ d. p.others q z l (dead_stays z d))
-        ∙ sym (is_member-intersection z (part_at parts q) dead))
+        same_members _ _ (IsRising-intersection _ spanned (part_set laws p.are q l).rising) (IsRising-intersection _ spanned (part_set laws g.are q lo).rising) (λ z.
+        is_member-intersection z (part_at new q) spanned ∙ within (is_member z (part_at new q)) (is_member z (part_at parts q)) (is_member z spanned) (λ d. p.others q z l (spanned_stays z d))
+        ∙ sym (is_member-intersection z (part_at parts q) spanned))
       where
         within : (a b d : Bool) → (d ≡ true → a ≡ b) → (a && d) ≡ (b && d)
         within a b true f = ap (λ c. c && true) (f refl)
@@ -94,51 +94,51 @@ module _ {n : ℕ} {tests : List (List ℕ → Bool)} {parts : List (List ℕ)} 
         within false true false f = refl
         within false false false f = refl
 
-    pub placed_grow : AreGrowing n tests new dead alive
+    pub placed_grow : AreGrowing n tests new spanned unspanned
     placed_grow = record {
       are = p.are;
       set = g.set;
-      spans = λ i l. g.spans i (let a = p.are.one_each in let b = g.are.one_each in omega arith) ∙ ap length (sym (same_in_dead i l));
+      spans = λ i l. g.spans i (let a = p.are.one_each in let b = g.are.one_each in omega arith) ∙ ap length (sym (same_in_spanned i l));
       others = g.others;
     }
 
   -- ---- after a stuck search
 
-  module _ {start : ℕ} {s : MoveSearch} (reaching : IsReaching n (length parts) (exchanges_with tests parts) alive start s) (end : length s.queue.items ≤ s.head) where
+  module _ {start : ℕ} {s : MoveSearch} (reaching : IsReaching n (length parts) (exchanges_with tests parts) unspanned start s) (end : length s.queue.items ≤ s.head) where
     all_told : take s.head s.queue.items ≡ s.queue.items
     all_told = take_all s.head s.queue.items end
 
     is_told : (u : ℕ) → is_member u s.queue.items ≡ true → is_member u (take s.head s.queue.items) ≡ true
     is_told u h = ap (is_member u) all_told ∙ h
 
-    module _ (dead' alive' : List ℕ) (rises : IsRising dead') (dead_is : (v : ℕ) → is_member v dead' ≡ (is_member v dead || is_member v s.queue.items))
-        (below' : IsSet n dead') (alive_is : (v : ℕ) → is_member v alive' ≡ (is_member v alive && not (is_member v s.queue.items))) where
-      cases_dead : (v : ℕ) → is_member v dead' ≡ true → (is_member v dead ≡ true) ⊎ (is_member v s.queue.items ≡ true)
-      cases_dead v h = or_cases (is_member v dead) (is_member v s.queue.items) (sym (dead_is v) ∙ h)
+    module _ (spanned' unspanned' : List ℕ) (rises : IsRising spanned') (spanned_is : (v : ℕ) → is_member v spanned' ≡ (is_member v spanned || is_member v s.queue.items))
+        (below' : IsSet n spanned') (unspanned_is : (v : ℕ) → is_member v unspanned' ≡ (is_member v unspanned && not (is_member v s.queue.items))) where
+      cases_spanned : (v : ℕ) → is_member v spanned' ≡ true → (is_member v spanned ≡ true) ⊎ (is_member v s.queue.items ≡ true)
+      cases_spanned v h = or_cases (is_member v spanned) (is_member v s.queue.items) (sym (spanned_is v) ∙ h)
 
-      not_dead : (v : ℕ) → is_member v dead' ≡ false → (is_member v dead ≡ false) × (is_member v s.queue.items ≡ false)
-      not_dead v h = or_parts (is_member v dead) (is_member v s.queue.items) (sym (dead_is v) ∙ h)
+      not_spanned : (v : ℕ) → is_member v spanned' ≡ false → (is_member v spanned ≡ false) × (is_member v s.queue.items ≡ false)
+      not_spanned v h = or_parts (is_member v spanned) (is_member v s.queue.items) (sym (spanned_is v) ∙ h)
 
-      no_addition : (i u : ℕ) → i < length parts → is_member u (part_at parts i) ≡ false → is_member u dead' ≡ true → test_at tests i (with_one (part_at parts i) u) ≡ false
-      no_addition i u l out h = elim (cases_dead u h) [
-        | inl d ↦ spanned_adds (law_at laws g.are i l) (part_at parts i) dead g.set.rising (g.spans i l) (part_set laws g.are i l).rising u d out
+      no_addition : (i u : ℕ) → i < length parts → is_member u (part_at parts i) ≡ false → is_member u spanned' ≡ true → test_at tests i (with_one (part_at parts i) u) ≡ false
+      no_addition i u l out h = elim (cases_spanned u h) [
+        | inl d ↦ spanned_adds (law_at laws g.are i l) (part_at parts i) spanned g.set.rising (g.spans i l) (part_set laws g.are i l).rising u d out
         | inr r ↦ false_from_ne_true _ (λ ok. both_ways _ (reaching.so_far.refused u (is_told u r))
             (some_below_from (length parts) i (λ q. (ex q).adds u) l (and_from _ _ (not_from_false _ out) ok)))
       ]
 
-      no_exchange : (i u y : ℕ) → i < length parts → is_member u (part_at parts i) ≡ false → is_member u dead' ≡ true → is_member y (part_at parts i) ≡ true → is_member y dead' ≡ false
+      no_exchange : (i u y : ℕ) → i < length parts → is_member u (part_at parts i) ≡ false → is_member u spanned' ≡ true → is_member y (part_at parts i) ≡ true → is_member y spanned' ≡ false
           → test_at tests i (with_one (without_one (part_at parts i) y) u) ≡ false
-      no_exchange i u y l out h y_in y_out = elim (cases_dead u h) [
-        | inl d ↦ spanned_trades (law_at laws g.are i l) (part_at parts i) dead g.set.rising (g.spans i l) (part_set laws g.are i l).rising u y d out (not_dead y y_out).0
+      no_exchange i u y l out h y_in y_out = elim (cases_spanned u h) [
+        | inl d ↦ spanned_trades (law_at laws g.are i l) (part_at parts i) spanned g.set.rising (g.spans i l) (part_set laws g.are i l).rising u y d out (not_spanned y y_out).0
         | inr r ↦ false_from_ne_true _ (λ ok.
             let push : can_push (length parts) ex u y ≡ true = some_below_from (length parts) i (λ q. (ex q).trades y u) l (and_from _ _ y_in (and_from _ _ (not_from_false _ out) ok)) in
-            both_ways _ (not_dead y y_out).1 (reaching.so_far.left y (alive_or_dead y (below_member (part_set laws g.are i l) y_in) (not_dead y y_out).0) (reaching.so_far.closed u y (is_told u r) push)))
+            both_ways _ (not_spanned y y_out).1 (reaching.so_far.left y (unspanned_or_spanned y (below_member (part_set laws g.are i l) y_in) (not_spanned y y_out).0) (reaching.so_far.closed u y (is_told u r) push)))
       ]
 
-      pub death_grows : AreGrowing n tests parts dead' alive'
-      death_grows = record {
+      pub spanned_grows : AreGrowing n tests parts spanned' unspanned'
+      spanned_grows = record {
         are = g.are;
         set = below';
-        spans = λ i l. rank-in_reach (law_at laws g.are i l) (part_at parts i) dead' (g.are.passes i l) rises (λ x o h. no_addition i x l o h) (λ x y o h y_in y_out. no_exchange i x y l o h y_in y_out);
-        others = λ v. alive_is v ∙ ap (λ b. b && not (is_member v s.queue.items)) (g.others v) ∙ and_neither (ltb v n) (is_member v dead) (is_member v s.queue.items) ∙ ap (λ b. ltb v n && not b) (sym (dead_is v));
+        spans = λ i l. rank-in_reach (law_at laws g.are i l) (part_at parts i) spanned' (g.are.passes i l) rises (λ x o h. no_addition i x l o h) (λ x y o h y_in y_out. no_exchange i x y l o h y_in y_out);
+        others = λ v. unspanned_is v ∙ ap (λ b. b && not (is_member v s.queue.items)) (g.others v) ∙ and_neither (ltb v n) (is_member v spanned) (is_member v s.queue.items) ∙ ap (λ b. ltb v n && not b) (sym (spanned_is v));
       }

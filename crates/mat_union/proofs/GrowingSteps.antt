@@ -1,4 +1,4 @@
--- One more element is done: it came into the parts, or it and all that it reaches are dead.
+-- One more element is done: it came into the parts, or it and all that it reaches are spanned.
 use Rattle.std.proofs.Common.{◌≡◌, ℕ, ◌≤◌, Bool, true, not, ◌||◌, ◌&&◌, eqb, List, length, take, inl, inr, refl, sym, ap, ◌∙◌}
 use Rattle.std.proofs.lemmas.Bool.{both_ways, cases_Bool, eq-eqb, eqb-true, or_cases, or_left, or_right}
 use Rattle.mat_sets.specs.Families.{family_union}
@@ -13,37 +13,37 @@ use Rattle.mat_union.specs.Moves.{exchanges_with}
 use Rattle.mat_union.specs.MoveSearches.{IsReaching}
 use Rattle.mat_union.specs.Placings.{ArePlaced}
 use Rattle.mat_union.specs.UnionLaws.{trade_gives}
-use Rattle.mat_union.proofs.GrowingParts.{death_grows}
+use Rattle.mat_union.proofs.GrowingParts.{spanned_grows}
 use Rattle.mat_union.specs.declared.move_search.MoveSearch.{MoveSearch}
 
 -- ---- it came into the parts
 
-module _ {tests : List (List ℕ → Bool)} {parts : List (List ℕ)} {alive : List ℕ} {start : ℕ} {new : List (List ℕ)} (p : ArePlaced tests parts alive start new) where
+module _ {tests : List (List ℕ → Bool)} {parts : List (List ℕ)} {unspanned : List ℕ} {start : ℕ} {new : List (List ℕ)} (p : ArePlaced tests parts unspanned start new) where
   pub in_new : (v : ℕ) → is_member v (family_union new) ≡ (eqb v start || is_member v (family_union parts))
   in_new v = ap (is_member v) p.together ∙ is_member-with_one v start (family_union parts)
 
   pub placed_hold : IsSubset (family_union parts) (family_union new)
   placed_hold = record { inside = λ v h. in_new v ∙ or_right (eqb v start) (is_member v (family_union parts)) h }
 
-  pub placed_done : {n : ℕ} {dead : List ℕ} (done : ℕ → Bool) → AreDone n done parts dead → AreDone n (λ v. done v || eqb v start) new dead
-  placed_done {n} {dead} done d = record {
+  pub placed_done : {n : ℕ} {spanned : List ℕ} (done : ℕ → Bool) → AreDone n done parts spanned → AreDone n (λ v. done v || eqb v start) new spanned
+  placed_done {n} {spanned} done d = record {
     placed = λ v h. elim (or_cases (eqb v start) (is_member v (family_union parts)) (sym (in_new v) ∙ h)) [
       | inl e ↦ or_right (done v) (eqb v start) e
       | inr k ↦ or_left (done v) (eqb v start) (d.placed v k)
     ];
     refused = λ v h. or_left (done v) (eqb v start) (d.refused v h);
     all = λ v l h. elim (or_cases (done v) (eqb v start) h) [
-      | inl k ↦ elim (or_cases (is_member v (family_union parts)) (is_member v dead) (d.all v l k)) [
-        | inl a ↦ or_left (is_member v (family_union new)) (is_member v dead) (placed_hold.inside v a)
-        | inr b ↦ or_right (is_member v (family_union new)) (is_member v dead) b
+      | inl k ↦ elim (or_cases (is_member v (family_union parts)) (is_member v spanned) (d.all v l k)) [
+        | inl a ↦ or_left (is_member v (family_union new)) (is_member v spanned) (placed_hold.inside v a)
+        | inr b ↦ or_right (is_member v (family_union new)) (is_member v spanned) b
       ]
-      | inr e ↦ or_left (is_member v (family_union new)) (is_member v dead) (in_new v ∙ or_left (eqb v start) (is_member v (family_union parts)) e)
+      | inr e ↦ or_left (is_member v (family_union new)) (is_member v spanned) (in_new v ∙ or_left (eqb v start) (is_member v (family_union parts)) e)
     ];
   }
 
-module _ {n : ℕ} {tests : List (List ℕ → Bool)} {parts : List (List ℕ)} {dead alive : List ℕ} {start : ℕ} {s : MoveSearch} (laws : AreMatroids n tests) (g : AreGrowing n tests parts dead alive)
-    (reaching : IsReaching n (length parts) (exchanges_with tests parts) alive start s) where
-  -- ---- it and all that it reaches are dead
+module _ {n : ℕ} {tests : List (List ℕ → Bool)} {parts : List (List ℕ)} {spanned unspanned : List ℕ} {start : ℕ} {s : MoveSearch} (laws : AreMatroids n tests) (g : AreGrowing n tests parts spanned unspanned)
+    (reaching : IsReaching n (length parts) (exchanges_with tests parts) unspanned start s) where
+  -- ---- it and all that it reaches are spanned
 
   -- what is reached is the start, or in a part
   reached_placed : (v : ℕ) → is_member v s.queue.items ≡ true → (eqb v start || is_member v (family_union parts)) ≡ true
@@ -54,27 +54,27 @@ module _ {n : ℕ} {tests : List (List ℕ → Bool)} {parts : List (List ℕ)} 
         | inr o ↦ absurd (both_ways _ (reaching.so_far.silent u v o) a)
       ]))
 
-  module _ (end : length s.queue.items ≤ s.head) (dead' alive' elements : List ℕ) (are : elements ≡ s.queue.items) (rises : IsRising dead')
-      (dead_is : (v : ℕ) → is_member v dead' ≡ (is_member v dead || is_member v elements)) (alive_is : (v : ℕ) → is_member v alive' ≡ (is_member v alive && not (is_member v elements))) where
-    dead_told : (v : ℕ) → is_member v dead' ≡ (is_member v dead || is_member v s.queue.items)
-    dead_told v = dead_is v ∙ ap (λ l. is_member v dead || is_member v l) are
+  module _ (end : length s.queue.items ≤ s.head) (spanned' unspanned' elements : List ℕ) (are : elements ≡ s.queue.items) (rises : IsRising spanned')
+      (spanned_is : (v : ℕ) → is_member v spanned' ≡ (is_member v spanned || is_member v elements)) (unspanned_is : (v : ℕ) → is_member v unspanned' ≡ (is_member v unspanned && not (is_member v elements))) where
+    spanned_told : (v : ℕ) → is_member v spanned' ≡ (is_member v spanned || is_member v s.queue.items)
+    spanned_told v = spanned_is v ∙ ap (λ l. is_member v spanned || is_member v l) are
 
-    dead_set : IsSet n dead'
-    dead_set = record {
+    spanned_set : IsSet n spanned'
+    spanned_set = record {
       rising = rises;
-      below = AllBelow-from_members n dead' (λ v h. elim (or_cases (is_member v dead) (is_member v s.queue.items) (sym (dead_told v) ∙ h)) [
+      below = AllBelow-from_members n spanned' (λ v h. elim (or_cases (is_member v spanned) (is_member v s.queue.items) (sym (spanned_told v) ∙ h)) [
         | inl a ↦ below_member g.set a
         | inr b ↦ reaching.so_far.below v b
       ]);
     }
 
-    pub death_grown : AreGrowing n tests parts dead' alive'
-    death_grown = death_grows laws g reaching end dead' alive' rises dead_told dead_set (λ v. alive_is v ∙ ap (λ l. is_member v alive && not (is_member v l)) are)
+    pub spanned_grown : AreGrowing n tests parts spanned' unspanned'
+    spanned_grown = spanned_grows laws g reaching end spanned' unspanned' rises spanned_told spanned_set (λ v. unspanned_is v ∙ ap (λ l. is_member v unspanned && not (is_member v l)) are)
 
-    pub death_done : (done : ℕ → Bool) → AreDone n done parts dead → AreDone n (λ v. done v || eqb v start) parts dead'
-    death_done done d = record {
+    pub spanned_done : (done : ℕ → Bool) → AreDone n done parts spanned → AreDone n (λ v. done v || eqb v start) parts spanned'
+    spanned_done done d = record {
       placed = λ v h. or_left (done v) (eqb v start) (d.placed v h);
-      refused = λ v h. elim (or_cases (is_member v dead) (is_member v s.queue.items) (sym (dead_told v) ∙ h)) [
+      refused = λ v h. elim (or_cases (is_member v spanned) (is_member v s.queue.items) (sym (spanned_told v) ∙ h)) [
         | inl a ↦ or_left (done v) (eqb v start) (d.refused v a)
         | inr b ↦ elim (or_cases (eqb v start) (is_member v (family_union parts)) (reached_placed v b)) [
           | inl e ↦ or_right (done v) (eqb v start) e
@@ -82,11 +82,11 @@ module _ {n : ℕ} {tests : List (List ℕ → Bool)} {parts : List (List ℕ)} 
         ]
       ];
       all = λ v l h. elim (or_cases (done v) (eqb v start) h) [
-        | inl k ↦ elim (or_cases (is_member v (family_union parts)) (is_member v dead) (d.all v l k)) [
-          | inl a ↦ or_left (is_member v (family_union parts)) (is_member v dead') a
-          | inr b ↦ or_right (is_member v (family_union parts)) (is_member v dead') (dead_told v ∙ or_left (is_member v dead) (is_member v s.queue.items) b)
+        | inl k ↦ elim (or_cases (is_member v (family_union parts)) (is_member v spanned) (d.all v l k)) [
+          | inl a ↦ or_left (is_member v (family_union parts)) (is_member v spanned') a
+          | inr b ↦ or_right (is_member v (family_union parts)) (is_member v spanned') (spanned_told v ∙ or_left (is_member v spanned) (is_member v s.queue.items) b)
         ]
-        | inr e ↦ or_right (is_member v (family_union parts)) (is_member v dead') (dead_told v
-            ∙ or_right (is_member v dead) (is_member v s.queue.items) (ap (λ z. is_member z s.queue.items) (eqb-true v start e) ∙ reaching.so_far.first))
+        | inr e ↦ or_right (is_member v (family_union parts)) (is_member v spanned') (spanned_told v
+            ∙ or_right (is_member v spanned) (is_member v s.queue.items) (ap (λ z. is_member z s.queue.items) (eqb-true v start e) ∙ reaching.so_far.first))
       ];
     }

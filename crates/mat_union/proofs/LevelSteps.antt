@@ -1,4 +1,4 @@
--- One level more: its elements come into the parts or are dead, and then the dead elements are a cut of the level. The cuts of earlier levels
+-- One level more: its elements come into the parts or are spanned, and then the spanned elements are a cut of the level. The cuts of earlier levels
 -- stay right, since the parts lose no element and no parts hold more than a cut allows.
 use Rattle.std.proofs.Common.{◌≡◌, ℕ, suc, ◌<◌, Bool, true, false, not, ◌||◌, ◌&&◌, ltb, List, [], ◌∷◌, ◌++◌, length, Option, None, Some, inl, inr, refl, sym, ap, ◌∙◌, subst, arith, length-append}
 use Rattle.std.proofs.Math.Seq.{get_or-append_seam}
@@ -66,8 +66,8 @@ module _ (k : ℕ) (w : List Weight) (last : Option Weight) (t : Weight) (next :
 
 -- ---- done is what came
 
-pub done_same : {n : ℕ} {tests : List (List ℕ → Bool)} {parts : List (List ℕ)} {dead : List ℕ} (done other : ℕ → Bool) → AreMatroids n tests → AreParts tests parts → IsSet n dead
-    → ((v : ℕ) → v < n → done v ≡ other v) → AreDone n done parts dead → AreDone n other parts dead
+pub done_same : {n : ℕ} {tests : List (List ℕ → Bool)} {parts : List (List ℕ)} {spanned : List ℕ} (done other : ℕ → Bool) → AreMatroids n tests → AreParts tests parts → IsSet n spanned
+    → ((v : ℕ) → v < n → done v ≡ other v) → AreDone n done parts spanned → AreDone n other parts spanned
 done_same done other laws are s same d = record {
   placed = λ v h. sym (same v (below_member (parts_set laws are) h)) ∙ d.placed v h;
   refused = λ v h. sym (same v (below_member s h)) ∙ d.refused v h;
@@ -76,8 +76,8 @@ done_same done other laws are s same d = record {
 
 -- ---- the cut of a level
 
-module _ {n : ℕ} {tests : List (List ℕ → Bool)} {parts : List (List ℕ)} {dead alive : List ℕ} (laws : AreMatroids n tests) (g : AreGrowing n tests parts dead alive) (w : List Weight) (t : Weight)
-    (d : AreDone n (came w (Some t)) parts dead) where
+module _ {n : ℕ} {tests : List (List ℕ → Bool)} {parts : List (List ℕ)} {spanned unspanned : List ℕ} (laws : AreMatroids n tests) (g : AreGrowing n tests parts spanned unspanned) (w : List Weight) (t : Weight)
+    (d : AreDone n (came w (Some t)) parts spanned) where
   abbrev F : List ℕ
   F = heavy n w t
 
@@ -90,16 +90,16 @@ module _ {n : ℕ} {tests : List (List ℕ → Bool)} {parts : List (List ℕ)} 
   placed_in : IsSubset (family_union parts) F
   placed_in = record { inside = λ v h. in_F v ∙ and_from (ltb v n) (came w (Some t) v) (lt-ltb v n (below_member (parts_set laws g.are) h)) (d.placed v h) }
 
-  pub cut_of_level : IsLevelCut n tests w parts t dead
+  pub cut_of_level : IsLevelCut n tests w parts t spanned
   cut_of_level =
       let S = family_union parts in
       let rs = IsRising-family_union parts in
       let whole = ap length (intersection-subset S F rs placed_in) in
-      let split = length-minus-intersection S dead rs in
-      let ranks = ranks_reached tests parts dead laws g.are g.set.rising g.spans in
-      let same : minus F dead ≡ minus S dead = same_members _ _ (IsRising-minus F dead rf) (IsRising-minus S dead rs) (λ v. is_member-minus v F dead
-      ∙ outside (is_member v F) (is_member v S) (is_member v dead) (placed_in.inside v) (λ h. let b = and_parts (ltb v n) (came w (Some t) v) (sym (in_F v) ∙ h) in d.all v (ltb-true v n b.0) b.1)
-      ∙ sym (is_member-minus v S dead)) in
+      let split = length-minus-intersection S spanned rs in
+      let ranks = ranks_reached tests parts spanned laws g.are g.set.rising g.spans in
+      let same : minus F spanned ≡ minus S spanned = same_members _ _ (IsRising-minus F spanned rf) (IsRising-minus S spanned rs) (λ v. is_member-minus v F spanned
+      ∙ outside (is_member v F) (is_member v S) (is_member v spanned) (placed_in.inside v) (λ h. let b = and_parts (ltb v n) (came w (Some t) v) (sym (in_F v) ∙ h) in d.all v (ltb-true v n b.0) b.1)
+      ∙ sym (is_member-minus v S spanned)) in
       let size = ap length same in
       record {
         rises = g.set.rising;
@@ -149,8 +149,8 @@ levels_none n tests w parts levels e = rw e (record {
 
 module _ {n : ℕ} {tests : List (List ℕ → Bool)} {w : List Weight} {last : Option Weight} {parts parts' : List (List ℕ)} {levels : List Level} (laws : AreMatroids n tests) (long : length w ≡ n)
     (so : AreLevelsSo n tests w last parts levels) where
-  module _ {t : Weight} (next : IsNextWeight (length w) w last (Some t)) (dead alive : List ℕ) (g : AreGrowing n tests parts' dead alive) (d : AreDone n (came w (Some t)) parts' dead)
-      (holds : IsSubset (family_union parts) (family_union parts')) (v : Level) (at : v.at ≡ t) (cut : v.cut ≡ dead) where
+  module _ {t : Weight} (next : IsNextWeight (length w) w last (Some t)) (spanned unspanned : List ℕ) (g : AreGrowing n tests parts' spanned unspanned) (d : AreDone n (came w (Some t)) parts' spanned)
+      (holds : IsSubset (family_union parts) (family_union parts')) (v : Level) (at : v.at ≡ t) (cut : v.cut ≡ spanned) where
     abbrev more : List Level
     more = levels ++ v ∷ []
 
@@ -188,7 +188,7 @@ module _ {n : ℕ} {tests : List (List ℕ → Bool)} {w : List Weight} {last : 
         | inr a ↦ (let j = so.all x l a in (j.0, (let s = size in let k = j.1 in omega arith), ap (λ b. b.at) (before j.0 j.1) ∙ j.2))
       ];
       cuts = λ j l. by_place (λ b. IsLevelCut n tests w parts' b.at b.cut) j l (λ less. level_stays laws w (level_at levels j).at (level_at levels j).cut g.are holds (so.cuts j less))
-          (λ e. two v.at t v.cut dead at cut (cut_of_level laws g w t d));
+          (λ e. two v.at t v.cut spanned at cut (cut_of_level laws g w t d));
     }
       where
         two : (a b : Weight) (x y : List ℕ) → a ≡ b → x ≡ y → IsLevelCut n tests w parts' b y → IsLevelCut n tests w parts' a x
@@ -205,12 +205,12 @@ levels_end n tests w last parts levels so are none = record {
 
 -- ---- the elements of the next level are new
 
-pub level_fresh : (n : ℕ) (w : List Weight) (last : Option Weight) (t : Weight) (parts : List (List ℕ)) (dead : List ℕ) → length w ≡ n → is_left last t ≡ true → AreDone n (came w last) parts dead
-    → (elements : List ℕ) → elements ≡ those_below (length w) (λ x. is_same (weight_at w x) t) → AreFresh n elements parts dead
-level_fresh n w last t parts dead long left d elements e = record {
+pub level_fresh : (n : ℕ) (w : List Weight) (last : Option Weight) (t : Weight) (parts : List (List ℕ)) (spanned : List ℕ) → length w ≡ n → is_left last t ≡ true → AreDone n (came w last) parts spanned
+    → (elements : List ℕ) → elements ≡ those_below (length w) (λ x. is_same (weight_at w x) t) → AreFresh n elements parts spanned
+level_fresh n w last t parts spanned long left d elements e = record {
   below = λ x h. (let b = (of x h).0 in omega arith);
   new = λ x h. false_from_ne_true _ (λ k. both_ways _ (not_came x h) (d.placed x k));
-  alive = λ x h. false_from_ne_true _ (λ k. both_ways _ (not_came x h) (d.refused x k));
+  unspanned = λ x h. false_from_ne_true _ (λ k. both_ways _ (not_came x h) (d.refused x k));
 }
   where
     of : (x : ℕ) → is_member x elements ≡ true → (x < length w) × (weight_at w x ≡ t)
@@ -222,9 +222,9 @@ level_fresh n w last t parts dead long left d elements e = record {
     not_came x h = ap not (ap (is_left last) (of x h).1 ∙ left)
 
 -- what is done after the elements of the next level came is what came then
-pub level_done : {n : ℕ} {tests : List (List ℕ → Bool)} (w : List Weight) (last : Option Weight) (t : Weight) {parts : List (List ℕ)} {dead alive : List ℕ} → AreMatroids n tests → AreGrowing n tests parts dead alive
+pub level_done : {n : ℕ} {tests : List (List ℕ → Bool)} (w : List Weight) (last : Option Weight) (t : Weight) {parts : List (List ℕ)} {spanned unspanned : List ℕ} → AreMatroids n tests → AreGrowing n tests parts spanned unspanned
     → length w ≡ n → IsNextWeight (length w) w last (Some t) → (elements : List ℕ) → elements ≡ those_below (length w) (λ x. is_same (weight_at w x) t)
-    → AreDone n (λ v. came w last v || is_member v elements) parts dead → AreDone n (came w (Some t)) parts dead
+    → AreDone n (λ v. came w last v || is_member v elements) parts spanned → AreDone n (came w (Some t)) parts spanned
 level_done {n} {tests} w last t laws g long next elements e d = done_same (λ v. came w last v || is_member v elements) (came w (Some t)) laws g.are g.set
     (λ v l. ap (λ b. came w last v || b) (ap (is_member v) e ∙ is_member-those_below v (length w) (λ x. is_same (weight_at w x) t) ∙ ap (λ b. b && is_same (weight_at w v) t) (lt-ltb v (length w) (omega arith)))
     ∙ comes (length w) w last t next v (omega arith)) d

@@ -16,7 +16,7 @@ pub mod SoundMatroids
 pub mod Dominated
 pub mod LevelsShow
 pub mod LevelSteps
-pub mod Killing
+pub mod SpannedElements
 pub mod GrowthLoops
 pub mod NextWeights
 pub mod EmptyParts

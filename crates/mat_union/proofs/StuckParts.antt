@@ -18,16 +18,16 @@ use Rattle.mat_union.specs.MoveSearches.{IsReaching}
 use Rattle.mat_union.specs.PartListLaws.{law_at, ranks_bound, ranks_reached, union_only}
 use Rattle.mat_union.specs.Unions.{part_at, union_test, AreMatroids, AreParts}
 use Rattle.mat_union.specs.declared.move_search.MoveSearch.{MoveSearch}
-use Rattle.mat_union.proofs.GrowingSteps.{death_grown}
+use Rattle.mat_union.proofs.GrowingSteps.{spanned_grown}
 
 none_in : (P : List ℕ) → intersection P [] ≡ []
 unfolding intersection
 none_in P = filter_none (λ x. false) P (λ y. refl)
 
 module _ {n : ℕ} {tests : List (List ℕ → Bool)} {parts : List (List ℕ)} (laws : AreMatroids n tests) (are : AreParts tests parts) where
-  -- nothing is dead
-  pub all_alive : AreGrowing n tests parts [] (all_below n)
-  all_alive = record {
+  -- no element is marked as spanned
+  pub all_unspanned : AreGrowing n tests parts [] (all_below n)
+  all_unspanned = record {
     are = are;
     set = IsSet-nil n;
     spans = λ i l. rank-maximal (law_at laws are i l) [] [] IsRising-nil (record { passes = (law_at laws are i l).empty; inside = record { inside = λ x h. h }; full = λ x h o. absurd (false≢true h) })
@@ -35,22 +35,22 @@ module _ {n : ℕ} {tests : List (List ℕ → Bool)} {parts : List (List ℕ)} 
     others = λ v. is_member-all_below v n ∙ sym (and_all (ltb v n));
   }
 
-  -- a dead element cannot be added
-  pub dead_refused : (dead alive : List ℕ) → AreGrowing n tests parts dead alive → (x : ℕ) → is_member x dead ≡ true → is_member x (family_union parts) ≡ false
+  -- a spanned element cannot be added
+  pub spanned_refused : (spanned unspanned : List ℕ) → AreGrowing n tests parts spanned unspanned → (x : ℕ) → is_member x spanned ≡ true → is_member x (family_union parts) ≡ false
       → union_test n tests (with_one (family_union parts) x) ≡ false
-  dead_refused dead alive g x x_in out = false_from_ne_true _ (λ ok.
+  spanned_refused spanned unspanned g x x_in out = false_from_ne_true _ (λ ok.
       let S = family_union parts in
       let rs = IsRising-family_union parts in
       let u = union_only tests laws (with_one S x) ok in
-      let bound = ranks_bound tests u.parts dead laws u.are g.set.rising in
-      let ranks = ranks_reached tests parts dead laws g.are g.set.rising g.spans in
-      let ri = IsRising-intersection S dead rs in
-      let same : intersection (with_one S x) dead ≡ with_one (intersection S dead) x = same_members _ _ (IsRising-intersection _ dead (IsRising-with_one S x rs)) (IsRising-with_one _ x ri)
-      (λ z. is_member-intersection z (with_one S x) dead ∙ ap (λ b. b && is_member z dead) (is_member-with_one z x S)
-      ∙ sides (eqb z x) (is_member z S) (is_member z dead) (λ e. ap (λ v. is_member v dead) (eqb-true z x e) ∙ x_in)
-      ∙ ap (λ b. eqb z x || b) (sym (is_member-intersection z S dead)) ∙ sym (is_member-with_one z x (intersection S dead))) in
-      let more = length-with_one (intersection S dead) x ri (is_member-intersection x S dead ∙ ap (λ b. b && is_member x dead) out) in
-      let size = ap length (ap (λ X. intersection X dead) u.together ∙ same) in
+      let bound = ranks_bound tests u.parts spanned laws u.are g.set.rising in
+      let ranks = ranks_reached tests parts spanned laws g.are g.set.rising g.spans in
+      let ri = IsRising-intersection S spanned rs in
+      let same : intersection (with_one S x) spanned ≡ with_one (intersection S spanned) x = same_members _ _ (IsRising-intersection _ spanned (IsRising-with_one S x rs)) (IsRising-with_one _ x ri)
+      (λ z. is_member-intersection z (with_one S x) spanned ∙ ap (λ b. b && is_member z spanned) (is_member-with_one z x S)
+      ∙ sides (eqb z x) (is_member z S) (is_member z spanned) (λ e. ap (λ v. is_member v spanned) (eqb-true z x e) ∙ x_in)
+      ∙ ap (λ b. eqb z x || b) (sym (is_member-intersection z S spanned)) ∙ sym (is_member-with_one z x (intersection S spanned))) in
+      let more = length-with_one (intersection S spanned) x ri (is_member-intersection x S spanned ∙ ap (λ b. b && is_member x spanned) out) in
+      let size = ap length (ap (λ X. intersection X spanned) u.together ∙ same) in
       let no : ⊥ = omega arith in
       no)
     where
@@ -62,10 +62,10 @@ module _ {n : ℕ} {tests : List (List ℕ → Bool)} {parts : List (List ℕ)} 
       → is_member start (family_union parts) ≡ false → union_test n tests (with_one (family_union parts) start) ≡ false
   stuck_refuses start s reaching end out =
       let queue = s.queue.items in
-      let dead : List ℕ = union queue [] in
-      let dead_is : (v : ℕ) → is_member v dead ≡ (is_member v [] || is_member v queue) = λ v. is_member-union v queue [] ∙ turned (is_member v queue) in
-      let g = death_grown laws all_alive reaching end dead (minus (all_below n) queue) queue refl (IsRising-union queue [] IsRising-nil) dead_is (λ v. is_member-minus v (all_below n) queue) in
-      dead_refused dead (minus (all_below n) queue) g start (dead_is start ∙ reaching.so_far.first) out
+      let spanned : List ℕ = union queue [] in
+      let spanned_is : (v : ℕ) → is_member v spanned ≡ (is_member v [] || is_member v queue) = λ v. is_member-union v queue [] ∙ turned (is_member v queue) in
+      let g = spanned_grown laws all_unspanned reaching end spanned (minus (all_below n) queue) queue refl (IsRising-union queue [] IsRising-nil) spanned_is (λ v. is_member-minus v (all_below n) queue) in
+      spanned_refused spanned (minus (all_below n) queue) g start (spanned_is start ∙ reaching.so_far.first) out
     where
       turned : (b : Bool) → (b || false) ≡ (false || b)
       turned true = refl

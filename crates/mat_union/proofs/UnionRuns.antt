@@ -23,7 +23,7 @@ use Rattle.mat_union.specs.UnionLaws.{union_laws}
 use Rattle.mat_union.specs.Unions.{part_at, test_at, union_test, AreMatroids, AreParts}
 use Rattle.mat_union.proofs.AddedElements.{one_move}
 use Rattle.mat_union.proofs.EmptyParts.{first_are, first_together}
-use Rattle.mat_union.proofs.StuckParts.{dead_refused}
+use Rattle.mat_union.proofs.StuckParts.{spanned_refused}
 
 -- ---- one turn of a run
 
@@ -53,9 +53,9 @@ module _ {n : ℕ} {tests : List (List ℕ → Bool)} {parts : List (List ℕ)} 
   pub placed_turn : {among : List ℕ} {new : List (List ℕ)} → ArePlaced tests parts among x new → family_union new ≡ grown_by (union_test n tests) (family_union parts) x
   placed_turn {among} {new} p = p.together ∙ turn_taken (union_test n tests) (family_union parts) x fresh (ap (union_test n tests) (sym p.together) ∙ parts_pass tests laws new p.are)
 
-  -- a dead element is refused
-  pub dead_turn : {dead alive : List ℕ} → AreGrowing n tests parts dead alive → is_member x dead ≡ true → family_union parts ≡ grown_by (union_test n tests) (family_union parts) x
-  dead_turn {dead} {alive} g h = turn_refused (union_test n tests) (family_union parts) x (dead_refused laws g.are dead alive g x h fresh)
+  -- a spanned element is refused
+  pub spanned_turn : {spanned unspanned : List ℕ} → AreGrowing n tests parts spanned unspanned → is_member x spanned ≡ true → family_union parts ≡ grown_by (union_test n tests) (family_union parts) x
+  spanned_turn {spanned} {unspanned} g h = turn_refused (union_test n tests) (family_union parts) x (spanned_refused laws g.are spanned unspanned g x h fresh)
 
 pub running_more : {p : List ℕ → Bool} {order : List ℕ} {i : ℕ} {set : List ℕ} → IsRunning p order i set → (x : ℕ) → i < length order → x ≡ get_or order i 0
     → (set' : List ℕ) → set' ≡ grown_by p set x → IsRunning p order (i + 1) set'

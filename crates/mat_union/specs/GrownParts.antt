@@ -21,21 +21,21 @@ pub record AreKeptParts {M K : Type 0} (indep : M → List ℕ → Bool) (keeps 
   pub together : family_union parts ≡ set
   pub each : AreKept keeps matroids parts kept
 
--- parts, and a set that each of them spans: its members in the set are as many as the rank; the others below n are alive
-pub record AreGrowing (n : ℕ) (tests : List (List ℕ → Bool)) (parts : List (List ℕ)) (dead alive : List ℕ) : Type 0 where
+-- parts, and a set that each of them spans: its members in the set are as many as the rank; `unspanned` holds the others below n
+pub record AreGrowing (n : ℕ) (tests : List (List ℕ → Bool)) (parts : List (List ℕ)) (spanned unspanned : List ℕ) : Type 0 where
   pub are : AreParts tests parts
-  pub set : IsSet n dead
-  pub spans : (i : ℕ) → i < length parts → rank (test_at tests i) dead ≡ length (intersection (part_at parts i) dead)
-  pub others : (v : ℕ) → is_member v alive ≡ (nat_lt v n && not (is_member v dead))
+  pub set : IsSet n spanned
+  pub spans : (i : ℕ) → i < length parts → rank (test_at tests i) spanned ≡ length (intersection (part_at parts i) spanned)
+  pub others : (v : ℕ) → is_member v unspanned ≡ (nat_lt v n && not (is_member v spanned))
 
--- all in the parts and all dead elements are done, and each element that is done is in a part or dead
-pub record AreDone (n : ℕ) (done : ℕ → Bool) (parts : List (List ℕ)) (dead : List ℕ) : Type 0 where
+-- all in the parts and all spanned elements are done, and each element that is done is in a part or spanned
+pub record AreDone (n : ℕ) (done : ℕ → Bool) (parts : List (List ℕ)) (spanned : List ℕ) : Type 0 where
   pub placed : (v : ℕ) → is_member v (family_union parts) ≡ true → done v ≡ true
-  pub refused : (v : ℕ) → is_member v dead ≡ true → done v ≡ true
-  pub all : (v : ℕ) → v < n → done v ≡ true → (is_member v (family_union parts) || is_member v dead) ≡ true
+  pub refused : (v : ℕ) → is_member v spanned ≡ true → done v ≡ true
+  pub all : (v : ℕ) → v < n → done v ≡ true → (is_member v (family_union parts) || is_member v spanned) ≡ true
 
--- elements below n that are neither in a part nor dead
-pub record AreFresh (n : ℕ) (elements : List ℕ) (parts : List (List ℕ)) (dead : List ℕ) : Type 0 where
+-- elements below n that are neither in a part nor spanned
+pub record AreFresh (n : ℕ) (elements : List ℕ) (parts : List (List ℕ)) (spanned : List ℕ) : Type 0 where
   pub below : (x : ℕ) → is_member x elements ≡ true → x < n
   pub new : (x : ℕ) → is_member x elements ≡ true → is_member x (family_union parts) ≡ false
-  pub alive : (x : ℕ) → is_member x elements ≡ true → is_member x dead ≡ false
+  pub unspanned : (x : ℕ) → is_member x elements ≡ true → is_member x spanned ≡ false

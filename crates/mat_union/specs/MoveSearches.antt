@@ -34,14 +34,14 @@ IsQuestion s None = s.entered ≡ false → length s.queue.items ≤ s.head
 IsQuestion s (Some q) = (s.entered ≡ false) × (s.head < length s.queue.items) × (q.element ≡ element_asked s) × (q.part ≡ s.part)
 
 -- the exchanges that are asked for
-pub record IsHeard (exchanges : ℕ → Exchanges) (s : MoveSearch) (row : Exchange) : Type 0 where
+pub record IsAnswered (exchanges : ℕ → Exchanges) (s : MoveSearch) (row : Exchange) : Type 0 where
   pub adds : row.addable ≡ (exchanges s.part).adds (element_asked s)
   pub trades : (v : ℕ) → is_member v row.with ≡ (exchanges s.part).trades v (element_asked s)
 
 -- what is known where the exchanges at m parts are told of the first `head` elements of the queue, and those of the next one at the first
--- `heard` parts: those that are told cannot be added, and what they can take the place of is in the queue or not among those to be
+-- `parts_told` parts: those that are told cannot be added, and what they can take the place of is in the queue or not among those to be
 -- reached; and whatever holds of the start and goes on along the known arcs holds of each element that was reached
-pub record IsReachingTo (n m : ℕ) (exchanges : ℕ → Exchanges) (among : List ℕ) (start heard head : ℕ) (queue pushes unreached : List ℕ) (table : List (List ℕ)) : Type 0 where
+pub record IsReachingTo (n m : ℕ) (exchanges : ℕ → Exchanges) (among : List ℕ) (start parts_told head : ℕ) (queue pushes unreached : List ℕ) (table : List (List ℕ)) : Type 0 where
   pub size : length table ≡ n
   pub told_some : head ≤ length queue
   pub first : is_member start queue ≡ true
@@ -54,8 +54,8 @@ pub record IsReachingTo (n m : ℕ) (exchanges : ℕ → Exchanges) (among : Lis
   pub silent : (u v : ℕ) → is_member u (take head queue) ≡ false → is_member v (row_at table u) ≡ false
   pub refused : (u : ℕ) → is_member u (take head queue) ≡ true → can_enter m exchanges u ≡ false
   pub closed : (u v : ℕ) → is_member u (take head queue) ≡ true → can_push m exchanges u v ≡ true → is_member v unreached ≡ false
-  pub pushed : (v : ℕ) → is_member v pushes ≡ can_push heard exchanges (slice_index_or queue head 0) v
-  pub none : can_enter heard exchanges (slice_index_or queue head 0) ≡ false
+  pub pushed : (v : ℕ) → is_member v pushes ≡ can_push parts_told exchanges (slice_index_or queue head 0) v
+  pub none : can_enter parts_told exchanges (slice_index_or queue head 0) ≡ false
   pub least : (test : ℕ → Bool) → test start ≡ true
       → ((u v : ℕ) → test u ≡ true → is_member v (row_at table u) ≡ true → test v ≡ true)
       → (v : ℕ) → is_member v queue ≡ true → test v ≡ true
@@ -70,7 +70,7 @@ pub record IsReaching (n m : ℕ) (exchanges : ℕ → Exchanges) (among : List 
   pub enters : s.entered ≡ true → (s.head < length s.queue.items) × ((exchanges s.part).adds (element_asked s) ≡ true)
 
 -- a search that is told all exchanges of the next element, and that it cannot be added
-pub record IsHeardAll (n m : ℕ) (exchanges : ℕ → Exchanges) (among : List ℕ) (start : ℕ) (s : MoveSearch) : Type 0 where
+pub record AreAnswered (n m : ℕ) (exchanges : ℕ → Exchanges) (among : List ℕ) (start : ℕ) (s : MoveSearch) : Type 0 where
   pub from_start : s.start ≡ start
   pub count : s.count ≡ m
   pub some : 0 < m
@@ -81,6 +81,7 @@ pub record IsHeardAll (n m : ℕ) (exchanges : ℕ → Exchanges) (among : List 
 abbrev pub left_over : Bool → ℕ → ℕ → ℕ → ℕ → ℕ
 left_over entered bound head count part = if entered then 0 else suc ((bound - head) * count + (count - part))
 
+-- how many questions a search among these elements can still have
 abbrev pub questions_left : List ℕ → MoveSearch → ℕ
 questions_left among s = left_over s.entered (suc (length among)) s.head s.count s.part
 

@@ -31,12 +31,15 @@ can_enter m exchanges e = some_below m (λ i. (exchanges i).adds e)
 abbrev pub is_free : List (List ℕ) → List ℕ → ℕ → Bool
 is_free parts within x = is_member x within && not (is_member x (family_union parts))
 
+-- what stands for a move behind the end of a list
 abbrev pub no_move : Move
 no_move = record { element = 0; part = 0 }
 
+-- the element of the i-th move
 abbrev pub element_at : List Move → ℕ → ℕ
 element_at moves i = (slice_index_or moves i no_move).element
 
+-- the part into which the i-th move leads
 abbrev pub place_at : List Move → ℕ → ℕ
 place_at moves i = (slice_index_or moves i no_move).part
 

@@ -12,6 +12,7 @@ use Rattle.mat_union.specs.declared.best.Level.{Level}
 abbrev pub heavy : ℕ → List Weight → Weight → List ℕ
 heavy n w t = those_below n (λ x. not (is_below (weight_at w x) t))
 
+-- the j-th level
 abbrev pub level_at : List Level → ℕ → Level
 level_at levels j = slice_index_or levels j (record { at = zero_weight; cut = [] })
 

@@ -8,6 +8,7 @@ abbrev pub is_left : Option Weight → Weight → Bool
 is_left None w = true
 is_left (Some at) w = is_below w at
 
+-- the heavier one of a weight and the heaviest so far, if there is one
 abbrev pub heavier_weight : Option Weight → Weight → Option Weight
 heavier_weight None w = Some w
 heavier_weight (Some other) w = Some (if is_below other w then w else other)

@@ -87,7 +87,7 @@ fn elements_of(alloc: Global, weights: &[Weight], at: Weight) -> Result<ElemSet,
     Ok(set)
 }
 
-// Adds these elements one after the other, or refuses them.
+/// Adds these elements one after the other, each where moves can bring it in.
 pub(crate) fn grow_by<M: Matroid>(
     alloc: Global,
     matroids: &[M],
@@ -98,14 +98,14 @@ pub(crate) fn grow_by<M: Matroid>(
     requires some { 0 < length matroids.now }
     requires few { length matroids.now < 2 ^ 32 }
     requires sound { AreSound M.ground_size M.sound n matroids.now }
-    requires growing { AreGrowing n (map M.indep matroids.now) growth.old.parts growth.old.dead growth.old.alive }
+    requires growing { AreGrowing n (map M.indep matroids.now) growth.old.parts growth.old.spanned growth.old.unspanned }
     requires kept { AreKept M.keeps matroids.now growth.old.parts growth.old.kept.items }
     requires rises { IsRising elements.now }
-    requires fresh { AreFresh n elements.now growth.old.parts growth.old.dead }
-    ensures growing { OnOk result (AreGrowing n (map M.indep matroids.now) growth.new.parts growth.new.dead growth.new.alive) }
+    requires fresh { AreFresh n elements.now growth.old.parts growth.old.spanned }
+    ensures growing { OnOk result (AreGrowing n (map M.indep matroids.now) growth.new.parts growth.new.spanned growth.new.unspanned) }
     ensures kept { OnOk result (AreKept M.keeps matroids.now growth.new.parts growth.new.kept.items) }
-    ensures done { OnOk result ((done : ℕ → Bool) → AreDone n done growth.old.parts growth.old.dead
-        → AreDone n (λ v. done v || is_member v elements.now) growth.new.parts growth.new.dead) }
+    ensures done { OnOk result ((done : ℕ → Bool) → AreDone n done growth.old.parts growth.old.spanned
+        → AreDone n (λ v. done v || is_member v elements.now) growth.new.parts growth.new.spanned) }
     ensures holds { OnOk result (IsSubset (family_union growth.old.parts) (family_union growth.new.parts)) }
 {
     for x in elements {
@@ -138,7 +138,7 @@ pub fn best_union<M: Matroid>(
     while let Some(at) = next_weight(weights, last) {
         let elements = elements_of(alloc, weights, at)?;
         grow_by(alloc, matroids, &mut growth, n, elements.as_slice())?;
-        let cut = growth.dead.copy(alloc)?;
+        let cut = growth.spanned.copy(alloc)?;
         levels.push(Level { at, cut })?;
         last = Some(at);
     }

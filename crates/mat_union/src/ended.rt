@@ -41,19 +41,17 @@ pub fn found_place(
     }
 }
 
-/// The exchanges of the first element of a search that may reach all elements, at the set that the parts make up, in the union: after moves
-/// it can be added and takes any place, else it takes the places that were reached (Schrijver, chapter 42). The only error is want of memory.
+/// The exchanges, at a set and in the union, of the first element of a search among parts of the set that may reach all elements: after
+/// moves it can be added and takes any place, else it takes the places that were reached (Schrijver, chapter 42). The only error is want of
+/// memory.
 pub fn row_by_search(
     alloc: Global,
     set: &ElemSet,
-    parts: &SetList,
     search: &MoveSearch,
 ) -> Result<Exchange, AllocError>
     requires ready { IsReady search.now }
-    requires parts { length parts.now < 2 ^ 32 }
-    requires set { family_union parts.now ≡ set.now }
-    ensures row { IfOk result (λ e. (n : ℕ) (tests : List (List ℕ → Bool)) (x : ℕ) → IsEnded n tests parts.now (all_below n) x search.now
-        → e ≡ row_of (union_test n tests) set.now x) }
+    ensures row { IfOk result (λ e. (n : ℕ) (tests : List (List ℕ → Bool)) (parts : List (List ℕ)) (x : ℕ) → family_union parts ≡ set.now
+        → IsEnded n tests parts (all_below n) x search.now → e ≡ row_of (union_test n tests) set.now x) }
     ensures rises { IfOk result (λ e. IsRising e.with) }
 {
     if search.entered {

@@ -54,6 +54,6 @@ pub fn fill_parts<M: Matroid>(
     grow_by(alloc, matroids, &mut growth, n, elements.as_slice())?;
     Ok(Filled {
         parts: growth.parts,
-        cut: growth.dead,
+        cut: growth.spanned,
     })
 }

@@ -18,17 +18,17 @@ use mat_laws::Exchange;
 use mat_sets::{BitSet, ElemSet, SetList};
 use std::alloc::{AllocError, Global};
 
-/// Disjoint independent sets, what each matroid keeps of its set, and the elements that no set can take any more.
+/// Disjoint independent sets, what each matroid keeps of its set, and elements that each set spans in its matroid.
 #[derive(Drop)]
 pub struct Growth<K: Drop> {
     /// The sets.
     pub parts: SetList,
     /// What each matroid keeps of its set.
     pub kept: Vec<K>,
-    /// The elements that no set can take any more, with those that stand in the way.
-    pub dead: ElemSet,
-    /// The elements that are not dead.
-    pub alive: BitSet,
+    /// Elements that are found to be spanned by each set in its matroid: no moves bring another one of them into the sets.
+    pub spanned: ElemSet,
+    /// The elements that are not found to be spanned.
+    pub unspanned: BitSet,
 }
 
 /// The laws hold of each of these matroids.
@@ -84,7 +84,7 @@ pub(crate) fn keep_all<M: Asked>(
     Ok(kept)
 }
 
-/// These parts, and all elements are alive.
+/// These parts, and no element is found to be spanned yet.
 pub(crate) fn growth_from<M: Asked>(
     alloc: Global,
     matroids: &[M],
@@ -93,9 +93,9 @@ pub(crate) fn growth_from<M: Asked>(
 ) -> Result<Growth<M::Kept>, AllocError>
     requires sound { AreSound M.ground_size M.sound n matroids.now }
     requires parts { AreParts (map M.indep matroids.now) parts }
-    ensures growing { IfOk result (λ g. AreGrowing n (map M.indep matroids.now) g.parts g.dead g.alive) }
+    ensures growing { IfOk result (λ g. AreGrowing n (map M.indep matroids.now) g.parts g.spanned g.unspanned) }
     ensures kept { IfOk result (λ g. AreKept M.keeps matroids.now g.parts g.kept.items) }
-    ensures done { IfOk result (λ g. AreDone n (λ v. is_member v (family_union parts)) g.parts g.dead) }
+    ensures done { IfOk result (λ g. AreDone n (λ v. is_member v (family_union parts)) g.parts g.spanned) }
     ensures same { IfOk result (λ g. g.parts ≡ parts) }
 {
     all_lawful(matroids, n);
@@ -103,18 +103,18 @@ pub(crate) fn growth_from<M: Asked>(
     Ok(Growth {
         parts,
         kept,
-        dead: ElemSet::new(alloc),
-        alive: BitSet::all_below(alloc, n)?,
+        spanned: ElemSet::new(alloc),
+        unspanned: BitSet::all_below(alloc, n)?,
     })
 }
 
-/// A search for moves from x among the elements that are alive, to its end.
+/// A search for moves from x among these elements, to its end.
 pub(crate) fn search_from<M: Asked>(
     alloc: Global,
     matroids: &[M],
     parts: &SetList,
     kept: &[M::Kept],
-    alive: &BitSet,
+    among: &BitSet,
     n: u32,
     x: u32,
 ) -> Result<MoveSearch, AllocError>
@@ -123,12 +123,12 @@ pub(crate) fn search_from<M: Asked>(
     requires sound { AreSound M.ground_size M.sound n matroids.now }
     requires parts { AreParts (map M.indep matroids.now) parts.now }
     requires kept { AreKept M.keeps matroids.now parts.now kept.now }
-    requires alive { (v : ℕ) → is_member v alive.now ≡ true → v < n }
+    requires among { (v : ℕ) → is_member v among.now ≡ true → v < n }
     requires below { x < n }
-    ensures reaching { IfOk result (λ s. IsReaching n (length parts.now) (exchanges_with (map M.indep matroids.now) parts.now) alive.now x s) }
+    ensures reaching { IfOk result (λ s. IsReaching n (length parts.now) (exchanges_with (map M.indep matroids.now) parts.now) among.now x s) }
     ensures end { IfOk result (λ s. IsQuestion s None) }
 {
-    let mut search = MoveSearch::new(alloc, n, matroids.len() as u32, x, alive)?;
+    let mut search = MoveSearch::new(alloc, n, matroids.len() as u32, x, among)?;
     while let Some(asked) = search.question() {
         let i = asked.part as usize;
         let row = row_at(alloc, &matroids[i], parts.get(i), &kept[i], asked.element)?;
@@ -268,29 +268,29 @@ pub(crate) fn place<M: Asked>(
     }
 }
 
-/// These elements are dead. After an error nothing has changed. The only error is want of memory.
-pub fn kill(
+/// Marks these elements as spanned. After an error nothing has changed. The only error is want of memory.
+pub fn mark_spanned(
     alloc: Global,
-    dead: &mut ElemSet,
-    alive: &mut BitSet,
+    spanned: &mut ElemSet,
+    unspanned: &mut BitSet,
     elements: &[u32],
 ) -> Result<(), AllocError>
-    ensures dead { OnOk result ((v : ℕ) → is_member v dead.new ≡ (is_member v dead.old || is_member v elements.now)) }
-    ensures alive { OnOk result ((v : ℕ) → is_member v alive.new ≡ (is_member v alive.old && not (is_member v elements.now))) }
-    ensures rises { IsRising dead.new }
-    ensures dead_err { OnErr result (dead.new ≡ dead.old) }
-    ensures alive_err { OnErr result (alive.new ≡ alive.old) }
+    ensures spanned { OnOk result ((v : ℕ) → is_member v spanned.new ≡ (is_member v spanned.old || is_member v elements.now)) }
+    ensures unspanned { OnOk result ((v : ℕ) → is_member v unspanned.new ≡ (is_member v unspanned.old && not (is_member v elements.now))) }
+    ensures rises { IsRising spanned.new }
+    ensures spanned_err { OnErr result (spanned.new ≡ spanned.old) }
+    ensures unspanned_err { OnErr result (unspanned.new ≡ unspanned.old) }
 {
-    dead.rises();
+    spanned.rises();
     let more = ElemSet::from_members(alloc, elements)?;
-    *dead = dead.union(alloc, &more)?;
+    *spanned = spanned.union(alloc, &more)?;
     for v in elements {
-        alive.remove(*v);
+        unspanned.remove(*v);
     }
     Ok(())
 }
 
-/// Adds x to the parts by moves along a path, or else all that x reaches is dead (Schrijver, chapter 42).
+/// Adds x to the parts by moves along a path, or else marks all that x reaches as spanned (Schrijver, chapter 42).
 pub(crate) fn grow<M: Asked>(
     alloc: Global,
     matroids: &[M],
@@ -301,14 +301,14 @@ pub(crate) fn grow<M: Asked>(
     requires some { 0 < length matroids.now }
     requires few { length matroids.now < 2 ^ 32 }
     requires sound { AreSound M.ground_size M.sound n matroids.now }
-    requires growing { AreGrowing n (map M.indep matroids.now) growth.old.parts growth.old.dead growth.old.alive }
+    requires growing { AreGrowing n (map M.indep matroids.now) growth.old.parts growth.old.spanned growth.old.unspanned }
     requires kept { AreKept M.keeps matroids.now growth.old.parts growth.old.kept.items }
     requires fresh { is_member x (family_union growth.old.parts) ≡ false }
-    requires lives { is_member x growth.old.alive ≡ true }
-    ensures growing { OnOk result (AreGrowing n (map M.indep matroids.now) growth.new.parts growth.new.dead growth.new.alive) }
+    requires unspanned { is_member x growth.old.unspanned ≡ true }
+    ensures growing { OnOk result (AreGrowing n (map M.indep matroids.now) growth.new.parts growth.new.spanned growth.new.unspanned) }
     ensures kept { OnOk result (AreKept M.keeps matroids.now growth.new.parts growth.new.kept.items) }
-    ensures done { OnOk result ((done : ℕ → Bool) → AreDone n done growth.old.parts growth.old.dead
-        → AreDone n (λ v. done v || v == x) growth.new.parts growth.new.dead) }
+    ensures done { OnOk result ((done : ℕ → Bool) → AreDone n done growth.old.parts growth.old.spanned
+        → AreDone n (λ v. done v || v == x) growth.new.parts growth.new.spanned) }
     ensures holds { OnOk result (IsSubset (family_union growth.old.parts) (family_union growth.new.parts)) }
     ensures step { OnOk result (family_union growth.new.parts
         ≡ grown_by (union_test n (map M.indep matroids.now)) (family_union growth.old.parts) x) }
@@ -316,10 +316,15 @@ pub(crate) fn grow<M: Asked>(
     all_lawful(matroids, n);
     let parts = &mut growth.parts;
     let kept = &mut growth.kept;
-    match place(alloc, matroids, parts, kept, &growth.alive, n, x)? {
+    match place(alloc, matroids, parts, kept, &growth.unspanned, n, x)? {
         None => Ok(()),
         Some(stuck) => {
-            kill(alloc, &mut growth.dead, &mut growth.alive, stuck.reached())?;
+            mark_spanned(
+                alloc,
+                &mut growth.spanned,
+                &mut growth.unspanned,
+                stuck.reached(),
+            )?;
             Ok(())
         }
     }

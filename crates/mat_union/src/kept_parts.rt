@@ -128,5 +128,5 @@ pub(crate) fn row_of_parts<M: Asked>(
     let all = BitSet::all_below(alloc, n)?;
     let kept = held.kept.as_slice();
     let search = search_from(alloc, matroids, &held.parts, kept, &all, n, x)?;
-    row_by_search(alloc, base, &held.parts, &search)
+    row_by_search(alloc, base, &search)
 }

@@ -23,7 +23,7 @@ pub use empty::{empty_parts, first_parts};
 pub use ended::{PlaceSearch, found_place, row_by_search};
 pub use exchange_list::ExchangeList;
 pub use filling::{Filled, fill_parts};
-pub use growth::{Growth, is_changed, kill, put_kept};
+pub use growth::{Growth, is_changed, mark_spanned, put_kept};
 pub use kept_parts::KeptParts;
 pub use move_graph::stands;
 pub use move_search::{MoveSearch, Question};

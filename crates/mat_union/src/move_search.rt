@@ -4,7 +4,7 @@ ghost use Rattle.mat_sets.specs.Families.{family_union, AreDisjoint};
 ghost use Rattle.mat_sets.specs.Sets.{is_member};
 ghost use Rattle.mat_laws.specs.TightPaths.{Exchanges};
 ghost use Rattle.mat_union.specs.Moves.{exchanges_with};
-ghost use Rattle.mat_union.specs.MoveSearches.{questions_left, AreFoundMoves, AreMovesAt, AreTaken, IsHeard, IsHeardAll, IsOpen, IsQuestion, IsReaching};
+ghost use Rattle.mat_union.specs.MoveSearches.{questions_left, AreFoundMoves, AreMovesAt, AreTaken, IsAnswered, AreAnswered, IsOpen, IsQuestion, IsReaching};
 ghost use Rattle.mat_union.specs.Unions.{part_at, AreMatroids, AreParts};
 
 use crate::move_graph::insert_all;
@@ -114,7 +114,7 @@ impl MoveSearch {
     fn close(&mut self, alloc: Global) -> Result<(), AllocError>
         requires { IsOpen self.old }
         ensures { OnOk result ((n m : ℕ) (exchanges : ℕ → Exchanges) (among : List ℕ) (start : ℕ)
-            → IsHeardAll n m exchanges among start self.old → IsReaching n m exchanges among start self.new
+            → AreAnswered n m exchanges among start self.old → IsReaching n m exchanges among start self.new
             × (self.new.entered ≡ false) × (self.new.count ≡ self.old.count) × (self.new.head ≡ suc self.old.head) × (self.new.part ≡ 0)) }
     {
         let pushes = std::mem::replace(&mut self.pushes, BitSet::new(alloc));
@@ -131,7 +131,7 @@ impl MoveSearch {
         requires open { IsOpen self }
         requires part { self.part < self.count }
         ensures { IfOk result (λ s. (n m : ℕ) (exchanges : ℕ → Exchanges) (among : List ℕ) (start : ℕ) → IsReaching n m exchanges among start self
-            → self.entered ≡ false → IsHeard exchanges self row.now
+            → self.entered ≡ false → IsAnswered exchanges self row.now
             → IsReaching n m exchanges among start s × (questions_left among s < questions_left among self)) }
     {
         let mut search = self;

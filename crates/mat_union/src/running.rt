@@ -14,7 +14,8 @@ use crate::moved_sets::members_of;
 use mat_sets::ElemSet;
 use std::alloc::{AllocError, Global};
 
-/// The first part holds what the first matroid takes by its own run along the order, the others are empty, and all elements are alive.
+/// The first part holds what the first matroid takes by its own run along the order, the others are empty, and no element is found to be
+/// spanned yet.
 fn first_growth<M: Asked>(
     alloc: Global,
     matroids: &[M],
@@ -25,7 +26,7 @@ fn first_growth<M: Asked>(
     requires sound { AreSound M.ground_size M.sound n matroids.now }
     requires below { AllBelow n order.now }
     requires distinct { AreDistinct order.now }
-    ensures growing { IfOk result (λ g. AreGrowing n (map M.indep matroids.now) g.parts g.dead g.alive) }
+    ensures growing { IfOk result (λ g. AreGrowing n (map M.indep matroids.now) g.parts g.spanned g.unspanned) }
     ensures kept { IfOk result (λ g. AreKept M.keeps matroids.now g.parts g.kept.items) }
     ensures first { IfOk result (λ g. family_union g.parts ≡ grown_along (test_at (map M.indep matroids.now) 0) [] order.now) }
 {
@@ -35,7 +36,7 @@ fn first_growth<M: Asked>(
     growth_from(alloc, matroids, parts, n)
 }
 
-/// One turn of the run: an element that is in no part and alive comes into the parts where it can.
+/// One turn of the run: an element that is in no part and not found to be spanned comes into the parts where it can.
 fn take_turn<M: Asked>(
     alloc: Global,
     matroids: &[M],
@@ -46,16 +47,16 @@ fn take_turn<M: Asked>(
     requires some { 0 < length matroids.now }
     requires few { length matroids.now < 2 ^ 32 }
     requires sound { AreSound M.ground_size M.sound n matroids.now }
-    requires growing { AreGrowing n (map M.indep matroids.now) growth.old.parts growth.old.dead growth.old.alive }
+    requires growing { AreGrowing n (map M.indep matroids.now) growth.old.parts growth.old.spanned growth.old.unspanned }
     requires kept { AreKept M.keeps matroids.now growth.old.parts growth.old.kept.items }
     requires below { x < n }
-    ensures growing { OnOk result (AreGrowing n (map M.indep matroids.now) growth.new.parts growth.new.dead growth.new.alive) }
+    ensures growing { OnOk result (AreGrowing n (map M.indep matroids.now) growth.new.parts growth.new.spanned growth.new.unspanned) }
     ensures kept { OnOk result (AreKept M.keeps matroids.now growth.new.parts growth.new.kept.items) }
     ensures step { OnOk result (family_union growth.new.parts
         ≡ grown_by (union_test n (map M.indep matroids.now)) (family_union growth.old.parts) x) }
 {
     all_lawful(matroids, n);
-    if stands(&growth.parts, x) || !growth.alive.contains(x) {
+    if stands(&growth.parts, x) || !growth.unspanned.contains(x) {
         return Ok(());
     }
     grow(alloc, matroids, growth, n, x)
@@ -63,7 +64,7 @@ fn take_turn<M: Asked>(
 
 /// The greedy run of the union along an order in which no element stands twice (Schrijver, chapters 40 and 42). The first matroid takes by
 /// its own run what it can, all of which the union takes too. Then each other element comes, by what is kept of the parts: it is added to
-/// a part that can take it at once, or comes by a search for moves; what a stuck search reached is dead, and needs no search any more. The
+/// a part that can take it at once, or comes by a search for moves; what a stuck search reached is spanned, and needs no search any more. The
 /// only error is want of memory.
 pub(crate) fn run_along<M: Asked>(
     alloc: Global,

@@ -1,7 +1,7 @@
 -- A list has the members of a set, each once, exactly where it has as many items and the set of its items is this one.
-use Rattle.std.proofs.Common.{◌≡◌, ℕ, ◌≤◌, Bool, true, false, ◌&&◌, ◌==◌, get_or, List, [], ◌∷◌, length, inl, inr, refl, sym, ap, ◌∙◌, arith}
+use Rattle.std.proofs.Common.{◌≡◌, ℕ, ◌≤◌, Bool, true, ◌&&◌, ◌==◌, get_or, List, [], ◌∷◌, length, inl, inr, refl, sym, ap, ◌∙◌, arith}
 use Rattle.std.specs.List.{list_all}
-use Rattle.std.proofs.lemmas.Bool.{cases_Bool, and_from, and_parts, eqb-true, eq-eqb, false_from_ne_true}
+use Rattle.std.proofs.lemmas.Bool.{cases_Bool, and_from, and_parts, eqb-true, eq-eqb}
 use Rattle.mat_sets.specs.Sets.{is_member, IsRising, IsSubset, AreDistinct, union, with_one}
 use Rattle.mat_sets.specs.SetTests.{are_distinct}
 use Rattle.mat_sets.proofs.Cardinalities.{length-with_one}
@@ -66,11 +66,6 @@ lists_members-from items X d long inside =
     (list_all-from (λ x. is_member x X) items inside))
 
 -- ---- as it is tested
-
-pub not_as_many : (items X : List ℕ) → (length items ≡ length X → ⊥) → lists_members items X ≡ false
-not_as_many items X d = false_from_ne_true _ (λ h.
-    let parts = and_parts (are_distinct items) ((length items == length X) && list_all (λ x. is_member x X) items) h in
-    d (eqb-true (length items) (length X) (and_parts (length items == length X) (list_all (λ x. is_member x X) items) parts.1).0))
 
 pub as_many : (items X : List ℕ) (same : Bool) → IsRising X → length items ≡ length X → (same ≡ true → union items [] ≡ X)
     → (union items [] ≡ X → same ≡ true) → same ≡ lists_members items X

@@ -1,10 +1,10 @@
 -- The parts that are made are those of a witness: of a rung's set the members in each demanded set are maximal there, so a part that bounds the
 -- rank by their number meets the demand; and the numbers of both parts for the cut are the ranks, which add up to the last rung.
-use Rattle.std.proofs.Common.{◌≡◌, ℕ, ◌+◌, ◌-◌, ◌<◌, Bool, true, List, [], ◌∷◌, ◌++◌, length, map, take, drop, get_or}
+use Rattle.std.proofs.Common.{◌≡◌, ℕ, ◌+◌, ◌<◌, Bool, true, List, [], ◌∷◌, ◌++◌, length, map, take, drop, get_or}
 use Rattle.std.proofs.Common.{refl, sym, subst, ap, ◌∙◌, arith}
 use Rattle.std.specs.List.{All, AllZip, filter}
 use Rattle.std.specs.Prelude.{nat_lt}
-use Rattle.std.proofs.lemmas.Bool.{and_from, eq-eqb, leb-true, ltb-true}
+use Rattle.std.proofs.lemmas.Bool.{and_from, eq-eqb, ltb-true}
 use Rattle.std.proofs.lemmas.List.{get_or-map, get_or_default, length-map, map-append, take_more}
 use Rattle.std.proofs.lemmas.List.Elements.{All-filter, All-map, filter_passes}
 use Rattle.mat_sets.specs.Sets.{IsSet, all_below, is_member, minus}
@@ -142,16 +142,15 @@ rung_bounds_joined first second k rung cut last bounds others both outside insid
 -- ---- a right rung of two matroids
 
 -- the rung that the code reads is the one of this number
-rung_read : (n : ℕ) (rungs : List PricedRung) (cut : List ℕ) (k : ℕ) (rung : PricedRung) → IsRanged (intersect n rungs cut)
-    → has_rung (intersect n rungs cut) k ≡ true → rung ≡ get_or rungs k rung → rung_at rungs k ≡ rung
-rung_read n rungs cut k rung ranged has is =
-    get_or_default rungs k _ rung (omega (arith, ranged.0.some, leb-true k (length rungs - 1) has)) ∙ sym is
+rung_read : (n : ℕ) (rungs : List PricedRung) (cut : List ℕ) (k : ℕ) (rung : PricedRung) → has_rung (intersect n rungs cut) k ≡ true
+    → rung ≡ get_or rungs k rung → rung_at rungs k ≡ rung
+rung_read n rungs cut k rung has is = get_or_default rungs k _ rung (ltb-true k (length rungs) has) ∙ sym is
 
 module _ (w : List Weight) (first second : Tree) (n : ℕ) (rungs : List PricedRung) (cut : List ℕ) (k : ℕ)
     (sound : IsSoundInstance (pair w first second)) (ranged : IsRanged (intersect n rungs cut)) (has : has_rung (intersect n rungs cut) k ≡ true)
     (right : IsRightRungOf (pair w first second) (intersect n rungs cut) k) (rung : PricedRung) (read : rung ≡ get_or rungs k rung) where
   is : rung_at rungs k ≡ rung
-  is = rung_read n rungs cut k rung ranged has read
+  is = rung_read n rungs cut k rung has read
 
   counts : n ≡ element_count first
   counts = right.counted ∙ sym sound.1

@@ -99,7 +99,7 @@ bounds_meet n (demand ∷ demands) rest (part ∷ parts) fair for met =
 -- ---- of the demands of a half
 
 module _ (P : Demand → Type 0) (test : Demand → Bool) (at : Weight → Demand) where
-  filtered_from : (ts : List Weight) → ((t : Weight) → P (at t)) → AllByRecursion P (filter test (map at ts))
+  pub filtered_from : (ts : List Weight) → ((t : Weight) → P (at t)) → AllByRecursion P (filter test (map at ts))
   filtered_from [] each = tt
   filtered_from (t ∷ ts) each = elim (cases_Bool (test (at t))) [
     | inl passes ↦ rw passes (each t, filtered_from ts each)

@@ -10,15 +10,12 @@ use Rattle.std.specs.Option.{is_some}
 use Rattle.mat_sets.specs.Sets.{is_member, IsRising, IsSet, intersection, with_one}
 use Rattle.mat_sets.proofs.Equalities.{intersection-commute}
 use Rattle.mat_sets.proofs.Ground.{below_member}
-use Rattle.mat_sets.proofs.Members.{filter_same_at, is_member-with_one, IsRising-nil, IsRising-with_one}
+use Rattle.mat_sets.proofs.Members.{filter_same_at, is_member-with_one, IsRising-with_one}
 use Rattle.mat_sets.proofs.Steps.{is_member-take_more, is_member-take_next}
 use Rattle.mat_sets.proofs.Truths.{or_none}
 use Rattle.mat_witness.specs.FilledSets.{AreLargerNamed, AreLargestNamed, AreListed, AreNamed, is_filled, is_unnamed, larger_named, largest_filled, size_named}
 
 -- ---- one set
-
-pub AreLargerNamed-none : (sets : List (List ℕ)) (place : ℕ) (table : List (Option ℕ)) → AreLargerNamed sets place [] table table
-AreLargerNamed-none sets place table = record { at = λ x l. refl }
 
 -- at the next member the larger set is named
 larger_next : (sets : List (List ℕ)) (place : ℕ) (S : List ℕ) (i : ℕ) (before table after : List (Option ℕ)) → IsRising S → i < length S
@@ -103,13 +100,6 @@ largest_passed sets caps I i count number table rises risen counted less named =
     })
 
 -- ---- which sets are named
-
-pub AreNamed-none : (named : ℕ → Option ℕ) → AreNamed named [] []
-AreNamed-none named = record {
-  rising = IsRising-nil;
-  all = λ x i m is. absurd (both_ways false refl m);
-  only = λ i m. absurd (both_ways false refl m);
-}
 
 -- a member before the next one, or that one
 listed_more : (X : List ℕ) (k x : ℕ) → k < length X → (is_member x (take k X) ≡ true) ⊎ (x ≡ get_or X k 0) → is_member x (take (k + 1) X) ≡ true

@@ -1,8 +1,8 @@
 -- What a witness shows of a rung. Its first part gives the weight of the set and the split; its second and third parts that the set is heaviest
 -- of its size under both halves; and its fourth bounds each common independent set, which lies in part outside the cut and in part inside it.
-use Rattle.std.proofs.Common.{◌≡◌, ℕ, ◌+◌, ◌≤◌, Bool, true, false, not, ◌&&◌, if◌then◌else◌, eqb, leb, List, [], ◌∷◌, ◌++◌, length, drop, Option}
+use Rattle.std.proofs.Common.{◌≡◌, ℕ, ◌+◌, ◌≤◌, Bool, true, false, not, ◌&&◌, if◌then◌else◌, eqb, leb, ltb, List, [], ◌∷◌, ◌++◌, length, drop, Option}
 use Rattle.std.proofs.Common.{Some, None, slice_get, refl, sym, subst, arith}
-use Rattle.std.proofs.lemmas.Bool.{and_parts, eqb-true, leb-true}
+use Rattle.std.proofs.lemmas.Bool.{and_parts, eqb-true, leb-true, ltb-true}
 use Rattle.std.proofs.lemmas.Option.{slice_get-get_or}
 use Rattle.std.specs.List.{AllByRecursion, list_all}
 use Rattle.mat_sets.specs.Sets.{all_below, IsSet, intersection, minus}
@@ -152,7 +152,7 @@ module _ (w : List Weight) (first second : Tree) (sound : IsSound first × (elem
             (drop (length (demands_of first second k at)) witness.bounds) met.1 shown.fourth_holds;
       }
 
-  pair_is_proved : (n : ℕ) (witness : WitnessParts) → IsRangedLadder n rungs cut → leb k (last_rung rungs) ≡ true
+  pair_is_proved : (n : ℕ) (witness : WitnessParts) → IsRangedLadder n rungs cut → ltb k (length rungs) ≡ true
       → IsWitnessFor (pair w first second) (intersect n rungs cut) k witness → IsShown (pair w first second) (intersect n rungs cut) k witness
       → IsProved w p q rungs k
   pair_is_proved n witness ranged has for shown =
@@ -160,9 +160,7 @@ module _ (w : List Weight) (first second : Tree) (sound : IsSound first × (elem
       (are_met (demands_of first second k at) witness.bounds)
       (bounds_common_sets first second n cut (last_rung rungs) (drop (length (demands_of first second k at)) witness.bounds)) shown in
       let same : n ≡ length w = eqb-true n (length w) (and_parts (eqb n (length w)) _ four.first_holds).0 in
-      let small : k ≤ last_rung rungs = leb-true k (last_rung rungs) has in
-      let some = ranged.0.some in
-      let here : slice_get rungs k ≡ Some at = slice_get-get_or rungs k _ (omega arith) in
+      let here : slice_get rungs k ≡ Some at = slice_get-get_or rungs k _ (ltb-true k (length rungs) has) in
       proved_by witness (subst (λ m. IsRangedPricedRung m k at) same (ranged.0.each k at here)) (subst (λ m. IsSet m cut) same ranged.1) for
       (subst (λ m. FourHold (is_priced w m at) (shows_common_set first second witness at.set) (are_met (demands_of first second k at) witness.bounds)
       (bounds_common_sets first second m cut (last_rung rungs) (drop (length (demands_of first second k at)) witness.bounds))) same four)

@@ -218,12 +218,6 @@ probes_bytes k dim numbers small few size =
 count_bytes : bytes ((codes "count" ∷ []) ∷ []) ≤ 100000
 count_bytes = omega arith
 
--- paths that are shown have no vertex twice
-paths_distinct : (first second third : Bool) → cond first (cond second third false) false ≡ true → third ≡ true
-paths_distinct true true third h = h
-paths_distinct true false third h = absurd cc
-paths_distinct false second third h = absurd cc
-
 free_bytes : (n k : ℕ) (tree : Tree) (part : FreePart) (X : List ℕ) → n ≤ most_elements → k ≤ most_elements → IsValidTree n tree
     → IsFreeFor n k tree part → shows_free tree part X ≡ true → bytes (free_lines tree part) ≤ 100000
 free_bytes n k (uniform m cap) count X few small valid fits shown = count_bytes
@@ -309,12 +303,12 @@ rung_bytes k few =
     let both = text_length (codes "witness" ∷ codes "1" ∷ []) ((codes "rung" ∷ numeral (pos k) ∷ []) ∷ []) in
     omega (arith, second, both)
 
-pub witness_bytes : (first second : Tree) (trees : List Tree) (witness : WitnessParts) → witness.rung ≤ most_elements
+pub witness_bytes : (first second : Tree) (trees : List Tree) (witness : WitnessParts) → witness.k ≤ most_elements
     → bytes (free_lines first witness.first) ≤ 100000 → bytes (free_lines second witness.second) ≤ 100000
     → bytes (bounds_lines trees witness.bounds) ≤ 20000 * length trees → length trees ≤ 1002
     → bytes (witness_lines first second trees witness) ≤ witness_limit
 witness_bytes first second trees witness few one two bounds many =
-    let head = (codes "witness" ∷ codes "1" ∷ []) ∷ (codes "rung" ∷ numeral (pos witness.rung) ∷ []) ∷ [] in
+    let head = (codes "witness" ∷ codes "1" ∷ []) ∷ (codes "rung" ∷ numeral (pos witness.k) ∷ []) ∷ [] in
     let a = free_lines first witness.first in
     let b = free_lines second witness.second in
     let c = bounds_lines trees witness.bounds in
@@ -322,7 +316,7 @@ witness_bytes first second trees witness few one two bounds many =
     let behind = bytes-append a (b ++ (c ++ end_line ∷ [])) in
     let rest = bytes-append b (c ++ end_line ∷ []) in
     let last = bytes-append c (end_line ∷ []) in
-    let opening = rung_bytes witness.rung few in
+    let opening = rung_bytes witness.k few in
     let end : bytes (end_line ∷ []) ≤ 4 = omega arith in
     omega (arith, whole, behind, rest, last, opening, end, one, two, bounds, many)
 
@@ -339,7 +333,7 @@ pub text_short : (instance : Instance) (answer : Certificate) (k : ℕ) (witness
 text_short (pair w first second) (intersect n rungs cut) k witness valid ranged has fits shown =
     let rung = rung_at rungs k in
     let trees = bounded_trees first second k rung in
-    let inside = rung_inside n rungs cut k ranged has in
+    let inside = rung_inside n rungs cut k has in
     let ranges = rung_ranges w first second n rungs cut k rung valid ranged has (slice_get-get_or rungs k _ inside) in
     let few : length w ≤ most_elements = valid.0.0 in
     let free = and_parts (shows_free first witness.first rung.set) (shows_free second witness.second rung.set)

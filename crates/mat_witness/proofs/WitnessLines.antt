@@ -2,16 +2,16 @@
 -- is read as that witness.
 use Rattle.std.proofs.Common.{◌≡◌, ℕ, pos, true, List, [], ◌∷◌, ◌++◌, Result, Ok, refl, sym, ap, subst, ◌∙◌, append_assoc}
 use Rattle.std.specs.Prelude.{codes}
-use Rattle.std.specs.List.{All, join_with_byte}
+use Rattle.std.specs.List.{All}
 use Rattle.std.proofs.lemmas.Bool.{and_from}
 use Rattle.std.proofs.lemmas.List.Elements.{All-head, All-tail}
-use Rattle.std.proofs.lemmas.List.Splits.{join_with_byte-slice_split}
 use Rattle.mat_words.specs.Cursors.{LinesLeft}
 use Rattle.mat_words.specs.Lines.{Line, lines_of, text_of}
 use Rattle.mat_words.specs.Numbers.{numeral}
 use Rattle.mat_words.specs.Steps.{◌>>=◌}
 use Rattle.mat_words.specs.Words.{is_word}
 use Rattle.mat_words.specs.Writing.{end_line}
+use Rattle.mat_words.proofs.LineLemmas.{same_text}
 use Rattle.mat_words.proofs.LineReading.{AreLeft, known_line}
 use Rattle.mat_words.proofs.NumberLemmas.{numeral_word}
 use Rattle.mat_words.proofs.ReadingSteps.{found-same, bind_found}
@@ -114,7 +114,7 @@ bounds_again n (tree ∷ trees) (part ∷ parts) p rest some fits left =
 
 -- a witness is for these two matroids and these of its bounds
 pub record IsWitnessOf (n : ℕ) (first second : Tree) (trees : List Tree) (k : ℕ) (witness : WitnessParts) : Type 0 where
-  pub same : witness.rung ≡ k
+  pub same : witness.k ≡ k
   pub first_part : IsFreeFor n k first witness.first
   pub second_part : IsFreeFor n k second witness.second
   pub bound_parts : AreBoundsFor n trees witness.bounds
@@ -145,7 +145,7 @@ parts_found n first second trees k p witness q kinds e =
     let first_read = free_found n k first p one.0.0 one.0.1 kinds.first_kind one.1 in
     let second_read = free_found n k second one.0.1 two.0.0 two.0.1 kinds.second_kind two.1 in
     let bounds_read = bounds_found n trees two.0.1 bounds.0.0 bounds.0.1 kinds.kinds bounds.1 in
-    let made : WitnessParts = record { rung = k; first = one.0.0; second = two.0.0; bounds = bounds.0.0 } in
+    let made : WitnessParts = record { k = k; first = one.0.0; second = two.0.0; bounds = bounds.0.0 } in
     subst (λ (r : WitnessParts × LinesLeft). ArePartsRead n first second trees k p r.0 r.1)
     (found-same (made, bounds.0.1) (witness, q) bounds.2) (record {
       fits = record { same = refl; first_part = first_read.in_range; second_part = second_read.in_range; bound_parts = bounds_read.in_range };
@@ -153,10 +153,6 @@ parts_found n first second trees k p witness q kinds e =
           first_read.spelled (free_lines second two.0.0 ++ (bounds_lines trees bounds.0.0 ++ rest))
           (second_read.spelled (bounds_lines trees bounds.0.0 ++ rest) (bounds_read.spelled rest left));
     })
-
--- texts with the same lines are the same
-same_text : (first second : List ℕ) → lines_of first ≡ lines_of second → first ≡ second
-same_text first second e = sym (join_with_byte-slice_split 10 first) ∙ ap (join_with_byte 10) e ∙ join_with_byte-slice_split 10 second
 
 -- what is left of a text before anything is read
 abbrev pub whole_text : List ℕ → LinesLeft
@@ -179,7 +175,7 @@ witness_found n first second trees k text witness kinds e =
     let whole = version_found p version.0 version.1 (rung_line k ∷ lines) (rung_found k version.0 rung.0 rung.1 lines behind) in
     let text_is : text ≡ text_of (version_line ∷ rung_line k ∷ lines) =
     same_text text (text_of (version_line ∷ rung_line k ∷ lines)) whole.same in
-    let same : rung_line k ≡ rung_line parts.0.0.rung = ap rung_line (sym read.fits.same) in
+    let same : rung_line k ≡ rung_line parts.0.0.k = ap rung_line (sym read.fits.same) in
     subst (λ (made : WitnessParts). IsWitnessOf n first second trees k made × (text ≡ text_of (witness_lines first second trees made)))
     (found-same parts.0.0 witness closed.2)
     (read.fits, text_is ∙ ap (λ (line : Line). text_of (version_line ∷ line ∷ lines)) same)
@@ -192,7 +188,7 @@ pub record HaveDigits (first second : Tree) (trees : List Tree) : Type 0 where
 
 -- the reading of a witness with this number in place of its own
 abbrev with_rung : WitnessParts → LinesLeft → ℕ → Result (WitnessParts × LinesLeft) Fault
-with_rung witness q j = Ok (record { rung = j; first = witness.first; second = witness.second; bounds = witness.bounds }, q)
+with_rung witness q j = Ok (record { k = j; first = witness.first; second = witness.second; bounds = witness.bounds }, q)
 
 parts_again : (n : ℕ) (first second : Tree) (trees : List Tree) (k : ℕ) (witness : WitnessParts) (p : LinesLeft) (rest : List Line)
     → HaveDigits first second trees → IsWitnessOf n first second trees k witness

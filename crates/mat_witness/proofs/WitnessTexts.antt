@@ -1,11 +1,10 @@
 -- The texts of witnesses for a problem and an answer: what is read is one, and what is one is read.
-use Rattle.std.proofs.Common.{◌≡◌, ℕ, ◌-◌, ◌<◌, true, List, length, Result, Ok, Err, IfOk, refl, sym, ◌∙◌, arith}
-use Rattle.std.specs.Prelude.{Some, nat_le, slice_get}
+use Rattle.std.proofs.Common.{◌≡◌, ℕ, ◌<◌, true, List, length, Result, Ok, Err, IfOk, refl, sym, ◌∙◌, arith}
+use Rattle.std.specs.Prelude.{Some, slice_get}
 use Rattle.std.proofs.Common.{get_or, subst}
 use Rattle.std.proofs.lemmas.List.{get_or_default}
 use Rattle.std.proofs.lemmas.Option.{slice_get_read}
-use Rattle.std.proofs.lemmas.Bool.{and_parts}
-use Rattle.std.proofs.lemmas.Bool.Decides.{nat_tests}
+use Rattle.std.proofs.lemmas.Bool.{and_parts, ltb-true}
 use Rattle.mat_words.specs.Lines.{text_of}
 use Rattle.mat_sets.specs.declared.weight.Weight.{Weight}
 use Rattle.mat_any.specs.Trees.{Tree, uniform, partition, laminar, graphic, transversal, gammoid, gf2, dual, truncate, restrict, contract, union}
@@ -128,19 +127,15 @@ text_again (instances.table _ _ _ _) answer k text witness valid fits whole = ab
 -- ---- the rung of an answer
 
 -- the rung is there
-pub rung_inside : (n : ℕ) (rungs : List PricedRung) (cut : List ℕ) (k : ℕ) → IsRanged (intersect n rungs cut)
-    → has_rung (intersect n rungs cut) k ≡ true → k < length rungs
-rung_inside n rungs cut k ranged has = inside k (length rungs) ranged.0.some has
-  where
-    inside : (k many : ℕ) → 0 < many → nat_le k (many - 1) ≡ true → k < many
-    inside k many some le = grind (arith, nat_tests)
+pub rung_inside : (n : ℕ) (rungs : List PricedRung) (cut : List ℕ) (k : ℕ) → has_rung (intersect n rungs cut) k ≡ true → k < length rungs
+rung_inside n rungs cut k has = ltb-true k (length rungs) has
 
 -- it is in range, and so are its matroids
 pub rung_ranges : (w : List Weight) (first second : Tree) (n : ℕ) (rungs : List PricedRung) (cut : List ℕ) (k : ℕ) (rung : PricedRung)
     → IsValid (pair w first second) → IsRanged (intersect n rungs cut) → has_rung (intersect n rungs cut) k ≡ true
     → slice_get rungs k ≡ Some rung → AreRungRanges (length w) k first second rung
 rung_ranges w first second n rungs cut k rung valid ranged has at =
-    let inside = rung_inside n rungs cut k ranged has in
+    let inside = rung_inside n rungs cut k has in
     let here = ranged.0.each k rung at in
     record {
       few = omega (arith, inside, ranged.0.no_more, ranged.0.few);
@@ -161,7 +156,7 @@ pub taken_ranges : (w : List Weight) (first second : Tree) (n : ℕ) (rungs : Li
     → rung ≡ get_or rungs k rung → AreRungRanges (length w) k first second rung
 taken_ranges w first second n rungs cut k rung valid ranged has at =
     rung_ranges w first second n rungs cut k rung valid ranged has
-    (slice_get_read rungs (length rungs) k rung refl (rung_inside n rungs cut k ranged has) at)
+    (slice_get_read rungs (length rungs) k rung refl (rung_inside n rungs cut k has) at)
 
 -- what is read with a rung that was taken
 pub gives_read : {X : Type 0} (view : X → WitnessParts) (result : Result X CertRefusal) (w : List Weight) (first second : Tree) (n : ℕ)

@@ -9,7 +9,7 @@ use Rattle.mat_witness.specs.Reading.{bound_at}
 
 -- their matroids
 abbrev pub row_trees : Tree → Tree → ℕ → ℕ → List Tree
-row_trees first second one two = replicate one first ++ (replicate two second ++ first ∷ second ∷ [])
+row_trees first second firsts seconds = replicate firsts first ++ (replicate seconds second ++ first ∷ second ∷ [])
 
 -- what is read behind the items of a list, with these in front
 abbrev pub behind : {A S : Type 0} → List A → Result (List A × S) Fault → Result (List A × S) Fault
@@ -17,8 +17,8 @@ behind front reading = reading >>= λ x. Ok (front ++ x.0, x.1)
 
 -- the bounds in a row in matroids on n elements
 unfoldable pub row_at : ℕ → Tree → Tree → ℕ → ℕ → LinesLeft → Result (List BoundPart × LinesLeft) Fault
-row_at n first second one two p = do
-  firsts ← behind [] (repeat_at (bound_at n first) one p)
-  seconds ← behind firsts.0 (repeat_at (bound_at n second) two firsts.1)
-  outside ← behind seconds.0 (repeat_at (bound_at n first) 1 seconds.1)
+row_at n first second firsts seconds p = do
+  front ← behind [] (repeat_at (bound_at n first) firsts p)
+  both ← behind front.0 (repeat_at (bound_at n second) seconds front.1)
+  outside ← behind both.0 (repeat_at (bound_at n first) 1 both.1)
   behind outside.0 (repeat_at (bound_at n second) 1 outside.1)

@@ -1,9 +1,9 @@
 -- The kinds of matroids whose answers have witnesses, and the sets that the counted ones of them list (Schrijver, chapter 39).
-use Rattle.std.specs.Prelude.{ℕ, Bool, true, false, ◌&&◌, nat_le, List, [], ◌∷◌}
+use Rattle.std.specs.Prelude.{ℕ, Bool, true, false, ◌&&◌, nat_lt, List, [], ◌∷◌, length}
 use Rattle.mat_sets.specs.Sets.{all_below}
 use Rattle.mat_any.specs.Trees.{Tree, uniform, partition, laminar, graphic, gammoid, gf2}
 use Rattle.mat_desc.specs.Instances.{Instance, pair}
-use Rattle.mat_cert.specs.Certificates.{Certificate, intersect, last_rung}
+use Rattle.mat_cert.specs.Certificates.{Certificate, intersect}
 
 -- whether a matroid is of a witnessed kind: uniform, partition, laminar, graphic, gammoid or linear over the field of two elements
 abbrev pub is_witnessed : Tree → Bool
@@ -22,7 +22,7 @@ is_witnessed_pair instance = false
 
 -- whether an answer is one to `intersect` that has this rung
 abbrev pub has_rung : Certificate → ℕ → Bool
-has_rung (intersect n rungs cut) k = nat_le k (last_rung rungs)
+has_rung (intersect n rungs cut) k = nat_lt k (length rungs)
 has_rung answer k = false
 
 -- the sets that a counted matroid lists; a uniform one lists the set of all elements

@@ -43,7 +43,7 @@ bounds_lines trees parts = []
 -- the lines of a witness for two matroids, whose bounds are for these
 abbrev pub witness_lines : Tree → Tree → List Tree → WitnessParts → List Line
 witness_lines first second trees witness =
-    (codes "witness" ∷ codes "1" ∷ []) ∷ (codes "rung" ∷ numeral (pos witness.rung) ∷ [])
+    (codes "witness" ∷ codes "1" ∷ []) ∷ (codes "rung" ∷ numeral (pos witness.k) ∷ [])
     ∷ free_lines first witness.first ++ (free_lines second witness.second ++ (bounds_lines trees witness.bounds ++ end_line ∷ []))
 
 -- the text of a witness for rung k of this answer to this problem

@@ -3,7 +3,6 @@ use Rattle.std.specs.Prelude.{◌≡◌, ℕ, ◌<◌, ◌≤◌, ◌^◌, List,
 use Rattle.std.specs.List.{All}
 use Rattle.mat_sets.specs.Sets.{AllBelow, IsSet}
 use Rattle.mat_any.specs.Trees.{Tree, uniform, partition, laminar, graphic, gammoid, gf2}
-use Rattle.mat_witness.specs.Kinds.{listed_sets}
 
 -- what shows that a set is independent
 pub data FreePart : Type 0 where
@@ -29,7 +28,7 @@ pub data BoundPart : Type 0 where
 
 -- a witness: the number of its rung, what shows the rung's set independent in each matroid, and bounds of ranks
 pub record WitnessParts : Type 0 where
-  pub rung : ℕ
+  pub k : ℕ
   pub first : FreePart
   pub second : FreePart
   pub bounds : List BoundPart

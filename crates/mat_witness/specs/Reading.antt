@@ -107,7 +107,7 @@ parts_at n first second trees k p = do
   first_part ← free_at n k first p
   second_part ← free_at n k second first_part.1
   bounds ← bounds_at n trees second_part.1
-  Ok (record { rung = k; first = first_part.0; second = second_part.0; bounds = bounds.0 }, bounds.1)
+  Ok (record { k = k; first = first_part.0; second = second_part.0; bounds = bounds.0 }, bounds.1)
 
 -- a whole witness
 unfoldable pub witness_at : ℕ → Tree → Tree → List Tree → ℕ → LinesLeft → Result WitnessParts Fault

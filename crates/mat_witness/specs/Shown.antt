@@ -101,7 +101,7 @@ bounded_trees first second k rung = map (λ demand. demand.tree) (demands_of fir
 
 -- a witness for rung k of two matroids on n elements has its number, and parts of the kinds, the number and the lengths that are needed
 pub record IsWitness (n : ℕ) (first second : Tree) (k : ℕ) (rung : PricedRung) (witness : WitnessParts) : Type 0 where
-  pub same : witness.rung ≡ k
+  pub same : witness.k ≡ k
   pub first_part : IsFreeFor n k first witness.first
   pub second_part : IsFreeFor n k second witness.second
   pub bound_parts : AreBoundsFor n (bounded_trees first second k rung) witness.bounds

@@ -24,7 +24,7 @@ bound_part (mosts.Zeros numbers) = zeros numbers.items
 -- a witness as plain data
 abbrev pub witness_parts : Witness → WitnessParts
 witness_parts witness = record {
-  rung = witness.k;
+  k = witness.k;
   first = free_part witness.first;
   second = free_part witness.second;
   bounds = map bound_part witness.bounds.items;

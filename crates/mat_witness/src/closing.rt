@@ -1,13 +1,13 @@
 //! Vertices that close off the reached ones, in gammoids.
 
-ghost use Rattle.std.specs.Prelude.{◌≡◌, ◌<◌, ◌≤◌, ◌^◌, ◌||◌, if◌then◌else◌, not, ℕ, List, true, length, IfOk, Some, None};
+ghost use Rattle.std.specs.Prelude.{◌≡◌, ◌<◌, ◌≤◌, ◌||◌, if◌then◌else◌, not, ℕ, List, true, length, IfOk, Some, None};
 ghost use Rattle.std.specs.List.{list_all};
 ghost use Rattle.mat_sets.specs.Sets.{is_member, IsSet};
 ghost use Rattle.mat_sets.specs.Walks.{IsReachedSet};
 ghost use Rattle.mat_laws.specs.Matroids.{IsMaximal};
 ghost use Rattle.mat_linked.specs.Gammoids.{IsGammoid, is_gammoid, vertices_of};
 ghost use Rattle.mat_any.specs.Trees.{gammoid};
-ghost use Rattle.mat_witness.specs.BoundParts.{are_closed_off, bound_of, is_in_either, shows_bound};
+ghost use Rattle.mat_witness.specs.BoundParts.{are_closed_off, is_in_either, shows_bound};
 ghost use Rattle.mat_witness.specs.GammoidSteps.{is_open_arc};
 ghost use Rattle.mat_witness.specs.Parts.{IsBoundFor, gate};
 
@@ -185,19 +185,17 @@ pub(crate) fn closing_sets(
     alloc: Global,
     matroid: &Gammoid,
     set: &ElemSet,
-    inside: &ElemSet,
 ) -> Result<(ElemSet, ElemSet), AllocError>
     requires sound { IsGammoid matroid.now.vertices matroid.now.arcs matroid.now.sources matroid.now.targets }
     requires set { IsSet (length matroid.now.targets) set.now }
-    requires maximal { IsMaximal (is_gammoid matroid.now.vertices matroid.now.arcs matroid.now.sources matroid.now.targets)
-        set.now inside.now }
     ensures part { IfOk result (λ sets. IsBoundFor (length matroid.now.targets)
         (gammoid matroid.now.vertices matroid.now.arcs matroid.now.sources matroid.now.targets) (gate sets.0 sets.1)) }
     ensures shows { IfOk result (λ sets. shows_bound
         (gammoid matroid.now.vertices matroid.now.arcs matroid.now.sources matroid.now.targets) (gate sets.0 sets.1) set.now ≡ true) }
-    ensures number { IfOk result (λ sets. length sets.1 ≤ length inside.now) }
+    ensures number { IfOk result (λ sets. (inside : List ℕ)
+        → IsMaximal (is_gammoid matroid.now.vertices matroid.now.arcs matroid.now.sources matroid.now.targets) set.now inside
+        → length sets.1 ≤ length inside) }
 {
-    let _ = inside.len();
     let targets = matroid.targets();
     closing_pair(alloc, matroid.graph(), matroid.sources(), targets, set)
 }

@@ -1,6 +1,6 @@
 //! Forests whose edges bring a vertex each, and labels of vertices, in graphic matroids.
 
-ghost use Rattle.std.specs.Prelude.{◌≡◌, ◌≢◌, ℕ, ◌+◌, ◌<◌, ◌≤◌, ◌-◌, ◌^◌, ◌==◌, ◌&&◌, ◌||◌, not, if◌then◌else◌, true, [], length, map, reverse, slice_index, All, IfOk, Some, None};
+ghost use Rattle.std.specs.Prelude.{◌≡◌, ◌≢◌, ℕ, ◌+◌, ◌<◌, ◌≤◌, ◌-◌, ◌^◌, ◌==◌, ◌&&◌, ◌||◌, not, if◌then◌else◌, true, List, [], length, map, reverse, slice_index, All, IfOk, Some, None};
 ghost use Rattle.mat_sets.specs.Graphs.{IsGraph, ends_of};
 ghost use Rattle.mat_sets.specs.Sets.{AllBelow, IsSet};
 ghost use Rattle.mat_laws.specs.Matroids.{IsMaximal};
@@ -58,7 +58,7 @@ fn brings_each(
 }
 
 /// Whether the edges of the pairs are those of the set, each once, and each brings its vertex. The only error is want of memory.
-pub(crate) fn forest_shows(
+pub(crate) fn shows_forest(
     alloc: Global,
     matroid: &Graphic,
     pairs: &Pairs,
@@ -229,17 +229,16 @@ pub(crate) fn component_labels(
     alloc: Global,
     matroid: &Graphic,
     set: &ElemSet,
-    inside: &ElemSet,
 ) -> Result<Vec<u32>, AllocError>
     requires sound { IsGraph matroid.now.vertices matroid.now.edges }
     requires set { IsSet (length matroid.now.edges) set.now }
-    requires maximal { IsMaximal (is_graphic (length matroid.now.edges) (ends_of matroid.now.edges)) set.now inside.now }
     ensures part { IfOk result (λ numbers. IsBoundFor (length matroid.now.edges) (graphic matroid.now.vertices matroid.now.edges)
         (labels numbers.items)) }
     ensures shows { IfOk result (λ numbers. shows_bound (graphic matroid.now.vertices matroid.now.edges) (labels numbers.items)
         set.now ≡ true) }
-    ensures number { IfOk result (λ numbers. bound_of (graphic matroid.now.vertices matroid.now.edges) (labels numbers.items)
-        ≤ length inside.now) }
+    ensures number { IfOk result (λ numbers. (inside : List ℕ)
+        → IsMaximal (is_graphic (length matroid.now.edges) (ends_of matroid.now.edges)) set.now inside
+        → bound_of (graphic matroid.now.vertices matroid.now.edges) (labels numbers.items) ≤ length inside) }
 {
     matroid.components(alloc, set)
 }

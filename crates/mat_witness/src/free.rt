@@ -8,9 +8,9 @@ ghost use Rattle.mat_witness.specs.FreeParts.{shows_free};
 ghost use Rattle.mat_witness.specs.Parts.{IsFreeFor};
 ghost use Rattle.mat_witness.specs.Views.{free_part};
 
-use crate::forests::forest_shows;
-use crate::paths::paths_show;
-use crate::probes::probes_show;
+use crate::forests::shows_forest;
+use crate::paths::shows_paths;
+use crate::probes::shows_probes;
 use crate::witness::Free;
 use mat_any::AnyMatroid;
 use mat_laws::Matroid;
@@ -18,7 +18,7 @@ use mat_sets::ElemSet;
 use std::alloc::{AllocError, Global};
 
 /// Whether the part shows that the set is independent. The only error is want of memory.
-pub(crate) fn free_shown(
+pub(crate) fn shows_free(
     alloc: Global,
     matroid: &AnyMatroid,
     part: &Free,
@@ -34,13 +34,13 @@ pub(crate) fn free_shown(
         (AnyMatroid::Partition(partition), Free::Count) => partition.independent(alloc, set),
         (AnyMatroid::Laminar(laminar), Free::Count) => laminar.independent(alloc, set),
         (AnyMatroid::Graphic(graphic), Free::Forest(pairs)) => {
-            forest_shows(alloc, graphic, pairs, set)
+            shows_forest(alloc, graphic, pairs, set)
         }
         (AnyMatroid::Gammoid(gammoid), Free::Paths(walks)) => {
-            paths_show(alloc, gammoid, walks.as_slice(), set)
+            shows_paths(alloc, gammoid, walks.as_slice(), set)
         }
         (AnyMatroid::Gf2(gf2), Free::Probes(numbers)) => {
-            Ok(probes_show(gf2, numbers.as_slice(), set))
+            Ok(shows_probes(gf2, numbers.as_slice(), set))
         }
         _ => Ok(false),
     }

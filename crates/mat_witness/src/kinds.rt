@@ -41,12 +41,12 @@ pub fn are_witnessed(problem: &Problem) -> bool
     }
 }
 
-/// Whether an answer is the ladder of two matroids with a rung of this number.
+/// Whether an answer is one to `intersect` with a rung of this number.
 pub fn has_rung(answer: &Answer, k: u32) -> bool
     ensures { result ≡ has_rung (certificate_of answer.now) k }
 {
     match answer {
-        Answer::Intersect { rungs, .. } => (k as usize) < rungs.len().max(1),
+        Answer::Intersect { rungs, .. } => (k as usize) < rungs.len(),
         _ => false,
     }
 }

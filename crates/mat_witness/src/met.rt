@@ -1,6 +1,6 @@
 //! Whether bounds of ranks meet what is demanded of them.
 
-ghost use Rattle.std.specs.Prelude.{◌≡◌, ℕ, ◌<◌, ◌≤◌, [], ◌∷◌, drop, length, map, slice_index_or, All, IfOk};
+ghost use Rattle.std.specs.Prelude.{◌≡◌, ℕ, ◌<◌, ◌≤◌, if◌then◌else◌, [], ◌∷◌, length, map, slice_index_or, All, IfOk, Some, None};
 ghost use Rattle.mat_sets.specs.Limits.{most_elements};
 ghost use Rattle.mat_sets.specs.Sets.{IsSet};
 ghost use Rattle.mat_any.specs.Trees.{element_count, IsSound};
@@ -8,16 +8,16 @@ ghost use Rattle.mat_any.specs.Views.{tree_of};
 ghost use Rattle.mat_desc.specs.Grammar.{IsValidTree};
 ghost use Rattle.mat_witness.specs.Demands.{demand_for};
 ghost use Rattle.mat_witness.specs.Parts.{IsBoundFor};
-ghost use Rattle.mat_witness.specs.Shown.{are_met, AreBoundsFor, bounds_common_sets, meets};
+ghost use Rattle.mat_witness.specs.Shown.{are_met, AreBoundsFor, bounds_common_sets, demands_under, meets};
 ghost use Rattle.mat_witness.specs.Views.{bound_part};
 ghost use Rattle.mat_witness.specs.declared.witness.Most.{Most};
 
 use crate::bounds::bound_shown;
-use crate::demands::Demand;
+use crate::demands::{Demand, demands_under};
 use crate::witness::Most;
 use mat_any::AnyMatroid;
 use mat_laws::Matroid;
-use mat_sets::ElemSet;
+use mat_sets::{ElemSet, Weight};
 use std::alloc::{AllocError, Global};
 
 // Whether a bound shows what is demanded.
@@ -40,8 +40,8 @@ fn is_met(
     }
 }
 
-/// Whether each demand is met by the bound at its place, of bounds that are at least as many. The only error is want of memory.
-pub(crate) fn are_met(
+// Whether each demand is met by the bound at its place, of bounds that are at least as many.
+fn are_met(
     alloc: Global,
     matroid: &AnyMatroid,
     demands: &[Demand],
@@ -64,12 +64,32 @@ pub(crate) fn are_met(
     Ok(true)
 }
 
-/// The bounds behind so many.
-pub(crate) fn bounds_behind(parts: &[Most], count: usize) -> &[Most]
-    requires { count ≤ length parts.now }
-    ensures { result.now ≡ drop count parts.now }
+/// How many bounds stand for what is demanded under a half of a rung with this set, where they meet it, and else None. The only error is want
+/// of memory.
+pub(crate) fn met_under(
+    alloc: Global,
+    matroid: &AnyMatroid,
+    k: u32,
+    set: &ElemSet,
+    half: &[Weight],
+    parts: &[Most],
+) -> Result<Option<usize>, AllocError>
+    requires few { element_count (tree_of matroid.now) ≤ most_elements }
+    requires sound { IsSound (tree_of matroid.now) }
+    requires valid { IsValidTree (element_count (tree_of matroid.now)) (tree_of matroid.now) }
+    requires half { length half.now ≡ element_count (tree_of matroid.now) }
+    requires enough { length (demands_under (tree_of matroid.now) k set.now half.now) ≤ length parts.now }
+    requires parts { (i : ℕ) (part : Most) → i < length (demands_under (tree_of matroid.now) k set.now half.now)
+        → IsBoundFor (element_count (tree_of matroid.now)) (tree_of matroid.now) (bound_part (slice_index_or parts.now i part)) }
+    ensures { IfOk result (λ found. found ≡ (if are_met (demands_under (tree_of matroid.now) k set.now half.now) (map bound_part parts.now)
+        then Some (length (demands_under (tree_of matroid.now) k set.now half.now)) else None)) }
 {
-    &parts[count..]
+    let demands = demands_under(alloc, k, set, half)?;
+    if are_met(alloc, matroid, &demands, parts)? {
+        Ok(Some(demands.len()))
+    } else {
+        Ok(None)
+    }
 }
 
 /// Whether two bounds show that the rank of the elements outside the cut in the first matroid and that of the cut in the second add up to at

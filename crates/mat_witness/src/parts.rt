@@ -78,11 +78,9 @@ pub(crate) fn bound_for(
             set,
             inside,
         ),
-        AnyMatroid::Graphic(graphic) => {
-            Ok(Most::Labels(component_labels(alloc, graphic, set, inside)?))
-        }
+        AnyMatroid::Graphic(graphic) => Ok(Most::Labels(component_labels(alloc, graphic, set)?)),
         AnyMatroid::Gammoid(gammoid) => {
-            let (reach, gate) = closing_sets(alloc, gammoid, set, inside)?;
+            let (reach, gate) = closing_sets(alloc, gammoid, set)?;
             Ok(Most::Gate { reach, gate })
         }
         AnyMatroid::Gf2(gf2) => Ok(Most::Zeros(zeros_of(alloc, gf2, set, inside)?)),

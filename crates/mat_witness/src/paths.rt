@@ -165,7 +165,7 @@ fn linking_paths(
 
 /// Whether these are paths from sources, the i-th to the vertex of the i-th member of the set, and no vertex stands twice in all of them.
 /// The only error is want of memory.
-pub(crate) fn paths_show(
+pub(crate) fn shows_paths(
     alloc: Global,
     matroid: &Gammoid,
     lists: &[Walk],

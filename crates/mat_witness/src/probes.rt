@@ -1,6 +1,6 @@
 //! Numbers that tell the columns of a set from one another, in linear matroids over the field of two elements.
 
-ghost use Rattle.std.specs.Prelude.{◌≡◌, ◌<◌, ◌^◌, true, not, ◌==◌, if◌then◌else◌, length, slice_index_or, All, IfOk};
+ghost use Rattle.std.specs.Prelude.{◌≡◌, ◌<◌, true, not, ◌==◌, if◌then◌else◌, length, slice_index_or, IfOk};
 ghost use Rattle.std.specs.List.{list_all};
 ghost use Rattle.mat_sets.specs.Sets.{AllBelow, IsSet, all_below};
 ghost use Rattle.mat_gf2.specs.Columns.{IsBinaryMatrix, column_of, is_gf2};
@@ -37,7 +37,7 @@ fn tells_member(columns: &[u128], set: &[u32], number: u128, place: usize) -> bo
 
 /// Whether the i-th number has an odd number of binary ones in common with the column of the i-th member of the set, and an even number
 /// with the others.
-pub(crate) fn probes_show(matroid: &Gf2, numbers: &[u128], set: &ElemSet) -> bool
+pub(crate) fn shows_probes(matroid: &Gf2, numbers: &[u128], set: &ElemSet) -> bool
     requires sound { IsBinaryMatrix matroid.now.dim matroid.now.columns }
     requires set { IsSet (length matroid.now.columns) set.now }
     ensures { result ≡ shows_probes (column_of matroid.now.columns) numbers.now set.now }

@@ -57,16 +57,16 @@ fn bounds_in_row<'a>(
     count: u32,
     first: &AnyMatroid,
     second: &AnyMatroid,
-    one: usize,
-    two: usize,
+    firsts: usize,
+    seconds: usize,
 ) -> Result<(Vec<Most>, LineCursor<'a>), CertRefusal>
     requires first { IsValidTree count (tree_of first.now) }
     requires second { IsValidTree count (tree_of second.now) }
     ensures { Gives (λ x. (map bound_part x.0.items, lines_left x.1)) result
-        (row_at count (tree_of first.now) (tree_of second.now) one two (lines_left lines.entry)) }
+        (row_at count (tree_of first.now) (tree_of second.now) firsts seconds (lines_left lines.entry)) }
 {
-    let (bounds, lines) = more_bounds(alloc, Vec::new(alloc), lines, count, first, one)?;
-    let (bounds, lines) = more_bounds(alloc, bounds, lines, count, second, two)?;
+    let (bounds, lines) = more_bounds(alloc, Vec::new(alloc), lines, count, first, firsts)?;
+    let (bounds, lines) = more_bounds(alloc, bounds, lines, count, second, seconds)?;
     let (bounds, lines) = more_bounds(alloc, bounds, lines, count, first, 1)?;
     more_bounds(alloc, bounds, lines, count, second, 1)
 }

@@ -1,11 +1,11 @@
 //! Verifying a witness.
 
-ghost use Rattle.std.specs.Prelude.{◌≡◌, ◌≤◌, not, if◌then◌else◌, nat_le, true, drop, length, map, IfOk, Some, None};
+ghost use Rattle.std.specs.Prelude.{◌≡◌, ◌≤◌, not, if◌then◌else◌, nat_lt, true, drop, length, map, IfOk, Some, None};
 ghost use Rattle.mat_sets.specs.Limits.{most_elements};
 ghost use Rattle.mat_sets.specs.Sets.{IsSet};
 ghost use Rattle.mat_any.specs.Trees.{element_count, IsSound};
 ghost use Rattle.mat_any.specs.Views.{tree_of};
-ghost use Rattle.mat_cert.specs.Certificates.{intersect, IsRanged, IsRangedLadder, last_rung};
+ghost use Rattle.mat_cert.specs.Certificates.{intersect, IsRanged, IsRangedLadder};
 ghost use Rattle.mat_cert.specs.Views.{certificate_of};
 ghost use Rattle.mat_desc.specs.Grammar.{IsValid, IsValidTree};
 ghost use Rattle.mat_desc.specs.Instances.{pair};
@@ -17,9 +17,9 @@ ghost use Rattle.mat_witness.specs.Shown.{AreBoundsFor, are_met, bounded_trees, 
 ghost use Rattle.mat_witness.specs.Shown.{IsWitness, IsWitnessFor, failing_part};
 ghost use Rattle.mat_witness.specs.Views.{bound_part, free_part, witness_parts};
 
-use crate::demands::demands_under;
-use crate::free::free_shown;
-use crate::met::{are_met, bounds_behind, bounds_common_sets};
+use crate::bound_rows::bounds_behind;
+use crate::free::shows_free;
+use crate::met::{bounds_common_sets, met_under};
 use crate::priced::is_priced;
 use crate::witness::{Most, Witness};
 use mat_any::AnyMatroid;
@@ -44,10 +44,10 @@ fn shows_common_set(
     requires second_part { IsFreeFor (element_count (tree_of second.now)) (length set.now) (tree_of second.now) (free_part witness.now.second) }
     ensures { IfOk result (λ free. free ≡ shows_common_set (tree_of first.now) (tree_of second.now) (witness_parts witness.now) set.now) }
 {
-    if !free_shown(alloc, first, &witness.first, set)? {
+    if !shows_free(alloc, first, &witness.first, set)? {
         return Ok(false);
     }
-    free_shown(alloc, second, &witness.second, set)
+    shows_free(alloc, second, &witness.second, set)
 }
 
 // The number of the part that fails, of the two that bound ranks: the bounds meet what is demanded for both halves of the rung, and the two
@@ -79,20 +79,19 @@ fn failing_bounds(
         (drop (length (demands_of (tree_of first.now) (tree_of second.now) k rung.now)) (map bound_part parts.now))) then Some 4 else
         None))) }
 {
-    let firsts = demands_under(alloc, k, &rung.set, rung.first.as_slice())?;
-    let seconds = demands_under(alloc, k, &rung.set, rung.second.as_slice())?;
-    if !are_met(alloc, first, &firsts, parts)? {
+    let Some(firsts) = met_under(alloc, first, k, &rung.set, rung.first.as_slice(), parts)? else {
         return Ok(Some(3));
-    }
-    let rest = bounds_behind(parts, firsts.len());
-    if !are_met(alloc, second, &seconds, rest)? {
+    };
+    let rest = bounds_behind(parts, firsts);
+    let Some(seconds) = met_under(alloc, second, k, &rung.set, rung.second.as_slice(), rest)? else {
         return Ok(Some(3));
+    };
+    let last_two = bounds_behind(rest, seconds);
+    if bounds_common_sets(alloc, first, second, cut, last, last_two)? {
+        Ok(None)
+    } else {
+        Ok(Some(4))
     }
-    let last_two = bounds_behind(rest, seconds.len());
-    if !bounds_common_sets(alloc, first, second, cut, last, last_two)? {
-        return Ok(Some(4));
-    }
-    Ok(None)
 }
 
 // The number of the first part that fails, for two matroids and a ladder that has rung k.
@@ -110,7 +109,7 @@ fn failing_part(
     requires valid { IsValid (pair weights.now (tree_of first.now) (tree_of second.now)) }
     requires sound { IsSoundInstance (pair weights.now (tree_of first.now) (tree_of second.now)) }
     requires ranged { IsRangedLadder count rungs.now cut.now }
-    requires rung { nat_le k (last_rung rungs.now) ≡ true }
+    requires rung { nat_lt k (length rungs.now) ≡ true }
     requires witness { IsWitness (length weights.now) (tree_of first.now) (tree_of second.now) k (rung_at rungs.now k) (witness_parts witness.now) }
     ensures { IfOk result (λ part. part ≡ failing_part (pair weights.now (tree_of first.now) (tree_of second.now))
         (intersect count rungs.now cut.now) k (witness_parts witness.now)) }

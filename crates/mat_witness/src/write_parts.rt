@@ -1,6 +1,6 @@
 //! Writing the parts of a witness.
 
-ghost use Rattle.std.specs.Prelude.{◌≡◌, ◌≤◌, ◌+◌, ◌-◌, ◌++◌, ◌∷◌, [], length, codes, drop, map, pos, OnOk};
+ghost use Rattle.std.specs.Prelude.{◌≡◌, ◌≤◌, ◌+◌, ◌++◌, ◌∷◌, [], length, codes, map, pos, OnOk};
 ghost use Rattle.std.specs.List.{flat_map};
 ghost use Rattle.mat_words.specs.Lines.{text_of};
 ghost use Rattle.mat_words.specs.Numbers.{numeral};
@@ -10,6 +10,7 @@ ghost use Rattle.mat_witness.specs.BoundRows.{row_trees};
 ghost use Rattle.mat_witness.specs.Lines.{binary_line, bound_lines, bounds_lines, digits_of, free_lines};
 ghost use Rattle.mat_witness.specs.Views.{bound_part, free_part};
 
+use crate::bound_rows::bounds_behind;
 use crate::witness::{Free, Most};
 use mat_any::AnyMatroid;
 use mat_flow::Walk;
@@ -152,32 +153,23 @@ fn put_bounds(out: &mut Vec<u8>, matroid: &AnyMatroid, bounds: &[Most]) -> Resul
     Ok(())
 }
 
-// The bounds behind so many.
-fn behind(bounds: &[Most], many: usize) -> &[Most]
-    requires { many ≤ length bounds.now }
-    ensures rest { result.now ≡ drop many bounds.now }
-    ensures length { length result.now ≡ length bounds.now - many }
-{
-    &bounds[many..]
-}
-
 /// Appends the lines of bounds in a row: so many in the first of two matroids, so many in the second, and then one in each.
 pub(crate) fn put_row(
     out: &mut Vec<u8>,
     first: &AnyMatroid,
     second: &AnyMatroid,
-    one: usize,
-    two: usize,
+    firsts: usize,
+    seconds: usize,
     bounds: &[Most],
 ) -> Result<(), AllocError>
-    requires { length bounds.now ≡ one + (two + 2) }
+    requires { length bounds.now ≡ firsts + (seconds + 2) }
     ensures { OnOk result (out.new.items ≡ out.old.items
-        ++ text_of (bounds_lines (row_trees (tree_of first.now) (tree_of second.now) one two) (map bound_part bounds.now))) }
+        ++ text_of (bounds_lines (row_trees (tree_of first.now) (tree_of second.now) firsts seconds) (map bound_part bounds.now))) }
 {
-    let rest = behind(bounds, one);
-    let last = behind(rest, two);
-    put_bounds(out, first, &bounds[..one])?;
-    put_bounds(out, second, &rest[..two])?;
-    put_bounds(out, first, &last[..1])?;
-    put_bounds(out, second, behind(last, 1))
+    let rest = bounds_behind(bounds, firsts);
+    let last_two = bounds_behind(rest, seconds);
+    put_bounds(out, first, &bounds[..firsts])?;
+    put_bounds(out, second, &rest[..seconds])?;
+    put_bounds(out, first, &last_two[..1])?;
+    put_bounds(out, second, bounds_behind(last_two, 1))
 }

@@ -11,4 +11,5 @@ pub mod Closing
 pub mod WordReading
 pub mod BinaryLaws
 pub mod LineReading
+pub mod ItemLines
 pub mod NameLemmas

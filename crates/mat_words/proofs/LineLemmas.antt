@@ -5,7 +5,7 @@ use Rattle.std.specs.List.{list_all, join_with_byte}
 use Rattle.std.proofs.lemmas.Bool.{ne_eqb, eq-eqb, cases_eq}
 use Rattle.std.proofs.lemmas.List.{append_assoc, append-nil, append_cancel_right}
 use Rattle.std.proofs.lemmas.List.Elements.{All-nil, All-cons, All-head, All-tail, All-weaker}
-use Rattle.std.proofs.lemmas.List.Splits.{slice_split_at}
+use Rattle.std.proofs.lemmas.List.Splits.{slice_split_at, join_with_byte-slice_split}
 use Rattle.mat_words.specs.Lines.{is_newline, lines_of, text_of, HasNoNewline, AreLines, IsFirstLine}
 use Rattle.mat_words.specs.Words.{is_word, words_of}
 use Rattle.mat_words.proofs.WordLemmas.{words_again, joined_no_newline}
@@ -35,6 +35,10 @@ cut_or_last (b ∷ bs) =
         )
       ]
     ]
+
+-- texts with the same lines are the same
+pub same_text : (first second : List ℕ) → lines_of first ≡ lines_of second → first ≡ second
+same_text first second e = sym (join_with_byte-slice_split 10 first) ∙ ap (join_with_byte 10) e ∙ join_with_byte-slice_split 10 second
 
 -- the text of two lists of lines is that of the first and then that of the second
 pub text_of-append : (first second : List (List (List ℕ))) → text_of (first ++ second) ≡ text_of first ++ text_of second

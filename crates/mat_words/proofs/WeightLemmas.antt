@@ -20,6 +20,7 @@ use Rattle.mat_words.specs.Weights.{weight_word, untied, tied, weight_of_parts, 
 use Rattle.mat_words.specs.Weights.{is_weight_between, weight_in, both_in}
 use Rattle.mat_words.proofs.NumberLemmas.{digit_bytes, spelled, read_again, numeral_word, ranged_ok, between_gives, between_from}
 use Rattle.mat_words.proofs.Splitting.{some_parts}
+use Rattle.mat_words.proofs.WordLemmas.{word_letters}
 
 -- ---- a numeral has no `:`
 
@@ -93,10 +94,6 @@ pub number_is_weight : (word : List ℕ) (z : ℤ) → number_of word ≡ Some z
 number_is_weight word z h = rw (spelled word z h, one_part z, read_again z) refl
 
 -- ---- the spelling of a weight is a word
-
-word_letters : (w : List ℕ) → is_word w ≡ true → list_all is_letter w ≡ true
-word_letters [] h = absurd cc
-word_letters (b ∷ bs) h = h
 
 letters_append : (a b : List ℕ) → list_all is_letter a ≡ true → list_all is_letter b ≡ true → list_all is_letter (a ++ b) ≡ true
 letters_append [] b h k = k

@@ -97,7 +97,7 @@ letters_apart stop le (b ∷ bs) h =
     (ne_eqb b stop (λ e. omega arith), letters_apart stop le bs p.1)
 
 -- a word has letters alone
-word_letters : (w : List ℕ) → is_word w ≡ true → list_all is_letter w ≡ true
+pub word_letters : (w : List ℕ) → is_word w ≡ true → list_all is_letter w ≡ true
 word_letters [] h = absurd cc
 word_letters (b ∷ bs) h = h
 

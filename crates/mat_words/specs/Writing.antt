@@ -1,9 +1,14 @@
--- Lines that begin with a keyword.
+-- Words behind spaces, and lines that begin with a keyword.
 use Rattle.std.specs.Prelude.{ℕ, ℤ, List, [], ◌∷◌, map, codes}
+use Rattle.std.specs.List.{flat_map}
 use Rattle.mat_words.specs.Numbers.{numeral, numerals}
 use Rattle.mat_sets.specs.declared.weight.Weight.{Weight}
 use Rattle.mat_words.specs.Lines.{Line}
 use Rattle.mat_words.specs.Weights.{weight_word}
+
+-- the bytes of words, each behind a space
+abbrev pub spaced : Line → List ℕ
+spaced words = flat_map (λ word. 32 ∷ word) words
 
 -- a line of a keyword and numbers
 abbrev pub numbers_line : List ℕ → List ℤ → Line

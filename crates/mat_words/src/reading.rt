@@ -14,7 +14,8 @@ use crate::words::{split_word, well_spaced};
 use mat_sets::Weight;
 use std::alloc::Global;
 
-/// The words of the next line, which has to have words, and the lines behind it. It takes no memory, as all calls here but
+/// The words of the next line, and the lines behind it. [`ReadingFault::EndsEarly`] where no byte 10 is left, [`ReadingFault::BadByte`]
+/// where the line isn't well spaced, and [`ReadingFault::NoWord`] where it is empty. It takes no memory, as all calls here but
 /// `next_weights`.
 #[tactic(auto, unfolding(crate::specs::Reading::line_at))]
 pub fn words_line<'a>(
@@ -52,7 +53,7 @@ pub fn nothing_left(lines: LineCursor<'_>) -> bool
     lines.text.is_empty()
 }
 
-/// The next word of a line, and what is left behind it.
+/// The next word of a line, and what is left behind it. [`ReadingFault::NoWord`] where none is left.
 #[tactic(auto, unfolding(crate::specs::Reading::word_at))]
 pub fn next_word<'a>(words: WordCursor<'a>) -> Result<(&'a [u8], WordCursor<'a>), ReadingRefusal>
     ensures value { Gives (λ x. (x.0.now, words_left x.1)) result (word_at (words_left words.entry)) }
@@ -66,7 +67,8 @@ pub fn next_word<'a>(words: WordCursor<'a>) -> Result<(&'a [u8], WordCursor<'a>)
     Ok((word, WordCursor { line, left }))
 }
 
-/// The next word of a line as a number in `low..=high`.
+/// The next word of a line as a number in `low..=high`. [`ReadingFault::NoWord`] where none is left, and [`ReadingFault::Number`] where it
+/// is no number or one out of range.
 #[tactic(auto, unfolding(crate::specs::Reading::number_at))]
 pub fn next_number<'a>(
     words: WordCursor<'a>,
@@ -84,7 +86,8 @@ pub fn next_number<'a>(
     }
 }
 
-/// The next word of a line as a number in `low..=most`.
+/// The next word of a line as a number in `low..=most`. [`ReadingFault::NoWord`] where none is left, and [`ReadingFault::Number`] where it
+/// is no number or one out of range.
 #[tactic(auto, unfolding(crate::specs::Reading::size_at))]
 pub fn next_size<'a>(
     words: WordCursor<'a>,
@@ -99,7 +102,8 @@ pub fn next_size<'a>(
     Ok((number as u32, words))
 }
 
-/// The next word of a line as a number below the bound.
+/// The next word of a line as a number below the bound. [`ReadingFault::NoWord`] where none is left, and [`ReadingFault::Number`] where it
+/// is no number or one out of range.
 #[tactic(auto, unfolding(crate::specs::Reading::below_at))]
 pub fn next_below<'a>(
     words: WordCursor<'a>,
@@ -113,7 +117,8 @@ pub fn next_below<'a>(
     Ok((number as u32, words))
 }
 
-/// The next word of a line as a number of so many binary digits.
+/// The next word of a line as a number of so many binary digits. [`ReadingFault::NoWord`] where none is left, and [`ReadingFault::Number`]
+/// where it is no such number.
 #[tactic(auto, unfolding(crate::specs::Reading::binary_at))]
 pub fn next_binary<'a>(
     words: WordCursor<'a>,
@@ -131,7 +136,8 @@ pub fn next_binary<'a>(
     }
 }
 
-/// The next word of a line as a weight of which each number is in `low..=high`.
+/// The next word of a line as a weight of which each number is in `low..=high`. [`ReadingFault::NoWord`] where none is left, and
+/// [`ReadingFault::Number`] where it is no weight or one with a number out of range.
 #[tactic(auto, unfolding(crate::specs::Reading::weight_at))]
 pub fn next_weight<'a>(
     words: WordCursor<'a>,
@@ -148,7 +154,8 @@ pub fn next_weight<'a>(
     }
 }
 
-/// The next words of a line as `count` weights of which each number is in `low..=high`.
+/// The next words of a line as `count` weights of which each number is in `low..=high`. The faults are those of [`next_weight`] at the
+/// first weight that has one, and [`ReadingRefusal::Memory`] is want of memory.
 pub fn next_weights<'a>(
     alloc: Global,
     words: WordCursor<'a>,
@@ -168,7 +175,8 @@ pub fn next_weights<'a>(
     Ok((weights, rest))
 }
 
-/// The words of the next line behind its first, which has to be this one, and the lines behind it.
+/// The words of the next line behind its first, which has to be this one, and the lines behind it. [`ReadingFault::UnknownWord`] where it
+/// is another, and the faults of [`words_line`].
 #[tactic(auto, unfolding(crate::specs::Reading::keyed_at))]
 pub fn keyed_line<'a>(
     lines: LineCursor<'a>,

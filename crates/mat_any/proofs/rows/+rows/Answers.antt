@@ -228,4 +228,4 @@ union_row-returns-clause-row t c =
     let ms = c.args.matroids.now in
     let all = c.in_ok-all.ensures ∙ ap all_below c.common_size_of.ensures in
     let ended = subst (λ a. IsEnded (size_in ms) (map test_in ms) c.args.parts.now a c.args.x c.in_ok-search.search) all c.in_ok-search.ensures.ended in
-    IfOk-weaker c.row_by_search.result _ _ (λ e told. told (size_in ms) (map test_in ms) c.args.x ended) c.row_by_search.ensures.row
+    IfOk-weaker c.row_by_search.result _ _ (λ e told. told (size_in ms) (map test_in ms) c.args.parts.now c.args.x c.requires.together ended) c.row_by_search.ensures.row

@@ -20,10 +20,10 @@ use Rattle.mat_minors.proofs.MinorRuns.{contracted_greedy, restricted_along}
 use Rattle.mat_minors.proofs.RunOrders.{after_below, after_distinct, turned_below, turned_distinct}
 use Rattle.mat_union.proofs.FillingParts.{start_growing}
 use Rattle.mat_union.proofs.GrowingParts.{placed_grow}
-use Rattle.mat_union.proofs.GrowingSteps.{death_grown}
-use Rattle.mat_union.proofs.GrowthLoops.{dies}
+use Rattle.mat_union.proofs.GrowingSteps.{spanned_grown}
+use Rattle.mat_union.proofs.GrowthLoops.{is_spanned}
 use Rattle.mat_union.proofs.SoundMatroids.{anew_same, anew_set, kept_more, test_is, AreKeptAnew, AreKeptSo}
-use Rattle.mat_union.proofs.UnionRuns.{dead_turn, first_run_are, first_run_holds, placed_turn, running_first, running_more, turn_stands}
+use Rattle.mat_union.proofs.UnionRuns.{spanned_turn, first_run_are, first_run_holds, placed_turn, running_first, running_more, turn_stands}
 use Rattle.mat_union.specs.Placings.{ArePlaced, IsPlaceSearch, IsStuckSearch}
 use Rattle.mat_union.specs.Unions.{part_at}
 use Rattle.mat_any.specs.AnyKeeps.{KeepsAny}
@@ -298,7 +298,7 @@ first_growth-returns-clause-growing t c =
     let test = test_is test_in ms 0 c.index-matroids-0.result some c.index-matroids-0.is in
     let are = first_run_are (each_lawful ms c.requires.joined) (subst (λ k. 0 < k) (sym count) some) c.args.order.now c.in_ok-first.first
     (c.in_ok-first.ensures ∙ ap (λ p. grown_along p [] c.args.order.now) (sym test)) c.in_ok-parts.parts (c.in_ok-parts.ensures.long ∙ sym count) c.in_ok-parts.ensures.first c.in_ok-parts.ensures.others in
-    start_growing (each_lawful ms c.requires.joined) c.in_ok-parts.parts are _ _ c.new.ensures.members (c.in_ok-alive.ensures ∙ ap all_below c.common_size_of.ensures)
+    start_growing (each_lawful ms c.requires.joined) c.in_ok-parts.parts are _ _ c.new.ensures.members (c.in_ok-unspanned.ensures ∙ ap all_below c.common_size_of.ensures)
 
 pub first_growth-returns-clause-first : goal.first_growth-returns-clause-first
 first_growth-returns-clause-first t c =
@@ -316,46 +316,46 @@ take_turn-returns-then-stands-clause-step t c =
     let x = c.args.x in
     elim c.then-stands.branch [
       | take_turn-then-stands-via-then-stands w ↦ turn_stands (union_in ms) (family_union old.parts) x (sym c.stands.ensures ∙ w.if-stands.true)
-      | take_turn-then-stands-via-else-stands+then-not-contains w ↦ dead_turn (each_lawful ms c.requires.joined) x (sym c.stands.ensures ∙ w.if-stands.false) c.requires.growing
-          (dies c.requires.growing x c.requires.below (sym w.contains.ensures ∙ w.if-not-contains.true))
+      | take_turn-then-stands-via-else-stands+then-not-contains w ↦ spanned_turn (each_lawful ms c.requires.joined) x (sym c.stands.ensures ∙ w.if-stands.false) c.requires.growing
+          (is_spanned c.requires.growing x c.requires.below (sym w.contains.ensures ∙ w.if-not-contains.true))
     ]
 
 pub take_turn-returns-in_ok-keep_changed-in-Placed-clause-growing : goal.take_turn-returns-in_ok-keep_changed-in-Placed-clause-growing
 take_turn-returns-in_ok-keep_changed-in-Placed-clause-growing t c =
     let ms = c.args.matroids.now in
     let old = c.args.growth.now in
-    let placed : ArePlaced (map test_in ms) old.parts old.alive c.args.x c.in-Placed.new =
-    subst (IsPlaceSearch (size_in ms) (map test_in ms) old.parts old.alive c.args.x) c.in-Placed.is c.in_ok-new.ensures in
+    let placed : ArePlaced (map test_in ms) old.parts old.unspanned c.args.x c.in-Placed.new =
+    subst (IsPlaceSearch (size_in ms) (map test_in ms) old.parts old.unspanned c.args.x) c.in-Placed.is c.in_ok-new.ensures in
     placed_grow (each_lawful ms c.requires.joined) c.requires.growing placed (sym c.contains.ensures ∙ c.if-not-contains.false)
 
 pub take_turn-returns-in_ok-keep_changed-in-Placed-clause-step : goal.take_turn-returns-in_ok-keep_changed-in-Placed-clause-step
 take_turn-returns-in_ok-keep_changed-in-Placed-clause-step t c =
     let ms = c.args.matroids.now in
     let old = c.args.growth.now in
-    let placed : ArePlaced (map test_in ms) old.parts old.alive c.args.x c.in-Placed.new =
-    subst (IsPlaceSearch (size_in ms) (map test_in ms) old.parts old.alive c.args.x) c.in-Placed.is c.in_ok-new.ensures in
+    let placed : ArePlaced (map test_in ms) old.parts old.unspanned c.args.x c.in-Placed.new =
+    subst (IsPlaceSearch (size_in ms) (map test_in ms) old.parts old.unspanned c.args.x) c.in-Placed.is c.in_ok-new.ensures in
     placed_turn (each_lawful ms c.requires.joined) c.args.x (sym c.stands.ensures ∙ c.if-stands.false) placed
 
-pub take_turn-returns-in_ok-kill-in-Stuck-clause-growing : goal.take_turn-returns-in_ok-kill-in-Stuck-clause-growing
-take_turn-returns-in_ok-kill-in-Stuck-clause-growing t c =
+pub take_turn-returns-in_ok-mark_spanned-in-Stuck-clause-growing : goal.take_turn-returns-in_ok-mark_spanned-in-Stuck-clause-growing
+take_turn-returns-in_ok-mark_spanned-in-Stuck-clause-growing t c =
     let ms = c.args.matroids.now in
     let old = c.args.growth.now in
-    let stuck : IsStuckSearch (size_in ms) (map test_in ms) old.parts old.alive c.args.x c.in-Stuck.search =
-    subst (IsPlaceSearch (size_in ms) (map test_in ms) old.parts old.alive c.args.x) c.in-Stuck.is c.in_ok-new.ensures in
-    death_grown (each_lawful ms c.requires.joined) c.requires.growing stuck.reaching stuck.end c.kill.new.dead c.kill.new.alive c.reached.result.now c.reached.ensures
-    c.kill.ensures.rises c.in_ok-kill-in-Stuck.ensures.dead c.in_ok-kill-in-Stuck.ensures.alive
+    let stuck : IsStuckSearch (size_in ms) (map test_in ms) old.parts old.unspanned c.args.x c.in-Stuck.search =
+    subst (IsPlaceSearch (size_in ms) (map test_in ms) old.parts old.unspanned c.args.x) c.in-Stuck.is c.in_ok-new.ensures in
+    spanned_grown (each_lawful ms c.requires.joined) c.requires.growing stuck.reaching stuck.end c.mark_spanned.new.spanned c.mark_spanned.new.unspanned c.reached.result.now c.reached.ensures
+    c.mark_spanned.ensures.rises c.in_ok-mark_spanned-in-Stuck.ensures.spanned c.in_ok-mark_spanned-in-Stuck.ensures.unspanned
 
-pub take_turn-returns-in_ok-kill-in-Stuck-clause-step : goal.take_turn-returns-in_ok-kill-in-Stuck-clause-step
-take_turn-returns-in_ok-kill-in-Stuck-clause-step t c =
+pub take_turn-returns-in_ok-mark_spanned-in-Stuck-clause-step : goal.take_turn-returns-in_ok-mark_spanned-in-Stuck-clause-step
+take_turn-returns-in_ok-mark_spanned-in-Stuck-clause-step t c =
     let ms = c.args.matroids.now in
     let old = c.args.growth.now in
     let x = c.args.x in
-    let stuck : IsStuckSearch (size_in ms) (map test_in ms) old.parts old.alive x c.in-Stuck.search =
-    subst (IsPlaceSearch (size_in ms) (map test_in ms) old.parts old.alive x) c.in-Stuck.is c.in_ok-new.ensures in
-    let grown = death_grown (each_lawful ms c.requires.joined) c.requires.growing stuck.reaching stuck.end c.kill.new.dead c.kill.new.alive c.reached.result.now c.reached.ensures
-    c.kill.ensures.rises c.in_ok-kill-in-Stuck.ensures.dead c.in_ok-kill-in-Stuck.ensures.alive in
-    dead_turn (each_lawful ms c.requires.joined) x (sym c.stands.ensures ∙ c.if-stands.false) grown
-    (c.in_ok-kill-in-Stuck.ensures.dead x ∙ or_right (is_member x old.dead) (is_member x c.reached.result.now) (ap (is_member x) c.reached.ensures ∙ stuck.reaching.so_far.first))
+    let stuck : IsStuckSearch (size_in ms) (map test_in ms) old.parts old.unspanned x c.in-Stuck.search =
+    subst (IsPlaceSearch (size_in ms) (map test_in ms) old.parts old.unspanned x) c.in-Stuck.is c.in_ok-new.ensures in
+    let grown = spanned_grown (each_lawful ms c.requires.joined) c.requires.growing stuck.reaching stuck.end c.mark_spanned.new.spanned c.mark_spanned.new.unspanned c.reached.result.now c.reached.ensures
+    c.mark_spanned.ensures.rises c.in_ok-mark_spanned-in-Stuck.ensures.spanned c.in_ok-mark_spanned-in-Stuck.ensures.unspanned in
+    spanned_turn (each_lawful ms c.requires.joined) x (sym c.stands.ensures ∙ c.if-stands.false) grown
+    (c.in_ok-mark_spanned-in-Stuck.ensures.spanned x ∙ or_right (is_member x old.spanned) (is_member x c.reached.result.now) (ap (is_member x) c.reached.ensures ∙ stuck.reaching.so_far.first))
 
 pub keep_changed-loop-i-preserved : goal.keep_changed-loop-i-preserved
 keep_changed-loop-i-preserved t c =

@@ -8,7 +8,7 @@ use Rattle.mat_any.proofs.runs.+running.Given as goal
 
 abbrev pub invariant-grown_parts-loop-x : goal.invariant-grown_parts-loop-x
 invariant-grown_parts-loop-x l = record {
-  growing : AreGrowing (size_in l.matroids) (map test_in l.matroids) l.growth.parts l.growth.dead l.growth.alive;
+  growing : AreGrowing (size_in l.matroids) (map test_in l.matroids) l.growth.parts l.growth.spanned l.growth.unspanned;
   kept : AreKept KeepsOne l.matroids l.growth.parts l.growth.kept.items;
   running : IsRunning (union_in l.matroids) l.order l.x-index (family_union l.growth.parts);
 }

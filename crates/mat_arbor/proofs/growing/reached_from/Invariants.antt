@@ -1,10 +1,10 @@
-use Rattle.std.proofs.Common.{◌-◌, length}
+use Rattle.std.proofs.Common.{◌-◌, suc, length}
 use Rattle.mat_sets.specs.Graphs.{ends_of}
 use Rattle.mat_arbor.specs.Growing.{IsGrownTree}
 use Rattle.mat_arbor.proofs.growing.reached_from.Given as goal
 
 abbrev pub invariant-loop-a : goal.invariant-loop-a
-invariant-loop-a l = IsGrownTree l.vertices (length l.arcs) (ends_of l.arcs) l.root l.reached
+invariant-loop-a l = IsGrownTree (length l.arcs) (ends_of l.arcs) l.root l.reached
 
 abbrev pub decreases-loop-a : goal.decreases-loop-a
-decreases-loop-a l = l.vertices - length l.reached
+decreases-loop-a l = suc (length l.arcs) - length l.reached

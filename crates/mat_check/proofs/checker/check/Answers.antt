@@ -1,4 +1,4 @@
-use Rattle.std.proofs.Common.{◌≡◌, None, sym, ◌∙◌}
+use Rattle.std.proofs.Common.{sym, ◌∙◌}
 use Rattle.mat_cert.specs.Views.{certificate_of}
 use Rattle.mat_desc.specs.Views.{instance_of}
 use Rattle.mat_check.specs.AnswerClauses.{answer_clauses, has_header}

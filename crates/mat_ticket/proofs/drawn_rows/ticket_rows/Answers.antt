@@ -1,8 +1,10 @@
 -- The shares, seats and rows that the workers have after their work are those that joining and placing ask for.
-use Rattle.std.proofs.Common.{◌∙◌, sym, subst}
+use Rattle.std.proofs.Common.{◌≡◌, ℕ, ◌<◌, map, ◌∙◌, sym, subst}
 use Rattle.std.specs.List.{AllByRecursion}
 use Rattle.std.proofs.lemmas.Result.{IfOk-weaker}
-use Rattle.mat_ticket.specs.Placing.{FitsRoom}
+use Rattle.mat_sets.specs.Families.{multiplicity}
+use Rattle.mat_ticket.specs.Joined.{IsSeated}
+use Rattle.mat_ticket.specs.Placing.{FitsRoom, tickets_of}
 use Rattle.mat_ticket.proofs.Teams.{same_shares}
 use Rattle.mat_ticket.proofs.AllTickets.{all_seated, all_fit, rows_in_order, tickets_of_all}
 use Rattle.mat_ticket.proofs.drawn_rows.ticket_rows.Goals as goal
@@ -13,7 +15,8 @@ join_seats-requires-clause-shares g c =
 
 pub join_seats-requires-clause-seated : goal.join_seats-requires-clause-seated
 join_seats-requires-clause-seated g c =
-    all_seated c.in_ok-table.table.shared.table_id (g.J.RowJob.stands c.args.job.now) c.args.count c.in_ok-done.done.items c.in_ok-done.ensures.done
+    subst (λ k. AllByRecursion (IsSeated c.in_ok-table.table.shared.table_id k) c.in_ok-done.done.items) (sym c.in_ok-table.ensures.table.1)
+    (all_seated c.in_ok-table.table.shared.table_id (g.J.RowJob.stands c.args.job.now) c.args.count c.in_ok-done.done.items c.in_ok-done.ensures.done)
 
 pub arrange-requires-clause-fit : goal.arrange-requires-clause-fit
 arrange-requires-clause-fit g c =
@@ -36,5 +39,6 @@ returns-clause-tickets g c =
     c.in_ok-done.done.items c.in_ok-outputs.outputs.items
     d.tickets.items c.in_ok-done.ensures.done c.in_ok-outputs.ensures.finished c.in_ok-outputs.ensures.outputs
     (c.in_ok-done.ensures.count ∙ c.in_ok-team.ensures.count)
-    c.in_ok-outputs.ensures.once h)
+    (subst (λ k. (x : ℕ) → x < k → multiplicity x (map tickets_of c.in_ok-outputs.outputs.items) ≡ 1) c.in_ok-table.ensures.table.1
+    c.in_ok-outputs.ensures.once) h)
     c.arrange.ensures.tickets

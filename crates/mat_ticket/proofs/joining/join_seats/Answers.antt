@@ -8,7 +8,7 @@ pub loop-team-init : goal.loop-team-init
 loop-team-init g c =
     let w = c.remove-whole.result in
     let rest = c.remove-whole.new.self.items in
-    joining-start c.args.word.now.table_id c.args.count c.args.team.items rest w c.push.new.self.items
+    joining-start c.args.word.now.table_id c.args.word.now.key c.args.team.items rest w c.push.new.self.items
     (first_removed c.args.team.items rest w c.requires.some c.remove-whole.ensures.value c.remove-whole.ensures.by_index.2)
     (c.in_ok-push.ensures.items ∙ ap (λ l. l ++ output_of w ∷ []) c.requires.empty)
     c.requires.shares c.requires.seated
@@ -18,7 +18,7 @@ loop-team-preserved-then-all g c =
     let now = c.loop-team in
     let w = c.remove-seat.result in
     let rest = c.remove-seat.new.self.items in
-    joining-next c.args.word.now.table_id c.args.count c.args.team.items now.team.items rest w
+    joining-next c.args.word.now.table_id c.args.word.now.key c.args.team.items now.team.items rest w
     now.outputs.items c.push-in-loop-team.new.self.items now.whole.table_id c.join_other.new.seat.table_id now.whole.me.0 c.join_other.new.seat.me.0
     now.all w.finished
     (first_removed now.team.items rest w (search rules) c.remove-seat.ensures.value c.remove-seat.ensures.by_index.2)
@@ -27,5 +27,5 @@ loop-team-preserved-then-all g c =
 
 pub returns-clause-once : goal.returns-clause-once
 returns-clause-once g c =
-    each_once c.args.count c.read_all.result c.loop-team.whole.me.0.drawn c.loop-team.outputs.items
+    each_once c.args.word.now.key c.read_all.result c.loop-team.whole.me.0.drawn c.loop-team.outputs.items
     (c.loop-team.invariant.joined c.if-not-all.false) c.read_all.ensures

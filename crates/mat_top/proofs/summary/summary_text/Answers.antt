@@ -1,7 +1,7 @@
 use Rattle.std.proofs.Common.{◌≡◌, ◌++◌, ◌∷◌, [], codes, pos, rules}
 use Rattle.mat_words.specs.Numbers.{numeral}
 use Rattle.mat_top.specs.Summaries.{kind_word, summary_words}
-use Rattle.mat_top.specs.SummaryTexts.{spaced}
+use Rattle.mat_words.specs.Writing.{spaced}
 use Rattle.mat_cert.specs.Views.{certificate_of}
 use Rattle.mat_top.proofs.SummaryLines.{line_of_pieces}
 use Rattle.mat_top.proofs.summary.summary_text.Goals as goal

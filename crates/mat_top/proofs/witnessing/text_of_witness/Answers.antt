@@ -6,11 +6,11 @@ use Rattle.mat_top.proofs.witnessing.text_of_witness.Goals as goal
 
 pub make_witness-requires-clause-right : goal.make_witness-requires-clause-right
 make_witness-requires-clause-right c =
-    right_rung (instance_of c.args.problem.now) (certificate_of c.args.answer.now) c.args.rung c.requires.rung c.requires.right
+    right_rung (instance_of c.args.problem.now) (certificate_of c.args.answer.now) c.args.k c.requires.rung c.requires.right
 
 pub returns-clause-text : goal.returns-clause-text
 returns-clause-text c =
     let made = c.in_ok-witness in
-    written_shows (instance_of c.args.problem.now) (certificate_of c.args.answer.now) c.args.rung c.in_ok-write_witness.field-0.items
+    written_shows (instance_of c.args.problem.now) (certificate_of c.args.answer.now) c.args.k c.in_ok-write_witness.field-0.items
     (witness_parts made.witness) c.requires.valid c.requires.ranged c.requires.rung made.ensures.witness made.ensures.shown
     c.in_ok-write_witness.ensures

@@ -60,7 +60,7 @@ grow_by-requires-clause-fresh g c κs within =
     let matroids = c.args.matroids.now in
     let w = c.args.weights.now in
     let n_is : c.size-n.result ≡ length w = c.size-n.ensures ∙ (sound_at size sound (length w) matroids c.requires.sound 0 c.index-matroids-0.result c.requires.some c.index-matroids-0.is).1 in
-    level_fresh c.size-n.result w c.loop-at.last c.in-Some.at c.loop-at.growth.parts c.loop-at.growth.dead (sym n_is) c.in-Some.ensures.0 c.loop-at.invariant.done c.as_slice.result.now (c.as_slice.ensures.items ∙ c.in_ok-elements.ensures)
+    level_fresh c.size-n.result w c.loop-at.last c.in-Some.at c.loop-at.growth.parts c.loop-at.growth.spanned (sym n_is) c.in-Some.ensures.0 c.loop-at.invariant.done c.as_slice.result.now (c.as_slice.ensures.items ∙ c.in_ok-elements.ensures)
 
 pub loop-at-init : goal.loop-at-init
 loop-at-init g c = record {

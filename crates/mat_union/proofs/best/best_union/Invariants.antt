@@ -8,9 +8,9 @@ use Rattle.mat_union.proofs.best.best_union.Given as goal
 
 abbrev pub invariant-loop-at : goal.invariant-loop-at
 invariant-loop-at g l = record {
-  growing : AreGrowing l.n (map g.M.Matroid.indep l.matroids) l.growth.parts l.growth.dead l.growth.alive;
+  growing : AreGrowing l.n (map g.M.Matroid.indep l.matroids) l.growth.parts l.growth.spanned l.growth.unspanned;
   kept : AreKept g.M.Matroid.keeps l.matroids l.growth.parts l.growth.kept.items;
-  done : AreDone l.n (came l.weights l.last) l.growth.parts l.growth.dead;
+  done : AreDone l.n (came l.weights l.last) l.growth.parts l.growth.spanned;
   levels : AreLevelsSo l.n (map g.M.Matroid.indep l.matroids) l.weights l.last l.growth.parts l.levels.items;
 }
 

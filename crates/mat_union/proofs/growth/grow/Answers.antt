@@ -5,68 +5,68 @@ use Rattle.mat_sets.specs.Sets.{is_member}
 use Rattle.mat_union.specs.GrownParts.{AreDone, AreGrowing}
 use Rattle.mat_union.specs.Placings.{ArePlaced, IsPlacing, IsStuckSearch}
 use Rattle.mat_union.proofs.GrowingParts.{placed_grow}
-use Rattle.mat_union.proofs.GrowingSteps.{death_done, death_grown, placed_done, placed_hold}
-use Rattle.mat_union.proofs.UnionRuns.{dead_turn, placed_turn}
+use Rattle.mat_union.proofs.GrowingSteps.{spanned_done, spanned_grown, placed_done, placed_hold}
+use Rattle.mat_union.proofs.UnionRuns.{spanned_turn, placed_turn}
 use Rattle.mat_union.proofs.growth.grow.Goals as goal
 
 pub returns-in-None-clause-growing : goal.returns-in-None-clause-growing
 returns-in-None-clause-growing g c =
     let tests = map g.M.Asked.indep c.args.matroids.now in
     let old = c.args.growth.now in
-    let placing = IsPlacing c.args.n tests old.parts old.alive c.args.x c.place.new.parts in
-    let placed : ArePlaced tests old.parts old.alive c.args.x c.place.new.parts = subst placing c.in-None.is c.in_ok-place.ensures.placed in
-    placed_grow c.all_lawful.ensures c.requires.growing placed c.requires.lives
+    let placing = IsPlacing c.args.n tests old.parts old.unspanned c.args.x c.place.new.parts in
+    let placed : ArePlaced tests old.parts old.unspanned c.args.x c.place.new.parts = subst placing c.in-None.is c.in_ok-place.ensures.placed in
+    placed_grow c.all_lawful.ensures c.requires.growing placed c.requires.unspanned
 
 pub returns-in-None-clause-done : goal.returns-in-None-clause-done
 returns-in-None-clause-done g c =
     let tests = map g.M.Asked.indep c.args.matroids.now in
     let old = c.args.growth.now in
-    let placing = IsPlacing c.args.n tests old.parts old.alive c.args.x c.place.new.parts in
-    let placed : ArePlaced tests old.parts old.alive c.args.x c.place.new.parts = subst placing c.in-None.is c.in_ok-place.ensures.placed in
+    let placing = IsPlacing c.args.n tests old.parts old.unspanned c.args.x c.place.new.parts in
+    let placed : ArePlaced tests old.parts old.unspanned c.args.x c.place.new.parts = subst placing c.in-None.is c.in_ok-place.ensures.placed in
     λ done d. placed_done placed done d
 
 pub returns-in-None-clause-holds : goal.returns-in-None-clause-holds
 returns-in-None-clause-holds g c =
     let tests = map g.M.Asked.indep c.args.matroids.now in
     let old = c.args.growth.now in
-    let placing = IsPlacing c.args.n tests old.parts old.alive c.args.x c.place.new.parts in
-    let placed : ArePlaced tests old.parts old.alive c.args.x c.place.new.parts = subst placing c.in-None.is c.in_ok-place.ensures.placed in
+    let placing = IsPlacing c.args.n tests old.parts old.unspanned c.args.x c.place.new.parts in
+    let placed : ArePlaced tests old.parts old.unspanned c.args.x c.place.new.parts = subst placing c.in-None.is c.in_ok-place.ensures.placed in
     placed_hold placed
 
-pub returns-in_ok-kill-in-Some-clause-growing : goal.returns-in_ok-kill-in-Some-clause-growing
-returns-in_ok-kill-in-Some-clause-growing g c =
+pub returns-in_ok-mark_spanned-in-Some-clause-growing : goal.returns-in_ok-mark_spanned-in-Some-clause-growing
+returns-in_ok-mark_spanned-in-Some-clause-growing g c =
     let tests = map g.M.Asked.indep c.args.matroids.now in
     let old = c.args.growth.now in
-    let placing = IsPlacing c.args.n tests old.parts old.alive c.args.x c.place.new.parts in
-    let stuck : (c.place.new.parts ≡ old.parts) × IsStuckSearch c.args.n tests old.parts old.alive c.args.x c.in-Some.stuck = subst placing c.in-Some.is c.in_ok-place.ensures.placed in
-    subst (λ p. AreGrowing c.args.n tests p c.kill.new.dead c.kill.new.alive) (sym stuck.0) (death_grown c.all_lawful.ensures c.requires.growing stuck.1.reaching stuck.1.end c.kill.new.dead c.kill.new.alive c.reached.result.now c.reached.ensures c.kill.ensures.rises
-    c.in_ok-kill-in-Some.ensures.dead c.in_ok-kill-in-Some.ensures.alive)
+    let placing = IsPlacing c.args.n tests old.parts old.unspanned c.args.x c.place.new.parts in
+    let stuck : (c.place.new.parts ≡ old.parts) × IsStuckSearch c.args.n tests old.parts old.unspanned c.args.x c.in-Some.stuck = subst placing c.in-Some.is c.in_ok-place.ensures.placed in
+    subst (λ p. AreGrowing c.args.n tests p c.mark_spanned.new.spanned c.mark_spanned.new.unspanned) (sym stuck.0) (spanned_grown c.all_lawful.ensures c.requires.growing stuck.1.reaching stuck.1.end c.mark_spanned.new.spanned c.mark_spanned.new.unspanned c.reached.result.now c.reached.ensures c.mark_spanned.ensures.rises
+    c.in_ok-mark_spanned-in-Some.ensures.spanned c.in_ok-mark_spanned-in-Some.ensures.unspanned)
 
-pub returns-in_ok-kill-in-Some-clause-done : goal.returns-in_ok-kill-in-Some-clause-done
-returns-in_ok-kill-in-Some-clause-done g c =
+pub returns-in_ok-mark_spanned-in-Some-clause-done : goal.returns-in_ok-mark_spanned-in-Some-clause-done
+returns-in_ok-mark_spanned-in-Some-clause-done g c =
     let tests = map g.M.Asked.indep c.args.matroids.now in
     let old = c.args.growth.now in
-    let placing = IsPlacing c.args.n tests old.parts old.alive c.args.x c.place.new.parts in
-    let stuck : (c.place.new.parts ≡ old.parts) × IsStuckSearch c.args.n tests old.parts old.alive c.args.x c.in-Some.stuck = subst placing c.in-Some.is c.in_ok-place.ensures.placed in
-    λ done d. subst (λ p. AreDone c.args.n (λ v. done v || eqb v c.args.x) p c.kill.new.dead) (sym stuck.0) (death_done c.all_lawful.ensures c.requires.growing stuck.1.reaching stuck.1.end c.kill.new.dead c.kill.new.alive c.reached.result.now c.reached.ensures c.kill.ensures.rises
-    c.in_ok-kill-in-Some.ensures.dead c.in_ok-kill-in-Some.ensures.alive done d)
+    let placing = IsPlacing c.args.n tests old.parts old.unspanned c.args.x c.place.new.parts in
+    let stuck : (c.place.new.parts ≡ old.parts) × IsStuckSearch c.args.n tests old.parts old.unspanned c.args.x c.in-Some.stuck = subst placing c.in-Some.is c.in_ok-place.ensures.placed in
+    λ done d. subst (λ p. AreDone c.args.n (λ v. done v || eqb v c.args.x) p c.mark_spanned.new.spanned) (sym stuck.0) (spanned_done c.all_lawful.ensures c.requires.growing stuck.1.reaching stuck.1.end c.mark_spanned.new.spanned c.mark_spanned.new.unspanned c.reached.result.now c.reached.ensures c.mark_spanned.ensures.rises
+    c.in_ok-mark_spanned-in-Some.ensures.spanned c.in_ok-mark_spanned-in-Some.ensures.unspanned done d)
 
 pub returns-in-None-clause-step : goal.returns-in-None-clause-step
 returns-in-None-clause-step g c =
     let tests = map g.M.Asked.indep c.args.matroids.now in
     let old = c.args.growth.now in
-    let placing = IsPlacing c.args.n tests old.parts old.alive c.args.x c.place.new.parts in
-    let placed : ArePlaced tests old.parts old.alive c.args.x c.place.new.parts = subst placing c.in-None.is c.in_ok-place.ensures.placed in
+    let placing = IsPlacing c.args.n tests old.parts old.unspanned c.args.x c.place.new.parts in
+    let placed : ArePlaced tests old.parts old.unspanned c.args.x c.place.new.parts = subst placing c.in-None.is c.in_ok-place.ensures.placed in
     placed_turn c.all_lawful.ensures c.args.x c.requires.fresh placed
 
-pub returns-in_ok-kill-in-Some-clause-step : goal.returns-in_ok-kill-in-Some-clause-step
-returns-in_ok-kill-in-Some-clause-step g c =
+pub returns-in_ok-mark_spanned-in-Some-clause-step : goal.returns-in_ok-mark_spanned-in-Some-clause-step
+returns-in_ok-mark_spanned-in-Some-clause-step g c =
     let tests = map g.M.Asked.indep c.args.matroids.now in
     let old = c.args.growth.now in
-    let placing = IsPlacing c.args.n tests old.parts old.alive c.args.x c.place.new.parts in
-    let stuck : (c.place.new.parts ≡ old.parts) × IsStuckSearch c.args.n tests old.parts old.alive c.args.x c.in-Some.stuck = subst placing c.in-Some.is c.in_ok-place.ensures.placed in
-    let grown : AreGrowing c.args.n tests old.parts c.kill.new.dead c.kill.new.alive = death_grown c.all_lawful.ensures c.requires.growing stuck.1.reaching stuck.1.end c.kill.new.dead c.kill.new.alive
-    c.reached.result.now c.reached.ensures c.kill.ensures.rises c.in_ok-kill-in-Some.ensures.dead c.in_ok-kill-in-Some.ensures.alive in
+    let placing = IsPlacing c.args.n tests old.parts old.unspanned c.args.x c.place.new.parts in
+    let stuck : (c.place.new.parts ≡ old.parts) × IsStuckSearch c.args.n tests old.parts old.unspanned c.args.x c.in-Some.stuck = subst placing c.in-Some.is c.in_ok-place.ensures.placed in
+    let grown : AreGrowing c.args.n tests old.parts c.mark_spanned.new.spanned c.mark_spanned.new.unspanned = spanned_grown c.all_lawful.ensures c.requires.growing stuck.1.reaching stuck.1.end c.mark_spanned.new.spanned c.mark_spanned.new.unspanned
+    c.reached.result.now c.reached.ensures c.mark_spanned.ensures.rises c.in_ok-mark_spanned-in-Some.ensures.spanned c.in_ok-mark_spanned-in-Some.ensures.unspanned in
     let reached : is_member c.args.x c.reached.result.now ≡ true = ap (is_member c.args.x) c.reached.ensures ∙ stuck.1.reaching.so_far.first in
-    ap family_union stuck.0 ∙ dead_turn c.all_lawful.ensures c.args.x c.requires.fresh grown
-    (c.in_ok-kill-in-Some.ensures.dead c.args.x ∙ or_right (is_member c.args.x old.dead) (is_member c.args.x c.reached.result.now) reached)
+    ap family_union stuck.0 ∙ spanned_turn c.all_lawful.ensures c.args.x c.requires.fresh grown
+    (c.in_ok-mark_spanned-in-Some.ensures.spanned c.args.x ∙ or_right (is_member c.args.x old.spanned) (is_member c.args.x c.reached.result.now) reached)

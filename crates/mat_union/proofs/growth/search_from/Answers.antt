@@ -8,7 +8,7 @@ use Rattle.mat_union.proofs.growth.search_from.Goals as goal
 pub loop-asked-init : goal.loop-asked-init
 loop-asked-init g c =
     let tests = map g.M.Asked.indep c.args.matroids.now in
-    subst (λ m. IsReaching c.args.n m (exchanges_with tests c.args.parts.now) c.args.alive.now c.args.x c.in_ok-search.search)
+    subst (λ m. IsReaching c.args.n m (exchanges_with tests c.args.parts.now) c.args.among.now c.args.x c.in_ok-search.search)
     (sym (parts_count g.M.Asked.indep c.args.matroids.now c.args.parts.now c.requires.parts)) (c.in_ok-search.ensures (exchanges_with tests c.args.parts.now))
 
 pub get-requires : goal.get-requires
@@ -33,9 +33,9 @@ loop-asked-preserved g c =
     let s = c.loop-asked.search in
     let e = parts_count g.M.Asked.indep c.args.matroids.now c.args.parts.now c.requires.parts in
     let l : c.in-Some.asked.part < length c.args.matroids.now = subst (λ q. q < length c.args.matroids.now) (sym c.in-Some.ensures.3) (let h = c.loop-asked.invariant.here in omega arith) in
-    let heard = row_answers tests c.args.parts.now s (g.M.Asked.indep c.index-matroids-i.result) c.get.result.now c.in-Some.asked.element c.in-Some.asked.part c.in_ok-row.row c.in-Some.ensures.2 c.in-Some.ensures.3
+    let told = row_answers tests c.args.parts.now s (g.M.Asked.indep c.index-matroids-i.result) c.get.result.now c.in-Some.asked.element c.in-Some.asked.part c.in_ok-row.row c.in-Some.ensures.2 c.in-Some.ensures.3
     (test_is g.M.Asked.indep c.args.matroids.now c.in-Some.asked.part c.index-matroids-i.result l c.index-matroids-i.is) c.get.ensures.item c.in_ok-row.ensures in
-    (c.in_ok-search-2.ensures c.args.n (length c.args.parts.now) (exchanges_with tests c.args.parts.now) c.args.alive.now c.args.x c.loop-asked.invariant c.in-Some.ensures.0 heard).0
+    (c.in_ok-search-2.ensures c.args.n (length c.args.parts.now) (exchanges_with tests c.args.parts.now) c.args.among.now c.args.x c.loop-asked.invariant c.in-Some.ensures.0 told).0
 
 pub loop-asked-smaller : goal.loop-asked-smaller
 loop-asked-smaller g c =
@@ -43,9 +43,9 @@ loop-asked-smaller g c =
     let s = c.loop-asked.search in
     let e = parts_count g.M.Asked.indep c.args.matroids.now c.args.parts.now c.requires.parts in
     let l : c.in-Some.asked.part < length c.args.matroids.now = subst (λ q. q < length c.args.matroids.now) (sym c.in-Some.ensures.3) (let h = c.loop-asked.invariant.here in omega arith) in
-    let heard = row_answers tests c.args.parts.now s (g.M.Asked.indep c.index-matroids-i.result) c.get.result.now c.in-Some.asked.element c.in-Some.asked.part c.in_ok-row.row c.in-Some.ensures.2 c.in-Some.ensures.3
+    let told = row_answers tests c.args.parts.now s (g.M.Asked.indep c.index-matroids-i.result) c.get.result.now c.in-Some.asked.element c.in-Some.asked.part c.in_ok-row.row c.in-Some.ensures.2 c.in-Some.ensures.3
     (test_is g.M.Asked.indep c.args.matroids.now c.in-Some.asked.part c.index-matroids-i.result l c.index-matroids-i.is) c.get.ensures.item c.in_ok-row.ensures in
-    (c.in_ok-search-2.ensures c.args.n (length c.args.parts.now) (exchanges_with tests c.args.parts.now) c.args.alive.now c.args.x c.loop-asked.invariant c.in-Some.ensures.0 heard).1
+    (c.in_ok-search-2.ensures c.args.n (length c.args.parts.now) (exchanges_with tests c.args.parts.now) c.args.among.now c.args.x c.loop-asked.invariant c.in-Some.ensures.0 told).1
 
 pub returns-clause-reaching : goal.returns-clause-reaching
 returns-clause-reaching g c = c.loop-asked.invariant

@@ -8,8 +8,8 @@ use Rattle.mat_union.specs.Moves.{exchanges_with}
 use Rattle.mat_union.specs.MoveSearches.{IsReaching}
 use Rattle.mat_union.proofs.kept_parts.row_of_parts.Goals as goal
 
-pub search_from-requires-clause-alive : goal.search_from-requires-clause-alive
-search_from-requires-clause-alive g c = λ v h. ltb-true v c.args.n (sym (is_member-all_below v c.args.n) ∙ ap (is_member v) (sym c.in_ok-all.ensures) ∙ h)
+pub search_from-requires-clause-among : goal.search_from-requires-clause-among
+search_from-requires-clause-among g c = λ v h. ltb-true v c.args.n (sym (is_member-all_below v c.args.n) ∙ ap (is_member v) (sym c.in_ok-all.ensures) ∙ h)
 
 pub returns-clause-row : goal.returns-clause-row
 returns-clause-row g c =
@@ -23,4 +23,4 @@ returns-clause-row g c =
       reaching = subst (λ a. IsReaching c.args.n (length parts) (exchanges_with tests parts) a c.args.x search) c.in_ok-all.ensures c.in_ok-search.ensures.reaching;
       end = c.in_ok-search.ensures.end;
     } in
-    IfOk-weaker c.row_by_search.result _ _ (λ e told. told c.args.n tests c.args.x ended) c.row_by_search.ensures.row
+    IfOk-weaker c.row_by_search.result _ _ (λ e told. told c.args.n tests parts c.args.x c.requires.kept.together ended) c.row_by_search.ensures.row

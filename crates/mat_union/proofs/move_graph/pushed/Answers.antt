@@ -1,11 +1,12 @@
 use Rattle.std.proofs.Common.{sym, ap, ◌∙◌}
 use Rattle.mat_sets.specs.Sets.{is_member}
+use Rattle.mat_sets.proofs.Search.{some_below-zero}
 use Rattle.mat_union.specs.Moves.{exchanges_of}
-use Rattle.mat_union.proofs.GraphSteps.{none_below, pushed_more}
+use Rattle.mat_union.proofs.GraphSteps.{pushed_more}
 use Rattle.mat_union.proofs.move_graph.pushed.Goals as goal
 
 pub loop-i-init : goal.loop-i-init
-loop-i-init c = λ v. ap (is_member v) c.new-set.ensures ∙ sym (none_below (λ q. (exchanges_of c.args.rows.now q).trades v c.args.u))
+loop-i-init c = λ v. ap (is_member v) c.new-set.ensures ∙ sym (some_below-zero (λ q. (exchanges_of c.args.rows.now q).trades v c.args.u))
 
 pub loop-i-preserved : goal.loop-i-preserved
 loop-i-preserved c = pushed_more c.args.rows.now c.index-rows-i.result c.get.result.now c.loop-i.i c.args.u c.loop-i.set c.insert_all.new.set c.as_slice.result.now

@@ -1,7 +1,9 @@
-use Rattle.std.proofs.Common.{◌≡◌, ◌-◌, ◌≤◌, true, length}
+use Rattle.std.proofs.Common.{◌≡◌, ℕ, ◌-◌, ◌≤◌, true, List, length}
 use Rattle.std.proofs.lemmas.Result.{IfOk-weaker}
 use Rattle.mat_sets.specs.Graphs.{ends_of}
 use Rattle.mat_sets.specs.Sets.{AllBelow}
+use Rattle.mat_laws.specs.Matroids.{IsMaximal}
+use Rattle.mat_graphic.specs.Forests.{is_graphic}
 use Rattle.mat_witness.specs.BoundParts.{count_different, have_equal_labels}
 use Rattle.mat_witness.proofs.ComponentLabels.{AreLeast, least_alike, least_below, least_number, of_both}
 use Rattle.mat_witness.proofs.forests.component_labels.Goals as goal
@@ -27,7 +29,7 @@ returns-clause-number c =
     let vertices = c.args.matroid.now.vertices in
     let edges = c.args.matroid.now.edges in
     of_both c.components.result (λ t. length t.items ≡ vertices) (λ t. AreLeast vertices (ends_of edges) c.args.set.now t.items)
-    (λ t. vertices - count_different t.items ≤ length c.args.inside.now)
-    (λ t long least. least_number vertices edges c.args.set.now t.items c.args.inside.now c.requires.sound c.requires.set long least
-    c.requires.maximal)
+    (λ t. (inside : List ℕ) → IsMaximal (is_graphic (length edges) (ends_of edges)) c.args.set.now inside
+    → vertices - count_different t.items ≤ length inside)
+    (λ t long least inside maximal. least_number vertices edges c.args.set.now t.items inside c.requires.sound c.requires.set long least maximal)
     c.components.ensures.long c.components.ensures.least

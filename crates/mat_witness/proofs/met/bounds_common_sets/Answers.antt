@@ -1,5 +1,6 @@
-use Rattle.std.proofs.Common.{◌≡◌, ℕ, ◌+◌, ◌<◌, ◌≤◌, Bool, true, false, ◌&&◌, if◌then◌else◌, leb, List, [], ◌∷◌, length, get_or, map, Some, None}
-use Rattle.std.proofs.Common.{refl, sym, ap, ◌∙◌, subst, arith}
+use Rattle.std.proofs.Common.{◌≡◌, ℕ, ◌+◌, ◌<◌, ◌≤◌, Bool, ◌&&◌, if◌then◌else◌, leb, List, [], ◌∷◌, length, get_or, map, Some, None}
+use Rattle.std.proofs.Common.{sym, ap, ◌∙◌, subst, arith}
+use Rattle.std.proofs.lemmas.Option.{cond_some}
 use Rattle.mat_sets.specs.Sets.{all_below, IsSet, minus}
 use Rattle.mat_sets.proofs.Ground.{IsSet-all_below, IsSet-minus}
 use Rattle.mat_any.specs.Trees.{Tree, element_count}
@@ -10,16 +11,11 @@ use Rattle.mat_witness.specs.Views.{bound_part}
 use Rattle.mat_witness.specs.declared.witness.Most.{Most}
 use Rattle.mat_witness.proofs.met.bounds_common_sets.Goals as goal
 
--- a number that is there is that of a bound that holds
-told : (b : Bool) (m n : ℕ) → Some m ≡ (if b then Some n else None) → (b ≡ true) × (m ≡ n)
-told true m n e = (refl, cc)
-told false m n e = absurd (cc)
-
 both_told : (a b : Bool) (x y m n last : ℕ) → Some x ≡ (if a then Some m else None) → Some y ≡ (if b then Some n else None)
     → leb (x + y) last ≡ (a && (b && leb (m + n) last))
 both_told a b x y m n last e f =
-    let first = told a x m e in
-    let second = told b y n f in
+    let first = cond_some a m x (sym e) in
+    let second = cond_some b n y (sym f) in
     rw (first.0, second.0, first.1, second.1)
 
 two_bounds : (first second : Tree) (n : ℕ) (cut outside : List ℕ) (last : ℕ) (parts : List Most) (part other : Most) (x y : ℕ)

@@ -1,11 +1,11 @@
-use Rattle.std.proofs.Common.{◌≡◌, ℕ, ◌≤◌, true, eqb, leb, List, length, get_or, refl, sym, ◌∙◌, subst, arith}
-use Rattle.std.proofs.lemmas.Bool.{and_parts, eqb-true, leb-true}
+use Rattle.std.proofs.Common.{◌≡◌, ℕ, true, eqb, ltb, List, length, get_or, refl, sym, ◌∙◌, subst}
+use Rattle.std.proofs.lemmas.Bool.{and_parts, eqb-true, ltb-true}
 use Rattle.std.proofs.lemmas.Option.{slice_get_read}
 use Rattle.mat_sets.specs.Sets.{IsSet}
 use Rattle.mat_sets.specs.declared.weight.Weight.{Weight}
 use Rattle.mat_any.specs.Trees.{Tree, element_count}
 use Rattle.mat_any.specs.Views.{tree_of}
-use Rattle.mat_cert.specs.Certificates.{IsRangedLadder, IsRangedPricedRung, last_rung}
+use Rattle.mat_cert.specs.Certificates.{IsRangedLadder, IsRangedPricedRung}
 use Rattle.mat_cert.specs.declared.answer.PricedRung.{PricedRung}
 use Rattle.mat_witness.specs.Parts.{FreePart, IsFreeFor}
 use Rattle.mat_witness.specs.Shown.{is_priced}
@@ -14,11 +14,9 @@ use Rattle.mat_witness.proofs.verifier.failing_part.Goals as goal
 
 -- the rung is in range
 rung_in_range : (n : ℕ) (rungs : List PricedRung) (cut : List ℕ) (k : ℕ) (rung : PricedRung) → IsRangedLadder n rungs cut
-    → leb k (last_rung rungs) ≡ true → rung ≡ get_or rungs k rung → IsRangedPricedRung n k rung
+    → ltb k (length rungs) ≡ true → rung ≡ get_or rungs k rung → IsRangedPricedRung n k rung
 rung_in_range n rungs cut k rung ranged has at =
-    let small : k ≤ last_rung rungs = leb-true k (last_rung rungs) has in
-    let some = ranged.0.some in
-    ranged.0.each k rung (slice_get_read rungs (length rungs) k rung refl (omega arith) at)
+    ranged.0.each k rung (slice_get_read rungs (length rungs) k rung refl (ltb-true k (length rungs) has) at)
 
 -- its elements are as many as the weights
 counted : (w : List Weight) (n : ℕ) (rung : PricedRung) → is_priced w n rung ≡ true → n ≡ length w

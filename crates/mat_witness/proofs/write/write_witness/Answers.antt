@@ -22,8 +22,7 @@ witness_text-requires-clause-second_half c =
 pub witness_text-requires-clause-bounds : goal.witness_text-requires-clause-bounds
 witness_text-requires-clause-bounds c =
     let here = c.in-Pair-Intersect in
-    let inside = rung_inside here.count-1 here.rungs.items here.cut-1 c.args.k (rw here.is-1 at c.requires.ranged)
-    (rw here.is-1 at c.requires.rung) in
+    let inside = rung_inside here.count-1 here.rungs.items here.cut-1 c.args.k (rw here.is-1 at c.requires.rung) in
     let bounds = taken_bounds here.weights-0 (tree_of here.first) (tree_of here.second) here.count-1 here.rungs.items here.cut-1 c.args.k
     c.index.result.now (witness_parts c.args.witness.now) inside c.index.ensures
     (rw (here.is-0, here.is-1) at c.requires.witness) in
@@ -32,8 +31,7 @@ witness_text-requires-clause-bounds c =
 pub returns-in-Pair-Intersect : goal.returns-in-Pair-Intersect
 returns-in-Pair-Intersect c =
     let here = c.in-Pair-Intersect in
-    let inside = rung_inside here.count-1 here.rungs.items here.cut-1 c.args.k (rw here.is-1 at c.requires.ranged)
-    (rw here.is-1 at c.requires.rung) in
+    let inside = rung_inside here.count-1 here.rungs.items here.cut-1 c.args.k (rw here.is-1 at c.requires.rung) in
     rw (here.is-0, here.is-1) (as_written (λ text. text.items) c.witness_text.result here.weights-0 (tree_of here.first) (tree_of here.second)
     here.count-1 here.rungs.items here.cut-1 c.args.k c.index.result.now (witness_parts c.args.witness.now)
     (rung_taken here.rungs.items c.args.k c.index.result.now inside c.index.ensures) c.witness_text.ensures)

@@ -1,7 +1,8 @@
 use Rattle.std.proofs.Common.{◌∙◌, ◌&&◌, ◌||◌, length, ap, eqb}
 use Rattle.mat_sets.specs.Graphs.{ends_of}
 use Rattle.mat_sets.specs.Sets.{is_member}
-use Rattle.mat_flow.proofs.ArcFlows.{next_there, IsNextFrom-same}
+use Rattle.mat_sets.proofs.Search.{IsNextFrom-same}
+use Rattle.mat_flow.proofs.ArcFlows.{next_there}
 use Rattle.mat_flow.proofs.arc_residual.ArcResidualRelation.next_arc.Goals as goal
 
 pub returns-in-Some : goal.returns-in-Some

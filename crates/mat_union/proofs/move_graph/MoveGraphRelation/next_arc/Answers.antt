@@ -1,12 +1,12 @@
 use Rattle.std.proofs.Common.{◌&&◌, ◌∙◌, ap, length}
 use Rattle.mat_sets.specs.Sets.{is_member}
+use Rattle.mat_sets.proofs.Search.{IsNextFrom-same}
 use Rattle.mat_union.specs.Moves.{can_push, exchanges_of}
-use Rattle.mat_union.proofs.GraphSteps.{next_same}
 use Rattle.mat_union.proofs.move_graph.MoveGraphRelation.next_arc.Goals as goal
 
 pub returns : goal.returns
 returns c =
     let g = c.args.self.now in
-    next_same (λ v. is_member v c.args.among.now && is_member v c.row.result.now) (λ v. is_member v c.args.among.now && can_push (length g.rows.now) (exchanges_of g.rows.now) c.args.u v) c.args.from c.next_common.result
+    IsNextFrom-same (λ v. is_member v c.args.among.now && is_member v c.row.result.now) (λ v. is_member v c.args.among.now && can_push (length g.rows.now) (exchanges_of g.rows.now) c.args.u v) c.args.from c.next_common.result
     (λ v. ap (λ b. is_member v c.args.among.now && b) (ap (is_member v) c.row.ensures ∙ c.requires.sound.arcs.arcs c.args.u v c.requires.below))
     c.next_common.ensures

@@ -2,30 +2,30 @@ use Rattle.std.proofs.Common.{◌≡◌, ◌∙◌, ◌+◌, ◌||◌, suc, refl
 use Rattle.std.proofs.Math.Numerals.{add-one}
 use Rattle.std.proofs.lemmas.Bool.{both_ways}
 use Rattle.mat_sets.specs.Sets.{is_member}
-use Rattle.mat_union.proofs.Asking.{closed_left, entered_left, heard_more, part_left}
+use Rattle.mat_union.proofs.Asking.{closed_left, entered_left, told_more, part_left}
 use Rattle.mat_union.proofs.move_search.MoveSearch.tell.Goals as goal
 
 pub returns-then-row : goal.returns-then-row
-returns-then-row c = λ n m exchanges among start h asks heard. (
-  record { from_start = h.from_start; count = h.count; here = h.here; so_far = h.so_far; enters = λ e. (c.requires.open.more, sym heard.adds ∙ c.if-row.true) },
+returns-then-row c = λ n m exchanges among start h asks told. (
+  record { from_start = h.from_start; count = h.count; here = h.here; so_far = h.so_far; enters = λ e. (c.requires.open.more, sym told.adds ∙ c.if-row.true) },
   entered_left c.args.self.entered _ (suc (length among)) c.args.self.head c.args.self.count c.args.self.part asks refl,
 )
 
 pub returns-then-search : goal.returns-then-search
-returns-then-search c = λ n m exchanges among start h asks heard. (
+returns-then-search c = λ n m exchanges among start h asks told. (
   record {
     from_start = h.from_start;
     count = h.count;
     here = (let a = h.count in let b = c.if-search.true in omega arith);
-    so_far = heard_more h.so_far c.insert_all.new.set c.args.row.now.with (λ v. c.in_ok-insert_all.ensures v ∙ ap (λ xs. is_member v c.args.self.pushes || is_member v xs) c.as_slice.ensures.items)
-        heard.trades (sym heard.adds ∙ c.if-row.false) (c.args.self.part + 1) (add-one c.args.self.part);
+    so_far = told_more h.so_far c.insert_all.new.set c.args.row.now.with (λ v. c.in_ok-insert_all.ensures v ∙ ap (λ xs. is_member v c.args.self.pushes || is_member v xs) c.as_slice.ensures.items)
+        told.trades (sym told.adds ∙ c.if-row.false) (c.args.self.part + 1) (add-one c.args.self.part);
     enters = λ e. absurd (both_ways _ asks e);
   },
   part_left c.args.self.entered c.args.self.entered (suc (length among)) c.args.self.head c.args.self.count c.args.self.part (c.args.self.part + 1) asks asks (add-one c.args.self.part) c.requires.part,
 )
 
 pub returns : goal.returns
-returns c = λ n m exchanges among start h asks heard.
+returns c = λ n m exchanges among start h asks told.
     let s = c.args.self in
     let a = h.count in
     let b = c.if-search.false in
@@ -36,7 +36,7 @@ returns c = λ n m exchanges among start h asks heard.
       count = h.count;
       some = (let l = h.here in omega arith);
       refused = asks;
-      so_far = heard_more h.so_far c.insert_all.new.set c.args.row.now.with (λ v. c.in_ok-insert_all.ensures v ∙ ap (λ xs. is_member v s.pushes || is_member v xs) c.as_slice.ensures.items)
-          heard.trades (sym heard.adds ∙ c.if-row.false) m (sym last);
+      so_far = told_more h.so_far c.insert_all.new.set c.args.row.now.with (λ v. c.in_ok-insert_all.ensures v ∙ ap (λ xs. is_member v s.pushes || is_member v xs) c.as_slice.ensures.items)
+          told.trades (sym told.adds ∙ c.if-row.false) m (sym last);
     }) in
     (r.0, closed_left s.entered c.close.new.self.entered (suc (length among)) s.head c.close.new.self.head s.count c.close.new.self.count s.part c.close.new.self.part asks r.1 r.2 r.3 r.4 (let f = h.so_far.fuel in let k = c.requires.open.more in omega arith) (omega arith))

@@ -3,7 +3,7 @@ use Rattle.std.proofs.lemmas.Bool.{and_from, and_right, eq-eqb}
 use Rattle.mat_gf2.specs.Columns.{column_of}
 use Rattle.mat_witness.proofs.PassingLists.{below_next, fails_below, passes_below}
 use Rattle.mat_witness.proofs.TellingRows.{tells_member, tells_member-read}
-use Rattle.mat_witness.proofs.probes.probes_show.Goals as goal
+use Rattle.mat_witness.proofs.probes.shows_probes.Goals as goal
 
 pub returns-then-not-tells_member : goal.returns-then-not-tells_member
 returns-then-not-tells_member c =

@@ -8,7 +8,7 @@ use Rattle.mat_flow.specs.Paths.{last_of}
 use Rattle.mat_linked.specs.Gammoids.{vertices_of}
 use Rattle.mat_witness.proofs.ArcRows.{AreArcRows-read}
 use Rattle.mat_witness.proofs.PathParts.{is_source_path, shows_paths-by_vertices, shows_paths-elsewhere, shows_paths-off}
-use Rattle.mat_witness.proofs.paths.paths_show.Goals as goal
+use Rattle.mat_witness.proofs.paths.shows_paths.Goals as goal
 
 pub returns-then-not-are_from_sources : goal.returns-then-not-are_from_sources
 returns-then-not-are_from_sources c =

@@ -1,0 +1,25 @@
+-- Elements come among the spanned ones, and a loop takes them out of the unspanned ones.
+use Rattle.std.proofs.Common.{◌≡◌, ℕ, ◌+◌, ◌<◌, Bool, true, false, not, ◌||◌, ◌&&◌, eqb, List, [], length, get_or, take, refl, sym, ap, ◌∙◌}
+use Rattle.mat_sets.specs.Sets.{is_member, union, without_one}
+use Rattle.mat_sets.proofs.Members.{is_member-union, is_member-without_one}
+use Rattle.mat_sets.proofs.Steps.{is_member-take_more}
+use Rattle.mat_sets.proofs.Truths.{and_neither}
+
+pub unspanned_none : (b : Bool) (v : ℕ) (xs : List ℕ) → b ≡ (b && not (is_member v (take 0 xs)))
+unspanned_none true v xs = refl
+unspanned_none false v xs = refl
+
+pub spanned_with : (spanned elements more all : List ℕ) → more ≡ union elements [] → all ≡ union spanned more
+    → (v : ℕ) → is_member v all ≡ (is_member v spanned || is_member v elements)
+spanned_with spanned elements more all m a v =
+    ap (is_member v) a ∙ is_member-union v spanned more
+    ∙ ap (λ b. is_member v spanned || b) (ap (is_member v) m ∙ is_member-union v elements [] ∙ no_more (is_member v elements))
+  where
+    no_more : (b : Bool) → (b || false) ≡ b
+    no_more true = refl
+    no_more false = refl
+
+pub unspanned_more : (set set' xs : List ℕ) (i : ℕ) (start : List ℕ) → i < length xs → set' ≡ without_one set (get_or xs i 0)
+    → ((v : ℕ) → is_member v set ≡ (is_member v start && not (is_member v (take i xs)))) → (v : ℕ) → is_member v set' ≡ (is_member v start && not (is_member v (take (i + 1) xs)))
+unspanned_more set set' xs i start l e before v = ap (is_member v) e ∙ is_member-without_one v (get_or xs i 0) set ∙ ap (λ b. b && not (eqb v (get_or xs i 0))) (before v)
+    ∙ and_neither (is_member v start) (is_member v (take i xs)) (eqb v (get_or xs i 0)) ∙ ap (λ b. is_member v start && not b) (sym (is_member-take_more xs i v l))
