@@ -5,8 +5,6 @@ mod arbor;
 mod growing;
 pub mod laws;
 mod least;
-#[cfg(test)]
-mod tests;
 
 pub use arbor::Arbor;
 pub use least::least_arborescence;

@@ -7,8 +7,6 @@ mod growing;
 pub mod laws;
 mod spanning;
 mod spare;
-#[cfg(test)]
-mod tests;
 
 pub use branching::{Branch, disjoint};
 pub use entering::entering_count;

@@ -11,7 +11,7 @@ use Rattle.mat_words.specs.Lines.{Line}
 use Rattle.mat_any.specs.Trees.{Tree, Trees, uniform, partition, laminar, graphic, transversal, gammoid, gf2, dual, truncate, restrict, contract, union, no_trees, more_trees}
 use Rattle.mat_desc.specs.Instances.{Instance, pair, list, graph, rooted, coloured, table}
 use Rattle.mat_words.specs.Writing.{end_line}
-use Rattle.mat_desc.specs.Labels.{Naming, Labels, numbers, names, element_naming, AreLabels, NamedInstance}
+use Rattle.mat_desc.specs.Notations.{Naming, Notation, numbers, names, element_naming, IsNotationFor, NamedInstance}
 use Rattle.mat_desc.specs.Grammar.{Lists, listing_line, CappedLines, FamilyLines, MatroidLines, MatroidsLines, TreeLines}
 use Rattle.mat_desc.specs.Grammar.{InstanceLines, IsValidTree, IsValidMatroid, AreValidTrees, IsValid, Spells, SpellsNamed}
 use Rattle.mat_desc.specs.Canonical.{capped_lines, matroid_lines, tree_lines, canonical_lines, canonical_text, named_text}
@@ -100,9 +100,9 @@ matroids_spelled naming n (matroid ∷ matroids) rest valid =
       matroids_spelled naming n matroids rest (All-tail (IsValidMatroid n) matroid matroids valid),
     )
 
-lines_spelled : (labels : Labels) (instance : Instance) → IsValid instance → InstanceLines labels instance (canonical_lines labels instance)
-lines_spelled labels (pair weights first second) valid =
-    let naming = element_naming labels in
+lines_spelled : (notation : Notation) (instance : Instance) → IsValid instance → InstanceLines notation instance (canonical_lines notation instance)
+lines_spelled notation (pair weights first second) valid =
+    let naming = element_naming notation in
     let behind = matroid_lines naming second ++ end_line ∷ [] in
     let here = matroid_spelled naming (length weights) first behind valid.1.0 in (
       (matroid_lines naming first ++ matroid_lines naming second) ++ end_line ∷ [],
@@ -112,42 +112,42 @@ lines_spelled labels (pair weights first second) valid =
           (sym (append_assoc (matroid_lines naming first) (matroid_lines naming second) (end_line ∷ []))) here,
       matroid_spelled naming (length weights) second (end_line ∷ []) valid.2.0,
     )
-lines_spelled labels (list weights matroids) valid = (
-  flat_map (matroid_lines (element_naming labels)) matroids ++ end_line ∷ [],
+lines_spelled notation (list weights matroids) valid = (
+  flat_map (matroid_lines (element_naming notation)) matroids ++ end_line ∷ [],
   refl,
-  matroids_spelled (element_naming labels) (length weights) matroids (end_line ∷ []) valid.3,
+  matroids_spelled (element_naming notation) (length weights) matroids (end_line ∷ []) valid.3,
 )
-lines_spelled labels (graph vertices edges) valid = refl
+lines_spelled notation (graph vertices edges) valid = refl
 lines_spelled numbers (rooted vertices root arcs costs) valid = refl
 lines_spelled (names elements names_of_vertices) (rooted vertices root arcs costs) valid = refl
-lines_spelled labels (coloured vertices colours edges colour_of weights) valid = refl
-lines_spelled labels (table rows columns cells weights) valid = refl
+lines_spelled notation (coloured vertices colours edges colour_of weights) valid = refl
+lines_spelled notation (table rows columns cells weights) valid = refl
 
 -- the canonical text of a problem spells it
 pub canonical_spelled : (instance : Instance) → IsValid instance → Spells (canonical_text instance) instance
 unfolding canonical_text
 canonical_spelled instance valid = record {
   valid = valid;
-  labels = numbers;
-  labelled = (tt, tt);
+  notation = numbers;
+  notated = (tt, tt);
   lines = canonical_lines numbers instance;
   spelled = lines_spelled numbers instance valid;
   whole = refl;
 }
 
 -- the canonical text of a problem with names spells it with these
-pub named_spelled : (problem : NamedInstance) → IsValid problem.instance → AreLabels problem.instance (names problem.elements problem.vertices)
+pub named_spelled : (problem : NamedInstance) → IsValid problem.instance → IsNotationFor problem.instance (names problem.elements problem.vertices)
     → SpellsNamed (named_text problem) problem
 unfolding named_text
-named_spelled problem valid labelled =
-    let labels = names problem.elements problem.vertices in
+named_spelled problem valid notated =
+    let notation = names problem.elements problem.vertices in
     record {
       spells = record {
         valid = valid;
-        labels = labels;
-        labelled = labelled;
-        lines = canonical_lines labels problem.instance;
-        spelled = lines_spelled labels problem.instance valid;
+        notation = notation;
+        notated = notated;
+        lines = canonical_lines notation problem.instance;
+        spelled = lines_spelled notation problem.instance valid;
         whole = refl;
       };
       named = refl;

@@ -13,14 +13,14 @@ use Rattle.mat_sets.specs.Limits.{most_elements}
 use Rattle.mat_words.specs.Cursors.{WordsLeft, LinesLeft}
 use Rattle.mat_words.specs.Steps.{◌>>=◌}
 use Rattle.mat_desc.specs.Faults.{Fault}
-use Rattle.mat_desc.specs.Labels.{Naming, words_for, IsNaming}
+use Rattle.mat_desc.specs.Notations.{Naming, words_for, IsNaming}
 use Rattle.mat_desc.specs.Reading.{keyed_at, size_at, elements_at}
 use Rattle.mat_desc.specs.Grammar.{Lists}
 use Rattle.mat_words.proofs.ReadingSteps.{found-same, bind_found}
 use Rattle.mat_words.proofs.WordReading.{size_again}
 use Rattle.mat_words.proofs.LineReading.{AreLeft, keyed_again}
 use Rattle.mat_desc.proofs.Told.{cut_then, size_found, keyed_found}
-use Rattle.mat_desc.proofs.LabelLaws.{words_for-words}
+use Rattle.mat_desc.proofs.NotationLaws.{words_for-words}
 use Rattle.mat_desc.proofs.ElementLaws.{with_each, elements_found, Lists-read, IsSet-read, listed_below, set_again, members_made, members_left}
 
 -- the line of a cap and of elements in any order

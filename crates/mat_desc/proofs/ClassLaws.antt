@@ -11,7 +11,7 @@ use Rattle.mat_words.specs.Lines.{Line}
 use Rattle.mat_desc.specs.Limits.{most_sets}
 use Rattle.mat_sets.specs.Limits.{most_elements}
 use Rattle.mat_words.specs.Cursors.{LinesLeft}
-use Rattle.mat_desc.specs.Labels.{Naming, IsNaming}
+use Rattle.mat_desc.specs.Notations.{Naming, IsNaming}
 use Rattle.mat_desc.specs.Reading.{class_at, classes_at}
 use Rattle.mat_desc.specs.Grammar.{Lists, CappedLines, AreClasses}
 use Rattle.mat_words.proofs.ReadingSteps.{found-same, bind_found}

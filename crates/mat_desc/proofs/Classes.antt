@@ -7,7 +7,7 @@ use Rattle.mat_desc.specs.declared.refusal.DescRefusal.TheVariants as refusals
 use Rattle.mat_words.specs.Cursors.{LinesLeft}
 use Rattle.mat_words.specs.Steps.{◌>>=◌}
 use Rattle.mat_desc.specs.Faults.{Fault, Fails}
-use Rattle.mat_desc.specs.Labels.{Naming}
+use Rattle.mat_desc.specs.Notations.{Naming}
 use Rattle.mat_desc.specs.Reading.{class_at, classes_at}
 
 -- sets and their caps, and the lines behind them

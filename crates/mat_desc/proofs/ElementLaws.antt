@@ -7,11 +7,11 @@ use Rattle.mat_sets.proofs.Members.{is_member-with_one, IsRising-with_one, IsRis
 use Rattle.mat_sets.proofs.Ground.{AllBelow-member, AllBelow-from_members, IsSet-from}
 use Rattle.mat_sets.proofs.Truths.{or_none}
 use Rattle.mat_desc.specs.declared.refusal.DescKind.TheVariants.{Repeated}
-use Rattle.mat_desc.specs.Labels.{Naming, word_for, words_for, IsNaming}
+use Rattle.mat_desc.specs.Notations.{Naming, word_for, words_for, IsNaming}
 use Rattle.mat_desc.specs.Reading.{member_at, elements_from}
 use Rattle.mat_desc.specs.Grammar.{Lists}
 use Rattle.mat_words.proofs.ReadingSteps.{found-same, bind_found, refused_found}
-use Rattle.mat_desc.proofs.LabelLaws.{member_found, member_again}
+use Rattle.mat_desc.proofs.NotationLaws.{member_found, member_again}
 
 -- the set with each of the items added
 pub with_each : List ℕ → List ℕ → List ℕ

@@ -10,10 +10,10 @@ use Rattle.mat_desc.specs.declared.refusal.DescKind.TheVariants.{Repeated}
 use Rattle.mat_desc.specs.declared.refusal.DescRefusal.{DescRefusal}
 use Rattle.mat_desc.specs.declared.refusal.DescRefusal.TheVariants as refusals
 use Rattle.mat_desc.specs.Faults.{Fault, Fails}
-use Rattle.mat_desc.specs.Labels.{Naming}
+use Rattle.mat_desc.specs.Notations.{Naming}
 use Rattle.mat_desc.specs.Reading.{word_at, member_at, elements_from}
 use Rattle.mat_desc.proofs.Told.{word_found, word_line, below_found}
-use Rattle.mat_desc.proofs.LabelLaws.{named_found}
+use Rattle.mat_desc.proofs.NotationLaws.{named_found}
 
 -- one word was taken
 record IsWordTaken (w q : WordsLeft) : Type 0 where

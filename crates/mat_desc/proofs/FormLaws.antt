@@ -19,21 +19,22 @@ use Rattle.mat_words.specs.Steps.{repeat_at}
 use Rattle.mat_words.specs.Cursors.{WordsLeft, LinesLeft}
 use Rattle.mat_desc.specs.declared.keywords.Version.{Version}
 use Rattle.mat_desc.specs.declared.keywords.Version.TheVariants as versions
-use Rattle.mat_desc.specs.Labels.{Naming, IsNaming, word_for, Labels, numbers, names, element_naming, vertex_naming, AreLabels}
-use Rattle.mat_desc.specs.Reading.{Labelled, size_at, below_at, member_at, next_weights_at, ended_at, keyed_at, weights_at, labels_at}
+use Rattle.mat_desc.specs.Notations.{Naming, IsNaming, word_for, Notation, numbers, names, element_naming, vertex_naming, IsNotationFor}
+use Rattle.mat_desc.specs.Reading.{WrittenInstance, size_at, below_at, member_at, next_weights_at, ended_at, keyed_at, weights_at, notation_at}
 use Rattle.mat_desc.specs.Reading.{header_root_at, root_at}
-use Rattle.mat_desc.specs.Reading.{ends_line_at, weighted_at, coloured_edge_at, matroid_at, pair_at, list_at}
+use Rattle.mat_desc.specs.Reading.{ends_line_at, weighted_at, coloured_edge_at, matroid_at, two_matroids_at, pair_at, list_at}
+use Rattle.mat_any.specs.Trees.{Tree}
 use Rattle.mat_desc.specs.Reading.{graph_at, rooted_at, coloured_at, table_at, form_of, form_at}
 use Rattle.mat_desc.specs.Instances.{Instance, pair, list, graph, rooted, coloured, table}
 use Rattle.mat_words.specs.Writing.{end_line}
-use Rattle.mat_desc.specs.Grammar.{version_line, label_lines, root_words, root_lines, ends_line, weighted_line, coloured_edge_line, IsPairBelow}
+use Rattle.mat_desc.specs.Grammar.{version_line, name_lines, root_words, root_lines, ends_line, weighted_line, coloured_edge_line, IsPairBelow}
 use Rattle.mat_desc.specs.Grammar.{IsWeight, AreWeights, IsValid, InstanceLines}
 use Rattle.mat_words.proofs.ReadingSteps.{found-same, bind_found}
 use Rattle.mat_words.proofs.NumberLemmas.{numeral_word}
 use Rattle.mat_words.proofs.WordReading.{numerals_words, size_again, below_again, weights_again, weights_words}
 use Rattle.mat_words.proofs.LineReading.{AreLeft, keyed_again}
 use Rattle.mat_desc.proofs.Told.{cut_then, count_line, ended_found, ended_again, size_found, below_found, weights_found, keyed_found}
-use Rattle.mat_desc.proofs.LabelLaws.{version_for, member_found, member_again, word_for-word, labels_found, labels_again}
+use Rattle.mat_desc.proofs.NotationLaws.{version_for, member_found, member_again, word_for-word, notation_found, notation_again}
 use Rattle.mat_desc.proofs.MatroidLaws.{matroid_found, matroid_again}
 use Rattle.mat_desc.proofs.MatroidRows.{matroids_found, matroids_again}
 use Rattle.std.specs.List.{All, zip}
@@ -140,16 +141,16 @@ form_word forms.Coloured = refl
 form_word forms.Table = refl
 
 -- a problem and what stands for its elements and its vertices
-abbrev pub labelled_as : Instance → Labels → Labelled
-labelled_as instance labels = record { instance = instance; labels = labels }
+abbrev pub written_as : Instance → Notation → WrittenInstance
+written_as instance notation = record { instance = instance; notation = notation }
 
 -- a problem was read from the words behind the form's word on
-pub record IsFormRead (version : Version) (form : Form) (words : WordsLeft) (lines : LinesLeft) (read : Labelled) (q : LinesLeft) : Type 0 where
+pub record IsFormRead (version : Version) (form : Form) (words : WordsLeft) (lines : LinesLeft) (read : WrittenInstance) (q : LinesLeft) : Type 0 where
   pub valid : IsValid read.instance
-  pub labelled : AreLabels read.instance read.labels
-  pub same : version ≡ version_for read.labels
-  pub spelled : AreLeft (end_line ∷ []) q → (more : List Line) × AreLeft more lines × InstanceLines read.labels read.instance
-      (version_line read.labels ∷ (form_spelling form ∷ words.words) ∷ more)
+  pub notated : IsNotationFor read.instance read.notation
+  pub same : version ≡ version_for read.notation
+  pub spelled : AreLeft (end_line ∷ []) q → (more : List Line) × AreLeft more lines × InstanceLines read.notation read.instance
+      (version_line read.notation ∷ (form_spelling form ∷ words.words) ∷ more)
 
 -- names of so many numbers are those of as many
 naming_of : (naming : Naming) (n m : ℕ) → m ≡ n → IsNaming n naming → IsNaming m naming
@@ -169,99 +170,113 @@ no_vertices = omega arith
 at_most : (x y most : ℕ) → x ≡ y → y ≤ most → x ≤ most
 at_most x y most same le = subst (λ (k : ℕ). k ≤ most) (sym same) le
 
-pair_found : (version : Version) (words : WordsLeft) (lines : LinesLeft) (read : Labelled) (q : LinesLeft)
+-- two matroids that were read were read one after the other
+two_found : (naming : Naming) (n : ℕ) (p : LinesLeft) (read : (Tree × Tree) × LinesLeft) → two_matroids_at naming n p ≡ Ok read
+    → (first second : Tree × LinesLeft) × (matroid_at naming n p ≡ Ok first) × (matroid_at naming n first.1 ≡ Ok second)
+    × (((first.0, second.0), second.1) ≡ read)
+unfolding two_matroids_at
+two_found naming n p read e =
+    let first = bind_found (matroid_at naming n p) _ read e in
+    let second = bind_found (matroid_at naming n first.0.1) _ read first.2 in
+    (first.0, second.0, first.1, second.1, found-same ((first.0.0, second.0.0), second.0.1) read second.2)
+
+pair_found : (version : Version) (words : WordsLeft) (lines : LinesLeft) (read : WrittenInstance) (q : LinesLeft)
     → pair_at version words lines ≡ Ok (read, q) → IsFormRead version forms.Pair words lines read q
 unfolding pair_at
 pair_found version words lines read q e =
     let count = bind_found (size_at 0 most_elements words) _ (read, q) e in
     let end = bind_found (ended_at count.0.1) _ (read, q) count.2 in
-    let labels = bind_found (labels_at version count.0.0 0 lines) _ (read, q) end.2 in
-    let naming = element_naming labels.0.0 in
-    let weights = bind_found (weights_at count.0.0 labels.0.1) _ (read, q) labels.2 in
-    let first = bind_found (matroid_at naming count.0.0 weights.0.1) _ (read, q) weights.2 in
-    let second = bind_found (matroid_at naming count.0.0 first.0.1) _ (read, q) first.2 in
-    let same = found-same (labelled_as (pair weights.0.0 first.0.0 second.0.0) labels.0.0, second.0.1) (read, q) second.2 in
+    let notation = bind_found (notation_at version count.0.0 0 lines) _ (read, q) end.2 in
+    let naming = element_naming notation.0.0 in
+    let weights = bind_found (weights_at count.0.0 notation.0.1) _ (read, q) notation.2 in
+    let matroids = bind_found (two_matroids_at naming count.0.0 weights.0.1) _ (read, q) weights.2 in
+    let both = two_found naming count.0.0 weights.0.1 matroids.0 matroids.1 in
+    let first = both.0 in
+    let second = both.1 in
+    let same : (written_as (pair weights.0.0 first.0 second.0) notation.0.0, second.1) ≡ (read, q) =
+    ap (λ (m : (Tree × Tree) × LinesLeft). (written_as (pair weights.0.0 m.0.0 m.0.1) notation.0.0, m.1)) both.4
+    ∙ found-same (written_as (pair weights.0.0 matroids.0.0.0 matroids.0.0.1) notation.0.0, matroids.0.1) (read, q) matroids.2 in
     let number = size_found 0 most_elements words count.0.0 count.0.1 count.1 in
     let last = ended_found count.0.1 end.0 end.1 in
-    let named = labels_found version count.0.0 0 (elements_fit count.0.0 number.most) no_vertices lines labels.0.0 labels.0.1 labels.1 in
-    let all = weights_line_found count.0.0 labels.0.1 weights.0.0 weights.0.1 weights.1 in
-    let one = matroid_found naming count.0.0 named.elements weights.0.1 first.0.0 first.0.1 first.1 in
-    let two = matroid_found naming count.0.0 named.elements first.0.1 second.0.0 second.0.1 second.1 in
+    let named = notation_found version count.0.0 0 (elements_fit count.0.0 number.most) no_vertices lines notation.0.0 notation.0.1 notation.1 in
+    let all = weights_line_found count.0.0 notation.0.1 weights.0.0 weights.0.1 weights.1 in
+    let one = matroid_found naming count.0.0 named.elements weights.0.1 first.0 first.1 both.2 in
+    let two = matroid_found naming count.0.0 named.elements first.1 second.0 second.1 both.3 in
     let line : words.words ≡ numeral (pos (length weights.0.0)) ∷ [] =
     count_line count.0.0 (length weights.0.0) words.words count.0.1.words number.cut last all.count in
-    let whole : IsFormRead version forms.Pair words lines (labelled_as (pair weights.0.0 first.0.0 second.0.0) labels.0.0) second.0.1 = record {
+    let whole : IsFormRead version forms.Pair words lines (written_as (pair weights.0.0 first.0 second.0) notation.0.0) second.1 = record {
       valid = (all.valid number.most, rw all.count one.valid, rw all.count two.valid);
-      labelled = (naming_of naming count.0.0 (length weights.0.0) all.count named.elements, named.vertices);
+      notated = (naming_of naming count.0.0 (length weights.0.0) all.count named.elements, named.vertices);
       same = named.same;
       spelled = λ left.
           let behind = two.spelled (end_line ∷ []) left in
           let before = one.spelled behind.0 behind.1 in
           let body : List Line = (codes "weights" ∷ map weight_word weights.0.0) ∷ before.0 in
-          let more : List Line = label_lines labels.0.0 ++ body in
-          let header = ap (λ (t : Line). version_line labels.0.0 ∷ (codes "pair" ∷ t) ∷ more) line in
+          let more : List Line = name_lines notation.0.0 ++ body in
+          let header = ap (λ (t : Line). version_line notation.0.0 ∷ (codes "pair" ∷ t) ∷ more) line in
           (more, named.spelled body (all.spelled before.0 before.1), (before.0, behind.0, header, before.2, behind.2));
     } in
-    subst (λ (r : Labelled × LinesLeft). IsFormRead version forms.Pair words lines r.0 r.1) same whole
+    subst (λ (r : WrittenInstance × LinesLeft). IsFormRead version forms.Pair words lines r.0 r.1) same whole
 
-list_found : (version : Version) (words : WordsLeft) (lines : LinesLeft) (read : Labelled) (q : LinesLeft)
+list_found : (version : Version) (words : WordsLeft) (lines : LinesLeft) (read : WrittenInstance) (q : LinesLeft)
     → list_at version words lines ≡ Ok (read, q) → IsFormRead version forms.List words lines read q
 unfolding list_at
 list_found version words lines read q e =
     let count = bind_found (size_at 0 most_elements words) _ (read, q) e in
     let many = bind_found (size_at 1 most_matroids count.0.1) _ (read, q) count.2 in
     let end = bind_found (ended_at many.0.1) _ (read, q) many.2 in
-    let labels = bind_found (labels_at version count.0.0 0 lines) _ (read, q) end.2 in
-    let naming = element_naming labels.0.0 in
-    let weights = bind_found (weights_at count.0.0 labels.0.1) _ (read, q) labels.2 in
+    let notation = bind_found (notation_at version count.0.0 0 lines) _ (read, q) end.2 in
+    let naming = element_naming notation.0.0 in
+    let weights = bind_found (weights_at count.0.0 notation.0.1) _ (read, q) notation.2 in
     let matroids = bind_found (repeat_at (matroid_at naming count.0.0) many.0.0 weights.0.1) _ (read, q) weights.2 in
-    let same = found-same (labelled_as (list weights.0.0 matroids.0.0) labels.0.0, matroids.0.1) (read, q) matroids.2 in
+    let same = found-same (written_as (list weights.0.0 matroids.0.0) notation.0.0, matroids.0.1) (read, q) matroids.2 in
     let number = size_found 0 most_elements words count.0.0 count.0.1 count.1 in
     let length_read = size_found 1 most_matroids count.0.1 many.0.0 many.0.1 many.1 in
     let last = ended_found many.0.1 end.0 end.1 in
-    let named = labels_found version count.0.0 0 (elements_fit count.0.0 number.most) no_vertices lines labels.0.0 labels.0.1 labels.1 in
-    let all = weights_line_found count.0.0 labels.0.1 weights.0.0 weights.0.1 weights.1 in
+    let named = notation_found version count.0.0 0 (elements_fit count.0.0 number.most) no_vertices lines notation.0.0 notation.0.1 notation.1 in
+    let all = weights_line_found count.0.0 notation.0.1 weights.0.0 weights.0.1 weights.1 in
     let rows = matroids_found naming count.0.0 named.elements many.0.0 weights.0.1 matroids.0.0 matroids.0.1 matroids.1 in
     let line : words.words ≡ numeral (pos (length weights.0.0)) ∷ numeral (pos (length matroids.0.0)) ∷ [] =
     number.cut ∙ rw (length_read.cut, last, all.count, rows.count) refl in
-    subst (λ (r : Labelled × LinesLeft). IsFormRead version forms.List words lines r.0 r.1) same (record {
+    subst (λ (r : WrittenInstance × LinesLeft). IsFormRead version forms.List words lines r.0 r.1) same (record {
       valid = (all.valid number.most, omega (arith, rows.count, length_read.least), at_most (length matroids.0.0) many.0.0 most_matroids rows.count length_read.most, rw all.count rows.each);
-      labelled = (naming_of naming count.0.0 (length weights.0.0) all.count named.elements, named.vertices);
+      notated = (naming_of naming count.0.0 (length weights.0.0) all.count named.elements, named.vertices);
       same = named.same;
       spelled = λ left.
           let behind = rows.spelled (end_line ∷ []) left in
           let body : List Line = (codes "weights" ∷ map weight_word weights.0.0) ∷ behind.0 in
-          let more : List Line = label_lines labels.0.0 ++ body in
-          let header = ap (λ (t : Line). version_line labels.0.0 ∷ (codes "list" ∷ t) ∷ more) line in
+          let more : List Line = name_lines notation.0.0 ++ body in
+          let header = ap (λ (t : Line). version_line notation.0.0 ∷ (codes "list" ∷ t) ∷ more) line in
           (more, named.spelled body (all.spelled behind.0 behind.1), (behind.0, header, behind.2));
     })
 
-graph_found : (version : Version) (words : WordsLeft) (lines : LinesLeft) (read : Labelled) (q : LinesLeft)
+graph_found : (version : Version) (words : WordsLeft) (lines : LinesLeft) (read : WrittenInstance) (q : LinesLeft)
     → graph_at version words lines ≡ Ok (read, q) → IsFormRead version forms.Graph words lines read q
 unfolding graph_at
 graph_found version words lines read q e =
     let vertices = bind_found (size_at 1 most_vertices words) _ (read, q) e in
     let many = bind_found (size_at 0 most_elements vertices.0.1) _ (read, q) vertices.2 in
     let end = bind_found (ended_at many.0.1) _ (read, q) many.2 in
-    let labels = bind_found (labels_at version many.0.0 vertices.0.0 lines) _ (read, q) end.2 in
-    let naming = vertex_naming labels.0.0 in
-    let edges = bind_found (repeat_at (ends_line_at naming (codes "edge") vertices.0.0) many.0.0 labels.0.1) _ (read, q) labels.2 in
-    let same = found-same (labelled_as (graph vertices.0.0 edges.0.0) labels.0.0, edges.0.1) (read, q) edges.2 in
+    let notation = bind_found (notation_at version many.0.0 vertices.0.0 lines) _ (read, q) end.2 in
+    let naming = vertex_naming notation.0.0 in
+    let edges = bind_found (repeat_at (ends_line_at naming (codes "edge") vertices.0.0) many.0.0 notation.0.1) _ (read, q) notation.2 in
+    let same = found-same (written_as (graph vertices.0.0 edges.0.0) notation.0.0, edges.0.1) (read, q) edges.2 in
     let v = size_found 1 most_vertices words vertices.0.0 vertices.0.1 vertices.1 in
     let m = size_found 0 most_elements vertices.0.1 many.0.0 many.0.1 many.1 in
     let last = ended_found many.0.1 end.0 end.1 in
-    let named = labels_found version many.0.0 vertices.0.0 (elements_fit many.0.0 m.most) (vertices_fit vertices.0.0 v.most) lines labels.0.0 labels.0.1 labels.1 in
+    let named = notation_found version many.0.0 vertices.0.0 (elements_fit many.0.0 m.most) (vertices_fit vertices.0.0 v.most) lines notation.0.0 notation.0.1 notation.1 in
     let items = items_found (ends_line_at naming (codes "edge") vertices.0.0) (ends_line naming (codes "edge"))
-    (IsPairBelow vertices.0.0 vertices.0.0) (ends_line_found naming (codes "edge") vertices.0.0 named.vertices) many.0.0 labels.0.1
+    (IsPairBelow vertices.0.0 vertices.0.0) (ends_line_found naming (codes "edge") vertices.0.0 named.vertices) many.0.0 notation.0.1
     edges.0.0 edges.0.1 edges.1 in
     let line : words.words ≡ numeral (pos vertices.0.0) ∷ numeral (pos (length edges.0.0)) ∷ [] = v.cut ∙ rw (m.cut, last, items.count) refl in
-    subst (λ (r : Labelled × LinesLeft). IsFormRead version forms.Graph words lines r.0 r.1) same (record {
+    subst (λ (r : WrittenInstance × LinesLeft). IsFormRead version forms.Graph words lines r.0 r.1) same (record {
       valid = (v.least, v.most, (at_most (length edges.0.0) many.0.0 most_elements items.count m.most, items.each));
-      labelled = (naming_of (element_naming labels.0.0) many.0.0 (length edges.0.0) items.count named.elements, named.vertices);
+      notated = (naming_of (element_naming notation.0.0) many.0.0 (length edges.0.0) items.count named.elements, named.vertices);
       same = named.same;
       spelled = λ left.
           let body : List Line = map (ends_line naming (codes "edge")) edges.0.0 ++ end_line ∷ [] in
-          let more : List Line = label_lines labels.0.0 ++ body in
-          let header = ap (λ (t : Line). version_line labels.0.0 ∷ (codes "graph" ∷ t) ∷ more) line in
+          let more : List Line = name_lines notation.0.0 ++ body in
+          let header = ap (λ (t : Line). version_line notation.0.0 ∷ (codes "graph" ∷ t) ∷ more) line in
           (more, named.spelled body (items.spelled (end_line ∷ []) left), header);
     })
 
@@ -311,15 +326,15 @@ columns_again naming a b first_named second_named key keyword lines pairs weight
 -- ---- the root
 
 -- the root was read, in the form line or in its own
-record IsRootRead (labels : Labels) (v : ℕ) (before behind : WordsLeft) (p : LinesLeft) (root : ℕ) (q : LinesLeft) : Type 0 where
+record IsRootRead (notation : Notation) (v : ℕ) (before behind : WordsLeft) (p : LinesLeft) (root : ℕ) (q : LinesLeft) : Type 0 where
   below : root < v
-  words : before.words ≡ root_words labels root ++ behind.words
-  spelled : (rest : List Line) → AreLeft rest q → AreLeft (root_lines labels root ++ rest) p
+  words : before.words ≡ root_words notation root ++ behind.words
+  spelled : (rest : List Line) → AreLeft rest q → AreLeft (root_lines notation root ++ rest) p
 
-root_found : (version : Version) (labels : Labels) (v : ℕ) → version ≡ version_for labels → IsNaming v (vertex_naming labels)
+root_found : (version : Version) (notation : Notation) (v : ℕ) → version ≡ version_for notation → IsNaming v (vertex_naming notation)
     → (before : WordsLeft) (known : Option ℕ) (behind : WordsLeft) → header_root_at version v before ≡ Ok (known, behind)
-    → (p : LinesLeft) (root : ℕ) (q : LinesLeft) → root_at (vertex_naming labels) v known p ≡ Ok (root, q)
-    → IsRootRead labels v before behind p root q
+    → (p : LinesLeft) (root : ℕ) (q : LinesLeft) → root_at (vertex_naming notation) v known p ≡ Ok (root, q)
+    → IsRootRead notation v before behind p root q
 unfolding header_root_at root_at
 root_found versions.One numbers v is lawful before known behind e p root q f =
     let word = bind_found (below_at v before) _ (known, behind) e in
@@ -358,20 +373,20 @@ root_found versions.Two (names elements vertices) v is lawful before known behin
     subst (λ (x : ℕ × LinesLeft). IsRootRead (names elements vertices) v before behind p x.0 x.1) there whole
 
 -- what is known of the root from the form line
-abbrev known_root : Labels → ℕ → Option ℕ
+abbrev known_root : Notation → ℕ → Option ℕ
 known_root numbers root = Some root
 known_root (names elements vertices) root = None
 
-header_root_again : (labels : Labels) (v n root : ℕ) → root < v
-    → header_root_at (version_for labels) v (record { line = n; words = root_words labels root })
-    ≡ Ok (known_root labels root, record { line = n; words = [] })
+header_root_again : (notation : Notation) (v n root : ℕ) → root < v
+    → header_root_at (version_for notation) v (record { line = n; words = root_words notation root })
+    ≡ Ok (known_root notation root, record { line = n; words = [] })
 unfolding header_root_at
 header_root_again numbers v n root lt = rw (below_again v n root [] lt) refl
 header_root_again (names elements vertices) v n root lt = refl
 
-root_again : (labels : Labels) (v : ℕ) → IsNaming v (vertex_naming labels) → (p : LinesLeft) (root : ℕ) (rest : List Line) → root < v
-    → AreLeft (root_lines labels root ++ rest) p
-    → (q : LinesLeft) × (root_at (vertex_naming labels) v (known_root labels root) p ≡ Ok (root, q)) × AreLeft rest q
+root_again : (notation : Notation) (v : ℕ) → IsNaming v (vertex_naming notation) → (p : LinesLeft) (root : ℕ) (rest : List Line) → root < v
+    → AreLeft (root_lines notation root ++ rest) p
+    → (q : LinesLeft) × (root_at (vertex_naming notation) v (known_root notation root) p ≡ Ok (root, q)) × AreLeft rest q
 unfolding root_at
 root_again numbers v lawful p root rest lt left = (p, refl, left)
 root_again (names elements vertices) v lawful p root rest lt left =
@@ -380,11 +395,11 @@ root_again (names elements vertices) v lawful p root rest lt left =
     let line = keyed_again (codes "root") p (word ∷ []) rest refl is left in
     (line.0, rw (line.1, member_again (Some vertices) v lawful p.line root [] lt, ended_again p.line) refl, line.2)
 
-root_words-words : (labels : Labels) (root : ℕ) → list_all is_word (root_words labels root) ≡ true
+root_words-words : (notation : Notation) (root : ℕ) → list_all is_word (root_words notation root) ≡ true
 root_words-words numbers root = numerals_words (root ∷ [])
 root_words-words (names elements vertices) root = refl
 
-rooted_found : (version : Version) (words : WordsLeft) (lines : LinesLeft) (read : Labelled) (q : LinesLeft)
+rooted_found : (version : Version) (words : WordsLeft) (lines : LinesLeft) (read : WrittenInstance) (q : LinesLeft)
     → rooted_at version words lines ≡ Ok (read, q) → IsFormRead version forms.Rooted words lines read q
 unfolding rooted_at
 rooted_found version words lines read q e =
@@ -392,38 +407,38 @@ rooted_found version words lines read q e =
     let many = bind_found (size_at 0 most_elements vertices.0.1) _ (read, q) vertices.2 in
     let known = bind_found (header_root_at version vertices.0.0 many.0.1) _ (read, q) many.2 in
     let end = bind_found (ended_at known.0.1) _ (read, q) known.2 in
-    let labels = bind_found (labels_at version many.0.0 vertices.0.0 lines) _ (read, q) end.2 in
-    let naming = vertex_naming labels.0.0 in
-    let root = bind_found (root_at naming vertices.0.0 known.0.0 labels.0.1) _ (read, q) labels.2 in
+    let notation = bind_found (notation_at version many.0.0 vertices.0.0 lines) _ (read, q) end.2 in
+    let naming = vertex_naming notation.0.0 in
+    let root = bind_found (root_at naming vertices.0.0 known.0.0 notation.0.1) _ (read, q) notation.2 in
     let arcs = bind_found (repeat_at (weighted_at naming (codes "arc") vertices.0.0 vertices.0.0) many.0.0 root.0.1) _ (read, q) root.2 in
     let pairs = map (λ (arc : (ℕ × ℕ) × Weight). arc.0) arcs.0.0 in
     let costs = map (λ (arc : (ℕ × ℕ) × Weight). arc.1) arcs.0.0 in
-    let same = found-same (labelled_as (rooted vertices.0.0 root.0.0 pairs costs) labels.0.0, arcs.0.1) (read, q) arcs.2 in
+    let same = found-same (written_as (rooted vertices.0.0 root.0.0 pairs costs) notation.0.0, arcs.0.1) (read, q) arcs.2 in
     let v = size_found 1 most_vertices words vertices.0.0 vertices.0.1 vertices.1 in
     let m = size_found 0 most_elements vertices.0.1 many.0.0 many.0.1 many.1 in
     let last = ended_found known.0.1 end.0 end.1 in
-    let named = labels_found version many.0.0 vertices.0.0 (elements_fit many.0.0 m.most) (vertices_fit vertices.0.0 v.most) lines labels.0.0 labels.0.1 labels.1 in
-    let r = root_found version labels.0.0 vertices.0.0 named.same named.vertices many.0.1 known.0.0 known.0.1 known.1 labels.0.1
+    let named = notation_found version many.0.0 vertices.0.0 (elements_fit many.0.0 m.most) (vertices_fit vertices.0.0 v.most) lines notation.0.0 notation.0.1 notation.1 in
+    let r = root_found version notation.0.0 vertices.0.0 named.same named.vertices many.0.1 known.0.0 known.0.1 known.1 notation.0.1
     root.0.0 root.0.1 root.1 in
     let items = columns_found naming vertices.0.0 vertices.0.0 named.vertices named.vertices (codes "arc") many.0.0 root.0.1
     arcs.0.0 arcs.0.1 arcs.1 in
-    let from : many.0.1.words ≡ root_words labels.0.0 root.0.0 =
-    r.words ∙ ap (λ (t : Line). root_words labels.0.0 root.0.0 ++ t) last ∙ append-nil (root_words labels.0.0 root.0.0) in
-    let line : words.words ≡ numeral (pos vertices.0.0) ∷ numeral (pos (length pairs)) ∷ root_words labels.0.0 root.0.0 =
+    let from : many.0.1.words ≡ root_words notation.0.0 root.0.0 =
+    r.words ∙ ap (λ (t : Line). root_words notation.0.0 root.0.0 ++ t) last ∙ append-nil (root_words notation.0.0 root.0.0) in
+    let line : words.words ≡ numeral (pos vertices.0.0) ∷ numeral (pos (length pairs)) ∷ root_words notation.0.0 root.0.0 =
     v.cut ∙ rw (m.cut, from, items.count) refl in
-    subst (λ (x : Labelled × LinesLeft). IsFormRead version forms.Rooted words lines x.0 x.1) same (record {
+    subst (λ (x : WrittenInstance × LinesLeft). IsFormRead version forms.Rooted words lines x.0 x.1) same (record {
       valid = (v.least, v.most, r.below, (at_most (length pairs) many.0.0 most_elements items.count m.most, items.pairs_valid), items.as_many, items.weights_valid);
-      labelled = (naming_of (element_naming labels.0.0) many.0.0 (length pairs) items.count named.elements, named.vertices);
+      notated = (naming_of (element_naming notation.0.0) many.0.0 (length pairs) items.count named.elements, named.vertices);
       same = named.same;
       spelled = λ left.
           let arc_lines : List Line = map (weighted_line naming (codes "arc")) (zip pairs costs) ++ end_line ∷ [] in
-          let body : List Line = root_lines labels.0.0 root.0.0 ++ arc_lines in
-          let more : List Line = label_lines labels.0.0 ++ body in
-          let header = ap (λ (t : Line). version_line labels.0.0 ∷ (codes "rooted" ∷ t) ∷ more) line in
+          let body : List Line = root_lines notation.0.0 root.0.0 ++ arc_lines in
+          let more : List Line = name_lines notation.0.0 ++ body in
+          let header = ap (λ (t : Line). version_line notation.0.0 ∷ (codes "rooted" ∷ t) ∷ more) line in
           (more, named.spelled body (r.spelled arc_lines (items.spelled left)), header);
     })
 
-table_found : (version : Version) (words : WordsLeft) (lines : LinesLeft) (read : Labelled) (q : LinesLeft)
+table_found : (version : Version) (words : WordsLeft) (lines : LinesLeft) (read : WrittenInstance) (q : LinesLeft)
     → table_at version words lines ≡ Ok (read, q) → IsFormRead version forms.Table words lines read q
 unfolding table_at
 table_found version words lines read q e =
@@ -431,20 +446,20 @@ table_found version words lines read q e =
     let columns = bind_found (size_at 0 most_sets rows.0.1) _ (read, q) rows.2 in
     let many = bind_found (size_at 0 most_elements columns.0.1) _ (read, q) columns.2 in
     let end = bind_found (ended_at many.0.1) _ (read, q) many.2 in
-    let labels = bind_found (labels_at version many.0.0 0 lines) _ (read, q) end.2 in
-    let cells = bind_found (repeat_at (weighted_at None (codes "cell") rows.0.0 columns.0.0) many.0.0 labels.0.1) _ (read, q) labels.2 in
+    let notation = bind_found (notation_at version many.0.0 0 lines) _ (read, q) end.2 in
+    let cells = bind_found (repeat_at (weighted_at None (codes "cell") rows.0.0 columns.0.0) many.0.0 notation.0.1) _ (read, q) notation.2 in
     let pairs = map (λ (cell : (ℕ × ℕ) × Weight). cell.0) cells.0.0 in
     let weights = map (λ (cell : (ℕ × ℕ) × Weight). cell.1) cells.0.0 in
-    let same = found-same (labelled_as (table rows.0.0 columns.0.0 pairs weights) labels.0.0, cells.0.1) (read, q) cells.2 in
+    let same = found-same (written_as (table rows.0.0 columns.0.0 pairs weights) notation.0.0, cells.0.1) (read, q) cells.2 in
     let r = size_found 0 most_sets words rows.0.0 rows.0.1 rows.1 in
     let c = size_found 0 most_sets rows.0.1 columns.0.0 columns.0.1 columns.1 in
     let m = size_found 0 most_elements columns.0.1 many.0.0 many.0.1 many.1 in
     let last = ended_found many.0.1 end.0 end.1 in
-    let named = labels_found version many.0.0 0 (elements_fit many.0.0 m.most) no_vertices lines labels.0.0 labels.0.1 labels.1 in
-    let items = columns_found None rows.0.0 columns.0.0 tt tt (codes "cell") many.0.0 labels.0.1 cells.0.0 cells.0.1 cells.1 in
+    let named = notation_found version many.0.0 0 (elements_fit many.0.0 m.most) no_vertices lines notation.0.0 notation.0.1 notation.1 in
+    let items = columns_found None rows.0.0 columns.0.0 tt tt (codes "cell") many.0.0 notation.0.1 cells.0.0 cells.0.1 cells.1 in
     let line : words.words ≡ numeral (pos rows.0.0) ∷ numeral (pos columns.0.0) ∷ numeral (pos (length pairs)) ∷ [] =
     r.cut ∙ rw (c.cut, m.cut, last, items.count) refl in
-    subst (λ (x : Labelled × LinesLeft). IsFormRead version forms.Table words lines x.0 x.1) same (record {
+    subst (λ (x : WrittenInstance × LinesLeft). IsFormRead version forms.Table words lines x.0 x.1) same (record {
       valid = (
         r.most,
         c.most,
@@ -452,12 +467,12 @@ table_found version words lines read q e =
         items.as_many,
         items.weights_valid,
       );
-      labelled = (naming_of (element_naming labels.0.0) many.0.0 (length pairs) items.count named.elements, named.vertices);
+      notated = (naming_of (element_naming notation.0.0) many.0.0 (length pairs) items.count named.elements, named.vertices);
       same = named.same;
       spelled = λ left.
           let body : List Line = map (weighted_line None (codes "cell")) (zip pairs weights) ++ end_line ∷ [] in
-          let more : List Line = label_lines labels.0.0 ++ body in
-          let header = ap (λ (t : Line). version_line labels.0.0 ∷ (codes "table" ∷ t) ∷ more) line in
+          let more : List Line = name_lines notation.0.0 ++ body in
+          let header = ap (λ (t : Line). version_line notation.0.0 ∷ (codes "table" ∷ t) ∷ more) line in
           (more, named.spelled body (items.spelled left), header);
     })
 
@@ -524,7 +539,7 @@ coloured_columns_again naming v c lawful lines edges colours weights edges_valid
       read.2,
     )
 
-coloured_found : (version : Version) (words : WordsLeft) (lines : LinesLeft) (read : Labelled) (q : LinesLeft)
+coloured_found : (version : Version) (words : WordsLeft) (lines : LinesLeft) (read : WrittenInstance) (q : LinesLeft)
     → coloured_at version words lines ≡ Ok (read, q) → IsFormRead version forms.Coloured words lines read q
 unfolding coloured_at
 coloured_found version words lines read q e =
@@ -532,22 +547,22 @@ coloured_found version words lines read q e =
     let many = bind_found (size_at 0 most_elements vertices.0.1) _ (read, q) vertices.2 in
     let colours = bind_found (size_at 0 most_sets many.0.1) _ (read, q) many.2 in
     let end = bind_found (ended_at colours.0.1) _ (read, q) colours.2 in
-    let labels = bind_found (labels_at version many.0.0 vertices.0.0 lines) _ (read, q) end.2 in
-    let naming = vertex_naming labels.0.0 in
-    let edges = bind_found (repeat_at (coloured_edge_at naming vertices.0.0 colours.0.0) many.0.0 labels.0.1) _ (read, q) labels.2 in
+    let notation = bind_found (notation_at version many.0.0 vertices.0.0 lines) _ (read, q) end.2 in
+    let naming = vertex_naming notation.0.0 in
+    let edges = bind_found (repeat_at (coloured_edge_at naming vertices.0.0 colours.0.0) many.0.0 notation.0.1) _ (read, q) notation.2 in
     let pairs = map (λ (edge : (ℕ × ℕ) × (ℕ × Weight)). edge.0) edges.0.0 in
     let colour_of = map (λ (edge : (ℕ × ℕ) × (ℕ × Weight)). edge.1.0) edges.0.0 in
     let weights = map (λ (edge : (ℕ × ℕ) × (ℕ × Weight)). edge.1.1) edges.0.0 in
-    let same = found-same (labelled_as (coloured vertices.0.0 colours.0.0 pairs colour_of weights) labels.0.0, edges.0.1) (read, q) edges.2 in
+    let same = found-same (written_as (coloured vertices.0.0 colours.0.0 pairs colour_of weights) notation.0.0, edges.0.1) (read, q) edges.2 in
     let v = size_found 1 most_vertices words vertices.0.0 vertices.0.1 vertices.1 in
     let m = size_found 0 most_elements vertices.0.1 many.0.0 many.0.1 many.1 in
     let c = size_found 0 most_sets many.0.1 colours.0.0 colours.0.1 colours.1 in
     let last = ended_found colours.0.1 end.0 end.1 in
-    let named = labels_found version many.0.0 vertices.0.0 (elements_fit many.0.0 m.most) (vertices_fit vertices.0.0 v.most) lines labels.0.0 labels.0.1 labels.1 in
-    let items = coloured_columns_found naming vertices.0.0 colours.0.0 named.vertices many.0.0 labels.0.1 edges.0.0 edges.0.1 edges.1 in
+    let named = notation_found version many.0.0 vertices.0.0 (elements_fit many.0.0 m.most) (vertices_fit vertices.0.0 v.most) lines notation.0.0 notation.0.1 notation.1 in
+    let items = coloured_columns_found naming vertices.0.0 colours.0.0 named.vertices many.0.0 notation.0.1 edges.0.0 edges.0.1 edges.1 in
     let line : words.words ≡ numeral (pos vertices.0.0) ∷ numeral (pos (length pairs)) ∷ numeral (pos colours.0.0) ∷ [] =
     v.cut ∙ rw (m.cut, c.cut, last, items.count) refl in
-    subst (λ (x : Labelled × LinesLeft). IsFormRead version forms.Coloured words lines x.0 x.1) same (record {
+    subst (λ (x : WrittenInstance × LinesLeft). IsFormRead version forms.Coloured words lines x.0 x.1) same (record {
       valid = (
         v.least,
         v.most,
@@ -558,16 +573,16 @@ coloured_found version words lines read q e =
         items.as_many_weights,
         items.weights_valid,
       );
-      labelled = (naming_of (element_naming labels.0.0) many.0.0 (length pairs) items.count named.elements, named.vertices);
+      notated = (naming_of (element_naming notation.0.0) many.0.0 (length pairs) items.count named.elements, named.vertices);
       same = named.same;
       spelled = λ left.
           let body : List Line = map (coloured_edge_line naming) (zip pairs (zip colour_of weights)) ++ end_line ∷ [] in
-          let more : List Line = label_lines labels.0.0 ++ body in
-          let header = ap (λ (t : Line). version_line labels.0.0 ∷ (codes "coloured" ∷ t) ∷ more) line in
+          let more : List Line = name_lines notation.0.0 ++ body in
+          let header = ap (λ (t : Line). version_line notation.0.0 ∷ (codes "coloured" ∷ t) ∷ more) line in
           (more, named.spelled body (items.spelled left), header);
     })
 
-pub any_form_found : (version : Version) (line : ℕ) (form : Form) (words : WordsLeft) (lines : LinesLeft) (read : Labelled) (q : LinesLeft)
+pub any_form_found : (version : Version) (line : ℕ) (form : Form) (words : WordsLeft) (lines : LinesLeft) (read : WrittenInstance) (q : LinesLeft)
     → form_at version line (Some form) words lines ≡ Ok (read, q) → IsFormRead version form words lines read q
 any_form_found version line forms.Pair words lines read q e = pair_found version words lines read q e
 any_form_found version line forms.List words lines read q e = list_found version words lines read q e
@@ -579,85 +594,85 @@ any_form_found version line forms.Table words lines read q e = table_found versi
 -- ---- what is spelled is read
 
 -- lines that spell a problem: the form line, whose words behind the form's word and the lines behind it are read as the problem
-pub record IsFormSpelled (labels : Labels) (instance : Instance) (lines : List Line) : Type 0 where
+pub record IsFormSpelled (notation : Notation) (instance : Instance) (lines : List Line) : Type 0 where
   pub form : Form
   pub words : Line
   pub more : List Line
-  pub cut : lines ≡ version_line labels ∷ (form_spelling form ∷ words) ∷ more
+  pub cut : lines ≡ version_line notation ∷ (form_spelling form ∷ words) ∷ more
   pub are_words : list_all is_word words ≡ true
   pub again : (n : ℕ) (p : LinesLeft) → AreLeft more p
-      → (q : LinesLeft) × (form_at (version_for labels) n (Some form) (record { line = n; words = words }) p
-      ≡ Ok (labelled_as instance labels, q)) × AreLeft (end_line ∷ []) q
+      → (q : LinesLeft) × (form_at (version_for notation) n (Some form) (record { line = n; words = words }) p
+      ≡ Ok (written_as instance notation, q)) × AreLeft (end_line ∷ []) q
 
-pub any_form_spelled : (labels : Labels) (instance : Instance) (lines : List Line) → IsValid instance → AreLabels instance labels
-    → InstanceLines labels instance lines → IsFormSpelled labels instance lines
-unfolding pair_at list_at graph_at rooted_at coloured_at table_at
-any_form_spelled labels (pair weights first second) lines valid labelled spelled = record {
+pub any_form_spelled : (notation : Notation) (instance : Instance) (lines : List Line) → IsValid instance → IsNotationFor instance notation
+    → InstanceLines notation instance lines → IsFormSpelled notation instance lines
+unfolding pair_at two_matroids_at list_at graph_at rooted_at coloured_at table_at
+any_form_spelled notation (pair weights first second) lines valid notated spelled = record {
   form = forms.Pair;
   words = numeral (pos (length weights)) ∷ [];
-  more = label_lines labels ++ (codes "weights" ∷ map weight_word weights) ∷ spelled.0;
+  more = name_lines notation ++ (codes "weights" ∷ map weight_word weights) ∷ spelled.0;
   cut = spelled.2;
   are_words = numerals_words (length weights ∷ []);
   again = λ n p left.
-      let naming = element_naming labels in
+      let naming = element_naming notation in
       let number = size_again 0 most_elements n (length weights) [] (omega arith) (omega (arith, valid.0.0)) in
-      let named = labels_again labels (length weights) 0 labelled.0 labelled.1 p ((codes "weights" ∷ map weight_word weights) ∷ spelled.0) left in
+      let named = notation_again notation (length weights) 0 notated.0 notated.1 p ((codes "weights" ∷ map weight_word weights) ∷ spelled.0) left in
       let all = weights_line_again named.0 weights spelled.0 valid.0 named.2 in
-      let one = matroid_again naming (length weights) labelled.0 all.0 first spelled.0 spelled.1 valid.1 spelled.3 all.2 in
-      let two = matroid_again naming (length weights) labelled.0 one.0 second spelled.1 (end_line ∷ []) valid.2 spelled.4 one.2 in
+      let one = matroid_again naming (length weights) notated.0 all.0 first spelled.0 spelled.1 valid.1 spelled.3 all.2 in
+      let two = matroid_again naming (length weights) notated.0 one.0 second spelled.1 (end_line ∷ []) valid.2 spelled.4 one.2 in
       (two.0, rw (number, ended_again n, named.1, all.1, one.1, two.1) refl, two.2);
 }
-any_form_spelled labels (list weights matroids) lines valid labelled spelled = record {
+any_form_spelled notation (list weights matroids) lines valid notated spelled = record {
   form = forms.List;
   words = numeral (pos (length weights)) ∷ numeral (pos (length matroids)) ∷ [];
-  more = label_lines labels ++ (codes "weights" ∷ map weight_word weights) ∷ spelled.0;
+  more = name_lines notation ++ (codes "weights" ∷ map weight_word weights) ∷ spelled.0;
   cut = spelled.1;
   are_words = numerals_words (length weights ∷ length matroids ∷ []);
   again = λ n p left.
       let number = size_again 0 most_elements n (length weights) (numeral (pos (length matroids)) ∷ []) (omega arith) (omega (arith, valid.0.0)) in
       let many = size_again 1 most_matroids n (length matroids) [] valid.1 (omega (arith, valid.2)) in
-      let named = labels_again labels (length weights) 0 labelled.0 labelled.1 p ((codes "weights" ∷ map weight_word weights) ∷ spelled.0) left in
+      let named = notation_again notation (length weights) 0 notated.0 notated.1 p ((codes "weights" ∷ map weight_word weights) ∷ spelled.0) left in
       let all = weights_line_again named.0 weights spelled.0 valid.0 named.2 in
-      let read = matroids_again (element_naming labels) (length weights) labelled.0 all.0 matroids spelled.0 (end_line ∷ []) valid.3 spelled.2
+      let read = matroids_again (element_naming notation) (length weights) notated.0 all.0 matroids spelled.0 (end_line ∷ []) valid.3 spelled.2
       all.2 in
       (read.0, rw (number, many, ended_again n, named.1, all.1, read.1) refl, read.2);
 }
-any_form_spelled labels (graph vertices edges) lines valid labelled spelled = record {
+any_form_spelled notation (graph vertices edges) lines valid notated spelled = record {
   form = forms.Graph;
   words = numeral (pos vertices) ∷ numeral (pos (length edges)) ∷ [];
-  more = label_lines labels ++ (map (ends_line (vertex_naming labels) (codes "edge")) edges ++ end_line ∷ []);
+  more = name_lines notation ++ (map (ends_line (vertex_naming notation) (codes "edge")) edges ++ end_line ∷ []);
   cut = spelled;
   are_words = numerals_words (vertices ∷ length edges ∷ []);
   again = λ n p left.
-      let naming = vertex_naming labels in
+      let naming = vertex_naming notation in
       let number = size_again 1 most_vertices n vertices (numeral (pos (length edges)) ∷ []) valid.0 (omega (arith, valid.1)) in
       let many = size_again 0 most_elements n (length edges) [] (omega arith) (omega (arith, valid.2.0)) in
-      let named = labels_again labels (length edges) vertices labelled.0 labelled.1 p
+      let named = notation_again notation (length edges) vertices notated.0 notated.1 p
       (map (ends_line naming (codes "edge")) edges ++ end_line ∷ []) left in
       let read = items_again (ends_line_at naming (codes "edge") vertices) (ends_line naming (codes "edge")) (IsPairBelow vertices vertices)
-      (ends_line_again naming (codes "edge") vertices labelled.1 refl) named.0 edges (end_line ∷ []) valid.2.1 named.2 in
+      (ends_line_again naming (codes "edge") vertices notated.1 refl) named.0 edges (end_line ∷ []) valid.2.1 named.2 in
       (read.0, rw (number, many, ended_again n, named.1, read.1) refl, read.2);
 }
-any_form_spelled labels (rooted vertices root arcs costs) lines valid labelled spelled = record {
+any_form_spelled notation (rooted vertices root arcs costs) lines valid notated spelled = record {
   form = forms.Rooted;
-  words = numeral (pos vertices) ∷ numeral (pos (length arcs)) ∷ root_words labels root;
-  more = label_lines labels
-      ++ (root_lines labels root ++ (map (weighted_line (vertex_naming labels) (codes "arc")) (zip arcs costs) ++ end_line ∷ []));
+  words = numeral (pos vertices) ∷ numeral (pos (length arcs)) ∷ root_words notation root;
+  more = name_lines notation
+      ++ (root_lines notation root ++ (map (weighted_line (vertex_naming notation) (codes "arc")) (zip arcs costs) ++ end_line ∷ []));
   cut = spelled;
   are_words =
-      and_from (is_word (numeral (pos vertices))) (list_all is_word (numeral (pos (length arcs)) ∷ root_words labels root))
-      (numeral_word (pos vertices)) (and_from (is_word (numeral (pos (length arcs)))) (list_all is_word (root_words labels root))
-      (numeral_word (pos (length arcs))) (root_words-words labels root));
+      and_from (is_word (numeral (pos vertices))) (list_all is_word (numeral (pos (length arcs)) ∷ root_words notation root))
+      (numeral_word (pos vertices)) (and_from (is_word (numeral (pos (length arcs)))) (list_all is_word (root_words notation root))
+      (numeral_word (pos (length arcs))) (root_words-words notation root));
   again = λ n p left.
-      let naming = vertex_naming labels in
+      let naming = vertex_naming notation in
       let arc_lines : List Line = map (weighted_line naming (codes "arc")) (zip arcs costs) ++ end_line ∷ [] in
-      let number = size_again 1 most_vertices n vertices (numeral (pos (length arcs)) ∷ root_words labels root) valid.0
+      let number = size_again 1 most_vertices n vertices (numeral (pos (length arcs)) ∷ root_words notation root) valid.0
       (omega (arith, valid.1)) in
-      let many = size_again 0 most_elements n (length arcs) (root_words labels root) (omega arith) (omega (arith, valid.3.0)) in
-      let known = header_root_again labels vertices n root valid.2 in
-      let named = labels_again labels (length arcs) vertices labelled.0 labelled.1 p (root_lines labels root ++ arc_lines) left in
-      let from = root_again labels vertices labelled.1 named.0 root arc_lines valid.2 named.2 in
-      let read = columns_again naming vertices vertices labelled.1 labelled.1 (codes "arc") refl from.0 arcs costs valid.3.1 valid.5 valid.4
+      let many = size_again 0 most_elements n (length arcs) (root_words notation root) (omega arith) (omega (arith, valid.3.0)) in
+      let known = header_root_again notation vertices n root valid.2 in
+      let named = notation_again notation (length arcs) vertices notated.0 notated.1 p (root_lines notation root ++ arc_lines) left in
+      let from = root_again notation vertices notated.1 named.0 root arc_lines valid.2 named.2 in
+      let read = columns_again naming vertices vertices notated.1 notated.1 (codes "arc") refl from.0 arcs costs valid.3.1 valid.5 valid.4
       from.2 in (
         read.0,
         rw (
@@ -674,21 +689,21 @@ any_form_spelled labels (rooted vertices root arcs costs) lines valid labelled s
         read.2,
       );
 }
-any_form_spelled labels (coloured vertices colours edges colour_of weights) lines valid labelled spelled = record {
+any_form_spelled notation (coloured vertices colours edges colour_of weights) lines valid notated spelled = record {
   form = forms.Coloured;
   words = numeral (pos vertices) ∷ numeral (pos (length edges)) ∷ numeral (pos colours) ∷ [];
-  more = label_lines labels ++ (map (coloured_edge_line (vertex_naming labels)) (zip edges (zip colour_of weights)) ++ end_line ∷ []);
+  more = name_lines notation ++ (map (coloured_edge_line (vertex_naming notation)) (zip edges (zip colour_of weights)) ++ end_line ∷ []);
   cut = spelled;
   are_words = numerals_words (vertices ∷ length edges ∷ colours ∷ []);
   again = λ n p left.
-      let naming = vertex_naming labels in
+      let naming = vertex_naming notation in
       let number = size_again 1 most_vertices n vertices (numeral (pos (length edges)) ∷ numeral (pos colours) ∷ []) valid.0
       (omega (arith, valid.1)) in
       let many = size_again 0 most_elements n (length edges) (numeral (pos colours) ∷ []) (omega arith) (omega (arith, valid.3.0)) in
       let hues = size_again 0 most_sets n colours [] (omega arith) (omega (arith, valid.2)) in
-      let named = labels_again labels (length edges) vertices labelled.0 labelled.1 p
+      let named = notation_again notation (length edges) vertices notated.0 notated.1 p
       (map (coloured_edge_line naming) (zip edges (zip colour_of weights)) ++ end_line ∷ []) left in
-      let read = coloured_columns_again naming vertices colours labelled.1 named.0 edges colour_of weights valid.3.1 valid.5 valid.7
+      let read = coloured_columns_again naming vertices colours notated.1 named.0 edges colour_of weights valid.3.1 valid.5 valid.7
       valid.4 valid.6 named.2 in (
         read.0,
         rw (
@@ -705,10 +720,10 @@ any_form_spelled labels (coloured vertices colours edges colour_of weights) line
         read.2,
       );
 }
-any_form_spelled labels (table rows columns cells weights) lines valid labelled spelled = record {
+any_form_spelled notation (table rows columns cells weights) lines valid notated spelled = record {
   form = forms.Table;
   words = numeral (pos rows) ∷ numeral (pos columns) ∷ numeral (pos (length cells)) ∷ [];
-  more = label_lines labels ++ (map (weighted_line None (codes "cell")) (zip cells weights) ++ end_line ∷ []);
+  more = name_lines notation ++ (map (weighted_line None (codes "cell")) (zip cells weights) ++ end_line ∷ []);
   cut = spelled;
   are_words = numerals_words (rows ∷ columns ∷ length cells ∷ []);
   again = λ n p left.
@@ -716,7 +731,7 @@ any_form_spelled labels (table rows columns cells weights) lines valid labelled 
       (omega (arith, valid.0)) in
       let across = size_again 0 most_sets n columns (numeral (pos (length cells)) ∷ []) (omega arith) (omega (arith, valid.1)) in
       let many = size_again 0 most_elements n (length cells) [] (omega arith) (omega (arith, valid.2.0)) in
-      let named = labels_again labels (length cells) 0 labelled.0 labelled.1 p
+      let named = notation_again notation (length cells) 0 notated.0 notated.1 p
       (map (weighted_line None (codes "cell")) (zip cells weights) ++ end_line ∷ []) left in
       let read = columns_again None rows columns tt tt (codes "cell") refl named.0 cells weights valid.2.1 valid.4 valid.3 named.2 in (
         read.0,

@@ -15,18 +15,18 @@ use Rattle.mat_words.specs.Cursors.{WordsLeft, LinesLeft}
 use Rattle.mat_words.specs.Reading.{word_at as word_read, is_closed}
 use Rattle.mat_words.specs.Steps.{◌>>=◌}
 use Rattle.mat_desc.specs.Faults.{Fault}
-use Rattle.mat_desc.specs.Reading.{Labelled, line_at, word_at, ended_at, keyed_at, version_of, version_named, version_at, end_at}
-use Rattle.mat_desc.specs.Reading.{closed_at, form_of, form_at, instance_at, description_at, labelled_of, read_of, named_of}
+use Rattle.mat_desc.specs.Reading.{WrittenInstance, line_at, word_at, ended_at, keyed_at, version_of, version_named, version_at, end_at}
+use Rattle.mat_desc.specs.Reading.{closed_at, ending_at, form_of, form_at, instance_at, description_at, written_of, read_of, named_of}
 use Rattle.mat_desc.specs.Instances.{Instance}
-use Rattle.mat_desc.specs.Labels.{Labels, numbers, names, AreLabels, NamedInstance, named_by}
+use Rattle.mat_desc.specs.Notations.{Notation, numbers, names, IsNotationFor, NamedInstance, named_by}
 use Rattle.mat_words.specs.Writing.{end_line}
 use Rattle.mat_desc.specs.Grammar.{version_line, IsValid, InstanceLines, Spells, SpellsNamed}
 use Rattle.mat_words.proofs.ReadingSteps.{found, found-same, bind_found, test_found}
 use Rattle.mat_words.proofs.LineLemmas.{same_text}
 use Rattle.mat_words.proofs.LineReading.{AreLeft, line_again, keyed_again, known_line, closed_left}
 use Rattle.mat_desc.proofs.Told.{word_found, ended_found, ended_again, line_found, keyed_found}
-use Rattle.mat_desc.proofs.LabelLaws.{version_for}
-use Rattle.mat_desc.proofs.FormLaws.{form_spelling, form_found, form_of-form_spelling, form_word, labelled_as, any_form_found, any_form_spelled}
+use Rattle.mat_desc.proofs.NotationLaws.{version_for}
+use Rattle.mat_desc.proofs.FormLaws.{form_spelling, form_found, form_of-form_spelling, form_word, written_as, any_form_found, any_form_spelled}
 
 -- ---- the lines round a problem
 
@@ -60,28 +60,28 @@ version_named_found line (Some named) words lines version q e =
       ap (λ (x : Version × LinesLeft). x.1) same,
     )
 
-version_line-spelling : (labels : Labels) → version_line labels ≡ codes "matroids" ∷ version_spelling (version_for labels) ∷ []
+version_line-spelling : (notation : Notation) → version_line notation ≡ codes "matroids" ∷ version_spelling (version_for notation) ∷ []
 version_line-spelling numbers = refl
 version_line-spelling (names elements vertices) = refl
 
-version_found : (p : LinesLeft) (version : Version) (q : LinesLeft) → version_at p ≡ Ok (version, q) → (labels : Labels)
-    → version ≡ version_for labels → (rest : List Line) → AreLeft rest q → AreLeft (version_line labels ∷ rest) p
+version_found : (p : LinesLeft) (version : Version) (q : LinesLeft) → version_at p ≡ Ok (version, q) → (notation : Notation)
+    → version ≡ version_for notation → (rest : List Line) → AreLeft rest q → AreLeft (version_line notation ∷ rest) p
 unfolding version_at
-version_found p version q e labels is rest left =
+version_found p version q e notation is rest left =
     let line = bind_found (keyed_at (codes "matroids") p) _ (version, q) e in
     let word = bind_found (word_at line.0.0) _ (version, q) line.2 in
     let named = version_named_found p.line (version_of word.0.0) word.0.1 line.0.1 version q word.2 in
-    let one : word.0.0 ≡ version_spelling (version_for labels) =
+    let one : word.0.0 ≡ version_spelling (version_for notation) =
     version_word_found word.0.0 version named.0 ∙ ap version_spelling is in
-    let words : line.0.0.words ≡ version_spelling (version_for labels) ∷ [] =
+    let words : line.0.0.words ≡ version_spelling (version_for notation) ∷ [] =
     word_found line.0.0 word.0.0 word.0.1 word.1 ∙ rw (one, named.1) refl in
-    let whole : AreLeft ((codes "matroids" ∷ version_spelling (version_for labels) ∷ []) ∷ rest) p =
-    known_line (codes "matroids") p line.0.0.words (version_spelling (version_for labels) ∷ []) line.0.1 q
+    let whole : AreLeft ((codes "matroids" ∷ version_spelling (version_for notation) ∷ []) ∷ rest) p =
+    known_line (codes "matroids") p line.0.0.words (version_spelling (version_for notation) ∷ []) line.0.1 q
     (keyed_found (codes "matroids") p line.0.0 line.0.1 line.1) words named.2 rest left in
-    subst (λ (first : Line). AreLeft (first ∷ rest) p) (sym (version_line-spelling labels)) whole
+    subst (λ (first : Line). AreLeft (first ∷ rest) p) (sym (version_line-spelling notation)) whole
 
-version_again : (labels : Labels) (p : LinesLeft) (rest : List Line) → AreLeft (version_line labels ∷ rest) p
-    → (q : LinesLeft) × (version_at p ≡ Ok (version_for labels, q)) × AreLeft rest q
+version_again : (notation : Notation) (p : LinesLeft) (rest : List Line) → AreLeft (version_line notation ∷ rest) p
+    → (q : LinesLeft) × (version_at p ≡ Ok (version_for notation, q)) × AreLeft rest q
 unfolding version_at word_read
 version_again numbers p rest left =
     let line = keyed_again (codes "matroids") p (codes "1" ∷ []) rest refl refl left in
@@ -115,14 +115,14 @@ closed_again p left = rw left.same refl
 -- ---- whole texts
 
 -- a problem was read from its form line on
-record IsInstanceRead (version : Version) (p : LinesLeft) (read : Labelled) (q : LinesLeft) : Type 0 where
+record IsInstanceRead (version : Version) (p : LinesLeft) (read : WrittenInstance) (q : LinesLeft) : Type 0 where
   valid : IsValid read.instance
-  labelled : AreLabels read.instance read.labels
-  same : version ≡ version_for read.labels
+  notated : IsNotationFor read.instance read.notation
+  same : version ≡ version_for read.notation
   spelled : AreLeft (end_line ∷ []) q → (lines : List Line) × AreLeft lines p
-      × InstanceLines read.labels read.instance (version_line read.labels ∷ lines)
+      × InstanceLines read.notation read.instance (version_line read.notation ∷ lines)
 
-instance_found : (version : Version) (p : LinesLeft) (read : Labelled) (q : LinesLeft) → instance_at version p ≡ Ok (read, q)
+instance_found : (version : Version) (p : LinesLeft) (read : WrittenInstance) (q : LinesLeft) → instance_at version p ≡ Ok (read, q)
     → IsInstanceRead version p read q
 unfolding instance_at
 instance_found version p read q e =
@@ -142,7 +142,7 @@ instance_found version p read q e =
         (form_found first named is) in
         record {
           valid = form_read.valid;
-          labelled = form_read.labelled;
+          notated = form_read.notated;
           same = form_read.same;
           spelled = λ left.
               let behind = form_read.spelled left in (
@@ -152,87 +152,87 @@ instance_found version p read q e =
               );
         }
 
--- a text that is read spells the problem that was read, with the labels that were read
-pub description_found : (text : List ℕ) (read : Labelled) → labelled_of text ≡ Ok read
-    → (s : Spells text read.instance) × (s.labels ≡ read.labels)
-unfolding description_at
+-- a text that is read spells the problem that was read, with the notation that was read
+pub description_found : (text : List ℕ) (read : WrittenInstance) → written_of text ≡ Ok read
+    → (s : Spells text read.instance) × (s.notation ≡ read.notation)
+unfolding description_at ending_at
 description_found text read e =
     let p : LinesLeft = record { line = 1; lines = lines_of text } in
     let form = bind_found (version_at p) _ read e in
     let body = bind_found (instance_at form.0.0 form.0.1) _ read form.2 in
-    let rest = bind_found (end_at body.0.1) _ read body.2 in
-    let close = bind_found (closed_at rest.0) _ read rest.2 in
-    let same = found-same body.0.0 read close.2 in
+    let ending = bind_found (ending_at body.0.1) _ read body.2 in
+    let rest = bind_found (end_at body.0.1) _ ending.0 ending.1 in
+    let same = found-same body.0.0 read ending.2 in
     let problem = instance_found form.0.0 form.0.1 body.0.0 body.0.1 body.1 in
-    let ended = end_found body.0.1 rest.0 rest.1 [] (closed_found rest.0 close.0 close.1) in
+    let ended = end_found body.0.1 rest.0 rest.1 [] (closed_found rest.0 ending.0 rest.2) in
     let behind = problem.spelled ended in
-    let whole = version_found p form.0.0 form.0.1 form.1 body.0.0.labels problem.same behind.0 behind.1 in
+    let whole = version_found p form.0.0 form.0.1 form.1 body.0.0.notation problem.same behind.0 behind.1 in
     let spelled : Spells text body.0.0.instance = record {
       valid = problem.valid;
-      labels = body.0.0.labels;
-      labelled = problem.labelled;
-      lines = version_line body.0.0.labels ∷ behind.0;
+      notation = body.0.0.notation;
+      notated = problem.notated;
+      lines = version_line body.0.0.notation ∷ behind.0;
       spelled = behind.2;
-      whole = same_text text (text_of (version_line body.0.0.labels ∷ behind.0)) whole.same;
+      whole = same_text text (text_of (version_line body.0.0.notation ∷ behind.0)) whole.same;
     } in
-    subst (λ (r : Labelled). (s : Spells text r.instance) × (s.labels ≡ r.labels)) same (spelled, refl)
+    subst (λ (r : WrittenInstance). (s : Spells text r.instance) × (s.notation ≡ r.notation)) same (spelled, refl)
 
-instance_again : (labels : Labels) (p : LinesLeft) (instance : Instance) (lines : List Line) → IsValid instance → AreLabels instance labels
-    → InstanceLines labels instance lines → AreLeft lines p
-    → (form : LinesLeft) × (q : LinesLeft) × (version_at p ≡ Ok (version_for labels, form))
-    × (instance_at (version_for labels) form ≡ Ok (labelled_as instance labels, q)) × AreLeft (end_line ∷ []) q
+instance_again : (notation : Notation) (p : LinesLeft) (instance : Instance) (lines : List Line) → IsValid instance → IsNotationFor instance notation
+    → InstanceLines notation instance lines → AreLeft lines p
+    → (form : LinesLeft) × (q : LinesLeft) × (version_at p ≡ Ok (version_for notation, form))
+    × (instance_at (version_for notation) form ≡ Ok (written_as instance notation, q)) × AreLeft (end_line ∷ []) q
 unfolding instance_at word_read
-instance_again labels p instance lines valid labelled spelled left =
-    let form = any_form_spelled labels instance lines valid labelled spelled in
-    let head = version_again labels p ((form_spelling form.form ∷ form.words) ∷ form.more)
+instance_again notation p instance lines valid notated spelled left =
+    let form = any_form_spelled notation instance lines valid notated spelled in
+    let head = version_again notation p ((form_spelling form.form ∷ form.words) ∷ form.more)
     (subst (λ (ls : List Line). AreLeft ls p) form.cut left) in
     let words = and_from (is_word (form_spelling form.form)) (list_all is_word form.words) (form_word form.form) form.are_words in
     let line = line_again head.0 (form_spelling form.form ∷ form.words) form.more (omega arith) words head.2 in
     let read = form.again head.0.line line.0 line.2 in
     (head.0, read.0, head.1, rw (line.1, form_of-form_spelling form.form, read.1) refl, read.2)
 
--- a text that spells a problem is read as that problem with the labels of its lines
+-- a text that spells a problem is read as that problem with the notation of its lines
 pub description_again : (text : List ℕ) (instance : Instance) (s : Spells text instance)
-    → labelled_of text ≡ Ok (labelled_as instance s.labels)
-unfolding description_at
+    → written_of text ≡ Ok (written_as instance s.notation)
+unfolding description_at ending_at
 description_again text instance s =
     let p : LinesLeft = record { line = 1; lines = lines_of text } in
     let left : AreLeft s.lines p = record { same = ap lines_of s.whole } in
-    let read = instance_again s.labels p instance s.lines s.valid s.labelled s.spelled left in
+    let read = instance_again s.notation p instance s.lines s.valid s.notated s.spelled left in
     let end = end_again read.1 [] read.4 in
     rw (read.2, read.3, end.1, closed_again end.0 end.2) refl
 
 -- ---- the problem alone, and the problem with its names
 
 -- the problem of a description
-abbrev pub problem_of : Result Labelled Fault → Result Instance Fault
+abbrev pub problem_of : Result WrittenInstance Fault → Result Instance Fault
 problem_of reading = reading >>= λ read. Ok read.instance
 
 -- the problem of a description with its names
-abbrev pub named_problem_of : Result Labelled Fault → Result NamedInstance Fault
-named_problem_of reading = reading >>= λ read. Ok (named_by read.labels read.instance)
+abbrev pub named_problem_of : Result WrittenInstance Fault → Result NamedInstance Fault
+named_problem_of reading = reading >>= λ read. Ok (named_by read.notation read.instance)
 
 pub read_found : (text : List ℕ) (instance : Instance) → read_of text ≡ Ok instance → Spells text instance
 read_found text instance e =
-    let read = bind_found (labelled_of text) (λ read. found read.instance) instance e in
+    let read = bind_found (written_of text) (λ read. found read.instance) instance e in
     subst (λ (i : Instance). Spells text i) (found-same read.0.instance instance read.2) (description_found text read.0 read.1).0
 
 pub read_again : (text : List ℕ) (instance : Instance) → Spells text instance → read_of text ≡ Ok instance
 read_again text instance s = ap problem_of (description_again text instance s)
 
--- a text that spells a problem gives it the names that its labels make
-spelled_by : (text : List ℕ) (labels : Labels) (instance : Instance) (s : Spells text instance) → s.labels ≡ labels
-    → SpellsNamed text (named_by labels instance)
-spelled_by text numbers instance s same = record { spells = s; named = ap (λ (l : Labels). named_by l instance) (sym same) }
+-- a text that spells a problem gives it the names that its notation make
+spelled_by : (text : List ℕ) (notation : Notation) (instance : Instance) (s : Spells text instance) → s.notation ≡ notation
+    → SpellsNamed text (named_by notation instance)
+spelled_by text numbers instance s same = record { spells = s; named = ap (λ (l : Notation). named_by l instance) (sym same) }
 spelled_by text (names elements vertices) instance s same =
-    record { spells = s; named = ap (λ (l : Labels). named_by l instance) (sym same) }
+    record { spells = s; named = ap (λ (l : Notation). named_by l instance) (sym same) }
 
 pub named_found : (text : List ℕ) (problem : NamedInstance) → named_of text ≡ Ok problem → SpellsNamed text problem
 named_found text problem e =
-    let read = bind_found (labelled_of text) (λ read. found (named_by read.labels read.instance)) problem e in
+    let read = bind_found (written_of text) (λ read. found (named_by read.notation read.instance)) problem e in
     let spelled = description_found text read.0 read.1 in
-    subst (λ (x : NamedInstance). SpellsNamed text x) (found-same (named_by read.0.labels read.0.instance) problem read.2)
-    (spelled_by text read.0.labels read.0.instance spelled.0 spelled.1)
+    subst (λ (x : NamedInstance). SpellsNamed text x) (found-same (named_by read.0.notation read.0.instance) problem read.2)
+    (spelled_by text read.0.notation read.0.instance spelled.0 spelled.1)
 
 pub named_again : (text : List ℕ) (problem : NamedInstance) → SpellsNamed text problem → named_of text ≡ Ok problem
 named_again text problem s =

@@ -16,7 +16,7 @@ use Rattle.mat_words.specs.Cursors.{WordsLeft, LinesLeft}
 use Rattle.mat_sets.specs.declared.weight.Weight.{Weight}
 use Rattle.mat_desc.specs.Limits.{most_digits}
 use Rattle.mat_sets.specs.Limits.{largest_weight}
-use Rattle.mat_desc.specs.Labels.{Naming, word_for, IsNaming}
+use Rattle.mat_desc.specs.Notations.{Naming, word_for, IsNaming}
 use Rattle.mat_desc.specs.Reading.{keyed_at, below_at, weight_at, ended_at, ends_at, member_at}
 use Rattle.mat_desc.specs.Reading.{ends_line_at, column_at, binary_at, weighted_at, coloured_edge_at}
 use Rattle.mat_words.specs.Binary.{binary}
@@ -27,7 +27,7 @@ use Rattle.mat_words.proofs.BinaryLaws.{binary_word, binary_again}
 use Rattle.mat_words.proofs.LineReading.{AreLeft, keyed_again}
 use Rattle.mat_words.proofs.ItemLines.{IsItemRead, items_found}
 use Rattle.mat_desc.proofs.Told.{cut_then, below_found, binary_found, weight_found, ended_found, ended_again, keyed_found}
-use Rattle.mat_desc.proofs.LabelLaws.{member_found, member_again, word_for-word}
+use Rattle.mat_desc.proofs.NotationLaws.{member_found, member_again, word_for-word}
 use Rattle.mat_sets.specs.Graphs.{IsGraph}
 use Rattle.mat_gf2.specs.Columns.{IsBinaryMatrix}
 

@@ -7,7 +7,7 @@ use Rattle.std.proofs.lemmas.Slice.Eq.{bytes_eq-Decides}
 use Rattle.mat_words.specs.Numbers.{numeral}
 use Rattle.mat_words.specs.Lines.{Line}
 use Rattle.mat_any.specs.Trees.{Tree, uniform, partition, laminar, graphic, gf2, depth}
-use Rattle.mat_desc.specs.Labels.{Naming, IsNaming}
+use Rattle.mat_desc.specs.Notations.{Naming, IsNaming}
 use Rattle.mat_desc.specs.Limits.{most_sets, most_digits}
 use Rattle.mat_sets.specs.Limits.{most_vertices, most_elements}
 use Rattle.mat_desc.specs.declared.keywords.Keyword.{Keyword}

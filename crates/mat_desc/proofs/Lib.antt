@@ -1,5 +1,5 @@
 pub mod Told
-pub mod LabelLaws
+pub mod NotationLaws
 pub mod ElementLists
 pub mod Classes
 pub mod NestedSets

@@ -5,7 +5,7 @@ use Rattle.std.specs.Prelude.{codes}
 use Rattle.mat_words.specs.Numbers.{numeral, numerals}
 use Rattle.mat_words.specs.Lines.{Line}
 use Rattle.mat_any.specs.Trees.{Tree, transversal, gammoid}
-use Rattle.mat_desc.specs.Labels.{Naming, IsNaming}
+use Rattle.mat_desc.specs.Notations.{Naming, IsNaming}
 use Rattle.mat_desc.specs.Limits.{most_sets, most_arcs}
 use Rattle.mat_sets.specs.Limits.{most_vertices}
 use Rattle.mat_desc.specs.declared.keywords.Keyword.TheVariants as keywords

@@ -11,7 +11,7 @@ use Rattle.mat_words.specs.Numbers.{numeral, numerals}
 use Rattle.mat_words.proofs.NumberLemmas.{numeral_word}
 use Rattle.mat_any.specs.Trees.{Tree, Trees, uniform, partition, laminar, graphic, transversal, gammoid, gf2, dual, truncate, restrict, contract, union, no_trees, more_trees, tree_count, trees_from, depth, greatest_depth}
 use Rattle.mat_words.specs.Lines.{Line}
-use Rattle.mat_desc.specs.Labels.{Naming, words_for, IsNaming}
+use Rattle.mat_desc.specs.Notations.{Naming, words_for, IsNaming}
 use Rattle.mat_desc.specs.Limits.{most_sets, most_digits, most_matroids, deepest}
 use Rattle.mat_sets.specs.Limits.{most_vertices, most_elements}
 use Rattle.mat_desc.specs.declared.keywords.Keyword.{Keyword}
@@ -28,7 +28,7 @@ use Rattle.mat_words.proofs.ReadingSteps.{found-same, bind_found}
 use Rattle.mat_words.proofs.WordReading.{size_again, numerals_words}
 use Rattle.mat_words.proofs.LineReading.{AreLeft, line_again}
 use Rattle.mat_desc.proofs.Told.{cut_then, word_found, ended_found, ended_again, size_found, line_found}
-use Rattle.mat_desc.proofs.LabelLaws.{words_for-words}
+use Rattle.mat_desc.proofs.NotationLaws.{words_for-words}
 use Rattle.mat_desc.proofs.ElementLaws.{elements_found, Lists-read, IsSet-read, listed_below, set_again}
 use Rattle.mat_desc.proofs.ClassLaws.{classes_again}
 use Rattle.mat_desc.proofs.NestedSetLaws.{nested_sets_again}

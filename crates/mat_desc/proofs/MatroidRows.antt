@@ -4,7 +4,7 @@ use Rattle.std.specs.List.{All}
 use Rattle.std.proofs.lemmas.List.Elements.{All-nil, All-cons, All-head, All-tail}
 use Rattle.mat_words.specs.Lines.{Line}
 use Rattle.mat_any.specs.Trees.{Tree}
-use Rattle.mat_desc.specs.Labels.{Naming, IsNaming}
+use Rattle.mat_desc.specs.Notations.{Naming, IsNaming}
 use Rattle.mat_words.specs.Cursors.{LinesLeft}
 use Rattle.mat_words.specs.Steps.{repeat_at}
 use Rattle.mat_desc.specs.Reading.{matroid_at}

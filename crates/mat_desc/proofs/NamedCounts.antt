@@ -2,7 +2,7 @@
 use Rattle.std.proofs.Common.{◌<◌, ◌^◌, arith}
 use Rattle.mat_desc.specs.Grammar.{IsValid}
 use Rattle.mat_desc.specs.Instances.{Instance, pair, list, graph, rooted, coloured, table}
-use Rattle.mat_desc.specs.Labels.{count_of_elements, count_of_vertices}
+use Rattle.mat_desc.specs.Notations.{count_of_elements, count_of_vertices}
 
 pub few_elements : (instance : Instance) → IsValid instance → count_of_elements instance < 2 ^ 32
 few_elements (pair weights first second) valid = omega (arith, valid.0.0)

@@ -7,7 +7,7 @@ use Rattle.mat_any.specs.Trees.{Tree, trees_from}
 use Rattle.mat_any.specs.Views.{tree_of}
 use Rattle.mat_any.specs.declared.any.AnyMatroid.{AnyMatroid}
 use Rattle.mat_desc.specs.Grammar.{IsValidTree, AreValidTrees}
-use Rattle.mat_desc.specs.Labels.{Naming}
+use Rattle.mat_desc.specs.Notations.{Naming}
 
 -- what follows from a fact of the number of the names
 pub where_named : (naming : Naming) (P Q : ℕ → Type 0) → ((n : ℕ) → P n → Q n) → IfSome naming (λ listed. P (length listed))

@@ -15,7 +15,7 @@ use Rattle.mat_desc.specs.Limits.{most_sets}
 use Rattle.mat_sets.specs.Limits.{most_elements}
 use Rattle.mat_desc.specs.declared.refusal.DescKind.TheVariants.{Crossing}
 use Rattle.mat_words.specs.Cursors.{WordsLeft, LinesLeft}
-use Rattle.mat_desc.specs.Labels.{Naming, IsNaming}
+use Rattle.mat_desc.specs.Notations.{Naming, IsNaming}
 use Rattle.mat_desc.specs.Reading.{keyed_at, size_at, elements_at, nested_set_at, nested_sets_at}
 use Rattle.mat_desc.specs.Grammar.{Lists, CappedLines, AreNestedSets}
 use Rattle.mat_words.proofs.ReadingSteps.{found-same, bind_found, refused_found}

@@ -7,7 +7,7 @@ use Rattle.mat_desc.specs.declared.refusal.DescRefusal.{DescRefusal}
 use Rattle.mat_desc.specs.declared.refusal.DescRefusal.TheVariants as refusals
 use Rattle.mat_words.specs.Cursors.{LinesLeft}
 use Rattle.mat_desc.specs.Faults.{Fails}
-use Rattle.mat_desc.specs.Labels.{Naming}
+use Rattle.mat_desc.specs.Notations.{Naming}
 use Rattle.mat_desc.specs.Reading.{nested_set_at, nested_sets_at}
 use Rattle.mat_desc.proofs.Classes.{SetsRead, with_front, with_front-cons}
 

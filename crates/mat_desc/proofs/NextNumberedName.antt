@@ -5,7 +5,7 @@ use Rattle.mat_sets.proofs.Ground.{map-all_below_more}
 use Rattle.mat_words.specs.Numbers.{numeral}
 use Rattle.mat_words.specs.Names.{name_index, is_among, with_name}
 use Rattle.mat_words.proofs.NameLemmas.{name_index-found}
-use Rattle.mat_desc.specs.Labels.{numbered}
+use Rattle.mat_desc.specs.Notations.{numbered}
 use Rattle.mat_desc.proofs.NumberedNames.{numeral-same, length-numbered, get_or-numbered}
 
 same_numeral : (letter x y : ℕ) → letter ∷ numeral (pos x) ≡ letter ∷ numeral (pos y) → numeral (pos x) ≡ numeral (pos y)

@@ -14,7 +14,7 @@ use Rattle.mat_words.specs.Numbers.{numeral, number_of}
 use Rattle.mat_words.specs.Words.{is_letter, is_word}
 use Rattle.mat_words.specs.Names.{longest_name, is_name, AreNames}
 use Rattle.mat_words.proofs.NumberLemmas.{read_again, numeral_word}
-use Rattle.mat_desc.specs.Labels.{numbered}
+use Rattle.mat_desc.specs.Notations.{numbered}
 
 some_number : (x y : ℕ) → Some (pos x) ≡ Some (pos y) → x ≡ y
 some_number x y e = cc

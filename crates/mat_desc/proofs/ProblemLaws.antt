@@ -14,9 +14,9 @@ use Rattle.mat_desc.specs.declared.refusal.DescRefusal.TheVariants as refusals
 use Rattle.mat_desc.specs.Faults.{Fault, Gives}
 use Rattle.mat_desc.specs.Grammar.{IsValidTree, IsValidMatroid, AreValidTrees, IsValid, Spells, SpellsNamed}
 use Rattle.mat_desc.specs.Instances.{Instance, pair, list, graph, rooted, coloured, table}
-use Rattle.mat_desc.specs.Labels.{Labels, numbers, names, IsNaming, AreLabels, NamedInstance, named_by, numbered}
-use Rattle.mat_desc.specs.Labels.{count_of_elements, count_of_vertices}
-use Rattle.mat_desc.specs.Reading.{Labelled, labelled_of, read_of, named_of}
+use Rattle.mat_desc.specs.Notations.{Notation, numbers, names, IsNaming, IsNotationFor, NamedInstance, named_by, numbered}
+use Rattle.mat_desc.specs.Notations.{count_of_elements, count_of_vertices}
+use Rattle.mat_desc.specs.Reading.{WrittenInstance, written_of, read_of, named_of}
 use Rattle.mat_desc.specs.Soundness.{IsSoundInstance}
 use Rattle.mat_desc.proofs.ItemLaws.{IsGraph-pairs, IsBinaryMatrix-columns}
 use Rattle.mat_desc.proofs.NumberedNames.{AreNames-numbered, length-numbered}
@@ -109,8 +109,8 @@ abbrev no_problem : Fault → Result Instance Fault
 no_problem fault = Err fault
 
 -- a problem that is read is in range
-pub labelled_valid : (text : List ℕ) (read : Labelled) → labelled_of text ≡ Ok read → IsValid read.instance
-labelled_valid text read e = (description_found text read e).0.valid
+pub written_valid : (text : List ℕ) (read : WrittenInstance) → written_of text ≡ Ok read → IsValid read.instance
+written_valid text read e = (description_found text read e).0.valid
 
 -- an answer that is as the reading gives
 pub gives_found : {X : Type 0} (view : X → Instance) (text : List ℕ) (result : Result X DescRefusal) → Gives view result (read_of text)
@@ -140,20 +140,20 @@ gives_sound view text (Err refusal) gives = tt
 pub IsNaming-numbered : (letter n : ℕ) → is_letter letter ≡ true → n < 2 ^ 32 → IsNaming n (Some (numbered (letter ∷ []) n))
 IsNaming-numbered letter n good few = (AreNames-numbered letter n good few, length-numbered (letter ∷ []) n)
 
--- the names that labels make are those of the elements and of the vertices
-named_by-labels : (labels : Labels) (instance : Instance) → IsValid instance → AreLabels instance labels
-    → AreLabels (named_by labels instance).instance (names (named_by labels instance).elements (named_by labels instance).vertices)
-named_by-labels numbers instance valid labelled = (
+-- the names that notation make are those of the elements and of the vertices
+named_by-notation : (notation : Notation) (instance : Instance) → IsValid instance → IsNotationFor instance notation
+    → IsNotationFor (named_by notation instance).instance (names (named_by notation instance).elements (named_by notation instance).vertices)
+named_by-notation numbers instance valid notated = (
   IsNaming-numbered 101 (count_of_elements instance) refl (few_elements instance valid),
   IsNaming-numbered 118 (count_of_vertices instance) refl (few_vertices instance valid),
 )
-named_by-labels (names elements vertices) instance valid labelled = labelled
+named_by-notation (names elements vertices) instance valid notated = notated
 
 -- a text that spells a problem with names has a name for each element and each vertex
-pub spelled-labels : (text : List ℕ) (problem : NamedInstance) → SpellsNamed text problem
-    → AreLabels problem.instance (names problem.elements problem.vertices)
-spelled-labels text problem s = subst (λ (x : NamedInstance). AreLabels x.instance (names x.elements x.vertices)) (sym s.named)
-    (named_by-labels s.spells.labels problem.instance s.spells.valid s.spells.labelled)
+pub spelled-notation : (text : List ℕ) (problem : NamedInstance) → SpellsNamed text problem
+    → IsNotationFor problem.instance (names problem.elements problem.vertices)
+spelled-notation text problem s = subst (λ (x : NamedInstance). IsNotationFor x.instance (names x.elements x.vertices)) (sym s.named)
+    (named_by-notation s.spells.notation problem.instance s.spells.valid s.spells.notated)
 
 -- an answer that is as the reading with names gives
 pub named_gives_found : {X : Type 0} (view : X → NamedInstance) (text : List ℕ) (result : Result X DescRefusal)
@@ -177,11 +177,11 @@ pub named_gives_sound : {X : Type 0} (view : X → NamedInstance) (text : List �
 named_gives_sound view text (Ok x) gives = IsSoundInstance-valid (view x).instance (named_found text (view x) gives).spells.valid
 named_gives_sound view text (Err refusal) gives = tt
 
-pub named_gives_labelled : {X : Type 0} (view : X → NamedInstance) (text : List ℕ) (result : Result X DescRefusal)
+pub named_gives_notated : {X : Type 0} (view : X → NamedInstance) (text : List ℕ) (result : Result X DescRefusal)
     → Gives view result (named_of text)
-    → IfOk result (λ x. AreLabels (view x).instance (names (view x).elements (view x).vertices))
-named_gives_labelled view text (Ok x) gives = spelled-labels text (view x) (named_found text (view x) gives)
-named_gives_labelled view text (Err refusal) gives = tt
+    → IfOk result (λ x. IsNotationFor (view x).instance (names (view x).elements (view x).vertices))
+named_gives_notated view text (Ok x) gives = spelled-notation text (view x) (named_found text (view x) gives)
+named_gives_notated view text (Err refusal) gives = tt
 
 -- ---- any text
 
@@ -227,6 +227,6 @@ one_fault text first second d e = err-same {A = Instance} first second (sym d �
 -- with names the faults are the same
 pub same_fault : (text : List ℕ) (fault : Fault) → (named_of text ≡ Err fault) ↔ (read_of text ≡ Err fault)
 same_fault text fault = (
-  same_faults (labelled_of text) (λ read. named_by read.labels read.instance) (λ read. read.instance) fault,
-  same_faults (labelled_of text) (λ read. read.instance) (λ read. named_by read.labels read.instance) fault,
+  same_faults (written_of text) (λ read. named_by read.notation read.instance) (λ read. read.instance) fault,
+  same_faults (written_of text) (λ read. read.instance) (λ read. named_by read.notation read.instance) fault,
 )

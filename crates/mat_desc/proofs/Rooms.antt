@@ -3,7 +3,7 @@ use Rattle.std.proofs.Common.{◌≡◌, ℕ, zero, suc, ◌<◌, ◌-◌, List,
 use Rattle.mat_words.specs.Cursors.{WordsLeft, LinesLeft}
 use Rattle.mat_words.specs.Reading as reading
 use Rattle.mat_desc.specs.declared.keywords.Keyword.{Keyword}
-use Rattle.mat_desc.specs.Labels.{Naming}
+use Rattle.mat_desc.specs.Notations.{Naming}
 use Rattle.mat_desc.specs.Reading.{keyword_of, kind_at, matroid_within}
 
 within_more : (room : ℕ) (naming : Naming) (n : ℕ) (p : LinesLeft) (words : WordsLeft) (lines : LinesLeft) (first : List ℕ)

@@ -9,13 +9,13 @@ use Rattle.mat_words.specs.Lines.{Line}
 use Rattle.mat_desc.specs.Limits.{most_sets}
 use Rattle.mat_words.specs.Cursors.{LinesLeft}
 use Rattle.mat_words.specs.Steps.{repeat_at}
-use Rattle.mat_desc.specs.Labels.{Naming, words_for, IsNaming}
+use Rattle.mat_desc.specs.Notations.{Naming, words_for, IsNaming}
 use Rattle.mat_desc.specs.Reading.{keyed_at, elements_at, set_line_at}
 use Rattle.mat_desc.specs.Grammar.{Lists, FamilyLines, listing_line}
 use Rattle.mat_words.proofs.ReadingSteps.{found-same, bind_found}
 use Rattle.mat_words.proofs.LineReading.{AreLeft, keyed_again}
 use Rattle.mat_desc.proofs.Told.{keyed_found}
-use Rattle.mat_desc.proofs.LabelLaws.{words_for-words}
+use Rattle.mat_desc.proofs.NotationLaws.{words_for-words}
 use Rattle.mat_desc.proofs.ElementLaws.{elements_found, Lists-read, IsSet-read, listed_below, set_again}
 
 -- ---- one line

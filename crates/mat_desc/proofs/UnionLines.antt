@@ -5,7 +5,7 @@ use Rattle.std.specs.Prelude.{codes}
 use Rattle.mat_words.specs.Numbers.{numeral}
 use Rattle.mat_words.specs.Lines.{Line}
 use Rattle.mat_any.specs.Trees.{Tree, union, tree_count, trees_from}
-use Rattle.mat_desc.specs.Labels.{Naming}
+use Rattle.mat_desc.specs.Notations.{Naming}
 use Rattle.mat_desc.specs.Canonical.{matroid_lines, tree_lines}
 
 count_from : (trees : List Tree) → tree_count (trees_from trees) ≡ length trees

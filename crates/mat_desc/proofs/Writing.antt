@@ -11,9 +11,9 @@ use Rattle.mat_words.specs.Numbers.{numeral}
 use Rattle.mat_words.specs.Writing.{end_line, spaced}
 use Rattle.mat_words.proofs.LineLemmas.{text_of-append}
 use Rattle.mat_words.proofs.WrittenLines.{item_written, line_written}
-use Rattle.mat_desc.specs.Grammar.{version_line, label_lines}
+use Rattle.mat_desc.specs.Grammar.{version_line, name_lines}
 use Rattle.mat_desc.specs.Instances.{Instance}
-use Rattle.mat_desc.specs.Labels.{Labels}
+use Rattle.mat_desc.specs.Notations.{Notation}
 use Rattle.mat_desc.specs.Canonical.{header, body_lines, canonical_lines}
 
 -- ---- one line
@@ -119,14 +119,14 @@ pair_written_out old one two new line first second a b c =
     both_written old one new (line ∷ []) (first ++ second) a (both_written one two new first second b c)
 
 -- a problem was written
-pub problem_written : (labels : Labels) (instance : Instance) (one two three four new : List ℕ) → one ≡ text_of (version_line labels ∷ [])
-    → two ≡ one ++ text_of (header labels instance ∷ []) → three ≡ two ++ text_of (label_lines labels)
-    → four ≡ three ++ text_of (body_lines labels instance) → new ≡ four ++ text_of (end_line ∷ [])
-    → new ≡ text_of (canonical_lines labels instance)
-problem_written labels instance one two three four new a b c d e =
-    let body = body_lines labels instance ++ end_line ∷ [] in
-    let behind_labels : new ≡ three ++ text_of body = both_written three four new (body_lines labels instance) (end_line ∷ []) d e in
-    let behind_header : new ≡ two ++ text_of (label_lines labels ++ body) = both_written two three new (label_lines labels) body c behind_labels in
-    let behind_version : new ≡ one ++ text_of (header labels instance ∷ (label_lines labels ++ body)) =
-    both_written one two new (header labels instance ∷ []) (label_lines labels ++ body) b behind_header in
-    both_written [] one new (version_line labels ∷ []) (header labels instance ∷ (label_lines labels ++ body)) a behind_version
+pub problem_written : (notation : Notation) (instance : Instance) (one two three four new : List ℕ) → one ≡ text_of (version_line notation ∷ [])
+    → two ≡ one ++ text_of (header notation instance ∷ []) → three ≡ two ++ text_of (name_lines notation)
+    → four ≡ three ++ text_of (body_lines notation instance) → new ≡ four ++ text_of (end_line ∷ [])
+    → new ≡ text_of (canonical_lines notation instance)
+problem_written notation instance one two three four new a b c d e =
+    let body = body_lines notation instance ++ end_line ∷ [] in
+    let behind_notation : new ≡ three ++ text_of body = both_written three four new (body_lines notation instance) (end_line ∷ []) d e in
+    let behind_header : new ≡ two ++ text_of (name_lines notation ++ body) = both_written two three new (name_lines notation) body c behind_notation in
+    let behind_version : new ≡ one ++ text_of (header notation instance ∷ (name_lines notation ++ body)) =
+    both_written one two new (header notation instance ∷ []) (name_lines notation ++ body) b behind_header in
+    both_written [] one new (version_line notation ∷ []) (header notation instance ∷ (name_lines notation ++ body)) a behind_version

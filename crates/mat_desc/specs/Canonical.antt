@@ -6,10 +6,10 @@ use Rattle.mat_words.specs.Lines.{Line, text_of}
 use Rattle.mat_any.specs.Trees.{Tree, Trees, uniform, partition, laminar, graphic, transversal, gammoid, gf2, dual, truncate, restrict, contract, union, no_trees, more_trees, tree_count}
 use Rattle.mat_words.specs.Writing.{end_line, members_line, weights_line}
 use Rattle.mat_desc.specs.Grammar.{listing_line, ends_line, column_line, weighted_line, coloured_edge_line}
-use Rattle.mat_desc.specs.Grammar.{version_line, label_lines, root_lines, IsValid}
+use Rattle.mat_desc.specs.Grammar.{version_line, name_lines, root_lines, IsValid}
 use Rattle.mat_desc.specs.Grammar.{pair_header, list_header, graph_header, rooted_header, coloured_header, table_header}
 use Rattle.mat_desc.specs.Instances.{Instance, pair, list, graph, rooted, coloured, table}
-use Rattle.mat_desc.specs.Labels.{Naming, words_for, Labels, numbers, names, element_naming, vertex_naming, AreLabels, NamedInstance}
+use Rattle.mat_desc.specs.Notations.{Naming, words_for, Notation, numbers, names, element_naming, vertex_naming, IsNotationFor, NamedInstance}
 
 -- the line of this keyword with a set and its cap
 abbrev pub capped_line : Naming → List ℕ → List ℕ × ℕ → Line
@@ -47,36 +47,36 @@ abbrev mutual
   tree_lines naming (more_trees t ts) = matroid_lines naming t ++ tree_lines naming ts
 
 -- the line of a form
-abbrev pub header : Labels → Instance → Line
-header labels (pair weights first second) = pair_header (length weights)
-header labels (list weights matroids) = list_header (length weights) (length matroids)
-header labels (graph vertices edges) = graph_header vertices (length edges)
-header labels (rooted vertices root arcs costs) = rooted_header labels vertices (length arcs) root
-header labels (coloured vertices colours edges colour_of weights) = coloured_header vertices (length edges) colours
-header labels (table rows columns cells weights) = table_header rows columns (length cells)
+abbrev pub header : Notation → Instance → Line
+header notation (pair weights first second) = pair_header (length weights)
+header notation (list weights matroids) = list_header (length weights) (length matroids)
+header notation (graph vertices edges) = graph_header vertices (length edges)
+header notation (rooted vertices root arcs costs) = rooted_header notation vertices (length arcs) root
+header notation (coloured vertices colours edges colour_of weights) = coloured_header vertices (length edges) colours
+header notation (table rows columns cells weights) = table_header rows columns (length cells)
 
--- the lines behind those of a form and of its labels
-abbrev pub body_lines : Labels → Instance → List Line
-body_lines labels (pair weights first second) = weights_line (codes "weights") weights
-    ∷ (matroid_lines (element_naming labels) first ++ matroid_lines (element_naming labels) second)
-body_lines labels (list weights matroids) =
-    weights_line (codes "weights") weights ∷ flat_map (matroid_lines (element_naming labels)) matroids
-body_lines labels (graph vertices edges) = map (ends_line (vertex_naming labels) (codes "edge")) edges
-body_lines labels (rooted vertices root arcs costs) =
-    root_lines labels root ++ map (weighted_line (vertex_naming labels) (codes "arc")) (zip arcs costs)
-body_lines labels (coloured vertices colours edges colour_of weights) =
-    map (coloured_edge_line (vertex_naming labels)) (zip edges (zip colour_of weights))
-body_lines labels (table rows columns cells weights) = map (weighted_line None (codes "cell")) (zip cells weights)
+-- the lines behind the form line and those that list names
+abbrev pub body_lines : Notation → Instance → List Line
+body_lines notation (pair weights first second) = weights_line (codes "weights") weights
+    ∷ (matroid_lines (element_naming notation) first ++ matroid_lines (element_naming notation) second)
+body_lines notation (list weights matroids) =
+    weights_line (codes "weights") weights ∷ flat_map (matroid_lines (element_naming notation)) matroids
+body_lines notation (graph vertices edges) = map (ends_line (vertex_naming notation) (codes "edge")) edges
+body_lines notation (rooted vertices root arcs costs) =
+    root_lines notation root ++ map (weighted_line (vertex_naming notation) (codes "arc")) (zip arcs costs)
+body_lines notation (coloured vertices colours edges colour_of weights) =
+    map (coloured_edge_line (vertex_naming notation)) (zip edges (zip colour_of weights))
+body_lines notation (table rows columns cells weights) = map (weighted_line None (codes "cell")) (zip cells weights)
 
 -- what is written with names has to be in range, and to have a name for each element and each vertex
-abbrev pub MayBeWritten : Labels → Instance → Type 0
+abbrev pub MayBeWritten : Notation → Instance → Type 0
 MayBeWritten numbers instance = Unit {0}
-MayBeWritten (names elements vertices) instance = IsValid instance × AreLabels instance (names elements vertices)
+MayBeWritten (names elements vertices) instance = IsValid instance × IsNotationFor instance (names elements vertices)
 
--- the lines of a problem with these labels
-abbrev pub canonical_lines : Labels → Instance → List Line
-canonical_lines labels instance =
-    version_line labels ∷ header labels instance ∷ (label_lines labels ++ (body_lines labels instance ++ end_line ∷ []))
+-- the lines of a problem in this notation
+abbrev pub canonical_lines : Notation → Instance → List Line
+canonical_lines notation instance =
+    version_line notation ∷ header notation instance ∷ (name_lines notation ++ (body_lines notation instance ++ end_line ∷ []))
 
 -- the canonical text of a problem
 unfoldable pub canonical_text : Instance → List ℕ

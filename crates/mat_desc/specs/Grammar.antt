@@ -15,7 +15,7 @@ use Rattle.mat_words.specs.Binary.{binary}
 use Rattle.mat_desc.specs.Limits.{most_sets, most_arcs, most_digits, most_matroids, deepest}
 use Rattle.mat_sets.specs.Limits.{largest_weight, most_vertices, most_elements}
 use Rattle.mat_desc.specs.Instances.{Instance, pair, list, graph, rooted, coloured, table}
-use Rattle.mat_desc.specs.Labels.{Naming, word_for, words_for, Labels, numbers, names, element_naming, vertex_naming, AreLabels, NamedInstance, named_by}
+use Rattle.mat_desc.specs.Notations.{Naming, word_for, words_for, Notation, numbers, names, element_naming, vertex_naming, IsNotationFor, NamedInstance, named_by}
 
 -- ---- what may be stated
 
@@ -173,7 +173,7 @@ coloured_edge_line naming item =
     codes "edge" ∷ word_for naming item.0.0 ∷ word_for naming item.0.1 ∷ numeral (pos item.1.0) ∷ weight_word item.1.1 ∷ []
 
 -- the first line of a text, which tells whether elements and vertices have names
-abbrev pub version_line : Labels → Line
+abbrev pub version_line : Notation → Line
 version_line numbers = codes "matroids" ∷ codes "1" ∷ []
 version_line (names elements vertices) = codes "matroids" ∷ codes "2" ∷ []
 
@@ -183,17 +183,17 @@ vertex_name_lines [] = []
 vertex_name_lines (vertex ∷ vertices) = (codes "vertices" ∷ vertex ∷ vertices) ∷ []
 
 -- the lines that list names
-abbrev pub label_lines : Labels → List Line
-label_lines numbers = []
-label_lines (names elements vertices) = (codes "elements" ∷ elements) ∷ vertex_name_lines vertices
+abbrev pub name_lines : Notation → List Line
+name_lines numbers = []
+name_lines (names elements vertices) = (codes "elements" ∷ elements) ∷ vertex_name_lines vertices
 
 -- the word of the root in the form line, where vertices have no names
-abbrev pub root_words : Labels → ℕ → Line
+abbrev pub root_words : Notation → ℕ → Line
 root_words numbers root = numeral (pos root) ∷ []
 root_words (names elements vertices) root = []
 
 -- the line of the root, where vertices have names
-abbrev pub root_lines : Labels → ℕ → List Line
+abbrev pub root_lines : Notation → ℕ → List Line
 root_lines numbers root = []
 root_lines (names elements vertices) root = (codes "root" ∷ word_for (Some vertices) root ∷ []) ∷ []
 
@@ -210,8 +210,8 @@ abbrev pub graph_header : ℕ → ℕ → Line
 graph_header vertices edges = codes "graph" ∷ numeral (pos vertices) ∷ numeral (pos edges) ∷ []
 
 -- the line of a directed graph with a root: the numbers of its vertices and of its arcs, and the root where it has no name
-abbrev pub rooted_header : Labels → ℕ → ℕ → ℕ → Line
-rooted_header labels vertices arcs root = codes "rooted" ∷ numeral (pos vertices) ∷ numeral (pos arcs) ∷ root_words labels root
+abbrev pub rooted_header : Notation → ℕ → ℕ → ℕ → Line
+rooted_header notation vertices arcs root = codes "rooted" ∷ numeral (pos vertices) ∷ numeral (pos arcs) ∷ root_words notation root
 
 -- the line of a graph with coloured edges: the numbers of its vertices, of its edges and of its colours
 abbrev pub coloured_header : ℕ → ℕ → ℕ → Line
@@ -221,38 +221,38 @@ coloured_header vertices edges colours = codes "coloured" ∷ numeral (pos verti
 abbrev pub table_header : ℕ → ℕ → ℕ → Line
 table_header rows columns cells = codes "table" ∷ numeral (pos rows) ∷ numeral (pos columns) ∷ numeral (pos cells) ∷ []
 
--- the lines of a problem with these labels
-abbrev pub InstanceLines : Labels → Instance → List Line → Type 0
-InstanceLines labels (pair weights first second) lines = (first_lines : List Line) × (second_lines : List Line)
-    × (lines ≡ version_line labels ∷ pair_header (length weights) ∷ (label_lines labels ++ weights_line (codes "weights") weights ∷ first_lines))
-    × MatroidLines (element_naming labels) first first_lines second_lines
-    × MatroidLines (element_naming labels) second second_lines (end_line ∷ [])
-InstanceLines labels (list weights matroids) lines = (matroid_lines : List Line)
-    × (lines ≡ version_line labels ∷ list_header (length weights) (length matroids)
-    ∷ (label_lines labels ++ weights_line (codes "weights") weights ∷ matroid_lines))
-    × MatroidsLines (element_naming labels) matroids matroid_lines (end_line ∷ [])
-InstanceLines labels (graph vertices edges) lines = lines ≡ version_line labels ∷ graph_header vertices (length edges)
-    ∷ (label_lines labels ++ (map (ends_line (vertex_naming labels) (codes "edge")) edges ++ end_line ∷ []))
-InstanceLines labels (rooted vertices root arcs costs) lines = lines ≡ version_line labels ∷ rooted_header labels vertices (length arcs) root
-    ∷ (label_lines labels ++ (root_lines labels root
-    ++ (map (weighted_line (vertex_naming labels) (codes "arc")) (zip arcs costs) ++ end_line ∷ [])))
-InstanceLines labels (coloured vertices colours edges colour_of weights) lines =
-    lines ≡ version_line labels ∷ coloured_header vertices (length edges) colours
-    ∷ (label_lines labels ++ (map (coloured_edge_line (vertex_naming labels)) (zip edges (zip colour_of weights)) ++ end_line ∷ []))
-InstanceLines labels (table rows columns cells weights) lines = lines ≡ version_line labels ∷ table_header rows columns (length cells)
-    ∷ (label_lines labels ++ (map (weighted_line None (codes "cell")) (zip cells weights) ++ end_line ∷ []))
+-- the lines of a problem in this notation
+abbrev pub InstanceLines : Notation → Instance → List Line → Type 0
+InstanceLines notation (pair weights first second) lines = (first_lines : List Line) × (second_lines : List Line)
+    × (lines ≡ version_line notation ∷ pair_header (length weights) ∷ (name_lines notation ++ weights_line (codes "weights") weights ∷ first_lines))
+    × MatroidLines (element_naming notation) first first_lines second_lines
+    × MatroidLines (element_naming notation) second second_lines (end_line ∷ [])
+InstanceLines notation (list weights matroids) lines = (matroid_lines : List Line)
+    × (lines ≡ version_line notation ∷ list_header (length weights) (length matroids)
+    ∷ (name_lines notation ++ weights_line (codes "weights") weights ∷ matroid_lines))
+    × MatroidsLines (element_naming notation) matroids matroid_lines (end_line ∷ [])
+InstanceLines notation (graph vertices edges) lines = lines ≡ version_line notation ∷ graph_header vertices (length edges)
+    ∷ (name_lines notation ++ (map (ends_line (vertex_naming notation) (codes "edge")) edges ++ end_line ∷ []))
+InstanceLines notation (rooted vertices root arcs costs) lines = lines ≡ version_line notation ∷ rooted_header notation vertices (length arcs) root
+    ∷ (name_lines notation ++ (root_lines notation root
+    ++ (map (weighted_line (vertex_naming notation) (codes "arc")) (zip arcs costs) ++ end_line ∷ [])))
+InstanceLines notation (coloured vertices colours edges colour_of weights) lines =
+    lines ≡ version_line notation ∷ coloured_header vertices (length edges) colours
+    ∷ (name_lines notation ++ (map (coloured_edge_line (vertex_naming notation)) (zip edges (zip colour_of weights)) ++ end_line ∷ []))
+InstanceLines notation (table rows columns cells weights) lines = lines ≡ version_line notation ∷ table_header rows columns (length cells)
+    ∷ (name_lines notation ++ (map (weighted_line None (codes "cell")) (zip cells weights) ++ end_line ∷ []))
 
 -- The text spells the problem: the problem is in range, and the text is the text of its lines, in version 1 or, with some names, in
 -- version 2.
 pub record Spells (text : List ℕ) (instance : Instance) : Type 0 where
   pub valid : IsValid instance
-  pub labels : Labels
-  pub labelled : AreLabels instance labels
+  pub notation : Notation
+  pub notated : IsNotationFor instance notation
   pub lines : List Line
-  pub spelled : InstanceLines labels instance lines
+  pub spelled : InstanceLines notation instance lines
   pub whole : text ≡ text_of lines
 
 -- the text spells the problem, and gives its elements and its vertices these names or, in version 1, numbers that are called so
 pub record SpellsNamed (text : List ℕ) (problem : NamedInstance) : Type 0 where
   pub spells : Spells text problem.instance
-  pub named : problem ≡ named_by spells.labels problem.instance
+  pub named : problem ≡ named_by spells.notation problem.instance

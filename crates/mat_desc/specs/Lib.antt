@@ -1,6 +1,6 @@
 pub mod Limits
 pub mod Instances
-pub mod Labels
+pub mod Notations
 pub mod Grammar
 pub mod Faults
 pub mod Reading

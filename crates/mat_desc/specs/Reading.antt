@@ -23,7 +23,7 @@ use Rattle.mat_desc.specs.Faults.{Fault, told}
 use Rattle.mat_desc.specs.Limits.{most_sets, most_arcs, most_digits, most_matroids, deepest}
 use Rattle.mat_sets.specs.Limits.{largest_weight, most_vertices, most_elements}
 use Rattle.mat_desc.specs.Instances.{Instance, pair, list, graph, rooted, coloured, table}
-use Rattle.mat_desc.specs.Labels.{Naming, Labels, numbers, names, element_naming, vertex_naming, NamedInstance, named_by}
+use Rattle.mat_desc.specs.Notations.{Naming, Notation, numbers, names, element_naming, vertex_naming, NamedInstance, named_by}
 
 -- ---- lines and words
 
@@ -150,10 +150,10 @@ unfoldable pub vertex_names_at : ℕ → LinesLeft → Result (List (List ℕ) �
 vertex_names_at zero p = Ok ([], p)
 vertex_names_at (suc vertices) p = names_line_at (codes "vertices") (suc vertices) p
 
--- what stands for so many elements and vertices: in version 1 their numbers, and no line, and in version 2 the names that it lists
-unfoldable pub labels_at : Version → ℕ → ℕ → LinesLeft → Result (Labels × LinesLeft) Fault
-labels_at versions.One elements vertices p = Ok (numbers, p)
-labels_at versions.Two elements vertices p = do
+-- how so many elements and vertices are written: in version 1 by their numbers, and no line, and in version 2 by the names that it lists
+unfoldable pub notation_at : Version → ℕ → ℕ → LinesLeft → Result (Notation × LinesLeft) Fault
+notation_at versions.One elements vertices p = Ok (numbers, p)
+notation_at versions.Two elements vertices p = do
   first ← names_line_at (codes "elements") elements p
   second ← vertex_names_at vertices first.1
   Ok (names first.0 second.0, second.1)
@@ -381,34 +381,40 @@ matroid_within (suc room) naming n p = do
 abbrev pub matroid_at : Naming → ℕ → LinesLeft → Result (Tree × LinesLeft) Fault
 matroid_at naming n p = matroid_within deepest naming n p
 
+-- two matroids on n elements
+unfoldable pub two_matroids_at : Naming → ℕ → LinesLeft → Result ((Tree × Tree) × LinesLeft) Fault
+two_matroids_at naming n p = do
+  first ← matroid_at naming n p
+  second ← matroid_at naming n first.1
+  Ok ((first.0, second.0), second.1)
+
 -- ---- problems
 
--- a problem, and what its description calls its elements and its vertices
-pub record Labelled : Type 0 where
+-- a problem, and how its description writes its elements and its vertices
+pub record WrittenInstance : Type 0 where
   pub instance : Instance
-  pub labels : Labels
+  pub notation : Notation
 
--- two matroids, from the words behind the form's word on
-unfoldable pub pair_at : Version → WordsLeft → LinesLeft → Result (Labelled × LinesLeft) Fault
+-- two weighted matroids, from the words behind the form's word on
+unfoldable pub pair_at : Version → WordsLeft → LinesLeft → Result (WrittenInstance × LinesLeft) Fault
 pair_at version words lines = do
   count ← size_at 0 most_elements words
   end ← ended_at count.1
-  labels ← labels_at version count.0 0 lines
-  weights ← weights_at count.0 labels.1
-  first ← matroid_at (element_naming labels.0) count.0 weights.1
-  second ← matroid_at (element_naming labels.0) count.0 first.1
-  Ok (record { instance = pair weights.0 first.0 second.0; labels = labels.0 }, second.1)
+  notation ← notation_at version count.0 0 lines
+  weights ← weights_at count.0 notation.1
+  matroids ← two_matroids_at (element_naming notation.0) count.0 weights.1
+  Ok (record { instance = pair weights.0 matroids.0.0 matroids.0.1; notation = notation.0 }, matroids.1)
 
 -- a list of matroids, from the words behind the form's word on
-unfoldable pub list_at : Version → WordsLeft → LinesLeft → Result (Labelled × LinesLeft) Fault
+unfoldable pub list_at : Version → WordsLeft → LinesLeft → Result (WrittenInstance × LinesLeft) Fault
 list_at version words lines = do
   count ← size_at 0 most_elements words
   many ← size_at 1 most_matroids count.1
   end ← ended_at many.1
-  labels ← labels_at version count.0 0 lines
-  weights ← weights_at count.0 labels.1
-  matroids ← repeat_at (matroid_at (element_naming labels.0) count.0) many.0 weights.1
-  Ok (record { instance = list weights.0 matroids.0; labels = labels.0 }, matroids.1)
+  notation ← notation_at version count.0 0 lines
+  weights ← weights_at count.0 notation.1
+  matroids ← repeat_at (matroid_at (element_naming notation.0) count.0) many.0 weights.1
+  Ok (record { instance = list weights.0 matroids.0; notation = notation.0 }, matroids.1)
 
 -- a line of this keyword with the words for two numbers, and a weight: an arc with its cost, or a cell with its weight
 unfoldable pub weighted_at : Naming → List ℕ → ℕ → ℕ → LinesLeft → Result (((ℕ × ℕ) × Weight) × LinesLeft) Fault
@@ -430,14 +436,14 @@ coloured_edge_at naming vertices colours p = do
   Ok ((ends.0, (colour.0, weight.0)), line.1)
 
 -- a graph, from the words behind the form's word on
-unfoldable pub graph_at : Version → WordsLeft → LinesLeft → Result (Labelled × LinesLeft) Fault
+unfoldable pub graph_at : Version → WordsLeft → LinesLeft → Result (WrittenInstance × LinesLeft) Fault
 graph_at version words lines = do
   vertices ← size_at 1 most_vertices words
   many ← size_at 0 most_elements vertices.1
   end ← ended_at many.1
-  labels ← labels_at version many.0 vertices.0 lines
-  edges ← repeat_at (ends_line_at (vertex_naming labels.0) (codes "edge") vertices.0) many.0 labels.1
-  Ok (record { instance = graph vertices.0 edges.0; labels = labels.0 }, edges.1)
+  notation ← notation_at version many.0 vertices.0 lines
+  edges ← repeat_at (ends_line_at (vertex_naming notation.0) (codes "edge") vertices.0) many.0 notation.1
+  Ok (record { instance = graph vertices.0 edges.0; notation = notation.0 }, edges.1)
 
 -- the root in the form line, where it stands in version 1
 unfoldable pub header_root_at : Version → ℕ → WordsLeft → Result (Option ℕ × WordsLeft) Fault
@@ -454,44 +460,44 @@ root_at naming vertices None p = do
   Ok (root.0, line.1)
 
 -- a directed graph with a root, from the words behind the form's word on
-unfoldable pub rooted_at : Version → WordsLeft → LinesLeft → Result (Labelled × LinesLeft) Fault
+unfoldable pub rooted_at : Version → WordsLeft → LinesLeft → Result (WrittenInstance × LinesLeft) Fault
 rooted_at version words lines = do
   vertices ← size_at 1 most_vertices words
   many ← size_at 0 most_elements vertices.1
   known ← header_root_at version vertices.0 many.1
   end ← ended_at known.1
-  labels ← labels_at version many.0 vertices.0 lines
-  root ← root_at (vertex_naming labels.0) vertices.0 known.0 labels.1
-  arcs ← repeat_at (weighted_at (vertex_naming labels.0) (codes "arc") vertices.0 vertices.0) many.0 root.1
-  Ok (record { instance = rooted vertices.0 root.0 (map (λ arc. arc.0) arcs.0) (map (λ arc. arc.1) arcs.0); labels = labels.0 }, arcs.1)
+  notation ← notation_at version many.0 vertices.0 lines
+  root ← root_at (vertex_naming notation.0) vertices.0 known.0 notation.1
+  arcs ← repeat_at (weighted_at (vertex_naming notation.0) (codes "arc") vertices.0 vertices.0) many.0 root.1
+  Ok (record { instance = rooted vertices.0 root.0 (map (λ arc. arc.0) arcs.0) (map (λ arc. arc.1) arcs.0); notation = notation.0 }, arcs.1)
 
 -- a graph with coloured edges, from the words behind the form's word on
-unfoldable pub coloured_at : Version → WordsLeft → LinesLeft → Result (Labelled × LinesLeft) Fault
+unfoldable pub coloured_at : Version → WordsLeft → LinesLeft → Result (WrittenInstance × LinesLeft) Fault
 coloured_at version words lines = do
   vertices ← size_at 1 most_vertices words
   many ← size_at 0 most_elements vertices.1
   colours ← size_at 0 most_sets many.1
   end ← ended_at colours.1
-  labels ← labels_at version many.0 vertices.0 lines
-  edges ← repeat_at (coloured_edge_at (vertex_naming labels.0) vertices.0 colours.0) many.0 labels.1
+  notation ← notation_at version many.0 vertices.0 lines
+  edges ← repeat_at (coloured_edge_at (vertex_naming notation.0) vertices.0 colours.0) many.0 notation.1
   Ok (
     record {
       instance = coloured vertices.0 colours.0 (map (λ edge. edge.0) edges.0) (map (λ edge. edge.1.0) edges.0) (map (λ edge. edge.1.1) edges.0);
-      labels = labels.0;
+      notation = notation.0;
     },
     edges.1,
   )
 
 -- a table of cells, from the words behind the form's word on
-unfoldable pub table_at : Version → WordsLeft → LinesLeft → Result (Labelled × LinesLeft) Fault
+unfoldable pub table_at : Version → WordsLeft → LinesLeft → Result (WrittenInstance × LinesLeft) Fault
 table_at version words lines = do
   rows ← size_at 0 most_sets words
   columns ← size_at 0 most_sets rows.1
   many ← size_at 0 most_elements columns.1
   end ← ended_at many.1
-  labels ← labels_at version many.0 0 lines
-  cells ← repeat_at (weighted_at None (codes "cell") rows.0 columns.0) many.0 labels.1
-  Ok (record { instance = table rows.0 columns.0 (map (λ cell. cell.0) cells.0) (map (λ cell. cell.1) cells.0); labels = labels.0 }, cells.1)
+  notation ← notation_at version many.0 0 lines
+  cells ← repeat_at (weighted_at None (codes "cell") rows.0 columns.0) many.0 notation.1
+  Ok (record { instance = table rows.0 columns.0 (map (λ cell. cell.0) cells.0) (map (λ cell. cell.1) cells.0); notation = notation.0 }, cells.1)
 
 -- the form that a word names, if it names one
 abbrev pub form_of : List ℕ → Option Form
@@ -503,7 +509,7 @@ form_of word = if bytes_eq word (codes "pair") then Some forms.Pair else
     (if bytes_eq word (codes "table") then Some forms.Table else None)))))
 
 -- a problem, from the words behind the form's word in line number `line` on
-abbrev pub form_at : Version → ℕ → Option Form → WordsLeft → LinesLeft → Result (Labelled × LinesLeft) Fault
+abbrev pub form_at : Version → ℕ → Option Form → WordsLeft → LinesLeft → Result (WrittenInstance × LinesLeft) Fault
 form_at version line None words lines = Err (kinds.UnknownWord, line)
 form_at version line (Some forms.Pair) words lines = pair_at version words lines
 form_at version line (Some forms.List) words lines = list_at version words lines
@@ -513,29 +519,34 @@ form_at version line (Some forms.Coloured) words lines = coloured_at version wor
 form_at version line (Some forms.Table) words lines = table_at version words lines
 
 -- a problem, from its form line on
-unfoldable pub instance_at : Version → LinesLeft → Result (Labelled × LinesLeft) Fault
+unfoldable pub instance_at : Version → LinesLeft → Result (WrittenInstance × LinesLeft) Fault
 instance_at version p = do
   line ← line_at p
   word ← word_at line.0
   form_at version p.line (form_of word.0) word.1 line.1
 
+-- the last line and the end of the text
+unfoldable pub ending_at : LinesLeft → Result (Unit {0}) Fault
+ending_at p = do
+  rest ← end_at p
+  closed_at rest
+
 -- a whole description
-unfoldable pub description_at : LinesLeft → Result Labelled Fault
+unfoldable pub description_at : LinesLeft → Result WrittenInstance Fault
 description_at p = do
   version ← version_at p
   instance ← instance_at version.0 version.1
-  rest ← end_at instance.1
-  close ← closed_at rest
+  ending ← ending_at instance.1
   Ok instance.0
 
--- what a text says: a problem with its labels, or its first fault
-abbrev pub labelled_of : List ℕ → Result Labelled Fault
-labelled_of text = description_at (record { line = 1; lines = lines_of text })
+-- what a text says: a problem with its notation, or its first fault
+abbrev pub written_of : List ℕ → Result WrittenInstance Fault
+written_of text = description_at (record { line = 1; lines = lines_of text })
 
 -- what a text says: the problem that it spells, or its first fault
 abbrev pub read_of : List ℕ → Result Instance Fault
-read_of text = labelled_of text >>= λ read. Ok read.instance
+read_of text = written_of text >>= λ read. Ok read.instance
 
 -- what a text says: the problem that it spells with the names of its elements and vertices, or its first fault
 abbrev pub named_of : List ℕ → Result NamedInstance Fault
-named_of text = labelled_of text >>= λ read. Ok (named_by read.labels read.instance)
+named_of text = written_of text >>= λ read. Ok (named_by read.notation read.instance)

@@ -3,12 +3,12 @@ use Rattle.std.specs.Prelude.{map, Option, Some, None}
 use Rattle.std.specs.Borrow.{Bor}
 use Rattle.mat_words.specs.NameLists.{names_of}
 use Rattle.mat_words.specs.declared.names.Names.{Names}
-use Rattle.mat_desc.specs.declared.labels.Labelling.{Labelling}
-use Rattle.mat_desc.specs.declared.labels.Labelling.TheVariants as labellings
+use Rattle.mat_desc.specs.declared.notation.Notation as declared
+use Rattle.mat_desc.specs.declared.notation.Notation.TheVariants as notations
 use Rattle.mat_desc.specs.declared.named.Named.{Named}
 use Rattle.mat_desc.specs.declared.write.Lists.{Lists}
-use Rattle.mat_desc.specs.Labels.{Naming, Labels, numbers, names, NamedInstance}
-use Rattle.mat_desc.specs.Reading.{Labelled}
+use Rattle.mat_desc.specs.Notations.{Naming, Notation, numbers, names, NamedInstance}
+use Rattle.mat_desc.specs.Reading.{WrittenInstance}
 use Rattle.mat_desc.specs.declared.problem.Problem.{Problem}
 use Rattle.mat_desc.specs.declared.problem.Problem.TheVariants as problems
 use Rattle.mat_any.specs.Views.{tree_of}
@@ -28,24 +28,24 @@ abbrev pub naming : Option (Bor Names) → Naming
 naming None = None
 naming (Some listed) = Some (names_of listed.now)
 
--- what stands for elements and vertices, as plain data
-abbrev pub labels_of : Labelling → Labels
-labels_of labellings.Numbers = numbers
-labels_of (labellings.Names elements vertices) = names (names_of elements) (names_of vertices)
+-- how elements and vertices are written, as plain data
+abbrev pub notation_of : declared.Notation → Notation
+notation_of notations.Numbers = numbers
+notation_of (notations.Names elements vertices) = names (names_of elements) (names_of vertices)
 
--- a problem and what its description calls its elements and its vertices, as plain data
-abbrev pub labelled : Problem → Labelling → Labelled
-labelled problem labels = record { instance = instance_of problem; labels = labels_of labels }
+-- a problem and how its description writes its elements and its vertices, as plain data
+abbrev pub written_instance : Problem → declared.Notation → WrittenInstance
+written_instance problem notation = record { instance = instance_of problem; notation = notation_of notation }
 
--- the names that a text is written with, as plain data
-abbrev pub written_labels : Option Lists → Labels
-written_labels None = numbers
-written_labels (Some lists) = names (names_of lists.elements.now) (names_of lists.vertices.now)
+-- how a text is written, by numbers or by these names, as plain data
+abbrev pub written_notation : Option Lists → Notation
+written_notation None = numbers
+written_notation (Some lists) = names (names_of lists.elements.now) (names_of lists.vertices.now)
+
+-- a problem with names for its elements and its vertices, as plain data
+abbrev pub named_with : Names × Names → Instance → NamedInstance
+named_with listed instance = record { instance = instance; elements = names_of listed.0; vertices = names_of listed.1 }
 
 -- the problem with its names, as plain data
 abbrev pub named_instance : Named → NamedInstance
-named_instance named = record {
-  instance = instance_of named.problem;
-  elements = names_of named.elements;
-  vertices = names_of named.vertices;
-}
+named_instance named = named_with (named.elements, named.vertices) (instance_of named.problem)

@@ -9,8 +9,8 @@ ghost use Rattle.mat_desc.specs.Reading.{ends_at, ends_line_at, column_at, weigh
 ghost use Rattle.mat_desc.specs.Views.{naming};
 ghost use Rattle.mat_words.specs.Cursors.{lines_left, words_left};
 
-use crate::labels::next_member;
 use crate::limits::{LARGEST_WEIGHT, SMALLEST_WEIGHT};
+use crate::notation::next_member;
 use crate::reading::ended;
 use crate::refusal::DescRefusal;
 use mat_sets::{PairWeights, Pairs, Weight};

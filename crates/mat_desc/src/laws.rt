@@ -5,7 +5,7 @@ ghost use Rattle.mat_desc.specs.Canonical.{canonical_text, named_text};
 ghost use Rattle.mat_desc.specs.Faults.{Fault};
 ghost use Rattle.mat_desc.specs.Grammar.{IsValid, Spells, SpellsNamed};
 ghost use Rattle.mat_desc.specs.Instances.{Instance};
-ghost use Rattle.mat_desc.specs.Labels.{NamedInstance, AreLabels, names};
+ghost use Rattle.mat_desc.specs.Notations.{NamedInstance, IsNotationFor, names};
 ghost use Rattle.mat_desc.specs.Reading.{read_of, named_of};
 ghost use Rattle.mat_desc.specs.Soundness.{IsSoundInstance};
 
@@ -28,7 +28,7 @@ pub fn writing_laws()
     ensures spelled { (instance : Instance) → IsValid instance → Spells (canonical_text instance) instance }
     ensures equal { (s t : List ℕ) (p q : Instance) → Spells s p → Spells t q → (p ≡ q) ↔ (canonical_text p ≡ canonical_text q) }
     // With a name for each element and each vertex it spells the problem with these names.
-    ensures named { (problem : NamedInstance) → IsValid problem.instance → AreLabels problem.instance (names problem.elements problem.vertices)
+    ensures named { (problem : NamedInstance) → IsValid problem.instance → IsNotationFor problem.instance (names problem.elements problem.vertices)
         → SpellsNamed (named_text problem) problem }
 {}
 

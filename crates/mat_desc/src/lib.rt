@@ -3,12 +3,12 @@
 
 mod item_lines;
 mod keywords;
-mod labels;
 mod laws;
 mod limits;
 mod linked_lines;
 mod matroid;
 mod named;
+mod notation;
 mod problem;
 mod reading;
 mod refusal;

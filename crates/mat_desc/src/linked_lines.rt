@@ -1,7 +1,7 @@
 //! Reading transversal matroids and gammoids.
 
 ghost use Rattle.std.specs.Prelude.{[]};
-ghost use Rattle.mat_desc.specs.Labels.{IsNaming};
+ghost use Rattle.mat_desc.specs.Notations.{IsNaming};
 ghost use Rattle.mat_desc.specs.Views.{naming};
 ghost use Rattle.mat_any.specs.Views.{tree_of};
 ghost use Rattle.mat_desc.specs.Faults.{Gives};

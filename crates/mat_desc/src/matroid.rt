@@ -4,12 +4,12 @@ ghost use Rattle.std.specs.Prelude.{◌≡◌, ◌<◌, ◌^◌, [], length, map
 ghost use Rattle.mat_any.specs.Trees.{trees_from, union};
 ghost use Rattle.mat_any.specs.Views.{tree_of};
 ghost use Rattle.mat_desc.specs.Faults.{Gives};
-ghost use Rattle.mat_desc.specs.Labels.{IsNaming};
+ghost use Rattle.mat_desc.specs.Notations.{IsNaming};
 ghost use Rattle.mat_desc.specs.Views.{naming};
 ghost use Rattle.mat_words.specs.Steps.{repeat_at};
 ghost use Rattle.mat_desc.specs.Reading.{class_at, classes_at, nested_set_at, nested_sets_at};
 ghost use Rattle.mat_desc.specs.Reading.{uniform_at, partition_at, laminar_at, graphic_at, gf2_at, dual_at, truncate_at, restrict_at, contract_at, union_at};
-ghost use Rattle.mat_desc.specs.Reading.{matroid_within, matroid_at};
+ghost use Rattle.mat_desc.specs.Reading.{matroid_within, matroid_at, two_matroids_at};
 ghost use Rattle.mat_words.specs.Cursors.{lines_left, words_left};
 
 use crate::item_lines::{column_lines, ends_lines};
@@ -383,7 +383,7 @@ fn next_matroid_within<'a>(
 }
 
 /// The next matroid, on `count` elements.
-pub(crate) fn next_matroid<'a>(
+fn next_matroid<'a>(
     alloc: Global,
     names: Option<&Names>,
     count: u32,
@@ -394,6 +394,23 @@ pub(crate) fn next_matroid<'a>(
         (matroid_at (naming names.entry) count (lines_left lines.entry)) }
 {
     next_matroid_within(alloc, DEEPEST, names, count, lines)
+}
+
+/// The next two matroids, on `count` elements each.
+#[tactic(auto, unfolding(crate::specs::Reading::two_matroids_at))]
+pub(crate) fn two_matroids<'a>(
+    alloc: Global,
+    names: Option<&Names>,
+    count: u32,
+    lines: LineCursor<'a>,
+) -> Result<(AnyMatroid, AnyMatroid, LineCursor<'a>), DescRefusal>
+    requires { IsNaming count (naming names) }
+    ensures { Gives (λ x. ((tree_of x.0, tree_of x.1), lines_left x.2)) result
+        (two_matroids_at (naming names.entry) count (lines_left lines.entry)) }
+{
+    let (first, lines) = next_matroid(alloc, names, count, lines)?;
+    let (second, lines) = next_matroid(alloc, names, count, lines)?;
+    Ok((first, second, lines))
 }
 
 /// As many matroids, on `count` elements each.

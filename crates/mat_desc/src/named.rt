@@ -3,16 +3,16 @@
 ghost use Rattle.std.specs.Prelude.{◌≡◌, ◌<◌, ◌≤◌, ◌^◌, true, [], ◌∷◌, length, IfOk};
 ghost use Rattle.mat_desc.specs.Faults.{Gives};
 ghost use Rattle.mat_desc.specs.Grammar.{IsValid, SpellsNamed};
-ghost use Rattle.mat_desc.specs.Labels.{AreLabels, NamedInstance, named_by, names, numbered, numbers};
 ghost use Rattle.mat_desc.specs.Limits.{description_limit};
+ghost use Rattle.mat_desc.specs.Notations.{IsNotationFor, NamedInstance, named_by, names, numbered, numbers};
 ghost use Rattle.mat_desc.specs.Reading.{named_of};
 ghost use Rattle.mat_desc.specs.Soundness.{IsSoundInstance};
-ghost use Rattle.mat_desc.specs.Views.{instance_of, labels_of, named_instance};
+ghost use Rattle.mat_desc.specs.Views.{instance_of, notation_of, named_instance, named_with};
 ghost use Rattle.mat_words.specs.NameLists.{names_of};
 ghost use Rattle.mat_words.specs.Words.{is_letter};
 
-use crate::labels::Labelling;
-use crate::problem::{Problem, read_labelled};
+use crate::notation::Notation;
+use crate::problem::{Problem, read_description};
 use crate::refusal::DescRefusal;
 use mat_words::{Names, put_number};
 use std::alloc::{AllocError, Global};
@@ -46,7 +46,7 @@ fn numbered_names(alloc: Global, letter: u8, count: usize) -> Result<Names, Allo
 
 impl Problem {
     ghost use Rattle.std.specs.Prelude.{◌≡◌};
-    ghost use Rattle.mat_desc.specs.Labels.{count_of_elements, count_of_vertices};
+    ghost use Rattle.mat_desc.specs.Notations.{count_of_elements, count_of_vertices};
     ghost use Rattle.mat_desc.specs.Views.{instance_of};
 
     /// How many elements the problem has: edges, arcs or cells where its form has these.
@@ -74,32 +74,31 @@ impl Problem {
     }
 }
 
-/// The problem with numbered names: `e0`, `e1` and so on, and `v0`, `v1` and so on. The only error is want of memory.
-fn with_numbered_names(alloc: Global, problem: Problem) -> Result<Named, AllocError>
-    requires { IsValid (instance_of problem) }
-    ensures { IfOk result (λ named. named_instance named ≡ named_by numbers (instance_of problem)) }
+/// Numbered names for the elements and for the vertices of a problem: `e0`, `e1` and so on, and `v0`, `v1` and so on. The only error is want
+/// of memory.
+fn all_numbered_names(alloc: Global, problem: &Problem) -> Result<(Names, Names), AllocError>
+    requires { IsValid (instance_of problem.now) }
+    ensures { IfOk result (λ listed. named_with listed (instance_of problem.now) ≡ named_by numbers (instance_of problem.now)) }
 {
     let elements = numbered_names(alloc, b'e', problem.element_count())?;
     let vertices = numbered_names(alloc, b'v', problem.vertex_count())?;
-    Ok(Named {
-        problem,
-        elements,
-        vertices,
-    })
+    Ok((elements, vertices))
 }
 
-/// The problem with the names that its description gives, or else with numbered ones. The only error is want of memory.
-fn with_names(alloc: Global, problem: Problem, labels: Labelling) -> Result<Named, AllocError>
-    requires { IsValid (instance_of problem) }
-    ensures { IfOk result (λ named. named_instance named ≡ named_by (labels_of labels) (instance_of problem)) }
+/// The names of the elements and of the vertices of a problem: those that its description gives, or else numbered ones. The only error is
+/// want of memory.
+fn names_by(
+    alloc: Global,
+    notation: Notation,
+    problem: &Problem,
+) -> Result<(Names, Names), AllocError>
+    requires { IsValid (instance_of problem.now) }
+    ensures { IfOk result (λ listed. named_with listed (instance_of problem.now)
+        ≡ named_by (notation_of notation) (instance_of problem.now)) }
 {
-    match labels {
-        Labelling::Numbers => with_numbered_names(alloc, problem),
-        Labelling::Names { elements, vertices } => Ok(Named {
-            problem,
-            elements,
-            vertices,
-        }),
+    match notation {
+        Notation::Numbers => all_numbered_names(alloc, problem),
+        Notation::Names { elements, vertices } => Ok((elements, vertices)),
     }
 }
 
@@ -108,8 +107,13 @@ fn named_problem(alloc: Global, text: &[u8]) -> Result<Named, DescRefusal>
     requires { length text.now ≤ description_limit }
     ensures { Gives named_instance result (named_of text.now) }
 {
-    let (problem, labels) = read_labelled(alloc, text)?;
-    Ok(with_names(alloc, problem, labels)?)
+    let (problem, notation) = read_description(alloc, text)?;
+    let (elements, vertices) = names_by(alloc, notation, &problem)?;
+    Ok(Named {
+        problem,
+        elements,
+        vertices,
+    })
 }
 
 /// The problem that a text of at most 4194304 bytes spells, with the names of its elements and of its vertices: those that the text
@@ -129,7 +133,7 @@ pub fn read_named(alloc: Global, text: &[u8]) -> Result<Named, DescRefusal>
     // The problem is in range, its matroids are sound, and it has a name for each element and each vertex.
     ensures valid { IfOk result (λ named. IsValid (instance_of named.problem)) }
     ensures sound { IfOk result (λ named. IsSoundInstance (instance_of named.problem)) }
-    ensures labelled { IfOk result (λ named. AreLabels (instance_of named.problem) (names (names_of named.elements) (names_of named.vertices))) }
+    ensures notated { IfOk result (λ named. IsNotationFor (instance_of named.problem) (names (names_of named.elements) (names_of named.vertices))) }
 {
     named_problem(alloc, text)
 }

@@ -5,17 +5,17 @@ ghost use Rattle.mat_desc.specs.Faults.{Gives};
 ghost use Rattle.mat_desc.specs.Grammar.{IsValid, Spells};
 ghost use Rattle.mat_desc.specs.Instances.{Instance};
 ghost use Rattle.mat_desc.specs.Limits.{description_limit};
-ghost use Rattle.mat_desc.specs.Reading.{version_at, end_at, closed_at, pair_at, list_at, graph_at, rooted_at, coloured_at, table_at};
-ghost use Rattle.mat_desc.specs.Reading.{instance_at, description_at, labelled_of, read_of};
+ghost use Rattle.mat_desc.specs.Reading.{version_at, end_at, closed_at, ending_at, pair_at, list_at, graph_at, rooted_at, coloured_at, table_at};
+ghost use Rattle.mat_desc.specs.Reading.{instance_at, description_at, written_of, read_of};
 ghost use Rattle.mat_desc.specs.Soundness.{IsSoundInstance};
 ghost use Rattle.mat_words.specs.Cursors.{lines_left, words_left};
-ghost use Rattle.mat_desc.specs.Views.{instance_of, labelled};
+ghost use Rattle.mat_desc.specs.Views.{instance_of, written_instance};
 
 use crate::item_lines::{coloured_edge_lines, ends_lines, weighted_lines};
 use crate::keywords::{Form, Version, form_from, version_from};
-use crate::labels::{Labelling, header_root, read_labels, root_line};
 use crate::limits::{MOST_ELEMENTS, MOST_MATROIDS, MOST_SETS, MOST_VERTICES};
-use crate::matroid::{next_matroid, next_matroids};
+use crate::matroid::{next_matroids, two_matroids};
+use crate::notation::{Notation, header_root, read_notation, root_line};
 use crate::reading::{ended, weights_line};
 use crate::refusal::{DescKind, DescRefusal, fault};
 use mat_any::AnyMatroid;
@@ -125,6 +125,15 @@ fn closed(lines: LineCursor<'_>) -> Result<(), DescRefusal>
     }
 }
 
+/// The last line and the end of the text.
+#[tactic(auto, unfolding(crate::specs::Reading::ending_at))]
+fn ending(lines: LineCursor<'_>) -> Result<(), DescRefusal>
+    ensures { Gives (λ x. x) result (ending_at (lines_left lines.entry)) }
+{
+    let lines = end_line(lines)?;
+    closed(lines)
+}
+
 /// Two weighted matroids, from the words behind the form's word on.
 #[tactic(auto, unfolding(crate::specs::Reading::pair_at))]
 fn pair<'a>(
@@ -132,22 +141,21 @@ fn pair<'a>(
     version: Version,
     words: WordCursor<'a>,
     lines: LineCursor<'a>,
-) -> Result<(Problem, Labelling, LineCursor<'a>), DescRefusal>
-    ensures { Gives (λ x. (labelled x.0 x.1, lines_left x.2)) result
+) -> Result<(Problem, Notation, LineCursor<'a>), DescRefusal>
+    ensures { Gives (λ x. (written_instance x.0 x.1, lines_left x.2)) result
         (pair_at version (words_left words.entry) (lines_left lines.entry)) }
 {
     let (count, words) = next_size(words, 0, MOST_ELEMENTS)?;
     ended(words)?;
-    let (labels, lines) = read_labels(alloc, version, count, 0, lines)?;
+    let (notation, lines) = read_notation(alloc, version, count, 0, lines)?;
     let (weights, lines) = weights_line(alloc, count, lines)?;
-    let (first, lines) = next_matroid(alloc, labels.element_names(), count, lines)?;
-    let (second, lines) = next_matroid(alloc, labels.element_names(), count, lines)?;
+    let (first, second, lines) = two_matroids(alloc, notation.element_names(), count, lines)?;
     let problem = Problem::Pair {
         weights,
         first,
         second,
     };
-    Ok((problem, labels, lines))
+    Ok((problem, notation, lines))
 }
 
 /// A list of matroids, from the words behind the form's word on.
@@ -157,17 +165,17 @@ fn list<'a>(
     version: Version,
     words: WordCursor<'a>,
     lines: LineCursor<'a>,
-) -> Result<(Problem, Labelling, LineCursor<'a>), DescRefusal>
-    ensures { Gives (λ x. (labelled x.0 x.1, lines_left x.2)) result
+) -> Result<(Problem, Notation, LineCursor<'a>), DescRefusal>
+    ensures { Gives (λ x. (written_instance x.0 x.1, lines_left x.2)) result
         (list_at version (words_left words.entry) (lines_left lines.entry)) }
 {
     let (count, words) = next_size(words, 0, MOST_ELEMENTS)?;
     let (many, words) = next_size(words, 1, MOST_MATROIDS)?;
     ended(words)?;
-    let (labels, lines) = read_labels(alloc, version, count, 0, lines)?;
+    let (notation, lines) = read_notation(alloc, version, count, 0, lines)?;
     let (weights, lines) = weights_line(alloc, count, lines)?;
-    let (matroids, lines) = next_matroids(alloc, labels.element_names(), count, many, lines)?;
-    Ok((Problem::List { weights, matroids }, labels, lines))
+    let (matroids, lines) = next_matroids(alloc, notation.element_names(), count, many, lines)?;
+    Ok((Problem::List { weights, matroids }, notation, lines))
 }
 
 /// A graph, from the words behind the form's word on.
@@ -177,17 +185,17 @@ fn graph<'a>(
     version: Version,
     words: WordCursor<'a>,
     lines: LineCursor<'a>,
-) -> Result<(Problem, Labelling, LineCursor<'a>), DescRefusal>
-    ensures { Gives (λ x. (labelled x.0 x.1, lines_left x.2)) result
+) -> Result<(Problem, Notation, LineCursor<'a>), DescRefusal>
+    ensures { Gives (λ x. (written_instance x.0 x.1, lines_left x.2)) result
         (graph_at version (words_left words.entry) (lines_left lines.entry)) }
 {
     let (vertices, words) = next_size(words, 1, MOST_VERTICES)?;
     let (many, words) = next_size(words, 0, MOST_ELEMENTS)?;
     ended(words)?;
-    let (labels, lines) = read_labels(alloc, version, many, vertices, lines)?;
-    let names = labels.vertex_names();
+    let (notation, lines) = read_notation(alloc, version, many, vertices, lines)?;
+    let names = notation.vertex_names();
     let (edges, lines) = ends_lines(alloc, names, b"edge", vertices, many, lines)?;
-    Ok((Problem::Graph { vertices, edges }, labels, lines))
+    Ok((Problem::Graph { vertices, edges }, notation, lines))
 }
 
 /// A directed graph with a root, from the words behind the form's word on.
@@ -197,16 +205,16 @@ fn rooted<'a>(
     version: Version,
     words: WordCursor<'a>,
     lines: LineCursor<'a>,
-) -> Result<(Problem, Labelling, LineCursor<'a>), DescRefusal>
-    ensures { Gives (λ x. (labelled x.0 x.1, lines_left x.2)) result
+) -> Result<(Problem, Notation, LineCursor<'a>), DescRefusal>
+    ensures { Gives (λ x. (written_instance x.0 x.1, lines_left x.2)) result
         (rooted_at version (words_left words.entry) (lines_left lines.entry)) }
 {
     let (vertices, words) = next_size(words, 1, MOST_VERTICES)?;
     let (many, words) = next_size(words, 0, MOST_ELEMENTS)?;
     let (known, words) = header_root(version, vertices, words)?;
     ended(words)?;
-    let (labels, lines) = read_labels(alloc, version, many, vertices, lines)?;
-    let names = labels.vertex_names();
+    let (notation, lines) = read_notation(alloc, version, many, vertices, lines)?;
+    let names = notation.vertex_names();
     let (root, lines) = root_line(names, vertices, known, lines)?;
     let (items, lines) = weighted_lines(alloc, names, b"arc", vertices, vertices, many, lines)?;
     let problem = Problem::Rooted {
@@ -215,7 +223,7 @@ fn rooted<'a>(
         arcs: items.pairs,
         costs: items.weights,
     };
-    Ok((problem, labels, lines))
+    Ok((problem, notation, lines))
 }
 
 /// A graph with coloured edges, from the words behind the form's word on.
@@ -225,16 +233,16 @@ fn coloured<'a>(
     version: Version,
     words: WordCursor<'a>,
     lines: LineCursor<'a>,
-) -> Result<(Problem, Labelling, LineCursor<'a>), DescRefusal>
-    ensures { Gives (λ x. (labelled x.0 x.1, lines_left x.2)) result
+) -> Result<(Problem, Notation, LineCursor<'a>), DescRefusal>
+    ensures { Gives (λ x. (written_instance x.0 x.1, lines_left x.2)) result
         (coloured_at version (words_left words.entry) (lines_left lines.entry)) }
 {
     let (vertices, words) = next_size(words, 1, MOST_VERTICES)?;
     let (many, words) = next_size(words, 0, MOST_ELEMENTS)?;
     let (colours, words) = next_size(words, 0, MOST_SETS)?;
     ended(words)?;
-    let (labels, lines) = read_labels(alloc, version, many, vertices, lines)?;
-    let names = labels.vertex_names();
+    let (notation, lines) = read_notation(alloc, version, many, vertices, lines)?;
+    let names = notation.vertex_names();
     let (items, lines) = coloured_edge_lines(alloc, names, vertices, colours, many, lines)?;
     let problem = Problem::Coloured {
         vertices,
@@ -243,7 +251,7 @@ fn coloured<'a>(
         colour_of: items.colour_of,
         weights: items.weights,
     };
-    Ok((problem, labels, lines))
+    Ok((problem, notation, lines))
 }
 
 /// A table of cells, from the words behind the form's word on.
@@ -253,15 +261,15 @@ fn table<'a>(
     version: Version,
     words: WordCursor<'a>,
     lines: LineCursor<'a>,
-) -> Result<(Problem, Labelling, LineCursor<'a>), DescRefusal>
-    ensures { Gives (λ x. (labelled x.0 x.1, lines_left x.2)) result
+) -> Result<(Problem, Notation, LineCursor<'a>), DescRefusal>
+    ensures { Gives (λ x. (written_instance x.0 x.1, lines_left x.2)) result
         (table_at version (words_left words.entry) (lines_left lines.entry)) }
 {
     let (rows, words) = next_size(words, 0, MOST_SETS)?;
     let (columns, words) = next_size(words, 0, MOST_SETS)?;
     let (many, words) = next_size(words, 0, MOST_ELEMENTS)?;
     ended(words)?;
-    let (labels, lines) = read_labels(alloc, version, many, 0, lines)?;
+    let (notation, lines) = read_notation(alloc, version, many, 0, lines)?;
     let (items, lines) = weighted_lines(alloc, None, b"cell", rows, columns, many, lines)?;
     let problem = Problem::Table {
         rows,
@@ -269,7 +277,7 @@ fn table<'a>(
         cells: items.pairs,
         weights: items.weights,
     };
-    Ok((problem, labels, lines))
+    Ok((problem, notation, lines))
 }
 
 /// A problem, from its form line on.
@@ -278,8 +286,8 @@ fn problem_lines<'a>(
     alloc: Global,
     version: Version,
     lines: LineCursor<'a>,
-) -> Result<(Problem, Labelling, LineCursor<'a>), DescRefusal>
-    ensures { Gives (λ x. (labelled x.0 x.1, lines_left x.2)) result
+) -> Result<(Problem, Notation, LineCursor<'a>), DescRefusal>
+    ensures { Gives (λ x. (written_instance x.0 x.1, lines_left x.2)) result
         (instance_at version (lines_left lines.entry)) }
 {
     let line = lines.line;
@@ -298,20 +306,21 @@ fn problem_lines<'a>(
 
 /// A whole description.
 #[tactic(auto, unfolding(crate::specs::Reading::description_at))]
-fn description(alloc: Global, lines: LineCursor<'_>) -> Result<(Problem, Labelling), DescRefusal>
-    ensures { Gives (λ x. labelled x.0 x.1) result (description_at (lines_left lines.entry)) }
+fn description(alloc: Global, lines: LineCursor<'_>) -> Result<(Problem, Notation), DescRefusal>
+    ensures { Gives (λ x. written_instance x.0 x.1) result (description_at (lines_left lines.entry)) }
 {
     let (version, lines) = version_line(lines)?;
-    let (problem, labels, lines) = problem_lines(alloc, version, lines)?;
-    let lines = end_line(lines)?;
-    closed(lines)?;
-    Ok((problem, labels))
+    let (problem, notation, lines) = problem_lines(alloc, version, lines)?;
+    ending(lines).and(Ok((problem, notation)))
 }
 
 /// The problem that a text states, and what its elements and its vertices are called there.
-pub(crate) fn read_labelled(alloc: Global, text: &[u8]) -> Result<(Problem, Labelling), DescRefusal>
+pub(crate) fn read_description(
+    alloc: Global,
+    text: &[u8],
+) -> Result<(Problem, Notation), DescRefusal>
     requires { length text.now ≤ description_limit }
-    ensures { Gives (λ x. labelled x.0 x.1) result (labelled_of text.now) }
+    ensures { Gives (λ x. written_instance x.0 x.1) result (written_of text.now) }
 {
     description(alloc, LineCursor { line: 1, text })
 }
@@ -321,7 +330,7 @@ fn problem_alone(alloc: Global, text: &[u8]) -> Result<Problem, DescRefusal>
     requires { length text.now ≤ description_limit }
     ensures { Gives instance_of result (read_of text.now) }
 {
-    let (problem, _) = read_labelled(alloc, text)?;
+    let (problem, _) = read_description(alloc, text)?;
     Ok(problem)
 }
 

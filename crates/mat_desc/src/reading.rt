@@ -5,8 +5,8 @@ ghost use Rattle.mat_desc.specs.Faults.{Gives};
 ghost use Rattle.mat_desc.specs.Reading.{ended_at, elements_at, weights_at};
 ghost use Rattle.mat_desc.specs.Views.{naming};
 
-use crate::labels::next_member;
 use crate::limits::{LARGEST_WEIGHT, SMALLEST_WEIGHT};
+use crate::notation::next_member;
 use crate::refusal::{DescKind, DescRefusal, fault};
 use mat_sets::{ElemSet, PairWeights};
 use mat_words::{LineCursor, Names, WordCursor, keyed_line, next_weights};

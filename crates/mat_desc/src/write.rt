@@ -5,10 +5,10 @@ ghost use Rattle.mat_words.specs.Lines.{text_of};
 ghost use Rattle.mat_words.specs.NameLists.{names_of};
 ghost use Rattle.mat_words.specs.Writing.{weights_line};
 ghost use Rattle.mat_any.specs.Views.{tree_of};
-ghost use Rattle.mat_desc.specs.Grammar.{rooted_header, version_line, vertex_name_lines, label_lines, root_lines, IsValid, IsValidTree};
-ghost use Rattle.mat_desc.specs.Labels.{names, element_naming, vertex_naming, AreLabels};
+ghost use Rattle.mat_desc.specs.Grammar.{rooted_header, version_line, vertex_name_lines, name_lines, root_lines, IsValid, IsValidTree};
+ghost use Rattle.mat_desc.specs.Notations.{names, element_naming, vertex_naming, IsNotationFor};
 ghost use Rattle.mat_desc.specs.Canonical.{matroid_lines, header, body_lines, canonical_lines, canonical_text, named_text, MayBeWritten};
-ghost use Rattle.mat_desc.specs.Views.{instance_of, naming, named_instance, written_labels};
+ghost use Rattle.mat_desc.specs.Views.{instance_of, naming, named_instance, written_notation};
 
 use crate::named::Named;
 use crate::problem::Problem;
@@ -32,7 +32,7 @@ pub(crate) struct Lists<'a> {
 
 /// The names of the elements, where they have names.
 fn element_names<'a>(lists: Option<Lists<'a>>) -> Option<&'a Names>
-    ensures { naming result ≡ element_naming (written_labels lists.entry) }
+    ensures { naming result ≡ element_naming (written_notation lists.entry) }
 {
     match lists {
         None => None,
@@ -42,7 +42,7 @@ fn element_names<'a>(lists: Option<Lists<'a>>) -> Option<&'a Names>
 
 /// The names of the vertices, where they have names.
 fn vertex_names<'a>(lists: Option<Lists<'a>>) -> Option<&'a Names>
-    ensures { naming result ≡ vertex_naming (written_labels lists.entry) }
+    ensures { naming result ≡ vertex_naming (written_notation lists.entry) }
 {
     match lists {
         None => None,
@@ -52,7 +52,7 @@ fn vertex_names<'a>(lists: Option<Lists<'a>>) -> Option<&'a Names>
 
 /// Appends the line of the version: 1 where elements and vertices are numbers, 2 where they have names.
 fn put_version_line(out: &mut Vec<u8>, lists: Option<Lists<'_>>) -> Result<(), AllocError>
-    ensures { OnOk result (out.new.items ≡ out.old.items ++ text_of (version_line (written_labels lists.entry) ∷ [])) }
+    ensures { OnOk result (out.new.items ≡ out.old.items ++ text_of (version_line (written_notation lists.entry) ∷ [])) }
 {
     match lists {
         None => out.extend_from_slice(b"matroids 1\n"),
@@ -68,7 +68,7 @@ fn put_rooted_header(
     arcs: usize,
     root: u32,
 ) -> Result<(), AllocError>
-    ensures { OnOk result (out.new.items ≡ out.old.items ++ text_of (rooted_header (written_labels lists.entry) vertices arcs root ∷ [])) }
+    ensures { OnOk result (out.new.items ≡ out.old.items ++ text_of (rooted_header (written_notation lists.entry) vertices arcs root ∷ [])) }
 {
     let (vertices, arcs) = (i128::from(vertices), arcs as i128);
     match lists {
@@ -84,7 +84,7 @@ fn put_header(
     problem: &Problem,
 ) -> Result<(), AllocError>
     ensures { OnOk result (out.new.items ≡ out.old.items
-        ++ text_of (header (written_labels lists.entry) (instance_of problem.now) ∷ [])) }
+        ++ text_of (header (written_notation lists.entry) (instance_of problem.now) ∷ [])) }
 {
     match problem {
         Problem::Pair { weights, .. } => put_numbers_line(out, b"pair", &[weights.len() as i128]),
@@ -140,8 +140,8 @@ fn put_vertex_names(out: &mut Vec<u8>, vertices: &Names) -> Result<(), AllocErro
 }
 
 /// Appends the lines that list names.
-fn put_label_lines(out: &mut Vec<u8>, lists: Option<Lists<'_>>) -> Result<(), AllocError>
-    ensures { OnOk result (out.new.items ≡ out.old.items ++ text_of (label_lines (written_labels lists.entry))) }
+fn put_name_lines(out: &mut Vec<u8>, lists: Option<Lists<'_>>) -> Result<(), AllocError>
+    ensures { OnOk result (out.new.items ≡ out.old.items ++ text_of (name_lines (written_notation lists.entry))) }
 {
     let Some(lists) = lists else {
         return Ok(());
@@ -152,8 +152,8 @@ fn put_label_lines(out: &mut Vec<u8>, lists: Option<Lists<'_>>) -> Result<(), Al
 
 /// Appends the line of the root, where vertices have names.
 fn put_root_line(out: &mut Vec<u8>, lists: Option<Lists<'_>>, root: u32) -> Result<(), AllocError>
-    requires { IfSome (vertex_naming (written_labels lists)) (λ listed. root < length listed) }
-    ensures { OnOk result (out.new.items ≡ out.old.items ++ text_of (root_lines (written_labels lists.entry) root)) }
+    requires { IfSome (vertex_naming (written_notation lists)) (λ listed. root < length listed) }
+    ensures { OnOk result (out.new.items ≡ out.old.items ++ text_of (root_lines (written_notation lists.entry) root)) }
 {
     let Some(lists) = lists else {
         return Ok(());
@@ -189,8 +189,8 @@ fn put_body(
     lists: Option<Lists<'_>>,
     problem: &Problem,
 ) -> Result<(), AllocError>
-    requires { MayBeWritten (written_labels lists) (instance_of problem.now) }
-    ensures { OnOk result (out.new.items ≡ out.old.items ++ text_of (body_lines (written_labels lists.entry) (instance_of problem.now))) }
+    requires { MayBeWritten (written_notation lists) (instance_of problem.now) }
+    ensures { OnOk result (out.new.items ≡ out.old.items ++ text_of (body_lines (written_notation lists.entry) (instance_of problem.now))) }
 {
     let elements = element_names(lists);
     let vertices = vertex_names(lists);
@@ -234,13 +234,13 @@ fn put_body(
 
 /// The canonical text of a problem, with these names or with none.
 fn text(alloc: Global, lists: Option<Lists<'_>>, problem: &Problem) -> Result<Vec<u8>, AllocError>
-    requires { MayBeWritten (written_labels lists) (instance_of problem.now) }
-    ensures { IfOk result (λ v. v.items ≡ text_of (canonical_lines (written_labels lists.entry) (instance_of problem.now))) }
+    requires { MayBeWritten (written_notation lists) (instance_of problem.now) }
+    ensures { IfOk result (λ v. v.items ≡ text_of (canonical_lines (written_notation lists.entry) (instance_of problem.now))) }
 {
     let mut out = Vec::new(alloc);
     put_version_line(&mut out, lists)?;
     put_header(&mut out, lists, problem)?;
-    put_label_lines(&mut out, lists)?;
+    put_name_lines(&mut out, lists)?;
     put_body(&mut out, lists, problem)?;
     out.extend_from_slice(b"end\n")?;
     Ok(out)
@@ -261,7 +261,7 @@ pub fn write_problem(alloc: Global, problem: &Problem) -> Result<Vec<u8>, AllocE
 #[tactic(auto, unfolding(crate::specs::Canonical::named_text))]
 pub fn write_named(alloc: Global, named: &Named) -> Result<Vec<u8>, AllocError>
     requires valid { IsValid (instance_of named.now.problem) }
-    requires labelled { AreLabels (instance_of named.now.problem) (names (names_of named.now.elements) (names_of named.now.vertices)) }
+    requires notated { IsNotationFor (instance_of named.now.problem) (names (names_of named.now.elements) (names_of named.now.vertices)) }
     ensures { IfOk result (λ v. v.items ≡ named_text (named_instance named.now)) }
 {
     let lists = Lists {

@@ -8,7 +8,7 @@ ghost use Rattle.mat_words.specs.NameLists.{names_of};
 ghost use Rattle.mat_words.specs.Writing.{spaced};
 ghost use Rattle.mat_desc.specs.Canonical.{capped_line, capped_lines};
 ghost use Rattle.mat_desc.specs.Grammar.{listing_line, ends_line, weighted_line, coloured_edge_line, IsPairBelow};
-ghost use Rattle.mat_desc.specs.Labels.{word_for, words_for};
+ghost use Rattle.mat_desc.specs.Notations.{word_for, words_for};
 ghost use Rattle.mat_desc.specs.Views.{naming};
 
 use mat_sets::{ElemSet, Weight};

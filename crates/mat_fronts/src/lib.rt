@@ -6,8 +6,6 @@ pub mod laws;
 mod once;
 mod rainbow_ladder;
 mod rainbow_search;
-#[cfg(test)]
-mod tests;
 
 pub use assignment::assign;
 pub use rainbow_ladder::RainbowLadder;

@@ -6,7 +6,7 @@ use Rattle.mat_shelf.specs.Writing.{Appended, AppendedPrefix}
 use Rattle.mat_desc.specs.Faults.{Fault}
 use Rattle.mat_desc.specs.Instances.{Instance}
 use Rattle.mat_desc.specs.Grammar.{Spells, SpellsNamed}
-use Rattle.mat_desc.specs.Labels.{NamedInstance}
+use Rattle.mat_desc.specs.Notations.{NamedInstance}
 use Rattle.mat_desc.specs.Reading.{read_of}
 use Rattle.mat_desc.specs.Canonical.{canonical_text, named_text}
 use Rattle.mat_desc.specs.Limits.{description_limit}

@@ -66,6 +66,13 @@ HasNoCuts instance refusal = ⊥
 
 -- ---- judging
 
+-- why an answer is not right: the first of its clauses that fails, or want of memory
+abbrev pub IsNotRight : Instance → Certificate → Refusal → Type 0
+IsNotRight instance answer refusals.Memory = Unit {0}
+IsNotRight instance answer (refusals.No reason first second) =
+    (IsRight instance answer → ⊥) × (failure_of instance answer ≡ Some (reason, first, second))
+IsNotRight instance answer refusal = ⊥
+
 -- why the bytes of a certificate, within their limit, don't let a call say yes
 abbrev pub IsDenial : Instance → List ℕ → Refusal → Type 0
 IsDenial instance bytes refusals.Memory = Unit {0}
@@ -110,13 +117,6 @@ HasNoRungIn instance k held before now (refusals.BadCertificate kind number) =
 HasNoRungIn instance k held before now refusals.WrongShape = IfSome held (λ bytes. HasNoRung instance k bytes refusals.WrongShape)
 HasNoRungIn instance k held before now refusals.Unwitnessed = IfSome held (λ bytes. HasNoRung instance k bytes refusals.Unwitnessed)
 HasNoRungIn instance k held before now refusal = ⊥
-
--- why an answer is not right: the first of its clauses that fails
-abbrev pub IsNotRight : Instance → Certificate → Refusal → Type 0
-IsNotRight instance answer refusals.Memory = Unit {0}
-IsNotRight instance answer (refusals.No reason first second) =
-    (IsRight instance answer → ⊥) × (failure_of instance answer ≡ Some (reason, first, second))
-IsNotRight instance answer refusal = ⊥
 
 -- why there is no witness for a rung of the certificate in a file
 abbrev pub HasNoWitness : Instance → ℕ → Option (List ℕ) → ℕ → ℕ → Refusal → Type 0

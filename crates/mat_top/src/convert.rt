@@ -2,7 +2,7 @@
 
 ghost use Rattle.std.specs.Prelude.{◌≡◌, ◌≤◌, ℕ, List, IfOk, IfErr, IfSome};
 ghost use Rattle.mat_desc.specs.Grammar.{IsValid};
-ghost use Rattle.mat_desc.specs.Labels.{AreLabels, names};
+ghost use Rattle.mat_desc.specs.Notations.{IsNotationFor, names};
 ghost use Rattle.mat_desc.specs.Views.{instance_of, named_instance};
 ghost use Rattle.mat_words.specs.NameLists.{names_of};
 ghost use Rattle.mat_top.specs.CommandLines.{convert};
@@ -21,7 +21,7 @@ fn named_in<F: Shelf>(alloc: Global, files: &mut F, name: &str) -> Result<Named,
     ensures held { (other : List ℕ) → F.held files.new other ≡ F.held files.old other }
     ensures grows { (other : List ℕ) → F.faults files.old other ≤ F.faults files.new other }
     ensures valid { IfOk result (λ n. IsValid (instance_of n.problem)) }
-    ensures labelled { IfOk result (λ n. AreLabels (instance_of n.problem) (names (names_of n.elements) (names_of n.vertices))) }
+    ensures notated { IfOk result (λ n. IsNotationFor (instance_of n.problem) (names (names_of n.elements) (names_of n.vertices))) }
     ensures named { IfOk result (λ n. IfSome (F.held files.old name.now) (λ bytes. IsNamed bytes (named_instance n))) }
     ensures refusal { IfErr result (λ e. IsUndescribed (F.held files.old name.now)
         (F.faults files.old name.now) (F.faults files.new name.now) e) }

@@ -5,6 +5,7 @@ ghost use Rattle.mat_desc.specs.Grammar.{IsValid};
 ghost use Rattle.mat_desc.specs.Soundness.{IsSoundInstance};
 ghost use Rattle.mat_desc.specs.Views.{instance_of};
 ghost use Rattle.mat_cert.specs.Views.{certificate_of};
+ghost use Rattle.mat_gen.specs.Samples.{sample_of};
 ghost use Rattle.mat_top.specs.Answers.{IsSolution};
 ghost use Rattle.mat_top.specs.Commands.{IsQueryInRange, IsSampleInRange};
 ghost use Rattle.mat_top.specs.Queries.{has_form, IsAnswerOf};
@@ -60,6 +61,28 @@ fn checked_answer<R: Threads + Sync>(
     }
 }
 
+// The summary of a right answer to this problem, which is that of this kind, size and seed. The only refusal is want of memory.
+fn summary_of<R: Threads + Sync>(
+    rt: &R,
+    alloc: Global,
+    kind: SampleKind,
+    size: u32,
+    seed: u64,
+    problem: &Problem,
+    workers: u32,
+) -> Result<Vec<u8>, Refusal>
+    requires range { IsSampleInRange size seed }
+    requires sample { instance_of problem.now ≡ sample_of kind size seed }
+    requires valid { IsValid (instance_of problem.now) }
+    requires sound { IsSoundInstance (instance_of problem.now) }
+    requires workers { (1 ≤ workers) × (workers ≤ 16) }
+    ensures text { IfOk result (λ v. IsSummary kind size seed v.items) }
+    ensures refusal { IfErr result (λ e. e ≡ refusals.Memory) }
+{
+    let answer = checked_answer(rt, alloc, problem, query_of_kind(kind), workers)?;
+    Ok(summary_text(alloc, kind, size, seed, &answer)?)
+}
+
 /// The summary of a right answer to the problem of this kind, size and seed: it is made, answered by so many workers, and the answer is
 /// checked. The only refusal is want of memory.
 pub(crate) fn sample_text<R: Threads + Sync>(
@@ -76,6 +99,5 @@ pub(crate) fn sample_text<R: Threads + Sync>(
     ensures refusal { IfErr result (λ e. e ≡ refusals.Memory) }
 {
     let problem = sample(alloc, kind, size, seed)?;
-    let answer = checked_answer(rt, alloc, &problem, query_of_kind(kind), workers)?;
-    Ok(summary_text(alloc, kind, size, seed, &answer)?)
+    summary_of(rt, alloc, kind, size, seed, &problem, workers)
 }

@@ -4,7 +4,6 @@ ghost use Rattle.std.specs.Prelude.{◌≡◌, ◌≤◌, ℕ, List, true, lengt
 ghost use Rattle.mat_cert.specs.Certificates.{Certificate, IsRanged};
 ghost use Rattle.mat_cert.specs.Limits.{certificate_limit};
 ghost use Rattle.mat_cert.specs.Views.{certificate_of};
-ghost use Rattle.mat_check.specs.Fitting.{fits};
 ghost use Rattle.mat_check.specs.Right.{IsRight};
 ghost use Rattle.mat_desc.specs.Grammar.{IsValid};
 ghost use Rattle.mat_desc.specs.Soundness.{IsSoundInstance};
@@ -13,14 +12,14 @@ ghost use Rattle.mat_witness.specs.Kinds.{has_rung, is_witnessed_pair};
 ghost use Rattle.mat_witness.specs.Lines.{witness_limit};
 ghost use Rattle.mat_witness.specs.Views.{witness_parts};
 ghost use Rattle.mat_top.specs.Outcomes.{IsVerifyOutcome, IsWitnessFound};
-ghost use Rattle.mat_top.specs.Refusals.{HasNoRung, HasNoRungIn, HasNoWitness, IsNotRight, IsUnshown, IsUnverified};
+ghost use Rattle.mat_top.specs.Refusals.{HasNoRung, HasNoRungIn, HasNoWitness, IsUnshown, IsUnverified};
 ghost use Rattle.mat_top.specs.Witnessing.{IsRungAnswer, IsShowing, IsWitnessText, fits_rung};
 
-use crate::judge::CERTIFICATE_LIMIT;
+use crate::judge::{CERTIFICATE_LIMIT, judge_answer};
 use crate::reading::read_all;
 use crate::status::{Refusal, Status};
 use mat_cert::{Answer, CertRefusal, read_answer};
-use mat_check::{Verdict, check, fits};
+use mat_check::fits;
 use mat_desc::Problem;
 use mat_shelf::Shelf;
 use mat_witness::{
@@ -70,26 +69,6 @@ fn rung_answer_in<F: Shelf>(
     rung_answer(alloc, problem, k, &bytes)
 }
 
-// A right answer is needed.
-fn judge_answer<R: Threads + Sync>(
-    rt: &R,
-    alloc: Global,
-    problem: &Problem,
-    answer: &Answer,
-) -> Result<(), Refusal>
-    requires fitting { fits (instance_of problem.now) (certificate_of answer.now) ≡ true }
-    requires valid { IsValid (instance_of problem.now) }
-    requires sound { IsSoundInstance (instance_of problem.now) }
-    requires ranged { IsRanged (certificate_of answer.now) }
-    ensures right { OnOk result (IsRight (instance_of problem.now) (certificate_of answer.now)) }
-    ensures refusal { IfErr result (λ e. IsNotRight (instance_of problem.now) (certificate_of answer.now) e) }
-{
-    match check(rt, alloc, problem, answer, 1)? {
-        Verdict::Yes => Ok(()),
-        Verdict::No { reason, a, b } => Err(Refusal::No(reason, a, b)),
-    }
-}
-
 // The text of a witness for rung k of a right answer.
 fn text_of_witness(
     alloc: Global,
@@ -130,7 +109,7 @@ pub(crate) fn witness_text<R: Threads + Sync, F: Shelf>(
         (F.faults files.old certificate.now) (F.faults files.new certificate.now) e) }
 {
     let answer = rung_answer_in(alloc, files, certificate, problem, k)?;
-    judge_answer(rt, alloc, problem, &answer)?;
+    judge_answer(rt, alloc, problem, &answer, 1)?;
     text_of_witness(alloc, problem, &answer, k)
 }
 

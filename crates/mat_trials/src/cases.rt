@@ -7,7 +7,7 @@
 use std::alloc::{AllocError, Global};
 
 /// A case: the words of a command line, and the texts of the files that it may name.
-#[derive(Debug, Drop)]
+#[derive(Drop)]
 pub(crate) struct Case {
     pub(crate) words: Vec<String>,
     /// The text of the file `f`.

@@ -18,6 +18,17 @@ const LINES: [&[&str]; 5] = [
     &["batch", "more_jobs.txt"],
 ];
 
+// What is told of the call with these words.
+fn told_call<R: Threads + Sync + Files + Input>(
+    rt: &R,
+    alloc: Global,
+    words: &[&str],
+) -> Result<Vec<u8>, AllocError> {
+    let words = words_of(alloc, words)?;
+    let ended = ended_over(rt, alloc, &words, &mut FileShelf::new(rt))?;
+    told_end(alloc, "real files", &ended)
+}
+
 /// What is told of files that are there and of files that aren't.
 pub(crate) fn real_report<R: Threads + Sync + Files + Input>(
     rt: &R,
@@ -25,9 +36,7 @@ pub(crate) fn real_report<R: Threads + Sync + Files + Input>(
 ) -> Result<Vec<u8>, AllocError> {
     let mut report = Vec::new(alloc);
     for words in LINES.iter() {
-        let words = words_of(alloc, words)?;
-        let ended = ended_over(rt, alloc, &words, &mut FileShelf::new(rt))?;
-        let told = told_end(alloc, "real files", &ended)?;
+        let told = told_call(rt, alloc, words)?;
         report.extend_from_slice(told.as_slice())?;
     }
     Ok(report)

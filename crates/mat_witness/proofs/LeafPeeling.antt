@@ -6,18 +6,19 @@ use Rattle.std.proofs.lemmas.Bool.{cases_Bool, cases_eq, and_from, both_ways, eq
 use Rattle.std.proofs.lemmas.Grind.{get_or_default_zero}
 use Rattle.std.proofs.lemmas.List.{length-map, length-reverse, reverse-append}
 use Rattle.std.proofs.lemmas.List.Elements.{All-cons}
-use Rattle.mat_sets.specs.Graphs.{ends_of}
+use Rattle.mat_sets.specs.Graphs.{IsGraph, ends_of}
 use Rattle.mat_sets.specs.Sets.{is_member, IsRising, IsSubset, AreDistinct, without_one}
 use Rattle.mat_sets.proofs.Cardinalities.{length-without_one}
 use Rattle.mat_sets.proofs.Members.{IsRising-without_one, is_member-without_one}
 use Rattle.mat_sets.proofs.Steps.{written_back}
 use Rattle.mat_sets.proofs.Subsets.{IsSubset-trans, without_one-IsSubset}
+use Rattle.mat_graphic.specs.Forests.{is_graphic}
 use Rattle.mat_graphic.specs.ForestLaws.{IsForest-subset}
 use Rattle.mat_witness.specs.EndSums.{IsSumTable, at_ends, end_sum}
 use Rattle.mat_witness.specs.FreeParts.{bring_vertices, is_end, is_single_end, lists_members, shows_forest}
 use Rattle.mat_witness.proofs.Leaves.{IsLeaf, end_sum-member, end_sum-without, leaf_of, no_leaf, one}
 use Rattle.mat_witness.proofs.ListedMembers.{lists_members-from}
-use Rattle.mat_witness.proofs.SumTables.{IsFine, IsForestOf, fine_member}
+use Rattle.mat_witness.proofs.SumTables.{IsFine, IsForestOf-from_test, fine_member}
 
 -- ---- the ends of an edge
 
@@ -115,14 +116,33 @@ AreTaken-more n vertices ends X rest pairs v e rising inside leaf small below ta
 
 -- ---- the tables without a member
 
-table_less : (f : ℕ → ℕ) (ends : ℕ → ℕ × ℕ) (X : List ℕ) (e vertices : ℕ) (old new : List ℕ) → IsRising X → is_member e X ≡ true
+table_without : (f : ℕ → ℕ) (ends : ℕ → ℕ × ℕ) (X : List ℕ) (e vertices : ℕ) (old new : List ℕ) → IsRising X → is_member e X ≡ true
     → IsSumTable f ends X vertices old → length new ≡ length old
     → ((v : ℕ) → v < length old → get_or old v 0 ≡ at_ends (ends e) (f e) v + get_or new v 0)
     → IsSumTable f ends (without_one X e) vertices new
-table_less f ends X e vertices old new r m table long less = record {
+table_without f ends X e vertices old new r m table long less = record {
   long = long ∙ table.long;
   at = λ v l. omega (arith, less v (omega (arith, table.long)), table.at v l, end_sum-without ends f X v e r m);
 }
+
+-- a table as it is lent
+module _ {f : ℕ → ℕ} {ends : ℕ → ℕ × ℕ} {X : List ℕ} {e v vertices : ℕ} {table lent : List ℕ} (sums : IsSumTable f ends X vertices table)
+    (leaf : IsLeaf ends X v e) (same : lent ≡ table) where
+  -- there is enough to take away
+  pub enough_at : (u : ℕ) → u < length lent → at_ends (ends e) (f e) u ≤ get_or lent u 0
+  enough_at u l =
+      let here : u < length table = subst (λ t. u < length t) same l in
+      let part = end_sum-member ends f X u e leaf.member in
+      subst (λ t. at_ends (ends e) (f e) u ≤ get_or t u 0) (sym same) (omega (arith, sums.at u (omega (arith, sums.long))))
+
+  -- what is given back is the table without the leaf's edge
+  table_less : {len : ℕ} (new : List ℕ) → IsRising X → len ≡ length table → length new ≡ length lent
+      → ((u : ℕ) → u < length lent → get_or lent u 0 ≡ at_ends (ends e) (f e) u + get_or new u 0)
+      → IsSumTable f ends (without_one X e) vertices (take len (new ++ drop (length new) table))
+  table_less {len} new rising size long less =
+      let kept = ap length same in
+      subst (IsSumTable f ends (without_one X e) vertices) (sym (written_back len new table (omega arith)))
+      (table_without f ends X e vertices lent new rising leaf.member (subst (IsSumTable f ends X vertices) (sym same) sums) long less)
 
 -- ---- the search for leaves
 
@@ -139,98 +159,85 @@ pub record IsPeeling (vertices : ℕ) (edges : List (ℕ × ℕ)) (X degree sum 
   pub here : passed < vertices → v < vertices
   pub last : vertices ≤ passed → vertices ≤ v
 
-module _ (vertices : ℕ) (edges : List (ℕ × ℕ)) (X : List ℕ) where
-  module _ (degree sum : List ℕ) (pairs : List (ℕ × ℕ)) (passed v : ℕ) (peeling : IsPeeling vertices edges X degree sum pairs passed v)
-      (more : passed < vertices) where
-    -- the edge of a leaf, as its number is read from the table
-    pub peeling_leaf : (d e : ℕ) → d ≡ get_or degree v d → d ≡ 1 → e ≡ get_or sum v e → IsLeaf (ends_of edges) peeling.rest v e
-    peeling_leaf d e first one_edge second =
-        let below = peeling.here more in
-        let degree_is : end_sum one (ends_of edges) peeling.rest v ≡ 1 = sym (peeling.degrees.at v below)
-        ∙ (sym (first ∙ get_or_default_zero degree v d (omega (arith, peeling.degrees.long))) ∙ one_edge) in
-        let number : end_sum (λ g. g) (ends_of edges) peeling.rest v ≡ e
-        = sym (peeling.sums.at v below) ∙ sym (second ∙ get_or_default_zero sum v e (omega (arith, peeling.sums.long))) in
-        subst (IsLeaf (ends_of edges) peeling.rest v) number (leaf_of (ends_of edges) peeling.rest v peeling.rising degree_is)
+-- v is a leaf, and e its edge, which is one of a forest
+pub record IsAtLeaf (vertices : ℕ) (edges : List (ℕ × ℕ)) (rest : List ℕ) (v e : ℕ) : Type 0 where
+  pub leaf : IsLeaf (ends_of edges) rest v e
+  pub fine : IsFine vertices edges e
+  pub below : v < vertices
 
-    module _ (e : ℕ) (leaf : IsLeaf (ends_of edges) peeling.rest v e) where
-      pub peeling_fine : IsForestOf vertices edges X → IsFine vertices edges e
-      peeling_fine given = fine_member vertices edges X e given (peeling.inside.inside e leaf.member)
+module _ {vertices : ℕ} {edges : List (ℕ × ℕ)} {X degree sum : List ℕ} {pairs : List (ℕ × ℕ)} {passed v : ℕ}
+    (peeling : IsPeeling vertices edges X degree sum pairs passed v) where
+  -- the edge of a leaf, as its number is read from the table
+  pub at_leaf : {d e : ℕ} → passed < vertices → IsGraph vertices edges → is_graphic (length edges) (ends_of edges) X ≡ true
+      → d ≡ get_or degree v d → d ≡ 1 → e ≡ get_or sum v e → IsAtLeaf vertices edges peeling.rest v e
+  at_leaf {d} {e} more graph passes first one_edge second =
+      let below = peeling.here more in
+      let degree_is : end_sum one (ends_of edges) peeling.rest v ≡ 1 = sym (peeling.degrees.at v below)
+      ∙ (sym (first ∙ get_or_default_zero degree v d (omega (arith, peeling.degrees.long))) ∙ one_edge) in
+      let number : end_sum (λ g. g) (ends_of edges) peeling.rest v ≡ e
+      = sym (peeling.sums.at v below) ∙ sym (second ∙ get_or_default_zero sum v e (omega (arith, peeling.sums.long))) in
+      let leaf = subst (IsLeaf (ends_of edges) peeling.rest v) number (leaf_of (ends_of edges) peeling.rest v peeling.rising degree_is) in
+      record {
+        leaf = leaf;
+        fine = fine_member vertices edges X e (IsForestOf-from_test vertices edges X graph passes) (peeling.inside.inside e leaf.member);
+        below = below;
+      }
 
-      -- there is enough to take away, in tables as they are lent
-      pub enough_degree : (lent : List ℕ) → lent ≡ degree → (u : ℕ) → u < length lent → at_ends (ends_of edges e) 1 u ≤ get_or lent u 0
-      enough_degree lent same u l =
-          let here : u < length degree = subst (λ t. u < length t) same l in
-          let part = end_sum-member (ends_of edges) one peeling.rest u e leaf.member in
-          subst (λ t. at_ends (ends_of edges e) 1 u ≤ get_or t u 0) (sym same)
-          (omega (arith, peeling.degrees.at u (omega (arith, peeling.degrees.long))))
+  peeling_without : {less fewer : List ℕ} {longer : List (ℕ × ℕ)} {e w : ℕ} → IsAtLeaf vertices edges peeling.rest v e
+      → IsSumTable one (ends_of edges) (without_one peeling.rest e) vertices less
+      → IsSumTable (λ g. g) (ends_of edges) (without_one peeling.rest e) vertices fewer → longer ≡ pairs ++ (e, v) ∷ []
+      → other_end (ends_of edges e) v ≡ w → passed < vertices → IsPeeling vertices edges X less fewer longer passed w
+  peeling_without {less} {fewer} {longer} {e} {w} next degrees sums pushed other more =
+      let leaf = next.leaf in
+      record {
+        rest = without_one peeling.rest e;
+        rising = IsRising-without_one peeling.rest e peeling.rising;
+        inside = IsSubset-trans (without_one peeling.rest e) peeling.rest X (without_one-IsSubset peeling.rest e) peeling.inside;
+        degrees = degrees;
+        sums = sums;
+        leafless = λ u l b d h. elim (cases_eq u v) [
+          | inl k ↦ absurd (let none : end_sum one (ends_of edges) (without_one peeling.rest e) u ≡ 0
+              = ap (end_sum one (ends_of edges) (without_one peeling.rest e)) k ∙ leaf.others in omega arith)
+          | inr k ↦ peeling.leafless u l b k (end_sum-without (ends_of edges) one peeling.rest u e peeling.rising leaf.member
+              ∙ (let off = elsewhere (ends_of edges e) v u leaf.single k (λ q. d (q ∙ other)) in omega arith))
+        ];
+        taken = subst (λ p. AreTaken (length edges) vertices (ends_of edges) X (without_one peeling.rest e) (reverse p)) (sym pushed)
+            (subst (AreTaken (length edges) vertices (ends_of edges) X (without_one peeling.rest e)) (sym (reverse-append pairs ((e, v) ∷ [])))
+            (AreTaken-more (length edges) vertices (ends_of edges) X peeling.rest (reverse pairs) v e peeling.rising peeling.inside leaf
+            next.fine.below next.below peeling.taken));
+        within = peeling.within;
+        here = λ l. subst (λ z. z < vertices) other (other_below (ends_of edges e) v next.fine.first next.fine.second);
+        last = λ l. absurd (omega arith);
+      }
+    where
+      other_below : (pair : ℕ × ℕ) (v : ℕ) → pair.0 < vertices → pair.1 < vertices → other_end pair v < vertices
+      other_below pair v a b = elim (cases_Bool (eqb pair.0 v)) [
+        | inl k ↦ omega (arith, ap {B = ℕ} (λ b. cond b pair.1 pair.0) k)
+        | inr k ↦ omega (arith, ap {B = ℕ} (λ b. cond b pair.1 pair.0) k)
+      ]
 
-      pub enough_sum : (lent : List ℕ) → lent ≡ sum → (u : ℕ) → u < length lent → at_ends (ends_of edges e) e u ≤ get_or lent u 0
-      enough_sum lent same u l =
-          let here : u < length sum = subst (λ t. u < length t) same l in
-          let part = end_sum-member (ends_of edges) (λ g. g) peeling.rest u e leaf.member in
-          subst (λ t. at_ends (ends_of edges e) e u ≤ get_or t u 0) (sym same)
-          (omega (arith, peeling.sums.at u (omega (arith, peeling.sums.long))))
-
-      -- without this edge its other end is next
-      pub peeling_take : (less fewer : List ℕ) (longer : List (ℕ × ℕ)) (w : ℕ) → IsForestOf vertices edges X
-          → IsSumTable one (ends_of edges) (without_one peeling.rest e) vertices less
-          → IsSumTable (λ g. g) (ends_of edges) (without_one peeling.rest e) vertices fewer
-          → longer ≡ pairs ++ (e, v) ∷ [] → other_end (ends_of edges e) v ≡ w → IsPeeling vertices edges X less fewer longer passed w
-      peeling_take less fewer longer w given degrees sums pushed other =
-          let fine = peeling_fine given in
-          record {
-            rest = without_one peeling.rest e;
-            rising = IsRising-without_one peeling.rest e peeling.rising;
-            inside = IsSubset-trans (without_one peeling.rest e) peeling.rest X (without_one-IsSubset peeling.rest e) peeling.inside;
-            degrees = degrees;
-            sums = sums;
-            leafless = λ u l b d h. elim (cases_eq u v) [
-              | inl k ↦ absurd (let none : end_sum one (ends_of edges) (without_one peeling.rest e) u ≡ 0
-                  = ap (end_sum one (ends_of edges) (without_one peeling.rest e)) k ∙ leaf.others in omega arith)
-              | inr k ↦ peeling.leafless u l b k (end_sum-without (ends_of edges) one peeling.rest u e peeling.rising leaf.member
-                  ∙ (let off = elsewhere (ends_of edges e) v u leaf.single k (λ q. d (q ∙ other)) in omega arith))
-            ];
-            taken = subst (λ p. AreTaken (length edges) vertices (ends_of edges) X (without_one peeling.rest e) (reverse p)) (sym pushed)
-                (subst (AreTaken (length edges) vertices (ends_of edges) X (without_one peeling.rest e)) (sym (reverse-append pairs ((e, v) ∷ [])))
-                (AreTaken-more (length edges) vertices (ends_of edges) X peeling.rest (reverse pairs) v e peeling.rising peeling.inside leaf
-                fine.below (peeling.here more) peeling.taken));
-            within = peeling.within;
-            here = λ l. subst (λ z. z < vertices) other (other_below (ends_of edges e) v fine.first fine.second);
-            last = λ l. absurd (omega arith);
-          }
-        where
-          other_below : (pair : ℕ × ℕ) (v : ℕ) → pair.0 < vertices → pair.1 < vertices → other_end pair v < vertices
-          other_below pair v a b = elim (cases_Bool (eqb pair.0 v)) [
-            | inl k ↦ omega (arith, ap {B = ℕ} (λ b. cond b pair.1 pair.0) k)
-            | inr k ↦ omega (arith, ap {B = ℕ} (λ b. cond b pair.1 pair.0) k)
-          ]
-
-      -- the tables without it, as they are lent and given back
-      pub degrees_less : (len : ℕ) (lent new : List ℕ) → lent ≡ degree → len ≡ length degree → length new ≡ length lent
-          → ((u : ℕ) → u < length lent → get_or lent u 0 ≡ at_ends (ends_of edges e) 1 u + get_or new u 0)
-          → IsSumTable one (ends_of edges) (without_one peeling.rest e) vertices (take len (new ++ drop (length new) degree))
-      degrees_less len lent new same size long less =
-          let kept = ap length same in
-          subst (IsSumTable one (ends_of edges) (without_one peeling.rest e) vertices) (sym (written_back len new degree (omega arith)))
-          (table_less one (ends_of edges) peeling.rest e vertices lent new peeling.rising leaf.member
-          (subst (IsSumTable one (ends_of edges) peeling.rest vertices) (sym same) peeling.degrees) long less)
-
-      pub sums_less : (len : ℕ) (lent new : List ℕ) → lent ≡ sum → len ≡ length sum → length new ≡ length lent
-          → ((u : ℕ) → u < length lent → get_or lent u 0 ≡ at_ends (ends_of edges e) e u + get_or new u 0)
-          → IsSumTable (λ g. g) (ends_of edges) (without_one peeling.rest e) vertices (take len (new ++ drop (length new) sum))
-      sums_less len lent new same size long less =
-          let kept = ap length same in
-          subst (IsSumTable (λ g. g) (ends_of edges) (without_one peeling.rest e) vertices) (sym (written_back len new sum (omega arith)))
-          (table_less (λ g. g) (ends_of edges) peeling.rest e vertices lent new peeling.rising leaf.member
-          (subst (IsSumTable (λ g. g) (ends_of edges) peeling.rest vertices) (sym same) peeling.sums) long less)
+  -- without this edge, which is taken out of both tables as they are lent and given back, its other end is next
+  pub peeling_take : {e w : ℕ} {longer : List (ℕ × ℕ)} {degree_len sum_len : ℕ} {degree_lent sum_lent : List ℕ} (less fewer : List ℕ)
+      → IsAtLeaf vertices edges peeling.rest v e → passed < vertices → degree_lent ≡ degree → degree_len ≡ length degree
+      → length less ≡ length degree_lent
+      → ((u : ℕ) → u < length degree_lent → get_or degree_lent u 0 ≡ at_ends (ends_of edges e) 1 u + get_or less u 0)
+      → sum_lent ≡ sum → sum_len ≡ length sum → length fewer ≡ length sum_lent
+      → ((u : ℕ) → u < length sum_lent → get_or sum_lent u 0 ≡ at_ends (ends_of edges e) e u + get_or fewer u 0)
+      → longer ≡ pairs ++ (e, v) ∷ [] → other_end (ends_of edges e) v ≡ w
+      → IsPeeling vertices edges X (take degree_len (less ++ drop (length less) degree))
+      (take sum_len (fewer ++ drop (length fewer) sum)) longer passed w
+  peeling_take less fewer next more degree_same degree_size degree_long degree_less sum_same sum_size sum_long sum_less pushed other =
+      peeling_without next (table_less peeling.degrees next.leaf degree_same less peeling.rising degree_size degree_long degree_less)
+      (table_less peeling.sums next.leaf sum_same fewer peeling.rising sum_size sum_long sum_less) pushed other more
 
   -- ---- the end
 
-  module _ (degree sum : List ℕ) (pairs : List (ℕ × ℕ)) (passed v : ℕ) (given : IsForestOf vertices edges X)
-      (peeling : IsPeeling vertices edges X degree sum pairs passed v) (all : vertices ≤ passed) where
+  module _ (graph : IsGraph vertices edges) (passes : is_graphic (length edges) (ends_of edges) X ≡ true) (all : vertices ≤ passed) where
     -- no edge is left
     nothing_left : peeling.rest ≡ []
-    nothing_left = no_leaf (ends_of edges) vertices peeling.rest peeling.rising
+    nothing_left =
+        let given = IsForestOf-from_test vertices edges X graph passes in
+        no_leaf (ends_of edges) vertices peeling.rest peeling.rising
         (IsForest-subset (ends_of edges) peeling.rest X peeling.inside given.forest)
         (λ g m. let fine = fine_member vertices edges X g given (peeling.inside.inside g m) in (fine.first, fine.second))
         (λ u l. peeling.leafless u (omega arith) l (λ e. absurd (omega (arith, peeling.last all))))

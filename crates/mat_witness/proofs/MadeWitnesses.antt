@@ -146,9 +146,9 @@ rung_read : (n : ℕ) (rungs : List PricedRung) (cut : List ℕ) (k : ℕ) (rung
     → rung ≡ get_or rungs k rung → rung_at rungs k ≡ rung
 rung_read n rungs cut k rung has is = get_or_default rungs k _ rung (ltb-true k (length rungs) has) ∙ sym is
 
-module _ (w : List Weight) (first second : Tree) (n : ℕ) (rungs : List PricedRung) (cut : List ℕ) (k : ℕ)
+module _ {w : List Weight} (first second : Tree) {n : ℕ} {rungs : List PricedRung} {cut : List ℕ} {k : ℕ} {rung : PricedRung}
     (sound : IsSoundInstance (pair w first second)) (ranged : IsRanged (intersect n rungs cut)) (has : has_rung (intersect n rungs cut) k ≡ true)
-    (right : IsRightRungOf (pair w first second) (intersect n rungs cut) k) (rung : PricedRung) (read : rung ≡ get_or rungs k rung) where
+    (right : IsRightRungOf (pair w first second) (intersect n rungs cut) k) (read : rung ≡ get_or rungs k rung) where
   is : rung_at rungs k ≡ rung
   is = rung_read n rungs cut k rung has read
 

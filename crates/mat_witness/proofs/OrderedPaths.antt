@@ -103,99 +103,110 @@ vertices_below vertices arcs g (v ∷ w ∷ rest) joined first =
 -- ---- the ends of the paths to the vertices of a set
 
 -- the set of the vertices of the members
-pub is_member-ends : (targets X vs ends : List ℕ) → vs ≡ vertices_of targets X → ends ≡ union vs []
+pub is_member-ends : (targets X : List ℕ) {vs ends : List ℕ} → vs ≡ vertices_of targets X → ends ≡ union vs []
     → (v : ℕ) → is_member v ends ≡ is_member v (vertices_of targets X)
-is_member-ends targets X vs ends is made v =
+is_member-ends targets X {vs} {ends} is made v =
     ap (is_member v) made ∙ is_member-union v vs [] ∙ or_none (is_member v vs) ∙ ap (is_member v) is
 
-pub ends_of_set : (vertices : ℕ) (arcs : List (ℕ × ℕ)) (sources targets : List ℕ) → IsGammoid vertices arcs sources targets
-    → (X : List ℕ) → AllBelow (length targets) X → (ends : List ℕ) → ((v : ℕ) → is_member v ends ≡ is_member v (vertices_of targets X))
-    → AllBelow vertices ends
-ends_of_set vertices arcs sources targets given X below ends members = AllBelow-from_members vertices ends (λ v m.
-    (let w = vertex_member targets X v (sym (members v) ∙ m) in
+pub ends_inside : {vertices : ℕ} {arcs : List (ℕ × ℕ)} {sources targets X vs ends : List ℕ} → IsGammoid vertices arcs sources targets
+    → IsSet (length targets) X → vs ≡ vertices_of targets X → ends ≡ union vs [] → AllBelow vertices ends
+ends_inside {vertices} {arcs} {sources} {targets} {X} {vs} {ends} given set is made = AllBelow-from_members vertices ends (λ v m.
+    (let w = vertex_member targets X v (sym (is_member-ends targets X is made v) ∙ m) in
     subst (λ u. u < vertices) w.2
-    (AllBelow-at vertices targets w.0 given.targets_inside (AllBelow-member (length targets) X w.0 below w.1))))
+    (AllBelow-at vertices targets w.0 given.targets_inside (AllBelow-member (length targets) X w.0 set.below w.1))))
 
 -- ---- the paths to the vertices of an independent set
 
-module _ (vertices : ℕ) (arcs : List (ℕ × ℕ)) (sources targets : List ℕ) (given : IsGammoid vertices arcs sources targets) (X : List ℕ)
-    (ok : is_gammoid vertices arcs sources targets X ≡ true) (ends : List ℕ) (rises : IsRising ends)
-    (members : (v : ℕ) → is_member v ends ≡ is_member v (vertices_of targets X)) (paths : List (List ℕ)) (separator : List ℕ)
-    (linking : IsLinking arcs sources ends paths separator) where
-  set_X : IsSet (length targets) X
-  set_X = (gammoid_laws vertices arcs sources targets given).sets X ok
+-- paths of which one ends at the vertex of each member of X: in the order of the members they show that X is independent
+pub record AreLinkedTo (vertices : ℕ) (arcs : List (ℕ × ℕ)) (sources targets X : List ℕ) (paths : List (List ℕ)) : Type 0 where
+  pub some : All (λ path. 0 < length path) paths
+  pub below : AllBelow vertices (map last_of paths)
+  pub distinct : AreDistinct (map last_of paths)
+  pub ended : (v : ℕ) → is_member v (vertices_of targets X) ≡ true → is_member v (map last_of paths) ≡ true
+  pub count : length (map (path_to paths) (vertices_of targets X)) ≡ length X
+  pub ranged : All (λ path. (0 < length path) × AllBelow vertices path) (map (path_to paths) (vertices_of targets X))
+  pub shows : shows_paths arcs sources targets (map (path_to paths) (vertices_of targets X)) X ≡ true
 
-  pub ends_distinct : AreDistinct (map last_of paths)
-  ends_distinct = AreDistinct-ends arcs sources ends paths linking.disjoint
+module _ {vertices : ℕ} {arcs : List (ℕ × ℕ)} {sources targets : List ℕ} (given : IsGammoid vertices arcs sources targets) (X : List ℕ)
+    (ok : is_gammoid vertices arcs sources targets X ≡ true) where
+  pub independent_set : IsSet (length targets) X
+  independent_set = (gammoid_laws vertices arcs sources targets given).sets X ok
 
-  ended : (v : ℕ) → is_member v (map last_of paths) ≡ true → is_member v ends ≡ true
-  ended = ends_are_targets arcs sources ends paths linking.disjoint.each
+  module _ {vs ends : List ℕ} (is : vs ≡ vertices_of targets X) (made : ends ≡ union vs []) where
+    abbrev members : (v : ℕ) → is_member v ends ≡ is_member v (vertices_of targets X)
+    members = is_member-ends targets X is made
 
-  count : length paths ≡ length X
-  count = eqb-true (length paths) (length X)
-      (is_gammoid-counted vertices arcs sources targets given X ends set_X rises members paths separator linking ∙ ok)
+    module _ {paths : List (List ℕ)} {separator : List ℕ} (rises : IsRising ends) (linking : IsLinking arcs sources ends paths separator) where
+      ends_distinct : AreDistinct (map last_of paths)
+      ends_distinct = AreDistinct-ends arcs sources ends paths linking.disjoint
 
-  pub all_ended : (v : ℕ) → is_member v (vertices_of targets X) ≡ true → is_member v (map last_of paths) ≡ true
-  all_ended v m =
-      let vs = vertices_of targets X in
-      let inside = length-subset ends (union vs []) rises (IsRising-union vs [] IsRising-nil)
-      (record { inside = λ w k. is_member-union w vs [] ∙ or_none (is_member w vs) ∙ sym (members w) ∙ k }) in
-      let few : length ends ≤ length (ends_of paths) = omega (
-        arith,
-        inside,
-        length-items vs,
-        length-vertices_of targets X,
-        count,
-        length-distinct (map last_of paths) ends_distinct,
-        length-map paths last_of,
-      ) in
-      let same = same_size_subset (ends_of paths) ends (IsRising-union (map last_of paths) [] IsRising-nil) rises
-      (record { inside = λ w k. ended w (sym (is_member-ends_of w paths) ∙ k) }) few in
-      sym (is_member-ends_of v paths) ∙ ap (is_member v) same ∙ members v ∙ m
+      ended : (v : ℕ) → is_member v (map last_of paths) ≡ true → is_member v ends ≡ true
+      ended = ends_are_targets arcs sources ends paths linking.disjoint.each
 
-  pub ends_below : AllBelow vertices (map last_of paths)
-  ends_below =
-      AllBelow-subset vertices (map last_of paths) ends (record { inside = ended })
-      (ends_of_set vertices arcs sources targets given X set_X.below ends members)
+      count : length paths ≡ length X
+      count = eqb-true (length paths) (length X)
+          (is_gammoid-counted vertices arcs sources targets given X ends independent_set rises members paths separator linking ∙ ok)
 
-  pub paths_have_vertices : All (λ path. 0 < length path) paths
-  paths_have_vertices =
-      All-weaker (IsPathBetween arcs sources ends) (λ path. 0 < length path) (λ path p. some_vertices arcs path p.joined) paths linking.disjoint.each
+      all_ended : (v : ℕ) → is_member v (vertices_of targets X) ≡ true → is_member v (map last_of paths) ≡ true
+      all_ended v m =
+          let vs = vertices_of targets X in
+          let inside = length-subset ends (union vs []) rises (IsRising-union vs [] IsRising-nil)
+          (record { inside = λ w k. is_member-union w vs [] ∙ or_none (is_member w vs) ∙ sym (members w) ∙ k }) in
+          let few : length ends ≤ length (ends_of paths) = omega (
+            arith,
+            inside,
+            length-items vs,
+            length-vertices_of targets X,
+            count,
+            length-distinct (map last_of paths) ends_distinct,
+            length-map paths last_of,
+          ) in
+          let same = same_size_subset (ends_of paths) ends (IsRising-union (map last_of paths) [] IsRising-nil) rises
+          (record { inside = λ w k. ended w (sym (is_member-ends_of w paths) ∙ k) }) few in
+          sym (is_member-ends_of v paths) ∙ ap (is_member v) same ∙ members v ∙ m
 
-  abbrev ordered : List (List ℕ)
-  ordered = map (path_to paths) (vertices_of targets X)
+      abbrev ordered : List (List ℕ)
+      ordered = map (path_to paths) (vertices_of targets X)
 
-  among : (v : ℕ) → is_member v (vertices_of targets X) ≡ true → is_member v (ends_of paths) ≡ true
-  among v m = is_member-ends_of v paths ∙ all_ended v m
+      among : (v : ℕ) → is_member v (vertices_of targets X) ≡ true → is_member v (ends_of paths) ≡ true
+      among v m = is_member-ends_of v paths ∙ all_ended v m
 
-  ordered_disjoint : AreDisjointPaths arcs sources ends ordered
-  ordered_disjoint =
-      subst (AreDisjointPaths arcs sources ends) (sym (paths_by_routes paths (vertices_of targets X)))
-      (AreDisjointPaths-routes arcs sources ends (AreRoutes-paths arcs sources ends paths linking.disjoint) (vertices_of targets X)
-      (AreDistinct-vertices_of targets X given.distinct set_X) among)
+      ordered_disjoint : AreDisjointPaths arcs sources ends ordered
+      ordered_disjoint =
+          subst (AreDisjointPaths arcs sources ends) (sym (paths_by_routes paths (vertices_of targets X)))
+          (AreDisjointPaths-routes arcs sources ends (AreRoutes-paths arcs sources ends paths linking.disjoint) (vertices_of targets X)
+          (AreDistinct-vertices_of targets X given.distinct independent_set) among)
 
-  ordered_ends : map last_of ordered ≡ vertices_of targets X
-  ordered_ends =
-      ap (map last_of) (paths_by_routes paths (vertices_of targets X))
-      ∙ last_of-paths_to (AreRoutes-paths arcs sources ends paths linking.disjoint) (vertices_of targets X) among
+      ordered_ends : map last_of ordered ≡ vertices_of targets X
+      ordered_ends =
+          ap (map last_of) (paths_by_routes paths (vertices_of targets X))
+          ∙ last_of-paths_to (AreRoutes-paths arcs sources ends paths linking.disjoint) (vertices_of targets X) among
 
-  pub ordered_part : (length ordered ≡ length X) × All (λ path. (0 < length path) × AllBelow vertices path) ordered
-  ordered_part = (
-    length-map (vertices_of targets X) (path_to paths) ∙ length-vertices_of targets X,
-    All-weaker (IsPathBetween arcs sources ends) (λ path. (0 < length path) × AllBelow vertices path)
-        (λ path p. (
-          some_vertices arcs path p.joined,
-          vertices_below vertices arcs given.graph path p.joined (AllBelow-member vertices sources (first_of path) given.sources_inside.below p.starts),
-        )) ordered ordered_disjoint.each,
-  )
+      ordered_shows : shows_paths arcs sources targets ordered X ≡ true
+      ordered_shows =
+          and_from (list_all (is_source_path arcs sources) ordered) (bytes_eq (map last_of ordered) (vertices_of targets X) && are_distinct (concat ordered))
+          (list_all-from_AllPass (is_source_path arcs sources) ordered
+          (All-weaker (IsPathBetween arcs sources ends) (λ path. is_source_path arcs sources path ≡ true)
+          (λ path p. and_from (is_path arcs path) (is_member (first_of path) sources) (is_path-from arcs path p.joined) p.starts) ordered
+          ordered_disjoint.each))
+          (and_from (bytes_eq (map last_of ordered) (vertices_of targets X)) (are_distinct (concat ordered))
+          ((bytes_eq-Decides (map last_of ordered) (vertices_of targets X)).1 ordered_ends)
+          (are_distinct-from (concat ordered) ordered_disjoint.distinct))
 
-  pub ordered_shows : shows_paths arcs sources targets ordered X ≡ true
-  ordered_shows =
-      and_from (list_all (is_source_path arcs sources) ordered) (bytes_eq (map last_of ordered) (vertices_of targets X) && are_distinct (concat ordered))
-      (list_all-from_AllPass (is_source_path arcs sources) ordered
-      (All-weaker (IsPathBetween arcs sources ends) (λ path. is_source_path arcs sources path ≡ true)
-      (λ path p. and_from (is_path arcs path) (is_member (first_of path) sources) (is_path-from arcs path p.joined) p.starts) ordered
-      ordered_disjoint.each))
-      (and_from (bytes_eq (map last_of ordered) (vertices_of targets X)) (are_distinct (concat ordered))
-      ((bytes_eq-Decides (map last_of ordered) (vertices_of targets X)).1 ordered_ends)
-      (are_distinct-from (concat ordered) ordered_disjoint.distinct))
+      pub linked_to : AreLinkedTo vertices arcs sources targets X paths
+      linked_to = record {
+        some = All-weaker (IsPathBetween arcs sources ends) (λ path. 0 < length path) (λ path p. some_vertices arcs path p.joined) paths
+            linking.disjoint.each;
+        below = AllBelow-subset vertices (map last_of paths) ends (record { inside = ended })
+            (ends_inside given independent_set is made);
+        distinct = ends_distinct;
+        ended = all_ended;
+        count = length-map (vertices_of targets X) (path_to paths) ∙ length-vertices_of targets X;
+        ranged = All-weaker (IsPathBetween arcs sources ends) (λ path. (0 < length path) × AllBelow vertices path)
+            (λ path p. (
+              some_vertices arcs path p.joined,
+              vertices_below vertices arcs given.graph path p.joined
+                  (AllBelow-member vertices sources (first_of path) given.sources_inside.below p.starts),
+            )) ordered ordered_disjoint.each;
+        shows = ordered_shows;
+      }

@@ -207,22 +207,22 @@ IsSeparator-members arcs sources ends others separator members s = record {
   meets = λ path p. s.meets path (record { joined = p.joined; starts = p.starts; ends = members (last_of path) ∙ p.ends });
 }
 
-module _ (vertices : ℕ) (arcs : List (ℕ × ℕ)) (sources targets : List ℕ) (given : IsGammoid vertices arcs sources targets)
-    (F : List ℕ) (set : IsSet (length targets) F) (ends : List ℕ) (members : (v : ℕ) → is_member v ends ≡ is_member v (vertices_of targets F))
-    (paths : List (List ℕ)) (separator : List ℕ) (linking : IsLinking arcs sources ends paths separator) where
-  pub AreClosingSets-reached : (rows : List (List ℕ)) (reached beside closing : List ℕ) → AreArcRows vertices arcs rows
-      → IsReachedSet vertices (is_open_arc rows separator) (λ v. is_member v sources) reached
-      → beside ≡ minus reached separator → closing ≡ intersection reached separator
-      → AreClosingSets vertices arcs sources targets F beside closing
-  AreClosingSets-reached rows reached beside closing r reach is_beside is_closing =
-      let vs = vertices_of targets F in
-      let separates = IsSeparator-members arcs sources ends vs separator members linking.separates in
-      let inside = given.sources_inside.below in
-      rw (is_beside, is_closing) (record {
-        beside_set = IsSet-beside vertices arcs sources vs separator reached rows given.graph inside r reach separates;
-        closing_set = IsSet-gate vertices arcs sources vs separator reached rows given.graph inside r reach separates;
-        closed = closes_off vertices arcs sources vs separator reached rows given.graph inside r reach separates;
-        few = λ largest maximal. (let gate = length-gate vertices arcs sources vs separator reached rows given.graph inside r reach separates in
-            let most = length-separator vertices arcs sources targets given F largest set maximal ends members paths separator linking in
-            omega (arith, gate, most));
-      })
+pub AreClosingSets-reached : {vertices : ℕ} {arcs : List (ℕ × ℕ)} {sources targets F ends separator reached beside closing : List ℕ}
+    {paths rows : List (List ℕ)} → IsGammoid vertices arcs sources targets → IsSet (length targets) F
+    → ((v : ℕ) → is_member v ends ≡ is_member v (vertices_of targets F)) → IsLinking arcs sources ends paths separator
+    → AreArcRows vertices arcs rows → IsReachedSet vertices (is_open_arc rows separator) (λ v. is_member v sources) reached
+    → beside ≡ minus reached separator → closing ≡ intersection reached separator
+    → AreClosingSets vertices arcs sources targets F beside closing
+AreClosingSets-reached {vertices} {arcs} {sources} {targets} {F} {ends} {separator} {reached} {beside} {closing} {paths} {rows}
+    given set members linking r reach is_beside is_closing =
+    let vs = vertices_of targets F in
+    let separates = IsSeparator-members arcs sources ends vs separator members linking.separates in
+    let inside = given.sources_inside.below in
+    rw (is_beside, is_closing) (record {
+      beside_set = IsSet-beside vertices arcs sources vs separator reached rows given.graph inside r reach separates;
+      closing_set = IsSet-gate vertices arcs sources vs separator reached rows given.graph inside r reach separates;
+      closed = closes_off vertices arcs sources vs separator reached rows given.graph inside r reach separates;
+      few = λ largest maximal. (let gate = length-gate vertices arcs sources vs separator reached rows given.graph inside r reach separates in
+          let most = length-separator vertices arcs sources targets given F largest set maximal ends members paths separator linking in
+          omega (arith, gate, most));
+    })

@@ -90,66 +90,24 @@ none_told : (met : Bool) (m : ℕ) → None ≡ (if met then Some m else None) �
 none_told true m told = absurd (none-some m told)
 none_told false m told = refl
 
-module _ (n : ℕ) (first second : Tree) (cut : List ℕ) (last : ℕ) (firsts seconds : List Demand) (parts : List Most) where
-  abbrev failing : Option ℕ
-  failing =
-      if not (are_met (firsts ++ seconds) (map bound_part parts)) then Some 3 else
-      (if not (bounds_common_sets first second n cut last (drop (length (firsts ++ seconds)) (map bound_part parts))) then Some 4 else None)
-
-  unmet_fails : are_met (firsts ++ seconds) (map bound_part parts) ≡ false → failing ≡ Some 3
-  unmet_fails unmet = ap (λ met. if not met then Some 3 else (if not (bounds_common_sets first second n cut last
-      (drop (length (firsts ++ seconds)) (map bound_part parts))) then Some 4 else None)) unmet
-
-  -- the demands of the first half are not met
-  pub first_fails : None ≡ (if are_met firsts (map bound_part parts) then Some (length firsts) else None) → failing ≡ Some 3
-  first_fails told =
-      unmet_fails (met_in_turn firsts seconds (map bound_part parts)
-      ∙ ap (λ met. met && are_met seconds (drop (length firsts) (map bound_part parts))) (none_told _ _ told))
-
-  module _ (count : ℕ) (told : Some count ≡ (if are_met firsts (map bound_part parts) then Some (length firsts) else None)) (rest : List Most)
-      (behind : rest ≡ drop count parts) where
-    left_over : drop (length firsts) (map bound_part parts) ≡ map bound_part rest
-    left_over =
-        drop-map bound_part (length firsts) parts
-        ∙ ap (map bound_part) (ap (λ m. drop m parts) (cond_some _ (length firsts) count (sym told)).1 ∙ sym behind)
-
-    met_by_rest : are_met (firsts ++ seconds) (map bound_part parts) ≡ are_met seconds (map bound_part rest)
-    met_by_rest =
-        met_in_turn firsts seconds (map bound_part parts)
-        ∙ ap (λ met. met && are_met seconds (drop (length firsts) (map bound_part parts))) (cond_some _ (length firsts) count (sym told)).0
-        ∙ ap (are_met seconds) left_over
-
-    -- those of the second half are not met
-    pub second_fails : None ≡ (if are_met seconds (map bound_part rest) then Some (length seconds) else None) → failing ≡ Some 3
-    second_fails none = unmet_fails (met_by_rest ∙ none_told _ _ none)
-
-    -- all are met, and the two bounds for the cut show this
-    pub both_met : (more : ℕ) → Some more ≡ (if are_met seconds (map bound_part rest) then Some (length seconds) else None) → (two : List Most)
-        → two ≡ drop more rest → (bound : Bool) → bounds_common_sets first second n cut last (map bound_part two) ≡ bound
-        → failing ≡ (if not bound then Some 4 else None)
-    both_met more told_more two is bound shown =
-        let there = cond_some (are_met seconds (map bound_part rest)) (length seconds) more (sym told_more) in
-        let left : drop (length (firsts ++ seconds)) (map bound_part parts) ≡ map bound_part two
-        = drop_more firsts seconds (map bound_part parts) ∙ ap (drop (length seconds)) left_over ∙ drop-map bound_part (length seconds) rest
-        ∙ ap (map bound_part) (ap (λ m. drop m rest) there.1 ∙ sym is) in
-        ap (λ met. if not met then Some 3 else (if not (bounds_common_sets first second n cut last
-        (drop (length (firsts ++ seconds)) (map bound_part parts))) then Some 4 else None)) (met_by_rest ∙ there.0)
-        ∙ ap (λ b. if not b then Some 4 else None) (ap (bounds_common_sets first second n cut last) left ∙ shown)
-
 -- ---- of a rung
 
--- the bounds in turn: enough for the demands of the first half, of the first matroid's kind; so for the second; and two for the cut
-pub record AreInTurn (n : ℕ) (first second : Tree) (firsts seconds : List Demand) (parts : List Most) : Type 0 where
-  pub first_enough : length firsts ≤ length parts
-  pub first_at : (i : ℕ) (part : Most) → i < length firsts → IsBoundFor n first (bound_part (get_or parts i part))
-  pub second_enough : length seconds ≤ length (drop (length firsts) parts)
-  pub second_at : (i : ℕ) (part : Most) → i < length seconds → IsBoundFor n second (bound_part (get_or (drop (length firsts) parts) i part))
-  pub last_two : AreBoundsFor n (first ∷ second ∷ []) (map bound_part (drop (length seconds) (drop (length firsts) parts)))
+-- the bounds behind those of the first half: enough for the demands of the second, of the second matroid's kind, and two for the cut
+pub record AreLeft (n : ℕ) (first second : Tree) (seconds : List Demand) (rest : List Most) : Type 0 where
+  pub enough : length seconds ≤ length rest
+  pub at : (i : ℕ) (part : Most) → i < length seconds → IsBoundFor n second (bound_part (get_or rest i part))
+  pub ends : AreBoundsFor n (first ∷ second ∷ []) (map bound_part (drop (length seconds) rest))
 
-in_turn : (n : ℕ) (first second : Tree) (k : ℕ) (rung : PricedRung) (parts : List Most)
+-- the bounds in turn: enough for the demands of the first half, of the first matroid's kind, and then the others
+pub record AreInTurn (n : ℕ) (first second : Tree) (firsts seconds : List Demand) (parts : List Most) : Type 0 where
+  pub enough : length firsts ≤ length parts
+  pub at : (i : ℕ) (part : Most) → i < length firsts → IsBoundFor n first (bound_part (get_or parts i part))
+  pub left : AreLeft n first second seconds (drop (length firsts) parts)
+
+pub in_turn : {n : ℕ} {first second : Tree} {parts : List Most} (k : ℕ) (rung : PricedRung)
     → AreBoundsFor n (bounded_trees first second k rung) (map bound_part parts)
     → AreInTurn n first second (demands_under first k rung.set rung.first) (demands_under second k rung.set rung.second) parts
-in_turn n first second k rung parts for =
+in_turn {n} {first} {second} {parts} k rung for =
     let firsts = demands_under first k rung.set rung.first in
     let seconds = demands_under second k rung.set rung.second in
     let last : List Tree = first ∷ second ∷ [] in
@@ -160,73 +118,87 @@ in_turn n first second k rung parts for =
     let three : AreBoundsFor n (trees_in firsts ++ others) (map bound_part parts) = subst (λ trees. AreBoundsFor n trees (map bound_part parts)) same for in
     let two : AreBoundsFor n others (map bound_part rest) = bounds_left n others firsts parts three in
     record {
-      first_enough = enough_bounds n others firsts parts three;
-      first_at = bounds_at n others first firsts parts (demands_alike first k rung.set rung.first) three;
-      second_enough = enough_bounds n last seconds rest two;
-      second_at = bounds_at n last second seconds rest (demands_alike second k rung.set rung.second) two;
-      last_two = bounds_left n last seconds rest two;
+      enough = enough_bounds n others firsts parts three;
+      at = bounds_at n others first firsts parts (demands_alike first k rung.set rung.first) three;
+      left = record {
+        enough = enough_bounds n last seconds rest two;
+        at = bounds_at n last second seconds rest (demands_alike second k rung.set rung.second) two;
+        ends = bounds_left n last seconds rest two;
+      };
     }
+
+-- what is told of demands that are all met
+module _ (demands : List Demand) (parts : List Most) {count : ℕ}
+    (told : Some count ≡ (if are_met demands (map bound_part parts) then Some (length demands) else None)) where
+  all_met : are_met demands (map bound_part parts) ≡ true
+  all_met = (cond_some _ (length demands) count (sym told)).0
+
+  is_count : length demands ≡ count
+  is_count = (cond_some _ (length demands) count (sym told)).1
+
+  is_rest : {rest : List Most} → rest ≡ drop count parts → drop (length demands) parts ≡ rest
+  is_rest behind = ap (λ m. drop m parts) is_count ∙ sym behind
 
 -- ---- as the bounds are counted
 
--- what is told of a half, where it lies before the code as a slice
-pub as_told : {found : Option ℕ} (tree : Tree) (k : ℕ) (set : List ℕ) (half other : List Weight) (parts : List Most) (shown : Option ℕ) → found ≡ shown
-    → found ≡ (if are_met (demands_under tree k set half) (map bound_part parts) then Some (length (demands_under tree k set half)) else None)
-    → half ≡ other
-    → shown ≡ (if are_met (demands_under tree k set other) (map bound_part parts) then Some (length (demands_under tree k set other)) else None)
-as_told tree k set half other parts shown is told same =
-    sym is ∙ told ∙ ap (λ w. if are_met (demands_under tree k set w) (map bound_part parts) then Some (length (demands_under tree k set w)) else None) same
+-- those behind the first half's
+module _ {n : ℕ} {first second : Tree} {seconds : List Demand} {rest : List Most} (left : AreLeft n first second seconds rest) {count : ℕ}
+    (told : Some count ≡ (if are_met seconds (map bound_part rest) then Some (length seconds) else None)) where
+  pub second_fits : count ≤ length rest
+  second_fits = subst (λ m. m ≤ length rest) (is_count seconds rest told) left.enough
 
-module _ (n : ℕ) (first second : Tree) (k : ℕ) (rung : PricedRung) (parts : List Most)
-    (for : AreBoundsFor n (bounded_trees first second k rung) (map bound_part parts)) where
-  abbrev firsts : List Demand
-  firsts = demands_under first k rung.set rung.first
+  pub last_two : {two : List Most} → two ≡ drop count rest → AreBoundsFor n (first ∷ second ∷ []) (map bound_part two)
+  last_two behind =
+      subst (λ (bounds : List Most). AreBoundsFor n (first ∷ second ∷ []) (map bound_part bounds)) (is_rest seconds rest told behind) left.ends
 
-  abbrev seconds : List Demand
-  seconds = demands_under second k rung.set rung.second
-
-  turn : AreInTurn n first second firsts seconds parts
-  turn = in_turn n first second k rung parts for
-
-  -- the bounds for the first half
-  pub first_enough : (half : List Weight) → half ≡ rung.first → length (demands_under first k rung.set half) ≤ length parts
-  first_enough half is = subst (λ w. length (demands_under first k rung.set w) ≤ length parts) (sym is) turn.first_enough
-
-  pub first_at : (half : List Weight) → half ≡ rung.first → (i : ℕ) (part : Most) → i < length (demands_under first k rung.set half)
-      → IsBoundFor n first (bound_part (get_or parts i part))
-  first_at half is i part small = turn.first_at i part (subst (λ w. i < length (demands_under first k rung.set w)) is small)
-
-  module _ (count : ℕ) (told : Some count ≡ (if are_met firsts (map bound_part parts) then Some (length firsts) else None)) where
-    is_count : length firsts ≡ count
-    is_count = (cond_some _ (length firsts) count (sym told)).1
-
+module _ {n : ℕ} {first second : Tree} {firsts seconds : List Demand} {parts : List Most} (turn : AreInTurn n first second firsts seconds parts) where
+  module _ {count : ℕ} (told : Some count ≡ (if are_met firsts (map bound_part parts) then Some (length firsts) else None)) where
     pub first_fits : count ≤ length parts
-    first_fits = subst (λ m. m ≤ length parts) is_count turn.first_enough
+    first_fits = subst (λ m. m ≤ length parts) (is_count firsts parts told) turn.enough
 
-    module _ (rest : List Most) (behind : rest ≡ drop count parts) where
-      is_rest : drop (length firsts) parts ≡ rest
-      is_rest = ap (λ m. drop m parts) is_count ∙ sym behind
+    pub behind_first : {rest : List Most} → rest ≡ drop count parts → AreLeft n first second seconds rest
+    behind_first behind = subst (AreLeft n first second seconds) (is_rest firsts parts told behind) turn.left
 
-      -- those for the second half
-      pub second_enough : (half : List Weight) → half ≡ rung.second → length (demands_under second k rung.set half) ≤ length rest
-      second_enough half is = subst (λ w. length (demands_under second k rung.set w) ≤ length rest) (sym is)
-          (subst (λ (bounds : List Most). length seconds ≤ length bounds) is_rest turn.second_enough)
+  -- which part fails
+  module _ (cut : List ℕ) (last : ℕ) where
+    abbrev failing : Option ℕ
+    failing =
+        if not (are_met (firsts ++ seconds) (map bound_part parts)) then Some 3 else
+        (if not (bounds_common_sets first second n cut last (drop (length (firsts ++ seconds)) (map bound_part parts))) then Some 4 else None)
 
-      pub second_at : (half : List Weight) → half ≡ rung.second → (i : ℕ) (part : Most) → i < length (demands_under second k rung.set half)
-          → IsBoundFor n second (bound_part (get_or rest i part))
-      second_at half is i part small =
-          subst (λ (bounds : List Most). IsBoundFor n second (bound_part (get_or bounds i part))) is_rest
-          (turn.second_at i part (subst (λ w. i < length (demands_under second k rung.set w)) is small))
+    unmet_fails : are_met (firsts ++ seconds) (map bound_part parts) ≡ false → Some 3 ≡ failing
+    unmet_fails unmet = sym (ap (λ met. if not met then Some 3 else (if not (bounds_common_sets first second n cut last
+        (drop (length (firsts ++ seconds)) (map bound_part parts))) then Some 4 else None)) unmet)
 
-      module _ (more : ℕ) (told_more : Some more ≡ (if are_met seconds (map bound_part rest) then Some (length seconds) else None)) where
-        is_more : length seconds ≡ more
-        is_more = (cond_some _ (length seconds) more (sym told_more)).1
+    -- the demands of the first half are not met
+    pub first_fails : None ≡ (if are_met firsts (map bound_part parts) then Some (length firsts) else None) → Some 3 ≡ failing
+    first_fails none =
+        unmet_fails (met_in_turn firsts seconds (map bound_part parts)
+        ∙ ap (λ met. met && are_met seconds (drop (length firsts) (map bound_part parts))) (none_told _ _ none))
 
-        pub second_fits : more ≤ length rest
-        second_fits = subst (λ m. m ≤ length rest) is_more (second_enough rung.second refl)
+    module _ {count : ℕ} {rest : List Most} (told : Some count ≡ (if are_met firsts (map bound_part parts) then Some (length firsts) else None))
+        (behind : rest ≡ drop count parts) where
+      left_over : drop (length firsts) (map bound_part parts) ≡ map bound_part rest
+      left_over = drop-map bound_part (length firsts) parts ∙ ap (map bound_part) (is_rest firsts parts told behind)
 
-        -- those for the cut
-        pub last_two : (two : List Most) → two ≡ drop more rest → AreBoundsFor n (first ∷ second ∷ []) (map bound_part two)
-        last_two two is =
-            subst (λ bounds. AreBoundsFor n (first ∷ second ∷ []) (map bound_part bounds))
-            (ap (drop (length seconds)) is_rest ∙ ap (λ m. drop m rest) is_more ∙ sym is) turn.last_two
+      met_by_rest : are_met (firsts ++ seconds) (map bound_part parts) ≡ are_met seconds (map bound_part rest)
+      met_by_rest =
+          met_in_turn firsts seconds (map bound_part parts)
+          ∙ ap (λ met. met && are_met seconds (drop (length firsts) (map bound_part parts))) (all_met firsts parts told)
+          ∙ ap (are_met seconds) left_over
+
+      -- those of the second half are not met
+      pub second_fails : None ≡ (if are_met seconds (map bound_part rest) then Some (length seconds) else None) → Some 3 ≡ failing
+      second_fails none = unmet_fails (met_by_rest ∙ none_told _ _ none)
+
+      -- all are met, and it rests with the two bounds for the cut
+      pub both_met : {more : ℕ} {two : List Most} {bound : Bool}
+          → Some more ≡ (if are_met seconds (map bound_part rest) then Some (length seconds) else None) → two ≡ drop more rest
+          → bounds_common_sets first second n cut last (map bound_part two) ≡ bound → (if not bound then Some 4 else None) ≡ failing
+      both_met {more} {two} {bound} told_more is shown =
+          let left : drop (length (firsts ++ seconds)) (map bound_part parts) ≡ map bound_part two
+          = drop_more firsts seconds (map bound_part parts) ∙ ap (drop (length seconds)) left_over ∙ drop-map bound_part (length seconds) rest
+          ∙ ap (map bound_part) (is_rest seconds rest told_more is) in
+          sym (ap (λ met. if not met then Some 3 else (if not (bounds_common_sets first second n cut last
+          (drop (length (firsts ++ seconds)) (map bound_part parts))) then Some 4 else None)) (met_by_rest ∙ all_met seconds rest told_more)
+          ∙ ap (λ b. if not b then Some 4 else None) (ap (bounds_common_sets first second n cut last) left ∙ shown))

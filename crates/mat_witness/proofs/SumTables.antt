@@ -107,19 +107,19 @@ fine_member vertices edges X e given m =
     }
 
 -- the edge before place i
-pub fine_before : (vertices : ℕ) (edges : List (ℕ × ℕ)) (X : List ℕ) (i count e : ℕ) → IsGraph vertices edges
-    → is_graphic (length edges) (ends_of edges) X ≡ true → 0 < i → i ≤ count → count ≡ length X → e ≡ get_or X (i - 1) 0
+pub fine_before : {vertices : ℕ} {edges : List (ℕ × ℕ)} (X : List ℕ) {i count e : ℕ} → IsGraph vertices edges
+    → is_graphic (length edges) (ends_of edges) X ≡ true → e ≡ get_or X (i - 1) 0 → count ≡ length X → 0 < i → i ≤ count
     → IsFine vertices edges e
-fine_before vertices edges X i count e graph passes some inside all here =
+fine_before {vertices} {edges} X {i} {count} {e} graph passes here all some inside =
     fine_member vertices edges X e (IsForestOf-from_test vertices edges X graph passes)
     (is_member-get_or X (i - 1) e (omega arith) (sym here))
 
 -- there is room for it
-pub room_before : (f : ℕ → ℕ) (vertices : ℕ) (edges : List (ℕ × ℕ)) (X : List ℕ) (i count : ℕ) (table lent : List ℕ) (amount : ℕ)
-    → IsGraph vertices edges → is_graphic (length edges) (ends_of edges) X ≡ true → ((e : ℕ) → e < 2 ^ 32 → f e < 2 ^ 32) → 0 < i → i ≤ count
-    → count ≡ length X → IsSumTable f (ends_of edges) (drop i X) vertices table → amount < 2 ^ 32 → lent ≡ table
+pub room_before : {f : ℕ → ℕ} {vertices : ℕ} {edges : List (ℕ × ℕ)} (X : List ℕ) {i count : ℕ} {table lent : List ℕ} (amount : ℕ)
+    → IsGraph vertices edges → is_graphic (length edges) (ends_of edges) X ≡ true → IsSumTable f (ends_of edges) (drop i X) vertices table
+    → lent ≡ table → count ≡ length X → ((e : ℕ) → e < 2 ^ 32 → f e < 2 ^ 32) → 0 < i → i ≤ count → amount < 2 ^ 32
     → (v : ℕ) → v < length lent → get_or lent v 0 + amount < 2 ^ 64
-room_before f vertices edges X i count table lent amount graph passes small some inside all sums low same v l =
+room_before {f} {vertices} {edges} X {i} {count} {table} {lent} amount graph passes sums same all small some inside low v l =
     let given = IsForestOf-from_test vertices edges X graph passes in
     let fine : (g : ℕ) → is_member g (drop i X) ≡ true → IsFine vertices edges g =
     λ g m. fine_member vertices edges X g given (member_drop i X g m) in
@@ -130,12 +130,11 @@ room_before f vertices edges X i count table lent amount graph passes small some
     subst (λ t. get_or t v 0 + amount < 2 ^ 64) (sym same) (omega (arith, sums.at v (omega (arith, sums.long)), length-drop i X))
 
 -- the table after it, as it is lent and given back
-pub table_before : (f : ℕ → ℕ) (ends : ℕ → ℕ × ℕ) (X : List ℕ) (i count e vertices len : ℕ) (old lent new : List ℕ)
-    → 0 < i → i ≤ count → count ≡ length X → e ≡ get_or X (i - 1) 0 → IsSumTable f ends (drop i X) vertices old → lent ≡ old
-    → len ≡ length old → length new ≡ length lent
-    → ((v : ℕ) → v < length lent → get_or new v 0 ≡ at_ends (ends e) (f e) v + get_or lent v 0)
+pub table_before : {f : ℕ → ℕ} {ends : ℕ → ℕ × ℕ} (X : List ℕ) {i count e vertices len : ℕ} {old lent : List ℕ} (new : List ℕ)
+    → IsSumTable f ends (drop i X) vertices old → e ≡ get_or X (i - 1) 0 → lent ≡ old → len ≡ length old → length new ≡ length lent
+    → ((v : ℕ) → v < length lent → get_or new v 0 ≡ at_ends (ends e) (f e) v + get_or lent v 0) → count ≡ length X → 0 < i → i ≤ count
     → IsSumTable f ends (drop (i - 1) X) vertices (take len (new ++ drop (length new) old))
-table_before f ends X i count e vertices len old lent new some inside all here sums same size long more =
+table_before {f} {ends} X {i} {count} {e} {vertices} {len} {old} {lent} new sums here same size long more all some inside =
     let kept = ap length same in
     subst (IsSumTable f ends (drop (i - 1) X) vertices) (sym (written_back len new old (omega arith)))
     (table_more f ends (drop i X) (drop (i - 1) X) e vertices lent new

@@ -84,15 +84,15 @@ unfolding with_one
 all_number cap k most = omega arith
 
 -- or each element of the set is its member, since it could be added
-pub room_spent : (n cap : ℕ) (F I : List ℕ) → IsMaximal (is_uniform n cap) F I → AreSpent n 1 I []
-room_spent n cap F I maximal =
-    record { elements_inside = IsSet-from_test n I (and_parts (is_set n I) (leb (length I) cap) maximal.passes).0; chosen_inside = IsSet-nil 1 }
+pub room_spent : (n cap : ℕ) (I : List ℕ) → is_uniform n cap I ≡ true → AreSpent n 1 I []
+room_spent n cap I passes =
+    record { elements_inside = IsSet-from_test n I (and_parts (is_set n I) (leb (length I) cap) passes).0; chosen_inside = IsSet-nil 1 }
 
 pub room_shows : (n cap : ℕ) (F I : List ℕ) → IsSet n F → IsMaximal (is_uniform n cap) F I → length I < cap
     → are_covered (all_below n ∷ []) I [] F ≡ true
 room_shows n cap F I set maximal room =
     elements_cover (all_below n ∷ []) I F (record {
       inside = λ x m. true_from_ne_false _ (λ outside.
-          both_ways _ (maximal.full x m outside) (uniform-with_one n cap I x (room_spent n cap F I maximal).elements_inside (below_member set m) outside
+          both_ways _ (maximal.full x m outside) (uniform-with_one n cap I x (room_spent n cap I maximal.passes).elements_inside (below_member set m) outside
           ∙ lt-ltb (length I) cap room));
     })

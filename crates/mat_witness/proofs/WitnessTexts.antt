@@ -151,10 +151,10 @@ pub rung_taken : (rungs : List PricedRung) (k : ℕ) (rung : PricedRung) → k <
 rung_taken rungs k rung inside at = at ∙ get_or_default rungs k rung _ inside
 
 -- so its matroids and its halves are in range
-pub taken_ranges : (w : List Weight) (first second : Tree) (n : ℕ) (rungs : List PricedRung) (cut : List ℕ) (k : ℕ) (rung : PricedRung)
+pub taken_ranges : (w : List Weight) {first second : Tree} {n : ℕ} {rungs : List PricedRung} {cut : List ℕ} {k : ℕ} {rung : PricedRung}
     → IsValid (pair w first second) → IsRanged (intersect n rungs cut) → has_rung (intersect n rungs cut) k ≡ true
     → rung ≡ get_or rungs k rung → AreRungRanges (length w) k first second rung
-taken_ranges w first second n rungs cut k rung valid ranged has at =
+taken_ranges w {first} {second} {n} {rungs} {cut} {k} {rung} valid ranged has at =
     rung_ranges w first second n rungs cut k rung valid ranged has
     (slice_get_read rungs (length rungs) k rung refl (rung_inside n rungs cut k has) at)
 

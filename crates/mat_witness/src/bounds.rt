@@ -35,13 +35,9 @@ pub(crate) fn bound_shown(
         then Some (bound_of (tree_of matroid.now) (bound_part part.now)) else None)) }
 {
     match (matroid, part) {
-        (AnyMatroid::Uniform(uniform), Most::Spent { spent, sets }) => Ok(uniform_bound(
-            uniform.count(),
-            uniform.cap(),
-            spent,
-            sets,
-            set,
-        )),
+        (AnyMatroid::Uniform(uniform), Most::Spent { spent, sets }) => {
+            Ok(uniform_bound(uniform, spent, sets, set))
+        }
         (AnyMatroid::Partition(partition), Most::Spent { spent, sets }) => listed_bound(
             alloc,
             partition.classes(),

@@ -1,6 +1,6 @@
 //! Bounds in uniform, partition and laminar matroids: elements that count themselves, and listed sets that hold all others.
 
-ghost use Rattle.std.specs.Prelude.{◌≡◌, ◌<◌, ◌≤◌, ◌+◌, ◌||◌, ◌*◌, ℕ, nat_lt, if◌then◌else◌, true, [], ◌∷◌, length, filter, slice_index_or, All, IfOk, IfSome, OnOk, Some, None};
+ghost use Rattle.std.specs.Prelude.{◌≡◌, ◌<◌, ◌≤◌, ◌+◌, ◌||◌, ◌*◌, ℕ, nat_lt, if◌then◌else◌, true, List, [], ◌∷◌, length, filter, slice_index_or, All, IfOk, IfSome, OnOk, Some, None};
 ghost use Rattle.std.specs.List.{list_all};
 ghost use Rattle.mat_sets.specs.Limits.{most_elements};
 ghost use Rattle.mat_sets.specs.Sets.{AllBelow, IsRising, IsSet, all_below, intersection, is_member};
@@ -15,6 +15,7 @@ ghost use Rattle.mat_witness.specs.Parts.{IsBoundFor};
 ghost use Rattle.mat_witness.specs.Views.{bound_part};
 
 use crate::witness::Most;
+use mat_count::Uniform;
 use mat_sets::{BitSet, ElemSet, SetList};
 use std::alloc::{AllocError, Global};
 
@@ -94,21 +95,20 @@ pub(crate) fn listed_bound(
 
 /// The same in a uniform matroid, whose one listed set has all elements.
 pub(crate) fn uniform_bound(
-    count: u32,
-    cap: u32,
+    matroid: &Uniform,
     spent: &ElemSet,
     chosen: &ElemSet,
     set: &ElemSet,
 ) -> Option<u32>
-    requires small { cap ≤ most_elements }
+    requires small { matroid.now.cap ≤ most_elements }
     requires spent { length spent.now ≤ most_elements }
     requires chosen { IsSet 1 chosen.now }
-    requires set { IsSet count set.now }
-    ensures { result ≡ (if are_covered (all_below count ∷ []) spent.now chosen.now set.now
-        then Some (length spent.now + caps_sum (cap ∷ []) chosen.now) else None) }
+    requires set { IsSet matroid.now.count set.now }
+    ensures { result ≡ (if are_covered (all_below matroid.now.count ∷ []) spent.now chosen.now set.now
+        then Some (length spent.now + caps_sum (matroid.now.cap ∷ []) chosen.now) else None) }
 {
     if !chosen.is_empty() {
-        return Some(spent.len() as u32 + cap);
+        return Some(spent.len() as u32 + matroid.cap());
     }
     if set.is_subset(spent) {
         return Some(spent.len() as u32);
@@ -243,22 +243,22 @@ pub(crate) fn filled_bound(
     })
 }
 
-/// In a uniform matroid, the set of all elements where a maximal independent subset of a set fills it, and else that subset, which is the
-/// set: the number is that of the subset. The only error is want of memory.
+/// In a uniform matroid, a bound for each set in which an independent set is maximal: the one listed set, of all elements, where the
+/// independent set fills it, and else its own members, since it is maximal in no other set then. The number is that of its members. The
+/// only error is want of memory.
 pub(crate) fn filled_uniform(
     alloc: Global,
-    count: u32,
-    cap: u32,
-    set: &ElemSet,
+    matroid: &Uniform,
     inside: &ElemSet,
 ) -> Result<Most, AllocError>
-    requires set { IsSet count set.now }
-    requires maximal { IsMaximal (is_uniform count cap) set.now inside.now }
-    ensures part { IfOk result (λ part. IsBoundFor count (uniform count cap) (bound_part part)) }
-    ensures shows { IfOk result (λ part. shows_bound (uniform count cap) (bound_part part) set.now ≡ true) }
-    ensures number { IfOk result (λ part. bound_of (uniform count cap) (bound_part part) ≤ length inside.now) }
+    requires inside { is_uniform matroid.now.count matroid.now.cap inside.now ≡ true }
+    ensures part { IfOk result (λ part. IsBoundFor matroid.now.count (uniform matroid.now.count matroid.now.cap) (bound_part part)) }
+    ensures shows { IfOk result (λ part. (set : List ℕ) → IsSet matroid.now.count set
+        → IsMaximal (is_uniform matroid.now.count matroid.now.cap) set inside.now
+        → shows_bound (uniform matroid.now.count matroid.now.cap) (bound_part part) set ≡ true) }
+    ensures number { IfOk result (λ part. bound_of (uniform matroid.now.count matroid.now.cap) (bound_part part) ≤ length inside.now) }
 {
-    if inside.len() < cap as usize {
+    if inside.len() < matroid.cap() as usize {
         let spent = inside.copy(alloc)?;
         let sets = ElemSet::new(alloc);
         return Ok(Most::Spent { spent, sets });

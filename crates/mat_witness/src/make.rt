@@ -11,7 +11,6 @@ ghost use Rattle.mat_any.specs.Views.{tree_of};
 ghost use Rattle.mat_cert.specs.Certificates.{IsRanged};
 ghost use Rattle.mat_cert.specs.Views.{certificate_of};
 ghost use Rattle.mat_desc.specs.Grammar.{IsValid};
-ghost use Rattle.mat_desc.specs.Instances.{pair};
 ghost use Rattle.mat_desc.specs.Soundness.{IsSoundInstance};
 ghost use Rattle.mat_desc.specs.Views.{instance_of};
 ghost use Rattle.mat_witness.specs.BoundParts.{bound_of, shows_bound};
@@ -157,36 +156,6 @@ fn rung_witness(
     })
 }
 
-// A witness that shows rung k of a right answer to a problem of two matroids.
-fn pair_witness(
-    alloc: Global,
-    weights: &[Weight],
-    first: &AnyMatroid,
-    second: &AnyMatroid,
-    answer: &Answer,
-    k: u32,
-) -> Result<Witness, AllocError>
-    requires valid { IsValid (pair weights.now (tree_of first.now) (tree_of second.now)) }
-    requires sound { IsSoundInstance (pair weights.now (tree_of first.now) (tree_of second.now)) }
-    requires witnessed { is_witnessed_pair (pair weights.now (tree_of first.now) (tree_of second.now)) ≡ true }
-    requires ranged { IsRanged (certificate_of answer.now) }
-    requires rung { has_rung (certificate_of answer.now) k ≡ true }
-    requires right { IsRightRungOf (pair weights.now (tree_of first.now) (tree_of second.now)) (certificate_of answer.now) k }
-    ensures witness { IfOk result (λ w. IsWitnessFor (pair weights.now (tree_of first.now) (tree_of second.now)) (certificate_of answer.now) k
-        (witness_parts w)) }
-    ensures shown { IfOk result (λ w. IsShown (pair weights.now (tree_of first.now) (tree_of second.now)) (certificate_of answer.now) k
-        (witness_parts w)) }
-{
-    let _weights = weights;
-    match answer {
-        Answer::Intersect { rungs, cut, .. } => {
-            let rungs = rungs.as_slice();
-            rung_witness(alloc, first, second, k, &rungs[k as usize], cut)
-        }
-        _ => unreachable!(),
-    }
-}
-
 /// A witness that shows rung k of a right answer to a problem of two matroids of witnessed kinds. The only error is want of memory.
 pub fn make_witness(
     alloc: Global,
@@ -203,12 +172,10 @@ pub fn make_witness(
     ensures witness { IfOk result (λ w. IsWitnessFor (instance_of problem.now) (certificate_of answer.now) k (witness_parts w)) }
     ensures shown { IfOk result (λ w. IsShown (instance_of problem.now) (certificate_of answer.now) k (witness_parts w)) }
 {
-    match problem {
-        Problem::Pair {
-            weights,
-            first,
-            second,
-        } => pair_witness(alloc, weights.as_slice(), first, second, answer, k),
+    match (problem, answer) {
+        (Problem::Pair { first, second, .. }, Answer::Intersect { rungs, cut, .. }) => {
+            rung_witness(alloc, first, second, k, &rungs[k as usize], cut)
+        }
         _ => unreachable!(),
     }
 }

@@ -59,9 +59,7 @@ pub(crate) fn bound_for(
     ensures number { IfOk result (λ part. bound_of (tree_of matroid.now) (bound_part part) ≤ length inside.now) }
 {
     match matroid {
-        AnyMatroid::Uniform(uniform) => {
-            filled_uniform(alloc, uniform.count(), uniform.cap(), set, inside)
-        }
+        AnyMatroid::Uniform(uniform) => filled_uniform(alloc, uniform, inside),
         AnyMatroid::Partition(partition) => filled_bound(
             alloc,
             partition.count(),
@@ -83,7 +81,7 @@ pub(crate) fn bound_for(
             let (reach, gate) = closing_sets(alloc, gammoid, set)?;
             Ok(Most::Gate { reach, gate })
         }
-        AnyMatroid::Gf2(gf2) => Ok(Most::Zeros(zeros_of(alloc, gf2, set, inside)?)),
+        AnyMatroid::Gf2(gf2) => Ok(Most::Zeros(zeros_of(alloc, gf2, inside)?)),
         _ => unreachable!(),
     }
 }

@@ -1,6 +1,6 @@
 //! Equations that hold of the columns of a set, in linear matroids over the field of two elements.
 
-ghost use Rattle.std.specs.Prelude.{◌≡◌, ◌<◌, ◌≤◌, ◌-◌, ◌^◌, not, if◌then◌else◌, true, length, All, IfOk, Some, None};
+ghost use Rattle.std.specs.Prelude.{◌≡◌, ℕ, ◌<◌, ◌≤◌, ◌-◌, ◌^◌, not, if◌then◌else◌, true, List, length, All, IfOk, Some, None};
 ghost use Rattle.std.specs.List.{list_all};
 ghost use Rattle.mat_sets.specs.Sets.{AllBelow, IsSet, all_below};
 ghost use Rattle.mat_laws.specs.Matroids.{IsMaximal};
@@ -56,11 +56,10 @@ fn ones_of_others(numbers: &[u128], place: usize) -> u128
 }
 
 // Whether each number has a one at a place where the others have none.
-fn have_own_ones(dim: u32, numbers: &[u128]) -> bool
-    requires { All (λ zero. zero < 2 ^ dim) numbers.now }
-    ensures { result ≡ list_all (has_own_one dim numbers.now) (all_below (length numbers.now)) }
+fn have_own_ones(numbers: &[u128]) -> bool
+    ensures { (dim : ℕ) → All (λ zero. zero < 2 ^ dim) numbers.now
+        → result ≡ list_all (has_own_one dim numbers.now) (all_below (length numbers.now)) }
 {
-    let _places = dim;
     for i in 0..numbers.len() {
         if numbers[i] & ones_of_others(numbers, i) == numbers[i] {
             return false;
@@ -79,30 +78,30 @@ pub(crate) fn zeros_bound(matroid: &Gf2, numbers: &[u128], set: &ElemSet) -> Opt
     ensures { result ≡ (if are_zeros matroid.now.dim (column_of matroid.now.columns) numbers.now set.now
         then Some (matroid.now.dim - length numbers.now) else None) }
 {
-    let dim = matroid.dim();
     if !all_meet_evenly(matroid.columns(), set.as_slice(), numbers) {
         return None;
     }
-    if !have_own_ones(dim, numbers) {
+    if !have_own_ones(numbers) {
         return None;
     }
-    Some(dim - numbers.len() as u32)
+    Some(matroid.dim() - numbers.len() as u32)
 }
 
-/// Numbers that have an even number of binary ones in common with each column of a set, each with a one of its own: at first one for each
-/// entry, of which each column of a maximal independent subset takes away at most one. The only error is want of memory.
+/// Numbers that have an even number of binary ones in common with each column of an independent set, and so of any set in which it is
+/// maximal, each with a one of its own: at first one for each entry, of which each column takes away at most one. The only error is want of
+/// memory.
 pub(crate) fn zeros_of(
     alloc: Global,
     matroid: &Gf2,
-    set: &ElemSet,
     inside: &ElemSet,
 ) -> Result<Vec<u128>, AllocError>
     requires sound { IsBinaryMatrix matroid.now.dim matroid.now.columns }
-    requires set { IsSet (length matroid.now.columns) set.now }
-    requires maximal { IsMaximal (is_gf2 (length matroid.now.columns) (column_of matroid.now.columns)) set.now inside.now }
+    requires inside { is_gf2 (length matroid.now.columns) (column_of matroid.now.columns) inside.now ≡ true }
     ensures part { IfOk result (λ numbers. IsBoundFor (length matroid.now.columns) (gf2 matroid.now.dim matroid.now.columns)
         (zeros numbers.items)) }
-    ensures shows { IfOk result (λ numbers. shows_bound (gf2 matroid.now.dim matroid.now.columns) (zeros numbers.items) set.now ≡ true) }
+    ensures shows { IfOk result (λ numbers. (set : List ℕ) → IsSet (length matroid.now.columns) set
+        → IsMaximal (is_gf2 (length matroid.now.columns) (column_of matroid.now.columns)) set inside.now
+        → shows_bound (gf2 matroid.now.dim matroid.now.columns) (zeros numbers.items) set ≡ true) }
     ensures number { IfOk result (λ numbers. bound_of (gf2 matroid.now.dim matroid.now.columns) (zeros numbers.items)
         ≤ length inside.now) }
 {

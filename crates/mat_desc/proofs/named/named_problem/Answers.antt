@@ -1,7 +1,7 @@
-use Rattle.mat_desc.specs.Views.{labelled}
-use Rattle.mat_desc.proofs.ProblemLaws.{labelled_valid}
+use Rattle.mat_desc.specs.Views.{written_instance}
+use Rattle.mat_desc.proofs.ProblemLaws.{written_valid}
 use Rattle.mat_desc.proofs.named.named_problem.Goals as goal
 
-pub with_names-requires : goal.with_names-requires
-with_names-requires c =
-    labelled_valid c.args.text.now (labelled c.in_ok-problem.problem c.in_ok-problem.labels) c.in_ok-problem.ensures
+pub names_by-requires : goal.names_by-requires
+names_by-requires c =
+    written_valid c.args.text.now (written_instance c.in_ok-problem.problem c.in_ok-problem.notation) c.in_ok-problem.ensures

@@ -13,7 +13,7 @@ returns c =
       c.in_ok-many.ensures.value,
       c.in_ok-colours.ensures.value,
       c.in_ok-ended.ensures,
-      c.in_ok-labels.ensures.value,
+      c.in_ok-notation.ensures.value,
       sym c.vertex_names-names.ensures,
       read.value,
       edges-zip items.edges items.colour_of.items items.weights read.coloured read.as_many,

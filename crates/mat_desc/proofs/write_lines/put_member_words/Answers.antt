@@ -2,7 +2,7 @@ use Rattle.std.proofs.Common.{◌<◌, ◌∷◌, get_or, arith, rules}
 use Rattle.mat_sets.specs.Sets.{AllBelow}
 use Rattle.mat_sets.proofs.Sums.{AllBelow-at}
 use Rattle.mat_words.proofs.WrittenLines.{item_written}
-use Rattle.mat_desc.specs.Labels.{word_for}
+use Rattle.mat_desc.specs.Notations.{word_for}
 use Rattle.mat_desc.specs.Views.{naming}
 use Rattle.mat_desc.proofs.NamedParts.{where_named}
 use Rattle.mat_desc.proofs.Writing.{words_done}

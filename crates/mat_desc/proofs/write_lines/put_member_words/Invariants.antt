@@ -1,6 +1,6 @@
 use Rattle.std.proofs.Common.{◌≡◌, ◌++◌, ◌∷◌, take}
 use Rattle.std.specs.List.{flat_map}
-use Rattle.mat_desc.specs.Labels.{word_for}
+use Rattle.mat_desc.specs.Notations.{word_for}
 use Rattle.mat_desc.specs.Views.{naming}
 use Rattle.mat_desc.proofs.write_lines.put_member_words.Given as goal
 

@@ -6,5 +6,5 @@ pub filled_bound-requires-clause-sound : goal.filled_bound-requires-clause-sound
 filled_bound-requires-clause-sound c =
     let partition = c.in-Partition.partition in
     let witnessed = rw c.in-Partition.is at c.requires.witnessed in
-    rw (c.count-in-Partition.ensures, c.classes.ensures, c.caps.ensures)
+    rw (c.count.ensures, c.classes.ensures, c.caps.ensures)
     (disjoint_is_laminar partition.count partition.classes partition.caps witnessed.sound)

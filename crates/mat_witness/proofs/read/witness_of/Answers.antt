@@ -6,9 +6,8 @@ use Rattle.mat_witness.proofs.read.witness_of.Goals as goal
 pub witness_lines-requires : goal.witness_lines-requires
 witness_lines-requires c =
     let here = c.in-Pair-Intersect in
-    rw c.len-count.ensures (taken_ranges here.weights (tree_of here.first) (tree_of here.second) here.count-1 here.rungs.items here.cut-1 c.args.k
-    c.index-rung.result.now (rw here.is-0 at c.requires.valid) (rw here.is-1 at c.requires.ranged) (rw here.is-1 at c.requires.rung)
-    c.index-rung.ensures)
+    rw c.len-count.ensures (taken_ranges here.weights (rw here.is-0 at c.requires.valid) (rw here.is-1 at c.requires.ranged)
+    (rw here.is-1 at c.requires.rung) c.index-rung.ensures)
 
 pub returns-in-Pair-Intersect : goal.returns-in-Pair-Intersect
 returns-in-Pair-Intersect c =

@@ -8,15 +8,13 @@ use Rattle.mat_witness.proofs.write.write_witness.Goals as goal
 pub witness_text-requires-clause-first_half : goal.witness_text-requires-clause-first_half
 witness_text-requires-clause-first_half c =
     let here = c.in-Pair-Intersect in
-    (taken_ranges here.weights-0 (tree_of here.first) (tree_of here.second) here.count-1 here.rungs.items here.cut-1 c.args.k
-    c.index.result.now (rw here.is-0 at c.requires.valid) (rw here.is-1 at c.requires.ranged) (rw here.is-1 at c.requires.rung)
+    (taken_ranges here.weights-0 (rw here.is-0 at c.requires.valid) (rw here.is-1 at c.requires.ranged) (rw here.is-1 at c.requires.rung)
     c.index.ensures).first_half
 
 pub witness_text-requires-clause-second_half : goal.witness_text-requires-clause-second_half
 witness_text-requires-clause-second_half c =
     let here = c.in-Pair-Intersect in
-    (taken_ranges here.weights-0 (tree_of here.first) (tree_of here.second) here.count-1 here.rungs.items here.cut-1 c.args.k
-    c.index.result.now (rw here.is-0 at c.requires.valid) (rw here.is-1 at c.requires.ranged) (rw here.is-1 at c.requires.rung)
+    (taken_ranges here.weights-0 (rw here.is-0 at c.requires.valid) (rw here.is-1 at c.requires.ranged) (rw here.is-1 at c.requires.rung)
     c.index.ensures).second_half
 
 pub witness_text-requires-clause-bounds : goal.witness_text-requires-clause-bounds

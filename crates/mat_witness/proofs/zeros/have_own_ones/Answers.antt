@@ -5,22 +5,22 @@ use Rattle.mat_witness.proofs.PassingLists.{below_next, fails_below, passes_belo
 use Rattle.mat_witness.proofs.zeros.have_own_ones.Goals as goal
 
 pub returns-then-numbers-i : goal.returns-then-numbers-i
-returns-then-numbers-i c =
+returns-then-numbers-i c dim small =
     let numbers = c.args.numbers.now in
     let i = c.loop-i.i in
     let within = c.loop-i-test.true in
-    sym (fails_below (length numbers) (has_own_one c.args.dim numbers) i within
-    (no_own_one c.args.dim numbers i c.ones_of_others.result c.ones_of_others.ensures within (c.requires i 0 within) c.if-numbers-i.true))
+    sym (fails_below (length numbers) (has_own_one dim numbers) i within
+    (no_own_one dim numbers i c.ones_of_others.result c.ones_of_others.ensures within (small i 0 within) c.if-numbers-i.true))
 
 pub loop-i-preserved : goal.loop-i-preserved
-loop-i-preserved c =
+loop-i-preserved c dim small =
     let numbers = c.args.numbers.now in
     let i = c.loop-i.i in
     let within = c.loop-i-test.true in
-    below_next (λ i. has_own_one c.args.dim numbers i ≡ true) i c.loop-i.invariant
-    (own_one c.args.dim numbers i c.ones_of_others.result c.ones_of_others.ensures within (c.requires i 0 within) c.if-numbers-i.false)
+    below_next (λ i. has_own_one dim numbers i ≡ true) i (c.loop-i.invariant dim small)
+    (own_one dim numbers i c.ones_of_others.result c.ones_of_others.ensures within (small i 0 within) c.if-numbers-i.false)
 
 pub returns : goal.returns
-returns c =
+returns c dim small =
     let over = c.loop-i-test.false in
-    sym (passes_below (length c.args.numbers.now) (has_own_one c.args.dim c.args.numbers.now) (λ i l. c.loop-i.invariant i (omega arith)))
+    sym (passes_below (length c.args.numbers.now) (has_own_one dim c.args.numbers.now) (λ i l. c.loop-i.invariant dim small i (omega arith)))

@@ -15,7 +15,7 @@ pub bounds-columns-e : goal.bounds-columns-e
 bounds-columns-e c =
     let columns = c.args.matroid.now.columns in
     let below = item-below (length columns) (column_of columns) c.args.inside.now c.as_slice-e-items.result.now c.loop-e.e-index
-    c.requires.maximal.passes c.as_slice-e-items.ensures.items c.loop-e-test.true in
+    c.requires.inside c.as_slice-e-items.ensures.items c.loop-e-test.true in
     subst (λ (cs : List ℕ). get_or c.as_slice-e-items.result.now c.loop-e.e-index 0 < length cs) (sym c.columns.ensures) below
 
 pub loop-e-preserved : goal.loop-e-preserved
@@ -36,7 +36,7 @@ returns-clause-part c =
     (reduced.few, λ k d l. subst (λ x. x < 2 ^ c.args.matroid.now.dim) (get_or_default rows k 0 d l) (reduced.below k l))
 
 pub returns-clause-shows : goal.returns-clause-shows
-returns-clause-shows c =
+returns-clause-shows c set is_set maximal =
     let matroid = c.args.matroid.now in
     let column = column_of matroid.columns in
     let inside = c.args.inside.now in
@@ -45,5 +45,5 @@ returns-clause-shows c =
     let most = c.loop-e.auto.e-index-end in
     let long = ap length c.as_slice-e-items.ensures.items in
     let all : c.loop-e.e-index ≡ length inside = omega arith in
-    reduced_are_zeros (length matroid.columns) matroid.dim column c.args.set.now inside rows c.requires.set c.requires.maximal
+    reduced_are_zeros (length matroid.columns) matroid.dim column set inside rows is_set maximal
     (subst (λ i. AreReduced matroid.dim column inside i rows) all c.loop-e.invariant)

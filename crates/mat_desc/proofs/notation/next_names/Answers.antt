@@ -9,8 +9,8 @@ use Rattle.mat_words.specs.Names.{longest_name, is_among}
 use Rattle.mat_words.proofs.NameLemmas.{is_name-short}
 use Rattle.mat_words.proofs.WordReading.{word_found}
 use Rattle.mat_desc.specs.Reading.{names_from}
-use Rattle.mat_desc.proofs.LabelLaws.{words_cut, names_next, names_fail, names_done}
-use Rattle.mat_desc.proofs.labels.next_names.Goals as goal
+use Rattle.mat_desc.proofs.NotationLaws.{words_cut, names_next, names_fail, names_done}
+use Rattle.mat_desc.proofs.notation.next_names.Goals as goal
 
 pub returns-in_err-word : goal.returns-in_err-word
 returns-in_err-word c =

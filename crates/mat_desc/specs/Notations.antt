@@ -24,20 +24,20 @@ abbrev pub IsNaming : ℕ → Naming → Type 0
 IsNaming n None = Unit {0}
 IsNaming n (Some listed) = AreNames listed × (length listed ≡ n)
 
--- what stands for the elements and for the vertices of a problem
-pub data Labels : Type 0 where
+-- how a description writes the elements and the vertices of a problem
+pub data Notation : Type 0 where
   -- their numbers, in version 1
-  numbers : Labels
+  numbers : Notation
   -- the names of the elements and those of the vertices, in version 2
-  names : List (List ℕ) → List (List ℕ) → Labels
+  names : List (List ℕ) → List (List ℕ) → Notation
 
 -- how elements are written
-abbrev pub element_naming : Labels → Naming
+abbrev pub element_naming : Notation → Naming
 element_naming numbers = None
 element_naming (names elements vertices) = Some elements
 
 -- how vertices are written
-abbrev pub vertex_naming : Labels → Naming
+abbrev pub vertex_naming : Notation → Naming
 vertex_naming numbers = None
 vertex_naming (names elements vertices) = Some vertices
 
@@ -59,10 +59,10 @@ count_of_vertices (rooted vertices root arcs costs) = vertices
 count_of_vertices (coloured vertices colours edges colour_of weights) = vertices
 count_of_vertices (table rows columns cells weights) = 0
 
--- there is a label for each element and for each vertex, and no other
-abbrev pub AreLabels : Instance → Labels → Type 0
-AreLabels instance labels =
-    IsNaming (count_of_elements instance) (element_naming labels) × IsNaming (count_of_vertices instance) (vertex_naming labels)
+-- the problem may be written so: where there are names, there is one for each element and for each vertex, and no other
+abbrev pub IsNotationFor : Instance → Notation → Type 0
+IsNotationFor instance notation =
+    IsNaming (count_of_elements instance) (element_naming notation) × IsNaming (count_of_vertices instance) (vertex_naming notation)
 
 -- a problem, and the names of its elements and of its vertices
 pub record NamedInstance : Type 0 where
@@ -74,9 +74,9 @@ pub record NamedInstance : Type 0 where
 abbrev pub numbered : List ℕ → ℕ → List (List ℕ)
 numbered letter n = map (λ i. letter ++ numeral (pos i)) (all_below n)
 
--- The problem with the names that its labels give. Where these are numbers, the names are e0, e1 and so on, and v0, v1 and so on: none
+-- The problem with the names that the notation gives. Where it has numbers, the names are e0, e1 and so on, and v0, v1 and so on: none
 -- for the vertices of a form that has no vertices.
-abbrev pub named_by : Labels → Instance → NamedInstance
+abbrev pub named_by : Notation → Instance → NamedInstance
 named_by numbers instance = record {
   instance = instance;
   elements = numbered (codes "e") (count_of_elements instance);

@@ -2,8 +2,8 @@ use Rattle.std.proofs.Common.{◌<◌, ◌^◌, arith}
 use Rattle.std.specs.Prelude.{codes}
 use Rattle.mat_words.specs.Cursors.{lines_left}
 use Rattle.mat_words.specs.NameLists.{names_of}
-use Rattle.mat_desc.proofs.LabelLaws.{names_line_found, vertex_names_found}
-use Rattle.mat_desc.proofs.labels.read_labels.Goals as goal
+use Rattle.mat_desc.proofs.NotationLaws.{names_line_found, vertex_names_found}
+use Rattle.mat_desc.proofs.notation.read_notation.Goals as goal
 
 pub returns-in_ok-vertices-in-Two-clause-elements : goal.returns-in_ok-vertices-in-Two-clause-elements
 returns-in_ok-vertices-in-Two-clause-elements c =

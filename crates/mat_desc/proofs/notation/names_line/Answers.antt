@@ -1,6 +1,6 @@
 use Rattle.mat_words.specs.Cursors.{lines_left, words_left}
 use Rattle.mat_words.proofs.LineReading.{keyed_words}
-use Rattle.mat_desc.proofs.labels.names_line.Goals as goal
+use Rattle.mat_desc.proofs.notation.names_line.Goals as goal
 
 pub next_names-requires : goal.next_names-requires
 next_names-requires c =

@@ -1,16 +1,16 @@
 use Rattle.mat_cert.specs.Views.{certificate_of}
 use Rattle.mat_top.proofs.SampleForms.{sample_has_form}
-use Rattle.mat_top.proofs.sampling.sample_text.Goals as goal
+use Rattle.mat_top.proofs.sampling.summary_of.Goals as goal
 
 pub checked_answer-requires-clause-form : goal.checked_answer-requires-clause-form
 checked_answer-requires-clause-form g c κs lives =
-    rw (c.query_of_kind.ensures.query, c.in_ok-problem.ensures.problem) (sample_has_form c.args.kind c.args.size c.args.seed)
+    rw (c.query_of_kind.ensures.query, c.requires.sample) (sample_has_form c.args.kind c.args.size c.args.seed)
 
 pub returns-clause-text : goal.returns-clause-text
 returns-clause-text g c =
     record {
       certificate = certificate_of c.in_ok-answer.answer;
       of_query = rw c.query_of_kind.ensures.query at c.in_ok-answer.ensures.of_query;
-      solution = rw c.in_ok-problem.ensures.problem at c.in_ok-answer.ensures.solution;
+      solution = rw c.requires.sample at c.in_ok-answer.ensures.solution;
       whole = c.in_ok-summary_text.ensures;
     }

@@ -4,7 +4,7 @@ use Rattle.mat_words.specs.Cursors.{words_left}
 use Rattle.mat_words.specs.NameLists.{names_of}
 use Rattle.mat_words.specs.Words.{is_word}
 use Rattle.mat_desc.specs.Reading.{names_from}
-use Rattle.mat_desc.proofs.labels.next_names.Given as goal
+use Rattle.mat_desc.proofs.notation.next_names.Given as goal
 
 abbrev pub invariant-loop : goal.invariant-loop
 invariant-loop l =

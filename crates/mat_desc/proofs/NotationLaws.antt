@@ -23,9 +23,9 @@ use Rattle.mat_desc.specs.declared.keywords.Version.{Version}
 use Rattle.mat_desc.specs.declared.keywords.Version.TheVariants as versions
 use Rattle.mat_desc.specs.declared.refusal.DescKind.TheVariants.{NameSpelling, Repeated}
 use Rattle.mat_desc.specs.Faults.{Fault, Fails, refusal_of}
-use Rattle.mat_desc.specs.Grammar.{vertex_name_lines, label_lines}
-use Rattle.mat_desc.specs.Labels.{Naming, word_for, words_for, IsNaming, Labels, numbers, names, element_naming, vertex_naming}
-use Rattle.mat_desc.specs.Reading.{keyed_at, word_at, ended_at, named_as, member_at, names_from, names_line_at, vertex_names_at, labels_at}
+use Rattle.mat_desc.specs.Grammar.{vertex_name_lines, name_lines}
+use Rattle.mat_desc.specs.Notations.{Naming, word_for, words_for, IsNaming, Notation, numbers, names, element_naming, vertex_naming}
+use Rattle.mat_desc.specs.Reading.{keyed_at, word_at, ended_at, named_as, member_at, names_from, names_line_at, vertex_names_at, notation_at}
 use Rattle.mat_desc.proofs.Told.{keyed_found, keyed_words, word_found, word_line, below_found, ended_found, ended_again}
 
 -- ---- a number, by its numeral or by its name
@@ -200,33 +200,33 @@ vertex_names_again (suc v) [] lawful count p rest left = absurd (omega arith)
 vertex_names_again (suc v) (name ∷ listed) lawful count p rest left =
     names_line_again (codes "vertices") refl (suc v) (name ∷ listed) lawful count p rest left
 
--- ---- the labels of a problem
+-- ---- the notation of a problem
 
--- the version in which labels are written
-abbrev pub version_for : Labels → Version
+-- the version with this notation
+abbrev pub version_for : Notation → Version
 version_for numbers = versions.One
 version_for (names elements vertices) = versions.Two
 
--- the labels of so many elements and vertices were read
-pub record AreLabelsRead (version : Version) (n v : ℕ) (p : LinesLeft) (labels : Labels) (q : LinesLeft) : Type 0 where
-  pub elements : IsNaming n (element_naming labels)
-  pub vertices : IsNaming v (vertex_naming labels)
-  pub same : version ≡ version_for labels
-  pub spelled : (rest : List Line) → AreLeft rest q → AreLeft (label_lines labels ++ rest) p
+-- the notation of so many elements and vertices were read
+pub record IsNotationRead (version : Version) (n v : ℕ) (p : LinesLeft) (notation : Notation) (q : LinesLeft) : Type 0 where
+  pub elements : IsNaming n (element_naming notation)
+  pub vertices : IsNaming v (vertex_naming notation)
+  pub same : version ≡ version_for notation
+  pub spelled : (rest : List Line) → AreLeft rest q → AreLeft (name_lines notation ++ rest) p
 
-pub labels_found : (version : Version) (n v : ℕ) → n < 2 ^ 32 → v < 2 ^ 32 → (p : LinesLeft) (labels : Labels) (q : LinesLeft)
-    → labels_at version n v p ≡ Ok (labels, q) → AreLabelsRead version n v p labels q
-unfolding labels_at
-labels_found versions.One n v many_elements many_vertices p labels q e =
-    subst (λ (r : Labels × LinesLeft). AreLabelsRead versions.One n v p r.0 r.1) (found-same (numbers, p) (labels, q) e)
+pub notation_found : (version : Version) (n v : ℕ) → n < 2 ^ 32 → v < 2 ^ 32 → (p : LinesLeft) (notation : Notation) (q : LinesLeft)
+    → notation_at version n v p ≡ Ok (notation, q) → IsNotationRead version n v p notation q
+unfolding notation_at
+notation_found versions.One n v many_elements many_vertices p notation q e =
+    subst (λ (r : Notation × LinesLeft). IsNotationRead versions.One n v p r.0 r.1) (found-same (numbers, p) (notation, q) e)
     (record { elements = tt; vertices = tt; same = refl; spelled = λ rest left. left })
-labels_found versions.Two n v many_elements many_vertices p labels q e =
-    let first = bind_found (names_line_at (codes "elements") n p) _ (labels, q) e in
-    let second = bind_found (vertex_names_at v first.0.1) _ (labels, q) first.2 in
-    let same = found-same (names first.0.0 second.0.0, second.0.1) (labels, q) second.2 in
+notation_found versions.Two n v many_elements many_vertices p notation q e =
+    let first = bind_found (names_line_at (codes "elements") n p) _ (notation, q) e in
+    let second = bind_found (vertex_names_at v first.0.1) _ (notation, q) first.2 in
+    let same = found-same (names first.0.0 second.0.0, second.0.1) (notation, q) second.2 in
     let one = names_line_found (codes "elements") n many_elements p first.0.0 first.0.1 first.1 in
     let two = vertex_names_found v many_vertices first.0.1 second.0.0 second.0.1 second.1 in
-    subst (λ (r : Labels × LinesLeft). AreLabelsRead versions.Two n v p r.0 r.1) same
+    subst (λ (r : Notation × LinesLeft). IsNotationRead versions.Two n v p r.0 r.1) same
     (record {
       elements = (one.lawful, one.count);
       vertices = (two.lawful, two.count);
@@ -234,12 +234,12 @@ labels_found versions.Two n v many_elements many_vertices p labels q e =
       spelled = λ rest left. one.spelled (vertex_name_lines second.0.0 ++ rest) (two.spelled rest left);
     })
 
-pub labels_again : (labels : Labels) (n v : ℕ) → IsNaming n (element_naming labels) → IsNaming v (vertex_naming labels)
-    → (p : LinesLeft) (rest : List Line) → AreLeft (label_lines labels ++ rest) p
-    → (q : LinesLeft) × (labels_at (version_for labels) n v p ≡ Ok (labels, q)) × AreLeft rest q
-unfolding labels_at
-labels_again numbers n v elements vertices p rest left = (p, refl, left)
-labels_again (names elements vertices) n v is_elements is_vertices p rest left =
+pub notation_again : (notation : Notation) (n v : ℕ) → IsNaming n (element_naming notation) → IsNaming v (vertex_naming notation)
+    → (p : LinesLeft) (rest : List Line) → AreLeft (name_lines notation ++ rest) p
+    → (q : LinesLeft) × (notation_at (version_for notation) n v p ≡ Ok (notation, q)) × AreLeft rest q
+unfolding notation_at
+notation_again numbers n v elements vertices p rest left = (p, refl, left)
+notation_again (names elements vertices) n v is_elements is_vertices p rest left =
     let first = names_line_again (codes "elements") refl n elements is_elements.0 is_elements.1 p (vertex_name_lines vertices ++ rest) left in
     let second = vertex_names_again v vertices is_vertices.0 is_vertices.1 first.0 rest first.2 in
     (second.0, rw (first.1, second.1) refl, second.2)

@@ -3,9 +3,9 @@
 ghost use Rattle.std.specs.Prelude.{◌≡◌, true, [], IfOk};
 ghost use Rattle.std.specs.List.{list_all};
 ghost use Rattle.mat_desc.specs.Faults.{Gives};
-ghost use Rattle.mat_desc.specs.Labels.{IsNaming, element_naming, vertex_naming};
-ghost use Rattle.mat_desc.specs.Reading.{member_at, names_from, names_line_at, vertex_names_at, labels_at, header_root_at, root_at};
-ghost use Rattle.mat_desc.specs.Views.{labels_of, naming};
+ghost use Rattle.mat_desc.specs.Notations.{IsNaming, element_naming, vertex_naming};
+ghost use Rattle.mat_desc.specs.Reading.{member_at, names_from, names_line_at, vertex_names_at, notation_at, header_root_at, root_at};
+ghost use Rattle.mat_desc.specs.Views.{notation_of, naming};
 ghost use Rattle.mat_words.specs.Cursors.{lines_left, words_left};
 ghost use Rattle.mat_words.specs.NameLists.{names_of};
 ghost use Rattle.mat_words.specs.Words.{is_word};
@@ -16,9 +16,9 @@ use crate::refusal::{DescKind, DescRefusal, fault};
 use mat_words::{LONGEST_NAME, LineCursor, Names, WordCursor, keyed_line, next_below, next_word};
 use std::alloc::Global;
 
-/// What stands for the elements and for the vertices of a problem in its description.
+/// How a description writes the elements and the vertices of a problem.
 #[derive(Drop)]
-pub(crate) enum Labelling {
+pub(crate) enum Notation {
     /// Their numbers.
     Numbers,
     /// Names.
@@ -30,28 +30,28 @@ pub(crate) enum Labelling {
     },
 }
 
-impl Labelling {
+impl Notation {
     ghost use Rattle.std.specs.Prelude.{◌≡◌};
-    ghost use Rattle.mat_desc.specs.Labels.{element_naming, vertex_naming};
-    ghost use Rattle.mat_desc.specs.Views.{labels_of, naming};
+    ghost use Rattle.mat_desc.specs.Notations.{element_naming, vertex_naming};
+    ghost use Rattle.mat_desc.specs.Views.{notation_of, naming};
 
     /// The names of the elements, where they have names.
     pub(crate) fn element_names(&self) -> Option<&Names>
-        ensures { naming result ≡ element_naming (labels_of self.now) }
+        ensures { naming result ≡ element_naming (notation_of self.now) }
     {
         match self {
-            Labelling::Numbers => None,
-            Labelling::Names { elements, .. } => Some(elements),
+            Notation::Numbers => None,
+            Notation::Names { elements, .. } => Some(elements),
         }
     }
 
     /// The names of the vertices, where they have names.
     pub(crate) fn vertex_names(&self) -> Option<&Names>
-        ensures { naming result ≡ vertex_naming (labels_of self.now) }
+        ensures { naming result ≡ vertex_naming (notation_of self.now) }
     {
         match self {
-            Labelling::Numbers => None,
-            Labelling::Names { vertices, .. } => Some(vertices),
+            Notation::Numbers => None,
+            Notation::Names { vertices, .. } => Some(vertices),
         }
     }
 }
@@ -130,26 +130,26 @@ fn vertex_names<'a>(
     names_line(alloc, b"vertices", vertices, lines)
 }
 
-/// The names of so many elements and vertices, which version 2 lists.
-#[tactic(auto, unfolding(crate::specs::Reading::labels_at))]
-pub(crate) fn read_labels<'a>(
+/// How so many elements and vertices are written: by their numbers in version 1, and in version 2 by the names that it lists.
+#[tactic(auto, unfolding(crate::specs::Reading::notation_at))]
+pub(crate) fn read_notation<'a>(
     alloc: Global,
     version: Version,
     elements: u32,
     vertices: u32,
     lines: LineCursor<'a>,
-) -> Result<(Labelling, LineCursor<'a>), DescRefusal>
-    ensures value { Gives (λ x. (labels_of x.0, lines_left x.1)) result
-        (labels_at version elements vertices (lines_left lines.entry)) }
-    ensures elements { IfOk result (λ x. IsNaming elements (element_naming (labels_of x.0))) }
-    ensures vertices { IfOk result (λ x. IsNaming vertices (vertex_naming (labels_of x.0))) }
+) -> Result<(Notation, LineCursor<'a>), DescRefusal>
+    ensures value { Gives (λ x. (notation_of x.0, lines_left x.1)) result
+        (notation_at version elements vertices (lines_left lines.entry)) }
+    ensures elements { IfOk result (λ x. IsNaming elements (element_naming (notation_of x.0))) }
+    ensures vertices { IfOk result (λ x. IsNaming vertices (vertex_naming (notation_of x.0))) }
 {
     match version {
-        Version::One => Ok((Labelling::Numbers, lines)),
+        Version::One => Ok((Notation::Numbers, lines)),
         Version::Two => {
             let (elements, lines) = names_line(alloc, b"elements", elements, lines)?;
             let (vertices, lines) = vertex_names(alloc, vertices, lines)?;
-            Ok((Labelling::Names { elements, vertices }, lines))
+            Ok((Notation::Names { elements, vertices }, lines))
         }
     }
 }
