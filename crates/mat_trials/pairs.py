@@ -1,5 +1,5 @@
 #!/usr/bin/env python3
-"""The last cases of `data/cases.txt`, pairs of 100 elements and more whose rows several workers share, and the weights of their rungs.
+"""The last cases of `data/cases.txt`, pairs of 100 elements and more, and the weights of their rungs.
 
 `pairs.py cases` prints the cases, `pairs.py reports` what the program has to print of them. The weights are found by shortest paths in
 the exchange graph (Schrijver, section 41.3), with questions of independence alone and without splits of the weights.

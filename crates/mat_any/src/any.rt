@@ -6,7 +6,7 @@ ghost use Rattle.mat_any.specs.Views.{tree_of};
 
 use crate::any_kept::AnyKept;
 use crate::independence::independent;
-use crate::rows::row;
+use crate::rows::{adds, row};
 use crate::runs::{keep, keep_next, run};
 use crate::sizes::size_of;
 use mat_count::{Laminar, Partition, Uniform};
@@ -103,5 +103,15 @@ impl Matroid for AnyMatroid {
         x: u32,
     ) -> Result<Exchange, AllocError> {
         row(alloc, self, base, kept, x)
+    }
+
+    fn adds(
+        &self,
+        alloc: Global,
+        base: &ElemSet,
+        kept: &AnyKept,
+        x: u32,
+    ) -> Result<bool, AllocError> {
+        adds(alloc, self, base, kept, x)
     }
 }

@@ -89,6 +89,47 @@ pub(crate) fn row(
     }
 }
 
+/// Whether an element x outside an independent set can be added, by what is kept of it: a matroid that stands on no other makes no row for it.
+/// The only error is want of memory.
+pub(crate) fn adds(
+    alloc: Global,
+    matroid: &AnyMatroid,
+    base: &ElemSet,
+    kept: &AnyKept,
+    x: u32,
+) -> Result<bool, AllocError>
+    requires sound { IsSound (tree_of matroid.now) }
+    requires base { is_independent (tree_of matroid.now) base.now ≡ true }
+    requires kept { KeepsAny (tree_of matroid.now) base.now kept.now }
+    requires below { x < element_count (tree_of matroid.now) }
+    requires outside { is_member x base.now ≡ false }
+    ensures { IfOk result (λ added. added ≡ (row_of (is_independent (tree_of matroid.now)) base.now x).addable) }
+{
+    match (matroid, kept) {
+        (AnyMatroid::Uniform(uniform), _) => uniform.adds(alloc, base, &(), x),
+        (AnyMatroid::Partition(partition), AnyKept::Partition(sets)) => {
+            partition.adds(alloc, base, sets, x)
+        }
+        (AnyMatroid::Laminar(laminar), AnyKept::Laminar(sets)) => laminar.adds(
+            alloc, base, sets, x,
+        ),
+        (AnyMatroid::Graphic(graphic), AnyKept::Graphic(forest)) => {
+            graphic.adds(alloc, base, forest, x)
+        }
+        (AnyMatroid::Transversal(transversal), AnyKept::Transversal(matching)) => {
+            transversal.adds(alloc, base, matching, x)
+        }
+        (AnyMatroid::Gammoid(gammoid), AnyKept::Gammoid(linking)) => {
+            gammoid.adds(alloc, base, linking, x)
+        }
+        (AnyMatroid::Gf2(gf2), AnyKept::Gf2(basis)) => gf2.adds(alloc, base, basis, x),
+        _ => {
+            let exchange = row(alloc, matroid, base, kept, x)?;
+            Ok(exchange.addable)
+        }
+    }
+}
+
 // No exchanges.
 fn no_exchange(alloc: Global) -> Exchange
     ensures { result ≡ record { addable = false; with = [] } }

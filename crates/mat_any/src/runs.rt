@@ -302,8 +302,8 @@ pub(crate) fn keep(
     }
 }
 
-/// What is kept of another independent set, where something is kept of this one. A gammoid makes it from that, and a truncation or a
-/// restriction asks the matroid within it; each other kind makes it anew. The only error is want of memory.
+/// What is kept of another independent set, where something is kept of this one. A transversal matroid and a gammoid make it from that, and a
+/// truncation or a restriction asks the matroid within it; each other kind makes it anew. The only error is want of memory.
 #[cycle(running)]
 pub(crate) fn keep_next(
     alloc: Global,
@@ -319,6 +319,9 @@ pub(crate) fn keep_next(
     ensures { IfOk result (λ k. KeepsAny (tree_of matroid.now) next.now k) }
 {
     match (matroid, kept) {
+        (AnyMatroid::Transversal(transversal), AnyKept::Transversal(matching)) => Ok(
+            AnyKept::Transversal(transversal.keep_next(alloc, base, matching, next)?),
+        ),
         (AnyMatroid::Gammoid(gammoid), AnyKept::Gammoid(linking)) => Ok(AnyKept::Gammoid(
             gammoid.keep_next(alloc, base, linking, next)?,
         )),

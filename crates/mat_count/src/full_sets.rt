@@ -1,5 +1,5 @@
 //! The listed sets that an independent set fills.
-ghost use Rattle.std.specs.Prelude.{⊤, ◌≡◌, ◌<◌, length, slice_index_or, IfOk, MatchOption, None, Some};
+ghost use Rattle.std.specs.Prelude.{⊤, ◌≡◌, ◌<◌, ℕ, List, length, slice_index_or, IfOk, MatchOption, None, Some};
 ghost use Rattle.mat_sets.specs.Sets.{AllBelow, IsRising};
 ghost use Rattle.mat_count.specs.FullSets.{AreFullSets, IsSmallest, kept_at, has_fewer, row_of_entry, where_full};
 
@@ -75,6 +75,17 @@ impl FullSets {
             }
         }
         smallest
+    }
+
+    /// Whether an element outside the base can be added: the set at the place is the smallest full one that holds it, if one is full.
+    pub(crate) fn has_room_at(&self, place: Option<usize>) -> bool
+        requires { MatchOption place ⊤ (λ i. i < length self.now.members.items) }
+        ensures { (base : List ℕ) → result ≡ (row_of_entry base (kept_at self.now.members.items place)).addable }
+    {
+        match place {
+            Some(place) => self.members[place].is_none(),
+            None => true,
+        }
     }
 
     /// The exchanges at the base of an element outside: the set at the place is the smallest full one that holds it, if one is full.

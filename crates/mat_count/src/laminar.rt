@@ -360,6 +360,18 @@ impl Matroid for Laminar {
         FullSets::of(alloc, &self.sets, &self.caps, base)
     }
 
+    /// Whether no listed set that holds x is full. The time is the number of those sets.
+    fn adds(
+        &self,
+        _alloc: Global,
+        _base: &ElemSet,
+        kept: &FullSets,
+        x: u32,
+    ) -> Result<bool, AllocError> {
+        let place = kept.smallest(self.places.get(x as usize));
+        Ok(kept.has_room_at(place))
+    }
+
     /// The members of the smallest full set that holds x, which stand in each full one that does, since two of them are
     /// nested; where none is full, every member. The time is the number of sets that hold x and a copy of the answer. The only
     /// error is want of memory.

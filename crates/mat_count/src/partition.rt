@@ -271,6 +271,17 @@ impl Matroid for Partition {
         FullSets::of(alloc, &self.classes, &self.caps, base)
     }
 
+    /// Whether the class of x, if it has one, is not full. The time is constant.
+    fn adds(
+        &self,
+        _alloc: Global,
+        _base: &ElemSet,
+        kept: &FullSets,
+        x: u32,
+    ) -> Result<bool, AllocError> {
+        Ok(kept.has_room_at(self.class_of[x as usize]))
+    }
+
     /// The members of the class of x, where it is full; else every member. The time is that of a copy of the answer. The only
     /// error is want of memory.
     fn row(

@@ -85,4 +85,15 @@ impl Matroid for Uniform {
     fn keep(&self, _alloc: Global, _base: &ElemSet) -> Result<(), AllocError> {
         Ok(())
     }
+
+    /// Whether the set has fewer elements than the cap.
+    fn adds(
+        &self,
+        _alloc: Global,
+        base: &ElemSet,
+        _kept: &(),
+        _x: u32,
+    ) -> Result<bool, AllocError> {
+        Ok(base.len() < self.cap as usize)
+    }
 }

@@ -1,5 +1,5 @@
 -- The fringe of a reached set: what offers do to the greatest entries of the elements outside it.
-use Rattle.std.proofs.Common.{◌≡◌, ◌≢◌, ℕ, ◌+◌, ◌<◌, Bool, true, false, ◌&&◌, ◌||◌, eqb, ltb, List, length, set, ◌⊎◌, inl, inr, refl, sym, ap, ◌∙◌, subst, arith}
+use Rattle.std.proofs.Common.{◌≡◌, ◌≢◌, ℕ, ◌+◌, ◌<◌, Bool, true, false, not, ◌&&◌, ◌||◌, eqb, ltb, List, length, set, ◌⊎◌, inl, inr, refl, sym, ap, ◌∙◌, subst, arith}
 use Rattle.std.proofs.lemmas.Bool.{cases_Bool, cases_eq, cases_lt, both_ways, and_parts, and_from, and_right, eqb-true, eq-eqb, ne_eqb, lt-ltb, ltb-true}
 use Rattle.std.proofs.lemmas.Int.{ints}
 use Rattle.std.proofs.lemmas.List.{get_or-set_same, get_or-set_other}
@@ -82,6 +82,55 @@ offered_same test test' f f' F F' g g' same value o = record {
   kept = λ x h. o.kept x (sym (same x) ∙ h);
 }
 
+-- offers of the same gains to those of two tests, one after the other
+pub offered_both : (one two : ℕ → Bool) (f : ℕ → Weight) (F F1 F2 : List ℕ) (g g1 g2 : ℕ → Weight) → IsOffered one f F g F1 g1
+    → IsOffered two f F1 g1 F2 g2 → IsOffered (λ x. one x || two x) f F g F2 g2
+offered_both one two f F F1 F2 g g1 g2 first second = record {
+  met = λ x h. elim (cases_Bool (two x)) [
+    | inl t ↦ elim (cases_Bool (one x)) [
+      | inl o ↦ twice x (first.met x o) (second.met x t)
+      | inr o ↦ (let k = first.kept x o in met_after (f x) x F F1 F2 g g1 g2 (second.met x t) k.0 k.1)
+    ]
+    | inr t ↦ (let k = second.kept x t in met_before (f x) x F F1 F2 g g1 g2 (first.met x (only (one x) (two x) h t)) k.0 k.1)
+  ];
+  kept = λ x h. (let n = neither (one x) (two x) h in let a = first.kept x n.0 in let b = second.kept x n.1 in (b.0 ∙ a.0, b.1 ∙ a.1));
+}
+  where
+    only : (a b : Bool) → (a || b) ≡ true → b ≡ false → a ≡ true
+    only true b h k = refl
+    only false b h k = absurd (both_ways b k h)
+
+    neither : (a b : Bool) → (a || b) ≡ false → (a ≡ false) × (b ≡ false)
+    neither true b h = absurd (both_ways true h refl)
+    neither false b h = (refl, h)
+
+    twice : (x : ℕ) → IsMet (f x) x F g F1 g1 → IsMet (f x) x F1 g1 F2 g2 → IsMet (f x) x F g F2 g2
+    twice x m n = record {
+      inside = n.inside;
+      own = n.own;
+      old = λ h. at_most_trans (g x) (g1 x) (g2 x) (m.old h) (n.old m.inside);
+      from = elim n.from [
+        | inl e ↦ inl e
+        | inr k ↦ elim m.from [ inl e ↦ inl (k.1 ∙ e) | inr j ↦ inr (j.0, k.1 ∙ j.1) ]
+      ];
+    }
+
+-- what is in a column: those that cannot be added, and, where the whole base can be exchanged, those that can
+pub whole_test : (a t o : Bool) → (a ≡ true → t ≡ true) → (t && o) ≡ (((not a && t) && o) || (a && o))
+whole_test true t o h = rw (h refl) (both o)
+  where
+    both : (b : Bool) → (true && b) ≡ ((false && b) || (true && b))
+    both b = refl
+whole_test false t o h = none (t && o)
+  where
+    none : (b : Bool) → b ≡ (b || false)
+    none true = refl
+    none false = refl
+
+pub rest_test : (a t o : Bool) → (a ≡ true → t ≡ false) → (t && o) ≡ ((not a && t) && o)
+rest_test true t o h = ap (λ b. b && o) (h refl)
+rest_test false t o h = refl
+
 -- ---- the fringe
 
 pub fringe_offered : (O F F' : List ℕ) (E E' : ℕ → Weight → Type 0) (test : ℕ → Bool) (f g g' : ℕ → Weight) → IsFringe O F E g
@@ -89,7 +138,7 @@ pub fringe_offered : (O F F' : List ℕ) (E E' : ℕ → Weight → Type 0) (tes
     → ((x : ℕ) → test x ≡ true → is_member x O ≡ true)
     → ((x : ℕ) → test x ≡ true → E' x (f x))
     → ((x : ℕ) (e : Weight) → E x e → E' x e)
-    → ((x : ℕ) (e : Weight) → is_member x O ≡ true → E' x e → E x e ⊎ ((test x ≡ true) × (e ≡ f x)))
+    → ((x : ℕ) (e : Weight) → is_member x O ≡ true → E' x e → ((e0 : Weight) × (E x e0 × (e ≼ e0))) ⊎ ((test x ≡ true) × (e ≡ f x)))
     → IsFringe O F' E' g'
 fringe_offered O F F' E E' test f g g' fringe o inside new more back = record {
   within = λ x m. elim (cases_Bool (test x)) [
@@ -105,11 +154,13 @@ fringe_offered O F F' E E' test f g g' fringe o inside new more back = record {
   ];
   most = λ x e xo entry. elim (cases_Bool (test x)) [
     | inl t ↦ (let met = o.met x t in elim (back x e xo entry) [
-      | inl before ↦ (let h = fringe.most x e xo before in let up = met.old h.0 in let le = h.1 in (met.inside, at_most_trans e (g x) (g' x) le up))
+      | inl before ↦ (let h = fringe.most x before.0 xo before.1.0 in let up = met.old h.0 in
+          (met.inside, at_most_trans e (g x) (g' x) (at_most_trans e before.0 (g x) before.1.1 h.1) up))
       | inr now ↦ (met.inside, rw now.1 met.own)
     ])
     | inr t ↦ elim (back x e xo entry) [
-      | inl before ↦ (let k = o.kept x t in let h = fringe.most x e xo before in (k.0 ∙ h.0, rw k.1 h.1))
+      | inl before ↦ (let k = o.kept x t in let h = fringe.most x before.0 xo before.1.0 in
+          (k.0 ∙ h.0, rw k.1 (at_most_trans e before.0 (g x) before.1.1 h.1)))
       | inr now ↦ absurd (both_ways _ t now.0)
     ]
   ];

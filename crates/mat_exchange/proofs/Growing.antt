@@ -492,10 +492,11 @@ module _ {n : ℕ} {I : List ℕ} {a b : Exchanges} {w old : ℕ → Weight} {ro
 -- the entries by one reached element more
 pub fringe_entered : {n : ℕ} {I : List ℕ} {a b : Exchanges} {w1 w2 : ℕ → Weight} {root : ℕ} {R O F F' : List ℕ} {g g' : ℕ → Weight} (x : ℕ)
     → AreExchangesOn n I a → AreExchangesOn n I b
+    → ((z : ℕ) → a.adds z ≡ true → a.trades x z ≡ true → w1 root ≼ w1 x)
     → IsFringe O F (IsEntry a b w1 w2 root R) g
     → IsOffered (λ z. leads a b I x z && is_member z O) (entry_gain w1 w2 I x) F g F' g'
     → IsFringe O F' (IsEntry a b w1 w2 root (with_one R x)) g'
-fringe_entered {n} {I} {a} {b} {w1} {w2} {root} {R} {O} {F} {F'} {g} {g'} x on_a on_b fringe offered =
+fringe_entered {n} {I} {a} {b} {w1} {w2} {root} {R} {O} {F} {F'} {g} {g'} x on_a on_b low fringe offered =
     fringe_offered O F F' (IsEntry a b w1 w2 root R) (IsEntry a b w1 w2 root (with_one R x))
     (λ z. leads a b I x z && is_member z O) (entry_gain w1 w2 I x) g g' fringe offered
     (λ z t. (and_parts (leads a b I x z) (is_member z O) t).1)
@@ -510,9 +511,10 @@ fringe_entered {n} {I} {a} {b} {w1} {w2} {root} {R} {O} {F} {F'} {g} {g'} x on_a
 
     new : (z : ℕ) → leads a b I x z ≡ true → IsEntry a b w1 w2 root (with_one R x) z (entry_gain w1 w2 I x z)
     new z t = elim (cases_Bool (is_member x I)) [
-      | inl i ↦ from_member x x_in (sym (cond-true (is_member x I) (a.trades x z) (b.trades z x) i) ∙ t)
+      | inl i ↦ from_member x x_in (and_parts (not (a.adds z)) (a.trades x z)
+          (sym (cond-true (is_member x I) (not (a.adds z) && a.trades x z) (b.trades z x) i) ∙ t)).1
           (cond-true (is_member x I) (w1 z ⊖ w1 x) (w2 x ⊖ w2 z) i)
-      | inr o ↦ from_other x x_in (sym (cond-false (is_member x I) (a.trades x z) (b.trades z x) o) ∙ t)
+      | inr o ↦ from_other x x_in (sym (cond-false (is_member x I) (not (a.adds z) && a.trades x z) (b.trades z x) o) ∙ t)
           (cond-false (is_member x I) (w1 z ⊖ w1 x) (w2 x ⊖ w2 z) o)
     ]
 
@@ -521,11 +523,12 @@ fringe_entered {n} {I} {a} {b} {w1} {w2} {root} {R} {O} {F} {F'} {g} {g'} x on_a
     more z e (from_member y yr k v) = from_member y (kept y yr) k v
     more z e (from_other u ur k v) = from_other u (kept u ur) k v
 
-    by_x_first : (z : ℕ) (e : Weight) → is_member z O ≡ true → a.trades x z ≡ true → e ≡ w1 z ⊖ w1 x
+    by_x_first : (z : ℕ) (e : Weight) → is_member z O ≡ true → a.adds z ≡ false → a.trades x z ≡ true → e ≡ w1 z ⊖ w1 x
         → ((leads a b I x z && is_member z O) ≡ true) × (e ≡ entry_gain w1 w2 I x z)
-    by_x_first z e zo k v =
+    by_x_first z e zo out k v =
         let i = on_a.member x z k in (
-          and_from (leads a b I x z) (is_member z O) (cond-true (is_member x I) (a.trades x z) (b.trades z x) i ∙ k) zo,
+          and_from (leads a b I x z) (is_member z O) (cond-true (is_member x I) (not (a.adds z) && a.trades x z) (b.trades z x) i
+              ∙ and_from (not (a.adds z)) (a.trades x z) (ap not out) k) zo,
           v ∙ sym (cond-true (is_member x I) (w1 z ⊖ w1 x) (w2 x ⊖ w2 z) i),
         )
 
@@ -533,9 +536,24 @@ fringe_entered {n} {I} {a} {b} {w1} {w2} {root} {R} {O} {F} {F'} {g} {g'} x on_a
         → ((leads a b I x z && is_member z O) ≡ true) × (e ≡ entry_gain w1 w2 I x z)
     by_x_second z e zo k v =
         let o = on_b.outside z x k in (
-          and_from (leads a b I x z) (is_member z O) (cond-false (is_member x I) (a.trades x z) (b.trades z x) o ∙ k) zo,
+          and_from (leads a b I x z) (is_member z O) (cond-false (is_member x I) (not (a.adds z) && a.trades x z) (b.trades z x) o ∙ k) zo,
           v ∙ sym (cond-false (is_member x I) (w1 z ⊖ w1 x) (w2 x ⊖ w2 z) o),
         )
+
+    itself : (e : Weight) → e ≼ e
+    itself e = omega (arith, ints, pairs)
+
+    under : (c d r e : Weight) → e ≡ c ⊖ d → r ≼ d → e ≼ (c ⊖ r)
+    under c d r e v le = omega (arith, ints, pairs)
+
+    -- what can be added gains as much by that
+    by_new : (z : ℕ) (e : Weight) → is_member z O ≡ true → a.trades x z ≡ true → e ≡ w1 z ⊖ w1 x
+        → ((e0 : Weight) × (IsEntry a b w1 w2 root R z e0 × (e ≼ e0)))
+        ⊎ (((leads a b I x z && is_member z O) ≡ true) × (e ≡ entry_gain w1 w2 I x z))
+    by_new z e zo k v = elim (cases_Bool (a.adds z)) [
+      | inl h ↦ inl (w1 z ⊖ w1 root, (as_source h refl, under (w1 z) (w1 x) (w1 root) e v (low z h k)))
+      | inr out ↦ inr (by_x_first z e zo out k v)
+    ]
 
     member_new : (v : ℕ) → is_member v (with_one R x) ≡ true → (v ≡ x) ⊎ (is_member v R ≡ true)
     member_new v m = elim (or_cases (eqb v x) (is_member v R) (sym (is_member-with_one v x R) ∙ m)) [
@@ -544,15 +562,16 @@ fringe_entered {n} {I} {a} {b} {w1} {w2} {root} {R} {O} {F} {F'} {g} {g'} x on_a
     ]
 
     back : (z : ℕ) (e : Weight) → is_member z O ≡ true → IsEntry a b w1 w2 root (with_one R x) z e
-        → IsEntry a b w1 w2 root R z e ⊎ (((leads a b I x z && is_member z O) ≡ true) × (e ≡ entry_gain w1 w2 I x z))
-    back z e zo (as_source k v) = inl (as_source k v)
+        → ((e0 : Weight) × (IsEntry a b w1 w2 root R z e0 × (e ≼ e0)))
+        ⊎ (((leads a b I x z && is_member z O) ≡ true) × (e ≡ entry_gain w1 w2 I x z))
+    back z e zo (as_source k v) = inl (e, (as_source k v, itself e))
     back z e zo (from_member y yr k v) = elim (member_new y yr) [
-      | inl same ↦ inr (by_x_first z e zo (subst (λ t. a.trades t z ≡ true) same k) (subst (λ t. e ≡ w1 z ⊖ w1 t) same v))
-      | inr r ↦ inl (from_member y r k v)
+      | inl same ↦ by_new z e zo (subst (λ t. a.trades t z ≡ true) same k) (subst (λ t. e ≡ w1 z ⊖ w1 t) same v)
+      | inr r ↦ inl (e, (from_member y r k v, itself e))
     ]
     back z e zo (from_other u ur k v) = elim (member_new u ur) [
       | inl same ↦ inr (by_x_second z e zo (subst (λ t. b.trades z t ≡ true) same k) (subst (λ t. e ≡ w2 t ⊖ w2 z) same v))
-      | inr r ↦ inl (from_other u r k v)
+      | inr r ↦ inl (e, (from_other u r k v, itself e))
     ]
 
 -- an element less outside
@@ -616,7 +635,7 @@ fringe_start {a} {b} {w1} {w2} {root} {O} {F'} {g} {g'} offered =
     back
   where
     back : (z : ℕ) (e : Weight) → is_member z O ≡ true → IsEntry a b w1 w2 root [] z e
-        → ⊥ ⊎ (((a.adds z && is_member z O) ≡ true) × (e ≡ w1 z ⊖ w1 root))
+        → ((e0 : Weight) × (⊥ × (e ≼ e0))) ⊎ (((a.adds z && is_member z O) ≡ true) × (e ≡ w1 z ⊖ w1 root))
     back z e zo (as_source k v) = inr (and_from (a.adds z) (is_member z O) k zo, v)
     back z e zo (from_member y yr k v) = absurd (false≢true yr)
     back z e zo (from_other u ur k v) = absurd (false≢true ur)

@@ -157,6 +157,15 @@ module _ {n : ℕ} {I : List ℕ} {first second : List Exchange} {u1 u2 : List W
   pub gains_within : (x : ℕ) → is_member x F ≡ true → IsWeightWithin largest_number (weight_at g x)
   gains_within x m = IsWeightWithin-weaken _ _ _ (omega arith) (gain_small x m)
 
+  -- no gain is above what is left of the change so far
+  pub gains_late : (x : ℕ) → is_member x F ≡ true → (weight_at g x ⊕ total) ≼ zero_weight
+  gains_late x m = subst (λ (e : Weight). e ≼ zero_weight) (raised-member (weight_at g) F total x m)
+      (entry_not_above now.shifted.first_on now.shifted.second_on now.shifted.small now.shifted.growing x
+      (raised (weight_at g) F total x) (fringe_below x m) (now.fringe.has x m))
+
+  pub total_fits : IsWeightWithin largest_number total
+  total_fits = IsWeightWithin-weaken _ _ _ (omega arith) (total_small now.shifted)
+
   pub top_within : IfSome top (IsWeightWithin largest_number)
   top_within = within_top top now.top_now
     where
@@ -315,17 +324,20 @@ module _ {n : ℕ} {I : List ℕ} {first second : List Exchange} {u1 u2 : List W
           top inside d now.top_now now.inside_now total_low
           (λ earlier e. enters.3 earlier (from ∙ e)))
 
-      pub entered : {R' O' F' F'' : List ℕ} {h : List Weight} {inside' : Option Weight} → R' ≡ with_one R x → O' ≡ without_one O x
+      pub entered : ((y z z' : ℕ) → (exchanges_in first).adds z ≡ true → (exchanges_in first).adds z' ≡ true
+          → (exchanges_in first).trades y z ≡ (exchanges_in first).trades y z')
+          → {R' O' F' F'' : List ℕ} {h : List Weight} {inside' : Option Weight} → R' ≡ with_one R x → O' ≡ without_one O x
           → F' ≡ without_one F x → length h ≡ length g
           → inside' ≡ cond ((exchanges_in second).adds x) (greater_of inside (weight_at v2 x)) inside
           → IsOffered (λ z. leads (exchanges_in first) (exchanges_in second) I x z && is_member z O')
           (entry_gain (weight_at v1) (weight_at v2) I x)
           F' (weight_at g) F'' (weight_at h)
           → IsGrowth n I first second u1 u2 root R' O' F'' d v1 v2 h top inside'
-      entered {R'} {O'} {F'} {F''} {h} {inside'} er eo ef long ei offered = rw (er, eo, ei) (record {
+      entered alike {R'} {O'} {F'} {F''} {h} {inside'} er eo ef long ei offered = rw (er, eo, ei) (record {
         shifted = shifted_new;
         gains_length = long ∙ now.gains_length;
         fringe = fringe_entered x now.shifted.first_on now.shifted.second_on
+            (λ z h k. (let s = shifted_new in s.growing.first_gains.each x root (sym (alike x z root h s.growing.root_top.adds) ∙ k)))
             (fringe_same (gains_left (weight_at g) F d x) (fringe_without x fringe_new))
             (offered_raised _ (entry_gain (weight_at v1) (weight_at v2) I x) _ (without_one F x) F'' (weight_at g) (weight_at h) d offer_more
             (rw (eo, ef) at offered));
@@ -429,9 +441,12 @@ pub fringe_of_root : {n root : ℕ} {I : List ℕ} {first second : List Exchange
     (entry_gain (weight_at u1) (weight_at u2) I root) F (weight_at g') F' (weight_at h)
     → IsFringe O F' (IsEntry (exchanges_in first) (exchanges_in second) (weight_at u1) (weight_at u2) root R) (weight_at h)
 fringe_of_root {n} {root} {I} {first} {second} {R} {O} {F} {F'} A u1 u2 g g' h t1 t2 er tells offered1 offered2 =
-    rw er (fringe_entered root (exchanges_on n I first t1) (exchanges_on n I second t2)
+    rw er (fringe_entered root (exchanges_on n I first t1) (exchanges_on n I second t2) (λ z h k. itself (weight_at u1 root))
     (fringe_start (offered_same _ (λ z. (exchanges_in first).adds z && is_member z O) _ (λ z. weight_at u1 z ⊖ weight_at u1 root) _ _ _ _
     (λ z. ap (λ t. t && is_member z O) (sym (tells z))) (λ z. refl) offered1)) offered2)
+  where
+    itself : (e : Weight) → e ≼ e
+    itself e = omega (arith, ints, pairs)
 
 pub growth_start : {n root : ℕ} {I : List ℕ} {first second : List Exchange} {u1 u2 : List Weight} {R O F : List ℕ} {h : List Weight}
     {total : Weight} {top inside : Option Weight} → n ≤ most_elements

@@ -1,12 +1,12 @@
 -- A heaviest element of those that pass, found by going through them in rising order.
-use Rattle.std.proofs.Common.{◌≡◌, ℕ, ◌<◌, ◌+◌, Bool, true, false, cond, Option, Some, None, MatchOption, inl, inr, sym, ap, subst, arith}
+use Rattle.std.proofs.Common.{◌≡◌, ℕ, ◌<◌, ◌+◌, Bool, true, false, cond, Option, Some, None, IfSome, MatchOption, inl, inr, sym, ap, subst, arith}
 use Rattle.std.proofs.lemmas.Bool.{cases_Bool, both_ways}
 use Rattle.std.proofs.lemmas.Int.{ints}
 use Rattle.mat_sets.specs.Search.{IsFirstFrom}
 use Rattle.mat_sets.specs.Weights.{zero_weight, negated, ◌⊕◌, ◌≼◌, is_below}
 use Rattle.mat_sets.specs.declared.weight.Weight.{Weight}
 use Rattle.mat_sets.proofs.WeightOrder.{pairs, at_most_same, at_most_trans, below_at_most, not_below_gives}
-use Rattle.mat_exchange.specs.Growing.{heavier_of}
+use Rattle.mat_exchange.specs.Growing.{heavier_of, IsHeaviestOf}
 use Rattle.mat_exchange.proofs.HeaviestAddable.{passes_next}
 
 -- y passes, and none before `from` that passes weighs more
@@ -38,6 +38,25 @@ heaviest_to_next test w from v (Some y) f h = elim (cases_Bool (is_below (w y) (
     ];
   })
 ]
+
+-- an element that passes and weighs as much as a bound of all that pass is a heaviest
+pub heaviest_at_bound : (test : ℕ → Bool) (w : ℕ → Weight) (from v : ℕ) (bound : Option Weight) → IsFirstFrom test from v
+    → IfSome bound (λ most. (x : ℕ) → test x ≡ true → w x ≼ most) → bound ≡ Some (w v) → IsHeaviestOf test w v
+heaviest_at_bound test w from v bound f most is = record {
+  passes = f.passes;
+  most = subst (λ b. IfSome b (λ most. (x : ℕ) → test x ≡ true → w x ≼ most)) is most;
+}
+
+-- no gain of the fringe is above what is left of the change so far
+pub gain_at_most : (gain total bound : Weight) → (gain ⊕ total) ≼ zero_weight → bound ≡ negated total → gain ≼ bound
+gain_at_most gain total bound late e = omega (arith, ints, pairs)
+
+-- a change by the negated gain makes the gain 0, and no lesser one more
+pub level_after : (gain step : Weight) → step ≡ negated gain → gain ⊕ step ≡ zero_weight
+level_after gain step e = omega (arith, ints, pairs)
+
+pub low_after : (gain most step : Weight) → gain ≼ most → step ≡ negated most → (gain ⊕ step) ≼ zero_weight
+low_after gain most step le e = omega (arith, ints, pairs)
 
 -- a sink that comes no later than the heaviest of the fringe comes no later than all of it
 pub sink_not_late : (gain most step slack : Weight) → gain ≼ most → step ≡ negated most → slack ≼ step → (gain ⊕ slack) ≼ zero_weight

@@ -1,6 +1,6 @@
 -- One search that only grows: the changes of a split of the weights between the first reached set and the last, as in the Hungarian
 -- method (Frank 1981; Schrijver, chapter 41).
-use Rattle.std.specs.Prelude.{◌≡◌, ℕ, ◌<◌, ◌+◌, ◌*◌, Bool, true, false, if◌then◌else◌, List, length, Option, Some}
+use Rattle.std.specs.Prelude.{◌≡◌, ℕ, ◌<◌, ◌+◌, ◌*◌, Bool, true, false, not, ◌&&◌, if◌then◌else◌, List, length, Option, Some}
 use Rattle.std.specs.Prelude.{None, MatchOption, ◌⊎◌}
 use Rattle.mat_sets.specs.Limits.{largest_weight}
 use Rattle.mat_sets.specs.Sets.{is_member}
@@ -97,9 +97,9 @@ pub record IsOffered (test : ℕ → Bool) (f : ℕ → Weight) (F : List ℕ) (
 abbrev pub gain_at : Bool → (ℕ → Weight) → ℕ → ℕ → Weight
 gain_at inside w x z = if inside then w z ⊖ w x else w x ⊖ w z
 
--- an exchange that an arc from x to z stands for
+-- an exchange that an arc from x to z stands for, unless z can be added: then its gain by that is as great
 abbrev pub leads : Exchanges → Exchanges → List ℕ → ℕ → ℕ → Bool
-leads first second I x z = if is_member x I then first.trades x z else second.trades z x
+leads first second I x z = if is_member x I then (not (first.adds z) && first.trades x z) else second.trades z x
 
 -- the entry of z by that exchange
 abbrev pub entry_gain : (ℕ → Weight) → (ℕ → Weight) → List ℕ → ℕ → ℕ → Weight

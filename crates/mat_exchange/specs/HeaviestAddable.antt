@@ -18,3 +18,8 @@ IsHeaviestWeightOrNone test w heaviest = MatchOption heaviest ((x : ℕ) → tes
 abbrev pub greater_of : Option Weight → Weight → Option Weight
 greater_of None z = Some z
 greater_of (Some t) z = Some (if is_below t z then z else t)
+
+-- whether a weight is above another, or there is no other
+abbrev pub is_above : Weight → Option Weight → Bool
+is_above w None = true
+is_above w (Some t) = is_below t w

@@ -1,11 +1,13 @@
 //! The exchanges of all elements at an independent set of a matroid.
-ghost use Rattle.std.specs.Prelude.{◌≡◌, ◌≤◌, true, IfOk};
+ghost use Rattle.std.specs.Prelude.{◌≡◌, ◌<◌, ◌≤◌, ◌+◌, true, length, IfOk, OnOk};
 ghost use Rattle.mat_sets.specs.Limits.{most_elements};
 ghost use Rattle.mat_laws.specs.Exchanges.{rows_of};
+ghost use Rattle.mat_exchange.specs.RowTables.{IsFilledTable};
 
-use crate::row_table::{RowTable, table_of};
+use crate::partial_table::{PartialTable, table_of};
+use crate::row_table::RowTable;
 use mat_laws::{Exchange, Matroid};
-use mat_sets::ElemSet;
+use mat_sets::{BitSet, ElemSet};
 use mat_ticket::ticket_rows;
 use mat_work::RowJob;
 use std::alloc::{AllocError, Global};
@@ -55,9 +57,98 @@ impl<M: Matroid> RowJob for ExchangeRows<'_, M> {
     }
 }
 
-/// The exchanges of all elements at an independent set (Schrijver, chapter 41). What the matroid keeps of the set is made once and
-/// lent to all workers, from 1 to 16; then each of them computes rows, one after the other, and the caller puts all rows into the
-/// table. The time is that of the rows and of the words of the table. The only error is want of memory.
+/// Enters the row of x, the next element, by what the matroid keeps of the set: a member has no exchanges, and no row is made for what can
+/// be added.
+fn enter_next<M: Matroid>(
+    alloc: Global,
+    m: &M,
+    set: &ElemSet,
+    base: &BitSet,
+    kept: &M::Kept,
+    x: u32,
+    table: &mut PartialTable,
+) -> Result<(), AllocError>
+    requires sound { M.sound m.now }
+    requires independent { M.indep m.now set.now ≡ true }
+    requires few { M.ground_size m.now ≤ most_elements }
+    requires kept { M.keeps m.now set.now kept.now }
+    requires base { base.now ≡ set.now }
+    requires below { x < M.ground_size m.now }
+    requires rows { length table.old.rows ≡ M.ground_size m.now }
+    requires columns { length table.old.columns ≡ M.ground_size m.now }
+    ensures { OnOk result (IsFilledTable (rows_of (M.ground_size m.now) (M.indep m.now) set.now) x table.old.addable table.old.rows table.old.columns
+        → IsFilledTable (rows_of (M.ground_size m.now) (M.indep m.now) set.now) (x + 1) table.new.addable table.new.rows table.new.columns) }
+{
+    m.lawful();
+    if base.contains(x) {
+        return Ok(());
+    }
+    if m.adds(alloc, set, kept, x)? {
+        return table.enter_addable(x);
+    }
+    let row = m.row(alloc, set, kept, x)?;
+    table.enter(x, &row.with);
+    Ok(())
+}
+
+/// The table of all rows, which are made one after the other and are not kept as lists.
+fn table_in_turn<M: Matroid>(
+    alloc: Global,
+    m: &M,
+    set: &ElemSet,
+    kept: &M::Kept,
+) -> Result<RowTable, AllocError>
+    requires sound { M.sound m.now }
+    requires independent { M.indep m.now set.now ≡ true }
+    requires few { M.ground_size m.now ≤ most_elements }
+    requires kept { M.keeps m.now set.now kept.now }
+    ensures { IfOk result (λ t. t ≡ rows_of (M.ground_size m.now) (M.indep m.now) set.now) }
+{
+    m.lawful();
+    let n = m.size();
+    let base = set.to_bits(alloc)?;
+    let mut table = PartialTable::new(alloc, n)?;
+    for x in 0..n {
+        enter_next(alloc, m, set, &base, kept, x, &mut table)?;
+    }
+    Ok(table.finish(base))
+}
+
+/// The exchanges of all elements at an independent set, by what the matroid keeps of the set, which is lent to all workers, from 1 to 16
+/// (Schrijver, chapter 41). One worker alone enters each row as it comes, and makes none for what can be added; of more, each computes rows, one
+/// after the other, and the caller puts all rows into the table. The time is that of the rows and of the words of the table. The only error
+/// is want of memory.
+pub fn rows_from_kept<R: Threads + Sync, M: Matroid>(
+    rt: &R,
+    alloc: Global,
+    m: &M,
+    set: &ElemSet,
+    kept: &M::Kept,
+    workers: u32,
+) -> Result<RowTable, AllocError>
+    requires sound { M.sound m.now }
+    requires independent { M.indep m.now set.now ≡ true }
+    requires few { M.ground_size m.now ≤ most_elements }
+    requires kept { M.keeps m.now set.now kept.now }
+    requires workers { (1 ≤ workers) × (workers ≤ 16) }
+    ensures { IfOk result (λ t. t ≡ rows_of (M.ground_size m.now) (M.indep m.now) set.now) }
+{
+    m.lawful();
+    if workers == 1 {
+        return table_in_turn(alloc, m, set, kept);
+    }
+    let job = ExchangeRows {
+        alloc,
+        matroid: m,
+        set,
+        kept,
+    };
+    let drawn = ticket_rows(rt, alloc, &job, m.size(), workers)?;
+    table_of(alloc, &drawn.rows, set)
+}
+
+/// The exchanges of all elements at an independent set (Schrijver, chapter 41): what the matroid keeps of the set is made, and the rows from
+/// it, by 1 to 16 workers. The only error is want of memory.
 pub fn rows<R: Threads + Sync, M: Matroid>(
     rt: &R,
     alloc: Global,
@@ -71,14 +162,6 @@ pub fn rows<R: Threads + Sync, M: Matroid>(
     requires workers { (1 ≤ workers) × (workers ≤ 16) }
     ensures { IfOk result (λ t. t ≡ rows_of (M.ground_size m.now) (M.indep m.now) set.now) }
 {
-    m.lawful();
     let kept = m.keep(alloc, set)?;
-    let job = ExchangeRows {
-        alloc,
-        matroid: m,
-        set,
-        kept: &kept,
-    };
-    let drawn = ticket_rows(rt, alloc, &job, m.size(), workers)?;
-    table_of(alloc, &drawn.rows, set)
+    rows_from_kept(rt, alloc, m, set, &kept, workers)
 }

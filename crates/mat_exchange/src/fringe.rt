@@ -1,5 +1,6 @@
 //! The elements outside a reached set that a change of the weights lets in, each with the greatest of its gains.
 ghost use Rattle.std.specs.Prelude.{◌≡◌, ◌&&◌, ◌==◌, if◌then◌else◌, ◌<◌, ◌≤◌, ◌^◌, ℕ, true, length, OnOk};
+ghost use Rattle.mat_sets.specs.Bits.{bits_of};
 ghost use Rattle.mat_sets.specs.Limits.{largest_number, most_elements};
 ghost use Rattle.mat_sets.specs.Sets.{is_member};
 ghost use Rattle.mat_sets.specs.Weights.{◌⊕◌, ◌⊖◌, weight_at, IsWeightWithin, AreWeightsWithin};
@@ -46,9 +47,9 @@ fn offer_one(
     Ok(())
 }
 
-/// Offers to each candidate outside the reached set its gain from x.
+/// Offers to each candidate outside the reached set its gain from x. The candidates are bits.
 pub(crate) fn offer(
-    candidates: &BitSet,
+    candidates: &[u64],
     others: &BitSet,
     weights: &[Weight],
     x: u32,
@@ -62,11 +63,11 @@ pub(crate) fn offer(
     requires from_below { x < length weights.now }
     requires others { (v : ℕ) → is_member v others.now ≡ true → v < length weights.now }
     ensures length { length gains.new ≡ length gains.old }
-    ensures offered { OnOk result (IsOffered (λ v. is_member v candidates.now && is_member v others.now)
+    ensures offered { OnOk result (IsOffered (λ v. is_member v (bits_of candidates.now) && is_member v others.now)
         (gain_at inside (weight_at weights.now) x) fringe.old (weight_at gains.old) fringe.new (weight_at gains.new)) }
 {
     let mut from = 0;
-    while let Some(z) = candidates.next_common(others, from) {
+    while let Some(z) = others.next_among(candidates, from) {
         let gain = gain_of(weights, x, z, inside);
         offer_one(fringe, gains, z, gain)?;
         from = z + 1;
@@ -74,7 +75,8 @@ pub(crate) fn offer(
     Ok(())
 }
 
-/// Offers to each element outside the reached set to which an arc can lead from x its gain.
+/// Offers to each element outside the reached set to which an arc can lead from x its gain. One that can be added in the first matroid gains
+/// as much by that, and is passed over.
 pub(crate) fn offer_exchanges(
     first: &RowTable,
     second: &RowTable,
@@ -100,7 +102,7 @@ pub(crate) fn offer_exchanges(
         (entry_gain (weight_at w1.now) (weight_at w2.now) set.now x) fringe.old (weight_at gains.old) fringe.new (weight_at gains.new)) }
 {
     if set.contains(x) {
-        offer(first.column(x), others, w1, x, true, fringe, gains)
+        offer(first.rest_of_column(x), others, w1, x, true, fringe, gains)
     } else {
         offer(second.row(x), others, w2, x, false, fringe, gains)
     }

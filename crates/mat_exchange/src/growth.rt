@@ -4,6 +4,7 @@ ghost use Rattle.mat_sets.specs.Limits.{most_elements, largest_number, largest_w
 ghost use Rattle.mat_sets.specs.Sets.{is_member, with_one};
 ghost use Rattle.mat_sets.specs.Weights.{◌⊕◌, weight_at, IsWeightWithin, AreWeightsWithin};
 ghost use Rattle.mat_laws.specs.TightPaths.{exchanges_in};
+ghost use Rattle.mat_exchange.specs.RowTables.{AreAlike};
 ghost use Rattle.mat_exchange.specs.Tables.{IsTableAt};
 ghost use Rattle.mat_exchange.specs.Searching.{is_stuck, HasNoTightPath};
 ghost use Rattle.mat_exchange.specs.Growing.{IsEntry, IsFringe, NoExchangeGains, IsGrown, IsGrownSplit, IsHeaviestOf, StaysHeaviest, sum_at};
@@ -52,6 +53,7 @@ fn reach_root(
     ensures others { IfOk result (λ g. (x : ℕ) → is_member x g.others ≡ (nat_lt x (length w1.now) && not (x == root))) }
     ensures fringe { IfOk result (λ g. IsFringe g.others g.fringe
         (IsEntry (exchanges_in first.now) (exchanges_in second.now) (weight_at w1.now) (weight_at w2.now) root g.reached) (weight_at gains.new)) }
+    ensures alike { OnOk result (AreAlike (exchanges_in first.now)) }
 {
     let n = w1.len() as u32;
     let mut reached = BitSet::with_capacity(alloc, n)?;
@@ -60,7 +62,7 @@ fn reach_root(
     reached.insert(root)?;
     others.remove(root);
     offer(
-        first.addable_elements(),
+        first.addable_elements().as_words(),
         &others,
         w1,
         root,
@@ -124,7 +126,7 @@ fn grow_from(
     let mut total = Weight::ZERO;
     loop {
         let slack = excess_or_none(top, inside);
-        match next_step(&fringe, gains, slack) {
+        match next_step(&fringe, gains, slack, total) {
             NextStep::Enter(x, step) => {
                 put_back(w1, w2, x, step);
                 total = step;
@@ -169,7 +171,7 @@ fn grow_weights(
         (sum_at (weight_at w1.old) (weight_at w2.old)) (weight_at w2.old) (weight_at w1.new) (weight_at w2.new)) }
 {
     let addable = first.addable_elements();
-    let Some(root) = heaviest_member(addable, addable, w1) else {
+    let Some(root) = heaviest_member(addable, addable, w1, None) else {
         return Ok(());
     };
     let mut gains = vec![in alloc; Weight::ZERO; w1.len()]?;

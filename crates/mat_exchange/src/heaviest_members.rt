@@ -1,8 +1,8 @@
 //! A heaviest member that two sets have in common.
-ghost use Rattle.std.specs.Prelude.{◌≡◌, ◌&&◌, ◌<◌, ◌≤◌, ℕ, true, length, IfSome};
+ghost use Rattle.std.specs.Prelude.{◌≡◌, ◌&&◌, ◌<◌, ◌≤◌, ℕ, true, length, IfSome, Some};
 ghost use Rattle.mat_sets.specs.Limits.{most_elements};
 ghost use Rattle.mat_sets.specs.Sets.{is_member};
-ghost use Rattle.mat_sets.specs.Weights.{weight_at};
+ghost use Rattle.mat_sets.specs.Weights.{◌≼◌, weight_at};
 ghost use Rattle.mat_exchange.specs.Growing.{heavier_of, IsHeaviestOrNone};
 
 use mat_sets::{BitSet, Weight};
@@ -23,16 +23,36 @@ fn heavier(heaviest: Option<u32>, x: u32, weights: &[Weight]) -> Option<u32>
     }
 }
 
-/// A heaviest member that two sets have in common; none where they have none. The time is that of those members and of the words
-/// of the sets.
-pub(crate) fn heaviest_member(first: &BitSet, second: &BitSet, weights: &[Weight]) -> Option<u32>
+/// Whether x weighs as much as the bound, where there is one.
+fn is_at_bound(weights: &[Weight], x: u32, bound: Option<Weight>) -> bool
+    requires { x < length weights.now }
+    ensures { result ≡ true → bound ≡ Some (weight_at weights.now x) }
+{
+    match bound {
+        Some(most) => weights[x as usize] == most,
+        None => false,
+    }
+}
+
+/// A heaviest member that two sets have in common; none where they have none. Where no member weighs more than a bound, the first one that weighs
+/// as much ends the search. The time is at most that of those members and of the words of the sets.
+pub(crate) fn heaviest_member(
+    first: &BitSet,
+    second: &BitSet,
+    weights: &[Weight],
+    bound: Option<Weight>,
+) -> Option<u32>
     requires few { length weights.now ≤ most_elements }
     requires below { (x : ℕ) → (is_member x first.now && is_member x second.now) ≡ true → x < length weights.now }
+    requires bound { IfSome bound (λ most. (x : ℕ) → (is_member x first.now && is_member x second.now) ≡ true → weight_at weights.now x ≼ most) }
     ensures { IsHeaviestOrNone (λ x. is_member x first.now && is_member x second.now) (weight_at weights.now) result }
 {
     let mut heaviest = None;
     let mut from = 0;
     while let Some(x) = first.next_common(second, from) {
+        if is_at_bound(weights, x, bound) {
+            return Some(x);
+        }
         heaviest = heavier(heaviest, x, weights);
         from = x + 1;
     }

@@ -11,13 +11,14 @@ mod heaviest_addable;
 mod heaviest_common;
 mod heaviest_members;
 pub mod laws;
+mod partial_table;
 mod path_search;
 mod row_table;
 mod slack;
 mod steps;
 mod tight_arcs;
 
-pub use exchanges::rows;
+pub use exchanges::{rows, rows_from_kept};
 pub use found::Found;
 pub use grown::Grown;
 pub use growth::grow;

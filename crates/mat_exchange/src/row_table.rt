@@ -1,23 +1,23 @@
 //! The exchanges of all elements at an independent set, as rows of bits.
-ghost use Rattle.std.specs.Prelude.{◌≡◌, ℕ, ◌<◌, ◌≤◌, ◌+◌, true, List, length, IfOk, OnOk};
-ghost use Rattle.mat_sets.specs.Limits.{most_elements};
-ghost use Rattle.mat_sets.specs.Sets.{is_member, AllBelow};
-ghost use Rattle.mat_laws.specs.TightPaths.{exchanges_in, row_in};
-ghost use Rattle.mat_laws.specs.declared.exchange.Exchange.{Exchange};
-ghost use Rattle.mat_exchange.specs.RowTables.{AreWhole, IsFilledTable};
+ghost use Rattle.std.specs.Prelude.{◌≡◌, ℕ, ◌<◌, ◌&&◌, not, true, false, if◌then◌else◌, length, IfOk};
+ghost use Rattle.mat_sets.specs.Bits.{bits_of};
+ghost use Rattle.mat_sets.specs.Sets.{is_member};
+ghost use Rattle.mat_laws.specs.TightPaths.{exchanges_in};
+ghost use Rattle.mat_exchange.specs.RowTables.{AreAlike, AreTransposed, table_of};
 
-use mat_laws::Exchange;
-use mat_sets::{BitRows, BitSet, ElemSet};
+use mat_sets::{BitSet, RowList};
 use std::alloc::{AllocError, Global};
 use std::marker::Model;
 
 /// The exchanges of all elements at an independent set, as rows of bits (Schrijver, chapter 41).
 #[derive(Debug, Drop)]
 pub struct RowTable {
+    base: BitSet,
     addable: BitSet,
-    // At x the members that x can be exchanged for, and at y the elements that can be exchanged for y.
-    rows: BitRows,
-    columns: BitRows,
+    // At x, where it cannot be added, the members that it can be exchanged for, and at y those of these elements that can be exchanged
+    // for y. What can be added can be exchanged for the whole base.
+    rows: RowList,
+    columns: RowList,
 }
 
 impl Model for RowTable {
@@ -27,102 +27,35 @@ impl Model for RowTable {
 
     ghost Value = { List Exchange };
 
-    ghost view = { λ t. table_of t.addable t.rows };
+    ghost view = { λ t. table_of t.base t.addable t.rows };
 
     ghost invariant = { λ t. AreTransposed t.addable t.rows t.columns };
 }
 
-/// A table of which the rows of the first elements are entered. The elements that can be added do not yet stand in the columns.
-#[derive(Debug, Drop)]
-struct PartialTable {
-    addable: BitSet,
-    rows: BitRows,
-    columns: BitRows,
-}
-
-impl PartialTable {
-    /// No row of n elements.
-    fn new(alloc: Global, n: u32) -> Result<PartialTable, AllocError>
-        ensures { IfOk result (λ t. (exchanges : List Exchange) → length exchanges ≡ n
-            → IsFilledTable exchanges 0 t.addable t.rows t.columns) }
-    {
-        Ok(PartialTable {
-            addable: BitSet::with_capacity(alloc, n)?,
-            rows: BitRows::new(alloc),
-            columns: BitRows::with_rows(alloc, n, n)?,
-        })
-    }
-
-    /// Enters the row of x, the next element. The row of one that can be added is the whole base, and is copied from its bits.
-    fn enter(
-        &mut self,
-        alloc: Global,
-        x: u32,
-        row: &Exchange,
-        base: &BitSet,
-    ) -> Result<(), AllocError>
-        requires below { AllBelow (length self.old.columns) row.now.with }
-        requires whole { row.now.addable ≡ true → row.now.with ≡ base.now }
-        ensures { OnOk result ((exchanges : List Exchange) → x < length exchanges → row_in exchanges x ≡ row.now
-            → IsFilledTable exchanges x self.old.addable self.old.rows self.old.columns
-            → IsFilledTable exchanges (x + 1) self.new.addable self.new.rows self.new.columns) }
-    {
-        if row.addable {
-            self.addable.insert(x)?;
-            self.rows.push(base.copy(alloc)?)?;
-        } else {
-            self.columns.insert_each(row.with.as_slice(), x)?;
-            self.rows.push(row.with.to_bits(alloc)?)?;
-        }
-        Ok(())
-    }
-
-    /// The table, once all rows are entered. The time is that of the words of a row for each member of the base.
-    fn finish(self, base: &ElemSet) -> Result<RowTable, AllocError>
-        requires below { AllBelow (length self.columns) base.now }
-        requires filled { (exchanges : List Exchange) × IsFilledTable exchanges (length exchanges) self.addable self.rows self.columns
-            × AreWhole base.now exchanges }
-        ensures { IfOk result (λ t. (exchanges : List Exchange)
-            → IsFilledTable exchanges (length exchanges) self.addable self.rows self.columns
-            → AreWhole base.now exchanges → t ≡ exchanges) }
-    {
-        let PartialTable {
-            addable,
-            rows,
-            mut columns,
-        } = self;
-        columns.unite_each(base.as_slice(), &addable)?;
-        Ok(RowTable {
-            addable,
-            rows,
-            columns,
-        })
-    }
-}
-
-/// The table of these rows of all elements, at a base. The time is that of the words of the table and of the members of the rows. The
-/// only error is want of memory.
-pub(crate) fn table_of(
-    alloc: Global,
-    exchanges: &[Exchange],
-    base: &ElemSet,
-) -> Result<RowTable, AllocError>
-    requires few { length exchanges.now ≤ most_elements }
-    requires base { AllBelow (length exchanges.now) base.now }
-    requires below { (x : ℕ) → AllBelow (length exchanges.now) (row_in exchanges.now x).with }
-    requires whole { AreWhole base.now exchanges.now }
-    ensures { IfOk result (λ t. t ≡ exchanges.now) }
+/// Those that can be added, where y is in the base; else none.
+fn addable_for(alloc: Global, base: &BitSet, addable: &BitSet, y: u32) -> Result<BitSet, AllocError>
+    ensures { IfOk result (λ s. (x : ℕ) → is_member x s ≡ (if is_member y base.now then is_member x addable.now else false)) }
 {
-    let n = exchanges.len() as u32;
-    let bits = base.to_bits(alloc)?;
-    let mut table = PartialTable::new(alloc, n)?;
-    for x in 0..n {
-        table.enter(alloc, x, &exchanges[x as usize], &bits)?;
+    if base.contains(y) {
+        return addable.copy(alloc);
     }
-    table.finish(base)
+    Ok(BitSet::new(alloc))
 }
 
 impl RowTable {
+    /// The table of a base, the elements that can be added, and the rows and columns of the others.
+    pub(crate) fn new(base: BitSet, addable: BitSet, rows: RowList, columns: RowList) -> RowTable
+        requires { AreTransposed addable rows columns }
+        ensures { result ≡ table_of base addable rows }
+    {
+        RowTable {
+            base,
+            addable,
+            rows,
+            columns,
+        }
+    }
+
     /// Whether x can be added. It takes constant time and no memory.
     pub fn addable(&self, x: u32) -> bool
         requires { x < length self.now }
@@ -137,29 +70,55 @@ impl RowTable {
         requires element { x < length self.now }
         ensures { result ≡ (exchanges_in self.now).trades y x }
     {
-        self.rows.row(x).contains(y)
+        if self.addable.contains(x) {
+            self.base.contains(y)
+        } else {
+            self.rows.row(x).contains(y)
+        }
     }
 
-    /// The elements that can be added.
+    /// The elements that can be added. All of them can be exchanged for the same members.
     pub(crate) fn addable_elements(&self) -> &BitSet
-        ensures { (x : ℕ) → is_member x result.now ≡ (exchanges_in self.now).adds x }
+        ensures elements { (x : ℕ) → is_member x result.now ≡ (exchanges_in self.now).adds x }
+        ensures alike { AreAlike (exchanges_in self.now) }
     {
         &self.addable
     }
 
-    /// The members that x can be exchanged for.
-    pub(crate) fn row(&self, x: u32) -> &BitSet
-        requires { x < length self.now }
-        ensures { (y : ℕ) → is_member y result.now ≡ (exchanges_in self.now).trades y x }
+    /// The members that what can be added can be exchanged for.
+    pub(crate) fn base(&self) -> &BitSet
+        ensures { (y x : ℕ) → (exchanges_in self.now).adds x ≡ true → is_member y result.now ≡ (exchanges_in self.now).trades y x }
     {
-        self.rows.row(x)
+        &self.base
     }
 
-    /// The elements that can be exchanged for y.
-    pub(crate) fn column(&self, y: u32) -> &BitSet
-        requires { y < length self.now }
-        ensures { (x : ℕ) → is_member x result.now ≡ (exchanges_in self.now).trades y x }
+    /// The members that x can be exchanged for, as bits.
+    pub(crate) fn row(&self, x: u32) -> &[u64]
+        requires { x < length self.now }
+        ensures { (y : ℕ) → is_member y (bits_of result.now) ≡ (exchanges_in self.now).trades y x }
     {
-        self.columns.row(y)
+        if self.addable.contains(x) {
+            self.base.as_words()
+        } else {
+            self.rows.row(x).as_words()
+        }
+    }
+
+    /// The elements that cannot be added and can be exchanged for y, as bits.
+    pub(crate) fn rest_of_column(&self, y: u32) -> &[u64]
+        requires { y < length self.now }
+        ensures { (x : ℕ) → is_member x (bits_of result.now) ≡ (not ((exchanges_in self.now).adds x) && (exchanges_in self.now).trades y x) }
+    {
+        self.columns.row(y).as_words()
+    }
+
+    /// The elements that can be exchanged for y. The only error is want of memory.
+    pub(crate) fn column(&self, alloc: Global, y: u32) -> Result<BitSet, AllocError>
+        requires { y < length self.now }
+        ensures { IfOk result (λ column. (x : ℕ) → is_member x column ≡ (exchanges_in self.now).trades y x) }
+    {
+        let mut column = addable_for(alloc, &self.base, &self.addable, y)?;
+        column.unite_row(self.columns.row(y))?;
+        Ok(column)
     }
 }

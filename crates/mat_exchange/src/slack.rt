@@ -57,46 +57,53 @@ fn addition_slack(table: &RowTable, into: &BitSet, weights: &[Weight]) -> Option
     Some(excess(most, inside))
 }
 
-/// By how much y, where it is in one set, outweighs the heaviest element of another that can be exchanged for it.
+/// By how much y, where it is in one set, outweighs the heaviest element of another that can be exchanged for it. The only error is want
+/// of memory.
 fn exchange_slack_at(
+    alloc: Global,
     table: &RowTable,
     y: u32,
     from: &BitSet,
     into: &BitSet,
     weights: &[Weight],
-) -> Option<Weight>
+) -> Result<Option<Weight>, AllocError>
     requires few { length weights.now ≤ most_elements }
     requires count { length table.now ≡ length weights.now }
     requires small { AreWeightsWithin largest_number weights.now }
     requires below { (x : ℕ) → is_member x into.now ≡ true → x < length weights.now }
     requires replaced { y < length weights.now }
-    ensures { IsLeastOrNone (IsExchangeSlackAt y (exchanges_in table.now) (weight_at weights.now) from.now into.now) result }
+    ensures { IfOk result (IsLeastOrNone (IsExchangeSlackAt y (exchanges_in table.now) (weight_at weights.now) from.now into.now)) }
 {
     if !from.contains(y) {
-        return None;
+        return Ok(None);
     }
-    let inside = heaviest_common(table.column(y), into, weights)?;
-    Some(excess(weights[y as usize], inside))
+    let column = table.column(alloc, y)?;
+    let Some(inside) = heaviest_common(&column, into, weights) else {
+        return Ok(None);
+    };
+    Ok(Some(excess(weights[y as usize], inside)))
 }
 
-/// The least of these over all y.
+/// The least of these over all y. The only error is want of memory.
 fn exchange_slack(
+    alloc: Global,
     table: &RowTable,
     from: &BitSet,
     into: &BitSet,
     weights: &[Weight],
-) -> Option<Weight>
+) -> Result<Option<Weight>, AllocError>
     requires few { length weights.now ≤ most_elements }
     requires count { length table.now ≡ length weights.now }
     requires small { AreWeightsWithin largest_number weights.now }
     requires below { (x : ℕ) → is_member x into.now ≡ true → x < length weights.now }
-    ensures { IsLeastOrNone (IsExchangeSlack (length weights.now) (exchanges_in table.now) (weight_at weights.now) from.now into.now) result }
+    ensures { IfOk result (IsLeastOrNone (IsExchangeSlack (length weights.now) (exchanges_in table.now) (weight_at weights.now) from.now into.now)) }
 {
     let mut least = None;
     for y in 0..weights.len() as u32 {
-        least = lesser(least, exchange_slack_at(table, y, from, into, weights));
+        let slack = exchange_slack_at(alloc, table, y, from, into, weights)?;
+        least = lesser(least, slack);
     }
-    least
+    Ok(least)
 }
 
 /// The least slack of a reached set, or none (Frank 1981; Schrijver, chapter 41). An exchange in the first matroid leads from a
@@ -123,13 +130,9 @@ pub(crate) fn least_slack(
     let n = w1.len() as u32;
     let reached = reach.to_bits(alloc)?;
     let others = bits_of_others(alloc, n, reach)?;
-    let first_slack = lesser(
-        addition_slack(first, &others, w1),
-        exchange_slack(first, &reached, &others, w1),
-    );
-    let second_slack = lesser(
-        exchange_slack(second, &others, &reached, w2),
-        addition_slack(second, &reached, w2),
-    );
+    let leaving = exchange_slack(alloc, first, &reached, &others, w1)?;
+    let first_slack = lesser(addition_slack(first, &others, w1), leaving);
+    let entering = exchange_slack(alloc, second, &others, &reached, w2)?;
+    let second_slack = lesser(entering, addition_slack(second, &reached, w2));
     Ok(lesser(first_slack, second_slack))
 }

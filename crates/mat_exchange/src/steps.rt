@@ -2,7 +2,7 @@
 ghost use Rattle.std.specs.Prelude.{◌≡◌, ◌<◌, ◌≤◌, ℕ, true, length};
 ghost use Rattle.mat_sets.specs.Limits.{most_elements, largest_number};
 ghost use Rattle.mat_sets.specs.Sets.{is_member};
-ghost use Rattle.mat_sets.specs.Weights.{weight_at, IsWeightWithin};
+ghost use Rattle.mat_sets.specs.Weights.{zero_weight, ◌⊕◌, ◌≼◌, weight_at, IsWeightWithin};
 ghost use Rattle.mat_exchange.specs.Growing.{IsNextStep, IsBefore};
 
 use crate::heaviest_members::heaviest_member;
@@ -29,14 +29,21 @@ fn is_before(slack: Option<Weight>, step: Weight) -> Option<Weight>
     }
 }
 
-/// The step of least change: an element of the fringe, which enters where its gain is used up, or a sink of this slack.
-pub(crate) fn next_step(fringe: &BitSet, gains: &[Weight], slack: Option<Weight>) -> NextStep
+/// The step of least change after the change so far: an element of the fringe, which enters where its gain is used up, or a sink of this slack.
+pub(crate) fn next_step(
+    fringe: &BitSet,
+    gains: &[Weight],
+    slack: Option<Weight>,
+    total: Weight,
+) -> NextStep
     requires few { length gains.now ≤ most_elements }
     requires below { (x : ℕ) → is_member x fringe.now ≡ true → x < length gains.now }
     requires small { (x : ℕ) → is_member x fringe.now ≡ true → IsWeightWithin largest_number (weight_at gains.now x) }
+    requires total { IsWeightWithin largest_number total }
+    requires late { (x : ℕ) → is_member x fringe.now ≡ true → (weight_at gains.now x ⊕ total) ≼ zero_weight }
     ensures { IsNextStep fringe.now (weight_at gains.now) slack result }
 {
-    let Some(x) = heaviest_member(fringe, fringe, gains) else {
+    let Some(x) = heaviest_member(fringe, fringe, gains, Some(-total)) else {
         return match slack {
             Some(step) => NextStep::Sink(step),
             None => NextStep::Nothing,

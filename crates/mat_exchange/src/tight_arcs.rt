@@ -1,11 +1,12 @@
 //! The tight arcs at a common independent set of two matroids.
-ghost use Rattle.std.specs.Prelude.{◌≡◌, ◌<◌, ◌≤◌, ◌&&◌, ℕ, true, length};
+ghost use Rattle.std.specs.Prelude.{◌≡◌, ◌<◌, ◌≤◌, ◌&&◌, ◌||◌, ℕ, Bool, true, length};
+ghost use Rattle.mat_sets.specs.Bits.{bits_of};
 ghost use Rattle.mat_sets.specs.Limits.{most_elements};
 ghost use Rattle.mat_sets.specs.Search.{IsNextFrom};
 ghost use Rattle.mat_sets.specs.Sets.{is_member};
 ghost use Rattle.mat_sets.specs.Weights.{is_same, weight_at};
 ghost use Rattle.mat_laws.specs.TightPaths.{exchanges_in, is_heaviest_addable};
-ghost use Rattle.mat_exchange.specs.HeaviestAddable.{IsHeaviestWeightOrNone};
+ghost use Rattle.mat_exchange.specs.HeaviestAddable.{IsHeaviestWeightOrNone, is_above};
 
 use crate::row_table::RowTable;
 use mat_sets::{BitSet, ElemSet, Relation, Weight};
@@ -52,7 +53,7 @@ impl Relation for TightArcs<'_> {
 
     fn next_arc(&self, u: u32, among: &BitSet, from: u32) -> Option<u32> {
         if self.set.contains(u) {
-            next_equal(self.first.column(u), among, self.w1, u, from)
+            next_in_column(self.first, among, self.w1, self.top1, u, from)
         } else {
             next_equal(self.second.row(u), among, self.w2, u, from)
         }
@@ -80,9 +81,58 @@ fn weighs(weights: &[Weight], x: u32, weight: Weight) -> bool
     weight == weights[x as usize]
 }
 
-/// The first number from `from` on in both sets that weighs as much as u.
+/// The first element from `from` on in a set that can be exchanged for u and weighs as much.
+fn next_in_column(
+    table: &RowTable,
+    among: &BitSet,
+    weights: &[Weight],
+    top: Option<Weight>,
+    u: u32,
+    from: u32,
+) -> Option<u32>
+    requires few { length weights.now ≤ most_elements }
+    requires table { length table.now ≡ length weights.now }
+    requires below { u < length weights.now }
+    requires top { IsHeaviestWeightOrNone (exchanges_in table.now).adds (weight_at weights.now) top }
+    requires among { (v : ℕ) → is_member v among.now ≡ true → v < length weights.now }
+    ensures { IsNextFrom (λ v. ((exchanges_in table.now).trades u v && is_member v among.now)
+        && is_same (weight_at weights.now u) (weight_at weights.now v)) from result }
+{
+    let rest = next_equal(table.rest_of_column(u), among, weights, u, from);
+    if !table.base().contains(u) {
+        return rest;
+    }
+    if outweighs(weights[u as usize], top) {
+        return rest;
+    }
+    let addable = table.addable_elements().as_words();
+    earlier(rest, next_equal(addable, among, weights, u, from))
+}
+
+/// Whether a weight is above another, or there is no other.
+fn outweighs(weight: Weight, top: Option<Weight>) -> bool
+    ensures { result ≡ is_above weight top }
+{
+    match top {
+        Some(most) => most < weight,
+        None => true,
+    }
+}
+
+/// The earlier of two numbers, where there are any.
+fn earlier(a: Option<u32>, b: Option<u32>) -> Option<u32>
+    ensures { (one two : ℕ → Bool) (from : ℕ) → IsNextFrom one from a → IsNextFrom two from b → IsNextFrom (λ v. one v || two v) from result }
+{
+    match (a, b) {
+        (Some(x), Some(y)) if y < x => Some(y),
+        (Some(x), _) => Some(x),
+        (None, _) => b,
+    }
+}
+
+/// The first number from `from` on among these bits and in a set that weighs as much as u.
 fn next_equal(
-    candidates: &BitSet,
+    candidates: &[u64],
     among: &BitSet,
     weights: &[Weight],
     u: u32,
@@ -91,12 +141,12 @@ fn next_equal(
     requires few { length weights.now ≤ most_elements }
     requires below { u < length weights.now }
     requires among { (v : ℕ) → is_member v among.now ≡ true → v < length weights.now }
-    ensures { IsNextFrom (λ v. (is_member v candidates.now && is_member v among.now)
+    ensures { IsNextFrom (λ v. (is_member v (bits_of candidates.now) && is_member v among.now)
         && is_same (weight_at weights.now u) (weight_at weights.now v)) from result }
 {
     let weight = weights[u as usize];
     let mut at = from;
-    while let Some(v) = candidates.next_common(among, at) {
+    while let Some(v) = among.next_among(candidates, at) {
         if weighs(weights, v, weight) {
             return Some(v);
         }

@@ -25,4 +25,6 @@ pub mod ArcPathLaws
 pub mod LineGraphs
 pub mod ArcFlows
 pub mod RouteFamilies
+pub mod PushedWalks
+pub mod FirstGoals
 pub mod Routes

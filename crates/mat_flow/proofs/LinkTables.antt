@@ -6,6 +6,7 @@ use Rattle.std.proofs.lemmas.List.{get_or_default, get_or_past}
 use Rattle.mat_sets.specs.Sets.{is_member}
 use Rattle.mat_sets.proofs.Members.{is_member-get_or}
 use Rattle.mat_flow.specs.LinkTables.{entry_at, entry_before, leads_to, one_if_none, starts_in, IsLinkTable, IsShifted}
+use Rattle.mat_flow.specs.Trails.{IsReversed}
 
 -- ---- entries
 
@@ -64,6 +65,15 @@ starts_in-most (entry ∷ table) = omega (arith, starts_in-most table, one_at_mo
 pub record AreOwn (n : ℕ) (table : List (Option ℕ)) : Type 0 where
   pub long : length table ≡ n
   pub own : (v : ℕ) → v < n → entry_at table v ≡ Some v
+
+-- where each vertex has itself before it, it has itself after it
+pub IsReversed-own : (n : ℕ) (table : List (Option ℕ)) → AreOwn n table → IsReversed table table
+IsReversed-own n table a = record {
+  long = refl;
+  turned = λ u v e. (let long = a.long in let inside = entry_inside table u v e in let own = a.own u (omega arith) in
+      subst (λ w. entry_at table w ≡ Some u) (some_is_one u v (sym own ∙ e)) own);
+  none = λ u v l e f. none_is_not_some u (sym e ∙ a.own u (let long = a.long in omega arith));
+}
 
 pub leads_to_itself : (arcs : List (ℕ × ℕ)) (v : ℕ) → leads_to arcs (Some v) v ≡ true
 leads_to_itself arcs v = grind arith

@@ -5,18 +5,18 @@ use Rattle.std.proofs.Common.{◌≡◌, ℕ, suc, ◌+◌, ◌<◌, ◌≤◌, 
 use Rattle.std.proofs.lemmas.Bool.{and_from, both_ways, cases_Bool, eq-eqb, eqb-true, false_from_ne_true, false≢true, ne_eqb, or_cases, or_left, or_right}
 use Rattle.std.proofs.lemmas.List.{length-map, take_all}
 use Rattle.mat_sets.specs.Graphs.{ends_of}
-use Rattle.mat_sets.specs.Sets.{is_member, with_one, without_one, AllBelow, IsRising, IsSet}
-use Rattle.mat_sets.specs.Walks.{IsReachedSet, IsShortestWalk, IsWalk}
+use Rattle.mat_sets.specs.Sets.{is_member, with_one, without_one, IsRising, IsSet}
+use Rattle.mat_sets.specs.Walks.{IsShortestWalk, IsWalk}
 use Rattle.mat_sets.proofs.Cardinalities.{length-exchange_one, length-with_one, length-without_one}
-use Rattle.mat_sets.proofs.Ground.{AllBelow-from_members, AllBelow-member, AreDistinct-rising, IsSet-nil, below_member, length-distinct, length-distinct_subset}
+use Rattle.mat_sets.proofs.Ground.{AllBelow-from_members, AreDistinct-rising, IsSet-nil, below_member, length-distinct, length-distinct_subset}
 use Rattle.mat_sets.proofs.Members.{IsRising-nil, IsRising-union, IsRising-with_one, IsRising-without_one, is_member-head, is_member-with_one, is_member-without_one}
 use Rattle.mat_sets.proofs.Reach.{walk_differs}
-use Rattle.mat_flow.specs.LinkTables.{entry_at, is_before, is_member_there, leads_to, one_if_none, residual_arc, residual_goal, starts_among, starts_in, HasEnds, IsShifted}
+use Rattle.mat_flow.specs.LinkTables.{entry_at, is_before, leads_to, one_if_none, residual_arc, starts_among, starts_in, HasEnds, IsShifted}
 use Rattle.mat_flow.proofs.PathFamilyLaws.{AreDistinct-ends, ends_of as all_ends, is_member-ends_of}
 use Rattle.mat_flow.proofs.PathLaws.{at_most_a_separator}
 use Rattle.mat_flow.specs.Paths.{first_of, has_arc, last_of, HasPathsToEach, IsPath, IsSeparator}
 use Rattle.mat_flow.proofs.SimplePathLaws.{ArePathsApart-disjoint}
-use Rattle.mat_flow.proofs.Augmenting.{gone_free, source_comes, starts_in-shifted, stays_free, IsComing, IsLinkTable-shifted}
+use Rattle.mat_flow.proofs.Augmenting.{gone_free, starts_in-shifted, stays_free, IsComing, IsLinkTable-shifted}
 use Rattle.mat_flow.proofs.Frontiers.{is_before_gives, IsCutting, cut_so_far}
 use Rattle.mat_flow.proofs.LinkTables.{none_is_not_some, some_is_one, AreOwn, IsLinkTable-own}
 use Rattle.mat_flow.proofs.PathsOfTables.{paths_to_ends, shifted_table, starts_at_most}
@@ -240,58 +240,6 @@ module _ (vertices : ℕ) (arcs : List (ℕ × ℕ)) (sources ends : List ℕ) (
       let many = reached_many p in
       let size = c.size in
       omega arith
-
--- ---- one end more
-
--- the vertex before the only goal
-alone_there : (v : ℕ) (entry : Option ℕ) → is_member_there entry (with_one [] v) ≡ true → entry ≡ Some v
-alone_there v None h = absurd (both_ways false refl h)
-alone_there v (Some u) h = elim (or_cases (eqb u v) false (sym (is_member-with_one u v []) ∙ h)) [
-  | inl same ↦ ap Some (eqb-true u v same)
-  | inr none ↦ absurd (false≢true none)
-]
-
-there_alone : (v : ℕ) (entry : Option ℕ) → is_member_there entry (with_one [] v) ≡ false → entry ≢ Some v
-there_alone v entry h e =
-    both_ways false refl (sym h ∙ ap (λ x. is_member_there x (with_one [] v)) e ∙ is_member-with_one v v [] ∙ or_left (eqb v v) false (eq-eqb v v refl))
-
-module _ (vertices : ℕ) (arcs : List (ℕ × ℕ)) (sources ends : List ℕ) (before : List (Option ℕ)) (v : ℕ) (goal : List ℕ)
-    (only : goal ≡ with_one [] v) (h : HasEnds vertices arcs sources ends before) (new : is_member v ends ≡ false) where
-  -- a shortest walk makes v an end
-  pub linked_more : (read now : List (Option ℕ)) (walk lent : List ℕ) → read ≡ before → lent ≡ walk
-      → IsShortestWalk vertices (residual_arc arcs read) (λ w. is_member w sources) (residual_goal goal read) walk
-      → IsShifted None lent before now → HasEnds vertices arcs sources (with_one ends v) now
-  linked_more read now walk lent same e shortest s =
-      let start : ℕ → Bool = λ w. is_member w sources in
-      let found = subst (λ b. IsShortestWalk vertices (residual_arc arcs b) start (residual_goal (with_one [] v) b) walk) same
-      (subst (λ g. IsShortestWalk vertices (residual_arc arcs read) start (residual_goal g read) walk) only shortest) in
-      let moved : IsShifted None walk before now = subst (λ w. IsShifted None w before now) e s in
-      HasEnds-shifted vertices arcs sources ends before h None v (with_one ends v) (IsReplaced-more ends v h.set.rising new) start
-      (residual_goal (with_one [] v) before) now walk found.walk
-      (walk_differs vertices (residual_arc arcs before) start (residual_goal (with_one [] v) before) walk walk refl found) moved
-      (source_comes vertices arcs sources before (get_or walk 0 0) found.walk.first)
-      (alone_there v (entry_at before (get_or walk found.walk.arcs 0)) found.walk.last)
-
-  -- where none leads to it, there are no such paths
-  pub not_linked : (read : List (Option ℕ)) (reached : List ℕ) → read ≡ before
-      → ((e : ℕ) → e < length arcs → (ends_of arcs e).1 < vertices) → AllBelow vertices sources
-      → IsReachedSet vertices (residual_arc arcs read) (λ w. is_member w sources) reached
-      → ((w : ℕ) → is_member w reached ≡ true → residual_goal goal read w ≡ false)
-      → HasPathsToEach arcs sources (with_one ends v) → ⊥
-  not_linked read reached same heads below reach missed =
-      let found = subst (λ b. IsReachedSet vertices (residual_arc arcs b) (λ w. is_member w sources) reached) same reach in
-      no_paths vertices arcs sources ends before h None v (with_one ends v) (IsReplaced-more ends v h.set.rising new) heads reached found.set
-      (λ w m. found.starts w (AllBelow-member vertices sources w below m) m) (λ w l none. absurd (false≢true none)) found.closed
-      (λ w m. there_alone v (entry_at before w) (sym (ap (λ b. residual_goal goal b w) same ∙ ap (λ g. residual_goal g before w) only) ∙ missed w m))
-
--- a vertex to which such a walk leads is no end yet
-pub walk_to_no_end : (vertices : ℕ) (arcs : List (ℕ × ℕ)) (sources ends : List ℕ) (before : List (Option ℕ)) (v : ℕ) (goal : List ℕ) → goal ≡ with_one [] v
-    → HasEnds vertices arcs sources ends before → (read : List (Option ℕ)) (walk : List ℕ) → read ≡ before
-    → IsShortestWalk vertices (residual_arc arcs read) (λ w. is_member w sources) (residual_goal goal read) walk → is_member v ends ≡ false
-walk_to_no_end vertices arcs sources ends before v goal only h read walk same shortest =
-    let last = get_or walk shortest.walk.arcs 0 in
-    let found = sym (ap (λ b. residual_goal goal b last) same ∙ ap (λ g. residual_goal g before last) only) ∙ shortest.walk.last in
-    false_from_ne_true (is_member v ends) (λ old. h.free v last old (alone_there v (entry_at before last) found))
 
 -- the table without paths has no ends
 pub HasEnds-own : (n : ℕ) (arcs : List (ℕ × ℕ)) (sources : List ℕ) (table : List (Option ℕ)) → AreOwn n table

@@ -1,40 +1,41 @@
 -- The entries that can be pushed on to a vertex v: v itself, and each u that leads to the place of one of them. Where the place of such an entry
 -- is a source, there is one path more, to v; where none is, an end can give way to v exactly where it is such an entry. For a walk that
 -- pushes entries on to v is a walk of the residual graph, read from its goal; each of the four ways is one induction along walks.
-use Rattle.std.proofs.Common.{◌≡◌, ℕ, ◌<◌, ◌≢◌, Bool, true, false, not, ◌||◌, ◌&&◌, eqb, List, [], ◌∷◌, length, get_or, Option, Some, None, inl, inr, refl, sym, ap, ◌∙◌, subst, arith, zero, suc}
+use Rattle.std.proofs.Common.{◌≡◌, ℕ, ◌<◌, ◌≢◌, Bool, true, false, not, ◌||◌, ◌&&◌, eqb, List, [], ◌∷◌, length, get_or, Option, Some, None, inl, inr, refl, sym, ap, ◌∙◌, subst, arith}
 use Rattle.std.proofs.lemmas.Bool.{and_from, and_parts, both_ways, eq-eqb, eqb-true, false_from_ne_true, false≢true, ne_eqb, or_cases, or_left, or_right, not-true, cases_Bool}
 use Rattle.std.proofs.lemmas.List.{get_or-map, length-map}
 use Rattle.mat_sets.specs.Graphs.{ends_of, IsGraph}
 use Rattle.mat_sets.specs.Sets.{is_member, with_one, without_one, AllBelow}
-use Rattle.mat_sets.specs.Walks.{IsReachedSet, IsShortestWalk, IsWalk}
+use Rattle.mat_sets.specs.Walks.{IsReachedSet}
 use Rattle.mat_sets.proofs.Ground.{AllBelow-member, below_member}
 use Rattle.mat_sets.proofs.Members.{is_member-with_one, same_members, IsRising-nil, IsRising-with_one}
-use Rattle.mat_sets.proofs.Reach.{finite_reach, reached_by_induction, reached_set_exists, walk_stays_reached}
+use Rattle.mat_sets.proofs.Reach.{finite_reach, reached_by_induction, reached_set_exists}
 use Rattle.mat_sets.proofs.Truths.{eqb-turned}
 use Rattle.mat_flow.specs.LinkTables.{entry_at, is_member_there, is_there, leads_to, residual_arc, residual_goal, HasEnds}
 use Rattle.mat_flow.specs.Paths.{has_arc, HasPathsToEach}
-use Rattle.mat_flow.specs.Reroutes.{reversed_arcs, AreReroutes, GiveWay}
+use Rattle.mat_flow.specs.Digraphs.{reversed_arcs, DirectedGraph, IsTurned}
+use Rattle.mat_flow.specs.Reroutes.{AreReroutes, GiveWay}
 use Rattle.mat_flow.specs.declared.reroutes.Reroutes.{Reroutes}
 use Rattle.mat_flow.specs.Trails.{IsReversed}
-use Rattle.mat_flow.proofs.Augmenting.{source_comes, IsComing}
+use Rattle.mat_flow.proofs.Augmenting.{IsComing}
 use Rattle.mat_flow.proofs.LinkedEnds.{no_paths, paths_by_walk, IsReplaced-exchange, IsReplaced-more}
 use Rattle.mat_flow.proofs.LinkTables.{entry_inside, none_is_not_some, some_is_one, none_from}
 use Rattle.mat_flow.proofs.Frontiers.{there_is}
 
 -- a member that is there
-there : (entry : Option ℕ) (set : List ℕ) → is_member_there entry set ≡ true → (u : ℕ) × (entry ≡ Some u) × (is_member u set ≡ true)
+pub there : (entry : Option ℕ) (set : List ℕ) → is_member_there entry set ≡ true → (u : ℕ) × (entry ≡ Some u) × (is_member u set ≡ true)
 there None set h = absurd (false≢true h)
 there (Some u) set h = (u, refl, h)
 
 -- where one leads from
-led : (arcs : List (ℕ × ℕ)) (entry : Option ℕ) (w : ℕ) → leads_to arcs entry w ≡ true → (u : ℕ) × (entry ≡ Some u) × (leads_to arcs (Some u) w ≡ true)
+pub led : (arcs : List (ℕ × ℕ)) (entry : Option ℕ) (w : ℕ) → leads_to arcs entry w ≡ true → (u : ℕ) × (entry ≡ Some u) × (leads_to arcs (Some u) w ≡ true)
 led arcs None w h = absurd (false≢true h)
 led arcs (Some u) w h = (u, refl, h)
 
 is_there_from : (v : ℕ) (entry : Option ℕ) → entry ≡ Some v → is_there v entry ≡ true
 is_there_from v entry e = ap (is_there v) e ∙ eq-eqb v v refl
 
-only_one : (u v : ℕ) → is_member u (with_one [] v) ≡ true → eqb u v ≡ true
+pub only_one : (u v : ℕ) → is_member u (with_one [] v) ≡ true → eqb u v ≡ true
 only_one u v m = elim (or_cases (eqb u v) false (sym (is_member-with_one u v []) ∙ m)) [ inl same ↦ same | inr none ↦ absurd (false≢true none) ]
 
 -- a vertex stands in its place
@@ -123,28 +124,9 @@ module _ (vertices : ℕ) (arcs back : List (ℕ × ℕ)) (sources ends : List �
         ∙ not-true _ (reached_by_induction reached free reach (λ y l s. free_from y (λ u. apart y u l s)) free_step w m))
         (push.starts v (h.table.below w v e) (is_member-with_one v v [] ∙ or_left (eqb v v) false (eq-eqb v v refl)))
 
-  -- ---- one path more
+  -- ---- no path more
 
   module _ (new : is_member v ends ≡ false) (below : AllBelow vertices sources) where
-    pub more_by_push : (walk : List ℕ) → IsShortestWalk vertices (residual_arc back after) (λ u. is_member u (with_one [] v)) (residual_goal sources after) walk
-        → HasPathsToEach arcs sources (with_one ends v)
-    more_by_push walk found =
-        let start : ℕ → Bool = λ w. is_member w sources in
-        let goal : ℕ → Bool = λ w. is_there v (entry_at before w) in
-        elim (finite_reach vertices (residual_arc arcs before) start goal) [
-          | inl q ↦ paths_by_walk vertices arcs sources ends before h None v (with_one ends v) (IsReplaced-more ends v h.set.rising new) start goal q.0 q.1
-              (source_comes vertices arcs sources before (get_or q.0 0 0) q.1.walk.first)
-              (there_is v (entry_at before (get_or q.0 q.1.walk.arcs 0)) q.1.walk.last)
-          | inr q ↦ (let p = reached_set_exists vertices (residual_arc back after) (λ u. is_member u (with_one [] v)) in
-              let w = found.walk in
-              let last = get_or walk w.arcs 0 in
-              let on = walk_stays_reached p.0 walk p.1 w w.arcs (let long = w.long in omega arith) in
-              let s = there (entry_at after last) sources w.last in
-              let out = (stays_cold start q.0 p.0 q.1 q.2 p.1 (λ u. false) refl (λ u y k. absurd (false≢true k)) last on).0 in
-              absurd (both_ways (is_member s.0 q.0) (sym (ap (λ e. is_member_there e q.0) s.1) ∙ out)
-              (q.1.starts s.0 (AllBelow-member vertices sources s.0 below s.2) s.2)))
-        ]
-
     module _ (heads : (e : ℕ) → e < length arcs → (ends_of arcs e).1 < vertices) (pushes : List ℕ)
         (push : IsReachedSet vertices (residual_arc back after) (λ u. is_member u (with_one [] v)) pushes)
         (missed : (u : ℕ) → is_member u pushes ≡ true → residual_goal sources after u ≡ false) where
@@ -220,7 +202,7 @@ has_arc-reversed (arc ∷ arcs) u w =
     swapped a b c d e = grind arith
 
 -- from w one leads back to u exactly where from u one leads to w
-opposite_ways : (arcs : List (ℕ × ℕ)) (u w : ℕ) → leads_to (reversed_arcs arcs) (Some w) u ≡ leads_to arcs (Some u) w
+pub opposite_ways : (arcs : List (ℕ × ℕ)) (u w : ℕ) → leads_to (reversed_arcs arcs) (Some w) u ≡ leads_to arcs (Some u) w
 opposite_ways arcs u w = same_either (eqb u w) (eqb w u) _ _ (eqb-turned u w) (has_arc-reversed arcs u w)
   where
     same_either : (a b c d : Bool) → a ≡ b → c ≡ d → (a || c) ≡ (b || d)
@@ -228,22 +210,23 @@ opposite_ways arcs u w = same_either (eqb u w) (eqb w u) _ _ (eqb-turned u w) (h
 
 -- ---- what the code reads
 
-module _ (vertices : ℕ) (arcs : List (ℕ × ℕ)) (sources ends : List ℕ) (kept : Reroutes) (k : AreReroutes vertices arcs sources ends kept) where
+module _ (vertices : ℕ) (arcs : List (ℕ × ℕ)) (sources ends : List ℕ) (kept : Reroutes) (k : AreReroutes vertices arcs sources ends kept)
+    (back : DirectedGraph) (is : IsTurned vertices arcs back) where
   -- the search is allowed
   pub searchable : (read : List (Option ℕ)) → read ≡ kept.after.items
-      → (length read ≡ kept.back.vertices) × ((x w : ℕ) → entry_at read x ≡ Some w → w < kept.back.vertices)
+      → (length read ≡ back.vertices) × ((x w : ℕ) → entry_at read x ≡ Some w → w < back.vertices)
   searchable read same = rw same (
-    (let a = k.turned.long in let b = k.table.table.long in let c = k.back_vertices in omega arith),
-    λ x w e. (let inside = entry_inside k.before w x (k.turned.turned x w e) in let b = k.table.table.long in let c = k.back_vertices in omega arith),
+    (let a = k.turned.long in let b = k.table.table.long in let c = is.same in omega arith),
+    λ x w e. (let inside = entry_inside k.before w x (k.turned.turned x w e) in let b = k.table.table.long in let c = is.same in omega arith),
   )
 
   module _ (v : ℕ) (starts : List ℕ) (only : starts ≡ with_one [] v) (read : List (Option ℕ)) (same : read ≡ kept.after.items) where
-    read_so : (P : ℕ → List (ℕ × ℕ) → List (Option ℕ) → List ℕ → Type 0) → P kept.back.vertices kept.back.arcs read starts
+    read_so : (P : ℕ → List (ℕ × ℕ) → List (Option ℕ) → List ℕ → Type 0) → P back.vertices back.arcs read starts
         → P vertices (reversed_arcs arcs) kept.after.items (with_one [] v)
     read_so P h =
         subst (λ s. P vertices (reversed_arcs arcs) kept.after.items s) only
         (subst (λ r. P vertices (reversed_arcs arcs) r starts) same
-        (subst (λ b. P vertices b read starts) k.back_arcs (subst (λ n. P n kept.back.arcs read starts) k.back_vertices h)))
+        (subst (λ b. P vertices b read starts) is.arcs_are (subst (λ n. P n back.arcs read starts) is.same h)))
 
     -- ---- where v is an end, it has no place, and so nothing more is reached
 
@@ -256,23 +239,7 @@ module _ (vertices : ℕ) (arcs : List (ℕ × ℕ)) (sources ends : List ℕ) (
       nowhere : (x w : ℕ) → x ≡ v → residual_arc (reversed_arcs arcs) kept.after.items x w ≡ true → ⊥
       nowhere x w e a = false≢true (sym (ap (λ p. leads_to (reversed_arcs arcs) p w) (no_place x e)) ∙ a)
 
-      walks_nowhere : (walk : List ℕ) (steps : ℕ) (w : IsWalk vertices (residual_arc (reversed_arcs arcs) kept.after.items)
-          (λ u. is_member u (with_one [] v)) (residual_goal sources kept.after.items) walk) → w.arcs ≡ steps → ⊥
-      walks_nowhere walk zero w e =
-          let at = eqb-true (get_or walk 0 0) v (only_one (get_or walk 0 0) v w.first) in
-          false≢true (sym (ap (λ p. is_member_there p sources) (no_place (get_or walk 0 0) at))
-          ∙ subst (λ i. residual_goal sources kept.after.items (get_or walk i 0) ≡ true) e w.last)
-      walks_nowhere walk (suc steps) w e =
-          let at = eqb-true (get_or walk 0 0) v (only_one (get_or walk 0 0) v w.first) in
-          nowhere (get_or walk 0 0) (get_or walk 1 0) at (w.steps 0 (let long = w.long in omega arith))
-
-      pub no_walk_from_end : (walk : List ℕ) → IsShortestWalk kept.back.vertices (residual_arc kept.back.arcs read) (λ w. is_member w starts)
-          (residual_goal sources read) walk → ⊥
-      no_walk_from_end walk found =
-          let w = read_so (λ n b r s. IsShortestWalk n (residual_arc b r) (λ w. is_member w s) (residual_goal sources r) walk) found in
-          walks_nowhere walk w.walk.arcs w.walk refl
-
-      pub only_the_end : (reached : List ℕ) → IsReachedSet kept.back.vertices (residual_arc kept.back.arcs read) (λ w. is_member w starts) reached
+      pub only_the_end : (reached : List ℕ) → IsReachedSet back.vertices (residual_arc back.arcs read) (λ w. is_member w starts) reached
           → reached ≡ with_one [] v
       only_the_end reached reach =
           let push = read_so (λ n b r s. IsReachedSet n (residual_arc b r) (λ w. is_member w s) reached) reach in
@@ -285,29 +252,22 @@ module _ (vertices : ℕ) (arcs : List (ℕ × ℕ)) (sources ends : List ℕ) (
           ])
 
     module _ (new : is_member v ends ≡ false) where
-      pub walk_tells : (walk : List ℕ) → IsShortestWalk kept.back.vertices (residual_arc kept.back.arcs read) (λ w. is_member w starts)
-          (residual_goal sources read) walk
-          → HasPathsToEach arcs sources (with_one ends v)
-      walk_tells walk found =
-          more_by_push vertices arcs (reversed_arcs arcs) sources ends k.before kept.after.items (opposite_ways arcs) k.turned k.table v new k.inside walk
-          (read_so (λ n b r s. IsShortestWalk n (residual_arc b r) (λ w. is_member w s) (residual_goal sources r) walk) found)
-
-      pub reached_tells : (reached : List ℕ) → IsReachedSet kept.back.vertices (residual_arc kept.back.arcs read) (λ w. is_member w starts) reached
+      pub reached_tells : (reached : List ℕ) → IsReachedSet back.vertices (residual_arc back.arcs read) (λ w. is_member w starts) reached
           → ((x : ℕ) → is_member x reached ≡ true → residual_goal sources read x ≡ false) → GiveWay arcs sources ends v reached
       reached_tells reached reach missed =
           let push = read_so (λ n b r s. IsReachedSet n (residual_arc b r) (λ w. is_member w s) reached) reach in
           let none : (x : ℕ) → is_member x reached ≡ true → residual_goal sources kept.after.items x ≡ false =
           λ x m. sym (ap (λ r. residual_goal sources r x) same) ∙ missed x m in
-          let back = reversed_arcs arcs in
+          let opposite = reversed_arcs arcs in
           let after = kept.after.items in
           record {
-            none_more = none_more vertices arcs back sources ends k.before after (opposite_ways arcs) k.turned k.table v new k.inside k.graph.second reached
+            none_more = none_more vertices arcs opposite sources ends k.before after (opposite_ways arcs) k.turned k.table v new k.inside k.graph.second reached
                 push none;
             give_way = λ e old. (
-              gives_way vertices arcs back sources ends k.before after (opposite_ways arcs) k.turned k.table v new k.inside k.graph.second reached push none
+              gives_way vertices arcs opposite sources ends k.before after (opposite_ways arcs) k.turned k.table v new k.inside k.graph.second reached push none
                   e old,
               λ p. by_cases e old p (is_member e reached) refl
-                  (holds_out vertices arcs back sources ends k.before after (opposite_ways arcs) k.turned k.table v new k.inside k.graph.second reached push
+                  (holds_out vertices arcs opposite sources ends k.before after (opposite_ways arcs) k.turned k.table v new k.inside k.graph.second reached push
                   none e old),
             );
           }

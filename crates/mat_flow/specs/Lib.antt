@@ -7,3 +7,4 @@ pub mod Reroutes
 pub mod ArcPaths
 pub mod LineGraphs
 pub mod ArcAnswers
+pub mod Seeking

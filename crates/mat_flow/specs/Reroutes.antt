@@ -1,5 +1,5 @@
 -- What is kept of disjoint paths to tell which of their ends can give way to another vertex (Schrijver, chapters 9 and 16).
-use Rattle.std.specs.Prelude.{◌≡◌, ℕ, true, ◌↔◌, List, map, Option, Some, None}
+use Rattle.std.specs.Prelude.{◌≡◌, ℕ, true, ◌↔◌, List, Option, Some, None}
 use Rattle.mat_sets.specs.Sets.{is_member, with_one, without_one, AllBelow}
 use Rattle.mat_sets.specs.Graphs.{IsGraph}
 use Rattle.mat_flow.specs.LinkTables.{HasEnds}
@@ -7,16 +7,10 @@ use Rattle.mat_flow.specs.Paths.{HasPathsToEach}
 use Rattle.mat_flow.specs.Trails.{IsReversed}
 use Rattle.mat_flow.specs.declared.reroutes.Reroutes.{Reroutes}
 
--- the arcs, each turned round
-abbrev pub reversed_arcs : List (ℕ × ℕ) → List (ℕ × ℕ)
-reversed_arcs arcs = map (λ arc. (arc.1, arc.0)) arcs
-
--- the graph with its arcs turned round, and the vertex after each vertex in some table of disjoint paths to exactly these ends
+-- the vertex after each vertex in some table of disjoint paths to exactly these ends
 pub record AreReroutes (vertices : ℕ) (arcs : List (ℕ × ℕ)) (sources ends : List ℕ) (kept : Reroutes) : Type 0 where
   pub graph : IsGraph vertices arcs
   pub inside : AllBelow vertices sources
-  pub back_vertices : kept.back.vertices ≡ vertices
-  pub back_arcs : kept.back.arcs ≡ reversed_arcs arcs
   pub before : List (Option ℕ)
   pub table : HasEnds vertices arcs sources ends before
   pub turned : IsReversed before kept.after.items

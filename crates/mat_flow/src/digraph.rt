@@ -2,7 +2,7 @@
 ghost use Rattle.std.specs.Prelude.{◌≡◌, ◌||◌, ◌==◌, ◌<◌, ℕ, [], IfOk};
 ghost use Rattle.mat_sets.specs.Graphs.{IsGraph};
 ghost use Rattle.mat_sets.specs.Sets.{is_member};
-ghost use Rattle.mat_flow.specs.Digraphs.{AreRows};
+ghost use Rattle.mat_flow.specs.Digraphs.{reversed_arcs, AreRows, IsTurned};
 ghost use Rattle.mat_flow.specs.Paths.{has_arc};
 
 use mat_sets::{BitRows, BitSet, Pairs};
@@ -53,6 +53,17 @@ fn rows_of(alloc: Global, vertices: u32, arcs: &[(u32, u32)]) -> Result<BitRows,
     Ok(rows)
 }
 
+// The arcs, each turned round.
+fn turned_round(alloc: Global, arcs: &[(u32, u32)]) -> Result<Vec<(u32, u32)>, AllocError>
+    ensures { IfOk result (λ back. back.items ≡ reversed_arcs arcs.now) }
+{
+    let mut back = Vec::with_capacity(alloc, arcs.len())?;
+    for (tail, head) in arcs {
+        back.push((*head, *tail))?;
+    }
+    Ok(back)
+}
+
 impl Digraph {
     /// The graph with this many vertices and these arcs, each the pair of its tail and its head. It takes a bit for each two
     /// vertices. The only error is want of memory.
@@ -66,6 +77,14 @@ impl Digraph {
             arcs,
             rows,
         })
+    }
+
+    /// The graph with each arc turned round. The only error is want of memory.
+    pub fn turned(&self, alloc: Global) -> Result<Digraph, AllocError>
+        ensures { IfOk result (λ back. IsTurned self.now.vertices self.now.arcs back) }
+    {
+        let arcs = turned_round(alloc, self.arcs().as_slice())?;
+        Digraph::new(alloc, self.vertices(), Pairs::new(arcs))
     }
 
     /// How many vertices there are.

@@ -1,16 +1,12 @@
-//! The table of the vertex before each vertex, which holds disjoint paths, and how it takes one path more.
-ghost use Rattle.std.specs.Prelude.{◌≡◌, ◌≢◌, ◌<◌, ◌↔◌, ℕ, List, [], Some, true, false, if◌then◌else◌, length, slice_index, IfOk, OnErr};
-ghost use Rattle.mat_sets.specs.Sets.{is_member, with_one, without_one, AllBelow};
+//! The table of the vertex before each vertex, which holds disjoint paths, and how a path is taken out of it (Schrijver, chapters 9 and 16).
+ghost use Rattle.std.specs.Prelude.{◌≡◌, ◌≢◌, ◌<◌, ℕ, List, Some, true, length, slice_index, IfOk};
+ghost use Rattle.mat_sets.specs.Sets.{is_member, without_one};
 ghost use Rattle.mat_flow.specs.LinkTables.{entry_at, HasEnds, HasPathLeft, IsShifted};
 ghost use Rattle.mat_flow.specs.LinkedEnds.{IsLinkedTo};
-ghost use Rattle.mat_flow.specs.Paths.{HasPathsToEach};
 
-use crate::digraph::Digraph;
-use crate::residual::Residual;
-use mat_sets::{ElemSet, WalkSearch, shortest_walk};
 use std::alloc::{AllocError, Global};
 
-/// Disjoint paths of a directed graph from sources to a growing set of ends. It takes a few bytes for each vertex.
+/// Disjoint paths of a directed graph from sources to a shrinking set of ends. It takes a few bytes for each vertex.
 #[derive(Debug, Drop)]
 pub struct LinkTable {
     // The vertex before each vertex: itself where no path passes it, and none where a path starts.
@@ -18,20 +14,11 @@ pub struct LinkTable {
 }
 
 impl LinkTable {
-    /// The table without paths, for a graph of this many vertices. The only error is want of memory.
-    pub fn new(alloc: Global, vertices: u32) -> Result<LinkTable, AllocError>
-        ensures { IfOk result (λ links. (arcs : List (ℕ × ℕ)) (sources : List ℕ) → IsLinkedTo vertices arcs sources [] links) }
+    /// The table with this vertex before each.
+    pub(crate) fn of_table(before: Vec<Option<u32>>) -> LinkTable
+        ensures { result.before.items ≡ before.items }
     {
-        let before = no_links(alloc, vertices)?;
-        Ok(LinkTable { before })
-    }
-
-    /// An equal table. The only error is want of memory.
-    pub fn copy(&self, alloc: Global) -> Result<LinkTable, AllocError>
-        ensures { IfOk result (λ links. links.before.items ≡ self.now.before.items) }
-    {
-        let before = Vec::from_slice(alloc, &self.before)?;
-        Ok(LinkTable { before })
+        LinkTable { before }
     }
 
     /// Takes the path to an end out, which is an end no more. It takes no memory.
@@ -49,42 +36,6 @@ impl LinkTable {
         ensures { result.now ≡ self.now.before.items }
     {
         &self.before
-    }
-
-    /// Makes v an end beside the present ones, where it is none yet and disjoint paths lead from the sources to all of them and to v,
-    /// and tells whether that is so: one search for an augmenting walk (Schrijver, chapters 9 and 16). After an error nothing
-    /// has changed. The only error is want of memory.
-    pub fn link(
-        &mut self,
-        alloc: Global,
-        graph: &Digraph,
-        sources: &ElemSet,
-        v: u32,
-    ) -> Result<bool, AllocError>
-        requires sources { AllBelow graph.now.vertices sources.now }
-        requires paths { (ends : List ℕ) × IsLinkedTo graph.now.vertices graph.now.arcs sources.now ends self.old }
-        ensures ends { IfOk result (λ found. (ends : List ℕ) → IsLinkedTo graph.now.vertices graph.now.arcs sources.now ends self.old
-            → IsLinkedTo graph.now.vertices graph.now.arcs sources.now (if found then with_one ends v else ends) self.new) }
-        ensures answer { IfOk result (λ found. (ends : List ℕ) → IsLinkedTo graph.now.vertices graph.now.arcs sources.now ends self.old
-            → (found ≡ true) ↔ ((is_member v ends ≡ false) × HasPathsToEach graph.now.arcs sources.now (with_one ends v))) }
-        ensures err { OnErr result (self.new ≡ self.old) }
-    {
-        let _ = graph.vertices();
-        let mut targets = ElemSet::new(alloc);
-        targets.add(v)?;
-        let residual = Residual {
-            graph,
-            sources,
-            targets: &targets,
-            before: &self.before,
-        };
-        match shortest_walk(alloc, &residual)? {
-            WalkSearch::Walk(walk) => {
-                shift_along(&mut self.before, &walk, None);
-                Ok(true)
-            }
-            WalkSearch::Reached(_) => Ok(false),
-        }
     }
 }
 

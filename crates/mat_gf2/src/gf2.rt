@@ -125,4 +125,20 @@ impl Matroid for Gf2 {
             with,
         })
     }
+
+    /// Whether the column of x is no sum of columns of the set, by an exclusive-or for each member. It takes no memory.
+    fn adds(
+        &self,
+        _alloc: Global,
+        _base: &ElemSet,
+        kept: &TaggedBasis,
+        x: u32,
+    ) -> Result<bool, AllocError> {
+        let column = TaggedColumn {
+            column: self.columns[x as usize],
+            tag: 0,
+        };
+        let left = reduce_tagged(&kept.rows, column);
+        Ok(left.column != 0)
+    }
 }

@@ -7,3 +7,4 @@ pub mod TrailScans
 pub mod GraphicRuns
 pub mod Climbing
 pub mod ForestSizes
+pub mod Roots

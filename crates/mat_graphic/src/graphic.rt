@@ -9,7 +9,7 @@ ghost use Rattle.mat_graphic.specs.ForestLaws.{graphic_laws};
 ghost use Rattle.mat_graphic.specs.RootedForests.{IsRootedForest};
 ghost use Rattle.mat_graphic.specs.ParentTables.{IsDescending, IsParentTable};
 
-use crate::rooted_forest::{RootedForest, root_trees, trail};
+use crate::rooted_forest::{RootedForest, are_joined, root_trees, trail};
 use crate::union_find::{settle, singletons, unite};
 use mat_laws::{Exchange, Matroid};
 use mat_sets::{ElemSet, Pairs};
@@ -201,5 +201,17 @@ impl Matroid for Graphic {
                 with: base.copy(alloc)?,
             }),
         }
+    }
+
+    /// Whether the ends of the edge are in two trees, by the ways from both to their roots. It takes no memory.
+    fn adds(
+        &self,
+        _alloc: Global,
+        _base: &ElemSet,
+        kept: &RootedForest,
+        x: u32,
+    ) -> Result<bool, AllocError> {
+        let (first, second) = self.edges.get(x as usize);
+        Ok(!are_joined(kept, first, second))
     }
 }

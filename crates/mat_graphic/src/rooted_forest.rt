@@ -1,5 +1,5 @@
 //! Rooted forests, by a search that asks each found vertex once for its edges, and the trails between their vertices.
-ghost use Rattle.std.specs.Prelude.{◌≡◌, ◌≢◌, ◌<◌, ◌≤◌, ℕ, List, length, slice_index, true, IfOk, OnOk, MatchOption};
+ghost use Rattle.std.specs.Prelude.{◌≡◌, ◌≢◌, ◌<◌, ◌≤◌, ◌==◌, ℕ, List, length, slice_index, true, IfOk, OnOk, MatchOption};
 ghost use Rattle.mat_sets.specs.Graphs.{IsGraph, ends_of};
 ghost use Rattle.mat_sets.specs.Sets.{AllBelow, IsRising, is_member};
 ghost use Rattle.mat_graphic.specs.Mergings.{least_merged};
@@ -280,4 +280,32 @@ pub fn trail(
     ensures rises { IfOk result (λ found. MatchOption found (Unit {0}) (λ s. IsRising s)) }
 {
     climb(alloc, forest, place_of(forest, from), place_of(forest, to))
+}
+
+// The place of the root of the tree in which a place lies.
+fn root_above(forest: &RootedForest, place: usize) -> usize
+    requires order { IsOrder forest.now.place.items forest.now.order.items forest.now.through.items forest.now.before.items }
+    requires place { place < length forest.now.order.items }
+    ensures inside { result < length forest.now.order.items }
+    ensures root { slice_index forest.now.before.items result ≡ result }
+    ensures same { (ends : ℕ → ℕ × ℕ) (X : List ℕ) → IsTree ends X forest.now.order.items forest.now.through.items forest.now.before.items
+        → least_merged ends X (slice_index forest.now.order.items result) ≡ least_merged ends X (slice_index forest.now.order.items place) }
+{
+    let mut at = place;
+    while forest.before[at] != at {
+        at = forest.before[at];
+    }
+    at
+}
+
+/// Whether two vertices are in one tree of the forest, by climbing from each to its root. The time is that of the ways to the roots; it takes no
+/// memory.
+pub fn are_joined(forest: &RootedForest, v: u32, w: u32) -> bool
+    requires order { IsOrder forest.now.place.items forest.now.order.items forest.now.through.items forest.now.before.items }
+    requires first { is_member v forest.now.order.items ≡ true }
+    requires second { is_member w forest.now.order.items ≡ true }
+    ensures { (ends : ℕ → ℕ × ℕ) (X : List ℕ) → IsTree ends X forest.now.order.items forest.now.through.items forest.now.before.items
+        → result ≡ (least_merged ends X v == least_merged ends X w) }
+{
+    root_above(forest, place_of(forest, v)) == root_above(forest, place_of(forest, w))
 }

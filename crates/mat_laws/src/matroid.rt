@@ -199,6 +199,26 @@ pub trait Matroid: Sync + Drop {
         self.circuit(alloc, base, x)
     }
 
+    /// Whether an element x outside an independent set of which something is kept can be added to it. A kind may have a body that makes no
+    /// row; this one makes it. The only error is want of memory.
+    fn adds(
+        &self,
+        alloc: Global,
+        base: &ElemSet,
+        kept: &Self::Kept,
+        x: u32,
+    ) -> Result<bool, AllocError>
+        requires sound { sound self.now }
+        requires base { indep self.now base.now ≡ true }
+        requires kept { keeps self.now base.now kept.now }
+        requires below { x < ground_size self.now }
+        requires outside { is_member x base.now ≡ false }
+        ensures { IfOk result (λ added. added ≡ (row_of (indep self.now) base.now x).addable) }
+    {
+        let row = self.row(alloc, base, kept, x)?;
+        Ok(row.addable)
+    }
+
     /// For each member of an independent set, at its number, the elements outside it that can take its place: all rows, turned
     /// (Schrijver, chapter 39). One row an element. The only error is want of memory.
     fn columns(
@@ -268,6 +288,16 @@ impl<M: Matroid> Matroid for &M {
         next: &ElemSet,
     ) -> Result<M::Kept, AllocError> {
         (**self).keep_next(alloc, base, kept, next)
+    }
+
+    fn adds(
+        &self,
+        alloc: Global,
+        base: &ElemSet,
+        kept: &M::Kept,
+        x: u32,
+    ) -> Result<bool, AllocError> {
+        (**self).adds(alloc, base, kept, x)
     }
 
     fn row(

@@ -97,7 +97,7 @@ module _ (sets : ℕ) (rows : List (List ℕ)) (X : List ℕ) (old new : List (O
   once_after j k x (inr (inr p)) (inr (inl q)) = absurd (moved_or_stayed q.0 j x q.1 q.3 p.0 p.1)
   once_after j k x (inr (inr p)) (inr (inr q)) = t.once j k x p.1 q.1
 
-  IsMatching-moved : IsMatching rows (with_one X element) new
+  pub IsMatching-moved : IsMatching rows (with_one X element) new
   IsMatching-moved = record {
     held = λ j x e. held_after j x (came_from j x e);
     inside = λ j x e. inside_after j x (came_from j x e);

@@ -1,51 +1,27 @@
 -- The members of a matched set whose place an element can take, where from its indices no free one is reached: those at reached indices.
 -- Such a member, taken out, leaves its index free, and a walk leads to it, along which the others move on; the element and the members at
 -- reached indices alone cannot be matched, so one of the latter has to leave.
-use Rattle.std.proofs.Common.{◌≡◌, ◌≢◌, ℕ, zero, suc, ◌+◌, ◌<◌, ◌≤◌, true, false, Bool, not, eqb, List, length, get_or, set, is_none, Option, Some, None, inl, inr, refl, sym, ap, ◌∙◌, subst, arith, get_or-set_other, get_or-set_same, length-set}
+use Rattle.std.proofs.Common.{◌≡◌, ℕ, ◌<◌, true, false, Bool, not, eqb, List, length, get_or, set, is_none, Option, Some, None, inl, inr, refl, sym, ap, ◌∙◌, subst, arith, get_or-set_other, get_or-set_same, length-set}
 use Rattle.std.proofs.lemmas.Bool.{both_ways, cases_eq, eq-eqb, ne_eqb, or_left, or_right, and_from, and_parts}
-use Rattle.std.proofs.lemmas.List.{get_or_default}
 use Rattle.mat_sets.specs.Sets.{is_member, with_one, without_one}
 use Rattle.mat_sets.specs.Walks.{IsReachedSet, IsShortestWalk}
 use Rattle.mat_sets.proofs.Members.{set_members, is_member-with_one, is_member-without_one}
 use Rattle.mat_sets.proofs.Reach.{finite_reach, reached_by_induction, walk_differs}
 use Rattle.mat_sets.specs.Rows.{row_at}
 use Rattle.mat_flow.specs.LinkTables.{entry_at, IsShifted}
-use Rattle.mat_flow.proofs.LinkTables.{entry_inside, none_is_not_some, some_is_one, IsShifting, IsShifting-end, IsShifting-next}
+use Rattle.mat_flow.proofs.LinkTables.{entry_inside, none_is_not_some, some_is_one}
+use Rattle.mat_flow.proofs.PathsOfTables.{shifted_table}
 use Rattle.mat_linked.specs.Matchings.{is_held, AreMatchable, IsMatching}
 use Rattle.mat_linked.proofs.AugmentedMatchings.{augmented}
 use Rattle.mat_linked.proofs.StuckMatchings.{stuck_set}
 
--- ---- a table whose entries have moved on along a walk
-
-module _ (first : Option ℕ) (walk : List ℕ) (old : List (Option ℕ))
-    (differ : (a b : ℕ) → a < b → b < length walk → get_or walk a 0 ≢ get_or walk b 0)
-    (below : (i : ℕ) → i < length walk → get_or walk i 0 < length old) where
-  shifting : (i : ℕ) → i ≤ length walk → (new : List (Option ℕ)) × (carried : Option ℕ) × IsShifting first walk old i new carried
-  shifting zero l =
-      (old, first, record { long = refl; moved = λ k m. absurd (omega arith); kept = λ v other. refl; carried_is = refl; counted = refl })
-  shifting (suc i) l =
-      let q = shifting i (omega arith) in
-      let v = get_or walk i 0 in
-      let long = q.2.long in
-      let small = below i (omega arith) in
-      let within : v < length q.0 = omega (arith, long, small) in (
-        set q.0 v q.1,
-        entry_at q.0 v,
-        subst (λ k. IsShifting first walk old k (set q.0 v q.1) (entry_at q.0 v)) (let e : i + 1 ≡ suc i = omega arith in e)
-            (IsShifting-next first walk old i q.0 q.1 (entry_at q.0 v) differ (omega arith) within q.2
-            (get_or_default q.0 v None (entry_at q.0 v) within)),
-      )
-
-  shifted : (new : List (Option ℕ)) × IsShifted first walk old new
-  shifted = let q = shifting (length walk) (omega arith) in (q.0, IsShifting-end first walk old (length walk) q.0 q.1 refl q.2)
-
 -- along a shortest walk they can move on
-pub shifted_along : (sets : ℕ) (arc : ℕ → ℕ → Bool) (start goal : ℕ → Bool) (first : Option ℕ) (walk : List ℕ)
+shifted_along : (sets : ℕ) (arc : ℕ → ℕ → Bool) (start goal : ℕ → Bool) (first : Option ℕ) (walk : List ℕ)
     (old : List (Option ℕ))
     → length old ≡ sets → IsShortestWalk sets arc start goal walk → (new : List (Option ℕ)) × IsShifted first walk old new
 shifted_along sets arc start goal first walk old long w =
-    shifted first walk old (walk_differs sets arc start goal walk walk refl w)
-    (λ i l. subst (λ n. get_or walk i 0 < n) (sym long) (w.walk.below i l))
+    shifted_table first walk old (λ i l. subst (λ n. get_or walk i 0 < n) (sym long) (w.walk.below i l))
+    (walk_differs sets arc start goal walk walk refl w)
 
 -- ---- members of a set that changes
 

@@ -4,13 +4,14 @@ use Rattle.std.proofs.lemmas.List.{take_all}
 use Rattle.mat_sets.specs.Sets.{intersection, is_member, minus, without_one, IsRising, IsSet}
 use Rattle.mat_sets.proofs.DisjointSets.{minus_from, minus_parts}
 use Rattle.mat_sets.proofs.Ground.{below_member, IsSet-minus}
-use Rattle.mat_sets.proofs.Members.{is_member-get_or, same_members, set_members, IsRising-intersection, IsRising-minus, IsRising-without_one}
+use Rattle.mat_sets.proofs.Members.{is_member-get_or, same_members, set_members, IsRising-minus, IsRising-without_one}
 use Rattle.mat_sets.proofs.Steps.{is_member-take_more, is_member-take_next}
 use Rattle.mat_flow.specs.LinkedEnds.{IsLinkedTo}
 use Rattle.mat_flow.specs.declared.link_table.LinkTable.{LinkTable}
 use Rattle.mat_linked.specs.GammoidLaws.{gammoid_laws}
 use Rattle.mat_linked.specs.Gammoids.{is_gammoid, set_of_vertices, IsGammoid}
 use Rattle.mat_linked.specs.LinkedSetLaws.{member_vertex}
+use Rattle.mat_linked.proofs.GrownSets.{minus-minus}
 use Rattle.mat_linked.proofs.LinkedRows.{set_of_vertices-without_one}
 use Rattle.mat_linked.proofs.LinkedRuns.{is_member-set_of_vertices}
 
@@ -27,14 +28,6 @@ minus_next_item : (a xs : List ℕ) (i : ℕ) → IsRising a → i < length xs
 minus_next_item a xs i r l =
     same_members _ _ (IsRising-without_one _ _ (IsRising-minus a (take i xs) r)) (IsRising-minus a (take (i + 1) xs) r)
     (λ k. grind (arith, set_members, is_member-take_more xs i k l))
-
-common : (a b : List ℕ) → IsRising a → minus a (minus a b) ≡ intersection a b
-common a b r = same_members _ _ (IsRising-minus a (minus a b) r) (IsRising-intersection a b r) (λ k. grind (arith, set_members))
-
--- what is new beside the common members
-pub new_beside_common : (a b : List ℕ) → IsRising b → minus b a ≡ minus b (intersection a b)
-new_beside_common a b r =
-    same_members _ _ (IsRising-minus b a r) (IsRising-minus b (intersection a b) r) (λ k. grind (arith, set_members))
 
 module _ (vertices : ℕ) (arcs : List (ℕ × ℕ)) (sources targets : List ℕ) (given : IsGammoid vertices arcs sources targets)
     (base next gone : List ℕ) (ok : is_gammoid vertices arcs sources targets base ≡ true) (is : gone ≡ minus base next) where
@@ -53,7 +46,7 @@ module _ (vertices : ℕ) (arcs : List (ℕ × ℕ)) (sources targets : List ℕ
       → IsLinkedTo vertices arcs sources (set_of_vertices targets (intersection base next)) links
   AreFewerPaths-all i links past linked =
       subst (λ X. IsLinkedTo vertices arcs sources (set_of_vertices targets X) links)
-      (ap (minus base) (take_all i gone past ∙ is) ∙ common base next set_base.rising) linked
+      (ap (minus base) (take_all i gone past ∙ is) ∙ minus-minus base next set_base.rising) linked
 
   module _ (i y : ℕ) (inside : i < length gone) (at : y ≡ get_or gone i 0) where
     in_base : is_member y base ≡ true

@@ -1,24 +1,27 @@
 -- The row of an element by what is kept of an independent set: where a walk to a free index is found the element can be added, and so put in
 -- the place of each member; else of those that are matched at reached indices.
-use Rattle.std.proofs.Common.{◌≡◌, ℕ, ◌+◌, ◌<◌, Bool, true, false, ◌||◌, eqb, List, [], ◌∷◌, length, get_or, filter, take, is_none, Option, Some, None, inl, inr, refl, sym, ap, ◌∙◌, subst, arith}
+use Rattle.std.proofs.Common.{◌≡◌, ℕ, ◌+◌, ◌<◌, ◌≢◌, Bool, true, false, ◌||◌, eqb, List, [], ◌∷◌, length, get_or, filter, take, is_none, Option, Some, None, inl, inr, refl, sym, ap, ◌∙◌, subst, arith}
 use Rattle.std.proofs.lemmas.Bool.{both_ways, cases_Bool, eq-eqb, eqb-true, false_from_ne_true, false≢true, or_cases, or_left, or_right}
 use Rattle.std.specs.List.{All}
 use Rattle.mat_sets.specs.Sets.{is_member, with_one, without_one, intersection, AllBelow, IsSet}
-use Rattle.mat_sets.specs.Walks.{IsReachedSet, IsShortestWalk}
+use Rattle.mat_sets.specs.Walks.{IsReachedSet, IsWalk}
 use Rattle.mat_sets.proofs.Filters.{filter_whole}
 use Rattle.mat_sets.proofs.Ground.{AllBelow-member, IsSet-with_one, IsSet-without_one}
 use Rattle.mat_sets.proofs.Members.{filter_same_at, is_member-with_one, set_members}
+use Rattle.mat_sets.proofs.Truths.{or_none}
 use Rattle.mat_sets.specs.Rows.{row_at}
 use Rattle.mat_flow.specs.LinkTables.{entry_at, is_there}
+use Rattle.mat_flow.specs.Seeking.{IsFreeWalk}
 use Rattle.mat_flow.proofs.Frontiers.{is_before_gives, is_before-more}
+use Rattle.mat_flow.proofs.PathsOfTables.{shifted_table}
 use Rattle.mat_laws.specs.declared.exchange.Exchange.{Exchange}
 use Rattle.mat_laws.specs.Exchanges.{row_of}
 use Rattle.mat_laws.proofs.Rows.{row_outside}
 use Rattle.mat_linked.specs.Matchings.{is_held, is_matched_among, AreIndices, AreMatchable, IsMatching}
 use Rattle.mat_linked.specs.TransversalLaws.{is_transversal-gives, transversal_laws}
 use Rattle.mat_linked.specs.Transversals.{is_transversal, Family}
-use Rattle.mat_linked.proofs.AugmentedMatchings.{augmented}
-use Rattle.mat_linked.proofs.ExchangedMatchings.{exchanged, not_exchanged, shifted_along}
+use Rattle.mat_linked.proofs.AugmentedMatchings.{IsMatching-moved}
+use Rattle.mat_linked.proofs.ExchangedMatchings.{exchanged, not_exchanged}
 use Rattle.mat_linked.proofs.MatchableSets.{matched_is_transversal, AreMatchable-transversal}
 use Rattle.mat_linked.proofs.StuckMatchings.{stuck}
 
@@ -51,7 +54,7 @@ base_matchable made m rows X sets e size r h =
 
 -- ---- the elements that some indices are matched with
 
-matched_among_from : (matched : List (Option ℕ)) (indices : List ℕ) (j x : ℕ) → is_member j indices ≡ true → entry_at matched j ≡ Some x
+pub matched_among_from : (matched : List (Option ℕ)) (indices : List ℕ) (j x : ℕ) → is_member j indices ≡ true → entry_at matched j ≡ Some x
     → is_matched_among matched indices x ≡ true
 matched_among_from matched [] j x m e = absurd (false≢true m)
 matched_among_from matched (i ∷ indices) j x m e = elim (or_cases (eqb j i) (is_member j indices) m) [
@@ -75,12 +78,8 @@ pub matched_among-passed : (matched : List (Option ℕ)) (indices : List ℕ) (i
     → entry_at matched (get_or indices i 0) ≡ None → ((x : ℕ) → is_member x found ≡ is_matched_among matched (take i indices) x)
     → (x : ℕ) → is_member x found ≡ is_matched_among matched (take (i + 1) indices) x
 matched_among-passed matched indices i found l e so_far x =
-    so_far x ∙ or_none (is_matched_among matched (take i indices) x)
+    so_far x ∙ sym (or_none (is_matched_among matched (take i indices) x))
     ∙ ap (λ entry. is_matched_among matched (take i indices) x || is_there x entry) (sym e) ∙ sym (is_before-more matched indices i x l)
-  where
-    or_none : (a : Bool) → a ≡ (a || false)
-    or_none true = refl
-    or_none false = refl
 
 -- ---- the members that are among some numbers
 
@@ -123,31 +122,29 @@ module _ (rows : List (List ℕ)) (X : List ℕ) (matched : List (Option ℕ)) (
   exchanged_set y = IsSet-with_one (length rows) (without_one X y) element (IsSet-without_one (length rows) X y set) below
 
   -- where a walk leads to a free index
-  addable : (walk : List ℕ) → IsShortestWalk (length matched) arc start goal walk → is_independent (with_one X element) ≡ true
-  addable walk w =
-      let s = shifted_along (length matched) arc start goal (Some element) walk matched refl w in
+  addable : (walk : List ℕ) → IsWalk (length matched) arc start goal walk
+      → ((i j : ℕ) → i < j → j < length walk → get_or walk i 0 ≢ get_or walk j 0) → is_independent (with_one X element) ≡ true
+  addable walk w differ =
+      let s = shifted_table (Some element) walk matched w.below differ in
       matched_passes (with_one X element) s.0 (IsSet-with_one (length rows) X element set below) s.1.long
-      (augmented (length matched) rows matched matched s.0 element walk walk refl refl w s.1 X fresh t)
+      (IsMatching-moved (length matched) rows X matched s.0 element walk t fresh w differ s.1)
 
   smaller : (y k : ℕ) → is_member k (with_one (without_one X y) element) ≡ true → is_member k (with_one X element) ≡ true
   smaller y k m = grind (arith, set_members)
 
-  row_with_walk : (walk : List ℕ) → IsShortestWalk (length matched) arc start goal walk
-      → record { addable = true; with = X } ≡ row_of is_independent X element
-  row_with_walk walk w =
-      let whole = addable walk w in
+  row_with_walk : is_independent (with_one X element) ≡ true → record { addable = true; with = X } ≡ row_of is_independent X element
+  row_with_walk whole =
       row_outside is_independent X element (record { addable = true; with = X }) fresh (sym whole)
       (sym (filter_whole (λ y. is_independent (with_one (without_one X y) element)) X (λ y m.
       (transversal_laws (length rows) family inside).subsets (with_one (without_one X y) element) (with_one X element)
       (exchanged_set y).rising (record { inside = smaller y }) whole)))
 
-  pub row_added : (read : List (Option ℕ)) → read ≡ matched → (walk others : List ℕ) → others ≡ X
-      → IsShortestWalk (length read) (λ j. is_held rows (entry_at read j)) start (λ j. is_none (entry_at read j)) walk
+  pub row_added : (read : List (Option ℕ)) → read ≡ matched → (live walk others : List ℕ) → others ≡ X
+      → IsFreeWalk (length read) (λ j. is_held rows (entry_at read j)) start (λ j. is_none (entry_at read j)) live walk
       → record { addable = true; with = others } ≡ row_of is_independent X element
-  row_added read same walk others is w =
-      ap row_of_all is
-      ∙ row_with_walk walk (subst
-      (λ b. IsShortestWalk (length b) (λ j. is_held rows (entry_at b j)) start (λ j. is_none (entry_at b j)) walk) same w)
+  row_added read same live walk others is w =
+      let free = subst (λ b. IsFreeWalk (length b) (λ j. is_held rows (entry_at b j)) start (λ j. is_none (entry_at b j)) live walk) same w in
+      ap row_of_all is ∙ row_with_walk (addable walk free.walk free.differ)
     where
       row_of_all : List ℕ → Exchange
       row_of_all set = record { addable = true; with = set }

@@ -11,3 +11,6 @@ pub mod LinkedRows
 pub mod MorePaths
 pub mod FewerPaths
 pub mod EnteredSets
+pub mod Searching
+pub mod GrownSets
+pub mod NewMatches

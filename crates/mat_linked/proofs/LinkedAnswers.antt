@@ -1,13 +1,12 @@
 -- A set is linked exactly where as many disjoint paths as it has members lead to its vertices: they end at different ones of them, so at
 -- each; and where there are such paths, no separator has fewer vertices than the set has members.
-use Rattle.std.proofs.Common.{◌≡◌, ℕ, ◌<◌, ◌≤◌, true, eqb, List, [], length, map, inl, inr, sym, ap, ◌∙◌, subst, arith}
+use Rattle.std.proofs.Common.{◌≡◌, ℕ, ◌≤◌, true, eqb, List, [], length, map, inl, inr, sym, ap, ◌∙◌, arith}
 use Rattle.std.proofs.lemmas.Bool.{both_ways, cases_Bool, eq-eqb, eqb-true}
 use Rattle.std.proofs.lemmas.List.{length-map}
-use Rattle.mat_sets.specs.Sets.{is_member, union, AllBelow, IsRising, IsSet}
-use Rattle.mat_sets.proofs.Ground.{AllBelow-from_members, AllBelow-member, length-distinct, length-distinct_subset}
+use Rattle.mat_sets.specs.Sets.{is_member, union, IsRising, IsSet}
+use Rattle.mat_sets.proofs.Ground.{length-distinct, length-distinct_subset}
 use Rattle.mat_sets.proofs.Members.{IsRising-nil, IsRising-union, is_member-union, same_members}
 use Rattle.mat_sets.proofs.Subsets.{same_size_subset}
-use Rattle.mat_sets.proofs.Sums.{AllBelow-at}
 use Rattle.mat_sets.proofs.Truths.{or_none}
 use Rattle.mat_flow.proofs.PathChoiceLaws.{ends_are_targets}
 use Rattle.mat_flow.proofs.PathFamilyLaws.{AreDistinct-ends, ends_of, is_member-ends_of}
@@ -15,8 +14,8 @@ use Rattle.mat_flow.proofs.PathLaws.{at_most_a_separator}
 use Rattle.mat_flow.specs.Paths.{last_of, IsLinking}
 use Rattle.mat_flow.proofs.SimplePathLaws.{ArePathsApart-disjoint}
 use Rattle.mat_linked.specs.GammoidLaws.{is_gammoid-from, is_gammoid-gives}
-use Rattle.mat_linked.specs.Gammoids.{is_gammoid, vertices_of, IsGammoid, LinkedVertices}
-use Rattle.mat_linked.specs.LinkedSetLaws.{AreDistinct-vertices_of, for_more, linked_by, size_of, vertex_member}
+use Rattle.mat_linked.specs.Gammoids.{is_gammoid, vertices_of, IsGammoid}
+use Rattle.mat_linked.specs.LinkedSetLaws.{AreDistinct-vertices_of, for_more, linked_by, size_of}
 use Rattle.mat_linked.proofs.VertexSets.{length-vertices_of}
 
 module _ (vertices : ℕ) (arcs : List (ℕ × ℕ)) (sources targets : List ℕ) (given : IsGammoid vertices arcs sources targets)
@@ -65,27 +64,3 @@ module _ (vertices : ℕ) (arcs : List (ℕ × ℕ)) (sources targets : List ℕ
       | inr h ↦ fewer ∙ sym h
     ]
   ]
-
--- ---- what the code reads
-
-module _ (inside now : LinkedVertices) (same : inside ≡ now) (X lent read ends : List ℕ) (lends : lent ≡ X) (reads : read ≡ inside.targets)
-    (below : AllBelow (length now.targets) X) (members : (v : ℕ) → is_member v ends ≡ is_member v (vertices_of read lent))
-    (given : IsGammoid now.vertices now.arcs now.sources now.targets) where
-  members_now : (v : ℕ) → is_member v ends ≡ is_member v (vertices_of now.targets X)
-  members_now v =
-      members v ∙ ap (λ t. is_member v (vertices_of t lent)) (reads ∙ ap (λ g. g.targets) same)
-      ∙ ap (λ l. is_member v (vertices_of now.targets l)) lends
-
-  pub ends_below : AllBelow inside.vertices ends
-  ends_below = subst (λ g. AllBelow g.vertices ends) (sym same) (AllBelow-from_members now.vertices ends (λ v m.
-      (let w = vertex_member now.targets X v (sym (members_now v) ∙ m) in
-      subst (λ u. u < now.vertices) w.2
-      (AllBelow-at now.vertices now.targets w.0 given.targets_inside (AllBelow-member (length now.targets) X w.0 below w.1)))))
-
-  pub is_gammoid-answer : IsRising X → IsRising ends → (paths : List (List ℕ)) (separator : List ℕ) (found size : ℕ)
-      → IsLinking inside.arcs inside.sources ends paths separator → found ≡ length paths → size ≡ length X
-      → eqb found size ≡ is_gammoid now.vertices now.arcs now.sources now.targets X
-  is_gammoid-answer rising rises paths separator found size linking f s =
-      rw (f, s) (is_gammoid-counted now.vertices now.arcs now.sources now.targets given X ends
-      (record { rising = rising; below = below }) rises members_now
-      paths separator (subst (λ g. IsLinking g.arcs g.sources ends paths separator) same linking))

@@ -1,5 +1,5 @@
 -- The exchanges of an element at what is kept of the paths to an independent set: they are told by the vertices of its members that give way.
-use Rattle.std.proofs.Common.{◌≡◌, ℕ, ◌<◌, Bool, true, false, not, ◌&&◌, ◌||◌, eqb, List, [], length, get_or, filter, refl, sym, ap, ◌∙◌, subst, arith}
+use Rattle.std.proofs.Common.{◌≡◌, ℕ, ◌<◌, Bool, true, false, not, ◌&&◌, ◌||◌, eqb, ◌↔◌, List, [], length, get_or, filter, refl, sym, ap, ◌∙◌, subst, arith}
 use Rattle.std.proofs.lemmas.Bool.{both_ways, eq-eqb, eqb-true, false_from_ne_true}
 use Rattle.mat_sets.specs.Sets.{is_member, with_one, without_one, AreDistinct, IsSet}
 use Rattle.mat_sets.proofs.Filters.{filter_whole}
@@ -9,7 +9,7 @@ use Rattle.mat_sets.proofs.Truths.{same_truth}
 use Rattle.mat_flow.specs.Paths.{HasPathsToEach}
 use Rattle.mat_flow.specs.Reroutes.{GiveWay}
 use Rattle.mat_laws.specs.Exchanges.{row_of}
-use Rattle.mat_laws.proofs.Rows.{row_outside}
+use Rattle.mat_laws.proofs.Rows.{row-addable, row_outside}
 use Rattle.mat_linked.specs.GammoidLaws.{gammoid_laws}
 use Rattle.mat_linked.specs.Gammoids.{is_gammoid, set_of_vertices, vertices_of, IsGammoid}
 use Rattle.mat_linked.specs.KeptLinkings.{has_vertex_in}
@@ -70,6 +70,12 @@ module _ (vertices : ℕ) (arcs : List (ℕ × ℕ)) (sources targets : List ℕ
       told_by_paths vertices arcs sources targets given (with_one base x) found (IsSet-with_one (length targets) base x set_base below)
       (λ e. subst (HasPathsToEach arcs sources) (set_of_vertices-with_one targets base x) (f e))
       (λ q. g (subst (HasPathsToEach arcs sources) (sym (set_of_vertices-with_one targets base x)) q))
+
+  -- whether x can be added, by what is told of the paths
+  pub adds_told : (found : Bool) → ((found ≡ true) ↔ ((is_member (get_or targets x 0) (set_of_vertices targets base) ≡ false)
+      × HasPathsToEach arcs sources (with_one (set_of_vertices targets base) (get_or targets x 0)))) → found ≡ (row_of p base x).addable
+  adds_told found told =
+      more found (λ e. (told.0 e).1) (λ q. told.1 (vertex_outside, q)) ∙ sym (row-addable p base x (row_of p base x) out refl)
 
   -- x can be added: then it can take the place of each member
   pub row_addable : (with' : List ℕ) → HasPathsToEach arcs sources (with_one (set_of_vertices targets base) (get_or targets x 0)) → with' ≡ base

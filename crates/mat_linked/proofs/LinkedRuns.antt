@@ -1,19 +1,21 @@
 -- A run of a gammoid keeps disjoint paths to the vertices of the set so far: an element gets in exactly where there is one path more, to its
 -- vertex.
-use Rattle.std.proofs.Common.{◌≡◌, ℕ, ◌+◌, ◌<◌, Bool, true, false, not, ◌&&◌, ◌||◌, if◌then◌else◌, eqb, zero, suc, List, [], ◌∷◌, length, get_or, take, ◌↔◌, inl, inr, refl, sym, ap, ◌∙◌, subst, arith}
+use Rattle.std.proofs.Common.{◌≡◌, ℕ, ◌+◌, ◌<◌, ◌≤◌, Bool, true, false, not, ◌&&◌, ◌||◌, if◌then◌else◌, eqb, zero, suc, List, [], ◌∷◌, length, get_or, take, ◌↔◌, inl, inr, refl, sym, ap, ◌∙◌, subst, arith}
 use Rattle.std.proofs.lemmas.Bool.{both_ways, eq-eqb, eqb-true, false_from_ne_true, false≢true, ne_eqb, or_cases, or_left, or_right}
-use Rattle.mat_sets.specs.Sets.{is_member, union, with_one, AreDistinct, IsSet}
-use Rattle.mat_sets.proofs.Ground.{IsSet-with_one, below_member}
+use Rattle.std.proofs.lemmas.List.{take_all}
+use Rattle.mat_sets.specs.Sets.{is_member, union, with_one, AreDistinct, IsRising, IsSet}
+use Rattle.mat_sets.proofs.Ground.{AreDistinct-rising, IsSet-with_one, below_member}
 use Rattle.mat_sets.proofs.Members.{IsRising-nil, IsRising-union, IsRising-with_one, is_member-get_or, is_member-union, is_member-with_one, same_members}
-use Rattle.mat_sets.proofs.Steps.{is_member-take_more}
+use Rattle.mat_sets.proofs.Steps.{is_member-take_more, take-with_one, IsRising-take}
 use Rattle.mat_sets.proofs.Truths.{or_none, same_truth}
-use Rattle.mat_flow.specs.LinkedEnds.{IsLinkedTo}
+use Rattle.mat_flow.specs.LinkedEnds.{IsLinker}
 use Rattle.mat_flow.specs.Paths.{HasPathsToEach}
-use Rattle.mat_flow.specs.declared.link_table.LinkTable.{LinkTable}
+use Rattle.mat_flow.specs.declared.linker.Linker.{Linker}
 use Rattle.mat_laws.proofs.GreedyRunSteps.{IsRunning, IsRunning-next, IsRunning-start}
 use Rattle.mat_linked.specs.GammoidLaws.{gammoid_laws, is_gammoid-from, is_gammoid-gives}
 use Rattle.mat_linked.specs.Gammoids.{is_gammoid, set_of_vertices, vertices_of, IsGammoid}
 use Rattle.mat_linked.specs.LinkedSetLaws.{for_more, linked_by, member_vertex, same_vertex, vertex_member}
+use Rattle.mat_linked.proofs.MatchableSets.{take_inside}
 
 -- ---- vertices of sets
 
@@ -69,10 +71,10 @@ not_before (y ∷ order) (suc i) d l =
     other a b e f = grind arith
 
 -- the set has come over the first i elements of the order, and there are paths to its vertices
-pub record IsLinkedRun (vertices : ℕ) (arcs : List (ℕ × ℕ)) (sources targets order : List ℕ) (i : ℕ) (set : List ℕ) (links : LinkTable) : Type 0 where
+pub record IsLinkedRun (vertices : ℕ) (arcs : List (ℕ × ℕ)) (sources targets order : List ℕ) (i : ℕ) (set : List ℕ) (links : Linker) : Type 0 where
   pub running : IsRunning (is_gammoid vertices arcs sources targets) order i set
   pub within : (y : ℕ) → is_member y set ≡ true → is_member y (take i order) ≡ true
-  pub linked : IsLinkedTo vertices arcs sources (set_of_vertices targets set) links
+  pub linked : IsLinker vertices arcs sources (set_of_vertices targets set) links
 
 -- ---- independence and paths
 
@@ -105,16 +107,16 @@ module _ (vertices : ℕ) (arcs : List (ℕ × ℕ)) (sources targets : List ℕ
 
   -- ---- a run
 
-  pub IsLinkedRun-start : (order set : List ℕ) (links : LinkTable) → set ≡ [] → IsLinkedTo vertices arcs sources [] links
+  pub IsLinkedRun-start : (order set : List ℕ) (links : Linker) → set ≡ [] → IsLinker vertices arcs sources [] links
       → IsLinkedRun vertices arcs sources targets order 0 set links
   IsLinkedRun-start order set links none linked =
       rw none (record {
         running = IsRunning-start (is_gammoid vertices arcs sources targets) order [] (gammoid_laws vertices arcs sources targets given).empty refl;
         within = λ y m. absurd (false≢true m);
-        linked = subst (λ ends. IsLinkedTo vertices arcs sources ends links) (no_vertices targets) linked;
+        linked = subst (λ ends. IsLinker vertices arcs sources ends links) (no_vertices targets) linked;
       })
 
-  module _ (order : List ℕ) (i x : ℕ) (set : List ℕ) (old : LinkTable) (distinct : AreDistinct order) (inside : i < length order)
+  module _ (order : List ℕ) (i x : ℕ) (set : List ℕ) (old : Linker) (distinct : AreDistinct order) (inside : i < length order)
       (at : x ≡ get_or order i 0) (below : x < length targets) (r : IsLinkedRun vertices arcs sources targets order i set old) where
     new_element : is_member x set ≡ false
     new_element = false_from_ne_true (is_member x set) (λ m.
@@ -126,8 +128,8 @@ module _ (vertices : ℕ) (arcs : List (ℕ × ℕ)) (sources targets : List ℕ
     pub vertex_is_new : is_member (get_or targets x 0) (set_of_vertices targets set) ≡ false
     vertex_is_new = new_vertex targets set x given.distinct set_so_far below new_element
 
-    pub IsLinkedRun-next : (found : Bool) (links : LinkTable) (now : List ℕ)
-        → IsLinkedTo vertices arcs sources (if found then with_one (set_of_vertices targets set) (get_or targets x 0) else set_of_vertices targets set) links
+    pub IsLinkedRun-next : (found : Bool) (links : Linker) (now : List ℕ)
+        → IsLinker vertices arcs sources (if found then with_one (set_of_vertices targets set) (get_or targets x 0) else set_of_vertices targets set) links
         → ((found ≡ true) ↔ HasPathsToEach arcs sources (with_one (set_of_vertices targets set) (get_or targets x 0)))
         → now ≡ (if found then with_one set x else set) → IsLinkedRun vertices arcs sources targets order (i + 1) now links
     IsLinkedRun-next found links now linked answer is =
@@ -142,9 +144,9 @@ module _ (vertices : ℕ) (arcs : List (ℕ × ℕ)) (sources targets : List ℕ
         }
       where
         ends_are : (found : Bool)
-            → IsLinkedTo vertices arcs sources (if found then with_one (set_of_vertices targets set) (get_or targets x 0) else set_of_vertices targets set) links
-            → IsLinkedTo vertices arcs sources (set_of_vertices targets (if found then with_one set x else set)) links
-        ends_are true h = subst (λ ends. IsLinkedTo vertices arcs sources ends links) (set_of_vertices-with_one targets set x) h
+            → IsLinker vertices arcs sources (if found then with_one (set_of_vertices targets set) (get_or targets x 0) else set_of_vertices targets set) links
+            → IsLinker vertices arcs sources (set_of_vertices targets (if found then with_one set x else set)) links
+        ends_are true h = subst (λ ends. IsLinker vertices arcs sources ends links) (set_of_vertices-with_one targets set x) h
         ends_are false h = h
 
         in_first : (y : ℕ) (found : Bool) → is_member y now ≡ is_member y (if found then with_one set x else set) → is_member y now ≡ true
@@ -154,3 +156,40 @@ module _ (vertices : ℕ) (arcs : List (ℕ × ℕ)) (sources targets : List ℕ
           | inl one ↦ or_right (is_member y (take i order)) _ (eq-eqb y _ (eqb-true y x one ∙ at))
           | inr old ↦ or_left (is_member y (take i order)) _ (r.within y old)
         ]
+
+  -- ---- whether a set is linked, one member after the other
+
+  module _ (elements : List ℕ) (rises : IsRising elements) (i : ℕ) (inside : i < length elements) (old : Linker)
+      (below : get_or elements i 0 < length targets) (r : IsLinkedRun vertices arcs sources targets elements i (take i elements) old) (found : Bool)
+      (told : (found ≡ true) ↔ ((is_member (get_or targets (get_or elements i 0) 0) (set_of_vertices targets (take i elements)) ≡ false)
+      × HasPathsToEach arcs sources (with_one (set_of_vertices targets (take i elements)) (get_or targets (get_or elements i 0) 0)))) where
+    answer : (found ≡ true) ↔ HasPathsToEach arcs sources (with_one (set_of_vertices targets (take i elements)) (get_or targets (get_or elements i 0) 0))
+    answer = (
+      λ e. (told.0 e).1,
+      λ p. told.1 (vertex_is_new elements i (get_or elements i 0) (take i elements) old (AreDistinct-rising elements rises) inside refl below r, p),
+    )
+
+    pub IsLinkedRun-all_so_far : (links : Linker)
+        → IsLinker vertices arcs sources (if found then with_one (set_of_vertices targets (take i elements)) (get_or targets (get_or elements i 0) 0)
+        else set_of_vertices targets (take i elements)) links
+        → found ≡ true → IsLinkedRun vertices arcs sources targets elements (i + 1) (take (i + 1) elements) links
+    IsLinkedRun-all_so_far links linked was =
+        IsLinkedRun-next elements i (get_or elements i 0) (take i elements) old (AreDistinct-rising elements rises) inside refl below r found links
+        (take (i + 1) elements) linked answer
+        (take-with_one elements i rises inside ∙ ap (λ b. if b then with_one (take i elements) (get_or elements i 0) else take i elements) (sym was))
+
+    -- a part that is not linked
+    pub part_not_linked : found ≡ false → false ≡ is_gammoid vertices arcs sources targets elements
+    part_not_linked was = sym (false_from_ne_true _ (λ ok.
+        both_ways found was (answer.1
+        (subst (HasPathsToEach arcs sources)
+        (ap (set_of_vertices targets) (take-with_one elements i rises inside)
+        ∙ sym (set_of_vertices-with_one targets (take i elements) (get_or elements i 0)))
+        (paths_by_independence (take (i + 1) elements)
+        ((gammoid_laws vertices arcs sources targets given).subsets (take (i + 1) elements) elements (IsRising-take elements (i + 1) rises)
+        (record { inside = take_inside elements (i + 1) }) ok))))))
+
+  pub all_linked : (elements : List ℕ) (i : ℕ) (links : Linker) → length elements ≤ i
+      → IsLinkedRun vertices arcs sources targets elements i (take i elements) links → true ≡ is_gammoid vertices arcs sources targets elements
+  all_linked elements i links past r =
+      sym (subst (λ X. is_gammoid vertices arcs sources targets X ≡ true) (take_all i elements past) r.running.passes)

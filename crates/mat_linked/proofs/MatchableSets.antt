@@ -2,7 +2,7 @@
 -- a part of the set that cannot be matched.
 use Rattle.std.proofs.Common.{◌≡◌, ℕ, zero, suc, ◌+◌, ◌<◌, ◌≤◌, Bool, true, false, eqb, cond, List, [], ◌∷◌, length, get_or, take, replicate, Option, Some, None, inl, inr, refl, sym, ap, ◌∙◌, subst}
 use Rattle.std.proofs.lemmas.Bool.{and_from, and_parts, both_ways, cond_both, cases_lt, eqb-true, false_from_ne_true, false≢true, or_cases}
-use Rattle.std.proofs.lemmas.List.{get_or_past, take_all}
+use Rattle.std.proofs.lemmas.List.{get_or_past, length-replicate, take_all}
 use Rattle.mat_sets.specs.Sets.{is_member, with_one, AllBelow, AreDistinct, IsRising, IsSet}
 use Rattle.mat_sets.proofs.Ground.{AllBelow-member, AreDistinct-rising}
 use Rattle.mat_sets.proofs.ListParts.{is_member-tail}
@@ -130,7 +130,7 @@ module _ (n : ℕ) (family rows : List (List ℕ)) (r : AreIndices n family rows
     differ = λ x y m k same. partner-differs X t.indices x y t.inside t.distinct m k same;
   }
 
-AreMatchable-part : (rows : List (List ℕ)) (sets : ℕ) (X Y : List ℕ) → ((x : ℕ) → is_member x X ≡ true → is_member x Y ≡ true)
+pub AreMatchable-part : (rows : List (List ℕ)) (sets : ℕ) (X Y : List ℕ) → ((x : ℕ) → is_member x X ≡ true → is_member x Y ≡ true)
     → AreMatchable rows sets Y → AreMatchable rows sets X
 AreMatchable-part rows sets X Y inside m = record {
   index = m.index;
@@ -156,6 +156,9 @@ module _ (rows : List (List ℕ)) (sets : ℕ) (elements : List ℕ) where
     pub long : length matched ≡ sets
     pub matching : IsMatching rows (take i elements) matched
 
+  pub AreMatchedTo-start : (matched : List (Option ℕ)) → matched ≡ replicate sets None → AreMatchedTo 0 matched
+  AreMatchedTo-start matched empty = rw empty (record { long = length-replicate sets None; matching = IsMatching-none rows sets })
+
   -- what is told of one element more
   abbrev pub IsTold : ℕ → List (Option ℕ) → List (Option ℕ) → Bool → Type 0
   IsTold i old new found = (X : List ℕ) → is_member (get_or elements i 0) X ≡ false → IsMatching rows X old
@@ -174,15 +177,7 @@ module _ (rows : List (List ℕ)) (sets : ℕ) (elements : List ℕ) where
     matching = subst (IsMatchedOrNone rows (take (i + 1) elements) new) was (told_here i old new found rises l m told);
   }
 
-  -- where all can be matched, each is
-  pub AreMatchedTo-forced : (i : ℕ) (old new : List (Option ℕ)) (found : Bool) → IsRising elements → i < length elements
-      → AreMatchedTo i old → IsTold i old new found → length new ≡ length old → AreMatchable rows sets elements → AreMatchedTo (i + 1) new
-  AreMatchedTo-forced i old new true rises l m told long whole = AreMatchedTo-more i old new true rises l m told long refl
-  AreMatchedTo-forced i old new false rises l m told long whole =
-      absurd (told_here i old new false rises l m told (subst (λ n. AreMatchable rows n (take (i + 1) elements)) (sym (long ∙ m.long))
-      (AreMatchable-part rows sets (take (i + 1) elements) elements (take_inside elements (i + 1)) whole)))
-
-  pub matched_to_all : (i : ℕ) (matched : List (Option ℕ)) → length elements ≤ i → AreMatchedTo i matched
+  matched_to_all : (i : ℕ) (matched : List (Option ℕ)) → length elements ≤ i → AreMatchedTo i matched
       → IsMatching rows elements matched
   matched_to_all i matched past m = subst (λ X. IsMatching rows X matched) (take_all i elements past) m.matching
 

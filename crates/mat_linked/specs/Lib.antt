@@ -8,3 +8,4 @@ pub mod TransversalLaws
 pub mod Matchings
 pub mod KeptMatchings
 pub mod KeptLinkings
+pub mod Searches

@@ -1,6 +1,6 @@
 -- Matchings of elements with sets that hold them, as tables that have at each index the element that the set with this index is matched
 -- with (Schrijver, chapters 16 and 22).
-use Rattle.std.specs.Prelude.{◌≡◌, ℕ, ◌<◌, Bool, true, false, List, length, Option, Some, None}
+use Rattle.std.specs.Prelude.{◌≡◌, ℕ, ◌<◌, Bool, true, false, if◌then◌else◌, List, length, Option, Some, None}
 use Rattle.mat_sets.specs.Sets.{is_member}
 use Rattle.mat_sets.specs.Rows.{row_at}
 use Rattle.mat_flow.specs.LinkTables.{entry_at, is_before}
@@ -21,6 +21,11 @@ pub record IsMatching (rows : List (List ℕ)) (X : List ℕ) (matched : List (O
   pub inside : (j x : ℕ) → entry_at matched j ≡ Some x → is_member x X ≡ true
   pub covered : (x : ℕ) → is_member x X ≡ true → (j : ℕ) × (entry_at matched j ≡ Some x)
   pub once : (j k x : ℕ) → entry_at matched j ≡ Some x → entry_at matched k ≡ Some x → j ≡ k
+
+-- what is left at an index where these elements are taken out of a matching
+abbrev pub entry_without : List ℕ → Option ℕ → Option ℕ
+entry_without gone None = None
+entry_without gone (Some x) = if is_member x gone then None else Some x
 
 -- an index below `sets` for each member of X, of a set that holds it, and different indices for different members
 pub record AreMatchable (rows : List (List ℕ)) (sets : ℕ) (X : List ℕ) : Type 0 where

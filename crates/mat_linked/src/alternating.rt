@@ -1,6 +1,7 @@
 //! The graph in which the walks are sought that match one element more.
 
-use mat_sets::{BitRows, BitSet, Relation};
+use mat_flow::SearchGraph;
+use mat_sets::{BitRows, BitSet};
 
 /// The indices of a family of sets, some of which are matched with elements: an arc leads from an index to those of the sets that
 /// hold the element that it is matched with; starts are the indices of the sets that hold a new element, and goals those that
@@ -12,7 +13,7 @@ pub(crate) struct Alternating<'a> {
     pub(crate) element: u32,
 }
 
-impl Relation for Alternating<'_> {
+impl SearchGraph for Alternating<'_> {
     ghost use Rattle.std.specs.Prelude.{ℕ, ◌≡◌, ◌<◌, ◌^◌, length, is_none, Some};
     ghost use Rattle.mat_sets.specs.Sets.{is_member};
     ghost use Rattle.mat_sets.specs.Rows.{row_at};
@@ -30,16 +31,12 @@ impl Relation for Alternating<'_> {
 
     ghost goal = { λ r j. is_none (entry_at r.matched.now j) };
 
-    fn size(&self) -> u32 {
-        self.matched.len() as u32
-    }
-
-    fn is_start(&self, j: u32) -> bool {
-        self.rows.row(self.element).contains(j)
-    }
-
     fn is_goal(&self, j: u32) -> bool {
         self.matched[j as usize].is_none()
+    }
+
+    fn next_start(&self, among: &BitSet, from: u32) -> Option<u32> {
+        among.next_common(self.rows.row(self.element), from)
     }
 
     fn next_arc(&self, j: u32, among: &BitSet, from: u32) -> Option<u32> {

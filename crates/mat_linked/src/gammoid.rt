@@ -1,18 +1,19 @@
 //! Gammoids.
 ghost use Rattle.std.specs.Prelude.{◌≡◌, ◌<◌, ◌^◌, ℕ, List, [], true, false, filter, length, IfOk};
 ghost use Rattle.mat_sets.specs.Sets.{is_member, AllBelow, AreDistinct, IsRising};
-ghost use Rattle.mat_flow.specs.LinkedEnds.{IsLinkedTo};
+ghost use Rattle.mat_flow.specs.Digraphs.{IsTurned};
+ghost use Rattle.mat_flow.specs.LinkedEnds.{IsLinker};
 ghost use Rattle.mat_flow.specs.Reroutes.{AreReroutes};
 ghost use Rattle.mat_laws.specs.Exchanges.{row_of};
 ghost use Rattle.mat_laws.specs.GreedyRuns.{grown_along};
-ghost use Rattle.mat_linked.specs.Gammoids.{is_gammoid, set_of_vertices, vertices_of, IsGammoid};
+ghost use Rattle.mat_linked.specs.Gammoids.{is_gammoid, set_of_vertices, IsGammoid};
 ghost use Rattle.mat_linked.specs.GammoidLaws.{gammoid_laws};
 ghost use Rattle.mat_linked.specs.KeptLinkings.{has_vertex_in, IsKeptLinking};
 
 use crate::kept_linking::KeptLinking;
-use mat_flow::{Digraph, LinkTable, Reroutes, linked};
+use mat_flow::{Digraph, Linker};
 use mat_laws::{Exchange, Matroid};
-use mat_sets::ElemSet;
+use mat_sets::{BitSet, ElemSet};
 use std::alloc::{AllocError, Global};
 use std::marker::Model;
 
@@ -21,11 +22,17 @@ use std::marker::Model;
 #[derive(Debug, Drop)]
 pub struct Gammoid {
     graph: Digraph,
+    // The graph with its arcs turned round.
+    back: Digraph,
     sources: ElemSet,
+    // The same, as bits.
+    starts: BitSet,
     targets: Vec<u32>,
 }
 
 impl Model for Gammoid {
+    ghost use Rattle.std.specs.Prelude.{◌≡◌};
+    ghost use Rattle.mat_flow.specs.Digraphs.{IsTurned};
     ghost use Rattle.mat_linked.specs.Gammoids.{LinkedVertices};
 
     ghost Value = { LinkedVertices };
@@ -36,39 +43,54 @@ impl Model for Gammoid {
       sources = g.sources;
       targets = g.targets.items;
     } };
+
+    ghost invariant = { λ g. IsTurned g.graph.vertices g.graph.arcs g.back × (g.starts ≡ g.sources) };
 }
 
-// The set of the vertices of these elements.
-fn vertex_set(alloc: Global, targets: &[u32], elements: &[u32]) -> Result<ElemSet, AllocError>
-    requires { AllBelow (length targets.now) elements.now }
-    ensures members { IfOk result (λ s. (v : ℕ) → is_member v s ≡ is_member v (vertices_of targets.now elements.now)) }
-    ensures rises { IfOk result (λ s. IsRising s) }
+// Whether disjoint paths lead from the sources to the vertices of these elements, one to each.
+fn are_linked(
+    alloc: Global,
+    graph: &Digraph,
+    back: &Digraph,
+    sources: &BitSet,
+    targets: &[u32],
+    elements: &[u32],
+) -> Result<bool, AllocError>
+    requires back { IsTurned graph.now.vertices graph.now.arcs back.now }
+    requires gammoid { IsGammoid graph.now.vertices graph.now.arcs sources.now targets.now }
+    requires below { AllBelow (length targets.now) elements.now }
+    requires rises { IsRising elements.now }
+    ensures { IfOk result (λ b. b ≡ is_gammoid graph.now.vertices graph.now.arcs sources.now targets.now elements.now) }
 {
-    let mut vertices = ElemSet::new(alloc);
-    for e in elements {
-        let _ = vertices.add(targets[*e as usize])?;
+    let mut links = Linker::new(alloc, graph.vertices())?;
+    for x in elements {
+        if !links.link(alloc, graph, back, sources, targets[*x as usize])? {
+            return Ok(false);
+        }
     }
-    Ok(vertices)
+    Ok(true)
 }
 
 // The elements of the order that get in, one after the other, and disjoint paths to the vertices of those.
 fn link_along(
     alloc: Global,
     graph: &Digraph,
-    sources: &ElemSet,
+    back: &Digraph,
+    sources: &BitSet,
     targets: &[u32],
     order: &[u32],
-) -> Result<(ElemSet, LinkTable), AllocError>
+) -> Result<(ElemSet, Linker), AllocError>
+    requires back { IsTurned graph.now.vertices graph.now.arcs back.now }
     requires gammoid { IsGammoid graph.now.vertices graph.now.arcs sources.now targets.now }
     requires below { AllBelow (length targets.now) order.now }
     requires distinct { AreDistinct order.now }
     ensures set { IfOk result (λ r. r.0 ≡ grown_along (is_gammoid graph.now.vertices graph.now.arcs sources.now targets.now) [] order.now) }
-    ensures links { IfOk result (λ r. IsLinkedTo graph.now.vertices graph.now.arcs sources.now (set_of_vertices targets.now r.0) r.1) }
+    ensures links { IfOk result (λ r. IsLinker graph.now.vertices graph.now.arcs sources.now (set_of_vertices targets.now r.0) r.1) }
 {
     let mut set = ElemSet::new(alloc);
-    let mut links = LinkTable::new(alloc, graph.vertices())?;
+    let mut links = Linker::new(alloc, graph.vertices())?;
     for x in order {
-        if links.link(alloc, graph, sources, targets[*x as usize])? {
+        if links.link(alloc, graph, back, sources, targets[*x as usize])? {
             set.add(*x)?;
         }
     }
@@ -79,17 +101,20 @@ fn link_along(
 fn keep_paths(
     alloc: Global,
     graph: &Digraph,
-    sources: &ElemSet,
+    back: &Digraph,
+    sources: &BitSet,
     targets: &[u32],
     base: &ElemSet,
 ) -> Result<KeptLinking, AllocError>
+    requires back { IsTurned graph.now.vertices graph.now.arcs back.now }
     requires gammoid { IsGammoid graph.now.vertices graph.now.arcs sources.now targets.now }
     requires base { is_gammoid graph.now.vertices graph.now.arcs sources.now targets.now base.now ≡ true }
     ensures { IfOk result (λ kept. IsKeptLinking graph.now.vertices graph.now.arcs sources.now targets.now base.now kept) }
 {
-    let (_, links) = link_along(alloc, graph, sources, targets, base.as_slice())?;
-    let reroutes = Reroutes::new(alloc, graph, &links)?;
-    Ok(KeptLinking { links, reroutes })
+    let (_, links) = link_along(alloc, graph, back, sources, targets, base.as_slice())?;
+    Ok(KeptLinking {
+        reroutes: links.into_reroutes(),
+    })
 }
 
 // Disjoint paths to the vertices of an independent set, from such as are kept of another one: the path to each member that is gone is
@@ -97,29 +122,33 @@ fn keep_paths(
 fn keep_next_paths(
     alloc: Global,
     graph: &Digraph,
-    sources: &ElemSet,
+    back: &Digraph,
+    sources: &BitSet,
     targets: &[u32],
     base: &ElemSet,
     kept: &KeptLinking,
     next: &ElemSet,
 ) -> Result<KeptLinking, AllocError>
+    requires back { IsTurned graph.now.vertices graph.now.arcs back.now }
     requires gammoid { IsGammoid graph.now.vertices graph.now.arcs sources.now targets.now }
     requires base { is_gammoid graph.now.vertices graph.now.arcs sources.now targets.now base.now ≡ true }
     requires kept { IsKeptLinking graph.now.vertices graph.now.arcs sources.now targets.now base.now kept.now }
     requires next { is_gammoid graph.now.vertices graph.now.arcs sources.now targets.now next.now ≡ true }
     ensures { IfOk result (λ kept. IsKeptLinking graph.now.vertices graph.now.arcs sources.now targets.now next.now kept) }
 {
-    let mut links = kept.links.copy(alloc)?;
+    let mut links = kept.reroutes.links(alloc, graph.vertices())?;
     let gone = base.minus(alloc, next)?;
     for y in gone.as_slice() {
         links.unlink(targets[*y as usize]);
     }
+    let mut linker = Linker::of_table(alloc, graph.vertices(), &links)?;
     let more = next.minus(alloc, base)?;
     for x in more.as_slice() {
-        links.link(alloc, graph, sources, targets[*x as usize])?;
+        linker.link(alloc, graph, back, sources, targets[*x as usize])?;
     }
-    let reroutes = Reroutes::new(alloc, graph, &links)?;
-    Ok(KeptLinking { links, reroutes })
+    Ok(KeptLinking {
+        reroutes: linker.into_reroutes(),
+    })
 }
 
 // Those of the elements whose vertices are of this set.
@@ -127,7 +156,7 @@ fn members_at(
     alloc: Global,
     targets: &[u32],
     elements: &[u32],
-    vertices: &ElemSet,
+    vertices: &BitSet,
 ) -> Result<ElemSet, AllocError>
     requires below { AllBelow (length targets.now) elements.now }
     requires rises { IsRising elements.now }
@@ -146,7 +175,8 @@ fn members_at(
 // The exchanges of an element by what is kept.
 fn row_by_paths(
     alloc: Global,
-    sources: &ElemSet,
+    back: &Digraph,
+    sources: &BitSet,
     targets: &[u32],
     base: &ElemSet,
     kept: &KeptLinking,
@@ -154,16 +184,17 @@ fn row_by_paths(
 ) -> Result<Exchange, AllocError>
     requires below { AllBelow (length targets.now) base.now }
     requires element { x < length targets.now }
-    requires kept { (vertices : ℕ) × (arcs : List (ℕ × ℕ)) × (ends : List ℕ) × AreReroutes vertices arcs sources.now ends kept.now.reroutes }
-    ensures row { IfOk result (λ e. (vertices : ℕ) (arcs : List (ℕ × ℕ)) → IsGammoid vertices arcs sources.now targets.now
-        → is_gammoid vertices arcs sources.now targets.now base.now ≡ true → is_member x base.now ≡ false
+    requires kept { (vertices : ℕ) × (arcs : List (ℕ × ℕ)) × (ends : List ℕ) × IsTurned vertices arcs back.now
+        × AreReroutes vertices arcs sources.now ends kept.now.reroutes }
+    ensures row { IfOk result (λ e. (vertices : ℕ) (arcs : List (ℕ × ℕ)) → IsTurned vertices arcs back.now
+        → IsGammoid vertices arcs sources.now targets.now → is_gammoid vertices arcs sources.now targets.now base.now ≡ true → is_member x base.now ≡ false
         → IsKeptLinking vertices arcs sources.now targets.now base.now kept.now
         → e ≡ row_of (is_gammoid vertices arcs sources.now targets.now) base.now x) }
     ensures rises { IfOk result (λ e. IsRising e.with) }
 {
     match kept
         .reroutes
-        .giving_way(alloc, sources, targets[x as usize])?
+        .giving_way(alloc, back, sources, targets[x as usize])?
     {
         None => {
             let with = base.copy(alloc)?;
@@ -182,11 +213,33 @@ fn row_by_paths(
     }
 }
 
+// Whether an element can be added, by what is kept.
+fn adds_by_paths(
+    alloc: Global,
+    back: &Digraph,
+    sources: &BitSet,
+    targets: &[u32],
+    base: &ElemSet,
+    kept: &KeptLinking,
+    x: u32,
+) -> Result<bool, AllocError>
+    requires element { x < length targets.now }
+    requires kept { (vertices : ℕ) × (arcs : List (ℕ × ℕ)) × (ends : List ℕ) × IsTurned vertices arcs back.now
+        × AreReroutes vertices arcs sources.now ends kept.now.reroutes }
+    ensures { IfOk result (λ added. (vertices : ℕ) (arcs : List (ℕ × ℕ)) → IsTurned vertices arcs back.now
+        → IsGammoid vertices arcs sources.now targets.now → is_gammoid vertices arcs sources.now targets.now base.now ≡ true → is_member x base.now ≡ false
+        → IsKeptLinking vertices arcs sources.now targets.now base.now kept.now
+        → added ≡ (row_of (is_gammoid vertices arcs sources.now targets.now) base.now x).addable) }
+{
+    kept.reroutes
+        .has_path_to(alloc, back, sources, targets[x as usize])
+}
+
 impl Gammoid {
-    /// The gammoid of this graph in which paths start at the sources and element e is the vertex `targets[e]`. The only error is
-    /// want of memory; as the parts are taken as they stand, none comes.
+    /// The gammoid of this graph in which paths start at the sources and element e is the vertex `targets[e]`. It keeps the graph with
+    /// its arcs turned round beside it. The only error is want of memory.
     pub fn new(
-        _alloc: Global,
+        alloc: Global,
         graph: Digraph,
         sources: ElemSet,
         targets: Vec<u32>,
@@ -198,11 +251,14 @@ impl Gammoid {
         ensures value { IfOk result (λ g. g ≡ record { vertices = graph.vertices; arcs = graph.arcs; sources = sources; targets = targets.items }) }
         ensures sound { IfOk result (λ g. IsGammoid g.vertices g.arcs g.sources g.targets) }
     {
+        let back = graph.turned(alloc)?;
         let _ = graph.vertices();
-        sources.rises();
+        let starts = sources.to_bits(alloc)?;
         Ok(Gammoid {
             graph,
+            back,
             sources,
+            starts,
             targets,
         })
     }
@@ -246,18 +302,30 @@ impl Matroid for Gammoid {
         self.targets.len() as u32
     }
 
-    /// Whether as many disjoint paths lead from the sources to the vertices of the set as it has members: one search of the bits
-    /// of the graph for each path. The only error is want of memory.
+    /// Whether disjoint paths lead from the sources to the vertices of the members, one to each: one search of the bits of the graph
+    /// for each member, up to the first one that finds no path more. The only error is want of memory.
     fn independent(&self, alloc: Global, set: &ElemSet) -> Result<bool, AllocError> {
-        let ends = vertex_set(alloc, &self.targets, set.as_slice())?;
-        let linking = linked(alloc, &self.graph, &self.sources, &ends)?;
-        Ok(linking.paths.len() == set.len())
+        are_linked(
+            alloc,
+            &self.graph,
+            &self.back,
+            &self.starts,
+            &self.targets,
+            set.as_slice(),
+        )
     }
 
     /// One search of the bits of the graph for each element: a path more is sought to its vertex, beside the paths to those that
     /// are in. The only error is want of memory.
     fn run(&self, alloc: Global, order: &[u32]) -> Result<ElemSet, AllocError> {
-        let (set, _) = link_along(alloc, &self.graph, &self.sources, &self.targets, order)?;
+        let (set, _) = link_along(
+            alloc,
+            &self.graph,
+            &self.back,
+            &self.starts,
+            &self.targets,
+            order,
+        )?;
         Ok(set)
     }
 
@@ -268,10 +336,16 @@ impl Matroid for Gammoid {
         self.row(alloc, base, &kept, x)
     }
 
-    /// Disjoint paths to the vertices of the set, one search of the bits of the graph for each member, and the graph with its arcs
-    /// turned round. The only error is want of memory.
+    /// Disjoint paths to the vertices of the set: one search of the bits of the graph for each member. The only error is want of memory.
     fn keep(&self, alloc: Global, base: &ElemSet) -> Result<KeptLinking, AllocError> {
-        keep_paths(alloc, &self.graph, &self.sources, &self.targets, base)
+        keep_paths(
+            alloc,
+            &self.graph,
+            &self.back,
+            &self.starts,
+            &self.targets,
+            base,
+        )
     }
 
     /// One search of the bits of the graph for each member that is new; the path to each that is gone is taken out. The only error is
@@ -286,7 +360,8 @@ impl Matroid for Gammoid {
         keep_next_paths(
             alloc,
             &self.graph,
-            &self.sources,
+            &self.back,
+            &self.starts,
             &self.targets,
             base,
             kept,
@@ -303,6 +378,34 @@ impl Matroid for Gammoid {
         x: u32,
     ) -> Result<Exchange, AllocError> {
         self.lawful();
-        row_by_paths(alloc, &self.sources, &self.targets, base, kept, x)
+        row_by_paths(
+            alloc,
+            &self.back,
+            &self.starts,
+            &self.targets,
+            base,
+            kept,
+            x,
+        )
+    }
+
+    /// Whether an element can be added, by one search of the bits of the graph, back from its vertex in what the paths leave. The only error
+    /// is want of memory.
+    fn adds(
+        &self,
+        alloc: Global,
+        base: &ElemSet,
+        kept: &KeptLinking,
+        x: u32,
+    ) -> Result<bool, AllocError> {
+        adds_by_paths(
+            alloc,
+            &self.back,
+            &self.starts,
+            &self.targets,
+            base,
+            kept,
+            x,
+        )
     }
 }

@@ -1,16 +1,17 @@
 //! What a transversal matroid keeps of an independent set.
 ghost use Rattle.std.specs.Prelude.{◌≡◌, ◌<◌, ◌^◌, ℕ, List, true, false, length, IfOk};
 ghost use Rattle.std.specs.List.{All};
-ghost use Rattle.mat_sets.specs.Sets.{is_member, AllBelow, IsRising};
+ghost use Rattle.mat_sets.specs.Sets.{is_member, minus, AllBelow, IsRising};
 ghost use Rattle.mat_laws.specs.Exchanges.{row_of};
 ghost use Rattle.mat_linked.specs.KeptMatchings.{IsKeptMatching};
-ghost use Rattle.mat_linked.specs.Matchings.{is_matched_among, AreIndices, AreMatchable, IsMatching};
+ghost use Rattle.mat_linked.specs.Matchings.{entry_without, is_matched_among, AreIndices, AreMatchable, IsMatching};
 ghost use Rattle.mat_linked.specs.Transversals.{is_transversal};
 
 use crate::alternating::Alternating;
-use crate::matching::matching_of;
+use crate::matching::matched_with_new;
+use mat_flow::SearchRoom;
 use mat_laws::Exchange;
-use mat_sets::{BitRows, BitSet, ElemSet, WalkSearch, shortest_walk};
+use mat_sets::{BitRows, BitSet, ElemSet};
 use std::alloc::{AllocError, Global};
 
 /// A matching of the members of an independent set with different sets of the family, each of which holds its member
@@ -39,6 +40,33 @@ fn matched_among(
     Ok(found)
 }
 
+// What is left at an index where these elements are taken out of a matching.
+fn entry_left(entry: Option<u32>, gone: &ElemSet) -> Option<u32>
+    ensures { result ≡ entry_without gone.now entry }
+{
+    match entry {
+        Some(x) => { if gone.contains(x) { None } else { Some(x) } }
+        None => None,
+    }
+}
+
+// A matching without these elements.
+fn matched_without(
+    alloc: Global,
+    matched: &[Option<u32>],
+    gone: &ElemSet,
+) -> Result<Vec<Option<u32>>, AllocError>
+    ensures long { IfOk result (λ left. length left.items ≡ length matched.now) }
+    ensures matching { IfOk result (λ left. (rows : List (List ℕ)) (X : List ℕ) → IsMatching rows X matched.now
+        → IsMatching rows (minus X gone.now) left.items) }
+{
+    let mut left = Vec::with_capacity(alloc, matched.len())?;
+    for entry in matched {
+        left.push(entry_left(*entry, gone))?;
+    }
+    Ok(left)
+}
+
 impl KeptMatching {
     /// A matching of this independent set, where `rows` has for each element the indices of the sets that hold it. The only
     /// error is want of memory.
@@ -46,16 +74,67 @@ impl KeptMatching {
         alloc: Global,
         rows: &BitRows,
         sets: u32,
-        base: &[u32],
+        base: &ElemSet,
     ) -> Result<KeptMatching, AllocError>
         requires below { AllBelow (length rows.now) base.now }
-        requires rises { IsRising base.now }
         requires matchable { AreMatchable rows.now sets base.now }
         ensures { IfOk result (λ kept. (family : List (List ℕ)) → length family ≡ sets → AreIndices (length rows.now) family rows.now
             → IsKeptMatching (length rows.now) family base.now kept) }
     {
-        let matched = matching_of(alloc, rows, sets, base)?;
+        let empty = vec![in alloc; None; sets as usize]?;
+        let matched = matched_with_new(alloc, rows, sets, empty, &ElemSet::new(alloc), base)?;
         Ok(KeptMatching { matched })
+    }
+
+    /// A matching of another independent set: the members that are gone are taken out of this one, and one search of the bits of the rows
+    /// is made for each that is new. The only error is want of memory.
+    pub(crate) fn next(
+        &self,
+        alloc: Global,
+        rows: &BitRows,
+        sets: u32,
+        base: &ElemSet,
+        next: &ElemSet,
+    ) -> Result<KeptMatching, AllocError>
+        requires long { length self.now.matched.items ≡ sets }
+        requires matching { IsMatching rows.now base.now self.now.matched.items }
+        requires below { AllBelow (length rows.now) next.now }
+        requires matchable { AreMatchable rows.now sets next.now }
+        ensures { IfOk result (λ kept. (family : List (List ℕ)) → length family ≡ sets → AreIndices (length rows.now) family rows.now
+            → IsKeptMatching (length rows.now) family next.now kept) }
+    {
+        let gone = base.minus(alloc, next)?;
+        let common = matched_without(alloc, &self.matched, &gone)?;
+        let matched = matched_with_new(alloc, rows, sets, common, base, next)?;
+        Ok(KeptMatching { matched })
+    }
+
+    /// Whether an element x outside the set can be added, by one search of the bits of the rows from the sets that hold x to one that is
+    /// not matched (Schrijver, chapter 16). The only error is want of memory.
+    pub(crate) fn adds(
+        &self,
+        alloc: Global,
+        rows: &BitRows,
+        base: &ElemSet,
+        x: u32,
+    ) -> Result<bool, AllocError>
+        requires matching { IsMatching rows.now base.now self.now.matched.items }
+        requires few { length self.now.matched.items < 2 ^ 32 }
+        requires below { x < length rows.now }
+        requires outside { is_member x base.now ≡ false }
+        ensures { IfOk result (λ added. (family : List (List ℕ)) → length family ≡ length self.now.matched.items
+            → All (AllBelow (length rows.now)) family → AreIndices (length rows.now) family rows.now
+            → is_transversal (length rows.now) family base.now ≡ true
+            → added ≡ (row_of (is_transversal (length rows.now) family) base.now x).addable) }
+    {
+        let search = Alternating {
+            rows,
+            matched: &self.matched,
+            element: x,
+        };
+        let mut room = SearchRoom::new(alloc, self.matched.len() as u32)?;
+        let walk = room.seek(alloc, &search)?;
+        Ok(walk.is_some())
     }
 
     /// The exchanges of an element x outside the set, by one search of the bits of the rows from the sets that hold x. Where it
@@ -83,16 +162,17 @@ impl KeptMatching {
             matched: &self.matched,
             element: x,
         };
-        match shortest_walk(alloc, &search)? {
-            WalkSearch::Walk(_) => {
+        let mut room = SearchRoom::new(alloc, self.matched.len() as u32)?;
+        match room.seek(alloc, &search)? {
+            Some(_) => {
                 let with = base.copy(alloc)?;
                 Ok(Exchange {
                     addable: true,
                     with,
                 })
             }
-            WalkSearch::Reached(reached) => {
-                let found = matched_among(alloc, &self.matched, reached.as_slice())?;
+            None => {
+                let found = matched_among(alloc, &self.matched, room.found())?;
                 let with = base.among(alloc, &found)?;
                 Ok(Exchange {
                     addable: false,

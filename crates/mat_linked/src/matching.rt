@@ -1,27 +1,30 @@
 //! Matchings of elements with sets that hold them, made larger along augmenting walks.
 ghost use Rattle.std.specs.Prelude.{◌≡◌, ◌<◌, ◌^◌, ℕ, List, [], Some, false, length, IfOk, OnOk};
-ghost use Rattle.mat_sets.specs.Sets.{is_member, with_one, AllBelow, AreDistinct, IsRising};
+ghost use Rattle.mat_sets.specs.Sets.{intersection, is_member, with_one, AllBelow, AreDistinct, IsRising};
 ghost use Rattle.mat_flow.specs.LinkTables.{entry_at};
 ghost use Rattle.mat_laws.specs.GreedyRuns.{grown_along};
 ghost use Rattle.mat_linked.specs.Matchings.{AreIndices, AreMatchable, IsMatchedOrNone, IsMatching};
+ghost use Rattle.mat_linked.specs.Searches.{IsReady};
 ghost use Rattle.mat_linked.specs.Transversals.{is_transversal};
 
 use crate::alternating::Alternating;
-use mat_flow::shift_along;
-use mat_sets::{BitRows, ElemSet, WalkSearch, shortest_walk};
+use mat_flow::{SearchRoom, shift_along};
+use mat_sets::{BitRows, ElemSet};
 use std::alloc::{AllocError, Global};
 
 // Matches one element more, where that can be done, and tells whether it was: each element on the walk that is found moves on.
-// Where it cannot be done the matching stays as it was.
+// Where it cannot be done the matching stays as it was, and no later search comes again to what this one reached.
 fn match_one(
     alloc: Global,
     rows: &BitRows,
     matched: &mut Vec<Option<u32>>,
+    room: &mut SearchRoom,
     element: u32,
 ) -> Result<bool, AllocError>
     requires element { element < length rows.now }
     requires below { (j x : ℕ) → entry_at matched.old.items j ≡ Some x → x < length rows.now }
-    requires few { length matched.old.items < 2 ^ 32 }
+    requires ready { IsReady rows.now matched.old.items room.old }
+    ensures ready { OnOk result (IsReady rows.now matched.new.items room.new) }
     ensures long { OnOk result (length matched.new.items ≡ length matched.old.items) }
     ensures matched { IfOk result (λ found. (X : List ℕ) → is_member element X ≡ false → IsMatching rows.now X matched.old.items
         → IsMatchedOrNone rows.now (with_one X element) matched.new.items found) }
@@ -32,12 +35,12 @@ fn match_one(
         matched,
         element,
     };
-    match shortest_walk(alloc, &search)? {
-        WalkSearch::Walk(walk) => {
+    match room.seek(alloc, &search)? {
+        Some(walk) => {
             shift_along(matched, &walk, Some(element));
             Ok(true)
         }
-        WalkSearch::Reached(_) => Ok(false),
+        None => Ok(false),
     }
 }
 
@@ -55,31 +58,37 @@ pub(crate) fn are_matchable(
         → b ≡ is_transversal (length rows.now) family elements.now) }
 {
     let mut matched = vec![in alloc; None; sets as usize]?;
+    let mut room = SearchRoom::new(alloc, sets)?;
     for x in elements {
-        if !match_one(alloc, rows, &mut matched, *x)? {
+        if !match_one(alloc, rows, &mut matched, &mut room, *x)? {
             return Ok(false);
         }
     }
     Ok(true)
 }
 
-/// A matching of the elements of a set that can be matched: one search of the bits of the rows for each element. The only error
-/// is want of memory.
-pub(crate) fn matching_of(
+/// Matches the members of a set that another one has not, beside those of both, which are matched: one search of the bits of the rows
+/// for each new member. The only error is want of memory.
+pub(crate) fn matched_with_new(
     alloc: Global,
     rows: &BitRows,
     sets: u32,
-    elements: &[u32],
+    common: Vec<Option<u32>>,
+    base: &ElemSet,
+    next: &ElemSet,
 ) -> Result<Vec<Option<u32>>, AllocError>
-    requires below { AllBelow (length rows.now) elements.now }
-    requires rises { IsRising elements.now }
-    requires matchable { AreMatchable rows.now sets elements.now }
+    requires long { length common.items ≡ sets }
+    requires below { AllBelow (length rows.now) next.now }
+    requires matching { IsMatching rows.now (intersection base.now next.now) common.items }
+    requires matchable { AreMatchable rows.now sets next.now }
     ensures long { IfOk result (λ matched. length matched.items ≡ sets) }
-    ensures matching { IfOk result (λ matched. IsMatching rows.now elements.now matched.items) }
+    ensures matching { IfOk result (λ matched. IsMatching rows.now next.now matched.items) }
 {
-    let mut matched = vec![in alloc; None; sets as usize]?;
-    for x in elements {
-        let _ = match_one(alloc, rows, &mut matched, *x)?;
+    let mut matched = common;
+    let mut room = SearchRoom::new(alloc, sets)?;
+    let more = next.minus(alloc, base)?;
+    for x in more.as_slice() {
+        let _ = match_one(alloc, rows, &mut matched, &mut room, *x)?;
     }
     Ok(matched)
 }
@@ -98,9 +107,10 @@ pub(crate) fn matched_along(
         → set ≡ grown_along (is_transversal (length rows.now) family) [] order.now) }
 {
     let mut matched = vec![in alloc; None; sets as usize]?;
+    let mut room = SearchRoom::new(alloc, sets)?;
     let mut set = ElemSet::new(alloc);
     for x in order {
-        if match_one(alloc, rows, &mut matched, *x)? {
+        if match_one(alloc, rows, &mut matched, &mut room, *x)? {
             let _ = set.add(*x)?;
         }
     }

@@ -117,7 +117,19 @@ impl Matroid for Transversal {
 
     /// A matching of the set. The only error is want of memory.
     fn keep(&self, alloc: Global, base: &ElemSet) -> Result<KeptMatching, AllocError> {
-        KeptMatching::new(alloc, &self.rows, self.family.len() as u32, base.as_slice())
+        KeptMatching::new(alloc, &self.rows, self.family.len() as u32, base)
+    }
+
+    /// A matching of the other set, made from that of the first: one search of the bits of the rows for each member that is new; each that
+    /// is gone is taken out. The only error is want of memory.
+    fn keep_next(
+        &self,
+        alloc: Global,
+        base: &ElemSet,
+        kept: &KeptMatching,
+        next: &ElemSet,
+    ) -> Result<KeptMatching, AllocError> {
+        kept.next(alloc, &self.rows, self.family.len() as u32, base, next)
     }
 
     /// The exchanges of an element by one search of the bits of the rows. The only error is want of memory.
@@ -129,5 +141,16 @@ impl Matroid for Transversal {
         x: u32,
     ) -> Result<Exchange, AllocError> {
         kept.row(alloc, &self.rows, base, x)
+    }
+
+    /// Whether an element can be added, by one search of the bits of the rows. The only error is want of memory.
+    fn adds(
+        &self,
+        alloc: Global,
+        base: &ElemSet,
+        kept: &KeptMatching,
+        x: u32,
+    ) -> Result<bool, AllocError> {
+        kept.adds(alloc, &self.rows, base, x)
     }
 }

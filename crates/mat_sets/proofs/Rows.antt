@@ -2,7 +2,7 @@
 use Rattle.std.proofs.Common.{◌≡◌, ℕ, ◌+◌, ◌<◌, Bool, true, false, ◌&&◌, ◌||◌, eqb, List, [], length, get_or, set, take}
 use Rattle.std.proofs.Common.{inl, inr, sym, ap, ◌∙◌, arith, get_or-set_other, get_or-set_same, length-set}
 use Rattle.std.proofs.lemmas.Bool.{cases_eq, eq-eqb, ne_eqb}
-use Rattle.mat_sets.specs.Rows.{row_at, AreUnited, IsEntered}
+use Rattle.mat_sets.specs.Rows.{row_at, IsEntered}
 use Rattle.mat_sets.specs.Sets.{is_member, with_one}
 use Rattle.mat_sets.proofs.Members.{is_member-with_one}
 use Rattle.mat_sets.proofs.Steps.{is_member-take_more}
@@ -46,18 +46,6 @@ IsEntered-more k places i old new row l below e r =
       count = length-set new here row ∙ r.count;
       members = row_more (λ j. eqb j k) places i old new row l within
           (λ j. ap (is_member j) e ∙ is_member-with_one j k (row_at new here) ∙ or_commute (eqb j k) (is_member j (row_at new here))) r.members;
-    }
-
-pub AreUnited-more : (numbers places : List ℕ) (i : ℕ) (old new : List (List ℕ)) (row : List ℕ) → i < length places
-    → get_or places i 0 < length old
-    → ((j : ℕ) → is_member j row ≡ (is_member j (row_at new (get_or places i 0)) || is_member j numbers))
-    → AreUnited numbers (take i places) old new → AreUnited numbers (take (i + 1) places) old (set new (get_or places i 0) row)
-AreUnited-more numbers places i old new row l below put r =
-    let here = get_or places i 0 in
-    let within : here < length new = omega (arith, below, r.count) in
-    record {
-      count = length-set new here row ∙ r.count;
-      members = row_more (λ j. is_member j numbers) places i old new row l within put r.members;
     }
 
 -- what a number that is put into a row changes

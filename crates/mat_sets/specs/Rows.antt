@@ -11,9 +11,3 @@ pub record IsEntered (k : ℕ) (places : List ℕ) (before after : List (List �
   pub count : length after ≡ length before
   pub members : (j i : ℕ) → i < length before
       → is_member j (row_at after i) ≡ (is_member j (row_at before i) || (j == k && is_member i places))
-
--- some numbers are put into the rows at these places, and nothing else is
-pub record AreUnited (numbers places : List ℕ) (before after : List (List ℕ)) : Type 0 where
-  pub count : length after ≡ length before
-  pub members : (j i : ℕ) → i < length before
-      → is_member j (row_at after i) ≡ (is_member j (row_at before i) || (is_member j numbers && is_member i places))

@@ -1,7 +1,7 @@
 //! Rows of bits: a set of numbers at each place of a list.
-ghost use Rattle.std.specs.Prelude.{◌≡◌, ℕ, ◌<◌, ◌||◌, ◌++◌, ◌∷◌, [], length, replicate, slice_set, IfOk, OnOk, OnErr};
-ghost use Rattle.mat_sets.specs.Rows.{row_at, AreUnited, IsEntered};
-ghost use Rattle.mat_sets.specs.Sets.{is_member, with_one, AllBelow};
+ghost use Rattle.std.specs.Prelude.{◌≡◌, ◌<◌, ◌++◌, ◌∷◌, [], length, replicate, slice_set, IfOk, OnOk, OnErr};
+ghost use Rattle.mat_sets.specs.Rows.{row_at, IsEntered};
+ghost use Rattle.mat_sets.specs.Sets.{with_one, AllBelow};
 
 use crate::bit_set::BitSet;
 use std::alloc::{AllocError, Global};
@@ -90,27 +90,6 @@ impl BitRows {
     {
         for i in places {
             self.insert(*i, k)?;
-        }
-        Ok(())
-    }
-
-    /// Puts these numbers into the row at place i, 64 numbers at a time. After an error the rows are as before.
-    pub fn unite(&mut self, i: u32, numbers: &BitSet) -> Result<(), AllocError>
-        requires { i < length self.old }
-        ensures others { OnOk result (self.new ≡ slice_set self.old i (row_at self.new i)) }
-        ensures row { OnOk result ((j : ℕ) → is_member j (row_at self.new i) ≡ (is_member j (row_at self.old i) || is_member j numbers.now)) }
-        ensures err { OnErr result (self.new ≡ self.old) }
-    {
-        self.rows[i as usize].unite(numbers)
-    }
-
-    /// Puts these numbers into the rows at these places. The only error is want of memory.
-    pub fn unite_each(&mut self, places: &[u32], numbers: &BitSet) -> Result<(), AllocError>
-        requires { AllBelow (length self.old) places.now }
-        ensures { OnOk result (AreUnited numbers.now places.now self.old self.new) }
-    {
-        for i in places {
-            self.unite(*i, numbers)?;
         }
         Ok(())
     }

@@ -4,6 +4,7 @@ ghost use Rattle.mat_sets.specs.Bits.{bits_of};
 ghost use Rattle.mat_sets.specs.Search.{IsNextFrom};
 ghost use Rattle.mat_sets.specs.Sets.{all_below, is_member, with_one, without_one};
 
+use crate::bit_row::BitRow;
 use std::alloc::{AllocError, Global};
 use std::marker::Model;
 
@@ -99,15 +100,40 @@ impl BitSet {
         Ok(())
     }
 
+    /// Puts in all members of a row, 64 numbers at a time. The only error is want of memory.
+    pub fn unite_row(&mut self, row: &BitRow) -> Result<(), AllocError>
+        ensures { OnOk result ((x : ℕ) → is_member x self.new ≡ (is_member x self.old || is_member x row.now)) }
+    {
+        let words = row.as_words();
+        make_room(&mut self.words, words.len())?;
+        set_all(&mut self.words, words);
+        Ok(())
+    }
+
+    /// The words, of which each has the bits of 64 numbers.
+    pub fn as_words(&self) -> &[u64]
+        ensures { bits_of result.now ≡ self.now }
+    {
+        self.words.as_slice()
+    }
+
     /// The first number from `from` on that is a member of both sets: the time is that of the words in between. It takes
     /// no memory.
     pub fn next_common(&self, other: &BitSet, from: u32) -> Option<u32>
         ensures { IsNextFrom (λ x. is_member x self.now && is_member x other.now) from result }
     {
-        let len = self.words.len().min(other.words.len());
+        other.next_among(self.as_words(), from)
+    }
+
+    /// The first number from `from` on whose bit is set in these words and that is a member: the time is that of the words in between. It
+    /// takes no memory.
+    pub fn next_among(&self, words: &[u64], from: u32) -> Option<u32>
+        ensures { IsNextFrom (λ x. is_member x (bits_of words.now) && is_member x self.now) from result }
+    {
+        let len = words.len().min(self.words.len());
         let mut mask = u64::MAX << (from % 64);
         for at in (from / 64) as usize..len {
-            let common = self.words[at] & other.words[at] & mask;
+            let common = words[at] & self.words[at] & mask;
             if common != 0 {
                 return Some(at as u32 * 64 + common.trailing_zeros());
             }

@@ -4,8 +4,9 @@ ghost use Rattle.std.proofs.Common.{rules};
 ghost use Rattle.std.specs.Cmp.Lexicographic.{pointwise};
 ghost use Rattle.std.specs.Cmp.Rules.{comparing};
 ghost use Rattle.mat_sets.specs.Places.{IsFirstFall};
-ghost use Rattle.mat_sets.specs.Sets.{all_below, intersection, is_member, minus, union, with_one, without_one, IsRising, IsSet, IsSubset};
+ghost use Rattle.mat_sets.specs.Sets.{AllBelow, all_below, intersection, is_member, minus, union, with_one, without_one, IsRising, IsSet, IsSubset};
 
+use crate::bit_row::BitRow;
 use crate::bit_set::BitSet;
 use crate::merging::{difference, is_disjoint, is_subset, merged};
 use crate::place::{place, place_to_add};
@@ -247,6 +248,19 @@ impl ElemSet {
             bits.insert(*x)?;
         }
         Ok(bits)
+    }
+
+    /// The same set, of numbers below 512, as bits in place.
+    pub fn to_row(&self) -> BitRow
+        requires { AllBelow 512 self.now }
+        ensures members { result ≡ self.now }
+        ensures rises { IsRising self.now }
+    {
+        let mut bits = BitRow::new();
+        for x in self.as_slice() {
+            bits.insert(*x);
+        }
+        bits
     }
 
     /// Whether each member is one of the other set. The time is linear in both sizes; it takes no memory.

@@ -32,7 +32,8 @@ fn first_rung(alloc: Global, weights: &[Weight]) -> Result<Rung, AllocError>
 /// proves it, and a set that proves that there is no larger one, by weight splitting (Frank 1981; Schrijver, chapter 41). Both
 /// matroids have the same elements, at most 500; both numbers of each weight are at least -10^12 and at most 10^12; there are 1 to 16
 /// workers, who share the rows of each matroid: more than one pay where a row takes longer than a thread takes to start. For n elements
-/// the rows of each matroid are made at most n + 1 times, and as many reached sets grow. The only error is want of memory.
+/// the rows of each matroid are made at most n + 1 times, and as many reached sets grow; what each matroid keeps of a set is made from what
+/// it kept of the one before. The only error is want of memory.
 pub fn intersect_all<R: Threads + Sync, A: Matroid, B: Matroid>(
     rt: &R,
     alloc: Global,
@@ -54,12 +55,20 @@ pub fn intersect_all<R: Threads + Sync, A: Matroid, B: Matroid>(
     b.lawful();
     let mut rungs = Vec::new(alloc);
     let mut rung = first_rung(alloc, weights)?;
+    let mut first_kept = a.keep(alloc, &rung.set)?;
+    let mut second_kept = b.keep(alloc, &rung.set)?;
     loop {
-        let next = augment(rt, alloc, a, b, &rung, workers)?;
-        rungs.push(rung)?;
-        match next {
-            Augmented::Larger(larger) => rung = larger,
-            Augmented::Last(cut) => return Ok(Ladder { rungs, cut }),
+        match augment(rt, alloc, a, b, &rung, &first_kept, &second_kept, workers)? {
+            Augmented::Larger(larger) => {
+                first_kept = a.keep_next(alloc, &rung.set, &first_kept, &larger.set)?;
+                second_kept = b.keep_next(alloc, &rung.set, &second_kept, &larger.set)?;
+                rungs.push(rung)?;
+                rung = larger;
+            }
+            Augmented::Last(cut) => {
+                rungs.push(rung)?;
+                return Ok(Ladder { rungs, cut });
+            }
         }
     }
 }

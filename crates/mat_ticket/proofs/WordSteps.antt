@@ -1,16 +1,16 @@
--- The four kinds of step on the ticket word keep its rule.
+-- The kinds of step on the ticket word keep its rule, and what it tells of a seat with all shares.
 use Rattle.std.proofs.Common.{◌≡◌, ◌≢◌, ℕ, suc, ◌+◌, ◌%◌, ◌^◌, ◌<◌, ◌≤◌, List, [], ◌∷◌, ◌++◌, set, refl, sym, ap, ◌∙◌, subst, ⊎_elim, arith}
 use Rattle.std.specs.List.{sum_by}
 use Rattle.std.specs.Prelude.{slice_index, slice_set}
 use Rattle.std.proofs.lemmas.List.Sums.{sum_by-append, sum_by_push}
 use mathlib.Core.Option.{some, none}
 use lib.ListN.{get_elem?}
-use Rattle.atomic_table.specs.Table.{State, Act, keeps, step, Allows, Splits, Joins, Valid, homes_after, carried_after}
+use Rattle.atomic_table.specs.Table.{State, Act, keeps, step, Allows, Final, Seen, Splits, Joins, Valid, homes_after, carried_after}
 use Rattle.atomic_table.proofs.Lists.{at_set, at_snoc}
 use Rattle.mat_sets.specs.Sets.{AllBelow}
 use Rattle.mat_ticket.specs.declared.ticket_word.TicketView.{TicketView}
-use Rattle.mat_ticket.specs.Sums.{beyond}
-use Rattle.mat_ticket.specs.WordStates.{ticket_view, IsWithinShare, IsTicketWord, IsDraw, IsReadOfAll, less_one_share, one_share, joined_view, spent_view}
+use Rattle.mat_ticket.specs.Sums.{beyond, sum_below}
+use Rattle.mat_ticket.specs.WordStates.{ticket_view, IsWithinShare, IsTicketWord, IsDraw, less_one_share, one_share, joined_view, spent_view}
 use Rattle.mat_ticket.proofs.Sums.{beyond-le, sum_below-none, sum_below-some, AllBelow-beyond_none}
 use Rattle.mat_ticket.proofs.Views.{sum_by-changed, one-le-sum_by, sum_by-le, has_all}
 
@@ -68,26 +68,14 @@ draws count slots id v c few room s d len at fits =
       (refl, drawn_below count s d id v at),
     )
 
-pub reads_all : (count slots id : ℕ) (v : TicketView) (c : List (ℕ × Unit {0})) → v.share ≡ 16
-    → Allows (IsTicketWord count) slots id (v, c) 0 (λ n. n) (IsReadOfAll (step slots 0 0 0 none) (v, c))
-reads_all count slots id v c whole s d len at fits =
-    let n = d.next in
-    let P : List ℕ → Type 0 = λ ws. (w : TicketView) × (a : Act (Unit {0})) × Valid s.homes c a
-    × IsTicketWord count record { words = slice_set ws 0 (slice_index ws 0); homes = homes_after s.homes c a; views = slice_set s.views id w }
-    × IsReadOfAll (step slots 0 0 0 none) (v, c) (slice_index ws 0) (w, carried_after c a) in
-    subst P (sym d.word) (
-      v,
-      keeps,
-      tt,
-      record {
-        next = n;
-        word = refl;
-        shares = (let t = sum_by-changed (λ u. u.share) s.views id v v at in let all = d.shares in omega arith);
-        numbers = λ h. (let t = sum_by-changed (λ u. sum_by h u.drawn) s.views id v v at in let all = d.numbers h in omega arith);
-        within = IsWithinShare-set count s.views id v d.within (d.within id v at);
-      },
-      (refl, λ h. has_all h count s.views id v d.within at (d.shares ∙ sym whole) ∙ d.numbers h),
-    )
+-- a seat with all shares at the end holds the numbers below the next one, each once
+pub closes : (count : ℕ) (words : List ℕ) (slots : List (Unit {0})) (id : ℕ) (v : TicketView) → v.share ≡ 16
+    → Final (Seen (IsTicketWord count) id v) words slots → (next : ℕ) × ((h : ℕ → ℕ) → sum_by h v.drawn ≡ sum_below h next)
+closes count words slots id v whole final =
+    let s = final.0 in
+    let d = final.1.0 in
+    let at = final.1.1 in
+    (d.next, λ h. has_all h count s.views id v d.within at (d.shares ∙ sym whole) ∙ d.numbers h)
 
 pub splits : (count id : ℕ) (v : TicketView) → v.drawn ≡ [] → 2 ≤ v.share → Splits (IsTicketWord count) id v (less_one_share v) (one_share v)
 splits count id v bare two s d at = record {

@@ -30,10 +30,6 @@ pub record IsTicketWord (count : ℕ) (s : State (Unit {0}) TicketView) : Type 0
 abbrev pub IsDraw : Step (Unit {0}) → Me (Unit {0}) TicketView → ℕ → Me (Unit {0}) TicketView → Type 0
 IsDraw s me found after = (after ≡ (ticket_view me.0.share (me.0.drawn ++ found ∷ []), me.1)) × AllBelow found me.0.drawn
 
--- the seat holds the numbers below the one that it found, each once
-abbrev pub IsReadOfAll : Step (Unit {0}) → Me (Unit {0}) TicketView → ℕ → Me (Unit {0}) TicketView → Type 0
-IsReadOfAll s me found after = (after ≡ me) × ((h : ℕ → ℕ) → sum_by h me.0.drawn ≡ sum_below h found)
-
 -- what is left of a seat that gave one share away
 abbrev pub less_one_share : TicketView → TicketView
 less_one_share v = ticket_view (v.share - 1) v.drawn

@@ -6,7 +6,7 @@ ghost use Rattle.mat_ticket.specs.Tickets.{AreTickets};
 use crate::drawn::Drawn;
 use crate::joining::join_seats;
 use crate::placing::arrange;
-use crate::steps::make_word;
+use crate::steps::{close, make_word};
 use crate::worker::{form_team, work_all};
 use mat_work::RowJob;
 use std::alloc::{AllocError, Global};
@@ -39,6 +39,7 @@ pub fn ticket_rows<R: Threads + Sync, J: RowJob>(
     let team = form_team(alloc, word, seat, count, workers)?;
     let room = Vec::with_capacity(alloc, workers as usize)?;
     let done = work_all(rt, word, job, count, team)?;
-    let outputs = join_seats(word, done, room)?;
+    let (outputs, whole) = join_seats(word, done, room)?;
+    close(table, whole);
     arrange(alloc, count, outputs)
 }

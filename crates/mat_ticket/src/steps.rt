@@ -1,22 +1,19 @@
-//! The four kinds of step on the ticket word, and the word with its first seat.
+//! The four kinds of step on the ticket word: the word with its first seat is made, a share is split off, a number is drawn, and a seat is
+//! joined to another. In the end the word is closed with the seat that has all shares.
 ghost use Rattle.std.specs.Prelude.{◌≡◌, ◌+◌, ◌-◌, ◌^◌, ◌<◌, ◌≤◌, ◌++◌, [], ◌∷◌, ℕ, IfOk};
 ghost use Rattle.std.specs.List.{sum_by};
 ghost use Rattle.mat_sets.specs.Sets.{AllBelow};
 ghost use Rattle.mat_ticket.specs.Sums.{beyond, sum_below};
 ghost use Rattle.mat_ticket.specs.WordStates.{ticket_view};
 
-use crate::ticket_word::{
-    DrawNext, JoinViews, ReadAll, Seat, SplitShare, TicketRule, TicketView, TicketWord,
-};
+use crate::ticket_word::{DrawNext, JoinViews, Seat, SplitShare, TicketTable, TicketWord};
 use atomic_table::Table;
 use std::alloc::{AllocError, Global};
 
 /// The word at 0, with its first seat, which has all shares. The only error is want of memory.
-pub(crate) fn make_word(
-    alloc: Global,
-    count: u32,
-) -> Result<(Table<(), TicketView, u64, TicketRule, Global>, Seat), AllocError>
+pub(crate) fn make_word(alloc: Global, count: u32) -> Result<(TicketTable, Seat), AllocError>
     ensures table { IfOk result (λ t. (t.0.shared.table_id.words ≡ 1) × (t.0.shared.key ≡ count)) }
+    ensures slots { IfOk result (λ t. t.0.shared.table_id.slots ≡ 0) }
     ensures seat { IfOk result (λ t. (t.1.table_id ≡ t.0.shared.table_id) × (t.1.me ≡ (ticket_view 16 [], []))) }
 {
     Table::of_words(alloc, &[0], &u64::from(count))
@@ -57,12 +54,12 @@ pub(crate) fn join_other(word: &TicketWord, seat: &mut Seat, other: Seat)
     word.join_seat::<JoinViews>(seat, other);
 }
 
-/// The next number, read by a seat that has all shares: it holds the numbers below the next one, each once.
-pub(crate) fn read_all(word: &TicketWord, seat: &mut Seat) -> u64
-    requires word { word.now.table_id.words ≡ 1 }
-    requires seat { seat.old.table_id ≡ word.now.table_id }
-    requires share { seat.old.me.0.share ≡ 16 }
-    ensures { (h : ℕ → ℕ) → sum_by h seat.old.me.0.drawn ≡ sum_below h result }
+/// Ends the word with the seat that has all shares: it holds the numbers below some number, each once.
+pub(crate) fn close(table: TicketTable, seat: Seat)
+    requires slots { table.shared.table_id.slots ≡ 0 }
+    requires seat { seat.table_id ≡ table.shared.table_id }
+    requires share { seat.me.0.share ≡ 16 }
+    ensures { (next : ℕ) × ((h : ℕ → ℕ) → sum_by h seat.me.0.drawn ≡ sum_below h next) }
 {
-    word.load::<ReadAll>(seat, 0)
+    table.close_with(seat).free();
 }

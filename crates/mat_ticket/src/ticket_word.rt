@@ -3,7 +3,8 @@
 //! Who draws needs a share for each number from the count on that it holds, and there are 16 shares in all. So the word stays within the
 //! count and 16, and no draw can run over. Who has all 16 shares holds all that was drawn.
 
-use atomic_table::{Join, Play, Split, TableRule};
+use atomic_table::{Join, Play, Split, Table, TableRule};
+use std::alloc::Global;
 use std::collections::LinkedList;
 
 /// What a seat holds: its share, and the numbers that it drew, in the order of its draws. No value of it is made.
@@ -33,15 +34,6 @@ impl Play<(), TicketView> for DrawNext {
     ghost then = { IsDraw };
 }
 
-/// A step by which a seat that has all shares reads the next number.
-pub(crate) struct ReadAll;
-
-impl Play<(), TicketView> for ReadAll {
-    ghost use Rattle.mat_ticket.specs.WordStates.{IsReadOfAll};
-
-    ghost then = { IsReadOfAll };
-}
-
 /// A step by which a seat that holds no number gives one share to a new seat.
 pub(crate) struct SplitShare;
 
@@ -63,6 +55,9 @@ impl Join<TicketView> for JoinViews {
 
     ghost spent = { spent_view };
 }
+
+/// The table with the word.
+pub(crate) type TicketTable = Table<(), TicketView, u64, TicketRule, Global>;
 
 /// The word that all workers share. Its key is the count.
 pub(crate) type TicketWord = atomic_table::Shared<(), TicketView, u64, TicketRule>;

@@ -294,7 +294,7 @@ module _ (held : List ℕ → Option (List ℕ)) (file : List ℕ) (instance : I
   unverified_by k certificate shown before now refusals.ReadFault (inl rose) =
       (certificate, inr (inl (refl, if_told (held file) _ _ (λ bytes spelled. (instance, spelled)) described)), rose)
   unverified_by k certificate shown before now refusals.ReadFault (inr why) =
-      (shown, inr (inr (refl, instance, described, why.1)), why.0)
+      (shown, inr (inr (refl, instance, described, why.1, why.2)), why.0)
   unverified_by k certificate shown before now refusals.TooLong (inl why) =
       (verify_outcome k certificate shown _ statuses.TooLong why (λ all long needs. inl long), tt)
   unverified_by k certificate shown before now refusals.TooLong (inr why) =

@@ -69,7 +69,8 @@ module _ (after held : List ℕ → Option (List ℕ)) (same : (name : List ℕ)
       inl (rose_before (earlier certificate) (before certificate) (now certificate) (le certificate) rose)
   unverified_before earlier before now refusals.ReadFault le (inr why) = inr (
     rose_before (earlier shown) (before shown) (now shown) (le shown) why.0,
-    subst (HasRungAnswer instance k) (same certificate) why.1,
+    why.1,
+    subst (HasRungAnswer instance k) (same certificate) why.2,
   )
   unverified_before earlier before now refusals.TooLong le (inl why) = inl (no_rung_there earlier before now refusals.TooLong le why)
   unverified_before earlier before now refusals.TooLong le (inr why) = inr (unshown_there refusals.TooLong why)

@@ -1,8 +1,9 @@
 -- What was found of a witness for a rung of an answer, as the call tells it of their files.
-use Rattle.std.proofs.Common.{◌≡◌, ◌≤◌, ℕ, List, Option, Result, Ok, Err, inr, sym, subst}
+use Rattle.std.proofs.Common.{◌≡◌, ◌≤◌, ℕ, true, List, Option, Result, Ok, Err, inr, sym, subst}
 use Rattle.std.specs.Prelude.{IfErr, IfSome, IsErrAnd}
 use Rattle.mat_desc.specs.Instances.{Instance}
 use Rattle.mat_cert.specs.Certificates.{Certificate}
+use Rattle.mat_witness.specs.Kinds.{is_witnessed_pair}
 use Rattle.mat_witness.specs.Lines.{witness_limit}
 use Rattle.mat_top.specs.declared.reading.Unread.{Unread}
 use Rattle.mat_top.specs.declared.reading.Unread.TheVariants as unread
@@ -15,12 +16,13 @@ use Rattle.mat_top.specs.Witnessing.{IsRungAnswer}
 use Rattle.mat_top.proofs.Told.{if_told, of_file, rose_before}
 
 module _ (held : List ℕ → Option (List ℕ)) (instance : Instance) (k : ℕ) (certificate shown : List ℕ) (answer : Certificate)
-    (of_rung : IfSome (held certificate) (λ bytes. IsRungAnswer instance k bytes answer)) where
+    (witnessed : is_witnessed_pair instance ≡ true) (of_rung : IfSome (held certificate) (λ bytes. IsRungAnswer instance k bytes answer)) where
   unread_by : (before between now : List ℕ → ℕ) (left : Option (List ℕ)) (why : Unread) → before shown ≤ between shown
       → NotRead (held shown) witness_limit left (between shown) (now shown) why
       → IsUnverified held instance k certificate shown before now (refusal_of_unread why)
   unread_by before between now left unread.Fault earlier rose = inr (
     rose_before (before shown) (between shown) (now shown) earlier rose,
+    witnessed,
     if_told (held certificate) _ _ (λ bytes of. (answer, of)) of_rung,
   )
   unread_by before between now left unread.TooLong earlier long = inr (answer, of_rung, if_told (held shown) _ _ (λ all h. h.0) long)

@@ -201,7 +201,8 @@ Tells held (Some (batch list)) = IsSomeAnd (held list) (λ bytes. (jobs : List J
 Tells held (Some (convert file)) = IsSomeAnd (held file) (TellsCertificate held show)
 
 -- the files that a request about the problem in this file reaches: that file, that of the certificate where nothing that is told of the
--- description refuses the call before, and that of the witness where nothing that is told of the certificate does
+-- description refuses the call before, and that of the witness where nothing that is told of the description or of the certificate does: then
+-- the description is that of two matroids that have witnesses
 abbrev pub RequestReaches : (List ℕ → Option (List ℕ)) → List ℕ → Request → List ℕ → Type 0
 RequestReaches held file (check certificate) name =
     (name ≡ file) ⊎ ((name ≡ certificate) × IfSome (held file) (λ bytes. (instance : Instance) × IsDescribed bytes instance))
@@ -210,7 +211,7 @@ RequestReaches held file (witness k certificate) name =
 RequestReaches held file (verify k certificate shown) name =
     (name ≡ file) ⊎ (((name ≡ certificate) × IfSome (held file) (λ bytes. (instance : Instance) × IsDescribed bytes instance))
     ⊎ ((name ≡ shown) × (instance : Instance) × IfSome (held file) (λ bytes. IsDescribed bytes instance)
-    × IfSome (held certificate) (λ text. (answer : Certificate) × IsRungAnswer instance k text answer)))
+    × (is_witnessed_pair instance ≡ true) × IfSome (held certificate) (λ text. (answer : Certificate) × IsRungAnswer instance k text answer)))
 RequestReaches held file request name = name ≡ file
 
 -- the files that jobs reach: each up to that of the first job that what is told of its file refuses

@@ -9,6 +9,7 @@ use Rattle.mat_cert.specs.Limits.{certificate_limit}
 use Rattle.mat_cert.specs.Views.{certificate_of}
 use Rattle.mat_check.specs.AnswerClauses.{failure_of}
 use Rattle.mat_check.specs.Right.{IsRight}
+use Rattle.mat_witness.specs.Kinds.{is_witnessed_pair}
 use Rattle.mat_witness.specs.Lines.{witness_limit}
 use Rattle.mat_top.specs.declared.status.Status.TheVariants as statuses
 use Rattle.mat_top.specs.declared.status.Refusal.{Refusal}
@@ -136,7 +137,7 @@ abbrev pub IsUnshownText : Instance → Certificate → ℕ → List ℕ → Ref
 IsUnshownText instance answer k bytes refusals.TooLong = witness_limit < length bytes
 IsUnshownText instance answer k bytes refusal = IsUnshown instance answer k bytes refusal
 
--- the certificate in a file has an answer of which this rung can be witnessed
+-- the certificate in a file, where it is told, has an answer of which this rung can be witnessed
 abbrev pub HasRungAnswer : Instance → ℕ → Option (List ℕ) → Type 0
 HasRungAnswer instance k held = IfSome held (λ bytes. (answer : Certificate) × IsRungAnswer instance k bytes answer)
 
@@ -147,10 +148,11 @@ IsUnshownFile held instance k certificate shown refusal = (answer : Certificate)
     × IfSome (held shown) (λ bytes. IsUnshownText instance answer k bytes refusal)
 
 -- why the file of the second name doesn't show a rung of the certificate in that of the first: with the counts of the shelf's faults before
--- and after
+-- and after. It is read only where the problem's matroids have witnesses
 abbrev pub IsUnverified : (List ℕ → Option (List ℕ)) → Instance → ℕ → List ℕ → List ℕ → (List ℕ → ℕ) → (List ℕ → ℕ) → Refusal → Type 0
 IsUnverified held instance k certificate shown before now refusals.ReadFault =
-    Rose (before certificate) (now certificate) ⊎ (Rose (before shown) (now shown) × HasRungAnswer instance k (held certificate))
+    Rose (before certificate) (now certificate)
+    ⊎ (Rose (before shown) (now shown) × (is_witnessed_pair instance ≡ true) × HasRungAnswer instance k (held certificate))
 IsUnverified held instance k certificate shown before now refusals.TooLong =
     HasNoRungIn instance k (held certificate) (before certificate) (now certificate) refusals.TooLong
     ⊎ IsUnshownFile held instance k certificate shown refusals.TooLong

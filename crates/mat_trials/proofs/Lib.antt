@@ -1,2 +1,2 @@
 pub mod FreeTables
-pub mod OpenParts
+pub mod TwoParts

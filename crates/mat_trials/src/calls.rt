@@ -79,6 +79,25 @@ pub(crate) fn three_files(
     Ok(files)
 }
 
+/// The three files `f`, `l` and `g` with these bytes.
+pub(crate) fn job_files(
+    alloc: Global,
+    first: Vec<u8>,
+    list: Vec<u8>,
+    second: Vec<u8>,
+) -> Result<Vec<NamedFile>, AllocError>
+    ensures { IfOk result (λ files. HaveDifferentNames files.items) }
+{
+    let first = NamedFile::new(String::from_str(alloc, "f")?, first);
+    let list = NamedFile::new(String::from_str(alloc, "l")?, list);
+    let second = NamedFile::new(String::from_str(alloc, "g")?, second);
+    let mut files = Vec::new(alloc);
+    files.push(first)?;
+    files.push(list)?;
+    files.push(second)?;
+    Ok(files)
+}
+
 /// A sink that never fails before it is full.
 pub(crate) fn sink(alloc: Global) -> Result<MemSink, AllocError> {
     MemSink::new(alloc, ROOM, STEP, Vec::new(alloc))
@@ -134,5 +153,20 @@ pub(crate) fn ended_beside<R: Threads + Sync>(
 ) -> Result<Ended, AllocError> {
     let files = one_file(alloc, description.as_bytes().to_vec(alloc)?)?;
     let mut shelf = SureShelf::new(files, certificate);
+    ended_over(rt, alloc, words, &mut shelf)
+}
+
+/// Runs the top call where the files `f` and `g` have these descriptions, and the file `l` has a list of jobs.
+pub(crate) fn ended_jobs<R: Threads + Sync>(
+    rt: &R,
+    alloc: Global,
+    words: &[String],
+    first: &str,
+    list: Vec<u8>,
+    second: Vec<u8>,
+) -> Result<Ended, AllocError> {
+    let first = first.as_bytes().to_vec(alloc)?;
+    let files = job_files(alloc, first, list, second)?;
+    let mut shelf = MemShelf::new(files, STEP, Vec::new(alloc));
     ended_over(rt, alloc, words, &mut shelf)
 }

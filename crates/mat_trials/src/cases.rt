@@ -2,7 +2,9 @@
 //!
 //! A line that begins with `>` begins a case, and its further words are those of the command line. The lines below it are the text
 //! of the file `f`, those below a line that is `--` alone the text of the file `c`, and those below another such line the text of the file
-//! `w`. A last line of a text that is `<` alone is no part of it, and says that the line above it has no end.
+//! `w`; where there are three texts and the command is `batch`, the second is that of the file `l` and the third that of the file `g`. A last
+//! line of a text that is `<` alone is no part of it, and says that the line above it has no end. Where a second `>` stands behind the first,
+//! what is written is told with all that one right answer has.
 
 use std::alloc::{AllocError, Global};
 
@@ -16,6 +18,8 @@ pub(crate) struct Case {
     pub(crate) certificate: Option<String>,
     /// The text of the file `w`, if there is one.
     pub(crate) witness: Option<String>,
+    /// Whether there is one right answer, but for what `first`, `second` and `cut` lines hold.
+    pub(crate) is_fixed: bool,
 }
 
 // The words of a line.
@@ -58,7 +62,12 @@ fn text_within<'a>(
 }
 
 // The case of these words and of the lines of its texts, of which the last has no end.
-fn case_with(alloc: Global, words: Vec<String>, lines: &str) -> Result<Case, AllocError> {
+fn case_with(
+    alloc: Global,
+    words: Vec<String>,
+    is_fixed: bool,
+    lines: &str,
+) -> Result<Case, AllocError> {
     let (description, others) = text_before(alloc, lines)?;
     let (certificate, others) = text_within(alloc, others)?;
     let (witness, _) = text_within(alloc, others)?;
@@ -67,18 +76,22 @@ fn case_with(alloc: Global, words: Vec<String>, lines: &str) -> Result<Case, All
         description,
         certificate,
         witness,
+        is_fixed,
     })
 }
 
 // The case of these lines, of which the first holds the words, and the last has no end.
 fn case_of(alloc: Global, lines: &str) -> Result<Case, AllocError> {
+    let is_fixed = lines.starts_with(">");
+    let lines = lines.strip_prefix(">").unwrap_or(lines);
     match lines.split_once('\n') {
-        Some((first, others)) => case_with(alloc, words_of(alloc, first)?, others),
+        Some((first, others)) => case_with(alloc, words_of(alloc, first)?, is_fixed, others),
         None => Ok(Case {
             words: words_of(alloc, lines)?,
             description: String::new(alloc),
             certificate: None,
             witness: None,
+            is_fixed,
         }),
     }
 }

@@ -3,9 +3,7 @@
 ghost use Rattle.std.specs.Prelude.{IfOk};
 ghost use Rattle.mat_shelf.specs.Files.{HaveDifferentNames};
 
-use crate::calls::{
-    Ended, ended_beside, ended_over, one_file, sink, three_files, two_files, words_of,
-};
+use crate::calls::{Ended, one_file, sink, three_files, two_files, words_of};
 use crate::cases::{Case, cases_of};
 use crate::reports::{asks_to_solve, heading_of, is_command};
 use mat_shelf::{MemShelf, MemSink, NamedFile};
@@ -16,38 +14,107 @@ use std::thread::Threads;
 // The most bytes that a sink holds.
 const ROOM: usize = 4096;
 
-// The files of a case.
-fn files_of(alloc: Global, case: &Case) -> Result<Vec<NamedFile>, AllocError>
+// What is told of a text of a case, by its place, and what the notes say where it ends early and where a byte stands behind its end.
+#[derive(Clone, Copy)]
+struct Ends {
+    place: usize,
+    name: &'static str,
+    early: &'static str,
+    behind: &'static str,
+}
+
+const DESCRIPTION: Ends = Ends {
+    place: 0,
+    name: "description",
+    early: "description 12 EndsEarly",
+    behind: "description 11 TooManyLines",
+};
+
+const CERTIFICATE: Ends = Ends {
+    place: 1,
+    name: "certificate",
+    early: "certificate 7 EndsEarly",
+    behind: "certificate 8 AfterEnd",
+};
+
+const LIST: Ends = Ends {
+    place: 1,
+    name: "list",
+    early: "list",
+    behind: "list",
+};
+
+const WITNESS: Ends = Ends {
+    place: 2,
+    name: "witness",
+    early: "witness 7 EndsEarly",
+    behind: "witness 8 AfterEnd",
+};
+
+// The texts of a case: of its description, its certificate or list of jobs, and its witness, as far as there are any.
+fn texts_of(alloc: Global, case: &Case) -> Result<Vec<Vec<u8>>, AllocError> {
+    let mut texts = Vec::new(alloc);
+    if !case.description.is_empty() {
+        texts.push(case.description.as_bytes().to_vec(alloc)?)?;
+    }
+    if let Some(text) = &case.certificate {
+        texts.push(text.as_bytes().to_vec(alloc)?)?;
+    }
+    if let Some(text) = &case.witness {
+        texts.push(text.as_bytes().to_vec(alloc)?)?;
+    }
+    Ok(texts)
+}
+
+// The text at a place, and nothing where there is none.
+fn text_at(texts: &[Vec<u8>], place: usize) -> &[u8] {
+    texts
+        .get(place)
+        .map_or(b"".as_slice(), |text| text.as_slice())
+}
+
+// The texts with this one at a place.
+fn texts_with(
+    alloc: Global,
+    texts: &[Vec<u8>],
+    place: usize,
+    text: &[u8],
+) -> Result<Vec<Vec<u8>>, AllocError> {
+    let mut all = Vec::new(alloc);
+    for i in 0..texts.len().max(place.saturating_add(1)) {
+        let chosen = if i == place { text } else { text_at(texts, i) };
+        all.push(chosen.to_vec(alloc)?)?;
+    }
+    Ok(all)
+}
+
+// The files with these texts.
+fn files_of(alloc: Global, texts: &[Vec<u8>]) -> Result<Vec<NamedFile>, AllocError>
     ensures { IfOk result (λ files. HaveDifferentNames files.items) }
 {
-    let description = case.description.as_bytes().to_vec(alloc)?;
-    let Some(text) = &case.certificate else {
-        return one_file(alloc, description);
-    };
-    let certificate = text.as_bytes().to_vec(alloc)?;
-    match &case.witness {
-        Some(text) => three_files(
-            alloc,
-            description,
-            certificate,
-            text.as_bytes().to_vec(alloc)?,
-        ),
-        None => two_files(alloc, description, certificate),
+    let first = text_at(texts, 0).to_vec(alloc)?;
+    let second = text_at(texts, 1).to_vec(alloc)?;
+    let third = text_at(texts, 2).to_vec(alloc)?;
+    match texts.len() {
+        0 | 1 => one_file(alloc, first),
+        2 => two_files(alloc, first, second),
+        _ => three_files(alloc, first, second, third),
     }
 }
 
-// A case over files of which a read gives one byte, and an output that takes one at a time, where these of their calls fail.
+// The top call over files of which a read gives one byte, and an output that takes one at a time, where these of their calls fail.
 fn ended_failing<R: Threads + Sync>(
     rt: &R,
     alloc: Global,
-    case: &Case,
+    words: &[String],
+    texts: &[Vec<u8>],
     reads: &[u64],
     writes: &[u64],
 ) -> Result<Ended, AllocError> {
-    let mut shelf = MemShelf::new(files_of(alloc, case)?, 1, reads.to_vec(alloc)?);
+    let mut shelf = MemShelf::new(files_of(alloc, texts)?, 1, reads.to_vec(alloc)?);
     let mut out = MemSink::new(alloc, ROOM, 1, writes.to_vec(alloc)?)?;
     let mut notes = sink(alloc)?;
-    let status = run(rt, alloc, &case.words, &mut shelf, &mut out, &mut notes);
+    let status = run(rt, alloc, words, &mut shelf, &mut out, &mut notes);
     Ok(Ended { status, out, notes })
 }
 
@@ -55,16 +122,24 @@ fn ended_failing<R: Threads + Sync>(
 fn reads_are_told<R: Threads + Sync>(
     rt: &R,
     alloc: Global,
-    case: &Case,
+    words: &[String],
+    texts: &[Vec<u8>],
     calls: usize,
 ) -> Result<bool, AllocError> {
     let mut told = true;
     for before in 0..calls {
-        let ended = ended_failing(rt, alloc, case, &[before as u64 + 1], &[])?;
+        let ended = ended_failing(rt, alloc, words, texts, &[before as u64 + 1], &[])?;
         let read_fault = ended.status == Status::ReadFault;
         told = told && read_fault && ended.out.taken().is_empty();
     }
-    let ended = ended_failing(rt, alloc, case, &[(calls as u64).saturating_add(1)], &[])?;
+    let ended = ended_failing(
+        rt,
+        alloc,
+        words,
+        texts,
+        &[(calls as u64).saturating_add(1)],
+        &[],
+    )?;
     Ok(told && ended.status == Status::Done)
 }
 
@@ -72,16 +147,17 @@ fn reads_are_told<R: Threads + Sync>(
 fn writes_are_told<R: Threads + Sync>(
     rt: &R,
     alloc: Global,
-    case: &Case,
+    words: &[String],
+    texts: &[Vec<u8>],
     whole: &[u8],
 ) -> Result<bool, AllocError> {
     let mut told = true;
     for before in 0..whole.len() {
-        let ended = ended_failing(rt, alloc, case, &[], &[before as u64 + 1])?;
+        let ended = ended_failing(rt, alloc, words, texts, &[], &[before as u64 + 1])?;
         let write_fault = ended.status == Status::WriteFault;
         told = told && write_fault && ended.out.taken() == &whole[..before];
     }
-    let ended = ended_failing(rt, alloc, case, &[], &[whole.len() as u64 + 1])?;
+    let ended = ended_failing(rt, alloc, words, texts, &[], &[whole.len() as u64 + 1])?;
     Ok(told && ended.status == Status::Done && ended.out.taken() == whole)
 }
 
@@ -105,158 +181,128 @@ fn note_at_end(alloc: Global, fault: &str, text: &[u8]) -> Result<String, AllocE
     format!(in alloc; "refused: {fault} line {line}\n")
 }
 
-// A description with these bytes is shown.
-fn shown<R: Threads + Sync>(rt: &R, alloc: Global, bytes: &[u8]) -> Result<Ended, AllocError> {
-    let words = words_of(alloc, &["show", "f"])?;
-    let files = one_file(alloc, bytes.to_vec(alloc)?)?;
-    let mut shelf = MemShelf::new(files, ROOM, Vec::new(alloc));
-    ended_over(rt, alloc, &words, &mut shelf)
-}
-
-// A certificate with these bytes is judged.
-fn judged<R: Threads + Sync>(
-    rt: &R,
-    alloc: Global,
-    description: &str,
-    bytes: &[u8],
-) -> Result<Ended, AllocError> {
-    let words = words_of(alloc, &["check", "f", "c"])?;
-    ended_beside(rt, alloc, &words, description, bytes.to_vec(alloc)?)
-}
-
 // Whether a call ended with this note and wrote nothing.
 fn is_refused(ended: &Ended, note: &str) -> bool {
     ended.notes.taken() == note.as_bytes() && ended.out.taken().is_empty()
 }
 
-// Whether each part of a description before its end ends early.
-fn descriptions_end_early<R: Threads + Sync>(
+// Whether each part of a text before its end ends early.
+fn parts_end_early<R: Threads + Sync>(
     rt: &R,
     alloc: Global,
-    text: &[u8],
+    words: &[String],
+    texts: &[Vec<u8>],
+    ends: &Ends,
 ) -> Result<bool, AllocError> {
+    let text = text_at(texts, ends.place);
     let mut told = true;
     for count in 0..text.len() {
         let part = &text[..count];
-        let note = note_at_end(alloc, "description 12 EndsEarly", part)?;
-        let ended = shown(rt, alloc, part)?;
+        let note = note_at_end(alloc, ends.early, part)?;
+        let cut = texts_with(alloc, texts, ends.place, part)?;
+        let ended = ended_failing(rt, alloc, words, &cut, &[], &[])?;
         told = told && is_refused(&ended, note.as_str());
     }
     Ok(told)
 }
 
-// Whether each byte behind a description is one too many.
-fn descriptions_end<R: Threads + Sync>(
+// Whether each byte behind a text is one too many.
+fn bytes_are_behind<R: Threads + Sync>(
     rt: &R,
     alloc: Global,
-    text: &[u8],
+    words: &[String],
+    texts: &[Vec<u8>],
+    ends: &Ends,
 ) -> Result<bool, AllocError> {
-    let note = note_at_end(alloc, "description 11 TooManyLines", text)?;
+    let text = text_at(texts, ends.place);
+    let note = note_at_end(alloc, ends.behind, text)?;
     let mut told = true;
     for byte in 0..256_u32 {
         let mut longer = text.to_vec(alloc)?;
         longer.push(byte as u8)?;
-        let ended = shown(rt, alloc, &longer)?;
+        let more = texts_with(alloc, texts, ends.place, &longer)?;
+        let ended = ended_failing(rt, alloc, words, &more, &[], &[])?;
         told = told && is_refused(&ended, note.as_str());
     }
     Ok(told)
 }
 
-// Whether each part of a certificate before its end ends early.
-fn certificates_end_early<R: Threads + Sync>(
+// Adds what is told of the parts of a text, and of each byte behind it.
+fn add_ends<R: Threads + Sync>(
     rt: &R,
     alloc: Global,
-    description: &str,
-    text: &[u8],
-) -> Result<bool, AllocError> {
-    let mut told = true;
-    for count in 0..text.len() {
-        let part = &text[..count];
-        let note = note_at_end(alloc, "certificate 7 EndsEarly", part)?;
-        let ended = judged(rt, alloc, description, part)?;
-        told = told && is_refused(&ended, note.as_str());
-    }
-    Ok(told)
+    report: &mut Vec<u8>,
+    words: &[String],
+    texts: &[Vec<u8>],
+    ends: &Ends,
+) -> Result<(), AllocError> {
+    let early = parts_end_early(rt, alloc, words, texts, ends)?;
+    let behind = bytes_are_behind(rt, alloc, words, texts, ends)?;
+    let name = ends.name;
+    let line = format!(in alloc; "{name} {early} {behind}\n")?;
+    report.extend_from_slice(line.as_bytes())
 }
 
-// Whether each byte behind a certificate is one too many.
-fn certificates_end<R: Threads + Sync>(
+// How many calls of the shelf are made over these texts where none fails: one opens a file, and then one reads each byte and one the end.
+fn calls_of(texts: &[Vec<u8>]) -> usize {
+    let mut calls: usize = 0;
+    for text in texts {
+        calls = calls.saturating_add(text.len()).saturating_add(2);
+    }
+    calls
+}
+
+// Adds what is told of the ends of each text of a case.
+fn add_all_ends<R: Threads + Sync>(
     rt: &R,
     alloc: Global,
-    description: &str,
-    text: &[u8],
-) -> Result<bool, AllocError> {
-    let note = note_at_end(alloc, "certificate 8 AfterEnd", text)?;
-    let mut told = true;
-    for byte in 0..256_u32 {
-        let mut longer = text.to_vec(alloc)?;
-        longer.push(byte as u8)?;
-        let ended = judged(rt, alloc, description, &longer)?;
-        told = told && is_refused(&ended, note.as_str());
+    report: &mut Vec<u8>,
+    words: &[String],
+    texts: &[Vec<u8>],
+) -> Result<(), AllocError> {
+    let second = if is_command(words, "batch") {
+        LIST
+    } else {
+        CERTIFICATE
+    };
+    for ends in [DESCRIPTION, second, WITNESS].iter() {
+        if ends.place < texts.len() {
+            add_ends(rt, alloc, report, words, texts, ends)?;
+        }
     }
-    Ok(told)
+    Ok(())
 }
 
-// How many calls of the shelf read a file: one opens it, and then one reads each byte and one the end.
-fn calls_for(text: &Option<String>) -> usize {
-    match text {
-        Some(text) => text.len().saturating_add(2),
-        None => 0,
-    }
-}
-
-// How many calls of the shelf a case makes where none fails.
-fn calls_of(case: &Case) -> usize {
-    case.description
-        .len()
-        .saturating_add(2)
-        .saturating_add(calls_for(&case.certificate))
-        .saturating_add(calls_for(&case.witness))
-}
-
-// What is told of the parts of a certificate, and of each byte behind it.
-fn told_certificate<R: Threads + Sync>(
+// Adds what is told of the ends of a certificate that was printed, where it is judged.
+fn add_certificate_ends<R: Threads + Sync>(
     rt: &R,
     alloc: Global,
-    description: &str,
-    text: &[u8],
-) -> Result<String, AllocError> {
-    let early = certificates_end_early(rt, alloc, description, text)?;
-    let end = certificates_end(rt, alloc, description, text)?;
-    format!(in alloc; "certificate {early} {end}\n")
-}
-
-// The certificate that a case judges or prints, where there is one.
-fn certificate_of<'a>(case: &'a Case, whole: &'a [u8]) -> Option<&'a [u8]> {
-    if asks_to_solve(&case.words) {
-        return Some(whole);
-    }
-    if !is_command(&case.words, "check") {
-        return None;
-    }
-    case.certificate.as_ref().map(|text| text.as_bytes())
+    report: &mut Vec<u8>,
+    texts: &[Vec<u8>],
+    certificate: &[u8],
+) -> Result<(), AllocError> {
+    let words = words_of(alloc, &["check", "f", "c"])?;
+    let judged = texts_with(alloc, texts, CERTIFICATE.place, certificate)?;
+    add_ends(rt, alloc, report, &words, &judged, &CERTIFICATE)
 }
 
 // What is told of a case: of its words, how many calls of the shelf and bytes of the output there are and whether each fault is told, and
 // whether each part of its texts and each byte behind them are.
 fn told_case<R: Threads + Sync>(rt: &R, alloc: Global, case: &Case) -> Result<Vec<u8>, AllocError> {
-    let calls = calls_of(case);
-    let reads = reads_are_told(rt, alloc, case, calls)?;
-    let ended = ended_failing(rt, alloc, case, &[], &[])?;
+    let words = case.words.as_slice();
+    let texts = texts_of(alloc, case)?;
+    let calls = calls_of(&texts);
+    let reads = reads_are_told(rt, alloc, words, &texts, calls)?;
+    let ended = ended_failing(rt, alloc, words, &texts, &[], &[])?;
     let whole = ended.out.taken();
     let count = whole.len();
-    let writes = writes_are_told(rt, alloc, case, whole)?;
-    let text = case.description.as_bytes();
-    let early = descriptions_end_early(rt, alloc, text)?;
-    let end = descriptions_end(rt, alloc, text)?;
-    let mut report = heading_of(alloc, &case.words)?;
-    let lines = format!(in alloc;
-        "reads {calls} {reads}\nwrites {count} {writes}\ndescription {early} {end}\n"
-    )?;
+    let writes = writes_are_told(rt, alloc, words, &texts, whole)?;
+    let mut report = heading_of(alloc, words)?;
+    let lines = format!(in alloc; "reads {calls} {reads}\nwrites {count} {writes}\n")?;
     report.extend_from_slice(lines.as_bytes())?;
-    if let Some(certificate) = certificate_of(case, whole) {
-        let told = told_certificate(rt, alloc, case.description.as_str(), certificate)?;
-        report.extend_from_slice(told.as_bytes())?;
+    add_all_ends(rt, alloc, &mut report, words, &texts)?;
+    if asks_to_solve(words) {
+        add_certificate_ends(rt, alloc, &mut report, &texts, whole)?;
     }
     Ok(report)
 }

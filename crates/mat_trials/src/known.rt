@@ -1,13 +1,14 @@
-//! Small matroids of known structure, each told in a line. What is printed was worked out by hand from closed walks, lines and bases.
+//! Small matroids of known structure: of each the run along an order and all independent sets, as `kinds.py` finds them by trying all sets.
+//! What else is printed was worked out by hand from closed walks, lines and bases.
 
-ghost use Rattle.std.specs.Prelude.{◌≡◌, length, IfOk};
+ghost use Rattle.std.specs.Prelude.{◌≡◌, ◌<◌, true, false, length, IfOk};
 ghost use Rattle.mat_sets.specs.Graphs.{IsGraph};
-ghost use Rattle.mat_sets.specs.Sets.{AllBelow, AreDistinct};
+ghost use Rattle.mat_sets.specs.Sets.{AllBelow, AreDistinct, is_member};
 ghost use Rattle.mat_gf2.specs.Columns.{IsBinaryMatrix};
 ghost use Rattle.mat_any.specs.Trees.{element_count, IsSound};
 ghost use Rattle.mat_any.specs.Views.{tree_of};
 
-use crate::routes::set_below;
+use crate::routes::{set_below, set_of_bits};
 use mat_any::AnyMatroid;
 use mat_count::{Laminar, LaminarFault};
 use mat_flow::{Digraph, linked};
@@ -18,6 +19,9 @@ use mat_laws::{Matroid, grow_base, rank_of};
 use mat_minors::{Contraction, Dual, Restriction, Truncation};
 use mat_sets::{ElemSet, Pairs, SetList, Weight};
 use std::alloc::{AllocError, Global};
+
+// The most elements of a matroid of which each set is asked.
+const FEW: u32 = 5;
 
 // A weight without a tie.
 fn plain(main: i128) -> Weight {
@@ -50,24 +54,74 @@ pub(crate) fn told_set(alloc: Global, set: &ElemSet) -> Result<String, AllocErro
     Ok(text)
 }
 
-// Which sets of one or two elements of a matroid of three are independent.
-fn told_tests<M: Matroid>(alloc: Global, m: &M) -> Result<String, AllocError>
+// The exchanges of an element outside an independent set, by what is kept of it, and whether those that are asked for by themselves, and
+// what is answered of adding alone, are the same.
+fn told_row<M: Matroid>(
+    alloc: Global,
+    m: &M,
+    base: &ElemSet,
+    kept: &M::Kept,
+    x: u32,
+) -> Result<String, AllocError>
     requires sound { M.sound m.now }
-    requires three { M.ground_size m.now ≡ 3 }
+    requires base { M.indep m.now base.now ≡ true }
+    requires kept { M.keeps m.now base.now kept.now }
+    requires below { x < M.ground_size m.now }
+    requires outside { is_member x base.now ≡ false }
 {
-    let zero = m.independent(alloc, &set_below(alloc, 3, &[0])?)?;
-    let one = m.independent(alloc, &set_below(alloc, 3, &[1])?)?;
-    let two = m.independent(alloc, &set_below(alloc, 3, &[2])?)?;
-    let zero_one = m.independent(alloc, &set_below(alloc, 3, &[0, 1])?)?;
-    let zero_two = m.independent(alloc, &set_below(alloc, 3, &[0, 2])?)?;
-    let one_two = m.independent(alloc, &set_below(alloc, 3, &[1, 2])?)?;
-    format!(in alloc; "0 {zero} 1 {one} 2 {two} 01 {zero_one} 02 {zero_two} 12 {one_two}")
+    let row = m.row(alloc, base, kept, x)?;
+    let asked = m.circuit(alloc, base, x)?;
+    let adds = m.adds(alloc, base, kept, x)?;
+    let same = asked.addable == row.addable && asked.with == row.with && adds == row.addable;
+    let with = told_set(alloc, &row.with)?;
+    let addable = row.addable;
+    format!(in alloc; "{x} {addable} {with} {same}")
 }
 
-/// What a run takes along this order, and there the exchanges of each element that it leaves: by what is kept, and whether those that
-/// are asked for by themselves are the same.
-pub(crate) fn told_run<M: Matroid>(
+// An independent set and the exchanges of each element outside it, by what is kept of it where something is kept of another one.
+fn told_rows<M: Matroid>(
     alloc: Global,
+    m: &M,
+    other: &ElemSet,
+    base: &ElemSet,
+) -> Result<String, AllocError>
+    requires sound { M.sound m.now }
+    requires other { M.indep m.now other.now ≡ true }
+    requires base { M.indep m.now base.now ≡ true }
+{
+    let before = m.keep(alloc, other)?;
+    let kept = m.keep_next(alloc, other, &before, base)?;
+    let mut text = told_set(alloc, base)?;
+    for x in 0..m.size() {
+        if !base.contains(x) {
+            let row = told_row(alloc, m, base, &kept, x)?;
+            text = format!(in alloc; "{text}, {row}")?;
+        }
+    }
+    Ok(text)
+}
+
+// The independent sets of a matroid of few elements, a line each, with their exchanges.
+fn told_sets<M: Matroid>(alloc: Global, m: &M, other: &ElemSet) -> Result<String, AllocError>
+    requires sound { M.sound m.now }
+    requires other { M.indep m.now other.now ≡ true }
+{
+    let mut text = String::new(alloc);
+    let size = m.size();
+    for bits in 0..1_u32 << size.min(FEW) {
+        let set = set_of_bits(alloc, size, bits)?;
+        if m.independent(alloc, &set)? {
+            let rows = told_rows(alloc, m, other, &set)?;
+            text = format!(in alloc; "{text}{rows}\n")?;
+        }
+    }
+    Ok(text)
+}
+
+/// What a run takes along this order, and then each independent set with the exchanges of each element outside it.
+pub(crate) fn told<M: Matroid>(
+    alloc: Global,
+    name: &str,
     m: &M,
     order: &[u32],
 ) -> Result<String, AllocError>
@@ -77,37 +131,25 @@ pub(crate) fn told_run<M: Matroid>(
 {
     m.lawful();
     let base = m.run(alloc, order)?;
-    let kept = m.keep(alloc, &base)?;
-    let mut text = told_set(alloc, &base)?;
-    for x in 0..m.size() {
-        if !base.contains(x) {
-            let row = m.row(alloc, &base, &kept, x)?;
-            let asked = m.circuit(alloc, &base, x)?;
-            let same = asked.addable == row.addable && asked.with == row.with;
-            let with = told_set(alloc, &row.with)?;
-            let addable = row.addable;
-            text = format!(in alloc; "{text}, {x} {addable} {with} {same}")?;
-        }
-    }
-    Ok(text)
+    let taken = told_set(alloc, &base)?;
+    let sets = told_sets(alloc, m, &base)?;
+    format!(in alloc; "{name} run {taken}\n{sets}")
 }
 
 // What is told of a matroid of three elements.
-fn told<M: Matroid>(alloc: Global, name: &str, m: &M) -> Result<String, AllocError>
+fn told_three<M: Matroid>(alloc: Global, name: &str, m: &M) -> Result<String, AllocError>
     requires sound { M.sound m.now }
     requires three { M.ground_size m.now ≡ 3 }
 {
-    let tests = told_tests(alloc, m)?;
-    let run = told_run(alloc, m, &[2, 1, 0])?;
-    format!(in alloc; "{name} {tests} run {run}\n")
+    told(alloc, name, m, &[2, 1, 0])
 }
 
 // The graph, lent and as it is, and its dual.
 fn told_graph(alloc: Global) -> Result<String, AllocError> {
     let graph = loop_and_parallel_edges(alloc)?;
-    let first = told(alloc, "graph", &graph)?;
-    let lent = told(alloc, "lent", &&graph)?;
-    let dual = told(alloc, "dual", &Dual::new(graph))?;
+    let first = told_three(alloc, "graph", &graph)?;
+    let lent = told_three(alloc, "lent", &&graph)?;
+    let dual = told_three(alloc, "dual", &Dual::new(graph))?;
     format!(in alloc; "{first}{lent}{dual}")
 }
 
@@ -124,19 +166,19 @@ fn any_dual(alloc: Global) -> Result<AnyMatroid, AllocError>
 // What is told of it.
 fn told_any(alloc: Global) -> Result<String, AllocError> {
     let dual = any_dual(alloc)?;
-    told(alloc, "any", &dual)
+    told_three(alloc, "any", &dual)
 }
 
 // The dual with at most one element, the graph without edge 2, and with the ends of edge 1 made one vertex.
 fn told_minors(alloc: Global) -> Result<String, AllocError> {
     let cut = Truncation::new(Dual::new(loop_and_parallel_edges(alloc)?), 1);
-    let truncation = told(alloc, "truncation", &cut)?;
+    let truncation = told_three(alloc, "truncation", &cut)?;
     let kept = set_below(alloc, 3, &[0, 1])?;
     let fewer = Restriction::new(loop_and_parallel_edges(alloc)?, kept);
-    let restriction = told(alloc, "restriction", &fewer)?;
+    let restriction = told_three(alloc, "restriction", &fewer)?;
     let away = set_below(alloc, 3, &[1])?;
     let joined = Contraction::new(alloc, loop_and_parallel_edges(alloc)?, away)?;
-    let contraction = told(alloc, "contraction", &joined)?;
+    let contraction = told_three(alloc, "contraction", &joined)?;
     format!(in alloc; "{truncation}{restriction}{contraction}")
 }
 
@@ -245,7 +287,7 @@ fn told_found(alloc: Global, found: Option<ElemSet>) -> Result<String, AllocErro
     }
 }
 
-/// What is told of the known matroids, in fourteen lines.
+/// What is told of the known matroids.
 pub(crate) fn known_report(alloc: Global) -> Result<String, AllocError> {
     let graph = told_graph(alloc)?;
     let any = told_any(alloc)?;

@@ -5,7 +5,7 @@ ghost use Rattle.mat_sets.specs.SetTests.{is_set};
 ghost use Rattle.mat_exchange.specs.Tables.{IsTableAt};
 ghost use Rattle.mat_trials.specs.FreeLaws.{free_laws};
 
-use crate::known::told_set;
+use crate::known::{told, told_set};
 use mat_exchange::{Found, RowTable, rows, tight_search};
 use mat_laws::{Exchange, Matroid};
 use mat_sets::{ElemSet, Weight};
@@ -117,8 +117,8 @@ fn told_searches(alloc: Global, table: &RowTable) -> Result<String, AllocError>
     format!(in alloc; "{path}, {stuck}")
 }
 
-/// Whether two workers met at the rows of the empty set, and what searches find there. On one thread the first row would not see the flag
-/// of the second.
+/// Whether two workers met at the rows of the empty set, what searches find there, and what the calls answer of which the trait has the body. On
+/// one thread the first row would not see the flag of the second.
 pub(crate) fn meeting_report<R: Threads + Sync>(
     rt: &R,
     alloc: Global,
@@ -131,5 +131,6 @@ pub(crate) fn meeting_report<R: Threads + Sync>(
     let table = rows(rt, alloc, &flags, &ElemSet::new(alloc), 2)?;
     let met = !flags.missed.load(Ordering::SeqCst);
     let searches = told_searches(alloc, &table)?;
-    format!(in alloc; "two rows met {met}\nsearches {searches}\n")
+    let free = told(alloc, "free", &flags, &[1, 0])?;
+    format!(in alloc; "two rows met {met}\nsearches {searches}\n{free}")
 }

@@ -76,10 +76,20 @@ fn told_line(line: &[u8]) -> &[u8] {
     }
 }
 
-// Adds the lines of a certificate that every right answer has.
-fn add_fixed_lines(report: &mut Vec<u8>, certificate: &[u8]) -> Result<(), AllocError> {
+// Whether right answers may have different lines here even where there is one set that is right: the halves of the weights, and cuts.
+fn is_open(line: &[u8]) -> bool {
+    line.starts_with(b"first") || line.starts_with(b"second") || line.starts_with(b"cut")
+}
+
+// Adds the lines of a certificate that every right answer has: the header and the weights of rungs, or where one answer is right all but
+// those that are open.
+fn add_fixed_lines(
+    report: &mut Vec<u8>,
+    case: &Case,
+    certificate: &[u8],
+) -> Result<(), AllocError> {
     for line in certificate.split(|byte| *byte == b'\n') {
-        if is_fixed(line) {
+        if is_fixed(line) || case.is_fixed && !line.is_empty() && !is_open(line) {
             report.extend_from_slice(told_line(line))?;
             report.push(b'\n')?;
         }
@@ -87,9 +97,13 @@ fn add_fixed_lines(report: &mut Vec<u8>, certificate: &[u8]) -> Result<(), Alloc
     Ok(())
 }
 
-// Adds the first words of a header, up to the cost, as a line.
+// Adds the first words of a header, up to the cost or the number of vertices, as a line.
 fn add_words_to_cost(report: &mut Vec<u8>, header: &[u8]) -> Result<(), AllocError> {
-    for word in header.split(|byte| *byte == b' ').take(4) {
+    let unreached = header
+        .split(|byte| *byte == b' ')
+        .any(|word| word == b"unreached".as_slice());
+    let count = if unreached { 5 } else { 4 };
+    for word in header.split(|byte| *byte == b' ').take(count) {
         report.extend_from_slice(word)?;
         report.push(b' ')?;
     }
@@ -97,11 +111,15 @@ fn add_words_to_cost(report: &mut Vec<u8>, header: &[u8]) -> Result<(), AllocErr
     Ok(())
 }
 
-// Adds the header of an answer that weighted vertex sets prove, without the number of these sets, which is open.
-fn add_cost(report: &mut Vec<u8>, text: &[u8]) -> Result<(), AllocError> {
+// Adds the header of an answer that weighted vertex sets prove, without the number of these sets, which is open; and where one answer is
+// right the other lines that are not open.
+fn add_cost(report: &mut Vec<u8>, case: &Case, text: &[u8]) -> Result<(), AllocError> {
     for line in text.split(|byte| *byte == b'\n') {
         if line.starts_with(b"answer ") {
             add_words_to_cost(report, line)?;
+        } else if case.is_fixed && !line.is_empty() && !is_open(line) {
+            report.extend_from_slice(line)?;
+            report.push(b'\n')?;
         }
     }
     Ok(())
@@ -122,6 +140,38 @@ fn add_judgement<R: Threads + Sync>(
     report.extend_from_slice(judged.out.taken())
 }
 
+// The text of the file that a job names, the last word of its line.
+fn description_of<'a>(case: &'a Case, job: &str) -> &'a str {
+    match &case.witness {
+        Some(text) if job.ends_with(" g") => text.as_str(),
+        _ => case.description.as_str(),
+    }
+}
+
+// Adds what the judge says of each certificate that a list of jobs printed, about the description that its job names.
+fn add_judgements<R: Threads + Sync>(
+    rt: &R,
+    alloc: Global,
+    report: &mut Vec<u8>,
+    case: &Case,
+    text: &[u8],
+) -> Result<(), AllocError> {
+    let list = case.certificate.as_ref().map_or("", |list| list.as_str());
+    let jobs = list.split('\n').filter(|line| line.starts_with("job "));
+    let text = String::from_utf8_lossy(alloc, text)?;
+    for (certificate, job) in text.as_str().split("certificate 1\n").skip(1).zip(jobs) {
+        let certificate = format!(in alloc; "certificate 1\n{certificate}")?;
+        add_judgement(
+            rt,
+            alloc,
+            report,
+            description_of(case, job),
+            certificate.as_bytes(),
+        )?;
+    }
+    Ok(())
+}
+
 // Adds whether what was printed is the same for each number of workers, where the words have no option.
 fn add_comparison<R: Threads + Sync>(
     rt: &R,
@@ -140,8 +190,8 @@ fn add_comparison<R: Threads + Sync>(
     }
 }
 
-// Adds what is told of what a command that was done wrote: of certificates the lines that every right answer has, what the judge says of one,
-// and whether they are the same for each number of workers; of an answer with weighted vertex sets its cost; what is said of a witness; and
+// Adds what is told of what a command that was done wrote: of certificates the lines that every right answer has, what the judge says of
+// each, and whether they are the same for each number of workers; of an answer with weighted vertex sets its cost; what is said of a witness; and
 // every other text whole.
 fn add_output<R: Threads + Sync>(
     rt: &R,
@@ -151,17 +201,18 @@ fn add_output<R: Threads + Sync>(
     text: &[u8],
 ) -> Result<(), AllocError> {
     if is_command(&case.words, "cuts") {
-        return add_cost(report, text);
+        return add_cost(report, case, text);
     }
     if is_command(&case.words, "witness") {
         return add_verification(rt, alloc, report, case, text);
     }
     if is_command(&case.words, "batch") {
-        add_fixed_lines(report, text)?;
+        add_fixed_lines(report, case, text)?;
+        add_judgements(rt, alloc, report, case, text)?;
         return add_comparison(rt, alloc, report, case, text);
     }
     if asks_to_solve(&case.words) {
-        add_fixed_lines(report, text)?;
+        add_fixed_lines(report, case, text)?;
         add_judgement(rt, alloc, report, case.description.as_str(), text)?;
         return add_comparison(rt, alloc, report, case, text);
     }

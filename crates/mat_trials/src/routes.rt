@@ -43,6 +43,21 @@ pub(crate) fn set_below(alloc: Global, n: u32, members: &[u32]) -> Result<ElemSe
     Ok(set)
 }
 
+/// The set of the elements below n that these bits name, the lowest bit element 0.
+pub(crate) fn set_of_bits(alloc: Global, n: u32, bits: u32) -> Result<ElemSet, AllocError>
+    ensures { IfOk result (λ s. AllBelow n s) }
+{
+    let mut set = ElemSet::new(alloc);
+    let mut rest = bits;
+    for x in 0..n {
+        if rest % 2 == 1 {
+            let _ = set.add(x)?;
+        }
+        rest /= 2;
+    }
+    Ok(set)
+}
+
 // How many disjoint paths lead to the targets, and how many vertices separate these from the sources.
 fn linking_of(alloc: Global, gammoid: &Gammoid) -> Result<String, AllocError>
     requires { IsGammoid gammoid.now.vertices gammoid.now.arcs gammoid.now.sources gammoid.now.targets }

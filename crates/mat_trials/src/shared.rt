@@ -1,6 +1,6 @@
 //! Cases that several workers compute.
 
-use crate::calls::{Ended, ended_alone, ended_beside};
+use crate::calls::{Ended, ended_alone, ended_beside, ended_jobs};
 use crate::cases::Case;
 use std::alloc::{AllocError, Global};
 use std::thread::Threads;
@@ -29,12 +29,16 @@ pub(crate) fn ended_of<R: Threads + Sync>(
     words: &[String],
 ) -> Result<Ended, AllocError> {
     let description = case.description.as_str();
-    match &case.certificate {
-        Some(text) => {
-            let bytes = text.as_bytes().to_vec(alloc)?;
-            ended_beside(rt, alloc, words, description, bytes)
+    let Some(text) = &case.certificate else {
+        return ended_alone(rt, alloc, words, description);
+    };
+    let bytes = text.as_bytes().to_vec(alloc)?;
+    match &case.witness {
+        Some(other) => {
+            let other = other.as_bytes().to_vec(alloc)?;
+            ended_jobs(rt, alloc, words, description, bytes, other)
         }
-        None => ended_alone(rt, alloc, words, description),
+        None => ended_beside(rt, alloc, words, description, bytes),
     }
 }
 

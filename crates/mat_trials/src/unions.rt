@@ -1,15 +1,17 @@
-//! Unions of two matroids in which single elements are independent, a best union of them, runs of the union of two graphs, and a search
-//! for moves. What is printed was worked out by hand from the independent sets.
-ghost use Rattle.std.specs.Prelude.{◌≡◌, ℕ, [], true, length, IfOk};
+//! Unions of two matroids in which single elements are independent, a best union of them, the union of two graphs, and both ends of a search
+//! for moves. What is printed was worked out by hand from the independent sets, and of the two graphs by `kinds.py`.
+ghost use Rattle.std.specs.Prelude.{◌≡◌, ◌<◌, ℕ, length, IfOk};
 ghost use Rattle.mat_sets.specs.Graphs.{IsGraph};
+ghost use Rattle.mat_sets.specs.Sets.{AllBelow, IsSubset};
 ghost use Rattle.mat_laws.specs.TightPaths.{row_in};
 
-use crate::known::{told_run, told_set};
+use crate::known::{told, told_set};
+use crate::routes::set_below;
 use mat_count::Uniform;
 use mat_graphic::Graphic;
-use mat_laws::{Exchange, rank_of};
-use mat_sets::{ElemSet, Pairs, Weight};
-use mat_union::{ExchangeList, Moves, UnionAnswer, UnionOf, best_union, empty_parts, union_search};
+use mat_laws::{Exchange, Matroid, rank_of};
+use mat_sets::{ElemSet, Pairs, SetList, Weight};
+use mat_union::{ExchangeList, Moves, UnionAnswer, UnionOf, best_union, union_search};
 use std::alloc::{AllocError, Global};
 
 // The rank of the union of two matroids on four elements, in each of which at most one element is independent.
@@ -61,54 +63,72 @@ fn one_pair(alloc: Global) -> Result<Graphic, AllocError>
 // second graph, for edge 1.
 fn told_graphs(alloc: Global) -> Result<String, AllocError> {
     let union = UnionOf::new(vec![in alloc; two_pairs(alloc)?, one_pair(alloc)?]?);
-    let first = told_run(alloc, &union, &[0, 1, 4, 3, 2])?;
-    let second = told_run(alloc, &union, &[2, 3, 0, 1, 4])?;
-    format!(in alloc; "union run {first}\nunion run {second}\n")
+    let first = told(alloc, "union", &union, &[0, 1, 4, 3, 2])?;
+    let second = told(alloc, "union", &union, &[2, 3, 0, 1, 4])?;
+    format!(in alloc; "{first}{second}")
 }
 
-// The row of an element at an empty part to which it can be added.
-fn open_row(alloc: Global) -> Exchange
-    ensures { result ≡ record { addable = true; with = [] } }
+// The row of an element of three at a part, of the matroid in which at most one element is independent; an element of the part has none.
+fn row_at(alloc: Global, part: &ElemSet, x: u32) -> Result<Exchange, AllocError>
+    requires part { AllBelow 3 part.now }
+    requires below { x < 3 }
+    ensures { IfOk result (λ e. IsSubset e.with part.now) }
 {
-    Exchange {
-        addable: true,
-        with: ElemSet::new(alloc),
+    let matroid = Uniform::new(3, 1);
+    if part.contains(x) || !matroid.independent(alloc, part)? {
+        return Ok(Exchange {
+            addable: false,
+            with: ElemSet::new(alloc),
+        });
     }
+    matroid.circuit(alloc, part, x)
 }
 
-// The rows of four elements at an empty part to which each can be added.
-fn open_rows(alloc: Global) -> Result<ExchangeList, AllocError>
-    ensures long { IfOk result (λ rows. length rows ≡ 4) }
-    ensures empty { IfOk result (λ rows. (x : ℕ) → (row_in rows x).with ≡ []) }
+// The rows of the three elements at a part.
+fn rows_at(alloc: Global, part: &ElemSet) -> Result<ExchangeList, AllocError>
+    requires { AllBelow 3 part.now }
+    ensures long { IfOk result (λ rows. length rows ≡ 3) }
+    ensures inside { IfOk result (λ rows. (x : ℕ) → IsSubset (row_in rows x).with part.now) }
 {
     let rows = vec![in alloc;
-        open_row(alloc),
-        open_row(alloc),
-        open_row(alloc),
-        open_row(alloc),
+        row_at(alloc, part, 0)?,
+        row_at(alloc, part, 1)?,
+        row_at(alloc, part, 2)?,
     ]?;
     Ok(ExchangeList::new(rows))
 }
 
-// How many moves are found where each of four elements can be added to each of two empty parts: one is enough.
-fn told_search(alloc: Global) -> Result<String, AllocError> {
-    let rows = vec![in alloc; open_rows(alloc)?, open_rows(alloc)?]?;
-    let parts = empty_parts(alloc, 2)?;
-    let within = ElemSet::all_below(alloc, 4)?;
+// What a search for moves finds among three elements at two parts: how many moves, or what is reached.
+fn told_search(alloc: Global, first: &[u32], second: &[u32]) -> Result<String, AllocError>
+    requires first { AllBelow 3 first.now }
+    requires second { AllBelow 3 second.now }
+{
+    let first = set_below(alloc, 3, first)?;
+    let second = set_below(alloc, 3, second)?;
+    if !first.is_disjoint(&second) {
+        return String::from_str(alloc, "union search of parts that meet\n");
+    }
+    let rows = vec![in alloc; rows_at(alloc, &first)?, rows_at(alloc, &second)?]?;
+    let parts = SetList::new(vec![in alloc; first, second]?);
+    let within = ElemSet::all_below(alloc, 3)?;
     match union_search(alloc, rows.as_slice(), &parts, &within)? {
         Moves::Path(path) => {
             let count = path.len();
             format!(in alloc; "union search moves {count}\n")
         }
-        Moves::Stuck(_) => String::from_str(alloc, "union search stuck\n"),
+        Moves::Stuck(reach) => {
+            let reached = told_set(alloc, &reach)?;
+            format!(in alloc; "union search stuck {reached}\n")
+        }
     }
 }
 
-/// What is told of unions, in five lines.
+/// What is told of unions.
 pub(crate) fn unions_report(alloc: Global) -> Result<String, AllocError> {
     let rank = told_rank(alloc)?;
     let best = told_best(alloc)?;
     let graphs = told_graphs(alloc)?;
-    let search = told_search(alloc)?;
-    format!(in alloc; "{rank}{best}{graphs}{search}")
+    let path = told_search(alloc, &[0], &[])?;
+    let stuck = told_search(alloc, &[0], &[1])?;
+    format!(in alloc; "{rank}{best}{graphs}{path}{stuck}")
 }

@@ -1,4 +1,5 @@
 use Rattle.std.proofs.Common.{◌&&◌, ◌∙◌, sym, refl, eqb, ◌==◌}
+use Rattle.mat_sets.specs.Bits.{bits_of}
 use Rattle.mat_sets.specs.Sets.{is_member}
 use Rattle.mat_sets.specs.Weights.{weight_at}
 use Rattle.mat_exchange.specs.Growing.{gain_at, IsOffered}
@@ -13,7 +14,7 @@ loop-z-preserved c =
     (weight_at c.offer_one.new.gains) = c.in_ok-offer_one.ensures.offered in
     record {
       length = c.offer_one.ensures.length ∙ c.loop-z.invariant.length;
-      offered = offered_next (λ v. is_member v c.args.candidates.now && is_member v c.args.others.now) f c.loop-z.from z
+      offered = offered_next (λ v. is_member v (bits_of c.args.candidates.now) && is_member v c.args.others.now) f c.loop-z.from z
           _ _ _ _ _ _ c.in-Some.ensures c.loop-z.invariant.offered
           (offered_same _ (λ v. eqb v z) _ (λ v. f z) _ _ _ _ (λ v. refl) (λ v. sym c.gain_of-gain.ensures) one);
     }

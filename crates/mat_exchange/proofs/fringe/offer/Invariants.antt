@@ -1,4 +1,5 @@
 use Rattle.std.proofs.Common.{◌≡◌, ◌&&◌, ◌-◌, length, ltb}
+use Rattle.mat_sets.specs.Bits.{bits_of}
 use Rattle.mat_sets.specs.Sets.{is_member}
 use Rattle.mat_sets.specs.Weights.{weight_at}
 use Rattle.mat_exchange.specs.Growing.{IsOffered, gain_at}
@@ -7,7 +8,7 @@ use Rattle.mat_exchange.proofs.fringe.offer.Given as goal
 abbrev pub invariant-loop-z : goal.invariant-loop-z
 invariant-loop-z l = record {
   length : length l.gains ≡ length l.fn.gains;
-  offered : IsOffered (λ v. (is_member v l.candidates && is_member v l.others) && ltb v l.from) (gain_at l.inside (weight_at l.weights) l.x)
+  offered : IsOffered (λ v. (is_member v (bits_of l.candidates) && is_member v l.others) && ltb v l.from) (gain_at l.inside (weight_at l.weights) l.x)
       l.fn.fringe (weight_at l.fn.gains) l.fringe (weight_at l.gains);
 }
 

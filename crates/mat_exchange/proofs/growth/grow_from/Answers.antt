@@ -1,7 +1,7 @@
 use Rattle.std.proofs.Common.{◌∙◌, refl, arith}
 use Rattle.mat_exchange.proofs.GrowthSteps.{growth_start, first_within, second_within, total_within, reached_below, other_below, gains_within}
 use Rattle.mat_exchange.proofs.GrowthSteps.{top_within, inside_within, enter_below, enter_within, enter_outside, shifted_entered, entered, fewer_left}
-use Rattle.mat_exchange.proofs.GrowthSteps.{reached_few, sink_within, sunk, ended, first_start, others_less}
+use Rattle.mat_exchange.proofs.GrowthSteps.{gains_late, total_fits, reached_few, sink_within, sunk, ended, first_start, others_less}
 use Rattle.mat_exchange.proofs.growth.grow_from.Goals as goal
 
 pub reach_root-requires-clause-first_small : goal.reach_root-requires-clause-first_small
@@ -23,6 +23,12 @@ excess_or_none-slack-requires-clause-other_small c = inside_within c.loop-x.inva
 
 pub next_step-requires-clause-small : goal.next_step-requires-clause-small
 next_step-requires-clause-small c = gains_within c.loop-x.invariant
+
+pub next_step-requires-clause-total : goal.next_step-requires-clause-total
+next_step-requires-clause-total c = total_fits c.loop-x.invariant
+
+pub next_step-requires-clause-late : goal.next_step-requires-clause-late
+next_step-requires-clause-late c = gains_late c.loop-x.invariant
 
 pub put_back-requires-clause-first_small : goal.put_back-requires-clause-first_small
 put_back-requires-clause-first_small c = first_within c.loop-x.invariant.shifted
@@ -108,5 +114,5 @@ pub loop-x-preserved : goal.loop-x-preserved
 loop-x-preserved c =
     entered c.loop-x.invariant c.excess_or_none-slack.ensures c.in-Enter.is c.next_step.ensures c.put_back.new.w1 c.put_back.new.w2
     c.put_back.ensures.first_length c.put_back.ensures.second_length c.put_back.ensures.first c.put_back.ensures.second
-    c.in_ok-insert-in-Enter.ensures.ok c.remove.ensures c.remove-in-Enter.ensures c.offer_exchanges.ensures.length
+    c.in_ok-reached.ensures.alike c.in_ok-insert-in-Enter.ensures.ok c.remove.ensures c.remove-in-Enter.ensures c.offer_exchanges.ensures.length
     c.heaviest_with-inside-in-Enter.ensures c.in_ok-offer_exchanges-in-Enter.ensures.offered

@@ -9,7 +9,7 @@ pub loop-y-preserved : goal.loop-y-preserved
 loop-y-preserved c =
     let exchanges = exchanges_in c.args.table.now in
     let w = weight_at c.args.weights.now in
-    let next = least_exchange_next exchanges w c.args.from.now c.args.into.now c.loop-y.y _ _ c.loop-y.invariant c.exchange_slack_at.ensures in
+    let next = least_exchange_next exchanges w c.args.from.now c.args.into.now c.loop-y.y _ _ c.loop-y.invariant c.in_ok-slack.ensures in
     subst (IsLeastOrNone (IsExchangeSlack _ exchanges w c.args.from.now c.args.into.now)) (sym c.lesser-least.ensures) next
 
 pub returns : goal.returns

@@ -27,6 +27,6 @@ returns c =
     let others = c.in_ok-others.others in
     rw (c.lesser.ensures, c.lesser-first_slack.ensures, c.lesser-second_slack.ensures) (least_of_four n first second w1 w2 c.args.reach.now
     reached others c.requires.below (λ x. ap (is_member x) c.in_ok-reached.ensures.members) c.in_ok-others.ensures
-    _ _ _ _ c.addition_slack.ensures c.exchange_slack.ensures
-    (subst (λ m. IsLeastOrNone (IsExchangeSlack m second w2 others reached) c.exchange_slack-2.result) c.requires.lengths c.exchange_slack-2.ensures)
+    _ _ _ _ c.addition_slack.ensures c.in_ok-leaving.ensures
+    (subst (λ m. IsLeastOrNone (IsExchangeSlack m second w2 others reached) c.in_ok-entering.entering) c.requires.lengths c.in_ok-entering.ensures)
     (subst (λ m. IsLeastOrNone (IsAdditionSlack m second w2 reached) c.addition_slack-2.result) c.requires.lengths c.addition_slack-2.ensures))

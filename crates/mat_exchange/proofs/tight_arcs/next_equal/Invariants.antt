@@ -1,4 +1,5 @@
 use Rattle.std.proofs.Common.{◌≡◌, ◌≤◌, ◌<◌, ◌&&◌, ◌-◌, ℕ, false}
+use Rattle.mat_sets.specs.Bits.{bits_of}
 use Rattle.mat_sets.specs.Sets.{is_member}
 use Rattle.mat_sets.specs.Weights.{is_same, weight_at}
 use Rattle.mat_exchange.proofs.tight_arcs.next_equal.Given as goal
@@ -6,7 +7,7 @@ use Rattle.mat_exchange.proofs.tight_arcs.next_equal.Given as goal
 abbrev pub invariant-loop-v : goal.invariant-loop-v
 invariant-loop-v l = record {
   later : l.from ≤ l.at;
-  none : (x : ℕ) → l.from ≤ x → x < l.at → ((is_member x l.candidates && is_member x l.among) && is_same (weight_at l.weights l.u)
+  none : (x : ℕ) → l.from ≤ x → x < l.at → ((is_member x (bits_of l.candidates) && is_member x l.among) && is_same (weight_at l.weights l.u)
       (weight_at l.weights x)) ≡ false;
 }
 

@@ -1,9 +1,12 @@
-use Rattle.std.proofs.Common.{get_or, refl, arith, ◌∙◌}
+use Rattle.std.proofs.Common.{get_or, refl, arith, subst, sym, ◌∙◌}
+use Rattle.mat_flow.specs.LinkedEnds.{IsLinkedTo}
+use Rattle.mat_flow.specs.Reroutes.{AreReroutes}
 use Rattle.mat_sets.specs.Sets.{intersection}
 use Rattle.mat_sets.proofs.Members.{IsRising-intersection}
 use Rattle.mat_sets.proofs.Subsets.{intersection-right}
 use Rattle.mat_linked.specs.Gammoids.{set_of_vertices}
-use Rattle.mat_linked.proofs.FewerPaths.{new_beside_common, vertex_is_end, AreFewerPaths-all, AreFewerPaths-more, AreFewerPaths-none}
+use Rattle.mat_linked.proofs.GrownSets.{new_beside_common}
+use Rattle.mat_linked.proofs.FewerPaths.{vertex_is_end, AreFewerPaths-all, AreFewerPaths-more, AreFewerPaths-none}
 use Rattle.mat_linked.proofs.FewerPaths as fewer
 use Rattle.mat_linked.proofs.MorePaths.{below, vertex_is_new, AreMorePaths-all, AreMorePaths-more, AreMorePaths-none}
 use Rattle.mat_linked.proofs.gammoid.keep_next_paths.Goals as goal
@@ -13,7 +16,20 @@ loop-y-init c =
     let graph = c.args.graph.now in
     AreFewerPaths-none graph.vertices graph.arcs c.args.sources.now c.args.targets.now c.requires.gammoid c.args.base.now c.args.next.now
     c.as_slice-y-items.result.now c.requires.base (c.as_slice-y-items.ensures.items ∙ c.in_ok-gone.ensures.members) c.in_ok-links.links
-    (rw c.in_ok-links.ensures c.requires.kept.linked)
+    (subst (λ n. IsLinkedTo n graph.arcs c.args.sources.now (set_of_vertices c.args.targets.now c.args.base.now) c.in_ok-links.links)
+    c.vertices.ensures.count (c.in_ok-links.ensures graph.arcs c.args.sources.now (set_of_vertices c.args.targets.now c.args.base.now)
+    (subst (λ n. AreReroutes n graph.arcs c.args.sources.now (set_of_vertices c.args.targets.now c.args.base.now) c.args.kept.now.reroutes)
+    (sym c.vertices.ensures.count) c.requires.kept.reroutes)))
+
+pub links-requires : goal.links-requires
+links-requires c =
+    let graph = c.args.graph.now in (
+      graph.arcs,
+      c.args.sources.now,
+      set_of_vertices c.args.targets.now c.args.base.now,
+      subst (λ n. AreReroutes n graph.arcs c.args.sources.now (set_of_vertices c.args.targets.now c.args.base.now) c.args.kept.now.reroutes)
+          (sym c.vertices.ensures.count) c.requires.kept.reroutes,
+    )
 
 pub bounds-targets-y : goal.bounds-targets-y
 bounds-targets-y c =
@@ -57,7 +73,8 @@ loop-x-init c =
     c.loop-y.invariant in
     AreMorePaths-none graph.vertices graph.arcs sources targets c.requires.gammoid (intersection base next) next c.as_slice-x-items.result.now
     (intersection-right base next) c.requires.next (IsRising-intersection base next c.in_ok-more.ensures.other_rises)
-    (c.as_slice-x-items.ensures.items ∙ c.in_ok-more.ensures.members ∙ new_beside_common base next c.in_ok-more.ensures.rises) c.loop-y.links linked
+    (c.as_slice-x-items.ensures.items ∙ c.in_ok-more.ensures.members ∙ new_beside_common base next c.in_ok-more.ensures.rises) c.in_ok-linker.linker
+    ((rw c.vertices-2.ensures.count at (c.in_ok-linker.ensures graph.arcs sources)) _ linked)
 
 pub bounds-targets-x : goal.bounds-targets-x
 bounds-targets-x c =
@@ -90,8 +107,21 @@ loop-x-preserved c =
     (intersection-right base next) c.requires.next rises is i x c.loop-x-test.true refl c.in_ok-link.field-0 c.link.new.self
     (c.in_ok-link.ensures.ends _ c.loop-x.invariant) (λ e. (told.0 e).1, λ p. told.1 (new, p))
 
-pub new-requires : goal.new-requires
-new-requires c = (c.args.sources.now, _, c.loop-x.invariant)
+pub of_table-requires : goal.of_table-requires
+of_table-requires c =
+    let graph = c.args.graph.now in
+    let sources = c.args.sources.now in
+    let targets = c.args.targets.now in
+    let base = c.args.base.now in
+    let next = c.args.next.now in
+    let linked = AreFewerPaths-all graph.vertices graph.arcs sources targets c.requires.gammoid base next c.as_slice-y-items.result.now c.requires.base
+    (c.as_slice-y-items.ensures.items ∙ c.in_ok-gone.ensures.members) c.loop-y.y-index c.loop-y.links (omega (arith, c.loop-y-test.false))
+    c.loop-y.invariant in (
+      graph.arcs,
+      sources,
+      set_of_vertices targets (intersection base next),
+      subst (λ n. IsLinkedTo n graph.arcs sources (set_of_vertices targets (intersection base next)) c.loop-y.links) (sym c.vertices-2.ensures.count) linked,
+    )
 
 pub returns : goal.returns
 returns c =
@@ -103,8 +133,8 @@ returns c =
     let linked = AreMorePaths-all graph.vertices graph.arcs sources targets c.requires.gammoid (intersection base next) next
     c.as_slice-x-items.result.now (intersection-right base next) c.requires.next (IsRising-intersection base next c.in_ok-more.ensures.other_rises)
     (c.as_slice-x-items.ensures.items ∙ c.in_ok-more.ensures.members ∙ new_beside_common base next c.in_ok-more.ensures.rises) c.loop-x.x-index
-    c.loop-x.links (omega (arith, c.loop-x-test.false)) c.loop-x.invariant in
+    c.loop-x.linker (omega (arith, c.loop-x-test.false)) c.loop-x.invariant in
     record {
-      linked = linked;
-      reroutes = c.in_ok-reroutes.ensures sources (set_of_vertices targets next) c.requires.gammoid.sources_inside.below linked;
+      reroutes = c.into_reroutes.ensures graph.vertices graph.arcs sources (set_of_vertices targets next) c.requires.gammoid.graph
+          c.requires.gammoid.sources_inside.below linked;
     }

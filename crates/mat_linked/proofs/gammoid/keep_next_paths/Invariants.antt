@@ -9,4 +9,4 @@ invariant-loop-y l = AreFewerPaths l.graph.vertices l.graph.arcs l.sources l.tar
 
 -- there are paths to the vertices of the common members and of the first new ones
 abbrev pub invariant-loop-x : goal.invariant-loop-x
-invariant-loop-x l = AreMorePaths l.graph.vertices l.graph.arcs l.sources l.targets (intersection l.base l.next) l.x-items l.x-index l.links
+invariant-loop-x l = AreMorePaths l.graph.vertices l.graph.arcs l.sources l.targets (intersection l.base l.next) l.x-items l.x-index l.linker

@@ -1,7 +1,7 @@
 use Rattle.std.proofs.Common.{[], ◌∙◌, length, subst, sym, ap}
 use Rattle.mat_sets.specs.Sets.{AllBelow, AreDistinct}
 use Rattle.mat_sets.proofs.Ground.{AreDistinct-rising}
-use Rattle.mat_flow.specs.LinkedEnds.{IsLinkedTo}
+use Rattle.mat_flow.specs.LinkedEnds.{IsLinker}
 use Rattle.mat_laws.specs.GreedyRuns.{grown_along}
 use Rattle.mat_laws.proofs.GreedyRunSets.{run_all}
 use Rattle.mat_linked.specs.GammoidLaws.{gammoid_laws}
@@ -27,9 +27,9 @@ returns c =
     let laws = gammoid_laws graph.vertices graph.arcs sources targets c.requires.gammoid in
     let same = c.in_ok-links.ensures.set ∙ ap (grown_along (is_gammoid graph.vertices graph.arcs sources targets) []) c.as_slice.ensures.items
     ∙ run_all laws base c.requires.base in
-    let linked = subst (λ b. IsLinkedTo graph.vertices graph.arcs sources (set_of_vertices targets b) c.in_ok-links.links) same
+    let linked = subst (λ b. IsLinker graph.vertices graph.arcs sources (set_of_vertices targets b) c.in_ok-links.links) same
     c.in_ok-links.ensures.links in
     record {
-      linked = linked;
-      reroutes = c.in_ok-reroutes.ensures sources (set_of_vertices targets base) c.requires.gammoid.sources_inside.below linked;
+      reroutes = c.into_reroutes.ensures graph.vertices graph.arcs sources (set_of_vertices targets base) c.requires.gammoid.graph
+          c.requires.gammoid.sources_inside.below linked;
     }

@@ -13,7 +13,7 @@ pub loop-e-preserved : goal.loop-e-preserved
 loop-e-preserved c =
     let elements = c.args.elements.now in
     let i = c.loop-e.e-index in
-    let told = sym c.contains.ensures.found in
+    let told = sym c.contains.ensures in
     elim c.if-contains.branch [
       | then-contains+in_ok-add w ↦ w.found-is ∙ w.in_ok-add.ensures.ok.1 ∙ ap (λ s. with_one s (get_or elements i 0)) c.loop-e.invariant
           ∙ filter-found (has_vertex_in c.args.targets.now c.args.vertices.now) elements i c.requires.rises c.loop-e-test.true

@@ -5,6 +5,7 @@ use Rattle.std.proofs.lemmas.Result.{IfOk-weaker}
 use Rattle.mat_sets.specs.Families.{multiplicity}
 use Rattle.mat_ticket.specs.Joined.{IsSeated}
 use Rattle.mat_ticket.specs.Placing.{FitsRoom, tickets_of}
+use Rattle.mat_ticket.proofs.JoinedSeats.{each_once}
 use Rattle.mat_ticket.proofs.Teams.{same_shares}
 use Rattle.mat_ticket.proofs.AllTickets.{all_seated, all_fit, rows_in_order, tickets_of_all}
 use Rattle.mat_ticket.proofs.drawn_rows.ticket_rows.Goals as goal
@@ -17,6 +18,12 @@ pub join_seats-requires-clause-seated : goal.join_seats-requires-clause-seated
 join_seats-requires-clause-seated g c =
     subst (λ k. AllByRecursion (IsSeated c.in_ok-table.table.shared.table_id k) c.in_ok-done.done.items) (sym c.in_ok-table.ensures.table.1)
     (all_seated c.in_ok-table.table.shared.table_id (g.J.RowJob.stands c.args.job.now) c.args.count c.in_ok-done.done.items c.in_ok-done.ensures.done)
+
+pub arrange-requires-clause-once : goal.arrange-requires-clause-once
+arrange-requires-clause-once g c =
+    subst (λ k. (x : ℕ) → x < k → multiplicity x (map tickets_of c.in_ok-outputs.outputs.items) ≡ 1) c.in_ok-table.ensures.table.1
+    (each_once c.in_ok-table.table.shared.key c.close.ensures.0 c.in_ok-outputs.whole.me.0.drawn c.in_ok-outputs.outputs.items
+    c.in_ok-outputs.ensures.drawn c.close.ensures.1)
 
 pub arrange-requires-clause-fit : goal.arrange-requires-clause-fit
 arrange-requires-clause-fit g c =
@@ -40,5 +47,6 @@ returns-clause-tickets g c =
     d.tickets.items c.in_ok-done.ensures.done c.in_ok-outputs.ensures.finished c.in_ok-outputs.ensures.outputs
     (c.in_ok-done.ensures.count ∙ c.in_ok-team.ensures.count)
     (subst (λ k. (x : ℕ) → x < k → multiplicity x (map tickets_of c.in_ok-outputs.outputs.items) ≡ 1) c.in_ok-table.ensures.table.1
-    c.in_ok-outputs.ensures.once) h)
+    (each_once c.in_ok-table.table.shared.key c.close.ensures.0 c.in_ok-outputs.whole.me.0.drawn c.in_ok-outputs.outputs.items
+    c.in_ok-outputs.ensures.drawn c.close.ensures.1)) h)
     c.arrange.ensures.tickets

@@ -1,7 +1,7 @@
--- Each worker that is taken out of the team adds its seat and its output; who has all shares then reads the next number.
+-- Each worker that is taken out of the team adds its seat and its output.
 use Rattle.std.proofs.Common.{◌++◌, ◌&&◌, [], ◌∷◌, ◌∙◌, sym, ap, rules}
 use Rattle.mat_ticket.specs.Workers.{output_of}
-use Rattle.mat_ticket.proofs.JoinedSeats.{first_removed, joining-start, joining-next, each_once}
+use Rattle.mat_ticket.proofs.JoinedSeats.{first_removed, joining-start, joining-next}
 use Rattle.mat_ticket.proofs.joining.join_seats.Goals as goal
 
 pub loop-team-init : goal.loop-team-init
@@ -25,7 +25,5 @@ loop-team-preserved-then-all g c =
     c.in_ok-push-2.ensures.items c.join_other.ensures.0 (ap (λ m. m.0) c.join_other.ensures.1)
     (sym (ap (λ b. b && w.finished) c.if-all.true)) now.invariant
 
-pub returns-clause-once : goal.returns-clause-once
-returns-clause-once g c =
-    each_once c.args.word.now.key c.read_all.result c.loop-team.whole.me.0.drawn c.loop-team.outputs.items
-    (c.loop-team.invariant.joined c.if-not-all.false) c.read_all.ensures
+pub returns-clause-drawn : goal.returns-clause-drawn
+returns-clause-drawn g c = c.loop-team.invariant.joined c.if-not-all.false

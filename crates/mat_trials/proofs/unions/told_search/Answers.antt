@@ -1,11 +1,11 @@
 use Rattle.std.proofs.Common.{◌∙◌}
-use Rattle.mat_trials.proofs.OpenParts.{open_parts}
+use Rattle.mat_trials.proofs.TwoParts.{two_parts}
 use Rattle.mat_trials.proofs.unions.told_search.Goals as goal
 
 pub union_search-requires-clause-movable : goal.union_search-requires-clause-movable
 union_search-requires-clause-movable c =
-    let first = c.in_ok-open_rows.ensures in
-    let second = c.in_ok-open_rows-2.ensures in
-    let parts = c.in_ok-parts.ensures in
-    let movable = open_parts 4 _ _ first.long second.long first.empty second.empty _ _ parts.long parts.empty c.in_ok-within.ensures.set in
-    rw (c.as_slice.ensures.value ∙ c.in_ok-rows.ensures.items, first.long) movable
+    let first = c.in_ok-rows_at.ensures in
+    let second = c.in_ok-rows_at-2.ensures in
+    let apart = c.is_disjoint.ensures.apart.0 c.if-not-is_disjoint.false in
+    let movable = two_parts 3 _ _ _ _ first.long second.long c.in_ok-first.ensures c.in_ok-second.ensures apart first.inside second.inside in
+    rw (c.as_slice.ensures.value ∙ c.in_ok-rows.ensures.items, first.long, c.new-parts.ensures.items ∙ c.in_ok-vec.ensures.items, c.in_ok-within.ensures.members) movable

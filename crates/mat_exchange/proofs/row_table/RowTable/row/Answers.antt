@@ -1,10 +1,15 @@
-use Rattle.std.proofs.Common.{◌∙◌, ap}
+use Rattle.std.proofs.Common.{◌∙◌, ap, sym}
 use Rattle.mat_sets.specs.Sets.{is_member}
-use Rattle.mat_exchange.proofs.RowTables.{has_row, row_tells}
+use Rattle.mat_exchange.proofs.RowTables.{base_tells, has_row, row_tells}
 use Rattle.mat_exchange.proofs.row_table.RowTable.row.Goals as goal
 
-pub row-requires : goal.row-requires
-row-requires c = has_row c.self.invariant _ c.self.view_is _ c.requires
+pub returns-then-contains : goal.returns-then-contains
+returns-then-contains c = λ y. ap (is_member y) c.as_words.ensures
+    ∙ base_tells c.self.inside.base c.self.invariant _ c.self.view_is y c.args.x (sym c.contains.ensures ∙ c.if-contains.true)
 
-pub returns : goal.returns
-returns c = λ y. ap (is_member y) c.row.ensures ∙ row_tells c.self.invariant _ c.self.view_is y c.args.x
+pub row-requires : goal.row-requires
+row-requires c = has_row c.self.inside.base c.self.invariant _ c.self.view_is _ c.requires
+
+pub returns-else-contains : goal.returns-else-contains
+returns-else-contains c = λ y. ap (is_member y) (c.as_words-else-contains.ensures.bits ∙ c.row.ensures)
+    ∙ row_tells c.self.inside.base c.self.invariant _ c.self.view_is y c.args.x (sym c.contains.ensures ∙ c.if-contains.false)

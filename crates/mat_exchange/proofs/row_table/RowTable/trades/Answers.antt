@@ -1,11 +1,16 @@
-use Rattle.std.proofs.Common.{◌∙◌, ap}
+use Rattle.std.proofs.Common.{◌∙◌, ap, sym}
 use Rattle.mat_sets.specs.Sets.{is_member}
-use Rattle.mat_exchange.proofs.RowTables.{has_row, row_tells}
+use Rattle.mat_exchange.proofs.RowTables.{base_tells, has_row, row_tells}
 use Rattle.mat_exchange.proofs.row_table.RowTable.trades.Goals as goal
 
-pub row-requires : goal.row-requires
-row-requires c = has_row c.self.invariant _ c.self.view_is _ c.requires.element
+pub returns-then-contains : goal.returns-then-contains
+returns-then-contains c =
+    c.contains-then-contains.ensures ∙ base_tells c.self.inside.base c.self.invariant _ c.self.view_is c.args.y c.args.x (sym c.contains.ensures ∙ c.if-contains.true)
 
-pub returns : goal.returns
-returns c =
-    c.contains.ensures ∙ ap (is_member c.args.y) c.row.ensures ∙ row_tells c.self.invariant _ c.self.view_is c.args.y c.args.x
+pub row-requires : goal.row-requires
+row-requires c = has_row c.self.inside.base c.self.invariant _ c.self.view_is _ c.requires.element
+
+pub returns-else-contains : goal.returns-else-contains
+returns-else-contains c =
+    c.contains-else-contains.ensures ∙ ap (is_member c.args.y) c.row.ensures
+    ∙ row_tells c.self.inside.base c.self.invariant _ c.self.view_is c.args.y c.args.x (sym c.contains.ensures ∙ c.if-contains.false)

@@ -1,35 +1,46 @@
-use Rattle.std.proofs.Common.{◌∙◌, ap, Some}
-use Rattle.mat_sets.specs.Sets.{with_one}
-use Rattle.mat_flow.proofs.Rerouting.{no_walk_from_end, only_the_end, reached_tells, searchable, walk_tells}
+use Rattle.std.proofs.Common.{[], ◌∙◌, ap, refl, Some, subst}
+use Rattle.std.proofs.lemmas.Bool.{both_ways}
+use Rattle.mat_sets.specs.Sets.{all_below}
+use Rattle.mat_flow.specs.Seeking.{IsRoom}
+use Rattle.mat_flow.proofs.FirstGoals.{bits_reach}
+use Rattle.mat_flow.proofs.PushedWalks.{first_search_tells}
+use Rattle.mat_flow.proofs.Rerouting.{only_the_end, reached_tells, searchable}
 use Rattle.mat_flow.proofs.reroutes.Reroutes.giving_way.Goals as goal
 
-pub shortest_walk-requires : goal.shortest_walk-requires
-shortest_walk-requires c =
+pub seek-requires-clause-sound : goal.seek-requires-clause-sound
+seek-requires-clause-sound c =
     let k = c.requires in
-    searchable k.0 k.1 c.args.sources.now k.2 c.args.self.now k.3 c.deref.result.now c.deref.ensures.value
+    searchable k.0 k.1 c.args.sources.now k.2 c.args.self.now k.4 c.args.back.now k.3 c.deref.result.now c.deref.ensures.value
 
-pub returns-in-Walk-clause-ways : goal.returns-in-Walk-clause-ways
-returns-in-Walk-clause-ways c = λ vertices arcs ends k new.
-    walk_tells vertices arcs c.args.sources.now ends c.args.self.now k c.args.v _
-    (c.in_ok-add.ensures.ok.1 ∙ ap (λ s. with_one s c.args.v) c.new-starts.ensures.members) c.deref.result.now c.deref.ensures.value new
-    c.in-Walk.field-0.items (rw c.in-Walk.is at c.in_ok-shortest_walk.ensures)
+pub seek-requires-clause-room : goal.seek-requires-clause-room
+seek-requires-clause-room c = subst (λ n. IsRoom n c.in_ok-room.room) c.vertices.ensures.count c.in_ok-room.ensures.room
+
+pub returns-in-Some-clause-ways : goal.returns-in-Some-clause-ways
+returns-in-Some-clause-ways c = λ vertices arcs ends is k new.
+    let told = first_search_tells vertices arcs c.args.sources.now ends c.args.self.now k c.deref.result.now c.deref.ensures.value c.args.back.now is
+    c.args.v _ (c.in_ok-room.ensures.all ∙ ap all_below c.vertices.ensures.count) _ [] (Some c.in-Some.field-0)
+    (rw c.in-Some.is at c.in_ok-seek.ensures.walk) in
+    (told.0 refl).1
+
+pub returns-in-Some-clause-own : goal.returns-in-Some-clause-own
+returns-in-Some-clause-own c = λ vertices arcs ends is k old.
+    let told = first_search_tells vertices arcs c.args.sources.now ends c.args.self.now k c.deref.result.now c.deref.ensures.value c.args.back.now is
+    c.args.v _ (c.in_ok-room.ensures.all ∙ ap all_below c.vertices.ensures.count) _ [] (Some c.in-Some.field-0)
+    (rw c.in-Some.is at c.in_ok-seek.ensures.walk) in
+    absurd (both_ways _ (told.0 refl).0 old)
 
 pub returns-clause-ways : goal.returns-clause-ways
-returns-clause-ways c = λ vertices arcs ends k new.
-    let found = rw c.in-Reached.is at c.in_ok-shortest_walk.ensures in
-    reached_tells vertices arcs c.args.sources.now ends c.args.self.now k c.args.v _
-    (c.in_ok-add.ensures.ok.1 ∙ ap (λ s. with_one s c.args.v) c.new-starts.ensures.members) c.deref.result.now c.deref.ensures.value new
-    c.in-Reached.reached found.0 found.1
-
-pub returns-in-Walk-clause-own : goal.returns-in-Walk-clause-own
-returns-in-Walk-clause-own c = λ vertices arcs ends k old.
-    absurd (no_walk_from_end vertices arcs c.args.sources.now ends c.args.self.now k c.args.v _
-    (c.in_ok-add.ensures.ok.1 ∙ ap (λ s. with_one s c.args.v) c.new-starts.ensures.members) c.deref.result.now c.deref.ensures.value old
-    c.in-Walk.field-0.items (rw c.in-Walk.is at c.in_ok-shortest_walk.ensures))
+returns-clause-ways c = λ vertices arcs ends is k new.
+    let found = rw c.in-None.is at c.in_ok-seek.ensures.walk in
+    let reach = bits_reach c.args.back.now.vertices _ _ _ _ _ _ c.in_ok-reached-in-None.field-0
+    (c.in_ok-room.ensures.all ∙ ap all_below c.vertices.ensures.count) found.0 found.1 c.in_ok-reached-in-None.ensures.members c.in_ok-reached-in-None.ensures.rises in
+    reached_tells vertices arcs c.args.sources.now ends c.args.self.now k c.args.back.now is c.args.v _ refl c.deref.result.now c.deref.ensures.value new
+    c.in_ok-reached-in-None.field-0 reach.0 reach.1
 
 pub returns-clause-own : goal.returns-clause-own
-returns-clause-own c = λ vertices arcs ends k old.
-    let found = rw c.in-Reached.is at c.in_ok-shortest_walk.ensures in
-    ap Some (only_the_end vertices arcs c.args.sources.now ends c.args.self.now k c.args.v _
-    (c.in_ok-add.ensures.ok.1 ∙ ap (λ s. with_one s c.args.v) c.new-starts.ensures.members) c.deref.result.now c.deref.ensures.value old
-    c.in-Reached.reached found.0)
+returns-clause-own c = λ vertices arcs ends is k old.
+    let found = rw c.in-None.is at c.in_ok-seek.ensures.walk in
+    let reach = bits_reach c.args.back.now.vertices _ _ _ _ _ _ c.in_ok-reached-in-None.field-0
+    (c.in_ok-room.ensures.all ∙ ap all_below c.vertices.ensures.count) found.0 found.1 c.in_ok-reached-in-None.ensures.members c.in_ok-reached-in-None.ensures.rises in
+    ap Some (only_the_end vertices arcs c.args.sources.now ends c.args.self.now k c.args.back.now is c.args.v _ refl c.deref.result.now
+    c.deref.ensures.value old c.in_ok-reached-in-None.field-0 reach.0)

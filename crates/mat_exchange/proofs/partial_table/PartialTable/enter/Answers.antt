@@ -1,0 +1,17 @@
+use Rattle.std.proofs.Common.{ℕ, ◌≤◌, List, ◌∙◌, set, length, ap, arith}
+use Rattle.mat_sets.specs.Sets.{AllBelow}
+use Rattle.mat_sets.proofs.Ground.{AllBelow-from_members, AllBelow-member}
+use Rattle.mat_exchange.proofs.TableSteps.{IsFilledTable-enter}
+use Rattle.mat_exchange.proofs.partial_table.PartialTable.enter.Goals as goal
+
+still_below : (n m : ℕ) (a : List ℕ) → n ≤ m → AllBelow n a → AllBelow m a
+still_below n m a le h = AllBelow-from_members m a (λ k i. (let l = AllBelow-member n a k h i in omega arith))
+
+pub to_row-requires : goal.to_row-requires
+to_row-requires c = still_below (length c.args.self.now.rows) 512 c.args.with.now (omega (arith, c.requires.few)) c.requires.below
+
+pub returns : goal.returns
+returns c = λ exchanges is filled.
+    IsFilledTable-enter exchanges c.args.x c.args.self.now.addable c.args.with.now c.args.self.now.rows _ c.args.self.now.columns _
+    c.requires.place filled is (c.replace.ensures ∙ ap (λ r. set c.args.self.now.rows c.args.x r) c.to_row.ensures.members)
+    (rw c.as_slice.ensures.items at c.insert_each.ensures)

@@ -1,0 +1,64 @@
+use Rattle.std.proofs.Common.{◌≡◌, ◌&&◌, ◌||◌, ◌∙◌, ℕ, Bool, true, false, not, Option, None, Some, refl, sym, ap, arith}
+use Rattle.std.proofs.lemmas.Bool.{both_ways, false_from_ne_true}
+use Rattle.std.proofs.lemmas.Int.{ints}
+use Rattle.mat_sets.specs.Bits.{bits_of}
+use Rattle.mat_sets.specs.Sets.{is_member}
+use Rattle.mat_sets.specs.Weights.{◌≺◌, ◌≼◌, is_same, weight_at}
+use Rattle.mat_sets.specs.declared.weight.Weight.{Weight}
+use Rattle.mat_sets.proofs.WeightOrder.{below_gives, pairs, same_gives}
+use Rattle.mat_exchange.specs.HeaviestAddable.{IsHeaviestWeightOrNone, is_above}
+use Rattle.mat_laws.specs.TightPaths.{exchanges_in}
+use Rattle.mat_exchange.proofs.Fringes.{whole_test}
+use Rattle.mat_exchange.proofs.NextArcs.{next_same}
+use Rattle.mat_exchange.proofs.tight_arcs.next_in_column.Goals as goal
+
+spread : (a b s : Bool) → ((a || b) && s) ≡ ((a && s) || (b && s))
+spread a b s = grind arith
+
+pub returns : goal.returns
+returns c =
+    let u = c.args.u in
+    let ex = exchanges_in c.args.table.now in
+    let o : ℕ → Bool = λ v. is_member v c.args.among.now in
+    let s : ℕ → Bool = λ v. is_same (weight_at c.args.weights.now u) (weight_at c.args.weights.now v) in
+    let here = sym c.contains.ensures ∙ c.if-not-contains.false in
+    let one : ℕ → Bool = λ v. (is_member v (bits_of c.rest_of_column.result.now) && o v) && s v in
+    let two : ℕ → Bool = λ v. (is_member v (bits_of c.as_words-addable.result.now) && o v) && s v in
+    next_same (λ v. one v || two v) (λ v. (ex.trades u v && o v) && s v) c.args.from c.earlier.result
+    (λ v. ap (λ b. b && s v) (whole_test (ex.adds v) (ex.trades u v) (o v) (λ a. sym (c.base.ensures u v a) ∙ here)
+    ∙ ap (λ b. (b && o v) || (ex.adds v && o v)) (sym (c.rest_of_column.ensures v))
+    ∙ ap (λ b. (is_member v (bits_of c.rest_of_column.result.now) && o v) || (b && o v))
+    (sym (ap (is_member v) c.as_words-addable.ensures ∙ c.addable_elements.ensures.elements v)))
+    ∙ spread (is_member v (bits_of c.rest_of_column.result.now) && o v) (is_member v (bits_of c.as_words-addable.result.now) && o v) (s v))
+    (c.earlier.ensures one two c.args.from c.next_equal-rest.ensures c.next_equal.ensures)
+
+-- one that can be added weighs less than u
+lighter : (adds : ℕ → Bool) (w : ℕ → Weight) (top : Option Weight) (u v : ℕ) → IsHeaviestWeightOrNone adds w top
+    → is_above (w u) top ≡ true → adds v ≡ true → is_same (w u) (w v) ≡ false
+lighter adds w None u v h above a = absurd (both_ways _ (h v) a)
+lighter adds w (Some t) u v h above a =
+    false_from_ne_true (is_same (w u) (w v)) (λ s. apart (w u) (w v) t (same_gives (w u) (w v) s) (h.most v a) (below_gives t (w u) above))
+  where
+    apart : (p q t : Weight) → p ≡ q → q ≼ t → t ≺ p → ⊥
+    apart p q t e le lt = omega (arith, ints, pairs)
+
+passed : (a t o s : Bool) → (a ≡ true → s ≡ false) → ((t && o) && s) ≡ (((not a && t) && o) && s)
+passed true t o s h = none (t && o) s (h refl)
+  where
+    none : (b s : Bool) → s ≡ false → (b && s) ≡ false
+    none true s k = k
+    none false s k = refl
+passed false t o s h = refl
+
+pub returns-then-outweighs : goal.returns-then-outweighs
+returns-then-outweighs c =
+    let u = c.args.u in
+    let ex = exchanges_in c.args.table.now in
+    let w = weight_at c.args.weights.now in
+    let o : ℕ → Bool = λ v. is_member v c.args.among.now in
+    let s : ℕ → Bool = λ v. is_same (w u) (w v) in
+    next_same (λ v. (is_member v (bits_of c.rest_of_column.result.now) && o v) && s v) (λ v. (ex.trades u v && o v) && s v) c.args.from
+    c.next_equal-rest.result
+    (λ v. passed (ex.adds v) (ex.trades u v) (o v) (s v) (λ a. lighter ex.adds w c.args.top u v c.requires.top (sym c.outweighs.ensures ∙ c.if-outweighs.true) a)
+    ∙ ap (λ b. (b && o v) && s v) (sym (c.rest_of_column.ensures v)))
+    c.next_equal-rest.ensures

@@ -1,7 +1,0 @@
-use Rattle.std.proofs.Common.{◌≡◌, take}
-use Rattle.mat_flow.specs.Reroutes.{reversed_arcs}
-use Rattle.mat_flow.proofs.reroutes.turned_round.Given as goal
-
--- the first arcs are turned round
-abbrev pub invariant-loop-tail : goal.invariant-loop-tail
-invariant-loop-tail l = l.back.items ≡ reversed_arcs (take l.tail-index l.arcs)

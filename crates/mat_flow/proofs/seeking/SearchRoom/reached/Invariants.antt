@@ -1,0 +1,10 @@
+use Rattle.std.proofs.Common.{◌≡◌, ℕ, take}
+use Rattle.mat_sets.specs.Sets.{is_member, IsRising}
+use Rattle.mat_flow.proofs.seeking.SearchRoom.reached.Given as goal
+
+-- the first of what was found is put in
+abbrev pub invariant-loop-v : goal.invariant-loop-v
+invariant-loop-v l = record {
+  members : (x : ℕ) → is_member x l.set ≡ is_member x (take l.v-index l.self.found.items);
+  rises : IsRising l.set;
+}

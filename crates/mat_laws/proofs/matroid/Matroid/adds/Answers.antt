@@ -1,0 +1,6 @@
+use Rattle.std.proofs.Common.{ap}
+use Rattle.mat_laws.specs.declared.exchange.Exchange.{Exchange}
+use Rattle.mat_laws.proofs.matroid.Matroid.adds.Goals as goal
+
+pub returns : goal.returns
+returns g c = ap (λ (r : Exchange). r.addable) c.in_ok-row.ensures.row

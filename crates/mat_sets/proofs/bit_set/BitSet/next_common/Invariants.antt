@@ -1,5 +1,0 @@
-use Rattle.mat_sets.proofs.BitScan.{IsScanned}
-use Rattle.mat_sets.proofs.bit_set.BitSet.next_common.Given as goal
-
-abbrev pub invariant-loop-at : goal.invariant-loop-at
-invariant-loop-at l = IsScanned l.self-inside.words.items l.other-inside.words.items l.from l.at l.mask
