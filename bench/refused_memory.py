@@ -64,10 +64,16 @@ NAMED_ROOT = 'matroids 2\nrooted 3 2\nelements p q\nvertices A B C\nroot B\narc 
 TREES = 'matroids 1\ngraph 4 6\nedge 0 1\nedge 0 2\nedge 0 3\nedge 1 2\nedge 1 3\nedge 2 3\nend\n'
 COLOURED = 'matroids 1\ncoloured 3 3 2\nedge 0 1 0 4\nedge 1 2 0 3\nedge 0 2 1 2\nend\n'
 TABLE = 'matroids 1\ntable 2 2 3\ncell 0 0 3\ncell 0 1 2\ncell 1 0 1\nend\n'
+LINKED = 'matroids 1\nlist 2 1\nweights 1 2\ngammoid 5 4\nsources 0 1\ntargets 3 4\narc 0 2\narc 1 2\narc 2 3\narc 2 4\nend\n'
+FAMILY = 'matroids 1\nlist 2 1\nweights 1 2\ntransversal 1\nset 0 1\nend\n'
+FIVE = 'matroids 1\nlist 5 1\nweights 0 0 0 0 0\nuniform 2\nend\n'
+TWO_TREES = 'matroids 1\nrooted 3 4 0\narc 0 1 0\narc 0 2 0\narc 1 2 0\narc 2 1 0\nend\n'
+ONE_TREE = 'matroids 1\nrooted 3 3 0\narc 0 1 0\narc 0 2 0\narc 2 1 0\nend\n'
 LIST = 'jobs 1\njob best graph.txt\njob trees 2 trees.txt\njob disjoint 2 rooted.txt\nend\n'
 FILES = {'assignment.txt': ASSIGNMENT, 'certificate.txt': CERTIFICATE, 'gammoid.txt': GAMMOID, 'graph.txt': GRAPH, 'rooted.txt': ROOTED,
          'trees.txt': TREES, 'coloured.txt': COLOURED, 'table.txt': TABLE, 'list.txt': LIST, 'named.txt': NAMED,
-         'named_root.txt': NAMED_ROOT, 'kinds.txt': KINDS, 'others.txt': OTHERS}
+         'named_root.txt': NAMED_ROOT, 'kinds.txt': KINDS, 'others.txt': OTHERS, 'linked.txt': LINKED, 'family.txt': FAMILY, 'five.txt': FIVE,
+         'two_trees.txt': TWO_TREES, 'one_tree.txt': ONE_TREE}
 # Files that the program writes before anything is refused.
 MADE = {'kinds.cert': 'intersect kinds.txt', 'others.cert': 'intersect others.txt', 'kinds.wit': 'witness 2 kinds.txt kinds.cert',
         'others.wit': 'witness 2 others.txt others.cert'}
@@ -76,7 +82,8 @@ CASES = ['show gammoid.txt', 'show named.txt', 'convert named.txt', 'convert nam
          'disjoint 1 rooted.txt', 'disjoint 2 rooted.txt', 'cuts rooted.txt', 'rainbow coloured.txt', 'assign table.txt',
          'check assignment.txt certificate.txt', 'check --workers 4 assignment.txt certificate.txt', 'witness 2 kinds.txt kinds.cert', 'witness 2 others.txt others.cert',
          'verify 2 kinds.txt kinds.cert kinds.wit', 'verify 2 others.txt others.cert others.wit', 'sample pair 8 7', 'sample list 6 7',
-         'sample graph 6 7', 'sample rooted 6 15', 'sample table 6 7', 'batch list.txt', 'batch --workers 4 list.txt']
+         'sample graph 6 7', 'sample rooted 6 15', 'sample table 6 7', 'batch list.txt', 'batch --workers 4 list.txt', 'best linked.txt', 'best family.txt',
+         'pack five.txt', 'cover five.txt', 'disjoint 2 two_trees.txt', 'disjoint 2 one_tree.txt']
 
 
 def ended(program, library, folder, words, number):
