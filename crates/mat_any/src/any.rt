@@ -6,7 +6,7 @@ ghost use Rattle.mat_any.specs.Views.{tree_of};
 
 use crate::any_kept::AnyKept;
 use crate::independence::independent;
-use crate::rows::{adds, row};
+use crate::rows::{adds, circuit_members, row};
 use crate::runs::{keep, keep_next, run};
 use crate::sizes::size_of;
 use mat_count::{Laminar, Partition, Uniform};
@@ -113,5 +113,15 @@ impl Matroid for AnyMatroid {
         x: u32,
     ) -> Result<bool, AllocError> {
         adds(alloc, self, base, kept, x)
+    }
+
+    fn circuit_members(
+        &self,
+        alloc: Global,
+        base: &ElemSet,
+        kept: &AnyKept,
+        x: u32,
+    ) -> Result<Option<ElemSet>, AllocError> {
+        circuit_members(alloc, self, base, kept, x)
     }
 }

@@ -2,7 +2,7 @@
 ghost use Rattle.std.specs.Prelude.{◌≡◌, ◌<◌, ℕ, true, false, [], length, map, IfOk, IfSome};
 ghost use Rattle.mat_sets.specs.Families.{family_union};
 ghost use Rattle.mat_sets.specs.Sets.{IsRising, IsSet, is_member, union};
-ghost use Rattle.mat_laws.specs.Exchanges.{row_of};
+ghost use Rattle.mat_laws.specs.Exchanges.{circuit_members, row_of};
 ghost use Rattle.mat_laws.specs.Matroids.{IsMaximal};
 ghost use Rattle.mat_minors.specs.DualRows.{IsDualKept};
 ghost use Rattle.mat_minors.specs.Minors.{is_contracted, is_dual, is_restricted, is_truncated};
@@ -128,6 +128,41 @@ pub(crate) fn adds(
             Ok(exchange.addable)
         }
     }
+}
+
+// Whether a matroid is made of others, so that `adds` makes a row.
+fn is_made_of_others(matroid: &AnyMatroid) -> bool {
+    matches!(
+        matroid,
+        AnyMatroid::Dual(_)
+            | AnyMatroid::Truncate { .. }
+            | AnyMatroid::Restrict { .. }
+            | AnyMatroid::Contract { .. }
+            | AnyMatroid::Union { .. }
+    )
+}
+
+/// The members of the fundamental circuit of an element x outside an independent set, by what is kept of it, and None where x can be added: at
+/// most one row is made. The only error is want of memory.
+pub(crate) fn circuit_members(
+    alloc: Global,
+    matroid: &AnyMatroid,
+    base: &ElemSet,
+    kept: &AnyKept,
+    x: u32,
+) -> Result<Option<ElemSet>, AllocError>
+    requires sound { IsSound (tree_of matroid.now) }
+    requires base { is_independent (tree_of matroid.now) base.now ≡ true }
+    requires kept { KeepsAny (tree_of matroid.now) base.now kept.now }
+    requires below { x < element_count (tree_of matroid.now) }
+    requires outside { is_member x base.now ≡ false }
+    ensures { IfOk result (λ members. members ≡ circuit_members (row_of (is_independent (tree_of matroid.now)) base.now x)) }
+{
+    if !is_made_of_others(matroid) && adds(alloc, matroid, base, kept, x)? {
+        return Ok(None);
+    }
+    let exchange = row(alloc, matroid, base, kept, x)?;
+    Ok(exchange.circuit_members())
 }
 
 // No exchanges.
@@ -319,6 +354,26 @@ fn row_at(
     row(alloc, matroid, part, kept, x)
 }
 
+// Whether x can be added to a part, by what is kept of it: a member cannot.
+fn adds_at(
+    alloc: Global,
+    matroid: &AnyMatroid,
+    part: &ElemSet,
+    kept: &AnyKept,
+    x: u32,
+) -> Result<bool, AllocError>
+    requires sound { IsSound (tree_of matroid.now) }
+    requires base { is_independent (tree_of matroid.now) part.now ≡ true }
+    requires kept { KeepsAny (tree_of matroid.now) part.now kept.now }
+    requires below { x < element_count (tree_of matroid.now) }
+    ensures { IfOk result (λ added. added ≡ (row_of (is_independent (tree_of matroid.now)) part.now x).addable) }
+{
+    if part.contains(x) {
+        return Ok(false);
+    }
+    adds(alloc, matroid, part, kept, x)
+}
+
 // The first part to which x can be added, by what is kept of the parts.
 fn part_that_takes(
     alloc: Global,
@@ -335,8 +390,7 @@ fn part_that_takes(
     ensures takes { IfOk result (λ found. IfSome found (λ q. (exchanges_with (map test_in matroids.now) parts.now q).adds x ≡ true)) }
 {
     for i in 0..matroids.len() {
-        let row = row_at(alloc, &matroids[i], parts.get(i), &kept[i], x)?;
-        if row.addable {
+        if adds_at(alloc, &matroids[i], parts.get(i), &kept[i], x)? {
             return Ok(Some(i as u32));
         }
     }

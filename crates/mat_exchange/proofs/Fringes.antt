@@ -82,39 +82,6 @@ offered_same test test' f f' F F' g g' same value o = record {
   kept = λ x h. o.kept x (sym (same x) ∙ h);
 }
 
--- offers of the same gains to those of two tests, one after the other
-pub offered_both : (one two : ℕ → Bool) (f : ℕ → Weight) (F F1 F2 : List ℕ) (g g1 g2 : ℕ → Weight) → IsOffered one f F g F1 g1
-    → IsOffered two f F1 g1 F2 g2 → IsOffered (λ x. one x || two x) f F g F2 g2
-offered_both one two f F F1 F2 g g1 g2 first second = record {
-  met = λ x h. elim (cases_Bool (two x)) [
-    | inl t ↦ elim (cases_Bool (one x)) [
-      | inl o ↦ twice x (first.met x o) (second.met x t)
-      | inr o ↦ (let k = first.kept x o in met_after (f x) x F F1 F2 g g1 g2 (second.met x t) k.0 k.1)
-    ]
-    | inr t ↦ (let k = second.kept x t in met_before (f x) x F F1 F2 g g1 g2 (first.met x (only (one x) (two x) h t)) k.0 k.1)
-  ];
-  kept = λ x h. (let n = neither (one x) (two x) h in let a = first.kept x n.0 in let b = second.kept x n.1 in (b.0 ∙ a.0, b.1 ∙ a.1));
-}
-  where
-    only : (a b : Bool) → (a || b) ≡ true → b ≡ false → a ≡ true
-    only true b h k = refl
-    only false b h k = absurd (both_ways b k h)
-
-    neither : (a b : Bool) → (a || b) ≡ false → (a ≡ false) × (b ≡ false)
-    neither true b h = absurd (both_ways true h refl)
-    neither false b h = (refl, h)
-
-    twice : (x : ℕ) → IsMet (f x) x F g F1 g1 → IsMet (f x) x F1 g1 F2 g2 → IsMet (f x) x F g F2 g2
-    twice x m n = record {
-      inside = n.inside;
-      own = n.own;
-      old = λ h. at_most_trans (g x) (g1 x) (g2 x) (m.old h) (n.old m.inside);
-      from = elim n.from [
-        | inl e ↦ inl e
-        | inr k ↦ elim m.from [ inl e ↦ inl (k.1 ∙ e) | inr j ↦ inr (j.0, k.1 ∙ j.1) ]
-      ];
-    }
-
 -- what is in a column: those that cannot be added, and, where the whole base can be exchanged, those that can
 pub whole_test : (a t o : Bool) → (a ≡ true → t ≡ true) → (t && o) ≡ (((not a && t) && o) || (a && o))
 whole_test true t o h = rw (h refl) (both o)
@@ -126,10 +93,6 @@ whole_test false t o h = none (t && o)
     none : (b : Bool) → b ≡ (b || false)
     none true = refl
     none false = refl
-
-pub rest_test : (a t o : Bool) → (a ≡ true → t ≡ false) → (t && o) ≡ ((not a && t) && o)
-rest_test true t o h = ap (λ b. b && o) (h refl)
-rest_test false t o h = refl
 
 -- ---- the fringe
 

@@ -83,12 +83,13 @@ fn enter_next<M: Matroid>(
     if base.contains(x) {
         return Ok(());
     }
-    if m.adds(alloc, set, kept, x)? {
-        return table.enter_addable(x);
+    match m.circuit_members(alloc, set, kept, x)? {
+        None => table.enter_addable(x),
+        Some(members) => {
+            table.enter(x, &members);
+            Ok(())
+        }
     }
-    let row = m.row(alloc, set, kept, x)?;
-    table.enter(x, &row.with);
-    Ok(())
 }
 
 /// The table of all rows, which are made one after the other and are not kept as lists.

@@ -1,5 +1,5 @@
 -- Exchanges of elements at independent sets (Schrijver, chapter 39).
-use Rattle.std.specs.Prelude.{◌≡◌, ◌≢◌, ℕ, ◌<◌, Bool, true, false, if◌then◌else◌, List, [], length, map, filter, slice_index}
+use Rattle.std.specs.Prelude.{◌≡◌, ◌≢◌, ℕ, ◌<◌, Bool, true, false, if◌then◌else◌, Option, None, Some, List, [], length, map, filter, slice_index}
 use Rattle.mat_sets.specs.Sets.{is_member, with_one, without_one, all_below}
 use Rattle.mat_laws.specs.declared.exchange.Exchange.{Exchange}
 
@@ -32,3 +32,8 @@ row_of independent I x =
 -- the exchanges of each element below n, in order
 abbrev pub rows_of : ℕ → (List ℕ → Bool) → List ℕ → List Exchange
 rows_of n independent I = map (row_of independent I) (all_below n)
+
+-- the members of I that stand in the fundamental circuit of an element outside I, by its exchanges at I: those for which it can be exchanged;
+-- none where it can be added (Oxley, section 1.2)
+abbrev pub circuit_members : Exchange → Option (List ℕ)
+circuit_members e = if e.addable then None else Some e.with

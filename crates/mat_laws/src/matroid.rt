@@ -3,7 +3,7 @@
 ghost use Rattle.std.specs.Prelude.{◌≡◌, ◌<◌, ◌&&◌, ℕ, List, [], Bool, true, false, not, if◌then◌else◌, IfOk, OnErr};
 ghost use Rattle.mat_sets.specs.Sets.{AllBelow, AreDistinct, IsRising, IsSubset, is_member, with_one, union};
 ghost use Rattle.mat_laws.specs.Columns.{AreColumns};
-ghost use Rattle.mat_laws.specs.Exchanges.{row_of};
+ghost use Rattle.mat_laws.specs.Exchanges.{circuit_members, row_of};
 ghost use Rattle.mat_laws.specs.GreedyRuns.{grown_along};
 ghost use Rattle.mat_laws.specs.Matroids.{IsMatroid, IsMaximal};
 
@@ -219,6 +219,30 @@ pub trait Matroid: Sync + Drop {
         Ok(row.addable)
     }
 
+    /// The members of the fundamental circuit of an element x outside an independent set of which something is kept, and None where x can be
+    /// added (Oxley, section 1.2). This body makes no row for what can be added where `adds` makes none; a kind whose `adds` makes the row
+    /// has a body that makes it once. The only error is want of memory.
+    fn circuit_members(
+        &self,
+        alloc: Global,
+        base: &ElemSet,
+        kept: &Self::Kept,
+        x: u32,
+    ) -> Result<Option<ElemSet>, AllocError>
+        requires sound { sound self.now }
+        requires base { indep self.now base.now ≡ true }
+        requires kept { keeps self.now base.now kept.now }
+        requires below { x < ground_size self.now }
+        requires outside { is_member x base.now ≡ false }
+        ensures { IfOk result (λ members. members ≡ circuit_members (row_of (indep self.now) base.now x)) }
+    {
+        if self.adds(alloc, base, kept, x)? {
+            return Ok(None);
+        }
+        let row = self.row(alloc, base, kept, x)?;
+        Ok(row.circuit_members())
+    }
+
     /// For each member of an independent set, at its number, the elements outside it that can take its place: all rows, turned
     /// (Schrijver, chapter 39). One row an element. The only error is want of memory.
     fn columns(
@@ -308,5 +332,15 @@ impl<M: Matroid> Matroid for &M {
         x: u32,
     ) -> Result<Exchange, AllocError> {
         (**self).row(alloc, base, kept, x)
+    }
+
+    fn circuit_members(
+        &self,
+        alloc: Global,
+        base: &ElemSet,
+        kept: &M::Kept,
+        x: u32,
+    ) -> Result<Option<ElemSet>, AllocError> {
+        (**self).circuit_members(alloc, base, kept, x)
     }
 }
