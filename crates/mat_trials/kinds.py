@@ -1,8 +1,8 @@
 #!/usr/bin/env python3
 """What the program has to print of its small matroids, found by trying all sets.
 
-`kinds.py known` prints the lines of the matroids of `src/known.rt`, `kinds.py union` those of the two graphs of `src/unions.rt`, `kinds.py free` those
-of the matroid of `src/meeting.rt`, and `kinds.py FOLDER` those of the list of matroids that `FOLDER/kinds.txt` describes. Each kind is its definition: sums of counts, closed walks
+`kinds.py DATA` prints the lines of the matroids of `DATA/kinds.txt`, `kinds.py known` those of `src/known.rt`, `kinds.py union` those of the two
+graphs of `src/unions.rt`, and `kinds.py free` those of the matroid of `src/meeting.rt`. Each kind is its definition: sums of counts, closed walks
 (`pairs.py`), different sets, disjoint paths, sums of columns, bases, and parts of a union.
 """
 import os

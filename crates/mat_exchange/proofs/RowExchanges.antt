@@ -1,6 +1,6 @@
 -- The rows of all elements at an independent set tell its exchanges: each row says what the exchanges of its element are, and no
 -- element past the last row can be added or exchanged, as independent sets lie below n.
-use Rattle.std.proofs.Common.{◌≡◌, ℕ, ◌<◌, ◌≤◌, Bool, true, false, not, ◌&&◌, List, [], length, inl, inr, refl, sym, ap}
+use Rattle.std.proofs.Common.{◌≡◌, ℕ, ◌<◌, ◌≤◌, Bool, true, false, not, ◌&&◌, if◌then◌else◌, None, Some, List, [], length, inl, inr, refl, sym, ap}
 use Rattle.std.proofs.Common.{◌∙◌, subst, arith}
 use Rattle.std.proofs.lemmas.Bool.{and_parts, and_right, both_ways, cases_Bool, cases_lt, cond-false, cond-true, eq-eqb, false_from_ne_true, not-true}
 use Rattle.std.proofs.lemmas.List.{get_or_past}
@@ -10,7 +10,7 @@ use Rattle.mat_sets.proofs.Filters.{IsRising-filter}
 use Rattle.mat_sets.proofs.Ground.{AllBelow-from_members, below_member, length-map_all_below, get_or-map_all_below}
 use Rattle.mat_sets.proofs.Truths.{and_all}
 use Rattle.mat_laws.specs.declared.exchange.Exchange.{Exchange}
-use Rattle.mat_laws.specs.Exchanges.{row_of, rows_of}
+use Rattle.mat_laws.specs.Exchanges.{circuit_members, row_of, rows_of}
 use Rattle.mat_laws.specs.Matroids.{IsMatroid}
 use Rattle.mat_laws.proofs.Rows.{row_of-adds, row_of-trades}
 use Rattle.mat_laws.specs.TightPaths.{Exchanges, exchanges_at, exchanges_in, row_in}
@@ -31,6 +31,34 @@ pub row_in-past : (n : ℕ) (p : List ℕ → Bool) (I : List ℕ) (x : ℕ) →
 row_in-past n p I x h = get_or_past (rows_of n p I) x (record { addable = false; with = [] }) (subst (λ l. l ≤ x) (sym (length-rows_of n p I)) h)
 
 -- ---- one row
+
+-- where there is no circuit the element can be added
+pub no_circuit : (e : Exchange) → circuit_members e ≡ None → e.addable ≡ true
+no_circuit e h = by_flag e.addable h
+  where
+    apart : Some e.with ≡ None → ⊥
+    apart h = cc
+
+    by_flag : (b : Bool) → (if b then None else Some e.with) ≡ None → b ≡ true
+    by_flag true h = refl
+    by_flag false h = absurd (apart h)
+
+-- and where there is one its members are all that the row tells
+pub circuit_row : (e : Exchange) (members : List ℕ) → circuit_members e ≡ Some members → e ≡ record { addable = false; with = members }
+circuit_row e members h = by_flag e.addable h
+  where
+    apart : None ≡ Some members → ⊥
+    apart h = cc
+
+    same : Some e.with ≡ Some members → e.with ≡ members
+    same h = cc
+
+    told : Bool → List ℕ → Exchange
+    told b with = record { addable = b; with = with }
+
+    by_flag : (b : Bool) → (if b then None else Some e.with) ≡ Some members → told b e.with ≡ told false members
+    by_flag true h = absurd (apart h)
+    by_flag false h = ap (told false) (same h)
 
 -- ---- all rows
 

@@ -54,8 +54,8 @@ pub(crate) fn told_set(alloc: Global, set: &ElemSet) -> Result<String, AllocErro
     Ok(text)
 }
 
-// The exchanges of an element outside an independent set, by what is kept of it, and whether those that are asked for by themselves, and
-// what is answered of adding alone, are the same.
+// The exchanges of an element outside an independent set, by what is kept of it, and whether those that are asked for by themselves, what is
+// answered of adding alone, and the members of its circuit are the same.
 fn told_row<M: Matroid>(
     alloc: Global,
     m: &M,
@@ -72,9 +72,13 @@ fn told_row<M: Matroid>(
     let row = m.row(alloc, base, kept, x)?;
     let asked = m.circuit(alloc, base, x)?;
     let adds = m.adds(alloc, base, kept, x)?;
-    let same = asked.addable == row.addable && asked.with == row.with && adds == row.addable;
-    let with = told_set(alloc, &row.with)?;
+    let members = m.circuit_members(alloc, base, kept, x)?;
     let addable = row.addable;
+    let with = told_set(alloc, &row.with)?;
+    let same = asked.addable == addable
+        && asked.with == row.with
+        && adds == addable
+        && members == row.circuit_members();
     format!(in alloc; "{x} {addable} {with} {same}")
 }
 

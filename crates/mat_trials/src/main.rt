@@ -1,6 +1,6 @@
 //! The program `mat_trials`, a test: it runs the top call over the cases of the file `cases.txt`, over files and sinks that fail, and over
 //! the real files; the search for disjoint paths over the graphs of the files `routes_*.txt`; cheapest arborescences of small and large
-//! graphs; the calls of matroids over small known ones; and it makes problems from a number. It prints what came of each. What it has to
+//! graphs; the calls of matroids over small known ones and over those of the file `kinds.txt`; and it makes problems from a number. It prints what came of each. What it has to
 //! print was worked out without it. With names of descriptions as words it prints the lines of these alone.
 #![tactic(auto)]
 
@@ -8,6 +8,7 @@ mod calls;
 mod cases;
 mod each;
 mod faults;
+mod kinds;
 mod known;
 mod longest;
 mod meeting;
@@ -22,6 +23,7 @@ mod witnesses;
 
 use crate::each::each_report;
 use crate::faults::fault_report;
+use crate::kinds::kinds_report;
 use crate::known::known_report;
 use crate::longest::longest_report;
 use crate::meeting::meeting_report;
@@ -87,6 +89,8 @@ fn main(rt: HostRuntime) -> io::Result<()> {
     rt.stdout().write_all(networks.as_bytes())?;
     let known = known_report(alloc)?;
     rt.stdout().write_all(known.as_bytes())?;
+    let kinds = kinds_report(alloc, fs::read(&rt, "kinds.txt")?.as_slice())?;
+    rt.stdout().write_all(kinds.as_bytes())?;
     let samples = samples_report(alloc)?;
     rt.stdout().write_all(samples.as_slice())
 }
