@@ -51,18 +51,26 @@ fn told_both(alloc: Global, matroid: &AnyMatroid) -> Result<String, AllocError>
     format!(in alloc; "{own}{any}")
 }
 
+// What is told of each of these matroids.
+fn told_each(alloc: Global, matroids: &[AnyMatroid]) -> Result<String, AllocError>
+    requires { All (λ m. IsSound (tree_of m)) matroids.now }
+{
+    let mut text = String::new(alloc);
+    for i in 0..matroids.len() {
+        let told = told_both(alloc, &matroids[i])?;
+        text = format!(in alloc; "{text}{told}")?;
+    }
+    Ok(text)
+}
+
 // What is told of each matroid of a list.
 fn told_list(alloc: Global, problem: &Problem) -> Result<String, AllocError>
     requires { IsSoundInstance (instance_of problem.now) }
 {
-    let mut text = String::new(alloc);
-    if let Problem::List { matroids, .. } = problem {
-        for matroid in matroids {
-            let told = told_both(alloc, matroid)?;
-            text = format!(in alloc; "{text}{told}")?;
-        }
+    match problem {
+        Problem::List { matroids, .. } => told_each(alloc, matroids),
+        _ => String::from_str(alloc, "no list\n"),
     }
-    Ok(text)
 }
 
 /// What is told of the matroids that a description lists.
