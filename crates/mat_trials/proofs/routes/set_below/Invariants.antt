@@ -1,5 +1,0 @@
-use Rattle.mat_sets.specs.Sets.{AllBelow}
-use Rattle.mat_trials.proofs.routes.set_below.Given as goal
-
-abbrev pub invariant-loop-x : goal.invariant-loop-x
-invariant-loop-x l = AllBelow l.n l.set
