@@ -165,15 +165,14 @@ def judge(jobs, run, at_once):
     """Judges all certificates, and counts."""
     with ThreadPoolExecutor(at_once) as workers:
         faults = list(workers.map(lambda job: fault_of(run, job[0], *job[1]), jobs.items()))
-    refused = [name for name, fault in zip(jobs, faults) if fault]
-    missing = [name for name, fault in zip(jobs, faults) if fault is None]
+    judged = dict(zip(jobs, faults))
+    refused = [name for name, fault in judged.items() if fault]
+    missing = [name for name, fault in judged.items() if fault is None]
     write(os.path.join(run, "refused"), "".join(name + "\n" for name in refused).encode())
-    for name, fault in zip(jobs, faults):
-        if fault:
-            print(f"refused: {name}: {fault}")
-    for name in missing:
-        told = read_plain(os.path.join(run, "out", name + ".status"), LONGEST_STATUS)
-        print(f"missing: {name}" + (f": status {printable(told)}" if told else ""))
+    for word, names in (("refused", refused), ("missing", missing)):
+        for name in names:
+            told = printable(read_plain(os.path.join(run, "out", name + ".status"), LONGEST_STATUS) or b"")
+            print(f"{word}: {name}", *([judged[name]] if word == "refused" else []), *([f"status {told}"] if told else []), sep=": ")
     print(f"{len(jobs) - len(refused) - len(missing)} right, {len(refused)} refused, {len(missing)} missing")
     sys.exit(1 if refused or missing else 0)
 

@@ -14,9 +14,10 @@ program=${MATBENCH:-$here/../../crates/mat_main/out/mat_main}
 # Sends the program to a host, starts it there, and prints how many processors the host says it has.
 send() {
     ${MANY_SSH:-ssh} -T -a -x -o BatchMode=yes -o ConnectTimeout=10 "$1" 'mkdir -p matbench-many && cd matbench-many && cat >new.$$ &&
-        chmod 755 new.$$ && mv -f new.$$ mat_main && ./mat_main --version >/dev/null && nproc' <"$program" | head -c 20
+        chmod 755 new.$$ && mv -f new.$$ mat_main && ./mat_main --version >/dev/null && nproc' <"$program" 2>"$run/hosts.note" | head -c 20
 }
 
+[ -s "$run/todo" ] || { echo "0 jobs ran, 0 failed"; exit 0; }
 : >"$run/hosts"
 while read -r line; do
     case $line in
@@ -26,7 +27,10 @@ while read -r line; do
     host=${line#*/}
     jobs=$(send "$host")
     case $jobs in
-    '' | *[!0-9]*) echo "over_parallel.sh: $host: left out" >&2; continue ;;
+    '' | 0* | *[!0-9]* | ????*)
+        echo "over_parallel.sh: $host: left out: $(tr -cd '\040-\176' <"$run/hosts.note" | head -c 200)" >&2
+        continue ;;
+    ???) jobs=99 ;;
     esac
     case $line in
     */*) jobs=${line%%/*} ;;
@@ -35,8 +39,8 @@ while read -r line; do
 done <"$hosts"
 [ -s "$run/hosts" ] || { echo "over_parallel.sh: no host is left" >&2; exit 69; }
 
-parallel --plain --will-cite --sshloginfile "$run/hosts" --ssh "$here/on_host.sh" --retries 3 --joblog "$run/log" --colsep '\t' \
+parallel --plain --quote --sshloginfile "$run/hosts" --ssh "$here/on_host.sh" --retries 3 --joblog "$run/log" --colsep '\t' \
     sh "$here/one.sh" "$run" "$program" '{1}' '{2}' :::: "$run/todo"
-failed=$?
+failed=$(awk -F '\t' 'NR > 1 && ($7 != 0 || $8 != 0)' "$run/log" | wc -l)
 echo "$(($(wc -l <"$run/log") - 1)) jobs ran, $failed failed"
 [ "$failed" -eq 0 ]

@@ -34,7 +34,8 @@ start() {
         command -v "$command" >/dev/null || { echo "slurm_here.sh: $command is missing: apt-get install slurm-wlm munge" >&2; exit 69; }
     done
     echo "a key for munge"
-    mkdir -p state spool
+    rm -rf state spool
+    mkdir state spool
     (umask 077 && head -c 128 /dev/urandom >munge.key)
     echo "munged, which lets the three trust each other's messages"
     munged --force --key-file="$folder/munge.key" --socket="$folder/munge" --pid-file="$folder/munged.pid" --log-file="$folder/munged.log" \
@@ -65,6 +66,7 @@ AccountingStorageType=accounting_storage/none
 SelectType=select/cons_tres
 SelectTypeParameters=CR_CPU
 MpiDefault=none
+SchedulerParameters=batch_sched_delay=0
 ReturnToService=2
 NodeName=$node NodeAddr=127.0.0.1 CPUs=$(nproc) State=UNKNOWN
 PartitionName=all Nodes=$node Default=YES MaxTime=INFINITE State=UP

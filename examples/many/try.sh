@@ -98,7 +98,7 @@ export MANY_SSH="$folder/ssh"
 printf '2/liar\n' >"$folder/hosts.liar"
 lay "$folder/liar" >/dev/null
 spread "$folder/liar" "$folder/hosts.liar" >/dev/null
-expect "certificates that are changed on the way are refused" "refused: pair_1: no weight 2 0" "$(judge "$folder/liar" | head -n 1)"
+expect "certificates that are changed on the way are refused" "refused: pair_1: no weight 2 0: status 0 on liar" "$(judge "$folder/liar" | head -n 1)"
 expect "and no other" "12 right, 8 refused, 0 missing" "$(judge "$folder/liar" | last)"
 expect "they alone are to be done" "8 to do, 12 there, 0 not sent" "$(lay "$folder/liar")"
 spread "$folder/liar" "$folder/hosts" >/dev/null
@@ -112,7 +112,7 @@ expect "and all is right" "20 right, 0 refused, 0 missing" "$(judge "$folder/dyi
 printf '4/cut\n' >"$folder/hosts.cut"
 lay "$folder/short" >/dev/null
 spread "$folder/short" "$folder/hosts.cut" >/dev/null
-expect "certificates that are cut off are refused" "refused: pair_1: refused: certificate 7 EndsEarly line 4" "$(judge "$folder/short" | head -n 1)"
+expect "certificates that are cut off are refused" "refused: pair_1: refused: certificate 7 EndsEarly line 4: status 0 on cut" "$(judge "$folder/short" | head -n 1)"
 expect "all of them" "0 right, 20 refused, 0 missing" "$(judge "$folder/short" | last)"
 
 printf '4/rude\n' >"$folder/hosts.rude"
@@ -216,6 +216,16 @@ if command -v slurmd >/dev/null; then
     expect "it alone is to be done" "1 to do, 19 there, 0 not sent" "$(lay "$folder/slurm.run")"
     sh "$here/over_slurm.sh" "$folder/slurm.run" "$folder/nodes"
     expect "and all is right" "20 right, 0 refused, 0 missing" "$(judge "$folder/slurm.run" | last)"
+
+    lay "$folder/ended.run" >/dev/null
+    MATBENCH=$folder/slow sh "$here/over_slurm.sh" "$folder/ended.run" "$folder/nodes" 2 &
+    spreading=$!
+    while [ "$(ls "$folder"/nodes/*/out/*.cert 2>/dev/null | wc -l)" -lt 2 ]; do sleep 0.1; done
+    kill "$spreading"
+    wait "$spreading"
+    expect "the spreading is ended; some are there" "some" "$(lay "$folder/ended.run" | awk '$1 > 0 && $4 > 0 { print "some" }')"
+    sh "$here/over_slurm.sh" "$folder/ended.run" "$folder/nodes" 5
+    expect "the others are run, and all is right" "20 right, 0 refused, 0 missing" "$(judge "$folder/ended.run" | last)"
     expect "nothing is left in the shared folder" "0" "$(ls "$folder/nodes" | wc -l)"
 else
     echo "left out: there is no slurmd"

@@ -51,6 +51,6 @@ else
         trap 'exit 143' HUP INT TERM
         export SLURM_CONF="$folder/slurm/slurm.conf"
     fi
-    sh "$here/over_slurm.sh" "$folder/run" "$folder/shared"
+    sh "$here/over_slurm.sh" "$folder/run" "$folder/shared" 5
 fi
 python3 "$here/jobs.py" judge "$folder/list" "$folder/run" "$(nproc)"
