@@ -6,7 +6,7 @@
 # matbench-many. One that does not answer is left out; a job that fails is tried on another host, three times in all. MANY_SSH names another
 # command than ssh, such as 'ssh -F FILE'.
 set -u
-here=$(CDPATH= cd -- "$(dirname -- "$0")" && pwd)
+here=$(CDPATH='' cd -- "$(dirname -- "$0")" && pwd)
 [ "$#" -eq 2 ] || { sed -n '2,7s/^# \{0,1\}//p' "$0" >&2; exit 64; }
 run=$1 hosts=$2
 program=${MATBENCH:-$here/../../crates/mat_main/out/mat_main}

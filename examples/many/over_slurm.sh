@@ -3,12 +3,12 @@
 #
 # SHARED is a folder that this machine and all nodes have. A new folder in it gets what the nodes need: the program, one.sh, the jobs and the
 # descriptions. What the nodes leave in its folder out is taken over with care, since each of them can write anything there, and the folder is
-# removed; so too where this script is ended early, which cancels the array. RUN itself should be where no node can write. Options of sbatch, such
-# as a partition, are set by its variables (SBATCH_PARTITION).
+# removed; so too where this script is ended early, which cancels the array. RUN itself should be where no node can write. Of the environment the
+# tasks get PATH alone. Options of sbatch, such as a partition, are set by its variables (SBATCH_PARTITION).
 set -u
-here=$(CDPATH= cd -- "$(dirname -- "$0")" && pwd)
+here=$(CDPATH='' cd -- "$(dirname -- "$0")" && pwd)
 [ "$#" -ge 2 ] || { sed -n '2,7s/^# \{0,1\}//p' "$0" >&2; exit 64; }
-run=$1 count=${3:-1} array=
+run=$1 count=${3:-1} array='' failed=0
 program=${MATBENCH:-$here/../../crates/mat_main/out/mat_main}
 [ -s "$run/todo" ] || exit 0
 
@@ -27,8 +27,9 @@ trap 'exit 143' HUP INT TERM
 
 for todo in "$share"/todo.*; do
     array=$todo.array
-    sbatch --wait --parsable --job-name=matbench --output=/dev/null --ntasks=1 --cpus-per-task=1 --chdir="$share" \
-        --array="1-$((($(wc -l <"$todo") + count - 1) / count))" "$here/array_task.sh" "$todo" "$count" >"$array" &
-    wait "$!"
-    array=
+    sbatch --wait --parsable --job-name=matbench --output=/dev/null --export=PATH --ntasks=1 --cpus-per-task=1 \
+        --chdir="$share" --array="1-$((($(wc -l <"$todo") + count - 1) / count))" "$here/array_task.sh" "$todo" "$count" >"$array" &
+    wait "$!" || failed=1
+    array=''
 done
+exit "$failed"

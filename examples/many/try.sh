@@ -1,12 +1,13 @@
 #!/bin/sh
-# try.sh [FOLDER]: the scripts' own test, in a new folder or in FOLDER. Each step says what is tried and `ok`, or what came instead.
+# try.sh [FOLDER]: the scripts' own test, in a new folder that is removed where nothing was wrong, or in FOLDER. Each step says what is tried and `ok`, or what came instead.
 #
 # Steps that need ssh to this machine or Slurm are left out, and told, where sshd or slurmd is not installed. Both are started for the test, with a
 # key and ports of their own, and ended by their process ids. Hosts that fail or lie are stand-ins for ssh.
 set -u
-here=$(CDPATH= cd -- "$(dirname -- "$0")" && pwd)
+here=$(CDPATH='' cd -- "$(dirname -- "$0")" && pwd)
 top=$here/../..
 PATH=$PATH:/usr/sbin
+given=$#
 folder=${1:-$(mktemp -d)}
 mkdir -p "$folder" && folder=$(cd "$folder" && pwd) || exit 71
 program=${MATBENCH:-$top/crates/mat_main/out/mat_main}
@@ -15,6 +16,7 @@ steps=0 wrong=0
 clean_up() {
     [ -s "$folder/sshd.pid" ] && kill "$(cat "$folder/sshd.pid")"
     [ -d "$folder/slurm" ] && sh "$here/slurm_here.sh" stop "$folder/slurm"
+    [ "$given" = 0 ] && [ "$wrong" -eq 0 ] && rm -rf "$folder"
 }
 trap clean_up EXIT
 trap 'exit 143' HUP INT TERM
@@ -28,6 +30,14 @@ expect() {
         wrong=$((wrong + 1))
         printf 'WRONG: %s\n  wanted: %s\n  there is: %s\n' "$1" "$2" "$3"
     fi
+}
+
+# Waits until a folder has so many files of a name, a minute at most: wait_for COUNT FOLDER PATTERN
+wait_for() {
+    for _ in $(seq 600); do
+        [ "$(find "$2" -name "$3" | wc -l)" -ge "$1" ] && return
+        sleep 0.1
+    done
 }
 
 lay() { python3 "$here/jobs.py" lay "$folder/list" "$1"; }
@@ -83,13 +93,13 @@ expect "and all is right" "20 right, 0 refused, 0 missing" "$(judge "$folder/dea
 lay "$folder/cut" >/dev/null
 MATBENCH=$folder/slow setsid sh "$here/over_parallel.sh" "$folder/cut" "$folder/hosts" >/dev/null 2>&1 &
 spreading=$!
-while [ "$(ls "$folder/cut/out" | grep -c 'cert$')" -lt 2 ]; do sleep 0.1; done
+wait_for 2 "$folder/cut/out" '*.cert'
 kill -9 "-$spreading"
 wait "$spreading" 2>/dev/null
 touch "$folder/cut/out/pair_1.part.left"
 sleep 3
 expect "the spreading is killed; some are there" "some" "$(lay "$folder/cut" | awk '$1 > 0 && $4 > 0 { print "some" }')"
-expect "no unfinished file is left" "0" "$(ls "$folder/cut/out" | grep -c part)"
+expect "no unfinished file is left" "0" "$(find "$folder/cut/out" -name '*.part.*' | wc -l)"
 spread "$folder/cut" "$folder/hosts" >/dev/null
 expect "the others are run, and all is right" "20 right, 0 refused, 0 missing" "$(judge "$folder/cut" | last)"
 
@@ -209,8 +219,8 @@ if command -v slurmd >/dev/null; then
     mkdir -p "$folder/nodes"
     MATBENCH=$folder/slow sh "$here/over_slurm.sh" "$folder/slurm.run" "$folder/nodes" &
     spreading=$!
-    while task=$(squeue -h -t running -o %i | head -n 1); [ -z "$task" ]; do sleep 0.1; done
-    scancel "$task"
+    wait_for 1 "$folder/nodes" '*.part.*'
+    scancel "$(squeue -h -t running -o %i | head -n 1)"
     wait "$spreading"
     expect "a task is killed, and its job is missing" "19 right, 0 refused, 1 missing" "$(judge "$folder/slurm.run" | last)"
     expect "it alone is to be done" "1 to do, 19 there, 0 not sent" "$(lay "$folder/slurm.run")"
@@ -220,13 +230,13 @@ if command -v slurmd >/dev/null; then
     lay "$folder/ended.run" >/dev/null
     MATBENCH=$folder/slow sh "$here/over_slurm.sh" "$folder/ended.run" "$folder/nodes" 2 &
     spreading=$!
-    while [ "$(ls "$folder"/nodes/*/out/*.cert 2>/dev/null | wc -l)" -lt 2 ]; do sleep 0.1; done
+    wait_for 2 "$folder/nodes" '*.cert'
     kill "$spreading"
     wait "$spreading"
     expect "the spreading is ended; some are there" "some" "$(lay "$folder/ended.run" | awk '$1 > 0 && $4 > 0 { print "some" }')"
     sh "$here/over_slurm.sh" "$folder/ended.run" "$folder/nodes" 5
     expect "the others are run, and all is right" "20 right, 0 refused, 0 missing" "$(judge "$folder/ended.run" | last)"
-    expect "nothing is left in the shared folder" "0" "$(ls "$folder/nodes" | wc -l)"
+    expect "nothing is left in the shared folder" "0" "$(find "$folder/nodes" -mindepth 1 | wc -l)"
 else
     echo "left out: there is no slurmd"
 fi

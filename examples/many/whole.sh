@@ -5,7 +5,7 @@
 # spreads them, by GNU parallel over the hosts of the file that MANY_HOSTS names (else over this machine alone) or by a Slurm of one node that it
 # starts and stops (slurm_here.sh; none is started where SLURM_CONF names one); and judges what came back. The last line counts.
 set -u
-here=$(CDPATH= cd -- "$(dirname -- "$0")" && pwd)
+here=$(CDPATH='' cd -- "$(dirname -- "$0")" && pwd)
 [ "$#" -ge 1 ] || { sed -n '2,6s/^# \{0,1\}//p' "$0" >&2; exit 64; }
 folder=$1 way=${2:-parallel} count=${3:-40} size=${4:-60}
 PATH=$PATH:/usr/sbin
