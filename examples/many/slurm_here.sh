@@ -29,6 +29,12 @@ stop() {
     end munged.pid
 }
 
+fail() {
+    echo "slurm_here.sh: $1 did not start; the logs in $folder say why" >&2
+    stop
+    exit 70
+}
+
 start() {
     for command in munged slurmctld slurmd sbatch sinfo; do
         command -v "$command" >/dev/null || { echo "slurm_here.sh: $command is missing: apt-get install slurm-wlm munge" >&2; exit 69; }
@@ -73,16 +79,14 @@ PartitionName=all Nodes=$node Default=YES MaxTime=INFINITE State=UP
 END
     export SLURM_CONF="$folder/slurm.conf"
     echo "slurmctld, which holds the queue"
-    slurmctld || exit 70
+    slurmctld || fail slurmctld
     echo "slurmd, which runs tasks on this machine"
-    slurmd || exit 70
+    slurmd || fail slurmd
     for _ in $(seq 300); do
         [ "$(sinfo -h -o %T 2>/dev/null)" = idle ] && echo "the node $node is idle: SLURM_CONF=$folder/slurm.conf" && return
         sleep 0.1
     done
-    echo "slurm_here.sh: the node is not idle after half a minute; its logs are in $folder" >&2
-    stop
-    exit 70
+    fail "the node"
 }
 
 case $1 in

@@ -1,8 +1,9 @@
 #!/bin/sh
-# try.sh [FOLDER]: the scripts' own test, in a new folder that is removed where nothing was wrong, or in FOLDER. Each step says what is tried and `ok`, or what came instead.
+# try.sh [FOLDER]: the scripts' own test, in a new folder that is removed where nothing was wrong, or in FOLDER.
 #
-# Steps that need ssh to this machine or Slurm are left out, and told, where sshd or slurmd is not installed. Both are started for the test, with a
-# key and ports of their own, and ended by their process ids. Hosts that fail or lie are stand-ins for ssh.
+# Each step says `ok` and what was tried, or what came instead. The last line counts. Steps that need ssh to this machine or Slurm are left out, and
+# told, where sshd or slurmd is not installed. Both are started for the test, with a key and ports of their own, and ended by their process ids.
+# Hosts that fail or lie are stand-ins for ssh.
 set -u
 here=$(CDPATH='' cd -- "$(dirname -- "$0")" && pwd)
 top=$here/../..
