@@ -1,7 +1,7 @@
 """python3 bench/shown.py [PROGRAM]: runs every command that the documents show, and compares every output that they show byte for byte.
 
-The documents are README.md, examples/README.md, docs/FORMATS.md and docs/COOKBOOK.md, and the program is crates/mat_main/out/mat_main unless
-another is named. In the documents
+The documents are README.md, examples/README.md, docs/FORMATS.md, docs/COOKBOOK.md and docs/MANY.md, and the program is
+crates/mat_main/out/mat_main unless another is named. In the documents
 - a block marked `console` has commands, each behind '$ ', and below each all that it prints; each ends with the status 0;
 - a block below the comment '<!-- printed by: COMMAND -->' is what the command prints;
 - a block that begins with 'matroids' is a canonical description, and one that begins with 'jobs' a list of jobs that is answered; below the
@@ -21,7 +21,7 @@ import sys
 import tempfile
 
 TOP = os.path.dirname(os.path.dirname(os.path.abspath(__file__)))
-DOCUMENTS = ("README.md", "examples/README.md", "docs/FORMATS.md", "docs/COOKBOOK.md")
+DOCUMENTS = ("README.md", "examples/README.md", "docs/FORMATS.md", "docs/COOKBOOK.md", "docs/MANY.md")
 OPEN_WORD = re.compile(r"(?<![\w.])(?:FILE|CERT|WIT|LIST|RUNG|KIND|SIZE|SEED|K|W)(?!\w)")
 COUNTS = {"commands": 0, "outputs": 0, "blocks not run": 0, "lines of files": 0, "links": 0, "wrong": 0}
 

@@ -1,0 +1,7 @@
+#!/bin/sh
+# array_task.sh TODO COUNT: a task of a job array, in the folder that the nodes share: does COUNT jobs, one after the other. Those of task 1 are the
+# first lines of TODO, those of task 2 the next ones, and so on.
+last=$((SLURM_ARRAY_TASK_ID * $2))
+sed -n "$((last - $2 + 1)),${last}p" "$1" | while IFS=$(printf '\t') read -r id words; do
+    sh one.sh . ./mat_main "$id" "$words"
+done

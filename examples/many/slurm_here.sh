@@ -1,0 +1,96 @@
+#!/bin/sh
+# slurm_here.sh start FOLDER, slurm_here.sh stop FOLDER: a Slurm of one node, which is this machine, to try job arrays with.
+#
+# `start` makes a key, starts munged, slurmctld and slurmd with settings, sockets, logs and process ids in FOLDER, on the ports 16817 and 16818
+# of this machine (or MANY_PORT and the next), and waits until the node is idle. It changes no file of the system, and a Slurm that runs here already is left alone. The
+# commands of Slurm find it by the variable SLURM_CONF, as in `SLURM_CONF=FOLDER/slurm.conf sinfo`. `stop` ends these three processes.
+# A cluster has its own Slurm; this is none for work: its one user is the one who starts it, and it keeps no accounts.
+set -u
+port=${MANY_PORT:-16817}
+[ "$#" -eq 2 ] || { sed -n '2,7s/^# \{0,1\}//p' "$0" >&2; exit 64; }
+PATH=$PATH:/usr/sbin
+mkdir -p "$2" && chmod 755 "$2" && cd "$2" && folder=$(pwd) || exit 71
+
+# Ends the process whose id a file has, and waits for its end.
+end() {
+    [ -s "$1" ] || return 0
+    pid=$(cat "$1")
+    kill "$pid" 2>/dev/null
+    for _ in $(seq 100); do
+        kill -0 "$pid" 2>/dev/null || break
+        sleep 0.1
+    done
+    rm -f "$1"
+}
+
+stop() {
+    end slurmd.pid
+    end slurmctld.pid
+    end munged.pid
+}
+
+fail() {
+    echo "slurm_here.sh: $1 did not start; the logs in $folder say why" >&2
+    stop
+    exit 70
+}
+
+start() {
+    for command in munged slurmctld slurmd sbatch sinfo; do
+        command -v "$command" >/dev/null || { echo "slurm_here.sh: $command is missing: apt-get install slurm-wlm munge" >&2; exit 69; }
+    done
+    echo "a key for munge"
+    rm -rf state spool
+    mkdir state spool
+    (umask 077 && head -c 128 /dev/urandom >munge.key)
+    echo "munged, which lets the three trust each other's messages"
+    munged --force --key-file="$folder/munge.key" --socket="$folder/munge" --pid-file="$folder/munged.pid" --log-file="$folder/munged.log" \
+        --seed-file="$folder/munged.seed" >munged.out 2>&1 || { cat munged.out >&2; exit 70; }
+
+    node=$(hostname -s)
+    user=$(id -un)
+    cat >slurm.conf <<END
+ClusterName=here
+SlurmctldHost=$node(127.0.0.1)
+SlurmctldPort=$port
+SlurmdPort=$((port + 1))
+SlurmUser=$user
+SlurmdUser=$user
+AuthType=auth/munge
+AuthInfo=socket=$folder/munge
+CryptoType=crypto/munge
+StateSaveLocation=$folder/state
+SlurmdSpoolDir=$folder/spool
+SlurmctldPidFile=$folder/slurmctld.pid
+SlurmdPidFile=$folder/slurmd.pid
+SlurmctldLogFile=$folder/slurmctld.log
+SlurmdLogFile=$folder/slurmd.log
+ProctrackType=proctrack/linuxproc
+TaskPlugin=task/none
+JobAcctGatherType=jobacct_gather/none
+AccountingStorageType=accounting_storage/none
+SelectType=select/cons_tres
+SelectTypeParameters=CR_CPU
+MpiDefault=none
+SchedulerParameters=batch_sched_delay=0
+ReturnToService=2
+NodeName=$node NodeAddr=127.0.0.1 CPUs=$(nproc) State=UNKNOWN
+PartitionName=all Nodes=$node Default=YES MaxTime=INFINITE State=UP
+END
+    export SLURM_CONF="$folder/slurm.conf"
+    echo "slurmctld, which holds the queue"
+    slurmctld || fail slurmctld
+    echo "slurmd, which runs tasks on this machine"
+    slurmd || fail slurmd
+    for _ in $(seq 300); do
+        [ "$(sinfo -h -o %T 2>/dev/null)" = idle ] && echo "the node $node is idle: SLURM_CONF=$folder/slurm.conf" && return
+        sleep 0.1
+    done
+    fail "the node"
+}
+
+case $1 in
+start) start ;;
+stop) stop ;;
+*) echo "slurm_here.sh: start or stop" >&2; exit 64 ;;
+esac

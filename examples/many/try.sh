@@ -1,0 +1,246 @@
+#!/bin/sh
+# try.sh [FOLDER]: the scripts' own test, in a new folder that is removed where nothing was wrong, or in FOLDER.
+#
+# Each step says `ok` and what was tried, or what came instead. The last line counts. Steps that need ssh to this machine or Slurm are left out, and
+# told, where sshd or slurmd is not installed. Both are started for the test, with a key and ports of their own, and ended by their process ids.
+# Hosts that fail or lie are stand-ins for ssh.
+set -u
+here=$(CDPATH='' cd -- "$(dirname -- "$0")" && pwd)
+top=$here/../..
+PATH=$PATH:/usr/sbin
+given=$#
+folder=${1:-$(mktemp -d)}
+mkdir -p "$folder" && folder=$(cd "$folder" && pwd) || exit 71
+program=${MATBENCH:-$top/crates/mat_main/out/mat_main}
+steps=0 wrong=0
+
+clean_up() {
+    [ -s "$folder/sshd.pid" ] && kill "$(cat "$folder/sshd.pid")"
+    [ -d "$folder/slurm" ] && sh "$here/slurm_here.sh" stop "$folder/slurm"
+    [ "$given" = 0 ] && [ "$wrong" -eq 0 ] && rm -rf "$folder"
+}
+trap clean_up EXIT
+trap 'exit 143' HUP INT TERM
+
+# Compares: expect WHAT WANTED GIVEN
+expect() {
+    steps=$((steps + 1))
+    if [ "$2" = "$3" ]; then
+        echo "ok: $1"
+    else
+        wrong=$((wrong + 1))
+        printf 'WRONG: %s\n  wanted: %s\n  there is: %s\n' "$1" "$2" "$3"
+    fi
+}
+
+# Waits until a folder has so many files of a name, a minute at most: wait_for COUNT FOLDER PATTERN
+wait_for() {
+    for _ in $(seq 600); do
+        [ "$(find "$2" -name "$3" | wc -l)" -ge "$1" ] && return
+        sleep 0.1
+    done
+}
+
+lay() { python3 "$here/jobs.py" lay "$folder/list" "$1"; }
+spread() { sh "$here/over_parallel.sh" "$1" "$2" 2>&1; }
+judge() { python3 "$here/jobs.py" judge "$folder/list" "$1" 4; }
+last() { tail -n 1; }
+
+python3 "$here/draw.py" 20 40 1 "$folder/problems" >"$folder/list"
+echo : >"$folder/hosts"
+
+# A program that takes a second, that kills itself as often as there are traps, and always at `trees` where there is a file `deadly`.
+cat >"$folder/slow" <<END
+#!/bin/sh
+for trap in "$folder"/trap.*; do rm "\$trap" 2>/dev/null && kill -9 \$\$; done
+[ "\$1" = trees ] && [ -e "$folder/deadly" ] && kill -9 \$\$
+sleep 1
+exec "$program" "\$@"
+END
+# A stand-in for ssh: the last two words are the host and the command, which runs here.
+cat >"$folder/ssh" <<END
+#!/bin/sh
+while [ "\$#" -gt 2 ]; do shift; done
+mkdir -p "$folder/home" && cd "$folder/home" || exit 255
+case \$1:\$2 in
+*:mkdir*) exec sh -c "\$2" ;;
+liar:*) sh -c "\$2" | sed 's/^rung 2 .*/&0/' ;;
+dying:*) sleep 0.2; echo 'Connection closed' >&2; exit 255 ;;
+cut:*) sh -c "\$2" | head -n 3 ;;
+flood:*) exec yes 'certificate 1' ;;
+rude:*) printf '\033[2Jgone\n' >&2; exit 7 ;;
+*) exec sh -c "\$2" ;;
+esac
+END
+chmod 755 "$folder/slow" "$folder/ssh"
+
+echo "-- over this machine, by GNU parallel"
+expect "the whole script" "20 right, 0 refused, 0 missing" "$(sh "$here/whole.sh" "$folder/whole" parallel 20 40 2>&1 | last)"
+lay "$folder/killed" >/dev/null
+touch "$folder/trap.1" "$folder/trap.2"
+expect "two jobs are killed, and tried again" "20 jobs ran, 0 failed" "$(MATBENCH=$folder/slow spread "$folder/killed" "$folder/hosts" | last)"
+expect "and all is right" "20 right, 0 refused, 0 missing" "$(judge "$folder/killed" | last)"
+
+lay "$folder/deadly.run" >/dev/null
+touch "$folder/deadly"
+expect "four jobs are killed whenever they are tried" "20 jobs ran, 4 failed" "$(MATBENCH=$folder/slow spread "$folder/deadly.run" "$folder/hosts" | last)"
+rm "$folder/deadly"
+expect "they are missing" "missing: graph_3: status 137 on this machine" "$(judge "$folder/deadly.run" | head -n 1)"
+expect "and no other" "16 right, 0 refused, 4 missing" "$(judge "$folder/deadly.run" | last)"
+expect "they alone are to be done" "4 to do, 16 there, 0 not sent" "$(lay "$folder/deadly.run")"
+expect "they are run again" "4 jobs ran, 0 failed" "$(spread "$folder/deadly.run" "$folder/hosts" | last)"
+expect "and all is right" "20 right, 0 refused, 0 missing" "$(judge "$folder/deadly.run" | last)"
+
+lay "$folder/cut" >/dev/null
+MATBENCH=$folder/slow setsid sh "$here/over_parallel.sh" "$folder/cut" "$folder/hosts" >/dev/null 2>&1 &
+spreading=$!
+wait_for 2 "$folder/cut/out" '*.cert'
+kill -9 "-$spreading"
+wait "$spreading" 2>/dev/null
+touch "$folder/cut/out/pair_1.part.left"
+sleep 3
+expect "the spreading is killed; some are there" "some" "$(lay "$folder/cut" | awk '$1 > 0 && $4 > 0 { print "some" }')"
+expect "no unfinished file is left" "0" "$(find "$folder/cut/out" -name '*.part.*' | wc -l)"
+spread "$folder/cut" "$folder/hosts" >/dev/null
+expect "the others are run, and all is right" "20 right, 0 refused, 0 missing" "$(judge "$folder/cut" | last)"
+
+echo "-- over hosts that fail or lie"
+export MANY_SSH="$folder/ssh"
+printf '2/liar\n' >"$folder/hosts.liar"
+lay "$folder/liar" >/dev/null
+spread "$folder/liar" "$folder/hosts.liar" >/dev/null
+expect "certificates that are changed on the way are refused" "refused: pair_1: no weight 2 0: status 0 on liar" "$(judge "$folder/liar" | head -n 1)"
+expect "and no other" "12 right, 8 refused, 0 missing" "$(judge "$folder/liar" | last)"
+expect "they alone are to be done" "8 to do, 12 there, 0 not sent" "$(lay "$folder/liar")"
+spread "$folder/liar" "$folder/hosts" >/dev/null
+expect "and are right then" "20 right, 0 refused, 0 missing" "$(judge "$folder/liar" | last)"
+
+printf '2/dying\n2/good\n1/nowhere\n' >"$folder/hosts.dying"
+lay "$folder/dying" >/dev/null
+expect "a host fails at every job; another does them" "20 jobs ran, 0 failed" "$(spread "$folder/dying" "$folder/hosts.dying" | last)"
+expect "and all is right" "20 right, 0 refused, 0 missing" "$(judge "$folder/dying" | last)"
+
+printf '4/cut\n' >"$folder/hosts.cut"
+lay "$folder/short" >/dev/null
+spread "$folder/short" "$folder/hosts.cut" >/dev/null
+expect "certificates that are cut off are refused" "refused: pair_1: refused: certificate 7 EndsEarly line 4: status 0 on cut" "$(judge "$folder/short" | head -n 1)"
+expect "all of them" "0 right, 20 refused, 0 missing" "$(judge "$folder/short" | last)"
+
+printf '4/rude\n' >"$folder/hosts.rude"
+lay "$folder/rude" >/dev/null
+spread "$folder/rude" "$folder/hosts.rude" >/dev/null
+expect "a note with signs for a terminal is shown without them" "missing: pair_1: status 7 on rude: [2Jgone" "$(judge "$folder/rude" | head -n 1)"
+
+head -n 1 "$folder/list" >"$folder/list.one"
+printf '1/flood\n' >"$folder/hosts.flood"
+python3 "$here/jobs.py" lay "$folder/list.one" "$folder/flood" >/dev/null
+expect "a certificate without an end is cut off" "1 jobs ran, 1 failed" "$(spread "$folder/flood" "$folder/hosts.flood" | last)"
+expect "and is missing" "0 right, 0 refused, 1 missing" "$(python3 "$here/jobs.py" judge "$folder/list.one" "$folder/flood" | last)"
+unset MANY_SSH
+
+echo "-- files"
+odd="$folder/an odd 'name' \$(id) \"ü\" *.txt"
+cp "$folder/problems/pair_40_1.txt" "$odd"
+printf 'odd\tintersect\t%s\n' "$odd" >"$folder/list.odd"
+python3 "$here/jobs.py" lay "$folder/list.odd" "$folder/odd" >/dev/null
+spread "$folder/odd" "$folder/hosts" >/dev/null
+expect "a name with odd characters" "1 right, 0 refused, 0 missing" "$(python3 "$here/jobs.py" judge "$folder/list.odd" "$folder/odd" | last)"
+for line in '../up\tintersect\tx' '-n\tintersect\tx' 'a\tintersect;id\tx' 'a\tintersect x' 'a\tshow\tx' 'a\tcuts\tx'; do
+    printf '%b\n' "$line" >"$folder/list.bad"
+    expect "a list with the line $line" "jobs.py: $folder/list.bad: line 1 is not ID, WORDS and FILE with a tab between them" \
+        "$(python3 "$here/jobs.py" lay "$folder/list.bad" "$folder/bad" 2>&1)"
+done
+printf 'a\tbest\tx\na\tbest\ty\n' >"$folder/list.bad"
+expect "an id that stands twice" "jobs.py: $folder/list.bad: line 2: this id stood before" "$(python3 "$here/jobs.py" lay "$folder/list.bad" "$folder/bad" 2>&1)"
+printf 'matroids 1\npair x\n' >"$folder/faulty.txt"
+printf 'faulty\tintersect\t%s\n' "$folder/faulty.txt" >"$folder/list.faulty"
+expect "a faulty description is not sent" "not sent: faulty: refused: description 4 NumberSpelling line 2" \
+    "$(python3 "$here/jobs.py" lay "$folder/list.faulty" "$folder/faulty" | head -n 1)"
+expect "and is missing" "missing: faulty: status 3 on this machine: refused: description 4 NumberSpelling line 2" \
+    "$(python3 "$here/jobs.py" judge "$folder/list.faulty" "$folder/faulty" | head -n 1)"
+
+echo "-- what others write into a shared folder"
+lay "$folder/shared.run" >/dev/null
+mkdir -p "$folder/share/out"
+right="$folder/whole/run/right"
+cp "$right"/*.cert "$folder/share/out"
+put() { rm -f "$folder/share/out/$1.cert"; }
+put pair_1 && ln -s "$right/pair_1.cert" "$folder/share/out/pair_1.cert"
+put list_2 && mkfifo "$folder/share/out/list_2.cert"
+put graph_3 && mkdir "$folder/share/out/graph_3.cert"
+put rooted_4
+put table_5 && cp "$right/table_10.cert" "$folder/share/out/table_5.cert"
+put pair_6 && : >"$folder/share/out/pair_6.cert"
+put graph_8 && "$program" trees 1 "$folder/problems/graph_40_8.txt" >"$folder/share/out/graph_8.cert"
+put pair_11 && head -c 67108865 /dev/zero >"$folder/share/out/pair_11.cert"
+{ python3 "$here/jobs.py" take "$folder/shared.run" "$folder/share"; judge "$folder/shared.run"; } >"$folder/told"
+given() { grep ": $1" "$folder/told"; }
+expect "a link to a right certificate" "not taken: pair_1.cert: no plain file" "$(given pair_1.cert)"
+expect "a pipe" "not taken: list_2.cert: no plain file" "$(given list_2.cert)"
+expect "a folder" "not taken: graph_3.cert: no plain file" "$(given graph_3.cert)"
+expect "nothing" "missing: rooted_4" "$(given rooted_4)"
+expect "the certificate of another problem of the same size" "refused: table_5: no sum 0 0" "$(given table_5)"
+expect "an empty file" "refused: pair_6: refused: certificate 7 EndsEarly line 1" "$(given pair_6)"
+expect "a right answer to another question" "refused: graph_8: an answer to another question than trees 2" "$(given graph_8)"
+expect "a byte more than 64 MB" "refused: pair_11: refused: too long" "$(given pair_11)"
+expect "and the others" "12 right, 4 refused, 4 missing" "$(last <"$folder/told")"
+sed -i '3s/weights [-0-9]*/weights 1001/' "$folder/problems/pair_40_16.txt"
+expect "a description that was changed since" "refused: pair_16: no sum 0 0 (its file was changed since it was sent)" \
+    "$(judge "$folder/shared.run" | grep pair_16)"
+python3 "$here/draw.py" 20 40 1 "$folder/problems" >/dev/null
+
+echo "-- over ssh to this machine"
+[ "$(id -u)" -eq 0 ] && mkdir -p -m 755 /run/sshd
+if command -v sshd >/dev/null && [ -d /run/sshd ]; then
+    ssh-keygen -q -t ed25519 -N '' -f "$folder/host_key" && ssh-keygen -q -t ed25519 -N '' -f "$folder/key"
+    cp "$folder/key.pub" "$folder/authorized"
+    printf '%s\n' 'Port 16022' 'ListenAddress 127.0.0.1' "HostKey $folder/host_key" "PidFile $folder/sshd.pid" 'UsePAM no' 'StrictModes no' \
+        "AuthorizedKeysFile $folder/authorized" 'PasswordAuthentication no' 'PermitRootLogin prohibit-password' \
+        "ForceCommand mkdir -p $folder/home && cd $folder/home && exec sh -c \"\$SSH_ORIGINAL_COMMAND\"" >"$folder/sshd_config"
+    printf '%s\n' 'Host *' 'HostName 127.0.0.1' 'Port 16022' "IdentityFile $folder/key" 'IdentitiesOnly yes' 'HostKeyAlias here' \
+        "UserKnownHostsFile $folder/known" >"$folder/ssh_config"
+    echo "here $(cat "$folder/host_key.pub")" >"$folder/known"
+    "$(command -v sshd)" -f "$folder/sshd_config"
+    printf '2/one\n2/two\n:\n' >"$folder/hosts.ssh"
+    lay "$folder/ssh.run" >/dev/null
+    expect "two hosts and this machine" "20 jobs ran, 0 failed" \
+        "$(MANY_SSH="ssh -F $folder/ssh_config" spread "$folder/ssh.run" "$folder/hosts.ssh" | last)"
+    expect "and all is right" "20 right, 0 refused, 0 missing" "$(judge "$folder/ssh.run" | last)"
+else
+    echo "left out: there is no sshd, or no folder /run/sshd for it"
+fi
+
+echo "-- over a Slurm of one node"
+unset SLURM_CONF
+if command -v slurmd >/dev/null; then
+    expect "the whole script" "20 right, 0 refused, 0 missing" "$(sh "$here/whole.sh" "$folder/whole_slurm" slurm 20 40 2>&1 | last)"
+    sh "$here/slurm_here.sh" start "$folder/slurm" >/dev/null
+    export SLURM_CONF="$folder/slurm/slurm.conf"
+    lay "$folder/slurm.run" >/dev/null
+    mkdir -p "$folder/nodes"
+    MATBENCH=$folder/slow sh "$here/over_slurm.sh" "$folder/slurm.run" "$folder/nodes" &
+    spreading=$!
+    wait_for 1 "$folder/nodes" '*.part.*'
+    scancel "$(squeue -h -t running -o %i | head -n 1)"
+    wait "$spreading"
+    expect "a task is killed, and its job is missing" "19 right, 0 refused, 1 missing" "$(judge "$folder/slurm.run" | last)"
+    expect "it alone is to be done" "1 to do, 19 there, 0 not sent" "$(lay "$folder/slurm.run")"
+    sh "$here/over_slurm.sh" "$folder/slurm.run" "$folder/nodes"
+    expect "and all is right" "20 right, 0 refused, 0 missing" "$(judge "$folder/slurm.run" | last)"
+
+    lay "$folder/ended.run" >/dev/null
+    MATBENCH=$folder/slow sh "$here/over_slurm.sh" "$folder/ended.run" "$folder/nodes" 2 &
+    spreading=$!
+    wait_for 2 "$folder/nodes" '*.cert'
+    kill "$spreading"
+    wait "$spreading"
+    expect "the spreading is ended; some are there" "some" "$(lay "$folder/ended.run" | awk '$1 > 0 && $4 > 0 { print "some" }')"
+    sh "$here/over_slurm.sh" "$folder/ended.run" "$folder/nodes" 5
+    expect "the others are run, and all is right" "20 right, 0 refused, 0 missing" "$(judge "$folder/ended.run" | last)"
+    expect "nothing is left in the shared folder" "0" "$(find "$folder/nodes" -mindepth 1 | wc -l)"
+else
+    echo "left out: there is no slurmd"
+fi
+
+echo "$steps steps, $wrong wrong"
+[ "$wrong" -eq 0 ]
