@@ -31,7 +31,7 @@ pub fn fits(problem: &Problem, answer: &Answer) -> bool
 }
 
 /// Whether the problem's form is a list of one matroid.
-fn is_single_list(problem: &Problem) -> bool
+pub fn is_single_list(problem: &Problem) -> bool
     ensures { result ≡ is_single (instance_of problem.now) }
 {
     match problem {

@@ -29,7 +29,7 @@ mod unions;
 mod verdict;
 
 pub use checker::check;
-pub use fitting::fits;
+pub use fitting::{fits, is_single_list};
 pub use laws::{right_has_no_failure, right_is_optimal};
 pub use reason::Reason;
 pub use verdict::Verdict;

@@ -1,20 +1,23 @@
 -- The heaviest independent sets of a matroid as an answer: the weight of each set is in range, since it has at most as many elements as
 -- there are; and as many elements as the rank has make a base.
 use Rattle.std.proofs.Common.{◌≡◌, ℕ, zero, suc, ◌+◌, ◌-◌, ◌<◌, ◌≤◌, Bool, true, List, [], ◌∷◌, length}
-use Rattle.std.proofs.Common.{get_or, Some, refl, arith}
+use Rattle.std.proofs.Common.{get_or, Some, refl, subst, arith}
 use Rattle.std.specs.Prelude.{map, slice_get}
 use Rattle.std.proofs.lemmas.List.{length-map, get_or_default}
-use Rattle.mat_sets.specs.Limits.{most_elements, largest_weight}
+use Rattle.mat_sets.specs.Limits.{most_elements}
 use Rattle.mat_sets.specs.Sets.{IsSet, all_below}
-use Rattle.mat_sets.specs.Weights.{weight_at, AreWeightsWithin}
+use Rattle.mat_sets.specs.Weights.{weight_at}
 use Rattle.mat_sets.specs.declared.weight.Weight.{Weight}
 use Rattle.mat_sets.proofs.Ground.{IsSet-length, IsRising-all_below}
 use Rattle.mat_laws.specs.Matroids.{IsMatroid, IsBase}
 use Rattle.mat_laws.proofs.Maximal.{IsBase-size, IsBase-maximal}
 use Rattle.mat_laws.proofs.RankLaws.{maximal_in, rank-maximal}
+use Rattle.mat_any.specs.TreeLaws.{tree_laws}
 use Rattle.mat_any.specs.Trees.{Tree, is_independent}
 use Rattle.mat_greedy.specs.Greedy.{AreHeaviestEach}
+use Rattle.mat_desc.specs.Grammar.{IsValid}
 use Rattle.mat_desc.specs.Instances.{list}
+use Rattle.mat_desc.specs.Soundness.{IsSoundInstance}
 use Rattle.mat_cert.specs.Certificates.{best, last_rung}
 use Rattle.mat_cert.specs.declared.answer.PlainRung.{PlainRung}
 use Rattle.mat_top.proofs.SetWeights.{set_in_range}
@@ -36,7 +39,7 @@ set_is : {n : ℕ} {p : List ℕ → Bool} → IsMatroid n p → (X : List ℕ) 
 set_is {n} laws X passes = let set = laws.sets X passes in (set, IsSet-length n X set)
 
 module _ {n : ℕ} {p : List ℕ → Bool} (laws : IsMatroid n p) {h : ℕ → Weight} where
-  pub few_in_sets : n ≤ most_elements → (sets : List (List ℕ)) → AreHeaviestEach n p h sets → AreSmallSets n sets
+  few_in_sets : n ≤ most_elements → (sets : List (List ℕ)) → AreHeaviestEach n p h sets → AreSmallSets n sets
   few_in_sets few sets heaviest = λ k d lt.
       let at = heaviest.each k lt in
       let same : get_or sets k d ≡ get_or sets k [] = get_or_default sets k d [] lt in
@@ -61,35 +64,50 @@ module _ {n : ℕ} {p : List ℕ → Bool} (laws : IsMatroid n p) {h : ℕ → W
       IsBase-size laws largest.0 (get_or sets (length sets - 1) []) (IsBase-maximal n p largest.0 largest.1) last.1.passes
       (omega (arith, size, last.0, count))
 
--- they are a solution, with their weights
-pub plain_solution : (n : ℕ) (matroid : Tree) (w : List Weight) (sets : List (List ℕ)) → n ≡ length w
-    → IsMatroid n (is_independent matroid) → n ≤ most_elements → AreWeightsWithin largest_weight w
-    → AreHeaviestEach n (is_independent matroid) (weight_at w) sets → IsSolution (list w (matroid ∷ [])) (best n (map (plain_rung w) sets))
-plain_solution n matroid w sets same laws few small heaviest =
-    let p = is_independent matroid in
-    let length_is : length (map (plain_rung w) sets) ≡ length sets = length-map sets (plain_rung w) in
-    let some : 0 < length (map (plain_rung w) sets) = omega (arith, heaviest.count) in
-    record {
-      ranged = record {
-        few = few;
-        some = some;
-        no_more = omega (arith, few_sets laws sets heaviest);
-        each = λ k rung at. (let r = set_of w sets k rung at in
-            let h = heaviest.each k r.0 in
-            let set = set_is laws (get_or sets k []) h.1.passes in
-            rw r.1 (record { weight_in_range = set_in_range w (get_or sets k []) small (omega (arith, set.1)); set_in_range = set.0; size = h.0 }));
-      };
-      right = (
-        same,
-        record {
-          some = some;
-          each =
-              λ k rung at. (let r = set_of w sets k rung at in let h = heaviest.each k r.0 in rw r.1
-              (record { priced = refl; size = h.0; heaviest = h.1 }));
-          last = λ rung at. (let r = set_of w sets (last_rung (map (plain_rung w) sets)) rung at in
-              let place : last_rung (map (plain_rung w) sets) ≡ length sets - 1 = omega arith in
-              rw (r.1, place) (last_is_base laws sets heaviest));
-        },
-      );
-      bounded = tt;
-    }
+-- ---- the answer
+
+module _ (w : List Weight) (matroid : Tree) (valid : IsValid (list w (matroid ∷ []))) (sound : IsSoundInstance (list w (matroid ∷ [])))
+    (sets : List (List ℕ)) (heaviest : AreHeaviestEach (length w) (is_independent matroid) (weight_at w) sets) where
+  laws : IsMatroid (length w) (is_independent matroid)
+  laws = (let ok = sound 0 matroid (omega arith) in subst (λ n. IsMatroid n (is_independent matroid)) ok.1 (tree_laws matroid ok.0))
+
+  -- the sets have few elements
+  pub best_few : AreSmallSets (length w) sets
+  best_few = few_in_sets laws valid.0.0 sets heaviest
+
+  length_is : length (map (plain_rung w) sets) ≡ length sets
+  length_is = length-map sets (plain_rung w)
+
+  some_rung : 0 < length (map (plain_rung w) sets)
+  some_rung = omega (arith, length_is, heaviest.count)
+
+  -- they are a solution, with their weights
+  pub best_solution : IsSolution (list w (matroid ∷ [])) (best (length w) (map (plain_rung w) sets))
+  best_solution = record {
+    ranged = record {
+      few = valid.0.0;
+      some = some_rung;
+      no_more = omega (arith, length_is, few_sets laws sets heaviest);
+      each = λ k rung at. (let r = set_of w sets k rung at in
+          let h = heaviest.each k r.0 in
+          let set = set_is laws (get_or sets k []) h.1.passes in
+          rw r.1 (record {
+            weight_in_range = set_in_range w (get_or sets k []) valid.0.1 (omega (arith, set.1, valid.0.0));
+            set_in_range = set.0;
+            size = h.0;
+          }));
+    };
+    right = (
+      refl,
+      record {
+        some = some_rung;
+        each =
+            λ k rung at. (let r = set_of w sets k rung at in let h = heaviest.each k r.0 in rw r.1
+            (record { priced = refl; size = h.0; heaviest = h.1 }));
+        last = λ rung at. (let r = set_of w sets (last_rung (map (plain_rung w) sets)) rung at in
+            let place : last_rung (map (plain_rung w) sets) ≡ length sets - 1 = omega (arith, length_is) in
+            rw (r.1, place) (last_is_base laws sets heaviest));
+      },
+    );
+    bounded = tt;
+  }

@@ -1,7 +1,7 @@
 -- Ladders of two matroids as answers: the weight of each set is in range, since it has at most as many elements as there are, and so
 -- are the numbers of each split, within the bound for as many elements.
 use Rattle.std.proofs.Common.{◌≡◌, ℕ, zero, suc, ◌+◌, ◌-◌, ◌*◌, ◌^◌, ◌<◌, ◌≤◌, Bool, List, [], ◌∷◌, length}
-use Rattle.std.proofs.Common.{get_or, Some, refl, arith}
+use Rattle.std.proofs.Common.{get_or, Some, refl, subst, arith}
 use Rattle.std.specs.Prelude.{map, slice_get}
 use Rattle.std.proofs.lemmas.List.{length-map}
 use Rattle.std.proofs.lemmas.Option.{slice_get-get_or}
@@ -13,10 +13,13 @@ use Rattle.mat_sets.specs.declared.weight.Weight.{Weight}
 use Rattle.mat_sets.proofs.Ground.{IsSet-length}
 use Rattle.mat_laws.specs.Matroids.{IsMatroid}
 use Rattle.mat_laws.specs.Ladders.{IsCut, split_bound}
+use Rattle.mat_any.specs.TreeLaws.{tree_laws}
 use Rattle.mat_any.specs.Trees.{Tree, is_independent}
 use Rattle.mat_split.specs.declared.ladder.Rung.{Rung}
 use Rattle.mat_split.specs.Ladders.{IsBoundedRung, IsLadder}
+use Rattle.mat_desc.specs.Grammar.{IsValid}
 use Rattle.mat_desc.specs.Instances.{pair}
+use Rattle.mat_desc.specs.Soundness.{IsSoundInstance}
 use Rattle.mat_cert.specs.Certificates.{IsRangedPricedRung, IsRangedLadder, intersect, last_rung}
 use Rattle.mat_cert.specs.declared.answer.PricedRung.{PricedRung}
 use Rattle.mat_check.specs.Right.{IsRightLadder}
@@ -127,13 +130,21 @@ module _ {n : ℕ} {p q : List ℕ → Bool} (laws : IsMatroid n p) {w : List We
       let b = ladder.each k r.0 r.1 in
       rw r.2 (b.first_bounded, b.second_bounded)
 
--- a ladder of two matroids, with the weights of its sets, is a solution
-pub priced_solution : (n : ℕ) (first second : Tree) (w : List Weight) (rungs : List Rung) (cut : List ℕ) → n ≡ length w
-    → IsMatroid n (is_independent first) → n ≤ most_elements → AreWeightsWithin largest_weight w
-    → IsLadder n (is_independent first) (is_independent second) w rungs cut
-    → IsSolution (pair w first second) (intersect n (map (priced_rung w) rungs) cut)
-priced_solution n first second w rungs cut same laws few small ladder = record {
-  ranged = priced_ranged laws few small rungs cut ladder;
-  right = (same, priced_right laws few small rungs cut ladder);
-  bounded = priced_bounded laws few small rungs cut ladder;
-}
+-- ---- two matroids
+
+module _ (w : List Weight) (first second : Tree) (valid : IsValid (pair w first second)) (sound : IsSoundInstance (pair w first second))
+    (rungs : List Rung) (cut : List ℕ) (found : IsLadder (length w) (is_independent first) (is_independent second) w rungs cut) where
+  first_laws : IsMatroid (length w) (is_independent first)
+  first_laws = subst (λ n. IsMatroid n (is_independent first)) sound.1 (tree_laws first sound.0)
+
+  -- the sets of the rungs have few elements
+  pub pair_few : HaveFewElements (length w) rungs
+  pair_few = few_elements first_laws valid.0.0 valid.0.1 rungs cut found
+
+  -- the ladder, with the weights of its sets, is a solution
+  pub pair_solution : IsSolution (pair w first second) (intersect (length w) (map (priced_rung w) rungs) cut)
+  pair_solution = record {
+    ranged = priced_ranged first_laws valid.0.0 valid.0.1 rungs cut found;
+    right = (refl, priced_right first_laws valid.0.0 valid.0.1 rungs cut found);
+    bounded = priced_bounded first_laws valid.0.0 valid.0.1 rungs cut found;
+  }

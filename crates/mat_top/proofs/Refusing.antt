@@ -4,7 +4,6 @@ use Rattle.std.specs.Prelude.{IfSome, IsSome, IsSomeAnd, IfOk, IfErr}
 use Rattle.mat_desc.specs.Instances.{Instance, pair, list, graph, rooted, coloured, table}
 use Rattle.mat_cert.specs.Certificates.{Certificate}
 use Rattle.mat_check.specs.Fitting.{is_rooted}
-use Rattle.mat_top.specs.declared.query.Query.{Query}
 use Rattle.mat_top.specs.declared.status.Status.{Status}
 use Rattle.mat_top.specs.declared.status.Status.TheVariants as statuses
 use Rattle.mat_top.specs.declared.status.Refusal.{Refusal}
@@ -15,7 +14,7 @@ use Rattle.mat_top.specs.Outcomes.{IsDescribed, IsProblemOutcome, IsBytesOutcome
 use Rattle.mat_top.specs.Outcomes.{IsVerifyOutcome, IsWitnessFound}
 use Rattle.mat_top.specs.Witnessing.{IsRungAnswer}
 use Rattle.mat_top.specs.Outcomes.{Tells, TellsCertificate, IsOutcome, IsTextFor}
-use Rattle.mat_top.specs.Refusals.{HasText, HasNoText, HasNoCuts, IsUnsolved, IsDenial, IsUncertified, IsRefusal, MayBeWritten}
+use Rattle.mat_top.specs.Refusals.{HasText, HasNoText, IsDenial, IsUncertified, IsRefusal, MayBeWritten}
 use Rattle.mat_top.specs.Refusals.{HasNoWitness, IsUnshownFile, IsUnshownText, IsUnverified}
 use Rattle.mat_top.proofs.Told.{of_file, told, told_both, if_told, rose_before}
 use Rattle.mat_top.proofs.Unwitnessed.{no_witness_before, unverified_before}
@@ -193,43 +192,6 @@ module _ (held : List ℕ → Option (List ℕ)) (file : List ℕ) (instance : I
   denied_by certificate before now refusals.Usage why = absurd why
   denied_by certificate before now refusals.WriteFault why = absurd why
 
-  -- the problem is not solved
-  unsolved_by : (query : Query) (before now : List ℕ → ℕ) (refusal : Refusal) → IsUnsolved query instance refusal
-      → IsRefusal held (about file (solve query)) before now refusal
-  unsolved_by query before now refusals.Memory why = tt
-  unsolved_by query before now refusals.WrongShape why =
-      (problem_outcome (solve query) statuses.WrongShape (λ bytes spelled tells. why), tt)
-  unsolved_by query before now refusals.BadCost why = absurd why
-  unsolved_by query before now refusals.Unwitnessed why = absurd why
-  unsolved_by query before now (refusals.BadWitness kind number) why = absurd why
-  unsolved_by query before now (refusals.NotShown part) why = absurd why
-  unsolved_by query before now (refusals.BadList line) why = absurd why
-  unsolved_by query before now refusals.ReadFault why = absurd why
-  unsolved_by query before now refusals.TooLong why = absurd why
-  unsolved_by query before now (refusals.BadCertificate kind number) why = absurd why
-  unsolved_by query before now (refusals.No reason first second) why = absurd why
-  unsolved_by query before now (refusals.BadDescription kind number) why = absurd why
-  unsolved_by query before now refusals.Usage why = absurd why
-  unsolved_by query before now refusals.WriteFault why = absurd why
-
-  -- the problem has no weighted vertex sets that prove an arborescence
-  uncut_by : (before now : List ℕ → ℕ) (refusal : Refusal) → HasNoCuts instance refusal
-      → IsRefusal held (about file cuts) before now refusal
-  uncut_by before now refusals.Memory why = tt
-  uncut_by before now refusals.WrongShape why = (problem_outcome cuts statuses.WrongShape (λ bytes spelled tells. why), tt)
-  uncut_by before now refusals.BadCost why = (problem_outcome cuts statuses.BadCost (λ bytes spelled tells. why), tt)
-  uncut_by before now refusals.Unwitnessed why = absurd why
-  uncut_by before now (refusals.BadWitness kind number) why = absurd why
-  uncut_by before now (refusals.NotShown part) why = absurd why
-  uncut_by before now (refusals.BadList line) why = absurd why
-  uncut_by before now refusals.ReadFault why = absurd why
-  uncut_by before now refusals.TooLong why = absurd why
-  uncut_by before now (refusals.BadCertificate kind number) why = absurd why
-  uncut_by before now (refusals.No reason first second) why = absurd why
-  uncut_by before now (refusals.BadDescription kind number) why = absurd why
-  uncut_by before now refusals.Usage why = absurd why
-  uncut_by before now refusals.WriteFault why = absurd why
-
   -- there is no witness
   witness_outcome : (k : ℕ) (certificate : List ℕ) (P : List ℕ → Type 0) (status : Status) → IfSome (held certificate) P
       → ((bytes : List ℕ) → P bytes → IsRungOutcome instance k bytes status
@@ -336,8 +298,14 @@ module _ (held : List ℕ → Option (List ℕ)) (file : List ℕ) (instance : I
   not_written : (request : Request) (before now : List ℕ → ℕ) (refusal : Refusal)
       → HasNoText held request instance before now refusal → IsRefusal held (about file request) before now refusal
   not_written show before now refusal why = subst (λ r. IsRefusal held (about file show) before now r) (sym why) tt
-  not_written (solve query) before now refusal why = unsolved_by query before now refusal why
-  not_written cuts before now refusal why = uncut_by before now refusal why
+  not_written (solve query) before now refusal (inl memory) = rw memory tt
+  not_written (solve query) before now refusal (inr (shape, other)) =
+      rw shape (problem_outcome (solve query) statuses.WrongShape (λ bytes spelled tells. other), tt)
+  not_written cuts before now refusal (inl (inl memory)) = rw memory tt
+  not_written cuts before now refusal (inl (inr (cost, form, unpayable))) =
+      rw cost (problem_outcome cuts statuses.BadCost (λ bytes spelled tells. (form, unpayable)), tt)
+  not_written cuts before now refusal (inr (shape, other)) =
+      rw shape (problem_outcome cuts statuses.WrongShape (λ bytes spelled tells. other), tt)
   not_written (check certificate) before now refusal why = denied_by certificate before now refusal why
   not_written (witness k certificate) before now refusal why = unwitnessed_by k certificate before now refusal why
   not_written (verify k certificate shown) before now refusal why = unverified_by k certificate shown before now refusal why

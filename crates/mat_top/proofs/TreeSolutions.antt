@@ -1,6 +1,6 @@
 -- Arborescences and disjoint arborescences as answers: their sets are sets of arcs or of vertices, and so in range.
 use Rattle.std.proofs.Common.{◌≡◌, ℕ, ◌≤◌, List, length, get_or, refl, arith}
-use Rattle.mat_sets.specs.Limits.{most_elements, most_vertices, largest_number}
+use Rattle.mat_sets.specs.Limits.{most_elements, largest_number}
 use Rattle.mat_sets.specs.Graphs.{ends_of, IsUnentered}
 use Rattle.mat_sets.specs.Sets.{IsSet, AllBelow}
 use Rattle.mat_sets.specs.Weights.{weight, AreWeightsWithin}
@@ -55,15 +55,13 @@ module _ (vertices root : ℕ) (arcs : List (ℕ × ℕ)) (costs : List Weight) 
     bounded = tt;
   }
 
--- ---- disjoint arborescences, whatever the arcs cost
-
-module _ (vertices root : ℕ) (arcs : List (ℕ × ℕ)) (costs : List Weight) (few_arcs : length arcs ≤ most_elements) where
+  -- disjoint arborescences, whatever the arcs cost
   pub disjoint_solution : (k : ℕ) (trees : List (List ℕ)) → 1 ≤ k → k ≤ 64
       → AreDisjointArborescences vertices (length arcs) (ends_of arcs) root k trees
       → IsSolution (rooted vertices root arcs costs) (disjoint (length arcs) trees)
   disjoint_solution k trees some few are = record {
     ranged = record {
-      few = few_arcs;
+      few = valid.3.0;
       sets_in_range = record { enough = omega (arith, are.many); no_more = omega (arith, are.many); each = λ i d lt. (are.each i d lt).set };
     };
     right = (refl, record { many = refl; each = are.each; disjoint = are.disjoint });
@@ -71,17 +69,11 @@ module _ (vertices root : ℕ) (arcs : List (ℕ × ℕ)) (costs : List Weight) 
   }
 
   -- a vertex set that too few arcs enter
-  pub seldom_solution : (k : ℕ) (set : List ℕ) → 1 ≤ k → k ≤ 64 → 1 ≤ vertices → vertices ≤ most_vertices
-      → IsSeldomEntered vertices (length arcs) (ends_of arcs) root k set
+  pub seldom_solution : (k : ℕ) (set : List ℕ) → 1 ≤ k → k ≤ 64 → IsSeldomEntered vertices (length arcs) (ends_of arcs) root k set
       → IsSolution (rooted vertices root arcs costs) (disjoint_none (length arcs) k vertices set)
-  seldom_solution k set some few some_vertices few_vertices seldom = record {
+  seldom_solution k set some few seldom = record {
     ranged = (
-      record {
-        few = few_arcs;
-        some_trees = some;
-        few_trees = few;
-        vertices_in_range = record { some = some_vertices; few = few_vertices };
-      },
+      record { few = valid.3.0; some_trees = some; few_trees = few; vertices_in_range = record { some = valid.0; few = valid.1 } },
       seldom.root_free.set,
     );
     right = (refl, refl, seldom);

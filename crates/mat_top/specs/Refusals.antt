@@ -3,10 +3,8 @@ use Rattle.std.specs.Prelude.{◌≡◌, ℕ, ◌<◌, ◌≤◌, ◌⊎◌, tru
 use Rattle.mat_shelf.specs.Faults.{Rose}
 use Rattle.mat_shelf.specs.Writing.{Appended, AppendedPrefix}
 use Rattle.mat_desc.specs.Instances.{Instance}
-use Rattle.mat_cert.specs.declared.answer.Answer.{Answer}
 use Rattle.mat_cert.specs.Certificates.{Certificate}
 use Rattle.mat_cert.specs.Limits.{certificate_limit}
-use Rattle.mat_cert.specs.Views.{certificate_of}
 use Rattle.mat_check.specs.AnswerClauses.{failure_of}
 use Rattle.mat_check.specs.Right.{IsRight}
 use Rattle.mat_witness.specs.Kinds.{is_witnessed_pair}
@@ -18,9 +16,9 @@ use Rattle.mat_top.specs.Statuses.{status_of}
 use Rattle.mat_top.specs.CommandLines.{Request, show, solve, cuts, check, witness, verify, Task}
 use Rattle.mat_top.specs.CutTexts.{HasPayableCosts}
 use Rattle.mat_top.specs.JobLists.{Job}
-use Rattle.mat_top.specs.Queries.{has_form, IsAnswerOf}
+use Rattle.mat_top.specs.Queries.{has_form}
 use Rattle.mat_top.specs.declared.query.Query.{Query}
-use Rattle.mat_top.specs.Answers.{IsSolution, IsSolutionText}
+use Rattle.mat_top.specs.Answers.{IsSolutionText}
 use Rattle.mat_desc.specs.Limits.{description_limit}
 use Rattle.mat_top.specs.Outcomes.{HasForm, IsFaulty, IsDescribed, IsMislisted}
 use Rattle.mat_top.specs.Certified.{IsFaultyCertificate}
@@ -40,17 +38,9 @@ IsUndescribed held before now refusal = ⊥
 
 -- ---- solving
 
--- why a problem is not solved
-abbrev pub IsUnsolved : Query → Instance → Refusal → Type 0
-IsUnsolved query instance refusals.Memory = Unit {0}
-IsUnsolved query instance refusals.WrongShape = has_form query instance ≡ true → ⊥
-IsUnsolved query instance refusal = ⊥
-
--- a right answer to the query about a problem of its form, and a refusal of every other problem
-abbrev pub IsSolved : Query → Instance → Result Answer Refusal → Type 0
-IsSolved query instance (Ok answer) =
-    (has_form query instance ≡ true) × IsAnswerOf query (certificate_of answer) × IsSolution instance (certificate_of answer)
-IsSolved query instance (Err refusal) = IsUnsolved query instance refusal
+-- the form of the problem is not that of the request
+abbrev pub IsMisshapen : Request → Instance → Refusal → Type 0
+IsMisshapen request instance refusal = (refusal ≡ refusals.WrongShape) × (HasForm request instance → ⊥)
 
 -- the text is that of a right answer to the query, and no longer than a certificate may be
 pub record HasSolutionText (query : Query) (instance : Instance) (text : List ℕ) : Type 0 where
@@ -58,12 +48,10 @@ pub record HasSolutionText (query : Query) (instance : Instance) (text : List �
   pub solution : IsSolutionText query instance text
   pub short : length text ≤ certificate_limit
 
--- why a problem has no weighted vertex sets that prove an arborescence
+-- why a problem of arcs with costs and a root has no weighted vertex sets that prove an arborescence
 abbrev pub HasNoCuts : Instance → Refusal → Type 0
-HasNoCuts instance refusals.Memory = Unit {0}
-HasNoCuts instance refusals.WrongShape = HasForm cuts instance → ⊥
-HasNoCuts instance refusals.BadCost = HasForm cuts instance × (HasPayableCosts instance → ⊥)
-HasNoCuts instance refusal = ⊥
+HasNoCuts instance refusal =
+    (refusal ≡ refusals.Memory) ⊎ ((refusal ≡ refusals.BadCost) × HasForm cuts instance × (HasPayableCosts instance → ⊥))
 
 -- ---- judging
 
@@ -169,8 +157,8 @@ IsUnverified held instance k certificate shown before now refusal =
 abbrev pub HasNoText : (List ℕ → Option (List ℕ)) → Request → Instance → (List ℕ → ℕ) → (List ℕ → ℕ) → Refusal
     → Type 0
 HasNoText held show instance before now refusal = refusal ≡ refusals.Memory
-HasNoText held (solve query) instance before now refusal = IsUnsolved query instance refusal
-HasNoText held cuts instance before now refusal = HasNoCuts instance refusal
+HasNoText held (solve query) instance before now refusal = (refusal ≡ refusals.Memory) ⊎ IsMisshapen (solve query) instance refusal
+HasNoText held cuts instance before now refusal = HasNoCuts instance refusal ⊎ IsMisshapen cuts instance refusal
 HasNoText held (check certificate) instance before now refusal =
     IsUncertified instance (held certificate) (before certificate) (now certificate) refusal
 HasNoText held (witness k certificate) instance before now refusal =

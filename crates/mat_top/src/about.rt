@@ -1,16 +1,18 @@
 //! What is asked about the problem that a file describes.
 
-ghost use Rattle.std.specs.Prelude.{◌≡◌, ◌≤◌, ℕ, List, IfOk, IfErr, IfSome};
+ghost use Rattle.std.specs.Prelude.{◌≡◌, ◌≤◌, ℕ, List, true, IfOk, IfErr, IfSome};
 ghost use Rattle.mat_desc.specs.Grammar.{IsValid};
 ghost use Rattle.mat_desc.specs.Soundness.{IsSoundInstance};
 ghost use Rattle.mat_desc.specs.Views.{instance_of};
 ghost use Rattle.mat_top.specs.CommandLines.{about};
 ghost use Rattle.mat_top.specs.Commands.{request_of, IsQueryInRange, IsRequestInRange};
 ghost use Rattle.mat_top.specs.Outcomes.{IsDescribed, yes_text};
-ghost use Rattle.mat_top.specs.Refusals.{IsUndescribed, HasText, HasNoText, HasSolutionText, IsUnsolved, MayBeWritten, IsRefusal};
+ghost use Rattle.mat_top.specs.Queries.{has_form};
+ghost use Rattle.mat_top.specs.Refusals.{IsUndescribed, HasText, HasNoText, HasSolutionText, MayBeWritten, IsRefusal};
 
 use crate::command::Request;
 use crate::cuts_text::cuts_text;
+use crate::forms::has_form;
 use crate::judge::judge;
 use crate::query::Query;
 use crate::reading::read_all;
@@ -44,23 +46,23 @@ pub(crate) fn problem_in<F: Shelf>(
     Ok(read_problem(alloc, &bytes)?)
 }
 
-/// The text of a right answer to the query.
+/// The text of a right answer to the query about a problem of its form. The only error is want of memory.
 pub(crate) fn solution_text<R: Threads + Sync>(
     rt: &R,
     alloc: Global,
     problem: &Problem,
     query: Query,
     workers: u32,
-) -> Result<Vec<u8>, Refusal>
+) -> Result<Vec<u8>, AllocError>
     requires valid { IsValid (instance_of problem.now) }
     requires sound { IsSoundInstance (instance_of problem.now) }
     requires range { IsQueryInRange query }
+    requires form { has_form query (instance_of problem.now) ≡ true }
     requires workers { (1 ≤ workers) × (workers ≤ 16) }
-    ensures text { IfOk result (λ v. HasSolutionText query (instance_of problem.now) v.items) }
-    ensures refusal { IfErr result (λ e. IsUnsolved query (instance_of problem.now) e) }
+    ensures { IfOk result (λ v. HasSolutionText query (instance_of problem.now) v.items) }
 {
     let answer = solve(rt, alloc, problem, query, workers)?;
-    Ok(write_answer(alloc, &answer)?)
+    write_answer(alloc, &answer)
 }
 
 // The text that says that a certificate is right.
@@ -91,8 +93,19 @@ fn text_for<R: Threads + Sync, F: Shelf>(
 {
     match request {
         Request::Show => Ok(write_problem(alloc, problem)?),
-        Request::Solve(query) => solution_text(rt, alloc, problem, query, workers),
-        Request::Cuts => cuts_text(alloc, problem),
+        Request::Solve(query) => {
+            if !has_form(query, problem) {
+                return Err(Refusal::WrongShape);
+            }
+            Ok(solution_text(rt, alloc, problem, query, workers)?)
+        }
+        Request::Cuts => {
+            // the form that has cuts is that of a problem with an arborescence
+            if !has_form(Query::Arborescence, problem) {
+                return Err(Refusal::WrongShape);
+            }
+            cuts_text(alloc, problem)
+        }
         Request::Check { certificate } => {
             judge(rt, alloc, files, certificate, problem, workers)?;
             Ok(yes(alloc)?)

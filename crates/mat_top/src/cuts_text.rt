@@ -1,6 +1,7 @@
 //! Cheapest spanning arborescences with the weighted vertex sets that prove them, as texts.
 
-ghost use Rattle.std.specs.Prelude.{◌≡◌, ◌↔◌, All, IfOk, IfErr, IsTrue};
+ghost use Rattle.std.specs.Prelude.{◌≡◌, ◌↔◌, true, All, IfOk, IfErr, IsTrue};
+ghost use Rattle.mat_check.specs.Fitting.{is_rooted};
 ghost use Rattle.mat_desc.specs.Grammar.{IsValid};
 ghost use Rattle.mat_desc.specs.Instances.{rooted};
 ghost use Rattle.mat_desc.specs.Views.{instance_of};
@@ -53,26 +54,25 @@ fn payable_text(
 }
 
 /// The text of a cheapest spanning arborescence of a problem with costs, and of weighted vertex sets that prove it, or of a vertex set that
-/// no arc enters. `WrongShape` comes exactly where the problem has no arcs with costs and no root, `BadCost` exactly where it has them and a
-/// cost is below 0 or has a tie, and `Memory` is want of memory.
+/// no arc enters. `BadCost` comes exactly where a cost is below 0 or has a tie, and `Memory` is want of memory.
 pub(crate) fn cuts_text(alloc: Global, problem: &Problem) -> Result<Vec<u8>, Refusal>
     requires valid { IsValid (instance_of problem.now) }
+    requires form { is_rooted (instance_of problem.now) ≡ true }
     ensures payable { IfOk result (λ v. HasPayableCosts (instance_of problem.now)) }
     ensures text { IfOk result (λ v. IsCutsText (instance_of problem.now) v.items) }
     ensures refusal { IfErr result (λ e. HasNoCuts (instance_of problem.now) e) }
 {
-    match problem {
-        Problem::Rooted {
-            vertices,
-            root,
-            arcs,
-            costs,
-        } => {
-            if !are_payable(costs.as_slice()) {
-                return Err(Refusal::BadCost);
-            }
-            Ok(payable_text(alloc, *vertices, *root, arcs, costs.as_slice())?)
-        }
-        _ => Err(Refusal::WrongShape),
+    let Problem::Rooted {
+        vertices,
+        root,
+        arcs,
+        costs,
+    } = problem
+    else {
+        unreachable!()
+    };
+    if !are_payable(costs.as_slice()) {
+        return Err(Refusal::BadCost);
     }
+    Ok(payable_text(alloc, *vertices, *root, arcs, costs.as_slice())?)
 }

@@ -1,29 +1,24 @@
 //! The forms of the problems that queries are about.
 
-ghost use Rattle.std.specs.Prelude.{◌≡◌};
+ghost use Rattle.std.specs.Prelude.{◌≡◌, ◌∷◌, [], true};
+ghost use Rattle.mat_any.specs.Views.{tree_of};
 ghost use Rattle.mat_check.specs.Fitting.{is_single};
+ghost use Rattle.mat_desc.specs.Instances.{list};
 ghost use Rattle.mat_desc.specs.Views.{instance_of};
 ghost use Rattle.mat_top.specs.Queries.{has_form};
 
 use crate::query::Query;
+use mat_any::AnyMatroid;
+use mat_check::is_single_list;
 use mat_desc::Problem;
-
-// Whether the form of the problem is a list of one matroid.
-fn is_single(problem: &Problem) -> bool
-    ensures { result ≡ is_single (instance_of problem.now) }
-{
-    match problem {
-        Problem::List { matroids, .. } => matroids.len() == 1,
-        _ => false,
-    }
-}
+use mat_sets::PairWeights;
 
 /// Whether the form of the problem is that of the query.
 pub(crate) fn has_form(query: Query, problem: &Problem) -> bool
     ensures { result ≡ has_form query (instance_of problem.now) }
 {
     match query {
-        Query::Best | Query::Pack | Query::Cover => is_single(problem),
+        Query::Best | Query::Pack | Query::Cover => is_single_list(problem),
         Query::Intersect => matches!(problem, Problem::Pair { .. }),
         Query::Union => matches!(problem, Problem::List { .. }),
         Query::Trees(_) => matches!(problem, Problem::Graph { .. }),
@@ -31,4 +26,18 @@ pub(crate) fn has_form(query: Query, problem: &Problem) -> bool
         Query::Rainbow => matches!(problem, Problem::Coloured { .. }),
         Query::Assign => matches!(problem, Problem::Table { .. }),
     }
+}
+
+/// The only matroid of the list that the problem is, behind the weights.
+pub(crate) fn only_matroid(problem: &Problem) -> (&PairWeights, &AnyMatroid)
+    requires { is_single (instance_of problem.now) ≡ true }
+    ensures { instance_of problem.now ≡ list result.0.now (tree_of result.1.now ∷ []) }
+{
+    let Problem::List { weights, matroids } = problem else {
+        unreachable!()
+    };
+    let [matroid] = matroids.as_slice() else {
+        unreachable!()
+    };
+    (weights, matroid)
 }

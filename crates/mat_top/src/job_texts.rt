@@ -31,10 +31,7 @@ impl<R: Threads + Sync> Answering for R {
     ghost can_answer = { λ _. IsSync R.row };
 
     fn text_of(&self, alloc: Global, posed: &PosedJob) -> Result<Vec<u8>, AllocError> {
-        match solution_text(self, alloc, &posed.problem, posed.query, 1) {
-            Ok(text) => Ok(text),
-            Err(_) => Err(AllocError),
-        }
+        solution_text(self, alloc, &posed.problem, posed.query, 1)
     }
 }
 

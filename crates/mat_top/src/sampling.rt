@@ -1,6 +1,6 @@
 //! The summary of a right answer to a problem that is made from a number.
 
-ghost use Rattle.std.specs.Prelude.{◌≡◌, ◌≤◌, true, IfOk, IfErr};
+ghost use Rattle.std.specs.Prelude.{◌≡◌, ◌≤◌, true, IfOk};
 ghost use Rattle.mat_desc.specs.Grammar.{IsValid};
 ghost use Rattle.mat_desc.specs.Soundness.{IsSoundInstance};
 ghost use Rattle.mat_desc.specs.Views.{instance_of};
@@ -10,17 +10,15 @@ ghost use Rattle.mat_top.specs.Answers.{IsSolution};
 ghost use Rattle.mat_top.specs.Commands.{IsQueryInRange, IsSampleInRange};
 ghost use Rattle.mat_top.specs.Queries.{has_form, IsAnswerOf};
 ghost use Rattle.mat_top.specs.Summaries.{query_of_kind, IsSummary};
-ghost use Rattle.mat_top.specs.declared.status.Refusal.TheVariants as refusals;
 
 use crate::query::Query;
 use crate::solve::solve;
-use crate::status::Refusal;
 use crate::summary::summary_text;
 use mat_cert::Answer;
 use mat_check::{Verdict, check};
 use mat_desc::Problem;
 use mat_gen::{SampleKind, sample};
-use std::alloc::Global;
+use std::alloc::{AllocError, Global};
 use std::thread::Threads;
 
 // The query that is answered for a sample of this kind.
@@ -37,14 +35,14 @@ fn query_of_kind(kind: SampleKind) -> Query
     }
 }
 
-// A right answer to the query about a problem of its form, found by so many workers, and then checked. The only refusal is want of memory.
+// A right answer to the query about a problem of its form, found by so many workers, and then checked. The only error is want of memory.
 fn checked_answer<R: Threads + Sync>(
     rt: &R,
     alloc: Global,
     problem: &Problem,
     query: Query,
     workers: u32,
-) -> Result<Answer, Refusal>
+) -> Result<Answer, AllocError>
     requires valid { IsValid (instance_of problem.now) }
     requires sound { IsSoundInstance (instance_of problem.now) }
     requires range { IsQueryInRange query }
@@ -52,7 +50,6 @@ fn checked_answer<R: Threads + Sync>(
     requires workers { (1 ≤ workers) × (workers ≤ 16) }
     ensures of_query { IfOk result (λ answer. IsAnswerOf query (certificate_of answer)) }
     ensures solution { IfOk result (λ answer. IsSolution (instance_of problem.now) (certificate_of answer)) }
-    ensures refusal { IfErr result (λ e. e ≡ refusals.Memory) }
 {
     let answer = solve(rt, alloc, problem, query, workers)?;
     match check(rt, alloc, problem, &answer, workers)? {
@@ -61,7 +58,7 @@ fn checked_answer<R: Threads + Sync>(
     }
 }
 
-// The summary of a right answer to this problem, which is that of this kind, size and seed. The only refusal is want of memory.
+// The summary of a right answer to this problem, which is that of this kind, size and seed. The only error is want of memory.
 fn summary_of<R: Threads + Sync>(
     rt: &R,
     alloc: Global,
@@ -70,21 +67,20 @@ fn summary_of<R: Threads + Sync>(
     seed: u64,
     problem: &Problem,
     workers: u32,
-) -> Result<Vec<u8>, Refusal>
+) -> Result<Vec<u8>, AllocError>
     requires range { IsSampleInRange size seed }
     requires sample { instance_of problem.now ≡ sample_of kind size seed }
     requires valid { IsValid (instance_of problem.now) }
     requires sound { IsSoundInstance (instance_of problem.now) }
     requires workers { (1 ≤ workers) × (workers ≤ 16) }
-    ensures text { IfOk result (λ v. IsSummary kind size seed v.items) }
-    ensures refusal { IfErr result (λ e. e ≡ refusals.Memory) }
+    ensures { IfOk result (λ v. IsSummary kind size seed v.items) }
 {
     let answer = checked_answer(rt, alloc, problem, query_of_kind(kind), workers)?;
-    Ok(summary_text(alloc, kind, size, seed, &answer)?)
+    summary_text(alloc, kind, size, seed, &answer)
 }
 
 /// The summary of a right answer to the problem of this kind, size and seed: it is made, answered by so many workers, and the answer is
-/// checked. The only refusal is want of memory.
+/// checked. The only error is want of memory.
 pub(crate) fn sample_text<R: Threads + Sync>(
     rt: &R,
     alloc: Global,
@@ -92,11 +88,10 @@ pub(crate) fn sample_text<R: Threads + Sync>(
     size: u32,
     seed: u64,
     workers: u32,
-) -> Result<Vec<u8>, Refusal>
+) -> Result<Vec<u8>, AllocError>
     requires range { IsSampleInRange size seed }
     requires workers { (1 ≤ workers) × (workers ≤ 16) }
-    ensures text { IfOk result (λ v. IsSummary kind size seed v.items) }
-    ensures refusal { IfErr result (λ e. e ≡ refusals.Memory) }
+    ensures { IfOk result (λ v. IsSummary kind size seed v.items) }
 {
     let problem = sample(alloc, kind, size, seed)?;
     summary_of(rt, alloc, kind, size, seed, &problem, workers)

@@ -1,37 +1,39 @@
 //! The answers to queries.
 
-ghost use Rattle.std.specs.Prelude.{◌≤◌};
+ghost use Rattle.std.specs.Prelude.{◌≡◌, ◌≤◌, true, IfOk};
+ghost use Rattle.mat_cert.specs.Views.{certificate_of};
 ghost use Rattle.mat_desc.specs.Grammar.{IsValid};
 ghost use Rattle.mat_desc.specs.Soundness.{IsSoundInstance};
 ghost use Rattle.mat_desc.specs.Views.{instance_of};
+ghost use Rattle.mat_top.specs.Answers.{IsSolution};
 ghost use Rattle.mat_top.specs.Commands.{IsQueryInRange};
-ghost use Rattle.mat_top.specs.Refusals.{IsSolved};
+ghost use Rattle.mat_top.specs.Queries.{has_form, IsAnswerOf};
 
 use crate::query::Query;
 use crate::solve_ladders::{assign, best, intersect, rainbow};
 use crate::solve_sets::{cover, pack, union};
 use crate::solve_trees::{arborescence, disjoint, trees};
-use crate::status::Refusal;
 use mat_any::has_union;
 use mat_cert::Answer;
 use mat_desc::Problem;
-use std::alloc::Global;
+use std::alloc::{AllocError, Global};
 use std::thread::Threads;
 
-/// A right answer to the query about a problem of its form, found by so many workers. `WrongShape` comes exactly where the problem is
-/// of another form, and `Memory` is want of memory.
+/// A right answer to the query about a problem of its form, found by so many workers. The only error is want of memory.
 pub(crate) fn solve<R: Threads + Sync>(
     rt: &R,
     alloc: Global,
     problem: &Problem,
     query: Query,
     workers: u32,
-) -> Result<Answer, Refusal>
+) -> Result<Answer, AllocError>
     requires valid { IsValid (instance_of problem.now) }
     requires sound { IsSoundInstance (instance_of problem.now) }
     requires range { IsQueryInRange query }
+    requires form { has_form query (instance_of problem.now) ≡ true }
     requires workers { (1 ≤ workers) × (workers ≤ 16) }
-    ensures { IsSolved query (instance_of problem.now) result }
+    ensures of_query { IfOk result (λ answer. IsAnswerOf query (certificate_of answer)) }
+    ensures solution { IfOk result (λ answer. IsSolution (instance_of problem.now) (certificate_of answer)) }
 {
     match query {
         Query::Best => best(alloc, problem),

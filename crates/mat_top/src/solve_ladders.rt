@@ -1,11 +1,10 @@
 //! Ladders: heaviest sets of each size.
 
-ghost use Rattle.std.specs.Prelude.{◌≡◌, ◌≤◌, length, map, IfOk, [], ◌∷◌};
+ghost use Rattle.std.specs.Prelude.{◌≡◌, ◌≤◌, true, length, map, IfOk};
 ghost use Rattle.mat_sets.specs.Limits.{most_elements, largest_number};
 ghost use Rattle.mat_sets.specs.Sets.{AllBelow};
 ghost use Rattle.mat_sets.specs.Weights.{AreWeightsWithin};
-ghost use Rattle.mat_any.specs.Views.{tree_of};
-ghost use Rattle.mat_desc.specs.Instances.{pair, list, coloured, table};
+ghost use Rattle.mat_check.specs.Fitting.{is_single, is_pair, is_coloured, is_table};
 ghost use Rattle.mat_desc.specs.Views.{instance_of};
 ghost use Rattle.mat_desc.specs.Grammar.{IsValid};
 ghost use Rattle.mat_desc.specs.Soundness.{IsSoundInstance};
@@ -13,16 +12,14 @@ ghost use Rattle.mat_cert.specs.Views.{certificate_of};
 ghost use Rattle.mat_top.specs.Answers.{IsSolution};
 ghost use Rattle.mat_top.specs.PricedRungs.{priced_rung, plain_rung, HaveFewElements, AreSmallSets};
 ghost use Rattle.mat_top.specs.Queries.{IsAnswerOf};
-ghost use Rattle.mat_top.specs.Refusals.{IsSolved};
 
+use crate::forms::only_matroid;
 use crate::query::Query;
-use crate::status::Refusal;
-use mat_any::AnyMatroid;
 use mat_cert::{Answer, PlainRung, PricedRung};
 use mat_desc::Problem;
 use mat_greedy::heaviest_each;
 use mat_laws::Matroid;
-use mat_sets::{ElemSet, PairWeights, Pairs, Weight, weigh};
+use mat_sets::{ElemSet, Weight, weigh};
 use mat_split::{Rung, intersect_all};
 use std::alloc::{AllocError, Global};
 use std::thread::Threads;
@@ -79,17 +76,15 @@ fn plain_rungs(
     Ok(all)
 }
 
-// The heaviest independent sets of one matroid.
-fn solve_best(
-    alloc: Global,
-    weights: &PairWeights,
-    matroid: &AnyMatroid,
-) -> Result<Answer, AllocError>
-    requires valid { IsValid (list weights.now (tree_of matroid.now ∷ [])) }
-    requires sound { IsSoundInstance (list weights.now (tree_of matroid.now ∷ [])) }
-    ensures solution { IfOk result (λ answer. IsSolution (list weights.now (tree_of matroid.now ∷ [])) (certificate_of answer)) }
+/// A heaviest independent set of one matroid for each size. The only error is want of memory.
+pub(crate) fn best(alloc: Global, problem: &Problem) -> Result<Answer, AllocError>
+    requires valid { IsValid (instance_of problem.now) }
+    requires sound { IsSoundInstance (instance_of problem.now) }
+    requires form { is_single (instance_of problem.now) ≡ true }
     ensures of_query { IfOk result (λ answer. IsAnswerOf Query.Best (certificate_of answer)) }
+    ensures solution { IfOk result (λ answer. IsSolution (instance_of problem.now) (certificate_of answer)) }
 {
+    let (weights, matroid) = only_matroid(problem);
     matroid.lawful();
     let sets = heaviest_each(alloc, matroid, weights.as_slice())?;
     let rungs = plain_rungs(alloc, sets.as_slice(), weights.as_slice())?;
@@ -99,21 +94,28 @@ fn solve_best(
     })
 }
 
-// The heaviest common independent sets of two matroids.
-fn solve_intersect<R: Threads + Sync>(
+/// A heaviest common independent set of two matroids for each size, found by so many workers. The only error is want of memory.
+pub(crate) fn intersect<R: Threads + Sync>(
     rt: &R,
     alloc: Global,
-    weights: &PairWeights,
-    first: &AnyMatroid,
-    second: &AnyMatroid,
+    problem: &Problem,
     workers: u32,
 ) -> Result<Answer, AllocError>
-    requires valid { IsValid (pair weights.now (tree_of first.now) (tree_of second.now)) }
-    requires sound { IsSoundInstance (pair weights.now (tree_of first.now) (tree_of second.now)) }
+    requires valid { IsValid (instance_of problem.now) }
+    requires sound { IsSoundInstance (instance_of problem.now) }
+    requires form { is_pair (instance_of problem.now) ≡ true }
     requires workers { (1 ≤ workers) × (workers ≤ 16) }
-    ensures solution { IfOk result (λ answer. IsSolution (pair weights.now (tree_of first.now) (tree_of second.now)) (certificate_of answer)) }
     ensures of_query { IfOk result (λ answer. IsAnswerOf Query.Intersect (certificate_of answer)) }
+    ensures solution { IfOk result (λ answer. IsSolution (instance_of problem.now) (certificate_of answer)) }
 {
+    let Problem::Pair {
+        weights,
+        first,
+        second,
+    } = problem
+    else {
+        unreachable!()
+    };
     first.lawful();
     second.lawful();
     let ladder = intersect_all(rt, alloc, first, second, weights.as_slice(), workers)?;
@@ -125,28 +127,35 @@ fn solve_intersect<R: Threads + Sync>(
     })
 }
 
-// The heaviest forests with pairwise different colours.
-fn solve_rainbow<R: Threads + Sync>(
+/// A heaviest forest with pairwise different colours for each size, found by so many workers. The only error is want of memory.
+pub(crate) fn rainbow<R: Threads + Sync>(
     rt: &R,
     alloc: Global,
-    vertices: u32,
-    colours: u32,
-    edges: &Pairs,
-    colour_of: &[u32],
-    weights: &PairWeights,
+    problem: &Problem,
     workers: u32,
 ) -> Result<Answer, AllocError>
-    requires valid { IsValid (coloured vertices colours edges.now colour_of.now weights.now) }
+    requires valid { IsValid (instance_of problem.now) }
+    requires form { is_coloured (instance_of problem.now) ≡ true }
     requires workers { (1 ≤ workers) × (workers ≤ 16) }
-    ensures solution { IfOk result (λ answer. IsSolution (coloured vertices colours edges.now colour_of.now weights.now) (certificate_of answer)) }
     ensures of_query { IfOk result (λ answer. IsAnswerOf Query.Rainbow (certificate_of answer)) }
+    ensures solution { IfOk result (λ answer. IsSolution (instance_of problem.now) (certificate_of answer)) }
 {
+    let Problem::Coloured {
+        vertices,
+        colours,
+        edges,
+        colour_of,
+        weights,
+    } = problem
+    else {
+        unreachable!()
+    };
     let found = mat_fronts::rainbow(
         rt,
         alloc,
-        vertices,
+        *vertices,
         edges,
-        colours,
+        *colours,
         colour_of,
         weights.as_slice(),
         workers,
@@ -155,137 +164,51 @@ fn solve_rainbow<R: Threads + Sync>(
     let rungs = priced_rungs(alloc, ladder.rungs, weights.as_slice())?;
     Ok(Answer::Rainbow {
         count: edges.len() as u32,
-        vertices,
-        colours,
+        vertices: *vertices,
+        colours: *colours,
         rungs,
         cut: ladder.cut,
         missing: found.missing,
     })
 }
 
-// The heaviest assignments in a table.
-fn solve_assign<R: Threads + Sync>(
-    rt: &R,
-    alloc: Global,
-    rows: u32,
-    columns: u32,
-    cells: &Pairs,
-    weights: &PairWeights,
-    workers: u32,
-) -> Result<Answer, AllocError>
-    requires valid { IsValid (table rows columns cells.now weights.now) }
-    requires workers { (1 ≤ workers) × (workers ≤ 16) }
-    ensures solution { IfOk result (λ answer. IsSolution (table rows columns cells.now weights.now) (certificate_of answer)) }
-    ensures of_query { IfOk result (λ answer. IsAnswerOf Query.Assign (certificate_of answer)) }
-{
-    let ladder = mat_fronts::assign(rt, alloc, rows, columns, cells, weights.as_slice(), workers)?;
-    let rungs = priced_rungs(alloc, ladder.rungs, weights.as_slice())?;
-    Ok(Answer::Assign {
-        count: cells.len() as u32,
-        rows,
-        columns,
-        rungs,
-        cut: ladder.cut,
-    })
-}
-
-// The heaviest independent sets of the only matroid of a list.
-fn best_of_list(
-    alloc: Global,
-    weights: &PairWeights,
-    matroids: &[AnyMatroid],
-) -> Result<Answer, Refusal>
-    requires valid { IsValid (list weights.now (map tree_of matroids.now)) }
-    requires sound { IsSoundInstance (list weights.now (map tree_of matroids.now)) }
-    ensures { IsSolved Query.Best (list weights.now (map tree_of matroids.now)) result }
-{
-    let [matroid] = matroids else {
-        return Err(Refusal::WrongShape);
-    };
-    Ok(solve_best(alloc, weights, matroid)?)
-}
-
-/// A heaviest independent set of one matroid for each size. `WrongShape` comes exactly where the problem is no list of one matroid, and
-/// `Memory` is want of memory.
-pub(crate) fn best(alloc: Global, problem: &Problem) -> Result<Answer, Refusal>
-    requires valid { IsValid (instance_of problem.now) }
-    requires sound { IsSoundInstance (instance_of problem.now) }
-    ensures { IsSolved Query.Best (instance_of problem.now) result }
-{
-    match problem {
-        Problem::List { weights, matroids } => best_of_list(alloc, weights, matroids.as_slice()),
-        _ => Err(Refusal::WrongShape),
-    }
-}
-
-/// A heaviest common independent set of two matroids for each size, found by so many workers. `WrongShape` comes exactly where the
-/// problem is no pair, and `Memory` is want of memory.
-pub(crate) fn intersect<R: Threads + Sync>(
-    rt: &R,
-    alloc: Global,
-    problem: &Problem,
-    workers: u32,
-) -> Result<Answer, Refusal>
-    requires valid { IsValid (instance_of problem.now) }
-    requires sound { IsSoundInstance (instance_of problem.now) }
-    requires workers { (1 ≤ workers) × (workers ≤ 16) }
-    ensures { IsSolved Query.Intersect (instance_of problem.now) result }
-{
-    match problem {
-        Problem::Pair {
-            weights,
-            first,
-            second,
-        } => Ok(solve_intersect(rt, alloc, weights, first, second, workers)?),
-        _ => Err(Refusal::WrongShape),
-    }
-}
-
-/// A heaviest forest with pairwise different colours for each size, found by so many workers. `WrongShape` comes exactly where the
-/// problem is no coloured graph, and `Memory` is want of memory.
-pub(crate) fn rainbow<R: Threads + Sync>(
-    rt: &R,
-    alloc: Global,
-    problem: &Problem,
-    workers: u32,
-) -> Result<Answer, Refusal>
-    requires valid { IsValid (instance_of problem.now) }
-    requires workers { (1 ≤ workers) × (workers ≤ 16) }
-    ensures { IsSolved Query.Rainbow (instance_of problem.now) result }
-{
-    match problem {
-        Problem::Coloured {
-            vertices,
-            colours,
-            edges,
-            colour_of,
-            weights,
-        } => Ok(solve_rainbow(
-            rt, alloc, *vertices, *colours, edges, colour_of, weights, workers,
-        )?),
-        _ => Err(Refusal::WrongShape),
-    }
-}
-
-/// A heaviest assignment in a table for each size, found by so many workers. `WrongShape` comes exactly where the problem is no table,
-/// and `Memory` is want of memory.
+/// A heaviest assignment in a table for each size, found by so many workers. The only error is want of memory.
 pub(crate) fn assign<R: Threads + Sync>(
     rt: &R,
     alloc: Global,
     problem: &Problem,
     workers: u32,
-) -> Result<Answer, Refusal>
+) -> Result<Answer, AllocError>
     requires valid { IsValid (instance_of problem.now) }
+    requires form { is_table (instance_of problem.now) ≡ true }
     requires workers { (1 ≤ workers) × (workers ≤ 16) }
-    ensures { IsSolved Query.Assign (instance_of problem.now) result }
+    ensures of_query { IfOk result (λ answer. IsAnswerOf Query.Assign (certificate_of answer)) }
+    ensures solution { IfOk result (λ answer. IsSolution (instance_of problem.now) (certificate_of answer)) }
 {
-    match problem {
-        Problem::Table {
-            rows,
-            columns,
-            cells,
-            weights,
-        } => Ok(solve_assign(rt, alloc, *rows, *columns, cells, weights, workers)?),
-        _ => Err(Refusal::WrongShape),
-    }
+    let Problem::Table {
+        rows,
+        columns,
+        cells,
+        weights,
+    } = problem
+    else {
+        unreachable!()
+    };
+    let ladder = mat_fronts::assign(
+        rt,
+        alloc,
+        *rows,
+        *columns,
+        cells,
+        weights.as_slice(),
+        workers,
+    )?;
+    let rungs = priced_rungs(alloc, ladder.rungs, weights.as_slice())?;
+    Ok(Answer::Assign {
+        count: cells.len() as u32,
+        rows: *rows,
+        columns: *columns,
+        rungs,
+        cut: ladder.cut,
+    })
 }

@@ -1,13 +1,16 @@
+use Rattle.std.proofs.lemmas.Result.{IfOk-weaker}
+use Rattle.mat_desc.specs.Views.{instance_of}
 use Rattle.mat_cert.specs.Views.{certificate_of}
 use Rattle.mat_cert.proofs.Lengths.{length-certificate_text}
+use Rattle.mat_top.specs.Refusals.{HasSolutionText}
 use Rattle.mat_top.proofs.about.solution_text.Goals as goal
 
-pub returns-clause-text : goal.returns-clause-text
-returns-clause-text g c =
-    let solved = c.in_ok-answer.ensures in
+pub returns : goal.returns
+returns g c =
     let certificate = certificate_of c.in_ok-answer.answer in
-    record {
-      form = solved.0;
-      solution = record { certificate = certificate; of_query = solved.1; solution = solved.2; whole = c.in_ok-write_answer.ensures };
-      short = rw c.in_ok-write_answer.ensures (length-certificate_text certificate solved.2.ranged);
-    }
+    let solved = c.in_ok-answer.ensures in
+    IfOk-weaker _ _ (λ v. HasSolutionText c.args.query (instance_of c.args.problem.now) v.items) (λ v whole. record {
+      form = c.requires.form;
+      solution = record { certificate = certificate; of_query = solved.of_query; solution = solved.solution; whole = whole };
+      short = rw whole (length-certificate_text certificate solved.solution.ranged);
+    }) c.write_answer.ensures

@@ -1,4 +1,6 @@
+use Rattle.std.proofs.lemmas.Result.{IfOk-weaker}
 use Rattle.mat_cert.specs.Views.{certificate_of}
+use Rattle.mat_top.specs.Summaries.{IsSummary}
 use Rattle.mat_top.proofs.SampleForms.{sample_has_form}
 use Rattle.mat_top.proofs.sampling.summary_of.Goals as goal
 
@@ -6,11 +8,11 @@ pub checked_answer-requires-clause-form : goal.checked_answer-requires-clause-fo
 checked_answer-requires-clause-form g c κs lives =
     rw (c.query_of_kind.ensures.query, c.requires.sample) (sample_has_form c.args.kind c.args.size c.args.seed)
 
-pub returns-clause-text : goal.returns-clause-text
-returns-clause-text g c =
-    record {
+pub returns : goal.returns
+returns g c =
+    IfOk-weaker _ _ (λ v. IsSummary c.args.kind c.args.size c.args.seed v.items) (λ v whole. record {
       certificate = certificate_of c.in_ok-answer.answer;
       of_query = rw c.query_of_kind.ensures.query at c.in_ok-answer.ensures.of_query;
       solution = rw c.requires.sample at c.in_ok-answer.ensures.solution;
-      whole = c.in_ok-summary_text.ensures;
-    }
+      whole = whole;
+    }) c.summary_text.ensures
