@@ -4,9 +4,9 @@ use Rattle.mat_desc.specs.Instances.{Instance}
 use Rattle.mat_cert.specs.Certificates.{Certificate, certificate_text}
 use Rattle.mat_cert.proofs.Lengths.{length-certificate_text}
 use Rattle.mat_check.proofs.AnswerForms.{right_fits}
-use Rattle.mat_top.specs.declared.query.Query.{Query}
+use Rattle.mat_solve.specs.declared.query.Query.{Query}
 use Rattle.mat_top.specs.declared.status.Status.TheVariants as statuses
-use Rattle.mat_top.specs.Answers.{IsSolution, IsSolutionText}
+use Rattle.mat_solve.specs.Answers.{IsSolution, IsSolutionText}
 use Rattle.mat_top.specs.CommandLines as commands
 use Rattle.mat_top.specs.Outcomes.{IsDescribed, IsCertificateOutcome, IsOutcome}
 

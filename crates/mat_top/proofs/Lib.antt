@@ -1,11 +1,3 @@
-pub mod SetWeights
-pub mod PricedLadder
-pub mod PlainLadder
-pub mod FrontSolutions
-pub mod TreeSolutions
-pub mod UnionSolutions
-pub mod PackSolutions
-pub mod GraphSolutions
 pub mod Told
 pub mod Unwitnessed
 pub mod RungAnswers
@@ -15,7 +7,6 @@ pub mod Refusing
 pub mod Judging
 pub mod Ending
 pub mod Pieces
-pub mod PrintedSolutions
 pub mod Accepted
 pub mod Options
 pub mod JobReading
@@ -27,7 +18,6 @@ mod SummaryTotals
 mod SummaryRanges
 mod SummaryLines
 mod SampleForms
-mod QueryAnswers
 mod SameLadders
 mod SameUnions
 mod OneSummary

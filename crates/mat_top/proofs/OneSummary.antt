@@ -22,11 +22,11 @@ use Rattle.mat_gen.specs.Samples.{sample_of}
 use Rattle.mat_gen.specs.declared.kind.SampleKind.{SampleKind}
 use Rattle.mat_gen.specs.declared.kind.SampleKind.TheVariants as kinds
 use Rattle.mat_gen.proofs.Validity.{sample_valid}
-use Rattle.mat_top.specs.Answers.{IsSolution}
-use Rattle.mat_top.specs.Queries.{IsAnswerOf}
+use Rattle.mat_solve.specs.Answers.{IsSolution}
+use Rattle.mat_solve.specs.Queries.{IsAnswerOf}
 use Rattle.mat_top.specs.Summaries.{IsSummary, kind_word, query_of_kind, summary_words}
-use Rattle.mat_top.specs.declared.query.Query.TheVariants.{Intersect, Union, Trees, Arborescence, Assign}
-use Rattle.mat_top.proofs.QueryAnswers.{on_intersect, on_union, on_trees, on_arborescence, on_assign}
+use Rattle.mat_solve.specs.declared.query.Query.TheVariants.{Intersect, Union, Trees, Arborescence, Assign}
+use Rattle.mat_solve.proofs.QueryAnswers.{on_intersect, on_union, on_trees, on_arborescence, on_assign}
 use Rattle.mat_top.proofs.SameLadders.{one_ladder}
 use Rattle.mat_top.proofs.SameUnions.{same_members, same_union_weight}
 use Rattle.mat_top.proofs.SummaryRanges.{sets_rise}

@@ -6,7 +6,7 @@ use Rattle.mat_sets.specs.Limits.{most_elements}
 use Rattle.mat_words.specs.Numbers.{numeral}
 use Rattle.mat_words.proofs.NumberLemmas.{number_again}
 use Rattle.mat_gen.specs.declared.kind.SampleKind.{SampleKind}
-use Rattle.mat_top.specs.declared.query.Query.{Query}
+use Rattle.mat_solve.specs.declared.query.Query.{Query}
 use Rattle.mat_top.specs.CommandLines.{Task, about, sample, batch, convert, solve, check, by_workers, ◌>>=◌, query_for, query_of_trees, kind_in}
 use Rattle.mat_top.specs.CommandLines.{number_up_to, request_for, with_number, sample_for, task_for}
 use Rattle.mat_top.specs.CommandLines.{takes_workers, begins_with_option, command_line, asked_by}

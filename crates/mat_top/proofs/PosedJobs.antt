@@ -17,7 +17,7 @@ use Rattle.mat_top.specs.CommandLines.{solve}
 use Rattle.mat_top.specs.Outcomes.{IsFaulty, IsDescribed, IsBytesOutcome, MayBeSolved}
 use Rattle.mat_desc.specs.Limits.{description_limit}
 use Rattle.mat_top.specs.PosedJobs.{IsPosed, ArePosed, IsPosable, IsOfOtherForm, IsUnposed, AreUnposed, IsPosing}
-use Rattle.mat_top.specs.Queries.{has_form}
+use Rattle.mat_solve.specs.Queries.{has_form}
 use Rattle.mat_top.specs.Refusals.{IsJobProblem}
 use Rattle.mat_top.specs.Views.{job_of}
 use Rattle.mat_top.proofs.Told.{if_told, rose_before}

@@ -6,8 +6,8 @@ use Rattle.mat_sets.specs.Limits.{most_elements}
 use Rattle.mat_words.specs.Numbers.{number_in}
 use Rattle.mat_gen.specs.declared.kind.SampleKind.{SampleKind}
 use Rattle.mat_gen.specs.declared.kind.SampleKind.TheVariants.{Pair, List as ListKind, Graph, Rooted, Table}
-use Rattle.mat_top.specs.declared.query.Query.{Query}
-use Rattle.mat_top.specs.declared.query.Query.TheVariants.{Best, Intersect, Union, Pack, Cover, Trees, Arborescence, Disjoint, Rainbow, Assign}
+use Rattle.mat_solve.specs.declared.query.Query.{Query}
+use Rattle.mat_solve.specs.declared.query.Query.TheVariants.{Best, Intersect, Union, Pack, Cover, Trees, Arborescence, Disjoint, Rainbow, Assign}
 
 -- what is asked about the problem that a file describes
 pub data Request : Type 0 where

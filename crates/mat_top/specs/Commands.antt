@@ -6,8 +6,7 @@ use Rattle.mat_top.specs.declared.command.Command.{Command}
 use Rattle.mat_top.specs.declared.command.Command.TheVariants.{About, Sample, Batch, Convert}
 use Rattle.mat_top.specs.declared.command.Request as declared
 use Rattle.mat_top.specs.declared.command.Request.TheVariants.{Show, Solve, Cuts, Check, Witness, Verify}
-use Rattle.mat_top.specs.declared.query.Query.{Query}
-use Rattle.mat_top.specs.declared.query.Query.TheVariants.{Best, Intersect, Union, Pack, Cover, Trees, Arborescence, Disjoint, Rainbow, Assign}
+use Rattle.mat_solve.specs.Queries.{IsQueryInRange, IsQueryInRange-prop}
 use Rattle.mat_top.specs.CommandLines.{Request, show, solve, cuts, check, witness, verify, Task, about, sample, batch, convert}
 
 -- what is asked about a problem
@@ -26,12 +25,6 @@ task_of (Sample kind size seed) = sample kind size seed
 task_of (Batch list) = batch list.now
 task_of (Convert file) = convert file.now
 
--- a number of trees that is asked for is from 1 to 64
-abbrev pub IsQueryInRange : Query → Type 0
-IsQueryInRange (Trees k) = (1 ≤ k) × (k ≤ 64)
-IsQueryInRange (Disjoint k) = (1 ≤ k) × (k ≤ 64)
-IsQueryInRange query = Unit {0}
-
 -- a number of trees that a request asks for is in range
 abbrev pub IsRequestInRange : Request → Type 0
 IsRequestInRange (solve query) = IsQueryInRange query
@@ -49,19 +42,6 @@ IsTaskInRange (batch list) = Unit {0}
 IsTaskInRange (convert file) = Unit {0}
 
 -- ---- each has at most one proof
-
--- that the number of trees that a query asks for is in range
-pub IsQueryInRange-prop : (query : Query) → IsProp (IsQueryInRange query)
-IsQueryInRange-prop Best = Unit-prop
-IsQueryInRange-prop Intersect = Unit-prop
-IsQueryInRange-prop Union = Unit-prop
-IsQueryInRange-prop Pack = Unit-prop
-IsQueryInRange-prop Cover = Unit-prop
-IsQueryInRange-prop (Trees k) = ×_prop le_prop le_prop
-IsQueryInRange-prop Arborescence = Unit-prop
-IsQueryInRange-prop (Disjoint k) = ×_prop le_prop le_prop
-IsQueryInRange-prop Rainbow = Unit-prop
-IsQueryInRange-prop Assign = Unit-prop
 
 -- that the numbers of a request are
 pub IsRequestInRange-prop : (request : Request) → IsProp (IsRequestInRange request)

@@ -4,7 +4,7 @@ use Rattle.std.specs.Prelude.{Option, Some, None, Result, Ok, Err}
 use Rattle.mat_words.specs.Cursors.{WordsLeft, LinesLeft}
 use Rattle.mat_words.specs.Lines.{lines_of}
 use Rattle.mat_words.specs.Reading.{Fault, line_at, is_closed}
-use Rattle.mat_top.specs.declared.query.Query.{Query}
+use Rattle.mat_solve.specs.declared.query.Query.{Query}
 use Rattle.mat_top.specs.CommandLines.{Task, about, solve, task_for, begins_with_option, ◌>>=◌}
 
 -- a job: a query about the problem that the file of this name describes

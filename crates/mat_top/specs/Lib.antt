@@ -1,9 +1,7 @@
 pub mod CommandLines
 pub mod Commands
 pub mod Views
-pub mod Queries
 pub mod Statuses
-pub mod Answers
 pub mod CutTexts
 pub mod JobLists
 pub mod JobLines
@@ -13,6 +11,5 @@ pub mod Certified
 pub mod Witnessing
 pub mod Outcomes
 pub mod WholeFiles
-pub mod PricedRungs
 pub mod Refusals
 pub mod PosedJobs

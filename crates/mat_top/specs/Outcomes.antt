@@ -29,9 +29,9 @@ use Rattle.mat_top.specs.Certified.{IsCertified, IsFaultyCertificate}
 use Rattle.mat_top.specs.Witnessing.{fits_rung, IsFaultyWitness, IsNotShowing, IsRungAnswer, IsShowing}
 use Rattle.mat_top.specs.CutTexts.{HasPayableCosts, IsCutsText}
 use Rattle.mat_top.specs.JobLists.{Job, jobs_of}
-use Rattle.mat_top.specs.Queries.{has_form}
-use Rattle.mat_top.specs.declared.query.Query.{Query}
-use Rattle.mat_top.specs.Answers.{IsSolutionText}
+use Rattle.mat_solve.specs.Queries.{has_form}
+use Rattle.mat_solve.specs.declared.query.Query.{Query}
+use Rattle.mat_solve.specs.Answers.{IsSolutionText}
 use Rattle.mat_top.specs.Summaries.{IsSummary}
 
 -- ---- the description

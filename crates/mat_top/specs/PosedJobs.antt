@@ -9,11 +9,10 @@ use Rattle.mat_desc.specs.Views.{instance_of}
 use Rattle.mat_top.specs.declared.posed.PosedJob.{PosedJob}
 use Rattle.mat_top.specs.declared.status.Refusal.{Refusal}
 use Rattle.mat_top.specs.declared.status.Refusal.TheVariants as refusals
-use Rattle.mat_top.specs.Commands.{IsQueryInRange}
 use Rattle.mat_top.specs.JobLists.{Job}
 use Rattle.mat_desc.specs.Limits.{description_limit}
 use Rattle.mat_top.specs.Outcomes.{IsDescribed, IsMislisted, MayBeSolved}
-use Rattle.mat_top.specs.Queries.{has_form}
+use Rattle.mat_solve.specs.Queries.{has_form, IsQueryInRange}
 use Rattle.mat_top.specs.Refusals.{IsUndescribed, IsJobProblem, HasSolutionText}
 
 -- the list is not read, or is none: with what its file holds, and the count of its faults before and after

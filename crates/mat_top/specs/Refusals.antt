@@ -16,9 +16,9 @@ use Rattle.mat_top.specs.Statuses.{status_of}
 use Rattle.mat_top.specs.CommandLines.{Request, show, solve, cuts, check, witness, verify, Task}
 use Rattle.mat_top.specs.CutTexts.{HasPayableCosts}
 use Rattle.mat_top.specs.JobLists.{Job}
-use Rattle.mat_top.specs.Queries.{has_form}
-use Rattle.mat_top.specs.declared.query.Query.{Query}
-use Rattle.mat_top.specs.Answers.{IsSolutionText}
+use Rattle.mat_solve.specs.Queries.{has_form}
+use Rattle.mat_solve.specs.declared.query.Query.{Query}
+use Rattle.mat_solve.specs.Answers.{IsSolutionText}
 use Rattle.mat_desc.specs.Limits.{description_limit}
 use Rattle.mat_top.specs.Outcomes.{HasForm, IsFaulty, IsDescribed, IsMislisted}
 use Rattle.mat_top.specs.Certified.{IsFaultyCertificate}

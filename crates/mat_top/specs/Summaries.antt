@@ -11,10 +11,10 @@ use Rattle.mat_cert.specs.declared.answer.PricedRung.{PricedRung}
 use Rattle.mat_gen.specs.Samples.{sample_of}
 use Rattle.mat_gen.specs.declared.kind.SampleKind.{SampleKind}
 use Rattle.mat_gen.specs.declared.kind.SampleKind.TheVariants as kinds
-use Rattle.mat_top.specs.Answers.{IsSolution}
-use Rattle.mat_top.specs.Queries.{IsAnswerOf}
-use Rattle.mat_top.specs.declared.query.Query.{Query}
-use Rattle.mat_top.specs.declared.query.Query.TheVariants.{Intersect, Union, Trees, Arborescence, Assign}
+use Rattle.mat_solve.specs.Answers.{IsSolution}
+use Rattle.mat_solve.specs.Queries.{IsAnswerOf}
+use Rattle.mat_solve.specs.declared.query.Query.{Query}
+use Rattle.mat_solve.specs.declared.query.Query.TheVariants.{Intersect, Union, Trees, Arborescence, Assign}
 
 -- the word that names a kind of sample
 abbrev pub kind_word : SampleKind → List ℕ

@@ -5,23 +5,21 @@ ghost use Rattle.mat_desc.specs.Grammar.{IsValid};
 ghost use Rattle.mat_desc.specs.Soundness.{IsSoundInstance};
 ghost use Rattle.mat_desc.specs.Views.{instance_of};
 ghost use Rattle.mat_top.specs.CommandLines.{about};
-ghost use Rattle.mat_top.specs.Commands.{request_of, IsQueryInRange, IsRequestInRange};
+ghost use Rattle.mat_top.specs.Commands.{request_of, IsRequestInRange};
 ghost use Rattle.mat_top.specs.Outcomes.{IsDescribed, yes_text};
-ghost use Rattle.mat_top.specs.Queries.{has_form};
+ghost use Rattle.mat_solve.specs.Queries.{has_form, IsQueryInRange};
 ghost use Rattle.mat_top.specs.Refusals.{IsUndescribed, HasText, HasNoText, HasSolutionText, MayBeWritten, IsRefusal};
 
 use crate::command::Request;
 use crate::cuts_text::cuts_text;
-use crate::forms::has_form;
 use crate::judge::judge;
-use crate::query::Query;
 use crate::reading::read_all;
-use crate::solve::solve;
 use crate::status::Refusal;
 use crate::witnessing::{verify_in, witness_text};
 use mat_cert::write_answer;
 use mat_desc::{Problem, read_problem, write_problem};
 use mat_shelf::Shelf;
+use mat_solve::{Query, has_form, solve};
 use std::alloc::{AllocError, Global};
 use std::thread::Threads;
 

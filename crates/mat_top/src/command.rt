@@ -3,8 +3,8 @@
 ghost use Rattle.std.specs.Prelude.{◌≤◌};
 ghost use Rattle.mat_top.specs.Commands.{task_of, IsTaskInRange, IsTaskInRange-prop};
 
-use crate::query::Query;
 use mat_gen::SampleKind;
+use mat_solve::Query;
 
 /// What is asked about the problem that a file describes.
 #[derive(Clone, Copy)]

@@ -1,15 +1,16 @@
 //! The words of a command line.
 
 ghost use Rattle.std.specs.Prelude.{◌≡◌, ◌≤◌, map, string_bytes, option_map, IfSome};
+ghost use Rattle.mat_solve.specs.Queries.{IsQueryInRange};
 ghost use Rattle.mat_top.specs.CommandLines.{query_for, request_for, query_of_trees, number_from, number_up_to, rung_number, kind_in};
 ghost use Rattle.mat_top.specs.CommandLines.{with_file, with_number, with_two, sample_for, witness_of, with_three, with_four, task_for};
 ghost use Rattle.mat_top.specs.CommandLines.{begins_with_option, takes_workers, with_option, without_option, command_line};
-ghost use Rattle.mat_top.specs.Commands.{task_of, request_of, IsQueryInRange, IsRequestInRange, IsTaskInRange};
+ghost use Rattle.mat_top.specs.Commands.{task_of, request_of, IsRequestInRange, IsTaskInRange};
 ghost use Rattle.mat_top.specs.Views.{line_of};
 
 use crate::command::{Command, CommandLine, Request};
-use crate::query::Query;
 use mat_gen::SampleKind;
+use mat_solve::Query;
 use mat_words::read_number;
 
 // The most trees that a command asks for.

@@ -1,8 +1,8 @@
 //! A job of a list.
 
-ghost use Rattle.mat_top.specs.Commands.{IsQueryInRange, IsQueryInRange-prop};
+ghost use Rattle.mat_solve.specs.Queries.{IsQueryInRange, IsQueryInRange-prop};
 
-use crate::query::Query;
+use mat_solve::Query;
 
 /// A query about the problem that a file describes.
 #[derive(Drop)]

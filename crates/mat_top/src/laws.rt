@@ -6,12 +6,12 @@ ghost use Rattle.mat_words.specs.Numbers.{numeral};
 ghost use Rattle.mat_desc.specs.Grammar.{IsValid};
 ghost use Rattle.mat_desc.specs.Instances.{Instance};
 ghost use Rattle.mat_cert.specs.Certificates.{Certificate, certificate_text};
-ghost use Rattle.mat_top.specs.Answers.{IsSolution, IsSolutionText};
+ghost use Rattle.mat_solve.specs.Answers.{IsSolution, IsSolutionText};
 ghost use Rattle.mat_top.specs.CommandLines.{about, check, by_workers, begins_with_option, command_line, asked_by};
 ghost use Rattle.mat_top.specs.Outcomes.{IsCertificateOutcome, IsDescribed, IsOutcome};
 
-use crate::query::Query;
 use crate::status::Status;
+use mat_solve::Query;
 
 /// What holds of every solution. The text of one to a problem in range, which is what is printed, has less than 24,000,000 bytes. The
 /// text of each is accepted; so, where a file has it, `check` over the same description says yes.

@@ -1,7 +1,7 @@
 //! Queries about problems.
 
-use crate::query::Query;
 use mat_desc::Problem;
+use mat_solve::Query;
 
 /// A query about a problem.
 #[derive(Drop)]

@@ -5,11 +5,11 @@ ghost use Rattle.mat_top.specs.PosedJobs.{IsPosed, ArePosed, IsPosable, IsUnpose
 ghost use Rattle.mat_top.specs.Views.{job_of};
 
 use crate::about::problem_in;
-use crate::forms::has_form;
 use crate::job::Job;
 use crate::posed::PosedJob;
 use crate::status::Refusal;
 use mat_shelf::Shelf;
+use mat_solve::has_form;
 use std::alloc::Global;
 
 // The job with the problem that its file describes, which is read. What refuses the file comes first, and `WrongShape` where the form

@@ -6,18 +6,17 @@ ghost use Rattle.mat_desc.specs.Soundness.{IsSoundInstance};
 ghost use Rattle.mat_desc.specs.Views.{instance_of};
 ghost use Rattle.mat_cert.specs.Views.{certificate_of};
 ghost use Rattle.mat_gen.specs.Samples.{sample_of};
-ghost use Rattle.mat_top.specs.Answers.{IsSolution};
-ghost use Rattle.mat_top.specs.Commands.{IsQueryInRange, IsSampleInRange};
-ghost use Rattle.mat_top.specs.Queries.{has_form, IsAnswerOf};
+ghost use Rattle.mat_solve.specs.Answers.{IsSolution};
+ghost use Rattle.mat_top.specs.Commands.{IsSampleInRange};
+ghost use Rattle.mat_solve.specs.Queries.{has_form, IsAnswerOf, IsQueryInRange};
 ghost use Rattle.mat_top.specs.Summaries.{query_of_kind, IsSummary};
 
-use crate::query::Query;
-use crate::solve::solve;
 use crate::summary::summary_text;
 use mat_cert::Answer;
 use mat_check::{Verdict, check};
 use mat_desc::Problem;
 use mat_gen::{SampleKind, sample};
+use mat_solve::{Query, solve};
 use std::alloc::{AllocError, Global};
 use std::thread::Threads;
 

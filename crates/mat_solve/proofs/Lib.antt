@@ -1,0 +1,10 @@
+pub mod SetWeights
+pub mod PricedLadder
+pub mod PlainLadder
+pub mod FrontSolutions
+pub mod TreeSolutions
+pub mod UnionSolutions
+pub mod PackSolutions
+pub mod GraphSolutions
+pub mod PrintedSolutions
+pub mod QueryAnswers

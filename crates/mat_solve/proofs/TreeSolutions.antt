@@ -1,0 +1,81 @@
+-- Arborescences and disjoint arborescences as answers: their sets are sets of arcs or of vertices, and so in range.
+use Rattle.std.proofs.Common.{◌≡◌, ℕ, ◌≤◌, List, length, get_or, refl, arith}
+use Rattle.mat_sets.specs.Limits.{most_elements, largest_number}
+use Rattle.mat_sets.specs.Graphs.{ends_of, IsUnentered}
+use Rattle.mat_sets.specs.Sets.{IsSet, AllBelow}
+use Rattle.mat_sets.specs.Weights.{weight, AreWeightsWithin}
+use Rattle.mat_sets.specs.declared.weight.Weight.{Weight}
+use Rattle.mat_sets.proofs.Ground.{IsSet-length}
+use Rattle.mat_laws.specs.Ladders.{split_bound}
+use Rattle.mat_arbor.specs.Arborescences.{IsSplitArborescence}
+use Rattle.mat_branch.specs.Arborescences.{AreDisjointArborescences, IsSeldomEntered}
+use Rattle.mat_desc.specs.Grammar.{IsValid}
+use Rattle.mat_desc.specs.Instances.{rooted}
+use Rattle.mat_cert.specs.Certificates.{arbor, unreached, disjoint, disjoint_none, IsRangedPart}
+use Rattle.mat_solve.specs.Answers.{IsSolution}
+use Rattle.mat_solve.proofs.PricedLadder.{split_bound-less}
+use Rattle.mat_solve.proofs.SetWeights.{set_in_range, weight_within_more}
+
+-- ---- arborescences
+
+-- a part of a split within the bound is in range
+ranged_part : (n : ℕ) (part : List Weight) → n ≤ most_elements → length part ≡ n → AreWeightsWithin (split_bound n) part → IsRangedPart n part
+ranged_part n part few size bounded = record {
+  size = size;
+  weights = λ e d lt. weight_within_more (split_bound n) largest_number (get_or part e d) (split_bound-less n few) (bounded e d lt);
+}
+
+module _ (vertices root : ℕ) (arcs : List (ℕ × ℕ)) (costs : List Weight) (valid : IsValid (rooted vertices root arcs costs)) where
+  -- the arcs of an arborescence have costs, and are few
+  pub arbor_few : (tree : List ℕ) → IsSet (length arcs) tree → AllBelow (length costs) tree × (length tree ≤ most_elements)
+  arbor_few tree set = (rw valid.4 set.below, omega (arith, valid.3.0, IsSet-length (length arcs) tree set))
+
+  -- a least arborescence with its split and its cost
+  pub arbor_solution : (tree : List ℕ) (first second : List Weight) → IsSplitArborescence vertices arcs costs root tree first second
+      → AreWeightsWithin (split_bound (length arcs)) first → AreWeightsWithin (split_bound (length arcs)) second
+      → IsSolution (rooted vertices root arcs costs) (arbor (length arcs) (weight costs tree) tree first second)
+  arbor_solution tree first second split first_bounded second_bounded = record {
+    ranged = record {
+      few = valid.3.0;
+      cost_in_range = set_in_range costs tree valid.5 (arbor_few tree split.spanning.set).1;
+      arcs_in_range = split.spanning.set;
+      first_in_range = ranged_part (length arcs) first valid.3.0 split.first_length first_bounded;
+      second_in_range = ranged_part (length arcs) second valid.3.0 split.second_length second_bounded;
+    };
+    right = (refl, refl, split);
+    bounded = (first_bounded, second_bounded);
+  }
+
+  -- a set of vertices that no arc enters
+  pub unreached_solution : (set : List ℕ) → IsUnentered vertices arcs root set
+      → IsSolution (rooted vertices root arcs costs) (unreached (length arcs) vertices set)
+  unreached_solution set none = record {
+    ranged = record { few = valid.3.0; vertices_in_range = record { some = valid.0; few = valid.1 }; set_in_range = none.root_free.set };
+    right = (refl, refl, none);
+    bounded = tt;
+  }
+
+  -- disjoint arborescences, whatever the arcs cost
+  pub disjoint_solution : (k : ℕ) (trees : List (List ℕ)) → 1 ≤ k → k ≤ 64
+      → AreDisjointArborescences vertices (length arcs) (ends_of arcs) root k trees
+      → IsSolution (rooted vertices root arcs costs) (disjoint (length arcs) trees)
+  disjoint_solution k trees some few are = record {
+    ranged = record {
+      few = valid.3.0;
+      sets_in_range = record { enough = omega (arith, are.many); no_more = omega (arith, are.many); each = λ i d lt. (are.each i d lt).set };
+    };
+    right = (refl, record { many = refl; each = are.each; disjoint = are.disjoint });
+    bounded = tt;
+  }
+
+  -- a vertex set that too few arcs enter
+  pub seldom_solution : (k : ℕ) (set : List ℕ) → 1 ≤ k → k ≤ 64 → IsSeldomEntered vertices (length arcs) (ends_of arcs) root k set
+      → IsSolution (rooted vertices root arcs costs) (disjoint_none (length arcs) k vertices set)
+  seldom_solution k set some few seldom = record {
+    ranged = (
+      record { few = valid.3.0; some_trees = some; few_trees = few; vertices_in_range = record { some = valid.0; few = valid.1 } },
+      seldom.root_free.set,
+    );
+    right = (refl, refl, seldom);
+    bounded = tt;
+  }

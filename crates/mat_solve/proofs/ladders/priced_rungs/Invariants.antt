@@ -1,0 +1,6 @@
+use Rattle.std.proofs.Common.{◌≡◌, map}
+use Rattle.mat_solve.specs.PricedRungs.{priced_rung}
+use Rattle.mat_solve.proofs.ladders.priced_rungs.Given as goal
+
+abbrev pub invariant-loop-rung : goal.invariant-loop-rung
+invariant-loop-rung l = l.all.items ≡ map (priced_rung l.weights) l.yielded

@@ -1,0 +1,6 @@
+use Rattle.std.proofs.Common.{◌≡◌, map}
+use Rattle.mat_check.specs.Right.{level_of}
+use Rattle.mat_solve.proofs.sets.level_lines.Given as goal
+
+abbrev pub invariant-loop-level : goal.invariant-loop-level
+invariant-loop-level l = map level_of l.lines.items ≡ l.yielded

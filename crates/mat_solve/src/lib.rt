@@ -1,0 +1,14 @@
+//! Answering queries about problems: each query is answered by its solver, and what is found becomes an answer as certificates have it. No
+//! file is in sight here.
+#![tactic(auto)]
+
+mod forms;
+mod ladders;
+mod query;
+mod sets;
+mod solver;
+mod trees;
+
+pub use forms::has_form;
+pub use query::Query;
+pub use solver::solve;

@@ -1,0 +1,72 @@
+//! The answers to queries.
+
+ghost use Rattle.std.specs.Prelude.{◌≡◌, ◌≤◌, true, IfOk};
+ghost use Rattle.mat_cert.specs.Views.{certificate_of};
+ghost use Rattle.mat_desc.specs.Grammar.{IsValid};
+ghost use Rattle.mat_desc.specs.Soundness.{IsSoundInstance};
+ghost use Rattle.mat_desc.specs.Views.{instance_of};
+ghost use Rattle.mat_solve.specs.Answers.{IsSolution};
+ghost use Rattle.mat_solve.specs.Queries.{has_form, IsAnswerOf, IsQueryInRange};
+
+use crate::ladders::{assign, best, intersect, rainbow};
+use crate::query::Query;
+use crate::sets::{cover, pack, union};
+use crate::trees::{arborescence, disjoint, trees};
+use mat_any::has_union;
+use mat_cert::Answer;
+use mat_desc::Problem;
+use std::alloc::{AllocError, Global};
+use std::thread::Threads;
+
+/// A right answer to the query about a problem of its form, found by so many workers. The only error is want of memory.
+pub fn solve<R: Threads + Sync>(
+    rt: &R,
+    alloc: Global,
+    problem: &Problem,
+    query: Query,
+    workers: u32,
+) -> Result<Answer, AllocError>
+    requires valid { IsValid (instance_of problem.now) }
+    requires sound { IsSoundInstance (instance_of problem.now) }
+    requires range { IsQueryInRange query }
+    requires form { has_form query (instance_of problem.now) ≡ true }
+    requires workers { (1 ≤ workers) × (workers ≤ 16) }
+    ensures of_query { IfOk result (λ answer. IsAnswerOf query (certificate_of answer)) }
+    ensures solution { IfOk result (λ answer. IsSolution (instance_of problem.now) (certificate_of answer)) }
+{
+    match query {
+        Query::Best => best(alloc, problem),
+        Query::Intersect => intersect(rt, alloc, problem, worthwhile_workers(problem, workers)),
+        Query::Union => union(alloc, problem),
+        Query::Pack => pack(alloc, problem),
+        Query::Cover => cover(alloc, problem),
+        Query::Trees(k) => trees(alloc, problem, k),
+        Query::Arborescence => arborescence(
+            rt,
+            alloc,
+            problem,
+            worthwhile_workers(problem, workers),
+        ),
+        Query::Disjoint(k) => disjoint(alloc, problem, k),
+        Query::Rainbow => rainbow(rt, alloc, problem, worthwhile_workers(problem, workers)),
+        Query::Assign => assign(rt, alloc, problem, worthwhile_workers(problem, workers)),
+    }
+}
+
+/// How many of the workers pay where a solver makes rows of the problem's matroids: all where a union stands within one of a pair, since each
+/// row takes a search then, and else one, since a row takes less time than a thread takes to start.
+fn worthwhile_workers(problem: &Problem, workers: u32) -> u32
+    requires { (1 ≤ workers) × (workers ≤ 16) }
+    ensures { (1 ≤ result) × (result ≤ 16) }
+{
+    match problem {
+        Problem::Pair { first, second, .. } => {
+            if has_union(first) || has_union(second) {
+                workers
+            } else {
+                1
+            }
+        }
+        _ => 1,
+    }
+}
