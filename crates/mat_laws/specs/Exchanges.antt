@@ -33,7 +33,7 @@ row_of independent I x =
 abbrev pub rows_of : ℕ → (List ℕ → Bool) → List ℕ → List Exchange
 rows_of n independent I = map (row_of independent I) (all_below n)
 
--- the members of I that stand in the fundamental circuit of an element outside I, by its exchanges at I: those for which it can be exchanged;
--- none where it can be added (Oxley, section 1.2)
+-- the members of I that stand in the fundamental circuit of an element outside I, by its exchanges at I: those for which it can be exchanged,
+-- the empty list for a loop; None where it can be added (Oxley, Proposition 1.1.6; section 1.2 for a base)
 abbrev pub circuit_members : Exchange → Option (List ℕ)
 circuit_members e = if e.addable then None else Some e.with

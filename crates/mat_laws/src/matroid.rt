@@ -219,9 +219,10 @@ pub trait Matroid: Sync + Drop {
         Ok(row.addable)
     }
 
-    /// The members of the fundamental circuit of an element x outside an independent set of which something is kept, and None where x can be
-    /// added (Oxley, section 1.2). This body makes no row for what can be added where `adds` makes none; a kind whose `adds` makes the row
-    /// has a body that makes it once. The only error is want of memory.
+    /// The members of an independent set, of which something is kept, that stand in the fundamental circuit of an element x outside it: all of
+    /// the circuit but x, none for a loop; None where x can be added (Oxley, Proposition 1.1.6; section 1.2 for a base). This body makes no row
+    /// for what can be added where `adds` makes none; a kind whose `adds` makes the row has a body that makes it once. The only error is want of
+    /// memory.
     fn circuit_members(
         &self,
         alloc: Global,
