@@ -3,22 +3,22 @@ use Rattle.std.proofs.Common.{◌≡◌, ℕ, suc, ◌+◌, List, [], ◌∷◌,
 use Rattle.std.specs.Global.{Vec}
 use Rattle.std.specs.Prelude.{slice_get}
 use Rattle.mat_work.specs.Rows.{StandFrom}
-use Rattle.mat_top.specs.declared.posed.PosedJob.{PosedJob}
-use Rattle.mat_top.specs.PosedJobs.{IsTextAt, HaveTexts}
+use Rattle.mat_top.specs.declared.loaded_job.LoadedJob.{LoadedJob}
+use Rattle.mat_top.specs.LoadedJobs.{IsTextAt, HaveTexts}
 
-texts_from : (all : List PosedJob) (from : ℕ) (jobs : List PosedJob) (rows : List (Vec ℕ))
-    → ((i : ℕ) (posed : PosedJob) → slice_get jobs i ≡ Some posed → slice_get all (from + i) ≡ Some posed) → length rows ≡ length jobs
+texts_from : (all : List LoadedJob) (from : ℕ) (jobs : List LoadedJob) (rows : List (Vec ℕ))
+    → ((i : ℕ) (loaded : LoadedJob) → slice_get jobs i ≡ Some loaded → slice_get all (from + i) ≡ Some loaded) → length rows ≡ length jobs
     → StandFrom (IsTextAt all) from rows → HaveTexts jobs rows
 texts_from all from [] [] place count stand = tt
 texts_from all from [] (row ∷ rows) place count stand = absurd (omega arith)
-texts_from all from (posed ∷ others) [] place count stand = absurd (omega arith)
-texts_from all from (posed ∷ others) (row ∷ rows) place count stand = (
-  stand.0 posed (subst (λ n. slice_get all n ≡ Some posed) (omega arith) (place 0 posed refl)),
+texts_from all from (loaded ∷ others) [] place count stand = absurd (omega arith)
+texts_from all from (loaded ∷ others) (row ∷ rows) place count stand = (
+  stand.0 loaded (subst (λ n. slice_get all n ≡ Some loaded) (omega arith) (place 0 loaded refl)),
   texts_from all (from + 1) others rows
       (λ i other is. subst (λ n. slice_get all n ≡ Some other) (omega arith) (place (suc i) other is)) (omega arith) stand.1,
 )
 
-pub texts_of_rows : (jobs : List PosedJob) (rows : List (Vec ℕ)) → length rows ≡ length jobs → StandFrom (IsTextAt jobs) 0 rows
+pub texts_of_rows : (jobs : List LoadedJob) (rows : List (Vec ℕ)) → length rows ≡ length jobs → StandFrom (IsTextAt jobs) 0 rows
     → HaveTexts jobs rows
 texts_of_rows jobs rows count stand =
-    texts_from jobs 0 jobs rows (λ i posed is. subst (λ n. slice_get jobs n ≡ Some posed) (omega arith) is) count stand
+    texts_from jobs 0 jobs rows (λ i loaded is. subst (λ n. slice_get jobs n ≡ Some loaded) (omega arith) is) count stand

@@ -1,19 +1,13 @@
-pub mod Told
-pub mod Unwitnessed
-pub mod RungAnswers
-pub mod WitnessRefusals
-pub mod NoCommands
+mod Unwitnessed
+mod RungAnswers
+mod WitnessRefusals
 pub mod Refusing
-pub mod Judging
 pub mod Ending
-pub mod Pieces
-pub mod Accepted
-pub mod Options
-pub mod JobReading
-pub mod PayableCosts
-pub mod PosedJobs
-pub mod JobTexts
-pub mod Batches
+mod Accepted
+mod PayableCosts
+mod LoadedJobs
+mod JobTexts
+mod Batches
 mod SummaryTotals
 mod SummaryRanges
 mod SummaryLines

@@ -1,73 +1,42 @@
 -- What is found of a problem and of a certificate is the outcome of a request about the problem in a file, where the shelf tells its files.
-use Rattle.std.proofs.Common.{◌≡◌, ◌⊎◌, ℕ, ◌≤◌, List, Option, Some, None, Result, Ok, Err, true, refl, inl, inr, sym, subst}
+use Rattle.std.proofs.Common.{◌≡◌, ◌⊎◌, ℕ, ◌<◌, ◌≤◌, List, length, Option, Some, None, Result, Ok, Err, true, refl, inl, inr, subst}
+use Rattle.std.proofs.lemmas.Bool.{and_parts}
 use Rattle.std.specs.Prelude.{IfSome, IsSome, IsSomeAnd, IfOk, IfErr}
 use Rattle.mat_desc.specs.Instances.{Instance, pair, list, graph, rooted, coloured, table}
 use Rattle.mat_cert.specs.Certificates.{Certificate}
-use Rattle.mat_check.specs.Fitting.{is_rooted}
-use Rattle.mat_top.specs.declared.status.Status.{Status}
-use Rattle.mat_top.specs.declared.status.Status.TheVariants as statuses
-use Rattle.mat_top.specs.declared.status.Refusal.{Refusal}
-use Rattle.mat_top.specs.declared.status.Refusal.TheVariants as refusals
-use Rattle.mat_top.specs.CommandLines.{Request, show, solve, cuts, check, witness, verify, about}
+use Rattle.mat_cert.specs.Limits.{certificate_limit}
+use Rattle.mat_cert.specs.declared.refusal.CertKind.{CertKind}
+use Rattle.mat_check.specs.Fitting.{fits, is_rooted}
+use Rattle.mat_witness.specs.Kinds.{has_rung, is_witnessed_pair}
+use Rattle.mat_command.specs.CommandLines.{Request, show, solve, cuts, check, witness, verify, about}
+use Rattle.mat_judge.specs.Certified.{IsFaultyCertificate, IsNotRight, IsUncertified}
+use Rattle.mat_judge.specs.Described.{IsDescribed}
+use Rattle.mat_judge.specs.Statuses.{refusal_of_not_right, refusal_of_uncertified}
+use Rattle.mat_judge.specs.declared.certified.NotRight.{NotRight}
+use Rattle.mat_judge.specs.declared.certified.NotRight.TheVariants as not_right
+use Rattle.mat_judge.specs.declared.certified.Uncertified.{Uncertified}
+use Rattle.mat_judge.specs.declared.certified.Uncertified.TheVariants as uncertified
+use Rattle.mat_judge.specs.declared.reading.Unread.TheVariants as unread
+use Rattle.mat_judge.specs.declared.refusal.Denial.TheVariants as denials
+use Rattle.mat_judge.specs.declared.refusal.Refusal.{Refusal}
+use Rattle.mat_judge.specs.declared.status.Status.{Status}
+use Rattle.mat_judge.specs.declared.status.Status.TheVariants as statuses
+use Rattle.mat_judge.proofs.Told.{told, told_both, if_told}
 use Rattle.mat_top.specs.CutTexts.{IsCutsText}
-use Rattle.mat_top.specs.Outcomes.{IsDescribed, IsProblemOutcome, IsBytesOutcome, IsCertificateOutcome, IsRungOutcome, IsWitnessOutcome}
+use Rattle.mat_top.specs.Outcomes.{IsProblemOutcome, IsBytesOutcome, IsCertificateOutcome, IsRungOutcome, IsWitnessOutcome}
 use Rattle.mat_top.specs.Outcomes.{IsVerifyOutcome, IsWitnessFound}
+use Rattle.mat_top.specs.Outcomes.{CallReaches, Tells, TellsCertificate, IsOutcome, IsTextFor, IsTrueOf}
+use Rattle.mat_top.specs.Refusals.{HasText, HasNoText, IsRefusal, MayBeWritten}
+use Rattle.mat_top.specs.WitnessRefusals.{HasNoRung, HasNoWitness, IsUnshown, IsUnverified}
+use Rattle.mat_top.specs.WitnessRefusals.{refusal_of_no_rung, refusal_of_unshown}
 use Rattle.mat_top.specs.Witnessing.{IsRungAnswer}
-use Rattle.mat_top.specs.Outcomes.{Tells, TellsCertificate, IsOutcome, IsTextFor}
-use Rattle.mat_top.specs.Refusals.{HasText, HasNoText, IsDenial, IsUncertified, IsRefusal, MayBeWritten}
-use Rattle.mat_top.specs.Refusals.{HasNoWitness, IsUnshownFile, IsUnshownText, IsUnverified}
-use Rattle.mat_top.proofs.Told.{of_file, told, told_both, if_told, rose_before}
-use Rattle.mat_top.proofs.Unwitnessed.{no_witness_before, unverified_before}
-
--- ---- the certificate
-
--- why the bytes of a certificate don't let a call say yes, as the reason of its file
-pub denied : (instance : Instance) (held : Option (List ℕ)) (bytes : List ℕ) (before now : ℕ) (refusal : Refusal)
-    → IfSome held (λ all. all ≡ bytes)
-    → IsDenial instance bytes refusal → IsUncertified instance held before now refusal
-denied instance held bytes before now refusals.Memory same denial = tt
-denied instance held bytes before now (refusals.BadCertificate kind number) same denial =
-    of_file held bytes (λ all. IsDenial instance all (refusals.BadCertificate kind number)) same denial
-denied instance held bytes before now refusals.WrongShape same denial =
-    of_file held bytes (λ all. IsDenial instance all refusals.WrongShape) same denial
-denied instance held bytes before now (refusals.No reason first second) same denial =
-    of_file held bytes (λ all. IsDenial instance all (refusals.No reason first second)) same denial
-denied instance held bytes before now (refusals.BadDescription kind number) same denial = absurd denial
-denied instance held bytes before now (refusals.BadList line) same denial = absurd denial
-denied instance held bytes before now refusals.BadCost same denial = absurd denial
-denied instance held bytes before now refusals.Unwitnessed same denial = absurd denial
-denied instance held bytes before now (refusals.BadWitness kind number) same denial = absurd denial
-denied instance held bytes before now (refusals.NotShown part) same denial = absurd denial
-denied instance held bytes before now refusals.Usage same denial = absurd denial
-denied instance held bytes before now refusals.ReadFault same denial = absurd denial
-denied instance held bytes before now refusals.WriteFault same denial = absurd denial
-denied instance held bytes before now refusals.TooLong same denial = absurd denial
-
-pub uncertified : {X : Type 0} (instance : Instance) (held : Option (List ℕ)) (bytes : List ℕ) (before now : ℕ) (found : Result X Refusal)
-    → IfSome held (λ all. all ≡ bytes) → IfErr found (λ e. IsDenial instance bytes e)
-    → IfErr found (λ e. IsUncertified instance held before now e)
-uncertified instance held bytes before now (Ok x) same denial = tt
-uncertified instance held bytes before now (Err refusal) same denial = denied instance held bytes before now refusal same denial
+use Rattle.mat_top.specs.declared.witness_refusals.NoRung.{NoRung}
+use Rattle.mat_top.specs.declared.witness_refusals.NoRung.TheVariants as no_rung
+use Rattle.mat_top.specs.declared.witness_refusals.Unshown.{Unshown}
+use Rattle.mat_top.specs.declared.witness_refusals.Unshown.TheVariants as unshown
+use Rattle.mat_top.proofs.Unwitnessed.{not_right_there, no_witness_there, unverified_there}
 
 -- ---- the shelf before the description was read
-
--- a count that rose rose from a lesser one
-uncertified_before : (instance : Instance) (held : Option (List ℕ)) (earlier before now : ℕ) (refusal : Refusal) → earlier ≤ before
-    → IsUncertified instance held before now refusal → IsUncertified instance held earlier now refusal
-uncertified_before instance held earlier before now refusals.ReadFault le why = rose_before earlier before now le why
-uncertified_before instance held earlier before now refusals.Memory le why = why
-uncertified_before instance held earlier before now refusals.TooLong le why = why
-uncertified_before instance held earlier before now refusals.WrongShape le why = why
-uncertified_before instance held earlier before now refusals.BadCost le why = why
-uncertified_before instance held earlier before now refusals.Unwitnessed le why = why
-uncertified_before instance held earlier before now (refusals.BadWitness kind number) le why = why
-uncertified_before instance held earlier before now (refusals.NotShown part) le why = why
-uncertified_before instance held earlier before now (refusals.BadList line) le why = why
-uncertified_before instance held earlier before now (refusals.BadCertificate kind number) le why = why
-uncertified_before instance held earlier before now (refusals.No reason first second) le why = why
-uncertified_before instance held earlier before now (refusals.BadDescription kind number) le why = why
-uncertified_before instance held earlier before now refusals.Usage le why = why
-uncertified_before instance held earlier before now refusals.WriteFault le why = why
 
 module _ (held after : List ℕ → Option (List ℕ)) (same : (name : List ℕ) → after name ≡ held name) (instance : Instance) where
   -- what is written over the shelf as it was after is written over the shelf before
@@ -97,14 +66,12 @@ module _ (held after : List ℕ → Option (List ℕ)) (same : (name : List ℕ)
   none_before show earlier before now refusal le why = why
   none_before (solve query) earlier before now refusal le why = why
   none_before cuts earlier before now refusal le why = why
-  none_before (check certificate) earlier before now refusal le why =
-      subst (λ o. IsUncertified instance o (earlier certificate) (now certificate) refusal) (same certificate)
-      (uncertified_before instance (after certificate) (earlier certificate) (before certificate) (now certificate) refusal (le certificate) why)
-  none_before (witness k certificate) earlier before now refusal le why =
-      subst (λ o. HasNoWitness instance k o (earlier certificate) (now certificate) refusal) (same certificate)
-      (no_witness_before instance k (after certificate) (earlier certificate) (before certificate) (now certificate) refusal (le certificate) why)
-  none_before (verify k certificate shown) earlier before now refusal le why =
-      unverified_before after held same instance k certificate shown earlier before now refusal le why
+  none_before (check certificate) earlier before now refusal le (why, same_refusal, is) =
+      (why, same_refusal, not_right_there after held same instance earlier before now le certificate why is)
+  none_before (witness k certificate) earlier before now refusal le is =
+      no_witness_there after held same instance earlier before now le k certificate refusal is
+  none_before (verify k certificate shown) earlier before now refusal le is =
+      unverified_there after held same instance earlier before now le k certificate shown refusal is
 
 -- ---- the outcome of the problem that was read
 
@@ -165,32 +132,37 @@ module _ (held : List ℕ → Option (List ℕ)) (file : List ℕ) (instance : I
     outcome = problem_outcome request statuses.Done (λ bytes. done_for request text bytes has.answer);
   }
 
+  -- a file is no certificate, for any request whose outcome it is to be one
+  uncertified_by : (request : Request) (certificate : List ℕ) (before now : List ℕ → ℕ) (why : Uncertified)
+      → IsUncertified (held certificate) (before certificate) (now certificate) why
+      → CallReaches held (Some (about file request)) certificate
+      → (IfSome (held certificate) (λ bytes. certificate_limit < length bytes) → Tells held (Some (about file request))
+      → IsOutcome held (Some (about file request)) statuses.TooLong)
+      → ((kind : CertKind) (number : ℕ) → IfSome (held certificate) (λ bytes. IsFaultyCertificate bytes (kind, number))
+      → (Tells held (Some (about file request)) → IsOutcome held (Some (about file request)) statuses.BadCertificate)
+      × IsTrueOf held (Some (about file request)) (denials.BadCertificate kind number))
+      → IsRefusal held (about file request) before now (refusal_of_uncertified why)
+  uncertified_by request certificate before now (uncertified.Unread unread.Fault) is reaches long faulty = (certificate, reaches, is)
+  uncertified_by request certificate before now (uncertified.Unread unread.TooLong) is reaches long faulty = long is
+  uncertified_by request certificate before now (uncertified.Unread unread.Memory) is reaches long faulty = tt
+  uncertified_by request certificate before now (uncertified.Fault kind number) is reaches long faulty = faulty kind number is
+
   -- the certificate gives no text
-  denied_by : (certificate : List ℕ) (before now : List ℕ → ℕ) (refusal : Refusal)
-      → IsUncertified instance (held certificate) (before certificate) (now certificate) refusal
-      → IsRefusal held (about file (check certificate)) before now refusal
-  denied_by certificate before now refusals.Memory why = tt
-  denied_by certificate before now refusals.ReadFault why =
-      (certificate, inr (refl, if_told (held file) _ _ (λ bytes spelled. (instance, spelled)) described), why)
-  denied_by certificate before now refusals.TooLong why =
-      (certificate_outcome certificate _ statuses.TooLong why (λ all long. long), tt)
-  denied_by certificate before now refusals.WrongShape why =
-      (certificate_outcome certificate _ statuses.WrongShape why (λ all shape. shape), tt)
-  denied_by certificate before now (refusals.BadCertificate kind number) why =
-      (certificate_outcome certificate _ statuses.BadCertificate why (λ all faulty. ((kind, number), faulty)), why)
-  denied_by certificate before now (refusals.No reason first second) why = (
-    certificate_outcome certificate _ statuses.No why (λ all no. no.0),
+  denied_by : (certificate : List ℕ) (before now : List ℕ → ℕ) (why : NotRight)
+      → IsNotRight instance (held certificate) (before certificate) (now certificate) why
+      → IsRefusal held (about file (check certificate)) before now (refusal_of_not_right why)
+  denied_by certificate before now (not_right.Uncertified why) is =
+      uncertified_by (check certificate) certificate before now why is
+      (inr (refl, if_told (held file) _ _ (λ bytes spelled. (instance, spelled)) described))
+      (λ long. certificate_outcome certificate _ statuses.TooLong long (λ all over. over)) (λ kind number faulty.
+      (certificate_outcome certificate _ statuses.BadCertificate faulty (λ all fault. ((kind, number), fault)), faulty))
+  denied_by certificate before now not_right.WrongShape is =
+      (certificate_outcome certificate _ statuses.WrongShape is (λ all misfit. (misfit.answer, misfit.certified, misfit.misfit)), tt)
+  denied_by certificate before now (not_right.No reason first second) is = (
+    certificate_outcome certificate _ statuses.No is (λ all no. (no.answer, no.certified, no.fitting, no.wrong)),
     if_told (held file) _ _ (λ bytes spelled. if_told (held certificate) _ _
-        (λ all no. record { instance = instance; described = spelled; failed = no.1 }) why) described,
+        (λ all no. record { instance = instance; described = spelled; failed = no }) is) described,
   )
-  denied_by certificate before now refusals.BadCost why = absurd why
-  denied_by certificate before now refusals.Unwitnessed why = absurd why
-  denied_by certificate before now (refusals.BadWitness kind number) why = absurd why
-  denied_by certificate before now (refusals.NotShown part) why = absurd why
-  denied_by certificate before now (refusals.BadList line) why = absurd why
-  denied_by certificate before now (refusals.BadDescription kind number) why = absurd why
-  denied_by certificate before now refusals.Usage why = absurd why
-  denied_by certificate before now refusals.WriteFault why = absurd why
 
   -- there is no witness
   witness_outcome : (k : ℕ) (certificate : List ℕ) (P : List ℕ → Type 0) (status : Status) → IfSome (held certificate) P
@@ -200,35 +172,37 @@ module _ (held : List ℕ → Option (List ℕ)) (file : List ℕ) (instance : I
   witness_outcome k certificate P status why outcome =
       problem_outcome (witness k certificate) status (λ bytes spelled tells. told (held certificate) _ _ (tells instance spelled) why outcome)
 
+  no_rung_by : (k : ℕ) (certificate : List ℕ) (before now : List ℕ → ℕ) (why : NoRung)
+      → HasNoRung instance k (held certificate) (before certificate) (now certificate) why
+      → IsRefusal held (about file (witness k certificate)) before now (refusal_of_no_rung why)
+  no_rung_by k certificate before now (no_rung.Uncertified why) is =
+      uncertified_by (witness k certificate) certificate before now why is
+      (inr (refl, if_told (held file) _ _ (λ bytes spelled. (instance, spelled)) described))
+      (λ long. witness_outcome k certificate _ statuses.TooLong long (λ all over. inl over)) (λ kind number faulty.
+      (witness_outcome k certificate _ statuses.BadCertificate faulty (λ all fault. inl ((kind, number), fault)), faulty))
+  no_rung_by k certificate before now no_rung.WrongShape is =
+      (witness_outcome k certificate _ statuses.WrongShape is (λ all shape. inl shape), tt)
+  no_rung_by k certificate before now no_rung.Unwitnessed is =
+      (witness_outcome k certificate _ statuses.Unwitnessed is (λ all kinds. inl kinds), tt)
+
   unwitnessed_by : (k : ℕ) (certificate : List ℕ) (before now : List ℕ → ℕ) (refusal : Refusal)
       → HasNoWitness instance k (held certificate) (before certificate) (now certificate) refusal
       → IsRefusal held (about file (witness k certificate)) before now refusal
-  unwitnessed_by k certificate before now refusals.Memory why = tt
-  unwitnessed_by k certificate before now refusals.ReadFault why =
-      (certificate, inr (refl, if_told (held file) _ _ (λ bytes spelled. (instance, spelled)) described), why)
-  unwitnessed_by k certificate before now refusals.TooLong why =
-      (witness_outcome k certificate _ statuses.TooLong why (λ all long. inl long), tt)
-  unwitnessed_by k certificate before now refusals.WrongShape why =
-      (witness_outcome k certificate _ statuses.WrongShape why (λ all shape. inl shape), tt)
-  unwitnessed_by k certificate before now refusals.Unwitnessed why =
-      (witness_outcome k certificate _ statuses.Unwitnessed why (λ all kinds. inl kinds), tt)
-  unwitnessed_by k certificate before now (refusals.BadCertificate kind number) why =
-      (witness_outcome k certificate _ statuses.BadCertificate why (λ all faulty. inl ((kind, number), faulty)), why)
-  unwitnessed_by k certificate before now (refusals.No reason first second) why = (
-    witness_outcome k certificate _ statuses.No why (λ all no. inr (no.0, no.1, no.2.0)),
+  unwitnessed_by k certificate before now refusal (inl (why, same, is)) = rw same (no_rung_by k certificate before now why is)
+  unwitnessed_by k certificate before now refusal (inr (failure, same, is)) = rw same (
+    witness_outcome k certificate _ statuses.No is (λ all no. inr (no.answer, no.of_rung, no.wrong)),
     if_told (held file) _ _ (λ bytes spelled. if_told (held certificate) _ _ (λ all no. record {
       instance = instance;
       described = spelled;
-      failed = record { answer = no.0; certified = no.1.certified; fails = no.2.1 };
-    }) why) described,
+      failed = record {
+        answer = no.answer;
+        certified = no.of_rung.certified;
+        fitting = (and_parts (fits instance no.answer) (has_rung no.answer k) no.of_rung.fitting).0;
+        wrong = no.wrong;
+        fails = no.fails;
+      };
+    }) is) described,
   )
-  unwitnessed_by k certificate before now (refusals.NotShown part) why = absurd why
-  unwitnessed_by k certificate before now (refusals.BadWitness kind number) why = absurd why
-  unwitnessed_by k certificate before now refusals.BadCost why = absurd why
-  unwitnessed_by k certificate before now (refusals.BadList line) why = absurd why
-  unwitnessed_by k certificate before now (refusals.BadDescription kind number) why = absurd why
-  unwitnessed_by k certificate before now refusals.Usage why = absurd why
-  unwitnessed_by k certificate before now refusals.WriteFault why = absurd why
 
   -- a witness is not verified
   verify_outcome : (k : ℕ) (certificate shown : List ℕ) (P : List ℕ → Type 0) (status : Status) → IfSome (held certificate) P
@@ -240,75 +214,81 @@ module _ (held : List ℕ → Option (List ℕ)) (file : List ℕ) (instance : I
       problem_outcome (verify k certificate shown) status (λ bytes spelled tells.
       told_both (held certificate) _ _ _ (tells instance spelled) why (λ all needs fact. outcome all fact needs))
 
+  unverified_rung : (k : ℕ) (certificate shown : List ℕ) (before now : List ℕ → ℕ) (why : NoRung)
+      → HasNoRung instance k (held certificate) (before certificate) (now certificate) why
+      → IsRefusal held (about file (verify k certificate shown)) before now (refusal_of_no_rung why)
+  unverified_rung k certificate shown before now (no_rung.Uncertified why) is =
+      uncertified_by (verify k certificate shown) certificate before now why is
+      (inr (inl (refl, if_told (held file) _ _ (λ bytes spelled. (instance, spelled)) described)))
+      (λ long. verify_outcome k certificate shown _ statuses.TooLong long (λ all over needs. inl over)) (λ kind number faulty.
+      (verify_outcome k certificate shown _ statuses.BadCertificate faulty (λ all fault needs. inl ((kind, number), fault)), faulty))
+  unverified_rung k certificate shown before now no_rung.WrongShape is =
+      (verify_outcome k certificate shown _ statuses.WrongShape is (λ all shape needs. inl shape), tt)
+  unverified_rung k certificate shown before now no_rung.Unwitnessed is =
+      (verify_outcome k certificate shown _ statuses.Unwitnessed is (λ all kinds needs. inl kinds), tt)
+
   -- the certificate has such an answer, and the witness doesn't show its rung
-  unshown_outcome : (k : ℕ) (certificate shown : List ℕ) (refusal : Refusal) (status : Status)
-      → IsUnshownFile held instance k certificate shown refusal
-      → ((answer : Certificate) (text : List ℕ) → IsUnshownText instance answer k text refusal → IsVerifyOutcome instance answer k text status)
+  unshown_outcome : (k : ℕ) (certificate shown : List ℕ) (answer : Certificate) (P : List ℕ → Type 0) (status : Status)
+      → IfSome (held certificate) (λ bytes. IsRungAnswer instance k bytes answer) → IfSome (held shown) P
+      → ((text : List ℕ) → P text → IsVerifyOutcome instance answer k text status)
       → Tells held (Some (about file (verify k certificate shown))) → IsOutcome held (Some (about file (verify k certificate shown))) status
-  unshown_outcome k certificate shown refusal status why outcome =
-      verify_outcome k certificate shown (λ bytes. IsRungAnswer instance k bytes why.0) status why.1 (λ bytes of_rung needs.
-      inr (why.0, of_rung, told (held shown) _ _ (needs why.0 of_rung) why.2 (outcome why.0)))
+  unshown_outcome k certificate shown answer P status of_rung why outcome =
+      verify_outcome k certificate shown (λ bytes. IsRungAnswer instance k bytes answer) status of_rung (λ bytes of needs.
+      inr (answer, of, told (held shown) _ _ (needs answer of) why outcome))
+
+  unshown_by : (k : ℕ) (certificate shown : List ℕ) (before now : List ℕ → ℕ) (why : Unshown) (answer : Certificate)
+      → IfSome (held certificate) (λ bytes. IsRungAnswer instance k bytes answer) → is_witnessed_pair instance ≡ true
+      → IsUnshown instance answer k (held shown) (before shown) (now shown) why
+      → IsRefusal held (about file (verify k certificate shown)) before now (refusal_of_unshown why)
+  unshown_by k certificate shown before now (unshown.Unread unread.Fault) answer of_rung witnessed is =
+      (shown, inr (inr (refl, instance, described, witnessed, if_told (held certificate) _ _ (λ bytes of. (answer, of)) of_rung)), is)
+  unshown_by k certificate shown before now (unshown.Unread unread.TooLong) answer of_rung witnessed is =
+      unshown_outcome k certificate shown answer _ statuses.TooLong of_rung is (λ text long. long)
+  unshown_by k certificate shown before now (unshown.Unread unread.Memory) answer of_rung witnessed is = tt
+  unshown_by k certificate shown before now (unshown.Fault kind number) answer of_rung witnessed is = (
+    unshown_outcome k certificate shown answer _ statuses.BadWitness of_rung is (λ text faulty. ((kind, number), faulty)),
+    if_told (held file) _ _ (λ bytes spelled. if_told (held certificate) _ _ (λ all of. if_told (held shown) _ _ (λ text faulty. record {
+      instance = instance;
+      described = spelled;
+      answer = answer;
+      of_rung = of;
+      faulty = faulty;
+    }) is) of_rung) described,
+  )
+  unshown_by k certificate shown before now (unshown.Part part) answer of_rung witnessed is = (
+    unshown_outcome k certificate shown answer _ statuses.No of_rung is (λ text fails. (part, fails)),
+    if_told (held file) _ _ (λ bytes spelled. if_told (held certificate) _ _ (λ all of. if_told (held shown) _ _ (λ text fails. record {
+      instance = instance;
+      described = spelled;
+      answer = answer;
+      of_rung = of;
+      fails = fails;
+    }) is) of_rung) described,
+  )
 
   unverified_by : (k : ℕ) (certificate shown : List ℕ) (before now : List ℕ → ℕ) (refusal : Refusal)
       → IsUnverified held instance k certificate shown before now refusal
       → IsRefusal held (about file (verify k certificate shown)) before now refusal
-  unverified_by k certificate shown before now refusals.Memory why = tt
-  unverified_by k certificate shown before now refusals.ReadFault (inl rose) =
-      (certificate, inr (inl (refl, if_told (held file) _ _ (λ bytes spelled. (instance, spelled)) described)), rose)
-  unverified_by k certificate shown before now refusals.ReadFault (inr why) =
-      (shown, inr (inr (refl, instance, described, why.1, why.2)), why.0)
-  unverified_by k certificate shown before now refusals.TooLong (inl why) =
-      (verify_outcome k certificate shown _ statuses.TooLong why (λ all long needs. inl long), tt)
-  unverified_by k certificate shown before now refusals.TooLong (inr why) =
-      (unshown_outcome k certificate shown refusals.TooLong statuses.TooLong why (λ answer text long. long), tt)
-  unverified_by k certificate shown before now refusals.WrongShape why =
-      (verify_outcome k certificate shown _ statuses.WrongShape why (λ all shape needs. inl shape), tt)
-  unverified_by k certificate shown before now refusals.Unwitnessed why =
-      (verify_outcome k certificate shown _ statuses.Unwitnessed why (λ all kinds needs. inl kinds), tt)
-  unverified_by k certificate shown before now (refusals.BadCertificate kind number) why =
-      (verify_outcome k certificate shown _ statuses.BadCertificate why (λ all faulty needs. inl ((kind, number), faulty)), why)
-  unverified_by k certificate shown before now (refusals.BadWitness kind number) why = (
-    unshown_outcome k certificate shown (refusals.BadWitness kind number) statuses.BadWitness why (λ answer text faulty. ((kind, number), faulty)),
-    if_told (held file) _ _ (λ bytes spelled. if_told (held certificate) _ _ (λ all of_rung. if_told (held shown) _ _ (λ text faulty. record {
-      instance = instance;
-      described = spelled;
-      answer = why.0;
-      of_rung = of_rung;
-      faulty = faulty;
-    }) why.2) why.1) described,
-  )
-  unverified_by k certificate shown before now (refusals.NotShown part) why = (
-    unshown_outcome k certificate shown (refusals.NotShown part) statuses.No why (λ answer text fails. (part, fails)),
-    if_told (held file) _ _ (λ bytes spelled. if_told (held certificate) _ _ (λ all of_rung. if_told (held shown) _ _ (λ text fails. record {
-      instance = instance;
-      described = spelled;
-      answer = why.0;
-      of_rung = of_rung;
-      fails = fails;
-    }) why.2) why.1) described,
-  )
-  unverified_by k certificate shown before now (refusals.No reason first second) why = absurd why
-  unverified_by k certificate shown before now refusals.BadCost why = absurd why
-  unverified_by k certificate shown before now (refusals.BadList line) why = absurd why
-  unverified_by k certificate shown before now (refusals.BadDescription kind number) why = absurd why
-  unverified_by k certificate shown before now refusals.Usage why = absurd why
-  unverified_by k certificate shown before now refusals.WriteFault why = absurd why
+  unverified_by k certificate shown before now refusal (inl (why, same, is)) =
+      rw same (unverified_rung k certificate shown before now why is)
+  unverified_by k certificate shown before now refusal (inr (why, same, is)) =
+      rw same (unshown_by k certificate shown before now why is.answer is.of_rung is.witnessed is.unshown)
 
   -- there is no text
   not_written : (request : Request) (before now : List ℕ → ℕ) (refusal : Refusal)
       → HasNoText held request instance before now refusal → IsRefusal held (about file request) before now refusal
-  not_written show before now refusal why = subst (λ r. IsRefusal held (about file show) before now r) (sym why) tt
+  not_written show before now refusal memory = rw memory tt
   not_written (solve query) before now refusal (inl memory) = rw memory tt
   not_written (solve query) before now refusal (inr (shape, other)) =
       rw shape (problem_outcome (solve query) statuses.WrongShape (λ bytes spelled tells. other), tt)
-  not_written cuts before now refusal (inl (inl memory)) = rw memory tt
-  not_written cuts before now refusal (inl (inr (cost, form, unpayable))) =
-      rw cost (problem_outcome cuts statuses.BadCost (λ bytes spelled tells. (form, unpayable)), tt)
-  not_written cuts before now refusal (inr (shape, other)) =
+  not_written cuts before now refusal (inl memory) = rw memory tt
+  not_written cuts before now refusal (inr (inl (shape, other))) =
       rw shape (problem_outcome cuts statuses.WrongShape (λ bytes spelled tells. other), tt)
-  not_written (check certificate) before now refusal why = denied_by certificate before now refusal why
-  not_written (witness k certificate) before now refusal why = unwitnessed_by k certificate before now refusal why
-  not_written (verify k certificate shown) before now refusal why = unverified_by k certificate shown before now refusal why
+  not_written cuts before now refusal (inr (inr (cost, form, unpayable))) =
+      rw cost (problem_outcome cuts statuses.BadCost (λ bytes spelled tells. (form, unpayable)), tt)
+  not_written (check certificate) before now refusal (why, same, is) = rw same (denied_by certificate before now why is)
+  not_written (witness k certificate) before now refusal is = unwitnessed_by k certificate before now refusal is
+  not_written (verify k certificate shown) before now refusal is = unverified_by k certificate shown before now refusal is
 
 -- ---- what was found of the problem, as what is found of the call
 

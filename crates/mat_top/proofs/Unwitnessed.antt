@@ -1,88 +1,105 @@
--- Why there is no witness, or why one does not show its rung, over the shelf as it was before the description was read: a count that rose rose
--- from a lesser one, and what was held is held.
-use Rattle.std.proofs.Common.{◌≡◌, ℕ, ◌≤◌, List, Option, inl, inr, subst}
+-- Why there is no text, over the shelf as it was before the description was read: a count that rose rose from a lesser one, and what was held
+-- is held.
+use Rattle.std.proofs.Common.{◌≡◌, ℕ, ◌≤◌, true, List, Option, inl, inr, subst}
 use Rattle.std.specs.Prelude.{IfSome}
 use Rattle.mat_desc.specs.Instances.{Instance}
-use Rattle.mat_top.specs.declared.status.Refusal.{Refusal}
-use Rattle.mat_top.specs.declared.status.Refusal.TheVariants as refusals
-use Rattle.mat_top.specs.Refusals.{HasNoRungIn, HasNoWitness, HasRungAnswer, IsUnshownFile, IsUnshownText, IsUnverified}
+use Rattle.mat_cert.specs.Certificates.{Certificate}
+use Rattle.mat_cert.specs.Limits.{certificate_limit}
+use Rattle.mat_witness.specs.Kinds.{is_witnessed_pair}
+use Rattle.mat_witness.specs.Lines.{witness_limit}
+use Rattle.mat_judge.specs.Certified.{IsUncertified, IsNotRight}
+use Rattle.mat_judge.specs.WholeFiles.{IsUnread}
+use Rattle.mat_judge.specs.declared.certified.NotRight.{NotRight}
+use Rattle.mat_judge.specs.declared.certified.NotRight.TheVariants as not_right
+use Rattle.mat_judge.specs.declared.certified.Uncertified.{Uncertified}
+use Rattle.mat_judge.specs.declared.certified.Uncertified.TheVariants as uncertified
+use Rattle.mat_judge.specs.declared.reading.Unread.{Unread}
+use Rattle.mat_judge.specs.declared.reading.Unread.TheVariants as unread
+use Rattle.mat_judge.specs.declared.refusal.Refusal.{Refusal}
+use Rattle.mat_judge.proofs.Told.{rose_before}
 use Rattle.mat_top.specs.Witnessing.{IsRungAnswer}
-use Rattle.mat_top.proofs.Told.{rose_before}
+use Rattle.mat_top.specs.WitnessRefusals.{HasNoRung, HasNoWitness, IsUnshown, IsUnshownRung, IsUnverified, IsWrongRung}
+use Rattle.mat_top.specs.declared.witness_refusals.NoRung.{NoRung}
+use Rattle.mat_top.specs.declared.witness_refusals.NoRung.TheVariants as no_rung
+use Rattle.mat_top.specs.declared.witness_refusals.Unshown.{Unshown}
+use Rattle.mat_top.specs.declared.witness_refusals.Unshown.TheVariants as unshown
 
-no_rung_before : (instance : Instance) (k : ℕ) (held : Option (List ℕ)) (earlier before now : ℕ) (refusal : Refusal) → earlier ≤ before
-    → HasNoRungIn instance k held before now refusal → HasNoRungIn instance k held earlier now refusal
-no_rung_before instance k held earlier before now refusals.Memory le why = why
-no_rung_before instance k held earlier before now refusals.ReadFault le why = rose_before earlier before now le why
-no_rung_before instance k held earlier before now refusals.TooLong le why = why
-no_rung_before instance k held earlier before now refusals.WrongShape le why = why
-no_rung_before instance k held earlier before now refusals.Unwitnessed le why = why
-no_rung_before instance k held earlier before now (refusals.BadCertificate kind number) le why = why
-no_rung_before instance k held earlier before now (refusals.BadWitness kind number) le why = why
-no_rung_before instance k held earlier before now (refusals.NotShown part) le why = why
-no_rung_before instance k held earlier before now (refusals.No reason first second) le why = why
-no_rung_before instance k held earlier before now refusals.BadCost le why = why
-no_rung_before instance k held earlier before now (refusals.BadList line) le why = why
-no_rung_before instance k held earlier before now (refusals.BadDescription kind number) le why = why
-no_rung_before instance k held earlier before now refusals.Usage le why = why
-no_rung_before instance k held earlier before now refusals.WriteFault le why = why
+-- ---- a count that rose
 
-pub no_witness_before : (instance : Instance) (k : ℕ) (held : Option (List ℕ)) (earlier before now : ℕ) (refusal : Refusal)
-    → earlier ≤ before → HasNoWitness instance k held before now refusal → HasNoWitness instance k held earlier now refusal
-no_witness_before instance k held earlier before now refusals.Memory le why = why
-no_witness_before instance k held earlier before now refusals.ReadFault le why = rose_before earlier before now le why
-no_witness_before instance k held earlier before now refusals.TooLong le why = why
-no_witness_before instance k held earlier before now refusals.WrongShape le why = why
-no_witness_before instance k held earlier before now refusals.Unwitnessed le why = why
-no_witness_before instance k held earlier before now (refusals.BadCertificate kind number) le why = why
-no_witness_before instance k held earlier before now (refusals.BadWitness kind number) le why = why
-no_witness_before instance k held earlier before now (refusals.NotShown part) le why = why
-no_witness_before instance k held earlier before now (refusals.No reason first second) le why = why
-no_witness_before instance k held earlier before now refusals.BadCost le why = why
-no_witness_before instance k held earlier before now (refusals.BadList line) le why = why
-no_witness_before instance k held earlier before now (refusals.BadDescription kind number) le why = why
-no_witness_before instance k held earlier before now refusals.Usage le why = why
-no_witness_before instance k held earlier before now refusals.WriteFault le why = why
+unread_before : (held : Option (List ℕ)) (limit earlier before now : ℕ) (why : Unread) → earlier ≤ before
+    → IsUnread held limit before now why → IsUnread held limit earlier now why
+unread_before held limit earlier before now unread.Fault le rose = rose_before earlier before now le rose
+unread_before held limit earlier before now unread.TooLong le long = long
+unread_before held limit earlier before now unread.Memory le memory = memory
 
-module _ (after held : List ℕ → Option (List ℕ)) (same : (name : List ℕ) → after name ≡ held name) (instance : Instance) (k : ℕ)
-    (certificate shown : List ℕ) where
-  -- the certificate has no answer with such a rung
-  no_rung_there : (earlier before now : List ℕ → ℕ) (refusal : Refusal) → ((name : List ℕ) → earlier name ≤ before name)
-      → HasNoRungIn instance k (after certificate) (before certificate) (now certificate) refusal
-      → HasNoRungIn instance k (held certificate) (earlier certificate) (now certificate) refusal
-  no_rung_there earlier before now refusal le why =
-      subst (λ o. HasNoRungIn instance k o (earlier certificate) (now certificate) refusal) (same certificate)
-      (no_rung_before instance k (after certificate) (earlier certificate) (before certificate) (now certificate) refusal (le certificate) why)
+uncertified_before : (held : Option (List ℕ)) (earlier before now : ℕ) (why : Uncertified) → earlier ≤ before
+    → IsUncertified held before now why → IsUncertified held earlier now why
+uncertified_before held earlier before now (uncertified.Unread why) le is = unread_before held certificate_limit earlier before now why le is
+uncertified_before held earlier before now (uncertified.Fault kind number) le is = is
 
-  -- it has, and the witness doesn't show the rung
-  unshown_there : (refusal : Refusal) → IsUnshownFile after instance k certificate shown refusal
-      → IsUnshownFile held instance k certificate shown refusal
-  unshown_there refusal why = (
-    why.0,
-    subst (λ o. IfSome o (λ bytes. IsRungAnswer instance k bytes why.0)) (same certificate) why.1,
-    subst (λ o. IfSome o (λ bytes. IsUnshownText instance why.0 k bytes refusal)) (same shown) why.2,
-  )
+not_right_before : (instance : Instance) (held : Option (List ℕ)) (earlier before now : ℕ) (why : NotRight) → earlier ≤ before
+    → IsNotRight instance held before now why → IsNotRight instance held earlier now why
+not_right_before instance held earlier before now (not_right.Uncertified why) le is = uncertified_before held earlier before now why le is
+not_right_before instance held earlier before now not_right.WrongShape le is = is
+not_right_before instance held earlier before now (not_right.No reason first second) le is = is
 
-  pub unverified_before : (earlier before now : List ℕ → ℕ) (refusal : Refusal) → ((name : List ℕ) → earlier name ≤ before name)
+no_rung_before : (instance : Instance) (k : ℕ) (held : Option (List ℕ)) (earlier before now : ℕ) (why : NoRung) → earlier ≤ before
+    → HasNoRung instance k held before now why → HasNoRung instance k held earlier now why
+no_rung_before instance k held earlier before now (no_rung.Uncertified why) le is = uncertified_before held earlier before now why le is
+no_rung_before instance k held earlier before now no_rung.WrongShape le is = is
+no_rung_before instance k held earlier before now no_rung.Unwitnessed le is = is
+
+unshown_before : (instance : Instance) (answer : Certificate) (k : ℕ) (held : Option (List ℕ)) (earlier before now : ℕ) (why : Unshown)
+    → earlier ≤ before → IsUnshown instance answer k held before now why → IsUnshown instance answer k held earlier now why
+unshown_before instance answer k held earlier before now (unshown.Unread why) le is =
+    unread_before held witness_limit earlier before now why le is
+unshown_before instance answer k held earlier before now (unshown.Fault kind number) le is = is
+unshown_before instance answer k held earlier before now (unshown.Part part) le is = is
+
+-- ---- the shelf before
+
+module _ (after held : List ℕ → Option (List ℕ)) (same : (name : List ℕ) → after name ≡ held name) (instance : Instance)
+    (earlier before now : List ℕ → ℕ) (le : (name : List ℕ) → earlier name ≤ before name) where
+  pub not_right_there : (certificate : List ℕ) (why : NotRight)
+      → IsNotRight instance (after certificate) (before certificate) (now certificate) why
+      → IsNotRight instance (held certificate) (earlier certificate) (now certificate) why
+  not_right_there certificate why is = subst (λ o. IsNotRight instance o (earlier certificate) (now certificate) why) (same certificate)
+      (not_right_before instance (after certificate) (earlier certificate) (before certificate) (now certificate) why (le certificate) is)
+
+  no_rung_there : (k : ℕ) (certificate : List ℕ) (why : NoRung)
+      → HasNoRung instance k (after certificate) (before certificate) (now certificate) why
+      → HasNoRung instance k (held certificate) (earlier certificate) (now certificate) why
+  no_rung_there k certificate why is = subst (λ o. HasNoRung instance k o (earlier certificate) (now certificate) why) (same certificate)
+      (no_rung_before instance k (after certificate) (earlier certificate) (before certificate) (now certificate) why (le certificate) is)
+
+  pub no_witness_there : (k : ℕ) (certificate : List ℕ) (refusal : Refusal)
+      → HasNoWitness instance k (after certificate) (before certificate) (now certificate) refusal
+      → HasNoWitness instance k (held certificate) (earlier certificate) (now certificate) refusal
+  no_witness_there k certificate refusal (inl (why, is_refusal, is)) = inl (why, is_refusal, no_rung_there k certificate why is)
+  no_witness_there k certificate refusal (inr (failure, is_refusal, is)) =
+      inr (failure, is_refusal, subst (λ o. IfSome o (λ bytes. IsWrongRung instance k bytes failure)) (same certificate) is)
+
+  -- a rung whose witness doesn't show it
+  pub unshown_rung : (k : ℕ) (certificate shown : List ℕ) (answer : Certificate) (why : Unshown)
+      → IfSome (held certificate) (λ bytes. IsRungAnswer instance k bytes answer) → is_witnessed_pair instance ≡ true
+      → IsUnshown instance answer k (after shown) (before shown) (now shown) why
+      → IsUnshownRung held instance k certificate shown earlier now why
+  unshown_rung k certificate shown answer why of_rung witnessed is = record {
+    answer = answer;
+    of_rung = of_rung;
+    witnessed = witnessed;
+    unshown = subst (λ o. IsUnshown instance answer k o (earlier shown) (now shown) why) (same shown)
+        (unshown_before instance answer k (after shown) (earlier shown) (before shown) (now shown) why (le shown) is);
+  }
+
+  pub unverified_there : (k : ℕ) (certificate shown : List ℕ) (refusal : Refusal)
       → IsUnverified after instance k certificate shown before now refusal
       → IsUnverified held instance k certificate shown earlier now refusal
-  unverified_before earlier before now refusals.ReadFault le (inl rose) =
-      inl (rose_before (earlier certificate) (before certificate) (now certificate) (le certificate) rose)
-  unverified_before earlier before now refusals.ReadFault le (inr why) = inr (
-    rose_before (earlier shown) (before shown) (now shown) (le shown) why.0,
-    why.1,
-    subst (HasRungAnswer instance k) (same certificate) why.2,
-  )
-  unverified_before earlier before now refusals.TooLong le (inl why) = inl (no_rung_there earlier before now refusals.TooLong le why)
-  unverified_before earlier before now refusals.TooLong le (inr why) = inr (unshown_there refusals.TooLong why)
-  unverified_before earlier before now (refusals.BadWitness kind number) le why = unshown_there (refusals.BadWitness kind number) why
-  unverified_before earlier before now (refusals.NotShown part) le why = unshown_there (refusals.NotShown part) why
-  unverified_before earlier before now refusals.Memory le why = no_rung_there earlier before now refusals.Memory le why
-  unverified_before earlier before now refusals.WrongShape le why = no_rung_there earlier before now refusals.WrongShape le why
-  unverified_before earlier before now refusals.Unwitnessed le why = no_rung_there earlier before now refusals.Unwitnessed le why
-  unverified_before earlier before now (refusals.BadCertificate kind number) le why = no_rung_there earlier before now (refusals.BadCertificate kind number) le why
-  unverified_before earlier before now (refusals.No reason first second) le why = no_rung_there earlier before now (refusals.No reason first second) le why
-  unverified_before earlier before now refusals.BadCost le why = no_rung_there earlier before now refusals.BadCost le why
-  unverified_before earlier before now (refusals.BadList line) le why = no_rung_there earlier before now (refusals.BadList line) le why
-  unverified_before earlier before now (refusals.BadDescription kind number) le why = no_rung_there earlier before now (refusals.BadDescription kind number) le why
-  unverified_before earlier before now refusals.Usage le why = no_rung_there earlier before now refusals.Usage le why
-  unverified_before earlier before now refusals.WriteFault le why = no_rung_there earlier before now refusals.WriteFault le why
+  unverified_there k certificate shown refusal (inl (why, is_refusal, is)) = inl (why, is_refusal, no_rung_there k certificate why is)
+  unverified_there k certificate shown refusal (inr (why, is_refusal, is)) =
+      inr (
+        why,
+        is_refusal,
+        unshown_rung k certificate shown is.answer why
+            (subst (λ o. IfSome o (λ bytes. IsRungAnswer instance k bytes is.answer)) (same certificate) is.of_rung) is.witnessed is.unshown,
+      )

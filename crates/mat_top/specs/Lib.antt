@@ -1,15 +1,8 @@
-pub mod CommandLines
-pub mod Commands
-pub mod Views
-pub mod Statuses
 pub mod CutTexts
-pub mod JobLists
-pub mod JobLines
 pub mod Summaries
 pub mod SummaryTexts
-pub mod Certified
 pub mod Witnessing
 pub mod Outcomes
-pub mod WholeFiles
+pub mod WitnessRefusals
 pub mod Refusals
-pub mod PosedJobs
+pub mod LoadedJobs

@@ -1,55 +1,39 @@
 -- What a call does, where the shelf tells the files that it needs.
 use Rattle.std.specs.Prelude.{◌≡◌, ◌≢◌, ℕ, ◌<◌, ◌≤◌, ◌⊎◌, true, false, List, [], ◌∷◌, ◌++◌, length, codes}
-use Rattle.std.specs.Prelude.{Option, Some, None, IsSome, IfSome, IsSomeAnd, Ok, Err, All}
-use Rattle.mat_shelf.specs.Faults.{Rose}
+use Rattle.std.specs.Prelude.{Option, Some, None, IsSome, IfSome, IsSomeAnd, All}
 use Rattle.mat_shelf.specs.Writing.{Appended, AppendedPrefix}
 use Rattle.mat_desc.specs.Faults.{Fault}
 use Rattle.mat_desc.specs.Instances.{Instance}
-use Rattle.mat_desc.specs.Grammar.{Spells, SpellsNamed}
 use Rattle.mat_desc.specs.Notations.{NamedInstance}
-use Rattle.mat_desc.specs.Reading.{read_of}
 use Rattle.mat_desc.specs.Canonical.{canonical_text, named_text}
 use Rattle.mat_desc.specs.Limits.{description_limit}
 use Rattle.mat_cert.specs.Certificates.{Certificate}
 use Rattle.mat_cert.specs.Faults as certificate_faults
 use Rattle.mat_cert.specs.Limits.{certificate_limit}
-use Rattle.mat_check.specs.AnswerClauses.{failure_of}
 use Rattle.mat_check.specs.Clauses.{Failure}
 use Rattle.mat_check.specs.Fitting.{fits, is_rooted}
 use Rattle.mat_check.specs.Right.{IsRight}
 use Rattle.mat_witness.specs.Kinds.{is_witnessed_pair}
 use Rattle.mat_witness.specs.Lines.{witness_limit}
-use Rattle.mat_top.specs.declared.status.Status.{Status}
-use Rattle.mat_top.specs.declared.status.Status.TheVariants as statuses
-use Rattle.mat_top.specs.declared.status.Refusal.{Refusal}
-use Rattle.mat_top.specs.declared.status.Refusal.TheVariants as refusals
-use Rattle.mat_top.specs.Statuses.{status_of, note_of, joined}
-use Rattle.mat_top.specs.CommandLines.{Request, show, solve, cuts, check, witness, verify, Task, about, sample, batch, convert}
-use Rattle.mat_top.specs.Certified.{IsCertified, IsFaultyCertificate}
+use Rattle.mat_judge.specs.declared.status.Status.{Status}
+use Rattle.mat_judge.specs.declared.status.Status.TheVariants as statuses
+use Rattle.mat_judge.specs.declared.refusal.Denial.{Denial}
+use Rattle.mat_judge.specs.declared.refusal.Denial.TheVariants as denials
+use Rattle.mat_judge.specs.declared.refusal.Refusal.{Refusal}
+use Rattle.mat_judge.specs.declared.refusal.Refusal.TheVariants as refusals
+use Rattle.mat_judge.specs.Described.{IsFaulty, IsDescribed, IsNamed}
+use Rattle.mat_judge.specs.Notes.{note_of}
+use Rattle.mat_judge.specs.Statuses.{status_of}
+use Rattle.mat_judge.specs.Texts.{joined}
+use Rattle.mat_command.specs.CommandLines.{Request, show, solve, cuts, check, witness, verify, Task, about, sample, batch, convert}
+use Rattle.mat_judge.specs.Certified.{IsCertified, IsFaultyCertificate, IsWrong}
 use Rattle.mat_top.specs.Witnessing.{fits_rung, IsFaultyWitness, IsNotShowing, IsRungAnswer, IsShowing}
 use Rattle.mat_top.specs.CutTexts.{HasPayableCosts, IsCutsText}
-use Rattle.mat_top.specs.JobLists.{Job, jobs_of}
+use Rattle.mat_command.specs.JobLists.{Job, IsListed, IsMislisted}
 use Rattle.mat_solve.specs.Queries.{has_form}
 use Rattle.mat_solve.specs.declared.query.Query.{Query}
 use Rattle.mat_solve.specs.Answers.{IsSolutionText}
 use Rattle.mat_top.specs.Summaries.{IsSummary}
-
--- ---- the description
-
--- the bytes have this first fault
-pub record IsFaulty (bytes : List ℕ) (fault : Fault) : Type 0 where
-  pub within : length bytes ≤ description_limit
-  pub first : read_of bytes ≡ Err fault
-
--- the bytes spell this problem
-pub record IsDescribed (bytes : List ℕ) (instance : Instance) : Type 0 where
-  pub within : length bytes ≤ description_limit
-  pub spelled : Spells bytes instance
-
--- the bytes spell this problem, and name its elements and its vertices so
-pub record IsNamed (bytes : List ℕ) (problem : NamedInstance) : Type 0 where
-  pub within : length bytes ≤ description_limit
-  pub spelled : SpellsNamed bytes problem
 
 -- the form of the problem is that of the request; every form can be shown
 abbrev pub HasForm : Request → Instance → Type 0
@@ -147,16 +131,6 @@ abbrev pub IsJobsOutcome : (List ℕ → Option (List ℕ)) → List Job → Sta
 IsJobsOutcome held [] status = status ≡ statuses.Done
 IsJobsOutcome held (job ∷ jobs) status =
     ((status ≢ statuses.Done) × IsJobOutcome held job status) ⊎ (IsJobOutcome held job statuses.Done × IsJobsOutcome held jobs status)
-
--- the bytes, no more than a description may have, are a list of these jobs
-pub record IsListed (bytes : List ℕ) (jobs : List Job) : Type 0 where
-  pub within : length bytes ≤ description_limit
-  pub listed : jobs_of bytes ≡ Ok jobs
-
--- the bytes are no list of jobs: this line is the first that is not the needed one
-pub record IsMislisted (bytes : List ℕ) (line : ℕ) : Type 0 where
-  pub within : length bytes ≤ description_limit
-  pub first : jobs_of bytes ≡ Err line
 
 -- the first row of the table that applies to the bytes of a list alone
 abbrev pub IsListOutcome : List ℕ → Status → Type 0
@@ -314,17 +288,11 @@ IsWritten held asked old new statuses.Done = (text : List ℕ) × IsOutput held 
 IsWritten held asked old new statuses.WriteFault = (text : List ℕ) × IsOutput held asked text × AppendedPrefix old text new
 IsWritten held asked old new status = new ≡ old
 
--- the first clause that fails of the answer in the certificate, over this problem
-pub record HasClauseFailure (instance : Instance) (bytes : List ℕ) (failure : Failure) : Type 0 where
-  pub answer : Certificate
-  pub certified : IsCertified bytes answer
-  pub fails : failure_of instance answer ≡ Some failure
-
 -- the first clause that fails of the answer in the certificate, over the problem in the description
 pub record HasFailure (description certificate : List ℕ) (failure : Failure) : Type 0 where
   pub instance : Instance
   pub described : IsDescribed description instance
-  pub failed : HasClauseFailure instance certificate failure
+  pub failed : IsWrong instance certificate failure
 
 -- the witness for rung k of the answer in the certificate, over the problem in the description, has this first fault
 pub record HasWitnessFault (k : ℕ) (description certificate bytes : List ℕ) (fault : certificate_faults.Fault) : Type 0 where
@@ -342,57 +310,56 @@ pub record HasFailingPart (k : ℕ) (description certificate bytes : List ℕ) (
   pub of_rung : IsRungAnswer instance k certificate answer
   pub fails : IsNotShowing instance answer k bytes part
 
--- a refusal of a request about the problem in this file tells what is so: the first fault of the description, of the certificate or of the
+-- what denies a request about the problem in this file tells what is so: the first fault of the description, of the certificate or of the
 -- witness, and the first clause or part that fails, where the files are told
-abbrev pub IsTrueOfRequest : (List ℕ → Option (List ℕ)) → List ℕ → Request → Refusal → Type 0
-IsTrueOfRequest held file request (refusals.BadDescription kind number) = IfSome (held file) (λ bytes. IsFaulty bytes (kind, number))
-IsTrueOfRequest held file (check certificate) (refusals.BadCertificate kind number) =
+abbrev pub IsTrueOfRequest : (List ℕ → Option (List ℕ)) → List ℕ → Request → Denial → Type 0
+IsTrueOfRequest held file request (denials.BadDescription kind number) = IfSome (held file) (λ bytes. IsFaulty bytes (kind, number))
+IsTrueOfRequest held file (check certificate) (denials.BadCertificate kind number) =
     IfSome (held certificate) (λ bytes. IsFaultyCertificate bytes (kind, number))
-IsTrueOfRequest held file (check certificate) (refusals.No reason first second) =
+IsTrueOfRequest held file (check certificate) (denials.No reason first second) =
     IfSome (held file) (λ description. IfSome (held certificate) (λ bytes. HasFailure description bytes (reason, first, second)))
-IsTrueOfRequest held file (check certificate) (refusals.NotShown part) = ⊥
-IsTrueOfRequest held file (witness k certificate) (refusals.BadCertificate kind number) =
+IsTrueOfRequest held file (check certificate) (denials.NotShown part) = ⊥
+IsTrueOfRequest held file (witness k certificate) (denials.BadCertificate kind number) =
     IfSome (held certificate) (λ bytes. IsFaultyCertificate bytes (kind, number))
-IsTrueOfRequest held file (witness k certificate) (refusals.No reason first second) =
+IsTrueOfRequest held file (witness k certificate) (denials.No reason first second) =
     IfSome (held file) (λ description. IfSome (held certificate) (λ bytes. HasFailure description bytes (reason, first, second)))
-IsTrueOfRequest held file (witness k certificate) (refusals.NotShown part) = ⊥
-IsTrueOfRequest held file (verify k certificate shown) (refusals.BadCertificate kind number) =
+IsTrueOfRequest held file (witness k certificate) (denials.NotShown part) = ⊥
+IsTrueOfRequest held file (verify k certificate shown) (denials.BadCertificate kind number) =
     IfSome (held certificate) (λ bytes. IsFaultyCertificate bytes (kind, number))
-IsTrueOfRequest held file (verify k certificate shown) (refusals.BadWitness kind number) =
+IsTrueOfRequest held file (verify k certificate shown) (denials.BadWitness kind number) =
     IfSome (held file) (λ description. IfSome (held certificate) (λ bytes. IfSome (held shown) (λ text.
     HasWitnessFault k description bytes text (kind, number))))
-IsTrueOfRequest held file (verify k certificate shown) (refusals.No reason first second) = ⊥
-IsTrueOfRequest held file (verify k certificate shown) (refusals.NotShown part) =
+IsTrueOfRequest held file (verify k certificate shown) (denials.No reason first second) = ⊥
+IsTrueOfRequest held file (verify k certificate shown) (denials.NotShown part) =
     IfSome (held file) (λ description. IfSome (held certificate) (λ bytes. IfSome (held shown) (λ text. HasFailingPart k description bytes text part)))
-IsTrueOfRequest held file request refusal = Unit {0}
+IsTrueOfRequest held file request denial = Unit {0}
 
--- a refusal of jobs tells what is so of the first that is refused
-abbrev pub IsTrueOfJobs : (List ℕ → Option (List ℕ)) → List Job → Refusal → Type 0
-IsTrueOfJobs held [] refusal = ⊥
-IsTrueOfJobs held (job ∷ jobs) refusal =
-    IsTrueOfRequest held job.file (solve job.query) refusal ⊎ (MayBeSolved held job × IsTrueOfJobs held jobs refusal)
+-- what denies jobs tells what is so of the first that is refused
+abbrev pub IsTrueOfJobs : (List ℕ → Option (List ℕ)) → List Job → Denial → Type 0
+IsTrueOfJobs held [] denial = ⊥
+IsTrueOfJobs held (job ∷ jobs) denial =
+    IsTrueOfRequest held job.file (solve job.query) denial ⊎ (MayBeSolved held job × IsTrueOfJobs held jobs denial)
 
--- a refusal of a list tells what is so: the first line that is not the needed one, or the first fault of the first job that is refused
-abbrev pub IsTrueOfList : (List ℕ → Option (List ℕ)) → List ℕ → Refusal → Type 0
-IsTrueOfList held list (refusals.BadList line) = IfSome (held list) (λ bytes. IsMislisted bytes line)
-IsTrueOfList held list (refusals.BadDescription kind number) = IfSome (held list)
-    (λ bytes. (jobs : List Job) × IsListed bytes jobs × IsTrueOfJobs held jobs (refusals.BadDescription kind number))
-IsTrueOfList held list refusal = Unit {0}
+-- what denies a list tells what is so: the first line that is not the needed one, or the first fault of the first job that is refused
+abbrev pub IsTrueOfList : (List ℕ → Option (List ℕ)) → List ℕ → Denial → Type 0
+IsTrueOfList held list (denials.BadList line) = IfSome (held list) (λ bytes. IsMislisted bytes line)
+IsTrueOfList held list (denials.BadDescription kind number) = IfSome (held list)
+    (λ bytes. (jobs : List Job) × IsListed bytes jobs × IsTrueOfJobs held jobs (denials.BadDescription kind number))
+IsTrueOfList held list denial = Unit {0}
 
--- a refusal tells what is so
-abbrev pub IsTrueOf : (List ℕ → Option (List ℕ)) → Option Task → Refusal → Type 0
-IsTrueOf held (Some (about file request)) refusal = IsTrueOfRequest held file request refusal
-IsTrueOf held (Some (batch list)) refusal = IsTrueOfList held list refusal
-IsTrueOf held (Some (convert file)) refusal = IsTrueOfRequest held file show refusal
-IsTrueOf held asked refusal = Unit {0}
+-- what denies a task tells what is so
+abbrev pub IsTrueOf : (List ℕ → Option (List ℕ)) → Option Task → Denial → Type 0
+IsTrueOf held (Some (about file request)) denial = IsTrueOfRequest held file request denial
+IsTrueOf held (Some (batch list)) denial = IsTrueOfList held list denial
+IsTrueOf held (Some (convert file)) denial = IsTrueOfRequest held file show denial
+IsTrueOf held asked denial = Unit {0}
+
+-- a refusal tells what is so of the files where they deny the call
+abbrev pub IsTold : (List ℕ → Option (List ℕ)) → Option Task → Refusal → Type 0
+IsTold held asked (refusals.Denied denial) = IsTrueOf held asked denial
+IsTold held asked refusal = Unit {0}
 
 -- the note of a call that ended so: none on Done
 abbrev pub IsNote : (List ℕ → Option (List ℕ)) → Option Task → Status → List ℕ → Type 0
 IsNote held asked statuses.Done note = note ≡ []
-IsNote held asked status note = (refusal : Refusal) × (status_of refusal ≡ status) × (note ≡ note_of refusal) × IsTrueOf held asked refusal
-
--- a prefix of a note was appended, and all of it where the count of faults did not rise
-pub record IsNoted (note : List ℕ) (old : Option (List ℕ)) (before : ℕ) (new : Option (List ℕ)) (now : ℕ) : Type 0 where
-  pub grows : before ≤ now
-  pub prefix : AppendedPrefix old note new
-  pub whole : ¬ (Rose before now) → Appended old note new
+IsNote held asked status note = (refusal : Refusal) × (status_of refusal ≡ status) × (note ≡ note_of refusal) × IsTold held asked refusal

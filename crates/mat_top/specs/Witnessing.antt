@@ -9,7 +9,7 @@ use Rattle.mat_witness.specs.Lines.{witness_limit, witness_text}
 use Rattle.mat_witness.specs.Parts.{WitnessParts}
 use Rattle.mat_witness.specs.Reading as witness_reading
 use Rattle.mat_witness.specs.Shown.{IsShown, IsWitnessFor, failing_part}
-use Rattle.mat_top.specs.Certified.{IsCertified}
+use Rattle.mat_judge.specs.Certified.{IsCertified}
 
 -- whether the answer fits the problem and is one to `intersect` that has this rung
 abbrev pub fits_rung : Instance → Certificate → ℕ → Bool

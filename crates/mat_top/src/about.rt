@@ -1,48 +1,25 @@
 //! What is asked about the problem that a file describes.
 
-ghost use Rattle.std.specs.Prelude.{◌≡◌, ◌≤◌, ℕ, List, true, IfOk, IfErr, IfSome};
+ghost use Rattle.std.specs.Prelude.{◌≡◌, ◌≤◌, ℕ, List, true, IfOk, IfErr};
 ghost use Rattle.mat_desc.specs.Grammar.{IsValid};
 ghost use Rattle.mat_desc.specs.Soundness.{IsSoundInstance};
 ghost use Rattle.mat_desc.specs.Views.{instance_of};
-ghost use Rattle.mat_top.specs.CommandLines.{about};
-ghost use Rattle.mat_top.specs.Commands.{request_of, IsRequestInRange};
-ghost use Rattle.mat_top.specs.Outcomes.{IsDescribed, yes_text};
+ghost use Rattle.mat_command.specs.CommandLines.{about};
+ghost use Rattle.mat_command.specs.Commands.{request_of, IsRequestInRange};
+ghost use Rattle.mat_top.specs.Outcomes.{yes_text};
 ghost use Rattle.mat_solve.specs.Queries.{has_form, IsQueryInRange};
-ghost use Rattle.mat_top.specs.Refusals.{IsUndescribed, HasText, HasNoText, HasSolutionText, MayBeWritten, IsRefusal};
+ghost use Rattle.mat_top.specs.Refusals.{HasText, HasNoText, HasSolutionText, MayBeWritten, IsRefusal};
 
-use crate::command::Request;
-use crate::cuts_text::cuts_text;
-use crate::judge::judge;
-use crate::reading::read_all;
-use crate::status::Refusal;
+use crate::cuts_text::{cuts_text, has_payable_costs};
 use crate::witnessing::{verify_in, witness_text};
 use mat_cert::write_answer;
-use mat_desc::{Problem, read_problem, write_problem};
+use mat_command::Request;
+use mat_desc::{Problem, write_problem};
+use mat_judge::{Denial, Refusal, judge, problem_in};
 use mat_shelf::Shelf;
 use mat_solve::{Query, has_form, solve};
 use std::alloc::{AllocError, Global};
 use std::thread::Threads;
-
-/// The most bytes that a description may have.
-pub(crate) const DESCRIPTION_LIMIT: usize = 4_194_304;
-
-/// The problem that the file of this name describes.
-pub(crate) fn problem_in<F: Shelf>(
-    alloc: Global,
-    files: &mut F,
-    name: &str,
-) -> Result<Problem, Refusal>
-    ensures held { (other : List ℕ) → F.held files.new other ≡ F.held files.old other }
-    ensures grows { (other : List ℕ) → F.faults files.old other ≤ F.faults files.new other }
-    ensures valid { IfOk result (λ p. IsValid (instance_of p)) }
-    ensures sound { IfOk result (λ p. IsSoundInstance (instance_of p)) }
-    ensures described { IfOk result (λ p. IfSome (F.held files.old name.now) (λ bytes. IsDescribed bytes (instance_of p))) }
-    ensures refusal { IfErr result (λ e. IsUndescribed (F.held files.old name.now)
-        (F.faults files.old name.now) (F.faults files.new name.now) e) }
-{
-    let bytes = read_all(alloc, files, name, DESCRIPTION_LIMIT)?;
-    Ok(read_problem(alloc, &bytes)?)
-}
 
 /// The text of a right answer to the query about a problem of its form. The only error is want of memory.
 pub(crate) fn solution_text<R: Threads + Sync>(
@@ -93,16 +70,19 @@ fn text_for<R: Threads + Sync, F: Shelf>(
         Request::Show => Ok(write_problem(alloc, problem)?),
         Request::Solve(query) => {
             if !has_form(query, problem) {
-                return Err(Refusal::WrongShape);
+                return Err(Refusal::Denied(Denial::WrongShape));
             }
             Ok(solution_text(rt, alloc, problem, query, workers)?)
         }
         Request::Cuts => {
             // the form that has cuts is that of a problem with an arborescence
             if !has_form(Query::Arborescence, problem) {
-                return Err(Refusal::WrongShape);
+                return Err(Refusal::Denied(Denial::WrongShape));
             }
-            cuts_text(alloc, problem)
+            if !has_payable_costs(problem) {
+                return Err(Refusal::Denied(Denial::BadCost));
+            }
+            Ok(cuts_text(alloc, problem)?)
         }
         Request::Check { certificate } => {
             judge(rt, alloc, files, certificate, problem, workers)?;

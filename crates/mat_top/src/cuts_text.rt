@@ -1,15 +1,13 @@
 //! Cheapest spanning arborescences with the weighted vertex sets that prove them, as texts.
 
-ghost use Rattle.std.specs.Prelude.{◌≡◌, ◌↔◌, true, All, IfOk, IfErr, IsTrue};
+ghost use Rattle.std.specs.Prelude.{◌≡◌, ◌↔◌, true, All, IfOk, IsTrue};
 ghost use Rattle.mat_check.specs.Fitting.{is_rooted};
 ghost use Rattle.mat_desc.specs.Grammar.{IsValid};
 ghost use Rattle.mat_desc.specs.Instances.{rooted};
 ghost use Rattle.mat_desc.specs.Views.{instance_of};
 ghost use Rattle.mat_top.specs.CutTexts.{mains, HasPayableCosts, IsCutsText, IsPayable};
-ghost use Rattle.mat_top.specs.Refusals.{HasNoCuts};
 
 use crate::cut_lines::{tree_text, unreached_text};
-use crate::status::Refusal;
 use mat_cuts::{Cuts, cheapest, total_cost};
 use mat_desc::Problem;
 use mat_sets::{Pairs, Weight};
@@ -53,14 +51,24 @@ fn payable_text(
     }
 }
 
-/// The text of a cheapest spanning arborescence of a problem with costs, and of weighted vertex sets that prove it, or of a vertex set that
-/// no arc enters. `BadCost` comes exactly where a cost is below 0 or has a tie, and `Memory` is want of memory.
-pub(crate) fn cuts_text(alloc: Global, problem: &Problem) -> Result<Vec<u8>, Refusal>
+/// Whether weights of vertex sets can pay every cost of a problem of arcs with costs and a root: none is below 0 or has a tie.
+pub(crate) fn has_payable_costs(problem: &Problem) -> bool
+    requires form { is_rooted (instance_of problem.now) ≡ true }
+    ensures { IsTrue result ↔ HasPayableCosts (instance_of problem.now) }
+{
+    let Problem::Rooted { costs, .. } = problem else {
+        unreachable!()
+    };
+    are_payable(costs.as_slice())
+}
+
+/// The text of a cheapest spanning arborescence of a problem whose costs can be paid, and of weighted vertex sets that prove it, or of a
+/// vertex set that no arc enters. The only error is want of memory.
+pub(crate) fn cuts_text(alloc: Global, problem: &Problem) -> Result<Vec<u8>, AllocError>
     requires valid { IsValid (instance_of problem.now) }
     requires form { is_rooted (instance_of problem.now) ≡ true }
-    ensures payable { IfOk result (λ v. HasPayableCosts (instance_of problem.now)) }
-    ensures text { IfOk result (λ v. IsCutsText (instance_of problem.now) v.items) }
-    ensures refusal { IfErr result (λ e. HasNoCuts (instance_of problem.now) e) }
+    requires payable { HasPayableCosts (instance_of problem.now) }
+    ensures { IfOk result (λ v. IsCutsText (instance_of problem.now) v.items) }
 {
     let Problem::Rooted {
         vertices,
@@ -71,8 +79,5 @@ pub(crate) fn cuts_text(alloc: Global, problem: &Problem) -> Result<Vec<u8>, Ref
     else {
         unreachable!()
     };
-    if !are_payable(costs.as_slice()) {
-        return Err(Refusal::BadCost);
-    }
-    Ok(payable_text(alloc, *vertices, *root, arcs, costs.as_slice())?)
+    payable_text(alloc, *vertices, *root, arcs, costs.as_slice())
 }

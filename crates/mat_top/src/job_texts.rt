@@ -3,12 +3,12 @@
 ghost use Rattle.std.specs.Prelude.{◌≤◌, length, IfOk, All};
 ghost use denote.Param.Send.{IsSync};
 ghost use Rattle.mat_desc.specs.Views.{instance_of};
-ghost use Rattle.mat_top.specs.JobLists.{most_jobs};
-ghost use Rattle.mat_top.specs.PosedJobs.{IsPosable, HaveTexts};
+ghost use Rattle.mat_command.specs.JobLists.{most_jobs};
+ghost use Rattle.mat_top.specs.LoadedJobs.{IsAnswerable, HaveTexts};
 ghost use Rattle.mat_top.specs.Refusals.{HasSolutionText};
 
 use crate::about::solution_text;
-use crate::posed::PosedJob;
+use crate::loaded_job::LoadedJob;
 use mat_ticket::ticket_rows;
 use mat_work::RowJob;
 use std::alloc::{AllocError, Global};
@@ -21,17 +21,17 @@ trait Answering {
     ghost can_answer: { Self → Type 0 };
 
     /// The text of a right answer to the query about its problem. The only error is want of memory.
-    fn text_of(&self, alloc: Global, posed: &PosedJob) -> Result<Vec<u8>, AllocError>
+    fn text_of(&self, alloc: Global, loaded: &LoadedJob) -> Result<Vec<u8>, AllocError>
         requires answering { can_answer self.now }
-        requires posable { IsPosable posed.now }
-        ensures { IfOk result (λ v. HasSolutionText posed.now.query (instance_of posed.now.problem) v.items) };
+        requires answerable { IsAnswerable loaded.now }
+        ensures { IfOk result (λ v. HasSolutionText loaded.now.query (instance_of loaded.now.problem) v.items) };
 }
 
 impl<R: Threads + Sync> Answering for R {
     ghost can_answer = { λ _. IsSync R.row };
 
-    fn text_of(&self, alloc: Global, posed: &PosedJob) -> Result<Vec<u8>, AllocError> {
-        solution_text(self, alloc, &posed.problem, posed.query, 1)
+    fn text_of(&self, alloc: Global, loaded: &LoadedJob) -> Result<Vec<u8>, AllocError> {
+        solution_text(self, alloc, &loaded.problem, loaded.query, 1)
     }
 }
 
@@ -40,30 +40,30 @@ impl<R: Threads + Sync> Answering for R {
 struct TextRows<'a, S: Answering + Sync> {
     alloc: Global,
     solver: &'a S,
-    jobs: &'a [PosedJob],
+    jobs: &'a [LoadedJob],
 }
 
 impl<'a, S: Answering + Sync> Model for TextRows<'a, S> {
     ghost use Rattle.std.specs.Prelude.{List, All};
     ghost use Rattle.std.specs.Coded.{codes};
-    ghost use Rattle.mat_top.specs.contracts.posed.PosedJob as posed;
-    ghost use Rattle.mat_top.specs.declared.posed.PosedJob.{PosedJob};
-    ghost use Rattle.mat_top.specs.PosedJobs.{IsPosable};
+    ghost use Rattle.mat_top.specs.contracts.loaded_job.LoadedJob as loaded;
+    ghost use Rattle.mat_top.specs.declared.loaded_job.LoadedJob.{LoadedJob};
+    ghost use Rattle.mat_top.specs.LoadedJobs.{IsAnswerable};
 
-    ghost Value = { List PosedJob };
+    ghost Value = { List LoadedJob };
 
-    ghost coded = { Prim.hlevel (codes, posed.the_row.coded) };
+    ghost coded = { Prim.hlevel (codes, loaded.the_row.coded) };
 
     ghost view = { λ rows. rows.jobs.now };
 
-    ghost invariant = { λ rows. S.can_answer rows.solver.now × All IsPosable rows.jobs.now };
+    ghost invariant = { λ rows. S.can_answer rows.solver.now × All IsAnswerable rows.jobs.now };
 }
 
 impl<'a, S: Answering + Sync> RowJob for TextRows<'a, S> {
     type Row = Vec<u8>;
 
     ghost use Rattle.std.specs.Prelude.{length};
-    ghost use Rattle.mat_top.specs.PosedJobs.{IsTextAt};
+    ghost use Rattle.mat_top.specs.LoadedJobs.{IsTextAt};
 
     ghost jobs = { length };
 
@@ -79,11 +79,11 @@ fn texts_by<R: Threads + Sync, S: Answering + Sync>(
     rt: &R,
     alloc: Global,
     solver: &S,
-    jobs: &[PosedJob],
+    jobs: &[LoadedJob],
     workers: u32,
 ) -> Result<Vec<Vec<u8>>, AllocError>
     requires answering { S.can_answer solver.now }
-    requires posable { All IsPosable jobs.now }
+    requires answerable { All IsAnswerable jobs.now }
     requires few { length jobs.now ≤ most_jobs }
     requires workers { (1 ≤ workers) × (workers ≤ 16) }
     ensures { IfOk result (λ v. HaveTexts jobs.now v.items) }
@@ -102,10 +102,10 @@ fn texts_by<R: Threads + Sync, S: Answering + Sync>(
 pub(crate) fn job_texts<R: Threads + Sync>(
     rt: &R,
     alloc: Global,
-    jobs: &[PosedJob],
+    jobs: &[LoadedJob],
     workers: u32,
 ) -> Result<Vec<Vec<u8>>, AllocError>
-    requires posable { All IsPosable jobs.now }
+    requires answerable { All IsAnswerable jobs.now }
     requires few { length jobs.now ≤ most_jobs }
     requires workers { (1 ≤ workers) × (workers ≤ 16) }
     ensures { IfOk result (λ v. HaveTexts jobs.now v.items) }

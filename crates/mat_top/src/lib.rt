@@ -3,30 +3,23 @@
 
 mod about;
 mod batch;
-mod command;
-mod command_words;
 mod convert;
 mod cut_lines;
 mod cuts_text;
-mod job;
-mod job_list;
 mod job_texts;
-mod judge;
 mod laws;
-mod notes;
-mod posed;
-mod posing;
-mod reading;
+mod loaded_job;
+mod loading;
 mod sampling;
-mod status;
 mod summary;
 mod summary_laws;
 mod top_call;
 mod totals;
+mod witness_refusals;
 mod witnessing;
-mod writing;
 
-pub use laws::{command_line_laws, solution_laws};
-pub use status::Status;
+pub use laws::solution_laws;
+pub use mat_command::command_line_laws;
+pub use mat_judge::Status;
 pub use summary_laws::summaries_agree;
 pub use top_call::run;

@@ -7,7 +7,7 @@ ghost use Rattle.mat_desc.specs.Views.{instance_of};
 ghost use Rattle.mat_cert.specs.Views.{certificate_of};
 ghost use Rattle.mat_gen.specs.Samples.{sample_of};
 ghost use Rattle.mat_solve.specs.Answers.{IsSolution};
-ghost use Rattle.mat_top.specs.Commands.{IsSampleInRange};
+ghost use Rattle.mat_command.specs.Commands.{IsSampleInRange};
 ghost use Rattle.mat_solve.specs.Queries.{has_form, IsAnswerOf, IsQueryInRange};
 ghost use Rattle.mat_top.specs.Summaries.{query_of_kind, IsSummary};
 

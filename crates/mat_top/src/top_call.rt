@@ -3,21 +3,19 @@
 ghost use Rattle.std.specs.Prelude.{◌≡◌, ◌≤◌, ◌<◌, ◌↔◌, ◌⊎◌, ℕ, List, map, string_bytes};
 ghost use Rattle.std.specs.Prelude.{IfOk, IfErr, Some, None};
 ghost use Rattle.mat_shelf.specs.Faults.{Rose};
-ghost use Rattle.mat_top.specs.CommandLines.{command_line, asked_by};
-ghost use Rattle.mat_top.specs.Commands.{task_of};
-ghost use Rattle.mat_top.specs.Outcomes.{Tells, IsStatus, IsOutcome, IsWritten, CallReaches, IsNote, IsNoted};
+ghost use Rattle.mat_command.specs.CommandLines.{command_line, asked_by};
+ghost use Rattle.mat_command.specs.Commands.{task_of};
+ghost use Rattle.mat_judge.specs.Notes.{IsNoted};
+ghost use Rattle.mat_top.specs.Outcomes.{Tells, IsStatus, IsOutcome, IsWritten, CallReaches, IsNote};
 ghost use Rattle.mat_top.specs.Refusals.{MayBeWritten, IsRefusal, IsPut, IsEnded};
-ghost use Rattle.mat_top.specs.Views.{all_texts};
+ghost use Rattle.mat_judge.specs.Texts.{all_texts};
 
 use crate::about::text_about;
 use crate::batch::batch_texts;
-use crate::command::{Command, CommandLine};
-use crate::command_words::command_line;
 use crate::convert::converted_text;
-use crate::notes::put_note;
 use crate::sampling::sample_text;
-use crate::status::{Refusal, Status};
-use crate::writing::put_texts;
+use mat_command::{Command, CommandLine, command_line};
+use mat_judge::{Refusal, Status, put_note, put_texts};
 use mat_shelf::{Shelf, Sink};
 use std::alloc::{AllocError, Global};
 use std::thread::Threads;

@@ -1,8 +1,7 @@
 //! Making and verifying witnesses for a rung of a certificate.
 
-ghost use Rattle.std.specs.Prelude.{◌≡◌, ◌≤◌, ℕ, List, true, length, IfOk, IfErr, OnOk, IfSome};
+ghost use Rattle.std.specs.Prelude.{◌≡◌, ◌≤◌, ℕ, List, true, length, Some, IfOk, IfErr, OnOk, IfSome};
 ghost use Rattle.mat_cert.specs.Certificates.{Certificate, IsRanged};
-ghost use Rattle.mat_cert.specs.Limits.{certificate_limit};
 ghost use Rattle.mat_cert.specs.Views.{certificate_of};
 ghost use Rattle.mat_check.specs.Right.{IsRight};
 ghost use Rattle.mat_desc.specs.Grammar.{IsValid};
@@ -12,49 +11,32 @@ ghost use Rattle.mat_witness.specs.Kinds.{has_rung, is_witnessed_pair};
 ghost use Rattle.mat_witness.specs.Lines.{witness_limit};
 ghost use Rattle.mat_witness.specs.Views.{witness_parts};
 ghost use Rattle.mat_top.specs.Outcomes.{IsVerifyOutcome, IsWitnessFound};
-ghost use Rattle.mat_top.specs.Refusals.{HasNoRung, HasNoRungIn, HasNoWitness, IsUnshown, IsUnverified};
+ghost use Rattle.mat_top.specs.WitnessRefusals.{HasNoRung, HasNoWitness, IsUnshown, IsUnverified};
 ghost use Rattle.mat_top.specs.Witnessing.{IsRungAnswer, IsShowing, IsWitnessText, fits_rung};
 
-use crate::judge::{CERTIFICATE_LIMIT, judge_answer};
-use crate::reading::read_all;
-use crate::status::{Refusal, Status};
-use mat_cert::{Answer, CertRefusal, read_answer};
-use mat_check::fits;
+use crate::witness_refusals::{NoRung, Unshown};
+use mat_cert::Answer;
+use mat_check::{Verdict, check, fits};
 use mat_desc::Problem;
+use mat_judge::{Denial, Refusal, Status, answer_in, read_all};
 use mat_shelf::Shelf;
 use mat_witness::{
     Witness, are_witnessed, has_rung, make_witness, read_witness, verify, write_witness,
 };
-use std::alloc::Global;
+use std::alloc::{AllocError, Global};
 use std::thread::Threads;
 
 // The most bytes that a witness may have.
 const WITNESS_LIMIT: usize = 67_108_864;
 
-// The answer in these bytes, which fits the problem and has rung k, over matroids of witnessed kinds.
-fn rung_answer(alloc: Global, problem: &Problem, k: u32, bytes: &[u8]) -> Result<Answer, Refusal>
-    requires within { length bytes.now ≤ certificate_limit }
-    ensures answer { IfOk result (λ a. IsRungAnswer (instance_of problem.now) k bytes.now (certificate_of a)) }
-    ensures refusal { IfErr result (λ e. HasNoRung (instance_of problem.now) k bytes.now e) }
-{
-    let answer = read_answer(alloc, bytes)?;
-    if !fits(problem, &answer) || !has_rung(&answer, k) {
-        return Err(Refusal::WrongShape);
-    }
-    if !are_witnessed(problem) {
-        return Err(Refusal::Unwitnessed);
-    }
-    Ok(answer)
-}
-
-// That in the certificate of this name.
+// The answer in the certificate of this name, which fits the problem and has rung k, over matroids of witnessed kinds.
 fn rung_answer_in<F: Shelf>(
     alloc: Global,
     files: &mut F,
     name: &str,
     problem: &Problem,
     k: u32,
-) -> Result<Answer, Refusal>
+) -> Result<Answer, NoRung>
     ensures held { (other : List ℕ) → F.held files.new other ≡ F.held files.old other }
     ensures grows { (other : List ℕ) → F.faults files.old other ≤ F.faults files.new other }
     ensures answer { IfOk result (λ a. IfSome (F.held files.old name.now)
@@ -62,31 +44,36 @@ fn rung_answer_in<F: Shelf>(
     ensures ranged { IfOk result (λ a. IsRanged (certificate_of a)) }
     ensures rung { IfOk result (λ a. fits_rung (instance_of problem.now) (certificate_of a) k ≡ true) }
     ensures witnessed { IfOk result (λ a. is_witnessed_pair (instance_of problem.now) ≡ true) }
-    ensures refusal { IfErr result (λ e. HasNoRungIn (instance_of problem.now) k (F.held files.old name.now)
+    ensures refusal { IfErr result (λ e. HasNoRung (instance_of problem.now) k (F.held files.old name.now)
         (F.faults files.old name.now) (F.faults files.new name.now) e) }
 {
-    let bytes = read_all(alloc, files, name, CERTIFICATE_LIMIT)?;
-    rung_answer(alloc, problem, k, &bytes)
+    let answer = answer_in(alloc, files, name)?;
+    if !fits(problem, &answer) || !has_rung(&answer, k) {
+        return Err(NoRung::WrongShape);
+    }
+    if !are_witnessed(problem) {
+        return Err(NoRung::Unwitnessed);
+    }
+    Ok(answer)
 }
 
-// The text of a witness for rung k of a right answer.
+// The text of a witness for rung k of a right answer. The only error is want of memory.
 fn text_of_witness(
     alloc: Global,
     problem: &Problem,
     answer: &Answer,
     k: u32,
-) -> Result<Vec<u8>, Refusal>
+) -> Result<Vec<u8>, AllocError>
     requires valid { IsValid (instance_of problem.now) }
     requires sound { IsSoundInstance (instance_of problem.now) }
     requires ranged { IsRanged (certificate_of answer.now) }
     requires rung { fits_rung (instance_of problem.now) (certificate_of answer.now) k ≡ true }
     requires witnessed { is_witnessed_pair (instance_of problem.now) ≡ true }
     requires right { IsRight (instance_of problem.now) (certificate_of answer.now) }
-    ensures text { IfOk result (λ v. IsShowing (instance_of problem.now) (certificate_of answer.now) k v.items) }
-    ensures refusal { IfErr result (λ e. e ≡ Refusal.Memory) }
+    ensures { IfOk result (λ v. IsShowing (instance_of problem.now) (certificate_of answer.now) k v.items) }
 {
     let witness = make_witness(alloc, problem, answer, k)?;
-    Ok(write_witness(alloc, &witness, problem, answer, k)?)
+    write_witness(alloc, &witness, problem, answer, k)
 }
 
 /// The text of a witness for rung k of the certificate in the file of this name, which has to be right.
@@ -109,8 +96,10 @@ pub(crate) fn witness_text<R: Threads + Sync, F: Shelf>(
         (F.faults files.old certificate.now) (F.faults files.new certificate.now) e) }
 {
     let answer = rung_answer_in(alloc, files, certificate, problem, k)?;
-    judge_answer(rt, alloc, problem, &answer, 1)?;
-    text_of_witness(alloc, problem, &answer, k)
+    match check(rt, alloc, problem, &answer, 1)? {
+        Verdict::Yes => Ok(text_of_witness(alloc, problem, &answer, k)?),
+        Verdict::No { reason, a, b } => Err(Refusal::Denied(Denial::No(reason, a, b))),
+    }
 }
 
 // The witness in these bytes.
@@ -120,7 +109,7 @@ fn witness_in(
     answer: &Answer,
     k: u32,
     bytes: &[u8],
-) -> Result<Witness, Refusal>
+) -> Result<Witness, Unshown>
     requires within { length bytes.now ≤ witness_limit }
     requires valid { IsValid (instance_of problem.now) }
     requires sound { IsSoundInstance (instance_of problem.now) }
@@ -128,13 +117,9 @@ fn witness_in(
     requires rung { has_rung (certificate_of answer.now) k ≡ true }
     requires witnessed { is_witnessed_pair (instance_of problem.now) ≡ true }
     ensures text { IfOk result (λ w. IsWitnessText (instance_of problem.now) (certificate_of answer.now) k bytes.now (witness_parts w)) }
-    ensures refusal { IfErr result (λ e. IsUnshown (instance_of problem.now) (certificate_of answer.now) k bytes.now e) }
+    ensures refusal { IfErr result (λ e. IsUnshown (instance_of problem.now) (certificate_of answer.now) k (Some bytes.now) 0 0 e) }
 {
-    match read_witness(alloc, bytes, problem, answer, k) {
-        Ok(witness) => Ok(witness),
-        Err(CertRefusal::Fault { kind, line }) => Err(Refusal::BadWitness(kind, line)),
-        Err(CertRefusal::Memory) => Err(Refusal::Memory),
-    }
+    Ok(read_witness(alloc, bytes, problem, answer, k)?)
 }
 
 // Verifies the witness in these bytes.
@@ -144,7 +129,7 @@ fn verify_bytes(
     answer: &Answer,
     k: u32,
     bytes: &[u8],
-) -> Result<(), Refusal>
+) -> Result<(), Unshown>
     requires within { length bytes.now ≤ witness_limit }
     requires valid { IsValid (instance_of problem.now) }
     requires sound { IsSoundInstance (instance_of problem.now) }
@@ -152,13 +137,38 @@ fn verify_bytes(
     requires rung { has_rung (certificate_of answer.now) k ≡ true }
     requires witnessed { is_witnessed_pair (instance_of problem.now) ≡ true }
     ensures shown { OnOk result (IsVerifyOutcome (instance_of problem.now) (certificate_of answer.now) k bytes.now Status.Done) }
-    ensures refusal { IfErr result (λ e. IsUnshown (instance_of problem.now) (certificate_of answer.now) k bytes.now e) }
+    ensures refusal { IfErr result (λ e. IsUnshown (instance_of problem.now) (certificate_of answer.now) k (Some bytes.now) 0 0 e) }
 {
     let witness = witness_in(alloc, problem, answer, k, bytes)?;
     match verify(alloc, problem, answer, k, &witness)? {
         None => Ok(()),
-        Some(part) => Err(Refusal::NotShown(part)),
+        Some(part) => Err(Unshown::Part(part)),
     }
+}
+
+// Verifies the witness in the file of this name for rung k of an answer.
+fn verify_file<F: Shelf>(
+    alloc: Global,
+    files: &mut F,
+    name: &str,
+    problem: &Problem,
+    answer: &Answer,
+    k: u32,
+) -> Result<(), Unshown>
+    requires valid { IsValid (instance_of problem.now) }
+    requires sound { IsSoundInstance (instance_of problem.now) }
+    requires ranged { IsRanged (certificate_of answer.now) }
+    requires rung { has_rung (certificate_of answer.now) k ≡ true }
+    requires witnessed { is_witnessed_pair (instance_of problem.now) ≡ true }
+    ensures held { (other : List ℕ) → F.held files.new other ≡ F.held files.old other }
+    ensures grows { (other : List ℕ) → F.faults files.old other ≤ F.faults files.new other }
+    ensures shown { OnOk result (IfSome (F.held files.old name.now)
+        (λ bytes. IsVerifyOutcome (instance_of problem.now) (certificate_of answer.now) k bytes Status.Done)) }
+    ensures refusal { IfErr result (λ e. IsUnshown (instance_of problem.now) (certificate_of answer.now) k (F.held files.old name.now)
+        (F.faults files.old name.now) (F.faults files.new name.now) e) }
+{
+    let bytes = read_all(alloc, files, name, WITNESS_LIMIT)?;
+    verify_bytes(alloc, problem, answer, k, &bytes)
 }
 
 /// Verifies the witness in the file of the second name for rung k of the certificate in the file of the first: it shows the rung, or a
@@ -182,6 +192,6 @@ pub(crate) fn verify_in<F: Shelf>(
         (F.faults files.old) (F.faults files.new) e) }
 {
     let answer = rung_answer_in(alloc, files, certificate, problem, k)?;
-    let bytes = read_all(alloc, files, witness, WITNESS_LIMIT)?;
-    verify_bytes(alloc, problem, &answer, k, &bytes)
+    verify_file(alloc, files, witness, problem, &answer, k)?;
+    Ok(())
 }

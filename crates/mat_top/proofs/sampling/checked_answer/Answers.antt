@@ -1,7 +1,7 @@
 use Rattle.mat_desc.specs.Views.{instance_of}
 use Rattle.mat_cert.specs.Views.{certificate_of}
 use Rattle.mat_check.proofs.AnswerForms.{right_fits}
-use Rattle.mat_top.proofs.Judging.{yes_or_no}
+use Rattle.mat_judge.proofs.Judging.{yes_or_no}
 use Rattle.mat_top.proofs.sampling.checked_answer.Goals as goal
 
 pub check-requires-clause-fits : goal.check-requires-clause-fits

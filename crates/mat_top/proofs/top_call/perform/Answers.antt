@@ -1,4 +1,4 @@
-use Rattle.mat_top.specs.Commands.{task_of}
+use Rattle.mat_command.specs.Commands.{task_of}
 use Rattle.mat_top.proofs.Ending.{ended-refused}
 use Rattle.mat_top.proofs.top_call.perform.Goals as goal
 

@@ -1,12 +1,12 @@
 use Rattle.std.proofs.Common.{Some, Err, sym}
-use Rattle.mat_top.specs.declared.status.Refusal.TheVariants as refusals
-use Rattle.mat_top.specs.Commands.{task_of}
-use Rattle.mat_top.specs.Statuses.{note_of}
-use Rattle.mat_top.proofs.Ending.{usage_noted, note_is, ended-true, ended-written}
+use Rattle.mat_judge.specs.declared.refusal.Refusal.TheVariants as refusals
+use Rattle.mat_command.specs.Commands.{task_of}
+use Rattle.mat_judge.specs.Notes.{note_of}
+use Rattle.mat_top.proofs.Ending.{note_is, ended-true, ended-written}
 use Rattle.mat_top.proofs.top_call.run.Goals as goal
 
 pub returns-in_default-clause-noted : goal.returns-in_default-clause-noted
-returns-in_default-clause-noted g c = (note_of refusals.Usage, usage_noted (g.F.Shelf.held c.args.files.now) _, c.put_note.ensures)
+returns-in_default-clause-noted g c = (note_of refusals.Usage, note_is (g.F.Shelf.held c.args.files.now) _ refusals.Usage tt, c.put_note.ensures)
 
 pub returns-in-Err-clause-written : goal.returns-in-Err-clause-written
 returns-in-Err-clause-written g c =

@@ -1,5 +1,5 @@
-use Rattle.mat_top.specs.Commands.{request_of}
-use Rattle.mat_top.specs.CommandLines.{about}
+use Rattle.mat_command.specs.Commands.{request_of}
+use Rattle.mat_command.specs.CommandLines.{about}
 use Rattle.mat_top.proofs.Ending.{text-refused}
 use Rattle.mat_top.proofs.top_call.texts_for.Goals as goal
 

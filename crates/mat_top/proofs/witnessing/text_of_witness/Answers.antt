@@ -1,3 +1,5 @@
+use Rattle.std.proofs.lemmas.Result.{IfOk-weaker}
+use Rattle.mat_top.specs.Witnessing.{IsShowing}
 use Rattle.mat_cert.specs.Views.{certificate_of}
 use Rattle.mat_desc.specs.Views.{instance_of}
 use Rattle.mat_witness.specs.Views.{witness_parts}
@@ -8,9 +10,10 @@ pub make_witness-requires-clause-right : goal.make_witness-requires-clause-right
 make_witness-requires-clause-right c =
     right_rung (instance_of c.args.problem.now) (certificate_of c.args.answer.now) c.args.k c.requires.rung c.requires.right
 
-pub returns-clause-text : goal.returns-clause-text
-returns-clause-text c =
+pub returns : goal.returns
+returns c =
     let made = c.in_ok-witness in
-    written_shows (instance_of c.args.problem.now) (certificate_of c.args.answer.now) c.args.k c.in_ok-write_witness.field-0.items
-    (witness_parts made.witness) c.requires.valid c.requires.ranged c.requires.rung made.ensures.witness made.ensures.shown
-    c.in_ok-write_witness.ensures
+    IfOk-weaker _ _ (λ v. IsShowing (instance_of c.args.problem.now) (certificate_of c.args.answer.now) c.args.k v.items)
+    (λ v whole. written_shows (instance_of c.args.problem.now) (certificate_of c.args.answer.now) c.args.k v.items
+    (witness_parts made.witness) c.requires.valid c.requires.ranged c.requires.rung made.ensures.witness made.ensures.shown whole)
+    c.write_witness.ensures

@@ -1,0 +1,5 @@
+pub mod CommandLines
+pub mod Commands
+pub mod Views
+pub mod JobLists
+pub mod JobLines

@@ -1,0 +1,10 @@
+use Rattle.std.proofs.Common.{◌≤◌, take}
+use Rattle.mat_shelf.specs.Writing.{Appended}
+use Rattle.mat_judge.specs.Texts.{all_texts}
+use Rattle.mat_judge.proofs.writing.put_texts.Given as goal
+
+abbrev pub invariant-loop-text : goal.invariant-loop-text
+invariant-loop-text g l = record {
+  grows : g.O.Sink.faults l.fn.sink ≤ g.O.Sink.faults l.sink;
+  appended : Appended (g.O.Sink.written l.fn.sink) (all_texts (take l.text-index l.texts)) (g.O.Sink.written l.sink);
+}

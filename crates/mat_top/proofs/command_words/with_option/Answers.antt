@@ -1,7 +1,0 @@
-use Rattle.std.proofs.Common.{arith}
-use Rattle.std.specs.Prelude.{string_bytes}
-use Rattle.mat_top.proofs.NoCommands.{no_option}
-use Rattle.mat_top.proofs.command_words.with_option.Goals as goal
-
-pub returns-in_default : goal.returns-in_default
-returns-in_default c = no_option string_bytes c.args.command.now c.args.others.now (omega (arith, c.in_default.len_below))

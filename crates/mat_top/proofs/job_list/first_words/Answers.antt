@@ -1,9 +1,0 @@
-use Rattle.std.proofs.Common.{map, string_bytes, arith}
-use Rattle.std.proofs.lemmas.List.{length-map}
-use Rattle.mat_words.specs.Cursors.{parts_left}
-use Rattle.mat_top.proofs.JobReading.{first_kept}
-use Rattle.mat_top.proofs.job_list.first_words.Goals as goal
-
-pub returns : goal.returns
-returns c = first_kept (map string_bytes c.loop.texts.items) (parts_left c.loop.left) (parts_left c.args.words.left) c.loop.invariant.whole
-    (rw length-map (omega arith))

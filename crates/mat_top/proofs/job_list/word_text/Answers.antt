@@ -1,5 +1,0 @@
-use Rattle.mat_top.proofs.JobReading.{word_utf8}
-use Rattle.mat_top.proofs.job_list.word_text.Goals as goal
-
-pub unreachable-requires : goal.unreachable-requires
-unreachable-requires c = c.in-Err.ensures.cases.0 (word_utf8 c.args.word.now c.requires)

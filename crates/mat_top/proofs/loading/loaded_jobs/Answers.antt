@@ -1,0 +1,28 @@
+use Rattle.std.proofs.Common.{◌∙◌, map, arith}
+use Rattle.std.proofs.lemmas.Result.{err_from_is_err_and}
+use Rattle.mat_command.specs.Views.{job_of}
+use Rattle.mat_top.proofs.LoadedJobs.{unloaded_memory, loading_more, loading_last}
+use Rattle.mat_top.proofs.loading.loaded_jobs.Goals as goal
+
+pub returns-in_err-loaded-clause-refusal : goal.returns-in_err-loaded-clause-refusal
+returns-in_err-loaded-clause-refusal g c =
+    let p = err_from_is_err_and c.from_residual.result c.from_residual.ensures.1 in
+    rw (p.1, p.2) (unloaded_memory (g.F.Shelf.held c.args.files.now) _ _ (map job_of c.args.jobs.now))
+
+pub loop-job-preserved : goal.loop-job-preserved
+loop-job-preserved g c =
+    let one = c.in_ok-one.ensures in
+    let before = c.loop-job.invariant in
+    record {
+      held = λ name. one.held name ∙ before.held name;
+      grows = λ name. omega (arith, one.grows name, before.grows name);
+      loading = rw c.in-Ok.ensures.items
+          (loading_more (g.F.Shelf.held c.args.files.now) (g.F.Shelf.held c.loop-job.files) c.args.jobs.now c.loop-job.job-index c.job-item.result
+          c.loop-job.loaded.items c.in_ok-one.one c.loop-job-test.true c.job-item.is before.held before.loading one.loaded one.answerable);
+    }
+
+pub returns-clause-loaded : goal.returns-clause-loaded
+returns-clause-loaded g c =
+    let past = c.loop-job-test.false in
+    loading_last (g.F.Shelf.held c.args.files.now) c.args.jobs.now c.loop-job.job-index c.loop-job.loaded.items (omega (arith, past))
+    c.loop-job.invariant.loading

@@ -1,0 +1,13 @@
+//! Queries about problems.
+
+use mat_desc::Problem;
+use mat_solve::Query;
+
+/// A query about a problem.
+#[derive(Drop)]
+pub(crate) struct LoadedJob {
+    /// What is asked for.
+    pub(crate) query: Query,
+    /// What it is asked about.
+    pub(crate) problem: Problem,
+}

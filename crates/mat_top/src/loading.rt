@@ -1,0 +1,92 @@
+//! Jobs whose problems are read.
+
+ghost use Rattle.std.specs.Prelude.{◌≡◌, ◌≤◌, ℕ, List, map, IfOk, IfErr, All};
+ghost use Rattle.mat_top.specs.declared.loading.Unloaded.TheVariants as unloaded;
+ghost use Rattle.mat_judge.specs.declared.described.Undescribed.TheVariants as undescribed;
+ghost use Rattle.mat_judge.specs.declared.reading.Unread.TheVariants.{Memory};
+ghost use Rattle.mat_top.specs.LoadedJobs.{refusal_of_unloaded, IsLoaded, AreLoaded, IsAnswerable, IsUnloaded, AreUnloaded};
+ghost use Rattle.mat_command.specs.Views.{job_of};
+
+use crate::loaded_job::LoadedJob;
+use mat_command::Job;
+use mat_judge::{Denial, Refusal, Undescribed, Unread, problem_in};
+use mat_shelf::Shelf;
+use mat_solve::has_form;
+use std::alloc::{AllocError, Global};
+
+/// Why a job has no problem of its query's form.
+pub(crate) enum Unloaded {
+    /// Its file describes none, or memory ran out.
+    Undescribed(Undescribed),
+    /// The problem has another form.
+    WrongShape,
+}
+
+impl From<AllocError> for Unloaded {
+    ghost from_gives = { λ _ e. e ≡ unloaded.Undescribed (undescribed.Unread Memory) };
+
+    fn from(_error: AllocError) -> Unloaded {
+        Unloaded::Undescribed(Undescribed::Unread(Unread::Memory))
+    }
+}
+
+impl From<Undescribed> for Unloaded {
+    ghost from_gives = { λ why e. e ≡ unloaded.Undescribed why };
+
+    fn from(why: Undescribed) -> Unloaded {
+        Unloaded::Undescribed(why)
+    }
+}
+
+impl From<Unloaded> for Refusal {
+    ghost from_gives = { λ why e. e ≡ refusal_of_unloaded why };
+
+    fn from(why: Unloaded) -> Refusal {
+        match why {
+            Unloaded::Undescribed(why) => Refusal::from(why),
+            Unloaded::WrongShape => Refusal::Denied(Denial::WrongShape),
+        }
+    }
+}
+
+// The job with the problem that its file describes, which is read. What refuses the file comes first, and `WrongShape` where the form
+// of the problem is not the query's.
+fn loaded_job<F: Shelf>(alloc: Global, files: &mut F, job: &Job) -> Result<LoadedJob, Unloaded>
+    ensures held { (name : List ℕ) → F.held files.new name ≡ F.held files.old name }
+    ensures grows { (name : List ℕ) → F.faults files.old name ≤ F.faults files.new name }
+    ensures loaded { IfOk result (λ p. IsLoaded (F.held files.old) (job_of job.now) p) }
+    ensures answerable { IfOk result (λ p. IsAnswerable p) }
+    ensures refusal { IfErr result (λ e. IsUnloaded (F.held files.old) (job_of job.now) (F.faults files.old) (F.faults files.new) e) }
+{
+    let problem = problem_in(alloc, files, &job.file)?;
+    if !has_form(job.query, &problem) {
+        return Err(Unloaded::WrongShape);
+    }
+    Ok(LoadedJob {
+        query: job.query,
+        problem,
+    })
+}
+
+/// The jobs with their problems, in their order. The files are read one after the other, and the first job that is refused ends it.
+pub(crate) fn loaded_jobs<F: Shelf>(
+    alloc: Global,
+    files: &mut F,
+    jobs: &[Job],
+) -> Result<Vec<LoadedJob>, Unloaded>
+    ensures held { (name : List ℕ) → F.held files.new name ≡ F.held files.old name }
+    ensures grows { (name : List ℕ) → F.faults files.old name ≤ F.faults files.new name }
+    ensures loaded { IfOk result (λ v. AreLoaded (F.held files.old) (map job_of jobs.now) v.items) }
+    ensures answerable { IfOk result (λ v. All IsAnswerable v.items) }
+    ensures refusal { IfErr result (λ e. AreUnloaded (F.held files.old) (F.faults files.old) (F.faults files.new) (map job_of jobs.now) e) }
+{
+    let mut loaded = Vec::with_capacity(alloc, jobs.len())?;
+    for job in jobs {
+        let one = loaded_job(alloc, files, job)?;
+        match loaded.push(one) {
+            Ok(()) => {}
+            Err(_) => return Err(Unloaded::Undescribed(Undescribed::Unread(Unread::Memory))),
+        }
+    }
+    Ok(loaded)
+}
