@@ -6,7 +6,7 @@ use Rattle.mat_sets.specs.Sets.{is_member, with_one}
 use Rattle.mat_sets.specs.Families.{indicator}
 use Rattle.mat_count.specs.Counts.{is_counted}
 use Rattle.mat_count.specs.LaminarMatroids.{IsPlaceTable}
-use Rattle.mat_count.specs.LaminarRows.{is_full}
+use Rattle.mat_count.specs.Counters.{is_full}
 use Rattle.mat_count.proofs.ClassRows.{IsOutside-from_test}
 use Rattle.mat_count.proofs.CountedRuns.{IsCounting, IsCounting-passed, IsCounting-entered}
 use Rattle.mat_count.proofs.LaminarRows.{added_at}

@@ -1,4 +1,3 @@
-pub mod ClassMembers
 pub mod ClassRows
 pub mod ClassTables
 pub mod CountedRuns
@@ -8,10 +7,10 @@ pub mod FullSetRows
 pub mod KeptSets
 pub mod LaminarRows
 pub mod LaminarRuns
-pub mod PartitionRows
 pub mod PartitionRuns
 pub mod PlaceTables
 pub mod RunSteps
 pub mod UniformRows
 pub mod UniformRuns
 pub mod LabelClasses
+pub mod WordInclusions

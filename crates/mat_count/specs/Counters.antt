@@ -1,6 +1,9 @@
 -- Counters of members against caps.
-use Rattle.std.specs.Prelude.{ℕ, Bool, false, not, ◌==◌, Option, Some, None, List, length, filter}
-use Rattle.mat_count.specs.LaminarRows.{is_full}
+use Rattle.std.specs.Prelude.{ℕ, Bool, false, not, ◌==◌, nat_le, Option, Some, None, List, length, filter, slice_index_or}
+
+-- whether the set at this place is full: its number of members is at least its cap
+abbrev pub is_full : List ℕ → List ℕ → ℕ → Bool
+is_full caps numbers i = nat_le (slice_index_or caps i 0) (slice_index_or numbers i 0)
 
 -- whether an entry names a class that is full: its number of members is at least its cap
 abbrev pub is_named_full : List ℕ → List ℕ → Option ℕ → Bool

@@ -10,12 +10,11 @@ ghost use Rattle.mat_count.specs.FullSets.{AreFullSets};
 ghost use Rattle.mat_count.specs.Partitions.{CountsMembers};
 ghost use Rattle.mat_count.specs.Laminar.{IsLaminarFamily};
 ghost use Rattle.mat_count.specs.LaminarMatroids.{IsLaminar, IsPlaceTable, IsPlaced};
-ghost use Rattle.mat_count.specs.LaminarRows.{is_full, has_each};
 ghost use Rattle.mat_count.specs.LaminarFaults.{IsFirstPair, SomeOutside, IsFaultOf};
 ghost use Rattle.mat_count.specs.LaminarLaws.{counted_laws};
 
 use crate::caps::are_within;
-use crate::crossings::{count_shared, crossing};
+use crate::crossings::crossing;
 use crate::full_sets::FullSets;
 use crate::laminar_fault::LaminarFault;
 use mat_laws::{Exchange, Matroid};
@@ -148,55 +147,6 @@ fn members_by_set(
     Ok(numbers)
 }
 
-// Those of these places whose sets are full: a set is where its number of members is at least its cap.
-fn full_places(
-    alloc: Global,
-    places: &ElemSet,
-    caps: &[u32],
-    numbers: &[usize],
-) -> Result<ElemSet, AllocError>
-    requires capped { length caps.now ≡ length numbers.now }
-    requires inside { AllBelow (length numbers.now) places.now }
-    ensures places { IfOk result (λ s. s ≡ filter (is_full caps.now numbers.now) places.now) }
-    ensures rises { IfOk result (λ s. IsRising s) }
-{
-    let mut full = ElemSet::new(alloc);
-    for i in places.as_slice() {
-        if numbers[*i as usize] >= caps[*i as usize] as usize {
-            full.add(*i)?;
-        }
-    }
-    Ok(full)
-}
-
-// Whether the table has each of these places at y.
-fn stands_in_each(table: &SetList, places: &ElemSet, y: u32) -> bool
-    requires { y < length table.now }
-    ensures { result ≡ has_each table.now places.now y }
-{
-    count_shared(places.as_slice(), table.get(y as usize).as_slice()) == places.len()
-}
-
-// The members of the set at which the table has each of these places. Each is put in at the end.
-fn members_in_each(
-    alloc: Global,
-    table: &SetList,
-    places: &ElemSet,
-    set: &ElemSet,
-) -> Result<ElemSet, AllocError>
-    requires { AllBelow (length table.now) set.now }
-    ensures members { IfOk result (λ s. s ≡ filter (has_each table.now places.now) set.now) }
-    ensures rises { IfOk result (λ s. IsRising s) }
-{
-    let mut members = ElemSet::new(alloc);
-    for y in set.as_slice() {
-        if stands_in_each(table, places, *y) {
-            members.add(*y)?;
-        }
-    }
-    Ok(members)
-}
-
 // Whether the set at one of these places is full: its number of members is at least its cap.
 fn some_full(places: &ElemSet, caps: &[u32], numbers: &[usize]) -> bool
     requires capped { length caps.now ≡ length numbers.now }
@@ -327,17 +277,11 @@ impl Matroid for Laminar {
         Ok(are_within(&numbers, &self.caps))
     }
 
-    /// An element outside can be added where no listed set that holds it is full, and be exchanged for the members that stand
-    /// in each full one. No question of independence is asked: the time is linear in the number of sets and, for each member,
-    /// in how many sets hold it or the element. The only error is want of memory.
+    /// The exchanges of x by what is kept of the set: one row. The time is that of reading the set and each listed one. The only error is
+    /// want of memory.
     fn circuit(&self, alloc: Global, base: &ElemSet, x: u32) -> Result<Exchange, AllocError> {
-        let numbers = members_by_set(alloc, &self.sets, &self.places, base)?;
-        let full = full_places(alloc, self.places.get(x as usize), &self.caps, &numbers)?;
-        let with = members_in_each(alloc, &self.places, &full, base)?;
-        Ok(Exchange {
-            addable: full.is_empty(),
-            with,
-        })
+        let kept = self.keep(alloc, base)?;
+        self.row(alloc, base, &kept, x)
     }
 
     /// The greedy run, by a counter for each listed set. No question of independence is asked: the time is linear in the

@@ -11,7 +11,7 @@ mod laws;
 mod partition;
 mod uniform;
 
-pub use crossings::crossing;
+pub use crossings::{crossing, crossing_bits};
 pub use full_sets::FullSets;
 pub use laminar::Laminar;
 pub use laminar_fault::LaminarFault;

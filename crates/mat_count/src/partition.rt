@@ -7,7 +7,6 @@ ghost use Rattle.mat_laws.specs.GreedyRuns.{grown_along};
 ghost use Rattle.mat_count.specs.Counts.{is_counted};
 ghost use Rattle.mat_count.specs.FullSets.{AreFullSets};
 ghost use Rattle.mat_count.specs.Labels.{classes_by};
-ghost use Rattle.mat_count.specs.ClassMembers.{named_members};
 ghost use Rattle.mat_count.specs.Counters.{is_named_full};
 ghost use Rattle.mat_count.specs.Partitions.{names, IsPartition, IsClassTable, IsClassEntered, CountsMembers};
 ghost use Rattle.mat_count.specs.PartitionLaws.{partition_laws};
@@ -89,26 +88,6 @@ fn members_by_class(
         }
     }
     Ok(numbers)
-}
-
-// The members of the set that stand in the class at this place. Each is put in at the end, so that the time is linear.
-fn members_in_class(
-    alloc: Global,
-    class_of: &[Option<usize>],
-    set: &ElemSet,
-    place: usize,
-) -> Result<ElemSet, AllocError>
-    requires { AllBelow (length class_of.now) set.now }
-    ensures members { IfOk result (λ s. s ≡ named_members class_of.now place set.now) }
-    ensures rises { IfOk result (λ s. IsRising s) }
-{
-    let mut members = ElemSet::new(alloc);
-    for y in set.as_slice() {
-        if class_of[*y as usize] == Some(place) {
-            members.add(*y)?;
-        }
-    }
-    Ok(members)
 }
 
 // Whether the class that the entry names is full, if it names one: its number of members is at least its cap.
@@ -239,24 +218,11 @@ impl Matroid for Partition {
         Ok(are_within(&numbers, &self.caps))
     }
 
-    /// Where the class of x has as many members in the set as its cap, x cannot be added, and can be exchanged for the
-    /// members of that class alone; else it can be added, and exchanged for every member. No question of independence is
-    /// asked: the time is linear in the number of members. The only error is want of memory.
+    /// The exchanges of x by what is kept of the set: one row. The time is that of reading the set and the classes. The only error is want
+    /// of memory.
     fn circuit(&self, alloc: Global, base: &ElemSet, x: u32) -> Result<Exchange, AllocError> {
-        if let Some(place) = self.class_of[x as usize] {
-            let with = members_in_class(alloc, &self.class_of, base, place)?;
-            if with.len() >= self.caps[place] as usize {
-                return Ok(Exchange {
-                    addable: false,
-                    with,
-                });
-            }
-        }
-        let with = base.copy(alloc)?;
-        Ok(Exchange {
-            addable: true,
-            with,
-        })
+        let kept = self.keep(alloc, base)?;
+        self.row(alloc, base, &kept, x)
     }
 
     /// The greedy run, by a counter for each class. No question of independence is asked: the time is linear in the order and

@@ -1,5 +1,6 @@
 //! Reading the end of a line, a line of weights, and a line of elements.
 
+ghost use Rattle.std.specs.Prelude.{[]};
 ghost use Rattle.mat_words.specs.Cursors.{lines_left, words_left};
 ghost use Rattle.mat_desc.specs.Faults.{Gives};
 ghost use Rattle.mat_desc.specs.Reading.{ended_at, elements_at, weights_at};
@@ -8,7 +9,7 @@ ghost use Rattle.mat_desc.specs.Views.{naming};
 use crate::limits::{LARGEST_WEIGHT, SMALLEST_WEIGHT};
 use crate::notation::next_member;
 use crate::refusal::{DescKind, DescRefusal, fault};
-use mat_sets::{ElemSet, PairWeights};
+use mat_sets::{BitSet, ElemSet, PairWeights};
 use mat_words::{LineCursor, Names, WordCursor, keyed_line, next_weights};
 use std::alloc::Global;
 
@@ -56,6 +57,29 @@ pub(crate) fn elements_line(
             return Err(fault(DescKind::Repeated, rest.line));
         }
         let _ = set.add(element)?;
+        rest = after;
+    }
+    Ok(set)
+}
+
+/// The set of the elements below `count` that are left of a line, as bits: each is found and put in at once. One that stands twice is
+/// repeated.
+pub(crate) fn element_bits(
+    alloc: Global,
+    words: WordCursor<'_>,
+    names: Option<&Names>,
+    count: u32,
+) -> Result<BitSet, DescRefusal>
+    ensures { Gives (λ set. (set, set)) result (elements_at (naming names.entry) count [] (words_left words.entry)) }
+{
+    let mut set = BitSet::with_capacity(alloc, count)?;
+    let mut rest = words;
+    while rest.left.is_some() {
+        let (element, after) = next_member(rest, names, count)?;
+        if set.contains(element) {
+            return Err(fault(DescKind::Repeated, rest.line));
+        }
+        set.insert(element)?;
         rest = after;
     }
     Ok(set)

@@ -1,17 +1,16 @@
-use Rattle.std.proofs.Common.{ltb, sym, ap, ◌∙◌}
-use Rattle.mat_count.proofs.CrossingWalks.{crosses-some, crosses-none}
+use Rattle.std.proofs.Common.{ap, not, sym, ◌∙◌}
+use Rattle.mat_count.proofs.WordInclusions.{crosses-inside, crosses-met, crosses-unmet}
 use Rattle.mat_count.proofs.crossings.do_cross.Goals as goal
 
-pub returns-then-shared-gt0 : goal.returns-then-shared-gt0
-returns-then-shared-gt0 c =
-    let shared = rw (c.as_slice.ensures.items, c.as_slice-2.ensures.items) at c.count_shared-shared.ensures in
-    let least = rw (c.len.ensures.count, c.len-then-shared-gt0.ensures.count) at c.min.ensures in
-    ap (ltb c.count_shared-shared.result) least
-    ∙ sym (crosses-some c.args.a.now c.args.b.now c.count_shared-shared.result c.as_slice.ensures.rises c.as_slice-2.ensures.rises
-    shared c.if-shared-gt0.true)
+pub returns-then-is_disjoint : goal.returns-then-is_disjoint
+returns-then-is_disjoint c = sym (crosses-unmet c.args.a.now c.args.b.now (c.is_disjoint.ensures.apart.0 c.if-is_disjoint.true))
 
-pub returns-else-shared-gt0 : goal.returns-else-shared-gt0
-returns-else-shared-gt0 c =
-    let shared = rw (c.as_slice.ensures.items, c.as_slice-2.ensures.items) at c.count_shared-shared.ensures in
-    sym (crosses-none c.args.a.now c.args.b.now c.count_shared-shared.result c.as_slice.ensures.rises c.as_slice-2.ensures.rises
-    shared c.if-shared-gt0.false)
+pub returns-then-not-is_subset : goal.returns-then-not-is_subset
+returns-then-not-is_subset c =
+    sym (crosses-met c.args.a.now c.args.b.now c.is_disjoint.result c.is_subset.result c.is_subset-then-not-is_subset.result
+    c.is_disjoint.ensures.apart c.if-is_disjoint.false c.is_subset.ensures.inside c.if-not-is_subset.true
+    c.is_subset-then-not-is_subset.ensures.inside)
+
+pub returns-else-not-is_subset : goal.returns-else-not-is_subset
+returns-else-not-is_subset c =
+    ap not c.if-not-is_subset.false ∙ sym (crosses-inside c.args.a.now c.args.b.now (c.is_subset.ensures.inside.0 c.if-not-is_subset.false))

@@ -3,7 +3,7 @@ use Rattle.std.proofs.lemmas.Bool.{not-false, not-true}
 use Rattle.std.specs.List.{filter}
 use Rattle.mat_sets.proofs.Steps.{written_back}
 use Rattle.mat_sets.proofs.Sums.{AllBelow-at}
-use Rattle.mat_count.specs.LaminarRows.{is_full}
+use Rattle.mat_count.specs.Counters.{is_full}
 use Rattle.mat_count.proofs.CountedRuns.{IsCounting-start, IsCounting-repeated, counter-small}
 use Rattle.mat_count.proofs.LaminarRuns.{laminar_run-passed, laminar_run-entered}
 use Rattle.mat_count.proofs.PlaceTables.{AllBelow-places}

@@ -7,7 +7,7 @@ use Rattle.mat_sets.proofs.DisjointSets.{no_member}
 use Rattle.mat_sets.proofs.Filters.{filter-passed}
 use Rattle.mat_sets.proofs.Members.{is_member-filter, is_member-get_or}
 use Rattle.mat_sets.proofs.Sums.{AllBelow-at}
-use Rattle.mat_count.specs.LaminarRows.{is_full}
+use Rattle.mat_count.specs.Counters.{is_full}
 use Rattle.mat_count.proofs.laminar.some_full.Goals as goal
 
 pub bounds-numbers-i : goal.bounds-numbers-i

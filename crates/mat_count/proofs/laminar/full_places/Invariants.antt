@@ -1,7 +1,0 @@
-use Rattle.std.proofs.Common.{◌≡◌, take}
-use Rattle.std.specs.List.{filter}
-use Rattle.mat_count.specs.LaminarRows.{is_full}
-use Rattle.mat_count.proofs.laminar.full_places.Given as goal
-
-abbrev pub invariant-loop-i : goal.invariant-loop-i
-invariant-loop-i l = l.full ≡ filter (is_full l.caps l.numbers) (take l.i-index l.places)
