@@ -29,10 +29,10 @@ use Rattle.mat_arbor.specs.Heads.{EntersOnce, cap_at, head_of, is_entering_once}
 
 -- ---- at most one arc into each vertex, as a matroid and in words
 
-pub cap_root : (root v : ℕ) → v ≡ root → cap_at root v ≡ 0
+cap_root : (root v : ℕ) → v ≡ root → cap_at root v ≡ 0
 cap_root root v e = rw (eq-eqb v root e) refl
 
-pub cap_other : (root v : ℕ) → v ≢ root → cap_at root v ≡ 1
+cap_other : (root v : ℕ) → v ≢ root → cap_at root v ≡ 1
 cap_other root v d = rw (ne_eqb v root d) refl
 
 cap_most : (root v : ℕ) → cap_at root v ≤ 1
@@ -210,7 +210,7 @@ last_arc ends (a ∷ arcs) v w h = elim (last_arc ends arcs (ends a).1 w h.1) [
 
 module _ (n vertices : ℕ) (ends : ℕ → ℕ × ℕ) (root : ℕ) (small : root < vertices) (X : List ℕ)
     (below : AreEndsBelow ends vertices X) (t : IsSpanningArborescence vertices n ends root X) where
-  entered : (v : ℕ) → v < vertices → v ≢ root → (a : ℕ) × (is_member a X ≡ true) × ((ends a).1 ≡ v)
+  pub entered : (v : ℕ) → v < vertices → v ≢ root → (a : ℕ) × (is_member a X ≡ true) × ((ends a).1 ≡ v)
   entered v l other =
       let r = t.reached v l in
       elim (last_arc ends r.along root v r.walk) [

@@ -1,20 +1,19 @@
--- What an answer proves: the laws, and the last rung of a ladder of the two matroids.
+-- What an answer proves: a spanning arborescence is a common independent set of the two matroids, and a split proves that it costs least.
 use Rattle.std.proofs.Common.{◌≡◌, ℕ, suc, ◌<◌, true, List, [], ◌∷◌, length, refl, sym, ◌∙◌, arith}
-use Rattle.std.proofs.lemmas.Bool.{and_parts, lt-ltb}
+use Rattle.std.proofs.lemmas.Bool.{and_parts}
 use Rattle.std.proofs.lemmas.Int.{ints}
-use Rattle.mat_sets.specs.Sets.{is_member, IsSet, all_below}
+use Rattle.mat_sets.specs.Sets.{IsSet}
 use Rattle.mat_sets.specs.SetTests.{is_set}
 use Rattle.mat_sets.specs.Weights.{◌⊕◌, ◌≼◌, negated, weight, weight_at, weight_sum}
 use Rattle.mat_sets.specs.declared.weight.Weight.{Weight}
 use Rattle.mat_sets.specs.Graphs.{IsGraph, IsSpanningArborescence, ends_of}
-use Rattle.mat_sets.proofs.Ground.{IsRising-all_below, below_member, is_member-all_below, length-all_below}
+use Rattle.mat_sets.proofs.Ground.{below_member}
 use Rattle.mat_sets.proofs.SetTests.{IsSet-from_test}
 use Rattle.mat_sets.proofs.WeightOrder.{pairs}
 use Rattle.mat_sets.proofs.WeightSums.{weight_sum-plus}
 use Rattle.mat_graphic.specs.Forests.{is_forest, is_graphic}
 use Rattle.mat_graphic.specs.ForestLaws.{IsForest-from_test}
 use Rattle.mat_graphic.proofs.ComponentCounts.{AreEndsBelow}
-use Rattle.mat_graphic.proofs.ForestSizes.{length-forest_inside}
 use Rattle.mat_arbor.specs.Heads.{EntersOnce, is_entering_once}
 use Rattle.mat_arbor.specs.Arborescences.{IsSplitArborescence}
 use Rattle.mat_arbor.proofs.CommonSets.{IsSet-entering_once, EntersOnce-from_test, test_from-EntersOnce, common_reaches, arborescence_enters_once, arborescence_is_forest}
@@ -54,21 +53,6 @@ module _ (vertices : ℕ) (arcs : List (ℕ × ℕ)) (root : ℕ) (g : IsGraph v
       let below = ends_below X t.set in (
         arborescence_is_forest (length arcs) vertices (ends_of arcs) root small X below t,
         test_entering_once X t.set (arborescence_enters_once (length arcs) vertices (ends_of arcs) root small X below t),
-      )
-
-  -- a forest has fewer edges than there are vertices
-  pub forest_below_vertices : 0 < vertices → (X : List ℕ) → is_graphic (length arcs) (ends_of arcs) X ≡ true → length X < vertices
-  forest_below_vertices some X graphic =
-      let tests = and_parts (is_set (length arcs) X) (is_forest (ends_of arcs) X) graphic in
-      let s = IsSet-from_test (length arcs) X tests.0 in
-      let inside : (a : ℕ) → is_member a X ≡ true → (is_member (ends_of arcs a).0 (all_below vertices) ≡ true) × (is_member (ends_of arcs a).1 (all_below vertices) ≡ true) =
-      λ a m. (is_member-all_below _ vertices ∙ lt-ltb _ vertices (ends_below X s a m).0, is_member-all_below _ vertices ∙ lt-ltb _ vertices (ends_below X s a m).1) in
-      omega (
-        arith,
-        length-forest_inside (ends_of arcs) X (all_below vertices) s.rising (IsForest-from_test (ends_of arcs) X s.rising tests.1)
-            (IsRising-all_below vertices) inside
-            (omega (arith, length-all_below vertices)),
-        length-all_below vertices,
       )
 
   -- the split proves that the arborescence costs least

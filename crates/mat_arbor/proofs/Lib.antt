@@ -1,6 +1,10 @@
 pub mod CommonSets
 pub mod GrownTrees
 pub mod LeastTrees
-pub mod HeadCaps
-pub mod FoundTrees
-pub mod Negating
+pub mod Values
+pub mod Sizes
+pub mod Slackness
+pub mod Exchanges
+pub mod Splits
+pub mod Adding
+pub mod Gaps

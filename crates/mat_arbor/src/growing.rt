@@ -1,6 +1,7 @@
 //! What the root reaches.
 ghost use Rattle.std.specs.Prelude.{◌<◌, ℕ, length, IfOk, MatchOption};
-ghost use Rattle.mat_sets.specs.Graphs.{ends_of};
+ghost use Rattle.mat_sets.specs.Graphs.{ends_of, IsGraph, IsUnentered};
+ghost use Rattle.mat_arbor.specs.Arborescences.{HasNoArborescence};
 ghost use Rattle.mat_arbor.specs.Growing.{IsGrownTree, Leaves};
 
 use mat_sets::ElemSet;
@@ -20,7 +21,7 @@ fn leaving_arc(arcs: &[(u32, u32)], set: &ElemSet) -> Option<usize>
 }
 
 /// The vertices that the root reaches: the head of one arc after the other that leaves them is added. The only error is want of memory.
-pub fn reached_from(alloc: Global, arcs: &[(u32, u32)], root: u32) -> Result<ElemSet, AllocError>
+fn reached_from(alloc: Global, arcs: &[(u32, u32)], root: u32) -> Result<ElemSet, AllocError>
     ensures grown { IfOk result (IsGrownTree (length arcs.now) (ends_of arcs.now) root) }
     ensures closed { IfOk result (λ s. (a : ℕ) → a < length arcs.now → ¬ Leaves (ends_of arcs.now) s a) }
 {
@@ -30,4 +31,21 @@ pub fn reached_from(alloc: Global, arcs: &[(u32, u32)], root: u32) -> Result<Ele
         reached.add(arcs[a].1)?;
     }
     Ok(reached)
+}
+
+/// The vertices that the root does not reach, where there is no spanning arborescence. The only error is want of memory.
+pub(crate) fn unreached_from(
+    alloc: Global,
+    vertices: u32,
+    arcs: &[(u32, u32)],
+    root: u32,
+) -> Result<ElemSet, AllocError>
+    requires graph { IsGraph vertices arcs.now }
+    requires root { root < vertices }
+    requires none { HasNoArborescence vertices arcs.now root }
+    ensures { IfOk result (IsUnentered vertices arcs.now root) }
+{
+    let reached = reached_from(alloc, arcs, root)?;
+    let rest = ElemSet::all_below(alloc, vertices)?.minus(alloc, &reached)?;
+    Ok(rest)
 }

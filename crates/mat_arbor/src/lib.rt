@@ -3,8 +3,11 @@
 
 mod arbor;
 mod growing;
+mod halves;
+mod held;
 pub mod laws;
 mod least;
+mod numbers;
 
 pub use arbor::Arbor;
 pub use least::least_arborescence;

@@ -18,6 +18,7 @@ pub mod RightPackings
 pub mod RightSets
 pub mod OptimalSets
 pub mod LabelledMatroids
+pub mod HeadCaps
 pub mod CountedComponents
 pub mod RightRungs
 pub mod ListedMatroids

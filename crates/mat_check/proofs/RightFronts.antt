@@ -17,7 +17,6 @@ use Rattle.mat_branch.specs.Spanning.{is_spanning_arborescence}
 use Rattle.mat_branch.proofs.SpanningTests.{spanning_is_told}
 use Rattle.mat_arbor.specs.Arborescences.{IsSplitArborescence}
 use Rattle.mat_arbor.specs.Heads.{is_entering_once}
-use Rattle.mat_arbor.proofs.FoundTrees.{entering_once_laws}
 use Rattle.mat_arbor.proofs.LeastTrees.{common_from_arborescence}
 use Rattle.mat_fronts.specs.Assignments.{column_at, row_at}
 use Rattle.mat_fronts.specs.Once.{is_once}
@@ -29,6 +28,7 @@ use Rattle.mat_cert.specs.declared.answer.PricedRung.{PricedRung}
 use Rattle.mat_check.specs.AnswerClauses.{clauses_of}
 use Rattle.mat_check.specs.Clauses.{Clause, heaviest_clause, ladder_clauses}
 use Rattle.mat_check.specs.TreeClauses.{arborescence_clauses, colours_clauses, cost_clause}
+use Rattle.mat_check.proofs.HeadCaps.{entering_once_laws}
 use Rattle.mat_check.proofs.AnswerForms.{RightHasNoFailure}
 use Rattle.mat_check.proofs.FirstFailures.{AllHold, all_hold, none_fails, AllHold-append, AllHold-at, AllHold-back, AllHold-front, AllHold-map}
 use Rattle.mat_check.proofs.RightLadders.{ladder_is_right, ladder_holds}

@@ -11,10 +11,10 @@ use Rattle.mat_sets.specs.Sets.{is_member}
 use Rattle.mat_sets.specs.Sums.{sum_of}
 use Rattle.mat_cuts.specs.Costs.{cost_at, cost_of, IsCost}
 use Rattle.mat_sets.proofs.Cardinalities.{sum_of-high, sum_of-le, sum_of-plus}
-use Rattle.mat_sets.proofs.Crossings.{arborescence_enters, unentered_has_none}
+use Rattle.mat_sets.proofs.Crossings.{arborescence_enters}
 use Rattle.mat_sets.proofs.Ground.{below_member}
 use Rattle.mat_cuts.specs.Cuts.{all_weight, weight_on, weight_where, AreRightCuts, IsWeightedCut}
-use Rattle.mat_cuts.specs.Answers.{AreInRange, AreRight, IsCutInRange, TellsReached}
+use Rattle.mat_cuts.specs.Answers.{AreInRange, AreRight, IsCutInRange}
 use Rattle.mat_cuts.specs.declared.cut_weight.Cuts.{Cuts}
 use Rattle.mat_cuts.specs.declared.cut_weight.Cuts.TheVariants.{Tree, Unreached}
 use Rattle.mat_cuts.specs.declared.cut_weight.CutWeight.{CutWeight}
@@ -29,7 +29,7 @@ module _ (ends : ℕ → ℕ × ℕ) where
   where-sum-low set w (x ∷ xs) p = omega (arith, ints, where-low (enters ends set x) w p, where-sum-low set w xs p)
 
   -- a set that some arc enters is paid once at least
-  where-sum : (set : List ℕ) (w : ℤ) (xs : List ℕ) (a : ℕ) → pos 0 <ℤ w → is_member a xs ≡ true → enters ends set a ≡ true
+  pub where-sum : (set : List ℕ) (w : ℤ) (xs : List ℕ) (a : ℕ) → pos 0 <ℤ w → is_member a xs ≡ true → enters ends set a ≡ true
       → w ≤ℤ sum_of (λ a. weight_where (enters ends set a) w) xs
   where-sum set w [] a p m e = absurd (false≢true m)
   where-sum set w (x ∷ xs) a p m e = elim (cases_Bool (enters ends set x)) [
@@ -65,12 +65,6 @@ right_cuts_are_cheapest vertices arcs costs root tree cuts r other s =
     let most = all_weight-le (ends_of arcs) vertices (length arcs) root other cuts s r.each in
     let same = r.total in
     omega (arith, ints)
-
--- right answers tell whether there is a spanning arborescence
-pub tells_reached : (vertices : ℕ) (arcs : List (ℕ × ℕ)) (costs : List ℤ) (root : ℕ) (cuts : Cuts) → AreRight vertices arcs costs root cuts
-    → TellsReached vertices arcs root cuts
-tells_reached vertices arcs costs root (Tree tree cuts) r = (tree, r.spans)
-tells_reached vertices arcs costs root (Unreached set) r = λ tree s. unentered_has_none vertices arcs root set tree r s
 
 -- ---- right answers are in range
 

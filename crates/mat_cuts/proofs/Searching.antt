@@ -7,7 +7,7 @@ use Rattle.mat_cuts.specs.Limits.{never, vertex_bound}
 use Rattle.mat_sets.specs.Graphs.{ends_of, enters, IsGraph, IsRootFree, IsUnentered}
 use Rattle.mat_sets.specs.Search.{those_below}
 use Rattle.mat_sets.specs.Sets.{all_below, is_member, without_one, IsSet}
-use Rattle.mat_cuts.specs.Costs.{cost_at, IsCost}
+use Rattle.mat_cuts.specs.Costs.{cost_at, IsWideCost}
 use Rattle.mat_sets.proofs.Cardinalities.{length-without_one}
 use Rattle.mat_sets.proofs.Ground.{is_member-all_below, length-all_below, IsRising-all_below, IsSet-all_below, IsSet-without_one}
 use Rattle.mat_sets.proofs.Members.{is_member-without_one, some_from_member}
@@ -69,7 +69,7 @@ module _ (vertices : ℕ) (arcs : List (ℕ × ℕ)) (graph : IsGraph vertices a
   module _ (costs : List ℤ) (root : ℕ) where
     -- ---- the start
 
-    pub IsSearching-start : (since place fresh : List ℕ) → root < vertices → length costs ≡ length arcs → All IsCost costs
+    pub IsSearching-start : (since place fresh : List ℕ) → root < vertices → length costs ≡ length arcs → All IsWideCost costs
         → length since ≡ length costs → ((a : ℕ) → a < length costs → IsFirstTime (cost_at costs a) (at since a))
         → length place ≡ vertices → at place root ≡ 0 → ((v : ℕ) → v < vertices → v ≢ root → at place v ≡ never)
         → fresh ≡ without_one (all_below vertices) root → IsSearching vertices arcs costs root costs since [] place fresh 0
@@ -95,8 +95,8 @@ module _ (vertices : ℕ) (arcs : List (ℕ × ℕ)) (graph : IsGraph vertices a
         reduced_long = long;
         since_long = timed ∙ long;
         paid = λ a l. omega (arith, ints);
-        low = λ a l. (All-get_or IsCost costs a (pos 0) (omega arith) range).0;
-        high = λ a l. (All-get_or IsCost costs a (pos 0) (omega arith) range).1;
+        low = λ a l. (All-get_or IsWideCost costs a (pos 0) (omega arith) range).0;
+        high = λ a l. (All-get_or IsWideCost costs a (pos 0) (omega arith) range).1;
         spent = λ a l t. (times a (omega arith)).spent t;
         soon = λ a l z. (let e = (times a (omega arith)).soon z in omega arith);
         each = tt;

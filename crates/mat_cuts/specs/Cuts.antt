@@ -5,7 +5,7 @@ use Rattle.mat_sets.specs.Graphs.{ends_of, enters, IsSpanningArborescence, IsRoo
 use Rattle.mat_cuts.specs.Costs.{cost_at, cost_of}
 use Rattle.mat_cuts.specs.declared.cut_weight.CutWeight.{CutWeight}
 
--- the weight where the arc enters, and 0 where it does not
+-- the weight where the test holds, and 0 where it does not
 abbrev pub weight_where : Bool → ℤ → ℤ
 weight_where b w = if b then w else pos 0
 

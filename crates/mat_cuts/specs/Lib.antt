@@ -1,6 +1,7 @@
 pub mod Costs
 pub mod Cuts
 pub mod Raising
+pub mod Pricing
 pub mod Answers
 pub mod Listing
 pub mod Growing

@@ -3,7 +3,7 @@
 use Rattle.std.specs.Prelude.{◌≡◌, ◌≢◌, ℕ, suc, ◌<◌, ◌≤◌, ◌⊎◌, Bool, true, false, not, ◌&&◌, ◌==◌, if◌then◌else◌, nat_le, List, [], ◌∷◌, length, slice_index_or, Option, MatchOption, ℤ, pos, ◌+ℤ◌, ◌≤ℤ◌}
 use Rattle.std.specs.List.{AllByRecursion}
 use Rattle.mat_cuts.specs.Limits.{never}
-use Rattle.mat_sets.specs.Limits.{largest_weight}
+use Rattle.mat_sets.specs.Limits.{largest_number}
 use Rattle.mat_sets.specs.Graphs.{ends_of, enters}
 use Rattle.mat_sets.specs.Sets.{is_member, IsSet}
 use Rattle.mat_cuts.specs.Costs.{cost_at}
@@ -37,7 +37,7 @@ pub record IsRaised (vertices : ℕ) (arcs : List (ℕ × ℕ)) (costs : List �
   pub since_long : length since ≡ length arcs
   pub paid : (a : ℕ) → a < length arcs → cost_at costs a ≡ cost_at reduced a +ℤ weight_on (ends_of arcs) cuts a
   pub low : (a : ℕ) → a < length arcs → pos 0 ≤ℤ cost_at reduced a
-  pub high : (a : ℕ) → a < length arcs → cost_at reduced a ≤ℤ pos largest_weight
+  pub high : (a : ℕ) → a < length arcs → cost_at reduced a ≤ℤ pos largest_number
   pub spent : (a : ℕ) → a < length arcs → at since a < never → cost_at reduced a ≡ pos 0
   pub soon : (a : ℕ) → a < length arcs → cost_at reduced a ≡ pos 0 → at since a ≤ length cuts
   pub each : AllByRecursion (IsWeightedCut vertices root) cuts

@@ -7,13 +7,14 @@
 ghost use Rattle.std.specs.Prelude.{◌≡◌, ◌≤◌, ◌<◌, ◌+◌, ◌-◌, ◌≤ℤ◌, ◌<ℤ◌, ℕ, length, true, pos, All, IfOk, OnOk};
 ghost use Rattle.mat_cuts.specs.Limits.{never, vertex_bound, arc_bound};
 ghost use Rattle.mat_sets.specs.Graphs.{IsGraph};
-ghost use Rattle.mat_cuts.specs.Costs.{cost_at, IsCost};
+ghost use Rattle.mat_cuts.specs.Costs.{cost_at, IsCost, IsWideCost};
 ghost use Rattle.mat_cuts.specs.Answers.{AreInRange, AreRight, TellsReached};
+ghost use Rattle.mat_cuts.specs.Pricing.{IsRightlyPriced};
 ghost use Rattle.mat_cuts.specs.Listing.{IsBegun, IsFollowed, IsListed, IsPaid, TellsSpent};
 ghost use Rattle.mat_cuts.specs.Raising.{IsLeastOf};
 ghost use Rattle.mat_sets.specs.Sets.{is_member, AllBelow, IsSet};
 
-use crate::cut_weight::{CutWeight, Cuts};
+use crate::cut_weight::{CutWeight, Cuts, Priced};
 use crate::growing::{Raised, grow};
 use crate::joining::{Path, UNSEEN, at_place, join, push};
 use crate::lowering::{arcs_coming, first_times, least_of, lower};
@@ -31,7 +32,7 @@ fn list_set(
     requires few { length raised.old.cuts.items < 10000 }
     requires some { pos 0 <ℤ least }
     requires since { length raised.old.since.items ≡ length raised.old.reduced.items }
-    requires range { (a : ℕ) → a < length raised.old.reduced.items → IsCost (cost_at raised.old.reduced.items a) }
+    requires range { (a : ℕ) → a < length raised.old.reduced.items → IsWideCost (cost_at raised.old.reduced.items a) }
     requires set { IsSet (length raised.old.reduced.items) entering.now }
     requires enough { (a : ℕ) → is_member a entering.now ≡ true → least ≤ℤ cost_at raised.old.reduced.items a }
     requires places { length path.now.place.items < never }
@@ -60,7 +61,7 @@ fn pay(
 ) -> Result<(), AllocError>
     requires few { length raised.old.cuts.items < 10000 }
     requires since { length raised.old.since.items ≡ length raised.old.reduced.items }
-    requires range { (b : ℕ) → b < length raised.old.reduced.items → IsCost (cost_at raised.old.reduced.items b) }
+    requires range { (b : ℕ) → b < length raised.old.reduced.items → IsWideCost (cost_at raised.old.reduced.items b) }
     requires set { IsSet (length raised.old.reduced.items) entering.now }
     requires least { IsLeastOf entering.now raised.old.reduced.items a }
     requires places { length path.now.place.items < never }
@@ -85,7 +86,7 @@ fn spend(
     requires few { length raised.old.cuts.items < 10000 }
     requires reduced { length raised.old.reduced.items ≡ length arcs.now }
     requires since { length raised.old.since.items ≡ length arcs.now }
-    requires range { (b : ℕ) → b < length arcs.now → IsCost (cost_at raised.old.reduced.items b) }
+    requires range { (b : ℕ) → b < length arcs.now → IsWideCost (cost_at raised.old.reduced.items b) }
     requires places { length path.now.place.items < never }
     ensures { IfOk result (TellsSpent arcs.now path.now.place.items path.now.last raised.old raised.new) }
 {
@@ -131,21 +132,24 @@ fn follow(path: &mut Path, t: u32)
     }
 }
 
-/// A cheapest spanning arborescence with its cuts, or an unreached set, by the search and then the growing tree.
-fn cheapest_among(
+/// A cheapest spanning arborescence from the root, with weighted cuts that prove it and what they leave of each cost; or a non-empty vertex
+/// set without the root that no arc enters (Edmonds 1967, Fulkerson 1974; Schrijver, chapter 52). There are at most 2,000 vertices and
+/// 20,000 arcs, each with a cost from 0 to 10^30. For V vertices and E arcs the time is that of 3V passes over the E arcs. The only error is
+/// want of memory.
+pub fn priced(
     alloc: Global,
     vertices: u32,
     arcs: &[(u32, u32)],
     costs: &[i128],
     root: u32,
-) -> Result<Cuts, AllocError>
+) -> Result<Priced, AllocError>
     requires few { vertices ≤ vertex_bound }
     requires root { root < vertices }
     requires graph { IsGraph vertices arcs.now }
     requires many { length arcs.now ≤ arc_bound }
     requires costs { length costs.now ≡ length arcs.now }
-    requires range { All IsCost costs.now }
-    ensures { IfOk result (AreRight vertices arcs.now costs.now root) }
+    requires range { All IsWideCost costs.now }
+    ensures { IfOk result (IsRightlyPriced vertices arcs.now costs.now root) }
 {
     let mut path = Path {
         place: vec![in alloc; UNSEEN; vertices as usize]?,
@@ -165,14 +169,15 @@ fn cheapest_among(
         }
         let spent = spend(alloc, arcs, &path, &mut raised)?;
         let Some(a) = spent else {
-            return Ok(Cuts::Unreached(at_place(alloc, &path.place, path.last)?));
+            return Ok(Priced::Unreached(at_place(alloc, &path.place, path.last)?));
         };
         follow(&mut path, arcs[a as usize].0);
     }
     let tree = grow(alloc, vertices, arcs, costs, root, &raised)?;
-    Ok(Cuts::Tree {
+    Ok(Priced::Tree {
         arcs: tree,
         cuts: raised.cuts,
+        left: raised.reduced,
     })
 }
 
@@ -196,5 +201,12 @@ pub fn cheapest(
     ensures reached { IfOk result (TellsReached vertices arcs.now root) }
     ensures range { IfOk result (AreInRange vertices (length arcs.now)) }
 {
-    cheapest_among(alloc, vertices, arcs.as_slice(), costs, root)
+    match priced(alloc, vertices, arcs.as_slice(), costs, root)? {
+        Priced::Tree {
+            arcs: tree,
+            cuts,
+            ..
+        } => Ok(Cuts::Tree { arcs: tree, cuts }),
+        Priced::Unreached(set) => Ok(Cuts::Unreached(set)),
+    }
 }

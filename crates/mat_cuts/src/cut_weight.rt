@@ -10,6 +10,22 @@ pub struct CutWeight {
     pub set: ElemSet,
 }
 
+/// A cheapest spanning arborescence with the weights that prove it and what they leave of each cost, or why there is none.
+#[derive(Debug, Drop)]
+pub enum Priced {
+    /// A spanning arborescence, and vertex sets whose weights add to its cost.
+    Tree {
+        /// The arcs of the arborescence.
+        arcs: ElemSet,
+        /// The weighted vertex sets.
+        cuts: Vec<CutWeight>,
+        /// What is left of the cost of each arc by the weights of the sets that it enters.
+        left: Vec<i128>,
+    },
+    /// A vertex set without the root that is not empty, and that no arc enters.
+    Unreached(ElemSet),
+}
+
 /// A cheapest spanning arborescence with the weights that prove it, or why there is none.
 #[derive(Debug, Drop)]
 pub enum Cuts {

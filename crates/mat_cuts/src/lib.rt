@@ -9,6 +9,6 @@ mod joining;
 pub mod laws;
 mod lowering;
 
-pub use cheapest_tree::cheapest;
+pub use cheapest_tree::{cheapest, priced};
 pub use checking::{right_cuts, total_cost};
-pub use cut_weight::{CutWeight, Cuts};
+pub use cut_weight::{CutWeight, Cuts, Priced};

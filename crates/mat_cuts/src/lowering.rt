@@ -3,7 +3,7 @@ ghost use Rattle.std.specs.Prelude.{◌≡◌, ◌<◌, ◌≤ℤ◌, ℕ, lengt
 ghost use Rattle.mat_sets.specs.Graphs.{ends_of, IsGraph};
 ghost use Rattle.mat_sets.specs.Search.{those_below};
 ghost use Rattle.mat_sets.specs.Sets.{is_member, IsSet};
-ghost use Rattle.mat_cuts.specs.Costs.{cost_at, IsCost};
+ghost use Rattle.mat_cuts.specs.Costs.{cost_at, IsWideCost};
 ghost use Rattle.mat_cuts.specs.Raising.{at, comes, IsFirstTime, IsLowered, TellsLeastOf};
 
 use std::alloc::{AllocError, Global};
@@ -71,7 +71,7 @@ pub(crate) fn lower(
     requires set { IsSet (length reduced.old.items) arcs.now }
     requires since { length since.old.items ≡ length reduced.old.items }
     requires some { pos 0 ≤ℤ least }
-    requires range { (a : ℕ) → a < length reduced.old.items → IsCost (cost_at reduced.old.items a) }
+    requires range { (a : ℕ) → a < length reduced.old.items → IsWideCost (cost_at reduced.old.items a) }
     requires enough { (a : ℕ) → is_member a arcs.now ≡ true → least ≤ℤ cost_at reduced.old.items a }
     ensures { IsLowered (length reduced.old.items) (λ a. is_member a arcs.now) least time reduced.old.items reduced.new.items since.old.items since.new.items }
 {

@@ -1,5 +1,5 @@
 //! Answering queries about problems: each query is answered by its solver, and what is found becomes an answer as certificates have it. No
-//! file is in sight here.
+//! file is opened here.
 #![tactic(auto)]
 
 mod forms;

@@ -47,8 +47,8 @@ pub(crate) fn trees(alloc: Global, problem: &Problem, k: u32) -> Result<Answer, 
     }
 }
 
-/// A cheapest spanning arborescence with its cost, found by so many workers, or the vertices that the root does not reach. The only error
-/// is want of memory.
+/// A cheapest spanning arborescence with its cost, or the vertices that the root does not reach. The workers are handed on, and none is
+/// needed. The only error is want of memory.
 pub(crate) fn arborescence<R: Threads + Sync>(
     rt: &R,
     alloc: Global,

@@ -1,4 +1,4 @@
-use Rattle.mat_arbor.proofs.HeadCaps.{caps_by-root}
+use Rattle.mat_check.proofs.HeadCaps.{caps_by-root}
 use Rattle.mat_check.proofs.labels.head_caps.Goals as goal
 
 pub returns : goal.returns

@@ -1,14 +1,17 @@
 use Rattle.std.proofs.Common.{subst}
-use Rattle.std.proofs.lemmas.Result.{IfOk-weaker}
-use Rattle.mat_cuts.specs.Answers.{AreRight}
-use Rattle.mat_cuts.proofs.Bounds.{right_in_range, tells_reached}
+use Rattle.mat_cuts.specs.Pricing.{IsRightlyPriced}
+use Rattle.mat_cuts.specs.declared.cut_weight.Cuts.TheVariants.{Tree}
+use Rattle.mat_cuts.proofs.Bounds.{right_in_range}
+use Rattle.mat_sets.proofs.Crossings.{unentered_has_none}
 use Rattle.mat_cuts.proofs.cheapest_tree.cheapest.Goals as goal
 
-pub returns-clause-reached : goal.returns-clause-reached
-returns-clause-reached c = IfOk-weaker c.cheapest_among.result _ _ (λ cuts r. tells_reached c.args.vertices c.args.arcs.now c.args.costs.now c.args.root cuts
-    (subst (λ arcs. AreRight c.args.vertices arcs c.args.costs.now c.args.root cuts) c.as_slice.ensures r)) c.cheapest_among.ensures
+pub returns-in-Tree-clause-range : goal.returns-in-Tree-clause-range
+returns-in-Tree-clause-range c =
+    let priced = subst (IsRightlyPriced c.args.vertices c.as_slice.result.now c.args.costs.now c.args.root) c.in-Tree.is c.in_ok-tree.ensures in
+    right_in_range c.args.vertices c.args.arcs.now c.args.costs.now c.args.root (Tree c.in-Tree.tree c.in-Tree.cuts)
+    c.requires.few c.requires.range c.requires.costs (rw c.as_slice.ensures at priced.right)
 
-pub returns-clause-range : goal.returns-clause-range
-returns-clause-range c = IfOk-weaker c.cheapest_among.result _ _ (λ cuts r. right_in_range c.args.vertices c.args.arcs.now c.args.costs.now c.args.root cuts
-    c.requires.few c.requires.range c.requires.costs
-    (subst (λ arcs. AreRight c.args.vertices arcs c.args.costs.now c.args.root cuts) c.as_slice.ensures r)) c.cheapest_among.ensures
+pub returns-clause-reached : goal.returns-clause-reached
+returns-clause-reached c = λ tree spans.
+    let unentered = subst (IsRightlyPriced c.args.vertices c.as_slice.result.now c.args.costs.now c.args.root) c.in-Unreached.is c.in_ok-tree.ensures in
+    unentered_has_none c.args.vertices c.args.arcs.now c.args.root c.in-Unreached.set tree (rw c.as_slice.ensures at unentered) spans

@@ -1,5 +1,6 @@
 use Rattle.std.proofs.Common.{◌≡◌, replicate, set, eqb, [], rules, length, sym, ap, subst, arith, ◌∙◌}
 use Rattle.std.proofs.lemmas.Bool.{lt-ltb}
+use Rattle.std.proofs.lemmas.Int.{ints}
 use Rattle.mat_cuts.specs.Limits.{never}
 use Rattle.mat_sets.specs.Sets.{all_below, without_one, AllBelow}
 use Rattle.mat_sets.proofs.Cardinalities.{length-without_one}
@@ -10,7 +11,7 @@ use Rattle.mat_sets.specs.Graphs.{IsUnentered}
 use Rattle.mat_cuts.specs.Listing.{TellsSpent}
 use Rattle.mat_cuts.specs.Raising.{at}
 use Rattle.mat_cuts.proofs.Searching.{last_set-is, IsSearching, IsSearching-start, IsSearching-begun, IsSearching-turn, IsSearching-unreached}
-use Rattle.mat_cuts.proofs.cheapest_tree.cheapest_among.Goals as goal
+use Rattle.mat_cuts.proofs.cheapest_tree.priced.Goals as goal
 
 pub begin-requires-clause-below : goal.begin-requires-clause-below
 begin-requires-clause-below c =
@@ -81,3 +82,18 @@ returns-in_default c =
     subst (IsUnentered vertices arcs root) (sym set_is)
     (IsSearching-unreached vertices arcs graph costs root raised.reduced.items raised.since.items raised.cuts.items place
     c.begin.new.path.fresh last begun.0 begun.1 none)
+
+pub returns : goal.returns
+returns c =
+    let raised = c.search.invariant.searching.raised in
+    record {
+      right = record {
+        spans = c.in_ok-tree.ensures.spans;
+        few = (let spare = c.search.invariant.spare in omega arith);
+        each = raised.each;
+        within = λ a l. omega (arith, ints, raised.paid a l, raised.low a l);
+        total = c.in_ok-tree.ensures.cost;
+      };
+      left_long = raised.reduced_long;
+      left_is = raised.paid;
+    }

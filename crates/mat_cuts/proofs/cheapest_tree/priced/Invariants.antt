@@ -1,6 +1,6 @@
 use Rattle.std.proofs.Common.{◌*◌, ◌+◌, ◌≤◌, length}
 use Rattle.mat_cuts.proofs.Searching.{IsSearching}
-use Rattle.mat_cuts.proofs.cheapest_tree.cheapest_among.Given as goal
+use Rattle.mat_cuts.proofs.cheapest_tree.priced.Given as goal
 
 abbrev pub invariant-search : goal.invariant-search
 invariant-search l = record {

@@ -1,0 +1,60 @@
+-- Gaps of the unit: n numbers take at most n of n + 1 gaps, and a shift that moves a free gap to the end of the unit is free.
+use Rattle.std.proofs.Common.{◌≡◌, ◌≢◌, ℕ, ◌+◌, ◌-◌, ◌*◌, ◌/◌, ◌%◌, ◌<◌, ◌≤◌, true, false, List, length, get_or, inl, inr, sym, ap, ◌∙◌, arith}
+use Rattle.std.proofs.lemmas.Bool.{both_ways, cases_Bool, cases_eq, cases_lt}
+use Rattle.std.proofs.lemmas.Nat.{div_below, div-add-mod', mod-mul-add, mod_below}
+use Rattle.mat_sets.specs.Sets.{is_member, with_one, IsSet}
+use Rattle.mat_sets.proofs.Cardinalities.{length-with_one}
+use Rattle.mat_sets.proofs.DisjointSets.{with_one-holds}
+use Rattle.mat_sets.proofs.Ground.{IsSet-with_one}
+use Rattle.mat_sets.proofs.Members.{with_one-member}
+use Rattle.mat_sets.proofs.Subsets.{IsSubset-with_one}
+use Rattle.mat_arbor.specs.Halves.{gap_at, tie_gap, unit_of, IsFreeShift}
+
+pub gap_below : (unit n x : ℕ) → unit ≡ unit_of n → gap_at unit x < n + 1
+gap_below unit n x is = div_below (x % unit) tie_gap (n + 1) (omega arith) (omega (arith, mod_below x unit (omega arith)))
+
+-- the gaps that the first numbers take
+pub record AreTaken (unit : ℕ) (held : List ℕ) (i : ℕ) (taken : List ℕ) : Type 0 where
+  pub set : IsSet (length held + 1) taken
+  pub few : length taken ≤ i
+  pub each : (a : ℕ) → a < i → is_member (gap_at unit (get_or held a 0)) taken ≡ true
+
+module _ (unit : ℕ) (held : List ℕ) (is : unit ≡ unit_of (length held)) where
+  pub AreTaken-more : (i : ℕ) (taken new : List ℕ) (g : ℕ) → g ≡ gap_at unit (get_or held i 0) → new ≡ with_one taken g → AreTaken unit held i taken
+      → AreTaken unit held (i + 1) new
+  AreTaken-more i taken new g at made t = rw (made, at) (record {
+    set = IsSet-with_one (length held + 1) taken gap t.set (gap_below unit (length held) (get_or held i 0) is);
+    few = elim (cases_Bool (is_member gap taken)) [
+      | inl m ↦ (let f = t.few in omega (arith, ap length (with_one-member taken gap t.set.rising m)))
+      | inr o ↦ (let f = t.few in omega (arith, length-with_one taken gap t.set.rising o))
+    ];
+    each = λ a l. elim (cases_eq a i) [
+      | inl same ↦ ap (λ k. is_member (gap_at unit (get_or held k 0)) (with_one taken gap)) same ∙ with_one-holds taken gap
+      | inr other ↦ (IsSubset-with_one taken gap).inside (gap_at unit (get_or held a 0)) (t.each a (omega arith))
+    ];
+  })
+    where
+      gap : ℕ
+      gap = gap_at unit (get_or held i 0)
+
+  -- a rest in another gap, moved so that this one is the last
+  moved : (x j : ℕ) → j < length held + 1 → gap_at unit x ≢ j → (x + (unit - (j + 1) * tie_gap)) % unit + tie_gap < unit
+  moved x j l other =
+      let r = x % unit in
+      let whole = div-add-mod' x unit in
+      let below = mod_below x unit (omega arith) in
+      let shift = unit - (j + 1) * tie_gap in
+      elim (cases_lt r (j * tie_gap)) [
+        | inl before ↦ (let at : (x + shift) % unit ≡ r + shift =
+            ap (λ k. k % unit) (omega arith) ∙ mod-mul-add (x / unit) unit (r + shift) (omega arith) in omega arith)
+        | inr from ↦ (let past : (j + 1) * tie_gap ≤ r = omega arith in
+            let at : (x + shift) % unit ≡ r - (j + 1) * tie_gap =
+            ap (λ k. k % unit) (omega arith) ∙ mod-mul-add (x / unit + 1) unit (r - (j + 1) * tie_gap) (omega arith) in omega arith)
+      ]
+
+  pub IsFreeShift-gap : (taken : List ℕ) (j shift : ℕ) → AreTaken unit held (length held) taken → j < length held + 1 → is_member j taken ≡ false
+      → shift ≡ unit - (j + 1) * tie_gap → IsFreeShift unit held shift
+  IsFreeShift-gap taken j shift t l free made = rw made (record {
+    below = omega arith;
+    free = λ a la. moved (get_or held a 0) j l (λ same. both_ways _ free (ap (λ k. is_member k taken) (sym same) ∙ t.each a la));
+  })

@@ -1,7 +1,0 @@
-use Rattle.std.proofs.Common.{rules}
-use Rattle.mat_arbor.proofs.HeadCaps.{caps_by-root}
-use Rattle.mat_arbor.proofs.least.head_caps.Goals as goal
-
-pub returns : goal.returns
-returns c =
-    caps_by-root c.args.vertices c.args.root c.in_ok-caps.caps.items c.requires (c.in_ok-caps.ensures.items_if_clones_equal (λ y h. search rules))

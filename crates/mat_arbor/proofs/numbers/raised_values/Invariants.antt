@@ -1,0 +1,6 @@
+use Rattle.std.proofs.Common.{◌≡◌, map, take}
+use Rattle.mat_arbor.specs.Halves.{raised_value}
+use Rattle.mat_arbor.proofs.numbers.raised_values.Given as goal
+
+abbrev pub invariant-loop-cost : goal.invariant-loop-cost
+invariant-loop-cost l = l.all.items ≡ map (raised_value l.unit) (take l.cost-index l.costs)

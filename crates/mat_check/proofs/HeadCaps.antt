@@ -1,0 +1,43 @@
+-- At most one arc into each vertex and none into the root: the laws of independence hold of it, and its caps are the list that is made.
+use Rattle.std.proofs.Common.{◌≡◌, ◌≢◌, ℕ, ◌<◌, List, length, get_or, replicate, set, refl, inl, inr, sym, ap, ◌∙◌, subst, arith}
+use Rattle.std.proofs.lemmas.Bool.{cases_eq, eq-eqb, ne_eqb}
+use Rattle.std.proofs.lemmas.Grind.{same_number_lists}
+use Rattle.std.proofs.lemmas.List.{get_or-replicate, get_or-set_other, get_or-set_same, length-replicate, length-set}
+use Rattle.mat_laws.specs.Matroids.{IsMatroid}
+use Rattle.mat_count.specs.Labels.{caps_by, classes_by}
+use Rattle.mat_count.specs.PartitionLaws.{partition_laws}
+use Rattle.mat_count.proofs.LabelClasses.{IsPartition-classes_by, caps_by-at, length-caps_by}
+use Rattle.mat_arbor.specs.Heads.{cap_at, head_of, is_entering_once}
+
+pub entering_once_laws : (n vertices : ℕ) (ends : ℕ → ℕ × ℕ) (root : ℕ) → IsMatroid n (is_entering_once n vertices ends root)
+entering_once_laws n vertices ends root =
+    partition_laws n (classes_by n vertices (head_of ends)) (caps_by vertices (cap_at root))
+    (IsPartition-classes_by n vertices (head_of ends) (caps_by vertices (cap_at root)) (length-caps_by vertices (cap_at root)))
+
+-- ---- the list of the caps
+
+cap_root : (root v : ℕ) → v ≡ root → cap_at root v ≡ 0
+cap_root root v e = rw (eq-eqb v root e) refl
+
+cap_other : (root v : ℕ) → v ≢ root → cap_at root v ≡ 1
+cap_other root v d = rw (ne_eqb v root d) refl
+
+pub caps_by-root : (vertices root : ℕ) (ones : List ℕ) → root < vertices → ones ≡ replicate vertices 1
+    → set ones root 0 ≡ caps_by vertices (cap_at root)
+caps_by-root vertices root ones small is =
+    same_number_lists (set ones root 0) (caps_by vertices (cap_at root)) (long ∙ sym (length-caps_by vertices (cap_at root))) (λ v l.
+    at v (subst (λ m. v < m) long l))
+  where
+    whole : length ones ≡ vertices
+    whole = ap length is ∙ length-replicate vertices 1
+
+    long : length (set ones root 0) ≡ vertices
+    long = length-set ones root 0 ∙ whole
+
+    at : (v : ℕ) → v < vertices → get_or (set ones root 0) v 0 ≡ get_or (caps_by vertices (cap_at root)) v 0
+    at v l = elim (cases_eq v root) [
+      | inl e ↦ ap (λ z. get_or (set ones root 0) z 0) e ∙ get_or-set_same ones root 0 0 (omega (arith, whole))
+          ∙ sym (caps_by-at vertices (cap_at root) v l ∙ cap_root root v e)
+      | inr d ↦ get_or-set_other ones root v 0 0 d ∙ ap (λ xs. get_or xs v 0) is ∙ get_or-replicate vertices v 1 0 l
+          ∙ sym (caps_by-at vertices (cap_at root) v l ∙ cap_other root v d)
+    ]
