@@ -1,2 +1,6 @@
 mod JoinedLaws
 pub mod JoinedMatroids
+pub mod DualNests
+pub mod UnionsOfUnions
+pub mod FlatTrees
+pub mod PartLists

@@ -3,3 +3,5 @@ pub mod Trees
 pub mod TreeLaws
 pub mod Views
 pub mod Joined
+pub mod FlatUnions
+pub mod Parts

@@ -1,5 +1,5 @@
 -- Kind trees: what contracts see of any matroid (Schrijver, chapter 39).
-use Rattle.std.specs.Prelude.{◌≡◌, ℕ, suc, ◌<◌, ◌^◌, max, Bool, true, false, List, [], ◌∷◌, length}
+use Rattle.std.specs.Prelude.{◌≡◌, ℕ, suc, ◌<◌, ◌^◌, max, Bool, true, false, List, [], ◌∷◌, ◌++◌, length}
 use Rattle.mat_sets.specs.Sets.{IsSet}
 use Rattle.mat_sets.specs.Graphs.{ends_of, IsGraph}
 use Rattle.mat_count.specs.Counts.{is_uniform, is_counted}
@@ -148,3 +148,14 @@ has_union (restrict kept t) = has_union t
 has_union (contract away t) = has_union t
 has_union (union ts) = true
 has_union t = false
+
+abbrev mutual
+  -- the matroids of a list, where a union stands with its own in its place
+  pub flat_trees : Trees → List Tree
+  flat_trees no_trees = []
+  flat_trees (more_trees t ts) = flat_of t ++ flat_trees ts
+
+  -- those of a union, and another matroid alone
+  pub flat_of : Tree → List Tree
+  flat_of (union ts) = flat_trees ts
+  flat_of t = t ∷ []

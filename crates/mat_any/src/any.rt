@@ -1,10 +1,11 @@
 //! A matroid of any kind.
-ghost use Rattle.mat_any.specs.AnyKeeps.{KeepsAny};
+ghost use Rattle.mat_any.specs.FlatUnions.{KeepsFlat};
 ghost use Rattle.mat_any.specs.Trees.{element_count, is_independent, IsSound};
 ghost use Rattle.mat_any.specs.TreeLaws.{tree_laws};
 ghost use Rattle.mat_any.specs.Views.{tree_of};
 
-use crate::any_kept::AnyKept;
+use crate::flat::{united, united_again};
+use crate::flat_kept::FlatKept;
 use crate::independence::independent;
 use crate::rows::{adds, circuit_members, row};
 use crate::runs::{keep, keep_next, run};
@@ -57,9 +58,9 @@ impl Matroid for AnyMatroid {
 
     ghost indep = { λ m. is_independent (tree_of m) };
 
-    type Kept = AnyKept;
+    type Kept = FlatKept;
 
-    ghost keeps = { λ m base kept. KeepsAny (tree_of m) base kept };
+    ghost keeps = { λ m base kept. KeepsFlat (tree_of m) base kept };
 
     ghost laws = { λ m. tree_laws (tree_of m) };
 
@@ -68,60 +69,84 @@ impl Matroid for AnyMatroid {
     }
 
     fn independent(&self, alloc: Global, set: &ElemSet) -> Result<bool, AllocError> {
-        independent(alloc, self, set)
+        match united(alloc, self)? {
+            Some(union) => union.independent(alloc, set),
+            None => independent(alloc, self, set),
+        }
     }
 
     /// The exchanges of x, by what is kept of the set for this one. The only error is want of memory.
     fn circuit(&self, alloc: Global, base: &ElemSet, x: u32) -> Result<Exchange, AllocError> {
-        let kept = keep(alloc, self, base)?;
-        row(alloc, self, base, &kept, x)
+        let kept = self.keep(alloc, base)?;
+        self.row(alloc, base, &kept, x)
     }
 
     fn run(&self, alloc: Global, order: &[u32]) -> Result<ElemSet, AllocError> {
-        run(alloc, self, order)
+        match united(alloc, self)? {
+            Some(union) => union.run(alloc, order),
+            None => run(alloc, self, order),
+        }
     }
 
-    fn keep(&self, alloc: Global, base: &ElemSet) -> Result<AnyKept, AllocError> {
-        keep(alloc, self, base)
+    fn keep(&self, alloc: Global, base: &ElemSet) -> Result<FlatKept, AllocError> {
+        match united(alloc, self)? {
+            Some(union) => Ok(FlatKept::Flat(union.keep(alloc, base)?)),
+            None => Ok(FlatKept::Own(keep(alloc, self, base)?)),
+        }
     }
 
     fn keep_next(
         &self,
         alloc: Global,
         base: &ElemSet,
-        kept: &AnyKept,
+        kept: &FlatKept,
         next: &ElemSet,
-    ) -> Result<AnyKept, AllocError> {
-        keep_next(alloc, self, base, kept, next)
+    ) -> Result<FlatKept, AllocError> {
+        match kept {
+            FlatKept::Own(own) => Ok(FlatKept::Own(keep_next(alloc, self, base, own, next)?)),
+            FlatKept::Flat(_) => self.keep(alloc, next),
+        }
     }
 
     fn row(
         &self,
         alloc: Global,
         base: &ElemSet,
-        kept: &AnyKept,
+        kept: &FlatKept,
         x: u32,
     ) -> Result<Exchange, AllocError> {
-        row(alloc, self, base, kept, x)
+        match kept {
+            FlatKept::Own(own) => row(alloc, self, base, own, x),
+            FlatKept::Flat(held) => {
+                let union = united_again(alloc, self)?;
+                union.row(alloc, base, held, x)
+            }
+        }
     }
 
     fn adds(
         &self,
         alloc: Global,
         base: &ElemSet,
-        kept: &AnyKept,
+        kept: &FlatKept,
         x: u32,
     ) -> Result<bool, AllocError> {
-        adds(alloc, self, base, kept, x)
+        match kept {
+            FlatKept::Own(own) => adds(alloc, self, base, own, x),
+            FlatKept::Flat(_) => Ok(self.row(alloc, base, kept, x)?.addable),
+        }
     }
 
     fn circuit_members(
         &self,
         alloc: Global,
         base: &ElemSet,
-        kept: &AnyKept,
+        kept: &FlatKept,
         x: u32,
     ) -> Result<Option<ElemSet>, AllocError> {
-        circuit_members(alloc, self, base, kept, x)
+        match kept {
+            FlatKept::Own(own) => circuit_members(alloc, self, base, own, x),
+            FlatKept::Flat(_) => Ok(self.row(alloc, base, kept, x)?.circuit_members()),
+        }
     }
 }

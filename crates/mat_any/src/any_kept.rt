@@ -27,6 +27,8 @@ pub enum AnyKept {
     Gf2(TaggedBasis),
     /// A base of the matroid within the dual that is disjoint from the set, and the columns at it.
     Dual(DualKept),
+    /// By the dual of a dual: what the matroid within both keeps.
+    DualOfDual(Box<AnyKept>),
     /// A maximal independent subset of the contracted elements, the set together with it, and what the matroid that is
     /// contracted keeps of their union.
     Contract {

@@ -3,7 +3,10 @@
 
 mod any;
 mod any_kept;
+mod flat;
+mod flat_kept;
 mod independence;
+mod part;
 mod rows;
 mod runs;
 mod sizes;
@@ -11,4 +14,5 @@ mod unions;
 
 pub use any::AnyMatroid;
 pub use any_kept::AnyKept;
+pub use flat_kept::FlatKept;
 pub use unions::has_union;

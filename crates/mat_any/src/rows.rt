@@ -12,7 +12,7 @@ ghost use Rattle.mat_union.specs.Moves.{exchanges_with};
 ghost use Rattle.mat_union.specs.Placings.{IsPlaceSearch};
 ghost use Rattle.mat_union.specs.Unions.{AreParts};
 ghost use Rattle.mat_union.specs.UnionsOf.{AreJoined};
-ghost use Rattle.mat_any.specs.AnyKeeps.{KeepsAny};
+ghost use Rattle.mat_any.specs.AnyKeeps.{KeepsAny, KeepsDual};
 ghost use Rattle.mat_any.specs.Joined.{elements_in, size_in, test_in, union_in, IsSoundOne, KeepsOne};
 ghost use Rattle.mat_any.specs.Trees.{element_count, is_independent, IsSound};
 ghost use Rattle.mat_any.specs.Views.{tree_of};
@@ -26,8 +26,9 @@ use mat_sets::{BitSet, ElemSet, SetList};
 use mat_union::{MoveSearch, PlaceSearch, found_place, parts_with, row_by_search};
 use std::alloc::{AllocError, Global};
 
-/// The exchanges of an element x outside an independent set, by what is kept of it. A truncation, a restriction or a contraction asks
-/// the matroid within it at most once, and a dual none; a union makes one search for moves. The only error is want of memory.
+/// The exchanges of an element x outside an independent set, by what is kept of it. A truncation, a restriction, a contraction or the
+/// dual of a dual asks the matroid within it at most once, and another dual none; a union makes one search for moves. The only error is want
+/// of memory.
 #[cycle(rows)]
 pub(crate) fn row(
     alloc: Global,
@@ -62,6 +63,9 @@ pub(crate) fn row(
         (AnyMatroid::Gf2(gf2), AnyKept::Gf2(basis)) => gf2.row(alloc, base, basis, x),
         (AnyMatroid::Dual(inner), AnyKept::Dual(dual)) => {
             dual_row_within(alloc, inner, base, dual, x)
+        }
+        (AnyMatroid::Dual(inner), AnyKept::DualOfDual(within)) => {
+            dual_of_dual_row(alloc, inner, base, within, x)
         }
         (AnyMatroid::Truncate { cap, inner }, _) => {
             truncation_row(alloc, inner, *cap, base, kept, x)
@@ -142,8 +146,8 @@ fn is_made_of_others(matroid: &AnyMatroid) -> bool {
     )
 }
 
-/// The members of the fundamental circuit of an element x outside an independent set, by what is kept of it, and None where x can be added: at
-/// most one row is made. The only error is want of memory.
+/// The members of an independent set that stand in the fundamental circuit of an element x outside it, by what is kept of the set: all of the
+/// circuit but x, none for a loop; None where x can be added. At most one row is made. The only error is want of memory.
 pub(crate) fn circuit_members(
     alloc: Global,
     matroid: &AnyMatroid,
@@ -194,6 +198,30 @@ fn dual_row_within(
 {
     inner.lawful();
     dual_row(alloc, base, kept, x)
+}
+
+// The exchanges in the dual of a dual: those of the matroid within both.
+#[cycle(rows)]
+fn dual_of_dual_row(
+    alloc: Global,
+    inner: &AnyMatroid,
+    base: &ElemSet,
+    kept: &AnyKept,
+    x: u32,
+) -> Result<Exchange, AllocError>
+    requires sound { IsSound (tree_of inner.now) }
+    requires base { is_dual (element_count (tree_of inner.now)) (is_independent (tree_of inner.now)) base.now ≡ true }
+    requires kept { KeepsDual (tree_of inner.now) base.now kept.now }
+    requires below { x < element_count (tree_of inner.now) }
+    requires outside { is_member x base.now ≡ false }
+    ensures row { IfOk result (λ e. e ≡ row_of (is_dual (element_count (tree_of inner.now)) (is_independent (tree_of inner.now))) base.now x) }
+    ensures rises { IfOk result (λ e. IsRising e.with) }
+{
+    match inner {
+        AnyMatroid::Dual(within) => row(alloc, within, base, kept, x),
+        // What is kept is of the dual of a dual.
+        _ => Ok(no_exchange(alloc)),
+    }
 }
 
 // The exchanges of the matroid that is truncated; an element can be added only below the cap.

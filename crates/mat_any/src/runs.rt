@@ -10,14 +10,15 @@ ghost use Rattle.mat_minors.specs.Minors.{is_contracted, is_dual, is_restricted,
 ghost use Rattle.mat_union.specs.GrownParts.{AreGrowing, AreKept};
 ghost use Rattle.mat_union.specs.Unions.{test_at, AreParts};
 ghost use Rattle.mat_union.specs.UnionsOf.{AreJoined};
-ghost use Rattle.mat_any.specs.AnyKeeps.{KeepsAny};
+ghost use Rattle.mat_any.specs.AnyKeeps.{KeepsAny, KeepsDual};
 ghost use Rattle.mat_any.specs.Joined.{elements_in, size_in, test_in, union_in, IsSoundOne, KeepsOne, KeepsUnion};
 ghost use Rattle.mat_any.specs.declared.any.AnyMatroid.{AnyMatroid};
-ghost use Rattle.mat_any.specs.Trees.{Tree, contract, element_count, is_independent, IsSound};
+ghost use Rattle.mat_any.specs.Trees.{Tree, contract, dual, element_count, is_independent, IsSound};
 ghost use Rattle.mat_any.specs.Views.{tree_of};
 
 use crate::any::AnyMatroid;
 use crate::any_kept::AnyKept;
+use crate::part::Part;
 use crate::rows::place_for;
 use crate::sizes::{common_size_of, size_of};
 use mat_laws::Matroid;
@@ -53,14 +54,27 @@ pub(crate) fn run(alloc: Global, matroid: &AnyMatroid, order: &[u32]) -> Result<
     }
 }
 
-/// What a run leaves that goes through all other elements first, and then through the order from its end. The only error is
-/// want of memory.
+/// What a run of the dual takes: of the dual of a dual, what a run of the matroid within both takes. The only error is want of memory.
 #[cycle(running)]
 pub(crate) fn dual_run(
     alloc: Global,
     inner: &AnyMatroid,
     order: &[u32],
 ) -> Result<ElemSet, AllocError>
+    requires sound { IsSound (tree_of inner.now) }
+    requires below { AllBelow (element_count (tree_of inner.now)) order.now }
+    requires distinct { AreDistinct order.now }
+    ensures { IfOk result (λ s. s ≡ grown_along (is_dual (element_count (tree_of inner.now)) (is_independent (tree_of inner.now))) [] order.now) }
+{
+    match inner {
+        AnyMatroid::Dual(within) => run(alloc, within, order),
+        _ => reversed_run(alloc, inner, order),
+    }
+}
+
+// What a run leaves that goes through all other elements first, and then through the order from its end.
+#[cycle(running)]
+fn reversed_run(alloc: Global, inner: &AnyMatroid, order: &[u32]) -> Result<ElemSet, AllocError>
     requires sound { IsSound (tree_of inner.now) }
     requires below { AllBelow (element_count (tree_of inner.now)) order.now }
     requires distinct { AreDistinct order.now }
@@ -271,9 +285,9 @@ fn keep_each(
     Ok(kept)
 }
 
-/// What is kept of an independent set. A truncation or a restriction keeps what the matroid within it keeps; a dual makes one run
-/// of it, and asks it for the exchanges of each element outside; a contraction makes one run; a union grows parts of the set. The only
-/// error is want of memory.
+/// What is kept of an independent set. A truncation or a restriction keeps what the matroid within it keeps; the dual of a dual what the
+/// matroid within both keeps, and another dual makes one run of its matroid, and asks it for the exchanges of each element outside; a
+/// contraction makes one run; a union grows parts of the set. The only error is want of memory.
 #[cycle(running)]
 pub(crate) fn keep(
     alloc: Global,
@@ -294,7 +308,7 @@ pub(crate) fn keep(
         }
         AnyMatroid::Gammoid(gammoid) => Ok(AnyKept::Gammoid(gammoid.keep(alloc, base)?)),
         AnyMatroid::Gf2(gf2) => Ok(AnyKept::Gf2(gf2.keep(alloc, base)?)),
-        AnyMatroid::Dual(inner) => Ok(AnyKept::Dual(dual_keep(alloc, inner, base)?)),
+        AnyMatroid::Dual(inner) => dual_keep(alloc, inner, base),
         AnyMatroid::Truncate { inner, .. } => keep(alloc, inner, base),
         AnyMatroid::Restrict { inner, .. } => keep(alloc, inner, base),
         AnyMatroid::Contract { away, inner } => contraction_keep(alloc, inner, away, base),
@@ -303,7 +317,7 @@ pub(crate) fn keep(
 }
 
 /// What is kept of another independent set, where something is kept of this one. A transversal matroid and a gammoid make it from that, and a
-/// truncation or a restriction asks the matroid within it; each other kind makes it anew. The only error is want of memory.
+/// truncation, a restriction or the dual of a dual asks the matroid within it; each other kind makes it anew. The only error is want of memory.
 #[cycle(running)]
 pub(crate) fn keep_next(
     alloc: Global,
@@ -325,15 +339,54 @@ pub(crate) fn keep_next(
         (AnyMatroid::Gammoid(gammoid), AnyKept::Gammoid(linking)) => Ok(AnyKept::Gammoid(
             gammoid.keep_next(alloc, base, linking, next)?,
         )),
+        (AnyMatroid::Dual(inner), AnyKept::DualOfDual(within)) => {
+            dual_of_dual_next(alloc, inner, base, within, next)
+        }
         (AnyMatroid::Truncate { inner, .. }, _) => keep_next(alloc, inner, base, kept, next),
         (AnyMatroid::Restrict { inner, .. }, _) => keep_next(alloc, inner, base, kept, next),
         _ => keep(alloc, matroid, next),
     }
 }
 
+// What a dual keeps: of a dual, what the matroid within both keeps, and else a base and its columns.
+#[cycle(running)]
+fn dual_keep(alloc: Global, inner: &AnyMatroid, set: &ElemSet) -> Result<AnyKept, AllocError>
+    requires sound { IsSound (tree_of inner.now) }
+    requires base { is_dual (element_count (tree_of inner.now)) (is_independent (tree_of inner.now)) set.now ≡ true }
+    ensures { IfOk result (λ k. KeepsAny (dual (tree_of inner.now)) set.now k) }
+{
+    match inner {
+        AnyMatroid::Dual(within) => kept_within(alloc, keep(alloc, within, set)?),
+        _ => Ok(AnyKept::Dual(columns_keep(alloc, inner, set)?)),
+    }
+}
+
+// What the dual of a dual keeps of another set, from what the matroid within both kept of this one.
+#[cycle(running)]
+fn dual_of_dual_next(
+    alloc: Global,
+    inner: &AnyMatroid,
+    base: &ElemSet,
+    kept: &AnyKept,
+    next: &ElemSet,
+) -> Result<AnyKept, AllocError>
+    requires sound { IsSound (tree_of inner.now) }
+    requires base { is_dual (element_count (tree_of inner.now)) (is_independent (tree_of inner.now)) base.now ≡ true }
+    requires kept { KeepsDual (tree_of inner.now) base.now kept.now }
+    requires next { is_dual (element_count (tree_of inner.now)) (is_independent (tree_of inner.now)) next.now ≡ true }
+    ensures { IfOk result (λ k. KeepsAny (dual (tree_of inner.now)) next.now k) }
+{
+    match inner {
+        AnyMatroid::Dual(within) => {
+            kept_within(alloc, keep_next(alloc, within, base, kept, next)?)
+        }
+        _ => dual_keep(alloc, inner, next),
+    }
+}
+
 // A base that is disjoint from the set, by one run, and the exchanges at it, column by column.
 #[cycle(running)]
-fn dual_keep(alloc: Global, inner: &AnyMatroid, set: &ElemSet) -> Result<DualKept, AllocError>
+fn columns_keep(alloc: Global, inner: &AnyMatroid, set: &ElemSet) -> Result<DualKept, AllocError>
     requires sound { IsSound (tree_of inner.now) }
     requires base { is_dual (element_count (tree_of inner.now)) (is_independent (tree_of inner.now)) set.now ≡ true }
     ensures { IfOk result (λ k. IsDualKept (element_count (tree_of inner.now)) (is_independent (tree_of inner.now)) set.now k.base k.columns.items) }
@@ -342,7 +395,8 @@ fn dual_keep(alloc: Global, inner: &AnyMatroid, set: &ElemSet) -> Result<DualKep
     let outside = ElemSet::all_below(alloc, size_of(inner))?.minus(alloc, set)?;
     let base = run(alloc, inner, outside.as_slice())?;
     let kept = keep(alloc, inner, &base)?;
-    let columns = inner.columns(alloc, &base, &kept)?;
+    let part = Part { matroid: inner };
+    let columns = part.columns(alloc, &base, &kept)?;
     Ok(DualKept { base, columns })
 }
 
@@ -385,6 +439,13 @@ fn parts_kept(parts: SetList, kept: Vec<AnyKept>) -> AnyKept
         → AreKept KeepsOne matroids parts kept.items → KeepsUnion matroids set result }
 {
     AnyKept::Union { parts, kept }
+}
+
+// What the dual of a dual keeps, of what the matroid within both keeps.
+fn kept_within(alloc: Global, kept: AnyKept) -> Result<AnyKept, AllocError>
+    ensures { IfOk result (λ k. (t : Tree) (set : List ℕ) → KeepsAny t set kept → KeepsAny (dual (dual t)) set k) }
+{
+    Ok(AnyKept::DualOfDual(Box::new(alloc, kept)?))
 }
 
 // What a contraction keeps, of its parts.

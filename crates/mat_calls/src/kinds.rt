@@ -1,5 +1,5 @@
 //! Matroids of each kind on four elements, which a description gives: of each the run along an order and all independent sets, by the calls of
-//! its own type and by those of a matroid of any kind. `kinds.py` finds what is printed by trying all sets.
+//! its own type where it is made of no others, and by those of a matroid of any kind. `kinds.py` finds what is printed by trying all sets.
 
 ghost use Rattle.std.specs.Prelude.{◌≡◌, All};
 ghost use Rattle.mat_desc.specs.Soundness.{IsSoundInstance};

@@ -31,6 +31,12 @@ pub fn dual_means()
         → (is_dual n independent X ≡ true) ↔ IsDualIndependent n independent X }
 {}
 
+/// The dual of the dual is the matroid (Whitney 1935; Schrijver, chapter 39).
+pub fn dual_of_dual()
+    ensures { (n : ℕ) (independent : List ℕ → Bool) (X : List ℕ) → IsMatroid n independent
+        → is_dual n (is_dual n independent) X ≡ independent X }
+{}
+
 /// The test of a truncation holds exactly of the independent sets of at most `cap` elements.
 pub fn truncation_means()
     ensures { (independent : List ℕ → Bool) (cap : ℕ) (X : List ℕ)

@@ -16,13 +16,35 @@ use Rattle.mat_union.proofs.AskedRows.{asked_below, row_answers}
 use Rattle.mat_union.proofs.SoundMatroids.{kept_at, part_passes, parts_count, sound_at, test_is}
 use Rattle.mat_any.specs.Joined.{elements_in, size_in, test_in, union_in, IsSoundOne, KeepsOne, KeepsUnion}
 use Rattle.mat_any.specs.declared.any.AnyMatroid.{the_lemmas}
+use Rattle.mat_any.proofs.DualNests.{count_within, keeps_within, sound_within, test_within}
 use Rattle.mat_any.proofs.JoinedLaws.{each_lawful}
 use Rattle.mat_any.proofs.JoinedMatroids.{joined_at, keeps_of, size_at, test_at_node, union_kept}
-use Rattle.mat_any.specs.Trees.{element_count, is_independent}
+use Rattle.mat_any.specs.Trees.{dual, element_count, is_independent}
 use Rattle.mat_any.specs.TreeLaws.{tree_laws}
 use Rattle.mat_any.specs.Views.{tree_of}
 use Rattle.mat_any.proofs.rows.+rows.Goals as goal
 use Rattle.mat_any.proofs.rows.+rows.Goals.{truncation_row-then-exchange, truncation_row-else-exchange}
+
+pub dual_of_dual_row-row-requires : goal.dual_of_dual_row-row-requires
+dual_of_dual_row-row-requires t c =
+    let base = c.args.base.now in
+    let node = ap tree_of c.in-Dual.is ∙ ap (λ m. dual (tree_of m)) (sym c.deref.ensures) in
+    let test = test_within _ _ node c.requires.sound in (
+      search (rules, the_lemmas),
+      (
+        sound_within _ _ node c.requires.sound,
+        (
+          ap (λ p. p base) (sym test) ∙ c.requires.base,
+          (keeps_within _ _ node base c.args.kept.now c.requires.kept, (subst (λ k. c.args.x < k) (count_within _ _ node) c.requires.below, c.requires.outside)),
+        ),
+      ),
+    )
+
+pub dual_of_dual_row-returns-in-Dual-clause-row : goal.dual_of_dual_row-returns-in-Dual-clause-row
+dual_of_dual_row-returns-in-Dual-clause-row t c =
+    let node = ap tree_of c.in-Dual.is ∙ ap (λ m. dual (tree_of m)) (sym c.deref.ensures) in
+    let test = test_within _ _ node c.requires.sound in
+    IfOk-weaker c.row.result _ _ (λ e told. told ∙ ap (λ p. row_of p c.args.base.now c.args.x) (sym test)) c.row.ensures.row
 
 pub truncation_row-returns-clause-row : goal.truncation_row-returns-clause-row
 truncation_row-returns-clause-row t c =

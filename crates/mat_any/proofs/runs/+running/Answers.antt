@@ -29,9 +29,10 @@ use Rattle.mat_union.specs.Unions.{part_at}
 use Rattle.mat_any.specs.AnyKeeps.{KeepsAny}
 use Rattle.mat_any.specs.Joined.{size_in, test_in, union_in, KeepsOne, KeepsUnion}
 use Rattle.mat_any.specs.declared.any.AnyMatroid.{the_lemmas}
+use Rattle.mat_any.proofs.DualNests.{count_within, keeps_within, sound_within, test_within}
 use Rattle.mat_any.proofs.JoinedLaws.{each_lawful, union_lawful}
 use Rattle.mat_any.proofs.JoinedMatroids.{joined_at, keeps_at, size_at, test_at_node}
-use Rattle.mat_any.specs.Trees.{element_count, is_independent}
+use Rattle.mat_any.specs.Trees.{dual, element_count, is_independent}
 use Rattle.mat_any.specs.TreeLaws.{tree_laws}
 use Rattle.mat_any.specs.Views.{tree_of}
 use Rattle.mat_any.proofs.runs.+running.Goals as goal
@@ -39,6 +40,40 @@ use Rattle.mat_any.proofs.runs.+running.Goals.{keep_changed-then-is_changed+in_o
 
 pub dual_run-run-requires : goal.dual_run-run-requires
 dual_run-run-requires t c =
+    let node = ap tree_of c.in-Dual.is ∙ ap (λ m. dual (tree_of m)) (sym c.deref.ensures) in (
+      search (rules, the_lemmas),
+      (sound_within _ _ node c.requires.sound, (subst (λ k. AllBelow k c.args.order.now) (count_within _ _ node) c.requires.below, c.requires.distinct)),
+    )
+
+pub dual_run-returns-in-Dual : goal.dual_run-returns-in-Dual
+dual_run-returns-in-Dual t c =
+    let node = ap tree_of c.in-Dual.is ∙ ap (λ m. dual (tree_of m)) (sym c.deref.ensures) in
+    let test = test_within _ _ node c.requires.sound in
+    IfOk-weaker c.run.result _ _ (λ s told. told ∙ ap (λ p. grown_along p [] c.args.order.now) (sym test)) c.run.ensures
+
+pub dual_keep-keep-requires : goal.dual_keep-keep-requires
+dual_keep-keep-requires t c =
+    let node = ap tree_of c.in-Dual.is ∙ ap (λ m. dual (tree_of m)) (sym c.deref.ensures) in
+    let test = test_within _ _ node c.requires.sound in
+    (search (rules, the_lemmas), (sound_within _ _ node c.requires.sound, ap (λ p. p c.args.set.now) (sym test) ∙ c.requires.base))
+
+pub dual_of_dual_next-keep_next-requires : goal.dual_of_dual_next-keep_next-requires
+dual_of_dual_next-keep_next-requires t c =
+    let base = c.args.base.now in
+    let node = ap tree_of c.in-Dual.is ∙ ap (λ m. dual (tree_of m)) (sym c.deref.ensures) in
+    let test = test_within _ _ node c.requires.sound in (
+      search (rules, the_lemmas),
+      (
+        sound_within _ _ node c.requires.sound,
+        (
+          ap (λ p. p base) (sym test) ∙ c.requires.base,
+          (keeps_within _ _ node base c.args.kept.now c.requires.kept, ap (λ p. p c.args.next.now) (sym test) ∙ c.requires.next),
+        ),
+      ),
+    )
+
+pub reversed_run-run-requires : goal.reversed_run-run-requires
+reversed_run-run-requires t c =
     let n = element_count (tree_of c.args.inner.now) in
     let told = c.deref.ensures.value ∙ c.in_ok-items.ensures in
     let items = told ∙ ap (λ k. minus (all_below k) c.in_ok-all.all ++ reverse c.args.order.now) c.size_of.ensures in (
@@ -52,8 +87,8 @@ dual_run-run-requires t c =
       ),
     )
 
-pub dual_run-returns : goal.dual_run-returns
-dual_run-returns t c =
+pub reversed_run-returns : goal.reversed_run-returns
+reversed_run-returns t c =
     let n = element_count (tree_of c.args.inner.now) in
     let p = is_independent (tree_of c.args.inner.now) in
     let all = c.in_ok-all.all in
@@ -190,8 +225,8 @@ contraction_keep-returns t c =
     (λ k made. made tree c.args.away.now c.args.set.now chosen c.in_ok-joined.ensures.members c.in_ok-kept.ensures)
     c.joined_kept.ensures
 
-pub dual_keep-run-requires : goal.dual_keep-run-requires
-dual_keep-run-requires t c =
+pub columns_keep-run-requires : goal.columns_keep-run-requires
+columns_keep-run-requires t c =
     let n = element_count (tree_of c.args.inner.now) in
     let items = c.as_slice.ensures.items in
     let outside = c.in_ok-outside.ensures.members
@@ -206,9 +241,9 @@ dual_keep-run-requires t c =
       ),
     )
 
-pub dual_keep-returns : goal.dual_keep-returns
+pub columns_keep-returns : goal.columns_keep-returns
 unfolding union
-dual_keep-returns t c =
+columns_keep-returns t c =
     let n = element_count (tree_of c.args.inner.now) in
     let p = is_independent (tree_of c.args.inner.now) in
     let outside = c.in_ok-outside.ensures.members
@@ -238,14 +273,14 @@ keep_each-loop-i-preserved t c =
     (kept_more KeepsOne ms c.args.parts.now c.loop-i.i c.loop-i.kept.items c.index-matroids-i.result c.get.result.now c.in_ok-keep.field-0 c.loop-i.invariant c.loop-i-test.true
     c.index-matroids-i.is c.get.ensures.item c.in_ok-keep.ensures)
 
-pub dual_keep-keep-requires : goal.dual_keep-keep-requires
-dual_keep-keep-requires t c =
+pub columns_keep-keep-requires : goal.columns_keep-keep-requires
+columns_keep-keep-requires t c =
     let p = is_independent (tree_of c.args.inner.now) in
     let base = run_maximal_of c.lawful.ensures c.in_ok-outside.outside c.in_ok-base.base (c.in_ok-base.ensures ∙ ap (grown_along p []) c.as_slice.ensures.items) in
     (search rules, (c.requires.sound, base.passes))
 
-pub dual_keep-columns-requires-clause-base : goal.dual_keep-columns-requires-clause-base
-dual_keep-columns-requires-clause-base t c =
+pub columns_keep-columns-requires-clause-base : goal.columns_keep-columns-requires-clause-base
+columns_keep-columns-requires-clause-base t c =
     let p = is_independent (tree_of c.args.inner.now) in
     (run_maximal_of c.lawful.ensures c.in_ok-outside.outside c.in_ok-base.base (c.in_ok-base.ensures ∙ ap (grown_along p []) c.as_slice.ensures.items)).passes
 
