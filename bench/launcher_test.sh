@@ -1,0 +1,312 @@
+#!/bin/sh
+# Tries the launcher on a small checkout, with a stand-in for rt that sleeps, writes the lines that the launcher reads and makes a
+# program. Nothing is proved, and nothing outside a temporary folder is written. Needs Linux with setsid, flock, script and timeout.
+#
+#     bench/launcher_test.sh [SHELL..]
+#
+# Each SHELL, "bash --posix", say, runs the launcher; without one, those that are here of dash, bash --posix and busybox sh. Each
+# line tells what was seen; the status is 1 where one of them is wrong.
+set -u
+top=$(dirname -- "$(dirname -- "$(readlink -f -- "$0")")")
+work=$(mktemp -d) || exit 1
+trap 'rm -rf "$work"' EXIT
+trap 'exit 1' HUP INT TERM
+wrongs=0
+answer="an answer to intersect file"
+
+# Makes the stand-in: `rt doc`, and `rt ci`, to which each crate takes STAND_IN_SECONDS. A crate with the word WRONG is not proved, and
+# one with SLOW takes half a minute; the run of a program with FAILS goes wrong.
+make_stand_in() {
+    mkdir -p "$work/kit/bin" "$work/rattle-kept"
+    cat >"$work/kit/bin/rt" <<'END'
+#!/bin/sh
+kit=$(dirname "$(dirname "$(readlink -f "$0")")")
+kept=$kit/../rattle-kept
+[ "$1" = doc ] && echo "${STAND_IN_DOC:-$kit/START-HERE.md}" && exit
+[ "$*" = ci ] || exit 2
+prove() {
+    for below in $2; do
+        [ -d "crates/$below" ] || continue
+        until [ -e "crates/$below/out/proved" ]; do
+            [ ! -e failed ] || return
+            sleep 0.1
+        done
+    done
+    mkdir "crates/$1/out"
+    sum=$(cat crates/*/src/* | cksum | cut -d ' ' -f 1)
+    if [ -e "$kept/$1-$sum" ]; then
+        echo "rt: $1 is kept: an earlier run on this machine proved the same files over the same libraries"
+    else
+        ! grep -q SLOW "crates/$1/src/lib.rt" 2>/dev/null || sleep 30
+        sleep "$STAND_IN_SECONDS"
+        if grep -q WRONG "crates/$1/src/lib.rt" 2>/dev/null; then
+            touch failed
+            printf '== %s\n%s\nfn %s::f: not proved\nrt: %s NOT PROVED\n' "$1" "src/lib.rt:2:1: error: the two sides differ" "$1" "$1"
+            return
+        fi
+        echo "$1" >>"$kit/proved"
+        touch "$kept/$1-$sum"
+        printf '== %s\nfn %s::f: proved\nrt: %s proved\n' "$1" "$1" "$1"
+    fi
+    [ "$1" != mat_main ] || { printf '#!/bin/sh\necho "an answer to $*"\nexit 3\n' >crates/mat_main/out/mat_main && chmod 755 crates/mat_main/out/mat_main; }
+    touch "crates/$1/out/proved"
+}
+while IFS=: read -r name uses; do prove "${name%% *}" "$uses" & done <crates.txt
+wait
+if grep -q FAILS crates/mat_main/src/lib.rt; then
+    printf 'rt: mat_main: the program ended with status 1, and not 0\nrt: mat_main: its tests passed\nrt: FAILED: mat_main (run)\n5 passed, 1 failed\n'
+    exit 1
+fi
+[ ! -e failed ] && echo "$(grep -c . crates.txt) passed, 0 failed" || { echo "rt: FAILED: some"; echo "0 passed, 1 failed"; exit 1; }
+END
+    chmod 755 "$work/kit/bin/rt"
+}
+
+# Makes a checkout of the launcher and seven small crates, nothing of which is built or kept.
+make_checkout() {
+    rm -rf "$work/checkout" "$work/kit/proved" "$work/tmp" "$work/rattle-kept" "$work"/err* "$work"/out*
+    mkdir -p "$work/checkout/docs" "$work/tmp" "$work/rattle-kept"
+    ln -sfn tmp "$work/link"
+    cp "$top/matbench" "$work/checkout/"
+    cd "$work/checkout" || exit 1
+    printf '# Lowest first.\nmat_sets:\nmat_work tests_may=Threads:\nmat_laws: mat_sets\nmat_words: mat_sets thiserror\nmat_top: mat_laws mat_words mat_work\n' >crates.txt
+    printf 'mat_main: mat_top\nmat_trials: mat_top\n' >>crates.txt
+    echo 'Handles allowed: Threads.' >HANDLES
+    for crate in sets work laws words top main trials; do
+        mkdir -p "crates/mat_$crate/src" "crates/mat_$crate/specs" "crates/mat_$crate/proofs" "crates/mat_$crate/must-fail"
+        echo "// The crate $crate." >"crates/mat_$crate/src/lib.rt"
+    done
+    printf 'pub(crate) const HELP: &str = "\\\nThe help.\n";\n' >crates/mat_main/src/help.rt
+    cat >docs/DEVELOPING.md <<'END'
+## Wrong bodies
+
+| `mat_sets` | 6000 | 1 | 1 |
+
+## The gate's time
+
+| crate | proof | tests | edits | crate | proof | tests | edits |
+|---|---|---|---|---|---|---|---|
+| `mat_sets` | 126 | | 161 | `mat_work` | 27 | 45 | 74 |
+| `mat_laws` | 48 | | 80 | `mat_words` | 107 | | 174 |
+| `mat_top` | 522 | | 714 | `mat_main` | 71 | 59 | |
+END
+}
+
+# Runs the launcher with its words, and keeps what it wrote and its status.
+run() {
+    # shellcheck disable=SC2086
+    PATH=$work/kit/bin:$PATH TMPDIR=$work/link STAND_IN_SECONDS=${pause:-0.2} timeout 60 $shell "$work/checkout/matbench" "$@" \
+        >"$work/out" 2>"$work/err" </dev/null
+    status=$?
+}
+
+# Starts the launcher beside the test, with the number N of what it writes.
+start() {
+    number=$1
+    shift
+    rm -f "$work/out$number" "$work/err$number"
+    # shellcheck disable=SC2086
+    PATH=$work/kit/bin:$PATH TMPDIR=$work/link STAND_IN_SECONDS=${pause:-0.2} $shell "$work/checkout/matbench" "$@" \
+        >"$work/out$number" 2>"$work/err$number" </dev/null &
+}
+
+# Tells whether what was seen is as it should be.
+tell() {
+    if [ "$2" = "$3" ]; then
+        echo "ok: $1: $2"
+    else
+        echo "WRONG: $1: $2, and not $3"
+        wrongs=$((wrongs + 1))
+    fi
+}
+
+# How many processes work in a folder of a build, and how many such folders there are.
+left_behind() {
+    echo "$(readlink /proc/[0-9]*/cwd 2>/dev/null | grep -c "^$work/tmp/") processes, $(find "$work/tmp" -mindepth 1 -maxdepth 1 | wc -l) folders"
+}
+
+# The crates that the stand-in proved since the checkout was made, each as often as it was proved.
+proved() {
+    if [ -e "$work/kit/proved" ]; then sort "$work/kit/proved" | tr '\n' ' '; fi
+}
+
+# Waits until a file has a line, at most half a minute.
+wait_for() {
+    tries=0
+    until grep -q "$2" "$1" 2>/dev/null || [ "$tries" -gt 300 ]; do
+        sleep 0.1
+        tries=$((tries + 1))
+    done
+}
+
+try_first_build() {
+    make_checkout
+    run intersect file
+    tell "a first build: status and answer" "$status $(cat "$work/out")" "3 $answer"
+    tell "its crates, without those that the program does not stand on" "$(proved)" "mat_laws mat_main mat_sets mat_top mat_words mat_work "
+    tell "it says how long that takes, by the longest chain of the table" "$(grep -c 'takes about 14 minutes' "$work/err")" 1
+    tell "no terminal: plain lines, none of them written over" "$(grep -c "^matbench: [0-6] of 6 crates proved; 0 min so far, about" "$work/err" | sed 's/^[1-9][0-9]*$/some/') $(tr -dc '\r\033' <"$work/err" | wc -c)" "some 0"
+    tell "left behind" "$(left_behind)" "0 processes, 0 folders"
+    run intersect file
+    tell "once more: status, answer, and not a word beside" "$status $(cat "$work/out" "$work/err")" "3 $answer"
+    mkdir -p "$work/bin" && ln -sf "$work/checkout/matbench" "$work/bin/matbench"
+    tell "by a link on the path" "$(cd / && "$work/bin/matbench" intersect file)" "$answer"
+    touch "$work/checkout/crates/mat_trials/proofs"
+    run intersect file
+    tell "a folder changed: built again from what is kept" "$status $(cat "$work/out") $(proved)" "3 $answer mat_laws mat_main mat_sets mat_top mat_words mat_work "
+}
+
+try_without_tool() {
+    make_checkout
+    PATH=/usr/bin:/bin run --help
+    tell "the help without a program" "$status $(cat "$work/out")" "0 The help."
+    # shellcheck disable=SC2086
+    seen=$(PATH=/usr/bin:/bin $shell "$work/checkout/matbench" --version 2>&1 </dev/null)
+    tell "no tool on the path" "$? $seen" "70 matbench: the program is not built, and there is no command rt to build it"
+}
+
+try_lacking() {
+    make_checkout
+    mkdir -p "$work/few" && ln -sf /usr/bin/* "$work/few/" && rm "$work/few/flock"
+    # shellcheck disable=SC2086
+    seen=$(PATH=$work/kit/bin:$work/few $shell "$work/checkout/matbench" --version 2>&1 </dev/null)
+    tell "no flock on the path" "$? $seen" "70 matbench: the program is not built, and there is no command flock to build it"
+    touch "$work/checkout/crates/mat_main/out"
+    run --version
+    tell "out/ cannot be written" "$status $(cat "$work/err")" "70 matbench: the program is not built, and $work/checkout/crates/mat_main/out cannot be written"
+    rm "$work/checkout/crates/mat_main/out"
+    STAND_IN_DOC=$work/nowhere/kit/START-HERE.md
+    export STAND_IN_DOC
+    run intersect file
+    unset STAND_IN_DOC
+    tell "nothing can be kept" "$status $(grep 'begins anew' "$work/err")" "3 matbench: nothing can be kept in $work/nowhere/rattle-kept: a build that is broken off begins anew"
+}
+
+try_failure() {
+    make_checkout
+    run intersect file
+    echo "// WRONG" >>"$work/checkout/crates/mat_laws/src/lib.rt"
+    echo "// SLOW" >>"$work/checkout/crates/mat_words/src/lib.rt"
+    before=$(date +%s)
+    run intersect file
+    tell "a build that fails beside an older program: status, and no answer" "$status $(cat "$work/out")" "70 "
+    tell "the one error, last" "$(tail -n 2 "$work/err" | tr '\n' '/')" "matbench: the program could not be built/mat_laws: src/lib.rt:2:1: error: the two sides differ/"
+    tell "a slow crate beside it was ended" "$([ $(($(date +%s) - before)) -lt 20 ] && echo "at once")" "at once"
+    tell "left behind" "$(left_behind)" "0 processes, 0 folders"
+    sed -i '/WRONG/d' "$work/checkout/crates/mat_laws/src/lib.rt"
+    sed -i '/SLOW/d' "$work/checkout/crates/mat_words/src/lib.rt"
+    run intersect file
+    tell "mended" "$status $(cat "$work/out")" "3 $answer"
+    echo "// FAILS" >>"$work/checkout/crates/mat_main/src/lib.rt"
+    run intersect file
+    tell "all is proved, and the program's stored run fails" "$status $(cat "$work/out")$(tail -n 1 "$work/err")" "70 rt: mat_main: the program ended with status 1, and not 0"
+}
+
+# Breaks a build off by a signal once mat_sets is proved, and begins it again.
+try_broken_off() {
+    make_checkout
+    pause=1.5 start 1 intersect file
+    launcher=$!
+    wait_for "$work/kit/proved" mat_sets
+    kill "-$1" "$launcher"
+    wait "$launcher" 2>/dev/null
+    tell "broken off by $1: status and answer" "$? $(cat "$work/out1")" "$2 "
+    [ "$1" = KILL ] && sleep 3
+    tell "left behind" "$(left_behind)" "0 processes, 0 folders"
+    run intersect file
+    tell "begun again" "$status $(cat "$work/out")" "3 $answer"
+    tell "no crate is proved twice that was proved" "$(proved | tr ' ' '\n' | grep -c mat_sets)" 1
+}
+
+try_two_at_once() {
+    make_checkout
+    pause=0.5 start 1 intersect file
+    first=$!
+    wait_for "$work/err1" "building the program"
+    pause=0.5 start 2 intersect file
+    second=$!
+    wait "$first"
+    tell "two at once: the first" "$? $(cat "$work/out1")" "3 $answer"
+    wait "$second"
+    tell "the second" "$? $(cat "$work/out2")" "3 $answer"
+    tell "what the second says" "$(cat "$work/err2")" "matbench: another launcher builds the program here; waiting for it to end"
+    tell "each crate is proved once" "$(proved)" "mat_laws mat_main mat_sets mat_top mat_words mat_work "
+    make_checkout
+    pause=1.5 start 1 intersect file
+    first=$!
+    wait_for "$work/kit/proved" mat_sets
+    start 2 intersect file
+    second=$!
+    wait_for "$work/err2" waiting
+    kill -KILL "$first"
+    wait "$second"
+    tell "the first is killed: the second builds" "$? $(cat "$work/out2") $(grep -c 'the program is built' "$work/err2")" "3 $answer 1"
+    tell "left behind" "$(left_behind)" "0 processes, 0 folders"
+}
+
+try_change() {
+    make_checkout
+    pause=1.5 start 1 intersect file
+    launcher=$!
+    wait_for "$work/kit/proved" mat_sets
+    touch "$work/checkout/crates/mat_words/src/lib.rt"
+    wait "$launcher"
+    tell "a source is touched during the build: status and answer" "$? $(cat "$work/out1")" "70 "
+    tell "what it says last" "$(tail -n 1 "$work/err1")" "matbench: a source was changed while the program was built; start it again"
+    tell "left behind" "$(left_behind)" "0 processes, 0 folders"
+    run intersect file
+    tell "started again" "$status $(cat "$work/out")" "3 $answer"
+    touch "$work/checkout/crates.txt"
+    pause=0.5 start 1 intersect file
+    launcher=$!
+    wait_for "$work/err1" "of 6 crates proved"
+    touch "$work/mark"
+    wait "$launcher"
+    tell "a source touched after it: built again" "$? $(grep -c 'the program is built' "$work/err1")" "3 1"
+    tell "the program has the time at which the build began" "$(find "$work/checkout/crates/mat_main/out/mat_main" -newer "$work/mark" | wc -l)" 0
+}
+
+# Runs a launcher on a terminal, and keeps what it writes there. What comes on standard input is typed.
+on_terminal() {
+    PATH=$work/kit/bin:$PATH TMPDIR=$work/link STAND_IN_SECONDS=$1 TERM=xterm \
+        script -qec "stty rows 24 columns $2; $shell '$work/checkout/matbench' intersect file >'$work/out'" "$work/typescript" >/dev/null
+    echo "$?" >"$work/status"
+}
+
+try_terminal() {
+    make_checkout
+    on_terminal 1.2 60 </dev/null
+    tell "on a terminal: status and answer" "$(cat "$work/status") $(cat "$work/out")" "3 $answer"
+    tell "one line that is written over, cut to the terminal's width" "$(grep -a 'of 6 crates proved' "$work/typescript" | tr '\r' '\n' | sed 's/\x1b\[K//' | awk 'length > 59 { long++ } /of 6 crates/ { many++ } END { print (many > 3 ? "many" : many), long + 0 }') $(grep -ac 'of 6 crates proved' "$work/typescript")" "many 0 1"
+    make_checkout
+    { wait_for "$work/kit/proved" mat_sets; printf '\003'; sleep 5; } | on_terminal 1.5 80
+    tell "Ctrl-C on a terminal: status" "$(cat "$work/status")" 130
+    tell "what it says last" "$(tr '\r' '\n' <"$work/typescript" | grep -a '^.\[Kmatbench' | tail -n 1 | tr -d '\033')" "[Kmatbench: the build is broken off"
+    tell "left behind" "$(left_behind)" "0 processes, 0 folders"
+}
+
+# Tries all with one shell.
+try_shell() {
+    shell=$1
+    echo "== $shell"
+    try_first_build
+    try_without_tool
+    try_lacking
+    try_failure
+    try_broken_off TERM 143
+    try_broken_off KILL 137
+    try_two_at_once
+    try_change
+    try_terminal
+}
+
+make_stand_in
+if [ "$#" -gt 0 ]; then
+    for each in "$@"; do try_shell "$each"; done
+else
+    ! command -v dash >/dev/null || try_shell dash
+    ! command -v bash >/dev/null || try_shell "bash --posix"
+    ! command -v busybox >/dev/null || try_shell "busybox sh"
+fi
+echo "wrong: $wrongs"
+[ "$wrongs" = 0 ]
