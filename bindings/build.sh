@@ -1,0 +1,146 @@
+#!/bin/sh
+# Builds what docs/BINDINGS.md describes into bindings/out/, of the proved program of this checkout. It needs the kit and cc alone.
+#
+#   bindings/build.sh                 of the proved program, which ./matbench builds first where it is not built
+#   bindings/build.sh OBJECT MODULE   of another program's object file and LLVM module, such as those of one that is not proved yet
+set -eu
+bindings=$(dirname -- "$(readlink -f -- "$0")")
+top=$(dirname -- "$bindings")
+out=$bindings/out
+guide=$(rt doc) || { echo "build.sh: there is no command rt, which the kit has" >&2; exit 70; }
+kit=$(dirname -- "$guide")
+work=$(mktemp -d -p "${TMPDIR:-/var/tmp}")
+trap 'rm -rf "$work"' EXIT
+trap 'exit 70' HUP INT TERM
+
+# What the program calls of the C library and the shim answers, and the program's entry.
+system="main rattle_arg open read write __write close lseek _exit __sysv_signal"
+# What it may call of the C library besides.
+allowed=" abort free malloc realloc memcpy memmove memset _setjmp longjmp __errno_location __udivti3 __umodti3 __x86_get_cpuid_feature_leaf "
+allowed="$allowed pthread_attr_init pthread_attr_destroy pthread_attr_setguardsize pthread_create pthread_detach pthread_join pthread_self "
+allowed="$allowed __tls_get_addr _GLOBAL_OFFSET_TABLE_ __stack_chk_fail "
+
+fail() {
+    echo "build.sh: $1" >&2
+    exit 1
+}
+
+# The kit's clang is each of LLVM's tools, by the name that it is called by.
+link_tools() {
+    for tool in llvm-objcopy llvm-nm llvm-ar clang; do ln -s "$kit/toolchain/bin/clang" "$work/$tool"; done
+}
+
+# The lines of crates.txt, which has the lowest crate first, for the program and the crates that it stands on.
+lines_of_program() {
+    tac "$top/crates.txt" | awk -F: '{ split($1, word, " ") }
+        word[1] == "mat_main" || word[1] in needed { print; many = split($2, below, " "); for (i = 1; i <= many; i++) needed[below[i]] }' | tac
+}
+
+# Lays out the libraries of the crates that the program stands on, in a copy of them, by the tool's gate as ./matbench does. What is kept is
+# not proved again.
+lay_out_libraries() {
+    mkdir -p "$copy/.git" "$copy/crates"
+    lines_of_program >"$copy/crates.txt"
+    [ ! -e "$top/HANDLES" ] || cp "$top/HANDLES" "$copy/"
+    for crate in $(sed 's/[ :].*//' "$copy/crates.txt"); do
+        mkdir "$copy/crates/$crate"
+        for part in src specs proofs c args stdin stdout status data; do
+            [ ! -e "$top/crates/$crate/$part" ] || cp -R "$top/crates/$crate/$part" "$copy/crates/$crate/"
+        done
+    done
+    if ! (cd "$copy" && rt ci) >"$work/laid_out" 2>&1; then
+        tail -n 5 "$work/laid_out" >&2
+        fail "the libraries of the program could not be laid out"
+    fi
+}
+
+# Has the kit prove and build the program once more, with a clang that keeps the LLVM module that it is given.
+build_program() {
+    "$top/matbench" --version >/dev/null || fail "the program is not built"
+    copy=$work/copy tools=$work/toolchain
+    lay_out_libraries
+    mkdir -p "$tools/bin"
+    ln -s "$kit/toolchain/lib" "$tools/lib"
+    for tool in "$kit"/toolchain/bin/*; do ln -s "$tool" "$tools/bin/"; done
+    rm "$tools/bin/clang"
+    printf '#!/bin/sh\n[ ! -f module.bc ] || cp module.bc "%s"\nexec "%s" "$@"\n' "$work/module.bc" "$kit/toolchain/bin/clang" >"$tools/bin/clang"
+    chmod +x "$tools/bin/clang"
+    set -- --crate-name mat_main src/main.rt --extern "std=$kit/rlibs/std.rlib" -L "dependency=$kit/rlibs"
+    for crate in $(sed -n 's/^mat_main: *//p' "$copy/crates.txt"); do set -- "$@" --extern "$crate=../$crate/out/rlib/$crate.rlib"; done
+    for folder in "$copy"/crates/*/out/rlib; do set -- "$@" -L "dependency=$folder"; done
+    set -- "$@" --antt-project "$kit/rattle/logic/antt-project.json" --logic-built "$kit/logic_built" --links mat_main= --jobs 1
+    set -- "$@" --toolchain "$tools" --backend llvm -o "$work/mat_main.o"
+    if ! (cd "$copy/crates/mat_main" && "$kit/bin/rattle" build "$@") >"$work/checked" 2>&1; then
+        tail -n 5 "$work/checked" >&2
+        fail "the program could not be built again"
+    fi
+    grep '^logic=' "$work/checked"
+    compare_program
+}
+
+# Says whether the object file is that of the program: linked as the tool does, it is the program then.
+compare_program() {
+    "$kit/bin/rattle-link" --target x86_64-unknown-linux-gnu --toolchain "$kit/toolchain" -o "$work/mat_main" "$work/mat_main.o" \
+        "$kit/c/libos_c.a" "$kit/c/liblibc_c.a" >/dev/null 2>&1 || fail "the program cannot be linked"
+    if cmp -s "$work/mat_main" "$top/crates/mat_main/out/mat_main"; then
+        echo "build.sh: linked, the object file is the program of ./matbench, byte for byte"
+    fi
+}
+
+# The libraries for C: one object file that shows matbench_call alone.
+build_libraries() {
+    object=$1
+    set --
+    for name in $system; do set -- "$@" --redefine-sym "$name=matbench_system_$name"; done
+    "$work/llvm-objcopy" "$@" "$object" "$work/program.o"
+    for part in system native; do
+        cc -std=c11 -O2 -fPIC -Wall -Wextra -Werror -c "$bindings/shim/$part.c" -o "$work/$part.o"
+    done
+    cc -r -nostdlib -o "$work/joined.o" "$work/program.o" "$work/system.o" "$work/native.o" "$kit/c/libos_c.a" "$kit/c/liblibc_c.a"
+    "$work/llvm-objcopy" --keep-global-symbol=matbench_call "$work/joined.o" "$work/matbench.o"
+    for name in $("$work/llvm-nm" --undefined-only -j "$work/matbench.o"); do
+        case $allowed in
+            *" $name "*) ;;
+            *) fail "the program calls $name, which the shim does not answer" ;;
+        esac
+    done
+    rm -f "$out/libmatbench.a"
+    "$work/llvm-ar" crs "$out/libmatbench.a" "$work/matbench.o"
+    cc -shared -pthread -Wl,-soname,libmatbench.so,-z,defs,-z,noexecstack,--gc-sections -o "$out/libmatbench.so" "$work/matbench.o"
+    cp "$bindings/matbench.h" "$out/"
+}
+
+compile_for_wasm() {
+    "$work/clang" --target=wasm64-unknown-unknown -mcpu=lime1 --no-default-config -fno-crash-diagnostics -ffunction-sections -fdata-sections -c "$@"
+}
+
+# The LLVM module that the kit made for x86-64, compiled for WebAssembly with 64-bit memory by the same clang. Sizes and places of all that
+# lies in memory are the same for both.
+build_module() {
+    "$work/clang" --target=x86_64-unknown-linux-gnu --no-default-config -x ir -S -emit-llvm -Xclang -disable-llvm-passes "$1" -o "$work/x86.ll"
+    sed -e 's/^target datalayout = .*/target datalayout = "e-m:e-p:64:64-p10:8:8-p20:8:8-i64:64-i128:128-n32:64-S128-ni:1:10:20"/' \
+        -e 's/^target triple = .*/target triple = "wasm64-unknown-unknown"/' \
+        -e 's/ "probe-stack"="[^"]*"//; s/ "stack-probe-size"="[^"]*"//; s/ "target-cpu"="[^"]*"//; s/ "target-features"="[^"]*"//' \
+        "$work/x86.ll" >"$work/program.ll"
+    compile_for_wasm -mllvm -trap-unreachable -mllvm -expand-div-rem-bits=64 -O3 -x ir "$work/program.ll" -o "$work/program.wasm.o"
+    set -- -std=c11 -O2 -fwrapv -ffreestanding -nostdinc -isystem "$(cc -print-file-name=include)"
+    for name in $system; do [ "$name" = main ] || set -- "$@" "-Dmatbench_system_$name=$name"; done
+    for part in system wasm; do compile_for_wasm "$@" "$bindings/shim/$part.c" -o "$work/$part.wasm.o"; done
+    "$work/llvm-ar" crs "$work/libmodule.a" "$work/program.wasm.o" "$work/system.wasm.o" "$work/wasm.wasm.o"
+    "$kit/bin/rattle-link" --target wasm64-unknown-unknown --toolchain "$kit/toolchain" --stack 16777216 -o "$out/matbench.wasm" \
+        "$work/libmodule.a" 2>"$work/linked" || fail "the module cannot be linked: $(cat "$work/linked")"
+    grep -q ' imports=host\.end ' "$work/linked" || fail "the module asks for more than host.end: $(cat "$work/linked")"
+}
+
+mkdir -p "$out"
+link_tools
+case $# in
+    0) build_program; set -- "$work/mat_main.o" "$work/module.bc"; of="the proved program" ;;
+    2) of="$1 and $2" ;;
+    *) fail "usage: bindings/build.sh [OBJECT MODULE]" ;;
+esac
+build_libraries "$1"
+build_module "$2"
+python3 "$bindings/web/build_page.py" "$top" "$out"
+echo "build.sh: built of $of:"
+(cd "$out" && ls -l libmatbench.a libmatbench.so matbench.wasm matbench.html)

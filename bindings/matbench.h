@@ -1,0 +1,61 @@
+/* The program matbench as a function: docs/BINDINGS.md says how to build and link it, and what is trusted. */
+#ifndef MATBENCH_H
+#define MATBENCH_H
+
+#include <stddef.h>
+
+#ifdef __cplusplus
+extern "C" {
+#endif
+
+/* A file that a call can read: the name by which its words mean it, ended by a zero byte, and its bytes. A file of the name "-" is
+ * standard input. */
+typedef struct {
+    const char *name;
+    const void *bytes;
+    size_t length;
+} matbench_file;
+
+/* Where a call writes: it has room for so many bytes, and sets length to the number of those that it wrote. */
+typedef struct {
+    char *bytes;
+    size_t room;
+    size_t length;
+} matbench_buffer;
+
+/* Each answer, certificate, witness and canonical text that a call can write has room in so many bytes, but for the output of batch, which
+ * has room in 32 times as many. */
+#define MATBENCH_ROOM 67108864
+
+/* What a call answers: the exit status of the program (matbench --help), or MATBENCH_NO_CALL. */
+enum {
+    MATBENCH_NO_CALL = -1, /* a pointer is null that must not be; nothing was read or written */
+    MATBENCH_DONE = 0,
+    MATBENCH_NOT_RIGHT = 1,
+    MATBENCH_USAGE = 2,
+    MATBENCH_BAD_DESCRIPTION = 3,
+    MATBENCH_BAD_CERTIFICATE = 4,
+    MATBENCH_READ_FAULT = 5,  /* no file of the call has the name */
+    MATBENCH_WRITE_FAULT = 6, /* the output has no room for the answer: it is filled with what comes first */
+    MATBENCH_MEMORY = 7,
+    MATBENCH_TOO_LONG = 8,
+    MATBENCH_WRONG_SHAPE = 9,
+    MATBENCH_UNWITNESSED = 11,
+    MATBENCH_BAD_WITNESS = 12,
+    MATBENCH_BAD_COST = 13,
+    MATBENCH_BAD_LIST = 14
+};
+
+/* Does what the program does for these words, such as "intersect", "people.txt", and a null pointer that ends them. It reads the given files
+ * and no others, of two with one name the first, writes the answer to output, and the note of a refusal to note, which may be null. A note
+ * has at most 100 bytes.
+ *
+ * The caller owes: each name is ended by a zero byte, each pointer reaches as many bytes as stand beside it, and output and note overlap
+ * nothing else. Bytes that do not exist may be null. Calls in several threads at once are independent of each other; each needs up to
+ * 262,144 bytes of stack. A call allocates by malloc, and has freed all of it when it returns. */
+int matbench_call(const char *const *words, const matbench_file *files, size_t file_count, matbench_buffer *output, matbench_buffer *note);
+
+#ifdef __cplusplus
+}
+#endif
+#endif

@@ -1,0 +1,46 @@
+/* What a call of the program is given, and what it keeps while it runs. */
+#ifndef MATBENCH_CALL_H
+#define MATBENCH_CALL_H
+
+#include "../matbench.h"
+
+#ifdef __wasm__
+enum { ENOENT = 2, EBADF = 9, EMFILE = 24, ENOSPC = 28, ESPIPE = 29 };
+extern int errno;
+#define PER_THREAD
+#else
+#include <errno.h>
+#include <setjmp.h>
+#define PER_THREAD _Thread_local
+#endif
+
+typedef struct {
+    const char *const *words;
+    const matbench_file *files;
+    size_t file_count;
+    matbench_buffer *output, *note;
+    /* The file that is open, or null, and where the next read of it begins. */
+    const matbench_file *opened;
+    size_t opened_from;
+    /* Where the next read of standard input begins. */
+    size_t standard_from;
+#ifndef __wasm__
+    jmp_buf ended;
+#endif
+} matbench_state;
+
+/* The call that this thread runs, or null. */
+extern PER_THREAD matbench_state *matbench_current;
+
+/* Whether a call has all pointers that it needs. */
+int matbench_is_call(const char *const *words, const matbench_file *files, size_t file_count, const matbench_buffer *output,
+                     const matbench_buffer *note);
+
+/* The program's entry. It ends by matbench_system__exit, and so does not return. */
+#ifdef __wasm__
+int matbench_system_main(int argc, char **argv) __asm__("main");
+#else
+int matbench_system_main(int argc, char **argv);
+#endif
+
+#endif

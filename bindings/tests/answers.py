@@ -1,0 +1,146 @@
+"""answers.py PROGRAM CALL: compares the answers of the program with those of the C library, the Python module and the page, byte for byte.
+
+The problems are those of examples/ and 200 random ones. PROGRAM is the program, CALL what tests/call.c is compiled to. The page is tried as files
+from a server, and as one file from a folder: there every example is chosen, solved and checked as a user does.
+"""
+import json
+import os
+import pathlib
+import random
+import subprocess
+import sys
+import tempfile
+
+HERE = pathlib.Path(__file__).resolve().parent
+TOP = HERE.parent.parent
+sys.path[:0] = [str(HERE.parent), str(TOP / "bench")]
+
+import matbench  # noqa: E402
+import pages  # noqa: E402
+import soak  # noqa: E402
+
+RANDOM = 200
+#: Calls that a page makes at a time.
+BLOCK = 20
+
+
+def kind_of(text):
+    """Which of the lists of commands of soak.py a description takes."""
+    form, *numbers = text.split(b"\n")[1].decode().split(" ")
+    return "one" if form == "list" and numbers[1] == "1" else form
+
+
+def problems():
+    """The descriptions of the examples and random ones, with their names."""
+    numbers = random.Random(46)
+    for path in sorted((TOP / "examples").glob("*.txt")):
+        text = path.read_bytes()
+        if text.startswith(b"matroids "):
+            yield path.name, text
+    for place in range(RANDOM):
+        yield f"random {place}", soak.problem(numbers)[1]
+
+
+class Compared:
+    """How many calls were compared, and what was wrong."""
+
+    def __init__(self, program, caller):
+        self.program, self.caller, self.counts, self.wrong = program, caller, {}, 0
+
+    def hold(self, way, what, wanted, given):
+        """Compares what a way gives with what the program gives."""
+        self.counts[way] = self.counts.get(way, 0) + 1
+        if wanted != given:
+            self.wrong += 1
+            print(f"{way}: {what}: the program gives {str(wanted)[:300]}, it gives {str(given)[:300]}")
+
+    def by_program(self, words, files):
+        """The status, the output and the note of the program, over files in a new folder."""
+        with tempfile.TemporaryDirectory() as folder:
+            for name, text in files.items():
+                pathlib.Path(folder, name).write_bytes(text)
+            ended = subprocess.run([self.program, *words], cwd=folder, capture_output=True, check=False)
+            called = subprocess.run([self.caller, *words, "--", *(f"{name}={name}" for name in files)], cwd=folder, capture_output=True,
+                                    check=False)
+        wanted = (ended.returncode, ended.stdout, ended.stderr)
+        self.hold("C", words, wanted, (called.returncode, called.stdout, called.stderr))
+        return wanted
+
+    def call(self, words, files):
+        """Makes a call by the program, by C and by Python, and answers what the program gives."""
+        wanted = self.by_program(words, files)
+        ended = matbench.call(words, files)
+        note = f"{ended.note}\n".encode() if ended.note else b""
+        self.hold("Python", words, wanted, (ended.status, ended.output, note))
+        return wanted
+
+
+def solved(compared, name, text):
+    """The calls about a problem: words, files, and what the program gives. Each answer is checked too, and has to be right."""
+    commands = [*soak.COMMANDS[kind_of(text)], "show", "convert"]
+    for command in commands:
+        words = [*command.split(), "f"]
+        wanted = compared.call(words, {"f": text})
+        yield words, {"f": text}, wanted
+        if wanted[0] == 0 and words[0] not in ("show", "convert", "cuts"):
+            words, files = ["check", "f", "c"], {"f": text, "c": wanted[1]}
+            verdict = compared.call(words, files)
+            compared.hold("yes", f"{name}, {command}", (0, b"yes\n", b""), verdict)
+            yield words, files, verdict
+
+
+RUN_ALL = """(async (calls) => {
+  const { Run } = await import("./run.mjs");
+  const ended = [];
+  for (const [words, files] of calls) ended.push(await new Run(words, files).ended);
+  return ended.map((it) => [it.status, it.output, it.note]);
+})"""
+
+
+def compare_page(compared, browser, calls):
+    """Makes the calls in the page that lies open, by what runs its own."""
+    for place in range(0, len(calls), BLOCK):
+        block = calls[place:place + BLOCK]
+        asked = [[words, {name: text.decode() for name, text in files.items()}] for words, files, _ in block]
+        for (words, _, wanted), given in zip(block, browser.run(f"{RUN_ALL}({json.dumps(asked)})")):
+            compared.hold("page", words, [wanted[0], wanted[1].decode(), wanted[2].decode().rstrip("\n")], given)
+
+
+def compare_examples(compared, browser, way, answers):
+    """Chooses each example of the page that lies open, and solves and checks it by its buttons."""
+    examples = browser.run("[...document.querySelectorAll('#example option')].map((it) => [it.value, it.textContent]).filter((it) => it[0])")
+    compared.hold(way, "how many examples there are", len(answers), len(examples))
+    for value, title in examples:
+        name = title.split(":")[0]
+        pages.choose(browser, "#example", value)
+        command = browser.run("document.querySelector('#command').value")
+        count = browser.run("document.querySelector('#count').disabled ? '' : document.querySelector('#count').value")
+        pages.click_and_wait(browser, "#solve")
+        wanted = compared.by_program([*f"{command} {count}".split(), "f"], {"f": answers[name]})
+        compared.hold(way, title, (wanted[0], wanted[1].decode()), (0, browser.run("document.querySelector('#answer').value")))
+        if command != "cuts":
+            pages.click_and_wait(browser, "#check")
+            compared.hold(f"{way}, yes", title, "yes: the answer is right.", pages.state(browser)[:25])
+
+
+def main():
+    compared = Compared(*map(os.path.abspath, sys.argv[1:3]))
+    calls, examples = [], {}
+    for name, text in problems():
+        calls += solved(compared, name, text)
+        if not name.startswith("random"):
+            examples[name] = text
+    with pages.served() as address, pages.opened() as browser:
+        browser.open(address)
+        compare_page(compared, browser, calls)
+        compare_examples(compared, browser, "page from a server", examples)
+        browser.open(pages.ONE_FILE)
+        compare_examples(compared, browser, "page from a folder", examples)
+        complaints = browser.complaints()
+    compared.hold("page", "what the browser complains of", [], complaints)
+    print("answers.py:", ", ".join(f"{way} {count}" for way, count in compared.counts.items()), f"compared, {compared.wrong} wrong")
+    return 1 if compared.wrong else 0
+
+
+if __name__ == "__main__":
+    sys.exit(main())

@@ -1,0 +1,312 @@
+"""Tests of the page in a headless Chromium: what it says, shows and takes. That its answers are the program's, answers.py tests.
+
+The pictures that it makes lie in bindings/out/pictures/, to be looked at.
+"""
+import json
+import pathlib
+import sys
+import tempfile
+import time
+import unittest
+
+HERE = pathlib.Path(__file__).resolve().parent
+TOP = HERE.parent.parent
+sys.path[:0] = [str(HERE.parent), str(TOP / "bench")]
+
+import browser as browsers  # noqa: E402
+import pages  # noqa: E402
+
+PICTURES = pages.OUT / "pictures"
+PEOPLE = (TOP / "examples" / "people.txt").read_text()
+CONTROL, ENTER, ESCAPE, TAB = 2, 13, 27, 9
+
+
+def long_problem():
+    """A problem that takes ten seconds or more: a union of 64 unions of 64 uniform matroids, against a partition."""
+    n = 500
+    unions = ["union 64", *(line for _ in range(64) for line in ("union 64", *["uniform 1"] * 64))]
+    classes = ("class 1 " + " ".join(str(e) for e in range(first, n, 125)) for first in range(125))
+    weights = "weights " + " ".join(str((7919 * e) % 1000) for e in range(n))
+    return "\n".join(["matroids 1", f"pair {n}", weights, *unions, "partition 125", *classes, "end", ""])
+
+
+class Page(unittest.TestCase):
+    """The page as files from a server."""
+
+    flags = ()
+
+    @classmethod
+    def setUpClass(cls):
+        cls.browser = cls.enterClassContext(pages.opened(*cls.flags))
+        cls.address = cls.enterClassContext(pages.served())
+        PICTURES.mkdir(parents=True, exist_ok=True)
+
+    def setUp(self):
+        self.browser.ask("Emulation.setDeviceMetricsOverride", width=1100, height=900, deviceScaleFactor=1, mobile=False)
+        self.open(self.address)
+
+    def tearDown(self):
+        self.assertEqual(self.browser.complaints(), [])
+
+    def open(self, address):
+        self.browser.open(address)
+        self.browser.wait("document.querySelector('#command').value")
+
+    def text(self, selector):
+        return pages.text(self.browser, selector)
+
+    def write(self, selector, text):
+        pages.write(self.browser, selector, text)
+
+    def solve(self):
+        pages.click_and_wait(self.browser, "#solve")
+
+    def picture(self, name):
+        self.browser.picture(PICTURES / f"{name}.png")
+
+
+class Use(Page):
+    """What a user does."""
+
+    def test_it_begins_with_an_example_and_tells_its_answer(self):
+        self.assertEqual(self.text("#description"), PEOPLE)
+        self.solve()
+        self.assertRegex(pages.state(self.browser), r"^Done in \d+ ms\.$")
+        self.assertIn("size 4250 3 4 6", self.text("#views"))
+        pages.click_and_wait(self.browser, "#check")
+        self.assertRegex(pages.state(self.browser), r"^yes: the answer is right\. Judged in \d+ ms\.$")
+        self.picture("solved")
+
+    def test_there_is_an_example_of_each_form_with_its_command(self):
+        found = self.browser.run("[...document.querySelectorAll('#example optgroup')].map((it) => it.label)")
+        self.assertEqual(found, ["pair", "list", "graph", "rooted", "coloured", "table"])
+        place = self.browser.run("[...document.querySelectorAll('#example option')].find((it) => it.textContent.startsWith('frame.txt')).value")
+        pages.choose(self.browser, "#example", place)
+        self.assertEqual((self.text("#command"), self.text("#count")), ("trees", "6"))
+        self.assertTrue(self.browser.run("document.querySelector('#count').checkVisibility()"))
+
+    def test_the_commands_are_those_of_the_form(self):
+        offered = "[...document.querySelectorAll('#command option')].map((it) => it.value)"
+        for line, wanted in (("table 1 1 0", ["assign"]), ("list 0 2", ["union"]), ("list 0 1", ["best", "union", "pack", "cover"]),
+                             ("rooted 1 0 0", ["arborescence", "disjoint", "cuts"])):
+            self.write("#description", f"matroids 1\n{line}\nend\n")
+            self.assertEqual(self.browser.run(offered), [*wanted, "show", "convert"])
+
+    def test_names_stand_in_the_table(self):
+        self.write("#description", (TOP / "examples" / "towns.txt").read_text())
+        pages.choose(self.browser, "#command", "cuts")
+        self.solve()
+        self.assertIn("coast ridge pass", self.text("#views"))
+        self.assertRegex(self.text("#views"), "cut[0-9]+.*(Mill|Abbey|Quarry)")
+
+    def test_each_kind_of_limit_is_told(self):
+        rows = self.browser.run("[...document.querySelectorAll('#limits tbody tr')].map((it) => it.textContent)")
+        self.assertIn("uniform CAPit has at most CAP elements", rows)
+        self.assertIn("dual, then a matroid", " ".join(rows))
+        self.browser.run("document.querySelector('details').open = true")
+        self.picture("limits")
+
+    def test_a_fault_is_marked_with_its_meaning(self):
+        self.write("#description", PEOPLE.replace("class 1 7 8", "class 1 7 9"))
+        self.solve()
+        self.assertRegex(self.text("#description-fault"), "^Line 8, NumberRange: the number is out of its range: .* Go to line 8$")
+        self.assertEqual(self.browser.run("document.querySelector('#description').getAttribute('aria-invalid')"), "true")
+        mark = self.browser.run("(({top, bottom}) => [top, bottom])(document.querySelector('.mark').getBoundingClientRect())")
+        area = self.browser.run("document.querySelector('#description').getBoundingClientRect().top")
+        line = self.browser.run("parseFloat(getComputedStyle(document.querySelector('#description')).lineHeight)")
+        self.assertAlmostEqual(mark[0], area + 8 + 7 * line, delta=1.5)
+        self.assertAlmostEqual(mark[1] - mark[0], line, delta=0.5)
+        self.picture("fault")
+        self.browser.run("document.querySelector('#description-fault button').click()")
+        chosen = "(({selectionStart, selectionEnd, value}) => value.slice(selectionStart, selectionEnd))(document.activeElement)"
+        self.assertEqual(self.browser.run(chosen), "class 1 7 9")
+        self.write("#description", PEOPLE)
+        self.assertEqual(self.text("#description-fault"), "")
+        self.assertTrue(self.browser.run("document.querySelector('.mark').hidden"))
+
+    def test_a_fault_far_below_is_scrolled_to(self):
+        lines = ["matroids 1", "graph 500 400", *(f"edge {e} {e}" for e in range(400)), "end", ""]
+        lines[300] = "edge 1"
+        self.write("#description", "\n".join(lines))
+        self.solve()
+        boxes = "...['#description', '.mark'].map((it) => document.querySelector(it).getBoundingClientRect())"
+        self.assertTrue(self.browser.run(f"((area, mark) => mark.top >= area.top && mark.bottom <= area.bottom)({boxes})"))
+
+    def test_a_fault_of_an_answer_is_marked_there(self):
+        self.write("#answer", "certificate 1\nanswer intersect 9 5\nrung 0 00\n")
+        pages.click_and_wait(self.browser, "#check")
+        self.assertIn("Line 3, NumberSpelling: a number or a weight is needed", self.text("#answer-fault"))
+        self.assertEqual(self.text("#description-fault"), "")
+
+    def test_a_wrong_answer_is_told_with_its_reason(self):
+        self.write("#answer", (TOP / "examples" / "people_wrong.answer").read_text())
+        pages.click_and_wait(self.browser, "#check")
+        self.assertEqual(pages.state(self.browser), "The answer is not right.")
+        self.assertRegex(self.text("#answer-fault"), "^no sum 4 6: in rung K the two parts of the split do not add up")
+
+    def test_a_long_run_is_timed_and_can_be_stopped(self):
+        self.write("#description", long_problem())
+        self.browser.run("document.querySelector('#solve').click()")
+        self.browser.wait("/^[1-9][\\d.]* m?s$/.test(document.querySelector('#time').textContent)")
+        self.assertEqual(pages.state(self.browser), "Running")
+        self.assertTrue(self.browser.run("document.querySelector('#solve').disabled"))
+        self.picture("running")
+        pages.click_and_wait(self.browser, "#stop")
+        self.assertRegex(pages.state(self.browser), r"^Stopped after [\d.]+ (ms|s)\.$")
+        self.write("#description", PEOPLE)
+        self.solve()
+        self.assertRegex(pages.state(self.browser), "^Done in")
+
+    def test_files_are_taken_by_drop(self):
+        self.browser.drop(TOP / "examples" / "posts.txt", "#description")
+        self.browser.wait("document.querySelector('#command').value === 'assign'")
+        self.browser.drop(TOP / "README.md", "h1")
+        self.browser.drop(TOP / "examples" / "people_wrong.answer", "#answer")
+        self.browser.wait("document.querySelector('#answer').value.startsWith('certificate 1')")
+        with tempfile.NamedTemporaryFile(suffix=".txt") as file:
+            file.write(b"x" * 4_194_305)
+            file.flush()
+            self.browser.drop(file.name, "#description")
+            self.browser.wait("document.querySelector('#description-fault').textContent.endsWith('has more than 4,194,304 bytes.')")
+
+    def test_a_link_holds_the_problem_in_its_fragment(self):
+        self.write("#description", (TOP / "examples" / "frame.txt").read_text())
+        self.browser.run("document.querySelector('#count').value = 6")
+        self.browser.run("document.querySelector('#link').click()")
+        self.browser.wait("location.hash.length > 1")
+        link = self.browser.run("location.href")
+        self.assertTrue(link.startswith(f"{self.address}#trees,6,"))
+        self.open(link)
+        self.browser.wait("document.querySelector('#command').value === 'trees'")
+        self.assertEqual((self.text("#description"), self.text("#count")), ((TOP / "examples" / "frame.txt").read_text(), "6"))
+        self.browser.run("location.hash = '#what,ever,!'")
+        self.browser.run("location.hash = '#trees,1,AAAA'")
+
+    def test_an_answer_is_saved_as_it_is(self):
+        self.solve()
+        with tempfile.TemporaryDirectory() as folder:
+            self.browser.ask("Browser.setDownloadBehavior", behavior="allow", downloadPath=folder)
+            self.browser.run("document.querySelector('#save-answer').click()")
+            path, end = pathlib.Path(folder, "intersect.answer"), time.monotonic() + browsers.LONGEST
+            while not path.exists() and time.monotonic() < end:
+                time.sleep(0.05)
+            self.assertEqual(path.read_text(), self.text("#answer"))
+
+    def test_the_keyboard_is_enough(self):
+        self.browser.run("document.querySelector('#description').focus()")
+        self.browser.press("Enter", ENTER, CONTROL)
+        self.browser.wait("document.querySelector('#state').textContent.startsWith('Done in')")
+        self.browser.run("document.querySelector('#example').focus()")
+        order = []
+        for _ in range(10):
+            self.browser.press("Tab", TAB)
+            order.append(self.browser.run("document.activeElement.id"))
+        self.assertEqual(order, ["command", "description", "solve", "open-description", "save-description", "link", "answer", "check",
+                                 "open-answer", "save-answer"])
+        self.write("#description", long_problem())
+        self.browser.run("document.querySelector('#solve').click()")
+        self.browser.wait("document.querySelector('#time').textContent")
+        self.browser.press("Escape", ESCAPE)
+        self.browser.wait("document.querySelector('#state').textContent.startsWith('Stopped')")
+
+    def test_everything_that_is_used_has_a_name_and_a_role(self):
+        self.solve()
+        nodes = self.browser.ask("Accessibility.getFullAXTree")["nodes"]
+        used = {(it["role"]["value"], it["name"]["value"]) for it in nodes if not it["ignored"] and "name" in it}
+        for role, name in (("combobox", "Example"), ("combobox", "Command"), ("textbox", "Description"), ("textbox", "Answer"), ("button", "Solve"),
+                           ("button", "Check"), ("button", "Copy a link"), ("heading", "matbench"), ("table", "The sets of the answer")):
+            self.assertIn((role, name), used)
+        controls = [it for it in nodes if not it["ignored"] and it["role"]["value"] in ("combobox", "textbox", "button", "spinbutton", "link")]
+        self.assertEqual([it for it in controls if not it["name"]["value"]], [])
+        self.assertIn("status", {it["role"]["value"] for it in nodes if not it["ignored"]})
+
+    def test_it_has_a_dark_mode(self):
+        ground = "getComputedStyle(document.body).backgroundColor"
+        self.browser.ask("Emulation.setEmulatedMedia", features=[{"name": "prefers-color-scheme", "value": "light"}])
+        self.assertEqual(self.browser.run(ground), "rgb(255, 255, 255)")
+        self.browser.ask("Emulation.setEmulatedMedia", features=[{"name": "prefers-color-scheme", "value": "dark"}])
+        self.assertEqual(self.browser.run(ground), "rgb(23, 24, 26)")
+        self.write("#description", PEOPLE.replace("class 1 7 8", "class 1 7 9"))
+        self.solve()
+        self.picture("dark")
+        self.browser.ask("Emulation.setEmulatedMedia", features=[])
+
+    def test_it_fits_a_phone(self):
+        self.browser.ask("Emulation.setDeviceMetricsOverride", width=360, height=740, deviceScaleFactor=2, mobile=True)
+        self.write("#description", (TOP / "examples" / "week.txt").read_text())
+        self.solve()
+        self.assertEqual(self.browser.run("document.documentElement.scrollWidth"), 360)
+        self.picture("phone")
+
+    def test_nothing_is_sent(self):
+        self.solve()
+        policy = self.browser.run("document.querySelector('meta[http-equiv]').content")
+        self.assertIn("default-src 'none'", policy)
+        loaded = self.browser.run("performance.getEntriesByType('resource').map((it) => it.name)")
+        self.assertEqual([it for it in loaded if not it.startswith(self.address)], [])
+        refused = self.browser.run("fetch('https://example.org/').then(() => false, () => true)")
+        self.assertTrue(refused)
+        self.browser.events = []
+
+
+class BadUse(Page):
+    """What bad use gets."""
+
+    def run_in_page(self, words, limits):
+        """How a run within these limits ends, or what it fails with."""
+        script = f"""import("./run.mjs").then(({{ Run }}) => new Run({json.dumps(words)}, {{}}, {json.dumps(limits)}).ended)
+            .catch((it) => it.message)"""
+        return self.browser.run(script)
+
+    def test_a_text_that_is_too_long_is_refused(self):
+        self.write("#description", "x" * 4_194_305)
+        self.solve()
+        self.assertEqual(pages.state(self.browser), "Refused: too long.")
+        self.assertTrue(self.text("#description-fault").startswith("The text is too long"))
+
+    def test_no_memory_is_told(self):
+        sample = ["sample", "pair", "500", "1"]
+        ended = self.run_in_page(sample, {"memory": 46_000_000})
+        self.assertEqual((ended["status"], ended["note"], ended["output"]), (7, "refused: memory", ""))
+        self.assertEqual(self.run_in_page(sample, {"memory": 20_000_000}), "memory")
+        self.assertEqual(self.run_in_page(sample, {})["status"], 0)
+
+    def test_two_calls_at_once_are_independent(self):
+        script = """(async () => {
+          const { Run } = await import("./run.mjs");
+          const words = [...Array(8).keys()].map((it) => ["sample", "pair", "60", String(it + 1)]);
+          const alone = [];
+          for (const it of words) alone.push((await new Run(it, {}).ended).output);
+          const at_once = await Promise.all(words.map((it) => new Run(it, {}).ended));
+          return at_once.every((it, place) => it.output === alone[place]) && new Set(alone).size === 8;
+        })()"""
+        self.assertTrue(self.browser.run(script))
+
+    def test_a_buffer_that_is_too_small_is_a_write_fault(self):
+        ended = self.run_in_page(["sample", "pair", "2", "1"], {"room": 6})
+        self.assertEqual((ended["status"], ended["output"], ended["note"]), (6, "sample", "refused: write fault"))
+
+    def test_a_module_that_is_not_there_is_told_of(self):
+        self.browser.ask("Network.enable")
+        self.browser.ask("Network.setBlockedURLs", urls=["*.wasm"])
+        self.open(self.address)
+        self.browser.wait("document.querySelector('#unable').textContent")
+        self.assertTrue(self.browser.run("document.querySelector('#solve').disabled"))
+        self.browser.ask("Network.setBlockedURLs", urls=[])
+        self.browser.events = []
+
+
+class Narrow(Page):
+    """The page in a browser without 64-bit memory."""
+
+    def test_it_says_what_is_needed(self):
+        self.browser.ask("Page.addScriptToEvaluateOnNewDocument", source="WebAssembly.validate = () => false;")
+        self.open(self.address)
+        self.browser.wait("document.querySelector('#unable').textContent")
+        self.assertIn("memory64", self.text("#unable"))
+        self.assertTrue(self.browser.run("document.querySelector('#solve').disabled && document.querySelector('#check').disabled"))
+        self.picture("narrow")
+
+
+if __name__ == "__main__":
+    unittest.main()

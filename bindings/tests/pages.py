@@ -1,0 +1,65 @@
+"""The page for tests: served, opened in a browser, and used."""
+import contextlib
+import functools
+import http.server
+import json
+import pathlib
+import threading
+
+import browser as browsers
+
+OUT = pathlib.Path(__file__).resolve().parent.parent / "out"
+#: The address of the page that is one file.
+ONE_FILE = (OUT / "matbench.html").as_uri()
+
+
+class _Handler(http.server.SimpleHTTPRequestHandler):
+    extensions_map = {**http.server.SimpleHTTPRequestHandler.extensions_map, ".mjs": "text/javascript", ".wasm": "application/wasm"}
+
+    def log_message(self, *_):
+        """Says nothing."""
+
+
+@contextlib.contextmanager
+def served():
+    """The address of the page's files from a server of this machine."""
+    with http.server.ThreadingHTTPServer(("127.0.0.1", 0), functools.partial(_Handler, directory=OUT / "web")) as server:
+        threading.Thread(target=server.serve_forever, daemon=True).start()
+        yield f"http://127.0.0.1:{server.server_port}/"
+        server.shutdown()
+
+
+@contextlib.contextmanager
+def opened(*flags):
+    """A browser."""
+    found = browsers.Browser(*flags)
+    try:
+        yield found
+    finally:
+        found.close()
+
+
+def choose(browser, selector, value):
+    """Chooses an item of a list."""
+    browser.run(f"((it) => {{ it.value = {json.dumps(value)}; it.dispatchEvent(new Event('change')); }})(document.querySelector('{selector}'))")
+
+
+def write(browser, selector, text):
+    """Puts a text into a box, as if it were typed."""
+    browser.run(f"((it) => {{ it.value = {json.dumps(text)}; it.dispatchEvent(new Event('input')); }})(document.querySelector('{selector}'))")
+
+
+def text(browser, selector):
+    """The text of an element, or what stands in a box."""
+    return browser.run(f"((it) => it.value ?? it.textContent)(document.querySelector('{selector}'))")
+
+
+def state(browser):
+    """What the page says of its last run."""
+    return text(browser, "#state")
+
+
+def click_and_wait(browser, selector):
+    """Clicks a button that starts a run, and waits for its end."""
+    browser.run(f"document.querySelector('{selector}').click()")
+    browser.wait("document.querySelector('#stop').disabled")

@@ -1,0 +1,244 @@
+"""Tests of the Python module: what its answers, exceptions and descriptions are. That its bytes are the program's, answers.py tests."""
+import pathlib
+import resource
+import subprocess
+import sys
+import threading
+import unittest
+
+HERE = pathlib.Path(__file__).resolve().parent
+EXAMPLES = HERE.parent.parent / "examples"
+sys.path.insert(0, str(HERE.parent))
+
+import matbench  # noqa: E402
+
+try:
+    import networkx
+except ImportError:
+    networkx = None
+
+PATH = "matroids 1\ngraph 3 2\nedge 0 1\nedge 1 2\nend\n"
+TOWNS = EXAMPLES / "towns.txt"
+
+
+class Answers(unittest.TestCase):
+    """What the commands answer."""
+
+    def test_a_ladder_has_a_rung_for_each_size(self):
+        answer = matbench.intersect(EXAMPLES / "people.txt")
+        self.assertEqual([rung.weight for rung in answer.rungs], [0, 8, 15, 22, 25, 23])
+        self.assertEqual(answer.best.members, (0, 3, 4, 6))
+        self.assertEqual([a + b for a, b in zip(answer.best.first, answer.best.second)], [8, 5, 2, 6, 7, 7, 4, 3, -2])
+        self.assertEqual(answer.cut, ())
+        self.assertTrue(matbench.check(EXAMPLES / "people.txt", answer))
+
+    def test_members_have_the_names_of_the_description(self):
+        answer = matbench.intersect(EXAMPLES / "week.txt")
+        self.assertIn("Ben.Mon.early", answer.best.members)
+        self.assertEqual(matbench.arborescence(TOWNS).arcs, ("coast", "ridge", "pass"))
+
+    def test_a_tie_stands_in_a_weight(self):
+        best = matbench.intersect(EXAMPLES / "last_week.txt").best
+        self.assertEqual(best.weight, matbench.Weight(15, 3))
+        self.assertEqual(str(best.weight), "15:3")
+        self.assertTrue(15 < best.weight < 16)
+        self.assertTrue(matbench.Weight(15, -1) < 15 <= 15)
+
+    def test_text_bytes_and_path_are_the_same_problem(self):
+        path = EXAMPLES / "people.txt"
+        self.assertEqual(matbench.intersect(path), matbench.intersect(path.read_text()))
+        self.assertEqual(matbench.intersect(path), matbench.intersect(path.read_bytes(), workers=4))
+
+    def test_best_has_no_cut_and_no_split(self):
+        answer = matbench.best("matroids 1\nlist 3 1\nweights 7 6 5\nuniform 2\nend\n")
+        self.assertEqual((answer.cut, answer.best.members, answer.best.first), (None, (0, 1), ()))
+
+    def test_union_has_a_part_for_each_matroid_and_levels(self):
+        answer = matbench.union("matroids 1\nlist 3 2\nweights 5 5 2\nuniform 1\nuniform 1\nend\n")
+        self.assertEqual((answer.weight, len(answer.parts), answer.levels[1]), (10, 2, matbench.Level(2, (0, 1, 2))))
+
+    def test_packing_and_covering_have_both_their_ends(self):
+        none = "matroids 1\nlist 1 1\nweights 1\nuniform 0\nend\n"
+        self.assertEqual((matbench.pack(none).bases, matbench.cover(none).uncovered), (None, (0,)))
+        all_of = "matroids 1\nlist 2 1\nweights 1 1\nuniform 1\nend\n"
+        self.assertEqual((matbench.pack(all_of).bases, matbench.cover(all_of).parts), (((0,), (1,)), ((0,), (1,))))
+
+    def test_trees_or_classes(self):
+        self.assertEqual(matbench.trees(PATH, 1).trees, ((0, 1),))
+        self.assertIsNone(matbench.trees(PATH, 2).trees)
+        self.assertEqual(matbench.trees(PATH, 2).classes, ((0,), (1,), (2,)))
+
+    def test_arcs_or_unreached_vertices(self):
+        apart = "matroids 2\nrooted 2 1\nelements back\nvertices here there\nroot here\narc there here 1\nend\n"
+        for answer in (matbench.arborescence(apart), matbench.cuts(apart)):
+            self.assertEqual((answer.arcs, answer.unreached), (None, ("there",)))
+        self.assertEqual(matbench.disjoint(apart, 1).entered, ("there",))
+        priced = matbench.cuts(TOWNS)
+        self.assertEqual(sum(it.price for it in priced.prices), priced.cost)
+        self.assertEqual(len(matbench.disjoint(TOWNS, 1).trees), 1)
+
+    def test_rainbow_has_colours_where_there_is_no_tree(self):
+        self.assertIsNone(matbench.rainbow(EXAMPLES / "owners.txt").colours)
+        self.assertIsNotNone(matbench.rainbow(EXAMPLES / "two_owners.txt").colours)
+
+    def test_a_list_of_jobs_is_answered_in_its_order(self):
+        first, second = matbench.batch([("intersect", EXAMPLES / "week.txt"), ("trees", PATH, 1)])
+        self.assertEqual(first, matbench.intersect(EXAMPLES / "week.txt"))
+        self.assertEqual(second.trees, ((0, 1),))
+        with self.assertRaises(matbench.BadList):
+            matbench.batch([("cuts", TOWNS)])
+
+    def test_a_witness_shows_its_rung_and_no_other(self):
+        problem = EXAMPLES / "people.txt"
+        answer = matbench.intersect(problem)
+        text = matbench.witness(problem, answer, 4)
+        self.assertTrue(matbench.verify(problem, answer, 4, text))
+        wrong = "".join("sets\n" if line.startswith("sets ") else line for line in text.splitlines(keepends=True))
+        verdict = matbench.verify(problem, answer, 4, wrong)
+        self.assertEqual((bool(verdict), verdict.note), (False, "no witness 3 0"))
+
+    def test_texts(self):
+        self.assertEqual(matbench.show(PATH), PATH)
+        self.assertIn("elements e0 e1\n", matbench.convert(PATH))
+        self.assertRegex(matbench.version(), r"^matbench \d+\.\d+\.\d+$")
+        self.assertEqual(matbench.sample("pair", 2, 1), "sample pair 2 1 size 1 weight 756 ladder 756 accepted")
+
+
+class Refusals(unittest.TestCase):
+    """What bad use gets."""
+
+    def test_a_fault_has_its_kind_and_line(self):
+        with self.assertRaises(matbench.BadDescription) as found:
+            matbench.intersect("matroids 1\npair x\nend\n")
+        error = found.exception
+        self.assertEqual((error.status, error.kind, error.name, error.line), (3, 4, "NumberSpelling", 2))
+        self.assertEqual((error.note, str(error)), ("refused: description 4 NumberSpelling line 2",) * 2)
+        self.assertIsInstance(error, ValueError)
+
+    def test_a_letter_beyond_ascii_is_refused_by_its_line(self):
+        with self.assertRaises(matbench.BadDescription) as found:
+            matbench.show(PATH.replace("edge 1", "edgé 1"))
+        self.assertEqual(found.exception.line, 4)
+
+    def test_a_wrong_answer_has_its_reason(self):
+        verdict = matbench.check(EXAMPLES / "people.txt", EXAMPLES / "people_wrong.answer")
+        self.assertFalse(verdict)
+        self.assertEqual(verdict.note, "no sum 4 6")
+        with self.assertRaises(matbench.NotRight):
+            matbench.witness(EXAMPLES / "people.txt", EXAMPLES / "people_wrong.answer", 4)
+
+    def test_each_refusal_has_its_exception(self):
+        people = EXAMPLES / "people.txt"
+        cases = [(matbench.UsageError, lambda: matbench.trees(PATH, 65)), (matbench.BadCertificate, lambda: matbench.check(people, "x")),
+                 (matbench.WrongShape, lambda: matbench.best(people)), (matbench.TooLong, lambda: matbench.show("x" * 4194305)),
+                 (matbench.BadWitness, lambda: matbench.verify(people, matbench.intersect(people), 4, "x")),
+                 (matbench.BadCost, lambda: matbench.cuts("matroids 1\nrooted 2 1 0\narc 0 1 -1\nend\n")),
+                 (matbench.Unwitnessed, lambda: matbench.witness(EXAMPLES / "tasks.txt", matbench.intersect(EXAMPLES / "tasks.txt"), 1)),
+                 (ValueError, lambda: matbench.sample("pair\0", 1, 1)), (FileNotFoundError, lambda: matbench.show(pathlib.Path("nowhere")))]
+        for error, run in cases:
+            with self.subTest(error=error), self.assertRaises(error):
+                run()
+
+    def test_a_buffer_that_is_too_small_is_a_write_fault(self):
+        ended = matbench.call(["show", "f"], {"f": PATH.encode()}, room=5)
+        self.assertEqual((ended.status, ended.output, ended.note), (6, b"matro", "refused: write fault"))
+
+    def test_no_memory_is_an_exception(self):
+        script = ("import matbench, resource\nmatbench.version()\nresource.setrlimit(resource.RLIMIT_AS, (200_000_000, 200_000_000))\n"
+                  "held = []\ntry:\n while True: held.append(bytearray(1 << 20))\nexcept MemoryError: held.pop()\n"
+                  "try: matbench.sample('pair', 500, 1)\nexcept matbench.OutOfMemory as error: print(error.status, error.note)\n")
+        done = subprocess.run([sys.executable, "-c", script], cwd=HERE.parent, capture_output=True, text=True, check=False)
+        self.assertEqual((done.stdout, done.stderr), ("7 refused: memory\n", ""))
+
+    def test_calls_at_once_in_several_threads_are_independent(self):
+        wanted = {seed: matbench.sample("pair", 60, seed) for seed in range(1, 9)}
+        wrong = []
+
+        def work(seed):
+            for _ in range(20):
+                if matbench.sample("pair", 60, seed, workers=1 + seed % 2) != wanted[seed]:
+                    wrong.append(seed)
+
+        threads = [threading.Thread(target=work, args=(seed,)) for seed in wanted]
+        for thread in threads:
+            thread.start()
+        for thread in threads:
+            thread.join()
+        self.assertEqual(wrong, [])
+
+    def test_calls_leave_no_memory_behind(self):
+        text = (EXAMPLES / "people.txt").read_bytes()
+        for _ in range(200):
+            matbench.intersect(text)
+        before = resource.getrusage(resource.RUSAGE_SELF).ru_maxrss
+        for _ in range(2000):
+            matbench.intersect(text)
+        self.assertLess(resource.getrusage(resource.RUSAGE_SELF).ru_maxrss - before, 4000)
+
+
+@unittest.skipIf(networkx is None, "networkx is not there")
+class Graphs(unittest.TestCase):
+    """Descriptions of graphs of networkx."""
+
+    def test_trees_are_edges_of_the_graph(self):
+        graph = networkx.complete_graph(["Ada", "Ben", "Cleo", ("Dana", 4)])
+        problem = matbench.graph_description(graph)
+        answer = matbench.trees(problem, 2)
+        for tree in answer.trees:
+            self.assertTrue(networkx.is_tree(graph.edge_subgraph(tree)))
+        self.assertTrue(matbench.check(problem, answer))
+        self.assertEqual({node for part in matbench.trees(problem, 3).classes for node in part}, set(graph.nodes))
+
+    def test_arborescences_are_the_cheapest(self):
+        graph = networkx.gnp_random_graph(12, 0.4, seed=3, directed=True)
+        for place, (_, _, data) in enumerate(graph.edges(data=True)):
+            data["cost"] = (7 * place) % 11
+        graph.remove_edges_from(list(graph.in_edges(0)))
+        problem = matbench.rooted_description(graph, 0, cost="cost")
+        wanted = networkx.minimum_spanning_arborescence(graph, attr="cost").size(weight="cost")
+        self.assertEqual((matbench.arborescence(problem).cost, matbench.cuts(problem).cost), (wanted, wanted))
+
+    def test_parallel_edges_have_keys(self):
+        graph = networkx.MultiGraph([("a", "b"), ("a", "b")])
+        answer = matbench.trees(matbench.graph_description(graph), 2)
+        self.assertEqual(sorted(answer.trees), [(("a", "b", 0),), (("a", "b", 1),)])
+
+    def test_assignments_weigh_as_much_as_matchings(self):
+        graph = networkx.Graph()
+        graph.add_weighted_edges_from([("Ada", "till", 5), ("Ada", "door", 4), ("Ben", "till", 4)])
+        answer = matbench.assign(matbench.table_description(graph, ["Ada", "Ben"]))
+        self.assertEqual(answer.best.weight, graph.edge_subgraph(answer.best.members).size(weight="weight"))
+        self.assertEqual(answer.best.weight, 8)
+        with self.assertRaises(ValueError):
+            matbench.table_description(graph, ["Ada", "till"])
+
+    def test_rainbow_forests_have_different_colours(self):
+        graph = networkx.Graph()
+        for u, v, colour in (("a", "b", "red"), ("b", "c", "red"), ("a", "c", "blue"), ("c", "d", "red")):
+            graph.add_edge(u, v, colour=colour)
+        answer = matbench.rainbow(matbench.coloured_description(graph))
+        colours = [graph.edges[edge]["colour"] for edge in answer.best.members]
+        self.assertEqual(len(colours), len(set(colours)))
+        self.assertTrue(set(answer.colours) <= {"red", "blue"})
+
+    def test_forests_are_the_heaviest(self):
+        graph = networkx.gnp_random_graph(15, 0.5, seed=1)
+        for place, (_, _, data) in enumerate(graph.edges(data=True)):
+            data["weight"] = 1 + (5 * place) % 13
+        answer = matbench.best(matbench.forests_description(graph))
+        self.assertEqual(answer.best.weight, networkx.maximum_spanning_tree(graph).size(weight="weight"))
+        self.assertEqual(len(matbench.pack(matbench.forests_description(graph)).bases), 3)
+
+    def test_what_does_not_fit_is_refused(self):
+        graph = networkx.Graph()
+        graph.add_edge(1, 2, weight=0.5)
+        with self.assertRaises(ValueError):
+            matbench.forests_description(graph)
+        with self.assertRaises(TypeError):
+            matbench.rooted_description(graph, 1)
+        with self.assertRaises(TypeError):
+            matbench.graph_description(networkx.DiGraph())
+
+
+if __name__ == "__main__":
+    unittest.main()

@@ -1,0 +1,188 @@
+"""build_page.py TOP OUT: makes the page from the files beside this one and from the documents and examples of the repository TOP.
+
+OUT/web/ is the page as files, for any static server, and OUT/matbench.html the same as one file, which works from a folder too. OUT/matbench.wasm
+has to be there.
+"""
+import base64
+import hashlib
+import json
+import os
+import re
+import shutil
+import sys
+
+HERE = os.path.dirname(os.path.abspath(__file__))
+PAGE = ("index.html", "style.css", "parts.mjs", "matbench.mjs", "worker.mjs", "run.mjs", "textbox.mjs", "link.mjs", "answer.mjs", "page.mjs")
+#: The parts of the one file's script, each before those that take from it.
+SCRIPT = ("matbench.mjs", "run.mjs", "textbox.mjs", "link.mjs", "answer.mjs", "data.mjs", "page.mjs")
+#: parts.mjs of the one file.
+PARTS = """
+const dataOf = (id) => document.getElementById(id).textContent;
+async function loadModule() {
+  return Uint8Array.from(atob(dataOf("module").trim()), (it) => it.charCodeAt(0)).buffer;
+}
+function startWorker() {
+  return new Worker(URL.createObjectURL(new Blob([dataOf("worker")], { type: "text/javascript" })));
+}
+"""
+POLICY = ("default-src 'none'; script-src '{script}' 'wasm-unsafe-eval'; style-src '{style}'; connect-src 'none'; worker-src blob:; "
+          "img-src data:; base-uri 'none'; form-action 'none'")
+
+
+def read(*path):
+    with open(os.path.join(*path), encoding="utf-8") as file:
+        return file.read()
+
+
+def write(text, *path):
+    with open(os.path.join(*path), "w", encoding="utf-8") as file:
+        file.write(text)
+
+
+def rows_below(text, heading):
+    """The cells of each row of the first table below a heading."""
+    section = f"\n{text}".split(f"\n{heading}\n", 1)[1]
+    table = re.search(r"(?:^\|.*\n)+", section, re.M).group()
+    return [[cell.strip() for cell in re.split(r"(?<!\\)\|", line)[1:-1]] for line in table.splitlines()[2:]]
+
+
+def limits(formats):
+    """The lines of each kind of matroid, and which sets it allows."""
+    section = formats.split("\n### Matroids\n", 1)[1].split("\n### ", 1)[0]
+    tables = re.findall(r"(?:^\|.*\n)+", section, re.M)
+    return [{"lines": row[0], "allowed": row[1]} for table in tables for row in rows_below(f"# all\n{table}", "# all")]
+
+
+def faults(formats):
+    """What each fault of a description and of a certificate means."""
+    headings = {"description": "### What is wrong with a description", "certificate": "### What is wrong with a certificate"}
+    return {what: [{"name": row[1], "meaning": row[2]} for row in rows_below(formats, heading)] for what, heading in headings.items()}
+
+
+def reasons(formats):
+    """What each failed clause of an answer means: a row for each reason of a cell, with the commands of the answer, none where it is each."""
+    made, commands = [], []
+    for answer, notes, meaning in rows_below(formats, "### What is wrong with an answer"):
+        if answer:
+            commands = re.findall(r"`([a-z]+)`", answer)
+        for reason in dict.fromkeys(re.findall(r"`no ([a-z]+)", notes)):
+            made.append({"reason": reason, "commands": commands, "meaning": meaning})
+    return made
+
+
+def abouts(help_text):
+    """What the lines of --help say of each command, and whether it takes a number K. The texts stand in one column, behind the words."""
+    usage = help_text[help_text.index("usage: "):].split("\n\n", 1)[0].replace("usage:", "      ", 1)
+    column = re.match(r" +\S.*?  +", usage).end()
+    found, name = {}, None
+    for line in usage.splitlines():
+        words, text = line[:column].strip(), line[column:].strip()
+        begun = re.match(r"matbench ([a-z]+) ", f"{words} ")
+        if begun:
+            name = begun[1]
+            found[name] = ["", " K " in words]
+        elif words:
+            name = None
+        if name:
+            found[name][0] = f"{found[name][0]} {text}".strip()
+    return found
+
+
+def commands(help_text, formats):
+    """The commands that read a description and write a text, what each is for, and the forms that it takes."""
+    forms = {}
+    for form, names in rows_below(formats, "## Descriptions"):
+        alone = names.split("where M is 1")[1] if "where M is 1" in names else ""
+        for name in re.findall(r"`([a-z]+)`", names):
+            forms.setdefault(name, ([], f"`{name}`" in alone))[0].append(form.strip("`").split()[0])
+    every = list(dict.fromkeys(it for found, _ in forms.values() for it in found))
+    made = []
+    for name, (about, counted) in abouts(help_text).items():
+        if name in forms and name not in ("witness", "verify") or name in ("show", "convert"):
+            taken, single = forms.get(name, (every, False))
+            made.append({"name": name, "about": about, "counted": counted, "forms": taken, "single": single})
+    return sorted(made, key=lambda it: it["name"] in ("show", "convert"))
+
+
+def title_of(name, title, link, readme):
+    """What an example is called: the heading that its link leads to, or else the words of its row."""
+    if "COOKBOOK.md#" in link:
+        return link.split("#", 1)[1].replace("-", " ")
+    heading = re.search(rf"^## .*`{re.escape(name)}`.*?: (.*)", readme, re.M)
+    return heading[1] if heading else title
+
+
+def examples(top, known):
+    """The descriptions of examples/, each with the command of its row in examples/README.md."""
+    told, readme = {}, read(top, "examples", "README.md")
+    for title, words, _, links in rows_below(readme, "# Examples"):
+        for name, link in re.findall(r"\[(\w+\.txt)\]\(([^)]*)\)", links):
+            told.setdefault(name, (title_of(name, title, link, readme), re.findall(r"`([a-z]+)(?: (\d+))?`", words)))
+    made = []
+    for name in sorted(os.listdir(os.path.join(top, "examples"))):
+        text = read(top, "examples", name) if name.endswith(".txt") else ""
+        if not text.startswith("matroids "):
+            continue
+        form = text.split("\n")[1].split()[0]
+        fitting = [it["name"] for it in known if form in it["forms"]]
+        title, words = told.get(name, (text.split("\n")[1], []))
+        command, count = next(((word, count) for word, count in words if word in fitting), (fitting[0], ""))
+        made.append({"file": name, "title": title, "form": form, "command": command, "count": int(count or 2), "text": text})
+    order = known[-1]["forms"]
+    return sorted(made, key=lambda it: order.index(it["form"]))
+
+
+def data(top):
+    """The module data.mjs."""
+    formats = read(top, "docs", "FORMATS.md")
+    known = commands(read(top, "crates", "mat_main", "src", "help.rt"), formats)
+    parts = {"COMMANDS": known, "EXAMPLES": examples(top, known), "LIMITS": limits(formats), "FAULTS": faults(formats),
+             "REASONS": reasons(formats)}
+    lines = [f"export const {name} = {json.dumps(part, ensure_ascii=True, indent=1)};\n" for name, part in parts.items()]
+    return "// Made by build_page.py from docs/FORMATS.md, the text of --help and examples/.\n" + "".join(lines)
+
+
+def joined(texts):
+    """Modules as one script: what they take from each other and what they hand out is all in one scope."""
+    whole = "".join(texts)
+    whole = re.sub(r"^import [^;]*;\n", "", whole, flags=re.M)
+    return re.sub(r"^export ", "", whole, flags=re.M)
+
+
+def source_of(text):
+    """The word of a policy that allows this script or style."""
+    return "sha256-" + base64.b64encode(hashlib.sha256(text.encode()).digest()).decode()
+
+
+def one_file(out):
+    """The page as one file."""
+    folder = os.path.join(out, "web")
+    script = "\n" + PARTS + joined(read(folder, name) for name in SCRIPT)
+    style = "\n" + read(folder, "style.css")
+    worker = joined(read(folder, name) for name in ("matbench.mjs", "worker.mjs"))
+    with open(os.path.join(out, "matbench.wasm"), "rb") as file:
+        module = base64.b64encode(file.read()).decode()
+    assert "</script" not in script + worker, "a script would end early"
+    page = read(folder, "index.html")
+    policy = POLICY.format(script=source_of(script), style=source_of(style))
+    page = re.sub(r'(http-equiv="Content-Security-Policy" content=)"[^"]*"', lambda hit: f'{hit[1]}"{policy}"', page)
+    page = page.replace('<link rel="stylesheet" href="style.css">', f"<style>{style}</style>")
+    page = page.replace('<script type="module" src="page.mjs"></script>\n', "")
+    blocks = f'<script type="text/plain" id="worker">{worker}</script>\n<script type="text/plain" id="module">{module}</script>\n'
+    return page.replace("</body>", f'{blocks}<script type="module">{script}</script>\n</body>')
+
+
+def main():
+    top, out = sys.argv[1:]
+    folder = os.path.join(out, "web")
+    shutil.rmtree(folder, ignore_errors=True)
+    os.makedirs(folder)
+    for name in PAGE:
+        shutil.copyfile(os.path.join(HERE, name), os.path.join(folder, name))
+    shutil.copyfile(os.path.join(out, "matbench.wasm"), os.path.join(folder, "matbench.wasm"))
+    write(data(top), folder, "data.mjs")
+    write(one_file(out), out, "matbench.html")
+
+
+if __name__ == "__main__":
+    main()
