@@ -1,6 +1,3 @@
-mod Unwitnessed
-mod RungAnswers
-mod WitnessRefusals
 pub mod Refusing
 pub mod Ending
 mod Accepted

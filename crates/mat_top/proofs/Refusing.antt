@@ -23,20 +23,26 @@ use Rattle.mat_judge.specs.declared.status.Status.{Status}
 use Rattle.mat_judge.specs.declared.status.Status.TheVariants as statuses
 use Rattle.mat_judge.proofs.Told.{told, told_both, if_told}
 use Rattle.mat_top.specs.CutTexts.{IsCutsText}
-use Rattle.mat_top.specs.Outcomes.{IsProblemOutcome, IsBytesOutcome, IsCertificateOutcome, IsRungOutcome, IsWitnessOutcome}
-use Rattle.mat_top.specs.Outcomes.{IsVerifyOutcome, IsWitnessFound}
+use Rattle.mat_top.specs.Outcomes.{IsProblemOutcome, IsBytesOutcome, IsCertificateOutcome, IsWitnessOutcome}
 use Rattle.mat_top.specs.Outcomes.{CallReaches, Tells, TellsCertificate, IsOutcome, IsTextFor, IsTrueOf}
 use Rattle.mat_top.specs.Refusals.{HasText, HasNoText, IsRefusal, MayBeWritten}
-use Rattle.mat_top.specs.WitnessRefusals.{HasNoRung, HasNoWitness, IsUnshown, IsUnverified}
-use Rattle.mat_top.specs.WitnessRefusals.{refusal_of_no_rung, refusal_of_unshown}
-use Rattle.mat_top.specs.Witnessing.{IsRungAnswer}
-use Rattle.mat_top.specs.declared.witness_refusals.NoRung.{NoRung}
-use Rattle.mat_top.specs.declared.witness_refusals.NoRung.TheVariants as no_rung
-use Rattle.mat_top.specs.declared.witness_refusals.Unshown.{Unshown}
-use Rattle.mat_top.specs.declared.witness_refusals.Unshown.TheVariants as unshown
-use Rattle.mat_top.proofs.Unwitnessed.{not_right_there, no_witness_there, unverified_there}
+use Rattle.mat_verify.specs.WitnessOutcomes.{IsRungOutcome, IsVerifyOutcome, IsWitnessFound}
+use Rattle.mat_verify.specs.WitnessRefusals.{HasNoRung, HasNoWitness, IsUnshown, IsUnverified}
+use Rattle.mat_verify.specs.WitnessRefusals.{refusal_of_no_rung, refusal_of_unshown}
+use Rattle.mat_verify.specs.Witnessing.{IsRungAnswer}
+use Rattle.mat_verify.specs.declared.refusals.NoRung.{NoRung}
+use Rattle.mat_verify.specs.declared.refusals.NoRung.TheVariants as no_rung
+use Rattle.mat_verify.specs.declared.refusals.Unshown.{Unshown}
+use Rattle.mat_verify.specs.declared.refusals.Unshown.TheVariants as unshown
+use Rattle.mat_verify.proofs.Unwitnessed.{no_witness_there, uncertified_before, unverified_there}
 
 -- ---- the shelf before the description was read
+
+not_right_before : (instance : Instance) (held : Option (List ℕ)) (earlier before now : ℕ) (why : NotRight) → earlier ≤ before
+    → IsNotRight instance held before now why → IsNotRight instance held earlier now why
+not_right_before instance held earlier before now (not_right.Uncertified why) le is = uncertified_before held earlier before now why le is
+not_right_before instance held earlier before now not_right.WrongShape le is = is
+not_right_before instance held earlier before now (not_right.No reason first second) le is = is
 
 module _ (held after : List ℕ → Option (List ℕ)) (same : (name : List ℕ) → after name ≡ held name) (instance : Instance) where
   -- what is written over the shelf as it was after is written over the shelf before
@@ -66,8 +72,12 @@ module _ (held after : List ℕ → Option (List ℕ)) (same : (name : List ℕ)
   none_before show earlier before now refusal le why = why
   none_before (solve query) earlier before now refusal le why = why
   none_before cuts earlier before now refusal le why = why
-  none_before (check certificate) earlier before now refusal le (why, same_refusal, is) =
-      (why, same_refusal, not_right_there after held same instance earlier before now le certificate why is)
+  none_before (check certificate) earlier before now refusal le (why, same_refusal, is) = (
+    why,
+    same_refusal,
+    subst (λ o. IsNotRight instance o (earlier certificate) (now certificate) why) (same certificate)
+        (not_right_before instance (after certificate) (earlier certificate) (before certificate) (now certificate) why (le certificate) is),
+  )
   none_before (witness k certificate) earlier before now refusal le is =
       no_witness_there after held same instance earlier before now le k certificate refusal is
   none_before (verify k certificate shown) earlier before now refusal le is =

@@ -6,9 +6,8 @@ use Rattle.mat_desc.specs.Instances.{Instance}
 use Rattle.mat_desc.specs.Soundness.{IsSoundInstance}
 use Rattle.mat_desc.specs.Views.{instance_of}
 use Rattle.mat_top.specs.declared.loaded_job.LoadedJob.{LoadedJob}
-use Rattle.mat_command.specs.JobLists.{Job}
+use Rattle.mat_command.specs.JobLists.{Job, IsMislisted}
 use Rattle.mat_desc.specs.Limits.{description_limit}
-use Rattle.mat_command.specs.JobLists.{IsMislisted}
 use Rattle.mat_command.specs.declared.refusal.ListRefusal.{ListRefusal}
 use Rattle.mat_command.specs.declared.refusal.ListRefusal.TheVariants as list_refusals
 use Rattle.mat_judge.specs.Described.{IsDescribed, IsUndescribed}

@@ -27,7 +27,8 @@ use Rattle.mat_judge.specs.Statuses.{status_of}
 use Rattle.mat_judge.specs.Texts.{joined}
 use Rattle.mat_command.specs.CommandLines.{Request, show, solve, cuts, check, witness, verify, Task, about, sample, batch, convert}
 use Rattle.mat_judge.specs.Certified.{IsCertified, IsFaultyCertificate, IsWrong}
-use Rattle.mat_top.specs.Witnessing.{fits_rung, IsFaultyWitness, IsNotShowing, IsRungAnswer, IsShowing}
+use Rattle.mat_verify.specs.WitnessOutcomes.{IsRungOutcome, IsVerifyOutcome, IsWitnessFound}
+use Rattle.mat_verify.specs.Witnessing.{IsFaultyWitness, IsNotShowing, IsRungAnswer}
 use Rattle.mat_top.specs.CutTexts.{HasPayableCosts, IsCutsText}
 use Rattle.mat_command.specs.JobLists.{Job, IsListed, IsMislisted}
 use Rattle.mat_solve.specs.Queries.{has_form}
@@ -60,30 +61,11 @@ IsCertificateOutcome instance bytes statuses.No =
     (answer : Certificate) × IsCertified bytes answer × (fits instance answer ≡ true) × (IsRight instance answer → ⊥)
 IsCertificateOutcome instance bytes status = ⊥
 
--- the first row that applies to the bytes of a certificate before a rung of it is witnessed
-abbrev pub IsRungOutcome : Instance → ℕ → List ℕ → Status → Type 0
-IsRungOutcome instance k bytes statuses.TooLong = certificate_limit < length bytes
-IsRungOutcome instance k bytes statuses.BadCertificate = (fault : certificate_faults.Fault) × IsFaultyCertificate bytes fault
-IsRungOutcome instance k bytes statuses.WrongShape =
-    (answer : Certificate) × IsCertified bytes answer × (fits_rung instance answer k ≡ false)
-IsRungOutcome instance k bytes statuses.Unwitnessed =
-    (answer : Certificate) × IsCertified bytes answer × (fits_rung instance answer k ≡ true) × (is_witnessed_pair instance ≡ false)
-IsRungOutcome instance k bytes status = ⊥
-
 -- the first row that applies to an answer whose rung is to be witnessed
 abbrev pub IsWitnessOutcome : Instance → Certificate → Status → Type 0
 IsWitnessOutcome instance answer statuses.Done = IsRight instance answer
 IsWitnessOutcome instance answer statuses.No = IsRight instance answer → ⊥
 IsWitnessOutcome instance answer status = ⊥
-
--- the first row that applies to the bytes of a witness for rung k of an answer
-abbrev pub IsVerifyOutcome : Instance → Certificate → ℕ → List ℕ → Status → Type 0
-IsVerifyOutcome instance answer k bytes statuses.TooLong = witness_limit < length bytes
-IsVerifyOutcome instance answer k bytes statuses.BadWitness =
-    (fault : certificate_faults.Fault) × IsFaultyWitness instance answer k bytes fault
-IsVerifyOutcome instance answer k bytes statuses.Done = IsShowing instance answer k bytes
-IsVerifyOutcome instance answer k bytes statuses.No = (part : ℕ) × IsNotShowing instance answer k bytes part
-IsVerifyOutcome instance answer k bytes status = ⊥
 
 -- the first row that applies to a problem whose costs have to be paid by weights of vertex sets
 abbrev pub IsCutsOutcome : Instance → Status → Type 0
@@ -207,13 +189,6 @@ CallReaches held (Some (convert file)) name = RequestReaches held file show name
 -- the text that says that a certificate is right
 abbrev pub yes_text : List ℕ
 yes_text = codes "yes" ++ 10 ∷ []
-
--- the text is that of a witness that shows rung k of the right answer in the certificate
-pub record IsWitnessFound (instance : Instance) (k : ℕ) (bytes text : List ℕ) : Type 0 where
-  pub answer : Certificate
-  pub of_rung : IsRungAnswer instance k bytes answer
-  pub right : IsRight instance answer
-  pub shows : IsShowing instance answer k text
 
 -- the text is what a request about a problem writes
 abbrev pub IsTextFor : (List ℕ → Option (List ℕ)) → Request → Instance → List ℕ → Type 0

@@ -11,13 +11,13 @@ ghost use Rattle.mat_solve.specs.Queries.{has_form, IsQueryInRange};
 ghost use Rattle.mat_top.specs.Refusals.{HasText, HasNoText, HasSolutionText, MayBeWritten, IsRefusal};
 
 use crate::cuts_text::{cuts_text, has_payable_costs};
-use crate::witnessing::{verify_in, witness_text};
 use mat_cert::write_answer;
 use mat_command::Request;
 use mat_desc::{Problem, write_problem};
 use mat_judge::{Denial, Refusal, judge, problem_in};
 use mat_shelf::Shelf;
 use mat_solve::{Query, has_form, solve};
+use mat_verify::{verify_in, witness_text};
 use std::alloc::{AllocError, Global};
 use std::thread::Threads;
 

@@ -15,8 +15,6 @@ mod summary;
 mod summary_laws;
 mod top_call;
 mod totals;
-mod witness_refusals;
-mod witnessing;
 
 pub use laws::solution_laws;
 pub use mat_command::command_line_laws;

@@ -1,6 +1,7 @@
 //! Jobs whose problems are read.
 
-ghost use Rattle.std.specs.Prelude.{◌≡◌, ◌≤◌, ℕ, List, map, IfOk, IfErr, All};
+ghost use Rattle.std.specs.Prelude.{◌≡◌, ◌≤◌, ℕ, List, [], ◌∷◌, ◌++◌, map, OnOk, IfOk, IfErr, All};
+ghost use Rattle.mat_top.specs.declared.loaded_job.LoadedJob.{LoadedJob};
 ghost use Rattle.mat_top.specs.declared.loading.Unloaded.TheVariants as unloaded;
 ghost use Rattle.mat_judge.specs.declared.described.Undescribed.TheVariants as undescribed;
 ghost use Rattle.mat_judge.specs.declared.reading.Unread.TheVariants.{Memory};
@@ -68,6 +69,30 @@ fn loaded_job<F: Shelf>(alloc: Global, files: &mut F, job: &Job) -> Result<Loade
     })
 }
 
+// Keeps one job more.
+fn keep(loaded: &mut Vec<LoadedJob>, one: LoadedJob) -> Result<(), AllocError>
+    ensures { OnOk result (loaded.new.items ≡ loaded.old.items ++ one ∷ []) }
+{
+    loaded.push(one).map_err(AllocError::from)
+}
+
+// Keeps the job with the problem that its file describes, which is read.
+fn load_job<F: Shelf>(
+    alloc: Global,
+    files: &mut F,
+    job: &Job,
+    loaded: &mut Vec<LoadedJob>,
+) -> Result<(), Unloaded>
+    ensures held { (name : List ℕ) → F.held files.new name ≡ F.held files.old name }
+    ensures grows { (name : List ℕ) → F.faults files.old name ≤ F.faults files.new name }
+    ensures added { OnOk result ((one : LoadedJob) × (loaded.new.items ≡ loaded.old.items ++ one ∷ [])
+        × IsLoaded (F.held files.old) (job_of job.now) one × IsAnswerable one) }
+    ensures refusal { IfErr result (λ e. IsUnloaded (F.held files.old) (job_of job.now) (F.faults files.old) (F.faults files.new) e) }
+{
+    let one = loaded_job(alloc, files, job)?;
+    keep(loaded, one).map_err(Unloaded::from)
+}
+
 /// The jobs with their problems, in their order. The files are read one after the other, and the first job that is refused ends it.
 pub(crate) fn loaded_jobs<F: Shelf>(
     alloc: Global,
@@ -82,11 +107,7 @@ pub(crate) fn loaded_jobs<F: Shelf>(
 {
     let mut loaded = Vec::with_capacity(alloc, jobs.len())?;
     for job in jobs {
-        let one = loaded_job(alloc, files, job)?;
-        match loaded.push(one) {
-            Ok(()) => {}
-            Err(_) => return Err(Unloaded::Undescribed(Undescribed::Unread(Unread::Memory))),
-        }
+        load_job(alloc, files, job, &mut loaded)?;
     }
     Ok(loaded)
 }

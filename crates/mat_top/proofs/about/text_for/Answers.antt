@@ -3,7 +3,7 @@ use Rattle.std.proofs.lemmas.Result.{err_from_is_err_and}
 use Rattle.mat_judge.specs.declared.certified.NotRight.TheVariants as not_right
 use Rattle.mat_judge.specs.declared.certified.Uncertified.TheVariants as uncertified
 use Rattle.mat_judge.specs.declared.reading.Unread.TheVariants as unread
-use Rattle.mat_top.specs.declared.witness_refusals.NoRung.TheVariants as no_rung
+use Rattle.mat_verify.specs.declared.refusals.NoRung.TheVariants as no_rung
 use Rattle.mat_top.proofs.about.text_for.Goals as goal
 
 pub returns-in_err-yes-in-Check-clause-refusal : goal.returns-in_err-yes-in-Check-clause-refusal

@@ -11,14 +11,14 @@ returns-in_err-loaded-clause-refusal g c =
 
 pub loop-job-preserved : goal.loop-job-preserved
 loop-job-preserved g c =
-    let one = c.in_ok-one.ensures in
+    let more = c.in_ok-load_job.ensures in
     let before = c.loop-job.invariant in
     record {
-      held = λ name. one.held name ∙ before.held name;
-      grows = λ name. omega (arith, one.grows name, before.grows name);
-      loading = rw c.in-Ok.ensures.items
+      held = λ name. more.held name ∙ before.held name;
+      grows = λ name. omega (arith, more.grows name, before.grows name);
+      loading = rw more.added.1
           (loading_more (g.F.Shelf.held c.args.files.now) (g.F.Shelf.held c.loop-job.files) c.args.jobs.now c.loop-job.job-index c.job-item.result
-          c.loop-job.loaded.items c.in_ok-one.one c.loop-job-test.true c.job-item.is before.held before.loading one.loaded one.answerable);
+          c.loop-job.loaded.items more.added.0 c.loop-job-test.true c.job-item.is before.held before.loading more.added.2 more.added.3);
     }
 
 pub returns-clause-loaded : goal.returns-clause-loaded

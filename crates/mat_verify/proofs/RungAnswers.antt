@@ -2,8 +2,6 @@
 use Rattle.std.proofs.Common.{◌≡◌, ℕ, true, List, length}
 use Rattle.std.proofs.lemmas.Bool.{and_parts, false≢true, ltb-true}
 use Rattle.std.proofs.lemmas.Option.{slice_get-get_or}
-use Rattle.mat_sets.specs.declared.weight.Weight.{Weight}
-use Rattle.mat_any.specs.Trees.{Tree}
 use Rattle.mat_desc.specs.Grammar.{IsValid}
 use Rattle.mat_desc.specs.Instances.{Instance, pair, list, graph, rooted, coloured, table}
 use Rattle.mat_cert.specs.declared.answer.PricedRung.{PricedRung}
@@ -16,25 +14,19 @@ use Rattle.mat_witness.specs.Lines.{witness_text}
 use Rattle.mat_witness.specs.Parts.{WitnessParts}
 use Rattle.mat_witness.specs.Shown.{IsRightRungOf, IsShown, IsWitnessFor, rung_at}
 use Rattle.mat_witness.proofs.WitnessLengths.{text_short}
-use Rattle.mat_top.specs.Witnessing.{IsShowing, fits_rung}
+use Rattle.mat_verify.specs.Witnessing.{IsShowing, fits_rung}
 
 -- ---- the rungs of a right answer
 
 pub has_such_rung : (instance : Instance) (answer : Certificate) (k : ℕ) → fits_rung instance answer k ≡ true → has_rung answer k ≡ true
 has_such_rung instance answer k fitting = (and_parts (fits instance answer) (has_rung answer k) fitting).1
 
--- of an answer to a pair
-pair_rung : (w : List Weight) (first second : Tree) (n : ℕ) (rungs : List PricedRung) (cut : List ℕ) (k : ℕ)
-    → has_rung (intersect n rungs cut) k ≡ true → IsRight (pair w first second) (intersect n rungs cut)
-    → IsRightRungOf (pair w first second) (intersect n rungs cut) k
-pair_rung w first second n rungs cut k has right =
-    let one = right.1.each k (rung_at rungs k) (slice_get-get_or rungs k _ (ltb-true k (length rungs) has)) in
-    record { counted = right.0; priced = one.priced; right = one.right; ends = right.1.ends }
-
 -- of a ladder of two matroids
 ladder_rung : (instance : Instance) (n : ℕ) (rungs : List PricedRung) (cut : List ℕ) (k : ℕ) → fits instance (intersect n rungs cut) ≡ true
     → has_rung (intersect n rungs cut) k ≡ true → IsRight instance (intersect n rungs cut) → IsRightRungOf instance (intersect n rungs cut) k
-ladder_rung (pair w first second) n rungs cut k fitting has right = pair_rung w first second n rungs cut k has right
+ladder_rung (pair w first second) n rungs cut k fitting has right =
+    let one = right.1.each k (rung_at rungs k) (slice_get-get_or rungs k _ (ltb-true k (length rungs) has)) in
+    record { counted = right.0; priced = one.priced; right = one.right; ends = right.1.ends }
 ladder_rung (list _ _) n rungs cut k fitting has right = absurd (false≢true fitting)
 ladder_rung (graph _ _) n rungs cut k fitting has right = absurd (false≢true fitting)
 ladder_rung (rooted _ _ _ _) n rungs cut k fitting has right = absurd (false≢true fitting)

@@ -2,31 +2,40 @@
 
 ghost use Rattle.std.specs.Prelude.{◌≡◌};
 ghost use Rattle.mat_judge.specs.declared.reading.Unread.TheVariants.{Memory};
-ghost use Rattle.mat_top.specs.declared.witness_refusals.NoRung.TheVariants as no_rung;
-ghost use Rattle.mat_top.specs.declared.witness_refusals.Unshown.TheVariants as unshown;
-ghost use Rattle.mat_top.specs.WitnessRefusals.{unshown_by, refusal_of_no_rung, refusal_of_unshown};
+ghost use Rattle.mat_verify.specs.declared.refusals.NoRung.TheVariants as no_rung;
+ghost use Rattle.mat_verify.specs.declared.refusals.Unshown.TheVariants as unshown;
+ghost use Rattle.mat_verify.specs.WitnessRefusals.{unshown_by, refusal_of_no_rung, refusal_of_unshown};
 
 use mat_cert::{CertKind, CertRefusal};
 use mat_judge::{Denial, Refusal, Uncertified, Unread};
 use std::alloc::AllocError;
+use thiserror::Error;
 
-/// Why a file has no answer of which this rung can be witnessed.
-pub(crate) enum NoRung {
-    /// It is no certificate.
+/// Why a file has no answer of which a rung can be witnessed.
+#[derive(Clone, Copy, Debug, Error)]
+pub enum NoRung {
+    /// It is no certificate, or memory ran out.
+    #[error("{0}")]
     Uncertified(Uncertified),
-    /// The form of the problem is not the answer's, or it has no such rung.
+    /// The form of the problem is not that of the answer, or the answer has no such rung.
+    #[error("the form of the problem is not the certificate's, or there is no such rung")]
     WrongShape,
     /// A matroid is not of a kind that has witnesses.
+    #[error("a matroid is not of a kind that has witnesses")]
     Unwitnessed,
 }
 
 /// Why a witness doesn't show its rung.
-pub(crate) enum Unshown {
+#[derive(Clone, Copy, Debug, Error)]
+pub enum Unshown {
     /// It was not read, or memory ran out.
+    #[error("{0}")]
     Unread(Unread),
     /// Its first fault, and the number of its line.
+    #[error("line {1} of the witness: {0:?}")]
     Fault(CertKind, u32),
     /// The first part that fails.
+    #[error("part {0} of the witness does not hold")]
     Part(u32),
 }
 

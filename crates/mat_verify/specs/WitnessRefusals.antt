@@ -10,19 +10,19 @@ use Rattle.mat_check.specs.Right.{IsRight}
 use Rattle.mat_witness.specs.Kinds.{is_witnessed_pair}
 use Rattle.mat_witness.specs.Lines.{witness_limit}
 use Rattle.mat_judge.specs.Certified.{IsUncertified}
-use Rattle.mat_judge.specs.Statuses.{refusal_of_uncertified}
+use Rattle.mat_judge.specs.Statuses.{out_of_memory, refusal_of_uncertified}
 use Rattle.mat_judge.specs.WholeFiles.{IsUnread}
 use Rattle.mat_judge.specs.declared.reading.Unread.TheVariants as unread
 use Rattle.mat_judge.specs.declared.refusal.Denial.TheVariants as denials
 use Rattle.mat_judge.specs.declared.refusal.Refusal.{Refusal}
 use Rattle.mat_judge.specs.declared.refusal.Refusal.TheVariants as refusals
 use Rattle.mat_judge.specs.declared.status.Status.TheVariants as statuses
-use Rattle.mat_top.specs.Outcomes.{IsRungOutcome}
-use Rattle.mat_top.specs.Witnessing.{IsFaultyWitness, IsNotShowing, IsRungAnswer}
-use Rattle.mat_top.specs.declared.witness_refusals.NoRung.{NoRung}
-use Rattle.mat_top.specs.declared.witness_refusals.NoRung.TheVariants as no_rung
-use Rattle.mat_top.specs.declared.witness_refusals.Unshown.{Unshown}
-use Rattle.mat_top.specs.declared.witness_refusals.Unshown.TheVariants as unshown
+use Rattle.mat_verify.specs.WitnessOutcomes.{IsRungOutcome}
+use Rattle.mat_verify.specs.Witnessing.{IsFaultyWitness, IsNotShowing, IsRungAnswer}
+use Rattle.mat_verify.specs.declared.refusals.NoRung.{NoRung}
+use Rattle.mat_verify.specs.declared.refusals.NoRung.TheVariants as no_rung
+use Rattle.mat_verify.specs.declared.refusals.Unshown.{Unshown}
+use Rattle.mat_verify.specs.declared.refusals.Unshown.TheVariants as unshown
 
 -- ---- what each says of the layer below, and the refusal of the call that comes of it
 
@@ -57,6 +57,12 @@ pub record IsWrongRung (instance : Instance) (k : ℕ) (bytes : List ℕ) (failu
   pub of_rung : IsRungAnswer instance k bytes answer
   pub wrong : IsRight instance answer → ⊥
   pub fails : failure_of instance answer ≡ Some failure
+
+-- why there is no witness for a rung of this answer: memory ran out, or it isn't right, and this is the first of its clauses that fails
+abbrev pub IsRefusedAnswer : Instance → Certificate → Refusal → Type 0
+IsRefusedAnswer instance answer refusal = (refusal ≡ out_of_memory)
+    ⊎ ((failure : Failure) × (refusal ≡ refusals.Denied (denials.No failure.0 failure.1 failure.2))
+    × (IsRight instance answer → ⊥) × (failure_of instance answer ≡ Some failure))
 
 -- why there is no witness for a rung of the certificate in a file
 abbrev pub HasNoWitness : Instance → ℕ → Option (List ℕ) → ℕ → ℕ → Refusal → Type 0

@@ -1,5 +1,5 @@
--- Why there is no text, over the shelf as it was before the description was read: a count that rose rose from a lesser one, and what was held
--- is held.
+-- Why there is no witness or none is verified, over the shelf as it was before: a count that rose rose from a lesser one, and what was held is
+-- held.
 use Rattle.std.proofs.Common.{◌≡◌, ℕ, ◌≤◌, true, List, Option, inl, inr, subst}
 use Rattle.std.specs.Prelude.{IfSome}
 use Rattle.mat_desc.specs.Instances.{Instance}
@@ -7,22 +7,20 @@ use Rattle.mat_cert.specs.Certificates.{Certificate}
 use Rattle.mat_cert.specs.Limits.{certificate_limit}
 use Rattle.mat_witness.specs.Kinds.{is_witnessed_pair}
 use Rattle.mat_witness.specs.Lines.{witness_limit}
-use Rattle.mat_judge.specs.Certified.{IsUncertified, IsNotRight}
+use Rattle.mat_judge.specs.Certified.{IsUncertified}
 use Rattle.mat_judge.specs.WholeFiles.{IsUnread}
-use Rattle.mat_judge.specs.declared.certified.NotRight.{NotRight}
-use Rattle.mat_judge.specs.declared.certified.NotRight.TheVariants as not_right
 use Rattle.mat_judge.specs.declared.certified.Uncertified.{Uncertified}
 use Rattle.mat_judge.specs.declared.certified.Uncertified.TheVariants as uncertified
 use Rattle.mat_judge.specs.declared.reading.Unread.{Unread}
 use Rattle.mat_judge.specs.declared.reading.Unread.TheVariants as unread
 use Rattle.mat_judge.specs.declared.refusal.Refusal.{Refusal}
 use Rattle.mat_judge.proofs.Told.{rose_before}
-use Rattle.mat_top.specs.Witnessing.{IsRungAnswer}
-use Rattle.mat_top.specs.WitnessRefusals.{HasNoRung, HasNoWitness, IsUnshown, IsUnshownRung, IsUnverified, IsWrongRung}
-use Rattle.mat_top.specs.declared.witness_refusals.NoRung.{NoRung}
-use Rattle.mat_top.specs.declared.witness_refusals.NoRung.TheVariants as no_rung
-use Rattle.mat_top.specs.declared.witness_refusals.Unshown.{Unshown}
-use Rattle.mat_top.specs.declared.witness_refusals.Unshown.TheVariants as unshown
+use Rattle.mat_verify.specs.Witnessing.{IsRungAnswer}
+use Rattle.mat_verify.specs.WitnessRefusals.{HasNoRung, HasNoWitness, IsUnshown, IsUnshownRung, IsUnverified, IsWrongRung}
+use Rattle.mat_verify.specs.declared.refusals.NoRung.{NoRung}
+use Rattle.mat_verify.specs.declared.refusals.NoRung.TheVariants as no_rung
+use Rattle.mat_verify.specs.declared.refusals.Unshown.{Unshown}
+use Rattle.mat_verify.specs.declared.refusals.Unshown.TheVariants as unshown
 
 -- ---- a count that rose
 
@@ -32,16 +30,10 @@ unread_before held limit earlier before now unread.Fault le rose = rose_before e
 unread_before held limit earlier before now unread.TooLong le long = long
 unread_before held limit earlier before now unread.Memory le memory = memory
 
-uncertified_before : (held : Option (List ℕ)) (earlier before now : ℕ) (why : Uncertified) → earlier ≤ before
+pub uncertified_before : (held : Option (List ℕ)) (earlier before now : ℕ) (why : Uncertified) → earlier ≤ before
     → IsUncertified held before now why → IsUncertified held earlier now why
 uncertified_before held earlier before now (uncertified.Unread why) le is = unread_before held certificate_limit earlier before now why le is
 uncertified_before held earlier before now (uncertified.Fault kind number) le is = is
-
-not_right_before : (instance : Instance) (held : Option (List ℕ)) (earlier before now : ℕ) (why : NotRight) → earlier ≤ before
-    → IsNotRight instance held before now why → IsNotRight instance held earlier now why
-not_right_before instance held earlier before now (not_right.Uncertified why) le is = uncertified_before held earlier before now why le is
-not_right_before instance held earlier before now not_right.WrongShape le is = is
-not_right_before instance held earlier before now (not_right.No reason first second) le is = is
 
 no_rung_before : (instance : Instance) (k : ℕ) (held : Option (List ℕ)) (earlier before now : ℕ) (why : NoRung) → earlier ≤ before
     → HasNoRung instance k held before now why → HasNoRung instance k held earlier now why
@@ -60,12 +52,6 @@ unshown_before instance answer k held earlier before now (unshown.Part part) le 
 
 module _ (after held : List ℕ → Option (List ℕ)) (same : (name : List ℕ) → after name ≡ held name) (instance : Instance)
     (earlier before now : List ℕ → ℕ) (le : (name : List ℕ) → earlier name ≤ before name) where
-  pub not_right_there : (certificate : List ℕ) (why : NotRight)
-      → IsNotRight instance (after certificate) (before certificate) (now certificate) why
-      → IsNotRight instance (held certificate) (earlier certificate) (now certificate) why
-  not_right_there certificate why is = subst (λ o. IsNotRight instance o (earlier certificate) (now certificate) why) (same certificate)
-      (not_right_before instance (after certificate) (earlier certificate) (before certificate) (now certificate) why (le certificate) is)
-
   no_rung_there : (k : ℕ) (certificate : List ℕ) (why : NoRung)
       → HasNoRung instance k (after certificate) (before certificate) (now certificate) why
       → HasNoRung instance k (held certificate) (earlier certificate) (now certificate) why

@@ -2,8 +2,8 @@ use Rattle.std.proofs.Common.{◌≡◌, false, rules}
 use Rattle.mat_cert.specs.Views.{certificate_of}
 use Rattle.mat_desc.specs.Views.{instance_of}
 use Rattle.mat_judge.proofs.Told.{if_told}
-use Rattle.mat_top.specs.Witnessing.{fits_rung}
-use Rattle.mat_top.proofs.witnessing.rung_answer_in.Goals as goal
+use Rattle.mat_verify.specs.Witnessing.{fits_rung}
+use Rattle.mat_verify.proofs.rung_answer.rung_answer_in.Goals as goal
 
 pub returns-then-not-fits-clause-refusal : goal.returns-then-not-fits-clause-refusal
 returns-then-not-fits-clause-refusal g c =

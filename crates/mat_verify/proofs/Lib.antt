@@ -1,0 +1,4 @@
+pub mod Mapped
+pub mod Unwitnessed
+mod RungAnswers
+mod WitnessRefusals

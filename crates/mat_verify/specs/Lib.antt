@@ -1,0 +1,3 @@
+pub mod Witnessing
+pub mod WitnessOutcomes
+pub mod WitnessRefusals
