@@ -1,0 +1,7 @@
+-- The weights of the members so far.
+use Rattle.std.proofs.Common.{◌≡◌, map, take}
+use Rattle.mat_sets.specs.Weights.{weight_at}
+use Rattle.mat_reasons.proofs.bounds.values_at.Given as goal
+
+abbrev pub invariant-loop-e : goal.invariant-loop-e
+invariant-loop-e l = l.values.items ≡ map (weight_at l.weights) (take l.e-index l.set)

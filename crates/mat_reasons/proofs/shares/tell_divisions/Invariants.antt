@@ -1,0 +1,6 @@
+-- The paragraphs that were there stand at their places.
+use Rattle.mat_text.specs.Paragraphs.{KeepsParagraphs}
+use Rattle.mat_reasons.proofs.shares.tell_divisions.Given as goal
+
+abbrev pub invariant-loop-e : goal.invariant-loop-e
+invariant-loop-e l = KeepsParagraphs l.initial.text l.text

@@ -1,0 +1,6 @@
+-- The paragraphs that were there stand at their places.
+use Rattle.mat_text.specs.Paragraphs.{KeepsParagraphs}
+use Rattle.mat_reasons.proofs.sizes.tell_changes.Given as goal
+
+abbrev pub invariant-loop-k : goal.invariant-loop-k
+invariant-loop-k l = KeepsParagraphs l.initial.text l.text

@@ -1,0 +1,23 @@
+//! Reasons in words that several forms of answer share: what a rule allows at most, weights that are split into shares, the steps of a
+//! ladder, and why no larger set is allowed. Each can be checked by counting.
+#![tactic(auto)]
+
+mod bounds;
+mod cuts;
+mod heaviest;
+mod ladder;
+mod rooms;
+mod rules;
+mod shares;
+mod sizes;
+mod steps;
+
+pub use bounds::{Aim, Bounded, FEW, tell_bound, values_at};
+pub use cuts::{Largest, tell_cut};
+pub use heaviest::{Elements, Things, tell_top};
+pub use ladder::tell_ladder;
+pub use rooms::{Phrases, Roomy, room};
+pub use rules::Rule;
+pub use shares::{Claim, Shares, have_tie, tell_shares, tell_ties};
+pub use sizes::tell_sizes;
+pub use steps::{Step, best_of, plain_steps};

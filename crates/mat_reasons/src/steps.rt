@@ -1,0 +1,81 @@
+//! The steps of a ladder: a set of each size from 0 on, with its weight.
+
+ghost use Rattle.std.specs.Prelude.{◌≡◌, ◌<◌, length, All, IfOk};
+ghost use Rattle.mat_reasons.specs.Sums.{HasSummableShares};
+
+use crate::shares::are_split;
+use mat_cert::{PlainRung, PricedRung};
+use mat_sets::{ElemSet, Weight, weigh};
+use std::alloc::{AllocError, Global};
+
+/// A set of a ladder, its weight, and the sums of its shares where its weights are split.
+#[derive(Clone, Copy)]
+pub struct Step<'a> {
+    /// Its weight.
+    pub weight: Weight,
+    /// The set.
+    pub set: &'a ElemSet,
+    /// The sums of its shares for both rules, where its weights are split.
+    pub shares: Option<(Weight, Weight)>,
+}
+
+/// The steps of a ladder without splits. The only error is want of memory.
+pub fn plain_steps<'a>(alloc: Global, rungs: &'a [PlainRung]) -> Result<Vec<Step<'a>>, AllocError>
+    ensures { IfOk result (λ steps. length steps.items ≡ length rungs.now) }
+{
+    let mut steps = Vec::new(alloc);
+    for rung in rungs {
+        steps.push(Step {
+            weight: rung.weight,
+            set: &rung.set,
+            shares: None,
+        })?;
+    }
+    Ok(steps)
+}
+
+// The sums of the shares of a rung, where each part of its split has a weight that is not 0.
+fn sums(rung: &PricedRung) -> Option<(Weight, Weight)>
+    requires { HasSummableShares rung.now }
+{
+    let first = rung.first.as_slice();
+    let second = rung.second.as_slice();
+    if !are_split(first, second) {
+        return None;
+    }
+    Some((weigh(&rung.set, first), weigh(&rung.set, second)))
+}
+
+/// The steps of a ladder with splits. The only error is want of memory.
+pub(crate) fn priced_steps<'a>(
+    alloc: Global,
+    rungs: &'a [PricedRung],
+) -> Result<Vec<Step<'a>>, AllocError>
+    requires { All HasSummableShares rungs.now }
+    ensures { IfOk result (λ steps. length steps.items ≡ length rungs.now) }
+{
+    let mut steps = Vec::new(alloc);
+    for k in 0..rungs.len() {
+        let rung = &rungs[k];
+        steps.push(Step {
+            weight: rung.weight,
+            set: &rung.set,
+            shares: sums(rung),
+        })?;
+    }
+    Ok(steps)
+}
+
+/// The first of the heaviest steps.
+pub fn best_of(steps: &[Step<'_>]) -> usize
+    requires { 0 < length steps.now }
+    ensures { result < length steps.now }
+{
+    let mut best = 0;
+    for k in 0..steps.len() {
+        if steps[k].weight > steps[best].weight {
+            best = k;
+        }
+    }
+    best
+}

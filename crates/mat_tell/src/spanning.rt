@@ -1,0 +1,139 @@
+//! Spanning trees that share no edge.
+
+ghost use Rattle.std.specs.Prelude.{◌≡◌, ◌<◌, ◌^◌, not, length, IfOk};
+ghost use Rattle.mat_sets.specs.Graphs.{ends_of};
+ghost use Rattle.mat_sets.specs.Search.{those_below};
+ghost use Rattle.mat_tell.specs.Classes.{are_together};
+
+use mat_sets::{ElemSet, Pairs};
+use mat_text::{
+    Ends, Noun, Text, many, outside, tell_found, tell_groups, tell_none, tell_numbered,
+};
+use std::alloc::{AllocError, Global};
+
+// Tells what is wanted: so many trees.
+fn tell_wanted(
+    text: &mut Text,
+    ends: &Ends<'_>,
+    vertices: u32,
+    trees: usize,
+) -> Result<(), AllocError> {
+    text.say(format_args!(
+        "Wanted: of {} between {} {} without a common edge. A spanning tree joins all vertices, and has no ring.",
+        many(ends.pairs.len(), Noun::Edge),
+        many(vertices as usize, Noun::Vertex),
+        many(trees, Noun::SpanningTree)
+    ))
+}
+
+// Tells which edges are in no tree, where there are such.
+fn tell_left(text: &mut Text, ends: &Ends<'_>, trees: &[ElemSet]) -> Result<(), AllocError>
+    requires { length ends.now.pairs.now < 2 ^ 32 }
+{
+    let left = outside(text.alloc(), ends.pairs.len() as u32, trees)?;
+    if left.is_empty() {
+        return Ok(());
+    }
+    let words = ends.words(text.alloc(), &left)?;
+    text.list(
+        format_args!("in no tree, {}", many(left.len(), Noun::Edge)),
+        &words,
+    )
+}
+
+/// Tells spanning trees without a common edge. The only error is want of memory.
+pub(crate) fn tell_trees(
+    text: &mut Text,
+    ends: &Ends<'_>,
+    vertices: u32,
+    trees: &[ElemSet],
+) -> Result<(), AllocError>
+    requires { length ends.now.pairs.now < 2 ^ 32 }
+{
+    tell_wanted(text, ends, vertices, trees.len())?;
+    tell_found(text, trees.len(), Noun::Tree, vertices, Noun::Edge)?;
+    tell_numbered(text, ends, Noun::Tree, trees)?;
+    tell_left(text, ends, trees)?;
+    if trees.len() < 2 || vertices < 2 {
+        return Ok(());
+    }
+    text.say(format_args!(
+        "So all vertices stay joined after the loss of any {}.",
+        many(trees.len() - 1, Noun::Edge)
+    ))
+}
+
+// Whether both vertices are in one class.
+fn are_together(classes: &[ElemSet], first: u32, second: u32) -> bool
+    ensures { result ≡ are_together classes.now first second }
+{
+    for i in 0..classes.len() {
+        if classes[i].contains(first) && classes[i].contains(second) {
+            return true;
+        }
+    }
+    false
+}
+
+/// The edges whose ends are in different classes. The only error is want of memory.
+#[tactic(auto, using(mat_text::proofs::Numbers::numbers_below))]
+pub fn crossing(alloc: Global, edges: &Pairs, classes: &[ElemSet]) -> Result<ElemSet, AllocError>
+    requires { length edges.now < 2 ^ 32 }
+    ensures { IfOk result (λ crossing. crossing ≡ those_below (length edges.now)
+        (λ e. not (are_together classes.now (ends_of edges.now e).0 (ends_of edges.now e).1))) }
+{
+    let mut crossing = ElemSet::new(alloc);
+    for e in 0..edges.len() {
+        let (first, second) = edges.get(e);
+        if !are_together(classes, first, second) {
+            crossing.add(e as u32)?;
+        }
+    }
+    Ok(crossing)
+}
+
+// Tells how many edges between groups so many trees need, and how many are missing.
+fn tell_missing(
+    text: &mut Text,
+    trees: u32,
+    groups: usize,
+    crossing: usize,
+) -> Result<(), AllocError> {
+    let each = groups.saturating_sub(1);
+    let needed = each.saturating_mul(trees as usize);
+    text.detail(format_args!(
+        "Each tree needs {each} of them to join {}: with {} {trees} * {each} = {needed}.",
+        many(groups, Noun::Group),
+        many(trees as usize, Noun::Tree)
+    ))?;
+    text.detail(format_args!(
+        "So between groups there have to be at least {} more.",
+        many(needed.saturating_sub(crossing), Noun::Edge)
+    ))
+}
+
+/// Tells that so many spanning trees are not there, since too few edges join these classes of vertices. The only error is want of memory.
+pub(crate) fn tell_no_trees(
+    text: &mut Text,
+    ends: &Ends<'_>,
+    vertices: u32,
+    trees: u32,
+    classes: &[ElemSet],
+) -> Result<(), AllocError>
+    requires { length ends.now.pairs.now < 2 ^ 32 }
+{
+    tell_wanted(text, ends, vertices, trees as usize)?;
+    tell_none(text)?;
+    text.detail(format_args!(
+        "Put the vertices into {}:",
+        many(classes.len(), Noun::Group)
+    ))?;
+    tell_groups(text, &ends.called, classes)?;
+    let crossing = crossing(text.alloc(), ends.pairs, classes)?;
+    let words = ends.words(text.alloc(), &crossing)?;
+    text.list(
+        format_args!("Edges between groups, {} in all", crossing.len()),
+        &words,
+    )?;
+    tell_missing(text, trees, classes.len(), crossing.len())
+}

@@ -1,0 +1,185 @@
+//! The text of a right answer in words.
+
+ghost use Rattle.std.specs.Prelude.{◌≡◌, IfOk};
+ghost use Rattle.mat_cert.specs.Certificates.{IsRanged};
+ghost use Rattle.mat_cert.specs.Views.{certificate_of};
+ghost use Rattle.mat_check.specs.Right.{IsRight};
+ghost use Rattle.mat_desc.specs.Grammar.{IsValid};
+ghost use Rattle.mat_desc.specs.Soundness.{IsSoundInstance};
+ghost use Rattle.mat_desc.specs.Views.{instance_of};
+ghost use Rattle.mat_text.specs.Paragraphs.{AreShallow};
+ghost use Rattle.mat_text.specs.Texts.{IsPrintable};
+
+use crate::arborescences::Network;
+use crate::assigned::Table;
+use crate::graph_answers::{tell_coloured, tell_graph, tell_rooted, tell_table};
+use crate::intersection::Pair;
+use crate::matroid_answers::{tell_list, tell_pair};
+use crate::rainbow::Coloured;
+use crate::unions::Rules;
+use mat_cert::Answer;
+use mat_desc::{Named, Problem};
+use mat_text::{Called, Ends, Text};
+use std::alloc::{AllocError, Global};
+
+// The most bytes of a line, where a word has room in it.
+const LINE: usize = 96;
+
+// Tells a right answer to a problem whose edges or cells have weights: a graph with colours, or a table.
+fn tell_weighted(
+    text: &mut Text,
+    called: &Called<'_>,
+    problem: &Problem,
+    answer: &Answer,
+) -> Result<(), AllocError>
+    requires valid { IsValid (instance_of problem.now) }
+    requires sound { IsSoundInstance (instance_of problem.now) }
+    requires ranged { IsRanged (certificate_of answer.now) }
+    requires right { IsRight (instance_of problem.now) (certificate_of answer.now) }
+{
+    match problem {
+        Problem::Coloured {
+            vertices,
+            colours,
+            edges,
+            colour_of,
+            weights,
+        } => {
+            let graph = Coloured {
+                vertices: *vertices,
+                colours: *colours,
+                ends: Ends::of_edges(*called, edges),
+                colour_of,
+                weights: weights.as_slice(),
+            };
+            tell_coloured(text, &graph, answer)
+        }
+        Problem::Table {
+            rows,
+            columns,
+            cells,
+            weights,
+        } => {
+            let table = Table {
+                called: *called,
+                rows: *rows,
+                columns: *columns,
+                cells,
+                weights: weights.as_slice(),
+            };
+            tell_table(text, &table, answer)
+        }
+        _ => Ok(()),
+    }
+}
+
+// Tells a right answer to a problem that states a graph or a table.
+fn tell_drawn(
+    text: &mut Text,
+    called: &Called<'_>,
+    problem: &Problem,
+    answer: &Answer,
+) -> Result<(), AllocError>
+    requires valid { IsValid (instance_of problem.now) }
+    requires sound { IsSoundInstance (instance_of problem.now) }
+    requires ranged { IsRanged (certificate_of answer.now) }
+    requires right { IsRight (instance_of problem.now) (certificate_of answer.now) }
+{
+    match problem {
+        Problem::Graph { vertices, edges } => {
+            tell_graph(text, &Ends::of_edges(*called, edges), *vertices, answer)
+        }
+        Problem::Rooted {
+            vertices,
+            root,
+            arcs,
+            costs,
+        } => {
+            let network = Network {
+                vertices: *vertices,
+                root: *root,
+                ends: Ends::of_arcs(*called, arcs),
+                costs: costs.as_slice(),
+            };
+            tell_rooted(text, &network, answer)
+        }
+        weighted => tell_weighted(text, called, weighted, answer),
+    }
+}
+
+// Tells a right answer to a problem.
+fn tell(
+    text: &mut Text,
+    called: &Called<'_>,
+    problem: &Problem,
+    answer: &Answer,
+) -> Result<(), AllocError>
+    requires valid { IsValid (instance_of problem.now) }
+    requires sound { IsSoundInstance (instance_of problem.now) }
+    requires ranged { IsRanged (certificate_of answer.now) }
+    requires right { IsRight (instance_of problem.now) (certificate_of answer.now) }
+{
+    match problem {
+        Problem::Pair {
+            weights,
+            first,
+            second,
+        } => {
+            let pair = Pair {
+                weights: weights.as_slice(),
+                first,
+                second,
+            };
+            tell_pair(text, called, &pair, answer)
+        }
+        Problem::List { weights, matroids } => {
+            let rules = Rules {
+                weights: weights.as_slice(),
+                matroids,
+            };
+            tell_list(text, called, &rules, answer)
+        }
+        drawn => tell_drawn(text, called, drawn, answer),
+    }
+}
+
+/// What the elements and the vertices of a problem with names are called.
+pub fn called_in(named: &Named) -> Called<'_>
+    ensures elements { result.elements.now ≡ named.now.elements }
+    ensures vertices { result.vertices.now ≡ named.now.vertices }
+{
+    Called {
+        elements: &named.elements,
+        vertices: &named.vertices,
+    }
+}
+
+/// The paragraphs on a right answer to a problem: what was wanted, what was found, and why nothing better exists. The only error is want of
+/// memory.
+pub fn told_text(alloc: Global, named: &Named, answer: &Answer) -> Result<Text, AllocError>
+    requires valid { IsValid (instance_of named.now.problem) }
+    requires sound { IsSoundInstance (instance_of named.now.problem) }
+    requires ranged { IsRanged (certificate_of answer.now) }
+    requires right { IsRight (instance_of named.now.problem) (certificate_of answer.now) }
+
+    // At most four spaces stand in front of each paragraph.
+    ensures { IfOk result (λ text. AreShallow text.paragraphs.items) }
+{
+    let mut text = Text::new(alloc);
+    tell(&mut text, &called_in(named), &named.problem, answer)?;
+    Ok(text)
+}
+
+/// A right answer to a problem in words, paragraph by paragraph as [`told_text`] has them. Its lines have at most 96 bytes, but for a first
+/// word that is longer. The only error is want of memory.
+pub fn told(alloc: Global, named: &Named, answer: &Answer) -> Result<Vec<u8>, AllocError>
+    requires valid { IsValid (instance_of named.now.problem) }
+    requires sound { IsSoundInstance (instance_of named.now.problem) }
+    requires ranged { IsRanged (certificate_of answer.now) }
+    requires right { IsRight (instance_of named.now.problem) (certificate_of answer.now) }
+
+    // The bytes of the text are line feeds, spaces and graphic ones.
+    ensures printable { IfOk result (λ text. IsPrintable text.items) }
+{
+    told_text(alloc, named, answer)?.filled(LINE)
+}
