@@ -1,0 +1,104 @@
+-- Each text that is made is spelled by a tree: the trees of its pieces, beside or within one another.
+use Rattle.std.proofs.Common.{◌≡◌, ℕ, Bool, true, false, ◌&&◌, if◌then◌else◌, List, [], ◌∷◌, ◌++◌, codes, map, refl, ap, sym, subst, ◌∙◌, append_assoc, append-nil}
+use Rattle.std.specs.List.{flat_map, list_all}
+use Rattle.std.proofs.lemmas.Bool.{and_from}
+use Rattle.std.proofs.lemmas.Grind.{flat_map-append}
+use Rattle.std.proofs.lemmas.List.Folds.{list_all-append}
+use Rattle.mat_drawing.specs.Escaping.{entity, escaped}
+use Rattle.mat_drawing.specs.Markup.{nothing, words, empty_element, element, beside, is_attribute, is_well_formed, opening, spelled, spelled_attribute, AddsAttributes, AddsMarkup, IsDocument, IsElement, IsMarkup}
+use Rattle.mat_drawing.specs.Names.{is_name, printed}
+use Rattle.mat_text.specs.Texts.{is_text_byte}
+
+byte_by_test : (b : ℕ) (p : Bool) → is_text_byte b ≡ p → is_text_byte (if p then b else 63) ≡ true
+byte_by_test b true e = e
+byte_by_test b false e = refl
+
+-- no byte is left that may not be printed
+pub printed_words : (bytes : List ℕ) → list_all is_text_byte (map printed bytes) ≡ true
+printed_words [] = refl
+printed_words (b ∷ bytes) = and_from (is_text_byte (printed b)) (list_all is_text_byte (map printed bytes)) (byte_by_test b (is_text_byte b) refl) (printed_words bytes)
+
+pub escaped_printed : (bytes : List ℕ) → flat_map (λ b. entity (printed b)) bytes ≡ escaped (map printed bytes)
+escaped_printed [] = refl
+escaped_printed (b ∷ bytes) = rw (escaped_printed bytes) refl
+
+pub words_markup : (bytes text : List ℕ) → text ≡ escaped (map printed bytes) → IsMarkup text
+words_markup bytes text e = record { tree = words (map printed bytes); well_formed = printed_words bytes; told = e }
+
+pub nothing_markup : IsMarkup []
+nothing_markup = record { tree = nothing; well_formed = refl; told = refl }
+
+pub line_feed_markup : IsMarkup (10 ∷ [])
+line_feed_markup = record { tree = words (10 ∷ []); well_formed = refl; told = refl }
+
+pub beside_markup : (first second : List ℕ) → IsMarkup first → IsMarkup second → IsMarkup (first ++ second)
+beside_markup first second m n = record {
+  tree = beside m.tree n.tree;
+  well_formed = and_from (is_well_formed m.tree) (is_well_formed n.tree) m.well_formed n.well_formed;
+  told = rw m.told (rw n.told refl);
+}
+
+pub added_markup : (is_added : Bool) (old markup new : List ℕ) → IsMarkup old → IsMarkup markup → new ≡ (if is_added then old ++ markup else old) → IsMarkup new
+added_markup true old markup new m n e = subst IsMarkup (sym e) (beside_markup old markup m n)
+added_markup false old markup new m n e = subst IsMarkup (sym e) m
+
+pub lines_markup : (lines text : List ℕ) → IsMarkup lines → text ≡ 10 ∷ lines → IsMarkup text
+lines_markup lines text m e = subst IsMarkup (sym e) (beside_markup (10 ∷ []) lines line_feed_markup m)
+
+pub attribute_added : (old new name value : List ℕ) → is_name name ≡ true
+    → new ≡ ((((old ++ 32 ∷ []) ++ name) ++ codes "=\"") ++ escaped (map printed value)) ++ 34 ∷ [] → AddsAttributes old new
+attribute_added old new name value h e =
+    let parts = and_from (is_name name) (list_all is_text_byte (map printed value)) h (printed_words value) in
+    record {
+      attributes = (name, map printed value) ∷ [];
+      well_formed = and_from (is_attribute (name, map printed value)) true parts refl;
+      told = e ∙ simp append_assoc;
+    }
+
+pub none_added : (old : List ℕ) → AddsAttributes old old
+none_added old = record { attributes = []; well_formed = refl; told = simp append-nil }
+
+pub more_added : (first second third : List ℕ) → AddsAttributes first second → AddsAttributes second third → AddsAttributes first third
+more_added first second third f g = record {
+  attributes = f.attributes ++ g.attributes;
+  well_formed = rw (list_all-append is_attribute f.attributes g.attributes) (and_from (list_all is_attribute f.attributes) (list_all is_attribute g.attributes) f.well_formed g.well_formed);
+  told = g.told ∙ (ap (λ (t : List ℕ). t ++ flat_map spelled_attribute g.attributes) f.told
+      ∙ (append_assoc first _ _ ∙ ap (λ (t : List ℕ). first ++ t) (sym (flat_map-append spelled_attribute f.attributes g.attributes))));
+}
+
+-- what is known of the name and the attributes of an element
+tag_well_formed : (name tag : List ℕ) → is_name name ≡ true → (a : AddsAttributes (60 ∷ name) tag) → (is_name name && list_all is_attribute a.attributes) ≡ true
+tag_well_formed name tag h a = and_from (is_name name) (list_all is_attribute a.attributes) h a.well_formed
+
+pub empty_element_markup : (name tag text : List ℕ) → is_name name ≡ true → AddsAttributes (60 ∷ name) tag → text ≡ tag ++ codes "/>" → IsMarkup text
+empty_element_markup name tag text h a e = record {
+  tree = empty_element name a.attributes;
+  well_formed = tag_well_formed name tag h a;
+  told = e ∙ ap (λ (t : List ℕ). t ++ codes "/>") a.told;
+}
+
+element_told : (name tag inside opened within text : List ℕ) → tag ≡ opened → inside ≡ within → text ≡ ((((tag ++ 62 ∷ []) ++ inside) ++ codes "</") ++ name) ++ 62 ∷ []
+    → text ≡ opened ++ codes ">" ++ within ++ codes "</" ++ name ++ codes ">"
+element_told name tag inside opened within text e f g = g ∙ rw (e, f) (simp append_assoc)
+
+pub element_spelled : (name tag inside text : List ℕ) → is_name name ≡ true → AddsAttributes (60 ∷ name) tag → IsMarkup inside
+    → text ≡ ((((tag ++ 62 ∷ []) ++ inside) ++ codes "</") ++ name) ++ 62 ∷ [] → IsElement name text
+element_spelled name tag inside text h a m e = record {
+  attributes = a.attributes;
+  inside = m.tree;
+  well_formed = and_from (is_name name && list_all is_attribute a.attributes) (is_well_formed m.tree) (tag_well_formed name tag h a) m.well_formed;
+  told = element_told name tag inside (opening name a.attributes) (spelled m.tree) text a.told m.told e;
+}
+
+pub element_markup : (name text : List ℕ) → IsElement name text → IsMarkup text
+element_markup name text e = record { tree = element name e.attributes e.inside; well_formed = e.well_formed; told = e.told }
+
+pub document_markup : (name text : List ℕ) → IsDocument name text → IsMarkup text
+document_markup name text d = subst IsMarkup (sym d.told) (beside_markup d.root (10 ∷ []) (element_markup name d.root d.is_element) line_feed_markup)
+
+pub line_added : (old markup middle new : List ℕ) → IsMarkup markup → middle ≡ old ++ markup → new ≡ middle ++ 10 ∷ [] → AddsMarkup old new
+line_added old markup middle new m e f = record {
+  added = markup ++ 10 ∷ [];
+  is_markup = beside_markup markup (10 ∷ []) m line_feed_markup;
+  told = f ∙ rw e (simp append_assoc);
+}

@@ -1,0 +1,7 @@
+use Rattle.std.proofs.Common.{arith}
+use Rattle.std.proofs.lemmas.Grind.{common_steps}
+use Rattle.mat_drawing.proofs.Pieces.{escaped_printed}
+use Rattle.mat_drawing.proofs.escaping.put_escaped.Goals as goal
+
+pub returns : goal.returns
+returns c = rw (← escaped_printed c.args.words.now) (grind (arith, common_steps))

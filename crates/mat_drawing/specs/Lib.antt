@@ -1,0 +1,5 @@
+pub mod Escaping
+pub mod Markup
+pub mod Names
+pub mod Drawn
+pub mod Colours

@@ -1,0 +1,217 @@
+//! Drawings, line by line of markup.
+
+ghost use Rattle.std.specs.Prelude.{◌≡◌, ◌++◌, [], true, IfOk, OnOk};
+ghost use Rattle.std.specs.List.{list_all};
+ghost use Rattle.mat_drawing.specs.Markup.{AddsMarkup, IsMarkup, IsPicture};
+ghost use Rattle.mat_text.specs.Texts.{is_text_byte};
+
+use crate::area::Area;
+use crate::attribute::Attribute;
+use crate::colour::Colour;
+use crate::elements::{document, element, empty_element};
+use crate::escaping::words_of;
+use crate::point::Point;
+use crate::shape::Shape;
+use crate::units::Units;
+use std::alloc::{AllocError, Global};
+use std::fmt::Display;
+use std::marker::Model;
+
+/// Lines of well-formed markup. Words become texts or titles of shapes, in which they are escaped, and a question mark stands for each of
+/// their bytes that may not be printed.
+#[derive(Drop)]
+pub struct Drawing {
+    alloc: Global,
+    markup: Vec<u8>,
+}
+
+impl Model for Drawing {
+    ghost use Rattle.mat_drawing.specs.Drawn.{Drawn};
+    ghost use Rattle.mat_drawing.specs.Markup.{IsMarkup};
+
+    ghost Value = { Drawn };
+
+    ghost view = { λ drawing. record { alloc = drawing.alloc; markup = drawing.markup.items } };
+
+    ghost invariant = { λ drawing. IsMarkup drawing.markup.items };
+}
+
+// The element of a shape without a title.
+fn untitled(
+    alloc: Global,
+    shape: Shape<'_>,
+    attributes: &[Attribute<'_>],
+) -> Result<Vec<u8>, AllocError>
+    ensures { IfOk result (λ text. IsMarkup text.items) }
+{
+    let all = shape.attributes(alloc, attributes)?;
+    empty_element(alloc, shape.name(), &all)
+}
+
+impl Drawing {
+    /// No lines. It takes no memory.
+    pub fn new(alloc: Global) -> Drawing
+        ensures { result ≡ record { alloc = alloc; markup = [] } }
+    {
+        Drawing {
+            alloc,
+            markup: Vec::new(alloc),
+        }
+    }
+
+    /// Where the markup gets its memory.
+    pub fn alloc(&self) -> Global
+        ensures { result ≡ self.now.alloc }
+    {
+        self.alloc
+    }
+
+    /// The lines.
+    pub fn markup(&self) -> &[u8]
+        ensures lines { result.now ≡ self.now.markup }
+        ensures markup { IsMarkup self.now.markup }
+    {
+        self.markup.as_slice()
+    }
+
+    // Adds markup.
+    fn add(&mut self, markup: &[u8]) -> Result<(), AllocError>
+        requires { IsMarkup markup.now }
+        ensures { OnOk result (self.new.markup ≡ self.old.markup ++ markup.now) }
+    {
+        self.markup.extend_from_slice(markup)
+    }
+
+    // Adds markup, and ends its line.
+    fn add_line(&mut self, markup: &[u8]) -> Result<(), AllocError>
+        requires { IsMarkup markup.now }
+        ensures { OnOk result (AddsMarkup self.old.markup self.new.markup) }
+    {
+        self.add(markup)?;
+        self.add(b"\n")
+    }
+
+    /// Adds the lines of another drawing. The only error is want of memory.
+    pub fn append(&mut self, other: &Drawing) -> Result<(), AllocError>
+        ensures { OnOk result (self.new.markup ≡ self.old.markup ++ other.now.markup) }
+    {
+        self.add(other.markup())
+    }
+
+    /// Adds a text at a point. The only error is want of memory.
+    pub fn text<W: Display + Drop>(
+        &mut self,
+        at: Point,
+        words: W,
+        attributes: &[Attribute<'_>],
+    ) -> Result<(), AllocError>
+        ensures { OnOk result (AddsMarkup self.old.markup self.new.markup) }
+    {
+        let words = words_of(self.alloc, words)?;
+        let mut all = vec![in self.alloc; Attribute::X(at.x), Attribute::Y(at.y)]?;
+        all.extend_from_slice(attributes)?;
+        let text = element(self.alloc, "text", &all, &words)?;
+        self.add_line(&text)
+    }
+
+    /// Adds a shape. The only error is want of memory.
+    pub fn shape(
+        &mut self,
+        shape: Shape<'_>,
+        attributes: &[Attribute<'_>],
+    ) -> Result<(), AllocError>
+        ensures { OnOk result (AddsMarkup self.old.markup self.new.markup) }
+    {
+        self.add_line(&untitled(self.alloc, shape, attributes)?)
+    }
+
+    /// Adds a shape that has a title. The only error is want of memory.
+    pub fn titled<W: Display + Drop>(
+        &mut self,
+        shape: Shape<'_>,
+        attributes: &[Attribute<'_>],
+        title: W,
+    ) -> Result<(), AllocError>
+        ensures { OnOk result (AddsMarkup self.old.markup self.new.markup) }
+    {
+        let words = words_of(self.alloc, title)?;
+        let title = element(self.alloc, "title", &[], &words)?;
+        let all = shape.attributes(self.alloc, attributes)?;
+        let shape = element(self.alloc, shape.name(), &all, &title)?;
+        self.add_line(&shape)
+    }
+
+    /// Adds a rectangle of one colour. The only error is want of memory.
+    pub fn rectangle(&mut self, area: Area, fill: Colour) -> Result<(), AllocError>
+        ensures { OnOk result (AddsMarkup self.old.markup self.new.markup) }
+    {
+        self.shape(Shape::Rectangle(area), &[Attribute::Fill(fill)])
+    }
+
+    /// Adds a path of this data. The only error is want of memory.
+    pub fn path<D: Display + Drop>(
+        &mut self,
+        data: D,
+        attributes: &[Attribute<'_>],
+    ) -> Result<(), AllocError>
+        ensures { OnOk result (AddsMarkup self.old.markup self.new.markup) }
+    {
+        let data = data.to_string(self.alloc)?;
+        self.shape(Shape::Path(&data), attributes)
+    }
+
+    /// Adds the lines of another drawing, to all of which these attributes apply. The only error is want of memory.
+    pub fn group(
+        &mut self,
+        attributes: &[Attribute<'_>],
+        inside: &Drawing,
+    ) -> Result<(), AllocError>
+        ensures { OnOk result (AddsMarkup self.old.markup self.new.markup) }
+    {
+        let group = document(self.alloc, "g", attributes, inside.markup())?;
+        self.add(&group)
+    }
+
+    /// Adds the lines of another drawing, which are not seen where they stand. The only error is want of memory.
+    pub fn definitions(&mut self, inside: &Drawing) -> Result<(), AllocError>
+        ensures { OnOk result (AddsMarkup self.old.markup self.new.markup) }
+    {
+        let definitions = document(self.alloc, "defs", &[], inside.markup())?;
+        self.add(&definitions)
+    }
+
+    /// Adds the arrow head of this number, which is 12 units wide and 10 high: a path of one colour, with its point before the middle of
+    /// its right side. The only error is want of memory.
+    pub fn arrow_head(&mut self, number: usize, data: &str, fill: Colour) -> Result<(), AllocError>
+        ensures { OnOk result (AddsMarkup self.old.markup self.new.markup) }
+    {
+        let attributes = [
+            Attribute::ArrowNumber(number),
+            Attribute::FixedSize,
+            Attribute::MarkerWidth(Units(12)),
+            Attribute::MarkerHeight(Units(10)),
+            Attribute::MarkerX(Units(18)),
+            Attribute::MarkerY(Units(5)),
+            Attribute::Directed,
+        ];
+        let path = untitled(self.alloc, Shape::Path(data), &[Attribute::Fill(fill)])?;
+        let marker = element(self.alloc, "marker", &attributes, &path)?;
+        self.add_line(&marker)
+    }
+
+    /// The drawing as a picture of this width and height, one SVG that needs no other file. The only error is want of memory.
+    pub fn picture(&self, width: Units, height: Units) -> Result<Vec<u8>, AllocError>
+        ensures picture { IfOk result (λ text. IsPicture text.items) }
+        ensures printable { IfOk result (λ text. list_all is_text_byte text.items ≡ true) }
+    {
+        let attributes = [
+            Attribute::Namespace,
+            Attribute::Width(width),
+            Attribute::Height(height),
+            Attribute::ViewBox(width, height),
+            Attribute::Monospace,
+            Attribute::FontSize(Units(12)),
+        ];
+        document(self.alloc, "svg", &attributes, self.markup())
+    }
+}

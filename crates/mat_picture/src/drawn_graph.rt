@@ -1,0 +1,34 @@
+//! Graphs, drawn on a circle.
+
+use crate::arrangement::Arrangement;
+use crate::edges::draw_edges;
+use crate::graph::Graph;
+use crate::labels::draw_labels;
+use crate::layout::Layout;
+use crate::legend::Legend;
+use crate::vertices::{draw_groups, draw_names, draw_vertices};
+use mat_charts::Canvas;
+use std::alloc::AllocError;
+
+/// Draws a graph: its vertices on a circle, its edges with their labels, a legend and notes. The only error is want of memory.
+pub(crate) fn draw_graph(
+    canvas: &mut Canvas,
+    graph: &Graph<'_>,
+    arrangement: &Arrangement,
+) -> Result<(), AllocError> {
+    let alloc = canvas.alloc();
+    let layout = Layout::new(alloc, graph, arrangement, canvas.top())?;
+    let legend = Legend::new(alloc, arrangement)?;
+    let drawing = &mut canvas.drawing;
+    draw_groups(drawing, &layout)?;
+    draw_edges(drawing, &layout)?;
+    draw_vertices(drawing, &layout)?;
+    draw_names(drawing, &layout)?;
+    draw_labels(drawing, &layout)?;
+    legend.draw(drawing, layout.bottom())?;
+    canvas.end_part(
+        layout.width().max(legend.width()),
+        layout.bottom() + legend.height() + 4,
+        &arrangement.notes,
+    )
+}

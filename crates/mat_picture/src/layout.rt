@@ -1,0 +1,205 @@
+//! Where the vertices of a graph stand on a circle, and how its edges run between them.
+
+use crate::arrangement::Arrangement;
+use crate::graph::Graph;
+use crate::strands::{Strand, strands};
+use mat_charts::{MARGIN, longest_vertex};
+use mat_drawing::{Circle, Point, Units};
+use std::alloc::{AllocError, Global};
+
+/// The most vertices whose names stand upright.
+pub(crate) const FEW: usize = 24;
+
+/// How an edge between two vertices runs: from the vertex of the lower place by a point that draws it to the other vertex.
+#[derive(Clone, Copy, Debug)]
+pub(crate) struct Bend {
+    from: Point,
+    pub(crate) by: Point,
+    to: Point,
+}
+
+impl Bend {
+    // The number so many parts of all the way along, of the numbers at the two ends and at the point that draws the edge.
+    fn mix(from: Units, by: Units, to: Units, part: Units, parts: Units) -> Units {
+        let rest = parts - part;
+        let sum = rest * rest * from + part * rest * 2 * by + part * part * to;
+        sum.over(parts * parts)
+    }
+
+    /// The point so many parts of all the way along.
+    pub(crate) fn along(&self, part: Units, parts: Units) -> Point {
+        Point {
+            x: Bend::mix(self.from.x, self.by.x, self.to.x, part, parts),
+            y: Bend::mix(self.from.y, self.by.y, self.to.y, part, parts),
+        }
+    }
+}
+
+/// A graph that is drawn on a circle.
+#[derive(Drop)]
+pub(crate) struct Layout<'a> {
+    pub(crate) graph: &'a Graph<'a>,
+    pub(crate) arrangement: &'a Arrangement,
+    pub(crate) strands: Vec<Strand>,
+    /// The place of each vertex.
+    places: Vec<usize>,
+    /// How far from the circle the name of each vertex stands.
+    far: Vec<Units>,
+    circle: Circle,
+    radius: Units,
+    side: Units,
+    tall: Units,
+}
+
+// The place of each vertex in the order.
+fn places(alloc: Global, vertices: usize, order: &[u32]) -> Result<Vec<usize>, AllocError> {
+    let mut places = Vec::new(alloc);
+    for v in 0..vertices {
+        let before = order.iter().take_while(|other| **other as usize != v);
+        places.push(before.count())?;
+    }
+    Ok(places)
+}
+
+// How far from the circle the name of each vertex stands: behind its loops.
+fn distances(alloc: Global, vertices: usize, strands: &[Strand]) -> Result<Vec<Units>, AllocError> {
+    let mut distances = Vec::new(alloc);
+    for v in 0..vertices {
+        let mut at = strands.iter().filter(|strand| strand.is_loop());
+        let far = match at.find(|strand| strand.tail as usize == v) {
+            Some(strand) => Units::of(strand.count) * 6 + 22,
+            None => Units(12),
+        };
+        distances.push(far)?;
+    }
+    Ok(distances)
+}
+
+// The greatest of these distances.
+fn farthest(distances: &[Units]) -> Units {
+    distances.iter().copied().max().unwrap_or(Units::ZERO)
+}
+
+impl<'a> Layout<'a> {
+    /// The graph, drawn from this height on. The only error is want of memory.
+    pub(crate) fn new(
+        alloc: Global,
+        graph: &'a Graph<'a>,
+        arrangement: &'a Arrangement,
+        from: Units,
+    ) -> Result<Layout<'a>, AllocError> {
+        let vertices = graph.order();
+        let strands = strands(alloc, graph.ends.pairs)?;
+        let far = distances(alloc, vertices, &strands)?;
+        let names = longest_vertex(alloc, &graph.ends.called, vertices)?;
+        let radius = (Units::of(vertices) * 5).max(Units(170));
+        let side = farthest(&far) + Units::of(names) * 9 + 10;
+        let tall = if vertices > FEW {
+            side
+        } else {
+            farthest(&far) + 24
+        };
+        let middle = Point {
+            x: MARGIN + side + radius,
+            y: from + tall + radius,
+        };
+        Ok(Layout {
+            graph,
+            arrangement,
+            strands,
+            places: places(alloc, vertices, &arrangement.order)?,
+            far,
+            circle: Circle {
+                middle,
+                places: vertices,
+            },
+            radius,
+            side,
+            tall,
+        })
+    }
+
+    /// Where the graph ends.
+    pub(crate) fn bottom(&self) -> Units {
+        self.circle.middle.y + self.radius + self.tall
+    }
+
+    /// How wide the graph is.
+    pub(crate) fn width(&self) -> Units {
+        (self.side + self.radius) * 2
+    }
+
+    /// Whether there are more vertices than their names have room for upright.
+    pub(crate) fn is_crowded(&self) -> bool {
+        self.graph.order() > FEW
+    }
+
+    // The place of a vertex.
+    fn place(&self, v: u32) -> usize {
+        self.places.get(v as usize).copied().unwrap_or(0)
+    }
+
+    // The point so far outside the circle, at a vertex.
+    fn outside(&self, v: u32, distance: Units) -> Point {
+        self.circle.at(self.place(v), self.radius + distance)
+    }
+
+    /// Where a vertex stands.
+    pub(crate) fn point(&self, v: u32) -> Point {
+        self.outside(v, Units::ZERO)
+    }
+
+    /// Where the name of a vertex stands.
+    pub(crate) fn name_at(&self, v: u32) -> Point {
+        let far = self.far.get(v as usize).copied().unwrap_or(Units::ZERO);
+        self.outside(v, far)
+    }
+
+    /// Where the far side of a loop is, by its place among the loops of its vertex, and how wide it is.
+    pub(crate) fn loop_end(&self, strand: &Strand) -> (Point, Units) {
+        let radius = Units::of(strand.place) * 3 + 10;
+        (self.outside(strand.tail, radius * 2), radius)
+    }
+
+    // Where the label of a loop stands.
+    fn loop_label(&self, strand: &Strand) -> Point {
+        self.outside(strand.tail, Units::of(strand.place) * 6 + 20)
+    }
+
+    /// How an edge runs that is no loop: edges beside one another bend away from each other.
+    pub(crate) fn bend(&self, strand: &Strand) -> Bend {
+        let (first, second) = if self.place(strand.tail) < self.place(strand.head) {
+            (strand.tail, strand.head)
+        } else {
+            (strand.head, strand.tail)
+        };
+        let from = self.point(first);
+        let to = self.point(second);
+        let across = to.x - from.x;
+        let down = to.y - from.y;
+        let length = (across * across + down * down).root().max(Units(1));
+        let apart = Units::of((140 / strand.count.max(1)).clamp(2, 14));
+        let aside = (Units::of(strand.place) * 2 - (Units::of(strand.count) - 1)) * apart;
+        let by = Point {
+            x: (from.x + to.x).half() - (down * aside).over(length),
+            y: (from.y + to.y).half() + (across * aside).over(length),
+        };
+        Bend { from, by, to }
+    }
+
+    /// Where the label of an edge stands: those of edges beside one another at different parts of the way.
+    pub(crate) fn label_at(&self, strand: &Strand) -> Point {
+        if strand.is_loop() {
+            return self.loop_label(strand);
+        }
+        let others = Units::of(strand.count) - 1;
+        let (part, parts) = if others > Units::ZERO {
+            (others * 3 + Units::of(strand.place) * 4, others * 10)
+        } else if self.graph.order() > 6 {
+            (Units(2), Units(5))
+        } else {
+            (Units(1), Units(4))
+        };
+        self.bend(strand).along(part, parts)
+    }
+}

@@ -1,0 +1,106 @@
+//! Forests of edges of different colours.
+
+use crate::arrangement::{Arrangement, Group, Style};
+use crate::graph::Graph;
+use crate::groups::{grouped, vertices_of};
+use crate::walk::walk;
+use mat_sets::ElemSet;
+use mat_text::{Noun, Text, many, numbers_of};
+use std::alloc::{AllocError, Global};
+
+// Whether all edges of a colour are in the set.
+fn are_all_in(colour_of: &[u32], colour: u32, set: &ElemSet) -> bool {
+    let mut edges = colour_of.iter().zip(0..u32::MAX);
+    edges.all(|(other, e)| *other != colour || set.contains(e))
+}
+
+// Two styles for each colour: thin for its edges outside the set, and thick for those in it.
+fn styles(
+    alloc: Global,
+    colours: &ElemSet,
+    colour_of: &[u32],
+    set: &ElemSet,
+) -> Result<Vec<Style>, AllocError> {
+    let mut styles = Vec::new(alloc);
+    for colour in colours.as_slice() {
+        let number = *colour as usize;
+        let words = format!(in alloc; "colour {colour}")?;
+        styles.push(Style::numbered(number, 1, words))?;
+        let words = if are_all_in(colour_of, *colour, set) {
+            format!(in alloc; "colour {colour}")?
+        } else {
+            String::new(alloc)
+        };
+        styles.push(Style::numbered(number, 5, words))?;
+    }
+    Ok(styles)
+}
+
+// The number of each edge's style.
+fn style_of(
+    alloc: Global,
+    colours: &ElemSet,
+    colour_of: &[u32],
+    set: &ElemSet,
+) -> Result<Vec<usize>, AllocError> {
+    let mut style_of = Vec::new(alloc);
+    for (colour, e) in colour_of.iter().zip(0..u32::MAX) {
+        let before = colours
+            .as_slice()
+            .iter()
+            .take_while(|other| *other < colour);
+        let thin = before.count().saturating_mul(2);
+        let thick = if set.contains(e) { 1 } else { 0 };
+        style_of.push(thin.saturating_add(thick))?;
+    }
+    Ok(style_of)
+}
+
+// The notes on the best set, and where some colours join too little on the groups that are left without them.
+fn notes(
+    alloc: Global,
+    best: &ElemSet,
+    groups: &[Group],
+    missing: &Option<ElemSet>,
+) -> Result<Text, AllocError> {
+    let mut notes = Text::new(alloc);
+    if !best.is_empty() {
+        notes.say("Thick: the edges of the best set.")?;
+    }
+    if let Some(missing) = missing {
+        let numbers = numbers_of(alloc, missing)?;
+        notes.say(format_args!(
+            "Shaded: the {} that are left without the edges of {}:{numbers}",
+            many(groups.len(), Noun::Group),
+            many(missing.len(), Noun::Colour)
+        ))?;
+    }
+    Ok(notes)
+}
+
+/// How a best set of edges of different colours is drawn: along it from the first vertex on, or where it joins too little by the groups that
+/// are left without some colours. The only error is want of memory.
+pub(crate) fn arranged_rainbow(
+    alloc: Global,
+    graph: &Graph<'_>,
+    colour_of: &[u32],
+    best: &ElemSet,
+    missing: &Option<ElemSet>,
+    left: &[ElemSet],
+) -> Result<Arrangement, AllocError> {
+    let colours = ElemSet::from_members(alloc, colour_of)?;
+    let groups = grouped(alloc, left)?;
+    let order = match missing {
+        Some(_) => vertices_of(alloc, &groups)?,
+        None => walk(alloc, graph.vertices, graph.ends.pairs, best, 0)?,
+    };
+    Ok(Arrangement {
+        order,
+        styles: styles(alloc, &colours, colour_of, best)?,
+        style_of: style_of(alloc, &colours, colour_of, best)?,
+        marked: None,
+        is_priced: true,
+        notes: notes(alloc, best, &groups, missing)?,
+        groups,
+    })
+}

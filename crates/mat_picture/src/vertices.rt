@@ -1,0 +1,121 @@
+//! The vertices of a graph that is drawn, with their names, and the groups that are shaded.
+
+use crate::arrangement::Group;
+use crate::layout::Layout;
+use mat_drawing::{Anchor, Attribute, Colour, Drawing, Shape, Units, polyline, sine};
+use std::alloc::AllocError;
+
+// Shades a group: its vertices, in their order, and what is between them.
+fn draw_group(drawing: &mut Drawing, layout: &Layout<'_>, group: &Group) -> Result<(), AllocError> {
+    let mut points = Vec::new(drawing.alloc());
+    for v in &layout.arrangement.order {
+        if group.vertices.contains(*v) {
+            points.push(layout.point(*v))?;
+        }
+    }
+    let around = polyline(drawing.alloc(), &points)?;
+    let pale = Colour::pale(group.colour);
+    drawing.path(
+        format_args!("{around} Z"),
+        &[
+            Attribute::Fill(pale),
+            Attribute::Stroke(pale),
+            Attribute::StrokeWidth(Units(30)),
+            Attribute::RoundJoins,
+            Attribute::RoundEnds,
+        ],
+    )
+}
+
+/// Shades the groups. The only error is want of memory.
+pub(crate) fn draw_groups(drawing: &mut Drawing, layout: &Layout<'_>) -> Result<(), AllocError> {
+    for group in &layout.arrangement.groups {
+        draw_group(drawing, layout, group)?;
+    }
+    Ok(())
+}
+
+// Draws a vertex.
+fn draw_vertex(drawing: &mut Drawing, layout: &Layout<'_>, v: u32) -> Result<(), AllocError> {
+    let mut look = Vec::new(drawing.alloc());
+    if layout.arrangement.marked == Some(v) {
+        look.push(Attribute::Fill(Colour::BLACK))?;
+    }
+    let circle = Shape::Circle(layout.point(v), Units(6));
+    let name = layout.graph.ends.called.vertex(v as usize);
+    drawing.titled(circle, &look, name)
+}
+
+/// Draws the vertices. The only error is want of memory.
+pub(crate) fn draw_vertices(drawing: &mut Drawing, layout: &Layout<'_>) -> Result<(), AllocError> {
+    let mut circles = Drawing::new(drawing.alloc());
+    for v in &layout.arrangement.order {
+        draw_vertex(&mut circles, layout, *v)?;
+    }
+    let look = [
+        Attribute::Fill(Colour::WHITE),
+        Attribute::Stroke(Colour::BLACK),
+        Attribute::StrokeWidth(Units(2)),
+    ];
+    drawing.group(&look, &circles)
+}
+
+// Draws the name of the vertex at place i, upright.
+fn draw_name(
+    drawing: &mut Drawing,
+    layout: &Layout<'_>,
+    i: usize,
+    v: u32,
+) -> Result<(), AllocError> {
+    let count = layout.graph.order();
+    let name = layout.graph.ends.called.vertex(v as usize);
+    let at = layout.name_at(v);
+    let sine = sine(i, count);
+    let (lower, anchor) = if Units(-2000) < sine && sine < Units(2000) {
+        let turned = i.saturating_mul(4);
+        let is_low = count < turned && turned < count.saturating_mul(3);
+        (if is_low { 10 } else { 0 }, Anchor::Middle)
+    } else if sine > Units::ZERO {
+        (5, Anchor::Start)
+    } else {
+        (5, Anchor::End)
+    };
+    let look = [Attribute::FontSize(Units(14)), Attribute::Anchor(anchor)];
+    drawing.text(at.below(lower), name, &look)
+}
+
+// Draws the name of the vertex at place i of many, along the line from the middle.
+fn draw_turned_name(
+    drawing: &mut Drawing,
+    layout: &Layout<'_>,
+    i: usize,
+    v: u32,
+) -> Result<(), AllocError> {
+    let count = layout.graph.order();
+    let name = layout.graph.ends.called.vertex(v as usize);
+    let at = layout.name_at(v);
+    let turned = (Units::of(i) * 360).over(Units::of(count));
+    let (anchor, turn) = if i.saturating_mul(2) >= count {
+        (Anchor::End, turned + 90)
+    } else {
+        (Anchor::Start, turned - 90)
+    };
+    let look = [
+        Attribute::Lower(Units(4)),
+        Attribute::Anchor(anchor),
+        Attribute::Turned(turn, at),
+    ];
+    drawing.text(at, name, &look)
+}
+
+/// Draws the names of the vertices. The only error is want of memory.
+pub(crate) fn draw_names(drawing: &mut Drawing, layout: &Layout<'_>) -> Result<(), AllocError> {
+    for (i, v) in layout.arrangement.order.iter().enumerate() {
+        if layout.is_crowded() {
+            draw_turned_name(drawing, layout, i, *v)?;
+        } else {
+            draw_name(drawing, layout, i, *v)?;
+        }
+    }
+    Ok(())
+}
