@@ -48,6 +48,9 @@ usage: matbench show FILE                        any form: its canonical text
                                                  in one line
        matbench batch [--workers W] LIST         the answers to the jobs of a list, one after the
                                                  other
+       matbench --tell FILE CERT                 the answer of a right certificate in words, and why
+                                                 none is better
+       matbench --picture FILE CERT              the answer of a right certificate as an SVG picture
        matbench --help                           this text
        matbench --version                        the version
 
@@ -57,8 +60,8 @@ is read once: a second - is empty. What a command gives is written to standard o
 --workers W are two words right behind the command, W from 1 to 16 (not --workers=4): so many
 workers compute the answer side by side, where there is enough to do; without the option there is
 one. Right behind a command --workers is always the option, and names no file; show, convert, cuts,
-witness and verify take none. --help and --version stand alone: in intersect --help the second word
-names a file.
+witness and verify take none. --tell and --picture stand before two names, and --help and --version
+stand alone: in intersect --help the second word names a file.
 
 K is from 1 to 64, RUNG from 0 to 500. KIND is pair, list, graph, rooted or table, SIZE from 1 to
 500, and SEED from 1 to 2147483646.

@@ -1,9 +1,10 @@
-//! The program `matbench`: the top call over the real files and streams.
+//! The program `matbench`: the top call, and reports, over the real files and streams.
 #![tactic(auto)]
 
 mod help;
 
 use crate::help::{HELP, VERSION};
+use mat_report::{AsPicture, InWords, report};
 use mat_shelf::{FileShelf, StreamSink};
 use mat_top::{Status, run};
 use std::alloc::AllocError;
@@ -46,6 +47,17 @@ fn text_of(words: &[String]) -> Option<&'static str> {
     }
 }
 
+// The names of a description and of a certificate, where they stand behind this word and there are no other words.
+fn names_behind<'a>(word: &str, words: &'a [String]) -> Option<(&'a str, &'a str)> {
+    let [first, description, certificate] = words else {
+        return None;
+    };
+    if first.as_str() != word {
+        return None;
+    }
+    Some((description.as_str(), certificate.as_str()))
+}
+
 fn main(rt: HostRuntime) -> ExitCode {
     let Ok(words) = words_of(&rt) else {
         let _ = rt.stderr().write_all(b"refused: memory\n");
@@ -54,10 +66,35 @@ fn main(rt: HostRuntime) -> ExitCode {
     if let Some(text) = text_of(&words) {
         return print_text(&rt, text);
     }
+    let alloc = rt.alloc();
     let mut files = FileShelf::new(&rt);
     let mut out = StreamSink::new(rt.stdout());
     let mut notes = StreamSink::new(rt.stderr());
-    let status = run(&rt, rt.alloc(), &words, &mut files, &mut out, &mut notes);
+    let status = if let Some((description, certificate)) = names_behind("--tell", &words) {
+        report(
+            &InWords,
+            &rt,
+            alloc,
+            description,
+            certificate,
+            &mut files,
+            &mut out,
+            &mut notes,
+        )
+    } else if let Some((description, certificate)) = names_behind("--picture", &words) {
+        report(
+            &AsPicture,
+            &rt,
+            alloc,
+            description,
+            certificate,
+            &mut files,
+            &mut out,
+            &mut notes,
+        )
+    } else {
+        run(&rt, alloc, &words, &mut files, &mut out, &mut notes)
+    };
     ExitCode::from(status.number())
 }
 
@@ -67,12 +104,16 @@ mod tests {
     use std::alloc::Global;
     use std::test::Fail;
 
-    fn text_for(alloc: Global, words: &[&str]) -> Result<Option<&'static str>, AllocError> {
+    fn words_in(alloc: Global, words: &[&str]) -> Result<Vec<String>, AllocError> {
         let mut all = Vec::new(alloc);
         for word in words {
             all.push(String::from_str(alloc, word)?)?;
         }
-        Ok(text_of(&all))
+        Ok(all)
+    }
+
+    fn text_for(alloc: Global, words: &[&str]) -> Result<Option<&'static str>, AllocError> {
+        Ok(text_of(&words_in(alloc, words)?))
     }
 
     #[test]
@@ -104,6 +145,8 @@ mod tests {
             "matbench verify RUNG FILE CERT WIT",
             "matbench sample [--workers W] KIND SIZE SEED",
             "matbench batch [--workers W] LIST",
+            "matbench --tell FILE CERT",
+            "matbench --picture FILE CERT",
             "matbench --help",
             "matbench --version",
             "\n    0  done\n    1  the certificate is not right",
@@ -131,6 +174,29 @@ mod tests {
         ];
         for words in lines {
             assert!(rt; text_for(rt.alloc(), words)?.is_none());
+        }
+        Ok(())
+    }
+
+    #[test]
+    fn three_words_name_what_is_told(rt: HostRuntime) -> Result<(), Fail> {
+        let words = words_in(rt.alloc(), &["--tell", "plan.txt", "-"])?;
+        assert_eq!(rt; names_behind("--tell", &words), Some(("plan.txt", "-")));
+        assert_eq!(rt; names_behind("--picture", &words), None);
+        Ok(())
+    }
+
+    #[test]
+    fn other_words_name_nothing(rt: HostRuntime) -> Result<(), Fail> {
+        let lines: [&[&str]; 5] = [
+            &["--tell"],
+            &["--tell", "plan.txt"],
+            &["--tell", "plan.txt", "plan.cert", "-"],
+            &["tell", "plan.txt", "plan.cert"],
+            &["check", "--tell", "plan.cert"],
+        ];
+        for words in lines {
+            assert!(rt; names_behind("--tell", &words_in(rt.alloc(), words)?).is_none());
         }
         Ok(())
     }

@@ -1,0 +1,2 @@
+mod ReportTexts
+mod ReportEnding

@@ -1,0 +1,4 @@
+pub mod Reports
+pub mod ReportEnds
+pub mod TellsInWords
+pub mod Pictures

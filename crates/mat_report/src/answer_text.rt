@@ -1,0 +1,28 @@
+//! What is written of a right answer.
+
+ghost use Rattle.std.specs.Prelude.{ℕ, List, IfOk};
+ghost use Rattle.mat_cert.specs.Certificates.{Certificate, IsRanged};
+ghost use Rattle.mat_cert.specs.Views.{certificate_of};
+ghost use Rattle.mat_check.specs.Right.{IsRight};
+ghost use Rattle.mat_desc.specs.Grammar.{IsValid};
+ghost use Rattle.mat_desc.specs.Notations.{NamedInstance};
+ghost use Rattle.mat_desc.specs.Soundness.{IsSoundInstance};
+ghost use Rattle.mat_desc.specs.Views.{instance_of, named_instance};
+
+use mat_cert::Answer;
+use mat_desc::Named;
+use std::alloc::{AllocError, Global};
+
+/// A way to write of right answers.
+pub trait AnswerText {
+    /// What the text is for the problem with its names and for its answer.
+    ghost says: { NamedInstance → Certificate → List ℕ → Type 0 };
+
+    /// The text of a right answer. The only error is want of memory.
+    fn text(&self, alloc: Global, named: &Named, answer: &Answer) -> Result<Vec<u8>, AllocError>
+        requires valid { IsValid (instance_of named.now.problem) }
+        requires sound { IsSoundInstance (instance_of named.now.problem) }
+        requires ranged { IsRanged (certificate_of answer.now) }
+        requires right { IsRight (instance_of named.now.problem) (certificate_of answer.now) }
+        ensures { IfOk result (λ text. says (named_instance named.now) (certificate_of answer.now) text.items) };
+}
