@@ -23,8 +23,8 @@ typedef struct {
     size_t length;
 } matbench_buffer;
 
-/* Each answer, certificate, witness and canonical text that a call can write has room in so many bytes, but for the output of batch, which
- * has room in 32 times as many. */
+/* Each answer, certificate, witness, picture and canonical text that a call can write has room in so many bytes, but for the output of batch,
+ * which has room in 32 times as many. */
 #define MATBENCH_ROOM 67108864
 
 /* What a call answers: the exit status of the program (matbench --help), or MATBENCH_NO_CALL. */

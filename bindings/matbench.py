@@ -5,6 +5,7 @@
     answer = matbench.intersect(text)     # the text of a description, a path to one, or a Description
     answer.best.weight                    # what the heaviest set gains
     answer.best.members                   # its elements: names where the description has them, else numbers from 0
+    answer.told()                         # the answer in words, and why there is none better; answer.picture() has it as an SVG
     matbench.check(text, answer)          # whether the answer is right; true where it is
 
 There is a function for each command of the program, which answers a dataclass, and an exception for each way in which it refuses.
@@ -22,6 +23,7 @@ import dataclasses
 import functools
 import mmap
 import os
+import re
 from collections.abc import Callable, Hashable, Iterable, Mapping, Sequence
 from dataclasses import dataclass
 
@@ -279,9 +281,22 @@ def _labels(labels: Sequence[Hashable] | None, numbers: Iterable[str]) -> tuple:
 
 @dataclass(frozen=True)
 class Answer:
-    """An answer. `certificate` is its text as the program writes it."""
+    """An answer. `certificate` is its text as the program writes it, `problem` what it is an answer to. A notebook shows its picture."""
 
     certificate: str = dataclasses.field(repr=False)
+    problem: Description = dataclasses.field(repr=False, compare=False)
+
+    def told(self) -> str:
+        """The answer in words, as the function tell has it."""
+        return tell(self.problem, self)
+
+    def picture(self) -> str:
+        """The answer as an SVG, as the function picture has it."""
+        return picture(self.problem, self)
+
+    def _repr_svg_(self) -> str | None:
+        """What a notebook shows: the picture, or None where there is none."""
+        return self.picture()
 
 
 @dataclass(frozen=True)
@@ -390,12 +405,15 @@ class Price:
 @dataclass(frozen=True)
 class PricedArborescence(Answer):
     """The answer of cuts: arcs of least cost along which the root reaches every vertex, and prices that add up to it; or `unreached`, vertices
-    that no arc enters, and then all else is None."""
+    that no arc enters, and then all else is None. It cannot be checked, told or drawn."""
 
     cost: int | None
     arcs: tuple | None
     prices: tuple[Price, ...] | None
     unreached: tuple | None
+
+    def _repr_svg_(self) -> None:
+        return None
 
 
 @dataclass(frozen=True)
@@ -445,49 +463,49 @@ def _ladder(text: _Lines) -> Ladder:
         halves = (firsts[size], seconds[size]) if firsts else ((), ())
         rungs.append(Rung(size, _weight(weight), members, *halves))
     colours = [_labels(text.problem.colours, rest) for rest in text.all("colours")]
-    return Ladder(text.certificate, tuple(rungs), text.first_of(text.elements("cut")), colours[0] if colours else None)
+    return Ladder(text.certificate, text.problem, tuple(rungs), text.first_of(text.elements("cut")), colours[0] if colours else None)
 
 
 def _union(text: _Lines) -> Union:
     levels = tuple(Level(_weight(weight), _labels(text.problem.elements, cut)) for weight, *cut in text.all("level"))
-    return Union(text.certificate, _weight(text.header[3]), text.elements("part"), levels)
+    return Union(text.certificate, text.problem, _weight(text.header[3]), text.elements("part"), levels)
 
 
 def _packing(text: _Lines) -> Packing:
     is_any = text.header[1] == "any"
-    return Packing(text.certificate, None if is_any else text.elements("base"), text.first_of(text.elements("cut")))
+    return Packing(text.certificate, text.problem, None if is_any else text.elements("base"), text.first_of(text.elements("cut")))
 
 
 def _covering(text: _Lines) -> Covering:
     if text.header[1] == "never":
-        return Covering(text.certificate, None, None, _labels(text.problem.elements, text.header[2:]))
-    return Covering(text.certificate, text.elements("part"), text.first_of(text.elements("cut")), ())
+        return Covering(text.certificate, text.problem, None, None, _labels(text.problem.elements, text.header[2:]))
+    return Covering(text.certificate, text.problem, text.elements("part"), text.first_of(text.elements("cut")), ())
 
 
 def _trees(text: _Lines) -> Trees:
     if "none" in text.header:
-        return Trees(text.certificate, None, text.vertices("class"))
-    return Trees(text.certificate, text.elements("tree"), None)
+        return Trees(text.certificate, text.problem, None, text.vertices("class"))
+    return Trees(text.certificate, text.problem, text.elements("tree"), None)
 
 
 def _arborescence(text: _Lines) -> Arborescence:
     if text.header[1] == "unreached":
-        return Arborescence(text.certificate, None, None, None, None, text.vertices("vertices")[0])
+        return Arborescence(text.certificate, text.problem, None, None, None, None, text.vertices("vertices")[0])
     halves = text.split("first")[0], text.split("second")[0]
-    return Arborescence(text.certificate, _weight(text.header[2]), text.elements("set")[0], *halves, None)
+    return Arborescence(text.certificate, text.problem, _weight(text.header[2]), text.elements("set")[0], *halves, None)
 
 
 def _disjoint(text: _Lines) -> DisjointArborescences:
     if "none" in text.header:
-        return DisjointArborescences(text.certificate, None, text.vertices("vertices")[0])
-    return DisjointArborescences(text.certificate, text.elements("tree"), None)
+        return DisjointArborescences(text.certificate, text.problem, None, text.vertices("vertices")[0])
+    return DisjointArborescences(text.certificate, text.problem, text.elements("tree"), None)
 
 
 def _priced(text: _Lines) -> PricedArborescence:
     if text.header[1] == "unreached":
-        return PricedArborescence(text.certificate, None, None, None, text.vertices("vertices")[0])
+        return PricedArborescence(text.certificate, text.problem, None, None, None, text.vertices("vertices")[0])
     prices = tuple(Price(int(price), _labels(text.problem.vertices, vertices)) for price, *vertices in text.all("cut"))
-    return PricedArborescence(text.certificate, int(text.header[1]), text.elements("set")[0], prices, None)
+    return PricedArborescence(text.certificate, text.problem, int(text.header[1]), text.elements("set")[0], prices, None)
 
 
 _READERS: dict[str, Callable[[_Lines], Answer]] = {
@@ -609,6 +627,23 @@ def check(problem: Problem, answer: Answer | str | bytes | os.PathLike, workers:
     return _verdict(call(_words("check", workers, "f", "c"), files))
 
 
+def _shown(word: str, problem: Problem, answer: Answer | str | bytes | os.PathLike) -> str:
+    """What the program writes of a right answer for this word."""
+    return _done(call([word, "f", "c"], {"f": Description.of(problem).text, "c": _certificate(answer)}))
+
+
+def tell(problem: Problem, answer: Answer | str | bytes | os.PathLike) -> str:
+    """A right answer of any command but cuts in words, in the names of the description, and why there is none better. Its lines are for people
+    and may change. Raises NotRight where the answer is not right."""
+    return _shown("--tell", problem, answer)
+
+
+def picture(problem: Problem, answer: Answer | str | bytes | os.PathLike) -> str:
+    """A right answer of any command but cuts as a picture, the text of an SVG that needs no other file. Raises NotRight where the answer is not
+    right."""
+    return _shown("--picture", problem, answer)
+
+
 def witness(problem: Problem, answer: Answer | str | bytes | os.PathLike, rung: int) -> str:
     """The text of a witness, which shows without a search that a rung of a right answer of intersect is best. Raises NotRight where the answer
     is not right."""
@@ -636,7 +671,8 @@ def version() -> str:
 #
 # A graph is one of networkx, or whatever else has nodes, edges(data=True), is_directed() and is_multigraph() as these have. Its edges are
 # the elements, in the order of graph.edges, and stand in answers as the tuples that networkx has for them: (u, v), or (u, v, key) in a
-# multigraph. Its nodes are the vertices. A description has up to 500 of each.
+# multigraph. Its nodes are the vertices. A description has up to 500 of each. In words and pictures a node has its own word for a name, and an
+# edge those of its tuple, with - between them, where these are different words of at most 32 characters of ASCII, and else a letter and a number.
 
 
 def _edges(graph) -> tuple[list[tuple], list[tuple[int, int]], list[dict]]:
@@ -644,6 +680,17 @@ def _edges(graph) -> tuple[list[tuple], list[tuple[int, int]], list[dict]]:
     number = {node: place for place, node in enumerate(graph.nodes)}
     found = list(graph.edges(keys=True, data=True) if graph.is_multigraph() else graph.edges(data=True))
     return [tuple(it[:-1]) for it in found], [(number[it[0]], number[it[1]]) for it in found], [it[-1] for it in found]
+
+
+def _names(letter: str, words: Iterable[str]) -> list[str]:
+    """Names for things: these words, with _ for a space, where they are names and all different, else a letter and their numbers."""
+    found = [word.replace(" ", "_") for word in words]
+    are_names = all(len(word) <= 32 and re.fullmatch("[!-~]+", word) for word in found) and len(set(found)) == len(found)
+    return found if are_names else [f"{letter}{place}" for place in range(len(found))]
+
+
+def _vertex_names(graph) -> list[str]:
+    return _names("v", map(str, graph.nodes))
 
 
 def _spelling(weight: Weight | int) -> str:
@@ -656,8 +703,10 @@ def _spelling(weight: Weight | int) -> str:
     return str(number)
 
 
-def _description(lines: Iterable[str], edges: Sequence, nodes: Sequence, colours: Sequence | None = None) -> Description:
-    return Description("\n".join(["matroids 1", *lines, "end", ""]).encode(), edges, nodes, colours)
+def _description(form: str, lines: Iterable[str], edges: Sequence, nodes: Sequence, colours: Sequence | None = None) -> Description:
+    """A description with names: its form line, and the lines behind the names of the elements."""
+    elements = " ".join(["elements", *_names("e", ("-".join(map(str, edge)) for edge in edges))])
+    return Description("\n".join(["matroids 2", form, elements, *lines, "end", ""]).encode(), edges, nodes, colours)
 
 
 def _hold_to(graph, is_directed: bool) -> None:
@@ -669,8 +718,9 @@ def graph_description(graph) -> Description:
     """The `graph V E` of an undirected graph, for trees."""
     _hold_to(graph, False)
     edges, ends, _ = _edges(graph)
-    lines = [f"graph {len(graph.nodes)} {len(edges)}", *(f"edge {u} {v}" for u, v in ends)]
-    return _description(lines, edges, list(graph.nodes))
+    names = _vertex_names(graph)
+    lines = [" ".join(["vertices", *names]), *(f"edge {names[u]} {names[v]}" for u, v in ends)]
+    return _description(f"graph {len(names)} {len(edges)}", lines, edges, list(graph.nodes))
 
 
 def rooted_description(graph, root: Hashable, cost: str = "weight") -> Description:
@@ -678,9 +728,10 @@ def rooted_description(graph, root: Hashable, cost: str = "weight") -> Descripti
     none."""
     _hold_to(graph, True)
     edges, ends, data = _edges(graph)
-    nodes = list(graph.nodes)
-    arcs = [f"arc {u} {v} {_spelling(it.get(cost, 1))}" for (u, v), it in zip(ends, data)]
-    return _description([f"rooted {len(nodes)} {len(edges)} {nodes.index(root)}", *arcs], edges, nodes)
+    nodes, names = list(graph.nodes), _vertex_names(graph)
+    arcs = [f"arc {names[u]} {names[v]} {_spelling(it.get(cost, 1))}" for (u, v), it in zip(ends, data)]
+    lines = [" ".join(["vertices", *names]), f"root {names[nodes.index(root)]}", *arcs]
+    return _description(f"rooted {len(nodes)} {len(edges)}", lines, edges, nodes)
 
 
 def coloured_description(graph, colour: str = "colour", weight: str = "weight") -> Description:
@@ -688,9 +739,10 @@ def coloured_description(graph, colour: str = "colour", weight: str = "weight") 
     anything, and an edge without a weight weighs 1."""
     _hold_to(graph, False)
     edges, ends, data = _edges(graph)
-    colours = list(dict.fromkeys(it[colour] for it in data))
-    lines = [f"edge {u} {v} {colours.index(it[colour])} {_spelling(it.get(weight, 1))}" for (u, v), it in zip(ends, data)]
-    return _description([f"coloured {len(graph.nodes)} {len(edges)} {len(colours)}", *lines], edges, list(graph.nodes), colours)
+    colours, names = list(dict.fromkeys(it[colour] for it in data)), _vertex_names(graph)
+    lines = [f"edge {names[u]} {names[v]} {colours.index(it[colour])} {_spelling(it.get(weight, 1))}" for (u, v), it in zip(ends, data)]
+    form = f"coloured {len(names)} {len(edges)} {len(colours)}"
+    return _description(form, [" ".join(["vertices", *names]), *lines], edges, list(graph.nodes), colours)
 
 
 def table_description(graph, rows: Iterable[Hashable], weight: str = "weight") -> Description:
@@ -706,7 +758,7 @@ def table_description(graph, rows: Iterable[Hashable], weight: str = "weight") -
         if at not in row or across not in column:
             raise ValueError(f"the edge of {u!r} and {v!r} does not join a row with a column")
         cells.append(f"cell {row[at]} {column[across]} {_spelling(it.get(weight, 1))}")
-    return _description([f"table {len(row)} {len(column)} {len(edges)}", *cells], edges, [])
+    return _description(f"table {len(row)} {len(column)} {len(edges)}", cells, edges, [])
 
 
 def forests_description(graph, weight: str = "weight") -> Description:
@@ -715,5 +767,5 @@ def forests_description(graph, weight: str = "weight") -> Description:
     _hold_to(graph, False)
     edges, ends, data = _edges(graph)
     weights = " ".join(["weights", *(_spelling(it.get(weight, 1)) for it in data)])
-    lines = [f"list {len(edges)} 1", weights, f"graphic {len(graph.nodes)}", *(f"edge {u} {v}" for u, v in ends)]
-    return _description(lines, edges, list(graph.nodes))
+    lines = [weights, f"graphic {len(graph.nodes)}", *(f"edge {u} {v}" for u, v in ends)]
+    return _description(f"list {len(edges)} 1", lines, edges, list(graph.nodes))

@@ -83,10 +83,20 @@ def solved(compared, name, text):
         wanted = compared.call(words, {"f": text})
         yield words, {"f": text}, wanted
         if wanted[0] == 0 and words[0] not in ("show", "convert", "cuts"):
-            words, files = ["check", "f", "c"], {"f": text, "c": wanted[1]}
-            verdict = compared.call(words, files)
+            files = {"f": text, "c": wanted[1]}
+            verdict = compared.call(["check", "f", "c"], files)
             compared.hold("yes", f"{name}, {command}", (0, b"yes\n", b""), verdict)
-            yield words, files, verdict
+            yield ["check", "f", "c"], files, verdict
+            yield from shown(compared, f"{name}, {command}", files)
+
+
+def shown(compared, what, files):
+    """The calls that tell and draw a right answer. The functions of the Python module give what the program writes."""
+    for word, function in (("--tell", matbench.tell), ("--picture", matbench.picture)):
+        words = [word, "f", "c"]
+        wanted = compared.call(words, files)
+        compared.hold(f"Python {word}", what, (0, wanted[1], b""), (wanted[0], function(files["f"], files["c"]).encode(), wanted[2]))
+        yield words, files, wanted
 
 
 RUN_ALL = """(async (calls) => {
@@ -106,8 +116,13 @@ def compare_page(compared, browser, calls):
             compared.hold("page", words, [wanted[0], wanted[1].decode(), wanted[2].decode().rstrip("\n")], given)
 
 
+#: The answer in words and the text of its picture, as they stand in the page.
+SHOWN = """[[...document.querySelectorAll("#words span")].map((it) => it.textContent + "\\n").join(""),
+  decodeURIComponent(document.querySelector("#picture img").src.replace(/^[^,]*,/, ""))]"""
+
+
 def compare_examples(compared, browser, way, answers):
-    """Chooses each example of the page that lies open, and solves and checks it by its buttons."""
+    """Chooses each example of the page that lies open, and solves and checks it by its buttons. It is told and drawn after both."""
     examples = browser.run("[...document.querySelectorAll('#example option')].map((it) => [it.value, it.textContent]).filter((it) => it[0])")
     compared.hold(way, "how many examples there are", len(answers), len(examples))
     for value, title in examples:
@@ -119,8 +134,12 @@ def compare_examples(compared, browser, way, answers):
         wanted = compared.by_program([*f"{command} {count}".split(), "f"], {"f": answers[name]})
         compared.hold(way, title, (wanted[0], wanted[1].decode()), (0, browser.run("document.querySelector('#answer').value")))
         if command != "cuts":
+            files = {"f": answers[name], "c": wanted[1]}
+            told, drawn = (compared.by_program([word, "f", "c"], files)[1].decode() for word in ("--tell", "--picture"))
+            compared.hold(f"{way}, shown", title, [told, drawn], browser.run(SHOWN))
             pages.click_and_wait(browser, "#check")
             compared.hold(f"{way}, yes", title, "yes: the answer is right.", pages.state(browser)[:25])
+            compared.hold(f"{way}, shown", title, [told, drawn], browser.run(SHOWN))
 
 
 def main():

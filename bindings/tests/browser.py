@@ -18,8 +18,9 @@ class Browser:
         self.folder = tempfile.mkdtemp()
         to_browser, self.to = os.pipe()
         self.answers, from_browser = os.pipe()
-        words = [os.environ.get("CHROMIUM", "chromium"), "--headless=new", "--no-sandbox", "--disable-gpu", "--no-first-run", "--disable-extensions",
-                 "--disable-background-networking", f"--user-data-dir={self.folder}", "--remote-debugging-pipe", *flags, "about:blank"]
+        words = [os.environ.get("CHROMIUM", "chromium"), "--headless=new", "--no-sandbox", "--disable-gpu", "--hide-scrollbars", "--no-first-run",
+                 "--disable-extensions", "--disable-background-networking", f"--user-data-dir={self.folder}", "--remote-debugging-pipe", *flags,
+                 "about:blank"]
         # The protocol's pipes are the descriptors 3 and 4 of the browser.
         script = f'exec 8<&{to_browser} 9>&{from_browser} 3<&8 4>&9 8<&- 9>&-; exec "$@"'
         self.process = subprocess.Popen(["bash", "-c", script, "", *words], pass_fds=(to_browser, from_browser), stdin=subprocess.DEVNULL,

@@ -14,6 +14,7 @@ TOP = HERE.parent.parent
 sys.path[:0] = [str(HERE.parent), str(TOP / "bench")]
 
 import browser as browsers  # noqa: E402
+import matbench  # noqa: E402
 import pages  # noqa: E402
 
 PICTURES = pages.OUT / "pictures"
@@ -21,10 +22,16 @@ PEOPLE = (TOP / "examples" / "people.txt").read_text()
 CONTROL, ENTER, ESCAPE, TAB = 2, 13, 27, 9
 
 
-def long_problem():
-    """A problem that takes ten seconds or more: a union of 64 unions of 64 uniform matroids, against a partition."""
+#: A problem whose names have what markup is made of.
+MARKUP = "\n".join(["matroids 2", "rooted 3 3", 'elements a&b <script>x</script> "q"', "vertices A&B <img> &lt;", "root A&B", "arc A&B <img> 3",
+                    "arc <img> &lt; 2", "arc A&B &lt; 7", "end", ""])
+
+
+def long_problem(unions=64):
+    """A problem that takes ten seconds or more: a union of 64 unions of 64 uniform matroids, against a partition. With fewer unions it takes
+    less."""
     n = 500
-    unions = ["union 64", *(line for _ in range(64) for line in ("union 64", *["uniform 1"] * 64))]
+    unions = [f"union {unions}", *(line for _ in range(unions) for line in ("union 64", *["uniform 1"] * 64))]
     classes = ("class 1 " + " ".join(str(e) for e in range(first, n, 125)) for first in range(125))
     weights = "weights " + " ".join(str((7919 * e) % 1000) for e in range(n))
     return "\n".join(["matroids 1", f"pair {n}", weights, *unions, "partition 125", *classes, "end", ""])
@@ -61,6 +68,24 @@ class Page(unittest.TestCase):
     def solve(self):
         pages.click_and_wait(self.browser, "#solve")
 
+    def is_shown(self, *parts):
+        """Whether these parts of the page are shown, and of the others that show an answer none."""
+        shown = self.browser.run("['nothing', 'words', 'picture', 'names'].filter((it) => document.getElementById(it).checkVisibility())")
+        return shown == list(parts)
+
+    def wait_for_image(self):
+        self.browser.wait("(({complete, naturalWidth}) => complete && naturalWidth > 100)(document.querySelector('#picture img'))")
+
+    def saved(self, button, name):
+        """The bytes of the file of this name that a button saves."""
+        with tempfile.TemporaryDirectory() as folder:
+            self.browser.ask("Browser.setDownloadBehavior", behavior="allow", downloadPath=folder)
+            self.browser.run(f"document.querySelector('{button}').click()")
+            path, end = pathlib.Path(folder, name), time.monotonic() + browsers.LONGEST
+            while not path.exists() and time.monotonic() < end:
+                time.sleep(0.05)
+            return path.read_bytes()
+
     def picture(self, name):
         self.browser.picture(PICTURES / f"{name}.png")
 
@@ -68,14 +93,76 @@ class Page(unittest.TestCase):
 class Use(Page):
     """What a user does."""
 
-    def test_it_begins_with_an_example_and_tells_its_answer(self):
+    def test_it_begins_with_an_example_and_tells_and_draws_its_answer(self):
         self.assertEqual(self.text("#description"), PEOPLE)
+        self.assertTrue(self.is_shown("nothing"))
         self.solve()
         self.assertRegex(pages.state(self.browser), r"^Done in \d+ ms\.$")
-        self.assertIn("size 4250 3 4 6", self.text("#views"))
+        self.assertTrue(self.is_shown("words", "picture"))
+        self.assertIn("BEST: 4 elements, weight 25.", self.text("#words"))
+        self.assertEqual(self.browser.run("document.querySelector('#picture img').alt"),
+                         "The answer as a picture. BEST: 4 elements, weight 25. LARGEST: 5 elements, weight 23.")
+        self.wait_for_image()
+        self.picture("solved")
+        self.browser.ask("Emulation.setDeviceMetricsOverride", width=1900, height=1000, deviceScaleFactor=1, mobile=False)
+        self.picture("solved_wide")
+
+    def test_a_right_certificate_is_told_and_drawn(self):
+        self.write("#answer", matbench.intersect(PEOPLE).certificate)
         pages.click_and_wait(self.browser, "#check")
         self.assertRegex(pages.state(self.browser), r"^yes: the answer is right\. Judged in \d+ ms\.$")
-        self.picture("solved")
+        self.assertTrue(self.is_shown("words", "picture"))
+        self.wait_for_image()
+
+    def test_what_is_shown_belongs_to_both_texts(self):
+        for selector in ("#description", "#answer"):
+            self.write("#description", PEOPLE)
+            self.solve()
+            self.assertTrue(self.is_shown("words", "picture"))
+            self.write(selector, self.text(selector).replace("1", "2", 1))
+            self.assertTrue(self.is_shown("nothing"))
+        pages.click_and_wait(self.browser, "#check")
+        self.assertTrue(self.is_shown("nothing"))
+
+    def test_the_texts_of_show_and_convert_stand_alone(self):
+        for command in ("show", "convert"):
+            pages.choose(self.browser, "#command", command)
+            self.solve()
+            self.assertRegex(pages.state(self.browser), "^Done in")
+            self.assertTrue(self.is_shown("nothing"))
+            self.assertEqual(self.text("#answer-label"), "Text")
+        pages.choose(self.browser, "#command", "intersect")
+        self.solve()
+        self.assertEqual(self.text("#answer-label"), "Certificate")
+
+    def test_names_with_markup_are_shown_as_they_are(self):
+        self.write("#description", MARKUP)
+        pages.choose(self.browser, "#command", "arborescence")
+        elements = self.browser.run("document.querySelectorAll('script, img').length")
+        self.solve()
+        self.wait_for_image()
+        self.assertIn("a&b: A&B to <img>, cost 3", self.text("#words"))
+        drawn = self.saved("#save-picture", "arborescence.svg").decode()
+        self.assertEqual(drawn, matbench.arborescence(MARKUP).picture())
+        self.assertEqual(self.browser.run("document.querySelectorAll('script, img').length"), elements)
+        pages.choose(self.browser, "#command", "cuts")
+        self.solve()
+        self.assertIn("a&b <script>x</script>", self.text("#names tbody"))
+        self.assertEqual(self.browser.run("document.querySelectorAll('script, img').length"), elements)
+
+    def test_a_picture_runs_no_script_and_loads_nothing(self):
+        picture = """<svg xmlns="http://www.w3.org/2000/svg" width="200" height="100" onload="parent.ran = top.ran = window.ran = 1">
+            <script>parent.ran = top.ran = window.ran = 1</script><image href="/style.css?of=picture" width="9" height="9"/></svg>"""
+        self.solve()
+        self.browser.run(f"""import("./answer.mjs").then(({{ AnswerParts }}) => {{
+            const [nothing, words, picture, names] = ["nothing", "words", "picture", "names"].map((it) => document.getElementById(it));
+            new AnswerParts({{ nothing, words, picture, names }}).draw({json.dumps(picture)});
+        }})""")
+        self.browser.wait("document.querySelector('#picture img').naturalWidth === 200")
+        time.sleep(0.2)
+        self.assertTrue(self.browser.run("window.ran === undefined"))
+        loaded = self.browser.run("performance.getEntriesByType('resource').map((it) => it.name)")
+        self.assertEqual([it for it in loaded if "picture" in it], [])
 
     def test_there_is_an_example_of_each_form_with_its_command(self):
         found = self.browser.run("[...document.querySelectorAll('#example optgroup')].map((it) => it.label)")
@@ -92,12 +179,13 @@ class Use(Page):
             self.write("#description", f"matroids 1\n{line}\nend\n")
             self.assertEqual(self.browser.run(offered), [*wanted, "show", "convert"])
 
-    def test_names_stand_in_the_table(self):
+    def test_the_sets_of_cuts_have_names(self):
         self.write("#description", (TOP / "examples" / "towns.txt").read_text())
         pages.choose(self.browser, "#command", "cuts")
         self.solve()
-        self.assertIn("coast ridge pass", self.text("#views"))
-        self.assertRegex(self.text("#views"), "cut[0-9]+.*(Mill|Abbey|Quarry)")
+        self.assertTrue(self.is_shown("names"))
+        self.assertIn("coast ridge pass", self.text("#names"))
+        self.assertRegex(self.text("#names"), "cut[0-9]+.*(Mill|Abbey|Quarry)")
 
     def test_each_kind_of_limit_is_told(self):
         rows = self.browser.run("[...document.querySelectorAll('#limits tbody tr')].map((it) => it.textContent)")
@@ -143,6 +231,20 @@ class Use(Page):
         pages.click_and_wait(self.browser, "#check")
         self.assertEqual(pages.state(self.browser), "The answer is not right.")
         self.assertRegex(self.text("#answer-fault"), "^no sum 4 6: in rung K the two parts of the split do not add up")
+        self.assertTrue(self.is_shown("nothing"))
+
+    def test_a_reason_is_that_of_the_variant_of_the_answer(self):
+        path = "matroids 1\ngraph 3 2\nedge 0 1\nedge 1 2\nend\n"
+        apart = "matroids 1\nrooted 2 1 0\narc 1 0 1\nend\n"
+        for problem, certificate, wanted in (
+                (path, "answer trees 2 2\ntree 0 1\ntree 0 1\n", "no overlap 0 0: edge E stands in two trees; tree I is no spanning tree."),
+                (path, "answer trees 2 2 none 3 3\nclass 0\nclass 0 1\nclass 2\n", "no overlap 0 0: vertex V stands in two classes; class I is"),
+                (apart, "answer arborescence 1 unreached 2\nvertices 0\n", "no root 0 0: there are no vertices on the line; the root is"),
+                (apart, "answer disjoint 1 2 none 2\nvertices\n", "no empty 0 0: there are no vertices on the line; the root is")):
+            self.write("#description", problem)
+            self.write("#answer", f"certificate 1\n{certificate}end\n")
+            pages.click_and_wait(self.browser, "#check")
+            self.assertEqual(self.text("#answer-fault")[:len(wanted)], wanted)
 
     def test_a_long_run_is_timed_and_can_be_stopped(self):
         self.write("#description", long_problem())
@@ -156,6 +258,16 @@ class Use(Page):
         self.write("#description", PEOPLE)
         self.solve()
         self.assertRegex(pages.state(self.browser), "^Done in")
+
+    def test_telling_is_timed_and_can_be_stopped(self):
+        self.write("#description", long_problem(16))
+        self.browser.run("document.querySelector('#solve').click()")
+        self.browser.wait("/^Done in .* Telling it$/.test(document.querySelector('#state').textContent)")
+        self.browser.wait("/^[1-9][\\d.]* m?s$/.test(document.querySelector('#time').textContent)")
+        pages.click_and_wait(self.browser, "#stop")
+        self.assertRegex(pages.state(self.browser), r"^Done in [\d.]+ m?s\. Stopped after [\d.]+ m?s\.$")
+        self.assertTrue(self.text("#answer").startswith("certificate 1\nanswer intersect 500 "))
+        self.assertTrue(self.is_shown("nothing"))
 
     def test_files_are_taken_by_drop(self):
         self.browser.drop(TOP / "examples" / "posts.txt", "#description")
@@ -182,27 +294,22 @@ class Use(Page):
         self.browser.run("location.hash = '#what,ever,!'")
         self.browser.run("location.hash = '#trees,1,AAAA'")
 
-    def test_an_answer_is_saved_as_it_is(self):
+    def test_an_answer_and_its_picture_are_saved_as_they_are(self):
         self.solve()
-        with tempfile.TemporaryDirectory() as folder:
-            self.browser.ask("Browser.setDownloadBehavior", behavior="allow", downloadPath=folder)
-            self.browser.run("document.querySelector('#save-answer').click()")
-            path, end = pathlib.Path(folder, "intersect.answer"), time.monotonic() + browsers.LONGEST
-            while not path.exists() and time.monotonic() < end:
-                time.sleep(0.05)
-            self.assertEqual(path.read_text(), self.text("#answer"))
+        self.assertEqual(self.saved("#save-answer", "intersect.answer").decode(), self.text("#answer"))
+        self.assertEqual(self.saved("#save-picture", "intersect.svg").decode(), matbench.intersect(PEOPLE).picture())
 
     def test_the_keyboard_is_enough(self):
         self.browser.run("document.querySelector('#description').focus()")
         self.browser.press("Enter", ENTER, CONTROL)
-        self.browser.wait("document.querySelector('#state').textContent.startsWith('Done in')")
+        self.browser.wait("/^Done in \\d+ ms\\.$/.test(document.querySelector('#state').textContent)")
         self.browser.run("document.querySelector('#example').focus()")
         order = []
-        for _ in range(10):
+        for _ in range(12):
             self.browser.press("Tab", TAB)
-            order.append(self.browser.run("document.activeElement.id"))
-        self.assertEqual(order, ["command", "description", "solve", "open-description", "save-description", "link", "answer", "check",
-                                 "open-answer", "save-answer"])
+            order.append(self.browser.run("document.activeElement.id || document.activeElement.parentElement.id"))
+        self.assertEqual(order, ["command", "description", "solve", "open-description", "save-description", "link", "picture", "save-picture",
+                                 "answer", "check", "open-answer", "save-answer"])
         self.write("#description", long_problem())
         self.browser.run("document.querySelector('#solve').click()")
         self.browser.wait("document.querySelector('#time').textContent")
@@ -213,8 +320,11 @@ class Use(Page):
         self.solve()
         nodes = self.browser.ask("Accessibility.getFullAXTree")["nodes"]
         used = {(it["role"]["value"], it["name"]["value"]) for it in nodes if not it["ignored"] and "name" in it}
-        for role, name in (("combobox", "Example"), ("combobox", "Command"), ("textbox", "Description"), ("textbox", "Answer"), ("button", "Solve"),
-                           ("button", "Check"), ("button", "Copy a link"), ("heading", "matbench"), ("table", "The sets of the answer")):
+        result = "BEST: 4 elements, weight 25. LARGEST: 5 elements, weight 23."
+        for role, name in (("combobox", "Example"), ("combobox", "Command"), ("textbox", "Description"), ("textbox", "Certificate"),
+                           ("button", "Solve"), ("button", "Check"), ("button", "Copy a link"), ("button", "Save the picture"),
+                           ("heading", "matbench"), ("heading", "Description"), ("heading", "In words"), ("heading", "Picture"),
+                           ("heading", "Certificate"), ("image", f"The answer as a picture. {result}")):
             self.assertIn((role, name), used)
         controls = [it for it in nodes if not it["ignored"] and it["role"]["value"] in ("combobox", "textbox", "button", "spinbutton", "link")]
         self.assertEqual([it for it in controls if not it["name"]["value"]], [])
@@ -226,6 +336,10 @@ class Use(Page):
         self.assertEqual(self.browser.run(ground), "rgb(255, 255, 255)")
         self.browser.ask("Emulation.setEmulatedMedia", features=[{"name": "prefers-color-scheme", "value": "dark"}])
         self.assertEqual(self.browser.run(ground), "rgb(23, 24, 26)")
+        self.solve()
+        self.wait_for_image()
+        self.assertEqual(self.browser.run("getComputedStyle(document.querySelector('#picture .picture')).backgroundColor"), "rgb(255, 255, 255)")
+        self.picture("solved_dark")
         self.write("#description", PEOPLE.replace("class 1 7 8", "class 1 7 9"))
         self.solve()
         self.picture("dark")
@@ -233,10 +347,14 @@ class Use(Page):
 
     def test_it_fits_a_phone(self):
         self.browser.ask("Emulation.setDeviceMetricsOverride", width=360, height=740, deviceScaleFactor=2, mobile=True)
-        self.write("#description", (TOP / "examples" / "week.txt").read_text())
-        self.solve()
-        self.assertEqual(self.browser.run("document.documentElement.scrollWidth"), 360)
-        self.picture("phone")
+        for name in ("week", "owners"):
+            self.write("#description", (TOP / "examples" / f"{name}.txt").read_text())
+            self.solve()
+            self.wait_for_image()
+            self.assertEqual(self.browser.run("document.documentElement.scrollWidth"), 360)
+            narrow, natural = self.browser.run("(({width, naturalWidth}) => [width, naturalWidth])(document.querySelector('#picture img'))")
+            self.assertGreaterEqual(narrow, 2 / 3 * natural - 1)
+            self.picture(f"phone_{name}")
 
     def test_nothing_is_sent(self):
         self.solve()

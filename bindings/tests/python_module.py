@@ -5,6 +5,7 @@ import subprocess
 import sys
 import threading
 import unittest
+import xml.etree.ElementTree
 
 HERE = pathlib.Path(__file__).resolve().parent
 EXAMPLES = HERE.parent.parent / "examples"
@@ -97,6 +98,27 @@ class Answers(unittest.TestCase):
         verdict = matbench.verify(problem, answer, 4, wrong)
         self.assertEqual((bool(verdict), verdict.note), (False, "no witness 3 0"))
 
+    def test_an_answer_is_told_and_drawn(self):
+        for command, problem, result in ((matbench.intersect, EXAMPLES / "people.txt", "BEST: 4 elements, weight 25."),
+                                         (matbench.arborescence, TOWNS, "BEST: 3 arcs, cost 9."),
+                                         (lambda it: matbench.trees(it, 2), PATH, "NONE: it cannot be done.")):
+            with self.subTest(result=result):
+                answer = command(problem)
+                self.assertIn(f"\n{result}\n", answer.told())
+                self.assertIn(result, "".join(xml.etree.ElementTree.fromstring(answer.picture()).itertext()))
+                self.assertEqual((answer.told(), answer.picture()), (matbench.tell(problem, answer), matbench.picture(problem, answer.certificate)))
+                self.assertEqual(answer._repr_svg_(), answer.picture())
+        self.assertIsNone(matbench.cuts(TOWNS)._repr_svg_())
+
+    def test_names_with_markup_stand_in_both(self):
+        names = ["a&b", "<script>", '"q"', "&lt;", "]]>"]
+        problem = f"matroids 2\nlist 5 1\nelements {' '.join(names)}\nweights 5 4 3 2 1\nuniform 4\nend\n"
+        answer = matbench.best(problem)
+        texts = [it.text for it in xml.etree.ElementTree.fromstring(answer.picture()).iter() if it.text]
+        for name in names[:4]:
+            self.assertIn(name, texts)
+            self.assertIn(name, answer.told())
+
     def test_texts(self):
         self.assertEqual(matbench.show(PATH), PATH)
         self.assertIn("elements e0 e1\n", matbench.convert(PATH))
@@ -126,6 +148,27 @@ class Refusals(unittest.TestCase):
         self.assertEqual(verdict.note, "no sum 4 6")
         with self.assertRaises(matbench.NotRight):
             matbench.witness(EXAMPLES / "people.txt", EXAMPLES / "people_wrong.answer", 4)
+
+    def test_what_cannot_be_told_or_drawn_is_refused(self):
+        people = EXAMPLES / "people.txt"
+        for function in (matbench.tell, matbench.picture):
+            with self.subTest(function=function.__name__):
+                with self.assertRaises(matbench.NotRight) as found:
+                    function(people, EXAMPLES / "people_wrong.answer")
+                self.assertEqual(found.exception.note, "no sum 4 6")
+                with self.assertRaises(matbench.BadDescription):
+                    function("matroids 1\npair x\nend\n", matbench.intersect(people))
+                with self.assertRaises(matbench.WrongShape):
+                    function(TOWNS, matbench.intersect(people))
+                with self.assertRaises(matbench.BadCertificate):
+                    function(TOWNS, matbench.cuts(TOWNS))
+                with self.assertRaises(FileNotFoundError):
+                    function(people, pathlib.Path("nowhere"))
+        with self.assertRaises(matbench.BadCertificate):
+            matbench.cuts(TOWNS).told()
+        for word in ("--tell", "--picture"):
+            self.assertEqual(matbench.call([word, "f"], {"f": b""}).status, 2)
+            self.assertEqual(matbench.call([word, "f", "c"], {"f": PATH.encode()}).status, 5)
 
     def test_each_refusal_has_its_exception(self):
         people = EXAMPLES / "people.txt"
@@ -228,6 +271,29 @@ class Graphs(unittest.TestCase):
         answer = matbench.best(matbench.forests_description(graph))
         self.assertEqual(answer.best.weight, networkx.maximum_spanning_tree(graph).size(weight="weight"))
         self.assertEqual(len(matbench.pack(matbench.forests_description(graph)).bases), 3)
+
+    def test_nodes_have_their_names_in_words_and_pictures(self):
+        graph = networkx.DiGraph([("Harbour", "Old Mill"), ("Old Mill", "Abbey")])
+        answer = matbench.arborescence(matbench.rooted_description(graph, "Harbour"))
+        self.assertIn("\n  Harbour-Old_Mill: Harbour to Old_Mill, cost 1\n", answer.told())
+        self.assertIn(">Old_Mill</text>", answer.picture())
+        self.assertEqual(answer.arcs, (("Harbour", "Old Mill"), ("Old Mill", "Abbey")))
+
+    def test_what_is_no_name_is_a_number_in_words(self):
+        for nodes in (["a", "x" * 33], ["a", "\u00e9"], ["a", ""], [1, "1"]):
+            with self.subTest(nodes=nodes):
+                answer = matbench.trees(matbench.graph_description(networkx.Graph([nodes])), 1)
+                self.assertIn("(v0-v1)", answer.told())
+                self.assertEqual(answer.trees, ((tuple(nodes),),))
+
+    def test_a_graph_may_have_no_edges(self):
+        graph = networkx.Graph()
+        graph.add_nodes_from("ab")
+        self.assertEqual(matbench.trees(matbench.graph_description(graph), 1).classes, (("a",), ("b",)))
+        self.assertEqual(matbench.best(matbench.forests_description(graph)).best.members, ())
+        self.assertEqual(matbench.assign(matbench.table_description(graph, "a")).best.members, ())
+        self.assertEqual(matbench.rainbow(matbench.coloured_description(graph)).best.members, ())
+        self.assertEqual(matbench.arborescence(matbench.rooted_description(graph.to_directed(), "a")).unreached, ("b",))
 
     def test_what_does_not_fit_is_refused(self):
         graph = networkx.Graph()

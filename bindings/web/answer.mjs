@@ -1,5 +1,7 @@
-// What the page shows of an answer beside its certificate. VIEWS lists the views: each is a function of the description, the command and the
-// certificate that answers an element, or null where it has nothing to show, or a promise of one.
+// What the page shows of an answer beside its certificate: a right one in words and as a picture, and in names the sets of one that is not told.
+
+/** A picture that is wider than its box is made narrower, down to this part of its width. The rest is scrolled. */
+const NARROWEST = 2 / 3;
 
 /** The words behind the first word of the first line that begins with it, or null. */
 function wordsBehind(word, text) {
@@ -13,54 +15,81 @@ function namesOf(description) {
   return { elements: wordsBehind("elements", description), vertices: wordsBehind("vertices", description) };
 }
 
-/** The rows of the table of an answer: what a set is, its weight or price, and its members. */
-export function rowsOf(description, command, certificate) {
+/** The rows of the table of an answer to `cuts`: what a set is, its price, and its members. */
+function rowsOf(description, certificate) {
   const { elements, vertices } = namesOf(description);
   const named = (names, numbers) => numbers.map((it) => names?.[Number(it)] ?? it).join(" ");
   const rows = [];
-  const places = {};
-  let rung = null;
   for (const line of certificate.split("\n")) {
     const [word, ...rest] = line.split(" ");
-    if (word === "rung") {
-      rung = rest;
-    } else if (word === "set") {
-      rows.push([rung ? `size ${rung[0]}` : "set", rung ? rung[1] : "", named(elements, rest)]);
-    } else if (["part", "base", "tree"].includes(word)) {
-      places[word] = (places[word] ?? 0) + 1;
-      rows.push([`${word} ${places[word] - 1}`, "", named(elements, rest)]);
-    } else if (word === "class" || word === "vertices") {
-      rows.push([word, "", named(vertices, rest)]);
-    } else if (word === "cut" && command === "cuts") {
-      rows.push(["cut", rest[0], named(vertices, rest.slice(1))]);
-    } else if (word === "cut") {
-      rows.push(["cut", "", named(elements, rest)]);
-    }
+    if (word === "set") rows.push([word, "", named(elements, rest)]);
+    else if (word === "vertices") rows.push([word, "", named(vertices, rest)]);
+    else if (word === "cut") rows.push([word, rest[0], named(vertices, rest.slice(1))]);
   }
   return rows;
 }
 
-function rowOf(kind, cells) {
-  const row = document.createElement("tr");
-  for (const text of cells) {
-    const cell = document.createElement(kind);
-    if (kind === "th") cell.scope = "col";
-    cell.textContent = text;
-    row.append(cell);
+/** Which of the lines of a told answer say what was found, as one text. */
+function resultOf(lines) {
+  return lines.filter((line) => /^[A-Z]+: /.test(line)).join(" ");
+}
+
+/** A line of a told answer. Where it is longer than its box, it goes on below, indented by two more as the lines of the program are. */
+function toldLine(text) {
+  const line = Object.assign(document.createElement("span"), { textContent: text });
+  const places = text.search(/\S/) + 2;
+  line.style.paddingLeft = `${places}ch`;
+  line.style.textIndent = `-${places}ch`;
+  return line;
+}
+
+/** The parts of the page that show an answer, of which those are hidden that have nothing to show. */
+export class AnswerParts {
+  /** `nothing` says that no answer is shown; `words` has a `pre`, `picture` an `img`, and `names` the body of a table. */
+  constructor({ nothing, words, picture, names }) {
+    this.parts = { nothing, words, picture, names };
+    this.lines = [];
+    this.svg = "";
+    this.told = words.querySelector("pre");
+    this.image = picture.querySelector("img");
+    this.table = names.querySelector("tbody");
+    this.image.addEventListener("load", () => {
+      this.image.style.minWidth = `${this.image.naturalWidth * NARROWEST}px`;
+    });
   }
-  return row;
-}
 
-/** A table of the sets of an answer, in the names of the description. */
-function tableOfSets(description, command, certificate) {
-  const rows = rowsOf(description, command, certificate);
-  if (rows.length === 0) return null;
-  const table = document.createElement("table");
-  const [head, body] = [table.createTHead(), table.createTBody()];
-  table.createCaption().textContent = "The sets of the answer";
-  head.append(rowOf("th", ["", command === "cuts" ? "price" : "weight", "members"]));
-  body.append(...rows.map((cells) => rowOf("td", cells)));
-  return table;
-}
+  clear() {
+    for (const part of Object.values(this.parts)) part.hidden = true;
+    this.parts.nothing.hidden = false;
+  }
 
-export const VIEWS = [tableOfSets];
+  #show(part) {
+    part.hidden = false;
+    this.parts.nothing.hidden = true;
+  }
+
+  /** Shows an answer in words. */
+  tell(text) {
+    this.lines = text.trimEnd().split("\n");
+    this.told.replaceChildren(...this.lines.map(toldLine));
+    this.#show(this.parts.words);
+  }
+
+  /** Shows the picture of the answer that was told. In an image no script runs and nothing is loaded, whatever stands in the SVG. */
+  draw(svg) {
+    this.svg = svg;
+    this.image.alt = `The answer as a picture. ${resultOf(this.lines)}`;
+    this.image.src = `data:image/svg+xml,${encodeURIComponent(svg)}`;
+    this.#show(this.parts.picture);
+  }
+
+  /** Shows the sets of an answer to `cuts`, in the names of the description. */
+  name(description, certificate) {
+    this.table.replaceChildren();
+    for (const cells of rowsOf(description, certificate)) {
+      const row = this.table.insertRow();
+      for (const text of cells) row.insertCell().textContent = text;
+    }
+    this.#show(this.parts.names);
+  }
+}

@@ -60,13 +60,15 @@ def faults(formats):
 
 
 def reasons(formats):
-    """What each failed clause of an answer means: a row for each reason of a cell, with the commands of the answer, none where it is each."""
-    made, commands = [], []
-    for answer, notes, meaning in rows_below(formats, "### What is wrong with an answer"):
+    """What each failed clause of an answer means: a row for each reason of a cell, with words of the header of the answer, none where it is each,
+    and the word that the header has to have besides, or None."""
+    made, answers = [], []
+    for answer, notes, told in rows_below(formats, "### What is wrong with an answer"):
         if answer:
-            commands = re.findall(r"`([a-z]+)`", answer)
+            answers = re.findall(r"`([a-z]+)`", answer)
+        variant, meaning = re.fullmatch(r"(?:of `([a-z]+)`: )?(.*)", told).groups()
         for reason in dict.fromkeys(re.findall(r"`no ([a-z]+)", notes)):
-            made.append({"reason": reason, "commands": commands, "meaning": meaning})
+            made.append({"reason": reason, "answers": answers, "variant": variant, "meaning": meaning})
     return made
 
 

@@ -1,5 +1,5 @@
 // The page: what its elements do.
-import { VIEWS } from "./answer.mjs";
+import { AnswerParts } from "./answer.mjs";
 import { COMMANDS, EXAMPLES, FAULTS, LIMITS, REASONS } from "./data.mjs";
 import { fragmentOf, problemOf } from "./link.mjs";
 import { moduleOfProgram, Run } from "./run.mjs";
@@ -22,9 +22,15 @@ const STATUSES = {
 const at = (id) => document.getElementById(id);
 const description = new TextBox(at("description"), at("description-fault"), MOST_DESCRIPTION);
 const answer = new TextBox(at("answer"), at("answer-fault"), MOST_CERTIFICATE);
+const parts = new AnswerParts({ nothing: at("nothing"), words: at("words"), picture: at("picture"), names: at("names") });
+/** The runs that show a right answer: the first word of each, what is said of it, and what is done with what it writes. */
+const SHOWN = [
+  ["--tell", "Telling it", (text) => parts.tell(text)],
+  ["--picture", "Drawing it", (svg) => parts.draw(svg)],
+];
 let running = null;
-/** The answer of the page's own that stands in the box: its command, the text of its description, and its certificate. */
-let solved = null;
+/** The command that answered what stands in the box, or null where it came from elsewhere. */
+let answered = null;
 
 // --- What can be chosen ---
 
@@ -114,11 +120,12 @@ function showRefusal({ status, note }) {
   say(status === 1 ? "The answer is not right." : `Refused: ${note.replace("refused: ", "")}.`);
 }
 
-/** What the first failed clause of an answer means, behind a colon. */
+/** What the first failed clause of an answer means, behind a colon. The meaning of a variant is that of the answers with its word in the header. */
 function meaningOf(note) {
-  const [, command] = answer.text.split("\n", 2)[1]?.split(" ") ?? [];
+  const header = answer.text.split("\n", 2)[1]?.split(" ") ?? [];
   const [, reason] = note.split(" ");
-  const found = REASONS.find((it) => it.reason === reason && (it.commands.includes(command) || it.commands.length === 0));
+  const fitting = REASONS.filter((it) => it.reason === reason && (it.answers.length === 0 || it.answers.some((word) => header.includes(word))));
+  const found = fitting.find((it) => header.includes(it.variant)) ?? fitting.find((it) => it.variant === null);
   return found ? `: ${found.meaning}.` : "";
 }
 
@@ -127,21 +134,37 @@ function meaningOf(note) {
 /** Another text is no example, unless it is that of the one that is chosen. */
 function onDescription() {
   if (EXAMPLES[at("example").value]?.text !== description.text) at("example").value = "";
+  parts.clear();
   fillCommands();
 }
 
-/** Runs the program, and answers how it ended, or null where it was stopped or could not run. */
-async function run(words, files) {
+/** Whether a text is no certificate but a description, as those are that show and convert write. */
+function isDescription(text) {
+  return text.startsWith("matroids ");
+}
+
+function onAnswer() {
+  answered = null;
+  at("answer-label").textContent = isDescription(answer.text) ? "Text" : "Certificate";
+  parts.clear();
+}
+
+/**
+ * Runs the program, and answers how it ended, or null where it was stopped or could not run. While it runs the page says what it does, behind
+ * what was said of the run before.
+ */
+async function run(words, files, doing = "Running", before = "") {
   [description, answer].forEach((it) => it.clearFault());
   const mine = (running = new Run(words, files));
   setRunning(true);
+  say(before + doing);
   const clock = setInterval(() => (at("time").textContent = timeOf(mine.milliseconds)), 100);
   try {
     const ended = await mine.ended;
-    if (!ended) say(`Stopped after ${timeOf(mine.milliseconds)}.`);
+    if (!ended) say(`${before}Stopped after ${timeOf(mine.milliseconds)}.`);
     return ended;
   } catch (error) {
-    say(error.message === "memory" ? STATUSES[7] : error.message);
+    say(before + (error.message === "memory" ? STATUSES[7] : error.message));
     return null;
   } finally {
     clearInterval(clock);
@@ -151,7 +174,6 @@ async function run(words, files) {
 }
 
 function setRunning(isRunning) {
-  if (isRunning) say("Running");
   for (const id of ["solve", "check", "example"]) at(id).disabled = isRunning;
   for (const id of ["description", "answer"]) at(id).readOnly = isRunning;
   at("stop").disabled = !isRunning;
@@ -162,7 +184,7 @@ async function solve() {
   const [command, text] = [at("command").value, description.text];
   const { counted } = COMMANDS.find((it) => it.name === command);
   const words = counted ? [command, at("count").value, "description"] : [command, "description"];
-  clearViews();
+  parts.clear();
   const ended = await run(words, { description: text });
   if (!ended) return;
   if (ended.status !== 0) {
@@ -170,34 +192,43 @@ async function solve() {
     return;
   }
   answer.text = ended.output;
-  solved = { command, text, certificate: ended.output };
-  showViews(VIEWS);
-  say(`Done in ${timeOf(ended.milliseconds)}.`);
+  answered = command;
+  const said = `Done in ${timeOf(ended.milliseconds)}.`;
+  say(said);
+  if (command === "cuts") parts.name(text, ended.output);
+  else if (!isDescription(ended.output)) await showAnswer(said, { description: text, answer: ended.output });
 }
 
 async function check() {
-  const ended = await run(["check", "description", "answer"], { description: description.text, answer: answer.text });
+  const files = { description: description.text, answer: answer.text };
+  const ended = await run(["check", "description", "answer"], files);
   if (!ended) return;
   if (ended.status !== 0) showRefusal(ended);
-  else say(`${ended.output.trim()}: the answer is right. Judged in ${timeOf(ended.milliseconds)}.`);
+  else await showAnswer(`${ended.output.trim()}: the answer is right. Judged in ${timeOf(ended.milliseconds)}.`, files);
 }
 
-/** Shows no answer any more. */
-function clearViews() {
-  solved = null;
-  at("views").replaceChildren();
+/** Tells and draws a right answer, and says last what was said of it at first. */
+async function showAnswer(said, files) {
+  for (const [word, doing, show] of SHOWN) {
+    const ended = await run([word, "description", "answer"], files, doing, `${said} `);
+    if (!ended) return;
+    if (ended.status !== 0) {
+      say(`${said} ${STATUSES[ended.status] ?? ended.note}`);
+      return;
+    }
+    if (isInBoxes(files)) show(ended.output);
+  }
+  say(said);
 }
 
-/** Shows these views of the answer that was solved, unless another one has come meanwhile. */
-async function showViews(views) {
-  const of = solved;
-  const made = await Promise.all(views.map((view) => view(of.text, of.command, of.certificate)));
-  if (of === solved) at("views").replaceChildren(...made.filter((it) => it !== null));
+/** Whether these texts stand in the boxes: others may have been dropped there meanwhile. */
+function isInBoxes(files) {
+  return description.text === files.description && answer.text === files.answer;
 }
 
-function save(text, name) {
+function save(text, name, type = "text/plain") {
   const link = document.createElement("a");
-  link.href = URL.createObjectURL(new Blob([text], { type: "text/plain" }));
+  link.href = URL.createObjectURL(new Blob([text], { type }));
   link.download = name;
   link.click();
   setTimeout(() => URL.revokeObjectURL(link.href), 60_000);
@@ -249,11 +280,12 @@ function listen() {
   at("stop").addEventListener("click", () => running?.stop());
   at("link").addEventListener("click", copyLink);
   at("save-description").addEventListener("click", () => save(description.text, "description.txt"));
-  at("save-answer").addEventListener("click", () => save(answer.text, `${solved?.command ?? "answer"}.answer`));
+  at("save-answer").addEventListener("click", () => save(answer.text, `${answered ?? "answer"}.answer`));
+  at("save-picture").addEventListener("click", () => save(parts.svg, `${answered ?? "answer"}.svg`, "image/svg+xml"));
   at("open-description").addEventListener("change", (event) => takeFile(event, description));
   at("open-answer").addEventListener("change", (event) => takeFile(event, answer));
   at("description").addEventListener("input", onDescription);
-  at("answer").addEventListener("input", clearViews);
+  at("answer").addEventListener("input", onAnswer);
   at("command").addEventListener("change", showCommand);
   at("example").addEventListener("change", () => EXAMPLES[at("example").value] && setProblem(EXAMPLES[at("example").value]));
   document.addEventListener("keydown", onKey);
