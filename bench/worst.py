@@ -79,7 +79,7 @@ def listed(kinds):
 
 
 def solved():
-    """Descriptions, each with the command that solves it; `check` judges the answer."""
+    """Descriptions, each with the command that solves it; `check` judges the answer, `--tell` says it and `--picture` draws it."""
     for name in WRAPPERS:
         yield f'a graph in fifteen times `{name}`, against a partition', 'intersect', pair(wrapped([name], graphic), partition)
     mixed = wrapped(['dual', 'truncate', 'restrict', 'contract'], graphic)
@@ -137,8 +137,9 @@ def main():
             status, seconds, memory, answer = run(program, folder, command + ' f')
             print(f'| {name} | `{command}` | {status} | {seconds:.2f} | {memory:.0f} |', flush=True)
             write(folder, 'c', answer)
-            status, seconds, memory, _ = run(program, folder, 'check f c')
-            print(f'| | `check` | {status} | {seconds:.2f} | {memory:.0f} |', flush=True)
+            for judging in ('check', '--tell', '--picture'):
+                status, seconds, memory, _ = run(program, folder, judging + ' f c')
+                print(f'| | `{judging}` | {status} | {seconds:.2f} | {memory:.0f} |', flush=True)
         for name, words, text, certificate in refused():
             write(folder, 'f', text)
             write(folder, 'c', certificate)

@@ -1,0 +1,78 @@
+#!/usr/bin/env python3
+"""Measures answers in words and pictures at 500 elements: `reports.py [N] [PROGRAM]`, at the top of the repository.
+
+For each case of `table.py` and each command with an answer that is checked, with names of 32 bytes for the elements and the vertices, the table
+has the seconds and the peak memory in MB of `check`, of `--tell` and of `--picture`, and the bytes of both texts. Each text has to stay below
+the bound of docs/FORMATS.md; each line of words has at most 96 bytes, but for one of a single word; each picture has to be read by an XML parser
+(expat). What is not so is printed, and the last line counts. The program is crates/mat_main/out/mat_main where none is named.
+"""
+import os
+import re
+import sys
+import tempfile
+from xml.parsers import expat
+
+from table import CASES, described, measured
+
+
+def with_long_names(program, path, folder):
+    """The file of a case with names of 32 bytes."""
+    text = measured(program, ['convert', path])[0].decode()
+    named = os.path.join(folder, 'named.txt')
+    with open(named, 'w', encoding='ascii') as to:
+        to.write(re.sub(r'\b[ev][0-9]+\b', lambda name: name.group().ljust(32, '-'), text))
+    return named
+
+
+def bounds(n):
+    """The most bytes of a text in words and of a picture of n elements and as many vertices."""
+    return 20 * n * n + 1550 * n + 20_000, 100 * n * n + 4500 * n + 60_000
+
+
+def is_xml(text):
+    """Whether a parser reads it."""
+    try:
+        expat.ParserCreate().Parse(text, True)
+        return True
+    except expat.ExpatError as fault:
+        print(fault)
+        return False
+
+
+def faults(told, drawn, n):
+    """What is wrong with a text in words and with a picture."""
+    most_told, most_drawn = bounds(n)
+    wide = [line for line in told.decode().splitlines() if len(line) > 96 and ' ' in line.strip()]
+    return ([f'{len(told)} bytes in words'] * (len(told) > most_told) + [f'{len(drawn)} bytes of a picture'] * (len(drawn) > most_drawn)
+            + [f'a line of {len(line)} bytes: {line}' for line in wide[:1]] + ['no XML'] * (not is_xml(drawn)))
+
+
+def main():
+    words = sys.argv[1:]
+    n = int(words.pop(0)) if words and words[0].isdigit() else 500
+    program = words[0] if words else 'crates/mat_main/out/mat_main'
+    wrong = tried = 0
+    print('| case | command | `check`: seconds (MB) | `--tell` | `--picture` | bytes in words | bytes of the picture |')
+    print('|---|---|---|---|---|---|---|')
+    with tempfile.TemporaryDirectory() as folder:
+        for name, command in CASES:
+            if command[0] == 'cuts':
+                continue
+            path = with_long_names(program, described(name, n, folder), folder)
+            answer = os.path.join(folder, 'answer')
+            with open(answer, 'wb') as to:
+                to.write(measured(program, command + [path])[0])
+            runs = [measured(program, words + [path, answer]) for words in (['check'], ['--tell'], ['--picture'])]
+            cells = [f'{seconds:.2f} ({memory:.0f})' for _, seconds, memory in runs]
+            told, drawn = runs[1][0], runs[2][0]
+            print('|', ' | '.join([name, ' '.join(command), *cells, f'{len(told):,}', f'{len(drawn):,}']), '|', flush=True)
+            tried += 1
+            for fault in faults(told, drawn, n):
+                wrong += 1
+                print(f'{name} {" ".join(command)}: {fault}')
+    print(f'{tried} answers, {wrong} wrong')
+    sys.exit(min(wrong, 1))
+
+
+if __name__ == '__main__':
+    main()
