@@ -6,7 +6,7 @@ use Rattle.mat_laws.specs.Searches.{has_addable}
 use Rattle.mat_cert.specs.Certificates.{last_rung}
 use Rattle.mat_cert.specs.declared.answer.PlainRung.{PlainRung}
 use Rattle.mat_check.specs.declared.reason.Reason.TheVariants.{Short}
-use Rattle.mat_check.specs.Clauses.{Clause, first_failure, last_clause}
+use Rattle.mat_check.specs.Clauses.{Clause, failure_at, first_failure, last_clause}
 use Rattle.mat_check.proofs.FailingClauses.{first_of_holding, first_of_failing}
 
 -- the last of some rungs
@@ -21,12 +21,12 @@ last_is rungs other some = slice_get-get_or rungs (length rungs - 1) other (omeg
 abbrev pub short_clause : ℕ → (List ℕ → Bool) → List PlainRung → PlainRung → Clause
 short_clause n p rungs other = record {
   holds = not (has_addable n p (last_of rungs other).set);
-  failure = (Short, last_rung rungs, 0);
+  failure = failure_at Short (last_rung rungs) 0;
 }
 
 pub last_clause_fails : (n : ℕ) (p : List ℕ → Bool) (rungs : List PlainRung) (other : PlainRung) → 0 < length rungs
     → has_addable n p (last_of rungs other).set ≡ true
-    → Some (Short, length rungs - 1, 0) ≡ first_failure (last_clause n p (last_rung rungs) (slice_get rungs (last_rung rungs)))
+    → Some (failure_at Short (length rungs - 1) 0) ≡ first_failure (last_clause n p (last_rung rungs) (slice_get rungs (last_rung rungs)))
 last_clause_fails n p rungs other some found =
     sym (ap (λ r. first_failure (last_clause n p (last_rung rungs) r)) (last_is rungs other some)
     ∙ first_of_failing (short_clause n p rungs other) [] (ap not found))

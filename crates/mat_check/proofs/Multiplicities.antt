@@ -3,18 +3,18 @@ use Rattle.std.proofs.Common.{◌≡◌, ℕ, ◌+◌, ◌<◌, List, [], length
 use Rattle.mat_sets.specs.Families.{indicator, multiplicity}
 use Rattle.mat_sets.specs.Sets.{is_member}
 use Rattle.mat_sets.proofs.Steps.{multiplicity-more, multiplicity-none}
-use Rattle.mat_check.specs.Clauses.{Clause}
+use Rattle.mat_check.specs.Clauses.{Clause, failure_at}
 use Rattle.mat_check.specs.declared.reason.Reason.TheVariants as reasons
 
 -- ---- the clauses of an element
 
 -- it stands in at most one of the sets
 abbrev pub overlap_clause : List (List ℕ) → ℕ → Clause
-overlap_clause sets e = record { holds = nat_le (multiplicity e sets) 1; failure = (reasons.Overlap, e, 0) }
+overlap_clause sets e = record { holds = nat_le (multiplicity e sets) 1; failure = failure_at reasons.Overlap e 0 }
 
 -- it stands in some of the sets
 abbrev pub missed_clause : List (List ℕ) → ℕ → Clause
-missed_clause sets e = record { holds = nat_lt 0 (multiplicity e sets); failure = (reasons.Missed, e, 0) }
+missed_clause sets e = record { holds = nat_lt 0 (multiplicity e sets); failure = failure_at reasons.Missed e 0 }
 
 -- ---- counting set by set
 

@@ -2,7 +2,7 @@
 use Rattle.std.proofs.Common.{◌≡◌, ℕ, ◌<◌, ◌≤◌, ◌-◌, ◌*◌, List, [], ◌∷◌, ◌++◌, length, Some, None, sym, ◌∙◌}
 use Rattle.std.proofs.lemmas.Bool.{le-ltb, lt-ltb}
 use Rattle.mat_packing.specs.Trees.{crossing}
-use Rattle.mat_check.specs.Clauses.{first_failure, numbered_clauses, Clause, Failure}
+use Rattle.mat_check.specs.Clauses.{first_failure, numbered_clauses, Clause, Failure, failure_at}
 use Rattle.mat_check.specs.SetClauses.{missed_clauses, overlap_clauses}
 use Rattle.mat_check.specs.TreeClauses.{crossing_clause, partition_clauses, some_clause}
 use Rattle.mat_check.specs.declared.reason.Reason.TheVariants as reasons
@@ -47,7 +47,7 @@ module _ (vertices count : ℕ) (ends : ℕ → ℕ × ℕ) (k : ℕ) (classes :
             (first_in_back (overlaps ++ filled) misses (first_in_back overlaps filled apart ∙ some) ∙ all)
 
         pub crossing_found : k * (length classes - 1) ≤ length (crossing count ends classes)
-            → Some (reasons.Crossing, 0, 0) ≡ first_failure (partition_clauses vertices count ends k classes)
+            → Some (failure_at reasons.Crossing 0 0) ≡ first_failure (partition_clauses vertices count ends k classes)
         crossing_found many =
             sym (last ∙ first_of_failing (crossing_clause count ends k classes) []
             (le-ltb (length (crossing count ends classes)) (k * (length classes - 1)) many))

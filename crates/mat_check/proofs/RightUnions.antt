@@ -15,7 +15,7 @@ use Rattle.mat_union.specs.RightUnions.{heavy, IsLevelCut}
 use Rattle.mat_union.specs.Unions.{test_at}
 use Rattle.mat_cert.specs.Certificates.{IsRangedLevel, IsRangedUnion}
 use Rattle.mat_cert.specs.declared.answer.LevelLine.{LevelLine}
-use Rattle.mat_check.specs.Clauses.{Clause, numbered_clauses}
+use Rattle.mat_check.specs.Clauses.{Clause, failure_at, numbered_clauses}
 use Rattle.mat_check.specs.Right.{level_of, IsRightUnionAnswer}
 use Rattle.mat_greedy.specs.FallingWeights.{falling_weights}
 use Rattle.mat_check.specs.SetClauses.{independent_clause, level_clauses, level_cut_clause, outside_clause, overlap_clauses}
@@ -72,7 +72,7 @@ module _ (n : ℕ) (tests : List (List ℕ → Bool)) (w : List Weight) (parts :
     all_parts = numbered_clauses part_clauses 0 parts
 
     abbrev pub weight_clause : Clause
-    weight_clause = record { holds = is_same printed (weight w (family_union parts)); failure = (reasons.Weight, 0, 0) }
+    weight_clause = record { holds = is_same printed (weight w (family_union parts)); failure = failure_at reasons.Weight 0 0 }
 
     abbrev pub all_levels : List Clause
     all_levels = numbered_clauses (level_clauses n tests w parts) 0 levels

@@ -29,9 +29,9 @@ module _ {R : Type 0} (clauses_of_rung : ℕ → R → List Clause) where
       failure_from (suc k) i rungs rung at ∙ ap (λ m. first_failure (clauses_of_rung m rung)) same
 
   -- the first failure of rung k
-  pub failure_at : (k : ℕ) (rungs : List R) (rung : R) → slice_get rungs k ≡ Some rung
+  pub failure_of_rung : (k : ℕ) (rungs : List R) (rung : R) → slice_get rungs k ≡ Some rung
       → get_or (rungs_failures clauses_of_rung 0 rungs) k None ≡ first_failure (clauses_of_rung k rung)
-  failure_at k rungs rung at =
+  failure_of_rung k rungs rung at =
       let same : 0 + k ≡ k = omega arith in
       failure_from 0 k rungs rung at ∙ ap (λ m. first_failure (clauses_of_rung m rung)) same
 
@@ -49,7 +49,7 @@ module _ {R : Type 0} (clauses_of_rung : ℕ → R → List Clause) where
 
     pub failure_stands : (rung : R) → slice_get rungs k ≡ Some rung → (found : Option Failure) → found ≡ first_failure (clauses_of_rung k rung)
         → found ≡ get_or failures k None
-    failure_stands rung at found h = h ∙ sym (failure_at k rungs rung at) ∙ ap (λ xs. get_or xs k None) is
+    failure_stands rung at found h = h ∙ sym (failure_of_rung k rungs rung at) ∙ ap (λ xs. get_or xs k None) is
 
   -- the failures that a job finds tell the first of all
   pub first_of_found : (rungs : List R) (found : List (Option Failure)) → length found ≡ length rungs

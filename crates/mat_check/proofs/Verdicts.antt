@@ -6,6 +6,7 @@ use Rattle.mat_desc.specs.Instances.{Instance}
 use Rattle.mat_desc.specs.Soundness.{IsSoundInstance}
 use Rattle.mat_cert.specs.Certificates.{Certificate, IsRanged}
 use Rattle.mat_check.specs.AnswerClauses.{failure_of}
+use Rattle.mat_check.specs.Clauses.{failure_at}
 use Rattle.mat_check.specs.Fitting.{fits}
 use Rattle.mat_check.specs.Right.{IsRight}
 use Rattle.mat_check.specs.Views.{failure_in}
@@ -18,6 +19,6 @@ module _ (instance : Instance) (answer : Certificate) (valid : IsValid instance)
   pub yes_where_right : (v : Verdict) → failure_in v ≡ failure_of instance answer → (v ≡ Yes) ↔ IsRight instance answer
   yes_where_right Yes told = (λ e. (right_has_no_failure instance answer valid sound ranged fitting).1 (sym told), λ right. refl)
   yes_where_right (No reason a b) told = (
-    λ e. absurd (none-some (reason, a, b) (sym (ap failure_in e))),
-    λ right. absurd (none-some (reason, a, b) (sym ((right_has_no_failure instance answer valid sound ranged fitting).0 right) ∙ sym told)),
+    λ e. absurd (none-some (failure_at reason a b) (sym (ap failure_in e))),
+    λ right. absurd (none-some (failure_at reason a b) (sym ((right_has_no_failure instance answer valid sound ranged fitting).0 right) ∙ sym told)),
   )

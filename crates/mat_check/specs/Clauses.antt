@@ -9,12 +9,13 @@ use Rattle.mat_laws.specs.Searches.{is_beaten, has_addable}
 use Rattle.mat_cert.specs.Certificates.{last_rung}
 use Rattle.mat_cert.specs.declared.answer.PlainRung.{PlainRung}
 use Rattle.mat_cert.specs.declared.answer.PricedRung.{PricedRung}
+pub use Rattle.mat_check.specs.declared.reason.Failure.{Failure}
 use Rattle.mat_check.specs.declared.reason.Reason.{Reason}
 use Rattle.mat_check.specs.declared.reason.Reason.TheVariants as reasons
 
--- which clause fails, and its two places
-abbrev pub Failure : Type 0
-Failure = Reason × ℕ × ℕ
+-- what is told of a clause that fails for this reason at these two places
+abbrev pub failure_at : Reason → ℕ → ℕ → Failure
+failure_at reason first_place second_place = record { reason = reason; first_place = first_place; second_place = second_place }
 
 -- a clause: whether it holds, and what is told where it fails
 pub record Clause : Type 0 where
@@ -33,30 +34,30 @@ numbered_clauses clauses_of_item k (item ∷ items) = clauses_of_item k item ++ 
 
 -- the header has the problem's numbers
 abbrev pub header_clause : Bool → Clause
-header_clause same = record { holds = same; failure = (reasons.Header, 0, 0) }
+header_clause same = record { holds = same; failure = failure_at reasons.Header 0 0 }
 
 -- ---- the clauses of a rung
 
 -- the printed weight is that of the set
 abbrev pub weight_clause : List Weight → ℕ → Weight → List ℕ → Clause
-weight_clause w k printed set = record { holds = is_same printed (weight w set); failure = (reasons.Weight, k, 0) }
+weight_clause w k printed set = record { holds = is_same printed (weight w set); failure = failure_at reasons.Weight k 0 }
 
 -- the set is independent in the matroid with this number
 abbrev pub independence_clause : (List ℕ → Bool) → ℕ → ℕ → List ℕ → Clause
-independence_clause independent number k set = record { holds = independent set; failure = (reasons.Dependent, k, number) }
+independence_clause independent number k set = record { holds = independent set; failure = failure_at reasons.Dependent k number }
 
 -- the two parts add up to the weight of e
 abbrev pub sum_clause : List Weight → ℕ → List Weight → List Weight → ℕ → Clause
 sum_clause w k first second e = record {
   holds = is_same (weight_at first e ⊕ weight_at second e) (weight_at w e);
-  failure = (reasons.Sum, k, e);
+  failure = failure_at reasons.Sum k e;
 }
 
 -- no independent set of as many elements is heavier in the matroid with this number
 abbrev pub heaviest_clause : ℕ → (List ℕ → Bool) → List Weight → ℕ → ℕ → List ℕ → Clause
 heaviest_clause n independent w number k set = record {
   holds = not (is_beaten n independent (weight_at w) set);
-  failure = (reasons.Beaten, k, number);
+  failure = failure_at reasons.Beaten k number;
 }
 
 -- rung k of a ladder of two matroids on n elements
@@ -77,7 +78,7 @@ plain_rung_clauses n p w k rung =
 abbrev pub cut_clause : ℕ → (List ℕ → Bool) → (List ℕ → Bool) → ℕ → List ℕ → Clause
 cut_clause n p q last cut = record {
   holds = rank p (minus (all_below n) cut) + rank q cut == last;
-  failure = (reasons.Cut, 0, 0);
+  failure = failure_at reasons.Cut 0 0;
 }
 
 -- a ladder of two matroids on n elements
@@ -88,7 +89,7 @@ ladder_clauses n p q w rungs cut =
 -- no element can be added to the last set
 abbrev pub last_clause : ℕ → (List ℕ → Bool) → ℕ → Option PlainRung → List Clause
 last_clause n p last None = []
-last_clause n p last (Some rung) = record { holds = not (has_addable n p rung.set); failure = (reasons.Short, last, 0) } ∷ []
+last_clause n p last (Some rung) = record { holds = not (has_addable n p rung.set); failure = failure_at reasons.Short last 0 } ∷ []
 
 -- the heaviest independent sets of a matroid on n elements
 abbrev pub best_clauses : ℕ → (List ℕ → Bool) → List Weight → List PlainRung → List Clause

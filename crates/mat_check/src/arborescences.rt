@@ -8,7 +8,7 @@ ghost use Rattle.mat_check.specs.Clauses.{first_failure, numbered_clauses};
 ghost use Rattle.mat_check.specs.TreeClauses.{arborescence_clause, disjoint_clauses, seldom_entered_clauses};
 
 use crate::families::overlap_failure;
-use crate::reason::Reason;
+use crate::reason::{Failure, Reason};
 use mat_branch::{entering_count, spans};
 use mat_flow::Digraph;
 use mat_sets::{ElemSet, Pairs};
@@ -20,7 +20,7 @@ fn arborescence_failure(
     graph: &Digraph,
     root: u32,
     trees: &[ElemSet],
-) -> Result<Option<(Reason, u32, u32)>, AllocError>
+) -> Result<Option<Failure>, AllocError>
     requires root { root < graph.now.vertices }
     requires ranged { AreRangedTrees (length graph.now.arcs) trees.now }
     ensures { IfOk result (λ found. found ≡ first_failure (numbered_clauses
@@ -28,7 +28,7 @@ fn arborescence_failure(
 {
     for i in 0..trees.len() {
         if !spans(alloc, graph, root, &trees[i])? {
-            return Ok(Some((Reason::Tree, i as u32, 0)));
+            return Ok(Some(Reason::Tree.at(i as u32, 0)));
         }
     }
     Ok(None)
@@ -42,7 +42,7 @@ pub(crate) fn disjoint_failure(
     arcs: &Pairs,
     root: u32,
     trees: &[ElemSet],
-) -> Result<Option<(Reason, u32, u32)>, AllocError>
+) -> Result<Option<Failure>, AllocError>
     requires graph { IsGraph vertices arcs.now }
     requires few { length arcs.now ≤ most_elements }
     requires few_vertices { vertices ≤ most_vertices }
@@ -66,19 +66,19 @@ pub(crate) fn seldom_entered_failure(
     root: u32,
     k: u32,
     set: &ElemSet,
-) -> Result<Option<(Reason, u32, u32)>, AllocError>
+) -> Result<Option<Failure>, AllocError>
     requires graph { IsGraph vertices arcs.now }
     ensures { IfOk result (λ found. found ≡ first_failure (seldom_entered_clauses (length arcs.now) (ends_of arcs.now) root k set.now)) }
 {
     if set.is_empty() {
-        return Ok(Some((Reason::Empty, 0, 0)));
+        return Ok(Some(Reason::Empty.at(0, 0)));
     }
     if set.contains(root) {
-        return Ok(Some((Reason::Root, 0, 0)));
+        return Ok(Some(Reason::Root.at(0, 0)));
     }
     let graph = Digraph::new(alloc, vertices, arcs.copy(alloc)?)?;
     if entering_count(&graph, set) >= k as usize {
-        return Ok(Some((Reason::Crossing, 0, 0)));
+        return Ok(Some(Reason::Crossing.at(0, 0)));
     }
     Ok(None)
 }

@@ -16,7 +16,7 @@ ghost use Rattle.mat_desc.specs.Views.{instance_of};
 use crate::graph_answers::{coloured_failure, graph_failure, rooted_failure, table_failure};
 use crate::headers::has_header;
 use crate::matroid_answers::{list_failure, pair_failure};
-use crate::reason::Reason;
+use crate::reason::{Failure, Reason};
 use crate::rung::Pair;
 use crate::verdict::Verdict;
 use mat_cert::Answer;
@@ -31,7 +31,7 @@ fn answer_failure<R: Threads + Sync>(
     problem: &Problem,
     answer: &Answer,
     workers: u32,
-) -> Result<Option<(Reason, u32, u32)>, AllocError>
+) -> Result<Option<Failure>, AllocError>
     requires valid { IsValid (instance_of problem.now) }
     requires sound { IsSoundInstance (instance_of problem.now) }
     requires ranged { IsRanged (certificate_of answer.now) }
@@ -105,14 +105,8 @@ pub fn check<R: Threads + Sync>(
     ensures yes { IfOk result (λ v. (v ≡ Yes) ↔ IsRight (instance_of problem.now) (certificate_of answer.now)) }
 {
     if !has_header(alloc, problem, answer)? {
-        return Ok(Verdict::No {
-            reason: Reason::Header,
-            a: 0,
-            b: 0,
-        });
+        return Ok(Verdict::from(Some(Reason::Header.at(0, 0))));
     }
-    match answer_failure(rt, alloc, problem, answer, workers)? {
-        Some((reason, a, b)) => Ok(Verdict::No { reason, a, b }),
-        None => Ok(Verdict::Yes),
-    }
+    let found = answer_failure(rt, alloc, problem, answer, workers)?;
+    Ok(Verdict::from(found))
 }

@@ -10,7 +10,7 @@ ghost use Rattle.mat_fronts.specs.Rainbow.{edges_without};
 ghost use Rattle.mat_check.specs.Clauses.{first_failure};
 ghost use Rattle.mat_check.specs.TreeClauses.{colours_clauses};
 
-use crate::reason::Reason;
+use crate::reason::{Failure, Reason};
 use mat_graphic::Graphic;
 use mat_sets::{ElemSet, Pairs};
 use std::alloc::{AllocError, Global};
@@ -70,7 +70,7 @@ pub(crate) fn colours_failure(
     edges: &Pairs,
     colour_of: &[u32],
     missing: &Option<ElemSet>,
-) -> Result<Option<(Reason, u32, u32)>, AllocError>
+) -> Result<Option<Failure>, AllocError>
     requires graph { IsGraph vertices edges.now }
     requires long { length colour_of.now ≡ length edges.now }
     requires few { length edges.now ≤ most_elements }
@@ -81,7 +81,7 @@ pub(crate) fn colours_failure(
         let rest = edges_without(alloc, colour_of, colours)?;
         let components = component_count(alloc, vertices, edges, &rest)?;
         if components.saturating_sub(1) <= colours.len() {
-            return Ok(Some((Reason::Colours, 0, 0)));
+            return Ok(Some(Reason::Colours.at(0, 0)));
         }
     }
     Ok(None)

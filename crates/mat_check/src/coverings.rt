@@ -9,7 +9,7 @@ ghost use Rattle.mat_check.specs.Clauses.{first_failure, numbered_clauses};
 ghost use Rattle.mat_check.specs.SetClauses.{cover_clauses, cover_cut_clauses, independent_clause, loop_clause};
 
 use crate::families::{dependent_failure, missed_failure};
-use crate::reason::Reason;
+use crate::reason::{Failure, Reason};
 use mat_laws::{Matroid, rank_of};
 use mat_sets::ElemSet;
 use std::alloc::{AllocError, Global};
@@ -19,7 +19,7 @@ pub(crate) fn loop_failure<M: Matroid>(
     alloc: Global,
     m: &M,
     x: u32,
-) -> Result<Option<(Reason, u32, u32)>, AllocError>
+) -> Result<Option<Failure>, AllocError>
     requires sound { M.sound m.now }
     requires below { x < M.ground_size m.now }
     ensures { IfOk result (λ found. found ≡ first_failure (loop_clause (M.indep m.now) x ∷ [])) }
@@ -27,7 +27,7 @@ pub(crate) fn loop_failure<M: Matroid>(
     let mut alone = ElemSet::new(alloc);
     alone.add(x)?;
     if m.independent(alloc, &alone)? {
-        return Ok(Some((Reason::Claim, 0, 0)));
+        return Ok(Some(Reason::Claim.at(0, 0)));
     }
     Ok(None)
 }
@@ -37,7 +37,7 @@ fn sets_failure<M: Matroid>(
     alloc: Global,
     m: &M,
     sets: &[ElemSet],
-) -> Result<Option<(Reason, u32, u32)>, AllocError>
+) -> Result<Option<Failure>, AllocError>
     requires sound { M.sound m.now }
     requires few { length sets.now ≤ most_elements }
     requires sets { All (IsSet (M.ground_size m.now)) sets.now }
@@ -66,7 +66,7 @@ fn cover_cut_failure<M: Matroid>(
     m: &M,
     sets: usize,
     cut: &Option<ElemSet>,
-) -> Result<Option<(Reason, u32, u32)>, AllocError>
+) -> Result<Option<Failure>, AllocError>
     requires sound { M.sound m.now }
     requires few { sets ≤ most_elements }
     requires ranged { IsRangedOption (M.ground_size m.now) (nat_lt 0 sets) cut.now }
@@ -76,7 +76,7 @@ fn cover_cut_failure<M: Matroid>(
         Some(within) => {
             let rank = rank_of(alloc, m, within)?;
             if !has_no_room(sets, rank, within.len()) {
-                return Ok(Some((Reason::Cut, 0, 0)));
+                return Ok(Some(Reason::Cut.at(0, 0)));
             }
             Ok(None)
         }
@@ -91,7 +91,7 @@ pub(crate) fn cover_failure<M: Matroid>(
     m: &M,
     sets: &[ElemSet],
     cut: &Option<ElemSet>,
-) -> Result<Option<(Reason, u32, u32)>, AllocError>
+) -> Result<Option<Failure>, AllocError>
     requires sound { M.sound m.now }
     requires ranged { IsRangedCover (M.ground_size m.now) sets.now cut.now }
     ensures { IfOk result (λ found. found ≡ first_failure (cover_clauses (M.ground_size m.now) (M.indep m.now) sets.now cut.now)) }

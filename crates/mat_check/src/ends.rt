@@ -6,7 +6,7 @@ ghost use Rattle.mat_laws.specs.Ranks.{rank};
 ghost use Rattle.mat_cert.specs.Certificates.{AreRangedRungs, IsRangedPlainRung, last_rung};
 ghost use Rattle.mat_check.specs.Clauses.{first_failure, last_clause};
 
-use crate::reason::Reason;
+use crate::reason::{Failure, Reason};
 use crate::searches::has_addable;
 use mat_cert::PlainRung;
 use mat_laws::{Matroid, rank_of};
@@ -39,7 +39,7 @@ pub(crate) fn last_failure<M: Matroid>(
     alloc: Global,
     m: &M,
     rungs: &[PlainRung],
-) -> Result<Option<(Reason, u32, u32)>, AllocError>
+) -> Result<Option<Failure>, AllocError>
     requires sound { M.sound m.now }
     requires ranged { AreRangedRungs (IsRangedPlainRung (M.ground_size m.now)) (M.ground_size m.now) rungs.now }
     ensures { IfOk result (λ found. found
@@ -47,7 +47,7 @@ pub(crate) fn last_failure<M: Matroid>(
 {
     let last = rungs.len() - 1;
     if has_addable(alloc, m, &rungs[last].set)? {
-        return Ok(Some((Reason::Short, last as u32, 0)));
+        return Ok(Some(Reason::Short.at(last as u32, 0)));
     }
     Ok(None)
 }

@@ -6,7 +6,7 @@ ghost use Rattle.mat_sets.specs.Sets.{AllBelow, is_member};
 ghost use Rattle.mat_check.specs.Clauses.{first_failure};
 ghost use Rattle.mat_check.specs.SetClauses.{independent_clause, missed_clauses, overlap_clauses};
 
-use crate::reason::Reason;
+use crate::reason::{Failure, Reason};
 use mat_laws::Matroid;
 use mat_sets::ElemSet;
 use std::alloc::{AllocError, Global};
@@ -45,24 +45,24 @@ fn is_covered(sets: &[ElemSet], e: u32) -> bool
 }
 
 /// The first of the elements below n that stands in two of the sets, as the failure that it is.
-pub(crate) fn overlap_failure(n: u32, sets: &[ElemSet]) -> Option<(Reason, u32, u32)>
+pub(crate) fn overlap_failure(n: u32, sets: &[ElemSet]) -> Option<Failure>
     ensures { result ≡ first_failure (overlap_clauses n sets.now) }
 {
     for e in 0..n {
         if !is_apart(sets, e) {
-            return Some((Reason::Overlap, e, 0));
+            return Some(Reason::Overlap.at(e, 0));
         }
     }
     None
 }
 
 /// The first of the elements below n that stands in none of the sets, as the failure that it is.
-pub(crate) fn missed_failure(n: u32, sets: &[ElemSet]) -> Option<(Reason, u32, u32)>
+pub(crate) fn missed_failure(n: u32, sets: &[ElemSet]) -> Option<Failure>
     ensures { result ≡ first_failure (missed_clauses n sets.now) }
 {
     for e in 0..n {
         if !is_covered(sets, e) {
-            return Some((Reason::Missed, e, 0));
+            return Some(Reason::Missed.at(e, 0));
         }
     }
     None
@@ -74,13 +74,13 @@ pub(crate) fn dependent_failure<M: Matroid>(
     m: &M,
     i: u32,
     set: &ElemSet,
-) -> Result<Option<(Reason, u32, u32)>, AllocError>
+) -> Result<Option<Failure>, AllocError>
     requires sound { M.sound m.now }
     requires below { AllBelow (M.ground_size m.now) set.now }
     ensures { IfOk result (λ found. found ≡ first_failure (independent_clause (M.indep m.now) i set.now ∷ [])) }
 {
     if !m.independent(alloc, set)? {
-        return Ok(Some((Reason::Dependent, i, 0)));
+        return Ok(Some(Reason::Dependent.at(i, 0)));
     }
     Ok(None)
 }

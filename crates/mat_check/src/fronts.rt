@@ -14,7 +14,7 @@ ghost use Rattle.mat_check.specs.TreeClauses.{colours_clauses};
 use crate::colours::colours_failure;
 use crate::labels::at_most_one;
 use crate::ladder::ladder_failure;
-use crate::reason::Reason;
+use crate::reason::Failure;
 use crate::rung::Pair;
 use mat_any::AnyMatroid;
 use mat_cert::PricedRung;
@@ -35,7 +35,7 @@ pub(crate) fn assign_failure<R: Threads + Sync>(
     rungs: &[PricedRung],
     cut: &ElemSet,
     workers: u32,
-) -> Result<Option<(Reason, u32, u32)>, AllocError>
+) -> Result<Option<Failure>, AllocError>
     requires lengths { length weights.now ≡ length cells.now }
     requires small { AreWeightsWithin largest_weight weights.now }
     requires ranged { IsRangedLadder (length cells.now) rungs.now cut.now }
@@ -68,7 +68,7 @@ fn rainbow_ladder_failure<R: Threads + Sync>(
     rungs: &[PricedRung],
     cut: &ElemSet,
     workers: u32,
-) -> Result<Option<(Reason, u32, u32)>, AllocError>
+) -> Result<Option<Failure>, AllocError>
     requires graph { IsGraph vertices edges.now }
     requires long { length colour_of.now ≡ length edges.now }
     requires lengths { length weights.now ≡ length edges.now }
@@ -102,7 +102,7 @@ pub(crate) fn rainbow_failure<R: Threads + Sync>(
     cut: &ElemSet,
     missing: &Option<ElemSet>,
     workers: u32,
-) -> Result<Option<(Reason, u32, u32)>, AllocError>
+) -> Result<Option<Failure>, AllocError>
     requires graph { IsGraph vertices edges.now }
     requires long { length colour_of.now ≡ length edges.now }
     requires lengths { length weights.now ≡ length edges.now }

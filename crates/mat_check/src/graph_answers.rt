@@ -11,7 +11,7 @@ ghost use Rattle.mat_desc.specs.Instances.{coloured, graph, rooted, table};
 use crate::arborescences::{disjoint_failure, seldom_entered_failure};
 use crate::fronts::{assign_failure, rainbow_failure};
 use crate::least::arborescence_failure;
-use crate::reason::Reason;
+use crate::reason::Failure;
 use crate::trees::{partition_failure, trees_failure};
 use mat_cert::Answer;
 use mat_sets::{PairWeights, Pairs, Weight};
@@ -24,7 +24,7 @@ pub(crate) fn graph_failure(
     vertices: u32,
     edges: &Pairs,
     answer: &Answer,
-) -> Result<Option<(Reason, u32, u32)>, AllocError>
+) -> Result<Option<Failure>, AllocError>
     requires valid { IsValid (graph vertices edges.now) }
     requires ranged { IsRanged (certificate_of answer.now) }
     requires header { has_header (graph vertices edges.now) (certificate_of answer.now) ≡ true }
@@ -47,7 +47,7 @@ pub(crate) fn rooted_failure(
     arcs: &Pairs,
     costs: &[Weight],
     answer: &Answer,
-) -> Result<Option<(Reason, u32, u32)>, AllocError>
+) -> Result<Option<Failure>, AllocError>
     requires valid { IsValid (rooted vertices root arcs.now costs.now) }
     requires ranged { IsRanged (certificate_of answer.now) }
     requires header { has_header (rooted vertices root arcs.now costs.now) (certificate_of answer.now) ≡ true }
@@ -95,7 +95,7 @@ pub(crate) fn coloured_failure<R: Threads + Sync>(
     weights: &PairWeights,
     answer: &Answer,
     workers: u32,
-) -> Result<Option<(Reason, u32, u32)>, AllocError>
+) -> Result<Option<Failure>, AllocError>
     requires valid { IsValid (coloured vertices colours edges.now colour_of.now weights.now) }
     requires ranged { IsRanged (certificate_of answer.now) }
     requires header { has_header (coloured vertices colours edges.now colour_of.now weights.now) (certificate_of answer.now) ≡ true }
@@ -136,7 +136,7 @@ pub(crate) fn table_failure<R: Threads + Sync>(
     weights: &PairWeights,
     answer: &Answer,
     workers: u32,
-) -> Result<Option<(Reason, u32, u32)>, AllocError>
+) -> Result<Option<Failure>, AllocError>
     requires valid { IsValid (table rows columns cells.now weights.now) }
     requires ranged { IsRanged (certificate_of answer.now) }
     requires header { has_header (table rows columns cells.now weights.now) (certificate_of answer.now) ≡ true }

@@ -9,7 +9,7 @@ ghost use Rattle.mat_cert.specs.Certificates.{AreRangedRungs, IsRangedLadder, Is
 ghost use Rattle.mat_check.specs.Clauses.{best_clauses, first_failure, ladder_clauses};
 
 use crate::ends::{cut_holds, last_failure};
-use crate::reason::Reason;
+use crate::reason::{Failure, Reason};
 use crate::rung::Pair;
 use crate::rungs::{plain_rungs_failure, priced_rungs_failure};
 use mat_any::AnyMatroid;
@@ -27,7 +27,7 @@ pub(crate) fn ladder_failure<R: Threads + Sync>(
     rungs: &[PricedRung],
     cut: &ElemSet,
     workers: u32,
-) -> Result<Option<(Reason, u32, u32)>, AllocError>
+) -> Result<Option<Failure>, AllocError>
     requires first_sound { IsSound (tree_of both.now.first.now) }
     requires second_sound { IsSound (tree_of both.now.second.now) }
     requires first_lengths { length both.now.weights.now ≡ element_count (tree_of both.now.first.now) }
@@ -42,7 +42,7 @@ pub(crate) fn ladder_failure<R: Threads + Sync>(
         return Ok(Some(failure));
     }
     if !cut_holds(alloc, both.first, both.second, rungs.len() - 1, cut)? {
-        return Ok(Some((Reason::Cut, 0, 0)));
+        return Ok(Some(Reason::Cut.at(0, 0)));
     }
     Ok(None)
 }
@@ -56,7 +56,7 @@ pub(crate) fn best_failure<R: Threads + Sync>(
     weights: &[Weight],
     rungs: &[PlainRung],
     workers: u32,
-) -> Result<Option<(Reason, u32, u32)>, AllocError>
+) -> Result<Option<Failure>, AllocError>
     requires sound { IsSound (tree_of m.now) }
     requires lengths { length weights.now ≡ element_count (tree_of m.now) }
     requires small { AreWeightsWithin largest_weight weights.now }

@@ -14,7 +14,7 @@ ghost use Rattle.mat_check.specs.Clauses.{first_failure, heaviest_clause};
 ghost use Rattle.mat_check.specs.TreeClauses.{arborescence_clauses, cost_clause};
 
 use crate::labels::entering_once;
-use crate::reason::Reason;
+use crate::reason::{Failure, Reason};
 use crate::searches::is_beaten;
 use mat_branch::spans;
 use mat_flow::Digraph;
@@ -39,7 +39,7 @@ fn negates(costs: &[Weight], first: &[Weight], second: &[Weight], e: u32) -> boo
 }
 
 // The first arc at which the two parts don't add up to the negated cost, as the failure that it is.
-fn cost_failure(costs: &[Weight], first: &[Weight], second: &[Weight]) -> Option<(Reason, u32, u32)>
+fn cost_failure(costs: &[Weight], first: &[Weight], second: &[Weight]) -> Option<Failure>
     requires few { length costs.now ≤ most_elements }
     requires first { length first.now ≡ length costs.now }
     requires second { length second.now ≡ length costs.now }
@@ -51,7 +51,7 @@ fn cost_failure(costs: &[Weight], first: &[Weight], second: &[Weight]) -> Option
     let count = costs.len() as u32;
     for e in 0..count {
         if !negates(costs, first, second, e) {
-            return Some((Reason::Sum, 0, e));
+            return Some(Reason::Sum.at(0, e));
         }
     }
     None
@@ -84,7 +84,7 @@ fn beaten_failure(
     tree: &ElemSet,
     first: &[Weight],
     second: &[Weight],
-) -> Result<Option<(Reason, u32, u32)>, AllocError>
+) -> Result<Option<Failure>, AllocError>
     requires graph { IsGraph vertices arcs.now }
     requires root { root < vertices }
     requires few { length arcs.now ≤ most_elements }
@@ -97,11 +97,11 @@ fn beaten_failure(
 {
     let graphic = Graphic::new(alloc, vertices, arcs.copy(alloc)?)?;
     if is_beaten_under(alloc, &graphic, first, tree)? {
-        return Ok(Some((Reason::Beaten, 0, 0)));
+        return Ok(Some(Reason::Beaten.at(0, 0)));
     }
     let heads = entering_once(alloc, vertices, arcs, root)?;
     if is_beaten_under(alloc, &heads, second, tree)? {
-        return Ok(Some((Reason::Beaten, 0, 1)));
+        return Ok(Some(Reason::Beaten.at(0, 1)));
     }
     Ok(None)
 }
@@ -116,7 +116,7 @@ fn split_failure(
     tree: &ElemSet,
     first: &[Weight],
     second: &[Weight],
-) -> Result<Option<(Reason, u32, u32)>, AllocError>
+) -> Result<Option<Failure>, AllocError>
     requires graph { IsGraph vertices arcs.now }
     requires root { root < vertices }
     requires few { length arcs.now ≤ most_elements }
@@ -169,7 +169,7 @@ pub(crate) fn arborescence_failure(
     tree: &ElemSet,
     first: &[Weight],
     second: &[Weight],
-) -> Result<Option<(Reason, u32, u32)>, AllocError>
+) -> Result<Option<Failure>, AllocError>
     requires graph { IsGraph vertices arcs.now }
     requires root { root < vertices }
     requires lengths { length costs.now ≡ length arcs.now }
@@ -179,10 +179,10 @@ pub(crate) fn arborescence_failure(
         tree.now first.now second.now)) }
 {
     if weigh(tree, costs) != cost {
-        return Ok(Some((Reason::Weight, 0, 0)));
+        return Ok(Some(Reason::Weight.at(0, 0)));
     }
     if !is_arborescence(alloc, vertices, arcs, root, tree)? {
-        return Ok(Some((Reason::Tree, 0, 0)));
+        return Ok(Some(Reason::Tree.at(0, 0)));
     }
     let found = split_failure(alloc, vertices, arcs, costs, root, tree, first, second)?;
     Ok(found)

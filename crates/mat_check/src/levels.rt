@@ -13,7 +13,7 @@ ghost use Rattle.mat_check.specs.Clauses.{first_failure, numbered_clauses};
 ghost use Rattle.mat_greedy.specs.FallingWeights.{falling_weights};
 ghost use Rattle.mat_check.specs.SetClauses.{level_clauses, outside_clause};
 
-use crate::reason::Reason;
+use crate::reason::{Failure, Reason};
 use mat_cert::LevelLine;
 use mat_greedy::{falling_weights, heavy_elements};
 use mat_laws::{Matroid, rank_of};
@@ -67,13 +67,13 @@ fn sum_of_ranks<M: Matroid>(
 }
 
 // The first member of the cut of level j that weighs less than the level, as the failure that it is.
-fn outside_failure(weights: &[Weight], j: u32, level: &LevelLine) -> Option<(Reason, u32, u32)>
+fn outside_failure(weights: &[Weight], j: u32, level: &LevelLine) -> Option<Failure>
     requires { AllBelow (length weights.now) level.now.cut }
     ensures { result ≡ first_failure (map (outside_clause weights.now j level.now) level.now.cut) }
 {
     for e in level.cut.as_slice() {
         if is_lighter(weights, *e, level.at) {
-            return Some((Reason::Outside, j, *e));
+            return Some(Reason::Outside.at(j, *e));
         }
     }
     None
@@ -113,7 +113,7 @@ fn level_failure<M: Matroid>(
     falling: &[Weight],
     j: u32,
     level: &LevelLine,
-) -> Result<Option<(Reason, u32, u32)>, AllocError>
+) -> Result<Option<Failure>, AllocError>
     requires sound { AreSound M.ground_size M.sound (length joined.now.weights.now) joined.now.matroids.now }
     requires few { length joined.now.weights.now ≤ most_elements }
     requires few_matroids { length joined.now.matroids.now ≤ 64 }
@@ -125,13 +125,13 @@ fn level_failure<M: Matroid>(
         joined.now.weights.now joined.now.parts.now j level.now)) }
 {
     if !is_at(falling, j, level.at) {
-        return Ok(Some((Reason::Level, j, 0)));
+        return Ok(Some(Reason::Level.at(j, 0)));
     }
     if let Some(failure) = outside_failure(joined.weights, j, level) {
         return Ok(Some(failure));
     }
     if !is_cut_filled(alloc, joined, level)? {
-        return Ok(Some((Reason::Cut, j, 0)));
+        return Ok(Some(Reason::Cut.at(j, 0)));
     }
     Ok(None)
 }
@@ -141,7 +141,7 @@ pub(crate) fn levels_failure<M: Matroid>(
     alloc: Global,
     joined: &Joined<M>,
     levels: &[LevelLine],
-) -> Result<Option<(Reason, u32, u32)>, AllocError>
+) -> Result<Option<Failure>, AllocError>
     requires sound { AreSound M.ground_size M.sound (length joined.now.weights.now) joined.now.matroids.now }
     requires few { length joined.now.weights.now ≤ most_elements }
     requires few_matroids { length joined.now.matroids.now ≤ 64 }

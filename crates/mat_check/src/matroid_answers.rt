@@ -14,7 +14,7 @@ ghost use Rattle.mat_desc.specs.Soundness.{IsSoundInstance};
 use crate::coverings::{cover_failure, loop_failure};
 use crate::ladder::{best_failure, ladder_failure};
 use crate::packings::{no_rank_failure, pack_failure};
-use crate::reason::Reason;
+use crate::reason::Failure;
 use crate::rung::Pair;
 use crate::unions::union_failure;
 use mat_any::AnyMatroid;
@@ -30,7 +30,7 @@ pub(crate) fn pair_failure<R: Threads + Sync>(
     both: &Pair<AnyMatroid, AnyMatroid>,
     answer: &Answer,
     workers: u32,
-) -> Result<Option<(Reason, u32, u32)>, AllocError>
+) -> Result<Option<Failure>, AllocError>
     requires valid { IsValid (pair both.now.weights.now (tree_of both.now.first.now) (tree_of both.now.second.now)) }
     requires sound { IsSoundInstance (pair both.now.weights.now (tree_of both.now.first.now) (tree_of both.now.second.now)) }
     requires ranged { IsRanged (certificate_of answer.now) }
@@ -56,7 +56,7 @@ fn single_failure<R: Threads + Sync>(
     m: &AnyMatroid,
     answer: &Answer,
     workers: u32,
-) -> Result<Option<(Reason, u32, u32)>, AllocError>
+) -> Result<Option<Failure>, AllocError>
     requires valid { IsValid (list weights.now (tree_of m.now ∷ [])) }
     requires sound { IsSoundInstance (list weights.now (tree_of m.now ∷ [])) }
     requires ranged { IsRanged (certificate_of answer.now) }
@@ -83,7 +83,7 @@ pub(crate) fn list_failure<R: Threads + Sync>(
     matroids: &[AnyMatroid],
     answer: &Answer,
     workers: u32,
-) -> Result<Option<(Reason, u32, u32)>, AllocError>
+) -> Result<Option<Failure>, AllocError>
     requires valid { IsValid (list weights.now (map tree_of matroids.now)) }
     requires sound { IsSoundInstance (list weights.now (map tree_of matroids.now)) }
     requires ranged { IsRanged (certificate_of answer.now) }

@@ -9,7 +9,7 @@ ghost use Rattle.mat_check.specs.Clauses.{first_failure, numbered_clauses};
 ghost use Rattle.mat_check.specs.SetClauses.{full_clause, independent_clause, no_rank_clause, pack_clauses};
 
 use crate::families::overlap_failure;
-use crate::reason::Reason;
+use crate::reason::{Failure, Reason};
 use crate::searches::has_addable;
 use mat_laws::{Matroid, rank_of};
 use mat_sets::ElemSet;
@@ -19,13 +19,13 @@ use std::alloc::{AllocError, Global};
 pub(crate) fn no_rank_failure<M: Matroid>(
     alloc: Global,
     m: &M,
-) -> Result<Option<(Reason, u32, u32)>, AllocError>
+) -> Result<Option<Failure>, AllocError>
     requires sound { M.sound m.now }
     ensures { IfOk result (λ found. found ≡ first_failure (no_rank_clause (M.ground_size m.now) (M.indep m.now) ∷ [])) }
 {
     let all = ElemSet::all_below(alloc, m.size())?;
     if rank_of(alloc, m, &all)? != 0 {
-        return Ok(Some((Reason::Claim, 0, 0)));
+        return Ok(Some(Reason::Claim.at(0, 0)));
     }
     Ok(None)
 }
@@ -36,17 +36,17 @@ fn base_failure<M: Matroid>(
     m: &M,
     i: u32,
     base: &ElemSet,
-) -> Result<Option<(Reason, u32, u32)>, AllocError>
+) -> Result<Option<Failure>, AllocError>
     requires sound { M.sound m.now }
     requires below { AllBelow (M.ground_size m.now) base.now }
     ensures { IfOk result (λ found. found ≡ first_failure (independent_clause (M.indep m.now) i base.now
         ∷ full_clause (M.ground_size m.now) (M.indep m.now) i base.now ∷ [])) }
 {
     if !m.independent(alloc, base)? {
-        return Ok(Some((Reason::Dependent, i, 0)));
+        return Ok(Some(Reason::Dependent.at(i, 0)));
     }
     if has_addable(alloc, m, base)? {
-        return Ok(Some((Reason::Short, i, 0)));
+        return Ok(Some(Reason::Short.at(i, 0)));
     }
     Ok(None)
 }
@@ -56,7 +56,7 @@ fn bases_failure<M: Matroid>(
     alloc: Global,
     m: &M,
     bases: &[ElemSet],
-) -> Result<Option<(Reason, u32, u32)>, AllocError>
+) -> Result<Option<Failure>, AllocError>
     requires sound { M.sound m.now }
     requires few { length bases.now ≤ most_elements }
     requires bases { All (IsSet (M.ground_size m.now)) bases.now }
@@ -106,7 +106,7 @@ pub(crate) fn pack_failure<M: Matroid>(
     m: &M,
     bases: &[ElemSet],
     cut: &ElemSet,
-) -> Result<Option<(Reason, u32, u32)>, AllocError>
+) -> Result<Option<Failure>, AllocError>
     requires sound { M.sound m.now }
     requires ranged { IsRangedPacking (M.ground_size m.now) bases.now cut.now }
     ensures { IfOk result (λ found. found ≡ first_failure (pack_clauses (M.ground_size m.now) (M.indep m.now) bases.now cut.now)) }
@@ -118,7 +118,7 @@ pub(crate) fn pack_failure<M: Matroid>(
         return Ok(Some(failure));
     }
     if !cut_shows_most(alloc, m, bases.len(), cut)? {
-        return Ok(Some((Reason::Cut, 0, 0)));
+        return Ok(Some(Reason::Cut.at(0, 0)));
     }
     Ok(None)
 }

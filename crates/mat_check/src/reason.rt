@@ -1,6 +1,7 @@
-//! Which clause of the checker fails.
+//! Which clause of the checker fails, and at which places.
 
 ghost use Rattle.std.specs.Prelude.{◌≡◌};
+ghost use Rattle.mat_check.specs.Clauses.{failure_at};
 ghost use Rattle.mat_check.specs.Reasons.{reason_word};
 
 /// The clause of an answer that fails. A verdict has two places beside it, the numbers `a` and `b`; each variant says what they are, and of
@@ -81,4 +82,23 @@ impl Reason {
             Reason::Colours => "colours",
         }
     }
+
+    /// A clause that fails for this reason at these places.
+    pub(crate) fn at(self, first_place: u32, second_place: u32) -> Failure
+        ensures { result ≡ failure_at self first_place second_place }
+    {
+        Failure {
+            reason: self,
+            first_place,
+            second_place,
+        }
+    }
+}
+
+/// A clause that fails: why, and at which two places of the answer.
+#[derive(Clone, Copy)]
+pub(crate) struct Failure {
+    pub(crate) reason: Reason,
+    pub(crate) first_place: u32,
+    pub(crate) second_place: u32,
 }

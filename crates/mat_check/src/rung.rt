@@ -8,7 +8,7 @@ ghost use Rattle.mat_cert.specs.Certificates.{IsRangedPlainRung, IsRangedPricedR
 ghost use Rattle.mat_greedy.specs.Greedy.{AreHeaviestWeights};
 ghost use Rattle.mat_check.specs.Clauses.{first_failure, sum_clause, heaviest_clause, plain_rung_clauses, priced_rung_clauses};
 
-use crate::reason::Reason;
+use crate::reason::{Failure, Reason};
 use crate::searches::is_beaten;
 use mat_cert::{PlainRung, PricedRung};
 use mat_laws::Matroid;
@@ -37,12 +37,7 @@ fn adds_up(weights: &[Weight], first: &[Weight], second: &[Weight], e: u32) -> b
 }
 
 // The first element at which the two parts of rung k don't add up to the weight, as the failure that it is.
-fn sum_failure(
-    weights: &[Weight],
-    first: &[Weight],
-    second: &[Weight],
-    k: u32,
-) -> Option<(Reason, u32, u32)>
+fn sum_failure(weights: &[Weight], first: &[Weight], second: &[Weight], k: u32) -> Option<Failure>
     requires few { length weights.now ≤ most_elements }
     requires first { length first.now ≡ length weights.now }
     requires second { length second.now ≡ length weights.now }
@@ -53,7 +48,7 @@ fn sum_failure(
     let count = weights.len() as u32;
     for e in 0..count {
         if !adds_up(weights, first, second, e) {
-            return Some((Reason::Sum, k, e));
+            return Some(Reason::Sum.at(k, e));
         }
     }
     None
@@ -68,7 +63,7 @@ pub(crate) fn plain_rung_failure<M: Matroid>(
     heaviest: &PairWeights,
     k: u32,
     rung: &PlainRung,
-) -> Result<Option<(Reason, u32, u32)>, AllocError>
+) -> Result<Option<Failure>, AllocError>
     requires sound { M.sound m.now }
     requires lengths { length weights.now ≡ M.ground_size m.now }
     requires few { length weights.now ≤ most_elements }
@@ -78,13 +73,13 @@ pub(crate) fn plain_rung_failure<M: Matroid>(
     ensures { IfOk result (λ found. found ≡ first_failure (plain_rung_clauses (length weights.now) (M.indep m.now) weights.now k rung.now)) }
 {
     if weigh(&rung.set, weights) != rung.weight {
-        return Ok(Some((Reason::Weight, k, 0)));
+        return Ok(Some(Reason::Weight.at(k, 0)));
     }
     if !m.independent(alloc, &rung.set)? {
-        return Ok(Some((Reason::Dependent, k, 0)));
+        return Ok(Some(Reason::Dependent.at(k, 0)));
     }
     if is_beaten(m, weights, heaviest, &rung.set) {
-        return Ok(Some((Reason::Beaten, k, 0)));
+        return Ok(Some(Reason::Beaten.at(k, 0)));
     }
     Ok(None)
 }
@@ -96,7 +91,7 @@ fn beaten_failure<A: Matroid, B: Matroid>(
     second: &PairWeights,
     k: u32,
     rung: &PricedRung,
-) -> Option<(Reason, u32, u32)>
+) -> Option<Failure>
     requires first_sound { A.sound pair.now.first.now }
     requires second_sound { B.sound pair.now.second.now }
     requires first_lengths { length rung.now.first ≡ A.ground_size pair.now.first.now }
@@ -112,10 +107,10 @@ fn beaten_failure<A: Matroid, B: Matroid>(
         ∷ heaviest_clause (B.ground_size pair.now.second.now) (B.indep pair.now.second.now) rung.now.second 1 k rung.now.set ∷ []) }
 {
     if is_beaten(pair.first, rung.first.as_slice(), first, &rung.set) {
-        return Some((Reason::Beaten, k, 0));
+        return Some(Reason::Beaten.at(k, 0));
     }
     if is_beaten(pair.second, rung.second.as_slice(), second, &rung.set) {
-        return Some((Reason::Beaten, k, 1));
+        return Some(Reason::Beaten.at(k, 1));
     }
     None
 }
@@ -127,7 +122,7 @@ fn split_failure<A: Matroid, B: Matroid>(
     second: &PairWeights,
     k: u32,
     rung: &PricedRung,
-) -> Option<(Reason, u32, u32)>
+) -> Option<Failure>
     requires first_sound { A.sound pair.now.first.now }
     requires second_sound { B.sound pair.now.second.now }
     requires first_lengths { length pair.now.weights.now ≡ A.ground_size pair.now.first.now }
@@ -163,7 +158,7 @@ pub(crate) fn priced_rung_failure<A: Matroid, B: Matroid>(
     second: &PairWeights,
     k: u32,
     rung: &PricedRung,
-) -> Result<Option<(Reason, u32, u32)>, AllocError>
+) -> Result<Option<Failure>, AllocError>
     requires first_sound { A.sound pair.now.first.now }
     requires second_sound { B.sound pair.now.second.now }
     requires first_lengths { length pair.now.weights.now ≡ A.ground_size pair.now.first.now }
@@ -177,13 +172,13 @@ pub(crate) fn priced_rung_failure<A: Matroid, B: Matroid>(
         ≡ first_failure (priced_rung_clauses (length pair.now.weights.now) (A.indep pair.now.first.now) (B.indep pair.now.second.now) pair.now.weights.now k rung.now)) }
 {
     if weigh(&rung.set, pair.weights) != rung.weight {
-        return Ok(Some((Reason::Weight, k, 0)));
+        return Ok(Some(Reason::Weight.at(k, 0)));
     }
     if !pair.first.independent(alloc, &rung.set)? {
-        return Ok(Some((Reason::Dependent, k, 0)));
+        return Ok(Some(Reason::Dependent.at(k, 0)));
     }
     if !pair.second.independent(alloc, &rung.set)? {
-        return Ok(Some((Reason::Dependent, k, 1)));
+        return Ok(Some(Reason::Dependent.at(k, 1)));
     }
     Ok(split_failure(pair, first, second, k, rung))
 }

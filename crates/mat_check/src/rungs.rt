@@ -10,7 +10,7 @@ ghost use Rattle.mat_check.specs.Clauses.{first_failure, numbered_clauses, plain
 ghost use Rattle.mat_check.specs.RungFailures.{first_in_order};
 
 use crate::halves::Side;
-use crate::reason::Reason;
+use crate::reason::Failure;
 use crate::rung::{Pair, plain_rung_failure, priced_rung_failure};
 use crate::rung_sums::{RungSums, rung_sums};
 use mat_any::AnyMatroid;
@@ -56,7 +56,7 @@ impl<'a> Model for PlainFailures<'a> {
 }
 
 impl RowJob for PlainFailures<'_> {
-    type Row = Option<(Reason, u32, u32)>;
+    type Row = Option<Failure>;
 
     ghost use Rattle.std.specs.Prelude.{◌≡◌, None, length, slice_index_or};
 
@@ -64,7 +64,7 @@ impl RowJob for PlainFailures<'_> {
 
     ghost stands = { λ failures k found. found ≡ slice_index_or failures k None };
 
-    fn row(&self, k: u32) -> Result<Option<(Reason, u32, u32)>, AllocError> {
+    fn row(&self, k: u32) -> Result<Option<Failure>, AllocError> {
         let rung = &self.rungs[k as usize];
         plain_rung_failure(
             self.alloc,
@@ -121,7 +121,7 @@ impl<'a> Model for PricedFailures<'a> {
 }
 
 impl RowJob for PricedFailures<'_> {
-    type Row = Option<(Reason, u32, u32)>;
+    type Row = Option<Failure>;
 
     ghost use Rattle.std.specs.Prelude.{◌≡◌, None, length, slice_index_or};
 
@@ -129,7 +129,7 @@ impl RowJob for PricedFailures<'_> {
 
     ghost stands = { λ failures k found. found ≡ slice_index_or failures k None };
 
-    fn row(&self, k: u32) -> Result<Option<(Reason, u32, u32)>, AllocError> {
+    fn row(&self, k: u32) -> Result<Option<Failure>, AllocError> {
         let rung = &self.rungs[k as usize];
         let first = self.first.of_rung(k);
         let second = self.second.of_rung(k);
@@ -138,7 +138,7 @@ impl RowJob for PricedFailures<'_> {
 }
 
 // The first failure in the order of the rungs.
-fn first_found(failures: &[Option<(Reason, u32, u32)>]) -> Option<(Reason, u32, u32)>
+fn first_found(failures: &[Option<Failure>]) -> Option<Failure>
     ensures { result ≡ first_in_order failures.now }
 {
     for failure in failures {
@@ -158,7 +158,7 @@ pub(crate) fn plain_rungs_failure<R: Threads + Sync>(
     weights: &[Weight],
     rungs: &[PlainRung],
     workers: u32,
-) -> Result<Option<(Reason, u32, u32)>, AllocError>
+) -> Result<Option<Failure>, AllocError>
     requires sound { IsSound (tree_of m.now) }
     requires lengths { length weights.now ≡ element_count (tree_of m.now) }
     requires small { AreWeightsWithin largest_number weights.now }
@@ -189,7 +189,7 @@ pub(crate) fn priced_rungs_failure<R: Threads + Sync>(
     pair: &Pair<AnyMatroid, AnyMatroid>,
     rungs: &[PricedRung],
     workers: u32,
-) -> Result<Option<(Reason, u32, u32)>, AllocError>
+) -> Result<Option<Failure>, AllocError>
     requires first_sound { IsSound (tree_of pair.now.first.now) }
     requires second_sound { IsSound (tree_of pair.now.second.now) }
     requires first_lengths { length pair.now.weights.now ≡ element_count (tree_of pair.now.first.now) }

@@ -11,7 +11,7 @@ ghost use Rattle.mat_check.specs.Clauses.{first_failure, numbered_clauses};
 ghost use Rattle.mat_check.specs.TreeClauses.{partition_clauses, some_clause, tree_clause, trees_clauses};
 
 use crate::families::{missed_failure, overlap_failure};
-use crate::reason::Reason;
+use crate::reason::{Failure, Reason};
 use mat_graphic::Graphic;
 use mat_laws::Matroid;
 use mat_sets::{ElemSet, Pairs};
@@ -36,7 +36,7 @@ fn tree_failure(
     alloc: Global,
     graph: &Graphic,
     trees: &[ElemSet],
-) -> Result<Option<(Reason, u32, u32)>, AllocError>
+) -> Result<Option<Failure>, AllocError>
     requires sound { IsGraph graph.now.vertices graph.now.edges }
     requires some { 1 ≤ graph.now.vertices }
     requires ranged { AreRangedTrees (length graph.now.edges) trees.now }
@@ -45,7 +45,7 @@ fn tree_failure(
 {
     for i in 0..trees.len() {
         if !is_tree(alloc, graph, &trees[i])? {
-            return Ok(Some((Reason::Tree, i as u32, 0)));
+            return Ok(Some(Reason::Tree.at(i as u32, 0)));
         }
     }
     Ok(None)
@@ -58,7 +58,7 @@ pub(crate) fn trees_failure(
     vertices: u32,
     edges: &Pairs,
     trees: &[ElemSet],
-) -> Result<Option<(Reason, u32, u32)>, AllocError>
+) -> Result<Option<Failure>, AllocError>
     requires graph { IsGraph vertices edges.now }
     requires few { length edges.now ≤ most_elements }
     requires some_vertices { 1 ≤ vertices }
@@ -74,13 +74,13 @@ pub(crate) fn trees_failure(
 }
 
 // The first of these classes that is empty.
-fn empty_failure(classes: &[ElemSet]) -> Option<(Reason, u32, u32)>
+fn empty_failure(classes: &[ElemSet]) -> Option<Failure>
     requires few { length classes.now ≤ most_elements }
     ensures { result ≡ first_failure (numbered_clauses (λ i class. some_clause i class ∷ []) 0 classes.now) }
 {
     for i in 0..classes.len() {
         if classes[i].is_empty() {
-            return Some((Reason::Empty, i as u32, 0));
+            return Some(Reason::Empty.at(i as u32, 0));
         }
     }
     None
@@ -129,7 +129,7 @@ pub(crate) fn partition_failure(
     edges: &Pairs,
     k: u32,
     classes: &[ElemSet],
-) -> Option<(Reason, u32, u32)>
+) -> Option<Failure>
     requires few { length edges.now ≤ most_elements }
     requires some_vertices { 1 ≤ vertices }
     requires few_vertices { vertices ≤ most_vertices }
@@ -148,7 +148,7 @@ pub(crate) fn partition_failure(
         return Some(failure);
     }
     if crossing_count(edges, classes) >= k as usize * (classes.len() - 1) {
-        return Some((Reason::Crossing, 0, 0));
+        return Some(Reason::Crossing.at(0, 0));
     }
     None
 }

@@ -13,7 +13,7 @@ ghost use Rattle.mat_check.specs.SetClauses.{independent_clause, union_clauses};
 
 use crate::families::{dependent_failure, overlap_failure};
 use crate::levels::{Joined, levels_failure};
-use crate::reason::Reason;
+use crate::reason::{Failure, Reason};
 use mat_cert::LevelLine;
 use mat_laws::Matroid;
 use mat_sets::{ElemSet, Weight, weigh};
@@ -26,7 +26,7 @@ fn parts_failure<M: Matroid>(
     matroids: &[M],
     n: u32,
     parts: &[ElemSet],
-) -> Result<Option<(Reason, u32, u32)>, AllocError>
+) -> Result<Option<Failure>, AllocError>
     requires sound { AreSound M.ground_size M.sound n matroids.now }
     requires one_each { length parts.now ≡ length matroids.now }
     requires few { length parts.now ≤ 64 }
@@ -62,7 +62,7 @@ pub(crate) fn union_failure<M: Matroid>(
     printed: Weight,
     parts: &[ElemSet],
     levels: &[LevelLine],
-) -> Result<Option<(Reason, u32, u32)>, AllocError>
+) -> Result<Option<Failure>, AllocError>
     requires sound { AreSound M.ground_size M.sound (length weights.now) matroids.now }
     requires small { AreWeightsWithin largest_number weights.now }
     requires ranged { IsRangedUnion (length weights.now) printed parts.now levels.now }
@@ -80,7 +80,7 @@ pub(crate) fn union_failure<M: Matroid>(
     }
     let all = members_of(alloc, parts)?;
     if !is_weight_of(weights, &all, printed) {
-        return Ok(Some((Reason::Weight, 0, 0)));
+        return Ok(Some(Reason::Weight.at(0, 0)));
     }
     let joined = Joined {
         matroids,

@@ -1,6 +1,9 @@
 //! What the checker says of an answer.
 
-use crate::reason::Reason;
+ghost use Rattle.std.specs.Prelude.{◌≡◌};
+ghost use Rattle.mat_check.specs.Views.{failure_in};
+
+use crate::reason::{Failure, Reason};
 
 /// Whether an answer is right.
 #[derive(Clone, Copy, Debug, PartialEq, Eq)]
@@ -16,4 +19,19 @@ pub enum Verdict {
         /// The second place.
         b: u32,
     },
+}
+
+impl From<Option<Failure>> for Verdict {
+    ghost from_gives = { λ found verdict. failure_in verdict ≡ found };
+
+    fn from(found: Option<Failure>) -> Verdict {
+        match found {
+            Some(failure) => Verdict::No {
+                reason: failure.reason,
+                a: failure.first_place,
+                b: failure.second_place,
+            },
+            None => Verdict::Yes,
+        }
+    }
 }

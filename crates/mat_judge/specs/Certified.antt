@@ -8,9 +8,10 @@ use Rattle.mat_cert.specs.Reading.{read_of}
 use Rattle.mat_cert.specs.declared.refusal.CertRefusal.{CertRefusal}
 use Rattle.mat_cert.specs.declared.refusal.CertRefusal.TheVariants as cert_refusals
 use Rattle.mat_check.specs.AnswerClauses.{failure_of}
-use Rattle.mat_check.specs.Clauses.{Failure}
+use Rattle.mat_check.specs.Clauses.{failure_at}
 use Rattle.mat_check.specs.Fitting.{fits}
 use Rattle.mat_check.specs.Right.{IsRight}
+use Rattle.mat_check.specs.declared.reason.Reason.{Reason}
 use Rattle.mat_judge.specs.declared.certified.Uncertified.{Uncertified}
 use Rattle.mat_judge.specs.declared.certified.Uncertified.TheVariants as uncertified
 use Rattle.mat_judge.specs.declared.certified.NotRight.{NotRight}
@@ -45,13 +46,14 @@ pub record IsMisfit (instance : Instance) (bytes : List ℕ) : Type 0 where
   pub certified : IsCertified bytes answer
   pub misfit : fits instance answer ≡ false
 
--- the bytes are the text of an answer that fits the problem and isn't right: this is the first of its clauses that fails
-pub record IsWrong (instance : Instance) (bytes : List ℕ) (failure : Failure) : Type 0 where
+-- the bytes are the text of an answer that fits the problem and isn't right: the first of its clauses that fails tells this reason and these
+-- two places
+pub record IsWrong (instance : Instance) (bytes : List ℕ) (reason : Reason) (first second : ℕ) : Type 0 where
   pub answer : Certificate
   pub certified : IsCertified bytes answer
   pub fitting : fits instance answer ≡ true
   pub wrong : IsRight instance answer → ⊥
-  pub fails : failure_of instance answer ≡ Some failure
+  pub fails : failure_of instance answer ≡ Some (failure_at reason first second)
 
 -- what a reader that read no answer says of the certificate
 abbrev pub uncertified_by : CertRefusal → Uncertified
@@ -67,4 +69,4 @@ IsUncertified held before now (uncertified.Fault kind number) = IfSome held (λ 
 abbrev pub IsNotRight : Instance → Option (List ℕ) → ℕ → ℕ → NotRight → Type 0
 IsNotRight instance held before now (not_right.Uncertified why) = IsUncertified held before now why
 IsNotRight instance held before now not_right.WrongShape = IfSome held (IsMisfit instance)
-IsNotRight instance held before now (not_right.No reason first second) = IfSome held (λ bytes. IsWrong instance bytes (reason, first, second))
+IsNotRight instance held before now (not_right.No reason first second) = IfSome held (λ bytes. IsWrong instance bytes reason first second)

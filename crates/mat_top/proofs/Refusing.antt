@@ -199,7 +199,7 @@ module _ (held : List ℕ → Option (List ℕ)) (file : List ℕ) (instance : I
       → HasNoWitness instance k (held certificate) (before certificate) (now certificate) refusal
       → IsRefusal held (about file (witness k certificate)) before now refusal
   unwitnessed_by k certificate before now refusal (inl (why, same, is)) = rw same (no_rung_by k certificate before now why is)
-  unwitnessed_by k certificate before now refusal (inr (failure, same, is)) = rw same (
+  unwitnessed_by k certificate before now refusal (inr (reason, first, second, same, is)) = rw same (
     witness_outcome k certificate _ statuses.No is (λ all no. inr (no.answer, no.of_rung, no.wrong)),
     if_told (held file) _ _ (λ bytes spelled. if_told (held certificate) _ _ (λ all no. record {
       instance = instance;

@@ -10,9 +10,9 @@ use Rattle.mat_desc.specs.Limits.{description_limit}
 use Rattle.mat_cert.specs.Certificates.{Certificate}
 use Rattle.mat_cert.specs.Faults as certificate_faults
 use Rattle.mat_cert.specs.Limits.{certificate_limit}
-use Rattle.mat_check.specs.Clauses.{Failure}
 use Rattle.mat_check.specs.Fitting.{fits, is_rooted}
 use Rattle.mat_check.specs.Right.{IsRight}
+use Rattle.mat_check.specs.declared.reason.Reason.{Reason}
 use Rattle.mat_witness.specs.Kinds.{is_witnessed_pair}
 use Rattle.mat_witness.specs.Lines.{witness_limit}
 use Rattle.mat_judge.specs.declared.status.Status.{Status}
@@ -263,11 +263,11 @@ IsWritten held asked old new statuses.Done = (text : List ℕ) × IsOutput held 
 IsWritten held asked old new statuses.WriteFault = (text : List ℕ) × IsOutput held asked text × AppendedPrefix old text new
 IsWritten held asked old new status = new ≡ old
 
--- the first clause that fails of the answer in the certificate, over the problem in the description
-pub record HasFailure (description certificate : List ℕ) (failure : Failure) : Type 0 where
+-- the first clause that fails of the answer in the certificate, over the problem in the description, tells this reason and these two places
+pub record HasFailure (description certificate : List ℕ) (reason : Reason) (first second : ℕ) : Type 0 where
   pub instance : Instance
   pub described : IsDescribed description instance
-  pub failed : IsWrong instance certificate failure
+  pub failed : IsWrong instance certificate reason first second
 
 -- the witness for rung k of the answer in the certificate, over the problem in the description, has this first fault
 pub record HasWitnessFault (k : ℕ) (description certificate bytes : List ℕ) (fault : certificate_faults.Fault) : Type 0 where
@@ -292,12 +292,12 @@ IsTrueOfRequest held file request (denials.BadDescription kind number) = IfSome 
 IsTrueOfRequest held file (check certificate) (denials.BadCertificate kind number) =
     IfSome (held certificate) (λ bytes. IsFaultyCertificate bytes (kind, number))
 IsTrueOfRequest held file (check certificate) (denials.No reason first second) =
-    IfSome (held file) (λ description. IfSome (held certificate) (λ bytes. HasFailure description bytes (reason, first, second)))
+    IfSome (held file) (λ description. IfSome (held certificate) (λ bytes. HasFailure description bytes reason first second))
 IsTrueOfRequest held file (check certificate) (denials.NotShown part) = ⊥
 IsTrueOfRequest held file (witness k certificate) (denials.BadCertificate kind number) =
     IfSome (held certificate) (λ bytes. IsFaultyCertificate bytes (kind, number))
 IsTrueOfRequest held file (witness k certificate) (denials.No reason first second) =
-    IfSome (held file) (λ description. IfSome (held certificate) (λ bytes. HasFailure description bytes (reason, first, second)))
+    IfSome (held file) (λ description. IfSome (held certificate) (λ bytes. HasFailure description bytes reason first second))
 IsTrueOfRequest held file (witness k certificate) (denials.NotShown part) = ⊥
 IsTrueOfRequest held file (verify k certificate shown) (denials.BadCertificate kind number) =
     IfSome (held certificate) (λ bytes. IsFaultyCertificate bytes (kind, number))

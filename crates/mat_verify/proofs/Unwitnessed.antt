@@ -62,8 +62,14 @@ module _ (after held : List ℕ → Option (List ℕ)) (same : (name : List ℕ)
       → HasNoWitness instance k (after certificate) (before certificate) (now certificate) refusal
       → HasNoWitness instance k (held certificate) (earlier certificate) (now certificate) refusal
   no_witness_there k certificate refusal (inl (why, is_refusal, is)) = inl (why, is_refusal, no_rung_there k certificate why is)
-  no_witness_there k certificate refusal (inr (failure, is_refusal, is)) =
-      inr (failure, is_refusal, subst (λ o. IfSome o (λ bytes. IsWrongRung instance k bytes failure)) (same certificate) is)
+  no_witness_there k certificate refusal (inr (reason, first, second, is_refusal, is)) =
+      inr (
+        reason,
+        first,
+        second,
+        is_refusal,
+        subst (λ o. IfSome o (λ bytes. IsWrongRung instance k bytes reason first second)) (same certificate) is,
+      )
 
   -- a rung whose witness doesn't show it
   pub unshown_rung : (k : ℕ) (certificate shown : List ℕ) (answer : Certificate) (why : Unshown)

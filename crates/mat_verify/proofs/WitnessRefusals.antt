@@ -31,5 +31,5 @@ module _ (instance : Instance) (k : ℕ) (held : Option (List ℕ)) (before now 
     (of_rung : IfSome held (λ bytes. IsRungAnswer instance k bytes answer)) where
   pub refused_by : (refusal : Refusal) → IsRefusedAnswer instance answer refusal → HasNoWitness instance k held before now refusal
   refused_by refusal (inl memory) = inl (no_rung.Uncertified (uncertified.Unread unread.Memory), memory, tt)
-  refused_by refusal (inr (failure, same, wrong, fails)) =
-      inr (failure, same, if_told held _ _ (λ bytes of. record { answer = answer; of_rung = of; wrong = wrong; fails = fails }) of_rung)
+  refused_by refusal (inr (reason, first, second, same, wrong, fails)) =
+      inr (reason, first, second, same, if_told held _ _ (λ bytes of. record { answer = answer; of_rung = of; wrong = wrong; fails = fails }) of_rung)

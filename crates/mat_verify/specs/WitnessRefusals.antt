@@ -5,8 +5,9 @@ use Rattle.mat_cert.specs.Certificates.{Certificate}
 use Rattle.mat_cert.specs.declared.refusal.CertRefusal.{CertRefusal}
 use Rattle.mat_cert.specs.declared.refusal.CertRefusal.TheVariants as cert_refusals
 use Rattle.mat_check.specs.AnswerClauses.{failure_of}
-use Rattle.mat_check.specs.Clauses.{Failure}
+use Rattle.mat_check.specs.Clauses.{failure_at}
 use Rattle.mat_check.specs.Right.{IsRight}
+use Rattle.mat_check.specs.declared.reason.Reason.{Reason}
 use Rattle.mat_witness.specs.Kinds.{is_witnessed_pair}
 use Rattle.mat_witness.specs.Lines.{witness_limit}
 use Rattle.mat_judge.specs.Certified.{IsUncertified}
@@ -51,25 +52,26 @@ HasNoRung instance k held before now (no_rung.Uncertified why) = IsUncertified h
 HasNoRung instance k held before now no_rung.WrongShape = IfSome held (λ bytes. IsRungOutcome instance k bytes statuses.WrongShape)
 HasNoRung instance k held before now no_rung.Unwitnessed = IfSome held (λ bytes. IsRungOutcome instance k bytes statuses.Unwitnessed)
 
--- the bytes have an answer of which this rung can be witnessed, which isn't right: this is the first of its clauses that fails
-pub record IsWrongRung (instance : Instance) (k : ℕ) (bytes : List ℕ) (failure : Failure) : Type 0 where
+-- the bytes have an answer of which this rung can be witnessed, which isn't right: the first of its clauses that fails tells this
+-- reason and these two places
+pub record IsWrongRung (instance : Instance) (k : ℕ) (bytes : List ℕ) (reason : Reason) (first second : ℕ) : Type 0 where
   pub answer : Certificate
   pub of_rung : IsRungAnswer instance k bytes answer
   pub wrong : IsRight instance answer → ⊥
-  pub fails : failure_of instance answer ≡ Some failure
+  pub fails : failure_of instance answer ≡ Some (failure_at reason first second)
 
--- why there is no witness for a rung of this answer: memory ran out, or it isn't right, and this is the first of its clauses that fails
+-- why there is no witness for a rung of this answer: memory ran out, or it isn't right, and the first of its clauses that fails is told
 abbrev pub IsRefusedAnswer : Instance → Certificate → Refusal → Type 0
 IsRefusedAnswer instance answer refusal = (refusal ≡ out_of_memory)
-    ⊎ ((failure : Failure) × (refusal ≡ refusals.Denied (denials.No failure.0 failure.1 failure.2))
-    × (IsRight instance answer → ⊥) × (failure_of instance answer ≡ Some failure))
+    ⊎ ((reason : Reason) × (first : ℕ) × (second : ℕ) × (refusal ≡ refusals.Denied (denials.No reason first second))
+    × (IsRight instance answer → ⊥) × (failure_of instance answer ≡ Some (failure_at reason first second)))
 
 -- why there is no witness for a rung of the certificate in a file
 abbrev pub HasNoWitness : Instance → ℕ → Option (List ℕ) → ℕ → ℕ → Refusal → Type 0
 HasNoWitness instance k held before now refusal =
     ((why : NoRung) × (refusal ≡ refusal_of_no_rung why) × HasNoRung instance k held before now why)
-    ⊎ ((failure : Failure) × (refusal ≡ refusals.Denied (denials.No failure.0 failure.1 failure.2))
-    × IfSome held (λ bytes. IsWrongRung instance k bytes failure))
+    ⊎ ((reason : Reason) × (first : ℕ) × (second : ℕ) × (refusal ≡ refusals.Denied (denials.No reason first second))
+    × IfSome held (λ bytes. IsWrongRung instance k bytes reason first second))
 
 -- why the witness in a file doesn't show rung k of an answer
 abbrev pub IsUnshown : Instance → Certificate → ℕ → Option (List ℕ) → ℕ → ℕ → Unshown → Type 0

@@ -1,10 +1,8 @@
-use Rattle.std.proofs.Common.{sym, ◌∙◌}
+use Rattle.std.proofs.Common.{Some, sym, ap, ◌∙◌}
 use Rattle.mat_cert.specs.Views.{certificate_of}
 use Rattle.mat_desc.specs.Views.{instance_of}
 use Rattle.mat_check.specs.AnswerClauses.{answer_clauses, has_header}
 use Rattle.mat_check.specs.Clauses.{header_clause}
-use Rattle.mat_check.specs.declared.reason.Reason.TheVariants as reasons
-use Rattle.mat_check.specs.declared.verdict.Verdict.TheVariants.{Yes, No}
 use Rattle.mat_check.proofs.FailingClauses.{first_of_failing, first_of_holding}
 use Rattle.mat_check.proofs.Verdicts.{yes_where_right}
 use Rattle.mat_check.proofs.checker.check.Goals as goal
@@ -13,25 +11,16 @@ pub returns-then-not-branch-clause-yes : goal.returns-then-not-branch-clause-yes
 returns-then-not-branch-clause-yes g c =
     let problem = instance_of c.args.problem.now in
     let answer = certificate_of c.args.answer.now in
-    yes_where_right problem answer c.requires.valid c.requires.sound c.requires.ranged c.requires.fits (No reasons.Header 0 0)
-    (sym (first_of_failing (header_clause (has_header problem answer)) (answer_clauses problem answer)
+    yes_where_right problem answer c.requires.valid c.requires.sound c.requires.ranged c.requires.fits c.from.result
+    (c.from.ensures ∙ ap Some c.at.ensures
+    ∙ sym (first_of_failing (header_clause (has_header problem answer)) (answer_clauses problem answer)
     (sym c.in_ok-has_header.ensures ∙ c.if-not-branch.true)))
 
-pub returns-in-Some-clause-yes : goal.returns-in-Some-clause-yes
-returns-in-Some-clause-yes g c =
+pub returns-clause-yes : goal.returns-clause-yes
+returns-clause-yes g c =
     let problem = instance_of c.args.problem.now in
     let answer = certificate_of c.args.answer.now in
-    yes_where_right problem answer c.requires.valid c.requires.sound c.requires.ranged c.requires.fits
-    (No c.in-Some.reason c.in-Some.a c.in-Some.b)
-    (sym c.in-Some.is ∙ c.in_ok-reason.ensures
-    ∙ sym (first_of_holding (header_clause (has_header problem answer)) (answer_clauses problem answer)
-    (sym c.in_ok-has_header.ensures ∙ c.if-not-branch.false)))
-
-pub returns-in-None-clause-yes : goal.returns-in-None-clause-yes
-returns-in-None-clause-yes g c =
-    let problem = instance_of c.args.problem.now in
-    let answer = certificate_of c.args.answer.now in
-    yes_where_right problem answer c.requires.valid c.requires.sound c.requires.ranged c.requires.fits Yes
-    (sym c.in-None.is ∙ c.in_ok-reason.ensures
+    yes_where_right problem answer c.requires.valid c.requires.sound c.requires.ranged c.requires.fits c.from.result
+    (c.from.ensures ∙ c.in_ok-found.ensures
     ∙ sym (first_of_holding (header_clause (has_header problem answer)) (answer_clauses problem answer)
     (sym c.in_ok-has_header.ensures ∙ c.if-not-branch.false)))

@@ -14,7 +14,7 @@ pub returns-then-branch : goal.returns-then-branch
 returns-then-branch g c =
     let p = g.M.Matroid.indep c.args.m.now in
     let set = c.in_ok-add.ensures.ok.1 ∙ ap (λ s. with_one s c.args.x) c.new-alone.ensures.members ∙ alone_is c.args.x in
-    sym (first_of_failing (loop_clause p c.args.x) [] (ap not (ap p (sym set) ∙ sym c.in_ok-independent.ensures ∙ c.if-branch.true)))
+    rw c.at.ensures (sym (first_of_failing (loop_clause p c.args.x) [] (ap not (ap p (sym set) ∙ sym c.in_ok-independent.ensures ∙ c.if-branch.true))))
 
 pub returns : goal.returns
 returns g c =

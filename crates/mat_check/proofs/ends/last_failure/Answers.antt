@@ -8,9 +8,9 @@ has_addable-requires-clause-below g c κs within =
 
 pub returns-then-branch : goal.returns-then-branch
 returns-then-branch g c =
-    last_clause_fails (g.M.Matroid.ground_size c.args.m.now) (g.M.Matroid.indep c.args.m.now)
+    rw c.at.ensures (last_clause_fails (g.M.Matroid.ground_size c.args.m.now) (g.M.Matroid.indep c.args.m.now)
     c.args.rungs.now c.index-rungs-last.result c.requires.ranged.some
-    (sym c.in_ok-has_addable.ensures ∙ c.if-branch.true)
+    (sym c.in_ok-has_addable.ensures ∙ c.if-branch.true))
 
 pub returns : goal.returns
 returns g c =

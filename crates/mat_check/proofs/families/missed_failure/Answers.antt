@@ -8,8 +8,8 @@ loop-e-init c = none_below_none (missed_clause c.args.sets.now)
 
 pub returns-then-not-is_covered : goal.returns-then-not-is_covered
 returns-then-not-is_covered c =
-    sym (first_below (missed_clause c.args.sets.now) _ c.loop-e.e c.loop-e-test.true c.loop-e.invariant
-    (sym c.is_covered.ensures ∙ c.if-not-is_covered.true))
+    rw c.at.ensures (sym (first_below (missed_clause c.args.sets.now) _ c.loop-e.e c.loop-e-test.true c.loop-e.invariant
+    (sym c.is_covered.ensures ∙ c.if-not-is_covered.true)))
 
 pub loop-e-preserved : goal.loop-e-preserved
 loop-e-preserved c =

@@ -8,8 +8,8 @@ loop-e-init c = none_below_none (overlap_clause c.args.sets.now)
 
 pub returns-then-not-is_apart : goal.returns-then-not-is_apart
 returns-then-not-is_apart c =
-    sym (first_below (overlap_clause c.args.sets.now) _ c.loop-e.e c.loop-e-test.true c.loop-e.invariant
-    (sym c.is_apart.ensures ∙ c.if-not-is_apart.true))
+    rw c.at.ensures (sym (first_below (overlap_clause c.args.sets.now) _ c.loop-e.e c.loop-e-test.true c.loop-e.invariant
+    (sym c.is_apart.ensures ∙ c.if-not-is_apart.true)))
 
 pub loop-e-preserved : goal.loop-e-preserved
 loop-e-preserved c =

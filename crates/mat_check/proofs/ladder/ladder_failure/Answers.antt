@@ -27,9 +27,9 @@ returns-then-not-branch g c =
     let end = cut_clause (length w) p q last cut in
     let holds : c.in_ok-cut_holds.field-0 ≡ end.holds =
     c.in_ok-cut_holds.ensures ∙ ap (λ m. rank p (minus (all_below m) cut) + rank q cut == last) (sym c.requires.first_lengths) in
-    sym (first_in_back (numbered_clauses (priced_rung_clauses (length w) p q w) 0 c.args.rungs.now) (end ∷ [])
+    rw c.at.ensures (sym (first_in_back (numbered_clauses (priced_rung_clauses (length w) p q w) 0 c.args.rungs.now) (end ∷ [])
     (sym c.in_ok-failure.ensures ∙ c.in_default.is)
-    ∙ first_of_failing end [] (sym holds ∙ c.if-not-branch.true))
+    ∙ first_of_failing end [] (sym holds ∙ c.if-not-branch.true)))
 
 pub returns : goal.returns
 returns g c =

@@ -31,9 +31,9 @@ returns-then-branch c =
     let arcs = ap (λ (m : Graphic). m.edges) c.in_ok-graphic.ensures.value ∙ c.in_ok-copy.ensures in
     let told = c.in_ok-is_beaten_under.ensures
     ∙ ap (λ (es : List (ℕ × ℕ)). is_beaten (length es) (is_graphic (length es) (ends_of es)) (weight_at c.args.first.now) tree) arcs in
-    sym (first_of_failing (heaviest_clause n (is_graphic n ends) c.args.first.now 0 0 tree)
+    rw c.at.ensures (sym (first_of_failing (heaviest_clause n (is_graphic n ends) c.args.first.now 0 0 tree)
     (heaviest_clause n (is_entering_once n c.args.vertices ends c.args.root) c.args.second.now 1 0 tree ∷ [])
-    (ap not (sym told ∙ c.if-branch.true)))
+    (ap not (sym told ∙ c.if-branch.true))))
 
 pub returns-then-branch-2 : goal.returns-then-branch-2
 returns-then-branch-2 c =
@@ -46,8 +46,8 @@ returns-then-branch-2 c =
     let told_second = c.in_ok-is_beaten_under-2.ensures
     ∙ ap (λ (m : CappedClasses). is_beaten m.count (test_of m) (weight_at c.args.second.now) tree) c.in_ok-heads.ensures.value in
     let second = heaviest_clause n (is_entering_once n c.args.vertices ends c.args.root) c.args.second.now 1 0 tree in
-    sym (first_of_holding (heaviest_clause n (is_graphic n ends) c.args.first.now 0 0 tree) (second ∷ []) (ap not (sym told ∙ c.if-branch.false))
-    ∙ first_of_failing second [] (ap not (sym told_second ∙ c.if-branch-2.true)))
+    rw c.at-then-branch-2.ensures (sym (first_of_holding (heaviest_clause n (is_graphic n ends) c.args.first.now 0 0 tree) (second ∷ []) (ap not (sym told ∙ c.if-branch.false))
+    ∙ first_of_failing second [] (ap not (sym told_second ∙ c.if-branch-2.true))))
 
 pub returns : goal.returns
 returns c =

@@ -8,8 +8,8 @@ loop-e-init c = none_below_none (cost_clause c.args.costs.now c.args.first.now c
 
 pub returns-then-not-negates : goal.returns-then-not-negates
 returns-then-not-negates c =
-    sym (first_below (cost_clause c.args.costs.now c.args.first.now c.args.second.now) _ c.loop-e.e c.loop-e-test.true c.loop-e.invariant
-    (sym c.negates.ensures ∙ c.if-not-negates.true))
+    rw c.at.ensures (sym (first_below (cost_clause c.args.costs.now c.args.first.now c.args.second.now) _ c.loop-e.e c.loop-e-test.true c.loop-e.invariant
+    (sym c.negates.ensures ∙ c.if-not-negates.true)))
 
 pub loop-e-preserved : goal.loop-e-preserved
 loop-e-preserved c =

@@ -27,8 +27,8 @@ returns-then-not-branch g c =
     let filled : c.in_ok-is_cut_filled.field-0 ≡ (level_cut_clause (length w) tests w c.args.joined.now.parts.now c.args.j level).holds
     = c.in_ok-is_cut_filled.ensures ∙ ap
     (λ all. length (intersection all H) == length (minus H level.cut) + ranks_sum tests level.cut) c.requires.all in
-    level_fails (length w) tests w c.args.joined.now.parts.now c.args.j level same (sym c.outside_failure.ensures ∙ c.in_default.is)
-    (sym filled ∙ c.if-not-branch.true)
+    rw c.at-then-not-branch.ensures (level_fails (length w) tests w c.args.joined.now.parts.now c.args.j level same (sym c.outside_failure.ensures ∙ c.in_default.is)
+    (sym filled ∙ c.if-not-branch.true))
 
 pub returns : goal.returns
 returns g c =

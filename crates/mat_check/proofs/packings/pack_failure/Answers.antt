@@ -33,9 +33,9 @@ returns-then-not-branch g c =
     let bases = c.args.bases.now in
     let told : first_failure (overlap_clauses n bases) ≡ c.overlap_failure.result
     = ap (λ k. first_failure (overlap_clauses k bases)) (sym c.size.ensures) ∙ sym c.overlap_failure.ensures in
-    sym (first_of_failing (packing_cut_clause n p (length bases) c.args.cut.now) [] (sym c.in_ok-cut_shows_most.ensures ∙ c.if-not-branch.true))
+    rw c.at.ensures (sym (first_of_failing (packing_cut_clause n p (length bases) c.args.cut.now) [] (sym c.in_ok-cut_shows_most.ensures ∙ c.if-not-branch.true))
     ∙ in_third (overlap_clauses n bases) (all_bases n p bases c.args.cut.now) (packing_end n p bases c.args.cut.now)
-    (told ∙ c.in_default.is) (sym c.in_ok-failure.ensures ∙ c.in_default-2.is)
+    (told ∙ c.in_default.is) (sym c.in_ok-failure.ensures ∙ c.in_default-2.is))
 
 pub returns : goal.returns
 returns g c =

@@ -8,8 +8,8 @@ loop-e-init c = none_below_none (sum_clause c.args.weights.now c.args.k c.args.f
 
 pub returns-then-not-adds_up : goal.returns-then-not-adds_up
 returns-then-not-adds_up c =
-    sym (first_below (sum_clause c.args.weights.now c.args.k c.args.first.now c.args.second.now) _ c.loop-e.e c.loop-e-test.true c.loop-e.invariant
-    (sym c.adds_up.ensures ∙ c.if-not-adds_up.true))
+    rw c.at.ensures (sym (first_below (sum_clause c.args.weights.now c.args.k c.args.first.now c.args.second.now) _ c.loop-e.e c.loop-e-test.true c.loop-e.invariant
+    (sym c.adds_up.ensures ∙ c.if-not-adds_up.true)))
 
 pub loop-e-preserved : goal.loop-e-preserved
 loop-e-preserved c =

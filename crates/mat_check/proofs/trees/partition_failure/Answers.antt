@@ -21,10 +21,10 @@ returns-in-Some-missed_failure c =
 
 pub returns-then-crossing_count-k : goal.returns-then-crossing_count-k
 returns-then-crossing_count-k c =
-    crossing_found c.args.vertices (length c.args.edges.now) (ends_of c.args.edges.now) c.args.k c.args.classes.now
+    rw c.at.ensures (crossing_found c.args.vertices (length c.args.edges.now) (ends_of c.args.edges.now) c.args.k c.args.classes.now
     (sym c.overlap_failure.ensures ∙ c.in_default.is) (sym c.empty_failure.ensures ∙ c.in_default-empty_failure.is)
     (sym c.missed_failure.ensures ∙ c.in_default-missed_failure.is)
-    (subst (λ m. c.args.k * (length c.args.classes.now - 1) ≤ m) c.crossing_count.ensures c.if-crossing_count-k.true)
+    (subst (λ m. c.args.k * (length c.args.classes.now - 1) ≤ m) c.crossing_count.ensures c.if-crossing_count-k.true))
 
 pub returns : goal.returns
 returns c =

@@ -44,9 +44,9 @@ returns-then-not-is_weight_of g c =
     let levels = all_levels n tests w parts c.args.printed c.args.levels.now in
     let told : c.is_weight_of.result ≡ is_same c.args.printed (weight w (family_union parts))
     = c.is_weight_of.ensures ∙ ap (λ s. is_same c.args.printed (weight w s)) c.in_ok-all.ensures in
-    sym (first_of_failing priced levels (sym told ∙ c.if-not-is_weight_of.true))
+    rw c.at.ensures (sym (first_of_failing priced levels (sym told ∙ c.if-not-is_weight_of.true))
     ∙ in_third (overlap_clauses n parts) (all_parts n tests w parts c.args.printed c.args.levels.now) (priced ∷ levels)
-    (sym c.overlap_failure.ensures ∙ c.in_default.is) (sym c.in_ok-failure.ensures ∙ c.in_default-2.is)
+    (sym c.overlap_failure.ensures ∙ c.in_default.is) (sym c.in_ok-failure.ensures ∙ c.in_default-2.is))
 
 pub returns : goal.returns
 returns g c =
