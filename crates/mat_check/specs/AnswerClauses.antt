@@ -1,5 +1,5 @@
 -- The clauses of an answer, in the order in which they are tried, and the first that fails.
-use Rattle.std.specs.Prelude.{Bool, true, ◌&&◌, ◌==◌, List, [], ◌∷◌, ◌++◌, length, map, Option, slice_index}
+use Rattle.std.specs.Prelude.{Bool, false, ◌&&◌, ◌==◌, List, [], ◌∷◌, ◌++◌, length, map, Option, slice_index}
 use Rattle.mat_sets.specs.Graphs.{ends_of}
 use Rattle.mat_any.specs.Trees.{is_independent}
 use Rattle.mat_desc.specs.Instances.{Instance, pair, list, graph, rooted, coloured, table}
@@ -14,16 +14,16 @@ use Rattle.mat_check.specs.SetClauses.{cover_clauses, loop_clause, no_rank_claus
 use Rattle.mat_check.specs.TreeClauses.{arborescence_clauses, colours_clauses, disjoint_clauses, partition_clauses}
 use Rattle.mat_check.specs.TreeClauses.{seldom_entered_clauses, trees_clauses}
 
--- whether the header has the problem's numbers; that of an answer that does not fit is not judged
+-- whether the answer fits the problem and its header has the problem's numbers
 abbrev pub has_header : Instance → Certificate → Bool
 has_header (pair w first second) (intersect n rungs cut) = n == length w
-has_header (list w matroids) (best n rungs) = n == length w
+has_header (list w (matroid ∷ [])) (best n rungs) = n == length w
 has_header (list w matroids) (union_of n weight parts levels) =
     n == length w && (length parts == length matroids && length levels == length (falling_weights w))
-has_header (list w matroids) (pack_any n) = n == length w
-has_header (list w matroids) (pack n bases cut) = n == length w
-has_header (list w matroids) (cover_never n loop_at) = n == length w
-has_header (list w matroids) (cover n sets cut) = n == length w
+has_header (list w (matroid ∷ [])) (pack_any n) = n == length w
+has_header (list w (matroid ∷ [])) (pack n bases cut) = n == length w
+has_header (list w (matroid ∷ [])) (cover_never n loop_at) = n == length w
+has_header (list w (matroid ∷ [])) (cover n sets cut) = n == length w
 has_header (graph vertices edges) (trees n sets) = n == length edges
 has_header (graph vertices edges) (trees_none n k v classes) = n == length edges && v == vertices
 has_header (rooted vertices root arcs costs) (arbor n cost tree first second) = n == length arcs
@@ -33,7 +33,7 @@ has_header (rooted vertices root arcs costs) (disjoint_none n k v set) = n == le
 has_header (coloured vertices colours edges colour_of w) (rainbow n v c rungs cut missing) =
     n == length edges && (v == vertices && c == colours)
 has_header (table rows columns cells w) (assign n r c rungs cut) = n == length cells && (r == rows && c == columns)
-has_header instance answer = true
+has_header instance answer = false
 
 -- the clauses behind the header of an answer that fits the problem; of any other answer none
 abbrev pub answer_clauses : Instance → Certificate → List Clause

@@ -35,7 +35,7 @@ pub(crate) fn graph_failure(
         Answer::TreesNone { k, classes, .. } => {
             Ok(partition_failure(vertices, edges, *k, classes.as_slice()))
         }
-        _ => Ok(None),
+        _ => unreachable!(),
     }
 }
 
@@ -80,7 +80,7 @@ pub(crate) fn rooted_failure(
         Answer::DisjointNone { k, set, .. } => {
             seldom_entered_failure(alloc, vertices, arcs, root, *k, set)
         }
-        _ => Ok(None),
+        _ => unreachable!(),
     }
 }
 
@@ -122,7 +122,7 @@ pub(crate) fn coloured_failure<R: Threads + Sync>(
             missing,
             workers,
         ),
-        _ => Ok(None),
+        _ => unreachable!(),
     }
 }
 
@@ -155,6 +155,6 @@ pub(crate) fn table_failure<R: Threads + Sync>(
             cut,
             workers,
         ),
-        _ => Ok(None),
+        _ => unreachable!(),
     }
 }

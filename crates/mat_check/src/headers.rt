@@ -42,8 +42,10 @@ fn has_list_header(
         | Answer::PackAny { count }
         | Answer::Pack { count, .. }
         | Answer::CoverNever { count, .. }
-        | Answer::Cover { count, .. } => Ok(*count as usize == weights.len()),
-        _ => Ok(true),
+        | Answer::Cover { count, .. } => {
+            Ok(matroids.len() == 1 && *count as usize == weights.len())
+        }
+        _ => Ok(false),
     }
 }
 
@@ -58,7 +60,7 @@ fn has_graph_header(vertices: u32, edges: usize, answer: &Answer) -> bool
             vertices: told,
             ..
         } => *count as usize == edges && *told == vertices,
-        _ => true,
+        _ => false,
     }
 }
 
@@ -79,7 +81,7 @@ fn has_rooted_header(vertices: u32, arcs: usize, answer: &Answer) -> bool
             vertices: told,
             ..
         } => *count as usize == arcs && *told == vertices,
-        _ => true,
+        _ => false,
     }
 }
 
@@ -94,7 +96,7 @@ pub(crate) fn has_header(
     match problem {
         Problem::Pair { weights, .. } => match answer {
             Answer::Intersect { count, .. } => Ok(*count as usize == weights.len()),
-            _ => Ok(true),
+            _ => Ok(false),
         },
         Problem::List { weights, matroids } => {
             has_list_header(alloc, weights.as_slice(), matroids.as_slice(), answer)
@@ -117,7 +119,7 @@ pub(crate) fn has_header(
             } => Ok(
                 *count as usize == edges.len() && *told == *vertices && *told_colours == *colours,
             ),
-            _ => Ok(true),
+            _ => Ok(false),
         },
         Problem::Table {
             rows,
@@ -131,7 +133,7 @@ pub(crate) fn has_header(
                 columns: told_columns,
                 ..
             } => Ok(*count as usize == cells.len() && *told == *rows && *told_columns == *columns),
-            _ => Ok(true),
+            _ => Ok(false),
         },
     }
 }

@@ -44,7 +44,7 @@ pub(crate) fn pair_failure<R: Threads + Sync>(
         Answer::Intersect { rungs, cut, .. } => {
             ladder_failure(rt, alloc, both, rungs, cut, workers)
         }
-        _ => Ok(None),
+        _ => unreachable!(),
     }
 }
 
@@ -71,7 +71,7 @@ fn single_failure<R: Threads + Sync>(
         Answer::Pack { bases, cut, .. } => pack_failure(alloc, m, bases.as_slice(), cut),
         Answer::CoverNever { loop_at, .. } => loop_failure(alloc, m, *loop_at),
         Answer::Cover { sets, cut, .. } => cover_failure(alloc, m, sets.as_slice(), cut),
-        _ => Ok(None),
+        _ => unreachable!(),
     }
 }
 
@@ -100,7 +100,7 @@ pub(crate) fn list_failure<R: Threads + Sync>(
         } => union_failure(alloc, matroids, weights, *weight, parts.as_slice(), levels),
         _ => match matroids {
             [m] => single_failure(rt, alloc, weights, m, answer, workers),
-            _ => Ok(None),
+            _ => unreachable!(),
         },
     }
 }
