@@ -17,9 +17,9 @@ use Rattle.mat_check.specs.TreeClauses.{seldom_entered_clauses, trees_clauses}
 -- whether the answer fits the problem and its header has the problem's numbers
 abbrev pub has_header : Instance → Certificate → Bool
 has_header (pair w first second) (intersect n rungs cut) = n == length w
-has_header (list w (matroid ∷ [])) (best n rungs) = n == length w
 has_header (list w matroids) (union_of n weight parts levels) =
     n == length w && (length parts == length matroids && length levels == length (falling_weights w))
+has_header (list w (matroid ∷ [])) (best n rungs) = n == length w
 has_header (list w (matroid ∷ [])) (pack_any n) = n == length w
 has_header (list w (matroid ∷ [])) (pack n bases cut) = n == length w
 has_header (list w (matroid ∷ [])) (cover_never n loop_at) = n == length w

@@ -15,7 +15,7 @@ use mat_sets::{ElemSet, Pairs};
 use std::alloc::{AllocError, Global};
 
 // The first of these sets that is no spanning arborescence from the root.
-fn arborescence_failure(
+fn spanning_failure(
     alloc: Global,
     graph: &Digraph,
     root: u32,
@@ -54,7 +54,7 @@ pub(crate) fn disjoint_failure(
         return Ok(Some(failure));
     }
     let graph = Digraph::new(alloc, vertices, arcs.copy(alloc)?)?;
-    arborescence_failure(alloc, &graph, root, trees)
+    spanning_failure(alloc, &graph, root, trees)
 }
 
 /// The first clause of a vertex set that is entered too seldom that fails: it is not empty, it does not hold the root, and fewer than k arcs

@@ -17,7 +17,7 @@ use crate::graph_answers::{coloured_failure, graph_failure, rooted_failure, tabl
 use crate::headers::has_header;
 use crate::matroid_answers::{list_failure, pair_failure};
 use crate::reason::{Failure, Reason};
-use crate::rung::Pair;
+use crate::rung::WeightedPair;
 use crate::verdict::Verdict;
 use mat_cert::Answer;
 use mat_desc::Problem;
@@ -45,7 +45,7 @@ fn answer_failure<R: Threads + Sync>(
             first,
             second,
         } => {
-            let both = Pair {
+            let both = WeightedPair {
                 weights: weights.as_slice(),
                 first,
                 second,

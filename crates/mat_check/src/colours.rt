@@ -57,8 +57,7 @@ fn component_count(
     set.rises();
     let graphic = Graphic::new(alloc, vertices, edges.copy(alloc)?)?;
     let least = graphic.components(alloc, set)?;
-    let count = own_places(&least);
-    Ok(count)
+    Ok(own_places(&least))
 }
 
 /// The clause of missing colours, where it fails: without the edges of these colours there are no more components than one more than there

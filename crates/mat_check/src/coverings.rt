@@ -102,6 +102,5 @@ pub(crate) fn cover_failure<M: Matroid>(
     if let Some(failure) = missed_failure(m.size(), sets) {
         return Ok(Some(failure));
     }
-    let found = cover_cut_failure(alloc, m, sets.len(), cut)?;
-    Ok(found)
+    cover_cut_failure(alloc, m, sets.len(), cut)
 }

@@ -15,7 +15,7 @@ use crate::colours::colours_failure;
 use crate::labels::at_most_one;
 use crate::ladder::ladder_failure;
 use crate::reason::Failure;
-use crate::rung::Pair;
+use crate::rung::WeightedPair;
 use mat_any::AnyMatroid;
 use mat_cert::PricedRung;
 use mat_graphic::Graphic;
@@ -47,7 +47,7 @@ pub(crate) fn assign_failure<R: Threads + Sync>(
     let column_of = cells.seconds(alloc)?;
     let by_row = AnyMatroid::Partition(at_most_one(alloc, &row_of, rows)?);
     let by_column = AnyMatroid::Partition(at_most_one(alloc, &column_of, columns)?);
-    let both = Pair {
+    let both = WeightedPair {
         weights,
         first: &by_row,
         second: &by_column,
@@ -80,7 +80,7 @@ fn rainbow_ladder_failure<R: Threads + Sync>(
 {
     let graphic = AnyMatroid::Graphic(Graphic::new(alloc, vertices, edges.copy(alloc)?)?);
     let classes = AnyMatroid::Partition(at_most_one(alloc, colour_of, colours)?);
-    let both = Pair {
+    let both = WeightedPair {
         weights,
         first: &graphic,
         second: &classes,

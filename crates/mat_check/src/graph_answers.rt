@@ -10,7 +10,7 @@ ghost use Rattle.mat_desc.specs.Instances.{coloured, graph, rooted, table};
 
 use crate::arborescences::{disjoint_failure, seldom_entered_failure};
 use crate::fronts::{assign_failure, rainbow_failure};
-use crate::least::arborescence_failure;
+use crate::least::least_failure;
 use crate::reason::Failure;
 use crate::trees::{partition_failure, trees_failure};
 use mat_cert::Answer;
@@ -60,7 +60,7 @@ pub(crate) fn rooted_failure(
             first,
             second,
             ..
-        } => arborescence_failure(
+        } => least_failure(
             alloc,
             vertices,
             arcs,

@@ -10,7 +10,7 @@ ghost use Rattle.mat_check.specs.Clauses.{best_clauses, first_failure, ladder_cl
 
 use crate::ends::{cut_holds, last_failure};
 use crate::reason::{Failure, Reason};
-use crate::rung::Pair;
+use crate::rung::WeightedPair;
 use crate::rungs::{plain_rungs_failure, priced_rungs_failure};
 use mat_any::AnyMatroid;
 use mat_cert::{PlainRung, PricedRung};
@@ -23,7 +23,7 @@ use std::thread::Threads;
 pub(crate) fn ladder_failure<R: Threads + Sync>(
     rt: &R,
     alloc: Global,
-    both: &Pair<AnyMatroid, AnyMatroid>,
+    both: &WeightedPair,
     rungs: &[PricedRung],
     cut: &ElemSet,
     workers: u32,
@@ -67,6 +67,5 @@ pub(crate) fn best_failure<R: Threads + Sync>(
     if let Some(failure) = plain_rungs_failure(rt, alloc, m, weights, rungs, workers)? {
         return Ok(Some(failure));
     }
-    let found = last_failure(alloc, m, rungs)?;
-    Ok(found)
+    last_failure(alloc, m, rungs)
 }

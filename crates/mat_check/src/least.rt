@@ -133,8 +133,7 @@ fn split_failure(
     if let Some(failure) = cost_failure(costs, first, second) {
         return Ok(Some(failure));
     }
-    let found = beaten_failure(alloc, vertices, arcs, root, tree, first, second)?;
-    Ok(found)
+    beaten_failure(alloc, vertices, arcs, root, tree, first, second)
 }
 
 // Whether these arcs are a spanning arborescence from the root.
@@ -151,15 +150,14 @@ fn is_arborescence(
     ensures { IfOk result (λ told. told ≡ is_spanning_arborescence vertices (ends_of arcs.now) root tree.now) }
 {
     let graph = Digraph::new(alloc, vertices, arcs.copy(alloc)?)?;
-    let told = spans(alloc, &graph, root, tree)?;
-    Ok(told)
+    spans(alloc, &graph, root, tree)
 }
 
 /// The first clause of a least spanning arborescence that fails: its cost, that it spans, for each arc in turn the sum of the two parts of
 /// the split, and that no independent set of as many arcs is heavier, under the first part in the graphic matroid and then under the second
 /// in the partition matroid of the heads (Schrijver, chapter 52; the split is Frank's). There is one run of the greedy algorithm for each
 /// part. The only error is want of memory.
-pub(crate) fn arborescence_failure(
+pub(crate) fn least_failure(
     alloc: Global,
     vertices: u32,
     arcs: &Pairs,
@@ -184,6 +182,5 @@ pub(crate) fn arborescence_failure(
     if !is_arborescence(alloc, vertices, arcs, root, tree)? {
         return Ok(Some(Reason::Tree.at(0, 0)));
     }
-    let found = split_failure(alloc, vertices, arcs, costs, root, tree, first, second)?;
-    Ok(found)
+    split_failure(alloc, vertices, arcs, costs, root, tree, first, second)
 }

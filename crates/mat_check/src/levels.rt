@@ -49,16 +49,15 @@ fn is_at(falling: &[Weight], j: u32, at: Weight) -> bool
 fn sum_of_ranks<M: Matroid>(
     alloc: Global,
     matroids: &[M],
-    n: u32,
+    _size: u32,
     set: &ElemSet,
 ) -> Result<usize, AllocError>
-    requires sound { AreSound M.ground_size M.sound n matroids.now }
+    requires sound { AreSound M.ground_size M.sound _size matroids.now }
     requires few { length matroids.now ≤ 64 }
-    requires below { AllBelow n set.now }
+    requires below { AllBelow _size set.now }
     ensures sum { IfOk result (λ sum. sum ≡ ranks_sum (map M.indep matroids.now) set.now) }
     ensures small { IfOk result (λ sum. sum ≤ 64 * 2 ^ 32) }
 {
-    let _size = n;
     let mut sum = 0;
     for i in 0..matroids.len() {
         sum += rank_of(alloc, &matroids[i], set)? as usize;

@@ -15,7 +15,7 @@ use crate::coverings::{cover_failure, loop_failure};
 use crate::ladder::{best_failure, ladder_failure};
 use crate::packings::{no_rank_failure, pack_failure};
 use crate::reason::Failure;
-use crate::rung::Pair;
+use crate::rung::WeightedPair;
 use crate::unions::union_failure;
 use mat_any::AnyMatroid;
 use mat_cert::Answer;
@@ -27,7 +27,7 @@ use std::thread::Threads;
 pub(crate) fn pair_failure<R: Threads + Sync>(
     rt: &R,
     alloc: Global,
-    both: &Pair<AnyMatroid, AnyMatroid>,
+    both: &WeightedPair,
     answer: &Answer,
     workers: u32,
 ) -> Result<Option<Failure>, AllocError>

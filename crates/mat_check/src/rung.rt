@@ -4,12 +4,15 @@ ghost use Rattle.std.specs.Prelude.{◌≡◌, ◌<◌, ◌≤◌, ◌++◌, ◌
 ghost use Rattle.mat_sets.specs.Limits.{largest_number, most_elements};
 ghost use Rattle.mat_sets.specs.Sets.{all_below};
 ghost use Rattle.mat_sets.specs.Weights.{◌⊕◌, is_same, AreWeightsWithin, weight_at};
+ghost use Rattle.mat_any.specs.Trees.{element_count, is_independent, IsSound};
+ghost use Rattle.mat_any.specs.Views.{tree_of};
 ghost use Rattle.mat_cert.specs.Certificates.{IsRangedPlainRung, IsRangedPricedRung};
 ghost use Rattle.mat_greedy.specs.Greedy.{AreHeaviestWeights};
 ghost use Rattle.mat_check.specs.Clauses.{first_failure, sum_clause, heaviest_clause, plain_rung_clauses, priced_rung_clauses};
 
 use crate::reason::{Failure, Reason};
 use crate::searches::is_beaten;
+use mat_any::AnyMatroid;
 use mat_cert::{PlainRung, PricedRung};
 use mat_laws::Matroid;
 use mat_sets::{PairWeights, Weight, weigh};
@@ -17,10 +20,10 @@ use std::alloc::{AllocError, Global};
 
 /// Two matroids on the same elements, and the weights of the elements.
 #[derive(Drop)]
-pub(crate) struct Pair<'a, A: Matroid, B: Matroid> {
+pub(crate) struct WeightedPair<'a> {
     pub(crate) weights: &'a [Weight],
-    pub(crate) first: &'a A,
-    pub(crate) second: &'a B,
+    pub(crate) first: &'a AnyMatroid,
+    pub(crate) second: &'a AnyMatroid,
 }
 
 // Whether the two parts add up to the weight of e.
@@ -85,26 +88,29 @@ pub(crate) fn plain_rung_failure<M: Matroid>(
 }
 
 // The first clause of the split of rung k that fails because a heavier set is there, for a set that is independent in both matroids.
-fn beaten_failure<A: Matroid, B: Matroid>(
-    pair: &Pair<A, B>,
+fn beaten_failure(
+    pair: &WeightedPair,
     first: &PairWeights,
     second: &PairWeights,
     k: u32,
     rung: &PricedRung,
 ) -> Option<Failure>
-    requires first_sound { A.sound pair.now.first.now }
-    requires second_sound { B.sound pair.now.second.now }
-    requires first_lengths { length rung.now.first ≡ A.ground_size pair.now.first.now }
-    requires second_lengths { length rung.now.second ≡ B.ground_size pair.now.second.now }
+    requires first_sound { IsSound (tree_of pair.now.first.now) }
+    requires second_sound { IsSound (tree_of pair.now.second.now) }
+    requires first_lengths { length rung.now.first ≡ element_count (tree_of pair.now.first.now) }
+    requires second_lengths { length rung.now.second ≡ element_count (tree_of pair.now.second.now) }
     requires few { length rung.now.set ≤ most_elements }
     requires first_small { AreWeightsWithin largest_number rung.now.first }
     requires second_small { AreWeightsWithin largest_number rung.now.second }
-    requires first_heaviest { AreHeaviestWeights (A.ground_size pair.now.first.now) (A.indep pair.now.first.now) (weight_at rung.now.first) first.now }
-    requires second_heaviest { AreHeaviestWeights (B.ground_size pair.now.second.now) (B.indep pair.now.second.now) (weight_at rung.now.second) second.now }
-    requires first_passes { A.indep pair.now.first.now rung.now.set ≡ true }
-    requires second_passes { B.indep pair.now.second.now rung.now.set ≡ true }
-    ensures { result ≡ first_failure (heaviest_clause (A.ground_size pair.now.first.now) (A.indep pair.now.first.now) rung.now.first 0 k rung.now.set
-        ∷ heaviest_clause (B.ground_size pair.now.second.now) (B.indep pair.now.second.now) rung.now.second 1 k rung.now.set ∷ []) }
+    requires first_heaviest { AreHeaviestWeights (element_count (tree_of pair.now.first.now)) (is_independent (tree_of pair.now.first.now))
+        (weight_at rung.now.first) first.now }
+    requires second_heaviest { AreHeaviestWeights (element_count (tree_of pair.now.second.now)) (is_independent (tree_of pair.now.second.now))
+        (weight_at rung.now.second) second.now }
+    requires first_passes { is_independent (tree_of pair.now.first.now) rung.now.set ≡ true }
+    requires second_passes { is_independent (tree_of pair.now.second.now) rung.now.set ≡ true }
+    ensures { result ≡ first_failure (
+        heaviest_clause (element_count (tree_of pair.now.first.now)) (is_independent (tree_of pair.now.first.now)) rung.now.first 0 k rung.now.set
+        ∷ heaviest_clause (element_count (tree_of pair.now.second.now)) (is_independent (tree_of pair.now.second.now)) rung.now.second 1 k rung.now.set ∷ []) }
 {
     if is_beaten(pair.first, rung.first.as_slice(), first, &rung.set) {
         return Some(Reason::Beaten.at(k, 0));
@@ -116,27 +122,29 @@ fn beaten_failure<A: Matroid, B: Matroid>(
 }
 
 // The first clause of the split of rung k that fails, for a set that is independent in both matroids.
-fn split_failure<A: Matroid, B: Matroid>(
-    pair: &Pair<A, B>,
+fn split_failure(
+    pair: &WeightedPair,
     first: &PairWeights,
     second: &PairWeights,
     k: u32,
     rung: &PricedRung,
 ) -> Option<Failure>
-    requires first_sound { A.sound pair.now.first.now }
-    requires second_sound { B.sound pair.now.second.now }
-    requires first_lengths { length pair.now.weights.now ≡ A.ground_size pair.now.first.now }
-    requires second_lengths { length pair.now.weights.now ≡ B.ground_size pair.now.second.now }
+    requires first_sound { IsSound (tree_of pair.now.first.now) }
+    requires second_sound { IsSound (tree_of pair.now.second.now) }
+    requires first_lengths { length pair.now.weights.now ≡ element_count (tree_of pair.now.first.now) }
+    requires second_lengths { length pair.now.weights.now ≡ element_count (tree_of pair.now.second.now) }
     requires few { length pair.now.weights.now ≤ most_elements }
     requires ranged { IsRangedPricedRung (length pair.now.weights.now) k rung.now }
-    requires first_heaviest { AreHeaviestWeights (A.ground_size pair.now.first.now) (A.indep pair.now.first.now) (weight_at rung.now.first) first.now }
-    requires second_heaviest { AreHeaviestWeights (B.ground_size pair.now.second.now) (B.indep pair.now.second.now) (weight_at rung.now.second) second.now }
-    requires first_passes { A.indep pair.now.first.now rung.now.set ≡ true }
-    requires second_passes { B.indep pair.now.second.now rung.now.set ≡ true }
+    requires first_heaviest { AreHeaviestWeights (element_count (tree_of pair.now.first.now)) (is_independent (tree_of pair.now.first.now))
+        (weight_at rung.now.first) first.now }
+    requires second_heaviest { AreHeaviestWeights (element_count (tree_of pair.now.second.now)) (is_independent (tree_of pair.now.second.now))
+        (weight_at rung.now.second) second.now }
+    requires first_passes { is_independent (tree_of pair.now.first.now) rung.now.set ≡ true }
+    requires second_passes { is_independent (tree_of pair.now.second.now) rung.now.set ≡ true }
     ensures { result ≡ first_failure (
         map (sum_clause pair.now.weights.now k rung.now.first rung.now.second) (all_below (length pair.now.weights.now))
-        ++ heaviest_clause (length pair.now.weights.now) (A.indep pair.now.first.now) rung.now.first 0 k rung.now.set
-        ∷ heaviest_clause (length pair.now.weights.now) (B.indep pair.now.second.now) rung.now.second 1 k rung.now.set ∷ []) }
+        ++ heaviest_clause (length pair.now.weights.now) (is_independent (tree_of pair.now.first.now)) rung.now.first 0 k rung.now.set
+        ∷ heaviest_clause (length pair.now.weights.now) (is_independent (tree_of pair.now.second.now)) rung.now.second 1 k rung.now.set ∷ []) }
 {
     if let Some(failure) = sum_failure(
         pair.weights,
@@ -151,25 +159,27 @@ fn split_failure<A: Matroid, B: Matroid>(
 
 /// The first clause of rung k of a ladder of two matroids that fails, told by the weights of heaviest sets of each size under
 /// each half of its split. The only error is want of memory.
-pub(crate) fn priced_rung_failure<A: Matroid, B: Matroid>(
+pub(crate) fn priced_rung_failure(
     alloc: Global,
-    pair: &Pair<A, B>,
+    pair: &WeightedPair,
     first: &PairWeights,
     second: &PairWeights,
     k: u32,
     rung: &PricedRung,
 ) -> Result<Option<Failure>, AllocError>
-    requires first_sound { A.sound pair.now.first.now }
-    requires second_sound { B.sound pair.now.second.now }
-    requires first_lengths { length pair.now.weights.now ≡ A.ground_size pair.now.first.now }
-    requires second_lengths { length pair.now.weights.now ≡ B.ground_size pair.now.second.now }
+    requires first_sound { IsSound (tree_of pair.now.first.now) }
+    requires second_sound { IsSound (tree_of pair.now.second.now) }
+    requires first_lengths { length pair.now.weights.now ≡ element_count (tree_of pair.now.first.now) }
+    requires second_lengths { length pair.now.weights.now ≡ element_count (tree_of pair.now.second.now) }
     requires few { length pair.now.weights.now ≤ most_elements }
     requires small { AreWeightsWithin largest_number pair.now.weights.now }
     requires ranged { IsRangedPricedRung (length pair.now.weights.now) k rung.now }
-    requires first_heaviest { AreHeaviestWeights (A.ground_size pair.now.first.now) (A.indep pair.now.first.now) (weight_at rung.now.first) first.now }
-    requires second_heaviest { AreHeaviestWeights (B.ground_size pair.now.second.now) (B.indep pair.now.second.now) (weight_at rung.now.second) second.now }
-    ensures { IfOk result (λ found. found
-        ≡ first_failure (priced_rung_clauses (length pair.now.weights.now) (A.indep pair.now.first.now) (B.indep pair.now.second.now) pair.now.weights.now k rung.now)) }
+    requires first_heaviest { AreHeaviestWeights (element_count (tree_of pair.now.first.now)) (is_independent (tree_of pair.now.first.now))
+        (weight_at rung.now.first) first.now }
+    requires second_heaviest { AreHeaviestWeights (element_count (tree_of pair.now.second.now)) (is_independent (tree_of pair.now.second.now))
+        (weight_at rung.now.second) second.now }
+    ensures { IfOk result (λ found. found ≡ first_failure (priced_rung_clauses (length pair.now.weights.now)
+        (is_independent (tree_of pair.now.first.now)) (is_independent (tree_of pair.now.second.now)) pair.now.weights.now k rung.now)) }
 {
     if weigh(&rung.set, pair.weights) != rung.weight {
         return Ok(Some(Reason::Weight.at(k, 0)));

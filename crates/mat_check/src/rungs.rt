@@ -11,7 +11,7 @@ ghost use Rattle.mat_check.specs.RungFailures.{first_in_order};
 
 use crate::halves::Side;
 use crate::reason::Failure;
-use crate::rung::{Pair, plain_rung_failure, priced_rung_failure};
+use crate::rung::{WeightedPair, plain_rung_failure, priced_rung_failure};
 use crate::rung_sums::{RungSums, rung_sums};
 use mat_any::AnyMatroid;
 use mat_cert::{PlainRung, PricedRung};
@@ -81,7 +81,7 @@ impl RowJob for PlainFailures<'_> {
 #[derive(Drop)]
 struct PricedFailures<'a> {
     alloc: Global,
-    pair: &'a Pair<'a, AnyMatroid, AnyMatroid>,
+    pair: &'a WeightedPair<'a>,
     first: &'a RungSums,
     second: &'a RungSums,
     rungs: &'a [PricedRung],
@@ -186,7 +186,7 @@ pub(crate) fn plain_rungs_failure<R: Threads + Sync>(
 pub(crate) fn priced_rungs_failure<R: Threads + Sync>(
     rt: &R,
     alloc: Global,
-    pair: &Pair<AnyMatroid, AnyMatroid>,
+    pair: &WeightedPair,
     rungs: &[PricedRung],
     workers: u32,
 ) -> Result<Option<Failure>, AllocError>

@@ -24,17 +24,16 @@ use std::alloc::{AllocError, Global};
 fn parts_failure<M: Matroid>(
     alloc: Global,
     matroids: &[M],
-    n: u32,
+    _size: u32,
     parts: &[ElemSet],
 ) -> Result<Option<Failure>, AllocError>
-    requires sound { AreSound M.ground_size M.sound n matroids.now }
+    requires sound { AreSound M.ground_size M.sound _size matroids.now }
     requires one_each { length parts.now ≡ length matroids.now }
     requires few { length parts.now ≤ 64 }
-    requires parts { All (IsSet n) parts.now }
+    requires parts { All (IsSet _size) parts.now }
     ensures { IfOk result (λ found. found
         ≡ first_failure (numbered_clauses (λ i part. independent_clause (test_at (map M.indep matroids.now) i) i part ∷ []) 0 parts.now)) }
 {
-    let _size = n;
     for i in 0..parts.len() {
         if let Some(failure) = dependent_failure(alloc, &matroids[i], i as u32, &parts[i])? {
             return Ok(Some(failure));
@@ -88,6 +87,5 @@ pub(crate) fn union_failure<M: Matroid>(
         parts,
         all: &all,
     };
-    let found = levels_failure(alloc, &joined, levels)?;
-    Ok(found)
+    levels_failure(alloc, &joined, levels)
 }

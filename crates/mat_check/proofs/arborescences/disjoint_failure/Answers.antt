@@ -21,4 +21,4 @@ returns c =
     c.in_ok-graph.ensures c.in_ok-copy.ensures
     ∙ each_after (length arcs) c.args.trees.now each c.len.result c.overlap_failure.result
     c.len.ensures c.overlap_failure.ensures c.in_default.is in
-    IfOk-weaker c.arborescence_failure.result _ _ (λ found h. h ∙ same) c.arborescence_failure.ensures
+    IfOk-weaker c.spanning_failure.result _ _ (λ found h. h ∙ same) c.spanning_failure.ensures

@@ -20,7 +20,7 @@ pub returns-clause-yes : goal.returns-clause-yes
 returns-clause-yes g c =
     let problem = instance_of c.args.problem.now in
     let answer = certificate_of c.args.answer.now in
-    yes_where_right problem answer c.requires.valid c.requires.sound c.requires.ranged c.requires.fits c.from.result
-    (c.from.ensures ∙ c.in_ok-found.ensures
+    yes_where_right problem answer c.requires.valid c.requires.sound c.requires.ranged c.requires.fits c.from-2.result
+    (c.from-2.ensures ∙ c.in_ok-found.ensures
     ∙ sym (first_of_holding (header_clause (has_header problem answer)) (answer_clauses problem answer)
     (sym c.in_ok-has_header.ensures ∙ c.if-not-branch.false)))

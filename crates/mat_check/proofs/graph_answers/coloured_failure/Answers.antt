@@ -8,8 +8,8 @@ use Rattle.mat_check.specs.Clauses.{first_failure, ladder_clauses}
 use Rattle.mat_check.specs.TreeClauses.{colours_clauses}
 use Rattle.mat_check.proofs.graph_answers.coloured_failure.Goals as goal
 
-pub returns-in-Rainbow : goal.returns-in-Rainbow
-returns-in-Rainbow g c =
+pub returns : goal.returns
+returns g c =
     let edges = c.args.edges.now in
     let header = rw c.in-Rainbow.is at c.requires.header in
     let count : c.in-Rainbow.count ≡ length edges = eqb-true c.in-Rainbow.count (length edges) (and_parts _ _ header).0 in

@@ -6,8 +6,8 @@ use Rattle.mat_fronts.specs.Once.{is_once}
 use Rattle.mat_check.specs.Clauses.{first_failure, ladder_clauses}
 use Rattle.mat_check.proofs.graph_answers.table_failure.Goals as goal
 
-pub returns-in-Assign : goal.returns-in-Assign
-returns-in-Assign g c =
+pub returns : goal.returns
+returns g c =
     let cells = c.args.cells.now in
     let header = rw c.in-Assign.is at c.requires.header in
     let count : c.in-Assign.count ≡ length cells = eqb-true c.in-Assign.count (length cells) (and_parts _ _ header).0 in

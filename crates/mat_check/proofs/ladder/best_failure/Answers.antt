@@ -1,4 +1,5 @@
 use Rattle.std.proofs.Common.{ℕ, length, slice_get, sym, ap, subst, ◌∙◌}
+use Rattle.std.proofs.lemmas.Result.{IfOk-weaker}
 use Rattle.mat_any.specs.Trees.{is_independent}
 use Rattle.mat_any.specs.Views.{tree_of}
 use Rattle.mat_cert.specs.Certificates.{AreRangedRungs, IsRangedPlainRung, last_rung}
@@ -25,6 +26,6 @@ returns g c =
     let w = c.args.weights.now in
     let rungs = c.args.rungs.now in
     let end = λ (n : ℕ). last_clause n p (last_rung rungs) (slice_get rungs (last_rung rungs)) in
-    c.in_ok-found.ensures ∙ ap (λ n. first_failure (end n)) (sym c.requires.lengths)
+    IfOk-weaker c.last_failure.result _ _ (λ found h. h ∙ ap (λ n. first_failure (end n)) (sym c.requires.lengths)
     ∙ sym (first_in_back (numbered_clauses (plain_rung_clauses (length w) p w) 0 rungs) (end (length w))
-    (sym c.in_ok-failure.ensures ∙ c.in_default.is))
+    (sym c.in_ok-failure.ensures ∙ c.in_default.is))) c.last_failure.ensures

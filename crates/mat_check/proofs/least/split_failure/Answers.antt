@@ -1,4 +1,5 @@
 use Rattle.std.proofs.Common.{◌∙◌, ℕ, [], ◌∷◌, ap, length, map, sym}
+use Rattle.std.proofs.lemmas.Result.{IfOk-weaker}
 use Rattle.mat_sets.specs.Graphs.{ends_of}
 use Rattle.mat_sets.specs.Sets.{all_below}
 use Rattle.mat_graphic.specs.Forests.{is_graphic}
@@ -40,4 +41,4 @@ returns c =
     let back = heaviest_clause n (is_graphic n ends) c.args.first.now 0 0 tree
     ∷ heaviest_clause n (is_entering_once n c.args.vertices ends c.args.root) c.args.second.now 1 0 tree ∷ [] in
     let found = c.cost_failure.ensures ∙ ap (λ (m : ℕ). first_failure (map clause (all_below m))) c.requires.lengths in
-    c.in_ok-found.ensures ∙ sym (first_in_back (map clause (all_below n)) back (sym found ∙ c.in_default.is))
+    IfOk-weaker c.beaten_failure.result _ _ (λ other h. h ∙ sym (first_in_back (map clause (all_below n)) back (sym found ∙ c.in_default.is))) c.beaten_failure.ensures

@@ -1,4 +1,5 @@
 use Rattle.std.proofs.Common.{◌≡◌, ◌∷◌, length, map, sym, subst, ap, ◌∙◌}
+use Rattle.std.proofs.lemmas.Result.{IfOk-weaker}
 use Rattle.mat_sets.specs.Families.{family_union}
 use Rattle.mat_sets.specs.Sets.{IsSet}
 use Rattle.mat_sets.specs.Weights.{is_same, weight}
@@ -58,6 +59,6 @@ returns g c =
     let levels = all_levels n tests w parts c.args.printed c.args.levels.now in
     let told : c.is_weight_of.result ≡ is_same c.args.printed (weight w (family_union parts))
     = c.is_weight_of.ensures ∙ ap (λ s. is_same c.args.printed (weight w s)) c.in_ok-all.ensures in
-    c.in_ok-found.ensures ∙ sym (first_of_holding priced levels (sym told ∙ c.if-not-is_weight_of.false))
+    IfOk-weaker c.levels_failure.result _ _ (λ found h. h ∙ sym (first_of_holding priced levels (sym told ∙ c.if-not-is_weight_of.false))
     ∙ in_third (overlap_clauses n parts) (all_parts n tests w parts c.args.printed c.args.levels.now) (priced ∷ levels)
-    (sym c.overlap_failure.ensures ∙ c.in_default.is) (sym c.in_ok-failure.ensures ∙ c.in_default-2.is)
+    (sym c.overlap_failure.ensures ∙ c.in_default.is) (sym c.in_ok-failure.ensures ∙ c.in_default-2.is)) c.levels_failure.ensures

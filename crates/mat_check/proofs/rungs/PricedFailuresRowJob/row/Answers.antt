@@ -39,7 +39,7 @@ of_rung-second-requires c =
     subst (λ m. c.args.k < m) (sym c.self.invariant.7) inside
 
 pub priced_rung_failure-requires-clause-ranged : goal.priced_rung_failure-requires-clause-ranged
-priced_rung_failure-requires-clause-ranged c κs =
+priced_rung_failure-requires-clause-ranged c =
     let job = c.self.inside in
     let pair = job.pair.now in
     let clauses = priced_rung_clauses (length pair.weights.now) (is_independent (tree_of pair.first.now))
@@ -48,7 +48,7 @@ priced_rung_failure-requires-clause-ranged c κs =
     c.self.invariant.5.each c.args.k _ (slice_get-get_or job.rungs.now c.args.k c.index-self-k.result inside)
 
 pub priced_rung_failure-requires-clause-first_heaviest : goal.priced_rung_failure-requires-clause-first_heaviest
-priced_rung_failure-requires-clause-first_heaviest c κs =
+priced_rung_failure-requires-clause-first_heaviest c =
     let job = c.self.inside in
     let pair = job.pair.now in
     let inside = rung_inside (priced_rung_clauses (length pair.weights.now) (is_independent (tree_of pair.first.now))
@@ -61,7 +61,7 @@ priced_rung_failure-requires-clause-first_heaviest c κs =
     (subst (λ w. AreHeaviestWeights n p (weight_at w) (slice_index_or job.first.now c.args.k [])) half (c.self.invariant.8 c.args.k inside))
 
 pub priced_rung_failure-requires-clause-second_heaviest : goal.priced_rung_failure-requires-clause-second_heaviest
-priced_rung_failure-requires-clause-second_heaviest c κs =
+priced_rung_failure-requires-clause-second_heaviest c =
     let job = c.self.inside in
     let pair = job.pair.now in
     let inside = rung_inside (priced_rung_clauses (length pair.weights.now) (is_independent (tree_of pair.first.now))

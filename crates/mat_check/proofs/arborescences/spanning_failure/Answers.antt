@@ -3,7 +3,7 @@ use Rattle.mat_sets.specs.Graphs.{ends_of}
 use Rattle.mat_check.specs.TreeClauses.{arborescence_clause}
 use Rattle.mat_check.proofs.FailingClauses.{first_of_holding}
 use Rattle.mat_check.proofs.NumberedFailures.{passed_next}
-use Rattle.mat_check.proofs.arborescences.arborescence_failure.Goals as goal
+use Rattle.mat_check.proofs.arborescences.spanning_failure.Goals as goal
 
 pub loop-i-preserved : goal.loop-i-preserved
 loop-i-preserved c =
