@@ -177,7 +177,8 @@ all-IsSet n set is = same_members (intersection (all_below n) set) set (IsRising
       | inr none ↦ and_right (ltb k n) (is_member k set) none ∙ sym none
     ]
 
-pub all-elements : (naming : Naming) (n : ℕ) → IsNaming n naming → (w : WordsLeft) (set left : List ℕ)
-    → elements_at naming n [] w ≡ Ok (set, left) → intersection (all_below n) set ≡ set
-all-elements naming n named w set left e =
-    all-IsSet n set (IsSet-read naming n [] w.words set left (elements_found naming n named w.line [] [] w.words set left e))
+-- what was read is a set of elements
+pub IsSet-elements : (naming : Naming) (n : ℕ) → IsNaming n naming → (w : WordsLeft) (set left : List ℕ)
+    → elements_at naming n [] w ≡ Ok (set, left) → IsSet n set
+IsSet-elements naming n named w set left e =
+    IsSet-read naming n [] w.words set left (elements_found naming n named w.line [] [] w.words set left e)

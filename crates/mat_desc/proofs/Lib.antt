@@ -2,6 +2,8 @@ pub mod Told
 pub mod NotationLaws
 pub mod ElementLists
 pub mod Classes
+pub mod BitMembers
+pub mod MeetingSets
 pub mod NestedSets
 pub mod DistinctNumbers
 pub mod ElementLaws

@@ -1,8 +1,7 @@
--- Set lines that are read one after the other, as a loop reads them. The search for a set that crosses the next one judges as the reading does.
+-- Set lines that are read one after the other, as a loop reads them.
 use Rattle.std.proofs.Common.{◌≡◌, ℕ, suc, ◌-◌, ◌+◌, ◌≤◌, ◌<◌, List, []}
 use Rattle.std.proofs.Common.{◌∷◌, ◌++◌, Ok, Err, sym, ap₂, ◌∙◌, refl, arith}
 use Rattle.std.proofs.lemmas.List.{append-nil}
-use Rattle.mat_count.proofs.CrossedSets.{is_crossed-search}
 use Rattle.mat_desc.specs.declared.refusal.DescRefusal.{DescRefusal}
 use Rattle.mat_desc.specs.declared.refusal.DescRefusal.TheVariants as refusals
 use Rattle.mat_words.specs.Cursors.{LinesLeft}
@@ -10,8 +9,6 @@ use Rattle.mat_desc.specs.Faults.{Fails}
 use Rattle.mat_desc.specs.Notations.{Naming}
 use Rattle.mat_desc.specs.Reading.{nested_set_at, nested_sets_at}
 use Rattle.mat_desc.proofs.Classes.{SetsRead, with_front, with_front-cons}
-
-pub ruleset searching = (is_crossed-search)
 
 -- one more set was read
 pub nested_sets_more : (naming : Naming) (n many i : ℕ) (p : LinesLeft) (sets : List (List ℕ)) (caps : List ℕ) (cap : ℕ) (set : List ℕ)

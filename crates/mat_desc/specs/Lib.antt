@@ -2,6 +2,7 @@ pub mod Limits
 pub mod Instances
 pub mod Notations
 pub mod Grammar
+pub mod EarlierSets
 pub mod Faults
 pub mod Reading
 pub mod Views

@@ -1,6 +1,7 @@
 //! Descriptions of problems: the text format, its reader, which names the first fault of a text that spells no problem, and its writer.
 #![tactic(auto)]
 
+mod earlier_sets;
 mod item_lines;
 mod keywords;
 mod laws;

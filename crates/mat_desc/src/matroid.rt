@@ -1,10 +1,11 @@
 //! Reading matroids.
 
-ghost use Rattle.std.specs.Prelude.{◌≡◌, ◌<◌, ◌^◌, ◌++◌, ◌∷◌, [], length, map, IfOk};
+ghost use Rattle.std.specs.Prelude.{◌≡◌, ◌<◌, ◌≤◌, ◌++◌, ◌∷◌, [], length, map, IfOk};
 ghost use Rattle.mat_sets.specs.Sets.{all_below};
 ghost use Rattle.mat_any.specs.Trees.{trees_from, union};
 ghost use Rattle.mat_any.specs.Views.{tree_of};
 ghost use Rattle.mat_desc.specs.Faults.{Gives};
+ghost use Rattle.mat_desc.specs.Limits.{most_sets};
 ghost use Rattle.mat_desc.specs.Notations.{IsNaming};
 ghost use Rattle.mat_desc.specs.Views.{naming};
 ghost use Rattle.mat_words.specs.Steps.{repeat_at};
@@ -13,17 +14,18 @@ ghost use Rattle.mat_desc.specs.Reading.{uniform_at, partition_at, laminar_at, g
 ghost use Rattle.mat_desc.specs.Reading.{matroid_within, matroid_at, two_matroids_at};
 ghost use Rattle.mat_words.specs.Cursors.{lines_left, words_left};
 
+use crate::earlier_sets::EarlierSets;
 use crate::item_lines::{column_lines, ends_lines};
 use crate::keywords::{Keyword, keyword_from};
 use crate::limits::{DEEPEST, MOST_DIGITS, MOST_ELEMENTS, MOST_MATROIDS, MOST_SETS, MOST_VERTICES};
 use crate::linked_lines::{gammoid, transversal};
-use crate::reading::{element_bits, elements_line, ended};
+use crate::reading::{element_bits, elements_line, ended, members_of};
 use crate::refusal::{DescKind, DescRefusal, fault};
 use mat_any::AnyMatroid;
-use mat_count::{Laminar, Partition, Uniform, crossing_bits};
+use mat_count::{Laminar, Partition, Uniform};
 use mat_gf2::Gf2;
 use mat_graphic::Graphic;
-use mat_sets::{BitSet, ElemSet, SetList};
+use mat_sets::{ElemSet, SetList};
 use mat_words::{LineCursor, Names, WordCursor, keyed_line, next_size, next_word, words_line};
 use std::alloc::Global;
 
@@ -69,33 +71,35 @@ fn class_lines<'a>(
     Ok((SetList::new(classes), caps, rest))
 }
 
-/// A set line of a laminar family on `count` elements, which are given: the cap, and the set, which no earlier one may cross. The
-/// earlier sets are given as bits, and the set is put behind them.
-#[tactic(auto, using(crate::proofs::NestedSets::searching), unfolding(crate::specs::Reading::nested_set_at))]
+/// A set line of a laminar family on `count` elements, which are given: the cap, and the set, which no earlier one may cross. It is put
+/// behind the earlier sets.
+#[tactic(auto, unfolding(crate::specs::Reading::nested_set_at))]
 fn nested_set_line<'a>(
     alloc: Global,
     names: Option<&Names>,
     count: u32,
     elements: &ElemSet,
-    earlier: &mut Vec<BitSet>,
+    earlier: &mut EarlierSets,
     lines: LineCursor<'a>,
 ) -> Result<(u32, ElemSet, LineCursor<'a>), DescRefusal>
     requires named { IsNaming count (naming names) }
     requires all { elements.now ≡ all_below count }
-    requires few { length earlier.old.items < 2 ^ 32 }
+    requires few { length earlier.old.sets < 512 }
+    requires room { earlier.old.count ≡ count }
     ensures read { Gives (λ x. (x.0, x.1, lines_left x.2)) result
-        (nested_set_at (naming names.entry) count earlier.old.items (lines_left lines.entry)) }
-    ensures more { IfOk result (λ x. earlier.new.items ≡ earlier.old.items ++ x.1 ∷ []) }
+        (nested_set_at (naming names.entry) count earlier.old.sets (lines_left lines.entry)) }
+    ensures more { IfOk result (λ x. earlier.new.sets ≡ earlier.old.sets ++ x.1 ∷ []) }
+    ensures elements { IfOk result (λ _. earlier.new.count ≡ count) }
 {
     let line = lines.line;
     let (words, rest) = keyed_line(lines, b"set")?;
     let (cap, words) = next_size(words, 0, MOST_ELEMENTS)?;
     let bits = element_bits(alloc, words, names, count)?;
-    if crossing_bits(earlier, &bits).is_some() {
+    let set = members_of(alloc, elements, &bits)?;
+    if earlier.crosses(alloc, &set, &bits)? {
         return Err(fault(DescKind::Crossing, line));
     }
-    let set = elements.among(alloc, &bits)?;
-    earlier.push(bits)?;
+    earlier.push(&set, bits)?;
     Ok((cap, set, rest))
 }
 
@@ -107,14 +111,15 @@ fn nested_set_lines<'a>(
     many: u32,
     lines: LineCursor<'a>,
 ) -> Result<(SetList, Vec<u32>, LineCursor<'a>), DescRefusal>
-    requires { IsNaming count (naming names) }
+    requires named { IsNaming count (naming names) }
+    requires few { many ≤ most_sets }
     ensures { Gives (λ x. (x.0, x.1.items, lines_left x.2)) result
         (nested_sets_at (naming names.entry) count many [] (lines_left lines.entry)) }
 {
     let elements = ElemSet::all_below(alloc, count)?;
     let mut sets = Vec::new(alloc);
     let mut caps = Vec::new(alloc);
-    let mut earlier = Vec::new(alloc);
+    let mut earlier = EarlierSets::new(alloc, count)?;
     let mut rest = lines;
     for _ in 0..many {
         let (cap, set, after) = nested_set_line(

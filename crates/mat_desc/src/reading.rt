@@ -1,6 +1,7 @@
-//! Reading the end of a line, a line of weights, and a line of elements.
+//! Reading the end of a line, a line of weights, and a line of elements; the members of a line's bits.
 
-ghost use Rattle.std.specs.Prelude.{[]};
+ghost use Rattle.std.specs.Prelude.{◌≡◌, ◌<◌, ◌^◌, [], length, IfOk};
+ghost use Rattle.mat_sets.specs.Sets.{all_below, IsSet};
 ghost use Rattle.mat_words.specs.Cursors.{lines_left, words_left};
 ghost use Rattle.mat_desc.specs.Faults.{Gives};
 ghost use Rattle.mat_desc.specs.Reading.{ended_at, elements_at, weights_at};
@@ -11,7 +12,10 @@ use crate::notation::next_member;
 use crate::refusal::{DescKind, DescRefusal, fault};
 use mat_sets::{BitSet, ElemSet, PairWeights};
 use mat_words::{LineCursor, Names, WordCursor, keyed_line, next_weights};
-use std::alloc::Global;
+use std::alloc::{AllocError, Global};
+
+// The most members of bits that are found one after the other.
+const MOST_FOUND: usize = 8;
 
 /// The end of a line.
 #[tactic(auto, using(mat_words::proofs::Splitting::some_parts), unfolding(crate::specs::Reading::ended_at))]
@@ -81,6 +85,27 @@ pub(crate) fn element_bits(
         }
         set.insert(element)?;
         rest = after;
+    }
+    Ok(set)
+}
+
+/// The members of a set of bits, which are among all numbers below a bound. A few are found one after the other, each in the time of the
+/// words in between; where there are more, each number is looked up. The only error is want of memory.
+pub(crate) fn members_of(alloc: Global, all: &ElemSet, bits: &BitSet) -> Result<ElemSet, AllocError>
+    requires all { all.now ≡ all_below (length all.now) }
+    requires few { length all.now < 2 ^ 32 }
+    requires inside { IsSet (length all.now) bits.now }
+    ensures { IfOk result (λ set. set ≡ bits.now) }
+{
+    let mut set = ElemSet::new(alloc);
+    let mut from = 0;
+    while let Some(x) = bits.next_common(bits, from) {
+        if set.len() >= MOST_FOUND {
+            let members = all.among(alloc, bits)?;
+            return Ok(members);
+        }
+        set.add(x)?;
+        from = x + 1;
     }
     Ok(set)
 }

@@ -26,11 +26,12 @@ loop-preserved c =
           c.loop-test.true read c.loop.invariant.0),
       rw (c.in_ok-push.ensures.items, length_push) (omega (arith, c.loop.invariant.1)),
       rw c.in_ok-push.ensures.items (c.in_ok-cap.ensures.more ∙ ap (λ s. s ++ c.in_ok-cap.set ∷ []) c.loop.invariant.2),
+      c.in_ok-cap.ensures.elements,
     )
 
 pub returns : goal.returns
 returns c =
     let names = naming c.args.names in
-    rw c.new.ensures.items
+    rw c.new-2.ensures.items
     (nested_sets_done names c.args.count c.args.many c.loop.counter (lines_left c.loop.rest) c.loop.sets.items c.loop.caps.items
     (nested_sets_at names c.args.count c.args.many [] (lines_left c.args.lines)) c.loop-test.false c.loop.invariant.0)
