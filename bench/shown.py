@@ -1,9 +1,10 @@
 """python3 bench/shown.py [PROGRAM]: runs every command that the documents show, and compares every output that they show byte for byte.
 
-The documents are README.md, examples/README.md, docs/FORMATS.md, docs/COOKBOOK.md and docs/MANY.md, and the program is
+The documents are README.md, examples/README.md, docs/FORMATS.md, docs/COOKBOOK.md, docs/MANY.md and docs/CALLING.md, and the program is
 crates/mat_main/out/mat_main unless another is named. In the documents
 - a block marked `console` has commands, each behind '$ ', and below each all that it prints; each ends with the status 0;
 - a block below the comment '<!-- printed by: COMMAND -->' is what the command prints;
+- a block below the comment '<!-- from: FILE -->' stands in the file word for word, but for what a line '..' leaves out;
 - a block that begins with 'matroids' is a canonical description, and one that begins with 'jobs' a list of jobs that is answered; below the
   comment '<!-- saved as: NAME -->' it is a file for the commands further down;
 - a block marked `sh` is not run;
@@ -21,9 +22,9 @@ import sys
 import tempfile
 
 TOP = os.path.dirname(os.path.dirname(os.path.abspath(__file__)))
-DOCUMENTS = ("README.md", "examples/README.md", "docs/FORMATS.md", "docs/COOKBOOK.md", "docs/MANY.md")
+DOCUMENTS = ("README.md", "examples/README.md", "docs/FORMATS.md", "docs/COOKBOOK.md", "docs/MANY.md", "docs/CALLING.md")
 OPEN_WORD = re.compile(r"(?<![\w.])(?:FILE|CERT|WIT|LIST|RUNG|KIND|SIZE|SEED|K|W)(?!\w)")
-COUNTS = {"commands": 0, "outputs": 0, "blocks not run": 0, "lines of files": 0, "links": 0, "wrong": 0}
+COUNTS = {"commands": 0, "outputs": 0, "blocks not run": 0, "quotes": 0, "lines of files": 0, "links": 0, "wrong": 0}
 
 
 def wrong(place, what, wanted="", given=""):
@@ -82,10 +83,24 @@ def try_console(folder, place, lines):
             wanted.append(line)
 
 
+def try_quote(place, name, text):
+    """Looks up the parts of a block, which a line '..' divides, one behind the other in a file."""
+    COUNTS["quotes"] += 1
+    with open(os.path.join(TOP, name), encoding="utf-8") as file:
+        rest = "\n" + file.read()
+    for part in text.split("..\n"):
+        _, found, rest = rest.partition("\n" + part)
+        rest = "\n" + rest
+        if not found:
+            wrong(place, f"not in {name}", part)
+
+
 def try_block(folder, place, mark, comment, lines):
     """Tries one block by its mark, the comment above it or its first word."""
     text = "".join(line + "\n" for line in lines)
-    if mark == "console":
+    if comment.startswith("<!-- from: "):
+        try_quote(place, comment[len("<!-- from: "):-len(" -->")], text)
+    elif mark == "console":
         try_console(folder, place, lines)
     elif mark == "sh":
         COUNTS["blocks not run"] += 1
