@@ -34,7 +34,7 @@ use Rattle.mat_command.specs.JobLists.{Job, IsListed, IsMislisted}
 use Rattle.mat_solve.specs.Queries.{has_form}
 use Rattle.mat_solve.specs.declared.query.Query.{Query}
 use Rattle.mat_solve.specs.Answers.{IsSolutionText}
-use Rattle.mat_top.specs.Summaries.{IsSummary}
+use Rattle.mat_summary.specs.Summaries.{IsSummary}
 
 -- the form of the problem is that of the request; every form can be shown
 abbrev pub HasForm : Request → Instance → Type 0

@@ -10,14 +10,10 @@ mod job_texts;
 mod laws;
 mod loaded_job;
 mod loading;
-mod sampling;
-mod summary;
-mod summary_laws;
 mod top_call;
-mod totals;
 
 pub use laws::solution_laws;
 pub use mat_command::command_line_laws;
 pub use mat_judge::Status;
-pub use summary_laws::summaries_agree;
+pub use mat_summary::summaries_agree;
 pub use top_call::run;

@@ -13,10 +13,10 @@ ghost use Rattle.mat_judge.specs.Texts.{all_texts};
 use crate::about::text_about;
 use crate::batch::batch_texts;
 use crate::convert::converted_text;
-use crate::sampling::sample_text;
 use mat_command::{Command, CommandLine, command_line};
 use mat_judge::{Refusal, Status, put_note, put_texts};
 use mat_shelf::{Shelf, Sink};
+use mat_summary::sample_text;
 use std::alloc::{AllocError, Global};
 use std::thread::Threads;
 

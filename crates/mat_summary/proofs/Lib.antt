@@ -1,0 +1,7 @@
+mod SummaryTotals
+mod SummaryRanges
+mod SummaryLines
+mod SampleForms
+mod SameLadders
+mod SameUnions
+mod OneSummary

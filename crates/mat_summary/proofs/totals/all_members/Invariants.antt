@@ -1,0 +1,10 @@
+use Rattle.std.proofs.Common.{◌≡◌, ◌≤◌, ◌*◌, take}
+use Rattle.mat_sets.specs.Limits.{most_elements}
+use Rattle.mat_summary.specs.Summaries.{all_members}
+use Rattle.mat_summary.proofs.totals.all_members.Given as goal
+
+abbrev pub invariant-loop-set : goal.invariant-loop-set
+invariant-loop-set l = record {
+  so_far : l.count ≡ all_members (take l.set-index l.sets);
+  small : l.count ≤ most_elements * l.set-index;
+}

@@ -1,0 +1,10 @@
+use Rattle.std.proofs.Common.{◌≡◌, ◌*◌, ◌^◌, take}
+use Rattle.mat_sets.specs.Weights.{IsWeightWithin}
+use Rattle.mat_summary.specs.Summaries.{ladder_weight}
+use Rattle.mat_summary.proofs.totals.ladder_weight.Given as goal
+
+abbrev pub invariant-loop-rung : goal.invariant-loop-rung
+invariant-loop-rung l = record {
+  so_far : l.sum ≡ ladder_weight (take l.rung-index l.rungs);
+  small : IsWeightWithin (10 ^ 30 * l.rung-index) l.sum;
+}

@@ -1,0 +1,145 @@
+//! The line that sums up an answer.
+
+ghost use Rattle.std.specs.Prelude.{◌≡◌, ◌+◌, ◌≤◌, ◌++◌, ◌∷◌, [], length, map, codes, pos, All, IfOk, OnOk};
+ghost use Rattle.mat_sets.specs.Limits.{largest_number, most_elements};
+ghost use Rattle.mat_sets.specs.Weights.{IsWeightWithin};
+ghost use Rattle.mat_words.specs.Lines.{text_of};
+ghost use Rattle.mat_words.specs.Numbers.{numeral};
+ghost use Rattle.mat_words.specs.Weights.{weight_word};
+ghost use Rattle.mat_words.specs.Writing.{spaced};
+ghost use Rattle.mat_cert.specs.Certificates.{IsRanged};
+ghost use Rattle.mat_cert.specs.Views.{certificate_of};
+ghost use Rattle.mat_summary.specs.Summaries.{all_members, kind_word, ladder_words, summary_line, summary_words};
+ghost use Rattle.mat_summary.specs.SummaryTexts.{summary_word};
+
+use crate::totals::{all_members, ladder_weight, last_weight};
+use mat_cert::{Answer, PricedRung};
+use mat_gen::SampleKind;
+use mat_sets::{SetList, Weight};
+use mat_words::{put_number_word, put_weight_word};
+use std::alloc::{AllocError, Global};
+
+/// A word of a summary.
+#[derive(Clone, Copy)]
+enum SummaryWord<'a> {
+    /// This word.
+    Fixed(&'a [u8]),
+    /// A number.
+    Number(u64),
+    /// A weight.
+    Weight(Weight),
+}
+
+// Appends a word, behind a space.
+fn put_word(out: &mut Vec<u8>, word: SummaryWord<'_>) -> Result<(), AllocError>
+    ensures { OnOk result (out.new.items ≡ out.old.items ++ 32 ∷ summary_word word.entry) }
+{
+    match word {
+        SummaryWord::Fixed(bytes) => {
+            out.push(b' ')?;
+            out.extend_from_slice(bytes)
+        }
+        SummaryWord::Number(n) => put_number_word(out, i128::from(n)),
+        SummaryWord::Weight(weight) => put_weight_word(out, weight),
+    }
+}
+
+// Appends words, each behind a space.
+fn put_words(out: &mut Vec<u8>, words: &[SummaryWord<'_>]) -> Result<(), AllocError>
+    ensures { OnOk result (out.new.items ≡ out.old.items ++ spaced (map summary_word words.now)) }
+{
+    for word in words {
+        put_word(out, *word)?;
+    }
+    Ok(())
+}
+
+// Appends what a ladder comes to.
+fn put_ladder_words(out: &mut Vec<u8>, rungs: &[PricedRung]) -> Result<(), AllocError>
+    requires few { length rungs.now ≤ most_elements + 1 }
+    requires small { All (λ rung. IsWeightWithin largest_number rung.weight) rungs.now }
+    ensures { OnOk result (out.new.items ≡ out.old.items ++ spaced (ladder_words rungs.now)) }
+{
+    let words = [
+        SummaryWord::Fixed(b"size"),
+        SummaryWord::Number(rungs.len().saturating_sub(1) as u64),
+        SummaryWord::Fixed(b"weight"),
+        SummaryWord::Weight(last_weight(rungs)),
+        SummaryWord::Fixed(b"ladder"),
+        SummaryWord::Weight(ladder_weight(rungs)),
+    ];
+    put_words(out, &words)
+}
+
+// Appends what a union comes to.
+fn put_union_words(out: &mut Vec<u8>, weight: Weight, parts: &SetList) -> Result<(), AllocError>
+    requires few { length parts.now ≤ 64 }
+    requires small { All (λ set. length set ≤ most_elements) parts.now }
+    ensures { OnOk result (out.new.items ≡ out.old.items
+        ++ spaced (codes "size" ∷ numeral (pos (all_members parts.now)) ∷ codes "weight" ∷ weight_word weight ∷ [])) }
+{
+    let words = [
+        SummaryWord::Fixed(b"size"),
+        SummaryWord::Number(all_members(parts.as_slice()) as u64),
+        SummaryWord::Fixed(b"weight"),
+        SummaryWord::Weight(weight),
+    ];
+    put_words(out, &words)
+}
+
+// Appends what an answer comes to.
+fn put_answer_words(out: &mut Vec<u8>, answer: &Answer) -> Result<(), AllocError>
+    requires { IsRanged (certificate_of answer.now) }
+    ensures { OnOk result (out.new.items ≡ out.old.items ++ spaced (summary_words (certificate_of answer.now))) }
+{
+    match answer {
+        Answer::Intersect { rungs, .. } => put_ladder_words(out, rungs),
+        Answer::Assign { rungs, .. } => put_ladder_words(out, rungs),
+        Answer::UnionOf { weight, parts, .. } => put_union_words(out, *weight, parts),
+        Answer::Trees { .. } => put_words(out, &[SummaryWord::Fixed(b"trees")]),
+        Answer::TreesNone { .. } => put_words(out, &[SummaryWord::Fixed(b"partition")]),
+        Answer::Arbor { cost, .. } => put_words(
+            out,
+            &[SummaryWord::Fixed(b"cost"), SummaryWord::Weight(*cost)],
+        ),
+        Answer::Unreached { .. } => put_words(out, &[SummaryWord::Fixed(b"unreached")]),
+        _ => Ok(()),
+    }
+}
+
+// The word that names a kind.
+fn kind_word(kind: SampleKind) -> &'static [u8]
+    ensures { result.now ≡ kind_word kind }
+{
+    match kind {
+        SampleKind::Pair => b"pair",
+        SampleKind::List => b"list",
+        SampleKind::Graph => b"graph",
+        SampleKind::Rooted => b"rooted",
+        SampleKind::Table => b"table",
+    }
+}
+
+/// The summary of an answer in range to the problem of this kind, size and seed. The only error is want of memory.
+pub(crate) fn summary_text(
+    alloc: Global,
+    kind: SampleKind,
+    size: u32,
+    seed: u64,
+    answer: &Answer,
+) -> Result<Vec<u8>, AllocError>
+    requires { IsRanged (certificate_of answer.now) }
+    ensures { IfOk result (λ v. v.items ≡ text_of (summary_line kind size seed (certificate_of answer.now) ∷ [])) }
+{
+    let mut out = b"sample".to_vec(alloc)?;
+    let words = [
+        SummaryWord::Fixed(kind_word(kind)),
+        SummaryWord::Number(u64::from(size)),
+        SummaryWord::Number(seed),
+    ];
+    put_words(&mut out, &words)?;
+    put_answer_words(&mut out, answer)?;
+    put_words(&mut out, &[SummaryWord::Fixed(b"accepted")])?;
+    out.push(b'\n')?;
+    Ok(out)
+}
