@@ -37,7 +37,9 @@ pub(crate) fn solution_text<R: Threads + Sync>(
     ensures { IfOk result (λ v. HasSolutionText query (instance_of problem.now) v.items) }
 {
     let answer = solve(rt, alloc, problem, query, workers)?;
-    write_answer(alloc, &answer)
+    let text = write_answer(alloc, &answer);
+    drop(answer);
+    text
 }
 
 // The text that says that a certificate is right.
@@ -120,5 +122,7 @@ pub(crate) fn text_about<R: Threads + Sync, F: Shelf>(
         (F.faults files.old) (F.faults files.new) e) }
 {
     let problem = problem_in(alloc, files, name)?;
-    text_for(rt, alloc, files, request, &problem, workers)
+    let text = text_for(rt, alloc, files, request, &problem, workers);
+    drop(problem);
+    text
 }

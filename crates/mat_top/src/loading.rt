@@ -61,6 +61,7 @@ fn loaded_job<F: Shelf>(alloc: Global, files: &mut F, job: &Job) -> Result<Loade
 {
     let problem = problem_in(alloc, files, &job.file)?;
     if !has_form(job.query, &problem) {
+        drop(problem);
         return Err(Unloaded::WrongShape);
     }
     Ok(LoadedJob {

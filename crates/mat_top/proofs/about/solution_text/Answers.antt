@@ -13,4 +13,4 @@ returns g c =
       form = c.requires.form;
       solution = record { certificate = certificate; of_query = solved.of_query; solution = solved.solution; whole = whole };
       short = rw whole (length-certificate_text certificate solved.solution.ranged);
-    }) c.write_answer.ensures
+    }) c.write_answer-text.ensures
