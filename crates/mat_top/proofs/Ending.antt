@@ -1,6 +1,5 @@
 -- How a command ended, as each clause of the top call says it: by cases on the refusal.
 use Rattle.std.proofs.Common.{◌≡◌, ℕ, List, Option, Some, Result, Ok, Err, refl, sym, subst}
-use Rattle.std.specs.Prelude.{IfErr, IsErrAnd}
 use Rattle.mat_command.specs.CommandLines.{Task}
 use Rattle.mat_judge.specs.Notes.{note_of}
 use Rattle.mat_judge.specs.Statuses.{status_of, status_of_denial}
@@ -23,28 +22,13 @@ status_at (Ok done) = statuses.Done
 status_at (Err refusal) = status_of refusal
 
 -- there was no text
-refused : (held : List ℕ → Option (List ℕ)) (task : Task) (before now : List ℕ → ℕ) (old : Option (List ℕ)) (out_before out_now : ℕ)
+pub refused : (held : List ℕ → Option (List ℕ)) (task : Task) (before now : List ℕ → ℕ) (old : Option (List ℕ)) (out_before out_now : ℕ)
     (refusal : Refusal)
     → IsRefusal held task before now refusal → IsEnded held task before now old out_before old out_now (Err refusal)
 refused held task before now old out_before out_now refusals.Usage cause = absurd cause
 refused held task before now old out_before out_now refusals.WriteFault cause = absurd cause
 refused held task before now old out_before out_now (refusals.Unread why) cause = (cause, refl)
 refused held task before now old out_before out_now (refusals.Denied denial) cause = (cause, refl)
-
-pub ended-refused : (held : List ℕ → Option (List ℕ)) (task : Task) (before now : List ℕ → ℕ) (old : Option (List ℕ))
-    (out_before out_now : ℕ)
-    (refusal : Refusal) (end : Ended)
-    → IsErrAnd end (λ e. e ≡ refusal) → IsRefusal held task before now refusal → IsEnded held task before now old out_before old out_now end
-ended-refused held task before now old out_before out_now refusal (Ok done) is cause = absurd is
-ended-refused held task before now old out_before out_now refusal (Err e) is cause =
-    refused held task before now old out_before out_now e (subst (λ r. IsRefusal held task before now r) (sym is) cause)
-
--- there is no text
-pub text-refused : {X : Type 0} (held : List ℕ → Option (List ℕ)) (task : Task) (before now : List ℕ → ℕ) (refusal : Refusal)
-    (found : Result X Refusal)
-    → IsErrAnd found (λ e. e ≡ refusal) → IsRefusal held task before now refusal → IfErr found (λ e. IsRefusal held task before now e)
-text-refused held task before now refusal (Ok x) is cause = absurd is
-text-refused held task before now refusal (Err e) is cause = subst (λ r. IsRefusal held task before now r) (sym is) cause
 
 -- where the files deny a call, nothing is written
 denied-written : (held : List ℕ → Option (List ℕ)) (asked : Option Task) (old : Option (List ℕ)) (denial : Denial)

@@ -21,5 +21,7 @@ pub(crate) fn converted_text<F: Shelf>(
     ensures refusal { IfErr result (λ e. IsRefusal (F.held files.old) (convert name.now) (F.faults files.old) (F.faults files.new) e) }
 {
     let named = named_in(alloc, files, name)?;
-    Ok(write_named(alloc, &named)?)
+    let text = write_named(alloc, &named);
+    drop(named);
+    Ok(text?)
 }
