@@ -79,10 +79,13 @@ impl Roomy for Uniform {
 
 // How many members of a set are in a class.
 fn members_in(set: &ElemSet, class: &ElemSet) -> usize {
-    set.as_slice()
-        .iter()
-        .filter(|e| class.contains(**e))
-        .count()
+    let mut count: usize = 0;
+    for e in set.as_slice() {
+        if class.contains(*e) {
+            count = count.saturating_add(1);
+        }
+    }
+    count
 }
 
 // Adds what the class of this name allows, where members of the set are here.

@@ -24,12 +24,23 @@ pub struct Shares<'a> {
 
 // How many of the weights are not 0.
 fn count_of(weights: &[Weight]) -> usize {
-    weights.iter().filter(|w| **w != Weight::ZERO).count()
+    let mut count: usize = 0;
+    for weight in weights {
+        if *weight != Weight::ZERO {
+            count = count.saturating_add(1);
+        }
+    }
+    count
 }
 
 // Whether one of the weights is not 0.
 fn are_some(weights: &[Weight]) -> bool {
-    weights.iter().any(|w| *w != Weight::ZERO)
+    for weight in weights {
+        if *weight != Weight::ZERO {
+            return true;
+        }
+    }
+    false
 }
 
 /// Whether each of two lists has a weight that is not 0.

@@ -95,6 +95,16 @@ fn tell_steps(text: &mut Text, called: &Called<'_>, steps: &[Step<'_>]) -> Resul
     }
 }
 
+// Whether the weights are split in one of the steps.
+fn have_shares(steps: &[Step<'_>]) -> bool {
+    for step in steps {
+        if step.shares.is_some() {
+            return true;
+        }
+    }
+    false
+}
+
 /// Tells the greatest weight of each size but 0, and a set that has it. The only error is want of memory.
 pub fn tell_sizes(
     text: &mut Text,
@@ -107,7 +117,7 @@ pub fn tell_sizes(
         return Ok(());
     }
     tell_steps(text, called, steps)?;
-    if steps.iter().any(|step| step.shares.is_some()) {
+    if have_shares(steps) {
         text.detail("In brackets are the shares for rule 1 and for rule 2, which are told below.")?;
     }
     Ok(())
