@@ -1,6 +1,7 @@
 //! The parts of a picture, one beneath another.
 
-ghost use Rattle.std.specs.Prelude.{◌≡◌};
+ghost use Rattle.std.specs.Prelude.{◌≡◌, ◌≤ℤ◌, OnOk};
+ghost use Rattle.mat_drawing.specs.Markup.{AddsMarkup};
 
 use mat_drawing::{Drawing, Point, Units};
 use mat_text::Text;
@@ -16,12 +17,21 @@ pub const MARGIN: Units = Units(20);
 /// What is drawn so far, how wide it is, and where the next part begins.
 #[derive(Drop)]
 pub struct Canvas {
-    /// What is drawn so far.
-    pub drawing: Drawing,
+    // What is drawn so far.
+    drawing: Drawing,
     // How wide the widest part is.
     width: Units,
     // Where the next part begins.
     top: Units,
+}
+
+// The most bytes of a line.
+fn longest_line(words: &str) -> usize {
+    let mut longest: usize = 0;
+    for line in words.lines() {
+        longest = longest.max(line.len());
+    }
+    longest
 }
 
 impl Canvas {
@@ -44,6 +54,13 @@ impl Canvas {
         self.drawing.alloc()
     }
 
+    /// What is drawn so far.
+    pub fn drawing(&self) -> &Drawing
+        ensures { result.now ≡ self.now.drawing }
+    {
+        &self.drawing
+    }
+
     /// How wide the widest part is, without the margins.
     pub fn width(&self) -> Units
         ensures { result ≡ self.now.width }
@@ -58,17 +75,37 @@ impl Canvas {
         self.top
     }
 
-    /// Ends a part of this width with the notes that stand from here on beneath it. The only error is want of memory.
-    pub fn end_part(&mut self, width: Units, from: Units, notes: &Text) -> Result<(), AllocError> {
-        let filled = notes.filled(LINE)?;
-        let mut at = Point { x: MARGIN, y: from };
-        self.width = self.width.max(width);
-        for line in str::from_utf8(&filled).unwrap_or("").lines() {
-            self.drawing.text(at, line, &[])?;
-            self.width = self.width.max(Units::of(line.len()) * 8);
-            at = at.below(18);
+    // Makes room for so much.
+    fn widen(&mut self, width: Units)
+        ensures wide { self.old.width.0 ≤ℤ self.new.width.0 }
+        ensures room { width.0 ≤ℤ self.new.width.0 }
+        ensures drawn { self.new.drawing ≡ self.old.drawing }
+    {
+        if self.width.0 < width.0 {
+            self.width = width;
         }
-        self.top = at.y + 20;
+    }
+
+    /// Adds a part of this width, with the notes that stand from here on beneath it. The only error is want of memory.
+    pub fn add_part(
+        &mut self,
+        part: &Drawing,
+        width: Units,
+        from: Units,
+        notes: &Text,
+    ) -> Result<(), AllocError>
+        ensures drawn { OnOk result (AddsMarkup self.old.drawing.markup self.new.drawing.markup) }
+        ensures wide { self.old.width.0 ≤ℤ self.new.width.0 }
+        ensures room { OnOk result (width.0 ≤ℤ self.new.width.0) }
+    {
+        let filled = notes.filled(LINE)?;
+        let words = str::from_utf8(&filled).unwrap_or("");
+        self.widen(width);
+        self.widen(Units::of(longest_line(words)) * 8);
+        self.drawing.append(part)?;
+        let from = Point { x: MARGIN, y: from };
+        let end = self.drawing.lines(from, words, 18, &[])?;
+        self.top = end.y + 20;
         Ok(())
     }
 }

@@ -2,10 +2,9 @@
 
 use crate::canvas::MARGIN;
 use crate::ladder::Ladder;
-use crate::measures::{bytes_of, longest_element, longest_weight, step, weight_at};
+use crate::measures::{longest_element, step, weight_at, weight_bytes};
 use mat_drawing::{Anchor, Area, Attribute, Colour, Drawing, Point, Shape, Units, polyline};
 use mat_reasons::Step;
-use mat_sets::Weight;
 use mat_text::Spelled;
 use std::alloc::{AllocError, Global};
 
@@ -28,22 +27,51 @@ pub(crate) struct Chart<'a> {
     high: i128,
 }
 
+// The most bytes of the weight of a row, and at least so many.
+fn digits_of_rows(
+    alloc: Global,
+    ladder: &Ladder<'_>,
+    rows: &[u32],
+    least: usize,
+) -> Result<usize, AllocError> {
+    let mut digits = least;
+    for e in rows {
+        digits = digits.max(weight_bytes(alloc, weight_at(ladder.weights, *e))?);
+    }
+    Ok(digits)
+}
+
+// The most bytes of the weight of a step, and at least so many.
+fn digits_of_steps(alloc: Global, steps: &[Step<'_>], least: usize) -> Result<usize, AllocError> {
+    let mut digits = least;
+    for step in steps {
+        digits = digits.max(weight_bytes(alloc, step.weight)?);
+    }
+    Ok(digits)
+}
+
 // The most bytes of a weight of a row or of a step, and at least 6.
 fn digits(alloc: Global, ladder: &Ladder<'_>, rows: &[u32]) -> Result<usize, AllocError> {
-    let of_rows: Vec<Weight> = rows
-        .iter()
-        .map(|e| weight_at(ladder.weights, *e))
-        .collect(alloc)?;
-    let of_steps: Vec<Weight> = ladder.steps.iter().map(|step| step.weight).collect(alloc)?;
-    let longest = longest_weight(alloc, &of_rows)?.max(longest_weight(alloc, &of_steps)?);
-    Ok(longest.max(6))
+    digits_of_rows(
+        alloc,
+        ladder,
+        rows,
+        digits_of_steps(alloc, ladder.steps, 6)?,
+    )
 }
 
 // The least and the greatest of the main numbers of the steps.
 fn range(steps: &[Step<'_>]) -> (i128, i128) {
-    let low = steps.iter().map(|step| step.weight.main).min();
-    let high = steps.iter().map(|step| step.weight.main).max();
-    (low.unwrap_or(0), high.unwrap_or(0))
+    let Some(first) = steps.first() else {
+        return (0, 0);
+    };
+    let mut low = first.weight.main;
+    let mut high = first.weight.main;
+    for step in steps {
+        low = low.min(step.weight.main);
+        high = high.max(step.weight.main);
+    }
+    (low, high)
 }
 
 // How high a number stands on a scale from the low one to the high one.
@@ -212,7 +240,7 @@ impl<'a> Chart<'a> {
                 format_args!("size {k} weighs {weight}"),
             )?;
         }
-        let long = Units::of(bytes_of(drawing.alloc(), weight)?) * 8;
+        let long = Units::of(weight_bytes(drawing.alloc(), step.weight)?) * 8;
         if is_best || self.column >= long {
             let mut look = vec![in drawing.alloc(); Attribute::Anchor(Anchor::Middle)]?;
             if is_best {

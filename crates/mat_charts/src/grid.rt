@@ -1,10 +1,13 @@
 //! Grids: a row for each element, in blocks side by side, and a column for each part.
 
+ghost use Rattle.std.specs.Prelude.{◌<◌, ◌≤ℤ◌, OnOk};
+ghost use Rattle.mat_drawing.specs.Markup.{AddsMarkup};
+
 use crate::canvas::{Canvas, MARGIN};
 use crate::measures::{longest_element, longest_weight, step, weight_at};
 use mat_drawing::{Anchor, Area, Attribute, Colour, Drawing, Point, Shape, Units, strokes};
 use mat_sets::{ElemSet, Weight};
-use mat_text::{Called, Noun, Spelled, Text};
+use mat_text::{Called, Noun, Spelled, Text, is_in_some};
 use std::alloc::{AllocError, Global};
 
 /// Parts of the elements, in an order of these, and a set of elements that is shaded.
@@ -26,13 +29,23 @@ pub struct Grid<'a> {
 
 impl Grid<'_> {
     // How many elements a block has.
-    fn block_size(&self) -> usize {
+    fn block_size(&self) -> usize
+        ensures { 0 < result }
+    {
         if self.parts.len() > 20 { 125 } else { 50 }
     }
 
-    // Whether an element is in no part.
-    fn is_left(&self, e: u32) -> bool {
-        !self.parts.iter().any(|part| part.contains(e))
+    // The elements of a block.
+    fn block(&self, block: usize) -> &[u32] {
+        let size = self.block_size();
+        let from = block.saturating_mul(size).min(self.order.len());
+        let to = from.saturating_add(size).min(self.order.len());
+        &self.order[from..to]
+    }
+
+    // How many blocks there are: one where there are no elements.
+    fn blocks(&self) -> usize {
+        self.order.len().div_ceil(self.block_size()).max(1)
     }
 }
 
@@ -116,10 +129,10 @@ impl<'a> Blocks<'a> {
             x: left - 12 - self.digits * 8,
             y: y + 12,
         };
-        if self.grid.is_left(e) {
-            drawing.text(at, name, &dim)?;
-        } else {
+        if is_in_some(self.grid.parts, e) {
             drawing.text(at, name, &[Attribute::Anchor(Anchor::End)])?;
+        } else {
+            drawing.text(at, name, &dim)?;
         }
         let Some(weights) = self.grid.weights else {
             return Ok(());
@@ -217,29 +230,27 @@ impl<'a> Blocks<'a> {
         self.draw_lines(drawing, left, self.bottom(elements.len()))
     }
 
-    // Draws all blocks, of which there is always one, and gives how many there are.
-    fn draw(&self, drawing: &mut Drawing) -> Result<usize, AllocError> {
-        let mut left = self.grid.order;
-        for block in 0..self.grid.order.len() {
-            let (elements, others) = left.split_at(self.grid.block_size().min(left.len()));
-            self.draw_block(drawing, block, elements)?;
-            if others.is_empty() {
-                return Ok(block.saturating_add(1));
-            }
-            left = others;
+    // Draws all blocks.
+    fn draw(&self, drawing: &mut Drawing) -> Result<(), AllocError> {
+        for block in 0..self.grid.blocks() {
+            self.draw_block(drawing, block, self.grid.block(block))?;
         }
-        self.draw_block(drawing, 0, left)?;
-        Ok(1)
+        Ok(())
     }
 }
 
 /// Draws a grid, with these notes beneath it. The only error is want of memory.
-pub fn draw_grid(canvas: &mut Canvas, grid: &Grid<'_>, notes: &Text) -> Result<(), AllocError> {
+pub fn draw_grid(canvas: &mut Canvas, grid: &Grid<'_>, notes: &Text) -> Result<(), AllocError>
+    ensures drawn { OnOk result (AddsMarkup canvas.old.drawing.markup canvas.new.drawing.markup) }
+    ensures wide { canvas.old.width.0 ≤ℤ canvas.new.width.0 }
+{
     let blocks = Blocks::new(canvas.alloc(), grid, canvas.top())?;
-    let count = blocks.draw(&mut canvas.drawing)?;
+    let mut part = Drawing::new(canvas.alloc());
+    blocks.draw(&mut part)?;
     let longest = grid.order.len().min(grid.block_size());
-    canvas.end_part(
-        blocks.wide() * Units::of(count),
+    canvas.add_part(
+        &part,
+        blocks.wide() * Units::of(grid.blocks()),
         blocks.bottom(longest) + 18,
         notes,
     )

@@ -5,7 +5,7 @@ ghost use Rattle.std.specs.Prelude.{◌≡◌, length, IfOk};
 use crate::orders::by_first_set;
 use mat_cert::PricedRung;
 use mat_reasons::Step;
-use mat_sets::{ElemSet, Weight};
+use mat_sets::Weight;
 use mat_text::{Called, Noun};
 use std::alloc::{AllocError, Global};
 
@@ -35,7 +35,10 @@ impl<'a> Ladder<'a> {
 
     /// The elements of all sets, by the first step that has them and then by number. The only error is want of memory.
     pub(crate) fn rows(&self, alloc: Global) -> Result<Vec<u32>, AllocError> {
-        let sets: Vec<&ElemSet> = self.steps.iter().map(|step| step.set).collect(alloc)?;
+        let mut sets = Vec::new(alloc);
+        for step in self.steps {
+            sets.push(step.set)?;
+        }
         by_first_set(alloc, &sets)
     }
 }

@@ -14,7 +14,6 @@ mod table;
 pub use canvas::{Canvas, LINE, MARGIN};
 pub use grid::{Grid, draw_grid};
 pub use ladder::{Ladder, steps_of};
-pub use measures::longest_vertex;
 pub use orders::{by_first_set, by_weight};
 pub use rows::draw_ladder;
 pub use table::{Table, draw_table};

@@ -6,18 +6,17 @@ use mat_drawing::Units;
 use mat_sets::Weight;
 use mat_text::{Called, Spelled};
 use std::alloc::{AllocError, Global};
-use std::fmt::Display;
 
-/// How many bytes words have. The only error is want of memory.
-pub(crate) fn bytes_of<W: Display + Drop>(alloc: Global, words: W) -> Result<usize, AllocError> {
-    Ok(words.to_string(alloc)?.len())
+/// How many bytes the spelling of a weight has. The only error is want of memory.
+pub(crate) fn weight_bytes(alloc: Global, weight: Weight) -> Result<usize, AllocError> {
+    Ok(Spelled(weight).to_string(alloc)?.len())
 }
 
 /// The most bytes of the spelling of one of these weights: 0 of none. The only error is want of memory.
 pub(crate) fn longest_weight(alloc: Global, weights: &[Weight]) -> Result<usize, AllocError> {
     let mut longest = 0;
     for weight in weights {
-        longest = longest.max(bytes_of(alloc, Spelled(*weight))?);
+        longest = longest.max(weight_bytes(alloc, *weight)?);
     }
     Ok(longest)
 }
@@ -30,20 +29,7 @@ pub(crate) fn longest_element(
 ) -> Result<usize, AllocError> {
     let mut longest = 0;
     for e in elements {
-        longest = longest.max(bytes_of(alloc, called.element(*e as usize))?);
-    }
-    Ok(longest)
-}
-
-/// The most bytes of the name of one of so many vertices: 0 of none. The only error is want of memory.
-pub fn longest_vertex(
-    alloc: Global,
-    called: &Called<'_>,
-    vertices: usize,
-) -> Result<usize, AllocError> {
-    let mut longest = 0;
-    for v in 0..vertices {
-        longest = longest.max(bytes_of(alloc, called.vertex(v))?);
+        longest = longest.max(called.element(*e as usize).to_string(alloc)?.len());
     }
     Ok(longest)
 }

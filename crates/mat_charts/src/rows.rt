@@ -1,12 +1,15 @@
 //! The sets of a ladder as rows of squares beneath its chart.
 
+ghost use Rattle.std.specs.Prelude.{◌≤ℤ◌, OnOk};
+ghost use Rattle.mat_drawing.specs.Markup.{AddsMarkup};
+
 use crate::canvas::Canvas;
 use crate::chart::Chart;
 use crate::ladder::Ladder;
 use crate::measures::weight_at;
 use mat_drawing::{Anchor, Area, Attribute, Colour, Drawing, Point, Units, strokes};
 use mat_text::{Spelled, Text, many};
-use std::alloc::AllocError;
+use std::alloc::{AllocError, Global};
 
 // Draws the name and the weight of each row.
 fn draw_names(drawing: &mut Drawing, chart: &Chart<'_>) -> Result<(), AllocError> {
@@ -112,16 +115,27 @@ fn draw_rows(drawing: &mut Drawing, chart: &Chart<'_>) -> Result<(), AllocError>
     draw_gaps(drawing, chart)
 }
 
-/// Draws a ladder: a chart of weight over size, and beneath it the sets as rows of squares. The only error is want of memory.
-pub fn draw_ladder(canvas: &mut Canvas, ladder: &Ladder<'_>) -> Result<(), AllocError> {
-    let alloc = canvas.alloc();
-    let chart = Chart::new(alloc, ladder, canvas.top())?;
-    chart.draw(&mut canvas.drawing)?;
-    draw_rows(&mut canvas.drawing, &chart)?;
+// The notes on a ladder: how many elements are in none of its sets.
+fn notes(alloc: Global, chart: &Chart<'_>) -> Result<Text, AllocError> {
     let mut notes = Text::new(alloc);
+    let ladder = chart.ladder;
     let none = ladder.weights.len().saturating_sub(chart.rows.len());
     if none > 0 {
         notes.say(format_args!("In no set, and without a row: {}.", many(none, ladder.noun)))?;
     }
-    canvas.end_part(chart.right() - 20, chart.end() + 18, &notes)
+    Ok(notes)
+}
+
+/// Draws a ladder: a chart of weight over size, and beneath it the sets as rows of squares. The only error is want of memory.
+pub fn draw_ladder(canvas: &mut Canvas, ladder: &Ladder<'_>) -> Result<(), AllocError>
+    ensures drawn { OnOk result (AddsMarkup canvas.old.drawing.markup canvas.new.drawing.markup) }
+    ensures wide { canvas.old.width.0 ≤ℤ canvas.new.width.0 }
+{
+    let alloc = canvas.alloc();
+    let chart = Chart::new(alloc, ladder, canvas.top())?;
+    let mut part = Drawing::new(alloc);
+    chart.draw(&mut part)?;
+    draw_rows(&mut part, &chart)?;
+    let notes = notes(alloc, &chart)?;
+    canvas.add_part(&part, chart.right() - 20, chart.end() + 18, &notes)
 }

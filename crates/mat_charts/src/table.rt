@@ -1,9 +1,10 @@
 //! Tables of cells, with the rows and columns in which all cells stand.
 
-ghost use Rattle.std.specs.Prelude.{◌<◌, ◌^◌, length};
+ghost use Rattle.std.specs.Prelude.{◌<◌, ◌^◌, ◌≤ℤ◌, length, OnOk};
+ghost use Rattle.mat_drawing.specs.Markup.{AddsMarkup};
 
 use crate::canvas::{Canvas, MARGIN};
-use crate::measures::{bytes_of, weight_at};
+use crate::measures::weight_at;
 use mat_drawing::{Anchor, Area, Attribute, Colour, Drawing, Point, Shape, Units};
 use mat_sets::{ElemSet, Pairs, Weight};
 use mat_tell::{columns_inside, rows_outside};
@@ -57,12 +58,22 @@ impl Lines {
     }
 }
 
+// How many of these cells stand in this field.
+fn count_in(cells: &[(u32, u32)], field: (u32, u32)) -> usize {
+    let mut count: usize = 0;
+    for cell in cells {
+        if *cell == field {
+            count = count.saturating_add(1);
+        }
+    }
+    count
+}
+
 // How many cells before each one stand in the same field.
 fn depths(alloc: Global, cells: &[(u32, u32)]) -> Result<Vec<usize>, AllocError> {
     let mut depths = Vec::new(alloc);
-    for (e, cell) in cells.iter().enumerate() {
-        let before = cells.iter().take(e);
-        depths.push(before.filter(|other| **other == *cell).count())?;
+    for e in 0..cells.len() {
+        depths.push(count_in(&cells[..e], cells[e]))?;
     }
     Ok(depths)
 }
@@ -107,7 +118,7 @@ fn longest_label(alloc: Global, table: &Table<'_>) -> Result<usize, AllocError>
 {
     let mut longest = 0;
     for e in 0..table.cells.len() as u32 {
-        longest = longest.max(bytes_of(alloc, label(alloc, table, e)?)?);
+        longest = longest.max(label(alloc, table, e)?.len());
     }
     Ok(longest)
 }
@@ -318,6 +329,19 @@ impl<'a> Fields<'a> {
         }
     }
 
+    // Draws the table.
+    fn draw(&self, drawing: &mut Drawing) -> Result<(), AllocError> {
+        self.shade_rows(drawing)?;
+        self.shade_columns(drawing)?;
+        self.draw_rows(drawing)?;
+        if self.lines.are_many() {
+            self.draw_many_columns(drawing)?;
+        } else {
+            self.draw_few_columns(drawing)?;
+        }
+        self.draw_cells(drawing)
+    }
+
     // Draws all cells.
     fn draw_cells(&self, drawing: &mut Drawing) -> Result<(), AllocError> {
         let cells = self.table.cells.as_slice();
@@ -330,33 +354,32 @@ impl<'a> Fields<'a> {
 
 // The place of a number in a set.
 fn place(set: &ElemSet, x: u32) -> usize {
-    set.as_slice().iter().take_while(|y| **y < x).count()
+    match set.as_slice().binary_search(&x) {
+        Ok(place) | Err(place) => place,
+    }
+}
+
+// The notes on a table: what red and shaded fields are.
+fn notes(alloc: Global, lines: &Lines) -> Result<Text, AllocError> {
+    let rows = lines.shaded_rows.len();
+    let shaded = rows.saturating_add(lines.shaded_columns.len());
+    let mut notes = Text::new(alloc);
+    notes.say(format_args!(
+        "Red: the best set. Shaded: rows and columns in which all cells stand, {shaded} in all; a set has at most one cell in each."
+    ))?;
+    Ok(notes)
 }
 
 /// Draws a table: its cells, the best set of them, and the rows and columns in which all cells stand. The only error is want of memory.
 pub fn draw_table(canvas: &mut Canvas, table: &Table<'_>) -> Result<(), AllocError>
     requires { length table.now.cells.now < 2 ^ 32 }
+    ensures drawn { OnOk result (AddsMarkup canvas.old.drawing.markup canvas.new.drawing.markup) }
+    ensures wide { canvas.old.width.0 ≤ℤ canvas.new.width.0 }
 {
     let alloc = canvas.alloc();
     let fields = Fields::new(alloc, table, canvas.top())?;
-    let drawing = &mut canvas.drawing;
-    fields.shade_rows(drawing)?;
-    fields.shade_columns(drawing)?;
-    fields.draw_rows(drawing)?;
-    if fields.lines.are_many() {
-        fields.draw_many_columns(drawing)?;
-    } else {
-        fields.draw_few_columns(drawing)?;
-    }
-    fields.draw_cells(drawing)?;
-    let lines = &fields.lines;
-    let shaded = lines
-        .shaded_rows
-        .len()
-        .saturating_add(lines.shaded_columns.len());
-    let mut notes = Text::new(alloc);
-    notes.say(format_args!(
-        "Red: the best set. Shaded: rows and columns in which all cells stand, {shaded} in all; a set has at most one cell in each."
-    ))?;
-    canvas.end_part(fields.right() - 20, fields.bottom() + 18, &notes)
+    let mut part = Drawing::new(alloc);
+    fields.draw(&mut part)?;
+    let notes = notes(alloc, &fields.lines)?;
+    canvas.add_part(&part, fields.right() - 20, fields.bottom() + 18, &notes)
 }

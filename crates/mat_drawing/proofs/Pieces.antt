@@ -102,3 +102,13 @@ line_added old markup middle new m e f = record {
   is_markup = beside_markup markup (10 ∷ []) m line_feed_markup;
   told = f ∙ rw e (simp append_assoc);
 }
+
+pub adds_nothing : (text : List ℕ) → AddsMarkup text text
+adds_nothing text = record { added = []; is_markup = nothing_markup; told = simp append-nil }
+
+pub adds_more : (first second third : List ℕ) → AddsMarkup first second → AddsMarkup second third → AddsMarkup first third
+adds_more first second third f g = record {
+  added = f.added ++ g.added;
+  is_markup = beside_markup f.added g.added f.is_markup g.is_markup;
+  told = g.told ∙ (ap (λ (t : List ℕ). t ++ g.added) f.told ∙ append_assoc first _ _);
+}

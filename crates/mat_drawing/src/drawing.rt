@@ -93,7 +93,8 @@ impl Drawing {
 
     /// Adds the lines of another drawing. The only error is want of memory.
     pub fn append(&mut self, other: &Drawing) -> Result<(), AllocError>
-        ensures { OnOk result (self.new.markup ≡ self.old.markup ++ other.now.markup) }
+        ensures lines { OnOk result (self.new.markup ≡ self.old.markup ++ other.now.markup) }
+        ensures added { OnOk result (AddsMarkup self.old.markup self.new.markup) }
     {
         self.add(other.markup())
     }
@@ -112,6 +113,25 @@ impl Drawing {
         all.extend_from_slice(attributes)?;
         let text = element(self.alloc, "text", &all, &words)?;
         self.add_line(&text)
+    }
+
+    /// Adds lines of words, the first at a point and each so much lower than the one before it, and gives the point that is as much lower
+    /// than the last. The only error is want of memory.
+    pub fn lines(
+        &mut self,
+        from: Point,
+        words: &str,
+        apart: i64,
+        attributes: &[Attribute<'_>],
+    ) -> Result<Point, AllocError>
+        ensures { OnOk result (AddsMarkup self.old.markup self.new.markup) }
+    {
+        let mut at = from;
+        for line in words.lines() {
+            self.text(at, line, attributes)?;
+            at = at.below(apart);
+        }
+        Ok(at)
     }
 
     /// Adds a shape. The only error is want of memory.

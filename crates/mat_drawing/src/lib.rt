@@ -1,10 +1,9 @@
-//! Drawings as SVG: texts, rectangles, circles and paths of whole numbers of units, markup that is well formed and in which words are
-//! escaped, and places on a circle.
+//! Drawings as SVG: texts, rectangles, circles and paths of whole numbers of units, in markup that is well formed and in which words are
+//! escaped.
 #![tactic(auto)]
 
 mod area;
 mod attribute;
-mod circle;
 mod colour;
 mod dash;
 mod drawing;
@@ -17,7 +16,6 @@ mod units;
 
 pub use area::Area;
 pub use attribute::{Anchor, Attribute};
-pub use circle::{Circle, sine};
 pub use colour::Colour;
 pub use dash::Dash;
 pub use drawing::Drawing;

@@ -69,6 +69,6 @@ pub(crate) struct Arrangement {
 impl Arrangement {
     /// Whether an edge has the style of this number.
     pub(crate) fn uses(&self, style: usize) -> bool {
-        self.style_of.iter().any(|other| *other == style)
+        self.style_of.contains(&style)
     }
 }

@@ -8,7 +8,17 @@ use crate::layout::Layout;
 use crate::legend::Legend;
 use crate::vertices::{draw_groups, draw_names, draw_vertices};
 use mat_charts::Canvas;
+use mat_drawing::Drawing;
 use std::alloc::AllocError;
+
+// Draws the vertices and the edges of a graph, with their names and labels.
+fn draw_layout(drawing: &mut Drawing, layout: &Layout<'_>) -> Result<(), AllocError> {
+    draw_groups(drawing, layout)?;
+    draw_edges(drawing, layout)?;
+    draw_vertices(drawing, layout)?;
+    draw_names(drawing, layout)?;
+    draw_labels(drawing, layout)
+}
 
 /// Draws a graph: its vertices on a circle, its edges with their labels, a legend and notes. The only error is want of memory.
 pub(crate) fn draw_graph(
@@ -19,14 +29,11 @@ pub(crate) fn draw_graph(
     let alloc = canvas.alloc();
     let layout = Layout::new(alloc, graph, arrangement, canvas.top())?;
     let legend = Legend::new(alloc, arrangement)?;
-    let drawing = &mut canvas.drawing;
-    draw_groups(drawing, &layout)?;
-    draw_edges(drawing, &layout)?;
-    draw_vertices(drawing, &layout)?;
-    draw_names(drawing, &layout)?;
-    draw_labels(drawing, &layout)?;
-    legend.draw(drawing, layout.bottom())?;
-    canvas.end_part(
+    let mut part = Drawing::new(alloc);
+    draw_layout(&mut part, &layout)?;
+    legend.draw(&mut part, layout.bottom())?;
+    canvas.add_part(
+        &part,
         layout.width().max(legend.width()),
         layout.bottom() + legend.height() + 4,
         &arrangement.notes,

@@ -47,7 +47,11 @@ fn text_of(filled: &[u8]) -> &str {
 
 // The most bytes of a line.
 fn longest_line(text: &str) -> usize {
-    text.lines().map(|line| line.len()).max().unwrap_or(0)
+    let mut longest: usize = 0;
+    for line in text.lines() {
+        longest = longest.max(line.len());
+    }
+    longest
 }
 
 /// The lines at the head of a picture.
@@ -87,26 +91,15 @@ impl Head {
     // Draws the head.
     fn draw(&self, drawing: &mut Drawing) -> Result<(), AllocError> {
         let look = [Attribute::FontSize(Units(14))];
-        draw_lines(drawing, text_of(&self.question), Units(30), &look)?;
-        let below = Units::of(self.asked()) * 20 + 30;
+        let from = Point {
+            x: MARGIN,
+            y: Units(30),
+        };
+        let end = drawing.lines(from, text_of(&self.question), 20, &look)?;
         let look = [Attribute::FontSize(Units(14)), Attribute::Bold];
-        draw_lines(drawing, text_of(&self.results), below, &look)
+        let _end = drawing.lines(end, text_of(&self.results), 20, &look)?;
+        Ok(())
     }
-}
-
-// Draws lines of words from this height on.
-fn draw_lines(
-    drawing: &mut Drawing,
-    text: &str,
-    from: Units,
-    look: &[Attribute<'_>],
-) -> Result<(), AllocError> {
-    let mut at = Point { x: MARGIN, y: from };
-    for line in text.lines() {
-        drawing.text(at, line, look)?;
-        at = at.below(20);
-    }
-    Ok(())
 }
 
 // Draws the arrow heads of arcs: one of each colour, and a small grey one.

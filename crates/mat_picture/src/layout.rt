@@ -1,17 +1,19 @@
 //! Where the vertices of a graph stand on a circle, and how its edges run between them.
 
 use crate::arrangement::Arrangement;
+use crate::circle::Circle;
 use crate::graph::Graph;
 use crate::strands::{Strand, strands};
-use mat_charts::{MARGIN, longest_vertex};
-use mat_drawing::{Circle, Point, Units};
+use mat_charts::MARGIN;
+use mat_drawing::{Point, Units};
+use mat_text::Called;
 use std::alloc::{AllocError, Global};
 
 /// The most vertices whose names stand upright.
 pub(crate) const FEW: usize = 24;
 
 /// How an edge between two vertices runs: from the vertex of the lower place by a point that draws it to the other vertex.
-#[derive(Clone, Copy, Debug)]
+#[derive(Clone, Copy)]
 pub(crate) struct Bend {
     from: Point,
     pub(crate) by: Point,
@@ -35,6 +37,38 @@ impl Bend {
     }
 }
 
+// How much room a graph takes: its circle, the radius of it, and how far from it on every side the names end.
+#[derive(Clone, Copy)]
+struct Room {
+    circle: Circle,
+    radius: Units,
+    side: Units,
+    tall: Units,
+}
+
+impl Room {
+    // The room from this height on of so many vertices, whose names have at most so many bytes and stand at most so far from the circle.
+    fn new(vertices: usize, names: usize, far: Units, from: Units) -> Room {
+        let radius = (Units::of(vertices) * 5).max(Units(170));
+        let side = far + Units::of(names) * 9 + 10;
+        let tall = if vertices > FEW { side } else { far + 24 };
+        let middle = Point {
+            x: MARGIN + side + radius,
+            y: from + tall + radius,
+        };
+        let circle = Circle {
+            middle,
+            places: vertices,
+        };
+        Room {
+            circle,
+            radius,
+            side,
+            tall,
+        }
+    }
+}
+
 /// A graph that is drawn on a circle.
 #[derive(Drop)]
 pub(crate) struct Layout<'a> {
@@ -45,39 +79,72 @@ pub(crate) struct Layout<'a> {
     places: Vec<usize>,
     /// How far from the circle the name of each vertex stands.
     far: Vec<Units>,
-    circle: Circle,
-    radius: Units,
-    side: Units,
-    tall: Units,
+    room: Room,
+}
+
+// The place of a vertex in the order.
+fn place_in(order: &[u32], v: usize) -> usize {
+    for i in 0..order.len() {
+        if order[i] as usize == v {
+            return i;
+        }
+    }
+    order.len()
 }
 
 // The place of each vertex in the order.
 fn places(alloc: Global, vertices: usize, order: &[u32]) -> Result<Vec<usize>, AllocError> {
     let mut places = Vec::new(alloc);
     for v in 0..vertices {
-        let before = order.iter().take_while(|other| **other as usize != v);
-        places.push(before.count())?;
+        places.push(place_in(order, v))?;
     }
     Ok(places)
+}
+
+// How many loops a vertex has.
+fn loops_at(strands: &[Strand], v: usize) -> usize {
+    for strand in strands {
+        if strand.is_loop() && strand.tail as usize == v {
+            return strand.count;
+        }
+    }
+    0
+}
+
+// How far from the circle the name of a vertex with so many loops stands.
+fn distance_behind(loops: usize) -> Units {
+    if loops == 0 {
+        Units(12)
+    } else {
+        Units::of(loops) * 6 + 22
+    }
 }
 
 // How far from the circle the name of each vertex stands: behind its loops.
 fn distances(alloc: Global, vertices: usize, strands: &[Strand]) -> Result<Vec<Units>, AllocError> {
     let mut distances = Vec::new(alloc);
     for v in 0..vertices {
-        let mut at = strands.iter().filter(|strand| strand.is_loop());
-        let far = match at.find(|strand| strand.tail as usize == v) {
-            Some(strand) => Units::of(strand.count) * 6 + 22,
-            None => Units(12),
-        };
-        distances.push(far)?;
+        distances.push(distance_behind(loops_at(strands, v)))?;
     }
     Ok(distances)
 }
 
+// The most bytes of the name of one of so many vertices: 0 of none.
+fn longest_name(alloc: Global, called: &Called<'_>, vertices: usize) -> Result<usize, AllocError> {
+    let mut longest = 0;
+    for v in 0..vertices {
+        longest = longest.max(called.vertex(v).to_string(alloc)?.len());
+    }
+    Ok(longest)
+}
+
 // The greatest of these distances.
 fn farthest(distances: &[Units]) -> Units {
-    distances.iter().copied().max().unwrap_or(Units::ZERO)
+    let mut farthest = Units::ZERO;
+    for distance in distances {
+        farthest = farthest.max(*distance);
+    }
+    farthest
 }
 
 impl<'a> Layout<'a> {
@@ -89,44 +156,28 @@ impl<'a> Layout<'a> {
         from: Units,
     ) -> Result<Layout<'a>, AllocError> {
         let vertices = graph.order();
+        let names = longest_name(alloc, &graph.ends.called, vertices)?;
+        let places = places(alloc, vertices, &arrangement.order)?;
         let strands = strands(alloc, graph.ends.pairs)?;
         let far = distances(alloc, vertices, &strands)?;
-        let names = longest_vertex(alloc, &graph.ends.called, vertices)?;
-        let radius = (Units::of(vertices) * 5).max(Units(170));
-        let side = farthest(&far) + Units::of(names) * 9 + 10;
-        let tall = if vertices > FEW {
-            side
-        } else {
-            farthest(&far) + 24
-        };
-        let middle = Point {
-            x: MARGIN + side + radius,
-            y: from + tall + radius,
-        };
         Ok(Layout {
             graph,
             arrangement,
             strands,
-            places: places(alloc, vertices, &arrangement.order)?,
+            places,
+            room: Room::new(vertices, names, farthest(&far), from),
             far,
-            circle: Circle {
-                middle,
-                places: vertices,
-            },
-            radius,
-            side,
-            tall,
         })
     }
 
     /// Where the graph ends.
     pub(crate) fn bottom(&self) -> Units {
-        self.circle.middle.y + self.radius + self.tall
+        self.room.circle.middle.y + self.room.radius + self.room.tall
     }
 
     /// How wide the graph is.
     pub(crate) fn width(&self) -> Units {
-        (self.side + self.radius) * 2
+        (self.room.side + self.room.radius) * 2
     }
 
     /// Whether there are more vertices than their names have room for upright.
@@ -141,7 +192,8 @@ impl<'a> Layout<'a> {
 
     // The point so far outside the circle, at a vertex.
     fn outside(&self, v: u32, distance: Units) -> Point {
-        self.circle.at(self.place(v), self.radius + distance)
+        let room = &self.room;
+        room.circle.at(self.place(v), room.radius + distance)
     }
 
     /// Where a vertex stands.

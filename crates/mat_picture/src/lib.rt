@@ -5,6 +5,7 @@
 
 mod arborescences;
 mod arrangement;
+mod circle;
 mod drawn_graph;
 mod edges;
 mod frame;

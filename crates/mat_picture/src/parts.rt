@@ -14,6 +14,14 @@ fn shaded(alloc: Global, set: Option<&ElemSet>, count: usize) -> Result<ElemSet,
     }
 }
 
+// The cut of the last level: None where there are no levels.
+fn last_cut(levels: &[LevelLine]) -> Option<&ElemSet> {
+    match levels.last() {
+        Some(level) => Some(&level.cut),
+        None => None,
+    }
+}
+
 /// Draws parts of the most elements, with the last of the cuts that show it. The only error is want of memory.
 pub(crate) fn draw_union(
     canvas: &mut Canvas,
@@ -23,8 +31,7 @@ pub(crate) fn draw_union(
     levels: &[LevelLine],
 ) -> Result<(), AllocError> {
     let alloc = canvas.alloc();
-    let last = levels.last().map(|level| &level.cut);
-    let shaded = shaded(alloc, last, weights.len())?;
+    let shaded = shaded(alloc, last_cut(levels), weights.len())?;
     let mut notes = Text::new(alloc);
     if !shaded.is_empty() {
         notes.say(format_args!(

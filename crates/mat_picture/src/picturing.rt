@@ -168,7 +168,7 @@ pub fn picture(alloc: Global, named: &Named, answer: &Answer) -> Result<Vec<u8>,
     draw(&mut canvas, &scene, answer)?;
     framed(
         &head,
-        &canvas.drawing,
+        canvas.drawing(),
         canvas.width(),
         canvas.top(),
         scene.has_arcs(),

@@ -10,8 +10,12 @@ use std::alloc::{AllocError, Global};
 
 // Whether all edges of a colour are in the set.
 fn are_all_in(colour_of: &[u32], colour: u32, set: &ElemSet) -> bool {
-    let mut edges = colour_of.iter().zip(0..u32::MAX);
-    edges.all(|(other, e)| *other != colour || set.contains(e))
+    for (other, e) in colour_of.iter().zip(0..u32::MAX) {
+        if *other == colour && !set.contains(e) {
+            return false;
+        }
+    }
+    true
 }
 
 // Two styles for each colour: thin for its edges outside the set, and thick for those in it.
@@ -36,6 +40,19 @@ fn styles(
     Ok(styles)
 }
 
+// The number of the style of the edges of a colour that are in the set, or of those that are not.
+fn style_for(colours: &ElemSet, colour: u32, is_in_set: bool) -> usize {
+    let place = match colours.as_slice().binary_search(&colour) {
+        Ok(place) | Err(place) => place,
+    };
+    let thin = place.saturating_mul(2);
+    if is_in_set {
+        thin.saturating_add(1)
+    } else {
+        thin
+    }
+}
+
 // The number of each edge's style.
 fn style_of(
     alloc: Global,
@@ -45,13 +62,7 @@ fn style_of(
 ) -> Result<Vec<usize>, AllocError> {
     let mut style_of = Vec::new(alloc);
     for (colour, e) in colour_of.iter().zip(0..u32::MAX) {
-        let before = colours
-            .as_slice()
-            .iter()
-            .take_while(|other| *other < colour);
-        let thin = before.count().saturating_mul(2);
-        let thick = if set.contains(e) { 1 } else { 0 };
-        style_of.push(thin.saturating_add(thick))?;
+        style_of.push(style_for(colours, *colour, set.contains(e)))?;
     }
     Ok(style_of)
 }

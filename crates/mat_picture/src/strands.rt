@@ -4,7 +4,7 @@ use mat_sets::Pairs;
 use std::alloc::{AllocError, Global};
 
 /// An edge with its ends, and its place among the edges that have the same ends, whatever their directions.
-#[derive(Clone, Copy, Debug)]
+#[derive(Clone, Copy)]
 pub(crate) struct Strand {
     pub(crate) tail: u32,
     pub(crate) head: u32,
@@ -28,10 +28,13 @@ fn are_alike(first: (u32, u32), second: (u32, u32)) -> bool {
 
 // How many of these edges have the same ends.
 fn alike(edges: &[(u32, u32)], ends: (u32, u32)) -> usize {
-    edges
-        .iter()
-        .filter(|other| are_alike(**other, ends))
-        .count()
+    let mut count: usize = 0;
+    for other in edges {
+        if are_alike(*other, ends) {
+            count = count.saturating_add(1);
+        }
+    }
+    count
 }
 
 /// Each edge with its place among those beside it. The only error is want of memory.

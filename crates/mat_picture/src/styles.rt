@@ -20,10 +20,12 @@ pub(crate) fn styles(alloc: Global, noun: Noun, count: usize) -> Result<Vec<Styl
 
 // The number of the first set that has an edge, counted from 1: 0 where none has it.
 fn number_of(sets: &[ElemSet], e: u32) -> usize {
-    match sets.iter().position(|set| set.contains(e)) {
-        Some(i) => i.saturating_add(1),
-        None => 0,
+    for i in 0..sets.len() {
+        if sets[i].contains(e) {
+            return i.saturating_add(1);
+        }
     }
+    0
 }
 
 /// The number of each edge's style, by the sets that have it. The only error is want of memory.

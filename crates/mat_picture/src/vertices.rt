@@ -1,8 +1,9 @@
 //! The vertices of a graph that is drawn, with their names, and the groups that are shaded.
 
 use crate::arrangement::Group;
+use crate::circle::sine;
 use crate::layout::Layout;
-use mat_drawing::{Anchor, Attribute, Colour, Drawing, Shape, Units, polyline, sine};
+use mat_drawing::{Anchor, Attribute, Colour, Drawing, Shape, Units, polyline};
 use std::alloc::AllocError;
 
 // Shades a group: its vertices, in their order, and what is between them.

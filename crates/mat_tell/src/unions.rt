@@ -172,9 +172,14 @@ fn tell_level(
 
 // Whether all these elements weigh less than this.
 fn are_lighter(weights: &[Weight], set: &ElemSet, at: Weight) -> bool {
-    set.as_slice()
-        .iter()
-        .all(|e| weights.get(*e as usize).is_none_or(|w| *w < at))
+    for e in set.as_slice() {
+        if let Some(weight) = weights.get(*e as usize)
+            && at <= *weight
+        {
+            return false;
+        }
+    }
+    true
 }
 
 // How many of the levels, from the heaviest on, have all their elements in parts, where `left` are those that are in none.

@@ -15,6 +15,6 @@ pub use called::{Called, Name, numbers_of};
 pub use ends::{Ends, tell_found, tell_none, tell_numbered};
 pub use groups::tell_groups;
 pub use nouns::{Counted, Noun, many};
-pub use parts::{outside, tell_left, tell_parts};
+pub use parts::{is_in_some, outside, tell_left, tell_parts};
 pub use spelled::Spelled;
 pub use text::{Paragraph, Text};

@@ -12,8 +12,8 @@ use crate::text::Text;
 use mat_sets::ElemSet;
 use std::alloc::{AllocError, Global};
 
-// Whether an element stands in one of the sets.
-fn is_in_some(sets: &[ElemSet], e: u32) -> bool
+/// Whether an element stands in one of the sets.
+pub fn is_in_some(sets: &[ElemSet], e: u32) -> bool
     ensures { result ≡ list_any (is_member e) sets.now }
 {
     for i in 0..sets.len() {

@@ -1,7 +1,6 @@
 //! Places on a circle, by a table of sines.
 
-use crate::point::Point;
-use crate::units::Units;
+use mat_drawing::{Point, Units};
 
 // The sine of a turn, from 0 to a quarter in steps of five degrees, in ten-thousandths.
 const SINES: [i64; 19] = [
@@ -34,22 +33,22 @@ fn sine_behind(part: usize, parts: usize, quarters: usize) -> Units {
 }
 
 /// The sine of so many of equal parts of a turn, in ten-thousandths and rounded down.
-pub fn sine(part: usize, parts: usize) -> Units {
+pub(crate) fn sine(part: usize, parts: usize) -> Units {
     sine_behind(part, parts, 0)
 }
 
 /// A circle with places on it, evenly apart and counted from the top, as on a clock.
-#[derive(Clone, Copy, Debug)]
-pub struct Circle {
+#[derive(Clone, Copy)]
+pub(crate) struct Circle {
     /// Its middle.
-    pub middle: Point,
+    pub(crate) middle: Point,
     /// How many places it has.
-    pub places: usize,
+    pub(crate) places: usize,
 }
 
 impl Circle {
     /// The point at this distance from the middle, in the direction of a place.
-    pub fn at(&self, place: usize, distance: Units) -> Point {
+    pub(crate) fn at(&self, place: usize, distance: Units) -> Point {
         let across = distance * sine_behind(place, self.places, 0);
         let up = distance * sine_behind(place, self.places, 1);
         Point {
