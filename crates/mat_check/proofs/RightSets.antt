@@ -10,7 +10,7 @@ use Rattle.mat_cert.specs.declared.answer.LevelLine.{LevelLine}
 use Rattle.mat_check.specs.AnswerClauses.{clauses_of}
 use Rattle.mat_check.specs.Clauses.{Clause, first_failure, header_clause}
 use Rattle.mat_check.specs.Right.{IsRightUnionAnswer}
-use Rattle.mat_greedy.specs.FallingWeights.{falling_weights}
+use Rattle.mat_sets.specs.FallingWeights.{falling_weights}
 use Rattle.mat_check.specs.SetClauses.{union_clauses}
 use Rattle.mat_check.proofs.AnswerForms.{RightHasNoFailure}
 use Rattle.mat_check.proofs.FallingLevels.{falling_gives}

@@ -11,13 +11,13 @@ use Rattle.mat_sets.specs.declared.weight.Weight.{Weight}
 use Rattle.mat_sets.proofs.Ground.{below_member}
 use Rattle.mat_sets.proofs.Search.{is_member-those_below}
 use Rattle.mat_sets.proofs.WeightOrder.{same_from, same_gives}
-use Rattle.mat_union.specs.RightUnions.{heavy, IsLevelCut}
+use Rattle.mat_sets.specs.FallingWeights.{falling_weights, heavy}
+use Rattle.mat_union.specs.RightUnions.{IsLevelCut}
 use Rattle.mat_union.specs.Unions.{test_at}
 use Rattle.mat_cert.specs.Certificates.{IsRangedLevel, IsRangedUnion}
 use Rattle.mat_cert.specs.declared.answer.LevelLine.{LevelLine}
 use Rattle.mat_check.specs.Clauses.{Clause, failure_at, numbered_clauses}
 use Rattle.mat_check.specs.Right.{level_of, IsRightUnionAnswer}
-use Rattle.mat_greedy.specs.FallingWeights.{falling_weights}
 use Rattle.mat_check.specs.SetClauses.{independent_clause, level_clauses, level_cut_clause, outside_clause, overlap_clauses}
 use Rattle.mat_check.specs.SetClauses.{union_clauses}
 use Rattle.mat_check.specs.declared.reason.Reason.TheVariants as reasons

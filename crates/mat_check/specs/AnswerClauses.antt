@@ -9,7 +9,7 @@ use Rattle.mat_graphic.specs.Forests.{is_graphic}
 use Rattle.mat_fronts.specs.Assignments.{column_at, row_at}
 use Rattle.mat_fronts.specs.Once.{is_once}
 use Rattle.mat_check.specs.Clauses.{Clause, Failure, best_clauses, first_failure, header_clause, ladder_clauses}
-use Rattle.mat_greedy.specs.FallingWeights.{falling_weights}
+use Rattle.mat_sets.specs.FallingWeights.{falling_weights}
 use Rattle.mat_check.specs.SetClauses.{cover_clauses, loop_clause, no_rank_clause, pack_clauses, union_clauses}
 use Rattle.mat_check.specs.TreeClauses.{arborescence_clauses, colours_clauses, disjoint_clauses, partition_clauses}
 use Rattle.mat_check.specs.TreeClauses.{seldom_entered_clauses, trees_clauses}

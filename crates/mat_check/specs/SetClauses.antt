@@ -7,8 +7,7 @@ use Rattle.mat_sets.specs.Weights.{is_below, is_same, weight, weight_at, zero_we
 use Rattle.mat_sets.specs.declared.weight.Weight.{Weight}
 use Rattle.mat_laws.specs.Ranks.{rank}
 use Rattle.mat_laws.specs.Searches.{has_addable}
-use Rattle.mat_greedy.specs.FallingWeights.{falling_weights}
-use Rattle.mat_union.specs.RightUnions.{heavy}
+use Rattle.mat_sets.specs.FallingWeights.{falling_weights, heavy}
 use Rattle.mat_union.specs.Unions.{ranks_sum, test_at}
 use Rattle.mat_cert.specs.declared.answer.LevelLine.{LevelLine}
 use Rattle.mat_check.specs.Clauses.{Clause, failure_at, numbered_clauses}

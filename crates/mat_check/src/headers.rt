@@ -11,8 +11,7 @@ ghost use Rattle.mat_desc.specs.Views.{instance_of};
 use mat_any::AnyMatroid;
 use mat_cert::Answer;
 use mat_desc::Problem;
-use mat_greedy::falling_weights;
-use mat_sets::Weight;
+use mat_sets::{Weight, falling_weights};
 use std::alloc::{AllocError, Global};
 
 // Whether the header of an answer about a list of matroids has its numbers.

@@ -1,23 +1,21 @@
 //! The clauses of the levels of a union.
 
 ghost use Rattle.std.specs.Prelude.{◌≡◌, ◌<◌, ◌≤◌, ◌+◌, ◌*◌, ◌^◌, ◌==◌, All, length, map, IfOk};
+ghost use Rattle.mat_sets.specs.FallingWeights.{falling_weights, heavy};
 ghost use Rattle.mat_sets.specs.Limits.{most_elements};
 ghost use Rattle.mat_sets.specs.Families.{family_union};
 ghost use Rattle.mat_sets.specs.Sets.{AllBelow, intersection, minus};
-ghost use Rattle.mat_sets.specs.Weights.{is_below, is_same, weight_at};
+ghost use Rattle.mat_sets.specs.Weights.{is_same, weight_at};
 ghost use Rattle.mat_union.specs.GrownParts.{AreSound};
-ghost use Rattle.mat_union.specs.RightUnions.{heavy};
 ghost use Rattle.mat_union.specs.Unions.{ranks_sum};
 ghost use Rattle.mat_cert.specs.Certificates.{IsRangedLevel};
 ghost use Rattle.mat_check.specs.Clauses.{first_failure, numbered_clauses};
-ghost use Rattle.mat_greedy.specs.FallingWeights.{falling_weights};
 ghost use Rattle.mat_check.specs.SetClauses.{level_clauses, outside_clause};
 
 use crate::reason::{Failure, Reason};
 use mat_cert::LevelLine;
-use mat_greedy::{falling_weights, heavy_elements};
 use mat_laws::{Matroid, rank_of};
-use mat_sets::{ElemSet, Weight};
+use mat_sets::{ElemSet, Weight, falling_weights, heavy_elements, is_lighter};
 use std::alloc::{AllocError, Global};
 
 /// The parts of a union of matroids, with the weights of the elements and the members of all parts.
@@ -27,14 +25,6 @@ pub(crate) struct Joined<'a, M: Matroid> {
     pub(crate) weights: &'a [Weight],
     pub(crate) parts: &'a [ElemSet],
     pub(crate) all: &'a ElemSet,
-}
-
-// Whether an element weighs less than this.
-fn is_lighter(weights: &[Weight], x: u32, at: Weight) -> bool
-    requires { x < length weights.now }
-    ensures { result ≡ is_below (weight_at weights.now x) at }
-{
-    weights[x as usize] < at
 }
 
 // Whether the weight at this place is this one.

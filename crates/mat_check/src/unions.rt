@@ -8,7 +8,7 @@ ghost use Rattle.mat_union.specs.GrownParts.{AreSound};
 ghost use Rattle.mat_union.specs.Unions.{test_at};
 ghost use Rattle.mat_cert.specs.Certificates.{IsRangedUnion};
 ghost use Rattle.mat_check.specs.Clauses.{first_failure, numbered_clauses};
-ghost use Rattle.mat_greedy.specs.FallingWeights.{falling_weights};
+ghost use Rattle.mat_sets.specs.FallingWeights.{falling_weights};
 ghost use Rattle.mat_check.specs.SetClauses.{independent_clause, union_clauses};
 
 use crate::families::{dependent_failure, overlap_failure};

@@ -1,4 +1,3 @@
 pub mod OrderLemmas
 pub mod Climbing
 pub mod Weighing
-pub mod FallingWeights

@@ -1,3 +1,2 @@
 pub mod Order
-pub mod FallingWeights
 pub mod Greedy

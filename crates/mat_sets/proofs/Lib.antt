@@ -28,6 +28,7 @@ pub mod Walking
 pub mod Changes
 pub mod WeightOrder
 pub mod WeightSums
+pub mod FallingWeights
 pub mod Crossings
 pub mod OneToOne
 pub mod Rows

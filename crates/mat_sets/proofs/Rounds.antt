@@ -46,6 +46,13 @@ pub those_below-skip : (n : ℕ) (test : ℕ → Bool) → test n ≡ false → 
 those_below-skip n test t = same_members _ _ (IsSet-those_below n test).rising (IsSet-those_below (n + 1) test).rising
     (λ k. is_member-those_below k n test ∙ starts_skip n k test t ∙ sym (is_member-those_below k (n + 1) test))
 
+pub those_below-more : (n : ℕ) (test : ℕ → Bool) (set set' : List ℕ) → set ≡ those_below n test → set' ≡ cond (test n) (with_one set n) set
+    → set' ≡ those_below (n + 1) test
+those_below-more n test set set' e f = f ∙ elim (cases_Bool (test n)) [
+  | inl a ↦ rw a (ap (λ s. with_one s n) e ∙ those_below-put n test a)
+  | inr o ↦ rw o (e ∙ those_below-skip n test o)
+]
+
 -- ---- the arcs of one vertex
 
 -- nothing else is taken

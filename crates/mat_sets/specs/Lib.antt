@@ -12,3 +12,4 @@ pub mod Graphs
 pub mod SetTests
 pub mod Rows
 pub mod Limits
+pub mod FallingWeights

@@ -1,5 +1,5 @@
 //! A set of numbers, seen as a strictly rising list.
-ghost use Rattle.std.specs.Prelude.{◌≡◌, ◌==◌, ◌↔◌, ◌<◌, [], length, slice_index, not, IfOk, IsTrue, OnErr, MatchResult};
+ghost use Rattle.std.specs.Prelude.{◌≡◌, ◌==◌, ◌↔◌, ◌<◌, [], if◌then◌else◌, length, slice_index, not, IfOk, IsTrue, OnErr, OnOk, MatchResult};
 ghost use Rattle.std.proofs.Common.{rules};
 ghost use Rattle.std.specs.Cmp.Lexicographic.{pointwise};
 ghost use Rattle.std.specs.Cmp.Rules.{comparing};
@@ -153,6 +153,20 @@ impl ElemSet {
                 Ok(true)
             }
         }
+    }
+
+    /// Puts x in, where it belongs here. After an error the set is as before.
+    pub fn add_if(&mut self, x: u32, here: bool) -> Result<(), AllocError>
+        ensures ok { OnOk result (self.new ≡ (if here then with_one self.old x else self.old)) }
+        ensures err { OnErr result (self.new ≡ self.old) }
+        ensures rose { IsRising self.old }
+        ensures rises { IsRising self.new }
+    {
+        self.rises();
+        if here {
+            self.add(x)?;
+        }
+        Ok(())
     }
 
     /// Takes x out. True where it was a member. It takes no memory.

@@ -10,10 +10,9 @@ ghost use Rattle.mat_cert.specs.Certificates.{IsRangedLevel};
 
 use mat_any::AnyMatroid;
 use mat_cert::LevelLine;
-use mat_greedy::heavy_elements;
 use mat_laws::rank_of;
 use mat_reasons::{FEW, Rule, have_tie, tell_ties};
-use mat_sets::{ElemSet, Weight};
+use mat_sets::{ElemSet, Weight, heavy_elements};
 use mat_text::{Called, Noun, Spelled, Text, many, outside, tell_left, tell_parts};
 use std::alloc::{AllocError, Global};
 

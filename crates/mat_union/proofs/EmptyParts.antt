@@ -1,13 +1,11 @@
 -- Empty parts, and one set with empty ones, with which parts begin to grow.
-use Rattle.std.proofs.Common.{◌≡◌, ℕ, zero, suc, ◌+◌, ◌<◌, Bool, true, false, cond, List, [], ◌∷◌, length, replicate, inl, inr, refl, sym, ap, ◌∙◌, arith}
-use Rattle.std.proofs.lemmas.Bool.{both_ways, cases_Bool, cases_eq, cases_lt, false_from_ne_true}
+use Rattle.std.proofs.Common.{◌≡◌, ℕ, zero, suc, ◌<◌, Bool, true, false, List, [], ◌∷◌, length, replicate, inl, inr, refl, sym, ap, ◌∙◌, arith}
+use Rattle.std.proofs.lemmas.Bool.{both_ways, cases_eq, cases_lt, false_from_ne_true}
 use Rattle.std.proofs.lemmas.List.{get_or-replicate, get_or_past, length-replicate}
 use Rattle.mat_sets.specs.Families.{family_union}
-use Rattle.mat_sets.specs.Search.{those_below}
-use Rattle.mat_sets.specs.Sets.{is_member, with_one, IsRising}
+use Rattle.mat_sets.specs.Sets.{is_member, IsRising}
 use Rattle.mat_sets.proofs.Families.{family_union-from, family_union-gives, IsRising-family_union}
 use Rattle.mat_sets.proofs.Members.{same_members}
-use Rattle.mat_sets.proofs.Rounds.{those_below-put, those_below-skip}
 use Rattle.mat_sets.proofs.Truths.{same_truth}
 use Rattle.mat_union.specs.PartListLaws.{AreDisjoint-index}
 use Rattle.mat_union.specs.Unions.{part_at, test_at, AreMatroids, AreParts}
@@ -56,11 +54,3 @@ module _ (sets : List (List ℕ)) (first : List ℕ) (at : part_at sets 0 ≡ fi
       | inr d ↦ ap (test_at tests i) (others i (omega arith)) ∙ (laws.each i (omega arith)).empty
     ];
   }
-
--- ---- the elements below n that pass, one after the other
-
-pub those_more : (n : ℕ) (test : ℕ → Bool) (set set' : List ℕ) → set ≡ those_below n test → set' ≡ cond (test n) (with_one set n) set → set' ≡ those_below (n + 1) test
-those_more n test set set' e f = f ∙ elim (cases_Bool (test n)) [
-  | inl a ↦ rw a (ap (λ s. with_one s n) e ∙ those_below-put n test a)
-  | inr o ↦ rw o (e ∙ those_below-skip n test o)
-]

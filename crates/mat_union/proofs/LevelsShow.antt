@@ -1,27 +1,20 @@
 -- The cuts of the levels show that parts are best: for each weight no parts hold more elements of at least this weight; then those that hold as
 -- many elements weigh at most as much.
-use Rattle.std.proofs.Common.{◌≡◌, ℕ, suc, ◌<◌, ◌≤◌, Bool, true, false, ◌&&◌, cond, List, [], ◌∷◌, length, refl, ap, ◌∙◌, subst, arith}
-use Rattle.std.proofs.lemmas.Bool.{lt-ltb}
+use Rattle.std.proofs.Common.{◌≡◌, ℕ, suc, ◌<◌, ◌≤◌, Bool, true, false, cond, List, [], ◌∷◌, length, refl, ap, subst, arith}
 use Rattle.std.specs.List.{filter}
+use Rattle.mat_sets.specs.FallingWeights.{heavy}
 use Rattle.mat_sets.specs.Families.{family_union}
-use Rattle.mat_sets.specs.Sets.{is_member, IsSet, intersection}
 use Rattle.mat_sets.specs.Weights.{weight_at}
 use Rattle.mat_sets.specs.declared.weight.Weight.{Weight}
 use Rattle.mat_sets.proofs.Families.{IsRising-family_union}
 use Rattle.mat_sets.proofs.Ground.{below_member}
-use Rattle.mat_sets.proofs.Members.{filter_same_at}
-use Rattle.mat_sets.proofs.Search.{is_member-those_below, IsSet-those_below}
+use Rattle.mat_sets.proofs.FallingWeights.{heavy_members}
+use Rattle.mat_sets.proofs.Search.{IsSet-those_below}
 use Rattle.mat_union.specs.Unions.{AreMatroids, AreParts}
 use Rattle.mat_union.specs.PartListLaws.{cut_bounds, parts_set}
-use Rattle.mat_union.specs.RightUnions.{heavy, level_at, IsBestUnion, IsRightUnion}
+use Rattle.mat_union.specs.RightUnions.{level_at, IsBestUnion, IsRightUnion}
 use Rattle.mat_union.specs.declared.best.Level.{Level}
 use Rattle.mat_union.proofs.Dominated.{dominated, lightest_of, weighs}
-
--- the members of a set on n elements that weigh at least t
-heavy_members : (n : ℕ) (w : List Weight) (t : Weight) (S : List ℕ) → IsSet n S → intersection S (heavy n w t) ≡ filter (weighs (weight_at w) t) S
-unfolding intersection
-heavy_members n w t S s = filter_same_at (λ x. is_member x (heavy n w t)) (weighs (weight_at w) t) S (λ y h.
-    is_member-those_below y n (weighs (weight_at w) t) ∙ ap (λ b. b && weighs (weight_at w) t y) (lt-ltb y n (below_member s h)))
 
 module _ {n : ℕ} {tests : List (List ℕ → Bool)} (laws : AreMatroids n tests) (w : List Weight) (long : length w ≡ n) (parts : List (List ℕ)) (levels : List Level) (r : IsRightUnion n tests w parts levels) where
   -- no others hold more elements of at least the weight of y

@@ -15,10 +15,10 @@ pub mod GrowingSteps
 pub mod SoundMatroids
 pub mod Dominated
 pub mod LevelsShow
+pub mod FallingLevels
 pub mod LevelSteps
 pub mod SpannedElements
 pub mod GrowthLoops
-pub mod NextWeights
 pub mod EmptyParts
 pub mod AskedRows
 pub mod StuckParts

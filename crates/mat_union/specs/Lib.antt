@@ -9,7 +9,6 @@ pub mod UnionLaws
 pub mod GrownParts
 pub mod Placings
 pub mod RightUnions
-pub mod WeightLevels
 pub mod UnionsOf
 pub mod UnionOfLaws
 pub mod FilledParts

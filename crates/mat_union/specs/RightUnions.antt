@@ -1,16 +1,12 @@
 -- Right answers on the union of matroids with weights: parts, and a cut for each weight (Schrijver, chapter 42).
-use Rattle.std.specs.Prelude.{◌≡◌, ℕ, ◌+◌, ◌<◌, ◌≤◌, Bool, not, List, [], length, slice_index_or}
+use Rattle.std.specs.Prelude.{◌≡◌, ℕ, ◌+◌, ◌<◌, ◌≤◌, Bool, List, [], length, slice_index_or}
+use Rattle.mat_sets.specs.FallingWeights.{heavy}
 use Rattle.mat_sets.specs.Families.{family_union}
-use Rattle.mat_sets.specs.Search.{those_below}
 use Rattle.mat_sets.specs.Sets.{IsRising, IsSubset, intersection, minus}
-use Rattle.mat_sets.specs.Weights.{zero_weight, weight, weight_at, is_below, ◌≺◌, ◌≼◌}
+use Rattle.mat_sets.specs.Weights.{zero_weight, weight, weight_at, ◌≺◌, ◌≼◌}
 use Rattle.mat_sets.specs.declared.weight.Weight.{Weight}
 use Rattle.mat_union.specs.Unions.{AreParts, ranks_sum}
 use Rattle.mat_union.specs.declared.best.Level.{Level}
-
--- the elements below n that weigh at least t
-abbrev pub heavy : ℕ → List Weight → Weight → List ℕ
-heavy n w t = those_below n (λ x. not (is_below (weight_at w x) t))
 
 -- the j-th level
 abbrev pub level_at : List Level → ℕ → Level

@@ -6,13 +6,11 @@ ghost use Rattle.mat_sets.specs.Sets.{is_member, IsRising, IsSubset};
 ghost use Rattle.mat_sets.specs.Weights.{is_same, weight_at};
 ghost use Rattle.mat_union.specs.GrownParts.{AreDone, AreFresh, AreGrowing, AreKept, AreSound};
 ghost use Rattle.mat_union.specs.RightUnions.{IsRightUnion};
-ghost use Rattle.mat_union.specs.WeightLevels.{heavier_left, is_left, IsNextWeight};
 
 use crate::empty::empty_parts;
 use crate::growth::{Growth, all_lawful, grow, growth_from};
-use crate::moved_sets::add_if;
 use mat_laws::Matroid;
-use mat_sets::{ElemSet, SetList, Weight};
+use mat_sets::{ElemSet, SetList, Weight, falling_weights};
 use std::alloc::{AllocError, Global};
 
 /// A weight, and a cut of the elements that weigh at least as much.
@@ -33,48 +31,6 @@ pub struct UnionAnswer {
     pub levels: Vec<Level>,
 }
 
-// Whether a weight is below the last level; before the first level each weight is.
-fn is_left(last: Option<Weight>, w: Weight) -> bool
-    ensures { result ≡ is_left last w }
-{
-    match last {
-        Some(at) => w < at,
-        None => true,
-    }
-}
-
-// The heavier one of the heaviest weight so far and a weight, if that is below the last level.
-fn heavier(last: Option<Weight>, heaviest: Option<Weight>, w: Weight) -> Option<Weight>
-    ensures { result ≡ heavier_left last heaviest w }
-{
-    if !is_left(last, w) {
-        return heaviest;
-    }
-    match heaviest {
-        Some(other) => Some(if other < w { w } else { other }),
-        None => Some(w),
-    }
-}
-
-// The greatest weight below the last level.
-fn next_weight(weights: &[Weight], last: Option<Weight>) -> Option<Weight>
-    ensures { IsNextWeight (length weights.now) weights.now last result }
-{
-    let mut heaviest = None;
-    for i in 0..weights.len() {
-        heaviest = heavier(last, heaviest, weights[i]);
-    }
-    heaviest
-}
-
-// Whether an element has this weight.
-fn has_weight(weights: &[Weight], x: usize, at: Weight) -> bool
-    requires { x < length weights.now }
-    ensures { result ≡ is_same (weight_at weights.now x) at }
-{
-    weights[x] == at
-}
-
 // The elements of this weight.
 fn elements_of(alloc: Global, weights: &[Weight], at: Weight) -> Result<ElemSet, AllocError>
     requires { length weights.now < 2 ^ 32 }
@@ -82,9 +38,19 @@ fn elements_of(alloc: Global, weights: &[Weight], at: Weight) -> Result<ElemSet,
 {
     let mut set = ElemSet::new(alloc);
     for x in 0..weights.len() {
-        add_if(&mut set, x as u32, has_weight(weights, x, at))?;
+        set.add_if(x as u32, weights[x] == at)?;
     }
     Ok(set)
+}
+
+// The number of elements of matroids that have n each.
+fn common_size<M: Matroid>(matroids: &[M], n: usize) -> u32
+    requires some { 0 < length matroids.now }
+    requires sound { AreSound M.ground_size M.sound n matroids.now }
+    ensures { result ≡ n }
+{
+    let _size = n;
+    matroids[0].size()
 }
 
 /// Adds these elements one after the other, each where moves can bring it in.
@@ -129,18 +95,17 @@ pub fn best_union<M: Matroid>(
     requires sound { AreSound M.ground_size M.sound (length weights.now) matroids.now }
     ensures { IfOk result (λ a. IsRightUnion (length weights.now) (map M.indep matroids.now) weights.now a.parts a.levels.items) }
 {
-    let n = matroids[0].size();
+    let n = common_size(matroids, weights.len());
     all_lawful(matroids, n);
     let parts = empty_parts(alloc, matroids.len())?;
     let mut growth = growth_from(alloc, matroids, parts, n)?;
     let mut levels = Vec::new(alloc);
-    let mut last = None;
-    while let Some(at) = next_weight(weights, last) {
-        let elements = elements_of(alloc, weights, at)?;
+    let falling = falling_weights(alloc, weights)?;
+    for at in &falling {
+        let elements = elements_of(alloc, weights, *at)?;
         grow_by(alloc, matroids, &mut growth, n, elements.as_slice())?;
         let cut = growth.spanned.copy(alloc)?;
-        levels.push(Level { at, cut })?;
-        last = Some(at);
+        levels.push(Level { at: *at, cut })?;
     }
     Ok(UnionAnswer {
         parts: growth.parts,

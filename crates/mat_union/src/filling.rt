@@ -10,7 +10,6 @@ ghost use Rattle.mat_union.specs.UnionsOf.{AreJoined, common_size};
 use crate::best::grow_by;
 use crate::growth::{all_lawful, growth_from};
 use crate::move_graph::stands;
-use crate::moved_sets::add_if;
 use mat_laws::Matroid;
 use mat_sets::{ElemSet, SetList};
 use std::alloc::{AllocError, Global};
@@ -30,7 +29,7 @@ fn elements_left_out(alloc: Global, parts: &SetList, n: u32) -> Result<ElemSet, 
 {
     let mut set = ElemSet::new(alloc);
     for x in 0..n {
-        add_if(&mut set, x, !stands(parts, x))?;
+        set.add_if(x, !stands(parts, x))?;
     }
     Ok(set)
 }

@@ -1,7 +1,7 @@
 //! The parts after moves.
-ghost use Rattle.std.specs.Prelude.{◌≡◌, ◌<◌, ◌^◌, ℕ, List, Bool, true, false, length, map, if◌then◌else◌, IfOk, OnOk};
+ghost use Rattle.std.specs.Prelude.{◌≡◌, ◌<◌, ◌^◌, ℕ, List, Bool, true, false, length, map, IfOk};
 ghost use Rattle.mat_sets.specs.Families.{family_union};
-ghost use Rattle.mat_sets.specs.Sets.{all_below, is_member, minus, union, with_one, IsRising};
+ghost use Rattle.mat_sets.specs.Sets.{all_below, is_member, minus, union, IsRising};
 ghost use Rattle.mat_union.specs.Moves.{elements, entering, exchanges_with, moved};
 ghost use Rattle.mat_union.specs.Placings.{ArePlaced};
 ghost use Rattle.mat_union.specs.Unions.{AreMatroids, AreParts};
@@ -22,18 +22,6 @@ fn without_moved(alloc: Global, part: &ElemSet, moves: &[Move]) -> Result<ElemSe
     Ok(set)
 }
 
-/// Puts x in, where it belongs here.
-pub(crate) fn add_if(set: &mut ElemSet, x: u32, here: bool) -> Result<(), AllocError>
-    ensures ok { OnOk result (set.new ≡ (if here then with_one set.old x else set.old)) }
-    ensures rises { IsRising set.new }
-{
-    set.rises();
-    if here {
-        set.add(x)?;
-    }
-    Ok(())
-}
-
 /// Part q after all moves.
 fn moved_part(alloc: Global, part: &ElemSet, moves: &[Move], q: u32) -> Result<ElemSet, AllocError>
     ensures set { IfOk result (λ s. s ≡ union (entering moves.now q) (minus part.now (elements moves.now))) }
@@ -41,7 +29,7 @@ fn moved_part(alloc: Global, part: &ElemSet, moves: &[Move], q: u32) -> Result<E
 {
     let mut set = without_moved(alloc, part, moves)?;
     for i in 0..moves.len() {
-        add_if(&mut set, moves[i].element, moves[i].part == q)?;
+        set.add_if(moves[i].element, moves[i].part == q)?;
     }
     Ok(set)
 }

@@ -10,7 +10,7 @@ use Rattle.mat_sets.proofs.Members.{set_members, IsRising-intersection}
 use Rattle.mat_sets.proofs.Search.{is_member-those_below}
 use Rattle.mat_sets.proofs.Subsets.{intersection-left, intersection-right, length-subset}
 use Rattle.mat_sets.proofs.WeightOrder.{at_most_trans, not_below_from, not_below_gives}
-use Rattle.mat_union.specs.RightUnions.{heavy}
+use Rattle.mat_sets.specs.FallingWeights.{heavy}
 use Rattle.mat_laws.specs.Heaviest.{IsHeaviest}
 use Rattle.mat_laws.specs.Matroids.{IsMatroid, IsMaximal}
 use Rattle.mat_laws.proofs.Independent.{below, full_in_larger, rising}

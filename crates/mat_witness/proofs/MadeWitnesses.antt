@@ -13,8 +13,7 @@ use Rattle.mat_sets.specs.declared.weight.Weight.{Weight}
 use Rattle.mat_sets.proofs.Ground.{is_member-all_below}
 use Rattle.mat_sets.proofs.Search.{IsSet-those_below}
 use Rattle.mat_sets.proofs.WeightOrder.{same_from}
-use Rattle.mat_union.specs.RightUnions.{heavy}
-use Rattle.mat_greedy.specs.FallingWeights.{falling_weights}
+use Rattle.mat_sets.specs.FallingWeights.{falling_weights, heavy}
 use Rattle.mat_laws.specs.Heaviest.{IsHeaviest}
 use Rattle.mat_laws.specs.Matroids.{IsMatroid}
 use Rattle.mat_laws.specs.Ranks.{rank}

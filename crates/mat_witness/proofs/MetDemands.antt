@@ -1,23 +1,22 @@
 -- Where the bounds meet the demands of a half, the set is heaviest of its size under it: at each value t of a member of another independent set
 -- of this size, that set has no more members that weigh at least t than the set has, since all members of the set weigh so much or a bound is
 -- there; so it is as heavy.
-use Rattle.std.proofs.Common.{◌≡◌, ℕ, ◌<◌, ◌≤◌, Bool, true, ◌&&◌, leb, ltb, List, [], ◌∷◌, ◌++◌, length, map, drop, filter, inl, inr, refl, sym, ap}
-use Rattle.std.proofs.Common.{◌∙◌, subst, arith}
+use Rattle.std.proofs.Common.{◌≡◌, ℕ, ◌<◌, ◌≤◌, Bool, true, leb, ltb, List, [], ◌∷◌, ◌++◌, length, map, drop, filter, inl, inr, refl, sym, ap}
+use Rattle.std.proofs.Common.{subst, arith}
 use Rattle.std.proofs.lemmas.Bool.{and_parts, cases_Bool, cases_lt, leb-true, lt-ltb}
 use Rattle.std.specs.List.{AllByRecursion}
 use Rattle.mat_sets.specs.Sets.{is_member, IsSet, IsSubset, intersection}
 use Rattle.mat_sets.specs.Weights.{weight_at}
 use Rattle.mat_sets.specs.declared.weight.Weight.{Weight}
 use Rattle.mat_sets.proofs.Ground.{below_member}
-use Rattle.mat_sets.proofs.Members.{filter_same_at, IsRising-intersection}
-use Rattle.mat_sets.proofs.Search.{is_member-those_below, IsSet-those_below}
+use Rattle.mat_sets.proofs.Members.{IsRising-intersection}
+use Rattle.mat_sets.proofs.Search.{IsSet-those_below}
 use Rattle.mat_sets.proofs.Subsets.{intersection-left, intersection-right, length-subset}
 use Rattle.mat_laws.specs.Heaviest.{IsHeaviest}
 use Rattle.mat_laws.specs.Matroids.{IsMatroid}
-use Rattle.mat_union.specs.RightUnions.{heavy}
+use Rattle.mat_sets.specs.FallingWeights.{falling_weights, heavy}
 use Rattle.mat_union.proofs.Dominated.{dominated, weighs}
-use Rattle.mat_greedy.specs.FallingWeights.{falling_weights}
-use Rattle.mat_greedy.proofs.FallingWeights.{IsIn, falling_weights-holds, place-IsIn}
+use Rattle.mat_sets.proofs.FallingWeights.{IsIn, falling_weights-holds, heavy_members, place-IsIn}
 use Rattle.mat_any.specs.Trees.{Tree, element_count, is_independent, IsSound}
 use Rattle.mat_any.specs.TreeLaws.{tree_laws}
 use Rattle.mat_desc.specs.Grammar.{IsValidTree}
@@ -25,12 +24,6 @@ use Rattle.mat_witness.specs.BoundParts.{bound_of, shows_bound}
 use Rattle.mat_witness.specs.Parts.{BoundPart}
 use Rattle.mat_witness.specs.Shown.{AreBoundsFor, Demand, are_met, demand_at, demands_under, meets}
 use Rattle.mat_witness.proofs.KindParts.{bound_holds}
-
--- the members of a set on n elements that weigh at least t
-heavy_members : (n : ℕ) (w : List Weight) (t : Weight) (S : List ℕ) → IsSet n S → intersection S (heavy n w t) ≡ filter (weighs (weight_at w) t) S
-unfolding intersection
-heavy_members n w t S s = filter_same_at (λ x. is_member x (heavy n w t)) (weighs (weight_at w) t) S (λ y h.
-    is_member-those_below y n (weighs (weight_at w) t) ∙ ap (λ b. b && weighs (weight_at w) t y) (lt-ltb y n (below_member s h)))
 
 -- no independent set has more members that weigh at least t than X has
 abbrev pub HasMostAt : (List ℕ → Bool) → List Weight → List ℕ → Weight → Type 0

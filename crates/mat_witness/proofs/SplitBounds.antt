@@ -8,7 +8,7 @@ use Rattle.std.proofs.lemmas.List.Elements.{All-from_recursion}
 use Rattle.std.specs.List.{All, AllByRecursion}
 use Rattle.mat_sets.specs.Sets.{IsSet}
 use Rattle.mat_sets.specs.declared.weight.Weight.{Weight}
-use Rattle.mat_greedy.specs.FallingWeights.{falling_weights}
+use Rattle.mat_sets.specs.FallingWeights.{falling_weights}
 use Rattle.mat_any.specs.Trees.{Tree, IsSound}
 use Rattle.mat_cert.specs.declared.answer.PricedRung.{PricedRung}
 use Rattle.mat_desc.specs.Grammar.{IsValidTree}

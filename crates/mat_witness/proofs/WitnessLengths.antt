@@ -15,7 +15,7 @@ use Rattle.mat_sets.specs.declared.weight.Weight.{Weight}
 use Rattle.mat_sets.specs.Weights.{is_below, is_same}
 use Rattle.mat_sets.proofs.Ground.{AllBelow-append, IsSet-length, length-distinct_below}
 use Rattle.mat_sets.proofs.SetTests.{are_distinct-gives}
-use Rattle.mat_greedy.specs.FallingWeights.{falling_weights, with_weight}
+use Rattle.mat_sets.specs.FallingWeights.{falling_weights, with_weight}
 use Rattle.mat_words.specs.Binary.{binary}
 use Rattle.mat_words.specs.Lines.{Line, text_of}
 use Rattle.mat_words.specs.Numbers.{numeral, numerals}

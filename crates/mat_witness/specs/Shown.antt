@@ -8,8 +8,7 @@ use Rattle.mat_sets.specs.Weights.{◌⊕◌, is_same, weight, weight_at, zero_w
 use Rattle.mat_sets.specs.declared.weight.Weight.{Weight}
 use Rattle.mat_laws.specs.CommonSets.{IsHeaviestCommon}
 use Rattle.mat_laws.specs.Ladders.{IsCut, IsRung}
-use Rattle.mat_union.specs.RightUnions.{heavy}
-use Rattle.mat_greedy.specs.FallingWeights.{falling_weights}
+use Rattle.mat_sets.specs.FallingWeights.{falling_weights, heavy}
 use Rattle.mat_any.specs.Trees.{Tree, is_independent}
 use Rattle.mat_desc.specs.Instances.{Instance, pair}
 use Rattle.mat_cert.specs.Certificates.{Certificate, intersect, last_rung}

@@ -6,8 +6,7 @@ ghost use Rattle.mat_any.specs.Trees.{Tree};
 ghost use Rattle.mat_witness.specs.Demands.{demand_for};
 ghost use Rattle.mat_witness.specs.Shown.{demand_at, demands_under};
 
-use mat_greedy::{falling_weights, heavy_elements};
-use mat_sets::{ElemSet, Weight};
+use mat_sets::{ElemSet, Weight, falling_weights, heavy_elements};
 use std::alloc::{AllocError, Global};
 
 /// A set whose rank in a matroid has to be shown to be at most a number.

@@ -1,7 +1,7 @@
 use Rattle.std.proofs.Common.{◌≡◌, ◌+◌, ◌==◌, true, length, map, sym, ap, ◌∙◌}
 use Rattle.mat_sets.specs.Sets.{intersection, minus}
 use Rattle.mat_sets.specs.Weights.{is_same, weight_at}
-use Rattle.mat_union.specs.RightUnions.{heavy}
+use Rattle.mat_sets.specs.FallingWeights.{heavy}
 use Rattle.mat_union.specs.Unions.{ranks_sum}
 use Rattle.mat_check.specs.SetClauses.{level_clause, level_cut_clause}
 use Rattle.mat_check.proofs.LevelFailures.{level_fails, level_fails_inside, level_is_clear}

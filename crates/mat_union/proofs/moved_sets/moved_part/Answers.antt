@@ -10,5 +10,5 @@ pub loop-i-preserved : goal.loop-i-preserved
 loop-i-preserved c = record {
   start = c.loop-i.invariant.start;
   rises = c.add_if.ensures.rises;
-  is = entering-step _ c.loop-i.set c.add_if.new.set c.args.moves.now c.args.q c.loop-i.i c.loop-i.invariant.start c.loop-i-test.true c.loop-i.invariant.is c.in_ok-add_if.ensures.ok;
+  is = entering-step _ c.loop-i.set c.add_if.new.self c.args.moves.now c.args.q c.loop-i.i c.loop-i.invariant.start c.loop-i-test.true c.loop-i.invariant.is c.in_ok-add_if.ensures.ok;
 }

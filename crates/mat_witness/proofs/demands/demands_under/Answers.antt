@@ -3,7 +3,7 @@ use Rattle.std.proofs.lemmas.List.{map-append, take_more}
 use Rattle.std.proofs.lemmas.List.Elements.{filter-append}
 use Rattle.mat_sets.specs.Weights.{weight_at, zero_weight}
 use Rattle.mat_sets.specs.declared.weight.Weight.{Weight}
-use Rattle.mat_greedy.specs.FallingWeights.{falling_weights}
+use Rattle.mat_sets.specs.FallingWeights.{falling_weights}
 use Rattle.mat_witness.specs.Demands.{demand_for}
 use Rattle.mat_witness.specs.Shown.{Demand, demand_at}
 use Rattle.mat_witness.proofs.demands.demands_under.Goals as goal

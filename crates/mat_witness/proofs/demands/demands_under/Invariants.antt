@@ -1,6 +1,6 @@
 -- The demands of the values so far are listed.
 use Rattle.std.proofs.Common.{◌≡◌, filter, ltb, map, take}
-use Rattle.mat_greedy.specs.FallingWeights.{falling_weights}
+use Rattle.mat_sets.specs.FallingWeights.{falling_weights}
 use Rattle.mat_any.specs.Trees.{Tree}
 use Rattle.mat_witness.specs.Demands.{demand_for}
 use Rattle.mat_witness.specs.Shown.{demand_at}

@@ -2,7 +2,7 @@
 use Rattle.std.proofs.Common.{◌≡◌, not}
 use Rattle.mat_sets.specs.Search.{those_below}
 use Rattle.mat_sets.specs.Weights.{is_below, weight_at}
-use Rattle.mat_greedy.proofs.heavy.heavy_elements.Given as goal
+use Rattle.mat_sets.proofs.heavy.heavy_elements.Given as goal
 
 abbrev pub invariant-loop-x : goal.invariant-loop-x
 invariant-loop-x l = l.set ≡ those_below l.x (λ y. not (is_below (weight_at l.weights y) l.at))
