@@ -51,6 +51,13 @@ module _ (clause_of : ℕ → Clause) where
   pub none_below_none : first_failure (map clause_of (all_below 0)) ≡ None
   none_below_none = ap first_failure (map-all_below_none clause_of)
 
+  pub none_below : (n : ℕ) → ((e : ℕ) → e < n → (clause_of e).holds ≡ true) → first_failure (map clause_of (all_below n)) ≡ None
+  none_below zero all = none_below_none
+  none_below (suc n) all =
+      ap first_failure (one_more_suc n)
+      ∙ first_in_back (map clause_of (all_below n)) (clause_of n ∷ []) (none_below n (λ e l. all e (omega (arith, l))))
+      ∙ first_of_holding (clause_of n) [] (all n (omega arith))
+
   pub none_below_next : (e : ℕ) → first_failure (map clause_of (all_below e)) ≡ None → (clause_of e).holds ≡ true
       → first_failure (map clause_of (all_below (e + 1))) ≡ None
   none_below_next e none h =

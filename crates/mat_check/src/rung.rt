@@ -3,7 +3,7 @@
 ghost use Rattle.std.specs.Prelude.{◌≡◌, ◌<◌, ◌≤◌, ◌++◌, ◌∷◌, [], length, map, true, IfOk};
 ghost use Rattle.mat_sets.specs.Limits.{largest_number, most_elements};
 ghost use Rattle.mat_sets.specs.Sets.{all_below};
-ghost use Rattle.mat_sets.specs.Weights.{◌⊕◌, is_same, AreWeightsWithin, weight_at};
+ghost use Rattle.mat_sets.specs.Weights.{AreWeightsWithin, weight_at};
 ghost use Rattle.mat_any.specs.Trees.{element_count, is_independent, IsSound};
 ghost use Rattle.mat_any.specs.Views.{tree_of};
 ghost use Rattle.mat_cert.specs.Certificates.{IsRangedPlainRung, IsRangedPricedRung};
@@ -15,7 +15,7 @@ use crate::searches::is_beaten;
 use mat_any::AnyMatroid;
 use mat_cert::{PlainRung, PricedRung};
 use mat_laws::Matroid;
-use mat_sets::{PairWeights, Weight, weigh};
+use mat_sets::{PairWeights, Weight, first_unsplit, weigh};
 use std::alloc::{AllocError, Global};
 
 /// Two matroids on the same elements, and the weights of the elements.
@@ -24,19 +24,6 @@ pub(crate) struct WeightedPair<'a> {
     pub(crate) weights: &'a [Weight],
     pub(crate) first: &'a AnyMatroid,
     pub(crate) second: &'a AnyMatroid,
-}
-
-// Whether the two parts add up to the weight of e.
-fn adds_up(weights: &[Weight], first: &[Weight], second: &[Weight], e: u32) -> bool
-    requires below { e < length weights.now }
-    requires first { length first.now ≡ length weights.now }
-    requires second { length second.now ≡ length weights.now }
-    requires first_small { AreWeightsWithin largest_number first.now }
-    requires second_small { AreWeightsWithin largest_number second.now }
-    ensures { result ≡ is_same (weight_at first.now e ⊕ weight_at second.now e) (weight_at weights.now e) }
-{
-    let at = e as usize;
-    first[at] + second[at] == weights[at]
 }
 
 // The first element at which the two parts of rung k don't add up to the weight, as the failure that it is.
@@ -48,13 +35,10 @@ fn sum_failure(weights: &[Weight], first: &[Weight], second: &[Weight], k: u32) 
     requires second_small { AreWeightsWithin largest_number second.now }
     ensures { result ≡ first_failure (map (sum_clause weights.now k first.now second.now) (all_below (length weights.now))) }
 {
-    let count = weights.len() as u32;
-    for e in 0..count {
-        if !adds_up(weights, first, second, e) {
-            return Some(Reason::Sum.at(k, e));
-        }
+    match first_unsplit(weights, first, second) {
+        Some(e) => Some(Reason::Sum.at(k, e)),
+        None => None,
     }
-    None
 }
 
 /// The first clause of rung k of the heaviest independent sets of a matroid that fails, told by the weights of heaviest sets of

@@ -60,3 +60,7 @@ IsWeightWithin bound a = IsWithin bound a.main × IsWithin bound a.tie
 -- and so for each weight
 abbrev pub AreWeightsWithin : ℕ → List Weight → Type 0
 AreWeightsWithin bound weights = All (IsWeightWithin bound) weights
+
+-- whether two parts of the weights add up to the weight of e
+abbrev pub adds_up : List Weight → List Weight → List Weight → ℕ → Bool
+adds_up first second w e = is_same (weight_at first e ⊕ weight_at second e) (weight_at w e)

@@ -1,45 +1,26 @@
 //! The numbers of a rung: the weight of its set, and the halves of its split.
 
-ghost use Rattle.std.specs.Prelude.{◌≡◌, ◌<◌, ◌≤◌, length};
+ghost use Rattle.std.specs.Prelude.{◌≡◌, ◌≤◌, length};
 ghost use Rattle.std.specs.List.{list_all};
 ghost use Rattle.mat_sets.specs.Limits.{largest_number, most_elements};
 ghost use Rattle.mat_sets.specs.Sets.{all_below, IsSet};
-ghost use Rattle.mat_sets.specs.Weights.{◌⊕◌, is_same, AreWeightsWithin, weight_at};
+ghost use Rattle.mat_sets.specs.Weights.{adds_up, AreWeightsWithin};
 ghost use Rattle.mat_cert.specs.Certificates.{IsRangedPart};
 ghost use Rattle.mat_witness.specs.Shown.{is_priced};
 
 use mat_cert::PricedRung;
-use mat_sets::{Weight, weigh};
+use mat_sets::{Weight, first_unsplit, weigh};
 
-// Whether the halves add up to the weight of an element.
-fn adds_up(weights: &[Weight], first: &[Weight], second: &[Weight], e: u32) -> bool
-    requires below { e < length weights.now }
-    requires first { length first.now ≡ length weights.now }
-    requires second { length second.now ≡ length weights.now }
-    requires first_small { AreWeightsWithin largest_number first.now }
-    requires second_small { AreWeightsWithin largest_number second.now }
-    ensures { result ≡ is_same (weight_at first.now e ⊕ weight_at second.now e) (weight_at weights.now e) }
-{
-    let at = e as usize;
-    first[at] + second[at] == weights[at]
-}
-
-// Whether they do so for each element.
+// Whether the halves add up to the weight of each element.
 fn all_add_up(weights: &[Weight], first: &[Weight], second: &[Weight]) -> bool
     requires few { length weights.now ≤ most_elements }
     requires first { length first.now ≡ length weights.now }
     requires second { length second.now ≡ length weights.now }
     requires first_small { AreWeightsWithin largest_number first.now }
     requires second_small { AreWeightsWithin largest_number second.now }
-    ensures { result ≡ list_all (λ e. is_same (weight_at first.now e ⊕ weight_at second.now e) (weight_at weights.now e))
-        (all_below (length weights.now)) }
+    ensures { result ≡ list_all (adds_up first.now second.now weights.now) (all_below (length weights.now)) }
 {
-    for e in 0..weights.len() as u32 {
-        if !adds_up(weights, first, second, e) {
-            return false;
-        }
-    }
-    true
+    first_unsplit(weights, first, second).is_none()
 }
 
 /// Whether a rung of an answer on so many elements has as many as there are weights, the weight of its set, and halves that add up to the

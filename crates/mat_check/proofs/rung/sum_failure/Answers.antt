@@ -1,17 +1,17 @@
-use Rattle.std.proofs.Common.{sym, ◌∙◌}
+use Rattle.std.proofs.Common.{length, sym, arith}
+use Rattle.std.proofs.lemmas.Bool.{not-false, not-true}
 use Rattle.mat_check.specs.Clauses.{sum_clause}
-use Rattle.mat_check.proofs.FailingClauses.{none_below_none, none_below_next, first_below}
+use Rattle.mat_check.proofs.FailingClauses.{first_below, none_below}
 use Rattle.mat_check.proofs.rung.sum_failure.Goals as goal
 
-pub loop-e-init : goal.loop-e-init
-loop-e-init c = none_below_none (sum_clause c.args.weights.now c.args.k c.args.first.now c.args.second.now)
+pub returns-in-Some : goal.returns-in-Some
+returns-in-Some c =
+    let clause = sum_clause c.args.weights.now c.args.k c.args.first.now c.args.second.now in
+    let found = rw c.in-Some.is at c.first_unsplit.ensures in
+    rw c.at.ensures (sym (first_below clause (length c.args.weights.now) c.in-Some.e found.0
+    (none_below clause c.in-Some.e (λ x l. not-false _ (found.1.none_before x (omega arith) l))) (not-true _ found.1.passes)))
 
-pub returns-then-not-adds_up : goal.returns-then-not-adds_up
-returns-then-not-adds_up c =
-    rw c.at.ensures (sym (first_below (sum_clause c.args.weights.now c.args.k c.args.first.now c.args.second.now) _ c.loop-e.e c.loop-e-test.true c.loop-e.invariant
-    (sym c.adds_up.ensures ∙ c.if-not-adds_up.true)))
-
-pub loop-e-preserved : goal.loop-e-preserved
-loop-e-preserved c =
-    none_below_next (sum_clause c.args.weights.now c.args.k c.args.first.now c.args.second.now) c.loop-e.e c.loop-e.invariant
-    (sym c.adds_up.ensures ∙ c.if-not-adds_up.false)
+pub returns-in-None : goal.returns-in-None
+returns-in-None c =
+    let found = rw c.in-None.is at c.first_unsplit.ensures in
+    sym (none_below (sum_clause c.args.weights.now c.args.k c.args.first.now c.args.second.now) (length c.args.weights.now) found)

@@ -1,24 +1,20 @@
-use Rattle.std.proofs.Common.{◌≡◌, ℕ, Bool, true, List, length, sym, ◌∙◌, arith}
-use Rattle.mat_sets.specs.Weights.{◌⊕◌, is_same, weight_at}
-use Rattle.mat_sets.specs.declared.weight.Weight.{Weight}
-use Rattle.mat_witness.proofs.PassingLists.{below_next, fails_below, passes_below}
+use Rattle.std.proofs.Common.{◌≡◌, ℕ, ◌<◌, Bool, true, not, length, Option, None, Some, sym, ◌∙◌}
+use Rattle.std.specs.Prelude.{is_some, MatchOption}
+use Rattle.std.specs.List.{list_all}
+use Rattle.std.proofs.lemmas.Bool.{not-false, not-true}
+use Rattle.mat_sets.specs.Search.{IsFirstFrom}
+use Rattle.mat_sets.specs.Sets.{all_below}
+use Rattle.mat_sets.specs.Weights.{adds_up}
+use Rattle.mat_witness.proofs.PassingLists.{fails_below, passes_below}
 use Rattle.mat_witness.proofs.priced.all_add_up.Goals as goal
 
--- whether the halves add up to the weight of e
-abbrev sums_up : List Weight → List Weight → List Weight → ℕ → Bool
-sums_up w first second e = is_same (weight_at first e ⊕ weight_at second e) (weight_at w e)
-
-pub returns-then-not-adds_up : goal.returns-then-not-adds_up
-returns-then-not-adds_up c =
-    sym (fails_below (length c.args.weights.now) (sums_up c.args.weights.now c.args.first.now c.args.second.now) c.loop-e.e c.loop-e-test.true
-    (sym c.adds_up.ensures ∙ c.if-not-adds_up.true))
-
-pub loop-e-preserved : goal.loop-e-preserved
-loop-e-preserved c =
-    below_next (λ e. sums_up c.args.weights.now c.args.first.now c.args.second.now e ≡ true) c.loop-e.e c.loop-e.invariant
-    (sym c.adds_up.ensures ∙ c.if-not-adds_up.false)
+-- no number below n is found that fails exactly where all pass
+none_fails : (n : ℕ) (test : ℕ → Bool) (found : Option ℕ) (none : Bool)
+    → MatchOption found ((e : ℕ) → e < n → test e ≡ true) (λ e. (e < n) × IsFirstFrom (λ x. not (test x)) 0 e)
+    → is_some found ≡ not none → none ≡ list_all test (all_below n)
+none_fails n test None none all e = not-false none (sym e) ∙ sym (passes_below n test all)
+none_fails n test (Some x) none first e = not-true none (sym e) ∙ sym (fails_below n test x first.0 (not-true (test x) first.1.passes))
 
 pub returns : goal.returns
-returns c =
-    sym (passes_below (length c.args.weights.now) (sums_up c.args.weights.now c.args.first.now c.args.second.now)
-    (λ e small. c.loop-e.invariant e (omega arith)))
+returns c = none_fails (length c.args.weights.now) (adds_up c.args.first.now c.args.second.now c.args.weights.now) c.first_unsplit.result c.is_none.result
+    c.first_unsplit.ensures c.is_none.ensures
