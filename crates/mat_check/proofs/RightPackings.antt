@@ -3,7 +3,7 @@ use Rattle.std.proofs.Common.{◌≡◌, ℕ, ◌+◌, ◌<◌, Bool, true, fals
 use Rattle.std.proofs.Common.{None, refl, ◌∙◌, arith}
 use Rattle.std.proofs.lemmas.Bool.{lt-ltb, ltb-false, ltb-true, not-true, not_from_false}
 use Rattle.mat_sets.specs.Families.{family_union, indicator, multiplicity}
-use Rattle.mat_sets.specs.Sets.{is_member, with_one}
+use Rattle.mat_sets.specs.Sets.{is_member}
 use Rattle.mat_sets.proofs.Families.{family_union-gives, multiplicity-at}
 use Rattle.mat_sets.proofs.Members.{is_member-union}
 use Rattle.mat_laws.proofs.Searches.{IsBase-not_addable, not_addable-IsBase}
@@ -27,11 +27,6 @@ in_union_of_some x (a ∷ sets) some = is_member-union x a (family_union sets)
     one_more : (b : Bool) (m : ℕ) (c : Bool) → 0 < indicator b + m → (0 < m → c ≡ true) → (b || c) ≡ true
     one_more true m c some h = refl
     one_more false m c some h = h (omega arith)
-
--- the set of one element
-pub alone_is : (x : ℕ) → with_one [] x ≡ x ∷ []
-unfolding with_one
-alone_is x = refl
 
 -- that of set i of a covering
 abbrev pub set_clauses : (List ℕ → Bool) → ℕ → List ℕ → List Clause

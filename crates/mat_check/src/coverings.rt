@@ -10,7 +10,7 @@ ghost use Rattle.mat_check.specs.SetClauses.{cover_clauses, cover_cut_clauses, i
 
 use crate::families::{dependent_failure, missed_failure};
 use crate::reason::{Failure, Reason};
-use mat_laws::{Matroid, rank_of};
+use mat_laws::{Matroid, is_loop, rank_of};
 use mat_sets::ElemSet;
 use std::alloc::{AllocError, Global};
 
@@ -24,12 +24,10 @@ pub(crate) fn loop_failure<M: Matroid>(
     requires below { x < M.ground_size m.now }
     ensures { IfOk result (λ found. found ≡ first_failure (loop_clause (M.indep m.now) x ∷ [])) }
 {
-    let mut alone = ElemSet::new(alloc);
-    alone.add(x)?;
-    if m.independent(alloc, &alone)? {
-        return Ok(Some(Reason::Claim.at(0, 0)));
+    if is_loop(alloc, m, x)? {
+        return Ok(None);
     }
-    Ok(None)
+    Ok(Some(Reason::Claim.at(0, 0)))
 }
 
 // The first set that is dependent, as the failure that it is.

@@ -4,7 +4,7 @@ use Rattle.std.proofs.Common.{◌≡◌, ◌≢◌, ◌∙◌, ℕ, zero, suc, �
 use Rattle.std.proofs.lemmas.Bool.{both_ways, cases_lt, eqb-true, lt-ltb, or_cases}
 use Rattle.std.proofs.Math.Nat.{le-div_iff_mul-le}
 use Rattle.mat_sets.specs.Families.{family_union}
-use Rattle.mat_sets.specs.Sets.{all_below, is_member, IsSet, with_one, IsSubset}
+use Rattle.mat_sets.specs.Sets.{all_below, is_member, IsSet, IsSubset}
 use Rattle.mat_sets.proofs.Families.{AllBelow-family_union, IsRising-family_union}
 use Rattle.mat_sets.proofs.Ground.{below_member, is_member-all_below, length-all_below, length-complement, IsRising-all_below, IsSubset-all_below}
 use Rattle.mat_sets.proofs.Members.{is_member-head}
@@ -49,11 +49,6 @@ needed_at_most members (suc e) count h some =
     let f : (count - 1) * suc e ≡ (count - 1) + (count - 1) * e = omega arith in
     let few = h.no_fewer in
     omega arith
-
--- one element
-pub alone_is : (set : List ℕ) (x : ℕ) → set ≡ [] → with_one set x ≡ x ∷ []
-unfolding with_one
-alone_is set x e = rw e refl
 
 -- ---- coverings
 

@@ -1,5 +1,5 @@
 //! Fewest independent sets that cover the elements of a matroid.
-ghost use Rattle.std.specs.Prelude.{◌≡◌, ◌≢◌, ◌<◌, ◌≤◌, true, false, [], ◌∷◌, length, IfOk, MatchOption};
+ghost use Rattle.std.specs.Prelude.{◌≡◌, ◌≢◌, ◌<◌, ◌≤◌, true, false, length, IfOk, MatchOption};
 ghost use Rattle.mat_sets.specs.Limits.{most_elements};
 ghost use Rattle.mat_sets.specs.Families.{family_union};
 ghost use Rattle.mat_sets.specs.Sets.{IsSet};
@@ -9,7 +9,7 @@ ghost use Rattle.mat_packing.specs.Packings.{IsLoop};
 ghost use Rattle.mat_packing.specs.Rooms.{IsEnough};
 
 use crate::filling::fill_copies;
-use mat_laws::{Matroid, rank_of};
+use mat_laws::{Matroid, is_loop, rank_of};
 use mat_sets::{ElemSet, SetList};
 use mat_union::members_of;
 use std::alloc::{AllocError, Global};
@@ -31,17 +31,6 @@ pub enum Covering {
     },
 }
 
-// Whether an element is independent alone.
-fn stands_alone<M: Matroid>(alloc: Global, m: &M, x: u32) -> Result<bool, AllocError>
-    requires sound { M.sound m.now }
-    requires below { x < M.ground_size m.now }
-    ensures { IfOk result (λ b. b ≡ M.indep m.now (x ∷ [])) }
-{
-    let mut alone = ElemSet::new(alloc);
-    alone.add(x)?;
-    m.independent(alloc, &alone)
-}
-
 // The first element that is dependent alone.
 fn find_loop<M: Matroid>(alloc: Global, m: &M) -> Result<Option<u32>, AllocError>
     requires { M.sound m.now }
@@ -49,7 +38,7 @@ fn find_loop<M: Matroid>(alloc: Global, m: &M) -> Result<Option<u32>, AllocError
         (IsLoop (M.ground_size m.now) (M.indep m.now))) }
 {
     for x in 0..m.size() {
-        if !stands_alone(alloc, m, x)? {
+        if is_loop(alloc, m, x)? {
             return Ok(Some(x));
         }
     }
