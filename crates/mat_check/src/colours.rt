@@ -1,9 +1,8 @@
 //! Whether colours show that there is no rainbow spanning tree.
 
-ghost use Rattle.std.specs.Prelude.{◌≡◌, ◌==◌, ◌<◌, ◌≤◌, ◌^◌, length, slice_index, IfOk};
+ghost use Rattle.std.specs.Prelude.{◌≡◌, ◌≤◌, length, slice_index, IfOk};
 ghost use Rattle.mat_sets.specs.Limits.{most_elements};
 ghost use Rattle.mat_sets.specs.Graphs.{IsGraph, ends_of};
-ghost use Rattle.mat_sets.specs.Search.{those_below};
 ghost use Rattle.mat_sets.specs.Sets.{AllBelow};
 ghost use Rattle.mat_graphic.specs.Forests.{number_of_components};
 ghost use Rattle.mat_fronts.specs.Rainbow.{edges_without};
@@ -11,7 +10,7 @@ ghost use Rattle.mat_check.specs.Clauses.{first_failure};
 ghost use Rattle.mat_check.specs.TreeClauses.{colours_clauses};
 
 use crate::reason::{Failure, Reason};
-use mat_graphic::Graphic;
+use mat_graphic::{Graphic, least_vertices};
 use mat_sets::{ElemSet, Pairs};
 use std::alloc::{AllocError, Global};
 
@@ -29,20 +28,6 @@ fn edges_without(alloc: Global, colour_of: &[u32], colours: &ElemSet) -> Result<
     Ok(rest)
 }
 
-// How many numbers stand at their own place.
-fn own_places(least: &[u32]) -> usize
-    requires { length least.now < 2 ^ 32 }
-    ensures { result ≡ length (those_below (length least.now) (λ v. slice_index least.now v == v)) }
-{
-    let mut count = 0;
-    for v in 0..least.len() {
-        if least[v] as usize == v {
-            count += 1;
-        }
-    }
-    count
-}
-
 // How many components these edges make of the vertices: as many as vertices that are the least of theirs.
 fn component_count(
     alloc: Global,
@@ -57,7 +42,8 @@ fn component_count(
     set.rises();
     let graphic = Graphic::new(alloc, vertices, edges.copy(alloc)?)?;
     let least = graphic.components(alloc, set)?;
-    Ok(own_places(&least))
+    let roots = least_vertices(alloc, &least)?;
+    Ok(roots.len())
 }
 
 /// The clause of missing colours, where it fails: without the edges of these colours there are no more components than one more than there

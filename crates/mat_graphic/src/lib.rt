@@ -1,10 +1,12 @@
 //! Graphic matroids: the forests of a graph.
 #![tactic(auto)]
 
+mod components;
 mod graphic;
 pub mod laws;
 mod rooted_forest;
 mod union_find;
 
+pub use components::least_vertices;
 pub use graphic::Graphic;
 pub use rooted_forest::RootedForest;

@@ -3,10 +3,10 @@ ghost use Rattle.std.specs.Prelude.{◌≡◌, ◌<◌, ◌≤◌, ◌^◌, ◌�
 ghost use Rattle.mat_sets.specs.Limits.{most_vertices, most_elements};
 ghost use Rattle.mat_sets.specs.Graphs.{IsGraph};
 ghost use Rattle.mat_packing.specs.Answers.{is_partition, HasNoTrees, IsRightTreesAnswer};
-ghost use Rattle.mat_packing.specs.Components.{class_of, roots_of};
+ghost use Rattle.mat_packing.specs.Components.{class_of};
 
 use crate::filling::{are_full, fill_copies};
-use mat_graphic::Graphic;
+use mat_graphic::{Graphic, least_vertices};
 use mat_sets::{ElemSet, Pairs, SetList};
 use std::alloc::{AllocError, Global};
 
@@ -27,20 +27,6 @@ fn members_with(alloc: Global, least: &[u32], root: u32) -> Result<ElemSet, Allo
     let mut set = ElemSet::new(alloc);
     for v in 0..least.len() {
         if least[v] == root {
-            set.add(v as u32)?;
-        }
-    }
-    Ok(set)
-}
-
-// The vertices that are their own least ones.
-fn least_vertices(alloc: Global, least: &[u32]) -> Result<ElemSet, AllocError>
-    requires few { length least.now < 2 ^ 32 }
-    ensures { IfOk result (λ s. s ≡ roots_of (length least.now) (slice_index least.now)) }
-{
-    let mut set = ElemSet::new(alloc);
-    for v in 0..least.len() {
-        if least[v] == v as u32 {
             set.add(v as u32)?;
         }
     }

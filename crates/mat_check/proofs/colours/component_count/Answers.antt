@@ -14,6 +14,6 @@ returns c =
     let found : (v : ℕ) → v < c.args.vertices → IsLeastReached (ends_of c.args.edges.now) c.args.set.now v (get_or least v 0) = λ v l.
     subst (λ (es : List (ℕ × ℕ)). IsLeastReached (ends_of es) c.args.set.now v (get_or least v 0)) edges
     (c.in_ok-least.ensures.least v (subst (λ n. v < n) (sym vertices) l)) in
-    c.own_places.ensures
+    c.len.ensures.count ∙ ap length c.in_ok-roots.ensures
     ∙ ap (λ xs. length (those_below (length xs) (λ v. eqb (get_or xs v 0) v))) c.deref.ensures.value
     ∙ components_counted c.args.vertices (ends_of c.args.edges.now) c.args.set.now least c.rises.ensures (c.in_ok-least.ensures.long ∙ vertices) found
