@@ -17,7 +17,7 @@ pub mod RightUnions
 pub mod RightPackings
 pub mod RightSets
 pub mod OptimalSets
-pub mod LabelledMatroids
+pub mod SameLadders
 pub mod HeadCaps
 pub mod CountedComponents
 pub mod RightRungs

@@ -12,12 +12,12 @@ ghost use Rattle.mat_check.specs.Clauses.{first_failure, ladder_clauses};
 ghost use Rattle.mat_check.specs.TreeClauses.{colours_clauses};
 
 use crate::colours::colours_failure;
-use crate::labels::at_most_one;
 use crate::ladder::ladder_failure;
 use crate::reason::Failure;
 use crate::rung::WeightedPair;
 use mat_any::AnyMatroid;
 use mat_cert::PricedRung;
+use mat_count::Partition;
 use mat_graphic::Graphic;
 use mat_sets::{ElemSet, Pairs, Weight};
 use std::alloc::{AllocError, Global};
@@ -45,8 +45,10 @@ pub(crate) fn assign_failure<R: Threads + Sync>(
 {
     let row_of = cells.firsts(alloc)?;
     let column_of = cells.seconds(alloc)?;
-    let by_row = AnyMatroid::Partition(at_most_one(alloc, &row_of, rows)?);
-    let by_column = AnyMatroid::Partition(at_most_one(alloc, &column_of, columns)?);
+    let by_row = AnyMatroid::Partition(Partition::one_for_each_label(alloc, &row_of, rows)?);
+    let by_column = AnyMatroid::Partition(Partition::one_for_each_label(
+        alloc, &column_of, columns,
+    )?);
     let both = WeightedPair {
         weights,
         first: &by_row,
@@ -79,7 +81,7 @@ fn rainbow_ladder_failure<R: Threads + Sync>(
         (is_once (length edges.now) colours (slice_index colour_of.now)) weights.now rungs.now cut.now)) }
 {
     let graphic = AnyMatroid::Graphic(Graphic::new(alloc, vertices, edges.copy(alloc)?)?);
-    let classes = AnyMatroid::Partition(at_most_one(alloc, colour_of, colours)?);
+    let classes = AnyMatroid::Partition(Partition::one_for_each_label(alloc, colour_of, colours)?);
     let both = WeightedPair {
         weights,
         first: &graphic,

@@ -13,7 +13,7 @@ ghost use Rattle.mat_cert.specs.Certificates.{IsRangedArborescence, IsRangedPart
 ghost use Rattle.mat_check.specs.Clauses.{first_failure, heaviest_clause};
 ghost use Rattle.mat_check.specs.TreeClauses.{arborescence_clauses, cost_clause};
 
-use crate::labels::entering_once;
+use crate::heads::entering_once;
 use crate::reason::{Failure, Reason};
 use crate::searches::is_beaten;
 use mat_branch::spans;

@@ -12,7 +12,7 @@ mod fronts;
 mod graph_answers;
 mod halves;
 mod headers;
-mod labels;
+mod heads;
 mod ladder;
 mod laws;
 mod least;

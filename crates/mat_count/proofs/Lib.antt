@@ -13,4 +13,5 @@ pub mod RunSteps
 pub mod UniformRows
 pub mod UniformRuns
 pub mod LabelClasses
+pub mod LabelledMatroids
 pub mod WordInclusions

@@ -17,6 +17,10 @@ classes_by n k label = map (labelled n label) (all_below k)
 unfoldable pub caps_by : ℕ → (ℕ → ℕ) → List ℕ
 caps_by k cap = map cap (all_below k)
 
+-- the cap 1 for each label
+abbrev pub one_each : ℕ → ℕ
+one_each c = 1
+
 -- the partition matroid: at most its cap of elements of each label below k
 abbrev pub is_labelled : ℕ → ℕ → (ℕ → ℕ) → (ℕ → ℕ) → List ℕ → Bool
 is_labelled n k label cap X = is_counted n (classes_by n k label) (caps_by k cap) X

@@ -6,7 +6,7 @@ ghost use Rattle.mat_sets.specs.Families.{AreDisjoint, indicator};
 ghost use Rattle.mat_laws.specs.GreedyRuns.{grown_along};
 ghost use Rattle.mat_count.specs.Counts.{is_counted};
 ghost use Rattle.mat_count.specs.FullSets.{AreFullSets};
-ghost use Rattle.mat_count.specs.Labels.{classes_by};
+ghost use Rattle.mat_count.specs.Labels.{caps_by, classes_by, one_each};
 ghost use Rattle.mat_count.specs.Counters.{is_named_full};
 ghost use Rattle.mat_count.specs.Partitions.{names, IsPartition, IsClassTable, IsClassEntered, CountsMembers};
 ghost use Rattle.mat_count.specs.PartitionLaws.{partition_laws};
@@ -172,6 +172,25 @@ impl Partition {
     {
         let classes = classes_by(alloc, labels, caps.len() as u32)?;
         Partition::new(alloc, labels.len() as u32, classes, caps)
+    }
+
+    /// The partition matroid with one class for each label below their count, and the cap 1 for each: element e has the e-th label. The
+    /// only error is want of memory.
+    pub fn one_for_each_label(
+        alloc: Global,
+        labels: &[u32],
+        count: u32,
+    ) -> Result<Partition, AllocError>
+        requires few { length labels.now < 2 ^ 32 }
+        ensures value { IfOk result (λ p. p ≡ record {
+          count = length labels.now;
+          classes = classes_by (length labels.now) count (slice_index labels.now);
+          caps = caps_by count one_each;
+        }) }
+        ensures sound { IfOk result (λ p. IsPartition p.count p.classes p.caps) }
+    {
+        let caps = vec![in alloc; 1; count as usize]?;
+        Partition::by_labels(alloc, labels, caps)
     }
 
     /// The number of elements.

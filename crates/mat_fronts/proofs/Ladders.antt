@@ -2,7 +2,7 @@
 use Rattle.std.proofs.Common.{◌≡◌, ◌≢◌, ℕ, suc, ◌-◌, ◌<◌, true, false, List, [], ◌∷◌, length, get_or, map, replicate, ◌⊎◌, inl, inr, refl, sym, ap, ◌∙◌, subst, arith, pos}
 use Rattle.std.proofs.lemmas.Bool.{cases_eq, and_parts, and_from, or_left}
 use Rattle.std.proofs.lemmas.Int.{ints}
-use Rattle.std.proofs.lemmas.List.{length-replicate, length-map}
+use Rattle.std.proofs.lemmas.List.{length-replicate}
 use Rattle.std.proofs.lemmas.List.Elements.{All-replicate}
 use Rattle.std.proofs.lemmas.Option.{slice_get-get_or}
 use Rattle.mat_sets.specs.Limits.{largest_weight}
@@ -18,8 +18,9 @@ use Rattle.mat_sets.proofs.Members.{IsRising-nil, IsRising-union, is_member-unio
 use Rattle.mat_sets.proofs.SetTests.{IsSet-from_test, test_from-IsSet}
 use Rattle.mat_laws.specs.Ladders.{IsCut, IsRung}
 use Rattle.mat_laws.proofs.RankLaws.{rank_is}
-use Rattle.mat_count.specs.Counts.{is_counted}
-use Rattle.mat_count.specs.Labels.{caps_by, classes_by}
+use Rattle.mat_count.specs.Labels.{one_each}
+use Rattle.mat_count.specs.Partitions.{CappedClasses}
+use Rattle.mat_count.proofs.LabelledMatroids.{by_labels, labels_read, test_of}
 use Rattle.mat_graphic.specs.Forests.{is_forest, is_graphic}
 use Rattle.mat_graphic.specs.ForestLaws.{graphic_laws, IsForest-from_test, test_from-IsForest}
 use Rattle.mat_graphic.proofs.ComponentCounts.{rank_and_number}
@@ -29,10 +30,10 @@ use Rattle.mat_sets.proofs.Truths.{or_none}
 use Rattle.mat_split.specs.Ladders.{IsBoundedRung, IsLadder}
 use Rattle.mat_split.specs.declared.ladder.Rung.{Rung}
 use Rattle.mat_split.proofs.LaddersExist.{ladder_exists}
-use Rattle.mat_fronts.specs.Once.{AreLabelsOf, is_once, one_each}
+use Rattle.mat_fronts.specs.Once.{AreLabelsOf, is_once}
 use Rattle.mat_fronts.specs.Rainbow.{IsColouring, IsMissingColours, IsRainbowTree}
 use Rattle.mat_fronts.specs.Assignments.{AreCells, IsAssignment, IsAssignmentLadder, row_at, column_at}
-use Rattle.mat_fronts.proofs.OnceEach.{once_laws, once_apart, once_set, once_from, once_made, classes_read}
+use Rattle.mat_fronts.proofs.OnceEach.{once_laws, once_apart, once_set, once_from}
 use Rattle.mat_fronts.proofs.ColourCuts.{missing_excludes, missing_of_cut}
 
 module _ (vertices : ℕ) (edges : List (ℕ × ℕ)) (colours : ℕ) (colour_of : List ℕ) where
@@ -168,30 +169,23 @@ assignment_from_common rows columns cells X t p q = record {
 }
 
 -- the ladder of the matroids as they are made
-pub assignment_made : (rows columns : ℕ) (cells : List (ℕ × ℕ)) (w : List Weight) (rungs : List Rung) (cut : List ℕ)
-    (row_labels : List ℕ) (m : ℕ) (row_classes : List (List ℕ)) (row_caps : List ℕ)
-    (column_labels : List ℕ) (o : ℕ) (column_classes : List (List ℕ)) (column_caps : List ℕ)
-    → row_labels ≡ map (λ p. p.0) cells → m ≡ length row_labels → row_classes ≡ classes_by (length row_labels) rows (λ e. get_or row_labels e 0)
-    → row_caps ≡ caps_by rows one_each
-    → column_labels ≡ map (λ p. p.1) cells → o ≡ length column_labels
-    → column_classes ≡ classes_by (length column_labels) columns (λ e. get_or column_labels e 0) → column_caps ≡ caps_by columns one_each
-    → IsLadder m (is_counted m row_classes row_caps) (is_counted o column_classes column_caps) w rungs cut
-    → IsAssignmentLadder rows columns cells w rungs cut
-assignment_made rows columns cells w rungs cut row_labels m row_classes row_caps column_labels o column_classes column_caps r rm rs rc l lo ls lc h =
-    let first : m ≡ length cells = rm ∙ ap length r ∙ length-map cells (λ p. p.0) in
-    let second : o ≡ length cells = lo ∙ ap length l ∙ length-map cells (λ p. p.1) in
-    once_made (λ p. IsLadder (length cells) p (is_once (length cells) columns (column_at cells)) w rungs cut) (length cells) rows m (row_at cells) row_classes
-    row_caps first (classes_read (λ p. p.0) cells rows row_labels row_classes refl r rs) rc
-    (once_made (λ q. IsLadder (length cells) (is_counted m row_classes row_caps) q w rungs cut) (length cells) columns o (column_at cells) column_classes
-    column_caps second (classes_read (λ p. p.1) cells columns column_labels column_classes refl l ls) lc
-    (subst (λ (n : ℕ). IsLadder n (is_counted m row_classes row_caps) (is_counted o column_classes column_caps) w rungs cut) first h))
+pub assignment_made : (rows columns : ℕ) (cells : List (ℕ × ℕ)) (w : List Weight) (rungs : List Rung) (cut row_labels column_labels : List ℕ)
+    (by_row by_column : CappedClasses) → row_labels ≡ map (λ p. p.0) cells → column_labels ≡ map (λ p. p.1) cells
+    → by_row ≡ by_labels (length row_labels) rows (λ e. get_or row_labels e 0) one_each
+    → by_column ≡ by_labels (length column_labels) columns (λ e. get_or column_labels e 0) one_each
+    → IsLadder by_row.count (test_of by_row) (test_of by_column) w rungs cut → IsAssignmentLadder rows columns cells w rungs cut
+assignment_made rows columns cells w rungs cut row_labels column_labels by_row by_column r l rs ls h =
+    subst (λ (m : CappedClasses). IsLadder (length cells) (is_once (length cells) rows (row_at cells)) (test_of m) w rungs cut)
+    (ls ∙ labels_read (λ p. p.1) cells column_labels columns one_each refl l)
+    (subst (λ (m : CappedClasses). IsLadder m.count (test_of m) (test_of by_column) w rungs cut)
+    (rs ∙ labels_read (λ p. p.0) cells row_labels rows one_each refl r) h)
 
 pub rainbow_made : (edges given : List (ℕ × ℕ)) (colours : ℕ) (colour_of : List ℕ) (w : List Weight) (rungs : List Rung) (cut : List ℕ)
-    (m : ℕ) (classes : List (List ℕ)) (caps : List ℕ) → given ≡ edges → length colour_of ≡ length edges → m ≡ length colour_of
-    → classes ≡ classes_by (length colour_of) colours (λ e. get_or colour_of e 0) → caps ≡ caps_by colours one_each
-    → IsLadder (length given) (is_graphic (length given) (ends_of given)) (is_counted m classes caps) w rungs cut
+    (classes : CappedClasses) → given ≡ edges → length colour_of ≡ length edges
+    → classes ≡ by_labels (length colour_of) colours (λ e. get_or colour_of e 0) one_each
+    → IsLadder (length given) (is_graphic (length given) (ends_of given)) (test_of classes) w rungs cut
     → IsLadder (length edges) (is_graphic (length edges) (ends_of edges)) (is_once (length edges) colours (λ e. get_or colour_of e 0)) w rungs cut
-rainbow_made edges given colours colour_of w rungs cut m classes caps g long mm s c h =
-    once_made (λ q. IsLadder (length edges) (is_graphic (length edges) (ends_of edges)) q w rungs cut) (length edges) colours m (λ e. get_or colour_of e 0)
-    classes caps (mm ∙ long) (s ∙ ap (λ (k : ℕ). classes_by k colours (λ e. get_or colour_of e 0)) long) c
-    (subst (λ (es : List (ℕ × ℕ)). IsLadder (length es) (is_graphic (length es) (ends_of es)) (is_counted m classes caps) w rungs cut) g h)
+rainbow_made edges given colours colour_of w rungs cut classes g long s h =
+    subst (λ (m : CappedClasses). IsLadder (length edges) (is_graphic (length edges) (ends_of edges)) (test_of m) w rungs cut)
+    (s ∙ ap (λ (k : ℕ). by_labels k colours (λ e. get_or colour_of e 0) one_each) long)
+    (subst (λ (es : List (ℕ × ℕ)). IsLadder (length es) (is_graphic (length es) (ends_of es)) (test_of classes) w rungs cut) g h)

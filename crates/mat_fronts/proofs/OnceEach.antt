@@ -1,12 +1,7 @@
 -- At most one element of each label: the matroid, in words; and its rank is at least the number of labels.
-use Rattle.std.proofs.Common.{◌≡◌, ◌≢◌, ℕ, ◌+◌, ◌<◌, ◌≤◌, Bool, true, false, eqb, List, length, get_or, map, take, replicate, ◌⊎◌, inl, inr, refl, sym, ap, ◌∙◌, subst, arith}
+use Rattle.std.proofs.Common.{◌≡◌, ◌≢◌, ℕ, ◌+◌, ◌<◌, ◌≤◌, true, false, eqb, List, length, get_or, take, ◌⊎◌, inl, inr, refl, sym, ap, ◌∙◌, arith}
 use Rattle.std.proofs.lemmas.Bool.{eqb-true, eq-eqb, both_ways, false_from_ne_true, or_cases, or_left, or_right}
-use Rattle.std.proofs.lemmas.Grind.{same_number_lists}
-use Rattle.std.proofs.lemmas.List.{get_or-replicate, length-map, length-replicate}
-use Rattle.std.proofs.Math.ListN.{get_or-map as get_or_map}
-use mathlib.Core.Path.{fun_ext}
 use Rattle.mat_sets.proofs.Steps.{is_member-take_more}
-use Rattle.mat_count.specs.Counts.{is_counted}
 use Rattle.mat_sets.specs.Sets.{is_member, IsRising, IsSet, with_one}
 use Rattle.mat_sets.proofs.Ground.{IsSet-with_one, below_member}
 use Rattle.mat_sets.proofs.Members.{is_member-with_one}
@@ -14,17 +9,11 @@ use Rattle.mat_sets.proofs.Subsets.{find_member}
 use Rattle.mat_laws.specs.Matroids.{IsMatroid, IsMaximal}
 use Rattle.mat_laws.specs.Ranks.{rank}
 use Rattle.mat_laws.proofs.RankLaws.{maximal_in, rank-maximal}
-use Rattle.mat_count.specs.Labels.{AreApart, caps_by, classes_by}
+use Rattle.mat_count.specs.Labels.{AreApart, caps_by, classes_by, one_each}
 use Rattle.mat_count.specs.PartitionLaws.{partition_laws}
-use Rattle.mat_count.proofs.LabelClasses.{IsPartition-classes_by, caps_by-at, length-caps_by, labelled_apart, labelled_from, labelled_set}
+use Rattle.mat_count.proofs.LabelClasses.{IsPartition-classes_by, length-caps_by, labelled_apart, labelled_from, labelled_set}
 use Rattle.mat_sets.proofs.OneToOne.{length-covered}
-use Rattle.mat_fronts.specs.Once.{AreLabelsOf, is_once, one_each}
-
--- the caps as they are made
-pub caps_by-ones : (k : ℕ) → replicate k 1 ≡ caps_by k one_each
-caps_by-ones k = same_number_lists (replicate k 1) (caps_by k one_each) (length-replicate {A = ℕ} k 1 ∙ sym (length-caps_by k one_each)) (λ c l.
-    let small : c < k = rw (length-replicate {A = ℕ} k 1) at l in
-    get_or-replicate {A = ℕ} k c 1 0 small ∙ sym (caps_by-at k one_each c small))
+use Rattle.mat_fronts.specs.Once.{AreLabelsOf, is_once}
 
 pub once_laws : (n k : ℕ) (label : ℕ → ℕ) → IsMatroid n (is_once n k label)
 once_laws n k label =
@@ -82,25 +71,6 @@ module _ (n k : ℕ) (label : ℕ → ℕ) (below : (e : ℕ) → e < n → labe
             let out : is_member w.0 B ≡ false = false_from_ne_true _ (λ m. other w.0 m refl) in
             absurd (both_ways _ (max.full w.0 w.1 out) (once_more B w.0 max.passes (below_member s w.1) other))
       ]
-
--- ---- the matroid and the labels as they are made
-
--- what holds of the matroid that was made holds of the matroid of the labels
-pub once_made : (P : (List ℕ → Bool) → Type 0) (n k count : ℕ) (label : ℕ → ℕ) (classes : List (List ℕ)) (caps : List ℕ) → count ≡ n
-    → classes ≡ classes_by n k label → caps ≡ caps_by k one_each → P (is_counted count classes caps) → P (is_once n k label)
-once_made P n k count label classes caps c s q h =
-    subst (λ (cl : List (List ℕ)). P (is_counted n cl (caps_by k one_each))) s
-    (subst (λ (cp : List ℕ). P (is_counted n classes cp)) q (subst (λ (m : ℕ). P (is_counted m classes caps)) c h))
-
--- labels that are read off the items of a list
-pub classes_read : (f : ℕ × ℕ → ℕ) (items : List (ℕ × ℕ)) (k : ℕ) (labels : List ℕ) (classes : List (List ℕ)) → f (0, 0) ≡ 0
-    → labels ≡ map f items → classes ≡ classes_by (length labels) k (λ e. get_or labels e 0)
-    → classes ≡ classes_by (length items) k (λ e. f (get_or items e (0, 0)))
-classes_read f items k labels classes start is made =
-    let long : length labels ≡ length items = ap length is ∙ length-map items f in
-    let label : (λ (e : ℕ). get_or labels e 0) ≡ (λ (e : ℕ). f (get_or items e (0, 0))) = fun_ext (λ e.
-    ap (λ xs. get_or xs e 0) is ∙ ap (λ d. get_or (map f items) e d) (sym start) ∙ get_or_map f items e (0, 0)) in
-    made ∙ ap (λ (g : ℕ → ℕ). classes_by (length labels) k g) label ∙ ap (λ (m : ℕ). classes_by m k (λ e. f (get_or items e (0, 0)))) long
 
 -- ---- labels gathered one by one
 

@@ -1,11 +1,7 @@
 -- The partition matroid with one class for each label, and the cap 1 for each (Schrijver, chapter 39).
 use Rattle.std.specs.Prelude.{◌≡◌, ℕ, Bool, true, List}
 use Rattle.mat_sets.specs.Sets.{is_member}
-use Rattle.mat_count.specs.Labels.{is_labelled}
-
--- the cap of each label
-abbrev pub one_each : ℕ → ℕ
-one_each c = 1
+use Rattle.mat_count.specs.Labels.{is_labelled, one_each}
 
 -- at most one element of each label below k
 abbrev pub is_once : ℕ → ℕ → (ℕ → ℕ) → List ℕ → Bool

@@ -4,7 +4,7 @@ ghost use Rattle.mat_sets.specs.Limits.{most_elements, largest_weight};
 ghost use Rattle.mat_sets.specs.Weights.{AreWeightsWithin};
 ghost use Rattle.mat_fronts.specs.Assignments.{AreCells, IsAssignmentLadder};
 
-use crate::once::at_most_one;
+use mat_count::Partition;
 use mat_sets::{Pairs, Weight};
 use mat_split::{Ladder, intersect_all};
 use std::alloc::{AllocError, Global};
@@ -33,7 +33,7 @@ pub fn assign<R: Threads + Sync>(
 {
     let row_of = cells.firsts(alloc)?;
     let column_of = cells.seconds(alloc)?;
-    let by_row = at_most_one(alloc, &row_of, rows)?;
-    let by_column = at_most_one(alloc, &column_of, columns)?;
+    let by_row = Partition::one_for_each_label(alloc, &row_of, rows)?;
+    let by_column = Partition::one_for_each_label(alloc, &column_of, columns)?;
     intersect_all(rt, alloc, &by_row, &by_column, weights, workers)
 }

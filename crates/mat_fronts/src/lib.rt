@@ -3,7 +3,6 @@
 
 mod assignment;
 pub mod laws;
-mod once;
 mod rainbow_ladder;
 mod rainbow_search;
 

@@ -7,8 +7,8 @@ ghost use Rattle.mat_sets.specs.Weights.{AreWeightsWithin};
 ghost use Rattle.mat_fronts.specs.Once.{AreLabelsOf};
 ghost use Rattle.mat_fronts.specs.Rainbow.{IsColouring, IsRainbowLadder};
 
-use crate::once::at_most_one;
 use crate::rainbow_ladder::RainbowLadder;
+use mat_count::Partition;
 use mat_graphic::Graphic;
 use mat_sets::{ElemSet, Pairs, Weight};
 use mat_split::intersect_all;
@@ -53,7 +53,7 @@ pub fn rainbow<R: Threads + Sync>(
     ensures { IfOk result (λ r. IsRainbowLadder vertices edges.now colours colour_of.now weights.now r.ladder.rungs.items r.ladder.cut r.missing) }
 {
     let graphic = Graphic::new(alloc, vertices, edges.copy(alloc)?)?;
-    let classes = at_most_one(alloc, colour_of, colours)?;
+    let classes = Partition::one_for_each_label(alloc, colour_of, colours)?;
     let ladder = intersect_all(rt, alloc, &graphic, &classes, weights, workers)?;
     if ladder.rungs.len() == vertices as usize {
         return Ok(RainbowLadder {

@@ -9,7 +9,7 @@ use Rattle.mat_arbor.specs.Heads.{is_entering_once}
 use Rattle.mat_arbor.proofs.LeastTrees.{common_from_arborescence}
 use Rattle.mat_check.specs.Clauses.{heaviest_clause}
 use Rattle.mat_check.proofs.FailingClauses.{first_of_failing, first_of_holding}
-use Rattle.mat_check.proofs.LabelledMatroids.{test_of}
+use Rattle.mat_count.proofs.LabelledMatroids.{test_of}
 use Rattle.mat_check.proofs.least.beaten_failure.Goals as goal
 
 pub is_beaten_under-requires-clause-passes : goal.is_beaten_under-requires-clause-passes

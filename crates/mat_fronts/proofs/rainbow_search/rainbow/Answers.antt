@@ -7,9 +7,9 @@ use Rattle.mat_fronts.proofs.rainbow_search.rainbow.Goals as goal
 pub returns-then-len-vertices : goal.returns-then-len-vertices
 returns-then-len-vertices g c = record {
   ladder = rainbow_made c.args.edges.now c.in_ok-graphic.graphic.edges c.args.colours c.args.colour_of.now c.args.weights.now
-      c.in_ok-ladder.ladder.rungs.items c.in_ok-ladder.ladder.cut c.in_ok-classes.classes.count c.in_ok-classes.classes.classes c.in_ok-classes.classes.caps
-      (ap (λ (g : Graphic). g.edges) c.in_ok-graphic.ensures.value ∙ c.in_ok-copy.ensures) c.requires.colouring.long c.in_ok-classes.ensures.count c.in_ok-classes.ensures.classes
-      c.in_ok-classes.ensures.caps c.in_ok-ladder.ensures;
+      c.in_ok-ladder.ladder.rungs.items c.in_ok-ladder.ladder.cut c.in_ok-classes.classes
+      (ap (λ (g : Graphic). g.edges) c.in_ok-graphic.ensures.value ∙ c.in_ok-copy.ensures) c.requires.colouring.long c.in_ok-classes.ensures.value
+      c.in_ok-ladder.ensures;
   missing_colours = omega (arith, c.len.ensures, c.if-len-vertices.true, c.in_ok-ladder.ladder.rungs.ok);
 }
 
@@ -24,9 +24,9 @@ pub returns : goal.returns
 returns g c =
     let rungs = c.in_ok-ladder.ladder.rungs in
     let ladder = rainbow_made c.args.edges.now c.in_ok-graphic.graphic.edges c.args.colours c.args.colour_of.now c.args.weights.now
-    rungs.items c.in_ok-ladder.ladder.cut c.in_ok-classes.classes.count c.in_ok-classes.classes.classes c.in_ok-classes.classes.caps
-    (ap (λ (g : Graphic). g.edges) c.in_ok-graphic.ensures.value ∙ c.in_ok-copy.ensures) c.requires.colouring.long c.in_ok-classes.ensures.count c.in_ok-classes.ensures.classes
-    c.in_ok-classes.ensures.caps c.in_ok-ladder.ensures in
+    rungs.items c.in_ok-ladder.ladder.cut c.in_ok-classes.classes
+    (ap (λ (g : Graphic). g.edges) c.in_ok-graphic.ensures.value ∙ c.in_ok-copy.ensures) c.requires.colouring.long c.in_ok-classes.ensures.value
+    c.in_ok-ladder.ensures in
     record {
       ladder = ladder;
       missing_colours = missing_of_ladder c.args.vertices c.args.edges.now c.args.colours c.args.colour_of.now c.requires.graph

@@ -2,8 +2,8 @@ use Rattle.std.proofs.Common.{◌∙◌, ap, get_or, length, refl, arith}
 use Rattle.std.proofs.lemmas.Result.{IfOk-weaker}
 use Rattle.mat_count.proofs.LabelClasses.{length-caps_by}
 use Rattle.mat_arbor.specs.Heads.{cap_at}
-use Rattle.mat_check.proofs.LabelledMatroids.{caps_made, labels_read}
-use Rattle.mat_check.proofs.labels.entering_once.Goals as goal
+use Rattle.mat_count.proofs.LabelledMatroids.{caps_made, labels_read}
+use Rattle.mat_check.proofs.heads.entering_once.Goals as goal
 
 pub by_labels-requires-clause-capped : goal.by_labels-requires-clause-capped
 by_labels-requires-clause-capped c =

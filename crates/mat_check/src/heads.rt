@@ -1,48 +1,21 @@
-//! Partition matroids with one class for each label.
+//! The partition matroid of the heads of arcs.
 
-ghost use Rattle.std.specs.Prelude.{◌≡◌, ◌<◌, ◌^◌, length, replicate, slice_index, IfOk};
+ghost use Rattle.std.specs.Prelude.{◌≡◌, ◌<◌, ◌^◌, length, IfOk};
 ghost use Rattle.mat_sets.specs.Graphs.{ends_of};
 ghost use Rattle.mat_count.specs.Labels.{caps_by, classes_by};
 ghost use Rattle.mat_count.specs.Partitions.{IsPartition};
 ghost use Rattle.mat_arbor.specs.Heads.{cap_at, head_of};
-ghost use Rattle.mat_fronts.specs.Once.{one_each};
 
 use mat_count::Partition;
 use mat_sets::Pairs;
 use std::alloc::{AllocError, Global};
-
-// As many caps, each of them 1.
-fn ones(alloc: Global, count: u32) -> Result<Vec<u32>, AllocError>
-    ensures { IfOk result (λ v. v.items ≡ replicate count 1) }
-{
-    vec![in alloc; 1; count as usize]
-}
-
-/// The partition matroid with one class for each label below their count, and the cap 1 for each: element e has the e-th label. The
-/// only error is want of memory.
-pub(crate) fn at_most_one(
-    alloc: Global,
-    labels: &[u32],
-    count: u32,
-) -> Result<Partition, AllocError>
-    requires few { length labels.now < 2 ^ 32 }
-    ensures value { IfOk result (λ p. p ≡ record {
-      count = length labels.now;
-      classes = classes_by (length labels.now) count (slice_index labels.now);
-      caps = caps_by count one_each;
-    }) }
-    ensures sound { IfOk result (λ p. IsPartition p.count p.classes p.caps) }
-{
-    let caps = ones(alloc, count)?;
-    Partition::by_labels(alloc, labels, caps)
-}
 
 // How many arcs may enter each vertex: none the root, and one each other.
 fn head_caps(alloc: Global, vertices: u32, root: u32) -> Result<Vec<u32>, AllocError>
     requires { root < vertices }
     ensures { IfOk result (λ v. v.items ≡ caps_by vertices (cap_at root)) }
 {
-    let mut caps = ones(alloc, vertices)?;
+    let mut caps = vec![in alloc; 1; vertices as usize]?;
     caps[root as usize] = 0;
     Ok(caps)
 }
