@@ -1,5 +1,5 @@
 //! A union of unions as one union of all their matroids.
-ghost use Rattle.std.specs.Prelude.{◌≡◌, ◌++◌, List, map, IfOk, IfSome, OnOk};
+ghost use Rattle.std.specs.Prelude.{◌≡◌, ◌++◌, IfOk, IfSome, OnOk};
 ghost use Rattle.mat_union.specs.UnionsOf.{AreJoined};
 ghost use Rattle.mat_any.specs.FlatUnions.{IsFlat};
 ghost use Rattle.mat_any.specs.Joined.{trees_in};

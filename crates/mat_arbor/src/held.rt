@@ -8,7 +8,7 @@ ghost use Rattle.mat_cuts.specs.Checking.{IsAdded};
 ghost use Rattle.mat_cuts.specs.Costs.{cost_at, IsWideCost};
 ghost use Rattle.mat_cuts.specs.Cuts.{weight_on};
 ghost use Rattle.mat_cuts.specs.Limits.{cut_bound};
-ghost use Rattle.mat_arbor.specs.Held.{held_weight, weight_around, AreHeldWeights, IsCutWithin};
+ghost use Rattle.mat_arbor.specs.Held.{weight_around, AreHeldWeights, IsCutWithin};
 
 use mat_cuts::CutWeight;
 use std::alloc::{AllocError, Global};

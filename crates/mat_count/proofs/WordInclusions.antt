@@ -9,7 +9,7 @@ use Rattle.std.proofs.lemmas.Nat.{and_le_r}
 use Rattle.std.proofs.lemmas.Nat.Bits.{bit_at-lt, bit_at-trailing_zeros, bit_at-zero, bit_at_and, bit_at_not}
 use Rattle.mat_sets.specs.Bits.{bits_of, has_bit}
 use Rattle.mat_sets.specs.Search.{IsNextFrom}
-use Rattle.mat_sets.specs.Sets.{is_member, intersection, minus, IsSubset}
+use Rattle.mat_sets.specs.Sets.{is_member, intersection, IsSubset}
 use Rattle.mat_sets.proofs.Bits.{has_bit_past, is_member-bits_of}
 use Rattle.mat_sets.proofs.LevelSearch.{some_member}
 use Rattle.mat_sets.proofs.Members.{is_member-filter}

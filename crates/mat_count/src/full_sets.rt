@@ -1,5 +1,5 @@
 //! The listed sets that an independent set fills.
-ghost use Rattle.std.specs.Prelude.{⊤, ◌≡◌, ◌<◌, ℕ, List, length, slice_index_or, IfOk, MatchOption, None, Some};
+ghost use Rattle.std.specs.Prelude.{⊤, ◌≡◌, ◌<◌, ℕ, List, length, slice_index_or, IfOk, MatchOption, None};
 ghost use Rattle.mat_sets.specs.Sets.{AllBelow, IsRising};
 ghost use Rattle.mat_count.specs.FullSets.{AreFullSets, IsSmallest, kept_at, has_fewer, row_of_entry, where_full};
 

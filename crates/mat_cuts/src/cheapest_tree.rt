@@ -4,7 +4,7 @@
 //! left at an arc that enters it, and this weight is taken from each arc that enters it. So one of them is spent; its tail comes to the
 //! end of the path, or closes up all sets from its place on. When an arc is spent it gets a time: how many sets were listed.
 //! At the end a tree grows from the root, always by the arc with the earliest time, and enters each listed set once.
-ghost use Rattle.std.specs.Prelude.{◌≡◌, ◌≤◌, ◌<◌, ◌+◌, ◌-◌, ◌≤ℤ◌, ◌<ℤ◌, ℕ, length, true, pos, All, IfOk, OnOk};
+ghost use Rattle.std.specs.Prelude.{◌≡◌, ◌≤◌, ◌<◌, ◌+◌, ◌≤ℤ◌, ◌<ℤ◌, ℕ, length, true, pos, All, IfOk, OnOk};
 ghost use Rattle.mat_cuts.specs.Limits.{never, vertex_bound, arc_bound};
 ghost use Rattle.mat_sets.specs.Graphs.{IsGraph};
 ghost use Rattle.mat_cuts.specs.Costs.{cost_at, IsCost, IsWideCost};

@@ -1,5 +1,5 @@
 //! Which ends of disjoint paths can give way to another vertex (Schrijver, chapters 9 and 16).
-ghost use Rattle.std.specs.Prelude.{◌≡◌, ◌↔◌, ℕ, List, [], Option, true, false, Some, IfOk};
+ghost use Rattle.std.specs.Prelude.{◌≡◌, ◌↔◌, ℕ, List, [], true, false, Some, IfOk};
 ghost use Rattle.mat_sets.specs.Sets.{is_member, with_one};
 ghost use Rattle.mat_flow.specs.Digraphs.{IsTurned};
 ghost use Rattle.mat_flow.specs.LinkedEnds.{IsLinkedTo};

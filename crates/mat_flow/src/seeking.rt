@@ -1,7 +1,6 @@
 //! The search that ends at the first goal that it meets, among vertices that no search before has reached in vain (Schrijver, chapter 6).
-ghost use Rattle.std.specs.Prelude.{◌≡◌, ◌<◌, ◌≤◌, ◌&&◌, ◌||◌, ◌^◌, ℕ, Bool, List, [], true, false, not, length, slice_index, IfOk, OnOk, OnErr, IfSome, MatchOption, is_none};
-ghost use Rattle.mat_sets.specs.Rounds.{AreTaken};
-ghost use Rattle.mat_sets.specs.Sets.{is_member, all_below, AreDistinct, IsRising};
+ghost use Rattle.std.specs.Prelude.{◌≡◌, ◌<◌, ◌||◌, ◌^◌, ℕ, Bool, List, true, length, IfOk, OnOk};
+ghost use Rattle.mat_sets.specs.Sets.{is_member, all_below, IsRising};
 ghost use Rattle.mat_flow.specs.Seeking.{found_in, live_in, IsChain, IsFollowed, IsRoom, IsSought, IsTake, IsTraced};
 
 use crate::search_graph::SearchGraph;

@@ -1,5 +1,5 @@
 //! The search for rainbow spanning trees.
-ghost use Rattle.std.specs.Prelude.{◌≡◌, ◌<◌, ◌≤◌, length, slice_index, IfOk};
+ghost use Rattle.std.specs.Prelude.{◌≡◌, ◌≤◌, length, slice_index, IfOk};
 ghost use Rattle.mat_sets.specs.Limits.{most_vertices, most_elements, largest_weight};
 ghost use Rattle.mat_sets.specs.Graphs.{IsGraph};
 ghost use Rattle.mat_sets.specs.Sets.{AllBelow, IsRising};

@@ -1,5 +1,5 @@
 //! Matchings of elements with sets that hold them, made larger along augmenting walks.
-ghost use Rattle.std.specs.Prelude.{◌≡◌, ◌<◌, ◌^◌, ℕ, List, [], Some, false, length, IfOk, OnOk};
+ghost use Rattle.std.specs.Prelude.{◌≡◌, ◌<◌, ℕ, List, [], Some, false, length, IfOk, OnOk};
 ghost use Rattle.mat_sets.specs.Sets.{intersection, is_member, with_one, AllBelow, AreDistinct, IsRising};
 ghost use Rattle.mat_flow.specs.LinkTables.{entry_at};
 ghost use Rattle.mat_laws.specs.GreedyRuns.{grown_along};

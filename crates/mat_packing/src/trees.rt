@@ -1,5 +1,5 @@
 //! Disjoint spanning trees of a graph.
-ghost use Rattle.std.specs.Prelude.{◌≡◌, ◌<◌, ◌≤◌, ◌^◌, ◌↔◌, ◌==◌, true, length, map, slice_index, IfOk};
+ghost use Rattle.std.specs.Prelude.{◌≡◌, ◌<◌, ◌≤◌, ◌^◌, ◌↔◌, true, length, map, slice_index, IfOk};
 ghost use Rattle.mat_sets.specs.Limits.{most_vertices, most_elements};
 ghost use Rattle.mat_sets.specs.Graphs.{IsGraph};
 ghost use Rattle.mat_packing.specs.Answers.{is_partition, HasNoTrees, IsRightTreesAnswer};

@@ -1,5 +1,5 @@
 //! A set of numbers kept as bits, seen as a strictly rising list.
-ghost use Rattle.std.specs.Prelude.{◌≡◌, ℕ, ◌&&◌, ◌||◌, ◌<◌, ◌≤◌, ◌^◌, [], length, max, IfOk, OnOk, OnErr};
+ghost use Rattle.std.specs.Prelude.{◌≡◌, ℕ, ◌&&◌, ◌||◌, ◌≤◌, ◌^◌, [], length, max, IfOk, OnOk, OnErr};
 ghost use Rattle.mat_sets.specs.Bits.{bits_of};
 ghost use Rattle.mat_sets.specs.Search.{IsNextFrom};
 ghost use Rattle.mat_sets.specs.Sets.{all_below, is_member, with_one, without_one};

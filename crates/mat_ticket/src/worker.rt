@@ -1,7 +1,6 @@
 //! Workers that draw tickets and compute their rows.
-ghost use Rattle.std.specs.Prelude.{◌≡◌, ◌+◌, ◌-◌, ◌<◌, ◌≤◌, [], ℕ, IfOk, OnOk, length, slice_index_or};
+ghost use Rattle.std.specs.Prelude.{◌≡◌, ◌<◌, ◌≤◌, [], ℕ, IfOk, OnOk, length, slice_index_or};
 ghost use Rattle.std.specs.List.{AllByRecursion, sum_by};
-ghost use denote.Param.Send.{IsSync, IsSend};
 ghost use Rattle.mat_ticket.specs.WordStates.{ticket_view};
 ghost use Rattle.mat_ticket.specs.Outputs.{IsOutput, IsLast};
 ghost use Rattle.mat_ticket.specs.Workers.{share_of, IsDone, IsFresh};

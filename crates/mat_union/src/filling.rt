@@ -1,5 +1,5 @@
 //! Parts that are filled up.
-ghost use Rattle.std.specs.Prelude.{◌≡◌, ◌<◌, not, map, IfOk};
+ghost use Rattle.std.specs.Prelude.{◌≡◌, not, map, IfOk};
 ghost use Rattle.mat_sets.specs.Families.{family_union};
 ghost use Rattle.mat_sets.specs.Search.{those_below};
 ghost use Rattle.mat_sets.specs.Sets.{is_member};

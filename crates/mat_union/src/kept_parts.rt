@@ -1,5 +1,5 @@
 //! Parts of an independent set of a union, with what each matroid keeps of its part.
-ghost use Rattle.std.specs.Prelude.{◌≡◌, ◌<◌, ◌^◌, true, false, length, map, IfOk, OnOk, MatchOption};
+ghost use Rattle.std.specs.Prelude.{◌≡◌, ◌<◌, ◌^◌, false, length, map, IfOk, OnOk, MatchOption};
 ghost use Rattle.mat_sets.specs.Families.{family_union};
 ghost use Rattle.mat_sets.specs.Sets.{all_below, is_member, AllBelow, IsRising, IsSubset};
 ghost use Rattle.mat_laws.specs.Exchanges.{row_of};

@@ -1,5 +1,5 @@
 //! The graph in which a search for moves looks for a walk.
-ghost use Rattle.std.specs.Prelude.{◌≡◌, ◌<◌, ◌||◌, ℕ, true, length, IfOk, OnOk};
+ghost use Rattle.std.specs.Prelude.{◌≡◌, ◌<◌, ◌||◌, ℕ, length, IfOk, OnOk};
 ghost use Rattle.mat_sets.specs.Families.{family_union};
 ghost use Rattle.mat_sets.specs.Sets.{is_member};
 ghost use Rattle.mat_union.specs.MoveGraphs.{AreLong, IsPushTable};

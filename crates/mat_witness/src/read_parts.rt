@@ -5,7 +5,6 @@ ghost use Rattle.mat_sets.specs.Limits.{most_elements};
 ghost use Rattle.mat_words.specs.Cursors.{lines_left, words_left};
 ghost use Rattle.mat_words.specs.Steps.{repeat_at};
 ghost use Rattle.mat_witness.specs.BoundRows.{behind};
-ghost use Rattle.mat_any.specs.Trees.{gf2, gammoid, graphic};
 ghost use Rattle.mat_any.specs.Views.{tree_of};
 ghost use Rattle.mat_cert.specs.Faults.{Gives};
 ghost use Rattle.mat_cert.specs.LineReading.{below_at};

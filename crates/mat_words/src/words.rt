@@ -1,7 +1,7 @@
 //! The words of a line.
 
 ghost use Rattle.std.specs.Prelude.{◌≡◌, ◌<◌, ◌≤◌, ◌+◌, ◌↔◌, [], ◌∷◌, length};
-ghost use Rattle.std.specs.Prelude.{slice_get, MatchOption, IfSome, IsTrue, Some, None, ℕ, List};
+ghost use Rattle.std.specs.Prelude.{slice_get, MatchOption, IfSome, IsTrue, Some, ℕ, List};
 ghost use Rattle.std.specs.List.{list_all, join_with_byte, slice_split};
 ghost use Rattle.mat_words.specs.Words.{words_of, parts_of, is_byte, is_word, is_well_spaced, IsWellSpaced};
 ghost use Rattle.mat_words.specs.Lines.{HasNoNewline};
