@@ -18,16 +18,24 @@ mod running;
 mod search;
 mod union_of;
 
+// Best and filled parts, and the union as a matroid.
 pub use best::{Level, UnionAnswer, best_union};
-pub use empty::{empty_parts, first_parts};
-pub use ended::{PlaceSearch, found_place, row_by_search};
-pub use exchange_list::ExchangeList;
+pub use empty::empty_parts;
 pub use filling::{Filled, fill_parts};
+pub use moved_sets::members_of;
+pub use union_of::UnionOf;
+
+// The search for moves over rows that are all at hand.
+pub use exchange_list::ExchangeList;
+pub use moved_sets::moved_parts;
+pub use moves::{Move, Moves};
+pub use search::union_search;
+
+// Steps of runs and rows, for a crate whose matroids are a tree of kinds.
+pub use empty::first_parts;
+pub use ended::{PlaceSearch, found_place, row_by_search};
 pub use growth::{Growth, is_changed, mark_spanned, put_kept};
 pub use kept_parts::KeptParts;
 pub use move_graph::stands;
 pub use move_search::{MoveSearch, Question};
-pub use moved_sets::{members_of, moved_parts, parts_with};
-pub use moves::{Move, Moves};
-pub use search::union_search;
-pub use union_of::UnionOf;
+pub use moved_sets::parts_with;
