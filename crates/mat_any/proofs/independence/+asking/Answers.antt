@@ -1,3 +1,5 @@
+-- A restriction asks only of sets of kept elements, a contraction only of sets that are disjoint from what is contracted, joined with a maximal
+-- independent subset of that, and a union runs through the set.
 use Rattle.std.proofs.Common.{◌≡◌, subst, sym, ap, ◌∙◌, rules}
 use Rattle.std.proofs.lemmas.Bool.{both_ways}
 use Rattle.std.proofs.lemmas.Result.{IfOk-weaker}

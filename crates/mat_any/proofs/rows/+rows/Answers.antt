@@ -1,3 +1,5 @@
+-- Each kind that is made of others has its row by the law about rows that its minor or dual obeys; the row of a union is read off the search
+-- for moves that ends, whose questions are rows of its matroids.
 use Rattle.std.proofs.Common.{◌≡◌, ◌&&◌, ◌<◌, ltb, length, get_or, map, refl, subst, sym, ap, ◌∙◌, rules}
 use Rattle.std.proofs.lemmas.Bool.{ltb-true}
 use Rattle.std.proofs.lemmas.Result.{IfOk-weaker}

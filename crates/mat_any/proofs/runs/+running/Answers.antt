@@ -1,3 +1,5 @@
+-- Each kind that is made of others runs as its law about runs says: a dual by what a run along the reversed order
+-- leaves out, a truncation by the first that a run takes, minors along a changed order, a union by parts that grow. What is kept is kept within.
 use Rattle.std.proofs.Common.{◌≡◌, ℕ, ◌+◌, ◌<◌, List, Bool, ◌++◌, [], get_or, map, reverse, refl, subst, sym, ap, ◌∙◌, rules}
 use Rattle.std.proofs.lemmas.Result.{IfOk-weaker}
 use Rattle.std.proofs.lemmas.Bool.{or_right}

@@ -1,3 +1,5 @@
+-- The weight of the sets around the head of an arc, its cost and what is left of it are small, so the sum and the difference fit; by the cuts they are
+-- the weight of the sets that hold both ends.
 use Rattle.std.proofs.Common.{◌∙◌, ◌<◌, length, pos, arith}
 use Rattle.std.proofs.lemmas.Int.{ints}
 use Rattle.std.proofs.lemmas.List.{get_or_default}

@@ -1,3 +1,5 @@
+-- The costs are raised to numbers, whose cheapest tree is priced by cuts; the weights that the cuts hold at each arc split its cost in two halves,
+-- which show that the tree is least. Where the search ends at a set that no arc enters, there is no arborescence.
 use Rattle.std.proofs.Common.{◌∙◌, ◌^◌, ◌≤ℤ◌, ℕ, List, pos, length, refl, subst, sym, ap, arith}
 use Rattle.std.proofs.lemmas.Int.{ints}
 use Rattle.std.proofs.lemmas.List.{length-map}

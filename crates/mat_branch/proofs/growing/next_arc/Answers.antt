@@ -1,3 +1,5 @@
+-- Each live arc is looked at once: it is refused, or doesn't leave what is reached, or can be spared and taken. At the end of the list all arcs that
+-- leave would be refused, which cannot be while a vertex is not reached.
 use Rattle.std.proofs.Common.{◌∙◌, ◌<◌, ◌+◌, ◌≡◌, length, get_or, ap, subst, sym, inl, inr, arith}
 use Rattle.mat_sets.specs.Graphs.{ends_of}
 use Rattle.mat_sets.specs.Sets.{is_member, with_one}

@@ -1,3 +1,5 @@
+-- The arborescence is a common independent set of the graphic matroid and of the partition matroid of the heads; each clause says that no independent
+-- set of its size is heavier under one half.
 use Rattle.std.proofs.Common.{◌≡◌, ◌∙◌, ℕ, List, [], ◌∷◌, true, not, ap, length, subst, sym}
 use Rattle.mat_sets.specs.Graphs.{ends_of}
 use Rattle.mat_sets.specs.Weights.{weight_at}

@@ -1,3 +1,5 @@
+-- The clauses come in their order: overlaps, the parts one by one, the weight, the levels. The first that fails is the first of the whole list where
+-- none before it fails.
 use Rattle.std.proofs.Common.{◌≡◌, ◌∷◌, length, map, sym, subst, ap, ◌∙◌}
 use Rattle.std.proofs.lemmas.Result.{IfOk-weaker}
 use Rattle.mat_sets.specs.Families.{family_union}

@@ -1,3 +1,5 @@
+-- The counters hold how many elements of the set so far each listed set has. An element is added where none of the sets that hold it is full, and
+-- then these are counted up.
 use Rattle.std.proofs.Common.{◌≡◌, eqb, [], length, get_or, replicate, rules, refl, sym, ap, ◌∙◌, arith}
 use Rattle.std.proofs.lemmas.Bool.{not-false, not-true}
 use Rattle.std.specs.List.{filter}

@@ -1,3 +1,5 @@
+-- Each turn of the search spends an arc that enters the last set of the path, or ends at a set that no arc enters. When
+-- no vertex is left for a path to begin at, what each arc has paid is that of the listed cuts, and the tree that grows from the root is right.
 use Rattle.std.proofs.Common.{◌≡◌, replicate, set, eqb, [], rules, length, sym, ap, subst, arith, ◌∙◌}
 use Rattle.std.proofs.lemmas.Bool.{lt-ltb}
 use Rattle.std.proofs.lemmas.Int.{ints}

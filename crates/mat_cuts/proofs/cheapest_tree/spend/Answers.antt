@@ -1,3 +1,5 @@
+-- The arcs that are asked for their least cost are those that enter the last set of the path. Where there are some, a least one is spent and each
+-- of them pays; where there are none, no arc enters the set.
 use Rattle.std.proofs.Common.{◌∙◌, length, ap, subst, sym, arith}
 use Rattle.mat_sets.specs.Graphs.{ends_of}
 use Rattle.mat_sets.specs.Search.{those_below}

@@ -1,3 +1,5 @@
+-- The tree always takes the earliest timed arc that leaves what is reached: there is one while a vertex is not reached, and it keeps that each
+-- listed set is entered once, from which the cost of the tree follows.
 use Rattle.std.proofs.Common.{◌∙◌, suc, length, ap, subst, arith}
 use Rattle.std.proofs.lemmas.Bool.{ltb-true}
 use Rattle.mat_cuts.specs.Limits.{never}

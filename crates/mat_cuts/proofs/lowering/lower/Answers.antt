@@ -1,3 +1,5 @@
+-- No arc is lowered twice, so what is left at the next one is still its whole cost, and at least what is taken; after the last one exactly the
+-- listed arcs are lowered.
 use mir.Syntax.{w128}
 use Rattle.std.proofs.Common.{◌≡◌, ◌<◌, ◌∙◌, length, get_or, take, pos, ap, subst, inl, inr, refl, arith, to_z, of_z}
 use Rattle.std.proofs.lemmas.Int.{ints, to_z-of_z}

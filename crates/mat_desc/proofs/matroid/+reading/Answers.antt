@@ -1,3 +1,5 @@
+-- For each keyword what follows it is read as the definition reads it; the matroids of a list are read one after the other, as often as they are
+-- counted, up to the first fault.
 use Rattle.std.proofs.Common.{◌≡◌, ◌<◌, Some, map, rules, arith}
 use Rattle.std.proofs.lemmas.Result.{err_from_is_err_and}
 use Rattle.std.proofs.lemmas.List.{map-append}

@@ -1,3 +1,5 @@
+-- What is left to read is the same function at the next word: it fails where there is no word, where the word is too long, and where it is a name
+-- already, and else goes on with one name more.
 use Rattle.std.proofs.Common.{◌≡◌, ◌+◌, true, false, [], ◌∷◌, ◌++◌, length, refl, sym, ap, ◌∙◌}
 use Rattle.std.specs.Prelude.{nat_lt}
 use Rattle.std.proofs.lemmas.Bool.{lt-ltb, le-ltb, not-true, not-false}

@@ -1,3 +1,5 @@
+-- A union is written as its line with the number of its matroids, and then their lines one after the other; names are there for the matroids
+-- within where they are there for the whole.
 use Rattle.std.proofs.Common.{◌≡◌, ℕ, ◌<◌, ◌^◌, List, [], ◌∷◌, ◌++◌, length, map, get_or, pos, ap, subst, sym, ◌∙◌, rules, arith}
 use Rattle.std.specs.List.{flat_map}
 use Rattle.std.specs.Prelude.{All, codes}

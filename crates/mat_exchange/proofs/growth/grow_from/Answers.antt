@@ -1,3 +1,5 @@
+-- The invariant gives the bounds that each step requires; the loop enters one element more each time, so that fewer are left, and ends at a
+-- sink or where no change does either.
 use Rattle.std.proofs.Common.{◌∙◌, refl, arith}
 use Rattle.mat_exchange.proofs.GrowthSteps.{growth_start, first_within, second_within, total_within, reached_below, other_below, gains_within}
 use Rattle.mat_exchange.proofs.GrowthSteps.{top_within, inside_within, enter_below, enter_within, enter_outside, shifted_entered, entered, fewer_left}

@@ -1,3 +1,5 @@
+-- Where u can be exchanged for v, v can be added, or only exchanged: the first such v is the earlier of the first of both sorts. Where u
+-- outweighs each element that can be added, none of these weighs as much.
 use Rattle.std.proofs.Common.{◌≡◌, ◌&&◌, ◌||◌, ◌∙◌, ℕ, Bool, true, false, not, Option, None, Some, refl, sym, ap, arith}
 use Rattle.std.proofs.lemmas.Bool.{both_ways, false_from_ne_true}
 use Rattle.std.proofs.lemmas.Int.{ints}

@@ -1,3 +1,5 @@
+-- Each turn adds a path along a walk of the residual graph, or what the search reached is a cut of as many arcs as there are paths; at the end the
+-- table is read as the paths.
 use Rattle.std.proofs.Common.{◌∙◌, ap, length, subst, sym, arith}
 use Rattle.mat_sets.specs.Graphs.{ends_of}
 use Rattle.mat_sets.specs.Sets.{all_below}

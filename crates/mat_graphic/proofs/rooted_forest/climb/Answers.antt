@@ -1,3 +1,5 @@
+-- The later of the two places is a root or a child of an earlier one, so each step makes the later place smaller and keeps that the edges so far join the
+-- two vertices to the two places; where the later one is a root, the trees are different.
 use Rattle.std.proofs.Common.{◌<◌, ◌∙◌, length, arith}
 use Rattle.mat_graphic.proofs.Climbing.{IsClimbing-start, IsClimbing-end, IsClimbing-left, IsClimbing-right, climbed_apart}
 use Rattle.mat_graphic.proofs.TrailScans.{item_of}

@@ -1,3 +1,5 @@
+-- The run over the whole order is traced: an element is in it exactly where the set so far can take it. So the sets along the order are those of the
+-- greedy algorithm, one more at each element that is taken.
 use Rattle.std.proofs.Common.{◌≡◌, ℕ, ◌+◌, List, get_or, ◌++◌, [], ◌∷◌, if◌then◌else◌, refl, subst, sym, ap, ◌∙◌}
 use Rattle.mat_sets.specs.Sets.{is_member, with_one, AreDistinct}
 use Rattle.mat_sets.specs.Weights.{weight_at}

@@ -1,3 +1,5 @@
+-- First the loop over the vertices of the base that are not in the next set takes their paths away, then that over the new vertices adds a path
+-- for each; in between the paths end at the common vertices.
 use Rattle.std.proofs.Common.{get_or, refl, arith, subst, sym, ◌∙◌}
 use Rattle.mat_flow.specs.LinkedEnds.{IsLinkedTo}
 use Rattle.mat_flow.specs.Reroutes.{AreReroutes}

@@ -1,3 +1,5 @@
+-- Without a loop each part of the elements has a rank, so a cut tells how many sets it needs; while the sets leave an element out, the cut is larger
+-- than what they hold of it and needs more sets.
 use Rattle.std.proofs.Common.{◌∙◌, ◌-◌, ◌<◌, ap, arith, length, subst, sym}
 use Rattle.std.specs.Prelude.{MatchOption}
 use Rattle.mat_sets.specs.Sets.{IsSet}

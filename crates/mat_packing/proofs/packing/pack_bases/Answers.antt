@@ -1,3 +1,5 @@
+-- While the copies are not all filled to bases, their cut allows fewer bases than were tried for; so the number falls until all are full, and the last
+-- cut shows that there is no base more.
 use Rattle.std.proofs.Common.{◌≡◌, ◌∙◌, ◌-◌, ◌/◌, ap, arith, length, subst, sym}
 use Rattle.mat_sets.specs.Sets.{all_below, minus}
 use Rattle.mat_sets.proofs.Ground.{IsSet-nil}

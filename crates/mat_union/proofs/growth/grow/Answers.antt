@@ -1,3 +1,5 @@
+-- Either the element finds a place, and the parts hold one element more, or the search is stuck, and then the reached elements are spanned in each
+-- matroid; either way the element is done with.
 use Rattle.std.proofs.Common.{◌≡◌, ◌∙◌, ◌||◌, ap, eqb, map, subst, sym, true}
 use Rattle.std.proofs.lemmas.Bool.{or_right}
 use Rattle.mat_sets.specs.Families.{family_union}

@@ -1,3 +1,5 @@
+-- After some columns of the independent set each has a probe that it alone of them meets oddly, and the rows meet all of them evenly. A next column
+-- without a row that it meets oddly would be a sum of those before it.
 use Rattle.std.proofs.Common.{◌≡◌, ℕ, List, ◌^◌, ◌<◌, ◌∙◌, ap, sym, subst, map, length, get_or, arith}
 use Rattle.std.proofs.lemmas.Grind.{common_steps}
 use Rattle.std.proofs.lemmas.List.{get_or_default}

@@ -1,3 +1,5 @@
+-- The rung stands in the ladder and so is in range; once its weights are told to be as many as the elements, its set and its halves fit the problem,
+-- as the tests of the parts require.
 use Rattle.std.proofs.Common.{◌≡◌, ℕ, true, eqb, ltb, List, length, get_or, refl, sym, ◌∙◌, subst}
 use Rattle.std.proofs.lemmas.Bool.{and_parts, eqb-true, ltb-true}
 use Rattle.std.proofs.lemmas.Option.{slice_get_read}

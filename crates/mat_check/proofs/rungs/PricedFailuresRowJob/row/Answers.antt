@@ -1,3 +1,5 @@
+-- The number of the row is that of a rung of the ladder, so the rung is in range, and the weights of heaviest sets at its place are those under its
+-- two halves.
 use Rattle.std.proofs.Common.{◌<◌, [], length, slice_index_or, sym, subst}
 use Rattle.std.proofs.lemmas.Option.{slice_get-get_or}
 use Rattle.std.proofs.lemmas.Result.{IfOk-weaker}

@@ -1,3 +1,5 @@
+-- A search in the residual graph either finds a walk, along which the table moves on to paths with one end more, or spends what it reached; either way
+-- what the searches spent still leads to no goal.
 use Rattle.std.proofs.Common.{[], None, Some, subst, sym, arith}
 use Rattle.mat_flow.specs.LinkTables.{IsShifted}
 use Rattle.mat_flow.specs.Seeking.{IsRoom}

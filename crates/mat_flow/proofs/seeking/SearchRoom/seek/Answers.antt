@@ -1,3 +1,5 @@
+-- The loop keeps that the found vertices form a chain from the starts and that none before this place has a live arc left; where it ends with a
+-- goal the chain is traced back to a walk, and where it ends without one all that the starts reach was found.
 use Rattle.std.proofs.Common.{◌≡◌, ◌||◌, ℕ, ◌<◌, ◌≤◌, arith, length, get_or, None, refl, sym, subst}
 use Rattle.mat_sets.specs.Sets.{is_member}
 use Rattle.mat_flow.specs.Seeking.{IsChain, IsTake}
