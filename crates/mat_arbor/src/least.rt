@@ -3,6 +3,7 @@ ghost use Rattle.std.specs.Prelude.{◌≡◌, ◌<◌, ◌≤◌, ◌↔◌, tr
 ghost use Rattle.mat_sets.specs.Limits.{largest_weight, most_vertices, most_elements};
 ghost use Rattle.mat_sets.specs.Graphs.{IsGraph};
 ghost use Rattle.mat_sets.specs.Weights.{AreWeightsWithin};
+ghost use Rattle.mat_work.specs.Workers.{AreWorkers};
 ghost use Rattle.mat_arbor.specs.Arborescences.{HasNoArborescence, IsRightArbor, is_unreached};
 
 use crate::arbor::Arbor;
@@ -83,7 +84,7 @@ pub fn least_arborescence<R: Threads + Sync>(
     requires few { length arcs.now ≤ most_elements }
     requires lengths { length costs.now ≡ length arcs.now }
     requires small { AreWeightsWithin largest_weight costs.now }
-    requires workers { (1 ≤ workers) × (workers ≤ 16) }
+    requires workers { AreWorkers workers }
     ensures right { IfOk result (IsRightArbor vertices arcs.now costs.now root) }
     ensures unreached { IfOk result (λ a. (is_unreached a ≡ true) ↔ HasNoArborescence vertices arcs.now root) }
 {

@@ -1,6 +1,7 @@
 //! Checking an answer.
 
-ghost use Rattle.std.specs.Prelude.{◌≡◌, ◌↔◌, ◌≤◌, true, IfOk};
+ghost use Rattle.std.specs.Prelude.{◌≡◌, ◌↔◌, true, IfOk};
+ghost use Rattle.mat_work.specs.Workers.{AreWorkers};
 ghost use Rattle.mat_cert.specs.Certificates.{IsRanged};
 ghost use Rattle.mat_cert.specs.Views.{certificate_of};
 ghost use Rattle.mat_check.specs.AnswerClauses.{answer_clauses, failure_of, has_header};
@@ -36,7 +37,7 @@ fn answer_failure<R: Threads + Sync>(
     requires sound { IsSoundInstance (instance_of problem.now) }
     requires ranged { IsRanged (certificate_of answer.now) }
     requires header { has_header (instance_of problem.now) (certificate_of answer.now) ≡ true }
-    requires workers { (1 ≤ workers) × (workers ≤ 16) }
+    requires workers { AreWorkers workers }
     ensures { IfOk result (λ found. found ≡ first_failure (answer_clauses (instance_of problem.now) (certificate_of answer.now))) }
 {
     match problem {
@@ -100,7 +101,7 @@ pub fn check<R: Threads + Sync>(
     requires valid { IsValid (instance_of problem.now) }
     requires sound { IsSoundInstance (instance_of problem.now) }
     requires ranged { IsRanged (certificate_of answer.now) }
-    requires workers { (1 ≤ workers) × (workers ≤ 16) }
+    requires workers { AreWorkers workers }
     ensures failure { IfOk result (λ v. failure_in v ≡ failure_of (instance_of problem.now) (certificate_of answer.now)) }
     ensures yes { IfOk result (λ v. (v ≡ Yes) ↔ IsRight (instance_of problem.now) (certificate_of answer.now)) }
 {

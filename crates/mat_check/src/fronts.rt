@@ -1,10 +1,11 @@
 //! The clauses of rainbow spanning trees and of assignments: ladders of the two matroids that they are common independent sets of.
 
-ghost use Rattle.std.specs.Prelude.{◌≡◌, ◌≤◌, ◌++◌, length, slice_index, IfOk};
+ghost use Rattle.std.specs.Prelude.{◌≡◌, ◌++◌, length, slice_index, IfOk};
 ghost use Rattle.mat_sets.specs.Limits.{largest_weight};
 ghost use Rattle.mat_sets.specs.Graphs.{IsGraph, ends_of};
 ghost use Rattle.mat_sets.specs.Weights.{AreWeightsWithin};
 ghost use Rattle.mat_graphic.specs.Forests.{is_graphic};
+ghost use Rattle.mat_work.specs.Workers.{AreWorkers};
 ghost use Rattle.mat_fronts.specs.Assignments.{column_at, row_at};
 ghost use Rattle.mat_fronts.specs.Once.{is_once};
 ghost use Rattle.mat_cert.specs.Certificates.{IsRangedLadder};
@@ -39,7 +40,7 @@ pub(crate) fn assign_failure<R: Threads + Sync>(
     requires lengths { length weights.now ≡ length cells.now }
     requires small { AreWeightsWithin largest_weight weights.now }
     requires ranged { IsRangedLadder (length cells.now) rungs.now cut.now }
-    requires workers { (1 ≤ workers) × (workers ≤ 16) }
+    requires workers { AreWorkers workers }
     ensures { IfOk result (λ found. found ≡ first_failure (ladder_clauses (length cells.now) (is_once (length cells.now) rows (row_at cells.now))
         (is_once (length cells.now) columns (column_at cells.now)) weights.now rungs.now cut.now)) }
 {
@@ -76,7 +77,7 @@ fn rainbow_ladder_failure<R: Threads + Sync>(
     requires lengths { length weights.now ≡ length edges.now }
     requires small { AreWeightsWithin largest_weight weights.now }
     requires ranged { IsRangedLadder (length edges.now) rungs.now cut.now }
-    requires workers { (1 ≤ workers) × (workers ≤ 16) }
+    requires workers { AreWorkers workers }
     ensures { IfOk result (λ found. found ≡ first_failure (ladder_clauses (length edges.now) (is_graphic (length edges.now) (ends_of edges.now))
         (is_once (length edges.now) colours (slice_index colour_of.now)) weights.now rungs.now cut.now)) }
 {
@@ -110,7 +111,7 @@ pub(crate) fn rainbow_failure<R: Threads + Sync>(
     requires lengths { length weights.now ≡ length edges.now }
     requires small { AreWeightsWithin largest_weight weights.now }
     requires ranged { IsRangedLadder (length edges.now) rungs.now cut.now }
-    requires workers { (1 ≤ workers) × (workers ≤ 16) }
+    requires workers { AreWorkers workers }
     ensures { IfOk result (λ found. found ≡ first_failure (ladder_clauses (length edges.now) (is_graphic (length edges.now) (ends_of edges.now))
         (is_once (length edges.now) colours (slice_index colour_of.now)) weights.now rungs.now cut.now
         ++ colours_clauses vertices (length edges.now) (ends_of edges.now) (slice_index colour_of.now) missing.now)) }

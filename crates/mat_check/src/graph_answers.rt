@@ -1,6 +1,7 @@
 //! The clauses of answers about graphs and tables.
 
-ghost use Rattle.std.specs.Prelude.{◌≡◌, ◌≤◌, true, IfOk};
+ghost use Rattle.std.specs.Prelude.{◌≡◌, true, IfOk};
+ghost use Rattle.mat_work.specs.Workers.{AreWorkers};
 ghost use Rattle.mat_cert.specs.Certificates.{IsRanged};
 ghost use Rattle.mat_cert.specs.Views.{certificate_of};
 ghost use Rattle.mat_check.specs.AnswerClauses.{answer_clauses, has_header};
@@ -99,7 +100,7 @@ pub(crate) fn coloured_failure<R: Threads + Sync>(
     requires valid { IsValid (coloured vertices colours edges.now colour_of.now weights.now) }
     requires ranged { IsRanged (certificate_of answer.now) }
     requires header { has_header (coloured vertices colours edges.now colour_of.now weights.now) (certificate_of answer.now) ≡ true }
-    requires workers { (1 ≤ workers) × (workers ≤ 16) }
+    requires workers { AreWorkers workers }
     ensures { IfOk result (λ found. found ≡ first_failure (answer_clauses
         (coloured vertices colours edges.now colour_of.now weights.now) (certificate_of answer.now))) }
 {
@@ -140,7 +141,7 @@ pub(crate) fn table_failure<R: Threads + Sync>(
     requires valid { IsValid (table rows columns cells.now weights.now) }
     requires ranged { IsRanged (certificate_of answer.now) }
     requires header { has_header (table rows columns cells.now weights.now) (certificate_of answer.now) ≡ true }
-    requires workers { (1 ≤ workers) × (workers ≤ 16) }
+    requires workers { AreWorkers workers }
     ensures { IfOk result (λ found. found ≡ first_failure (answer_clauses (table rows columns cells.now weights.now) (certificate_of answer.now))) }
 {
     match answer {

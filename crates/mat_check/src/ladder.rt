@@ -1,10 +1,11 @@
 //! The clauses of a ladder of two matroids, and of the heaviest sets of one.
 
-ghost use Rattle.std.specs.Prelude.{◌≡◌, ◌≤◌, length, IfOk};
+ghost use Rattle.std.specs.Prelude.{◌≡◌, length, IfOk};
 ghost use Rattle.mat_sets.specs.Limits.{largest_weight};
 ghost use Rattle.mat_sets.specs.Weights.{AreWeightsWithin};
 ghost use Rattle.mat_any.specs.Trees.{element_count, is_independent, IsSound};
 ghost use Rattle.mat_any.specs.Views.{tree_of};
+ghost use Rattle.mat_work.specs.Workers.{AreWorkers};
 ghost use Rattle.mat_cert.specs.Certificates.{AreRangedRungs, IsRangedLadder, IsRangedPlainRung};
 ghost use Rattle.mat_check.specs.Clauses.{best_clauses, first_failure, ladder_clauses};
 
@@ -34,7 +35,7 @@ pub(crate) fn ladder_failure<R: Threads + Sync>(
     requires second_lengths { length both.now.weights.now ≡ element_count (tree_of both.now.second.now) }
     requires small { AreWeightsWithin largest_weight both.now.weights.now }
     requires ranged { IsRangedLadder (length both.now.weights.now) rungs.now cut.now }
-    requires workers { (1 ≤ workers) × (workers ≤ 16) }
+    requires workers { AreWorkers workers }
     ensures { IfOk result (λ found. found ≡ first_failure (ladder_clauses (length both.now.weights.now) (is_independent (tree_of both.now.first.now))
         (is_independent (tree_of both.now.second.now)) both.now.weights.now rungs.now cut.now)) }
 {
@@ -61,7 +62,7 @@ pub(crate) fn best_failure<R: Threads + Sync>(
     requires lengths { length weights.now ≡ element_count (tree_of m.now) }
     requires small { AreWeightsWithin largest_weight weights.now }
     requires ranged { AreRangedRungs (IsRangedPlainRung (length weights.now)) (length weights.now) rungs.now }
-    requires workers { (1 ≤ workers) × (workers ≤ 16) }
+    requires workers { AreWorkers workers }
     ensures { IfOk result (λ found. found ≡ first_failure (best_clauses (length weights.now) (is_independent (tree_of m.now)) weights.now rungs.now)) }
 {
     if let Some(failure) = plain_rungs_failure(rt, alloc, m, weights, rungs, workers)? {

@@ -1,7 +1,8 @@
 //! The clauses of answers about matroids: about a pair, about a list, and about a list of one.
 
-ghost use Rattle.std.specs.Prelude.{◌≡◌, ◌≤◌, ◌∷◌, [], true, false, map, IfOk};
+ghost use Rattle.std.specs.Prelude.{◌≡◌, ◌∷◌, [], true, false, map, IfOk};
 ghost use Rattle.mat_any.specs.Views.{tree_of};
+ghost use Rattle.mat_work.specs.Workers.{AreWorkers};
 ghost use Rattle.mat_cert.specs.Certificates.{IsRanged};
 ghost use Rattle.mat_cert.specs.Views.{certificate_of};
 ghost use Rattle.mat_check.specs.AnswerClauses.{answer_clauses, has_header};
@@ -36,7 +37,7 @@ pub(crate) fn pair_failure<R: Threads + Sync>(
     requires ranged { IsRanged (certificate_of answer.now) }
     requires header { has_header (pair both.now.weights.now (tree_of both.now.first.now) (tree_of both.now.second.now)) (certificate_of answer.now)
         ≡ true }
-    requires workers { (1 ≤ workers) × (workers ≤ 16) }
+    requires workers { AreWorkers workers }
     ensures { IfOk result (λ found. found ≡ first_failure (answer_clauses
         (pair both.now.weights.now (tree_of both.now.first.now) (tree_of both.now.second.now)) (certificate_of answer.now))) }
 {
@@ -61,7 +62,7 @@ fn single_failure<R: Threads + Sync>(
     requires sound { IsSoundInstance (list weights.now (tree_of m.now ∷ [])) }
     requires ranged { IsRanged (certificate_of answer.now) }
     requires header { has_header (list weights.now (tree_of m.now ∷ [])) (certificate_of answer.now) ≡ true }
-    requires workers { (1 ≤ workers) × (workers ≤ 16) }
+    requires workers { AreWorkers workers }
     requires one { is_union (certificate_of answer.now) ≡ false }
     ensures { IfOk result (λ found. found ≡ first_failure (answer_clauses (list weights.now (tree_of m.now ∷ [])) (certificate_of answer.now))) }
 {
@@ -88,7 +89,7 @@ pub(crate) fn list_failure<R: Threads + Sync>(
     requires sound { IsSoundInstance (list weights.now (map tree_of matroids.now)) }
     requires ranged { IsRanged (certificate_of answer.now) }
     requires header { has_header (list weights.now (map tree_of matroids.now)) (certificate_of answer.now) ≡ true }
-    requires workers { (1 ≤ workers) × (workers ≤ 16) }
+    requires workers { AreWorkers workers }
     ensures { IfOk result (λ found. found ≡ first_failure (answer_clauses (list weights.now (map tree_of matroids.now)) (certificate_of answer.now))) }
 {
     match answer {

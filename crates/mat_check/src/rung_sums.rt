@@ -6,6 +6,7 @@ ghost use Rattle.mat_sets.specs.Weights.{weight_at};
 ghost use Rattle.mat_any.specs.Trees.{element_count, is_independent, IsSound};
 ghost use Rattle.mat_any.specs.Views.{tree_of};
 ghost use Rattle.mat_greedy.specs.Greedy.{AreHeaviestWeights};
+ghost use Rattle.mat_work.specs.Workers.{AreWorkers};
 ghost use Rattle.mat_cert.specs.Certificates.{IsRangedPart};
 ghost use Rattle.mat_check.specs.Halves.{halves_of, half_at};
 
@@ -125,7 +126,7 @@ pub(crate) fn rung_sums<R: Threads + Sync>(
     requires few { element_count (tree_of m.now) ≤ most_elements }
     requires no_more { length rungs.now ≤ most_elements + 1 }
     requires ranged { (k : ℕ) → k < length rungs.now → IsRangedPart (element_count (tree_of m.now)) (half_at (halves_of side rungs.now) k) }
-    requires workers { (1 ≤ workers) × (workers ≤ 16) }
+    requires workers { AreWorkers workers }
     ensures count { IfOk result (λ sums. length sums ≡ length rungs.now) }
     ensures heaviest { IfOk result (λ sums. (k : ℕ) → k < length rungs.now
         → AreHeaviestWeights (element_count (tree_of m.now)) (is_independent (tree_of m.now)) (weight_at (half_at (halves_of side rungs.now) k))

@@ -1,10 +1,11 @@
 //! The clauses of all rungs: each rung is judged from its own data.
 
-ghost use Rattle.std.specs.Prelude.{◌≡◌, ◌≤◌, length, IfOk};
+ghost use Rattle.std.specs.Prelude.{◌≡◌, length, IfOk};
 ghost use Rattle.mat_sets.specs.Limits.{largest_number};
 ghost use Rattle.mat_sets.specs.Weights.{AreWeightsWithin};
 ghost use Rattle.mat_any.specs.Trees.{element_count, is_independent, IsSound};
 ghost use Rattle.mat_any.specs.Views.{tree_of};
+ghost use Rattle.mat_work.specs.Workers.{AreWorkers};
 ghost use Rattle.mat_cert.specs.Certificates.{AreRangedRungs, IsRangedPlainRung, IsRangedPricedRung};
 ghost use Rattle.mat_check.specs.Clauses.{first_failure, numbered_clauses, plain_rung_clauses, priced_rung_clauses};
 ghost use Rattle.mat_check.specs.RungFailures.{first_in_order};
@@ -163,7 +164,7 @@ pub(crate) fn plain_rungs_failure<R: Threads + Sync>(
     requires lengths { length weights.now ≡ element_count (tree_of m.now) }
     requires small { AreWeightsWithin largest_number weights.now }
     requires ranged { AreRangedRungs (IsRangedPlainRung (length weights.now)) (length weights.now) rungs.now }
-    requires workers { (1 ≤ workers) × (workers ≤ 16) }
+    requires workers { AreWorkers workers }
     ensures { IfOk result (λ found. found
         ≡ first_failure (numbered_clauses (plain_rung_clauses (length weights.now) (is_independent (tree_of m.now)) weights.now) 0 rungs.now)) }
 {
@@ -196,7 +197,7 @@ pub(crate) fn priced_rungs_failure<R: Threads + Sync>(
     requires second_lengths { length pair.now.weights.now ≡ element_count (tree_of pair.now.second.now) }
     requires small { AreWeightsWithin largest_number pair.now.weights.now }
     requires ranged { AreRangedRungs (IsRangedPricedRung (length pair.now.weights.now)) (length pair.now.weights.now) rungs.now }
-    requires workers { (1 ≤ workers) × (workers ≤ 16) }
+    requires workers { AreWorkers workers }
     ensures { IfOk result (λ found. found
         ≡ first_failure (numbered_clauses (priced_rung_clauses (length pair.now.weights.now) (is_independent (tree_of pair.now.first.now))
         (is_independent (tree_of pair.now.second.now)) pair.now.weights.now) 0 rungs.now)) }

@@ -2,6 +2,7 @@
 ghost use Rattle.std.specs.Prelude.{◌≡◌, ◌<◌, ◌≤◌, ◌+◌, true, length, IfOk, OnOk};
 ghost use Rattle.mat_sets.specs.Limits.{most_elements};
 ghost use Rattle.mat_laws.specs.Exchanges.{rows_of};
+ghost use Rattle.mat_work.specs.Workers.{AreWorkers};
 ghost use Rattle.mat_exchange.specs.RowTables.{IsFilledTable};
 
 use crate::partial_table::{PartialTable, table_of};
@@ -131,7 +132,7 @@ pub fn rows_from_kept<R: Threads + Sync, M: Matroid>(
     requires independent { M.indep m.now set.now ≡ true }
     requires few { M.ground_size m.now ≤ most_elements }
     requires kept { M.keeps m.now set.now kept.now }
-    requires workers { (1 ≤ workers) × (workers ≤ 16) }
+    requires workers { AreWorkers workers }
     ensures { IfOk result (λ t. t ≡ rows_of (M.ground_size m.now) (M.indep m.now) set.now) }
 {
     m.lawful();
@@ -160,7 +161,7 @@ pub fn rows<R: Threads + Sync, M: Matroid>(
     requires sound { M.sound m.now }
     requires independent { M.indep m.now set.now ≡ true }
     requires few { M.ground_size m.now ≤ most_elements }
-    requires workers { (1 ≤ workers) × (workers ≤ 16) }
+    requires workers { AreWorkers workers }
     ensures { IfOk result (λ t. t ≡ rows_of (M.ground_size m.now) (M.indep m.now) set.now) }
 {
     let kept = m.keep(alloc, set)?;

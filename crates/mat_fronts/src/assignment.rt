@@ -2,6 +2,7 @@
 ghost use Rattle.std.specs.Prelude.{◌≡◌, ◌≤◌, length, IfOk};
 ghost use Rattle.mat_sets.specs.Limits.{most_elements, largest_weight};
 ghost use Rattle.mat_sets.specs.Weights.{AreWeightsWithin};
+ghost use Rattle.mat_work.specs.Workers.{AreWorkers};
 ghost use Rattle.mat_fronts.specs.Assignments.{AreCells, IsAssignmentLadder};
 
 use mat_count::Partition;
@@ -28,7 +29,7 @@ pub fn assign<R: Threads + Sync>(
     requires few { length cells.now ≤ most_elements }
     requires lengths { length weights.now ≡ length cells.now }
     requires small { AreWeightsWithin largest_weight weights.now }
-    requires workers { (1 ≤ workers) × (workers ≤ 16) }
+    requires workers { AreWorkers workers }
     ensures { IfOk result (λ l. IsAssignmentLadder rows columns cells.now weights.now l.rungs.items l.cut) }
 {
     let row_of = cells.firsts(alloc)?;

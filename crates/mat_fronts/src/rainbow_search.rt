@@ -4,6 +4,7 @@ ghost use Rattle.mat_sets.specs.Limits.{most_vertices, most_elements, largest_we
 ghost use Rattle.mat_sets.specs.Graphs.{IsGraph};
 ghost use Rattle.mat_sets.specs.Sets.{AllBelow, IsRising};
 ghost use Rattle.mat_sets.specs.Weights.{AreWeightsWithin};
+ghost use Rattle.mat_work.specs.Workers.{AreWorkers};
 ghost use Rattle.mat_fronts.specs.Once.{AreLabelsOf};
 ghost use Rattle.mat_fronts.specs.Rainbow.{IsColouring, IsRainbowLadder};
 
@@ -49,7 +50,7 @@ pub fn rainbow<R: Threads + Sync>(
     requires colouring { IsColouring (length edges.now) colours colour_of.now }
     requires lengths { length weights.now ≡ length edges.now }
     requires small { AreWeightsWithin largest_weight weights.now }
-    requires workers { (1 ≤ workers) × (workers ≤ 16) }
+    requires workers { AreWorkers workers }
     ensures { IfOk result (λ r. IsRainbowLadder vertices edges.now colours colour_of.now weights.now r.ladder.rungs.items r.ladder.cut r.missing) }
 {
     let graphic = Graphic::new(alloc, vertices, edges.copy(alloc)?)?;

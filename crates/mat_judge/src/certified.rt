@@ -1,6 +1,7 @@
 //! The certificate in a file, judged against a problem.
 
 ghost use Rattle.std.specs.Prelude.{◌≡◌, ◌≤◌, ℕ, List, OnOk, IfOk, IfErr, IfSome};
+ghost use Rattle.mat_work.specs.Workers.{AreWorkers};
 ghost use Rattle.mat_cert.specs.Certificates.{IsRanged};
 ghost use Rattle.mat_cert.specs.Views.{certificate_of};
 ghost use Rattle.mat_check.specs.Right.{IsRight};
@@ -110,7 +111,7 @@ pub fn right_answer_in<R: Threads + Sync, F: Shelf>(
 ) -> Result<Answer, NotRight>
     requires valid { IsValid (instance_of problem.now) }
     requires sound { IsSoundInstance (instance_of problem.now) }
-    requires workers { (1 ≤ workers) × (workers ≤ 16) }
+    requires workers { AreWorkers workers }
     ensures held { (other : List ℕ) → F.held files.new other ≡ F.held files.old other }
     ensures grows { (other : List ℕ) → F.faults files.old other ≤ F.faults files.new other }
     ensures ranged { IfOk result (λ a. IsRanged (certificate_of a)) }
@@ -142,7 +143,7 @@ pub fn judge<R: Threads + Sync, F: Shelf>(
 ) -> Result<(), NotRight>
     requires valid { IsValid (instance_of problem.now) }
     requires sound { IsSoundInstance (instance_of problem.now) }
-    requires workers { (1 ≤ workers) × (workers ≤ 16) }
+    requires workers { AreWorkers workers }
     ensures held { (other : List ℕ) → F.held files.new other ≡ F.held files.old other }
     ensures grows { (other : List ℕ) → F.faults files.old other ≤ F.faults files.new other }
     ensures right { OnOk result (IfSome (F.held files.old name.now) (HasRightAnswer (instance_of problem.now))) }

@@ -1,6 +1,7 @@
 //! The answers to queries.
 
-ghost use Rattle.std.specs.Prelude.{◌≡◌, ◌≤◌, true, IfOk};
+ghost use Rattle.std.specs.Prelude.{◌≡◌, true, IfOk};
+ghost use Rattle.mat_work.specs.Workers.{AreWorkers};
 ghost use Rattle.mat_cert.specs.Views.{certificate_of};
 ghost use Rattle.mat_desc.specs.Grammar.{IsValid};
 ghost use Rattle.mat_desc.specs.Soundness.{IsSoundInstance};
@@ -30,7 +31,7 @@ pub fn solve<R: Threads + Sync>(
     requires sound { IsSoundInstance (instance_of problem.now) }
     requires range { IsQueryInRange query }
     requires form { has_form query (instance_of problem.now) ≡ true }
-    requires workers { (1 ≤ workers) × (workers ≤ 16) }
+    requires workers { AreWorkers workers }
     ensures of_query { IfOk result (λ answer. IsAnswerOf query (certificate_of answer)) }
     ensures solution { IfOk result (λ answer. IsSolution (instance_of problem.now) (certificate_of answer)) }
 {
@@ -56,8 +57,8 @@ pub fn solve<R: Threads + Sync>(
 /// How many of the workers pay where a solver makes rows of the problem's matroids: all where a union stands within one of a pair, since each
 /// row takes a search then, and else one, since a row takes less time than a thread takes to start.
 fn worthwhile_workers(problem: &Problem, workers: u32) -> u32
-    requires { (1 ≤ workers) × (workers ≤ 16) }
-    ensures { (1 ≤ result) × (result ≤ 16) }
+    requires { AreWorkers workers }
+    ensures { AreWorkers result }
 {
     match problem {
         Problem::Pair { first, second, .. } => {

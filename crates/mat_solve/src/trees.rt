@@ -1,6 +1,7 @@
 //! Trees: spanning trees and arborescences.
 
 ghost use Rattle.std.specs.Prelude.{◌≡◌, ◌≤◌, true, IfOk};
+ghost use Rattle.mat_work.specs.Workers.{AreWorkers};
 ghost use Rattle.mat_desc.specs.Views.{instance_of};
 ghost use Rattle.mat_desc.specs.Grammar.{IsValid};
 ghost use Rattle.mat_cert.specs.Views.{certificate_of};
@@ -57,7 +58,7 @@ pub(crate) fn arborescence<R: Threads + Sync>(
 ) -> Result<Answer, AllocError>
     requires valid { IsValid (instance_of problem.now) }
     requires form { is_rooted (instance_of problem.now) ≡ true }
-    requires workers { (1 ≤ workers) × (workers ≤ 16) }
+    requires workers { AreWorkers workers }
     ensures of_query { IfOk result (λ answer. IsAnswerOf Query.Arborescence (certificate_of answer)) }
     ensures solution { IfOk result (λ answer. IsSolution (instance_of problem.now) (certificate_of answer)) }
 {

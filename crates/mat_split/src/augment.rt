@@ -3,6 +3,7 @@
 ghost use Rattle.std.specs.Prelude.{◌≡◌, ◌<◌, ◌≤◌, ℕ, length, IfOk};
 ghost use Rattle.mat_sets.specs.Limits.{most_elements, largest_weight};
 ghost use Rattle.mat_sets.specs.Weights.{IsWeightWithin};
+ghost use Rattle.mat_work.specs.Workers.{AreWorkers};
 ghost use Rattle.mat_split.specs.Augmenting.{weights_of, IsSplitRung, IsAugmented};
 
 use crate::augmented::Augmented;
@@ -31,7 +32,7 @@ pub fn augment<R: Threads + Sync, A: Matroid, B: Matroid>(
     requires second_sound { B.sound b.now }
     requires ground { B.ground_size b.now ≡ A.ground_size a.now }
     requires few { A.ground_size a.now ≤ most_elements }
-    requires workers { (1 ≤ workers) × (workers ≤ 16) }
+    requires workers { AreWorkers workers }
     requires small { (e : ℕ) → e < A.ground_size a.now → IsWeightWithin largest_weight (weights_of rung.now e) }
     requires rung { IsSplitRung (A.ground_size a.now) (A.indep a.now) (B.indep b.now) (weights_of rung.now) (length rung.now.set) rung.now }
     requires first_kept { A.keeps a.now rung.now.set first_kept.now }

@@ -3,6 +3,7 @@
 ghost use Rattle.std.specs.Prelude.{◌≡◌, ◌≤◌, [], length, replicate, IfOk};
 ghost use Rattle.mat_sets.specs.Limits.{most_elements, largest_weight};
 ghost use Rattle.mat_sets.specs.Weights.{zero_weight, AreWeightsWithin};
+ghost use Rattle.mat_work.specs.Workers.{AreWorkers};
 ghost use Rattle.mat_split.specs.Ladders.{IsLadder};
 
 use crate::augment::augment;
@@ -46,7 +47,7 @@ pub fn intersect_all<R: Threads + Sync, A: Matroid, B: Matroid>(
     requires second_sound { B.sound b.now }
     requires ground { B.ground_size b.now ≡ A.ground_size a.now }
     requires few { A.ground_size a.now ≤ most_elements }
-    requires workers { (1 ≤ workers) × (workers ≤ 16) }
+    requires workers { AreWorkers workers }
     requires lengths { length weights.now ≡ A.ground_size a.now }
     requires small { AreWeightsWithin largest_weight weights.now }
     ensures { IfOk result (λ l. IsLadder (A.ground_size a.now) (A.indep a.now) (B.indep b.now) weights.now l.rungs.items l.cut) }

@@ -2,6 +2,7 @@
 
 ghost use Rattle.std.specs.Prelude.{◌≡◌, ◌≤◌, true, IfOk};
 ghost use Rattle.mat_sets.specs.Limits.{most_elements};
+ghost use Rattle.mat_work.specs.Workers.{AreWorkers};
 ghost use Rattle.mat_desc.specs.Grammar.{IsValid};
 ghost use Rattle.mat_desc.specs.Soundness.{IsSoundInstance};
 ghost use Rattle.mat_desc.specs.Views.{instance_of};
@@ -46,7 +47,7 @@ fn checked_answer<R: Threads + Sync>(
     requires sound { IsSoundInstance (instance_of problem.now) }
     requires range { IsQueryInRange query }
     requires form { has_form query (instance_of problem.now) ≡ true }
-    requires workers { (1 ≤ workers) × (workers ≤ 16) }
+    requires workers { AreWorkers workers }
     ensures of_query { IfOk result (λ answer. IsAnswerOf query (certificate_of answer)) }
     ensures solution { IfOk result (λ answer. IsSolution (instance_of problem.now) (certificate_of answer)) }
 {
@@ -70,7 +71,7 @@ fn summary_of<R: Threads + Sync>(
     requires sample { instance_of problem.now ≡ sample_of kind size seed }
     requires valid { IsValid (instance_of problem.now) }
     requires sound { IsSoundInstance (instance_of problem.now) }
-    requires workers { (1 ≤ workers) × (workers ≤ 16) }
+    requires workers { AreWorkers workers }
     ensures { IfOk result (λ v. IsSummary kind size seed v.items) }
 {
     let answer = checked_answer(rt, alloc, problem, query_of_kind(kind), workers)?;
@@ -93,7 +94,7 @@ pub fn sample_text<R: Threads + Sync>(
     requires few { size ≤ most_elements }
     requires seed_least { 1 ≤ seed }
     requires seed_most { seed ≤ 2147483646 }
-    requires workers { (1 ≤ workers) × (workers ≤ 16) }
+    requires workers { AreWorkers workers }
     ensures { IfOk result (λ v. IsSummary kind size seed v.items) }
 {
     let problem = sample(alloc, kind, size, seed)?;

@@ -1,6 +1,7 @@
 //! The rows of a job, whose numbers the workers draw.
 ghost use Rattle.std.specs.Prelude.{◌≡◌, ◌≤◌, IfOk, length};
 ghost use Rattle.mat_work.specs.Rows.{StandFrom};
+ghost use Rattle.mat_work.specs.Workers.{AreWorkers};
 ghost use Rattle.mat_ticket.specs.Tickets.{AreTickets};
 
 use crate::drawn::Drawn;
@@ -27,7 +28,7 @@ pub fn ticket_rows<R: Threads + Sync, J: RowJob>(
     count: u32,
     workers: u32,
 ) -> Result<Drawn<J::Row>, AllocError>
-    requires workers { (1 ≤ workers) × (workers ≤ 16) }
+    requires workers { AreWorkers workers }
     requires few { count ≤ 20000 }
     requires below { count ≤ J.jobs job.now }
     ensures count { IfOk result (λ d. length d.rows.items ≡ count) }

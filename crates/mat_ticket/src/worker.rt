@@ -1,6 +1,7 @@
 //! Workers that draw tickets and compute their rows.
 ghost use Rattle.std.specs.Prelude.{◌≡◌, ◌<◌, ◌≤◌, [], ℕ, IfOk, OnOk, length, slice_index_or};
 ghost use Rattle.std.specs.List.{AllByRecursion, sum_by};
+ghost use Rattle.mat_work.specs.Workers.{AreWorkers};
 ghost use Rattle.mat_ticket.specs.WordStates.{ticket_view};
 ghost use Rattle.mat_ticket.specs.Outputs.{IsOutput, IsLast};
 ghost use Rattle.mat_ticket.specs.Workers.{share_of, IsDone, IsFresh};
@@ -97,7 +98,7 @@ pub(crate) fn form_team<X: Drop>(
 ) -> Result<Vec<Worker<X>>, AllocError>
     requires word { word.now.table_id.words ≡ 1 }
     requires seat { (seat.table_id ≡ word.now.table_id) × (seat.me ≡ (ticket_view 16 [], [])) }
-    requires workers { (1 ≤ workers) × (workers ≤ 16) }
+    requires workers { AreWorkers workers }
     ensures count { IfOk result (λ team. length team.items ≡ workers) }
     ensures fresh { IfOk result (λ team. AllByRecursion (IsFresh word.now.table_id) team.items) }
     ensures shares { IfOk result (λ team. sum_by share_of team.items ≡ 16) }

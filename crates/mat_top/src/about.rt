@@ -1,6 +1,7 @@
 //! What is asked about the problem that a file describes.
 
 ghost use Rattle.std.specs.Prelude.{◌≡◌, ◌≤◌, ℕ, List, true, IfOk, IfErr};
+ghost use Rattle.mat_work.specs.Workers.{AreWorkers};
 ghost use Rattle.mat_desc.specs.Grammar.{IsValid};
 ghost use Rattle.mat_desc.specs.Soundness.{IsSoundInstance};
 ghost use Rattle.mat_desc.specs.Views.{instance_of};
@@ -33,7 +34,7 @@ pub(crate) fn solution_text<R: Threads + Sync>(
     requires sound { IsSoundInstance (instance_of problem.now) }
     requires range { IsQueryInRange query }
     requires form { has_form query (instance_of problem.now) ≡ true }
-    requires workers { (1 ≤ workers) × (workers ≤ 16) }
+    requires workers { AreWorkers workers }
     ensures { IfOk result (λ v. HasSolutionText query (instance_of problem.now) v.items) }
 {
     let answer = solve(rt, alloc, problem, query, workers)?;
@@ -61,7 +62,7 @@ fn text_for<R: Threads + Sync, F: Shelf>(
     requires valid { IsValid (instance_of problem.now) }
     requires sound { IsSoundInstance (instance_of problem.now) }
     requires range { IsRequestInRange (request_of request) }
-    requires workers { (1 ≤ workers) × (workers ≤ 16) }
+    requires workers { AreWorkers workers }
     ensures held { (name : List ℕ) → F.held files.new name ≡ F.held files.old name }
     ensures grows { (name : List ℕ) → F.faults files.old name ≤ F.faults files.new name }
     ensures text { IfOk result (λ v. HasText (F.held files.old) (request_of request.entry) (instance_of problem.now) v.items) }
@@ -114,7 +115,7 @@ pub(crate) fn text_about<R: Threads + Sync, F: Shelf>(
     workers: u32,
 ) -> Result<Vec<u8>, Refusal>
     requires range { IsRequestInRange (request_of request) }
-    requires workers { (1 ≤ workers) × (workers ≤ 16) }
+    requires workers { AreWorkers workers }
     ensures held { (other : List ℕ) → F.held files.new other ≡ F.held files.old other }
     ensures grows { (other : List ℕ) → F.faults files.old other ≤ F.faults files.new other }
     ensures text { IfOk result (λ v. MayBeWritten (F.held files.old) (about name.now (request_of request.entry)) v.items) }

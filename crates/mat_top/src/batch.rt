@@ -1,6 +1,7 @@
 //! The answers to the jobs of a list.
 
 ghost use Rattle.std.specs.Prelude.{◌≡◌, ◌≤◌, ℕ, List, length, map, IfOk, IfErr, IfSome};
+ghost use Rattle.mat_work.specs.Workers.{AreWorkers};
 ghost use Rattle.mat_command.specs.CommandLines.{batch};
 ghost use Rattle.mat_command.specs.JobLists.{most_jobs};
 ghost use Rattle.mat_command.specs.JobLists.{IsListed};
@@ -80,7 +81,7 @@ pub(crate) fn batch_texts<R: Threads + Sync, F: Shelf>(
     list: &str,
     workers: u32,
 ) -> Result<Vec<Vec<u8>>, Refusal>
-    requires workers { (1 ≤ workers) × (workers ≤ 16) }
+    requires workers { AreWorkers workers }
     ensures held { (name : List ℕ) → F.held files.new name ≡ F.held files.old name }
     ensures grows { (name : List ℕ) → F.faults files.old name ≤ F.faults files.new name }
     ensures text { IfOk result (λ v. MayBeWritten (F.held files.old) (batch list.now) (all_texts v.items)) }

@@ -2,6 +2,7 @@
 
 ghost use Rattle.std.specs.Prelude.{◌≤◌, length, IfOk, All};
 ghost use denote.Param.Send.{IsSync};
+ghost use Rattle.mat_work.specs.Workers.{AreWorkers};
 ghost use Rattle.mat_desc.specs.Views.{instance_of};
 ghost use Rattle.mat_command.specs.JobLists.{most_jobs};
 ghost use Rattle.mat_top.specs.LoadedJobs.{IsAnswerable, HaveTexts};
@@ -85,7 +86,7 @@ fn texts_by<R: Threads + Sync, S: Answering + Sync>(
     requires answering { S.can_answer solver.now }
     requires answerable { All IsAnswerable jobs.now }
     requires few { length jobs.now ≤ most_jobs }
-    requires workers { (1 ≤ workers) × (workers ≤ 16) }
+    requires workers { AreWorkers workers }
     ensures { IfOk result (λ v. HaveTexts jobs.now v.items) }
 {
     let rows = TextRows {
@@ -107,7 +108,7 @@ pub(crate) fn job_texts<R: Threads + Sync>(
 ) -> Result<Vec<Vec<u8>>, AllocError>
     requires answerable { All IsAnswerable jobs.now }
     requires few { length jobs.now ≤ most_jobs }
-    requires workers { (1 ≤ workers) × (workers ≤ 16) }
+    requires workers { AreWorkers workers }
     ensures { IfOk result (λ v. HaveTexts jobs.now v.items) }
 {
     texts_by(rt, alloc, rt, jobs, workers)

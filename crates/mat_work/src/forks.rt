@@ -2,6 +2,7 @@
 ghost use Rattle.std.specs.Prelude.{◌≡◌, ◌+◌, ◌^◌, ◌<◌, ◌≤◌, IfOk, length};
 ghost use denote.Param.Send.{IsSync, IsSend};
 ghost use Rattle.mat_work.specs.Rows.{StandFrom};
+ghost use Rattle.mat_work.specs.Workers.{AreWorkers};
 
 use crate::row_job::RowJob;
 use std::alloc::{AllocError, Global};
@@ -82,7 +83,7 @@ pub fn all_rows<R: Threads + Sync, J: RowJob>(
     workers: u32,
 ) -> Result<Vec<J::Row>, AllocError>
     requires below { count ≤ J.jobs job.now }
-    requires workers { (1 ≤ workers) × (workers ≤ 16) }
+    requires workers { AreWorkers workers }
     ensures count { IfOk result (λ rows. length rows.items ≡ count) }
     ensures rows { IfOk result (λ rows. StandFrom (J.stands job.now) 0 rows.items) }
 {

@@ -1,5 +1,6 @@
 //! All rows of small jobs, by one worker and by several, and two threads that meet.
 ghost use Rattle.std.specs.Prelude.{◌≡◌, ◌+◌, ◌*◌, ◌<◌, ◌≤◌, [], ◌∷◌};
+ghost use Rattle.mat_work.specs.Workers.{AreWorkers};
 
 use crate::{RowJob, all_rows};
 use std::alloc::{AllocError, Global};
@@ -29,7 +30,7 @@ fn seven_steps<R: Threads + Sync>(
     alloc: Global,
     workers: u32,
 ) -> Result<Vec<u64>, AllocError>
-    requires { (1 ≤ workers) × (workers ≤ 16) }
+    requires { AreWorkers workers }
 {
     all_rows(rt, alloc, &Steps, 7, workers)
 }
@@ -102,7 +103,8 @@ impl RowJob for Gaps {
 
 /// Whether the rows below a number are told.
 fn is_told<R: Threads + Sync>(rt: &R, alloc: Global, count: u32, workers: u32) -> bool
-    requires { (count ≤ 7) × (1 ≤ workers) × (workers ≤ 16) }
+    requires few { count ≤ 7 }
+    requires workers { AreWorkers workers }
 {
     all_rows(rt, alloc, &Gaps, count, workers).is_ok()
 }
