@@ -8,9 +8,9 @@ use Rattle.mat_words.specs.Lines.{Line}
 use Rattle.mat_words.specs.Cursors.{WordsLeft}
 use Rattle.mat_words.proofs.ReadingSteps.{found-same, bind_found}
 use Rattle.mat_words.proofs.WordReading.{size_again, below_again, weight_at_again}
-use Rattle.mat_cert.specs.Limits.{most_colours, most_rows, most_columns, most_matroids}
-use Rattle.mat_sets.specs.Limits.{most_vertices, most_elements, largest_number}
-use Rattle.mat_cert.specs.Limits.{most_levels, most_trees}
+use Rattle.mat_cert.specs.Limits.{most_colours, most_rows, most_columns}
+use Rattle.mat_sets.specs.Limits.{most_vertices, most_elements, largest_number, most_matroids, most_trees}
+use Rattle.mat_cert.specs.Limits.{most_levels}
 use Rattle.mat_cert.specs.Certificates.{IsCertificateWeight, IsVertexCount, AreRangedNone}
 use Rattle.mat_cert.specs.HeaderReading.{ladder_header_at, union_header_at, never_header_at, trees_header_at, none_at}
 use Rattle.mat_cert.specs.HeaderReading.{classes_header_at, entered_header_at, rainbow_header_at, assign_header_at}

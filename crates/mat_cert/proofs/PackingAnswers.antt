@@ -14,8 +14,7 @@ use Rattle.mat_words.proofs.ReadingSteps.{found-same, bind_found}
 use Rattle.mat_words.proofs.WordReading.{size_again}
 use Rattle.mat_words.proofs.LineReading.{AreLeft}
 use Rattle.mat_cert.specs.declared.answer.LevelLine.{LevelLine}
-use Rattle.mat_cert.specs.Limits.{most_matroids}
-use Rattle.mat_sets.specs.Limits.{most_elements}
+use Rattle.mat_sets.specs.Limits.{most_elements, most_matroids}
 use Rattle.mat_cert.specs.Certificates.{Certificate, union_of, pack_any, pack, cover_never, cover, IsRangedUnion, IsRangedPacking}
 use Rattle.mat_cert.specs.Certificates.{IsRangedCover, IsRangedOption, level_line, sets_lines, option_lines}
 use Rattle.mat_cert.specs.Reading.{union_at, bases_at, pack_at, never_at, covering_at, cover_at}

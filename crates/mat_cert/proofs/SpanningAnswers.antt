@@ -16,8 +16,7 @@ use Rattle.mat_words.proofs.WordReading.{size_again, weight_at_again}
 use Rattle.mat_words.proofs.LineReading.{AreLeft}
 use Rattle.mat_cert.specs.declared.refusal.CertKind.TheVariants.{UnknownWord}
 use Rattle.mat_cert.specs.Faults.{Fault}
-use Rattle.mat_cert.specs.Limits.{most_trees}
-use Rattle.mat_sets.specs.Limits.{largest_number, most_vertices, most_elements}
+use Rattle.mat_sets.specs.Limits.{largest_number, most_vertices, most_elements, most_trees}
 use Rattle.mat_cert.specs.Certificates.{Certificate, trees, trees_none, arbor, unreached, disjoint, disjoint_none, AreRangedTrees, AreRangedSets}
 use Rattle.mat_cert.specs.Certificates.{AreRangedNone, IsRangedArborescence, IsRangedUnreached, sets_lines}
 use Rattle.mat_cert.specs.Reading.{found_trees_at, classes_at, trees_at, arbor_at, unreached_at, arborescence_at, entered_at, disjoint_at}

@@ -8,9 +8,9 @@ use Rattle.mat_words.specs.Numbers.{numeral, numerals}
 use Rattle.mat_words.specs.Weights.{weight_word}
 use Rattle.mat_words.specs.Lines.{Line, text_of}
 use Rattle.mat_words.specs.Writing.{end_line, members_line, weights_line}
-use Rattle.mat_cert.specs.Limits.{most_colours, most_rows, most_columns, most_matroids}
-use Rattle.mat_sets.specs.Limits.{most_vertices, most_elements, largest_number}
-use Rattle.mat_cert.specs.Limits.{most_levels, most_trees}
+use Rattle.mat_cert.specs.Limits.{most_colours, most_rows, most_columns}
+use Rattle.mat_sets.specs.Limits.{most_vertices, most_elements, largest_number, most_matroids, most_trees}
+use Rattle.mat_cert.specs.Limits.{most_levels}
 use Rattle.mat_cert.specs.declared.answer.LevelLine.{LevelLine}
 use Rattle.mat_cert.specs.declared.answer.PlainRung.{PlainRung}
 use Rattle.mat_cert.specs.declared.answer.PricedRung.{PricedRung}

@@ -4,8 +4,8 @@ use Rattle.mat_sets.specs.declared.weight.Weight.{Weight}
 use Rattle.mat_words.specs.Cursors.{WordsLeft}
 use Rattle.mat_words.specs.Steps.{◌>>=◌}
 use Rattle.mat_cert.specs.Faults.{Fault}
-use Rattle.mat_cert.specs.Limits.{most_colours, most_rows, most_columns, most_matroids, most_levels, most_trees}
-use Rattle.mat_sets.specs.Limits.{most_vertices, most_elements}
+use Rattle.mat_cert.specs.Limits.{most_colours, most_rows, most_columns, most_levels}
+use Rattle.mat_sets.specs.Limits.{most_vertices, most_elements, most_matroids, most_trees}
 use Rattle.mat_cert.specs.LineReading.{fixed_at, has_words, size_at, below_at, weight_at}
 
 -- the number of elements

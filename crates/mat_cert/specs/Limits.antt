@@ -13,17 +13,9 @@ most_rows = 500
 abbrev pub most_columns : ℕ
 most_columns = 500
 
--- the most matroids of a list
-abbrev pub most_matroids : ℕ
-most_matroids = 64
-
 -- the most different weights of a union's elements
 abbrev pub most_levels : ℕ
 most_levels = 500
-
--- the most trees that can be asked for
-abbrev pub most_trees : ℕ
-most_trees = 64
 
 -- the most bytes that a certificate may have
 abbrev pub certificate_limit : ℕ

@@ -2,7 +2,7 @@
 
 ghost use Rattle.std.specs.Prelude.{◌≡◌, ◌<◌, ◌≤◌, ◌+◌, ◌*◌, ◌^◌, ◌==◌, All, length, map, IfOk};
 ghost use Rattle.mat_sets.specs.FallingWeights.{falling_weights, heavy};
-ghost use Rattle.mat_sets.specs.Limits.{most_elements};
+ghost use Rattle.mat_sets.specs.Limits.{most_elements, most_matroids};
 ghost use Rattle.mat_sets.specs.Families.{family_union};
 ghost use Rattle.mat_sets.specs.Sets.{AllBelow, intersection, minus};
 ghost use Rattle.mat_sets.specs.Weights.{is_same, weight_at};
@@ -43,10 +43,10 @@ fn sum_of_ranks<M: Matroid>(
     set: &ElemSet,
 ) -> Result<usize, AllocError>
     requires sound { AreSound M.ground_size M.sound _size matroids.now }
-    requires few { length matroids.now ≤ 64 }
+    requires few { length matroids.now ≤ most_matroids }
     requires below { AllBelow _size set.now }
     ensures sum { IfOk result (λ sum. sum ≡ ranks_sum (map M.indep matroids.now) set.now) }
-    ensures small { IfOk result (λ sum. sum ≤ 64 * 2 ^ 32) }
+    ensures small { IfOk result (λ sum. sum ≤ most_matroids * 2 ^ 32) }
 {
     let mut sum = 0;
     for i in 0..matroids.len() {
@@ -76,7 +76,7 @@ fn is_cut_filled<M: Matroid>(
 ) -> Result<bool, AllocError>
     requires sound { AreSound M.ground_size M.sound (length joined.now.weights.now) joined.now.matroids.now }
     requires few { length joined.now.weights.now ≤ most_elements }
-    requires few_matroids { length joined.now.matroids.now ≤ 64 }
+    requires few_matroids { length joined.now.matroids.now ≤ most_matroids }
     requires cut { AllBelow (length joined.now.weights.now) level.now.cut }
     ensures { IfOk result (λ filled. filled
         ≡ (length (intersection joined.now.all.now (heavy (length joined.now.weights.now) joined.now.weights.now level.now.at))
@@ -105,7 +105,7 @@ fn level_failure<M: Matroid>(
 ) -> Result<Option<Failure>, AllocError>
     requires sound { AreSound M.ground_size M.sound (length joined.now.weights.now) joined.now.matroids.now }
     requires few { length joined.now.weights.now ≤ most_elements }
-    requires few_matroids { length joined.now.matroids.now ≤ 64 }
+    requires few_matroids { length joined.now.matroids.now ≤ most_matroids }
     requires all { joined.now.all.now ≡ family_union joined.now.parts.now }
     requires falling { falling.now ≡ falling_weights joined.now.weights.now }
     requires below { j < length falling.now }
@@ -133,7 +133,7 @@ pub(crate) fn levels_failure<M: Matroid>(
 ) -> Result<Option<Failure>, AllocError>
     requires sound { AreSound M.ground_size M.sound (length joined.now.weights.now) joined.now.matroids.now }
     requires few { length joined.now.weights.now ≤ most_elements }
-    requires few_matroids { length joined.now.matroids.now ≤ 64 }
+    requires few_matroids { length joined.now.matroids.now ≤ most_matroids }
     requires all { joined.now.all.now ≡ family_union joined.now.parts.now }
     requires few_levels { length levels.now ≤ most_elements }
     requires one_each { length levels.now ≡ length (falling_weights joined.now.weights.now) }

@@ -1,7 +1,7 @@
 //! The clauses of disjoint spanning trees, and of a partition of the vertices that shows that there are no more (Schrijver, chapter 51).
 
 ghost use Rattle.std.specs.Prelude.{◌≡◌, ◌<◌, ◌≤◌, ◌&&◌, ◌∷◌, [], length, slice_index_or, IfOk};
-ghost use Rattle.mat_sets.specs.Limits.{most_elements, most_vertices};
+ghost use Rattle.mat_sets.specs.Limits.{most_elements, most_vertices, most_trees};
 ghost use Rattle.mat_sets.specs.Graphs.{ends_of, IsGraph};
 ghost use Rattle.mat_sets.specs.Search.{some_below};
 ghost use Rattle.mat_sets.specs.Sets.{is_member, AllBelow};
@@ -134,7 +134,7 @@ pub(crate) fn partition_failure(
     requires some_vertices { 1 ≤ vertices }
     requires few_vertices { vertices ≤ most_vertices }
     requires some_trees { 1 ≤ k }
-    requires few_trees { k ≤ 64 }
+    requires few_trees { k ≤ most_trees }
     requires ranged { AreRangedSets vertices 1 vertices classes.now }
     ensures { result ≡ first_failure (partition_clauses vertices (length edges.now) (ends_of edges.now) k classes.now) }
 {

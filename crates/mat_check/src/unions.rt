@@ -1,7 +1,7 @@
 //! The clauses of a union of matroids.
 
 ghost use Rattle.std.specs.Prelude.{◌≡◌, ◌≤◌, ◌∷◌, [], All, length, map, IfOk};
-ghost use Rattle.mat_sets.specs.Limits.{most_elements, largest_number};
+ghost use Rattle.mat_sets.specs.Limits.{most_elements, largest_number, most_matroids};
 ghost use Rattle.mat_sets.specs.Sets.{IsSet};
 ghost use Rattle.mat_sets.specs.Weights.{AreWeightsWithin, is_same, weight};
 ghost use Rattle.mat_union.specs.GrownParts.{AreSound};
@@ -29,7 +29,7 @@ fn parts_failure<M: Matroid>(
 ) -> Result<Option<Failure>, AllocError>
     requires sound { AreSound M.ground_size M.sound _size matroids.now }
     requires one_each { length parts.now ≡ length matroids.now }
-    requires few { length parts.now ≤ 64 }
+    requires few { length parts.now ≤ most_matroids }
     requires parts { All (IsSet _size) parts.now }
     ensures { IfOk result (λ found. found
         ≡ first_failure (numbered_clauses (λ i part. independent_clause (test_at (map M.indep matroids.now) i) i part ∷ []) 0 parts.now)) }

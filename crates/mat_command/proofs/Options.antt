@@ -2,7 +2,7 @@
 use Rattle.std.proofs.Common.{◌≡◌, ℕ, ◌≤◌, Bool, true, false, List, [], ◌∷◌, Option, Some, None, pos, refl, arith}
 use Rattle.std.proofs.lemmas.Int.{ints}
 use Rattle.std.specs.Prelude.{IfSome, bytes_eq, codes, option_map, if◌then◌else◌}
-use Rattle.mat_sets.specs.Limits.{most_elements}
+use Rattle.mat_sets.specs.Limits.{most_elements, most_trees}
 use Rattle.mat_words.specs.Numbers.{numeral}
 use Rattle.mat_words.proofs.NumberLemmas.{number_again}
 use Rattle.mat_gen.specs.declared.kind.SampleKind.{SampleKind}
@@ -59,7 +59,7 @@ all_take command (file ∷ []) other apart same unwitnessed unverified =
     (rw (other, apart, same) (solving_takes file (query_for command)))
 all_take command (first ∷ second ∷ []) other apart same unwitnessed unverified =
     if_takes (bytes_eq command (codes "check")) (about first (check second)) (with_number command first second) refl
-    (number_takes second (number_up_to 64 first) (query_of_trees command))
+    (number_takes second (number_up_to most_trees first) (query_of_trees command))
 all_take command (first ∷ second ∷ third ∷ []) other apart same unwitnessed unverified =
     rw unwitnessed (named_takes (bytes_eq command (codes "sample")) (sample_for first second third)
     (sample_takes (kind_in first) (number_up_to most_elements second) (number_up_to 2147483646 third)))

@@ -2,7 +2,7 @@
 use Rattle.std.specs.Prelude.{ℕ, pos, nat_abs, Bool, true, false, if◌then◌else◌, List, [], ◌∷◌, bytes_eq, codes}
 use Rattle.std.specs.Prelude.{Option, Some, None, option_map}
 use Rattle.std.specs.Result.{result_ok}
-use Rattle.mat_sets.specs.Limits.{most_elements}
+use Rattle.mat_sets.specs.Limits.{most_elements, most_trees}
 use Rattle.mat_words.specs.Numbers.{number_in}
 use Rattle.mat_gen.specs.declared.kind.SampleKind.{SampleKind}
 use Rattle.mat_gen.specs.declared.kind.SampleKind.TheVariants.{Pair, List as ListKind, Graph, Rooted, Table}
@@ -105,7 +105,7 @@ with_file command file =
 -- a command, a number of trees from 1 to 64 and a file
 abbrev pub with_number : List ℕ → List ℕ → List ℕ → Option Task
 with_number command number file = do
-  k ← number_up_to 64 number
+  k ← number_up_to most_trees number
   option_map (λ query. about file (solve query)) (query_of_trees command k)
 
 -- a command and two arguments

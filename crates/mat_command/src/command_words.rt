@@ -1,6 +1,7 @@
 //! The words of a command line.
 
 ghost use Rattle.std.specs.Prelude.{◌≡◌, ◌≤◌, map, string_bytes, option_map, IfSome};
+ghost use Rattle.mat_sets.specs.Limits.{most_trees};
 ghost use Rattle.mat_solve.specs.Queries.{IsQueryInRange};
 ghost use Rattle.mat_command.specs.CommandLines.{query_for, request_for, query_of_trees, number_from, number_up_to, rung_number, kind_in};
 ghost use Rattle.mat_command.specs.CommandLines.{with_file, with_number, with_two, sample_for, witness_of, with_three, with_four, task_for};
@@ -48,7 +49,7 @@ fn query_for(command: &str) -> Option<Query>
 
 // The query of a command that takes a number of trees.
 fn query_of_trees(command: &str, k: u32) -> Option<Query>
-    requires { (1 ≤ k) × (k ≤ 64) }
+    requires { (1 ≤ k) × (k ≤ most_trees) }
     ensures query { result ≡ query_of_trees command.now k }
     ensures range { IfSome result IsQueryInRange }
 {

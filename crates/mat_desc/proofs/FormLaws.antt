@@ -11,8 +11,8 @@ use Rattle.mat_words.specs.Numbers.{numeral}
 use Rattle.mat_words.specs.Weights.{weight_word}
 use Rattle.mat_words.specs.Lines.{Line}
 use Rattle.mat_sets.specs.declared.weight.Weight.{Weight}
-use Rattle.mat_desc.specs.Limits.{most_sets, most_matroids}
-use Rattle.mat_sets.specs.Limits.{largest_weight, most_vertices, most_elements}
+use Rattle.mat_desc.specs.Limits.{most_sets}
+use Rattle.mat_sets.specs.Limits.{largest_weight, most_vertices, most_elements, most_matroids}
 use Rattle.mat_desc.specs.declared.keywords.Form.{Form}
 use Rattle.mat_desc.specs.declared.keywords.Form.TheVariants as forms
 use Rattle.mat_words.specs.Steps.{repeat_at}

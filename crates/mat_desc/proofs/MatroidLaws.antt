@@ -12,8 +12,8 @@ use Rattle.mat_words.proofs.NumberLemmas.{numeral_word}
 use Rattle.mat_any.specs.Trees.{Tree, Trees, uniform, partition, laminar, graphic, transversal, gammoid, gf2, dual, truncate, restrict, contract, union, no_trees, more_trees, tree_count, trees_from, depth, greatest_depth}
 use Rattle.mat_words.specs.Lines.{Line}
 use Rattle.mat_desc.specs.Notations.{Naming, words_for, IsNaming}
-use Rattle.mat_desc.specs.Limits.{most_sets, most_digits, most_matroids, deepest}
-use Rattle.mat_sets.specs.Limits.{most_vertices, most_elements}
+use Rattle.mat_desc.specs.Limits.{most_sets, most_digits, deepest}
+use Rattle.mat_sets.specs.Limits.{most_vertices, most_elements, most_matroids}
 use Rattle.mat_desc.specs.declared.keywords.Keyword.{Keyword}
 use Rattle.mat_desc.specs.declared.keywords.Keyword.TheVariants as keywords
 use Rattle.mat_words.specs.Cursors.{WordsLeft, LinesLeft}

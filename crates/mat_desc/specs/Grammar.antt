@@ -12,8 +12,8 @@ use Rattle.mat_words.specs.Writing.{end_line, members_line, weights_line}
 use Rattle.mat_count.specs.Laminar.{IsLaminarFamily}
 use Rattle.mat_any.specs.Trees.{Tree, Trees, uniform, partition, laminar, graphic, transversal, gammoid, gf2, dual, truncate, restrict, contract, union, no_trees, more_trees, tree_count, depth}
 use Rattle.mat_words.specs.Binary.{binary}
-use Rattle.mat_desc.specs.Limits.{most_sets, most_arcs, most_digits, most_matroids, deepest}
-use Rattle.mat_sets.specs.Limits.{largest_weight, most_vertices, most_elements}
+use Rattle.mat_desc.specs.Limits.{most_sets, most_arcs, most_digits, deepest}
+use Rattle.mat_sets.specs.Limits.{largest_weight, most_vertices, most_elements, most_matroids}
 use Rattle.mat_desc.specs.Instances.{Instance, pair, list, graph, rooted, coloured, table}
 use Rattle.mat_desc.specs.Notations.{Naming, word_for, words_for, Notation, numbers, names, element_naming, vertex_naming, IsNotationFor, NamedInstance, named_by}
 

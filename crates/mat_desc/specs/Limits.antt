@@ -13,10 +13,6 @@ most_arcs = 20000
 abbrev pub most_digits : ℕ
 most_digits = 128
 
--- the most matroids of a list or of a union
-abbrev pub most_matroids : ℕ
-most_matroids = 64
-
 -- the most matroids that stand within one another
 abbrev pub deepest : ℕ
 deepest = 16

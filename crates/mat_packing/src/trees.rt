@@ -1,6 +1,6 @@
 //! Disjoint spanning trees of a graph.
 ghost use Rattle.std.specs.Prelude.{◌≡◌, ◌<◌, ◌≤◌, ◌^◌, ◌↔◌, true, length, map, slice_index, IfOk};
-ghost use Rattle.mat_sets.specs.Limits.{most_vertices, most_elements};
+ghost use Rattle.mat_sets.specs.Limits.{most_vertices, most_elements, most_trees};
 ghost use Rattle.mat_sets.specs.Graphs.{IsGraph};
 ghost use Rattle.mat_packing.specs.Answers.{is_partition, HasNoTrees, IsRightTreesAnswer};
 ghost use Rattle.mat_packing.specs.Components.{class_of};
@@ -54,7 +54,7 @@ pub fn pack_trees(alloc: Global, vertices: u32, edges: &Pairs, k: u32) -> Result
     requires few_vertices { vertices ≤ most_vertices }
     requires few_edges { length edges.now ≤ most_elements }
     requires some_tree { 1 ≤ k }
-    requires few_trees { k ≤ 64 }
+    requires few_trees { k ≤ most_trees }
     ensures right { IfOk result (IsRightTreesAnswer vertices edges.now k) }
     ensures partition { IfOk result (λ found. (is_partition found ≡ true) ↔ HasNoTrees vertices edges.now k) }
 {

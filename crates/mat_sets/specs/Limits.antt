@@ -9,6 +9,14 @@ most_elements = 500
 abbrev pub most_vertices : ℕ
 most_vertices = 500
 
+-- the most matroids of a list or of a union
+abbrev pub most_matroids : ℕ
+most_matroids = 64
+
+-- the most disjoint trees that can be asked for
+abbrev pub most_trees : ℕ
+most_trees = 64
+
 -- the largest number of a weight or a cost, and with a `-` the smallest
 abbrev pub largest_weight : ℕ
 largest_weight = 10 ^ 12

@@ -4,6 +4,7 @@ use Rattle.std.proofs.Common.{◌≡◌, ℕ, zero, suc, ◌-◌, ◌*◌, ◌<�
 use Rattle.std.specs.Prelude.{All}
 use Rattle.std.proofs.lemmas.Bool.{cases_lt, lt-ltb}
 use Rattle.std.proofs.lemmas.List.{get_or_default}
+use Rattle.mat_sets.specs.Limits.{most_trees}
 use Rattle.mat_sets.specs.Families.{AllRising, multiplicity}
 use Rattle.mat_sets.specs.Graphs.{ends_of}
 use Rattle.mat_sets.specs.Sets.{all_below, is_member, IsSet}
@@ -26,7 +27,7 @@ some_class k (suc classes) crossing few = omega arith
 
 module _ (vertices : ℕ) (edges : List (ℕ × ℕ)) (valid : IsValid (graph vertices edges)) where
   -- disjoint spanning trees
-  pub trees_solution : (k : ℕ) (sets : List (List ℕ)) → 1 ≤ k → k ≤ 64 → length sets ≡ k
+  pub trees_solution : (k : ℕ) (sets : List (List ℕ)) → 1 ≤ k → k ≤ most_trees → length sets ≡ k
       → AreTrees vertices (length edges) (ends_of edges) sets → IsSolution (graph vertices edges) (trees (length edges) sets)
   trees_solution k sets some few many are = record {
     ranged = record {
@@ -68,7 +69,7 @@ module _ (vertices : ℕ) (edges : List (ℕ × ℕ)) (valid : IsValid (graph ve
         (IsSet-from vertices (part_at classes q) (AllRising-at classes q rise lt) (λ x m. found.below q x lt m))
 
     -- a partition of the vertices with few edges between its classes
-    pub partition_solution : 1 ≤ k → k ≤ 64 → IsSolution (graph vertices edges) (trees_none (length edges) k vertices classes)
+    pub partition_solution : 1 ≤ k → k ≤ most_trees → IsSolution (graph vertices edges) (trees_none (length edges) k vertices classes)
     partition_solution some few = record {
       ranged = (
         record { few = valid.2.0; some_trees = some; few_trees = few; vertices_in_range = record { some = valid.0; few = valid.1 } },

@@ -1,6 +1,6 @@
 -- Arborescences and disjoint arborescences as answers: their sets are sets of arcs or of vertices, and so in range.
 use Rattle.std.proofs.Common.{◌≡◌, ℕ, ◌≤◌, List, length, get_or, refl, arith}
-use Rattle.mat_sets.specs.Limits.{most_elements, largest_number}
+use Rattle.mat_sets.specs.Limits.{most_elements, largest_number, most_trees}
 use Rattle.mat_sets.specs.Graphs.{ends_of, IsUnentered}
 use Rattle.mat_sets.specs.Sets.{IsSet, AllBelow}
 use Rattle.mat_sets.specs.Weights.{weight, AreWeightsWithin}
@@ -56,7 +56,7 @@ module _ (vertices root : ℕ) (arcs : List (ℕ × ℕ)) (costs : List Weight) 
   }
 
   -- disjoint arborescences, whatever the arcs cost
-  pub disjoint_solution : (k : ℕ) (trees : List (List ℕ)) → 1 ≤ k → k ≤ 64
+  pub disjoint_solution : (k : ℕ) (trees : List (List ℕ)) → 1 ≤ k → k ≤ most_trees
       → AreDisjointArborescences vertices (length arcs) (ends_of arcs) root k trees
       → IsSolution (rooted vertices root arcs costs) (disjoint (length arcs) trees)
   disjoint_solution k trees some few are = record {
@@ -69,7 +69,7 @@ module _ (vertices root : ℕ) (arcs : List (ℕ × ℕ)) (costs : List Weight) 
   }
 
   -- a vertex set that too few arcs enter
-  pub seldom_solution : (k : ℕ) (set : List ℕ) → 1 ≤ k → k ≤ 64 → IsSeldomEntered vertices (length arcs) (ends_of arcs) root k set
+  pub seldom_solution : (k : ℕ) (set : List ℕ) → 1 ≤ k → k ≤ most_trees → IsSeldomEntered vertices (length arcs) (ends_of arcs) root k set
       → IsSolution (rooted vertices root arcs costs) (disjoint_none (length arcs) k vertices set)
   seldom_solution k set some few seldom = record {
     ranged = (

@@ -1,6 +1,7 @@
 -- Queries: the forms of the problems that they are about, the ranges of their numbers, and their answers.
 use Rattle.std.specs.Coded.{×_prop, Unit-prop, le_prop}
 use Rattle.std.specs.Prelude.{◌≡◌, ◌≤◌, Bool, length}
+use Rattle.mat_sets.specs.Limits.{most_trees}
 use Rattle.mat_desc.specs.Instances.{Instance}
 use Rattle.mat_cert.specs.Certificates as certificates
 use Rattle.mat_cert.specs.Certificates.{Certificate}
@@ -23,8 +24,8 @@ has_form Assign = is_table
 
 -- a number of trees that is asked for is from 1 to 64
 abbrev pub IsQueryInRange : Query → Type 0
-IsQueryInRange (Trees k) = (1 ≤ k) × (k ≤ 64)
-IsQueryInRange (Disjoint k) = (1 ≤ k) × (k ≤ 64)
+IsQueryInRange (Trees k) = (1 ≤ k) × (k ≤ most_trees)
+IsQueryInRange (Disjoint k) = (1 ≤ k) × (k ≤ most_trees)
 IsQueryInRange query = Unit {0}
 
 -- the answer is one to the query: with as many trees as it asks for, or none of so many

@@ -1,6 +1,7 @@
 //! Trees: spanning trees and arborescences.
 
 ghost use Rattle.std.specs.Prelude.{◌≡◌, ◌≤◌, true, IfOk};
+ghost use Rattle.mat_sets.specs.Limits.{most_trees};
 ghost use Rattle.mat_work.specs.Workers.{AreWorkers};
 ghost use Rattle.mat_desc.specs.Views.{instance_of};
 ghost use Rattle.mat_desc.specs.Grammar.{IsValid};
@@ -24,7 +25,7 @@ use std::thread::Threads;
 pub(crate) fn trees(alloc: Global, problem: &Problem, k: u32) -> Result<Answer, AllocError>
     requires valid { IsValid (instance_of problem.now) }
     requires form { is_graph (instance_of problem.now) ≡ true }
-    requires range { (1 ≤ k) × (k ≤ 64) }
+    requires range { (1 ≤ k) × (k ≤ most_trees) }
     ensures of_query { IfOk result (λ answer. IsAnswerOf (Query.Trees k) (certificate_of answer)) }
     ensures solution { IfOk result (λ answer. IsSolution (instance_of problem.now) (certificate_of answer)) }
 {
@@ -100,7 +101,7 @@ pub(crate) fn arborescence<R: Threads + Sync>(
 pub(crate) fn disjoint(alloc: Global, problem: &Problem, k: u32) -> Result<Answer, AllocError>
     requires valid { IsValid (instance_of problem.now) }
     requires form { is_rooted (instance_of problem.now) ≡ true }
-    requires range { (1 ≤ k) × (k ≤ 64) }
+    requires range { (1 ≤ k) × (k ≤ most_trees) }
     ensures of_query { IfOk result (λ answer. IsAnswerOf (Query.Disjoint k) (certificate_of answer)) }
     ensures solution { IfOk result (λ answer. IsSolution (instance_of problem.now) (certificate_of answer)) }
 {

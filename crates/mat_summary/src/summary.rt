@@ -1,7 +1,7 @@
 //! The line that sums up an answer.
 
 ghost use Rattle.std.specs.Prelude.{◌≡◌, ◌+◌, ◌≤◌, ◌++◌, ◌∷◌, [], length, map, codes, pos, All, IfOk, OnOk};
-ghost use Rattle.mat_sets.specs.Limits.{largest_number, most_elements};
+ghost use Rattle.mat_sets.specs.Limits.{largest_number, most_elements, most_matroids};
 ghost use Rattle.mat_sets.specs.Weights.{IsWeightWithin};
 ghost use Rattle.mat_words.specs.Lines.{text_of};
 ghost use Rattle.mat_words.specs.Numbers.{numeral};
@@ -73,7 +73,7 @@ fn put_ladder_words(out: &mut Vec<u8>, rungs: &[PricedRung]) -> Result<(), Alloc
 
 // Appends what a union comes to.
 fn put_union_words(out: &mut Vec<u8>, weight: Weight, parts: &SetList) -> Result<(), AllocError>
-    requires few { length parts.now ≤ 64 }
+    requires few { length parts.now ≤ most_matroids }
     requires small { All (λ set. length set ≤ most_elements) parts.now }
     ensures { OnOk result (out.new.items ≡ out.old.items
         ++ spaced (codes "size" ∷ numeral (pos (all_members parts.now)) ∷ codes "weight" ∷ weight_word weight ∷ [])) }

@@ -1,7 +1,7 @@
 //! What the numbers of an answer come to.
 
 ghost use Rattle.std.specs.Prelude.{◌≡◌, ◌+◌, ◌≤◌, length, All};
-ghost use Rattle.mat_sets.specs.Limits.{largest_number, most_elements};
+ghost use Rattle.mat_sets.specs.Limits.{largest_number, most_elements, most_matroids};
 ghost use Rattle.mat_sets.specs.Weights.{IsWeightWithin};
 ghost use Rattle.mat_summary.specs.Summaries.{all_members, ladder_weight, last_weight};
 
@@ -33,7 +33,7 @@ pub(crate) fn ladder_weight(rungs: &[PricedRung]) -> Weight
 
 /// How many members the sets have together: at most 64 sets of at most 500 members each. It takes no memory.
 pub(crate) fn all_members(sets: &[ElemSet]) -> usize
-    requires few { length sets.now ≤ 64 }
+    requires few { length sets.now ≤ most_matroids }
     requires small { All (λ set. length set ≤ most_elements) sets.now }
     ensures { result ≡ all_members sets.now }
 {
