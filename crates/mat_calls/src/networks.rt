@@ -2,6 +2,7 @@
 ghost use Rattle.std.specs.Prelude.{◌≡◌, ◌<◌, ◌≤◌, ◌^◌, length, All, IfOk};
 ghost use Rattle.mat_sets.specs.Graphs.{IsGraph};
 ghost use Rattle.mat_cuts.specs.Costs.{IsCost};
+ghost use Rattle.mat_cuts.specs.Limits.{vertex_bound, arc_bound};
 
 use crate::known::told_set;
 use mat_cuts::{Cuts, cheapest, right_cuts};
@@ -18,7 +19,7 @@ struct Network {
 // The graph of these arcs, each a tail, a head and a cost. An end that is no vertex is taken modulo the number of vertices.
 fn graph_of(alloc: Global, vertices: u32, arcs: &[(u32, u32, u32)]) -> Result<Network, AllocError>
     requires some { 0 < vertices }
-    requires few { length arcs.now ≤ 20000 }
+    requires few { length arcs.now ≤ arc_bound }
     ensures graph { IfOk result (λ n. IsGraph vertices n.arcs) }
     ensures arcs { IfOk result (λ n. length n.arcs ≡ length arcs.now) }
     ensures costs { IfOk result (λ n. length n.costs.items ≡ length arcs.now) }
@@ -87,9 +88,9 @@ fn told_network(
     other: &Network,
 ) -> Result<String, AllocError>
     requires some { 0 < vertices }
-    requires few { vertices ≤ 2000 }
+    requires few { vertices ≤ vertex_bound }
     requires graph { IsGraph vertices network.now.arcs }
-    requires arcs { length network.now.arcs ≤ 20000 }
+    requires arcs { length network.now.arcs ≤ arc_bound }
     requires costs { length network.now.costs.items ≡ length network.now.arcs }
     requires range { All IsCost network.now.costs.items }
     requires other_graph { IsGraph vertices other.now.arcs }

@@ -2,7 +2,7 @@
 ghost use Rattle.std.specs.Prelude.{◌≡◌, ◌≤◌, IfOk, length};
 ghost use Rattle.mat_work.specs.Rows.{StandFrom};
 ghost use Rattle.mat_work.specs.Workers.{AreWorkers};
-ghost use Rattle.mat_ticket.specs.Tickets.{AreTickets};
+ghost use Rattle.mat_ticket.specs.Tickets.{most_tickets, AreTickets};
 
 use crate::drawn::Drawn;
 use crate::joining::join_seats;
@@ -29,7 +29,7 @@ pub fn ticket_rows<R: Threads + Sync, J: RowJob>(
     workers: u32,
 ) -> Result<Drawn<J::Row>, AllocError>
     requires workers { AreWorkers workers }
-    requires few { count ≤ 20000 }
+    requires few { count ≤ most_tickets }
     requires below { count ≤ J.jobs job.now }
     ensures count { IfOk result (λ d. length d.rows.items ≡ count) }
     ensures rows { IfOk result (λ d. StandFrom (J.stands job.now) 0 d.rows.items) }
