@@ -1,10 +1,10 @@
 -- Weights that rise member by member, in rising order: the next member was not met before, so its weight is still as at the start.
-use Rattle.std.proofs.Common.{◌≡◌, ◌≢◌, ℕ, ◌+◌, ◌<◌, ◌≤◌, ◌^◌, false, ◌&&◌, ltb, cond, List, length, set, ◌+ℤ◌, SFits, inl, inr, sym, ap, ◌∙◌, subst, arith}
+use Rattle.std.proofs.Common.{◌≡◌, ◌≢◌, ℕ, ◌+◌, ◌<◌, ◌≤◌, false, ◌&&◌, ltb, cond, List, length, set, ◌+ℤ◌, SFits, inl, inr, sym, ap, ◌∙◌, subst, arith}
 use Rattle.std.proofs.lemmas.Bool.{cases_Bool, cases_eq, cases_lt, both_ways, and_parts, and_from, and_left, and_right, lt-ltb, le-ltb, cond-true, cond-false}
 use Rattle.std.specs.Int.{w128}
 use Rattle.std.proofs.lemmas.Int.{ints}
 use Rattle.std.proofs.lemmas.List.{get_or-set_same, get_or-set_other}
-use Rattle.mat_sets.specs.Limits.{largest_number}
+use Rattle.mat_sets.specs.Limits.{largest_number, largest_change}
 use Rattle.mat_sets.specs.Sets.{is_member}
 use Rattle.mat_sets.specs.Search.{IsFirstFrom}
 use Rattle.mat_sets.specs.Weights.{zero_weight, ◌⊕◌, ◌⊖◌, weight_at, IsWeightWithin}
@@ -57,6 +57,6 @@ raised_zero w R d x e = elim (cases_Bool (is_member x R)) [
 ]
 
 -- both numbers of the sum of a weight and a step are an `i128`
-pub sums_fit : (a d : Weight) → IsWeightWithin largest_number a → IsWeightWithin (10 ^ 31) d
+pub sums_fit : (a d : Weight) → IsWeightWithin largest_number a → IsWeightWithin largest_change d
     → SFits w128 (a.main +ℤ d.main) × SFits w128 (a.tie +ℤ d.tie)
 sums_fit a d small step = omega (arith, ints)

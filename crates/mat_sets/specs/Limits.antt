@@ -24,3 +24,11 @@ largest_weight = 10 ^ 12
 -- the largest number of a weight of a split, and of what a certificate states; with a `-` the smallest
 abbrev pub largest_number : ℕ
 largest_number = 10 ^ 30
+
+-- the largest number of a weight of the second part of a rung's split, and with a `-` the smallest
+abbrev pub largest_split : ℕ
+largest_split = 10 ^ 25
+
+-- the largest number of a change of the weights of a split, and with a `-` the smallest
+abbrev pub largest_change : ℕ
+largest_change = 10 ^ 31
