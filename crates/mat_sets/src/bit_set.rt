@@ -125,6 +125,13 @@ impl BitSet {
         other.next_among(self.as_words(), from)
     }
 
+    /// The first member from `from` on: the time is that of the words in between. It takes no memory.
+    pub fn next_from(&self, from: u32) -> Option<u32>
+        ensures { IsNextFrom (λ x. is_member x self.now) from result }
+    {
+        self.next_among(self.as_words(), from)
+    }
+
     /// The first number from `from` on whose bit is set in these words and that is a member: the time is that of the words in between. It
     /// takes no memory.
     pub fn next_among(&self, words: &[u64], from: u32) -> Option<u32>

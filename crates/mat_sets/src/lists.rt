@@ -163,4 +163,11 @@ impl SetList {
     {
         self.items.as_slice()
     }
+
+    /// The sets in order. It takes no memory.
+    pub fn into_vec(self) -> Vec<ElemSet>
+        ensures { result.items ≡ self }
+    {
+        self.items
+    }
 }
