@@ -64,6 +64,10 @@ pub record IsLeastReached (ends : ℕ → ℕ × ℕ) (X : List ℕ) (v r : ℕ)
   pub walk : Walk ends along v r
   pub least : (edges : List ℕ) (w : ℕ) → IsSubset edges X → Walk ends edges v w → r ≤ w
 
+-- the vertices that are their own least ones
+abbrev pub roots_of : ℕ → (ℕ → ℕ) → List ℕ
+roots_of vertices least = those_below vertices (λ v. least v == v)
+
 -- how many components the members of X make of these vertices: the vertices from which no lower one is reached
 unfoldable pub number_of_components : ℕ → (ℕ → ℕ × ℕ) → List ℕ → ℕ
-number_of_components vertices ends X = length (those_below vertices (λ v. least_reached ends X v == v))
+number_of_components vertices ends X = length (roots_of vertices (least_reached ends X))

@@ -1,6 +1,6 @@
 //! Components, by the least vertex of each vertex's own.
-ghost use Rattle.std.specs.Prelude.{◌≡◌, ◌==◌, ◌<◌, ◌^◌, length, slice_index, IfOk};
-ghost use Rattle.mat_sets.specs.Search.{those_below};
+ghost use Rattle.std.specs.Prelude.{◌≡◌, ◌<◌, ◌^◌, length, slice_index, IfOk};
+ghost use Rattle.mat_graphic.specs.Forests.{roots_of};
 
 use mat_sets::ElemSet;
 use std::alloc::{AllocError, Global};
@@ -8,7 +8,7 @@ use std::alloc::{AllocError, Global};
 /// The vertices that are their own least ones, of a table of the least vertices: one in each component. The only error is want of memory.
 pub fn least_vertices(alloc: Global, least: &[u32]) -> Result<ElemSet, AllocError>
     requires few { length least.now < 2 ^ 32 }
-    ensures { IfOk result (λ s. s ≡ those_below (length least.now) (λ v. slice_index least.now v == v)) }
+    ensures { IfOk result (λ s. s ≡ roots_of (length least.now) (slice_index least.now)) }
 {
     let mut set = ElemSet::new(alloc);
     for v in 0..least.len() {

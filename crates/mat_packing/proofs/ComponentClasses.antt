@@ -15,7 +15,7 @@ use Rattle.mat_sets.proofs.Families.{multiplicity-gives}
 use Rattle.mat_laws.specs.Ranks.{rank}
 use Rattle.mat_laws.proofs.Independent.{rising}
 use Rattle.mat_laws.proofs.RankLaws.{length-independent}
-use Rattle.mat_graphic.specs.Forests.{is_graphic, least_reached, number_of_components, IsLeastReached}
+use Rattle.mat_graphic.specs.Forests.{is_graphic, least_reached, number_of_components, roots_of, IsLeastReached}
 use Rattle.mat_graphic.specs.Mergings.{least_merged}
 use Rattle.mat_graphic.specs.ComponentLaws.{least_merged-fixed, least_merged-le, member_within}
 use Rattle.mat_graphic.specs.ForestLaws.{graphic_laws}
@@ -25,7 +25,7 @@ use Rattle.mat_union.specs.Unions.{part_at}
 use Rattle.mat_packing.specs.Answers.{is_partition, HasNoTrees, IsRightTreesAnswer}
 use Rattle.mat_packing.specs.declared.trees.Trees.{Trees}
 use Rattle.mat_packing.specs.declared.trees.Trees.TheVariants.{Trees as AllTrees, Partition}
-use Rattle.mat_packing.specs.Components.{class_of, roots_of}
+use Rattle.mat_packing.specs.Components.{class_of}
 use Rattle.mat_packing.specs.FilledCopies.{AreFilledCopies}
 use Rattle.mat_packing.specs.Trees.{crossing, stays, AreTrees, IsRightPartition}
 use Rattle.mat_packing.proofs.BaseCounts.{short_by, union_short, AreAtMost}

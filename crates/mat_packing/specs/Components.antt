@@ -5,7 +5,3 @@ use Rattle.mat_sets.specs.Search.{those_below}
 -- the vertices whose least vertex is r
 abbrev pub class_of : ℕ → (ℕ → ℕ) → ℕ → List ℕ
 class_of vertices least r = those_below vertices (λ v. least v == r)
-
--- the vertices that are their own least ones
-abbrev pub roots_of : ℕ → (ℕ → ℕ) → List ℕ
-roots_of vertices least = those_below vertices (λ v. least v == v)
