@@ -73,13 +73,25 @@ length-text_of m b (words ∷ lines) short =
     let step = suc-mul (length lines) (m * (b + 1) + 1) in
     omega (arith, length-append (join_with_byte 32 words) (10 ∷ text_of lines))
 
--- at most 65 bytes
-abbrev pub IsShort : List ℕ → Type 0
-IsShort w = length w ≤ 65
+-- the most words of a line of a certificate in range, a key and a header's numbers or a set's members among them; no word is larger than 501
+abbrev pub most_words : ℕ
+most_words = 502
 
--- at most 502 words of at most 65 bytes
+-- the most bytes of a word, which a weight of two numbers of 31 digits takes with its signs and its colon
+abbrev pub longest_word : ℕ
+longest_word = 65
+
+-- the most lines of a certificate in range
+abbrev pub most_lines : ℕ
+most_lines = 2009
+
+-- at most so many bytes
+abbrev pub IsShort : List ℕ → Type 0
+IsShort w = length w ≤ longest_word
+
+-- at most so many words of at most so many bytes
 abbrev pub IsShortHere : List (List ℕ) → Type 0
-IsShortHere words = IsShortLine 502 65 words
+IsShortHere words = IsShortLine most_words longest_word words
 
 -- the word of a weight whose numbers have numerals of at most b bytes
 length-weight_word : (b : ℕ) (w : Weight) → length (numeral w.main) ≤ b → length (numeral w.tie) ≤ b
@@ -110,8 +122,8 @@ length-small x small =
     let few = length-numeral 39 (pos x) (omega arith) (omega (arith, ints)) (omega (arith, ints)) in
     omega arith
 
--- the numerals of numbers below 502
-pub short_numerals : (n : ℕ) (xs : List ℕ) → n ≤ 502 → AllBelow n xs → All IsShort (numerals xs)
+-- the numerals of such numbers
+pub short_numerals : (n : ℕ) (xs : List ℕ) → n ≤ most_words → AllBelow n xs → All IsShort (numerals xs)
 short_numerals n [] few below = All-nil IsShort
 short_numerals n (x ∷ xs) few below =
     All-cons IsShort (numeral (pos x)) (numerals xs) (length-small x (omega (arith, below.0))) (short_numerals n xs few below.1)
@@ -190,12 +202,12 @@ pub record IsShortHeader (command : List ℕ) (words : Line) : Type 0 where
   pub short_words : All IsShort words
 
 -- a header of numbers
-pub short_numbers : (command : List ℕ) (numbers : List ℕ) → IsShort command → length numbers ≤ 5 → AllBelow 502 numbers
+pub short_numbers : (command : List ℕ) (numbers : List ℕ) → IsShort command → length numbers ≤ 5 → AllBelow most_words numbers
     → IsShortHeader command (numerals numbers)
 short_numbers command numbers short few below = record {
   short_command = short;
   few = omega (arith, length-map numbers (λ x. numeral (pos x)));
-  short_words = short_numerals 502 numbers (omega arith) below;
+  short_words = short_numerals most_words numbers (omega arith) below;
 }
 
 pub short_opening : (command : List ℕ) (words : Line) → IsShortHeader command words → All IsShortHere (opening command words)
@@ -275,7 +287,7 @@ short_cut n cut last few is_set behind = short_set_and n (codes "cut") cut last 
 
 -- the header of a ladder, with numbers behind that of its last rung
 pub short_ladder_header : {R : Type 0} (IsRangedAt : ℕ → R → Type 0) (command : List ℕ) (n : ℕ) (rungs : List R) (numbers : List ℕ)
-    → IsShort command → AreRangedRungs IsRangedAt n rungs → length numbers ≤ 2 → AllBelow 502 numbers
+    → IsShort command → AreRangedRungs IsRangedAt n rungs → length numbers ≤ 2 → AllBelow most_words numbers
     → IsShortHeader command (numerals (n ∷ last_rung rungs ∷ numbers))
 short_ladder_header IsRangedAt command n rungs numbers short range few small =
     let most = range.no_more in
@@ -311,14 +323,14 @@ length-ladder {R} lines_of_rung IsRangedAt command words n rungs last four short
     rw same (short_at i rung (omega arith) (range.each i rung at))) in
     let all = All-append IsShortHere start (lines ++ last) (short_opening command words short)
     (All-append IsShortHere lines last short_lines short_last) in
-    let whole = length-text_of 502 65 (start ++ (lines ++ last)) all in
-    let count : length (start ++ (lines ++ last)) ≤ 2009 =
+    let whole = length-text_of most_words longest_word (start ++ (lines ++ last)) all in
+    let count : length (start ++ (lines ++ last)) ≤ most_lines =
     omega (arith, length-append start (lines ++ last), length-append lines last, length-rungs_lines lines_of_rung 0 rungs four) in
     omega arith
 
 -- a ladder of rungs with splits
 length-priced : (command : List ℕ) (numbers : List ℕ) (n : ℕ) (rungs : List PricedRung) (cut : List ℕ) (last : List Line) → IsShort command
-    → length numbers ≤ 2 → AllBelow 502 numbers → IsRangedLadder n rungs cut → All IsShortHere last → length last ≤ 2
+    → length numbers ≤ 2 → AllBelow most_words numbers → IsRangedLadder n rungs cut → All IsShortHere last → length last ≤ 2
     → length (text_of (opening command (numerals (n ∷ last_rung rungs ∷ numbers))
     ++ (rungs_lines priced_rung_lines 0 rungs ++ members_line (codes "cut") cut ∷ last))) ≤ 67108864
 length-priced command numbers n rungs cut last short some small range short_last two =
@@ -334,7 +346,7 @@ length-priced command numbers n rungs cut last short some small range short_last
 length-few : (command : List ℕ) (words : Line) (lines : List Line) → IsShortHeader command words → All IsShortHere lines → length lines ≤ 598
     → length (text_of (opening command words ++ lines)) < 24000000
 length-few command words lines short all few =
-    let whole = length-text_of 502 65 (opening command words ++ lines)
+    let whole = length-text_of most_words longest_word (opening command words ++ lines)
     (All-append IsShortHere (opening command words) lines (short_opening command words short) all) in
     let most = mul-le-mul {n₁ = length (opening command words ++ lines)} {m₁ = 33133} {n₂ = 600} {m₂ = 33133} (omega arith) (omega arith) in
     omega arith
@@ -350,20 +362,20 @@ length-sets command words n keyword sets last header few short each small behind
     (omega (arith, length-append (sets_lines keyword sets) last, length-map sets (members_line keyword)))
 
 -- a header of numbers, and of words behind them
-short_header_and : (command : List ℕ) (numbers : List ℕ) (back : Line) → IsShort command → AllBelow 502 numbers → All IsShort back
+short_header_and : (command : List ℕ) (numbers : List ℕ) (back : Line) → IsShort command → AllBelow most_words numbers → All IsShort back
     → length numbers + length back ≤ 5 → IsShortHeader command (numerals numbers ++ back)
 short_header_and command numbers back short small behind few = record {
   short_command = short;
   few = omega (arith, length-append (numerals numbers) back, length-map numbers (λ x. numeral (pos x)));
-  short_words = All-append IsShort (numerals numbers) back (short_numerals 502 numbers (omega arith) small) behind;
+  short_words = All-append IsShort (numerals numbers) back (short_numerals most_words numbers (omega arith) small) behind;
 }
 
 one_short : (word : List ℕ) → IsShort word → All IsShort (word ∷ [])
 one_short word short = All-cons IsShort word [] short (All-nil IsShort)
 
 -- a word and then numbers
-word_and : (word : List ℕ) (numbers : List ℕ) → IsShort word → AllBelow 502 numbers → All IsShort (word ∷ numerals numbers)
-word_and word numbers short small = All-cons IsShort word (numerals numbers) short (short_numerals 502 numbers (omega arith) small)
+word_and : (word : List ℕ) (numbers : List ℕ) → IsShort word → AllBelow most_words numbers → All IsShort (word ∷ numerals numbers)
+word_and word numbers short small = All-cons IsShort word (numerals numbers) short (short_numerals most_words numbers (omega arith) small)
 
 -- no ladder
 abbrev IsPlain : Certificate → Type 0

@@ -2,7 +2,7 @@
 use Rattle.std.specs.Prelude.{ℕ, suc, ◌+◌, Bool, not, ◌==◌, if◌then◌else◌, List}
 use Rattle.std.specs.Prelude.{[], ◌∷◌, ◌++◌, map, Option, Some, None, slice_get}
 use Rattle.mat_sets.specs.Sets.{minus, all_below}
-use Rattle.mat_sets.specs.Weights.{◌⊕◌, is_same, weight, weight_at}
+use Rattle.mat_sets.specs.Weights.{adds_up, is_same, weight, weight_at}
 use Rattle.mat_sets.specs.declared.weight.Weight.{Weight}
 use Rattle.mat_laws.specs.Ranks.{rank}
 use Rattle.mat_laws.specs.Searches.{is_beaten, has_addable}
@@ -49,7 +49,7 @@ independence_clause independent number k set = record { holds = independent set;
 -- the two parts add up to the weight of e
 abbrev pub sum_clause : List Weight → ℕ → List Weight → List Weight → ℕ → Clause
 sum_clause w k first second e = record {
-  holds = is_same (weight_at first e ⊕ weight_at second e) (weight_at w e);
+  holds = adds_up first second w e;
   failure = failure_at reasons.Sum k e;
 }
 

@@ -66,8 +66,8 @@ pub(crate) fn best_ladder<R: Threads + Sync, A: Matroid, B: Matroid>(
     Ok(ladder)
 }
 
-/// A heaviest team of each size for which a second rule holds, but not the circuit, which went last: each rung is such a team, and no other
-/// such team of its size weighs more. The only error is want of memory.
+/// A heaviest team of each size for which a second rule holds, but not the circuit, which went last: each rung is such a team, no other
+/// such team of its size weighs more, and none has more people than the last rung. The only error is want of memory.
 pub(crate) fn next_teams<R: Threads + Sync, B: Matroid>(
     rt: &R,
     alloc: Global,
@@ -86,6 +86,8 @@ pub(crate) fn next_teams<R: Threads + Sync, B: Matroid>(
     ensures heaviest { IfOk result (λ l. (k : ℕ) (rung : Rung) → slice_get l.rungs.items k ≡ Some rung
         → (other : List ℕ) → IsSet last.now.count other → length other ≡ k → other ≢ last.now.circuit → B.indep rule.now other ≡ true
         → weight weights.now other ≼ weight weights.now rung.set) }
+    ensures largest { IfOk result (λ l. (other : List ℕ) → IsSet last.now.count other → length other ≤ length last.now.circuit
+        → other ≢ last.now.circuit → B.indep rule.now other ≡ true → length other < length l.rungs.items) }
     ensures sets { IfOk result (λ l. AreTeamsOfRungs last.now.count l.rungs.items) }
 {
     last.lawful();

@@ -4,7 +4,7 @@ use Rattle.std.specs.Prelude.{◌≡◌, ℕ, ◌+◌, ◌≤◌, Bool, true, fa
 use Rattle.std.specs.Prelude.{List, [], ◌∷◌, ◌++◌, length, map, drop, filter, Option, Some, None, slice_index_or}
 use Rattle.std.specs.List.{list_all}
 use Rattle.mat_sets.specs.Sets.{all_below, intersection, minus}
-use Rattle.mat_sets.specs.Weights.{◌⊕◌, is_same, weight, weight_at, zero_weight}
+use Rattle.mat_sets.specs.Weights.{adds_up, is_same, weight, zero_weight}
 use Rattle.mat_sets.specs.declared.weight.Weight.{Weight}
 use Rattle.mat_laws.specs.CommonSets.{IsHeaviestCommon}
 use Rattle.mat_laws.specs.Ladders.{IsCut, IsRung}
@@ -45,7 +45,7 @@ rung_at rungs k = slice_index_or rungs k (record { weight = zero_weight; set = [
 abbrev pub is_priced : List Weight → ℕ → PricedRung → Bool
 is_priced w n rung =
     (n == length w) && (is_same rung.weight (weight w rung.set)
-    && list_all (λ e. is_same (weight_at rung.first e ⊕ weight_at rung.second e) (weight_at w e)) (all_below n))
+    && list_all (adds_up rung.first rung.second w) (all_below n))
 
 -- the parts show that the set is independent in both matroids
 abbrev pub shows_common_set : Tree → Tree → WitnessParts → List ℕ → Bool

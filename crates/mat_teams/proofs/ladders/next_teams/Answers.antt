@@ -17,5 +17,10 @@ returns-clause-heaviest g c = λ k rung at other set size differs allowed.
     let few : length other ≤ length last.circuit = omega (arith, size, heaviest.size, meaning.1) in
     heaviest.most other ((c.uniform_except_means.ensures last.count last.circuit other).1 (set, few, differs)) allowed size
 
+pub returns-clause-largest : goal.returns-clause-largest
+returns-clause-largest g c = λ other set few differs allowed.
+    let last = c.args.last.now in
+    c.in_ok-ladder.ensures.largest other ((c.uniform_except_means.ensures last.count last.circuit other).1 (set, few, differs)) allowed
+
 pub returns-clause-sets : goal.returns-clause-sets
 returns-clause-sets g c = rungs_are_teams c.lawful.ensures c.args.weights.now c.in_ok-ladder.ladder.rungs.items c.in_ok-ladder.ensures.heaviest
