@@ -5,8 +5,8 @@ use Rattle.mat_words.specs.Lines.{text_of}
 use Rattle.mat_words.specs.Numbers.{numeral}
 use Rattle.mat_words.specs.Weights.{weight_word}
 use Rattle.mat_words.specs.Writing.{weights_line}
-use Rattle.mat_cert.specs.declared.header_text.HeaderWord.{HeaderWord}
-use Rattle.mat_cert.specs.declared.header_text.HeaderWord.TheVariants as words
+use Rattle.mat_cert.specs.declared.write.header.HeaderWord.{HeaderWord}
+use Rattle.mat_cert.specs.declared.write.header.HeaderWord.TheVariants as words
 
 -- the word itself
 abbrev pub header_word : HeaderWord → List ℕ

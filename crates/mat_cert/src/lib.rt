@@ -4,29 +4,21 @@
 #![tactic(auto)]
 
 mod answer;
-mod answer_texts;
-mod certificate;
-mod header_text;
-mod headers;
-mod ladders;
 mod laws;
 mod limits;
-mod lines;
-mod packing;
+mod read;
 mod refusal;
-mod rung_texts;
-mod set_lines;
-mod set_texts;
-mod spanning;
-mod words;
 mod write;
 
+// Answers, and why a text is none.
 pub use answer::{Answer, LevelLine, PlainRung, PricedRung};
-pub use certificate::read_answer;
-pub use header_text::put_end_line;
-pub use laws::{certificate_laws, reading_laws};
-pub use lines::{closed, counted_line, last_line};
 pub use refusal::{CertKind, CertRefusal, fault};
-pub use set_lines::set_line;
-pub use words::{fixed_word, has_this_many};
-pub use write::write_answer;
+
+// Reading an answer, and the lines of a text that goes with one.
+pub use read::{closed, counted_line, fixed_word, has_this_many, last_line, read_answer, set_line};
+
+// Writing an answer, and the last line of a text that goes with one.
+pub use write::{put_end_line, write_answer};
+
+// What holds of every certificate, and of every text.
+pub use laws::{certificate_laws, reading_laws};

@@ -1,0 +1,7 @@
+use Rattle.std.proofs.Common.{◌≡◌, ◌+◌, length}
+use Rattle.mat_words.specs.Cursors.{parts_left, words_left}
+use Rattle.mat_cert.proofs.read.words.are_this_many.Given as goal
+
+-- the words that are left and those that were cut off are the words of the line
+abbrev pub invariant-loop : goal.invariant-loop
+invariant-loop l = length (parts_left l.rest) + l.counter ≡ length (words_left l.fn.words).words

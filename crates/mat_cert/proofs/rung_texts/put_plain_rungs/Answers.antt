@@ -1,9 +1,0 @@
-use Rattle.std.proofs.Common.{arith, rules}
-use Rattle.mat_cert.specs.Certificates.{plain_rung_lines}
-use Rattle.mat_cert.proofs.LineTexts.{rung_written}
-use Rattle.mat_cert.proofs.rung_texts.put_plain_rungs.Goals as goal
-
-pub loop-k-preserved : goal.loop-k-preserved
-loop-k-preserved c =
-    rung_written plain_rung_lines c.args.out.now.items c.args.rungs.now c.loop-k.k c.index-rungs-k.result c.loop-k.out.items _ (omega arith)
-    c.index-rungs-k.is c.loop-k.invariant (search rules)

@@ -1,8 +1,0 @@
-use Rattle.std.proofs.Common.{◌≡◌, ◌++◌, map, take}
-use Rattle.mat_words.specs.Lines.{text_of}
-use Rattle.mat_cert.specs.Certificates.{level_line}
-use Rattle.mat_cert.proofs.set_texts.put_level_lines.Given as goal
-
--- the lines of the levels so far stand there
-abbrev pub invariant-loop-level : goal.invariant-loop-level
-invariant-loop-level l = l.out.items ≡ l.fn.out.items ++ text_of (map level_line (take l.level-index l.levels))

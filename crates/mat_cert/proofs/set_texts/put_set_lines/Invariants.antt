@@ -1,8 +1,0 @@
-use Rattle.std.proofs.Common.{◌≡◌, ◌++◌, take}
-use Rattle.mat_words.specs.Lines.{text_of}
-use Rattle.mat_cert.specs.Certificates.{sets_lines}
-use Rattle.mat_cert.proofs.set_texts.put_set_lines.Given as goal
-
--- the lines of the sets so far stand there
-abbrev pub invariant-loop-set : goal.invariant-loop-set
-invariant-loop-set l = l.out.items ≡ l.fn.out.items ++ text_of (sets_lines l.keyword (take l.set-index l.items))

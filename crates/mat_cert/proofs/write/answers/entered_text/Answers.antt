@@ -1,0 +1,16 @@
+use Rattle.std.proofs.Common.{◌≡◌, ◌∷◌, [], codes, ◌++◌, pos, rules}
+use Rattle.mat_words.specs.Lines.{text_of}
+use Rattle.mat_words.specs.Numbers.{numerals, numeral}
+use Rattle.mat_words.specs.Writing.{members_line, end_line}
+use Rattle.mat_cert.specs.Certificates.{certificate_text}
+use Rattle.mat_cert.proofs.LineTexts.{opening, three_pieces}
+use Rattle.mat_cert.proofs.write.answers.entered_text.Goals as goal
+
+pub returns : goal.returns
+unfolding certificate_text
+returns c =
+    let start = opening (codes "disjoint") (numerals (c.args.count ∷ c.args.k ∷ []) ++ codes "none" ∷ numeral (pos c.args.vertices) ∷ []) in
+    let begun : c.in_ok-out.out.items ≡ text_of start = c.in_ok-out.ensures in
+    three_pieces start (members_line (codes "vertices") c.args.set.now ∷ []) (end_line ∷ [])
+    c.in_ok-out.out.items c.put_members_line.new.out.items _
+    begun (search rules) c.in_ok-put_end_line.ensures

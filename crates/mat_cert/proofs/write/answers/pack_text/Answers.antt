@@ -1,0 +1,16 @@
+use Rattle.std.proofs.Common.{◌≡◌, ◌∷◌, [], codes, length, rules}
+use Rattle.mat_words.specs.Lines.{text_of}
+use Rattle.mat_words.specs.Numbers.{numerals}
+use Rattle.mat_words.specs.Writing.{members_line, end_line}
+use Rattle.mat_cert.specs.Certificates.{sets_lines, certificate_text}
+use Rattle.mat_cert.proofs.LineTexts.{opening, four_pieces}
+use Rattle.mat_cert.proofs.write.answers.pack_text.Goals as goal
+
+pub returns : goal.returns
+unfolding certificate_text
+returns c =
+    let start = opening (codes "pack") (numerals (c.args.count ∷ length c.args.bases.now ∷ [])) in
+    let begun : c.in_ok-out.out.items ≡ text_of start = rw c.len.ensures.count at c.in_ok-out.ensures in
+    four_pieces start (sets_lines (codes "base") c.args.bases.now) (members_line (codes "cut") c.args.cut.now ∷ []) (end_line ∷ [])
+    c.in_ok-out.out.items c.put_set_lines.new.out.items c.put_members_line.new.out.items _
+    begun c.in_ok-put_set_lines.ensures (search rules) c.in_ok-put_end_line.ensures
