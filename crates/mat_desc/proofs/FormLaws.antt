@@ -13,12 +13,12 @@ use Rattle.mat_words.specs.Lines.{Line}
 use Rattle.mat_sets.specs.declared.weight.Weight.{Weight}
 use Rattle.mat_desc.specs.Limits.{most_sets}
 use Rattle.mat_sets.specs.Limits.{largest_weight, most_vertices, most_elements, most_matroids}
-use Rattle.mat_desc.specs.declared.keywords.Form.{Form}
-use Rattle.mat_desc.specs.declared.keywords.Form.TheVariants as forms
+use Rattle.mat_desc.specs.declared.read.keywords.Form.{Form}
+use Rattle.mat_desc.specs.declared.read.keywords.Form.TheVariants as forms
 use Rattle.mat_words.specs.Steps.{repeat_at}
 use Rattle.mat_words.specs.Cursors.{WordsLeft, LinesLeft}
-use Rattle.mat_desc.specs.declared.keywords.Version.{Version}
-use Rattle.mat_desc.specs.declared.keywords.Version.TheVariants as versions
+use Rattle.mat_desc.specs.declared.read.keywords.Version.{Version}
+use Rattle.mat_desc.specs.declared.read.keywords.Version.TheVariants as versions
 use Rattle.mat_desc.specs.Notations.{Naming, IsNaming, word_for, Notation, numbers, names, element_naming, vertex_naming, IsNotationFor}
 use Rattle.mat_desc.specs.Reading.{WrittenInstance, size_at, below_at, member_at, next_weights_at, ended_at, keyed_at, weights_at, notation_at}
 use Rattle.mat_desc.specs.Reading.{header_root_at, root_at}

@@ -8,9 +8,9 @@ use Rattle.std.proofs.lemmas.Slice.Eq.{bytes_eq-Decides}
 use Rattle.mat_words.specs.Lines.{Line, lines_of, text_of}
 use Rattle.mat_words.specs.Words.{is_word}
 use Rattle.mat_desc.specs.declared.refusal.DescKind.TheVariants.{TooManyLines}
-use Rattle.mat_desc.specs.declared.keywords.Form.{Form}
-use Rattle.mat_desc.specs.declared.keywords.Version.{Version}
-use Rattle.mat_desc.specs.declared.keywords.Version.TheVariants as versions
+use Rattle.mat_desc.specs.declared.read.keywords.Form.{Form}
+use Rattle.mat_desc.specs.declared.read.keywords.Version.{Version}
+use Rattle.mat_desc.specs.declared.read.keywords.Version.TheVariants as versions
 use Rattle.mat_words.specs.Cursors.{WordsLeft, LinesLeft}
 use Rattle.mat_words.specs.Reading.{word_at as word_read, is_closed}
 use Rattle.mat_words.specs.Steps.{◌>>=◌}

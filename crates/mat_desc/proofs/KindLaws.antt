@@ -10,8 +10,8 @@ use Rattle.mat_any.specs.Trees.{Tree, uniform, partition, laminar, graphic, gf2,
 use Rattle.mat_desc.specs.Notations.{Naming, IsNaming}
 use Rattle.mat_desc.specs.Limits.{most_sets, most_digits}
 use Rattle.mat_sets.specs.Limits.{most_vertices, most_elements}
-use Rattle.mat_desc.specs.declared.keywords.Keyword.{Keyword}
-use Rattle.mat_desc.specs.declared.keywords.Keyword.TheVariants as keywords
+use Rattle.mat_desc.specs.declared.read.keywords.Keyword.{Keyword}
+use Rattle.mat_desc.specs.declared.read.keywords.Keyword.TheVariants as keywords
 use Rattle.mat_words.specs.Cursors.{WordsLeft, LinesLeft}
 use Rattle.mat_words.specs.Steps.{repeat_at}
 use Rattle.mat_desc.specs.Reading.{size_at, ended_at, classes_at, nested_sets_at, uniform_at, partition_at}

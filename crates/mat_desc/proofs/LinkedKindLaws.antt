@@ -8,7 +8,7 @@ use Rattle.mat_any.specs.Trees.{Tree, transversal, gammoid}
 use Rattle.mat_desc.specs.Notations.{Naming, IsNaming}
 use Rattle.mat_desc.specs.Limits.{most_sets, most_arcs}
 use Rattle.mat_sets.specs.Limits.{most_vertices}
-use Rattle.mat_desc.specs.declared.keywords.Keyword.TheVariants as keywords
+use Rattle.mat_desc.specs.declared.read.keywords.Keyword.TheVariants as keywords
 use Rattle.mat_words.specs.Cursors.{WordsLeft, LinesLeft}
 use Rattle.mat_words.specs.Steps.{repeat_at}
 use Rattle.mat_desc.specs.Reading.{size_at, ended_at, set_line_at, transversal_at, targets_at, ends_line_at, gammoid_at}

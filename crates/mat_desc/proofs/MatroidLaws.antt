@@ -14,8 +14,8 @@ use Rattle.mat_words.specs.Lines.{Line}
 use Rattle.mat_desc.specs.Notations.{Naming, words_for, IsNaming}
 use Rattle.mat_desc.specs.Limits.{most_sets, most_digits, deepest}
 use Rattle.mat_sets.specs.Limits.{most_vertices, most_elements, most_matroids}
-use Rattle.mat_desc.specs.declared.keywords.Keyword.{Keyword}
-use Rattle.mat_desc.specs.declared.keywords.Keyword.TheVariants as keywords
+use Rattle.mat_desc.specs.declared.read.keywords.Keyword.{Keyword}
+use Rattle.mat_desc.specs.declared.read.keywords.Keyword.TheVariants as keywords
 use Rattle.mat_words.specs.Cursors.{WordsLeft, LinesLeft}
 use Rattle.mat_words.specs.Steps.{◌>>=◌, repeat_at}
 use Rattle.mat_words.specs.Reading.{word_at as word_read}

@@ -19,8 +19,8 @@ use Rattle.mat_words.proofs.NameLemmas.{name_index-found, name_index-at, is_amon
 use Rattle.mat_words.proofs.NumberLemmas.{numeral_word}
 use Rattle.mat_words.proofs.ReadingSteps.{found-same, bind_found, refused_found}
 use Rattle.mat_words.proofs.WordReading.{below_again, word_again}
-use Rattle.mat_desc.specs.declared.keywords.Version.{Version}
-use Rattle.mat_desc.specs.declared.keywords.Version.TheVariants as versions
+use Rattle.mat_desc.specs.declared.read.keywords.Version.{Version}
+use Rattle.mat_desc.specs.declared.read.keywords.Version.TheVariants as versions
 use Rattle.mat_desc.specs.declared.refusal.DescKind.TheVariants.{NameSpelling, Repeated}
 use Rattle.mat_desc.specs.Faults.{Fault, Fails, refusal_of}
 use Rattle.mat_desc.specs.Grammar.{vertex_name_lines, name_lines}

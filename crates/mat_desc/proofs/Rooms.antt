@@ -2,7 +2,7 @@
 use Rattle.std.proofs.Common.{◌≡◌, ℕ, zero, suc, ◌<◌, ◌-◌, List, Some, Ok, refl, sym, subst, arith}
 use Rattle.mat_words.specs.Cursors.{WordsLeft, LinesLeft}
 use Rattle.mat_words.specs.Reading as reading
-use Rattle.mat_desc.specs.declared.keywords.Keyword.{Keyword}
+use Rattle.mat_desc.specs.declared.read.keywords.Keyword.{Keyword}
 use Rattle.mat_desc.specs.Notations.{Naming}
 use Rattle.mat_desc.specs.Reading.{keyword_of, kind_at, matroid_within}
 

@@ -10,12 +10,12 @@ use Rattle.mat_sets.specs.declared.weight.Weight.{Weight}
 use Rattle.mat_count.specs.Laminar.{is_crossed}
 use Rattle.mat_any.specs.Trees.{Tree, uniform, partition, laminar, graphic, transversal, gammoid, gf2, dual, truncate, restrict, contract, union, trees_from}
 use Rattle.mat_desc.specs.declared.refusal.DescKind.TheVariants as kinds
-use Rattle.mat_desc.specs.declared.keywords.Form.{Form}
-use Rattle.mat_desc.specs.declared.keywords.Form.TheVariants as forms
-use Rattle.mat_desc.specs.declared.keywords.Version.{Version}
-use Rattle.mat_desc.specs.declared.keywords.Version.TheVariants as versions
-use Rattle.mat_desc.specs.declared.keywords.Keyword.{Keyword}
-use Rattle.mat_desc.specs.declared.keywords.Keyword.TheVariants as keywords
+use Rattle.mat_desc.specs.declared.read.keywords.Form.{Form}
+use Rattle.mat_desc.specs.declared.read.keywords.Form.TheVariants as forms
+use Rattle.mat_desc.specs.declared.read.keywords.Version.{Version}
+use Rattle.mat_desc.specs.declared.read.keywords.Version.TheVariants as versions
+use Rattle.mat_desc.specs.declared.read.keywords.Keyword.{Keyword}
+use Rattle.mat_desc.specs.declared.read.keywords.Keyword.TheVariants as keywords
 use Rattle.mat_words.specs.Cursors.{WordsLeft, LinesLeft}
 use Rattle.mat_words.specs.Names.{longest_name, name_index, is_among}
 use Rattle.mat_words.specs.Steps.{◌>>=◌, repeat_at}

@@ -3,10 +3,10 @@ use Rattle.std.specs.Prelude.{map, Option, Some, None}
 use Rattle.std.specs.Borrow.{Bor}
 use Rattle.mat_words.specs.NameLists.{names_of}
 use Rattle.mat_words.specs.declared.names.Names.{Names}
-use Rattle.mat_desc.specs.declared.notation.Notation as declared
-use Rattle.mat_desc.specs.declared.notation.Notation.TheVariants as notations
+use Rattle.mat_desc.specs.declared.read.notation.Notation as declared
+use Rattle.mat_desc.specs.declared.read.notation.Notation.TheVariants as notations
 use Rattle.mat_desc.specs.declared.named.Named.{Named}
-use Rattle.mat_desc.specs.declared.write.Lists.{Lists}
+use Rattle.mat_desc.specs.declared.write.problem.Lists.{Lists}
 use Rattle.mat_desc.specs.Notations.{Naming, Notation, numbers, names, NamedInstance}
 use Rattle.mat_desc.specs.Reading.{WrittenInstance}
 use Rattle.mat_desc.specs.declared.problem.Problem.{Problem}

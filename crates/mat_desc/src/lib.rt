@@ -1,24 +1,25 @@
 //! Descriptions of problems: the text format, its reader, which names the first fault of a text that spells no problem, and its writer.
 #![tactic(auto)]
 
-mod earlier_sets;
-mod item_lines;
-mod keywords;
 mod laws;
 mod limits;
-mod linked_lines;
-mod matroid;
 mod named;
-mod notation;
 mod problem;
-mod reading;
+mod read;
 mod refusal;
 mod write;
-mod write_lines;
-mod write_matroid;
 
-pub use laws::{reading_laws, soundness_laws, writing_laws};
-pub use named::{Named, read_named};
-pub use problem::{Problem, read_problem};
+// Problems, and why a text is none.
+pub use named::Named;
+pub use problem::Problem;
 pub use refusal::{DescKind, DescRefusal};
+
+// Reading a problem.
+pub use named::read_named;
+pub use read::read_problem;
+
+// Writing a problem.
 pub use write::{write_named, write_problem};
+
+// What holds of every text, and of every text that is written.
+pub use laws::{reading_laws, soundness_laws, writing_laws};

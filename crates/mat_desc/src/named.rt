@@ -11,8 +11,8 @@ ghost use Rattle.mat_desc.specs.Views.{instance_of, notation_of, named_instance,
 ghost use Rattle.mat_words.specs.NameLists.{names_of};
 ghost use Rattle.mat_words.specs.Words.{is_letter};
 
-use crate::notation::Notation;
-use crate::problem::{Problem, read_description};
+use crate::problem::Problem;
+use crate::read::{Notation, read_description};
 use crate::refusal::DescRefusal;
 use mat_words::{Names, put_number};
 use std::alloc::{AllocError, Global};

@@ -1,5 +1,0 @@
-use Rattle.mat_any.proofs.JoinedMatroids.{tree_of_union}
-use Rattle.mat_desc.proofs.matroid.joined.Goals as goal
-
-pub returns : goal.returns
-returns c = tree_of_union c.args.parts

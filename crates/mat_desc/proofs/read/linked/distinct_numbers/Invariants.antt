@@ -1,0 +1,10 @@
+use Rattle.std.proofs.Common.{◌≡◌, ◌-◌, []}
+use Rattle.mat_desc.specs.Reading.{distinct_at}
+use Rattle.mat_words.specs.Cursors.{words_left}
+use Rattle.mat_words.proofs.Repeats.{with_front}
+use Rattle.mat_desc.proofs.read.linked.distinct_numbers.Given as goal
+
+abbrev pub invariant-loop : goal.invariant-loop
+invariant-loop l =
+    with_front l.numbers.items (distinct_at l.bound (l.many - l.counter) l.taken (words_left l.rest))
+    ≡ distinct_at l.bound l.many [] (words_left l.fn.words)

@@ -1,0 +1,12 @@
+use Rattle.std.proofs.Common.{◌≡◌, ◌-◌, true, [], length}
+use Rattle.std.specs.List.{list_all}
+use Rattle.mat_words.specs.Cursors.{words_left}
+use Rattle.mat_words.specs.NameLists.{names_of}
+use Rattle.mat_words.specs.Words.{is_word}
+use Rattle.mat_desc.specs.Reading.{names_from}
+use Rattle.mat_desc.proofs.read.notation.next_names.Given as goal
+
+abbrev pub invariant-loop : goal.invariant-loop
+invariant-loop l =
+    (names_from (l.many - l.counter) (names_of l.names) (words_left l.rest) ≡ names_from l.many [] (words_left l.fn.words))
+    × (list_all is_word (words_left l.rest).words ≡ true) × (length (names_of l.names) ≡ l.counter)

@@ -1,0 +1,10 @@
+use Rattle.std.proofs.Common.{rules}
+use Rattle.mat_desc.specs.Notations.{words_for}
+use Rattle.mat_desc.specs.Views.{naming}
+use Rattle.mat_desc.proofs.Writing.{capped_written}
+use Rattle.mat_desc.proofs.write.lines.put_capped_line.Goals as goal
+
+pub returns : goal.returns
+returns c =
+    capped_written c.args.out.now.items c.args.keyword.now c.args.cap (words_for (naming c.args.names) c.args.set.now)
+    c.put_member_words.new.out.items _ (search rules) (search rules)

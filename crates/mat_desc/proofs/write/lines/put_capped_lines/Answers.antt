@@ -1,0 +1,15 @@
+use Rattle.std.proofs.Common.{rules}
+use Rattle.mat_desc.specs.Canonical.{capped_line}
+use Rattle.mat_desc.specs.Views.{naming}
+use Rattle.mat_desc.proofs.Writing.{pair_written, pairs_written}
+use Rattle.mat_desc.proofs.write.lines.put_capped_lines.Goals as goal
+
+pub loop-i-preserved : goal.loop-i-preserved
+loop-i-preserved c =
+    pair_written (capped_line (naming c.args.names) c.args.keyword.now) c.args.out.now.items c.args.sets.now c.args.caps.now c.loop-i.i
+    c.index-sets-i.result 0 c.loop-i.out.items _ (search rules) c.loop-i.invariant (search rules)
+
+pub returns : goal.returns
+returns c =
+    pairs_written (capped_line (naming c.args.names) c.args.keyword.now) c.args.out.now.items c.args.sets.now c.args.caps.now c.loop-i.i
+    c.loop-i.out.items (search rules) c.loop-i.invariant

@@ -1,0 +1,11 @@
+use Rattle.std.proofs.Common.{arith}
+use Rattle.std.specs.Prelude.{codes}
+use Rattle.mat_desc.specs.Grammar.{listing_line}
+use Rattle.mat_desc.specs.Views.{naming}
+use Rattle.mat_desc.proofs.Writing.{lines_written}
+use Rattle.mat_desc.proofs.write.lines.put_family_lines.Goals as goal
+
+pub returns : goal.returns
+returns c =
+    lines_written (listing_line (naming c.args.names) (codes "set")) c.args.out.now.items c.args.family.now
+    c.loop-set.set-index c.loop-set.out.items (omega arith) c.loop-set.invariant

@@ -1,0 +1,11 @@
+use Rattle.std.proofs.Common.{◌≡◌, ◌++◌, ◌∷◌, [], take}
+use Rattle.std.specs.List.{flat_map, zip}
+use Rattle.mat_words.specs.Lines.{text_of}
+use Rattle.mat_desc.specs.Grammar.{weighted_line}
+use Rattle.mat_desc.specs.Views.{naming}
+use Rattle.mat_desc.proofs.write.lines.put_weighted_lines.Given as goal
+
+-- the lines of the pairs so far stand there
+abbrev pub invariant-loop-i : goal.invariant-loop-i
+invariant-loop-i l = l.out.items ≡ l.fn.out.items ++ flat_map (λ p. text_of (weighted_line (naming l.names) l.keyword p ∷ []))
+    (take l.i (zip l.pairs l.weights))

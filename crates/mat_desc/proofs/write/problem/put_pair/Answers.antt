@@ -1,0 +1,14 @@
+use Rattle.std.proofs.Common.{codes}
+use Rattle.mat_any.specs.Views.{tree_of}
+use Rattle.mat_words.specs.Writing.{weights_line}
+use Rattle.mat_desc.specs.Canonical.{matroid_lines}
+use Rattle.mat_desc.specs.Views.{naming}
+use Rattle.mat_desc.proofs.Writing.{pair_written_out}
+use Rattle.mat_desc.proofs.write.problem.put_pair.Goals as goal
+
+pub returns : goal.returns
+returns c =
+    let lines = matroid_lines (naming c.args.names) in
+    pair_written_out c.args.out.now.items c.put_weights_line.new.out.items c.put_matroid.new.out.items _
+    (weights_line (codes "weights") c.args.weights.now) (lines (tree_of c.args.first.now)) (lines (tree_of c.args.second.now))
+    c.in_ok-put_weights_line.ensures.ok c.in_ok-put_matroid.ensures c.in_ok-put_matroid-2.ensures

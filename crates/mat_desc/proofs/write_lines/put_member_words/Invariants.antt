@@ -1,9 +1,0 @@
-use Rattle.std.proofs.Common.{◌≡◌, ◌++◌, ◌∷◌, take}
-use Rattle.std.specs.List.{flat_map}
-use Rattle.mat_desc.specs.Notations.{word_for}
-use Rattle.mat_desc.specs.Views.{naming}
-use Rattle.mat_desc.proofs.write_lines.put_member_words.Given as goal
-
--- the words for the members so far stand there
-abbrev pub invariant-loop-x : goal.invariant-loop-x
-invariant-loop-x l = l.out.items ≡ l.fn.out.items ++ flat_map (λ x. 32 ∷ word_for (naming l.names) x) (take l.x-index l.set)

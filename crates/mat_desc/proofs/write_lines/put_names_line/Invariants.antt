@@ -1,8 +1,0 @@
-use Rattle.std.proofs.Common.{◌≡◌, ◌++◌, take}
-use Rattle.mat_words.specs.NameLists.{names_of}
-use Rattle.mat_words.specs.Writing.{spaced}
-use Rattle.mat_desc.proofs.write_lines.put_names_line.Given as goal
-
--- the keyword stands there, and behind it the names so far
-abbrev pub invariant-loop-i : goal.invariant-loop-i
-invariant-loop-i l = l.out.items ≡ (l.fn.out.items ++ l.keyword) ++ spaced (take l.i (names_of l.names))

@@ -1,9 +1,0 @@
-use Rattle.std.proofs.Common.{◌≡◌, ◌++◌, ◌∷◌, [], take}
-use Rattle.std.specs.List.{flat_map}
-use Rattle.mat_words.specs.Lines.{text_of}
-use Rattle.mat_desc.specs.Grammar.{column_line}
-use Rattle.mat_desc.proofs.write_matroid.put_column_lines.Given as goal
-
--- the lines of the columns so far stand there
-abbrev pub invariant-loop-column : goal.invariant-loop-column
-invariant-loop-column l = l.out.items ≡ l.fn.out.items ++ flat_map (λ z. text_of (column_line l.dim z ∷ [])) (take l.column-index l.columns)
