@@ -5,8 +5,8 @@ use Rattle.std.proofs.lemmas.Option.{none-some, same_Some}
 use Rattle.mat_cert.specs.Certificates.{AreRangedRungs, IsRangedPricedRung, IsRangedPart}
 use Rattle.mat_cert.specs.declared.answer.PricedRung.{PricedRung}
 use Rattle.mat_check.specs.Halves.{half_of, halves_of, half_at}
-use Rattle.mat_check.specs.declared.halves.Side.{Side}
-use Rattle.mat_check.specs.declared.halves.Side.TheVariants.{First, Second}
+use Rattle.mat_check.specs.declared.ladder.halves.Side.{Side}
+use Rattle.mat_check.specs.declared.ladder.halves.Side.TheVariants.{First, Second}
 
 pub half_at-read : (side : Side) (rungs : List PricedRung) (k : ℕ) (rung : PricedRung) → slice_get rungs k ≡ Some rung
     → half_at (halves_of side rungs) k ≡ half_of side rung

@@ -7,8 +7,8 @@ use Rattle.mat_any.specs.Views.{tree_of}
 use Rattle.mat_any.specs.declared.any.AnyMatroid.{AnyMatroid}
 use Rattle.mat_greedy.specs.Greedy.{AreHeaviestWeights}
 use Rattle.mat_cert.specs.declared.answer.PricedRung.{PricedRung}
-use Rattle.mat_check.specs.declared.halves.Side.{Side}
-use Rattle.mat_check.specs.declared.halves.Side.TheVariants.{First, Second}
+use Rattle.mat_check.specs.declared.ladder.halves.Side.{Side}
+use Rattle.mat_check.specs.declared.ladder.halves.Side.TheVariants.{First, Second}
 
 -- the half of a rung's split that is given to this matroid
 abbrev pub half_of : Side → PricedRung → List Weight

@@ -16,9 +16,9 @@ ghost use Rattle.mat_desc.specs.Views.{instance_of};
 
 use crate::graph_answers::{coloured_failure, graph_failure, rooted_failure, table_failure};
 use crate::headers::has_header;
+use crate::ladder::rung::WeightedPair;
 use crate::matroid_answers::{list_failure, pair_failure};
 use crate::reason::{Failure, Reason};
-use crate::rung::WeightedPair;
 use crate::verdict::Verdict;
 use mat_cert::Answer;
 use mat_desc::Problem;

@@ -9,11 +9,11 @@ ghost use Rattle.mat_check.specs.Clauses.{first_failure};
 ghost use Rattle.mat_desc.specs.Grammar.{IsValid};
 ghost use Rattle.mat_desc.specs.Instances.{coloured, graph, rooted, table};
 
-use crate::arborescences::{disjoint_failure, seldom_entered_failure};
-use crate::fronts::{assign_failure, rainbow_failure};
-use crate::least::least_failure;
+use crate::graphs::arborescence::least_failure;
+use crate::graphs::disjoint_arborescences::{disjoint_failure, seldom_entered_failure};
+use crate::graphs::trees::{partition_failure, trees_failure};
+use crate::ladder::fronts::{assign_failure, rainbow_failure};
 use crate::reason::Failure;
-use crate::trees::{partition_failure, trees_failure};
 use mat_cert::Answer;
 use mat_sets::{PairWeights, Pairs, Weight};
 use std::alloc::{AllocError, Global};

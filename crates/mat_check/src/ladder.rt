@@ -9,10 +9,18 @@ ghost use Rattle.mat_work.specs.Workers.{AreWorkers};
 ghost use Rattle.mat_cert.specs.Certificates.{AreRangedRungs, IsRangedLadder, IsRangedPlainRung};
 ghost use Rattle.mat_check.specs.Clauses.{best_clauses, first_failure, ladder_clauses};
 
-use crate::ends::{cut_holds, last_failure};
+mod colours;
+pub(crate) mod fronts;
+mod halves;
+mod last_rung;
+pub(crate) mod rung;
+mod rung_sums;
+mod rungs;
+
+use crate::ladder::last_rung::{cut_holds, last_failure};
+use crate::ladder::rung::WeightedPair;
+use crate::ladder::rungs::{plain_rungs_failure, priced_rungs_failure};
 use crate::reason::{Failure, Reason};
-use crate::rung::WeightedPair;
-use crate::rungs::{plain_rungs_failure, priced_rungs_failure};
 use mat_any::AnyMatroid;
 use mat_cert::{PlainRung, PricedRung};
 use mat_sets::{ElemSet, Weight};

@@ -12,12 +12,12 @@ ghost use Rattle.mat_desc.specs.Grammar.{IsValid};
 ghost use Rattle.mat_desc.specs.Instances.{pair, list};
 ghost use Rattle.mat_desc.specs.Soundness.{IsSoundInstance};
 
-use crate::coverings::{cover_failure, loop_failure};
+use crate::ladder::rung::WeightedPair;
 use crate::ladder::{best_failure, ladder_failure};
-use crate::packings::{no_rank_failure, pack_failure};
 use crate::reason::Failure;
-use crate::rung::WeightedPair;
-use crate::unions::union_failure;
+use crate::sets::coverings::{cover_failure, loop_failure};
+use crate::sets::packings::{no_rank_failure, pack_failure};
+use crate::sets::unions::union_failure;
 use mat_any::AnyMatroid;
 use mat_cert::Answer;
 use mat_sets::Weight;

@@ -1,0 +1,9 @@
+use Rattle.std.proofs.Common.{◌≡◌, map, None}
+use Rattle.mat_sets.specs.Sets.{all_below}
+use Rattle.mat_check.specs.Clauses.{first_failure}
+use Rattle.mat_check.specs.TreeClauses.{cost_clause}
+use Rattle.mat_check.proofs.graphs.arborescence.cost_failure.Given as goal
+
+-- no clause of an arc so far fails
+abbrev pub invariant-loop-e : goal.invariant-loop-e
+invariant-loop-e l = first_failure (map (cost_clause l.costs l.first l.second) (all_below l.e)) ≡ None

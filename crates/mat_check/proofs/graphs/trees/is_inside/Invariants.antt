@@ -1,0 +1,8 @@
+-- No class before this holds both.
+use Rattle.std.proofs.Common.{◌≡◌, ◌&&◌, false, [], get_or}
+use Rattle.mat_sets.specs.Search.{some_below}
+use Rattle.mat_sets.specs.Sets.{is_member}
+use Rattle.mat_check.proofs.graphs.trees.is_inside.Given as goal
+
+abbrev pub invariant-loop-q : goal.invariant-loop-q
+invariant-loop-q l = some_below l.q (λ q. is_member l.first (get_or l.classes q []) && is_member l.second (get_or l.classes q [])) ≡ false

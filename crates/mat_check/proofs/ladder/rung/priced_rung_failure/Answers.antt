@@ -1,0 +1,6 @@
+use Rattle.std.proofs.Common.{arith}
+use Rattle.mat_sets.proofs.Ground.{IsSet-length}
+use Rattle.mat_check.proofs.ladder.rung.priced_rung_failure.Goals as goal
+
+pub weigh-requires-clause-few : goal.weigh-requires-clause-few
+weigh-requires-clause-few c = omega (arith, IsSet-length _ _ c.requires.ranged.0.set_in_range, c.requires.few)

@@ -1,0 +1,20 @@
+use Rattle.std.proofs.Common.{◌∙◌, length, ap, arith}
+use Rattle.mat_any.specs.Trees.{is_independent}
+use Rattle.mat_any.specs.Views.{tree_of}
+use Rattle.mat_check.specs.Clauses.{plain_rung_clauses}
+use Rattle.mat_check.specs.RungFailures.{first_in_order}
+use Rattle.mat_check.proofs.RungFailures.{first_of_found, length-rungs_failures}
+use Rattle.mat_check.proofs.ladder.rungs.plain_rungs_failure.Goals as goal
+
+pub returns : goal.returns
+returns g c =
+    let clauses = plain_rung_clauses (length c.args.weights.now) (is_independent (tree_of c.args.m.now)) c.args.weights.now in
+    c.first_found.ensures ∙ ap first_in_order c.deref.ensures.value
+    ∙ first_of_found clauses c.args.rungs.now c.in_ok-failures.failures.items c.in_ok-failures.ensures.count
+    c.in_ok-failures.ensures.rows
+
+pub all_rows-requires-clause-below : goal.all_rows-requires-clause-below
+all_rows-requires-clause-below g c κs within =
+    let clauses = plain_rung_clauses (length c.args.weights.now) (is_independent (tree_of c.args.m.now)) c.args.weights.now in
+    let count = length-rungs_failures clauses 0 c.args.rungs.now in
+    omega (arith, count)

@@ -1,0 +1,16 @@
+use Rattle.std.proofs.Common.{sym, ◌∙◌}
+use Rattle.mat_check.proofs.FailingClauses.{none_below_none, none_below_next, first_below}
+use Rattle.mat_check.proofs.Multiplicities.{missed_clause}
+use Rattle.mat_check.proofs.sets.families.missed_failure.Goals as goal
+
+pub loop-e-init : goal.loop-e-init
+loop-e-init c = none_below_none (missed_clause c.args.sets.now)
+
+pub returns-then-not-is_covered : goal.returns-then-not-is_covered
+returns-then-not-is_covered c =
+    rw c.at.ensures (sym (first_below (missed_clause c.args.sets.now) _ c.loop-e.e c.loop-e-test.true c.loop-e.invariant
+    (sym c.is_covered.ensures ∙ c.if-not-is_covered.true)))
+
+pub loop-e-preserved : goal.loop-e-preserved
+loop-e-preserved c =
+    none_below_next (missed_clause c.args.sets.now) c.loop-e.e c.loop-e.invariant (sym c.is_covered.ensures ∙ c.if-not-is_covered.false)

@@ -1,9 +1,0 @@
--- No part so far is dependent.
-use Rattle.std.proofs.Common.{[], ◌∷◌, map}
-use Rattle.mat_union.specs.Unions.{test_at}
-use Rattle.mat_check.specs.SetClauses.{independent_clause}
-use Rattle.mat_check.proofs.NumberedFailures.{IsPassed}
-use Rattle.mat_check.proofs.unions.parts_failure.Given as goal
-
-abbrev pub invariant-loop-i : goal.invariant-loop-i
-invariant-loop-i g l = IsPassed (λ i part. independent_clause (test_at (map g.M.Matroid.indep l.matroids) i) i part ∷ []) l.parts l.i

@@ -1,0 +1,126 @@
+//! The clauses of rainbow spanning trees and of assignments: ladders of the two matroids that they are common independent sets of.
+
+ghost use Rattle.std.specs.Prelude.{◌≡◌, ◌++◌, length, slice_index, IfOk};
+ghost use Rattle.mat_sets.specs.Limits.{largest_weight};
+ghost use Rattle.mat_sets.specs.Graphs.{IsGraph, ends_of};
+ghost use Rattle.mat_sets.specs.Weights.{AreWeightsWithin};
+ghost use Rattle.mat_graphic.specs.Forests.{is_graphic};
+ghost use Rattle.mat_work.specs.Workers.{AreWorkers};
+ghost use Rattle.mat_fronts.specs.Assignments.{column_at, row_at};
+ghost use Rattle.mat_fronts.specs.Once.{is_once};
+ghost use Rattle.mat_cert.specs.Certificates.{IsRangedLadder};
+ghost use Rattle.mat_check.specs.Clauses.{first_failure, ladder_clauses};
+ghost use Rattle.mat_check.specs.TreeClauses.{colours_clauses};
+
+use crate::ladder::colours::colours_failure;
+use crate::ladder::ladder_failure;
+use crate::ladder::rung::WeightedPair;
+use crate::reason::Failure;
+use mat_any::AnyMatroid;
+use mat_cert::PricedRung;
+use mat_count::Partition;
+use mat_graphic::Graphic;
+use mat_sets::{ElemSet, Pairs, Weight};
+use std::alloc::{AllocError, Global};
+use std::thread::Threads;
+
+/// The first clause of the assignments of each size that fails, as a ladder of the partition matroids of the rows and of the columns
+/// (Schrijver, chapter 17). The only error is want of memory.
+pub(crate) fn assign_failure<R: Threads + Sync>(
+    rt: &R,
+    alloc: Global,
+    rows: u32,
+    columns: u32,
+    cells: &Pairs,
+    weights: &[Weight],
+    rungs: &[PricedRung],
+    cut: &ElemSet,
+    workers: u32,
+) -> Result<Option<Failure>, AllocError>
+    requires lengths { length weights.now ≡ length cells.now }
+    requires small { AreWeightsWithin largest_weight weights.now }
+    requires ranged { IsRangedLadder (length cells.now) rungs.now cut.now }
+    requires workers { AreWorkers workers }
+    ensures { IfOk result (λ found. found ≡ first_failure (ladder_clauses (length cells.now) (is_once (length cells.now) rows (row_at cells.now))
+        (is_once (length cells.now) columns (column_at cells.now)) weights.now rungs.now cut.now)) }
+{
+    let row_of = cells.firsts(alloc)?;
+    let column_of = cells.seconds(alloc)?;
+    let by_row = AnyMatroid::Partition(Partition::one_for_each_label(alloc, &row_of, rows)?);
+    let by_column = AnyMatroid::Partition(Partition::one_for_each_label(
+        alloc, &column_of, columns,
+    )?);
+    let both = WeightedPair {
+        weights,
+        first: &by_row,
+        second: &by_column,
+    };
+    ladder_failure(rt, alloc, &both, rungs, cut, workers)
+}
+
+// The first clause of the rainbow forests of each size that fails, as a ladder of the graphic matroid and of the partition matroid of the
+// colours (Schrijver, chapter 41).
+fn rainbow_ladder_failure<R: Threads + Sync>(
+    rt: &R,
+    alloc: Global,
+    vertices: u32,
+    edges: &Pairs,
+    colours: u32,
+    colour_of: &[u32],
+    weights: &[Weight],
+    rungs: &[PricedRung],
+    cut: &ElemSet,
+    workers: u32,
+) -> Result<Option<Failure>, AllocError>
+    requires graph { IsGraph vertices edges.now }
+    requires long { length colour_of.now ≡ length edges.now }
+    requires lengths { length weights.now ≡ length edges.now }
+    requires small { AreWeightsWithin largest_weight weights.now }
+    requires ranged { IsRangedLadder (length edges.now) rungs.now cut.now }
+    requires workers { AreWorkers workers }
+    ensures { IfOk result (λ found. found ≡ first_failure (ladder_clauses (length edges.now) (is_graphic (length edges.now) (ends_of edges.now))
+        (is_once (length edges.now) colours (slice_index colour_of.now)) weights.now rungs.now cut.now)) }
+{
+    let graphic = AnyMatroid::Graphic(Graphic::new(alloc, vertices, edges.copy(alloc)?)?);
+    let classes = AnyMatroid::Partition(Partition::one_for_each_label(alloc, colour_of, colours)?);
+    let both = WeightedPair {
+        weights,
+        first: &graphic,
+        second: &classes,
+    };
+    ladder_failure(rt, alloc, &both, rungs, cut, workers)
+}
+
+/// The first clause of the rainbow forests of each size that fails, as a ladder of the graphic matroid and of the partition matroid of the
+/// colours, and then that of the missing colours (Schrijver, chapter 41). The only error is want of memory.
+pub(crate) fn rainbow_failure<R: Threads + Sync>(
+    rt: &R,
+    alloc: Global,
+    vertices: u32,
+    edges: &Pairs,
+    colours: u32,
+    colour_of: &[u32],
+    weights: &[Weight],
+    rungs: &[PricedRung],
+    cut: &ElemSet,
+    missing: &Option<ElemSet>,
+    workers: u32,
+) -> Result<Option<Failure>, AllocError>
+    requires graph { IsGraph vertices edges.now }
+    requires long { length colour_of.now ≡ length edges.now }
+    requires lengths { length weights.now ≡ length edges.now }
+    requires small { AreWeightsWithin largest_weight weights.now }
+    requires ranged { IsRangedLadder (length edges.now) rungs.now cut.now }
+    requires workers { AreWorkers workers }
+    ensures { IfOk result (λ found. found ≡ first_failure (ladder_clauses (length edges.now) (is_graphic (length edges.now) (ends_of edges.now))
+        (is_once (length edges.now) colours (slice_index colour_of.now)) weights.now rungs.now cut.now
+        ++ colours_clauses vertices (length edges.now) (ends_of edges.now) (slice_index colour_of.now) missing.now)) }
+{
+    let found = rainbow_ladder_failure(
+        rt, alloc, vertices, edges, colours, colour_of, weights, rungs, cut, workers,
+    )?;
+    if let Some(failure) = found {
+        return Ok(Some(failure));
+    }
+    colours_failure(alloc, vertices, edges, colour_of, missing)
+}

@@ -1,0 +1,216 @@
+//! The clauses of all rungs: each rung is judged from its own data.
+
+ghost use Rattle.std.specs.Prelude.{◌≡◌, length, IfOk};
+ghost use Rattle.mat_sets.specs.Limits.{largest_number};
+ghost use Rattle.mat_sets.specs.Weights.{AreWeightsWithin};
+ghost use Rattle.mat_any.specs.Trees.{element_count, is_independent, IsSound};
+ghost use Rattle.mat_any.specs.Views.{tree_of};
+ghost use Rattle.mat_work.specs.Workers.{AreWorkers};
+ghost use Rattle.mat_cert.specs.Certificates.{AreRangedRungs, IsRangedPlainRung, IsRangedPricedRung};
+ghost use Rattle.mat_check.specs.Clauses.{first_failure, numbered_clauses, plain_rung_clauses, priced_rung_clauses};
+ghost use Rattle.mat_check.specs.RungFailures.{first_in_order};
+
+use crate::ladder::halves::Side;
+use crate::ladder::rung::{WeightedPair, plain_rung_failure, priced_rung_failure};
+use crate::ladder::rung_sums::{RungSums, rung_sums};
+use crate::reason::Failure;
+use mat_any::AnyMatroid;
+use mat_cert::{PlainRung, PricedRung};
+use mat_greedy::heaviest_weights;
+use mat_sets::{PairWeights, Weight};
+use mat_work::{RowJob, all_rows};
+use std::alloc::{AllocError, Global};
+use std::marker::Model;
+use std::thread::Threads;
+
+/// The first failure of the rungs of a matroid. It is seen as the list of the first failures, rung by rung.
+#[derive(Drop)]
+struct PlainFailures<'a> {
+    alloc: Global,
+    matroid: &'a AnyMatroid,
+    weights: &'a [Weight],
+    heaviest: &'a PairWeights,
+    rungs: &'a [PlainRung],
+}
+
+impl<'a> Model for PlainFailures<'a> {
+    ghost use Rattle.std.specs.Prelude.{◌≡◌, List, Option, length};
+    ghost use Rattle.mat_sets.specs.Limits.{largest_number};
+    ghost use Rattle.mat_sets.specs.Weights.{weight_at, AreWeightsWithin};
+    ghost use Rattle.mat_any.specs.Trees.{element_count, is_independent, IsSound};
+    ghost use Rattle.mat_any.specs.Views.{tree_of};
+    ghost use Rattle.mat_greedy.specs.Greedy.{AreHeaviestWeights};
+    ghost use Rattle.mat_cert.specs.Certificates.{AreRangedRungs, IsRangedPlainRung};
+    ghost use Rattle.mat_check.specs.Clauses.{Failure, plain_rung_clauses};
+    ghost use Rattle.mat_check.specs.RungFailures.{rungs_failures};
+
+    ghost Value = { List (Option Failure) };
+
+    ghost view = { λ job. rungs_failures
+        (plain_rung_clauses (length job.weights.now) (is_independent (tree_of job.matroid.now)) job.weights.now) 0 job.rungs.now };
+
+    ghost invariant = { λ job. IsSound (tree_of job.matroid.now) × (length job.weights.now ≡ element_count (tree_of job.matroid.now))
+        × AreWeightsWithin largest_number job.weights.now
+        × AreHeaviestWeights (element_count (tree_of job.matroid.now)) (is_independent (tree_of job.matroid.now)) (weight_at job.weights.now)
+        job.heaviest.now
+        × AreRangedRungs (IsRangedPlainRung (length job.weights.now)) (length job.weights.now) job.rungs.now };
+}
+
+impl RowJob for PlainFailures<'_> {
+    type Row = Option<Failure>;
+
+    ghost use Rattle.std.specs.Prelude.{◌≡◌, None, length, slice_index_or};
+
+    ghost jobs = { length };
+
+    ghost stands = { λ failures k found. found ≡ slice_index_or failures k None };
+
+    fn row(&self, k: u32) -> Result<Option<Failure>, AllocError> {
+        let rung = &self.rungs[k as usize];
+        plain_rung_failure(
+            self.alloc,
+            self.matroid,
+            self.weights,
+            self.heaviest,
+            k,
+            rung,
+        )
+    }
+}
+
+/// The first failure of the rungs of two matroids. It is seen as the list of the first failures, rung by rung.
+#[derive(Drop)]
+struct PricedFailures<'a> {
+    alloc: Global,
+    pair: &'a WeightedPair<'a>,
+    first: &'a RungSums,
+    second: &'a RungSums,
+    rungs: &'a [PricedRung],
+}
+
+impl<'a> Model for PricedFailures<'a> {
+    ghost use Rattle.std.specs.Prelude.{◌≡◌, ◌<◌, ℕ, List, [], Option, length, slice_index_or};
+    ghost use Rattle.mat_sets.specs.Limits.{largest_number};
+    ghost use Rattle.mat_sets.specs.Weights.{weight_at, AreWeightsWithin};
+    ghost use Rattle.mat_any.specs.Trees.{element_count, is_independent, IsSound};
+    ghost use Rattle.mat_any.specs.Views.{tree_of};
+    ghost use Rattle.mat_greedy.specs.Greedy.{AreHeaviestWeights};
+    ghost use Rattle.mat_cert.specs.Certificates.{AreRangedRungs, IsRangedPricedRung};
+    ghost use Rattle.mat_check.specs.Clauses.{Failure, priced_rung_clauses};
+    ghost use Rattle.mat_check.specs.Halves.{halves_of, half_at};
+    ghost use Rattle.mat_check.specs.RungFailures.{rungs_failures};
+    ghost use Rattle.mat_check.specs.declared.ladder.halves.Side.TheVariants.{First, Second};
+
+    ghost Value = { List (Option Failure) };
+
+    ghost view = { λ job. rungs_failures
+        (priced_rung_clauses (length job.pair.now.weights.now) (is_independent (tree_of job.pair.now.first.now))
+        (is_independent (tree_of job.pair.now.second.now)) job.pair.now.weights.now) 0 job.rungs.now };
+
+    ghost invariant = { λ job. IsSound (tree_of job.pair.now.first.now) × IsSound (tree_of job.pair.now.second.now)
+        × (length job.pair.now.weights.now ≡ element_count (tree_of job.pair.now.first.now))
+        × (length job.pair.now.weights.now ≡ element_count (tree_of job.pair.now.second.now))
+        × AreWeightsWithin largest_number job.pair.now.weights.now
+        × AreRangedRungs (IsRangedPricedRung (length job.pair.now.weights.now)) (length job.pair.now.weights.now) job.rungs.now
+        × (length job.first.now ≡ length job.rungs.now) × (length job.second.now ≡ length job.rungs.now)
+        × ((k : ℕ) → k < length job.rungs.now → AreHeaviestWeights (element_count (tree_of job.pair.now.first.now))
+        (is_independent (tree_of job.pair.now.first.now)) (weight_at (half_at (halves_of First job.rungs.now) k))
+        (slice_index_or job.first.now k []))
+        × ((k : ℕ) → k < length job.rungs.now → AreHeaviestWeights (element_count (tree_of job.pair.now.second.now))
+        (is_independent (tree_of job.pair.now.second.now)) (weight_at (half_at (halves_of Second job.rungs.now) k))
+        (slice_index_or job.second.now k [])) };
+}
+
+impl RowJob for PricedFailures<'_> {
+    type Row = Option<Failure>;
+
+    ghost use Rattle.std.specs.Prelude.{◌≡◌, None, length, slice_index_or};
+
+    ghost jobs = { length };
+
+    ghost stands = { λ failures k found. found ≡ slice_index_or failures k None };
+
+    fn row(&self, k: u32) -> Result<Option<Failure>, AllocError> {
+        let rung = &self.rungs[k as usize];
+        let first = self.first.of_rung(k);
+        let second = self.second.of_rung(k);
+        priced_rung_failure(self.alloc, self.pair, first, second, k, rung)
+    }
+}
+
+// The first failure in the order of the rungs.
+fn first_found(failures: &[Option<Failure>]) -> Option<Failure>
+    ensures { result ≡ first_in_order failures.now }
+{
+    for failure in failures {
+        if let Some(first) = failure {
+            return Some(*first);
+        }
+    }
+    None
+}
+
+/// The first clause of the rungs of a matroid that fails: one run of the greedy algorithm, and one question of independence for
+/// each rung. All rungs are judged, each by one worker, and the first failure in their order is told. The only error is want of memory.
+pub(crate) fn plain_rungs_failure<R: Threads + Sync>(
+    rt: &R,
+    alloc: Global,
+    m: &AnyMatroid,
+    weights: &[Weight],
+    rungs: &[PlainRung],
+    workers: u32,
+) -> Result<Option<Failure>, AllocError>
+    requires sound { IsSound (tree_of m.now) }
+    requires lengths { length weights.now ≡ element_count (tree_of m.now) }
+    requires small { AreWeightsWithin largest_number weights.now }
+    requires ranged { AreRangedRungs (IsRangedPlainRung (length weights.now)) (length weights.now) rungs.now }
+    requires workers { AreWorkers workers }
+    ensures { IfOk result (λ found. found
+        ≡ first_failure (numbered_clauses (plain_rung_clauses (length weights.now) (is_independent (tree_of m.now)) weights.now) 0 rungs.now)) }
+{
+    let heaviest = heaviest_weights(alloc, m, weights)?;
+    let job = PlainFailures {
+        alloc,
+        matroid: m,
+        weights,
+        heaviest: &heaviest,
+        rungs,
+    };
+    let failures = all_rows(rt, alloc, &job, rungs.len() as u32, workers)?;
+    Ok(first_found(&failures))
+}
+
+/// The first clause of the rungs of a ladder of two matroids that fails: two questions of independence for each rung, and one
+/// run of the greedy algorithm for each half of a split that isn't that of the rung before. First the workers share these runs, for one
+/// matroid and then for the other, and then the rungs: all are judged, and the first failure in their order is told. The only error
+/// is want of memory.
+pub(crate) fn priced_rungs_failure<R: Threads + Sync>(
+    rt: &R,
+    alloc: Global,
+    pair: &WeightedPair,
+    rungs: &[PricedRung],
+    workers: u32,
+) -> Result<Option<Failure>, AllocError>
+    requires first_sound { IsSound (tree_of pair.now.first.now) }
+    requires second_sound { IsSound (tree_of pair.now.second.now) }
+    requires first_lengths { length pair.now.weights.now ≡ element_count (tree_of pair.now.first.now) }
+    requires second_lengths { length pair.now.weights.now ≡ element_count (tree_of pair.now.second.now) }
+    requires small { AreWeightsWithin largest_number pair.now.weights.now }
+    requires ranged { AreRangedRungs (IsRangedPricedRung (length pair.now.weights.now)) (length pair.now.weights.now) rungs.now }
+    requires workers { AreWorkers workers }
+    ensures { IfOk result (λ found. found
+        ≡ first_failure (numbered_clauses (priced_rung_clauses (length pair.now.weights.now) (is_independent (tree_of pair.now.first.now))
+        (is_independent (tree_of pair.now.second.now)) pair.now.weights.now) 0 rungs.now)) }
+{
+    let first = rung_sums(rt, alloc, pair.first, rungs, Side::First, workers)?;
+    let second = rung_sums(rt, alloc, pair.second, rungs, Side::Second, workers)?;
+    let job = PricedFailures {
+        alloc,
+        pair,
+        first: &first,
+        second: &second,
+        rungs,
+    };
+    let failures = all_rows(rt, alloc, &job, rungs.len() as u32, workers)?;
+    Ok(first_found(&failures))
+}
