@@ -2,37 +2,19 @@
 //! independent set is larger than the last rung's.
 #![tactic(auto)]
 
-mod arcs;
 mod bound_rows;
-mod bounds;
-mod closing;
-mod counted;
 mod demands;
-mod forests;
-mod free;
 mod kinds;
 mod laws;
 mod make;
-mod met;
 mod parts;
-mod paths;
-mod priced;
-mod probes;
-mod read;
-mod read_parts;
-mod rows;
-mod text_laws;
+mod text;
 mod verifier;
 mod witness;
-mod write;
-mod write_parts;
-mod zeros;
 
 pub use kinds::{are_witnessed, has_rung};
 pub use laws::shown_is_best;
 pub use make::make_witness;
-pub use read::read_witness;
-pub use text_laws::witness_laws;
+pub use text::{read_witness, witness_laws, write_witness};
 pub use verifier::verify;
 pub use witness::{Free, Most, Witness};
-pub use write::write_witness;

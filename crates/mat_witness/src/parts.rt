@@ -1,4 +1,4 @@
-//! The parts of a witness, by the kind of the matroid.
+//! The parts of a witness, made by the kind of the matroid. What makes and what tests those of one kind stands in a file or a folder of its own.
 
 ghost use Rattle.std.specs.Prelude.{◌≡◌, ◌≤◌, true, length, IfOk};
 ghost use Rattle.mat_sets.specs.Sets.{IsSet};
@@ -11,13 +11,16 @@ ghost use Rattle.mat_witness.specs.Making.{IsWitnessed};
 ghost use Rattle.mat_witness.specs.Parts.{IsBoundFor, IsFreeFor};
 ghost use Rattle.mat_witness.specs.Views.{bound_part, free_part};
 
-use crate::closing::closing_sets;
-use crate::counted::{filled_bound, filled_uniform};
-use crate::forests::{component_labels, forest_pairs};
-use crate::paths::paths_to;
-use crate::probes::probes_of;
+mod columns;
+mod counted;
+mod forests;
+mod gammoids;
+
 use crate::witness::{Free, Most};
-use crate::zeros::zeros_of;
+pub(crate) use columns::{probes_of, shows_probes, zeros_bound, zeros_of};
+pub(crate) use counted::{filled_bound, filled_uniform, listed_bound, uniform_bound};
+pub(crate) use forests::{component_labels, forest_pairs, labels_bound, shows_forest};
+pub(crate) use gammoids::{closing_bound, closing_sets, paths_to, shows_paths};
 use mat_any::AnyMatroid;
 use mat_sets::ElemSet;
 use std::alloc::{AllocError, Global};

@@ -17,15 +17,20 @@ ghost use Rattle.mat_witness.specs.Shown.{AreBoundsFor, are_met, bounded_trees, 
 ghost use Rattle.mat_witness.specs.Shown.{IsWitness, IsWitnessFor, failing_part};
 ghost use Rattle.mat_witness.specs.Views.{bound_part, free_part, witness_parts};
 
+mod bounds;
+mod free;
+mod met;
+mod priced;
+
 use crate::bound_rows::bounds_behind;
-use crate::free::shows_free;
-use crate::met::{bounds_common_sets, met_under};
-use crate::priced::is_priced;
 use crate::witness::{Most, Witness};
+use free::shows_free;
 use mat_any::AnyMatroid;
 use mat_cert::{Answer, PricedRung};
 use mat_desc::Problem;
 use mat_sets::{ElemSet, Weight};
+use met::{bounds_common_sets, met_under};
+use priced::is_priced;
 use std::alloc::{AllocError, Global};
 
 // Whether the parts of a witness show that a set is independent in both matroids.

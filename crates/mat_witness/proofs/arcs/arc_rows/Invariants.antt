@@ -1,7 +1,0 @@
--- The rows are those of the arcs so far.
-use Rattle.std.proofs.Common.{take}
-use Rattle.mat_witness.specs.GammoidSteps.{AreArcRows}
-use Rattle.mat_witness.proofs.arcs.arc_rows.Given as goal
-
-abbrev pub invariant-loop-i : goal.invariant-loop-i
-invariant-loop-i l = AreArcRows l.vertices (take l.i l.arcs) l.rows

@@ -1,6 +1,0 @@
-use Rattle.std.proofs.Common.{◌≡◌, length, take}
-use Rattle.mat_sets.specs.Sets.{intersection}
-use Rattle.mat_witness.proofs.counted.count_marked.Given as goal
-
-abbrev pub invariant-loop-x : goal.invariant-loop-x
-invariant-loop-x l = l.number ≡ length (intersection (take l.x-index l.set) l.marks)

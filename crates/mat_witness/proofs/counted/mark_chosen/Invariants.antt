@@ -1,7 +1,0 @@
-use Rattle.std.proofs.Common.{◌≡◌, ℕ, ◌||◌, take}
-use Rattle.mat_sets.specs.Sets.{is_member}
-use Rattle.mat_witness.specs.BoundParts.{is_in_chosen}
-use Rattle.mat_witness.proofs.counted.mark_chosen.Given as goal
-
-abbrev pub invariant-loop-i : goal.invariant-loop-i
-invariant-loop-i l = (x : ℕ) → is_member x l.marks ≡ (is_member x l.fn.marks || is_in_chosen l.sets (take l.i-index l.chosen) x)

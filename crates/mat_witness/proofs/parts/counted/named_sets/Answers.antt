@@ -1,0 +1,28 @@
+use Rattle.std.proofs.Common.{◌+◌, ℕ, None, length, get_or, take, sym, ◌∙◌, subst}
+use Rattle.mat_sets.proofs.Sums.{AllBelow-at}
+use Rattle.mat_witness.specs.FilledSets.{AreNamed}
+use Rattle.mat_witness.proofs.NamedSets.{AreNamed-more, AreNamed-some, none_since}
+use Rattle.mat_witness.proofs.parts.counted.named_sets.Goals as goal
+use Rattle.mat_witness.proofs.parts.counted.named_sets.Goals.{in-Some+in_ok-add, in_default}
+
+pub bounds : goal.bounds
+bounds c =
+    let items = c.as_slice-x-items.ensures.items in
+    let inside = rw items at c.loop-x-test.true in
+    rw items (AllBelow-at (length c.args.named.now) c.args.set.now c.loop-x.x-index c.requires inside)
+
+pub loop-x-preserved : goal.loop-x-preserved
+loop-x-preserved c =
+    let set = c.args.set.now in
+    let i = c.loop-x.x-index in
+    let named = λ (x : ℕ). get_or c.args.named.now x None in
+    let items = c.as_slice-x-items.ensures.items in
+    let inside = rw items at c.loop-x-test.true in
+    elim c.match-named-x.branch [
+      | in-Some+in_ok-add w ↦
+          subst (AreNamed named (take (i + 1) set)) (sym (w.chosen-is ∙ w.in_ok-add.ensures.ok.1))
+          (AreNamed-some named set c.loop-x.chosen i w.in-Some.place inside (rw items at w.in-Some.is) c.loop-x.invariant)
+      | in_default w ↦
+          subst (AreNamed named (take (i + 1) set)) (sym w.chosen-is)
+          (AreNamed-more named set c.loop-x.chosen i inside (none_since (named (get_or set i 0)) (rw items at w.in_default.not-Some)) c.loop-x.invariant)
+    ]

@@ -1,7 +1,0 @@
--- The vertices of the elements so far are listed.
-use Rattle.std.proofs.Common.{◌≡◌, take}
-use Rattle.mat_linked.specs.Gammoids.{vertices_of}
-use Rattle.mat_witness.proofs.paths.element_vertices.Given as goal
-
-abbrev pub invariant-loop-e : goal.invariant-loop-e
-invariant-loop-e l = l.vertices.items ≡ vertices_of l.targets (take l.e-index l.elements)

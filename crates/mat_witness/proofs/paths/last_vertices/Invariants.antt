@@ -1,7 +1,0 @@
--- The last vertices of the paths so far are listed.
-use Rattle.std.proofs.Common.{◌≡◌, map, take}
-use Rattle.mat_flow.specs.Paths.{last_of}
-use Rattle.mat_witness.proofs.paths.last_vertices.Given as goal
-
-abbrev pub invariant-loop-path : goal.invariant-loop-path
-invariant-loop-path l = l.ends.items ≡ map last_of (take l.path-index l.lists)

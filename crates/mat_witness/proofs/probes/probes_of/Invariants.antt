@@ -1,7 +1,0 @@
--- The probes tell the members so far from one another.
-use Rattle.mat_gf2.specs.Columns.{column_of}
-use Rattle.mat_witness.proofs.TellingRows.{AreProbes}
-use Rattle.mat_witness.proofs.probes.probes_of.Given as goal
-
-abbrev pub invariant-loop-e : goal.invariant-loop-e
-invariant-loop-e l = AreProbes l.matroid.dim (column_of l.matroid.columns) l.set l.e-index l.rows.items l.probes.items

@@ -1,7 +1,0 @@
--- The numbers so far are changed.
-use Rattle.std.proofs.Common.{◌≡◌, ◌++◌, map, take, drop}
-use Rattle.mat_witness.specs.Rows.{evened}
-use Rattle.mat_witness.proofs.rows.make_even.Given as goal
-
-abbrev pub invariant-loop-i : goal.invariant-loop-i
-invariant-loop-i l = l.numbers ≡ map (evened l.row l.column) (take l.i l.fn.numbers) ++ drop l.i l.fn.numbers

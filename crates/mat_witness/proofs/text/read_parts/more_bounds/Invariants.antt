@@ -1,0 +1,14 @@
+use Rattle.std.proofs.Common.{◌≡◌, ◌-◌, map}
+use Rattle.mat_words.specs.Cursors.{lines_left}
+use Rattle.mat_words.specs.Steps.{repeat_at}
+use Rattle.mat_words.proofs.Repeats.{with_front}
+use Rattle.mat_any.specs.Views.{tree_of}
+use Rattle.mat_witness.specs.Reading.{bound_at}
+use Rattle.mat_witness.specs.Views.{bound_part}
+use Rattle.mat_witness.proofs.text.read_parts.more_bounds.Given as goal
+
+-- the bounds so far and those that are still read are those that are read in all
+abbrev pub invariant-loop : goal.invariant-loop
+invariant-loop l =
+    with_front (map bound_part l.bounds.items) (repeat_at (bound_at l.count (tree_of l.matroid)) (l.many - l.counter) (lines_left l.rest))
+    ≡ with_front (map bound_part l.fn.front.items) (repeat_at (bound_at l.count (tree_of l.matroid)) l.many (lines_left l.fn.lines))

@@ -1,0 +1,11 @@
+-- Whether the demands are met is whether those that are left are.
+use Rattle.std.proofs.Common.{◌≡◌, drop, map}
+use Rattle.mat_any.specs.Views.{tree_of}
+use Rattle.mat_witness.specs.Demands.{demand_for}
+use Rattle.mat_witness.specs.Shown.{are_met}
+use Rattle.mat_witness.specs.Views.{bound_part}
+use Rattle.mat_witness.proofs.verifier.met.are_met.Given as goal
+
+abbrev pub invariant-loop-i : goal.invariant-loop-i
+invariant-loop-i l = are_met (map (demand_for (tree_of l.matroid)) l.demands) (map bound_part l.parts)
+    ≡ are_met (map (demand_for (tree_of l.matroid)) (drop l.i l.demands)) (map bound_part (drop l.i l.parts))
