@@ -1,6 +1,5 @@
 -- What has grown: where nothing can be added in the first matroid nothing changes, and a search after the changes has no slack.
-use Rattle.std.proofs.Common.{◌≡◌, ℕ, ◌+◌, ◌*◌, ◌^◌, ◌<◌, ◌≤◌, false, ◌&&◌, List, length, Some, None, inl, inr, refl, ◌∙◌, subst, arith}
-use Rattle.std.proofs.lemmas.Bool.{and_from, cases_Bool, both_ways}
+use Rattle.std.proofs.Common.{◌≡◌, ℕ, ◌+◌, ◌*◌, ◌^◌, ◌<◌, ◌≤◌, false, List, length, Some, None, refl, sym, ◌∙◌, subst, arith}
 use Rattle.std.proofs.lemmas.Nat.{mul-le}
 use Rattle.mat_sets.specs.Limits.{most_elements, largest_weight, largest_number, largest_split}
 use Rattle.mat_sets.specs.Sets.{is_member}
@@ -20,12 +19,8 @@ use Rattle.mat_exchange.proofs.WeightBounds.{IsWeightWithin-weaken, AreWeightsWi
 
 -- where nothing can be added, nothing changes
 pub grown_without_source : (n : ℕ) (a b : Exchanges) (u1 u2 : ℕ → Weight) (A : List ℕ) → ((x : ℕ) → is_member x A ≡ a.adds x)
-    → ((x : ℕ) → (is_member x A && is_member x A) ≡ false)
-    → NoExchangeGains a u1 → NoExchangeGains b u2 → IsGrownSplit n a b (sum_at u1 u2) u2 u1 u2
-grown_without_source n a b u1 u2 A tells none gains1 gains2 = grown_unchanged n a b u1 u2 (λ x. elim (cases_Bool (a.adds x)) [
-  | inr out ↦ out
-  | inl k ↦ absurd (let m = tells x ∙ k in both_ways _ (none x) (and_from (is_member x A) (is_member x A) m m))
-]) gains1 gains2
+    → ((x : ℕ) → is_member x A ≡ false) → NoExchangeGains a u1 → NoExchangeGains b u2 → IsGrownSplit n a b (sum_at u1 u2) u2 u1 u2
+grown_without_source n a b u1 u2 A tells none gains1 gains2 = grown_unchanged n a b u1 u2 (λ x. sym (tells x) ∙ none x) gains1 gains2
 
 -- ---- the answer
 

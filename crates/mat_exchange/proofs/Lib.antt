@@ -12,7 +12,6 @@ pub mod WeightBounds
 pub mod Fringes
 pub mod Growing
 pub mod HeaviestMembers
-mod NextArcs
 pub mod Raising
 pub mod ChangesSoFar
 pub mod GrowthSteps

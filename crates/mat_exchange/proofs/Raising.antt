@@ -1,6 +1,6 @@
 -- Weights that rise member by member, in rising order: the next member was not met before, so its weight is still as at the start.
-use Rattle.std.proofs.Common.{◌≡◌, ◌≢◌, ℕ, ◌+◌, ◌<◌, ◌≤◌, false, ◌&&◌, ltb, cond, List, length, set, ◌+ℤ◌, SFits, inl, inr, sym, ap, ◌∙◌, subst, arith}
-use Rattle.std.proofs.lemmas.Bool.{cases_Bool, cases_eq, cases_lt, both_ways, and_parts, and_from, and_left, and_right, lt-ltb, le-ltb, cond-true, cond-false}
+use Rattle.std.proofs.Common.{◌≡◌, ◌≢◌, ℕ, ◌+◌, ◌<◌, ◌≤◌, ◌&&◌, ltb, cond, List, length, set, ◌+ℤ◌, SFits, inl, inr, sym, ap, ◌∙◌, subst, arith}
+use Rattle.std.proofs.lemmas.Bool.{cases_Bool, cases_eq, cases_lt, and_from, and_left, and_right, lt-ltb, le-ltb, cond-true, cond-false}
 use Rattle.std.specs.Int.{w128}
 use Rattle.std.proofs.lemmas.Int.{ints}
 use Rattle.std.proofs.lemmas.List.{get_or-set_same, get_or-set_other}
@@ -20,13 +20,13 @@ raised_to w R d from x = cond (is_member x R && ltb x from) (w x ⊕ d) (w x)
 pub raised_to_here : (w : ℕ → Weight) (R : List ℕ) (d : Weight) (from v : ℕ) → from ≤ v → raised_to w R d from v ≡ w v
 raised_to_here w R d from v l = cond-false (is_member v R && ltb v from) (w v ⊕ d) (w v) (and_right (is_member v R) (ltb v from) (le-ltb v from l))
 
-pub raised_to_next : (w now : List Weight) (R : List ℕ) (d y : Weight) (from v : ℕ) → IsFirstFrom (λ x. is_member x R && is_member x R) from v
+pub raised_to_next : (w now : List Weight) (R : List ℕ) (d y : Weight) (from v : ℕ) → IsFirstFrom (λ x. is_member x R) from v
     → v < length now → ((x : ℕ) → weight_at now x ≡ raised_to (weight_at w) R d from x) → y ≡ weight_at w v ⊕ d
     → (x : ℕ) → weight_at (set now v y) x ≡ raised_to (weight_at w) R d (v + 1) x
 raised_to_next w now R d y from v f l h e x = elim (cases_eq x v) [
   | inl same ↦ subst (λ z. weight_at (set now v y) z ≡ raised_to (weight_at w) R d (v + 1) z) (sym same)
       (get_or-set_same now v y zero_weight l ∙ e
-      ∙ sym (cond-true (is_member v R && ltb v (v + 1)) _ _ (and_from (is_member v R) (ltb v (v + 1)) (and_parts (is_member v R) (is_member v R) f.passes).0 (lt-ltb v (v + 1) (omega arith)))))
+      ∙ sym (cond-true (is_member v R && ltb v (v + 1)) _ _ (and_from (is_member v R) (ltb v (v + 1)) f.passes (lt-ltb v (v + 1) (omega arith)))))
   | inr other ↦ get_or-set_other now v x y zero_weight other ∙ h x ∙ ap (λ b. cond b (weight_at w x ⊕ d) (weight_at w x)) (same_test other)
 ]
   where
@@ -34,10 +34,7 @@ raised_to_next w now R d y from v f l h e x = elim (cases_eq x v) [
     same_test other = let r = f.reaches in elim (cases_lt x from) [
       | inl b ↦ ap (λ t. is_member x R && t) (lt-ltb x from b ∙ sym (lt-ltb x (v + 1) (omega arith)))
       | inr c ↦ elim (cases_lt x v) [
-        | inl b ↦ (let out : is_member x R ≡ false = elim (cases_Bool (is_member x R)) [
-          | inr k ↦ k
-          | inl k ↦ absurd (both_ways _ (f.none_before x c b) (and_from (is_member x R) (is_member x R) k k))
-        ] in and_left (is_member x R) _ out ∙ sym (and_left (is_member x R) _ out))
+        | inl b ↦ (let out = f.none_before x c b in and_left (is_member x R) _ out ∙ sym (and_left (is_member x R) _ out))
         | inr g ↦ ap (λ t. is_member x R && t) (le-ltb x from c ∙ sym (le-ltb x (v + 1) (omega arith)))
       ]
     ]

@@ -118,7 +118,7 @@ fn raise_on(weights: &mut [Weight], members: &BitSet, step: Weight)
     ensures weights { (x : ℕ) → weight_at weights.new x ≡ raised (weight_at weights.old) members.now step x }
 {
     let mut from = 0;
-    while let Some(x) = members.next_common(members, from) {
+    while let Some(x) = members.next_from(from) {
         weights[x as usize] += step;
         from = x + 1;
     }

@@ -170,8 +170,7 @@ fn grow_weights(
     ensures grown { OnOk result (IsGrownSplit (length w1.old) (exchanges_in first.now) (exchanges_in second.now)
         (sum_at (weight_at w1.old) (weight_at w2.old)) (weight_at w2.old) (weight_at w1.new) (weight_at w2.new)) }
 {
-    let addable = first.addable_elements();
-    let Some(root) = heaviest_member(addable, addable, w1, None) else {
+    let Some(root) = heaviest_member(first.addable_elements(), w1, None) else {
         return Ok(());
     };
     let mut gains = vec![in alloc; Weight::ZERO; w1.len()]?;

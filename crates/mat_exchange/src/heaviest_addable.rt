@@ -5,7 +5,8 @@ ghost use Rattle.mat_sets.specs.Weights.{weight_at};
 ghost use Rattle.mat_laws.specs.TightPaths.{exchanges_in};
 ghost use Rattle.mat_exchange.specs.HeaviestAddable.{IsHeaviestWeightOrNone, greater_of};
 
-use crate::heaviest_common::{greater, heaviest_common};
+use crate::heaviest_common::greater;
+use crate::heaviest_members::heaviest_member;
 use crate::row_table::RowTable;
 use mat_sets::Weight;
 
@@ -15,8 +16,8 @@ pub(crate) fn heaviest_addable(table: &RowTable, weights: &[Weight]) -> Option<W
     requires few { length weights.now ≤ most_elements }
     ensures { IsHeaviestWeightOrNone (exchanges_in table.now).adds (weight_at weights.now) result }
 {
-    let addable = table.addable_elements();
-    heaviest_common(addable, addable, weights)
+    let x = heaviest_member(table.addable_elements(), weights, None)?;
+    Some(weights[x as usize])
 }
 
 /// The greatest weight of the addable elements of a set once x is in it too.

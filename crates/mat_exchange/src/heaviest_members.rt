@@ -1,5 +1,5 @@
-//! A heaviest member that two sets have in common.
-ghost use Rattle.std.specs.Prelude.{◌≡◌, ◌&&◌, ◌<◌, ◌≤◌, ℕ, true, length, IfSome, Some};
+//! A heaviest member of a set.
+ghost use Rattle.std.specs.Prelude.{◌≡◌, ◌<◌, ◌≤◌, ℕ, true, length, IfSome, Some};
 ghost use Rattle.mat_sets.specs.Limits.{most_elements};
 ghost use Rattle.mat_sets.specs.Sets.{is_member};
 ghost use Rattle.mat_sets.specs.Weights.{◌≼◌, weight_at};
@@ -34,22 +34,21 @@ fn is_at_bound(weights: &[Weight], x: u32, bound: Option<Weight>) -> bool
     }
 }
 
-/// A heaviest member that two sets have in common; none where they have none. Where no member weighs more than a bound, the first one that weighs
-/// as much ends the search. The time is at most that of those members and of the words of the sets.
+/// A heaviest member; none where the set is empty. Where no member weighs more than a bound, the first one that weighs as much ends the search.
+/// The time is at most that of the members and of the words of the set.
 pub(crate) fn heaviest_member(
-    first: &BitSet,
-    second: &BitSet,
+    members: &BitSet,
     weights: &[Weight],
     bound: Option<Weight>,
 ) -> Option<u32>
     requires few { length weights.now ≤ most_elements }
-    requires below { (x : ℕ) → (is_member x first.now && is_member x second.now) ≡ true → x < length weights.now }
-    requires bound { IfSome bound (λ most. (x : ℕ) → (is_member x first.now && is_member x second.now) ≡ true → weight_at weights.now x ≼ most) }
-    ensures { IsHeaviestOrNone (λ x. is_member x first.now && is_member x second.now) (weight_at weights.now) result }
+    requires below { (x : ℕ) → is_member x members.now ≡ true → x < length weights.now }
+    requires bound { IfSome bound (λ most. (x : ℕ) → is_member x members.now ≡ true → weight_at weights.now x ≼ most) }
+    ensures { IsHeaviestOrNone (λ x. is_member x members.now) (weight_at weights.now) result }
 {
     let mut heaviest = None;
     let mut from = 0;
-    while let Some(x) = first.next_common(second, from) {
+    while let Some(x) = members.next_from(from) {
         if is_at_bound(weights, x, bound) {
             return Some(x);
         }

@@ -43,7 +43,7 @@ pub(crate) fn next_step(
     requires late { (x : ℕ) → is_member x fringe.now ≡ true → (weight_at gains.now x ⊕ total) ≼ zero_weight }
     ensures { IsNextStep fringe.now (weight_at gains.now) slack result }
 {
-    let Some(x) = heaviest_member(fringe, fringe, gains, Some(-total)) else {
+    let Some(x) = heaviest_member(fringe, gains, Some(-total)) else {
         return match slack {
             Some(step) => NextStep::Sink(step),
             None => NextStep::Nothing,

@@ -1,8 +1,6 @@
 use Rattle.std.proofs.Common.{List, ◌<◌, sym, subst, ap, ◌∙◌}
-use Rattle.std.proofs.lemmas.Bool.{and_parts}
 use Rattle.std.proofs.lemmas.List.{length-set}
 use Rattle.mat_sets.specs.Limits.{largest_number}
-use Rattle.mat_sets.specs.Sets.{is_member}
 use Rattle.mat_sets.specs.Weights.{◌⊕◌, weight_at, IsWeightWithin}
 use Rattle.mat_sets.specs.declared.weight.Weight.{Weight}
 use Rattle.mat_exchange.proofs.Raising.{raised_to_here, raised_to_next, sums_fit}
@@ -14,7 +12,7 @@ add_assign-requires c =
     let R = c.args.members.now in
     let x = c.in-Some.x in
     let first = c.in-Some.ensures in
-    let small = c.requires.small x (and_parts (is_member x R) (is_member x R) first.passes).0 in
+    let small = c.requires.small x first.passes in
     let old = c.loop-x.invariant.weights x ∙ raised_to_here (weight_at w) R c.args.step c.loop-x.from x first.reaches in
     sums_fit _ c.args.step (subst (IsWeightWithin largest_number) (sym old) small) c.requires.step
 
@@ -25,11 +23,10 @@ loop-x-preserved c =
     let x = c.in-Some.x in
     let d : Weight = c.args.step in
     let first = c.in-Some.ensures in
-    let member = (and_parts (is_member x R) (is_member x R) first.passes).0 in
     let old = c.loop-x.invariant.weights x ∙ raised_to_here (weight_at w) R d c.loop-x.from x first.reaches in
     record {
       length = length-set c.loop-x.weights _ _ ∙ c.loop-x.invariant.length;
       weights = raised_to_next w c.loop-x.weights R d _ c.loop-x.from x first
-          (subst (λ n. x < n) (sym c.loop-x.invariant.length) (c.requires.below x member)) c.loop-x.invariant.weights
+          (subst (λ n. x < n) (sym c.loop-x.invariant.length) (c.requires.below x first.passes)) c.loop-x.invariant.weights
           (c.add_assign.ensures.after ∙ ap (λ (a : Weight). a ⊕ d) old);
     }

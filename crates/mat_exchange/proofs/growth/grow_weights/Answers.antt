@@ -3,4 +3,4 @@ use Rattle.mat_exchange.proofs.growth.grow_weights.Goals as goal
 
 pub returns-in_default-clause-grown : goal.returns-in_default-clause-grown
 returns-in_default-clause-grown c =
-    grown_without_source _ _ _ _ _ c.addable_elements-addable.result.now c.addable_elements-addable.ensures.elements c.in_default.ensures c.requires.first_gains c.requires.second_gains
+    grown_without_source _ _ _ _ _ c.addable_elements.result.now c.addable_elements.ensures.elements c.in_default.ensures c.requires.first_gains c.requires.second_gains

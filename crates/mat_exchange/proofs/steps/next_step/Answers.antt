@@ -1,5 +1,3 @@
-use Rattle.std.proofs.lemmas.Bool.{and_from, and_parts}
-use Rattle.mat_sets.specs.Sets.{is_member}
 use Rattle.mat_sets.specs.Weights.{weight_at}
 use Rattle.mat_exchange.proofs.HeaviestMembers.{gain_at_most, level_after, low_after, sink_not_late}
 use Rattle.mat_exchange.proofs.steps.next_step.Goals as goal
@@ -10,22 +8,22 @@ returns-in-Some-is_before c =
     let top = c.in-Some.ensures in (
       before.0,
       λ y m. sink_not_late (weight_at c.args.gains.now y) (weight_at c.args.gains.now c.in-Some.x) c.neg-step.result c.in-Some-is_before.earlier
-          (top.most y (and_from (is_member y c.args.fringe.now) (is_member y c.args.fringe.now) m m)) c.neg-step.ensures before.1,
+          (top.most y m) c.neg-step.ensures before.1,
     )
 
 pub heaviest_member-requires-clause-bound : goal.heaviest_member-requires-clause-bound
 heaviest_member-requires-clause-bound c = λ x m.
     gain_at_most (weight_at c.args.gains.now x) c.args.total _
-    (c.requires.late x (and_parts (is_member x c.args.fringe.now) (is_member x c.args.fringe.now) m).0) c.neg.ensures
+    (c.requires.late x m) c.neg.ensures
 
 pub returns-in-None-is_before : goal.returns-in-None-is_before
 returns-in-None-is_before c =
     let x = c.in-Some.x in
     let step = c.neg-step.result in
     let top = c.in-Some.ensures in (
-      (and_parts (is_member x c.args.fringe.now) (is_member x c.args.fringe.now) top.passes).0,
+      top.passes,
       level_after (weight_at c.args.gains.now x) step c.neg-step.ensures,
       λ y m. low_after (weight_at c.args.gains.now y) (weight_at c.args.gains.now x) step
-          (top.most y (and_from (is_member y c.args.fringe.now) (is_member y c.args.fringe.now) m m)) c.neg-step.ensures,
+          (top.most y m) c.neg-step.ensures,
       c.in-None-is_before.ensures,
     )

@@ -7,11 +7,11 @@ use Rattle.mat_sets.specs.Bits.{bits_of}
 use Rattle.mat_sets.specs.Sets.{is_member}
 use Rattle.mat_sets.specs.Weights.{◌≺◌, ◌≼◌, is_same, weight_at}
 use Rattle.mat_sets.specs.declared.weight.Weight.{Weight}
+use Rattle.mat_sets.proofs.Search.{IsNextFrom-same}
 use Rattle.mat_sets.proofs.WeightOrder.{below_gives, pairs, same_gives}
 use Rattle.mat_exchange.specs.HeaviestAddable.{IsHeaviestWeightOrNone, is_above}
 use Rattle.mat_laws.specs.TightPaths.{exchanges_in}
 use Rattle.mat_exchange.proofs.Fringes.{whole_test}
-use Rattle.mat_exchange.proofs.NextArcs.{next_same}
 use Rattle.mat_exchange.proofs.tight_arcs.next_in_column.Goals as goal
 
 spread : (a b s : Bool) → ((a || b) && s) ≡ ((a && s) || (b && s))
@@ -26,12 +26,12 @@ returns c =
     let here = sym c.contains.ensures ∙ c.if-not-contains.false in
     let one : ℕ → Bool = λ v. (is_member v (bits_of c.rest_of_column.result.now) && o v) && s v in
     let two : ℕ → Bool = λ v. (is_member v (bits_of c.as_words-addable.result.now) && o v) && s v in
-    next_same (λ v. one v || two v) (λ v. (ex.trades u v && o v) && s v) c.args.from c.earlier.result
-    (λ v. ap (λ b. b && s v) (whole_test (ex.adds v) (ex.trades u v) (o v) (λ a. sym (c.base.ensures u v a) ∙ here)
+    IsNextFrom-same (λ v. one v || two v) (λ v. (ex.trades u v && o v) && s v) c.args.from c.earlier.result
+    (λ v. sym (ap (λ b. b && s v) (whole_test (ex.adds v) (ex.trades u v) (o v) (λ a. sym (c.base.ensures u v a) ∙ here)
     ∙ ap (λ b. (b && o v) || (ex.adds v && o v)) (sym (c.rest_of_column.ensures v))
     ∙ ap (λ b. (is_member v (bits_of c.rest_of_column.result.now) && o v) || (b && o v))
     (sym (ap (is_member v) c.as_words-addable.ensures ∙ c.addable_elements.ensures.elements v)))
-    ∙ spread (is_member v (bits_of c.rest_of_column.result.now) && o v) (is_member v (bits_of c.as_words-addable.result.now) && o v) (s v))
+    ∙ spread (is_member v (bits_of c.rest_of_column.result.now) && o v) (is_member v (bits_of c.as_words-addable.result.now) && o v) (s v)))
     (c.earlier.ensures one two c.args.from c.next_equal-rest.ensures c.next_equal.ensures)
 
 -- one that can be added weighs less than u
@@ -59,8 +59,8 @@ returns-then-outweighs c =
     let w = weight_at c.args.weights.now in
     let o : ℕ → Bool = λ v. is_member v c.args.among.now in
     let s : ℕ → Bool = λ v. is_same (w u) (w v) in
-    next_same (λ v. (is_member v (bits_of c.rest_of_column.result.now) && o v) && s v) (λ v. (ex.trades u v && o v) && s v) c.args.from
+    IsNextFrom-same (λ v. (is_member v (bits_of c.rest_of_column.result.now) && o v) && s v) (λ v. (ex.trades u v && o v) && s v) c.args.from
     c.next_equal-rest.result
-    (λ v. passed (ex.adds v) (ex.trades u v) (o v) (s v) (λ a. lighter ex.adds w c.args.top u v c.requires.top (sym c.outweighs.ensures ∙ c.if-outweighs.true) a)
-    ∙ ap (λ b. (b && o v) && s v) (sym (c.rest_of_column.ensures v)))
+    (λ v. sym (passed (ex.adds v) (ex.trades u v) (o v) (s v) (λ a. lighter ex.adds w c.args.top u v c.requires.top (sym c.outweighs.ensures ∙ c.if-outweighs.true) a)
+    ∙ ap (λ b. (b && o v) && s v) (sym (c.rest_of_column.ensures v))))
     c.next_equal-rest.ensures
