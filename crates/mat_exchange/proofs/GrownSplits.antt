@@ -53,9 +53,7 @@ module _ {n : ℕ} {a b : Exchanges} (u1 u2 v1 v2 : List Weight) (few : n ≤ mo
   grown_found found is = record {
     first_length = long1;
     second_length = long2;
-    adds = grown.adds;
-    first_gains = grown.first_gains;
-    second_gains = grown.second_gains;
+    split = grown;
     bounded = λ h within. AreWeightsWithin-from (h + 2 * 10 ^ 12 * (n + 1) * n) n v2 long2 (λ x l.
         within_more (weight_at v2 x) h n (omega arith) (grown.within h (λ y k. weight_within_at h u2 within y) x l));
     found = is;
@@ -66,8 +64,8 @@ module _ {n : ℕ} {a b : Exchanges} (u1 u2 v1 v2 : List Weight) (few : n ≤ mo
 pub stays_heaviest : (n : ℕ) (first second : List Exchange) (I : List ℕ) (w1 w2 : List Weight) (g : Grown)
     → IsGrown n (exchanges_in first) (exchanges_in second) w1 w2 g → StaysHeaviest n first second I w1 w2 g
 stays_heaviest n first second I w1 w2 g grown = λ p q lp lq rows1 rows2 best1 best2. (
-  heaviest_in_rows lp (weight_at g.first) I best1.passes (subst (λ t. NoExchangeGains (exchanges_in t) (weight_at g.first)) rows1 grown.first_gains),
-  heaviest_in_rows lq (weight_at g.second) I best2.passes (subst (λ t. NoExchangeGains (exchanges_in t) (weight_at g.second)) rows2 grown.second_gains),
+  heaviest_in_rows lp (weight_at g.first) I best1.passes (subst (λ t. NoExchangeGains (exchanges_in t) (weight_at g.first)) rows1 grown.split.first_gains),
+  heaviest_in_rows lq (weight_at g.second) I best2.passes (subst (λ t. NoExchangeGains (exchanges_in t) (weight_at g.second)) rows2 grown.split.second_gains),
 )
 
 -- the same for copies of the weights

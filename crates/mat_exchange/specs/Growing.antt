@@ -50,9 +50,7 @@ HasNoSlack (Stuck reach slack) = slack ≡ None
 pub record IsGrown (n : ℕ) (first second : Exchanges) (w1 w2 : List Weight) (grown : Grown) : Type 0 where
   pub first_length : length grown.first ≡ n
   pub second_length : length grown.second ≡ n
-  pub adds : (x : ℕ) → x < n → weight_at grown.first x ⊕ weight_at grown.second x ≡ weight_at w1 x ⊕ weight_at w2 x
-  pub first_gains : NoExchangeGains first (weight_at grown.first)
-  pub second_gains : NoExchangeGains second (weight_at grown.second)
+  pub split : IsGrownSplit n first second (sum_at (weight_at w1) (weight_at w2)) (weight_at w2) (weight_at grown.first) (weight_at grown.second)
   pub bounded : (h : ℕ) → AreWeightsWithin h w2 → AreWeightsWithin (h + 2 * largest_weight * (n + 1) * n) grown.second
   pub found : IsFound n first second (weight_at grown.first) (weight_at grown.second) grown.found
   pub no_slack : HasNoSlack grown.found

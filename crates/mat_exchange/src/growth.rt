@@ -148,33 +148,37 @@ fn grow_from(
     }
 }
 
-/// Changes the weights until a search for a tight path finds one, or is stuck without a slack.
-fn grow_weights(
+/// The two halves once the weights have changed until a search for a tight path finds one, or is stuck without a slack.
+fn grown_halves(
     alloc: Global,
     first: &RowTable,
     second: &RowTable,
     set: &ElemSet,
-    w1: &mut [Weight],
-    w2: &mut [Weight],
-) -> Result<(), AllocError>
-    requires few { length w1.old ≤ most_elements }
-    requires lengths { length w2.old ≡ length w1.old }
-    requires first_table { IsTableAt (length w1.old) set.now first.now }
-    requires second_table { IsTableAt (length w1.old) set.now second.now }
-    requires first_gains { NoExchangeGains (exchanges_in first.now) (weight_at w1.old) }
-    requires second_gains { NoExchangeGains (exchanges_in second.now) (weight_at w2.old) }
-    requires small { (x : ℕ) → x < length w1.old → IsWeightWithin largest_weight (weight_at w1.old x ⊕ weight_at w2.old x) }
-    requires second_small { AreWeightsWithin largest_split w2.old }
-    ensures first_length { length w1.new ≡ length w1.old }
-    ensures second_length { length w2.new ≡ length w2.old }
-    ensures grown { OnOk result (IsGrownSplit (length w1.old) (exchanges_in first.now) (exchanges_in second.now)
-        (sum_at (weight_at w1.old) (weight_at w2.old)) (weight_at w2.old) (weight_at w1.new) (weight_at w2.new)) }
+    w1: &[Weight],
+    w2: &[Weight],
+) -> Result<(PairWeights, PairWeights), AllocError>
+    requires few { length w1.now ≤ most_elements }
+    requires lengths { length w2.now ≡ length w1.now }
+    requires first_table { IsTableAt (length w1.now) set.now first.now }
+    requires second_table { IsTableAt (length w1.now) set.now second.now }
+    requires first_gains { NoExchangeGains (exchanges_in first.now) (weight_at w1.now) }
+    requires second_gains { NoExchangeGains (exchanges_in second.now) (weight_at w2.now) }
+    requires small { (x : ℕ) → x < length w1.now → IsWeightWithin largest_weight (weight_at w1.now x ⊕ weight_at w2.now x) }
+    requires second_small { AreWeightsWithin largest_split w2.now }
+    ensures first_length { IfOk result (λ halves. length halves.0 ≡ length w1.now) }
+    ensures second_length { IfOk result (λ halves. length halves.1 ≡ length w1.now) }
+    ensures grown { IfOk result (λ halves. IsGrownSplit (length w1.now) (exchanges_in first.now) (exchanges_in second.now)
+        (sum_at (weight_at w1.now) (weight_at w2.now)) (weight_at w2.now) (weight_at halves.0) (weight_at halves.1)) }
 {
-    let Some(root) = heaviest_member(first.addable_elements(), w1, None) else {
-        return Ok(());
-    };
-    let mut gains = vec![in alloc; Weight::ZERO; w1.len()]?;
-    grow_from(alloc, first, second, set, root, w1, w2, &mut gains)
+    let mut new1 = Vec::from_slice(alloc, w1)?;
+    let mut new2 = Vec::from_slice(alloc, w2)?;
+    if let Some(root) = heaviest_member(first.addable_elements(), w1, None) {
+        let mut gains = vec![in alloc; Weight::ZERO; w1.len()]?;
+        grow_from(
+            alloc, first, second, set, root, &mut new1, &mut new2, &mut gains,
+        )?;
+    }
+    Ok((PairWeights::new(new1), PairWeights::new(new2)))
 }
 
 /// Changes the two weights until a tight path with fewest vertices is found, or nothing is left to change and no tight path is there
@@ -201,13 +205,11 @@ pub fn grow(
         ↔ HasNoTightPath (length w1.now) (exchanges_in first.now) (exchanges_in second.now) (weight_at grown.first) (weight_at grown.second)) }
     ensures heaviest { IfOk result (StaysHeaviest (length w1.now) first.now second.now set.now w1.now w2.now) }
 {
-    let mut new1 = Vec::from_slice(alloc, w1)?;
-    let mut new2 = Vec::from_slice(alloc, w2)?;
-    grow_weights(alloc, first, second, set, &mut new1, &mut new2)?;
-    let found = tight_search(alloc, first, second, set, &new1, &new2)?;
+    let (new1, new2) = grown_halves(alloc, first, second, set, w1, w2)?;
+    let found = tight_search(alloc, first, second, set, new1.as_slice(), new2.as_slice())?;
     Ok(Grown {
-        first: PairWeights::new(new1),
-        second: PairWeights::new(new2),
+        first: new1,
+        second: new2,
         found,
     })
 }

@@ -71,17 +71,17 @@ module _ {n : ℕ} {p q : List ℕ → Bool} {rung : Rung} (first_laws : IsMatro
     grown = rw (told1, told2, ground_size, same1, same2, s.first_length) at given
 
     first_heaviest : IsHeaviest p (weight_at g.first) rung.set
-    first_heaviest = heaviest_in_rows first_laws (weight_at g.first) rung.set s.at.first.passes grown.first_gains
+    first_heaviest = heaviest_in_rows first_laws (weight_at g.first) rung.set s.at.first.passes grown.split.first_gains
 
     second_heaviest : IsHeaviest q (weight_at g.second) rung.set
-    second_heaviest = heaviest_in_rows second_laws (weight_at g.second) rung.set s.at.second.passes grown.second_gains
+    second_heaviest = heaviest_in_rows second_laws (weight_at g.second) rung.set s.at.second.passes grown.split.second_gains
 
     found : IsFound n (exchanges_at p rung.set) (exchanges_at q rung.set) (weight_at g.first) (weight_at g.second) g.found
     found = rw (rows_tell_exchanges first_laws rung.set, rows_tell_exchanges second_laws rung.set) at grown.found
 
     split : IsSplitWithin n (weights_of rung) (weight_at g.first) (weight_at g.second) (size_bound n (suc (length rung.set)))
     split = record {
-      adds = grown.adds;
+      adds = grown.split.adds;
       within = λ x l. IsWeightWithin-weaken _ _ (weight_at g.second x) (next_bound n (length rung.set))
           (weight_within_at _ g.second (grown.bounded (size_bound n (length rung.set)) second_bounded) x);
     }
