@@ -1,12 +1,12 @@
 -- Weights of a reached set that are changed only at the end, by one number: what is kept of each member is its weight when it entered, less the
 -- change until then, so that a step of the change alters the number alone, and a new member alone gets a new entry.
-use Rattle.std.proofs.Common.{◌≡◌, ◌≢◌, ℕ, ◌^◌, ◌<◌, Bool, true, false, ◌&&◌, ◌||◌, not, cond, eqb, List, Option, Some}
+use Rattle.std.proofs.Common.{◌≡◌, ◌≢◌, ℕ, ◌^◌, ◌<◌, Bool, true, false, ◌&&◌, not, cond, eqb, List, Option, Some}
 use Rattle.std.proofs.Common.{None, ◌⊎◌, inl, inr, refl, sym, ap, ◌∙◌, subst, arith}
-use Rattle.std.proofs.lemmas.Bool.{cases_Bool, cases_eq, both_ways, and_parts, and_from, and_left, or_left, or_right, cond-true, cond-false, eq-eqb}
+use Rattle.std.proofs.lemmas.Bool.{cases_Bool, cases_eq, both_ways, and_parts, and_from, and_left, cond-true, cond-false, eq-eqb}
 use Rattle.std.proofs.lemmas.Bool.{false≢true, ne_eqb}
 use Rattle.std.proofs.lemmas.Int.{ints}
 use Rattle.mat_sets.specs.Sets.{is_member, with_one, without_one}
-use Rattle.mat_sets.proofs.Members.{is_member-with_one, is_member-without_one}
+use Rattle.mat_sets.proofs.Members.{is_member-without_one}
 use Rattle.mat_sets.specs.Weights.{zero_weight, ◌⊕◌, ◌⊖◌, ◌≺◌, ◌≼◌, is_below, IsWeightWithin}
 use Rattle.mat_sets.specs.declared.weight.Weight.{Weight}
 use Rattle.mat_sets.proofs.WeightOrder.{pairs, at_most_trans, below_at_most, not_below_gives}
@@ -16,6 +16,7 @@ use Rattle.mat_exchange.specs.SlackParts.{IsAdditionSlack, IsLeast}
 use Rattle.mat_exchange.specs.HeaviestAddable.{IsHeaviestWeight, IsHeaviestWeightOrNone, greater_of}
 use Rattle.mat_exchange.specs.Growing.{IsFringe, IsOffered, excess_of, entry_gain}
 use Rattle.mat_laws.proofs.TightArcs.{heaviest_addable_gives, heaviest_addable_from}
+use Rattle.mat_exchange.proofs.NewMembers.{kept_member, new_member, other_member, new_or_kept}
 use Rattle.mat_exchange.proofs.WeightChanges.{lowered-member, lowered-outside, raised-member, raised-outside}
 
 -- ---- one change after another
@@ -44,24 +45,15 @@ raised_twice w R t e d h z = elim (cases_Bool (is_member z R)) [
 
 -- ---- a new member
 
-in_both : (x z : ℕ) (R : List ℕ) → is_member z R ≡ true → is_member z (with_one R x) ≡ true
-in_both x z R m = is_member-with_one z x R ∙ or_right (eqb z x) (is_member z R) m
-
-new_in : (x z : ℕ) (R : List ℕ) → z ≡ x → is_member z (with_one R x) ≡ true
-new_in x z R e = is_member-with_one z x R ∙ or_left (eqb z x) (is_member z R) (eq-eqb z x e)
-
-other_same : (x z : ℕ) (R : List ℕ) → z ≢ x → is_member z (with_one R x) ≡ is_member z R
-other_same x z R d = is_member-with_one z x R ∙ ap (λ b. b || is_member z R) (ne_eqb z x d)
-
 -- what enters with the change put on it is as before the change
 module _ (w w' : ℕ → Weight) (R : List ℕ) (x : ℕ) (d : Weight) (out : is_member x R ≡ false) where
   pub lowered_entered : ((z : ℕ) → w' z ≡ cond (eqb z x) (w z ⊕ d) (w z)) → (z : ℕ) → lowered w R d z ≡ lowered w' (with_one R x) d z
   lowered_entered h z = elim (cases_eq z x) [
     | inl e ↦ lowered-outside w R d z (ap (λ v. is_member v R) e ∙ out) ∙ back (w z)
         ∙ ap (λ (a : Weight). a ⊖ d) (sym (h z ∙ cond-true (eqb z x) _ _ (eq-eqb z x e)))
-        ∙ sym (lowered-member w' (with_one R x) d z (new_in x z R e))
+        ∙ sym (lowered-member w' (with_one R x) d z (new_member x z R e))
     | inr o ↦ (let same : w' z ≡ w z = h z ∙ cond-false (eqb z x) _ _ (ne_eqb z x o) in
-        ap (λ b. cond b (w z ⊖ d) (w z)) (sym (other_same x z R o))
+        ap (λ b. cond b (w z ⊖ d) (w z)) (sym (other_member x z R o))
         ∙ ap (λ (a : Weight). cond (is_member z (with_one R x)) (a ⊖ d) a) (sym same))
   ]
     where
@@ -72,9 +64,9 @@ module _ (w w' : ℕ → Weight) (R : List ℕ) (x : ℕ) (d : Weight) (out : is
   raised_entered h z = elim (cases_eq z x) [
     | inl e ↦ raised-outside w R d z (ap (λ v. is_member v R) e ∙ out) ∙ back (w z)
         ∙ ap (λ (a : Weight). a ⊕ d) (sym (h z ∙ cond-true (eqb z x) _ _ (eq-eqb z x e)))
-        ∙ sym (raised-member w' (with_one R x) d z (new_in x z R e))
+        ∙ sym (raised-member w' (with_one R x) d z (new_member x z R e))
     | inr o ↦ (let same : w' z ≡ w z = h z ∙ cond-false (eqb z x) _ _ (ne_eqb z x o) in
-        ap (λ b. cond b (w z ⊕ d) (w z)) (sym (other_same x z R o))
+        ap (λ b. cond b (w z ⊕ d) (w z)) (sym (other_member x z R o))
         ∙ ap (λ (a : Weight). cond (is_member z (with_one R x)) (a ⊕ d) a) (sym same))
   ]
     where
@@ -182,17 +174,17 @@ pub entered_heaviest : (adds : ℕ → Bool) (R : List ℕ) (w w' : ℕ → Weig
 entered_heaviest adds R w w' x heaviest out same h = elim (cases_Bool (adds x)) [
   | inl a ↦ subst (IsHeaviestWeightOrNone (λ z. adds z && is_member z (with_one R x)) w') (sym (cond-true (adds x) _ _ a))
       (joined_heaviest (λ z. adds z && is_member z R) (λ z. adds z && is_member z (with_one R x)) w' x heaviest
-      (and_from (adds x) _ a (new_in x x R refl))
-      (λ z k. (let p = and_parts (adds z) (is_member z R) k in and_from (adds z) _ p.0 (in_both x z R p.1)))
-      (λ z k. (let p = and_parts (adds z) (is_member z (with_one R x)) k in elim (cases_eq z x) [
+      (and_from (adds x) _ a (new_member x x R refl))
+      (λ z k. (let p = and_parts (adds z) (is_member z R) k in and_from (adds z) _ p.0 (kept_member x z R p.1)))
+      (λ z k. (let p = and_parts (adds z) (is_member z (with_one R x)) k in elim (new_or_kept x z R p.1) [
         | inl e ↦ inl e
-        | inr o ↦ inr (and_from (adds z) (is_member z R) p.0 (sym (other_same x z R o) ∙ p.1))
+        | inr m ↦ inr (and_from (adds z) (is_member z R) p.0 m)
       ]))
       (same_heaviest _ (λ z. adds z && is_member z R) w w' heaviest (λ z. refl) kept h))
   | inr n ↦ subst (IsHeaviestWeightOrNone (λ z. adds z && is_member z (with_one R x)) w') (sym (cond-false (adds x) _ _ n))
       (same_heaviest (λ z. adds z && is_member z R) _ w w' heaviest (λ z. elim (cases_eq z x) [
         | inl e ↦ and_left (adds z) _ (ap adds e ∙ n) ∙ sym (and_left (adds z) _ (ap adds e ∙ n))
-        | inr o ↦ ap (λ b. adds z && b) (other_same x z R o)
+        | inr o ↦ ap (λ b. adds z && b) (other_member x z R o)
       ]) kept h)
 ]
   where

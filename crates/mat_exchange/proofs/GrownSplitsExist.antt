@@ -1,7 +1,7 @@
 -- Every split can grow until a search has no slack: by the least slack of the reached set, which lets one element more in, or makes one of its
 -- elements a sink.
 use Rattle.std.proofs.Common.{◌≡◌, ℕ, suc, zero, ◌+◌, ◌<◌, true, false, List, length, ◌⊎◌, inl, inr, refl, subst, arith}
-use Rattle.std.proofs.lemmas.Bool.{cases_Bool, both_ways}
+use Rattle.std.proofs.lemmas.Bool.{cases_Bool, both_ways, false_from_ne_true}
 use Rattle.std.proofs.lemmas.Int.{ints}
 use Rattle.mat_sets.specs.Limits.{largest_weight}
 use Rattle.mat_sets.specs.Sets.{is_member, with_one, without_one, all_below}
@@ -22,7 +22,10 @@ use Rattle.mat_exchange.specs.SlackParts.{IsAdditionSlack, IsLeast}
 use Rattle.mat_laws.proofs.TightArcs.{heaviest_addable_gives, heaviest_addable_from}
 use Rattle.mat_exchange.proofs.CutsWithoutSlack.{some_heaviest_addable}
 use Rattle.mat_exchange.proofs.LeastSlacks.{least_slack_or_none}
-use Rattle.mat_exchange.proofs.Growing.{AreExchangesOn, IsGrowing, EntersLate, in_others, others_below, others_outside, entry_not_above, entry_shifts, growing_by, growing_more, growing_start, grown_by_sink, grown_unchanged, grown_without_slack, levelled_by_entry, levelled_by_sink, sink_by_slack}
+use Rattle.mat_exchange.proofs.Growing.{AreExchangesOn, IsGrowing, root_below, in_others, others_below, others_outside, growing_start}
+use Rattle.mat_exchange.proofs.Growing.{grown_by_sink, grown_unchanged, grown_without_slack}
+use Rattle.mat_exchange.proofs.GrowthChanges.{EntersLate, entry_not_above, entry_shifts, growing_by, levelled_by_entry, levelled_by_sink, sink_by_slack}
+use Rattle.mat_exchange.proofs.GrowthEntries.{growing_more}
 use Rattle.mat_exchange.proofs.GrowthSteps.{others_start}
 
 -- one element more in R
@@ -37,9 +40,6 @@ SomeGrownSplit n a b w old = (v1 : ℕ → Weight) × (v2 : ℕ → Weight) × I
 module _ {n : ℕ} {I : List ℕ} {a b : Exchanges} {w old : ℕ → Weight} {root : ℕ}
     (on_a : AreExchangesOn n I a) (on_b : AreExchangesOn n I b) (small : (x : ℕ) → x < n → IsWeightWithin largest_weight (w x)) where
   module _ {R O : List ℕ} {w1 w2 : ℕ → Weight} (now : IsGrowing n a b w old root R O w1 w2) where
-    root_below : root < n
-    root_below = below_member now.set now.root_in
-
     root_heaviest : is_heaviest_addable n a w1 root ≡ true
     root_heaviest = heaviest_addable_from n a w1 root now.root_top.adds now.root_top.most
 
@@ -47,7 +47,7 @@ module _ {n : ℕ} {I : List ℕ} {a b : Exchanges} {w old : ℕ → Weight} {ro
     entry_gives : (x : ℕ) → x < n → is_member x R ≡ false → (e : Weight) → IsEntry a b w1 w2 root R x e
         → (d : Weight) × IsSlack n a b w1 w2 R d × (e ⊕ d ≡ zero_weight)
     entry_gives x l out e (as_source k v) =
-        (w1 root ⊖ w1 x, first_addition root x root_below l root_heaviest k out refl, omega (arith, ints, pairs))
+        (w1 root ⊖ w1 x, first_addition root x (root_below now) l root_heaviest k out refl, omega (arith, ints, pairs))
     entry_gives x l out e (from_member y yr k v) =
         (w1 y ⊖ w1 x, first_exchange y x (below_member now.set yr) l k yr out refl, omega (arith, ints, pairs))
     entry_gives x l out e (from_other u ur k v) =
@@ -60,13 +60,13 @@ module _ {n : ℕ} {I : List ℕ} {a b : Exchanges} {w old : ℕ → Weight} {ro
     ends_without_slack none = (
       w1,
       w2,
-      grown_without_slack on_a on_b small now
-          (λ x e xo entry. (let s = entry_gives x (others_below on_a on_b small now x xo) (others_outside on_a on_b small now x xo) e entry in none s.0 s.1))
+      grown_without_slack now
+          (λ x e xo entry. (let s = entry_gives x (others_below now x xo) (others_outside now x xo) e entry in none s.0 s.1))
           (λ d s. none d (sink_gives d s)),
     )
 
     module _ (d : Weight) (slack : IsLeastSlack n a b w1 w2 R d) where
-      later : EntersLate on_a on_b small now d
+      later : EntersLate n a b w1 w2 root R d
       later x l out e entry =
           let s = entry_gives x l out e entry in
           let zero_sum = s.2 in
@@ -76,11 +76,11 @@ module _ {n : ℕ} {I : List ℕ} {a b : Exchanges} {w old : ℕ → Weight} {ro
       -- an element enters
       by_entry : (x : ℕ) → x < n → is_member x R ≡ false → (e : Weight) → IsEntry a b w1 w2 root R x e → e ⊕ d ≡ zero_weight → GrowsMore n a b w old root R O
       by_entry x l out e entry zero_sum =
-          let le = entry_not_above on_a on_b small now x e l entry in
-          let xo = in_others on_a on_b small now x l out in
-          let changed = growing_by on_a on_b small now d (omega (arith, ints, pairs)) later (λ plus. levelled_by_entry on_a on_b small now x e d xo entry zero_sum) in
-          let at_zero = subst (IsEntry a b (lowered w1 R d) (raised w2 R d) root R x) zero_sum (entry_shifts on_a on_b small now d x e out entry) in
-          (x, lowered w1 R d, raised w2 R d, out, growing_more on_a on_b small changed x xo at_zero)
+          let le = entry_not_above now x e l entry in
+          let xo = in_others now x l out in
+          let changed = growing_by on_a on_b now d (omega (arith, ints, pairs)) later (λ plus. levelled_by_entry small now x e d xo entry zero_sum) in
+          let at_zero = subst (IsEntry a b (lowered w1 R d) (raised w2 R d) root R x) zero_sum (entry_shifts now d x e out entry) in
+          (x, lowered w1 R d, raised w2 R d, out, growing_more small changed x xo at_zero)
 
       -- an element of R becomes a sink
       by_sink : IsAdditionSlack n b w2 R d → SomeGrownSplit n a b w old
@@ -88,14 +88,14 @@ module _ {n : ℕ} {I : List ℕ} {a b : Exchanges} {w old : ℕ → Weight} {ro
           let least : IsLeast (IsAdditionSlack n b w2 R) d = record { has = has; least = λ e s. slack.least e (sink_gives e s) } in
           let most = (heaviest_addable_gives n b w2 has.top has.heaviest).most has.element (below_member now.set has.inside) has.adds in
           let value = has.value in
-          let changed = growing_by on_a on_b small now d (omega (arith, ints, pairs)) later (λ plus. levelled_by_sink on_a on_b small now d plus least) in
+          let changed = growing_by on_a on_b now d (omega (arith, ints, pairs)) later (λ plus. levelled_by_sink small now d plus least) in
           let sink = sink_by_slack d on_b.adds_below least in
-          (lowered w1 R d, raised w2 R d, grown_by_sink on_a on_b small changed sink.0 sink.1 sink.2)
+          (lowered w1 R d, raised w2 R d, grown_by_sink changed sink.0 sink.1 sink.2)
 
       by_slack : IsSlack n a b w1 w2 R d → GrowsMore n a b w old root R O ⊎ SomeGrownSplit n a b w old
       by_slack (first_addition top x lt lx t k out e) =
           let high = now.root_top.most top lt (heaviest_addable_gives n a w1 top t).adds in
-          let low = (heaviest_addable_gives n a w1 top t).most root root_below now.root_top.adds in
+          let low = (heaviest_addable_gives n a w1 top t).most root (root_below now) now.root_top.adds in
           inl (by_entry x lx out (w1 x ⊖ w1 root) (as_source k refl) (omega (arith, ints, pairs)))
       by_slack (first_exchange y x ly lx t yr out e) = inl (by_entry x lx out (w1 x ⊖ w1 y) (from_member y yr t refl) (omega (arith, ints, pairs)))
       by_slack (second_exchange x y lx ly t xr out e) = inl (by_entry y ly out (w2 x ⊖ w2 y) (from_other x xr t refl) (omega (arith, ints, pairs)))
@@ -121,10 +121,8 @@ grown_split_exists {n} {I} {a} {b} on_a on_b u1 u2 small gains1 gains2 = elim (c
   | inr none ↦ (
     u1,
     u2,
-    grown_unchanged n a b u1 u2 (λ x. elim (cases_Bool (a.adds x)) [
-      | inr out ↦ out
-      | inl k ↦ absurd (both_ways _ (some_below_none n x a.adds none (on_a.adds_below x k)) k)
-    ]) gains1 gains2,
+    grown_unchanged n a b u1 u2 (λ x. false_from_ne_true (a.adds x) (λ k.
+        both_ways _ (some_below_none n x a.adds none (on_a.adds_below x k)) k)) gains1 gains2,
   )
   | inl some ↦ (let s = some_below_gives n a.adds some in
       let t = some_heaviest_addable n a u1 s.0 s.1 s.2 in

@@ -10,11 +10,16 @@ pub mod HeaviestAddable
 pub mod SlackParts
 pub mod WeightBounds
 pub mod Fringes
+pub mod NewMembers
 pub mod Growing
+pub mod GrowthChanges
+pub mod GrowthEntries
 pub mod HeaviestMembers
 pub mod Raising
 pub mod ChangesSoFar
 pub mod GrowthSteps
+pub mod EnteringSteps
+pub mod EndingSteps
 pub mod GrownSplits
 pub mod StuckSearches
 pub mod HeaviestExchanges

@@ -1,7 +1,7 @@
 -- The change of the weights by the least slack of a reached set R. Each slack is above 0, or R would hold more, or a sink. No exchange
 -- loses its sign, since no slack is less; what was reached stays reached, and the exchange of the least slack reaches one element more.
-use Rattle.std.proofs.Common.{◌≡◌, ℕ, ◌<◌, Bool, true, false, List, length, inl, inr, refl, arith}
-use Rattle.std.proofs.lemmas.Bool.{cases_Bool, cond-true, cond-false, both_ways}
+use Rattle.std.proofs.Common.{◌≡◌, ℕ, ◌<◌, Bool, true, false, ◌&&◌, List, length, ◌⊎◌, inl, inr, refl, ap, arith}
+use Rattle.std.proofs.lemmas.Bool.{cases_Bool, cond-true, cond-false, both_ways, and_parts, and_from, or_cases, or_left, or_right}
 use Rattle.std.proofs.lemmas.Int.{ints}
 use Rattle.mat_sets.specs.Sets.{is_member, IsSubset, with_one, without_one}
 use Rattle.mat_sets.specs.Walks.{IsReachedSet}
@@ -10,17 +10,17 @@ use Rattle.mat_sets.proofs.Cardinalities.{length-with_one}
 use Rattle.mat_sets.proofs.Subsets.{length-subset, with_one-IsSubset}
 use Rattle.mat_sets.proofs.Ground.{below_member}
 use Rattle.mat_sets.proofs.Reach.{reached_by_induction}
-use Rattle.mat_sets.specs.Weights.{zero_weight, ◌⊕◌, ◌⊖◌, ◌≺◌, ◌≼◌}
+use Rattle.mat_sets.specs.Weights.{zero_weight, ◌⊕◌, ◌⊖◌, ◌≺◌, ◌≼◌, is_same}
 use Rattle.mat_sets.specs.declared.weight.Weight.{Weight}
-use Rattle.mat_sets.proofs.WeightOrder.{pairs, by_below}
+use Rattle.mat_sets.proofs.WeightOrder.{pairs, by_below, same_gives, same_from}
 use Rattle.mat_laws.specs.Matroids.{IsMatroid}
 use Rattle.mat_laws.specs.Heaviest.{IsHeaviest}
-use Rattle.mat_laws.specs.TightPaths.{exchanges_at, is_heaviest_addable, is_tight, IsStuckReach}
+use Rattle.mat_laws.specs.TightPaths.{Exchanges, exchanges_at, is_heaviest_addable, is_tight, IsStuckReach}
 use Rattle.mat_laws.specs.Slacks.{IsSlack, IsLeastSlack}
 use Rattle.mat_laws.specs.Slacks.IsSlack.{first_addition, first_exchange, second_exchange, second_addition}
 use Rattle.mat_laws.proofs.LocallyHeaviest.{heaviest_from_exchanges, exchange_gains_nothing}
 use Rattle.mat_exchange.specs.Changes.{lowered, raised, IsChange}
-use Rattle.mat_laws.proofs.TightArcs.{IsExchangeable, exchangeable_gives, exchangeable_from, heaviest_addable_gives, heaviest_addable_from, tight_gives, tight_first, tight_second}
+use Rattle.mat_laws.proofs.TightArcs.{IsExchangeable, exchangeable_gives, exchangeable_from, heaviest_addable_gives, heaviest_addable_from, tight_first, tight_second}
 
 -- ---- the changed weights, element by element
 
@@ -75,6 +75,33 @@ raised-keeps w R d x y plus gains slack =
         | inr yr ↦ rw (raised-outside w R d x xr, raised-outside w R d y yr) gains
       ]
     ]
+
+-- a tight arc is an exchange in the first matroid, or the other way in the second, and level in that weight
+module _ (a b : Exchanges) where
+  pub tight_cases : (w1 w2 : ℕ → Weight) (u v : ℕ) → is_tight a b w1 w2 u v ≡ true
+      → ((a.trades u v ≡ true) × (w1 u ≡ w1 v)) ⊎ ((b.trades v u ≡ true) × (w2 u ≡ w2 v))
+  tight_cases w1 w2 u v h = elim (or_cases (a.trades u v && is_same (w1 u) (w1 v)) (b.trades v u && is_same (w2 u) (w2 v)) h) [
+    | inl k ↦ (let s = and_parts (a.trades u v) (is_same (w1 u) (w1 v)) k in inl (s.0, same_gives (w1 u) (w1 v) s.1))
+    | inr k ↦ (let s = and_parts (b.trades v u) (is_same (w2 u) (w2 v)) k in inr (s.0, same_gives (w2 u) (w2 v) s.1))
+  ]
+
+  pub tight_by_first : (w1 w2 : ℕ → Weight) (y x : ℕ) → a.trades y x ≡ true → w1 y ≡ w1 x → is_tight a b w1 w2 y x ≡ true
+  tight_by_first w1 w2 y x t e = or_left (a.trades y x && is_same (w1 y) (w1 x)) _
+      (and_from (a.trades y x) (is_same (w1 y) (w1 x)) t (same_from (w1 y) (w1 x) e))
+
+  pub tight_by_second : (w1 w2 : ℕ → Weight) (u x : ℕ) → b.trades x u ≡ true → w2 u ≡ w2 x → is_tight a b w1 w2 u x ≡ true
+  tight_by_second w1 w2 u x t e = or_right (a.trades u x && is_same (w1 u) (w1 x)) _
+      (and_from (b.trades x u) (is_same (w2 u) (w2 x)) t (same_from (w2 u) (w2 x) e))
+
+  -- inside a set whose weights change it stays tight
+  pub tight_stays : (w1 w2 : ℕ → Weight) (R : List ℕ) (d : Weight) (u v : ℕ) → is_member u R ≡ true → is_member v R ≡ true
+      → is_tight a b w1 w2 u v ≡ true → is_tight a b (lowered w1 R d) (raised w2 R d) u v ≡ true
+  tight_stays w1 w2 R d u v ur vr k = elim (tight_cases w1 w2 u v k) [
+    | inl s ↦ (let e = s.1 in tight_by_first (lowered w1 R d) (raised w2 R d) u v s.0
+        (rw (lowered-member w1 R d u ur, lowered-member w1 R d v vr) (ap (λ z. z ⊖ d) e)))
+    | inr s ↦ (let e = s.1 in tight_by_second (lowered w1 R d) (raised w2 R d) u v s.0
+        (rw (raised-member w2 R d u ur, raised-member w2 R d v vr) (ap (λ z. z ⊕ d) e)))
+  ]
 
 -- a difference of weights is above 0 unless the weights rise or are the same
 difference_positive : (a b d : Weight) → d ≡ a ⊖ b → (a ≼ b → ⊥) → zero_weight ≺ d
@@ -162,23 +189,12 @@ module _ {n : ℕ} {p q : List ℕ → Bool} (lp : IsMatroid n p) (lq : IsMatroi
         lowered-keeps w1 R d e v (slack_positive d slack.slack) (s.most e le a)
         (λ vr er. slack.least (w1 v ⊖ w1 e) (first_addition v e lv le top a er refl)))
 
-    -- a tight arc inside R stays tight
-    arc_stays : (u v : ℕ) → is_member u R ≡ true → is_member v R ≡ true
-        → is_tight (exchanges_at p I) (exchanges_at q I) w1 w2 u v ≡ true
-        → is_tight (exchanges_at p I) (exchanges_at q I) (lowered w1 R d) (raised w2 R d) u v ≡ true
-    arc_stays u v ur vr tight = elim (tight_gives p q w1 w2 I u v tight) [
-      | inl k ↦ (let t = k.0 in let e = k.1 in tight_first p q (lowered w1 R d) (raised w2 R d) I u v t.inside t.outside t.passes
-          (rw (lowered-member w1 R d u ur, lowered-member w1 R d v vr) (omega (arith, ints, pairs))))
-      | inr k ↦ (let t = k.0 in let e = k.1 in tight_second p q (lowered w1 R d) (raised w2 R d) I u v t.inside t.outside t.passes
-          (rw (raised-member w2 R d u ur, raised-member w2 R d v vr) (omega (arith, ints, pairs))))
-    ]
-
     -- what was reached is reached after the change
     all_stays : (S : List ℕ) → IsReachedSet n (is_tight (exchanges_at p I) (exchanges_at q I) (lowered w1 R d) (raised w2 R d))
         (is_heaviest_addable n (exchanges_at p I) (lowered w1 R d)) S → (v : ℕ) → is_member v R ≡ true → is_member v S ≡ true
     all_stays S reached = reached_by_induction R (λ v. is_member v S) stuck.reached
         (λ v lv top. reached.starts v lv (source_stays v lv top))
-        (λ u v ur lv us tight. reached.closed u v us lv (arc_stays u v ur (stuck.reached.closed u v ur lv tight) tight))
+        (λ u v ur lv us tight. reached.closed u v us lv (tight_stays (exchanges_at p I) (exchanges_at q I) w1 w2 R d u v ur (stuck.reached.closed u v ur lv tight) tight))
 
     module _ (S : List ℕ) (later : IsStuckReach n (exchanges_at p I) (exchanges_at q I) (lowered w1 R d) (raised w2 R d) S) where
       reached_stays : (v : ℕ) → is_member v R ≡ true → is_member v S ≡ true

@@ -2,8 +2,9 @@
 -- sink or where no change does either.
 use Rattle.std.proofs.Common.{◌∙◌, refl, arith}
 use Rattle.mat_exchange.proofs.GrowthSteps.{growth_start, first_within, second_within, total_within, reached_below, other_below, gains_within}
-use Rattle.mat_exchange.proofs.GrowthSteps.{top_within, inside_within, enter_below, enter_within, enter_outside, shifted_entered, entered, fewer_left}
-use Rattle.mat_exchange.proofs.GrowthSteps.{gains_late, total_fits, reached_few, sink_within, sunk, ended, first_start, others_less}
+use Rattle.mat_exchange.proofs.GrowthSteps.{top_within, inside_within, fewer_left, gains_late, total_fits, reached_few, first_start, others_less}
+use Rattle.mat_exchange.proofs.EnteringSteps.{enter_below, enter_within, enter_outside, shifted_entered, entered}
+use Rattle.mat_exchange.proofs.EndingSteps.{sink_within, sunk, ended}
 use Rattle.mat_exchange.proofs.growth.grow_from.Goals as goal
 
 pub reach_root-requires-clause-first_small : goal.reach_root-requires-clause-first_small

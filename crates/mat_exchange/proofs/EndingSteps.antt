@@ -1,0 +1,88 @@
+-- The growing search ends: a member of the reached set has become a sink, or no change lets an element in or makes one a sink. The change is put on
+-- the weights of the whole set, and the halves have grown.
+use Rattle.std.proofs.Common.{◌≡◌, ℕ, ◌^◌, true, List, Option, Some, refl, sym, ◌∙◌, subst, arith}
+use Rattle.std.proofs.lemmas.Bool.{both_ways}
+use Rattle.std.proofs.lemmas.Int.{ints}
+use Rattle.mat_sets.specs.Limits.{largest_change}
+use Rattle.mat_sets.specs.Sets.{is_member}
+use Rattle.mat_sets.specs.Weights.{zero_weight, ◌⊕◌, ◌⊖◌, ◌≼◌, weight_at, IsWeightWithin}
+use Rattle.mat_sets.specs.declared.weight.Weight.{Weight}
+use Rattle.mat_sets.proofs.WeightOrder.{pairs}
+use Rattle.mat_laws.specs.declared.exchange.Exchange.{Exchange}
+use Rattle.mat_laws.specs.TightPaths.{exchanges_in}
+use Rattle.mat_exchange.specs.Changes.{lowered, raised}
+use Rattle.mat_exchange.specs.SlackParts.{IsAdditionSlack, IsLeast}
+use Rattle.mat_exchange.specs.declared.steps.NextStep.{NextStep}
+use Rattle.mat_exchange.specs.declared.steps.NextStep.TheVariants.{Sink, Nothing}
+use Rattle.mat_exchange.specs.Growing.{IsGrownSplit, IsNextStep, excess_of, sum_at}
+use Rattle.mat_laws.proofs.TightArcs.{heaviest_addable_gives}
+use Rattle.mat_exchange.proofs.GrowthChanges.{growing_by, enters_late, levelled_by_sink, sink_by_slack}
+use Rattle.mat_exchange.proofs.Growing.{grown_by_sink, grown_without_slack}
+use Rattle.mat_exchange.proofs.ChangesSoFar.{lowered_twice, raised_twice, least_sink_at, no_sink}
+use Rattle.mat_exchange.proofs.WeightBounds.{difference_within}
+use mathlib.Core.Path.{fun_ext}
+use Rattle.mat_exchange.proofs.GrowthSteps.{IsGrowth, second_small, reached_below, total_small, late_from_here}
+
+module _ {n : ℕ} {I : List ℕ} {first second : List Exchange} {u1 u2 : List Weight} {root : ℕ} {R O F : List ℕ} {total : Weight}
+    {w1 w2 g : List Weight} {top inside : Option Weight} (now : IsGrowth n I first second u1 u2 root R O F total w1 w2 g top inside) where
+  -- ---- a sink
+
+  module _ {slack : Option Weight} (from : slack ≡ excess_of top inside) {step : NextStep} {d : Weight} (is : step ≡ Sink d)
+      (next : IsNextStep F (weight_at g) slack step) where
+    sinks : (slack ≡ Some d) × ((y : ℕ) → is_member y F ≡ true → (weight_at g y ⊕ d) ≼ zero_weight)
+    sinks = subst (IsNextStep F (weight_at g) slack) is next
+
+    sink_least : IsLeast (IsAdditionSlack n (exchanges_in second) (raised (weight_at w2) R total) R) (d ⊖ total)
+    sink_least = least_sink_at n (exchanges_in second) (weight_at w2) R total now.shifted.second_on.adds_below top inside d now.top_now now.inside_now
+        (sym from ∙ sinks.0)
+
+    sink_low : zero_weight ≼ (d ⊖ total)
+    sink_low =
+        let s = sink_least.has in
+        low s.value ((heaviest_addable_gives n (exchanges_in second) (raised (weight_at w2) R total) s.top s.heaviest).most s.element
+        (reached_below now.shifted s.element s.inside) s.adds)
+      where
+        low : {a b c : Weight} → a ≡ b ⊖ c → c ≼ b → zero_weight ≼ a
+        low v le = omega (arith, ints, pairs)
+
+    pub sink_within : IsWeightWithin largest_change d
+    sink_within =
+        let s = sink_least.has in
+        together d total (total_small now.shifted) (difference_within (10 ^ 26) (10 ^ 26) (10 ^ 27) _ _ (d ⊖ total) (omega arith) s.value
+        (second_small now.shifted s.top s.below) (second_small now.shifted s.element (reached_below now.shifted s.element s.inside)))
+      where
+        together : (d t : Weight) → IsWeightWithin (10 ^ 27) t → IsWeightWithin (10 ^ 27) (d ⊖ t) → IsWeightWithin largest_change d
+        together d t ht hd = omega (arith, ints, pairs)
+
+    pub sunk : (v1 v2 : List Weight) → ((z : ℕ) → weight_at v1 z ≡ lowered (weight_at w1) R d z)
+        → ((z : ℕ) → weight_at v2 z ≡ raised (weight_at w2) R d z)
+        → IsGrownSplit n (exchanges_in first) (exchanges_in second) (sum_at (weight_at u1) (weight_at u2)) (weight_at u2)
+        (weight_at v1) (weight_at v2)
+    sunk v1 v2 fell rose =
+        let s = now.shifted in
+        let same1 : weight_at v1 ≡ lowered (lowered (weight_at w1) R total) R (d ⊖ total) =
+        fun_ext (λ z. fell z ∙ sym (lowered_twice (weight_at w1) R total (d ⊖ total) d refl z)) in
+        let same2 : weight_at v2 ≡ raised (raised (weight_at w2) R total) R (d ⊖ total) =
+        fun_ext (λ z. rose z ∙ sym (raised_twice (weight_at w2) R total (d ⊖ total) d refl z)) in
+        let change = growing_by s.first_on s.second_on s.growing (d ⊖ total) sink_low
+        (enters_late s.growing now.fringe (d ⊖ total) (late_from_here now d sinks.1))
+        (λ plus. levelled_by_sink s.small s.growing (d ⊖ total) plus sink_least) in
+        let sink = sink_by_slack (d ⊖ total) s.second_on.adds_below sink_least in
+        rw (same1, same2) (grown_by_sink change sink.0 sink.1 sink.2)
+
+  -- ---- nothing is left
+
+  pub ended : {slack : Option Weight} → slack ≡ excess_of top inside → {step : NextStep} → step ≡ Nothing
+      → IsNextStep F (weight_at g) slack step
+      → (v1 v2 : List Weight) → ((z : ℕ) → weight_at v1 z ≡ lowered (weight_at w1) R total z)
+      → ((z : ℕ) → weight_at v2 z ≡ raised (weight_at w2) R total z)
+      → IsGrownSplit n (exchanges_in first) (exchanges_in second) (sum_at (weight_at u1) (weight_at u2)) (weight_at u2)
+      (weight_at v1) (weight_at v2)
+  ended {slack} from is next v1 v2 fell rose =
+      let s = now.shifted in
+      let none = subst (IsNextStep F (weight_at g) slack) is next in
+      let same1 : weight_at v1 ≡ lowered (weight_at w1) R total = fun_ext fell in
+      let same2 : weight_at v2 ≡ raised (weight_at w2) R total = fun_ext rose in
+      rw (same1, same2) (grown_without_slack s.growing
+      (λ x e xo entry. both_ways _ (none.1 x) (now.fringe.most x e xo entry).0)
+      (no_sink n (exchanges_in second) (weight_at w2) R total s.second_on.adds_below top inside now.top_now now.inside_now (sym from ∙ none.0)))
