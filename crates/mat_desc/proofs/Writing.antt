@@ -1,16 +1,15 @@
 -- The text that is written line by line: the lines of a list of items are those of one item after the other.
 use Rattle.std.proofs.Common.{◌≡◌, ℕ, ◌+◌, ◌<◌, ◌≤◌, List, [], ◌∷◌, ◌++◌, length}
-use Rattle.std.proofs.Common.{map, min, take, get_or, sym, ap, ◌∙◌, refl, arith, pos, map-id}
+use Rattle.std.proofs.Common.{map, min, take, get_or, sym, ap, ◌∙◌, refl, arith, pos}
 use Rattle.std.specs.List.{flat_map, zip}
 use Rattle.std.proofs.lemmas.List.{append_assoc, take_all}
 use Rattle.std.proofs.lemmas.List.Concat.{flat_map_single}
-use Rattle.std.proofs.lemmas.List.Folds.{flat_map-map}
 use Rattle.std.proofs.lemmas.Slice.Zip.{get_or-zip, length-zip}
 use Rattle.mat_words.specs.Lines.{Line, text_of}
 use Rattle.mat_words.specs.Numbers.{numeral}
 use Rattle.mat_words.specs.Writing.{end_line, spaced}
 use Rattle.mat_words.proofs.LineLemmas.{text_of-append}
-use Rattle.mat_words.proofs.WrittenLines.{item_written, line_written}
+use Rattle.mat_words.proofs.WrittenLines.{item_written, words_written}
 use Rattle.mat_desc.specs.Grammar.{version_line, name_lines}
 use Rattle.mat_desc.specs.Instances.{Instance}
 use Rattle.mat_desc.specs.Notations.{Notation}
@@ -22,22 +21,6 @@ use Rattle.mat_desc.specs.Canonical.{header, body_lines, canonical_lines}
 pub all_written : (start : List ℕ) (words : Line) (n : ℕ) (out : List ℕ) → length words ≤ n
     → out ≡ start ++ spaced (take n words) → out ≡ start ++ spaced words
 all_written start words n out done so_far = so_far ∙ ap (λ (ws : Line). start ++ spaced ws) (take_all n words done)
-
--- the word for each item was written, behind a space
-pub words_done : {A : Type 0} (f : A → List ℕ) (start : List ℕ) (xs : List A) (n : ℕ) (out : List ℕ) → length xs ≤ n
-    → out ≡ start ++ flat_map (λ x. 32 ∷ f x) (take n xs) → out ≡ start ++ spaced (map f xs)
-words_done f start xs n out done so_far =
-    so_far ∙ ap (λ t. start ++ flat_map (λ x. 32 ∷ f x) t) (take_all n xs done)
-    ∙ ap (λ (t : List ℕ). start ++ t) (sym (flat_map-map (λ w. 32 ∷ w) f xs))
-
--- a line of a keyword and words was written
-pub words_written : (old key : List ℕ) (words : Line) (out new : List ℕ) → out ≡ (old ++ key) ++ spaced words → new ≡ out ++ 10 ∷ []
-    → new ≡ old ++ text_of ((key ∷ words) ∷ [])
-words_written old key words out new so_far last =
-    let all : out ≡ (old ++ key) ++ spaced (take (length words) words) =
-    so_far ∙ ap (λ (ws : Line). (old ++ key) ++ spaced ws) (sym (take_all (length words) words (omega arith))) in
-    line_written (λ w. w) old key words (length words) out new (omega arith) all last
-    ∙ ap (λ (ws : Line). old ++ text_of ((key ∷ ws) ∷ [])) (map-id words)
 
 -- the line of a set and its cap was written
 pub capped_written : (old key : List ℕ) (cap : ℕ) (words : Line) (out new : List ℕ)

@@ -4,18 +4,13 @@ use Rattle.std.proofs.Common.{get_or, sym, ap, ◌∙◌}
 use Rattle.std.specs.List.{flat_map, join_with_byte}
 use Rattle.std.proofs.lemmas.List.{append_assoc, append-nil, flat_map_more, take_more, take_all}
 use Rattle.std.proofs.lemmas.List.Folds.{flat_map-map}
-use Rattle.mat_words.specs.Lines.{text_of}
+use Rattle.mat_words.specs.Lines.{Line, text_of}
+use Rattle.mat_words.specs.Writing.{spaced}
 
 -- words that are joined are the first and each further one behind a space
-join_with_byte-cons : (w : List ℕ) (ws : List (List ℕ)) → join_with_byte 32 (w ∷ ws) ≡ w ++ flat_map (λ v. 32 ∷ v) ws
+join_with_byte-cons : (w : List ℕ) (ws : Line) → join_with_byte 32 (w ∷ ws) ≡ w ++ spaced ws
 join_with_byte-cons w [] = sym (append-nil w)
 join_with_byte-cons w (v ∷ vs) = ap (λ (t : List ℕ). w ++ 32 ∷ t) (join_with_byte-cons v vs)
-
--- the text of a line of a keyword and further words
-line_text : {A : Type 0} (f : A → List ℕ) (w : List ℕ) (xs : List A)
-    → text_of ((w ∷ map f xs) ∷ []) ≡ (w ++ flat_map (λ x. 32 ∷ f x) xs) ++ 10 ∷ []
-line_text f w xs =
-    ap (λ (t : List ℕ). t ++ 10 ∷ []) (join_with_byte-cons w (map f xs) ∙ ap (λ (t : List ℕ). w ++ t) (flat_map-map (λ v. 32 ∷ v) f xs))
 
 -- one more item was written
 pub item_written : {A : Type 0} (g : A → List ℕ) (start : List ℕ) (xs : List A) (i : ℕ) (d : A) (out new : List ℕ) → i < length xs
@@ -25,12 +20,23 @@ item_written g start xs i d out new inside so_far last =
     last ∙ ap (λ (t : List ℕ). t ++ g (get_or xs i d)) so_far ∙ flat_map_more g start (take i xs) (get_or xs i d)
     ∙ ap (λ t. start ++ flat_map g t) (sym (take_more xs i d inside))
 
+-- the word for each item was written, behind a space
+pub words_done : {A : Type 0} (f : A → List ℕ) (start : List ℕ) (xs : List A) (n : ℕ) (out : List ℕ) → length xs ≤ n
+    → out ≡ start ++ flat_map (λ x. 32 ∷ f x) (take n xs) → out ≡ start ++ spaced (map f xs)
+words_done f start xs n out done so_far =
+    so_far ∙ ap (λ t. start ++ flat_map (λ x. 32 ∷ f x) t) (take_all n xs done)
+    ∙ ap (λ (t : List ℕ). start ++ t) (sym (flat_map-map (λ w. 32 ∷ w) f xs))
+
+-- a line of a keyword and words was written
+pub words_written : (old key : List ℕ) (words : Line) (out new : List ℕ) → out ≡ (old ++ key) ++ spaced words → new ≡ out ++ 10 ∷ []
+    → new ≡ old ++ text_of ((key ∷ words) ∷ [])
+words_written old key words out new so_far last =
+    last ∙ ap (λ (t : List ℕ). t ++ 10 ∷ []) (so_far ∙ append_assoc old key (spaced words)) ∙ append_assoc old (key ++ spaced words) (10 ∷ [])
+    ∙ ap (λ (t : List ℕ). old ++ (t ++ 10 ∷ [])) (sym (join_with_byte-cons key words))
+
 -- a line was written, word by word
 pub line_written : {A : Type 0} (f : A → List ℕ) (old w : List ℕ) (xs : List A) (n : ℕ) (out new : List ℕ) → length xs ≤ n
     → out ≡ (old ++ w) ++ flat_map (λ x. 32 ∷ f x) (take n xs) → new ≡ out ++ 10 ∷ []
     → new ≡ old ++ text_of ((w ∷ map f xs) ∷ [])
 line_written f old w xs n out new done so_far last =
-    let items = flat_map (λ x. 32 ∷ f x) xs in
-    let whole : out ≡ (old ++ w) ++ items = so_far ∙ ap (λ t. (old ++ w) ++ flat_map (λ x. 32 ∷ f x) t) (take_all n xs done) in
-    last ∙ ap (λ (t : List ℕ). t ++ 10 ∷ []) (whole ∙ append_assoc old w items) ∙ append_assoc old (w ++ items) (10 ∷ [])
-    ∙ ap (λ (t : List ℕ). old ++ t) (sym (line_text f w xs))
+    words_written old w (map f xs) out new (words_done f (old ++ w) xs n out done so_far) last

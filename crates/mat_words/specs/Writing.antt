@@ -5,6 +5,14 @@ use Rattle.mat_words.specs.Numbers.{numeral, numerals}
 use Rattle.mat_sets.specs.declared.weight.Weight.{Weight}
 use Rattle.mat_words.specs.Lines.{Line}
 use Rattle.mat_words.specs.Weights.{weight_word}
+use Rattle.mat_words.specs.declared.text_word.TextWord.{TextWord}
+use Rattle.mat_words.specs.declared.text_word.TextWord.TheVariants as words
+
+-- the word itself
+abbrev pub text_word : TextWord → List ℕ
+text_word (words.Fixed bytes) = bytes.now
+text_word (words.Number number) = numeral number
+text_word (words.Weight weight) = weight_word weight
 
 -- the bytes of words, each behind a space
 abbrev pub spaced : Line → List ℕ

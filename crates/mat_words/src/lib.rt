@@ -17,6 +17,7 @@ mod names;
 mod numbers;
 mod reading;
 mod refusal;
+mod text_word;
 mod weights;
 mod words;
 mod writing;
@@ -31,6 +32,7 @@ pub use reading::{
     next_word, nothing_left, words_line,
 };
 pub use refusal::{ReadingFault, ReadingRefusal};
+pub use text_word::{TextWord, put_text_word, put_words};
 pub use weights::{put_weight, read_weight, weight_laws};
 pub use words::{split_word, well_spaced, word_at, word_laws};
 pub use writing::{

@@ -12,16 +12,8 @@ ghost use Rattle.mat_desc.specs.Notations.{word_for, words_for};
 ghost use Rattle.mat_desc.specs.Views.{naming};
 
 use mat_sets::{ElemSet, Weight};
-use mat_words::{Names, put_number_word, put_weight_word};
+use mat_words::{Names, TextWord, put_number_word, put_text_word, put_weight_word};
 use std::alloc::AllocError;
-
-/// Appends a word, behind a space.
-fn put_word(out: &mut Vec<u8>, word: &[u8]) -> Result<(), AllocError>
-    ensures { OnOk result (out.new.items ≡ out.old.items ++ 32 ∷ word.now) }
-{
-    out.push(b' ')?;
-    out.extend_from_slice(word)
-}
 
 /// Appends the word for a number, behind a space: its numeral, or its name where numbers have names.
 pub(crate) fn put_member_word(
@@ -34,7 +26,7 @@ pub(crate) fn put_member_word(
 {
     match names {
         None => put_number_word(out, i128::from(x)),
-        Some(names) => put_word(out, names.get(x as usize)),
+        Some(names) => put_text_word(out, TextWord::Fixed(names.get(x as usize))),
     }
 }
 
@@ -233,7 +225,7 @@ pub(crate) fn put_names_line(
 {
     out.extend_from_slice(keyword)?;
     for i in 0..names.len() {
-        put_word(out, names.get(i))?;
+        put_text_word(out, TextWord::Fixed(names.get(i)))?;
     }
     out.push(b'\n')?;
     Ok(())
