@@ -5,12 +5,12 @@ ghost use Rattle.mat_cert.specs.Certificates.{certificate_text, intersect, best,
 ghost use Rattle.mat_cert.specs.Certificates.{arbor, unreached, disjoint, disjoint_none, rainbow, assign};
 
 use crate::answer::{LevelLine, PlainRung, PricedRung};
-use crate::write::header::HeaderWord::{Fixed, Number};
-use crate::write::header::{HeaderWord, begun, put_end_line};
+use crate::write::header::{begun, put_end_line};
 use crate::write::rungs::{put_plain_rungs, put_priced_rungs};
 use crate::write::sets::{put_level_lines, put_option_line, put_set_lines};
 use mat_sets::{ElemSet, PairWeights, SetList, Weight};
-use mat_words::{put_members_line, put_weights_line};
+use mat_words::TextWord::{Fixed, Number};
+use mat_words::{TextWord, put_members_line, put_weights_line};
 use std::alloc::{AllocError, Global};
 
 /// The text of an `intersect` certificate.
@@ -24,8 +24,8 @@ pub(crate) fn intersect_text(
 {
     let words = [
         Fixed(b"intersect"),
-        Number(count as usize),
-        Number(rungs.len().saturating_sub(1)),
+        Number(count as i128),
+        Number(rungs.len().saturating_sub(1) as i128),
     ];
     let mut out = begun(alloc, &words)?;
     put_priced_rungs(alloc, &mut out, rungs)?;
@@ -44,8 +44,8 @@ pub(crate) fn best_text(
 {
     let words = [
         Fixed(b"best"),
-        Number(count as usize),
-        Number(rungs.len().saturating_sub(1)),
+        Number(count as i128),
+        Number(rungs.len().saturating_sub(1) as i128),
     ];
     let mut out = begun(alloc, &words)?;
     put_plain_rungs(&mut out, rungs)?;
@@ -65,10 +65,10 @@ pub(crate) fn union_text(
 {
     let words = [
         Fixed(b"union"),
-        Number(count as usize),
-        Number(parts.len()),
-        Number(levels.len()),
-        HeaderWord::Weight(weight),
+        Number(count as i128),
+        Number(parts.len() as i128),
+        Number(levels.len() as i128),
+        TextWord::Weight(weight),
     ];
     let mut out = begun(alloc, &words)?;
     put_set_lines(&mut out, b"part", parts)?;
@@ -81,7 +81,7 @@ pub(crate) fn union_text(
 pub(crate) fn pack_any_text(alloc: Global, count: u32) -> Result<Vec<u8>, AllocError>
     ensures { IfOk result (λ v. v.items ≡ certificate_text (pack_any count)) }
 {
-    let words = [Fixed(b"pack"), Number(count as usize), Fixed(b"any")];
+    let words = [Fixed(b"pack"), Number(count as i128), Fixed(b"any")];
     let mut out = begun(alloc, &words)?;
     put_end_line(&mut out)?;
     Ok(out)
@@ -96,7 +96,11 @@ pub(crate) fn pack_text(
 ) -> Result<Vec<u8>, AllocError>
     ensures { IfOk result (λ v. v.items ≡ certificate_text (pack count bases.now cut.now)) }
 {
-    let words = [Fixed(b"pack"), Number(count as usize), Number(bases.len())];
+    let words = [
+        Fixed(b"pack"),
+        Number(count as i128),
+        Number(bases.len() as i128),
+    ];
     let mut out = begun(alloc, &words)?;
     put_set_lines(&mut out, b"base", bases)?;
     put_members_line(&mut out, b"cut", cut.as_slice())?;
@@ -110,9 +114,9 @@ pub(crate) fn never_text(alloc: Global, count: u32, loop_at: u32) -> Result<Vec<
 {
     let words = [
         Fixed(b"cover"),
-        Number(count as usize),
+        Number(count as i128),
         Fixed(b"never"),
-        Number(loop_at as usize),
+        Number(loop_at as i128),
     ];
     let mut out = begun(alloc, &words)?;
     put_end_line(&mut out)?;
@@ -128,7 +132,11 @@ pub(crate) fn cover_text(
 ) -> Result<Vec<u8>, AllocError>
     ensures { IfOk result (λ v. v.items ≡ certificate_text (cover count sets.now cut.now)) }
 {
-    let words = [Fixed(b"cover"), Number(count as usize), Number(sets.len())];
+    let words = [
+        Fixed(b"cover"),
+        Number(count as i128),
+        Number(sets.len() as i128),
+    ];
     let mut out = begun(alloc, &words)?;
     put_set_lines(&mut out, b"part", sets)?;
     put_option_line(&mut out, b"cut", cut)?;
@@ -140,7 +148,11 @@ pub(crate) fn cover_text(
 pub(crate) fn trees_text(alloc: Global, count: u32, sets: &SetList) -> Result<Vec<u8>, AllocError>
     ensures { IfOk result (λ v. v.items ≡ certificate_text (trees count sets.now)) }
 {
-    let words = [Fixed(b"trees"), Number(count as usize), Number(sets.len())];
+    let words = [
+        Fixed(b"trees"),
+        Number(count as i128),
+        Number(sets.len() as i128),
+    ];
     let mut out = begun(alloc, &words)?;
     put_set_lines(&mut out, b"tree", sets)?;
     put_end_line(&mut out)?;
@@ -159,11 +171,11 @@ pub(crate) fn classes_text(
 {
     let words = [
         Fixed(b"trees"),
-        Number(count as usize),
-        Number(k as usize),
+        Number(count as i128),
+        Number(k as i128),
         Fixed(b"none"),
-        Number(vertices as usize),
-        Number(classes.len()),
+        Number(vertices as i128),
+        Number(classes.len() as i128),
     ];
     let mut out = begun(alloc, &words)?;
     put_set_lines(&mut out, b"class", classes)?;
@@ -184,9 +196,9 @@ pub(crate) fn arbor_text(
 {
     let words = [
         Fixed(b"arborescence"),
-        Number(count as usize),
+        Number(count as i128),
         Fixed(b"tree"),
-        HeaderWord::Weight(cost),
+        TextWord::Weight(cost),
     ];
     let mut out = begun(alloc, &words)?;
     put_members_line(&mut out, b"set", arcs.as_slice())?;
@@ -207,9 +219,9 @@ pub(crate) fn unreached_text(
 {
     let words = [
         Fixed(b"arborescence"),
-        Number(count as usize),
+        Number(count as i128),
         Fixed(b"unreached"),
-        Number(vertices as usize),
+        Number(vertices as i128),
     ];
     let mut out = begun(alloc, &words)?;
     put_members_line(&mut out, b"vertices", set.as_slice())?;
@@ -227,8 +239,8 @@ pub(crate) fn disjoint_text(
 {
     let words = [
         Fixed(b"disjoint"),
-        Number(count as usize),
-        Number(sets.len()),
+        Number(count as i128),
+        Number(sets.len() as i128),
     ];
     let mut out = begun(alloc, &words)?;
     put_set_lines(&mut out, b"tree", sets)?;
@@ -248,10 +260,10 @@ pub(crate) fn entered_text(
 {
     let words = [
         Fixed(b"disjoint"),
-        Number(count as usize),
-        Number(k as usize),
+        Number(count as i128),
+        Number(k as i128),
         Fixed(b"none"),
-        Number(vertices as usize),
+        Number(vertices as i128),
     ];
     let mut out = begun(alloc, &words)?;
     put_members_line(&mut out, b"vertices", set.as_slice())?;
@@ -273,10 +285,10 @@ pub(crate) fn rainbow_text(
 {
     let words = [
         Fixed(b"rainbow"),
-        Number(count as usize),
-        Number(rungs.len().saturating_sub(1)),
-        Number(vertices as usize),
-        Number(colours as usize),
+        Number(count as i128),
+        Number(rungs.len().saturating_sub(1) as i128),
+        Number(vertices as i128),
+        Number(colours as i128),
     ];
     let mut out = begun(alloc, &words)?;
     put_priced_rungs(alloc, &mut out, rungs)?;
@@ -299,10 +311,10 @@ pub(crate) fn assign_text(
 {
     let words = [
         Fixed(b"assign"),
-        Number(count as usize),
-        Number(rungs.len().saturating_sub(1)),
-        Number(rows as usize),
-        Number(columns as usize),
+        Number(count as i128),
+        Number(rungs.len().saturating_sub(1) as i128),
+        Number(rows as i128),
+        Number(columns as i128),
     ];
     let mut out = begun(alloc, &words)?;
     put_priced_rungs(alloc, &mut out, rungs)?;

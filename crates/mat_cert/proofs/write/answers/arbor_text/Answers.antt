@@ -11,7 +11,7 @@ pub returns : goal.returns
 unfolding certificate_text
 returns c =
     let start = opening (codes "arborescence") (numeral (pos c.args.count) ∷ codes "tree" ∷ weight_word c.args.cost ∷ []) in
-    let begun : c.in_ok-out.out.items ≡ text_of start = c.in_ok-out.ensures in
+    let begun : c.in_ok-out.out.items ≡ text_of start = search rules in
     five_pieces start (members_line (codes "set") c.args.arcs.now ∷ []) (weights_line (codes "first") c.args.first.now ∷ []) (weights_line (codes "second") c.args.second.now ∷ []) (end_line ∷ [])
     c.in_ok-out.out.items c.put_members_line.new.out.items c.put_weights_line.new.out.items c.put_weights_line-2.new.out.items _
     begun (search rules) (search rules) (search rules) c.in_ok-put_end_line.ensures

@@ -1,4 +1,4 @@
-use Rattle.std.proofs.Common.{◌≡◌, ◌∷◌, [], codes, length}
+use Rattle.std.proofs.Common.{◌≡◌, ◌∷◌, [], codes, length, rules}
 use Rattle.mat_words.specs.Lines.{text_of}
 use Rattle.mat_words.specs.Numbers.{numerals}
 use Rattle.mat_words.specs.Writing.{end_line}
@@ -10,7 +10,7 @@ pub returns : goal.returns
 unfolding certificate_text
 returns c =
     let start = opening (codes "cover") (numerals (c.args.count ∷ length c.args.sets.now ∷ [])) in
-    let begun : c.in_ok-out.out.items ≡ text_of start = rw c.len.ensures.count at c.in_ok-out.ensures in
+    let begun : c.in_ok-out.out.items ≡ text_of start = search rules in
     four_pieces start (sets_lines (codes "part") c.args.sets.now) (option_lines (codes "cut") c.args.cut.now) (end_line ∷ [])
     c.in_ok-out.out.items c.put_set_lines.new.out.items c.put_option_line.new.out.items _
     begun c.in_ok-put_set_lines.ensures c.in_ok-put_option_line.ensures c.in_ok-put_end_line.ensures

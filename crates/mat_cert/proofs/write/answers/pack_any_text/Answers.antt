@@ -1,4 +1,4 @@
-use Rattle.std.proofs.Common.{◌≡◌, ◌∷◌, [], codes, pos}
+use Rattle.std.proofs.Common.{◌≡◌, ◌∷◌, [], codes, pos, rules}
 use Rattle.mat_words.specs.Lines.{text_of}
 use Rattle.mat_words.specs.Numbers.{numeral}
 use Rattle.mat_words.specs.Writing.{end_line}
@@ -10,7 +10,7 @@ pub returns : goal.returns
 unfolding certificate_text
 returns c =
     let start = opening (codes "pack") (numeral (pos c.args.count) ∷ codes "any" ∷ []) in
-    let begun : c.in_ok-out.out.items ≡ text_of start = c.in_ok-out.ensures in
+    let begun : c.in_ok-out.out.items ≡ text_of start = search rules in
     two_pieces start (end_line ∷ [])
     c.in_ok-out.out.items _
     begun c.in_ok-put_end_line.ensures

@@ -1,4 +1,4 @@
-use Rattle.std.proofs.Common.{◌≡◌, ◌∷◌, [], codes, ◌++◌, length, map}
+use Rattle.std.proofs.Common.{◌≡◌, ◌∷◌, [], codes, ◌++◌, length, map, rules}
 use Rattle.mat_words.specs.Lines.{text_of}
 use Rattle.mat_words.specs.Numbers.{numerals}
 use Rattle.mat_words.specs.Weights.{weight_word}
@@ -11,7 +11,7 @@ pub returns : goal.returns
 unfolding certificate_text
 returns c =
     let start = opening (codes "union") (numerals (c.args.count ∷ length c.args.parts.now ∷ length c.args.levels.now ∷ []) ++ weight_word c.args.weight ∷ []) in
-    let begun : c.in_ok-out.out.items ≡ text_of start = rw c.len.ensures.count at c.in_ok-out.ensures in
+    let begun : c.in_ok-out.out.items ≡ text_of start = search rules in
     four_pieces start (sets_lines (codes "part") c.args.parts.now) (map level_line c.args.levels.now) (end_line ∷ [])
     c.in_ok-out.out.items c.put_set_lines.new.out.items c.put_level_lines.new.out.items _
     begun c.in_ok-put_set_lines.ensures c.in_ok-put_level_lines.ensures c.in_ok-put_end_line.ensures

@@ -10,7 +10,7 @@ pub returns : goal.returns
 unfolding certificate_text
 returns c =
     let start = opening (codes "arborescence") (numeral (pos c.args.count) ∷ codes "unreached" ∷ numeral (pos c.args.vertices) ∷ []) in
-    let begun : c.in_ok-out.out.items ≡ text_of start = c.in_ok-out.ensures in
+    let begun : c.in_ok-out.out.items ≡ text_of start = search rules in
     three_pieces start (members_line (codes "vertices") c.args.set.now ∷ []) (end_line ∷ [])
     c.in_ok-out.out.items c.put_members_line.new.out.items _
     begun (search rules) c.in_ok-put_end_line.ensures
