@@ -1,10 +1,9 @@
 -- The text of a line that was written in pieces, each of words behind spaces.
-use Rattle.std.proofs.Common.{◌≡◌, ℕ, List, [], ◌∷◌, ◌++◌, ◌∙◌, length, take, sym, ap, arith}
-use Rattle.std.specs.List.{flat_map}
+use Rattle.std.proofs.Common.{◌≡◌, ℕ, List, [], ◌∷◌, ◌++◌, ◌∙◌, sym, ap}
 use Rattle.std.proofs.lemmas.Grind.{flat_map-append}
-use Rattle.std.proofs.lemmas.List.{append_assoc, map-id, take_all}
+use Rattle.std.proofs.lemmas.List.{append_assoc}
 use Rattle.mat_words.specs.Lines.{Line, text_of}
-use Rattle.mat_words.proofs.WrittenLines.{line_written}
+use Rattle.mat_words.proofs.WrittenLines.{words_written}
 use Rattle.mat_words.specs.Writing.{spaced}
 
 -- three pieces are one
@@ -22,9 +21,5 @@ pub line_of_pieces : (word : List ℕ) (first second third : Line) (one two thre
     → one ≡ word ++ spaced first → two ≡ one ++ spaced second → three ≡ two ++ spaced third → new ≡ three ++ 10 ∷ []
     → new ≡ text_of ((word ∷ first ++ (second ++ third)) ∷ [])
 line_of_pieces word first second third one two three new a b c d =
-    let words = first ++ (second ++ third) in
-    let whole : three ≡ word ++ spaced words =
-    c ∙ ap (λ (t : List ℕ). t ++ spaced third) (b ∙ ap (λ (t : List ℕ). t ++ spaced second) a) ∙ spaced_pieces word first second third in
-    let all : three ≡ word ++ flat_map (λ v. 32 ∷ v) (take (length words) words) = rw (take_all (length words) words (omega arith)) whole in
-    let line = line_written (λ v. v) [] word words (length words) three new (omega arith) all d in
-    rw (map-id words) at line
+    words_written [] word (first ++ (second ++ third)) three new
+    (c ∙ ap (λ (t : List ℕ). t ++ spaced third) (b ∙ ap (λ (t : List ℕ). t ++ spaced second) a) ∙ spaced_pieces word first second third) d

@@ -1,2 +1,1 @@
 pub mod Summaries
-pub mod SummaryTexts

@@ -1,6 +1,6 @@
 //! The line that sums up an answer.
 
-ghost use Rattle.std.specs.Prelude.{◌≡◌, ◌+◌, ◌≤◌, ◌++◌, ◌∷◌, [], length, map, codes, pos, All, IfOk, OnOk};
+ghost use Rattle.std.specs.Prelude.{◌≡◌, ◌+◌, ◌≤◌, ◌++◌, ◌∷◌, [], length, codes, pos, All, IfOk, OnOk};
 ghost use Rattle.mat_sets.specs.Limits.{largest_number, most_elements, most_matroids};
 ghost use Rattle.mat_sets.specs.Weights.{IsWeightWithin};
 ghost use Rattle.mat_words.specs.Lines.{text_of};
@@ -10,49 +10,14 @@ ghost use Rattle.mat_words.specs.Writing.{spaced};
 ghost use Rattle.mat_cert.specs.Certificates.{IsRanged};
 ghost use Rattle.mat_cert.specs.Views.{certificate_of};
 ghost use Rattle.mat_summary.specs.Summaries.{all_members, kind_word, ladder_words, summary_line, summary_words};
-ghost use Rattle.mat_summary.specs.SummaryTexts.{summary_word};
 
 use crate::totals::{all_members, ladder_weight, last_weight};
 use mat_cert::{Answer, PricedRung};
 use mat_gen::SampleKind;
 use mat_sets::{SetList, Weight};
-use mat_words::{put_number_word, put_weight_word};
+use mat_words::TextWord::{self, Fixed, Number};
+use mat_words::put_words;
 use std::alloc::{AllocError, Global};
-
-/// A word of a summary.
-#[derive(Clone, Copy)]
-enum SummaryWord<'a> {
-    /// This word.
-    Fixed(&'a [u8]),
-    /// A number.
-    Number(u64),
-    /// A weight.
-    Weight(Weight),
-}
-
-// Appends a word, behind a space.
-fn put_word(out: &mut Vec<u8>, word: SummaryWord<'_>) -> Result<(), AllocError>
-    ensures { OnOk result (out.new.items ≡ out.old.items ++ 32 ∷ summary_word word.entry) }
-{
-    match word {
-        SummaryWord::Fixed(bytes) => {
-            out.push(b' ')?;
-            out.extend_from_slice(bytes)
-        }
-        SummaryWord::Number(n) => put_number_word(out, i128::from(n)),
-        SummaryWord::Weight(weight) => put_weight_word(out, weight),
-    }
-}
-
-// Appends words, each behind a space.
-fn put_words(out: &mut Vec<u8>, words: &[SummaryWord<'_>]) -> Result<(), AllocError>
-    ensures { OnOk result (out.new.items ≡ out.old.items ++ spaced (map summary_word words.now)) }
-{
-    for word in words {
-        put_word(out, *word)?;
-    }
-    Ok(())
-}
 
 // Appends what a ladder comes to.
 fn put_ladder_words(out: &mut Vec<u8>, rungs: &[PricedRung]) -> Result<(), AllocError>
@@ -61,12 +26,12 @@ fn put_ladder_words(out: &mut Vec<u8>, rungs: &[PricedRung]) -> Result<(), Alloc
     ensures { OnOk result (out.new.items ≡ out.old.items ++ spaced (ladder_words rungs.now)) }
 {
     let words = [
-        SummaryWord::Fixed(b"size"),
-        SummaryWord::Number(rungs.len().saturating_sub(1) as u64),
-        SummaryWord::Fixed(b"weight"),
-        SummaryWord::Weight(last_weight(rungs)),
-        SummaryWord::Fixed(b"ladder"),
-        SummaryWord::Weight(ladder_weight(rungs)),
+        Fixed(b"size"),
+        Number(rungs.len().saturating_sub(1) as i128),
+        Fixed(b"weight"),
+        TextWord::Weight(last_weight(rungs)),
+        Fixed(b"ladder"),
+        TextWord::Weight(ladder_weight(rungs)),
     ];
     put_words(out, &words)
 }
@@ -79,10 +44,10 @@ fn put_union_words(out: &mut Vec<u8>, weight: Weight, parts: &SetList) -> Result
         ++ spaced (codes "size" ∷ numeral (pos (all_members parts.now)) ∷ codes "weight" ∷ weight_word weight ∷ [])) }
 {
     let words = [
-        SummaryWord::Fixed(b"size"),
-        SummaryWord::Number(all_members(parts.as_slice()) as u64),
-        SummaryWord::Fixed(b"weight"),
-        SummaryWord::Weight(weight),
+        Fixed(b"size"),
+        Number(all_members(parts.as_slice()) as i128),
+        Fixed(b"weight"),
+        TextWord::Weight(weight),
     ];
     put_words(out, &words)
 }
@@ -96,13 +61,10 @@ fn put_answer_words(out: &mut Vec<u8>, answer: &Answer) -> Result<(), AllocError
         Answer::Intersect { rungs, .. } => put_ladder_words(out, rungs),
         Answer::Assign { rungs, .. } => put_ladder_words(out, rungs),
         Answer::UnionOf { weight, parts, .. } => put_union_words(out, *weight, parts),
-        Answer::Trees { .. } => put_words(out, &[SummaryWord::Fixed(b"trees")]),
-        Answer::TreesNone { .. } => put_words(out, &[SummaryWord::Fixed(b"partition")]),
-        Answer::Arbor { cost, .. } => put_words(
-            out,
-            &[SummaryWord::Fixed(b"cost"), SummaryWord::Weight(*cost)],
-        ),
-        Answer::Unreached { .. } => put_words(out, &[SummaryWord::Fixed(b"unreached")]),
+        Answer::Trees { .. } => put_words(out, &[Fixed(b"trees")]),
+        Answer::TreesNone { .. } => put_words(out, &[Fixed(b"partition")]),
+        Answer::Arbor { cost, .. } => put_words(out, &[Fixed(b"cost"), TextWord::Weight(*cost)]),
+        Answer::Unreached { .. } => put_words(out, &[Fixed(b"unreached")]),
         _ => Ok(()),
     }
 }
@@ -133,13 +95,13 @@ pub(crate) fn summary_text(
 {
     let mut out = b"sample".to_vec(alloc)?;
     let words = [
-        SummaryWord::Fixed(kind_word(kind)),
-        SummaryWord::Number(u64::from(size)),
-        SummaryWord::Number(seed),
+        Fixed(kind_word(kind)),
+        Number(i128::from(size)),
+        Number(i128::from(seed)),
     ];
     put_words(&mut out, &words)?;
     put_answer_words(&mut out, answer)?;
-    put_words(&mut out, &[SummaryWord::Fixed(b"accepted")])?;
+    put_words(&mut out, &[Fixed(b"accepted")])?;
     out.push(b'\n')?;
     Ok(out)
 }

@@ -1,8 +1,0 @@
-use Rattle.std.proofs.Common.{◌≡◌, ◌++◌, ◌∷◌, take}
-use Rattle.std.specs.List.{flat_map}
-use Rattle.mat_summary.specs.SummaryTexts.{summary_word}
-use Rattle.mat_summary.proofs.summary.put_words.Given as goal
-
--- the words so far stand there
-abbrev pub invariant-loop-word : goal.invariant-loop-word
-invariant-loop-word l = l.out.items ≡ l.fn.out.items ++ flat_map (λ word. 32 ∷ summary_word word) (take l.word-index l.words)
