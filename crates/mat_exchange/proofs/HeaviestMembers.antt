@@ -1,13 +1,13 @@
 -- A heaviest element of those that pass, found by going through them in rising order.
-use Rattle.std.proofs.Common.{◌≡◌, ℕ, ◌<◌, ◌+◌, Bool, true, false, cond, Option, Some, None, IfSome, MatchOption, inl, inr, sym, ap, subst, arith}
-use Rattle.std.proofs.lemmas.Bool.{cases_Bool, both_ways}
+use Rattle.std.proofs.Common.{◌≡◌, ℕ, ◌<◌, ◌+◌, Bool, true, false, cond, Option, Some, None, IfSome, MatchOption, ◌⊎◌, inl, inr, sym, ap}
+use Rattle.std.proofs.Common.{subst, arith}
+use Rattle.std.proofs.lemmas.Bool.{cases_Bool, cases_lt, cases_eq, both_ways}
 use Rattle.std.proofs.lemmas.Int.{ints}
 use Rattle.mat_sets.specs.Search.{IsFirstFrom}
 use Rattle.mat_sets.specs.Weights.{zero_weight, negated, ◌⊕◌, ◌≼◌, is_below}
 use Rattle.mat_sets.specs.declared.weight.Weight.{Weight}
 use Rattle.mat_sets.proofs.WeightOrder.{pairs, at_most_same, at_most_trans, below_at_most, not_below_gives}
 use Rattle.mat_exchange.specs.Growing.{heavier_of, IsHeaviestOf}
-use Rattle.mat_exchange.proofs.HeaviestAddable.{passes_next}
 
 -- y passes, and none before `from` that passes weighs more
 pub record IsHeaviestTo (test : ℕ → Bool) (w : ℕ → Weight) (from y : ℕ) : Type 0 where
@@ -16,6 +16,13 @@ pub record IsHeaviestTo (test : ℕ → Bool) (w : ℕ → Weight) (from y : ℕ
 
 abbrev pub IsHeaviestToOrNone : (ℕ → Bool) → (ℕ → Weight) → ℕ → Option ℕ → Type 0
 IsHeaviestToOrNone test w from found = MatchOption found ((x : ℕ) → x < from → test x ≡ false) (IsHeaviestTo test w from)
+
+-- each that passes before v + 1 passes before `from` or is v
+pub passes_next : (test : ℕ → Bool) (from v x : ℕ) → IsFirstFrom test from v → x < v + 1 → test x ≡ true → (x < from) ⊎ (x ≡ v)
+passes_next test from v x f l p = elim (cases_lt x from) [
+  | inl a ↦ inl a
+  | inr a ↦ elim (cases_eq x v) [ inl e ↦ inr e | inr d ↦ absurd (both_ways _ (f.none_before x a (omega arith)) p) ]
+]
 
 heaviest_here : (test : ℕ → Bool) (w : ℕ → Weight) (from v : ℕ) → IsFirstFrom test from v
     → ((x : ℕ) → x < from → test x ≡ true → w x ≼ w v) → IsHeaviestTo test w (v + 1) v

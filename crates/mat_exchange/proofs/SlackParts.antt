@@ -1,12 +1,11 @@
 -- The least slack of each kind comes from the greatest weight of an element, and the least of several numbers from the lesser of two.
-use Rattle.std.proofs.Common.{◌≡◌, ◌∙◌, ℕ, ◌+◌, ◌<◌, true, false, not, ◌&&◌, ltb, cond, List, length, take, get_or}
-use Rattle.std.proofs.Common.{Option, Some, None, ◌⊎◌, inl, inr, sym, ap, subst, arith}
+use Rattle.std.proofs.Common.{◌≡◌, ◌∙◌, ℕ, ◌+◌, ◌<◌, true, false, not, ◌&&◌, ltb, cond, List, length}
+use Rattle.std.proofs.Common.{Option, Some, None, ◌⊎◌, inl, inr, refl, sym, ap, subst, arith}
 use Rattle.std.proofs.lemmas.Bool.{and_from, and_parts, cases_Bool, cases_eq, lt-ltb, ltb-true, not-true}
 use Rattle.std.proofs.lemmas.Int.{ints}
-use Rattle.mat_sets.specs.Sets.{all_below, is_member, without_one, AllBelow}
+use Rattle.mat_sets.specs.Sets.{all_below, is_member, minus, AllBelow}
 use Rattle.mat_sets.proofs.Ground.{AllBelow-member, is_member-all_below}
-use Rattle.mat_sets.proofs.Members.{is_member-without_one}
-use Rattle.mat_sets.proofs.Steps.{is_member-take_more}
+use Rattle.mat_sets.proofs.Members.{is_member-minus}
 use Rattle.mat_sets.specs.Weights.{◌⊖◌, ◌≼◌, is_below}
 use Rattle.mat_sets.specs.declared.weight.Weight.{Weight}
 use Rattle.mat_sets.proofs.WeightOrder.{pairs, at_most_trans, below_at_most, not_below_gives}
@@ -14,6 +13,7 @@ use Rattle.mat_laws.specs.declared.exchange.Exchange.{Exchange}
 use Rattle.mat_laws.specs.TightPaths.{Exchanges, exchanges_in}
 use Rattle.mat_laws.specs.Slacks.{IsSlack, IsLeastSlackOrNone}
 use Rattle.mat_laws.specs.Slacks.IsSlack.{first_addition, first_exchange, second_exchange, second_addition}
+use Rattle.mat_exchange.specs.Growing.{IsHeaviestOf}
 use Rattle.mat_exchange.specs.HeaviestAddable.{IsHeaviestWeight}
 use Rattle.mat_exchange.specs.SlackParts.{IsAdditionSlack, IsExchangeSlackAt, IsExchangeSlack, IsLeast, IsLeastOrNone, lesser_of}
 use Rattle.mat_laws.proofs.TightArcs.{heaviest_addable_gives, heaviest_addable_from}
@@ -50,8 +50,6 @@ pub least_of_same : (P Q : Weight → Type 0) (a : Option Weight) → ((d : Weig
 least_of_same P Q None f g p = λ d q. p d (g d q)
 least_of_same P Q (Some x) f g p = record { has = f x p.has; least = λ e q. p.least e (g e q) }
 
--- ---- weights within bounds
-
 -- ---- additions
 
 difference_mono : (a b c d : Weight) → a ≼ b → c ≼ d → (a ⊖ d) ≼ (b ⊖ c)
@@ -60,25 +58,25 @@ difference_mono a b c d h k = omega (arith, ints, pairs)
 module _ (n : ℕ) (rows : List Exchange) (w : ℕ → Weight) (addable into : List ℕ) (count : length rows ≡ n)
     (same : (x : ℕ) → is_member x addable ≡ (exchanges_in rows).adds x) where
   -- the heaviest addable element against the heaviest one in the set
-  pub least_addition : (t u : Weight) → IsHeaviestWeight (exchanges_in rows).adds w t
-      → IsHeaviestWeight (λ x. is_member x addable && is_member x into) w u
-      → IsLeast (IsAdditionSlack n (exchanges_in rows) w into) (t ⊖ u)
-  least_addition t u h k =
+  pub least_addition : (t : Weight) (x : ℕ) → IsHeaviestWeight (exchanges_in rows).adds w t
+      → IsHeaviestOf (λ z. is_member z addable && is_member z into) w x
+      → IsLeast (IsAdditionSlack n (exchanges_in rows) w into) (t ⊖ w x)
+  least_addition t x h k =
       let below : h.element < n = subst (λ m. h.element < m) count (addable_below rows h.element h.passes) in
-      let both = and_parts (is_member k.element addable) (is_member k.element into) k.passes in
+      let both = and_parts (is_member x addable) (is_member x into) k.passes in
       record {
         has = record {
           top = h.element;
-          element = k.element;
+          element = x;
           below = below;
           heaviest = heaviest_addable_from n (exchanges_in rows) w h.element h.passes (λ e l a. subst (λ z. w e ≼ z) (sym h.weighs) (h.most e a));
-          adds = sym (same k.element) ∙ both.0;
+          adds = sym (same x) ∙ both.0;
           inside = both.1;
-          value = ap (λ z. z ⊖ u) (sym h.weighs) ∙ ap (λ z. w h.element ⊖ z) (sym k.weighs);
+          value = ap (λ z. z ⊖ w x) (sym h.weighs);
         };
         least = λ e s.
             let top = heaviest_addable_gives n (exchanges_in rows) w s.top s.heaviest in
-            subst (λ z. (t ⊖ u) ≼ z) (sym s.value) (difference_mono t (w s.top) (w s.element) u
+            subst (λ z. (t ⊖ w x) ≼ z) (sym s.value) (difference_mono t (w s.top) (w s.element) (w x)
             (subst (λ z. z ≼ w s.top) h.weighs (top.most h.element below h.passes))
             (k.most s.element (and_from _ _ (same s.element ∙ s.adds) s.inside)));
       }
@@ -87,19 +85,19 @@ module _ (n : ℕ) (rows : List Exchange) (w : ℕ → Weight) (addable into : L
 
 module _ (exchanges : Exchanges) (w : ℕ → Weight) (from into : List ℕ) where
   module _ (y : ℕ) (column : List ℕ) (same : (x : ℕ) → is_member x column ≡ exchanges.trades y x) where
-    pub least_exchange_at : (u : Weight) → is_member y from ≡ true → IsHeaviestWeight (λ x. is_member x column && is_member x into) w u
-        → IsLeast (IsExchangeSlackAt y exchanges w from into) (w y ⊖ u)
-    least_exchange_at u leaves k =
-        let both = and_parts (is_member k.element column) (is_member k.element into) k.passes in
+    pub least_exchange_at : (x : ℕ) → is_member y from ≡ true → IsHeaviestOf (λ z. is_member z column && is_member z into) w x
+        → IsLeast (IsExchangeSlackAt y exchanges w from into) (w y ⊖ w x)
+    least_exchange_at x leaves k =
+        let both = and_parts (is_member x column) (is_member x into) k.passes in
         record {
           has = record {
-            element = k.element;
-            trades = sym (same k.element) ∙ both.0;
+            element = x;
+            trades = sym (same x) ∙ both.0;
             leaves = leaves;
             inside = both.1;
-            value = ap (λ z. w y ⊖ z) (sym k.weighs);
+            value = refl;
           };
-          least = λ e s. subst (λ z. (w y ⊖ u) ≼ z) (sym s.value) (difference_mono (w y) (w y) (w s.element) u (omega (arith, ints, pairs))
+          least = λ e s. subst (λ z. (w y ⊖ w x) ≼ z) (sym s.value) (difference_mono (w y) (w y) (w s.element) (w x) (omega (arith, ints, pairs))
               (k.most s.element (and_from _ _ (same s.element ∙ s.trades) s.inside)));
         }
 
@@ -211,14 +209,6 @@ pub reached_below : (n m : ℕ) (R reached : List ℕ) → AllBelow n R → m �
     → (x : ℕ) → is_member x reached ≡ true → x < m
 reached_below n m R reached below e inside x h = (let l = AllBelow-member n R x below (sym (inside x) ∙ h) in omega arith)
 
-pub rest_less : (n : ℕ) (set : List ℕ) (i : ℕ) (bits bits' : List ℕ) → i < length set
-    → ((x : ℕ) → is_member x bits ≡ (ltb x n && not (is_member x (take i set)))) → bits' ≡ without_one bits (get_or set i 0)
-    → (x : ℕ) → is_member x bits' ≡ (ltb x n && not (is_member x (take (i + 1) set)))
-rest_less n set i bits bits' l h out x =
-    let a = h x in
-    let b = ap (is_member x) out ∙ is_member-without_one x (get_or set i 0) bits in
-    let c = is_member-take_more set i x l in
-    grind arith
-
-pub rest_none : (n : ℕ) (set : List ℕ) (x : ℕ) → is_member x (all_below n) ≡ (ltb x n && not (is_member x (take 0 set)))
-rest_none n set x = (let a = is_member-all_below x n in grind arith)
+pub rest_members : (n : ℕ) (set rest : List ℕ) → rest ≡ minus (all_below n) set → (x : ℕ) → is_member x rest ≡ (ltb x n && not (is_member x set))
+rest_members n set rest is x =
+    ap (is_member x) is ∙ is_member-minus x (all_below n) set ∙ ap (λ b. b && not (is_member x set)) (is_member-all_below x n)

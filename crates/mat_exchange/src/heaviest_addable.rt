@@ -5,10 +5,19 @@ ghost use Rattle.mat_sets.specs.Weights.{weight_at};
 ghost use Rattle.mat_laws.specs.TightPaths.{exchanges_in};
 ghost use Rattle.mat_exchange.specs.HeaviestAddable.{IsHeaviestWeightOrNone, greater_of};
 
-use crate::heaviest_common::greater;
 use crate::heaviest_members::heaviest_member;
 use crate::row_table::RowTable;
 use mat_sets::Weight;
+
+/// The greater of a weight, if there is one, and another.
+fn greater(heaviest: Option<Weight>, weight: Weight) -> Option<Weight>
+    ensures { result ≡ greater_of heaviest weight }
+{
+    match heaviest {
+        Some(most) => Some(if most < weight { weight } else { most }),
+        None => Some(weight),
+    }
+}
 
 /// The greatest weight of the elements that can be added; none where none can be. The time is that of those elements.
 pub(crate) fn heaviest_addable(table: &RowTable, weights: &[Weight]) -> Option<Weight>

@@ -1,5 +1,5 @@
-//! A heaviest member of a set.
-ghost use Rattle.std.specs.Prelude.{◌≡◌, ◌<◌, ◌≤◌, ℕ, true, length, IfSome, Some};
+//! A heaviest member of a set, and one that two sets have in common.
+ghost use Rattle.std.specs.Prelude.{◌≡◌, ◌&&◌, ◌<◌, ◌≤◌, ℕ, true, length, IfSome, Some};
 ghost use Rattle.mat_sets.specs.Limits.{most_elements};
 ghost use Rattle.mat_sets.specs.Sets.{is_member};
 ghost use Rattle.mat_sets.specs.Weights.{◌≼◌, weight_at};
@@ -52,6 +52,21 @@ pub(crate) fn heaviest_member(
         if is_at_bound(weights, x, bound) {
             return Some(x);
         }
+        heaviest = heavier(heaviest, x, weights);
+        from = x + 1;
+    }
+    heaviest
+}
+
+/// A heaviest member that two sets have in common; none where they have none. The time is that of those members and of the words of the sets.
+pub(crate) fn heaviest_common(first: &BitSet, second: &BitSet, weights: &[Weight]) -> Option<u32>
+    requires few { length weights.now ≤ most_elements }
+    requires below { (x : ℕ) → (is_member x first.now && is_member x second.now) ≡ true → x < length weights.now }
+    ensures { IsHeaviestOrNone (λ x. is_member x first.now && is_member x second.now) (weight_at weights.now) result }
+{
+    let mut heaviest = None;
+    let mut from = 0;
+    while let Some(x) = first.next_common(second, from) {
         heaviest = heavier(heaviest, x, weights);
         from = x + 1;
     }

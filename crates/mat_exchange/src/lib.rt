@@ -1,14 +1,12 @@
 //! The exchanges of a matroid at an independent set, the search for a tight path of two matroids, and their laws.
 #![tactic(auto)]
 
-mod bits;
 mod exchanges;
 mod found;
 mod fringe;
 mod grown;
 mod growth;
 mod heaviest_addable;
-mod heaviest_common;
 mod heaviest_members;
 pub mod laws;
 mod partial_table;

@@ -1,5 +1,5 @@
 //! The least slack of a reached set.
-ghost use Rattle.std.specs.Prelude.{◌≡◌, ◌<◌, ◌≤◌, ℕ, true, length, IfOk, IfSome};
+ghost use Rattle.std.specs.Prelude.{◌≡◌, ◌<◌, ◌≤◌, ◌&&◌, ℕ, true, not, nat_lt, length, IfOk, IfSome};
 ghost use Rattle.mat_sets.specs.Limits.{largest_number, most_elements};
 ghost use Rattle.mat_sets.specs.Sets.{is_member, AllBelow};
 ghost use Rattle.mat_sets.specs.Weights.{◌⊖◌, weight_at, IsWeightWithin, AreWeightsWithin};
@@ -8,9 +8,8 @@ ghost use Rattle.mat_laws.specs.Slacks.{IsLeastSlackOrNone};
 ghost use Rattle.mat_exchange.specs.Growing.{excess_of};
 ghost use Rattle.mat_exchange.specs.SlackParts.{IsAdditionSlack, IsExchangeSlackAt, IsExchangeSlack, IsLeastOrNone, lesser_of};
 
-use crate::bits::bits_of_others;
 use crate::heaviest_addable::heaviest_addable;
-use crate::heaviest_common::heaviest_common;
+use crate::heaviest_members::heaviest_common;
 use crate::row_table::RowTable;
 use mat_sets::{BitSet, ElemSet, Weight};
 use std::alloc::{AllocError, Global};
@@ -53,8 +52,8 @@ fn addition_slack(table: &RowTable, into: &BitSet, weights: &[Weight]) -> Option
     ensures { IsLeastOrNone (IsAdditionSlack (length weights.now) (exchanges_in table.now) (weight_at weights.now) into.now) result }
 {
     let most = heaviest_addable(table, weights)?;
-    let inside = heaviest_common(table.addable_elements(), into, weights)?;
-    Some(excess(most, inside))
+    let x = heaviest_common(table.addable_elements(), into, weights)?;
+    Some(excess(most, weights[x as usize]))
 }
 
 /// By how much y, where it is in one set, outweighs the heaviest element of another that can be exchanged for it. The only error is want
@@ -78,10 +77,10 @@ fn exchange_slack_at(
         return Ok(None);
     }
     let column = table.column(alloc, y)?;
-    let Some(inside) = heaviest_common(&column, into, weights) else {
+    let Some(x) = heaviest_common(&column, into, weights) else {
         return Ok(None);
     };
-    Ok(Some(excess(weights[y as usize], inside)))
+    Ok(Some(excess(weights[y as usize], weights[x as usize])))
 }
 
 /// The least of these over all y. The only error is want of memory.
@@ -104,6 +103,17 @@ fn exchange_slack(
         least = lesser(least, slack);
     }
     Ok(least)
+}
+
+/// The numbers below n that are not in a set, as bits.
+fn bits_of_others(alloc: Global, n: u32, set: &ElemSet) -> Result<BitSet, AllocError>
+    ensures { IfOk result (λ bits. (x : ℕ) → is_member x bits ≡ (nat_lt x n && not (is_member x set.now))) }
+{
+    Ok(
+        ElemSet::all_below(alloc, n)?
+            .minus(alloc, set)?
+            .to_bits(alloc)?,
+    )
 }
 
 /// The least slack of a reached set, or none (Frank 1981; Schrijver, chapter 41). An exchange in the first matroid leads from a

@@ -11,4 +11,4 @@ returns c =
     let rows = c.args.table.now in
     subst (IsLeast (IsAdditionSlack (length weights) (exchanges_in rows) (weight_at weights) c.args.into.now)) (sym c.excess.ensures)
     (least_addition (length weights) rows (weight_at weights) c.addable_elements.result.now c.args.into.now
-    c.requires.count c.addable_elements.ensures.elements _ _ c.in_ok-most.ensures c.in_ok-inside.ensures)
+    c.requires.count c.addable_elements.ensures.elements _ _ c.in_ok-most.ensures c.in_ok-x.ensures)

@@ -1,11 +1,11 @@
 use Rattle.std.proofs.Common.{◌&&◌, ◌-◌, length}
 use Rattle.mat_sets.specs.Sets.{is_member}
 use Rattle.mat_sets.specs.Weights.{weight_at}
-use Rattle.mat_exchange.proofs.HeaviestAddable.{IsHeaviestBeforeOrNone}
-use Rattle.mat_exchange.proofs.heaviest_common.heaviest_common.Given as goal
+use Rattle.mat_exchange.proofs.HeaviestMembers.{IsHeaviestToOrNone}
+use Rattle.mat_exchange.proofs.heaviest_members.heaviest_common.Given as goal
 
 abbrev pub invariant-loop-x : goal.invariant-loop-x
-invariant-loop-x l = IsHeaviestBeforeOrNone (λ x. is_member x l.first && is_member x l.second) (weight_at l.weights) l.from l.heaviest
+invariant-loop-x l = IsHeaviestToOrNone (λ x. is_member x l.first && is_member x l.second) (weight_at l.weights) l.from l.heaviest
 
 abbrev pub decreases-loop-x : goal.decreases-loop-x
 decreases-loop-x l = length l.weights - l.from
