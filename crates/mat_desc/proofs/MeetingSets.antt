@@ -13,7 +13,6 @@ use Rattle.mat_count.specs.LaminarMatroids.{IsPlaceTable}
 use Rattle.mat_count.proofs.CrossedSets.{is_crossed-search}
 use Rattle.mat_count.proofs.WordInclusions.{crosses-apart}
 use Rattle.mat_desc.specs.EarlierSets.{AreMeeting}
-use Rattle.mat_desc.proofs.BitMembers.{is_common, once, twice}
 
 -- ---- the places of the sets that share a member with the next
 
@@ -52,26 +51,26 @@ abbrev pub NoneBefore : List (List ℕ) → List ℕ → ℕ → Type 0
 NoneBefore sets next from = (k : ℕ) → k < from → crosses (get_or sets k []) next ≡ false
 
 -- a set that shares no member with the next does not cross it
-uncrossed : (sets : List (List ℕ)) (next places : List ℕ) (k : ℕ) → AreMeeting sets next places → is_common places k ≡ false
+uncrossed : (sets : List (List ℕ)) (next places : List ℕ) (k : ℕ) → AreMeeting sets next places → is_member k places ≡ false
     → crosses (get_or sets k []) next ≡ false
 uncrossed sets next places k meeting h = crosses-apart (get_or sets k []) next (λ x l.
     false_from_ne_true (is_member x (get_or sets k []) && is_member x next) (λ both.
     let parts = and_parts (is_member x (get_or sets k [])) (is_member x next) both in
-    both_ways (is_member k places) (twice (is_member k places) h) (meeting.shared k x parts.1 parts.0)))
+    both_ways (is_member k places) h (meeting.shared k x parts.1 parts.0)))
 
 -- there is a set at a place that is found
 pub found_listed : (sets : List (List ℕ)) (next places : List ℕ) (from place : ℕ) → AreMeeting sets next places
-    → IsFirstFrom (is_common places) from place → place < length sets
+    → IsFirstFrom (λ k. is_member k places) from place → place < length sets
 found_listed sets next places from place meeting first = elim (cases_lt place (length sets)) [
   | inl less ↦ less
   | inr past ↦
-      let m = meeting.meets place (once (is_member place places) first.passes) in
+      let m = meeting.meets place first.passes in
       absurd (both_ways (is_member m.0 (get_or sets place [])) (ap (is_member m.0) (get_or_past sets place [] past)) m.2)
 ]
 
 -- none of the sets before the place that is found crosses the next
 before_found : (sets : List (List ℕ)) (next places : List ℕ) (from place : ℕ) → AreMeeting sets next places
-    → IsFirstFrom (is_common places) from place → NoneBefore sets next from → NoneBefore sets next place
+    → IsFirstFrom (λ k. is_member k places) from place → NoneBefore sets next from → NoneBefore sets next place
 before_found sets next places from place meeting first none = λ k l. elim (cases_lt k from) [
   | inl before ↦ none k before
   | inr later ↦ uncrossed sets next places k meeting (first.none_before k later l)
@@ -79,7 +78,7 @@ before_found sets next places from place meeting first none = λ k l. elim (case
 
 -- nor does the set at this place
 pub NoneBefore-more : (sets : List (List ℕ)) (next places : List ℕ) (from place : ℕ) → AreMeeting sets next places
-    → IsFirstFrom (is_common places) from place → crosses (get_or sets place []) next ≡ false → NoneBefore sets next from
+    → IsFirstFrom (λ k. is_member k places) from place → crosses (get_or sets place []) next ≡ false → NoneBefore sets next from
     → NoneBefore sets next (place + 1)
 NoneBefore-more sets next places from place meeting first free none = λ k l. elim (cases_eq k place) [
   | inl same ↦ ap (λ z. crosses (get_or sets z []) next) same ∙ free
@@ -88,7 +87,7 @@ NoneBefore-more sets next places from place meeting first free none = λ k l. el
 
 -- the set at this place crosses the next
 pub is_crossed-found : (sets : List (List ℕ)) (next places : List ℕ) (from place : ℕ) → AreMeeting sets next places
-    → IsFirstFrom (is_common places) from place → crosses (get_or sets place []) next ≡ true → NoneBefore sets next from
+    → IsFirstFrom (λ k. is_member k places) from place → crosses (get_or sets place []) next ≡ true → NoneBefore sets next from
     → is_crossed sets next ≡ true
 is_crossed-found sets next places from place meeting first crossed none = is_crossed-search (Some place) sets next (record {
   listed = found_listed sets next places from place meeting first;
@@ -98,7 +97,7 @@ is_crossed-found sets next places from place meeting first crossed none = is_cro
 
 -- no place is left
 pub is_crossed-none : (sets : List (List ℕ)) (next places : List ℕ) (from : ℕ) → AreMeeting sets next places
-    → ((x : ℕ) → from ≤ x → is_common places x ≡ false) → NoneBefore sets next from → is_crossed sets next ≡ false
+    → ((x : ℕ) → from ≤ x → is_member x places ≡ false) → NoneBefore sets next from → is_crossed sets next ≡ false
 is_crossed-none sets next places from meeting left none = is_crossed-search None sets next (record {
   none = λ k l. elim (cases_lt k from) [
     | inl before ↦ none k before

@@ -67,7 +67,7 @@ impl EarlierSets {
     {
         let places = self.meeting(alloc, next)?;
         let mut from = 0;
-        while let Some(place) = places.next_common(&places, from) {
+        while let Some(place) = places.next_from(from) {
             let at = place as usize;
             if crossing_bits(&self.sets.as_slice()[at..at + 1], bits).is_some() {
                 return Ok(true);

@@ -99,7 +99,7 @@ pub(crate) fn members_of(alloc: Global, all: &ElemSet, bits: &BitSet) -> Result<
 {
     let mut set = ElemSet::new(alloc);
     let mut from = 0;
-    while let Some(x) = bits.next_common(bits, from) {
+    while let Some(x) = bits.next_from(from) {
         if set.len() >= MOST_FOUND {
             let members = all.among(alloc, bits)?;
             return Ok(members);

@@ -1,7 +1,7 @@
 use Rattle.std.proofs.Common.{◌+◌, ◌∙◌, ap, arith, length, subst, sym}
 use Rattle.mat_sets.specs.Sets.{intersection}
 use Rattle.mat_sets.proofs.Ground.{below_member}
-use Rattle.mat_desc.proofs.BitMembers.{HasThoseBelow, HasThoseBelow-more, HasThoseBelow-all, once}
+use Rattle.mat_desc.proofs.BitMembers.{HasThoseBelow, HasThoseBelow-more, HasThoseBelow-all}
 use Rattle.mat_desc.proofs.ElementLaws.{all-IsSet}
 use Rattle.mat_desc.proofs.read.lines.members_of.Goals as goal
 
@@ -12,12 +12,12 @@ returns-then-len-ge-MOST_FOUND c =
 
 pub overflow_add-from : goal.overflow_add-from
 overflow_add-from c =
-    let below = below_member c.requires.inside (once _ c.in-Some.ensures.passes) in
+    let below = below_member c.requires.inside c.in-Some.ensures.passes in
     omega (arith, below, c.requires.few)
 
 pub loop-x-smaller : goal.loop-x-smaller
 loop-x-smaller c =
-    let below = below_member c.requires.inside (once _ c.in-Some.ensures.passes) in
+    let below = below_member c.requires.inside c.in-Some.ensures.passes in
     let reached = c.in-Some.ensures.reaches in
     omega (arith, below, reached)
 
