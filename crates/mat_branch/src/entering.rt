@@ -3,8 +3,7 @@ ghost use Rattle.std.specs.Prelude.{◌≡◌, ◌&&◌, not, length};
 ghost use Rattle.mat_sets.specs.Graphs.{ends_of, entering};
 ghost use Rattle.mat_sets.specs.Sets.{all_below, is_member};
 
-use mat_flow::Digraph;
-use mat_sets::ElemSet;
+use mat_sets::{ElemSet, Pairs};
 
 // Whether an arc from the tail to the head enters the set.
 fn comes_in(cut: &ElemSet, tail: u32, head: u32) -> bool
@@ -14,10 +13,9 @@ fn comes_in(cut: &ElemSet, tail: u32, head: u32) -> bool
 }
 
 /// How many arcs enter a vertex set: their heads are inside, and their tails are not (Schrijver, chapter 3). Each arc is looked at once.
-pub fn entering_count(graph: &Digraph, cut: &ElemSet) -> usize
-    ensures { result ≡ length (entering (ends_of graph.now.arcs) (all_below (length graph.now.arcs)) cut.now) }
+pub fn entering_count(arcs: &Pairs, cut: &ElemSet) -> usize
+    ensures { result ≡ length (entering (ends_of arcs.now) (all_below (length arcs.now)) cut.now) }
 {
-    let arcs = graph.arcs();
     let mut count = 0;
     for a in 0..arcs.len() {
         let (tail, head) = arcs.get(a);

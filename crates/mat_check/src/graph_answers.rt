@@ -72,15 +72,11 @@ pub(crate) fn rooted_failure(
             first.as_slice(),
             second.as_slice(),
         ),
-        Answer::Unreached { set, .. } => {
-            seldom_entered_failure(alloc, vertices, arcs, root, 1, set)
-        }
+        Answer::Unreached { set, .. } => Ok(seldom_entered_failure(arcs, root, 1, set)),
         Answer::Disjoint { trees, .. } => {
             disjoint_failure(alloc, vertices, arcs, root, trees.as_slice())
         }
-        Answer::DisjointNone { k, set, .. } => {
-            seldom_entered_failure(alloc, vertices, arcs, root, *k, set)
-        }
+        Answer::DisjointNone { k, set, .. } => Ok(seldom_entered_failure(arcs, root, *k, set)),
         _ => unreachable!(),
     }
 }

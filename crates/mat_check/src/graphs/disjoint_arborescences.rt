@@ -58,27 +58,23 @@ pub(crate) fn disjoint_failure(
 }
 
 /// The first clause of a vertex set that is entered too seldom that fails: it is not empty, it does not hold the root, and fewer than k arcs
-/// enter it. The only error is want of memory.
+/// enter it.
 pub(crate) fn seldom_entered_failure(
-    alloc: Global,
-    vertices: u32,
     arcs: &Pairs,
     root: u32,
     k: u32,
     set: &ElemSet,
-) -> Result<Option<Failure>, AllocError>
-    requires graph { IsGraph vertices arcs.now }
-    ensures { IfOk result (λ found. found ≡ first_failure (seldom_entered_clauses (length arcs.now) (ends_of arcs.now) root k set.now)) }
+) -> Option<Failure>
+    ensures { result ≡ first_failure (seldom_entered_clauses (length arcs.now) (ends_of arcs.now) root k set.now) }
 {
     if set.is_empty() {
-        return Ok(Some(Reason::Empty.at(0, 0)));
+        return Some(Reason::Empty.at(0, 0));
     }
     if set.contains(root) {
-        return Ok(Some(Reason::Root.at(0, 0)));
+        return Some(Reason::Root.at(0, 0));
     }
-    let graph = Digraph::new(alloc, vertices, arcs.copy(alloc)?)?;
-    if entering_count(&graph, set) >= k as usize {
-        return Ok(Some(Reason::Crossing.at(0, 0)));
+    if entering_count(arcs, set) >= k as usize {
+        return Some(Reason::Crossing.at(0, 0));
     }
-    Ok(None)
+    None
 }

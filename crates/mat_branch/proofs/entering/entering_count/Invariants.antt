@@ -3,4 +3,4 @@ use Rattle.mat_sets.proofs.Counting.{IsCounted}
 use Rattle.mat_branch.proofs.entering.entering_count.Given as goal
 
 abbrev pub invariant-loop-a : goal.invariant-loop-a
-invariant-loop-a l = IsCounted (enters (ends_of l.graph.arcs) l.cut) l.a l.count
+invariant-loop-a l = IsCounted (enters (ends_of l.arcs) l.cut) l.a l.count
