@@ -1,7 +1,6 @@
 -- Reading a list of jobs: the words of a line are text, no more than the first seven of them matter, and the lines are read one job after the
 -- other, as a loop reads them: the jobs so far, in front of those that are still read, are the jobs that are read in all.
-use Rattle.std.proofs.Common.{◌≡◌, ℕ, zero, suc, ◌-◌, ◌+◌, ◌≤◌, ◌<◌, Bool, true, false, not, cond, eqb, leb}
-use Rattle.std.proofs.Common.{List, [], ◌∷◌, ◌++◌, length}
+use Rattle.std.proofs.Common.{◌≡◌, ℕ, zero, suc, ◌-◌, ◌+◌, ◌≤◌, ◌<◌, Bool, true, false, not, cond, eqb, leb, List, [], ◌∷◌, ◌++◌, length}
 use Rattle.std.proofs.Common.{take, Option, Some, None, Result, Ok, Err, refl, sym, ap, subst, ◌∙◌, arith, append_assoc}
 use Rattle.std.specs.Prelude.{IsUtf8, IsAscii, IfOk, IfErr}
 use Rattle.std.specs.List.{list_all}
@@ -64,25 +63,16 @@ first_kept words rest whole e many =
 -- ---- the words behind the first seven say nothing
 
 head_kept : (words : List (List ℕ)) → is_head (take kept_words words) ≡ is_head words
-head_kept [] = refl
-head_kept (a ∷ []) = refl
-head_kept (a ∷ b ∷ []) = refl
 head_kept (a ∷ b ∷ c ∷ words) = refl
+head_kept words = refl
 
 end_kept : (words : List (List ℕ)) → is_end (take kept_words words) ≡ is_end words
-end_kept [] = refl
-end_kept (a ∷ []) = refl
 end_kept (a ∷ b ∷ words) = refl
+end_kept words = refl
 
 job_kept : (words : List (List ℕ)) → job_of_line (take kept_words words) ≡ job_of_line words
-job_kept [] = refl
-job_kept (a ∷ []) = refl
-job_kept (a ∷ b ∷ []) = refl
-job_kept (a ∷ b ∷ c ∷ []) = refl
-job_kept (a ∷ b ∷ c ∷ d ∷ []) = refl
-job_kept (a ∷ b ∷ c ∷ d ∷ e ∷ []) = refl
-job_kept (a ∷ b ∷ c ∷ d ∷ e ∷ f ∷ []) = refl
 job_kept (a ∷ b ∷ c ∷ d ∷ e ∷ f ∷ g ∷ words) = refl
+job_kept words = refl
 
 -- ---- the lines
 

@@ -38,10 +38,8 @@ number_takes file (Some k) found = from (found k)
 
 sample_takes : (kind : Option SampleKind) (size seed : Option ℕ)
     → IfSome (kind >>= λ k. size >>= λ n. option_map (sample k n) seed) (λ t. takes_workers t ≡ true)
-sample_takes None size seed = tt
-sample_takes (Some kind) None seed = tt
-sample_takes (Some kind) (Some size) None = tt
 sample_takes (Some kind) (Some size) (Some seed) = refl
+sample_takes kind size seed = tt
 
 named_takes : (test : Bool) (rest : Option Task) → IfSome rest (λ t. takes_workers t ≡ true)
     → IfSome (if test then rest else None) (λ t. takes_workers t ≡ true)

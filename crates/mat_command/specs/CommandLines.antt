@@ -1,6 +1,5 @@
 -- Command lines: a command, the option `--workers N` for a command that takes it, its numbers, and the names of files.
-use Rattle.std.specs.Prelude.{ℕ, pos, nat_abs, Bool, true, false, if◌then◌else◌, List, [], ◌∷◌, bytes_eq, codes}
-use Rattle.std.specs.Prelude.{Option, Some, None, option_map}
+use Rattle.std.specs.Prelude.{ℕ, pos, nat_abs, Bool, true, false, if◌then◌else◌, List, [], ◌∷◌, bytes_eq, codes, Option, Some, None, option_map}
 use Rattle.std.specs.Result.{result_ok}
 use Rattle.mat_sets.specs.Limits.{most_elements, most_trees}
 use Rattle.mat_words.specs.Numbers.{number_in}

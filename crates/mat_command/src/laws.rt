@@ -1,7 +1,6 @@
 //! What holds of every number of workers.
 
-ghost use Rattle.std.specs.Prelude.{◌≡◌, ◌≤◌, ℕ, List, ◌∷◌, option_map};
-ghost use Rattle.std.specs.Prelude.{false, pos, bytes_eq, codes};
+ghost use Rattle.std.specs.Prelude.{◌≡◌, ◌≤◌, ℕ, List, ◌∷◌, option_map, false, pos, bytes_eq, codes};
 ghost use Rattle.mat_words.specs.Numbers.{numeral};
 ghost use Rattle.mat_command.specs.CommandLines.{by_workers, begins_with_option, command_line, asked_by};
 

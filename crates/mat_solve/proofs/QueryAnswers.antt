@@ -1,8 +1,7 @@
 -- The forms of the answers to a query: what holds of each of these forms holds of every answer to it.
 use Rattle.std.proofs.Common.{◌≡◌, ℕ, List, length}
 use Rattle.mat_sets.specs.declared.weight.Weight.{Weight}
-use Rattle.mat_cert.specs.Certificates.{Certificate, intersect, best, union_of, pack_any, pack, cover_never, cover, trees, trees_none}
-use Rattle.mat_cert.specs.Certificates.{arbor, unreached, disjoint, disjoint_none, rainbow, assign}
+use Rattle.mat_cert.specs.Certificates.{Certificate, intersect, union_of, trees, trees_none, arbor, unreached, assign}
 use Rattle.mat_cert.specs.declared.answer.LevelLine.{LevelLine}
 use Rattle.mat_cert.specs.declared.answer.PricedRung.{PricedRung}
 use Rattle.mat_solve.specs.Queries.{IsAnswerOf}
@@ -12,91 +11,28 @@ module _ (P : Certificate → Type 0) where
   pub on_intersect : ((n : ℕ) (rungs : List PricedRung) (cut : List ℕ) → P (intersect n rungs cut))
       → (answer : Certificate) → IsAnswerOf Intersect answer → P answer
   on_intersect f (intersect n rungs cut) of = f n rungs cut
-  on_intersect f (best _ _) of = absurd of
-  on_intersect f (union_of _ _ _ _) of = absurd of
-  on_intersect f (pack_any _) of = absurd of
-  on_intersect f (pack _ _ _) of = absurd of
-  on_intersect f (cover_never _ _) of = absurd of
-  on_intersect f (cover _ _ _) of = absurd of
-  on_intersect f (trees _ _) of = absurd of
-  on_intersect f (trees_none _ _ _ _) of = absurd of
-  on_intersect f (arbor _ _ _ _ _) of = absurd of
-  on_intersect f (unreached _ _ _) of = absurd of
-  on_intersect f (disjoint _ _) of = absurd of
-  on_intersect f (disjoint_none _ _ _ _) of = absurd of
-  on_intersect f (rainbow _ _ _ _ _ _) of = absurd of
-  on_intersect f (assign _ _ _ _ _) of = absurd of
+  on_intersect f answer of = absurd of
 
   pub on_union : ((n : ℕ) (weight : Weight) (parts : List (List ℕ)) (levels : List LevelLine) → P (union_of n weight parts levels))
       → (answer : Certificate) → IsAnswerOf Union answer → P answer
-  on_union f (intersect _ _ _) of = absurd of
-  on_union f (best _ _) of = absurd of
   on_union f (union_of n weight parts levels) of = f n weight parts levels
-  on_union f (pack_any _) of = absurd of
-  on_union f (pack _ _ _) of = absurd of
-  on_union f (cover_never _ _) of = absurd of
-  on_union f (cover _ _ _) of = absurd of
-  on_union f (trees _ _) of = absurd of
-  on_union f (trees_none _ _ _ _) of = absurd of
-  on_union f (arbor _ _ _ _ _) of = absurd of
-  on_union f (unreached _ _ _) of = absurd of
-  on_union f (disjoint _ _) of = absurd of
-  on_union f (disjoint_none _ _ _ _) of = absurd of
-  on_union f (rainbow _ _ _ _ _ _) of = absurd of
-  on_union f (assign _ _ _ _ _) of = absurd of
+  on_union f answer of = absurd of
 
   pub on_trees : (k : ℕ) → ((n : ℕ) (sets : List (List ℕ)) → length sets ≡ k → P (trees n sets))
       → ((n asked vertices : ℕ) (classes : List (List ℕ)) → asked ≡ k → P (trees_none n asked vertices classes))
       → (answer : Certificate) → IsAnswerOf (Trees k) answer → P answer
-  on_trees k f g (intersect _ _ _) of = absurd of
-  on_trees k f g (best _ _) of = absurd of
-  on_trees k f g (union_of _ _ _ _) of = absurd of
-  on_trees k f g (pack_any _) of = absurd of
-  on_trees k f g (pack _ _ _) of = absurd of
-  on_trees k f g (cover_never _ _) of = absurd of
-  on_trees k f g (cover _ _ _) of = absurd of
   on_trees k f g (trees n sets) of = f n sets of
   on_trees k f g (trees_none n asked vertices classes) of = g n asked vertices classes of
-  on_trees k f g (arbor _ _ _ _ _) of = absurd of
-  on_trees k f g (unreached _ _ _) of = absurd of
-  on_trees k f g (disjoint _ _) of = absurd of
-  on_trees k f g (disjoint_none _ _ _ _) of = absurd of
-  on_trees k f g (rainbow _ _ _ _ _ _) of = absurd of
-  on_trees k f g (assign _ _ _ _ _) of = absurd of
+  on_trees k f g answer of = absurd of
 
   pub on_arborescence : ((n : ℕ) (cost : Weight) (arcs : List ℕ) (first second : List Weight) → P (arbor n cost arcs first second))
       → ((n vertices : ℕ) (set : List ℕ) → P (unreached n vertices set))
       → (answer : Certificate) → IsAnswerOf Arborescence answer → P answer
-  on_arborescence f g (intersect _ _ _) of = absurd of
-  on_arborescence f g (best _ _) of = absurd of
-  on_arborescence f g (union_of _ _ _ _) of = absurd of
-  on_arborescence f g (pack_any _) of = absurd of
-  on_arborescence f g (pack _ _ _) of = absurd of
-  on_arborescence f g (cover_never _ _) of = absurd of
-  on_arborescence f g (cover _ _ _) of = absurd of
-  on_arborescence f g (trees _ _) of = absurd of
-  on_arborescence f g (trees_none _ _ _ _) of = absurd of
   on_arborescence f g (arbor n cost arcs first second) of = f n cost arcs first second
   on_arborescence f g (unreached n vertices set) of = g n vertices set
-  on_arborescence f g (disjoint _ _) of = absurd of
-  on_arborescence f g (disjoint_none _ _ _ _) of = absurd of
-  on_arborescence f g (rainbow _ _ _ _ _ _) of = absurd of
-  on_arborescence f g (assign _ _ _ _ _) of = absurd of
+  on_arborescence f g answer of = absurd of
 
   pub on_assign : ((n rows columns : ℕ) (rungs : List PricedRung) (cut : List ℕ) → P (assign n rows columns rungs cut))
       → (answer : Certificate) → IsAnswerOf Assign answer → P answer
-  on_assign f (intersect _ _ _) of = absurd of
-  on_assign f (best _ _) of = absurd of
-  on_assign f (union_of _ _ _ _) of = absurd of
-  on_assign f (pack_any _) of = absurd of
-  on_assign f (pack _ _ _) of = absurd of
-  on_assign f (cover_never _ _) of = absurd of
-  on_assign f (cover _ _ _) of = absurd of
-  on_assign f (trees _ _) of = absurd of
-  on_assign f (trees_none _ _ _ _) of = absurd of
-  on_assign f (arbor _ _ _ _ _) of = absurd of
-  on_assign f (unreached _ _ _) of = absurd of
-  on_assign f (disjoint _ _) of = absurd of
-  on_assign f (disjoint_none _ _ _ _) of = absurd of
-  on_assign f (rainbow _ _ _ _ _ _) of = absurd of
   on_assign f (assign n rows columns rungs cut) of = f n rows columns rungs cut
+  on_assign f answer of = absurd of

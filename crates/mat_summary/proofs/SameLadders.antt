@@ -17,22 +17,17 @@ HaveSameWeights rungs others =
 last_weight-same : (rungs others : List PricedRung) → length rungs ≡ length others → HaveSameWeights rungs others
     → last_weight rungs ≡ last_weight others
 last_weight-same [] [] long same = refl
-last_weight-same [] (_ ∷ _) long same = absurd (omega arith)
-last_weight-same (rung ∷ []) [] long same = absurd (omega arith)
 last_weight-same (rung ∷ []) (other ∷ []) long same = same 0 rung other refl refl
-last_weight-same (rung ∷ []) (_ ∷ _ ∷ _) long same = absurd (omega arith)
-last_weight-same (_ ∷ _ ∷ _) [] long same = absurd (omega arith)
-last_weight-same (_ ∷ _ ∷ _) (_ ∷ []) long same = absurd (omega arith)
 last_weight-same (_ ∷ next ∷ rungs) (_ ∷ other ∷ others) long same =
     last_weight-same (next ∷ rungs) (other ∷ others) (omega arith) (λ k. same (suc k))
+last_weight-same rungs others long same = absurd (omega arith)
 
 ladder_weight-same : (rungs others : List PricedRung) → length rungs ≡ length others → HaveSameWeights rungs others
     → ladder_weight rungs ≡ ladder_weight others
 ladder_weight-same [] [] long same = refl
-ladder_weight-same [] (_ ∷ _) long same = absurd (omega arith)
-ladder_weight-same (_ ∷ _) [] long same = absurd (omega arith)
 ladder_weight-same (rung ∷ rungs) (other ∷ others) long same =
     rw (same 0 rung other refl refl, ladder_weight-same rungs others (omega arith) (λ k. same (suc k))) refl
+ladder_weight-same rungs others long same = absurd (omega arith)
 
 ladder_words-same : (rungs others : List PricedRung) → length rungs ≡ length others → HaveSameWeights rungs others
     → ladder_words rungs ≡ ladder_words others

@@ -8,7 +8,4 @@ use Rattle.mat_summary.specs.Summaries.{query_of_kind}
 
 pub sample_has_form : (kind : SampleKind) (size seed : ℕ) → has_form (query_of_kind kind) (sample_of kind size seed) ≡ true
 sample_has_form kinds.Pair size seed = refl
-sample_has_form kinds.List size seed = refl
-sample_has_form kinds.Graph size seed = refl
-sample_has_form kinds.Rooted size seed = refl
-sample_has_form kinds.Table size seed = refl
+sample_has_form kind size seed = refl

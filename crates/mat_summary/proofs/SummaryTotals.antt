@@ -13,11 +13,9 @@ use Rattle.mat_cert.specs.declared.answer.PricedRung.{PricedRung}
 -- the last rung is the one at the last place
 pub last_weight-at : (rungs : List PricedRung) (k : ℕ) (rung : PricedRung) → suc k ≡ length rungs → slice_get rungs k ≡ Some rung
     → rung.weight ≡ last_weight rungs
-last_weight-at [] k rung long at = absurd (omega arith)
 last_weight-at (r ∷ []) zero rung long at = grind arith
-last_weight-at (r ∷ []) (suc k) rung long at = absurd (omega arith)
-last_weight-at (r ∷ next ∷ rungs) zero rung long at = absurd (omega arith)
 last_weight-at (r ∷ next ∷ rungs) (suc k) rung long at = last_weight-at (next ∷ rungs) k rung (omega arith) at
+last_weight-at rungs k rung long at = absurd (omega arith)
 
 ladder_weight-push : (rungs : List PricedRung) (rung : PricedRung) → ladder_weight (rungs ++ rung ∷ []) ≡ ladder_weight rungs ⊕ rung.weight
 ladder_weight-push [] rung = omega (arith, ints, pairs)

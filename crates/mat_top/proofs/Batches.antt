@@ -11,19 +11,16 @@ use Rattle.mat_top.specs.declared.loaded_job.LoadedJob.{LoadedJob}
 use Rattle.mat_judge.specs.declared.status.Status.{Status}
 use Rattle.mat_judge.specs.declared.status.Status.TheVariants as statuses
 use Rattle.mat_command.specs.CommandLines.{batch, solve}
-use Rattle.mat_command.specs.JobLists.{Job}
-use Rattle.mat_command.specs.JobLists.{IsListed}
-use Rattle.mat_top.specs.Outcomes.{IsJobOutcome, IsJobsOutcome, TellsJobs, JobsReach, IsTrueOfJobs, Tells, IsOutcome}
-use Rattle.mat_top.specs.Outcomes.{IsRequestOutput, AreJobTexts}
+use Rattle.mat_command.specs.JobLists.{Job, IsListed}
+use Rattle.mat_top.specs.Outcomes.{IsJobOutcome, IsJobsOutcome, TellsJobs, JobsReach, IsTrueOfJobs, Tells, IsOutcome, IsRequestOutput, AreJobTexts}
 use Rattle.mat_top.specs.LoadedJobs.{IsLoaded, AreLoaded, IsUnloaded, AreUnloaded, HaveTexts, refusal_of_unloaded}
 use Rattle.mat_top.specs.Refusals.{HasSolutionText, MayBeWritten, IsRefusal}
-use Rattle.mat_judge.specs.Texts.{joined}
+use Rattle.mat_judge.specs.Texts.{joined, all_texts}
 use Rattle.mat_judge.specs.declared.described.Undescribed.TheVariants as undescribed
 use Rattle.mat_judge.specs.declared.reading.Unread.TheVariants as unread
 use Rattle.mat_judge.specs.declared.refusal.Denial.TheVariants as denials
 use Rattle.mat_top.specs.declared.loading.Unloaded.{Unloaded}
 use Rattle.mat_top.specs.declared.loading.Unloaded.TheVariants as unloaded
-use Rattle.mat_judge.specs.Texts.{all_texts}
 use Rattle.mat_judge.proofs.Told.{told, told_both, if_told}
 
 -- ---- the first job without a problem
@@ -86,12 +83,11 @@ module _ (held : List ℕ → Option (List ℕ)) where
   loaded_outcome : (jobs : List Job) (loaded : List LoadedJob) → AreLoaded held jobs loaded → TellsJobs held jobs
       → IsJobsOutcome held jobs statuses.Done
   loaded_outcome [] [] are tells = refl
-  loaded_outcome [] (one ∷ others) are tells = absurd are
-  loaded_outcome (job ∷ jobs) [] are tells = absurd are
   loaded_outcome (job ∷ jobs) (one ∷ others) are tells =
       let done : IsJobOutcome held job statuses.Done = told (held job.file) _ _ tells.0 are.0.problem.described
       (λ bytes described. inr (instance_of one.problem, described, are.0.problem.form)) in
       inr (done, loaded_outcome jobs others are.1 (tells.1 done))
+  loaded_outcome jobs loaded are tells = absurd are
 
   job_text : (job : Job) (loaded : LoadedJob) (text : List ℕ) → IsLoaded held job loaded
       → HasSolutionText loaded.query (instance_of loaded.problem) text → IsRequestOutput held job.file (solve job.query) text
@@ -108,20 +104,18 @@ module _ (held : List ℕ → Option (List ℕ)) where
   job_texts : (jobs : List Job) (loaded : List LoadedJob) (texts : List (Vec ℕ)) → AreLoaded held jobs loaded → HaveTexts loaded texts
       → AreJobTexts held jobs (map (λ text. text.items) texts)
   job_texts [] [] [] are have = tt
-  job_texts [] [] (text ∷ texts) are have = absurd have
-  job_texts [] (one ∷ others) texts are have = absurd are
-  job_texts (job ∷ jobs) [] texts are have = absurd are
-  job_texts (job ∷ jobs) (one ∷ others) [] are have = absurd have
   job_texts (job ∷ jobs) (one ∷ others) (text ∷ texts) are have =
       (job_text job one text.items are.0 have.0, job_texts jobs others texts are.1 have.1)
+  job_texts [] [] texts are have = absurd have
+  job_texts (job ∷ jobs) (one ∷ others) texts are have = absurd have
+  job_texts jobs loaded texts are have = absurd are
 
   short_texts : (loaded : List LoadedJob) (texts : List (Vec ℕ)) → HaveTexts loaded texts
       → All (λ piece. length piece ≤ certificate_limit) (map (λ text. text.items) texts)
   short_texts [] [] have = All-nil (λ piece. length piece ≤ certificate_limit)
-  short_texts [] (text ∷ texts) have = absurd have
-  short_texts (one ∷ others) [] have = absurd have
   short_texts (one ∷ others) (text ∷ texts) have =
       All-cons (λ piece. length piece ≤ certificate_limit) text.items (map (λ t. t.items) texts) have.0.short (short_texts others texts have.1)
+  short_texts loaded texts have = absurd have
 
   all_joined : (texts : List (Vec ℕ)) → all_texts texts ≡ joined (map (λ text. text.items) texts)
   all_joined [] = refl

@@ -1,5 +1,5 @@
 -- How a command ended, as each clause of the top call says it: by cases on the refusal.
-use Rattle.std.proofs.Common.{◌≡◌, ℕ, List, Option, Some, Result, Ok, Err, refl, sym, subst}
+use Rattle.std.proofs.Common.{ℕ, List, Option, Some, Result, Ok, Err, refl, sym, subst}
 use Rattle.mat_command.specs.CommandLines.{Task}
 use Rattle.mat_judge.specs.Notes.{note_of}
 use Rattle.mat_judge.specs.Statuses.{status_of, status_of_denial}
@@ -34,14 +34,7 @@ refused held task before now old out_before out_now (refusals.Denied denial) cau
 denied-written : (held : List ℕ → Option (List ℕ)) (asked : Option Task) (old : Option (List ℕ)) (denial : Denial)
     → IsWritten held asked old old (status_of_denial denial)
 denied-written held asked old (denials.No reason first second) = refl
-denied-written held asked old (denials.NotShown part) = refl
-denied-written held asked old (denials.BadDescription kind line) = refl
-denied-written held asked old (denials.BadCertificate kind line) = refl
-denied-written held asked old denials.WrongShape = refl
-denied-written held asked old denials.Unwitnessed = refl
-denied-written held asked old (denials.BadWitness kind line) = refl
-denied-written held asked old denials.BadCost = refl
-denied-written held asked old (denials.BadList line) = refl
+denied-written held asked old denial = refl
 
 module _ (held : List ℕ → Option (List ℕ)) (task : Task) (before now : List ℕ → ℕ) (old : Option (List ℕ)) (out_before : ℕ)
     (new : Option (List ℕ)) (out_now : ℕ) where
@@ -53,36 +46,23 @@ module _ (held : List ℕ → Option (List ℕ)) (task : Task) (before now : Lis
   ended-written (Ok d) (text, may, put) = (text, may.output, put)
   ended-written (Err refusals.WriteFault) (text, may, put, rose) = (text, may.output, put)
   ended-written (Err refusals.Usage) e = absurd e.0
-  ended-written (Err (refusals.Unread unread.Fault)) e = e.1
-  ended-written (Err (refusals.Unread unread.TooLong)) e = e.1
-  ended-written (Err (refusals.Unread unread.Memory)) e = e.1
   ended-written (Err (refusals.Denied denial)) e =
       subst (λ o. IsWritten held (Some task) old o (status_of_denial denial)) (sym e.1) (denied-written held (Some task) old denial)
+  ended-written (Err (refusals.Unread unread.Fault)) e = e.1
+  ended-written (Err (refusals.Unread why)) e = e.1
 
   -- the refusal tells what is so
   pub ended-true : (refusal : Refusal) → Here (Err refusal) → IsTold held (Some task) refusal
-  ended-true refusals.WriteFault e = tt
-  ended-true refusals.Usage e = tt
-  ended-true (refusals.Unread why) e = tt
   ended-true (refusals.Denied denial) e = e.0.1
+  ended-true refusal e = tt
 
 -- a refusal's note is that of its status
 module _ (held : List ℕ → Option (List ℕ)) (asked : Option Task) where
   note_told : (denial : Denial) → IsTold held asked (refusals.Denied denial) → IsNote held asked (status_of_denial denial) (note_of (refusals.Denied denial))
   note_told (denials.No reason first second) h = (refusals.Denied (denials.No reason first second), refl, refl, h)
-  note_told (denials.NotShown part) h = (refusals.Denied (denials.NotShown part), refl, refl, h)
-  note_told (denials.BadDescription kind line) h = (refusals.Denied (denials.BadDescription kind line), refl, refl, h)
-  note_told (denials.BadCertificate kind line) h = (refusals.Denied (denials.BadCertificate kind line), refl, refl, h)
-  note_told denials.WrongShape h = (refusals.Denied denials.WrongShape, refl, refl, h)
-  note_told denials.Unwitnessed h = (refusals.Denied denials.Unwitnessed, refl, refl, h)
-  note_told (denials.BadWitness kind line) h = (refusals.Denied (denials.BadWitness kind line), refl, refl, h)
-  note_told denials.BadCost h = (refusals.Denied denials.BadCost, refl, refl, h)
-  note_told (denials.BadList line) h = (refusals.Denied (denials.BadList line), refl, refl, h)
+  note_told denial h = (refusals.Denied denial, refl, refl, h)
 
   pub note_is : (refusal : Refusal) → IsTold held asked refusal → IsNote held asked (status_of refusal) (note_of refusal)
-  note_is refusals.Usage h = (refusals.Usage, refl, refl, h)
-  note_is refusals.WriteFault h = (refusals.WriteFault, refl, refl, h)
-  note_is (refusals.Unread unread.Fault) h = (refusals.Unread unread.Fault, refl, refl, h)
-  note_is (refusals.Unread unread.TooLong) h = (refusals.Unread unread.TooLong, refl, refl, h)
-  note_is (refusals.Unread unread.Memory) h = (refusals.Unread unread.Memory, refl, refl, h)
   note_is (refusals.Denied denial) h = note_told denial h
+  note_is (refusals.Unread unread.Fault) h = (refusals.Unread unread.Fault, refl, refl, h)
+  note_is refusal h = (refusal, refl, refl, h)

@@ -2,7 +2,7 @@
 use Rattle.std.proofs.Common.{◌≡◌, ◌⊎◌, ℕ, ◌<◌, ◌≤◌, List, length, Option, Some, None, Result, Ok, Err, true, refl, inl, inr, subst}
 use Rattle.std.proofs.lemmas.Bool.{and_parts}
 use Rattle.std.specs.Prelude.{IfSome, IsSome, IsSomeAnd, IfOk, IfErr}
-use Rattle.mat_desc.specs.Instances.{Instance, pair, list, graph, rooted, coloured, table}
+use Rattle.mat_desc.specs.Instances.{Instance, rooted}
 use Rattle.mat_cert.specs.Certificates.{Certificate}
 use Rattle.mat_cert.specs.Limits.{certificate_limit}
 use Rattle.mat_cert.specs.declared.refusal.CertKind.{CertKind}
@@ -27,8 +27,7 @@ use Rattle.mat_top.specs.Outcomes.{IsProblemOutcome, IsBytesOutcome, IsCertifica
 use Rattle.mat_top.specs.Outcomes.{CallReaches, Tells, TellsCertificate, IsOutcome, IsTextFor, IsTrueOf}
 use Rattle.mat_top.specs.Refusals.{HasText, HasNoText, IsRefusal, MayBeWritten}
 use Rattle.mat_verify.specs.WitnessOutcomes.{IsRungOutcome, IsVerifyOutcome, IsWitnessFound}
-use Rattle.mat_verify.specs.WitnessRefusals.{HasNoRung, HasNoWitness, IsUnshown, IsUnverified}
-use Rattle.mat_verify.specs.WitnessRefusals.{refusal_of_no_rung, refusal_of_unshown}
+use Rattle.mat_verify.specs.WitnessRefusals.{HasNoRung, HasNoWitness, IsUnshown, IsUnverified, refusal_of_no_rung, refusal_of_unshown}
 use Rattle.mat_verify.specs.Witnessing.{IsRungAnswer}
 use Rattle.mat_verify.specs.declared.refusals.NoRung.{NoRung}
 use Rattle.mat_verify.specs.declared.refusals.NoRung.TheVariants as no_rung
@@ -41,15 +40,11 @@ use Rattle.mat_verify.proofs.Unwitnessed.{no_witness_there, uncertified_before, 
 not_right_before : (instance : Instance) (held : Option (List ℕ)) (earlier before now : ℕ) (why : NotRight) → earlier ≤ before
     → IsNotRight instance held before now why → IsNotRight instance held earlier now why
 not_right_before instance held earlier before now (not_right.Uncertified why) le is = uncertified_before held earlier before now why le is
-not_right_before instance held earlier before now not_right.WrongShape le is = is
-not_right_before instance held earlier before now (not_right.No reason first second) le is = is
+not_right_before instance held earlier before now why le is = is
 
 module _ (held after : List ℕ → Option (List ℕ)) (same : (name : List ℕ) → after name ≡ held name) (instance : Instance) where
   -- what is written over the shelf as it was after is written over the shelf before
   answer_before : (request : Request) (text : List ℕ) → IsTextFor after request instance text → IsTextFor held request instance text
-  answer_before show text answer = answer
-  answer_before (solve query) text answer = answer
-  answer_before cuts text answer = answer
   answer_before (check certificate) text answer =
       (answer.0, subst (λ o. IfSome o (λ bytes. IsCertificateOutcome instance bytes statuses.Done)) (same certificate) answer.1)
   answer_before (witness k certificate) text answer =
@@ -61,6 +56,7 @@ module _ (held after : List ℕ → Option (List ℕ)) (same : (name : List ℕ)
         (subst (λ o. IfSome o (λ bytes. (a : Certificate) × IsRungAnswer instance k bytes a
         × IfSome (after shown) (λ t. IsVerifyOutcome instance a k t statuses.Done))) (same certificate) answer.1),
   )
+  answer_before request text answer = answer
 
   text_before : (request : Request) (text : List ℕ) → HasText after request instance text → HasText held request instance text
   text_before request text has = record { answer = answer_before request text has.answer; short = has.short }
@@ -69,9 +65,6 @@ module _ (held after : List ℕ → Option (List ℕ)) (same : (name : List ℕ)
   none_before : (request : Request) (earlier before now : List ℕ → ℕ) (refusal : Refusal)
       → ((name : List ℕ) → earlier name ≤ before name)
       → HasNoText after request instance before now refusal → HasNoText held request instance earlier now refusal
-  none_before show earlier before now refusal le why = why
-  none_before (solve query) earlier before now refusal le why = why
-  none_before cuts earlier before now refusal le why = why
   none_before (check certificate) earlier before now refusal le (why, same_refusal, is) = (
     why,
     same_refusal,
@@ -82,17 +75,14 @@ module _ (held after : List ℕ → Option (List ℕ)) (same : (name : List ℕ)
       no_witness_there after held same instance earlier before now le k certificate refusal is
   none_before (verify k certificate shown) earlier before now refusal le is =
       unverified_there after held same instance earlier before now le k certificate shown refusal is
+  none_before request earlier before now refusal le why = why
 
 -- ---- the outcome of the problem that was read
 
 -- a problem with a text of weighted vertex sets is one of arcs with costs and a root
 cuts_form : (instance : Instance) (text : List ℕ) → IsCutsText instance text → is_rooted instance ≡ true
 cuts_form (rooted vertices root arcs costs) text is = refl
-cuts_form (pair weights first second) text is = absurd is
-cuts_form (list weights trees) text is = absurd is
-cuts_form (graph vertices edges) text is = absurd is
-cuts_form (coloured vertices colours edges colour_of weights) text is = absurd is
-cuts_form (table rows columns cells weights) text is = absurd is
+cuts_form instance text is = absurd is
 
 module _ (held : List ℕ → Option (List ℕ)) (file : List ℕ) (instance : Instance)
     (described : IfSome (held file) (λ bytes. IsDescribed bytes instance)) where

@@ -19,8 +19,7 @@ use Rattle.mat_solve.specs.Queries.{has_form}
 use Rattle.mat_solve.specs.declared.query.Query.{Query}
 use Rattle.mat_solve.specs.Answers.{IsSolutionText}
 use Rattle.mat_top.specs.CutTexts.{HasPayableCosts}
-use Rattle.mat_top.specs.Outcomes.{HasForm, IsTextFor, IsShort}
-use Rattle.mat_top.specs.Outcomes.{CallReaches, Tells, IsOutcome, IsOutput, IsTrueOf}
+use Rattle.mat_top.specs.Outcomes.{HasForm, IsTextFor, IsShort, CallReaches, Tells, IsOutcome, IsOutput, IsTrueOf}
 use Rattle.mat_verify.specs.WitnessRefusals.{HasNoWitness, IsUnverified}
 
 -- ---- what a request writes for a problem

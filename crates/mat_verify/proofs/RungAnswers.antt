@@ -3,10 +3,9 @@ use Rattle.std.proofs.Common.{◌≡◌, ℕ, true, List, length}
 use Rattle.std.proofs.lemmas.Bool.{and_parts, false≢true, ltb-true}
 use Rattle.std.proofs.lemmas.Option.{slice_get-get_or}
 use Rattle.mat_desc.specs.Grammar.{IsValid}
-use Rattle.mat_desc.specs.Instances.{Instance, pair, list, graph, rooted, coloured, table}
+use Rattle.mat_desc.specs.Instances.{Instance, pair}
 use Rattle.mat_cert.specs.declared.answer.PricedRung.{PricedRung}
-use Rattle.mat_cert.specs.Certificates.{Certificate, IsRanged, intersect, best, union_of, pack_any, pack, cover_never, cover, trees, trees_none}
-use Rattle.mat_cert.specs.Certificates.{arbor, unreached, disjoint, disjoint_none, rainbow, assign}
+use Rattle.mat_cert.specs.Certificates.{Certificate, IsRanged, intersect}
 use Rattle.mat_check.specs.Fitting.{fits}
 use Rattle.mat_check.specs.Right.{IsRight}
 use Rattle.mat_witness.specs.Kinds.{has_rung}
@@ -27,29 +26,12 @@ ladder_rung : (instance : Instance) (n : ℕ) (rungs : List PricedRung) (cut : L
 ladder_rung (pair w first second) n rungs cut k fitting has right =
     let one = right.1.each k (rung_at rungs k) (slice_get-get_or rungs k _ (ltb-true k (length rungs) has)) in
     record { counted = right.0; priced = one.priced; right = one.right; ends = right.1.ends }
-ladder_rung (list _ _) n rungs cut k fitting has right = absurd (false≢true fitting)
-ladder_rung (graph _ _) n rungs cut k fitting has right = absurd (false≢true fitting)
-ladder_rung (rooted _ _ _ _) n rungs cut k fitting has right = absurd (false≢true fitting)
-ladder_rung (coloured _ _ _ _ _) n rungs cut k fitting has right = absurd (false≢true fitting)
-ladder_rung (table _ _ _ _) n rungs cut k fitting has right = absurd (false≢true fitting)
+ladder_rung instance n rungs cut k fitting has right = absurd (false≢true fitting)
 
 some_rung : (instance : Instance) (answer : Certificate) (k : ℕ) → fits instance answer ≡ true → has_rung answer k ≡ true
     → IsRight instance answer → IsRightRungOf instance answer k
 some_rung instance (intersect n rungs cut) k fitting has right = ladder_rung instance n rungs cut k fitting has right
-some_rung instance (best _ _) k fitting has right = absurd (false≢true has)
-some_rung instance (union_of _ _ _ _) k fitting has right = absurd (false≢true has)
-some_rung instance (pack_any _) k fitting has right = absurd (false≢true has)
-some_rung instance (pack _ _ _) k fitting has right = absurd (false≢true has)
-some_rung instance (cover_never _ _) k fitting has right = absurd (false≢true has)
-some_rung instance (cover _ _ _) k fitting has right = absurd (false≢true has)
-some_rung instance (trees _ _) k fitting has right = absurd (false≢true has)
-some_rung instance (trees_none _ _ _ _) k fitting has right = absurd (false≢true has)
-some_rung instance (arbor _ _ _ _ _) k fitting has right = absurd (false≢true has)
-some_rung instance (unreached _ _ _) k fitting has right = absurd (false≢true has)
-some_rung instance (disjoint _ _) k fitting has right = absurd (false≢true has)
-some_rung instance (disjoint_none _ _ _ _) k fitting has right = absurd (false≢true has)
-some_rung instance (rainbow _ _ _ _ _ _) k fitting has right = absurd (false≢true has)
-some_rung instance (assign _ _ _ _ _) k fitting has right = absurd (false≢true has)
+some_rung instance answer k fitting has right = absurd (false≢true has)
 
 pub right_rung : (instance : Instance) (answer : Certificate) (k : ℕ) → fits_rung instance answer k ≡ true → IsRight instance answer
     → IsRightRungOf instance answer k
