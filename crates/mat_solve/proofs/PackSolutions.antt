@@ -18,17 +18,17 @@ use Rattle.mat_laws.proofs.RankLaws.{rank_is}
 use Rattle.mat_packing.specs.Answers.{HasNoLoop}
 use Rattle.mat_packing.specs.Packings.{IsLoop, IsCoverCut, IsRightCovering, IsRightPacking}
 use Rattle.mat_packing.proofs.Copies.{bases_count}
-use Rattle.mat_any.specs.TreeLaws.{tree_laws}
 use Rattle.mat_any.specs.Trees.{Tree, is_independent}
 use Rattle.mat_desc.specs.Grammar.{IsValid}
 use Rattle.mat_desc.specs.Instances.{list}
 use Rattle.mat_desc.specs.Soundness.{IsSoundInstance}
 use Rattle.mat_cert.specs.Certificates.{pack_any, pack, cover_never, cover, IsRangedOption}
+use Rattle.mat_check.proofs.RightLadders.{laws_of_one}
 use Rattle.mat_solve.specs.Answers.{IsSolution}
 
 module _ (w : List Weight) (matroid : Tree) (valid : IsValid (list w (matroid ∷ []))) (sound : IsSoundInstance (list w (matroid ∷ []))) where
   laws : IsMatroid (length w) (is_independent matroid)
-  laws = (let ok = sound 0 matroid (omega arith) in subst (λ n. IsMatroid n (is_independent matroid)) ok.1 (tree_laws matroid ok.0))
+  laws = laws_of_one w matroid sound
 
   -- ---- packings
 

@@ -1,18 +1,17 @@
 -- The heaviest independent sets of a matroid as an answer: the weight of each set is in range, since it has at most as many elements as
 -- there are; and as many elements as the rank has make a base.
-use Rattle.std.proofs.Common.{◌≡◌, ℕ, zero, suc, ◌+◌, ◌-◌, ◌<◌, ◌≤◌, Bool, true, List, [], ◌∷◌, length}
-use Rattle.std.proofs.Common.{get_or, Some, refl, subst, arith}
+use Rattle.std.proofs.Common.{◌≡◌, ℕ, ◌+◌, ◌-◌, ◌<◌, ◌≤◌, Bool, List, [], ◌∷◌, length, get_or, Some, refl, sym, ap, ◌∙◌, arith}
 use Rattle.std.specs.Prelude.{map, slice_get}
 use Rattle.std.proofs.lemmas.List.{length-map, get_or_default}
+use Rattle.std.proofs.lemmas.Option.{get_or_from_slice_get, slice_get_within}
 use Rattle.mat_sets.specs.Limits.{most_elements}
-use Rattle.mat_sets.specs.Sets.{IsSet, all_below}
+use Rattle.mat_sets.specs.Sets.{all_below}
 use Rattle.mat_sets.specs.Weights.{weight_at}
 use Rattle.mat_sets.specs.declared.weight.Weight.{Weight}
-use Rattle.mat_sets.proofs.Ground.{IsSet-length, IsRising-all_below}
+use Rattle.mat_sets.proofs.Ground.{IsRising-all_below}
 use Rattle.mat_laws.specs.Matroids.{IsMatroid, IsBase}
 use Rattle.mat_laws.proofs.Maximal.{IsBase-size, IsBase-maximal}
 use Rattle.mat_laws.proofs.RankLaws.{maximal_in, rank-maximal}
-use Rattle.mat_any.specs.TreeLaws.{tree_laws}
 use Rattle.mat_any.specs.Trees.{Tree, is_independent}
 use Rattle.mat_greedy.specs.Greedy.{AreHeaviestEach}
 use Rattle.mat_desc.specs.Grammar.{IsValid}
@@ -20,6 +19,8 @@ use Rattle.mat_desc.specs.Instances.{list}
 use Rattle.mat_desc.specs.Soundness.{IsSoundInstance}
 use Rattle.mat_cert.specs.Certificates.{best, last_rung}
 use Rattle.mat_cert.specs.declared.answer.PlainRung.{PlainRung}
+use Rattle.mat_check.proofs.RightLadders.{laws_of_one}
+use Rattle.mat_solve.proofs.PricedLadder.{mapped_at, set_is}
 use Rattle.mat_solve.proofs.SetWeights.{set_in_range}
 use Rattle.mat_solve.specs.Answers.{IsSolution}
 use Rattle.mat_solve.specs.PricedRungs.{plain_rung, AreSmallSets}
@@ -27,16 +28,9 @@ use Rattle.mat_solve.specs.PricedRungs.{plain_rung, AreSmallSets}
 -- the set of a plain rung
 set_of : (w : List Weight) (sets : List (List ℕ)) (k : ℕ) (rung : PlainRung) → slice_get (map (plain_rung w) sets) k ≡ Some rung
     → (k < length sets) × (rung ≡ plain_rung w (get_or sets k []))
-set_of w [] k rung at = absurd cc
-set_of w (set ∷ sets) zero rung at = (omega arith, some_is rung (plain_rung w set) at)
-  where
-    some_is : (x y : PlainRung) → Some y ≡ Some x → x ≡ y
-    some_is x y h = cc
-set_of w (set ∷ sets) (suc k) rung at = let r = set_of w sets k rung at in (omega (arith, r.0), r.1)
-
--- an independent set is a set on n elements, and has no more of them
-set_is : {n : ℕ} {p : List ℕ → Bool} → IsMatroid n p → (X : List ℕ) → p X ≡ true → IsSet n X × (length X ≤ n)
-set_is {n} laws X passes = let set = laws.sets X passes in (set, IsSet-length n X set)
+set_of w sets k rung at =
+    let r = mapped_at (plain_rung w) sets k rung at in
+    (slice_get_within sets k r.0 r.1, r.2 ∙ ap (plain_rung w) (sym (get_or_from_slice_get sets k r.0 [] r.1)))
 
 module _ {n : ℕ} {p : List ℕ → Bool} (laws : IsMatroid n p) {h : ℕ → Weight} where
   few_in_sets : n ≤ most_elements → (sets : List (List ℕ)) → AreHeaviestEach n p h sets → AreSmallSets n sets
@@ -69,7 +63,7 @@ module _ {n : ℕ} {p : List ℕ → Bool} (laws : IsMatroid n p) {h : ℕ → W
 module _ (w : List Weight) (matroid : Tree) (valid : IsValid (list w (matroid ∷ []))) (sound : IsSoundInstance (list w (matroid ∷ [])))
     (sets : List (List ℕ)) (heaviest : AreHeaviestEach (length w) (is_independent matroid) (weight_at w) sets) where
   laws : IsMatroid (length w) (is_independent matroid)
-  laws = (let ok = sound 0 matroid (omega arith) in subst (λ n. IsMatroid n (is_independent matroid)) ok.1 (tree_laws matroid ok.0))
+  laws = laws_of_one w matroid sound
 
   -- the sets have few elements
   pub best_few : AreSmallSets (length w) sets

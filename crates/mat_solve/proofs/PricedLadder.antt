@@ -1,10 +1,9 @@
 -- Ladders of two matroids as answers: the weight of each set is in range, since it has at most as many elements as there are, and so
 -- are the numbers of each split, within the bound for as many elements.
-use Rattle.std.proofs.Common.{◌≡◌, ℕ, zero, suc, ◌+◌, ◌-◌, ◌*◌, ◌^◌, ◌<◌, ◌≤◌, Bool, List, [], ◌∷◌, length}
-use Rattle.std.proofs.Common.{get_or, Some, refl, subst, arith}
+use Rattle.std.proofs.Common.{◌≡◌, ℕ, zero, suc, ◌+◌, ◌-◌, ◌*◌, ◌^◌, ◌<◌, ◌≤◌, Bool, List, [], ◌∷◌, length, true, get_or, Some, refl, sym, arith}
 use Rattle.std.specs.Prelude.{map, slice_get}
 use Rattle.std.proofs.lemmas.List.{length-map}
-use Rattle.std.proofs.lemmas.Option.{slice_get-get_or}
+use Rattle.std.proofs.lemmas.Option.{same_Some, slice_get-get_or}
 use Rattle.std.proofs.lemmas.Nat.{mul-le}
 use Rattle.mat_sets.specs.Limits.{most_elements, largest_weight, largest_number}
 use Rattle.mat_sets.specs.Sets.{IsSet}
@@ -13,16 +12,15 @@ use Rattle.mat_sets.specs.declared.weight.Weight.{Weight}
 use Rattle.mat_sets.proofs.Ground.{IsSet-length}
 use Rattle.mat_laws.specs.Matroids.{IsMatroid}
 use Rattle.mat_laws.specs.Ladders.{IsCut, split_bound}
-use Rattle.mat_any.specs.TreeLaws.{tree_laws}
 use Rattle.mat_any.specs.Trees.{Tree, is_independent}
 use Rattle.mat_split.specs.declared.ladder.Rung.{Rung}
 use Rattle.mat_split.specs.Ladders.{IsBoundedRung, IsLadder}
 use Rattle.mat_desc.specs.Grammar.{IsValid}
 use Rattle.mat_desc.specs.Instances.{pair}
 use Rattle.mat_desc.specs.Soundness.{IsSoundInstance}
-use Rattle.mat_cert.specs.Certificates.{IsRangedPricedRung, IsRangedLadder, intersect, last_rung}
-use Rattle.mat_cert.specs.declared.answer.PricedRung.{PricedRung}
+use Rattle.mat_cert.specs.Certificates.{IsRangedPart, IsRangedPricedRung, IsRangedLadder, intersect, last_rung}
 use Rattle.mat_check.specs.Right.{IsRightLadder}
+use Rattle.mat_check.proofs.RightLadders.{laws_on_weights}
 use Rattle.mat_solve.proofs.SetWeights.{set_in_range, weight_within_more}
 use Rattle.mat_solve.specs.Answers.{IsSolution, HaveBoundedSplits}
 use Rattle.mat_solve.specs.PricedRungs.{priced_rung, HaveFewElements}
@@ -43,21 +41,33 @@ split_bound-less n few =
     let small = split_bound-small n few in
     omega arith
 
+-- a part of a split within the bound is in range
+pub ranged_part : (n : ℕ) (part : List Weight) → n ≤ most_elements → length part ≡ n → AreWeightsWithin (split_bound n) part → IsRangedPart n part
+ranged_part n part few size bounded = record {
+  size = size;
+  weights = λ e d lt. weight_within_more (split_bound n) largest_number (get_or part e d) (split_bound-less n few) (bounded e d lt);
+}
+
 -- ---- rungs
 
-module _ {n : ℕ} {p q : List ℕ → Bool} (laws : IsMatroid n p) {w : List Weight} (few : n ≤ most_elements) (small : AreWeightsWithin largest_weight w) where
-  -- the set of a rung
-  set_of : (k : ℕ) (rung : Rung) → IsBoundedRung n p q w k rung → IsSet n rung.set × (length rung.set ≤ n)
-  set_of k rung r = let set = laws.sets rung.set r.right.first_heaviest.passes in (set, IsSet-length n rung.set set)
+-- an independent set is a set on n elements, and has no more of them
+pub set_is : {n : ℕ} {p : List ℕ → Bool} → IsMatroid n p → (X : List ℕ) → p X ≡ true → IsSet n X × (length X ≤ n)
+set_is {n} laws X passes = let set = laws.sets X passes in (set, IsSet-length n X set)
 
+-- what stands in a mapped list is mapped from what stands there in the list
+pub mapped_at : {A B : Type 0} (f : A → B) (xs : List A) (k : ℕ) (y : B) → slice_get (map f xs) k ≡ Some y
+    → (x : A) × (slice_get xs k ≡ Some x) × (y ≡ f x)
+mapped_at f [] k y at = absurd cc
+mapped_at f (x ∷ xs) zero y at = (x, refl, sym (same_Some (f x) y at))
+mapped_at f (x ∷ xs) (suc k) y at = mapped_at f xs k y at
+
+module _ {n : ℕ} {p q : List ℕ → Bool} (laws : IsMatroid n p) {w : List Weight} (few : n ≤ most_elements) (small : AreWeightsWithin largest_weight w) where
   ranged_rung : (k : ℕ) (rung : Rung) → IsBoundedRung n p q w k rung → IsRangedPricedRung n k (priced_rung w rung)
   ranged_rung k rung r =
-      let set = set_of k rung r in
-      let in_range : (half : List Weight) → AreWeightsWithin (split_bound n) half → AreWeightsWithin largest_number half =
-      λ half all e d lt. weight_within_more (split_bound n) largest_number (get_or half e d) (split_bound-less n few) (all e d lt) in (
+      let set = set_is laws rung.set r.right.first_heaviest.passes in (
         record { weight_in_range = set_in_range w rung.set small (omega (arith, set.1)); set_in_range = set.0; size = r.right.size },
-        record { size = r.right.first_length; weights = in_range rung.first r.first_bounded },
-        record { size = r.right.second_length; weights = in_range rung.second r.second_bounded },
+        ranged_part n rung.first few r.right.first_length r.first_bounded,
+        ranged_part n rung.second few r.right.second_length r.second_bounded,
       )
 
   -- a rung at its place
@@ -73,22 +83,13 @@ module _ {n : ℕ} {p q : List ℕ → Bool} (laws : IsMatroid n p) {w : List We
   few_rungs rungs cut ladder =
       let some = ladder.some in
       let last = rung_at rungs cut ladder (length rungs - 1) (omega arith) in
-      omega (arith, (set_of (length rungs - 1) last.0 last.1).1, last.1.right.size)
+      omega (arith, (set_is laws last.0.set last.1.right.first_heaviest.passes).1, last.1.right.size)
 
   pub few_elements : (rungs : List Rung) (cut : List ℕ) → IsLadder n p q w rungs cut → HaveFewElements n rungs
   few_elements rungs cut ladder = λ k d lt.
-      let set = set_of k (get_or rungs k d) (ladder.each k (get_or rungs k d) (slice_get-get_or rungs k d lt)) in
+      let rung = ladder.each k (get_or rungs k d) (slice_get-get_or rungs k d lt) in
+      let set = set_is laws (get_or rungs k d).set rung.right.first_heaviest.passes in
       (set.0.below, omega (arith, set.1))
-
--- the rung of a priced rung
-rung_of : (w : List Weight) (rungs : List Rung) (k : ℕ) (priced : PricedRung) → slice_get (map (priced_rung w) rungs) k ≡ Some priced
-    → (rung : Rung) × (slice_get rungs k ≡ Some rung) × (priced ≡ priced_rung w rung)
-rung_of w [] k priced at = absurd cc
-rung_of w (rung ∷ rungs) zero priced at = (rung, refl, some_is priced (priced_rung w rung) at)
-  where
-    some_is : (x y : PricedRung) → Some y ≡ Some x → x ≡ y
-    some_is x y h = cc
-rung_of w (rung ∷ rungs) (suc k) priced at = rung_of w rungs k priced at
 
 -- ---- ladders
 
@@ -110,7 +111,7 @@ module _ {n : ℕ} {p q : List ℕ → Bool} (laws : IsMatroid n p) {w : List We
       few = few;
       some = some_rung;
       no_more = omega (arith, few_rungs laws few small rungs cut ladder, rungs_count);
-      each = λ k priced at. (let r = rung_of w rungs k priced at in rw r.2 (ranged_rung laws few small k r.0 (ladder.each k r.0 r.1)));
+      each = λ k priced at. (let r = mapped_at (priced_rung w) rungs k priced at in rw r.2 (ranged_rung laws few small k r.0 (ladder.each k r.0 r.1)));
     },
     cut_at_end.set,
   )
@@ -119,14 +120,14 @@ module _ {n : ℕ} {p q : List ℕ → Bool} (laws : IsMatroid n p) {w : List We
   pub priced_right : IsRightLadder n p q w (map (priced_rung w) rungs) cut
   priced_right = record {
     some = some_rung;
-    each = λ k priced at. (let r = rung_of w rungs k priced at in rw r.2 (record { priced = refl; right = (ladder.each k r.0 r.1).right }));
+    each = λ k priced at. (let r = mapped_at (priced_rung w) rungs k priced at in rw r.2 (record { priced = refl; right = (ladder.each k r.0 r.1).right }));
     ends = cut_at_end;
   }
 
   -- the numbers of their splits are within the bound
   pub priced_bounded : HaveBoundedSplits n (map (priced_rung w) rungs)
   priced_bounded k priced at =
-      let r = rung_of w rungs k priced at in
+      let r = mapped_at (priced_rung w) rungs k priced at in
       let b = ladder.each k r.0 r.1 in
       rw r.2 (b.first_bounded, b.second_bounded)
 
@@ -135,7 +136,7 @@ module _ {n : ℕ} {p q : List ℕ → Bool} (laws : IsMatroid n p) {w : List We
 module _ (w : List Weight) (first second : Tree) (valid : IsValid (pair w first second)) (sound : IsSoundInstance (pair w first second))
     (rungs : List Rung) (cut : List ℕ) (found : IsLadder (length w) (is_independent first) (is_independent second) w rungs cut) where
   first_laws : IsMatroid (length w) (is_independent first)
-  first_laws = subst (λ n. IsMatroid n (is_independent first)) sound.1 (tree_laws first sound.0)
+  first_laws = laws_on_weights w first sound.0 sound.1
 
   -- the sets of the rungs have few elements
   pub pair_few : HaveFewElements (length w) rungs

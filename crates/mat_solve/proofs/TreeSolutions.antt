@@ -1,6 +1,6 @@
 -- Arborescences and disjoint arborescences as answers: their sets are sets of arcs or of vertices, and so in range.
-use Rattle.std.proofs.Common.{◌≡◌, ℕ, ◌≤◌, List, length, get_or, refl, arith}
-use Rattle.mat_sets.specs.Limits.{most_elements, largest_number, most_trees}
+use Rattle.std.proofs.Common.{ℕ, ◌≤◌, List, length, refl, arith}
+use Rattle.mat_sets.specs.Limits.{most_elements, most_trees}
 use Rattle.mat_sets.specs.Graphs.{ends_of, IsUnentered}
 use Rattle.mat_sets.specs.Sets.{IsSet, AllBelow}
 use Rattle.mat_sets.specs.Weights.{weight, AreWeightsWithin}
@@ -11,19 +11,12 @@ use Rattle.mat_arbor.specs.Arborescences.{IsSplitArborescence}
 use Rattle.mat_branch.specs.Arborescences.{AreDisjointArborescences, IsSeldomEntered}
 use Rattle.mat_desc.specs.Grammar.{IsValid}
 use Rattle.mat_desc.specs.Instances.{rooted}
-use Rattle.mat_cert.specs.Certificates.{arbor, unreached, disjoint, disjoint_none, IsRangedPart}
+use Rattle.mat_cert.specs.Certificates.{arbor, unreached, disjoint, disjoint_none}
 use Rattle.mat_solve.specs.Answers.{IsSolution}
-use Rattle.mat_solve.proofs.PricedLadder.{split_bound-less}
-use Rattle.mat_solve.proofs.SetWeights.{set_in_range, weight_within_more}
+use Rattle.mat_solve.proofs.PricedLadder.{ranged_part}
+use Rattle.mat_solve.proofs.SetWeights.{set_in_range}
 
 -- ---- arborescences
-
--- a part of a split within the bound is in range
-ranged_part : (n : ℕ) (part : List Weight) → n ≤ most_elements → length part ≡ n → AreWeightsWithin (split_bound n) part → IsRangedPart n part
-ranged_part n part few size bounded = record {
-  size = size;
-  weights = λ e d lt. weight_within_more (split_bound n) largest_number (get_or part e d) (split_bound-less n few) (bounded e d lt);
-}
 
 module _ (vertices root : ℕ) (arcs : List (ℕ × ℕ)) (costs : List Weight) (valid : IsValid (rooted vertices root arcs costs)) where
   -- the arcs of an arborescence have costs, and are few

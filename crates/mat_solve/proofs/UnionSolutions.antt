@@ -20,7 +20,6 @@ use Rattle.mat_union.specs.PartListLaws.{part_set}
 use Rattle.mat_union.specs.RightUnions.{AreFalling, IsRightUnion, level_at}
 use Rattle.mat_union.specs.Unions.{AreMatroids, AreParts}
 use Rattle.mat_union.specs.declared.best.Level.{Level}
-use Rattle.mat_any.specs.TreeLaws.{tree_laws}
 use Rattle.mat_any.specs.Trees.{Tree, uniform, is_independent}
 use Rattle.mat_desc.specs.Grammar.{IsValid}
 use Rattle.mat_desc.specs.Instances.{list}
@@ -28,6 +27,7 @@ use Rattle.mat_desc.specs.Soundness.{IsSoundInstance}
 use Rattle.mat_cert.specs.Certificates.{union_of, IsCertificateWeight, IsRangedLevel}
 use Rattle.mat_cert.specs.declared.answer.LevelLine.{LevelLine}
 use Rattle.mat_check.specs.Right.{level_of}
+use Rattle.mat_check.proofs.RightLadders.{laws_on_weights}
 use Rattle.mat_solve.specs.Answers.{IsSolution}
 use Rattle.mat_solve.proofs.SetWeights.{set_in_range, weight_within_more}
 
@@ -83,8 +83,7 @@ module _ (w : List Weight) (matroids : List Tree) (valid : IsValid (list w matro
         let small : i < length matroids = omega (arith, lt, length-map matroids is_independent) in
         let tree = get_or matroids i (uniform 0 0) in
         let ok = sound i (uniform 0 0) small in
-        let law : IsMatroid (length w) (is_independent tree) = subst (λ n. IsMatroid n (is_independent tree)) ok.1 (tree_laws tree ok.0) in
-        subst (λ p. IsMatroid (length w) p) (sym (get_or-map is_independent matroids i (uniform 0 0) (λ X. false) small)) law;
+        subst (IsMatroid (length w)) (sym (get_or-map is_independent matroids i (uniform 0 0) (λ X. false) small)) (laws_on_weights w tree ok.0 ok.1);
   }
 
   part_sets : All (IsSet (length w)) parts

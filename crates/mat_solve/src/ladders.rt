@@ -61,17 +61,16 @@ fn priced_rungs(
 // The sets with their weights, in their order.
 fn plain_rungs(
     alloc: Global,
-    sets: &[ElemSet],
+    sets: Vec<ElemSet>,
     weights: &[Weight],
 ) -> Result<Vec<PlainRung>, AllocError>
-    requires sets { AreSmallSets (length weights.now) sets.now }
+    requires sets { AreSmallSets (length weights.now) sets.items }
     requires small { AreWeightsWithin largest_number weights.now }
-    ensures { IfOk result (λ all. all.items ≡ map (plain_rung weights.now) sets.now) }
+    ensures { IfOk result (λ all. all.items ≡ map (plain_rung weights.now) sets.items) }
 {
     let mut all = Vec::with_capacity(alloc, sets.len())?;
     for set in sets {
-        let weight = weigh(set, weights);
-        let set = set.copy(alloc)?;
+        let weight = weigh(&set, weights);
         all.push(PlainRung { weight, set })?;
     }
     Ok(all)
@@ -88,7 +87,7 @@ pub(crate) fn best(alloc: Global, problem: &Problem) -> Result<Answer, AllocErro
     let (weights, matroid) = only_matroid(problem);
     matroid.lawful();
     let sets = heaviest_each(alloc, matroid, weights.as_slice())?;
-    let rungs = plain_rungs(alloc, sets.as_slice(), weights.as_slice())?;
+    let rungs = plain_rungs(alloc, sets.into_vec(), weights.as_slice())?;
     Ok(Answer::Best {
         count: weights.len() as u32,
         rungs,

@@ -16,7 +16,7 @@ plain_rungs-requires-clause-sets c =
     let sound : IsSoundInstance (list only.0.now (tree_of only.1.now ∷ [])) = rw c.only_matroid.ensures at c.requires.sound in
     let found : AreHeaviestEach (length only.0.now) (is_independent (tree_of only.1.now)) (weight_at only.0.now) c.in_ok-sets.sets =
     rw (c.as_slice.ensures, (sound 0 (tree_of only.1.now) (omega arith)).1) at c.in_ok-sets.ensures in
-    rw (c.as_slice-2.ensures.items, c.as_slice-3.ensures) (best_few only.0.now (tree_of only.1.now) valid sound c.in_ok-sets.sets found)
+    rw (c.into_vec.ensures, c.as_slice-2.ensures) (best_few only.0.now (tree_of only.1.now) valid sound c.in_ok-sets.sets found)
 
 pub returns-clause-solution : goal.returns-clause-solution
 returns-clause-solution c =
@@ -25,5 +25,5 @@ returns-clause-solution c =
     let sound : IsSoundInstance (list only.0.now (tree_of only.1.now ∷ [])) = rw c.only_matroid.ensures at c.requires.sound in
     let found : AreHeaviestEach (length only.0.now) (is_independent (tree_of only.1.now)) (weight_at only.0.now) c.in_ok-sets.sets =
     rw (c.as_slice.ensures, (sound 0 (tree_of only.1.now) (omega arith)).1) at c.in_ok-sets.ensures in
-    rw (c.only_matroid.ensures, c.in_ok-rungs.ensures, c.as_slice-2.ensures.items, c.as_slice-3.ensures, c.len.ensures)
+    rw (c.only_matroid.ensures, c.in_ok-rungs.ensures, c.into_vec.ensures, c.as_slice-2.ensures, c.len.ensures)
     (best_solution only.0.now (tree_of only.1.now) valid sound c.in_ok-sets.sets found)

@@ -1,6 +1,6 @@
-use Rattle.std.proofs.Common.{◌≡◌, map, take}
+use Rattle.std.proofs.Common.{◌≡◌, map}
 use Rattle.mat_solve.specs.PricedRungs.{plain_rung}
 use Rattle.mat_solve.proofs.ladders.plain_rungs.Given as goal
 
 abbrev pub invariant-loop-set : goal.invariant-loop-set
-invariant-loop-set l = l.all.items ≡ map (plain_rung l.weights) (take l.set-index l.sets)
+invariant-loop-set l = l.all.items ≡ map (plain_rung l.weights) l.yielded
