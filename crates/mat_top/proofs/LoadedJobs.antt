@@ -1,7 +1,6 @@
 -- Jobs whose problems are read one after the other: a job that has its problem may be solved, and a refusal of the first job without one is
 -- a refusal of them all.
-use Rattle.std.proofs.Common.{◌≡◌, ℕ, ◌+◌, ◌<◌, ◌≤◌, Bool, true, false, List, [], ◌∷◌, ◌++◌, Option}
-use Rattle.std.proofs.Common.{refl, inl, inr, sym, ap, subst, ◌∙◌, arith}
+use Rattle.std.proofs.Common.{◌≡◌, ℕ, ◌+◌, ◌<◌, ◌≤◌, Bool, true, false, List, [], ◌∷◌, ◌++◌, Option, refl, inl, inr, sym, ap, subst, ◌∙◌, arith}
 use Rattle.std.specs.Prelude.{map, length, drop, get_or, IfSome}
 use Rattle.std.proofs.lemmas.List.{append_assoc, append-nil, drop_more, drop_all}
 use Rattle.std.proofs.lemmas.List.Elements.{All-push}
@@ -13,6 +12,7 @@ use Rattle.mat_judge.specs.declared.status.Status.TheVariants as statuses
 use Rattle.mat_command.specs.JobLists.{Job}
 use Rattle.mat_command.specs.CommandLines.{solve}
 use Rattle.mat_judge.specs.Described.{IsFaulty, IsDescribed, IsUndescribed}
+use Rattle.mat_judge.specs.WholeFiles.{IsUnread}
 use Rattle.mat_judge.specs.declared.described.Undescribed.{Undescribed}
 use Rattle.mat_judge.specs.declared.described.Undescribed.TheVariants as undescribed
 use Rattle.mat_judge.specs.declared.reading.Unread.TheVariants as unread
@@ -24,7 +24,7 @@ use Rattle.mat_top.specs.LoadedJobs.{IsLoaded, AreLoaded, IsAnswerable, IsOfOthe
 use Rattle.mat_solve.specs.Queries.{has_form}
 use Rattle.mat_top.specs.Refusals.{IsJobProblem}
 use Rattle.mat_command.specs.Views.{job_of}
-use Rattle.mat_judge.proofs.Told.{if_told, rose_before}
+use Rattle.mat_judge.proofs.Told.{if_told, unread_before}
 
 pub may_be_solved : (held : List ℕ → Option (List ℕ)) (job : Job) (instance : Instance) → IsJobProblem held job instance
     → MayBeSolved held job
@@ -53,10 +53,8 @@ loaded_there held there job loaded same is = record {
 
 undescribed_there : (o there : Option (List ℕ)) (first before now : ℕ) (why : Undescribed) → there ≡ o → first ≤ before
     → IsUndescribed o before now why → IsUndescribed there first now why
-undescribed_there o there first before now (undescribed.Unread unread.Fault) same earlier rose = rose_before first before now earlier rose
-undescribed_there o there first before now (undescribed.Unread unread.TooLong) same earlier long =
-    subst (λ p. IfSome p (λ bytes. description_limit < length bytes)) (sym same) long
-undescribed_there o there first before now (undescribed.Unread unread.Memory) same earlier memory = tt
+undescribed_there o there first before now (undescribed.Unread why) same earlier is =
+    subst (λ p. IsUnread p description_limit first now why) (sym same) (unread_before o description_limit first before now why earlier is)
 undescribed_there o there first before now (undescribed.Fault kind number) same earlier faulty =
     subst (λ p. IfSome p (λ bytes. IsFaulty bytes (kind, number))) (sym same) faulty
 
@@ -72,10 +70,9 @@ unloaded_there held there job first before now unloaded.WrongShape same earlier 
 pub are_loaded_there : (held there : List ℕ → Option (List ℕ)) (jobs : List Job) (loaded : List LoadedJob)
     → ((name : List ℕ) → there name ≡ held name) → AreLoaded held jobs loaded → AreLoaded there jobs loaded
 are_loaded_there held there [] [] same are = tt
-are_loaded_there held there [] (one ∷ others) same are = absurd are
-are_loaded_there held there (job ∷ jobs) [] same are = absurd are
 are_loaded_there held there (job ∷ jobs) (one ∷ others) same are =
     (loaded_there held there job one (same job.file) are.0, are_loaded_there held there jobs others same are.1)
+are_loaded_there held there jobs loaded same are = absurd are
 
 pub are_unloaded_there : (held there : List ℕ → Option (List ℕ)) (first before now : List ℕ → ℕ) (jobs : List Job) (why : Unloaded)
     → ((name : List ℕ) → there name ≡ held name) → ((name : List ℕ) → first name ≤ before name)
@@ -129,6 +126,5 @@ loading_last held jobs i loaded past so =
 pub loaded_count : (held : List ℕ → Option (List ℕ)) (jobs : List declared.Job) (loaded : List LoadedJob) → AreLoaded held (map job_of jobs) loaded
     → length loaded ≡ length jobs
 loaded_count held [] [] are = refl
-loaded_count held [] (one ∷ others) are = absurd are
-loaded_count held (job ∷ jobs) [] are = absurd are
 loaded_count held (job ∷ jobs) (one ∷ others) are = let rest = loaded_count held jobs others are.1 in omega arith
+loaded_count held jobs loaded are = absurd are

@@ -1,4 +1,2 @@
-pub mod Mapped
 pub mod Unwitnessed
 mod RungAnswers
-mod WitnessRefusals

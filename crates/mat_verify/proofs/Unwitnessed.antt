@@ -1,5 +1,5 @@
 -- Why there is no witness or none is verified, over the shelf as it was before: a count that rose rose from a lesser one, and what was held is
--- held.
+-- held; and what is said of an answer as what is said of the file that it was read from.
 use Rattle.std.proofs.Common.{◌≡◌, ℕ, ◌≤◌, true, List, Option, inl, inr, subst}
 use Rattle.std.specs.Prelude.{IfSome}
 use Rattle.mat_desc.specs.Instances.{Instance}
@@ -8,27 +8,19 @@ use Rattle.mat_cert.specs.Limits.{certificate_limit}
 use Rattle.mat_witness.specs.Kinds.{is_witnessed_pair}
 use Rattle.mat_witness.specs.Lines.{witness_limit}
 use Rattle.mat_judge.specs.Certified.{IsUncertified}
-use Rattle.mat_judge.specs.WholeFiles.{IsUnread}
 use Rattle.mat_judge.specs.declared.certified.Uncertified.{Uncertified}
 use Rattle.mat_judge.specs.declared.certified.Uncertified.TheVariants as uncertified
-use Rattle.mat_judge.specs.declared.reading.Unread.{Unread}
 use Rattle.mat_judge.specs.declared.reading.Unread.TheVariants as unread
 use Rattle.mat_judge.specs.declared.refusal.Refusal.{Refusal}
-use Rattle.mat_judge.proofs.Told.{rose_before}
+use Rattle.mat_judge.proofs.Told.{if_told, unread_before}
 use Rattle.mat_verify.specs.Witnessing.{IsRungAnswer}
-use Rattle.mat_verify.specs.WitnessRefusals.{HasNoRung, HasNoWitness, IsUnshown, IsUnshownRung, IsUnverified, IsWrongRung}
+use Rattle.mat_verify.specs.WitnessRefusals.{HasNoRung, HasNoWitness, IsRefusedAnswer, IsUnshown, IsUnshownRung, IsUnverified, IsWrongRung}
 use Rattle.mat_verify.specs.declared.refusals.NoRung.{NoRung}
 use Rattle.mat_verify.specs.declared.refusals.NoRung.TheVariants as no_rung
 use Rattle.mat_verify.specs.declared.refusals.Unshown.{Unshown}
 use Rattle.mat_verify.specs.declared.refusals.Unshown.TheVariants as unshown
 
 -- ---- a count that rose
-
-unread_before : (held : Option (List ℕ)) (limit earlier before now : ℕ) (why : Unread) → earlier ≤ before
-    → IsUnread held limit before now why → IsUnread held limit earlier now why
-unread_before held limit earlier before now unread.Fault le rose = rose_before earlier before now le rose
-unread_before held limit earlier before now unread.TooLong le long = long
-unread_before held limit earlier before now unread.Memory le memory = memory
 
 pub uncertified_before : (held : Option (List ℕ)) (earlier before now : ℕ) (why : Uncertified) → earlier ≤ before
     → IsUncertified held before now why → IsUncertified held earlier now why
@@ -38,15 +30,13 @@ uncertified_before held earlier before now (uncertified.Fault kind number) le is
 no_rung_before : (instance : Instance) (k : ℕ) (held : Option (List ℕ)) (earlier before now : ℕ) (why : NoRung) → earlier ≤ before
     → HasNoRung instance k held before now why → HasNoRung instance k held earlier now why
 no_rung_before instance k held earlier before now (no_rung.Uncertified why) le is = uncertified_before held earlier before now why le is
-no_rung_before instance k held earlier before now no_rung.WrongShape le is = is
-no_rung_before instance k held earlier before now no_rung.Unwitnessed le is = is
+no_rung_before instance k held earlier before now why le is = is
 
 unshown_before : (instance : Instance) (answer : Certificate) (k : ℕ) (held : Option (List ℕ)) (earlier before now : ℕ) (why : Unshown)
     → earlier ≤ before → IsUnshown instance answer k held before now why → IsUnshown instance answer k held earlier now why
 unshown_before instance answer k held earlier before now (unshown.Unread why) le is =
     unread_before held witness_limit earlier before now why le is
-unshown_before instance answer k held earlier before now (unshown.Fault kind number) le is = is
-unshown_before instance answer k held earlier before now (unshown.Part part) le is = is
+unshown_before instance answer k held earlier before now why le is = is
 
 -- ---- the shelf before
 
@@ -95,3 +85,13 @@ module _ (after held : List ℕ → Option (List ℕ)) (same : (name : List ℕ)
         unshown_rung k certificate shown is.answer why
             (subst (λ o. IfSome o (λ bytes. IsRungAnswer instance k bytes is.answer)) (same certificate) is.of_rung) is.witnessed is.unshown,
       )
+
+-- ---- the answer that was read
+
+-- what refuses an answer refuses the certificate that has it
+module _ (instance : Instance) (k : ℕ) (held : Option (List ℕ)) (before now : ℕ) (answer : Certificate)
+    (of_rung : IfSome held (λ bytes. IsRungAnswer instance k bytes answer)) where
+  pub refused_by : (refusal : Refusal) → IsRefusedAnswer instance answer refusal → HasNoWitness instance k held before now refusal
+  refused_by refusal (inl memory) = inl (no_rung.Uncertified (uncertified.Unread unread.Memory), memory, tt)
+  refused_by refusal (inr (reason, first, second, same, wrong, fails)) =
+      inr (reason, first, second, same, if_told held _ _ (λ bytes of. record { answer = answer; of_rung = of; wrong = wrong; fails = fails }) of_rung)

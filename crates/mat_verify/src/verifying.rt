@@ -1,6 +1,6 @@
 //! Verifying the witness in a file for a rung of the certificate in another.
 
-ghost use Rattle.std.specs.Prelude.{◌≡◌, ◌≤◌, ℕ, List, true, length, Some, OnOk, IfOk, IfErr, IfSome};
+ghost use Rattle.std.specs.Prelude.{◌≡◌, ◌≤◌, ℕ, List, true, length, Some, OnOk, IfErr, IfSome};
 ghost use Rattle.mat_cert.specs.Certificates.{Certificate, IsRanged};
 ghost use Rattle.mat_cert.specs.Views.{certificate_of};
 ghost use Rattle.mat_desc.specs.Grammar.{IsValid};
@@ -8,11 +8,9 @@ ghost use Rattle.mat_desc.specs.Soundness.{IsSoundInstance};
 ghost use Rattle.mat_desc.specs.Views.{instance_of};
 ghost use Rattle.mat_witness.specs.Kinds.{has_rung, is_witnessed_pair};
 ghost use Rattle.mat_witness.specs.Lines.{witness_limit};
-ghost use Rattle.mat_witness.specs.Parts.{WitnessParts};
-ghost use Rattle.mat_witness.specs.Shown.{failing_part};
 ghost use Rattle.mat_verify.specs.WitnessOutcomes.{IsVerifyOutcome};
 ghost use Rattle.mat_verify.specs.WitnessRefusals.{IsUnshown, IsUnverified};
-ghost use Rattle.mat_verify.specs.Witnessing.{IsRungAnswer, IsWitnessText};
+ghost use Rattle.mat_verify.specs.Witnessing.{IsRungAnswer};
 
 use crate::refusals::Unshown;
 use crate::rung_answer::rung_answer_in;
@@ -25,29 +23,6 @@ use std::alloc::Global;
 
 // The most bytes that a witness may have.
 const WITNESS_LIMIT: usize = 67_108_864;
-
-// The first part that fails of the witness in these bytes.
-fn failing_part_in(
-    alloc: Global,
-    problem: &Problem,
-    answer: &Answer,
-    k: u32,
-    bytes: &[u8],
-) -> Result<Option<u32>, Unshown>
-    requires within { length bytes.now ≤ witness_limit }
-    requires valid { IsValid (instance_of problem.now) }
-    requires sound { IsSoundInstance (instance_of problem.now) }
-    requires ranged { IsRanged (certificate_of answer.now) }
-    requires rung { has_rung (certificate_of answer.now) k ≡ true }
-    requires witnessed { is_witnessed_pair (instance_of problem.now) ≡ true }
-    ensures part { IfOk result (λ part. (parts : WitnessParts)
-        × IsWitnessText (instance_of problem.now) (certificate_of answer.now) k bytes.now parts
-        × (part ≡ failing_part (instance_of problem.now) (certificate_of answer.now) k parts)) }
-    ensures refusal { IfErr result (λ e. IsUnshown (instance_of problem.now) (certificate_of answer.now) k (Some bytes.now) 0 0 e) }
-{
-    let witness = read_witness(alloc, bytes, problem, answer, k)?;
-    verify(alloc, problem, answer, k, &witness).map_err(Unshown::from)
-}
 
 // Verifies the witness in these bytes.
 fn verify_bytes(
@@ -66,7 +41,8 @@ fn verify_bytes(
     ensures shown { OnOk result (IsVerifyOutcome (instance_of problem.now) (certificate_of answer.now) k bytes.now Status.Done) }
     ensures refusal { IfErr result (λ e. IsUnshown (instance_of problem.now) (certificate_of answer.now) k (Some bytes.now) 0 0 e) }
 {
-    match failing_part_in(alloc, problem, answer, k, bytes)? {
+    let witness = read_witness(alloc, bytes, problem, answer, k)?;
+    match verify(alloc, problem, answer, k, &witness)? {
         None => Ok(()),
         Some(part) => Err(Unshown::Part(part)),
     }
@@ -121,5 +97,6 @@ pub fn verify_in<F: Shelf>(
         (F.faults files.old) (F.faults files.new) e) }
 {
     let answer = rung_answer_in(alloc, files, certificate, problem, k)?;
-    verify_file(alloc, files, witness, problem, &answer, k).map_err(Refusal::from)
+    verify_file(alloc, files, witness, problem, &answer, k)?;
+    Ok(())
 }

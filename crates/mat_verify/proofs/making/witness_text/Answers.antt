@@ -3,7 +3,7 @@ use Rattle.std.specs.Prelude.{IfSome}
 use Rattle.mat_cert.specs.Views.{certificate_of}
 use Rattle.mat_desc.specs.Views.{instance_of}
 use Rattle.mat_judge.proofs.Told.{if_told}
-use Rattle.mat_verify.proofs.WitnessRefusals.{refused_by}
+use Rattle.mat_verify.proofs.Unwitnessed.{refused_by}
 use Rattle.mat_verify.specs.WitnessOutcomes.{IsWitnessFound}
 use Rattle.mat_verify.proofs.making.witness_text.Goals as goal
 
