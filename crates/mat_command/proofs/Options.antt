@@ -1,8 +1,9 @@
 -- The option gives a command its number of workers, and changes nothing of what it asks for.
-use Rattle.std.proofs.Common.{◌≡◌, ℕ, ◌≤◌, Bool, true, false, List, [], ◌∷◌, Option, Some, None, pos, refl, arith}
+use Rattle.std.proofs.Common.{◌≡◌, ℕ, Bool, true, false, List, [], ◌∷◌, Option, Some, None, pos, refl, arith}
 use Rattle.std.proofs.lemmas.Int.{ints}
 use Rattle.std.specs.Prelude.{IfSome, bytes_eq, codes, option_map, if◌then◌else◌}
 use Rattle.mat_sets.specs.Limits.{most_elements, most_trees}
+use Rattle.mat_work.specs.Workers.{AreWorkers, most_workers}
 use Rattle.mat_words.specs.Numbers.{numeral}
 use Rattle.mat_words.proofs.NumberLemmas.{number_again}
 use Rattle.mat_gen.specs.declared.kind.SampleKind.{SampleKind}
@@ -12,8 +13,8 @@ use Rattle.mat_command.specs.CommandLines.{number_up_to, request_for, with_numbe
 use Rattle.mat_command.specs.CommandLines.{takes_workers, begins_with_option, command_line, asked_by}
 
 -- a number from 1 to 16 is read as it is spelled
-workers_again : (n : ℕ) → 1 ≤ n → n ≤ 16 → number_up_to 16 (numeral (pos n)) ≡ Some n
-workers_again n least most = rw (number_again (pos 1) (pos 16) (pos n) (omega (arith, ints)) (omega (arith, ints))) refl
+workers_again : (n : ℕ) → AreWorkers n → number_up_to most_workers (numeral (pos n)) ≡ Some n
+workers_again n are = rw (number_again (pos 1) (pos most_workers) (pos n) (omega (arith, ints, are.0)) (omega (arith, ints, are.1))) refl
 
 -- ---- every command but `show`, `cuts`, `convert`, `witness` and `verify` takes the option
 
@@ -70,12 +71,12 @@ with_workers : (n : ℕ) (o : Option Task) → IfSome o (λ task. takes_workers 
 with_workers n None take = refl
 with_workers n (Some task) take = rw take refl
 
-pub same_task : (command : List ℕ) (arguments : List (List ℕ)) (n : ℕ) → 1 ≤ n → n ≤ 16
+pub same_task : (command : List ℕ) (arguments : List (List ℕ)) (n : ℕ) → AreWorkers n
     → bytes_eq command (codes "show") ≡ false → bytes_eq command (codes "cuts") ≡ false
     → bytes_eq command (codes "convert") ≡ false → bytes_eq command (codes "witness") ≡ false
     → bytes_eq command (codes "verify") ≡ false → begins_with_option arguments ≡ false
     → command_line (command ∷ codes "--workers" ∷ numeral (pos n) ∷ arguments)
     ≡ option_map (by_workers n) (asked_by (command ∷ arguments))
 unfolding command_line
-same_task command arguments n least most other apart same unwitnessed unverified plain =
-    rw (workers_again n least most, plain) (with_workers n (task_for command arguments) (all_take command arguments other apart same unwitnessed unverified))
+same_task command arguments n are other apart same unwitnessed unverified plain =
+    rw (workers_again n are, plain) (with_workers n (task_for command arguments) (all_take command arguments other apart same unwitnessed unverified))

@@ -2,6 +2,7 @@
 use Rattle.std.specs.Prelude.{ℕ, pos, nat_abs, Bool, true, false, if◌then◌else◌, List, [], ◌∷◌, bytes_eq, codes, Option, Some, None, option_map}
 use Rattle.std.specs.Result.{result_ok}
 use Rattle.mat_sets.specs.Limits.{most_elements, most_trees}
+use Rattle.mat_work.specs.Workers.{most_workers}
 use Rattle.mat_words.specs.Numbers.{number_in}
 use Rattle.mat_gen.specs.declared.kind.SampleKind.{SampleKind}
 use Rattle.mat_gen.specs.declared.kind.SampleKind.TheVariants.{Pair, List as ListKind, Graph, Rooted, Table}
@@ -161,7 +162,7 @@ takes_workers task = true
 -- a command with the option, its number from 1 to 16 and the arguments behind it
 abbrev pub with_option : List ℕ → List (List ℕ) → Option CommandLine
 with_option command (option ∷ number ∷ arguments) = do
-  workers ← number_up_to 16 number
+  workers ← number_up_to most_workers number
   task ← task_for command arguments
   if takes_workers task then Some (by_workers workers task) else None
 with_option command others = None

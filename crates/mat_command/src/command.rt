@@ -1,6 +1,6 @@
 //! Commands, and how many workers compute them.
 
-ghost use Rattle.std.specs.Prelude.{◌≤◌};
+ghost use Rattle.mat_work.specs.Workers.{AreWorkers};
 ghost use Rattle.mat_command.specs.Commands.{task_of, IsTaskInRange, IsTaskInRange-prop};
 
 use mat_gen::SampleKind;
@@ -76,6 +76,6 @@ pub struct CommandLine<'a> {
     pub workers: u32,
     /// What is asked for.
     pub command: Command<'a>,
-    ghost in_range: { (1 ≤ workers) × (workers ≤ 16) },
+    ghost in_range: { AreWorkers workers },
     ghost task_in_range: { IsTaskInRange (task_of command) } by { IsTaskInRange-prop (task_of command) },
 }
