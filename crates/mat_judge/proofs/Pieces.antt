@@ -1,8 +1,7 @@
 -- Pieces that are written one after the other: where the sink fails, the pieces before and a prefix of the next are a prefix of them all.
-use Rattle.std.proofs.Common.{◌≡◌, ℕ, ◌+◌, ◌-◌, ◌<◌, List, ◌++◌, length, take, drop, get_or, Option, sym, ap, subst}
-use Rattle.std.proofs.Common.{◌∙◌}
+use Rattle.std.proofs.Common.{◌≡◌, ℕ, ◌+◌, ◌<◌, List, ◌++◌, length, take, drop, get_or, Option, sym, ap, subst, ◌∙◌}
 use Rattle.std.specs.Prelude.{flat_map}
-use Rattle.std.proofs.lemmas.List.{take_rest, take-append-drop, drop_more}
+use Rattle.std.proofs.lemmas.List.{take-append-drop, drop_more}
 use Rattle.std.proofs.lemmas.List.Concat.{flat_map-append}
 use Rattle.mat_shelf.specs.Writing.{Appended, AppendedPrefix}
 use Rattle.mat_shelf.proofs.WritingLemmas.{AppendedPrefix-then, AppendedPrefix-append}
@@ -19,8 +18,3 @@ pieces_prefix {X} f a b c pieces i d lt p q =
     subst (λ (t : List ℕ). AppendedPrefix a t c) (sym (flat_map-at f pieces i d lt))
     (AppendedPrefix-then a b c (flat_map f (take i pieces)) (f (get_or pieces i d) ++ flat_map f (drop (i + 1) pieces)) p
     (AppendedPrefix-append b c (f (get_or pieces i d)) (flat_map f (drop (i + 1) pieces)) q))
-
--- what stands at the end of a buffer
-pub piece_is : (buffer : List ℕ) (at : ℕ) (text : List ℕ) → length buffer ≡ 40 → drop at buffer ≡ text
-    → take (40 - at) (drop at buffer) ≡ text
-piece_is buffer at text long e = rw (sym long, take_rest) e

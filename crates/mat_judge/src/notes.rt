@@ -1,37 +1,59 @@
 //! The note of a refusal.
 
-ghost use Rattle.std.specs.Prelude.{◌≡◌, ◌≤◌, ◌<◌, drop, pos, flat_map, OnOk, OnErr};
+ghost use Rattle.std.specs.Prelude.{◌≤◌, flat_map, OnOk, OnErr};
 ghost use Rattle.mat_shelf.specs.Faults.{Rose};
 ghost use Rattle.mat_shelf.specs.Writing.{Appended, AppendedPrefix};
-ghost use Rattle.mat_words.specs.Numbers.{numeral};
 ghost use Rattle.mat_judge.specs.Notes.{fault_note, note_of, note_of_denial, note_of_unread, IsNoted};
+ghost use Rattle.mat_judge.specs.Texts.{piece_text};
 
 use crate::reading::Unread;
 use crate::refusal::{Denial, Refusal};
 use crate::writing::put_all;
-use mat_check::Reason;
 use mat_shelf::{Failed, Sink};
 use mat_words::spell_into;
 
-// Writes pieces one after the other, or a prefix of them where the sink fails.
-fn put_pieces<N: Sink>(notes: &mut N, pieces: &[&[u8]]) -> Result<(), Failed>
+// A piece of a line.
+#[derive(Clone, Copy)]
+enum Piece<'a> {
+    // These bytes.
+    Text(&'a [u8]),
+    // The numeral of a number.
+    Number(u32),
+}
+
+// Writes a piece, or a prefix of it where the sink fails.
+fn put_piece<N: Sink>(notes: &mut N, piece: Piece<'_>) -> Result<(), Failed>
     ensures grows { N.faults notes.old ≤ N.faults notes.new }
-    ensures ok { OnOk result (Appended (N.written notes.old) (flat_map (λ piece. piece.now) pieces.now) (N.written notes.new)) }
-    ensures err { OnErr result (AppendedPrefix (N.written notes.old) (flat_map (λ piece. piece.now) pieces.now) (N.written notes.new)) }
+    ensures ok { OnOk result (Appended (N.written notes.old) (piece_text piece.entry) (N.written notes.new)) }
+    ensures err { OnErr result (AppendedPrefix (N.written notes.old) (piece_text piece.entry) (N.written notes.new)) }
+    ensures cause { OnErr result (Rose (N.faults notes.old) (N.faults notes.new)) }
+{
+    match piece {
+        Piece::Text(bytes) => put_all(notes, bytes),
+        Piece::Number(n) => {
+            let mut buffer = [0; 40];
+            let at = spell_into(&mut buffer, i128::from(n));
+            put_all(notes, &buffer[at..])
+        }
+    }
+}
+
+// Writes pieces one after the other, or a prefix of them where the sink fails.
+fn put_pieces<N: Sink>(notes: &mut N, pieces: &[Piece<'_>]) -> Result<(), Failed>
+    ensures grows { N.faults notes.old ≤ N.faults notes.new }
+    ensures ok { OnOk result (Appended (N.written notes.old) (flat_map piece_text pieces.now) (N.written notes.new)) }
+    ensures err { OnErr result (AppendedPrefix (N.written notes.old) (flat_map piece_text pieces.now) (N.written notes.new)) }
     ensures cause { OnErr result (Rose (N.faults notes.old) (N.faults notes.new)) }
 {
     for piece in pieces {
-        if let Err(e) = put_all(notes, piece) {
-            return Err(e);
-        }
+        put_piece(notes, *piece)?;
     }
     Ok(())
 }
 
 // Writes the pieces of a line, or a prefix of them where the sink fails.
-fn put_line<N: Sink>(notes: &mut N, pieces: &[&[u8]])
-    ensures { IsNoted (flat_map (λ piece. piece.now) pieces.now)
-        (N.written notes.old) (N.faults notes.old) (N.written notes.new) (N.faults notes.new) }
+fn put_line<N: Sink>(notes: &mut N, pieces: &[Piece<'_>])
+    ensures { IsNoted (flat_map piece_text pieces.now) (N.written notes.old) (N.faults notes.old) (N.written notes.new) (N.faults notes.new) }
 {
     let _ = put_pieces(notes, pieces);
 }
@@ -43,91 +65,21 @@ fn put_text<N: Sink>(notes: &mut N, line: &[u8])
     let _ = put_all(notes, line);
 }
 
-// Writes the numeral of a number at the end of a buffer, and tells where it begins.
-fn number_into(buffer: &mut [u8; 40], n: u32) -> usize
-    ensures spelling { drop result buffer.new ≡ numeral (pos n) }
-    ensures within { result < 40 }
-{
-    spell_into(buffer, i128::from(n))
-}
-
 // Writes the note of a fault of a file.
-fn put_fault<N: Sink>(notes: &mut N, file: &[u8], kind: u32, name: &str, line: u32)
+fn put_fault<'a, N: Sink>(notes: &mut N, file: &'a [u8], kind: u32, name: &'a str, line: u32)
     ensures { IsNoted (fault_note file.now kind name.now line)
         (N.written notes.old) (N.faults notes.old) (N.written notes.new) (N.faults notes.new) }
 {
-    let mut number = [0; 40];
-    let number_at = number_into(&mut number, kind);
-    let mut place = [0; 40];
-    let place_at = number_into(&mut place, line);
     put_line(
         notes,
         &[
-            file,
-            &number[number_at..],
-            b" ".as_slice(),
-            name.as_bytes(),
-            b" line ".as_slice(),
-            &place[place_at..],
-            b"\n".as_slice(),
-        ],
-    );
-}
-
-// Writes the note of an answer that isn't right.
-fn put_no<N: Sink>(notes: &mut N, reason: Reason, first: u32, second: u32)
-    ensures { IsNoted (note_of_denial (Denial.No reason first second))
-        (N.written notes.old) (N.faults notes.old) (N.written notes.new) (N.faults notes.new) }
-{
-    let mut one = [0; 40];
-    let one_at = number_into(&mut one, first);
-    let mut other = [0; 40];
-    let other_at = number_into(&mut other, second);
-    put_line(
-        notes,
-        &[
-            b"no ".as_slice(),
-            reason.word().as_bytes(),
-            b" ".as_slice(),
-            &one[one_at..],
-            b" ".as_slice(),
-            &other[other_at..],
-            b"\n".as_slice(),
-        ],
-    );
-}
-
-// Writes the note of a witness of which this part fails.
-fn put_not_shown<N: Sink>(notes: &mut N, part: u32)
-    ensures { IsNoted (note_of_denial (Denial.NotShown part))
-        (N.written notes.old) (N.faults notes.old) (N.written notes.new) (N.faults notes.new) }
-{
-    let mut number = [0; 40];
-    let number_at = number_into(&mut number, part);
-    put_line(
-        notes,
-        &[
-            b"no witness ".as_slice(),
-            &number[number_at..],
-            b" 0".as_slice(),
-            b"\n".as_slice(),
-        ],
-    );
-}
-
-// Writes the note of a list of jobs whose line with this number is not the needed one.
-fn put_bad_list<N: Sink>(notes: &mut N, line: u32)
-    ensures { IsNoted (note_of_denial (Denial.BadList line))
-        (N.written notes.old) (N.faults notes.old) (N.written notes.new) (N.faults notes.new) }
-{
-    let mut place = [0; 40];
-    let place_at = number_into(&mut place, line);
-    put_line(
-        notes,
-        &[
-            b"refused: list line ".as_slice(),
-            &place[place_at..],
-            b"\n".as_slice(),
+            Piece::Text(file),
+            Piece::Number(kind),
+            Piece::Text(b" "),
+            Piece::Text(name.as_bytes()),
+            Piece::Text(b" line "),
+            Piece::Number(line),
+            Piece::Text(b"\n"),
         ],
     );
 }
@@ -148,24 +100,49 @@ fn put_denial<N: Sink>(notes: &mut N, denial: Denial)
     ensures { IsNoted (note_of_denial denial) (N.written notes.old) (N.faults notes.old) (N.written notes.new) (N.faults notes.new) }
 {
     match denial {
-        Denial::No(reason, first, second) => put_no(notes, reason, first, second),
-        Denial::NotShown(part) => put_not_shown(notes, part),
+        Denial::No(reason, first, second) => put_line(
+            notes,
+            &[
+                Piece::Text(b"no "),
+                Piece::Text(reason.word().as_bytes()),
+                Piece::Text(b" "),
+                Piece::Number(first),
+                Piece::Text(b" "),
+                Piece::Number(second),
+                Piece::Text(b"\n"),
+            ],
+        ),
+        Denial::NotShown(part) => put_line(
+            notes,
+            &[
+                Piece::Text(b"no witness "),
+                Piece::Number(part),
+                Piece::Text(b" 0\n"),
+            ],
+        ),
         Denial::BadDescription(kind, line) => {
-            let file = b"refused: description ".as_slice();
+            let file = b"refused: description ";
             put_fault(notes, file, kind.number(), kind.name(), line)
         }
         Denial::BadCertificate(kind, line) => {
-            let file = b"refused: certificate ".as_slice();
+            let file = b"refused: certificate ";
             put_fault(notes, file, kind.number(), kind.name(), line)
         }
         Denial::WrongShape => put_text(notes, b"refused: wrong shape\n"),
         Denial::Unwitnessed => put_text(notes, b"refused: unwitnessed\n"),
         Denial::BadWitness(kind, line) => {
-            let file = b"refused: witness ".as_slice();
+            let file = b"refused: witness ";
             put_fault(notes, file, kind.number(), kind.name(), line)
         }
         Denial::BadCost => put_text(notes, b"refused: bad cost\n"),
-        Denial::BadList(line) => put_bad_list(notes, line),
+        Denial::BadList(line) => put_line(
+            notes,
+            &[
+                Piece::Text(b"refused: list line "),
+                Piece::Number(line),
+                Piece::Text(b"\n"),
+            ],
+        ),
     }
 }
 

@@ -1,7 +1,6 @@
 //! Reading a whole file.
 
-ghost use Rattle.std.specs.Prelude.{◌≡◌, ◌≤◌, ◌<◌, ◌^◌, ◌+◌, ℕ, List, true, false, length, vec_len};
-ghost use Rattle.std.specs.Prelude.{OnOk, IfOk, IfErr, MatchResult};
+ghost use Rattle.std.specs.Prelude.{◌≡◌, ◌≤◌, ◌<◌, ◌^◌, ◌+◌, ℕ, List, true, false, length, vec_len, OnOk, IfOk, IfErr, MatchResult};
 ghost use Rattle.mat_judge.specs.declared.reading.Unread.TheVariants.{Fault, Memory};
 ghost use Rattle.mat_judge.specs.WholeFiles.{WasRead, NotRead, NotTaken, GoesOn, IsAtEnd};
 

@@ -1,10 +1,11 @@
-use Rattle.std.proofs.Common.{[]}
+use Rattle.std.proofs.lemmas.Result.{err_from_is_err_and}
+use Rattle.mat_judge.specs.Texts.{piece_text}
 use Rattle.mat_judge.proofs.Pieces.{pieces_prefix}
 use Rattle.mat_judge.proofs.notes.put_pieces.Goals as goal
 
-pub returns-in-Err-clause-err : goal.returns-in-Err-clause-err
-returns-in-Err-clause-err g c =
-    let old = g.N.Sink.written c.args.notes.now in
-    let between = g.N.Sink.written c.loop-piece.notes in
-    pieces_prefix (λ piece. piece.now) old between (g.N.Sink.written c.put_all.new.sink) c.args.pieces.now c.loop-piece.piece-index
-    (record { ref_ptr = (0, 0); now = [] }) c.loop-piece-test.true c.loop-piece.invariant.appended c.in-Err.ensures.err
+pub returns-in_err-put_piece-clause-err : goal.returns-in_err-put_piece-clause-err
+returns-in_err-put_piece-clause-err g c =
+    let p = err_from_is_err_and c.from_residual.result c.from_residual.ensures.1 in
+    rw p.1 (pieces_prefix piece_text (g.N.Sink.written c.args.notes.now) (g.N.Sink.written c.loop-piece.notes)
+    (g.N.Sink.written c.put_piece.new.notes) c.args.pieces.now c.loop-piece.piece-index _ c.loop-piece-test.true
+    c.loop-piece.invariant.appended c.in_err-put_piece.ensures.err)
