@@ -671,7 +671,7 @@ def version() -> str:
 #
 # A graph is one of networkx, or whatever else has nodes, edges(data=True), is_directed() and is_multigraph() as these have. Its edges are
 # the elements, in the order of graph.edges, and stand in answers as the tuples that networkx has for them: (u, v), or (u, v, key) in a
-# multigraph. Its nodes are the vertices. A description has up to 500 of each. In words and pictures a node has its own word for a name, and an
+# multigraph; those of a table with the row first. Its nodes are the vertices. A description has up to 500 of each. In words and pictures a node has its own word for a name, and an
 # edge those of its tuple, with - between them, where these are different words of at most 32 characters of ASCII, and else a letter and a number.
 
 
@@ -747,18 +747,19 @@ def coloured_description(graph, colour: str = "colour", weight: str = "weight") 
 
 def table_description(graph, rows: Iterable[Hashable], weight: str = "weight") -> Description:
     """The `table R C E` of an undirected graph, for assign: each edge joins one of the nodes `rows` with one of the others, which are the
-    columns. `weight` names the attribute of its edges, 1 where one has none."""
+    columns, and stands in answers as (row, column). `weight` names the attribute of its edges, 1 where one has none."""
     _hold_to(graph, False)
     row = {node: place for place, node in enumerate(rows)}
     column = {node: place for place, node in enumerate(node for node in graph.nodes if node not in row)}
     edges, _, data = _edges(graph)
-    cells = []
-    for (u, v, *_), it in zip(edges, data):
+    cells, pairs = [], []
+    for (u, v, *rest), it in zip(edges, data):
         at, across = (u, v) if u in row else (v, u)
         if at not in row or across not in column:
             raise ValueError(f"the edge of {u!r} and {v!r} does not join a row with a column")
         cells.append(f"cell {row[at]} {column[across]} {_spelling(it.get(weight, 1))}")
-    return _description(f"table {len(row)} {len(column)} {len(edges)}", cells, edges, [])
+        pairs.append((at, across, *rest))
+    return _description(f"table {len(row)} {len(column)} {len(pairs)}", cells, pairs, [])
 
 
 def forests_description(graph, weight: str = "weight") -> Description:

@@ -248,10 +248,11 @@ class Graphs(unittest.TestCase):
 
     def test_assignments_weigh_as_much_as_matchings(self):
         graph = networkx.Graph()
-        graph.add_weighted_edges_from([("Ada", "till", 5), ("Ada", "door", 4), ("Ben", "till", 4)])
+        graph.add_weighted_edges_from([("Ada", "till", 5), ("Ada", "door", 4), ("till", "Ben", 4)])
         answer = matbench.assign(matbench.table_description(graph, ["Ada", "Ben"]))
         self.assertEqual(answer.best.weight, graph.edge_subgraph(answer.best.members).size(weight="weight"))
         self.assertEqual(answer.best.weight, 8)
+        self.assertEqual(sorted(answer.best.members), [("Ada", "door"), ("Ben", "till")])
         with self.assertRaises(ValueError):
             matbench.table_description(graph, ["Ada", "till"])
 
