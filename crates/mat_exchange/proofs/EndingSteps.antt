@@ -3,14 +3,13 @@
 use Rattle.std.proofs.Common.{◌≡◌, ℕ, ◌^◌, true, List, Option, Some, refl, sym, ◌∙◌, subst, arith}
 use Rattle.std.proofs.lemmas.Bool.{both_ways}
 use Rattle.std.proofs.lemmas.Int.{ints}
-use Rattle.mat_sets.specs.Limits.{largest_change}
 use Rattle.mat_sets.specs.Sets.{is_member}
 use Rattle.mat_sets.specs.Weights.{zero_weight, ◌⊕◌, ◌⊖◌, ◌≼◌, weight_at, IsWeightWithin}
 use Rattle.mat_sets.specs.declared.weight.Weight.{Weight}
 use Rattle.mat_sets.proofs.WeightOrder.{pairs}
 use Rattle.mat_laws.specs.declared.exchange.Exchange.{Exchange}
 use Rattle.mat_laws.specs.TightPaths.{exchanges_in}
-use Rattle.mat_exchange.specs.Changes.{lowered, raised}
+use Rattle.mat_exchange.specs.Changes.{change_room, lowered, raised}
 use Rattle.mat_exchange.specs.SlackParts.{IsAdditionSlack, IsLeast}
 use Rattle.mat_exchange.specs.declared.steps.NextStep.{NextStep}
 use Rattle.mat_exchange.specs.declared.steps.NextStep.TheVariants.{Sink, Nothing}
@@ -45,13 +44,13 @@ module _ {n : ℕ} {I : List ℕ} {first second : List Exchange} {u1 u2 : List W
         low : {a b c : Weight} → a ≡ b ⊖ c → c ≼ b → zero_weight ≼ a
         low v le = omega (arith, ints, pairs)
 
-    pub sink_within : IsWeightWithin largest_change d
+    pub sink_within : IsWeightWithin change_room d
     sink_within =
         let s = sink_least.has in
         together d total (total_small now.shifted) (difference_within (10 ^ 26) (10 ^ 26) (10 ^ 27) _ _ (d ⊖ total) (omega arith) s.value
         (second_small now.shifted s.top s.below) (second_small now.shifted s.element (reached_below now.shifted s.element s.inside)))
       where
-        together : (d t : Weight) → IsWeightWithin (10 ^ 27) t → IsWeightWithin (10 ^ 27) (d ⊖ t) → IsWeightWithin largest_change d
+        together : (d t : Weight) → IsWeightWithin (10 ^ 27) t → IsWeightWithin (10 ^ 27) (d ⊖ t) → IsWeightWithin change_room d
         together d t ht hd = omega (arith, ints, pairs)
 
     pub sunk : (v1 v2 : List Weight) → ((z : ℕ) → weight_at v1 z ≡ lowered (weight_at w1) R d z)

@@ -3,14 +3,13 @@
 use Rattle.std.proofs.Common.{◌≡◌, ℕ, ◌^◌, ◌<◌, true, false, ◌≢◌, ◌&&◌, cond, eqb, List, length, Option, Some, refl, sym, ◌∙◌, subst, arith}
 use Rattle.std.proofs.lemmas.Bool.{both_ways, cond-false, and_parts, ne_eqb}
 use Rattle.std.proofs.lemmas.Int.{ints}
-use Rattle.mat_sets.specs.Limits.{largest_change}
 use Rattle.mat_sets.specs.Sets.{is_member, with_one, without_one}
 use Rattle.mat_sets.specs.Weights.{zero_weight, ◌⊕◌, ◌⊖◌, ◌≺◌, ◌≼◌, weight_at, IsWeightWithin}
 use Rattle.mat_sets.specs.declared.weight.Weight.{Weight}
 use Rattle.mat_sets.proofs.WeightOrder.{pairs}
 use Rattle.mat_laws.specs.declared.exchange.Exchange.{Exchange}
 use Rattle.mat_laws.specs.TightPaths.{exchanges_in}
-use Rattle.mat_exchange.specs.Changes.{lowered, raised}
+use Rattle.mat_exchange.specs.Changes.{change_room, lowered, raised}
 use Rattle.mat_exchange.specs.HeaviestAddable.{IsHeaviestWeightOrNone, greater_of}
 use Rattle.mat_exchange.specs.declared.steps.NextStep.{NextStep}
 use Rattle.mat_exchange.specs.declared.steps.NextStep.TheVariants.{Enter}
@@ -40,10 +39,10 @@ module _ {n : ℕ} {I : List ℕ} {first second : List Exchange} {u1 u2 : List W
     pub enter_outside : is_member x R ≡ false
     enter_outside = others_outside now.shifted.growing x (now.fringe.within x enters.0)
 
-    pub enter_within : IsWeightWithin largest_change d
+    pub enter_within : IsWeightWithin change_room d
     enter_within = flipped (weight_at g x) d enters.1 (gain_small now x enters.0)
       where
-        flipped : (a d : Weight) → a ⊕ d ≡ zero_weight → IsWeightWithin (10 ^ 29) a → IsWeightWithin largest_change d
+        flipped : (a d : Weight) → a ⊕ d ≡ zero_weight → IsWeightWithin (10 ^ 29) a → IsWeightWithin change_room d
         flipped a d e within = omega (arith, ints, pairs)
 
     -- by how much the change is more than so far

@@ -1,7 +1,7 @@
 -- What has grown: where nothing can be added in the first matroid nothing changes, and a search after the changes has no slack.
 use Rattle.std.proofs.Common.{◌≡◌, ℕ, ◌+◌, ◌*◌, ◌^◌, ◌<◌, ◌≤◌, false, List, length, Some, None, refl, sym, ◌∙◌, subst, arith}
 use Rattle.std.proofs.lemmas.Nat.{mul-le}
-use Rattle.mat_sets.specs.Limits.{most_elements, largest_weight, largest_number, largest_split}
+use Rattle.mat_sets.specs.Limits.{most_elements, largest_weight, largest_number, split_room}
 use Rattle.mat_sets.specs.Sets.{is_member}
 use Rattle.mat_sets.specs.Weights.{◌⊕◌, weight_at, IsWeightWithin, AreWeightsWithin}
 use Rattle.mat_sets.specs.declared.weight.Weight.{Weight}
@@ -35,11 +35,11 @@ within_more z h n some within =
     IsWeightWithin-weaken (h + 4 * 10 ^ 12 * n) (h + 2 * 10 ^ 12 * (n + 1) * n) z (omega arith) within
 
 module _ {n : ℕ} {a b : Exchanges} (u1 u2 v1 v2 : List Weight) (few : n ≤ most_elements)
-    (small : (x : ℕ) → x < n → IsWeightWithin largest_weight (weight_at u1 x ⊕ weight_at u2 x)) (old : AreWeightsWithin largest_split u2)
+    (small : (x : ℕ) → x < n → IsWeightWithin largest_weight (weight_at u1 x ⊕ weight_at u2 x)) (old : AreWeightsWithin split_room u2)
     (long1 : length v1 ≡ n) (long2 : length v2 ≡ n)
     (grown : IsGrownSplit n a b (sum_at (weight_at u1) (weight_at u2)) (weight_at u2) (weight_at v1) (weight_at v2)) where
   second_in : (x : ℕ) → x < n → IsWeightWithin (10 ^ 26) (weight_at v2 x)
-  second_in x l = second_within (weight_at v2 x) n few (grown.within largest_split (λ y k. weight_within_at largest_split u2 old y) x l)
+  second_in x l = second_within (weight_at v2 x) n few (grown.within split_room (λ y k. weight_within_at split_room u2 old y) x l)
 
   pub grown_first_within : AreWeightsWithin largest_number v1
   grown_first_within = AreWeightsWithin-from largest_number n v1 long1 (λ x l.

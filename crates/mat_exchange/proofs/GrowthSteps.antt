@@ -5,7 +5,7 @@ use Rattle.std.proofs.Common.{inr, refl, sym, ap, ◌∙◌, subst, arith}
 use Rattle.std.proofs.lemmas.Bool.{cases_Bool, cases_lt, both_ways, and_parts, and_right, ltb-true}
 use Rattle.std.proofs.lemmas.Int.{ints}
 use Rattle.std.proofs.lemmas.List.{get_or_past}
-use Rattle.mat_sets.specs.Limits.{most_elements, largest_weight, largest_number, largest_split, largest_change}
+use Rattle.mat_sets.specs.Limits.{most_elements, largest_weight, largest_number, split_room}
 use Rattle.mat_sets.specs.Sets.{is_member, with_one, without_one, all_below}
 use Rattle.mat_sets.proofs.Members.{is_member-without_one}
 use Rattle.mat_sets.proofs.Ground.{below_member, IsSet-length, is_member-all_below}
@@ -14,7 +14,7 @@ use Rattle.mat_sets.specs.declared.weight.Weight.{Weight}
 use Rattle.mat_sets.proofs.WeightOrder.{pairs, at_most_same, weight_within_at}
 use Rattle.mat_laws.specs.declared.exchange.Exchange.{Exchange}
 use Rattle.mat_laws.specs.TightPaths.{exchanges_in}
-use Rattle.mat_exchange.specs.Changes.{lowered, raised}
+use Rattle.mat_exchange.specs.Changes.{change_room, lowered, raised}
 use Rattle.mat_exchange.specs.Tables.{IsTableAt}
 use Rattle.mat_exchange.specs.HeaviestAddable.{IsHeaviestWeightOrNone, greater_of}
 use Rattle.mat_exchange.specs.Growing.{NoExchangeGains, IsEntry, IsFringe, IsOffered, IsHeaviestOf, leads, entry_gain, sum_at}
@@ -60,7 +60,7 @@ pub record IsShifted (n : ℕ) (I : List ℕ) (first second : List Exchange) (u1
   pub first_on : AreExchangesOn n I (exchanges_in first)
   pub second_on : AreExchangesOn n I (exchanges_in second)
   pub small : (x : ℕ) → x < n → IsWeightWithin largest_weight (sum_at (weight_at u1) (weight_at u2) x)
-  pub old_small : AreWeightsWithin largest_split u2
+  pub old_small : AreWeightsWithin split_room u2
   pub first_length : length w1 ≡ n
   pub second_length : length w2 ≡ n
   pub growing : IsGrowing n (exchanges_in first) (exchanges_in second) (sum_at (weight_at u1) (weight_at u2)) (weight_at u2) root R O
@@ -72,7 +72,7 @@ module _ {n : ℕ} {I : List ℕ} {first second : List Exchange} {u1 u2 : List W
     (now : IsShifted n I first second u1 u2 root R O total w1 w2) where
   pub second_small : (x : ℕ) → x < n → IsWeightWithin (10 ^ 26) (raised (weight_at w2) R total x)
   second_small x l = second_bound (raised (weight_at w2) R total x) n now.few
-      (now.growing.within largest_split (λ y k. weight_within_at largest_split u2 now.old_small y) x l)
+      (now.growing.within split_room (λ y k. weight_within_at split_room u2 now.old_small y) x l)
 
   first_small : (x : ℕ) → x < n → IsWeightWithin (10 ^ 27) (lowered (weight_at w1) R total x)
   first_small x l = first_bound (lowered (weight_at w1) R total x) (raised (weight_at w2) R total x) (sum_at (weight_at u1) (weight_at u2) x)
@@ -84,9 +84,9 @@ module _ {n : ℕ} {I : List ℕ} {first second : List Exchange} {u1 u2 : List W
   pub total_small : IsWeightWithin (10 ^ 27) total
   total_small = between (raised (weight_at w2) R total root) (weight_at u2 root)
       (raised-member (weight_at w2) R total root now.growing.root_in ∙ ap (λ (a : Weight). a ⊕ total) now.root_kept)
-      (second_small root (root_below now.growing)) (weight_within_at largest_split u2 now.old_small root)
+      (second_small root (root_below now.growing)) (weight_within_at split_room u2 now.old_small root)
     where
-      between : (v a : Weight) → v ≡ a ⊕ total → IsWeightWithin (10 ^ 26) v → IsWeightWithin largest_split a → IsWeightWithin (10 ^ 27) total
+      between : (v a : Weight) → v ≡ a ⊕ total → IsWeightWithin (10 ^ 26) v → IsWeightWithin split_room a → IsWeightWithin (10 ^ 27) total
       between v a e hv ha = omega (arith, ints, pairs)
 
   kept_first : (x : ℕ) → x < n → IsWeightWithin (10 ^ 28) (weight_at w1 x)
@@ -110,7 +110,7 @@ module _ {n : ℕ} {I : List ℕ} {first second : List Exchange} {u1 u2 : List W
   pub second_within : AreWeightsWithin largest_number w2
   second_within = AreWeightsWithin-from largest_number n w2 now.second_length (λ x l. IsWeightWithin-weaken _ _ _ (omega arith) (kept_second x l))
 
-  pub total_within : IsWeightWithin largest_change total
+  pub total_within : IsWeightWithin change_room total
   total_within = IsWeightWithin-weaken _ _ _ (omega arith) total_small
 
   pub other_below : (x : ℕ) → is_member x O ≡ true → x < n
@@ -209,7 +209,7 @@ pub growth_start : {n root : ℕ} {I : List ℕ} {first second : List Exchange} 
     {total : Weight} {top inside : Option Weight} → n ≤ most_elements
     → IsTableAt n I first → IsTableAt n I second → IsHeaviestOf (exchanges_in first).adds (weight_at u1) root
     → NoExchangeGains (exchanges_in first) (weight_at u1) → NoExchangeGains (exchanges_in second) (weight_at u2)
-    → ((x : ℕ) → x < n → IsWeightWithin largest_weight (sum_at (weight_at u1) (weight_at u2) x)) → AreWeightsWithin largest_split u2
+    → ((x : ℕ) → x < n → IsWeightWithin largest_weight (sum_at (weight_at u1) (weight_at u2) x)) → AreWeightsWithin split_room u2
     → length u1 ≡ n → length u2 ≡ n → length h ≡ n
     → R ≡ with_one [] root → ((x : ℕ) → is_member x O ≡ (ltb x n && not (eqb x root)))
     → IsFringe O F (IsEntry (exchanges_in first) (exchanges_in second) (weight_at u1) (weight_at u2) root R) (weight_at h)
@@ -259,11 +259,11 @@ others_start_below n root O A e a x m =
 -- the first weights at the start
 pub first_start : (n : ℕ) (u1 u2 : List Weight) → length u1 ≡ n
     → ((x : ℕ) → x < n → IsWeightWithin largest_weight (sum_at (weight_at u1) (weight_at u2) x))
-    → AreWeightsWithin largest_split u2 → AreWeightsWithin largest_number u1
+    → AreWeightsWithin split_room u2 → AreWeightsWithin largest_number u1
 first_start n u1 u2 long small old = AreWeightsWithin-from largest_number n u1 long (λ x l.
-    difference_bound (weight_at u1 x) (weight_at u2 x) (small x l) (weight_within_at largest_split u2 old x))
+    difference_bound (weight_at u1 x) (weight_at u2 x) (small x l) (weight_within_at split_room u2 old x))
   where
-    difference_bound : (a b : Weight) → IsWeightWithin largest_weight (a ⊕ b) → IsWeightWithin largest_split b → IsWeightWithin largest_number a
+    difference_bound : (a b : Weight) → IsWeightWithin largest_weight (a ⊕ b) → IsWeightWithin split_room b → IsWeightWithin largest_number a
     difference_bound a b sum within = omega (arith, ints)
 
 pub others_less : {n : ℕ} {O' : List ℕ} (O : List ℕ) (x : ℕ) → O' ≡ without_one O x → ((v : ℕ) → is_member v O ≡ true → v < n)

@@ -4,13 +4,13 @@ use Rattle.std.proofs.lemmas.Bool.{cases_Bool, cases_eq, cases_lt, and_from, and
 use Rattle.std.specs.Int.{w128}
 use Rattle.std.proofs.lemmas.Int.{ints}
 use Rattle.std.proofs.lemmas.List.{get_or-set_same, get_or-set_other}
-use Rattle.mat_sets.specs.Limits.{largest_number, largest_change}
+use Rattle.mat_sets.specs.Limits.{largest_number}
 use Rattle.mat_sets.specs.Sets.{is_member}
 use Rattle.mat_sets.specs.Search.{IsFirstFrom}
 use Rattle.mat_sets.specs.Weights.{zero_weight, ◌⊕◌, ◌⊖◌, weight_at, IsWeightWithin}
 use Rattle.mat_sets.specs.declared.weight.Weight.{Weight}
 use Rattle.mat_sets.proofs.WeightOrder.{pairs}
-use Rattle.mat_exchange.specs.Changes.{lowered, raised}
+use Rattle.mat_exchange.specs.Changes.{change_room, lowered, raised}
 
 -- w, with d more on the members before `from`
 abbrev pub raised_to : (ℕ → Weight) → List ℕ → Weight → ℕ → ℕ → Weight
@@ -54,6 +54,6 @@ raised_zero w R d x e = elim (cases_Bool (is_member x R)) [
 ]
 
 -- both numbers of the sum of a weight and a step are an `i128`
-pub sums_fit : (a d : Weight) → IsWeightWithin largest_number a → IsWeightWithin largest_change d
+pub sums_fit : (a d : Weight) → IsWeightWithin largest_number a → IsWeightWithin change_room d
     → SFits w128 (a.main +ℤ d.main) × SFits w128 (a.tie +ℤ d.tie)
 sums_fit a d small step = omega (arith, ints)

@@ -2,7 +2,7 @@
 use Rattle.std.proofs.Common.{◌≡◌, ℕ, ◌+◌, ◌*◌, ◌^◌, ◌<◌, ◌≤◌, List, length, sym, arith}
 use Rattle.std.proofs.lemmas.Int.{ints}
 use Rattle.std.proofs.lemmas.List.Elements.{All-from_get_or}
-use Rattle.mat_sets.specs.Limits.{most_elements, largest_weight, largest_split}
+use Rattle.mat_sets.specs.Limits.{most_elements, largest_weight, split_room}
 use Rattle.mat_sets.specs.Weights.{zero_weight, ◌⊕◌, ◌⊖◌, weight_at, IsWeightWithin, AreWeightsWithin}
 use Rattle.mat_sets.specs.declared.weight.Weight.{Weight}
 use Rattle.mat_sets.proofs.WeightOrder.{pairs}
@@ -17,7 +17,7 @@ pub difference_within : (a b c : ℕ) (x y d : Weight) → a + b ≤ c → d ≡
 difference_within a b c x y d le e hx hy = omega (arith, ints, pairs)
 
 -- the halves of small weights, after a growth on few elements from halves within the largest split
-pub second_within : (z : Weight) (n : ℕ) → n ≤ most_elements → IsWeightWithin (largest_split + 4 * 10 ^ 12 * n) z → IsWeightWithin (10 ^ 26) z
+pub second_within : (z : Weight) (n : ℕ) → n ≤ most_elements → IsWeightWithin (split_room + 4 * 10 ^ 12 * n) z → IsWeightWithin (10 ^ 26) z
 second_within z n few within = omega (arith, ints)
 
 pub first_within : (a z w : Weight) → a ⊕ z ≡ w → IsWeightWithin largest_weight w → IsWeightWithin (10 ^ 26) z → IsWeightWithin (10 ^ 27) a

@@ -1,12 +1,16 @@
 -- Changes of a split of the weights at a reached set: the first weight falls on it, and the second rises (Frank 1981; Schrijver,
 -- chapter 41).
-use Rattle.std.specs.Prelude.{◌≡◌, ℕ, ◌<◌, Bool, if◌then◌else◌, List, length}
+use Rattle.std.specs.Prelude.{◌≡◌, ℕ, ◌<◌, ◌^◌, Bool, if◌then◌else◌, List, length}
 use Rattle.mat_sets.specs.Sets.{is_member, IsSubset}
 use Rattle.mat_sets.specs.Weights.{zero_weight, ◌⊕◌, ◌⊖◌, ◌≺◌, IsWeightWithin}
 use Rattle.mat_sets.specs.declared.weight.Weight.{Weight}
 use Rattle.mat_sets.specs.Walks.{IsReachedSet}
 use Rattle.mat_laws.specs.Heaviest.{IsHeaviest}
 use Rattle.mat_laws.specs.TightPaths.{exchanges_at, is_heaviest_addable, is_tight, IsStuckReach}
+
+-- how far from 0 a number of a change of the weights of a split may be; changes are far smaller
+abbrev pub change_room : ℕ
+change_room = 10 ^ 31
 
 -- w less d on R
 abbrev pub lowered : (ℕ → Weight) → List ℕ → Weight → ℕ → Weight

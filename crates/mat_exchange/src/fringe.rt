@@ -1,11 +1,11 @@
 //! The elements outside a reached set that a change of the weights lets in, each with the greatest of its gains.
 ghost use Rattle.std.specs.Prelude.{◌≡◌, ◌&&◌, ◌==◌, if◌then◌else◌, ◌<◌, ◌≤◌, ℕ, true, length, OnOk};
 ghost use Rattle.mat_sets.specs.Bits.{bits_of};
-ghost use Rattle.mat_sets.specs.Limits.{largest_number, most_elements, largest_change};
+ghost use Rattle.mat_sets.specs.Limits.{largest_number, most_elements};
 ghost use Rattle.mat_sets.specs.Sets.{is_member};
 ghost use Rattle.mat_sets.specs.Weights.{◌⊕◌, ◌⊖◌, weight_at, IsWeightWithin, AreWeightsWithin};
 ghost use Rattle.mat_laws.specs.TightPaths.{exchanges_in};
-ghost use Rattle.mat_exchange.specs.Changes.{lowered, raised};
+ghost use Rattle.mat_exchange.specs.Changes.{change_room, lowered, raised};
 ghost use Rattle.mat_exchange.specs.Growing.{IsOffered, gain_at, leads, entry_gain};
 
 use crate::row_table::RowTable;
@@ -113,7 +113,7 @@ fn raise_on(weights: &mut [Weight], members: &BitSet, step: Weight)
     requires few { length weights.old ≤ most_elements }
     requires below { (x : ℕ) → is_member x members.now ≡ true → x < length weights.old }
     requires small { (x : ℕ) → is_member x members.now ≡ true → IsWeightWithin largest_number (weight_at weights.old x) }
-    requires step { IsWeightWithin largest_change step }
+    requires step { IsWeightWithin change_room step }
     ensures length { length weights.new ≡ length weights.old }
     ensures weights { (x : ℕ) → weight_at weights.new x ≡ raised (weight_at weights.old) members.now step x }
 {
@@ -130,7 +130,7 @@ pub(crate) fn put_back(w1: &mut [Weight], w2: &mut [Weight], x: u32, total: Weig
     requires below { x < length w1.old }
     requires first_small { AreWeightsWithin largest_number w1.old }
     requires second_small { AreWeightsWithin largest_number w2.old }
-    requires total { IsWeightWithin largest_change total }
+    requires total { IsWeightWithin change_room total }
     ensures first_length { length w1.new ≡ length w1.old }
     ensures second_length { length w2.new ≡ length w2.old }
     ensures first { (z : ℕ) → weight_at w1.new z ≡ (if z == x then weight_at w1.old z ⊕ total else weight_at w1.old z) }
@@ -147,7 +147,7 @@ pub(crate) fn change(w1: &mut [Weight], w2: &mut [Weight], reached: &BitSet, ste
     requires reached { (x : ℕ) → is_member x reached.now ≡ true → x < length w1.old }
     requires first_small { AreWeightsWithin largest_number w1.old }
     requires second_small { AreWeightsWithin largest_number w2.old }
-    requires step { IsWeightWithin largest_change step }
+    requires step { IsWeightWithin change_room step }
     ensures first_length { length w1.new ≡ length w1.old }
     ensures second_length { length w2.new ≡ length w2.old }
     ensures first { (x : ℕ) → weight_at w1.new x ≡ lowered (weight_at w1.old) reached.now step x }

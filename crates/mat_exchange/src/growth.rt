@@ -1,6 +1,6 @@
 //! The search that grows until it finds a tight path or has no slack.
 ghost use Rattle.std.specs.Prelude.{◌≡◌, ◌<◌, ◌≤◌, ◌&&◌, ◌==◌, ℕ, true, not, nat_lt, [], length, IfOk, OnOk, ◌↔◌};
-ghost use Rattle.mat_sets.specs.Limits.{most_elements, largest_number, largest_weight, largest_split};
+ghost use Rattle.mat_sets.specs.Limits.{most_elements, largest_number, largest_weight, split_room};
 ghost use Rattle.mat_sets.specs.Sets.{is_member, with_one};
 ghost use Rattle.mat_sets.specs.Weights.{◌⊕◌, weight_at, IsWeightWithin, AreWeightsWithin};
 ghost use Rattle.mat_laws.specs.TightPaths.{exchanges_in};
@@ -110,7 +110,7 @@ fn grow_from(
     requires first_gains { NoExchangeGains (exchanges_in first.now) (weight_at w1.old) }
     requires second_gains { NoExchangeGains (exchanges_in second.now) (weight_at w2.old) }
     requires small { (x : ℕ) → x < length w1.old → IsWeightWithin largest_weight (weight_at w1.old x ⊕ weight_at w2.old x) }
-    requires second_small { AreWeightsWithin largest_split w2.old }
+    requires second_small { AreWeightsWithin split_room w2.old }
     ensures first_length { length w1.new ≡ length w1.old }
     ensures second_length { length w2.new ≡ length w2.old }
     ensures grown { OnOk result (IsGrownSplit (length w1.old) (exchanges_in first.now) (exchanges_in second.now)
@@ -164,7 +164,7 @@ fn grown_halves(
     requires first_gains { NoExchangeGains (exchanges_in first.now) (weight_at w1.now) }
     requires second_gains { NoExchangeGains (exchanges_in second.now) (weight_at w2.now) }
     requires small { (x : ℕ) → x < length w1.now → IsWeightWithin largest_weight (weight_at w1.now x ⊕ weight_at w2.now x) }
-    requires second_small { AreWeightsWithin largest_split w2.now }
+    requires second_small { AreWeightsWithin split_room w2.now }
     ensures first_length { IfOk result (λ halves. length halves.0 ≡ length w1.now) }
     ensures second_length { IfOk result (λ halves. length halves.1 ≡ length w1.now) }
     ensures grown { IfOk result (λ halves. IsGrownSplit (length w1.now) (exchanges_in first.now) (exchanges_in second.now)
@@ -199,7 +199,7 @@ pub fn grow(
     requires first_gains { NoExchangeGains (exchanges_in first.now) (weight_at w1.now) }
     requires second_gains { NoExchangeGains (exchanges_in second.now) (weight_at w2.now) }
     requires small { (x : ℕ) → x < length w1.now → IsWeightWithin largest_weight (weight_at w1.now x ⊕ weight_at w2.now x) }
-    requires second_small { AreWeightsWithin largest_split w2.now }
+    requires second_small { AreWeightsWithin split_room w2.now }
     ensures grown { IfOk result (IsGrown (length w1.now) (exchanges_in first.now) (exchanges_in second.now) w1.now w2.now) }
     ensures stuck { IfOk result (λ grown. (is_stuck grown.found ≡ true)
         ↔ HasNoTightPath (length w1.now) (exchanges_in first.now) (exchanges_in second.now) (weight_at grown.first) (weight_at grown.second)) }

@@ -1,4 +1,5 @@
--- The bounds that hold of every problem: those of its size, of its weights, and of the weights that splits are made of.
+-- The bounds of problems and of what is asked of them: sizes, weights, the weights that splits are made of, and the room that these have while
+-- they change.
 use Rattle.std.specs.Prelude.{ℕ, ◌^◌}
 
 -- the most elements, and so the most edges, arcs or cells of a form
@@ -25,10 +26,7 @@ largest_weight = 10 ^ 12
 abbrev pub largest_number : ℕ
 largest_number = 10 ^ 30
 
--- the largest number of a weight of the second part of a rung's split, and with a `-` the smallest
-abbrev pub largest_split : ℕ
-largest_split = 10 ^ 25
-
--- the largest number of a change of the weights of a split, and with a `-` the smallest
-abbrev pub largest_change : ℕ
-largest_change = 10 ^ 31
+-- how far from 0 a number of the second part of a split may be where its weights begin to change: above what any printed rung has, and so far
+-- below largest_number that the changes stay within that
+abbrev pub split_room : ℕ
+split_room = 10 ^ 25

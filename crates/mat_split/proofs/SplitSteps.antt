@@ -3,7 +3,7 @@
 use Rattle.std.proofs.Common.{Vec, Global, ◌≡◌, ℕ, suc, ◌+◌, ◌*◌, ◌^◌, ◌≤◌, Bool, List, length, Option, None, ap, ◌∙◌, subst, arith}
 use Rattle.std.proofs.Math.Nat.{mul-le-mul_left}
 use Rattle.std.proofs.lemmas.Nat.{mul-le}
-use Rattle.mat_sets.specs.Limits.{most_elements, largest_split}
+use Rattle.mat_sets.specs.Limits.{most_elements, split_room}
 use Rattle.mat_sets.proofs.Ground.{IsSet-length}
 use Rattle.mat_sets.specs.Weights.{weight_at, AreWeightsWithin}
 use Rattle.mat_sets.specs.declared.weight.Weight.{Weight}
@@ -28,7 +28,7 @@ use Rattle.mat_exchange.proofs.WeightBounds.{IsWeightWithin-weaken, AreWeightsWi
 use Rattle.mat_split.specs.Augmenting.{IsSplitRung, size_bound, weights_of}
 use Rattle.mat_split.specs.declared.ladder.Rung.{Rung}
 
-bound_fits : (n k : ℕ) → n ≤ most_elements → k ≤ n → size_bound n k ≤ largest_split
+bound_fits : (n k : ℕ) → n ≤ most_elements → k ≤ n → size_bound n k ≤ split_room
 bound_fits n k hn hk =
     let a = mul-le (n + 1) (n + 1) 501 501 (omega arith) (omega arith) in
     let b = mul-le ((n + 1) * (n + 1)) k (501 * 501) 500 a (omega arith) in
@@ -57,11 +57,11 @@ module _ {n : ℕ} {p q : List ℕ → Bool} {rung : Rung} (first_laws : IsMatro
   second_bounded : AreWeightsWithin (size_bound n (length rung.set)) rung.second
   second_bounded = AreWeightsWithin-from (size_bound n (length rung.set)) n rung.second s.second_length s.at.split.within
 
-  pub second_small : {d : List Weight} → d ≡ rung.second → AreWeightsWithin largest_split d
+  pub second_small : {d : List Weight} → d ≡ rung.second → AreWeightsWithin split_room d
   second_small same =
       let fits = bound_fits n (length rung.set) few (IsSet-length n rung.set (first_laws.sets rung.set s.at.first.passes)) in
-      rw same (AreWeightsWithin-from largest_split n rung.second s.second_length
-      (λ x l. IsWeightWithin-weaken (size_bound n (length rung.set)) largest_split (weight_at rung.second x) fits (s.at.split.within x l)))
+      rw same (AreWeightsWithin-from split_room n rung.second s.second_length
+      (λ x l. IsWeightWithin-weaken (size_bound n (length rung.set)) split_room (weight_at rung.second x) fits (s.at.split.within x l)))
 
   -- what it gives, at the exchanges of the matroids
   module _ {m : ℕ} {t1 t2 : List Exchange} {d1 d2 : List Weight} {g : Grown} (ground_size : m ≡ n) (told1 : t1 ≡ rows_of n p rung.set)
