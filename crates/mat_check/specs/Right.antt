@@ -5,14 +5,14 @@ use Rattle.mat_sets.specs.Graphs.{ends_of, IsUnentered}
 use Rattle.mat_sets.specs.Sets.{all_below}
 use Rattle.mat_sets.specs.Weights.{weight, weight_at}
 use Rattle.mat_sets.specs.declared.weight.Weight.{Weight}
-use Rattle.mat_laws.specs.Matroids.{IsBase}
+use Rattle.mat_laws.specs.Matroids.{IsBase, IsLoop}
 use Rattle.mat_laws.specs.Heaviest.{IsHeaviest}
 use Rattle.mat_laws.specs.Ladders.{IsRung, IsCut}
 use Rattle.mat_laws.specs.Ranks.{rank}
 use Rattle.mat_graphic.specs.Forests.{is_graphic}
 use Rattle.mat_union.specs.RightUnions.{IsRightUnion}
 use Rattle.mat_union.specs.declared.best.Level.{Level}
-use Rattle.mat_packing.specs.Packings.{IsLoop, IsRightCovering, IsRightPacking}
+use Rattle.mat_packing.specs.Packings.{IsRightCovering, IsRightPacking}
 use Rattle.mat_packing.specs.Trees.{AreTrees, IsRightPartition}
 use Rattle.mat_arbor.specs.Arborescences.{IsSplitArborescence}
 use Rattle.mat_branch.specs.Arborescences.{AreDisjointArborescences, IsSeldomEntered}

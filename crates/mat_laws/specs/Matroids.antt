@@ -1,5 +1,5 @@
 -- Matroids on the numbers below n, each by its test of independence (Schrijver, chapter 39).
-use Rattle.std.specs.Prelude.{◌≡◌, ℕ, ◌<◌, Bool, true, false, List, [], length}
+use Rattle.std.specs.Prelude.{◌≡◌, ℕ, ◌<◌, Bool, true, false, List, [], ◌∷◌, length}
 use Rattle.mat_sets.specs.Sets.{is_member, IsRising, IsSet, IsSubset, with_one}
 
 -- an element of J outside I whose addition keeps I independent
@@ -27,3 +27,7 @@ pub record IsMaximal (independent : List ℕ → Bool) (X I : List ℕ) : Type 0
 pub record IsBase (n : ℕ) (independent : List ℕ → Bool) (B : List ℕ) : Type 0 where
   pub passes : independent B ≡ true
   pub full : (x : ℕ) → x < n → is_member x B ≡ false → independent (with_one B x) ≡ false
+
+-- a loop: an element that is dependent alone
+abbrev pub IsLoop : ℕ → (List ℕ → Bool) → ℕ → Type 0
+IsLoop n independent x = (x < n) × (independent (x ∷ []) ≡ false)

@@ -11,14 +11,14 @@ use Rattle.mat_sets.proofs.Subsets.{IsSubset-trans, intersection-left, intersect
 use Rattle.mat_sets.proofs.Cardinalities.{length-minus-intersection}
 use Rattle.mat_sets.proofs.Equalities.{intersection-subset}
 use Rattle.mat_sets.proofs.Ground.{below_member, IsRising-all_below, IsSubset-all_below}
-use Rattle.mat_laws.specs.Matroids.{IsMatroid}
+use Rattle.mat_laws.specs.Matroids.{IsMatroid, IsLoop}
 use Rattle.mat_laws.specs.Ranks.{rank}
 use Rattle.mat_laws.proofs.Independent.{rising, below}
 use Rattle.mat_laws.proofs.Maximal.{IsMaximal-base}
 use Rattle.mat_laws.proofs.RankLaws.{rank_is, rank-maximal}
 use Rattle.mat_union.specs.Unions.{part_at, test_at, AreMatroids, AreParts, ranks_sum}
 use Rattle.mat_union.specs.PartListLaws.{cut_bounds, ranks_reached}
-use Rattle.mat_packing.specs.Packings.{AreBases, IsCover, IsCoverCut, IsLoop, IsRightPacking}
+use Rattle.mat_packing.specs.Packings.{AreBases, IsCover, IsCoverCut, IsRightPacking}
 
 -- as many copies of a test
 abbrev pub copies : (List ℕ → Bool) → ℕ → List (List ℕ → Bool)

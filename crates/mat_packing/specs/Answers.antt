@@ -2,8 +2,9 @@
 use Rattle.std.specs.Prelude.{◌≡◌, ◌≢◌, ℕ, ◌<◌, Bool, true, false, List, [], ◌∷◌, length, MatchOption}
 use Rattle.mat_sets.specs.Graphs.{ends_of}
 use Rattle.mat_sets.specs.Sets.{all_below}
+use Rattle.mat_laws.specs.Matroids.{IsLoop}
 use Rattle.mat_laws.specs.Ranks.{rank}
-use Rattle.mat_packing.specs.Packings.{IsLoop, IsRightCovering, IsRightPacking}
+use Rattle.mat_packing.specs.Packings.{IsRightCovering, IsRightPacking}
 use Rattle.mat_packing.specs.Trees.{AreTrees, IsRightPartition}
 use Rattle.mat_packing.specs.declared.packing.Packing.{Packing}
 use Rattle.mat_packing.specs.declared.packing.Packing.TheVariants.{Any, Most}

@@ -1,5 +1,5 @@
 -- Packings of disjoint bases and coverings by independent sets (Edmonds; Schrijver, chapter 42).
-use Rattle.std.specs.Prelude.{◌≡◌, ℕ, ◌<◌, ◌+◌, ◌-◌, ◌*◌, Bool, true, false, List, [], ◌∷◌, length, Option, MatchOption}
+use Rattle.std.specs.Prelude.{◌≡◌, ℕ, ◌<◌, ◌+◌, ◌-◌, ◌*◌, Bool, true, List, length, Option, MatchOption}
 use Rattle.mat_sets.specs.Sets.{all_below, is_member, minus, IsSet}
 use Rattle.mat_sets.specs.Families.{AreDisjoint, family_union}
 use Rattle.mat_laws.specs.Matroids.{IsBase}
@@ -31,7 +31,3 @@ pub record IsCoverCut (n : ℕ) (independent : List ℕ → Bool) (sets : ℕ) (
 pub record IsRightCovering (n : ℕ) (independent : List ℕ → Bool) (sets : List (List ℕ)) (cut : Option (List ℕ)) : Type 0 where
   pub cover : IsCover n independent sets
   pub least : MatchOption cut (length sets ≡ 0) (λ A. (0 < length sets) × IsCoverCut n independent (length sets) A)
-
--- an element that is dependent alone
-abbrev pub IsLoop : ℕ → (List ℕ → Bool) → ℕ → Type 0
-IsLoop n independent x = (x < n) × (independent (x ∷ []) ≡ false)

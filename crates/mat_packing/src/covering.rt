@@ -3,9 +3,9 @@ ghost use Rattle.std.specs.Prelude.{◌≡◌, ◌≢◌, ◌<◌, ◌≤◌, tr
 ghost use Rattle.mat_sets.specs.Limits.{most_elements};
 ghost use Rattle.mat_sets.specs.Families.{family_union};
 ghost use Rattle.mat_sets.specs.Sets.{IsSet};
+ghost use Rattle.mat_laws.specs.Matroids.{IsLoop};
 ghost use Rattle.mat_laws.specs.Ranks.{rank};
 ghost use Rattle.mat_packing.specs.Answers.{HasNoLoop, IsRightCoveringAnswer};
-ghost use Rattle.mat_packing.specs.Packings.{IsLoop};
 ghost use Rattle.mat_packing.specs.Rooms.{IsEnough};
 
 use crate::filling::fill_copies;

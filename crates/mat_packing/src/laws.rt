@@ -3,9 +3,9 @@
 
 ghost use Rattle.std.specs.Prelude.{◌≡◌, ◌<◌, ◌≤◌, ℕ, List, Bool, true, [], length};
 ghost use Rattle.mat_sets.specs.Sets.{all_below};
-ghost use Rattle.mat_laws.specs.Matroids.{IsMatroid};
+ghost use Rattle.mat_laws.specs.Matroids.{IsMatroid, IsLoop};
 ghost use Rattle.mat_laws.specs.Ranks.{rank};
-ghost use Rattle.mat_packing.specs.Packings.{AreBases, IsCover, IsCoverCut, IsLoop, IsRightPacking};
+ghost use Rattle.mat_packing.specs.Packings.{AreBases, IsCover, IsCoverCut, IsRightPacking};
 ghost use Rattle.mat_packing.specs.Trees.{AreTrees, IsRightPartition};
 
 /// No matroid has more disjoint bases than a right packing (Edmonds; Schrijver, chapter 42).

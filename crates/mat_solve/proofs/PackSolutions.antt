@@ -12,11 +12,11 @@ use Rattle.mat_sets.proofs.Cardinalities.{length-minus-intersection}
 use Rattle.mat_sets.proofs.Ground.{IsSet-length, below_member}
 use Rattle.mat_sets.proofs.Families.{IsSet-family_union}
 use Rattle.mat_sets.proofs.Members.{member_from_some, only_member}
-use Rattle.mat_laws.specs.Matroids.{IsMatroid}
+use Rattle.mat_laws.specs.Matroids.{IsMatroid, IsLoop}
 use Rattle.mat_laws.specs.Ranks.{rank}
 use Rattle.mat_laws.proofs.RankLaws.{rank_is}
 use Rattle.mat_packing.specs.Answers.{HasNoLoop}
-use Rattle.mat_packing.specs.Packings.{IsLoop, IsCoverCut, IsRightCovering, IsRightPacking}
+use Rattle.mat_packing.specs.Packings.{IsCoverCut, IsRightCovering, IsRightPacking}
 use Rattle.mat_packing.proofs.Copies.{bases_count}
 use Rattle.mat_any.specs.Trees.{Tree, is_independent}
 use Rattle.mat_desc.specs.Grammar.{IsValid}

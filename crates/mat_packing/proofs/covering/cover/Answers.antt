@@ -4,9 +4,9 @@ use Rattle.std.proofs.Common.{◌∙◌, ◌-◌, ◌<◌, ap, arith, length, su
 use Rattle.std.specs.Prelude.{MatchOption}
 use Rattle.mat_sets.specs.Sets.{IsSet}
 use Rattle.mat_sets.proofs.Ground.{length-all_below, IsSet-length}
+use Rattle.mat_laws.specs.Matroids.{IsLoop}
 use Rattle.mat_laws.specs.Ranks.{rank}
 use Rattle.mat_packing.specs.Answers.{HasNoLoop}
-use Rattle.mat_packing.specs.Packings.{IsLoop}
 use Rattle.mat_packing.proofs.CoverCounts.{cut_long, more_needed, needed_at_most, right_covering, some_rank}
 use Rattle.mat_packing.proofs.covering.cover.Goals as goal
 
