@@ -16,7 +16,7 @@ use std::alloc::{AllocError, Global};
 
 /// A matroid of any kind, borrowed as one of a union.
 #[derive(Debug, Drop)]
-pub struct Part<'a> {
+pub(crate) struct Part<'a> {
     pub(crate) matroid: &'a AnyMatroid,
 }
 

@@ -15,7 +15,7 @@ pub use answer::{Answer, LevelLine, PlainRung, PricedRung};
 pub use refusal::{CertKind, CertRefusal, fault};
 
 // Reading an answer, and the lines of a text that goes with one.
-pub use read::{closed, counted_line, fixed_word, has_this_many, last_line, read_answer, set_line};
+pub use read::{closed, counted_line, fixed_word, last_line, read_answer, set_line};
 
 // Writing an answer, and the last line of a text that goes with one.
 pub use write::{put_end_line, write_answer};

@@ -12,4 +12,4 @@ mod words;
 pub use certificate::read_answer;
 pub use lines::{closed, counted_line, last_line};
 pub use sets::set_line;
-pub use words::{fixed_word, has_this_many};
+pub use words::fixed_word;

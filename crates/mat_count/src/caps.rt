@@ -2,7 +2,7 @@
 ghost use Rattle.std.specs.Prelude.{◌≡◌, ◌↔◌, ℕ, ◌<◌, ◌≤◌, length, slice_index, IsTrue};
 
 /// Whether each number is at most its cap.
-pub fn are_within(numbers: &[usize], caps: &[u32]) -> bool
+pub(crate) fn are_within(numbers: &[usize], caps: &[u32]) -> bool
     requires { length numbers.now ≡ length caps.now }
     ensures { IsTrue result ↔ ((i : ℕ) → i < length caps.now → slice_index numbers.now i ≤ slice_index caps.now i) }
 {

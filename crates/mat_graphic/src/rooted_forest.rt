@@ -200,7 +200,7 @@ fn explore_all(
 
 /// Roots the trees that the members of a set make of the vertices. The time is linear in the numbers of vertices and of
 /// members. The only error is want of memory.
-pub fn root_trees(
+pub(crate) fn root_trees(
     alloc: Global,
     vertices: u32,
     edges: &[(u32, u32)],
@@ -265,7 +265,7 @@ fn place_of(forest: &RootedForest, vertex: u32) -> usize
 /// The edges of the trail from one vertex to another, a walk along different edges of the forest; None where they are in
 /// different trees. The time is linear in the length of the trail, but for putting its edges in order, or in the distance
 /// to a root. The only error is want of memory.
-pub fn trail(
+pub(crate) fn trail(
     alloc: Global,
     forest: &RootedForest,
     from: u32,
@@ -300,7 +300,7 @@ fn root_above(forest: &RootedForest, place: usize) -> usize
 
 /// Whether two vertices are in one tree of the forest, by climbing from each to its root. The time is that of the ways to the roots; it takes no
 /// memory.
-pub fn are_joined(forest: &RootedForest, v: u32, w: u32) -> bool
+pub(crate) fn are_joined(forest: &RootedForest, v: u32, w: u32) -> bool
     requires order { IsOrder forest.now.place.items forest.now.order.items forest.now.through.items forest.now.before.items }
     requires first { is_member v forest.now.order.items ≡ true }
     requires second { is_member w forest.now.order.items ≡ true }

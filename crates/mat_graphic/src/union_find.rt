@@ -7,7 +7,7 @@ use std::alloc::{AllocError, Global};
 
 /// The table in which each vertex is a component of its own. The only error is want of memory.
 #[tactic(auto, using(crate::proofs::ParentTables::singletons))]
-pub fn singletons(alloc: Global, vertices: u32) -> Result<Vec<u32>, AllocError>
+pub(crate) fn singletons(alloc: Global, vertices: u32) -> Result<Vec<u32>, AllocError>
     ensures long { IfOk result (λ t. length t.items ≡ vertices) }
     ensures descending { IfOk result (λ t. IsDescending t.items) }
     ensures table { IfOk result (λ t. IsParentTable (λ v. v) t.items) }
@@ -21,7 +21,7 @@ pub fn singletons(alloc: Global, vertices: u32) -> Result<Vec<u32>, AllocError>
 
 /// The least vertex of the component of `start`. Every other vertex on the way gets the parent of its parent (path
 /// halving), so that many calls take logarithmic time each on average.
-pub fn find(parent: &mut [u32], start: u32) -> u32
+pub(crate) fn find(parent: &mut [u32], start: u32) -> u32
     requires descending { IsDescending parent.old }
     requires inside { start < length parent.old }
     ensures descending { IsDescending parent.new }
@@ -39,7 +39,7 @@ pub fn find(parent: &mut [u32], start: u32) -> u32
 }
 
 /// Makes one of the components of two vertices, and tells whether they were two.
-pub fn unite(parent: &mut [u32], a: u32, b: u32) -> bool
+pub(crate) fn unite(parent: &mut [u32], a: u32, b: u32) -> bool
     requires descending { IsDescending parent.old }
     requires first { a < length parent.old }
     requires second { b < length parent.old }
@@ -58,7 +58,7 @@ pub fn unite(parent: &mut [u32], a: u32, b: u32) -> bool
 }
 
 /// Makes each parent the least vertex of the component.
-pub fn settle(parent: &mut [u32])
+pub(crate) fn settle(parent: &mut [u32])
     requires { IsDescending parent.old }
     ensures { (least : ℕ → ℕ) → IsParentTable least parent.old → (v : ℕ) → v < length parent.new
         → slice_index parent.new v ≡ least v }

@@ -21,8 +21,8 @@ pub fn items_in(alloc: Global, order: &[u32], set: &ElemSet) -> Result<Vec<u32>,
     Ok(items)
 }
 
-/// The items of an order that are not in a set, in their order. The only error is want of memory.
-pub fn items_outside(alloc: Global, order: &[u32], set: &ElemSet) -> Result<Vec<u32>, AllocError>
+// The items of an order that are not in a set, in their order. The only error is want of memory.
+fn items_outside(alloc: Global, order: &[u32], set: &ElemSet) -> Result<Vec<u32>, AllocError>
     ensures { IfOk result (λ v. v.items ≡ filter (λ x. not (is_member x set.now)) order.now) }
 {
     let mut items = Vec::new(alloc);

@@ -33,7 +33,7 @@ fn stands_at(items: &[u32], at: usize, x: u32) -> bool
 
 /// The items of a that are not in b. The time is linear in both lengths. The only error is want of memory.
 #[tactic(auto, using(crate::proofs::Places::merging))]
-pub fn difference(alloc: Global, a: &[u32], b: &[u32]) -> Result<Vec<u32>, AllocError>
+pub(crate) fn difference(alloc: Global, a: &[u32], b: &[u32]) -> Result<Vec<u32>, AllocError>
     requires a_rises { IsRising a.now }
     requires b_rises { IsRising b.now }
     ensures { IfOk result (λ v. v.items ≡ minus a.now b.now) }
@@ -51,7 +51,7 @@ pub fn difference(alloc: Global, a: &[u32], b: &[u32]) -> Result<Vec<u32>, Alloc
 
 /// The items of a and those of b, each once, in rising order. The time is linear in both lengths. The only error is
 /// want of memory.
-pub fn merged(alloc: Global, a: &[u32], b: &[u32]) -> Result<Vec<u32>, AllocError>
+pub(crate) fn merged(alloc: Global, a: &[u32], b: &[u32]) -> Result<Vec<u32>, AllocError>
     requires a_rises { IsRising a.now }
     requires b_rises { IsRising b.now }
     ensures { IfOk result (λ v. v.items ≡ union a.now b.now) }
@@ -80,7 +80,7 @@ pub fn merged(alloc: Global, a: &[u32], b: &[u32]) -> Result<Vec<u32>, AllocErro
 
 /// Whether each item of a is one of b. The time is linear in both lengths.
 #[tactic(auto, using(crate::proofs::Places::merging, crate::proofs::Steps::set_steps))]
-pub fn is_subset(a: &[u32], b: &[u32]) -> bool
+pub(crate) fn is_subset(a: &[u32], b: &[u32]) -> bool
     requires a_rises { IsRising a.now }
     requires b_rises { IsRising b.now }
     ensures { IsTrue result ↔ IsSubset a.now b.now }
@@ -97,7 +97,7 @@ pub fn is_subset(a: &[u32], b: &[u32]) -> bool
 
 /// Whether a and b share no item. The time is linear in both lengths.
 #[tactic(auto, using(crate::proofs::Places::merging, crate::proofs::Steps::set_steps))]
-pub fn is_disjoint(a: &[u32], b: &[u32]) -> bool
+pub(crate) fn is_disjoint(a: &[u32], b: &[u32]) -> bool
     requires a_rises { IsRising a.now }
     requires b_rises { IsRising b.now }
     ensures { IsTrue result ↔ (intersection a.now b.now ≡ []) }

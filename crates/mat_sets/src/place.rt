@@ -4,7 +4,7 @@ ghost use Rattle.mat_sets.specs.Places.{IsGap, IsPlace};
 ghost use Rattle.mat_sets.specs.Sets.{IsRising};
 
 /// The place of x, or where it would stand, by binary search.
-pub fn place(items: &[u32], x: u32) -> Result<usize, usize>
+pub(crate) fn place(items: &[u32], x: u32) -> Result<usize, usize>
     requires { IsRising items.now }
     ensures { MatchResult result (IsPlace items.now x) (IsGap items.now x) }
 {
@@ -12,7 +12,7 @@ pub fn place(items: &[u32], x: u32) -> Result<usize, usize>
 }
 
 /// The place of x, or where it would stand, found at once where it is above all items.
-pub fn place_to_add(items: &[u32], x: u32) -> Result<usize, usize>
+pub(crate) fn place_to_add(items: &[u32], x: u32) -> Result<usize, usize>
     requires { IsRising items.now }
     ensures { MatchResult result (IsPlace items.now x) (IsGap items.now x) }
 {

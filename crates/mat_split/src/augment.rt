@@ -18,7 +18,7 @@ use std::thread::Threads;
 /// Schrijver, chapter 41). The two weights change while one reached set grows; where then a tight path is found, the set is
 /// exchanged along it, and otherwise the reached set is the cut. The rows of each matroid are computed by so many workers, from what it
 /// keeps of the rung's set. The time is that of the rows of the two matroids and of the pairs of elements. The only error is want of memory.
-pub fn augment<R: Threads + Sync, A: Matroid, B: Matroid>(
+pub(crate) fn augment<R: Threads + Sync, A: Matroid, B: Matroid>(
     rt: &R,
     alloc: Global,
     a: &A,

@@ -5,7 +5,7 @@ use mat_sets::ElemSet;
 
 /// The heaviest common independent set of one more element, or the proof that there is none.
 #[derive(Debug, Drop)]
-pub enum Augmented {
+pub(crate) enum Augmented {
     /// A rung of one more element.
     Larger(Rung),
     /// The set was the last: a cut that proves it.

@@ -9,7 +9,11 @@ use std::alloc::{AllocError, Global};
 
 /// The set after an exchange along a path: each vertex of the path that is a member is taken out, and each other one is added (Frank
 /// 1981). One removal or insertion for each vertex. The only error is want of memory.
-pub fn exchange_along(alloc: Global, set: &ElemSet, path: &[u32]) -> Result<ElemSet, AllocError>
+pub(crate) fn exchange_along(
+    alloc: Global,
+    set: &ElemSet,
+    path: &[u32],
+) -> Result<ElemSet, AllocError>
     ensures set { IfOk result (λ s. s ≡ exchanged_along set.now path.now) }
     ensures rises { IfOk result (λ s. IsRising s) }
 {

@@ -6,7 +6,7 @@ use mat_sets::{ElemSet, SetList};
 use std::alloc::{AllocError, Global};
 
 /// So many empty sets. The only error is want of memory.
-pub fn empty_parts(alloc: Global, count: usize) -> Result<SetList, AllocError>
+pub(crate) fn empty_parts(alloc: Global, count: usize) -> Result<SetList, AllocError>
     ensures long { IfOk result (λ parts. length parts ≡ count) }
     ensures empty { IfOk result (λ parts. (i : ℕ) → part_at parts i ≡ []) }
 {

@@ -20,7 +20,6 @@ mod union_of;
 
 // Best and filled parts, and the union as a matroid.
 pub use best::{Level, UnionAnswer, best_union};
-pub use empty::empty_parts;
 pub use filling::{Filled, fill_parts};
 pub use moved_sets::members_of;
 pub use union_of::UnionOf;

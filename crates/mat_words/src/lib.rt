@@ -24,7 +24,7 @@ mod writing;
 
 pub use binary::put_binary;
 pub use cursor::{LineCursor, WordCursor};
-pub use lines::{line_laws, next_line, split_line};
+pub use lines::{line_laws, next_line};
 pub use names::{LONGEST_NAME, Names};
 pub use numbers::{NumberFault, number_laws, put_number, read_number, spell_into};
 pub use reading::{

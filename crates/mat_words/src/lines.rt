@@ -20,7 +20,7 @@ pub fn next_line(text: &[u8], from: usize) -> Option<usize>
 
 /// The first line, without its byte 10, and what stands after that byte. None where no byte 10 is left. It takes no memory.
 #[tactic(auto, using(crate::proofs::Splitting::some_parts))]
-pub fn split_line(text: &[u8]) -> Option<(&[u8], &[u8])>
+pub(crate) fn split_line(text: &[u8]) -> Option<(&[u8], &[u8])>
     ensures lines { MatchOption result (lines_of text.now ≡ text.now ∷ [])
         (λ x. lines_of text.now ≡ x.0.now ∷ lines_of x.1.now) }
     ensures more { IfSome result (λ x. 0 < length (lines_of x.1.now)) }

@@ -30,7 +30,7 @@ pub(crate) fn are_this_many(words: WordCursor<'_>, many: u32) -> bool
 
 /// Exactly so many words have to be left of a line: else it is [`CertKind::WrongCount`].
 #[tactic(auto, unfolding(crate::specs::LineReading::has_words))]
-pub fn has_this_many(words: WordCursor<'_>, many: u32) -> Result<(), CertRefusal>
+pub(crate) fn has_this_many(words: WordCursor<'_>, many: u32) -> Result<(), CertRefusal>
     ensures { Gives (λ x. x) result (has_words many (words_left words.entry)) }
 {
     if are_this_many(words, many) {

@@ -5,7 +5,7 @@ ghost use Rattle.mat_desc.specs.Reading.{keyword_of, form_of, version_of};
 
 /// The version of a description.
 #[derive(Clone, Copy)]
-pub enum Version {
+pub(crate) enum Version {
     /// Elements and vertices are numbers: `1`.
     One,
     /// Elements and vertices have names: `2`.
@@ -14,7 +14,7 @@ pub enum Version {
 
 /// The form of a problem.
 #[derive(Clone, Copy)]
-pub enum Form {
+pub(crate) enum Form {
     /// Two weighted matroids: `pair`.
     Pair,
     /// A list of weighted matroids: `list`.
@@ -31,7 +31,7 @@ pub enum Form {
 
 /// The kind of a matroid.
 #[derive(Clone, Copy)]
-pub enum Keyword {
+pub(crate) enum Keyword {
     /// `uniform`: sets of at most so many elements.
     Uniform,
     /// `partition`: sets of at most so many elements of each class.
