@@ -65,6 +65,7 @@ impl Linker {
         ensures answer { IfOk result (λ found. (ends : List ℕ) → IsLinker graph.now.vertices graph.now.arcs sources.now ends self.old
             → (found ≡ true) ↔ ((is_member v ends ≡ false) × HasPathsToEach graph.now.arcs sources.now (with_one ends v))) }
     {
+        // (asking for the number of vertices tells the proof that the ends of the arcs are below it)
         let _ = graph.vertices();
         let residual = TurnedResidual {
             back,

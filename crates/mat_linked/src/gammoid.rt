@@ -252,6 +252,7 @@ impl Gammoid {
         ensures sound { IfOk result (λ g. IsGammoid g.vertices g.arcs g.sources g.targets) }
     {
         let back = graph.turned(alloc)?;
+        // (asking for the number of vertices tells the proof that the ends of the arcs are below it)
         let _ = graph.vertices();
         let starts = sources.to_bits(alloc)?;
         Ok(Gammoid {

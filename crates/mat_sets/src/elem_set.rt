@@ -95,6 +95,7 @@ impl ElemSet {
     pub fn rises(&self)
         ensures { IsRising self.now }
     {
+        // (reading the items tells the proof what the type keeps of them)
         let _ = &self.items;
     }
 

@@ -44,12 +44,11 @@ fn elements_of(alloc: Global, weights: &[Weight], at: Weight) -> Result<ElemSet,
 }
 
 // The number of elements of matroids that have n each.
-fn common_size<M: Matroid>(matroids: &[M], n: usize) -> u32
+fn common_size<M: Matroid>(matroids: &[M], _n: usize) -> u32
     requires some { 0 < length matroids.now }
-    requires sound { AreSound M.ground_size M.sound n matroids.now }
-    ensures { result ≡ n }
+    requires sound { AreSound M.ground_size M.sound _n matroids.now }
+    ensures { result ≡ _n }
 {
-    let _size = n;
     matroids[0].size()
 }
 

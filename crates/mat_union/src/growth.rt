@@ -32,11 +32,10 @@ pub struct Growth<K: Drop> {
 }
 
 /// The laws hold of each of these matroids.
-pub(crate) fn all_lawful<M: Asked>(matroids: &[M], n: u32)
-    requires sound { AreSound M.ground_size M.sound n matroids.now }
-    ensures { AreMatroids n (map M.indep matroids.now) }
+pub(crate) fn all_lawful<M: Asked>(matroids: &[M], _n: u32)
+    requires sound { AreSound M.ground_size M.sound _n matroids.now }
+    ensures { AreMatroids _n (map M.indep matroids.now) }
 {
-    let _size = n;
     for i in 0..matroids.len() {
         matroids[i].obeys();
     }
@@ -70,13 +69,12 @@ pub(crate) fn keep_all<M: Asked>(
     alloc: Global,
     matroids: &[M],
     parts: &SetList,
-    n: u32,
+    _n: u32,
 ) -> Result<Vec<M::Kept>, AllocError>
-    requires sound { AreSound M.ground_size M.sound n matroids.now }
+    requires sound { AreSound M.ground_size M.sound _n matroids.now }
     requires parts { AreParts (map M.indep matroids.now) parts.now }
     ensures { IfOk result (λ kept. AreKept M.keeps matroids.now parts.now kept.items) }
 {
-    let _size = n;
     let mut kept = Vec::new(alloc);
     for i in 0..matroids.len() {
         kept.push(matroids[i].keep_of(alloc, parts.get(i))?)?;
@@ -162,15 +160,14 @@ fn keep_changed<M: Asked>(
     old: &SetList,
     new: &SetList,
     kept: &mut Vec<M::Kept>,
-    n: u32,
+    _n: u32,
 ) -> Result<(), AllocError>
-    requires sound { AreSound M.ground_size M.sound n matroids.now }
+    requires sound { AreSound M.ground_size M.sound _n matroids.now }
     requires before { AreParts (map M.indep matroids.now) old.now }
     requires parts { AreParts (map M.indep matroids.now) new.now }
     requires kept { AreKept M.keeps matroids.now old.now kept.old.items }
     ensures { OnOk result (AreKept M.keeps matroids.now new.now kept.new.items) }
 {
-    let _size = n;
     for i in 0..matroids.len() {
         if is_changed(old, new, i) {
             let one = matroids[i].keep_next_of(alloc, old.get(i), &kept[i], new.get(i))?;
@@ -186,18 +183,17 @@ fn part_that_takes<M: Asked>(
     matroids: &[M],
     parts: &SetList,
     kept: &[M::Kept],
-    n: u32,
+    _n: u32,
     x: u32,
 ) -> Result<Option<u32>, AllocError>
     requires few { length matroids.now < 2 ^ 32 }
-    requires sound { AreSound M.ground_size M.sound n matroids.now }
+    requires sound { AreSound M.ground_size M.sound _n matroids.now }
     requires parts { AreParts (map M.indep matroids.now) parts.now }
     requires kept { AreKept M.keeps matroids.now parts.now kept.now }
-    requires below { x < n }
+    requires below { x < _n }
     ensures below { IfOk result (λ found. IfSome found (λ q. q < length parts.now)) }
     ensures takes { IfOk result (λ found. IfSome found (λ q. (exchanges_with (map M.indep matroids.now) parts.now q).adds x ≡ true)) }
 {
-    let _size = n;
     for i in 0..matroids.len() {
         let row = row_at(alloc, &matroids[i], parts.get(i), &kept[i], x)?;
         if row.addable {

@@ -27,15 +27,14 @@ pub struct KeptParts<K: Drop> {
 fn greedy_parts<M: Asked>(
     alloc: Global,
     matroids: &[M],
-    n: u32,
+    _n: u32,
     set: &ElemSet,
 ) -> Result<SetList, AllocError>
-    requires sound { AreSound M.ground_size M.sound n matroids.now }
-    requires below { AllBelow n set.now }
+    requires sound { AreSound M.ground_size M.sound _n matroids.now }
+    requires below { AllBelow _n set.now }
     ensures are { IfOk result (λ parts. AreParts (map M.indep matroids.now) parts) }
     ensures inside { IfOk result (λ parts. IsSubset (family_union parts) set.now) }
 {
-    let _size = n;
     let mut parts = Vec::new(alloc);
     let mut rest = set.copy(alloc)?;
     for i in 0..matroids.len() {

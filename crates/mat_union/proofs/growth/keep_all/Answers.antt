@@ -9,7 +9,7 @@ pub get-requires : goal.get-requires
 get-requires g c = (let e = parts_count g.M.Asked.indep c.args.matroids.now c.args.parts.now c.requires.parts in omega (arith, c.loop-i-test.true))
 
 pub keep_of-requires-clause-sound : goal.keep_of-requires-clause-sound
-keep_of-requires-clause-sound g c = (sound_at g.M.Asked.ground_size g.M.Asked.sound c.args.n c.args.matroids.now c.requires.sound c.loop-i.i c.index-matroids-i.result c.loop-i-test.true c.index-matroids-i.is).0
+keep_of-requires-clause-sound g c = (sound_at g.M.Asked.ground_size g.M.Asked.sound c.args._n c.args.matroids.now c.requires.sound c.loop-i.i c.index-matroids-i.result c.loop-i-test.true c.index-matroids-i.is).0
 
 pub keep_of-requires-clause-base : goal.keep_of-requires-clause-base
 keep_of-requires-clause-base g c = part_passes g.M.Asked.indep c.args.matroids.now c.args.parts.now c.requires.parts c.loop-i.i c.index-matroids-i.result c.get.result.now c.loop-i-test.true c.index-matroids-i.is c.get.ensures.item

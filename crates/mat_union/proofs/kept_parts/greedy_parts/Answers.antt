@@ -12,8 +12,8 @@ loop-i-init g c = taken_none (map g.M.Asked.indep c.args.matroids.now) c.args.se
 
 pub base_within-requires-clause-below : goal.base_within-requires-clause-below
 base_within-requires-clause-below g c =
-    let at = sound_at g.M.Asked.ground_size g.M.Asked.sound c.args.n c.args.matroids.now c.requires.sound c.loop-i.i c.index-matroids-i.result c.loop-i-test.true c.index-matroids-i.is in
-    subst (λ k. AllBelow k c.loop-i.rest) (sym at.1) (rest_below c.loop-i.invariant c.args.n c.requires.below)
+    let at = sound_at g.M.Asked.ground_size g.M.Asked.sound c.args._n c.args.matroids.now c.requires.sound c.loop-i.i c.index-matroids-i.result c.loop-i-test.true c.index-matroids-i.is in
+    subst (λ k. AllBelow k c.loop-i.rest) (sym at.1) (rest_below c.loop-i.invariant c.args._n c.requires.below)
 
 pub loop-i-preserved : goal.loop-i-preserved
 loop-i-preserved g c = taken_more c.loop-i.invariant (g.M.Asked.indep c.index-matroids-i.result) c.in_ok-part.part

@@ -163,6 +163,7 @@ pub(crate) fn closing_bound(
     ensures { IfOk result (λ found. found ≡ (if are_closed_off matroid.now.arcs matroid.now.sources (vertices_of matroid.now.targets set.now)
         reach.now closing.now then Some (length closing.now) else None)) }
 {
+    // (asking for the number of vertices tells the proof that the ends of the arcs are below it)
     let _ = matroid.graph().vertices();
     let reached = reach.to_bits(alloc)?;
     let closed = closing.to_bits(alloc)?;
