@@ -1,4 +1,5 @@
-//! The elements outside a reached set that a change of the weights lets in, each with the greatest of its gains.
+//! The elements outside a reached set that a change of the weights lets in, each with the greatest of its gains: the frontier and the keys of
+//! Dijkstra's algorithm, as the Hungarian method runs it (Schrijver, chapters 7 and 17).
 ghost use Rattle.std.specs.Prelude.{◌≡◌, ◌&&◌, ◌==◌, if◌then◌else◌, ◌<◌, ◌≤◌, ℕ, true, length, OnOk};
 ghost use Rattle.mat_sets.specs.Bits.{bits_of};
 ghost use Rattle.mat_sets.specs.Limits.{largest_number, most_elements};
@@ -27,7 +28,7 @@ fn gain_of(weights: &[Weight], x: u32, z: u32, inside: bool) -> Weight
     }
 }
 
-/// Offers a gain to z, which keeps the greatest.
+/// Offers a gain to z, which keeps the greatest: an arc to z is relaxed.
 fn offer_one(
     fringe: &mut BitSet,
     gains: &mut [Weight],
@@ -47,7 +48,7 @@ fn offer_one(
     Ok(())
 }
 
-/// Offers to each candidate outside the reached set its gain from x. The candidates are bits.
+/// Offers to each candidate outside the reached set its gain from x, so that the arcs from x are relaxed. The candidates are bits.
 pub(crate) fn offer(
     candidates: &[u64],
     others: &BitSet,

@@ -30,6 +30,7 @@ fn is_before(slack: Option<Weight>, step: Weight) -> Option<Weight>
 }
 
 /// The step of least change after the change so far: an element of the fringe, which enters where its gain is used up, or a sink of this slack.
+/// So Dijkstra's algorithm takes the vertex of least key out of its frontier.
 pub(crate) fn next_step(
     fringe: &BitSet,
     gains: &[Weight],

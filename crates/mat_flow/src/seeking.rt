@@ -1,4 +1,4 @@
-//! The search that ends at the first goal that it meets, among vertices that no search before has reached in vain (Schrijver, chapter 6).
+//! The breadth-first search that ends at the first goal that it meets, among vertices that no search before has reached in vain (Schrijver, chapter 6).
 ghost use Rattle.std.specs.Prelude.{◌≡◌, ◌<◌, ◌||◌, ◌^◌, ℕ, Bool, List, true, length, IfOk, OnOk};
 ghost use Rattle.mat_sets.specs.Sets.{is_member, all_below, IsRising};
 ghost use Rattle.mat_flow.specs.Seeking.{found_in, live_in, IsChain, IsFollowed, IsRoom, IsSought, IsTake, IsTraced};

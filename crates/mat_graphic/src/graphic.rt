@@ -166,8 +166,8 @@ impl Matroid for Graphic {
     }
 
     /// The greedy run along an order, by one union-find: an edge enters where its ends are in two components of those
-    /// before it (Schrijver, chapter 50). The time is nearly linear in the number of vertices and of edges, but for
-    /// putting the edges in order. The only error is want of memory.
+    /// before it, as in Kruskal's algorithm (Schrijver, chapter 50). The time is nearly linear in the number of vertices and
+    /// of edges, but for putting the edges in order. The only error is want of memory.
     fn run(&self, alloc: Global, order: &[u32]) -> Result<ElemSet, AllocError> {
         let mut parent = singletons(alloc, self.vertices)?;
         forest_along(alloc, &mut parent, self.edges.as_slice(), order)

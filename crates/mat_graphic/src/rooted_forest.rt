@@ -1,4 +1,4 @@
-//! Rooted forests, by a search that asks each found vertex once for its edges, and the trails between their vertices.
+//! Rooted forests, by breadth-first search, which asks each found vertex once for its edges, and the trails between their vertices.
 ghost use Rattle.std.specs.Prelude.{◌≡◌, ◌≢◌, ◌<◌, ◌≤◌, ◌==◌, ℕ, List, length, slice_index, true, IfOk, OnOk, MatchOption};
 ghost use Rattle.mat_sets.specs.Graphs.{IsGraph, ends_of};
 ghost use Rattle.mat_sets.specs.Sets.{AllBelow, IsRising, is_member};

@@ -1,4 +1,4 @@
-//! The search for a shortest walk, round by round.
+//! The search for a shortest walk, round by round: breadth-first search.
 ghost use Rattle.std.specs.Prelude.{◌≡◌, ◌<◌, ◌&&◌, ◌^◌, ℕ, true, false, not, length, slice_index, IfOk, OnOk, MatchOption, nat_lt};
 ghost use Rattle.mat_sets.specs.Rounds.{AreTaken, IsRound, IsTrace};
 ghost use Rattle.mat_sets.specs.Search.{those_below};
@@ -11,8 +11,8 @@ use crate::relation::Relation;
 use crate::walk_search::WalkSearch;
 use std::alloc::{AllocError, Global};
 
-/// A walk from a start to a goal with fewest vertices, or the set of all vertices that the starts reach
-/// (Schrijver, chapter 6). Each reached vertex is asked once for its arcs to unreached vertices. The only error is
+/// A walk from a start to a goal with fewest vertices, or the set of all vertices that the starts reach, by breadth-first
+/// search (Schrijver, chapter 6). Each reached vertex is asked once for its arcs to unreached vertices. The only error is
 /// want of memory.
 pub fn shortest_walk<R: Relation>(alloc: Global, relation: &R) -> Result<WalkSearch, AllocError>
     requires { R.sound relation.now }

@@ -1,11 +1,11 @@
-//! Relations on finitely many vertices.
+//! Relations on finitely many vertices, which breadth-first search asks for their arcs.
 ghost use Rattle.std.specs.Prelude.{◌≡◌, ◌<◌, ◌&&◌, ℕ, Bool, true};
 ghost use Rattle.mat_sets.specs.Search.{IsNextFrom};
 ghost use Rattle.mat_sets.specs.Sets.{is_member};
 
 use crate::bit_set::BitSet;
 
-/// A relation on the numbers below its size, with starts and goals.
+/// A relation on the numbers below its size, with starts and goals: the directed graph of a breadth-first search.
 pub trait Relation {
     /// How many vertices there are.
     ghost count: { Self → ℕ };
