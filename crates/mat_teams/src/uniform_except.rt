@@ -1,7 +1,7 @@
 //! Uniform matroids in which one set of as many elements as the cap is dependent.
 
 ghost use Rattle.std.specs.Prelude.{⊤, ◌≡◌, ◌≢◌, ◌↔◌, ◌<◌, ◌≤◌, ℕ, List, [], true, length, IfOk};
-ghost use Rattle.mat_sets.specs.Sets.{IsSet, union};
+ghost use Rattle.mat_sets.specs.Sets.{AllBelow, IsSet, union};
 ghost use Rattle.mat_teams.specs.Exceptions.{is_uniform_except};
 ghost use Rattle.mat_teams.specs.ExceptionLaws.{uniform_except_laws};
 
@@ -10,8 +10,8 @@ use mat_laws::Matroid;
 use mat_sets::ElemSet;
 use std::alloc::{AllocError, Global};
 
-/// The matroid on `count` elements in which a set is independent where it has at most as many elements as `circuit`, and is not `circuit`
-/// itself: any so many people may go, only not exactly these again (a sparse paving matroid; Oxley, section 2.1).
+/// The matroid on `count` elements in which a set is independent where it has at most as many elements as `circuit`, a set of elements, and is
+/// not `circuit` itself: any so many people may go, only not exactly these again (a sparse paving matroid; Oxley, section 2.1).
 #[derive(Drop)]
 pub(crate) struct UniformExcept {
     count: u32,
@@ -19,15 +19,18 @@ pub(crate) struct UniformExcept {
 }
 
 impl UniformExcept {
-    /// The matroid of this many elements whose circuit has these members, of which there is one at least. The only error is want of memory.
+    /// The matroid of this many elements whose circuit has these members: elements, of which there is one at least. The only error is want of
+    /// memory.
     pub(crate) fn new(
         alloc: Global,
         count: u32,
         members: &[u32],
     ) -> Result<UniformExcept, AllocError>
-        requires { 0 < length members.now }
+        requires some { 0 < length members.now }
+        requires below { AllBelow count members.now }
         ensures count { IfOk result (λ m. m.count ≡ count) }
         ensures circuit { IfOk result (λ m. m.circuit ≡ union members.now []) }
+        ensures set { IfOk result (λ m. IsSet m.count m.circuit) }
         ensures sound { IfOk result (λ m. 0 < length m.circuit) }
     {
         let circuit = ElemSet::from_members(alloc, members)?;
