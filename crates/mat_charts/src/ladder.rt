@@ -1,6 +1,6 @@
 //! Ladders of sets, and their elements as rows of squares.
 
-ghost use Rattle.std.specs.Prelude.{◌≡◌, length, IfOk};
+ghost use Rattle.std.specs.Prelude.{◌≡◌, None, map, IfOk};
 
 use crate::orders::by_first_set;
 use mat_cert::PricedRung;
@@ -45,7 +45,9 @@ impl<'a> Ladder<'a> {
 
 /// The steps of a ladder with splits, which are not drawn. The only error is want of memory.
 pub fn steps_of<'a>(alloc: Global, rungs: &'a [PricedRung]) -> Result<Vec<Step<'a>>, AllocError>
-    ensures { IfOk result (λ steps. length steps.items ≡ length rungs.now) }
+    ensures weights { IfOk result (λ steps. map (λ s. s.weight) steps.items ≡ map (λ r. r.weight) rungs.now) }
+    ensures sets { IfOk result (λ steps. map (λ s. s.set.now) steps.items ≡ map (λ r. r.set) rungs.now) }
+    ensures shares { IfOk result (λ steps. map (λ s. s.shares) steps.items ≡ map (λ r. None) rungs.now) }
 {
     let mut steps = Vec::new(alloc);
     for rung in rungs {

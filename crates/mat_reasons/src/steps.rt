@@ -1,6 +1,6 @@
 //! The steps of a ladder: a set of each size from 0 on, with its weight.
 
-ghost use Rattle.std.specs.Prelude.{◌≡◌, ◌<◌, length, All, IfOk};
+ghost use Rattle.std.specs.Prelude.{◌≡◌, ◌<◌, None, length, map, All, IfOk};
 ghost use Rattle.mat_reasons.specs.Sums.{HasSummableShares};
 
 use crate::shares::are_split;
@@ -21,7 +21,9 @@ pub struct Step<'a> {
 
 /// The steps of a ladder without splits. The only error is want of memory.
 pub fn plain_steps<'a>(alloc: Global, rungs: &'a [PlainRung]) -> Result<Vec<Step<'a>>, AllocError>
-    ensures { IfOk result (λ steps. length steps.items ≡ length rungs.now) }
+    ensures weights { IfOk result (λ steps. map (λ s. s.weight) steps.items ≡ map (λ r. r.weight) rungs.now) }
+    ensures sets { IfOk result (λ steps. map (λ s. s.set.now) steps.items ≡ map (λ r. r.set) rungs.now) }
+    ensures shares { IfOk result (λ steps. map (λ s. s.shares) steps.items ≡ map (λ r. None) rungs.now) }
 {
     let mut steps = Vec::new(alloc);
     for rung in rungs {

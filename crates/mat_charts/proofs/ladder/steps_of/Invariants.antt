@@ -1,6 +1,8 @@
--- There is a step for each rung so far.
-use Rattle.std.proofs.Common.{◌≡◌, length}
+-- Each rung so far has its step.
+use Rattle.std.proofs.Common.{◌≡◌, None, map, take}
 use Rattle.mat_charts.proofs.ladder.steps_of.Given as goal
 
 abbrev pub invariant-loop-rung : goal.invariant-loop-rung
-invariant-loop-rung l = length l.steps.items ≡ l.rung-index
+invariant-loop-rung l = (map (λ s. s.weight) l.steps.items ≡ map (λ r. r.weight) (take l.rung-index l.rungs))
+    × (map (λ s. s.set.now) l.steps.items ≡ map (λ r. r.set) (take l.rung-index l.rungs))
+    × (map (λ s. s.shares) l.steps.items ≡ map (λ r. None) (take l.rung-index l.rungs))
