@@ -1,7 +1,9 @@
 //! The steps of a ladder: a set of each size from 0 on, with its weight.
 
 ghost use Rattle.std.specs.Prelude.{◌≡◌, ◌<◌, None, length, map, All, IfOk};
+ghost use Rattle.mat_reasons.specs.FirstHeaviest.{IsFirstHeaviest};
 ghost use Rattle.mat_reasons.specs.Sums.{HasSummableShares};
+ghost use Rattle.mat_sets.specs.Weights.{is_below, weight_at};
 
 use crate::shares::are_split;
 use mat_cert::{PlainRung, PricedRung};
@@ -68,14 +70,25 @@ pub(crate) fn priced_steps<'a>(
     Ok(steps)
 }
 
+// Whether a step weighs less than another.
+fn is_lighter(steps: &[Step<'_>], i: usize, k: usize) -> bool
+    requires first { i < length steps.now }
+    requires second { k < length steps.now }
+    ensures { result ≡ is_below (weight_at (map (λ s. s.weight) steps.now) i) (weight_at (map (λ s. s.weight) steps.now) k) }
+{
+    steps[i].weight < steps[k].weight
+}
+
 /// The first of the heaviest steps.
+#[tactic(auto, using(crate::proofs::FirstHeaviest::first_risen, crate::proofs::FirstHeaviest::first_stayed))]
 pub fn best_of(steps: &[Step<'_>]) -> usize
     requires { 0 < length steps.now }
-    ensures { result < length steps.now }
+    ensures inside { result < length steps.now }
+    ensures first { IsFirstHeaviest (weight_at (map (λ s. s.weight) steps.now)) (length steps.now) result }
 {
     let mut best = 0;
     for k in 0..steps.len() {
-        if steps[k].weight > steps[best].weight {
+        if is_lighter(steps, best, k) {
             best = k;
         }
     }

@@ -1,6 +1,8 @@
--- The best step so far is one of them.
-use Rattle.std.proofs.Common.{◌<◌, length}
+-- The best step so far is the first of the heaviest of them.
+use Rattle.std.proofs.Common.{◌<◌, length, map}
+use Rattle.mat_sets.specs.Weights.{weight_at}
+use Rattle.mat_reasons.specs.FirstHeaviest.{IsFirstHeaviest}
 use Rattle.mat_reasons.proofs.steps.best_of.Given as goal
 
 abbrev pub invariant-loop-k : goal.invariant-loop-k
-invariant-loop-k l = l.best < length l.steps
+invariant-loop-k l = (l.best < length l.steps) × IsFirstHeaviest (weight_at (map (λ s. s.weight) l.steps)) l.k l.best
