@@ -1,6 +1,6 @@
 //! The parts of a picture, one beneath another.
 
-ghost use Rattle.std.specs.Prelude.{◌≡◌, ◌≤ℤ◌, OnOk};
+ghost use Rattle.std.specs.Prelude.{◌≡◌, [], ◌≤ℤ◌, OnOk};
 ghost use Rattle.mat_drawing.specs.Markup.{AddsMarkup};
 
 use mat_drawing::{Drawing, Point, Units};
@@ -37,6 +37,7 @@ fn longest_line(words: &str) -> usize {
 impl Canvas {
     /// Nothing yet, but so wide, and to be drawn from here on. It takes no memory.
     pub fn new(alloc: Global, width: Units, top: Units) -> Canvas
+        ensures empty { result.drawing ≡ record { alloc = alloc; markup = [] } }
         ensures wide { result.width ≡ width }
         ensures from { result.top ≡ top }
     {
