@@ -1,3 +1,4 @@
 pub mod Pieces
 pub mod Plain
 pub mod Printable
+pub mod Lowered

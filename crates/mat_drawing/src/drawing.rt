@@ -1,7 +1,9 @@
 //! Drawings, line by line of markup.
 
-ghost use Rattle.std.specs.Prelude.{◌≡◌, ◌++◌, [], true, IfOk, OnOk};
+ghost use Rattle.std.specs.Prelude.{◌≡◌, ◌++◌, [], pos, ◌+ℤ◌, ◌*ℤ◌, length, true, IfOk, OnOk};
+ghost use Rattle.std.specs.Int.{w64, saturate_signed};
 ghost use Rattle.std.specs.List.{list_all};
+ghost use Rattle.std.specs.Str.Lines.{lines};
 ghost use Rattle.mat_drawing.specs.Markup.{AddsMarkup, IsMarkup, IsPicture};
 ghost use Rattle.mat_text.specs.Texts.{is_text_byte};
 
@@ -124,7 +126,9 @@ impl Drawing {
         apart: i64,
         attributes: &[Attribute<'_>],
     ) -> Result<Point, AllocError>
-        ensures { OnOk result (AddsMarkup self.old.markup self.new.markup) }
+        ensures added { OnOk result (AddsMarkup self.old.markup self.new.markup) }
+        ensures across { IfOk result (λ end. end.x ≡ from.x) }
+        ensures down { IfOk result (λ end. end.y.0 ≡ saturate_signed w64 (from.y.0 +ℤ pos (length (lines words.now)) *ℤ apart)) }
     {
         let mut at = from;
         for line in words.lines() {
