@@ -1,8 +1,10 @@
 //! A matroid of any kind.
-ghost use Rattle.mat_any.specs.FlatUnions.{KeepsFlat};
-ghost use Rattle.mat_any.specs.Trees.{element_count, is_independent, IsSound};
-ghost use Rattle.mat_any.specs.TreeLaws.{tree_laws};
-ghost use Rattle.mat_any.specs.Views.{tree_of};
+ghost use Rattle.mat_any.specs.{
+  FlatUnions.{KeepsFlat},
+  Trees.{element_count, is_independent, IsSound},
+  TreeLaws.{tree_laws},
+  Views.{tree_of},
+};
 
 use crate::flat::{united, united_again};
 use crate::flat_kept::FlatKept;

@@ -1,11 +1,13 @@
 //! A union of unions as one union of all their matroids.
 ghost use Rattle.std.specs.Prelude.{◌≡◌, ◌++◌, IfOk, IfSome, OnOk};
 ghost use Rattle.mat_union.specs.UnionsOf.{AreJoined};
-ghost use Rattle.mat_any.specs.FlatUnions.{IsFlat};
-ghost use Rattle.mat_any.specs.Joined.{trees_in};
-ghost use Rattle.mat_any.specs.Parts.{trees_seen, IsUnited};
-ghost use Rattle.mat_any.specs.Trees.{union, element_count, flat_of, flat_trees, IsSound};
-ghost use Rattle.mat_any.specs.Views.{tree_of};
+ghost use Rattle.mat_any.specs.{
+  FlatUnions.{IsFlat},
+  Joined.{trees_in},
+  Parts.{trees_seen, IsUnited},
+  Trees.{union, element_count, flat_of, flat_trees, IsSound},
+  Views.{tree_of},
+};
 
 use crate::any::AnyMatroid;
 use crate::part::Part;

@@ -4,9 +4,11 @@ ghost use Rattle.mat_sets.specs.Sets.{AllBelow, IsSet};
 ghost use Rattle.mat_laws.specs.Matroids.{IsMaximal};
 ghost use Rattle.mat_minors.specs.Minors.{is_dual, is_contracted};
 ghost use Rattle.mat_union.specs.UnionsOf.{AreJoined};
-ghost use Rattle.mat_any.specs.Joined.{elements_in, size_in, union_in, IsSoundOne};
-ghost use Rattle.mat_any.specs.Trees.{element_count, is_independent, IsSound};
-ghost use Rattle.mat_any.specs.Views.{tree_of};
+ghost use Rattle.mat_any.specs.{
+  Joined.{elements_in, size_in, union_in, IsSoundOne},
+  Trees.{element_count, is_independent, IsSound},
+  Views.{tree_of},
+};
 
 use crate::any::AnyMatroid;
 use crate::runs::{dual_run, run, union_run};

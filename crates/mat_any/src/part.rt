@@ -1,8 +1,5 @@
 //! A matroid of any kind, borrowed as one of a union.
-ghost use Rattle.mat_any.specs.AnyKeeps.{KeepsAny};
-ghost use Rattle.mat_any.specs.Trees.{element_count, is_independent, IsSound};
-ghost use Rattle.mat_any.specs.TreeLaws.{tree_laws};
-ghost use Rattle.mat_any.specs.Views.{tree_of};
+ghost use Rattle.mat_any.specs.{AnyKeeps.{KeepsAny}, Trees.{element_count, is_independent, IsSound}, TreeLaws.{tree_laws}, Views.{tree_of}};
 
 use crate::any::AnyMatroid;
 use crate::any_kept::AnyKept;

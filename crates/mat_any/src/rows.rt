@@ -1,21 +1,22 @@
 //! The exchanges of an element in a matroid of any kind, by what is kept of the set and by recursion on the matroids within it.
 ghost use Rattle.std.specs.Prelude.{◌≡◌, ◌<◌, ℕ, true, false, [], length, map, IfOk, IfSome};
-ghost use Rattle.mat_sets.specs.Families.{family_union};
-ghost use Rattle.mat_sets.specs.Sets.{IsRising, IsSet, is_member, union};
-ghost use Rattle.mat_laws.specs.Exchanges.{circuit_members, row_of};
-ghost use Rattle.mat_laws.specs.Matroids.{IsMaximal};
-ghost use Rattle.mat_minors.specs.DualRows.{IsDualKept};
-ghost use Rattle.mat_minors.specs.Minors.{is_contracted, is_dual, is_restricted, is_truncated};
-ghost use Rattle.mat_union.specs.EndedSearches.{IsEnded, IsReady};
-ghost use Rattle.mat_union.specs.GrownParts.{AreKept};
-ghost use Rattle.mat_union.specs.Moves.{exchanges_with};
-ghost use Rattle.mat_union.specs.Placings.{IsPlaceSearch};
-ghost use Rattle.mat_union.specs.Unions.{AreParts};
-ghost use Rattle.mat_union.specs.UnionsOf.{AreJoined};
-ghost use Rattle.mat_any.specs.AnyKeeps.{KeepsAny, KeepsDual};
-ghost use Rattle.mat_any.specs.Joined.{elements_in, size_in, test_in, union_in, IsSoundOne, KeepsOne};
-ghost use Rattle.mat_any.specs.Trees.{element_count, is_independent, IsSound};
-ghost use Rattle.mat_any.specs.Views.{tree_of};
+ghost use Rattle.mat_sets.specs.{Families.{family_union}, Sets.{IsRising, IsSet, is_member, union}};
+ghost use Rattle.mat_laws.specs.{Exchanges.{circuit_members, row_of}, Matroids.{IsMaximal}};
+ghost use Rattle.mat_minors.specs.{DualRows.{IsDualKept}, Minors.{is_contracted, is_dual, is_restricted, is_truncated}};
+ghost use Rattle.mat_union.specs.{
+  EndedSearches.{IsEnded, IsReady},
+  GrownParts.{AreKept},
+  Moves.{exchanges_with},
+  Placings.{IsPlaceSearch},
+  Unions.{AreParts},
+  UnionsOf.{AreJoined},
+};
+ghost use Rattle.mat_any.specs.{
+  AnyKeeps.{KeepsAny, KeepsDual},
+  Joined.{elements_in, size_in, test_in, union_in, IsSoundOne, KeepsOne},
+  Trees.{element_count, is_independent, IsSound},
+  Views.{tree_of},
+};
 
 use crate::any::AnyMatroid;
 use crate::any_kept::AnyKept;

@@ -1,20 +1,17 @@
 //! Greedy runs of a matroid of any kind, and what it keeps of an independent set, by recursion on the matroids within it: a union grows
 //! parts by what its matroids keep of them, and a dual or a contraction keeps something of a run.
 ghost use Rattle.std.specs.Prelude.{◌≡◌, ◌<◌, ℕ, true, List, [], map, IfOk, OnOk};
-ghost use Rattle.mat_sets.specs.Families.{family_union};
-ghost use Rattle.mat_sets.specs.Sets.{AllBelow, AreDistinct, IsSet, union};
-ghost use Rattle.mat_laws.specs.GreedyRuns.{grown_along, grown_by};
-ghost use Rattle.mat_laws.specs.Matroids.{IsMaximal};
-ghost use Rattle.mat_minors.specs.DualRows.{IsDualKept};
-ghost use Rattle.mat_minors.specs.Minors.{is_contracted, is_dual, is_restricted, is_truncated};
-ghost use Rattle.mat_union.specs.GrownParts.{AreGrowing, AreKept};
-ghost use Rattle.mat_union.specs.Unions.{test_at, AreParts};
-ghost use Rattle.mat_union.specs.UnionsOf.{AreJoined};
-ghost use Rattle.mat_any.specs.AnyKeeps.{KeepsAny, KeepsDual};
-ghost use Rattle.mat_any.specs.Joined.{elements_in, size_in, test_in, union_in, IsSoundOne, KeepsOne, KeepsUnion};
-ghost use Rattle.mat_any.specs.declared.any.AnyMatroid.{AnyMatroid};
-ghost use Rattle.mat_any.specs.Trees.{Tree, contract, dual, element_count, is_independent, IsSound};
-ghost use Rattle.mat_any.specs.Views.{tree_of};
+ghost use Rattle.mat_sets.specs.{Families.{family_union}, Sets.{AllBelow, AreDistinct, IsSet, union}};
+ghost use Rattle.mat_laws.specs.{GreedyRuns.{grown_along, grown_by}, Matroids.{IsMaximal}};
+ghost use Rattle.mat_minors.specs.{DualRows.{IsDualKept}, Minors.{is_contracted, is_dual, is_restricted, is_truncated}};
+ghost use Rattle.mat_union.specs.{GrownParts.{AreGrowing, AreKept}, Unions.{test_at, AreParts}, UnionsOf.{AreJoined}};
+ghost use Rattle.mat_any.specs.{
+  AnyKeeps.{KeepsAny, KeepsDual},
+  Joined.{elements_in, size_in, test_in, union_in, IsSoundOne, KeepsOne, KeepsUnion},
+  declared.any.AnyMatroid.{AnyMatroid},
+  Trees.{Tree, contract, dual, element_count, is_independent, IsSound},
+  Views.{tree_of},
+};
 
 use crate::any::AnyMatroid;
 use crate::any_kept::AnyKept;

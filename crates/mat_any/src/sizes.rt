@@ -1,9 +1,7 @@
 //! The number of elements of a matroid of any kind.
 ghost use Rattle.std.specs.Prelude.{◌≡◌};
 ghost use Rattle.mat_union.specs.UnionsOf.{AreJoined};
-ghost use Rattle.mat_any.specs.Joined.{elements_in, size_in, IsSoundOne};
-ghost use Rattle.mat_any.specs.Trees.{element_count, IsSound};
-ghost use Rattle.mat_any.specs.Views.{tree_of};
+ghost use Rattle.mat_any.specs.{Joined.{elements_in, size_in, IsSoundOne}, Trees.{element_count, IsSound}, Views.{tree_of}};
 
 use crate::any::AnyMatroid;
 use mat_laws::Matroid;

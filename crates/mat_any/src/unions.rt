@@ -1,8 +1,7 @@
 //! Whether a matroid is made of a union.
 
 ghost use Rattle.std.specs.Prelude.{◌≡◌};
-ghost use Rattle.mat_any.specs.Trees.{has_union};
-ghost use Rattle.mat_any.specs.Views.{tree_of};
+ghost use Rattle.mat_any.specs.{Trees.{has_union}, Views.{tree_of}};
 
 use crate::any::AnyMatroid;
 

@@ -1,8 +1,7 @@
 //! What the root reaches.
 ghost use Rattle.std.specs.Prelude.{◌<◌, ℕ, length, IfOk, MatchOption};
 ghost use Rattle.mat_sets.specs.Graphs.{ends_of, IsGraph, IsUnentered};
-ghost use Rattle.mat_arbor.specs.Arborescences.{HasNoArborescence};
-ghost use Rattle.mat_arbor.specs.Growing.{IsGrownTree, Leaves};
+ghost use Rattle.mat_arbor.specs.{Arborescences.{HasNoArborescence}, Growing.{IsGrownTree, Leaves}};
 
 use mat_sets::ElemSet;
 use std::alloc::{AllocError, Global};

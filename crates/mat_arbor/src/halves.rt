@@ -1,7 +1,6 @@
 //! The two halves of a split of costs, from single numbers.
 ghost use Rattle.std.specs.Prelude.{◌≡◌, ◌+◌, ◌<◌, ◌≤◌, ◌^◌, ℕ, length, map, slice_index_or, IfOk};
-ghost use Rattle.mat_sets.specs.Limits.{largest_weight, most_elements};
-ghost use Rattle.mat_sets.specs.Weights.{AreWeightsWithin};
+ghost use Rattle.mat_sets.specs.{Limits.{largest_weight, most_elements}, Weights.{AreWeightsWithin}};
 ghost use Rattle.mat_arbor.specs.Halves.{unit_of, weight_of, AreHalves, AreSecondHalves};
 
 use crate::numbers::free_shift;

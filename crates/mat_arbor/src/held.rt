@@ -1,13 +1,7 @@
 //! The weights of the vertex sets that hold an arc.
-ghost use Rattle.std.specs.Prelude.{◌≡◌, ◌<◌, ◌≤◌, ◌^◌, ◌+ℤ◌, ◌-ℤ◌, ◌≤ℤ◌, ℕ, length, pos, IfOk};
-ghost use Rattle.std.specs.List.{AllByRecursion};
-ghost use Rattle.mat_sets.specs.Graphs.{ends_of, IsGraph};
-ghost use Rattle.mat_sets.specs.Sets.{is_member, IsSet};
-ghost use Rattle.mat_sets.specs.Sums.{IsWithin};
-ghost use Rattle.mat_cuts.specs.Checking.{IsAdded};
-ghost use Rattle.mat_cuts.specs.Costs.{cost_at, IsWideCost};
-ghost use Rattle.mat_cuts.specs.Cuts.{weight_on};
-ghost use Rattle.mat_cuts.specs.Limits.{cut_bound};
+ghost use Rattle.std.specs.{Prelude.{◌≡◌, ◌<◌, ◌≤◌, ◌^◌, ◌+ℤ◌, ◌-ℤ◌, ◌≤ℤ◌, ℕ, length, pos, IfOk}, List.{AllByRecursion}};
+ghost use Rattle.mat_sets.specs.{Graphs.{ends_of, IsGraph}, Sets.{is_member, IsSet}, Sums.{IsWithin}};
+ghost use Rattle.mat_cuts.specs.{Checking.{IsAdded}, Costs.{cost_at, IsWideCost}, Cuts.{weight_on}, Limits.{cut_bound}};
 ghost use Rattle.mat_arbor.specs.Held.{weight_around, AreHeldWeights, IsCutWithin};
 
 use mat_cuts::CutWeight;

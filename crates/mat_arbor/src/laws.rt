@@ -1,13 +1,14 @@
 //! What an answer proves of a graph. Each law is the contract of a function that does nothing.
 
 ghost use Rattle.std.specs.Prelude.{◌≡◌, ◌<◌, ◌↔◌, ℕ, List, true, length, suc, ◌⊎◌};
-ghost use Rattle.mat_sets.specs.Graphs.{IsGraph, IsSpanningArborescence, ends_of, IsUnentered};
-ghost use Rattle.mat_sets.specs.Sets.{IsSet};
-ghost use Rattle.mat_sets.specs.Weights.{◌≼◌, weight};
-ghost use Rattle.mat_sets.specs.declared.weight.Weight.{Weight};
+ghost use Rattle.mat_sets.specs.{
+  Graphs.{IsGraph, IsSpanningArborescence, ends_of, IsUnentered},
+  Sets.{IsSet},
+  Weights.{◌≼◌, weight},
+  declared.weight.Weight.{Weight},
+};
 ghost use Rattle.mat_graphic.specs.Forests.{is_graphic};
-ghost use Rattle.mat_arbor.specs.Heads.{is_entering_once, EntersOnce};
-ghost use Rattle.mat_arbor.specs.Arborescences.{HasNoArborescence, IsSplitArborescence};
+ghost use Rattle.mat_arbor.specs.{Heads.{is_entering_once, EntersOnce}, Arborescences.{HasNoArborescence, IsSplitArborescence}};
 
 /// A set of arcs is in the partition matroid of the heads exactly where no arc enters the root and no two arcs have one head.
 pub fn entering_once_means()

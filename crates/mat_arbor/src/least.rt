@@ -1,8 +1,6 @@
 //! The search for a least spanning arborescence.
 ghost use Rattle.std.specs.Prelude.{◌≡◌, ◌<◌, ◌≤◌, ◌↔◌, true, length, IfOk};
-ghost use Rattle.mat_sets.specs.Limits.{largest_weight, most_vertices, most_elements};
-ghost use Rattle.mat_sets.specs.Graphs.{IsGraph};
-ghost use Rattle.mat_sets.specs.Weights.{AreWeightsWithin};
+ghost use Rattle.mat_sets.specs.{Limits.{largest_weight, most_vertices, most_elements}, Graphs.{IsGraph}, Weights.{AreWeightsWithin}};
 ghost use Rattle.mat_work.specs.Workers.{AreWorkers};
 ghost use Rattle.mat_arbor.specs.Arborescences.{HasNoArborescence, IsRightArbor, is_unreached};
 

@@ -1,8 +1,10 @@
 //! Costs as single numbers, in which a main of 1 counts more than ties come to, and where such numbers can be parted into main and tie again.
 ghost use Rattle.std.specs.Prelude.{◌≡◌, ◌+◌, ◌*◌, ◌<◌, ◌≤◌, ◌^◌, ℕ, length, map, true, slice_index_or, IfOk};
-ghost use Rattle.mat_sets.specs.Limits.{largest_weight, most_elements};
-ghost use Rattle.mat_sets.specs.Sets.{is_member, IsSet};
-ghost use Rattle.mat_sets.specs.Weights.{AreWeightsWithin, IsWeightWithin};
+ghost use Rattle.mat_sets.specs.{
+  Limits.{largest_weight, most_elements},
+  Sets.{is_member, IsSet},
+  Weights.{AreWeightsWithin, IsWeightWithin},
+};
 ghost use Rattle.mat_arbor.specs.Halves.{gap_at, raised_value, unit_of, IsFreeShift};
 
 use mat_sets::{ElemSet, Weight};

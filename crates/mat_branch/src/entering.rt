@@ -1,7 +1,6 @@
 //! How many arcs enter a vertex set.
 ghost use Rattle.std.specs.Prelude.{◌≡◌, ◌&&◌, not, length};
-ghost use Rattle.mat_sets.specs.Graphs.{ends_of, entering};
-ghost use Rattle.mat_sets.specs.Sets.{all_below, is_member};
+ghost use Rattle.mat_sets.specs.{Graphs.{ends_of, entering}, Sets.{all_below, is_member}};
 
 use mat_sets::{ElemSet, Pairs};
 

@@ -1,7 +1,6 @@
 //! One arborescence grows, arc by arc.
 ghost use Rattle.std.specs.Prelude.{◌<◌, suc, ℕ, List, length, IfOk, OnOk};
-ghost use Rattle.mat_sets.specs.Graphs.{ends_of};
-ghost use Rattle.mat_sets.specs.Sets.{IsSet};
+ghost use Rattle.mat_sets.specs.{Graphs.{ends_of}, Sets.{IsSet}};
 ghost use Rattle.mat_branch.specs.Growth.{AreEntered, AreRefused, Grows, IsGrown, IsTakable};
 
 use crate::spare::can_spare;

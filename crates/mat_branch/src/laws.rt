@@ -1,9 +1,7 @@
 //! Laws of disjoint spanning arborescences, for any graph.
 ghost use Rattle.std.specs.Prelude.{◌≡◌, ◌<◌, ◌≤◌, ◌⊎◌, ◌↔◌, ℕ, true, List, length};
-ghost use Rattle.mat_sets.specs.Graphs.{ends_of, entering, IsGraph, IsSpanningArborescence, IsRootFree};
-ghost use Rattle.mat_sets.specs.Sets.{all_below, IsSet};
-ghost use Rattle.mat_branch.specs.Arborescences.{AreDisjointArborescences, IsSeldomEntered};
-ghost use Rattle.mat_branch.specs.Spanning.{is_spanning_arborescence};
+ghost use Rattle.mat_sets.specs.{Graphs.{ends_of, entering, IsGraph, IsSpanningArborescence, IsRootFree}, Sets.{all_below, IsSet}};
+ghost use Rattle.mat_branch.specs.{Arborescences.{AreDisjointArborescences, IsSeldomEntered}, Spanning.{is_spanning_arborescence}};
 
 /// There are k disjoint spanning arborescences, or a non-empty vertex set without the root that fewer than k arcs enter (Edmonds 1973).
 pub fn disjoint_or_seldom_entered()

@@ -1,7 +1,6 @@
 //! Whether arcs are a spanning arborescence.
 ghost use Rattle.std.specs.Prelude.{◌≡◌, ◌<◌, length, IfOk};
-ghost use Rattle.mat_sets.specs.Graphs.{ends_of};
-ghost use Rattle.mat_sets.specs.Sets.{AllBelow};
+ghost use Rattle.mat_sets.specs.{Graphs.{ends_of}, Sets.{AllBelow}};
 ghost use Rattle.mat_branch.specs.Spanning.{is_spanning_arborescence};
 
 use crate::spare::seldom_entered;

@@ -1,7 +1,6 @@
 //! What is asked of paths that share no arc: whether each vertex set is entered often enough, and whether an arc can be spared.
 ghost use Rattle.std.specs.Prelude.{◌≡◌, ◌≢◌, ◌<◌, true, length, IfOk};
-ghost use Rattle.mat_sets.specs.Graphs.{ends_of};
-ghost use Rattle.mat_sets.specs.Sets.{is_member, IsSet};
+ghost use Rattle.mat_sets.specs.{Graphs.{ends_of}, Sets.{is_member, IsSet}};
 ghost use Rattle.mat_branch.specs.Growth.{AreEntered, TellsSeldom, TellsSpare};
 
 use mat_flow::{ArcAnswer, Digraph, arc_paths};

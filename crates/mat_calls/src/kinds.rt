@@ -2,10 +2,8 @@
 //! its own type where it is made of no others, and by those of a matroid of any kind. `kinds.py` finds what is printed by trying all sets.
 
 ghost use Rattle.std.specs.Prelude.{◌≡◌, All};
-ghost use Rattle.mat_desc.specs.Soundness.{IsSoundInstance};
-ghost use Rattle.mat_desc.specs.Views.{instance_of};
-ghost use Rattle.mat_any.specs.Trees.{element_count, IsSound};
-ghost use Rattle.mat_any.specs.Views.{tree_of};
+ghost use Rattle.mat_desc.specs.{Soundness.{IsSoundInstance}, Views.{instance_of}};
+ghost use Rattle.mat_any.specs.{Trees.{element_count, IsSound}, Views.{tree_of}};
 
 use crate::DESCRIPTION_LIMIT;
 use crate::known::told;

@@ -2,11 +2,9 @@
 //! What else is printed was worked out by hand from closed walks, lines and bases.
 
 ghost use Rattle.std.specs.Prelude.{◌≡◌, ◌<◌, true, false, length, IfOk};
-ghost use Rattle.mat_sets.specs.Graphs.{IsGraph};
-ghost use Rattle.mat_sets.specs.Sets.{AllBelow, AreDistinct, is_member};
+ghost use Rattle.mat_sets.specs.{Graphs.{IsGraph}, Sets.{AllBelow, AreDistinct, is_member}};
 ghost use Rattle.mat_gf2.specs.Columns.{IsBinaryMatrix};
-ghost use Rattle.mat_any.specs.Trees.{element_count, IsSound};
-ghost use Rattle.mat_any.specs.Views.{tree_of};
+ghost use Rattle.mat_any.specs.{Trees.{element_count, IsSound}, Views.{tree_of}};
 
 use crate::routes::{set_below, set_of_bits};
 use mat_any::AnyMatroid;

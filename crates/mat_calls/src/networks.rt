@@ -1,8 +1,7 @@
 //! Cheapest arborescences with the weighted vertex sets that prove them: graphs worked out by hand, and large drawn ones.
 ghost use Rattle.std.specs.Prelude.{◌≡◌, ◌<◌, ◌≤◌, ◌^◌, length, All, IfOk};
 ghost use Rattle.mat_sets.specs.Graphs.{IsGraph};
-ghost use Rattle.mat_cuts.specs.Costs.{IsCost};
-ghost use Rattle.mat_cuts.specs.Limits.{vertex_bound, arc_bound};
+ghost use Rattle.mat_cuts.specs.{Costs.{IsCost}, Limits.{vertex_bound, arc_bound}};
 
 use crate::known::told_set;
 use mat_cuts::{Cuts, cheapest, right_cuts};

@@ -1,12 +1,10 @@
 //! Disjoint paths in graphs of some hundred vertices, which descriptions give as gammoids.
 
 ghost use Rattle.std.specs.Prelude.{IfOk, IfSome};
-ghost use Rattle.mat_desc.specs.Soundness.{IsSoundInstance};
-ghost use Rattle.mat_desc.specs.Views.{instance_of};
+ghost use Rattle.mat_desc.specs.{Soundness.{IsSoundInstance}, Views.{instance_of}};
 ghost use Rattle.mat_sets.specs.Sets.{AllBelow};
 ghost use Rattle.mat_linked.specs.Gammoids.{IsGammoid};
-ghost use Rattle.mat_any.specs.Trees.{IsSound};
-ghost use Rattle.mat_any.specs.Views.{tree_of};
+ghost use Rattle.mat_any.specs.{Trees.{IsSound}, Views.{tree_of}};
 
 use crate::DESCRIPTION_LIMIT;
 use mat_any::AnyMatroid;

@@ -1,8 +1,7 @@
 //! Unions of two matroids in which single elements are independent, a best union of them, the union of two graphs, and both ends of a search
 //! for moves. What is printed was worked out by hand from the independent sets, and of the two graphs by `kinds.py`.
 ghost use Rattle.std.specs.Prelude.{◌≡◌, ◌<◌, ℕ, length, IfOk};
-ghost use Rattle.mat_sets.specs.Graphs.{IsGraph};
-ghost use Rattle.mat_sets.specs.Sets.{AllBelow, IsSubset};
+ghost use Rattle.mat_sets.specs.{Graphs.{IsGraph}, Sets.{AllBelow, IsSubset}};
 ghost use Rattle.mat_laws.specs.TightPaths.{row_in};
 
 use crate::known::{told, told_set};

@@ -2,10 +2,12 @@
 ghost use Rattle.std.specs.Prelude.{◌≡◌, ◌<◌, ◌≤◌, ◌↔◌, ◌⊎◌, ℕ, List, length, Ok, Err};
 ghost use Rattle.mat_sets.specs.declared.weight.Weight.{Weight};
 ghost use Rattle.mat_words.specs.Weights.{weight_word};
-ghost use Rattle.mat_cert.specs.Certificates.{Certificate, IsPrinted, IsPrintedWeight, IsRanged, certificate_text};
-ghost use Rattle.mat_cert.specs.Faults.{Fault};
-ghost use Rattle.mat_cert.specs.Limits.{certificate_limit};
-ghost use Rattle.mat_cert.specs.Reading.{read_of};
+ghost use Rattle.mat_cert.specs.{
+  Certificates.{Certificate, IsPrinted, IsPrintedWeight, IsRanged, certificate_text},
+  Faults.{Fault},
+  Limits.{certificate_limit},
+  Reading.{read_of},
+};
 
 /// What holds of every certificate in range: its text has at most 2^26 bytes, no other certificate in range has that text, and it has less
 /// than 24,000,000 bytes where its weights are no larger than those that are printed, whose words have at most 45 bytes.

@@ -1,9 +1,11 @@
 //! Why a text is no certificate.
 
 ghost use Rattle.std.specs.Prelude.{◌≡◌};
-ghost use Rattle.mat_cert.specs.Faults.{kind_of, refusal_of};
-ghost use Rattle.mat_cert.specs.Kinds.{kind_number, kind_name};
-ghost use Rattle.mat_cert.specs.declared.refusal.CertRefusal.TheVariants.{Fault, Memory};
+ghost use Rattle.mat_cert.specs.{
+  Faults.{kind_of, refusal_of},
+  Kinds.{kind_number, kind_name},
+  declared.refusal.CertRefusal.TheVariants.{Fault, Memory},
+};
 
 use mat_words::{NumberFault, ReadingFault, ReadingRefusal};
 use std::alloc::{AllocError, AllocFailed};

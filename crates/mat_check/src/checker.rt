@@ -2,17 +2,16 @@
 
 ghost use Rattle.std.specs.Prelude.{◌≡◌, ◌↔◌, true, IfOk};
 ghost use Rattle.mat_work.specs.Workers.{AreWorkers};
-ghost use Rattle.mat_cert.specs.Certificates.{IsRanged};
-ghost use Rattle.mat_cert.specs.Views.{certificate_of};
-ghost use Rattle.mat_check.specs.AnswerClauses.{answer_clauses, failure_of, has_header};
-ghost use Rattle.mat_check.specs.Clauses.{first_failure};
-ghost use Rattle.mat_check.specs.Fitting.{fits};
-ghost use Rattle.mat_check.specs.Right.{IsRight};
-ghost use Rattle.mat_check.specs.Views.{failure_in};
-ghost use Rattle.mat_check.specs.declared.verdict.Verdict.TheVariants.{Yes};
-ghost use Rattle.mat_desc.specs.Grammar.{IsValid};
-ghost use Rattle.mat_desc.specs.Soundness.{IsSoundInstance};
-ghost use Rattle.mat_desc.specs.Views.{instance_of};
+ghost use Rattle.mat_cert.specs.{Certificates.{IsRanged}, Views.{certificate_of}};
+ghost use Rattle.mat_check.specs.{
+  AnswerClauses.{answer_clauses, failure_of, has_header},
+  Clauses.{first_failure},
+  Fitting.{fits},
+  Right.{IsRight},
+  Views.{failure_in},
+  declared.verdict.Verdict.TheVariants.{Yes},
+};
+ghost use Rattle.mat_desc.specs.{Grammar.{IsValid}, Soundness.{IsSoundInstance}, Views.{instance_of}};
 
 use crate::graph_answers::{coloured_failure, graph_failure, rooted_failure, table_failure};
 use crate::headers::has_header;

@@ -5,8 +5,7 @@ ghost use Rattle.mat_sets.specs.declared.weight.Weight.{Weight};
 ghost use Rattle.mat_any.specs.Views.{tree_of};
 ghost use Rattle.mat_cert.specs.Views.{certificate_of};
 ghost use Rattle.mat_check.specs.AnswerClauses.{has_header};
-ghost use Rattle.mat_desc.specs.Instances.{list, graph, rooted};
-ghost use Rattle.mat_desc.specs.Views.{instance_of};
+ghost use Rattle.mat_desc.specs.{Instances.{list, graph, rooted}, Views.{instance_of}};
 
 use mat_any::AnyMatroid;
 use mat_cert::Answer;

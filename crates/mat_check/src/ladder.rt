@@ -1,10 +1,8 @@
 //! The clauses of a ladder of two matroids, and of the heaviest sets of one.
 
 ghost use Rattle.std.specs.Prelude.{◌≡◌, length, IfOk};
-ghost use Rattle.mat_sets.specs.Limits.{largest_weight};
-ghost use Rattle.mat_sets.specs.Weights.{AreWeightsWithin};
-ghost use Rattle.mat_any.specs.Trees.{element_count, is_independent, IsSound};
-ghost use Rattle.mat_any.specs.Views.{tree_of};
+ghost use Rattle.mat_sets.specs.{Limits.{largest_weight}, Weights.{AreWeightsWithin}};
+ghost use Rattle.mat_any.specs.{Trees.{element_count, is_independent, IsSound}, Views.{tree_of}};
 ghost use Rattle.mat_work.specs.Workers.{AreWorkers};
 ghost use Rattle.mat_cert.specs.Certificates.{AreRangedRungs, IsRangedLadder, IsRangedPlainRung};
 ghost use Rattle.mat_check.specs.Clauses.{best_clauses, first_failure, ladder_clauses};

@@ -2,13 +2,8 @@
 
 ghost use Rattle.std.specs.Prelude.{◌≡◌, ◌↔◌, true, None};
 ghost use Rattle.mat_cert.specs.Certificates.{Certificate, IsRanged};
-ghost use Rattle.mat_check.specs.AnswerClauses.{failure_of};
-ghost use Rattle.mat_check.specs.Fitting.{fits};
-ghost use Rattle.mat_check.specs.Optimal.{IsOptimal};
-ghost use Rattle.mat_check.specs.Right.{IsRight};
-ghost use Rattle.mat_desc.specs.Grammar.{IsValid};
-ghost use Rattle.mat_desc.specs.Instances.{Instance};
-ghost use Rattle.mat_desc.specs.Soundness.{IsSoundInstance};
+ghost use Rattle.mat_check.specs.{AnswerClauses.{failure_of}, Fitting.{fits}, Optimal.{IsOptimal}, Right.{IsRight}};
+ghost use Rattle.mat_desc.specs.{Grammar.{IsValid}, Instances.{Instance}, Soundness.{IsSoundInstance}};
 
 /// An answer in range to a problem that it fits is right exactly where none of its clauses fails.
 pub fn right_has_no_failure()

@@ -1,8 +1,7 @@
 //! Which clause of the checker fails, and at which places.
 
 ghost use Rattle.std.specs.Prelude.{◌≡◌};
-ghost use Rattle.mat_check.specs.Clauses.{failure_at};
-ghost use Rattle.mat_check.specs.Reasons.{reason_word};
+ghost use Rattle.mat_check.specs.{Clauses.{failure_at}, Reasons.{reason_word}};
 
 /// The clause of an answer that fails. A verdict has two places beside it, the numbers `a` and `b`; each variant says what they are, and of
 /// which answers it is told. A place that isn't mentioned is 0, and an element, an edge, an arc or a vertex that is told is the least such.

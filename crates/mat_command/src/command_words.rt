@@ -3,11 +3,11 @@
 ghost use Rattle.std.specs.Prelude.{◌≡◌, ◌≤◌, map, string_bytes, option_map, IfSome};
 ghost use Rattle.mat_sets.specs.Limits.{most_trees};
 ghost use Rattle.mat_solve.specs.Queries.{IsQueryInRange};
-ghost use Rattle.mat_command.specs.CommandLines.{query_for, request_for, query_of_trees, number_from, number_up_to, rung_number, kind_in};
-ghost use Rattle.mat_command.specs.CommandLines.{with_file, with_number, with_two, sample_for, witness_of, with_three, with_four, task_for};
-ghost use Rattle.mat_command.specs.CommandLines.{begins_with_option, takes_workers, with_option, without_option, command_line};
-ghost use Rattle.mat_command.specs.Commands.{task_of, request_of, IsRequestInRange, IsTaskInRange};
-ghost use Rattle.mat_command.specs.Views.{line_of};
+ghost use Rattle.mat_command.specs.{
+  CommandLines.{query_for, request_for, query_of_trees, number_from, number_up_to, rung_number, kind_in, with_file, with_number, with_two, sample_for, witness_of, with_three, with_four, task_for, begins_with_option, takes_workers, with_option, without_option, command_line},
+  Commands.{task_of, request_of, IsRequestInRange, IsTaskInRange},
+  Views.{line_of},
+};
 
 use crate::command::{Command, CommandLine, Request};
 use mat_gen::SampleKind;

@@ -1,13 +1,13 @@
 //! Lists of jobs.
 
-ghost use Rattle.std.specs.Prelude.{◌≡◌, ◌≤◌, Ok, map, take, length, string_bytes, option_map, IfOk, IfErr, IsTrue};
-ghost use Rattle.std.specs.List.{list_all};
-ghost use Rattle.mat_words.specs.Cursors.{lines_left, words_left};
-ghost use Rattle.mat_words.specs.Words.{is_word};
-ghost use Rattle.mat_command.specs.JobLists.{is_head, is_end, job_of_command, job_of_line, most_jobs, jobs_at, jobs_of};
-ghost use Rattle.mat_command.specs.JobLines.{Gives, HasNoJobs, kept_words, words_at, head_at, job_at};
+ghost use Rattle.std.specs.{Prelude.{◌≡◌, ◌≤◌, Ok, map, take, length, string_bytes, option_map, IfOk, IfErr, IsTrue}, List.{list_all}};
+ghost use Rattle.mat_words.specs.{Cursors.{lines_left, words_left}, Words.{is_word}};
+ghost use Rattle.mat_command.specs.{
+  JobLists.{is_head, is_end, job_of_command, job_of_line, most_jobs, jobs_at, jobs_of},
+  JobLines.{Gives, HasNoJobs, kept_words, words_at, head_at, job_at},
+  Views.{job_of},
+};
 ghost use Rattle.mat_desc.specs.Limits.{description_limit};
-ghost use Rattle.mat_command.specs.Views.{job_of};
 
 use crate::command::{Command, Request};
 use crate::command_words::{begins_with_option, command_for};

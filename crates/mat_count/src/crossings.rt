@@ -1,9 +1,7 @@
 //! Sets that cross: they share a member, and neither contains the other.
 ghost use Rattle.std.specs.Prelude.{◌≡◌, ◌↔◌, ◌<◌, ◌^◌, length, slice_index_or, IsTrue, MatchOption};
-ghost use Rattle.mat_sets.specs.Bits.{bits_of};
-ghost use Rattle.mat_sets.specs.Sets.{IsSubset};
-ghost use Rattle.mat_count.specs.Laminar.{crosses};
-ghost use Rattle.mat_count.specs.LaminarFaults.{IsFirstCrossing, NoneCrosses};
+ghost use Rattle.mat_sets.specs.{Bits.{bits_of}, Sets.{IsSubset}};
+ghost use Rattle.mat_count.specs.{Laminar.{crosses}, LaminarFaults.{IsFirstCrossing, NoneCrosses}};
 
 use mat_sets::{BitSet, ElemSet};
 

@@ -1,17 +1,20 @@
 //! Laminar matroids.
-ghost use Rattle.std.specs.Prelude.{◌≡◌, ◌↔◌, ◌+◌, ℕ, ◌<◌, ◌^◌, length, replicate, slice_index, [], IfOk, IfErr, IsTrue, IsFalse, MatchOption, ◌-◌};
-ghost use Rattle.std.specs.List.{All};
-ghost use Rattle.mat_sets.specs.Sets.{is_member, AllBelow, IsRising};
-ghost use Rattle.mat_sets.specs.Families.{indicator};
+ghost use Rattle.std.specs.{
+  Prelude.{◌≡◌, ◌↔◌, ◌+◌, ℕ, ◌<◌, ◌^◌, length, replicate, slice_index, [], IfOk, IfErr, IsTrue, IsFalse, MatchOption, ◌-◌},
+  List.{All},
+};
+ghost use Rattle.mat_sets.specs.{Sets.{is_member, AllBelow, IsRising}, Families.{indicator}};
 ghost use Rattle.mat_laws.specs.GreedyRuns.{grown_along};
-ghost use Rattle.mat_count.specs.Counters.{is_some_full};
-ghost use Rattle.mat_count.specs.Counts.{is_counted};
-ghost use Rattle.mat_count.specs.FullSets.{AreFullSets};
-ghost use Rattle.mat_count.specs.Partitions.{CountsMembers};
-ghost use Rattle.mat_count.specs.Laminar.{IsLaminarFamily};
-ghost use Rattle.mat_count.specs.LaminarMatroids.{IsLaminar, IsPlaceTable, IsPlaced};
-ghost use Rattle.mat_count.specs.LaminarFaults.{IsFirstPair, SomeOutside, IsFaultOf};
-ghost use Rattle.mat_count.specs.LaminarLaws.{counted_laws};
+ghost use Rattle.mat_count.specs.{
+  Counters.{is_some_full},
+  Counts.{is_counted},
+  FullSets.{AreFullSets},
+  Partitions.{CountsMembers},
+  Laminar.{IsLaminarFamily},
+  LaminarMatroids.{IsLaminar, IsPlaceTable, IsPlaced},
+  LaminarFaults.{IsFirstPair, SomeOutside, IsFaultOf},
+  LaminarLaws.{counted_laws},
+};
 
 use crate::caps::are_within;
 use crate::crossings::crossing;

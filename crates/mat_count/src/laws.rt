@@ -2,8 +2,10 @@
 ghost use Rattle.std.specs.Prelude.{◌≡◌, ◌↔◌, ◌≤◌, ℕ, List, true, length};
 ghost use Rattle.mat_sets.specs.Sets.{IsSet};
 ghost use Rattle.mat_laws.specs.Matroids.{IsMatroid};
-ghost use Rattle.mat_count.specs.Counts.{is_uniform, is_within_caps, IsWithinCaps, is_counted};
-ghost use Rattle.mat_count.specs.Laminar.{crosses, Crosses, IsLaminarFamily};
+ghost use Rattle.mat_count.specs.{
+  Counts.{is_uniform, is_within_caps, IsWithinCaps, is_counted},
+  Laminar.{crosses, Crosses, IsLaminarFamily},
+};
 
 /// The test of caps holds exactly where the set has at most its cap of members in each listed set.
 pub fn within_caps_means()

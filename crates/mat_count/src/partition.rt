@@ -1,15 +1,15 @@
 //! Partition matroids.
-ghost use Rattle.std.specs.Prelude.{⊤, ◌≡◌, ◌+◌, ◌-◌, ◌<◌, ◌^◌, ℕ, [], length, slice_index, IfOk, MatchOption};
-ghost use Rattle.std.specs.List.{All};
-ghost use Rattle.mat_sets.specs.Sets.{AllBelow, IsRising};
-ghost use Rattle.mat_sets.specs.Families.{AreDisjoint, indicator};
+ghost use Rattle.std.specs.{Prelude.{⊤, ◌≡◌, ◌+◌, ◌-◌, ◌<◌, ◌^◌, ℕ, [], length, slice_index, IfOk, MatchOption}, List.{All}};
+ghost use Rattle.mat_sets.specs.{Sets.{AllBelow, IsRising}, Families.{AreDisjoint, indicator}};
 ghost use Rattle.mat_laws.specs.GreedyRuns.{grown_along};
-ghost use Rattle.mat_count.specs.Counts.{is_counted};
-ghost use Rattle.mat_count.specs.FullSets.{AreFullSets};
-ghost use Rattle.mat_count.specs.Labels.{caps_by, classes_by, one_each};
-ghost use Rattle.mat_count.specs.Counters.{is_named_full};
-ghost use Rattle.mat_count.specs.Partitions.{names, IsPartition, IsClassTable, IsClassEntered, CountsMembers};
-ghost use Rattle.mat_count.specs.PartitionLaws.{partition_laws};
+ghost use Rattle.mat_count.specs.{
+  Counts.{is_counted},
+  FullSets.{AreFullSets},
+  Labels.{caps_by, classes_by, one_each},
+  Counters.{is_named_full},
+  Partitions.{names, IsPartition, IsClassTable, IsClassEntered, CountsMembers},
+  PartitionLaws.{partition_laws},
+};
 
 use crate::caps::are_within;
 use crate::full_sets::FullSets;

@@ -1,7 +1,6 @@
 //! Uniform matroids.
 ghost use Rattle.std.specs.Prelude.{⊤, ◌≡◌};
-ghost use Rattle.mat_count.specs.Counts.{is_uniform};
-ghost use Rattle.mat_count.specs.UniformLaws.{uniform_laws};
+ghost use Rattle.mat_count.specs.{Counts.{is_uniform}, UniformLaws.{uniform_laws}};
 
 use mat_laws::{Exchange, Matroid};
 use mat_sets::ElemSet;

@@ -5,14 +5,15 @@
 //! end of the path, or closes up all sets from its place on. When an arc is spent it gets a time: how many sets were listed.
 //! At the end a tree grows from the root, always by the arc with the earliest time, and enters each listed set once.
 ghost use Rattle.std.specs.Prelude.{◌≡◌, ◌≤◌, ◌<◌, ◌+◌, ◌≤ℤ◌, ◌<ℤ◌, ℕ, length, true, pos, All, IfOk, OnOk};
-ghost use Rattle.mat_cuts.specs.Limits.{never, vertex_bound, arc_bound};
-ghost use Rattle.mat_sets.specs.Graphs.{IsGraph};
-ghost use Rattle.mat_cuts.specs.Costs.{cost_at, IsCost, IsWideCost};
-ghost use Rattle.mat_cuts.specs.Answers.{AreInRange, AreRight, TellsReached};
-ghost use Rattle.mat_cuts.specs.Pricing.{IsRightlyPriced};
-ghost use Rattle.mat_cuts.specs.Listing.{IsBegun, IsFollowed, IsListed, IsPaid, TellsSpent};
-ghost use Rattle.mat_cuts.specs.Raising.{IsLeastOf};
-ghost use Rattle.mat_sets.specs.Sets.{is_member, AllBelow, IsSet};
+ghost use Rattle.mat_cuts.specs.{
+  Limits.{never, vertex_bound, arc_bound},
+  Costs.{cost_at, IsCost, IsWideCost},
+  Answers.{AreInRange, AreRight, TellsReached},
+  Pricing.{IsRightlyPriced},
+  Listing.{IsBegun, IsFollowed, IsListed, IsPaid, TellsSpent},
+  Raising.{IsLeastOf},
+};
+ghost use Rattle.mat_sets.specs.{Graphs.{IsGraph}, Sets.{is_member, AllBelow, IsSet}};
 
 use crate::cut_weight::{CutWeight, Cuts, Priced};
 use crate::growing::{Raised, grow};

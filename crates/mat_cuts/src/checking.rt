@@ -1,16 +1,19 @@
 //! Whether cuts are right.
-ghost use Rattle.std.specs.Prelude.{◌≡◌, ◌≤◌, ◌<◌, ◌*◌, ◌^◌, ◌≤ℤ◌, ◌↔◌, ℕ, length, false, All, IfOk, IsTrue};
-ghost use Rattle.std.specs.List.{AllByRecursion};
-ghost use Rattle.mat_sets.specs.Limits.{largest_number};
-ghost use Rattle.mat_cuts.specs.Limits.{cut_bound, vertex_bound, arc_bound};
-ghost use Rattle.mat_sets.specs.Graphs.{ends_of, enters, IsGraph, IsSpanningArborescence, IsRootFree, IsUnentered};
-ghost use Rattle.mat_sets.specs.Sets.{AllBelow};
-ghost use Rattle.mat_sets.specs.Sums.{IsWithin};
-ghost use Rattle.mat_cuts.specs.Answers.{AreInRange, AreRight, IsCutInRange};
-ghost use Rattle.mat_cuts.specs.Checking.{IsAdded};
-ghost use Rattle.mat_cuts.specs.Costs.{cost_at, cost_of, IsCost};
-ghost use Rattle.mat_cuts.specs.Growing.{TellsLeaving};
-ghost use Rattle.mat_cuts.specs.Cuts.{all_weight, weight_on, AreRightCuts, IsWeightedCut};
+ghost use Rattle.std.specs.{Prelude.{◌≡◌, ◌≤◌, ◌<◌, ◌*◌, ◌^◌, ◌≤ℤ◌, ◌↔◌, ℕ, length, false, All, IfOk, IsTrue}, List.{AllByRecursion}};
+ghost use Rattle.mat_sets.specs.{
+  Limits.{largest_number},
+  Graphs.{ends_of, enters, IsGraph, IsSpanningArborescence, IsRootFree, IsUnentered},
+  Sets.{AllBelow},
+  Sums.{IsWithin},
+};
+ghost use Rattle.mat_cuts.specs.{
+  Limits.{cut_bound, vertex_bound, arc_bound},
+  Answers.{AreInRange, AreRight, IsCutInRange},
+  Checking.{IsAdded},
+  Costs.{cost_at, cost_of, IsCost},
+  Growing.{TellsLeaving},
+  Cuts.{all_weight, weight_on, AreRightCuts, IsWeightedCut},
+};
 
 use crate::cut_weight::{CutWeight, Cuts};
 use crate::growing::leaves;

@@ -1,13 +1,13 @@
 //! The tree that grows from the root by the earliest arcs.
 ghost use Rattle.std.specs.Prelude.{◌≡◌, ◌<◌, ◌^◌, ℕ, length, true, IfOk};
-ghost use Rattle.mat_cuts.specs.Limits.{never};
-ghost use Rattle.mat_sets.specs.Graphs.{ends_of, IsGraph, IsSpanningArborescence};
-ghost use Rattle.mat_sets.specs.Search.{those_below};
-ghost use Rattle.mat_sets.specs.Sets.{is_member, IsSet};
-ghost use Rattle.mat_cuts.specs.Costs.{cost_of};
-ghost use Rattle.mat_cuts.specs.Cuts.{all_weight};
-ghost use Rattle.mat_cuts.specs.Growing.{is_timed, leaves, TellsEarliest};
-ghost use Rattle.mat_cuts.specs.Raising.{at, IsRaised, Leads};
+ghost use Rattle.mat_cuts.specs.{
+  Limits.{never},
+  Costs.{cost_of},
+  Cuts.{all_weight},
+  Growing.{is_timed, leaves, TellsEarliest},
+  Raising.{at, IsRaised, Leads},
+};
+ghost use Rattle.mat_sets.specs.{Graphs.{ends_of, IsGraph, IsSpanningArborescence}, Search.{those_below}, Sets.{is_member, IsSet}};
 
 use crate::cut_weight::CutWeight;
 use crate::lowering::NEVER;

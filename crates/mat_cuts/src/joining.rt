@@ -1,9 +1,7 @@
 //! The path of joined vertex sets, as places of the vertices.
 ghost use Rattle.std.specs.Prelude.{◌≡◌, ◌+◌, ◌<◌, ◌==◌, length, IfOk};
-ghost use Rattle.mat_cuts.specs.Limits.{never};
+ghost use Rattle.mat_cuts.specs.{Limits.{never}, Listing.{IsJoined, IsPushed}, Raising.{at}};
 ghost use Rattle.mat_sets.specs.Search.{those_below};
-ghost use Rattle.mat_cuts.specs.Listing.{IsJoined, IsPushed};
-ghost use Rattle.mat_cuts.specs.Raising.{at};
 
 use mat_sets::ElemSet;
 use std::alloc::{AllocError, Global};

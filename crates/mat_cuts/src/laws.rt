@@ -1,9 +1,7 @@
 //! Laws of weighted cuts, for any graph.
 ghost use Rattle.std.specs.Prelude.{◌≡◌, ℕ, ℤ, List, length, true};
-ghost use Rattle.mat_sets.specs.Graphs.{ends_of, enters, IsSpanningArborescence, IsRootFree, IsUnentered};
-ghost use Rattle.mat_sets.specs.Sets.{is_member};
-ghost use Rattle.mat_cuts.specs.Cuts.{AreRightCuts, IsCheapest};
-ghost use Rattle.mat_cuts.specs.declared.cut_weight.CutWeight.{CutWeight};
+ghost use Rattle.mat_sets.specs.{Graphs.{ends_of, enters, IsSpanningArborescence, IsRootFree, IsUnentered}, Sets.{is_member}};
+ghost use Rattle.mat_cuts.specs.{Cuts.{AreRightCuts, IsCheapest}, declared.cut_weight.CutWeight.{CutWeight}};
 
 /// Each spanning arborescence has an arc that enters each root-free vertex set.
 pub fn arborescence_enters()

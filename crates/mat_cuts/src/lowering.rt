@@ -1,10 +1,7 @@
 //! The costs that are left at the arcs, and since when they are spent.
 ghost use Rattle.std.specs.Prelude.{◌≡◌, ◌<◌, ◌≤ℤ◌, ℕ, length, pos, true, IfOk};
-ghost use Rattle.mat_sets.specs.Graphs.{ends_of, IsGraph};
-ghost use Rattle.mat_sets.specs.Search.{those_below};
-ghost use Rattle.mat_sets.specs.Sets.{is_member, IsSet};
-ghost use Rattle.mat_cuts.specs.Costs.{cost_at, IsWideCost};
-ghost use Rattle.mat_cuts.specs.Raising.{at, comes, IsFirstTime, IsLowered, TellsLeastOf};
+ghost use Rattle.mat_sets.specs.{Graphs.{ends_of, IsGraph}, Search.{those_below}, Sets.{is_member, IsSet}};
+ghost use Rattle.mat_cuts.specs.{Costs.{cost_at, IsWideCost}, Raising.{at, comes, IsFirstTime, IsLowered, TellsLeastOf}};
 
 use std::alloc::{AllocError, Global};
 

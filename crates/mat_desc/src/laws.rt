@@ -1,13 +1,15 @@
 //! What holds of every text, and of every text that is written.
 
 ghost use Rattle.std.specs.Prelude.{◌≡◌, ◌↔◌, ◌⊎◌, ℕ, List, Ok, Err};
-ghost use Rattle.mat_desc.specs.Canonical.{canonical_text, named_text};
-ghost use Rattle.mat_desc.specs.Faults.{Fault};
-ghost use Rattle.mat_desc.specs.Grammar.{IsValid, Spells, SpellsNamed};
-ghost use Rattle.mat_desc.specs.Instances.{Instance};
-ghost use Rattle.mat_desc.specs.Notations.{NamedInstance, IsNotationFor, names};
-ghost use Rattle.mat_desc.specs.Reading.{read_of, named_of};
-ghost use Rattle.mat_desc.specs.Soundness.{IsSoundInstance};
+ghost use Rattle.mat_desc.specs.{
+  Canonical.{canonical_text, named_text},
+  Faults.{Fault},
+  Grammar.{IsValid, Spells, SpellsNamed},
+  Instances.{Instance},
+  Notations.{NamedInstance, IsNotationFor, names},
+  Reading.{read_of, named_of},
+  Soundness.{IsSoundInstance},
+};
 
 /// The reading of a text gives exactly the problem that the text spells. So a text spells at most one problem, and it spells one or has
 /// exactly one first fault, and never both.

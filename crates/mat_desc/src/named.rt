@@ -1,15 +1,16 @@
 //! Problems with names for their elements and their vertices.
 
 ghost use Rattle.std.specs.Prelude.{◌≡◌, ◌<◌, ◌≤◌, ◌^◌, true, [], ◌∷◌, length, IfOk};
-ghost use Rattle.mat_desc.specs.Faults.{Gives};
-ghost use Rattle.mat_desc.specs.Grammar.{IsValid, SpellsNamed};
-ghost use Rattle.mat_desc.specs.Limits.{description_limit};
-ghost use Rattle.mat_desc.specs.Notations.{IsNotationFor, NamedInstance, named_by, names, numbered, numbers};
-ghost use Rattle.mat_desc.specs.Reading.{named_of};
-ghost use Rattle.mat_desc.specs.Soundness.{IsSoundInstance};
-ghost use Rattle.mat_desc.specs.Views.{instance_of, notation_of, named_instance, named_with};
-ghost use Rattle.mat_words.specs.NameLists.{names_of};
-ghost use Rattle.mat_words.specs.Words.{is_letter};
+ghost use Rattle.mat_desc.specs.{
+  Faults.{Gives},
+  Grammar.{IsValid, SpellsNamed},
+  Limits.{description_limit},
+  Notations.{IsNotationFor, NamedInstance, named_by, names, numbered, numbers},
+  Reading.{named_of},
+  Soundness.{IsSoundInstance},
+  Views.{instance_of, notation_of, named_instance, named_with},
+};
+ghost use Rattle.mat_words.specs.{NameLists.{names_of}, Words.{is_letter}};
 
 use crate::problem::Problem;
 use crate::read::{Notation, read_description};
@@ -46,8 +47,7 @@ fn numbered_names(alloc: Global, letter: u8, count: usize) -> Result<Names, Allo
 
 impl Problem {
     ghost use Rattle.std.specs.Prelude.{◌≡◌};
-    ghost use Rattle.mat_desc.specs.Notations.{count_of_elements, count_of_vertices};
-    ghost use Rattle.mat_desc.specs.Views.{instance_of};
+    ghost use Rattle.mat_desc.specs.{Notations.{count_of_elements, count_of_vertices}, Views.{instance_of}};
 
     /// How many elements the problem has: edges, arcs or cells where its form has these.
     fn element_count(&self) -> usize

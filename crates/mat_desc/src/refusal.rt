@@ -1,9 +1,11 @@
 //! Why a text is no description.
 
 ghost use Rattle.std.specs.Prelude.{◌≡◌};
-ghost use Rattle.mat_desc.specs.Faults.{kind_of, refusal_of};
-ghost use Rattle.mat_desc.specs.Kinds.{kind_number, kind_name};
-ghost use Rattle.mat_desc.specs.declared.refusal.DescRefusal.TheVariants.{Fault, Memory};
+ghost use Rattle.mat_desc.specs.{
+  Faults.{kind_of, refusal_of},
+  Kinds.{kind_number, kind_name},
+  declared.refusal.DescRefusal.TheVariants.{Fault, Memory},
+};
 
 use mat_words::{NumberFault, ReadingFault, ReadingRefusal};
 use std::alloc::{AllocError, AllocFailed};

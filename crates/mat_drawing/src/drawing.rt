@@ -1,9 +1,11 @@
 //! Drawings, line by line of markup.
 
-ghost use Rattle.std.specs.Prelude.{◌≡◌, ◌++◌, [], pos, ◌+ℤ◌, ◌*ℤ◌, length, true, IfOk, OnOk};
-ghost use Rattle.std.specs.Int.{w64, saturate_signed};
-ghost use Rattle.std.specs.List.{list_all};
-ghost use Rattle.std.specs.Str.Lines.{lines};
+ghost use Rattle.std.specs.{
+  Prelude.{◌≡◌, ◌++◌, [], pos, ◌+ℤ◌, ◌*ℤ◌, length, true, IfOk, OnOk},
+  Int.{w64, saturate_signed},
+  List.{list_all},
+  Str.Lines.{lines},
+};
 ghost use Rattle.mat_drawing.specs.Markup.{AddsMarkup, IsMarkup, IsPicture};
 ghost use Rattle.mat_text.specs.Texts.{is_text_byte};
 
@@ -28,8 +30,7 @@ pub struct Drawing {
 }
 
 impl Model for Drawing {
-    ghost use Rattle.mat_drawing.specs.Drawn.{Drawn};
-    ghost use Rattle.mat_drawing.specs.Markup.{IsMarkup};
+    ghost use Rattle.mat_drawing.specs.{Drawn.{Drawn}, Markup.{IsMarkup}};
 
     ghost Value = { Drawn };
 

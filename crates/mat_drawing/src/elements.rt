@@ -1,8 +1,7 @@
 //! Elements with their attributes.
 
 ghost use Rattle.std.specs.Prelude.{◌≡◌, ◌∷◌, true, IfOk, OnOk};
-ghost use Rattle.mat_drawing.specs.Markup.{AddsAttributes, IsDocument, IsElement, IsMarkup};
-ghost use Rattle.mat_drawing.specs.Names.{is_name};
+ghost use Rattle.mat_drawing.specs.{Markup.{AddsAttributes, IsDocument, IsElement, IsMarkup}, Names.{is_name}};
 
 use crate::attribute::Attribute;
 use crate::escaping::put_escaped;

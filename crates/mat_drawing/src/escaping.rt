@@ -1,10 +1,7 @@
 //! Words in markup.
 
-ghost use Rattle.std.specs.Prelude.{◌≡◌, ◌++◌, ℕ, List, true, OnOk, IfOk, map};
-ghost use Rattle.std.specs.List.{list_all};
-ghost use Rattle.mat_drawing.specs.Escaping.{entity, escaped, is_plain};
-ghost use Rattle.mat_drawing.specs.Markup.{IsMarkup};
-ghost use Rattle.mat_drawing.specs.Names.{printed};
+ghost use Rattle.std.specs.{Prelude.{◌≡◌, ◌++◌, ℕ, List, true, OnOk, IfOk, map}, List.{list_all}};
+ghost use Rattle.mat_drawing.specs.{Escaping.{entity, escaped, is_plain}, Markup.{IsMarkup}, Names.{printed}};
 
 use std::alloc::{AllocError, Global};
 use std::fmt::Display;

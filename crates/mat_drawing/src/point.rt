@@ -1,7 +1,6 @@
 //! Points of a drawing.
 
-ghost use Rattle.std.specs.Prelude.{◌≡◌, ◌+ℤ◌};
-ghost use Rattle.std.specs.Int.{w64, saturate_signed};
+ghost use Rattle.std.specs.{Prelude.{◌≡◌, ◌+ℤ◌}, Int.{w64, saturate_signed}};
 
 use crate::units::Units;
 use std::fmt;

@@ -1,7 +1,9 @@
 //! Numbers of units, in which a drawing is measured.
 
-ghost use Rattle.std.specs.Prelude.{◌≡◌, ◌<◌, ◌^◌, pos, ◌+ℤ◌, ◌-ℤ◌, ◌*ℤ◌, ◌<ℤ◌, ◌≤ℤ◌};
-ghost use Rattle.std.specs.Int.{w64, int_div_euclid, saturate_signed, IsIsqrt};
+ghost use Rattle.std.specs.{
+  Prelude.{◌≡◌, ◌<◌, ◌^◌, pos, ◌+ℤ◌, ◌-ℤ◌, ◌*ℤ◌, ◌<ℤ◌, ◌≤ℤ◌},
+  Int.{w64, int_div_euclid, saturate_signed, IsIsqrt},
+};
 
 use std::fmt;
 use std::ops::{Add, Mul, Sub};

@@ -27,8 +27,7 @@ struct ExchangeRows<'a, M: Matroid> {
 
 impl<'a, M: Matroid> Model for ExchangeRows<'a, M> {
     ghost use Rattle.std.specs.Prelude.{◌≡◌, List, true};
-    ghost use Rattle.mat_laws.specs.declared.exchange.Exchange.{Exchange};
-    ghost use Rattle.mat_laws.specs.Exchanges.{rows_of};
+    ghost use Rattle.mat_laws.specs.{declared.exchange.Exchange.{Exchange}, Exchanges.{rows_of}};
 
     ghost Value = { List Exchange };
 

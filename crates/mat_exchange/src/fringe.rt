@@ -1,13 +1,14 @@
 //! The elements outside a reached set that a change of the weights lets in, each with the greatest of its gains: the frontier and the keys of
 //! Dijkstra's algorithm, as the Hungarian method runs it (Schrijver, chapters 7 and 17).
 ghost use Rattle.std.specs.Prelude.{◌≡◌, ◌&&◌, ◌==◌, if◌then◌else◌, ◌<◌, ◌≤◌, ℕ, true, length, OnOk};
-ghost use Rattle.mat_sets.specs.Bits.{bits_of};
-ghost use Rattle.mat_sets.specs.Limits.{largest_number, most_elements};
-ghost use Rattle.mat_sets.specs.Sets.{is_member};
-ghost use Rattle.mat_sets.specs.Weights.{◌⊕◌, ◌⊖◌, weight_at, IsWeightWithin, AreWeightsWithin};
+ghost use Rattle.mat_sets.specs.{
+  Bits.{bits_of},
+  Limits.{largest_number, most_elements},
+  Sets.{is_member},
+  Weights.{◌⊕◌, ◌⊖◌, weight_at, IsWeightWithin, AreWeightsWithin},
+};
 ghost use Rattle.mat_laws.specs.TightPaths.{exchanges_in};
-ghost use Rattle.mat_exchange.specs.Changes.{change_room, lowered, raised};
-ghost use Rattle.mat_exchange.specs.Growing.{IsOffered, gain_at, leads, entry_gain};
+ghost use Rattle.mat_exchange.specs.{Changes.{change_room, lowered, raised}, Growing.{IsOffered, gain_at, leads, entry_gain}};
 
 use crate::row_table::RowTable;
 use crate::slack::excess;

@@ -1,13 +1,17 @@
 //! The search that grows until it finds a tight path or has no slack.
 ghost use Rattle.std.specs.Prelude.{◌≡◌, ◌<◌, ◌≤◌, ◌&&◌, ◌==◌, ℕ, true, not, nat_lt, [], length, IfOk, OnOk, ◌↔◌};
-ghost use Rattle.mat_sets.specs.Limits.{most_elements, largest_number, largest_weight, split_room};
-ghost use Rattle.mat_sets.specs.Sets.{is_member, with_one};
-ghost use Rattle.mat_sets.specs.Weights.{◌⊕◌, weight_at, IsWeightWithin, AreWeightsWithin};
+ghost use Rattle.mat_sets.specs.{
+  Limits.{most_elements, largest_number, largest_weight, split_room},
+  Sets.{is_member, with_one},
+  Weights.{◌⊕◌, weight_at, IsWeightWithin, AreWeightsWithin},
+};
 ghost use Rattle.mat_laws.specs.TightPaths.{exchanges_in};
-ghost use Rattle.mat_exchange.specs.RowTables.{AreAlike};
-ghost use Rattle.mat_exchange.specs.Tables.{IsTableAt};
-ghost use Rattle.mat_exchange.specs.Searching.{is_stuck, HasNoTightPath};
-ghost use Rattle.mat_exchange.specs.Growing.{IsEntry, IsFringe, NoExchangeGains, IsGrown, IsGrownSplit, IsHeaviestOf, StaysHeaviest, sum_at};
+ghost use Rattle.mat_exchange.specs.{
+  RowTables.{AreAlike},
+  Tables.{IsTableAt},
+  Searching.{is_stuck, HasNoTightPath},
+  Growing.{IsEntry, IsFringe, NoExchangeGains, IsGrown, IsGrownSplit, IsHeaviestOf, StaysHeaviest, sum_at},
+};
 
 use crate::fringe::{change, offer, offer_exchanges, put_back};
 use crate::grown::Grown;

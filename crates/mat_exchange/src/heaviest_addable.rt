@@ -1,7 +1,6 @@
 //! The greatest weight among the elements that can be added.
 ghost use Rattle.std.specs.Prelude.{◌≡◌, ◌<◌, ◌≤◌, if◌then◌else◌, length};
-ghost use Rattle.mat_sets.specs.Limits.{most_elements};
-ghost use Rattle.mat_sets.specs.Weights.{weight_at};
+ghost use Rattle.mat_sets.specs.{Limits.{most_elements}, Weights.{weight_at}};
 ghost use Rattle.mat_laws.specs.TightPaths.{exchanges_in};
 ghost use Rattle.mat_exchange.specs.HeaviestAddable.{IsHeaviestWeightOrNone, greater_of};
 

@@ -1,8 +1,6 @@
 //! A heaviest member of a set, and one that two sets have in common.
 ghost use Rattle.std.specs.Prelude.{◌≡◌, ◌&&◌, ◌<◌, ◌≤◌, ℕ, true, length, IfSome, Some};
-ghost use Rattle.mat_sets.specs.Limits.{most_elements};
-ghost use Rattle.mat_sets.specs.Sets.{is_member};
-ghost use Rattle.mat_sets.specs.Weights.{◌≼◌, weight_at};
+ghost use Rattle.mat_sets.specs.{Limits.{most_elements}, Sets.{is_member}, Weights.{◌≼◌, weight_at}};
 ghost use Rattle.mat_exchange.specs.Growing.{heavier_of, IsHeaviestOrNone};
 
 use mat_sets::{BitSet, Weight};

@@ -1,18 +1,16 @@
 //! Laws of exchanges at sets that two matroids have in common. Each law is the contract of a function that does nothing.
 
 ghost use Rattle.std.specs.Prelude.{◌≡◌, ℕ, suc, List, Bool, true, length};
-ghost use Rattle.mat_sets.specs.Sets.{IsSet};
-ghost use Rattle.mat_sets.specs.Walks.{IsWalk};
-ghost use Rattle.mat_sets.specs.declared.weight.Weight.{Weight};
-ghost use Rattle.mat_laws.specs.Matroids.{IsMatroid};
-ghost use Rattle.mat_laws.specs.Exchanges.{rows_of};
-ghost use Rattle.mat_laws.specs.Heaviest.{IsHeaviest};
-ghost use Rattle.mat_laws.specs.TightPaths.{Exchanges, exchanges_at, exchanges_in, exchanged_along};
-ghost use Rattle.mat_laws.specs.TightPaths.{is_heaviest_addable, is_tight, IsTightPath, IsStuckReach};
-ghost use Rattle.mat_laws.specs.Slacks.{IsSlack, IsLeastSlack};
-ghost use Rattle.mat_laws.specs.Ladders.{IsCut};
-ghost use Rattle.mat_exchange.specs.Changes.{IsChange};
-ghost use Rattle.mat_exchange.specs.Growing.{NoExchangeGains};
+ghost use Rattle.mat_sets.specs.{Sets.{IsSet}, Walks.{IsWalk}, declared.weight.Weight.{Weight}};
+ghost use Rattle.mat_laws.specs.{
+  Matroids.{IsMatroid},
+  Exchanges.{rows_of},
+  Heaviest.{IsHeaviest},
+  TightPaths.{Exchanges, exchanges_at, exchanges_in, exchanged_along, is_heaviest_addable, is_tight, IsTightPath, IsStuckReach},
+  Slacks.{IsSlack, IsLeastSlack},
+  Ladders.{IsCut},
+};
+ghost use Rattle.mat_exchange.specs.{Changes.{IsChange}, Growing.{NoExchangeGains}};
 
 /// Exchanging along a tight path with fewest vertices gives a set of one element more that is heaviest of its size in both matroids
 /// under the same weights (Frank 1981).

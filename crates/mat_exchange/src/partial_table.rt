@@ -1,9 +1,7 @@
 //! How a table of rows is made: the row of one element after the other is entered.
 ghost use Rattle.std.specs.Prelude.{◌≡◌, ℕ, ◌<◌, ◌≤◌, ◌+◌, true, false, List, length, IfOk, OnOk};
-ghost use Rattle.mat_sets.specs.Limits.{most_elements};
-ghost use Rattle.mat_sets.specs.Sets.{AllBelow};
-ghost use Rattle.mat_laws.specs.TightPaths.{row_in};
-ghost use Rattle.mat_laws.specs.declared.exchange.Exchange.{Exchange};
+ghost use Rattle.mat_sets.specs.{Limits.{most_elements}, Sets.{AllBelow}};
+ghost use Rattle.mat_laws.specs.{TightPaths.{row_in}, declared.exchange.Exchange.{Exchange}};
 ghost use Rattle.mat_exchange.specs.RowTables.{AreWhole, IsFilledTable};
 
 use crate::row_table::RowTable;

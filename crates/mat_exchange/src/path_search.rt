@@ -1,10 +1,8 @@
 //! The search for a tight path.
 ghost use Rattle.std.specs.Prelude.{◌≡◌, ◌≤◌, length, IfOk, ◌↔◌, true};
-ghost use Rattle.mat_sets.specs.Limits.{most_elements, largest_number};
-ghost use Rattle.mat_sets.specs.Weights.{weight_at, AreWeightsWithin};
+ghost use Rattle.mat_sets.specs.{Limits.{most_elements, largest_number}, Weights.{weight_at, AreWeightsWithin}};
 ghost use Rattle.mat_laws.specs.TightPaths.{exchanges_in};
-ghost use Rattle.mat_exchange.specs.Searching.{is_stuck, HasNoTightPath, IsFound};
-ghost use Rattle.mat_exchange.specs.Tables.{IsTableAt};
+ghost use Rattle.mat_exchange.specs.{Searching.{is_stuck, HasNoTightPath, IsFound}, Tables.{IsTableAt}};
 
 use crate::found::Found;
 use crate::heaviest_addable::heaviest_addable;

@@ -1,7 +1,6 @@
 //! The exchanges of all elements at an independent set, as rows of bits.
 ghost use Rattle.std.specs.Prelude.{◌≡◌, ℕ, ◌<◌, ◌&&◌, not, true, false, if◌then◌else◌, length, IfOk};
-ghost use Rattle.mat_sets.specs.Bits.{bits_of};
-ghost use Rattle.mat_sets.specs.Sets.{is_member};
+ghost use Rattle.mat_sets.specs.{Bits.{bits_of}, Sets.{is_member}};
 ghost use Rattle.mat_laws.specs.TightPaths.{exchanges_in};
 ghost use Rattle.mat_exchange.specs.RowTables.{AreAlike, AreTransposed, table_of};
 

@@ -1,12 +1,15 @@
 //! The least slack of a reached set.
 ghost use Rattle.std.specs.Prelude.{◌≡◌, ◌<◌, ◌≤◌, ◌&&◌, ℕ, true, not, nat_lt, length, IfOk, IfSome};
-ghost use Rattle.mat_sets.specs.Limits.{largest_number, most_elements};
-ghost use Rattle.mat_sets.specs.Sets.{is_member, AllBelow};
-ghost use Rattle.mat_sets.specs.Weights.{◌⊖◌, weight_at, IsWeightWithin, AreWeightsWithin};
-ghost use Rattle.mat_laws.specs.TightPaths.{exchanges_in};
-ghost use Rattle.mat_laws.specs.Slacks.{IsLeastSlackOrNone};
-ghost use Rattle.mat_exchange.specs.Growing.{excess_of};
-ghost use Rattle.mat_exchange.specs.SlackParts.{IsAdditionSlack, IsExchangeSlackAt, IsExchangeSlack, IsLeastOrNone, lesser_of};
+ghost use Rattle.mat_sets.specs.{
+  Limits.{largest_number, most_elements},
+  Sets.{is_member, AllBelow},
+  Weights.{◌⊖◌, weight_at, IsWeightWithin, AreWeightsWithin},
+};
+ghost use Rattle.mat_laws.specs.{TightPaths.{exchanges_in}, Slacks.{IsLeastSlackOrNone}};
+ghost use Rattle.mat_exchange.specs.{
+  Growing.{excess_of},
+  SlackParts.{IsAdditionSlack, IsExchangeSlackAt, IsExchangeSlack, IsLeastOrNone, lesser_of},
+};
 
 use crate::heaviest_addable::heaviest_addable;
 use crate::heaviest_members::heaviest_common;

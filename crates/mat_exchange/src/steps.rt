@@ -1,8 +1,10 @@
 //! How a reached set grows next.
 ghost use Rattle.std.specs.Prelude.{◌≡◌, ◌<◌, ◌≤◌, ℕ, true, length};
-ghost use Rattle.mat_sets.specs.Limits.{most_elements, largest_number};
-ghost use Rattle.mat_sets.specs.Sets.{is_member};
-ghost use Rattle.mat_sets.specs.Weights.{zero_weight, ◌⊕◌, ◌≼◌, weight_at, IsWeightWithin};
+ghost use Rattle.mat_sets.specs.{
+  Limits.{most_elements, largest_number},
+  Sets.{is_member},
+  Weights.{zero_weight, ◌⊕◌, ◌≼◌, weight_at, IsWeightWithin},
+};
 ghost use Rattle.mat_exchange.specs.Growing.{IsNextStep, IsBefore};
 
 use crate::heaviest_members::heaviest_member;

@@ -1,10 +1,12 @@
 //! The tight arcs at a common independent set of two matroids.
 ghost use Rattle.std.specs.Prelude.{◌≡◌, ◌<◌, ◌≤◌, ◌&&◌, ◌||◌, ℕ, Bool, true, length};
-ghost use Rattle.mat_sets.specs.Bits.{bits_of};
-ghost use Rattle.mat_sets.specs.Limits.{most_elements};
-ghost use Rattle.mat_sets.specs.Search.{IsNextFrom};
-ghost use Rattle.mat_sets.specs.Sets.{is_member};
-ghost use Rattle.mat_sets.specs.Weights.{is_same, weight_at};
+ghost use Rattle.mat_sets.specs.{
+  Bits.{bits_of},
+  Limits.{most_elements},
+  Search.{IsNextFrom},
+  Sets.{is_member},
+  Weights.{is_same, weight_at},
+};
 ghost use Rattle.mat_laws.specs.TightPaths.{exchanges_in, is_heaviest_addable};
 ghost use Rattle.mat_exchange.specs.HeaviestAddable.{IsHeaviestWeightOrNone, is_above};
 

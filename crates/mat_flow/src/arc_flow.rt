@@ -1,10 +1,11 @@
 //! Paths from one vertex to another that share no arc, or a cut that few live arcs enter.
 ghost use Rattle.std.specs.Prelude.{◌≡◌, ◌≢◌, ◌<◌, ◌↔◌, ℕ, true, Some, length, IfOk};
-ghost use Rattle.mat_sets.specs.Graphs.{ends_of, IsGraph};
-ghost use Rattle.mat_sets.specs.Sets.{AllBelow, IsSet};
-ghost use Rattle.mat_flow.specs.ArcAnswers.{is_arc_cut, HasNoArcPaths, IsArcAnswer};
-ghost use Rattle.mat_flow.specs.LineGraphs.{AreLeaving, IsLeftOut};
-ghost use Rattle.mat_flow.specs.LinkTables.{entry_at};
+ghost use Rattle.mat_sets.specs.{Graphs.{ends_of, IsGraph}, Sets.{AllBelow, IsSet}};
+ghost use Rattle.mat_flow.specs.{
+  ArcAnswers.{is_arc_cut, HasNoArcPaths, IsArcAnswer},
+  LineGraphs.{AreLeaving, IsLeftOut},
+  LinkTables.{entry_at},
+};
 
 use crate::arc_path::ArcPath;
 use crate::arc_residual::ArcResidual;

@@ -1,8 +1,6 @@
 //! Paths by their arcs, seen as the list of the arcs' numbers.
-ghost use Rattle.std.specs.Prelude.{◌≡◌, ◌==◌, ◌<◌, length, slice_index};
+ghost use Rattle.std.specs.{Prelude.{◌≡◌, ◌==◌, ◌<◌, length, slice_index}, Cmp.Lexicographic.{pointwise}, Cmp.Rules.{comparing}};
 ghost use Rattle.std.proofs.Common.{rules};
-ghost use Rattle.std.specs.Cmp.Lexicographic.{pointwise};
-ghost use Rattle.std.specs.Cmp.Rules.{comparing};
 
 use std::marker::Model;
 

@@ -1,7 +1,6 @@
 //! The residual graph in which the walks are sought that make one more path that shares no arc with the given ones.
 ghost use Rattle.std.specs.Prelude.{◌&&◌, ◌||◌, ◌==◌};
-ghost use Rattle.mat_sets.specs.Search.{IsNextFrom};
-ghost use Rattle.mat_sets.specs.Sets.{is_member};
+ghost use Rattle.mat_sets.specs.{Search.{IsNextFrom}, Sets.{is_member}};
 
 use crate::digraph::Digraph;
 use mat_sets::{BitRows, BitSet, ElemSet, Relation};
@@ -35,10 +34,11 @@ pub(crate) fn next_of(u: u32, row: &BitSet, among: &BitSet, from: u32) -> Option
 
 impl Relation for ArcResidual<'_> {
     ghost use Rattle.std.specs.Prelude.{ℕ, ◌≡◌, ◌<◌, length, Some};
-    ghost use Rattle.mat_sets.specs.Graphs.{ends_of, IsGraph};
-    ghost use Rattle.mat_sets.specs.Sets.{is_member};
-    ghost use Rattle.mat_flow.specs.LineGraphs.{arcs_from, arcs_to, line_arcs, AreLeaving};
-    ghost use Rattle.mat_flow.specs.LinkTables.{entry_at, residual_arc, residual_goal};
+    ghost use Rattle.mat_sets.specs.{Graphs.{ends_of, IsGraph}, Sets.{is_member}};
+    ghost use Rattle.mat_flow.specs.{
+      LineGraphs.{arcs_from, arcs_to, line_arcs, AreLeaving},
+      LinkTables.{entry_at, residual_arc, residual_goal},
+    };
 
     ghost count = { λ r. length r.graph.now.arcs };
 

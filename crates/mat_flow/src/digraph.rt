@@ -1,9 +1,7 @@
 //! Directed graphs, with a row of bits for each vertex.
 ghost use Rattle.std.specs.Prelude.{◌≡◌, ◌||◌, ◌==◌, ◌<◌, ℕ, [], IfOk};
-ghost use Rattle.mat_sets.specs.Graphs.{IsGraph};
-ghost use Rattle.mat_sets.specs.Sets.{is_member};
-ghost use Rattle.mat_flow.specs.Digraphs.{reversed_arcs, AreRows, IsTurned};
-ghost use Rattle.mat_flow.specs.Paths.{has_arc};
+ghost use Rattle.mat_sets.specs.{Graphs.{IsGraph}, Sets.{is_member}};
+ghost use Rattle.mat_flow.specs.{Digraphs.{reversed_arcs, AreRows, IsTurned}, Paths.{has_arc}};
 
 use mat_sets::{BitRows, BitSet, Pairs};
 use std::alloc::{AllocError, Global};

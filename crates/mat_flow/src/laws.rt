@@ -1,9 +1,10 @@
 //! Laws of disjoint paths and separators in a directed graph, for any lists of arcs, sources and targets.
 ghost use Rattle.std.specs.Prelude.{◌≡◌, ◌≤◌, ◌⊎◌, ℕ, true, false, List, length};
-ghost use Rattle.mat_sets.specs.Sets.{is_member, IsRising};
-ghost use Rattle.mat_flow.specs.ArcPaths.{AreArcPaths, IsArcCut};
-ghost use Rattle.mat_sets.specs.Graphs.{entering};
-ghost use Rattle.mat_flow.specs.Paths.{AreDisjointPaths, ArePathsApart, HasOnePathMore, HasSeparatorOf, IsLinking, IsSeparator};
+ghost use Rattle.mat_sets.specs.{Sets.{is_member, IsRising}, Graphs.{entering}};
+ghost use Rattle.mat_flow.specs.{
+  ArcPaths.{AreArcPaths, IsArcCut},
+  Paths.{AreDisjointPaths, ArePathsApart, HasOnePathMore, HasSeparatorOf, IsLinking, IsSeparator},
+};
 
 /// Where paths from sources to targets share no vertex with each other, there is one disjoint path more, at all their ends and
 /// one further target, or some separator has just as many vertices as they are many (Schrijver, chapter 9; Diestel, chapter 3).

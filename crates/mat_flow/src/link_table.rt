@@ -1,8 +1,7 @@
 //! The table of the vertex before each vertex, which holds disjoint paths, and how a path is taken out of it (Schrijver, chapters 9 and 16).
 ghost use Rattle.std.specs.Prelude.{◌≡◌, ◌≢◌, ◌<◌, ℕ, List, Some, true, length, slice_index, IfOk};
 ghost use Rattle.mat_sets.specs.Sets.{is_member, without_one};
-ghost use Rattle.mat_flow.specs.LinkTables.{entry_at, HasEnds, HasPathLeft, IsShifted};
-ghost use Rattle.mat_flow.specs.LinkedEnds.{IsLinkedTo};
+ghost use Rattle.mat_flow.specs.{LinkTables.{entry_at, HasEnds, HasPathLeft, IsShifted}, LinkedEnds.{IsLinkedTo}};
 
 use std::alloc::{AllocError, Global};
 

@@ -1,11 +1,7 @@
 //! Disjoint paths to a growing set of ends, by searches back from new ends (Schrijver, chapters 9 and 16).
 ghost use Rattle.std.specs.Prelude.{◌≡◌, ◌↔◌, ℕ, List, [], true, false, if◌then◌else◌, IfOk};
-ghost use Rattle.mat_sets.specs.Graphs.{IsGraph};
-ghost use Rattle.mat_sets.specs.Sets.{is_member, with_one, AllBelow};
-ghost use Rattle.mat_flow.specs.Digraphs.{IsTurned};
-ghost use Rattle.mat_flow.specs.LinkedEnds.{IsLinkedTo, IsLinker};
-ghost use Rattle.mat_flow.specs.Paths.{HasPathsToEach};
-ghost use Rattle.mat_flow.specs.Reroutes.{AreReroutes};
+ghost use Rattle.mat_sets.specs.{Graphs.{IsGraph}, Sets.{is_member, with_one, AllBelow}};
+ghost use Rattle.mat_flow.specs.{Digraphs.{IsTurned}, LinkedEnds.{IsLinkedTo, IsLinker}, Paths.{HasPathsToEach}, Reroutes.{AreReroutes}};
 
 use crate::digraph::Digraph;
 use crate::link_table::{LinkTable, no_links, shift_along};

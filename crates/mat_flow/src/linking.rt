@@ -1,9 +1,7 @@
 //! The largest number of disjoint paths from sources to targets, with a separator of as many vertices.
 ghost use Rattle.std.specs.Prelude.{◌≡◌, ℕ, true, false, IfOk};
-ghost use Rattle.mat_sets.specs.Sets.{is_member, AllBelow};
-ghost use Rattle.mat_sets.specs.Walks.{IsReachedSet};
-ghost use Rattle.mat_flow.specs.LinkTables.{residual_arc, residual_goal, IsLinkTable};
-ghost use Rattle.mat_flow.specs.Paths.{IsLinking};
+ghost use Rattle.mat_sets.specs.{Sets.{is_member, AllBelow}, Walks.{IsReachedSet}};
+ghost use Rattle.mat_flow.specs.{LinkTables.{residual_arc, residual_goal, IsLinkTable}, Paths.{IsLinking}};
 
 use crate::digraph::Digraph;
 use crate::link_table::{no_links, shift_along};

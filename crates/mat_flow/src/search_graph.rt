@@ -1,7 +1,6 @@
 //! Graphs in which walks are sought from starts that can be listed (Schrijver, chapter 6).
 ghost use Rattle.std.specs.Prelude.{◌≡◌, ◌<◌, ◌&&◌, ℕ, Bool, true};
-ghost use Rattle.mat_sets.specs.Search.{IsNextFrom};
-ghost use Rattle.mat_sets.specs.Sets.{is_member};
+ghost use Rattle.mat_sets.specs.{Search.{IsNextFrom}, Sets.{is_member}};
 
 use mat_sets::BitSet;
 

@@ -1,8 +1,7 @@
 //! The paths that a table holds, read from their starts.
 ghost use Rattle.std.specs.Prelude.{◌≡◌, ◌≢◌, ◌<◌, ℕ, Some, length, IfOk};
 ghost use Rattle.mat_sets.specs.Sets.{AllBelow, IsRising};
-ghost use Rattle.mat_flow.specs.LinkTables.{entry_at};
-ghost use Rattle.mat_flow.specs.Trails.{AreTrails, IsReversed, IsTrail};
+ghost use Rattle.mat_flow.specs.{LinkTables.{entry_at}, Trails.{AreTrails, IsReversed, IsTrail}};
 
 use crate::walk::Walk;
 use std::alloc::{AllocError, Global};

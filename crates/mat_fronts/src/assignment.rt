@@ -1,7 +1,6 @@
 //! Heaviest assignments.
 ghost use Rattle.std.specs.Prelude.{◌≡◌, ◌≤◌, length, IfOk};
-ghost use Rattle.mat_sets.specs.Limits.{most_elements, largest_weight};
-ghost use Rattle.mat_sets.specs.Weights.{AreWeightsWithin};
+ghost use Rattle.mat_sets.specs.{Limits.{most_elements, largest_weight}, Weights.{AreWeightsWithin}};
 ghost use Rattle.mat_work.specs.Workers.{AreWorkers};
 ghost use Rattle.mat_fronts.specs.Assignments.{AreCells, IsAssignmentLadder};
 

@@ -1,14 +1,14 @@
 //! What the answers prove. Each law is the contract of a function that does nothing.
 
 ghost use Rattle.std.specs.Prelude.{◌≡◌, ◌<◌, ◌≤◌, ◌+◌, ◌↔◌, ℕ, List, true, length, suc, slice_index};
-ghost use Rattle.mat_sets.specs.Graphs.{IsGraph, ends_of};
-ghost use Rattle.mat_sets.specs.Sets.{IsRising, IsSet};
-ghost use Rattle.mat_sets.specs.declared.weight.Weight.{Weight};
+ghost use Rattle.mat_sets.specs.{Graphs.{IsGraph, ends_of}, Sets.{IsRising, IsSet}, declared.weight.Weight.{Weight}};
 ghost use Rattle.mat_laws.specs.Ladders.{IsCut, IsRung};
 ghost use Rattle.mat_graphic.specs.Forests.{is_graphic, number_of_components};
-ghost use Rattle.mat_fronts.specs.Once.{AreLabelsOf, is_once};
-ghost use Rattle.mat_fronts.specs.Rainbow.{IsColouring, IsMissingColours, IsRainbowTree, edges_without};
-ghost use Rattle.mat_fronts.specs.Assignments.{AreCells, IsAssignment, row_at, column_at};
+ghost use Rattle.mat_fronts.specs.{
+  Once.{AreLabelsOf, is_once},
+  Rainbow.{IsColouring, IsMissingColours, IsRainbowTree, edges_without},
+  Assignments.{AreCells, IsAssignment, row_at, column_at},
+};
 
 /// A set of one edge fewer than there are vertices is a spanning tree of pairwise different colours exactly where it is independent in
 /// the graphic matroid and in the partition matroid of the colours.

@@ -1,12 +1,13 @@
 //! The search for rainbow spanning trees.
 ghost use Rattle.std.specs.Prelude.{◌≡◌, ◌≤◌, length, slice_index, IfOk};
-ghost use Rattle.mat_sets.specs.Limits.{most_vertices, most_elements, largest_weight};
-ghost use Rattle.mat_sets.specs.Graphs.{IsGraph};
-ghost use Rattle.mat_sets.specs.Sets.{AllBelow, IsRising};
-ghost use Rattle.mat_sets.specs.Weights.{AreWeightsWithin};
+ghost use Rattle.mat_sets.specs.{
+  Limits.{most_vertices, most_elements, largest_weight},
+  Graphs.{IsGraph},
+  Sets.{AllBelow, IsRising},
+  Weights.{AreWeightsWithin},
+};
 ghost use Rattle.mat_work.specs.Workers.{AreWorkers};
-ghost use Rattle.mat_fronts.specs.Once.{AreLabelsOf};
-ghost use Rattle.mat_fronts.specs.Rainbow.{IsColouring, IsRainbowLadder};
+ghost use Rattle.mat_fronts.specs.{Once.{AreLabelsOf}, Rainbow.{IsColouring, IsRainbowLadder}};
 
 use crate::rainbow_ladder::RainbowLadder;
 use mat_count::Partition;

@@ -1,8 +1,7 @@
 //! The generator of the draws.
 
 ghost use Rattle.std.specs.Prelude.{◌≡◌, ◌<◌, ℕ, suc, zero};
-ghost use Rattle.mat_gen.specs.Draws.{state_after, draw};
-ghost use Rattle.mat_gen.specs.Samples.{cost_drawn, pair_drawn, weight_drawn};
+ghost use Rattle.mat_gen.specs.{Draws.{state_after, draw}, Samples.{cost_drawn, pair_drawn, weight_drawn}};
 
 use mat_sets::Weight;
 use std::marker::Model;

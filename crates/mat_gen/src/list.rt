@@ -1,13 +1,10 @@
 //! Lists of two graphic matroids that are made from a number.
 
 ghost use Rattle.std.specs.Prelude.{◌≡◌, ◌<◌, ◌≤◌, ◌∷◌, [], map, IfOk};
-ghost use Rattle.mat_sets.specs.Limits.{most_elements};
-ghost use Rattle.mat_sets.specs.Graphs.{IsGraph};
-ghost use Rattle.mat_any.specs.Trees.{graphic};
-ghost use Rattle.mat_any.specs.Views.{tree_of};
+ghost use Rattle.mat_sets.specs.{Limits.{most_elements}, Graphs.{IsGraph}};
+ghost use Rattle.mat_any.specs.{Trees.{graphic}, Views.{tree_of}};
 ghost use Rattle.mat_desc.specs.Views.{instance_of};
-ghost use Rattle.mat_gen.specs.Samples.{pairs_drawn, weights_drawn, sample_of};
-ghost use Rattle.mat_gen.specs.declared.kind.SampleKind.TheVariants as kinds;
+ghost use Rattle.mat_gen.specs.{Samples.{pairs_drawn, weights_drawn, sample_of}, declared.kind.SampleKind.TheVariants as kinds};
 
 use crate::generator::Generator;
 use mat_any::AnyMatroid;

@@ -1,11 +1,9 @@
 //! Directed graphs with costs and a root that are made from a number.
 
 ghost use Rattle.std.specs.Prelude.{◌≡◌, ◌<◌, ◌≤◌, ◌+◌, ◌*◌, map, IfOk};
-ghost use Rattle.mat_sets.specs.Limits.{most_elements};
-ghost use Rattle.mat_sets.specs.Sets.{all_below};
+ghost use Rattle.mat_sets.specs.{Limits.{most_elements}, Sets.{all_below}};
 ghost use Rattle.mat_desc.specs.Views.{instance_of};
-ghost use Rattle.mat_gen.specs.Samples.{cost_drawn, pairs_drawn, sample_of};
-ghost use Rattle.mat_gen.specs.declared.kind.SampleKind.TheVariants as kinds;
+ghost use Rattle.mat_gen.specs.{Samples.{cost_drawn, pairs_drawn, sample_of}, declared.kind.SampleKind.TheVariants as kinds};
 
 use crate::generator::Generator;
 use mat_desc::Problem;

@@ -3,8 +3,7 @@
 ghost use Rattle.std.specs.Prelude.{◌≡◌, ◌<◌, ◌≤◌, IfOk};
 ghost use Rattle.mat_sets.specs.Limits.{most_elements};
 ghost use Rattle.mat_desc.specs.Views.{instance_of};
-ghost use Rattle.mat_gen.specs.Samples.{pairs_drawn, weights_drawn, sample_of};
-ghost use Rattle.mat_gen.specs.declared.kind.SampleKind.TheVariants as kinds;
+ghost use Rattle.mat_gen.specs.{Samples.{pairs_drawn, weights_drawn, sample_of}, declared.kind.SampleKind.TheVariants as kinds};
 
 use crate::generator::Generator;
 use mat_desc::Problem;

@@ -2,9 +2,11 @@
 ghost use Rattle.std.specs.Prelude.{◌≡◌, ◌≤◌, [], length, IfOk};
 ghost use Rattle.mat_sets.specs.Sets.{AllBelow, IsRising};
 ghost use Rattle.mat_laws.specs.GreedyRuns.{grown_along};
-ghost use Rattle.mat_gf2.specs.Columns.{column_of, is_gf2, is_linearly_independent};
-ghost use Rattle.mat_gf2.specs.Eliminations.{reduced_by};
-ghost use Rattle.mat_gf2.specs.TaggedColumns.{IsTaggedBasis, marked, reduced_tagged_by};
+ghost use Rattle.mat_gf2.specs.{
+  Columns.{column_of, is_gf2, is_linearly_independent},
+  Eliminations.{reduced_by},
+  TaggedColumns.{IsTaggedBasis, marked, reduced_tagged_by},
+};
 
 use mat_sets::ElemSet;
 use std::alloc::{AllocError, Global};

@@ -1,8 +1,6 @@
 //! Matroids of columns over the field of two elements.
 ghost use Rattle.std.specs.Prelude.{◌≡◌, length, IfOk};
-ghost use Rattle.mat_gf2.specs.Columns.{IsBinaryMatrix, column_of, is_gf2};
-ghost use Rattle.mat_gf2.specs.Gf2Laws.{gf2_laws};
-ghost use Rattle.mat_gf2.specs.KeptBases.{IsKeptBasis};
+ghost use Rattle.mat_gf2.specs.{Columns.{IsBinaryMatrix, column_of, is_gf2}, Gf2Laws.{gf2_laws}, KeptBases.{IsKeptBasis}};
 
 use crate::elimination::{
     TaggedColumn, are_independent, marked_members, reduce_tagged, run_along, tagged_basis,

@@ -1,13 +1,14 @@
 //! Graphic matroids.
 ghost use Rattle.std.specs.Prelude.{◌≡◌, ℕ, List, [], ◌∷◌, ◌<◌, ◌==◌, not, length, slice_index, IfOk};
-ghost use Rattle.mat_sets.specs.Graphs.{IsGraph, ends_of};
-ghost use Rattle.mat_sets.specs.Sets.{AllBelow, IsRising};
+ghost use Rattle.mat_sets.specs.{Graphs.{IsGraph, ends_of}, Sets.{AllBelow, IsRising}};
 ghost use Rattle.mat_laws.specs.GreedyRuns.{grown_along};
-ghost use Rattle.mat_graphic.specs.Forests.{IsLeastReached, is_forest, is_graphic};
-ghost use Rattle.mat_graphic.specs.Mergings.{least_merged};
-ghost use Rattle.mat_graphic.specs.ForestLaws.{graphic_laws};
-ghost use Rattle.mat_graphic.specs.RootedForests.{IsRootedForest};
-ghost use Rattle.mat_graphic.specs.ParentTables.{IsDescending, IsParentTable};
+ghost use Rattle.mat_graphic.specs.{
+  Forests.{IsLeastReached, is_forest, is_graphic},
+  Mergings.{least_merged},
+  ForestLaws.{graphic_laws},
+  RootedForests.{IsRootedForest},
+  ParentTables.{IsDescending, IsParentTable},
+};
 
 use crate::rooted_forest::{RootedForest, are_joined, root_trees, trail};
 use crate::union_find::{settle, singletons, unite};

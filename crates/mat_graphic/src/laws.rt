@@ -1,8 +1,7 @@
 //! What the tests of forests and of components mean, and the laws that they obey.
 ghost use Rattle.std.specs.Prelude.{◌≡◌, ◌↔◌, ◌<◌, ◌+◌, ℕ, List, true};
 ghost use Rattle.mat_sets.specs.Sets.{is_member, IsRising, IsSet};
-ghost use Rattle.mat_laws.specs.Matroids.{IsMatroid};
-ghost use Rattle.mat_laws.specs.Ranks.{rank};
+ghost use Rattle.mat_laws.specs.{Matroids.{IsMatroid}, Ranks.{rank}};
 ghost use Rattle.mat_graphic.specs.Forests.{IsForest, IsLeastReached, is_forest, is_graphic, least_reached, number_of_components};
 
 /// The test of forests holds exactly where no walk along a non-empty list of different edges ends where it begins.

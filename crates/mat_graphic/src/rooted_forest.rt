@@ -1,10 +1,11 @@
 //! Rooted forests, by breadth-first search, which asks each found vertex once for its edges, and the trails between their vertices.
 ghost use Rattle.std.specs.Prelude.{◌≡◌, ◌≢◌, ◌<◌, ◌≤◌, ◌==◌, ℕ, List, length, slice_index, true, IfOk, OnOk, MatchOption};
-ghost use Rattle.mat_sets.specs.Graphs.{IsGraph, ends_of};
-ghost use Rattle.mat_sets.specs.Sets.{AllBelow, IsRising, is_member};
-ghost use Rattle.mat_graphic.specs.Mergings.{least_merged};
-ghost use Rattle.mat_graphic.specs.RootedForests.{IsRootedForest};
-ghost use Rattle.mat_graphic.specs.TrailSearches.{AreEnds, AreJoined, ArePlaces, IsExploring, IsFindable, IsFront, IsOrder, IsTree, IsTrailSet};
+ghost use Rattle.mat_sets.specs.{Graphs.{IsGraph, ends_of}, Sets.{AllBelow, IsRising, is_member}};
+ghost use Rattle.mat_graphic.specs.{
+  Mergings.{least_merged},
+  RootedForests.{IsRootedForest},
+  TrailSearches.{AreEnds, AreJoined, ArePlaces, IsExploring, IsFindable, IsFront, IsOrder, IsTree, IsTrailSet},
+};
 
 use mat_sets::ElemSet;
 use std::alloc::{AllocError, Global};

@@ -1,7 +1,6 @@
 //! Union-find over the vertices of a graph: the root of a component is its least vertex.
 ghost use Rattle.std.specs.Prelude.{◌≡◌, ◌<◌, ◌≤◌, ◌==◌, ℕ, length, not, slice_index, IfOk};
-ghost use Rattle.mat_graphic.specs.Mergings.{merged};
-ghost use Rattle.mat_graphic.specs.ParentTables.{IsDescending, IsParentTable};
+ghost use Rattle.mat_graphic.specs.{Mergings.{merged}, ParentTables.{IsDescending, IsParentTable}};
 
 use std::alloc::{AllocError, Global};
 

@@ -1,11 +1,8 @@
 //! The greedy algorithm on a matroid.
 
 ghost use Rattle.std.specs.Prelude.{◌≡◌, ◌<◌, ◌≤◌, length, IfOk, IfSome, IsNone, ◌↔◌};
-ghost use Rattle.mat_sets.specs.Limits.{most_elements, largest_number};
-ghost use Rattle.mat_sets.specs.Sets.{all_below};
-ghost use Rattle.mat_sets.specs.Weights.{weight_at, AreWeightsWithin};
-ghost use Rattle.mat_laws.specs.Ranks.{rank};
-ghost use Rattle.mat_laws.specs.Heaviest.{IsHeaviest};
+ghost use Rattle.mat_sets.specs.{Limits.{most_elements, largest_number}, Sets.{all_below}, Weights.{weight_at, AreWeightsWithin}};
+ghost use Rattle.mat_laws.specs.{Ranks.{rank}, Heaviest.{IsHeaviest}};
 ghost use Rattle.mat_greedy.specs.Greedy.{AreHeaviestEach, AreHeaviestWeights};
 
 use crate::order::order_by_weight;

@@ -2,16 +2,15 @@
 
 ghost use Rattle.std.specs.Prelude.{◌≡◌, ◌≤◌, ℕ, List, OnOk, IfOk, IfErr, IfSome};
 ghost use Rattle.mat_work.specs.Workers.{AreWorkers};
-ghost use Rattle.mat_cert.specs.Certificates.{IsRanged};
-ghost use Rattle.mat_cert.specs.Views.{certificate_of};
+ghost use Rattle.mat_cert.specs.{Certificates.{IsRanged}, Views.{certificate_of}};
 ghost use Rattle.mat_check.specs.Right.{IsRight};
-ghost use Rattle.mat_desc.specs.Grammar.{IsValid};
-ghost use Rattle.mat_desc.specs.Soundness.{IsSoundInstance};
-ghost use Rattle.mat_desc.specs.Views.{instance_of};
-ghost use Rattle.mat_judge.specs.declared.certified.Uncertified.TheVariants as uncertified;
-ghost use Rattle.mat_judge.specs.declared.certified.NotRight.TheVariants as not_right;
-ghost use Rattle.mat_judge.specs.declared.reading.Unread.TheVariants.{Memory};
-ghost use Rattle.mat_judge.specs.Certified.{IsCertified, IsRightAnswer, HasRightAnswer, IsUncertified, IsNotRight, uncertified_by};
+ghost use Rattle.mat_desc.specs.{Grammar.{IsValid}, Soundness.{IsSoundInstance}, Views.{instance_of}};
+ghost use Rattle.mat_judge.specs.{
+  declared.certified.Uncertified.TheVariants as uncertified,
+  declared.certified.NotRight.TheVariants as not_right,
+  declared.reading.Unread.TheVariants.{Memory},
+  Certified.{IsCertified, IsRightAnswer, HasRightAnswer, IsUncertified, IsNotRight, uncertified_by},
+};
 
 use crate::reading::{Unread, read_all};
 use mat_cert::{Answer, CertKind, CertRefusal, read_answer};

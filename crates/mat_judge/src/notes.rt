@@ -1,10 +1,8 @@
 //! The note of a refusal.
 
 ghost use Rattle.std.specs.Prelude.{◌≤◌, flat_map, OnOk, OnErr};
-ghost use Rattle.mat_shelf.specs.Faults.{Rose};
-ghost use Rattle.mat_shelf.specs.Writing.{Appended, AppendedPrefix};
-ghost use Rattle.mat_judge.specs.Notes.{fault_note, note_of, note_of_denial, note_of_unread, IsNoted};
-ghost use Rattle.mat_judge.specs.Texts.{piece_text};
+ghost use Rattle.mat_shelf.specs.{Faults.{Rose}, Writing.{Appended, AppendedPrefix}};
+ghost use Rattle.mat_judge.specs.{Notes.{fault_note, note_of, note_of_denial, note_of_unread, IsNoted}, Texts.{piece_text}};
 
 use crate::reading::Unread;
 use crate::refusal::{Denial, Refusal};

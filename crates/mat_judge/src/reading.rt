@@ -1,8 +1,10 @@
 //! Reading a whole file.
 
 ghost use Rattle.std.specs.Prelude.{◌≡◌, ◌≤◌, ◌<◌, ◌^◌, ◌+◌, ℕ, List, true, false, length, vec_len, OnOk, IfOk, IfErr, MatchResult};
-ghost use Rattle.mat_judge.specs.declared.reading.Unread.TheVariants.{Fault, Memory};
-ghost use Rattle.mat_judge.specs.WholeFiles.{WasRead, NotRead, NotTaken, GoesOn, IsAtEnd};
+ghost use Rattle.mat_judge.specs.{
+  declared.reading.Unread.TheVariants.{Fault, Memory},
+  WholeFiles.{WasRead, NotRead, NotTaken, GoesOn, IsAtEnd},
+};
 
 use mat_shelf::{Failed, Shelf};
 use std::alloc::{AllocError, Global};

@@ -1,8 +1,16 @@
 //! Why a call is refused.
 
 ghost use Rattle.std.specs.Prelude.{◌≡◌};
-ghost use Rattle.mat_judge.specs.Statuses.{status_of, status_of_denial, status_of_unread, out_of_memory};
-ghost use Rattle.mat_judge.specs.Statuses.{refusal_of_unread, refusal_of_undescribed, refusal_of_uncertified, refusal_of_not_right};
+ghost use Rattle.mat_judge.specs.Statuses.{
+  status_of,
+  status_of_denial,
+  status_of_unread,
+  out_of_memory,
+  refusal_of_unread,
+  refusal_of_undescribed,
+  refusal_of_uncertified,
+  refusal_of_not_right,
+};
 
 use crate::certified::{NotRight, Uncertified};
 use crate::described::Undescribed;

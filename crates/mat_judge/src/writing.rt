@@ -1,8 +1,7 @@
 //! Writing a whole text.
 
 ghost use Rattle.std.specs.Prelude.{◌≤◌, OnOk, OnErr};
-ghost use Rattle.mat_shelf.specs.Faults.{Rose};
-ghost use Rattle.mat_shelf.specs.Writing.{Appended, AppendedPrefix};
+ghost use Rattle.mat_shelf.specs.{Faults.{Rose}, Writing.{Appended, AppendedPrefix}};
 ghost use Rattle.mat_judge.specs.Texts.{all_texts};
 
 use mat_shelf::{Failed, Sink};

@@ -2,8 +2,7 @@
 
 ghost use Rattle.std.specs.Prelude.{◌≡◌, ◌++◌, true, IfOk};
 ghost use Rattle.mat_sets.specs.Sets.{AllBelow, IsSubset, minus, union};
-ghost use Rattle.mat_laws.specs.Matroids.{IsMaximal};
-ghost use Rattle.mat_laws.specs.Ranks.{IsRank, rank};
+ghost use Rattle.mat_laws.specs.{Matroids.{IsMaximal}, Ranks.{IsRank, rank}};
 
 use crate::matroid::Matroid;
 use mat_sets::ElemSet;

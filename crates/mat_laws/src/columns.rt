@@ -1,7 +1,6 @@
 //! Exchanges column by column.
 ghost use Rattle.std.specs.Prelude.{◌≡◌, ℕ, [], length, IfOk, OnOk};
-ghost use Rattle.mat_sets.specs.Rows.{row_at, IsEntered};
-ghost use Rattle.mat_sets.specs.Sets.{AllBelow};
+ghost use Rattle.mat_sets.specs.{Rows.{row_at, IsEntered}, Sets.{AllBelow}};
 
 use mat_sets::ElemSet;
 use std::alloc::{AllocError, Global};

@@ -2,16 +2,20 @@
 //! function that does nothing.
 
 ghost use Rattle.std.specs.Prelude.{◌≡◌, ◌↔◌, ◌+◌, ◌<◌, ◌≤◌, ◌||◌, ℕ, List, Bool, true, false, length, ◌≤ℤ◌};
-ghost use Rattle.mat_sets.specs.Sets.{is_member, IsRising, IsSet, all_below, with_one, minus, union};
-ghost use Rattle.mat_sets.specs.Sums.{sum_of};
-ghost use Rattle.mat_sets.specs.Weights.{◌≺◌};
-ghost use Rattle.mat_sets.specs.declared.weight.Weight.{Weight};
-ghost use Rattle.mat_laws.specs.Matroids.{IsMatroid, IsMaximal, IsBase};
-ghost use Rattle.mat_laws.specs.Ranks.{IsRank, rank};
-ghost use Rattle.mat_laws.specs.Exchanges.{HasSymmetricPartner, IsTriangular};
-ghost use Rattle.mat_laws.specs.Heaviest.{IsHeaviest, IsLocallyHeaviest};
-ghost use Rattle.mat_laws.specs.Ladders.{IsCut};
-ghost use Rattle.mat_laws.specs.TightPaths.{Exchanges, exchanges_at, is_heaviest_addable};
+ghost use Rattle.mat_sets.specs.{
+  Sets.{is_member, IsRising, IsSet, all_below, with_one, minus, union},
+  Sums.{sum_of},
+  Weights.{◌≺◌},
+  declared.weight.Weight.{Weight},
+};
+ghost use Rattle.mat_laws.specs.{
+  Matroids.{IsMatroid, IsMaximal, IsBase},
+  Ranks.{IsRank, rank},
+  Exchanges.{HasSymmetricPartner, IsTriangular},
+  Heaviest.{IsHeaviest, IsLocallyHeaviest},
+  Ladders.{IsCut},
+  TightPaths.{Exchanges, exchanges_at, is_heaviest_addable},
+};
 
 /// The rank of a set is the largest size of an independent subset (Schrijver, chapter 39).
 pub fn rank_is_largest()

@@ -2,10 +2,12 @@
 
 ghost use Rattle.std.specs.Prelude.{◌≡◌, ◌<◌, ◌&&◌, ℕ, List, [], Bool, true, false, not, if◌then◌else◌, IfOk, OnErr};
 ghost use Rattle.mat_sets.specs.Sets.{AllBelow, AreDistinct, IsRising, IsSubset, is_member, with_one, union};
-ghost use Rattle.mat_laws.specs.Columns.{AreColumns};
-ghost use Rattle.mat_laws.specs.Exchanges.{circuit_members, row_of};
-ghost use Rattle.mat_laws.specs.GreedyRuns.{grown_along};
-ghost use Rattle.mat_laws.specs.Matroids.{IsMatroid, IsMaximal};
+ghost use Rattle.mat_laws.specs.{
+  Columns.{AreColumns},
+  Exchanges.{circuit_members, row_of},
+  GreedyRuns.{grown_along},
+  Matroids.{IsMatroid, IsMaximal},
+};
 
 use crate::bases::one_after_another;
 use crate::columns::{empty_columns, enter};

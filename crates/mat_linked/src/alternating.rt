@@ -15,8 +15,7 @@ pub(crate) struct Alternating<'a> {
 
 impl SearchGraph for Alternating<'_> {
     ghost use Rattle.std.specs.Prelude.{ℕ, ◌≡◌, ◌<◌, ◌^◌, length, is_none, Some};
-    ghost use Rattle.mat_sets.specs.Sets.{is_member};
-    ghost use Rattle.mat_sets.specs.Rows.{row_at};
+    ghost use Rattle.mat_sets.specs.{Sets.{is_member}, Rows.{row_at}};
     ghost use Rattle.mat_flow.specs.LinkTables.{entry_at};
     ghost use Rattle.mat_linked.specs.Matchings.{is_held};
 

@@ -1,14 +1,13 @@
 //! Gammoids.
 ghost use Rattle.std.specs.Prelude.{◌≡◌, ◌<◌, ◌^◌, ℕ, List, [], true, false, filter, length, IfOk};
 ghost use Rattle.mat_sets.specs.Sets.{is_member, AllBelow, AreDistinct, IsRising};
-ghost use Rattle.mat_flow.specs.Digraphs.{IsTurned};
-ghost use Rattle.mat_flow.specs.LinkedEnds.{IsLinker};
-ghost use Rattle.mat_flow.specs.Reroutes.{AreReroutes};
-ghost use Rattle.mat_laws.specs.Exchanges.{row_of};
-ghost use Rattle.mat_laws.specs.GreedyRuns.{grown_along};
-ghost use Rattle.mat_linked.specs.Gammoids.{is_gammoid, set_of_vertices, IsGammoid};
-ghost use Rattle.mat_linked.specs.GammoidLaws.{gammoid_laws};
-ghost use Rattle.mat_linked.specs.KeptLinkings.{has_vertex_in, IsKeptLinking};
+ghost use Rattle.mat_flow.specs.{Digraphs.{IsTurned}, LinkedEnds.{IsLinker}, Reroutes.{AreReroutes}};
+ghost use Rattle.mat_laws.specs.{Exchanges.{row_of}, GreedyRuns.{grown_along}};
+ghost use Rattle.mat_linked.specs.{
+  Gammoids.{is_gammoid, set_of_vertices, IsGammoid},
+  GammoidLaws.{gammoid_laws},
+  KeptLinkings.{has_vertex_in, IsKeptLinking},
+};
 
 use crate::kept_linking::KeptLinking;
 use mat_flow::{Digraph, Linker};

@@ -1,11 +1,12 @@
 //! What a transversal matroid keeps of an independent set.
-ghost use Rattle.std.specs.Prelude.{◌≡◌, ◌<◌, ◌^◌, ℕ, List, true, false, length, IfOk};
-ghost use Rattle.std.specs.List.{All};
+ghost use Rattle.std.specs.{Prelude.{◌≡◌, ◌<◌, ◌^◌, ℕ, List, true, false, length, IfOk}, List.{All}};
 ghost use Rattle.mat_sets.specs.Sets.{is_member, minus, AllBelow, IsRising};
 ghost use Rattle.mat_laws.specs.Exchanges.{row_of};
-ghost use Rattle.mat_linked.specs.KeptMatchings.{IsKeptMatching};
-ghost use Rattle.mat_linked.specs.Matchings.{entry_without, is_matched_among, AreIndices, AreMatchable, IsMatching};
-ghost use Rattle.mat_linked.specs.Transversals.{is_transversal};
+ghost use Rattle.mat_linked.specs.{
+  KeptMatchings.{IsKeptMatching},
+  Matchings.{entry_without, is_matched_among, AreIndices, AreMatchable, IsMatching},
+  Transversals.{is_transversal},
+};
 
 use crate::alternating::Alternating;
 use crate::matching::matched_with_new;

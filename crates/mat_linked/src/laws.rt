@@ -1,10 +1,8 @@
 //! What the tests of the linked kinds mean, and the laws that they obey.
-ghost use Rattle.std.specs.Prelude.{◌≡◌, ◌↔◌, ℕ, List, length, true};
-ghost use Rattle.std.specs.List.{All};
+ghost use Rattle.std.specs.{Prelude.{◌≡◌, ◌↔◌, ℕ, List, length, true}, List.{All}};
 ghost use Rattle.mat_sets.specs.Sets.{AllBelow};
 ghost use Rattle.mat_laws.specs.Matroids.{IsMatroid};
-ghost use Rattle.mat_linked.specs.Gammoids.{IsGammoid, IsLinked, is_gammoid};
-ghost use Rattle.mat_linked.specs.Transversals.{IsPartialTransversal, is_transversal};
+ghost use Rattle.mat_linked.specs.{Gammoids.{IsGammoid, IsLinked, is_gammoid}, Transversals.{IsPartialTransversal, is_transversal}};
 
 /// The test holds exactly of the sets to whose vertices disjoint paths lead from the sources, one to each.
 pub fn gammoid_means()

@@ -3,9 +3,11 @@ ghost use Rattle.std.specs.Prelude.{◌≡◌, ◌<◌, ℕ, List, [], Some, fal
 ghost use Rattle.mat_sets.specs.Sets.{intersection, is_member, with_one, AllBelow, AreDistinct, IsRising};
 ghost use Rattle.mat_flow.specs.LinkTables.{entry_at};
 ghost use Rattle.mat_laws.specs.GreedyRuns.{grown_along};
-ghost use Rattle.mat_linked.specs.Matchings.{AreIndices, AreMatchable, IsMatchedOrNone, IsMatching};
-ghost use Rattle.mat_linked.specs.Searches.{IsReady};
-ghost use Rattle.mat_linked.specs.Transversals.{is_transversal};
+ghost use Rattle.mat_linked.specs.{
+  Matchings.{AreIndices, AreMatchable, IsMatchedOrNone, IsMatching},
+  Searches.{IsReady},
+  Transversals.{is_transversal},
+};
 
 use crate::alternating::Alternating;
 use mat_flow::{SearchRoom, shift_along};

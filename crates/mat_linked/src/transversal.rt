@@ -1,11 +1,12 @@
 //! Transversal matroids.
-ghost use Rattle.std.specs.Prelude.{◌≡◌, ◌<◌, ◌^◌, length, IfOk};
-ghost use Rattle.std.specs.List.{All};
+ghost use Rattle.std.specs.{Prelude.{◌≡◌, ◌<◌, ◌^◌, length, IfOk}, List.{All}};
 ghost use Rattle.mat_sets.specs.Sets.{AllBelow};
-ghost use Rattle.mat_linked.specs.KeptMatchings.{IsKeptMatching};
-ghost use Rattle.mat_linked.specs.Matchings.{AreIndices};
-ghost use Rattle.mat_linked.specs.Transversals.{is_transversal, IsFamily};
-ghost use Rattle.mat_linked.specs.TransversalLaws.{transversal_laws};
+ghost use Rattle.mat_linked.specs.{
+  KeptMatchings.{IsKeptMatching},
+  Matchings.{AreIndices},
+  Transversals.{is_transversal, IsFamily},
+  TransversalLaws.{transversal_laws},
+};
 
 use crate::kept_matching::KeptMatching;
 use crate::matching::{are_matchable, matched_along};
@@ -25,8 +26,7 @@ pub struct Transversal {
 }
 
 impl Model for Transversal {
-    ghost use Rattle.mat_linked.specs.Transversals.{Family};
-    ghost use Rattle.mat_linked.specs.Matchings.{AreIndices};
+    ghost use Rattle.mat_linked.specs.{Transversals.{Family}, Matchings.{AreIndices}};
 
     ghost Value = { Family };
 

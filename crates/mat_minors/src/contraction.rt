@@ -1,8 +1,7 @@
 //! Contractions.
 ghost use Rattle.std.specs.Prelude.{◌≡◌, IfOk};
 ghost use Rattle.mat_sets.specs.Sets.{AllBelow, union};
-ghost use Rattle.mat_minors.specs.Minors.{is_contracted, IsContraction};
-ghost use Rattle.mat_minors.specs.MinorLaws.{contracted_laws};
+ghost use Rattle.mat_minors.specs.{Minors.{is_contracted, IsContraction}, MinorLaws.{contracted_laws}};
 
 use crate::run_orders::members_first;
 use mat_laws::{Exchange, Matroid};

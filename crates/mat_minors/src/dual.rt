@@ -1,9 +1,7 @@
 //! Duals.
 ghost use Rattle.std.specs.Prelude.{◌≡◌, ◌<◌, length, IfOk};
 ghost use Rattle.mat_sets.specs.Sets.{IsRising};
-ghost use Rattle.mat_minors.specs.DualRows.{IsDualKept, kept_row};
-ghost use Rattle.mat_minors.specs.Minors.{is_dual};
-ghost use Rattle.mat_minors.specs.MinorLaws.{dual_laws};
+ghost use Rattle.mat_minors.specs.{DualRows.{IsDualKept, kept_row}, Minors.{is_dual}, MinorLaws.{dual_laws}};
 
 use crate::run_orders::others_first;
 use mat_laws::{Exchange, Matroid};

@@ -1,8 +1,7 @@
 //! Restrictions.
 ghost use Rattle.std.specs.Prelude.{◌≡◌};
 ghost use Rattle.mat_sets.specs.Sets.{AllBelow};
-ghost use Rattle.mat_minors.specs.Minors.{is_restricted};
-ghost use Rattle.mat_minors.specs.MinorLaws.{restricted_laws};
+ghost use Rattle.mat_minors.specs.{Minors.{is_restricted}, MinorLaws.{restricted_laws}};
 
 use crate::run_orders::items_in;
 use mat_laws::{Exchange, Matroid};

@@ -1,8 +1,7 @@
 //! The orders along which the matroid within a minor runs, and what the minor takes of such a run.
 ghost use Rattle.std.specs.Prelude.{◌≡◌, ◌++◌, ℕ, List, Bool, [], not, filter, reverse, IfOk};
 ghost use Rattle.mat_sets.specs.Sets.{is_member, all_below, minus, AreDistinct};
-ghost use Rattle.mat_laws.specs.GreedyRuns.{grown_along};
-ghost use Rattle.mat_laws.specs.Matroids.{IsMatroid};
+ghost use Rattle.mat_laws.specs.{GreedyRuns.{grown_along}, Matroids.{IsMatroid}};
 ghost use Rattle.mat_minors.specs.Minors.{is_truncated};
 
 use mat_sets::ElemSet;

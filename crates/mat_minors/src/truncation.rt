@@ -1,7 +1,6 @@
 //! Truncations.
 ghost use Rattle.std.specs.Prelude.{◌≡◌};
-ghost use Rattle.mat_minors.specs.Minors.{is_truncated};
-ghost use Rattle.mat_minors.specs.MinorLaws.{truncated_laws};
+ghost use Rattle.mat_minors.specs.{Minors.{is_truncated}, MinorLaws.{truncated_laws}};
 
 use crate::run_orders::first_taken;
 use mat_laws::{Exchange, Matroid};

@@ -1,12 +1,8 @@
 //! Fewest independent sets that cover the elements of a matroid.
 ghost use Rattle.std.specs.Prelude.{◌≡◌, ◌≢◌, ◌<◌, ◌≤◌, true, false, length, IfOk, MatchOption};
-ghost use Rattle.mat_sets.specs.Limits.{most_elements};
-ghost use Rattle.mat_sets.specs.Families.{family_union};
-ghost use Rattle.mat_sets.specs.Sets.{IsSet};
-ghost use Rattle.mat_laws.specs.Matroids.{IsLoop};
-ghost use Rattle.mat_laws.specs.Ranks.{rank};
-ghost use Rattle.mat_packing.specs.Answers.{HasNoLoop, IsRightCoveringAnswer};
-ghost use Rattle.mat_packing.specs.Rooms.{IsEnough};
+ghost use Rattle.mat_sets.specs.{Limits.{most_elements}, Families.{family_union}, Sets.{IsSet}};
+ghost use Rattle.mat_laws.specs.{Matroids.{IsLoop}, Ranks.{rank}};
+ghost use Rattle.mat_packing.specs.{Answers.{HasNoLoop, IsRightCoveringAnswer}, Rooms.{IsEnough}};
 
 use crate::filling::fill_copies;
 use mat_laws::{Matroid, is_loop, rank_of};

@@ -3,10 +3,8 @@
 
 ghost use Rattle.std.specs.Prelude.{◌≡◌, ◌<◌, ◌≤◌, ℕ, List, Bool, true, [], length};
 ghost use Rattle.mat_sets.specs.Sets.{all_below};
-ghost use Rattle.mat_laws.specs.Matroids.{IsMatroid, IsLoop};
-ghost use Rattle.mat_laws.specs.Ranks.{rank};
-ghost use Rattle.mat_packing.specs.Packings.{AreBases, IsCover, IsCoverCut, IsRightPacking};
-ghost use Rattle.mat_packing.specs.Trees.{AreTrees, IsRightPartition};
+ghost use Rattle.mat_laws.specs.{Matroids.{IsMatroid, IsLoop}, Ranks.{rank}};
+ghost use Rattle.mat_packing.specs.{Packings.{AreBases, IsCover, IsCoverCut, IsRightPacking}, Trees.{AreTrees, IsRightPartition}};
 
 /// No matroid has more disjoint bases than a right packing (Edmonds; Schrijver, chapter 42).
 pub fn packing_is_most()

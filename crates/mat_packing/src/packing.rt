@@ -1,10 +1,8 @@
 //! Most disjoint bases of a matroid.
 ghost use Rattle.std.specs.Prelude.{◌-◌, ◌<◌, ◌≤◌, length, IfOk};
-ghost use Rattle.mat_sets.specs.Limits.{most_elements};
-ghost use Rattle.mat_sets.specs.Sets.{all_below, minus, IsSet};
+ghost use Rattle.mat_sets.specs.{Limits.{most_elements}, Sets.{all_below, minus, IsSet}};
 ghost use Rattle.mat_laws.specs.Ranks.{rank};
-ghost use Rattle.mat_packing.specs.Answers.{IsRightPackingAnswer};
-ghost use Rattle.mat_packing.specs.Rooms.{IsRoom};
+ghost use Rattle.mat_packing.specs.{Answers.{IsRightPackingAnswer}, Rooms.{IsRoom}};
 
 use crate::filling::{are_full, fill_copies};
 use mat_laws::{Matroid, rank_of};

@@ -1,9 +1,7 @@
 //! Disjoint spanning trees of a graph.
 ghost use Rattle.std.specs.Prelude.{◌≡◌, ◌<◌, ◌≤◌, ◌^◌, ◌↔◌, true, length, map, slice_index, IfOk};
-ghost use Rattle.mat_sets.specs.Limits.{most_vertices, most_elements, most_trees};
-ghost use Rattle.mat_sets.specs.Graphs.{IsGraph};
-ghost use Rattle.mat_packing.specs.Answers.{is_partition, HasNoTrees, IsRightTreesAnswer};
-ghost use Rattle.mat_packing.specs.Components.{class_of};
+ghost use Rattle.mat_sets.specs.{Limits.{most_vertices, most_elements, most_trees}, Graphs.{IsGraph}};
+ghost use Rattle.mat_packing.specs.{Answers.{is_partition, HasNoTrees, IsRightTreesAnswer}, Components.{class_of}};
 
 use crate::filling::{are_full, fill_copies};
 use mat_graphic::{Graphic, least_vertices};

@@ -1,8 +1,7 @@
 //! Graphs as they are drawn: their edges, and what is told of each.
 
 ghost use Rattle.std.specs.Prelude.{◌<◌, ◌^◌, length, IfSome};
-ghost use Rattle.mat_desc.specs.Grammar.{IsValid};
-ghost use Rattle.mat_desc.specs.Views.{instance_of};
+ghost use Rattle.mat_desc.specs.{Grammar.{IsValid}, Views.{instance_of}};
 
 use mat_desc::Problem;
 use mat_sets::Weight;

@@ -1,12 +1,9 @@
 //! The picture of a right answer.
 
 ghost use Rattle.std.specs.Prelude.{◌<◌, ◌^◌, length, IfOk};
-ghost use Rattle.mat_cert.specs.Certificates.{IsRanged};
-ghost use Rattle.mat_cert.specs.Views.{certificate_of};
+ghost use Rattle.mat_cert.specs.{Certificates.{IsRanged}, Views.{certificate_of}};
 ghost use Rattle.mat_check.specs.Right.{IsRight};
-ghost use Rattle.mat_desc.specs.Grammar.{IsValid};
-ghost use Rattle.mat_desc.specs.Soundness.{IsSoundInstance};
-ghost use Rattle.mat_desc.specs.Views.{instance_of};
+ghost use Rattle.mat_desc.specs.{Grammar.{IsValid}, Soundness.{IsSoundInstance}, Views.{instance_of}};
 ghost use Rattle.mat_drawing.specs.Markup.{IsPicture};
 ghost use Rattle.mat_text.specs.Texts.{IsPrintable};
 

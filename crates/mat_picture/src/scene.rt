@@ -1,8 +1,7 @@
 //! What a picture is drawn of.
 
 ghost use Rattle.std.specs.Prelude.{◌<◌, ◌^◌, length, IfSome};
-ghost use Rattle.mat_desc.specs.Grammar.{IsValid};
-ghost use Rattle.mat_desc.specs.Views.{instance_of};
+ghost use Rattle.mat_desc.specs.{Grammar.{IsValid}, Views.{instance_of}};
 
 use crate::graph::Graph;
 use mat_desc::Problem;

@@ -1,8 +1,7 @@
 //! What a rule allows so many things to weigh or to cost at most or at least, counted from the sorted weights of a set.
 
 ghost use Rattle.std.specs.Prelude.{◌≡◌, length, map, IfOk};
-ghost use Rattle.mat_sets.specs.Sets.{AllBelow};
-ghost use Rattle.mat_sets.specs.Weights.{weight_at};
+ghost use Rattle.mat_sets.specs.{Sets.{AllBelow}, Weights.{weight_at}};
 ghost use Rattle.mat_text.specs.Paragraphs.{KeepsParagraphs};
 
 use mat_sets::{ElemSet, Weight};

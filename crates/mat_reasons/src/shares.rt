@@ -1,7 +1,6 @@
 //! Weights that are split into two shares, one for each of two rules, and why a set has the greatest weight or the least cost of its size.
 
-ghost use Rattle.std.specs.Prelude.{◌≡◌, false, length};
-ghost use Rattle.std.specs.List.{list_any};
+ghost use Rattle.std.specs.{Prelude.{◌≡◌, false, length}, List.{list_any}};
 ghost use Rattle.mat_sets.specs.Sets.{AllBelow};
 ghost use Rattle.mat_reasons.specs.Sums.{has_tie, AreSummable};
 ghost use Rattle.mat_text.specs.Paragraphs.{KeepsParagraphs};

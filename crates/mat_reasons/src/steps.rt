@@ -1,8 +1,7 @@
 //! The steps of a ladder: a set of each size from 0 on, with its weight.
 
 ghost use Rattle.std.specs.Prelude.{◌≡◌, ◌<◌, None, length, map, All, IfOk};
-ghost use Rattle.mat_reasons.specs.FirstHeaviest.{IsFirstHeaviest};
-ghost use Rattle.mat_reasons.specs.Sums.{HasSummableShares};
+ghost use Rattle.mat_reasons.specs.{FirstHeaviest.{IsFirstHeaviest}, Sums.{HasSummableShares}};
 ghost use Rattle.mat_sets.specs.Weights.{is_below, weight_at};
 
 use crate::shares::are_split;

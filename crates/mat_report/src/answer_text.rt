@@ -1,13 +1,14 @@
 //! What is written of a right answer.
 
 ghost use Rattle.std.specs.Prelude.{ℕ, List, IfOk};
-ghost use Rattle.mat_cert.specs.Certificates.{Certificate, IsRanged};
-ghost use Rattle.mat_cert.specs.Views.{certificate_of};
+ghost use Rattle.mat_cert.specs.{Certificates.{Certificate, IsRanged}, Views.{certificate_of}};
 ghost use Rattle.mat_check.specs.Right.{IsRight};
-ghost use Rattle.mat_desc.specs.Grammar.{IsValid};
-ghost use Rattle.mat_desc.specs.Notations.{NamedInstance};
-ghost use Rattle.mat_desc.specs.Soundness.{IsSoundInstance};
-ghost use Rattle.mat_desc.specs.Views.{instance_of, named_instance};
+ghost use Rattle.mat_desc.specs.{
+  Grammar.{IsValid},
+  Notations.{NamedInstance},
+  Soundness.{IsSoundInstance},
+  Views.{instance_of, named_instance},
+};
 
 use mat_cert::Answer;
 use mat_desc::Named;

@@ -3,14 +3,10 @@
 ghost use Rattle.std.specs.Prelude.{◌≡◌, ◌≢◌, ◌≤◌, ◌<◌, ◌⊎◌, ℕ, List, IfOk, IfErr, Some};
 ghost use Rattle.mat_shelf.specs.Faults.{Rose};
 ghost use Rattle.mat_command.specs.CommandLines.{check};
-ghost use Rattle.mat_desc.specs.Grammar.{IsValid};
-ghost use Rattle.mat_desc.specs.Soundness.{IsSoundInstance};
-ghost use Rattle.mat_desc.specs.Views.{instance_of, named_instance};
+ghost use Rattle.mat_desc.specs.{Grammar.{IsValid}, Soundness.{IsSoundInstance}, Views.{instance_of, named_instance}};
 ghost use Rattle.mat_judge.specs.Notes.{IsNoted};
-ghost use Rattle.mat_top.specs.Outcomes.{Tells, IsStatus, IsOutcome, CallReaches, IsNote};
-ghost use Rattle.mat_top.specs.Refusals.{HasNoText, IsRefusal, IsPut};
-ghost use Rattle.mat_report.specs.ReportEnds.{MayBeReported, IsReportEnded};
-ghost use Rattle.mat_report.specs.Reports.{check_of, IsAnswerReport, IsReportWritten};
+ghost use Rattle.mat_top.specs.{Outcomes.{Tells, IsStatus, IsOutcome, CallReaches, IsNote}, Refusals.{HasNoText, IsRefusal, IsPut}};
+ghost use Rattle.mat_report.specs.{ReportEnds.{MayBeReported, IsReportEnded}, Reports.{check_of, IsAnswerReport, IsReportWritten}};
 
 use crate::answer_text::AnswerText;
 use mat_desc::Named;

@@ -1,7 +1,6 @@
 //! A set of numbers below 512, kept as bits in place.
 ghost use Rattle.std.specs.Prelude.{◌≡◌, ◌<◌, ◌≤◌, [], length};
-ghost use Rattle.mat_sets.specs.Bits.{bits_of};
-ghost use Rattle.mat_sets.specs.Sets.{is_member, with_one};
+ghost use Rattle.mat_sets.specs.{Bits.{bits_of}, Sets.{is_member, with_one}};
 
 use std::marker::Model;
 

@@ -1,7 +1,6 @@
 //! Rows of bits: a set of numbers at each place of a list.
 ghost use Rattle.std.specs.Prelude.{◌≡◌, ◌<◌, ◌++◌, ◌∷◌, [], length, replicate, slice_set, IfOk, OnOk, OnErr};
-ghost use Rattle.mat_sets.specs.Rows.{row_at, IsEntered};
-ghost use Rattle.mat_sets.specs.Sets.{with_one, AllBelow};
+ghost use Rattle.mat_sets.specs.{Rows.{row_at, IsEntered}, Sets.{with_one, AllBelow}};
 
 use crate::bit_set::BitSet;
 use std::alloc::{AllocError, Global};

@@ -1,8 +1,6 @@
 //! A set of numbers kept as bits, seen as a strictly rising list.
 ghost use Rattle.std.specs.Prelude.{◌≡◌, ℕ, ◌&&◌, ◌||◌, ◌≤◌, ◌^◌, [], length, max, IfOk, OnOk, OnErr};
-ghost use Rattle.mat_sets.specs.Bits.{bits_of};
-ghost use Rattle.mat_sets.specs.Search.{IsNextFrom};
-ghost use Rattle.mat_sets.specs.Sets.{all_below, is_member, with_one, without_one};
+ghost use Rattle.mat_sets.specs.{Bits.{bits_of}, Search.{IsNextFrom}, Sets.{all_below, is_member, with_one, without_one}};
 
 use crate::bit_row::BitRow;
 use std::alloc::{AllocError, Global};

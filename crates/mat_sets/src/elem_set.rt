@@ -1,10 +1,14 @@
 //! A set of numbers, seen as a strictly rising list.
-ghost use Rattle.std.specs.Prelude.{◌≡◌, ◌==◌, ◌↔◌, ◌<◌, [], if◌then◌else◌, length, slice_index, not, IfOk, IsTrue, OnErr, OnOk, MatchResult};
+ghost use Rattle.std.specs.{
+  Prelude.{◌≡◌, ◌==◌, ◌↔◌, ◌<◌, [], if◌then◌else◌, length, slice_index, not, IfOk, IsTrue, OnErr, OnOk, MatchResult},
+  Cmp.Lexicographic.{pointwise},
+  Cmp.Rules.{comparing},
+};
 ghost use Rattle.std.proofs.Common.{rules};
-ghost use Rattle.std.specs.Cmp.Lexicographic.{pointwise};
-ghost use Rattle.std.specs.Cmp.Rules.{comparing};
-ghost use Rattle.mat_sets.specs.Places.{IsFirstFall};
-ghost use Rattle.mat_sets.specs.Sets.{AllBelow, all_below, intersection, is_member, minus, union, with_one, without_one, IsRising, IsSet, IsSubset};
+ghost use Rattle.mat_sets.specs.{
+  Places.{IsFirstFall},
+  Sets.{AllBelow, all_below, intersection, is_member, minus, union, with_one, without_one, IsRising, IsSet, IsSubset},
+};
 
 use crate::bit_row::BitRow;
 use crate::bit_set::BitSet;

@@ -1,9 +1,7 @@
 //! The elements that weigh at least as much as something.
 
 ghost use Rattle.std.specs.Prelude.{◌≡◌, ◌<◌, ◌≤◌, length, IfOk};
-ghost use Rattle.mat_sets.specs.FallingWeights.{heavy};
-ghost use Rattle.mat_sets.specs.Limits.{most_elements};
-ghost use Rattle.mat_sets.specs.Weights.{is_below, weight_at};
+ghost use Rattle.mat_sets.specs.{FallingWeights.{heavy}, Limits.{most_elements}, Weights.{is_below, weight_at}};
 
 use crate::elem_set::ElemSet;
 use crate::weight::Weight;

@@ -2,10 +2,12 @@
 //!
 //! `arc u v` says whether an arc leads from u to v, `start v` and `goal v` whether v is a start or a goal; the vertices are the numbers below n.
 ghost use Rattle.std.specs.Prelude.{◌≡◌, ◌<◌, ◌⊎◌, ◌↔◌, ℕ, Bool, true, false, List, ◌<ℤ◌};
-ghost use Rattle.mat_sets.specs.Sets.{is_member};
-ghost use Rattle.mat_sets.specs.Weights.{◌⊕◌, ◌≺◌, ◌≼◌, is_below, is_same};
-ghost use Rattle.mat_sets.specs.declared.weight.Weight.{Weight};
-ghost use Rattle.mat_sets.specs.Walks.{IsChordless, IsReachedSet, IsShortestWalk, IsWalk};
+ghost use Rattle.mat_sets.specs.{
+  Sets.{is_member},
+  Weights.{◌⊕◌, ◌≺◌, ◌≼◌, is_below, is_same},
+  declared.weight.Weight.{Weight},
+  Walks.{IsChordless, IsReachedSet, IsShortestWalk, IsWalk},
+};
 
 /// Either there is a walk with fewest vertices from a start to a goal, or the set of all vertices that the starts reach
 /// has no goal (Schrijver, chapter 6).

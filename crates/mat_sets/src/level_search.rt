@@ -1,9 +1,6 @@
 //! The search for a shortest walk, round by round: breadth-first search.
 ghost use Rattle.std.specs.Prelude.{◌≡◌, ◌<◌, ◌&&◌, ◌^◌, ℕ, true, false, not, length, slice_index, IfOk, OnOk, MatchOption, nat_lt};
-ghost use Rattle.mat_sets.specs.Rounds.{AreTaken, IsRound, IsTrace};
-ghost use Rattle.mat_sets.specs.Search.{those_below};
-ghost use Rattle.mat_sets.specs.Sets.{is_member};
-ghost use Rattle.mat_sets.specs.WalkSearches.{IsWalkSearch};
+ghost use Rattle.mat_sets.specs.{Rounds.{AreTaken, IsRound, IsTrace}, Search.{those_below}, Sets.{is_member}, WalkSearches.{IsWalkSearch}};
 
 use crate::bit_set::BitSet;
 use crate::elem_set::ElemSet;

@@ -1,11 +1,12 @@
 //! Lists of pairs and of sets, seen as the list of their items.
-ghost use Rattle.std.specs.Prelude.{◌≡◌, ◌==◌, ◌<◌, length, map, slice_index_or, IfOk, []};
+ghost use Rattle.std.specs.{
+  Prelude.{◌≡◌, ◌==◌, ◌<◌, length, map, slice_index_or, IfOk, []},
+  Cmp.Lexicographic.{pointwise},
+  Cmp.Rules.{comparing},
+  Ordering.{eq_of_both, on},
+};
 ghost use Rattle.std.proofs.Common.{rules};
-ghost use Rattle.std.specs.Cmp.Lexicographic.{pointwise};
-ghost use Rattle.std.specs.Cmp.Rules.{comparing};
-ghost use Rattle.std.specs.Ordering.{eq_of_both, on};
-ghost use Rattle.mat_sets.specs.Families.{AllRising};
-ghost use Rattle.mat_sets.specs.Sets.{IsRising};
+ghost use Rattle.mat_sets.specs.{Families.{AllRising}, Sets.{IsRising}};
 
 use crate::elem_set::ElemSet;
 use std::alloc::{AllocError, Global};

@@ -1,12 +1,16 @@
 //! Weights of elements with ties, and the weight of a set.
-ghost use Rattle.std.specs.Prelude.{◌≡◌, ◌<◌, ◌≤◌, length, slice_index_or};
+ghost use Rattle.std.specs.{
+  Prelude.{◌≡◌, ◌<◌, ◌≤◌, length, slice_index_or},
+  Cmp.Lexicographic.{pointwise},
+  Cmp.Rules.{comparing},
+  Ordering.{eq_of_both, int_eq, on},
+};
 ghost use Rattle.std.proofs.Common.{rules};
-ghost use Rattle.std.specs.Cmp.Lexicographic.{pointwise};
-ghost use Rattle.std.specs.Cmp.Rules.{comparing};
-ghost use Rattle.std.specs.Ordering.{eq_of_both, int_eq, on};
-ghost use Rattle.mat_sets.specs.Limits.{largest_number, most_elements};
-ghost use Rattle.mat_sets.specs.Sets.{AllBelow, IsRising};
-ghost use Rattle.mat_sets.specs.Weights.{zero_weight, weight, AreWeightsWithin};
+ghost use Rattle.mat_sets.specs.{
+  Limits.{largest_number, most_elements},
+  Sets.{AllBelow, IsRising},
+  Weights.{zero_weight, weight, AreWeightsWithin},
+};
 
 use crate::elem_set::ElemSet;
 use crate::weight::Weight;

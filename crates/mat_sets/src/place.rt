@@ -1,7 +1,6 @@
 //! Where an element stands in a rising slice.
 ghost use Rattle.std.specs.Prelude.{MatchResult};
-ghost use Rattle.mat_sets.specs.Places.{IsGap, IsPlace};
-ghost use Rattle.mat_sets.specs.Sets.{IsRising};
+ghost use Rattle.mat_sets.specs.{Places.{IsGap, IsPlace}, Sets.{IsRising}};
 
 /// The place of x, or where it would stand, by binary search.
 pub(crate) fn place(items: &[u32], x: u32) -> Result<usize, usize>

@@ -1,7 +1,6 @@
 //! Relations on finitely many vertices, which breadth-first search asks for their arcs.
 ghost use Rattle.std.specs.Prelude.{◌≡◌, ◌<◌, ◌&&◌, ℕ, Bool, true};
-ghost use Rattle.mat_sets.specs.Search.{IsNextFrom};
-ghost use Rattle.mat_sets.specs.Sets.{is_member};
+ghost use Rattle.mat_sets.specs.{Search.{IsNextFrom}, Sets.{is_member}};
 
 use crate::bit_set::BitSet;
 

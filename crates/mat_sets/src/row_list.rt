@@ -1,7 +1,6 @@
 //! A list of rows: a set of numbers below 512 at each place of a list.
 ghost use Rattle.std.specs.Prelude.{◌≡◌, ◌<◌, [], length, replicate, slice_set, IfOk};
-ghost use Rattle.mat_sets.specs.Rows.{row_at, IsEntered};
-ghost use Rattle.mat_sets.specs.Sets.{with_one, AllBelow};
+ghost use Rattle.mat_sets.specs.{Rows.{row_at, IsEntered}, Sets.{with_one, AllBelow}};
 
 use crate::bit_row::BitRow;
 use std::alloc::{AllocError, Global};

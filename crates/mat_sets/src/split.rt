@@ -1,8 +1,6 @@
 //! Weights that are split in two parts.
 ghost use Rattle.std.specs.Prelude.{◌≡◌, ◌<◌, ◌≤◌, ℕ, true, not, length, MatchOption};
-ghost use Rattle.mat_sets.specs.Limits.{largest_number, most_elements};
-ghost use Rattle.mat_sets.specs.Search.{IsFirstFrom};
-ghost use Rattle.mat_sets.specs.Weights.{adds_up, AreWeightsWithin};
+ghost use Rattle.mat_sets.specs.{Limits.{largest_number, most_elements}, Search.{IsFirstFrom}, Weights.{adds_up, AreWeightsWithin}};
 
 use crate::weight::Weight;
 

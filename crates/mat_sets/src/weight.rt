@@ -1,6 +1,5 @@
 //! Weights with a second number that breaks ties.
-ghost use Rattle.std.specs.Prelude.{◌≡◌, ◌+ℤ◌, ◌-ℤ◌, neg_ℤ, FitsSigned};
-ghost use Rattle.std.specs.Int.{w128};
+ghost use Rattle.std.specs.{Prelude.{◌≡◌, ◌+ℤ◌, ◌-ℤ◌, neg_ℤ, FitsSigned}, Int.{w128}};
 ghost use Rattle.mat_sets.specs.Weights.{◌⊕◌, ◌⊖◌, negated};
 
 use std::ops::{Add, AddAssign, Neg, Sub};

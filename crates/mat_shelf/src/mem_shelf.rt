@@ -1,11 +1,11 @@
 //! A shelf in memory whose calls fail by their numbers.
 
-ghost use Rattle.std.specs.Prelude.{◌≡◌, ◌≤◌, ◌<◌, ◌↔◌, ℕ, List, None, length, take};
-ghost use Rattle.std.specs.Prelude.{IsErr, IsSome, OnOk, OnErr, IfOk, IfSome};
-ghost use Rattle.mat_shelf.specs.Faults.{Rose, last_count};
-ghost use Rattle.mat_shelf.specs.Reading.{Gave};
-ghost use Rattle.mat_shelf.specs.Files.{HaveDifferentNames, held_in, count_in, left_of, IsReading, FailsNext, FailsToOpen};
-ghost use Rattle.mat_shelf.specs.Files.{after_open, after_failed_open, after_read, after_failed_read, read_count};
+ghost use Rattle.std.specs.Prelude.{◌≡◌, ◌≤◌, ◌<◌, ◌↔◌, ℕ, List, None, length, take, IsErr, IsSome, OnOk, OnErr, IfOk, IfSome};
+ghost use Rattle.mat_shelf.specs.{
+  Faults.{Rose, last_count},
+  Reading.{Gave},
+  Files.{HaveDifferentNames, held_in, count_in, left_of, IsReading, FailsNext, FailsToOpen, after_open, after_failed_open, after_read, after_failed_read, read_count},
+};
 
 use crate::named_file::{NamedFile, copy_from, count_fault, place_of};
 use crate::traits::{Failed, Shelf};

@@ -1,9 +1,7 @@
 //! A sink in memory whose calls fail by their numbers.
 
 ghost use Rattle.std.specs.Prelude.{◌≡◌, ◌≤◌, ◌<◌, ◌↔◌, [], Some, length, take, IsErr, OnErr, IfOk};
-ghost use Rattle.mat_shelf.specs.Faults.{Rose};
-ghost use Rattle.mat_shelf.specs.Writing.{Appended};
-ghost use Rattle.mat_shelf.specs.Sinks.{FailsToTake, taken_count, after_put, after_failed_put};
+ghost use Rattle.mat_shelf.specs.{Faults.{Rose}, Writing.{Appended}, Sinks.{FailsToTake, taken_count, after_put, after_failed_put}};
 
 use crate::traits::{Failed, Sink};
 use std::alloc::{AllocError, Global};

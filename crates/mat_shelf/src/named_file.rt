@@ -1,9 +1,7 @@
 //! Files of the objects in memory.
 
-ghost use Rattle.std.specs.Prelude.{◌≡◌, ◌+◌, ◌^◌, ◌<◌, ◌≤◌, position, min, length, take, drop};
-ghost use Rattle.std.specs.Prelude.{string_bytes};
-ghost use Rattle.mat_shelf.specs.Faults.{last_count};
-ghost use Rattle.mat_shelf.specs.Files.{has_name, with_fault, files_with_fault, other_with_fault, count_in};
+ghost use Rattle.std.specs.Prelude.{◌≡◌, ◌+◌, ◌^◌, ◌<◌, ◌≤◌, position, min, length, take, drop, string_bytes};
+ghost use Rattle.mat_shelf.specs.{Faults.{last_count}, Files.{has_name, with_fault, files_with_fault, other_with_fault, count_in}};
 
 use std::marker::Model;
 

@@ -1,8 +1,10 @@
 //! A shelf in memory that never fails.
 
 ghost use Rattle.std.specs.Prelude.{◌≡◌, ℕ, List, Some, [], length};
-ghost use Rattle.mat_shelf.specs.Reading.{Gave};
-ghost use Rattle.mat_shelf.specs.Files.{HaveDifferentNames, bytes_at, held_or, sure_read_count, after_sure_open, after_sure_read};
+ghost use Rattle.mat_shelf.specs.{
+  Reading.{Gave},
+  Files.{HaveDifferentNames, bytes_at, held_or, sure_read_count, after_sure_open, after_sure_read},
+};
 
 use crate::named_file::{NamedFile, copy_from, place_of};
 use crate::traits::{Failed, Shelf};

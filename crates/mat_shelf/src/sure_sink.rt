@@ -1,8 +1,7 @@
 //! A sink in memory that never fails.
 
 ghost use Rattle.std.specs.Prelude.{◌≡◌, ◌≤◌, ◌<◌, [], Some, length, take, IfOk, IfSome};
-ghost use Rattle.mat_shelf.specs.Writing.{Appended};
-ghost use Rattle.mat_shelf.specs.Sinks.{after_sure_put};
+ghost use Rattle.mat_shelf.specs.{Writing.{Appended}, Sinks.{after_sure_put}};
 
 use crate::traits::{Failed, Sink};
 use std::alloc::{AllocError, Global};

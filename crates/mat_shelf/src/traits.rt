@@ -1,9 +1,7 @@
 //! The traits of the outside: a shelf of files that are read, and a sink that bytes are put to.
 
 ghost use Rattle.std.specs.Prelude.{◌≡◌, ◌≤◌, ◌<◌, ℕ, List, Option, Some, length, take, OnOk, OnErr, IfOk, IfSome};
-ghost use Rattle.mat_shelf.specs.Faults.{Rose};
-ghost use Rattle.mat_shelf.specs.Reading.{Gave};
-ghost use Rattle.mat_shelf.specs.Writing.{Appended};
+ghost use Rattle.mat_shelf.specs.{Faults.{Rose}, Reading.{Gave}, Writing.{Appended}};
 
 /// A call failed, and the fault was counted.
 #[derive(Clone, Copy, Debug, PartialEq, Eq)]

@@ -3,8 +3,7 @@
 ghost use Rattle.std.specs.Prelude.{◌≡◌, ◌∷◌, [], true};
 ghost use Rattle.mat_any.specs.Views.{tree_of};
 ghost use Rattle.mat_check.specs.Fitting.{is_single};
-ghost use Rattle.mat_desc.specs.Instances.{list};
-ghost use Rattle.mat_desc.specs.Views.{instance_of};
+ghost use Rattle.mat_desc.specs.{Instances.{list}, Views.{instance_of}};
 ghost use Rattle.mat_solve.specs.Queries.{has_form};
 
 use crate::query::Query;

@@ -1,18 +1,16 @@
 //! Ladders: heaviest sets of each size.
 
 ghost use Rattle.std.specs.Prelude.{◌≡◌, ◌≤◌, true, length, map, IfOk};
-ghost use Rattle.mat_sets.specs.Limits.{most_elements, largest_number};
-ghost use Rattle.mat_sets.specs.Sets.{AllBelow};
-ghost use Rattle.mat_sets.specs.Weights.{AreWeightsWithin};
+ghost use Rattle.mat_sets.specs.{Limits.{most_elements, largest_number}, Sets.{AllBelow}, Weights.{AreWeightsWithin}};
 ghost use Rattle.mat_work.specs.Workers.{AreWorkers};
 ghost use Rattle.mat_check.specs.Fitting.{is_single, is_pair, is_coloured, is_table};
-ghost use Rattle.mat_desc.specs.Views.{instance_of};
-ghost use Rattle.mat_desc.specs.Grammar.{IsValid};
-ghost use Rattle.mat_desc.specs.Soundness.{IsSoundInstance};
+ghost use Rattle.mat_desc.specs.{Views.{instance_of}, Grammar.{IsValid}, Soundness.{IsSoundInstance}};
 ghost use Rattle.mat_cert.specs.Views.{certificate_of};
-ghost use Rattle.mat_solve.specs.Answers.{IsSolution};
-ghost use Rattle.mat_solve.specs.PricedRungs.{priced_rung, plain_rung, HaveFewElements, AreSmallSets};
-ghost use Rattle.mat_solve.specs.Queries.{IsAnswerOf};
+ghost use Rattle.mat_solve.specs.{
+  Answers.{IsSolution},
+  PricedRungs.{priced_rung, plain_rung, HaveFewElements, AreSmallSets},
+  Queries.{IsAnswerOf},
+};
 
 use crate::forms::only_matroid;
 use crate::query::Query;

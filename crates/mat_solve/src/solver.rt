@@ -3,11 +3,8 @@
 ghost use Rattle.std.specs.Prelude.{◌≡◌, true, IfOk};
 ghost use Rattle.mat_work.specs.Workers.{AreWorkers};
 ghost use Rattle.mat_cert.specs.Views.{certificate_of};
-ghost use Rattle.mat_desc.specs.Grammar.{IsValid};
-ghost use Rattle.mat_desc.specs.Soundness.{IsSoundInstance};
-ghost use Rattle.mat_desc.specs.Views.{instance_of};
-ghost use Rattle.mat_solve.specs.Answers.{IsSolution};
-ghost use Rattle.mat_solve.specs.Queries.{has_form, IsAnswerOf, IsQueryInRange};
+ghost use Rattle.mat_desc.specs.{Grammar.{IsValid}, Soundness.{IsSoundInstance}, Views.{instance_of}};
+ghost use Rattle.mat_solve.specs.{Answers.{IsSolution}, Queries.{has_form, IsAnswerOf, IsQueryInRange}};
 
 use crate::ladders::{assign, best, intersect, rainbow};
 use crate::query::Query;

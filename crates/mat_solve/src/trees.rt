@@ -3,12 +3,10 @@
 ghost use Rattle.std.specs.Prelude.{◌≡◌, ◌≤◌, true, IfOk};
 ghost use Rattle.mat_sets.specs.Limits.{most_trees};
 ghost use Rattle.mat_work.specs.Workers.{AreWorkers};
-ghost use Rattle.mat_desc.specs.Views.{instance_of};
-ghost use Rattle.mat_desc.specs.Grammar.{IsValid};
+ghost use Rattle.mat_desc.specs.{Views.{instance_of}, Grammar.{IsValid}};
 ghost use Rattle.mat_cert.specs.Views.{certificate_of};
 ghost use Rattle.mat_check.specs.Fitting.{is_graph, is_rooted};
-ghost use Rattle.mat_solve.specs.Answers.{IsSolution};
-ghost use Rattle.mat_solve.specs.Queries.{IsAnswerOf};
+ghost use Rattle.mat_solve.specs.{Answers.{IsSolution}, Queries.{IsAnswerOf}};
 
 use crate::query::Query;
 use mat_arbor::{Arbor, least_arborescence};

@@ -1,8 +1,7 @@
 //! The step of weight splitting from one size to the next.
 
 ghost use Rattle.std.specs.Prelude.{◌≡◌, ◌<◌, ◌≤◌, ℕ, length, IfOk};
-ghost use Rattle.mat_sets.specs.Limits.{most_elements, largest_weight};
-ghost use Rattle.mat_sets.specs.Weights.{IsWeightWithin};
+ghost use Rattle.mat_sets.specs.{Limits.{most_elements, largest_weight}, Weights.{IsWeightWithin}};
 ghost use Rattle.mat_work.specs.Workers.{AreWorkers};
 ghost use Rattle.mat_split.specs.Augmenting.{weights_of, IsSplitRung, IsAugmented};
 

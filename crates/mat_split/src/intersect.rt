@@ -1,8 +1,7 @@
 //! Weighted matroid intersection.
 
 ghost use Rattle.std.specs.Prelude.{◌≡◌, ◌≤◌, [], length, replicate, IfOk};
-ghost use Rattle.mat_sets.specs.Limits.{most_elements, largest_weight};
-ghost use Rattle.mat_sets.specs.Weights.{zero_weight, AreWeightsWithin};
+ghost use Rattle.mat_sets.specs.{Limits.{most_elements, largest_weight}, Weights.{zero_weight, AreWeightsWithin}};
 ghost use Rattle.mat_work.specs.Workers.{AreWorkers};
 ghost use Rattle.mat_split.specs.Ladders.{IsLadder};
 

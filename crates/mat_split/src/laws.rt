@@ -1,14 +1,14 @@
 //! What a ladder proves of two matroids. Each law is the contract of a function that does nothing.
 
 ghost use Rattle.std.specs.Prelude.{◌≡◌, ◌<◌, ℕ, List, Bool, true, length, Some, slice_get};
-ghost use Rattle.mat_sets.specs.Limits.{largest_weight};
-ghost use Rattle.mat_sets.specs.Sets.{IsSet};
-ghost use Rattle.mat_sets.specs.Weights.{◌⊕◌, weight, AreWeightsWithin};
-ghost use Rattle.mat_sets.specs.declared.weight.Weight.{Weight};
-ghost use Rattle.mat_laws.specs.Matroids.{IsMatroid};
-ghost use Rattle.mat_laws.specs.CommonSets.{IsHeaviestCommon};
-ghost use Rattle.mat_split.specs.Ladders.{IsLadder};
-ghost use Rattle.mat_split.specs.declared.ladder.Rung.{Rung};
+ghost use Rattle.mat_sets.specs.{
+  Limits.{largest_weight},
+  Sets.{IsSet},
+  Weights.{◌⊕◌, weight, AreWeightsWithin},
+  declared.weight.Weight.{Weight},
+};
+ghost use Rattle.mat_laws.specs.{Matroids.{IsMatroid}, CommonSets.{IsHeaviestCommon}};
+ghost use Rattle.mat_split.specs.{Ladders.{IsLadder}, declared.ladder.Rung.{Rung}};
 
 /// The set of rung k of a ladder is heaviest among the sets of k elements that are independent in both matroids; every set that is
 /// independent in both has fewer elements than the ladder has rungs; and each set weighs what the two parts of a rung's split give

@@ -3,13 +3,10 @@
 ghost use Rattle.std.specs.Prelude.{◌≡◌, ◌≤◌, true, IfOk};
 ghost use Rattle.mat_sets.specs.Limits.{most_elements};
 ghost use Rattle.mat_work.specs.Workers.{AreWorkers};
-ghost use Rattle.mat_desc.specs.Grammar.{IsValid};
-ghost use Rattle.mat_desc.specs.Soundness.{IsSoundInstance};
-ghost use Rattle.mat_desc.specs.Views.{instance_of};
+ghost use Rattle.mat_desc.specs.{Grammar.{IsValid}, Soundness.{IsSoundInstance}, Views.{instance_of}};
 ghost use Rattle.mat_cert.specs.Views.{certificate_of};
 ghost use Rattle.mat_gen.specs.Samples.{sample_of};
-ghost use Rattle.mat_solve.specs.Answers.{IsSolution};
-ghost use Rattle.mat_solve.specs.Queries.{has_form, IsAnswerOf, IsQueryInRange};
+ghost use Rattle.mat_solve.specs.{Answers.{IsSolution}, Queries.{has_form, IsAnswerOf, IsQueryInRange}};
 ghost use Rattle.mat_summary.specs.Summaries.{query_of_kind, IsSummary};
 
 use crate::summary::summary_text;

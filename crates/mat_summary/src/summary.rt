@@ -1,14 +1,9 @@
 //! The line that sums up an answer.
 
 ghost use Rattle.std.specs.Prelude.{◌≡◌, ◌+◌, ◌≤◌, ◌++◌, ◌∷◌, [], length, codes, pos, All, IfOk, OnOk};
-ghost use Rattle.mat_sets.specs.Limits.{largest_number, most_elements, most_matroids};
-ghost use Rattle.mat_sets.specs.Weights.{IsWeightWithin};
-ghost use Rattle.mat_words.specs.Lines.{text_of};
-ghost use Rattle.mat_words.specs.Numbers.{numeral};
-ghost use Rattle.mat_words.specs.Weights.{weight_word};
-ghost use Rattle.mat_words.specs.Writing.{spaced};
-ghost use Rattle.mat_cert.specs.Certificates.{IsRanged};
-ghost use Rattle.mat_cert.specs.Views.{certificate_of};
+ghost use Rattle.mat_sets.specs.{Limits.{largest_number, most_elements, most_matroids}, Weights.{IsWeightWithin}};
+ghost use Rattle.mat_words.specs.{Lines.{text_of}, Numbers.{numeral}, Weights.{weight_word}, Writing.{spaced}};
+ghost use Rattle.mat_cert.specs.{Certificates.{IsRanged}, Views.{certificate_of}};
 ghost use Rattle.mat_summary.specs.Summaries.{all_members, kind_word, ladder_words, summary_line, summary_words};
 
 use crate::totals::{all_members, ladder_weight, last_weight};

@@ -1,8 +1,7 @@
 //! What the numbers of an answer come to.
 
 ghost use Rattle.std.specs.Prelude.{◌≡◌, ◌+◌, ◌≤◌, length, All};
-ghost use Rattle.mat_sets.specs.Limits.{largest_number, most_elements, most_matroids};
-ghost use Rattle.mat_sets.specs.Weights.{IsWeightWithin};
+ghost use Rattle.mat_sets.specs.{Limits.{largest_number, most_elements, most_matroids}, Weights.{IsWeightWithin}};
 ghost use Rattle.mat_summary.specs.Summaries.{all_members, ladder_weight, last_weight};
 
 use mat_cert::PricedRung;

@@ -1,8 +1,7 @@
 //! What each person gains, as weights.
 
 ghost use Rattle.std.specs.Prelude.{◌≡◌, length, IfOk};
-ghost use Rattle.mat_sets.specs.Limits.{largest_weight};
-ghost use Rattle.mat_sets.specs.Weights.{AreWeightsWithin};
+ghost use Rattle.mat_sets.specs.{Limits.{largest_weight}, Weights.{AreWeightsWithin}};
 
 use mat_sets::{PairWeights, Weight};
 use std::alloc::{AllocError, Global};

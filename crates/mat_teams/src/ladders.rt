@@ -1,15 +1,11 @@
 //! Best teams: of one matroid that the crates below do not know, and of it and a second one.
 
 ghost use Rattle.std.specs.Prelude.{◌≡◌, ◌≢◌, ◌<◌, ◌≤◌, ℕ, List, Some, true, length, slice_get, IfOk};
-ghost use Rattle.mat_sets.specs.Limits.{most_elements, largest_weight};
-ghost use Rattle.mat_sets.specs.Sets.{IsSet};
-ghost use Rattle.mat_sets.specs.Weights.{◌≼◌, weight, weight_at, AreWeightsWithin};
+ghost use Rattle.mat_sets.specs.{Limits.{most_elements, largest_weight}, Sets.{IsSet}, Weights.{◌≼◌, weight, weight_at, AreWeightsWithin}};
 ghost use Rattle.mat_laws.specs.CommonSets.{IsHeaviestCommon};
 ghost use Rattle.mat_greedy.specs.Greedy.{AreHeaviestEach};
-ghost use Rattle.mat_split.specs.Ladders.{IsLadder};
-ghost use Rattle.mat_split.specs.declared.ladder.Rung.{Rung};
-ghost use Rattle.mat_teams.specs.Exceptions.{is_uniform_except};
-ghost use Rattle.mat_teams.specs.Teams.{AreTeams, AreTeamsOfRungs};
+ghost use Rattle.mat_split.specs.{Ladders.{IsLadder}, declared.ladder.Rung.{Rung}};
+ghost use Rattle.mat_teams.specs.{Exceptions.{is_uniform_except}, Teams.{AreTeams, AreTeamsOfRungs}};
 
 use crate::uniform_except::{UniformExcept, uniform_except_means};
 use mat_greedy::heaviest_each;

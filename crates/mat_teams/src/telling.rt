@@ -1,9 +1,7 @@
 //! Teams as text, by the lines that certificates have for sets and splits.
 
 ghost use Rattle.std.specs.Prelude.{◌≤◌, length};
-ghost use Rattle.mat_sets.specs.Limits.{most_elements, largest_weight};
-ghost use Rattle.mat_sets.specs.Sets.{IsSet};
-ghost use Rattle.mat_sets.specs.Weights.{AreWeightsWithin};
+ghost use Rattle.mat_sets.specs.{Limits.{most_elements, largest_weight}, Sets.{IsSet}, Weights.{AreWeightsWithin}};
 ghost use Rattle.mat_teams.specs.Teams.{AreTeams, AreTeamsOfRungs};
 
 use mat_sets::{ElemSet, SetList, Weight, weigh};

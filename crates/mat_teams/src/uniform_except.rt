@@ -2,8 +2,7 @@
 
 ghost use Rattle.std.specs.Prelude.{⊤, ◌≡◌, ◌≢◌, ◌↔◌, ◌<◌, ◌≤◌, ℕ, List, [], true, length, IfOk};
 ghost use Rattle.mat_sets.specs.Sets.{AllBelow, IsSet, union};
-ghost use Rattle.mat_teams.specs.Exceptions.{is_uniform_except};
-ghost use Rattle.mat_teams.specs.ExceptionLaws.{uniform_except_laws};
+ghost use Rattle.mat_teams.specs.{Exceptions.{is_uniform_except}, ExceptionLaws.{uniform_except_laws}};
 
 use mat_count::uniform_sets_mean;
 use mat_laws::Matroid;

@@ -1,11 +1,13 @@
 //! Arcs along which a root reaches all vertices.
 
 ghost use Rattle.std.specs.Prelude.{◌≡◌, ◌<◌, ◌^◌, length, map, IfOk};
-ghost use Rattle.mat_sets.specs.Graphs.{ends_of, enters};
-ghost use Rattle.mat_sets.specs.Limits.{largest_number};
-ghost use Rattle.mat_sets.specs.Search.{those_below};
-ghost use Rattle.mat_sets.specs.Sets.{AllBelow};
-ghost use Rattle.mat_sets.specs.Weights.{negated, AreWeightsWithin};
+ghost use Rattle.mat_sets.specs.{
+  Graphs.{ends_of, enters},
+  Limits.{largest_number},
+  Search.{those_below},
+  Sets.{AllBelow},
+  Weights.{negated, AreWeightsWithin},
+};
 ghost use Rattle.mat_reasons.specs.Sums.{AreSummable};
 
 use mat_reasons::{Aim, Claim, Shares, have_tie, tell_shares, tell_ties};

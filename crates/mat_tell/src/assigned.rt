@@ -1,8 +1,7 @@
 //! Cells of a table, no two of them in one row or in one column.
 
 ghost use Rattle.std.specs.Prelude.{◌≡◌, ℕ, ◌<◌, ◌^◌, true, false, length, IfOk};
-ghost use Rattle.mat_sets.specs.Graphs.{ends_of};
-ghost use Rattle.mat_sets.specs.Sets.{is_member};
+ghost use Rattle.mat_sets.specs.{Graphs.{ends_of}, Sets.{is_member}};
 ghost use Rattle.mat_cert.specs.Certificates.{IsRangedLadder};
 
 use mat_cert::PricedRung;

@@ -2,8 +2,7 @@
 
 ghost use Rattle.std.specs.Prelude.{length, All};
 ghost use Rattle.mat_sets.specs.Sets.{AllBelow};
-ghost use Rattle.mat_any.specs.Trees.{IsSound};
-ghost use Rattle.mat_any.specs.Views.{tree_of};
+ghost use Rattle.mat_any.specs.{Trees.{IsSound}, Views.{tree_of}};
 ghost use Rattle.mat_cert.specs.Certificates.{AreRangedRungs, IsRangedPlainRung};
 
 use mat_any::AnyMatroid;

@@ -1,8 +1,7 @@
 //! Sets that one matroid allows and that hold all elements together.
 
 ghost use Rattle.mat_sets.specs.Sets.{AllBelow};
-ghost use Rattle.mat_any.specs.Trees.{element_count, IsSound};
-ghost use Rattle.mat_any.specs.Views.{tree_of};
+ghost use Rattle.mat_any.specs.{Trees.{element_count, IsSound}, Views.{tree_of}};
 ghost use Rattle.std.specs.Prelude.{IfSome};
 
 use mat_any::AnyMatroid;

@@ -1,8 +1,7 @@
 //! Sets that two matroids allow.
 
 ghost use Rattle.std.specs.Prelude.{◌≡◌, length};
-ghost use Rattle.mat_any.specs.Trees.{element_count, IsSound};
-ghost use Rattle.mat_any.specs.Views.{tree_of};
+ghost use Rattle.mat_any.specs.{Trees.{element_count, IsSound}, Views.{tree_of}};
 ghost use Rattle.mat_cert.specs.Certificates.{IsRangedLadder};
 
 use mat_any::AnyMatroid;

@@ -1,10 +1,8 @@
 //! Bases that share no element.
 
 ghost use Rattle.std.specs.Prelude.{◌≤◌, length};
-ghost use Rattle.mat_sets.specs.Limits.{most_elements};
-ghost use Rattle.mat_sets.specs.Sets.{AllBelow};
-ghost use Rattle.mat_any.specs.Trees.{element_count, IsSound};
-ghost use Rattle.mat_any.specs.Views.{tree_of};
+ghost use Rattle.mat_sets.specs.{Limits.{most_elements}, Sets.{AllBelow}};
+ghost use Rattle.mat_any.specs.{Trees.{element_count, IsSound}, Views.{tree_of}};
 
 use mat_any::AnyMatroid;
 use mat_laws::{Matroid, rank_of};

@@ -1,8 +1,7 @@
 //! Forests of edges of different colours.
 
 ghost use Rattle.std.specs.Prelude.{◌≡◌, ◌<◌, ◌^◌, length, All, IfOk};
-ghost use Rattle.mat_sets.specs.Graphs.{IsGraph};
-ghost use Rattle.mat_sets.specs.Sets.{AllBelow};
+ghost use Rattle.mat_sets.specs.{Graphs.{IsGraph}, Sets.{AllBelow}};
 ghost use Rattle.mat_cert.specs.Certificates.{IsRangedLadder};
 
 use mat_cert::PricedRung;

@@ -1,8 +1,7 @@
 //! Spanning trees that share no edge.
 
 ghost use Rattle.std.specs.Prelude.{◌≡◌, ◌<◌, ◌^◌, not, length, IfOk};
-ghost use Rattle.mat_sets.specs.Graphs.{ends_of};
-ghost use Rattle.mat_sets.specs.Search.{those_below};
+ghost use Rattle.mat_sets.specs.{Graphs.{ends_of}, Search.{those_below}};
 ghost use Rattle.mat_tell.specs.Classes.{are_together};
 
 use mat_sets::{ElemSet, Pairs};

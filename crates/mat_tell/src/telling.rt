@@ -1,14 +1,10 @@
 //! The text of a right answer in words.
 
 ghost use Rattle.std.specs.Prelude.{◌≡◌, IfOk};
-ghost use Rattle.mat_cert.specs.Certificates.{IsRanged};
-ghost use Rattle.mat_cert.specs.Views.{certificate_of};
+ghost use Rattle.mat_cert.specs.{Certificates.{IsRanged}, Views.{certificate_of}};
 ghost use Rattle.mat_check.specs.Right.{IsRight};
-ghost use Rattle.mat_desc.specs.Grammar.{IsValid};
-ghost use Rattle.mat_desc.specs.Soundness.{IsSoundInstance};
-ghost use Rattle.mat_desc.specs.Views.{instance_of};
-ghost use Rattle.mat_text.specs.Paragraphs.{AreShallow};
-ghost use Rattle.mat_text.specs.Texts.{IsPrintable};
+ghost use Rattle.mat_desc.specs.{Grammar.{IsValid}, Soundness.{IsSoundInstance}, Views.{instance_of}};
+ghost use Rattle.mat_text.specs.{Paragraphs.{AreShallow}, Texts.{IsPrintable}};
 
 use crate::arborescences::Network;
 use crate::assigned::Table;

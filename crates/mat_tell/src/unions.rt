@@ -1,11 +1,9 @@
 //! Parts of the elements, each of which its own matroid allows.
 
 ghost use Rattle.std.specs.Prelude.{◌≤◌, length, All};
-ghost use Rattle.mat_sets.specs.Limits.{most_elements};
-ghost use Rattle.mat_sets.specs.Sets.{AllBelow};
+ghost use Rattle.mat_sets.specs.{Limits.{most_elements}, Sets.{AllBelow}};
 ghost use Rattle.mat_union.specs.GrownParts.{AreSound};
-ghost use Rattle.mat_any.specs.Trees.{element_count, IsSound};
-ghost use Rattle.mat_any.specs.Views.{tree_of};
+ghost use Rattle.mat_any.specs.{Trees.{element_count, IsSound}, Views.{tree_of}};
 ghost use Rattle.mat_cert.specs.Certificates.{IsRangedLevel};
 
 use mat_any::AnyMatroid;

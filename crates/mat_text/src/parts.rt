@@ -1,9 +1,7 @@
 //! Sets that share no element.
 
-ghost use Rattle.std.specs.Prelude.{◌≡◌, not, IfOk};
-ghost use Rattle.std.specs.List.{list_any};
-ghost use Rattle.mat_sets.specs.Search.{those_below};
-ghost use Rattle.mat_sets.specs.Sets.{is_member};
+ghost use Rattle.std.specs.{Prelude.{◌≡◌, not, IfOk}, List.{list_any}};
+ghost use Rattle.mat_sets.specs.{Search.{those_below}, Sets.{is_member}};
 ghost use Rattle.mat_text.specs.Paragraphs.{KeepsParagraphs};
 
 use crate::called::Called;

@@ -1,7 +1,6 @@
 //! The rows of a job, whose numbers the workers draw.
 ghost use Rattle.std.specs.Prelude.{◌≡◌, ◌≤◌, IfOk, length};
-ghost use Rattle.mat_work.specs.Rows.{StandFrom};
-ghost use Rattle.mat_work.specs.Workers.{AreWorkers};
+ghost use Rattle.mat_work.specs.{Rows.{StandFrom}, Workers.{AreWorkers}};
 ghost use Rattle.mat_ticket.specs.Tickets.{most_tickets, AreTickets};
 
 use crate::drawn::Drawn;

@@ -1,8 +1,6 @@
 //! All seats are joined, and the one that is left has all shares and what was drawn. The word's key is the count.
-ghost use Rattle.std.specs.Prelude.{◌≡◌, ◌<◌, IfOk, [], length, map};
-ghost use Rattle.std.specs.List.{AllByRecursion, sum_by};
-ghost use Rattle.mat_ticket.specs.Workers.{output_of, share_of};
-ghost use Rattle.mat_ticket.specs.Joined.{AreJoined, HasFinished, IsSeated};
+ghost use Rattle.std.specs.{Prelude.{◌≡◌, ◌<◌, IfOk, [], length, map}, List.{AllByRecursion, sum_by}};
+ghost use Rattle.mat_ticket.specs.{Workers.{output_of, share_of}, Joined.{AreJoined, HasFinished, IsSeated}};
 
 use crate::output::Output;
 use crate::steps::join_other;

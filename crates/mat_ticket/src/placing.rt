@@ -1,8 +1,6 @@
 //! Rows are put at the places of their tickets.
-ghost use Rattle.std.specs.Prelude.{◌≡◌, ℕ, ◌<◌, IfOk, length, map, Some, None, slice_get, slice_set};
-ghost use Rattle.std.specs.List.{AllByRecursion};
-ghost use Rattle.mat_sets.specs.Families.{multiplicity};
-ghost use Rattle.mat_sets.specs.Sets.{AllBelow};
+ghost use Rattle.std.specs.{Prelude.{◌≡◌, ℕ, ◌<◌, IfOk, length, map, Some, None, slice_get, slice_set}, List.{AllByRecursion}};
+ghost use Rattle.mat_sets.specs.{Families.{multiplicity}, Sets.{AllBelow}};
 ghost use Rattle.mat_ticket.specs.Placing.{tickets_of, ArePlaced, FitsRoom, HasItem, IsRowIn};
 
 use crate::drawn::Drawn;

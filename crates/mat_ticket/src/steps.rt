@@ -1,10 +1,8 @@
 //! The four kinds of step on the ticket word: the word with its first seat is made, a share is split off, a number is drawn, and a seat is
 //! joined to another. In the end the word is closed with the seat that has all shares.
-ghost use Rattle.std.specs.Prelude.{◌≡◌, ◌+◌, ◌-◌, ◌^◌, ◌<◌, ◌≤◌, ◌++◌, [], ◌∷◌, ℕ, IfOk};
-ghost use Rattle.std.specs.List.{sum_by};
+ghost use Rattle.std.specs.{Prelude.{◌≡◌, ◌+◌, ◌-◌, ◌^◌, ◌<◌, ◌≤◌, ◌++◌, [], ◌∷◌, ℕ, IfOk}, List.{sum_by}};
 ghost use Rattle.mat_sets.specs.Sets.{AllBelow};
-ghost use Rattle.mat_ticket.specs.Sums.{beyond, sum_below};
-ghost use Rattle.mat_ticket.specs.WordStates.{ticket_view};
+ghost use Rattle.mat_ticket.specs.{Sums.{beyond, sum_below}, WordStates.{ticket_view}};
 
 use crate::ticket_word::{DrawNext, JoinViews, Seat, SplitShare, TicketTable, TicketWord};
 use atomic_table::Table;

@@ -1,10 +1,7 @@
 //! Workers that draw tickets and compute their rows.
-ghost use Rattle.std.specs.Prelude.{◌≡◌, ◌<◌, ◌≤◌, [], ℕ, IfOk, OnOk, length, slice_index_or};
-ghost use Rattle.std.specs.List.{AllByRecursion, sum_by};
+ghost use Rattle.std.specs.{Prelude.{◌≡◌, ◌<◌, ◌≤◌, [], ℕ, IfOk, OnOk, length, slice_index_or}, List.{AllByRecursion, sum_by}};
 ghost use Rattle.mat_work.specs.Workers.{AreWorkers};
-ghost use Rattle.mat_ticket.specs.WordStates.{ticket_view};
-ghost use Rattle.mat_ticket.specs.Outputs.{IsOutput, IsLast};
-ghost use Rattle.mat_ticket.specs.Workers.{share_of, IsDone, IsFresh};
+ghost use Rattle.mat_ticket.specs.{WordStates.{ticket_view}, Outputs.{IsOutput, IsLast}, Workers.{share_of, IsDone, IsFresh}};
 
 use crate::steps::{draw, split_share};
 use crate::ticket_word::{Seat, TicketWord};

@@ -2,14 +2,10 @@
 
 ghost use Rattle.std.specs.Prelude.{◌≡◌, ◌≤◌, ℕ, List, true, IfOk, IfErr};
 ghost use Rattle.mat_work.specs.Workers.{AreWorkers};
-ghost use Rattle.mat_desc.specs.Grammar.{IsValid};
-ghost use Rattle.mat_desc.specs.Soundness.{IsSoundInstance};
-ghost use Rattle.mat_desc.specs.Views.{instance_of};
-ghost use Rattle.mat_command.specs.CommandLines.{about};
-ghost use Rattle.mat_command.specs.Commands.{request_of, IsRequestInRange};
-ghost use Rattle.mat_top.specs.Outcomes.{yes_text};
+ghost use Rattle.mat_desc.specs.{Grammar.{IsValid}, Soundness.{IsSoundInstance}, Views.{instance_of}};
+ghost use Rattle.mat_command.specs.{CommandLines.{about}, Commands.{request_of, IsRequestInRange}};
+ghost use Rattle.mat_top.specs.{Outcomes.{yes_text}, Refusals.{HasText, HasNoText, HasSolutionText, MayBeWritten, IsRefusal}};
 ghost use Rattle.mat_solve.specs.Queries.{has_form, IsQueryInRange};
-ghost use Rattle.mat_top.specs.Refusals.{HasText, HasNoText, HasSolutionText, MayBeWritten, IsRefusal};
 
 use crate::cuts_text::{cuts_text, has_payable_costs};
 use mat_cert::write_answer;

@@ -1,9 +1,7 @@
 //! The lines of right cuts.
 
 ghost use Rattle.std.specs.Prelude.{◌≡◌, ◌++◌, ◌∷◌, [], codes, length, map, pos, IfOk, OnOk};
-ghost use Rattle.mat_words.specs.Lines.{text_of};
-ghost use Rattle.mat_words.specs.Numbers.{numeral};
-ghost use Rattle.mat_words.specs.Writing.{end_line, members_line};
+ghost use Rattle.mat_words.specs.{Lines.{text_of}, Numbers.{numeral}, Writing.{end_line, members_line}};
 ghost use Rattle.mat_cert.specs.Certificates.{header_line, version_line};
 ghost use Rattle.mat_top.specs.CutTexts.{cut_line};
 

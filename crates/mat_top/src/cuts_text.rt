@@ -2,9 +2,7 @@
 
 ghost use Rattle.std.specs.Prelude.{◌≡◌, ◌↔◌, true, All, IfOk, IsTrue};
 ghost use Rattle.mat_check.specs.Fitting.{is_rooted};
-ghost use Rattle.mat_desc.specs.Grammar.{IsValid};
-ghost use Rattle.mat_desc.specs.Instances.{rooted};
-ghost use Rattle.mat_desc.specs.Views.{instance_of};
+ghost use Rattle.mat_desc.specs.{Grammar.{IsValid}, Instances.{rooted}, Views.{instance_of}};
 ghost use Rattle.mat_top.specs.CutTexts.{mains, HasPayableCosts, IsCutsText, IsPayable};
 
 use crate::cut_lines::{tree_text, unreached_text};

@@ -5,8 +5,7 @@ ghost use denote.Param.Send.{IsSync};
 ghost use Rattle.mat_work.specs.Workers.{AreWorkers};
 ghost use Rattle.mat_desc.specs.Views.{instance_of};
 ghost use Rattle.mat_command.specs.JobLists.{most_jobs};
-ghost use Rattle.mat_top.specs.LoadedJobs.{IsAnswerable, HaveTexts};
-ghost use Rattle.mat_top.specs.Refusals.{HasSolutionText};
+ghost use Rattle.mat_top.specs.{LoadedJobs.{IsAnswerable, HaveTexts}, Refusals.{HasSolutionText}};
 
 use crate::about::solution_text;
 use crate::loaded_job::LoadedJob;
@@ -45,11 +44,12 @@ struct TextRows<'a, S: Answering + Sync> {
 }
 
 impl<'a, S: Answering + Sync> Model for TextRows<'a, S> {
-    ghost use Rattle.std.specs.Prelude.{List, All};
-    ghost use Rattle.std.specs.Coded.{codes};
-    ghost use Rattle.mat_top.specs.contracts.loaded_job.LoadedJob as loaded;
-    ghost use Rattle.mat_top.specs.declared.loaded_job.LoadedJob.{LoadedJob};
-    ghost use Rattle.mat_top.specs.LoadedJobs.{IsAnswerable};
+    ghost use Rattle.std.specs.{Prelude.{List, All}, Coded.{codes}};
+    ghost use Rattle.mat_top.specs.{
+      contracts.loaded_job.LoadedJob as loaded,
+      declared.loaded_job.LoadedJob.{LoadedJob},
+      LoadedJobs.{IsAnswerable},
+    };
 
     ghost Value = { List LoadedJob };
 

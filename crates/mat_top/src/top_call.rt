@@ -2,12 +2,12 @@
 
 ghost use Rattle.std.specs.Prelude.{◌≡◌, ◌≤◌, ◌<◌, ◌↔◌, ◌⊎◌, ℕ, List, map, string_bytes, IfOk, IfErr, Some, None};
 ghost use Rattle.mat_shelf.specs.Faults.{Rose};
-ghost use Rattle.mat_command.specs.CommandLines.{command_line, asked_by};
-ghost use Rattle.mat_command.specs.Commands.{task_of};
-ghost use Rattle.mat_judge.specs.Notes.{IsNoted};
-ghost use Rattle.mat_top.specs.Outcomes.{Tells, IsStatus, IsOutcome, IsWritten, CallReaches, IsNote};
-ghost use Rattle.mat_top.specs.Refusals.{MayBeWritten, IsRefusal, IsPut, IsEnded};
-ghost use Rattle.mat_judge.specs.Texts.{all_texts};
+ghost use Rattle.mat_command.specs.{CommandLines.{command_line, asked_by}, Commands.{task_of}};
+ghost use Rattle.mat_judge.specs.{Notes.{IsNoted}, Texts.{all_texts}};
+ghost use Rattle.mat_top.specs.{
+  Outcomes.{Tells, IsStatus, IsOutcome, IsWritten, CallReaches, IsNote},
+  Refusals.{MayBeWritten, IsRefusal, IsPut, IsEnded},
+};
 
 use crate::about::text_about;
 use crate::batch::batch_texts;

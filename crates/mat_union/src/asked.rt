@@ -1,9 +1,7 @@
 //! What is asked of each matroid of a union.
 ghost use Rattle.std.specs.Prelude.{◌≡◌, ◌<◌, ℕ, List, [], Bool, true, false, IfOk};
 ghost use Rattle.mat_sets.specs.Sets.{AllBelow, AreDistinct, is_member, union};
-ghost use Rattle.mat_laws.specs.Exchanges.{row_of};
-ghost use Rattle.mat_laws.specs.GreedyRuns.{grown_along};
-ghost use Rattle.mat_laws.specs.Matroids.{IsMatroid, IsMaximal};
+ghost use Rattle.mat_laws.specs.{Exchanges.{row_of}, GreedyRuns.{grown_along}, Matroids.{IsMatroid, IsMaximal}};
 
 use mat_laws::{Exchange, Matroid};
 use mat_sets::ElemSet;

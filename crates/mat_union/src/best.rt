@@ -1,11 +1,12 @@
 //! Unions of greatest weight.
 ghost use Rattle.std.specs.Prelude.{◌≡◌, ◌<◌, ◌^◌, ◌||◌, ℕ, Bool, length, map, IfOk, OnOk};
-ghost use Rattle.mat_sets.specs.Families.{family_union};
-ghost use Rattle.mat_sets.specs.Search.{those_below};
-ghost use Rattle.mat_sets.specs.Sets.{is_member, IsRising, IsSubset};
-ghost use Rattle.mat_sets.specs.Weights.{is_same, weight_at};
-ghost use Rattle.mat_union.specs.GrownParts.{AreDone, AreFresh, AreGrowing, AreKept, AreSound};
-ghost use Rattle.mat_union.specs.RightUnions.{IsRightUnion};
+ghost use Rattle.mat_sets.specs.{
+  Families.{family_union},
+  Search.{those_below},
+  Sets.{is_member, IsRising, IsSubset},
+  Weights.{is_same, weight_at},
+};
+ghost use Rattle.mat_union.specs.{GrownParts.{AreDone, AreFresh, AreGrowing, AreKept, AreSound}, RightUnions.{IsRightUnion}};
 
 use crate::empty::empty_parts;
 use crate::growth::{Growth, all_lawful, grow, growth_from};

@@ -1,11 +1,8 @@
 //! What a search for moves has found at its end.
 ghost use Rattle.std.specs.Prelude.{◌≡◌, ◌<◌, ◌^◌, ℕ, List, Bool, length, IfOk};
-ghost use Rattle.mat_sets.specs.Families.{family_union};
-ghost use Rattle.mat_sets.specs.Sets.{all_below, IsRising};
+ghost use Rattle.mat_sets.specs.{Families.{family_union}, Sets.{all_below, IsRising}};
 ghost use Rattle.mat_laws.specs.Exchanges.{row_of};
-ghost use Rattle.mat_union.specs.EndedSearches.{IsEnded, IsReady};
-ghost use Rattle.mat_union.specs.Placings.{IsPlaceSearch};
-ghost use Rattle.mat_union.specs.Unions.{union_test};
+ghost use Rattle.mat_union.specs.{EndedSearches.{IsEnded, IsReady}, Placings.{IsPlaceSearch}, Unions.{union_test}};
 
 use crate::move_graph::insert_all;
 use crate::move_search::MoveSearch;

@@ -1,11 +1,7 @@
 //! Parts that are filled up.
 ghost use Rattle.std.specs.Prelude.{◌≡◌, not, map, IfOk};
-ghost use Rattle.mat_sets.specs.Families.{family_union};
-ghost use Rattle.mat_sets.specs.Search.{those_below};
-ghost use Rattle.mat_sets.specs.Sets.{is_member};
-ghost use Rattle.mat_union.specs.FilledParts.{IsFilled};
-ghost use Rattle.mat_union.specs.Unions.{AreParts};
-ghost use Rattle.mat_union.specs.UnionsOf.{AreJoined, common_size};
+ghost use Rattle.mat_sets.specs.{Families.{family_union}, Search.{those_below}, Sets.{is_member}};
+ghost use Rattle.mat_union.specs.{FilledParts.{IsFilled}, Unions.{AreParts}, UnionsOf.{AreJoined, common_size}};
 
 use crate::best::grow_by;
 use crate::growth::{all_lawful, growth_from};

@@ -1,14 +1,35 @@
 //! Parts that grow by one element at a time.
-ghost use Rattle.std.specs.Prelude.{◌≡◌, ◌<◌, ◌^◌, ◌||◌, ◌&&◌, ◌==◌, ℕ, Bool, true, false, not, length, map, slice_set, None, IfOk, IfSome, OnErr, OnOk, ◌≢◌};
-ghost use Rattle.mat_sets.specs.Families.{family_union};
-ghost use Rattle.mat_sets.specs.Sets.{is_member, IsRising, IsSubset};
-ghost use Rattle.mat_laws.specs.Exchanges.{row_of};
-ghost use Rattle.mat_laws.specs.GreedyRuns.{grown_by};
-ghost use Rattle.mat_union.specs.GrownParts.{AreDone, AreGrowing, AreKept, AreSound};
-ghost use Rattle.mat_union.specs.Moves.{exchanges_with};
-ghost use Rattle.mat_union.specs.MoveSearches.{IsQuestion, IsReaching};
-ghost use Rattle.mat_union.specs.Placings.{IsPlaceSearch, IsPlacing};
-ghost use Rattle.mat_union.specs.Unions.{part_at, union_test, AreMatroids, AreParts};
+ghost use Rattle.std.specs.Prelude.{
+  ◌≡◌,
+  ◌<◌,
+  ◌^◌,
+  ◌||◌,
+  ◌&&◌,
+  ◌==◌,
+  ℕ,
+  Bool,
+  true,
+  false,
+  not,
+  length,
+  map,
+  slice_set,
+  None,
+  IfOk,
+  IfSome,
+  OnErr,
+  OnOk,
+  ◌≢◌,
+};
+ghost use Rattle.mat_sets.specs.{Families.{family_union}, Sets.{is_member, IsRising, IsSubset}};
+ghost use Rattle.mat_laws.specs.{Exchanges.{row_of}, GreedyRuns.{grown_by}};
+ghost use Rattle.mat_union.specs.{
+  GrownParts.{AreDone, AreGrowing, AreKept, AreSound},
+  Moves.{exchanges_with},
+  MoveSearches.{IsQuestion, IsReaching},
+  Placings.{IsPlaceSearch, IsPlacing},
+  Unions.{part_at, union_test, AreMatroids, AreParts},
+};
 
 use crate::asked::Asked;
 use crate::ended::{PlaceSearch, found_place};

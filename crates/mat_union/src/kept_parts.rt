@@ -1,11 +1,8 @@
 //! Parts of an independent set of a union, with what each matroid keeps of its part.
 ghost use Rattle.std.specs.Prelude.{◌≡◌, ◌<◌, ◌^◌, false, length, map, IfOk, OnOk, MatchOption};
-ghost use Rattle.mat_sets.specs.Families.{family_union};
-ghost use Rattle.mat_sets.specs.Sets.{all_below, is_member, AllBelow, IsRising, IsSubset};
+ghost use Rattle.mat_sets.specs.{Families.{family_union}, Sets.{all_below, is_member, AllBelow, IsRising, IsSubset}};
 ghost use Rattle.mat_laws.specs.Exchanges.{row_of};
-ghost use Rattle.mat_union.specs.GrownParts.{AreKept, AreKeptParts, AreSound};
-ghost use Rattle.mat_union.specs.Placings.{IsBrought};
-ghost use Rattle.mat_union.specs.Unions.{union_test, AreParts};
+ghost use Rattle.mat_union.specs.{GrownParts.{AreKept, AreKeptParts, AreSound}, Placings.{IsBrought}, Unions.{union_test, AreParts}};
 
 use crate::asked::Asked;
 use crate::ended::row_by_search;

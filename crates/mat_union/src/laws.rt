@@ -1,19 +1,21 @@
 //! Laws of unions, for every list of tests that obey the laws of a matroid. Each law is the contract of a function that does nothing.
 
 ghost use Rattle.std.specs.Prelude.{◌≡◌, ◌≤◌, ◌+◌, ℕ, List, Bool, true, false, length};
-ghost use Rattle.mat_sets.specs.Families.{family_union};
-ghost use Rattle.mat_sets.specs.declared.weight.Weight.{Weight};
-ghost use Rattle.mat_sets.specs.Sets.{is_member, IsRising, IsSubset, with_one, minus, intersection};
-ghost use Rattle.mat_laws.specs.declared.exchange.Exchange.{Exchange};
-ghost use Rattle.mat_laws.specs.Exchanges.{row_of};
-ghost use Rattle.mat_laws.specs.Matroids.{IsMatroid};
-ghost use Rattle.mat_union.specs.MoveGraphs.{AreMovable, AreRowsAt};
-ghost use Rattle.mat_union.specs.Moves.{exchanges_of, is_free, row_found, AreMoved, IsMoves, IsShortestMovePath, IsStuck};
-ghost use Rattle.mat_union.specs.RightUnions.{IsBestUnion, IsRightUnion};
-ghost use Rattle.mat_union.specs.Unions.{ranks_sum, union_test, AreMatroids, AreParts, IsInUnion};
-ghost use Rattle.mat_union.specs.declared.best.Level.{Level};
-ghost use Rattle.mat_union.specs.declared.moves.Move.{Move};
-ghost use Rattle.mat_union.specs.declared.moves.Moves.{Moves};
+ghost use Rattle.mat_sets.specs.{
+  Families.{family_union},
+  declared.weight.Weight.{Weight},
+  Sets.{is_member, IsRising, IsSubset, with_one, minus, intersection},
+};
+ghost use Rattle.mat_laws.specs.{declared.exchange.Exchange.{Exchange}, Exchanges.{row_of}, Matroids.{IsMatroid}};
+ghost use Rattle.mat_union.specs.{
+  MoveGraphs.{AreMovable, AreRowsAt},
+  Moves.{exchanges_of, is_free, row_found, AreMoved, IsMoves, IsShortestMovePath, IsStuck},
+  RightUnions.{IsBestUnion, IsRightUnion},
+  Unions.{ranks_sum, union_test, AreMatroids, AreParts, IsInUnion},
+  declared.best.Level.{Level},
+  declared.moves.Move.{Move},
+  declared.moves.Moves.{Moves},
+};
 
 /// The test of the union holds of a set exactly where there are pairwise disjoint sets, one for each matroid and the i-th independent in
 /// the i-th, that together are the set (Schrijver, chapter 42).

@@ -1,9 +1,7 @@
 //! The graph in which a search for moves looks for a walk.
 ghost use Rattle.std.specs.Prelude.{◌≡◌, ◌<◌, ◌||◌, ℕ, length, IfOk, OnOk};
-ghost use Rattle.mat_sets.specs.Families.{family_union};
-ghost use Rattle.mat_sets.specs.Sets.{is_member};
-ghost use Rattle.mat_union.specs.MoveGraphs.{AreLong, IsPushTable};
-ghost use Rattle.mat_union.specs.Moves.{can_enter, can_push, exchanges_of};
+ghost use Rattle.mat_sets.specs.{Families.{family_union}, Sets.{is_member}};
+ghost use Rattle.mat_union.specs.{MoveGraphs.{AreLong, IsPushTable}, Moves.{can_enter, can_push, exchanges_of}};
 
 use crate::exchange_list::ExchangeList;
 use mat_sets::{BitRows, BitSet, ElemSet, Relation, SetList};
@@ -21,8 +19,7 @@ pub(crate) struct MoveGraph<'a> {
 
 impl Relation for MoveGraph<'_> {
     ghost use Rattle.std.specs.Prelude.{length};
-    ghost use Rattle.mat_union.specs.MoveGraphs.{IsMoveGraph};
-    ghost use Rattle.mat_union.specs.Moves.{can_enter, can_push, exchanges_of, is_free};
+    ghost use Rattle.mat_union.specs.{MoveGraphs.{IsMoveGraph}, Moves.{can_enter, can_push, exchanges_of, is_free}};
 
     ghost count = { λ g. length g.table.now };
 

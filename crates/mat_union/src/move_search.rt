@@ -1,11 +1,12 @@
 //! A search for moves from one element.
 ghost use Rattle.std.specs.Prelude.{◌≡◌, ◌<◌, ◌^◌, ℕ, suc, List, Bool, true, false, length, IfOk, OnOk, MatchOption};
-ghost use Rattle.mat_sets.specs.Families.{family_union, AreDisjoint};
-ghost use Rattle.mat_sets.specs.Sets.{is_member};
+ghost use Rattle.mat_sets.specs.{Families.{family_union, AreDisjoint}, Sets.{is_member}};
 ghost use Rattle.mat_laws.specs.TightPaths.{Exchanges};
-ghost use Rattle.mat_union.specs.Moves.{exchanges_with};
-ghost use Rattle.mat_union.specs.MoveSearches.{questions_left, AreFoundMoves, AreMovesAt, AreTaken, IsAnswered, AreAnswered, IsOpen, IsQuestion, IsReaching};
-ghost use Rattle.mat_union.specs.Unions.{part_at, AreMatroids, AreParts};
+ghost use Rattle.mat_union.specs.{
+  Moves.{exchanges_with},
+  MoveSearches.{questions_left, AreFoundMoves, AreMovesAt, AreTaken, IsAnswered, AreAnswered, IsOpen, IsQuestion, IsReaching},
+  Unions.{part_at, AreMatroids, AreParts},
+};
 
 use crate::move_graph::insert_all;
 use crate::moves::Move;
@@ -184,8 +185,7 @@ struct KnownArcs<'a> {
 
 impl Relation for KnownArcs<'_> {
     ghost use Rattle.std.specs.Prelude.{◌==◌, ◌<◌, ◌^◌, length};
-    ghost use Rattle.mat_sets.specs.Sets.{is_member};
-    ghost use Rattle.mat_sets.specs.Rows.{row_at};
+    ghost use Rattle.mat_sets.specs.{Sets.{is_member}, Rows.{row_at}};
 
     ghost count = { λ g. length g.table.now };
 

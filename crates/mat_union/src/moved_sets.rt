@@ -1,10 +1,7 @@
 //! The parts after moves.
 ghost use Rattle.std.specs.Prelude.{◌≡◌, ◌<◌, ◌^◌, ℕ, List, Bool, true, false, length, map, IfOk};
-ghost use Rattle.mat_sets.specs.Families.{family_union};
-ghost use Rattle.mat_sets.specs.Sets.{all_below, is_member, minus, union, IsRising};
-ghost use Rattle.mat_union.specs.Moves.{elements, entering, exchanges_with, moved};
-ghost use Rattle.mat_union.specs.Placings.{ArePlaced};
-ghost use Rattle.mat_union.specs.Unions.{AreMatroids, AreParts};
+ghost use Rattle.mat_sets.specs.{Families.{family_union}, Sets.{all_below, is_member, minus, union, IsRising}};
+ghost use Rattle.mat_union.specs.{Moves.{elements, entering, exchanges_with, moved}, Placings.{ArePlaced}, Unions.{AreMatroids, AreParts}};
 
 use crate::moves::Move;
 use mat_sets::{ElemSet, SetList};

@@ -1,10 +1,8 @@
 //! Greedy runs of a union.
 ghost use Rattle.std.specs.Prelude.{◌≡◌, ◌<◌, ◌^◌, [], length, map, IfOk, OnOk};
-ghost use Rattle.mat_sets.specs.Families.{family_union};
-ghost use Rattle.mat_sets.specs.Sets.{AllBelow, AreDistinct};
+ghost use Rattle.mat_sets.specs.{Families.{family_union}, Sets.{AllBelow, AreDistinct}};
 ghost use Rattle.mat_laws.specs.GreedyRuns.{grown_along, grown_by};
-ghost use Rattle.mat_union.specs.GrownParts.{AreGrowing, AreKept, AreSound};
-ghost use Rattle.mat_union.specs.Unions.{test_at, union_test};
+ghost use Rattle.mat_union.specs.{GrownParts.{AreGrowing, AreKept, AreSound}, Unions.{test_at, union_test}};
 
 use crate::asked::Asked;
 use crate::empty::first_parts;

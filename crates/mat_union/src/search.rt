@@ -1,8 +1,10 @@
 //! The search for moves.
 ghost use Rattle.std.specs.Prelude.{◌≡◌, ◌<◌, ◌^◌, true, length, slice_index_or, [], IfOk};
 ghost use Rattle.mat_sets.specs.Walks.{IsShortestWalk};
-ghost use Rattle.mat_union.specs.MoveGraphs.{AreLong, AreMovable};
-ghost use Rattle.mat_union.specs.Moves.{can_enter, can_push, exchanges_of, is_free, IsMoves, IsShortestMovePath};
+ghost use Rattle.mat_union.specs.{
+  MoveGraphs.{AreLong, AreMovable},
+  Moves.{can_enter, can_push, exchanges_of, is_free, IsMoves, IsShortestMovePath},
+};
 
 use crate::exchange_list::ExchangeList;
 use crate::move_graph::{MoveGraph, push_table};

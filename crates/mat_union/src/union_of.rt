@@ -1,9 +1,11 @@
 //! The union of matroids.
 ghost use Rattle.std.specs.Prelude.{◌≡◌, map};
-ghost use Rattle.mat_union.specs.GrownParts.{AreKeptParts};
-ghost use Rattle.mat_union.specs.UnionOfLaws.{joined_laws};
-ghost use Rattle.mat_union.specs.UnionsOf.{AreJoined, common_size};
-ghost use Rattle.mat_union.specs.Unions.{union_test};
+ghost use Rattle.mat_union.specs.{
+  GrownParts.{AreKeptParts},
+  UnionOfLaws.{joined_laws},
+  UnionsOf.{AreJoined, common_size},
+  Unions.{union_test},
+};
 
 use crate::kept_parts::{KeptParts, parts_of, row_of_parts};
 use crate::running::run_along;

@@ -1,17 +1,15 @@
 //! Making a witness for a rung of the certificate in a file.
 
 ghost use Rattle.std.specs.Prelude.{◌≡◌, ◌≤◌, ℕ, List, true, length, IfOk, IfErr, IfSome};
-ghost use Rattle.mat_cert.specs.Certificates.{IsRanged};
-ghost use Rattle.mat_cert.specs.Views.{certificate_of};
+ghost use Rattle.mat_cert.specs.{Certificates.{IsRanged}, Views.{certificate_of}};
 ghost use Rattle.mat_check.specs.Right.{IsRight};
-ghost use Rattle.mat_desc.specs.Grammar.{IsValid};
-ghost use Rattle.mat_desc.specs.Soundness.{IsSoundInstance};
-ghost use Rattle.mat_desc.specs.Views.{instance_of};
-ghost use Rattle.mat_witness.specs.Kinds.{is_witnessed_pair};
-ghost use Rattle.mat_witness.specs.Lines.{witness_limit};
-ghost use Rattle.mat_verify.specs.WitnessOutcomes.{IsWitnessFound};
-ghost use Rattle.mat_verify.specs.WitnessRefusals.{HasNoWitness, IsRefusedAnswer};
-ghost use Rattle.mat_verify.specs.Witnessing.{IsShowing, fits_rung};
+ghost use Rattle.mat_desc.specs.{Grammar.{IsValid}, Soundness.{IsSoundInstance}, Views.{instance_of}};
+ghost use Rattle.mat_witness.specs.{Kinds.{is_witnessed_pair}, Lines.{witness_limit}};
+ghost use Rattle.mat_verify.specs.{
+  WitnessOutcomes.{IsWitnessFound},
+  WitnessRefusals.{HasNoWitness, IsRefusedAnswer},
+  Witnessing.{IsShowing, fits_rung},
+};
 
 use crate::rung_answer::rung_answer_in;
 use mat_cert::Answer;

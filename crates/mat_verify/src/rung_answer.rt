@@ -1,12 +1,10 @@
 //! The answer of a certificate, of which a rung can be witnessed.
 
 ghost use Rattle.std.specs.Prelude.{◌≡◌, ◌≤◌, ℕ, List, true, IfOk, IfErr, IfSome};
-ghost use Rattle.mat_cert.specs.Certificates.{IsRanged};
-ghost use Rattle.mat_cert.specs.Views.{certificate_of};
+ghost use Rattle.mat_cert.specs.{Certificates.{IsRanged}, Views.{certificate_of}};
 ghost use Rattle.mat_desc.specs.Views.{instance_of};
 ghost use Rattle.mat_witness.specs.Kinds.{is_witnessed_pair};
-ghost use Rattle.mat_verify.specs.WitnessRefusals.{HasNoRung};
-ghost use Rattle.mat_verify.specs.Witnessing.{IsRungAnswer, fits_rung};
+ghost use Rattle.mat_verify.specs.{WitnessRefusals.{HasNoRung}, Witnessing.{IsRungAnswer, fits_rung}};
 
 use crate::refusals::NoRung;
 use mat_cert::Answer;

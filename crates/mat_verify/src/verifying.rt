@@ -1,16 +1,10 @@
 //! Verifying the witness in a file for a rung of the certificate in another.
 
 ghost use Rattle.std.specs.Prelude.{◌≡◌, ◌≤◌, ℕ, List, true, length, Some, OnOk, IfErr, IfSome};
-ghost use Rattle.mat_cert.specs.Certificates.{Certificate, IsRanged};
-ghost use Rattle.mat_cert.specs.Views.{certificate_of};
-ghost use Rattle.mat_desc.specs.Grammar.{IsValid};
-ghost use Rattle.mat_desc.specs.Soundness.{IsSoundInstance};
-ghost use Rattle.mat_desc.specs.Views.{instance_of};
-ghost use Rattle.mat_witness.specs.Kinds.{has_rung, is_witnessed_pair};
-ghost use Rattle.mat_witness.specs.Lines.{witness_limit};
-ghost use Rattle.mat_verify.specs.WitnessOutcomes.{IsVerifyOutcome};
-ghost use Rattle.mat_verify.specs.WitnessRefusals.{IsUnshown, IsUnverified};
-ghost use Rattle.mat_verify.specs.Witnessing.{IsRungAnswer};
+ghost use Rattle.mat_cert.specs.{Certificates.{Certificate, IsRanged}, Views.{certificate_of}};
+ghost use Rattle.mat_desc.specs.{Grammar.{IsValid}, Soundness.{IsSoundInstance}, Views.{instance_of}};
+ghost use Rattle.mat_witness.specs.{Kinds.{has_rung, is_witnessed_pair}, Lines.{witness_limit}};
+ghost use Rattle.mat_verify.specs.{WitnessOutcomes.{IsVerifyOutcome}, WitnessRefusals.{IsUnshown, IsUnverified}, Witnessing.{IsRungAnswer}};
 
 use crate::refusals::Unshown;
 use crate::rung_answer::rung_answer_in;

@@ -3,8 +3,7 @@
 ghost use Rattle.std.specs.Prelude.{◌≡◌, ◌≤◌, ◌-◌, length, drop, IfOk};
 ghost use Rattle.mat_sets.specs.Limits.{most_elements};
 ghost use Rattle.mat_any.specs.Trees.{Tree};
-ghost use Rattle.mat_witness.specs.BoundRows.{row_trees};
-ghost use Rattle.mat_witness.specs.Shown.{bounded_trees};
+ghost use Rattle.mat_witness.specs.{BoundRows.{row_trees}, Shown.{bounded_trees}};
 
 use crate::demands::demands_under;
 use crate::witness::Most;

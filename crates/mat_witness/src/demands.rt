@@ -3,8 +3,7 @@
 ghost use Rattle.std.specs.Prelude.{◌≡◌, ◌≤◌, ◌++◌, ◌∷◌, [], nat_lt, length, filter, map, IfOk, OnOk};
 ghost use Rattle.mat_sets.specs.Limits.{most_elements};
 ghost use Rattle.mat_any.specs.Trees.{Tree};
-ghost use Rattle.mat_witness.specs.Demands.{demand_for};
-ghost use Rattle.mat_witness.specs.Shown.{demand_at, demands_under};
+ghost use Rattle.mat_witness.specs.{Demands.{demand_for}, Shown.{demand_at, demands_under}};
 
 use mat_sets::{ElemSet, Weight, falling_weights, heavy_elements};
 use std::alloc::{AllocError, Global};

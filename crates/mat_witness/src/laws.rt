@@ -2,12 +2,8 @@
 
 ghost use Rattle.std.specs.Prelude.{◌≡◌, ℕ, true};
 ghost use Rattle.mat_cert.specs.Certificates.{Certificate, IsRanged};
-ghost use Rattle.mat_desc.specs.Grammar.{IsValid};
-ghost use Rattle.mat_desc.specs.Instances.{Instance};
-ghost use Rattle.mat_desc.specs.Soundness.{IsSoundInstance};
-ghost use Rattle.mat_witness.specs.Kinds.{has_rung, is_witnessed_pair};
-ghost use Rattle.mat_witness.specs.Parts.{WitnessParts};
-ghost use Rattle.mat_witness.specs.Shown.{IsProvedRung, IsShown, IsWitnessFor};
+ghost use Rattle.mat_desc.specs.{Grammar.{IsValid}, Instances.{Instance}, Soundness.{IsSoundInstance}};
+ghost use Rattle.mat_witness.specs.{Kinds.{has_rung, is_witnessed_pair}, Parts.{WitnessParts}, Shown.{IsProvedRung, IsShown, IsWitnessFor}};
 
 /// Where a witness shows rung k, the weight of the rung is that of its set, its halves add up to the weights and its set is heaviest of its
 /// size under each; so it is a heaviest common independent set of k elements, and no common independent set has more elements than the last

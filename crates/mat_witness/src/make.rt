@@ -1,25 +1,20 @@
 //! Making a witness.
 
-ghost use Rattle.std.specs.Prelude.{◌≡◌, ◌+◌, ◌≤◌, true, [], ◌∷◌, length, map, IfOk};
-ghost use Rattle.std.specs.List.{AllZip};
-ghost use Rattle.mat_sets.specs.Sets.{IsSet, all_below, minus};
-ghost use Rattle.mat_sets.specs.Weights.{weight_at};
-ghost use Rattle.mat_laws.specs.Heaviest.{IsHeaviest};
-ghost use Rattle.mat_laws.specs.Ranks.{rank};
-ghost use Rattle.mat_any.specs.Trees.{element_count, is_independent};
-ghost use Rattle.mat_any.specs.Views.{tree_of};
-ghost use Rattle.mat_cert.specs.Certificates.{IsRanged};
-ghost use Rattle.mat_cert.specs.Views.{certificate_of};
-ghost use Rattle.mat_desc.specs.Grammar.{IsValid};
-ghost use Rattle.mat_desc.specs.Soundness.{IsSoundInstance};
-ghost use Rattle.mat_desc.specs.Views.{instance_of};
-ghost use Rattle.mat_witness.specs.BoundParts.{bound_of, shows_bound};
-ghost use Rattle.mat_witness.specs.Demands.{demand_for};
-ghost use Rattle.mat_witness.specs.Kinds.{has_rung, is_witnessed_pair};
-ghost use Rattle.mat_witness.specs.Making.{AreRungBounds, AreWitnessed, IsFilled, IsMeeting, IsRungWitness, IsSplit, IsWitnessed};
-ghost use Rattle.mat_witness.specs.Parts.{IsBoundFor};
-ghost use Rattle.mat_witness.specs.Shown.{AreBoundsFor, IsRightRungOf, IsShown, IsWitnessFor, bounds_common_sets, demands_under};
-ghost use Rattle.mat_witness.specs.Views.{bound_part, witness_parts};
+ghost use Rattle.std.specs.{Prelude.{◌≡◌, ◌+◌, ◌≤◌, true, [], ◌∷◌, length, map, IfOk}, List.{AllZip}};
+ghost use Rattle.mat_sets.specs.{Sets.{IsSet, all_below, minus}, Weights.{weight_at}};
+ghost use Rattle.mat_laws.specs.{Heaviest.{IsHeaviest}, Ranks.{rank}};
+ghost use Rattle.mat_any.specs.{Trees.{element_count, is_independent}, Views.{tree_of}};
+ghost use Rattle.mat_cert.specs.{Certificates.{IsRanged}, Views.{certificate_of}};
+ghost use Rattle.mat_desc.specs.{Grammar.{IsValid}, Soundness.{IsSoundInstance}, Views.{instance_of}};
+ghost use Rattle.mat_witness.specs.{
+  BoundParts.{bound_of, shows_bound},
+  Demands.{demand_for},
+  Kinds.{has_rung, is_witnessed_pair},
+  Making.{AreRungBounds, AreWitnessed, IsFilled, IsMeeting, IsRungWitness, IsSplit, IsWitnessed},
+  Parts.{IsBoundFor},
+  Shown.{AreBoundsFor, IsRightRungOf, IsShown, IsWitnessFor, bounds_common_sets, demands_under},
+  Views.{bound_part, witness_parts},
+};
 
 use crate::demands::{Demand, demands_under};
 use crate::parts::{bound_for, free_of};

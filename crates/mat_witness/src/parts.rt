@@ -3,13 +3,14 @@
 ghost use Rattle.std.specs.Prelude.{◌≡◌, ◌≤◌, true, length, IfOk};
 ghost use Rattle.mat_sets.specs.Sets.{IsSet};
 ghost use Rattle.mat_laws.specs.Matroids.{IsMaximal};
-ghost use Rattle.mat_any.specs.Trees.{element_count, is_independent};
-ghost use Rattle.mat_any.specs.Views.{tree_of};
-ghost use Rattle.mat_witness.specs.BoundParts.{bound_of, shows_bound};
-ghost use Rattle.mat_witness.specs.FreeParts.{shows_free};
-ghost use Rattle.mat_witness.specs.Making.{IsWitnessed};
-ghost use Rattle.mat_witness.specs.Parts.{IsBoundFor, IsFreeFor};
-ghost use Rattle.mat_witness.specs.Views.{bound_part, free_part};
+ghost use Rattle.mat_any.specs.{Trees.{element_count, is_independent}, Views.{tree_of}};
+ghost use Rattle.mat_witness.specs.{
+  BoundParts.{bound_of, shows_bound},
+  FreeParts.{shows_free},
+  Making.{IsWitnessed},
+  Parts.{IsBoundFor, IsFreeFor},
+  Views.{bound_part, free_part},
+};
 
 mod columns;
 mod counted;

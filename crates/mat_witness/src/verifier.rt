@@ -1,21 +1,16 @@
 //! Verifying a witness.
 
 ghost use Rattle.std.specs.Prelude.{◌≡◌, ◌≤◌, not, if◌then◌else◌, nat_lt, true, drop, length, map, IfOk, Some, None};
-ghost use Rattle.mat_sets.specs.Limits.{most_elements};
-ghost use Rattle.mat_sets.specs.Sets.{IsSet};
-ghost use Rattle.mat_any.specs.Trees.{element_count, IsSound};
-ghost use Rattle.mat_any.specs.Views.{tree_of};
-ghost use Rattle.mat_cert.specs.Certificates.{intersect, IsRanged, IsRangedLadder};
-ghost use Rattle.mat_cert.specs.Views.{certificate_of};
-ghost use Rattle.mat_desc.specs.Grammar.{IsValid, IsValidTree};
-ghost use Rattle.mat_desc.specs.Instances.{pair};
-ghost use Rattle.mat_desc.specs.Soundness.{IsSoundInstance};
-ghost use Rattle.mat_desc.specs.Views.{instance_of};
-ghost use Rattle.mat_witness.specs.Kinds.{has_rung, is_witnessed_pair};
-ghost use Rattle.mat_witness.specs.Parts.{IsFreeFor};
-ghost use Rattle.mat_witness.specs.Shown.{AreBoundsFor, are_met, bounded_trees, bounds_common_sets, demands_of, shows_common_set, rung_at};
-ghost use Rattle.mat_witness.specs.Shown.{IsWitness, IsWitnessFor, failing_part};
-ghost use Rattle.mat_witness.specs.Views.{bound_part, free_part, witness_parts};
+ghost use Rattle.mat_sets.specs.{Limits.{most_elements}, Sets.{IsSet}};
+ghost use Rattle.mat_any.specs.{Trees.{element_count, IsSound}, Views.{tree_of}};
+ghost use Rattle.mat_cert.specs.{Certificates.{intersect, IsRanged, IsRangedLadder}, Views.{certificate_of}};
+ghost use Rattle.mat_desc.specs.{Grammar.{IsValid, IsValidTree}, Instances.{pair}, Soundness.{IsSoundInstance}, Views.{instance_of}};
+ghost use Rattle.mat_witness.specs.{
+  Kinds.{has_rung, is_witnessed_pair},
+  Parts.{IsFreeFor},
+  Shown.{AreBoundsFor, are_met, bounded_trees, bounds_common_sets, demands_of, shows_common_set, rung_at, IsWitness, IsWitnessFor, failing_part},
+  Views.{bound_part, free_part, witness_parts},
+};
 
 mod bounds;
 mod free;

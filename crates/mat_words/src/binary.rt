@@ -1,7 +1,6 @@
 //! Words that are binary numbers, the highest digit first.
 
-ghost use Rattle.std.specs.Prelude.{◌≡◌, ◌<◌, ◌≤◌, ◌+◌, ◌^◌, ◌++◌, ◌||◌, ◌==◌, IfOk, OnOk};
-ghost use Rattle.std.specs.Int.{bit_at};
+ghost use Rattle.std.specs.{Prelude.{◌≡◌, ◌<◌, ◌≤◌, ◌+◌, ◌^◌, ◌++◌, ◌||◌, ◌==◌, IfOk, OnOk}, Int.{bit_at}};
 ghost use Rattle.mat_words.specs.Binary.{binary, binary_in};
 
 use crate::numbers::NumberFault;

@@ -1,8 +1,9 @@
 //! The lines of a text.
 
-ghost use Rattle.std.specs.Prelude.{◌≡◌, ◌≤◌, [], ◌∷◌, ◌<◌, ◌+◌, ◌++◌};
-ghost use Rattle.std.specs.Prelude.{◌⊎◌, length, map, MatchOption, IfSome, ℕ, List};
-ghost use Rattle.std.specs.List.{join_with_byte};
+ghost use Rattle.std.specs.{
+  Prelude.{◌≡◌, ◌≤◌, [], ◌∷◌, ◌<◌, ◌+◌, ◌++◌, ◌⊎◌, length, map, MatchOption, IfSome, ℕ, List},
+  List.{join_with_byte},
+};
 ghost use Rattle.mat_words.specs.Lines.{lines_of, text_of, AreLines, HasNoNewline, IsNextLine, IsFirstLine};
 
 /// The place of the next byte 10 at `from` or after it, in one pass from there. None where there is none. It takes no memory.

@@ -18,8 +18,7 @@ pub struct Names {
 
 impl Names {
     ghost use Rattle.std.specs.Prelude.{◌≡◌, ◌<◌, ◌+◌, ◌^◌, [], length, get_or, not, slice_get, Some, IsTrue, IfOk, OnOk, OnErr, IsFalse};
-    ghost use Rattle.mat_words.specs.Names.{is_name, is_among, name_index, with_name};
-    ghost use Rattle.mat_words.specs.NameLists.{names_of};
+    ghost use Rattle.mat_words.specs.{Names.{is_name, is_among, name_index, with_name}, NameLists.{names_of}};
 
     /// No names. It takes no memory.
     pub fn new(alloc: Global) -> Names

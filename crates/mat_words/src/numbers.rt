@@ -1,9 +1,37 @@
 //! Numbers as words.
 
-ghost use Rattle.std.specs.Prelude.{◌≡◌, ◌≤◌, ◌+◌, ◌-◌, ◌*◌, ◌<◌, ◌↔◌, ◌^◌, ◌++◌, min, Some, None, Ok};
-ghost use Rattle.std.specs.Prelude.{if◌then◌else◌, OnOk, OnErr, IfSome, IsTrue, pos, neg_ℤ, drop, List, ℕ, ℤ, IfOk, ◌≤ℤ◌};
-ghost use Rattle.mat_words.specs.Numbers.{numeral, decimal, is_counting, value_of, number_in, in_range, number_of, magnitude_bound};
-ghost use Rattle.mat_words.specs.Words.{is_word};
+ghost use Rattle.std.specs.Prelude.{
+  ◌≡◌,
+  ◌≤◌,
+  ◌+◌,
+  ◌-◌,
+  ◌*◌,
+  ◌<◌,
+  ◌↔◌,
+  ◌^◌,
+  ◌++◌,
+  min,
+  Some,
+  None,
+  Ok,
+  if◌then◌else◌,
+  OnOk,
+  OnErr,
+  IfSome,
+  IsTrue,
+  pos,
+  neg_ℤ,
+  drop,
+  List,
+  ℕ,
+  ℤ,
+  IfOk,
+  ◌≤ℤ◌,
+};
+ghost use Rattle.mat_words.specs.{
+  Numbers.{numeral, decimal, is_counting, value_of, number_in, in_range, number_of, magnitude_bound},
+  Words.{is_word},
+};
 
 use std::alloc::AllocError;
 use thiserror::Error;

@@ -1,8 +1,10 @@
 //! Reading a text line by line and word by word. What is read comes with what is left behind it, and the first fault ends the reading.
 
 ghost use Rattle.std.specs.Prelude.{◌≡◌, ◌<◌, ◌≤◌, ◌≤ℤ◌, ◌^◌, IfOk};
-ghost use Rattle.mat_words.specs.Cursors.{lines_left, words_left};
-ghost use Rattle.mat_words.specs.Reading.{Gives, IsTold, line_at, word_at, number_at, size_at, below_at, binary_at, weight_at, weights_at, keyed_at, is_closed};
+ghost use Rattle.mat_words.specs.{
+  Cursors.{lines_left, words_left},
+  Reading.{Gives, IsTold, line_at, word_at, number_at, size_at, below_at, binary_at, weight_at, weights_at, keyed_at, is_closed},
+};
 
 use crate::binary::read_binary;
 use crate::cursor::{LineCursor, WordCursor};

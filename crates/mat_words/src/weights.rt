@@ -1,11 +1,12 @@
 //! Weights as words.
 
-ghost use Rattle.std.specs.Prelude.{◌≡◌, ◌↔◌, ◌++◌, ◌∷◌, Some, Ok, OnOk, OnErr, IfOk, IsTrue, length, take};
-ghost use Rattle.std.specs.Prelude.{List, ℕ, ℤ, pos};
+ghost use Rattle.std.specs.Prelude.{◌≡◌, ◌↔◌, ◌++◌, ◌∷◌, Some, Ok, OnOk, OnErr, IfOk, IsTrue, length, take, List, ℕ, ℤ, pos};
 ghost use Rattle.mat_sets.specs.declared.weight.Weight.{Weight};
-ghost use Rattle.mat_words.specs.Numbers.{numeral, number_of, ranged};
-ghost use Rattle.mat_words.specs.Words.{is_word};
-ghost use Rattle.mat_words.specs.Weights.{weight_word, untied, tied, weight_of_word, IsWeightBetween, is_weight_between, weight_in, both_in};
+ghost use Rattle.mat_words.specs.{
+  Numbers.{numeral, number_of, ranged},
+  Words.{is_word},
+  Weights.{weight_word, untied, tied, weight_of_word, IsWeightBetween, is_weight_between, weight_in, both_in},
+};
 
 use crate::numbers::{NumberFault, put_number, read_number};
 use crate::words::split_at_byte;

@@ -1,10 +1,10 @@
 //! The words of a line.
 
-ghost use Rattle.std.specs.Prelude.{◌≡◌, ◌<◌, ◌≤◌, ◌+◌, ◌↔◌, [], ◌∷◌, length};
-ghost use Rattle.std.specs.Prelude.{slice_get, MatchOption, IfSome, IsTrue, Some, ℕ, List};
-ghost use Rattle.std.specs.List.{list_all, join_with_byte, slice_split};
-ghost use Rattle.mat_words.specs.Words.{words_of, parts_of, is_byte, is_word, is_well_spaced, IsWellSpaced};
-ghost use Rattle.mat_words.specs.Lines.{HasNoNewline};
+ghost use Rattle.std.specs.{
+  Prelude.{◌≡◌, ◌<◌, ◌≤◌, ◌+◌, ◌↔◌, [], ◌∷◌, length, slice_get, MatchOption, IfSome, IsTrue, Some, ℕ, List},
+  List.{list_all, join_with_byte, slice_split},
+};
+ghost use Rattle.mat_words.specs.{Words.{words_of, parts_of, is_byte, is_word, is_well_spaced, IsWellSpaced}, Lines.{HasNoNewline}};
 
 /// The part of some bytes in front of the first byte `stop`, and what stands after that byte: None where there is none. It takes no
 /// memory.

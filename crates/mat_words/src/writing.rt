@@ -1,10 +1,12 @@
 //! Writing lines word by word.
 
 ghost use Rattle.std.specs.Prelude.{◌≡◌, ◌++◌, ◌∷◌, [], OnErr, OnOk, length, take};
-ghost use Rattle.mat_words.specs.Lines.{text_of};
-ghost use Rattle.mat_words.specs.Numbers.{numeral};
-ghost use Rattle.mat_words.specs.Weights.{weight_word};
-ghost use Rattle.mat_words.specs.Writing.{members_line, numbers_line, weights_line};
+ghost use Rattle.mat_words.specs.{
+  Lines.{text_of},
+  Numbers.{numeral},
+  Weights.{weight_word},
+  Writing.{members_line, numbers_line, weights_line},
+};
 
 use crate::numbers::put_number;
 use crate::weights::put_weight;

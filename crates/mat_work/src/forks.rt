@@ -1,8 +1,7 @@
 //! All rows of a job, by fork and join.
 ghost use Rattle.std.specs.Prelude.{◌≡◌, ◌+◌, ◌^◌, ◌<◌, ◌≤◌, IfOk, length};
 ghost use denote.Param.Send.{IsSync, IsSend};
-ghost use Rattle.mat_work.specs.Rows.{StandFrom};
-ghost use Rattle.mat_work.specs.Workers.{AreWorkers};
+ghost use Rattle.mat_work.specs.{Rows.{StandFrom}, Workers.{AreWorkers}};
 
 use crate::row_job::RowJob;
 use std::alloc::{AllocError, Global};

@@ -2,11 +2,13 @@
 
 ghost use Rattle.std.specs.Prelude.{◌≡◌, ◌≤◌, length, IfOk, Ok};
 ghost use Rattle.mat_words.specs.Cursors.{lines_left, words_left};
-ghost use Rattle.mat_cert.specs.Certificates.{Certificate, IsRanged, certificate_text};
-ghost use Rattle.mat_cert.specs.Faults.{Gives};
-ghost use Rattle.mat_cert.specs.Limits.{certificate_limit};
-ghost use Rattle.mat_cert.specs.Reading.{answer_of_command, answer_at, certificate_at, read_of};
-ghost use Rattle.mat_cert.specs.Views.{certificate_of};
+ghost use Rattle.mat_cert.specs.{
+  Certificates.{Certificate, IsRanged, certificate_text},
+  Faults.{Gives},
+  Limits.{certificate_limit},
+  Reading.{answer_of_command, answer_at, certificate_at, read_of},
+  Views.{certificate_of},
+};
 
 use crate::answer::Answer;
 use crate::read::ladders::{assign, best, intersect, rainbow};

@@ -2,11 +2,12 @@
 
 ghost use Rattle.std.specs.Prelude.{◌≤◌};
 ghost use Rattle.mat_words.specs.Cursors.{lines_left, words_left};
-ghost use Rattle.mat_cert.specs.Faults.{Gives};
+ghost use Rattle.mat_cert.specs.{
+  Faults.{Gives},
+  Reading.{rung_at, plain_rung_at, priced_rung_at, rungs_at, ladder_at, intersect_at, best_at, rainbow_at, assign_at},
+  Views.{certificate_of},
+};
 ghost use Rattle.mat_sets.specs.Limits.{most_elements};
-ghost use Rattle.mat_cert.specs.Reading.{rung_at, plain_rung_at, priced_rung_at, rungs_at, ladder_at};
-ghost use Rattle.mat_cert.specs.Reading.{intersect_at, best_at, rainbow_at, assign_at};
-ghost use Rattle.mat_cert.specs.Views.{certificate_of};
 
 use crate::answer::{Answer, PlainRung, PricedRung};
 use crate::read::headers::{assign_header, ladder_header, rainbow_header};

@@ -1,8 +1,7 @@
 //! The lines of a certificate that hold no set.
 
 ghost use Rattle.mat_words.specs.Cursors.{lines_left, words_left};
-ghost use Rattle.mat_cert.specs.Faults.{Gives};
-ghost use Rattle.mat_cert.specs.LineReading.{counted_at, version_at, part_at, end_at, closed_at};
+ghost use Rattle.mat_cert.specs.{Faults.{Gives}, LineReading.{counted_at, version_at, part_at, end_at, closed_at}};
 
 use crate::limits::LARGEST_NUMBER;
 use crate::read::words::{fixed_word, has_this_many};

@@ -1,9 +1,11 @@
 //! Unions, packings and covers: sets of a list of matroids, or of one.
 
 ghost use Rattle.mat_words.specs.Cursors.{lines_left, words_left};
-ghost use Rattle.mat_cert.specs.Faults.{Gives};
-ghost use Rattle.mat_cert.specs.Reading.{union_at, bases_at, pack_at, never_at, covering_at, cover_at};
-ghost use Rattle.mat_cert.specs.Views.{certificate_of};
+ghost use Rattle.mat_cert.specs.{
+  Faults.{Gives},
+  Reading.{union_at, bases_at, pack_at, never_at, covering_at, cover_at},
+  Views.{certificate_of},
+};
 
 use crate::answer::Answer;
 use crate::read::headers::{element_count, ladder_header, never_header, union_header};

@@ -1,9 +1,11 @@
 //! Spanning trees and arborescences, and sets of vertices that exclude them.
 
 ghost use Rattle.mat_words.specs.Cursors.{lines_left, words_left};
-ghost use Rattle.mat_cert.specs.Faults.{Gives};
-ghost use Rattle.mat_cert.specs.Reading.{found_trees_at, classes_at, trees_at, arbor_at, unreached_at, arborescence_at, entered_at, disjoint_at};
-ghost use Rattle.mat_cert.specs.Views.{certificate_of};
+ghost use Rattle.mat_cert.specs.{
+  Faults.{Gives},
+  Reading.{found_trees_at, classes_at, trees_at, arbor_at, unreached_at, arborescence_at, entered_at, disjoint_at},
+  Views.{certificate_of},
+};
 
 use crate::answer::Answer;
 use crate::limits::MOST_VERTICES;

@@ -2,8 +2,7 @@
 
 ghost use Rattle.std.specs.Prelude.{◌≡◌, ◌==◌, length};
 ghost use Rattle.mat_words.specs.Cursors.{words_left};
-ghost use Rattle.mat_cert.specs.Faults.{Gives};
-ghost use Rattle.mat_cert.specs.LineReading.{fixed_at, has_words, weight_at, members_from};
+ghost use Rattle.mat_cert.specs.{Faults.{Gives}, LineReading.{fixed_at, has_words, weight_at, members_from}};
 
 use crate::limits::LARGEST_NUMBER;
 use crate::refusal::{CertKind, CertRefusal, fault};

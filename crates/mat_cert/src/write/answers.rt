@@ -1,8 +1,24 @@
 //! The texts of answers, by their variants.
 
 ghost use Rattle.std.specs.Prelude.{◌≡◌, IfOk};
-ghost use Rattle.mat_cert.specs.Certificates.{certificate_text, intersect, best, union_of, pack_any, pack, cover_never, cover, trees, trees_none};
-ghost use Rattle.mat_cert.specs.Certificates.{arbor, unreached, disjoint, disjoint_none, rainbow, assign};
+ghost use Rattle.mat_cert.specs.Certificates.{
+  certificate_text,
+  intersect,
+  best,
+  union_of,
+  pack_any,
+  pack,
+  cover_never,
+  cover,
+  trees,
+  trees_none,
+  arbor,
+  unreached,
+  disjoint,
+  disjoint_none,
+  rainbow,
+  assign,
+};
 
 use crate::answer::{LevelLine, PlainRung, PricedRung};
 use crate::write::header::{begun, put_end_line};

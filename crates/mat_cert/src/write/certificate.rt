@@ -1,8 +1,7 @@
 //! The text of an answer.
 
 ghost use Rattle.std.specs.Prelude.{◌≡◌, IfOk};
-ghost use Rattle.mat_cert.specs.Certificates.{IsRanged, certificate_text};
-ghost use Rattle.mat_cert.specs.Views.{certificate_of};
+ghost use Rattle.mat_cert.specs.{Certificates.{IsRanged, certificate_text}, Views.{certificate_of}};
 
 use crate::answer::Answer;
 use crate::write::answers::{

@@ -1,8 +1,7 @@
 //! The first lines and the last of a text.
 
 ghost use Rattle.std.specs.Prelude.{◌≡◌, ◌++◌, ◌∷◌, [], codes, map, IfOk, OnOk};
-ghost use Rattle.mat_words.specs.Lines.{text_of};
-ghost use Rattle.mat_words.specs.Writing.{end_line, text_word};
+ghost use Rattle.mat_words.specs.{Lines.{text_of}, Writing.{end_line, text_word}};
 ghost use Rattle.mat_cert.specs.Certificates.{version_line};
 
 use mat_words::{TextWord, put_words};

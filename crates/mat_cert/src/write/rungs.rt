@@ -1,10 +1,8 @@
 //! The texts of rungs.
 
 ghost use Rattle.std.specs.Prelude.{◌≡◌, ◌++◌, ◌∷◌, [], codes, IfOk, OnOk};
-ghost use Rattle.mat_words.specs.Lines.{text_of};
-ghost use Rattle.mat_words.specs.Writing.{members_line};
-ghost use Rattle.mat_cert.specs.Certificates.{rung_line, plain_rung_lines, priced_rung_lines, rungs_lines};
-ghost use Rattle.mat_cert.specs.Writing.{IsWeightsLine};
+ghost use Rattle.mat_words.specs.{Lines.{text_of}, Writing.{members_line}};
+ghost use Rattle.mat_cert.specs.{Certificates.{rung_line, plain_rung_lines, priced_rung_lines, rungs_lines}, Writing.{IsWeightsLine}};
 
 use crate::answer::{PlainRung, PricedRung};
 use mat_sets::{ElemSet, Weight};

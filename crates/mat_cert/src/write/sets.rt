@@ -1,9 +1,7 @@
 //! The texts of lines that hold sets.
 
 ghost use Rattle.std.specs.Prelude.{◌≡◌, ◌++◌, ◌∷◌, [], codes, map, OnOk};
-ghost use Rattle.mat_words.specs.Lines.{text_of};
-ghost use Rattle.mat_words.specs.Numbers.{numerals};
-ghost use Rattle.mat_words.specs.Weights.{weight_word};
+ghost use Rattle.mat_words.specs.{Lines.{text_of}, Numbers.{numerals}, Weights.{weight_word}};
 ghost use Rattle.mat_cert.specs.Certificates.{level_line, option_lines, sets_lines};
 
 use crate::answer::LevelLine;

@@ -1,17 +1,18 @@
 //! The clauses of a least spanning arborescence with a split of its negated costs.
 
 ghost use Rattle.std.specs.Prelude.{◌≡◌, ◌<◌, ◌≤◌, ◌∷◌, ◌++◌, [], true, length, map, IfOk};
-ghost use Rattle.mat_sets.specs.Limits.{largest_weight, largest_number, most_elements};
-ghost use Rattle.mat_sets.specs.Graphs.{ends_of, IsGraph, IsSpanningArborescence};
-ghost use Rattle.mat_sets.specs.Sets.{all_below, AllBelow, IsSet};
-ghost use Rattle.mat_sets.specs.Weights.{◌⊕◌, is_same, negated, weight_at, AreWeightsWithin};
+ghost use Rattle.mat_sets.specs.{
+  Limits.{largest_weight, largest_number, most_elements},
+  Graphs.{ends_of, IsGraph, IsSpanningArborescence},
+  Sets.{all_below, AllBelow, IsSet},
+  Weights.{◌⊕◌, is_same, negated, weight_at, AreWeightsWithin},
+};
 ghost use Rattle.mat_laws.specs.Searches.{is_beaten};
 ghost use Rattle.mat_graphic.specs.Forests.{is_graphic};
 ghost use Rattle.mat_arbor.specs.Heads.{is_entering_once};
 ghost use Rattle.mat_branch.specs.Spanning.{is_spanning_arborescence};
 ghost use Rattle.mat_cert.specs.Certificates.{IsRangedArborescence, IsRangedPart};
-ghost use Rattle.mat_check.specs.Clauses.{first_failure, heaviest_clause};
-ghost use Rattle.mat_check.specs.TreeClauses.{arborescence_clauses, cost_clause};
+ghost use Rattle.mat_check.specs.{Clauses.{first_failure, heaviest_clause}, TreeClauses.{arborescence_clauses, cost_clause}};
 
 use crate::graphs::heads::entering_once;
 use crate::reason::{Failure, Reason};

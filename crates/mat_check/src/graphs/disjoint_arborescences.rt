@@ -1,11 +1,12 @@
 //! The clauses of disjoint spanning arborescences, and of a vertex set that shows that there are no more (Edmonds 1973; Schrijver, chapter 53).
 
 ghost use Rattle.std.specs.Prelude.{◌≡◌, ◌<◌, ◌≤◌, ◌∷◌, [], length, IfOk};
-ghost use Rattle.mat_sets.specs.Limits.{most_elements, most_vertices};
-ghost use Rattle.mat_sets.specs.Graphs.{ends_of, IsGraph};
+ghost use Rattle.mat_sets.specs.{Limits.{most_elements, most_vertices}, Graphs.{ends_of, IsGraph}};
 ghost use Rattle.mat_cert.specs.Certificates.{AreRangedTrees};
-ghost use Rattle.mat_check.specs.Clauses.{first_failure, numbered_clauses};
-ghost use Rattle.mat_check.specs.TreeClauses.{arborescence_clause, disjoint_clauses, seldom_entered_clauses};
+ghost use Rattle.mat_check.specs.{
+  Clauses.{first_failure, numbered_clauses},
+  TreeClauses.{arborescence_clause, disjoint_clauses, seldom_entered_clauses},
+};
 
 use crate::reason::{Failure, Reason};
 use crate::sets::families::overlap_failure;

@@ -2,8 +2,7 @@
 
 ghost use Rattle.std.specs.Prelude.{◌≡◌, ◌<◌, ◌^◌, length, IfOk};
 ghost use Rattle.mat_sets.specs.Graphs.{ends_of};
-ghost use Rattle.mat_count.specs.Labels.{caps_by, classes_by};
-ghost use Rattle.mat_count.specs.Partitions.{IsPartition};
+ghost use Rattle.mat_count.specs.{Labels.{caps_by, classes_by}, Partitions.{IsPartition}};
 ghost use Rattle.mat_arbor.specs.Heads.{cap_at, head_of};
 
 use mat_count::Partition;

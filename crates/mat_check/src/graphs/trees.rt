@@ -1,14 +1,18 @@
 //! The clauses of disjoint spanning trees, and of a partition of the vertices that shows that there are no more (Schrijver, chapter 51).
 
 ghost use Rattle.std.specs.Prelude.{◌≡◌, ◌<◌, ◌≤◌, ◌&&◌, ◌∷◌, [], length, slice_index_or, IfOk};
-ghost use Rattle.mat_sets.specs.Limits.{most_elements, most_vertices, most_trees};
-ghost use Rattle.mat_sets.specs.Graphs.{ends_of, IsGraph};
-ghost use Rattle.mat_sets.specs.Search.{some_below};
-ghost use Rattle.mat_sets.specs.Sets.{is_member, AllBelow};
+ghost use Rattle.mat_sets.specs.{
+  Limits.{most_elements, most_vertices, most_trees},
+  Graphs.{ends_of, IsGraph},
+  Search.{some_below},
+  Sets.{is_member, AllBelow},
+};
 ghost use Rattle.mat_packing.specs.Trees.{crossing, is_spanning_tree};
 ghost use Rattle.mat_cert.specs.Certificates.{AreRangedSets, AreRangedTrees};
-ghost use Rattle.mat_check.specs.Clauses.{first_failure, numbered_clauses};
-ghost use Rattle.mat_check.specs.TreeClauses.{partition_clauses, some_clause, tree_clause, trees_clauses};
+ghost use Rattle.mat_check.specs.{
+  Clauses.{first_failure, numbered_clauses},
+  TreeClauses.{partition_clauses, some_clause, tree_clause, trees_clauses},
+};
 
 use crate::reason::{Failure, Reason};
 use crate::sets::families::{missed_failure, overlap_failure};

@@ -1,13 +1,10 @@
 //! Whether colours show that there is no rainbow spanning tree.
 
 ghost use Rattle.std.specs.Prelude.{◌≡◌, ◌≤◌, length, slice_index, IfOk};
-ghost use Rattle.mat_sets.specs.Limits.{most_elements};
-ghost use Rattle.mat_sets.specs.Graphs.{IsGraph, ends_of};
-ghost use Rattle.mat_sets.specs.Sets.{AllBelow};
+ghost use Rattle.mat_sets.specs.{Limits.{most_elements}, Graphs.{IsGraph, ends_of}, Sets.{AllBelow}};
 ghost use Rattle.mat_graphic.specs.Forests.{number_of_components};
 ghost use Rattle.mat_fronts.specs.Rainbow.{edges_without};
-ghost use Rattle.mat_check.specs.Clauses.{first_failure};
-ghost use Rattle.mat_check.specs.TreeClauses.{colours_clauses};
+ghost use Rattle.mat_check.specs.{Clauses.{first_failure}, TreeClauses.{colours_clauses}};
 
 use crate::reason::{Failure, Reason};
 use mat_graphic::{Graphic, least_vertices};

@@ -1,16 +1,12 @@
 //! The clauses of rainbow spanning trees and of assignments: ladders of the two matroids that they are common independent sets of.
 
 ghost use Rattle.std.specs.Prelude.{◌≡◌, ◌++◌, length, slice_index, IfOk};
-ghost use Rattle.mat_sets.specs.Limits.{largest_weight};
-ghost use Rattle.mat_sets.specs.Graphs.{IsGraph, ends_of};
-ghost use Rattle.mat_sets.specs.Weights.{AreWeightsWithin};
+ghost use Rattle.mat_sets.specs.{Limits.{largest_weight}, Graphs.{IsGraph, ends_of}, Weights.{AreWeightsWithin}};
 ghost use Rattle.mat_graphic.specs.Forests.{is_graphic};
 ghost use Rattle.mat_work.specs.Workers.{AreWorkers};
-ghost use Rattle.mat_fronts.specs.Assignments.{column_at, row_at};
-ghost use Rattle.mat_fronts.specs.Once.{is_once};
+ghost use Rattle.mat_fronts.specs.{Assignments.{column_at, row_at}, Once.{is_once}};
 ghost use Rattle.mat_cert.specs.Certificates.{IsRangedLadder};
-ghost use Rattle.mat_check.specs.Clauses.{first_failure, ladder_clauses};
-ghost use Rattle.mat_check.specs.TreeClauses.{colours_clauses};
+ghost use Rattle.mat_check.specs.{Clauses.{first_failure, ladder_clauses}, TreeClauses.{colours_clauses}};
 
 use crate::ladder::colours::colours_failure;
 use crate::ladder::ladder_failure;

@@ -1,11 +1,8 @@
 //! The clauses of a rung.
 
 ghost use Rattle.std.specs.Prelude.{◌≡◌, ◌≤◌, ◌++◌, ◌∷◌, [], length, map, true, IfOk};
-ghost use Rattle.mat_sets.specs.Limits.{largest_number, most_elements};
-ghost use Rattle.mat_sets.specs.Sets.{all_below};
-ghost use Rattle.mat_sets.specs.Weights.{AreWeightsWithin, weight_at};
-ghost use Rattle.mat_any.specs.Trees.{element_count, is_independent, IsSound};
-ghost use Rattle.mat_any.specs.Views.{tree_of};
+ghost use Rattle.mat_sets.specs.{Limits.{largest_number, most_elements}, Sets.{all_below}, Weights.{AreWeightsWithin, weight_at}};
+ghost use Rattle.mat_any.specs.{Trees.{element_count, is_independent, IsSound}, Views.{tree_of}};
 ghost use Rattle.mat_cert.specs.Certificates.{IsRangedPlainRung, IsRangedPricedRung};
 ghost use Rattle.mat_greedy.specs.Greedy.{AreHeaviestWeights};
 ghost use Rattle.mat_check.specs.Clauses.{first_failure, sum_clause, heaviest_clause, plain_rung_clauses, priced_rung_clauses};

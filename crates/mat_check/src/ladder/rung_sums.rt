@@ -1,10 +1,8 @@
 //! The weights of heaviest sets under the halves of the splits of rungs.
 
 ghost use Rattle.std.specs.Prelude.{◌≡◌, ℕ, ◌+◌, ◌<◌, ◌≤◌, [], length, slice_index_or, IfOk};
-ghost use Rattle.mat_sets.specs.Limits.{most_elements};
-ghost use Rattle.mat_sets.specs.Weights.{weight_at};
-ghost use Rattle.mat_any.specs.Trees.{element_count, is_independent, IsSound};
-ghost use Rattle.mat_any.specs.Views.{tree_of};
+ghost use Rattle.mat_sets.specs.{Limits.{most_elements}, Weights.{weight_at}};
+ghost use Rattle.mat_any.specs.{Trees.{element_count, is_independent, IsSound}, Views.{tree_of}};
 ghost use Rattle.mat_greedy.specs.Greedy.{AreHeaviestWeights};
 ghost use Rattle.mat_work.specs.Workers.{AreWorkers};
 ghost use Rattle.mat_cert.specs.Certificates.{IsRangedPart};
@@ -31,14 +29,14 @@ struct GreedyRuns<'a> {
 }
 
 impl<'a> Model for GreedyRuns<'a> {
-    ghost use Rattle.std.specs.Prelude.{ℕ, ◌<◌, ◌≤◌, List, length, map, slice_index_or};
-    ghost use Rattle.mat_sets.specs.Limits.{most_elements};
-    ghost use Rattle.std.specs.Coded.{codes};
-    ghost use Rattle.mat_sets.specs.declared.weight.Weight.{Weight};
-    ghost use Rattle.mat_any.specs.Trees.{element_count, IsSound};
-    ghost use Rattle.mat_any.specs.Views.{tree_of};
-    ghost use Rattle.mat_any.specs.contracts.any.AnyMatroid as e;
-    ghost use Rattle.mat_any.specs.declared.any.AnyMatroid.{AnyMatroid};
+    ghost use Rattle.std.specs.{Prelude.{ℕ, ◌<◌, ◌≤◌, List, length, map, slice_index_or}, Coded.{codes}};
+    ghost use Rattle.mat_sets.specs.{Limits.{most_elements}, declared.weight.Weight.{Weight}};
+    ghost use Rattle.mat_any.specs.{
+      Trees.{element_count, IsSound},
+      Views.{tree_of},
+      contracts.any.AnyMatroid as e,
+      declared.any.AnyMatroid.{AnyMatroid},
+    };
     ghost use Rattle.mat_cert.specs.Certificates.{IsRangedPart};
     ghost use Rattle.mat_check.specs.Halves.{halves_of, half_at};
 

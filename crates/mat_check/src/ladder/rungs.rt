@@ -1,14 +1,14 @@
 //! The clauses of all rungs: each rung is judged from its own data.
 
 ghost use Rattle.std.specs.Prelude.{◌≡◌, length, IfOk};
-ghost use Rattle.mat_sets.specs.Limits.{largest_number};
-ghost use Rattle.mat_sets.specs.Weights.{AreWeightsWithin};
-ghost use Rattle.mat_any.specs.Trees.{element_count, is_independent, IsSound};
-ghost use Rattle.mat_any.specs.Views.{tree_of};
+ghost use Rattle.mat_sets.specs.{Limits.{largest_number}, Weights.{AreWeightsWithin}};
+ghost use Rattle.mat_any.specs.{Trees.{element_count, is_independent, IsSound}, Views.{tree_of}};
 ghost use Rattle.mat_work.specs.Workers.{AreWorkers};
 ghost use Rattle.mat_cert.specs.Certificates.{AreRangedRungs, IsRangedPlainRung, IsRangedPricedRung};
-ghost use Rattle.mat_check.specs.Clauses.{first_failure, numbered_clauses, plain_rung_clauses, priced_rung_clauses};
-ghost use Rattle.mat_check.specs.RungFailures.{first_in_order};
+ghost use Rattle.mat_check.specs.{
+  Clauses.{first_failure, numbered_clauses, plain_rung_clauses, priced_rung_clauses},
+  RungFailures.{first_in_order},
+};
 
 use crate::ladder::halves::Side;
 use crate::ladder::rung::{WeightedPair, plain_rung_failure, priced_rung_failure};
@@ -35,14 +35,11 @@ struct PlainFailures<'a> {
 
 impl<'a> Model for PlainFailures<'a> {
     ghost use Rattle.std.specs.Prelude.{◌≡◌, List, Option, length};
-    ghost use Rattle.mat_sets.specs.Limits.{largest_number};
-    ghost use Rattle.mat_sets.specs.Weights.{weight_at, AreWeightsWithin};
-    ghost use Rattle.mat_any.specs.Trees.{element_count, is_independent, IsSound};
-    ghost use Rattle.mat_any.specs.Views.{tree_of};
+    ghost use Rattle.mat_sets.specs.{Limits.{largest_number}, Weights.{weight_at, AreWeightsWithin}};
+    ghost use Rattle.mat_any.specs.{Trees.{element_count, is_independent, IsSound}, Views.{tree_of}};
     ghost use Rattle.mat_greedy.specs.Greedy.{AreHeaviestWeights};
     ghost use Rattle.mat_cert.specs.Certificates.{AreRangedRungs, IsRangedPlainRung};
-    ghost use Rattle.mat_check.specs.Clauses.{Failure, plain_rung_clauses};
-    ghost use Rattle.mat_check.specs.RungFailures.{rungs_failures};
+    ghost use Rattle.mat_check.specs.{Clauses.{Failure, plain_rung_clauses}, RungFailures.{rungs_failures}};
 
     ghost Value = { List (Option Failure) };
 
@@ -90,16 +87,16 @@ struct PricedFailures<'a> {
 
 impl<'a> Model for PricedFailures<'a> {
     ghost use Rattle.std.specs.Prelude.{◌≡◌, ◌<◌, ℕ, List, [], Option, length, slice_index_or};
-    ghost use Rattle.mat_sets.specs.Limits.{largest_number};
-    ghost use Rattle.mat_sets.specs.Weights.{weight_at, AreWeightsWithin};
-    ghost use Rattle.mat_any.specs.Trees.{element_count, is_independent, IsSound};
-    ghost use Rattle.mat_any.specs.Views.{tree_of};
+    ghost use Rattle.mat_sets.specs.{Limits.{largest_number}, Weights.{weight_at, AreWeightsWithin}};
+    ghost use Rattle.mat_any.specs.{Trees.{element_count, is_independent, IsSound}, Views.{tree_of}};
     ghost use Rattle.mat_greedy.specs.Greedy.{AreHeaviestWeights};
     ghost use Rattle.mat_cert.specs.Certificates.{AreRangedRungs, IsRangedPricedRung};
-    ghost use Rattle.mat_check.specs.Clauses.{Failure, priced_rung_clauses};
-    ghost use Rattle.mat_check.specs.Halves.{halves_of, half_at};
-    ghost use Rattle.mat_check.specs.RungFailures.{rungs_failures};
-    ghost use Rattle.mat_check.specs.declared.ladder.halves.Side.TheVariants.{First, Second};
+    ghost use Rattle.mat_check.specs.{
+      Clauses.{Failure, priced_rung_clauses},
+      Halves.{halves_of, half_at},
+      RungFailures.{rungs_failures},
+      declared.ladder.halves.Side.TheVariants.{First, Second},
+    };
 
     ghost Value = { List (Option Failure) };
 

@@ -1,12 +1,13 @@
 //! The clauses of coverings by independent sets.
 
 ghost use Rattle.std.specs.Prelude.{◌≡◌, ◌≤◌, ◌<◌, ◌-◌, ◌*◌, ◌∷◌, [], All, length, nat_lt, IfOk};
-ghost use Rattle.mat_sets.specs.Limits.{most_elements};
-ghost use Rattle.mat_sets.specs.Sets.{IsSet};
+ghost use Rattle.mat_sets.specs.{Limits.{most_elements}, Sets.{IsSet}};
 ghost use Rattle.mat_laws.specs.Ranks.{rank};
 ghost use Rattle.mat_cert.specs.Certificates.{IsRangedCover, IsRangedOption};
-ghost use Rattle.mat_check.specs.Clauses.{first_failure, numbered_clauses};
-ghost use Rattle.mat_check.specs.SetClauses.{cover_clauses, cover_cut_clauses, independent_clause, loop_clause};
+ghost use Rattle.mat_check.specs.{
+  Clauses.{first_failure, numbered_clauses},
+  SetClauses.{cover_clauses, cover_cut_clauses, independent_clause, loop_clause},
+};
 
 use crate::reason::{Failure, Reason};
 use crate::sets::families::{dependent_failure, missed_failure};

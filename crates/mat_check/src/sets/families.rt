@@ -1,10 +1,8 @@
 //! Families of sets: how often elements stand in them, and whether the sets are independent.
 
 ghost use Rattle.std.specs.Prelude.{◌≡◌, ◌≤◌, ◌∷◌, [], nat_le, nat_lt, IfOk};
-ghost use Rattle.mat_sets.specs.Families.{indicator, multiplicity};
-ghost use Rattle.mat_sets.specs.Sets.{AllBelow, is_member};
-ghost use Rattle.mat_check.specs.Clauses.{first_failure};
-ghost use Rattle.mat_check.specs.SetClauses.{independent_clause, missed_clauses, overlap_clauses};
+ghost use Rattle.mat_sets.specs.{Families.{indicator, multiplicity}, Sets.{AllBelow, is_member}};
+ghost use Rattle.mat_check.specs.{Clauses.{first_failure}, SetClauses.{independent_clause, missed_clauses, overlap_clauses}};
 
 use crate::reason::{Failure, Reason};
 use mat_laws::Matroid;

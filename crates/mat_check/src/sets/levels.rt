@@ -1,16 +1,16 @@
 //! The clauses of the levels of a union.
 
 ghost use Rattle.std.specs.Prelude.{◌≡◌, ◌<◌, ◌≤◌, ◌+◌, ◌*◌, ◌^◌, ◌==◌, All, length, map, IfOk};
-ghost use Rattle.mat_sets.specs.FallingWeights.{falling_weights, heavy};
-ghost use Rattle.mat_sets.specs.Limits.{most_elements, most_matroids};
-ghost use Rattle.mat_sets.specs.Families.{family_union};
-ghost use Rattle.mat_sets.specs.Sets.{AllBelow, intersection, minus};
-ghost use Rattle.mat_sets.specs.Weights.{is_same, weight_at};
-ghost use Rattle.mat_union.specs.GrownParts.{AreSound};
-ghost use Rattle.mat_union.specs.Unions.{ranks_sum};
+ghost use Rattle.mat_sets.specs.{
+  FallingWeights.{falling_weights, heavy},
+  Limits.{most_elements, most_matroids},
+  Families.{family_union},
+  Sets.{AllBelow, intersection, minus},
+  Weights.{is_same, weight_at},
+};
+ghost use Rattle.mat_union.specs.{GrownParts.{AreSound}, Unions.{ranks_sum}};
 ghost use Rattle.mat_cert.specs.Certificates.{IsRangedLevel};
-ghost use Rattle.mat_check.specs.Clauses.{first_failure, numbered_clauses};
-ghost use Rattle.mat_check.specs.SetClauses.{level_clauses, outside_clause};
+ghost use Rattle.mat_check.specs.{Clauses.{first_failure, numbered_clauses}, SetClauses.{level_clauses, outside_clause}};
 
 use crate::reason::{Failure, Reason};
 use mat_cert::LevelLine;

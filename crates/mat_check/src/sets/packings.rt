@@ -1,12 +1,13 @@
 //! The clauses of packings of bases.
 
 ghost use Rattle.std.specs.Prelude.{◌≡◌, ◌≤◌, ◌<◌, ◌+◌, ◌-◌, ◌*◌, ◌∷◌, [], All, length, nat_lt, IfOk};
-ghost use Rattle.mat_sets.specs.Limits.{most_elements};
-ghost use Rattle.mat_sets.specs.Sets.{AllBelow, IsSet, all_below, minus};
+ghost use Rattle.mat_sets.specs.{Limits.{most_elements}, Sets.{AllBelow, IsSet, all_below, minus}};
 ghost use Rattle.mat_laws.specs.Ranks.{rank};
 ghost use Rattle.mat_cert.specs.Certificates.{IsRangedPacking};
-ghost use Rattle.mat_check.specs.Clauses.{first_failure, numbered_clauses};
-ghost use Rattle.mat_check.specs.SetClauses.{full_clause, independent_clause, no_rank_clause, pack_clauses};
+ghost use Rattle.mat_check.specs.{
+  Clauses.{first_failure, numbered_clauses},
+  SetClauses.{full_clause, independent_clause, no_rank_clause, pack_clauses},
+};
 
 use crate::reason::{Failure, Reason};
 use crate::sets::families::overlap_failure;

@@ -1,9 +1,11 @@
 //! Whether a heavier independent set of the same size is there, and whether an element can be added.
 
 ghost use Rattle.std.specs.Prelude.{◌≡◌, ◌≤◌, length, true, IfOk};
-ghost use Rattle.mat_sets.specs.Limits.{most_elements, largest_number};
-ghost use Rattle.mat_sets.specs.Sets.{AllBelow};
-ghost use Rattle.mat_sets.specs.Weights.{AreWeightsWithin, is_below, weight, weight_at};
+ghost use Rattle.mat_sets.specs.{
+  Limits.{most_elements, largest_number},
+  Sets.{AllBelow},
+  Weights.{AreWeightsWithin, is_below, weight, weight_at},
+};
 ghost use Rattle.mat_laws.specs.Searches.{is_beaten, has_addable};
 ghost use Rattle.mat_greedy.specs.Greedy.{AreHeaviestWeights};
 

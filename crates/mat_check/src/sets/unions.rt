@@ -1,15 +1,15 @@
 //! The clauses of a union of matroids.
 
 ghost use Rattle.std.specs.Prelude.{◌≡◌, ◌≤◌, ◌∷◌, [], All, length, map, IfOk};
-ghost use Rattle.mat_sets.specs.Limits.{most_elements, largest_number, most_matroids};
-ghost use Rattle.mat_sets.specs.Sets.{IsSet};
-ghost use Rattle.mat_sets.specs.Weights.{AreWeightsWithin, is_same, weight};
-ghost use Rattle.mat_union.specs.GrownParts.{AreSound};
-ghost use Rattle.mat_union.specs.Unions.{test_at};
+ghost use Rattle.mat_sets.specs.{
+  Limits.{most_elements, largest_number, most_matroids},
+  Sets.{IsSet},
+  Weights.{AreWeightsWithin, is_same, weight},
+  FallingWeights.{falling_weights},
+};
+ghost use Rattle.mat_union.specs.{GrownParts.{AreSound}, Unions.{test_at}};
 ghost use Rattle.mat_cert.specs.Certificates.{IsRangedUnion};
-ghost use Rattle.mat_check.specs.Clauses.{first_failure, numbered_clauses};
-ghost use Rattle.mat_sets.specs.FallingWeights.{falling_weights};
-ghost use Rattle.mat_check.specs.SetClauses.{independent_clause, union_clauses};
+ghost use Rattle.mat_check.specs.{Clauses.{first_failure, numbered_clauses}, SetClauses.{independent_clause, union_clauses}};
 
 use crate::reason::{Failure, Reason};
 use crate::sets::families::{dependent_failure, overlap_failure};

@@ -1,14 +1,16 @@
 //! Reading a description: its version, the problem of its form, and its end.
 
 ghost use Rattle.std.specs.Prelude.{◌≤◌, length, IfOk};
-ghost use Rattle.mat_desc.specs.Faults.{Gives};
-ghost use Rattle.mat_desc.specs.Grammar.{IsValid, Spells};
-ghost use Rattle.mat_desc.specs.Instances.{Instance};
-ghost use Rattle.mat_desc.specs.Limits.{description_limit};
-ghost use Rattle.mat_desc.specs.Reading.{version_at, end_at, closed_at, ending_at, instance_at, description_at, written_of, read_of};
-ghost use Rattle.mat_desc.specs.Soundness.{IsSoundInstance};
+ghost use Rattle.mat_desc.specs.{
+  Faults.{Gives},
+  Grammar.{IsValid, Spells},
+  Instances.{Instance},
+  Limits.{description_limit},
+  Reading.{version_at, end_at, closed_at, ending_at, instance_at, description_at, written_of, read_of},
+  Soundness.{IsSoundInstance},
+  Views.{instance_of, written_instance},
+};
 ghost use Rattle.mat_words.specs.Cursors.{lines_left};
-ghost use Rattle.mat_desc.specs.Views.{instance_of, written_instance};
 
 use crate::problem::Problem;
 use crate::read::forms::{coloured, graph, list, pair, rooted, table};

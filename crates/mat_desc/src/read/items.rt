@@ -1,13 +1,13 @@
 //! Reading a line for each edge, arc, cell or column.
 
-ghost use Rattle.std.specs.Prelude.{◌≡◌, ◌≤◌, length, IfOk};
-ghost use Rattle.std.specs.List.{zip};
-ghost use Rattle.mat_desc.specs.Faults.{Gives};
-ghost use Rattle.mat_desc.specs.Limits.{most_digits};
-ghost use Rattle.mat_words.specs.Steps.{repeat_at};
-ghost use Rattle.mat_desc.specs.Reading.{ends_at, ends_line_at, column_at, weighted_at, coloured_edge_at};
-ghost use Rattle.mat_desc.specs.Views.{naming};
-ghost use Rattle.mat_words.specs.Cursors.{lines_left, words_left};
+ghost use Rattle.std.specs.{Prelude.{◌≡◌, ◌≤◌, length, IfOk}, List.{zip}};
+ghost use Rattle.mat_desc.specs.{
+  Faults.{Gives},
+  Limits.{most_digits},
+  Reading.{ends_at, ends_line_at, column_at, weighted_at, coloured_edge_at},
+  Views.{naming},
+};
+ghost use Rattle.mat_words.specs.{Steps.{repeat_at}, Cursors.{lines_left, words_left}};
 
 use crate::limits::{LARGEST_WEIGHT, SMALLEST_WEIGHT};
 use crate::read::lines::ended;

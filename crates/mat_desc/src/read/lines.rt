@@ -3,9 +3,7 @@
 ghost use Rattle.std.specs.Prelude.{◌≡◌, ◌<◌, ◌^◌, [], length, IfOk};
 ghost use Rattle.mat_sets.specs.Sets.{all_below, IsSet};
 ghost use Rattle.mat_words.specs.Cursors.{lines_left, words_left};
-ghost use Rattle.mat_desc.specs.Faults.{Gives};
-ghost use Rattle.mat_desc.specs.Reading.{ended_at, elements_at, weights_at};
-ghost use Rattle.mat_desc.specs.Views.{naming};
+ghost use Rattle.mat_desc.specs.{Faults.{Gives}, Reading.{ended_at, elements_at, weights_at}, Views.{naming}};
 
 use crate::limits::{LARGEST_WEIGHT, SMALLEST_WEIGHT};
 use crate::read::notation::next_member;

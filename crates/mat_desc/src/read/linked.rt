@@ -1,13 +1,14 @@
 //! Reading transversal matroids and gammoids.
 
 ghost use Rattle.std.specs.Prelude.{[]};
-ghost use Rattle.mat_desc.specs.Notations.{IsNaming};
-ghost use Rattle.mat_desc.specs.Views.{naming};
+ghost use Rattle.mat_desc.specs.{
+  Notations.{IsNaming},
+  Views.{naming},
+  Faults.{Gives},
+  Reading.{set_line_at, distinct_at, targets_at, transversal_at, gammoid_at},
+};
 ghost use Rattle.mat_any.specs.Views.{tree_of};
-ghost use Rattle.mat_desc.specs.Faults.{Gives};
-ghost use Rattle.mat_words.specs.Steps.{repeat_at};
-ghost use Rattle.mat_desc.specs.Reading.{set_line_at, distinct_at, targets_at, transversal_at, gammoid_at};
-ghost use Rattle.mat_words.specs.Cursors.{lines_left, words_left};
+ghost use Rattle.mat_words.specs.{Steps.{repeat_at}, Cursors.{lines_left, words_left}};
 
 use crate::limits::{MOST_ARCS, MOST_SETS, MOST_VERTICES};
 use crate::read::items::ends_lines;

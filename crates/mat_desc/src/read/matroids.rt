@@ -2,17 +2,15 @@
 
 ghost use Rattle.std.specs.Prelude.{◌≡◌, ◌<◌, ◌≤◌, ◌++◌, ◌∷◌, [], length, map, IfOk};
 ghost use Rattle.mat_sets.specs.Sets.{all_below};
-ghost use Rattle.mat_any.specs.Trees.{trees_from, union};
-ghost use Rattle.mat_any.specs.Views.{tree_of};
-ghost use Rattle.mat_desc.specs.Faults.{Gives};
-ghost use Rattle.mat_desc.specs.Limits.{most_sets};
-ghost use Rattle.mat_desc.specs.Notations.{IsNaming};
-ghost use Rattle.mat_desc.specs.Views.{naming};
-ghost use Rattle.mat_words.specs.Steps.{repeat_at};
-ghost use Rattle.mat_desc.specs.Reading.{class_at, classes_at, nested_set_at, nested_sets_at};
-ghost use Rattle.mat_desc.specs.Reading.{uniform_at, partition_at, laminar_at, graphic_at, gf2_at, dual_at, truncate_at, restrict_at, contract_at, union_at};
-ghost use Rattle.mat_desc.specs.Reading.{matroid_within, matroid_at, two_matroids_at};
-ghost use Rattle.mat_words.specs.Cursors.{lines_left, words_left};
+ghost use Rattle.mat_any.specs.{Trees.{trees_from, union}, Views.{tree_of}};
+ghost use Rattle.mat_desc.specs.{
+  Faults.{Gives},
+  Limits.{most_sets},
+  Notations.{IsNaming},
+  Views.{naming},
+  Reading.{class_at, classes_at, nested_set_at, nested_sets_at, uniform_at, partition_at, laminar_at, graphic_at, gf2_at, dual_at, truncate_at, restrict_at, contract_at, union_at, matroid_within, matroid_at, two_matroids_at},
+};
+ghost use Rattle.mat_words.specs.{Steps.{repeat_at}, Cursors.{lines_left, words_left}};
 
 use crate::limits::{DEEPEST, MOST_DIGITS, MOST_ELEMENTS, MOST_MATROIDS, MOST_SETS, MOST_VERTICES};
 use crate::read::earlier_sets::EarlierSets;

@@ -1,14 +1,13 @@
 //! Reading the names of elements and of vertices, and the words that stand for them.
 
-ghost use Rattle.std.specs.Prelude.{◌≡◌, true, [], IfOk};
-ghost use Rattle.std.specs.List.{list_all};
-ghost use Rattle.mat_desc.specs.Faults.{Gives};
-ghost use Rattle.mat_desc.specs.Notations.{IsNaming, element_naming, vertex_naming};
-ghost use Rattle.mat_desc.specs.Reading.{member_at, names_from, names_line_at, vertex_names_at, notation_at, header_root_at, root_at};
-ghost use Rattle.mat_desc.specs.Views.{notation_of, naming};
-ghost use Rattle.mat_words.specs.Cursors.{lines_left, words_left};
-ghost use Rattle.mat_words.specs.NameLists.{names_of};
-ghost use Rattle.mat_words.specs.Words.{is_word};
+ghost use Rattle.std.specs.{Prelude.{◌≡◌, true, [], IfOk}, List.{list_all}};
+ghost use Rattle.mat_desc.specs.{
+  Faults.{Gives},
+  Notations.{IsNaming, element_naming, vertex_naming},
+  Reading.{member_at, names_from, names_line_at, vertex_names_at, notation_at, header_root_at, root_at},
+  Views.{notation_of, naming},
+};
+ghost use Rattle.mat_words.specs.{Cursors.{lines_left, words_left}, NameLists.{names_of}, Words.{is_word}};
 
 use crate::read::keywords::Version;
 use crate::read::lines::ended;
@@ -32,8 +31,7 @@ pub(crate) enum Notation {
 
 impl Notation {
     ghost use Rattle.std.specs.Prelude.{◌≡◌};
-    ghost use Rattle.mat_desc.specs.Notations.{element_naming, vertex_naming};
-    ghost use Rattle.mat_desc.specs.Views.{notation_of, naming};
+    ghost use Rattle.mat_desc.specs.{Notations.{element_naming, vertex_naming}, Views.{notation_of, naming}};
 
     /// The names of the elements, where they have names.
     pub(crate) fn element_names(&self) -> Option<&Names>

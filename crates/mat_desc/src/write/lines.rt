@@ -1,15 +1,14 @@
 //! Writing lines whose words stand for elements or for vertices: their numerals, or their names where they have names.
 
-ghost use Rattle.std.specs.Prelude.{◌≡◌, ◌++◌, ◌∷◌, ◌<◌, [], codes, length, map, All, IfSome, OnOk};
-ghost use Rattle.std.specs.List.{zip};
+ghost use Rattle.std.specs.{Prelude.{◌≡◌, ◌++◌, ◌∷◌, ◌<◌, [], codes, length, map, All, IfSome, OnOk}, List.{zip}};
 ghost use Rattle.mat_sets.specs.Sets.{AllBelow, IsSet};
-ghost use Rattle.mat_words.specs.Lines.{text_of};
-ghost use Rattle.mat_words.specs.NameLists.{names_of};
-ghost use Rattle.mat_words.specs.Writing.{spaced};
-ghost use Rattle.mat_desc.specs.Canonical.{capped_line, capped_lines};
-ghost use Rattle.mat_desc.specs.Grammar.{listing_line, ends_line, weighted_line, coloured_edge_line, IsPairBelow};
-ghost use Rattle.mat_desc.specs.Notations.{word_for, words_for};
-ghost use Rattle.mat_desc.specs.Views.{naming};
+ghost use Rattle.mat_words.specs.{Lines.{text_of}, NameLists.{names_of}, Writing.{spaced}};
+ghost use Rattle.mat_desc.specs.{
+  Canonical.{capped_line, capped_lines},
+  Grammar.{listing_line, ends_line, weighted_line, coloured_edge_line, IsPairBelow},
+  Notations.{word_for, words_for},
+  Views.{naming},
+};
 
 use mat_sets::{ElemSet, Weight};
 use mat_words::{Names, TextWord, put_number_word, put_text_word, put_weight_word};

@@ -1,13 +1,9 @@
 //! Writing the lines of a matroid.
 
-ghost use Rattle.std.specs.Prelude.{◌≡◌, ◌++◌, ◌∷◌, None, [], length, map, All, IfSome, OnOk};
-ghost use Rattle.std.specs.List.{flat_map};
+ghost use Rattle.std.specs.{Prelude.{◌≡◌, ◌++◌, ◌∷◌, None, [], length, map, All, IfSome, OnOk}, List.{flat_map}};
 ghost use Rattle.mat_words.specs.Lines.{text_of};
-ghost use Rattle.mat_any.specs.Trees.{partition, laminar, graphic, transversal, gammoid, gf2};
-ghost use Rattle.mat_any.specs.Views.{tree_of};
-ghost use Rattle.mat_desc.specs.Canonical.{matroid_lines};
-ghost use Rattle.mat_desc.specs.Grammar.{column_line, IsValidTree};
-ghost use Rattle.mat_desc.specs.Views.{naming};
+ghost use Rattle.mat_any.specs.{Trees.{partition, laminar, graphic, transversal, gammoid, gf2}, Views.{tree_of}};
+ghost use Rattle.mat_desc.specs.{Canonical.{matroid_lines}, Grammar.{column_line, IsValidTree}, Views.{naming}};
 
 use crate::write::lines::{put_capped_lines, put_ends_lines, put_family_lines, put_listing_line};
 use mat_any::AnyMatroid;

@@ -1,14 +1,14 @@
 //! The canonical text of a problem.
 
 ghost use Rattle.std.specs.Prelude.{◌≡◌, ◌++◌, ◌∷◌, ◌<◌, [], codes, length, IfOk, IfSome, OnOk};
-ghost use Rattle.mat_words.specs.Lines.{text_of};
-ghost use Rattle.mat_words.specs.NameLists.{names_of};
-ghost use Rattle.mat_words.specs.Writing.{weights_line};
+ghost use Rattle.mat_words.specs.{Lines.{text_of}, NameLists.{names_of}, Writing.{weights_line}};
 ghost use Rattle.mat_any.specs.Views.{tree_of};
-ghost use Rattle.mat_desc.specs.Grammar.{rooted_header, version_line, vertex_name_lines, name_lines, root_lines, IsValid, IsValidTree};
-ghost use Rattle.mat_desc.specs.Notations.{names, element_naming, vertex_naming, IsNotationFor};
-ghost use Rattle.mat_desc.specs.Canonical.{matroid_lines, header, body_lines, canonical_lines, canonical_text, named_text, MayBeWritten};
-ghost use Rattle.mat_desc.specs.Views.{instance_of, naming, named_instance, written_notation};
+ghost use Rattle.mat_desc.specs.{
+  Grammar.{rooted_header, version_line, vertex_name_lines, name_lines, root_lines, IsValid, IsValidTree},
+  Notations.{names, element_naming, vertex_naming, IsNotationFor},
+  Canonical.{matroid_lines, header, body_lines, canonical_lines, canonical_text, named_text, MayBeWritten},
+  Views.{instance_of, naming, named_instance, written_notation},
+};
 
 use crate::named::Named;
 use crate::problem::Problem;

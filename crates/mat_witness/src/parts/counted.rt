@@ -1,18 +1,20 @@
 //! Bounds in uniform, partition and laminar matroids: elements that count themselves, and listed sets that hold all others.
 
-ghost use Rattle.std.specs.Prelude.{◌≡◌, ◌<◌, ◌≤◌, ◌+◌, ◌||◌, ◌*◌, ℕ, nat_lt, if◌then◌else◌, true, List, [], ◌∷◌, length, filter, slice_index_or, All, IfOk, IfSome, OnOk, Some, None};
-ghost use Rattle.std.specs.List.{list_all};
-ghost use Rattle.mat_sets.specs.Limits.{most_elements};
-ghost use Rattle.mat_sets.specs.Sets.{AllBelow, IsRising, IsSet, all_below, intersection, is_member};
+ghost use Rattle.std.specs.{
+  Prelude.{◌≡◌, ◌<◌, ◌≤◌, ◌+◌, ◌||◌, ◌*◌, ℕ, nat_lt, if◌then◌else◌, true, List, [], ◌∷◌, length, filter, slice_index_or, All, IfOk, IfSome, OnOk, Some, None},
+  List.{list_all},
+};
+ghost use Rattle.mat_sets.specs.{Limits.{most_elements}, Sets.{AllBelow, IsRising, IsSet, all_below, intersection, is_member}};
 ghost use Rattle.mat_laws.specs.Matroids.{IsMaximal};
-ghost use Rattle.mat_count.specs.Counts.{is_counted, is_uniform};
-ghost use Rattle.mat_count.specs.LaminarMatroids.{IsLaminar};
+ghost use Rattle.mat_count.specs.{Counts.{is_counted, is_uniform}, LaminarMatroids.{IsLaminar}};
 ghost use Rattle.mat_any.specs.Trees.{laminar, uniform};
 ghost use Rattle.mat_desc.specs.Limits.{most_sets};
-ghost use Rattle.mat_witness.specs.BoundParts.{are_covered, bound_of, caps_sum, is_in_chosen, shows_bound};
-ghost use Rattle.mat_witness.specs.FilledSets.{AreLargerNamed, AreLargestNamed, AreListed, AreNamed, is_unnamed, size_named};
-ghost use Rattle.mat_witness.specs.Parts.{IsBoundFor};
-ghost use Rattle.mat_witness.specs.Views.{bound_part};
+ghost use Rattle.mat_witness.specs.{
+  BoundParts.{are_covered, bound_of, caps_sum, is_in_chosen, shows_bound},
+  FilledSets.{AreLargerNamed, AreLargestNamed, AreListed, AreNamed, is_unnamed, size_named},
+  Parts.{IsBoundFor},
+  Views.{bound_part},
+};
 
 use crate::witness::Most;
 use mat_count::Uniform;

@@ -1,15 +1,41 @@
 //! Forests whose edges bring a vertex each, and labels of vertices, in graphic matroids.
 
-ghost use Rattle.std.specs.Prelude.{◌≡◌, ◌≢◌, ℕ, ◌+◌, ◌<◌, ◌≤◌, ◌-◌, ◌^◌, ◌==◌, ◌&&◌, ◌||◌, not, if◌then◌else◌, true, List, [], length, map, reverse, slice_index, All, IfOk, Some, None};
-ghost use Rattle.mat_sets.specs.Graphs.{IsGraph, ends_of};
-ghost use Rattle.mat_sets.specs.Sets.{AllBelow, IsSet};
+ghost use Rattle.std.specs.Prelude.{
+  ◌≡◌,
+  ◌≢◌,
+  ℕ,
+  ◌+◌,
+  ◌<◌,
+  ◌≤◌,
+  ◌-◌,
+  ◌^◌,
+  ◌==◌,
+  ◌&&◌,
+  ◌||◌,
+  not,
+  if◌then◌else◌,
+  true,
+  List,
+  [],
+  length,
+  map,
+  reverse,
+  slice_index,
+  All,
+  IfOk,
+  Some,
+  None,
+};
+ghost use Rattle.mat_sets.specs.{Graphs.{IsGraph, ends_of}, Sets.{AllBelow, IsSet}};
 ghost use Rattle.mat_laws.specs.Matroids.{IsMaximal};
 ghost use Rattle.mat_graphic.specs.Forests.{is_graphic};
 ghost use Rattle.mat_any.specs.Trees.{graphic};
-ghost use Rattle.mat_witness.specs.BoundParts.{bound_of, count_different, have_equal_labels, shows_bound};
-ghost use Rattle.mat_witness.specs.EndSums.{IsSumTable, at_ends};
-ghost use Rattle.mat_witness.specs.FreeParts.{bring_vertices, lists_members, shows_forest, shows_free};
-ghost use Rattle.mat_witness.specs.Parts.{IsBoundFor, IsFreeFor, forest, labels};
+ghost use Rattle.mat_witness.specs.{
+  BoundParts.{bound_of, count_different, have_equal_labels, shows_bound},
+  EndSums.{IsSumTable, at_ends},
+  FreeParts.{bring_vertices, lists_members, shows_forest, shows_free},
+  Parts.{IsBoundFor, IsFreeFor, forest, labels},
+};
 
 use mat_graphic::Graphic;
 use mat_sets::{ElemSet, Pairs};

@@ -2,13 +2,14 @@
 
 ghost use Rattle.std.specs.Prelude.{◌≡◌, ◌≤◌, ◌↔◌, ℕ, List, true, length, Ok};
 ghost use Rattle.mat_cert.specs.Certificates.{Certificate, IsRanged};
-ghost use Rattle.mat_desc.specs.Grammar.{IsValid};
-ghost use Rattle.mat_desc.specs.Instances.{Instance};
-ghost use Rattle.mat_witness.specs.Kinds.{has_rung, is_witnessed_pair};
-ghost use Rattle.mat_witness.specs.Lines.{witness_limit, witness_text};
-ghost use Rattle.mat_witness.specs.Parts.{WitnessParts};
-ghost use Rattle.mat_witness.specs.Reading.{read_of};
-ghost use Rattle.mat_witness.specs.Shown.{IsShown, IsWitnessFor};
+ghost use Rattle.mat_desc.specs.{Grammar.{IsValid}, Instances.{Instance}};
+ghost use Rattle.mat_witness.specs.{
+  Kinds.{has_rung, is_witnessed_pair},
+  Lines.{witness_limit, witness_text},
+  Parts.{WitnessParts},
+  Reading.{read_of},
+  Shown.{IsShown, IsWitnessFor},
+};
 
 /// The reading of a text gives exactly the witness for the rung whose text it is. The text of a witness that shows the rung has at most 2^26
 /// bytes, and no two witnesses have one text.

@@ -3,20 +3,18 @@
 ghost use Rattle.std.specs.Prelude.{◌≡◌, ◌<◌, ◌≤◌, true, length, map, IfOk, Ok};
 ghost use Rattle.mat_words.specs.Cursors.{lines_left};
 ghost use Rattle.mat_any.specs.Views.{tree_of};
-ghost use Rattle.mat_cert.specs.Certificates.{IsRanged};
-ghost use Rattle.mat_cert.specs.Faults.{Gives};
-ghost use Rattle.mat_cert.specs.Views.{certificate_of};
-ghost use Rattle.mat_desc.specs.Grammar.{IsValid, IsValidTree};
-ghost use Rattle.mat_desc.specs.Soundness.{IsSoundInstance};
-ghost use Rattle.mat_desc.specs.Views.{instance_of};
-ghost use Rattle.mat_witness.specs.BoundRows.{row_at};
-ghost use Rattle.mat_witness.specs.Kinds.{has_rung, is_witnessed_pair};
-ghost use Rattle.mat_witness.specs.Lines.{witness_limit, witness_text};
-ghost use Rattle.mat_witness.specs.Parts.{WitnessParts};
-ghost use Rattle.mat_witness.specs.Reading.{bounds_at, parts_at, read_of, rung_line_at, version_at, witness_at};
-ghost use Rattle.mat_witness.specs.RungRanges.{AreRungRanges};
-ghost use Rattle.mat_witness.specs.Shown.{IsWitnessFor, bounded_trees};
-ghost use Rattle.mat_witness.specs.Views.{bound_part, witness_parts};
+ghost use Rattle.mat_cert.specs.{Certificates.{IsRanged}, Faults.{Gives}, Views.{certificate_of}};
+ghost use Rattle.mat_desc.specs.{Grammar.{IsValid, IsValidTree}, Soundness.{IsSoundInstance}, Views.{instance_of}};
+ghost use Rattle.mat_witness.specs.{
+  BoundRows.{row_at},
+  Kinds.{has_rung, is_witnessed_pair},
+  Lines.{witness_limit, witness_text},
+  Parts.{WitnessParts},
+  Reading.{bounds_at, parts_at, read_of, rung_line_at, version_at, witness_at},
+  RungRanges.{AreRungRanges},
+  Shown.{IsWitnessFor, bounded_trees},
+  Views.{bound_part, witness_parts},
+};
 
 use super::read_parts::{free_lines, more_bounds};
 use crate::bound_rows::bound_counts;

@@ -2,16 +2,16 @@
 
 ghost use Rattle.std.specs.Prelude.{◌≡◌, ◌≤◌, length, map};
 ghost use Rattle.mat_sets.specs.Limits.{most_elements};
-ghost use Rattle.mat_words.specs.Cursors.{lines_left, words_left};
-ghost use Rattle.mat_words.specs.Steps.{repeat_at};
-ghost use Rattle.mat_witness.specs.BoundRows.{behind};
+ghost use Rattle.mat_words.specs.{Cursors.{lines_left, words_left}, Steps.{repeat_at}};
+ghost use Rattle.mat_witness.specs.{
+  BoundRows.{behind},
+  Kinds.{listed_sets},
+  Reading.{binary_line_at, bound_at, free_at, pair_at, path_at},
+  Views.{bound_part, free_part},
+};
 ghost use Rattle.mat_any.specs.Views.{tree_of};
-ghost use Rattle.mat_cert.specs.Faults.{Gives};
-ghost use Rattle.mat_cert.specs.LineReading.{below_at};
+ghost use Rattle.mat_cert.specs.{Faults.{Gives}, LineReading.{below_at}};
 ghost use Rattle.mat_desc.specs.Grammar.{IsValidTree};
-ghost use Rattle.mat_witness.specs.Kinds.{listed_sets};
-ghost use Rattle.mat_witness.specs.Reading.{binary_line_at, bound_at, free_at, pair_at, path_at};
-ghost use Rattle.mat_witness.specs.Views.{bound_part, free_part};
 
 use crate::witness::{Free, Most};
 use mat_any::AnyMatroid;

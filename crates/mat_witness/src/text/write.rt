@@ -4,15 +4,14 @@ ghost use Rattle.std.specs.Prelude.{◌≡◌, ◌≤◌, ◌++◌, true, length
 ghost use Rattle.mat_sets.specs.Limits.{most_elements};
 ghost use Rattle.mat_words.specs.Lines.{text_of};
 ghost use Rattle.mat_any.specs.Views.{tree_of};
-ghost use Rattle.mat_cert.specs.Certificates.{IsRanged};
-ghost use Rattle.mat_cert.specs.Views.{certificate_of};
-ghost use Rattle.mat_desc.specs.Grammar.{IsValid};
-ghost use Rattle.mat_desc.specs.Soundness.{IsSoundInstance};
-ghost use Rattle.mat_desc.specs.Views.{instance_of};
-ghost use Rattle.mat_witness.specs.Kinds.{has_rung, is_witnessed_pair};
-ghost use Rattle.mat_witness.specs.Lines.{bounds_lines, witness_lines, witness_text};
-ghost use Rattle.mat_witness.specs.Shown.{IsWitnessFor, bounded_trees};
-ghost use Rattle.mat_witness.specs.Views.{bound_part, witness_parts};
+ghost use Rattle.mat_cert.specs.{Certificates.{IsRanged}, Views.{certificate_of}};
+ghost use Rattle.mat_desc.specs.{Grammar.{IsValid}, Soundness.{IsSoundInstance}, Views.{instance_of}};
+ghost use Rattle.mat_witness.specs.{
+  Kinds.{has_rung, is_witnessed_pair},
+  Lines.{bounds_lines, witness_lines, witness_text},
+  Shown.{IsWitnessFor, bounded_trees},
+  Views.{bound_part, witness_parts},
+};
 
 use super::write_parts::{put_free, put_row};
 use crate::bound_rows::bound_counts;

@@ -1,14 +1,13 @@
 //! Writing the parts of a witness.
 
-ghost use Rattle.std.specs.Prelude.{◌≡◌, ◌+◌, ◌++◌, ◌∷◌, [], length, codes, map, pos, OnOk};
-ghost use Rattle.std.specs.List.{flat_map};
-ghost use Rattle.mat_words.specs.Lines.{text_of};
-ghost use Rattle.mat_words.specs.Numbers.{numeral};
-ghost use Rattle.mat_words.specs.Writing.{members_line};
+ghost use Rattle.std.specs.{Prelude.{◌≡◌, ◌+◌, ◌++◌, ◌∷◌, [], length, codes, map, pos, OnOk}, List.{flat_map}};
+ghost use Rattle.mat_words.specs.{Lines.{text_of}, Numbers.{numeral}, Writing.{members_line}};
 ghost use Rattle.mat_any.specs.Views.{tree_of};
-ghost use Rattle.mat_witness.specs.BoundRows.{row_trees};
-ghost use Rattle.mat_witness.specs.Lines.{binary_line, bound_lines, bounds_lines, digits_of, free_lines};
-ghost use Rattle.mat_witness.specs.Views.{bound_part, free_part};
+ghost use Rattle.mat_witness.specs.{
+  BoundRows.{row_trees},
+  Lines.{binary_line, bound_lines, bounds_lines, digits_of, free_lines},
+  Views.{bound_part, free_part},
+};
 
 use crate::bound_rows::bounds_behind;
 use crate::witness::{Free, Most};

@@ -1,14 +1,10 @@
 //! The number of a part of a witness that bounds the rank of a set, by the kind of the matroid.
 
 ghost use Rattle.std.specs.Prelude.{◌≡◌, ◌≤◌, if◌then◌else◌, IfOk, Some, None};
-ghost use Rattle.mat_sets.specs.Limits.{most_elements};
-ghost use Rattle.mat_sets.specs.Sets.{IsSet};
-ghost use Rattle.mat_any.specs.Trees.{element_count, IsSound};
-ghost use Rattle.mat_any.specs.Views.{tree_of};
+ghost use Rattle.mat_sets.specs.{Limits.{most_elements}, Sets.{IsSet}};
+ghost use Rattle.mat_any.specs.{Trees.{element_count, IsSound}, Views.{tree_of}};
 ghost use Rattle.mat_desc.specs.Grammar.{IsValidTree};
-ghost use Rattle.mat_witness.specs.BoundParts.{bound_of, shows_bound};
-ghost use Rattle.mat_witness.specs.Parts.{IsBoundFor};
-ghost use Rattle.mat_witness.specs.Views.{bound_part};
+ghost use Rattle.mat_witness.specs.{BoundParts.{bound_of, shows_bound}, Parts.{IsBoundFor}, Views.{bound_part}};
 
 use crate::parts::{closing_bound, labels_bound, listed_bound, uniform_bound, zeros_bound};
 use crate::witness::Most;

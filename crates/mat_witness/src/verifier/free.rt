@@ -2,11 +2,8 @@
 
 ghost use Rattle.std.specs.Prelude.{◌≡◌, length, IfOk};
 ghost use Rattle.mat_sets.specs.Sets.{IsSet};
-ghost use Rattle.mat_any.specs.Trees.{element_count, IsSound};
-ghost use Rattle.mat_any.specs.Views.{tree_of};
-ghost use Rattle.mat_witness.specs.FreeParts.{shows_free};
-ghost use Rattle.mat_witness.specs.Parts.{IsFreeFor};
-ghost use Rattle.mat_witness.specs.Views.{free_part};
+ghost use Rattle.mat_any.specs.{Trees.{element_count, IsSound}, Views.{tree_of}};
+ghost use Rattle.mat_witness.specs.{FreeParts.{shows_free}, Parts.{IsFreeFor}, Views.{free_part}};
 
 use crate::parts::{shows_forest, shows_paths, shows_probes};
 use crate::witness::Free;

@@ -1,16 +1,16 @@
 //! Whether bounds of ranks meet what is demanded of them.
 
 ghost use Rattle.std.specs.Prelude.{◌≡◌, ℕ, ◌<◌, ◌≤◌, if◌then◌else◌, [], ◌∷◌, length, map, slice_index_or, All, IfOk, Some, None};
-ghost use Rattle.mat_sets.specs.Limits.{most_elements};
-ghost use Rattle.mat_sets.specs.Sets.{IsSet};
-ghost use Rattle.mat_any.specs.Trees.{element_count, IsSound};
-ghost use Rattle.mat_any.specs.Views.{tree_of};
+ghost use Rattle.mat_sets.specs.{Limits.{most_elements}, Sets.{IsSet}};
+ghost use Rattle.mat_any.specs.{Trees.{element_count, IsSound}, Views.{tree_of}};
 ghost use Rattle.mat_desc.specs.Grammar.{IsValidTree};
-ghost use Rattle.mat_witness.specs.Demands.{demand_for};
-ghost use Rattle.mat_witness.specs.Parts.{IsBoundFor};
-ghost use Rattle.mat_witness.specs.Shown.{are_met, AreBoundsFor, bounds_common_sets, demands_under, meets};
-ghost use Rattle.mat_witness.specs.Views.{bound_part};
-ghost use Rattle.mat_witness.specs.declared.witness.Most.{Most};
+ghost use Rattle.mat_witness.specs.{
+  Demands.{demand_for},
+  Parts.{IsBoundFor},
+  Shown.{are_met, AreBoundsFor, bounds_common_sets, demands_under, meets},
+  Views.{bound_part},
+  declared.witness.Most.{Most},
+};
 
 use super::bounds::bound_shown;
 use crate::demands::{Demand, demands_under};

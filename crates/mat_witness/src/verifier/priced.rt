@@ -1,10 +1,7 @@
 //! The numbers of a rung: the weight of its set, and the halves of its split.
 
-ghost use Rattle.std.specs.Prelude.{◌≡◌, ◌≤◌, length};
-ghost use Rattle.std.specs.List.{list_all};
-ghost use Rattle.mat_sets.specs.Limits.{largest_number, most_elements};
-ghost use Rattle.mat_sets.specs.Sets.{all_below, IsSet};
-ghost use Rattle.mat_sets.specs.Weights.{adds_up, AreWeightsWithin};
+ghost use Rattle.std.specs.{Prelude.{◌≡◌, ◌≤◌, length}, List.{list_all}};
+ghost use Rattle.mat_sets.specs.{Limits.{largest_number, most_elements}, Sets.{all_below, IsSet}, Weights.{adds_up, AreWeightsWithin}};
 ghost use Rattle.mat_cert.specs.Certificates.{IsRangedPart};
 ghost use Rattle.mat_witness.specs.Shown.{is_priced};
 

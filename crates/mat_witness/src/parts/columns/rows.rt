@@ -2,8 +2,7 @@
 
 ghost use Rattle.std.specs.Prelude.{◌≡◌, ℕ, ◌<◌, ◌≤◌, ◌^◌, true, false, length, map, slice_index_or, IfOk, IfSome, IfNone};
 ghost use Rattle.mat_sets.specs.Sets.{all_below};
-ghost use Rattle.mat_witness.specs.FreeParts.{inner_product_is_one};
-ghost use Rattle.mat_witness.specs.Rows.{evened, IsTaken};
+ghost use Rattle.mat_witness.specs.{FreeParts.{inner_product_is_one}, Rows.{evened, IsTaken}};
 
 use std::alloc::{AllocError, Global};
 

@@ -1,15 +1,19 @@
 //! Equations that hold of the columns of a set, in linear matroids over the field of two elements.
 
-ghost use Rattle.std.specs.Prelude.{◌≡◌, ℕ, ◌<◌, ◌≤◌, ◌-◌, ◌^◌, not, if◌then◌else◌, true, List, length, All, IfOk, Some, None};
-ghost use Rattle.std.specs.List.{list_all};
+ghost use Rattle.std.specs.{
+  Prelude.{◌≡◌, ℕ, ◌<◌, ◌≤◌, ◌-◌, ◌^◌, not, if◌then◌else◌, true, List, length, All, IfOk, Some, None},
+  List.{list_all},
+};
 ghost use Rattle.mat_sets.specs.Sets.{AllBelow, IsSet, all_below};
 ghost use Rattle.mat_laws.specs.Matroids.{IsMaximal};
 ghost use Rattle.mat_gf2.specs.Columns.{IsBinaryMatrix, column_of, is_gf2};
 ghost use Rattle.mat_any.specs.Trees.{gf2};
-ghost use Rattle.mat_witness.specs.BoundParts.{are_zeros, bound_of, has_own_one, shows_bound};
-ghost use Rattle.mat_witness.specs.FreeParts.{inner_product_is_one};
-ghost use Rattle.mat_witness.specs.Parts.{IsBoundFor, zeros};
-ghost use Rattle.mat_witness.specs.Rows.{AreOnesOfOthers};
+ghost use Rattle.mat_witness.specs.{
+  BoundParts.{are_zeros, bound_of, has_own_one, shows_bound},
+  FreeParts.{inner_product_is_one},
+  Parts.{IsBoundFor, zeros},
+  Rows.{AreOnesOfOthers},
+};
 
 use super::rows::{inner_product_is_one, take_odd_row, unit_rows};
 use mat_gf2::Gf2;

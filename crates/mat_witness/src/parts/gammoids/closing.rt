@@ -1,15 +1,15 @@
 //! Vertices that close off the reached ones, in gammoids.
 
-ghost use Rattle.std.specs.Prelude.{◌≡◌, ◌<◌, ◌≤◌, ◌||◌, if◌then◌else◌, not, ℕ, List, true, length, IfOk, Some, None};
-ghost use Rattle.std.specs.List.{list_all};
-ghost use Rattle.mat_sets.specs.Sets.{is_member, IsSet};
-ghost use Rattle.mat_sets.specs.Walks.{IsReachedSet};
+ghost use Rattle.std.specs.{Prelude.{◌≡◌, ◌<◌, ◌≤◌, ◌||◌, if◌then◌else◌, not, ℕ, List, true, length, IfOk, Some, None}, List.{list_all}};
+ghost use Rattle.mat_sets.specs.{Sets.{is_member, IsSet}, Walks.{IsReachedSet}};
 ghost use Rattle.mat_laws.specs.Matroids.{IsMaximal};
 ghost use Rattle.mat_linked.specs.Gammoids.{IsGammoid, is_gammoid, vertices_of};
 ghost use Rattle.mat_any.specs.Trees.{gammoid};
-ghost use Rattle.mat_witness.specs.BoundParts.{are_closed_off, is_in_either, shows_bound};
-ghost use Rattle.mat_witness.specs.GammoidSteps.{is_open_arc};
-ghost use Rattle.mat_witness.specs.Parts.{IsBoundFor, gate};
+ghost use Rattle.mat_witness.specs.{
+  BoundParts.{are_closed_off, is_in_either, shows_bound},
+  GammoidSteps.{is_open_arc},
+  Parts.{IsBoundFor, gate},
+};
 
 use super::arcs::arc_rows;
 use super::paths::element_vertices;

@@ -1,15 +1,14 @@
 //! Disjoint paths to the vertices of a set, in gammoids.
 
-ghost use Rattle.std.specs.Prelude.{◌≡◌, ◌<◌, ◌&&◌, ℕ, List, [], true, length, map, slice_index, slice_index_or, All, IfOk};
-ghost use Rattle.std.specs.List.{concat, list_all};
-ghost use Rattle.mat_sets.specs.Sets.{is_member, AllBelow, AreDistinct, IsSet};
-ghost use Rattle.mat_sets.specs.SetTests.{are_distinct};
+ghost use Rattle.std.specs.{
+  Prelude.{◌≡◌, ◌<◌, ◌&&◌, ℕ, List, [], true, length, map, slice_index, slice_index_or, All, IfOk},
+  List.{concat, list_all},
+};
+ghost use Rattle.mat_sets.specs.{Sets.{is_member, AllBelow, AreDistinct, IsSet}, SetTests.{are_distinct}};
 ghost use Rattle.mat_flow.specs.Paths.{first_of, last_of};
 ghost use Rattle.mat_linked.specs.Gammoids.{IsGammoid, is_gammoid, is_path, vertices_of};
 ghost use Rattle.mat_any.specs.Trees.{gammoid};
-ghost use Rattle.mat_witness.specs.FreeParts.{shows_free, shows_paths};
-ghost use Rattle.mat_witness.specs.GammoidSteps.{path_to, AreArcRows};
-ghost use Rattle.mat_witness.specs.Parts.{IsFreeFor, paths};
+ghost use Rattle.mat_witness.specs.{FreeParts.{shows_free, shows_paths}, GammoidSteps.{path_to, AreArcRows}, Parts.{IsFreeFor, paths}};
 
 use super::arcs::arc_rows;
 use mat_flow::{Digraph, Walk, linked};
