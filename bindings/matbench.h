@@ -29,7 +29,7 @@ typedef struct {
 
 /* What a call answers: the exit status of the program (matbench --help), or MATBENCH_NO_CALL. */
 enum {
-    MATBENCH_NO_CALL = -1, /* a pointer is null that must not be; nothing was read or written */
+    MATBENCH_NO_CALL = -1, /* a pointer is null that must not be; nothing was read or written, and the lengths stay as they were */
     MATBENCH_DONE = 0,
     MATBENCH_NOT_RIGHT = 1,
     MATBENCH_USAGE = 2,

@@ -194,10 +194,17 @@ _REFUSALS = {it.status: it for it in (NotRight, UsageError, BadDescription, BadC
                                       WrongShape, Unwitnessed, BadWitness, BadCost, BadList)}
 
 
-def _done(ended: Ended) -> str:
-    """The output of a call that was not refused."""
+#: What a fault of a text without a line end says besides: such a text is most likely the name of a file.
+_NO_FILE = "a str is the text itself: give the path of a file as pathlib.Path"
+
+
+def _done(ended: Ended, *texts: object) -> str:
+    """The output of a call about these texts that was not refused."""
     if ended.status:
-        raise _REFUSALS.get(ended.status, MatbenchError)(ended.status, ended.note)
+        error = _REFUSALS.get(ended.status, MatbenchError)(ended.status, ended.note)
+        if isinstance(error, FaultyText) and any(isinstance(text, str) and "\n" not in text for text in texts) and hasattr(error, "add_note"):
+            error.add_note(_NO_FILE)
+        raise error
     return ended.output.decode("ascii")
 
 
@@ -269,7 +276,12 @@ def _bytes_of(text: str | bytes | os.PathLike) -> bytes:
     if isinstance(text, os.PathLike):
         with open(text, "rb") as file:
             return file.read()
-    return text.encode() if isinstance(text, str) else bytes(text)
+    if isinstance(text, str):
+        return text.encode()
+    if isinstance(text, (bytes, bytearray, memoryview)):
+        return bytes(text)
+    makers = ": graph_description and the like make a Description of a graph" if hasattr(text, "edges") else ""
+    raise TypeError(f"a text, its bytes, or a path is wanted here, and not a {type(text).__name__}{makers}")
 
 
 def _labels(labels: Sequence[Hashable] | None, numbers: Iterable[str]) -> tuple:
@@ -405,12 +417,20 @@ class Price:
 @dataclass(frozen=True)
 class PricedArborescence(Answer):
     """The answer of cuts: arcs of least cost along which the root reaches every vertex, and prices that add up to it; or `unreached`, vertices
-    that no arc enters, and then all else is None. It cannot be checked, told or drawn."""
+    that no arc enters, and then all else is None. It cannot be checked, told or drawn: that of arborescence can."""
 
     cost: int | None
     arcs: tuple | None
     prices: tuple[Price, ...] | None
     unreached: tuple | None
+
+    def told(self) -> str:
+        """Raises TypeError."""
+        raise TypeError("an answer of cuts is not told: that of arborescence for the same problem is")
+
+    def picture(self) -> str:
+        """Raises TypeError."""
+        raise TypeError("an answer of cuts is not drawn: that of arborescence for the same problem is")
 
     def _repr_svg_(self) -> None:
         return None
@@ -529,7 +549,7 @@ def _words(command: str, workers: int, *more: object) -> list[str]:
 
 def _solve(command: str, problem: Problem, workers: int, *more: int) -> Answer:
     description = Description.of(problem)
-    certificate = _done(call(_words(command, workers, *more, "f"), {"f": description.text}))
+    certificate = _done(call(_words(command, workers, *more, "f"), {"f": description.text}), problem)
     return read_answer(description, certificate)
 
 
@@ -603,33 +623,33 @@ def batch(jobs: Sequence[tuple], workers: int = 1) -> list[Answer]:
 
 def show(problem: Problem) -> str:
     """The canonical text of a description of any form."""
-    return _done(call(["show", "f"], {"f": Description.of(problem).text}))
+    return _done(call(["show", "f"], {"f": Description.of(problem).text}), problem)
 
 
 def convert(problem: Problem) -> str:
     """The text of a description of any form with names for its elements and vertices."""
-    return _done(call(["convert", "f"], {"f": Description.of(problem).text}))
+    return _done(call(["convert", "f"], {"f": Description.of(problem).text}), problem)
 
 
 def _certificate(answer: Answer | str | bytes | os.PathLike) -> bytes:
     return answer.certificate.encode() if isinstance(answer, Answer) else _bytes_of(answer)
 
 
-def _verdict(ended: Ended) -> Verdict:
+def _verdict(ended: Ended, *texts: object) -> Verdict:
     if ended.status == NotRight.status:
         return Verdict(False, ended.note)
-    return Verdict(_done(ended) == "yes\n")
+    return Verdict(_done(ended, *texts) == "yes\n")
 
 
 def check(problem: Problem, answer: Answer | str | bytes | os.PathLike, workers: int = 1) -> Verdict:
     """Whether an answer of any command but cuts, or a certificate from wherever it came, is right for the problem."""
     files = {"f": Description.of(problem).text, "c": _certificate(answer)}
-    return _verdict(call(_words("check", workers, "f", "c"), files))
+    return _verdict(call(_words("check", workers, "f", "c"), files), problem, answer)
 
 
 def _shown(word: str, problem: Problem, answer: Answer | str | bytes | os.PathLike) -> str:
     """What the program writes of a right answer for this word."""
-    return _done(call([word, "f", "c"], {"f": Description.of(problem).text, "c": _certificate(answer)}))
+    return _done(call([word, "f", "c"], {"f": Description.of(problem).text, "c": _certificate(answer)}), problem, answer)
 
 
 def tell(problem: Problem, answer: Answer | str | bytes | os.PathLike) -> str:
@@ -648,13 +668,13 @@ def witness(problem: Problem, answer: Answer | str | bytes | os.PathLike, rung: 
     """The text of a witness, which shows without a search that a rung of a right answer of intersect is best. Raises NotRight where the answer
     is not right."""
     files = {"f": Description.of(problem).text, "c": _certificate(answer)}
-    return _done(call(["witness", str(rung), "f", "c"], files))
+    return _done(call(["witness", str(rung), "f", "c"], files), problem, answer)
 
 
 def verify(problem: Problem, answer: Answer | str | bytes | os.PathLike, rung: int, text: str | bytes | os.PathLike) -> Verdict:
     """Whether a witness, from wherever it came, shows the rung."""
     files = {"f": Description.of(problem).text, "c": _certificate(answer), "w": _bytes_of(text)}
-    return _verdict(call(["verify", str(rung), "f", "c", "w"], files))
+    return _verdict(call(["verify", str(rung), "f", "c", "w"], files), problem, answer, text)
 
 
 def sample(kind: str, size: int, seed: int, workers: int = 1) -> str:
@@ -671,8 +691,9 @@ def version() -> str:
 #
 # A graph is one of networkx, or whatever else has nodes, edges(data=True), is_directed() and is_multigraph() as these have. Its edges are
 # the elements, in the order of graph.edges, and stand in answers as the tuples that networkx has for them: (u, v), or (u, v, key) in a
-# multigraph; those of a table with the row first. Its nodes are the vertices. A description has up to 500 of each. In words and pictures a node has its own word for a name, and an
-# edge those of its tuple, with - between them, where these are different words of at most 32 characters of ASCII, and else a letter and a number.
+# multigraph; those of a table with the row first. Its nodes are the vertices. A description has up to 500 of each. In words and pictures a
+# node has its own word for a name, and an edge those of its tuple, with - between them, where these are different words of at most 32
+# characters of ASCII, and else a letter and a number.
 
 
 def _edges(graph) -> tuple[list[tuple], list[tuple[int, int]], list[dict]]:
@@ -710,6 +731,8 @@ def _description(form: str, lines: Iterable[str], edges: Sequence, nodes: Sequen
 
 
 def _hold_to(graph, is_directed: bool) -> None:
+    if not hasattr(graph, "is_directed"):
+        raise TypeError(f"a graph is wanted here, and not a {type(graph).__name__}")
     if graph.is_directed() != is_directed:
         raise TypeError("the graph has to be directed" if is_directed else "the graph must not be directed")
 
@@ -727,6 +750,8 @@ def rooted_description(graph, root: Hashable, cost: str = "weight") -> Descripti
     """The `rooted V E R` of a directed graph, for arborescence, disjoint and cuts. `cost` names the attribute of its arcs, 1 where one has
     none."""
     _hold_to(graph, True)
+    if root not in graph:
+        raise ValueError(f"the graph has no node {root!r}, which is to be the root")
     edges, ends, data = _edges(graph)
     nodes, names = list(graph.nodes), _vertex_names(graph)
     arcs = [f"arc {names[u]} {names[v]} {_spelling(it.get(cost, 1))}" for (u, v), it in zip(ends, data)]
@@ -739,6 +764,9 @@ def coloured_description(graph, colour: str = "colour", weight: str = "weight") 
     anything, and an edge without a weight weighs 1."""
     _hold_to(graph, False)
     edges, ends, data = _edges(graph)
+    for edge, it in zip(edges, data):
+        if colour not in it:
+            raise ValueError(f"the edge {edge!r} has no attribute {colour!r}, which is to be its colour")
     colours, names = list(dict.fromkeys(it[colour] for it in data)), _vertex_names(graph)
     lines = [f"edge {names[u]} {names[v]} {colours.index(it[colour])} {_spelling(it.get(weight, 1))}" for (u, v), it in zip(ends, data)]
     form = f"coloured {len(names)} {len(edges)} {len(colours)}"

@@ -4,6 +4,7 @@ import resource
 import subprocess
 import sys
 import threading
+import traceback
 import unittest
 import xml.etree.ElementTree
 
@@ -164,8 +165,9 @@ class Refusals(unittest.TestCase):
                     function(TOWNS, matbench.cuts(TOWNS))
                 with self.assertRaises(FileNotFoundError):
                     function(people, pathlib.Path("nowhere"))
-        with self.assertRaises(matbench.BadCertificate):
-            matbench.cuts(TOWNS).told()
+        for show in (matbench.cuts(TOWNS).told, matbench.cuts(TOWNS).picture):
+            with self.assertRaisesRegex(TypeError, "arborescence"):
+                show()
         for word in ("--tell", "--picture"):
             self.assertEqual(matbench.call([word, "f"], {"f": b""}).status, 2)
             self.assertEqual(matbench.call([word, "f", "c"], {"f": PATH.encode()}).status, 5)
@@ -181,6 +183,22 @@ class Refusals(unittest.TestCase):
         for error, run in cases:
             with self.subTest(error=error), self.assertRaises(error):
                 run()
+
+    def test_the_name_of_a_file_is_no_text(self):
+        for run in (lambda: matbench.intersect("people.txt"), lambda: matbench.check(EXAMPLES / "people.txt", "people.answer")):
+            with self.assertRaises(matbench.FaultyText) as found:
+                run()
+            self.assertIn("pathlib.Path", "".join(traceback.format_exception(found.exception)))
+        with self.assertRaises(matbench.BadDescription) as found:
+            matbench.intersect("matroids 1\npair x\nend\n")
+        self.assertNotIn("pathlib.Path", "".join(traceback.format_exception(found.exception)))
+
+    def test_what_is_neither_a_text_nor_a_path_is_a_type_error(self):
+        for it in (5, None, [PATH]):
+            with self.subTest(it=it), self.assertRaisesRegex(TypeError, f"not a {type(it).__name__}"):
+                matbench.intersect(it)
+        with self.assertRaisesRegex(TypeError, "not a int"):
+            matbench.graph_description(3)
 
     def test_a_buffer_that_is_too_small_is_a_write_fault(self):
         ended = matbench.call(["show", "f"], {"f": PATH.encode()}, room=5)
@@ -305,6 +323,12 @@ class Graphs(unittest.TestCase):
             matbench.rooted_description(graph, 1)
         with self.assertRaises(TypeError):
             matbench.graph_description(networkx.DiGraph())
+        with self.assertRaisesRegex(TypeError, "graph_description"):
+            matbench.trees(graph, 1)
+        with self.assertRaisesRegex(ValueError, "no node 'x'"):
+            matbench.rooted_description(networkx.DiGraph([(1, 2)]), "x")
+        with self.assertRaisesRegex(ValueError, "no attribute 'colour'"):
+            matbench.coloured_description(graph)
 
 
 if __name__ == "__main__":
