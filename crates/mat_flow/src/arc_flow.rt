@@ -7,7 +7,6 @@ ghost use Rattle.mat_flow.specs.{
   LinkTables.{entry_at},
 };
 
-use crate::arc_path::ArcPath;
 use crate::arc_residual::ArcResidual;
 use crate::digraph::Digraph;
 use crate::link_table::{no_links, shift_along};
@@ -19,8 +18,8 @@ use std::alloc::{AllocError, Global};
 /// So many paths that share no arc, or the cut that shows that there are not so many.
 #[derive(Debug, Drop)]
 pub enum ArcAnswer {
-    /// Paths from the one vertex to the other: no arc stands in two of them, nor twice in one.
-    Paths(Vec<ArcPath>),
+    /// Paths from the one vertex to the other, by their arcs: no arc stands in two of them, nor twice in one.
+    Paths(Vec<Walk>),
     /// A vertex set with the end of the paths and without their start, that fewer live arcs enter.
     Cut(ElemSet),
 }
@@ -41,17 +40,6 @@ fn leaving_rows(
         rows.insert(arcs[*a as usize].0, *a)?;
     }
     Ok(rows)
-}
-
-// The walks of the line graph, as paths.
-fn as_arc_paths(alloc: Global, walks: Vec<Walk>) -> Result<Vec<ArcPath>, AllocError>
-    ensures { IfOk result (λ paths. paths.items ≡ walks.items) }
-{
-    let mut paths = Vec::with_capacity(alloc, walks.len())?;
-    for walk in walks {
-        paths.push(ArcPath::new(walk.into_vec()))?;
-    }
-    Ok(paths)
 }
 
 // The vertices but `from` and the heads of the arcs before reached ones.
@@ -127,6 +115,6 @@ pub fn arc_paths(
     }
     let after = after_table(alloc, count, &before)?;
     let all = ElemSet::all_below(alloc, count)?;
-    let walks = paths_among(alloc, &before, &after, all.as_slice())?;
-    Ok(ArcAnswer::Paths(as_arc_paths(alloc, walks)?))
+    let paths = paths_among(alloc, &before, &after, all.as_slice())?;
+    Ok(ArcAnswer::Paths(paths))
 }

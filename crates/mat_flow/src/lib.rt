@@ -7,7 +7,6 @@
 #![tactic(auto)]
 
 mod arc_flow;
-mod arc_path;
 mod arc_residual;
 mod digraph;
 pub mod laws;
@@ -24,7 +23,6 @@ mod turned_residual;
 mod walk;
 
 pub use arc_flow::{ArcAnswer, arc_paths};
-pub use arc_path::ArcPath;
 pub use digraph::Digraph;
 pub use link_table::{LinkTable, shift_along};
 pub use linker::Linker;

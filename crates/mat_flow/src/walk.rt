@@ -1,10 +1,10 @@
-//! Walks, seen as the list of their vertices.
+//! Walks, seen as the list of their vertices or of their arcs.
 ghost use Rattle.std.specs.{Prelude.{◌≡◌, ◌==◌, ◌<◌, length, slice_index}, Cmp.Lexicographic.{pointwise}, Cmp.Rules.{comparing}};
 ghost use Rattle.std.proofs.Common.{rules};
 
 use std::marker::Model;
 
-/// A walk along the arcs of a graph, by its vertices in order.
+/// A walk along the arcs of a graph, by its vertices or by its arcs in order.
 #[derive(Debug, Drop)]
 pub struct Walk {
     items: Vec<u32>,
@@ -33,21 +33,21 @@ impl Eq for Walk {
 }
 
 impl Walk {
-    /// The walk along these vertices. It takes no memory.
+    /// The walk along these vertices or arcs. It takes no memory.
     pub fn new(items: Vec<u32>) -> Walk
         ensures { result ≡ items.items }
     {
         Walk { items }
     }
 
-    /// How many vertices stand in the walk.
+    /// How many vertices or arcs stand in the walk.
     pub fn len(&self) -> usize
         ensures { result ≡ length self.now }
     {
         self.items.len()
     }
 
-    /// The vertex at place i.
+    /// The vertex or the arc at place i.
     pub fn get(&self, i: usize) -> u32
         requires { i < length self.now }
         ensures { result ≡ slice_index self.now i }
@@ -55,17 +55,10 @@ impl Walk {
         self.items[i]
     }
 
-    /// The vertices in order.
+    /// The vertices or the arcs in order.
     pub fn as_slice(&self) -> &[u32]
         ensures { result.now ≡ self.now }
     {
         self.items.as_slice()
-    }
-
-    /// The vertices in order. It takes no memory.
-    pub fn into_vec(self) -> Vec<u32>
-        ensures { result.items ≡ self }
-    {
-        self.items
     }
 }

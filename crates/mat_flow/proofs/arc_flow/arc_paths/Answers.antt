@@ -1,10 +1,9 @@
 -- Each turn adds a path along a walk of the residual graph, or what the search reached is a cut of as many arcs as there are paths; at the end the
 -- table is read as the paths.
-use Rattle.std.proofs.Common.{◌∙◌, ap, length, subst, sym, arith}
+use Rattle.std.proofs.Common.{◌∙◌, ap, length, subst, arith}
 use Rattle.mat_sets.specs.Graphs.{ends_of}
 use Rattle.mat_sets.specs.Sets.{all_below}
 use Rattle.mat_sets.proofs.Reach.{walk_differs}
-use Rattle.mat_flow.specs.ArcPaths.{AreArcPaths}
 use Rattle.mat_flow.specs.declared.arc_flow.ArcAnswer.TheVariants.{Paths, Cut}
 use Rattle.mat_flow.specs.LineGraphs.{arcs_from, arcs_to, line_arcs}
 use Rattle.mat_flow.proofs.ArcFlows.{cut_found, paths_found, HoldsPaths, HoldsPaths-own}
@@ -52,13 +51,12 @@ pub returns-clause-right : goal.returns-clause-right
 returns-clause-right c =
     let arcs = c.args.graph.now.arcs in
     let same = c.as_slice-arcs.ensures ∙ c.arcs.ensures.arcs in
-    subst (AreArcPaths (ends_of arcs) c.args.live.now c.args.from c.args.to c.args.want) (sym c.in_ok-as_arc_paths.ensures)
-    (paths_found arcs c.args.live.now c.args.from c.args.to c.args.want c.loop.counter c.loop.before.items c.deref-2.result.now c.deref-3.result.now
-    c.in_ok-after.after.items c.deref-4.result.now c.as_slice-2.result.now c.in_ok-walks.walks.items c.deref-2.ensures.value c.deref-3.ensures.value
+    paths_found arcs c.args.live.now c.args.from c.args.to c.args.want c.loop.counter c.loop.before.items c.deref-2.result.now c.deref-3.result.now
+    c.in_ok-after.after.items c.deref-4.result.now c.as_slice-2.result.now c.in_ok-paths.paths.items c.deref-2.ensures.value c.deref-3.ensures.value
     c.deref-4.ensures.value (c.as_slice-2.ensures.items ∙ c.in_ok-all.ensures.members ∙ ap (λ l. all_below (length l)) same)
-    c.loop.invariant (omega (arith, c.loop-test.false, c.loop.auto.counter-end)) c.in_ok-after.ensures c.in_ok-walks.ensures)
+    c.loop.invariant (omega (arith, c.loop-test.false, c.loop.auto.counter-end)) c.in_ok-after.ensures c.in_ok-paths.ensures
 
 pub returns-clause-cut : goal.returns-clause-cut
 returns-clause-cut c =
     no_paths_told (ends_of c.args.graph.now.arcs) c.args.live.now c.args.from c.args.to c.args.want c.args.graph.now.vertices
-    (Paths c.in_ok-as_arc_paths.field-0) c.as_slice.ensures.rises (returns-clause-right c)
+    (Paths c.in_ok-paths.paths) c.as_slice.ensures.rises (returns-clause-right c)
