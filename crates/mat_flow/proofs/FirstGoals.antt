@@ -1,15 +1,17 @@
 -- The search that ends at the first goal that it meets. What was found is told by the number of steps to it, which falls along the trace back;
 -- where no goal is met, what was found is closed among the live vertices.
-use Rattle.std.proofs.Common.{◌≡◌, ℕ, zero, suc, ◌+◌, ◌-◌, ◌<◌, ◌≤◌, Bool, true, false, not, ◌&&◌, ◌||◌, eqb, ltb, cond, List, [], ◌∷◌, ◌++◌, length, get_or, take, is_some, Option, Some, None, ◌⊎◌, inl, inr, refl, sym, ap, ◌∙◌, subst, arith}
+use Rattle.std.proofs.Common.{◌≡◌, ℕ, zero, suc, ◌+◌, ◌-◌, ◌<◌, ◌≤◌, Bool, true, false, not, ◌&&◌, ◌||◌, eqb, ltb, cond, List, [], ◌∷◌, ◌++◌, length, get_or, set, take, is_some, Option, Some, None, ◌⊎◌, inl, inr, refl, sym, ap, ◌∙◌, subst, arith}
 use Rattle.std.proofs.lemmas.Bool.{and_from, and_parts, both_ways, cases_Bool, cases_lt, eq-eqb, eqb-true, false_from_ne_true, false≢true, lt-ltb, or_cases, or_left, or_right}
 use Rattle.std.proofs.lemmas.List.{get_or_default, length_push}
 use Rattle.mat_sets.specs.Rounds.{AreTaken}
-use Rattle.mat_sets.specs.Sets.{all_below, is_member, with_one, AreDistinct, IsRising}
+use Rattle.mat_sets.specs.Search.{IsFirstFrom}
+use Rattle.mat_sets.specs.Sets.{all_below, is_member, with_one, without_one, AreDistinct, IsRising}
 use Rattle.mat_sets.specs.Walks.{IsReachedSet}
 use Rattle.mat_sets.proofs.Ground.{below_member, is_member-all_below, AllBelow-from_members, length-distinct_below}
 use Rattle.mat_sets.proofs.ListParts.{is_member-push, AreDistinct-append, AreDistinct-index}
 use Rattle.mat_sets.proofs.Members.{is_member-get_or, is_member-with_one, place_of_member, same_members}
 use Rattle.mat_sets.proofs.Reach.{reached_by_induction, reached_set_exists}
+use Rattle.mat_sets.proofs.Rounds.{AreTaken-more, AreTaken-rest}
 use Rattle.mat_sets.proofs.Steps.{is_member-take_more}
 use Rattle.mat_sets.proofs.Truths.{same_truth}
 use Rattle.mat_flow.specs.Seeking.{Comes, IsChain, IsFollowed, IsFreeWalk, IsShut, IsSpent, IsTake, IsTraced}
@@ -45,6 +47,44 @@ missed_more goal x found more none not_x v m out = elim (or_cases (is_member v m
   | inl old ↦ none v old out
   | inr same ↦ ap goal (eqb-true v x same) ∙ not_x
 ]
+
+pub last_found : (x : ℕ) (found : List ℕ) → is_member x (found ++ x ∷ []) ≡ true
+last_found x found = is_member-push x x found ∙ or_right (is_member x found) (eqb x x) (eq-eqb x x refl)
+
+-- the vertices below `from` that pass are found, with u before each, and none of them is a goal
+pub record IsTaking (n : ℕ) (test goal : ℕ → Bool) (u : ℕ) (live found before : List ℕ) (from : ℕ) (rest more after : List ℕ) : Type 0 where
+  pub within : from ≤ n
+  pub taken : AreTaken (λ x. ltb x from && test x) u live found before rest more after
+  pub missed : (v : ℕ) → is_member v more ≡ true → is_member v found ≡ false → goal v ≡ false
+  pub followed : IsFollowed live found more
+
+module _ (n : ℕ) (test goal : ℕ → Bool) (u : ℕ) (live found before : List ℕ) (from : ℕ) (rest more after : List ℕ)
+    (inside : (v : ℕ) → is_member v live ≡ true → v < n) (long : length before ≡ n) (t : IsTaking n test goal u live found before from rest more after)
+    (x : ℕ) (f : IsFirstFrom (λ v. is_member v rest && test v) from x) where
+  still_live : is_member x rest ≡ true
+  still_live = (and_parts _ _ f.passes).0
+
+  taken_below : x < n
+  taken_below = inside x (AreTaken-rest _ u live found before rest more after x t.taken still_live)
+
+  taken_more : AreTaken (λ v. ltb v (x + 1) && test v) u live found before (without_one rest x) (more ++ x ∷ []) (set after x u)
+  taken_more = AreTaken-more test u from x live found before rest more after t.taken f (let l = taken_below in let e = t.taken.long in omega (arith, long))
+
+  pub followed_more : IsFollowed live found (more ++ x ∷ [])
+  followed_more = IsFollowed-more _ u x live found before rest more after t.taken still_live t.followed
+
+  pub IsTaking-more : goal x ≡ false
+      → IsTaking n test goal u live found before (x + 1) (without_one rest x) (more ++ x ∷ []) (set after x u)
+  IsTaking-more miss = record {
+    within = (let l = taken_below in omega arith);
+    taken = taken_more;
+    missed = missed_more goal x found more t.missed miss;
+    followed = followed_more;
+  }
+
+  -- the first goal ends it
+  pub goal_taken : goal x ≡ true → IsTake test goal u live found before (without_one rest x) (more ++ x ∷ []) (set after x u) (Some x)
+  goal_taken hit = (taken_more, last_found x more, hit)
 
 -- ---- what was found
 
@@ -510,9 +550,6 @@ put_more x old live new vertices i l is so_far =
     turned e l o t h = grind arith
 
 -- the last one that is found
-pub last_found : (x : ℕ) (found : List ℕ) → is_member x (found ++ x ∷ []) ≡ true
-last_found x found = is_member-push x x found ∙ or_right (is_member x found) (eqb x x) (eq-eqb x x refl)
-
 -- ---- what the tests of the loop say
 
 pub none_is : (end : Option ℕ) (b : Bool) → is_some end ≡ not b → b ≡ true → end ≡ None
