@@ -74,45 +74,40 @@ module _ {arcs : List (ℕ × ℕ)} {sources : List ℕ} {target terminal : ℕ 
 
   -- ---- extensions over these parts
 
-  owner_extension : (m : ℕ) (part rest : List ℕ) → c.owner_front ++ c.at ∷ c.owner_rest ≡ part ++ m ∷ rest
-      → ((v : ℕ) → is_member v part ≡ true → is_member v c.owner_front ≡ true) → is_member more.end part ≡ false
-      → is_member m grown ≡ true → is_member m kept ≡ false
-      → Extended c.owner m part
-  owner_extension m part rest splits inside out from leaves = record {
-    is = IsRoute-extended more.routes terminal not_terminal c.owner m part rest
-        (subst (IsRoute arcs sources terminal c.owner) splits (owner_route family c)) from (λ v on. clear v m on from);
-    goal = family.goals c.owner c.owned;
+  extension : (e m : ℕ) (front part rest : List ℕ) → IsRoute arcs sources terminal e (part ++ m ∷ rest) → (target e || terminal e) ≡ true
+      → ((v : ℕ) → is_member v front ≡ true → is_member v (cut_vertices c) ≡ true)
+      → ((v : ℕ) → is_member v front ≡ true → eqb v more.end ≡ false → is_member v grown ≡ false)
+      → ((v : ℕ) → is_member v part ≡ true → is_member v front ≡ true) → is_member more.end part ≡ false
+      → is_member m grown ≡ true → is_member m kept ≡ false → Extended e m part
+  extension e m front part rest is goal cut off inside out from leaves = record {
+    is = IsRoute-extended more.routes terminal not_terminal e m part rest is from (λ v on. clear v m on from);
+    goal = goal;
     from = from;
     leaves = leaves;
     clear = clear;
   }
     where
       clear : (v f : ℕ) → is_member v part ≡ true → is_member f grown ≡ true → is_member v (more.route f) ≡ false
-      clear v f on = terminal_missed more.routes terminal not_terminal v f
-          (or_right (terminal v) _ (is_member-left v c.owner_front (c.at ∷ c.front) (inside v on)))
-          (owner_front_off v (inside v on) (member_differs v more.end part on out))
+      clear v f on = terminal_missed more.routes terminal not_terminal v f (or_right (terminal v) _ (cut v (inside v on)))
+          (off v (inside v on) (member_differs v more.end part on out))
+
+  owner_extension : (m : ℕ) (part rest : List ℕ) → c.owner_front ++ c.at ∷ c.owner_rest ≡ part ++ m ∷ rest
+      → ((v : ℕ) → is_member v part ≡ true → is_member v c.owner_front ≡ true) → is_member more.end part ≡ false
+      → is_member m grown ≡ true → is_member m kept ≡ false → Extended c.owner m part
+  owner_extension m part rest splits =
+      extension c.owner m c.owner_front part rest (subst (IsRoute arcs sources terminal c.owner) splits (owner_route family c))
+      (family.goals c.owner c.owned) (λ v. is_member-left v c.owner_front (c.at ∷ c.front)) owner_front_off
 
   found_extension : (m : ℕ) (part rest : List ℕ) → c.front ++ c.at ∷ c.rest ≡ part ++ m ∷ rest
       → ((v : ℕ) → is_member v part ≡ true → is_member v c.front ≡ true) → is_member more.end part ≡ false
-      → is_member m grown ≡ true → is_member m kept ≡ false
-      → Extended c.end m part
-  found_extension m part rest splits inside out from leaves = record {
-    is = IsRoute-extended more.routes terminal not_terminal c.end m part rest
-        (subst (IsRoute arcs sources terminal c.end) splits found_is) from (λ v on. clear v m on from);
-    goal = c.reaches;
-    from = from;
-    leaves = leaves;
-    clear = clear;
-  }
+      → is_member m grown ≡ true → is_member m kept ≡ false → Extended c.end m part
+  found_extension m part rest splits =
+      extension c.end m c.front part rest (subst (IsRoute arcs sources terminal c.end) splits found_is) c.reaches
+      (λ v on. is_member-right v c.owner_front (c.at ∷ c.front) (is_member-tail v c.at c.front on)) front_off
     where
       found_is : IsRoute arcs sources terminal c.end (c.front ++ c.at ∷ c.rest)
       found_is = let f = c.found in
           record { begins = f.begins; leads = f.leads; distinct = f.distinct; inner = λ v on other. (or_parts (target v) _ (f.inner v on other)).1 }
-
-      clear : (v f : ℕ) → is_member v part ≡ true → is_member f grown ≡ true → is_member v (more.route f) ≡ false
-      clear v f on = terminal_missed more.routes terminal not_terminal v f
-          (or_right (terminal v) _ (is_member-right v c.owner_front (c.at ∷ c.front) (is_member-tail v c.at c.front (inside v on))))
-          (front_off v (inside v on) (member_differs v more.end part on out))
 
   -- ---- the three cases
 
