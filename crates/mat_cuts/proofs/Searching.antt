@@ -1,5 +1,5 @@
 -- The whole search: the path and the listed sets together, from the start to the end.
-use Rattle.std.proofs.Common.{◌≡◌, ◌≢◌, ℕ, suc, ◌+◌, ◌*◌, ◌<◌, ◌≤◌, ◌⊎◌, true, false, not, ◌&&◌, eqb, ltb, List, [], ◌∷◌, ◌++◌, length, inl, inr, refl, sym, ap, ◌∙◌, subst, arith, ℤ, pos, ◌+ℤ◌, ◌≤ℤ◌, ◌<ℤ◌, length-append, All}
+use Rattle.std.proofs.Common.{◌≡◌, ◌≢◌, ℕ, suc, ◌+◌, ◌*◌, ◌<◌, ◌≤◌, ◌⊎◌, true, false, not, ◌&&◌, eqb, ltb, List, [], ◌∷◌, ◌++◌, length, inl, inr, refl, sym, ap, ◌∙◌, subst, arith, ℤ, pos, ◌+ℤ◌, ◌≤ℤ◌, ◌<ℤ◌, length-append, All, Option, Some}
 use Rattle.std.proofs.lemmas.Bool.{and_from, and_parts, both_ways, cases_Bool, cases_eq, cases_lt, eq-eqb, eqb-true, false_from_ne_true, lt-ltb, ltb-true, ne_eqb}
 use Rattle.std.proofs.lemmas.Int.{ints}
 use Rattle.std.proofs.lemmas.List.Elements.{All-get_or}
@@ -13,7 +13,7 @@ use Rattle.mat_sets.proofs.Ground.{is_member-all_below, length-all_below, IsRisi
 use Rattle.mat_sets.proofs.Members.{is_member-without_one, some_from_member}
 use Rattle.mat_sets.proofs.Search.{is_member-those_below, IsSet-those_below}
 use Rattle.mat_cuts.specs.Cuts.{weight_where}
-use Rattle.mat_cuts.specs.Listing.{IsBegun, IsFollowed, IsPaid, IsSpent}
+use Rattle.mat_cuts.specs.Listing.{IsBegun, IsFollowed, IsPaid, TellsSpent}
 use Rattle.mat_cuts.specs.declared.growing.Raised.{Raised}
 use Rattle.mat_cuts.specs.declared.joining.Path.{Path}
 use Rattle.mat_cuts.specs.Raising.{at, comes, falls, IsFirstTime, IsLeast, IsLowered, IsPath, IsRaised, Leads}
@@ -325,14 +325,15 @@ module _ (vertices : ℕ) (arcs : List (ℕ × ℕ)) (graph : IsGraph vertices a
         )
 
     -- a path begins where there is none, the last set is paid for, and its arc is followed back
-    pub IsSearching-turn : (before after : Raised) (start begun next : Path) (a : ℕ) → vertices ≤ vertex_bound
+    pub IsSearching-turn : (before after : Raised) (start begun next : Path) (a : ℕ) (found : Option ℕ) → vertices ≤ vertex_bound
         → IsSearching vertices arcs costs root before.reduced.items before.since.items before.cuts.items start.place.items start.fresh start.last
         → 2 * length start.fresh + start.last + length before.cuts.items + 1 ≤ 2 * vertices
-        → IsBegun start begun true → IsSpent arcs begun.place.items begun.last before after a → IsFollowed (ends_of arcs a).0 begun next
+        → IsBegun start begun true → found ≡ Some a → TellsSpent arcs begun.place.items begun.last before after found → IsFollowed (ends_of arcs a).0 begun next
         → IsSearching vertices arcs costs root after.reduced.items after.since.items after.cuts.items next.place.items next.fresh next.last
         × (2 * length next.fresh + next.last + length after.cuts.items + 1 ≤ 2 * vertices)
         × (2 * length next.fresh + next.last < 2 * length start.fresh + start.last)
-    IsSearching-turn before after start begun next a small s spare b spent f =
+    IsSearching-turn before after start begun next a found small s spare b is told f =
+        let spent = subst (TellsSpent arcs begun.place.items begun.last before after) is told in
         let begins = IsSearching-begun before.reduced.items before.since.items before.cuts.items start begun s b in
         let less = begins.2 in
         let paid = IsSearching-paid before after begun.place.items begun.fresh begun.last a begins.0 begins.1 (omega arith) (omega arith) spent.least spent.paid in

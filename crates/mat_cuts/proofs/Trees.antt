@@ -82,6 +82,12 @@ pub record LeavesFirst (count : ℕ) (ends : ℕ → ℕ × ℕ) (since reached 
   pub head : is_member (ends a).1 reached ≡ false
   pub first : (b : ℕ) → b < count → is_member (ends b).0 reached ≡ true → is_member (ends b).1 reached ≡ false → at since a ≤ at since b
 
+-- the timed arcs, by what was read
+pub timed-is : (count : ℕ) (since read timed those : List ℕ) → those ≡ timed → timed ≡ those_below (length read) (is_timed read) → read ≡ since
+    → length since ≡ count → those ≡ those_below count (is_timed since)
+timed-is count since read timed those e t same long =
+    e ∙ t ∙ ap (λ s. those_below (length s) (is_timed s)) same ∙ ap (λ n. those_below n (is_timed since)) long
+
 -- the earliest of the timed arcs
 LeavesFirst-earliest : (count : ℕ) (ends : ℕ → ℕ × ℕ) (since reached timed : List ℕ) (a : ℕ) → timed ≡ those_below count (is_timed since)
     → IsEarliest ends since timed reached a → LeavesFirst count ends since reached a

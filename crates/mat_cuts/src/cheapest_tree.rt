@@ -91,8 +91,7 @@ fn spend(
     requires places { length path.now.place.items < never }
     ensures { IfOk result (TellsSpent arcs.now path.now.place.items path.now.last raised.old raised.new) }
 {
-    let place = path.place.as_slice();
-    let coming = arcs_coming(alloc, arcs, place, path.last)?;
+    let coming = arcs_coming(alloc, arcs, path)?;
     let entering = coming.as_slice();
     let reduced = raised.reduced.as_slice();
     let Some(a) = least_of(entering, reduced) else {

@@ -3,6 +3,7 @@ ghost use Rattle.std.specs.Prelude.{◌≡◌, ◌<◌, ◌≤ℤ◌, ℕ, lengt
 ghost use Rattle.mat_sets.specs.{Graphs.{ends_of, IsGraph}, Search.{those_below}, Sets.{is_member, IsSet}};
 ghost use Rattle.mat_cuts.specs.{Costs.{cost_at, IsWideCost}, Raising.{at, comes, IsFirstTime, IsLowered, TellsLeastOf}};
 
+use crate::joining::Path;
 use std::alloc::{AllocError, Global};
 
 /// The time of an arc that is not spent.
@@ -24,16 +25,16 @@ pub(crate) fn first_times(alloc: Global, costs: &[i128]) -> Result<Vec<u32>, All
 pub(crate) fn arcs_coming(
     alloc: Global,
     arcs: &[(u32, u32)],
-    place: &[u32],
-    last: u32,
+    path: &Path,
 ) -> Result<Vec<u32>, AllocError>
-    requires { IsGraph (length place.now) arcs.now }
-    ensures { IfOk result (λ coming. coming.items ≡ those_below (length arcs.now) (comes (ends_of arcs.now) place.now last)) }
+    requires { IsGraph (length path.now.place.items) arcs.now }
+    ensures { IfOk result (λ coming. coming.items ≡ those_below (length arcs.now)
+        (comes (ends_of arcs.now) path.now.place.items path.now.last)) }
 {
     let mut coming = Vec::new(alloc);
     for a in 0..arcs.len() {
         let (tail, head) = arcs[a];
-        if place[head as usize] == last && place[tail as usize] != last {
+        if path.place[head as usize] == path.last && path.place[tail as usize] != path.last {
             coming.push(a as u32)?;
         }
     }

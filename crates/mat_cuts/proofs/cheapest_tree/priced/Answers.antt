@@ -25,23 +25,16 @@ begin-requires-clause-few c = (let s = c.search.invariant.spare in let f = c.req
 
 pub search-preserved : goal.search-preserved
 search-preserved c =
-    let arcs = c.args.arcs.now in
-    let begun = c.begin.new.path in
-    let raised = c.search.raised in
-    let told = subst (TellsSpent arcs begun.place.items begun.last raised c.spend.new.raised) c.in-Some.is c.in_ok-spent.ensures in
-    let turn = IsSearching-turn c.args.vertices arcs c.requires.graph c.args.costs.now c.args.root raised c.spend.new.raised c.search.path begun
-    c.follow.new.path c.in-Some.a c.requires.few c.search.invariant.searching c.search.invariant.spare c.if-not-begin.ensures told c.follow.ensures in
+    let turn = IsSearching-turn c.args.vertices c.args.arcs.now c.requires.graph c.args.costs.now c.args.root c.search.raised c.spend.new.raised
+    c.search.path c.begin.new.path c.follow.new.path c.in-Some.a _ c.requires.few c.search.invariant.searching c.search.invariant.spare
+    c.if-not-begin.ensures c.in-Some.is c.in_ok-spent.ensures c.follow.ensures in
     record { searching = turn.0; spare = turn.1 }
 
 pub search-smaller : goal.search-smaller
 search-smaller c =
-    let arcs = c.args.arcs.now in
-    let begun = c.begin.new.path in
-    let raised = c.search.raised in
-    let told = subst (TellsSpent arcs begun.place.items begun.last raised c.spend.new.raised) c.in-Some.is c.in_ok-spent.ensures in
-    let turn = IsSearching-turn c.args.vertices arcs c.requires.graph c.args.costs.now c.args.root raised c.spend.new.raised c.search.path begun
-    c.follow.new.path c.in-Some.a c.requires.few c.search.invariant.searching c.search.invariant.spare c.if-not-begin.ensures told c.follow.ensures in
-    turn.2
+    (IsSearching-turn c.args.vertices c.args.arcs.now c.requires.graph c.args.costs.now c.args.root c.search.raised c.spend.new.raised
+    c.search.path c.begin.new.path c.follow.new.path c.in-Some.a _ c.requires.few c.search.invariant.searching c.search.invariant.spare
+    c.if-not-begin.ensures c.in-Some.is c.in_ok-spent.ensures c.follow.ensures).2
 
 pub search-init : goal.search-init
 search-init c =

@@ -2,7 +2,6 @@
 -- of them pays; where there are none, no arc enters the set.
 use Rattle.std.proofs.Common.{◌∙◌, length, ap, subst, sym, arith}
 use Rattle.mat_sets.specs.Graphs.{ends_of}
-use Rattle.mat_sets.specs.Search.{those_below}
 use Rattle.mat_sets.specs.Sets.{is_member, IsSet}
 use Rattle.mat_cuts.specs.Raising.{comes, IsLeastOf, TellsLeastOf}
 use Rattle.mat_cuts.proofs.Loops.{those-is, those-set, IsLeast-of, IsPaid-same}
@@ -10,23 +9,14 @@ use Rattle.mat_cuts.proofs.cheapest_tree.spend.Goals as goal
 
 pub least_of-requires : goal.least_of-requires
 least_of-requires c =
-    let arcs = c.args.arcs.now in
-    let last = c.args.path.now.last in
-    let entering = c.as_slice-entering.result.now in
-    let test = comes (ends_of arcs) c.args.path.now.place.items last in
-    let those = c.as_slice-entering.ensures.value ∙ c.in_ok-coming.ensures
-    ∙ ap (λ p. those_below (length arcs) (comes (ends_of arcs) p last)) c.as_slice-place.ensures.value in
-    subst (λ n. IsSet n entering) (sym (ap length c.as_slice-reduced.ensures.value ∙ c.requires.reduced)) (those-set (length arcs) test entering those)
+    let same = ap length c.as_slice-reduced.ensures.value ∙ c.requires.reduced in
+    subst (λ n. IsSet n c.as_slice-entering.result.now) (sym same)
+    (those-set _ _ c.as_slice-entering.result.now (c.as_slice-entering.ensures.value ∙ c.in_ok-coming.ensures))
 
 pub pay-requires-clause-set : goal.pay-requires-clause-set
 pay-requires-clause-set c =
-    let arcs = c.args.arcs.now in
-    let last = c.args.path.now.last in
-    let entering = c.as_slice-entering.result.now in
-    let test = comes (ends_of arcs) c.args.path.now.place.items last in
-    let those = c.as_slice-entering.ensures.value ∙ c.in_ok-coming.ensures
-    ∙ ap (λ p. those_below (length arcs) (comes (ends_of arcs) p last)) c.as_slice-place.ensures.value in
-    subst (λ n. IsSet n entering) (sym c.requires.reduced) (those-set (length arcs) test entering those)
+    subst (λ n. IsSet n c.as_slice-entering.result.now) (sym c.requires.reduced)
+    (those-set _ _ c.as_slice-entering.result.now (c.as_slice-entering.ensures.value ∙ c.in_ok-coming.ensures))
 
 pub pay-requires-clause-least : goal.pay-requires-clause-least
 pay-requires-clause-least c =
@@ -36,30 +26,23 @@ pay-requires-clause-least c =
 
 pub returns-in_default : goal.returns-in_default
 returns-in_default c = λ b l.
-    let arcs = c.args.arcs.now in
-    let last = c.args.path.now.last in
     let entering = c.as_slice-entering.result.now in
-    let test = comes (ends_of arcs) c.args.path.now.place.items last in
-    let those = c.as_slice-entering.ensures.value ∙ c.in_ok-coming.ensures
-    ∙ ap (λ p. those_below (length arcs) (comes (ends_of arcs) p last)) c.as_slice-place.ensures.value in
     let none = subst (TellsLeastOf entering c.as_slice-reduced.result.now) c.in_default.is c.least_of.ensures in
-    sym (those-is (length arcs) test entering those b l) ∙ ap (is_member b) none
+    sym (those-is _ _ entering (c.as_slice-entering.ensures.value ∙ c.in_ok-coming.ensures) b l) ∙ ap (is_member b) none
 
 pub returns : goal.returns
 returns c =
     let arcs = c.args.arcs.now in
-    let place = c.args.path.now.place.items in
-    let last = c.args.path.now.last in
+    let path = c.args.path.now in
     let before = c.args.raised.now in
     let a = c.in-Some.a in
     let entering = c.as_slice-entering.result.now in
-    let test = comes (ends_of arcs) place last in
-    let those = c.as_slice-entering.ensures.value ∙ c.in_ok-coming.ensures
-    ∙ ap (λ p. those_below (length arcs) (comes (ends_of arcs) p last)) c.as_slice-place.ensures.value in
+    let test = comes (ends_of arcs) path.place.items path.last in
+    let those = c.as_slice-entering.ensures.value ∙ c.in_ok-coming.ensures in
     let least = subst (λ r. IsLeastOf entering r a) c.as_slice-reduced.ensures.value
     (subst (TellsLeastOf entering c.as_slice-reduced.result.now) c.in-Some.is c.least_of.ensures) in
     record {
       least = IsLeast-of (length arcs) test entering before.reduced.items a those least;
-      paid = IsPaid-same (λ b. is_member b entering) test place last a before c.pay.new.raised
+      paid = IsPaid-same (λ b. is_member b entering) test path.place.items path.last a before c.pay.new.raised
           (λ b l. those-is (length arcs) test entering those b (let same = c.requires.reduced in omega arith)) c.in_ok-pay.ensures;
     }

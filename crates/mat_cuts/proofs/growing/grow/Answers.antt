@@ -4,11 +4,10 @@ use Rattle.std.proofs.Common.{◌∙◌, suc, length, ap, subst, arith}
 use Rattle.std.proofs.lemmas.Bool.{ltb-true}
 use Rattle.mat_cuts.specs.Limits.{never}
 use Rattle.mat_sets.specs.Graphs.{ends_of}
-use Rattle.mat_sets.specs.Search.{those_below}
 use Rattle.mat_cuts.specs.Growing.{is_timed, TellsEarliest}
 use Rattle.mat_cuts.specs.Raising.{at}
 use Rattle.mat_cuts.proofs.Loops.{those-passes, those-set}
-use Rattle.mat_cuts.proofs.Trees.{some_leaves, IsGrowing-cost, IsGrowing-first, IsGrowing-next, IsGrowing-spans}
+use Rattle.mat_cuts.proofs.Trees.{some_leaves, timed-is, IsGrowing-cost, IsGrowing-first, IsGrowing-next, IsGrowing-spans}
 use Rattle.mat_cuts.proofs.growing.grow.Goals as goal
 
 pub timed_arcs-requires : goal.timed_arcs-requires
@@ -31,15 +30,13 @@ earliest-requires-clause-long c = ap length c.as_slice-since.ensures.value ∙ c
 pub earliest-requires-clause-set : goal.earliest-requires-clause-set
 earliest-requires-clause-set c =
     let since = c.args.raised.now.since.items in
-    let those = c.deref.ensures.value ∙ c.in_ok-timed.ensures ∙ ap (λ s. those_below (length s) (is_timed s)) c.as_slice-since.ensures.value
-    ∙ ap (λ n. those_below n (is_timed since)) c.requires.raised.since_long in
+    let those = timed-is _ since _ _ _ c.deref.ensures.value c.in_ok-timed.ensures c.as_slice-since.ensures.value c.requires.raised.since_long in
     those-set (length c.args.arcs.now) (is_timed since) c.deref.result.now those
 
 pub earliest-requires-clause-timed : goal.earliest-requires-clause-timed
 earliest-requires-clause-timed c = λ a m.
     let since = c.args.raised.now.since.items in
-    let those = c.deref.ensures.value ∙ c.in_ok-timed.ensures ∙ ap (λ s. those_below (length s) (is_timed s)) c.as_slice-since.ensures.value
-    ∙ ap (λ n. those_below n (is_timed since)) c.requires.raised.since_long in
+    let those = timed-is _ since _ _ _ c.deref.ensures.value c.in_ok-timed.ensures c.as_slice-since.ensures.value c.requires.raised.since_long in
     let early = ltb-true (at since a) never (those-passes (length c.args.arcs.now) (is_timed since) c.deref.result.now those a m) in
     let read = ap (λ s. at s a) c.as_slice-since.ensures.value in
     omega arith
@@ -48,8 +45,7 @@ pub unreachable-requires : goal.unreachable-requires
 unreachable-requires c =
     let arcs = c.args.arcs.now in
     let since = c.args.raised.now.since.items in
-    let those = c.deref.ensures.value ∙ c.in_ok-timed.ensures ∙ ap (λ s. those_below (length s) (is_timed s)) c.as_slice-since.ensures.value
-    ∙ ap (λ n. those_below n (is_timed since)) c.requires.raised.since_long in
+    let those = timed-is _ since _ _ _ c.deref.ensures.value c.in_ok-timed.ensures c.as_slice-since.ensures.value c.requires.raised.since_long in
     let tells = subst (TellsEarliest (ends_of arcs) c.as_slice-since.result.now c.deref.result.now c.loop.reached) c.in_default.is c.earliest.ensures in
     some_leaves c.args.vertices arcs c.args.costs.now c.args.root c.args.raised.now.cuts.items since c.deref.result.now c.loop.reached c.loop.tree
     (length c.args.raised.now.cuts.items) c.requires.few those c.requires.leads c.loop.invariant.grows
@@ -59,8 +55,7 @@ pub loop-preserved : goal.loop-preserved
 loop-preserved c =
     let arcs = c.args.arcs.now in
     let since = c.args.raised.now.since.items in
-    let those = c.deref.ensures.value ∙ c.in_ok-timed.ensures ∙ ap (λ s. those_below (length s) (is_timed s)) c.as_slice-since.ensures.value
-    ∙ ap (λ n. those_below n (is_timed since)) c.requires.raised.since_long in
+    let those = timed-is _ since _ _ _ c.deref.ensures.value c.in_ok-timed.ensures c.as_slice-since.ensures.value c.requires.raised.since_long in
     let early = subst (TellsEarliest (ends_of arcs) c.as_slice-since.result.now c.deref.result.now c.loop.reached) c.in-Some.is c.earliest.ensures in
     let next = IsGrowing-next c.args.vertices arcs c.args.costs.now c.args.root c.args.raised.now.cuts.items c.args.raised.now.reduced.items
     since c.as_slice-since.result.now c.deref.result.now c.loop.reached c.loop.tree c.insert-in-loop.new.self c.add.new.self c.in-Some.a
