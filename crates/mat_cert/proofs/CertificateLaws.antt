@@ -15,12 +15,12 @@ use Rattle.mat_words.proofs.ReadingSteps.{found-same, bind_found}
 use Rattle.mat_words.proofs.WordReading.{numerals_words, weights_words}
 use Rattle.mat_words.proofs.LineLemmas.{same_text}
 use Rattle.mat_words.proofs.LineReading.{AreLeft, keyed_again}
-use Rattle.mat_cert.specs.declared.refusal.CertRefusal.{CertRefusal}
-use Rattle.mat_cert.specs.declared.refusal.CertRefusal.TheVariants as refusals
+use Rattle.mat_words.specs.Reading.{Gives}
+use Rattle.mat_words.specs.declared.refusal.Refusal.TheVariants as refusals
 use Rattle.mat_cert.specs.Certificates as certificates
 use Rattle.mat_cert.specs.Certificates.{Certificate, IsRanged, certificate_lines, certificate_text, header_line, last_rung, version_line}
 use Rattle.mat_cert.specs.Certificates.{level_line, option_lines, sets_lines, rungs_lines, plain_rung_lines, priced_rung_lines}
-use Rattle.mat_cert.specs.Faults.{Fault, Gives}
+use Rattle.mat_cert.specs.Faults.{CertRefusal, Fault}
 use Rattle.mat_cert.specs.LineReading.{version_at}
 use Rattle.mat_cert.specs.Reading.{answer_of_command, answer_at, certificate_at, read_of}
 use Rattle.mat_cert.proofs.WordLaws.{word_read}

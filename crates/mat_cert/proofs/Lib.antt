@@ -1,7 +1,6 @@
 pub mod LineTexts
 pub mod Lengths
 pub mod PrintedLengths
-pub mod Told
 pub mod WordCounts
 pub mod MemberLists
 pub mod RungLists

@@ -18,19 +18,18 @@ use Rattle.mat_words.specs.Reading.{is_closed}
 use Rattle.mat_words.specs.Reading as any_text
 use Rattle.mat_words.proofs.NumberLemmas.{numeral_word}
 use Rattle.mat_words.proofs.WeightLemmas.{weight_word-word}
-use Rattle.mat_words.proofs.ReadingSteps.{found-same, bind_found, test_found}
+use Rattle.mat_words.proofs.ReadingSteps.{found-same, bind_found, test_found, told_found}
 use Rattle.mat_words.proofs.WordReading.{weight_at_again, weights_found, weights_again, numerals_words, weights_words}
 use Rattle.mat_words.proofs.LineReading.{AreLeft, keyed_found, keyed_again, known_line, closed_left}
 use Rattle.mat_cert.specs.declared.answer.LevelLine.{LevelLine}
 use Rattle.mat_cert.specs.declared.refusal.CertKind.TheVariants.{AfterEnd}
-use Rattle.mat_cert.specs.Faults.{Fault}
+use Rattle.mat_cert.specs.Faults.{Fault, kind_of}
 use Rattle.mat_sets.specs.Limits.{largest_number}
 use Rattle.mat_cert.specs.Certificates.{IsCertificateWeight, IsRangedLevel, IsRangedOption, IsRangedPart, level_line, option_lines, rung_line}
 use Rattle.mat_cert.specs.Certificates.{version_line}
 use Rattle.mat_cert.specs.LineReading.{fixed_at, has_words, number_at, weight_at, weights_at, members_from, keyed_at, counted_at}
 use Rattle.mat_cert.specs.LineReading.{version_at, set_at, option_at, counted_set_at, part_at, level_at, end_at, closed_at}
 use Rattle.mat_cert.specs.Reading.{rung_at}
-use Rattle.mat_cert.proofs.Told.{told_found}
 use Rattle.mat_cert.proofs.WordLaws.{has_words_found, has_words_again, whole_line, then_words, fixed_found, fixed_again, exact_found, exact_again}
 use Rattle.mat_cert.proofs.WordLaws.{weight_read, set_members_found, set_members_again}
 
@@ -46,7 +45,7 @@ IsReadAgain reading x rest = (q : LinesLeft) × (reading ≡ Ok (x, q)) × AreLe
 -- the line of a keyword that was read
 pub line_read : (key : List ℕ) (p : LinesLeft) (x : WordsLeft × LinesLeft) → keyed_at key p ≡ Ok x → (rest : List Line) → AreLeft rest x.1
     → AreLeft ((key ∷ x.0.words) ∷ rest) p
-line_read key p x e = keyed_found key p x.0 x.1 (told_found (any_text.keyed_at key p) x e)
+line_read key p x e = keyed_found key p x.0 x.1 (told_found kind_of (any_text.keyed_at key p) x e)
 
 -- ---- a keyword and as many words
 
@@ -194,7 +193,7 @@ part_found key n p part q e =
     let low = neg_ℤ (pos largest_number) in
     let high = pos largest_number in
     let read = weights_found low high n line.0.0 weights.0.0 weights.0.1
-    (told_found (any_text.weights_at low high n line.0.0) weights.0 weights.1) in
+    (told_found kind_of (any_text.weights_at low high n line.0.0) weights.0 weights.1) in
     let counted = counted_found key n p line.0.0 line.0.1 line.1 in
     let words = whole_line (map weight_word weights.0.0) weights.0.1.words line.0.0.words read.cut
     (counted.count ∙ sym (length-map weights.0.0 weight_word ∙ read.count)) in

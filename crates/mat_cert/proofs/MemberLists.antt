@@ -9,9 +9,9 @@ use Rattle.mat_words.specs.Numbers.{numeral}
 use Rattle.mat_words.specs.Cursors.{WordsLeft}
 use Rattle.mat_words.specs.Steps.{◌>>=◌}
 use Rattle.mat_cert.specs.declared.refusal.CertKind.TheVariants.{NotRising}
-use Rattle.mat_cert.specs.declared.refusal.CertRefusal.{CertRefusal}
-use Rattle.mat_cert.specs.declared.refusal.CertRefusal.TheVariants as refusals
-use Rattle.mat_cert.specs.Faults.{Fault, Fails}
+use Rattle.mat_words.specs.Reading.{Fails}
+use Rattle.mat_words.specs.declared.refusal.Refusal.TheVariants as refusals
+use Rattle.mat_cert.specs.Faults.{CertRefusal, Fault}
 use Rattle.mat_cert.specs.LineReading.{below_at, members_from}
 use Rattle.mat_cert.proofs.WordLaws.{below_read}
 

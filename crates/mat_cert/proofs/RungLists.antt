@@ -1,14 +1,13 @@
--- Rungs, and other items, that are read one after the other, as a loop reads them: those so far, in front of those that are still read, are
+-- Rungs that are read one after the other, as a loop reads them: those so far, in front of those that are still read, are
 -- those that are read in all.
 use Rattle.std.proofs.Common.{◌≡◌, ℕ, suc, ◌-◌, ◌+◌, ◌≤◌, ◌<◌, List, [], ◌∷◌, ◌++◌, Result, Ok, Err}
 use Rattle.std.proofs.Common.{refl, sym, ap, ◌∙◌, arith}
 use Rattle.std.proofs.lemmas.List.{append-nil}
 use Rattle.mat_words.specs.Cursors.{LinesLeft}
-use Rattle.mat_words.specs.Steps.{repeat_at}
-use Rattle.mat_words.proofs.Repeats.{with_front, with_front-cons, repeat_fails}
-use Rattle.mat_cert.specs.declared.refusal.CertRefusal.{CertRefusal}
-use Rattle.mat_cert.specs.declared.refusal.CertRefusal.TheVariants as refusals
-use Rattle.mat_cert.specs.Faults.{Fault, Fails}
+use Rattle.mat_words.proofs.Repeats.{with_front, with_front-cons}
+use Rattle.mat_words.specs.Reading.{Fails}
+use Rattle.mat_words.specs.declared.refusal.Refusal.TheVariants as refusals
+use Rattle.mat_cert.specs.Faults.{CertRefusal, Fault}
 use Rattle.mat_cert.specs.Reading.{rungs_at}
 
 -- rungs i and on are still read, behind those in front
@@ -49,11 +48,3 @@ rungs_done {R} reader front count i s total le so_far =
     let left : count - i ≡ 0 = omega arith in
     let step : rungs_left reader front count i s ≡ Ok (front, s) = rw left (ap (λ (items : List R). Ok (items, s)) (append-nil front)) in
     sym so_far ∙ step
-
--- the next of as many items fails
-pub items_fail : {A : Type 0} (reader : LinesLeft → Result (A × LinesLeft) Fault) (refusal : CertRefusal) (front : List A) (count i : ℕ)
-    (s : LinesLeft) (total : Result (List A × LinesLeft) Fault)
-    → i < count → Fails refusal (reader s) → with_front front (repeat_at reader (count - i) s) ≡ total → Fails refusal total
-items_fail reader refusals.Memory front count i s total lt failed so_far = tt
-items_fail reader (refusals.Fault kind line) front count i s total lt failed so_far =
-    repeat_fails reader (kind, line) front count i s total lt failed so_far

@@ -12,13 +12,13 @@ use Rattle.mat_words.specs.Numbers.{numerals, numeral}
 use Rattle.mat_words.specs.Cursors.{WordsLeft}
 use Rattle.mat_words.specs.Steps.{◌>>=◌}
 use Rattle.mat_words.specs.Reading as any_text
-use Rattle.mat_words.proofs.ReadingSteps.{found-same, bind_found, test_found, refused_found}
+use Rattle.mat_words.proofs.ReadingSteps.{found-same, bind_found, test_found, refused_found, told_found, told_again}
 use Rattle.mat_words.proofs.WordReading.{IsSizeRead, IsBelowRead, IsWeightRead, word_found, number_found, number_at_again, size_found}
 use Rattle.mat_words.proofs.WordReading.{below_found, below_again, weight_found}
+use Rattle.mat_cert.specs.Faults.{kind_of}
 use Rattle.mat_cert.specs.declared.refusal.CertKind.TheVariants.{NotRising, UnknownWord, WrongCount}
 use Rattle.mat_sets.specs.Limits.{largest_number}
 use Rattle.mat_cert.specs.LineReading.{word_at, fixed_at, has_words, number_at, size_at, below_at, weight_at, members_from}
-use Rattle.mat_cert.proofs.Told.{told_found, told_again}
 
 -- ---- counted words
 
@@ -45,7 +45,7 @@ then_words {word} cut next = cut ∙ ap (λ (t : List (List ℕ)). word ∷ t) n
 -- ---- one word
 
 pub word_read : (w : WordsLeft) (word : List ℕ) (q : WordsLeft) → word_at w ≡ Ok (word, q) → w.words ≡ word ∷ q.words
-word_read w word q e = word_found w word q (told_found (any_text.word_at w) (word, q) e)
+word_read w word q e = word_found w word q (told_found kind_of (any_text.word_at w) (word, q) e)
 
 -- the word that had to be this one
 pub fixed_found : (word : List ℕ) (w q : WordsLeft) → fixed_at word w ≡ Ok q → w.words ≡ word ∷ q.words
@@ -70,7 +70,7 @@ fixed_again word n words =
 pub exact_found : (k : ℕ) (w : WordsLeft) (z : ℤ) (q : WordsLeft) → number_at (pos k) (pos k) w ≡ Ok (z, q)
     → w.words ≡ numeral (pos k) ∷ q.words
 exact_found k w z q e =
-    let read = number_found (pos k) (pos k) w z q (told_found (any_text.number_at (pos k) (pos k) w) (z, q) e) in
+    let read = number_found (pos k) (pos k) w z q (told_found kind_of (any_text.number_at (pos k) (pos k) w) (z, q) e) in
     let same : z ≡ pos k = one z k read.least read.most in
     subst (λ (y : ℤ). w.words ≡ numeral y ∷ q.words) same read.cut
   where
@@ -80,22 +80,22 @@ exact_found k w z q e =
 pub exact_again : (k n : ℕ) (words : List (List ℕ))
     → number_at (pos k) (pos k) (record { line = n; words = numeral (pos k) ∷ words }) ≡ Ok (pos k, record { line = n; words = words })
 exact_again k n words =
-    told_again (any_text.number_at (pos k) (pos k) (record { line = n; words = numeral (pos k) ∷ words }))
+    told_again kind_of (any_text.number_at (pos k) (pos k) (record { line = n; words = numeral (pos k) ∷ words }))
     (pos k, record { line = n; words = words })
     (number_at_again (pos k) (pos k) n (pos k) words (grind (arith, ints)) (grind (arith, ints)))
 
 pub size_read : (least most : ℕ) (w : WordsLeft) (x : ℕ) (q : WordsLeft) → size_at least most w ≡ Ok (x, q) → IsSizeRead least most w x q
-size_read least most w x q e = size_found least most w x q (told_found (any_text.size_at least most w) (x, q) e)
+size_read least most w x q e = size_found least most w x q (told_found kind_of (any_text.size_at least most w) (x, q) e)
 
 pub below_read : (bound : ℕ) (w : WordsLeft) (x : ℕ) (q : WordsLeft) → below_at bound w ≡ Ok (x, q) → IsBelowRead bound w x q
-below_read bound w x q e = below_found bound w x q (told_found (any_text.below_at bound w) (x, q) e)
+below_read bound w x q e = below_found bound w x q (told_found kind_of (any_text.below_at bound w) (x, q) e)
 
 pub weight_read : (w : WordsLeft) (weight : Weight) (q : WordsLeft) → weight_at w ≡ Ok (weight, q)
     → IsWeightRead (neg_ℤ (pos largest_number)) (pos largest_number) w weight q
 weight_read w weight q e =
     let low = neg_ℤ (pos largest_number) in
     let high = pos largest_number in
-    weight_found low high w weight q (told_found (any_text.weight_at low high w) (weight, q) e)
+    weight_found low high w weight q (told_found kind_of (any_text.weight_at low high w) (weight, q) e)
 
 -- ---- members
 

@@ -12,7 +12,7 @@ mod write;
 
 // Answers, and why a text is none.
 pub use answer::{Answer, LevelLine, PlainRung, PricedRung};
-pub use refusal::{CertKind, CertRefusal, fault};
+pub use refusal::{CertKind, CertRefusal};
 
 // Reading an answer, and the lines of a text that goes with one.
 pub use read::{closed, counted_line, fixed_word, last_line, read_answer, set_line};

@@ -1,15 +1,9 @@
 //! Why a text is no certificate.
 
 ghost use Rattle.std.specs.Prelude.{◌≡◌};
-ghost use Rattle.mat_cert.specs.{
-  Faults.{kind_of, refusal_of},
-  Kinds.{kind_number, kind_name},
-  declared.refusal.CertRefusal.TheVariants.{Fault, Memory},
-};
+ghost use Rattle.mat_cert.specs.{Faults.{kind_of}, Kinds.{kind_number, kind_name}};
 
-use mat_words::{NumberFault, ReadingFault, ReadingRefusal};
-use std::alloc::{AllocError, AllocFailed};
-use thiserror::Error;
+use mat_words::{FaultKind, NumberFault, ReadingFault, Refusal};
 
 /// What is wrong with a line.
 #[derive(Clone, Copy, Debug, PartialEq, Eq)]
@@ -67,65 +61,19 @@ impl CertKind {
 }
 
 /// The first fault of a text that spells no answer, or want of memory.
-#[derive(Debug, Drop, Error)]
-pub enum CertRefusal {
-    /// The first fault, with the number of its line, counted from 1.
-    #[error("line {line}: {kind:?}")]
-    Fault {
-        /// What is wrong.
-        kind: CertKind,
-        /// The number of the line.
-        line: u32,
-    },
-    /// Memory ran out.
-    #[error("memory ran out")]
-    Memory,
-}
+pub type CertRefusal = Refusal<CertKind>;
 
-/// The fault of this kind in the line with this number.
-pub fn fault(kind: CertKind, line: u32) -> CertRefusal
-    ensures { result ≡ Fault kind line }
-{
-    CertRefusal::Fault { kind, line }
-}
+impl FaultKind for CertKind {
+    ghost kind_of = { kind_of };
 
-impl From<AllocError> for CertRefusal {
-    ghost from_gives = { λ _ e. e ≡ Memory };
-
-    fn from(_error: AllocError) -> CertRefusal {
-        CertRefusal::Memory
-    }
-}
-
-impl<T: Drop> From<AllocFailed<T>> for CertRefusal {
-    ghost from_gives = { λ _ e. e ≡ Memory };
-
-    fn from(_error: AllocFailed<T>) -> CertRefusal {
-        CertRefusal::Memory
-    }
-}
-
-// The kind of a fault that any text may have.
-fn kind_from(kind: ReadingFault) -> CertKind
-    ensures { result ≡ kind_of kind }
-{
-    match kind {
-        ReadingFault::EndsEarly => CertKind::EndsEarly,
-        ReadingFault::BadByte => CertKind::BadByte,
-        ReadingFault::NoWord => CertKind::WrongCount,
-        ReadingFault::UnknownWord => CertKind::UnknownWord,
-        ReadingFault::Number(NumberFault::Spelling) => CertKind::NumberSpelling,
-        ReadingFault::Number(NumberFault::Range) => CertKind::NumberRange,
-    }
-}
-
-impl From<ReadingRefusal> for CertRefusal {
-    ghost from_gives = { λ refusal e. e ≡ refusal_of refusal };
-
-    fn from(refusal: ReadingRefusal) -> CertRefusal {
-        match refusal {
-            ReadingRefusal::Fault { kind, line } => fault(kind_from(kind), line),
-            ReadingRefusal::Memory => CertRefusal::Memory,
+    fn of_fault(fault: ReadingFault) -> CertKind {
+        match fault {
+            ReadingFault::EndsEarly => CertKind::EndsEarly,
+            ReadingFault::BadByte => CertKind::BadByte,
+            ReadingFault::NoWord => CertKind::WrongCount,
+            ReadingFault::UnknownWord => CertKind::UnknownWord,
+            ReadingFault::Number(NumberFault::Spelling) => CertKind::NumberSpelling,
+            ReadingFault::Number(NumberFault::Range) => CertKind::NumberRange,
         }
     }
 }

@@ -13,7 +13,7 @@ use crate::command::{Command, Request};
 use crate::command_words::{begins_with_option, command_for};
 use crate::job::Job;
 use crate::refusal::ListRefusal;
-use mat_words::{LineCursor, ReadingRefusal, WordCursor, nothing_left, split_word, words_line};
+use mat_words::{LineCursor, Refusal, WordCursor, nothing_left, split_word, words_line};
 use std::alloc::{AllocError, Global};
 
 // How many words of a line are kept: one more than `job` and any command with its arguments.
@@ -61,8 +61,8 @@ fn next_words<'a>(
 {
     match words_line(lines) {
         Ok((words, behind)) => Ok((first_words(alloc, words)?, behind)),
-        Err(ReadingRefusal::Memory) => Err(ListRefusal::Memory),
-        Err(ReadingRefusal::Fault { .. }) => Err(ListRefusal::Line(lines.line)),
+        Err(Refusal::Memory) => Err(ListRefusal::Memory),
+        Err(Refusal::Fault { .. }) => Err(ListRefusal::Line(lines.line)),
     }
 }
 

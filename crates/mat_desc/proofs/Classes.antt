@@ -2,11 +2,11 @@
 use Rattle.std.proofs.Common.{◌≡◌, ℕ, suc, ◌-◌, ◌+◌, ◌≤◌, ◌<◌, List, [], ◌∷◌}
 use Rattle.std.proofs.Common.{◌++◌, Result, Ok, Err, refl, sym, ap₂, ◌∙◌, append_assoc, arith}
 use Rattle.std.proofs.lemmas.List.{append-nil}
-use Rattle.mat_desc.specs.declared.refusal.DescRefusal.{DescRefusal}
-use Rattle.mat_desc.specs.declared.refusal.DescRefusal.TheVariants as refusals
+use Rattle.mat_words.specs.declared.refusal.Refusal.TheVariants as refusals
 use Rattle.mat_words.specs.Cursors.{LinesLeft}
 use Rattle.mat_words.specs.Steps.{◌>>=◌}
-use Rattle.mat_desc.specs.Faults.{Fault, Fails}
+use Rattle.mat_words.specs.Reading.{Fails}
+use Rattle.mat_desc.specs.Faults.{DescRefusal, Fault}
 use Rattle.mat_desc.specs.Notations.{Naming}
 use Rattle.mat_desc.specs.Reading.{class_at, classes_at}
 

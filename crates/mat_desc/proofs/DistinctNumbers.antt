@@ -6,9 +6,10 @@ use Rattle.mat_sets.specs.Sets.{is_member, with_one}
 use Rattle.mat_desc.specs.declared.refusal.DescKind.TheVariants.{Repeated}
 use Rattle.mat_words.specs.Cursors.{WordsLeft}
 use Rattle.mat_words.specs.Reading as reading
-use Rattle.mat_words.specs.declared.refusal.ReadingRefusal.{ReadingRefusal}
-use Rattle.mat_words.specs.declared.refusal.ReadingRefusal.TheVariants as readings
-use Rattle.mat_desc.specs.Faults.{Fault, Fails, kind_of, refusal_of}
+use Rattle.mat_words.specs.declared.refusal.{ReadingFault.{ReadingFault}, Refusal.{Refusal}}
+use Rattle.mat_words.specs.declared.refusal.Refusal.TheVariants as readings
+use Rattle.mat_words.specs.Reading.{Fails}
+use Rattle.mat_desc.specs.Faults.{Fault, kind_of, refusal_of}
 use Rattle.mat_desc.specs.Reading.{distinct_at}
 use Rattle.mat_words.proofs.Repeats.{with_front, with_front-cons}
 
@@ -35,7 +36,7 @@ module _ (bound many i : ℕ) (taken front : List ℕ) (s : WordsLeft) (total : 
       sym so_far ∙ step
 
   -- the next word is no number below the bound
-  pub distinct_fails : (refusal : ReadingRefusal) → i < many → reading.Fails refusal (reading.below_at bound s)
+  pub distinct_fails : (refusal : Refusal ReadingFault) → i < many → reading.Fails refusal (reading.below_at bound s)
       → Fails (refusal_of refusal) total
   unfolding distinct_at
   distinct_fails readings.Memory lt failed = tt

@@ -7,9 +7,9 @@ use Rattle.mat_words.specs.Names.{name_index}
 use Rattle.mat_words.specs.Cursors.{WordsLeft}
 use Rattle.mat_words.proofs.ReadingSteps.{bind_found}
 use Rattle.mat_desc.specs.declared.refusal.DescKind.TheVariants.{Repeated}
-use Rattle.mat_desc.specs.declared.refusal.DescRefusal.{DescRefusal}
-use Rattle.mat_desc.specs.declared.refusal.DescRefusal.TheVariants as refusals
-use Rattle.mat_desc.specs.Faults.{Fault, Fails}
+use Rattle.mat_words.specs.declared.refusal.Refusal.TheVariants as refusals
+use Rattle.mat_words.specs.Reading.{Fails}
+use Rattle.mat_desc.specs.Faults.{DescRefusal, Fault}
 use Rattle.mat_desc.specs.Notations.{Naming}
 use Rattle.mat_desc.specs.Reading.{word_at, member_at, elements_from}
 use Rattle.mat_desc.proofs.Told.{word_found, word_line, below_found}

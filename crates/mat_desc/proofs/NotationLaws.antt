@@ -12,8 +12,8 @@ use Rattle.mat_words.specs.Lines.{Line}
 use Rattle.mat_words.specs.Names.{longest_name, is_name, name_index, is_among, AreNames}
 use Rattle.mat_words.specs.Reading as reading
 use Rattle.mat_words.specs.Words.{is_word}
-use Rattle.mat_words.specs.declared.refusal.ReadingRefusal.{ReadingRefusal}
-use Rattle.mat_words.specs.declared.refusal.ReadingRefusal.TheVariants as readings
+use Rattle.mat_words.specs.declared.refusal.{ReadingFault.{ReadingFault}, Refusal.{Refusal}}
+use Rattle.mat_words.specs.declared.refusal.Refusal.TheVariants as readings
 use Rattle.mat_words.proofs.LineReading.{AreLeft, keyed_again}
 use Rattle.mat_words.proofs.NameLemmas.{name_index-found, name_index-at, is_among-later, is_name-short, is_name-parts, name_word, names_words, no_names, names-push}
 use Rattle.mat_words.proofs.NumberLemmas.{numeral_word}
@@ -22,7 +22,8 @@ use Rattle.mat_words.proofs.WordReading.{below_again, word_again}
 use Rattle.mat_desc.specs.declared.read.keywords.Version.{Version}
 use Rattle.mat_desc.specs.declared.read.keywords.Version.TheVariants as versions
 use Rattle.mat_desc.specs.declared.refusal.DescKind.TheVariants.{NameSpelling, Repeated}
-use Rattle.mat_desc.specs.Faults.{Fault, Fails, refusal_of}
+use Rattle.mat_words.specs.Reading.{Fails}
+use Rattle.mat_desc.specs.Faults.{Fault, refusal_of}
 use Rattle.mat_desc.specs.Grammar.{vertex_name_lines, name_lines}
 use Rattle.mat_desc.specs.Notations.{Naming, word_for, words_for, IsNaming, Notation, numbers, names, element_naming, vertex_naming}
 use Rattle.mat_desc.specs.Reading.{keyed_at, word_at, ended_at, named_as, member_at, names_from, names_line_at, vertex_names_at, notation_at}
@@ -258,7 +259,7 @@ module _ (many i : ℕ) (listed : List (List ℕ)) (p : WordsLeft) (total : Resu
       sym so_far ∙ rw (left, read) refl
 
   -- the next word is missing
-  pub names_fail : (refusal : ReadingRefusal) → i < many → reading.Fails refusal (reading.word_at p) → Fails (refusal_of refusal) total
+  pub names_fail : (refusal : Refusal ReadingFault) → i < many → reading.Fails refusal (reading.word_at p) → Fails (refusal_of refusal) total
   unfolding names_from
   names_fail readings.Memory lt failed = tt
   names_fail (readings.Fault kind line) lt failed =

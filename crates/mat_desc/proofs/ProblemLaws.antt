@@ -9,9 +9,9 @@ use Rattle.mat_any.specs.Trees.{gf2, dual, truncate, restrict, contract, union, 
 use Rattle.mat_sets.specs.Limits.{most_elements}
 use Rattle.mat_words.specs.Words.{is_letter}
 use Rattle.mat_words.specs.Steps.{◌>>=◌}
-use Rattle.mat_desc.specs.declared.refusal.DescRefusal.{DescRefusal}
-use Rattle.mat_desc.specs.declared.refusal.DescRefusal.TheVariants as refusals
-use Rattle.mat_desc.specs.Faults.{Fault, Gives}
+use Rattle.mat_words.specs.declared.refusal.Refusal.TheVariants as refusals
+use Rattle.mat_words.specs.Reading.{Gives}
+use Rattle.mat_desc.specs.Faults.{DescRefusal, Fault}
 use Rattle.mat_desc.specs.Grammar.{IsValidTree, IsValidMatroid, AreValidTrees, IsValid, Spells, SpellsNamed}
 use Rattle.mat_desc.specs.Instances.{Instance, pair, list, graph, rooted, coloured, table}
 use Rattle.mat_desc.specs.Notations.{Notation, numbers, names, IsNaming, IsNotationFor, NamedInstance, named_by, numbered}

@@ -1,5 +1,5 @@
 -- Reading lines, words, numbers and weights, as a description tells of it: what is told was read, and so is spelled.
-use Rattle.std.proofs.Common.{◌≡◌, ℕ, ◌-◌, ◌<◌, true, eqb, List, [], ◌∷◌, length, pos, Result, Ok, Err, refl, ap, ◌∙◌, arith}
+use Rattle.std.proofs.Common.{◌≡◌, ℕ, true, eqb, List, [], ◌∷◌, length, pos, Result, Ok, Err, refl, ap, ◌∙◌, arith}
 use Rattle.std.specs.Prelude.{neg_ℤ}
 use Rattle.std.specs.List.{list_all}
 use Rattle.std.proofs.lemmas.Bool.{eqb-true}
@@ -8,66 +8,58 @@ use Rattle.mat_words.specs.Words.{is_word}
 use Rattle.mat_words.specs.Numbers.{numeral}
 use Rattle.mat_words.specs.Lines.{Line}
 use Rattle.mat_words.specs.Cursors.{WordsLeft, LinesLeft}
-use Rattle.mat_words.specs.Steps.{repeat_at}
 use Rattle.mat_words.specs.Reading as reading
-use Rattle.mat_words.proofs.ReadingSteps.{found-same, test_found}
-use Rattle.mat_words.proofs.Repeats.{with_front, repeat_fails}
+use Rattle.mat_words.proofs.ReadingSteps.{test_found, told_found}
 use Rattle.mat_words.proofs.WordReading as words
 use Rattle.mat_words.proofs.BinaryLaws as digits
 use Rattle.mat_words.proofs.LineReading as lines
 use Rattle.mat_sets.specs.Limits.{largest_weight}
 use Rattle.mat_desc.specs.declared.refusal.DescKind.TheVariants.{TooManyWords}
-use Rattle.mat_desc.specs.declared.refusal.DescRefusal.{DescRefusal}
-use Rattle.mat_desc.specs.declared.refusal.DescRefusal.TheVariants as refusals
-use Rattle.mat_desc.specs.Faults.{Fault, Fails, told}
+use Rattle.mat_desc.specs.Faults.{kind_of}
 use Rattle.mat_desc.specs.Reading.{line_at, keyed_at, word_at, size_at, below_at, binary_at, weight_at, next_weights_at, ended_at}
 
 -- ---- what is read
 
-told_found : {A : Type 0} (read : Result A reading.Fault) (x : A) → told read ≡ Ok x → read ≡ Ok x
-told_found (Ok y) x e = ap (λ z. Ok z) (found-same y x e)
-told_found (Err fault) x e = absurd cc
-
 pub line_found : (p : LinesLeft) (w : WordsLeft) (q : LinesLeft) → line_at p ≡ Ok (w, q) → (rest : List Line) → lines.AreLeft rest q
     → lines.AreLeft (w.words ∷ rest) p
-line_found p w q e = lines.line_found p w q (told_found (reading.line_at p) (w, q) e)
+line_found p w q e = lines.line_found p w q (told_found kind_of (reading.line_at p) (w, q) e)
 
 pub keyed_found : (key : List ℕ) (p : LinesLeft) (w : WordsLeft) (q : LinesLeft) → keyed_at key p ≡ Ok (w, q) → (rest : List Line)
     → lines.AreLeft rest q → lines.AreLeft ((key ∷ w.words) ∷ rest) p
-keyed_found key p w q e = lines.keyed_found key p w q (told_found (reading.keyed_at key p) (w, q) e)
+keyed_found key p w q e = lines.keyed_found key p w q (told_found kind_of (reading.keyed_at key p) (w, q) e)
 
 pub keyed_words : (key : List ℕ) (p : LinesLeft) (w : WordsLeft) (q : LinesLeft) → keyed_at key p ≡ Ok (w, q)
     → list_all is_word w.words ≡ true
-keyed_words key p w q e = lines.keyed_words key p w q (told_found (reading.keyed_at key p) (w, q) e)
+keyed_words key p w q e = lines.keyed_words key p w q (told_found kind_of (reading.keyed_at key p) (w, q) e)
 
 pub word_found : (w : WordsLeft) (word : List ℕ) (q : WordsLeft) → word_at w ≡ Ok (word, q) → w.words ≡ word ∷ q.words
-word_found w word q e = words.word_found w word q (told_found (reading.word_at w) (word, q) e)
+word_found w word q e = words.word_found w word q (told_found kind_of (reading.word_at w) (word, q) e)
 
 pub word_line : (w : WordsLeft) (word : List ℕ) (q : WordsLeft) → word_at w ≡ Ok (word, q) → q.line ≡ w.line
-word_line w word q e = words.word_line w word q (told_found (reading.word_at w) (word, q) e)
+word_line w word q e = words.word_line w word q (told_found kind_of (reading.word_at w) (word, q) e)
 
 pub size_found : (low high : ℕ) (w : WordsLeft) (x : ℕ) (q : WordsLeft) → size_at low high w ≡ Ok (x, q) → words.IsSizeRead low high w x q
-size_found low high w x q e = words.size_found low high w x q (told_found (reading.size_at low high w) (x, q) e)
+size_found low high w x q e = words.size_found low high w x q (told_found kind_of (reading.size_at low high w) (x, q) e)
 
 pub below_found : (bound : ℕ) (w : WordsLeft) (x : ℕ) (q : WordsLeft) → below_at bound w ≡ Ok (x, q) → words.IsBelowRead bound w x q
-below_found bound w x q e = words.below_found bound w x q (told_found (reading.below_at bound w) (x, q) e)
+below_found bound w x q e = words.below_found bound w x q (told_found kind_of (reading.below_at bound w) (x, q) e)
 
 pub binary_found : (many : ℕ) (w : WordsLeft) (z : ℕ) (q : WordsLeft) → binary_at many w ≡ Ok (z, q) → digits.IsBinaryRead many w z q
-binary_found many w z q e = digits.binary_found many w z q (told_found (reading.binary_at many w) (z, q) e)
+binary_found many w z q e = digits.binary_found many w z q (told_found kind_of (reading.binary_at many w) (z, q) e)
 
 pub weight_found : (w : WordsLeft) (weight : Weight) (q : WordsLeft) → weight_at w ≡ Ok (weight, q)
     → words.IsWeightRead (neg_ℤ (pos largest_weight)) (pos largest_weight) w weight q
 weight_found w weight q e =
     let low = neg_ℤ (pos largest_weight) in
     let high = pos largest_weight in
-    words.weight_found low high w weight q (told_found (reading.weight_at low high w) (weight, q) e)
+    words.weight_found low high w weight q (told_found kind_of (reading.weight_at low high w) (weight, q) e)
 
 pub weights_found : (many : ℕ) (w : WordsLeft) (weights : List Weight) (q : WordsLeft) → next_weights_at many w ≡ Ok (weights, q)
     → words.AreWeightsRead (neg_ℤ (pos largest_weight)) (pos largest_weight) many w weights q
 weights_found many w weights q e =
     let low = neg_ℤ (pos largest_weight) in
     let high = pos largest_weight in
-    words.weights_found low high many w weights q (told_found (reading.weights_at low high many w) (weights, q) e)
+    words.weights_found low high many w weights q (told_found kind_of (reading.weights_at low high many w) (weights, q) e)
 
 -- ---- the end of a line
 
@@ -91,13 +83,3 @@ cut_then word words after rest cut same = cut ∙ ap (λ (t : List (List ℕ)). 
 pub count_line : (x y : ℕ) (words after : List (List ℕ)) → words ≡ numeral (pos x) ∷ after → after ≡ [] → y ≡ x
     → words ≡ numeral (pos y) ∷ []
 count_line x y words after cut none same = rw (same, ← none) cut
-
--- ---- items one after the other
-
--- the next item fails, or memory ran out
-pub repeat_refused : {A S : Type 0} (reader : S → Result (A × S) Fault) (refusal : DescRefusal) (front : List A) (count i : ℕ) (s : S)
-    (total : Result (List A × S) Fault)
-    → i < count → Fails refusal (reader s) → with_front front (repeat_at reader (count - i) s) ≡ total → Fails refusal total
-repeat_refused reader refusals.Memory front count i s total lt failed so_far = tt
-repeat_refused reader (refusals.Fault kind line) front count i s total lt failed so_far =
-    repeat_fails reader (kind, line) front count i s total lt failed so_far

@@ -2,7 +2,6 @@
 
 ghost use Rattle.std.specs.Prelude.{◌≡◌, ◌<◌, ◌≤◌, ◌^◌, true, [], ◌∷◌, length, IfOk};
 ghost use Rattle.mat_desc.specs.{
-  Faults.{Gives},
   Grammar.{IsValid, SpellsNamed},
   Limits.{description_limit},
   Notations.{IsNotationFor, NamedInstance, named_by, names, numbered, numbers},
@@ -10,7 +9,7 @@ ghost use Rattle.mat_desc.specs.{
   Soundness.{IsSoundInstance},
   Views.{instance_of, notation_of, named_instance, named_with},
 };
-ghost use Rattle.mat_words.specs.{NameLists.{names_of}, Words.{is_letter}};
+ghost use Rattle.mat_words.specs.{NameLists.{names_of}, Words.{is_letter}, Reading.{Gives}};
 
 use crate::problem::Problem;
 use crate::read::{Notation, read_description};

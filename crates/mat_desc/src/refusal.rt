@@ -1,15 +1,9 @@
 //! Why a text is no description.
 
 ghost use Rattle.std.specs.Prelude.{◌≡◌};
-ghost use Rattle.mat_desc.specs.{
-  Faults.{kind_of, refusal_of},
-  Kinds.{kind_number, kind_name},
-  declared.refusal.DescRefusal.TheVariants.{Fault, Memory},
-};
+ghost use Rattle.mat_desc.specs.{Faults.{kind_of}, Kinds.{kind_number, kind_name}};
 
-use mat_words::{NumberFault, ReadingFault, ReadingRefusal};
-use std::alloc::{AllocError, AllocFailed};
-use thiserror::Error;
+use mat_words::{FaultKind, NumberFault, ReadingFault, Refusal};
 
 /// What is wrong with a line.
 #[derive(Clone, Copy, Debug, PartialEq, Eq)]
@@ -91,65 +85,19 @@ impl DescKind {
 }
 
 /// The first fault of a text that spells no problem, or want of memory.
-#[derive(Debug, Drop, Error)]
-pub enum DescRefusal {
-    /// The first fault, with the number of its line, counted from 1.
-    #[error("line {line}: {kind:?}")]
-    Fault {
-        /// What is wrong.
-        kind: DescKind,
-        /// The number of the line.
-        line: u32,
-    },
-    /// Memory ran out.
-    #[error("memory ran out")]
-    Memory,
-}
+pub type DescRefusal = Refusal<DescKind>;
 
-/// The fault of this kind in the line with this number.
-pub(crate) fn fault(kind: DescKind, line: u32) -> DescRefusal
-    ensures { result ≡ Fault kind line }
-{
-    DescRefusal::Fault { kind, line }
-}
+impl FaultKind for DescKind {
+    ghost kind_of = { kind_of };
 
-/// The kind of a fault in reading lines, words, numbers and weights.
-fn kind_from(fault: ReadingFault) -> DescKind
-    ensures { result ≡ kind_of fault }
-{
-    match fault {
-        ReadingFault::EndsEarly => DescKind::EndsEarly,
-        ReadingFault::BadByte => DescKind::BadByte,
-        ReadingFault::NoWord => DescKind::TooFewWords,
-        ReadingFault::UnknownWord => DescKind::UnknownWord,
-        ReadingFault::Number(NumberFault::Spelling) => DescKind::NumberSpelling,
-        ReadingFault::Number(NumberFault::Range) => DescKind::NumberRange,
-    }
-}
-
-impl From<ReadingRefusal> for DescRefusal {
-    ghost from_gives = { λ refusal e. e ≡ refusal_of refusal };
-
-    fn from(refusal: ReadingRefusal) -> DescRefusal {
-        match refusal {
-            ReadingRefusal::Fault { kind, line } => fault(kind_from(kind), line),
-            ReadingRefusal::Memory => DescRefusal::Memory,
+    fn of_fault(fault: ReadingFault) -> DescKind {
+        match fault {
+            ReadingFault::EndsEarly => DescKind::EndsEarly,
+            ReadingFault::BadByte => DescKind::BadByte,
+            ReadingFault::NoWord => DescKind::TooFewWords,
+            ReadingFault::UnknownWord => DescKind::UnknownWord,
+            ReadingFault::Number(NumberFault::Spelling) => DescKind::NumberSpelling,
+            ReadingFault::Number(NumberFault::Range) => DescKind::NumberRange,
         }
-    }
-}
-
-impl From<AllocError> for DescRefusal {
-    ghost from_gives = { λ _ e. e ≡ Memory };
-
-    fn from(_error: AllocError) -> DescRefusal {
-        DescRefusal::Memory
-    }
-}
-
-impl<T: Drop> From<AllocFailed<T>> for DescRefusal {
-    ghost from_gives = { λ _ e. e ≡ Memory };
-
-    fn from(_error: AllocFailed<T>) -> DescRefusal {
-        DescRefusal::Memory
     }
 }

@@ -2,11 +2,10 @@
 use Rattle.std.specs.Prelude.{◌≡◌, ℕ, ◌≤◌, true, false, List, length, Option, IfSome, Some, Err}
 use Rattle.mat_desc.specs.Instances.{Instance}
 use Rattle.mat_cert.specs.Certificates.{Certificate, certificate_text, IsRanged}
-use Rattle.mat_cert.specs.Faults.{Fault}
+use Rattle.mat_cert.specs.Faults.{CertRefusal, Fault}
 use Rattle.mat_cert.specs.Limits.{certificate_limit}
 use Rattle.mat_cert.specs.Reading.{read_of}
-use Rattle.mat_cert.specs.declared.refusal.CertRefusal.{CertRefusal}
-use Rattle.mat_cert.specs.declared.refusal.CertRefusal.TheVariants as cert_refusals
+use Rattle.mat_words.specs.declared.refusal.Refusal.TheVariants as cert_refusals
 use Rattle.mat_check.specs.AnswerClauses.{failure_of}
 use Rattle.mat_check.specs.Clauses.{failure_at}
 use Rattle.mat_check.specs.Fitting.{fits}

@@ -1,13 +1,12 @@
 -- What the bytes of a description say, and why a file describes no problem.
 use Rattle.std.specs.Prelude.{◌≡◌, ℕ, ◌≤◌, List, length, Option, IfSome, Err}
-use Rattle.mat_desc.specs.Faults.{Fault}
+use Rattle.mat_desc.specs.Faults.{DescRefusal, Fault}
 use Rattle.mat_desc.specs.Instances.{Instance}
 use Rattle.mat_desc.specs.Grammar.{Spells, SpellsNamed}
 use Rattle.mat_desc.specs.Limits.{description_limit}
 use Rattle.mat_desc.specs.Notations.{NamedInstance}
 use Rattle.mat_desc.specs.Reading.{read_of}
-use Rattle.mat_desc.specs.declared.refusal.DescRefusal.{DescRefusal}
-use Rattle.mat_desc.specs.declared.refusal.DescRefusal.TheVariants as desc_refusals
+use Rattle.mat_words.specs.declared.refusal.Refusal.TheVariants as desc_refusals
 use Rattle.mat_judge.specs.declared.described.Undescribed.{Undescribed}
 use Rattle.mat_judge.specs.declared.described.Undescribed.TheVariants as undescribed
 use Rattle.mat_judge.specs.declared.reading.Unread.TheVariants as unread

@@ -1,9 +1,9 @@
 -- Why a rung of a certificate has no witness, or is not verified.
 use Rattle.std.specs.Prelude.{◌≡◌, ℕ, ◌⊎◌, true, List, Option, IfSome, Some}
 use Rattle.mat_desc.specs.Instances.{Instance}
+use Rattle.mat_cert.specs.Faults.{CertRefusal}
 use Rattle.mat_cert.specs.Certificates.{Certificate}
-use Rattle.mat_cert.specs.declared.refusal.CertRefusal.{CertRefusal}
-use Rattle.mat_cert.specs.declared.refusal.CertRefusal.TheVariants as cert_refusals
+use Rattle.mat_words.specs.declared.refusal.Refusal.TheVariants as cert_refusals
 use Rattle.mat_check.specs.AnswerClauses.{failure_of}
 use Rattle.mat_check.specs.Clauses.{failure_at}
 use Rattle.mat_check.specs.Right.{IsRight}

@@ -15,13 +15,12 @@ use Rattle.mat_words.specs.Writing.{members_line}
 use Rattle.mat_words.specs.Reading as any_text
 use Rattle.mat_words.proofs.LineReading.{AreLeft}
 use Rattle.mat_words.proofs.NumberLemmas.{numeral_word}
-use Rattle.mat_words.proofs.ReadingSteps.{found-same, bind_found}
+use Rattle.mat_words.proofs.ReadingSteps.{found-same, bind_found, told_again}
 use Rattle.mat_words.proofs.WordReading.{numerals_words, size_again}
 use Rattle.mat_any.specs.Trees.{Tree, uniform, partition, laminar, graphic, transversal, gammoid, gf2, dual, truncate, restrict, contract, union}
 use Rattle.mat_cert.specs.LineReading.{below_at, counted_at, set_at, size_at}
-use Rattle.mat_cert.specs.Faults.{Fault}
+use Rattle.mat_cert.specs.Faults.{Fault, kind_of}
 use Rattle.mat_cert.proofs.LineLaws.{IsRead, IsReadAgain, set_found, set_again}
-use Rattle.mat_cert.proofs.Told.{told_again}
 use Rattle.mat_cert.proofs.WordLaws.{size_read, whole_line}
 use Rattle.mat_witness.specs.Kinds.{is_witnessed}
 use Rattle.mat_witness.specs.Lines.{binary_line, bound_lines}
@@ -198,7 +197,7 @@ zeros_again n dim columns numbers p rest some few each left =
     let lines = map (binary_line (codes "zero") dim) numbers ++ rest in
     let spelled = and_from (is_word (numeral (pos many))) true (numeral_word (pos many)) refl in
     let line = counted_again (codes "zeros") 1 p (numeral (pos many) ∷ []) lines refl spelled refl left in
-    let size = told_again (any_text.size_at 0 dim (record { line = p.line; words = numeral (pos many) ∷ [] }))
+    let size = told_again kind_of (any_text.size_at 0 dim (record { line = p.line; words = numeral (pos many) ∷ [] }))
     (many, record { line = p.line; words = [] }) (size_again 0 dim p.line many [] (omega arith) few) in
     let read = items_again (binary_line_at (codes "zero") dim) (λ z. z < 2 ^ dim) (binary_line (codes "zero") dim)
     (λ p z rest below left. binary_line_again (codes "zero") dim p z rest refl some below left) line.0 numbers rest each line.2 in

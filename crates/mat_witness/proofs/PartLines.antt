@@ -15,12 +15,11 @@ use Rattle.mat_words.specs.Words.{is_word}
 use Rattle.mat_words.specs.Writing.{members_line}
 use Rattle.mat_words.proofs.BinaryLaws.{binary_found, binary_again, binary_word}
 use Rattle.mat_words.proofs.LineReading.{AreLeft, keyed_again}
-use Rattle.mat_words.proofs.ReadingSteps.{found-same, bind_found}
+use Rattle.mat_words.proofs.ReadingSteps.{found-same, bind_found, told_found, told_again}
 use Rattle.mat_words.proofs.WordReading.{below_again, numerals_words}
 use Rattle.mat_cert.specs.LineReading.{below_at, counted_at, keyed_at}
-use Rattle.mat_cert.specs.Faults.{told}
+use Rattle.mat_cert.specs.Faults.{told, kind_of}
 use Rattle.mat_cert.proofs.LineLaws.{IsRead, IsReadAgain, line_read}
-use Rattle.mat_cert.proofs.Told.{told_found, told_again}
 use Rattle.mat_cert.proofs.WordLaws.{below_read, then_words, whole_line}
 use Rattle.mat_witness.specs.Lines.{binary_line}
 use Rattle.mat_witness.specs.Reading.{binary_line_at, path_at}
@@ -36,7 +35,7 @@ binary_line_found key d p z q e =
     let line = bind_found (counted_at key 1 p) (λ line. told (any_text.binary_at d line.0) >>= λ number. Ok (number.0, line.1)) (z, q) e in
     let number = bind_found (told (any_text.binary_at d line.0.0)) (λ number. Ok (number.0, line.0.1)) (z, q) line.2 in
     let counted = counted_found key 1 p line.0.0 line.0.1 line.1 in
-    let read = binary_found d line.0.0 number.0.0 number.0.1 (told_found (any_text.binary_at d line.0.0) number.0 number.1) in
+    let read = binary_found d line.0.0 number.0.0 number.0.1 (told_found kind_of (any_text.binary_at d line.0.0) number.0 number.1) in
     let words = whole_line (binary d number.0.0 ∷ []) number.0.1.words line.0.0.words read.cut counted.count in
     subst (λ (r : ℕ × LinesLeft). IsRead (r.0 < 2 ^ d) (binary_line key d r.0 ∷ []) p r.1) (found-same (number.0.0, line.0.1) (z, q) number.2)
     (record {
@@ -50,7 +49,7 @@ unfolding binary_line_at
 binary_line_again key d p z rest keyword some below left =
     let spelled = and_from (is_word (binary d z)) true (binary_word d z some) refl in
     let line = counted_again key 1 p (binary d z ∷ []) rest keyword spelled refl left in
-    let number = told_again (any_text.binary_at d (record { line = p.line; words = binary d z ∷ [] })) (z, record { line = p.line; words = [] })
+    let number = told_again kind_of (any_text.binary_at d (record { line = p.line; words = binary d z ∷ [] })) (z, record { line = p.line; words = [] })
     (binary_again d p.line z [] below) in
     (line.0, rw (line.1, number) refl, line.2)
 
@@ -97,6 +96,6 @@ unfolding path_at
 path_again vertices p [] rest inside left = absurd (omega (arith, inside.0))
 path_again vertices p (x ∷ xs) rest inside left =
     let line = keyed_again (codes "path") p (numerals (x ∷ xs)) rest refl (numerals_words (x ∷ xs)) left in
-    let first = told_again (any_text.below_at vertices (record { line = p.line; words = numerals (x ∷ xs) }))
+    let first = told_again kind_of (any_text.below_at vertices (record { line = p.line; words = numerals (x ∷ xs) }))
     (x, record { line = p.line; words = numerals xs }) (below_again vertices p.line x (numerals xs) inside.1.0) in
     (line.0, rw (line.1, first, rest_again vertices p.line xs inside.1.1) refl, line.2)

@@ -12,11 +12,11 @@ use Rattle.mat_desc.specs.Grammar.{IsValid, IsValidTree}
 use Rattle.mat_desc.specs.Instances as instances
 use Rattle.mat_desc.specs.Instances.{Instance, pair}
 use Rattle.mat_cert.specs.declared.answer.PricedRung.{PricedRung}
-use Rattle.mat_cert.specs.declared.refusal.CertRefusal.{CertRefusal}
-use Rattle.mat_cert.specs.declared.refusal.CertRefusal.TheVariants as refusals
+use Rattle.mat_words.specs.declared.refusal.Refusal.TheVariants as refusals
 use Rattle.mat_cert.specs.Certificates as certificates
 use Rattle.mat_cert.specs.Certificates.{Certificate, IsRanged, intersect}
-use Rattle.mat_cert.specs.Faults.{Fault, Gives}
+use Rattle.mat_words.specs.Reading.{Gives}
+use Rattle.mat_cert.specs.Faults.{CertRefusal, Fault}
 use Rattle.mat_witness.specs.Kinds.{has_rung, is_witnessed, is_witnessed_pair}
 use Rattle.mat_witness.specs.Lines.{witness_lines, witness_text}
 use Rattle.mat_witness.specs.Parts.{WitnessParts}

@@ -8,14 +8,12 @@ use Rattle.mat_words.specs.Numbers.{numeral, numerals}
 use Rattle.mat_words.specs.Cursors.{WordsLeft}
 use Rattle.mat_words.specs.Reading as any_text
 use Rattle.mat_words.specs.Steps.{◌>>=◌, repeat_at}
-use Rattle.mat_words.proofs.ReadingSteps.{found-same, bind_found}
-use Rattle.mat_words.proofs.Repeats.{with_front, repeat_more, repeat_fails, repeat_done}
+use Rattle.mat_words.proofs.ReadingSteps.{found-same, bind_found, told_again}
+use Rattle.mat_words.proofs.Repeats.{with_front, repeat_more, repeat_refused, repeat_done}
 use Rattle.mat_words.proofs.WordReading.{below_again}
-use Rattle.mat_cert.specs.declared.refusal.CertRefusal.{CertRefusal}
-use Rattle.mat_cert.specs.declared.refusal.CertRefusal.TheVariants as refusals
-use Rattle.mat_cert.specs.Faults.{Fault, Fails}
+use Rattle.mat_words.specs.Reading.{Fails}
+use Rattle.mat_cert.specs.Faults.{CertRefusal, Fault, kind_of}
 use Rattle.mat_cert.specs.LineReading.{below_at}
-use Rattle.mat_cert.proofs.Told.{told_again}
 use Rattle.mat_cert.proofs.WordLaws.{below_read}
 use Rattle.mat_witness.specs.Reading.{pair_at}
 
@@ -80,14 +78,6 @@ row_again reader IsIn spelled spelling law one n (x ∷ xs) rest each =
 
 -- ---- as a loop reads them
 
--- the next of as many items on a line fails
-pub words_fail : {A : Type 0} (reader : WordsLeft → Result (A × WordsLeft) Fault) (refusal : CertRefusal) (front : List A) (count i : ℕ)
-    (s : WordsLeft) (total : Result (List A × WordsLeft) Fault)
-    → i < count → Fails refusal (reader s) → with_front front (repeat_at reader (count - i) s) ≡ total → Fails refusal total
-words_fail reader refusals.Memory front count i s total lt failed so_far = tt
-words_fail reader (refusals.Fault kind line) front count i s total lt failed so_far =
-    repeat_fails reader (kind, line) front count i s total lt failed so_far
-
 -- all words that are left of a line, of which one more was read
 pub all_more : (bound : ℕ) (front : List ℕ) (s : WordsLeft) (x : ℕ) (after : WordsLeft) (total : Result (List ℕ × WordsLeft) Fault)
     → below_at bound s ≡ Ok (x, after) → with_front front (repeat_at (below_at bound) (length s.words) s) ≡ total
@@ -112,7 +102,7 @@ pub all_fail : (bound : ℕ) (refusal : CertRefusal) (front : List ℕ) (s : Wor
     → Fails refusal total
 all_fail bound refusal front s total some failed so_far =
     let left : length s.words - 0 ≡ length s.words = omega arith in
-    words_fail (below_at bound) refusal front (length s.words) 0 s total some failed (rw left so_far)
+    repeat_refused (below_at bound) refusal front (length s.words) 0 s total some failed (rw left so_far)
 
 -- none is left
 pub all_done : (bound : ℕ) (front : List ℕ) (s : WordsLeft) (total : Result (List ℕ × WordsLeft) Fault) → s.words ≡ []
@@ -151,7 +141,7 @@ numbers_found bound many w xs q e =
 below_at_again : (bound n x : ℕ) (rest : Line) → x < bound
     → below_at bound (record { line = n; words = numeral (pos x) ∷ rest }) ≡ Ok (x, record { line = n; words = rest })
 below_at_again bound n x rest lt =
-    told_again (any_text.below_at bound (record { line = n; words = numeral (pos x) ∷ rest })) (x, record { line = n; words = rest })
+    told_again kind_of (any_text.below_at bound (record { line = n; words = numeral (pos x) ∷ rest })) (x, record { line = n; words = rest })
     (below_again bound n x rest lt)
 
 pub numbers_again : (bound n : ℕ) (xs : List ℕ) (rest : Line) → AllBelow bound xs

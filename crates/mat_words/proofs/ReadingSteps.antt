@@ -1,6 +1,9 @@
 -- The steps of a reading, whatever its faults are: what is known where a step after it was reached.
-use Rattle.std.proofs.Common.{◌≡◌, Bool, true, false, cond, Result, Ok, Err, refl}
+use Rattle.std.proofs.Common.{◌≡◌, ℕ, Bool, true, false, cond, Result, Ok, Err, refl, ap}
+use Rattle.mat_words.specs.Reading.{Fails, told_by, refusal_by}
 use Rattle.mat_words.specs.Steps.{◌>>=◌}
+use Rattle.mat_words.specs.declared.refusal.Refusal.{Refusal}
+use Rattle.mat_words.specs.declared.refusal.Refusal.TheVariants as refusals
 
 -- a reading without a fault
 abbrev pub found : {A F : Type 0} → A → Result A F
@@ -26,3 +29,20 @@ pub refused_found : {B F : Type 0} (test : Bool) (fault : F) (reading : Result B
     → (test ≡ false) × (reading ≡ Ok y)
 refused_found true fault reading y e = absurd cc
 refused_found false fault reading y e = (refl, e)
+
+-- ---- faults told by another kind
+
+-- what is told was read
+pub told_found : {K L A : Type 0} (kind_of : K → L) (reading : Result A (K × ℕ)) (x : A) → told_by kind_of reading ≡ Ok x → reading ≡ Ok x
+told_found kind_of (Ok y) x e = ap (λ z. Ok z) (found-same y x e)
+told_found kind_of (Err fault) x e = absurd cc
+
+-- what is read is told
+pub told_again : {K L A : Type 0} (kind_of : K → L) (reading : Result A (K × ℕ)) (x : A) → reading ≡ Ok x → told_by kind_of reading ≡ Ok x
+told_again kind_of reading x e = rw e refl
+
+-- where a reading was refused, so is what is told of it
+pub told_fails : {K L A : Type 0} (kind_of : K → L) (reading : Result A (K × ℕ)) (refusal : Refusal K) → Fails refusal reading
+    → Fails (refusal_by kind_of refusal) (told_by kind_of reading)
+told_fails kind_of reading refusals.Memory failed = tt
+told_fails kind_of reading (refusals.Fault kind line) failed = rw failed refl

@@ -2,7 +2,10 @@
 use Rattle.std.proofs.Common.{◌≡◌, ℕ, suc, ◌-◌, ◌+◌, ◌≤◌, ◌<◌, List, [], ◌∷◌, ◌++◌, Result, Ok, Err}
 use Rattle.std.proofs.Common.{refl, sym, ap, ◌∙◌, append_assoc, arith}
 use Rattle.std.proofs.lemmas.List.{append-nil}
+use Rattle.mat_words.specs.Reading.{Fails}
 use Rattle.mat_words.specs.Steps.{◌>>=◌, repeat_at}
+use Rattle.mat_words.specs.declared.refusal.Refusal.{Refusal}
+use Rattle.mat_words.specs.declared.refusal.Refusal.TheVariants as refusals
 
 -- what was read before, in front of what is still read
 abbrev pub with_front : {A S F : Type 0} → List A → Result (List A × S) F → Result (List A × S) F
@@ -34,6 +37,14 @@ repeat_fails reader fault front count i s total lt failed so_far =
     let left : count - i ≡ suc (count - (i + 1)) = omega arith in
     let step : with_front front (repeat_at reader (count - i) s) ≡ Err fault = rw (left, failed) refl in
     sym so_far ∙ step
+
+-- the next item has a fault, or memory ran out
+pub repeat_refused : {A S K : Type 0} (reader : S → Result (A × S) (K × ℕ)) (refusal : Refusal K) (front : List A) (count i : ℕ) (s : S)
+    (total : Result (List A × S) (K × ℕ))
+    → i < count → Fails refusal (reader s) → with_front front (repeat_at reader (count - i) s) ≡ total → Fails refusal total
+repeat_refused reader refusals.Memory front count i s total lt failed so_far = tt
+repeat_refused reader (refusals.Fault kind line) front count i s total lt failed so_far =
+    repeat_fails reader (kind, line) front count i s total lt failed so_far
 
 -- all items are read
 pub repeat_done : {A S F : Type 0} (reader : S → Result (A × S) F) (front : List A) (count i : ℕ) (s : S) (total : Result (List A × S) F)

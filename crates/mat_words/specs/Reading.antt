@@ -12,25 +12,35 @@ use Rattle.mat_words.specs.Binary.{binary_in}
 use Rattle.mat_words.specs.declared.numbers.NumberFault.{NumberFault}
 use Rattle.mat_words.specs.declared.refusal.ReadingFault.{ReadingFault}
 use Rattle.mat_words.specs.declared.refusal.ReadingFault.TheVariants as faults
-use Rattle.mat_words.specs.declared.refusal.ReadingRefusal.{ReadingRefusal}
-use Rattle.mat_words.specs.declared.refusal.ReadingRefusal.TheVariants as refusals
+use Rattle.mat_words.specs.declared.refusal.Refusal.{Refusal}
+use Rattle.mat_words.specs.declared.refusal.Refusal.TheVariants as refusals
 
 -- what is wrong with a line, and its number
 abbrev pub Fault : Type 0
 Fault = ReadingFault × ℕ
 
 -- a refusal is the fault at which the reading ended, or want of memory, which any reading may meet
-abbrev pub Fails : {Y : Type 0} → ReadingRefusal → Result Y Fault → Type 0
+abbrev pub Fails : {K Y : Type 0} → Refusal K → Result Y (K × ℕ) → Type 0
 Fails refusals.Memory reading = Unit {0}
 Fails (refusals.Fault kind line) reading = reading ≡ Err (kind, line)
 
 -- what a call returned, as seen by `view`, is what the reading gives, unless memory ran out
-abbrev pub Gives : {X Y : Type 0} → (X → Y) → Result X ReadingRefusal → Result Y Fault → Type 0
+abbrev pub Gives : {K X Y : Type 0} → (X → Y) → Result X (Refusal K) → Result Y (K × ℕ) → Type 0
 Gives view (Ok x) reading = reading ≡ Ok (view x)
 Gives view (Err refusal) reading = Fails refusal reading
 
+-- what is read, its fault told by another kind
+abbrev pub told_by : {K L A : Type 0} → (K → L) → Result A (K × ℕ) → Result A (L × ℕ)
+told_by kind_of (Ok x) = Ok x
+told_by kind_of (Err fault) = Err (kind_of fault.0, fault.1)
+
+-- a refusal, its fault told by another kind
+abbrev pub refusal_by : {K L : Type 0} → (K → L) → Refusal K → Refusal L
+refusal_by kind_of refusals.Memory = refusals.Memory
+refusal_by kind_of (refusals.Fault kind line) = refusals.Fault (kind_of kind) line
+
 -- what a call returned that takes no memory is no want of memory
-abbrev pub IsTold : {X : Type 0} → Result X ReadingRefusal → Type 0
+abbrev pub IsTold : {K X : Type 0} → Result X (Refusal K) → Type 0
 IsTold (Ok x) = Unit {0}
 IsTold (Err refusals.Memory) = ⊥
 IsTold (Err (refusals.Fault kind line)) = Unit {0}

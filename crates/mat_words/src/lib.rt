@@ -31,7 +31,7 @@ pub use reading::{
     keyed_line, next_below, next_binary, next_number, next_size, next_weight, next_weights,
     next_word, nothing_left, words_line,
 };
-pub use refusal::{ReadingFault, ReadingRefusal};
+pub use refusal::{FaultKind, ReadingFault, Refusal, fault};
 pub use text_word::{TextWord, put_text_word, put_words};
 pub use weights::{put_weight, read_weight, weight_laws};
 pub use words::{split_word, well_spaced, word_at, word_laws};

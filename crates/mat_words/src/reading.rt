@@ -10,7 +10,7 @@ use crate::binary::read_binary;
 use crate::cursor::{LineCursor, WordCursor};
 use crate::lines::split_line;
 use crate::numbers::read_number;
-use crate::refusal::{ReadingFault, ReadingRefusal, fault};
+use crate::refusal::{ReadingFault, Refusal, fault};
 use crate::weights::read_weight;
 use crate::words::{split_word, well_spaced};
 use mat_sets::Weight;
@@ -22,7 +22,7 @@ use std::alloc::Global;
 #[tactic(auto, unfolding(crate::specs::Reading::line_at))]
 pub fn words_line<'a>(
     lines: LineCursor<'a>,
-) -> Result<(WordCursor<'a>, LineCursor<'a>), ReadingRefusal>
+) -> Result<(WordCursor<'a>, LineCursor<'a>), Refusal<ReadingFault>>
     ensures value { Gives (λ x. (words_left x.0, lines_left x.1)) result (line_at (lines_left lines.entry)) }
     ensures told { IsTold result }
 {
@@ -57,7 +57,9 @@ pub fn nothing_left(lines: LineCursor<'_>) -> bool
 
 /// The next word of a line, and what is left behind it. [`ReadingFault::NoWord`] where none is left.
 #[tactic(auto, unfolding(crate::specs::Reading::word_at))]
-pub fn next_word<'a>(words: WordCursor<'a>) -> Result<(&'a [u8], WordCursor<'a>), ReadingRefusal>
+pub fn next_word<'a>(
+    words: WordCursor<'a>,
+) -> Result<(&'a [u8], WordCursor<'a>), Refusal<ReadingFault>>
     ensures value { Gives (λ x. (x.0.now, words_left x.1)) result (word_at (words_left words.entry)) }
     ensures told { IsTold result }
 {
@@ -76,7 +78,7 @@ pub fn next_number<'a>(
     words: WordCursor<'a>,
     low: i128,
     high: i128,
-) -> Result<(i128, WordCursor<'a>), ReadingRefusal>
+) -> Result<(i128, WordCursor<'a>), Refusal<ReadingFault>>
     ensures value { Gives (λ x. (x.0, words_left x.1)) result (number_at low high (words_left words.entry)) }
     ensures range { IfOk result (λ x. (low ≤ℤ x.0) × (x.0 ≤ℤ high)) }
     ensures told { IsTold result }
@@ -95,7 +97,7 @@ pub fn next_size<'a>(
     words: WordCursor<'a>,
     low: u32,
     most: u32,
-) -> Result<(u32, WordCursor<'a>), ReadingRefusal>
+) -> Result<(u32, WordCursor<'a>), Refusal<ReadingFault>>
     ensures value { Gives (λ x. (x.0, words_left x.1)) result (size_at low most (words_left words.entry)) }
     ensures range { IfOk result (λ x. (low ≤ x.0) × (x.0 ≤ most)) }
     ensures told { IsTold result }
@@ -110,7 +112,7 @@ pub fn next_size<'a>(
 pub fn next_below<'a>(
     words: WordCursor<'a>,
     bound: u32,
-) -> Result<(u32, WordCursor<'a>), ReadingRefusal>
+) -> Result<(u32, WordCursor<'a>), Refusal<ReadingFault>>
     ensures value { Gives (λ x. (x.0, words_left x.1)) result (below_at bound (words_left words.entry)) }
     ensures range { IfOk result (λ x. x.0 < bound) }
     ensures told { IsTold result }
@@ -125,7 +127,7 @@ pub fn next_below<'a>(
 pub fn next_binary<'a>(
     words: WordCursor<'a>,
     digits: u32,
-) -> Result<(u128, WordCursor<'a>), ReadingRefusal>
+) -> Result<(u128, WordCursor<'a>), Refusal<ReadingFault>>
     requires { digits ≤ 128 }
     ensures value { Gives (λ x. (x.0, words_left x.1)) result (binary_at digits (words_left words.entry)) }
     ensures range { IfOk result (λ x. x.0 < 2 ^ digits) }
@@ -145,7 +147,7 @@ pub fn next_weight<'a>(
     words: WordCursor<'a>,
     low: i128,
     high: i128,
-) -> Result<(Weight, WordCursor<'a>), ReadingRefusal>
+) -> Result<(Weight, WordCursor<'a>), Refusal<ReadingFault>>
     ensures value { Gives (λ x. (x.0, words_left x.1)) result (weight_at low high (words_left words.entry)) }
     ensures told { IsTold result }
 {
@@ -157,14 +159,14 @@ pub fn next_weight<'a>(
 }
 
 /// The next words of a line as `count` weights of which each number is in `low..=high`. The faults are those of [`next_weight`] at the
-/// first weight that has one, and [`ReadingRefusal::Memory`] is want of memory.
+/// first weight that has one, and [`Refusal::Memory`] is want of memory.
 pub fn next_weights<'a>(
     alloc: Global,
     words: WordCursor<'a>,
     count: u32,
     low: i128,
     high: i128,
-) -> Result<(Vec<Weight>, WordCursor<'a>), ReadingRefusal>
+) -> Result<(Vec<Weight>, WordCursor<'a>), Refusal<ReadingFault>>
     ensures { Gives (λ x. (x.0.items, words_left x.1)) result (weights_at low high count (words_left words.entry)) }
 {
     let mut weights = Vec::new(alloc);
@@ -183,7 +185,7 @@ pub fn next_weights<'a>(
 pub fn keyed_line<'a>(
     lines: LineCursor<'a>,
     key: &[u8],
-) -> Result<(WordCursor<'a>, LineCursor<'a>), ReadingRefusal>
+) -> Result<(WordCursor<'a>, LineCursor<'a>), Refusal<ReadingFault>>
     ensures value { Gives (λ x. (words_left x.0, lines_left x.1)) result (keyed_at key.now (lines_left lines.entry)) }
     ensures told { IsTold result }
 {

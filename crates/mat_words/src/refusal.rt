@@ -1,10 +1,14 @@
 //! Why the reading of a text ends.
 
 ghost use Rattle.std.specs.Prelude.{◌≡◌};
-ghost use Rattle.mat_words.specs.declared.refusal.ReadingRefusal.TheVariants.{Fault, Memory};
+ghost use Rattle.mat_words.specs.{
+  Reading.{refusal_by},
+  declared.refusal.{ReadingFault.{ReadingFault}, Refusal.TheVariants.{Fault, Memory}},
+};
 
 use crate::numbers::NumberFault;
 use std::alloc::{AllocError, AllocFailed};
+use std::fmt::Debug;
 use thiserror::Error;
 
 /// What is wrong with a line.
@@ -24,12 +28,12 @@ pub enum ReadingFault {
 
 /// The fault at which a reading ends, or want of memory.
 #[derive(Debug, Drop, Error)]
-pub enum ReadingRefusal {
-    /// The fault, with the number of its line.
+pub enum Refusal<K: Debug> {
+    /// The fault, with the number of its line, counted from 1.
     #[error("line {line}: {kind:?}")]
     Fault {
         /// What is wrong.
-        kind: ReadingFault,
+        kind: K,
         /// The number of the line.
         line: u32,
     },
@@ -38,25 +42,46 @@ pub enum ReadingRefusal {
     Memory,
 }
 
-/// The fault of this kind in the line with this number.
-pub(crate) fn fault(kind: ReadingFault, line: u32) -> ReadingRefusal
-    ensures { result ≡ Fault kind line }
-{
-    ReadingRefusal::Fault { kind, line }
+/// What a format calls the faults that any text may have.
+pub trait FaultKind: Debug {
+    /// The kind of a fault.
+    ghost kind_of: { ReadingFault → Self };
+
+    /// The kind of this fault.
+    fn of_fault(fault: ReadingFault) -> Self
+        ensures { result ≡ kind_of fault };
 }
 
-impl From<AllocError> for ReadingRefusal {
-    ghost from_gives = { λ _ e. e ≡ Memory };
+/// The fault of this kind in the line with this number.
+pub fn fault<K: Debug>(kind: K, line: u32) -> Refusal<K>
+    ensures { result ≡ Fault kind line }
+{
+    Refusal::Fault { kind, line }
+}
 
-    fn from(_error: AllocError) -> ReadingRefusal {
-        ReadingRefusal::Memory
+impl<K: FaultKind> From<Refusal<ReadingFault>> for Refusal<K> {
+    ghost from_gives = { λ refusal e. e ≡ refusal_by K.kind_of refusal };
+
+    fn from(refusal: Refusal<ReadingFault>) -> Refusal<K> {
+        match refusal {
+            Refusal::Fault { kind, line } => fault(K::of_fault(kind), line),
+            Refusal::Memory => Refusal::Memory,
+        }
     }
 }
 
-impl<T: Drop> From<AllocFailed<T>> for ReadingRefusal {
+impl<K: Debug> From<AllocError> for Refusal<K> {
     ghost from_gives = { λ _ e. e ≡ Memory };
 
-    fn from(_error: AllocFailed<T>) -> ReadingRefusal {
-        ReadingRefusal::Memory
+    fn from(_error: AllocError) -> Refusal<K> {
+        Refusal::Memory
+    }
+}
+
+impl<K: Debug, T: Drop> From<AllocFailed<T>> for Refusal<K> {
+    ghost from_gives = { λ _ e. e ≡ Memory };
+
+    fn from(_error: AllocFailed<T>) -> Refusal<K> {
+        Refusal::Memory
     }
 }

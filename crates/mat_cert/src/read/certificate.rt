@@ -1,10 +1,9 @@
 //! Reading an answer from its text.
 
 ghost use Rattle.std.specs.Prelude.{◌≡◌, ◌≤◌, length, IfOk, Ok};
-ghost use Rattle.mat_words.specs.Cursors.{lines_left, words_left};
+ghost use Rattle.mat_words.specs.{Cursors.{lines_left, words_left}, Reading.{Gives}};
 ghost use Rattle.mat_cert.specs.{
   Certificates.{Certificate, IsRanged, certificate_text},
-  Faults.{Gives},
   Limits.{certificate_limit},
   Reading.{answer_of_command, answer_at, certificate_at, read_of},
   Views.{certificate_of},
@@ -15,8 +14,8 @@ use crate::read::ladders::{assign, best, intersect, rainbow};
 use crate::read::lines::{closed, last_line, version_line};
 use crate::read::packing::{cover, pack, union};
 use crate::read::spanning::{arborescence, disjoint, trees};
-use crate::refusal::{CertKind, CertRefusal, fault};
-use mat_words::{LineCursor, WordCursor, keyed_line, next_word};
+use crate::refusal::{CertKind, CertRefusal};
+use mat_words::{LineCursor, WordCursor, fault, keyed_line, next_word};
 use std::alloc::Global;
 
 /// The answer of the command that this word names, from the words behind it on.

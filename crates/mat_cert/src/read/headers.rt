@@ -1,9 +1,8 @@
 //! The words of a header behind its command.
 
 ghost use Rattle.std.specs.Prelude.{◌<◌, ◌≤◌, IfOk};
-ghost use Rattle.mat_words.specs.Cursors.{words_left};
+ghost use Rattle.mat_words.specs.{Cursors.{words_left}, Reading.{Gives}};
 ghost use Rattle.mat_cert.specs.{
-  Faults.{Gives},
   HeaderReading.{count_at, ladder_header_at, union_header_at, never_header_at, trees_header_at, none_at, classes_header_at, entered_header_at, rainbow_header_at, assign_header_at},
 };
 ghost use Rattle.mat_sets.specs.Limits.{most_elements};

@@ -1,9 +1,8 @@
 //! Ladders: rungs of growing sets, and the answers that are made of them.
 
 ghost use Rattle.std.specs.Prelude.{◌≤◌};
-ghost use Rattle.mat_words.specs.Cursors.{lines_left, words_left};
+ghost use Rattle.mat_words.specs.{Cursors.{lines_left, words_left}, Reading.{Gives}};
 ghost use Rattle.mat_cert.specs.{
-  Faults.{Gives},
   Reading.{rung_at, plain_rung_at, priced_rung_at, rungs_at, ladder_at, intersect_at, best_at, rainbow_at, assign_at},
   Views.{certificate_of},
 };

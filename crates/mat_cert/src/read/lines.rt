@@ -1,13 +1,13 @@
 //! The lines of a certificate that hold no set.
 
-ghost use Rattle.mat_words.specs.Cursors.{lines_left, words_left};
-ghost use Rattle.mat_cert.specs.{Faults.{Gives}, LineReading.{counted_at, version_at, part_at, end_at, closed_at}};
+ghost use Rattle.mat_words.specs.{Cursors.{lines_left, words_left}, Reading.{Gives}};
+ghost use Rattle.mat_cert.specs.{LineReading.{counted_at, version_at, part_at, end_at, closed_at}};
 
 use crate::limits::LARGEST_NUMBER;
 use crate::read::words::{fixed_word, has_this_many};
-use crate::refusal::{CertKind, CertRefusal, fault};
+use crate::refusal::{CertKind, CertRefusal};
 use mat_sets::PairWeights;
-use mat_words::{LineCursor, WordCursor, keyed_line, next_weights, nothing_left};
+use mat_words::{LineCursor, WordCursor, fault, keyed_line, next_weights, nothing_left};
 use std::alloc::Global;
 
 /// The next line, which has to be of this word and as many others.

@@ -1,8 +1,7 @@
 //! Unions, packings and covers: sets of a list of matroids, or of one.
 
-ghost use Rattle.mat_words.specs.Cursors.{lines_left, words_left};
+ghost use Rattle.mat_words.specs.{Cursors.{lines_left, words_left}, Reading.{Gives}};
 ghost use Rattle.mat_cert.specs.{
-  Faults.{Gives},
   Reading.{union_at, bases_at, pack_at, never_at, covering_at, cover_at},
   Views.{certificate_of},
 };

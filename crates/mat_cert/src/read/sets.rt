@@ -1,7 +1,7 @@
 //! Sets on lines of their own, one or many, and levels.
 
-ghost use Rattle.mat_words.specs.{Cursors.{lines_left}, Steps.{repeat_at}};
-ghost use Rattle.mat_cert.specs.{Faults.{Gives}, LineReading.{set_at, option_at, counted_set_at, sets_at, level_at}};
+ghost use Rattle.mat_words.specs.{Cursors.{lines_left}, Reading.{Gives}, Steps.{repeat_at}};
+ghost use Rattle.mat_cert.specs.{LineReading.{set_at, option_at, counted_set_at, sets_at, level_at}};
 
 use crate::answer::LevelLine;
 use crate::read::lines::counted_line;

@@ -1,8 +1,7 @@
 //! Spanning trees and arborescences, and sets of vertices that exclude them.
 
-ghost use Rattle.mat_words.specs.Cursors.{lines_left, words_left};
+ghost use Rattle.mat_words.specs.{Cursors.{lines_left, words_left}, Reading.{Gives}};
 ghost use Rattle.mat_cert.specs.{
-  Faults.{Gives},
   Reading.{found_trees_at, classes_at, trees_at, arbor_at, unreached_at, arborescence_at, entered_at, disjoint_at},
   Views.{certificate_of},
 };
@@ -13,9 +12,9 @@ use crate::read::headers::{classes_header, element_count, entered_header, trees_
 use crate::read::lines::part_line;
 use crate::read::sets::{set_line, set_lines};
 use crate::read::words::{are_this_many, has_this_many, weight_word};
-use crate::refusal::{CertKind, CertRefusal, fault};
+use crate::refusal::{CertKind, CertRefusal};
 use mat_sets::SetList;
-use mat_words::{LineCursor, WordCursor, next_size, next_word};
+use mat_words::{LineCursor, WordCursor, fault, next_size, next_word};
 use std::alloc::Global;
 
 /// Trees that are there, with the number of elements, from the words behind their command on.

@@ -1,13 +1,13 @@
 //! The words of a line.
 
 ghost use Rattle.std.specs.Prelude.{◌≡◌, ◌==◌, length};
-ghost use Rattle.mat_words.specs.Cursors.{words_left};
-ghost use Rattle.mat_cert.specs.{Faults.{Gives}, LineReading.{fixed_at, has_words, weight_at, members_from}};
+ghost use Rattle.mat_words.specs.{Cursors.{words_left}, Reading.{Gives}};
+ghost use Rattle.mat_cert.specs.{LineReading.{fixed_at, has_words, weight_at, members_from}};
 
 use crate::limits::LARGEST_NUMBER;
-use crate::refusal::{CertKind, CertRefusal, fault};
+use crate::refusal::{CertKind, CertRefusal};
 use mat_sets::{ElemSet, Weight};
-use mat_words::{WordCursor, next_below, next_weight, next_word, split_word};
+use mat_words::{WordCursor, fault, next_below, next_weight, next_word, split_word};
 use std::alloc::Global;
 
 /// Whether exactly so many words are left of a line.

@@ -2,7 +2,6 @@
 
 ghost use Rattle.std.specs.Prelude.{◌≤◌, length, IfOk};
 ghost use Rattle.mat_desc.specs.{
-  Faults.{Gives},
   Grammar.{IsValid, Spells},
   Instances.{Instance},
   Limits.{description_limit},
@@ -10,15 +9,15 @@ ghost use Rattle.mat_desc.specs.{
   Soundness.{IsSoundInstance},
   Views.{instance_of, written_instance},
 };
-ghost use Rattle.mat_words.specs.Cursors.{lines_left};
+ghost use Rattle.mat_words.specs.{Cursors.{lines_left}, Reading.{Gives}};
 
 use crate::problem::Problem;
 use crate::read::forms::{coloured, graph, list, pair, rooted, table};
 use crate::read::keywords::{Form, Version, form_from, version_from};
 use crate::read::lines::ended;
 use crate::read::notation::Notation;
-use crate::refusal::{DescKind, DescRefusal, fault};
-use mat_words::{LineCursor, keyed_line, next_word, nothing_left, words_line};
+use crate::refusal::{DescKind, DescRefusal};
+use mat_words::{LineCursor, fault, keyed_line, next_word, nothing_left, words_line};
 use std::alloc::Global;
 
 /// The first line, which names the version.

@@ -1,11 +1,10 @@
 //! Reading a problem of each form, from the words behind the form's word on.
 
 ghost use Rattle.mat_desc.specs.{
-  Faults.{Gives},
   Reading.{pair_at, list_at, graph_at, rooted_at, coloured_at, table_at},
   Views.{written_instance},
 };
-ghost use Rattle.mat_words.specs.Cursors.{lines_left, words_left};
+ghost use Rattle.mat_words.specs.{Cursors.{lines_left, words_left}, Reading.{Gives}};
 
 use crate::limits::{MOST_ELEMENTS, MOST_MATROIDS, MOST_SETS, MOST_VERTICES};
 use crate::problem::Problem;

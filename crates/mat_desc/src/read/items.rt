@@ -2,12 +2,11 @@
 
 ghost use Rattle.std.specs.{Prelude.{◌≡◌, ◌≤◌, length, IfOk}, List.{zip}};
 ghost use Rattle.mat_desc.specs.{
-  Faults.{Gives},
   Limits.{most_digits},
   Reading.{ends_at, ends_line_at, column_at, weighted_at, coloured_edge_at},
   Views.{naming},
 };
-ghost use Rattle.mat_words.specs.{Steps.{repeat_at}, Cursors.{lines_left, words_left}};
+ghost use Rattle.mat_words.specs.{Steps.{repeat_at}, Cursors.{lines_left, words_left}, Reading.{Gives}};
 
 use crate::limits::{LARGEST_WEIGHT, SMALLEST_WEIGHT};
 use crate::read::lines::ended;

@@ -2,14 +2,14 @@
 
 ghost use Rattle.std.specs.Prelude.{◌≡◌, ◌<◌, ◌^◌, [], length, IfOk};
 ghost use Rattle.mat_sets.specs.Sets.{all_below, IsSet};
-ghost use Rattle.mat_words.specs.Cursors.{lines_left, words_left};
-ghost use Rattle.mat_desc.specs.{Faults.{Gives}, Reading.{ended_at, elements_at, weights_at}, Views.{naming}};
+ghost use Rattle.mat_words.specs.{Cursors.{lines_left, words_left}, Reading.{Gives}};
+ghost use Rattle.mat_desc.specs.{Reading.{ended_at, elements_at, weights_at}, Views.{naming}};
 
 use crate::limits::{LARGEST_WEIGHT, SMALLEST_WEIGHT};
 use crate::read::notation::next_member;
-use crate::refusal::{DescKind, DescRefusal, fault};
+use crate::refusal::{DescKind, DescRefusal};
 use mat_sets::{BitSet, ElemSet, PairWeights};
-use mat_words::{LineCursor, Names, WordCursor, keyed_line, next_weights};
+use mat_words::{LineCursor, Names, WordCursor, fault, keyed_line, next_weights};
 use std::alloc::{AllocError, Global};
 
 // The most members of bits that are found one after the other.

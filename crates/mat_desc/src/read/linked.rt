@@ -4,21 +4,20 @@ ghost use Rattle.std.specs.Prelude.{[]};
 ghost use Rattle.mat_desc.specs.{
   Notations.{IsNaming},
   Views.{naming},
-  Faults.{Gives},
   Reading.{set_line_at, distinct_at, targets_at, transversal_at, gammoid_at},
 };
 ghost use Rattle.mat_any.specs.Views.{tree_of};
-ghost use Rattle.mat_words.specs.{Steps.{repeat_at}, Cursors.{lines_left, words_left}};
+ghost use Rattle.mat_words.specs.{Steps.{repeat_at}, Cursors.{lines_left, words_left}, Reading.{Gives}};
 
 use crate::limits::{MOST_ARCS, MOST_SETS, MOST_VERTICES};
 use crate::read::items::ends_lines;
 use crate::read::lines::{elements_line, ended};
-use crate::refusal::{DescKind, DescRefusal, fault};
+use crate::refusal::{DescKind, DescRefusal};
 use mat_any::AnyMatroid;
 use mat_flow::Digraph;
 use mat_linked::{Gammoid, Transversal};
 use mat_sets::{ElemSet, SetList};
-use mat_words::{LineCursor, Names, WordCursor, keyed_line, next_below, next_size};
+use mat_words::{LineCursor, Names, WordCursor, fault, keyed_line, next_below, next_size};
 use std::alloc::Global;
 
 /// A line of this keyword and a set of numbers below `count`.

@@ -4,13 +4,12 @@ ghost use Rattle.std.specs.Prelude.{◌≡◌, ◌<◌, ◌≤◌, ◌++◌, ◌
 ghost use Rattle.mat_sets.specs.Sets.{all_below};
 ghost use Rattle.mat_any.specs.{Trees.{trees_from, union}, Views.{tree_of}};
 ghost use Rattle.mat_desc.specs.{
-  Faults.{Gives},
   Limits.{most_sets},
   Notations.{IsNaming},
   Views.{naming},
   Reading.{class_at, classes_at, nested_set_at, nested_sets_at, uniform_at, partition_at, laminar_at, graphic_at, gf2_at, dual_at, truncate_at, restrict_at, contract_at, union_at, matroid_within, matroid_at, two_matroids_at},
 };
-ghost use Rattle.mat_words.specs.{Steps.{repeat_at}, Cursors.{lines_left, words_left}};
+ghost use Rattle.mat_words.specs.{Steps.{repeat_at}, Cursors.{lines_left, words_left}, Reading.{Gives}};
 
 use crate::limits::{DEEPEST, MOST_DIGITS, MOST_ELEMENTS, MOST_MATROIDS, MOST_SETS, MOST_VERTICES};
 use crate::read::earlier_sets::EarlierSets;
@@ -18,13 +17,15 @@ use crate::read::items::{column_lines, ends_lines};
 use crate::read::keywords::{Keyword, keyword_from};
 use crate::read::lines::{element_bits, elements_line, ended, members_of};
 use crate::read::linked::{gammoid, transversal};
-use crate::refusal::{DescKind, DescRefusal, fault};
+use crate::refusal::{DescKind, DescRefusal};
 use mat_any::AnyMatroid;
 use mat_count::{Laminar, Partition, Uniform};
 use mat_gf2::Gf2;
 use mat_graphic::Graphic;
 use mat_sets::{ElemSet, SetList};
-use mat_words::{LineCursor, Names, WordCursor, keyed_line, next_size, next_word, words_line};
+use mat_words::{
+    LineCursor, Names, WordCursor, fault, keyed_line, next_size, next_word, words_line,
+};
 use std::alloc::Global;
 
 /// A class line of a partition of `count` elements: the cap, and the class, whose elements are put among the taken ones.

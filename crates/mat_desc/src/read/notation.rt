@@ -2,17 +2,18 @@
 
 ghost use Rattle.std.specs.{Prelude.{◌≡◌, true, [], IfOk}, List.{list_all}};
 ghost use Rattle.mat_desc.specs.{
-  Faults.{Gives},
   Notations.{IsNaming, element_naming, vertex_naming},
   Reading.{member_at, names_from, names_line_at, vertex_names_at, notation_at, header_root_at, root_at},
   Views.{notation_of, naming},
 };
-ghost use Rattle.mat_words.specs.{Cursors.{lines_left, words_left}, NameLists.{names_of}, Words.{is_word}};
+ghost use Rattle.mat_words.specs.{Cursors.{lines_left, words_left}, NameLists.{names_of}, Words.{is_word}, Reading.{Gives}};
 
 use crate::read::keywords::Version;
 use crate::read::lines::ended;
-use crate::refusal::{DescKind, DescRefusal, fault};
-use mat_words::{LONGEST_NAME, LineCursor, Names, WordCursor, keyed_line, next_below, next_word};
+use crate::refusal::{DescKind, DescRefusal};
+use mat_words::{
+    LONGEST_NAME, LineCursor, Names, WordCursor, fault, keyed_line, next_below, next_word,
+};
 use std::alloc::Global;
 
 /// How a description writes the elements and the vertices of a problem.

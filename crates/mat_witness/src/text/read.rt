@@ -1,9 +1,9 @@
 //! Reading a witness from its text.
 
 ghost use Rattle.std.specs.Prelude.{◌≡◌, ◌<◌, ◌≤◌, true, length, map, IfOk, Ok};
-ghost use Rattle.mat_words.specs.Cursors.{lines_left};
+ghost use Rattle.mat_words.specs.{Cursors.{lines_left}, Reading.{Gives}};
 ghost use Rattle.mat_any.specs.Views.{tree_of};
-ghost use Rattle.mat_cert.specs.{Certificates.{IsRanged}, Faults.{Gives}, Views.{certificate_of}};
+ghost use Rattle.mat_cert.specs.{Certificates.{IsRanged}, Views.{certificate_of}};
 ghost use Rattle.mat_desc.specs.{Grammar.{IsValid, IsValidTree}, Soundness.{IsSoundInstance}, Views.{instance_of}};
 ghost use Rattle.mat_witness.specs.{
   BoundRows.{row_at},
@@ -21,10 +21,10 @@ use crate::bound_rows::bound_counts;
 use crate::witness::{Most, Witness};
 use mat_any::AnyMatroid;
 use mat_cert::{
-    Answer, CertKind, CertRefusal, PricedRung, closed, counted_line, fault, fixed_word, last_line,
+    Answer, CertKind, CertRefusal, PricedRung, closed, counted_line, fixed_word, last_line,
 };
 use mat_desc::Problem;
-use mat_words::{LineCursor, next_number};
+use mat_words::{LineCursor, fault, next_number};
 use std::alloc::Global;
 
 /// The first line, which names the version.

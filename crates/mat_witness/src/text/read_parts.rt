@@ -2,7 +2,7 @@
 
 ghost use Rattle.std.specs.Prelude.{◌≡◌, ◌≤◌, length, map};
 ghost use Rattle.mat_sets.specs.Limits.{most_elements};
-ghost use Rattle.mat_words.specs.{Cursors.{lines_left, words_left}, Steps.{repeat_at}};
+ghost use Rattle.mat_words.specs.{Cursors.{lines_left, words_left}, Reading.{Gives}, Steps.{repeat_at}};
 ghost use Rattle.mat_witness.specs.{
   BoundRows.{behind},
   Kinds.{listed_sets},
@@ -10,7 +10,7 @@ ghost use Rattle.mat_witness.specs.{
   Views.{bound_part, free_part},
 };
 ghost use Rattle.mat_any.specs.Views.{tree_of};
-ghost use Rattle.mat_cert.specs.{Faults.{Gives}, LineReading.{below_at}};
+ghost use Rattle.mat_cert.specs.LineReading.{below_at};
 ghost use Rattle.mat_desc.specs.Grammar.{IsValidTree};
 
 use crate::witness::{Free, Most};

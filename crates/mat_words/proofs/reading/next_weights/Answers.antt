@@ -1,25 +1,13 @@
-use Rattle.std.proofs.Common.{◌≡◌, ℕ, ◌-◌, ◌<◌, ℤ, List, Result, arith}
+use Rattle.std.proofs.Common.{◌≡◌, arith}
 use Rattle.std.proofs.lemmas.Result.{err_from_is_err_and}
 use Rattle.std.proofs.lemmas.Int.{ints}
 use mir.Val.{to_z, of_z}
 use mir.Syntax.{w128}
-use Rattle.mat_sets.specs.declared.weight.Weight.{Weight}
-use Rattle.mat_words.specs.Cursors.{WordsLeft, words_left}
+use Rattle.mat_words.specs.Cursors.{words_left}
 use Rattle.mat_words.specs.Steps.{repeat_at}
-use Rattle.mat_words.specs.Reading.{Fault, Fails, weight_at, weights_at}
-use Rattle.mat_words.specs.declared.refusal.ReadingRefusal.{ReadingRefusal}
-use Rattle.mat_words.specs.declared.refusal.ReadingRefusal.TheVariants as refusals
-use Rattle.mat_words.proofs.Repeats.{with_front, repeat_more, repeat_fails, repeat_done}
+use Rattle.mat_words.specs.Reading.{weight_at, weights_at}
+use Rattle.mat_words.proofs.Repeats.{repeat_more, repeat_refused, repeat_done}
 use Rattle.mat_words.proofs.reading.next_weights.Goals as goal
-
--- the next word is no such weight, or memory ran out
-weight_fails : (low high : ℤ) (refusal : ReadingRefusal) (front : List Weight) (count i : ℕ) (s : WordsLeft)
-    (total : Result (List Weight × WordsLeft) Fault)
-    → i < count → Fails refusal (weight_at low high s) → with_front front (repeat_at (weight_at low high) (count - i) s) ≡ total
-    → Fails refusal total
-weight_fails low high refusals.Memory front count i s total lt failed so_far = tt
-weight_fails low high (refusals.Fault kind line) front count i s total lt failed so_far =
-    repeat_fails (weight_at low high) (kind, line) front count i s total lt failed so_far
 
 pub returns-in_err-weight : goal.returns-in_err-weight
 unfolding weights_at
@@ -29,7 +17,7 @@ returns-in_err-weight c =
     let low_kept : low ≡ c.args.low = grind (arith, ints, c.ranges.low) in
     let high_kept : high ≡ c.args.high = grind (arith, ints, c.ranges.high) in
     let p = err_from_is_err_and c.from_residual.result c.from_residual.ensures.1 in
-    let failed = weight_fails low high c.in_err-weight.field-0.0 c.loop.weights.items c.args.count c.loop.counter (words_left c.loop.rest)
+    let failed = repeat_refused (weight_at low high) c.in_err-weight.field-0.0 c.loop.weights.items c.args.count c.loop.counter (words_left c.loop.rest)
     (repeat_at (weight_at low high) c.args.count (words_left c.args.words)) c.loop-test.true c.in_err-weight.ensures.value c.loop.invariant in
     rw (p.1, p.2) (rw (low_kept, high_kept) at failed)
 

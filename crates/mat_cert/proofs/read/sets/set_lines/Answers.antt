@@ -1,15 +1,14 @@
 use Rattle.std.proofs.lemmas.Result.{err_from_is_err_and}
 use Rattle.mat_words.specs.Cursors.{lines_left}
 use Rattle.mat_words.specs.Steps.{repeat_at}
-use Rattle.mat_words.proofs.Repeats.{repeat_more, repeat_done}
+use Rattle.mat_words.proofs.Repeats.{repeat_more, repeat_refused, repeat_done}
 use Rattle.mat_cert.specs.LineReading.{set_at}
-use Rattle.mat_cert.proofs.RungLists.{items_fail}
 use Rattle.mat_cert.proofs.read.sets.set_lines.Goals as goal
 
 pub returns-in_err-set : goal.returns-in_err-set
 returns-in_err-set c =
     let p = err_from_is_err_and c.from_residual.result c.from_residual.ensures.1 in
-    rw (p.1, p.2) (items_fail (set_at c.args.key.now c.args.bound) c.in_err-set.field-0.0 c.loop.sets.items c.args.many c.loop.counter
+    rw (p.1, p.2) (repeat_refused (set_at c.args.key.now c.args.bound) c.in_err-set.field-0.0 c.loop.sets.items c.args.many c.loop.counter
     (lines_left c.loop.rest)
     (repeat_at (set_at c.args.key.now c.args.bound) c.args.many (lines_left c.args.lines)) c.loop-test.true c.in_err-set.ensures c.loop.invariant)
 

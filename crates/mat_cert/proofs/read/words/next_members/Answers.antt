@@ -1,12 +1,12 @@
 use Rattle.std.proofs.Common.{◌≡◌, ◌∙◌, sym, []}
 use Rattle.std.proofs.lemmas.Result.{err_from_is_err_and}
 use Rattle.mat_words.specs.Cursors.{parts_left, words_left}
-use Rattle.mat_cert.specs.Faults.{refusal_of}
+use Rattle.mat_words.proofs.ReadingSteps.{told_again, told_fails}
+use Rattle.mat_cert.specs.Faults.{refusal_of, kind_of}
 use Rattle.mat_cert.specs.LineReading.{members_from}
 use Rattle.mat_words.specs.Reading.{below_at}
 use Rattle.mat_words.proofs.WordReading.{some_left, none_left}
 use Rattle.mat_cert.proofs.MemberLists.{members_go_on, members_fall, members_fail, members_done}
-use Rattle.mat_cert.proofs.Told.{told_again, told_fails}
 use Rattle.mat_cert.proofs.read.words.next_members.Goals as goal
 
 pub returns-in_err-member : goal.returns-in_err-member
@@ -16,7 +16,7 @@ returns-in_err-member c =
     (refusal_of c.in_err-member.field-0.0)
     (members_from c.args.bound c.args.words.line 0 (parts_left c.args.words.left))
     (some_left c.loop-rest.rest.left (sym c.is_some.ensures ∙ c.loop-rest-test.true))
-    (told_fails (below_at c.args.bound (words_left c.loop-rest.rest)) c.in_err-member.field-0.0 c.in_err-member.ensures.value)
+    (told_fails kind_of (below_at c.args.bound (words_left c.loop-rest.rest)) c.in_err-member.field-0.0 c.in_err-member.ensures.value)
     c.loop-rest.invariant.reads)
 
 pub returns-then-member-least : goal.returns-then-member-least
@@ -25,7 +25,7 @@ returns-then-member-least c =
     (members_fall c.args.bound c.loop-rest.rest.line c.loop-rest.least c.loop-rest.set (parts_left c.loop-rest.rest.left) c.in_ok-member.member
     (words_left c.in_ok-member.after)
     (members_from c.args.bound c.args.words.line 0 (parts_left c.args.words.left))
-    (told_again (below_at c.args.bound (words_left c.loop-rest.rest)) (c.in_ok-member.member, words_left c.in_ok-member.after)
+    (told_again kind_of (below_at c.args.bound (words_left c.loop-rest.rest)) (c.in_ok-member.member, words_left c.in_ok-member.after)
     c.in_ok-member.ensures.value) c.if-member-least.true
     c.loop-rest.invariant.reads)
 
@@ -34,7 +34,7 @@ loop-rest-smaller c =
     (members_go_on c.args.bound c.loop-rest.rest.line c.loop-rest.least c.loop-rest.set (parts_left c.loop-rest.rest.left) c.in_ok-member.member
     (words_left c.in_ok-member.after)
     (members_from c.args.bound c.args.words.line 0 (parts_left c.args.words.left))
-    (told_again (below_at c.args.bound (words_left c.loop-rest.rest)) (c.in_ok-member.member, words_left c.in_ok-member.after)
+    (told_again kind_of (below_at c.args.bound (words_left c.loop-rest.rest)) (c.in_ok-member.member, words_left c.in_ok-member.after)
     c.in_ok-member.ensures.value) c.if-member-least.false
     c.loop-rest.invariant.below
     c.loop-rest.invariant.reads).shorter
@@ -44,7 +44,7 @@ loop-rest-preserved c =
     let next = members_go_on c.args.bound c.loop-rest.rest.line c.loop-rest.least c.loop-rest.set (parts_left c.loop-rest.rest.left)
     c.in_ok-member.member (words_left c.in_ok-member.after)
     (members_from c.args.bound c.args.words.line 0 (parts_left c.args.words.left))
-    (told_again (below_at c.args.bound (words_left c.loop-rest.rest)) (c.in_ok-member.member, words_left c.in_ok-member.after)
+    (told_again kind_of (below_at c.args.bound (words_left c.loop-rest.rest)) (c.in_ok-member.member, words_left c.in_ok-member.after)
     c.in_ok-member.ensures.value) c.if-member-least.false
     c.loop-rest.invariant.below
     c.loop-rest.invariant.reads in

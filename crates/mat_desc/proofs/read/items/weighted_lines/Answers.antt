@@ -7,8 +7,7 @@ use Rattle.mat_words.specs.Cursors.{lines_left}
 use Rattle.mat_desc.specs.Reading.{weighted_at}
 use Rattle.mat_desc.specs.Views.{naming}
 use Rattle.mat_desc.proofs.Columns.{zip-push}
-use Rattle.mat_words.proofs.Repeats.{repeat_more, repeat_done}
-use Rattle.mat_desc.proofs.Told.{repeat_refused}
+use Rattle.mat_words.proofs.Repeats.{repeat_more, repeat_done, repeat_refused}
 use Rattle.mat_desc.proofs.read.items.weighted_lines.Goals as goal
 
 pub returns-in_err-item-clause-value : goal.returns-in_err-item-clause-value

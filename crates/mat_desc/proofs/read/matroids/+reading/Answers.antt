@@ -6,12 +6,11 @@ use Rattle.std.proofs.lemmas.List.{map-append}
 use Rattle.mat_any.specs.Views.{tree_of}
 use Rattle.mat_words.specs.Steps.{repeat_at}
 use Rattle.mat_words.specs.Cursors.{lines_left, words_left}
-use Rattle.mat_words.proofs.Repeats.{repeat_more, repeat_done}
+use Rattle.mat_words.proofs.Repeats.{repeat_more, repeat_done, repeat_refused}
 use Rattle.mat_desc.specs.Reading.{keyword_of, matroid_within}
 use Rattle.mat_desc.specs.Views.{naming}
 use Rattle.mat_desc.specs.declared.read.keywords.Keyword.TheVariants as keywords
 use Rattle.mat_desc.proofs.Rooms.{within_is}
-use Rattle.mat_desc.proofs.Told.{repeat_refused}
 use Rattle.mat_desc.proofs.read.matroids.+reading.Goals as goal
 
 pub matroids_within-returns-in_err-matroid : goal.matroids_within-returns-in_err-matroid

@@ -6,8 +6,7 @@ use Rattle.mat_words.specs.Steps.{repeat_at}
 use Rattle.mat_desc.specs.Reading.{matroid_at}
 use Rattle.mat_desc.specs.Views.{naming}
 use Rattle.mat_words.specs.Cursors.{lines_left}
-use Rattle.mat_words.proofs.Repeats.{repeat_more, repeat_done}
-use Rattle.mat_desc.proofs.Told.{repeat_refused}
+use Rattle.mat_words.proofs.Repeats.{repeat_more, repeat_done, repeat_refused}
 use Rattle.mat_desc.proofs.read.matroids.next_matroids.Goals as goal
 
 pub returns-in_err-matroid : goal.returns-in_err-matroid

@@ -5,9 +5,9 @@ use Rattle.mat_words.specs.Steps.{repeat_at}
 use Rattle.mat_words.specs.Reading as any_text
 use Rattle.mat_words.proofs.Repeats.{with_front}
 use Rattle.mat_words.proofs.WordReading.{some_left, none_left}
-use Rattle.mat_cert.specs.Faults.{refusal_of}
+use Rattle.mat_words.proofs.ReadingSteps.{told_again, told_fails}
+use Rattle.mat_cert.specs.Faults.{refusal_of, kind_of}
 use Rattle.mat_cert.specs.LineReading.{below_at}
-use Rattle.mat_cert.proofs.Told.{told_again, told_fails}
 use Rattle.mat_witness.proofs.WordRows.{all_done, all_fail, all_more, all_shorter}
 use Rattle.mat_witness.proofs.text.read_parts.all_numbers.Goals as goal
 
@@ -17,13 +17,13 @@ returns-in_err-number c =
     rw (p.1, p.2) (all_fail c.args.bound (refusal_of c.in_err-number.field-0.0) c.loop-rest.numbers.items (words_left c.loop-rest.rest)
     (with_front c.args.front.items (repeat_at (below_at c.args.bound) (length (parts_left c.args.words.left)) (words_left c.args.words)))
     (some_left c.loop-rest.rest.left (sym c.is_some.ensures ∙ c.loop-rest-test.true))
-    (told_fails (any_text.below_at c.args.bound (words_left c.loop-rest.rest)) c.in_err-number.field-0.0 c.in_err-number.ensures.value)
+    (told_fails kind_of (any_text.below_at c.args.bound (words_left c.loop-rest.rest)) c.in_err-number.field-0.0 c.in_err-number.ensures.value)
     c.loop-rest.invariant)
 
 pub loop-rest-smaller : goal.loop-rest-smaller
 loop-rest-smaller c =
     all_shorter c.args.bound (words_left c.loop-rest.rest) c.in_ok-number.number (words_left c.in_ok-number.after)
-    (told_again (any_text.below_at c.args.bound (words_left c.loop-rest.rest)) (c.in_ok-number.number, words_left c.in_ok-number.after)
+    (told_again kind_of (any_text.below_at c.args.bound (words_left c.loop-rest.rest)) (c.in_ok-number.number, words_left c.in_ok-number.after)
     c.in_ok-number.ensures.value)
 
 pub loop-rest-preserved : goal.loop-rest-preserved
@@ -31,7 +31,7 @@ loop-rest-preserved c =
     rw c.in_ok-push.ensures.items (all_more c.args.bound c.loop-rest.numbers.items (words_left c.loop-rest.rest) c.in_ok-number.number
     (words_left c.in_ok-number.after)
     (with_front c.args.front.items (repeat_at (below_at c.args.bound) (length (parts_left c.args.words.left)) (words_left c.args.words)))
-    (told_again (any_text.below_at c.args.bound (words_left c.loop-rest.rest)) (c.in_ok-number.number, words_left c.in_ok-number.after)
+    (told_again kind_of (any_text.below_at c.args.bound (words_left c.loop-rest.rest)) (c.in_ok-number.number, words_left c.in_ok-number.after)
     c.in_ok-number.ensures.value)
     c.loop-rest.invariant)
 

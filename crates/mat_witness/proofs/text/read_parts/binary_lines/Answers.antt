@@ -1,16 +1,15 @@
 use Rattle.std.proofs.lemmas.Result.{err_from_is_err_and}
 use Rattle.mat_words.specs.Cursors.{lines_left}
 use Rattle.mat_words.specs.Steps.{repeat_at}
-use Rattle.mat_words.proofs.Repeats.{repeat_more, repeat_done}
+use Rattle.mat_words.proofs.Repeats.{repeat_more, repeat_done, repeat_refused}
 use Rattle.mat_witness.specs.Reading.{binary_line_at}
-use Rattle.mat_cert.proofs.RungLists.{items_fail}
 use Rattle.mat_witness.proofs.text.read_parts.binary_lines.Goals as goal
 
 pub returns-in_err-number : goal.returns-in_err-number
 returns-in_err-number c =
     let reader = binary_line_at c.args.key.now c.args.digits in
     let p = err_from_is_err_and c.from_residual.result c.from_residual.ensures.1 in
-    rw (p.1, p.2) (items_fail reader c.in_err-number.field-0.0 c.loop.numbers.items c.args.many c.loop.counter (lines_left c.loop.rest)
+    rw (p.1, p.2) (repeat_refused reader c.in_err-number.field-0.0 c.loop.numbers.items c.args.many c.loop.counter (lines_left c.loop.rest)
     (repeat_at reader c.args.many (lines_left c.args.lines)) c.loop-test.true c.in_err-number.ensures c.loop.invariant)
 
 pub loop-preserved : goal.loop-preserved

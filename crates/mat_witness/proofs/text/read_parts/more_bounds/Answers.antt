@@ -3,9 +3,8 @@ use Rattle.std.proofs.lemmas.List.{map-append}
 use Rattle.std.proofs.lemmas.Result.{err_from_is_err_and}
 use Rattle.mat_words.specs.Cursors.{lines_left}
 use Rattle.mat_words.specs.Steps.{repeat_at}
-use Rattle.mat_words.proofs.Repeats.{with_front, repeat_more, repeat_done}
+use Rattle.mat_words.proofs.Repeats.{with_front, repeat_more, repeat_done, repeat_refused}
 use Rattle.mat_any.specs.Views.{tree_of}
-use Rattle.mat_cert.proofs.RungLists.{items_fail}
 use Rattle.mat_witness.specs.Reading.{bound_at}
 use Rattle.mat_witness.specs.Views.{bound_part}
 use Rattle.mat_witness.proofs.text.read_parts.more_bounds.Goals as goal
@@ -14,7 +13,7 @@ pub returns-in_err-bound : goal.returns-in_err-bound
 returns-in_err-bound c =
     let reader = bound_at c.args.count (tree_of c.args.matroid.now) in
     let p = err_from_is_err_and c.from_residual.result c.from_residual.ensures.1 in
-    rw (p.1, p.2) (items_fail reader c.in_err-bound.field-0.0 (map bound_part c.loop.bounds.items) c.args.many c.loop.counter
+    rw (p.1, p.2) (repeat_refused reader c.in_err-bound.field-0.0 (map bound_part c.loop.bounds.items) c.args.many c.loop.counter
     (lines_left c.loop.rest) (with_front (map bound_part c.args.front.items) (repeat_at reader c.args.many (lines_left c.args.lines)))
     c.loop-test.true c.in_err-bound.ensures c.loop.invariant)
 

@@ -1,16 +1,15 @@
 use Rattle.std.proofs.lemmas.Result.{err_from_is_err_and}
 use Rattle.mat_words.specs.Cursors.{words_left}
 use Rattle.mat_words.specs.Steps.{repeat_at}
-use Rattle.mat_words.proofs.Repeats.{repeat_more, repeat_done}
+use Rattle.mat_words.proofs.Repeats.{repeat_more, repeat_done, repeat_refused}
 use Rattle.mat_witness.specs.Reading.{pair_at}
-use Rattle.mat_witness.proofs.WordRows.{words_fail}
 use Rattle.mat_witness.proofs.text.read_parts.next_pairs.Goals as goal
 
 pub returns-in_err-pair : goal.returns-in_err-pair
 returns-in_err-pair c =
     let reader = pair_at c.args.count c.args.vertices in
     let p = err_from_is_err_and c.from_residual.result c.from_residual.ensures.1 in
-    rw (p.1, p.2) (words_fail reader c.in_err-pair.field-0.0 c.loop.pairs.items c.args.many c.loop.counter (words_left c.loop.rest)
+    rw (p.1, p.2) (repeat_refused reader c.in_err-pair.field-0.0 c.loop.pairs.items c.args.many c.loop.counter (words_left c.loop.rest)
     (repeat_at reader c.args.many (words_left c.args.words)) c.loop-test.true c.in_err-pair.ensures c.loop.invariant)
 
 pub loop-preserved : goal.loop-preserved

@@ -1,16 +1,15 @@
 use Rattle.std.proofs.lemmas.Result.{err_from_is_err_and}
 use Rattle.mat_words.specs.Cursors.{lines_left}
 use Rattle.mat_words.specs.Steps.{repeat_at}
-use Rattle.mat_words.proofs.Repeats.{repeat_more, repeat_done}
+use Rattle.mat_words.proofs.Repeats.{repeat_more, repeat_done, repeat_refused}
 use Rattle.mat_witness.specs.Reading.{path_at}
-use Rattle.mat_cert.proofs.RungLists.{items_fail}
 use Rattle.mat_witness.proofs.text.read_parts.path_lines.Goals as goal
 
 pub returns-in_err-path : goal.returns-in_err-path
 returns-in_err-path c =
     let reader = path_at c.args.vertices in
     let p = err_from_is_err_and c.from_residual.result c.from_residual.ensures.1 in
-    rw (p.1, p.2) (items_fail reader c.in_err-path.field-0.0 c.loop.paths.items c.args.many c.loop.counter (lines_left c.loop.rest)
+    rw (p.1, p.2) (repeat_refused reader c.in_err-path.field-0.0 c.loop.paths.items c.args.many c.loop.counter (lines_left c.loop.rest)
     (repeat_at reader c.args.many (lines_left c.args.lines)) c.loop-test.true c.in_err-path.ensures c.loop.invariant)
 
 pub loop-preserved : goal.loop-preserved
