@@ -4,12 +4,12 @@ use Rattle.std.proofs.Common.{◌≡◌, ◌∙◌, ℕ, Bool, true, false, not,
 use Rattle.std.proofs.lemmas.Bool.{and_from, and_parts, both_ways, cases_Bool, false_from_ne_true, false≢true, lt-ltb, ltb-true, not-true, not_from_false, or_left, or_right}
 use Rattle.mat_sets.specs.Families.{family_union}
 use Rattle.mat_sets.specs.Search.{those_below}
-use Rattle.mat_sets.specs.Sets.{all_below, is_member, minus, IsSubset}
+use Rattle.mat_sets.specs.Sets.{all_below, is_member, IsSubset}
 use Rattle.mat_sets.proofs.Cardinalities.{length-minus-intersection}
 use Rattle.mat_sets.proofs.DisjointSets.{apart_from}
 use Rattle.mat_sets.proofs.Families.{IsRising-family_union}
 use Rattle.mat_sets.proofs.Ground.{below_member, is_member-all_below, IsRising-all_below, IsSet-nil}
-use Rattle.mat_sets.proofs.Members.{is_member-minus, same_members, IsRising-minus, IsRising-nil}
+use Rattle.mat_sets.proofs.Members.{IsRising-nil}
 use Rattle.mat_sets.proofs.Search.{is_member-those_below}
 use Rattle.mat_sets.proofs.Truths.{and_all}
 use Rattle.mat_laws.proofs.RankLaws.{rank-maximal}
@@ -17,6 +17,7 @@ use Rattle.mat_union.specs.FilledParts.{IsFilled}
 use Rattle.mat_union.specs.GrownParts.{AreDone, AreFresh, AreGrowing}
 use Rattle.mat_union.specs.PartListLaws.{parts_set, ranks_reached}
 use Rattle.mat_union.specs.Unions.{part_at, AreMatroids, AreParts}
+use Rattle.mat_union.proofs.SpannedElements.{same_outside}
 
 -- with no element marked as spanned
 module _ {n : ℕ} {tests : List (List ℕ → Bool)} (laws : AreMatroids n tests) (parts : List (List ℕ)) (are : AreParts tests parts) where
@@ -59,11 +60,9 @@ module _ (n : ℕ) (old : List (List ℕ)) (elements : List ℕ) (left_out : ele
       let rs = IsRising-family_union new in
       let split = length-minus-intersection S spanned rs in
       let ranks = ranks_reached tests new spanned laws g.are g.set.rising g.spans in
-      let same : minus (all_below n) spanned ≡ minus S spanned = same_members _ _ (IsRising-minus (all_below n) spanned (IsRising-all_below n)) (IsRising-minus S spanned rs)
-      (λ v. is_member-minus v (all_below n) spanned ∙ ap (λ b. b && not (is_member v spanned)) (is_member-all_below v n)
-      ∙ outside (ltb v n) (is_member v S) (is_member v spanned) (λ h. lt-ltb v n (below_member (parts_set laws g.are) h)) (λ h. d.all v (ltb-true v n h) (came v h))
-      ∙ sym (is_member-minus v S spanned)) in
-      let size = ap length same in
+      let size = ap length (same_outside (all_below n) S spanned (IsRising-all_below n) rs
+      (record { inside = λ v h. is_member-all_below v n ∙ lt-ltb v n (below_member (parts_set laws g.are) h) })
+      (λ v h. let l = sym (is_member-all_below v n) ∙ h in d.all v (ltb-true v n l) (came v l))) in
       record { are = g.are; holds = holds; set = g.set; count = omega arith }
     where
       came : (v : ℕ) → ltb v n ≡ true → (is_member v (family_union old) || is_member v elements) ≡ true
@@ -71,10 +70,3 @@ module _ (n : ℕ) (old : List (List ℕ)) (elements : List ℕ) (left_out : ele
         | inl a ↦ or_left (is_member v (family_union old)) (is_member v elements) a
         | inr o ↦ or_right (is_member v (family_union old)) (is_member v elements) (comes v ∙ and_from (ltb v n) (not (is_member v (family_union old))) l (not_from_false _ o))
       ]
-
-      outside : (f s e : Bool) → (s ≡ true → f ≡ true) → (f ≡ true → (s || e) ≡ true) → (f && not e) ≡ (s && not e)
-      outside true true e a b = refl
-      outside true false true a b = refl
-      outside true false false a b = absurd (false≢true (b refl))
-      outside false true e a b = absurd (false≢true (a refl))
-      outside false false e a b = refl

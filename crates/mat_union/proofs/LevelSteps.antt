@@ -3,13 +3,13 @@
 use Rattle.std.proofs.Common.{◌≡◌, ℕ, ◌+◌, ◌<◌, ◌≤◌, Bool, true, false, not, ◌||◌, ◌&&◌, ltb, List, [], ◌∷◌, ◌++◌, length, take, inl, inr, refl, sym, ap, ◌∙◌, subst, arith, length-append}
 use Rattle.std.proofs.Math.Numerals.{add-one}
 use Rattle.std.proofs.Math.Seq.{get_or-append_seam}
-use Rattle.std.proofs.lemmas.Bool.{and_from, and_parts, both_ways, cases_eq, cases_lt, false_from_ne_true, lt-ltb, ltb-true, false≢true}
+use Rattle.std.proofs.lemmas.Bool.{and_from, and_parts, both_ways, cases_eq, cases_lt, false_from_ne_true, lt-ltb, ltb-true}
 use Rattle.std.proofs.lemmas.Int.{ints}
 use Rattle.std.proofs.lemmas.List.{get_or_append_left, map-append, take_all, take_more}
 use Rattle.mat_sets.specs.FallingWeights.{falling_weights, heavy}
 use Rattle.mat_sets.specs.Families.{family_union}
 use Rattle.mat_sets.specs.Search.{some_below, those_below}
-use Rattle.mat_sets.specs.Sets.{is_member, IsRising, IsSet, IsSubset, intersection, minus}
+use Rattle.mat_sets.specs.Sets.{is_member, IsRising, IsSet, IsSubset, intersection}
 use Rattle.mat_sets.specs.Weights.{is_same, weight_at, zero_weight, ◌≼◌}
 use Rattle.mat_sets.specs.declared.weight.Weight.{Weight}
 use Rattle.mat_sets.proofs.Cardinalities.{length-minus-intersection}
@@ -17,7 +17,7 @@ use Rattle.mat_sets.proofs.Equalities.{intersection-subset}
 use Rattle.mat_sets.proofs.FallingWeights.{Falls-at, IsIn-place, falling_weights-Falls, falling_weights-holds, place-IsIn}
 use Rattle.mat_sets.proofs.Families.{IsRising-family_union}
 use Rattle.mat_sets.proofs.Ground.{below_member}
-use Rattle.mat_sets.proofs.Members.{same_members, is_member-intersection, is_member-minus, IsRising-intersection, IsRising-minus}
+use Rattle.mat_sets.proofs.Members.{is_member-intersection, IsRising-intersection}
 use Rattle.mat_sets.proofs.Search.{is_member-those_below, IsSet-those_below, some_below-zero, some_below_from, some_below_gives}
 use Rattle.mat_sets.proofs.Subsets.{length-subset}
 use Rattle.mat_sets.proofs.Truths.{or_commute, same_truth}
@@ -29,6 +29,7 @@ use Rattle.mat_union.specs.PartListLaws.{cut_bounds, parts_set, ranks_reached}
 use Rattle.mat_union.specs.declared.best.Level.{Level}
 use Rattle.mat_union.proofs.Dominated.{weighs, weighs_from, weighs_gives}
 use Rattle.mat_union.proofs.FallingLevels.{are_falling, level_weights}
+use Rattle.mat_union.proofs.SpannedElements.{same_outside}
 
 -- ---- done is what came
 
@@ -137,22 +138,13 @@ module _ {n : ℕ} {tests : List (List ℕ → Bool)} {parts : List (List ℕ)} 
       let whole = ap length (intersection-subset S F rs placed_in) in
       let split = length-minus-intersection S spanned rs in
       let ranks = ranks_reached tests parts spanned laws g.are g.set.rising g.spans in
-      let same : minus F spanned ≡ minus S spanned = same_members _ _ (IsRising-minus F spanned rf) (IsRising-minus S spanned rs) (λ v. is_member-minus v F spanned
-      ∙ outside (is_member v F) (is_member v S) (is_member v spanned) (placed_in.inside v) (λ h. let b = and_parts (ltb v n) (weighs (weight_at w) t v) (sym (in_F v) ∙ h) in d.all v (ltb-true v n b.0) b.1)
-      ∙ sym (is_member-minus v S spanned)) in
-      let size = ap length same in
+      let size = ap length (same_outside F S spanned rf rs placed_in
+      (λ v h. let b = and_parts (ltb v n) (weighs (weight_at w) t v) (sym (in_F v) ∙ h) in d.all v (ltb-true v n b.0) b.1)) in
       record {
         rises = g.set.rising;
         inside = record { inside = λ v h. in_F v ∙ and_from (ltb v n) (weighs (weight_at w) t v) (lt-ltb v n (below_member g.set h)) (d.refused v h) };
         count = omega arith;
       }
-    where
-      outside : (f s e : Bool) → (s ≡ true → f ≡ true) → (f ≡ true → (s || e) ≡ true) → (f && not e) ≡ (s && not e)
-      outside true true e a b = refl
-      outside true false true a b = refl
-      outside true false false a b = absurd (false≢true (b refl))
-      outside false true e a b = absurd (false≢true (a refl))
-      outside false false e a b = refl
 
 -- a cut stays right where the parts lose no element
 pub level_stays : {n : ℕ} {tests : List (List ℕ → Bool)} {parts parts' : List (List ℕ)} (laws : AreMatroids n tests) (w : List Weight) (t : Weight) (cut : List ℕ) → AreParts tests parts'

@@ -1,7 +1,8 @@
 -- Elements come among the spanned ones, and a loop takes them out of the unspanned ones.
 use Rattle.std.proofs.Common.{◌≡◌, ℕ, ◌+◌, ◌<◌, Bool, true, false, not, ◌||◌, ◌&&◌, eqb, List, [], length, get_or, take, refl, sym, ap, ◌∙◌}
-use Rattle.mat_sets.specs.Sets.{is_member, union, without_one}
-use Rattle.mat_sets.proofs.Members.{is_member-union, is_member-without_one}
+use Rattle.std.proofs.lemmas.Bool.{false≢true}
+use Rattle.mat_sets.specs.Sets.{is_member, minus, union, without_one, IsRising, IsSubset}
+use Rattle.mat_sets.proofs.Members.{is_member-minus, is_member-union, is_member-without_one, same_members, IsRising-minus}
 use Rattle.mat_sets.proofs.Steps.{is_member-take_more}
 use Rattle.mat_sets.proofs.Truths.{and_neither}
 
@@ -23,3 +24,16 @@ pub unspanned_more : (set set' xs : List ℕ) (i : ℕ) (start : List ℕ) → i
     → ((v : ℕ) → is_member v set ≡ (is_member v start && not (is_member v (take i xs)))) → (v : ℕ) → is_member v set' ≡ (is_member v start && not (is_member v (take (i + 1) xs)))
 unspanned_more set set' xs i start l e before v = ap (is_member v) e ∙ is_member-without_one v (get_or xs i 0) set ∙ ap (λ b. b && not (eqb v (get_or xs i 0))) (before v)
     ∙ and_neither (is_member v start) (is_member v (take i xs)) (eqb v (get_or xs i 0)) ∙ ap (λ b. is_member v start && not b) (sym (is_member-take_more xs i v l))
+
+-- a set and the elements of the parts have the same members outside the spanned ones, where each member of the set is in a part or spanned
+pub same_outside : (F S spanned : List ℕ) → IsRising F → IsRising S → IsSubset S F → ((v : ℕ) → is_member v F ≡ true → (is_member v S || is_member v spanned) ≡ true)
+    → minus F spanned ≡ minus S spanned
+same_outside F S spanned rf rs inside all = same_members _ _ (IsRising-minus F spanned rf) (IsRising-minus S spanned rs) (λ v. is_member-minus v F spanned
+    ∙ outside (is_member v F) (is_member v S) (is_member v spanned) (inside.inside v) (all v) ∙ sym (is_member-minus v S spanned))
+  where
+    outside : (f s e : Bool) → (s ≡ true → f ≡ true) → (f ≡ true → (s || e) ≡ true) → (f && not e) ≡ (s && not e)
+    outside true true e a b = refl
+    outside true false true a b = refl
+    outside true false false a b = absurd (false≢true (b refl))
+    outside false true e a b = absurd (false≢true (a refl))
+    outside false false e a b = refl
