@@ -130,6 +130,15 @@ module _ {n : ℕ} (tests : List (List ℕ → Bool)) (laws : AreMatroids n test
 
 -- ---- sizes
 
+-- a first part and the other ones share no member of A
+first_apart : (part : List ℕ) (parts : List (List ℕ)) (A : List ℕ) → AreDisjoint (part ∷ parts)
+    → (k : ℕ) → is_member k (intersection part A) ≡ true → is_member k (intersection (family_union parts) A) ≡ false
+first_apart part parts A disjoint k m = false_from_ne_true _ (λ q.
+    let a = and_parts (is_member k part) (is_member k A) (sym (is_member-intersection k part A) ∙ m) in
+    let b = and_parts (is_member k (family_union parts)) (is_member k A) (sym (is_member-intersection k (family_union parts) A) ∙ q) in
+    let w = family_union-gives k parts b.0 in
+    both_ways _ (AreDisjoint-apart (part ∷ parts) 0 (suc w.0) k disjoint (omega arith) (let l = w.1 in omega arith) a.0) w.2)
+
 -- no parts hold more members of A than the ranks of A add up to
 pub ranks_bound : {n : ℕ} (tests : List (List ℕ → Bool)) (parts : List (List ℕ)) (A : List ℕ) → AreMatroids n tests → AreParts tests parts → IsRising A
     → length (intersection (family_union parts) A) ≤ ranks_sum tests A
@@ -147,16 +156,8 @@ ranks_bound (test ∷ tests) (part ∷ parts) A laws are r =
     let rest = ranks_bound tests parts A (AreMatroids-tail laws) (AreParts-tail are) r in
     let few = length-subset (intersection (union part (family_union parts)) A) (union (intersection part A) (intersection (family_union parts) A))
     (IsRising-intersection _ A (IsRising-union part _ ru)) (IsRising-union _ _ (IsRising-intersection _ A ru)) (record { inside = λ k m. grind (arith, set_members) }) in
-    let sum = length-union_apart (intersection part A) (intersection (family_union parts) A) inner (IsRising-intersection _ A ru)
-    (λ k m. none k m) in
+    let sum = length-union_apart (intersection part A) (intersection (family_union parts) A) inner (IsRising-intersection _ A ru) (first_apart part parts A are.disjoint) in
     omega (arith, first, rest, few, sum)
-  where
-    none : (k : ℕ) → is_member k (intersection part A) ≡ true → is_member k (intersection (family_union parts) A) ≡ false
-    none k m = false_from_ne_true _ (λ q.
-        let a = and_parts (is_member k part) (is_member k A) (sym (is_member-intersection k part A) ∙ m) in
-        let b = and_parts (is_member k (family_union parts)) (is_member k A) (sym (is_member-intersection k (family_union parts) A) ∙ q) in
-        let w = family_union-gives k parts b.0 in
-        both_ways _ (AreDisjoint-apart (part ∷ parts) 0 (suc w.0) k are.disjoint (omega arith) (let l = w.1 in omega arith) a.0) w.2)
 
 -- and none fewer where each part is as large in A as A allows
 pub ranks_reached : {n : ℕ} (tests : List (List ℕ → Bool)) (parts : List (List ℕ)) (A : List ℕ) → AreMatroids n tests → AreParts tests parts → IsRising A
@@ -176,16 +177,8 @@ ranks_reached (test ∷ tests) (part ∷ parts) A laws are r h =
     let rest = ranks_reached tests parts A (AreMatroids-tail laws) (AreParts-tail are) r (λ i l. h (suc i) (omega arith)) in
     let same : intersection (union part (family_union parts)) A ≡ union (intersection part A) (intersection (family_union parts) A) = same_members _ _
     (IsRising-intersection _ A (IsRising-union part _ ru)) (IsRising-union _ _ (IsRising-intersection _ A ru)) (λ k. grind (arith, set_members)) in
-    let sum = length-union_apart (intersection part A) (intersection (family_union parts) A) inner (IsRising-intersection _ A ru)
-    (λ k m. none k m) in
+    let sum = length-union_apart (intersection part A) (intersection (family_union parts) A) inner (IsRising-intersection _ A ru) (first_apart part parts A are.disjoint) in
     ap length same ∙ omega (arith, first, rest, sum)
-  where
-    none : (k : ℕ) → is_member k (intersection part A) ≡ true → is_member k (intersection (family_union parts) A) ≡ false
-    none k m = false_from_ne_true _ (λ q.
-        let a = and_parts (is_member k part) (is_member k A) (sym (is_member-intersection k part A) ∙ m) in
-        let b = and_parts (is_member k (family_union parts)) (is_member k A) (sym (is_member-intersection k (family_union parts) A) ∙ q) in
-        let w = family_union-gives k parts b.0 in
-        both_ways _ (AreDisjoint-apart (part ∷ parts) 0 (suc w.0) k are.disjoint (omega arith) (let l = w.1 in omega arith) a.0) w.2)
 
 -- no parts hold more members of F than a cut allows
 pub cut_bounds : {n : ℕ} (tests : List (List ℕ → Bool)) (parts : List (List ℕ)) (F A : List ℕ) → AreMatroids n tests → AreParts tests parts
