@@ -1,5 +1,5 @@
 -- The row of an element at a part answers what a search asks for.
-use Rattle.std.proofs.Common.{◌≡◌, ℕ, ◌<◌, Bool, List, length, refl, sym, ap, ◌∙◌}
+use Rattle.std.proofs.Common.{◌≡◌, ℕ, ◌<◌, Bool, List, length, get_or, map, refl, sym, ap, ◌∙◌, subst, arith}
 use Rattle.mat_sets.specs.Sets.{is_member}
 use Rattle.mat_laws.specs.declared.exchange.Exchange.{Exchange}
 use Rattle.mat_laws.specs.Exchanges.{row_of}
@@ -7,9 +7,10 @@ use Rattle.mat_laws.specs.TightPaths.{Exchanges}
 use Rattle.mat_sets.proofs.Members.{is_member-get_or}
 use Rattle.mat_union.specs.Moves.{exchanges_with}
 use Rattle.mat_union.specs.MoveSearches.{element_asked, IsAnswered, IsReaching}
-use Rattle.mat_union.specs.Unions.{part_at, test_at}
+use Rattle.mat_union.specs.Unions.{part_at, test_at, AreParts}
 use Rattle.mat_union.specs.declared.move_search.MoveSearch.{MoveSearch}
 use Rattle.mat_laws.proofs.Rows.{row_of-adds, row_of-trades}
+use Rattle.mat_union.proofs.SoundMatroids.{parts_count, test_is}
 
 pub row_answers : (tests : List (List ℕ → Bool)) (parts : List (List ℕ)) (s : MoveSearch) (test : List ℕ → Bool) (part : List ℕ) (x q : ℕ) (row : Exchange)
     → x ≡ element_asked s → q ≡ s.part → test_at tests q ≡ test → part ≡ part_at parts q → row ≡ row_of test part x → IsAnswered (exchanges_with tests parts) s row
@@ -23,6 +24,15 @@ row_answers tests parts s test part x q row xe qe te pe re = record {
 
     is : row ≡ row_of (test_at tests s.part) (part_at parts s.part) (element_asked s)
     is = re ∙ named test (test_at tests s.part) part (part_at parts s.part) x (element_asked s) (sym te ∙ ap (test_at tests) qe) (pe ∙ ap (part_at parts) qe) xe
+
+-- so does the row in the matroid at the place that the search asks for
+pub row_told : {M : Type 0} (indep : M → List ℕ → Bool) (matroids : List M) (parts : List (List ℕ)) → AreParts (map indep matroids) parts → (s : MoveSearch) (m : M) (row : Exchange)
+    → {part : List ℕ} {x q : ℕ} → s.part < length parts → x ≡ element_asked s → q ≡ s.part → m ≡ get_or matroids q m → part ≡ part_at parts q → row ≡ row_of (indep m) part x
+    → IsAnswered (exchanges_with (map indep matroids) parts) s row
+row_told indep matroids parts are s m row {part} {x} {q} here xe qe me pe re =
+    let e = parts_count indep matroids parts are in
+    let l : q < length matroids = subst (λ k. k < length matroids) (sym qe) (omega arith) in
+    row_answers (map indep matroids) parts s (indep m) part x q row xe qe (test_is indep matroids q m l me) pe re
 
 pub asked_below : {n m : ℕ} {exchanges : ℕ → Exchanges} {among : List ℕ} {start : ℕ} {s : MoveSearch} → IsReaching n m exchanges among start s → s.head < length s.queue.items → element_asked s < n
 asked_below {n} {m} {exchanges} {among} {start} {s} r l = r.so_far.below (element_asked s) (is_member-get_or s.queue.items s.head (element_asked s) l refl)

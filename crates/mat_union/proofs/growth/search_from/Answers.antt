@@ -1,8 +1,8 @@
 use Rattle.std.proofs.Common.{◌<◌, length, get_or, map, arith, subst, sym}
 use Rattle.mat_union.specs.Moves.{exchanges_with}
 use Rattle.mat_union.specs.MoveSearches.{IsReaching}
-use Rattle.mat_union.proofs.AskedRows.{asked_below, row_answers}
-use Rattle.mat_union.proofs.SoundMatroids.{parts_count, sound_at, test_is}
+use Rattle.mat_union.proofs.AskedRows.{asked_below, row_told}
+use Rattle.mat_union.proofs.SoundMatroids.{parts_count, sound_at}
 use Rattle.mat_union.proofs.growth.search_from.Goals as goal
 
 pub loop-asked-init : goal.loop-asked-init
@@ -29,23 +29,15 @@ tell-requires-clause-open g c = record {
 
 pub loop-asked-preserved : goal.loop-asked-preserved
 loop-asked-preserved g c =
-    let tests = map g.M.Asked.indep c.args.matroids.now in
-    let s = c.loop-asked.search in
-    let e = parts_count g.M.Asked.indep c.args.matroids.now c.args.parts.now c.requires.parts in
-    let l : c.in-Some.asked.part < length c.args.matroids.now = subst (λ q. q < length c.args.matroids.now) (sym c.in-Some.ensures.3) (let h = c.loop-asked.invariant.here in omega arith) in
-    let told = row_answers tests c.args.parts.now s (g.M.Asked.indep c.index-matroids-i.result) c.get.result.now c.in-Some.asked.element c.in-Some.asked.part c.in_ok-row.row c.in-Some.ensures.2 c.in-Some.ensures.3
-    (test_is g.M.Asked.indep c.args.matroids.now c.in-Some.asked.part c.index-matroids-i.result l c.index-matroids-i.is) c.get.ensures.item c.in_ok-row.ensures in
-    (c.in_ok-search-2.ensures c.args.n (length c.args.parts.now) (exchanges_with tests c.args.parts.now) c.args.among.now c.args.x c.loop-asked.invariant c.in-Some.ensures.0 told).0
+    (c.in_ok-search-2.ensures _ _ _ _ _ c.loop-asked.invariant c.in-Some.ensures.0
+    (row_told g.M.Asked.indep c.args.matroids.now c.args.parts.now c.requires.parts c.loop-asked.search c.index-matroids-i.result c.in_ok-row.row c.loop-asked.invariant.here
+    c.in-Some.ensures.2 c.in-Some.ensures.3 c.index-matroids-i.is c.get.ensures.item c.in_ok-row.ensures)).0
 
 pub loop-asked-smaller : goal.loop-asked-smaller
 loop-asked-smaller g c =
-    let tests = map g.M.Asked.indep c.args.matroids.now in
-    let s = c.loop-asked.search in
-    let e = parts_count g.M.Asked.indep c.args.matroids.now c.args.parts.now c.requires.parts in
-    let l : c.in-Some.asked.part < length c.args.matroids.now = subst (λ q. q < length c.args.matroids.now) (sym c.in-Some.ensures.3) (let h = c.loop-asked.invariant.here in omega arith) in
-    let told = row_answers tests c.args.parts.now s (g.M.Asked.indep c.index-matroids-i.result) c.get.result.now c.in-Some.asked.element c.in-Some.asked.part c.in_ok-row.row c.in-Some.ensures.2 c.in-Some.ensures.3
-    (test_is g.M.Asked.indep c.args.matroids.now c.in-Some.asked.part c.index-matroids-i.result l c.index-matroids-i.is) c.get.ensures.item c.in_ok-row.ensures in
-    (c.in_ok-search-2.ensures c.args.n (length c.args.parts.now) (exchanges_with tests c.args.parts.now) c.args.among.now c.args.x c.loop-asked.invariant c.in-Some.ensures.0 told).1
+    (c.in_ok-search-2.ensures _ _ _ _ _ c.loop-asked.invariant c.in-Some.ensures.0
+    (row_told g.M.Asked.indep c.args.matroids.now c.args.parts.now c.requires.parts c.loop-asked.search c.index-matroids-i.result c.in_ok-row.row c.loop-asked.invariant.here
+    c.in-Some.ensures.2 c.in-Some.ensures.3 c.index-matroids-i.is c.get.ensures.item c.in_ok-row.ensures)).1
 
 pub returns-clause-reaching : goal.returns-clause-reaching
 returns-clause-reaching g c = c.loop-asked.invariant
