@@ -18,7 +18,7 @@ use Rattle.mat_laws.specs.Exchanges.{row_of}
 use Rattle.mat_laws.specs.declared.exchange.Exchange.{Exchange}
 use Rattle.mat_laws.proofs.Independent.{rising}
 use Rattle.mat_laws.proofs.Rows.{exchanged, row_outside, row-addable, row-with}
-use Rattle.mat_minors.specs.Minors.{is_truncated, is_restricted, is_contracted}
+use Rattle.mat_minors.specs.Minors.{is_truncated, is_restricted, is_contracted, IsContraction}
 use Rattle.mat_minors.specs.ContractionLaws.{contraction-gives, IsJoined, IsJoined-gives, IsJoined-from}
 
 true_and : (b c : Bool) → c ≡ true → b ≡ (b && c)
@@ -128,6 +128,21 @@ module _ {n : ℕ} {p : List ℕ → Bool} (laws : IsMatroid n p) (away B : List
           sym (contracted_apart (with_one smaller x) (IsSet-with_one n smaller x (IsSet-without_one n X y j.set) small)
           (apart_with smaller away x (less y) out)
           ∙ ap p (union-with_one_left smaller B x s ∙ ap (λ t. with_one t x) (without_one-union X B y s fresh)))
+
+-- a set that is independent in the contraction, together with what is chosen of the contracted elements
+module _ {n : ℕ} {p : List ℕ → Bool} (laws : IsMatroid n p) {away B : List ℕ} (c : IsContraction n p away B) {X J : List ℕ} (together : J ≡ union X B)
+    (passes : is_contracted n away p X ≡ true) where
+  pub joined_passes : p J ≡ true
+  joined_passes = ap p together ∙ (IsJoined-gives laws away B X c.set.rising c.maximal passes).joined
+
+  module _ {x : ℕ} (o : is_member x X ≡ false) (out : is_member x away ≡ false) where
+    pub joined_outside : is_member x J ≡ false
+    joined_outside = ap (is_member x) together ∙ outside_joined laws away B c.set c.maximal X x o out
+
+    pub joined_row : x < n → (inner row : Exchange) → inner ≡ row_of p J x → row.addable ≡ inner.addable → row.with ≡ minus inner.with B
+        → row ≡ row_of (is_contracted n away p) X x
+    joined_row small inner row told =
+        contracted_row laws away B c.set c.maximal X x inner row passes small o out (told ∙ ap (λ K. row_of p K x) together)
 
 -- a contracted element has no exchanges
 pub contracted_row_outside : (n : ℕ) (p : List ℕ → Bool) (away X : List ℕ) (x : ℕ) (row : Exchange) → IsRising away

@@ -1,8 +1,5 @@
-use Rattle.std.proofs.Common.{refl, sym, ap, ◌∙◌}
-use Rattle.mat_laws.specs.Exchanges.{row_of}
-use Rattle.mat_sets.specs.Sets.{is_member}
-use Rattle.mat_minors.specs.ContractionLaws.{IsJoined-gives}
-use Rattle.mat_minors.proofs.MinorRows.{contracted_row, contracted_row_outside, outside_joined}
+use Rattle.std.proofs.Common.{refl, sym, ◌∙◌}
+use Rattle.mat_minors.proofs.MinorRows.{contracted_row_outside, joined_outside, joined_passes, joined_row}
 use Rattle.mat_minors.proofs.contraction.ContractionMatroid.row.Goals as goal
 
 pub returns-then-contains-clause-row : goal.returns-then-contains-clause-row
@@ -12,26 +9,15 @@ returns-then-contains-clause-row g c =
 
 pub row-requires-clause-base : goal.row-requires-clause-base
 row-requires-clause-base g c =
-    let laws = g.met.M.Matroid.laws c.args.self.now.inner c.requires.sound.0 in
-    let contraction = c.requires.sound.1 in
-    let self = c.args.self.now in
-    ap (g.M.Matroid.indep self.inner) c.requires.kept.0
-    ∙ (IsJoined-gives laws self.away self.chosen c.args.base.now contraction.set.rising contraction.maximal c.requires.base).joined
+    joined_passes (g.met.M.Matroid.laws c.args.self.now.inner c.requires.sound.0) c.requires.sound.1 c.requires.kept.0 c.requires.base
 
 pub row-requires-clause-outside : goal.row-requires-clause-outside
 row-requires-clause-outside g c =
-    let laws = g.met.M.Matroid.laws c.args.self.now.inner c.requires.sound.0 in
-    let contraction = c.requires.sound.1 in
-    ap (is_member c.args.x) c.requires.kept.0
-    ∙ outside_joined laws _ _ contraction.set contraction.maximal c.args.base.now c.args.x c.requires.outside
-    (sym c.contains.ensures.found ∙ c.if-contains.false)
+    joined_outside (g.met.M.Matroid.laws c.args.self.now.inner c.requires.sound.0) c.requires.sound.1 c.requires.kept.0 c.requires.base
+    c.requires.outside (sym c.contains.ensures.found ∙ c.if-contains.false)
 
 pub returns-clause-row : goal.returns-clause-row
 returns-clause-row g c =
-    let laws = g.met.M.Matroid.laws c.args.self.now.inner c.requires.sound.0 in
-    let contraction = c.requires.sound.1 in
-    contracted_row laws _ _ contraction.set contraction.maximal c.args.base.now c.args.x c.in_ok-inner.inner _ c.requires.base c.requires.below
-    c.requires.outside
-    (sym c.contains.ensures.found ∙ c.if-contains.false)
-    (c.in_ok-inner.ensures.row ∙ ap (λ J. row_of (g.M.Matroid.indep c.args.self.now.inner) J c.args.x) c.requires.kept.0)
+    joined_row (g.met.M.Matroid.laws c.args.self.now.inner c.requires.sound.0) c.requires.sound.1 c.requires.kept.0 c.requires.base
+    c.requires.outside (sym c.contains.ensures.found ∙ c.if-contains.false) c.requires.below c.in_ok-inner.inner _ c.in_ok-inner.ensures.row
     refl c.in_ok-minus.ensures.members
