@@ -1,12 +1,12 @@
 -- Gaps of the unit: n numbers take at most n of n + 1 gaps, and a shift that moves a free gap to the end of the unit is free.
-use Rattle.std.proofs.Common.{◌≡◌, ◌≢◌, ℕ, ◌+◌, ◌-◌, ◌*◌, ◌/◌, ◌%◌, ◌<◌, ◌≤◌, true, false, List, length, get_or, inl, inr, sym, ap, ◌∙◌, arith}
-use Rattle.std.proofs.lemmas.Bool.{both_ways, cases_Bool, cases_eq, cases_lt}
+use Rattle.std.proofs.Common.{◌≡◌, ◌≢◌, ℕ, ◌+◌, ◌-◌, ◌*◌, ◌/◌, ◌%◌, ◌<◌, ◌≤◌, true, false, not, List, length, get_or, inl, inr, sym, ap, ◌∙◌, arith}
+use Rattle.std.proofs.lemmas.Bool.{and_parts, both_ways, cases_Bool, cases_eq, cases_lt, ltb-true, not-true}
 use Rattle.std.proofs.lemmas.Nat.{div_below, div-add-mod', mod-mul-add, mod_below}
-use Rattle.mat_sets.specs.Sets.{is_member, with_one, IsSet}
+use Rattle.mat_sets.specs.Sets.{all_below, is_member, minus, with_one, IsSet}
 use Rattle.mat_sets.proofs.Cardinalities.{length-with_one}
 use Rattle.mat_sets.proofs.DisjointSets.{with_one-holds}
-use Rattle.mat_sets.proofs.Ground.{IsSet-with_one}
-use Rattle.mat_sets.proofs.Members.{with_one-member}
+use Rattle.mat_sets.proofs.Ground.{is_member-all_below, length-complement, IsSet-with_one}
+use Rattle.mat_sets.proofs.Members.{is_member-get_or, is_member-minus, with_one-member}
 use Rattle.mat_sets.proofs.Subsets.{IsSubset-with_one}
 use Rattle.mat_arbor.specs.Halves.{gap_at, tie_gap, unit_of, IsFreeShift}
 
@@ -58,3 +58,15 @@ module _ (unit : ℕ) (held : List ℕ) (is : unit ≡ unit_of (length held)) wh
     below = omega arith;
     free = λ a la. moved (get_or held a 0) j l (λ same. both_ways _ free (ap (λ k. is_member k taken) (sym same) ∙ t.each a la));
   })
+
+-- a gap of n + 1 is left where at most n are taken, and it is not taken
+pub free_gap : (n : ℕ) (taken free : List ℕ) → IsSet (n + 1) taken → length taken ≤ n → free ≡ minus (all_below (n + 1)) taken
+    → (0 < length free) × ((j : ℕ) → get_or free 0 0 ≡ j → (j < n + 1) × (is_member j taken ≡ false))
+free_gap n taken free set few made =
+    let some : 0 < length free = omega (arith, ap length made, length-complement (n + 1) taken set.rising set.below) in (
+      some,
+      λ j at.
+          let parts = and_parts (is_member j (all_below (n + 1))) (not (is_member j taken))
+          (sym (is_member-minus j (all_below (n + 1)) taken) ∙ ap (is_member j) (sym made) ∙ is_member-get_or free 0 j some at) in
+          (ltb-true j (n + 1) (sym (is_member-all_below j (n + 1)) ∙ parts.0), not-true (is_member j taken) parts.1),
+    )

@@ -1,10 +1,13 @@
 -- Weights as single numbers: where the ties of two weights differ by less than the unit, the order of their values is theirs.
 -- Idea: a main that is larger by 1 makes the value larger by the unit, which the ties cannot make up for.
-use Rattle.std.proofs.Common.{◌≡◌, ℕ, zero, suc, ◌+◌, ◌%◌, ◌<◌, List, ◌∷◌, [], ◌++◌, length, get_or, map, take, ℤ, pos, neg_ℤ, ◌+ℤ◌, ◌*ℤ◌, ◌<ℤ◌, ◌≤ℤ◌, sym, ap, ◌∙◌, arith}
+use mir.Syntax.{w128}
+use Rattle.std.proofs.Common.{◌≡◌, ℕ, zero, suc, ◌+◌, ◌%◌, ◌^◌, ◌<◌, List, ◌∷◌, [], ◌++◌, length, get_or, map, take, ℤ, pos, neg_ℤ, ◌+ℤ◌, ◌*ℤ◌, ◌<ℤ◌, ◌≤ℤ◌, sym, ap, ◌∙◌, arith, to_z, of_z}
 use Rattle.std.proofs.Math.IntN.{*ℤ-one, suc_ℤ-*ℤ, zero-*ℤ}
 use Rattle.std.proofs.lemmas.Int.{ints, by_lt_z}
 use Rattle.std.proofs.lemmas.List.{map_more}
 use Rattle.std.proofs.lemmas.Nat.{div-add-mod'}
+use Rattle.mat_sets.specs.Limits.{largest_weight}
+use Rattle.mat_sets.specs.Sums.{IsWithin}
 use Rattle.mat_sets.specs.Weights.{◌≼◌}
 use Rattle.mat_sets.specs.declared.weight.Weight.{Weight}
 use Rattle.mat_arbor.specs.Halves.{value, weight_of}
@@ -25,6 +28,18 @@ times_negated (suc u) a = omega (arith, ints, times_suc u (neg_ℤ a), times_suc
 pub times_le : (u : ℕ) (a b : ℤ) → a ≤ℤ b → (pos u *ℤ a) ≤ℤ (pos u *ℤ b)
 times_le zero a b l = omega (arith, ints, zero-*ℤ a, zero-*ℤ b)
 times_le (suc u) a b l = omega (arith, ints, times_suc u a, times_suc u b, times_le u a b l)
+
+-- the product of the unit and a main, as it is computed, and its bounds
+pub product_is : (u : ℕ) (main : ℤ) → u < 2 ^ 64 → IsWithin largest_weight main → (to_z w128 u *ℤ to_z w128 (of_z w128 main) ≡ pos u *ℤ main)
+    × ((neg_ℤ (pos u *ℤ pos largest_weight)) ≤ℤ (pos u *ℤ main)) × ((pos u *ℤ main) ≤ℤ (pos u *ℤ pos largest_weight))
+product_is u main most small =
+    let unit_is : to_z w128 u ≡ pos u = omega (arith, ints) in
+    let main_is : to_z w128 (of_z w128 main) ≡ main = omega (arith, ints) in
+    let low = times_le u (neg_ℤ (pos largest_weight)) main small.0 in (
+      ap (λ z. z *ℤ to_z w128 (of_z w128 main)) unit_is ∙ ap (λ z. pos u *ℤ z) main_is,
+      omega (arith, ints, times_negated u (pos largest_weight)),
+      times_le u main (pos largest_weight) small.1,
+    )
 
 -- ---- the order of values
 
