@@ -7,24 +7,20 @@ returns-then-is_goal-clause-take g c =
     let r = g.R.SearchGraph in
     let of = c.args.relation.now in
     rw (c.remove.ensures, c.in_ok-push.ensures.items)
-    (goal_taken (r.count of) (r.arc of c.args.u) (r.goal of) c.args.u c.args.live.now c.args.found.now.items c.args.before.now.items
-    c.loop-next.from c.loop-next.live c.loop-next.found.items c.loop-next.before.items c.requires.live c.requires.long c.loop-next.invariant
-    c.in-Some.next c.in-Some.ensures (sym c.is_goal.ensures ∙ c.if-is_goal.true))
+    (goal_taken _ (r.arc of c.args.u) (r.goal of) _ _ _ _ _ _ _ _ c.requires.live c.requires.long c.loop-next.invariant _ c.in-Some.ensures
+    (sym c.is_goal.ensures ∙ c.if-is_goal.true))
 
 pub returns-then-is_goal-clause-more : goal.returns-then-is_goal-clause-more
 returns-then-is_goal-clause-more g c =
     let r = g.R.SearchGraph in
     let of = c.args.relation.now in
     rw c.in_ok-push.ensures.items
-    (followed_more (r.count of) (r.arc of c.args.u) (r.goal of) c.args.u c.args.live.now c.args.found.now.items c.args.before.now.items
-    c.loop-next.from c.loop-next.live c.loop-next.found.items c.loop-next.before.items c.requires.live c.requires.long c.loop-next.invariant
-    c.in-Some.next c.in-Some.ensures)
+    (followed_more _ (r.arc of c.args.u) (r.goal of) _ _ _ _ _ _ _ _ c.requires.live c.requires.long c.loop-next.invariant _ c.in-Some.ensures)
 
 pub loop-next-preserved : goal.loop-next-preserved
 loop-next-preserved g c =
     let r = g.R.SearchGraph in
     let of = c.args.relation.now in
     rw (c.remove.ensures, c.in_ok-push.ensures.items)
-    (IsTaking-more (r.count of) (r.arc of c.args.u) (r.goal of) c.args.u c.args.live.now c.args.found.now.items c.args.before.now.items
-    c.loop-next.from c.loop-next.live c.loop-next.found.items c.loop-next.before.items c.requires.live c.requires.long c.loop-next.invariant
-    c.in-Some.next c.in-Some.ensures (sym c.is_goal.ensures ∙ c.if-is_goal.false))
+    (IsTaking-more _ (r.arc of c.args.u) (r.goal of) _ _ _ _ _ _ _ _ c.requires.live c.requires.long c.loop-next.invariant _ c.in-Some.ensures
+    (sym c.is_goal.ensures ∙ c.if-is_goal.false))
