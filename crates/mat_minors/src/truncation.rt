@@ -1,5 +1,5 @@
 //! Truncations.
-ghost use Rattle.std.specs.Prelude.{◌≡◌};
+ghost use Rattle.std.specs.Prelude.{◌≡◌, ◌&&◌};
 ghost use Rattle.mat_minors.specs.{Minors.{is_truncated}, MinorLaws.{truncated_laws}};
 
 use crate::run_orders::first_taken;
@@ -39,6 +39,17 @@ impl<M: Matroid> Truncation<M> {
     }
 }
 
+// These exchanges, of which the element can be added only where there is room.
+fn addable_where(inner: Exchange, room: bool) -> Exchange
+    ensures addable { result.addable ≡ (inner.addable && room) }
+    ensures with { result.with ≡ inner.with }
+{
+    Exchange {
+        addable: inner.addable && room,
+        with: inner.with,
+    }
+}
+
 impl<M: Matroid> Matroid for Truncation<M> {
     ghost ground_size = { λ m. M.ground_size m.inner };
 
@@ -68,10 +79,7 @@ impl<M: Matroid> Matroid for Truncation<M> {
     /// only error is want of memory.
     fn circuit(&self, alloc: Global, base: &ElemSet, x: u32) -> Result<Exchange, AllocError> {
         let inner = self.inner.circuit(alloc, base, x)?;
-        Ok(Exchange {
-            addable: inner.addable && base.len() < self.cap as usize,
-            with: inner.with,
-        })
+        Ok(addable_where(inner, base.len() < self.cap as usize))
     }
 
     /// One run of the inner matroid, of which the first that the order has are taken, up to the cap. The only error is want of
@@ -96,9 +104,6 @@ impl<M: Matroid> Matroid for Truncation<M> {
         x: u32,
     ) -> Result<Exchange, AllocError> {
         let inner = self.inner.row(alloc, base, kept, x)?;
-        Ok(Exchange {
-            addable: inner.addable && base.len() < self.cap as usize,
-            with: inner.with,
-        })
+        Ok(addable_where(inner, base.len() < self.cap as usize))
     }
 }
