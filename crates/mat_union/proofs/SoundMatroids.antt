@@ -7,6 +7,12 @@ use Rattle.std.proofs.lemmas.List.Elements.{All-get_or}
 use Rattle.mat_laws.specs.Matroids.{IsMatroid}
 use Rattle.mat_union.specs.GrownParts.{AreKept, AreSound}
 use Rattle.mat_union.specs.Unions.{part_at, test_at, AreMatroids, AreParts}
+use Rattle.mat_union.specs.UnionsOf.{common_size, AreJoined}
+
+-- a slice of the joined matroids has sound ones on the number of elements that is told
+pub sound_slice : {M : Type 0} (size : M → ℕ) (sound : M → Type 0) {slice matroids : List M} {n : ℕ} → slice ≡ matroids → n ≡ common_size size matroids
+    → AreJoined size sound matroids → AreSound size sound n slice
+sound_slice size sound {slice} {matroids} {n} e f joined = subst (AreSound size sound n) (sym e) (subst (λ k. AreSound size sound k matroids) (sym f) joined.each)
 
 module _ {M : Type 0} (size : M → ℕ) (sound : M → Type 0) (n : ℕ) (matroids : List M) (all : AreSound size sound n matroids) where
   pub sound_at : (i : ℕ) (m : M) → i < length matroids → m ≡ get_or matroids i m → sound m × (size m ≡ n)

@@ -2,16 +2,14 @@ use Rattle.std.proofs.Common.{◌≡◌, ◌<◌, map, subst, sym}
 use Rattle.std.specs.Prelude.{IfOk}
 use Rattle.mat_laws.specs.declared.exchange.Exchange.{Exchange}
 use Rattle.mat_laws.specs.Exchanges.{row_of}
-use Rattle.mat_union.specs.GrownParts.{AreKeptParts, AreSound}
+use Rattle.mat_union.specs.GrownParts.{AreKeptParts}
 use Rattle.mat_union.specs.Unions.{union_test}
+use Rattle.mat_union.proofs.SoundMatroids.{sound_slice}
 use Rattle.mat_union.proofs.union_of.UnionOfMatroid.row.Goals as goal
 
 pub row_of_parts-requires-clause-sound : goal.row_of_parts-requires-clause-sound
 row_of_parts-requires-clause-sound g c =
-    let items = c.args.self.now.parts.items in
-    let size = g.M.Matroid.ground_size in
-    let sound = g.M.Matroid.sound in
-    subst (AreSound size sound c.size-n.result) (sym c.as_slice.ensures.value) (subst (λ k. AreSound size sound k items) (sym c.size-n.ensures) c.requires.sound.each)
+    sound_slice g.M.Matroid.ground_size g.M.Matroid.sound c.as_slice.ensures.value c.size-n.ensures c.requires.sound
 
 pub row_of_parts-requires-clause-kept : goal.row_of_parts-requires-clause-kept
 row_of_parts-requires-clause-kept g c =

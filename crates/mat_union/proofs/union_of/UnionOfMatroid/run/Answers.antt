@@ -2,16 +2,13 @@ use Rattle.std.proofs.Common.{◌≡◌, [], map, subst, sym}
 use Rattle.std.specs.Prelude.{IfOk}
 use Rattle.mat_sets.specs.Sets.{AllBelow}
 use Rattle.mat_laws.specs.GreedyRuns.{grown_along}
-use Rattle.mat_union.specs.GrownParts.{AreSound}
 use Rattle.mat_union.specs.Unions.{union_test}
+use Rattle.mat_union.proofs.SoundMatroids.{sound_slice}
 use Rattle.mat_union.proofs.union_of.UnionOfMatroid.run.Goals as goal
 
 pub run_along-requires-clause-sound : goal.run_along-requires-clause-sound
 run_along-requires-clause-sound g c =
-    let items = c.args.self.now.parts.items in
-    let size = g.M.Matroid.ground_size in
-    let sound = g.M.Matroid.sound in
-    subst (AreSound size sound c.size-n.result) (sym c.as_slice.ensures.value) (subst (λ k. AreSound size sound k items) (sym c.size-n.ensures) c.requires.sound.each)
+    sound_slice g.M.Matroid.ground_size g.M.Matroid.sound c.as_slice.ensures.value c.size-n.ensures c.requires.sound
 
 pub run_along-requires-clause-below : goal.run_along-requires-clause-below
 run_along-requires-clause-below g c = subst (λ k. AllBelow k c.args.order.now) (sym c.size-n.ensures) c.requires.below
