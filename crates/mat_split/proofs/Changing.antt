@@ -47,34 +47,27 @@ module _ (I path : List ℕ) (i x : ℕ) (r : IsRising I) (l : i < length path) 
   on_path : (z : ℕ) → is_member z (take (i + 1) path) ≡ (is_member z (take i path) || eqb z x)
   on_path z = rw at (is_member-take_more path i z l)
 
+  abbrev before : List ℕ
+  before = exchanged_along I (take i path)
+
+  rising : IsRising before
+  rising = IsRising-exchanged_along I (take i path) r
+
+  is_next : (set : List ℕ) → IsRising set
+      → ((z : ℕ) → is_member z set
+      ≡ (((is_member z (take i path) || eqb z x) && not (is_member z I)) || (is_member z I && not (is_member z (take i path) || eqb z x))))
+      → set ≡ next
+  is_next set rises agree = same_members set next rises (IsRising-exchanged_along I (take (i + 1) path) r)
+      (λ z. rw (is_member-exchanged_along z I (take (i + 1) path), on_path z) (agree z))
+
   -- a vertex that is a member is taken out
-  pub exchanged_along_member : is_member x I ≡ true → without_one (exchanged_along I (take i path)) x ≡ next
-  exchanged_along_member inside =
-      same_members (without_one (exchanged_along I (take i path)) x) next
-      (IsRising-without_one _ x (IsRising-exchanged_along I (take i path) r)) (IsRising-exchanged_along I (take (i + 1) path) r) agree
-    where
-      agree : (z : ℕ) → is_member z (without_one (exchanged_along I (take i path)) x) ≡ is_member z next
-      agree z =
-          rw (
-            is_member-without_one z x (exchanged_along I (take i path)),
-            is_member-exchanged_along z I (take i path),
-            is_member-exchanged_along z I (take (i + 1) path),
-            on_path z,
-          )
-          (taken (is_member z (take i path)) (is_member z I) (eqb z x) (λ e. subst (λ v. is_member v I ≡ true) (sym (eqb-true z x e)) inside))
+  pub exchanged_along_member : is_member x I ≡ true → without_one before x ≡ next
+  exchanged_along_member inside = is_next (without_one before x) (IsRising-without_one before x rising)
+      (λ z. rw (is_member-without_one z x before, is_member-exchanged_along z I (take i path))
+      (taken (is_member z (take i path)) (is_member z I) (eqb z x) (λ e. subst (λ v. is_member v I ≡ true) (sym (eqb-true z x e)) inside)))
 
   -- and each other one is added
-  pub exchanged_along_other : is_member x I ≡ false → with_one (exchanged_along I (take i path)) x ≡ next
-  exchanged_along_other outside =
-      same_members (with_one (exchanged_along I (take i path)) x) next
-      (IsRising-with_one _ x (IsRising-exchanged_along I (take i path) r)) (IsRising-exchanged_along I (take (i + 1) path) r) agree
-    where
-      agree : (z : ℕ) → is_member z (with_one (exchanged_along I (take i path)) x) ≡ is_member z next
-      agree z =
-          rw (
-            is_member-with_one z x (exchanged_along I (take i path)),
-            is_member-exchanged_along z I (take i path),
-            is_member-exchanged_along z I (take (i + 1) path),
-            on_path z,
-          )
-          (added (is_member z (take i path)) (is_member z I) (eqb z x) (λ e. subst (λ v. is_member v I ≡ false) (sym (eqb-true z x e)) outside))
+  pub exchanged_along_other : is_member x I ≡ false → with_one before x ≡ next
+  exchanged_along_other outside = is_next (with_one before x) (IsRising-with_one before x rising)
+      (λ z. rw (is_member-with_one z x before, is_member-exchanged_along z I (take i path))
+      (added (is_member z (take i path)) (is_member z I) (eqb z x) (λ e. subst (λ v. is_member v I ≡ false) (sym (eqb-true z x e)) outside)))
