@@ -116,6 +116,13 @@ exchanged_below : {n : ℕ} {p : List ℕ → Bool} → IsMatroid n p → (I : L
     → x < n
 exchanged_below laws I x y ok = member_below laws (with_one (without_one I y) x) ok x (grind (arith, set_members))
 
+-- a heaviest set stays heaviest where its exchanges gain nothing after the weights change either
+stays_heaviest : {n : ℕ} {p : List ℕ → Bool} → IsMatroid n p → (w changed : ℕ → Weight) (I : List ℕ) → IsHeaviest p w I
+    → ((x y : ℕ) → x < n → y < n → (exchanges_at p I).trades y x ≡ true → w x ≼ w y → changed x ≼ changed y) → IsHeaviest p changed I
+stays_heaviest {n} {p} laws w changed I heaviest keeps = heaviest_from_exchanges laws changed I heaviest.passes (λ x y m o ok.
+    keeps x y (exchanged_below laws I x y ok) (member_below laws I heaviest.passes y m) (exchangeable_from p I y x m o ok)
+    (exchange_gains_nothing laws w I x y heaviest m o ok))
+
 module _ {n : ℕ} {p q : List ℕ → Bool} (lp : IsMatroid n p) (lq : IsMatroid n q) (w1 w2 : ℕ → Weight) (I R : List ℕ)
     (first_heaviest : IsHeaviest p w1 I) (second_heaviest : IsHeaviest q w2 I)
     (stuck : IsStuckReach n (exchanges_at p I) (exchanges_at q I) w1 w2 R) where
@@ -162,23 +169,13 @@ module _ {n : ℕ} {p q : List ℕ → Bool} (lp : IsMatroid n p) (lq : IsMatroi
   module _ (d : Weight) (slack : IsLeastSlack n (exchanges_at p I) (exchanges_at q I) w1 w2 R d) where
     -- I stays heaviest in the first matroid
     first_stays_heaviest : IsHeaviest p (lowered w1 R d) I
-    first_stays_heaviest =
-        heaviest_from_exchanges lp (lowered w1 R d) I first_heaviest.passes (λ x y m o ok.
-        let gains = exchange_gains_nothing lp w1 I x y first_heaviest m o ok in
-        let lx = exchanged_below lp I x y ok in
-        let ly = member_below lp I first_heaviest.passes y m in
-        lowered-keeps w1 R d x y (slack_positive d slack.slack) gains
-        (λ yr xr. slack.least (w1 y ⊖ w1 x) (first_exchange y x ly lx (exchangeable_from p I y x m o ok) yr xr refl)))
+    first_stays_heaviest = stays_heaviest lp w1 (lowered w1 R d) I first_heaviest (λ x y lx ly t gains.
+        lowered-keeps w1 R d x y (slack_positive d slack.slack) gains (λ yr xr. slack.least (w1 y ⊖ w1 x) (first_exchange y x ly lx t yr xr refl)))
 
     -- and in the second
     second_stays_heaviest : IsHeaviest q (raised w2 R d) I
-    second_stays_heaviest =
-        heaviest_from_exchanges lq (raised w2 R d) I second_heaviest.passes (λ x y m o ok.
-        let gains = exchange_gains_nothing lq w2 I x y second_heaviest m o ok in
-        let lx = exchanged_below lq I x y ok in
-        let ly = member_below lq I second_heaviest.passes y m in
-        raised-keeps w2 R d x y (slack_positive d slack.slack) gains
-        (λ xr yr. slack.least (w2 y ⊖ w2 x) (second_exchange x y lx ly (exchangeable_from q I y x m o ok) xr yr refl)))
+    second_stays_heaviest = stays_heaviest lq w2 (raised w2 R d) I second_heaviest (λ x y lx ly t gains.
+        raised-keeps w2 R d x y (slack_positive d slack.slack) gains (λ xr yr. slack.least (w2 y ⊖ w2 x) (second_exchange x y lx ly t xr yr refl)))
 
     -- a source stays a source
     source_stays : (v : ℕ) → v < n → is_heaviest_addable n (exchanges_at p I) w1 v ≡ true
