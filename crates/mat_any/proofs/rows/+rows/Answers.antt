@@ -14,8 +14,8 @@ use Rattle.mat_union.specs.GrownParts.{AreKept}
 use Rattle.mat_union.specs.Moves.{exchanges_with}
 use Rattle.mat_union.specs.MoveSearches.{IsReaching}
 use Rattle.mat_union.specs.Unions.{AreMatroids}
-use Rattle.mat_union.proofs.AskedRows.{asked_below, row_answers}
-use Rattle.mat_union.proofs.SoundMatroids.{kept_at, part_passes, parts_count, sound_at, test_is}
+use Rattle.mat_union.proofs.AskedRows.{asked_below, row_told}
+use Rattle.mat_union.proofs.SoundMatroids.{kept_at, part_passes, parts_count, sound_at}
 use Rattle.mat_any.specs.Joined.{elements_in, size_in, test_in, union_in, IsSoundOne, KeepsOne, KeepsUnion}
 use Rattle.mat_any.specs.declared.any.AnyMatroid.{the_lemmas}
 use Rattle.mat_any.proofs.DualNests.{count_within, keeps_within, sound_within, test_within}
@@ -187,32 +187,16 @@ search_from-tell-requires-clause-open t c = record {
 }
 
 pub search_from-loop-asked-preserved : goal.search_from-loop-asked-preserved
-search_from-loop-asked-preserved t c = (
-    let ms = c.args.matroids.now in
-    let P = c.args.parts.now in
-    let q = c.in-Some.asked.part in
-    let n = c.common_size_of-n.result in
-    let s = c.loop-asked.search in
-    let count = parts_count test_in ms P c.requires.parts in
-    let l : q < length ms = subst (λ k. q < k) count (subst (λ k. k < length P) (sym c.in-Some.ensures.3) c.loop-asked.invariant.here) in
-    let heard = row_answers (map test_in ms) P s (test_in c.index-matroids-i.result) c.get.result.now c.in-Some.asked.element q c.in_ok-row.row c.in-Some.ensures.2 c.in-Some.ensures.3
-    (test_is test_in ms q c.index-matroids-i.result l c.index-matroids-i.is) c.get.ensures.item c.in_ok-row.ensures in
-    c.in_ok-search-2.ensures n (length P) (exchanges_with (map test_in ms) P) c.args.among.now c.args.x c.loop-asked.invariant c.in-Some.ensures.0 heard
-    ).0
+search_from-loop-asked-preserved t c =
+    (c.in_ok-search-2.ensures _ _ _ _ _ c.loop-asked.invariant c.in-Some.ensures.0
+    (row_told test_in c.args.matroids.now c.args.parts.now c.requires.parts c.loop-asked.search c.index-matroids-i.result c.in_ok-row.row c.loop-asked.invariant.here
+    c.in-Some.ensures.2 c.in-Some.ensures.3 c.index-matroids-i.is c.get.ensures.item c.in_ok-row.ensures)).0
 
 pub search_from-loop-asked-smaller : goal.search_from-loop-asked-smaller
-search_from-loop-asked-smaller t c = (
-    let ms = c.args.matroids.now in
-    let P = c.args.parts.now in
-    let q = c.in-Some.asked.part in
-    let n = c.common_size_of-n.result in
-    let s = c.loop-asked.search in
-    let count = parts_count test_in ms P c.requires.parts in
-    let l : q < length ms = subst (λ k. q < k) count (subst (λ k. k < length P) (sym c.in-Some.ensures.3) c.loop-asked.invariant.here) in
-    let heard = row_answers (map test_in ms) P s (test_in c.index-matroids-i.result) c.get.result.now c.in-Some.asked.element q c.in_ok-row.row c.in-Some.ensures.2 c.in-Some.ensures.3
-    (test_is test_in ms q c.index-matroids-i.result l c.index-matroids-i.is) c.get.ensures.item c.in_ok-row.ensures in
-    c.in_ok-search-2.ensures n (length P) (exchanges_with (map test_in ms) P) c.args.among.now c.args.x c.loop-asked.invariant c.in-Some.ensures.0 heard
-    ).1
+search_from-loop-asked-smaller t c =
+    (c.in_ok-search-2.ensures _ _ _ _ _ c.loop-asked.invariant c.in-Some.ensures.0
+    (row_told test_in c.args.matroids.now c.args.parts.now c.requires.parts c.loop-asked.search c.index-matroids-i.result c.in_ok-row.row c.loop-asked.invariant.here
+    c.in-Some.ensures.2 c.in-Some.ensures.3 c.index-matroids-i.is c.get.ensures.item c.in_ok-row.ensures)).1
 
 pub search_from-returns-clause-ended : goal.search_from-returns-clause-ended
 search_from-returns-clause-ended t c =
