@@ -4,7 +4,7 @@ use Rattle.std.proofs.Common.{◌≡◌, ℕ, ◌<◌, ◌≤◌, Bool, true, fa
 use Rattle.std.proofs.lemmas.Bool.{cases_lt, cases_order, both_ways, ltb-false, le-leb, leb-true, eq-eqb, eqb-true}
 use Rattle.std.proofs.lemmas.List.{get_or_default, get_or_past}
 use Rattle.std.specs.Prelude.{⊤, MatchOption}
-use Rattle.mat_sets.specs.Sets.{is_member, IsRising, IsSubset, intersection}
+use Rattle.mat_sets.specs.Sets.{is_member, AllBelow, IsRising, IsSubset, intersection}
 use Rattle.mat_sets.proofs.Members.{IsRising-intersection, set_members}
 use Rattle.mat_sets.proofs.Subsets.{subset_or, same_size_subset}
 use Rattle.mat_laws.specs.declared.exchange.Exchange.{Exchange}
@@ -20,6 +20,7 @@ use Rattle.mat_count.specs.declared.full_sets.FullSets.{FullSets}
 use Rattle.mat_count.proofs.ClassRows.{IsOutside, IsOutside-from_test, row_with_room, row_at_full}
 use Rattle.mat_count.proofs.KeptSets.{not_itself}
 use Rattle.mat_count.proofs.PartitionRuns.{entry_known}
+use Rattle.mat_count.proofs.PlaceTables.{AllBelow-read}
 
 -- ---- two listed sets with a common member
 
@@ -161,24 +162,30 @@ module _ {n : ℕ} {sets : List (List ℕ)} {caps I : List ℕ} {x : ℕ} (o : I
 
 -- ---- by the matroid
 
--- a row of a sound matroid of this kind, for an independent set of which the full sets are kept and an element outside
-abbrev pub IsRowBeside : List ℕ → FullSets → ℕ → Exchange → CappedSets → Type 0
-IsRowBeside I kept x row m = IsLaminar m.count m.sets m.caps → is_counted m.count m.sets m.caps I ≡ true → AreFullSets m.sets m.caps I kept
-    → x < m.count → is_member x I ≡ false → row ≡ row_of (is_counted m.count m.sets m.caps) I x
+-- what a laminar matroid tells
+abbrev laminar_seen : ℕ → List (List ℕ) → List ℕ → CappedSets
+laminar_seen count sets caps = record { count = count; sets = sets; caps = caps }
 
--- the row of a laminar matroid, by the smallest of the full sets at the places of x
-pub row_at_smallest : (m : CappedSets) (table : List (List ℕ)) (I : List ℕ) (kept : FullSets) (x : ℕ) (row : Exchange) (found : Option ℕ)
-    → IsPlaceTable m.count m.sets table → IsSmallest kept.members.items (get_or table x []) found
-    → row ≡ row_of_entry I (kept_at kept.members.items found) → IsRowBeside I kept x row m
-row_at_smallest m table I kept x row found right best is sound passes full small outside =
-    row_of_smallest (IsOutside-from_test m.count m.sets m.caps I x sound.capped small passes outside) sound.family kept full row found (record {
-      listed = λ i same. sym (right.right x i small) ∙ best.listed i same;
-      least = λ i h. best.least i (right.right x i small ∙ h);
-    }) is
+-- a sound laminar matroid with the table of its places, an independent set of which the full sets are kept, and an element outside it
+module _ (count : ℕ) (sets : List (List ℕ)) (caps : List ℕ) {m : CappedSets} (same : laminar_seen count sets caps ≡ m) (table : List (List ℕ))
+    (right : IsPlaceTable count sets table) {I : List ℕ} (kept : FullSets) (full : AreFullSets m.sets m.caps I kept) (x : ℕ) (small : x < m.count) where
+  -- the places of x are among those of which something is kept
+  pub places_kept : {places : List ℕ} → places ≡ get_or table x [] → AllBelow (length kept.members.items) places
+  places_kept read = AllBelow-read right (subst (λ k. x < k.count) (sym same) small) kept.members.items
+      (subst (λ k. length kept.members.items ≡ length k.sets) (sym same) full.long) read
 
-abbrev pub IsRowInClasses : List ℕ → FullSets → ℕ → Exchange → CappedClasses → Type 0
-IsRowInClasses I kept x row p = IsPartition p.count p.classes p.caps → is_counted p.count p.classes p.caps I ≡ true
-    → AreFullSets p.classes p.caps I kept → x < p.count → is_member x I ≡ false → row ≡ row_of (is_counted p.count p.classes p.caps) I x
+  -- the row, by the smallest of the full sets at the places of x
+  pub row_at_smallest : IsLaminar m.count m.sets m.caps → is_counted m.count m.sets m.caps I ≡ true → is_member x I ≡ false
+      → {found : Option ℕ} → IsSmallest kept.members.items (get_or table x []) found
+      → (row : Exchange) → row ≡ row_of_entry I (kept_at kept.members.items found) → row ≡ row_of (is_counted m.count m.sets m.caps) I x
+  row_at_smallest sound passes outside {found} best row is =
+      row_of_smallest (IsOutside-from_test m.count m.sets m.caps I x sound.capped small passes outside) sound.family kept full row found (record {
+        listed = λ i h. sym (placed i) ∙ best.listed i h;
+        least = λ i h. best.least i (placed i ∙ h);
+      }) is
+    where
+      placed : (i : ℕ) → is_member i (get_or table x []) ≡ is_member x (get_or m.sets i [])
+      placed i = (subst (λ k. IsPlaceTable k.count k.sets table) same right).right x i small
 
 -- the class that the table names for x is the only one that holds it, and so the smallest
 named_is_smallest : (n : ℕ) (classes : List (List ℕ)) (table : List (Option ℕ)) (x : ℕ) (entries : List (Option (List ℕ))) → x < n
@@ -192,23 +199,31 @@ named_is_smallest n classes table x entries small right = record {
     only None i h = absurd (both_ways false refl h)
     only (Some k) i h = ap (λ j. has_fewer (get_or entries j None) (get_or entries k None)) (sym (eqb-true k i h)) ∙ not_itself (get_or entries k None)
 
-module _ (p : CappedClasses) (table : List (Option ℕ)) (right : IsClassTable p.count p.classes table) (x : ℕ) (entry : Option ℕ)
-    (read : entry ≡ get_or table x entry) where
-  entry_read : x < p.count → get_or table x None ≡ entry
-  entry_read small = let entries = right.entries in sym (read ∙ get_or_default table x entry None (omega arith))
+-- what a partition matroid tells
+abbrev partition_seen : ℕ → List (List ℕ) → List ℕ → CappedClasses
+partition_seen count classes caps = record { count = count; classes = classes; caps = caps }
+
+-- a sound partition matroid with the table of its classes, an independent set of which the full classes are kept, and an element outside it
+module _ (count : ℕ) (classes : List (List ℕ)) (caps : List ℕ) {p : CappedClasses} (same : partition_seen count classes caps ≡ p) (table : List (Option ℕ))
+    (seen : IsClassTable count classes table) {I : List ℕ} (kept : FullSets) (full : AreFullSets p.classes p.caps I kept) (x : ℕ) (small : x < p.count)
+    {entry : Option ℕ} (read : entry ≡ get_or table x entry) where
+  right : IsClassTable p.count p.classes table
+  right = subst (λ q. IsClassTable q.count q.classes table) same seen
+
+  entry_read : get_or table x None ≡ entry
+  entry_read = let entries = right.entries in sym (read ∙ get_or_default table x entry None (omega arith))
 
   -- the class that the table names for x is one of those of which something is kept
-  pub entry_kept : (entries : List (Option (List ℕ))) → length entries ≡ length p.classes → x < p.count
-      → MatchOption entry ⊤ (λ place. place < length entries)
-  entry_kept entries long small =
-      subst (λ e. MatchOption e ⊤ (λ place. place < length entries)) (entry_read small)
-      (subst (λ k. MatchOption (get_or table x None) ⊤ (λ place. place < k)) (sym long) (entry_known p.count p.classes table x small right))
+  pub entry_kept : MatchOption entry ⊤ (λ place. place < length kept.members.items)
+  entry_kept =
+      subst (λ e. MatchOption e ⊤ (λ place. place < length kept.members.items)) entry_read
+      (subst (λ k. MatchOption (get_or table x None) ⊤ (λ place. place < k)) (sym full.long) (entry_known p.count p.classes table x small right))
 
-  -- the row of a partition matroid, by the class that the table names for x
-  pub row_at_class : (I : List ℕ) (kept : FullSets) (row : Exchange) → row ≡ row_of_entry I (kept_at kept.members.items entry)
-      → IsRowInClasses I kept x row p
-  row_at_class I kept row is sound passes full small outside =
+  -- the row, by the class that the table names for x
+  pub row_at_class : IsPartition p.count p.classes p.caps → is_counted p.count p.classes p.caps I ≡ true → is_member x I ≡ false
+      → (row : Exchange) → row ≡ row_of_entry I (kept_at kept.members.items entry) → row ≡ row_of (is_counted p.count p.classes p.caps) I x
+  row_at_class sound passes outside row is =
       row_of_smallest (IsOutside-from_test p.count p.classes p.caps I x sound.capped small passes outside)
       (IsLaminarFamily-from_disjoint p.classes sound.disjoint) kept full row entry
-      (subst (IsSmallestAt p.classes x kept.members.items) (entry_read small)
+      (subst (IsSmallestAt p.classes x kept.members.items) entry_read
       (named_is_smallest p.count p.classes table x kept.members.items small right)) is

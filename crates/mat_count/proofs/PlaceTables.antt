@@ -196,6 +196,11 @@ AllBelow-places count sets table e small right = AllBelow-from_members (length s
   | inr past ↦ absurd (both_ways false refl (ap (is_member e) (sym (get_or_past sets i [] past)) ∙ sym (right.right e i small) ∙ h))
 ])
 
+-- so is the entry that is read, where as many are listed as there are sets
+pub AllBelow-read : {count : ℕ} {sets table : List (List ℕ)} {e : ℕ} → IsPlaceTable count sets table → e < count → {A : Type 0} (listed : List A) {places : List ℕ}
+    → length listed ≡ length sets → places ≡ get_or table e [] → AllBelow (length listed) places
+AllBelow-read {count} {sets} {table} {e} right small listed long read = rw (long, read) (AllBelow-places count sets table e small right)
+
 -- the next member is counted at each of its places
 pub CountsMembers-more : (count : ℕ) (sets table : List (List ℕ)) (X before after : List ℕ) (i x : ℕ) → i < length X → x < count
     → x ≡ get_or X i 0 → IsPlaceTable count sets table → length after ≡ length before

@@ -8,7 +8,7 @@ use Rattle.mat_sets.proofs.Sums.{AllBelow-at}
 use Rattle.mat_count.specs.Counters.{is_full}
 use Rattle.mat_count.proofs.CountedRuns.{IsCounting-start, IsCounting-repeated, counter-small}
 use Rattle.mat_count.proofs.LaminarRuns.{laminar_run-passed, laminar_run-entered}
-use Rattle.mat_count.proofs.PlaceTables.{AllBelow-places}
+use Rattle.mat_count.proofs.PlaceTables.{AllBelow-read}
 use Rattle.mat_count.proofs.laminar.run_by_places.Goals as goal
 use Rattle.mat_count.proofs.laminar.run_by_places.Goals.{then-not-some_full+in_ok-add+then-branch, else-not-some_full, else-not-some_full-via-then-not-some_full+in_ok-add+else-branch, else-not-some_full-via-else-not-some_full}
 
@@ -26,17 +26,13 @@ get-holders-requires c =
 
 pub some_full-requires-clause-inside : goal.some_full-requires-clause-inside
 some_full-requires-clause-inside c =
-    let places = c.args.places.now in
-    let small = AllBelow-at c.args.count c.args.order.now c.loop-x.x-index c.requires.below c.loop-x-test.true in
-    let long = ap length c.deref.ensures.value ∙ c.loop-x.invariant.counts.long in
-    rw (long, c.get-holders.ensures.item) (AllBelow-places c.args.count c.args.sets.now places _ small c.requires.table)
+    AllBelow-read c.requires.table (AllBelow-at c.args.count c.args.order.now c.loop-x.x-index c.requires.below c.loop-x-test.true) _
+    (ap length c.deref.ensures.value ∙ c.loop-x.invariant.counts.long) c.get-holders.ensures.item
 
 pub count_at-requires-clause-inside : goal.count_at-requires-clause-inside
 count_at-requires-clause-inside c =
-    let places = c.args.places.now in
-    let small = AllBelow-at c.args.count c.args.order.now c.loop-x.x-index c.requires.below c.loop-x-test.true in
-    let long = ap length c.deref_mut.ensures.value ∙ c.loop-x.invariant.counts.long in
-    rw (long, c.get-holders.ensures.item) (AllBelow-places c.args.count c.args.sets.now places _ small c.requires.table)
+    AllBelow-read c.requires.table (AllBelow-at c.args.count c.args.order.now c.loop-x.x-index c.requires.below c.loop-x-test.true) _
+    (ap length c.deref_mut.ensures.value ∙ c.loop-x.invariant.counts.long) c.get-holders.ensures.item
 
 pub count_at-requires-clause-room : goal.count_at-requires-clause-room
 count_at-requires-clause-room c = λ k l.
@@ -47,11 +43,8 @@ count_at-requires-clause-room c = λ k l.
 pub loop-x-preserved : goal.loop-x-preserved
 loop-x-preserved c =
     let places = c.args.places.now in
-    let order = c.args.order.now in
-    let i = c.loop-x.x-index in
-    let x = get_or order i 0 in
-    let inside = c.loop-x-test.true in
-    let small = AllBelow-at c.args.count order i c.requires.below inside in
+    let x = get_or c.args.order.now c.loop-x.x-index 0 in
+    let small = AllBelow-at c.args.count c.args.order.now c.loop-x.x-index c.requires.below c.loop-x-test.true in
     let before = c.loop-x.numbers.items in
     let run = c.loop-x.invariant in
     let full = filter (is_full c.args.caps.now before) (get_or places x []) in
@@ -61,16 +54,16 @@ loop-x-preserved c =
           let counted = rw (w.deref_mut.ensures.value, c.get-holders.ensures.item) at w.count_at.ensures in
           rw w.numbers-is
           (rw (written_back c.loop-x.numbers.len w.count_at.new.numbers before (w.count_at.auto.numbers ∙ w.deref_mut.ensures.len))
-          (laminar_run-entered run c.requires.sound.capped places c.requires.table x small inside refl full c.if-not-some_full.set refl
+          (laminar_run-entered run c.requires.sound.capped places c.requires.table x small c.loop-x-test.true refl full c.if-not-some_full.set refl
           w.count_at.new.numbers (not-false (eqb (length full) 0) (sym asked ∙ w.if-not-some_full.true))
           (sym w.in_ok-add.ensures.ok.0 ∙ w.if-branch.true)
           (w.set-is ∙ w.in_ok-add.ensures.ok.1) (w.count_at.auto.numbers ∙ ap length w.deref_mut.ensures.value) counted)))
       | else-not-some_full w ↦ rw w.numbers-is (elim w.else-not-some_full.branch [
         | else-not-some_full-via-then-not-some_full+in_ok-add+else-branch v ↦
-            IsCounting-repeated run x c.if-not-some_full.set inside refl (sym v.in_ok-add.ensures.ok.0 ∙ v.if-branch.false)
+            IsCounting-repeated run x c.if-not-some_full.set c.loop-x-test.true refl (sym v.in_ok-add.ensures.ok.0 ∙ v.if-branch.false)
             (w.set-is ∙ v.set-is ∙ v.in_ok-add.ensures.ok.1)
         | else-not-some_full-via-else-not-some_full v ↦
-            laminar_run-passed run c.requires.sound.capped places c.requires.table x small inside refl full c.if-not-some_full.set refl
+            laminar_run-passed run c.requires.sound.capped places c.requires.table x small c.loop-x-test.true refl full c.if-not-some_full.set refl
             (not-true (eqb (length full) 0) (sym asked ∙ v.if-not-some_full.false)) (w.set-is ∙ v.set-is)
       ])
     ]

@@ -1,30 +1,15 @@
-use Rattle.std.proofs.Common.{◌≡◌, ◌<◌, ℕ, List, length, subst, sym}
 use Rattle.std.proofs.lemmas.Result.{IfOk-weaker}
-use Rattle.mat_count.specs.LaminarMatroids.{CappedSets}
-use Rattle.mat_count.proofs.FullSetRows.{IsRowBeside, row_at_smallest}
-use Rattle.mat_count.proofs.PlaceTables.{AllBelow-places}
+use Rattle.mat_count.proofs.FullSetRows.{places_kept, row_at_smallest}
 use Rattle.mat_count.proofs.laminar.LaminarMatroid.row.Goals as goal
-
--- what a laminar matroid tells
-abbrev seen : ℕ → List (List ℕ) → List ℕ → CappedSets
-seen count sets caps = record { count = count; sets = sets; caps = caps }
 
 pub smallest-place-requires : goal.smallest-place-requires
 smallest-place-requires c =
     let own = c.self.inside in
-    let x = c.args.x in
-    let entries = c.args.kept.now.members.items in
-    let long : length entries ≡ length own.sets = subst (λ m. length entries ≡ length m.sets) (sym c.self.view_is) c.requires.kept.long in
-    let small = subst (λ m. x < m.count) (sym c.self.view_is) c.requires.below in
-    rw (long, c.get.ensures.item) (AllBelow-places own.count own.sets own.places x small c.self.invariant)
+    places_kept own.count own.sets own.caps.items c.self.view_is own.places c.self.invariant c.args.kept.now c.requires.kept c.args.x c.requires.below c.get.ensures.item
 
 pub returns-clause-row : goal.returns-clause-row
 returns-clause-row c =
-    let base = c.args.base.now in
     let own = c.self.inside in
-    let x = c.args.x in
-    let kept = c.args.kept.now in
     let best = rw c.get.ensures.item at c.smallest-place.ensures.smallest in
-    IfOk-weaker _ _ _ (λ row told. subst (IsRowBeside base kept x row) c.self.view_is
-    (row_at_smallest (seen own.count own.sets own.caps.items) own.places base kept x row c.smallest-place.result c.self.invariant best told)
-    c.requires.sound c.requires.base c.requires.kept c.requires.below c.requires.outside) c.row_at.ensures.row
+    IfOk-weaker _ _ _ (row_at_smallest own.count own.sets own.caps.items c.self.view_is own.places c.self.invariant c.args.kept.now c.requires.kept c.args.x c.requires.below
+    c.requires.sound c.requires.base c.requires.outside best) c.row_at.ensures.row
