@@ -32,11 +32,8 @@ count-requires-clause-room c = λ k l.
 pub loop-x-preserved : goal.loop-x-preserved
 loop-x-preserved c =
     let table = c.args.class_of.now in
-    let order = c.args.order.now in
-    let i = c.loop-x.x-index in
-    let x = get_or order i 0 in
-    let inside = c.loop-x-test.true in
-    let small = AllBelow-at (length table) order i c.requires.below inside in
+    let x = get_or c.args.order.now c.loop-x.x-index 0 in
+    let small = AllBelow-at (length table) c.args.order.now c.loop-x.x-index c.requires.below c.loop-x-test.true in
     let before = c.loop-x.numbers.items in
     let run = c.loop-x.invariant in
     let asked = rw c.deref.ensures.value at c.names_full.ensures in
@@ -45,15 +42,15 @@ loop-x-preserved c =
           let counted = rw w.deref_mut.ensures.value at w.count.ensures in
           rw w.numbers-is
           (rw (written_back c.loop-x.numbers.len w.count.new.numbers before (w.count.auto.numbers ∙ w.deref_mut.ensures.len))
-          (partition_run-entered run c.requires.sound.capped table c.requires.table x small inside refl (get_or table x None) refl c.if-not-names_full.set
+          (partition_run-entered run c.requires.sound.capped table c.requires.table x small c.loop-x-test.true refl (get_or table x None) refl c.if-not-names_full.set
           w.count.new.numbers (sym asked ∙ w.if-not-names_full.true) (sym w.in_ok-add.ensures.ok.0 ∙ w.if-branch.true)
           (w.set-is ∙ w.in_ok-add.ensures.ok.1) (w.count.auto.numbers ∙ ap length w.deref_mut.ensures.value) counted)))
       | else-not-names_full w ↦ rw w.numbers-is (elim w.else-not-names_full.branch [
         | else-not-names_full-via-then-not-names_full+in_ok-add+else-branch v ↦
-            IsCounting-repeated run x c.if-not-names_full.set inside refl (sym v.in_ok-add.ensures.ok.0 ∙ v.if-branch.false)
+            IsCounting-repeated run x c.if-not-names_full.set c.loop-x-test.true refl (sym v.in_ok-add.ensures.ok.0 ∙ v.if-branch.false)
             (w.set-is ∙ v.set-is ∙ v.in_ok-add.ensures.ok.1)
         | else-not-names_full-via-else-not-names_full v ↦
-            partition_run-passed run c.requires.sound.capped table c.requires.table x small inside refl (get_or table x None) refl c.if-not-names_full.set
+            partition_run-passed run c.requires.sound.capped table c.requires.table x small c.loop-x-test.true refl (get_or table x None) refl c.if-not-names_full.set
             (sym asked ∙ v.if-not-names_full.false) (w.set-is ∙ v.set-is)
       ])
     ]
