@@ -130,12 +130,12 @@ module _ {n : ℕ} {p : List ℕ → Bool} (laws : IsMatroid n p) (away B : List
           ∙ ap p (union-with_one_left smaller B x s ∙ ap (λ t. with_one t x) (without_one-union X B y s fresh)))
 
 -- a set that is independent in the contraction, together with what is chosen of the contracted elements
-module _ {n : ℕ} {p : List ℕ → Bool} (laws : IsMatroid n p) {away B : List ℕ} (c : IsContraction n p away B) {X J : List ℕ} (together : J ≡ union X B)
-    (passes : is_contracted n away p X ≡ true) where
+module _ {n : ℕ} {p : List ℕ → Bool} (laws : IsMatroid n p) {away B : List ℕ} (c : IsContraction n p away B) (X : List ℕ) {J : List ℕ}
+    (together : J ≡ union X B) (passes : is_contracted n away p X ≡ true) where
   pub joined_passes : p J ≡ true
   joined_passes = ap p together ∙ (IsJoined-gives laws away B X c.set.rising c.maximal passes).joined
 
-  module _ {x : ℕ} (o : is_member x X ≡ false) (out : is_member x away ≡ false) where
+  module _ (x : ℕ) (o : is_member x X ≡ false) (out : is_member x away ≡ false) where
     pub joined_outside : is_member x J ≡ false
     joined_outside = ap (is_member x) together ∙ outside_joined laws away B c.set c.maximal X x o out
 

@@ -9,15 +9,15 @@ returns-then-contains-clause-row g c =
 
 pub circuit-requires-clause-base : goal.circuit-requires-clause-base
 circuit-requires-clause-base g c =
-    joined_passes (g.met.M.Matroid.laws c.args.self.now.inner c.requires.sound.0) c.requires.sound.1 c.in_ok-joined.ensures.members c.requires.base
+    joined_passes (g.met.M.Matroid.laws c.args.self.now.inner c.requires.sound.0) c.requires.sound.1 c.args.base.now c.in_ok-joined.ensures.members c.requires.base
 
 pub circuit-requires-clause-outside : goal.circuit-requires-clause-outside
 circuit-requires-clause-outside g c =
-    joined_outside (g.met.M.Matroid.laws c.args.self.now.inner c.requires.sound.0) c.requires.sound.1 c.in_ok-joined.ensures.members c.requires.base
-    c.requires.outside (sym c.contains.ensures.found ∙ c.if-contains.false)
+    joined_outside (g.met.M.Matroid.laws c.args.self.now.inner c.requires.sound.0) c.requires.sound.1 c.args.base.now c.in_ok-joined.ensures.members c.requires.base
+    c.args.x c.requires.outside (sym c.contains.ensures.found ∙ c.if-contains.false)
 
 pub returns-clause-row : goal.returns-clause-row
 returns-clause-row g c =
-    joined_row (g.met.M.Matroid.laws c.args.self.now.inner c.requires.sound.0) c.requires.sound.1 c.in_ok-joined.ensures.members c.requires.base
-    c.requires.outside (sym c.contains.ensures.found ∙ c.if-contains.false) c.requires.below c.in_ok-inner.inner _ c.in_ok-inner.ensures.row
+    joined_row (g.met.M.Matroid.laws c.args.self.now.inner c.requires.sound.0) c.requires.sound.1 c.args.base.now c.in_ok-joined.ensures.members c.requires.base
+    c.args.x c.requires.outside (sym c.contains.ensures.found ∙ c.if-contains.false) c.requires.below c.in_ok-inner.inner _ c.in_ok-inner.ensures.row
     refl c.in_ok-minus.ensures.members

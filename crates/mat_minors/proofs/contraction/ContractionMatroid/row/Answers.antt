@@ -9,15 +9,15 @@ returns-then-contains-clause-row g c =
 
 pub row-requires-clause-base : goal.row-requires-clause-base
 row-requires-clause-base g c =
-    joined_passes (g.met.M.Matroid.laws c.args.self.now.inner c.requires.sound.0) c.requires.sound.1 c.requires.kept.0 c.requires.base
+    joined_passes (g.met.M.Matroid.laws c.args.self.now.inner c.requires.sound.0) c.requires.sound.1 c.args.base.now c.requires.kept.0 c.requires.base
 
 pub row-requires-clause-outside : goal.row-requires-clause-outside
 row-requires-clause-outside g c =
-    joined_outside (g.met.M.Matroid.laws c.args.self.now.inner c.requires.sound.0) c.requires.sound.1 c.requires.kept.0 c.requires.base
-    c.requires.outside (sym c.contains.ensures.found ∙ c.if-contains.false)
+    joined_outside (g.met.M.Matroid.laws c.args.self.now.inner c.requires.sound.0) c.requires.sound.1 c.args.base.now c.requires.kept.0 c.requires.base
+    c.args.x c.requires.outside (sym c.contains.ensures.found ∙ c.if-contains.false)
 
 pub returns-clause-row : goal.returns-clause-row
 returns-clause-row g c =
-    joined_row (g.met.M.Matroid.laws c.args.self.now.inner c.requires.sound.0) c.requires.sound.1 c.requires.kept.0 c.requires.base
-    c.requires.outside (sym c.contains.ensures.found ∙ c.if-contains.false) c.requires.below c.in_ok-inner.inner _ c.in_ok-inner.ensures.row
+    joined_row (g.met.M.Matroid.laws c.args.self.now.inner c.requires.sound.0) c.requires.sound.1 c.args.base.now c.requires.kept.0 c.requires.base
+    c.args.x c.requires.outside (sym c.contains.ensures.found ∙ c.if-contains.false) c.requires.below c.in_ok-inner.inner _ c.in_ok-inner.ensures.row
     refl c.in_ok-minus.ensures.members
