@@ -10,6 +10,7 @@ ghost use Rattle.mat_cert.specs.{
 };
 
 use crate::answer::Answer;
+use crate::read::Found;
 use crate::read::ladders::{assign, best, intersect, rainbow};
 use crate::read::lines::{closed, last_line, version_line};
 use crate::read::packing::{cover, pack, union};
@@ -25,7 +26,7 @@ fn answer_to_command<'a>(
     command: &[u8],
     words: WordCursor<'a>,
     lines: LineCursor<'a>,
-) -> Result<(Answer, LineCursor<'a>), CertRefusal>
+) -> Found<'a>
     ensures { Gives (λ x. (certificate_of x.0, lines_left x.1)) result
         (answer_of_command command.now (words_left words.entry) (lines_left lines.entry)) }
 {
@@ -56,10 +57,7 @@ fn answer_to_command<'a>(
 
 /// The answer from its header line on.
 #[tactic(auto, unfolding(crate::specs::Reading::answer_at))]
-fn answer_lines<'a>(
-    alloc: Global,
-    lines: LineCursor<'a>,
-) -> Result<(Answer, LineCursor<'a>), CertRefusal>
+fn answer_lines<'a>(alloc: Global, lines: LineCursor<'a>) -> Found<'a>
     ensures { Gives (λ x. (certificate_of x.0, lines_left x.1)) result (answer_at (lines_left lines.entry)) }
 {
     let (words, rest) = keyed_line(lines, b"answer")?;

@@ -13,6 +13,7 @@ use crate::read::headers::{assign_header, ladder_header, rainbow_header};
 use crate::read::lines::{counted_line, part_line};
 use crate::read::sets::{counted_set_line, option_line, set_line};
 use crate::read::words::weight_word;
+use crate::read::{Found, Read};
 use crate::refusal::CertRefusal;
 use mat_sets::{ElemSet, Weight};
 use mat_words::{LineCursor, WordCursor, next_number};
@@ -20,7 +21,7 @@ use std::alloc::Global;
 
 /// The first line of rung k, with its weight.
 #[tactic(auto, unfolding(crate::specs::Reading::rung_at))]
-fn rung_line<'a>(lines: LineCursor<'a>, k: u32) -> Result<(Weight, LineCursor<'a>), CertRefusal>
+fn rung_line<'a>(lines: LineCursor<'a>, k: u32) -> Read<'a, Weight>
     ensures { Gives (λ x. (x.0, lines_left x.1)) result (rung_at k (lines_left lines.entry)) }
 {
     let (words, rest) = counted_line(lines, b"rung", 2)?;
@@ -31,12 +32,7 @@ fn rung_line<'a>(lines: LineCursor<'a>, k: u32) -> Result<(Weight, LineCursor<'a
 
 /// Rung k of `count` elements without a split.
 #[tactic(auto, unfolding(crate::specs::Reading::plain_rung_at))]
-fn plain_rung<'a>(
-    alloc: Global,
-    lines: LineCursor<'a>,
-    count: u32,
-    k: u32,
-) -> Result<(PlainRung, LineCursor<'a>), CertRefusal>
+fn plain_rung<'a>(alloc: Global, lines: LineCursor<'a>, count: u32, k: u32) -> Read<'a, PlainRung>
     ensures { Gives (λ x. (x.0, lines_left x.1)) result (plain_rung_at count k (lines_left lines.entry)) }
 {
     let (weight, lines) = rung_line(lines, k)?;
@@ -46,12 +42,7 @@ fn plain_rung<'a>(
 
 /// Rung k of `count` elements with a split.
 #[tactic(auto, unfolding(crate::specs::Reading::priced_rung_at))]
-fn priced_rung<'a>(
-    alloc: Global,
-    lines: LineCursor<'a>,
-    count: u32,
-    k: u32,
-) -> Result<(PricedRung, LineCursor<'a>), CertRefusal>
+fn priced_rung<'a>(alloc: Global, lines: LineCursor<'a>, count: u32, k: u32) -> Read<'a, PricedRung>
     ensures { Gives (λ x. (x.0, lines_left x.1)) result (priced_rung_at count k (lines_left lines.entry)) }
 {
     let (weight, lines) = rung_line(lines, k)?;
@@ -73,7 +64,7 @@ fn plain_rungs<'a>(
     lines: LineCursor<'a>,
     count: u32,
     many: u32,
-) -> Result<(Vec<PlainRung>, LineCursor<'a>), CertRefusal>
+) -> Read<'a, Vec<PlainRung>>
     ensures { Gives (λ x. (x.0.items, lines_left x.1)) result
         (rungs_at (plain_rung_at count) 0 many (lines_left lines.entry)) }
 {
@@ -93,7 +84,7 @@ fn priced_rungs<'a>(
     lines: LineCursor<'a>,
     count: u32,
     many: u32,
-) -> Result<(Vec<PricedRung>, LineCursor<'a>), CertRefusal>
+) -> Read<'a, Vec<PricedRung>>
     ensures { Gives (λ x. (x.0.items, lines_left x.1)) result
         (rungs_at (priced_rung_at count) 0 many (lines_left lines.entry)) }
 {
@@ -129,7 +120,7 @@ pub(crate) fn intersect<'a>(
     alloc: Global,
     words: WordCursor<'a>,
     lines: LineCursor<'a>,
-) -> Result<(Answer, LineCursor<'a>), CertRefusal>
+) -> Found<'a>
     ensures { Gives (λ x. (certificate_of x.0, lines_left x.1)) result
         (intersect_at (words_left words.entry) (lines_left lines.entry)) }
 {
@@ -140,11 +131,7 @@ pub(crate) fn intersect<'a>(
 
 /// A `best` answer, from the words behind its command on.
 #[tactic(auto, unfolding(crate::specs::Reading::best_at))]
-pub(crate) fn best<'a>(
-    alloc: Global,
-    words: WordCursor<'a>,
-    lines: LineCursor<'a>,
-) -> Result<(Answer, LineCursor<'a>), CertRefusal>
+pub(crate) fn best<'a>(alloc: Global, words: WordCursor<'a>, lines: LineCursor<'a>) -> Found<'a>
     ensures { Gives (λ x. (certificate_of x.0, lines_left x.1)) result
         (best_at (words_left words.entry) (lines_left lines.entry)) }
 {
@@ -155,11 +142,7 @@ pub(crate) fn best<'a>(
 
 /// A `rainbow` answer, from the words behind its command on.
 #[tactic(auto, unfolding(crate::specs::Reading::rainbow_at))]
-pub(crate) fn rainbow<'a>(
-    alloc: Global,
-    words: WordCursor<'a>,
-    lines: LineCursor<'a>,
-) -> Result<(Answer, LineCursor<'a>), CertRefusal>
+pub(crate) fn rainbow<'a>(alloc: Global, words: WordCursor<'a>, lines: LineCursor<'a>) -> Found<'a>
     ensures { Gives (λ x. (certificate_of x.0, lines_left x.1)) result
         (rainbow_at (words_left words.entry) (lines_left lines.entry)) }
 {
@@ -180,11 +163,7 @@ pub(crate) fn rainbow<'a>(
 
 /// An `assign` answer, from the words behind its command on.
 #[tactic(auto, unfolding(crate::specs::Reading::assign_at))]
-pub(crate) fn assign<'a>(
-    alloc: Global,
-    words: WordCursor<'a>,
-    lines: LineCursor<'a>,
-) -> Result<(Answer, LineCursor<'a>), CertRefusal>
+pub(crate) fn assign<'a>(alloc: Global, words: WordCursor<'a>, lines: LineCursor<'a>) -> Found<'a>
     ensures { Gives (λ x. (certificate_of x.0, lines_left x.1)) result
         (assign_at (words_left words.entry) (lines_left lines.entry)) }
 {

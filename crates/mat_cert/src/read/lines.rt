@@ -4,6 +4,7 @@ ghost use Rattle.mat_words.specs.{Cursors.{lines_left, words_left}, Reading.{Giv
 ghost use Rattle.mat_cert.specs.{LineReading.{counted_at, version_at, part_at, end_at, closed_at}};
 
 use crate::limits::LARGEST_NUMBER;
+use crate::read::Read;
 use crate::read::words::{fixed_word, has_this_many};
 use crate::refusal::{CertKind, CertRefusal};
 use mat_sets::PairWeights;
@@ -44,7 +45,7 @@ pub(crate) fn part_line<'a>(
     lines: LineCursor<'a>,
     key: &[u8],
     count: u32,
-) -> Result<(PairWeights, LineCursor<'a>), CertRefusal>
+) -> Read<'a, PairWeights>
     ensures { Gives (λ x. (x.0, lines_left x.1)) result (part_at key.now count (lines_left lines.entry)) }
 {
     let (words, rest) = counted_line(lines, key, count)?;

@@ -7,20 +7,16 @@ ghost use Rattle.mat_cert.specs.{
 };
 
 use crate::answer::Answer;
+use crate::read::Found;
 use crate::read::headers::{element_count, ladder_header, never_header, union_header};
 use crate::read::sets::{level_lines, option_line, set_line, set_lines};
 use crate::read::words::{are_this_many, has_this_many};
-use crate::refusal::CertRefusal;
 use mat_words::{LineCursor, WordCursor, next_size, next_word};
 use std::alloc::Global;
 
 /// A `union` answer, from the words behind its command on.
 #[tactic(auto, unfolding(crate::specs::Reading::union_at))]
-pub(crate) fn union<'a>(
-    alloc: Global,
-    words: WordCursor<'a>,
-    lines: LineCursor<'a>,
-) -> Result<(Answer, LineCursor<'a>), CertRefusal>
+pub(crate) fn union<'a>(alloc: Global, words: WordCursor<'a>, lines: LineCursor<'a>) -> Found<'a>
     ensures { Gives (λ x. (certificate_of x.0, lines_left x.1)) result
         (union_at (words_left words.entry) (lines_left lines.entry)) }
 {
@@ -38,12 +34,7 @@ pub(crate) fn union<'a>(
 
 /// A `pack` answer with a number of bases, from that number on.
 #[tactic(auto, unfolding(crate::specs::Reading::bases_at))]
-fn bases<'a>(
-    alloc: Global,
-    count: u32,
-    words: WordCursor<'a>,
-    lines: LineCursor<'a>,
-) -> Result<(Answer, LineCursor<'a>), CertRefusal>
+fn bases<'a>(alloc: Global, count: u32, words: WordCursor<'a>, lines: LineCursor<'a>) -> Found<'a>
     ensures { Gives (λ x. (certificate_of x.0, lines_left x.1)) result
         (bases_at count (words_left words.entry) (lines_left lines.entry)) }
 {
@@ -55,11 +46,7 @@ fn bases<'a>(
 
 /// A `pack` answer, from the words behind its command on.
 #[tactic(auto, unfolding(crate::specs::Reading::pack_at))]
-pub(crate) fn pack<'a>(
-    alloc: Global,
-    words: WordCursor<'a>,
-    lines: LineCursor<'a>,
-) -> Result<(Answer, LineCursor<'a>), CertRefusal>
+pub(crate) fn pack<'a>(alloc: Global, words: WordCursor<'a>, lines: LineCursor<'a>) -> Found<'a>
     ensures { Gives (λ x. (certificate_of x.0, lines_left x.1)) result
         (pack_at (words_left words.entry) (lines_left lines.entry)) }
 {
@@ -75,10 +62,7 @@ pub(crate) fn pack<'a>(
 
 /// A `cover` answer that says `never`, from the words behind its command on.
 #[tactic(auto, unfolding(crate::specs::Reading::never_at))]
-fn never<'a>(
-    words: WordCursor<'a>,
-    lines: LineCursor<'a>,
-) -> Result<(Answer, LineCursor<'a>), CertRefusal>
+fn never<'a>(words: WordCursor<'a>, lines: LineCursor<'a>) -> Found<'a>
     ensures { Gives (λ x. (certificate_of x.0, lines_left x.1)) result
         (never_at (words_left words.entry) (lines_left lines.entry)) }
 {
@@ -88,11 +72,7 @@ fn never<'a>(
 
 /// A `cover` answer with sets, from the words behind its command on.
 #[tactic(auto, unfolding(crate::specs::Reading::covering_at))]
-fn covering<'a>(
-    alloc: Global,
-    words: WordCursor<'a>,
-    lines: LineCursor<'a>,
-) -> Result<(Answer, LineCursor<'a>), CertRefusal>
+fn covering<'a>(alloc: Global, words: WordCursor<'a>, lines: LineCursor<'a>) -> Found<'a>
     ensures { Gives (λ x. (certificate_of x.0, lines_left x.1)) result
         (covering_at (words_left words.entry) (lines_left lines.entry)) }
 {
@@ -104,11 +84,7 @@ fn covering<'a>(
 
 /// A `cover` answer, from the words behind its command on.
 #[tactic(auto, unfolding(crate::specs::Reading::cover_at))]
-pub(crate) fn cover<'a>(
-    alloc: Global,
-    words: WordCursor<'a>,
-    lines: LineCursor<'a>,
-) -> Result<(Answer, LineCursor<'a>), CertRefusal>
+pub(crate) fn cover<'a>(alloc: Global, words: WordCursor<'a>, lines: LineCursor<'a>) -> Found<'a>
     ensures { Gives (λ x. (certificate_of x.0, lines_left x.1)) result
         (cover_at (words_left words.entry) (lines_left lines.entry)) }
 {

@@ -4,6 +4,7 @@ ghost use Rattle.mat_words.specs.{Cursors.{lines_left}, Reading.{Gives}, Steps.{
 ghost use Rattle.mat_cert.specs.{LineReading.{set_at, option_at, counted_set_at, sets_at, level_at}};
 
 use crate::answer::LevelLine;
+use crate::read::Read;
 use crate::read::lines::counted_line;
 use crate::read::words::{next_members, weight_word};
 use crate::refusal::CertRefusal;
@@ -39,7 +40,7 @@ pub(crate) fn option_line<'a>(
     key: &[u8],
     bound: u32,
     needed: bool,
-) -> Result<(Option<ElemSet>, LineCursor<'a>), CertRefusal>
+) -> Read<'a, Option<ElemSet>>
     ensures { Gives (λ x. (x.0, lines_left x.1)) result (option_at key.now bound needed (lines_left lines.entry)) }
 {
     if needed {
@@ -57,7 +58,7 @@ pub(crate) fn counted_set_line<'a>(
     lines: LineCursor<'a>,
     bound: u32,
     many: u32,
-) -> Result<(ElemSet, LineCursor<'a>), CertRefusal>
+) -> Read<'a, ElemSet>
     ensures { Gives (λ x. (x.0, lines_left x.1)) result (counted_set_at bound many (lines_left lines.entry)) }
 {
     let (words, rest) = counted_line(lines, b"set", many)?;
@@ -72,7 +73,7 @@ pub(crate) fn set_lines<'a>(
     key: &[u8],
     bound: u32,
     many: u32,
-) -> Result<(SetList, LineCursor<'a>), CertRefusal>
+) -> Read<'a, SetList>
     ensures { Gives (λ x. (x.0, lines_left x.1)) result (sets_at key.now bound many (lines_left lines.entry)) }
 {
     let mut sets = Vec::new(alloc);
@@ -87,11 +88,7 @@ pub(crate) fn set_lines<'a>(
 
 /// A level of `count` elements.
 #[tactic(auto, unfolding(crate::specs::LineReading::level_at))]
-fn level_line<'a>(
-    alloc: Global,
-    lines: LineCursor<'a>,
-    count: u32,
-) -> Result<(LevelLine, LineCursor<'a>), CertRefusal>
+fn level_line<'a>(alloc: Global, lines: LineCursor<'a>, count: u32) -> Read<'a, LevelLine>
     ensures { Gives (λ x. (x.0, lines_left x.1)) result (level_at count (lines_left lines.entry)) }
 {
     let (words, rest) = keyed_line(lines, b"level")?;
@@ -108,7 +105,7 @@ pub(crate) fn level_lines<'a>(
     lines: LineCursor<'a>,
     count: u32,
     many: u32,
-) -> Result<(Vec<LevelLine>, LineCursor<'a>), CertRefusal>
+) -> Read<'a, Vec<LevelLine>>
     ensures { Gives (λ x. (x.0.items, lines_left x.1)) result (repeat_at (level_at count) many (lines_left lines.entry)) }
 {
     let mut levels = Vec::new(alloc);

@@ -8,6 +8,7 @@ ghost use Rattle.mat_cert.specs.{
 
 use crate::answer::Answer;
 use crate::limits::MOST_VERTICES;
+use crate::read::Found;
 use crate::read::headers::{classes_header, element_count, entered_header, trees_header};
 use crate::read::lines::part_line;
 use crate::read::sets::{set_line, set_lines};
@@ -34,11 +35,7 @@ fn found_trees<'a>(
 
 /// A `trees` answer that says `none`, from the words behind its command on.
 #[tactic(auto, unfolding(crate::specs::Reading::classes_at))]
-fn classes<'a>(
-    alloc: Global,
-    words: WordCursor<'a>,
-    lines: LineCursor<'a>,
-) -> Result<(Answer, LineCursor<'a>), CertRefusal>
+fn classes<'a>(alloc: Global, words: WordCursor<'a>, lines: LineCursor<'a>) -> Found<'a>
     ensures { Gives (λ x. (certificate_of x.0, lines_left x.1)) result
         (classes_at (words_left words.entry) (lines_left lines.entry)) }
 {
@@ -55,11 +52,7 @@ fn classes<'a>(
 
 /// A `trees` answer, from the words behind its command on.
 #[tactic(auto, unfolding(crate::specs::Reading::trees_at))]
-pub(crate) fn trees<'a>(
-    alloc: Global,
-    words: WordCursor<'a>,
-    lines: LineCursor<'a>,
-) -> Result<(Answer, LineCursor<'a>), CertRefusal>
+pub(crate) fn trees<'a>(alloc: Global, words: WordCursor<'a>, lines: LineCursor<'a>) -> Found<'a>
     ensures { Gives (λ x. (certificate_of x.0, lines_left x.1)) result
         (trees_at (words_left words.entry) (lines_left lines.entry)) }
 {
@@ -72,12 +65,7 @@ pub(crate) fn trees<'a>(
 
 /// An `arborescence` answer that says `tree`, from its cost on.
 #[tactic(auto, unfolding(crate::specs::Reading::arbor_at))]
-fn arbor<'a>(
-    alloc: Global,
-    count: u32,
-    words: WordCursor<'a>,
-    lines: LineCursor<'a>,
-) -> Result<(Answer, LineCursor<'a>), CertRefusal>
+fn arbor<'a>(alloc: Global, count: u32, words: WordCursor<'a>, lines: LineCursor<'a>) -> Found<'a>
     ensures { Gives (λ x. (certificate_of x.0, lines_left x.1)) result
         (arbor_at count (words_left words.entry) (lines_left lines.entry)) }
 {
@@ -102,7 +90,7 @@ fn unreached<'a>(
     count: u32,
     words: WordCursor<'a>,
     lines: LineCursor<'a>,
-) -> Result<(Answer, LineCursor<'a>), CertRefusal>
+) -> Found<'a>
     ensures { Gives (λ x. (certificate_of x.0, lines_left x.1)) result
         (unreached_at count (words_left words.entry) (lines_left lines.entry)) }
 {
@@ -122,7 +110,7 @@ pub(crate) fn arborescence<'a>(
     alloc: Global,
     words: WordCursor<'a>,
     lines: LineCursor<'a>,
-) -> Result<(Answer, LineCursor<'a>), CertRefusal>
+) -> Found<'a>
     ensures { Gives (λ x. (certificate_of x.0, lines_left x.1)) result
         (arborescence_at (words_left words.entry) (lines_left lines.entry)) }
 {
@@ -141,11 +129,7 @@ pub(crate) fn arborescence<'a>(
 
 /// A `disjoint` answer that says `none`, from the words behind its command on.
 #[tactic(auto, unfolding(crate::specs::Reading::entered_at))]
-fn entered<'a>(
-    alloc: Global,
-    words: WordCursor<'a>,
-    lines: LineCursor<'a>,
-) -> Result<(Answer, LineCursor<'a>), CertRefusal>
+fn entered<'a>(alloc: Global, words: WordCursor<'a>, lines: LineCursor<'a>) -> Found<'a>
     ensures { Gives (λ x. (certificate_of x.0, lines_left x.1)) result
         (entered_at (words_left words.entry) (lines_left lines.entry)) }
 {
@@ -162,11 +146,7 @@ fn entered<'a>(
 
 /// A `disjoint` answer, from the words behind its command on.
 #[tactic(auto, unfolding(crate::specs::Reading::disjoint_at))]
-pub(crate) fn disjoint<'a>(
-    alloc: Global,
-    words: WordCursor<'a>,
-    lines: LineCursor<'a>,
-) -> Result<(Answer, LineCursor<'a>), CertRefusal>
+pub(crate) fn disjoint<'a>(alloc: Global, words: WordCursor<'a>, lines: LineCursor<'a>) -> Found<'a>
     ensures { Gives (λ x. (certificate_of x.0, lines_left x.1)) result
         (disjoint_at (words_left words.entry) (lines_left lines.entry)) }
 {
