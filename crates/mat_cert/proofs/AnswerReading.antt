@@ -1,5 +1,5 @@
 -- What it is that an answer was read behind its command, and that it is read again.
-use Rattle.std.proofs.Common.{◌≡◌, Bool, true, false, cond, ℕ, ◌≤◌, List, [], ◌∷◌, ◌++◌, length, Result, Ok, refl, ap, sym, subst}
+use Rattle.std.proofs.Common.{◌≡◌, Bool, true, false, cond, ℕ, ◌≤◌, List, [], ◌∷◌, ◌++◌, length, Result, Ok, refl, ap, sym, subst, ◌∙◌}
 use Rattle.std.specs.Prelude.{bytes_eq}
 use Rattle.std.specs.List.{All, list_all}
 use Rattle.std.proofs.lemmas.Bool.{and_from, and_parts}
@@ -10,6 +10,7 @@ use Rattle.mat_words.specs.Words.{is_word}
 use Rattle.mat_words.specs.Writing.{end_line}
 use Rattle.mat_words.specs.Cursors.{WordsLeft, LinesLeft}
 use Rattle.mat_words.proofs.LineReading.{AreLeft}
+use Rattle.mat_words.proofs.ReadingSteps.{found, found-same}
 use Rattle.mat_cert.specs.Faults.{Fault}
 use Rattle.mat_cert.specs.Certificates.{Certificate, AreRangedSets, IsRanged, certificate_lines, header_line, version_line}
 
@@ -19,10 +20,17 @@ pub record IsCommandRead (command : List ℕ) (words : WordsLeft) (lines : Lines
   pub spelled : AreLeft (end_line ∷ []) answer.1
       → (more : List Line) × AreLeft more lines × (certificate_lines answer.0 ≡ version_line ∷ header_line command words.words ∷ more)
 
--- the lines of a certificate begin with the header that was read
-pub with_header : (command : List ℕ) (words spelling : Line) (more : List Line) → words ≡ spelling
-    → version_line ∷ header_line command spelling ∷ more ≡ version_line ∷ header_line command words ∷ more
-with_header command words spelling more cut = ap (λ (t : Line). version_line ∷ header_line command t ∷ more) (sym cut)
+-- an answer was read: its header, and the lines behind that
+pub answer_read : (command : List ℕ) (words : WordsLeft) (lines : LinesLeft) (answer : Certificate × LinesLeft) (c : Certificate)
+    (q : LinesLeft) (spelling : Line) (more : List Line)
+    → found {F = Fault} (c, q) ≡ found answer → IsRanged c → words.words ≡ spelling
+    → certificate_lines c ≡ version_line ∷ header_line command spelling ∷ more → (AreLeft (end_line ∷ []) q → AreLeft more lines)
+    → IsCommandRead command words lines answer
+answer_read command words lines answer c q spelling more read ranged cut begins spelled =
+    subst (IsCommandRead command words lines) (found-same (c, q) answer read) (record {
+      ranged = ranged;
+      spelled = λ left. (more, spelled left, begins ∙ ap (λ (t : Line). version_line ∷ header_line command t ∷ more) (sym cut));
+    })
 
 -- as many sets as a header says are in range
 pub ranged_sets : (n least most many : ℕ) (sets : List (List ℕ)) → (length sets ≡ many) × All (IsSet n) sets → least ≤ many → many ≤ most

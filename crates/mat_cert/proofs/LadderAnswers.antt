@@ -21,7 +21,7 @@ use Rattle.mat_cert.proofs.RungLaws.{plain_rung_found, plain_rung_again, priced_
 use Rattle.mat_cert.proofs.RungLaws.{rungs_again}
 use Rattle.mat_cert.proofs.HeaderLaws.{ladder_header_found, ladder_header_again, rainbow_header_found, rainbow_header_again}
 use Rattle.mat_cert.proofs.HeaderLaws.{assign_header_found, assign_header_again}
-use Rattle.mat_cert.proofs.AnswerReading.{IsCommandRead, with_header}
+use Rattle.mat_cert.proofs.AnswerReading.{IsCommandRead, answer_read}
 
 -- ---- rungs below a header
 
@@ -106,16 +106,9 @@ intersect_found words lines answer e =
     let n = header.0.0 in
     let head = ladder_header_found words header.0 header.1 in
     let read = ladder_found n header.0.1 lines ladder.0 head.in_range.0 head.in_range.1 ladder.1 in
-    subst (IsCommandRead (codes "intersect") words lines) (found-same (intersect n ladder.0.0 ladder.0.1, ladder.0.2) answer ladder.2) (record {
-      ranged = read.in_range;
-      spelled = λ left. (
-        rungs_lines priced_rung_lines 0 ladder.0.0 ++ members_line (codes "cut") ladder.0.1 ∷ end_line ∷ [],
-        read.spelled (end_line ∷ []) left,
-        with_header (codes "intersect") words.words (numerals (n ∷ last_rung ladder.0.0 ∷ []))
-            (rungs_lines priced_rung_lines 0 ladder.0.0 ++ members_line (codes "cut") ladder.0.1 ∷ end_line ∷ [])
-            (head.cut ∙ ap (λ (k : ℕ). numerals (n ∷ k ∷ [])) read.count),
-      );
-    })
+    answer_read (codes "intersect") words lines answer (intersect n ladder.0.0 ladder.0.1) ladder.0.2 (numerals (n ∷ last_rung ladder.0.0 ∷ []))
+    (rungs_lines priced_rung_lines 0 ladder.0.0 ++ members_line (codes "cut") ladder.0.1 ∷ end_line ∷ []) ladder.2 read.in_range
+    (head.cut ∙ ap (λ (k : ℕ). numerals (n ∷ k ∷ [])) read.count) refl (read.spelled (end_line ∷ []))
 
 pub intersect_again : (line n : ℕ) (rungs : List PricedRung) (cut : List ℕ) (p : LinesLeft) → IsRangedLadder n rungs cut
     → AreLeft (rungs_lines priced_rung_lines 0 rungs ++ members_line (codes "cut") cut ∷ end_line ∷ []) p
@@ -138,16 +131,10 @@ best_found words lines answer e =
     let head = ladder_header_found words header.0 header.1 in
     let read = rungs_found (plain_rung_at n) plain_rung_lines (IsRangedPlainRung n) (plain_rung_found n) 0 (suc header.0.1) lines rungs.0.0
     rungs.0.1 rungs.1 in
-    subst (IsCommandRead (codes "best") words lines) (found-same (best n rungs.0.0, rungs.0.1) answer rungs.2) (record {
-      ranged = rungs_ranged plain_rung_lines (IsRangedPlainRung n) n header.0.1 lines rungs.0.0 rungs.0.1 head.in_range.0 head.in_range.1 read;
-      spelled = λ left. (
-        rungs_lines plain_rung_lines 0 rungs.0.0 ++ end_line ∷ [],
-        read.spelled (end_line ∷ []) left,
-        with_header (codes "best") words.words (numerals (n ∷ last_rung rungs.0.0 ∷ []))
-            (rungs_lines plain_rung_lines 0 rungs.0.0 ++ end_line ∷ [])
-            (head.cut ∙ ap (λ (k : ℕ). numerals (n ∷ k ∷ [])) (last_read header.0.1 rungs.0.0 read.count)),
-      );
-    })
+    answer_read (codes "best") words lines answer (best n rungs.0.0) rungs.0.1 (numerals (n ∷ last_rung rungs.0.0 ∷ []))
+    (rungs_lines plain_rung_lines 0 rungs.0.0 ++ end_line ∷ []) rungs.2
+    (rungs_ranged plain_rung_lines (IsRangedPlainRung n) n header.0.1 lines rungs.0.0 rungs.0.1 head.in_range.0 head.in_range.1 read)
+    (head.cut ∙ ap (λ (k : ℕ). numerals (n ∷ k ∷ [])) (last_read header.0.1 rungs.0.0 read.count)) refl (read.spelled (end_line ∷ []))
 
 pub best_again : (line n : ℕ) (rungs : List PlainRung) (p : LinesLeft) → AreRangedRungs (IsRangedPlainRung n) n rungs
     → AreLeft (rungs_lines plain_rung_lines 0 rungs ++ end_line ∷ []) p
@@ -176,22 +163,15 @@ rainbow_found words lines answer e =
     let read = ladder_found n header.0.1 lines ladder.0 head.in_range.0 head.in_range.1 ladder.1 in
     let option = option_found (codes "colours") c (is_short_of_tree header.0.1 v) ladder.0.2 missing.0.0 missing.0.1 missing.1 in
     let behind = option_lines (codes "colours") missing.0.0 ++ end_line ∷ [] in
-    subst (IsCommandRead (codes "rainbow") words lines)
-    (found-same (rainbow n v c rungs ladder.0.1 missing.0.0, missing.0.1) answer missing.2) (record {
-      ranged = record {
-        ladder_in_range = read.in_range;
-        vertices_in_range = head.in_range.2;
-        few_colours = head.in_range.3;
-        missing_in_range = subst (λ (k : ℕ). IsRangedOption c (is_short_of_tree k v) missing.0.0) read.count option.in_range;
-      };
-      spelled = λ left. (
-        rungs_lines priced_rung_lines 0 rungs ++ members_line (codes "cut") ladder.0.1 ∷ behind,
-        read.spelled behind (option.spelled (end_line ∷ []) left),
-        with_header (codes "rainbow") words.words (numerals (n ∷ last_rung rungs ∷ v ∷ c ∷ []))
-            (rungs_lines priced_rung_lines 0 rungs ++ members_line (codes "cut") ladder.0.1 ∷ behind)
-            (head.cut ∙ ap (λ (k : ℕ). numerals (n ∷ k ∷ v ∷ c ∷ [])) read.count),
-      );
+    answer_read (codes "rainbow") words lines answer (rainbow n v c rungs ladder.0.1 missing.0.0) missing.0.1
+    (numerals (n ∷ last_rung rungs ∷ v ∷ c ∷ []))
+    (rungs_lines priced_rung_lines 0 rungs ++ members_line (codes "cut") ladder.0.1 ∷ behind) missing.2 (record {
+      ladder_in_range = read.in_range;
+      vertices_in_range = head.in_range.2;
+      few_colours = head.in_range.3;
+      missing_in_range = subst (λ (k : ℕ). IsRangedOption c (is_short_of_tree k v) missing.0.0) read.count option.in_range;
     })
+    (head.cut ∙ ap (λ (k : ℕ). numerals (n ∷ k ∷ v ∷ c ∷ [])) read.count) refl (λ left. read.spelled behind (option.spelled (end_line ∷ []) left))
 
 pub rainbow_again : (line n v c : ℕ) (rungs : List PricedRung) (cut : List ℕ) (missing : Option (List ℕ)) (p : LinesLeft)
     → IsRangedRainbow n v c rungs cut missing
@@ -220,16 +200,11 @@ assign_found words lines answer e =
     let c = header.0.3 in
     let head = assign_header_found words header.0 header.1 in
     let read = ladder_found n header.0.1 lines ladder.0 head.in_range.0 head.in_range.1 ladder.1 in
-    subst (IsCommandRead (codes "assign") words lines) (found-same (assign n r c ladder.0.0 ladder.0.1, ladder.0.2) answer ladder.2) (record {
-      ranged = record { ladder_in_range = read.in_range; few_rows = head.in_range.2; few_columns = head.in_range.3 };
-      spelled = λ left. (
-        rungs_lines priced_rung_lines 0 ladder.0.0 ++ members_line (codes "cut") ladder.0.1 ∷ end_line ∷ [],
-        read.spelled (end_line ∷ []) left,
-        with_header (codes "assign") words.words (numerals (n ∷ last_rung ladder.0.0 ∷ r ∷ c ∷ []))
-            (rungs_lines priced_rung_lines 0 ladder.0.0 ++ members_line (codes "cut") ladder.0.1 ∷ end_line ∷ [])
-            (head.cut ∙ ap (λ (k : ℕ). numerals (n ∷ k ∷ r ∷ c ∷ [])) read.count),
-      );
-    })
+    answer_read (codes "assign") words lines answer (assign n r c ladder.0.0 ladder.0.1) ladder.0.2
+    (numerals (n ∷ last_rung ladder.0.0 ∷ r ∷ c ∷ []))
+    (rungs_lines priced_rung_lines 0 ladder.0.0 ++ members_line (codes "cut") ladder.0.1 ∷ end_line ∷ []) ladder.2
+    (record { ladder_in_range = read.in_range; few_rows = head.in_range.2; few_columns = head.in_range.3 })
+    (head.cut ∙ ap (λ (k : ℕ). numerals (n ∷ k ∷ r ∷ c ∷ [])) read.count) refl (read.spelled (end_line ∷ []))
 
 pub assign_again : (line n r c : ℕ) (rungs : List PricedRung) (cut : List ℕ) (p : LinesLeft) → IsRangedAssignment n r c rungs cut
     → AreLeft (rungs_lines priced_rung_lines 0 rungs ++ members_line (codes "cut") cut ∷ end_line ∷ []) p

@@ -26,7 +26,7 @@ use Rattle.mat_cert.specs.declared.answer.LevelLine.{LevelLine}
 use Rattle.mat_cert.specs.declared.answer.PlainRung.{PlainRung}
 use Rattle.mat_cert.specs.declared.answer.PricedRung.{PricedRung}
 use Rattle.mat_cert.specs.Limits.{certificate_limit}
-use Rattle.mat_cert.specs.Certificates.{AreRangedRungs, Certificate, IsCertificateWeight, IsPrintedWeight, IsRanged, IsRangedLadder, IsRangedLevel}
+use Rattle.mat_cert.specs.Certificates.{AreRangedRungs, AreRangedTrees, Certificate, IsCertificateWeight, IsPrintedWeight, IsRanged, IsRangedLadder, IsRangedLevel}
 use Rattle.mat_cert.specs.Certificates.{IsRangedOption, IsRangedPart, IsRangedPlainRung, IsRangedPricedRung, is_short_of_tree}
 use Rattle.mat_cert.specs.Certificates.{certificate_text, intersect, best, version_line, header_line, last_rung, rung_line, plain_rung_lines}
 use Rattle.mat_cert.specs.Certificates.{priced_rung_lines, rungs_lines, level_line, sets_lines, option_lines}
@@ -361,6 +361,16 @@ length-sets command words n keyword sets last header few short each small behind
     (All-append IsShortHere (sets_lines keyword sets) last (short_sets n keyword sets few short each) behind)
     (omega (arith, length-append (sets_lines keyword sets) last, length-map sets (members_line keyword)))
 
+-- trees, or arborescences
+length-trees : (command : List ℕ) (n : ℕ) (sets : List (List ℕ)) → IsShort command → AreRangedTrees n sets
+    → length (text_of (opening command (numerals (n ∷ length sets ∷ [])) ++ (sets_lines (codes "tree") sets ++ end_line ∷ []))) < 24000000
+length-trees command n sets short range =
+    let few = range.few in
+    let many = range.sets_in_range.no_more in
+    length-sets command (numerals (n ∷ length sets ∷ [])) n (codes "tree") sets (end_line ∷ [])
+    (short_numbers command (n ∷ length sets ∷ []) short (omega arith) (omega arith, (omega arith, tt))) few (omega arith)
+    range.sets_in_range.each (omega arith) short_end (omega arith)
+
 -- a header of numbers, and of words behind them
 short_header_and : (command : List ℕ) (numbers : List ℕ) (back : Line) → IsShort command → AllBelow most_words numbers → All IsShort back
     → length numbers + length back ≤ 5 → IsShortHeader command (numerals numbers ++ back)
@@ -437,12 +447,7 @@ length-plain (certificates.cover n sets cut) plain range =
     (All-append IsShortHere (option_lines (codes "cut") cut) (end_line ∷ [])
     (short_option n (codes "cut") (nat_lt 0 (length sets)) cut few (omega arith) range.cut_in_range) short_end)
     (omega (arith, length-option (codes "cut") cut, length-append (option_lines (codes "cut") cut) (end_line ∷ [])))
-length-plain (certificates.trees n sets) plain range =
-    let few = range.few in
-    let many = range.sets_in_range.no_more in
-    length-sets (codes "trees") (numerals (n ∷ length sets ∷ [])) n (codes "tree") sets (end_line ∷ [])
-    (short_numbers (codes "trees") (n ∷ length sets ∷ []) (omega arith) (omega arith) (omega arith, (omega arith, tt))) few (omega arith)
-    range.sets_in_range.each (omega arith) short_end (omega arith)
+length-plain (certificates.trees n sets) plain range = length-trees (codes "trees") n sets (omega arith) range
 length-plain (certificates.trees_none n k v classes) plain range =
     let few = range.0.few in
     let trees_few = range.0.few_trees in
@@ -472,12 +477,7 @@ length-plain (certificates.unreached n v set) plain range =
     (short_header_and (codes "arborescence") (n ∷ []) (codes "unreached" ∷ numerals (v ∷ [])) (omega arith) (omega arith, tt)
     (word_and (codes "unreached") (v ∷ []) (omega arith) (omega arith, tt)) (omega arith))
     (short_set_and v (codes "vertices") set (end_line ∷ []) v_few (omega arith) range.set_in_range short_end) (omega arith)
-length-plain (certificates.disjoint n sets) plain range =
-    let few = range.few in
-    let many = range.sets_in_range.no_more in
-    length-sets (codes "disjoint") (numerals (n ∷ length sets ∷ [])) n (codes "tree") sets (end_line ∷ [])
-    (short_numbers (codes "disjoint") (n ∷ length sets ∷ []) (omega arith) (omega arith) (omega arith, (omega arith, tt))) few (omega arith)
-    range.sets_in_range.each (omega arith) short_end (omega arith)
+length-plain (certificates.disjoint n sets) plain range = length-trees (codes "disjoint") n sets (omega arith) range
 length-plain (certificates.disjoint_none n k v set) plain range =
     let few = range.0.few in
     let trees_few = range.0.few_trees in

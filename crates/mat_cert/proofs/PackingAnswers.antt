@@ -10,7 +10,7 @@ use Rattle.mat_words.specs.Writing.{end_line, members_line}
 use Rattle.mat_words.specs.Cursors.{WordsLeft, LinesLeft}
 use Rattle.mat_words.specs.Reading as any_text
 use Rattle.mat_words.proofs.NumberLemmas.{read_again}
-use Rattle.mat_words.proofs.ReadingSteps.{found-same, bind_found}
+use Rattle.mat_words.proofs.ReadingSteps.{bind_found}
 use Rattle.mat_words.proofs.WordReading.{size_again}
 use Rattle.mat_words.proofs.LineReading.{AreLeft}
 use Rattle.mat_cert.specs.declared.answer.LevelLine.{LevelLine}
@@ -23,7 +23,7 @@ use Rattle.mat_cert.proofs.LineLaws.{IsReadAgain, set_found, set_again, option_f
 use Rattle.mat_cert.proofs.ListLaws.{sets_found, sets_again, levels_found, levels_again}
 use Rattle.mat_cert.proofs.HeaderLaws.{ladder_header_found, ladder_header_again, union_header_found, union_header_again, never_header_found}
 use Rattle.mat_cert.proofs.HeaderLaws.{never_header_again}
-use Rattle.mat_cert.proofs.AnswerReading.{IsCommandRead, with_header, ranged_sets, by_word, by_test}
+use Rattle.mat_cert.proofs.AnswerReading.{IsCommandRead, answer_read, ranged_sets, by_word, by_test}
 
 -- ---- union
 
@@ -41,23 +41,18 @@ union_found words lines answer e =
     let sets = sets_found (codes "part") n m lines parts.0.0 parts.0.1 parts.1 in
     let read = levels_found n header.0.2 parts.0.1 levels.0.0 levels.0.1 levels.1 in
     let behind = map level_line levels.0.0 ++ end_line ∷ [] in
-    subst (IsCommandRead (codes "union") words lines) (found-same (union_of n weight parts.0.0 levels.0.0, levels.0.1) answer levels.2) (record {
-      ranged = record {
-        few = head.in_range.0;
-        weight_in_range = head.in_range.4;
-        parts_in_range = ranged_sets n 1 most_matroids m parts.0.0 sets.in_range head.in_range.1 head.in_range.2;
-        few_levels = omega (arith, read.in_range.0, head.in_range.3);
-        levels_in_range = read.in_range.1;
-      };
-      spelled = λ left. (
-        sets_lines (codes "part") parts.0.0 ++ behind,
-        sets.spelled behind (read.spelled (end_line ∷ []) left),
-        with_header (codes "union") words.words (numerals (n ∷ length parts.0.0 ∷ length levels.0.0 ∷ []) ++ weight_word weight ∷ [])
-            (sets_lines (codes "part") parts.0.0 ++ behind)
-            (head.cut ∙ sym (ap (λ (k : ℕ). numerals (n ∷ k ∷ length levels.0.0 ∷ []) ++ weight_word weight ∷ []) sets.in_range.0
-            ∙ ap (λ (k : ℕ). numerals (n ∷ m ∷ k ∷ []) ++ weight_word weight ∷ []) read.in_range.0)),
-      );
+    answer_read (codes "union") words lines answer (union_of n weight parts.0.0 levels.0.0) levels.0.1
+    (numerals (n ∷ length parts.0.0 ∷ length levels.0.0 ∷ []) ++ weight_word weight ∷ []) (sets_lines (codes "part") parts.0.0 ++ behind) levels.2
+    (record {
+      few = head.in_range.0;
+      weight_in_range = head.in_range.4;
+      parts_in_range = ranged_sets n 1 most_matroids m parts.0.0 sets.in_range head.in_range.1 head.in_range.2;
+      few_levels = omega (arith, read.in_range.0, head.in_range.3);
+      levels_in_range = read.in_range.1;
     })
+    (head.cut ∙ sym (ap (λ (k : ℕ). numerals (n ∷ k ∷ length levels.0.0 ∷ []) ++ weight_word weight ∷ []) sets.in_range.0
+    ∙ ap (λ (k : ℕ). numerals (n ∷ m ∷ k ∷ []) ++ weight_word weight ∷ []) read.in_range.0))
+    refl (λ left. sets.spelled behind (read.spelled (end_line ∷ []) left))
 
 pub union_again : (line n : ℕ) (weight : Weight) (parts : List (List ℕ)) (levels : List LevelLine) (p : LinesLeft)
     → IsRangedUnion n weight parts levels
@@ -91,19 +86,13 @@ bases_found all n words lines answer few front two e =
     let set = set_found (codes "cut") n bases.0.1 cut.0.0 cut.0.1 cut.1 in
     let behind = members_line (codes "cut") cut.0.0 ∷ end_line ∷ [] in
     let spelling = whole_line (numerals (n ∷ many.0.0 ∷ [])) many.0.1.words all.words (then_words front number.cut) two in
-    subst (IsCommandRead (codes "pack") all lines) (found-same (pack n bases.0.0 cut.0.0, cut.0.1) answer cut.2) (record {
-      ranged = record {
-        few = few;
-        bases_in_range = ranged_sets n 0 n many.0.0 bases.0.0 sets.in_range number.least number.most;
-        cut_in_range = set.in_range;
-      };
-      spelled = λ left. (
-        sets_lines (codes "base") bases.0.0 ++ behind,
-        sets.spelled behind (set.spelled (end_line ∷ []) left),
-        with_header (codes "pack") all.words (numerals (n ∷ length bases.0.0 ∷ [])) (sets_lines (codes "base") bases.0.0 ++ behind)
-            (spelling ∙ sym (ap (λ (k : ℕ). numerals (n ∷ k ∷ [])) sets.in_range.0)),
-      );
+    answer_read (codes "pack") all lines answer (pack n bases.0.0 cut.0.0) cut.0.1 (numerals (n ∷ length bases.0.0 ∷ []))
+    (sets_lines (codes "base") bases.0.0 ++ behind) cut.2 (record {
+      few = few;
+      bases_in_range = ranged_sets n 0 n many.0.0 bases.0.0 sets.in_range number.least number.most;
+      cut_in_range = set.in_range;
     })
+    (spelling ∙ sym (ap (λ (k : ℕ). numerals (n ∷ k ∷ [])) sets.in_range.0)) refl (λ left. sets.spelled behind (set.spelled (end_line ∷ []) left))
 
 pub pack_found : (words : WordsLeft) (lines : LinesLeft) (answer : Certificate × LinesLeft) → pack_at words lines ≡ Ok answer
     → IsCommandRead (codes "pack") words lines answer
@@ -119,15 +108,8 @@ pack_found words lines answer e =
     by_word word.0.0 (codes "any") (Ok (pack_any n, lines)) (bases_at n count.0.1 lines) answer
     (λ any h.
     let spelling = whole_line (numeral (pos n) ∷ word.0.0 ∷ []) word.0.1.words words.words (then_words first.cut second) two in
-    subst (IsCommandRead (codes "pack") words lines) (found-same (pack_any n, lines) answer h) (record {
-      ranged = first.most;
-      spelled = λ left. (
-        end_line ∷ [],
-        left,
-        with_header (codes "pack") words.words (numeral (pos n) ∷ codes "any" ∷ []) (end_line ∷ [])
-            (spelling ∙ ap (λ (t : List ℕ). numeral (pos n) ∷ t ∷ []) any),
-      );
-    }))
+    answer_read (codes "pack") words lines answer (pack_any n) lines (numeral (pos n) ∷ codes "any" ∷ []) (end_line ∷ []) h first.most
+    (spelling ∙ ap (λ (t : List ℕ). numeral (pos n) ∷ t ∷ []) any) refl (λ left. left))
     (λ h. bases_found words n count.0.1 lines answer first.most first.cut two h) word.2
 
 pub pack_any_again : (line n : ℕ) (p : LinesLeft) → n ≤ most_elements → AreLeft (end_line ∷ []) p
@@ -179,15 +161,8 @@ unfolding never_at
 never_found words lines answer e =
     let header = bind_found _ _ _ e in
     let head = never_header_found words header.0 header.1 in
-    subst (IsCommandRead (codes "cover") words lines) (found-same (cover_never header.0.0 header.0.1, lines) answer header.2) (record {
-      ranged = head.in_range;
-      spelled = λ left. (
-        end_line ∷ [],
-        left,
-        with_header (codes "cover") words.words (numeral (pos header.0.0) ∷ codes "never" ∷ numeral (pos header.0.1) ∷ []) (end_line ∷ [])
-            head.cut,
-      );
-    })
+    answer_read (codes "cover") words lines answer (cover_never header.0.0 header.0.1) lines
+    (numeral (pos header.0.0) ∷ codes "never" ∷ numeral (pos header.0.1) ∷ []) (end_line ∷ []) header.2 head.in_range head.cut refl (λ left. left)
 
 covering_found : (words : WordsLeft) (lines : LinesLeft) (answer : Certificate × LinesLeft) → covering_at words lines ≡ Ok answer
     → IsCommandRead (codes "cover") words lines answer
@@ -202,19 +177,14 @@ covering_found words lines answer e =
     let sets = sets_found (codes "part") n c lines parts.0.0 parts.0.1 parts.1 in
     let option = option_found (codes "cut") n (nat_lt 0 c) parts.0.1 cut.0.0 cut.0.1 cut.1 in
     let behind = option_lines (codes "cut") cut.0.0 ++ end_line ∷ [] in
-    subst (IsCommandRead (codes "cover") words lines) (found-same (cover n parts.0.0 cut.0.0, cut.0.1) answer cut.2) (record {
-      ranged = record {
-        few = head.in_range.0;
-        sets_in_range = ranged_sets n 0 n c parts.0.0 sets.in_range (omega arith) head.in_range.1;
-        cut_in_range = subst (λ (k : ℕ). IsRangedOption n (nat_lt 0 k) cut.0.0) (sym sets.in_range.0) option.in_range;
-      };
-      spelled = λ left. (
-        sets_lines (codes "part") parts.0.0 ++ behind,
-        sets.spelled behind (option.spelled (end_line ∷ []) left),
-        with_header (codes "cover") words.words (numerals (n ∷ length parts.0.0 ∷ [])) (sets_lines (codes "part") parts.0.0 ++ behind)
-            (head.cut ∙ sym (ap (λ (k : ℕ). numerals (n ∷ k ∷ [])) sets.in_range.0)),
-      );
+    answer_read (codes "cover") words lines answer (cover n parts.0.0 cut.0.0) cut.0.1 (numerals (n ∷ length parts.0.0 ∷ []))
+    (sets_lines (codes "part") parts.0.0 ++ behind) cut.2 (record {
+      few = head.in_range.0;
+      sets_in_range = ranged_sets n 0 n c parts.0.0 sets.in_range (omega arith) head.in_range.1;
+      cut_in_range = subst (λ (k : ℕ). IsRangedOption n (nat_lt 0 k) cut.0.0) (sym sets.in_range.0) option.in_range;
     })
+    (head.cut ∙ sym (ap (λ (k : ℕ). numerals (n ∷ k ∷ [])) sets.in_range.0))
+    refl (λ left. sets.spelled behind (option.spelled (end_line ∷ []) left))
 
 pub cover_found : (words : WordsLeft) (lines : LinesLeft) (answer : Certificate × LinesLeft) → cover_at words lines ≡ Ok answer
     → IsCommandRead (codes "cover") words lines answer

@@ -25,7 +25,7 @@ use Rattle.mat_cert.proofs.LineLaws.{IsReadAgain, set_found, set_again, part_fou
 use Rattle.mat_cert.proofs.ListLaws.{sets_found, sets_again}
 use Rattle.mat_cert.proofs.HeaderLaws.{trees_header_found, trees_header_again, classes_header_found, classes_header_again}
 use Rattle.mat_cert.proofs.HeaderLaws.{entered_header_found, entered_header_again}
-use Rattle.mat_cert.proofs.AnswerReading.{IsCommandRead, with_header, ranged_sets, by_word, by_test}
+use Rattle.mat_cert.proofs.AnswerReading.{IsCommandRead, answer_read, ranged_sets, by_word, by_test}
 
 -- ---- trees that are there
 
@@ -77,17 +77,12 @@ classes_found words lines answer e =
     let q = header.0.3 in
     let head = classes_header_found words header.0 header.1 in
     let sets = sets_found (codes "class") v q lines classes.0.0 classes.0.1 classes.1 in
-    subst (IsCommandRead (codes "trees") words lines) (found-same (trees_none n k v classes.0.0, classes.0.1) answer classes.2) (record {
-      ranged = (head.in_range.0, ranged_sets v 1 v q classes.0.0 sets.in_range head.in_range.1 head.in_range.2);
-      spelled = λ left. (
-        sets_lines (codes "class") classes.0.0 ++ end_line ∷ [],
-        sets.spelled (end_line ∷ []) left,
-        with_header (codes "trees") words.words
-            (numerals (n ∷ k ∷ []) ++ codes "none" ∷ numerals (v ∷ length classes.0.0 ∷ []))
-            (sets_lines (codes "class") classes.0.0 ++ end_line ∷ [])
-            (head.cut ∙ sym (ap (λ (i : ℕ). numerals (n ∷ k ∷ []) ++ codes "none" ∷ numerals (v ∷ i ∷ [])) sets.in_range.0)),
-      );
-    })
+    answer_read (codes "trees") words lines answer (trees_none n k v classes.0.0) classes.0.1
+    (numerals (n ∷ k ∷ []) ++ codes "none" ∷ numerals (v ∷ length classes.0.0 ∷ []))
+    (sets_lines (codes "class") classes.0.0 ++ end_line ∷ []) classes.2
+    (head.in_range.0, ranged_sets v 1 v q classes.0.0 sets.in_range head.in_range.1 head.in_range.2)
+    (head.cut ∙ sym (ap (λ (i : ℕ). numerals (n ∷ k ∷ []) ++ codes "none" ∷ numerals (v ∷ i ∷ [])) sets.in_range.0))
+    refl (sets.spelled (end_line ∷ []))
 
 pub trees_found : (words : WordsLeft) (lines : LinesLeft) (answer : Certificate × LinesLeft) → trees_at words lines ≡ Ok answer
     → IsCommandRead (codes "trees") words lines answer
@@ -101,15 +96,8 @@ trees_found words lines answer e =
     there h =
         let found = bind_found _ _ _ h in
         let read = trees_read words lines found.0 found.1 in
-        subst (IsCommandRead (codes "trees") words lines) (found-same (trees found.0.0 found.0.1, found.0.2) answer found.2) (record {
-          ranged = read.in_range;
-          spelled = λ left. (
-            sets_lines (codes "tree") found.0.1 ++ end_line ∷ [],
-            read.spelled (end_line ∷ []) left,
-            with_header (codes "trees") words.words (numerals (found.0.0 ∷ length found.0.1 ∷ []))
-                (sets_lines (codes "tree") found.0.1 ++ end_line ∷ []) read.cut,
-          );
-        })
+        answer_read (codes "trees") words lines answer (trees found.0.0 found.0.1) found.0.2 (numerals (found.0.0 ∷ length found.0.1 ∷ []))
+        (sets_lines (codes "tree") found.0.1 ++ end_line ∷ []) found.2 read.in_range read.cut refl (read.spelled (end_line ∷ []))
 
 pub trees_again : (line n : ℕ) (sets : List (List ℕ)) (p : LinesLeft) → AreRangedTrees n sets
     → AreLeft (sets_lines (codes "tree") sets ++ end_line ∷ []) p
@@ -151,22 +139,15 @@ arbor_found all n words lines answer few front three e =
     let behind = weights_line (codes "first") first.0.0 ∷ last in
     let spelling = whole_line (numeral (pos n) ∷ codes "tree" ∷ weight_word cost.0.0 ∷ []) cost.0.1.words all.words
     (front ∙ ap (λ (t : Line). numeral (pos n) ∷ codes "tree" ∷ t) number.cut) three in
-    subst (IsCommandRead (codes "arborescence") all lines)
-    (found-same (arbor n cost.0.0 arcs.0.0 first.0.0 second.0.0, second.0.1) answer second.2) (record {
-      ranged = record {
-        few = few;
-        cost_in_range = number.valid;
-        arcs_in_range = set.in_range;
-        first_in_range = one.in_range;
-        second_in_range = two.in_range;
-      };
-      spelled = λ left. (
-        members_line (codes "set") arcs.0.0 ∷ behind,
-        set.spelled behind (one.spelled last (two.spelled (end_line ∷ []) left)),
-        with_header (codes "arborescence") all.words (numeral (pos n) ∷ codes "tree" ∷ weight_word cost.0.0 ∷ [])
-            (members_line (codes "set") arcs.0.0 ∷ behind) spelling,
-      );
+    answer_read (codes "arborescence") all lines answer (arbor n cost.0.0 arcs.0.0 first.0.0 second.0.0) second.0.1
+    (numeral (pos n) ∷ codes "tree" ∷ weight_word cost.0.0 ∷ []) (members_line (codes "set") arcs.0.0 ∷ behind) second.2 (record {
+      few = few;
+      cost_in_range = number.valid;
+      arcs_in_range = set.in_range;
+      first_in_range = one.in_range;
+      second_in_range = two.in_range;
     })
+    spelling refl (λ left. set.spelled behind (one.spelled last (two.spelled (end_line ∷ []) left)))
 
 -- a set that is not reached was read behind the number of arcs and `unreached`
 unreached_found : (all : WordsLeft) (n : ℕ) (words : WordsLeft) (lines : LinesLeft) (answer : Certificate × LinesLeft) → n ≤ most_elements
@@ -181,19 +162,13 @@ unreached_found all n words lines answer few front three e =
     let read = set_found (codes "vertices") v lines set.0.0 set.0.1 set.1 in
     let spelling = whole_line (numeral (pos n) ∷ codes "unreached" ∷ numeral (pos v) ∷ []) vertices.0.1.words all.words
     (front ∙ ap (λ (t : Line). numeral (pos n) ∷ codes "unreached" ∷ t) number.cut) three in
-    subst (IsCommandRead (codes "arborescence") all lines) (found-same (unreached n v set.0.0, set.0.1) answer set.2) (record {
-      ranged = record {
-        few = few;
-        vertices_in_range = record { some = number.least; few = number.most };
-        set_in_range = read.in_range;
-      };
-      spelled = λ left. (
-        members_line (codes "vertices") set.0.0 ∷ end_line ∷ [],
-        read.spelled (end_line ∷ []) left,
-        with_header (codes "arborescence") all.words (numeral (pos n) ∷ codes "unreached" ∷ numeral (pos v) ∷ [])
-            (members_line (codes "vertices") set.0.0 ∷ end_line ∷ []) spelling,
-      );
+    answer_read (codes "arborescence") all lines answer (unreached n v set.0.0) set.0.1 (numeral (pos n) ∷ codes "unreached" ∷ numeral (pos v) ∷ [])
+    (members_line (codes "vertices") set.0.0 ∷ end_line ∷ []) set.2 (record {
+      few = few;
+      vertices_in_range = record { some = number.least; few = number.most };
+      set_in_range = read.in_range;
     })
+    spelling refl (read.spelled (end_line ∷ []))
 
 pub arborescence_found : (words : WordsLeft) (lines : LinesLeft) (answer : Certificate × LinesLeft) → arborescence_at words lines ≡ Ok answer
     → IsCommandRead (codes "arborescence") words lines answer
@@ -257,15 +232,9 @@ entered_found words lines answer e =
     let v = header.0.2 in
     let head = entered_header_found words header.0 header.1 in
     let read = set_found (codes "vertices") v lines set.0.0 set.0.1 set.1 in
-    subst (IsCommandRead (codes "disjoint") words lines) (found-same (disjoint_none n k v set.0.0, set.0.1) answer set.2) (record {
-      ranged = (head.in_range, read.in_range);
-      spelled = λ left. (
-        members_line (codes "vertices") set.0.0 ∷ end_line ∷ [],
-        read.spelled (end_line ∷ []) left,
-        with_header (codes "disjoint") words.words (numerals (n ∷ k ∷ []) ++ codes "none" ∷ numeral (pos v) ∷ [])
-            (members_line (codes "vertices") set.0.0 ∷ end_line ∷ []) head.cut,
-      );
-    })
+    answer_read (codes "disjoint") words lines answer (disjoint_none n k v set.0.0) set.0.1
+    (numerals (n ∷ k ∷ []) ++ codes "none" ∷ numeral (pos v) ∷ []) (members_line (codes "vertices") set.0.0 ∷ end_line ∷ []) set.2
+    (head.in_range, read.in_range) head.cut refl (read.spelled (end_line ∷ []))
 
 pub disjoint_found : (words : WordsLeft) (lines : LinesLeft) (answer : Certificate × LinesLeft) → disjoint_at words lines ≡ Ok answer
     → IsCommandRead (codes "disjoint") words lines answer
@@ -279,15 +248,8 @@ disjoint_found words lines answer e =
     there h =
         let found = bind_found _ _ _ h in
         let read = trees_read words lines found.0 found.1 in
-        subst (IsCommandRead (codes "disjoint") words lines) (found-same (disjoint found.0.0 found.0.1, found.0.2) answer found.2) (record {
-          ranged = read.in_range;
-          spelled = λ left. (
-            sets_lines (codes "tree") found.0.1 ++ end_line ∷ [],
-            read.spelled (end_line ∷ []) left,
-            with_header (codes "disjoint") words.words (numerals (found.0.0 ∷ length found.0.1 ∷ []))
-                (sets_lines (codes "tree") found.0.1 ++ end_line ∷ []) read.cut,
-          );
-        })
+        answer_read (codes "disjoint") words lines answer (disjoint found.0.0 found.0.1) found.0.2 (numerals (found.0.0 ∷ length found.0.1 ∷ []))
+        (sets_lines (codes "tree") found.0.1 ++ end_line ∷ []) found.2 read.in_range read.cut refl (read.spelled (end_line ∷ []))
 
 pub disjoint_again : (line n : ℕ) (sets : List (List ℕ)) (p : LinesLeft) → AreRangedTrees n sets
     → AreLeft (sets_lines (codes "tree") sets ++ end_line ∷ []) p
