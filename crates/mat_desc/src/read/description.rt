@@ -16,13 +16,14 @@ use crate::read::forms::{coloured, graph, list, pair, rooted, table};
 use crate::read::keywords::{Form, Version, form_from, version_from};
 use crate::read::lines::ended;
 use crate::read::notation::Notation;
+use crate::read::{Read, Written};
 use crate::refusal::{DescKind, DescRefusal};
 use mat_words::{LineCursor, fault, keyed_line, next_word, nothing_left, words_line};
 use std::alloc::Global;
 
 /// The first line, which names the version.
 #[tactic(auto, unfolding(crate::specs::Reading::version_at))]
-fn version_line<'a>(lines: LineCursor<'a>) -> Result<(Version, LineCursor<'a>), DescRefusal>
+fn version_line<'a>(lines: LineCursor<'a>) -> Read<'a, Version>
     ensures { Gives (λ x. (x.0, lines_left x.1)) result (version_at (lines_left lines.entry)) }
 {
     let line = lines.line;
@@ -68,11 +69,7 @@ fn ending(lines: LineCursor<'_>) -> Result<(), DescRefusal>
 
 /// A problem, from its form line on.
 #[tactic(auto, unfolding(crate::specs::Reading::instance_at))]
-fn problem_lines<'a>(
-    alloc: Global,
-    version: Version,
-    lines: LineCursor<'a>,
-) -> Result<(Problem, Notation, LineCursor<'a>), DescRefusal>
+fn problem_lines<'a>(alloc: Global, version: Version, lines: LineCursor<'a>) -> Written<'a>
     ensures { Gives (λ x. (written_instance x.0 x.1, lines_left x.2)) result
         (instance_at version (lines_left lines.entry)) }
 {

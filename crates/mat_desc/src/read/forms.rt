@@ -8,12 +8,12 @@ ghost use Rattle.mat_words.specs.{Cursors.{lines_left, words_left}, Reading.{Giv
 
 use crate::limits::{MOST_ELEMENTS, MOST_MATROIDS, MOST_SETS, MOST_VERTICES};
 use crate::problem::Problem;
+use crate::read::Written;
 use crate::read::items::{coloured_edge_lines, ends_lines, weighted_lines};
 use crate::read::keywords::Version;
 use crate::read::lines::{ended, weights_line};
 use crate::read::matroids::{next_matroids, two_matroids};
 use crate::read::notation::{Notation, header_root, read_notation, root_line};
-use crate::refusal::DescRefusal;
 use mat_words::{LineCursor, WordCursor, next_size};
 use std::alloc::Global;
 
@@ -24,7 +24,7 @@ pub(crate) fn pair<'a>(
     version: Version,
     words: WordCursor<'a>,
     lines: LineCursor<'a>,
-) -> Result<(Problem, Notation, LineCursor<'a>), DescRefusal>
+) -> Written<'a>
     ensures { Gives (λ x. (written_instance x.0 x.1, lines_left x.2)) result
         (pair_at version (words_left words.entry) (lines_left lines.entry)) }
 {
@@ -48,7 +48,7 @@ pub(crate) fn list<'a>(
     version: Version,
     words: WordCursor<'a>,
     lines: LineCursor<'a>,
-) -> Result<(Problem, Notation, LineCursor<'a>), DescRefusal>
+) -> Written<'a>
     ensures { Gives (λ x. (written_instance x.0 x.1, lines_left x.2)) result
         (list_at version (words_left words.entry) (lines_left lines.entry)) }
 {
@@ -68,7 +68,7 @@ pub(crate) fn graph<'a>(
     version: Version,
     words: WordCursor<'a>,
     lines: LineCursor<'a>,
-) -> Result<(Problem, Notation, LineCursor<'a>), DescRefusal>
+) -> Written<'a>
     ensures { Gives (λ x. (written_instance x.0 x.1, lines_left x.2)) result
         (graph_at version (words_left words.entry) (lines_left lines.entry)) }
 {
@@ -88,7 +88,7 @@ pub(crate) fn rooted<'a>(
     version: Version,
     words: WordCursor<'a>,
     lines: LineCursor<'a>,
-) -> Result<(Problem, Notation, LineCursor<'a>), DescRefusal>
+) -> Written<'a>
     ensures { Gives (λ x. (written_instance x.0 x.1, lines_left x.2)) result
         (rooted_at version (words_left words.entry) (lines_left lines.entry)) }
 {
@@ -116,7 +116,7 @@ pub(crate) fn coloured<'a>(
     version: Version,
     words: WordCursor<'a>,
     lines: LineCursor<'a>,
-) -> Result<(Problem, Notation, LineCursor<'a>), DescRefusal>
+) -> Written<'a>
     ensures { Gives (λ x. (written_instance x.0 x.1, lines_left x.2)) result
         (coloured_at version (words_left words.entry) (lines_left lines.entry)) }
 {
@@ -144,7 +144,7 @@ pub(crate) fn table<'a>(
     version: Version,
     words: WordCursor<'a>,
     lines: LineCursor<'a>,
-) -> Result<(Problem, Notation, LineCursor<'a>), DescRefusal>
+) -> Written<'a>
     ensures { Gives (λ x. (written_instance x.0 x.1, lines_left x.2)) result
         (table_at version (words_left words.entry) (lines_left lines.entry)) }
 {

@@ -9,6 +9,7 @@ ghost use Rattle.mat_desc.specs.{
 ghost use Rattle.mat_words.specs.{Steps.{repeat_at}, Cursors.{lines_left, words_left}, Reading.{Gives}};
 
 use crate::limits::{LARGEST_WEIGHT, SMALLEST_WEIGHT};
+use crate::read::Read;
 use crate::read::lines::ended;
 use crate::read::notation::next_member;
 use crate::refusal::DescRefusal;
@@ -79,7 +80,7 @@ fn ends_line<'a>(
     key: &[u8],
     vertices: u32,
     lines: LineCursor<'a>,
-) -> Result<((u32, u32), LineCursor<'a>), DescRefusal>
+) -> Read<'a, (u32, u32)>
     ensures { Gives (λ x. (x.0, lines_left x.1)) result (ends_line_at (naming names.entry) key.now vertices (lines_left lines.entry)) }
 {
     let (words, rest) = keyed_line(lines, key)?;
@@ -90,7 +91,7 @@ fn ends_line<'a>(
 
 /// A column line.
 #[tactic(auto, unfolding(crate::specs::Reading::column_at))]
-fn column_line<'a>(dim: u32, lines: LineCursor<'a>) -> Result<(u128, LineCursor<'a>), DescRefusal>
+fn column_line<'a>(dim: u32, lines: LineCursor<'a>) -> Read<'a, u128>
     requires { dim ≤ most_digits }
     ensures { Gives (λ x. (x.0, lines_left x.1)) result (column_at dim (lines_left lines.entry)) }
 {
@@ -108,7 +109,7 @@ fn weighted_line<'a>(
     first_bound: u32,
     second_bound: u32,
     lines: LineCursor<'a>,
-) -> Result<(WeightedPair, LineCursor<'a>), DescRefusal>
+) -> Read<'a, WeightedPair>
     ensures { Gives (λ x. ((x.0.ends, x.0.weight), lines_left x.1)) result
         (weighted_at (naming names.entry) key.now first_bound second_bound (lines_left lines.entry)) }
 {
@@ -126,7 +127,7 @@ fn coloured_edge_line<'a>(
     vertices: u32,
     colours: u32,
     lines: LineCursor<'a>,
-) -> Result<(ColouredEdge, LineCursor<'a>), DescRefusal>
+) -> Read<'a, ColouredEdge>
     ensures { Gives (λ x. ((x.0.ends, (x.0.colour, x.0.weight)), lines_left x.1)) result
         (coloured_edge_at (naming names.entry) vertices colours (lines_left lines.entry)) }
 {
@@ -151,7 +152,7 @@ pub(crate) fn ends_lines<'a>(
     vertices: u32,
     many: u32,
     lines: LineCursor<'a>,
-) -> Result<(Pairs, LineCursor<'a>), DescRefusal>
+) -> Read<'a, Pairs>
     ensures { Gives (λ x. (x.0, lines_left x.1)) result
         (repeat_at (ends_line_at (naming names.entry) key.now vertices) many (lines_left lines.entry)) }
 {
@@ -171,7 +172,7 @@ pub(crate) fn column_lines<'a>(
     dim: u32,
     many: u32,
     lines: LineCursor<'a>,
-) -> Result<(Vec<u128>, LineCursor<'a>), DescRefusal>
+) -> Read<'a, Vec<u128>>
     requires { dim ≤ most_digits }
     ensures { Gives (λ x. (x.0.items, lines_left x.1)) result
         (repeat_at (column_at dim) many (lines_left lines.entry)) }
@@ -195,7 +196,7 @@ pub(crate) fn weighted_lines<'a>(
     second_bound: u32,
     many: u32,
     lines: LineCursor<'a>,
-) -> Result<(WeightedPairs, LineCursor<'a>), DescRefusal>
+) -> Read<'a, WeightedPairs>
     ensures value { Gives (λ x. (zip x.0.pairs x.0.weights, lines_left x.1)) result
         (repeat_at (weighted_at (naming names.entry) key.now first_bound second_bound) many (lines_left lines.entry)) }
     ensures as_many { IfOk result (λ x. length x.0.weights ≡ length x.0.pairs) }
@@ -224,7 +225,7 @@ pub(crate) fn coloured_edge_lines<'a>(
     colours: u32,
     many: u32,
     lines: LineCursor<'a>,
-) -> Result<(ColouredEdges, LineCursor<'a>), DescRefusal>
+) -> Read<'a, ColouredEdges>
     ensures value { Gives (λ x. (zip x.0.edges (zip x.0.colour_of.items x.0.weights), lines_left x.1)) result
         (repeat_at (coloured_edge_at (naming names.entry) vertices colours) many (lines_left lines.entry)) }
     ensures coloured { IfOk result (λ x. length x.0.colour_of.items ≡ length x.0.edges) }

@@ -6,6 +6,7 @@ ghost use Rattle.mat_words.specs.{Cursors.{lines_left, words_left}, Reading.{Giv
 ghost use Rattle.mat_desc.specs.{Reading.{ended_at, elements_at, weights_at}, Views.{naming}};
 
 use crate::limits::{LARGEST_WEIGHT, SMALLEST_WEIGHT};
+use crate::read::Read;
 use crate::read::notation::next_member;
 use crate::refusal::{DescKind, DescRefusal};
 use mat_sets::{BitSet, ElemSet, PairWeights};
@@ -32,7 +33,7 @@ pub(crate) fn weights_line<'a>(
     alloc: Global,
     count: u32,
     lines: LineCursor<'a>,
-) -> Result<(PairWeights, LineCursor<'a>), DescRefusal>
+) -> Read<'a, PairWeights>
     ensures { Gives (λ x. (x.0, lines_left x.1)) result (weights_at count (lines_left lines.entry)) }
 {
     let (words, rest) = keyed_line(lines, b"weights")?;

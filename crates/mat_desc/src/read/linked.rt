@@ -12,6 +12,7 @@ ghost use Rattle.mat_words.specs.{Steps.{repeat_at}, Cursors.{lines_left, words_
 use crate::limits::{MOST_ARCS, MOST_SETS, MOST_VERTICES};
 use crate::read::items::ends_lines;
 use crate::read::lines::{elements_line, ended};
+use crate::read::{Found, Read};
 use crate::refusal::{DescKind, DescRefusal};
 use mat_any::AnyMatroid;
 use mat_flow::Digraph;
@@ -28,7 +29,7 @@ fn set_line<'a>(
     key: &[u8],
     count: u32,
     lines: LineCursor<'a>,
-) -> Result<(ElemSet, LineCursor<'a>), DescRefusal>
+) -> Read<'a, ElemSet>
     ensures { Gives (λ x. (x.0, lines_left x.1)) result (set_line_at (naming names.entry) key.now count (lines_left lines.entry)) }
 {
     let (words, rest) = keyed_line(lines, key)?;
@@ -45,7 +46,7 @@ fn set_lines<'a>(
     count: u32,
     many: u32,
     lines: LineCursor<'a>,
-) -> Result<(SetList, LineCursor<'a>), DescRefusal>
+) -> Read<'a, SetList>
     ensures { Gives (λ x. (x.0, lines_left x.1)) result
         (repeat_at (set_line_at (naming names.entry) key.now count) many (lines_left lines.entry)) }
 {
@@ -89,7 +90,7 @@ fn targets_line<'a>(
     vertices: u32,
     count: u32,
     lines: LineCursor<'a>,
-) -> Result<(Vec<u32>, LineCursor<'a>), DescRefusal>
+) -> Read<'a, Vec<u32>>
     ensures { Gives (λ x. (x.0.items, lines_left x.1)) result (targets_at vertices count (lines_left lines.entry)) }
 {
     let (words, rest) = keyed_line(lines, b"targets")?;
@@ -106,7 +107,7 @@ pub(crate) fn transversal<'a>(
     count: u32,
     words: WordCursor<'a>,
     lines: LineCursor<'a>,
-) -> Result<(AnyMatroid, LineCursor<'a>), DescRefusal>
+) -> Found<'a>
     requires { IsNaming count (naming names) }
     ensures { Gives (λ x. (tree_of x.0, lines_left x.1)) result
         (transversal_at (naming names.entry) count (words_left words.entry) (lines_left lines.entry)) }
@@ -125,7 +126,7 @@ pub(crate) fn gammoid<'a>(
     count: u32,
     words: WordCursor<'a>,
     lines: LineCursor<'a>,
-) -> Result<(AnyMatroid, LineCursor<'a>), DescRefusal>
+) -> Found<'a>
     ensures { Gives (λ x. (tree_of x.0, lines_left x.1)) result
         (gammoid_at count (words_left words.entry) (lines_left lines.entry)) }
 {

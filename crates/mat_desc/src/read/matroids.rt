@@ -17,6 +17,7 @@ use crate::read::items::{column_lines, ends_lines};
 use crate::read::keywords::{Keyword, keyword_from};
 use crate::read::lines::{element_bits, elements_line, ended, members_of};
 use crate::read::linked::{gammoid, transversal};
+use crate::read::{Found, Read};
 use crate::refusal::{DescKind, DescRefusal};
 use mat_any::AnyMatroid;
 use mat_count::{Laminar, Partition, Uniform};
@@ -138,11 +139,7 @@ fn nested_set_lines<'a>(
 
 /// A uniform matroid, from the words behind its keyword on.
 #[tactic(auto, unfolding(crate::specs::Reading::uniform_at))]
-fn uniform<'a>(
-    count: u32,
-    words: WordCursor<'a>,
-    lines: LineCursor<'a>,
-) -> Result<(AnyMatroid, LineCursor<'a>), DescRefusal>
+fn uniform<'a>(count: u32, words: WordCursor<'a>, lines: LineCursor<'a>) -> Found<'a>
     ensures { Gives (λ x. (tree_of x.0, lines_left x.1)) result
         (uniform_at count (words_left words.entry) (lines_left lines.entry)) }
 {
@@ -159,7 +156,7 @@ fn partition<'a>(
     count: u32,
     words: WordCursor<'a>,
     lines: LineCursor<'a>,
-) -> Result<(AnyMatroid, LineCursor<'a>), DescRefusal>
+) -> Found<'a>
     requires { IsNaming count (naming names) }
     ensures { Gives (λ x. (tree_of x.0, lines_left x.1)) result
         (partition_at (naming names.entry) count (words_left words.entry) (lines_left lines.entry)) }
@@ -179,7 +176,7 @@ fn laminar<'a>(
     count: u32,
     words: WordCursor<'a>,
     lines: LineCursor<'a>,
-) -> Result<(AnyMatroid, LineCursor<'a>), DescRefusal>
+) -> Found<'a>
     requires { IsNaming count (naming names) }
     ensures { Gives (λ x. (tree_of x.0, lines_left x.1)) result
         (laminar_at (naming names.entry) count (words_left words.entry) (lines_left lines.entry)) }
@@ -193,12 +190,7 @@ fn laminar<'a>(
 
 /// A graphic matroid, from the words behind its keyword on.
 #[tactic(auto, using(crate::proofs::ItemLaws::ends_lines_sound), unfolding(crate::specs::Reading::graphic_at))]
-fn graphic<'a>(
-    alloc: Global,
-    count: u32,
-    words: WordCursor<'a>,
-    lines: LineCursor<'a>,
-) -> Result<(AnyMatroid, LineCursor<'a>), DescRefusal>
+fn graphic<'a>(alloc: Global, count: u32, words: WordCursor<'a>, lines: LineCursor<'a>) -> Found<'a>
     ensures { Gives (λ x. (tree_of x.0, lines_left x.1)) result
         (graphic_at count (words_left words.entry) (lines_left lines.entry)) }
 {
@@ -211,12 +203,7 @@ fn graphic<'a>(
 
 /// A matroid of columns over the field of two elements, from the words behind its keyword on.
 #[tactic(auto, using(crate::proofs::ItemLaws::columns_sound), unfolding(crate::specs::Reading::gf2_at))]
-fn gf2<'a>(
-    alloc: Global,
-    count: u32,
-    words: WordCursor<'a>,
-    lines: LineCursor<'a>,
-) -> Result<(AnyMatroid, LineCursor<'a>), DescRefusal>
+fn gf2<'a>(alloc: Global, count: u32, words: WordCursor<'a>, lines: LineCursor<'a>) -> Found<'a>
     ensures { Gives (λ x. (tree_of x.0, lines_left x.1)) result
         (gf2_at count (words_left words.entry) (lines_left lines.entry)) }
 {
@@ -237,7 +224,7 @@ fn dual<'a>(
     count: u32,
     words: WordCursor<'a>,
     lines: LineCursor<'a>,
-) -> Result<(AnyMatroid, LineCursor<'a>), DescRefusal>
+) -> Found<'a>
     requires { IsNaming count (naming names) }
     ensures { Gives (λ x. (tree_of x.0, lines_left x.1)) result
         (dual_at (matroid_within room (naming names.entry) count) (words_left words.entry) (lines_left lines.entry)) }
@@ -258,7 +245,7 @@ fn truncation<'a>(
     count: u32,
     words: WordCursor<'a>,
     lines: LineCursor<'a>,
-) -> Result<(AnyMatroid, LineCursor<'a>), DescRefusal>
+) -> Found<'a>
     requires { IsNaming count (naming names) }
     ensures { Gives (λ x. (tree_of x.0, lines_left x.1)) result
         (truncate_at (matroid_within room (naming names.entry) count) (words_left words.entry) (lines_left lines.entry)) }
@@ -280,7 +267,7 @@ fn restriction<'a>(
     count: u32,
     words: WordCursor<'a>,
     lines: LineCursor<'a>,
-) -> Result<(AnyMatroid, LineCursor<'a>), DescRefusal>
+) -> Found<'a>
     requires { IsNaming count (naming names) }
     ensures { Gives (λ x. (tree_of x.0, lines_left x.1)) result
         (restrict_at (matroid_within room (naming names.entry) count) (naming names.entry) count (words_left words.entry) (lines_left lines.entry)) }
@@ -302,7 +289,7 @@ fn contraction<'a>(
     count: u32,
     words: WordCursor<'a>,
     lines: LineCursor<'a>,
-) -> Result<(AnyMatroid, LineCursor<'a>), DescRefusal>
+) -> Found<'a>
     requires { IsNaming count (naming names) }
     ensures { Gives (λ x. (tree_of x.0, lines_left x.1)) result
         (contract_at (matroid_within room (naming names.entry) count) (naming names.entry) count (words_left words.entry) (lines_left lines.entry)) }
@@ -324,7 +311,7 @@ fn union_of<'a>(
     count: u32,
     words: WordCursor<'a>,
     lines: LineCursor<'a>,
-) -> Result<(AnyMatroid, LineCursor<'a>), DescRefusal>
+) -> Found<'a>
     requires { IsNaming count (naming names) }
     ensures { Gives (λ x. (tree_of x.0, lines_left x.1)) result
         (union_at (matroid_within room (naming names.entry) count) (words_left words.entry) (lines_left lines.entry)) }
@@ -351,7 +338,7 @@ fn matroids_within<'a>(
     count: u32,
     many: u32,
     lines: LineCursor<'a>,
-) -> Result<(Vec<AnyMatroid>, LineCursor<'a>), DescRefusal>
+) -> Read<'a, Vec<AnyMatroid>>
     requires { IsNaming count (naming names) }
     ensures { Gives (λ x. (map tree_of x.0.items, lines_left x.1)) result
         (repeat_at (matroid_within room (naming names.entry) count) many (lines_left lines.entry)) }
@@ -375,7 +362,7 @@ fn next_matroid_within<'a>(
     names: Option<&Names>,
     count: u32,
     lines: LineCursor<'a>,
-) -> Result<(AnyMatroid, LineCursor<'a>), DescRefusal>
+) -> Found<'a>
     requires { IsNaming count (naming names) }
     ensures { Gives (λ x. (tree_of x.0, lines_left x.1)) result
         (matroid_within room (naming names.entry) count (lines_left lines.entry)) }
@@ -409,7 +396,7 @@ fn next_matroid<'a>(
     names: Option<&Names>,
     count: u32,
     lines: LineCursor<'a>,
-) -> Result<(AnyMatroid, LineCursor<'a>), DescRefusal>
+) -> Found<'a>
     requires { IsNaming count (naming names) }
     ensures { Gives (λ x. (tree_of x.0, lines_left x.1)) result
         (matroid_at (naming names.entry) count (lines_left lines.entry)) }
@@ -441,7 +428,7 @@ pub(crate) fn next_matroids<'a>(
     count: u32,
     many: u32,
     lines: LineCursor<'a>,
-) -> Result<(Vec<AnyMatroid>, LineCursor<'a>), DescRefusal>
+) -> Read<'a, Vec<AnyMatroid>>
     requires { IsNaming count (naming names) }
     ensures { Gives (λ x. (map tree_of x.0.items, lines_left x.1)) result
         (repeat_at (matroid_at (naming names.entry) count) many (lines_left lines.entry)) }

@@ -8,6 +8,7 @@ ghost use Rattle.mat_desc.specs.{
 };
 ghost use Rattle.mat_words.specs.{Cursors.{lines_left, words_left}, NameLists.{names_of}, Words.{is_word}, Reading.{Gives}};
 
+use crate::read::Read;
 use crate::read::keywords::Version;
 use crate::read::lines::ended;
 use crate::refusal::{DescKind, DescRefusal};
@@ -100,12 +101,7 @@ fn next_names<'a>(
 
 /// A line of this keyword and as many names.
 #[tactic(auto, unfolding(crate::specs::Reading::names_line_at))]
-fn names_line<'a>(
-    alloc: Global,
-    key: &[u8],
-    many: u32,
-    lines: LineCursor<'a>,
-) -> Result<(Names, LineCursor<'a>), DescRefusal>
+fn names_line<'a>(alloc: Global, key: &[u8], many: u32, lines: LineCursor<'a>) -> Read<'a, Names>
     ensures { Gives (λ x. (names_of x.0, lines_left x.1)) result (names_line_at key.now many (lines_left lines.entry)) }
 {
     let (words, rest) = keyed_line(lines, key)?;
@@ -116,11 +112,7 @@ fn names_line<'a>(
 
 /// The names of the vertices, which have a line where there are any.
 #[tactic(auto, unfolding(crate::specs::Reading::vertex_names_at))]
-fn vertex_names<'a>(
-    alloc: Global,
-    vertices: u32,
-    lines: LineCursor<'a>,
-) -> Result<(Names, LineCursor<'a>), DescRefusal>
+fn vertex_names<'a>(alloc: Global, vertices: u32, lines: LineCursor<'a>) -> Read<'a, Names>
     ensures { Gives (λ x. (names_of x.0, lines_left x.1)) result (vertex_names_at vertices (lines_left lines.entry)) }
 {
     if vertices == 0 {
@@ -137,7 +129,7 @@ pub(crate) fn read_notation<'a>(
     elements: u32,
     vertices: u32,
     lines: LineCursor<'a>,
-) -> Result<(Notation, LineCursor<'a>), DescRefusal>
+) -> Read<'a, Notation>
     ensures value { Gives (λ x. (notation_of x.0, lines_left x.1)) result
         (notation_at version elements vertices (lines_left lines.entry)) }
     ensures elements { IfOk result (λ x. IsNaming elements (element_naming (notation_of x.0))) }
@@ -178,7 +170,7 @@ pub(crate) fn root_line<'a>(
     vertices: u32,
     known: Option<u32>,
     lines: LineCursor<'a>,
-) -> Result<(u32, LineCursor<'a>), DescRefusal>
+) -> Read<'a, u32>
     ensures { Gives (λ x. (x.0, lines_left x.1)) result (root_at (naming names.entry) vertices known (lines_left lines.entry)) }
 {
     if let Some(root) = known {
