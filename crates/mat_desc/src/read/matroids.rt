@@ -329,7 +329,7 @@ fn joined(parts: Vec<AnyMatroid>) -> AnyMatroid
     AnyMatroid::Union { parts }
 }
 
-/// As many matroids within another, with `room` as of a dual.
+/// As many matroids, with `room` as of a dual.
 #[cycle(reading)]
 fn matroids_within<'a>(
     alloc: Global,
@@ -433,12 +433,5 @@ pub(crate) fn next_matroids<'a>(
     ensures { Gives (λ x. (map tree_of x.0.items, lines_left x.1)) result
         (repeat_at (matroid_at (naming names.entry) count) many (lines_left lines.entry)) }
 {
-    let mut matroids = Vec::new(alloc);
-    let mut rest = lines;
-    for _ in 0..many {
-        let (matroid, after) = next_matroid(alloc, names, count, rest)?;
-        matroids.push(matroid)?;
-        rest = after;
-    }
-    Ok((matroids, rest))
+    matroids_within(alloc, DEEPEST, names, count, many, lines)
 }
