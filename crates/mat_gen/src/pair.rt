@@ -3,10 +3,10 @@
 ghost use Rattle.std.specs.Prelude.{◌≡◌, ◌<◌, ◌≤◌, ◌+◌, ◌*◌, map, IfOk};
 ghost use Rattle.mat_sets.specs.{Limits.{most_elements}, Sets.{all_below}};
 ghost use Rattle.mat_desc.specs.Views.{instance_of};
+ghost use Rattle.mat_gen.specs.declared.kind.SampleKind.TheVariants as kinds;
 ghost use Rattle.mat_gen.specs.{
   Draws.{draw},
   Samples.{pairs_drawn, weights_drawn, sample_of},
-  declared.kind.SampleKind.TheVariants as kinds,
 };
 
 use crate::generator::Generator;

@@ -5,9 +5,9 @@ ghost use Rattle.mat_work.specs.Workers.{AreWorkers};
 ghost use Rattle.mat_cert.specs.{Certificates.{IsRanged}, Views.{certificate_of}};
 ghost use Rattle.mat_check.specs.Right.{IsRight};
 ghost use Rattle.mat_desc.specs.{Grammar.{IsValid}, Soundness.{IsSoundInstance}, Views.{instance_of}};
+ghost use Rattle.mat_judge.specs.declared.certified.Uncertified.TheVariants as uncertified;
+ghost use Rattle.mat_judge.specs.declared.certified.NotRight.TheVariants as not_right;
 ghost use Rattle.mat_judge.specs.{
-  declared.certified.Uncertified.TheVariants as uncertified,
-  declared.certified.NotRight.TheVariants as not_right,
   declared.reading.Unread.TheVariants.{Memory},
   Certified.{IsCertified, IsRightAnswer, HasRightAnswer, IsUncertified, IsNotRight, uncertified_by},
 };

@@ -8,10 +8,8 @@ ghost use Rattle.mat_desc.specs.{
   Views.{instance_of, named_instance},
 };
 ghost use Rattle.mat_words.specs.NameLists.{names_of};
-ghost use Rattle.mat_judge.specs.{
-  declared.described.Undescribed.TheVariants as undescribed,
-  Described.{IsDescribed, IsNamed, IsUndescribed, undescribed_by},
-};
+ghost use Rattle.mat_judge.specs.declared.described.Undescribed.TheVariants as undescribed;
+ghost use Rattle.mat_judge.specs.Described.{IsDescribed, IsNamed, IsUndescribed, undescribed_by};
 
 use crate::reading::{Unread, read_all};
 use mat_desc::{DescKind, DescRefusal, Named, Problem, read_named, read_problem};

@@ -3,8 +3,8 @@
 ghost use Rattle.std.specs.Prelude.{◌≡◌, ◌≤◌, ℕ, List, length, map, IfOk, IfErr, IfSome};
 ghost use Rattle.mat_work.specs.Workers.{AreWorkers};
 ghost use Rattle.mat_command.specs.{CommandLines.{batch}, JobLists.{most_jobs, IsListed}, Views.{job_of}};
+ghost use Rattle.mat_top.specs.declared.batch.Unlisted.TheVariants as unlisted;
 ghost use Rattle.mat_top.specs.{
-  declared.batch.Unlisted.TheVariants as unlisted,
   LoadedJobs.{IsUnlisted, unlisted_by, refusal_of_unlisted},
   Refusals.{MayBeWritten, IsRefusal},
 };

@@ -45,8 +45,8 @@ struct TextRows<'a, S: Answering + Sync> {
 
 impl<'a, S: Answering + Sync> Model for TextRows<'a, S> {
     ghost use Rattle.std.specs.{Prelude.{List, All}, Coded.{codes}};
+    ghost use Rattle.mat_top.specs.contracts.loaded_job.LoadedJob as loaded;
     ghost use Rattle.mat_top.specs.{
-      contracts.loaded_job.LoadedJob as loaded,
       declared.loaded_job.LoadedJob.{LoadedJob},
       LoadedJobs.{IsAnswerable},
     };

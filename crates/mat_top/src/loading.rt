@@ -1,12 +1,13 @@
 //! Jobs whose problems are read.
 
 ghost use Rattle.std.specs.Prelude.{◌≡◌, ◌≤◌, ℕ, List, [], ◌∷◌, ◌++◌, map, OnOk, IfOk, IfErr, All};
+ghost use Rattle.mat_top.specs.declared.loading.Unloaded.TheVariants as unloaded;
 ghost use Rattle.mat_top.specs.{
   declared.loaded_job.LoadedJob.{LoadedJob},
-  declared.loading.Unloaded.TheVariants as unloaded,
   LoadedJobs.{refusal_of_unloaded, IsLoaded, AreLoaded, IsAnswerable, IsUnloaded, AreUnloaded},
 };
-ghost use Rattle.mat_judge.specs.{declared.described.Undescribed.TheVariants as undescribed, declared.reading.Unread.TheVariants.{Memory}};
+ghost use Rattle.mat_judge.specs.declared.described.Undescribed.TheVariants as undescribed;
+ghost use Rattle.mat_judge.specs.declared.reading.Unread.TheVariants.{Memory};
 ghost use Rattle.mat_command.specs.Views.{job_of};
 
 use crate::loaded_job::LoadedJob;

@@ -2,11 +2,9 @@
 
 ghost use Rattle.std.specs.Prelude.{◌≡◌};
 ghost use Rattle.mat_judge.specs.declared.reading.Unread.TheVariants.{Memory};
-ghost use Rattle.mat_verify.specs.{
-  declared.refusals.NoRung.TheVariants as no_rung,
-  declared.refusals.Unshown.TheVariants as unshown,
-  WitnessRefusals.{unshown_by, refusal_of_no_rung, refusal_of_unshown},
-};
+ghost use Rattle.mat_verify.specs.declared.refusals.NoRung.TheVariants as no_rung;
+ghost use Rattle.mat_verify.specs.declared.refusals.Unshown.TheVariants as unshown;
+ghost use Rattle.mat_verify.specs.WitnessRefusals.{unshown_by, refusal_of_no_rung, refusal_of_unshown};
 
 use mat_cert::{CertKind, CertRefusal};
 use mat_judge::{Denial, Refusal, Uncertified, Unread};

@@ -31,10 +31,10 @@ struct GreedyRuns<'a> {
 impl<'a> Model for GreedyRuns<'a> {
     ghost use Rattle.std.specs.{Prelude.{ℕ, ◌<◌, ◌≤◌, List, length, map, slice_index_or}, Coded.{codes}};
     ghost use Rattle.mat_sets.specs.{Limits.{most_elements}, declared.weight.Weight.{Weight}};
+    ghost use Rattle.mat_any.specs.contracts.any.AnyMatroid as e;
     ghost use Rattle.mat_any.specs.{
       Trees.{element_count, IsSound},
       Views.{tree_of},
-      contracts.any.AnyMatroid as e,
       declared.any.AnyMatroid.{AnyMatroid},
     };
     ghost use Rattle.mat_cert.specs.Certificates.{IsRangedPart};
