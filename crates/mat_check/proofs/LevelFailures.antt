@@ -1,29 +1,44 @@
--- The first failure of a level whose weight is right: that of the members of its cut, and then the cut itself.
-use Rattle.std.proofs.Common.{◌≡◌, ℕ, Bool, true, false, List, [], ◌∷◌, ◌++◌, map, Some, None, sym, ◌∙◌}
+-- The first failure of a level whose weight is told to be right: that of the members of its cut, and then the cut itself. The weight is told of a
+-- list that is that of the falling weights, and the cut of a set that is the union of the parts.
+use Rattle.std.proofs.Common.{◌≡◌, ◌+◌, ◌==◌, ℕ, Bool, true, false, List, [], ◌∷◌, ◌++◌, length, map, Some, None, ap, sym, ◌∙◌}
+use Rattle.mat_sets.specs.FallingWeights.{falling_weights, heavy}
+use Rattle.mat_sets.specs.Families.{family_union}
+use Rattle.mat_sets.specs.Sets.{intersection, minus}
+use Rattle.mat_sets.specs.Weights.{is_same, weight_at}
 use Rattle.mat_sets.specs.declared.weight.Weight.{Weight}
+use Rattle.mat_union.specs.Unions.{ranks_sum}
 use Rattle.mat_cert.specs.declared.answer.LevelLine.{LevelLine}
 use Rattle.mat_check.specs.Clauses.{Clause, Failure, first_failure}
 use Rattle.mat_check.specs.SetClauses.{level_clause, level_clauses, level_cut_clause, outside_clause}
-use Rattle.mat_check.proofs.FailingClauses.{first_in_back, first_in_front, first_of_failing, first_of_holding}
+use Rattle.mat_check.proofs.FailingClauses.{first_in_front, first_of_holding}
+use Rattle.mat_check.proofs.JoinedClauses.{end_fails, end_holds}
 
-module _ (n : ℕ) (tests : List (List ℕ → Bool)) (w : List Weight) (parts : List (List ℕ)) (j : ℕ) (level : LevelLine)
-    (same : (level_clause w j level).holds ≡ true) where
+module _ (tests : List (List ℕ → Bool)) (w : List Weight) (parts : List (List ℕ)) (j : ℕ) (level : LevelLine) (falling : List Weight)
+    (is : falling ≡ falling_weights w) (same : is_same level.at (weight_at falling j) ≡ true) where
   abbrev front : List Clause
   front = map (outside_clause w j level) level.cut
 
   abbrev end : Clause
-  end = level_cut_clause n tests w parts j level
+  end = level_cut_clause (length w) tests w parts j level
+
+  behind_weight : first_failure (level_clauses (length w) tests w parts j level) ≡ first_failure (front ++ end ∷ [])
+  behind_weight =
+      first_of_holding (level_clause w j level) (front ++ end ∷ []) (ap (λ ws. is_same level.at (weight_at ws j)) (sym is) ∙ same)
 
   pub level_fails_inside : (failure : Failure) → first_failure front ≡ Some failure
-      → Some failure ≡ first_failure (level_clauses n tests w parts j level)
-  level_fails_inside failure found =
-      sym (first_of_holding (level_clause w j level) (front ++ end ∷ []) same ∙ first_in_front front (end ∷ []) failure found)
+      → Some failure ≡ first_failure (level_clauses (length w) tests w parts j level)
+  level_fails_inside failure found = sym (behind_weight ∙ first_in_front front (end ∷ []) failure found)
 
-  pub level_fails : first_failure front ≡ None → end.holds ≡ false
-      → Some end.failure ≡ first_failure (level_clauses n tests w parts j level)
-  level_fails none h = sym (first_of_holding (level_clause w j level) (front ++ end ∷ []) same ∙ first_in_back front (end ∷ []) none
-      ∙ first_of_failing end [] h)
+  module _ (all : List ℕ) (joined : all ≡ family_union parts) (none : first_failure front ≡ None) where
+    abbrev filled : Bool
+    filled = length (intersection all (heavy (length w) w level.at)) == length (minus (heavy (length w) w level.at) level.cut) + ranks_sum tests level.cut
 
-  pub level_is_clear : first_failure front ≡ None → end.holds ≡ true → None ≡ first_failure (level_clauses n tests w parts j level)
-  level_is_clear none h = sym (first_of_holding (level_clause w j level) (front ++ end ∷ []) same ∙ first_in_back front (end ∷ []) none
-      ∙ first_of_holding end [] h)
+    told : end.holds ≡ filled
+    told = ap (λ set. length (intersection set (heavy (length w) w level.at))
+        == length (minus (heavy (length w) w level.at) level.cut) + ranks_sum tests level.cut) (sym joined)
+
+    pub level_fails : filled ≡ false → Some end.failure ≡ first_failure (level_clauses (length w) tests w parts j level)
+    level_fails h = end_fails front end none (told ∙ h) ∙ sym behind_weight
+
+    pub level_is_clear : filled ≡ true → None ≡ first_failure (level_clauses (length w) tests w parts j level)
+    level_is_clear h = end_holds front end none (told ∙ h) ∙ sym behind_weight

@@ -1,6 +1,5 @@
-use Rattle.std.proofs.Common.{◌≡◌, length, sym, ap, ◌∙◌}
+use Rattle.std.proofs.Common.{length, sym, ◌∙◌}
 use Rattle.std.proofs.lemmas.Result.{IfOk-weaker}
-use Rattle.mat_check.specs.Clauses.{first_failure}
 use Rattle.mat_check.specs.SetClauses.{cover_cut_clauses, missed_clauses}
 use Rattle.mat_check.proofs.JoinedClauses.{in_first, in_second, in_third}
 use Rattle.mat_check.proofs.RightPackings.{all_sets}
@@ -19,17 +18,13 @@ returns-in-Some-missed_failure g c =
     let n = g.M.Matroid.ground_size c.args.m.now in
     let p = g.M.Matroid.indep c.args.m.now in
     let sets = c.args.sets.now in
-    let told : first_failure (missed_clauses n sets) ≡ c.missed_failure.result
-    = ap (λ k. first_failure (missed_clauses k sets)) (sym c.size.ensures) ∙ sym c.missed_failure.ensures in
     in_second (all_sets n p sets) (missed_clauses n sets) (cover_cut_clauses p (length sets) c.args.cut.now) c.in-Some-missed_failure.failure
-    (sym c.in_ok-failure.ensures ∙ c.in_default.is) (told ∙ c.in-Some-missed_failure.is)
+    (sym c.in_ok-failure.ensures ∙ c.in_default.is) (sym (rw c.size.ensures at c.missed_failure.ensures) ∙ c.in-Some-missed_failure.is)
 
 pub returns : goal.returns
 returns g c =
     let n = g.M.Matroid.ground_size c.args.m.now in
     let p = g.M.Matroid.indep c.args.m.now in
     let sets = c.args.sets.now in
-    let told : first_failure (missed_clauses n sets) ≡ c.missed_failure.result
-    = ap (λ k. first_failure (missed_clauses k sets)) (sym c.size.ensures) ∙ sym c.missed_failure.ensures in
     IfOk-weaker c.cover_cut_failure.result _ _ (λ found h. h ∙ in_third (all_sets n p sets) (missed_clauses n sets)
-    (cover_cut_clauses p (length sets) c.args.cut.now) (sym c.in_ok-failure.ensures ∙ c.in_default.is) (told ∙ c.in_default-missed_failure.is)) c.cover_cut_failure.ensures
+    (cover_cut_clauses p (length sets) c.args.cut.now) (sym c.in_ok-failure.ensures ∙ c.in_default.is) (sym (rw c.size.ensures at c.missed_failure.ensures) ∙ c.in_default-missed_failure.is)) c.cover_cut_failure.ensures
