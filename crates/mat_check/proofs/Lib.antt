@@ -14,6 +14,7 @@ pub mod AddedRanks
 pub mod LevelFailures
 pub mod FallingLevels
 pub mod RightUnions
+pub mod UnionFailures
 pub mod RightPackings
 pub mod RightSets
 pub mod OptimalSets
