@@ -12,6 +12,7 @@ pub mod JoinedClauses
 pub mod Overlaps
 pub mod AddedRanks
 pub mod LevelFailures
+pub mod SplitFailures
 pub mod FallingLevels
 pub mod RightUnions
 pub mod UnionFailures

@@ -3,7 +3,7 @@
 ghost use Rattle.std.specs.Prelude.{◌≡◌, ◌<◌, ◌≤◌, ◌∷◌, ◌++◌, [], true, length, map, IfOk};
 ghost use Rattle.mat_sets.specs.{
   Limits.{largest_weight, largest_number, most_elements},
-  Graphs.{ends_of, IsGraph, IsSpanningArborescence},
+  Graphs.{ends_of, IsGraph},
   Sets.{all_below, AllBelow, IsSet},
   Weights.{◌⊕◌, is_same, negated, weight_at, AreWeightsWithin},
 };
@@ -76,37 +76,6 @@ fn is_beaten_under<M: Matroid>(
     Ok(is_beaten(m, weights, &heaviest, set))
 }
 
-// The first clause of the split that fails because a heavier set is there, for a spanning arborescence.
-fn arborescence_beaten_failure(
-    alloc: Global,
-    vertices: u32,
-    arcs: &Pairs,
-    root: u32,
-    tree: &ElemSet,
-    first: &[Weight],
-    second: &[Weight],
-) -> Result<Option<Failure>, AllocError>
-    requires graph { IsGraph vertices arcs.now }
-    requires root { root < vertices }
-    requires few { length arcs.now ≤ most_elements }
-    requires first { IsRangedPart (length arcs.now) first.now }
-    requires second { IsRangedPart (length arcs.now) second.now }
-    requires spanning { IsSpanningArborescence vertices (length arcs.now) (ends_of arcs.now) root tree.now }
-    ensures { IfOk result (λ found. found ≡ first_failure (
-        heaviest_clause (length arcs.now) (is_graphic (length arcs.now) (ends_of arcs.now)) first.now 0 0 tree.now
-        ∷ heaviest_clause (length arcs.now) (is_entering_once (length arcs.now) vertices (ends_of arcs.now) root) second.now 1 0 tree.now ∷ [])) }
-{
-    let graphic = Graphic::new(alloc, vertices, arcs.copy(alloc)?)?;
-    if is_beaten_under(alloc, &graphic, first, tree)? {
-        return Ok(Some(Reason::Beaten.at(0, 0)));
-    }
-    let heads = entering_once(alloc, vertices, arcs, root)?;
-    if is_beaten_under(alloc, &heads, second, tree)? {
-        return Ok(Some(Reason::Beaten.at(0, 1)));
-    }
-    Ok(None)
-}
-
 // The first clause of the split that fails, for a spanning arborescence.
 fn arborescence_split_failure(
     alloc: Global,
@@ -134,7 +103,15 @@ fn arborescence_split_failure(
     if let Some(failure) = cost_failure(costs, first, second) {
         return Ok(Some(failure));
     }
-    arborescence_beaten_failure(alloc, vertices, arcs, root, tree, first, second)
+    let graphic = Graphic::new(alloc, vertices, arcs.copy(alloc)?)?;
+    if is_beaten_under(alloc, &graphic, first, tree)? {
+        return Ok(Some(Reason::Beaten.at(0, 0)));
+    }
+    let heads = entering_once(alloc, vertices, arcs, root)?;
+    if is_beaten_under(alloc, &heads, second, tree)? {
+        return Ok(Some(Reason::Beaten.at(0, 1)));
+    }
+    Ok(None)
 }
 
 // Whether these arcs are a spanning arborescence from the root.

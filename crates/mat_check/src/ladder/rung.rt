@@ -68,40 +68,6 @@ pub(crate) fn plain_rung_failure<M: Matroid>(
     Ok(None)
 }
 
-// The first clause of the split of rung k that fails because a heavier set is there, for a set that is independent in both matroids.
-fn beaten_failure(
-    pair: &WeightedPair,
-    first: &PairWeights,
-    second: &PairWeights,
-    k: u32,
-    rung: &PricedRung,
-) -> Option<Failure>
-    requires first_sound { IsSound (tree_of pair.now.first.now) }
-    requires second_sound { IsSound (tree_of pair.now.second.now) }
-    requires first_lengths { length rung.now.first ≡ element_count (tree_of pair.now.first.now) }
-    requires second_lengths { length rung.now.second ≡ element_count (tree_of pair.now.second.now) }
-    requires few { length rung.now.set ≤ most_elements }
-    requires first_small { AreWeightsWithin largest_number rung.now.first }
-    requires second_small { AreWeightsWithin largest_number rung.now.second }
-    requires first_heaviest { AreHeaviestWeights (element_count (tree_of pair.now.first.now)) (is_independent (tree_of pair.now.first.now))
-        (weight_at rung.now.first) first.now }
-    requires second_heaviest { AreHeaviestWeights (element_count (tree_of pair.now.second.now)) (is_independent (tree_of pair.now.second.now))
-        (weight_at rung.now.second) second.now }
-    requires first_passes { is_independent (tree_of pair.now.first.now) rung.now.set ≡ true }
-    requires second_passes { is_independent (tree_of pair.now.second.now) rung.now.set ≡ true }
-    ensures { result ≡ first_failure (
-        heaviest_clause (element_count (tree_of pair.now.first.now)) (is_independent (tree_of pair.now.first.now)) rung.now.first 0 k rung.now.set
-        ∷ heaviest_clause (element_count (tree_of pair.now.second.now)) (is_independent (tree_of pair.now.second.now)) rung.now.second 1 k rung.now.set ∷ []) }
-{
-    if is_beaten(pair.first, rung.first.as_slice(), first, &rung.set) {
-        return Some(Reason::Beaten.at(k, 0));
-    }
-    if is_beaten(pair.second, rung.second.as_slice(), second, &rung.set) {
-        return Some(Reason::Beaten.at(k, 1));
-    }
-    None
-}
-
 // The first clause of the split of rung k that fails, for a set that is independent in both matroids.
 fn split_failure(
     pair: &WeightedPair,
@@ -127,15 +93,18 @@ fn split_failure(
         ++ heaviest_clause (length pair.now.weights.now) (is_independent (tree_of pair.now.first.now)) rung.now.first 0 k rung.now.set
         ∷ heaviest_clause (length pair.now.weights.now) (is_independent (tree_of pair.now.second.now)) rung.now.second 1 k rung.now.set ∷ []) }
 {
-    if let Some(failure) = sum_failure(
-        pair.weights,
-        rung.first.as_slice(),
-        rung.second.as_slice(),
-        k,
-    ) {
+    let first_half = rung.first.as_slice();
+    let second_half = rung.second.as_slice();
+    if let Some(failure) = sum_failure(pair.weights, first_half, second_half, k) {
         return Some(failure);
     }
-    beaten_failure(pair, first, second, k, rung)
+    if is_beaten(pair.first, first_half, first, &rung.set) {
+        return Some(Reason::Beaten.at(k, 0));
+    }
+    if is_beaten(pair.second, second_half, second, &rung.set) {
+        return Some(Reason::Beaten.at(k, 1));
+    }
+    None
 }
 
 /// The first clause of rung k of a ladder of two matroids that fails, told by the weights of heaviest sets of each size under
