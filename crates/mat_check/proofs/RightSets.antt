@@ -1,5 +1,5 @@
 -- An answer in range on unions, packings and coverings is right exactly where none of its clauses fails.
-use Rattle.std.proofs.Common.{◌≡◌, ℕ, Bool, ◌&&◌, List, [], ◌∷◌, length, map, eqb, Option, None, sym, ◌∙◌}
+use Rattle.std.proofs.Common.{◌≡◌, ◌↔◌, ℕ, Bool, ◌&&◌, List, [], ◌∷◌, length, map, eqb, Option, None, sym, ◌∙◌}
 use Rattle.std.proofs.lemmas.Bool.{and_from, and_parts, eq-eqb, eqb-true, not-true, not_from_false}
 use Rattle.std.proofs.lemmas.List.{length-map}
 use Rattle.mat_sets.specs.declared.weight.Weight.{Weight}
@@ -11,10 +11,10 @@ use Rattle.mat_check.specs.AnswerClauses.{clauses_of}
 use Rattle.mat_check.specs.Clauses.{Clause, first_failure, header_clause}
 use Rattle.mat_check.specs.Right.{IsRightUnionAnswer}
 use Rattle.mat_sets.specs.FallingWeights.{falling_weights}
-use Rattle.mat_check.specs.SetClauses.{union_clauses}
+use Rattle.mat_check.specs.SetClauses.{cover_clauses, pack_clauses, union_clauses}
 use Rattle.mat_check.proofs.AnswerForms.{RightHasNoFailure}
 use Rattle.mat_check.proofs.FallingLevels.{falling_gives}
-use Rattle.mat_check.proofs.FirstFailures.{all_hold, none_fails}
+use Rattle.mat_check.proofs.FirstFailures.{AllHold, all_hold, none_fails}
 use Rattle.mat_check.proofs.RightPackings.{covering_holds, covering_is_right, packing_holds, packing_is_right}
 use Rattle.mat_check.proofs.RightUnions.{union_holds, union_is_right}
 
@@ -62,15 +62,19 @@ packing_of_none_case w matroid n valid sound ranged =
       λ none. let h = all_hold clauses none in (eqb-true n (length w) h.0, eqb-true _ _ h.1.0),
     )
 
+-- the header has the number of elements alone
+behind_number : {P : Type 0} (n m : ℕ) (clauses : List Clause) → (P → AllHold clauses) → (AllHold clauses → P)
+    → ((n ≡ m) × P) ↔ (first_failure (header_clause (eqb n m) ∷ clauses) ≡ None)
+behind_number n m clauses holds is_right = (
+  λ right. none_fails (header_clause (eqb n m) ∷ clauses) (eq-eqb n m right.0, holds right.1),
+  λ none. let h = all_hold (header_clause (eqb n m) ∷ clauses) none in (eqb-true n m h.0, is_right h.1),
+)
+
 pub packing_case : (w : List Weight) (matroid : Tree) (n : ℕ) (bases : List (List ℕ)) (cut : List ℕ)
     → RightHasNoFailure (list w (matroid ∷ [])) (pack n bases cut)
 packing_case w matroid n bases cut valid sound ranged =
-    let clauses = clauses_of (list w (matroid ∷ [])) (pack n bases cut) in (
-      λ right. none_fails clauses (eq-eqb n (length w) right.0, packing_holds n (is_independent matroid) bases cut right.1),
-      λ none.
-          let h = all_hold clauses none in
-          (eqb-true n (length w) h.0, packing_is_right n (is_independent matroid) bases cut ranged h.1),
-    )
+    behind_number n (length w) (pack_clauses n (is_independent matroid) bases cut) (packing_holds n (is_independent matroid) bases cut)
+    (packing_is_right n (is_independent matroid) bases cut ranged)
 
 -- ---- coverings
 
@@ -84,9 +88,5 @@ loop_case w matroid n loop_at valid sound ranged =
 pub covering_case : (w : List Weight) (matroid : Tree) (n : ℕ) (sets : List (List ℕ)) (cut : Option (List ℕ))
     → RightHasNoFailure (list w (matroid ∷ [])) (cover n sets cut)
 covering_case w matroid n sets cut valid sound ranged =
-    let clauses = clauses_of (list w (matroid ∷ [])) (cover n sets cut) in (
-      λ right. none_fails clauses (eq-eqb n (length w) right.0, covering_holds n (is_independent matroid) sets cut right.1),
-      λ none.
-          let h = all_hold clauses none in
-          (eqb-true n (length w) h.0, covering_is_right n (is_independent matroid) sets cut ranged h.1),
-    )
+    behind_number n (length w) (cover_clauses n (is_independent matroid) sets cut) (covering_holds n (is_independent matroid) sets cut)
+    (covering_is_right n (is_independent matroid) sets cut ranged)
