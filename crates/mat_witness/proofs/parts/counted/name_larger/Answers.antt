@@ -3,23 +3,19 @@ use Rattle.std.proofs.lemmas.List.Elements.{All-set}
 use Rattle.std.specs.Prelude.{IfSome}
 use Rattle.mat_sets.proofs.Sums.{AllBelow-at}
 use Rattle.mat_witness.specs.FilledSets.{AreLargerNamed, AreListed}
-use Rattle.mat_witness.proofs.NamedSets.{larger_found, larger_passed}
+use Rattle.mat_witness.proofs.NamedSets.{larger_found, larger_passed, listed_below}
 use Rattle.mat_witness.proofs.parts.counted.name_larger.Goals as goal
 use Rattle.mat_witness.proofs.parts.counted.name_larger.Goals.{then-outgrows, else-outgrows}
 
 pub slice_copy_out-outgrows : goal.slice_copy_out-outgrows
 slice_copy_out-outgrows c =
-    let items = c.as_slice-x-items.ensures.items ∙ c.get-set.ensures.item in
-    let inside = rw items at c.loop-x-test.true in
-    rw (items, c.loop-x.invariant.long)
-    (AllBelow-at (length c.args.named.now) (get_or c.args.sets.now c.args.place []) c.loop-x.x-index c.requires.inside inside)
+    rw c.loop-x.invariant.long
+    (listed_below (c.as_slice-x-items.ensures.items ∙ c.get-set.ensures.item) c.requires.inside c.loop-x-test.true)
 
 pub bounds-named-x : goal.bounds-named-x
 bounds-named-x c =
-    let items = c.as_slice-x-items.ensures.items ∙ c.get-set.ensures.item in
-    let inside = rw items at c.loop-x-test.true in
-    rw (items, c.loop-x.invariant.long)
-    (AllBelow-at (length c.args.named.now) (get_or c.args.sets.now c.args.place []) c.loop-x.x-index c.requires.inside inside)
+    rw c.loop-x.invariant.long
+    (listed_below (c.as_slice-x-items.ensures.items ∙ c.get-set.ensures.item) c.requires.inside c.loop-x-test.true)
 
 pub loop-x-preserved : goal.loop-x-preserved
 loop-x-preserved c =

@@ -1,15 +1,11 @@
-use Rattle.std.proofs.Common.{◌+◌, ℕ, None, length, get_or, take, sym, ◌∙◌, subst}
-use Rattle.mat_sets.proofs.Sums.{AllBelow-at}
+use Rattle.std.proofs.Common.{◌+◌, ℕ, None, get_or, take, sym, ◌∙◌, subst}
 use Rattle.mat_witness.specs.FilledSets.{AreNamed}
-use Rattle.mat_witness.proofs.NamedSets.{AreNamed-more, AreNamed-some, none_since}
+use Rattle.mat_witness.proofs.NamedSets.{AreNamed-more, AreNamed-some, listed_below, none_since}
 use Rattle.mat_witness.proofs.parts.counted.named_sets.Goals as goal
 use Rattle.mat_witness.proofs.parts.counted.named_sets.Goals.{in-Some+in_ok-add, in_default}
 
 pub bounds : goal.bounds
-bounds c =
-    let items = c.as_slice-x-items.ensures.items in
-    let inside = rw items at c.loop-x-test.true in
-    rw items (AllBelow-at (length c.args.named.now) c.args.set.now c.loop-x.x-index c.requires inside)
+bounds c = listed_below c.as_slice-x-items.ensures.items c.requires c.loop-x-test.true
 
 pub loop-x-preserved : goal.loop-x-preserved
 loop-x-preserved c =

@@ -1,14 +1,11 @@
-use Rattle.std.proofs.Common.{◌≡◌, ◌+◌, length, get_or, take, ap, ◌∙◌, arith}
-use Rattle.mat_sets.proofs.Sums.{AllBelow-at}
+use Rattle.std.proofs.Common.{◌≡◌, ◌+◌, get_or, take, ap, ◌∙◌, arith}
 use Rattle.mat_witness.specs.BoundParts.{caps_sum}
 use Rattle.mat_witness.proofs.CapSums.{caps_sum-more, caps_sum-small}
+use Rattle.mat_witness.proofs.NamedSets.{listed_below}
 use Rattle.mat_witness.proofs.parts.counted.sum_caps.Goals as goal
 
 pub bounds-caps-i : goal.bounds-caps-i
-bounds-caps-i c =
-    let items = c.as_slice-i-items.ensures.items in
-    let inside = rw items at c.loop-i-test.true in
-    rw items (AllBelow-at (length c.args.caps.now) c.args.chosen.now c.loop-i.i-index c.requires.chosen.below inside)
+bounds-caps-i c = listed_below c.as_slice-i-items.ensures.items c.requires.chosen.below c.loop-i-test.true
 
 pub overflow_add-sum : goal.overflow_add-sum
 overflow_add-sum c =

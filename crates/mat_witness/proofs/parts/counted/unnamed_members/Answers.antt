@@ -1,17 +1,13 @@
-use Rattle.std.proofs.Common.{ℕ, None, length, get_or, ap, ◌∙◌}
+use Rattle.std.proofs.Common.{ℕ, None, get_or, ap, ◌∙◌}
 use Rattle.mat_sets.specs.Sets.{with_one}
 use Rattle.mat_sets.proofs.Filters.{filter-found, filter-passed, IsRising-found}
-use Rattle.mat_sets.proofs.Sums.{AllBelow-at}
 use Rattle.mat_witness.specs.FilledSets.{is_unnamed}
-use Rattle.mat_witness.proofs.NamedSets.{unnamed_where_none}
+use Rattle.mat_witness.proofs.NamedSets.{listed_below, unnamed_where_none}
 use Rattle.mat_witness.proofs.parts.counted.unnamed_members.Goals as goal
 use Rattle.mat_witness.proofs.parts.counted.unnamed_members.Goals.{then-is_none+in_ok-add, else-is_none}
 
 pub bounds-named-x : goal.bounds-named-x
-bounds-named-x c =
-    let items = c.as_slice-x-items.ensures.items in
-    let inside = rw items at c.loop-x-test.true in
-    rw items (AllBelow-at (length c.args.named.now) c.args.set.now c.loop-x.x-index c.requires inside)
+bounds-named-x c = listed_below c.as_slice-x-items.ensures.items c.requires c.loop-x-test.true
 
 pub loop-x-preserved : goal.loop-x-preserved
 loop-x-preserved c =

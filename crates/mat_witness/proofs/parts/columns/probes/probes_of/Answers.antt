@@ -1,6 +1,6 @@
 -- After some columns of the independent set each has a probe that it alone of them meets oddly, and the rows meet all of them evenly. A next column
 -- without a row that it meets oddly would be a sum of those before it.
-use Rattle.std.proofs.Common.{◌≡◌, ℕ, List, ◌^◌, ◌<◌, ◌∙◌, ap, sym, subst, map, length, get_or, arith}
+use Rattle.std.proofs.Common.{◌≡◌, ℕ, List, ◌^◌, ◌<◌, ◌∙◌, ap, subst, map, length, get_or, arith}
 use Rattle.std.proofs.lemmas.Grind.{common_steps}
 use Rattle.std.proofs.lemmas.List.{get_or_default}
 use Rattle.mat_sets.specs.Sets.{all_below}
@@ -17,10 +17,8 @@ loop-e-init c =
 
 pub bounds-columns-e : goal.bounds-columns-e
 bounds-columns-e c =
-    let columns = c.args.matroid.now.columns in
-    let below = item-below (length columns) (column_of columns) c.args.set.now c.as_slice-e-items.result.now c.loop-e.e-index
-    c.requires.set c.as_slice-e-items.ensures.items c.loop-e-test.true in
-    subst (λ (cs : List ℕ). get_or c.as_slice-e-items.result.now c.loop-e.e-index 0 < length cs) (sym c.columns.ensures) below
+    rw c.columns.ensures (item-below (length c.args.matroid.now.columns) (column_of c.args.matroid.now.columns) c.args.set.now
+    c.as_slice-e-items.result.now c.loop-e.e-index c.requires.set c.as_slice-e-items.ensures.items c.loop-e-test.true)
 
 pub unreachable-requires : goal.unreachable-requires
 unreachable-requires c =

@@ -1,4 +1,4 @@
-use Rattle.std.proofs.Common.{◌≡◌, ℕ, List, ◌^◌, ◌<◌, ◌∙◌, ap, sym, subst, map, length, get_or, arith}
+use Rattle.std.proofs.Common.{◌≡◌, ℕ, List, ◌^◌, ◌<◌, ◌∙◌, ap, subst, map, length, get_or, arith}
 use Rattle.std.proofs.lemmas.List.{get_or_default}
 use Rattle.mat_sets.specs.Sets.{all_below}
 use Rattle.mat_gf2.specs.Columns.{column_of}
@@ -13,10 +13,8 @@ loop-e-init c =
 
 pub bounds-columns-e : goal.bounds-columns-e
 bounds-columns-e c =
-    let columns = c.args.matroid.now.columns in
-    let below = item-below (length columns) (column_of columns) c.args.inside.now c.as_slice-e-items.result.now c.loop-e.e-index
-    c.requires.inside c.as_slice-e-items.ensures.items c.loop-e-test.true in
-    subst (λ (cs : List ℕ). get_or c.as_slice-e-items.result.now c.loop-e.e-index 0 < length cs) (sym c.columns.ensures) below
+    rw c.columns.ensures (item-below (length c.args.matroid.now.columns) (column_of c.args.matroid.now.columns) c.args.inside.now
+    c.as_slice-e-items.result.now c.loop-e.e-index c.requires.inside c.as_slice-e-items.ensures.items c.loop-e-test.true)
 
 pub loop-e-preserved : goal.loop-e-preserved
 loop-e-preserved c =
