@@ -38,43 +38,35 @@ IsBoundRead n tree p part q = IsRead (IsBoundFor n tree part) (bound_lines tree 
 
 -- ---- one bound that was read
 
--- the lines of a counted matroid that lists so many sets
-abbrev spent_at : ℕ → ℕ → LinesLeft → Result (BoundPart × LinesLeft) Fault
-spent_at n many p = set_at (codes "spent") n p >>= λ elements. set_at (codes "sets") many elements.1
-    >>= λ chosen. Ok (spent elements.0 chosen.0, chosen.1)
+-- two sets in two lines, of which a bound is made
+abbrev sets_at : List ℕ → List ℕ → ℕ → ℕ → (List ℕ → List ℕ → BoundPart) → LinesLeft → Result (BoundPart × LinesLeft) Fault
+sets_at key other n many made p = set_at key n p >>= λ elements. set_at other many elements.1 >>= λ chosen. Ok (made elements.0 chosen.0, chosen.1)
 
--- such a bound, with its lines
-record IsSpentRead (n many : ℕ) (p : LinesLeft) (part : BoundPart) (q : LinesLeft) : Type 0 where
-  elements : List ℕ
-  chosen : List ℕ
-  made : part ≡ spent elements chosen
-  inside : AreSpent n many elements chosen
-  spelled : (rest : List Line) → AreLeft rest q → AreLeft (members_line (codes "spent") elements ∷ members_line (codes "sets") chosen ∷ rest) p
-
-spent_found : (n many : ℕ) (p : LinesLeft) (part : BoundPart) (q : LinesLeft) → spent_at n many p ≡ Ok (part, q) → IsSpentRead n many p part q
-spent_found n many p part q e =
-    let elements = bind_found (set_at (codes "spent") n p)
-    (λ elements. set_at (codes "sets") many elements.1 >>= λ chosen. Ok (spent elements.0 chosen.0, chosen.1)) (part, q) e in
-    let chosen = bind_found (set_at (codes "sets") many elements.0.1) (λ chosen. Ok (spent elements.0.0 chosen.0, chosen.1)) (part, q)
-    elements.2 in
-    let first = set_found (codes "spent") n p elements.0.0 elements.0.1 elements.1 in
-    let second = set_found (codes "sets") many elements.0.1 chosen.0.0 chosen.0.1 chosen.1 in
-    subst (λ (r : BoundPart × LinesLeft). IsSpentRead n many p r.0 r.1)
-    (found-same (spent elements.0.0 chosen.0.0, chosen.0.1) (part, q) chosen.2) (record {
-      elements = elements.0.0;
-      chosen = chosen.0.0;
-      made = refl;
-      inside = record { elements_inside = first.in_range; chosen_inside = second.in_range };
-      spelled = λ rest left. first.spelled (members_line (codes "sets") chosen.0.0 ∷ rest) (second.spelled rest left);
+-- such a bound for a matroid, with its lines
+sets_found : (total : ℕ) (tree : Tree) (key other : List ℕ) (n many : ℕ) (made : List ℕ → List ℕ → BoundPart) (p : LinesLeft) (part : BoundPart)
+    (q : LinesLeft)
+    → ((elements chosen : List ℕ) → IsSet n elements → IsSet many chosen → IsBoundFor total tree (made elements chosen))
+    → ((elements chosen : List ℕ) → bound_lines tree (made elements chosen) ≡ members_line key elements ∷ members_line other chosen ∷ [])
+    → sets_at key other n many made p ≡ Ok (part, q) → IsBoundRead total tree p part q
+sets_found total tree key other n many made p part q fits lines e =
+    let elements = bind_found (set_at key n p)
+    (λ elements. set_at other many elements.1 >>= λ chosen. Ok (made elements.0 chosen.0, chosen.1)) (part, q) e in
+    let chosen = bind_found (set_at other many elements.0.1) (λ chosen. Ok (made elements.0.0 chosen.0, chosen.1)) (part, q) elements.2 in
+    let first = set_found key n p elements.0.0 elements.0.1 elements.1 in
+    let second = set_found other many elements.0.1 chosen.0.0 chosen.0.1 chosen.1 in
+    subst (λ (r : BoundPart × LinesLeft). IsBoundRead total tree p r.0 r.1)
+    (found-same (made elements.0.0 chosen.0.0, chosen.0.1) (part, q) chosen.2) (record {
+      in_range = fits elements.0.0 chosen.0.0 first.in_range second.in_range;
+      spelled = λ rest left. subst (λ (ls : List Line). AreLeft (ls ++ rest) p) (sym (lines elements.0.0 chosen.0.0))
+          (first.spelled (members_line other chosen.0.0 ∷ rest) (second.spelled rest left));
     })
 
--- it is one for a counted matroid
-as_spent : (n many : ℕ) (tree : Tree) (p : LinesLeft) (part : BoundPart) (q : LinesLeft)
+-- that of a counted matroid that lists so many sets
+spent_found : (n many : ℕ) (tree : Tree) (p : LinesLeft) (part : BoundPart) (q : LinesLeft)
     → ((elements chosen : List ℕ) → AreSpent n many elements chosen → IsBoundFor n tree (spent elements chosen))
-    → IsSpentRead n many p part q → IsBoundRead n tree p part q
-as_spent n many tree p part q fits read =
-    subst (λ (r : BoundPart). IsBoundRead n tree p r q) (sym read.made)
-    (record { in_range = fits read.elements read.chosen read.inside; spelled = read.spelled })
+    → sets_at (codes "spent") (codes "sets") n many spent p ≡ Ok (part, q) → IsBoundRead n tree p part q
+spent_found n many tree p part q fits e = sets_found n tree (codes "spent") (codes "sets") n many spent p part q
+    (λ elements chosen one two. fits elements chosen (record { elements_inside = one; chosen_inside = two })) (λ elements chosen. refl) e
 
 labels_found : (n vertices : ℕ) (edges : List (ℕ × ℕ)) (p : LinesLeft) (part : BoundPart) (q : LinesLeft)
     → bound_at n (graphic vertices edges) p ≡ Ok (part, q) → IsBoundRead n (graphic vertices edges) p part q
@@ -96,18 +88,8 @@ labels_found n vertices edges p part q e =
 gate_found : (n vertices : ℕ) (arcs : List (ℕ × ℕ)) (sources targets : List ℕ) (p : LinesLeft) (part : BoundPart) (q : LinesLeft)
     → bound_at n (gammoid vertices arcs sources targets) p ≡ Ok (part, q) → IsBoundRead n (gammoid vertices arcs sources targets) p part q
 unfolding bound_at
-gate_found n vertices arcs sources targets p part q e =
-    let reached = bind_found (set_at (codes "reach") vertices p)
-    (λ reached. set_at (codes "gate") vertices reached.1 >>= λ closing. Ok (gate reached.0 closing.0, closing.1)) (part, q) e in
-    let closing = bind_found (set_at (codes "gate") vertices reached.0.1) (λ closing. Ok (gate reached.0.0 closing.0, closing.1)) (part, q)
-    reached.2 in
-    let first = set_found (codes "reach") vertices p reached.0.0 reached.0.1 reached.1 in
-    let second = set_found (codes "gate") vertices reached.0.1 closing.0.0 closing.0.1 closing.1 in
-    subst (λ (r : BoundPart × LinesLeft). IsBoundRead n (gammoid vertices arcs sources targets) p r.0 r.1)
-    (found-same (gate reached.0.0 closing.0.0, closing.0.1) (part, q) closing.2) (record {
-      in_range = (first.in_range, second.in_range);
-      spelled = λ rest left. first.spelled (members_line (codes "gate") closing.0.0 ∷ rest) (second.spelled rest left);
-    })
+gate_found n vertices arcs sources targets p part q e = sets_found n (gammoid vertices arcs sources targets) (codes "reach") (codes "gate")
+    vertices vertices gate p part q (λ reached closing one two. (one, two)) (λ reached closing. refl) e
 
 zeros_found : (n dim : ℕ) (columns : List ℕ) (p : LinesLeft) (part : BoundPart) (q : LinesLeft)
     → bound_at n (gf2 dim columns) p ≡ Ok (part, q) → IsBoundRead n (gf2 dim columns) p part q
@@ -138,11 +120,10 @@ zeros_found n dim columns p part q e =
 pub bound_found : (n : ℕ) (tree : Tree) (p : LinesLeft) (part : BoundPart) (q : LinesLeft) → is_witnessed tree ≡ true
     → bound_at n tree p ≡ Ok (part, q) → IsRead (IsBoundFor n tree part) (bound_lines tree part) p q
 unfolding bound_at
-bound_found n (uniform m cap) p part q kind e = as_spent n 1 (uniform m cap) p part q (λ elements chosen h. h) (spent_found n 1 p part q e)
+bound_found n (uniform m cap) p part q kind e = spent_found n 1 (uniform m cap) p part q (λ elements chosen h. h) e
 bound_found n (partition m classes caps) p part q kind e =
-    as_spent n (length classes) (partition m classes caps) p part q (λ elements chosen h. h) (spent_found n (length classes) p part q e)
-bound_found n (laminar m sets caps) p part q kind e =
-    as_spent n (length sets) (laminar m sets caps) p part q (λ elements chosen h. h) (spent_found n (length sets) p part q e)
+    spent_found n (length classes) (partition m classes caps) p part q (λ elements chosen h. h) e
+bound_found n (laminar m sets caps) p part q kind e = spent_found n (length sets) (laminar m sets caps) p part q (λ elements chosen h. h) e
 bound_found n (graphic vertices edges) p part q kind e = labels_found n vertices edges p part q e
 bound_found n (transversal m family) p part q kind e = absurd cc
 bound_found n (gammoid vertices arcs sources targets) p part q kind e = gate_found n vertices arcs sources targets p part q e
@@ -155,13 +136,20 @@ bound_found n (union ts) p part q kind e = absurd cc
 
 -- ---- one bound that is read again
 
+sets_again : (key other : List ℕ) (n many : ℕ) (made : List ℕ → List ℕ → BoundPart) (elements chosen : List ℕ) (p : LinesLeft) (rest : List Line)
+    → is_word key ≡ true → is_word other ≡ true → IsSet n elements → IsSet many chosen
+    → AreLeft (members_line key elements ∷ members_line other chosen ∷ rest) p
+    → IsReadAgain (sets_at key other n many made p) (made elements chosen) rest
+sets_again key other n many made elements chosen p rest one two elements_inside chosen_inside left =
+    let first = set_again key n p elements (members_line other chosen ∷ rest) one elements_inside left in
+    let second = set_again other many first.0 chosen rest two chosen_inside first.2 in
+    (second.0, rw (first.1, second.1) refl, second.2)
+
 spent_again : (n many : ℕ) (elements chosen : List ℕ) (p : LinesLeft) (rest : List Line) → AreSpent n many elements chosen
     → AreLeft (members_line (codes "spent") elements ∷ members_line (codes "sets") chosen ∷ rest) p
-    → IsReadAgain (spent_at n many p) (spent elements chosen) rest
-spent_again n many elements chosen p rest inside left =
-    let first = set_again (codes "spent") n p elements (members_line (codes "sets") chosen ∷ rest) refl inside.elements_inside left in
-    let second = set_again (codes "sets") many first.0 chosen rest refl inside.chosen_inside first.2 in
-    (second.0, rw (first.1, second.1) refl, second.2)
+    → IsReadAgain (sets_at (codes "spent") (codes "sets") n many spent p) (spent elements chosen) rest
+spent_again n many elements chosen p rest inside left = sets_again (codes "spent") (codes "sets") n many spent elements chosen p rest refl refl
+    inside.elements_inside inside.chosen_inside left
 
 labels_again : (n vertices : ℕ) (edges : List (ℕ × ℕ)) (numbers : List ℕ) (p : LinesLeft) (rest : List Line) → length numbers ≡ vertices
     → AllBelow vertices numbers → AreLeft (members_line (codes "labels") numbers ∷ rest) p
@@ -176,16 +164,6 @@ labels_again n vertices edges numbers p rest size below left =
     let read = subst (λ (m : ℕ). repeat_at (below_at vertices) m (record { line = p.line; words = numerals numbers })
     ≡ Ok (numbers, record { line = p.line; words = [] })) size counted in
     (line.0, rw (line.1, read) refl, line.2)
-
-gate_again : (n vertices : ℕ) (arcs : List (ℕ × ℕ)) (sources targets reached closing : List ℕ) (p : LinesLeft) (rest : List Line)
-    → IsSet vertices reached → IsSet vertices closing
-    → AreLeft (members_line (codes "reach") reached ∷ members_line (codes "gate") closing ∷ rest) p
-    → IsReadAgain (bound_at n (gammoid vertices arcs sources targets) p) (gate reached closing) rest
-unfolding bound_at
-gate_again n vertices arcs sources targets reached closing p rest one two left =
-    let first = set_again (codes "reach") vertices p reached (members_line (codes "gate") closing ∷ rest) refl one left in
-    let second = set_again (codes "gate") vertices first.0 closing rest refl two first.2 in
-    (second.0, rw (first.1, second.1) refl, second.2)
 
 zeros_again : (n dim : ℕ) (columns numbers : List ℕ) (p : LinesLeft) (rest : List Line) → 1 ≤ dim → length numbers ≤ dim
     → All (λ z. z < 2 ^ dim) numbers
@@ -227,7 +205,7 @@ bound_again n (transversal m family) part p rest some fits left = absurd fits
 bound_again n (gammoid vertices arcs sources targets) (spent elements chosen) p rest some fits left = absurd fits
 bound_again n (gammoid vertices arcs sources targets) (labels numbers) p rest some fits left = absurd fits
 bound_again n (gammoid vertices arcs sources targets) (gate reached closing) p rest some fits left =
-    gate_again n vertices arcs sources targets reached closing p rest fits.0 fits.1 left
+    sets_again (codes "reach") (codes "gate") vertices vertices gate reached closing p rest refl refl fits.0 fits.1 left
 bound_again n (gammoid vertices arcs sources targets) (zeros numbers) p rest some fits left = absurd fits
 bound_again n (gf2 dim columns) (spent elements chosen) p rest some fits left = absurd fits
 bound_again n (gf2 dim columns) (labels numbers) p rest some fits left = absurd fits
