@@ -2,12 +2,12 @@
 use Rattle.std.proofs.Common.{ℕ, ◌≤◌, List, length, refl, arith}
 use Rattle.mat_sets.specs.Limits.{most_elements, most_trees}
 use Rattle.mat_sets.specs.Graphs.{ends_of, IsUnentered}
-use Rattle.mat_sets.specs.Sets.{IsSet, AllBelow}
-use Rattle.mat_sets.specs.Weights.{weight, AreWeightsWithin}
+use Rattle.mat_sets.specs.Sets.{AllBelow}
+use Rattle.mat_sets.specs.Weights.{weight}
 use Rattle.mat_sets.specs.declared.weight.Weight.{Weight}
 use Rattle.mat_sets.proofs.Ground.{IsSet-length}
-use Rattle.mat_laws.specs.Ladders.{split_bound}
-use Rattle.mat_arbor.specs.Arborescences.{IsSplitArborescence}
+use Rattle.mat_arbor.specs.Arborescences.{IsRightArbor}
+use Rattle.mat_arbor.specs.declared.arbor.Arbor.TheVariants.{Tree}
 use Rattle.mat_branch.specs.Arborescences.{AreDisjointArborescences, IsSeldomEntered}
 use Rattle.mat_desc.specs.Grammar.{IsValid}
 use Rattle.mat_desc.specs.Instances.{rooted}
@@ -19,25 +19,26 @@ use Rattle.mat_solve.proofs.SetWeights.{set_in_range}
 -- ---- arborescences
 
 module _ (vertices root : ℕ) (arcs : List (ℕ × ℕ)) (costs : List Weight) (valid : IsValid (rooted vertices root arcs costs)) where
-  -- the arcs of an arborescence have costs, and are few
-  pub arbor_few : (tree : List ℕ) → IsSet (length arcs) tree → AllBelow (length costs) tree × (length tree ≤ most_elements)
-  arbor_few tree set = (rw valid.4 set.below, omega (arith, valid.3.0, IsSet-length (length arcs) tree set))
+  module _ (tree : List ℕ) (first second : List Weight) (found : IsRightArbor vertices arcs costs root (Tree tree first second)) where
+    -- the arcs of a least arborescence have costs, and are few
+    pub arbor_few : AllBelow (length costs) tree × (length tree ≤ most_elements)
+    arbor_few =
+        let set = found.0.spanning.set in
+        (rw valid.4 set.below, omega (arith, valid.3.0, IsSet-length (length arcs) tree set))
 
-  -- a least arborescence with its split and its cost
-  pub arbor_solution : (tree : List ℕ) (first second : List Weight) → IsSplitArborescence vertices arcs costs root tree first second
-      → AreWeightsWithin (split_bound (length arcs)) first → AreWeightsWithin (split_bound (length arcs)) second
-      → IsSolution (rooted vertices root arcs costs) (arbor (length arcs) (weight costs tree) tree first second)
-  arbor_solution tree first second split first_bounded second_bounded = record {
-    ranged = record {
-      few = valid.3.0;
-      cost_in_range = set_in_range costs tree valid.5 (arbor_few tree split.spanning.set).1;
-      arcs_in_range = split.spanning.set;
-      first_in_range = ranged_part (length arcs) first valid.3.0 split.first_length first_bounded;
-      second_in_range = ranged_part (length arcs) second valid.3.0 split.second_length second_bounded;
-    };
-    right = (refl, refl, split);
-    bounded = (first_bounded, second_bounded);
-  }
+    -- it is one with its split and its cost
+    pub arbor_solution : IsSolution (rooted vertices root arcs costs) (arbor (length arcs) (weight costs tree) tree first second)
+    arbor_solution = record {
+      ranged = record {
+        few = valid.3.0;
+        cost_in_range = set_in_range costs tree valid.5 arbor_few.1;
+        arcs_in_range = found.0.spanning.set;
+        first_in_range = ranged_part (length arcs) first valid.3.0 found.0.first_length found.1;
+        second_in_range = ranged_part (length arcs) second valid.3.0 found.0.second_length found.2;
+      };
+      right = (refl, refl, found.0);
+      bounded = (found.1, found.2);
+    }
 
   -- a set of vertices that no arc enters
   pub unreached_solution : (set : List ℕ) → IsUnentered vertices arcs root set

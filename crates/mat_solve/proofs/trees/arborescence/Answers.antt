@@ -1,5 +1,3 @@
-use Rattle.mat_arbor.specs.Arborescences.{IsRightArbor}
-use Rattle.mat_arbor.specs.declared.arbor.Arbor.TheVariants.{Tree, Unreached}
 use Rattle.mat_check.proofs.ValidGraphs.{rooted_is_graph}
 use Rattle.mat_solve.proofs.TreeSolutions.{arbor_few, arbor_solution, unreached_solution}
 use Rattle.mat_solve.proofs.trees.arborescence.Goals as goal
@@ -12,31 +10,25 @@ least_arborescence-requires-clause-graph g c κs within =
 pub weigh-cost-requires-clause-inside : goal.weigh-cost-requires-clause-inside
 weigh-cost-requires-clause-inside g c =
     let here = c.in-Rooted in
-    let right : IsRightArbor here.vertices here.arcs here.costs here.root (Tree c.in-Tree.arcs c.in-Tree.first c.in-Tree.second) =
-    rw (c.as_slice.ensures, c.in-Tree.is) at c.in_ok-found.ensures.right in
-    rw c.as_slice-in-Tree.ensures
-    (arbor_few here.vertices here.root here.arcs here.costs (rw here.is at c.requires.valid) c.in-Tree.arcs right.0.spanning.set).0
+    rw c.as_slice-in-Tree.ensures (arbor_few here.vertices here.root here.arcs here.costs (rw here.is at c.requires.valid) c.in-Tree.arcs
+    c.in-Tree.first c.in-Tree.second (rw (c.as_slice.ensures, c.in-Tree.is) at c.in_ok-found.ensures.right)).0
 
 pub weigh-cost-requires-clause-few : goal.weigh-cost-requires-clause-few
 weigh-cost-requires-clause-few g c =
     let here = c.in-Rooted in
-    let right : IsRightArbor here.vertices here.arcs here.costs here.root (Tree c.in-Tree.arcs c.in-Tree.first c.in-Tree.second) =
-    rw (c.as_slice.ensures, c.in-Tree.is) at c.in_ok-found.ensures.right in
-    (arbor_few here.vertices here.root here.arcs here.costs (rw here.is at c.requires.valid) c.in-Tree.arcs right.0.spanning.set).1
+    (arbor_few here.vertices here.root here.arcs here.costs (rw here.is at c.requires.valid) c.in-Tree.arcs c.in-Tree.first c.in-Tree.second
+    (rw (c.as_slice.ensures, c.in-Tree.is) at c.in_ok-found.ensures.right)).1
 
 pub returns-in-Tree-clause-solution : goal.returns-in-Tree-clause-solution
 returns-in-Tree-clause-solution g c =
     let here = c.in-Rooted in
-    let right : IsRightArbor here.vertices here.arcs here.costs here.root (Tree c.in-Tree.arcs c.in-Tree.first c.in-Tree.second) =
-    rw (c.as_slice.ensures, c.in-Tree.is) at c.in_ok-found.ensures.right in
     rw (here.is, c.len-count.ensures, c.weigh-cost.ensures.sum, c.as_slice-in-Tree.ensures)
     (arbor_solution here.vertices here.root here.arcs here.costs (rw here.is at c.requires.valid) c.in-Tree.arcs c.in-Tree.first c.in-Tree.second
-    right.0 right.1 right.2)
+    (rw (c.as_slice.ensures, c.in-Tree.is) at c.in_ok-found.ensures.right))
 
 pub returns-in-Unreached-clause-solution : goal.returns-in-Unreached-clause-solution
 returns-in-Unreached-clause-solution g c =
     let here = c.in-Rooted in
-    let right : IsRightArbor here.vertices here.arcs here.costs here.root (Unreached c.in-Unreached.set) =
-    rw (c.as_slice.ensures, c.in-Unreached.is) at c.in_ok-found.ensures.right in
     rw (here.is, c.len-count.ensures)
-    (unreached_solution here.vertices here.root here.arcs here.costs (rw here.is at c.requires.valid) c.in-Unreached.set right)
+    (unreached_solution here.vertices here.root here.arcs here.costs (rw here.is at c.requires.valid) c.in-Unreached.set
+    (rw (c.as_slice.ensures, c.in-Unreached.is) at c.in_ok-found.ensures.right))

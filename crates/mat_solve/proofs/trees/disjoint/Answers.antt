@@ -1,7 +1,3 @@
-use Rattle.std.proofs.Common.{length}
-use Rattle.mat_sets.specs.Graphs.{ends_of}
-use Rattle.mat_branch.specs.Branches.{IsBranching}
-use Rattle.mat_branch.specs.declared.branching.Branch.TheVariants.{All, Cut}
 use Rattle.mat_check.proofs.ValidGraphs.{rooted_is_graph}
 use Rattle.mat_solve.proofs.TreeSolutions.{disjoint_solution, seldom_solution}
 use Rattle.mat_solve.proofs.trees.disjoint.Goals as goal
@@ -14,17 +10,13 @@ new-requires c =
 pub returns-in-All-clause-solution : goal.returns-in-All-clause-solution
 returns-in-All-clause-solution c =
     let here = c.in-Rooted in
-    let found : IsBranching here.vertices (length here.arcs) (ends_of here.arcs) here.root c.args.k (All c.in-All.trees) =
-    rw (c.in_ok-graph.ensures, c.in_ok-copy.ensures, c.in-All.is) at c.in_ok-found.ensures.right in
-    rw (here.is, c.len-count.ensures)
-    (disjoint_solution here.vertices here.root here.arcs here.costs (rw here.is at c.requires.valid) c.args.k c.in-All.trees c.requires.range.0
-    c.requires.range.1 found)
+    rw (here.is, c.len-count.ensures) (disjoint_solution here.vertices here.root here.arcs here.costs (rw here.is at c.requires.valid) c.args.k
+    c.in-All.trees c.requires.range.0 c.requires.range.1
+    (rw (c.in_ok-graph.ensures, c.in_ok-copy.ensures, c.in-All.is) at c.in_ok-found.ensures.right))
 
 pub returns-clause-solution : goal.returns-clause-solution
 returns-clause-solution c =
     let here = c.in-Rooted in
-    let found : IsBranching here.vertices (length here.arcs) (ends_of here.arcs) here.root c.args.k (Cut c.in-Cut.set) =
-    rw (c.in_ok-graph.ensures, c.in_ok-copy.ensures, c.in-Cut.is) at c.in_ok-found.ensures.right in
-    rw (here.is, c.len-count.ensures)
-    (seldom_solution here.vertices here.root here.arcs here.costs (rw here.is at c.requires.valid) c.args.k c.in-Cut.set c.requires.range.0
-    c.requires.range.1 found)
+    rw (here.is, c.len-count.ensures) (seldom_solution here.vertices here.root here.arcs here.costs (rw here.is at c.requires.valid) c.args.k
+    c.in-Cut.set c.requires.range.0 c.requires.range.1
+    (rw (c.in_ok-graph.ensures, c.in_ok-copy.ensures, c.in-Cut.is) at c.in_ok-found.ensures.right))
