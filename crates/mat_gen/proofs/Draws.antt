@@ -1,27 +1,45 @@
 -- One draw, and lists of what is drawn: element by element, the next one is put behind those before it.
-use Rattle.std.proofs.Common.{◌≡◌, ℕ, ◌+◌, ◌*◌, ◌%◌, suc, List, [], ◌∷◌, ◌++◌, map, sym, ap, ◌∙◌}
+use Rattle.std.proofs.Common.{◌≡◌, ℕ, ◌+◌, ◌*◌, ◌%◌, ◌<◌, zero, suc, List, [], ◌∷◌, ◌++◌}
+use Rattle.std.proofs.Common.{get_or, length, map, slice_index_or, mul-suc, refl, sym, ap, ◌∙◌, arith}
+use Rattle.std.proofs.lemmas.List.{get_or_read}
 use Rattle.mat_sets.specs.Sets.{all_below}
 use Rattle.mat_sets.specs.declared.weight.Weight.{Weight}
-use Rattle.mat_sets.proofs.Ground.{map-all_below_more, map-all_below_none}
-use Rattle.mat_gen.specs.Draws.{state_after, draw}
-use Rattle.mat_gen.specs.Samples.{cost_drawn, pair_drawn, pairs_drawn, weight_drawn, weights_drawn}
+use Rattle.mat_sets.proofs.Ground.{get_or-map_all_below, length-map_all_below, map-all_below_more, map-all_below_none}
+use Rattle.mat_gen.specs.Draws.{next_state, state_after, draw}
+use Rattle.mat_gen.specs.Samples.{numbers_drawn, pair_drawn, weight_from, weight_of}
 
--- ---- one draw
+-- ---- states
 
--- the state x, after k steps, makes one more
-pub step_made : (seed k s x : ℕ) → s ≡ state_after seed k → x ≡ s → (x * 48271) % 2147483647 ≡ state_after seed (suc k)
+-- no step
+pub state_after-none : (seed : ℕ) → seed ≡ state_after seed 0
 unfolding state_after
-step_made seed k s x is seen = ap (λ (y : ℕ). (y * 48271) % 2147483647) (seen ∙ is)
+state_after-none seed = refl
 
--- and the draw is what is left of it
-pub draw_made : (seed k s x m below : ℕ) → s ≡ state_after seed k → x ≡ s → m ≡ below
-    → ((x * 48271) % 2147483647) % m ≡ draw seed k below
-draw_made seed k s x m below is seen same =
-    ap (λ (y : ℕ). y % m) (step_made seed k s x is seen) ∙ ap (λ (j : ℕ). state_after seed (suc k) % j) same
+-- one step more
+pub state_after-one : (seed k x : ℕ) → x ≡ state_after seed k → (x * 48271) % 2147483647 ≡ state_after seed (k + 1)
+unfolding state_after
+state_after-one seed k x is = let more : suc k ≡ k + 1 = omega arith in ap next_state is ∙ ap (state_after seed) more
 
--- a state, by an equal number of steps
-pub state_is : (seed s k j : ℕ) → s ≡ state_after seed k → k ≡ j → s ≡ state_after seed j
-state_is seed s k j is same = is ∙ ap (state_after seed) same
+-- steps after steps
+pub state_after-more : (seed k steps : ℕ) → state_after (state_after seed k) steps ≡ state_after seed (k + steps)
+unfolding state_after
+state_after-more seed k zero = let same : k ≡ k + 0 = omega arith in ap (state_after seed) same
+state_after-more seed k (suc steps) =
+    let more : suc (k + steps) ≡ k + suc steps = omega arith in ap next_state (state_after-more seed k steps) ∙ ap (state_after seed) more
+
+-- the state s after k steps, and what is drawn by the state after one more
+pub draw_made : (seed k s x m below : ℕ) → s ≡ state_after seed k → x ≡ state_after s 1 → m ≡ below → x % m ≡ draw seed k below
+draw_made seed k s x m below is one same =
+    let behind : k + 1 ≡ suc k = omega arith in
+    let state = one ∙ ap (λ (y : ℕ). state_after y 1) is ∙ state_after-more seed k 1 ∙ ap (state_after seed) behind in
+    ap (λ (y : ℕ). y % m) state ∙ ap (λ (j : ℕ). state_after seed (suc k) % j) same
+
+-- the state before the draw of the next element
+pub state_next : (seed each e from s x : ℕ) → s ≡ state_after seed (each * e + from) → x ≡ state_after s each
+    → x ≡ state_after seed (each * (e + 1) + from)
+state_next seed each e from s x is behind =
+    let at : each * e + from + each ≡ each * (e + 1) + from = omega (arith, mul-suc each e) in
+    behind ∙ ap (λ (y : ℕ). state_after y each) is ∙ state_after-more seed (each * e + from) each ∙ ap (state_after seed) at
 
 -- ---- lists
 
@@ -35,32 +53,23 @@ pub drawn_more : {A : Type 0} (f : ℕ → A) (n : ℕ) (xs : List A) (x : A) �
 drawn_more {A} f n xs x before is =
     ap (λ (ys : List A). ys ++ x ∷ []) before ∙ ap (λ (y : A). map f (all_below n) ++ y ∷ []) is ∙ sym (map-all_below_more f n)
 
-pub pairs_none : (seed each from m : ℕ) (xs : List (ℕ × ℕ)) → xs ≡ [] → xs ≡ pairs_drawn seed 0 each from m
-pairs_none seed each from m xs none = drawn_none (λ (e : ℕ). pair_drawn seed (each * e + from) m) xs none
+-- how many numbers are drawn
+pub numbers_long : (seed n each from m : ℕ) (xs : List ℕ) → xs ≡ numbers_drawn seed n each from m → length xs ≡ n
+numbers_long seed n each from m xs is = ap length is ∙ length-map_all_below (λ (e : ℕ). draw seed (each * e + from) m) n
 
-pub weights_none : (seed each from : ℕ) (xs : List Weight) → xs ≡ [] → xs ≡ weights_drawn seed 0 each from
-weights_none seed each from xs none = drawn_none (λ (e : ℕ). weight_drawn seed (each * e + from)) xs none
+-- the number x that is read for an element
+pub number_read : (seed n each from m e x : ℕ) (xs : List ℕ) → xs ≡ numbers_drawn seed n each from m → e < n
+    → x ≡ slice_index_or xs e x → x ≡ draw seed (each * e + from) m
+number_read seed n each from m e x xs is here read =
+    let long = numbers_long seed n each from m xs is in
+    get_or_read xs e x (omega (arith, here, long)) read 0 ∙ ap (λ (ys : List ℕ). get_or ys e 0) is
+    ∙ get_or-map_all_below (λ (i : ℕ). draw seed (each * i + from) m) n e 0 here
 
--- the pair of one element more, which was drawn where its draws begin
-pub pair_more : (seed each from m n k : ℕ) (xs : List (ℕ × ℕ)) (x : ℕ × ℕ) → xs ≡ pairs_drawn seed n each from m
-    → x ≡ pair_drawn seed k m → k ≡ each * n + from → xs ++ x ∷ [] ≡ pairs_drawn seed (n + 1) each from m
-pair_more seed each from m n k xs x before is at =
-    drawn_more (λ (e : ℕ). pair_drawn seed (each * e + from) m) n xs x before (is ∙ ap (λ (i : ℕ). pair_drawn seed i m) at)
+-- the pair of two numbers that are drawn one after the other
+pub pair_made : (seed k j m x y : ℕ) → x ≡ draw seed k m → y ≡ draw seed j m → j ≡ suc k → (x, y) ≡ pair_drawn seed k m
+pair_made seed k j m x y first second next =
+    ap (λ (a : ℕ). (a, y)) first ∙ ap (λ (b : ℕ). (draw seed k m, b)) (second ∙ ap (λ (i : ℕ). draw seed i m) next)
 
--- and so its weight
-pub weight_more : (seed each from n k : ℕ) (xs : List Weight) (x : Weight) → xs ≡ weights_drawn seed n each from
-    → x ≡ weight_drawn seed k → k ≡ each * n + from → xs ++ x ∷ [] ≡ weights_drawn seed (n + 1) each from
-weight_more seed each from n k xs x before is at =
-    drawn_more (λ (e : ℕ). weight_drawn seed (each * e + from)) n xs x before (is ∙ ap (λ (i : ℕ). weight_drawn seed i) at)
-
--- and its cost
-pub cost_more : (seed each from n k : ℕ) (xs : List Weight) (x : Weight) → xs ≡ map (λ e. cost_drawn seed (each * e + from)) (all_below n)
-    → x ≡ cost_drawn seed k → k ≡ each * n + from → xs ++ x ∷ [] ≡ map (λ e. cost_drawn seed (each * e + from)) (all_below (n + 1))
-cost_more seed each from n k xs x before is at =
-    drawn_more (λ (e : ℕ). cost_drawn seed (each * e + from)) n xs x before (is ∙ ap (λ (i : ℕ). cost_drawn seed i) at)
-
--- and its label
-pub label_more : (seed each from m n k : ℕ) (xs : List ℕ) (x : ℕ) → xs ≡ map (λ e. draw seed (each * e + from) m) (all_below n)
-    → x ≡ draw seed k m → k ≡ each * n + from → xs ++ x ∷ [] ≡ map (λ e. draw seed (each * e + from) m) (all_below (n + 1))
-label_more seed each from m n k xs x before is at =
-    drawn_more (λ (e : ℕ). draw seed (each * e + from) m) n xs x before (is ∙ ap (λ (i : ℕ). draw seed i m) at)
+-- the weight of a number that is drawn
+pub weight_made : (seed k m z x : ℕ) (w : Weight) → w ≡ weight_of x z → x ≡ draw seed k m → w ≡ weight_from seed k m z
+weight_made seed k m z x w made is = made ∙ ap (λ (d : ℕ). weight_of d z) is

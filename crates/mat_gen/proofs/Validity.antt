@@ -22,7 +22,7 @@ use Rattle.mat_desc.specs.Soundness.{IsSoundInstance}
 use Rattle.mat_desc.proofs.ItemLaws.{IsGraph-pairs}
 use Rattle.mat_desc.proofs.ProblemLaws.{IsSoundInstance-valid}
 use Rattle.mat_gen.specs.Draws.{state_after, draw}
-use Rattle.mat_gen.specs.Samples.{weight_drawn, cost_drawn, pair_drawn, pairs_drawn, weights_drawn, class_drawn, sample_of}
+use Rattle.mat_gen.specs.Samples.{class_drawn, pair_drawn, pairs_drawn, sample_of, weight_from, weights_from}
 use Rattle.mat_gen.specs.declared.kind.SampleKind.{SampleKind}
 use Rattle.mat_gen.specs.declared.kind.SampleKind.TheVariants as kinds
 
@@ -34,17 +34,15 @@ draw-below seed k m some = mod-lt (state_after seed (suc k)) some
 pair_below : (seed k m : ℕ) → 0 < m → IsPairBelow m m (pair_drawn seed k m)
 pair_below seed k m some = (draw-below seed k m some, draw-below seed (suc k) m some)
 
-small_weight : (d : ℕ) → d < 2001 → IsWithin largest_weight (pos d -ℤ pos 1000)
-small_weight d l = (omega (arith, ints), omega (arith, ints))
+small_weight : (d z : ℕ) → d < 2001 → z ≤ 1000 → IsWithin largest_weight (pos d -ℤ pos z)
+small_weight d z l small = (omega (arith, ints), omega (arith, ints))
 
-small_cost : (d : ℕ) → d < 1001 → IsWithin largest_weight (pos d)
-small_cost d l = (omega (arith, ints), omega (arith, ints))
+no_tie : IsWithin largest_weight (pos 0)
+no_tie = (omega (arith, ints), omega (arith, ints))
 
-weight_within : (seed k : ℕ) → IsWeight (weight_drawn seed k)
-weight_within seed k = (small_weight (draw seed k 2001) (draw-below seed k 2001 (omega arith)), small_cost 0 (omega arith))
-
-cost_within : (seed k : ℕ) → IsWeight (cost_drawn seed k)
-cost_within seed k = (small_cost (draw seed k 1001) (draw-below seed k 1001 (omega arith)), small_cost 0 (omega arith))
+weight_within : (seed k m z : ℕ) → 0 < m → m ≤ 2001 → z ≤ 1000 → IsWeight (weight_from seed k m z)
+weight_within seed k m z some few small =
+    let below = draw-below seed k m some in (small_weight (draw seed k m) z (omega (arith, below, few)) small, no_tie)
 
 -- ---- a list of draws
 
@@ -63,12 +61,13 @@ pairs_below seed n each from m some =
 length-pairs : (seed n each from m : ℕ) → length (pairs_drawn seed n each from m) ≡ n
 length-pairs seed n each from m = length-map_all_below (λ e. pair_drawn seed (each * e + from) m) n
 
-weights_within : (seed n each from : ℕ) → All IsWeight (weights_drawn seed n each from)
-weights_within seed n each from =
-    All-map_each IsWeight (λ e. weight_drawn seed (each * e + from)) (λ e. weight_within seed (each * e + from)) (all_below n)
+weights_within : (seed n each from m z : ℕ) → 0 < m → m ≤ 2001 → z ≤ 1000 → All IsWeight (weights_from seed n each from m z)
+weights_within seed n each from m z some few small =
+    All-map_each IsWeight (λ e. weight_from seed (each * e + from) m z)
+    (λ e. weight_within seed (each * e + from) m z some few small) (all_below n)
 
-length-weights : (seed n each from : ℕ) → length (weights_drawn seed n each from) ≡ n
-length-weights seed n each from = length-map_all_below (λ e. weight_drawn seed (each * e + from)) n
+length-weights : (seed n each from m z : ℕ) → length (weights_from seed n each from m z) ≡ n
+length-weights seed n each from m z = length-map_all_below (λ e. weight_from seed (each * e + from) m z) n
 
 -- edges that are drawn are those of a graph
 pub graph_drawn : (seed n each from m : ℕ) (edges : List (ℕ × ℕ)) → n ≤ most_elements → 0 < m → edges ≡ pairs_drawn seed n each from m
@@ -122,8 +121,8 @@ pub sample_valid : (kind : SampleKind) (n seed : ℕ) → n ≤ most_elements �
 sample_valid kinds.Pair n seed few =
     let v = n / 4 + 2 in
     let q = n / 5 + 1 in
-    let long = length-weights seed n 4 3 in (
-      (omega (arith, long, few), weights_within seed n 4 3),
+    let long = length-weights seed n 4 3 2001 1000 in (
+      (omega (arith, long, few), weights_within seed n 4 3 2001 1000 (omega arith) (omega arith) (omega arith)),
       subst (λ (m : ℕ). IsValidMatroid m (graphic v (pairs_drawn seed n 4 0 v))) (sym long)
           (graphic_valid seed n 4 0 v (omega arith) (vertices_few n few)),
       subst (λ (m : ℕ). IsValidMatroid m (partition n (map (class_drawn seed n q) (all_below q)) (replicate q 1))) (sym long)
@@ -131,12 +130,12 @@ sample_valid kinds.Pair n seed few =
     )
 sample_valid kinds.List n seed few =
     let v = n / 4 + 2 in
-    let long = length-weights seed n 5 4 in
+    let long = length-weights seed n 5 4 2001 1000 in
     let first : Tree = graphic v (pairs_drawn seed n 5 0 v) in
     let second : Tree = graphic v (pairs_drawn seed n 5 2 v) in
     let one : IsValidMatroid n first = graphic_valid seed n 5 0 v (omega arith) (vertices_few n few) in
     let two : IsValidMatroid n second = graphic_valid seed n 5 2 v (omega arith) (vertices_few n few) in (
-      (omega (arith, long, few), weights_within seed n 5 4),
+      (omega (arith, long, few), weights_within seed n 5 4 2001 1000 (omega arith) (omega arith) (omega arith)),
       omega arith,
       omega arith,
       subst (λ (m : ℕ). All (IsValidMatroid m) (first ∷ second ∷ [])) (sym long)
@@ -149,23 +148,23 @@ sample_valid kinds.Graph n seed few =
 sample_valid kinds.Rooted n seed few =
     let v = n / 4 + 2 in
     let long = length-pairs seed n 3 0 v in
-    let paid = length-map_all_below (λ e. cost_drawn seed (3 * e + 2)) n in (
+    let paid = length-weights seed n 3 2 1001 0 in (
       omega arith,
       vertices_few n few,
       omega arith,
       (omega (arith, long, few), pairs_below seed n 3 0 v (omega arith)),
       paid ∙ sym long,
-      All-map_each IsWeight (λ e. cost_drawn seed (3 * e + 2)) (λ e. cost_within seed (3 * e + 2)) (all_below n),
+      weights_within seed n 3 2 1001 0 (omega arith) (omega arith) (omega arith),
     )
 sample_valid kinds.Table n seed few =
     let v = n / 4 + 1 in
     let long = length-pairs seed n 3 0 v in
-    let weighed = length-weights seed n 3 2 in (
+    let weighed = length-weights seed n 3 2 2001 1000 in (
       omega (arith, vertices_few n few),
       omega (arith, vertices_few n few),
       (omega (arith, long, few), pairs_below seed n 3 0 v (omega arith)),
       weighed ∙ sym long,
-      weights_within seed n 3 2,
+      weights_within seed n 3 2 2001 1000 (omega arith) (omega arith) (omega arith),
     )
 
 -- ---- answers

@@ -9,13 +9,9 @@ use Rattle.mat_gen.specs.Draws.{draw}
 use Rattle.mat_gen.specs.declared.kind.SampleKind.{SampleKind}
 use Rattle.mat_gen.specs.declared.kind.SampleKind.TheVariants as kinds
 
--- a weight from -1000 to 1000
-abbrev pub weight_drawn : ℕ → ℕ → Weight
-weight_drawn seed k = record { main = pos (draw seed k 2001) -ℤ pos 1000; tie = pos 0 }
-
--- a cost from 0 to 1000
-abbrev pub cost_drawn : ℕ → ℕ → Weight
-cost_drawn seed k = record { main = pos (draw seed k 1001); tie = pos 0 }
+-- for each of n elements a draw below m; each element takes `each` draws, of which this is its draw `from`
+abbrev pub numbers_drawn : ℕ → ℕ → ℕ → ℕ → ℕ → List ℕ
+numbers_drawn seed n each from m = map (λ e. draw seed (each * e + from) m) (all_below n)
 
 -- two draws below m, of which draw k is the first
 abbrev pub pair_drawn : ℕ → ℕ → ℕ → ℕ × ℕ
@@ -25,9 +21,25 @@ pair_drawn seed k m = (draw seed k m, draw seed (suc k) m)
 abbrev pub pairs_drawn : ℕ → ℕ → ℕ → ℕ → ℕ → List (ℕ × ℕ)
 pairs_drawn seed n each from m = map (λ e. pair_drawn seed (each * e + from) m) (all_below n)
 
--- for each of n elements a weight, by its draw `from`
+-- the weight of a number, where z is the number of the weight 0
+abbrev pub weight_of : ℕ → ℕ → Weight
+weight_of d z = record { main = pos d -ℤ pos z; tie = pos 0 }
+
+-- the weight of draw k below m
+abbrev pub weight_from : ℕ → ℕ → ℕ → ℕ → Weight
+weight_from seed k m z = weight_of (draw seed k m) z
+
+-- for each of n elements such a weight, by its draw `from`
+abbrev pub weights_from : ℕ → ℕ → ℕ → ℕ → ℕ → ℕ → List Weight
+weights_from seed n each from m z = map (λ e. weight_from seed (each * e + from) m z) (all_below n)
+
+-- for each of n elements a weight from -1000 to 1000, by its draw `from`
 abbrev pub weights_drawn : ℕ → ℕ → ℕ → ℕ → List Weight
-weights_drawn seed n each from = map (λ e. weight_drawn seed (each * e + from)) (all_below n)
+weights_drawn seed n each from = weights_from seed n each from 2001 1000
+
+-- for each of n elements a cost from 0 to 1000, by its draw `from`
+abbrev pub costs_drawn : ℕ → ℕ → ℕ → ℕ → List Weight
+costs_drawn seed n each from = weights_from seed n each from 1001 0
 
 -- the elements whose class is drawn to be c, where there are q classes
 abbrev pub class_drawn : ℕ → ℕ → ℕ → ℕ → List ℕ
@@ -43,5 +55,5 @@ sample_of kinds.List n seed =
     (graphic (n / 4 + 2) (pairs_drawn seed n 5 0 (n / 4 + 2)) ∷ graphic (n / 4 + 2) (pairs_drawn seed n 5 2 (n / 4 + 2)) ∷ [])
 sample_of kinds.Graph n seed = graph (n / 8 + 2) (pairs_drawn seed n 2 0 (n / 8 + 2))
 sample_of kinds.Rooted n seed =
-    rooted (n / 4 + 2) 0 (pairs_drawn seed n 3 0 (n / 4 + 2)) (map (λ e. cost_drawn seed (3 * e + 2)) (all_below n))
+    rooted (n / 4 + 2) 0 (pairs_drawn seed n 3 0 (n / 4 + 2)) (costs_drawn seed n 3 2)
 sample_of kinds.Table n seed = table (n / 4 + 1) (n / 4 + 1) (pairs_drawn seed n 3 0 (n / 4 + 1)) (weights_drawn seed n 3 2)

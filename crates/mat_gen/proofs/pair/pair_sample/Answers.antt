@@ -5,12 +5,12 @@ use Rattle.mat_gen.proofs.pair.pair_sample.Goals as goal
 
 pub new-requires : goal.new-requires
 new-requires c =
-    graph_drawn c.args.seed c.args.count 4 0 (c.args.count / 4 + 2) c.in_ok-drawn.drawn.edges c.requires.few (omega arith)
-    c.in_ok-drawn.ensures.edges
+    graph_drawn c.args.seed c.args.count 4 0 (c.args.count / 4 + 2) c.in_ok-edges.edges c.requires.few (omega arith)
+    c.in_ok-edges.ensures
 
 pub returns : goal.returns
 returns c =
-    pair_made c.args.seed c.args.count c.in_ok-drawn.drawn.weights c.in_ok-drawn.drawn.edges c.deref.result.now c.in_ok-caps.caps.items
-    c.in_ok-first.first c.in_ok-second.second c.in_ok-drawn.ensures.weights c.in_ok-drawn.ensures.edges
-    (c.deref.ensures.value ∙ c.in_ok-drawn.ensures.class_of) (c.in_ok-caps.ensures.items_if_clones_equal (λ y h. search rules))
+    pair_made c.args.seed c.args.count c.in_ok-weights.weights c.in_ok-edges.edges c.deref.result.now c.in_ok-caps.caps.items
+    c.in_ok-first.first c.in_ok-second.second c.in_ok-weights.ensures c.in_ok-edges.ensures
+    (c.deref.ensures.value ∙ c.in_ok-class_of.ensures) (c.in_ok-caps.ensures.items_if_clones_equal (λ y h. search rules))
     c.in_ok-first.ensures.value c.in_ok-second.ensures.value
