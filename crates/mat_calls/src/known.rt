@@ -13,7 +13,7 @@ use mat_flow::{Digraph, linked};
 use mat_gf2::Gf2;
 use mat_graphic::Graphic;
 use mat_greedy::heaviest_of;
-use mat_laws::{Matroid, grow_base, rank_of};
+use mat_laws::{Exchange, Matroid, grow_base, rank_of};
 use mat_minors::{Contraction, Dual, Restriction, Truncation};
 use mat_sets::{ElemSet, Pairs, SetList, Weight};
 use std::alloc::{AllocError, Global};
@@ -43,13 +43,44 @@ fn seven_columns(alloc: Global) -> Result<Gf2, AllocError>
     Gf2::new(alloc, 3, vec![in alloc; 1, 2, 3, 4, 5, 6, 7]?)
 }
 
-/// The members of a set.
-pub(crate) fn told_set(alloc: Global, set: &ElemSet) -> Result<String, AllocError> {
-    let mut text = String::from_str(alloc, "set")?;
-    for x in set.as_slice() {
-        text = format!(in alloc; "{text} {x}")?;
+/// A word and the numbers of a list.
+pub(crate) fn told_numbers(
+    alloc: Global,
+    word: &str,
+    numbers: &[u32],
+) -> Result<String, AllocError> {
+    let mut text = String::from_str(alloc, word)?;
+    for x in numbers {
+        write!(text, " {x}")?;
     }
     Ok(text)
+}
+
+/// The members of a set.
+pub(crate) fn told_set(alloc: Global, set: &ElemSet) -> Result<String, AllocError> {
+    told_numbers(alloc, "set", set.as_slice())
+}
+
+// Whether an exchange, what is answered of adding alone, and the members of a circuit are those of a row.
+fn are_of_row(row: Exchange, asked: &Exchange, adds: bool, members: &Option<ElemSet>) -> bool {
+    let same = asked.addable == row.addable && asked.with == row.with && adds == row.addable;
+    let circuit = row.circuit_members();
+    same && *members == circuit
+}
+
+// The row of an element, and whether what is asked for by itself is the same.
+fn told_exchanges(
+    alloc: Global,
+    x: u32,
+    row: Exchange,
+    asked: &Exchange,
+    adds: bool,
+    members: &Option<ElemSet>,
+) -> Result<String, AllocError> {
+    let addable = row.addable;
+    let with = told_set(alloc, &row.with)?;
+    let same = are_of_row(row, asked, adds, members);
+    format!(in alloc; "{x} {addable} {with} {same}")
 }
 
 // The exchanges of an element outside an independent set, by what is kept of it, and whether those that are asked for by themselves, what is
@@ -67,17 +98,27 @@ fn told_row<M: Matroid>(
     requires below { x < M.ground_size m.now }
     requires outside { is_member x base.now ≡ false }
 {
-    let row = m.row(alloc, base, kept, x)?;
-    let asked = m.circuit(alloc, base, x)?;
     let adds = m.adds(alloc, base, kept, x)?;
     let members = m.circuit_members(alloc, base, kept, x)?;
-    let addable = row.addable;
-    let with = told_set(alloc, &row.with)?;
-    let same = asked.addable == addable
-        && asked.with == row.with
-        && adds == addable
-        && members == row.circuit_members();
-    format!(in alloc; "{x} {addable} {with} {same}")
+    let asked = m.circuit(alloc, base, x)?;
+    let row = m.row(alloc, base, kept, x)?;
+    told_exchanges(alloc, x, row, &asked, adds, &members)
+}
+
+// What is kept of an independent set where something is kept of another one.
+fn kept_after<M: Matroid>(
+    alloc: Global,
+    m: &M,
+    other: &ElemSet,
+    base: &ElemSet,
+) -> Result<M::Kept, AllocError>
+    requires sound { M.sound m.now }
+    requires other { M.indep m.now other.now ≡ true }
+    requires base { M.indep m.now base.now ≡ true }
+    ensures { IfOk result (λ kept. M.keeps m.now base.now kept) }
+{
+    let before = m.keep(alloc, other)?;
+    m.keep_next(alloc, other, &before, base)
 }
 
 // An independent set and the exchanges of each element outside it, by what is kept of it where something is kept of another one.
@@ -91,30 +132,40 @@ fn told_rows<M: Matroid>(
     requires other { M.indep m.now other.now ≡ true }
     requires base { M.indep m.now base.now ≡ true }
 {
-    let before = m.keep(alloc, other)?;
-    let kept = m.keep_next(alloc, other, &before, base)?;
+    let kept = kept_after(alloc, m, other, base)?;
     let mut text = told_set(alloc, base)?;
     for x in 0..m.size() {
         if !base.contains(x) {
             let row = told_row(alloc, m, base, &kept, x)?;
-            text = format!(in alloc; "{text}, {row}")?;
+            write!(text, ", {row}")?;
         }
     }
     Ok(text)
 }
 
-// The independent sets of a matroid of few elements, a line each, with their exchanges.
-fn told_sets<M: Matroid>(alloc: Global, m: &M, other: &ElemSet) -> Result<String, AllocError>
+// The heading of a matroid: its name, and what a run takes.
+fn heading(alloc: Global, name: &str, taken: &ElemSet) -> Result<String, AllocError> {
+    let set = told_set(alloc, taken)?;
+    format!(in alloc; "{name} run {set}\n")
+}
+
+// What a run takes, and the independent sets of a matroid of few elements, a line each, with their exchanges.
+fn told_sets<M: Matroid>(
+    alloc: Global,
+    name: &str,
+    m: &M,
+    taken: &ElemSet,
+) -> Result<String, AllocError>
     requires sound { M.sound m.now }
-    requires other { M.indep m.now other.now ≡ true }
+    requires taken { M.indep m.now taken.now ≡ true }
 {
-    let mut text = String::new(alloc);
+    let mut text = heading(alloc, name, taken)?;
     let size = m.size();
     for bits in 0..1_u32 << size.min(FEW) {
         let set = set_of_bits(alloc, size, bits)?;
         if m.independent(alloc, &set)? {
-            let rows = told_rows(alloc, m, other, &set)?;
-            text = format!(in alloc; "{text}{rows}\n")?;
+            let rows = told_rows(alloc, m, taken, &set)?;
+            writeln!(text, "{rows}")?;
         }
     }
     Ok(text)
@@ -133,9 +184,7 @@ pub(crate) fn told<M: Matroid>(
 {
     m.lawful();
     let base = m.run(alloc, order)?;
-    let taken = told_set(alloc, &base)?;
-    let sets = told_sets(alloc, m, &base)?;
-    format!(in alloc; "{name} run {taken}\n{sets}")
+    told_sets(alloc, name, m, &base)
 }
 
 // What is told of a matroid of three elements.
@@ -146,13 +195,22 @@ fn told_three<M: Matroid>(alloc: Global, name: &str, m: &M) -> Result<String, Al
     told(alloc, name, m, &[2, 1, 0])
 }
 
-// The graph, lent and as it is, and its dual.
+// The graph.
 fn told_graph(alloc: Global) -> Result<String, AllocError> {
     let graph = loop_and_parallel_edges(alloc)?;
-    let first = told_three(alloc, "graph", &graph)?;
-    let lent = told_three(alloc, "lent", &&graph)?;
-    let dual = told_three(alloc, "dual", &Dual::new(graph))?;
-    format!(in alloc; "{first}{lent}{dual}")
+    told_three(alloc, "graph", &graph)
+}
+
+// The graph, lent.
+fn told_lent(alloc: Global) -> Result<String, AllocError> {
+    let graph = loop_and_parallel_edges(alloc)?;
+    told_three(alloc, "lent", &&graph)
+}
+
+// The dual of the graph.
+fn told_dual(alloc: Global) -> Result<String, AllocError> {
+    let dual = Dual::new(loop_and_parallel_edges(alloc)?);
+    told_three(alloc, "dual", &dual)
 }
 
 // The dual of the graph as a matroid of any kind.
@@ -171,17 +229,24 @@ fn told_any(alloc: Global) -> Result<String, AllocError> {
     told_three(alloc, "any", &dual)
 }
 
-// The dual with at most one element, the graph without edge 2, and with the ends of edge 1 made one vertex.
-fn told_minors(alloc: Global) -> Result<String, AllocError> {
+// The dual with at most one element.
+fn told_truncation(alloc: Global) -> Result<String, AllocError> {
     let cut = Truncation::new(Dual::new(loop_and_parallel_edges(alloc)?), 1);
-    let truncation = told_three(alloc, "truncation", &cut)?;
+    told_three(alloc, "truncation", &cut)
+}
+
+// The graph without edge 2.
+fn told_restriction(alloc: Global) -> Result<String, AllocError> {
     let kept = set_below(alloc, 3, &[0, 1])?;
     let fewer = Restriction::new(loop_and_parallel_edges(alloc)?, kept);
-    let restriction = told_three(alloc, "restriction", &fewer)?;
+    told_three(alloc, "restriction", &fewer)
+}
+
+// The graph in which the ends of edge 1 are made one vertex.
+fn told_contraction(alloc: Global) -> Result<String, AllocError> {
     let away = set_below(alloc, 3, &[1])?;
     let joined = Contraction::new(alloc, loop_and_parallel_edges(alloc)?, away)?;
-    let contraction = told_three(alloc, "contraction", &joined)?;
-    format!(in alloc; "{truncation}{restriction}{contraction}")
+    told_three(alloc, "contraction", &joined)
 }
 
 // Two sources and two targets, between which all paths pass one vertex: one path, and that vertex separates.
@@ -201,11 +266,8 @@ fn told_components(alloc: Global) -> Result<String, AllocError> {
     let edges = vec![in alloc; (0, 1), (1, 2), (2, 3), (3, 0), (4, 4), (0, 2), (4, 5)]?;
     let graph = Graphic::new(alloc, 6, Pairs::new(edges))?;
     let least = graph.components(alloc, &set_below(alloc, 7, &[1, 3, 4])?)?;
-    let mut text = String::from_str(alloc, "components")?;
-    for vertex in least.as_slice() {
-        text = format!(in alloc; "{text} {vertex}")?;
-    }
-    format!(in alloc; "{text}\n")
+    let told = told_numbers(alloc, "components", least.as_slice())?;
+    format!(in alloc; "{told}\n")
 }
 
 // The first fault of two sets on three elements, each with the cap 1.
@@ -231,21 +293,37 @@ fn told_faults(alloc: Global) -> Result<String, AllocError> {
     format!(in alloc; "faults {crossing}, {outside}, {equal}\n")
 }
 
+// The rank of these edges of the graph.
+fn rank_of_edges(alloc: Global, edges: &[u32]) -> Result<u32, AllocError>
+    requires { AllBelow 3 edges.now }
+{
+    let graph = loop_and_parallel_edges(alloc)?;
+    let set = set_below(alloc, 3, edges)?;
+    rank_of(alloc, &graph, &set)
+}
+
 // The ranks of the loop, of the parallel edges and of all.
 fn told_ranks(alloc: Global) -> Result<String, AllocError> {
-    let graph = loop_and_parallel_edges(alloc)?;
-    let looped = rank_of(alloc, &graph, &set_below(alloc, 3, &[0])?)?;
-    let parallel = rank_of(alloc, &graph, &set_below(alloc, 3, &[1, 2])?)?;
-    let whole = rank_of(alloc, &graph, &set_below(alloc, 3, &[0, 1, 2])?)?;
+    let looped = rank_of_edges(alloc, &[0])?;
+    let parallel = rank_of_edges(alloc, &[1, 2])?;
+    let whole = rank_of_edges(alloc, &[0, 1, 2])?;
     format!(in alloc; "ranks {looped} {parallel} {whole}\n")
+}
+
+// The rank of these columns.
+fn rank_of_columns(alloc: Global, columns: &[u32]) -> Result<u32, AllocError>
+    requires { AllBelow 7 columns.now }
+{
+    let all = seven_columns(alloc)?;
+    let set = set_below(alloc, 7, columns)?;
+    rank_of(alloc, &all, &set)
 }
 
 // The ranks of a line, of three columns on no line, and of all.
 fn told_columns(alloc: Global) -> Result<String, AllocError> {
-    let columns = seven_columns(alloc)?;
-    let line = rank_of(alloc, &columns, &set_below(alloc, 7, &[0, 1, 2])?)?;
-    let three = rank_of(alloc, &columns, &set_below(alloc, 7, &[0, 1, 3])?)?;
-    let whole = rank_of(alloc, &columns, &ElemSet::all_below(alloc, 7)?)?;
+    let line = rank_of_columns(alloc, &[0, 1, 2])?;
+    let three = rank_of_columns(alloc, &[0, 1, 3])?;
+    let whole = rank_of_columns(alloc, &[0, 1, 2, 3, 4, 5, 6])?;
     format!(in alloc; "columns {line} {three} {whole}\n")
 }
 
@@ -261,8 +339,8 @@ fn told_base(alloc: Global) -> Result<String, AllocError> {
     format!(in alloc; "base {base}\n")
 }
 
-// Heaviest sets of three of the seven columns, of which the third closes a line, and of one and two edges of the graph.
-fn told_heaviest(alloc: Global) -> Result<String, AllocError> {
+// A heaviest set of three of the seven columns: the third closes a line.
+fn heaviest_columns(alloc: Global) -> Result<String, AllocError> {
     let columns = seven_columns(alloc)?;
     let weights = [
         plain(7),
@@ -273,11 +351,21 @@ fn told_heaviest(alloc: Global) -> Result<String, AllocError> {
         plain(2),
         plain(1),
     ];
-    let three = told_found(alloc, heaviest_of(alloc, &columns, &weights, 3)?)?;
+    told_found(alloc, heaviest_of(alloc, &columns, &weights, 3)?)
+}
+
+// A heaviest set of so many edges of the graph.
+fn heaviest_edges(alloc: Global, count: u32) -> Result<String, AllocError> {
     let graph = loop_and_parallel_edges(alloc)?;
     let weights = [plain(3), plain(2), plain(1)];
-    let one = told_found(alloc, heaviest_of(alloc, &graph, &weights, 1)?)?;
-    let two = told_found(alloc, heaviest_of(alloc, &graph, &weights, 2)?)?;
+    told_found(alloc, heaviest_of(alloc, &graph, &weights, count)?)
+}
+
+// Heaviest sets of columns, and of one and two edges.
+fn told_heaviest(alloc: Global) -> Result<String, AllocError> {
+    let three = heaviest_columns(alloc)?;
+    let one = heaviest_edges(alloc, 1)?;
+    let two = heaviest_edges(alloc, 2)?;
     format!(in alloc; "heaviest {three}, {one}, {two}\n")
 }
 
@@ -291,17 +379,19 @@ fn told_found(alloc: Global, found: Option<ElemSet>) -> Result<String, AllocErro
 
 /// What is told of the known matroids.
 pub(crate) fn known_report(alloc: Global) -> Result<String, AllocError> {
-    let graph = told_graph(alloc)?;
-    let any = told_any(alloc)?;
-    let minors = told_minors(alloc)?;
-    let linking = told_linking(alloc)?;
-    let components = told_components(alloc)?;
-    let faults = told_faults(alloc)?;
-    let ranks = told_ranks(alloc)?;
-    let columns = told_columns(alloc)?;
-    let base = told_base(alloc)?;
-    let heaviest = told_heaviest(alloc)?;
-    format!(in alloc;
-        "{graph}{any}{minors}{linking}{components}{faults}{ranks}{columns}{base}{heaviest}"
-    )
+    let mut text = told_graph(alloc)?;
+    text.push_str(&told_lent(alloc)?)?;
+    text.push_str(&told_dual(alloc)?)?;
+    text.push_str(&told_any(alloc)?)?;
+    text.push_str(&told_truncation(alloc)?)?;
+    text.push_str(&told_restriction(alloc)?)?;
+    text.push_str(&told_contraction(alloc)?)?;
+    text.push_str(&told_linking(alloc)?)?;
+    text.push_str(&told_components(alloc)?)?;
+    text.push_str(&told_faults(alloc)?)?;
+    text.push_str(&told_ranks(alloc)?)?;
+    text.push_str(&told_columns(alloc)?)?;
+    text.push_str(&told_base(alloc)?)?;
+    text.push_str(&told_heaviest(alloc)?)?;
+    Ok(text)
 }

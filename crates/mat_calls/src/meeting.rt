@@ -1,11 +1,11 @@
 //! Two workers who meet at the rows of a matroid of two elements, and searches for a tight path at these rows.
 
-ghost use Rattle.std.specs.Prelude.{◌≡◌, ⊤, [], pos};
+ghost use Rattle.std.specs.Prelude.{◌≡◌, ⊤, [], pos, ◌≤ℤ◌};
 ghost use Rattle.mat_sets.specs.SetTests.{is_set};
 ghost use Rattle.mat_exchange.specs.Tables.{IsTableAt};
 ghost use Rattle.mat_calls.specs.FreeLaws.{free_laws};
 
-use crate::known::{told, told_set};
+use crate::known::{told, told_numbers, told_set};
 use mat_exchange::{Found, RowTable, rows, tight_search};
 use mat_laws::{Exchange, Matroid};
 use mat_sets::{ElemSet, Weight};
@@ -82,38 +82,48 @@ fn plain(main: i128) -> Weight
     Weight { main, tie: 0 }
 }
 
+// What was reached, and the least slack.
+fn told_reach(
+    alloc: Global,
+    reach: &ElemSet,
+    slack: &Option<Weight>,
+) -> Result<String, AllocError> {
+    let reached = told_set(alloc, reach)?;
+    let least = match slack {
+        Some(weight) => weight.main,
+        None => 0,
+    };
+    format!(in alloc; "reached {reached} slack {least}")
+}
+
 // What a search at the empty set found: the path, or what was reached and the least slack.
 fn told_found(alloc: Global, found: &Found) -> Result<String, AllocError> {
     match found {
-        Found::Path(path) => {
-            let mut text = String::from_str(alloc, "path")?;
-            for x in path.as_slice() {
-                text = format!(in alloc; "{text} {x}")?;
-            }
-            Ok(text)
-        }
-        Found::Stuck { reach, slack } => {
-            let reached = told_set(alloc, reach)?;
-            let least = match slack {
-                Some(weight) => weight.main,
-                None => 0,
-            };
-            format!(in alloc; "reached {reached} slack {least}")
-        }
+        Found::Path(path) => told_numbers(alloc, "path", path.as_slice()),
+        Found::Stuck { reach, slack } => told_reach(alloc, reach, slack),
     }
 }
 
-// The searches at the empty set where both elements can be added in both matroids: element 1 is heaviest in the first, and in the second
-// it is so too, or element 0 is.
-fn told_searches(alloc: Global, table: &RowTable) -> Result<String, AllocError>
-    requires { IsTableAt 2 [] table.now }
+// The search at the empty set where both elements can be added in both matroids, element 1 is heaviest in the first, and element 0 has this
+// weight in the second, where that of element 1 is 1.
+fn told_search(alloc: Global, table: &RowTable, weight: i128) -> Result<String, AllocError>
+    requires table { IsTableAt 2 [] table.now }
+    requires some { pos 0 ≤ℤ weight }
+    requires small { weight ≤ℤ pos 9 }
 {
     let set = ElemSet::new(alloc);
     let first = [plain(3), plain(5)];
-    let path = tight_search(alloc, table, table, &set, &first, &[plain(1), plain(1)])?;
-    let path = told_found(alloc, &path)?;
-    let stuck = tight_search(alloc, table, table, &set, &first, &[plain(9), plain(1)])?;
-    let stuck = told_found(alloc, &stuck)?;
+    let second = [plain(weight), plain(1)];
+    let found = tight_search(alloc, table, table, &set, &first, &second)?;
+    told_found(alloc, &found)
+}
+
+// The searches where element 1 is heaviest in the second matroid too, and where element 0 is.
+fn told_searches(alloc: Global, table: &RowTable) -> Result<String, AllocError>
+    requires { IsTableAt 2 [] table.now }
+{
+    let path = told_search(alloc, table, 1)?;
+    let stuck = told_search(alloc, table, 9)?;
     format!(in alloc; "{path}, {stuck}")
 }
 

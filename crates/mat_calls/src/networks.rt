@@ -78,6 +78,20 @@ fn cost_of(costs: &[i128], arcs: &ElemSet) -> i128 {
     cost
 }
 
+// The cost of a cheapest arborescence, or the vertices that are not reached.
+fn told_cuts(alloc: Global, costs: &[i128], answer: &Cuts) -> Result<String, AllocError> {
+    match answer {
+        Cuts::Tree { arcs, .. } => {
+            let cost = cost_of(costs, arcs);
+            format!(in alloc; "cost {cost}")
+        }
+        Cuts::Unreached(set) => {
+            let set = told_set(alloc, set)?;
+            format!(in alloc; "unreached {set}")
+        }
+    }
+}
+
 // The cost of a cheapest arborescence from vertex 0, or the vertices that are not reached; whether the vertex sets prove it, and whether
 // they prove it of another graph with as many arcs.
 fn told_network(
@@ -100,37 +114,47 @@ fn told_network(
     let answer = cheapest(alloc, vertices, &network.arcs, &network.costs, 0)?;
     let right = right_cuts(alloc, vertices, &network.arcs, &network.costs, 0, &answer)?;
     let right_there = right_cuts(alloc, vertices, &other.arcs, &other.costs, 0, &answer)?;
-    match &answer {
-        Cuts::Tree { arcs, .. } => {
-            let cost = cost_of(&network.costs, arcs);
-            format!(in alloc; "network cost {cost} {right} {right_there}\n")
-        }
-        Cuts::Unreached(set) => {
-            let set = told_set(alloc, set)?;
-            format!(in alloc; "network unreached {set} {right} {right_there}\n")
-        }
-    }
+    let told = told_cuts(alloc, &network.costs, &answer)?;
+    format!(in alloc; "network {told} {right} {right_there}\n")
 }
 
-// What is told of a large graph that is drawn from this number.
-fn told_drawn(alloc: Global, seed: u32) -> Result<String, AllocError>
-    requires { seed < 2 ^ 31 }
+// What is told of a graph with so many arcs that is drawn from this number.
+fn told_drawn(alloc: Global, vertices: u32, count: u32, seed: u32) -> Result<String, AllocError>
+    requires some { 0 < vertices }
+    requires few { vertices ≤ vertex_bound }
+    requires arcs { count ≤ arc_bound }
+    requires seed { seed < 2 ^ 31 }
 {
-    let arcs = drawn(alloc, 2000, 20_000, seed)?;
-    let large = graph_of(alloc, 2000, &arcs)?;
-    told_network(alloc, 2000, &large, &large)
+    let arcs = drawn(alloc, vertices, count, seed)?;
+    let large = graph_of(alloc, vertices, &arcs)?;
+    told_network(alloc, vertices, &large, &large)
+}
+
+// What is told of a graph, and of its vertex sets in another one with as many arcs.
+fn told_beside(
+    alloc: Global,
+    vertices: u32,
+    arcs: &[(u32, u32, u32)],
+    others: &[(u32, u32, u32)],
+) -> Result<String, AllocError>
+    requires some { 0 < vertices }
+    requires few { vertices ≤ vertex_bound }
+    requires arcs { length arcs.now ≤ arc_bound }
+    requires as_many { length others.now ≡ length arcs.now }
+{
+    let network = graph_of(alloc, vertices, arcs)?;
+    let other = graph_of(alloc, vertices, others)?;
+    told_network(alloc, vertices, &network, &other)
 }
 
 /// What is told of a graph of four arcs beside a dearer one, of one with a vertex that no arc enters beside one where it is entered, and
 /// of two large drawn ones.
 pub(crate) fn networks_report(alloc: Global) -> Result<String, AllocError> {
-    let cheap = graph_of(alloc, 3, &[(0, 1, 5), (0, 2, 2), (2, 1, 1), (1, 2, 0)])?;
-    let dearer = graph_of(alloc, 3, &[(0, 1, 5), (0, 2, 3), (2, 1, 1), (1, 2, 0)])?;
-    let first = told_network(alloc, 3, &cheap, &dearer)?;
-    let apart = graph_of(alloc, 2, &[(1, 0, 4)])?;
-    let joined = graph_of(alloc, 2, &[(0, 1, 4)])?;
-    let second = told_network(alloc, 2, &apart, &joined)?;
-    let third = told_drawn(alloc, 7)?;
-    let fourth = told_drawn(alloc, 1)?;
-    format!(in alloc; "{first}{second}{third}{fourth}")
+    let cheap = [(0, 1, 5), (0, 2, 2), (2, 1, 1), (1, 2, 0)];
+    let dearer = [(0, 1, 5), (0, 2, 3), (2, 1, 1), (1, 2, 0)];
+    let mut text = told_beside(alloc, 3, &cheap, &dearer)?;
+    text.push_str(&told_beside(alloc, 2, &[(1, 0, 4)], &[(0, 1, 4)])?)?;
+    text.push_str(&told_drawn(alloc, 2000, 20_000, 7)?)?;
+    text.push_str(&told_drawn(alloc, 2000, 20_000, 1)?)?;
+    Ok(text)
 }

@@ -1,7 +1,7 @@
 //! Unions of two matroids in which single elements are independent, a best union of them, the union of two graphs, and both ends of a search
 //! for moves. What is printed was worked out by hand from the independent sets, and of the two graphs by `kinds.py`.
-ghost use Rattle.std.specs.Prelude.{◌≡◌, ◌<◌, ℕ, length, IfOk};
-ghost use Rattle.mat_sets.specs.{Graphs.{IsGraph}, Sets.{AllBelow, IsSubset}};
+ghost use Rattle.std.specs.Prelude.{◌≡◌, ◌<◌, ℕ, [], length, IfOk};
+ghost use Rattle.mat_sets.specs.{Graphs.{IsGraph}, Sets.{AllBelow, IsSubset, intersection}};
 ghost use Rattle.mat_laws.specs.TightPaths.{row_in};
 
 use crate::known::{told, told_set};
@@ -97,7 +97,33 @@ fn rows_at(alloc: Global, part: &ElemSet) -> Result<ExchangeList, AllocError>
     Ok(ExchangeList::new(rows))
 }
 
-// What a search for moves finds among three elements at two parts: how many moves, or what is reached.
+// How many moves a search has found, or what is reached.
+fn told_moves(alloc: Global, moves: &Moves) -> Result<String, AllocError> {
+    match moves {
+        Moves::Path(path) => {
+            let count = path.len();
+            format!(in alloc; "union search moves {count}\n")
+        }
+        Moves::Stuck(reach) => {
+            let reached = told_set(alloc, reach)?;
+            format!(in alloc; "union search stuck {reached}\n")
+        }
+    }
+}
+
+// What a search for moves finds among three elements at two parts that share none.
+fn moves_at(alloc: Global, first: ElemSet, second: ElemSet) -> Result<Moves, AllocError>
+    requires first { AllBelow 3 first }
+    requires second { AllBelow 3 second }
+    requires apart { intersection first second ≡ [] }
+{
+    let rows = vec![in alloc; rows_at(alloc, &first)?, rows_at(alloc, &second)?]?;
+    let parts = SetList::new(vec![in alloc; first, second]?);
+    let within = ElemSet::all_below(alloc, 3)?;
+    union_search(alloc, rows.as_slice(), &parts, &within)
+}
+
+// What is told of the search at the parts with these members.
 fn told_search(alloc: Global, first: &[u32], second: &[u32]) -> Result<String, AllocError>
     requires first { AllBelow 3 first.now }
     requires second { AllBelow 3 second.now }
@@ -107,19 +133,8 @@ fn told_search(alloc: Global, first: &[u32], second: &[u32]) -> Result<String, A
     if !first.is_disjoint(&second) {
         return String::from_str(alloc, "union search of parts that meet\n");
     }
-    let rows = vec![in alloc; rows_at(alloc, &first)?, rows_at(alloc, &second)?]?;
-    let parts = SetList::new(vec![in alloc; first, second]?);
-    let within = ElemSet::all_below(alloc, 3)?;
-    match union_search(alloc, rows.as_slice(), &parts, &within)? {
-        Moves::Path(path) => {
-            let count = path.len();
-            format!(in alloc; "union search moves {count}\n")
-        }
-        Moves::Stuck(reach) => {
-            let reached = told_set(alloc, &reach)?;
-            format!(in alloc; "union search stuck {reached}\n")
-        }
-    }
+    let moves = moves_at(alloc, first, second)?;
+    told_moves(alloc, &moves)
 }
 
 /// What is told of unions.

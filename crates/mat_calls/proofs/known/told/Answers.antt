@@ -3,7 +3,7 @@ use Rattle.mat_laws.proofs.GreedyRunSets.{run_ends}
 use Rattle.mat_calls.proofs.known.told.Goals as goal
 
 -- What a run ends with is independent.
-pub told_sets-requires-clause-other : goal.told_sets-requires-clause-other
-told_sets-requires-clause-other g c κs within =
+pub told_sets-requires-clause-taken : goal.told_sets-requires-clause-taken
+told_sets-requires-clause-taken g c κs within =
     ap (g.M.Matroid.indep c.args.m.now) c.in_ok-base.ensures
     ∙ (run_ends c.lawful.ensures [] c.args.order.now c.lawful.ensures.empty).passes
