@@ -1,6 +1,6 @@
 use Rattle.std.proofs.Common.{◌+◌, ◌/◌, arith}
 use Rattle.mat_gen.proofs.Validity.{graph_drawn}
-use Rattle.mat_gen.proofs.list.list_sample.Goals as goal
+use Rattle.mat_gen.proofs.samples.list_sample.Goals as goal
 
 pub two_graphic-requires-clause-first : goal.two_graphic-requires-clause-first
 two_graphic-requires-clause-first c =

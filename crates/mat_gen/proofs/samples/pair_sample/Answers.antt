@@ -1,7 +1,7 @@
 use Rattle.std.proofs.Common.{◌+◌, ◌/◌, ◌∙◌, arith, rules}
 use Rattle.mat_gen.proofs.PairMade.{pair_made}
 use Rattle.mat_gen.proofs.Validity.{graph_drawn}
-use Rattle.mat_gen.proofs.pair.pair_sample.Goals as goal
+use Rattle.mat_gen.proofs.samples.pair_sample.Goals as goal
 
 pub new-requires : goal.new-requires
 new-requires c =
