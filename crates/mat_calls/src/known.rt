@@ -377,21 +377,29 @@ fn told_found(alloc: Global, found: Option<ElemSet>) -> Result<String, AllocErro
     }
 }
 
+/// A text with another one behind it, where that one came to be.
+pub(crate) fn followed(
+    mut text: String,
+    more: Result<String, AllocError>,
+) -> Result<String, AllocError> {
+    text.push_str(&more?)?;
+    Ok(text)
+}
+
 /// What is told of the known matroids.
 pub(crate) fn known_report(alloc: Global) -> Result<String, AllocError> {
-    let mut text = told_graph(alloc)?;
-    text.push_str(&told_lent(alloc)?)?;
-    text.push_str(&told_dual(alloc)?)?;
-    text.push_str(&told_any(alloc)?)?;
-    text.push_str(&told_truncation(alloc)?)?;
-    text.push_str(&told_restriction(alloc)?)?;
-    text.push_str(&told_contraction(alloc)?)?;
-    text.push_str(&told_linking(alloc)?)?;
-    text.push_str(&told_components(alloc)?)?;
-    text.push_str(&told_faults(alloc)?)?;
-    text.push_str(&told_ranks(alloc)?)?;
-    text.push_str(&told_columns(alloc)?)?;
-    text.push_str(&told_base(alloc)?)?;
-    text.push_str(&told_heaviest(alloc)?)?;
-    Ok(text)
+    let text = told_graph(alloc)?;
+    let text = followed(text, told_lent(alloc))?;
+    let text = followed(text, told_dual(alloc))?;
+    let text = followed(text, told_any(alloc))?;
+    let text = followed(text, told_truncation(alloc))?;
+    let text = followed(text, told_restriction(alloc))?;
+    let text = followed(text, told_contraction(alloc))?;
+    let text = followed(text, told_linking(alloc))?;
+    let text = followed(text, told_components(alloc))?;
+    let text = followed(text, told_faults(alloc))?;
+    let text = followed(text, told_ranks(alloc))?;
+    let text = followed(text, told_columns(alloc))?;
+    let text = followed(text, told_base(alloc))?;
+    followed(text, told_heaviest(alloc))
 }

@@ -3,7 +3,7 @@ ghost use Rattle.std.specs.Prelude.{◌≡◌, ◌<◌, ◌≤◌, ◌^◌, leng
 ghost use Rattle.mat_sets.specs.Graphs.{IsGraph};
 ghost use Rattle.mat_cuts.specs.{Costs.{IsCost}, Limits.{vertex_bound, arc_bound}};
 
-use crate::known::told_set;
+use crate::known::{followed, told_set};
 use mat_cuts::{Cuts, cheapest, right_cuts};
 use mat_sets::{ElemSet, Pairs};
 use std::alloc::{AllocError, Global};
@@ -152,9 +152,8 @@ fn told_beside(
 pub(crate) fn networks_report(alloc: Global) -> Result<String, AllocError> {
     let cheap = [(0, 1, 5), (0, 2, 2), (2, 1, 1), (1, 2, 0)];
     let dearer = [(0, 1, 5), (0, 2, 3), (2, 1, 1), (1, 2, 0)];
-    let mut text = told_beside(alloc, 3, &cheap, &dearer)?;
-    text.push_str(&told_beside(alloc, 2, &[(1, 0, 4)], &[(0, 1, 4)])?)?;
-    text.push_str(&told_drawn(alloc, 2000, 20_000, 7)?)?;
-    text.push_str(&told_drawn(alloc, 2000, 20_000, 1)?)?;
-    Ok(text)
+    let text = told_beside(alloc, 3, &cheap, &dearer)?;
+    let text = followed(text, told_beside(alloc, 2, &[(1, 0, 4)], &[(0, 1, 4)]))?;
+    let text = followed(text, told_drawn(alloc, 2000, 20_000, 7))?;
+    followed(text, told_drawn(alloc, 2000, 20_000, 1))
 }
