@@ -60,15 +60,16 @@ def faults(formats):
 
 
 def reasons(formats):
-    """What each failed clause of an answer means: a row for each reason of a cell, with words of the header of the answer, none where it is each,
-    and the word that the header has to have besides, or None."""
+    """What each failed clause of an answer means: a row for each note of a cell, with the words of its places (a number, or the letter that the
+    meaning has for one), words of the header of the answer, none where it is each, and the word that the header has to have besides, or None."""
     made, answers = [], []
     for answer, notes, told in rows_below(formats, "### What is wrong with an answer"):
         if answer:
             answers = re.findall(r"`([a-z]+)`", answer)
-        variant, meaning = re.fullmatch(r"(?:of `([a-z]+)`: )?(.*)", told).groups()
-        for reason in dict.fromkeys(re.findall(r"`no ([a-z]+)", notes)):
-            made.append({"reason": reason, "answers": answers, "variant": variant, "meaning": meaning})
+        variant, meanings = re.fullmatch(r"(?:of `([a-z]+)`: )?(.*)", told).groups()
+        for note, meaning in zip(notes.split(", "), meanings.split("; "), strict=True):
+            _, reason, *places = note.strip("`").split()
+            made.append({"reason": reason, "places": places, "answers": answers, "variant": variant, "meaning": meaning})
     return made
 
 

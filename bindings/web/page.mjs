@@ -120,13 +120,22 @@ function showRefusal({ status, note }) {
   say(status === 1 ? "The answer is not right." : `Refused: ${note.replace("refused: ", "")}.`);
 }
 
-/** What the first failed clause of an answer means, behind a colon. The meaning of a variant is that of the answers with its word in the header. */
+/** Whether a row of the reasons is that of a note with these numbers, for an answer with this header. */
+function isReason({ answers, places }, numbers, header) {
+  const isOfAnswer = answers.length === 0 || answers.some((word) => header.includes(word));
+  return isOfAnswer && places.every((place, at) => /[A-Z]/.test(place) || place === numbers[at]);
+}
+
+/**
+ * What the first failed clause of an answer means, behind a colon, with the numbers of its note in it. The meaning of a variant is that of the
+ * answers with its word in the header.
+ */
 function meaningOf(note) {
   const header = answer.text.split("\n", 2)[1]?.split(" ") ?? [];
-  const [, reason] = note.split(" ");
-  const fitting = REASONS.filter((it) => it.reason === reason && (it.answers.length === 0 || it.answers.some((word) => header.includes(word))));
+  const [, reason, ...numbers] = note.split(" ");
+  const fitting = REASONS.filter((it) => it.reason === reason && isReason(it, numbers, header));
   const found = fitting.find((it) => header.includes(it.variant)) ?? fitting.find((it) => it.variant === null);
-  return found ? `: ${found.meaning}.` : "";
+  return found ? `: ${found.meaning.replace(/\b[A-Z]\b/g, (letter) => numbers[found.places.indexOf(letter)])}.` : "";
 }
 
 // --- What can be done ---
