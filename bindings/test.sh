@@ -1,6 +1,7 @@
 #!/bin/sh
 # Tests what bindings/build.sh built, against the proved program or the PROGRAM that is named. It needs cc, python3 and, for the page, chromium
-# (apt-get install -y --no-install-recommends chromium), or the browser of that kind that the variable CHROMIUM names.
+# (apt-get install -y --no-install-recommends chromium), or the browser of that kind that the variable CHROMIUM names. The page is tried in Firefox
+# too where firefox or firefox-esr is there (apt-get install -y --no-install-recommends firefox-esr), or the one that the variable FIREFOX names.
 #
 #   bindings/test.sh [PROGRAM]
 set -eu
@@ -10,10 +11,13 @@ out=$bindings/out
 program=${1:-$top/crates/mat_main/out/mat_main}
 work=$(mktemp -d)
 trap 'rm -rf "$work"' EXIT
-failed=0
+tried=0 failed=0
+chromium=${CHROMIUM:-chromium}
+firefox=${FIREFOX:-$(command -v firefox || command -v firefox-esr || true)}
 
-# Runs a test, and counts it where it fails.
+# Runs a test, and counts it, and where it fails.
 try() {
+    tried=$((tried + 1))
     "$@" || failed=$((failed + 1))
 }
 
@@ -30,7 +34,11 @@ compile bad_use -Wl,--wrap=malloc,--wrap=realloc,--wrap=free
 try "$work/bad_use"
 try python3 "$bindings/tests/python_module.py"
 try python3 "$bindings/tests/documents.py"
-try python3 "$bindings/tests/page.py"
-try python3 "$bindings/tests/answers.py" "$program" "$work/call"
-echo "test.sh: $failed of 5 failed"
+for browser in "$chromium" ${firefox:+"$firefox"}; do
+    echo "test.sh: the page in $browser"
+    try env BROWSER="$browser" python3 "$bindings/tests/page.py"
+done
+try python3 "$bindings/tests/answers.py" "$program" "$work/call" "$chromium" ${firefox:+"$firefox"}
+[ -n "$firefox" ] || echo "test.sh: there is no Firefox, so the page was not tried in one"
+echo "test.sh: $failed of $tried failed"
 [ "$failed" -eq 0 ]

@@ -1,7 +1,9 @@
-"""answers.py PROGRAM CALL: compares the answers of the program with those of the C library, the Python module and the page, byte for byte.
+"""answers.py PROGRAM CALL [BROWSER..]: compares the answers of the program with those of the C library, the Python module and the page, byte for
+byte.
 
-The problems are those of examples/ and 200 random ones. PROGRAM is the program, CALL what tests/call.c is compiled to. The page is tried as files
-from a server, and as one file from a folder: there every example is chosen, solved and checked as a user does.
+The problems are those of examples/ and 200 random ones. PROGRAM is the program, CALL what tests/call.c is compiled to. The page is tried in each
+BROWSER, or else in the one that browser.py starts: as files from a server, and as one file from a folder. There every example is chosen, solved and
+checked as a user does.
 """
 import json
 import os
@@ -113,7 +115,7 @@ def compare_page(compared, browser, calls):
         block = calls[place:place + BLOCK]
         asked = [[words, {name: text.decode() for name, text in files.items()}] for words, files, _ in block]
         for (words, _, wanted), given in zip(block, browser.run(f"{RUN_ALL}({json.dumps(asked)})")):
-            compared.hold("page", words, [wanted[0], wanted[1].decode(), wanted[2].decode().rstrip("\n")], given)
+            compared.hold(f"page in {browser.name}", words, [wanted[0], wanted[1].decode(), wanted[2].decode().rstrip("\n")], given)
 
 
 #: The answer in words and the text of its picture, as they stand in the page.
@@ -123,6 +125,7 @@ SHOWN = """[[...document.querySelectorAll("#words span")].map((it) => it.textCon
 
 def compare_examples(compared, browser, way, answers):
     """Chooses each example of the page that lies open, and solves and checks it by its buttons. It is told and drawn after both."""
+    way = f"{way} in {browser.name}"
     examples = browser.run("[...document.querySelectorAll('#example option')].map((it) => [it.value, it.textContent]).filter((it) => it[0])")
     compared.hold(way, "how many examples there are", len(answers), len(examples))
     for value, title in examples:
@@ -142,6 +145,18 @@ def compare_examples(compared, browser, way, answers):
             compared.hold(f"{way}, shown", title, [told, drawn], browser.run(SHOWN))
 
 
+def compare_in(compared, program, calls, examples):
+    """Compares the page in a browser."""
+    with pages.served() as address, pages.opened(program) as browser:
+        browser.open(address)
+        compare_page(compared, browser, calls)
+        compare_examples(compared, browser, "page from a server", examples)
+        compared.hold(f"page in {browser.name}", "what the browser complains of", [], browser.complaints())
+        browser.open(pages.ONE_FILE)
+        compare_examples(compared, browser, "page from a folder", examples)
+        compared.hold(f"page in {browser.name}", "what the browser complains of", [], browser.complaints())
+
+
 def main():
     compared = Compared(*map(os.path.abspath, sys.argv[1:3]))
     calls, examples = [], {}
@@ -149,14 +164,8 @@ def main():
         calls += solved(compared, name, text)
         if not name.startswith("random"):
             examples[name] = text
-    with pages.served() as address, pages.opened() as browser:
-        browser.open(address)
-        compare_page(compared, browser, calls)
-        compare_examples(compared, browser, "page from a server", examples)
-        browser.open(pages.ONE_FILE)
-        compare_examples(compared, browser, "page from a folder", examples)
-        complaints = browser.complaints()
-    compared.hold("page", "what the browser complains of", [], complaints)
+    for program in sys.argv[3:] or [None]:
+        compare_in(compared, program, calls, examples)
     print("answers.py:", ", ".join(f"{way} {count}" for way, count in compared.counts.items()), f"compared, {compared.wrong} wrong")
     return 1 if compared.wrong else 0
 

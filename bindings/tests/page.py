@@ -1,6 +1,6 @@
-"""Tests of the page in a headless Chromium: what it says, shows and takes. That its answers are the program's, answers.py tests.
+"""Tests of the page in a browser without a window: what it says, shows and takes. That its answers are the program's, answers.py tests.
 
-The pictures that it makes lie in bindings/out/pictures/, to be looked at.
+The variable BROWSER names the browser, as browser.py has it. The pictures that it makes lie in bindings/out/pictures/, to be looked at.
 """
 import json
 import pathlib
@@ -19,9 +19,6 @@ import pages  # noqa: E402
 
 PICTURES = pages.OUT / "pictures"
 PEOPLE = (TOP / "examples" / "people.txt").read_text()
-CONTROL, ENTER, ESCAPE, TAB = 2, 13, 27, 9
-
-
 #: A problem whose names have what markup is made of.
 MARKUP = "\n".join(["matroids 2", "rooted 3 3", 'elements a&b <script>x</script> "q"', "vertices A&B <img> &lt;", "root A&B", "arc A&B <img> 3",
                     "arc <img> &lt; 2", "arc A&B &lt; 7", "end", ""])
@@ -40,16 +37,15 @@ def long_problem(unions=64):
 class Page(unittest.TestCase):
     """The page as files from a server."""
 
-    flags = ()
-
     @classmethod
     def setUpClass(cls):
-        cls.browser = cls.enterClassContext(pages.opened(*cls.flags))
+        cls.browser = cls.enterClassContext(pages.opened())
         cls.address = cls.enterClassContext(pages.served())
-        PICTURES.mkdir(parents=True, exist_ok=True)
+        cls.pictures = PICTURES / cls.browser.name
+        cls.pictures.mkdir(parents=True, exist_ok=True)
 
     def setUp(self):
-        self.browser.ask("Emulation.setDeviceMetricsOverride", width=1100, height=900, deviceScaleFactor=1, mobile=False)
+        self.browser.resize(1100, 900)
         self.open(self.address)
 
     def tearDown(self):
@@ -79,7 +75,7 @@ class Page(unittest.TestCase):
     def saved(self, button, name):
         """The bytes of the file of this name that a button saves."""
         with tempfile.TemporaryDirectory() as folder:
-            self.browser.ask("Browser.setDownloadBehavior", behavior="allow", downloadPath=folder)
+            self.browser.save_to(folder)
             self.browser.run(f"document.querySelector('{button}').click()")
             path, end = pathlib.Path(folder, name), time.monotonic() + browsers.LONGEST
             while not path.exists() and time.monotonic() < end:
@@ -87,7 +83,7 @@ class Page(unittest.TestCase):
             return path.read_bytes()
 
     def picture(self, name):
-        self.browser.picture(PICTURES / f"{name}.png")
+        self.browser.picture(self.pictures / f"{name}.png")
 
 
 class Use(Page):
@@ -104,7 +100,7 @@ class Use(Page):
                          "The answer as a picture. BEST: 4 elements, weight 25. LARGEST: 5 elements, weight 23.")
         self.wait_for_image()
         self.picture("solved")
-        self.browser.ask("Emulation.setDeviceMetricsOverride", width=1900, height=1000, deviceScaleFactor=1, mobile=False)
+        self.browser.resize(1900, 1000)
         self.picture("solved_wide")
 
     def test_a_right_certificate_is_told_and_drawn(self):
@@ -269,10 +265,17 @@ class Use(Page):
         self.assertTrue(self.text("#answer").startswith("certificate 1\nanswer intersect 500 "))
         self.assertTrue(self.is_shown("nothing"))
 
+    def test_files_are_opened(self):
+        self.browser.choose_file(TOP / "examples" / "posts.txt", "#open-description")
+        self.browser.wait("document.querySelector('#command').value === 'assign'")
+        self.browser.choose_file(TOP / "examples" / "people_wrong.answer", "#open-answer")
+        self.browser.wait("document.querySelector('#answer').value.startsWith('certificate 1')")
+
     def test_files_are_taken_by_drop(self):
         self.browser.drop(TOP / "examples" / "posts.txt", "#description")
         self.browser.wait("document.querySelector('#command').value === 'assign'")
         self.browser.drop(TOP / "README.md", "h1")
+        self.assertEqual(self.text("#command"), "assign")
         self.browser.drop(TOP / "examples" / "people_wrong.answer", "#answer")
         self.browser.wait("document.querySelector('#answer').value.startsWith('certificate 1')")
         with tempfile.NamedTemporaryFile(suffix=".txt") as file:
@@ -301,40 +304,38 @@ class Use(Page):
 
     def test_the_keyboard_is_enough(self):
         self.browser.run("document.querySelector('#description').focus()")
-        self.browser.press("Enter", ENTER, CONTROL)
+        self.browser.press("Enter", control=True)
         self.browser.wait("/^Done in \\d+ ms\\.$/.test(document.querySelector('#state').textContent)")
         self.browser.run("document.querySelector('#example').focus()")
         order = []
         for _ in range(12):
-            self.browser.press("Tab", TAB)
+            self.browser.press("Tab")
             order.append(self.browser.run("document.activeElement.id || document.activeElement.parentElement.id"))
         self.assertEqual(order, ["command", "description", "solve", "open-description", "save-description", "link", "picture", "save-picture",
                                  "answer", "check", "open-answer", "save-answer"])
         self.write("#description", long_problem())
         self.browser.run("document.querySelector('#solve').click()")
         self.browser.wait("document.querySelector('#time').textContent")
-        self.browser.press("Escape", ESCAPE)
+        self.browser.press("Escape")
         self.browser.wait("document.querySelector('#state').textContent.startsWith('Stopped')")
 
     def test_everything_that_is_used_has_a_name_and_a_role(self):
         self.solve()
-        nodes = self.browser.ask("Accessibility.getFullAXTree")["nodes"]
-        used = {(it["role"]["value"], it["name"]["value"]) for it in nodes if not it["ignored"] and "name" in it}
         result = "BEST: 4 elements, weight 25. LARGEST: 5 elements, weight 23."
         for role, name in (("combobox", "Example"), ("combobox", "Command"), ("textbox", "Description"), ("textbox", "Certificate"),
                            ("button", "Solve"), ("button", "Check"), ("button", "Copy a link"), ("button", "Save the picture"),
                            ("heading", "matbench"), ("heading", "Description"), ("heading", "In words"), ("heading", "Picture"),
                            ("heading", "Certificate"), ("image", f"The answer as a picture. {result}")):
-            self.assertIn((role, name), used)
-        controls = [it for it in nodes if not it["ignored"] and it["role"]["value"] in ("combobox", "textbox", "button", "spinbutton", "link")]
-        self.assertEqual([it for it in controls if not it["name"]["value"]], [])
-        self.assertIn("status", {it["role"]["value"] for it in nodes if not it["ignored"]})
+            self.assertEqual(self.browser.count_named(role, name), 1, (role, name))
+        for role in ("combobox", "textbox", "button", "spinbutton", "link"):
+            self.assertEqual(self.browser.count_named(role, ""), 0, role)
+        self.assertEqual(self.browser.count_named("status", ""), 1)
 
     def test_it_has_a_dark_mode(self):
         ground = "getComputedStyle(document.body).backgroundColor"
-        self.browser.ask("Emulation.setEmulatedMedia", features=[{"name": "prefers-color-scheme", "value": "light"}])
+        self.browser.prefer("light")
         self.assertEqual(self.browser.run(ground), "rgb(255, 255, 255)")
-        self.browser.ask("Emulation.setEmulatedMedia", features=[{"name": "prefers-color-scheme", "value": "dark"}])
+        self.browser.prefer("dark")
         self.assertEqual(self.browser.run(ground), "rgb(23, 24, 26)")
         self.solve()
         self.wait_for_image()
@@ -343,15 +344,15 @@ class Use(Page):
         self.write("#description", PEOPLE.replace("class 1 7 8", "class 1 7 9"))
         self.solve()
         self.picture("dark")
-        self.browser.ask("Emulation.setEmulatedMedia", features=[])
+        self.browser.prefer("light")
 
     def test_it_fits_a_phone(self):
-        self.browser.ask("Emulation.setDeviceMetricsOverride", width=360, height=740, deviceScaleFactor=2, mobile=True)
+        self.browser.resize(360, 740, 2)
         for name in ("week", "owners"):
             self.write("#description", (TOP / "examples" / f"{name}.txt").read_text())
             self.solve()
             self.wait_for_image()
-            self.assertEqual(self.browser.run("document.documentElement.scrollWidth"), 360)
+            self.assertEqual(*self.browser.run("(({scrollWidth, clientWidth}) => [scrollWidth, clientWidth])(document.documentElement)"))
             narrow, natural = self.browser.run("(({width, naturalWidth}) => [width, naturalWidth])(document.querySelector('#picture img'))")
             self.assertGreaterEqual(narrow, 2 / 3 * natural - 1)
             self.picture(f"phone_{name}")
@@ -364,7 +365,7 @@ class Use(Page):
         self.assertEqual([it for it in loaded if not it.startswith(self.address)], [])
         refused = self.browser.run("fetch('https://example.org/').then(() => false, () => true)")
         self.assertTrue(refused)
-        self.browser.events = []
+        self.browser.forget()
 
 
 class BadUse(Page):
@@ -405,20 +406,18 @@ class BadUse(Page):
         self.assertEqual((ended["status"], ended["output"], ended["note"]), (6, "sample", "refused: write fault"))
 
     def test_a_module_that_is_not_there_is_told_of(self):
-        self.browser.ask("Network.enable")
-        self.browser.ask("Network.setBlockedURLs", urls=["*.wasm"])
-        self.open(self.address)
-        self.browser.wait("document.querySelector('#unable').textContent")
+        with pages.served(missing="/matbench.wasm") as address:
+            self.open(address)
+            self.browser.wait("document.querySelector('#unable').textContent")
         self.assertTrue(self.browser.run("document.querySelector('#solve').disabled"))
-        self.browser.ask("Network.setBlockedURLs", urls=[])
-        self.browser.events = []
+        self.browser.forget()
 
 
 class Narrow(Page):
     """The page in a browser without 64-bit memory."""
 
     def test_it_says_what_is_needed(self):
-        self.browser.ask("Page.addScriptToEvaluateOnNewDocument", source="WebAssembly.validate = () => false;")
+        self.browser.run_before_pages("WebAssembly.validate = () => false;")
         self.open(self.address)
         self.browser.wait("document.querySelector('#unable').textContent")
         self.assertIn("memory64", self.text("#unable"))

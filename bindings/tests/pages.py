@@ -16,23 +16,34 @@ ONE_FILE = (OUT / "matbench.html").as_uri()
 class _Handler(http.server.SimpleHTTPRequestHandler):
     extensions_map = {**http.server.SimpleHTTPRequestHandler.extensions_map, ".mjs": "text/javascript", ".wasm": "application/wasm"}
 
+    def __init__(self, *given, missing, **more):
+        self.missing = missing
+        super().__init__(*given, **more)
+
+    def send_head(self):
+        """Answers a request. The file that is missing is not found."""
+        if self.path != self.missing:
+            return super().send_head()
+        return self.send_error(404)
+
     def log_message(self, *_):
         """Says nothing."""
 
 
 @contextlib.contextmanager
-def served():
-    """The address of the page's files from a server of this machine."""
-    with http.server.ThreadingHTTPServer(("127.0.0.1", 0), functools.partial(_Handler, directory=OUT / "web")) as server:
+def served(missing=None):
+    """The address of the page's files from a server of this machine, without the one that is missing there."""
+    handler = functools.partial(_Handler, directory=OUT / "web", missing=missing)
+    with http.server.ThreadingHTTPServer(("127.0.0.1", 0), handler) as server:
         threading.Thread(target=server.serve_forever, daemon=True).start()
         yield f"http://127.0.0.1:{server.server_port}/"
         server.shutdown()
 
 
 @contextlib.contextmanager
-def opened(*flags):
-    """A browser."""
-    found = browsers.Browser(*flags)
+def opened(program=None):
+    """A browser, as browser.py names it."""
+    found = browsers.start(program)
     try:
         yield found
     finally:
