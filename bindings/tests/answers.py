@@ -119,7 +119,7 @@ def compare_page(compared, browser, calls):
 
 
 #: The answer in words and the text of its picture, as they stand in the page.
-SHOWN = """[[...document.querySelectorAll("#words span")].map((it) => it.textContent + "\\n").join(""),
+SHOWN = """[[...document.querySelectorAll(".told p")].map((it) => it.textContent + "\\n").join(""),
   decodeURIComponent(document.querySelector("#picture img").src.replace(/^[^,]*,/, ""))]"""
 
 

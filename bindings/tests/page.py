@@ -103,6 +103,15 @@ class Use(Page):
         self.browser.resize(1900, 1000)
         self.picture("solved_wide")
 
+    def test_told_lines_that_go_on_are_one_paragraph(self):
+        paragraphs = "[...document.querySelectorAll('.told p')].map((it) => it.textContent)"
+        self.solve()
+        self.assertIn("  Each weight is split into two shares, one for each rule. All of it is for rule 1, but of\n    these:",
+                      self.browser.run(paragraphs))
+        self.write("#description", (TOP / "examples" / "supply.txt").read_text())
+        self.solve()
+        self.assertIn("    e2: 2 = -2 + 4", self.browser.run(paragraphs))
+
     def test_a_right_certificate_is_told_and_drawn(self):
         self.write("#answer", matbench.intersect(PEOPLE).certificate)
         pages.click_and_wait(self.browser, "#check")

@@ -2,6 +2,8 @@
 
 /** A picture that is wider than its box is made narrower, down to this part of its width. The rest is scrolled. */
 const NARROWEST = 2 / 3;
+/** The most bytes of a line of a told answer, but for one of a single long word. */
+const LONGEST_LINE = 96;
 
 /** The words behind the first word of the first line that begins with it, or null. */
 function wordsBehind(word, text) {
@@ -29,28 +31,56 @@ function rowsOf(description, certificate) {
   return rows;
 }
 
-/** Which of the lines of a told answer say what was found, as one text. */
-function resultOf(lines) {
-  return lines.filter((line) => /^[A-Z]+: /.test(line)).join(" ");
+/** Which of the paragraphs of a told answer say what was found, as one text. */
+function resultOf(paragraphs) {
+  return paragraphs
+    .filter((it) => /^[A-Z]+: /.test(it))
+    .join(" ")
+    .replace(/\s+/g, " ");
 }
 
-/** A line of a told answer. Where it is longer than its box, it goes on below, indented by two more as the lines of the program are. */
-function toldLine(text) {
-  const line = Object.assign(document.createElement("span"), { textContent: text });
-  const places = text.search(/\S/) + 2;
-  line.style.paddingLeft = `${places}ch`;
-  line.style.textIndent = `-${places}ch`;
-  return line;
+function indentationOf(line) {
+  return line.search(/\S/);
+}
+
+/**
+ * Whether a paragraph of a told answer, with this last line, goes on in the next line: that is indented by two more then, and its first word had no
+ * room. Behind a colon a list may begin, which stays apart.
+ */
+function goesOn(paragraph, last, next) {
+  const [word] = next.trimStart().split(" ", 1);
+  const hadRoom = new TextEncoder().encode(`${last} ${word}`).length <= LONGEST_LINE;
+  return indentationOf(next) === indentationOf(paragraph) + 2 && !hadRoom && !last.endsWith(":");
+}
+
+/** The paragraphs of a told answer, each with its lines as they are. */
+function paragraphsOf(text) {
+  const [first, ...lines] = text.trimEnd().split("\n");
+  const paragraphs = [first];
+  let last = first;
+  for (const line of lines) {
+    if (goesOn(paragraphs.at(-1), last, line)) paragraphs.push(`${paragraphs.pop()}\n${line}`);
+    else paragraphs.push(line);
+    last = line;
+  }
+  return paragraphs;
+}
+
+/** A paragraph as an element, whose lines are as long as its box and indented as those of the program are. */
+function toldParagraph(text) {
+  const told = Object.assign(document.createElement("p"), { textContent: text });
+  told.style.paddingLeft = `${indentationOf(text) + 2}ch`;
+  return told;
 }
 
 /** The parts of the page that show an answer, of which those are hidden that have nothing to show. */
 export class AnswerParts {
-  /** `nothing` says that no answer is shown; `words` has a `pre`, `picture` an `img`, and `names` the body of a table. */
+  /** `nothing` says that no answer is shown; `words` has one of the class `told`, `picture` an `img`, and `names` the body of a table. */
   constructor({ nothing, words, picture, names }) {
     this.parts = { nothing, words, picture, names };
-    this.lines = [];
+    this.paragraphs = [];
     this.svg = "";
-    this.told = words.querySelector("pre");
+    this.told = words.querySelector(".told");
     this.image = picture.querySelector("img");
     this.table = names.querySelector("tbody");
     this.image.addEventListener("load", () => {
@@ -70,15 +100,15 @@ export class AnswerParts {
 
   /** Shows an answer in words. */
   tell(text) {
-    this.lines = text.trimEnd().split("\n");
-    this.told.replaceChildren(...this.lines.map(toldLine));
+    this.paragraphs = paragraphsOf(text);
+    this.told.replaceChildren(...this.paragraphs.map(toldParagraph));
     this.#show(this.parts.words);
   }
 
   /** Shows the picture of the answer that was told. In an image no script runs and nothing is loaded, whatever stands in the SVG. */
   draw(svg) {
     this.svg = svg;
-    this.image.alt = `The answer as a picture. ${resultOf(this.lines)}`;
+    this.image.alt = `The answer as a picture. ${resultOf(this.paragraphs)}`;
     this.image.src = `data:image/svg+xml,${encodeURIComponent(svg)}`;
     this.#show(this.parts.picture);
   }
