@@ -172,6 +172,9 @@ class Use(Page):
     def test_there_is_an_example_of_each_form_with_its_command(self):
         found = self.browser.run("[...document.querySelectorAll('#example optgroup')].map((it) => it.label)")
         self.assertEqual(found, ["pair", "list", "graph", "rooted", "coloured", "table"])
+        titles = self.browser.run("[...document.querySelectorAll('#example option')].map((it) => it.textContent)")
+        self.assertIn("ward_four.txt: who works when", titles)
+        self.assertIn("cheap_links.txt: costs instead of gains, and which rung to read", titles)
         place = self.browser.run("[...document.querySelectorAll('#example option')].find((it) => it.textContent.startsWith('frame.txt')).value")
         pages.choose(self.browser, "#example", place)
         self.assertEqual((self.text("#command"), self.text("#count")), ("trees", "6"))

@@ -107,20 +107,26 @@ def commands(help_text, formats):
     return sorted(made, key=lambda it: it["name"] in ("show", "convert"))
 
 
-def title_of(name, title, link, readme):
-    """What an example is called: the heading that its link leads to, or else the words of its row."""
+def place_of(heading):
+    """The word of a link that leads to a heading."""
+    return re.sub(r"[^\w -]", "", heading.lower()).replace(" ", "-")
+
+
+def title_of(name, title, link, readme, cookbook):
+    """What an example is called: the heading that its link leads to, or else what its row says it is for."""
     if "COOKBOOK.md#" in link:
-        return link.split("#", 1)[1].replace("-", " ")
+        heading = next(it for it in re.findall(r"^#+ (.*)", cookbook, re.M) if place_of(it) == link.split("#", 1)[1])
+        return heading[0].lower() + heading[1:]
     heading = re.search(rf"^## .*`{re.escape(name)}`.*?: (.*)", readme, re.M)
-    return heading[1] if heading else title
+    return heading[1] if heading else title.split(":")[0]
 
 
 def examples(top, known):
     """The descriptions of examples/, each with the command of its row in examples/README.md."""
-    told, readme = {}, read(top, "examples", "README.md")
+    told, readme, cookbook = {}, read(top, "examples", "README.md"), read(top, "docs", "COOKBOOK.md")
     for title, words, _, links in rows_below(readme, "# Examples"):
         for name, link in re.findall(r"\[(\w+\.txt)\]\(([^)]*)\)", links):
-            told.setdefault(name, (title_of(name, title, link, readme), re.findall(r"`([a-z]+)(?: (\d+))?`", words)))
+            told.setdefault(name, (title_of(name, title, link, readme, cookbook), re.findall(r"`([a-z]+)(?: (\d+))?`", words)))
     made = []
     for name in sorted(os.listdir(os.path.join(top, "examples"))):
         text = read(top, "examples", name) if name.endswith(".txt") else ""
