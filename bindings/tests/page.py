@@ -267,6 +267,18 @@ class Use(Page):
         self.solve()
         self.assertRegex(pages.state(self.browser), "^Done in")
 
+    def test_a_page_that_is_loaded_again_while_it_runs_begins_anew(self):
+        self.write("#description", long_problem())
+        self.browser.run("document.querySelector('#solve').click()")
+        self.browser.wait("document.querySelector('#time').textContent")
+        self.browser.run("window.isOld = true")
+        self.browser.run("void location.reload()")
+        self.browser.wait("!window.isOld && document.querySelector('#command')?.value")
+        disabled = "[...document.querySelectorAll('button, select')].filter((it) => it.disabled).map((it) => it.id)"
+        self.assertEqual(self.browser.run(disabled), ["stop"])
+        self.solve()
+        self.assertRegex(pages.state(self.browser), "^Done in")
+
     def test_telling_is_timed_and_can_be_stopped(self):
         self.write("#description", long_problem(16))
         self.browser.run("document.querySelector('#solve').click()")

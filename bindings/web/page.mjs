@@ -298,8 +298,10 @@ function listen() {
   at("command").addEventListener("change", showCommand);
   at("example").addEventListener("change", () => EXAMPLES[at("example").value] && setProblem(EXAMPLES[at("example").value]));
   document.addEventListener("keydown", onKey);
-  // A file that is dropped beside a box is not opened in place of the page.
-  for (const kind of ["dragover", "drop"]) document.addEventListener(kind, (event) => event.preventDefault());
+  // A file that is dropped beside a box is not opened in place of the page. A text that is dragged is left to the browser.
+  for (const kind of ["dragover", "drop"]) {
+    document.addEventListener(kind, (event) => event.dataTransfer.types.includes("Files") && event.preventDefault());
+  }
   addEventListener("hashchange", followLink);
 }
 
@@ -307,6 +309,8 @@ async function begin() {
   fillExamples();
   fillLimits();
   listen();
+  // Firefox enables at first what was enabled when the page was loaded again.
+  setRunning(false);
   if (!(await followLink())) {
     at("example").value = EXAMPLES.findIndex((it) => it.file === "people.txt");
     setProblem(EXAMPLES[at("example").value]);

@@ -22,7 +22,6 @@ export class TextBox {
     this.line = null;
     area.addEventListener("scroll", () => this.#placeMark());
     area.addEventListener("input", () => this.clearFault());
-    area.parentElement.addEventListener("dragover", (event) => event.preventDefault());
     area.parentElement.addEventListener("drop", (event) => this.#take(event));
   }
 
