@@ -17,7 +17,6 @@ import websocket
 #: How long a test waits for the browser, in seconds, before it fails. On a machine that is busy with other work a page may take minutes.
 LONGEST = 300
 
-
 #: Drops the file of an element that takes files, which it removes, on what is at a place of the window.
 DROP = """((x, y) => {
   const [from, dataTransfer] = [document.querySelector("#dropped"), new DataTransfer()];
@@ -38,8 +37,8 @@ def start(program=None):
 class Browser:
     """A browser with one page. What is done in the same way in each stands here, by `ask` and `run`, which each has of its own."""
 
-    #: What it is called.
-    name = None
+    #: What it is called, and the command of its protocol that ends it.
+    name = last_command = None
 
     def __init__(self):
         self.folder, self.last, self.events = tempfile.mkdtemp(), 0, []
@@ -54,6 +53,14 @@ class Browser:
 
     def run(self, script):
         """What an expression of JavaScript is in the page."""
+        raise NotImplementedError
+
+    def _resize(self, width, height, scale):
+        """Gives the window a size."""
+        raise NotImplementedError
+
+    def _screenshot(self):
+        """A picture of the whole page in PNG, in Base64."""
         raise NotImplementedError
 
     def _start(self, words, **more):
@@ -81,6 +88,18 @@ class Browser:
                 raise RuntimeError(f"not within {LONGEST} seconds: {condition}")
             time.sleep(0.02)
 
+    def resize(self, width, height, scale=1):
+        """Gives the window this size, in pixels of CSS, of which each has `scale` of the screen."""
+        self.size = width, height, scale
+        self._resize(*self.size)
+
+    def picture(self, path):
+        """A picture of the whole page as a file in PNG. The window is as high as the page while it is taken."""
+        width, height, scale = self.size
+        self._resize(width, max(height, self.run("document.documentElement.scrollHeight")), scale)
+        pathlib.Path(path).write_bytes(base64.b64decode(self._screenshot()))
+        self._resize(*self.size)
+
     def _middle_of(self, selector):
         """The place of the middle of an element in the window, which is scrolled to it."""
         self.run(f"document.querySelector({json.dumps(selector)}).scrollIntoView({{ block: 'nearest' }})")
@@ -94,7 +113,7 @@ class Browser:
 
     def close(self):
         """Ends the browser."""
-        self.ask("Browser.close" if self.name == "chromium" else "browser.close")
+        self.ask(self.last_command)
         self.process.wait(timeout=LONGEST)
         shutil.rmtree(self.folder, ignore_errors=True)
 
@@ -102,7 +121,7 @@ class Browser:
 class Chromium(Browser):
     """Chromium, by the pipes of its debugging protocol."""
 
-    name = "chromium"
+    name, last_command = "chromium", "Browser.close"
     keys = {"Enter": 13, "Escape": 27, "Tab": 9}
 
     def __init__(self, program):
@@ -153,8 +172,7 @@ class Chromium(Browser):
         """Runs a script in each page that is opened, before its own."""
         self.ask("Page.addScriptToEvaluateOnNewDocument", source=script)
 
-    def resize(self, width, height, scale=1):
-        """Gives the window this size, in pixels of CSS, of which each has `scale` of the screen."""
+    def _resize(self, width, height, scale):
         self.ask("Emulation.setDeviceMetricsOverride", width=width, height=height, deviceScaleFactor=scale, mobile=scale > 1)
 
     def prefer(self, scheme):
@@ -198,10 +216,8 @@ class Chromium(Browser):
                 found.append(event["params"]["entry"]["text"])
         return found
 
-    def picture(self, path):
-        """A picture of the whole page as a file in PNG."""
-        shot = self.ask("Page.captureScreenshot", format="png", captureBeyondViewport=True)
-        pathlib.Path(path).write_bytes(base64.b64decode(shot["data"]))
+    def _screenshot(self):
+        return self.ask("Page.captureScreenshot", format="png", captureBeyondViewport=True)["data"]
 
     def close(self):
         super().close()
@@ -212,7 +228,7 @@ class Chromium(Browser):
 class Firefox(Browser):
     """Firefox, by WebDriver BiDi. What this has no command for, a script in the browser itself does."""
 
-    name = "firefox"
+    name, last_command = "firefox", "browser.close"
     keys = {"Enter": "\ue007", "Escape": "\ue00c", "Tab": "\ue004"}
 
     def __init__(self, program):
@@ -257,8 +273,7 @@ class Firefox(Browser):
     def run_before_pages(self, script):
         self.ask("script.addPreloadScript", functionDeclaration=f"() => {{ {script} }}")
 
-    def resize(self, width, height, scale=1):
-        self.size = width, height, scale
+    def _resize(self, width, height, scale):
         self.ask("browsingContext.setViewport", context=self.page, viewport={"width": width, "height": height}, devicePixelRatio=scale)
 
     def prefer(self, scheme):
@@ -293,12 +308,8 @@ class Firefox(Browser):
     def complaints(self):
         return [it["params"]["text"] for it in self.events if it["method"] == "log.entryAdded" and it["params"]["level"] in ("error", "warn")]
 
-    def picture(self, path):
-        width, height, scale = self.size
-        self.resize(width, max(height, self.run("document.documentElement.scrollHeight")), scale)
-        shot = self.ask("browsingContext.captureScreenshot", context=self.page, origin="document")
-        self.resize(width, height, scale)
-        pathlib.Path(path).write_bytes(base64.b64decode(shot["data"]))
+    def _screenshot(self):
+        return self.ask("browsingContext.captureScreenshot", context=self.page, origin="document")["data"]
 
     def close(self):
         super().close()
