@@ -1,5 +1,5 @@
 //! The tickets that one worker drew.
-ghost use Rattle.std.specs.Prelude.{◌≡◌};
+ghost use Rattle.std.specs.Prelude.{◌≡◌, ◌<◌, length, slice_index};
 
 use std::marker::Model;
 
@@ -23,6 +23,21 @@ impl TicketList {
         ensures { result ≡ items.items }
     {
         TicketList { items }
+    }
+
+    /// How many tickets there are.
+    pub fn len(&self) -> usize
+        ensures { result ≡ length self.now }
+    {
+        self.items.len()
+    }
+
+    /// The ticket at place i.
+    pub fn get(&self, i: usize) -> u32
+        requires { i < length self.now }
+        ensures { result ≡ slice_index self.now i }
+    {
+        self.items[i]
     }
 
     /// The tickets in order.
