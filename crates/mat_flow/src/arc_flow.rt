@@ -11,15 +11,15 @@ use crate::arc_residual::ArcResidual;
 use crate::digraph::Digraph;
 use crate::link_table::{no_links, shift_along};
 use crate::trails::{after_table, paths_among};
-use crate::walk::Walk;
+use crate::walk::ArcPath;
 use mat_sets::{BitRows, ElemSet, WalkSearch, shortest_walk};
 use std::alloc::{AllocError, Global};
 
 /// So many paths that share no arc, or the cut that shows that there are not so many.
 #[derive(Debug, Drop)]
 pub enum ArcAnswer {
-    /// Paths from the one vertex to the other, by their arcs: no arc stands in two of them, nor twice in one.
-    Paths(Vec<Walk>),
+    /// Paths from the one vertex to the other: no arc stands in two of them, nor twice in one.
+    Paths(Vec<ArcPath>),
     /// A vertex set with the end of the paths and without their start, that fewer live arcs enter.
     Cut(ElemSet),
 }

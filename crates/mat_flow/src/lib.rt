@@ -30,4 +30,4 @@ pub use linking::{Linking, linked};
 pub use reroutes::Reroutes;
 pub use search_graph::SearchGraph;
 pub use seeking::SearchRoom;
-pub use walk::Walk;
+pub use walk::{ArcPath, Walk};

@@ -10,6 +10,9 @@ pub struct Walk {
     items: Vec<u32>,
 }
 
+/// A path in a graph, by the numbers of its arcs in order.
+pub type ArcPath = Walk;
+
 impl Model for Walk {
     ghost use Rattle.std.specs.Prelude.{ℕ, List};
 
