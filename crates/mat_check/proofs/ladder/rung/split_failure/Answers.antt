@@ -16,13 +16,13 @@ told_of_count : {n m : ℕ} {b : Bool} (p : List ℕ → Bool) (half : List Weig
 told_of_count p half set same told = told ∙ ap (λ k. is_beaten k p (weight_at half) set) (sym same)
 
 pub is_beaten-requires-clause-lengths : goal.is_beaten-requires-clause-lengths
-is_beaten-requires-clause-lengths c = rw c.as_slice-first_half.ensures (c.requires.ranged.1.size ∙ c.requires.first_lengths)
+is_beaten-requires-clause-lengths c _ = rw c.as_slice-first_half.ensures (c.requires.ranged.1.size ∙ c.requires.first_lengths)
 
 pub is_beaten-requires-clause-few : goal.is_beaten-requires-clause-few
 is_beaten-requires-clause-few c = omega (arith, IsSet-length _ _ c.requires.ranged.0.set_in_range, c.requires.few)
 
 pub is_beaten-requires-2-clause-lengths : goal.is_beaten-requires-2-clause-lengths
-is_beaten-requires-2-clause-lengths c = rw c.as_slice-second_half.ensures (c.requires.ranged.2.size ∙ c.requires.second_lengths)
+is_beaten-requires-2-clause-lengths c _ = rw c.as_slice-second_half.ensures (c.requires.ranged.2.size ∙ c.requires.second_lengths)
 
 pub is_beaten-requires-2-clause-few : goal.is_beaten-requires-2-clause-few
 is_beaten-requires-2-clause-few c = omega (arith, IsSet-length _ _ c.requires.ranged.0.set_in_range, c.requires.few)
