@@ -71,13 +71,22 @@ fn told_list(alloc: Global, problem: &Problem) -> Result<String, AllocError>
     }
 }
 
+// What is told of a problem, which is dropped.
+fn told_of_owned(alloc: Global, problem: Problem) -> Result<String, AllocError>
+    requires { IsSoundInstance (instance_of problem) }
+{
+    let told = told_list(alloc, &problem);
+    drop(problem);
+    told
+}
+
 /// What is told of the matroids that a description lists.
 pub(crate) fn kinds_report(alloc: Global, text: &[u8]) -> Result<String, AllocError> {
     if text.len() > DESCRIPTION_LIMIT {
         return String::from_str(alloc, "too long\n");
     }
     match read_problem(alloc, text) {
-        Ok(problem) => told_list(alloc, &problem),
+        Ok(problem) => told_of_owned(alloc, problem),
         Err(_) => String::from_str(alloc, "no problem\n"),
     }
 }

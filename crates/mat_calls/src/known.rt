@@ -9,7 +9,7 @@ ghost use Rattle.mat_any.specs.{Trees.{element_count, IsSound}, Views.{tree_of}}
 use crate::routes::{set_below, set_of_bits};
 use mat_any::AnyMatroid;
 use mat_count::{Laminar, LaminarFault};
-use mat_flow::{Digraph, linked};
+use mat_flow::{Digraph, Linking, linked};
 use mat_gf2::Gf2;
 use mat_graphic::Graphic;
 use mat_greedy::heaviest_of;
@@ -249,13 +249,25 @@ fn told_contraction(alloc: Global) -> Result<String, AllocError> {
     told_three(alloc, "contraction", &joined)
 }
 
-// Two sources and two targets, between which all paths pass one vertex: one path, and that vertex separates.
-fn told_linking(alloc: Global) -> Result<String, AllocError> {
+// The digraph of two arcs into a vertex and two out of it.
+fn narrow_digraph(alloc: Global) -> Result<Digraph, AllocError>
+    ensures { IfOk result (λ g. g.vertices ≡ 5) }
+{
     let arcs = vec![in alloc; (0, 2), (1, 2), (2, 3), (2, 4)]?;
-    let graph = Digraph::new(alloc, 5, Pairs::new(arcs))?;
+    Digraph::new(alloc, 5, Pairs::new(arcs))
+}
+
+// Disjoint paths through that vertex, from the tails to the heads.
+fn narrow_linking(alloc: Global) -> Result<Linking, AllocError> {
+    let graph = narrow_digraph(alloc)?;
     let sources = set_below(alloc, 5, &[0, 1])?;
     let targets = set_below(alloc, 5, &[3, 4])?;
-    let linking = linked(alloc, &graph, &sources, &targets)?;
+    linked(alloc, &graph, &sources, &targets)
+}
+
+// Two sources and two targets, between which all paths pass one vertex: one path, and that vertex separates.
+fn told_linking(alloc: Global) -> Result<String, AllocError> {
+    let linking = narrow_linking(alloc)?;
     let paths = linking.paths.len();
     let separator = told_set(alloc, &linking.separator)?;
     format!(in alloc; "linking {paths} {separator}\n")

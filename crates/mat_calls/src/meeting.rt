@@ -127,6 +127,16 @@ fn told_searches(alloc: Global, table: &RowTable) -> Result<String, AllocError>
     format!(in alloc; "{path}, {stuck}")
 }
 
+// What is told of searches at the rows that two workers make.
+fn told_meeting<R: Threads + Sync>(
+    rt: &R,
+    alloc: Global,
+    flags: &Flags,
+) -> Result<String, AllocError> {
+    let table = rows(rt, alloc, flags, &ElemSet::new(alloc), 2)?;
+    told_searches(alloc, &table)
+}
+
 /// Whether two workers met at the rows of the empty set, what searches find there, and what the calls answer of which the trait has the body. On
 /// one thread the first row would not see the flag of the second.
 pub(crate) fn meeting_report<R: Threads + Sync>(
@@ -138,9 +148,8 @@ pub(crate) fn meeting_report<R: Threads + Sync>(
         second: AtomicBool::new(false),
         missed: AtomicBool::new(false),
     };
-    let table = rows(rt, alloc, &flags, &ElemSet::new(alloc), 2)?;
+    let searches = told_meeting(rt, alloc, &flags)?;
     let met = !flags.missed.load(Ordering::SeqCst);
-    let searches = told_searches(alloc, &table)?;
     let free = told(alloc, "free", &flags, &[1, 0])?;
     format!(in alloc; "two rows met {met}\nsearches {searches}\n{free}")
 }

@@ -119,6 +119,15 @@ fn told_of(alloc: Global, problem: &Problem, ranked: bool) -> Result<String, All
     }
 }
 
+// What is told of a problem, which is dropped.
+fn told_of_owned(alloc: Global, problem: Problem, ranked: bool) -> Result<String, AllocError>
+    requires { IsSoundInstance (instance_of problem) }
+{
+    let told = told_of(alloc, &problem, ranked);
+    drop(problem);
+    told
+}
+
 /// What is told of the first matroid of a description. Of a gammoid: how many disjoint paths there are, how many vertices separate the
 /// targets from the sources, and, where that is asked for, its rank. Of another: whether all elements are independent.
 pub(crate) fn route_report(alloc: Global, text: &[u8], ranked: bool) -> Result<String, AllocError> {
@@ -126,7 +135,7 @@ pub(crate) fn route_report(alloc: Global, text: &[u8], ranked: bool) -> Result<S
         return String::from_str(alloc, "too long");
     }
     match read_problem(alloc, text) {
-        Ok(problem) => told_of(alloc, &problem, ranked),
+        Ok(problem) => told_of_owned(alloc, problem, ranked),
         Err(_) => String::from_str(alloc, "no problem"),
     }
 }

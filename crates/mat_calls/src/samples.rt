@@ -16,7 +16,9 @@ const KINDS: [(SampleKind, &str); 5] = [
 // The description of a problem of six elements.
 fn sample_text(alloc: Global, kind: SampleKind) -> Result<Vec<u8>, AllocError> {
     let problem = sample(alloc, kind, 6, 7)?;
-    write_problem(alloc, &problem)
+    let text = write_problem(alloc, &problem);
+    drop(problem);
+    text
 }
 
 /// A problem of each kind that is made from a number.
