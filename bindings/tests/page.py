@@ -78,7 +78,8 @@ class Page(unittest.TestCase):
             self.browser.save_to(folder)
             self.browser.run(f"document.querySelector('{button}').click()")
             path, end = pathlib.Path(folder, name), time.monotonic() + browsers.LONGEST
-            while not path.exists() and time.monotonic() < end:
+            # A browser holds the name by an empty file until all of it is written.
+            while not (path.exists() and path.stat().st_size) and time.monotonic() < end:
                 time.sleep(0.05)
             return path.read_bytes()
 
