@@ -3,6 +3,7 @@
 ghost use Rattle.std.specs.Prelude.{◌≡◌, ◌++◌, length, slice_index, IfOk};
 ghost use Rattle.mat_sets.specs.{Limits.{largest_weight}, Graphs.{IsGraph, ends_of}, Weights.{AreWeightsWithin}};
 ghost use Rattle.mat_graphic.specs.Forests.{is_graphic};
+ghost use Rattle.mat_any.specs.{Trees.{element_count, is_independent, IsSound}, Views.{tree_of}};
 ghost use Rattle.mat_work.specs.Workers.{AreWorkers};
 ghost use Rattle.mat_fronts.specs.{Assignments.{column_at, row_at}, Once.{is_once}};
 ghost use Rattle.mat_cert.specs.Certificates.{IsRangedLadder};
@@ -19,6 +20,38 @@ use mat_graphic::Graphic;
 use mat_sets::{ElemSet, Pairs, Weight};
 use std::alloc::{AllocError, Global};
 use std::thread::Threads;
+
+// The first clause of the ladder of two matroids that fails. The matroids are dropped.
+fn owned_ladder_failure<R: Threads + Sync>(
+    rt: &R,
+    alloc: Global,
+    weights: &[Weight],
+    first: AnyMatroid,
+    second: AnyMatroid,
+    rungs: &[PricedRung],
+    cut: &ElemSet,
+    workers: u32,
+) -> Result<Option<Failure>, AllocError>
+    requires first_sound { IsSound (tree_of first) }
+    requires second_sound { IsSound (tree_of second) }
+    requires first_lengths { length weights.now ≡ element_count (tree_of first) }
+    requires second_lengths { length weights.now ≡ element_count (tree_of second) }
+    requires small { AreWeightsWithin largest_weight weights.now }
+    requires ranged { IsRangedLadder (length weights.now) rungs.now cut.now }
+    requires workers { AreWorkers workers }
+    ensures { IfOk result (λ found. found ≡ first_failure (ladder_clauses (length weights.now) (is_independent (tree_of first))
+        (is_independent (tree_of second)) weights.now rungs.now cut.now)) }
+{
+    let both = WeightedPair {
+        weights,
+        first: &first,
+        second: &second,
+    };
+    let found = ladder_failure(rt, alloc, &both, rungs, cut, workers);
+    drop(first);
+    drop(second);
+    found
+}
 
 /// The first clause of the assignments of each size that fails, as a ladder of the partition matroids of the rows and of the columns
 /// (Schrijver, chapter 17). The only error is want of memory.
@@ -46,12 +79,7 @@ pub(crate) fn assign_failure<R: Threads + Sync>(
     let by_column = AnyMatroid::Partition(Partition::one_for_each_label(
         alloc, &column_of, columns,
     )?);
-    let both = WeightedPair {
-        weights,
-        first: &by_row,
-        second: &by_column,
-    };
-    ladder_failure(rt, alloc, &both, rungs, cut, workers)
+    owned_ladder_failure(rt, alloc, weights, by_row, by_column, rungs, cut, workers)
 }
 
 // The first clause of the rainbow forests of each size that fails, as a ladder of the graphic matroid and of the partition matroid of the
@@ -79,12 +107,7 @@ fn rainbow_ladder_failure<R: Threads + Sync>(
 {
     let graphic = AnyMatroid::Graphic(Graphic::new(alloc, vertices, edges.copy(alloc)?)?);
     let classes = AnyMatroid::Partition(Partition::one_for_each_label(alloc, colour_of, colours)?);
-    let both = WeightedPair {
-        weights,
-        first: &graphic,
-        second: &classes,
-    };
-    ladder_failure(rt, alloc, &both, rungs, cut, workers)
+    owned_ladder_failure(rt, alloc, weights, graphic, classes, rungs, cut, workers)
 }
 
 /// The first clause of the rainbow forests of each size that fails, as a ladder of the graphic matroid and of the partition matroid of the

@@ -11,17 +11,17 @@ use Rattle.mat_count.proofs.LabelledMatroids.{test_of}
 use Rattle.mat_check.proofs.SameLadders.{same_ladder}
 use Rattle.mat_check.proofs.ladder.fronts.rainbow_ladder_failure.Goals as goal
 
-pub ladder_failure-requires-clause-first_lengths : goal.ladder_failure-requires-clause-first_lengths
-ladder_failure-requires-clause-first_lengths g c κs within =
+pub owned_ladder_failure-requires-clause-first_lengths : goal.owned_ladder_failure-requires-clause-first_lengths
+owned_ladder_failure-requires-clause-first_lengths g c κs within =
     let edges = ap (λ (m : Graphic). m.edges) c.in_ok-new.ensures.value ∙ c.in_ok-copy.ensures in
     c.requires.lengths ∙ sym (ap length edges)
 
-pub ladder_failure-requires-clause-second_lengths : goal.ladder_failure-requires-clause-second_lengths
-ladder_failure-requires-clause-second_lengths g c κs within =
+pub owned_ladder_failure-requires-clause-second_lengths : goal.owned_ladder_failure-requires-clause-second_lengths
+owned_ladder_failure-requires-clause-second_lengths g c κs within =
     c.requires.lengths ∙ sym c.requires.long ∙ sym (ap (λ (m : CappedClasses). m.count) c.in_ok-one_for_each_label.ensures.value)
 
-pub ladder_failure-requires-clause-ranged : goal.ladder_failure-requires-clause-ranged
-ladder_failure-requires-clause-ranged g c κs within =
+pub owned_ladder_failure-requires-clause-ranged : goal.owned_ladder_failure-requires-clause-ranged
+owned_ladder_failure-requires-clause-ranged g c κs within =
     subst (λ n. IsRangedLadder n c.args.rungs.now c.args.cut.now) (sym c.requires.lengths) c.requires.ranged
 
 pub returns : goal.returns
@@ -34,4 +34,4 @@ returns g c =
     (test_of c.in_ok-one_for_each_label.field-0) (is_graphic n (ends_of es)) (is_once n c.args.colours colour)
     c.args.weights.now c.args.rungs.now c.args.cut.now c.requires.lengths (ap (λ (xs : List (ℕ × ℕ)). is_graphic (length xs) (ends_of xs)) edges)
     (ap test_of c.in_ok-one_for_each_label.ensures.value ∙ ap (λ (m : ℕ). is_once m c.args.colours colour) c.requires.long) in
-    IfOk-weaker c.ladder_failure.result _ _ (λ found h. h ∙ ap first_failure same) c.ladder_failure.ensures
+    IfOk-weaker c.owned_ladder_failure.result _ _ (λ found h. h ∙ ap first_failure same) c.owned_ladder_failure.ensures
