@@ -1,4 +1,4 @@
-//! All rows of a job, by fork and join.
+//! All rows of a job, one after the other, and by fork and join.
 ghost use Rattle.std.specs.Prelude.{◌≡◌, ◌+◌, ◌^◌, ◌<◌, ◌≤◌, IfOk, length};
 ghost use denote.Param.Send.{IsSync, IsSend};
 ghost use Rattle.mat_work.specs.{Rows.{StandFrom}, Workers.{AreWorkers}};
@@ -10,7 +10,7 @@ use std::thread::{Threads, join};
 /// The rows of `count` numbers from `from` on, one after the other. The only error is want of memory: that of the first row that
 /// answers it, or of the list.
 #[tactic(auto, using(crate::proofs::StandingRows::StandFrom_push))]
-fn rows_in_turn<J: RowJob>(
+pub fn rows_in_turn<J: RowJob>(
     alloc: Global,
     job: &J,
     from: u32,

@@ -5,6 +5,8 @@ mod forks;
 mod row_job;
 #[cfg(test)]
 mod tests;
+mod workers;
 
-pub use forks::all_rows;
+pub use forks::{all_rows, rows_in_turn};
 pub use row_job::RowJob;
+pub use workers::Workers;
