@@ -92,8 +92,9 @@ fn enter_next<M: Matroid>(
     }
 }
 
-/// The table of all rows, which are made one after the other and are not kept as lists.
-fn table_in_turn<M: Matroid>(
+/// The exchanges of all elements at an independent set, by what the matroid keeps of the set, one after the other: none is kept as a list.
+/// The only error is want of memory.
+pub fn table_in_turn<M: Matroid>(
     alloc: Global,
     m: &M,
     set: &ElemSet,

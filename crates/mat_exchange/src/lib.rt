@@ -16,7 +16,7 @@ mod slack;
 mod steps;
 mod tight_arcs;
 
-pub use exchanges::{rows, rows_from_kept};
+pub use exchanges::{rows, rows_from_kept, table_in_turn};
 pub use found::Found;
 pub use grown::Grown;
 pub use growth::grow;

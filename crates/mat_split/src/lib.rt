@@ -8,5 +8,5 @@ mod intersect;
 mod ladder;
 pub mod laws;
 
-pub use intersect::intersect_all;
+pub use intersect::{intersect_all, intersect_in_turn};
 pub use ladder::{Ladder, Rung};

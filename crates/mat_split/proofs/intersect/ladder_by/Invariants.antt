@@ -1,6 +1,6 @@
 use Rattle.std.proofs.Common.{◌+◌, ◌-◌, length}
 use Rattle.mat_split.proofs.RungSteps.{AreRungs}
-use Rattle.mat_split.proofs.intersect.intersect_all.Given as goal
+use Rattle.mat_split.proofs.intersect.ladder_by.Given as goal
 
 abbrev pub invariant-loop-second_kept : goal.invariant-loop-second_kept
 invariant-loop-second_kept g l =

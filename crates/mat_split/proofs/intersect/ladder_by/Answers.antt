@@ -1,7 +1,7 @@
 use Rattle.std.proofs.Common.{subst}
 use Rattle.mat_split.specs.Augmenting.{IsAugmented}
 use Rattle.mat_split.proofs.RungSteps.{AreRungs-start, AreRungs-next, IsLadder-end, fewer_left, own_rung, weights_within}
-use Rattle.mat_split.proofs.intersect.intersect_all.Goals as goal
+use Rattle.mat_split.proofs.intersect.ladder_by.Goals as goal
 
 pub loop-second_kept-init : goal.loop-second_kept-init
 loop-second_kept-init g c =
