@@ -14,14 +14,14 @@ ghost use Rattle.mat_solve.specs.{
 
 use crate::forms::only_matroid;
 use crate::query::Query;
+use crate::workers::SolveWorkers;
 use mat_cert::{Answer, PlainRung, PricedRung};
 use mat_desc::Problem;
 use mat_greedy::heaviest_each;
 use mat_laws::Matroid;
 use mat_sets::{ElemSet, Weight, weigh};
-use mat_split::{Rung, intersect_all};
+use mat_split::Rung;
 use std::alloc::{AllocError, Global};
-use std::thread::Threads;
 
 // The rung with the weight of its set.
 fn priced(rung: Rung, weights: &[Weight]) -> PricedRung
@@ -93,12 +93,13 @@ pub(crate) fn best(alloc: Global, problem: &Problem) -> Result<Answer, AllocErro
 }
 
 /// A heaviest common independent set of two matroids for each size, found by so many workers. The only error is want of memory.
-pub(crate) fn intersect<R: Threads + Sync>(
+pub(crate) fn intersect<R: SolveWorkers>(
     rt: &R,
     alloc: Global,
     problem: &Problem,
     workers: u32,
 ) -> Result<Answer, AllocError>
+    requires shared { R.shared rt.now }
     requires valid { IsValid (instance_of problem.now) }
     requires sound { IsSoundInstance (instance_of problem.now) }
     requires form { is_pair (instance_of problem.now) ≡ true }
@@ -116,7 +117,7 @@ pub(crate) fn intersect<R: Threads + Sync>(
     };
     first.lawful();
     second.lawful();
-    let ladder = intersect_all(rt, alloc, first, second, weights.as_slice(), workers)?;
+    let ladder = rt.ladder_of(alloc, first, second, weights.as_slice(), workers)?;
     let rungs = priced_rungs(alloc, ladder.rungs, weights.as_slice())?;
     Ok(Answer::Intersect {
         count: weights.len() as u32,
@@ -125,16 +126,10 @@ pub(crate) fn intersect<R: Threads + Sync>(
     })
 }
 
-/// A heaviest forest with pairwise different colours for each size, found by so many workers. The only error is want of memory.
-pub(crate) fn rainbow<R: Threads + Sync>(
-    rt: &R,
-    alloc: Global,
-    problem: &Problem,
-    workers: u32,
-) -> Result<Answer, AllocError>
+/// A heaviest forest with pairwise different colours for each size. The only error is want of memory.
+pub(crate) fn rainbow(alloc: Global, problem: &Problem) -> Result<Answer, AllocError>
     requires valid { IsValid (instance_of problem.now) }
     requires form { is_coloured (instance_of problem.now) ≡ true }
-    requires workers { AreWorkers workers }
     ensures of_query { IfOk result (λ answer. IsAnswerOf Query.Rainbow (certificate_of answer)) }
     ensures solution { IfOk result (λ answer. IsSolution (instance_of problem.now) (certificate_of answer)) }
 {
@@ -149,14 +144,12 @@ pub(crate) fn rainbow<R: Threads + Sync>(
         unreachable!()
     };
     let found = mat_fronts::rainbow(
-        rt,
         alloc,
         *vertices,
         edges,
         *colours,
         colour_of,
         weights.as_slice(),
-        workers,
     )?;
     let ladder = found.ladder;
     let rungs = priced_rungs(alloc, ladder.rungs, weights.as_slice())?;
@@ -170,16 +163,10 @@ pub(crate) fn rainbow<R: Threads + Sync>(
     })
 }
 
-/// A heaviest assignment in a table for each size, found by so many workers. The only error is want of memory.
-pub(crate) fn assign<R: Threads + Sync>(
-    rt: &R,
-    alloc: Global,
-    problem: &Problem,
-    workers: u32,
-) -> Result<Answer, AllocError>
+/// A heaviest assignment in a table for each size. The only error is want of memory.
+pub(crate) fn assign(alloc: Global, problem: &Problem) -> Result<Answer, AllocError>
     requires valid { IsValid (instance_of problem.now) }
     requires form { is_table (instance_of problem.now) ≡ true }
-    requires workers { AreWorkers workers }
     ensures of_query { IfOk result (λ answer. IsAnswerOf Query.Assign (certificate_of answer)) }
     ensures solution { IfOk result (λ answer. IsSolution (instance_of problem.now) (certificate_of answer)) }
 {
@@ -192,15 +179,7 @@ pub(crate) fn assign<R: Threads + Sync>(
     else {
         unreachable!()
     };
-    let ladder = mat_fronts::assign(
-        rt,
-        alloc,
-        *rows,
-        *columns,
-        cells,
-        weights.as_slice(),
-        workers,
-    )?;
+    let ladder = mat_fronts::assign(alloc, *rows, *columns, cells, weights.as_slice())?;
     let rungs = priced_rungs(alloc, ladder.rungs, weights.as_slice())?;
     Ok(Answer::Assign {
         count: cells.len() as u32,

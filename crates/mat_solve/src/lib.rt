@@ -8,7 +8,9 @@ mod query;
 mod sets;
 mod solver;
 mod trees;
+mod workers;
 
 pub use forms::has_form;
 pub use query::Query;
 pub use solver::solve;
+pub use workers::SolveWorkers;

@@ -10,20 +10,21 @@ use crate::ladders::{assign, best, intersect, rainbow};
 use crate::query::Query;
 use crate::sets::{cover, pack, union};
 use crate::trees::{arborescence, disjoint, trees};
+use crate::workers::SolveWorkers;
 use mat_any::has_union;
 use mat_cert::Answer;
 use mat_desc::Problem;
 use std::alloc::{AllocError, Global};
-use std::thread::Threads;
 
 /// A right answer to the query about a problem of its form, found by so many workers. The only error is want of memory.
-pub fn solve<R: Threads + Sync>(
+pub fn solve<R: SolveWorkers>(
     rt: &R,
     alloc: Global,
     problem: &Problem,
     query: Query,
     workers: u32,
 ) -> Result<Answer, AllocError>
+    requires shared { R.shared rt.now }
     requires valid { IsValid (instance_of problem.now) }
     requires sound { IsSoundInstance (instance_of problem.now) }
     requires range { IsQueryInRange query }
@@ -39,15 +40,10 @@ pub fn solve<R: Threads + Sync>(
         Query::Pack => pack(alloc, problem),
         Query::Cover => cover(alloc, problem),
         Query::Trees(k) => trees(alloc, problem, k),
-        Query::Arborescence => arborescence(
-            rt,
-            alloc,
-            problem,
-            worthwhile_workers(problem, workers),
-        ),
+        Query::Arborescence => arborescence(alloc, problem),
         Query::Disjoint(k) => disjoint(alloc, problem, k),
-        Query::Rainbow => rainbow(rt, alloc, problem, worthwhile_workers(problem, workers)),
-        Query::Assign => assign(rt, alloc, problem, worthwhile_workers(problem, workers)),
+        Query::Rainbow => rainbow(alloc, problem),
+        Query::Assign => assign(alloc, problem),
     }
 }
 

@@ -2,7 +2,6 @@
 
 ghost use Rattle.std.specs.Prelude.{◌≡◌, ◌≤◌, true, IfOk};
 ghost use Rattle.mat_sets.specs.Limits.{most_trees};
-ghost use Rattle.mat_work.specs.Workers.{AreWorkers};
 ghost use Rattle.mat_desc.specs.{Views.{instance_of}, Grammar.{IsValid}};
 ghost use Rattle.mat_cert.specs.Views.{certificate_of};
 ghost use Rattle.mat_check.specs.Fitting.{is_graph, is_rooted};
@@ -17,7 +16,6 @@ use mat_flow::Digraph;
 use mat_packing::pack_trees;
 use mat_sets::weigh;
 use std::alloc::{AllocError, Global};
-use std::thread::Threads;
 
 /// So many disjoint spanning trees, or a partition of the vertices that allows no so many. The only error is want of memory.
 pub(crate) fn trees(alloc: Global, problem: &Problem, k: u32) -> Result<Answer, AllocError>
@@ -47,17 +45,10 @@ pub(crate) fn trees(alloc: Global, problem: &Problem, k: u32) -> Result<Answer, 
     }
 }
 
-/// A cheapest spanning arborescence with its cost, or the vertices that the root does not reach. The workers are handed on, and none is
-/// needed. The only error is want of memory.
-pub(crate) fn arborescence<R: Threads + Sync>(
-    rt: &R,
-    alloc: Global,
-    problem: &Problem,
-    workers: u32,
-) -> Result<Answer, AllocError>
+/// A cheapest spanning arborescence with its cost, or the vertices that the root does not reach. The only error is want of memory.
+pub(crate) fn arborescence(alloc: Global, problem: &Problem) -> Result<Answer, AllocError>
     requires valid { IsValid (instance_of problem.now) }
     requires form { is_rooted (instance_of problem.now) ≡ true }
-    requires workers { AreWorkers workers }
     ensures of_query { IfOk result (λ answer. IsAnswerOf Query.Arborescence (certificate_of answer)) }
     ensures solution { IfOk result (λ answer. IsSolution (instance_of problem.now) (certificate_of answer)) }
 {
@@ -71,7 +62,7 @@ pub(crate) fn arborescence<R: Threads + Sync>(
         unreachable!()
     };
     let count = arcs.len() as u32;
-    let found = least_arborescence(rt, alloc, *vertices, arcs, costs.as_slice(), *root, workers)?;
+    let found = least_arborescence(alloc, *vertices, arcs, costs.as_slice(), *root)?;
     match found {
         Arbor::Tree {
             arcs,

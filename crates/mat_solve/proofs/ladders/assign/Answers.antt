@@ -4,7 +4,7 @@ use Rattle.mat_solve.proofs.FrontSolutions.{assign_few, assign_solution}
 use Rattle.mat_solve.proofs.ladders.assign.Goals as goal
 
 pub assign-requires-clause-cells : goal.assign-requires-clause-cells
-assign-requires-clause-cells g c κs within =
+assign-requires-clause-cells g c =
     let here = c.in-Table in
     table_has_cells here.rows here.columns here.cells here.weights (rw here.is at c.requires.valid)
 

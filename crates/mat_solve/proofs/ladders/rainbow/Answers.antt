@@ -4,12 +4,12 @@ use Rattle.mat_solve.proofs.FrontSolutions.{rainbow_few, rainbow_solution}
 use Rattle.mat_solve.proofs.ladders.rainbow.Goals as goal
 
 pub rainbow-requires-clause-graph : goal.rainbow-requires-clause-graph
-rainbow-requires-clause-graph g c κs within =
+rainbow-requires-clause-graph g c =
     let here = c.in-Coloured in
     coloured_is_graph here.vertices here.colours here.edges here.colour_of.items here.weights (rw here.is at c.requires.valid)
 
 pub rainbow-requires-clause-colouring : goal.rainbow-requires-clause-colouring
-rainbow-requires-clause-colouring g c κs within =
+rainbow-requires-clause-colouring g c =
     let here = c.in-Coloured in
     rw c.deref.ensures.value
     (coloured_is_coloured here.vertices here.colours here.edges here.colour_of.items here.weights (rw here.is at c.requires.valid))

@@ -3,7 +3,7 @@ use Rattle.mat_solve.proofs.TreeSolutions.{arbor_few, arbor_solution, unreached_
 use Rattle.mat_solve.proofs.trees.arborescence.Goals as goal
 
 pub least_arborescence-requires-clause-graph : goal.least_arborescence-requires-clause-graph
-least_arborescence-requires-clause-graph g c κs within =
+least_arborescence-requires-clause-graph g c =
     let here = c.in-Rooted in
     rooted_is_graph here.vertices here.root here.arcs here.costs (rw here.is at c.requires.valid)
 
