@@ -19,19 +19,20 @@ use crate::ladder::rung::WeightedPair;
 use crate::matroid_answers::{list_failure, pair_failure};
 use crate::reason::{Failure, Reason};
 use crate::verdict::Verdict;
+use crate::workers::CheckWorkers;
 use mat_cert::Answer;
 use mat_desc::Problem;
 use std::alloc::{AllocError, Global};
-use std::thread::Threads;
 
 // The first clause behind the header of an answer that fails.
-fn answer_failure<R: Threads + Sync>(
+fn answer_failure<R: CheckWorkers>(
     rt: &R,
     alloc: Global,
     problem: &Problem,
     answer: &Answer,
     workers: u32,
 ) -> Result<Option<Failure>, AllocError>
+    requires shared { R.shared rt.now }
     requires valid { IsValid (instance_of problem.now) }
     requires sound { IsSoundInstance (instance_of problem.now) }
     requires ranged { IsRanged (certificate_of answer.now) }
@@ -89,13 +90,14 @@ fn answer_failure<R: Threads + Sync>(
 /// for each cut or last set, and one run of the greedy algorithm, of at most n questions, for each part of a split that isn't
 /// that of the rung before. The workers, from 1 to 16, share the runs and then the rungs of a ladder: all rungs are judged, each from its
 /// own data, and the first failure in their order is told. The only error is want of memory.
-pub fn check<R: Threads + Sync>(
+pub fn check<R: CheckWorkers>(
     rt: &R,
     alloc: Global,
     problem: &Problem,
     answer: &Answer,
     workers: u32,
 ) -> Result<Verdict, AllocError>
+    requires shared { R.shared rt.now }
     requires fits { fits (instance_of problem.now) (certificate_of answer.now) ≡ true }
     requires valid { IsValid (instance_of problem.now) }
     requires sound { IsSoundInstance (instance_of problem.now) }

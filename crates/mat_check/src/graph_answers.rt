@@ -11,10 +11,10 @@ use crate::graphs::disjoint_arborescences::{disjoint_failure, seldom_entered_fai
 use crate::graphs::trees::{partition_failure, trees_failure};
 use crate::ladder::fronts::{assign_failure, rainbow_failure};
 use crate::reason::Failure;
+use crate::workers::CheckWorkers;
 use mat_cert::Answer;
 use mat_sets::{PairWeights, Pairs, Weight};
 use std::alloc::{AllocError, Global};
-use std::thread::Threads;
 
 /// The first clause behind the header of an answer about a graph that fails. The only error is want of memory.
 pub(crate) fn graph_failure(
@@ -79,7 +79,7 @@ pub(crate) fn rooted_failure(
 }
 
 /// The first clause behind the header of an answer about a graph with colours that fails. The only error is want of memory.
-pub(crate) fn coloured_failure<R: Threads + Sync>(
+pub(crate) fn coloured_failure<R: CheckWorkers>(
     rt: &R,
     alloc: Global,
     vertices: u32,
@@ -90,6 +90,7 @@ pub(crate) fn coloured_failure<R: Threads + Sync>(
     answer: &Answer,
     workers: u32,
 ) -> Result<Option<Failure>, AllocError>
+    requires shared { R.shared rt.now }
     requires valid { IsValid (coloured vertices colours edges.now colour_of.now weights.now) }
     requires ranged { IsRanged (certificate_of answer.now) }
     requires header { has_header (coloured vertices colours edges.now colour_of.now weights.now) (certificate_of answer.now) ≡ true }
@@ -121,7 +122,7 @@ pub(crate) fn coloured_failure<R: Threads + Sync>(
 }
 
 /// The first clause behind the header of an answer about a table that fails. The only error is want of memory.
-pub(crate) fn table_failure<R: Threads + Sync>(
+pub(crate) fn table_failure<R: CheckWorkers>(
     rt: &R,
     alloc: Global,
     rows: u32,
@@ -131,6 +132,7 @@ pub(crate) fn table_failure<R: Threads + Sync>(
     answer: &Answer,
     workers: u32,
 ) -> Result<Option<Failure>, AllocError>
+    requires shared { R.shared rt.now }
     requires valid { IsValid (table rows columns cells.now weights.now) }
     requires ranged { IsRanged (certificate_of answer.now) }
     requires header { has_header (table rows columns cells.now weights.now) (certificate_of answer.now) ≡ true }

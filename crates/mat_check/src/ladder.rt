@@ -12,22 +12,22 @@ pub(crate) mod fronts;
 mod halves;
 mod last_rung;
 pub(crate) mod rung;
-mod rung_sums;
-mod rungs;
+pub(crate) mod rung_sums;
+pub(crate) mod rungs;
 
 use crate::ladder::last_rung::{cut_holds, last_failure};
 use crate::ladder::rung::WeightedPair;
 use crate::ladder::rungs::{plain_rungs_failure, priced_rungs_failure};
 use crate::reason::{Failure, Reason};
+use crate::workers::CheckWorkers;
 use mat_any::AnyMatroid;
 use mat_cert::{PlainRung, PricedRung};
 use mat_sets::{ElemSet, Weight};
 use std::alloc::{AllocError, Global};
-use std::thread::Threads;
 
 /// The first clause of a ladder of two matroids that fails: those of the rungs, and then that of the cut, which takes at most as many
 /// questions of independence as there are elements (the bound by the cut is Edmonds'). The only error is want of memory.
-pub(crate) fn ladder_failure<R: Threads + Sync>(
+pub(crate) fn ladder_failure<R: CheckWorkers>(
     rt: &R,
     alloc: Global,
     both: &WeightedPair,
@@ -35,6 +35,7 @@ pub(crate) fn ladder_failure<R: Threads + Sync>(
     cut: &ElemSet,
     workers: u32,
 ) -> Result<Option<Failure>, AllocError>
+    requires shared { R.shared rt.now }
     requires first_sound { IsSound (tree_of both.now.first.now) }
     requires second_sound { IsSound (tree_of both.now.second.now) }
     requires first_lengths { length both.now.weights.now ≡ element_count (tree_of both.now.first.now) }
@@ -56,7 +57,7 @@ pub(crate) fn ladder_failure<R: Threads + Sync>(
 
 /// The first clause of the heaviest sets of a matroid that fails: those of the rungs, and then that no element can be added to the
 /// last set. The only error is want of memory.
-pub(crate) fn best_failure<R: Threads + Sync>(
+pub(crate) fn best_failure<R: CheckWorkers>(
     rt: &R,
     alloc: Global,
     m: &AnyMatroid,
@@ -64,6 +65,7 @@ pub(crate) fn best_failure<R: Threads + Sync>(
     rungs: &[PlainRung],
     workers: u32,
 ) -> Result<Option<Failure>, AllocError>
+    requires shared { R.shared rt.now }
     requires sound { IsSound (tree_of m.now) }
     requires lengths { length weights.now ≡ element_count (tree_of m.now) }
     requires small { AreWeightsWithin largest_weight weights.now }

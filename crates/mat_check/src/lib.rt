@@ -12,9 +12,11 @@ mod matroid_answers;
 mod reason;
 mod sets;
 mod verdict;
+mod workers;
 
 pub use checker::check;
 pub use fitting::{fits, is_single_list};
 pub use laws::{right_has_no_failure, right_is_optimal};
 pub use reason::Reason;
 pub use verdict::Verdict;
+pub use workers::CheckWorkers;

@@ -13,20 +13,21 @@ use crate::reason::Failure;
 use crate::sets::coverings::{cover_failure, loop_failure};
 use crate::sets::packings::{no_rank_failure, pack_failure};
 use crate::sets::unions::union_failure;
+use crate::workers::CheckWorkers;
 use mat_any::AnyMatroid;
 use mat_cert::Answer;
 use mat_sets::Weight;
 use std::alloc::{AllocError, Global};
-use std::thread::Threads;
 
 /// The first clause behind the header of an answer about a pair of matroids that fails. The only error is want of memory.
-pub(crate) fn pair_failure<R: Threads + Sync>(
+pub(crate) fn pair_failure<R: CheckWorkers>(
     rt: &R,
     alloc: Global,
     both: &WeightedPair,
     answer: &Answer,
     workers: u32,
 ) -> Result<Option<Failure>, AllocError>
+    requires shared { R.shared rt.now }
     requires valid { IsValid (pair both.now.weights.now (tree_of both.now.first.now) (tree_of both.now.second.now)) }
     requires sound { IsSoundInstance (pair both.now.weights.now (tree_of both.now.first.now) (tree_of both.now.second.now)) }
     requires ranged { IsRanged (certificate_of answer.now) }
@@ -45,7 +46,7 @@ pub(crate) fn pair_failure<R: Threads + Sync>(
 }
 
 // The first clause behind the header of an answer about one matroid that fails.
-fn single_failure<R: Threads + Sync>(
+fn single_failure<R: CheckWorkers>(
     rt: &R,
     alloc: Global,
     weights: &[Weight],
@@ -53,6 +54,7 @@ fn single_failure<R: Threads + Sync>(
     answer: &Answer,
     workers: u32,
 ) -> Result<Option<Failure>, AllocError>
+    requires shared { R.shared rt.now }
     requires valid { IsValid (list weights.now (tree_of m.now ∷ [])) }
     requires sound { IsSoundInstance (list weights.now (tree_of m.now ∷ [])) }
     requires ranged { IsRanged (certificate_of answer.now) }
@@ -72,7 +74,7 @@ fn single_failure<R: Threads + Sync>(
 }
 
 /// The first clause behind the header of an answer about a list of matroids that fails. The only error is want of memory.
-pub(crate) fn list_failure<R: Threads + Sync>(
+pub(crate) fn list_failure<R: CheckWorkers>(
     rt: &R,
     alloc: Global,
     weights: &[Weight],
@@ -80,6 +82,7 @@ pub(crate) fn list_failure<R: Threads + Sync>(
     answer: &Answer,
     workers: u32,
 ) -> Result<Option<Failure>, AllocError>
+    requires shared { R.shared rt.now }
     requires valid { IsValid (list weights.now (map tree_of matroids.now)) }
     requires sound { IsSoundInstance (list weights.now (map tree_of matroids.now)) }
     requires ranged { IsRanged (certificate_of answer.now) }

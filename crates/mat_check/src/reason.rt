@@ -96,7 +96,7 @@ impl Reason {
 
 /// A clause that fails: why, and at which two places of the answer.
 #[derive(Clone, Copy)]
-pub(crate) struct Failure {
+pub struct Failure {
     pub(crate) reason: Reason,
     pub(crate) first_place: u32,
     pub(crate) second_place: u32,

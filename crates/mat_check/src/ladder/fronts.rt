@@ -13,13 +13,13 @@ use crate::ladder::colours::colours_failure;
 use crate::ladder::ladder_failure;
 use crate::ladder::rung::WeightedPair;
 use crate::reason::Failure;
+use crate::workers::CheckWorkers;
 use mat_any::AnyMatroid;
 use mat_cert::PricedRung;
 use mat_count::Partition;
 use mat_graphic::Graphic;
 use mat_sets::{ElemSet, Pairs, Weight};
 use std::alloc::{AllocError, Global};
-use std::thread::Threads;
 
 // The first clause of the ladder of two matroids that fails. The matroids are dropped.
 fn owned_ladder_failure<R: Threads + Sync>(
@@ -55,7 +55,7 @@ fn owned_ladder_failure<R: Threads + Sync>(
 
 /// The first clause of the assignments of each size that fails, as a ladder of the partition matroids of the rows and of the columns
 /// (Schrijver, chapter 17). The only error is want of memory.
-pub(crate) fn assign_failure<R: Threads + Sync>(
+pub(crate) fn assign_failure<R: CheckWorkers>(
     rt: &R,
     alloc: Global,
     rows: u32,
@@ -66,6 +66,7 @@ pub(crate) fn assign_failure<R: Threads + Sync>(
     cut: &ElemSet,
     workers: u32,
 ) -> Result<Option<Failure>, AllocError>
+    requires shared { R.shared rt.now }
     requires lengths { length weights.now ≡ length cells.now }
     requires small { AreWeightsWithin largest_weight weights.now }
     requires ranged { IsRangedLadder (length cells.now) rungs.now cut.now }
@@ -84,7 +85,7 @@ pub(crate) fn assign_failure<R: Threads + Sync>(
 
 // The first clause of the rainbow forests of each size that fails, as a ladder of the graphic matroid and of the partition matroid of the
 // colours (Schrijver, chapter 41).
-fn rainbow_ladder_failure<R: Threads + Sync>(
+fn rainbow_ladder_failure<R: CheckWorkers>(
     rt: &R,
     alloc: Global,
     vertices: u32,
@@ -96,6 +97,7 @@ fn rainbow_ladder_failure<R: Threads + Sync>(
     cut: &ElemSet,
     workers: u32,
 ) -> Result<Option<Failure>, AllocError>
+    requires shared { R.shared rt.now }
     requires graph { IsGraph vertices edges.now }
     requires long { length colour_of.now ≡ length edges.now }
     requires lengths { length weights.now ≡ length edges.now }
@@ -112,7 +114,7 @@ fn rainbow_ladder_failure<R: Threads + Sync>(
 
 /// The first clause of the rainbow forests of each size that fails, as a ladder of the graphic matroid and of the partition matroid of the
 /// colours, and then that of the missing colours (Schrijver, chapter 41). The only error is want of memory.
-pub(crate) fn rainbow_failure<R: Threads + Sync>(
+pub(crate) fn rainbow_failure<R: CheckWorkers>(
     rt: &R,
     alloc: Global,
     vertices: u32,
@@ -125,6 +127,7 @@ pub(crate) fn rainbow_failure<R: Threads + Sync>(
     missing: &Option<ElemSet>,
     workers: u32,
 ) -> Result<Option<Failure>, AllocError>
+    requires shared { R.shared rt.now }
     requires graph { IsGraph vertices edges.now }
     requires long { length colour_of.now ≡ length edges.now }
     requires lengths { length weights.now ≡ length edges.now }

@@ -9,18 +9,18 @@ ghost use Rattle.mat_cert.specs.Certificates.{IsRangedPart};
 ghost use Rattle.mat_check.specs.Halves.{halves_of, half_at};
 
 use crate::ladder::halves::{Side, half, list_halves};
+use crate::workers::CheckWorkers;
 use mat_any::AnyMatroid;
 use mat_cert::PricedRung;
 use mat_greedy::heaviest_weights;
 use mat_sets::{PairWeights, Weight};
-use mat_work::{RowJob, all_rows};
+use mat_work::RowJob;
 use std::alloc::{AllocError, Global};
 use std::marker::Model;
-use std::thread::Threads;
 
 /// One run of the greedy algorithm for each listed half. It is seen as the matroid and the halves.
 #[derive(Drop)]
-struct GreedyRuns<'a> {
+pub struct GreedyRuns<'a> {
     alloc: Global,
     matroid: &'a AnyMatroid,
     rungs: &'a [PricedRung],
@@ -112,7 +112,7 @@ impl RungSums {
 
 /// The weights of heaviest sets under the halves of all rungs, by one run of the greedy algorithm for each half that isn't that of
 /// the rung before. The only error is want of memory.
-pub(crate) fn rung_sums<R: Threads + Sync>(
+pub(crate) fn rung_sums<R: CheckWorkers>(
     rt: &R,
     alloc: Global,
     m: &AnyMatroid,
@@ -120,6 +120,7 @@ pub(crate) fn rung_sums<R: Threads + Sync>(
     side: Side,
     workers: u32,
 ) -> Result<RungSums, AllocError>
+    requires shared { R.shared rt.now }
     requires sound { IsSound (tree_of m.now) }
     requires few { element_count (tree_of m.now) ≤ most_elements }
     requires no_more { length rungs.now ≤ most_elements + 1 }
@@ -138,7 +139,7 @@ pub(crate) fn rung_sums<R: Threads + Sync>(
         side,
         listed: &halves.listed,
     };
-    let sums = all_rows(rt, alloc, &runs, halves.listed.len() as u32, workers)?;
+    let sums = rt.greedy_rows(alloc, &runs, halves.listed.len() as u32, workers)?;
     Ok(RungSums {
         own: halves.own,
         sums,

@@ -14,18 +14,18 @@ use crate::ladder::halves::Side;
 use crate::ladder::rung::{WeightedPair, plain_rung_failure, priced_rung_failure};
 use crate::ladder::rung_sums::{RungSums, rung_sums};
 use crate::reason::Failure;
+use crate::workers::CheckWorkers;
 use mat_any::AnyMatroid;
 use mat_cert::{PlainRung, PricedRung};
 use mat_greedy::heaviest_weights;
 use mat_sets::{PairWeights, Weight};
-use mat_work::{RowJob, all_rows};
+use mat_work::RowJob;
 use std::alloc::{AllocError, Global};
 use std::marker::Model;
-use std::thread::Threads;
 
 /// The first failure of the rungs of a matroid. It is seen as the list of the first failures, rung by rung.
 #[derive(Drop)]
-struct PlainFailures<'a> {
+pub struct PlainFailures<'a> {
     alloc: Global,
     matroid: &'a AnyMatroid,
     weights: &'a [Weight],
@@ -77,7 +77,7 @@ impl RowJob for PlainFailures<'_> {
 
 /// The first failure of the rungs of two matroids. It is seen as the list of the first failures, rung by rung.
 #[derive(Drop)]
-struct PricedFailures<'a> {
+pub struct PricedFailures<'a> {
     alloc: Global,
     pair: &'a WeightedPair<'a>,
     first: &'a RungSums,
@@ -149,7 +149,7 @@ fn first_found(failures: &[Option<Failure>]) -> Option<Failure>
 
 /// The first clause of the rungs of a matroid that fails: one run of the greedy algorithm, and one question of independence for
 /// each rung. All rungs are judged, each by one worker, and the first failure in their order is told. The only error is want of memory.
-pub(crate) fn plain_rungs_failure<R: Threads + Sync>(
+pub(crate) fn plain_rungs_failure<R: CheckWorkers>(
     rt: &R,
     alloc: Global,
     m: &AnyMatroid,
@@ -157,6 +157,7 @@ pub(crate) fn plain_rungs_failure<R: Threads + Sync>(
     rungs: &[PlainRung],
     workers: u32,
 ) -> Result<Option<Failure>, AllocError>
+    requires shared { R.shared rt.now }
     requires sound { IsSound (tree_of m.now) }
     requires lengths { length weights.now ≡ element_count (tree_of m.now) }
     requires small { AreWeightsWithin largest_number weights.now }
@@ -173,7 +174,7 @@ pub(crate) fn plain_rungs_failure<R: Threads + Sync>(
         heaviest: &heaviest,
         rungs,
     };
-    let failures = all_rows(rt, alloc, &job, rungs.len() as u32, workers)?;
+    let failures = rt.plain_failures(alloc, &job, rungs.len() as u32, workers)?;
     Ok(first_found(&failures))
 }
 
@@ -181,13 +182,14 @@ pub(crate) fn plain_rungs_failure<R: Threads + Sync>(
 /// run of the greedy algorithm for each half of a split that isn't that of the rung before. First the workers share these runs, for one
 /// matroid and then for the other, and then the rungs: all are judged, and the first failure in their order is told. The only error
 /// is want of memory.
-pub(crate) fn priced_rungs_failure<R: Threads + Sync>(
+pub(crate) fn priced_rungs_failure<R: CheckWorkers>(
     rt: &R,
     alloc: Global,
     pair: &WeightedPair,
     rungs: &[PricedRung],
     workers: u32,
 ) -> Result<Option<Failure>, AllocError>
+    requires shared { R.shared rt.now }
     requires first_sound { IsSound (tree_of pair.now.first.now) }
     requires second_sound { IsSound (tree_of pair.now.second.now) }
     requires first_lengths { length pair.now.weights.now ≡ element_count (tree_of pair.now.first.now) }
@@ -208,6 +210,6 @@ pub(crate) fn priced_rungs_failure<R: Threads + Sync>(
         second: &second,
         rungs,
     };
-    let failures = all_rows(rt, alloc, &job, rungs.len() as u32, workers)?;
+    let failures = rt.priced_failures(alloc, &job, rungs.len() as u32, workers)?;
     Ok(first_found(&failures))
 }

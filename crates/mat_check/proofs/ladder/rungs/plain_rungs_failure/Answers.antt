@@ -13,8 +13,8 @@ returns g c =
     ∙ first_of_found clauses c.args.rungs.now c.in_ok-failures.failures.items c.in_ok-failures.ensures.count
     c.in_ok-failures.ensures.rows
 
-pub all_rows-requires-clause-below : goal.all_rows-requires-clause-below
-all_rows-requires-clause-below g c κs within =
+pub plain_failures-requires-clause-below : goal.plain_failures-requires-clause-below
+plain_failures-requires-clause-below g c κs within =
     let clauses = plain_rung_clauses (length c.args.weights.now) (is_independent (tree_of c.args.m.now)) c.args.weights.now in
     let count = length-rungs_failures clauses 0 c.args.rungs.now in
     omega (arith, count)

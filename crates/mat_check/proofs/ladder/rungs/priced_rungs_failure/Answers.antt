@@ -24,8 +24,8 @@ pub rung_sums-requires-2-clause-ranged : goal.rung_sums-requires-2-clause-ranged
 rung_sums-requires-2-clause-ranged g c κs within =
     half_ranged Second (length c.args.pair.now.weights.now) _ c.args.rungs.now c.requires.ranged c.requires.second_lengths
 
-pub all_rows-requires-clause-below : goal.all_rows-requires-clause-below
-all_rows-requires-clause-below g c κs within =
+pub priced_failures-requires-clause-below : goal.priced_failures-requires-clause-below
+priced_failures-requires-clause-below g c κs within =
     let clauses = priced_rung_clauses (length c.args.pair.now.weights.now) (is_independent (tree_of c.args.pair.now.first.now))
     (is_independent (tree_of c.args.pair.now.second.now)) c.args.pair.now.weights.now in
     let count = length-rungs_failures clauses 0 c.args.rungs.now in
