@@ -14,11 +14,10 @@ ghost use Rattle.mat_judge.specs.{
 
 use crate::reading::{Unread, read_all};
 use mat_cert::{Answer, CertKind, CertRefusal, read_answer};
-use mat_check::{Reason, Verdict, check, fits};
+use mat_check::{CheckWorkers, Reason, Verdict, check, fits};
 use mat_desc::Problem;
 use mat_shelf::Shelf;
 use std::alloc::{AllocError, Global};
-use std::thread::Threads;
 use thiserror::Error;
 
 // The most bytes that a certificate may have.
@@ -100,7 +99,7 @@ pub fn answer_in<F: Shelf>(alloc: Global, files: &mut F, name: &str) -> Result<A
 
 /// The right answer to a problem that the file of this name has, judged by so many workers, 1 to 16: `WrongShape` comes where the answer is to
 /// another form of problem, and `No` with the first clause that fails where it isn't right.
-pub fn right_answer_in<R: Threads + Sync, F: Shelf>(
+pub fn right_answer_in<R: CheckWorkers, F: Shelf>(
     rt: &R,
     alloc: Global,
     files: &mut F,
@@ -108,6 +107,7 @@ pub fn right_answer_in<R: Threads + Sync, F: Shelf>(
     problem: &Problem,
     workers: u32,
 ) -> Result<Answer, NotRight>
+    requires shared { R.shared rt.now }
     requires valid { IsValid (instance_of problem.now) }
     requires sound { IsSoundInstance (instance_of problem.now) }
     requires workers { AreWorkers workers }
@@ -132,7 +132,7 @@ pub fn right_answer_in<R: Threads + Sync, F: Shelf>(
 
 /// Judges the certificate in the file of this name, by so many workers, 1 to 16: it has a right answer to the problem, or it is told why not, as
 /// by `right_answer_in`.
-pub fn judge<R: Threads + Sync, F: Shelf>(
+pub fn judge<R: CheckWorkers, F: Shelf>(
     rt: &R,
     alloc: Global,
     files: &mut F,
@@ -140,6 +140,7 @@ pub fn judge<R: Threads + Sync, F: Shelf>(
     problem: &Problem,
     workers: u32,
 ) -> Result<(), NotRight>
+    requires shared { R.shared rt.now }
     requires valid { IsValid (instance_of problem.now) }
     requires sound { IsSoundInstance (instance_of problem.now) }
     requires workers { AreWorkers workers }

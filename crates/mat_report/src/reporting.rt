@@ -9,14 +9,14 @@ ghost use Rattle.mat_top.specs.{Outcomes.{Tells, IsStatus, IsOutcome, CallReache
 ghost use Rattle.mat_report.specs.{ReportEnds.{MayBeReported, IsReportEnded}, Reports.{check_of, IsAnswerReport, IsReportWritten}};
 
 use crate::answer_text::AnswerText;
+use mat_check::CheckWorkers;
 use mat_desc::Named;
 use mat_judge::{Refusal, Status, named_in, put_note, put_texts, right_answer_in};
 use mat_shelf::{Shelf, Sink};
 use std::alloc::Global;
-use std::thread::Threads;
 
 // The text on the right answer to the problem that the certificate of this name has.
-fn answer_text<T: AnswerText, R: Threads + Sync, F: Shelf>(
+fn answer_text<T: AnswerText, R: CheckWorkers, F: Shelf>(
     reporter: &T,
     rt: &R,
     alloc: Global,
@@ -24,6 +24,7 @@ fn answer_text<T: AnswerText, R: Threads + Sync, F: Shelf>(
     certificate: &str,
     named: &Named,
 ) -> Result<Vec<u8>, Refusal>
+    requires shared { R.shared rt.now }
     requires valid { IsValid (instance_of named.now.problem) }
     requires sound { IsSoundInstance (instance_of named.now.problem) }
     ensures held { (name : List ℕ) → F.held files.new name ≡ F.held files.old name }
@@ -37,7 +38,7 @@ fn answer_text<T: AnswerText, R: Threads + Sync, F: Shelf>(
 }
 
 // The text on the right answer to the problem of the description that the certificate has.
-fn report_text<T: AnswerText, R: Threads + Sync, F: Shelf>(
+fn report_text<T: AnswerText, R: CheckWorkers, F: Shelf>(
     reporter: &T,
     rt: &R,
     alloc: Global,
@@ -45,6 +46,7 @@ fn report_text<T: AnswerText, R: Threads + Sync, F: Shelf>(
     description: &str,
     certificate: &str,
 ) -> Result<Vec<u8>, Refusal>
+    requires shared { R.shared rt.now }
     ensures held { (name : List ℕ) → F.held files.new name ≡ F.held files.old name }
     ensures grows { (name : List ℕ) → F.faults files.old name ≤ F.faults files.new name }
     ensures text { IfOk result (λ v. MayBeReported T.says (F.held files.old) description.now certificate.now v.items) }
@@ -64,7 +66,7 @@ fn written<O: Sink>(out: &mut O, text: Vec<u8>) -> Result<(), Refusal>
 }
 
 // Writes the text, and tells how that ended.
-fn perform<T: AnswerText, R: Threads + Sync, F: Shelf, O: Sink>(
+fn perform<T: AnswerText, R: CheckWorkers, F: Shelf, O: Sink>(
     reporter: &T,
     rt: &R,
     alloc: Global,
@@ -73,6 +75,7 @@ fn perform<T: AnswerText, R: Threads + Sync, F: Shelf, O: Sink>(
     description: &str,
     certificate: &str,
 ) -> Result<(), Refusal>
+    requires shared { R.shared rt.now }
     ensures held { (name : List ℕ) → F.held files.new name ≡ F.held files.old name }
     ensures grows { (name : List ℕ) → F.faults files.old name ≤ F.faults files.new name }
     ensures out_grows { O.faults out.old ≤ O.faults out.new }
@@ -88,7 +91,7 @@ fn perform<T: AnswerText, R: Threads + Sync, F: Shelf, O: Sink>(
 /// note and what comes of failing reads and writes are those of the top call for `check FILE CERT`.
 ///
 /// Nothing is written to `out` but on Done, when it is the whole text, and on WriteFault, when it is a prefix of it.
-pub fn report<T: AnswerText, R: Threads + Sync, F: Shelf, O: Sink, N: Sink>(
+pub fn report<T: AnswerText, R: CheckWorkers, F: Shelf, O: Sink, N: Sink>(
     reporter: &T,
     rt: &R,
     alloc: Global,
@@ -98,6 +101,9 @@ pub fn report<T: AnswerText, R: Threads + Sync, F: Shelf, O: Sink, N: Sink>(
     out: &mut O,
     notes: &mut N,
 ) -> Status
+    // Other threads may be handed a reference to who works, which is so of every runtime and of `OneWorker`.
+    requires shared { R.shared rt.now }
+
     // What the shelf holds is unchanged, and no count falls.
     ensures held { (name : List ℕ) → F.held files.new name ≡ F.held files.old name }
     ensures grows { (name : List ℕ) → F.faults files.old name ≤ F.faults files.new name }

@@ -11,12 +11,11 @@ ghost use Rattle.mat_summary.specs.Summaries.{query_of_kind, IsSummary};
 
 use crate::summary::summary_text;
 use mat_cert::Answer;
-use mat_check::{Verdict, check};
+use mat_check::{CheckWorkers, Verdict, check};
 use mat_desc::Problem;
 use mat_gen::{SampleKind, sample};
-use mat_solve::{Query, solve};
+use mat_solve::{Query, SolveWorkers, solve};
 use std::alloc::{AllocError, Global};
-use std::thread::Threads;
 
 // The query that is answered for a sample of this kind.
 fn query_of_kind(kind: SampleKind) -> Query
@@ -33,13 +32,14 @@ fn query_of_kind(kind: SampleKind) -> Query
 }
 
 // A right answer to the query about a problem of its form, found by so many workers, and then checked. The only error is want of memory.
-fn checked_answer<R: Threads + Sync>(
+fn checked_answer<R: SolveWorkers + CheckWorkers>(
     rt: &R,
     alloc: Global,
     problem: &Problem,
     query: Query,
     workers: u32,
 ) -> Result<Answer, AllocError>
+    requires shared { R.shared rt.now }
     requires valid { IsValid (instance_of problem.now) }
     requires sound { IsSoundInstance (instance_of problem.now) }
     requires range { IsQueryInRange query }
@@ -56,7 +56,7 @@ fn checked_answer<R: Threads + Sync>(
 }
 
 // The summary of a right answer to this problem, which is that of this kind, size and seed. The only error is want of memory.
-fn summary_of<R: Threads + Sync>(
+fn summary_of<R: SolveWorkers + CheckWorkers>(
     rt: &R,
     alloc: Global,
     kind: SampleKind,
@@ -65,6 +65,7 @@ fn summary_of<R: Threads + Sync>(
     problem: &Problem,
     workers: u32,
 ) -> Result<Vec<u8>, AllocError>
+    requires shared { R.shared rt.now }
     requires sample { instance_of problem.now ≡ sample_of kind size seed }
     requires valid { IsValid (instance_of problem.now) }
     requires sound { IsSoundInstance (instance_of problem.now) }
@@ -79,7 +80,7 @@ fn summary_of<R: Threads + Sync>(
 
 /// The line that sums up a right answer to the problem of this kind, size and seed. The problem is made, it is answered by so many
 /// workers, and the answer is checked. The size is from 1 to 500, and the seed from 1 to 2147483646. The only error is want of memory.
-pub fn sample_text<R: Threads + Sync>(
+pub fn sample_text<R: SolveWorkers + CheckWorkers>(
     rt: &R,
     alloc: Global,
     kind: SampleKind,
@@ -87,6 +88,7 @@ pub fn sample_text<R: Threads + Sync>(
     seed: u64,
     workers: u32,
 ) -> Result<Vec<u8>, AllocError>
+    requires shared { R.shared rt.now }
     requires some { 1 ≤ size }
     requires few { size ≤ most_elements }
     requires seed_least { 1 ≤ seed }

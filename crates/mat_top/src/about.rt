@@ -9,23 +9,24 @@ ghost use Rattle.mat_solve.specs.Queries.{has_form, IsQueryInRange};
 
 use crate::cuts_text::{cuts_text, has_payable_costs};
 use mat_cert::write_answer;
+use mat_check::CheckWorkers;
 use mat_command::Request;
 use mat_desc::{Problem, write_problem};
 use mat_judge::{Denial, Refusal, judge, problem_in};
 use mat_shelf::Shelf;
-use mat_solve::{Query, has_form, solve};
+use mat_solve::{Query, SolveWorkers, has_form, solve};
 use mat_verify::{verify_in, witness_text};
 use std::alloc::{AllocError, Global};
-use std::thread::Threads;
 
 /// The text of a right answer to the query about a problem of its form. The only error is want of memory.
-pub(crate) fn solution_text<R: Threads + Sync>(
+pub(crate) fn solution_text<R: SolveWorkers>(
     rt: &R,
     alloc: Global,
     problem: &Problem,
     query: Query,
     workers: u32,
 ) -> Result<Vec<u8>, AllocError>
+    requires shared { R.shared rt.now }
     requires valid { IsValid (instance_of problem.now) }
     requires sound { IsSoundInstance (instance_of problem.now) }
     requires range { IsQueryInRange query }
@@ -47,7 +48,7 @@ fn yes(alloc: Global) -> Result<Vec<u8>, AllocError>
 }
 
 // What the request writes for a problem.
-fn text_for<R: Threads + Sync, F: Shelf>(
+fn text_for<R: SolveWorkers + CheckWorkers, F: Shelf>(
     rt: &R,
     alloc: Global,
     files: &mut F,
@@ -55,6 +56,7 @@ fn text_for<R: Threads + Sync, F: Shelf>(
     problem: &Problem,
     workers: u32,
 ) -> Result<Vec<u8>, Refusal>
+    requires shared { R.shared rt.now }
     requires valid { IsValid (instance_of problem.now) }
     requires sound { IsSoundInstance (instance_of problem.now) }
     requires range { IsRequestInRange (request_of request) }
@@ -102,7 +104,7 @@ fn text_for<R: Threads + Sync, F: Shelf>(
 }
 
 /// What the request writes for the problem that the file of this name describes.
-pub(crate) fn text_about<R: Threads + Sync, F: Shelf>(
+pub(crate) fn text_about<R: SolveWorkers + CheckWorkers, F: Shelf>(
     rt: &R,
     alloc: Global,
     files: &mut F,
@@ -110,6 +112,7 @@ pub(crate) fn text_about<R: Threads + Sync, F: Shelf>(
     request: Request<'_>,
     workers: u32,
 ) -> Result<Vec<u8>, Refusal>
+    requires shared { R.shared rt.now }
     requires range { IsRequestInRange (request_of request) }
     requires workers { AreWorkers workers }
     ensures held { (other : List ℕ) → F.held files.new other ≡ F.held files.old other }

@@ -10,13 +10,12 @@ ghost use Rattle.mat_top.specs.{
 };
 ghost use Rattle.mat_judge.specs.Texts.{all_texts};
 
-use crate::job_texts::job_texts;
 use crate::loading::loaded_jobs;
+use crate::workers::TopWorkers;
 use mat_command::{Job, ListRefusal, read_jobs};
 use mat_judge::{Denial, Refusal, Unread, read_all};
 use mat_shelf::Shelf;
 use std::alloc::Global;
-use std::thread::Threads;
 
 /// The most bytes that a list may have.
 const LIST_LIMIT: usize = 4_194_304;
@@ -73,13 +72,14 @@ fn listed_jobs<F: Shelf>(alloc: Global, files: &mut F, list: &str) -> Result<Vec
 
 /// The texts of right answers to the jobs of the list in the file of this name, in the list's order. The list is read, then the file of
 /// each job in turn, and the first refusal ends the call; then so many workers draw the jobs, and each is answered by one of them.
-pub(crate) fn batch_texts<R: Threads + Sync, F: Shelf>(
+pub(crate) fn batch_texts<R: TopWorkers, F: Shelf>(
     rt: &R,
     alloc: Global,
     files: &mut F,
     list: &str,
     workers: u32,
 ) -> Result<Vec<Vec<u8>>, Refusal>
+    requires shared { R.shared rt.now }
     requires workers { AreWorkers workers }
     ensures held { (name : List ℕ) → F.held files.new name ≡ F.held files.old name }
     ensures grows { (name : List ℕ) → F.faults files.old name ≤ F.faults files.new name }
@@ -88,5 +88,5 @@ pub(crate) fn batch_texts<R: Threads + Sync, F: Shelf>(
 {
     let jobs = listed_jobs(alloc, files, list)?;
     let loaded = loaded_jobs(alloc, files, &jobs)?;
-    Ok(job_texts(rt, alloc, &loaded, workers)?)
+    Ok(rt.job_texts(alloc, &loaded, workers)?)
 }

@@ -1,7 +1,6 @@
-//! The texts of right answers to queries about problems, computed by workers that draw them.
+//! The texts of right answers to queries about problems, computed by threads that draw them, or in turn.
 
 ghost use Rattle.std.specs.Prelude.{◌≤◌, length, IfOk, All};
-ghost use denote.Param.Send.{IsSync};
 ghost use Rattle.mat_work.specs.Workers.{AreWorkers};
 ghost use Rattle.mat_desc.specs.Views.{instance_of};
 ghost use Rattle.mat_command.specs.JobLists.{most_jobs};
@@ -9,41 +8,35 @@ ghost use Rattle.mat_top.specs.{LoadedJobs.{IsAnswerable, HaveTexts}, Refusals.{
 
 use crate::about::solution_text;
 use crate::loaded_job::LoadedJob;
+use mat_solve::SolveWorkers;
 use mat_ticket::ticket_rows;
-use mat_work::RowJob;
+use mat_work::{RowJob, rows_in_turn};
 use std::alloc::{AllocError, Global};
 use std::marker::Model;
 use std::thread::Threads;
 
-/// What writes the texts of right answers. The workers call it through this trait, since a row's code is not told that it may share a handle.
-trait Answering {
-    /// Other threads may be handed a reference to the value.
-    ghost can_answer: { Self → Type 0 };
-
-    /// The text of a right answer to the query about its problem. The only error is want of memory.
-    fn text_of(&self, alloc: Global, loaded: &LoadedJob) -> Result<Vec<u8>, AllocError>
-        requires answering { can_answer self.now }
-        requires answerable { IsAnswerable loaded.now }
-        ensures { IfOk result (λ v. HasSolutionText loaded.now.query (instance_of loaded.now.problem) v.items) };
-}
-
-impl<R: Threads + Sync> Answering for R {
-    ghost can_answer = { λ _. IsSync R.row };
-
-    fn text_of(&self, alloc: Global, loaded: &LoadedJob) -> Result<Vec<u8>, AllocError> {
-        solution_text(self, alloc, &loaded.problem, loaded.query, 1)
-    }
+// The text of a right answer to the query about its problem, by one worker.
+fn job_text<S: SolveWorkers>(
+    solver: &S,
+    alloc: Global,
+    loaded: &LoadedJob,
+) -> Result<Vec<u8>, AllocError>
+    requires shared { S.shared solver.now }
+    requires answerable { IsAnswerable loaded.now }
+    ensures { IfOk result (λ v. HasSolutionText loaded.now.query (instance_of loaded.now.problem) v.items) }
+{
+    solution_text(solver, alloc, &loaded.problem, loaded.query, 1)
 }
 
 /// The texts for queries about problems, each to be computed by one worker. It is seen as the queries with their problems.
 #[derive(Drop)]
-struct TextRows<'a, S: Answering + Sync> {
+struct TextRows<'a, S: SolveWorkers + Sync> {
     alloc: Global,
     solver: &'a S,
     jobs: &'a [LoadedJob],
 }
 
-impl<'a, S: Answering + Sync> Model for TextRows<'a, S> {
+impl<'a, S: SolveWorkers + Sync> Model for TextRows<'a, S> {
     ghost use Rattle.std.specs.{Prelude.{List, All}, Coded.{codes}};
     ghost use Rattle.mat_top.specs.contracts.loaded_job.LoadedJob as loaded;
     ghost use Rattle.mat_top.specs.{
@@ -57,10 +50,10 @@ impl<'a, S: Answering + Sync> Model for TextRows<'a, S> {
 
     ghost view = { λ rows. rows.jobs.now };
 
-    ghost invariant = { λ rows. S.can_answer rows.solver.now × All IsAnswerable rows.jobs.now };
+    ghost invariant = { λ rows. S.shared rows.solver.now × All IsAnswerable rows.jobs.now };
 }
 
-impl<'a, S: Answering + Sync> RowJob for TextRows<'a, S> {
+impl<'a, S: SolveWorkers + Sync> RowJob for TextRows<'a, S> {
     type Row = Vec<u8>;
 
     ghost use Rattle.std.specs.Prelude.{length};
@@ -71,19 +64,20 @@ impl<'a, S: Answering + Sync> RowJob for TextRows<'a, S> {
     ghost stands = { IsTextAt };
 
     fn row(&self, i: u32) -> Result<Vec<u8>, AllocError> {
-        self.solver.text_of(self.alloc, &self.jobs[i as usize])
+        job_text(self.solver, self.alloc, &self.jobs[i as usize])
     }
 }
 
-// The texts, by so many workers that hand this solver to each job.
-fn texts_by<R: Threads + Sync, S: Answering + Sync>(
+/// The texts of right answers to the queries about their problems, in their order. So many threads draw the jobs, and each job is computed by
+/// the one that drew it. The only error is want of memory.
+pub(crate) fn texts_by_threads<R: Threads + Sync, S: SolveWorkers + Sync>(
     rt: &R,
     alloc: Global,
     solver: &S,
     jobs: &[LoadedJob],
     workers: u32,
 ) -> Result<Vec<Vec<u8>>, AllocError>
-    requires answering { S.can_answer solver.now }
+    requires shared { S.shared solver.now }
     requires answerable { All IsAnswerable jobs.now }
     requires few { length jobs.now ≤ most_jobs }
     requires workers { AreWorkers workers }
@@ -98,18 +92,22 @@ fn texts_by<R: Threads + Sync, S: Answering + Sync>(
     Ok(drawn.rows)
 }
 
-/// The texts of right answers to the queries about their problems, in their order. So many workers draw the jobs, and each job is computed by
-/// the one that drew it. The only error is want of memory.
-pub(crate) fn job_texts<R: Threads + Sync>(
-    rt: &R,
+/// The same texts, one after the other. The only error is want of memory.
+pub(crate) fn texts_in_turn<S: SolveWorkers + Sync>(
     alloc: Global,
+    solver: &S,
     jobs: &[LoadedJob],
-    workers: u32,
 ) -> Result<Vec<Vec<u8>>, AllocError>
+    requires shared { S.shared solver.now }
     requires answerable { All IsAnswerable jobs.now }
     requires few { length jobs.now ≤ most_jobs }
-    requires workers { AreWorkers workers }
     ensures { IfOk result (λ v. HaveTexts jobs.now v.items) }
 {
-    texts_by(rt, alloc, rt, jobs, workers)
+    let rows = TextRows {
+        alloc,
+        solver,
+        jobs,
+    };
+    let texts = rows_in_turn(alloc, &rows, 0, jobs.len() as u32)?;
+    Ok(texts)
 }

@@ -5,7 +5,7 @@ use mat_solve::Query;
 
 /// A query about a problem.
 #[derive(Drop)]
-pub(crate) struct LoadedJob {
+pub struct LoadedJob {
     /// What is asked for.
     pub(crate) query: Query,
     /// What it is asked about.

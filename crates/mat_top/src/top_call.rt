@@ -12,12 +12,12 @@ ghost use Rattle.mat_top.specs.{
 use crate::about::text_about;
 use crate::batch::batch_texts;
 use crate::convert::converted_text;
+use crate::workers::TopWorkers;
 use mat_command::{Command, CommandLine, command_line};
 use mat_judge::{Refusal, Status, put_note, put_texts};
 use mat_shelf::{Shelf, Sink};
 use mat_summary::sample_text;
 use std::alloc::{AllocError, Global};
-use std::thread::Threads;
 
 // One text, as the only one.
 fn alone(alloc: Global, text: Vec<u8>) -> Result<Vec<Vec<u8>>, AllocError>
@@ -27,12 +27,13 @@ fn alone(alloc: Global, text: Vec<u8>) -> Result<Vec<Vec<u8>>, AllocError>
 }
 
 // What the command writes: texts, one after the other.
-fn texts_for<R: Threads + Sync, F: Shelf>(
+fn texts_for<R: TopWorkers, F: Shelf>(
     rt: &R,
     alloc: Global,
     files: &mut F,
     line: &CommandLine<'_>,
 ) -> Result<Vec<Vec<u8>>, Refusal>
+    requires shared { R.shared rt.now }
     ensures held { (name : List ℕ) → F.held files.new name ≡ F.held files.old name }
     ensures grows { (name : List ℕ) → F.faults files.old name ≤ F.faults files.new name }
     ensures text { IfOk result (λ v. MayBeWritten (F.held files.old) (task_of line.now.command) (all_texts v.items)) }
@@ -60,13 +61,14 @@ fn written<O: Sink>(out: &mut O, texts: &[Vec<u8>]) -> Result<(), Refusal>
 }
 
 // Does what the command says, and tells how that ended.
-fn perform<R: Threads + Sync, F: Shelf, O: Sink>(
+fn perform<R: TopWorkers, F: Shelf, O: Sink>(
     rt: &R,
     alloc: Global,
     files: &mut F,
     out: &mut O,
     line: &CommandLine<'_>,
 ) -> Result<(), Refusal>
+    requires shared { R.shared rt.now }
     ensures held { (name : List ℕ) → F.held files.new name ≡ F.held files.old name }
     ensures grows { (name : List ℕ) → F.faults files.old name ≤ F.faults files.new name }
     ensures out_grows { O.faults out.old ≤ O.faults out.new }
@@ -80,13 +82,13 @@ fn perform<R: Threads + Sync, F: Shelf, O: Sink>(
 /// Does what the words ask for: reads its files from the shelf, writes the answer to `out` and, where it is refused, a note to
 /// `notes`, and answers how it ended. The words are those after the program's name. Up to as many workers as they name, from 1 to 16 and
 /// 1 where they name none, compute the rows of tables or answer the jobs of a list side by side; what is right doesn't depend on how many.
-/// Threads are started by `rt`, and each has ended when the call returns.
+/// Threads are started by `rt` where it is a runtime, and each has ended when the call returns; [`OneWorker`](crate::OneWorker) starts none.
 ///
 /// Usage comes exactly where the words are no command, ReadFault only where the shelf's count of faults rose for a file of the call, and
 /// WriteFault only where the count of `out` rose. Where the shelf tells the files, each other status but Memory is the one of the
 /// table in docs/DEFINITIONS.md: TooLong, BadList, BadDescription, BadCertificate, WrongShape, BadCost, Unwitnessed, BadWitness, No or
 /// Done. Nothing is written to `out` but on Done, when it is the whole answer, and on WriteFault, when it is a prefix of it.
-pub fn run<R: Threads + Sync, F: Shelf, O: Sink, N: Sink>(
+pub fn run<R: TopWorkers, F: Shelf, O: Sink, N: Sink>(
     rt: &R,
     alloc: Global,
     words: &[String],
@@ -94,6 +96,9 @@ pub fn run<R: Threads + Sync, F: Shelf, O: Sink, N: Sink>(
     out: &mut O,
     notes: &mut N,
 ) -> Status
+    // Other threads may be handed a reference to who works, which is so of every runtime and of `OneWorker`.
+    requires shared { R.shared rt.now }
+
     // What the shelf holds is unchanged, and no count falls.
     ensures held { (name : List ℕ) → F.held files.new name ≡ F.held files.old name }
     ensures grows { (name : List ℕ) → F.faults files.old name ≤ F.faults files.new name }

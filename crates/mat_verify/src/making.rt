@@ -13,13 +13,12 @@ ghost use Rattle.mat_verify.specs.{
 
 use crate::rung_answer::rung_answer_in;
 use mat_cert::Answer;
-use mat_check::{Verdict, check};
+use mat_check::{CheckWorkers, Verdict, check};
 use mat_desc::Problem;
 use mat_judge::{Denial, Refusal};
 use mat_shelf::Shelf;
 use mat_witness::{make_witness, write_witness};
 use std::alloc::{AllocError, Global};
-use std::thread::Threads;
 
 // The text of a witness for rung k of a right answer. The only error is want of memory.
 fn text_of_witness(
@@ -41,13 +40,14 @@ fn text_of_witness(
 }
 
 // The text of a witness for rung k of an answer, which has to be right: else the first clause that fails is told.
-fn text_of_rung<R: Threads + Sync>(
+fn text_of_rung<R: CheckWorkers>(
     rt: &R,
     alloc: Global,
     problem: &Problem,
     answer: &Answer,
     k: u32,
 ) -> Result<Vec<u8>, Refusal>
+    requires shared { R.shared rt.now }
     requires valid { IsValid (instance_of problem.now) }
     requires sound { IsSoundInstance (instance_of problem.now) }
     requires ranged { IsRanged (certificate_of answer.now) }
@@ -68,7 +68,7 @@ fn text_of_rung<R: Threads + Sync>(
 /// where it is no certificate, `WrongShape` where its answer is to another form of problem or has no such rung, `Unwitnessed` where a matroid
 /// is not of a kind that has witnesses, and `No` with the first clause that fails where the answer isn't right. Want of memory may come at any
 /// time.
-pub fn witness_text<R: Threads + Sync, F: Shelf>(
+pub fn witness_text<R: CheckWorkers, F: Shelf>(
     rt: &R,
     alloc: Global,
     files: &mut F,
@@ -76,6 +76,7 @@ pub fn witness_text<R: Threads + Sync, F: Shelf>(
     problem: &Problem,
     k: u32,
 ) -> Result<Vec<u8>, Refusal>
+    requires shared { R.shared rt.now }
     requires valid { IsValid (instance_of problem.now) }
     requires sound { IsSoundInstance (instance_of problem.now) }
     ensures held { (name : List ℕ) → F.held files.new name ≡ F.held files.old name }
