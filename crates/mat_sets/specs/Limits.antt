@@ -1,5 +1,5 @@
--- The bounds of problems and of what is asked of them: sizes, weights, the weights that splits are made of, and the room that these have while
--- they change.
+-- The bounds of problems and of what is asked of them: sizes, weights, the weights that splits are made of, and the room that these have where
+-- they begin to change.
 use Rattle.std.specs.Prelude.{ℕ, ◌^◌}
 
 -- the most elements, and so the most edges, arcs or cells of a form
