@@ -1,6 +1,7 @@
 //! The search for a least spanning arborescence.
 ghost use Rattle.std.specs.Prelude.{◌≡◌, ◌<◌, ◌≤◌, ◌↔◌, true, length, IfOk};
 ghost use Rattle.mat_sets.specs.{Limits.{largest_weight, most_vertices, most_elements}, Graphs.{IsGraph}, Weights.{AreWeightsWithin}};
+ghost use Rattle.mat_work.specs.Workers.{AreWorkers};
 ghost use Rattle.mat_arbor.specs.Arborescences.{HasNoArborescence, IsRightArbor, is_unreached};
 
 use crate::arbor::Arbor;
@@ -63,14 +64,15 @@ fn least_among(
 /// vertices that the root does not reach (Edmonds 1967; Schrijver, chapter 52; the split is Frank's). Weighted vertex sets, each of which
 /// the arborescence enters once, prove that it is cheapest. The first half of an arc's negated cost is what the sets that hold both its
 /// ends weigh, since the arborescence has as many arcs inside each as a forest can have; the second half is the rest. There are at most 500
-/// vertices and 500 arcs; both numbers of each cost are at least -10^12 and at most 10^12. For V vertices and E arcs the time is that
-/// of 3V passes over the E arcs. The only error is want of memory.
+/// vertices and 500 arcs; both numbers of each cost are at least -10^12 and at most 10^12; there are 1 to 16 workers, for which no
+/// thread is started. For V vertices and E arcs the time is that of 3V passes over the E arcs. The only error is want of memory.
 pub fn least_arborescence(
     alloc: Global,
     vertices: u32,
     arcs: &Pairs,
     costs: &[Weight],
     root: u32,
+    workers: u32,
 ) -> Result<Arbor, AllocError>
     requires graph { IsGraph vertices arcs.now }
     requires root { root < vertices }
@@ -78,6 +80,7 @@ pub fn least_arborescence(
     requires few { length arcs.now ≤ most_elements }
     requires lengths { length costs.now ≡ length arcs.now }
     requires small { AreWeightsWithin largest_weight costs.now }
+    requires workers { AreWorkers workers }
     ensures right { IfOk result (IsRightArbor vertices arcs.now costs.now root) }
     ensures unreached { IfOk result (λ a. (is_unreached a ≡ true) ↔ HasNoArborescence vertices arcs.now root) }
 {

@@ -6,6 +6,7 @@ ghost use Rattle.mat_sets.specs.{
   Sets.{AllBelow, IsRising},
   Weights.{AreWeightsWithin},
 };
+ghost use Rattle.mat_work.specs.Workers.{AreWorkers};
 ghost use Rattle.mat_fronts.specs.{Once.{AreLabelsOf}, Rainbow.{IsColouring, IsRainbowLadder}};
 
 use crate::rainbow_ladder::RainbowLadder;
@@ -30,9 +31,9 @@ fn colours_on(alloc: Global, colour_of: &[u32], set: &ElemSet) -> Result<ElemSet
 
 /// A heaviest forest of pairwise different colours for each size, each with a split of the weights that proves it; and where none is a
 /// spanning tree, colours that show that there is none (Schrijver, chapter 41). These are the colours on the cut of the ladder. There
-/// are 1 to 500 vertices and at most 500 edges; both numbers of each weight are at least -10^12 and at most 10^12. The time is
-/// that of the intersection of the graphic matroid and the partition matroid of the colours; no thread is started, since a row takes less
-/// time than a thread takes to start. The only error is want of memory.
+/// are 1 to 500 vertices and at most 500 edges; both numbers of each weight are at least -10^12 and at most 10^12; there are 1 to 16
+/// workers, for which no thread is started, since a row takes less time than a thread takes to start. The time is that of the intersection of
+/// the graphic matroid and the partition matroid of the colours. The only error is want of memory.
 pub fn rainbow(
     alloc: Global,
     vertices: u32,
@@ -40,6 +41,7 @@ pub fn rainbow(
     colours: u32,
     colour_of: &[u32],
     weights: &[Weight],
+    workers: u32,
 ) -> Result<RainbowLadder, AllocError>
     requires graph { IsGraph vertices edges.now }
     requires vertices { (1 ≤ vertices) × (vertices ≤ most_vertices) }
@@ -47,6 +49,7 @@ pub fn rainbow(
     requires colouring { IsColouring (length edges.now) colours colour_of.now }
     requires lengths { length weights.now ≡ length edges.now }
     requires small { AreWeightsWithin largest_weight weights.now }
+    requires workers { AreWorkers workers }
     ensures { IfOk result (λ r. IsRainbowLadder vertices edges.now colours colour_of.now weights.now r.ladder.rungs.items r.ladder.cut r.missing) }
 {
     let graphic = Graphic::new(alloc, vertices, edges.copy(alloc)?)?;

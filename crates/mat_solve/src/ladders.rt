@@ -126,10 +126,12 @@ pub(crate) fn intersect<R: SolveWorkers>(
     })
 }
 
-/// A heaviest forest with pairwise different colours for each size. The only error is want of memory.
-pub(crate) fn rainbow(alloc: Global, problem: &Problem) -> Result<Answer, AllocError>
+/// A heaviest forest with pairwise different colours for each size. The workers are handed on, and none is needed. The only error is want of
+/// memory.
+pub(crate) fn rainbow(alloc: Global, problem: &Problem, workers: u32) -> Result<Answer, AllocError>
     requires valid { IsValid (instance_of problem.now) }
     requires form { is_coloured (instance_of problem.now) ≡ true }
+    requires workers { AreWorkers workers }
     ensures of_query { IfOk result (λ answer. IsAnswerOf Query.Rainbow (certificate_of answer)) }
     ensures solution { IfOk result (λ answer. IsSolution (instance_of problem.now) (certificate_of answer)) }
 {
@@ -150,6 +152,7 @@ pub(crate) fn rainbow(alloc: Global, problem: &Problem) -> Result<Answer, AllocE
         *colours,
         colour_of,
         weights.as_slice(),
+        workers,
     )?;
     let ladder = found.ladder;
     let rungs = priced_rungs(alloc, ladder.rungs, weights.as_slice())?;
@@ -163,10 +166,11 @@ pub(crate) fn rainbow(alloc: Global, problem: &Problem) -> Result<Answer, AllocE
     })
 }
 
-/// A heaviest assignment in a table for each size. The only error is want of memory.
-pub(crate) fn assign(alloc: Global, problem: &Problem) -> Result<Answer, AllocError>
+/// A heaviest assignment in a table for each size. The workers are handed on, and none is needed. The only error is want of memory.
+pub(crate) fn assign(alloc: Global, problem: &Problem, workers: u32) -> Result<Answer, AllocError>
     requires valid { IsValid (instance_of problem.now) }
     requires form { is_table (instance_of problem.now) ≡ true }
+    requires workers { AreWorkers workers }
     ensures of_query { IfOk result (λ answer. IsAnswerOf Query.Assign (certificate_of answer)) }
     ensures solution { IfOk result (λ answer. IsSolution (instance_of problem.now) (certificate_of answer)) }
 {
@@ -179,7 +183,7 @@ pub(crate) fn assign(alloc: Global, problem: &Problem) -> Result<Answer, AllocEr
     else {
         unreachable!()
     };
-    let ladder = mat_fronts::assign(alloc, *rows, *columns, cells, weights.as_slice())?;
+    let ladder = mat_fronts::assign(alloc, *rows, *columns, cells, weights.as_slice(), workers)?;
     let rungs = priced_rungs(alloc, ladder.rungs, weights.as_slice())?;
     Ok(Answer::Assign {
         count: cells.len() as u32,

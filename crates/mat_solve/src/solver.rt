@@ -40,10 +40,10 @@ pub fn solve<R: SolveWorkers>(
         Query::Pack => pack(alloc, problem),
         Query::Cover => cover(alloc, problem),
         Query::Trees(k) => trees(alloc, problem, k),
-        Query::Arborescence => arborescence(alloc, problem),
+        Query::Arborescence => arborescence(alloc, problem, workers),
         Query::Disjoint(k) => disjoint(alloc, problem, k),
-        Query::Rainbow => rainbow(alloc, problem),
-        Query::Assign => assign(alloc, problem),
+        Query::Rainbow => rainbow(alloc, problem, workers),
+        Query::Assign => assign(alloc, problem, workers),
     }
 }
 

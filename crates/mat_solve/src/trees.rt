@@ -2,6 +2,7 @@
 
 ghost use Rattle.std.specs.Prelude.{◌≡◌, ◌≤◌, true, IfOk};
 ghost use Rattle.mat_sets.specs.Limits.{most_trees};
+ghost use Rattle.mat_work.specs.Workers.{AreWorkers};
 ghost use Rattle.mat_desc.specs.{Views.{instance_of}, Grammar.{IsValid}};
 ghost use Rattle.mat_cert.specs.Views.{certificate_of};
 ghost use Rattle.mat_check.specs.Fitting.{is_graph, is_rooted};
@@ -45,10 +46,16 @@ pub(crate) fn trees(alloc: Global, problem: &Problem, k: u32) -> Result<Answer, 
     }
 }
 
-/// A cheapest spanning arborescence with its cost, or the vertices that the root does not reach. The only error is want of memory.
-pub(crate) fn arborescence(alloc: Global, problem: &Problem) -> Result<Answer, AllocError>
+/// A cheapest spanning arborescence with its cost, or the vertices that the root does not reach. The workers are handed on, and none is
+/// needed. The only error is want of memory.
+pub(crate) fn arborescence(
+    alloc: Global,
+    problem: &Problem,
+    workers: u32,
+) -> Result<Answer, AllocError>
     requires valid { IsValid (instance_of problem.now) }
     requires form { is_rooted (instance_of problem.now) ≡ true }
+    requires workers { AreWorkers workers }
     ensures of_query { IfOk result (λ answer. IsAnswerOf Query.Arborescence (certificate_of answer)) }
     ensures solution { IfOk result (λ answer. IsSolution (instance_of problem.now) (certificate_of answer)) }
 {
@@ -62,7 +69,7 @@ pub(crate) fn arborescence(alloc: Global, problem: &Problem) -> Result<Answer, A
         unreachable!()
     };
     let count = arcs.len() as u32;
-    let found = least_arborescence(alloc, *vertices, arcs, costs.as_slice(), *root)?;
+    let found = least_arborescence(alloc, *vertices, arcs, costs.as_slice(), *root, workers)?;
     match found {
         Arbor::Tree {
             arcs,

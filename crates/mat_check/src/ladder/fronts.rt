@@ -22,7 +22,7 @@ use mat_sets::{ElemSet, Pairs, Weight};
 use std::alloc::{AllocError, Global};
 
 // The first clause of the ladder of two matroids that fails. The matroids are dropped.
-fn owned_ladder_failure<R: Threads + Sync>(
+fn owned_ladder_failure<R: CheckWorkers>(
     rt: &R,
     alloc: Global,
     weights: &[Weight],
@@ -32,6 +32,7 @@ fn owned_ladder_failure<R: Threads + Sync>(
     cut: &ElemSet,
     workers: u32,
 ) -> Result<Option<Failure>, AllocError>
+    requires shared { R.shared rt.now }
     requires first_sound { IsSound (tree_of first) }
     requires second_sound { IsSound (tree_of second) }
     requires first_lengths { length weights.now ≡ element_count (tree_of first) }
