@@ -29,7 +29,8 @@ usage: matbench show FILE                        any form: its canonical text
                                                  not
        matbench arborescence [--workers W] FILE  rooted: arcs of least cost along which the root
                                                  reaches all vertices, or why not
-       matbench disjoint [--workers W] K FILE    rooted: K such sets of arcs that share no arc, or
+       matbench disjoint [--workers W] K FILE    rooted: K sets of arcs that share no arc, along
+                                                 each of which the root reaches all vertices, or
                                                  why not
        matbench rainbow [--workers W] FILE       coloured: a heaviest forest of each size of edges
                                                  of different colours
