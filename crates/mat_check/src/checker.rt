@@ -82,7 +82,7 @@ fn answer_failure<R: CheckWorkers>(
 }
 
 /// Whether an answer that fits a problem is right, and if not, the first of its clauses that fails, with its places. The clauses are
-/// those of docs/FORMATS.md in that order: first the numbers of the header; then those of sizes, independence, weights, sums and trees;
+/// those of docs/FORMATS.md in the order told there: first the numbers of the header; then those of sizes, independence, weights, sums and trees;
 /// that nothing is heavier; and at last what a cut, a level, a class of vertices or a set of colours shows (Schrijver, chapters 40 to
 /// 42 and 51 to 53).
 ///
