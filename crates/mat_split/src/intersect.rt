@@ -41,8 +41,8 @@ fn ladder_by<
     a: &A,
     b: &B,
     weights: &[Weight],
-    first: &F,
-    second: &G,
+    first_table: &F,
+    second_table: &G,
 ) -> Result<Ladder, AllocError>
     requires first_sound { A.sound a.now }
     requires second_sound { B.sound b.now }
@@ -50,11 +50,11 @@ fn ladder_by<
     requires few { A.ground_size a.now ≤ most_elements }
     requires lengths { length weights.now ≡ A.ground_size a.now }
     requires small { AreWeightsWithin largest_weight weights.now }
-    requires first_asked { (set : _) (kept : _) → A.indep a.now set.now ≡ true → A.keeps a.now set.now kept.now → F.pre first.now set kept }
-    requires second_asked { (set : _) (kept : _) → B.indep b.now set.now ≡ true → B.keeps b.now set.now kept.now → G.pre second.now set kept }
-    requires first_rows { (set : _) (kept : _) (table : _) → F.post first.now set kept table
+    requires first_asked { (set : _) (kept : _) → A.indep a.now set.now ≡ true → A.keeps a.now set.now kept.now → F.pre first_table.now set kept }
+    requires second_asked { (set : _) (kept : _) → B.indep b.now set.now ≡ true → B.keeps b.now set.now kept.now → G.pre second_table.now set kept }
+    requires first_made { (set : _) (kept : _) (table : _) → F.post first_table.now set kept table
         → IfOk table (λ t. t ≡ rows_of (A.ground_size a.now) (A.indep a.now) set.now) }
-    requires second_rows { (set : _) (kept : _) (table : _) → G.post second.now set kept table
+    requires second_made { (set : _) (kept : _) (table : _) → G.post second_table.now set kept table
         → IfOk table (λ t. t ≡ rows_of (B.ground_size b.now) (B.indep b.now) set.now) }
     ensures { IfOk result (λ l. IsLadder (A.ground_size a.now) (A.indep a.now) (B.indep b.now) weights.now l.rungs.items l.cut) }
 {
@@ -65,9 +65,16 @@ fn ladder_by<
     let mut first_kept = a.keep(alloc, &rung.set)?;
     let mut second_kept = b.keep(alloc, &rung.set)?;
     loop {
-        let first_rows = first(&rung.set, &first_kept)?;
-        let second_rows = second(&rung.set, &second_kept)?;
-        match augment(alloc, a, b, &rung, &first_rows, &second_rows)? {
+        match augment(
+            alloc,
+            a,
+            b,
+            &rung,
+            &first_kept,
+            &second_kept,
+            first_table,
+            second_table,
+        )? {
             Augmented::Larger(larger) => {
                 first_kept = a.keep_next(alloc, &rung.set, &first_kept, &larger.set)?;
                 second_kept = b.keep_next(alloc, &rung.set, &second_kept, &larger.set)?;
