@@ -5,7 +5,7 @@ use Rattle.mat_fronts.proofs.Ladders.{rainbow_made, missing_of_ladder}
 use Rattle.mat_fronts.proofs.rainbow_search.rainbow.Goals as goal
 
 pub returns-then-len-vertices : goal.returns-then-len-vertices
-returns-then-len-vertices g c = record {
+returns-then-len-vertices c = record {
   ladder = rainbow_made c.args.edges.now c.in_ok-graphic.graphic.edges c.args.colours c.args.colour_of.now c.args.weights.now
       c.in_ok-ladder.ladder.rungs.items c.in_ok-ladder.ladder.cut c.in_ok-classes.classes
       (ap (λ (g : Graphic). g.edges) c.in_ok-graphic.ensures.value ∙ c.in_ok-copy.ensures) c.requires.colouring.long c.in_ok-classes.ensures.value
@@ -14,14 +14,14 @@ returns-then-len-vertices g c = record {
 }
 
 pub colours_on-requires : goal.colours_on-requires
-colours_on-requires g c =
+colours_on-requires c =
     let rungs = c.in_ok-ladder.ladder.rungs in
     let l = c.in_ok-ladder.ensures in
     let cut = (l.last (length rungs.items - 1) (omega (arith, l.some))).set.below in
     subst (λ (n : ℕ). AllBelow n c.in_ok-ladder.ladder.cut) (ap length (ap (λ (g : Graphic). g.edges) c.in_ok-graphic.ensures.value ∙ c.in_ok-copy.ensures) ∙ sym c.requires.colouring.long) cut
 
 pub returns : goal.returns
-returns g c =
+returns c =
     let rungs = c.in_ok-ladder.ladder.rungs in
     let ladder = rainbow_made c.args.edges.now c.in_ok-graphic.graphic.edges c.args.colours c.args.colour_of.now c.args.weights.now
     rungs.items c.in_ok-ladder.ladder.cut c.in_ok-classes.classes
