@@ -1,15 +1,15 @@
 //! The certificate in a file, judged against a problem.
 
-ghost use Rattle.std.specs.Prelude.{◌≡◌, ◌≤◌, ℕ, List, OnOk, IfOk, IfErr, IfSome};
+ghost use Rattle.std.specs.Prelude.{◌≡◌, ◌≤◌, ℕ, List, true, OnOk, IfOk, IfErr, IfSome};
 ghost use Rattle.mat_work.specs.Workers.{AreWorkers};
 ghost use Rattle.mat_cert.specs.{Certificates.{IsRanged}, Views.{certificate_of}};
-ghost use Rattle.mat_check.specs.Right.{IsRight};
+ghost use Rattle.mat_check.specs.{Fitting.{fits}, Right.{IsRight}};
 ghost use Rattle.mat_desc.specs.{Grammar.{IsValid}, Soundness.{IsSoundInstance}, Views.{instance_of}};
 ghost use Rattle.mat_judge.specs.declared.certified.Uncertified.TheVariants as uncertified;
 ghost use Rattle.mat_judge.specs.declared.certified.NotRight.TheVariants as not_right;
 ghost use Rattle.mat_judge.specs.{
   declared.reading.Unread.TheVariants.{Memory},
-  Certified.{IsCertified, IsRightAnswer, HasRightAnswer, IsUncertified, IsNotRight, uncertified_by},
+  Certified.{IsCertified, IsRightAnswer, HasRightAnswer, IsUncertified, IsRefuted, IsNotRight, uncertified_by},
 };
 
 use crate::reading::{Unread, read_all};
@@ -97,6 +97,33 @@ pub fn answer_in<F: Shelf>(alloc: Global, files: &mut F, name: &str) -> Result<A
     Ok(read_answer(alloc, &bytes)?)
 }
 
+// Judges an answer to a problem, by so many workers, 1 to 16: `WrongShape` comes where it is to another form of problem, and `No` with the
+// first clause that fails where it isn't right.
+fn judged<R: CheckWorkers>(
+    rt: &R,
+    alloc: Global,
+    problem: &Problem,
+    answer: &Answer,
+    workers: u32,
+) -> Result<(), NotRight>
+    requires shared { R.shared rt.now }
+    requires valid { IsValid (instance_of problem.now) }
+    requires sound { IsSoundInstance (instance_of problem.now) }
+    requires ranged { IsRanged (certificate_of answer.now) }
+    requires workers { AreWorkers workers }
+    ensures fitting { OnOk result (fits (instance_of problem.now) (certificate_of answer.now) ≡ true) }
+    ensures right { OnOk result (IsRight (instance_of problem.now) (certificate_of answer.now)) }
+    ensures refusal { IfErr result (IsRefuted (instance_of problem.now) (certificate_of answer.now)) }
+{
+    if !fits(problem, answer) {
+        return Err(NotRight::WrongShape);
+    }
+    match check(rt, alloc, problem, answer, workers)? {
+        Verdict::Yes => Ok(()),
+        Verdict::No { reason, a, b } => Err(NotRight::No(reason, a, b)),
+    }
+}
+
 /// The right answer to a problem that the file of this name has, judged by so many workers, 1 to 16: `WrongShape` comes where the answer is to
 /// another form of problem, and `No` with the first clause that fails where it isn't right.
 pub fn right_answer_in<R: CheckWorkers, F: Shelf>(
@@ -121,13 +148,7 @@ pub fn right_answer_in<R: CheckWorkers, F: Shelf>(
         (F.faults files.old name.now) (F.faults files.new name.now) e) }
 {
     let answer = answer_in(alloc, files, name)?;
-    if !fits(problem, &answer) {
-        return Err(NotRight::WrongShape);
-    }
-    match check(rt, alloc, problem, &answer, workers)? {
-        Verdict::Yes => Ok(answer),
-        Verdict::No { reason, a, b } => Err(NotRight::No(reason, a, b)),
-    }
+    judged(rt, alloc, problem, &answer, workers).and(Ok(answer))
 }
 
 /// Judges the certificate in the file of this name, by so many workers, 1 to 16: it has a right answer to the problem, or it is told why not, as
@@ -150,6 +171,5 @@ pub fn judge<R: CheckWorkers, F: Shelf>(
     ensures refusal { IfErr result (λ e. IsNotRight (instance_of problem.now) (F.held files.old name.now)
         (F.faults files.old name.now) (F.faults files.new name.now) e) }
 {
-    right_answer_in(rt, alloc, files, name, problem, workers)?;
-    Ok(())
+    right_answer_in(rt, alloc, files, name, problem, workers).map(drop)
 }
