@@ -1,5 +1,5 @@
 -- Why a rung of a certificate has no witness, or is not verified.
-use Rattle.std.specs.Prelude.{◌≡◌, ℕ, ◌⊎◌, true, List, Option, IfSome, Some}
+use Rattle.std.specs.Prelude.{◌≡◌, ℕ, ◌⊎◌, true, false, List, Option, IfSome, Some}
 use Rattle.mat_desc.specs.Instances.{Instance}
 use Rattle.mat_cert.specs.Faults.{CertRefusal}
 use Rattle.mat_cert.specs.Certificates.{Certificate}
@@ -19,7 +19,7 @@ use Rattle.mat_judge.specs.declared.refusal.Refusal.{Refusal}
 use Rattle.mat_judge.specs.declared.refusal.Refusal.TheVariants as refusals
 use Rattle.mat_judge.specs.declared.status.Status.TheVariants as statuses
 use Rattle.mat_verify.specs.WitnessOutcomes.{IsRungOutcome}
-use Rattle.mat_verify.specs.Witnessing.{IsFaultyWitness, IsNotShowing, IsRungAnswer}
+use Rattle.mat_verify.specs.Witnessing.{IsFaultyWitness, IsNotShowing, IsRungAnswer, fits_rung}
 use Rattle.mat_verify.specs.declared.refusals.NoRung.{NoRung}
 use Rattle.mat_verify.specs.declared.refusals.NoRung.TheVariants as no_rung
 use Rattle.mat_verify.specs.declared.refusals.Unshown.{Unshown}
@@ -45,6 +45,12 @@ refusal_of_unshown (unshown.Fault kind line) = refusals.Denied (denials.BadWitne
 refusal_of_unshown (unshown.Part part) = refusals.Denied (denials.NotShown part)
 
 -- ---- the reasons
+
+-- why this rung of an answer can't be witnessed: the answer doesn't fit the problem or has no such rung, or a matroid is of another kind
+abbrev pub IsUnwitnessable : Instance → Certificate → ℕ → NoRung → Type 0
+IsUnwitnessable instance answer k (no_rung.Uncertified why) = ⊥
+IsUnwitnessable instance answer k no_rung.WrongShape = fits_rung instance answer k ≡ false
+IsUnwitnessable instance answer k no_rung.Unwitnessed = (fits_rung instance answer k ≡ true) × (is_witnessed_pair instance ≡ false)
 
 -- why a file has no answer of which this rung can be witnessed: with what it holds, and the count of its faults before and after
 abbrev pub HasNoRung : Instance → ℕ → Option (List ℕ) → ℕ → ℕ → NoRung → Type 0

@@ -36,7 +36,9 @@ fn text_of_witness(
     ensures { IfOk result (λ v. IsShowing (instance_of problem.now) (certificate_of answer.now) k v.items) }
 {
     let witness = make_witness(alloc, problem, answer, k)?;
-    write_witness(alloc, &witness, problem, answer, k)
+    let text = write_witness(alloc, &witness, problem, answer, k);
+    drop(witness);
+    text
 }
 
 // The text of a witness for rung k of an answer, which has to be right: else the first clause that fails is told.
@@ -88,5 +90,7 @@ pub fn witness_text<R: CheckWorkers, F: Shelf>(
         (F.faults files.old certificate.now) (F.faults files.new certificate.now) e) }
 {
     let answer = rung_answer_in(alloc, files, certificate, problem, k)?;
-    text_of_rung(rt, alloc, problem, &answer, k)
+    let text = text_of_rung(rt, alloc, problem, &answer, k);
+    drop(answer);
+    text
 }

@@ -1,10 +1,10 @@
 //! The answer of a certificate, of which a rung can be witnessed.
 
-ghost use Rattle.std.specs.Prelude.{◌≡◌, ◌≤◌, ℕ, List, true, IfOk, IfErr, IfSome};
+ghost use Rattle.std.specs.Prelude.{◌≡◌, ◌≤◌, ℕ, List, true, OnOk, IfOk, IfErr, IfSome};
 ghost use Rattle.mat_cert.specs.{Certificates.{IsRanged}, Views.{certificate_of}};
 ghost use Rattle.mat_desc.specs.Views.{instance_of};
 ghost use Rattle.mat_witness.specs.Kinds.{is_witnessed_pair};
-ghost use Rattle.mat_verify.specs.{WitnessRefusals.{HasNoRung}, Witnessing.{IsRungAnswer, fits_rung}};
+ghost use Rattle.mat_verify.specs.{WitnessRefusals.{HasNoRung, IsUnwitnessable}, Witnessing.{IsRungAnswer, fits_rung}};
 
 use crate::refusals::NoRung;
 use mat_cert::Answer;
@@ -14,6 +14,22 @@ use mat_judge::answer_in;
 use mat_shelf::Shelf;
 use mat_witness::{are_witnessed, has_rung};
 use std::alloc::Global;
+
+// Whether rung k of an answer can be witnessed: `WrongShape` comes where the answer is to another form of problem or has no such rung, and
+// `Unwitnessed` where a matroid is not of a kind that has witnesses.
+fn witnessable(problem: &Problem, answer: &Answer, k: u32) -> Result<(), NoRung>
+    ensures rung { OnOk result (fits_rung (instance_of problem.now) (certificate_of answer.now) k ≡ true) }
+    ensures witnessed { OnOk result (is_witnessed_pair (instance_of problem.now) ≡ true) }
+    ensures refusal { IfErr result (IsUnwitnessable (instance_of problem.now) (certificate_of answer.now) k) }
+{
+    if !fits(problem, answer) || !has_rung(answer, k) {
+        return Err(NoRung::WrongShape);
+    }
+    if !are_witnessed(problem) {
+        return Err(NoRung::Unwitnessed);
+    }
+    Ok(())
+}
 
 /// The answer in the certificate of this name, which fits the problem and has rung k, over matroids of witnessed kinds. `Uncertified` comes
 /// where the file is no certificate or memory ran out, `WrongShape` where the answer is to another form of problem or has no such rung, and
@@ -36,11 +52,5 @@ pub(crate) fn rung_answer_in<F: Shelf>(
         (F.faults files.old name.now) (F.faults files.new name.now) e) }
 {
     let answer = answer_in(alloc, files, name)?;
-    if !fits(problem, &answer) || !has_rung(&answer, k) {
-        return Err(NoRung::WrongShape);
-    }
-    if !are_witnessed(problem) {
-        return Err(NoRung::Unwitnessed);
-    }
-    Ok(answer)
+    witnessable(problem, &answer, k).and(Ok(answer))
 }

@@ -36,7 +36,9 @@ fn verify_bytes(
     ensures refusal { IfErr result (λ e. IsUnshown (instance_of problem.now) (certificate_of answer.now) k (Some bytes.now) 0 0 e) }
 {
     let witness = read_witness(alloc, bytes, problem, answer, k)?;
-    match verify(alloc, problem, answer, k, &witness)? {
+    let failing = verify(alloc, problem, answer, k, &witness);
+    drop(witness);
+    match failing? {
         None => Ok(()),
         Some(part) => Err(Unshown::Part(part)),
     }
@@ -91,6 +93,7 @@ pub fn verify_in<F: Shelf>(
         (F.faults files.old) (F.faults files.new) e) }
 {
     let answer = rung_answer_in(alloc, files, certificate, problem, k)?;
-    verify_file(alloc, files, witness, problem, &answer, k)?;
-    Ok(())
+    let shown = verify_file(alloc, files, witness, problem, &answer, k);
+    drop(answer);
+    Ok(shown?)
 }

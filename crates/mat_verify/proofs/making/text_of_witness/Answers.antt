@@ -16,4 +16,4 @@ returns c =
     IfOk-weaker _ _ (λ v. IsShowing (instance_of c.args.problem.now) (certificate_of c.args.answer.now) c.args.k v.items)
     (λ v whole. written_shows (instance_of c.args.problem.now) (certificate_of c.args.answer.now) c.args.k v.items
     (witness_parts made.witness) c.requires.valid c.requires.ranged c.requires.rung made.ensures.witness made.ensures.shown whole)
-    c.write_witness.ensures
+    c.write_witness-text.ensures

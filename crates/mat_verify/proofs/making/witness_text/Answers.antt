@@ -16,11 +16,11 @@ returns-clause-text g c =
       of_rung = of_rung;
       right = made.0;
       shows = made.1;
-    }) c.in_ok-answer.ensures.answer) c.text_of_rung.ensures.text
+    }) c.in_ok-answer.ensures.answer) c.text_of_rung-text.ensures.text
 
 pub returns-clause-refusal : goal.returns-clause-refusal
 returns-clause-refusal g c =
     let held = g.F.Shelf.held c.args.files.now c.args.certificate.now in
     IfErr-weaker _ _ _
     (refused_by (instance_of c.args.problem.now) c.args.k held _ _ (certificate_of c.in_ok-answer.answer) c.in_ok-answer.ensures.answer)
-    c.text_of_rung.ensures.refusal
+    c.text_of_rung-text.ensures.refusal
