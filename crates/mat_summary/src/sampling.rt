@@ -4,7 +4,8 @@ ghost use Rattle.std.specs.Prelude.{◌≡◌, ◌≤◌, true, IfOk};
 ghost use Rattle.mat_sets.specs.Limits.{most_elements};
 ghost use Rattle.mat_work.specs.Workers.{AreWorkers};
 ghost use Rattle.mat_desc.specs.{Grammar.{IsValid}, Soundness.{IsSoundInstance}, Views.{instance_of}};
-ghost use Rattle.mat_cert.specs.Views.{certificate_of};
+ghost use Rattle.mat_cert.specs.{Certificates.{IsRanged}, Views.{certificate_of}};
+ghost use Rattle.mat_check.specs.Right.{IsRight};
 ghost use Rattle.mat_gen.specs.Samples.{sample_of};
 ghost use Rattle.mat_solve.specs.{Answers.{IsSolution}, Queries.{has_form, IsAnswerOf, IsQueryInRange}};
 ghost use Rattle.mat_summary.specs.Summaries.{query_of_kind, IsSummary};
@@ -31,6 +32,27 @@ fn query_of_kind(kind: SampleKind) -> Query
     }
 }
 
+// Checks a right answer, by so many workers: it is accepted. The only error is want of memory.
+fn accept<R: CheckWorkers>(
+    rt: &R,
+    alloc: Global,
+    problem: &Problem,
+    answer: &Answer,
+    workers: u32,
+) -> Result<(), AllocError>
+    requires shared { R.shared rt.now }
+    requires valid { IsValid (instance_of problem.now) }
+    requires sound { IsSoundInstance (instance_of problem.now) }
+    requires ranged { IsRanged (certificate_of answer.now) }
+    requires right { IsRight (instance_of problem.now) (certificate_of answer.now) }
+    requires workers { AreWorkers workers }
+{
+    match check(rt, alloc, problem, answer, workers)? {
+        Verdict::Yes => Ok(()),
+        Verdict::No { .. } => unreachable!(),
+    }
+}
+
 // A right answer to the query about a problem of its form, found by so many workers, and then checked. The only error is want of memory.
 fn checked_answer<R: SolveWorkers + CheckWorkers>(
     rt: &R,
@@ -49,10 +71,7 @@ fn checked_answer<R: SolveWorkers + CheckWorkers>(
     ensures solution { IfOk result (λ answer. IsSolution (instance_of problem.now) (certificate_of answer)) }
 {
     let answer = solve(rt, alloc, problem, query, workers)?;
-    match check(rt, alloc, problem, &answer, workers)? {
-        Verdict::Yes => Ok(answer),
-        Verdict::No { .. } => unreachable!(),
-    }
+    accept(rt, alloc, problem, &answer, workers).and(Ok(answer))
 }
 
 // The summary of a right answer to this problem, which is that of this kind, size and seed. The only error is want of memory.
