@@ -34,7 +34,9 @@ fn answer_text<T: AnswerText, R: CheckWorkers, F: Shelf>(
         (F.faults files.old) (F.faults files.new) e) }
 {
     let answer = right_answer_in(rt, alloc, files, certificate, &named.problem, 1)?;
-    Ok(reporter.text(alloc, named, &answer)?)
+    let text = reporter.text(alloc, named, &answer);
+    drop(answer);
+    Ok(text?)
 }
 
 // The text on the right answer to the problem of the description that the certificate has.
@@ -54,7 +56,9 @@ fn report_text<T: AnswerText, R: CheckWorkers, F: Shelf>(
         (F.faults files.old) (F.faults files.new) e) }
 {
     let named = named_in(alloc, files, description)?;
-    answer_text(reporter, rt, alloc, files, certificate, &named)
+    let text = answer_text(reporter, rt, alloc, files, certificate, &named);
+    drop(named);
+    text
 }
 
 // Writes a text, and tells how that ended.
