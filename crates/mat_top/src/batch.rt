@@ -88,5 +88,7 @@ pub(crate) fn batch_texts<R: TopWorkers, F: Shelf>(
 {
     let jobs = listed_jobs(alloc, files, list)?;
     let loaded = loaded_jobs(alloc, files, &jobs)?;
-    Ok(rt.job_texts(alloc, &loaded, workers)?)
+    let texts = rt.job_texts(alloc, &loaded, workers);
+    drop(loaded);
+    Ok(texts?)
 }

@@ -19,8 +19,8 @@ returns-in_err-loaded-clause-refusal g c =
     (g.F.Shelf.faults c.listed_jobs.new.files) (g.F.Shelf.faults c.loaded_jobs.new.files) (map job_of c.in_ok-jobs.jobs.items)
     c.in_err-loaded.field-0.0 (λ name. sym (listed.held name)) listed.grows why))
 
-pub job_texts-requires-clause-few : goal.job_texts-requires-clause-few
-job_texts-requires-clause-few g c κs within =
+pub job_texts-texts-requires-clause-few : goal.job_texts-texts-requires-clause-few
+job_texts-texts-requires-clause-few g c κs within =
     let jobs_here = c.deref.ensures.value in
     let loaded_here = c.deref-2.ensures.value in
     let few = c.in_ok-jobs.ensures.few in
@@ -32,9 +32,9 @@ returns-clause-text g c =
     let listed = c.in_ok-jobs.ensures in
     let are = subst (λ jobs. AreLoaded (g.F.Shelf.held c.listed_jobs.new.files) (map job_of jobs) c.in_ok-loaded.loaded.items) c.deref.ensures.value
     c.in_ok-loaded.ensures.loaded in
-    let have = subst (λ loaded. HaveTexts loaded c.in_ok-job_texts.field-0.items) c.deref-2.ensures.value c.in_ok-job_texts.ensures in
+    let have = subst (λ loaded. HaveTexts loaded c.in_ok-texts.field-0.items) c.deref-2.ensures.value c.in_ok-texts.ensures in
     may_be_written (g.F.Shelf.held c.args.files.now) c.args.list.now (map job_of c.in_ok-jobs.jobs.items) c.in_ok-loaded.loaded.items
-    c.in_ok-job_texts.field-0.items listed.listed
+    c.in_ok-texts.field-0.items listed.listed
     (are_loaded_there (g.F.Shelf.held c.listed_jobs.new.files) (g.F.Shelf.held c.args.files.now) (map job_of c.in_ok-jobs.jobs.items)
     c.in_ok-loaded.loaded.items (λ name. sym (listed.held name)) are)
     have
