@@ -1,20 +1,20 @@
 -- Why there is no witness or none is verified, over the shelf as it was before: a count that rose rose from a lesser one, and what was held is
 -- held; and what is said of an answer as what is said of the file that it was read from.
-use Rattle.std.proofs.Common.{◌≡◌, ℕ, ◌≤◌, true, List, Option, Result, Ok, Err, inl, inr, subst}
-use Rattle.std.specs.Prelude.{IfSome, OnOk}
+use Rattle.std.proofs.Common.{◌≡◌, ℕ, ◌≤◌, true, List, Option, inl, inr, subst}
+use Rattle.std.specs.Prelude.{IfSome}
 use Rattle.mat_desc.specs.Instances.{Instance}
 use Rattle.mat_cert.specs.Certificates.{Certificate}
 use Rattle.mat_cert.specs.Limits.{certificate_limit}
 use Rattle.mat_witness.specs.Kinds.{is_witnessed_pair}
 use Rattle.mat_witness.specs.Lines.{witness_limit}
-use Rattle.mat_judge.specs.Certified.{IsCertified, IsUncertified}
+use Rattle.mat_judge.specs.Certified.{IsUncertified}
 use Rattle.mat_judge.specs.declared.certified.Uncertified.{Uncertified}
 use Rattle.mat_judge.specs.declared.certified.Uncertified.TheVariants as uncertified
 use Rattle.mat_judge.specs.declared.reading.Unread.TheVariants as unread
 use Rattle.mat_judge.specs.declared.refusal.Refusal.{Refusal}
 use Rattle.mat_judge.proofs.Told.{if_told, unread_before}
-use Rattle.mat_verify.specs.Witnessing.{IsRungAnswer, fits_rung}
-use Rattle.mat_verify.specs.WitnessRefusals.{HasNoRung, HasNoWitness, IsRefusedAnswer, IsUnshown, IsUnshownRung, IsUnverified, IsUnwitnessable, IsWrongRung}
+use Rattle.mat_verify.specs.Witnessing.{IsRungAnswer}
+use Rattle.mat_verify.specs.WitnessRefusals.{HasNoRung, HasNoWitness, IsRefusedAnswer, IsUnshown, IsUnshownRung, IsUnverified, IsWrongRung}
 use Rattle.mat_verify.specs.declared.refusals.NoRung.{NoRung}
 use Rattle.mat_verify.specs.declared.refusals.NoRung.TheVariants as no_rung
 use Rattle.mat_verify.specs.declared.refusals.Unshown.{Unshown}
@@ -87,21 +87,6 @@ module _ (after held : List ℕ → Option (List ℕ)) (same : (name : List ℕ)
       )
 
 -- ---- the answer that was read
-
--- what is said of a rung of it is said of the certificate that has it
-module _ (instance : Instance) (k : ℕ) (held : Option (List ℕ)) (answer : Certificate)
-    (certified : IfSome held (λ bytes. IsCertified bytes answer)) where
-  pub rung_there : {T E : Type 0} (test : Result T E) → OnOk test (fits_rung instance answer k ≡ true)
-      → OnOk test (is_witnessed_pair instance ≡ true) → OnOk test (IfSome held (λ bytes. IsRungAnswer instance k bytes answer))
-  rung_there (Ok done) fitting witnessed =
-      if_told held _ _ (λ bytes is. record { certified = is; fitting = fitting; witnessed = witnessed }) certified
-  rung_there (Err e) fitting witnessed = tt
-
-  pub unwitnessable_by : (before now : ℕ) (why : NoRung) → IsUnwitnessable instance answer k why → HasNoRung instance k held before now why
-  unwitnessable_by before now (no_rung.Uncertified why) is = absurd is
-  unwitnessable_by before now no_rung.WrongShape misfit = if_told held _ _ (λ bytes is. (answer, is, misfit)) certified
-  unwitnessable_by before now no_rung.Unwitnessed (fitting, unwitnessed) =
-      if_told held _ _ (λ bytes is. (answer, is, fitting, unwitnessed)) certified
 
 -- what refuses an answer refuses the certificate that has it
 module _ (instance : Instance) (k : ℕ) (held : Option (List ℕ)) (before now : ℕ) (answer : Certificate)
