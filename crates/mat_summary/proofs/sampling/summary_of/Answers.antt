@@ -5,7 +5,7 @@ use Rattle.mat_summary.proofs.SampleForms.{sample_has_form}
 use Rattle.mat_summary.proofs.sampling.summary_of.Goals as goal
 
 pub checked_answer-requires-clause-form : goal.checked_answer-requires-clause-form
-checked_answer-requires-clause-form g c κs lives =
+checked_answer-requires-clause-form g c =
     rw (c.query_of_kind.ensures.query, c.requires.sample) (sample_has_form c.args.kind c.args.size c.args.seed)
 
 pub returns : goal.returns

@@ -20,7 +20,7 @@ returns-in_err-loaded-clause-refusal g c =
     c.in_err-loaded.field-0.0 (λ name. sym (listed.held name)) listed.grows why))
 
 pub job_texts-texts-requires-clause-few : goal.job_texts-texts-requires-clause-few
-job_texts-texts-requires-clause-few g c κs within =
+job_texts-texts-requires-clause-few g c =
     let jobs_here = c.deref.ensures.value in
     let loaded_here = c.deref-2.ensures.value in
     let few = c.in_ok-jobs.ensures.few in

@@ -12,16 +12,16 @@ use Rattle.mat_check.proofs.SameLadders.{same_ladder}
 use Rattle.mat_check.proofs.ladder.fronts.rainbow_ladder_failure.Goals as goal
 
 pub owned_ladder_failure-requires-clause-first_lengths : goal.owned_ladder_failure-requires-clause-first_lengths
-owned_ladder_failure-requires-clause-first_lengths g c κs within =
+owned_ladder_failure-requires-clause-first_lengths g c =
     let edges = ap (λ (m : Graphic). m.edges) c.in_ok-new.ensures.value ∙ c.in_ok-copy.ensures in
     c.requires.lengths ∙ sym (ap length edges)
 
 pub owned_ladder_failure-requires-clause-second_lengths : goal.owned_ladder_failure-requires-clause-second_lengths
-owned_ladder_failure-requires-clause-second_lengths g c κs within =
+owned_ladder_failure-requires-clause-second_lengths g c =
     c.requires.lengths ∙ sym c.requires.long ∙ sym (ap (λ (m : CappedClasses). m.count) c.in_ok-one_for_each_label.ensures.value)
 
 pub owned_ladder_failure-requires-clause-ranged : goal.owned_ladder_failure-requires-clause-ranged
-owned_ladder_failure-requires-clause-ranged g c κs within =
+owned_ladder_failure-requires-clause-ranged g c =
     subst (λ n. IsRangedLadder n c.args.rungs.now c.args.cut.now) (sym c.requires.lengths) c.requires.ranged
 
 pub returns : goal.returns

@@ -14,7 +14,7 @@ returns g c =
     c.in_ok-failures.ensures.rows
 
 pub plain_failures-requires-clause-below : goal.plain_failures-requires-clause-below
-plain_failures-requires-clause-below g c κs within =
+plain_failures-requires-clause-below g c =
     let clauses = plain_rung_clauses (length c.args.weights.now) (is_independent (tree_of c.args.m.now)) c.args.weights.now in
     let count = length-rungs_failures clauses 0 c.args.rungs.now in
     omega (arith, count)

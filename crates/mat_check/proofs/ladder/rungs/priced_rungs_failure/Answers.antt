@@ -17,15 +17,15 @@ returns g c =
     c.in_ok-failures.ensures.rows
 
 pub rung_sums-requires-clause-ranged : goal.rung_sums-requires-clause-ranged
-rung_sums-requires-clause-ranged g c κs within =
+rung_sums-requires-clause-ranged g c =
     half_ranged First (length c.args.pair.now.weights.now) _ c.args.rungs.now c.requires.ranged c.requires.first_lengths
 
 pub rung_sums-requires-2-clause-ranged : goal.rung_sums-requires-2-clause-ranged
-rung_sums-requires-2-clause-ranged g c κs within =
+rung_sums-requires-2-clause-ranged g c =
     half_ranged Second (length c.args.pair.now.weights.now) _ c.args.rungs.now c.requires.ranged c.requires.second_lengths
 
 pub priced_failures-requires-clause-below : goal.priced_failures-requires-clause-below
-priced_failures-requires-clause-below g c κs within =
+priced_failures-requires-clause-below g c =
     let clauses = priced_rung_clauses (length c.args.pair.now.weights.now) (is_independent (tree_of c.args.pair.now.first.now))
     (is_independent (tree_of c.args.pair.now.second.now)) c.args.pair.now.weights.now in
     let count = length-rungs_failures clauses 0 c.args.rungs.now in
