@@ -4,18 +4,18 @@ use Rattle.mat_solve.proofs.FrontSolutions.{rainbow_few, rainbow_solution}
 use Rattle.mat_solve.proofs.ladders.rainbow.Goals as goal
 
 pub rainbow-requires-clause-graph : goal.rainbow-requires-clause-graph
-rainbow-requires-clause-graph g c =
+rainbow-requires-clause-graph c =
     let here = c.in-Coloured in
     coloured_is_graph here.vertices here.colours here.edges here.colour_of.items here.weights (rw here.is at c.requires.valid)
 
 pub rainbow-requires-clause-colouring : goal.rainbow-requires-clause-colouring
-rainbow-requires-clause-colouring g c =
+rainbow-requires-clause-colouring c =
     let here = c.in-Coloured in
     rw c.deref.ensures.value
     (coloured_is_coloured here.vertices here.colours here.edges here.colour_of.items here.weights (rw here.is at c.requires.valid))
 
 pub priced_rungs-requires-clause-rungs : goal.priced_rungs-requires-clause-rungs
-priced_rungs-requires-clause-rungs g c =
+priced_rungs-requires-clause-rungs c =
     let here = c.in-Coloured in
     let ladder = c.in_ok-found.found.ladder in
     let found : IsRainbowLadder here.vertices here.edges here.colours here.colour_of.items here.weights ladder.rungs.items ladder.cut
@@ -24,7 +24,7 @@ priced_rungs-requires-clause-rungs g c =
     ladder.rungs.items ladder.cut c.in_ok-found.found.missing found)
 
 pub returns-clause-solution : goal.returns-clause-solution
-returns-clause-solution g c =
+returns-clause-solution c =
     let here = c.in-Coloured in
     let ladder = c.in_ok-found.found.ladder in
     let found : IsRainbowLadder here.vertices here.edges here.colours here.colour_of.items here.weights ladder.rungs.items ladder.cut
