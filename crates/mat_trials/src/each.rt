@@ -161,16 +161,22 @@ fn writes_are_told<R: Threads + Sync>(
     Ok(told && ended.status == Status::Done && ended.out.taken() == whole)
 }
 
+// Whether the call of the notes behind this part of a note, where it fails, leaves the part, and is not made where the part is the note.
+fn note_is_told<R: Threads + Sync>(rt: &R, alloc: Global, part: &[u8]) -> Result<bool, AllocError> {
+    let mut shelf = MemShelf::new(Vec::new(alloc), 1, Vec::new(alloc));
+    let mut out = sink(alloc)?;
+    let mut notes = MemSink::new(alloc, ROOM, 1, [part.len() as u64 + 1].to_vec(alloc)?)?;
+    let status = run(rt, alloc, &[], &mut shelf, &mut out, &mut notes);
+    Ok(status == Status::Usage && notes.taken() == part)
+}
+
 // Whether each call of the notes, where it fails, leaves what was written before, and one more call is not made.
 fn notes_are_told<R: Threads + Sync>(rt: &R, alloc: Global) -> Result<bool, AllocError> {
     let note = b"refused: usage\n".as_slice();
     let mut told = true;
     for before in 0..note.len() + 1 {
-        let mut shelf = MemShelf::new(Vec::new(alloc), 1, Vec::new(alloc));
-        let mut out = sink(alloc)?;
-        let mut notes = MemSink::new(alloc, ROOM, 1, [before as u64 + 1].to_vec(alloc)?)?;
-        let status = run(rt, alloc, &[], &mut shelf, &mut out, &mut notes);
-        told = told && status == Status::Usage && notes.taken() == &note[..before];
+        let one = note_is_told(rt, alloc, &note[..before])?;
+        told = told && one;
     }
     Ok(told)
 }
@@ -286,24 +292,71 @@ fn add_certificate_ends<R: Threads + Sync>(
     add_ends(rt, alloc, report, &words, &judged, &CERTIFICATE)
 }
 
+// Adds how many calls of the shelf there are, and whether each fault of one is told.
+fn add_reads<R: Threads + Sync>(
+    rt: &R,
+    alloc: Global,
+    report: &mut Vec<u8>,
+    words: &[String],
+    texts: &[Vec<u8>],
+) -> Result<(), AllocError> {
+    let calls = calls_of(texts);
+    let told = reads_are_told(rt, alloc, words, texts, calls)?;
+    let line = format!(in alloc; "reads {calls} {told}\n")?;
+    report.extend_from_slice(line.as_bytes())
+}
+
+// Adds how many bytes of the output there are, and whether each fault of a write is told.
+fn add_writes<R: Threads + Sync>(
+    rt: &R,
+    alloc: Global,
+    report: &mut Vec<u8>,
+    words: &[String],
+    texts: &[Vec<u8>],
+    whole: &[u8],
+) -> Result<(), AllocError> {
+    let count = whole.len();
+    let told = writes_are_told(rt, alloc, words, texts, whole)?;
+    let line = format!(in alloc; "writes {count} {told}\n")?;
+    report.extend_from_slice(line.as_bytes())
+}
+
+// Adds what is told of the writes of a case, of the ends of its texts, and of those of a certificate that it prints.
+fn add_rest<R: Threads + Sync>(
+    rt: &R,
+    alloc: Global,
+    report: &mut Vec<u8>,
+    words: &[String],
+    texts: &[Vec<u8>],
+    whole: &[u8],
+) -> Result<(), AllocError> {
+    add_writes(rt, alloc, report, words, texts, whole)?;
+    add_all_ends(rt, alloc, report, words, texts)?;
+    if asks_to_solve(words) {
+        add_certificate_ends(rt, alloc, report, texts, whole)?;
+    }
+    Ok(())
+}
+
+// Adds what is told of a case with these words and texts.
+fn add_case<R: Threads + Sync>(
+    rt: &R,
+    alloc: Global,
+    report: &mut Vec<u8>,
+    words: &[String],
+    texts: &[Vec<u8>],
+) -> Result<(), AllocError> {
+    add_reads(rt, alloc, report, words, texts)?;
+    let ended = ended_failing(rt, alloc, words, texts, &[], &[])?;
+    add_rest(rt, alloc, report, words, texts, ended.out.taken())
+}
+
 // What is told of a case: of its words, how many calls of the shelf and bytes of the output there are and whether each fault is told, and
 // whether each part of its texts and each byte behind them are.
 fn told_case<R: Threads + Sync>(rt: &R, alloc: Global, case: &Case) -> Result<Vec<u8>, AllocError> {
-    let words = case.words.as_slice();
+    let mut report = heading_of(alloc, &case.words)?;
     let texts = texts_of(alloc, case)?;
-    let calls = calls_of(&texts);
-    let reads = reads_are_told(rt, alloc, words, &texts, calls)?;
-    let ended = ended_failing(rt, alloc, words, &texts, &[], &[])?;
-    let whole = ended.out.taken();
-    let count = whole.len();
-    let writes = writes_are_told(rt, alloc, words, &texts, whole)?;
-    let mut report = heading_of(alloc, words)?;
-    let lines = format!(in alloc; "reads {calls} {reads}\nwrites {count} {writes}\n")?;
-    report.extend_from_slice(lines.as_bytes())?;
-    add_all_ends(rt, alloc, &mut report, words, &texts)?;
-    if asks_to_solve(words) {
-        add_certificate_ends(rt, alloc, &mut report, &texts, whole)?;
-    }
+    add_case(rt, alloc, &mut report, &case.words, &texts)?;
     Ok(report)
 }
 

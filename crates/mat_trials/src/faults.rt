@@ -102,7 +102,22 @@ pub(crate) fn told_end(alloc: Global, name: &str, ended: &Ended) -> Result<Vec<u
     )
 }
 
-// A pair is solved where these calls fail, and one byte is written at a time.
+// What came of a call of this name over a shelf and sinks of which these calls fail, and of which the output takes one byte at a time.
+fn told_over<R: Threads + Sync>(
+    rt: &R,
+    alloc: Global,
+    name: &str,
+    words: &[String],
+    shelf: &mut MemShelf,
+    failing: &Failing<'_>,
+) -> Result<Vec<u8>, AllocError> {
+    let mut out = MemSink::new(alloc, 100, 1, failing.out.to_vec(alloc)?)?;
+    let mut notes = MemSink::new(alloc, 100, 100, failing.notes.to_vec(alloc)?)?;
+    let status = run(rt, alloc, words, shelf, &mut out, &mut notes);
+    told(alloc, name, status, notes.taken(), out.taken())
+}
+
+// A pair is solved where these calls fail.
 fn told_failing<R: Threads + Sync>(
     rt: &R,
     alloc: Global,
@@ -112,10 +127,7 @@ fn told_failing<R: Threads + Sync>(
     let words = words_of(alloc, &["intersect", "f"])?;
     let files = one_file(alloc, EMPTY_PAIR.as_bytes().to_vec(alloc)?)?;
     let mut shelf = MemShelf::new(files, 7, failing.shelf.to_vec(alloc)?);
-    let mut out = MemSink::new(alloc, 100, 1, failing.out.to_vec(alloc)?)?;
-    let mut notes = MemSink::new(alloc, 100, 100, failing.notes.to_vec(alloc)?)?;
-    let status = run(rt, alloc, &words, &mut shelf, &mut out, &mut notes);
-    told(alloc, name, status, notes.taken(), out.taken())
+    told_over(rt, alloc, name, &words, &mut shelf, failing)
 }
 
 // A pair is solved over objects that never fail.

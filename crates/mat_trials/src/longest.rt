@@ -1,7 +1,7 @@
 //! The answer for a pair of 500 elements with the greatest weights that have no tie, of which both matroids allow every set.
 
 use crate::calls::{Ended, sink, two_files, words_of};
-use crate::faults::told;
+use crate::faults::{told, told_end};
 use mat_shelf::{MemShelf, MemSink};
 use mat_top::run;
 use std::alloc::{AllocError, Global};
@@ -59,28 +59,35 @@ fn told_lines(alloc: Global, certificate: &[u8]) -> Result<Vec<u8>, AllocError> 
     Ok(told)
 }
 
+// How the pair was solved, and what is said of the answer.
+fn told_solved(alloc: Global, solved: &Ended) -> Result<Vec<u8>, AllocError> {
+    let lines = told_lines(alloc, solved.out.taken())?;
+    told(
+        alloc,
+        "the longest answer",
+        solved.status,
+        solved.notes.taken(),
+        &lines,
+    )
+}
+
+// What the judge says of the answer.
+fn told_judged<R: Threads + Sync>(
+    rt: &R,
+    alloc: Global,
+    certificate: &[u8],
+) -> Result<Vec<u8>, AllocError> {
+    let judged = ended(rt, alloc, &["check", "f", "c"], certificate)?;
+    told_end(alloc, "the longest answer is judged", &judged)
+}
+
 /// How the pair is solved into a sink with room for fewer bytes than the bound, and what is said of its answer.
 pub(crate) fn longest_report<R: Threads + Sync>(
     rt: &R,
     alloc: Global,
 ) -> Result<Vec<u8>, AllocError> {
     let solved = ended(rt, alloc, &["intersect", "f"], b"")?;
-    let lines = told_lines(alloc, solved.out.taken())?;
-    let mut report = told(
-        alloc,
-        "the longest answer",
-        solved.status,
-        solved.notes.taken(),
-        &lines,
-    )?;
-    let judged = ended(rt, alloc, &["check", "f", "c"], solved.out.taken())?;
-    let said = told(
-        alloc,
-        "the longest answer is judged",
-        judged.status,
-        judged.notes.taken(),
-        judged.out.taken(),
-    )?;
-    report.extend_from_slice(&said)?;
+    let mut report = told_solved(alloc, &solved)?;
+    report.extend_from_slice(&told_judged(rt, alloc, solved.out.taken())?)?;
     Ok(report)
 }

@@ -23,15 +23,12 @@ use std::{fs, io};
 fn main(rt: HostRuntime) -> io::Result<()> {
     let alloc = rt.alloc();
     let cases = fs::read_to_string(&rt, "cases.txt")?;
-    let report = cases_report(&rt, alloc, cases.as_str())?;
-    rt.stdout().write_all(report.as_slice())?;
+    rt.stdout()
+        .write_all(&cases_report(&rt, alloc, cases.as_str())?)?;
     let cases = fs::read_to_string(&rt, "each.txt")?;
-    let report = each_report(&rt, alloc, cases.as_str())?;
-    rt.stdout().write_all(report.as_slice())?;
-    let report = fault_report(&rt, alloc)?;
-    rt.stdout().write_all(report.as_slice())?;
-    let report = longest_report(&rt, alloc)?;
-    rt.stdout().write_all(report.as_slice())?;
-    let report = real_report(&rt, alloc)?;
-    rt.stdout().write_all(report.as_slice())
+    rt.stdout()
+        .write_all(&each_report(&rt, alloc, cases.as_str())?)?;
+    rt.stdout().write_all(&fault_report(&rt, alloc)?)?;
+    rt.stdout().write_all(&longest_report(&rt, alloc)?)?;
+    rt.stdout().write_all(&real_report(&rt, alloc)?)
 }

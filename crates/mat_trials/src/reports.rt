@@ -1,6 +1,6 @@
 //! What is printed of a case.
 
-use crate::calls::{ended_beside, words_of};
+use crate::calls::{Ended, ended_beside, words_of};
 use crate::cases::{Case, cases_of};
 use crate::shared::{ended_of, is_same_for_all};
 use crate::witnesses::{add_verification, ended_witnessed};
@@ -148,7 +148,22 @@ fn description_of<'a>(case: &'a Case, job: &str) -> &'a str {
     }
 }
 
-// Adds what the judge says of each certificate that a list of jobs printed, about the description that its job names.
+// Adds what the judge says of a certificate that a list of jobs printed, of which these are the lines behind the first, about the description
+// that its job names.
+fn add_job<R: Threads + Sync>(
+    rt: &R,
+    alloc: Global,
+    report: &mut Vec<u8>,
+    case: &Case,
+    job: &str,
+    lines: &str,
+) -> Result<(), AllocError> {
+    let certificate = format!(in alloc; "certificate 1\n{lines}")?;
+    let description = description_of(case, job);
+    add_judgement(rt, alloc, report, description, certificate.as_bytes())
+}
+
+// Adds what the judge says of each certificate that a list of jobs printed.
 fn add_judgements<R: Threads + Sync>(
     rt: &R,
     alloc: Global,
@@ -159,15 +174,8 @@ fn add_judgements<R: Threads + Sync>(
     let list = case.certificate.as_ref().map_or("", |list| list.as_str());
     let jobs = list.split('\n').filter(|line| line.starts_with("job "));
     let text = String::from_utf8_lossy(alloc, text)?;
-    for (certificate, job) in text.as_str().split("certificate 1\n").skip(1).zip(jobs) {
-        let certificate = format!(in alloc; "certificate 1\n{certificate}")?;
-        add_judgement(
-            rt,
-            alloc,
-            report,
-            description_of(case, job),
-            certificate.as_bytes(),
-        )?;
+    for (lines, job) in text.as_str().split("certificate 1\n").skip(1).zip(jobs) {
+        add_job(rt, alloc, report, case, job, lines)?;
     }
     Ok(())
 }
@@ -219,22 +227,39 @@ fn add_output<R: Threads + Sync>(
     report.extend_from_slice(text)
 }
 
-// The words of a case, the status with which the top call ends, its note, and what is told of what it writes.
-fn report_of<R: Threads + Sync>(rt: &R, alloc: Global, case: &Case) -> Result<Vec<u8>, AllocError> {
-    let ended = if is_about_witness(&case.words) {
-        ended_witnessed(rt, alloc, case)?
+// Runs the top call of a case.
+fn ended_case<R: Threads + Sync>(rt: &R, alloc: Global, case: &Case) -> Result<Ended, AllocError> {
+    if is_about_witness(&case.words) {
+        ended_witnessed(rt, alloc, case)
     } else {
-        ended_of(rt, alloc, case, &case.words)?
-    };
+        ended_of(rt, alloc, case, &case.words)
+    }
+}
+
+// Adds the status with which a case ended, its note, and what is told of what it wrote.
+fn add_end<R: Threads + Sync>(
+    rt: &R,
+    alloc: Global,
+    report: &mut Vec<u8>,
+    case: &Case,
+    ended: &Ended,
+) -> Result<(), AllocError> {
     let number = ended.status.number();
-    let mut report = heading_of(alloc, &case.words)?;
-    report.extend_from_slice(format!(in alloc; "status {number}\n")?.as_bytes())?;
+    let line = format!(in alloc; "status {number}\n")?;
+    report.extend_from_slice(line.as_bytes())?;
     report.extend_from_slice(ended.notes.taken())?;
     if number == 0 {
-        add_output(rt, alloc, &mut report, case, ended.out.taken())?;
+        add_output(rt, alloc, report, case, ended.out.taken())
     } else {
-        report.extend_from_slice(ended.out.taken())?;
+        report.extend_from_slice(ended.out.taken())
     }
+}
+
+// The words of a case, the status with which the top call ends, its note, and what is told of what it writes.
+fn report_of<R: Threads + Sync>(rt: &R, alloc: Global, case: &Case) -> Result<Vec<u8>, AllocError> {
+    let mut report = heading_of(alloc, &case.words)?;
+    let ended = ended_case(rt, alloc, case)?;
+    add_end(rt, alloc, &mut report, case, &ended)?;
     Ok(report)
 }
 
