@@ -64,12 +64,12 @@ abbrev pub IsUncertified : Option (List ℕ) → ℕ → ℕ → Uncertified →
 IsUncertified held before now (uncertified.Unread why) = IsUnread held certificate_limit before now why
 IsUncertified held before now (uncertified.Fault kind number) = IfSome held (λ bytes. IsFaultyCertificate bytes (kind, number))
 
--- why an answer is no right one to the problem: memory ran out, or it doesn't fit, or it isn't right, and the first of its clauses that fails
--- tells this reason and these two places
-abbrev pub IsRefuted : Instance → Certificate → NotRight → Type 0
-IsRefuted instance answer (not_right.Uncertified why) = why ≡ uncertified.Unread unread.Memory
-IsRefuted instance answer not_right.WrongShape = fits instance answer ≡ false
-IsRefuted instance answer (not_right.No reason first second) = (fits instance answer ≡ true) × (IsRight instance answer → ⊥)
+-- why an answer was not found right for the problem: memory ran out, or it doesn't fit, or it isn't right, and the first of its clauses that
+-- fails tells this reason and these two places
+abbrev pub IsNotFoundRight : Instance → Certificate → NotRight → Type 0
+IsNotFoundRight instance answer (not_right.Uncertified why) = why ≡ uncertified.Unread unread.Memory
+IsNotFoundRight instance answer not_right.WrongShape = fits instance answer ≡ false
+IsNotFoundRight instance answer (not_right.No reason first second) = (fits instance answer ≡ true) × (IsRight instance answer → ⊥)
     × (failure_of instance answer ≡ Some (failure_at reason first second))
 
 -- why a file has no right answer to the problem: with what it holds, and the count of its faults before and after

@@ -9,7 +9,7 @@ ghost use Rattle.mat_judge.specs.declared.certified.Uncertified.TheVariants as u
 ghost use Rattle.mat_judge.specs.declared.certified.NotRight.TheVariants as not_right;
 ghost use Rattle.mat_judge.specs.{
   declared.reading.Unread.TheVariants.{Memory},
-  Certified.{IsCertified, IsRightAnswer, HasRightAnswer, IsUncertified, IsRefuted, IsNotRight, uncertified_by},
+  Certified.{IsCertified, IsRightAnswer, HasRightAnswer, IsUncertified, IsNotFoundRight, IsNotRight, uncertified_by},
 };
 
 use crate::reading::{Unread, read_all};
@@ -99,7 +99,7 @@ pub fn answer_in<F: Shelf>(alloc: Global, files: &mut F, name: &str) -> Result<A
 
 // Judges an answer to a problem, by so many workers, 1 to 16: `WrongShape` comes where it is to another form of problem, and `No` with the
 // first clause that fails where it isn't right.
-fn judged<R: CheckWorkers>(
+fn judge_answer<R: CheckWorkers>(
     rt: &R,
     alloc: Global,
     problem: &Problem,
@@ -113,7 +113,7 @@ fn judged<R: CheckWorkers>(
     requires workers { AreWorkers workers }
     ensures fitting { OnOk result (fits (instance_of problem.now) (certificate_of answer.now) ≡ true) }
     ensures right { OnOk result (IsRight (instance_of problem.now) (certificate_of answer.now)) }
-    ensures refusal { IfErr result (IsRefuted (instance_of problem.now) (certificate_of answer.now)) }
+    ensures refusal { IfErr result (IsNotFoundRight (instance_of problem.now) (certificate_of answer.now)) }
 {
     if !fits(problem, answer) {
         return Err(NotRight::WrongShape);
@@ -148,7 +148,7 @@ pub fn right_answer_in<R: CheckWorkers, F: Shelf>(
         (F.faults files.old name.now) (F.faults files.new name.now) e) }
 {
     let answer = answer_in(alloc, files, name)?;
-    judged(rt, alloc, problem, &answer, workers).and(Ok(answer))
+    judge_answer(rt, alloc, problem, &answer, workers).and(Ok(answer))
 }
 
 /// Judges the certificate in the file of this name, by so many workers, 1 to 16: it has a right answer to the problem, or it is told why not, as

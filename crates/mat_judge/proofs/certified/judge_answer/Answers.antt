@@ -4,7 +4,7 @@ use Rattle.mat_desc.specs.Views.{instance_of}
 use Rattle.mat_check.specs.Fitting.{fits}
 use Rattle.mat_check.specs.Views.{failure_in}
 use Rattle.mat_judge.proofs.Judging.{yes_or_no}
-use Rattle.mat_judge.proofs.certified.judged.Goals as goal
+use Rattle.mat_judge.proofs.certified.judge_answer.Goals as goal
 
 pub returns-in-No-clause-refusal : goal.returns-in-No-clause-refusal
 returns-in-No-clause-refusal g c =
