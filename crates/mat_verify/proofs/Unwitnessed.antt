@@ -7,14 +7,14 @@ use Rattle.mat_cert.specs.Certificates.{Certificate}
 use Rattle.mat_cert.specs.Limits.{certificate_limit}
 use Rattle.mat_witness.specs.Kinds.{is_witnessed_pair}
 use Rattle.mat_witness.specs.Lines.{witness_limit}
-use Rattle.mat_judge.specs.Certified.{IsUncertified}
+use Rattle.mat_judge.specs.Certified.{IsCertified, IsUncertified}
 use Rattle.mat_judge.specs.declared.certified.Uncertified.{Uncertified}
 use Rattle.mat_judge.specs.declared.certified.Uncertified.TheVariants as uncertified
 use Rattle.mat_judge.specs.declared.reading.Unread.TheVariants as unread
 use Rattle.mat_judge.specs.declared.refusal.Refusal.{Refusal}
 use Rattle.mat_judge.proofs.Told.{if_told, unread_before}
 use Rattle.mat_verify.specs.Witnessing.{IsRungAnswer}
-use Rattle.mat_verify.specs.WitnessRefusals.{HasNoRung, HasNoWitness, IsRefusedAnswer, IsUnshown, IsUnshownRung, IsUnverified, IsWrongRung}
+use Rattle.mat_verify.specs.WitnessRefusals.{HasNoRung, HasNoWitness, IsRefusedAnswer, IsUnshown, IsUnshownRung, IsUnverified, IsUnwitnessable, IsWrongRung}
 use Rattle.mat_verify.specs.declared.refusals.NoRung.{NoRung}
 use Rattle.mat_verify.specs.declared.refusals.NoRung.TheVariants as no_rung
 use Rattle.mat_verify.specs.declared.refusals.Unshown.{Unshown}
@@ -87,6 +87,16 @@ module _ (after held : List ℕ → Option (List ℕ)) (same : (name : List ℕ)
       )
 
 -- ---- the answer that was read
+
+-- a rung of it can't be witnessed
+pub unwitnessable_there : (instance : Instance) (k : ℕ) (held : Option (List ℕ)) (before now : ℕ) (answer : Certificate)
+    → IfSome held (λ bytes. IsCertified bytes answer) → (why : NoRung) → IsUnwitnessable instance answer k why
+    → HasNoRung instance k held before now why
+unwitnessable_there instance k held before now answer certified (no_rung.Uncertified why) is = absurd is
+unwitnessable_there instance k held before now answer certified no_rung.WrongShape misfit =
+    if_told held _ _ (λ bytes is. (answer, is, misfit)) certified
+unwitnessable_there instance k held before now answer certified no_rung.Unwitnessed (fitting, unwitnessed) =
+    if_told held _ _ (λ bytes is. (answer, is, fitting, unwitnessed)) certified
 
 -- what refuses an answer refuses the certificate that has it
 module _ (instance : Instance) (k : ℕ) (held : Option (List ℕ)) (before now : ℕ) (answer : Certificate)
