@@ -1,0 +1,28 @@
+-- A word is text, and a line that is not empty has its parts as words.
+use Rattle.std.proofs.Common.{◌≡◌, ℕ, ◌<◌, Bool, true, false, List, [], ◌∷◌, length, leb, ◌≤◌, refl, arith}
+use Rattle.std.specs.Prelude.{IsUtf8, IsAscii}
+use Rattle.std.specs.List.{list_all}
+use Rattle.std.proofs.lemmas.Bool.{and_parts, leb-true}
+use Rattle.std.proofs.lemmas.Str.{IsUtf8-from_ascii}
+use Rattle.std.proofs.lemmas.Str.Ascii.{IsAscii-nil, IsAscii-cons}
+use Rattle.mat_words.specs.Words.{is_letter, is_word, words_of, parts_of, is_well_spaced}
+
+-- ---- the words of a line
+
+letters_ascii : (bs : List ℕ) → list_all is_letter bs ≡ true → IsAscii bs
+letters_ascii [] h = IsAscii-nil
+letters_ascii (b ∷ bs) h =
+    let here = and_parts (is_letter b) (list_all is_letter bs) h in
+    let most = and_parts (leb 33 b) (leb b 126) here.0 in
+    let below : b ≤ 126 = leb-true b 126 most.1 in
+    IsAscii-cons b bs (omega arith) (letters_ascii bs here.1)
+
+-- a word is text
+pub word_utf8 : (word : List ℕ) → is_word word ≡ true → IsUtf8 word
+word_utf8 [] h = absurd cc
+word_utf8 (b ∷ bs) h = IsUtf8-from_ascii (b ∷ bs) (letters_ascii (b ∷ bs) h)
+
+-- the words of a line that is not empty are its parts
+pub parts_are_words : (line : List ℕ) → 0 < length line → words_of line ≡ parts_of line
+parts_are_words [] h = absurd (omega arith)
+parts_are_words (b ∷ bs) h = refl
