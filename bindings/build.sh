@@ -1,8 +1,9 @@
 #!/bin/sh
 # Builds what docs/BINDINGS.md describes into bindings/out/, of the proved program of this checkout. It needs the kit and cc alone.
 #
-#   bindings/build.sh                 of the proved program, which ./matbench builds first where it is not built
-#   bindings/build.sh OBJECT MODULE   of another program's object file and LLVM module, such as those of one that is not proved yet
+#   bindings/build.sh                                 of the proved program, which ./matbench builds first where it is not built
+#   bindings/build.sh OBJECT MODULE LIBRARY MODULE    of another program's object file and LLVM module, and of another static library's
+#                                                     archive and LLVM module, such as those that are not proved yet
 set -eu
 bindings=$(dirname -- "$(readlink -f -- "$0")")
 top=$(dirname -- "$bindings")
@@ -19,6 +20,8 @@ system="main rattle_arg open read write __write close lseek _exit __sysv_signal"
 allowed=" abort free malloc realloc memcpy memmove memset _setjmp longjmp __errno_location __udivti3 __umodti3 __x86_get_cpuid_feature_leaf "
 allowed="$allowed pthread_attr_init pthread_attr_destroy pthread_attr_setguardsize pthread_create pthread_detach pthread_join pthread_self "
 allowed="$allowed __tls_get_addr _GLOBAL_OFFSET_TABLE_ __stack_chk_fail "
+# What the static library may call of it, and of the compiler for division.
+allowed_to_library=" malloc realloc free memcpy memmove memset __udivti3 __umodti3 _GLOBAL_OFFSET_TABLE_ "
 
 fail() {
     echo "build.sh: $1" >&2
@@ -30,17 +33,18 @@ link_tools() {
     for tool in llvm-objcopy llvm-nm llvm-ar clang; do ln -s "$kit/toolchain/bin/clang" "$work/$tool"; done
 }
 
-# The lines of crates.txt, which has the lowest crate first, for the program and the crates that it stands on.
-lines_of_program() {
+# The lines of crates.txt, which has the lowest crate first, for the program, the static library and the crates that they stand on.
+lines_of_both() {
     tac "$top/crates.txt" | awk -F: '{ split($1, word, " ") }
-        word[1] == "mat_main" || word[1] in needed { print; many = split($2, below, " "); for (i = 1; i <= many; i++) needed[below[i]] }' | tac
+        word[1] == "mat_main" || word[1] == "mat_c" || word[1] in needed {
+            print; many = split($2, below, " "); for (i = 1; i <= many; i++) needed[below[i]] }' | tac
 }
 
-# Lays out the libraries of the crates that the program stands on, in a copy of them, by the tool's gate as ./matbench does. What is kept is
-# not proved again.
+# Lays out the libraries of the crates that the program and the static library stand on, in a copy of them, by the tool's gate as ./matbench
+# does. What is kept is not proved again.
 lay_out_libraries() {
     mkdir -p "$copy/.git" "$copy/crates"
-    lines_of_program >"$copy/crates.txt"
+    lines_of_both >"$copy/crates.txt"
     [ ! -e "$top/HANDLES" ] || cp "$top/HANDLES" "$copy/"
     for crate in $(sed 's/[ :].*//' "$copy/crates.txt"); do
         mkdir "$copy/crates/$crate"
@@ -50,32 +54,46 @@ lay_out_libraries() {
     done
     if ! (cd "$copy" && rt ci) >"$work/laid_out" 2>&1; then
         tail -n 5 "$work/laid_out" >&2
-        fail "the libraries of the program could not be laid out"
+        fail "the libraries could not be laid out"
     fi
 }
 
-# Has the kit prove and build the program once more, with a clang that keeps the LLVM module that it is given.
-build_program() {
-    "$top/matbench" --version >/dev/null || fail "the program is not built"
-    copy=$work/copy tools=$work/toolchain
-    lay_out_libraries
+# A toolchain whose clang keeps the LLVM module that it is given.
+make_tools() {
     mkdir -p "$tools/bin"
     ln -s "$kit/toolchain/lib" "$tools/lib"
     for tool in "$kit"/toolchain/bin/*; do ln -s "$tool" "$tools/bin/"; done
     rm "$tools/bin/clang"
     printf '#!/bin/sh\n[ ! -f module.bc ] || cp module.bc "%s"\nexec "%s" "$@"\n' "$work/module.bc" "$kit/toolchain/bin/clang" >"$tools/bin/clang"
     chmod +x "$tools/bin/clang"
-    set -- --crate-name mat_main src/main.rt --extern "std=$kit/rlibs/std.rlib" -L "dependency=$kit/rlibs"
-    for crate in $(sed -n 's/^mat_main: *//p' "$copy/crates.txt"); do set -- "$@" --extern "$crate=../$crate/out/rlib/$crate.rlib"; done
+}
+
+# Has the kit prove and build a crate once more, and keeps its LLVM module: prove_and_build CRATE SOURCE OUTPUT MODULE [FLAG ..].
+prove_and_build() {
+    crate=$1 source=$2 output=$3 module=$4
+    shift 4
+    set -- "$@" --crate-name "$crate" "$source" --extern "std=$kit/rlibs/std.rlib" -L "dependency=$kit/rlibs"
+    for used in $(sed -n "s/^$crate\( staticlib\)\{0,1\}: *//p" "$copy/crates.txt"); do set -- "$@" --extern "$used=../$used/out/rlib/$used.rlib"; done
     for folder in "$copy"/crates/*/out/rlib; do set -- "$@" -L "dependency=$folder"; done
-    set -- "$@" --antt-project "$kit/rattle/logic/antt-project.json" --logic-built "$kit/logic_built" --links mat_main= --jobs 1
-    set -- "$@" --toolchain "$tools" --backend llvm -o "$work/mat_main.o"
-    if ! (cd "$copy/crates/mat_main" && "$kit/bin/rattle" build "$@") >"$work/checked" 2>&1; then
+    set -- "$@" --antt-project "$kit/rattle/logic/antt-project.json" --logic-built "$kit/logic_built" --links "$crate=" --jobs 1
+    set -- "$@" --toolchain "$tools" --backend llvm -o "$output"
+    if ! (cd "$copy/crates/$crate" && "$kit/bin/rattle" build "$@") >"$work/checked" 2>&1; then
         tail -n 5 "$work/checked" >&2
-        fail "the program could not be built again"
+        fail "$crate could not be built again"
     fi
     grep '^logic=' "$work/checked"
+    mv "$work/module.bc" "$module"
+}
+
+# The proved program and the proved static library, each with its LLVM module.
+build_proved() {
+    "$top/matbench" --version >/dev/null || fail "the program is not built"
+    copy=$work/copy tools=$work/toolchain
+    lay_out_libraries
+    make_tools
+    prove_and_build mat_main src/main.rt "$work/mat_main.o" "$work/mat_main.bc"
     compare_program
+    prove_and_build mat_c src/lib.rt "$work/libmat_c.a" "$work/mat_c.bc" --crate-type staticlib
 }
 
 # Says whether the object file is that of the program: linked as the tool does, it is the program then.
@@ -87,7 +105,17 @@ compare_program() {
     fi
 }
 
-# The libraries for C: one object file that shows matbench_call alone.
+# Fails where an object file calls what is not among these names.
+hold_to() {
+    for name in $("$work/llvm-nm" --undefined-only -j "$1"); do
+        case $2 in
+            *" $name "*) ;;
+            *) fail "$3 calls $name, which $4" ;;
+        esac
+    done
+}
+
+# The libraries for C of the program: one object file that shows matbench_call alone.
 build_libraries() {
     object=$1
     set --
@@ -98,49 +126,72 @@ build_libraries() {
     done
     cc -r -nostdlib -o "$work/joined.o" "$work/program.o" "$work/system.o" "$work/native.o" "$kit/c/libos_c.a" "$kit/c/liblibc_c.a"
     "$work/llvm-objcopy" --keep-global-symbol=matbench_call "$work/joined.o" "$work/matbench.o"
-    for name in $("$work/llvm-nm" --undefined-only -j "$work/matbench.o"); do
-        case $allowed in
-            *" $name "*) ;;
-            *) fail "the program calls $name, which the shim does not answer" ;;
-        esac
-    done
+    hold_to "$work/matbench.o" "$allowed" "the program" "the shim does not answer"
     rm -f "$out/libmatbench.a"
     "$work/llvm-ar" crs "$out/libmatbench.a" "$work/matbench.o"
     cc -shared -pthread -Wl,-soname,libmatbench.so,-z,defs,-z,noexecstack,--gc-sections -o "$out/libmatbench.so" "$work/matbench.o"
     cp "$bindings/matbench.h" "$out/"
 }
 
+# The static library: one object file that shows matbench_line alone, with the kit's functions of the heap, which call the C library's.
+build_static_library() {
+    cc -r -nostdlib -o "$work/line_joined.o" -Wl,--whole-archive "$1" -Wl,--no-whole-archive "$kit/c/liblibc_c.a"
+    "$work/llvm-objcopy" --keep-global-symbol=matbench_line "$work/line_joined.o" "$work/matbench_line.o"
+    hold_to "$work/matbench_line.o" "$allowed_to_library" "the static library" "it may not"
+    rm -f "$out/libmatbench_line.a"
+    "$work/llvm-ar" crs "$out/libmatbench_line.a" "$work/matbench_line.o"
+    cp "$bindings/matbench_line.h" "$out/"
+}
+
 compile_for_wasm() {
     "$work/clang" --target=wasm64-unknown-unknown -mcpu=lime1 --no-default-config -fno-crash-diagnostics -ffunction-sections -fdata-sections -c "$@"
 }
 
-# The LLVM module that the kit made for x86-64, compiled for WebAssembly with 64-bit memory by the same clang. Sizes and places of all that
-# lies in memory are the same for both.
-build_module() {
+# An LLVM module that the kit made for x86-64, compiled for WebAssembly with 64-bit memory by the same clang: retarget MODULE OBJECT. Sizes and
+# places of all that lies in memory are the same for both.
+retarget() {
     "$work/clang" --target=x86_64-unknown-linux-gnu --no-default-config -x ir -S -emit-llvm -Xclang -disable-llvm-passes "$1" -o "$work/x86.ll"
     sed -e 's/^target datalayout = .*/target datalayout = "e-m:e-p:64:64-p10:8:8-p20:8:8-i64:64-i128:128-n32:64-S128-ni:1:10:20"/' \
         -e 's/^target triple = .*/target triple = "wasm64-unknown-unknown"/' \
         -e 's/ "probe-stack"="[^"]*"//; s/ "stack-probe-size"="[^"]*"//; s/ "target-cpu"="[^"]*"//; s/ "target-features"="[^"]*"//' \
-        "$work/x86.ll" >"$work/program.ll"
-    compile_for_wasm -mllvm -trap-unreachable -mllvm -expand-div-rem-bits=64 -O3 -x ir "$work/program.ll" -o "$work/program.wasm.o"
+        "$work/x86.ll" >"$work/retargeted.ll"
+    compile_for_wasm -mllvm -trap-unreachable -mllvm -expand-div-rem-bits=64 -O3 -x ir "$work/retargeted.ll" -o "$2"
+}
+
+# Links an object file and parts of the shim to a module: link_module OBJECT MODULE PART ..
+link_module() {
+    object=$1 module=$2
+    shift 2
+    parts=$*
     set -- -std=c11 -O2 -fwrapv -ffreestanding -nostdinc -isystem "$(cc -print-file-name=include)"
     for name in $system; do [ "$name" = main ] || set -- "$@" "-Dmatbench_system_$name=$name"; done
-    for part in system wasm; do compile_for_wasm "$@" "$bindings/shim/$part.c" -o "$work/$part.wasm.o"; done
-    "$work/llvm-ar" crs "$work/libmodule.a" "$work/program.wasm.o" "$work/system.wasm.o" "$work/wasm.wasm.o"
-    "$kit/bin/rattle-link" --target wasm64-unknown-unknown --toolchain "$kit/toolchain" --stack 16777216 -o "$out/matbench.wasm" \
+    for part in $parts; do compile_for_wasm "$@" "$bindings/shim/$part.c" -o "$work/$part.wasm.o"; done
+    rm -f "$work/libmodule.a"
+    "$work/llvm-ar" crs "$work/libmodule.a" "$object" $(for part in $parts; do echo "$work/$part.wasm.o"; done)
+    "$kit/bin/rattle-link" --target wasm64-unknown-unknown --toolchain "$kit/toolchain" --stack 16777216 -o "$module" \
         "$work/libmodule.a" 2>"$work/linked" || fail "the module cannot be linked: $(cat "$work/linked")"
+}
+
+# The module of the program, which asks its host for one function, and that of the static library, which asks for nothing.
+build_modules() {
+    retarget "$1" "$work/program.wasm.o"
+    link_module "$work/program.wasm.o" "$out/matbench.wasm" system wasm heap
     grep -q ' imports=host\.end ' "$work/linked" || fail "the module asks for more than host.end: $(cat "$work/linked")"
+    retarget "$2" "$work/library.wasm.o"
+    link_module "$work/library.wasm.o" "$out/matbench_line.wasm" line heap
+    ! grep -q ' imports=[a-z]' "$work/linked" || fail "the module asks for something: $(cat "$work/linked")"
 }
 
 mkdir -p "$out"
 link_tools
 case $# in
-    0) build_program; set -- "$work/mat_main.o" "$work/module.bc"; of="the proved program" ;;
-    2) of="$1 and $2" ;;
-    *) fail "usage: bindings/build.sh [OBJECT MODULE]" ;;
+    0) build_proved; set -- "$work/mat_main.o" "$work/mat_main.bc" "$work/libmat_c.a" "$work/mat_c.bc"; of="the proved program and the proved library" ;;
+    4) of="$*" ;;
+    *) fail "usage: bindings/build.sh [OBJECT MODULE LIBRARY MODULE]" ;;
 esac
 build_libraries "$1"
-build_module "$2"
+build_static_library "$3"
+build_modules "$2" "$4"
 python3 "$bindings/web/build_page.py" "$top" "$out"
 echo "build.sh: built of $of:"
-(cd "$out" && ls -l libmatbench.a libmatbench.so matbench.wasm matbench.html)
+(cd "$out" && ls -l libmatbench.a libmatbench.so libmatbench_line.a matbench.wasm matbench_line.wasm matbench.html)

@@ -21,24 +21,28 @@ try() {
     "$@" || failed=$((failed + 1))
 }
 
-# Compiles a test in C, with more words for the linker where it has some.
+# Compiles a test in C with a library, and with more words for the linker where it has some.
 compile() {
-    name=$1
-    shift
-    cc -std=c11 -O2 -Wall -Wextra -Werror -I"$out" "$bindings/tests/$name.c" "$out/libmatbench.a" -pthread "$@" -o "$work/$name"
+    name=$1 library=$2
+    shift 2
+    cc -std=c11 -O2 -Wall -Wextra -Werror -I"$out" "$bindings/tests/$name.c" "$out/$library.a" -pthread "$@" -o "$work/$name"
 }
 
 [ -x "$program" ] || { echo "test.sh: $program is not built" >&2; exit 70; }
-compile call
-compile bad_use -Wl,--wrap=malloc,--wrap=realloc,--wrap=free
+compile call libmatbench
+compile line libmatbench_line
+compile bad_use libmatbench -Wl,--wrap=malloc,--wrap=realloc,--wrap=free
+compile line_use libmatbench_line -Wl,--wrap=malloc,--wrap=realloc,--wrap=free
 try "$work/bad_use"
+try "$work/line_use"
 try python3 "$bindings/tests/python_module.py"
 try python3 "$bindings/tests/documents.py"
 for browser in "$chromium" ${firefox:+"$firefox"}; do
     echo "test.sh: the page in $browser"
     try env BROWSER="$browser" python3 "$bindings/tests/page.py"
+    try env BROWSER="$browser" python3 "$bindings/tests/line_module.py" "$work/line"
 done
-try python3 "$bindings/tests/answers.py" "$program" "$work/call" "$chromium" ${firefox:+"$firefox"}
+try python3 "$bindings/tests/answers.py" "$program" "$work/call" "$work/line" "$chromium" ${firefox:+"$firefox"}
 [ -n "$firefox" ] || echo "test.sh: there is no Firefox, so the page was not tried in one"
 echo "test.sh: $failed of $tried failed"
 [ "$failed" -eq 0 ]

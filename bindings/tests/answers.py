@@ -1,9 +1,9 @@
-"""answers.py PROGRAM CALL [BROWSER..]: compares the answers of the program with those of the C library, the Python module and the page, byte for
-byte.
+"""answers.py PROGRAM CALL LINE [BROWSER..]: compares the answers of the program with those of the C library, the static library, the Python module
+and the page, byte for byte.
 
-The problems are those of examples/ and 200 random ones. PROGRAM is the program, CALL what tests/call.c is compiled to. The page is tried in each
-BROWSER, or else in the one that browser.py starts: as files from a server, and as one file from a folder. There every example is chosen, solved and
-checked as a user does.
+The problems are those of examples/ and 200 random ones. PROGRAM is the program, CALL what tests/call.c is compiled to, and LINE what tests/line.c
+is. The page is tried in each BROWSER, or else in the one that browser.py starts: as files from a server, and as one file from a folder. There every
+example is chosen, solved and checked as a user does.
 """
 import json
 import os
@@ -46,8 +46,8 @@ def problems():
 class Compared:
     """How many calls were compared, and what was wrong."""
 
-    def __init__(self, program, caller):
-        self.program, self.caller, self.counts, self.wrong = program, caller, {}, 0
+    def __init__(self, program, caller, line):
+        self.program, self.caller, self.line, self.counts, self.wrong = program, caller, line, {}, 0
 
     def hold(self, way, what, wanted, given):
         """Compares what a way gives with what the program gives."""
@@ -64,9 +64,21 @@ class Compared:
             ended = subprocess.run([self.program, *words], cwd=folder, capture_output=True, check=False)
             called = subprocess.run([self.caller, *words, "--", *(f"{name}={name}" for name in files)], cwd=folder, capture_output=True,
                                     check=False)
-        wanted = (ended.returncode, ended.stdout, ended.stderr)
+            wanted = (ended.returncode, ended.stdout, ended.stderr)
+            if not words[0].startswith("--"):
+                self.by_line(words, files, folder, wanted)
         self.hold("C", words, wanted, (called.returncode, called.stdout, called.stderr))
         return wanted
+
+    def by_line(self, words, files, folder, wanted):
+        """Makes a call by the static library, and where it has an output, once more with room for one byte less."""
+        given = [" ".join(words), *(f"{name}={name}" for name in files)]
+        ended = subprocess.run([self.line, *given], cwd=folder, capture_output=True, check=False)
+        self.hold("static library", words, wanted, (ended.returncode, ended.stdout, ended.stderr))
+        if wanted[1]:
+            room = len(wanted[1]) - 1
+            ended = subprocess.run([self.line, "--room", str(room), *given], cwd=folder, capture_output=True, check=False)
+            self.hold("static library, cut off", words, (6, wanted[1][:room], b"refused: write fault\n"), (ended.returncode, ended.stdout, ended.stderr))
 
     def call(self, words, files):
         """Makes a call by the program, by C and by Python, and answers what the program gives."""
@@ -90,6 +102,26 @@ def solved(compared, name, text):
             compared.hold("yes", f"{name}, {command}", (0, b"yes\n", b""), verdict)
             yield ["check", "f", "c"], files, verdict
             yield from shown(compared, f"{name}, {command}", files)
+            if words[0] == "intersect":
+                yield from witnessed(compared, f"{name}, {command}", files)
+
+
+def witnessed(compared, what, files):
+    """The calls about a witness for a rung of a right answer. Where there is one, it shows the rung."""
+    words = ["witness", "1", "f", "c"]
+    wanted = compared.call(words, files)
+    yield words, files, wanted
+    if wanted[0] == 0:
+        files, words = {**files, "w": wanted[1]}, ["verify", "1", "f", "c", "w"]
+        verdict = compared.call(words, files)
+        compared.hold("yes", f"{what}, witness", (0, b"yes\n", b""), verdict)
+        yield words, files, verdict
+
+
+def refused(compared, text):
+    """The calls about a problem that are refused: no command, and a name that no file has."""
+    for words in (["intersect"], ["solve", "f"], ["show", "g"], ["check", "f", "f"]):
+        yield words, {"f": text}, compared.call(words, {"f": text})
 
 
 def shown(compared, what, files):
@@ -158,13 +190,14 @@ def compare_in(compared, program, calls, examples):
 
 
 def main():
-    compared = Compared(*map(os.path.abspath, sys.argv[1:3]))
+    compared = Compared(*map(os.path.abspath, sys.argv[1:4]))
     calls, examples = [], {}
     for name, text in problems():
         calls += solved(compared, name, text)
         if not name.startswith("random"):
+            calls += refused(compared, text)
             examples[name] = text
-    for program in sys.argv[3:] or [None]:
+    for program in sys.argv[4:] or [None]:
         compare_in(compared, program, calls, examples)
     print("answers.py:", ", ".join(f"{way} {count}" for way, count in compared.counts.items()), f"compared, {compared.wrong} wrong")
     return 1 if compared.wrong else 0

@@ -30,7 +30,8 @@ def printed(language, program, folder):
         return run([sys.executable, str(source)], env={**os.environ, "PYTHONPATH": str(BINDINGS)})
     made = str(source.with_suffix(""))
     out = BINDINGS / "out"
-    told = run(["cc", "-std=c11", "-Wall", "-Wextra", "-Werror", f"-I{out}", str(source), f"{out}/libmatbench.a", "-pthread", "-o", made])
+    library = "libmatbench_line.a" if "matbench_line.h" in program else "libmatbench.a"
+    told = run(["cc", "-std=c11", "-Wall", "-Wextra", "-Werror", f"-I{out}", str(source), f"{out}/{library}", "-pthread", "-o", made])
     return told or run([made])
 
 
