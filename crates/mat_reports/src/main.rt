@@ -1,5 +1,5 @@
-//! The program `mat_reports`, a test: it tells the answers of the file `told.txt` and some more, draws those of the file `drawn.txt`, and prints
-//! each behind its name, with the status and the note where it is refused. What it has to print was worked out without it.
+//! The program `mat_reports`, a test: it tells the answers of the file `told.txt` and some more, judges one by a line, draws those of the file
+//! `drawn.txt`, and prints each behind its name, with the status and the note where it is refused. What it has to print was worked out without it.
 //!
 //! A line of the files that begins with `> ` begins a case, and names it. The lines below it are the text of the description, and those below a
 //! line that is `--` alone the text of the certificate; where there is no such line, there is no file of the certificate. A last line of a text
@@ -8,9 +8,11 @@
 
 mod calls;
 mod faults;
+mod lines;
 
 use crate::calls::{Ended, ended_of};
 use crate::faults::all_ended;
+use crate::lines::judged_answer;
 use mat_judge::Status;
 use mat_report::{AnswerText, AsPicture, InWords};
 use std::alloc::{AllocError, Global};
@@ -48,14 +50,43 @@ fn ended_case<T: AnswerText, R: Threads + Sync>(
 }
 
 // Prints the name of a case, what was written, and the status and the note where it was refused.
-fn print_case(rt: &HostRuntime, name: &str, ended: &Ended) -> io::Result<()> {
+fn print_case(
+    rt: &HostRuntime,
+    name: &str,
+    status: Status,
+    output: &[u8],
+    note: &[u8],
+) -> io::Result<()> {
     println!(rt; "> {name}")?;
-    rt.stdout().write_all(ended.out.taken())?;
-    if ended.status == Status::Done {
+    rt.stdout().write_all(output)?;
+    if status == Status::Done {
         return Ok(());
     }
-    println!(rt; "status {}", ended.status.number())?;
-    rt.stdout().write_all(ended.notes.taken())
+    println!(rt; "status {}", status.number())?;
+    rt.stdout().write_all(note)
+}
+
+// Prints a case by how it ended.
+fn print_ended(rt: &HostRuntime, name: &str, ended: &Ended) -> io::Result<()> {
+    print_case(
+        rt,
+        name,
+        ended.status,
+        ended.out.taken(),
+        ended.notes.taken(),
+    )
+}
+
+// Prints what a line says of an answer that a line gave.
+fn print_judged(rt: &HostRuntime) -> io::Result<()> {
+    let called = judged_answer(rt.alloc())?;
+    print_case(
+        rt,
+        "an answer by a line is judged by a line",
+        called.status,
+        called.output.bytes(),
+        called.note.bytes(),
+    )
 }
 
 // Prints what is written of the cases of a file.
@@ -70,7 +101,7 @@ fn print_cases<T: AnswerText, R: Threads + Sync>(
     for case in all.strip_suffix("\n").unwrap_or(all).split("\n> ") {
         if let Some((name, lines)) = case.split_once('\n') {
             let ended = ended_case(reporter, rt, host.alloc(), lines)?;
-            print_case(host, name, &ended)?;
+            print_ended(host, name, &ended)?;
         }
     }
     Ok(())
@@ -79,7 +110,8 @@ fn print_cases<T: AnswerText, R: Threads + Sync>(
 fn main(rt: HostRuntime) -> io::Result<()> {
     print_cases(&rt, &rt, &InWords, "told.txt")?;
     for (name, ended) in &all_ended(&rt, rt.alloc())? {
-        print_case(&rt, name, ended)?;
+        print_ended(&rt, name, ended)?;
     }
+    print_judged(&rt)?;
     print_cases(&rt, &rt, &AsPicture, "drawn.txt")
 }
