@@ -170,6 +170,19 @@ read_bit words x word l e = rw (shr_and_one word (x % 64), get_or_read words (x 
 pub missing_past : (words : List ℕ) (x : ℕ) → length words ≤ x / 64 → false ≡ is_member x (bits_of words)
 missing_past words x h = sym (is_member-bits_of x words ∙ has_bit_past words x h)
 
+-- a number of word `at` is a member where its bit is set in that word
+pub is_member-at : (words : List ℕ) (at word i : ℕ) → at < length words → word ≡ get_or words at word → i < 64
+    → is_member (at * 64 + i) (bits_of words) ≡ eqb (bit_at word i) 1
+is_member-at words at word i l e small =
+    let x = at * 64 + i in
+    let here : x / 64 ≡ at = omega arith in
+    let place : x % 64 ≡ i = omega arith in
+    is_member-bits_of x words ∙ has_bit_is words x ∙ ap (λ k. eqb (bit_at (get_or words k 0) (x % 64)) 1) here
+    ∙ ap (λ j. eqb (bit_at (get_or words at 0) j) 1) place ∙ ap (λ w. eqb (bit_at w i) 1) (sym (get_or_read words at word l e 0))
+
+pub none_past : (words : List ℕ) (from : ℕ) → 64 * length words ≤ from → (x : ℕ) → from ≤ x → is_member x (bits_of words) ≡ false
+none_past words from past x l = is_member-bits_of x words ∙ has_bit_past words x (omega arith)
+
 -- nothing to clear past the last word
 pub bits_of-cut_past : (words : List ℕ) (x : ℕ) → length words ≤ x / 64 → bits_of words ≡ without_one (bits_of words) x
 bits_of-cut_past words x h = sym (without_one-missing (bits_of words) x (IsRising-bits_of words) (is_member-bits_of x words ∙ has_bit_past words x h))

@@ -16,6 +16,7 @@ pub mod Families
 pub mod Search
 pub mod Bits
 pub mod BitScan
+pub mod BitMembers
 pub mod SetTests
 pub mod Places
 pub mod UnionWalks

@@ -1,6 +1,10 @@
 //! A set of numbers kept as bits, seen as a strictly rising list.
-ghost use Rattle.std.specs.Prelude.{◌≡◌, ℕ, ◌&&◌, ◌||◌, ◌≤◌, ◌^◌, [], length, max, IfOk, OnOk, OnErr};
-ghost use Rattle.mat_sets.specs.{Bits.{bits_of}, Search.{IsNextFrom}, Sets.{all_below, is_member, with_one, without_one}};
+ghost use Rattle.std.specs.Prelude.{◌≡◌, ℕ, ◌+◌, ◌&&◌, ◌||◌, ◌≤◌, ◌^◌, List, [], length, max, IfOk, OnOk, OnErr};
+ghost use Rattle.mat_sets.specs.{
+  Bits.{AreMembersBelow, IsWordOf, bits_of},
+  Search.{IsNextFrom},
+  Sets.{all_below, is_member, with_one, without_one, IsRising},
+};
 
 use crate::bit_row::BitRow;
 use std::alloc::{AllocError, Global};
@@ -108,6 +112,19 @@ impl BitSet {
         Ok(())
     }
 
+    /// The members in rising order. The time is that of the members and of the words. The only error is want of memory.
+    pub(crate) fn members(&self, alloc: Global) -> Result<Vec<u32>, AllocError>
+        ensures members { IfOk result (λ v. v.items ≡ self.now) }
+        ensures rises { IfOk result (λ v. IsRising v.items) }
+    {
+        // As much room as the words take.
+        let mut items = Vec::with_capacity(alloc, 2 * self.words.len())?;
+        for at in 0..self.words.len() {
+            push_bits(&mut items, at as u32 * 64, self.words[at])?;
+        }
+        Ok(items)
+    }
+
     /// The words, of which each has the bits of 64 numbers.
     pub fn as_words(&self) -> &[u64]
         ensures { bits_of result.now ≡ self.now }
@@ -170,4 +187,19 @@ fn set_all(words: &mut [u64], others: &[u64])
     for at in 0..others.len() {
         words[at] |= others[at];
     }
+}
+
+/// Puts behind the items the numbers whose bits are set in a word, counted from `first` on.
+fn push_bits(items: &mut Vec<u32>, first: u32, word: u64) -> Result<(), AllocError>
+    requires { first + 64 ≤ 2 ^ 32 }
+    ensures { OnOk result ((bits : List ℕ) → IsWordOf bits first word → AreMembersBelow bits first items.old.items
+        → AreMembersBelow bits (first + 64) items.new.items) }
+{
+    let mut rest = word;
+    while rest != 0 {
+        let bit = rest.trailing_zeros();
+        items.push(first + bit)?;
+        rest &= !(1 << bit);
+    }
+    Ok(())
 }

@@ -1,6 +1,6 @@
 //! A set of numbers, seen as a strictly rising list.
 ghost use Rattle.std.specs.{
-  Prelude.{◌≡◌, ◌==◌, ◌↔◌, ◌<◌, [], if◌then◌else◌, length, slice_index, not, IfOk, IsTrue, OnErr, OnOk, MatchResult},
+  Prelude.{◌≡◌, ◌==◌, ◌↔◌, ◌<◌, ◌≤◌, [], if◌then◌else◌, insert, is_ok, length, slice_index, not, IfOk, IsTrue, OnErr, OnOk, MatchResult},
   Cmp.Lexicographic.{pointwise},
   Cmp.Rules.{comparing},
 };
@@ -55,6 +55,19 @@ pub struct NotRising {
     pub at: usize,
 }
 
+// Puts x at a place of a list: behind the last item by a push, which moves nothing.
+fn put_at(items: &mut Vec<u32>, at: usize, x: u32) -> Result<(), AllocError>
+    requires { at ≤ length items.old.items }
+    ensures { items.new.items ≡ (if is_ok result then insert items.old.items at x else items.old.items) }
+{
+    if at == items.len() {
+        items.push(x)?;
+    } else {
+        items.insert(at, x)?;
+    }
+    Ok(())
+}
+
 impl ElemSet {
     /// The empty set. It takes no memory; `alloc` is where later members get theirs.
     #[tactic(auto, using(crate::proofs::Members::set_rises))]
@@ -93,6 +106,15 @@ impl ElemSet {
             set.add(*x)?;
         }
         Ok(set)
+    }
+
+    /// The set of the members of a set of bits. The time is that of the members and of the words. The only error is want of memory.
+    pub fn from_bits(alloc: Global, bits: &BitSet) -> Result<ElemSet, AllocError>
+        ensures members { IfOk result (λ s. s ≡ bits.now) }
+        ensures set { IfOk result (λ s. IsRising s) }
+    {
+        let items = bits.members(alloc)?;
+        Ok(ElemSet { items })
     }
 
     /// Nothing but what the type keeps, for proofs: the items rise.
@@ -154,7 +176,7 @@ impl ElemSet {
         match place_to_add(&self.items, x) {
             Ok(_) => Ok(false),
             Err(gap) => {
-                self.items.insert(gap, x)?;
+                put_at(&mut self.items, gap, x)?;
                 Ok(true)
             }
         }

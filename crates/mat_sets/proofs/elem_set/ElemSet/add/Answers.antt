@@ -12,11 +12,11 @@ returns-in-Ok-clause-ok c =
     let e = with_one-place _ _ _ (search rules) c.in-Ok.ensures in
     grind arith
 
-pub returns-in_ok-insert-in-Err-clause-ok : goal.returns-in_ok-insert-in-Err-clause-ok
-returns-in_ok-insert-in-Err-clause-ok c =
+pub returns-in_ok-put_at-in-Err-clause-ok : goal.returns-in_ok-put_at-in-Err-clause-ok
+returns-in_ok-put_at-in-Err-clause-ok c =
     let m = is_member-gap _ _ _ c.in-Err.ensures in
     let e = insert-gap _ _ _ c.in-Err.ensures in
     grind arith
 
-pub returns-in_ok-insert-in-Err-clause-rises : goal.returns-in_ok-insert-in-Err-clause-rises
-returns-in_ok-insert-in-Err-clause-rises c = let e = insert-gap _ _ _ c.in-Err.ensures in grind (arith, IsRising-with_one)
+pub returns-in_ok-put_at-in-Err-clause-rises : goal.returns-in_ok-put_at-in-Err-clause-rises
+returns-in_ok-put_at-in-Err-clause-rises c = let e = insert-gap _ _ _ c.in-Err.ensures in grind (arith, IsRising-with_one)

@@ -1,0 +1,6 @@
+use Rattle.std.proofs.Common.{◌*◌}
+use Rattle.mat_sets.specs.Bits.{bits_of, AreMembersBelow}
+use Rattle.mat_sets.proofs.bit_set.BitSet.members.Given as goal
+
+abbrev pub invariant-loop-at : goal.invariant-loop-at
+invariant-loop-at l = AreMembersBelow (bits_of l.self-inside.words.items) (l.at * 64) l.items.items
