@@ -9,7 +9,7 @@ use Rattle.mat_sets.proofs.Members.{is_member-append, is_member-with_one}
 use Rattle.mat_sets.proofs.Truths.{eqb-turned, or_swap}
 use Rattle.mat_graphic.specs.Mergings.{least_merged}
 use Rattle.mat_graphic.specs.ComponentLaws.{member_within, walk_append, walk_same}
-use Rattle.mat_graphic.specs.TrailSearches.{IsOrder, IsTree, IsTrailSet}
+use Rattle.mat_graphic.specs.TrailSearches.{AreAfter, EndsAt, IsClimbing, IsOrder, IsTree, IsTrailSet}
 use Rattle.mat_graphic.proofs.TrailScans.{order-differ}
 
 -- ---- an edge between two lists
@@ -25,25 +25,6 @@ AreDistinct-between e (x ∷ P) Q d out =
     (is_member-between x e P Q ∙ or_from (eqb x e) (is_member x (P ++ Q)) (eqb-turned x e ∙ parts.0) d.0, AreDistinct-between e P Q d.1 parts.1)
 
 -- ---- the edges so far
-
--- an end of the edge stands at place j
-abbrev EndsAt : (ℕ → ℕ × ℕ) → List ℕ → ℕ → ℕ → Type 0
-EndsAt ends order e j = ((ends e).0 ≡ get_or order j 0) ⊎ ((ends e).1 ≡ get_or order j 0)
-
--- different members of X, each with an end after this place
-pub record AreAfter (ends : ℕ → ℕ × ℕ) (X order : List ℕ) (high : ℕ) (edges with' : List ℕ) : Type 0 where
-  pub distinct : AreDistinct edges
-  pub inside : IsSubset edges X
-  pub far : (f : ℕ) → is_member f edges ≡ true → (j : ℕ) × (high < j) × (j < length order) × EndsAt ends order f j
-  pub same : (z : ℕ) → is_member z with' ≡ is_member z edges
-
--- the edges so far lead from the one vertex to the first place, and from the second place to the other vertex
-pub record IsClimbing (ends : ℕ → ℕ × ℕ) (X order : List ℕ) (from to first second : ℕ) (with' : List ℕ) : Type 0 where
-  pub front : List ℕ
-  pub back : List ℕ
-  pub walk : Walk ends front (get_or order from 0) (get_or order first 0)
-  pub walk_back : Walk ends back (get_or order second 0) (get_or order to 0)
-  pub after : AreAfter ends X order (max first second) (front ++ back) with'
 
 module _ (ends : ℕ → ℕ × ℕ) (X : List ℕ) (order : List ℕ) where
   pub IsClimbing-start : (from to : ℕ) (with' : List ℕ) → with' ≡ [] → IsClimbing ends X order from to from to with'

@@ -6,5 +6,6 @@ pub mod TrailTables
 pub mod TrailScans
 pub mod GraphicRuns
 pub mod Climbing
+pub mod EnteredTrails
 pub mod ForestSizes
 pub mod Roots

@@ -1,6 +1,7 @@
 -- The algorithm's own notions: the search that roots the trees of a forest, in which all vertices are found, each but the roots from one found
 -- earlier, and the trails between vertices. No public contract but that of what is kept rests on them.
-use Rattle.std.specs.Prelude.{◌≡◌, ◌≢◌, ℕ, suc, ◌<◌, ◌≤◌, Bool, true, false, ◌&&◌, ◌==◌, nat_lt, List, length, slice_index, slice_index_or, Option, Some, None}
+use Rattle.std.specs.Prelude.{◌≡◌, ◌≢◌, ℕ, suc, ◌<◌, ◌≤◌, max, Bool, true, false, ◌&&◌, ◌==◌, nat_lt, ◌⊎◌, List, ◌++◌, length, slice_index, slice_index_or, Option, Some, None, MatchBool}
+use Rattle.mat_sets.specs.Rows.{IsEntered}
 use Rattle.mat_sets.specs.Sets.{is_member, AllBelow, AreDistinct, IsRising, IsSubset}
 use Rattle.mat_sets.specs.Search.{IsNextFrom}
 use Rattle.mat_sets.specs.Graphs.{Joins, Walk}
@@ -83,3 +84,30 @@ pub record Trail (ends : ℕ → ℕ × ℕ) (X : List ℕ) (v w : ℕ) : Type 0
 pub record IsTrailSet (ends : ℕ → ℕ × ℕ) (X : List ℕ) (v w : ℕ) (set : List ℕ) : Type 0 where
   pub trail : Trail ends X v w
   pub same : (z : ℕ) → is_member z set ≡ is_member z trail.edges
+
+-- an end of the edge stands at place j
+abbrev pub EndsAt : (ℕ → ℕ × ℕ) → List ℕ → ℕ → ℕ → Type 0
+EndsAt ends order e j = ((ends e).0 ≡ slice_index order j) ⊎ ((ends e).1 ≡ slice_index order j)
+
+-- different members of X, each with an end after this place, and the set of them
+pub record AreAfter (ends : ℕ → ℕ × ℕ) (X order : List ℕ) (high : ℕ) (edges set : List ℕ) : Type 0 where
+  pub distinct : AreDistinct edges
+  pub inside : IsSubset edges X
+  pub far : (f : ℕ) → is_member f edges ≡ true → (j : ℕ) × (high < j) × (j < length order) × EndsAt ends order f j
+  pub same : (z : ℕ) → is_member z set ≡ is_member z edges
+
+-- the set of the edges so far, which lead from the one vertex up to the first place, and from the second place down to the other vertex
+pub record IsClimbing (ends : ℕ → ℕ × ℕ) (X order : List ℕ) (from to first second : ℕ) (set : List ℕ) : Type 0 where
+  pub front : List ℕ
+  pub back : List ℕ
+  pub walk : Walk ends front (slice_index order from) (slice_index order first)
+  pub walk_back : Walk ends back (slice_index order second) (slice_index order to)
+  pub after : AreAfter ends X order (max first second) (front ++ back) set
+
+-- an edge is put into the columns of some members of X: where v and w are joined, of the edges of a trail between them; else they are in
+-- different components
+pub record IsTrailEntered (ends : ℕ → ℕ × ℕ) (X : List ℕ) (v w edge : ℕ) (joined : Bool) (before after : List (List ℕ)) : Type 0 where
+  pub members : List ℕ
+  pub inside : IsSubset members X
+  pub entered : IsEntered edge members before after
+  pub told : MatchBool joined (IsTrailSet ends X v w members) (least_merged ends X v ≢ least_merged ends X w)

@@ -1,7 +1,7 @@
 //! Graphic matroids.
-ghost use Rattle.std.specs.Prelude.{◌≡◌, ℕ, List, [], ◌∷◌, ◌<◌, ◌==◌, not, length, slice_index, IfOk};
-ghost use Rattle.mat_sets.specs.{Graphs.{IsGraph, ends_of}, Sets.{AllBelow, IsRising}};
-ghost use Rattle.mat_laws.specs.GreedyRuns.{grown_along};
+ghost use Rattle.std.specs.Prelude.{◌≡◌, ℕ, List, [], ◌∷◌, ◌<◌, ◌==◌, not, true, false, length, slice_index, IfOk, OnOk};
+ghost use Rattle.mat_sets.specs.{Graphs.{IsGraph, ends_of}, Rows.{IsEntered}, Sets.{AllBelow, IsRising, is_member}};
+ghost use Rattle.mat_laws.specs.{Exchanges.{row_of}, GreedyRuns.{grown_along}};
 ghost use Rattle.mat_graphic.specs.{
   Forests.{IsLeastReached, is_forest, is_graphic},
   Mergings.{least_merged},
@@ -10,8 +10,9 @@ ghost use Rattle.mat_graphic.specs.{
   ParentTables.{IsDescending, IsParentTable},
 };
 
-use crate::rooted_forest::{RootedForest, are_joined, root_trees, trail};
+use crate::rooted_forest::{RootedForest, are_joined, enter_trail, root_trees, trail};
 use crate::union_find::{settle, singletons, unite};
+use mat_laws::columns::{empty_columns, enter};
 use mat_laws::{Exchange, Matroid};
 use mat_sets::{ElemSet, Pairs};
 use std::alloc::{AllocError, Global};
@@ -136,6 +137,32 @@ impl Graphic {
         settle(&mut parent);
         Ok(parent)
     }
+
+    // Puts an edge outside a forest into the columns of the members for which it can be exchanged: where its ends are in one tree,
+    // those of the trail between them, and else all.
+    fn enter_exchanges(
+        &self,
+        columns: &mut Vec<ElemSet>,
+        base: &ElemSet,
+        kept: &RootedForest,
+        x: u32,
+    ) -> Result<(), AllocError>
+        requires sound { IsGraph self.now.vertices self.now.edges }
+        requires base { is_graphic (length self.now.edges) (ends_of self.now.edges) base.now ≡ true }
+        requires kept { IsRootedForest self.now.vertices (ends_of self.now.edges) base.now kept.now }
+        requires below { x < length self.now.edges }
+        requires outside { is_member x base.now ≡ false }
+        requires long { length columns.old.items ≡ length self.now.edges }
+        ensures { OnOk result (IsEntered x (row_of (is_graphic (length self.now.edges) (ends_of self.now.edges)) base.now x).with
+            columns.old.items columns.new.items) }
+    {
+        let (first, second) = self.edges.get(x as usize);
+        let joined = enter_trail(columns, kept, second, first, x)?;
+        if joined {
+            return Ok(());
+        }
+        enter(columns, x, base.as_slice())
+    }
 }
 
 impl Matroid for Graphic {
@@ -192,7 +219,7 @@ impl Matroid for Graphic {
         x: u32,
     ) -> Result<Exchange, AllocError> {
         let (first, second) = self.edges.get(x as usize);
-        match trail(alloc, kept, second, first)? {
+        match trail(alloc, kept, self.size(), second, first)? {
             Some(with) => Ok(Exchange {
                 addable: false,
                 with,
@@ -214,5 +241,24 @@ impl Matroid for Graphic {
     ) -> Result<bool, AllocError> {
         let (first, second) = self.edges.get(x as usize);
         Ok(!are_joined(kept, first, second))
+    }
+
+    /// The exchanges column by column, with no row: an edge enters the columns of the trail between its ends while this is climbed,
+    /// or all where they are in two trees. The only error is want of memory.
+    fn columns(
+        &self,
+        alloc: Global,
+        base: &ElemSet,
+        kept: &RootedForest,
+    ) -> Result<Vec<ElemSet>, AllocError> {
+        self.lawful();
+        let size = self.size();
+        let mut columns = empty_columns(alloc, size)?;
+        for x in 0..size {
+            if !base.contains(x) {
+                self.enter_exchanges(&mut columns, base, kept, x)?;
+            }
+        }
+        Ok(columns)
     }
 }

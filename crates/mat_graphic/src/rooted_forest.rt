@@ -1,13 +1,13 @@
 //! Rooted forests, by breadth-first search, which asks each found vertex once for its edges, and the trails between their vertices.
-ghost use Rattle.std.specs.Prelude.{◌≡◌, ◌≢◌, ◌<◌, ◌≤◌, ◌==◌, ℕ, List, length, slice_index, true, IfOk, OnOk, MatchOption};
-ghost use Rattle.mat_sets.specs.{Graphs.{IsGraph, ends_of}, Sets.{AllBelow, IsRising, is_member}};
+ghost use Rattle.std.specs.Prelude.{◌≡◌, ◌≢◌, ◌+◌, ◌<◌, ◌≤◌, ◌==◌, ℕ, List, length, slice_index, true, IfOk, IfSome, OnOk, MatchOption};
+ghost use Rattle.mat_sets.specs.{Graphs.{IsGraph, ends_of}, Sets.{AllBelow, IsRising, is_member, with_one}};
 ghost use Rattle.mat_graphic.specs.{
   Mergings.{least_merged},
   RootedForests.{IsRootedForest},
-  TrailSearches.{AreEnds, AreJoined, ArePlaces, IsExploring, IsFindable, IsFront, IsOrder, IsTree, IsTrailSet},
+  TrailSearches.{AreEnds, AreJoined, ArePlaces, IsClimbing, IsExploring, IsFindable, IsFront, IsOrder, IsTrailEntered, IsTrailSet, IsTree},
 };
 
-use mat_sets::ElemSet;
+use mat_sets::{BitSet, ElemSet};
 use std::alloc::{AllocError, Global};
 
 // Where each vertex stands first in a list, and for each place the next one with the same vertex.
@@ -216,11 +216,58 @@ pub(crate) fn root_trees(
     explore_all(alloc, vertices, &ends.firsts, &ends.seconds, members)
 }
 
+// A step of climbing from two places: the edge that leads towards the root from the later one, and the two places after it.
+#[derive(Drop)]
+struct Step {
+    edge: u32,
+    first: usize,
+    second: usize,
+}
+
+// The step from the later of two places; None where this is a root, and so the vertices from which the climbing came are in
+// different trees.
+fn step_up(forest: &RootedForest, first: usize, second: usize) -> Option<Step>
+    requires order { IsOrder forest.now.place.items forest.now.order.items forest.now.through.items forest.now.before.items }
+    requires first { first < length forest.now.order.items }
+    requires second { second < length forest.now.order.items }
+    requires apart { first ≢ second }
+    ensures inside { IfSome result (λ s. (s.first < length forest.now.order.items) × (s.second < length forest.now.order.items)) }
+    ensures lower { IfSome result (λ s. s.first + s.second < first + second) }
+    ensures climbing { (ends : ℕ → ℕ × ℕ) (X : List ℕ) (from to : ℕ) (edges : List ℕ)
+        → IsTree ends X forest.now.order.items forest.now.through.items forest.now.before.items
+        → IsClimbing ends X forest.now.order.items from to first second edges
+        → MatchOption result (least_merged ends X (slice_index forest.now.order.items from)
+        ≢ least_merged ends X (slice_index forest.now.order.items to))
+        (λ s. IsClimbing ends X forest.now.order.items from to s.first s.second (with_one edges s.edge)) }
+{
+    let high = first.max(second);
+    let before = forest.before[high];
+    if before == high {
+        return None;
+    }
+    let edge = forest.through[high];
+    if first == high {
+        Some(Step {
+            edge,
+            first: before,
+            second,
+        })
+    } else {
+        Some(Step {
+            edge,
+            first,
+            second: before,
+        })
+    }
+}
+
 // The edges of the trail between the vertices at two places, by climbing from the later place until both meet; None where
-// this leads to a root, and so they are in different trees.
+// this leads to a root, and so they are in different trees. The edges come in no order, so they are collected as bits, with
+// room for this many edges of the graph.
 fn climb(
     alloc: Global,
     forest: &RootedForest,
+    edge_count: u32,
     from: usize,
     to: usize,
 ) -> Result<Option<ElemSet>, AllocError>
@@ -234,23 +281,52 @@ fn climb(
         (λ s. IsTrailSet ends X (slice_index forest.now.order.items from) (slice_index forest.now.order.items to) s)) }
     ensures rises { IfOk result (λ found. MatchOption found (Unit {0}) (λ s. IsRising s)) }
 {
-    let mut with = ElemSet::new(alloc);
+    let mut with = BitSet::with_capacity(alloc, edge_count)?;
     let mut first = from;
     let mut second = to;
     while first != second {
-        let high = first.max(second);
-        let before = forest.before[high];
-        if before == high {
+        let Some(step) = step_up(forest, first, second) else {
             return Ok(None);
-        }
-        with.add(forest.through[high])?;
-        if first == high {
-            first = before;
-        } else {
-            second = before;
-        }
+        };
+        with.insert(step.edge)?;
+        first = step.first;
+        second = step.second;
     }
-    Ok(Some(with))
+    let edges = ElemSet::from_bits(alloc, &with)?;
+    Ok(Some(edges))
+}
+
+// Puts an edge into the columns of the edges of the trail between the vertices at two places, by climbing from the later
+// place until both meet; false where this leads to a root, and so they are in different trees: by then the columns of some
+// members have the edge.
+fn enter_climb(
+    columns: &mut Vec<ElemSet>,
+    forest: &RootedForest,
+    from: usize,
+    to: usize,
+    edge: u32,
+) -> Result<bool, AllocError>
+    requires order { IsOrder forest.now.place.items forest.now.order.items forest.now.through.items forest.now.before.items }
+    requires from { from < length forest.now.order.items }
+    requires to { to < length forest.now.order.items }
+    requires tree { (ends : ℕ → ℕ × ℕ) × (X : List ℕ)
+        × IsTree ends X forest.now.order.items forest.now.through.items forest.now.before.items × AllBelow (length columns.old.items) X }
+    ensures { IfOk result (λ joined. (ends : ℕ → ℕ × ℕ) (X : List ℕ)
+        → IsTree ends X forest.now.order.items forest.now.through.items forest.now.before.items
+        → IsTrailEntered ends X (slice_index forest.now.order.items from) (slice_index forest.now.order.items to) edge joined
+        columns.old.items columns.new.items) }
+{
+    let mut first = from;
+    let mut second = to;
+    while first != second {
+        let Some(step) = step_up(forest, first, second) else {
+            return Ok(false);
+        };
+        columns[step.edge as usize].add(edge)?;
+        first = step.first;
+        second = step.second;
+    }
+    Ok(true)
 }
 
 // The place of a vertex that was found.
@@ -264,11 +340,12 @@ fn place_of(forest: &RootedForest, vertex: u32) -> usize
 }
 
 /// The edges of the trail from one vertex to another, a walk along different edges of the forest; None where they are in
-/// different trees. The time is linear in the length of the trail, but for putting its edges in order, or in the distance
-/// to a root. The only error is want of memory.
+/// different trees. The time is linear in the length of the trail, or in the distance to a root, and in the words that have a
+/// bit for each of this many edges of the graph. The only error is want of memory.
 pub(crate) fn trail(
     alloc: Global,
     forest: &RootedForest,
+    edge_count: u32,
     from: u32,
     to: u32,
 ) -> Result<Option<ElemSet>, AllocError>
@@ -280,7 +357,41 @@ pub(crate) fn trail(
         → MatchOption found (least_merged ends X from ≢ least_merged ends X to) (λ s. IsTrailSet ends X from to s)) }
     ensures rises { IfOk result (λ found. MatchOption found (Unit {0}) (λ s. IsRising s)) }
 {
-    climb(alloc, forest, place_of(forest, from), place_of(forest, to))
+    climb(
+        alloc,
+        forest,
+        edge_count,
+        place_of(forest, from),
+        place_of(forest, to),
+    )
+}
+
+/// Puts an edge into the columns of the edges of the trail from one vertex to another, by climbing from both; false where they
+/// are in different trees: by then the columns of some members have the edge. The time is linear in the length of the trail, or
+/// in the distance to a root, where the edge is greater than what its columns have. The only error is want of memory.
+pub(crate) fn enter_trail(
+    columns: &mut Vec<ElemSet>,
+    forest: &RootedForest,
+    from: u32,
+    to: u32,
+    edge: u32,
+) -> Result<bool, AllocError>
+    requires order { IsOrder forest.now.place.items forest.now.order.items forest.now.through.items forest.now.before.items }
+    requires from { is_member from forest.now.order.items ≡ true }
+    requires to { is_member to forest.now.order.items ≡ true }
+    requires tree { (ends : ℕ → ℕ × ℕ) × (X : List ℕ)
+        × IsTree ends X forest.now.order.items forest.now.through.items forest.now.before.items × AllBelow (length columns.old.items) X }
+    ensures { IfOk result (λ joined. (ends : ℕ → ℕ × ℕ) (X : List ℕ)
+        → IsTree ends X forest.now.order.items forest.now.through.items forest.now.before.items
+        → IsTrailEntered ends X from to edge joined columns.old.items columns.new.items) }
+{
+    enter_climb(
+        columns,
+        forest,
+        place_of(forest, from),
+        place_of(forest, to),
+        edge,
+    )
 }
 
 // The place of the root of the tree in which a place lies.

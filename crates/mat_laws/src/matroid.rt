@@ -247,7 +247,7 @@ pub trait Matroid: Sync + Drop {
     }
 
     /// For each member of an independent set, at its number, the elements outside it that can take its place: all rows, turned
-    /// (Schrijver, chapter 39). One row an element. The only error is want of memory.
+    /// (Schrijver, chapter 39). A kind may have a body that makes no rows; this one makes one row an element. The only error is want of memory.
     fn columns(
         &self,
         alloc: Global,
@@ -345,5 +345,14 @@ impl<M: Matroid> Matroid for &M {
         x: u32,
     ) -> Result<Option<ElemSet>, AllocError> {
         (**self).circuit_members(alloc, base, kept, x)
+    }
+
+    fn columns(
+        &self,
+        alloc: Global,
+        base: &ElemSet,
+        kept: &M::Kept,
+    ) -> Result<Vec<ElemSet>, AllocError> {
+        (**self).columns(alloc, base, kept)
     }
 }

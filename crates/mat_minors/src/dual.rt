@@ -66,8 +66,8 @@ impl<M: Matroid> Matroid for Dual<M> {
         all.minus(alloc, &base)
     }
 
-    /// A base of the inner matroid that is disjoint from the set, by one run, and the columns at it, by one row of the inner
-    /// matroid for each element outside that base. The only error is want of memory.
+    /// A base of the inner matroid that is disjoint from the set, by one run, and the columns at it, which the inner
+    /// matroid makes. The only error is want of memory.
     fn keep(&self, alloc: Global, base: &ElemSet) -> Result<DualKept, AllocError> {
         self.inner.lawful();
         let outside = ElemSet::all_below(alloc, self.inner.size())?.minus(alloc, base)?;

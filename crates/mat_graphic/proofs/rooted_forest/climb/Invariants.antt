@@ -1,13 +1,10 @@
 use Rattle.std.proofs.Common.{ℕ, List, ◌<◌, ◌+◌, length}
-use Rattle.mat_sets.specs.Sets.{IsRising}
-use Rattle.mat_graphic.specs.TrailSearches.{IsTree}
-use Rattle.mat_graphic.proofs.Climbing.{IsClimbing}
+use Rattle.mat_graphic.specs.TrailSearches.{IsClimbing, IsTree}
 use Rattle.mat_graphic.proofs.rooted_forest.climb.Given as goal
 
 abbrev pub invariant-loop-first : goal.invariant-loop-first
 invariant-loop-first l =
     record {
-      rising : IsRising l.with;
       first : l.first < length l.forest.order.items;
       second : l.second < length l.forest.order.items;
       climbing : (ends : ℕ → ℕ × ℕ) (X : List ℕ) → IsTree ends X l.forest.order.items l.forest.through.items l.forest.before.items

@@ -1,0 +1,41 @@
+use Rattle.std.proofs.Common.{◌<◌, length, refl, sym, ◌∙◌, arith}
+use Rattle.mat_sets.specs.Graphs.{ends_of}
+use Rattle.mat_laws.specs.Exchanges.{row_of}
+use Rattle.mat_laws.proofs.ColumnSteps.{AreEntering-entered, AreEntering-passed}
+use Rattle.mat_graphic.specs.Forests.{is_graphic}
+use Rattle.mat_graphic.proofs.EnteredTrails.{AreEntering-none, AreEntering-all}
+use Rattle.mat_graphic.proofs.graphic.GraphicMatroid.columns.Goals as goal
+use Rattle.mat_graphic.proofs.graphic.GraphicMatroid.columns.Goals.{then-not-contains+in_ok-enter_exchanges, else-not-contains}
+
+pub loop-x-init : goal.loop-x-init
+loop-x-init c = AreEntering-none _ _ c.args.base.now c.in_ok-columns.columns.items (c.in_ok-columns.ensures.long ∙ c.size-size.ensures)
+    c.in_ok-columns.ensures.empty
+
+pub enter_exchanges-requires-clause-below : goal.enter_exchanges-requires-clause-below
+enter_exchanges-requires-clause-below c = omega (arith, c.size-size.ensures, c.loop-x.auto.x-end, c.loop-x-test.true)
+
+pub enter_exchanges-requires-clause-outside : goal.enter_exchanges-requires-clause-outside
+enter_exchanges-requires-clause-outside c = sym c.contains.ensures.found ∙ c.if-not-contains.true
+
+pub enter_exchanges-requires-clause-long : goal.enter_exchanges-requires-clause-long
+enter_exchanges-requires-clause-long c = c.loop-x.invariant.long
+
+pub loop-x-preserved : goal.loop-x-preserved
+loop-x-preserved c = elim c.if-not-contains.branch [
+  | then-not-contains+in_ok-enter_exchanges w ↦
+      let edges = c.args.self.now.edges in
+      let base = c.args.base.now in
+      let x = c.loop-x.x in
+      let row = row_of (is_graphic (length edges) (ends_of edges)) base x in
+      let out = sym c.contains.ensures.found ∙ w.if-not-contains.true in
+      let small : x < length edges = omega (arith, c.size-size.ensures, c.loop-x.auto.x-end, c.loop-x-test.true) in
+      rw w.columns-is (AreEntering-entered base x c.loop-x.columns.items _ row row.with c.lawful.ensures c.requires.base small out refl refl
+      w.in_ok-enter_exchanges.ensures.count (λ y k m. w.in_ok-enter_exchanges.ensures.members k y m) c.loop-x.invariant)
+  | else-not-contains w ↦
+      rw w.columns-is (AreEntering-passed _ _ c.args.base.now c.loop-x.x c.loop-x.columns.items
+      (sym c.contains.ensures.found ∙ w.if-not-contains.false) c.loop-x.invariant)
+]
+
+pub returns : goal.returns
+returns c = AreEntering-all _ _ c.args.base.now c.loop-x.x c.loop-x.columns.items (omega (arith, c.size-size.ensures, c.loop-x-test.false))
+    c.loop-x.invariant

@@ -1,0 +1,8 @@
+use Rattle.std.proofs.Common.{length}
+use Rattle.mat_sets.specs.Graphs.{ends_of}
+use Rattle.mat_laws.proofs.ColumnSteps.{AreEntering}
+use Rattle.mat_graphic.specs.Forests.{is_graphic}
+use Rattle.mat_graphic.proofs.graphic.GraphicMatroid.columns.Given as goal
+
+abbrev pub invariant-loop-x : goal.invariant-loop-x
+invariant-loop-x l = AreEntering (length l.self.edges) (is_graphic (length l.self.edges) (ends_of l.self.edges)) l.base l.x l.columns.items
