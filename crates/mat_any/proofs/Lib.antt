@@ -4,3 +4,4 @@ pub mod DualNests
 pub mod UnionsOfUnions
 pub mod FlatTrees
 pub mod PartLists
+mod WholeRuns

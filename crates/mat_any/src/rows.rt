@@ -1,7 +1,7 @@
 //! The exchanges of an element in a matroid of any kind, by what is kept of the set and by recursion on the matroids within it.
 ghost use Rattle.std.specs.Prelude.{◌≡◌, ◌<◌, ℕ, true, false, [], length, map, IfOk, IfSome};
 ghost use Rattle.mat_sets.specs.{Families.{family_union}, Sets.{IsRising, IsSet, is_member, union}};
-ghost use Rattle.mat_laws.specs.{Exchanges.{circuit_members, row_of}, Matroids.{IsMaximal}};
+ghost use Rattle.mat_laws.specs.{Columns.{AreColumns}, Exchanges.{circuit_members, row_of}, Matroids.{IsMaximal}};
 ghost use Rattle.mat_minors.specs.{DualRows.{IsDualKept}, Minors.{is_contracted, is_dual, is_restricted, is_truncated}};
 ghost use Rattle.mat_union.specs.{
   EndedSearches.{IsEnded, IsReady},
@@ -20,6 +20,7 @@ ghost use Rattle.mat_any.specs.{
 
 use crate::any::AnyMatroid;
 use crate::any_kept::AnyKept;
+use crate::part::Part;
 use crate::sizes::common_size_of;
 use mat_laws::{Exchange, Matroid};
 use mat_minors::{DualKept, dual_row};
@@ -131,6 +132,30 @@ pub(crate) fn adds(
         _ => {
             let exchange = row(alloc, matroid, base, kept, x)?;
             Ok(exchange.addable)
+        }
+    }
+}
+
+/// For each member of an independent set, at its number, the elements outside it that can take its place, by what is kept of the set: a graphic
+/// matroid makes no rows for them, each other kind one for each element outside. The only error is want of memory.
+pub(crate) fn columns(
+    alloc: Global,
+    matroid: &AnyMatroid,
+    base: &ElemSet,
+    kept: &AnyKept,
+) -> Result<Vec<ElemSet>, AllocError>
+    requires sound { IsSound (tree_of matroid.now) }
+    requires base { is_independent (tree_of matroid.now) base.now ≡ true }
+    requires kept { KeepsAny (tree_of matroid.now) base.now kept.now }
+    ensures { IfOk result (λ columns. AreColumns (element_count (tree_of matroid.now)) (is_independent (tree_of matroid.now)) base.now columns.items) }
+{
+    match (matroid, kept) {
+        (AnyMatroid::Graphic(graphic), AnyKept::Graphic(forest)) => {
+            graphic.columns(alloc, base, forest)
+        }
+        _ => {
+            let part = Part { matroid };
+            part.columns(alloc, base, kept)
         }
     }
 }

@@ -1,7 +1,7 @@
 //! Greedy runs of a matroid of any kind, and what it keeps of an independent set, by recursion on the matroids within it: a union grows
 //! parts by what its matroids keep of them, and a dual or a contraction keeps something of a run.
 ghost use Rattle.std.specs.Prelude.{◌≡◌, ◌<◌, ℕ, true, List, [], map, IfOk, OnOk};
-ghost use Rattle.mat_sets.specs.{Families.{family_union}, Sets.{AllBelow, AreDistinct, IsSet, union}};
+ghost use Rattle.mat_sets.specs.{Families.{family_union}, Sets.{AllBelow, AreDistinct, IsSet, IsSubset, union}};
 ghost use Rattle.mat_laws.specs.{GreedyRuns.{grown_along, grown_by}, Matroids.{IsMaximal}};
 ghost use Rattle.mat_minors.specs.{DualRows.{IsDualKept}, Minors.{is_contracted, is_dual, is_restricted, is_truncated}};
 ghost use Rattle.mat_union.specs.{GrownParts.{AreGrowing, AreKept}, Unions.{test_at, AreParts}, UnionsOf.{AreJoined}};
@@ -15,8 +15,7 @@ ghost use Rattle.mat_any.specs.{
 
 use crate::any::AnyMatroid;
 use crate::any_kept::AnyKept;
-use crate::part::Part;
-use crate::rows::place_for;
+use crate::rows::{self, place_for};
 use crate::sizes::{common_size_of, size_of};
 use mat_laws::Matroid;
 use mat_minors::{DualKept, first_taken, items_in, members_first, others_first};
@@ -191,6 +190,22 @@ fn first_growth(
 {
     let first = run(alloc, &matroids[0], order)?;
     let parts = first_parts(alloc, first, matroids.len())?;
+    growth_from(alloc, matroids, parts)
+}
+
+// These parts with what each matroid keeps of its part, and no element is found to be spanned yet.
+#[cycle(running)]
+fn growth_from(
+    alloc: Global,
+    matroids: &[AnyMatroid],
+    parts: SetList,
+) -> Result<Growth<AnyKept>, AllocError>
+    requires joined { AreJoined elements_in IsSoundOne matroids.now }
+    requires parts { AreParts (map test_in matroids.now) parts }
+    ensures growing { IfOk result (λ g. AreGrowing (size_in matroids.now) (map test_in matroids.now) g.parts g.spanned g.unspanned) }
+    ensures kept { IfOk result (λ g. AreKept KeepsOne matroids.now g.parts g.kept.items) }
+    ensures same { IfOk result (λ g. g.parts ≡ parts) }
+{
     let kept = keep_each(alloc, matroids, &parts)?;
     let unspanned = BitSet::all_below(alloc, common_size_of(matroids))?;
     Ok(Growth {
@@ -284,7 +299,7 @@ fn keep_each(
 
 /// What is kept of an independent set. A truncation or a restriction keeps what the matroid within it keeps; the dual of a dual what the
 /// matroid within both keeps, and another dual makes one run of its matroid, and asks it for the exchanges of each element outside; a
-/// contraction makes one run; a union grows parts of the set. The only error is want of memory.
+/// contraction makes one run; a union makes parts of the set. The only error is want of memory.
 #[cycle(running)]
 pub(crate) fn keep(
     alloc: Global,
@@ -392,8 +407,7 @@ fn columns_keep(alloc: Global, inner: &AnyMatroid, set: &ElemSet) -> Result<Dual
     let outside = ElemSet::all_below(alloc, size_of(inner))?.minus(alloc, set)?;
     let base = run(alloc, inner, outside.as_slice())?;
     let kept = keep(alloc, inner, &base)?;
-    let part = Part { matroid: inner };
-    let columns = part.columns(alloc, &base, &kept)?;
+    let columns = rows::columns(alloc, inner, &base, &kept)?;
     Ok(DualKept { base, columns })
 }
 
@@ -418,16 +432,42 @@ fn contraction_keep(
     joined_kept(alloc, chosen, joined, kept)
 }
 
-// Parts of the set, and what each matroid keeps of its part.
+// Parts of the set, and what each matroid keeps of its part: greedy parts, into which the other members come one after the other. Any parts of
+// the set will do, and of greedy ones few have to change.
 #[cycle(running)]
 fn union_keep(alloc: Global, matroids: &[AnyMatroid], set: &ElemSet) -> Result<AnyKept, AllocError>
     requires joined { AreJoined elements_in IsSoundOne matroids.now }
     requires base { union_in matroids.now set.now ≡ true }
     ensures { IfOk result (λ k. KeepsUnion matroids.now set.now k) }
 {
-    set.rises();
-    let growth = grown_parts(alloc, matroids, set.as_slice())?;
+    let parts = greedy_parts(alloc, matroids, set)?;
+    let mut growth = growth_from(alloc, matroids, parts)?;
+    for x in set.as_slice() {
+        take_turn(alloc, matroids, &mut growth, *x)?;
+    }
     Ok(parts_kept(growth.parts, growth.kept))
+}
+
+// Disjoint parts of a set: each matroid takes by one run what it can of what the ones before it left, in rising order.
+#[cycle(running)]
+fn greedy_parts(
+    alloc: Global,
+    matroids: &[AnyMatroid],
+    set: &ElemSet,
+) -> Result<SetList, AllocError>
+    requires joined { AreJoined elements_in IsSoundOne matroids.now }
+    requires below { AllBelow (size_in matroids.now) set.now }
+    ensures are { IfOk result (λ parts. AreParts (map test_in matroids.now) parts) }
+    ensures inside { IfOk result (λ parts. IsSubset (family_union parts) set.now) }
+{
+    let mut parts = Vec::new(alloc);
+    let mut rest = set.copy(alloc)?;
+    for i in 0..matroids.len() {
+        let part = run(alloc, &matroids[i], rest.as_slice())?;
+        rest = rest.minus(alloc, &part)?;
+        parts.push(part)?;
+    }
+    Ok(SetList::new(parts))
 }
 
 // What a union keeps, of its parts.

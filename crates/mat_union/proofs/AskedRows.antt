@@ -1,10 +1,12 @@
 -- The row of an element at a part answers what a search asks for.
 use Rattle.std.proofs.Common.{◌≡◌, ℕ, ◌<◌, Bool, List, length, get_or, map, refl, sym, ap, ◌∙◌, subst, arith}
-use Rattle.mat_sets.specs.Sets.{is_member}
+use Rattle.mat_sets.specs.Sets.{is_member, AllBelow}
 use Rattle.mat_laws.specs.declared.exchange.Exchange.{Exchange}
 use Rattle.mat_laws.specs.Exchanges.{row_of}
 use Rattle.mat_laws.specs.TightPaths.{Exchanges}
+use Rattle.mat_sets.proofs.Ground.{AllBelow-from_members}
 use Rattle.mat_sets.proofs.Members.{is_member-get_or}
+use Rattle.mat_union.specs.EndedSearches.{IsReady}
 use Rattle.mat_union.specs.Moves.{exchanges_with}
 use Rattle.mat_union.specs.MoveSearches.{element_asked, IsAnswered, IsReaching}
 use Rattle.mat_union.specs.Unions.{part_at, test_at, AreParts}
@@ -36,3 +38,11 @@ row_told indep matroids parts are s m row {part} {x} {q} here xe qe me pe re =
 
 pub asked_below : {n m : ℕ} {exchanges : ℕ → Exchanges} {among : List ℕ} {start : ℕ} {s : MoveSearch} → IsReaching n m exchanges among start s → s.head < length s.queue.items → element_asked s < n
 asked_below {n} {m} {exchanges} {among} {start} {s} r l = r.so_far.below (element_asked s) (is_member-get_or s.queue.items s.head (element_asked s) l refl)
+
+-- a search between two questions can be asked for moves
+pub reaching_is_ready : {n m : ℕ} {exchanges : ℕ → Exchanges} {among : List ℕ} {start : ℕ} {s : MoveSearch} → IsReaching n m exchanges among start s → IsReady s
+reaching_is_ready {n} {m} {exchanges} {among} {start} {s} r = record {
+  told = (let a = r.so_far.long in let b = r.so_far.told_some in omega arith);
+  below = subst (λ k. AllBelow k s.queue.items) (sym r.size) (AllBelow-from_members n s.queue.items r.so_far.below);
+  asked = λ e. (r.enters e).0;
+}

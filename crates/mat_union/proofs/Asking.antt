@@ -1,10 +1,11 @@
 -- The steps of a search that asks for exchanges: it begins, is told those of an element at one part after the other, and goes on to the next
 -- element of the queue. Whatever holds of the start and goes on along the known arcs holds of what they lead to.
-use Rattle.std.proofs.Common.{◌≡◌, ◌≢◌, ℕ, suc, ◌+◌, ◌*◌, ◌-◌, ◌<◌, Bool, true, false, not, ◌||◌, ◌&&◌, ◌⊎◌, eqb, List, [], ◌∷◌, length, get_or, replicate, set, take, inl, inr, refl, sym, ap, ◌∙◌, subst, arith, length-append}
+use Rattle.std.proofs.Common.{◌≡◌, ◌≢◌, ℕ, suc, ◌+◌, ◌*◌, ◌-◌, ◌<◌, Bool, true, false, not, ◌||◌, ◌&&◌, ◌⊎◌, eqb, List, [], ◌∷◌, ◌++◌, length, get_or, take, inl, inr, refl, sym, ap, ◌∙◌, subst, arith, length-append}
 use Rattle.std.proofs.Math.Nat.{suc-mul}
 use Rattle.std.proofs.Math.Numerals.{add-one}
-use Rattle.std.proofs.lemmas.Bool.{and_parts, both_ways, cases_Bool, cases_eq, eq-eqb, eqb-true, false≢true, or_cases, or_from, or_left, or_right}
-use Rattle.std.proofs.lemmas.List.{get_or-set_other, get_or-set_same, length-replicate, length-set, take-append-le}
+use Rattle.std.proofs.Math.Seq.{get_or-append_seam}
+use Rattle.std.proofs.lemmas.Bool.{and_parts, cases_Bool, cases_eq, eq-eqb, eqb-true, false≢true, or_cases, or_from, or_left, or_right}
+use Rattle.std.proofs.lemmas.List.{get_or_append_left, take-append-le}
 use Rattle.mat_sets.specs.Search.{some_below}
 use Rattle.mat_sets.specs.Sets.{is_member, without_one}
 use Rattle.mat_sets.proofs.Members.{is_member-append, is_member-get_or, is_member-without_one, only_member}
@@ -15,7 +16,6 @@ use Rattle.mat_union.specs.MoveSearches.{left_over, AreTaken, IsReachingTo}
 use Rattle.mat_sets.specs.Rows.{row_at}
 use Rattle.mat_sets.proofs.Truths.{and_not_gives, and_not_none}
 use Rattle.mat_sets.proofs.Search.{some_below-zero}
-use Rattle.mat_union.proofs.EmptyParts.{part_at-empty}
 use Rattle.mat_union.proofs.Taking.{without-no_longer}
 
 more_below : (i : ℕ) (test : ℕ → Bool) → some_below (suc i) test ≡ (test i || some_below i test)
@@ -24,11 +24,11 @@ more_below i test = refl
 
 -- ---- the beginning
 
-pub search_begins : (n m : ℕ) (exchanges : ℕ → Exchanges) (among unreached pushes queue : List ℕ) (table : List (List ℕ)) (start : ℕ) → start < n
-    → ((v : ℕ) → is_member v among ≡ true → v < n) → unreached ≡ without_one among start → queue ≡ start ∷ [] → pushes ≡ [] → table ≡ replicate n []
-    → IsReachingTo n m exchanges among start 0 0 queue pushes unreached table
-search_begins n m exchanges among unreached pushes queue table start l small u q p t = rw (u, q, p, t) (record {
-  size = length-replicate n [];
+pub search_begins : (n m : ℕ) (exchanges : ℕ → Exchanges) (among unreached pushes queue : List ℕ) (rows : List (List ℕ)) (start : ℕ) → start < n
+    → ((v : ℕ) → is_member v among ≡ true → v < n) → unreached ≡ without_one among start → queue ≡ start ∷ [] → pushes ≡ [] → rows ≡ []
+    → IsReachingTo n m exchanges among start 0 0 queue pushes unreached rows
+search_begins n m exchanges among unreached pushes queue rows start l small u q p t = rw (u, q, p, t) (record {
+  long = refl;
   told_some = omega arith;
   first = or_left (eqb start start) false (eq-eqb start start refl);
   below = λ v h. subst (λ z. z < n) (sym (only_member v start h)) l;
@@ -36,8 +36,7 @@ search_begins n m exchanges among unreached pushes queue table start l small u q
   inside = λ v h. (and_parts (is_member v among) (not (eqb v start)) (sym (is_member-without_one v start among) ∙ h)).0;
   reached = λ v h. or_left (eqb v start) (is_member v among) (eq-eqb v start (only_member v start h));
   left = λ v h o. or_left (eqb v start) false (and_not_gives (is_member v among) (eqb v start) h (sym (is_member-without_one v start among) ∙ o));
-  told = λ w v h. absurd (false≢true h);
-  silent = λ w v h. ap (is_member v) (part_at-empty n w);
+  told = λ k v h. absurd (omega arith);
   refused = λ w h. absurd (false≢true h);
   closed = λ w v h a. absurd (false≢true h);
   pushed = λ v. sym (some_below-zero (λ i. (exchanges i).trades v start));
@@ -48,13 +47,13 @@ search_begins n m exchanges among unreached pushes queue table start l small u q
 
 -- ---- the exchanges at one more part
 
-pub told_more : {n m : ℕ} {exchanges : ℕ → Exchanges} {among : List ℕ} {start parts_told head : ℕ} {queue pushes unreached : List ℕ} {table : List (List ℕ)}
-    → IsReachingTo n m exchanges among start parts_told head queue pushes unreached table → (more row : List ℕ)
+pub told_more : {n m : ℕ} {exchanges : ℕ → Exchanges} {among : List ℕ} {start parts_told head : ℕ} {queue pushes unreached : List ℕ} {rows : List (List ℕ)}
+    → IsReachingTo n m exchanges among start parts_told head queue pushes unreached rows → (more row : List ℕ)
     → ((v : ℕ) → is_member v more ≡ (is_member v pushes || is_member v row))
     → ((v : ℕ) → is_member v row ≡ (exchanges parts_told).trades v (get_or queue head 0)) → (exchanges parts_told).adds (get_or queue head 0) ≡ false
-    → (next : ℕ) → next ≡ suc parts_told → IsReachingTo n m exchanges among start next head queue more unreached table
-told_more {n} {m} {exchanges} {among} {start} {parts_told} {head} {queue} {pushes} {unreached} {table} s more row members trades adds next e = rw e (record {
-  size = s.size;
+    → (next : ℕ) → next ≡ suc parts_told → IsReachingTo n m exchanges among start next head queue more unreached rows
+told_more {n} {m} {exchanges} {among} {start} {parts_told} {head} {queue} {pushes} {unreached} {rows} s more row members trades adds next e = rw e (record {
+  long = s.long;
   told_some = s.told_some;
   first = s.first;
   below = s.below;
@@ -63,7 +62,6 @@ told_more {n} {m} {exchanges} {among} {start} {parts_told} {head} {queue} {pushe
   reached = s.reached;
   left = s.left;
   told = s.told;
-  silent = s.silent;
   refused = s.refused;
   closed = s.closed;
   pushed = λ v. members v ∙ join (is_member v pushes) (is_member v row) _ _ (s.pushed v) (trades v) ∙ sym (more_below parts_told (λ i. (exchanges i).trades v (get_or queue head 0)));
@@ -80,20 +78,17 @@ told_more {n} {m} {exchanges} {among} {start} {parts_told} {head} {queue} {pushe
 
 -- ---- the next element
 
-module _ {n m : ℕ} {exchanges : ℕ → Exchanges} {among : List ℕ} {start head : ℕ} {queue pushes unreached : List ℕ} {table : List (List ℕ)}
-    (s : IsReachingTo n m exchanges among start m head queue pushes unreached table) (rest more : List ℕ) (t : AreTaken pushes unreached queue rest more)
+module _ {n m : ℕ} {exchanges : ℕ → Exchanges} {among : List ℕ} {start head : ℕ} {queue pushes unreached : List ℕ} {rows : List (List ℕ)}
+    (s : IsReachingTo n m exchanges among start m head queue pushes unreached rows) (rest more : List ℕ) (t : AreTaken pushes unreached queue rest more)
     (l : head < length queue) where
   abbrev u : ℕ
   u = get_or queue head 0
 
   abbrev later : List (List ℕ)
-  later = set table u pushes
+  later = rows ++ pushes ∷ []
 
   u_in : is_member u queue ≡ true
   u_in = is_member-get_or queue head u l refl
-
-  u_small : u < length table
-  u_small = let h = s.below u u_in in let e = s.size in omega arith
 
   more_is : (v : ℕ) → is_member v more ≡ (is_member v queue || (is_member v unreached && is_member v pushes))
   more_is v = ap (is_member v) t.behind ∙ is_member-append v queue t.found ∙ ap (λ b. is_member v queue || b) (t.found_is v)
@@ -108,41 +103,25 @@ module _ {n m : ℕ} {exchanges : ℕ → Exchanges} {among : List ℕ} {start h
   told_is z = ap (λ xs. is_member z (take (suc head) xs)) t.behind ∙ ap (is_member z) (take-append-le (suc head) queue t.found (omega arith))
       ∙ ap (λ k. is_member z (take k queue)) (sym (add-one head)) ∙ is_member-take_more queue head z l
 
-  at_u : row_at later u ≡ pushes
-  at_u = get_or-set_same table u pushes [] u_small
-
-  elsewhere : (z : ℕ) → z ≢ u → row_at later z ≡ row_at table z
-  elsewhere z d = get_or-set_other table u z pushes [] d
-
-  not_told : (z : ℕ) → is_member z (take (suc head) more) ≡ false → (is_member z (take head queue) ≡ false) × (z ≢ u)
-  not_told z h = (parts (is_member z (take head queue)) (eqb z u) (sym (told_is z) ∙ h), λ e. both_ways _ (other (is_member z (take head queue)) (eqb z u) (sym (told_is z) ∙ h)) (eq-eqb z u e))
-    where
-      parts : (a b : Bool) → (a || b) ≡ false → a ≡ false
-      parts a b e = grind arith
-
-      other : (a b : Bool) → (a || b) ≡ false → b ≡ false
-      other a b e = grind arith
-
   told_other : (z : ℕ) → is_member z (take (suc head) more) ≡ true → z ≢ u → is_member z (take head queue) ≡ true
   told_other z h d = elim (or_cases (is_member z (take head queue)) (eqb z u) (sym (told_is z) ∙ h)) [ inl a ↦ a | inr e ↦ absurd (d (eqb-true z u e)) ]
 
-  -- the arcs that were known are still known
-  arcs_stay : (z v : ℕ) → is_member v (row_at table z) ≡ true → is_member v (row_at later z) ≡ true
-  arcs_stay z v h = elim (cases_eq z u) [
-    | inl e ↦ subst (λ y. is_member v (row_at later y) ≡ true) (sym e) (ap (is_member v) at_u ∙ s.pushed v ∙ known (subst (λ y. is_member v (row_at table y) ≡ true) e h))
-    | inr d ↦ ap (is_member v) (elsewhere z d) ∙ h
-  ]
-    where
-      known : is_member v (row_at table u) ≡ true → can_push m exchanges u v ≡ true
-      known k = elim (cases_Bool (is_member u (take head queue))) [
-        | inl a ↦ sym (s.told u v a) ∙ k
-        | inr o ↦ absurd (both_ways _ (s.silent u v o) k)
-      ]
+  -- the elements of the queue stay at their places
+  same_place : (k : ℕ) → k < length queue → get_or more k 0 ≡ get_or queue k 0
+  same_place k h = ap (λ xs. get_or xs k 0) t.behind ∙ get_or_append_left queue t.found 0 k h
 
-  pub search_goes_on : (none : can_enter m exchanges u ≡ false) → (next : ℕ) → next ≡ suc head → (fresh : List ℕ) → fresh ≡ [] → (table' : List (List ℕ)) → table' ≡ later
-      → IsReachingTo n m exchanges among start 0 next more fresh rest table'
-  search_goes_on none next e fresh f table' g = rw (e, f, g) (record {
-    size = length-set table u pushes ∙ s.size;
+  told_before : (k v : ℕ) → k < head → is_member v (row_at later k) ≡ can_push m exchanges (get_or more k 0) v
+  told_before k v h = ap (is_member v) (get_or_append_left rows (pushes ∷ []) [] k (let e = s.long in omega arith)) ∙ s.told k v h
+      ∙ ap (λ x. can_push m exchanges x v) (sym (same_place k (omega arith)))
+
+  told_here : (v : ℕ) → is_member v (row_at later head) ≡ can_push m exchanges (get_or more head 0) v
+  told_here v = ap (is_member v) (ap (λ k. get_or later k []) (sym s.long) ∙ get_or-append_seam rows pushes [] []) ∙ s.pushed v
+      ∙ ap (λ x. can_push m exchanges x v) (sym (same_place head l))
+
+  pub search_goes_on : (none : can_enter m exchanges u ≡ false) → (next : ℕ) → next ≡ suc head → (fresh : List ℕ) → fresh ≡ [] → (rows' : List (List ℕ)) → rows' ≡ later
+      → IsReachingTo n m exchanges among start 0 next more fresh rest rows'
+  search_goes_on none next e fresh f rows' g = rw (e, f, g) (record {
+    long = (let h = s.long in let k = length-append rows (pushes ∷ []) in omega arith);
     told_some = (let h = ap length t.behind in let k = length-append queue t.found in omega arith);
     first = more_is start ∙ or_left (is_member start queue) _ s.first;
     below = λ v h. elim (more_cases v h) [ inl a ↦ s.below v a | inr b ↦ s.among_below v (s.inside v b.0) ];
@@ -153,11 +132,10 @@ module _ {n m : ℕ} {exchanges : ℕ → Exchanges} {among : List ℕ} {start h
       | inl a ↦ or_right (is_member v queue) _ (taken (is_member v unreached) (is_member v pushes) a (sym (t.rest_is v) ∙ o))
       | inr a ↦ or_left (is_member v queue) _ (s.left v h a)
     ];
-    told = λ z v h. elim (cases_eq z u) [
-      | inl d ↦ subst (λ y. is_member v (row_at later y) ≡ can_push m exchanges y v) (sym d) (ap (is_member v) at_u ∙ s.pushed v)
-      | inr d ↦ ap (is_member v) (elsewhere z d) ∙ s.told z v (told_other z h d)
+    told = λ k v h. elim (cases_eq k head) [
+      | inl d ↦ subst (λ y. is_member v (row_at later y) ≡ can_push m exchanges (get_or more y 0) v) (sym d) (told_here v)
+      | inr d ↦ told_before k v (omega arith)
     ];
-    silent = λ z v h. (let o = not_told z h in ap (is_member v) (elsewhere z o.1) ∙ s.silent z v o.0);
     refused = λ z h. elim (cases_eq z u) [
       | inl d ↦ ap (can_enter m exchanges) d ∙ none
       | inr d ↦ s.refused z (told_other z h d)
@@ -169,8 +147,11 @@ module _ {n m : ℕ} {exchanges : ℕ → Exchanges} {among : List ℕ} {start h
     pushed = λ v. sym (some_below-zero (λ i. (exchanges i).trades v (get_or more (suc head) 0)));
     none = some_below-zero (λ i. (exchanges i).adds (get_or more (suc head) 0));
     least = λ test base step v h.
-        (let old : (y : ℕ) → is_member y queue ≡ true → test y ≡ true = s.least test base (λ z y k a. step z y k (arcs_stay z y a)) in
-        elim (more_cases v h) [ inl a ↦ old v a | inr b ↦ step u v (old u u_in) (ap (is_member v) at_u ∙ b.1) ]);
+        (let old : (y : ℕ) → is_member y queue ≡ true → test y ≡ true = s.least test base (λ z y k i a. step z y k (told_is z ∙ or_left (is_member z (take head queue)) _ i) a) in
+        elim (more_cases v h) [
+          | inl a ↦ old v a
+          | inr b ↦ step u v (old u u_in) (told_is u ∙ or_right (is_member u (take head queue)) _ (eq-eqb u u refl)) (sym (s.pushed v) ∙ b.1)
+        ]);
     fuel = (let a = t.fuel in let b = s.fuel in omega arith);
   })
     where
@@ -184,9 +165,6 @@ module _ {n m : ℕ} {exchanges : ℕ → Exchanges} {among : List ℕ} {start h
       missing a p h = grind arith
 
 -- ---- the questions that are left
-
-pub same_set : (table : List (List ℕ)) (u w : ℕ) (a b : List ℕ) → u ≡ w → a ≡ b → set table u a ≡ set table w b
-same_set table u w a b e f = rw (e, f) refl
 
 pub entered_left : (e e' : Bool) (bound head count part : ℕ) → e ≡ false → e' ≡ true → left_over e' bound head count part < left_over e bound head count part
 entered_left e e' bound head count part a b = rw (a, b) (omega arith)

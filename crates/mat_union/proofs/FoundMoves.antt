@@ -16,7 +16,7 @@ use Rattle.mat_sets.proofs.Search.{some_below_gives}
 use Rattle.mat_laws.specs.TightPaths.{Exchanges}
 use Rattle.mat_union.specs.Unions.{part_at, AreMatroids, AreParts}
 use Rattle.mat_union.specs.Moves.{can_enter, can_push, element_at, elements, exchanges_with, place_at}
-use Rattle.mat_union.specs.MoveSearches.{element_asked, AreFoundMoves, AreMovesAt, IsReaching}
+use Rattle.mat_union.specs.MoveSearches.{element_asked, AreFoundMoves, AreMovesAt, IsReaching, IsToldTable}
 use Rattle.mat_sets.specs.Rows.{row_at}
 use Rattle.mat_union.specs.MoveWalkLaws.{element_of_list}
 use Rattle.mat_union.specs.PartListLaws.{part_set}
@@ -33,7 +33,8 @@ is_member-taken (suc k) (x ∷ xs) z h = elim (or_cases (eqb z x) (is_member z (
 ]
 
 module _ {n : ℕ} {tests : List (List ℕ → Bool)} {parts : List (List ℕ)} {among : List ℕ} {start : ℕ} {s : MoveSearch} (laws : AreMatroids n tests) (are : AreParts tests parts)
-    (reaching : IsReaching n (length parts) (exchanges_with tests parts) among start s) (entered : s.entered ≡ true) where
+    (reaching : IsReaching n (length parts) (exchanges_with tests parts) among start s) (entered : s.entered ≡ true) (table : List (List ℕ))
+    (told_in : IsToldTable s.elements (length s.told.items) s.queue.items s.told.items table) where
   abbrev m : ℕ
   m = length parts
 
@@ -41,16 +42,22 @@ module _ {n : ℕ} {tests : List (List ℕ → Bool)} {parts : List (List ℕ)} 
   ex = exchanges_with tests parts
 
   abbrev known : ℕ → ℕ → Bool
-  known u v = is_member v (row_at s.table u)
+  known u v = is_member v (row_at table u)
+
+  rows : IsToldTable s.elements s.head s.queue.items s.told.items table
+  rows = subst (λ k. IsToldTable s.elements k s.queue.items s.told.items table) reaching.so_far.long told_in
 
   known_told : (u v : ℕ) → known u v ≡ true → is_member u (take s.head s.queue.items) ≡ true
   known_told u v h = elim (cases_Bool (is_member u (take s.head s.queue.items))) [
     | inl a ↦ a
-    | inr o ↦ absurd (both_ways _ (reaching.so_far.silent u v o) h)
+    | inr o ↦ absurd (both_ways (known u v) (ap (is_member v) (rows.empty u o)) h)
   ]
 
+  known_is : (u v : ℕ) → is_member u (take s.head s.queue.items) ≡ true → known u v ≡ can_push m ex u v
+  known_is u v h = let w = rows.held u h in ap (is_member v) w.3 ∙ reaching.so_far.told w.0 v w.1 ∙ ap (λ x. can_push m ex x v) w.2
+
   known_push : (u v : ℕ) → known u v ≡ true → can_push m ex u v ≡ true
-  known_push u v h = sym (reaching.so_far.told u v (known_told u v h)) ∙ h
+  known_push u v h = sym (known_is u v (known_told u v h)) ∙ h
 
   known_trade : (u v : ℕ) → known u v ≡ true → (q : ℕ) × (q < m) × ((ex q).trades v u ≡ true) × (is_member v (part_at parts q) ≡ true)
   known_trade u v h = let w = some_below_gives m (λ q. (ex q).trades v u) (known_push u v h) in (w.0, w.1, w.2, (trade_gives tests parts w.0 v u w.2).0)
@@ -64,7 +71,9 @@ module _ {n : ℕ} {tests : List (List ℕ → Bool)} {parts : List (List ℕ)} 
   goal_is_reached size e goal g reach r none =
       let all : (v : ℕ) → is_member v s.queue.items ≡ true → is_member v reach ≡ true = reaching.so_far.least (λ v. is_member v reach)
       (r.starts start (let l = reaching.so_far.below start reaching.so_far.first in omega arith) (eq-eqb start s.start (sym reaching.from_start)))
-      (λ u v h a. r.closed u v h (let w = known_trade u v a in let l = below_member (part_set laws are w.0 w.1) w.3 in omega arith) a) in
+      (λ u v h t p.
+      let a : known u v ≡ true = known_is u v t ∙ p in
+      r.closed u v h (let w = known_trade u v a in let l = below_member (part_set laws are w.0 w.1) w.3 in omega arith) a) in
       both_ways _ (none (element_asked s) (all (element_asked s) goal_in)) (eq-eqb (element_asked s) goal (sym g))
 
   module _ (size : ℕ) (goal : ℕ) (goal_is : goal ≡ element_asked s) (walk : List ℕ) (shortest : IsShortestWalk size known (λ v. eqb v s.start) (λ v. eqb v goal) walk)
@@ -112,7 +121,7 @@ module _ {n : ℕ} {tests : List (List ℕ → Bool)} {parts : List (List ℕ)} 
         (λ i l. (through i l).1)
         (λ i j l h same. c.differ i j l (omega arith) (sym (element i (omega arith)) ∙ same ∙ element j h))
         (λ i j l h. apart (element_at moves i) (get_or walk i 0) (element_at moves j) (get_or walk j 0) (element i (omega arith)) (element j h)
-        (sym (reaching.so_far.told (get_or walk i 0) (get_or walk j 0) (told i (omega arith))) ∙ c.no_chord i j l (omega arith)))
+        (sym (known_is (get_or walk i 0) (get_or walk j 0) (told i (omega arith))) ∙ c.no_chord i j l (omega arith)))
         (λ i l. ap (can_enter m ex) (element i (omega arith)) ∙ reaching.so_far.refused (get_or walk i 0) (told i l))
         (added (place_at moves k) s.part (element_at moves k) (element_asked s) last_place last_element (reaching.enters entered).1) in
         record { new = r.0; moved = r.1; first = first_element; reached = λ z h. (let w = place_of_member z (elements moves) h in held z w.0 w.1 w.2) }
@@ -136,13 +145,13 @@ module _ {n : ℕ} {tests : List (List ℕ → Bool)} {parts : List (List ℕ)} 
 
   -- what a search for a walk along the arcs that are known tells
   pub walk_shows : (goal : ℕ) → goal ≡ element_asked s → (found : WalkSearch) (walk : Vec ℕ Global) → found ≡ Walk walk
-      → IsWalkSearch (length s.table) known (λ v. eqb v s.start) (λ v. eqb v goal) found
+      → IsWalkSearch (length table) known (λ v. eqb v s.start) (λ v. eqb v goal) found
       → (vertices : List ℕ) → vertices ≡ walk.items → (moves : List Move) → AreMovesAt parts vertices s.part moves → is_member start (family_union parts) ≡ false → AreFoundMoves tests parts s moves
-  walk_shows goal g found walk is told vertices f moves at fresh = moves_are_found (length s.table) goal g walk.items
-      (subst (IsWalkSearch (length s.table) known (λ v. eqb v s.start) (λ v. eqb v goal)) is told) moves (subst (λ l. AreMovesAt parts l s.part moves) f at) fresh
+  walk_shows goal g found walk is told vertices f moves at fresh = moves_are_found (length table) goal g walk.items
+      (subst (IsWalkSearch (length table) known (λ v. eqb v s.start) (λ v. eqb v goal)) is told) moves (subst (λ l. AreMovesAt parts l s.part moves) f at) fresh
 
   pub reach_shows : (goal : ℕ) → goal ≡ element_asked s → (found : WalkSearch) (reach : List ℕ) → found ≡ Reached reach
-      → IsWalkSearch (length s.table) known (λ v. eqb v s.start) (λ v. eqb v goal) found → ⊥
+      → IsWalkSearch (length table) known (λ v. eqb v s.start) (λ v. eqb v goal) found → ⊥
   reach_shows goal g found reach is told =
-      let r = subst (IsWalkSearch (length s.table) known (λ v. eqb v s.start) (λ v. eqb v goal)) is told in
-      goal_is_reached (length s.table) reaching.so_far.size goal g reach r.0 r.1
+      let r = subst (IsWalkSearch (length table) known (λ v. eqb v s.start) (λ v. eqb v goal)) is told in
+      goal_is_reached (length table) (rows.size ∙ reaching.size) goal g reach r.0 r.1

@@ -1,6 +1,6 @@
 -- One more element is done: it came into the parts, or it and all that it reaches are spanned.
-use Rattle.std.proofs.Common.{◌≡◌, ℕ, ◌≤◌, Bool, true, not, ◌||◌, ◌&&◌, eqb, List, length, take, inl, inr, refl, sym, ap, ◌∙◌}
-use Rattle.std.proofs.lemmas.Bool.{both_ways, cases_Bool, eq-eqb, eqb-true, or_cases, or_left, or_right}
+use Rattle.std.proofs.Common.{◌≡◌, ℕ, ◌≤◌, Bool, true, not, ◌||◌, ◌&&◌, eqb, List, length, inl, inr, refl, sym, ap, ◌∙◌}
+use Rattle.std.proofs.lemmas.Bool.{eq-eqb, eqb-true, or_cases, or_left, or_right}
 use Rattle.mat_sets.specs.Families.{family_union}
 use Rattle.mat_sets.specs.Sets.{is_member, IsRising, IsSet, IsSubset}
 use Rattle.mat_sets.proofs.Families.{family_union-from}
@@ -48,11 +48,9 @@ module _ {n : ℕ} {tests : List (List ℕ → Bool)} {parts : List (List ℕ)} 
   -- what is reached is the start, or in a part
   reached_placed : (v : ℕ) → is_member v s.queue.items ≡ true → (eqb v start || is_member v (family_union parts)) ≡ true
   reached_placed = reaching.so_far.least (λ v. eqb v start || is_member v (family_union parts)) (or_left (eqb start start) _ (eq-eqb start start refl))
-      (λ u v h a. or_right (eqb v start) (is_member v (family_union parts)) (elim (cases_Bool (is_member u (take s.head s.queue.items))) [
-        | inl t ↦ (let w = some_below_gives (length parts) (λ q. (exchanges_with tests parts q).trades v u) (sym (reaching.so_far.told u v t) ∙ a) in
-            family_union-from v parts w.0 w.1 (trade_gives tests parts w.0 v u w.2).0)
-        | inr o ↦ absurd (both_ways _ (reaching.so_far.silent u v o) a)
-      ]))
+      (λ u v h t p.
+      let w = some_below_gives (length parts) (λ q. (exchanges_with tests parts q).trades v u) p in
+      or_right (eqb v start) (is_member v (family_union parts)) (family_union-from v parts w.0 w.1 (trade_gives tests parts w.0 v u w.2).0))
 
   module _ (end : length s.queue.items ≤ s.head) (spanned' unspanned' elements : List ℕ) (are : elements ≡ s.queue.items) (rises : IsRising spanned')
       (spanned_is : (v : ℕ) → is_member v spanned' ≡ (is_member v spanned || is_member v elements)) (unspanned_is : (v : ℕ) → is_member v unspanned' ≡ (is_member v unspanned && not (is_member v elements))) where

@@ -7,6 +7,7 @@ pub mod UnionRows
 pub mod SearchesOfRows
 pub mod Taking
 pub mod Asking
+pub mod ToldTables
 pub mod MovesAlong
 pub mod FoundMoves
 pub mod PlacedElements

@@ -1,7 +1,7 @@
 -- The exchanges of an element at parts of a set, by a search from it among all elements that is at its end. What it reached is the reached
 -- set: where it can enter, the element can be added; and where it is stuck, the members that it reached are those whose place it takes.
-use Rattle.std.proofs.Common.{◌≡◌, ℕ, ◌<◌, ◌≤◌, Bool, true, false, eqb, List, length, take, inl, inr, refl, sym, ap, ◌∙◌}
-use Rattle.std.proofs.lemmas.Bool.{both_ways, cases_Bool, eq-eqb, eqb-true, lt-ltb}
+use Rattle.std.proofs.Common.{◌≡◌, ℕ, ◌<◌, ◌≤◌, Bool, true, false, eqb, List, length, inl, inr, refl, sym, ap, ◌∙◌}
+use Rattle.std.proofs.lemmas.Bool.{cases_Bool, eq-eqb, eqb-true, lt-ltb}
 use Rattle.std.proofs.lemmas.List.{take_all}
 use Rattle.mat_sets.specs.Families.{family_union}
 use Rattle.mat_sets.specs.Sets.{all_below, is_member, intersection, with_one}
@@ -43,10 +43,7 @@ module _ {n : ℕ} {tests : List (List ℕ → Bool)} {parts : List (List ℕ)} 
 
   module _ (reach : List ℕ) (r : IsReachedSet n push (λ v. eqb v x) reach) where
     queue_reached : (v : ℕ) → is_member v s.queue.items ≡ true → is_member v reach ≡ true
-    queue_reached = e.reaching.so_far.least (λ v. is_member v reach) (r.starts x small (eq-eqb x x refl)) (λ u v h a. elim (cases_Bool (is_member u (take s.head s.queue.items))) [
-      | inl t ↦ (let p : push u v ≡ true = sym (e.reaching.so_far.told u v t) ∙ a in r.closed u v h (push_below u v p) p)
-      | inr o ↦ absurd (both_ways _ (e.reaching.so_far.silent u v o) a)
-    ])
+    queue_reached = e.reaching.so_far.least (λ v. is_member v reach) (r.starts x small (eq-eqb x x refl)) (λ u v h t p. r.closed u v h (push_below u v p) p)
 
     reached_queue : length s.queue.items ≤ s.head → (v : ℕ) → is_member v reach ≡ true → is_member v s.queue.items ≡ true
     reached_queue end = reached_by_induction reach (λ v. is_member v s.queue.items) r (λ v l f. ap (λ z. is_member z s.queue.items) (eqb-true v x f) ∙ e.reaching.so_far.first)

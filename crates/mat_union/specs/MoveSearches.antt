@@ -1,5 +1,5 @@
 -- A search for moves from one element, which asks for the exchanges of the elements that it reaches (Schrijver, chapter 42).
-use Rattle.std.specs.Prelude.{◌≡◌, ℕ, suc, ◌+◌, ◌*◌, ◌-◌, ◌<◌, ◌≤◌, Bool, true, false, not, ◌&&◌, ◌||◌, ◌==◌, if◌then◌else◌, List, ◌++◌, length, slice_index_or, take, Option, None, Some}
+use Rattle.std.specs.Prelude.{◌≡◌, ℕ, suc, ◌+◌, ◌*◌, ◌-◌, ◌<◌, ◌≤◌, Bool, true, false, not, ◌&&◌, ◌||◌, ◌==◌, if◌then◌else◌, List, [], ◌++◌, length, slice_index_or, take, Option, None, Some}
 use Rattle.mat_sets.specs.Rows.{row_at}
 use Rattle.mat_sets.specs.Sets.{is_member}
 use Rattle.mat_laws.specs.declared.exchange.Exchange.{Exchange}
@@ -26,7 +26,6 @@ element_asked s = slice_index_or s.queue.items s.head 0
 -- some exchanges are asked for
 pub record IsOpen (s : MoveSearch) : Type 0 where
   pub more : s.head < length s.queue.items
-  pub inside : element_asked s < length s.table
 
 -- what is asked for: nothing, once an element can be added or all that were reached are told
 abbrev pub IsQuestion : MoveSearch → Option Question → Type 0
@@ -39,10 +38,11 @@ pub record IsAnswered (exchanges : ℕ → Exchanges) (s : MoveSearch) (row : Ex
   pub trades : (v : ℕ) → is_member v row.with ≡ (exchanges s.part).trades v (element_asked s)
 
 -- what is known where the exchanges at m parts are told of the first `head` elements of the queue, and those of the next one at the first
--- `parts_told` parts: those that are told cannot be added, and what they can take the place of is in the queue or not among those to be
--- reached; and whatever holds of the start and goes on along the known arcs holds of each element that was reached
-pub record IsReachingTo (n m : ℕ) (exchanges : ℕ → Exchanges) (among : List ℕ) (start parts_told head : ℕ) (queue pushes unreached : List ℕ) (table : List (List ℕ)) : Type 0 where
-  pub size : length table ≡ n
+-- `parts_told` parts: there is a row for each that is told, of those whose place it can take; those that are told cannot be added, and what
+-- they can take the place of is in the queue or not among those to be reached; and whatever holds of the start, and of what a told element
+-- of which it holds can take the place of, holds of each element that was reached
+pub record IsReachingTo (n m : ℕ) (exchanges : ℕ → Exchanges) (among : List ℕ) (start parts_told head : ℕ) (queue pushes unreached : List ℕ) (rows : List (List ℕ)) : Type 0 where
+  pub long : length rows ≡ head
   pub told_some : head ≤ length queue
   pub first : is_member start queue ≡ true
   pub below : (v : ℕ) → is_member v queue ≡ true → v < n
@@ -50,32 +50,33 @@ pub record IsReachingTo (n m : ℕ) (exchanges : ℕ → Exchanges) (among : Lis
   pub inside : (v : ℕ) → is_member v unreached ≡ true → is_member v among ≡ true
   pub reached : (v : ℕ) → is_member v queue ≡ true → (v == start || is_member v among) ≡ true
   pub left : (v : ℕ) → is_member v among ≡ true → is_member v unreached ≡ false → is_member v queue ≡ true
-  pub told : (u v : ℕ) → is_member u (take head queue) ≡ true → is_member v (row_at table u) ≡ can_push m exchanges u v
-  pub silent : (u v : ℕ) → is_member u (take head queue) ≡ false → is_member v (row_at table u) ≡ false
+  pub told : (k v : ℕ) → k < head → is_member v (row_at rows k) ≡ can_push m exchanges (slice_index_or queue k 0) v
   pub refused : (u : ℕ) → is_member u (take head queue) ≡ true → can_enter m exchanges u ≡ false
   pub closed : (u v : ℕ) → is_member u (take head queue) ≡ true → can_push m exchanges u v ≡ true → is_member v unreached ≡ false
   pub pushed : (v : ℕ) → is_member v pushes ≡ can_push parts_told exchanges (slice_index_or queue head 0) v
   pub none : can_enter parts_told exchanges (slice_index_or queue head 0) ≡ false
   pub least : (test : ℕ → Bool) → test start ≡ true
-      → ((u v : ℕ) → test u ≡ true → is_member v (row_at table u) ≡ true → test v ≡ true)
+      → ((u v : ℕ) → test u ≡ true → is_member u (take head queue) ≡ true → can_push m exchanges u v ≡ true → test v ≡ true)
       → (v : ℕ) → is_member v queue ≡ true → test v ≡ true
   pub fuel : length queue + length unreached ≤ suc (length among)
 
 -- a search between two questions
 pub record IsReaching (n m : ℕ) (exchanges : ℕ → Exchanges) (among : List ℕ) (start : ℕ) (s : MoveSearch) : Type 0 where
   pub from_start : s.start ≡ start
+  pub size : s.elements ≡ n
   pub count : s.count ≡ m
   pub here : s.part < m
-  pub so_far : IsReachingTo n m exchanges among start s.part s.head s.queue.items s.pushes s.unreached s.table
+  pub so_far : IsReachingTo n m exchanges among start s.part s.head s.queue.items s.pushes s.unreached s.told.items
   pub enters : s.entered ≡ true → (s.head < length s.queue.items) × ((exchanges s.part).adds (element_asked s) ≡ true)
 
 -- a search that is told all exchanges of the next element, and that it cannot be added
 pub record AreAnswered (n m : ℕ) (exchanges : ℕ → Exchanges) (among : List ℕ) (start : ℕ) (s : MoveSearch) : Type 0 where
   pub from_start : s.start ≡ start
+  pub size : s.elements ≡ n
   pub count : s.count ≡ m
   pub some : 0 < m
   pub refused : s.entered ≡ false
-  pub so_far : IsReachingTo n m exchanges among start m s.head s.queue.items s.pushes s.unreached s.table
+  pub so_far : IsReachingTo n m exchanges among start m s.head s.queue.items s.pushes s.unreached s.told.items
 
 -- how many questions there can still be, where a queue has at most `bound` elements
 abbrev pub left_over : Bool → ℕ → ℕ → ℕ → ℕ → ℕ
@@ -84,6 +85,13 @@ left_over entered bound head count part = if entered then 0 else suc ((bound - h
 -- how many questions a search among these elements can still have
 abbrev pub questions_left : List ℕ → MoveSearch → ℕ
 questions_left among s = left_over s.entered (suc (length among)) s.head s.count s.part
+
+-- a table of n rows in which what is told of the first elements of the queue, `count` of them, stands at these, and nothing at the others
+pub record IsToldTable (n count : ℕ) (queue : List ℕ) (told table : List (List ℕ)) : Type 0 where
+  pub size : length table ≡ n
+  pub held : (u : ℕ) → is_member u (take count queue) ≡ true
+      → (k : ℕ) × (k < count) × (slice_index_or queue k 0 ≡ u) × (row_at table u ≡ row_at told k)
+  pub empty : (u : ℕ) → is_member u (take count queue) ≡ false → row_at table u ≡ []
 
 -- moves along a walk: each element goes to the part that holds the next one, and the last to a part that is given
 pub record AreMovesAt (parts : List (List ℕ)) (walk : List ℕ) (last : ℕ) (moves : List Move) : Type 0 where

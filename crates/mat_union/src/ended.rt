@@ -46,7 +46,6 @@ pub fn row_by_search(
     set: &ElemSet,
     search: &MoveSearch,
 ) -> Result<Exchange, AllocError>
-    requires ready { IsReady search.now }
     ensures row { IfOk result (λ e. (n : ℕ) (tests : List (List ℕ → Bool)) (parts : List (List ℕ)) (x : ℕ) → family_union parts ≡ set.now
         → IsEnded n tests parts (all_below n) x search.now → e ≡ row_of (union_test n tests) set.now x) }
     ensures rises { IfOk result (λ e. IsRising e.with) }

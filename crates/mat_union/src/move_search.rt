@@ -1,10 +1,11 @@
 //! A search for moves from one element.
-ghost use Rattle.std.specs.Prelude.{◌≡◌, ◌<◌, ◌^◌, ℕ, suc, List, Bool, true, false, length, IfOk, OnOk, MatchOption};
-ghost use Rattle.mat_sets.specs.{Families.{family_union, AreDisjoint}, Sets.{is_member}};
+ghost use Rattle.std.specs.Prelude.{◌≡◌, ◌<◌, ◌≤◌, ◌^◌, ℕ, suc, List, Bool, true, false, length, IfOk, OnOk, MatchOption};
+ghost use Rattle.mat_sets.specs.{Families.{family_union, AreDisjoint}, Sets.{is_member, AllBelow}};
 ghost use Rattle.mat_laws.specs.TightPaths.{Exchanges};
 ghost use Rattle.mat_union.specs.{
+  EndedSearches.{IsReady},
   Moves.{exchanges_with},
-  MoveSearches.{questions_left, AreFoundMoves, AreMovesAt, AreTaken, IsAnswered, AreAnswered, IsOpen, IsQuestion, IsReaching},
+  MoveSearches.{questions_left, AreFoundMoves, AreMovesAt, AreTaken, IsAnswered, AreAnswered, IsOpen, IsQuestion, IsReaching, IsToldTable},
   Unions.{part_at, AreMatroids, AreParts},
 };
 
@@ -28,6 +29,8 @@ pub struct Question {
 #[derive(Debug, Drop)]
 pub struct MoveSearch {
     pub(crate) start: u32,
+    // How many elements there are.
+    pub(crate) elements: u32,
     // How many parts there are.
     pub(crate) count: u32,
     // The elements that were reached, in the order in which they were; the exchanges of the first `head` are told.
@@ -39,8 +42,8 @@ pub struct MoveSearch {
     // It can be added to the next part.
     pub(crate) entered: bool,
     pub(crate) unreached: BitSet,
-    // At each element whose exchanges are told, those whose place it can take.
-    pub(crate) table: BitRows,
+    // For each of the first `head` elements of the queue, those whose place it can take.
+    pub(crate) told: Vec<BitSet>,
 }
 
 // Puts the unreached elements among these into the queue.
@@ -77,9 +80,10 @@ impl MoveSearch {
         unreached.remove(start);
         let mut queue = Vec::new(alloc);
         queue.push(start)?;
-        let table = BitRows::with_rows(alloc, n, 0)?;
+        let told = Vec::new(alloc);
         Ok(MoveSearch {
             start,
+            elements: n,
             count,
             queue,
             head: 0,
@@ -87,7 +91,7 @@ impl MoveSearch {
             pushes: BitSet::new(alloc),
             entered: false,
             unreached,
-            table,
+            told,
         })
     }
 
@@ -120,8 +124,7 @@ impl MoveSearch {
     {
         let pushes = std::mem::replace(&mut self.pushes, BitSet::new(alloc));
         take_common(&pushes, &mut self.unreached, &mut self.queue)?;
-        let u = self.queue[self.head];
-        self.table.replace(u, pushes);
+        self.told.push(pushes)?;
         self.head += 1;
         self.part = 0;
         Ok(())
@@ -152,9 +155,8 @@ impl MoveSearch {
     /// The moves that were found, where an element can be added, at these parts: a walk with fewest steps along the arcs that were told. The
     /// only error is want of memory.
     pub fn moves(&self, alloc: Global, parts: &[ElemSet]) -> Result<Option<Vec<Move>>, AllocError>
-        requires few { length self.now.table < 2 ^ 32 }
+        requires ready { IsReady self.now }
         requires parts { length parts.now < 2 ^ 32 }
-        requires open { self.now.entered ≡ true → self.now.head < length self.now.queue.items }
         ensures { IfOk result (λ found. (n : ℕ) (tests : List (List ℕ → Bool)) (among : List ℕ) (start : ℕ) → AreMatroids n tests
             → AreParts tests parts.now → IsReaching n (length parts.now) (exchanges_with tests parts.now) among start self.now
             → is_member start (family_union parts.now) ≡ false
@@ -163,8 +165,10 @@ impl MoveSearch {
         if !self.entered {
             return Ok(None);
         }
+        let queue = self.queue.as_slice();
+        let table = told_table(alloc, self.elements, queue, self.told.as_slice())?;
         let arcs = KnownArcs {
-            table: &self.table,
+            table: &table,
             start: self.start,
             goal: self.queue[self.head],
         };
@@ -173,6 +177,25 @@ impl MoveSearch {
             WalkSearch::Reached(_) => Ok(None),
         }
     }
+}
+
+// A table with a row for each element, in which what is told of the first elements of the queue stands at these, and nothing at the others.
+fn told_table(
+    alloc: Global,
+    elements: u32,
+    queue: &[u32],
+    told: &[BitSet],
+) -> Result<BitRows, AllocError>
+    requires told { length told.now ≤ length queue.now }
+    requires below { AllBelow elements queue.now }
+    ensures { IfOk result (λ table. IsToldTable elements (length told.now) queue.now told.now table) }
+{
+    let mut table = BitRows::with_rows(alloc, elements, 0)?;
+    for k in 0..told.len() {
+        let row = told[k].copy(alloc)?;
+        table.replace(queue[k], row);
+    }
+    Ok(table)
 }
 
 /// The arcs that a search knows, from its start to the element that can be added.

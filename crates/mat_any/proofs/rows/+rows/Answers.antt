@@ -1,6 +1,6 @@
 -- Each kind that is made of others has its row by the law about rows that its minor or dual obeys; the row of a union is read off the search
 -- for moves that ends, whose questions are rows of its matroids.
-use Rattle.std.proofs.Common.{◌≡◌, ◌&&◌, ◌<◌, ltb, length, get_or, map, refl, subst, sym, ap, ◌∙◌, rules}
+use Rattle.std.proofs.Common.{◌≡◌, ◌&&◌, ◌<◌, ltb, length, map, refl, subst, sym, ap, ◌∙◌, rules}
 use Rattle.std.proofs.lemmas.Bool.{ltb-true}
 use Rattle.std.proofs.lemmas.Result.{IfOk-weaker}
 use Rattle.mat_sets.specs.Sets.{all_below, is_member}
@@ -14,7 +14,7 @@ use Rattle.mat_union.specs.GrownParts.{AreKept}
 use Rattle.mat_union.specs.Moves.{exchanges_with}
 use Rattle.mat_union.specs.MoveSearches.{IsReaching}
 use Rattle.mat_union.specs.Unions.{AreMatroids}
-use Rattle.mat_union.proofs.AskedRows.{asked_below, row_told}
+use Rattle.mat_union.proofs.AskedRows.{asked_below, reaching_is_ready, row_told}
 use Rattle.mat_union.proofs.SoundMatroids.{kept_at, part_passes, parts_count, sound_at}
 use Rattle.mat_any.specs.Joined.{elements_in, size_in, test_in, union_in, IsSoundOne, KeepsOne, KeepsUnion}
 use Rattle.mat_any.specs.declared.any.AnyMatroid.{the_lemmas}
@@ -181,10 +181,7 @@ search_from-row_at-requires t c =
     )
 
 pub search_from-tell-requires-clause-open : goal.search_from-tell-requires-clause-open
-search_from-tell-requires-clause-open t c = record {
-  more = c.in-Some.ensures.1;
-  inside = subst (λ k. get_or c.loop-asked.search.queue.items c.loop-asked.search.head 0 < k) (sym c.loop-asked.invariant.so_far.size) (asked_below c.loop-asked.invariant c.in-Some.ensures.1);
-}
+search_from-tell-requires-clause-open t c = record { more = c.in-Some.ensures.1 }
 
 pub search_from-loop-asked-preserved : goal.search_from-loop-asked-preserved
 search_from-loop-asked-preserved t c =
@@ -197,6 +194,9 @@ search_from-loop-asked-smaller t c =
     (c.in_ok-search-2.ensures _ _ _ _ _ c.loop-asked.invariant c.in-Some.ensures.0
     (row_told test_in c.args.matroids.now c.args.parts.now c.requires.parts c.loop-asked.search c.index-matroids-i.result c.in_ok-row.row c.loop-asked.invariant.here
     c.in-Some.ensures.2 c.in-Some.ensures.3 c.index-matroids-i.is c.get.ensures.item c.in_ok-row.ensures)).1
+
+pub search_from-returns-clause-ready : goal.search_from-returns-clause-ready
+search_from-returns-clause-ready t c = reaching_is_ready c.loop-asked.invariant
 
 pub search_from-returns-clause-ended : goal.search_from-returns-clause-ended
 search_from-returns-clause-ended t c =

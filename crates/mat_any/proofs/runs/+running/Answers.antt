@@ -1,17 +1,18 @@
 -- Each kind that is made of others runs as its law about runs says: a dual by what a run along the reversed order
--- leaves out, a truncation by the first that a run takes, minors along a changed order, a union by parts that grow. What is kept is kept within.
-use Rattle.std.proofs.Common.{◌≡◌, ℕ, ◌+◌, ◌<◌, List, Bool, ◌++◌, [], get_or, map, reverse, refl, subst, sym, ap, ◌∙◌, rules}
+-- leaves out, a truncation by the first that a run takes, minors along a changed order, a union by parts that grow. What is kept is kept within;
+-- of a set of a union greedy parts come first, and a run of the union that begins with them takes the whole set.
+use Rattle.std.proofs.Common.{◌≡◌, ℕ, ◌+◌, ◌<◌, List, Bool, ◌++◌, [], get_or, length, map, reverse, refl, subst, sym, ap, ◌∙◌, arith, rules}
 use Rattle.std.proofs.lemmas.Result.{IfOk-weaker}
 use Rattle.std.proofs.lemmas.Bool.{or_right}
 use Rattle.std.proofs.lemmas.List.{length-map}
 use Rattle.mat_sets.specs.Families.{family_union}
-use Rattle.mat_sets.specs.Sets.{is_member, AllBelow, AreDistinct, minus, all_below, union}
+use Rattle.mat_sets.specs.Sets.{is_member, AllBelow, AreDistinct, IsSubset, minus, all_below, union}
 use Rattle.mat_sets.proofs.DistinctLists.{AreDistinct-filter}
 use Rattle.mat_sets.proofs.Ground.{AllBelow-filter, AreDistinct-rising, IsSet-minus, IsSet-all_below}
 use Rattle.mat_sets.proofs.Sums.{AllBelow-at}
 use Rattle.mat_laws.specs.GreedyRuns.{grown_along}
 use Rattle.mat_laws.specs.Matroids.{IsMatroid}
-use Rattle.mat_laws.proofs.GreedyRunSets.{run_all, run_maximal_of}
+use Rattle.mat_laws.proofs.GreedyRunSets.{run_maximal_of}
 use Rattle.mat_laws.proofs.GreedyRunSteps.{IsRunning-end}
 use Rattle.mat_minors.specs.ContractionLaws.{IsJoined-gives}
 use Rattle.mat_minors.proofs.DualExchanges.{kept_is}
@@ -24,16 +25,21 @@ use Rattle.mat_union.proofs.FillingParts.{start_growing}
 use Rattle.mat_union.proofs.GrowingParts.{placed_grow}
 use Rattle.mat_union.proofs.GrowingSteps.{spanned_grown}
 use Rattle.mat_union.proofs.GrowthLoops.{is_spanned}
-use Rattle.mat_union.proofs.SoundMatroids.{anew_same, anew_set, kept_more, test_is, AreKeptAnew, AreKeptSo}
+use Rattle.mat_union.proofs.PartsOfSets.{rest_below, taken_are, taken_inside, taken_more, taken_none}
+use Rattle.mat_union.proofs.SoundMatroids.{anew_same, anew_set, kept_more, sound_at, test_is, AreKeptAnew, AreKeptSo}
+use Rattle.mat_union.proofs.StuckParts.{next_below}
 use Rattle.mat_union.proofs.UnionRuns.{spanned_turn, first_run_are, first_run_holds, placed_turn, running_first, running_more, turn_stands}
+use Rattle.mat_union.specs.GrownParts.{AreGrowing}
+use Rattle.mat_union.specs.PartListLaws.{parts_pass}
 use Rattle.mat_union.specs.Placings.{ArePlaced, IsPlaceSearch, IsStuckSearch}
-use Rattle.mat_union.specs.Unions.{part_at}
+use Rattle.mat_union.specs.Unions.{part_at, AreParts}
 use Rattle.mat_any.specs.AnyKeeps.{KeepsAny}
-use Rattle.mat_any.specs.Joined.{size_in, test_in, union_in, KeepsOne, KeepsUnion}
+use Rattle.mat_any.specs.Joined.{elements_in, size_in, test_in, union_in, IsSoundOne, KeepsOne, KeepsUnion}
 use Rattle.mat_any.specs.declared.any.AnyMatroid.{the_lemmas}
 use Rattle.mat_any.proofs.DualNests.{count_within, keeps_within, sound_within, test_within}
 use Rattle.mat_any.proofs.JoinedLaws.{each_lawful, union_lawful}
 use Rattle.mat_any.proofs.JoinedMatroids.{joined_at, keeps_at, size_at, test_at_node}
+use Rattle.mat_any.proofs.WholeRuns.{run_of_rest, running_ends, running_within}
 use Rattle.mat_any.specs.Trees.{dual, element_count, is_independent}
 use Rattle.mat_any.specs.TreeLaws.{tree_laws}
 use Rattle.mat_any.specs.Views.{tree_of}
@@ -254,19 +260,88 @@ columns_keep-returns t c =
     kept_is c.lawful.ensures c.args.set.now [] _ c.in_ok-base.base c.in_ok-columns.columns.items c.requires.base refl outside
     base c.in_ok-columns.ensures
 
-pub union_keep-grown_parts-requires : goal.union_keep-grown_parts-requires
-union_keep-grown_parts-requires t c =
+pub greedy_parts-loop-i-init : goal.greedy_parts-loop-i-init
+greedy_parts-loop-i-init t c = taken_none (map test_in c.args.matroids.now) c.args.set.now _ c.in_ok-rest.rest c.new-parts.ensures.items c.in_ok-rest.ensures.equal
+
+pub greedy_parts-run-requires : goal.greedy_parts-run-requires
+greedy_parts-run-requires t c =
     let ms = c.args.matroids.now in
+    let n = size_in ms in
+    let rest = c.loop-i.rest in
     let items = c.as_slice.ensures.items in
+    let at = sound_at elements_in IsSoundOne n ms c.requires.joined.each c.loop-i.i c.index-matroids-i.result c.loop-i-test.true c.index-matroids-i.is in (
+      search (rules, the_lemmas),
+      (
+        at.0,
+        (
+          subst (λ k. AllBelow k c.as_slice.result.now) (sym at.1) (subst (AllBelow n) (sym items) (rest_below c.loop-i.invariant n c.requires.below)),
+          subst AreDistinct (sym items) (AreDistinct-rising rest c.as_slice.ensures.rises),
+        ),
+      ),
+    )
+
+pub greedy_parts-loop-i-preserved : goal.greedy_parts-loop-i-preserved
+greedy_parts-loop-i-preserved t c =
+    let ms = c.args.matroids.now in
+    let m = c.index-matroids-i.result in
+    let at = sound_at elements_in IsSoundOne (size_in ms) ms c.requires.joined.each c.loop-i.i m c.loop-i-test.true c.index-matroids-i.is in
+    let taken = run_of_rest (tree_laws (tree_of m) at.0) c.loop-i.rest c.in_ok-part.part (c.in_ok-part.ensures ∙ ap (grown_along (test_in m) []) c.as_slice.ensures.items) in
+    taken_more c.loop-i.invariant (test_in m) c.in_ok-part.part (test_is test_in ms c.loop-i.i m c.loop-i-test.true c.index-matroids-i.is) taken
+    _ c.in_ok-rest-2.rest c.in_ok-push.ensures.items c.in_ok-rest-2.ensures.members
+
+pub greedy_parts-returns-clause-are : goal.greedy_parts-returns-clause-are
+greedy_parts-returns-clause-are t c =
+    let ms = c.args.matroids.now in
+    let tests = map test_in ms in
+    let end : length tests ≡ c.loop-i.i = length-map ms test_in ∙ omega (arith, c.loop-i-test.false, c.loop-i.auto.i-end) in
+    subst (AreParts tests) (sym c.new.ensures.items) (taken_are c.loop-i.invariant end)
+
+pub greedy_parts-returns-clause-inside : goal.greedy_parts-returns-clause-inside
+greedy_parts-returns-clause-inside t c = subst (λ p. IsSubset (family_union p) c.args.set.now) (sym c.new.ensures.items) (taken_inside c.loop-i.invariant)
+
+pub union_keep-greedy_parts-requires : goal.union_keep-greedy_parts-requires
+union_keep-greedy_parts-requires t c =
+    let set = (union_lawful c.args.matroids.now c.requires.joined).sets c.args.set.now c.requires.base in
+    (search rules, (c.requires.joined, set.below))
+
+pub union_keep-growth_from-requires : goal.union_keep-growth_from-requires
+union_keep-growth_from-requires t c = (search rules, (c.requires.joined, c.in_ok-parts.ensures.are))
+
+pub union_keep-loop-x-init : goal.union_keep-loop-x-init
+union_keep-loop-x-init t c =
+    let ms = c.args.matroids.now in
+    let joined = c.requires.joined in
+    let growth = c.in_ok-growth in
+    record {
+      growing = growth.ensures.growing;
+      kept = growth.ensures.kept;
+      running = running_within (union_lawful ms joined) c.as_slice-x-items.ensures.items c.requires.base (family_union growth.growth.parts)
+          (parts_pass (map test_in ms) (each_lawful ms joined) growth.growth.parts growth.ensures.growing.are)
+          (subst (λ p. IsSubset (family_union p) c.args.set.now) (sym growth.ensures.same) c.in_ok-parts.ensures.inside);
+    }
+
+pub union_keep-take_turn-requires : goal.union_keep-take_turn-requires
+union_keep-take_turn-requires t c =
+    let ms = c.args.matroids.now in
+    let n = size_in ms in
     let set = (union_lawful ms c.requires.joined).sets c.args.set.now c.requires.base in
-    (search rules, (c.requires.joined, (subst (AllBelow (size_in ms)) (sym items) set.below, subst AreDistinct (sym items) (AreDistinct-rising c.args.set.now set.rising))))
+    let at = next_below c.as_slice-x-items.result.now c.args.set.now n c.loop-x.x-index c.as_slice-x-items.ensures.items set.below c.loop-x-test.true in
+    (search rules, (c.requires.joined, (c.loop-x.invariant.growing, (c.loop-x.invariant.kept, at))))
+
+pub union_keep-loop-x-preserved : goal.union_keep-loop-x-preserved
+union_keep-loop-x-preserved t c = record {
+  growing = c.in_ok-take_turn.ensures.growing;
+  kept = c.in_ok-take_turn.ensures.kept;
+  running = running_more c.loop-x.invariant.running (get_or c.as_slice-x-items.result.now c.loop-x.x-index 0) c.loop-x-test.true refl
+      (family_union c.take_turn.new.growth.parts) c.in_ok-take_turn.ensures.step;
+}
 
 pub union_keep-returns : goal.union_keep-returns
 union_keep-returns t c =
     let ms = c.args.matroids.now in
-    c.parts_kept.ensures ms c.args.set.now c.in_ok-growth.ensures.are
-    (c.in_ok-growth.ensures.taken ∙ ap (grown_along (union_in ms) []) c.as_slice.ensures.items ∙ run_all (union_lawful ms c.requires.joined) c.args.set.now c.requires.base)
-    c.in_ok-growth.ensures.kept
+    let whole = running_ends (union_lawful ms c.requires.joined) c.as_slice-x-items.ensures.items c.requires.base (family_union c.loop-x.growth.parts) c.loop-x.x-index
+    c.loop-x-test.false c.loop-x.invariant.running in
+    c.parts_kept.ensures ms c.args.set.now c.loop-x.invariant.growing.are whole c.loop-x.invariant.kept
 
 pub keep_each-loop-i-preserved : goal.keep_each-loop-i-preserved
 keep_each-loop-i-preserved t c =
@@ -317,8 +392,8 @@ pub grown_parts-returns-clause-taken : goal.grown_parts-returns-clause-taken
 grown_parts-returns-clause-taken t c =
     IsRunning-end (union_in c.args.matroids.now) c.args.order.now (family_union c.loop-x.growth.parts) c.loop-x.x-index c.loop-x-test.false c.loop-x.invariant.running
 
-pub first_growth-keep_each-requires : goal.first_growth-keep_each-requires
-first_growth-keep_each-requires t c =
+pub first_growth-growth_from-requires : goal.first_growth-growth_from-requires
+first_growth-growth_from-requires t c =
     let ms = c.args.matroids.now in
     let some = c.requires.joined.some in
     let count = length-map ms test_in in
@@ -327,24 +402,20 @@ first_growth-keep_each-requires t c =
     (c.in_ok-first.ensures ∙ ap (λ p. grown_along p [] c.args.order.now) (sym test)) c.in_ok-parts.parts (c.in_ok-parts.ensures.long ∙ sym count) c.in_ok-parts.ensures.first c.in_ok-parts.ensures.others in
     (search rules, (c.requires.joined, are))
 
-pub first_growth-returns-clause-growing : goal.first_growth-returns-clause-growing
-first_growth-returns-clause-growing t c =
-    let ms = c.args.matroids.now in
-    let some = c.requires.joined.some in
-    let count = length-map ms test_in in
-    let test = test_is test_in ms 0 c.index-matroids-0.result some c.index-matroids-0.is in
-    let are = first_run_are (each_lawful ms c.requires.joined) (subst (λ k. 0 < k) (sym count) some) c.args.order.now c.in_ok-first.first
-    (c.in_ok-first.ensures ∙ ap (λ p. grown_along p [] c.args.order.now) (sym test)) c.in_ok-parts.parts (c.in_ok-parts.ensures.long ∙ sym count) c.in_ok-parts.ensures.first c.in_ok-parts.ensures.others in
-    start_growing (each_lawful ms c.requires.joined) c.in_ok-parts.parts are _ _ c.new.ensures.members (c.in_ok-unspanned.ensures ∙ ap all_below c.common_size_of.ensures)
-
 pub first_growth-returns-clause-first : goal.first_growth-returns-clause-first
 first_growth-returns-clause-first t c =
     let ms = c.args.matroids.now in
     let some = c.requires.joined.some in
     let count = length-map ms test_in in
     let test = test_is test_in ms 0 c.index-matroids-0.result some c.index-matroids-0.is in
-    first_run_holds (each_lawful ms c.requires.joined) (subst (λ k. 0 < k) (sym count) some) c.args.order.now c.in_ok-first.first
-    (c.in_ok-first.ensures ∙ ap (λ p. grown_along p [] c.args.order.now) (sym test)) c.in_ok-parts.parts (c.in_ok-parts.ensures.long ∙ sym count) c.in_ok-parts.ensures.first c.in_ok-parts.ensures.others
+    let holds = first_run_holds (each_lawful ms c.requires.joined) (subst (λ k. 0 < k) (sym count) some) c.args.order.now c.in_ok-first.first
+    (c.in_ok-first.ensures ∙ ap (λ p. grown_along p [] c.args.order.now) (sym test)) c.in_ok-parts.parts (c.in_ok-parts.ensures.long ∙ sym count) c.in_ok-parts.ensures.first c.in_ok-parts.ensures.others in
+    IfOk-weaker c.growth_from.result _ _ (λ grown same. ap family_union same ∙ holds) c.growth_from.ensures.same
+
+pub growth_from-returns-clause-growing : goal.growth_from-returns-clause-growing
+growth_from-returns-clause-growing t c =
+    let ms = c.args.matroids.now in
+    start_growing (each_lawful ms c.requires.joined) c.args.parts c.requires.parts _ _ c.new.ensures.members (c.in_ok-unspanned.ensures ∙ ap all_below c.common_size_of.ensures)
 
 pub take_turn-returns-then-stands-clause-step : goal.take_turn-returns-then-stands-clause-step
 take_turn-returns-then-stands-clause-step t c =

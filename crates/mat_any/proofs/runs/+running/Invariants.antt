@@ -1,6 +1,7 @@
 use Rattle.std.proofs.Common.{map}
 use Rattle.mat_sets.specs.Families.{family_union}
 use Rattle.mat_laws.proofs.GreedyRunSteps.{IsRunning}
+use Rattle.mat_union.proofs.PartsOfSets.{AreTakenSo}
 use Rattle.mat_union.proofs.SoundMatroids.{AreKeptAnew, AreKeptSo}
 use Rattle.mat_union.specs.GrownParts.{AreGrowing, AreKept}
 use Rattle.mat_any.specs.Joined.{size_in, test_in, union_in, KeepsOne}
@@ -18,3 +19,13 @@ invariant-keep_each-loop-i l = AreKeptSo KeepsOne l.matroids l.parts l.i l.kept.
 
 abbrev pub invariant-keep_changed-loop-i : goal.invariant-keep_changed-loop-i
 invariant-keep_changed-loop-i l = AreKeptAnew KeepsOne l.matroids l.old l.new l.i l.kept.items
+
+abbrev pub invariant-greedy_parts-loop-i : goal.invariant-greedy_parts-loop-i
+invariant-greedy_parts-loop-i l = AreTakenSo (map test_in l.matroids) l.set l.i l.parts.items l.rest
+
+abbrev pub invariant-union_keep-loop-x : goal.invariant-union_keep-loop-x
+invariant-union_keep-loop-x l = record {
+  growing : AreGrowing (size_in l.matroids) (map test_in l.matroids) l.growth.parts l.growth.spanned l.growth.unspanned;
+  kept : AreKept KeepsOne l.matroids l.growth.parts l.growth.kept.items;
+  running : IsRunning (union_in l.matroids) l.x-items l.x-index (family_union l.growth.parts);
+}

@@ -1,6 +1,7 @@
 use Rattle.std.proofs.Common.{◌≡◌, ◌<◌, true, length, map, subst}
 use Rattle.std.specs.Prelude.{IfSome}
 use Rattle.mat_union.specs.Moves.{exchanges_with}
+use Rattle.mat_union.proofs.AskedRows.{reaching_is_ready}
 use Rattle.mat_union.proofs.growth.place_for.Goals as goal
 
 pub returns-in-Some : goal.returns-in-Some
@@ -10,3 +11,6 @@ returns-in-Some g c =
     c.in_ok-parts_with.ensures c.args.n tests c.args.among.now c.all_lawful.ensures c.requires.parts c.requires.fresh
     (subst (λ f. IfSome f (λ q. q < length parts)) c.in-Some.is c.in_ok-q.ensures.below)
     (subst (λ f. IfSome f (λ q. (exchanges_with tests parts q).adds c.args.x ≡ true)) c.in-Some.is c.in_ok-q.ensures.takes)
+
+pub found_place-requires-clause-ready : goal.found_place-requires-clause-ready
+found_place-requires-clause-ready g c = reaching_is_ready c.in_ok-search.ensures.reaching

@@ -1,4 +1,4 @@
-use Rattle.std.proofs.Common.{◌<◌, length, get_or, map, arith, subst, sym}
+use Rattle.std.proofs.Common.{◌<◌, length, map, arith, subst, sym}
 use Rattle.mat_union.specs.Moves.{exchanges_with}
 use Rattle.mat_union.specs.MoveSearches.{IsReaching}
 use Rattle.mat_union.proofs.AskedRows.{asked_below, row_told}
@@ -22,10 +22,7 @@ row_at-requires-clause-below g c =
     subst (λ k. c.in-Some.asked.element < k) (sym m) (subst (λ x. x < c.args.n) (sym c.in-Some.ensures.2) (asked_below c.loop-asked.invariant c.in-Some.ensures.1))
 
 pub tell-requires-clause-open : goal.tell-requires-clause-open
-tell-requires-clause-open g c = record {
-  more = c.in-Some.ensures.1;
-  inside = subst (λ k. get_or c.loop-asked.search.queue.items c.loop-asked.search.head 0 < k) (sym c.loop-asked.invariant.so_far.size) (asked_below c.loop-asked.invariant c.in-Some.ensures.1);
-}
+tell-requires-clause-open g c = record { more = c.in-Some.ensures.1 }
 
 pub loop-asked-preserved : goal.loop-asked-preserved
 loop-asked-preserved g c =

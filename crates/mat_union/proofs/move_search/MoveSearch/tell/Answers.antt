@@ -7,7 +7,7 @@ use Rattle.mat_union.proofs.move_search.MoveSearch.tell.Goals as goal
 
 pub returns-then-row : goal.returns-then-row
 returns-then-row c = λ n m exchanges among start h asks told. (
-  record { from_start = h.from_start; count = h.count; here = h.here; so_far = h.so_far; enters = λ e. (c.requires.open.more, sym told.adds ∙ c.if-row.true) },
+  record { from_start = h.from_start; size = h.size; count = h.count; here = h.here; so_far = h.so_far; enters = λ e. (c.requires.open.more, sym told.adds ∙ c.if-row.true) },
   entered_left c.args.self.entered _ (suc (length among)) c.args.self.head c.args.self.count c.args.self.part asks refl,
 )
 
@@ -15,6 +15,7 @@ pub returns-then-search : goal.returns-then-search
 returns-then-search c = λ n m exchanges among start h asks told. (
   record {
     from_start = h.from_start;
+    size = h.size;
     count = h.count;
     here = (let a = h.count in let b = c.if-search.true in omega arith);
     so_far = told_more h.so_far c.insert_all.new.set c.args.row.now.with (λ v. c.in_ok-insert_all.ensures v ∙ ap (λ xs. is_member v c.args.self.pushes || is_member v xs) c.as_slice.ensures.items)
@@ -33,6 +34,7 @@ returns c = λ n m exchanges among start h asks told.
     let last : suc s.part ≡ m = omega arith in
     let r = c.in_ok-close.ensures n m exchanges among start (record {
       from_start = h.from_start;
+      size = h.size;
       count = h.count;
       some = (let l = h.here in omega arith);
       refused = asks;
