@@ -7,9 +7,9 @@ use Rattle.std.proofs.lemmas.Bool.{false≢true, ne_eqb}
 use Rattle.std.proofs.lemmas.Int.{ints}
 use Rattle.mat_sets.specs.Sets.{is_member, with_one, without_one}
 use Rattle.mat_sets.proofs.Members.{is_member-without_one}
-use Rattle.mat_sets.specs.Weights.{zero_weight, ◌⊕◌, ◌⊖◌, ◌≺◌, ◌≼◌, is_below, IsWeightWithin}
+use Rattle.mat_sets.specs.Weights.{zero_weight, ◌⊕◌, ◌⊖◌, ◌≼◌, is_below, IsWeightWithin}
 use Rattle.mat_sets.specs.declared.weight.Weight.{Weight}
-use Rattle.mat_sets.proofs.WeightOrder.{pairs, at_most_trans, below_at_most, not_below_gives}
+use Rattle.mat_sets.proofs.WeightOrder.{pairs, at_most_same, at_most_both, at_most_trans, below_at_most, not_below_gives}
 use Rattle.mat_laws.specs.TightPaths.{Exchanges}
 use Rattle.mat_exchange.specs.Changes.{lowered, raised}
 use Rattle.mat_exchange.specs.SlackParts.{IsAdditionSlack, IsLeast}
@@ -260,13 +260,14 @@ module _ (n : ℕ) (b : Exchanges) (w : ℕ → Weight) (R : List ℕ) (total : 
       outside z a = elim (cases_Bool (is_member z R)) [ inr o ↦ o | inl m ↦ absurd (both_ways _ (k z) (and_from _ _ a m)) ]
 
   top_stays_with : (t u d : Weight) → IsHeaviestWeight b.adds (raised w R total) t → IsHeaviestWeight (λ x. b.adds x && is_member x R) w u
-      → total ≼ d → d ≺ (t ⊖ u) → IsHeaviestWeight b.adds (raised w R d) t
+      → total ≼ d → d ≼ (t ⊖ u) → IsHeaviestWeight b.adds (raised w R d) t
   top_stays_with t u d h k low first = record {
     element = h.element;
     passes = h.passes;
     weighs = elim (cases_Bool (is_member h.element R)) [
       | inr o ↦ raised-outside w R d h.element o ∙ sym (raised-outside w R total h.element o) ∙ h.weighs
-      | inl m ↦ absurd (late (w h.element) (k.most h.element (and_from _ _ h.passes m)) (sym (raised-member w R total h.element m) ∙ h.weighs))
+      | inl m ↦ raised-member w R d h.element m
+          ∙ level (w h.element) (k.most h.element (and_from _ _ h.passes m)) (sym (raised-member w R total h.element m) ∙ h.weighs)
     ];
     most = λ z a. elim (cases_Bool (is_member z R)) [
       | inr o ↦ subst (λ v. v ≼ t) (raised-outside w R total z o ∙ sym (raised-outside w R d z o)) (h.most z a)
@@ -274,19 +275,29 @@ module _ (n : ℕ) (b : Exchanges) (w : ℕ → Weight) (R : List ℕ) (total : 
     ];
   }
     where
-      late : (a : Weight) → a ≼ u → a ⊕ total ≡ t → ⊥
-      late a le e = omega (arith, ints, pairs)
-
       under : (a : Weight) → a ≼ u → (a ⊕ d) ≼ t
       under a le = omega (arith, ints, pairs)
 
-  -- a change that comes before each sink leaves the heaviest addable weight as it is
+      over : (a : Weight) → a ⊕ total ≡ t → t ≼ (a ⊕ d)
+      over a e = omega (arith, ints, pairs)
+
+      level : (a : Weight) → a ≼ u → a ⊕ total ≡ t → a ⊕ d ≡ t
+      level a le e = at_most_both (a ⊕ d) t (under a le) (over a e)
+
+  -- a change that comes no later than each sink leaves the heaviest addable weight as it is
   pub top_stays : (top inside : Option Weight) (d : Weight) → IsHeaviestWeightOrNone b.adds (raised w R total) top
       → IsHeaviestWeightOrNone (λ x. b.adds x && is_member x R) w inside → total ≼ d
-      → ((earlier : Weight) → excess_of top inside ≡ Some earlier → d ≺ earlier) → IsHeaviestWeightOrNone b.adds (raised w R d) top
+      → ((earlier : Weight) → excess_of top inside ≡ Some earlier → d ≼ earlier) → IsHeaviestWeightOrNone b.adds (raised w R d) top
   top_stays None inside d h k low before = h
   top_stays (Some t) None d h k low before = top_stays_without t d h k
   top_stays (Some t) (Some u) d h k low before = top_stays_with t u d h k low (before (t ⊖ u) refl)
+
+  -- and so does the change by which there is a sink
+  pub top_stays_at : (top inside : Option Weight) (d : Weight) → IsHeaviestWeightOrNone b.adds (raised w R total) top
+      → IsHeaviestWeightOrNone (λ x. b.adds x && is_member x R) w inside → total ≼ d → excess_of top inside ≡ Some d
+      → IsHeaviestWeightOrNone b.adds (raised w R d) top
+  top_stays_at top inside d h k low e = top_stays top inside d h k low (λ earlier f.
+      let same : d ≡ earlier = ap weight_or_none (sym e ∙ f) in at_most_same d earlier same)
 
 -- ---- bounds
 

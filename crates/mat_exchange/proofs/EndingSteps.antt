@@ -1,5 +1,5 @@
 -- The growing search ends: a member of the reached set has become a sink, or no change lets an element in or makes one a sink. The change is put on
--- the weights of the whole set, and the halves have grown.
+-- the weights of the whole set, and the halves have grown; the root and the greatest weight of what can be added in the second are as before.
 use Rattle.std.proofs.Common.{◌≡◌, ℕ, ◌^◌, true, List, Option, Some, refl, sym, ◌∙◌, subst, arith}
 use Rattle.std.proofs.lemmas.Bool.{both_ways}
 use Rattle.std.proofs.lemmas.Int.{ints}
@@ -10,14 +10,15 @@ use Rattle.mat_sets.proofs.WeightOrder.{pairs}
 use Rattle.mat_laws.specs.declared.exchange.Exchange.{Exchange}
 use Rattle.mat_laws.specs.TightPaths.{exchanges_in}
 use Rattle.mat_exchange.specs.Changes.{change_room, lowered, raised}
+use Rattle.mat_exchange.specs.HeaviestAddable.{IsHeaviestWeightOrNone}
 use Rattle.mat_exchange.specs.SlackParts.{IsAdditionSlack, IsLeast}
 use Rattle.mat_exchange.specs.declared.steps.NextStep.{NextStep}
 use Rattle.mat_exchange.specs.declared.steps.NextStep.TheVariants.{Sink, Nothing}
-use Rattle.mat_exchange.specs.Growing.{IsGrownSplit, IsNextStep, excess_of, sum_at}
+use Rattle.mat_exchange.specs.Growing.{IsGrownSplit, IsHeaviestOf, IsNextStep, excess_of, sum_at}
 use Rattle.mat_laws.proofs.TightArcs.{heaviest_addable_gives}
 use Rattle.mat_exchange.proofs.GrowthChanges.{growing_by, enters_late, levelled_by_sink, sink_by_slack}
-use Rattle.mat_exchange.proofs.Growing.{grown_by_sink, grown_without_slack}
-use Rattle.mat_exchange.proofs.ChangesSoFar.{lowered_twice, raised_twice, least_sink_at, no_sink}
+use Rattle.mat_exchange.proofs.Growing.{IsGrowing, root_heaviest, grown_by_sink, grown_without_slack}
+use Rattle.mat_exchange.proofs.ChangesSoFar.{lowered_twice, raised_twice, least_sink_at, no_sink, top_stays_at}
 use Rattle.mat_exchange.proofs.WeightBounds.{difference_within}
 use mathlib.Core.Path.{fun_ext}
 use Rattle.mat_exchange.proofs.GrowthSteps.{IsGrowth, second_small, reached_below, total_small, late_from_here}
@@ -53,21 +54,48 @@ module _ {n : ℕ} {I : List ℕ} {first second : List Exchange} {u1 u2 : List W
         together : (d t : Weight) → IsWeightWithin (10 ^ 27) t → IsWeightWithin (10 ^ 27) (d ⊖ t) → IsWeightWithin change_room d
         together d t ht hd = omega (arith, ints, pairs)
 
-    pub sunk : (v1 v2 : List Weight) → ((z : ℕ) → weight_at v1 z ≡ lowered (weight_at w1) R d z)
-        → ((z : ℕ) → weight_at v2 z ≡ raised (weight_at w2) R d z)
-        → IsGrownSplit n (exchanges_in first) (exchanges_in second) (sum_at (weight_at u1) (weight_at u2)) (weight_at u2)
-        (weight_at v1) (weight_at v2)
-    sunk v1 v2 fell rose =
+    total_low : total ≼ d
+    total_low = let low = sink_low in omega (arith, ints, pairs)
+
+    -- the change of the whole set
+    grown_to_sink : IsGrowing n (exchanges_in first) (exchanges_in second) (sum_at (weight_at u1) (weight_at u2)) (weight_at u2) root R O
+        (lowered (lowered (weight_at w1) R total) R (d ⊖ total)) (raised (raised (weight_at w2) R total) R (d ⊖ total))
+    grown_to_sink =
         let s = now.shifted in
-        let same1 : weight_at v1 ≡ lowered (lowered (weight_at w1) R total) R (d ⊖ total) =
-        fun_ext (λ z. fell z ∙ sym (lowered_twice (weight_at w1) R total (d ⊖ total) d refl z)) in
-        let same2 : weight_at v2 ≡ raised (raised (weight_at w2) R total) R (d ⊖ total) =
-        fun_ext (λ z. rose z ∙ sym (raised_twice (weight_at w2) R total (d ⊖ total) d refl z)) in
-        let change = growing_by s.first_on s.second_on s.growing (d ⊖ total) sink_low
+        growing_by s.first_on s.second_on s.growing (d ⊖ total) sink_low
         (enters_late s.growing now.fringe (d ⊖ total) (late_from_here now d sinks.1))
-        (λ plus. levelled_by_sink s.small s.growing (d ⊖ total) plus sink_least) in
-        let sink = sink_by_slack (d ⊖ total) s.second_on.adds_below sink_least in
-        rw (same1, same2) (grown_by_sink change sink.0 sink.1 sink.2)
+        (λ plus. levelled_by_sink s.small s.growing (d ⊖ total) plus sink_least)
+
+    module _ (v1 v2 : List Weight) (fell : (z : ℕ) → weight_at v1 z ≡ lowered (weight_at w1) R d z)
+        (rose : (z : ℕ) → weight_at v2 z ≡ raised (weight_at w2) R d z) where
+      first_same : (z : ℕ) → weight_at v1 z ≡ lowered (lowered (weight_at w1) R total) R (d ⊖ total) z
+      first_same z = fell z ∙ sym (lowered_twice (weight_at w1) R total (d ⊖ total) d refl z)
+
+      second_same : (z : ℕ) → weight_at v2 z ≡ raised (raised (weight_at w2) R total) R (d ⊖ total) z
+      second_same z = rose z ∙ sym (raised_twice (weight_at w2) R total (d ⊖ total) d refl z)
+
+      pub sunk : IsGrownSplit n (exchanges_in first) (exchanges_in second) (sum_at (weight_at u1) (weight_at u2)) (weight_at u2)
+          (weight_at v1) (weight_at v2)
+      sunk =
+          let same1 : weight_at v1 ≡ lowered (lowered (weight_at w1) R total) R (d ⊖ total) = fun_ext first_same in
+          let same2 : weight_at v2 ≡ raised (raised (weight_at w2) R total) R (d ⊖ total) = fun_ext second_same in
+          let sink = sink_by_slack (d ⊖ total) now.shifted.second_on.adds_below sink_least in
+          rw (same1, same2) (grown_by_sink grown_to_sink sink.0 sink.1 sink.2)
+
+      -- the root is still a heaviest addable element of the first matroid
+      pub sunk_root : IsHeaviestOf (exchanges_in first).adds (weight_at v1) root
+      sunk_root =
+          let same : lowered (lowered (weight_at w1) R total) R (d ⊖ total) ≡ weight_at v1 = fun_ext (λ z. sym (first_same z)) in
+          subst (λ (w : ℕ → Weight). IsHeaviestOf (exchanges_in first).adds w root) same
+          (root_heaviest grown_to_sink now.shifted.first_on.adds_below)
+
+      -- and the greatest weight of what can be added in the second is as before
+      pub sunk_top : IsHeaviestWeightOrNone (exchanges_in second).adds (weight_at v2) top
+      sunk_top =
+          let same : raised (weight_at w2) R d ≡ weight_at v2 = fun_ext (λ z. sym (rose z)) in
+          subst (λ (w : ℕ → Weight). IsHeaviestWeightOrNone (exchanges_in second).adds w top) same
+          (top_stays_at n (exchanges_in second) (weight_at w2) R total now.shifted.second_on.adds_below top inside d now.top_now now.inside_now
+          total_low (sym from ∙ sinks.0))
 
   -- ---- nothing is left
 
@@ -85,3 +113,16 @@ module _ {n : ℕ} {I : List ℕ} {first second : List Exchange} {u1 u2 : List W
       rw (same1, same2) (grown_without_slack s.growing
       (λ x e xo entry. both_ways _ (none.1 x) (now.fringe.most x e xo entry).0)
       (no_sink n (exchanges_in second) (weight_at w2) R total s.second_on.adds_below top inside now.top_now now.inside_now (sym from ∙ none.0)))
+
+  pub ended_root : (v1 : List Weight) → ((z : ℕ) → weight_at v1 z ≡ lowered (weight_at w1) R total z)
+      → IsHeaviestOf (exchanges_in first).adds (weight_at v1) root
+  ended_root v1 fell =
+      let same : lowered (weight_at w1) R total ≡ weight_at v1 = fun_ext (λ z. sym (fell z)) in
+      subst (λ (w : ℕ → Weight). IsHeaviestOf (exchanges_in first).adds w root) same
+      (root_heaviest now.shifted.growing now.shifted.first_on.adds_below)
+
+  pub ended_top : (v2 : List Weight) → ((z : ℕ) → weight_at v2 z ≡ raised (weight_at w2) R total z)
+      → IsHeaviestWeightOrNone (exchanges_in second).adds (weight_at v2) top
+  ended_top v2 rose =
+      let same : raised (weight_at w2) R total ≡ weight_at v2 = fun_ext (λ z. sym (rose z)) in
+      subst (λ (w : ℕ → Weight). IsHeaviestWeightOrNone (exchanges_in second).adds w top) same now.top_now

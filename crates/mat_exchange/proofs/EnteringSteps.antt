@@ -24,6 +24,10 @@ use mathlib.Core.Path.{fun_ext}
 use Rattle.mat_exchange.proofs.NewMembers.{new_member}
 use Rattle.mat_exchange.proofs.GrowthSteps.{IsShifted, IsGrowth, gain_small, fringe_below, late_from_here}
 
+-- what comes before comes no later
+no_later : (a b : Weight) → a ≺ b → a ≼ b
+no_later a b less = omega (arith, ints)
+
 module _ {n : ℕ} {I : List ℕ} {first second : List Exchange} {u1 u2 : List Weight} {root : ℕ} {R O F : List ℕ} {total : Weight}
     {w1 w2 g : List Weight} {top inside : Option Weight} (now : IsGrowth n I first second u1 u2 root R O F total w1 w2 g top inside) where
   module _ {slack : Option Weight} (from : slack ≡ excess_of top inside) {step : NextStep} {x : ℕ} {d : Weight} (is : step ≡ Enter x d)
@@ -160,7 +164,7 @@ module _ {n : ℕ} {I : List ℕ} {first second : List Exchange} {u1 u2 : List W
           fun_ext (raised_entered (weight_at w2) (weight_at v2) R x d enter_outside fell) in
           rw same2 at (top_stays n (exchanges_in second) (weight_at w2) R total now.shifted.second_on.adds_below
           top inside d now.top_now now.inside_now total_low
-          (λ earlier e. enters.3 earlier (from ∙ e)))
+          (λ earlier e. no_later d earlier (enters.3 earlier (from ∙ e))))
 
       pub entered : ((y z z' : ℕ) → (exchanges_in first).adds z ≡ true → (exchanges_in first).adds z' ≡ true
           → (exchanges_in first).trades y z ≡ (exchanges_in first).trades y z')

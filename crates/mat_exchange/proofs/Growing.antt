@@ -1,7 +1,7 @@
 -- What is kept while a reached set grows from its root. Each member is reached by tight arcs inside the set; the second weights of its members
 -- differ little from that of the root in both numbers, and what is outside has its second weight from the start. Once a member is a sink, or
 -- nothing outside can enter and no member can be added, the halves of the weights have grown.
-use Rattle.std.proofs.Common.{◌≡◌, ℕ, ◌+◌, ◌*◌, ◌^◌, ◌<◌, ◌≤◌, Bool, true, false, ◌&&◌, not, eqb, ltb, List, [], length, ℤ, pos, ◌+ℤ◌, ◌≤ℤ◌, inl, inr}
+use Rattle.std.proofs.Common.{◌≡◌, ℕ, ◌+◌, ◌*◌, ◌^◌, ◌<◌, Bool, true, false, ◌&&◌, not, eqb, ltb, List, [], length, ℤ, pos, ◌+ℤ◌, ◌≤ℤ◌, inl, inr}
 use Rattle.std.proofs.Common.{refl, sym, ap, ◌∙◌, subst, arith}
 use Rattle.std.proofs.lemmas.Bool.{cases_Bool, both_ways, and_parts, and_from, not-true, lt-ltb, ltb-true, false≢true}
 use Rattle.std.proofs.lemmas.Int.{ints}
@@ -18,7 +18,7 @@ use Rattle.mat_sets.proofs.Truths.{or_none}
 use Rattle.mat_laws.specs.TightPaths.{Exchanges, is_heaviest_addable, is_tight, IsStuckReach}
 use Rattle.mat_laws.specs.Slacks.{IsSlack}
 use Rattle.mat_laws.specs.Slacks.IsSlack.{first_addition, first_exchange, second_exchange, second_addition}
-use Rattle.mat_exchange.specs.Growing.{NoExchangeGains, EndsSearch, IsGrownSplit, IsEntry, sum_at}
+use Rattle.mat_exchange.specs.Growing.{NoExchangeGains, EndsSearch, IsGrownSplit, IsEntry, IsHeaviestOf, sum_at}
 use Rattle.mat_exchange.specs.Growing.IsEntry.{as_source, from_member, from_other}
 use Rattle.mat_exchange.specs.SlackParts.{IsAdditionSlack}
 use Rattle.mat_laws.proofs.TightArcs.{IsHeaviestAddable, heaviest_addable_gives, heaviest_addable_from}
@@ -75,6 +75,9 @@ module _ {n : ℕ} {a b : Exchanges} {w old : ℕ → Weight} {root : ℕ} {R O 
     (now : IsGrowing n a b w old root R O w1 w2) where
   pub root_below : root < n
   root_below = below_member now.set now.root_in
+
+  pub root_heaviest : ((x : ℕ) → a.adds x ≡ true → x < n) → IsHeaviestOf a.adds w1 root
+  root_heaviest below = record { passes = now.root_top.adds; most = λ y k. now.root_top.most y (below y k) k }
 
   pub in_others : (x : ℕ) → x < n → is_member x R ≡ false → is_member x O ≡ true
   in_others x l out = now.others x ∙ and_from (ltb x n) (not (is_member x R)) (lt-ltb x n l) (ap not out)

@@ -1,5 +1,5 @@
 -- The greatest weight of the elements that can be added tells which of them are heaviest.
-use Rattle.std.proofs.Common.{◌≡◌, ℕ, ◌<◌, true, false, ◌&&◌, List, [], length, inl, inr, sym, ap, subst}
+use Rattle.std.proofs.Common.{◌≡◌, ℕ, ◌<◌, Bool, true, false, ◌&&◌, List, [], length, inl, inr, refl, sym, ap, subst}
 use Rattle.std.specs.Cmp.{both_ways as both_tests}
 use Rattle.std.proofs.lemmas.Bool.{and_from, and_parts, cases_lt, both_ways}
 use Rattle.std.proofs.lemmas.List.{get_or_past}
@@ -9,6 +9,7 @@ use Rattle.mat_sets.proofs.WeightOrder.{same_gives, same_from, at_most_both, at_
 use Rattle.mat_laws.specs.declared.exchange.Exchange.{Exchange}
 use Rattle.mat_laws.specs.TightPaths.{Exchanges, exchanges_in, is_heaviest_addable}
 use Rattle.mat_laws.proofs.TightArcs.{heaviest_addable_gives, heaviest_addable_from}
+use Rattle.mat_exchange.specs.Growing.{IsHeaviestOf}
 use Rattle.mat_exchange.specs.HeaviestAddable.{IsHeaviestWeight}
 
 -- only elements that have a row can be added
@@ -17,6 +18,10 @@ addable_below rows x a = elim (cases_lt x (length rows)) [
   | inl l ↦ l
   | inr g ↦ absurd (both_ways _ (ap (λ (r : Exchange). r.addable) (get_or_past rows x (record { addable = false; with = [] }) g)) a)
 ]
+
+-- a heaviest element has the greatest weight
+pub heaviest_weight : {test : ℕ → Bool} {w : ℕ → Weight} {x : ℕ} → IsHeaviestOf test w x → IsHeaviestWeight test w (w x)
+heaviest_weight {test} {w} {x} h = record { element = x; passes = h.passes; weighs = refl; most = h.most }
 
 -- an element that can be added is a heaviest one exactly where it has the greatest weight
 pub is_heaviest_addable-by_weight : (n : ℕ) (rows : List Exchange) (w : ℕ → Weight) (t : Weight) (x : ℕ) → length rows ≡ n

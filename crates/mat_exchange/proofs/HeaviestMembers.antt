@@ -1,5 +1,5 @@
 -- A heaviest element of those that pass, found by going through them in rising order.
-use Rattle.std.proofs.Common.{◌≡◌, ℕ, ◌<◌, ◌+◌, Bool, true, false, cond, Option, Some, None, IfSome, MatchOption, ◌⊎◌, inl, inr, sym, ap}
+use Rattle.std.proofs.Common.{◌≡◌, ℕ, ◌<◌, ◌≤◌, ◌+◌, Bool, true, false, cond, Option, Some, None, IfSome, ◌⊎◌, inl, inr, sym, ap}
 use Rattle.std.proofs.Common.{subst, arith}
 use Rattle.std.proofs.lemmas.Bool.{cases_Bool, cases_lt, cases_eq, both_ways}
 use Rattle.std.proofs.lemmas.Int.{ints}
@@ -7,15 +7,8 @@ use Rattle.mat_sets.specs.Search.{IsFirstFrom}
 use Rattle.mat_sets.specs.Weights.{zero_weight, negated, ◌⊕◌, ◌≼◌, is_below}
 use Rattle.mat_sets.specs.declared.weight.Weight.{Weight}
 use Rattle.mat_sets.proofs.WeightOrder.{pairs, at_most_same, at_most_trans, below_at_most, not_below_gives}
-use Rattle.mat_exchange.specs.Growing.{heavier_of, IsHeaviestOf}
-
--- y passes, and none before `from` that passes weighs more
-pub record IsHeaviestTo (test : ℕ → Bool) (w : ℕ → Weight) (from y : ℕ) : Type 0 where
-  pub passes : test y ≡ true
-  pub most : (x : ℕ) → x < from → test x ≡ true → w x ≼ w y
-
-abbrev pub IsHeaviestToOrNone : (ℕ → Bool) → (ℕ → Weight) → ℕ → Option ℕ → Type 0
-IsHeaviestToOrNone test w from found = MatchOption found ((x : ℕ) → x < from → test x ≡ false) (IsHeaviestTo test w from)
+use Rattle.mat_exchange.specs.Growing.{heavier_of, IsHeaviestOrNone}
+use Rattle.mat_exchange.specs.HeaviestMembers.{IsAtBound, IsHeaviestTo, IsHeaviestToOrNone}
 
 -- each that passes before v + 1 passes before `from` or is v
 pub passes_next : (test : ℕ → Bool) (from v x : ℕ) → IsFirstFrom test from v → x < v + 1 → test x ≡ true → (x < from) ⊎ (x ≡ v)
@@ -46,11 +39,37 @@ heaviest_to_next test w from v (Some y) f h = elim (cases_Bool (is_below (w y) (
   })
 ]
 
+-- nothing between two numbers passes
+pub heaviest_to_on : (test : ℕ → Bool) (w : ℕ → Weight) (from to : ℕ) (found : Option ℕ) → ((x : ℕ) → from ≤ x → x < to → test x ≡ false)
+    → IsHeaviestToOrNone test w from found → IsHeaviestToOrNone test w to found
+heaviest_to_on test w from to None missing h = λ x l. elim (cases_lt x from) [ inl a ↦ h x a | inr a ↦ missing x a l ]
+heaviest_to_on test w from to (Some y) missing h = record {
+  passes = h.passes;
+  most = λ x l p. elim (cases_lt x from) [ inl a ↦ h.most x a p | inr a ↦ absurd (both_ways _ (missing x a l) p) ];
+}
+
+-- nothing from there on passes
+pub heaviest_to_all : (test : ℕ → Bool) (w : ℕ → Weight) (from : ℕ) (found : Option ℕ) → ((x : ℕ) → from ≤ x → test x ≡ false)
+    → IsHeaviestToOrNone test w from found → IsHeaviestOrNone test w found
+heaviest_to_all test w from None missing h = λ x. elim (cases_lt x from) [ inl a ↦ h x a | inr a ↦ missing x a ]
+heaviest_to_all test w from (Some y) missing h = record {
+  passes = h.passes;
+  most = λ x p. elim (cases_lt x from) [ inl a ↦ h.most x a p | inr a ↦ absurd (both_ways _ (missing x a) p) ];
+}
+
+-- what passes is below n
+pub heaviest_to_below : (test : ℕ → Bool) (w : ℕ → Weight) (from n : ℕ) (found : Option ℕ) → ((x : ℕ) → test x ≡ true → x < n)
+    → IsHeaviestToOrNone test w from found → IfSome found (λ y. y < n)
+heaviest_to_below test w from n None below h = _
+heaviest_to_below test w from n (Some y) below h = below y h.passes
+
 -- an element that passes and weighs as much as a bound of all that pass is a heaviest
-pub heaviest_at_bound : (test : ℕ → Bool) (w : ℕ → Weight) (from v : ℕ) (bound : Option Weight) → IsFirstFrom test from v
-    → IfSome bound (λ most. (x : ℕ) → test x ≡ true → w x ≼ most) → bound ≡ Some (w v) → IsHeaviestOf test w v
-heaviest_at_bound test w from v bound f most is = record {
-  passes = f.passes;
+pub heaviest_at_bound : (test : ℕ → Bool) (w : ℕ → Weight) (from : ℕ) (found : Option ℕ) (bound : Option Weight)
+    → IsHeaviestToOrNone test w from found → IfSome bound (λ most. (x : ℕ) → test x ≡ true → w x ≼ most) → IsAtBound w found bound
+    → IsHeaviestOrNone test w found
+heaviest_at_bound test w from None bound h most is = absurd is
+heaviest_at_bound test w from (Some y) bound h most is = record {
+  passes = h.passes;
   most = subst (λ b. IfSome b (λ most. (x : ℕ) → test x ≡ true → w x ≼ most)) is most;
 }
 

@@ -15,6 +15,7 @@ pub mod Growing
 pub mod GrowthChanges
 pub mod GrowthEntries
 pub mod HeaviestMembers
+pub mod WordSearches
 pub mod Raising
 pub mod ChangesSoFar
 pub mod GrowthSteps

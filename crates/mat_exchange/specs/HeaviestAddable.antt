@@ -2,6 +2,8 @@
 use Rattle.std.specs.Prelude.{◌≡◌, ℕ, Bool, true, false, if◌then◌else◌, Option, Some, None, MatchOption}
 use Rattle.mat_sets.specs.Weights.{◌≼◌, is_below}
 use Rattle.mat_sets.specs.declared.weight.Weight.{Weight}
+use Rattle.mat_laws.specs.TightPaths.{Exchanges}
+use Rattle.mat_exchange.specs.declared.heaviest_addable.GreatestWeights.{GreatestWeights}
 
 -- t is the weight of an element that passes, and none that passes weighs more
 pub record IsHeaviestWeight (test : ℕ → Bool) (w : ℕ → Weight) (t : Weight) : Type 0 where
@@ -13,6 +15,11 @@ pub record IsHeaviestWeight (test : ℕ → Bool) (w : ℕ → Weight) (t : Weig
 -- that weight, or nothing where no element passes
 abbrev pub IsHeaviestWeightOrNone : (ℕ → Bool) → (ℕ → Weight) → Option Weight → Type 0
 IsHeaviestWeightOrNone test w heaviest = MatchOption heaviest ((x : ℕ) → test x ≡ false) (IsHeaviestWeight test w)
+
+-- the greatest weights of the elements that can be added in two matroids, in the first under w1 and in the second under w2
+pub record AreGreatestWeights (first second : Exchanges) (w1 w2 : ℕ → Weight) (heaviest : GreatestWeights) : Type 0 where
+  pub of_first : IsHeaviestWeightOrNone first.adds w1 heaviest.first
+  pub of_second : IsHeaviestWeightOrNone second.adds w2 heaviest.second
 
 -- the greater of a weight, if there is one, and another
 abbrev pub greater_of : Option Weight → Weight → Option Weight

@@ -6,3 +6,4 @@ pub mod HeaviestAddable
 pub mod SlackParts
 pub mod TightSearches
 pub mod Growing
+pub mod HeaviestMembers

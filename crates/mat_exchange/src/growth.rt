@@ -11,13 +11,14 @@ ghost use Rattle.mat_exchange.specs.{
   Tables.{IsTableAt},
   Searching.{is_stuck, HasNoTightPath},
   Growing.{IsEntry, IsFringe, NoExchangeGains, IsGrown, IsGrownSplit, IsHeaviestOf, StaysHeaviest, sum_at},
+  HeaviestAddable.{AreGreatestWeights, IsHeaviestWeightOrNone},
 };
 
 use crate::fringe::{change, offer, offer_exchanges, put_back};
 use crate::grown::Grown;
-use crate::heaviest_addable::{heaviest_addable, heaviest_with};
+use crate::heaviest_addable::{GreatestWeights, heaviest_addable, heaviest_with};
 use crate::heaviest_members::heaviest_member;
-use crate::path_search::tight_search;
+use crate::path_search::tight_search_with;
 use crate::row_table::RowTable;
 use crate::slack::excess_or_none;
 use crate::steps::{NextStep, next_step};
@@ -31,6 +32,14 @@ struct GrowingReach {
     others: BitSet,
     // Those of the others that a change of the weights lets in.
     fringe: BitSet,
+}
+
+/// The two halves of the weights after all changes, and the greatest weights of what can be added under them.
+#[derive(Drop)]
+struct GrownHalves {
+    first: PairWeights,
+    second: PairWeights,
+    heaviest: GreatestWeights,
 }
 
 /// The root alone is reached, and offers their gains to the elements that can be added and to those that its arcs can lead to.
@@ -94,7 +103,8 @@ fn reach_root(
 
 /// Lets the reached set grow from one source, and changes the weights as it needs, until it holds a sink or nothing can enter it. The
 /// change is one number, which is put on the weights of the whole set only at the end; so an element that enters is first put back by
-/// the change so far, and the gains of the fringe are less by it.
+/// the change so far, and the gains of the fringe are less by it. The source stays a heaviest addable element of the first matroid, and the
+/// answer is the greatest weight of what can be added in the second.
 fn grow_from(
     alloc: Global,
     first: &RowTable,
@@ -104,7 +114,7 @@ fn grow_from(
     w1: &mut [Weight],
     w2: &mut [Weight],
     gains: &mut [Weight],
-) -> Result<(), AllocError>
+) -> Result<Option<Weight>, AllocError>
     requires few { length w1.old ≤ most_elements }
     requires lengths { length w2.old ≡ length w1.old }
     requires gains { length gains.old ≡ length w1.old }
@@ -119,6 +129,8 @@ fn grow_from(
     ensures second_length { length w2.new ≡ length w2.old }
     ensures grown { OnOk result (IsGrownSplit (length w1.old) (exchanges_in first.now) (exchanges_in second.now)
         (sum_at (weight_at w1.old) (weight_at w2.old)) (weight_at w2.old) (weight_at w1.new) (weight_at w2.new)) }
+    ensures root { OnOk result (IsHeaviestOf (exchanges_in first.now).adds (weight_at w1.new) root) }
+    ensures top { IfOk result (IsHeaviestWeightOrNone (exchanges_in second.now).adds (weight_at w2.new)) }
 {
     let GrowingReach {
         mut reached,
@@ -142,14 +154,52 @@ fn grow_from(
             }
             NextStep::Sink(step) => {
                 change(w1, w2, &reached, step);
-                return Ok(());
+                return Ok(top);
             }
             NextStep::Nothing => {
                 change(w1, w2, &reached, total);
-                return Ok(());
+                return Ok(top);
             }
         }
     }
+}
+
+/// The same from a heaviest addable element of the first matroid; where there is none, nothing changes. The answer is the greatest weights of
+/// what can be added, after the changes.
+fn grow_from_heaviest(
+    alloc: Global,
+    first: &RowTable,
+    second: &RowTable,
+    set: &ElemSet,
+    w1: &mut [Weight],
+    w2: &mut [Weight],
+) -> Result<GreatestWeights, AllocError>
+    requires few { length w1.old ≤ most_elements }
+    requires lengths { length w2.old ≡ length w1.old }
+    requires first_table { IsTableAt (length w1.old) set.now first.now }
+    requires second_table { IsTableAt (length w1.old) set.now second.now }
+    requires first_gains { NoExchangeGains (exchanges_in first.now) (weight_at w1.old) }
+    requires second_gains { NoExchangeGains (exchanges_in second.now) (weight_at w2.old) }
+    requires small { (x : ℕ) → x < length w1.old → IsWeightWithin largest_weight (weight_at w1.old x ⊕ weight_at w2.old x) }
+    requires second_small { AreWeightsWithin split_room w2.old }
+    ensures first_length { length w1.new ≡ length w1.old }
+    ensures second_length { length w2.new ≡ length w2.old }
+    ensures grown { OnOk result (IsGrownSplit (length w1.old) (exchanges_in first.now) (exchanges_in second.now)
+        (sum_at (weight_at w1.old) (weight_at w2.old)) (weight_at w2.old) (weight_at w1.new) (weight_at w2.new)) }
+    ensures heaviest { IfOk result (AreGreatestWeights (exchanges_in first.now) (exchanges_in second.now) (weight_at w1.new) (weight_at w2.new)) }
+{
+    let Some(root) = heaviest_member(first.addable_elements(), w1, None) else {
+        return Ok(GreatestWeights {
+            first: None,
+            second: heaviest_addable(second, w2),
+        });
+    };
+    let mut gains = vec![in alloc; Weight::ZERO; w1.len()]?;
+    let top = grow_from(alloc, first, second, set, root, w1, w2, &mut gains)?;
+    Ok(GreatestWeights {
+        first: Some(w1[root as usize]),
+        second: top,
+    })
 }
 
 /// The two halves once the weights have changed until a search for a tight path finds one, or is stuck without a slack.
@@ -160,7 +210,7 @@ fn grown_halves(
     set: &ElemSet,
     w1: &[Weight],
     w2: &[Weight],
-) -> Result<(PairWeights, PairWeights), AllocError>
+) -> Result<GrownHalves, AllocError>
     requires few { length w1.now ≤ most_elements }
     requires lengths { length w2.now ≡ length w1.now }
     requires first_table { IsTableAt (length w1.now) set.now first.now }
@@ -169,20 +219,21 @@ fn grown_halves(
     requires second_gains { NoExchangeGains (exchanges_in second.now) (weight_at w2.now) }
     requires small { (x : ℕ) → x < length w1.now → IsWeightWithin largest_weight (weight_at w1.now x ⊕ weight_at w2.now x) }
     requires second_small { AreWeightsWithin split_room w2.now }
-    ensures first_length { IfOk result (λ halves. length halves.0 ≡ length w1.now) }
-    ensures second_length { IfOk result (λ halves. length halves.1 ≡ length w1.now) }
+    ensures first_length { IfOk result (λ halves. length halves.first ≡ length w1.now) }
+    ensures second_length { IfOk result (λ halves. length halves.second ≡ length w1.now) }
     ensures grown { IfOk result (λ halves. IsGrownSplit (length w1.now) (exchanges_in first.now) (exchanges_in second.now)
-        (sum_at (weight_at w1.now) (weight_at w2.now)) (weight_at w2.now) (weight_at halves.0) (weight_at halves.1)) }
+        (sum_at (weight_at w1.now) (weight_at w2.now)) (weight_at w2.now) (weight_at halves.first) (weight_at halves.second)) }
+    ensures heaviest { IfOk result (λ halves. AreGreatestWeights (exchanges_in first.now) (exchanges_in second.now)
+        (weight_at halves.first) (weight_at halves.second) halves.heaviest) }
 {
     let mut new1 = Vec::from_slice(alloc, w1)?;
     let mut new2 = Vec::from_slice(alloc, w2)?;
-    if let Some(root) = heaviest_member(first.addable_elements(), w1, None) {
-        let mut gains = vec![in alloc; Weight::ZERO; w1.len()]?;
-        grow_from(
-            alloc, first, second, set, root, &mut new1, &mut new2, &mut gains,
-        )?;
-    }
-    Ok((PairWeights::new(new1), PairWeights::new(new2)))
+    let heaviest = grow_from_heaviest(alloc, first, second, set, &mut new1, &mut new2)?;
+    Ok(GrownHalves {
+        first: PairWeights::new(new1),
+        second: PairWeights::new(new2),
+        heaviest,
+    })
 }
 
 /// Changes the two weights until a tight path with fewest vertices is found, or nothing is left to change and no tight path is there
@@ -209,8 +260,20 @@ pub fn grow(
         ↔ HasNoTightPath (length w1.now) (exchanges_in first.now) (exchanges_in second.now) (weight_at grown.first) (weight_at grown.second)) }
     ensures heaviest { IfOk result (StaysHeaviest (length w1.now) first.now second.now set.now w1.now w2.now) }
 {
-    let (new1, new2) = grown_halves(alloc, first, second, set, w1, w2)?;
-    let found = tight_search(alloc, first, second, set, new1.as_slice(), new2.as_slice())?;
+    let GrownHalves {
+        first: new1,
+        second: new2,
+        heaviest,
+    } = grown_halves(alloc, first, second, set, w1, w2)?;
+    let found = tight_search_with(
+        alloc,
+        first,
+        second,
+        set,
+        new1.as_slice(),
+        new2.as_slice(),
+        heaviest,
+    )?;
     Ok(Grown {
         first: new1,
         second: new2,

@@ -8,6 +8,13 @@ use crate::heaviest_members::heaviest_member;
 use crate::row_table::RowTable;
 use mat_sets::Weight;
 
+/// The greatest weight of the elements that can be added in each of two matroids; none where none can be.
+#[derive(Drop)]
+pub(crate) struct GreatestWeights {
+    pub(crate) first: Option<Weight>,
+    pub(crate) second: Option<Weight>,
+}
+
 /// The greater of a weight, if there is one, and another.
 fn greater(heaviest: Option<Weight>, weight: Weight) -> Option<Weight>
     ensures { result ≡ greater_of heaviest weight }

@@ -1,7 +1,8 @@
 //! A heaviest member of a set, and one that two sets have in common.
-ghost use Rattle.std.specs.Prelude.{◌≡◌, ◌&&◌, ◌<◌, ◌≤◌, ℕ, true, length, IfSome, Some};
-ghost use Rattle.mat_sets.specs.{Limits.{most_elements}, Sets.{is_member}, Weights.{◌≼◌, weight_at}};
+ghost use Rattle.std.specs.Prelude.{◌≡◌, ◌&&◌, ◌*◌, ◌+◌, ◌<◌, ◌≤◌, ℕ, true, length, IfSome, Some};
+ghost use Rattle.mat_sets.specs.{Bits.{bits_of}, Limits.{most_elements}, Sets.{is_member}, Weights.{◌≼◌, weight_at}};
 ghost use Rattle.mat_exchange.specs.Growing.{heavier_of, IsHeaviestOrNone};
+ghost use Rattle.mat_exchange.specs.HeaviestMembers.{IsAtBound, IsHeaviestToOrNone};
 
 use mat_sets::{BitSet, Weight};
 
@@ -32,8 +33,44 @@ fn is_at_bound(weights: &[Weight], x: u32, bound: Option<Weight>) -> bool
     }
 }
 
-/// A heaviest member; none where the set is empty. Where no member weighs more than a bound, the first one that weighs as much ends the search.
-/// The time is at most that of the members and of the words of the set.
+/// Whether the heaviest element so far weighs as much as the bound.
+fn ends_search(heaviest: Option<u32>, weights: &[Weight], bound: Option<Weight>) -> bool
+    requires { IfSome heaviest (λ x. x < length weights.now) }
+    ensures { result ≡ true → IsAtBound (weight_at weights.now) heaviest bound }
+{
+    match heaviest {
+        Some(x) => is_at_bound(weights, x, bound),
+        None => false,
+    }
+}
+
+/// Of the heaviest member before a word and the members in it a heaviest. The time is that of these members.
+fn heaviest_to_word(
+    words: &[u64],
+    at: usize,
+    heaviest: Option<u32>,
+    weights: &[Weight],
+) -> Option<u32>
+    requires few { length weights.now ≤ most_elements }
+    requires inside { at < length words.now }
+    requires starts { at * 64 < length weights.now }
+    requires below { (x : ℕ) → is_member x (bits_of words.now) ≡ true → x < length weights.now }
+    requires before { IsHeaviestToOrNone (λ x. is_member x (bits_of words.now)) (weight_at weights.now) (at * 64) heaviest }
+    ensures { IsHeaviestToOrNone (λ x. is_member x (bits_of words.now)) (weight_at weights.now) (at * 64 + 64) result }
+{
+    let first = at as u32 * 64;
+    let mut heaviest = heaviest;
+    let mut rest = words[at];
+    while rest != 0 {
+        let bit = rest.trailing_zeros();
+        heaviest = heavier(heaviest, first + bit, weights);
+        rest &= !(1 << bit);
+    }
+    heaviest
+}
+
+/// A heaviest member; none where the set is empty. Where no member weighs more than a bound, the search ends with the 64 numbers among which one
+/// weighs as much. The time is at most that of the members and of the words of the set.
 pub(crate) fn heaviest_member(
     members: &BitSet,
     weights: &[Weight],
@@ -44,14 +81,13 @@ pub(crate) fn heaviest_member(
     requires bound { IfSome bound (λ most. (x : ℕ) → is_member x members.now ≡ true → weight_at weights.now x ≼ most) }
     ensures { IsHeaviestOrNone (λ x. is_member x members.now) (weight_at weights.now) result }
 {
+    let words = members.as_words();
     let mut heaviest = None;
-    let mut from = 0;
-    while let Some(x) = members.next_from(from) {
-        if is_at_bound(weights, x, bound) {
-            return Some(x);
+    for at in 0..words.len().min(weights.len().div_ceil(64)) {
+        heaviest = heaviest_to_word(words, at, heaviest, weights);
+        if ends_search(heaviest, weights, bound) {
+            return heaviest;
         }
-        heaviest = heavier(heaviest, x, weights);
-        from = x + 1;
     }
     heaviest
 }

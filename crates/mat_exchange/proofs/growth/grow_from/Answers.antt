@@ -4,7 +4,7 @@ use Rattle.std.proofs.Common.{◌∙◌, refl, arith}
 use Rattle.mat_exchange.proofs.GrowthSteps.{growth_start, first_within, second_within, total_within, reached_below, other_below, gains_within}
 use Rattle.mat_exchange.proofs.GrowthSteps.{top_within, inside_within, fewer_left, gains_late, total_fits, reached_few, first_start, others_less}
 use Rattle.mat_exchange.proofs.EnteringSteps.{enter_below, enter_within, enter_outside, shifted_entered, entered}
-use Rattle.mat_exchange.proofs.EndingSteps.{sink_within, sunk, ended}
+use Rattle.mat_exchange.proofs.EndingSteps.{sink_within, sunk, sunk_root, sunk_top, ended, ended_root, ended_top}
 use Rattle.mat_exchange.proofs.growth.grow_from.Goals as goal
 
 pub reach_root-requires-clause-first_small : goal.reach_root-requires-clause-first_small
@@ -64,6 +64,16 @@ returns-in-Sink-clause-grown c =
     sunk c.loop-x.invariant c.excess_or_none-slack.ensures c.in-Sink.is c.next_step.ensures c.change.new.w1 c.change.new.w2
     c.change.ensures.first c.change.ensures.second
 
+pub returns-in-Sink-clause-root : goal.returns-in-Sink-clause-root
+returns-in-Sink-clause-root c =
+    sunk_root c.loop-x.invariant c.excess_or_none-slack.ensures c.in-Sink.is c.next_step.ensures c.change.new.w1 c.change.new.w2
+    c.change.ensures.first c.change.ensures.second
+
+pub returns-in-Sink-clause-top : goal.returns-in-Sink-clause-top
+returns-in-Sink-clause-top c =
+    sunk_top c.loop-x.invariant c.excess_or_none-slack.ensures c.in-Sink.is c.next_step.ensures c.change.new.w1 c.change.new.w2
+    c.change.ensures.first c.change.ensures.second
+
 pub change-requires-in-Nothing-clause-reached : goal.change-requires-in-Nothing-clause-reached
 change-requires-in-Nothing-clause-reached c = λ x m. rw c.loop-x.invariant.shifted.first_length (reached_below c.loop-x.invariant.shifted x m)
 
@@ -80,6 +90,12 @@ pub returns-in-Nothing-clause-grown : goal.returns-in-Nothing-clause-grown
 returns-in-Nothing-clause-grown c =
     ended c.loop-x.invariant c.excess_or_none-slack.ensures c.in-Nothing.is c.next_step.ensures c.change-in-Nothing.new.w1 c.change-in-Nothing.new.w2
     c.change-in-Nothing.ensures.first c.change-in-Nothing.ensures.second
+
+pub returns-in-Nothing-clause-root : goal.returns-in-Nothing-clause-root
+returns-in-Nothing-clause-root c = ended_root c.loop-x.invariant c.change-in-Nothing.new.w1 c.change-in-Nothing.ensures.first
+
+pub returns-in-Nothing-clause-top : goal.returns-in-Nothing-clause-top
+returns-in-Nothing-clause-top c = ended_top c.loop-x.invariant c.change-in-Nothing.new.w2 c.change-in-Nothing.ensures.second
 
 pub offer_exchanges-requires-clause-first_small : goal.offer_exchanges-requires-clause-first_small
 offer_exchanges-requires-clause-first_small c =

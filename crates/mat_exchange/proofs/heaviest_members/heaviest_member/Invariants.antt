@@ -1,11 +1,8 @@
-use Rattle.std.proofs.Common.{◌-◌, length}
+use Rattle.std.proofs.Common.{◌*◌}
 use Rattle.mat_sets.specs.Sets.{is_member}
 use Rattle.mat_sets.specs.Weights.{weight_at}
-use Rattle.mat_exchange.proofs.HeaviestMembers.{IsHeaviestToOrNone}
+use Rattle.mat_exchange.specs.HeaviestMembers.{IsHeaviestToOrNone}
 use Rattle.mat_exchange.proofs.heaviest_members.heaviest_member.Given as goal
 
-abbrev pub invariant-loop-x : goal.invariant-loop-x
-invariant-loop-x l = IsHeaviestToOrNone (λ x. is_member x l.members) (weight_at l.weights) l.from l.heaviest
-
-abbrev pub decreases-loop-x : goal.decreases-loop-x
-decreases-loop-x l = length l.weights - l.from
+abbrev pub invariant-loop-at : goal.invariant-loop-at
+invariant-loop-at l = IsHeaviestToOrNone (λ x. is_member x l.members) (weight_at l.weights) (l.at * 64) l.heaviest

@@ -3,7 +3,7 @@ use Rattle.mat_sets.specs.Weights.{weight_at}
 use Rattle.mat_laws.specs.TightPaths.{exchanges_in}
 use Rattle.mat_exchange.specs.declared.found.Found.TheVariants.{Stuck}
 use Rattle.mat_exchange.proofs.StuckSearches.{stuck_told}
-use Rattle.mat_exchange.proofs.path_search.tight_search.Goals as goal
+use Rattle.mat_exchange.proofs.path_search.tight_search_with.Goals as goal
 
 pub returns-in_ok-slack-in-Reached-clause-stuck : goal.returns-in_ok-slack-in-Reached-clause-stuck
 returns-in_ok-slack-in-Reached-clause-stuck c =

@@ -1,0 +1,22 @@
+-- The source from which the weights have grown tells the greatest weight of the first matroid; without a source nothing changes.
+use Rattle.std.proofs.Common.{◌∙◌, length, sym}
+use Rattle.mat_sets.specs.Weights.{weight_at}
+use Rattle.mat_laws.specs.TightPaths.{exchanges_in}
+use Rattle.mat_exchange.proofs.GrownSplits.{grown_without_source}
+use Rattle.mat_exchange.proofs.HeaviestAddable.{heaviest_weight}
+use Rattle.mat_exchange.proofs.growth.grow_from_heaviest.Goals as goal
+
+pub returns-in_default-clause-grown : goal.returns-in_default-clause-grown
+returns-in_default-clause-grown c =
+    grown_without_source (length c.args.w1.now) (exchanges_in c.args.first.now) (exchanges_in c.args.second.now) (weight_at c.args.w1.now)
+    (weight_at c.args.w2.now) c.addable_elements.result.now c.addable_elements.ensures.elements c.in_default.ensures
+    c.requires.first_gains c.requires.second_gains
+
+pub returns-in_default-clause-heaviest : goal.returns-in_default-clause-heaviest
+returns-in_default-clause-heaviest c = record {
+  of_first = λ x. sym (c.addable_elements.ensures.elements x) ∙ c.in_default.ensures x;
+  of_second = c.heaviest_addable.ensures;
+}
+
+pub returns-clause-heaviest : goal.returns-clause-heaviest
+returns-clause-heaviest c = record { of_first = heaviest_weight c.in_ok-top.ensures.root; of_second = c.in_ok-top.ensures.top }
