@@ -6,8 +6,8 @@ ghost use Rattle.mat_drawing.specs.Markup.{AddsMarkup};
 use crate::canvas::{Canvas, MARGIN};
 use crate::measures::weight_at;
 use mat_drawing::{Anchor, Area, Attribute, Colour, Drawing, Point, Shape, Units};
+use mat_reasons::{columns_inside, rows_outside};
 use mat_sets::{ElemSet, Pairs, Weight};
-use mat_tell::{columns_inside, rows_outside};
 use mat_text::{Called, Spelled, Text};
 use std::alloc::{AllocError, Global};
 

@@ -11,10 +11,10 @@ use Rattle.mat_cert.specs.Certificates.{arbor, unreached, disjoint, disjoint_non
 use Rattle.mat_cert.specs.declared.answer.LevelLine.{LevelLine}
 use Rattle.mat_cert.specs.declared.answer.PlainRung.{PlainRung}
 use Rattle.mat_cert.specs.declared.answer.PricedRung.{PricedRung}
+use Rattle.mat_right.specs.Right.{IsRight}
 use Rattle.mat_check.specs.AnswerClauses.{failure_of}
 use Rattle.mat_check.specs.Fitting.{fits, is_pair, is_list, is_single, is_graph, is_rooted, is_coloured, is_table}
 use Rattle.mat_check.specs.Optimal.{IsOptimal}
-use Rattle.mat_check.specs.Right.{IsRight}
 
 -- ---- what is shown of each form
 

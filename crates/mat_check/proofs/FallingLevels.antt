@@ -8,7 +8,7 @@ use Rattle.mat_union.specs.RightUnions.{level_at, AreFalling}
 use Rattle.mat_union.specs.declared.best.Level.{Level}
 use Rattle.mat_union.proofs.FallingLevels.{are_falling, falling_are, level_weight, level_weights}
 use Rattle.mat_cert.specs.declared.answer.LevelLine.{LevelLine}
-use Rattle.mat_check.specs.Right.{level_of}
+use Rattle.mat_right.specs.Right.{level_of}
 
 -- a level by its number; past the end no weight and no cut
 abbrev pub line_at : List LevelLine → ℕ → LevelLine

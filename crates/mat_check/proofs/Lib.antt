@@ -23,7 +23,6 @@ pub mod SameLadders
 pub mod HeadCaps
 pub mod CountedComponents
 pub mod RightRungs
-pub mod ListedMatroids
 pub mod AnswerForms
 pub mod ValidGraphs
 pub mod PartitionFailures

@@ -3,8 +3,8 @@ use Rattle.mat_desc.specs.Grammar.{IsValid}
 use Rattle.mat_desc.specs.Instances.{Instance}
 use Rattle.mat_desc.specs.Soundness.{IsSoundInstance}
 use Rattle.mat_cert.specs.Certificates.{Certificate}
+use Rattle.mat_right.specs.Right.{IsRight}
 use Rattle.mat_check.specs.Optimal.{IsOptimal}
-use Rattle.mat_check.specs.Right.{IsRight}
 use Rattle.mat_check.proofs.AnswerForms.{by_right, OnEachForm, RightIsOptimal}
 use Rattle.mat_check.proofs.OptimalFronts.{right_arborescence_is_optimal, right_assignment_is_optimal, right_rainbow_is_optimal}
 use Rattle.mat_check.proofs.OptimalLadders.{right_ladder_is_optimal, right_rungs_are_optimal}

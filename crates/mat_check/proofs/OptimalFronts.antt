@@ -14,8 +14,8 @@ use Rattle.mat_graphic.specs.ForestLaws.{graphic_laws}
 use Rattle.mat_desc.specs.Instances.{rooted, coloured, table}
 use Rattle.mat_cert.specs.Certificates.{arbor, rainbow, assign}
 use Rattle.mat_cert.specs.declared.answer.PricedRung.{PricedRung}
+use Rattle.mat_right.specs.Right.{IsRightRainbow}
 use Rattle.mat_check.specs.Optimal.{IsOptimalLadder, IsOptimalRainbow}
-use Rattle.mat_check.specs.Right.{IsRightRainbow}
 use Rattle.mat_check.proofs.AnswerForms.{RightIsOptimal}
 use Rattle.mat_check.proofs.OptimalLadders.{ladder_is_optimal}
 use Rattle.mat_check.proofs.ValidGraphs.{coloured_is_graph, rooted_is_graph, root_is_below}

@@ -10,8 +10,8 @@ use Rattle.mat_desc.specs.Instances.{pair, list}
 use Rattle.mat_cert.specs.Certificates.{intersect, best, last_rung}
 use Rattle.mat_cert.specs.declared.answer.PlainRung.{PlainRung}
 use Rattle.mat_cert.specs.declared.answer.PricedRung.{PricedRung}
+use Rattle.mat_right.specs.Right.{IsRightLadder, AreRightRungs}
 use Rattle.mat_check.specs.Optimal.{IsOptimalLadder, AreOptimalRungs}
-use Rattle.mat_check.specs.Right.{IsRightLadder, AreRightRungs}
 use Rattle.mat_check.proofs.AnswerForms.{RightIsOptimal}
 use Rattle.mat_check.proofs.RightLadders.{laws_as_said, laws_on_weights, laws_of_one}
 

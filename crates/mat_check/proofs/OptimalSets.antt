@@ -14,8 +14,8 @@ use Rattle.mat_desc.specs.Instances.{list}
 use Rattle.mat_desc.specs.Soundness.{IsSoundInstance}
 use Rattle.mat_cert.specs.Certificates.{union_of, pack_any, pack, cover_never, cover}
 use Rattle.mat_cert.specs.declared.answer.LevelLine.{LevelLine}
+use Rattle.mat_right.specs.Right.{level_of}
 use Rattle.mat_check.specs.Optimal.{AreFewestSets}
-use Rattle.mat_check.specs.Right.{level_of}
 use Rattle.mat_check.proofs.AnswerForms.{RightIsOptimal}
 use Rattle.mat_check.proofs.RightLadders.{laws_as_said, laws_of_one, laws_on_weights}
 

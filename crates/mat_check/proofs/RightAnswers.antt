@@ -4,9 +4,9 @@ use Rattle.mat_desc.specs.Grammar.{IsValid}
 use Rattle.mat_desc.specs.Instances.{Instance}
 use Rattle.mat_desc.specs.Soundness.{IsSoundInstance}
 use Rattle.mat_cert.specs.Certificates.{Certificate, IsRanged}
+use Rattle.mat_right.specs.Right.{IsRight}
 use Rattle.mat_check.specs.AnswerClauses.{failure_of}
 use Rattle.mat_check.specs.Fitting.{fits}
-use Rattle.mat_check.specs.Right.{IsRight}
 use Rattle.mat_check.proofs.AnswerForms.{by_fitting, OnEachForm, RightHasNoFailure}
 use Rattle.mat_check.proofs.RightFronts.{right_arborescence_has_no_failure, right_assignment_has_no_failure, right_rainbow_has_no_failure}
 use Rattle.mat_check.proofs.RightLadders.{right_ladder_has_no_failure, right_rungs_have_no_failure}

@@ -14,9 +14,9 @@ use Rattle.mat_desc.specs.Soundness.{IsSoundInstance}
 use Rattle.mat_cert.specs.Certificates.{AreRangedRungs, IsRangedLadder, IsRangedPlainRung, intersect, best, last_rung}
 use Rattle.mat_cert.specs.declared.answer.PlainRung.{PlainRung}
 use Rattle.mat_cert.specs.declared.answer.PricedRung.{PricedRung}
+use Rattle.mat_right.specs.Right.{IsRightLadder, IsRightPlainRung, AreRightRungs}
 use Rattle.mat_check.specs.AnswerClauses.{clauses_of}
 use Rattle.mat_check.specs.Clauses.{Clause, best_clauses, cut_clause, ladder_clauses, last_clause, numbered_clauses, plain_rung_clauses, priced_rung_clauses}
-use Rattle.mat_check.specs.Right.{IsRightLadder, IsRightPlainRung, AreRightRungs}
 use Rattle.mat_check.proofs.AnswerForms.{RightHasNoFailure}
 use Rattle.mat_check.proofs.FirstFailures.{AllHold, all_hold, none_fails, AllHold-append}
 use Rattle.mat_check.proofs.FirstFailures.{AllHold-front, AllHold-back, each_rung_holds, all_rungs_hold}

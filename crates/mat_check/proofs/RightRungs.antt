@@ -11,8 +11,8 @@ use Rattle.mat_laws.proofs.Searches.{IsHeaviest-not_beaten, not_beaten-IsHeavies
 use Rattle.mat_cert.specs.Certificates.{IsRangedPlainRung, IsRangedPricedRung}
 use Rattle.mat_cert.specs.declared.answer.PlainRung.{PlainRung}
 use Rattle.mat_cert.specs.declared.answer.PricedRung.{PricedRung}
+use Rattle.mat_right.specs.Right.{IsRightPlainRung, IsRightPricedRung}
 use Rattle.mat_check.specs.Clauses.{Clause, sum_clause, heaviest_clause, priced_rung_clauses, plain_rung_clauses}
-use Rattle.mat_check.specs.Right.{IsRightPlainRung, IsRightPricedRung}
 use Rattle.mat_check.proofs.FirstFailures.{AllHold, AllHold-append, AllHold-front, AllHold-back, AllHold-map, AllHold-at}
 
 -- ---- rungs without a split

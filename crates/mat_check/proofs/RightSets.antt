@@ -7,9 +7,9 @@ use Rattle.mat_any.specs.Trees.{Tree, is_independent}
 use Rattle.mat_desc.specs.Instances.{list}
 use Rattle.mat_cert.specs.Certificates.{IsRangedUnion, union_of, pack_any, pack, cover_never, cover}
 use Rattle.mat_cert.specs.declared.answer.LevelLine.{LevelLine}
+use Rattle.mat_right.specs.Right.{IsRightUnionAnswer}
 use Rattle.mat_check.specs.AnswerClauses.{clauses_of}
 use Rattle.mat_check.specs.Clauses.{Clause, first_failure, header_clause}
-use Rattle.mat_check.specs.Right.{IsRightUnionAnswer}
 use Rattle.mat_sets.specs.FallingWeights.{falling_weights}
 use Rattle.mat_check.specs.SetClauses.{cover_clauses, pack_clauses, union_clauses}
 use Rattle.mat_check.proofs.AnswerForms.{RightHasNoFailure}

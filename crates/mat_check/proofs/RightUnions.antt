@@ -16,8 +16,8 @@ use Rattle.mat_union.specs.RightUnions.{IsLevelCut}
 use Rattle.mat_union.specs.Unions.{test_at}
 use Rattle.mat_cert.specs.Certificates.{IsRangedLevel, IsRangedUnion}
 use Rattle.mat_cert.specs.declared.answer.LevelLine.{LevelLine}
+use Rattle.mat_right.specs.Right.{level_of, IsRightUnionAnswer}
 use Rattle.mat_check.specs.Clauses.{Clause, failure_at, numbered_clauses}
-use Rattle.mat_check.specs.Right.{level_of, IsRightUnionAnswer}
 use Rattle.mat_check.specs.SetClauses.{independent_clause, level_clauses, level_cut_clause, outside_clause, overlap_clauses}
 use Rattle.mat_check.specs.SetClauses.{union_clauses}
 use Rattle.mat_check.specs.declared.reason.Reason.TheVariants as reasons

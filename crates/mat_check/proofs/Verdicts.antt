@@ -5,10 +5,10 @@ use Rattle.mat_desc.specs.Grammar.{IsValid}
 use Rattle.mat_desc.specs.Instances.{Instance}
 use Rattle.mat_desc.specs.Soundness.{IsSoundInstance}
 use Rattle.mat_cert.specs.Certificates.{Certificate, IsRanged}
+use Rattle.mat_right.specs.Right.{IsRight}
 use Rattle.mat_check.specs.AnswerClauses.{failure_of}
 use Rattle.mat_check.specs.Clauses.{failure_at}
 use Rattle.mat_check.specs.Fitting.{fits}
-use Rattle.mat_check.specs.Right.{IsRight}
 use Rattle.mat_check.specs.Views.{failure_in}
 use Rattle.mat_check.specs.declared.verdict.Verdict.{Verdict}
 use Rattle.mat_check.specs.declared.verdict.Verdict.TheVariants.{Yes, No}

@@ -5,7 +5,6 @@ pub mod SetClauses
 pub mod TreeClauses
 pub mod AnswerClauses
 pub mod Views
-pub mod Right
 pub mod Optimal
 pub mod Halves
 pub mod RungFailures

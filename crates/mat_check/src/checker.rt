@@ -7,11 +7,11 @@ ghost use Rattle.mat_check.specs.{
   AnswerClauses.{answer_clauses, failure_of, has_header},
   Clauses.{first_failure},
   Fitting.{fits},
-  Right.{IsRight},
   Views.{failure_in},
   declared.verdict.Verdict.TheVariants.{Yes},
 };
 ghost use Rattle.mat_desc.specs.{Grammar.{IsValid}, Soundness.{IsSoundInstance}, Views.{instance_of}};
+ghost use Rattle.mat_right.specs.Right.{IsRight};
 
 use crate::graph_answers::{coloured_failure, graph_failure, rooted_failure, table_failure};
 use crate::headers::has_header;
@@ -97,6 +97,7 @@ pub fn check<R: CheckWorkers>(
     answer: &Answer,
     workers: u32,
 ) -> Result<Verdict, AllocError>
+    // Other threads may be handed a reference to who works, which is so of every runtime and of a worker that starts no thread.
     requires shared { R.shared rt.now }
     requires fits { fits (instance_of problem.now) (certificate_of answer.now) ≡ true }
     requires valid { IsValid (instance_of problem.now) }

@@ -2,7 +2,6 @@ pub mod Told
 pub mod NotationLaws
 pub mod ElementLists
 pub mod Classes
-pub mod BitMembers
 pub mod MeetingSets
 pub mod NestedSets
 pub mod DistinctNumbers
@@ -29,3 +28,4 @@ pub mod Writing
 pub mod UnionLines
 pub mod Rooms
 pub mod CanonicalLaws
+pub mod ListedMatroids

@@ -1,5 +1,5 @@
 -- Reading lines, words, numbers and weights, as a description tells of it: what is told was read, and so is spelled.
-use Rattle.std.proofs.Common.{◌≡◌, ℕ, true, eqb, List, [], ◌∷◌, length, pos, Result, Ok, Err, refl, ap, ◌∙◌, arith}
+use Rattle.std.proofs.Common.{◌≡◌, ℕ, true, eqb, List, [], ◌∷◌, length, pos, Ok, refl, ap, ◌∙◌, arith}
 use Rattle.std.specs.Prelude.{neg_ℤ}
 use Rattle.std.specs.List.{list_all}
 use Rattle.std.proofs.lemmas.Bool.{eqb-true}

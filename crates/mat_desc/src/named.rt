@@ -80,8 +80,13 @@ fn all_numbered_names(alloc: Global, problem: &Problem) -> Result<(Names, Names)
     ensures { IfOk result (λ listed. named_with listed (instance_of problem.now) ≡ named_by numbers (instance_of problem.now)) }
 {
     let elements = numbered_names(alloc, b'e', problem.element_count())?;
-    let vertices = numbered_names(alloc, b'v', problem.vertex_count())?;
-    Ok((elements, vertices))
+    match numbered_names(alloc, b'v', problem.vertex_count()) {
+        Ok(vertices) => Ok((elements, vertices)),
+        Err(error) => {
+            drop(elements);
+            Err(error)
+        }
+    }
 }
 
 /// The names of the elements and of the vertices of a problem: those that its description gives, or else numbered ones. The only error is
@@ -107,12 +112,17 @@ fn named_problem(alloc: Global, text: &[u8]) -> Result<Named, DescRefusal>
     ensures { Gives named_instance result (named_of text.now) }
 {
     let (problem, notation) = read_description(alloc, text)?;
-    let (elements, vertices) = names_by(alloc, notation, &problem)?;
-    Ok(Named {
-        problem,
-        elements,
-        vertices,
-    })
+    match names_by(alloc, notation, &problem) {
+        Ok((elements, vertices)) => Ok(Named {
+            problem,
+            elements,
+            vertices,
+        }),
+        Err(error) => {
+            drop(problem);
+            Err(error.into())
+        }
+    }
 }
 
 /// The problem that a text of at most 4194304 bytes spells, with the names of its elements and of its vertices: those that the text

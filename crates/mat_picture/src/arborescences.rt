@@ -6,8 +6,8 @@ use crate::arrangement::{Arrangement, Group};
 use crate::graph::Graph;
 use crate::styles::{style_of_set, styles_of_set};
 use crate::walk::walk;
+use mat_reasons::entering;
 use mat_sets::ElemSet;
-use mat_tell::entering;
 use mat_text::{Noun, Text, many};
 use std::alloc::{AllocError, Global};
 

@@ -10,9 +10,8 @@ use crate::scene::Scene;
 use mat_cert::{PlainRung, PricedRung};
 use mat_charts::{Canvas, Ladder, Table, draw_ladder, draw_table, steps_of};
 use mat_graphic::Graphic;
-use mat_reasons::{Step, best_of, plain_steps};
+use mat_reasons::{Step, best_of, left_groups, plain_steps};
 use mat_sets::{ElemSet, Pairs};
-use mat_tell::left_groups;
 use mat_text::Noun;
 use std::alloc::{AllocError, Global};
 

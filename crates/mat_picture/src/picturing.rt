@@ -2,9 +2,9 @@
 
 ghost use Rattle.std.specs.Prelude.{◌<◌, ◌^◌, length, IfOk};
 ghost use Rattle.mat_cert.specs.{Certificates.{IsRanged}, Views.{certificate_of}};
-ghost use Rattle.mat_check.specs.Right.{IsRight};
 ghost use Rattle.mat_desc.specs.{Grammar.{IsValid}, Soundness.{IsSoundInstance}, Views.{instance_of}};
 ghost use Rattle.mat_drawing.specs.Markup.{IsPicture};
+ghost use Rattle.mat_right.specs.Right.{IsRight};
 ghost use Rattle.mat_text.specs.Texts.{IsPrintable};
 
 use crate::arborescences::{arranged_cheapest, arranged_entered};
@@ -18,8 +18,7 @@ use crate::trees::{arranged_classes, arranged_trees};
 use mat_cert::Answer;
 use mat_charts::Canvas;
 use mat_desc::{Named, Problem};
-use mat_tell::{called_in, told_text};
-use mat_text::{Called, Noun};
+use mat_text::{Called, Noun, Text};
 use std::alloc::{AllocError, Global};
 
 // Draws an answer about a directed graph.
@@ -140,9 +139,14 @@ fn draw(canvas: &mut Canvas, scene: &Scene<'_>, answer: &Answer) -> Result<(), A
     }
 }
 
-/// A right answer to a problem as a picture: one SVG that needs no other file. Its markup is well formed, and names are escaped in it. The
-/// only error is want of memory.
-pub fn picture(alloc: Global, named: &Named, answer: &Answer) -> Result<Vec<u8>, AllocError>
+/// A right answer to a problem as a picture with what is told of it: one SVG that needs no other file. Its markup is well formed, and names
+/// are escaped in it. The only error is want of memory.
+pub fn picture(
+    alloc: Global,
+    named: &Named,
+    answer: &Answer,
+    told: &Text,
+) -> Result<Vec<u8>, AllocError>
     requires valid { IsValid (instance_of named.now.problem) }
     requires sound { IsSoundInstance (instance_of named.now.problem) }
     requires ranged { IsRanged (certificate_of answer.now) }
@@ -154,12 +158,14 @@ pub fn picture(alloc: Global, named: &Named, answer: &Answer) -> Result<Vec<u8>,
     // The bytes of the text are line feeds, spaces and graphic ones.
     ensures printable { IfOk result (λ text. IsPrintable text.items) }
 {
-    let told = told_text(alloc, named, answer)?;
-    let head = Head::new(alloc, &told)?;
+    let head = Head::new(alloc, told)?;
     let scene = Scene {
-        called: called_in(named),
+        called: Called {
+            elements: &named.elements,
+            vertices: &named.vertices,
+        },
         problem: &named.problem,
-        told: &told,
+        told,
     };
     let mut canvas = Canvas::new(alloc, head.width(), head.bottom());
     draw(&mut canvas, &scene, answer)?;

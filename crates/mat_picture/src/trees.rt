@@ -7,8 +7,8 @@ use crate::graph::Graph;
 use crate::groups::{grouped, vertices_of};
 use crate::styles::{style_of, style_of_set, styles, styles_of_set};
 use crate::walk::walk;
+use mat_reasons::crossing;
 use mat_sets::ElemSet;
-use mat_tell::crossing;
 use mat_text::{Noun, Text, many};
 use std::alloc::{AllocError, Global};
 

@@ -1,3 +1,4 @@
 pub mod Brackets
 pub mod Sums
 pub mod FirstHeaviest
+pub mod Classes

@@ -1,8 +1,11 @@
 //! Reasons in words that several forms of answer share: what a rule allows at most, weights that are split into shares, the steps of a
-//! ladder, and why no larger set is allowed. Each can be checked by counting.
+//! ladder, and why no larger set is allowed. Each can be checked by counting. With them stands what words and pictures both count: rows and
+//! columns, edges between classes, arcs into a set, and groups of vertices.
 #![tactic(auto)]
 
+mod between;
 mod bounds;
+mod components;
 mod cuts;
 mod heaviest;
 mod ladder;
@@ -11,8 +14,11 @@ mod rules;
 mod shares;
 mod sizes;
 mod steps;
+mod table_lines;
 
+pub use between::{crossing, entering};
 pub use bounds::{Aim, Bounded, FEW, tell_bound, values_at};
+pub use components::left_groups;
 pub use cuts::{Largest, tell_cut};
 pub use heaviest::{Elements, Things, tell_top};
 pub use ladder::tell_ladder;
@@ -21,3 +27,4 @@ pub use rules::Rule;
 pub use shares::{Claim, Shares, have_tie, tell_shares, tell_ties};
 pub use sizes::tell_sizes;
 pub use steps::{Step, best_of, plain_steps};
+pub use table_lines::{columns_inside, rows_outside};

@@ -19,7 +19,7 @@ use Rattle.mat_desc.specs.Grammar.{IsValid}
 use Rattle.mat_desc.specs.Instances.{pair}
 use Rattle.mat_desc.specs.Soundness.{IsSoundInstance}
 use Rattle.mat_cert.specs.Certificates.{IsRangedPart, IsRangedPricedRung, IsRangedLadder, intersect, last_rung}
-use Rattle.mat_check.specs.Right.{IsRightLadder}
+use Rattle.mat_right.specs.Right.{IsRightLadder}
 use Rattle.mat_check.proofs.RightLadders.{laws_on_weights}
 use Rattle.mat_solve.proofs.SetWeights.{set_in_range, weight_within_more}
 use Rattle.mat_solve.specs.Answers.{IsSolution, HaveBoundedSplits}

@@ -26,7 +26,7 @@ use Rattle.mat_cert.specs.declared.answer.LevelLine.{LevelLine}
 use Rattle.mat_cert.specs.declared.answer.PlainRung.{PlainRung}
 use Rattle.mat_cert.specs.declared.answer.PricedRung.{PricedRung}
 use Rattle.mat_cert.proofs.PrintedLengths.{length-printed_text}
-use Rattle.mat_check.specs.Right.{IsRightPricedRung, IsRightLadder, AreRightRungs, level_of}
+use Rattle.mat_right.specs.Right.{IsRightPricedRung, IsRightLadder, AreRightRungs, level_of}
 use Rattle.mat_check.proofs.AnswerForms.{OnEachForm, by_right}
 use Rattle.mat_solve.specs.Answers.{IsSolution, HaveBoundedSplits}
 use Rattle.mat_solve.proofs.PricedLadder.{split_bound-small}

@@ -26,7 +26,7 @@ use Rattle.mat_desc.specs.Instances.{list}
 use Rattle.mat_desc.specs.Soundness.{IsSoundInstance}
 use Rattle.mat_cert.specs.Certificates.{union_of, IsCertificateWeight, IsRangedLevel}
 use Rattle.mat_cert.specs.declared.answer.LevelLine.{LevelLine}
-use Rattle.mat_check.specs.Right.{level_of}
+use Rattle.mat_right.specs.Right.{level_of}
 use Rattle.mat_check.proofs.RightLadders.{laws_on_weights}
 use Rattle.mat_solve.specs.Answers.{IsSolution}
 use Rattle.mat_solve.proofs.SetWeights.{set_in_range, weight_within_more}

@@ -7,7 +7,7 @@ use Rattle.mat_desc.specs.Instances.{Instance}
 use Rattle.mat_cert.specs.Certificates as certificates
 use Rattle.mat_cert.specs.Certificates.{Certificate, certificate_text, IsRanged}
 use Rattle.mat_cert.specs.declared.answer.PricedRung.{PricedRung}
-use Rattle.mat_check.specs.Right.{IsRight}
+use Rattle.mat_right.specs.Right.{IsRight}
 use Rattle.mat_solve.specs.Queries.{IsAnswerOf}
 use Rattle.mat_solve.specs.declared.query.Query.{Query}
 

@@ -3,7 +3,8 @@
 ghost use Rattle.std.specs.Prelude.{◌≡◌, true, map, IfOk};
 ghost use Rattle.mat_desc.specs.{Views.{instance_of}, Grammar.{IsValid}, Soundness.{IsSoundInstance}};
 ghost use Rattle.mat_cert.specs.Views.{certificate_of};
-ghost use Rattle.mat_check.specs.{Fitting.{is_list, is_single}, Right.{level_of}};
+ghost use Rattle.mat_right.specs.Right.{level_of};
+ghost use Rattle.mat_check.specs.Fitting.{is_list, is_single};
 ghost use Rattle.mat_solve.specs.{Answers.{IsSolution}, Queries.{IsAnswerOf}};
 
 use crate::forms::only_matroid;

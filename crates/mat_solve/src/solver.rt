@@ -24,6 +24,7 @@ pub fn solve<R: SolveWorkers>(
     query: Query,
     workers: u32,
 ) -> Result<Answer, AllocError>
+    // Other threads may be handed a reference to who works, which is so of every runtime and of a worker that starts no thread.
     requires shared { R.shared rt.now }
     requires valid { IsValid (instance_of problem.now) }
     requires sound { IsSoundInstance (instance_of problem.now) }

@@ -15,8 +15,8 @@ use Rattle.mat_desc.proofs.ProblemLaws.{IsSoundInstance-valid}
 use Rattle.mat_cert.specs.Certificates.{Certificate, intersect, union_of, trees, trees_none, arbor, unreached, assign}
 use Rattle.mat_cert.specs.declared.answer.LevelLine.{LevelLine}
 use Rattle.mat_cert.specs.declared.answer.PricedRung.{PricedRung}
+use Rattle.mat_right.specs.Right.{IsRightLadder}
 use Rattle.mat_check.specs.Optimal.{IsOptimal}
-use Rattle.mat_check.specs.Right.{IsRightLadder}
 use Rattle.mat_check.proofs.OptimalAnswers.{right_is_optimal}
 use Rattle.mat_gen.specs.Samples.{sample_of}
 use Rattle.mat_gen.specs.declared.kind.SampleKind.{SampleKind}

@@ -4,8 +4,8 @@ use Rattle.std.specs.Prelude.{slice_get}
 use Rattle.std.proofs.lemmas.Option.{slice_get-get_or}
 use Rattle.mat_sets.specs.declared.weight.Weight.{Weight}
 use Rattle.mat_sets.proofs.WeightOrder.{at_most_both}
+use Rattle.mat_right.specs.Right.{IsRightLadder}
 use Rattle.mat_check.specs.Optimal.{IsOptimalLadder}
-use Rattle.mat_check.specs.Right.{IsRightLadder}
 use Rattle.mat_summary.specs.Summaries.{ladder_weight, ladder_words, last_weight}
 use Rattle.mat_cert.specs.declared.answer.PricedRung.{PricedRung}
 

@@ -5,7 +5,7 @@ ghost use Rattle.mat_sets.specs.Limits.{most_elements};
 ghost use Rattle.mat_work.specs.Workers.{AreWorkers};
 ghost use Rattle.mat_desc.specs.{Grammar.{IsValid}, Soundness.{IsSoundInstance}, Views.{instance_of}};
 ghost use Rattle.mat_cert.specs.{Certificates.{IsRanged}, Views.{certificate_of}};
-ghost use Rattle.mat_check.specs.Right.{IsRight};
+ghost use Rattle.mat_right.specs.Right.{IsRight};
 ghost use Rattle.mat_gen.specs.Samples.{sample_of};
 ghost use Rattle.mat_solve.specs.{Answers.{IsSolution}, Queries.{has_form, IsAnswerOf, IsQueryInRange}};
 ghost use Rattle.mat_summary.specs.Summaries.{query_of_kind, IsSummary};
@@ -107,6 +107,7 @@ pub fn sample_text<R: SolveWorkers + CheckWorkers>(
     seed: u64,
     workers: u32,
 ) -> Result<Vec<u8>, AllocError>
+    // Other threads may be handed a reference to who works, which is so of every runtime and of a worker that starts no thread.
     requires shared { R.shared rt.now }
     requires some { 1 ≤ size }
     requires few { size ≤ most_elements }

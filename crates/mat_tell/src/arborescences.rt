@@ -1,17 +1,11 @@
 //! Arcs along which a root reaches all vertices.
 
 ghost use Rattle.std.specs.Prelude.{◌≡◌, ◌<◌, ◌^◌, length, map, IfOk};
-ghost use Rattle.mat_sets.specs.{
-  Graphs.{ends_of, enters},
-  Limits.{largest_number},
-  Search.{those_below},
-  Sets.{AllBelow},
-  Weights.{negated, AreWeightsWithin},
-};
+ghost use Rattle.mat_sets.specs.{Limits.{largest_number}, Sets.{AllBelow}, Weights.{negated, AreWeightsWithin}};
 ghost use Rattle.mat_reasons.specs.Sums.{AreSummable};
 
-use mat_reasons::{Aim, Claim, Shares, have_tie, tell_shares, tell_ties};
-use mat_sets::{ElemSet, Pairs, Weight};
+use mat_reasons::{Aim, Claim, Shares, entering, have_tie, tell_shares, tell_ties};
+use mat_sets::{ElemSet, Weight};
 use mat_text::{
     Counted, Ends, Name, Noun, Spelled, Text, many, tell_found, tell_none, tell_numbered,
 };
@@ -205,22 +199,6 @@ pub(crate) fn tell_disjoint(
         network.root(),
         many(sets.len() - 1, Noun::Arc)
     ))
-}
-
-/// The arcs into a set of vertices from elsewhere. The only error is want of memory.
-#[tactic(auto, using(mat_text::proofs::Numbers::numbers_below))]
-pub fn entering(alloc: Global, arcs: &Pairs, set: &ElemSet) -> Result<ElemSet, AllocError>
-    requires { length arcs.now < 2 ^ 32 }
-    ensures { IfOk result (λ entering. entering ≡ those_below (length arcs.now) (enters (ends_of arcs.now) set.now)) }
-{
-    let mut entering = ElemSet::new(alloc);
-    for e in 0..arcs.len() {
-        let (tail, head) = arcs.get(e);
-        if set.contains(head) && !set.contains(tail) {
-            entering.add(e as u32)?;
-        }
-    }
-    Ok(entering)
 }
 
 /// Tells that so many sets of arcs are not there, since too few arcs enter these vertices. The only error is want of memory.

@@ -1,14 +1,13 @@
 //! Cells of a table, no two of them in one row or in one column.
 
-ghost use Rattle.std.specs.Prelude.{◌≡◌, ℕ, ◌<◌, ◌^◌, true, false, length, IfOk};
-ghost use Rattle.mat_sets.specs.{Graphs.{ends_of}, Sets.{is_member}};
+ghost use Rattle.std.specs.Prelude.{◌<◌, ◌^◌, length};
 ghost use Rattle.mat_cert.specs.Certificates.{IsRangedLadder};
 
 use mat_cert::PricedRung;
-use mat_reasons::{Things, tell_ladder};
+use mat_reasons::{Things, columns_inside, rows_outside, tell_ladder};
 use mat_sets::{ElemSet, Pairs, Weight};
 use mat_text::{Called, Noun, Spelled, Text, many, numbers_of};
-use std::alloc::{AllocError, Global};
+use std::alloc::AllocError;
 
 /// A table, some of whose cells have a weight.
 #[derive(Clone, Copy)]
@@ -43,38 +42,6 @@ impl Things for Table<'_> {
         }
         Ok(())
     }
-}
-
-/// The rows of the cells outside a set. The only error is want of memory.
-#[tactic(auto, using(mat_sets::proofs::Members::set_members))]
-pub fn rows_outside(alloc: Global, cells: &Pairs, set: &ElemSet) -> Result<ElemSet, AllocError>
-    requires { length cells.now < 2 ^ 32 }
-    ensures { IfOk result (λ rows. (e : ℕ) → e < length cells.now → is_member e set.now ≡ false
-        → is_member (ends_of cells.now e).0 rows ≡ true) }
-{
-    let mut rows = ElemSet::new(alloc);
-    for e in 0..cells.len() {
-        if !set.contains(e as u32) {
-            rows.add(cells.get(e).0)?;
-        }
-    }
-    Ok(rows)
-}
-
-/// The columns of the cells in a set. The only error is want of memory.
-#[tactic(auto, using(mat_sets::proofs::Members::set_members))]
-pub fn columns_inside(alloc: Global, cells: &Pairs, set: &ElemSet) -> Result<ElemSet, AllocError>
-    requires { length cells.now < 2 ^ 32 }
-    ensures { IfOk result (λ columns. (e : ℕ) → e < length cells.now → is_member e set.now ≡ true
-        → is_member (ends_of cells.now e).1 columns ≡ true) }
-{
-    let mut columns = ElemSet::new(alloc);
-    for e in 0..cells.len() {
-        if set.contains(e as u32) {
-            columns.add(cells.get(e).1)?;
-        }
-    }
-    Ok(columns)
 }
 
 // Tells which rows and columns hold all cells.

@@ -1,8 +1,8 @@
 //! Answers about graphs and tables.
 
 ghost use Rattle.mat_cert.specs.{Certificates.{IsRanged}, Views.{certificate_of}};
-ghost use Rattle.mat_check.specs.Right.{IsRight};
 ghost use Rattle.mat_desc.specs.{Grammar.{IsValid}, Instances.{coloured, graph, rooted, table}};
+ghost use Rattle.mat_right.specs.Right.{IsRight};
 
 use crate::arborescences::{
     Cheapest, Network, tell_cheapest, tell_disjoint, tell_not_disjoint, tell_unreached,

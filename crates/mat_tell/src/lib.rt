@@ -17,8 +17,4 @@ mod spanning;
 mod telling;
 mod unions;
 
-pub use arborescences::entering;
-pub use assigned::{columns_inside, rows_outside};
-pub use rainbow::left_groups;
-pub use spanning::crossing;
-pub use telling::{called_in, told, told_text};
+pub use telling::{told, told_text};

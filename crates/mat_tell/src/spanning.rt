@@ -1,14 +1,13 @@
 //! Spanning trees that share no edge.
 
-ghost use Rattle.std.specs.Prelude.{◌≡◌, ◌<◌, ◌^◌, not, length, IfOk};
-ghost use Rattle.mat_sets.specs.{Graphs.{ends_of}, Search.{those_below}};
-ghost use Rattle.mat_tell.specs.Classes.{are_together};
+ghost use Rattle.std.specs.Prelude.{◌<◌, ◌^◌, length};
 
-use mat_sets::{ElemSet, Pairs};
+use mat_reasons::crossing;
+use mat_sets::ElemSet;
 use mat_text::{
     Ends, Noun, Text, many, outside, tell_found, tell_groups, tell_none, tell_numbered,
 };
-use std::alloc::{AllocError, Global};
+use std::alloc::AllocError;
 
 // Tells what is wanted: so many trees.
 fn tell_wanted(
@@ -60,35 +59,6 @@ pub(crate) fn tell_trees(
         "So all vertices stay joined after the loss of any {}.",
         many(trees.len() - 1, Noun::Edge)
     ))
-}
-
-// Whether both vertices are in one class.
-fn are_together(classes: &[ElemSet], first: u32, second: u32) -> bool
-    ensures { result ≡ are_together classes.now first second }
-{
-    for i in 0..classes.len() {
-        if classes[i].contains(first) && classes[i].contains(second) {
-            return true;
-        }
-    }
-    false
-}
-
-/// The edges whose ends are in different classes. The only error is want of memory.
-#[tactic(auto, using(mat_text::proofs::Numbers::numbers_below))]
-pub fn crossing(alloc: Global, edges: &Pairs, classes: &[ElemSet]) -> Result<ElemSet, AllocError>
-    requires { length edges.now < 2 ^ 32 }
-    ensures { IfOk result (λ crossing. crossing ≡ those_below (length edges.now)
-        (λ e. not (are_together classes.now (ends_of edges.now e).0 (ends_of edges.now e).1))) }
-{
-    let mut crossing = ElemSet::new(alloc);
-    for e in 0..edges.len() {
-        let (first, second) = edges.get(e);
-        if !are_together(classes, first, second) {
-            crossing.add(e as u32)?;
-        }
-    }
-    Ok(crossing)
 }
 
 // Tells how many edges between groups so many trees need, and how many are missing.

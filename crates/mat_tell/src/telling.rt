@@ -2,8 +2,8 @@
 
 ghost use Rattle.std.specs.Prelude.{◌≡◌, IfOk};
 ghost use Rattle.mat_cert.specs.{Certificates.{IsRanged}, Views.{certificate_of}};
-ghost use Rattle.mat_check.specs.Right.{IsRight};
 ghost use Rattle.mat_desc.specs.{Grammar.{IsValid}, Soundness.{IsSoundInstance}, Views.{instance_of}};
+ghost use Rattle.mat_right.specs.Right.{IsRight};
 ghost use Rattle.mat_text.specs.{Paragraphs.{AreShallow}, Texts.{IsPrintable}};
 
 use crate::arborescences::Network;
@@ -139,8 +139,8 @@ fn tell(
     }
 }
 
-/// What the elements and the vertices of a problem with names are called.
-pub fn called_in(named: &Named) -> Called<'_>
+// What the elements and the vertices of a problem with names are called.
+fn called_in(named: &Named) -> Called<'_>
     ensures elements { result.elements.now ≡ named.now.elements }
     ensures vertices { result.vertices.now ≡ named.now.vertices }
 {

@@ -6,8 +6,8 @@ use Rattle.mat_desc.specs.Grammar.{IsValid}
 use Rattle.mat_desc.specs.Instances.{Instance, pair}
 use Rattle.mat_cert.specs.declared.answer.PricedRung.{PricedRung}
 use Rattle.mat_cert.specs.Certificates.{Certificate, IsRanged, intersect}
+use Rattle.mat_right.specs.Right.{IsRight}
 use Rattle.mat_check.specs.Fitting.{fits}
-use Rattle.mat_check.specs.Right.{IsRight}
 use Rattle.mat_witness.specs.Kinds.{has_rung}
 use Rattle.mat_witness.specs.Lines.{witness_text}
 use Rattle.mat_witness.specs.Parts.{WitnessParts}

@@ -4,7 +4,7 @@ use Rattle.mat_desc.specs.Instances.{Instance}
 use Rattle.mat_cert.specs.Certificates.{Certificate}
 use Rattle.mat_cert.specs.Faults.{Fault}
 use Rattle.mat_cert.specs.Limits.{certificate_limit}
-use Rattle.mat_check.specs.Right.{IsRight}
+use Rattle.mat_right.specs.Right.{IsRight}
 use Rattle.mat_witness.specs.Kinds.{is_witnessed_pair}
 use Rattle.mat_witness.specs.Lines.{witness_limit}
 use Rattle.mat_judge.specs.Certified.{IsCertified, IsFaultyCertificate}

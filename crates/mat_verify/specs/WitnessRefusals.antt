@@ -4,9 +4,9 @@ use Rattle.mat_desc.specs.Instances.{Instance}
 use Rattle.mat_cert.specs.Faults.{CertRefusal}
 use Rattle.mat_cert.specs.Certificates.{Certificate}
 use Rattle.mat_words.specs.declared.refusal.Refusal.TheVariants as cert_refusals
+use Rattle.mat_right.specs.Right.{IsRight}
 use Rattle.mat_check.specs.AnswerClauses.{failure_of}
 use Rattle.mat_check.specs.Clauses.{failure_at}
-use Rattle.mat_check.specs.Right.{IsRight}
 use Rattle.mat_check.specs.declared.reason.Reason.{Reason}
 use Rattle.mat_witness.specs.Kinds.{is_witnessed_pair}
 use Rattle.mat_witness.specs.Lines.{witness_limit}

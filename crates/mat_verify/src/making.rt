@@ -2,8 +2,8 @@
 
 ghost use Rattle.std.specs.Prelude.{◌≡◌, ◌≤◌, ℕ, List, true, length, IfOk, IfErr, IfSome};
 ghost use Rattle.mat_cert.specs.{Certificates.{IsRanged}, Views.{certificate_of}};
-ghost use Rattle.mat_check.specs.Right.{IsRight};
 ghost use Rattle.mat_desc.specs.{Grammar.{IsValid}, Soundness.{IsSoundInstance}, Views.{instance_of}};
+ghost use Rattle.mat_right.specs.Right.{IsRight};
 ghost use Rattle.mat_witness.specs.{Kinds.{is_witnessed_pair}, Lines.{witness_limit}};
 ghost use Rattle.mat_verify.specs.{
   WitnessOutcomes.{IsWitnessFound},
@@ -78,6 +78,7 @@ pub fn witness_text<R: CheckWorkers, F: Shelf>(
     problem: &Problem,
     k: u32,
 ) -> Result<Vec<u8>, Refusal>
+    // Other threads may be handed a reference to who works, which is so of every runtime and of a worker that starts no thread.
     requires shared { R.shared rt.now }
     requires valid { IsValid (instance_of problem.now) }
     requires sound { IsSoundInstance (instance_of problem.now) }

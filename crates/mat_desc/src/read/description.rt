@@ -32,8 +32,7 @@ fn version_line<'a>(lines: LineCursor<'a>) -> Read<'a, Version>
     let Some(version) = version_from(word) else {
         return Err(fault(DescKind::Version, line));
     };
-    ended(words)?;
-    Ok((version, rest))
+    ended(words).and(Ok((version, rest)))
 }
 
 /// The last line.
@@ -42,8 +41,7 @@ fn end_line<'a>(lines: LineCursor<'a>) -> Result<LineCursor<'a>, DescRefusal>
     ensures { Gives lines_left result (end_at (lines_left lines.entry)) }
 {
     let (words, rest) = keyed_line(lines, b"end")?;
-    ended(words)?;
-    Ok(rest)
+    ended(words).and(Ok(rest))
 }
 
 /// The end of the text.

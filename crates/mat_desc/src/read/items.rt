@@ -85,8 +85,7 @@ fn ends_line<'a>(
 {
     let (words, rest) = keyed_line(lines, key)?;
     let (ends, words) = next_ends(words, names, vertices, vertices)?;
-    ended(words)?;
-    Ok((ends, rest))
+    ended(words).and(Ok((ends, rest)))
 }
 
 /// A column line.
@@ -97,8 +96,7 @@ fn column_line<'a>(dim: u32, lines: LineCursor<'a>) -> Read<'a, u128>
 {
     let (words, rest) = keyed_line(lines, b"column")?;
     let (column, words) = next_binary(words, dim)?;
-    ended(words)?;
-    Ok((column, rest))
+    ended(words).and(Ok((column, rest)))
 }
 
 /// A line of this keyword with two numbers and a weight.
@@ -116,8 +114,7 @@ fn weighted_line<'a>(
     let (words, rest) = keyed_line(lines, key)?;
     let (ends, words) = next_ends(words, names, first_bound, second_bound)?;
     let (weight, words) = next_weight(words, SMALLEST_WEIGHT, LARGEST_WEIGHT)?;
-    ended(words)?;
-    Ok((WeightedPair { ends, weight }, rest))
+    ended(words).and(Ok((WeightedPair { ends, weight }, rest)))
 }
 
 /// An edge line with a colour and a weight.
@@ -135,13 +132,12 @@ fn coloured_edge_line<'a>(
     let (ends, words) = next_ends(words, names, vertices, vertices)?;
     let (colour, words) = next_below(words, colours)?;
     let (weight, words) = next_weight(words, SMALLEST_WEIGHT, LARGEST_WEIGHT)?;
-    ended(words)?;
     let edge = ColouredEdge {
         ends,
         colour,
         weight,
     };
-    Ok((edge, rest))
+    ended(words).and(Ok((edge, rest)))
 }
 
 /// As many lines of this keyword with the two ends of an edge or of an arc.

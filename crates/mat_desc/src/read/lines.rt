@@ -1,7 +1,6 @@
-//! Reading the end of a line, a line of weights, and a line of elements; the members of a line's bits.
+//! Reading the end of a line, a line of weights, and a line of elements.
 
-ghost use Rattle.std.specs.Prelude.{◌≡◌, ◌<◌, ◌^◌, [], length, IfOk};
-ghost use Rattle.mat_sets.specs.Sets.{all_below, IsSet};
+ghost use Rattle.std.specs.Prelude.{[]};
 ghost use Rattle.mat_words.specs.{Cursors.{lines_left, words_left}, Reading.{Gives}};
 ghost use Rattle.mat_desc.specs.{Reading.{ended_at, elements_at, weights_at}, Views.{naming}};
 
@@ -11,10 +10,7 @@ use crate::read::notation::next_member;
 use crate::refusal::{DescKind, DescRefusal};
 use mat_sets::{BitSet, ElemSet, PairWeights};
 use mat_words::{LineCursor, Names, WordCursor, fault, keyed_line, next_weights};
-use std::alloc::{AllocError, Global};
-
-// The most members of bits that are found one after the other.
-const MOST_FOUND: usize = 8;
+use std::alloc::Global;
 
 /// The end of a line.
 #[tactic(auto, using(mat_words::proofs::Splitting::some_parts), unfolding(crate::specs::Reading::ended_at))]
@@ -38,8 +34,7 @@ pub(crate) fn weights_line<'a>(
 {
     let (words, rest) = keyed_line(lines, b"weights")?;
     let (weights, words) = next_weights(alloc, words, count, SMALLEST_WEIGHT, LARGEST_WEIGHT)?;
-    ended(words)?;
-    Ok((PairWeights::new(weights), rest))
+    ended(words).and(Ok((PairWeights::new(weights), rest)))
 }
 
 /// The set of the elements below `count` that are left of a line, each put among the taken ones. One that is taken already is repeated.
@@ -88,23 +83,16 @@ pub(crate) fn element_bits(
     Ok(set)
 }
 
-/// The members of a set of bits, which are among all numbers below a bound. A few are found one after the other, each in the time of the
-/// words in between; where there are more, each number is looked up. The only error is want of memory.
-pub(crate) fn members_of(alloc: Global, all: &ElemSet, bits: &BitSet) -> Result<ElemSet, AllocError>
-    requires all { all.now ≡ all_below (length all.now) }
-    requires few { length all.now < 2 ^ 32 }
-    requires inside { IsSet (length all.now) bits.now }
-    ensures { IfOk result (λ set. set ≡ bits.now) }
+/// The set of the elements below `count` that are left of a line, with no others taken.
+pub(crate) fn elements_alone(
+    alloc: Global,
+    words: WordCursor<'_>,
+    names: Option<&Names>,
+    count: u32,
+) -> Result<ElemSet, DescRefusal>
+    ensures { Gives (λ set. (set, set)) result (elements_at (naming names.entry) count [] (words_left words.entry)) }
 {
-    let mut set = ElemSet::new(alloc);
-    let mut from = 0;
-    while let Some(x) = bits.next_from(from) {
-        if set.len() >= MOST_FOUND {
-            let members = all.among(alloc, bits)?;
-            return Ok(members);
-        }
-        set.add(x)?;
-        from = x + 1;
-    }
+    let bits = element_bits(alloc, words, names, count)?;
+    let set = ElemSet::from_bits(alloc, &bits)?;
     Ok(set)
 }

@@ -1,17 +1,17 @@
 //! Reading transversal matroids and gammoids.
 
-ghost use Rattle.std.specs.Prelude.{[]};
+ghost use Rattle.std.specs.Prelude.{◌≡◌, [], codes, IfOk};
 ghost use Rattle.mat_desc.specs.{
   Notations.{IsNaming},
   Views.{naming},
-  Reading.{set_line_at, distinct_at, targets_at, transversal_at, gammoid_at},
+  Reading.{ends_line_at, set_line_at, distinct_at, targets_at, transversal_at, gammoid_at},
 };
 ghost use Rattle.mat_any.specs.Views.{tree_of};
 ghost use Rattle.mat_words.specs.{Steps.{repeat_at}, Cursors.{lines_left, words_left}, Reading.{Gives}};
 
 use crate::limits::{MOST_ARCS, MOST_SETS, MOST_VERTICES};
 use crate::read::items::ends_lines;
-use crate::read::lines::{elements_line, ended};
+use crate::read::lines::{elements_alone, ended};
 use crate::read::{Found, Read};
 use crate::refusal::{DescKind, DescRefusal};
 use mat_any::AnyMatroid;
@@ -33,8 +33,7 @@ fn set_line<'a>(
     ensures { Gives (λ x. (x.0, lines_left x.1)) result (set_line_at (naming names.entry) key.now count (lines_left lines.entry)) }
 {
     let (words, rest) = keyed_line(lines, key)?;
-    let mut taken = ElemSet::new(alloc);
-    let set = elements_line(alloc, words, names, count, &mut taken)?;
+    let set = elements_alone(alloc, words, names, count)?;
     Ok((set, rest))
 }
 
@@ -95,8 +94,7 @@ fn targets_line<'a>(
 {
     let (words, rest) = keyed_line(lines, b"targets")?;
     let (targets, words) = distinct_numbers(alloc, vertices, count, words)?;
-    ended(words)?;
-    Ok((targets, rest))
+    ended(words).and(Ok((targets, rest)))
 }
 
 /// A transversal matroid, from the words behind its keyword on.
@@ -119,6 +117,23 @@ pub(crate) fn transversal<'a>(
     Ok((AnyMatroid::Transversal(matroid), rest))
 }
 
+/// As many arc lines of a graph with so many vertices.
+#[tactic(auto, using(crate::proofs::ItemLaws::ends_lines_sound))]
+fn graph_lines<'a>(
+    alloc: Global,
+    vertices: u32,
+    many: u32,
+    lines: LineCursor<'a>,
+) -> Read<'a, Digraph>
+    ensures arcs { Gives (λ x. (x.0.arcs, lines_left x.1)) result
+        (repeat_at (ends_line_at None (codes "arc") vertices) many (lines_left lines.entry)) }
+    ensures vertices { IfOk result (λ x. x.0.vertices ≡ vertices) }
+{
+    let (arcs, rest) = ends_lines(alloc, None, b"arc", vertices, many, lines)?;
+    let graph = Digraph::new(alloc, vertices, arcs)?;
+    Ok((graph, rest))
+}
+
 /// A gammoid, from the words behind its keyword on.
 #[tactic(auto, using(crate::proofs::TargetLaws::gammoid_building), unfolding(crate::specs::Reading::gammoid_at))]
 pub(crate) fn gammoid<'a>(
@@ -135,8 +150,7 @@ pub(crate) fn gammoid<'a>(
     ended(words)?;
     let (sources, rest) = set_line(alloc, None, b"sources", vertices, lines)?;
     let (targets, rest) = targets_line(alloc, vertices, count, rest)?;
-    let (arcs, rest) = ends_lines(alloc, None, b"arc", vertices, many, rest)?;
-    let graph = Digraph::new(alloc, vertices, arcs)?;
+    let (graph, rest) = graph_lines(alloc, vertices, many, rest)?;
     let matroid = Gammoid::new(alloc, graph, sources, targets)?;
     Ok((AnyMatroid::Gammoid(matroid), rest))
 }

@@ -1,7 +1,6 @@
 //! Reading matroids.
 
 ghost use Rattle.std.specs.Prelude.{◌≡◌, ◌<◌, ◌≤◌, ◌++◌, ◌∷◌, [], length, map, IfOk};
-ghost use Rattle.mat_sets.specs.Sets.{all_below};
 ghost use Rattle.mat_any.specs.{Trees.{trees_from, union}, Views.{tree_of}};
 ghost use Rattle.mat_desc.specs.{
   Limits.{most_sets},
@@ -15,7 +14,7 @@ use crate::limits::{DEEPEST, MOST_DIGITS, MOST_ELEMENTS, MOST_MATROIDS, MOST_SET
 use crate::read::earlier_sets::EarlierSets;
 use crate::read::items::{column_lines, ends_lines};
 use crate::read::keywords::{Keyword, keyword_from};
-use crate::read::lines::{element_bits, elements_line, ended, members_of};
+use crate::read::lines::{element_bits, elements_alone, elements_line, ended};
 use crate::read::linked::{gammoid, transversal};
 use crate::read::{Found, Read};
 use crate::refusal::{DescKind, DescRefusal};
@@ -71,19 +70,17 @@ fn class_lines<'a>(
     Ok((SetList::new(classes), caps, rest))
 }
 
-/// A set line of a laminar family on `count` elements, which are given: the cap, and the set, which no earlier one may cross. It is put
-/// behind the earlier sets.
+/// A set line of a laminar family on `count` elements: the cap, and the set, which no earlier one may cross. It is put behind the
+/// earlier sets.
 #[tactic(auto, unfolding(crate::specs::Reading::nested_set_at))]
 fn nested_set_line<'a>(
     alloc: Global,
     names: Option<&Names>,
     count: u32,
-    elements: &ElemSet,
     earlier: &mut EarlierSets,
     lines: LineCursor<'a>,
 ) -> Result<(u32, ElemSet, LineCursor<'a>), DescRefusal>
     requires named { IsNaming count (naming names) }
-    requires all { elements.now ≡ all_below count }
     requires few { length earlier.old.sets < 512 }
     requires room { earlier.old.count ≡ count }
     ensures read { Gives (λ x. (x.0, x.1, lines_left x.2)) result
@@ -95,7 +92,7 @@ fn nested_set_line<'a>(
     let (words, rest) = keyed_line(lines, b"set")?;
     let (cap, words) = next_size(words, 0, MOST_ELEMENTS)?;
     let bits = element_bits(alloc, words, names, count)?;
-    let set = members_of(alloc, elements, &bits)?;
+    let set = ElemSet::from_bits(alloc, &bits)?;
     if earlier.crosses(alloc, &set, &bits)? {
         return Err(fault(DescKind::Crossing, line));
     }
@@ -116,20 +113,12 @@ fn nested_set_lines<'a>(
     ensures { Gives (λ x. (x.0, x.1.items, lines_left x.2)) result
         (nested_sets_at (naming names.entry) count many [] (lines_left lines.entry)) }
 {
-    let elements = ElemSet::all_below(alloc, count)?;
     let mut sets = Vec::new(alloc);
     let mut caps = Vec::new(alloc);
     let mut earlier = EarlierSets::new(alloc, count)?;
     let mut rest = lines;
     for _ in 0..many {
-        let (cap, set, after) = nested_set_line(
-            alloc,
-            names,
-            count,
-            &elements,
-            &mut earlier,
-            rest,
-        )?;
+        let (cap, set, after) = nested_set_line(alloc, names, count, &mut earlier, rest)?;
         sets.push(set)?;
         caps.push(cap)?;
         rest = after;
@@ -272,8 +261,7 @@ fn restriction<'a>(
     ensures { Gives (λ x. (tree_of x.0, lines_left x.1)) result
         (restrict_at (matroid_within room (naming names.entry) count) (naming names.entry) count (words_left words.entry) (lines_left lines.entry)) }
 {
-    let mut taken = ElemSet::new(alloc);
-    let kept = elements_line(alloc, words, names, count, &mut taken)?;
+    let kept = elements_alone(alloc, words, names, count)?;
     let (inner, rest) = next_matroid_within(alloc, room, names, count, lines)?;
     let inner = Box::new(alloc, inner)?;
     Ok((AnyMatroid::Restrict { kept, inner }, rest))
@@ -294,8 +282,7 @@ fn contraction<'a>(
     ensures { Gives (λ x. (tree_of x.0, lines_left x.1)) result
         (contract_at (matroid_within room (naming names.entry) count) (naming names.entry) count (words_left words.entry) (lines_left lines.entry)) }
 {
-    let mut taken = ElemSet::new(alloc);
-    let away = elements_line(alloc, words, names, count, &mut taken)?;
+    let away = elements_alone(alloc, words, names, count)?;
     let (inner, rest) = next_matroid_within(alloc, room, names, count, lines)?;
     let inner = Box::new(alloc, inner)?;
     Ok((AnyMatroid::Contract { away, inner }, rest))
@@ -417,8 +404,13 @@ pub(crate) fn two_matroids<'a>(
         (two_matroids_at (naming names.entry) count (lines_left lines.entry)) }
 {
     let (first, lines) = next_matroid(alloc, names, count, lines)?;
-    let (second, lines) = next_matroid(alloc, names, count, lines)?;
-    Ok((first, second, lines))
+    match next_matroid(alloc, names, count, lines) {
+        Ok((second, lines)) => Ok((first, second, lines)),
+        Err(refusal) => {
+            drop(first);
+            Err(refusal)
+        }
+    }
 }
 
 /// As many matroids, on `count` elements each.

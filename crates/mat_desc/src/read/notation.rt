@@ -106,8 +106,7 @@ fn names_line<'a>(alloc: Global, key: &[u8], many: u32, lines: LineCursor<'a>) -
 {
     let (words, rest) = keyed_line(lines, key)?;
     let (names, words) = next_names(alloc, many, words)?;
-    ended(words)?;
-    Ok((names, rest))
+    ended(words).and(Ok((names, rest)))
 }
 
 /// The names of the vertices, which have a line where there are any.
@@ -178,6 +177,5 @@ pub(crate) fn root_line<'a>(
     }
     let (words, rest) = keyed_line(lines, b"root")?;
     let (root, words) = next_member(words, names, vertices)?;
-    ended(words)?;
-    Ok((root, rest))
+    ended(words).and(Ok((root, rest)))
 }

@@ -2,8 +2,8 @@
 use Rattle.std.proofs.Common.{◌≡◌, not}
 use Rattle.mat_sets.specs.Graphs.{ends_of}
 use Rattle.mat_sets.specs.Search.{those_below}
-use Rattle.mat_tell.specs.Classes.{are_together}
-use Rattle.mat_tell.proofs.spanning.crossing.Given as goal
+use Rattle.mat_reasons.specs.Classes.{are_together}
+use Rattle.mat_reasons.proofs.between.crossing.Given as goal
 
 abbrev pub invariant-loop-e : goal.invariant-loop-e
 invariant-loop-e l = l.crossing ≡ those_below l.e (λ k. not (are_together l.classes (ends_of l.edges k).0 (ends_of l.edges k).1))

@@ -1,7 +1,7 @@
 -- None of the classes so far holds both.
 use Rattle.std.proofs.Common.{◌≡◌, false, take}
-use Rattle.mat_tell.specs.Classes.{are_together}
-use Rattle.mat_tell.proofs.spanning.are_together.Given as goal
+use Rattle.mat_reasons.specs.Classes.{are_together}
+use Rattle.mat_reasons.proofs.between.are_together.Given as goal
 
 abbrev pub invariant-loop-i : goal.invariant-loop-i
 invariant-loop-i l = are_together (take l.i l.classes) l.first l.second ≡ false
