@@ -22,7 +22,7 @@ typedef struct {
  *
  * What the program would write goes to the front of the output, and the note of a refusal to the front of the note, which is cut off where there
  * is no room; a note has at most 100 bytes. What stands behind both stays. Status 5 comes only where a file is needed that is none of the three,
- * and status 6 only where the output is full: then a call with a larger one gives the answer. Where memory runs out, the status is 7.
+ * and status 6 only where the output has no room for the whole answer: a call with a larger one gives it. Where memory runs out, the status is 7.
  *
  * The caller owes: each pointer reaches as many bytes as stand behind it, and the output and the note overlap nothing else. Where there are no
  * bytes, a pointer may be null. Calls in several threads at once are independent of each other; none starts a thread, and each needs up to

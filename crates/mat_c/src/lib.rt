@@ -35,19 +35,19 @@ fn put_front(bytes: &[u8], into: &mut [u8]) -> usize
 
 // Hands on how a call ended, what it wrote and its note.
 fn hand_on(called: &Called, output: &mut [u8], note: &mut [u8]) -> Ended
-    requires output { called.now.output.room ≡ length output.old }
-    requires note { called.now.note.room ≡ length note.old }
+    requires output { length called.now.output.items ≤ length output.old }
+    requires note { length called.now.note.items ≤ length note.old }
     ensures status { result.status ≡ status_number called.now.status }
     ensures bounds { (result.output_length ≤ length output.new) × (result.note_length ≤ length note.new) }
-    ensures output { take result.output_length output.new ≡ called.now.output.taken }
-    ensures note { take result.note_length note.new ≡ called.now.note.taken }
+    ensures output { take result.output_length output.new ≡ called.now.output.items }
+    ensures note { take result.note_length note.new ≡ called.now.note.items }
     ensures output_rest { drop result.output_length output.new ≡ drop result.output_length output.old }
     ensures note_rest { drop result.note_length note.new ≡ drop result.note_length note.old }
 {
     Ended {
         status: called.status.number(),
-        output_length: put_front(called.output.bytes(), output),
-        note_length: put_front(called.note.bytes(), note),
+        output_length: put_front(&called.output, output),
+        note_length: put_front(&called.note, note),
     }
 }
 

@@ -1,11 +1,11 @@
 -- A word is text, and a line that is not empty has its parts as words.
-use Rattle.std.proofs.Common.{◌≡◌, ℕ, ◌<◌, Bool, true, false, List, [], ◌∷◌, length, leb, ◌≤◌, refl, arith}
+use Rattle.std.proofs.Common.{◌≡◌, ℕ, ◌<◌, true, List, [], ◌∷◌, length, leb, ◌≤◌, refl, arith}
 use Rattle.std.specs.Prelude.{IsUtf8, IsAscii}
 use Rattle.std.specs.List.{list_all}
 use Rattle.std.proofs.lemmas.Bool.{and_parts, leb-true}
 use Rattle.std.proofs.lemmas.Str.{IsUtf8-from_ascii}
 use Rattle.std.proofs.lemmas.Str.Ascii.{IsAscii-nil, IsAscii-cons}
-use Rattle.mat_words.specs.Words.{is_letter, is_word, words_of, parts_of, is_well_spaced}
+use Rattle.mat_words.specs.Words.{is_letter, is_word, words_of, parts_of}
 
 -- ---- the words of a line
 

@@ -1,5 +1,5 @@
 -- A shelf that tells each name: what it tells of the files, of their faults, and that an outcome needs nothing more.
-use Rattle.std.proofs.Common.{◌≡◌, ℕ, ◌≤◌, ◌⊎◌, true, cond, List, [], ◌∷◌, Option, Some, None, Result, Ok, Err, refl, sym, arith, inl, inr}
+use Rattle.std.proofs.Common.{◌≡◌, ℕ, ◌≤◌, ◌⊎◌, cond, List, [], ◌∷◌, Option, Some, None, Result, Ok, Err, refl, sym, arith, inl, inr}
 use Rattle.std.specs.Prelude.{◌↔◌, is_some, unwrap_or, IsErr, OnOk, IfSome}
 use Rattle.std.proofs.lemmas.Bool.{cases_Bool}
 use Rattle.mat_shelf.specs.Faults.{Rose}
@@ -33,7 +33,7 @@ missing_grows files now other other_now name held grows =
     omega (arith, grows, before, after)))
 
 -- a count that is 0 did not rise
-pub none_rose : (before : ℕ) → Rose before 0 → ⊥
+none_rose : (before : ℕ) → Rose before 0 → ⊥
 none_rose before (inl less) = omega arith
 none_rose before (inr last) = omega arith
 

@@ -1,12 +1,20 @@
 -- How a call over files in memory ends.
-use Rattle.std.specs.Prelude.{◌≡◌, ◌↔◌, ◌⊎◌, ℕ, List, [], length, take, Some, None}
+use Rattle.std.specs.Prelude.{◌≡◌, ◌↔◌, ◌⊎◌, ℕ, ◌<◌, ◌≤◌, List, [], length, take, Option, Some, None}
 use Rattle.mat_shelf.specs.Files.{FileState}
-use Rattle.mat_command.specs.CommandLines.{command_line, asked_by}
+use Rattle.mat_command.specs.CommandLines.{command_line, asked_by, Task}
 use Rattle.mat_judge.specs.Statuses.{status_number}
 use Rattle.mat_judge.specs.declared.status.Status.{Status}
 use Rattle.mat_judge.specs.declared.status.Status.TheVariants as statuses
-use Rattle.mat_top.specs.Outcomes.{IsStatus, IsWritten, CallReaches, IsNote}
+use Rattle.mat_top.specs.Outcomes.{IsStatus, IsOutput, CallReaches, IsNote}
 use Rattle.mat_call.specs.GivenShelves.{no_text, told_in}
+
+-- what was written into so much room: on Done a whole text, on a fault of writing as much as there is room for of a text that is longer, and
+-- else nothing
+abbrev pub IsWrittenInto : (List ℕ → Option (List ℕ)) → Option Task → ℕ → List ℕ → Status → Type 0
+IsWrittenInto held asked room output statuses.Done = IsOutput held asked output × (length output ≤ room)
+IsWrittenInto held asked room output statuses.WriteFault =
+    (text : List ℕ) × IsOutput held asked text × (room < length text) × (output ≡ take room text)
+IsWrittenInto held asked room output status = output ≡ []
 
 -- A call with these words over these files ended with this status, and wrote this output and this note, for which it had so much room.
 -- Memory is the only status without a cause.
@@ -16,12 +24,11 @@ pub record IsCallEnded (files : List FileState) (words : List (List ℕ)) (room 
   -- ReadFault comes only where the call reaches a name that no file has
   pub read_fault : status ≡ statuses.ReadFault
       → (name : List ℕ) × CallReaches (told_in files) (asked_by words) name × (told_in files name ≡ Some no_text)
-  -- WriteFault comes only where the output has no room left
-  pub write_fault : status ≡ statuses.WriteFault → length output ≡ room
-  -- each status but these two and Memory is that of the outcome, and WriteFault comes only where the outcome is Done
+  -- each status but ReadFault, WriteFault and Memory is that of the outcome, and WriteFault comes only where the outcome is Done
   pub status_of_outcome : IsStatus (told_in files) (asked_by words) status
-  -- the output is the answer, or a prefix of it, or nothing
-  pub written : IsWritten (told_in files) (asked_by words) (Some []) (Some output) status
+  -- the output is the answer; where there is no room for all of it, as much of it as there is room for, and then the status is WriteFault;
+  -- or nothing
+  pub written : IsWrittenInto (told_in files) (asked_by words) room output status
   -- the note is that of the status, as much of it as there is room for
   pub noted : (text : List ℕ) × IsNote (told_in files) (asked_by words) status text × (note ≡ take note_room text)
 

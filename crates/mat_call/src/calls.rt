@@ -1,6 +1,6 @@
 //! The top call over files in memory.
 
-ghost use Rattle.std.specs.Prelude.{◌≡◌, [], map, string_bytes, IfOk};
+ghost use Rattle.std.specs.Prelude.{◌≡◌, ◌≤◌, [], length, map, string_bytes, IfOk};
 ghost use Rattle.mat_shelf.specs.Files.{HaveDifferentNames};
 ghost use Rattle.mat_call.specs.{CallEnds.{IsCallEnded}, LineWords.{line_words}, NamedFiles.{file_of, three_files}};
 
@@ -17,9 +17,9 @@ pub struct Called {
     /// How it ended.
     pub status: Status,
     /// What it wrote.
-    pub output: BoundedSink,
+    pub output: Vec<u8>,
     /// Its note, where it was refused.
-    pub note: BoundedSink,
+    pub note: Vec<u8>,
 }
 
 // The top call over files in memory and two empty sinks.
@@ -34,14 +34,14 @@ fn call_into<R: TopWorkers>(
     requires shared { R.shared rt.now }
     requires output { output.old.taken ≡ [] }
     requires note { note.old.taken ≡ [] }
-    ensures rooms { (output.new.room ≡ output.old.room) × (note.new.room ≡ note.old.room) }
+    ensures bounds { (length output.new.taken ≤ output.old.room) × (length note.new.taken ≤ note.old.room) }
     ensures ended { IsCallEnded files.old.files (map string_bytes words.now) output.old.room note.old.room
         result output.new.taken note.new.taken }
 {
     let status = run(rt, alloc, words, files, output, note);
-    // Each tells that it took no more than it has room for.
-    output.bytes();
-    note.bytes();
+    // Each tells that it took no more than it has room for, and failed only where it is full.
+    output.stays_bounded();
+    note.stays_bounded();
     status
 }
 
@@ -49,8 +49,8 @@ fn call_into<R: TopWorkers>(
 /// for `note_room`. The only error is want of memory for them.
 ///
 /// The words are those after the program's name. Usage comes exactly where they are no command, ReadFault only where the call reaches a name
-/// that none of the files has, and WriteFault only where the output is full. Each other status but Memory is that of the words and of what the
-/// files hold, and so are the output and the note, which is cut off where it has no room left.
+/// that none of the files has, and WriteFault only where the output has no room for the whole answer. Each other status but Memory is that of the
+/// words and of what the files hold, and so are the output and the note, each cut off where it has no room left.
 pub fn call<R: TopWorkers>(
     rt: &R,
     alloc: Global,
@@ -59,12 +59,12 @@ pub fn call<R: TopWorkers>(
     room: usize,
     note_room: usize,
 ) -> Result<Called, AllocError>
-    // Other threads may be handed a reference to who works, which is so of every runtime and of `OneWorker`.
+    // Other threads may be handed a reference to who works, which is so of every runtime and of a worker that starts no thread.
     requires shared { R.shared rt.now }
     requires different { HaveDifferentNames files.items }
-    ensures rooms { IfOk result (λ c. (c.output.room ≡ room) × (c.note.room ≡ note_room)) }
+    ensures bounds { IfOk result (λ c. (length c.output.items ≤ room) × (length c.note.items ≤ note_room)) }
     ensures ended { IfOk result (λ c. IsCallEnded files.items (map string_bytes words.now) room note_room
-        c.status c.output.taken c.note.taken) }
+        c.status c.output.items c.note.items) }
 {
     let mut output = BoundedSink::new(alloc, room)?;
     let mut note = BoundedSink::new(alloc, note_room)?;
@@ -72,8 +72,8 @@ pub fn call<R: TopWorkers>(
     let status = call_into(rt, alloc, words, &mut shelf, &mut output, &mut note);
     Ok(Called {
         status,
-        output,
-        note,
+        output: output.into_bytes(),
+        note: note.into_bytes(),
     })
 }
 
@@ -115,9 +115,9 @@ pub fn call_line<R: TopWorkers>(
     note_room: usize,
 ) -> Result<Called, AllocError>
     requires shared { R.shared rt.now }
-    ensures rooms { IfOk result (λ c. (c.output.room ≡ room) × (c.note.room ≡ note_room)) }
+    ensures bounds { IfOk result (λ c. (length c.output.items ≤ room) × (length c.note.items ≤ note_room)) }
     ensures ended { IfOk result (λ c. IsCallEnded (three_files description.now certificate.now witness.now) (line_words line.now)
-        room note_room c.status c.output.taken c.note.taken) }
+        room note_room c.status c.output.items c.note.items) }
 {
     let words = line_words(alloc, line)?;
     let files = three_files(alloc, description, certificate, witness)?;

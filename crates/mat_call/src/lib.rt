@@ -6,6 +6,5 @@ mod calls;
 mod given_shelf;
 mod words;
 
-pub use bounded_sink::BoundedSink;
 pub use calls::{Called, call, call_line};
 pub use words::line_words;

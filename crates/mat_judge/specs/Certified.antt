@@ -6,10 +6,10 @@ use Rattle.mat_cert.specs.Faults.{CertRefusal, Fault}
 use Rattle.mat_cert.specs.Limits.{certificate_limit}
 use Rattle.mat_cert.specs.Reading.{read_of}
 use Rattle.mat_words.specs.declared.refusal.Refusal.TheVariants as cert_refusals
+use Rattle.mat_right.specs.Right.{IsRight}
 use Rattle.mat_check.specs.AnswerClauses.{failure_of}
 use Rattle.mat_check.specs.Clauses.{failure_at}
 use Rattle.mat_check.specs.Fitting.{fits}
-use Rattle.mat_check.specs.Right.{IsRight}
 use Rattle.mat_check.specs.declared.reason.Reason.{Reason}
 use Rattle.mat_judge.specs.declared.certified.Uncertified.{Uncertified}
 use Rattle.mat_judge.specs.declared.certified.Uncertified.TheVariants as uncertified

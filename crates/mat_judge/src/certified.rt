@@ -3,8 +3,9 @@
 ghost use Rattle.std.specs.Prelude.{◌≡◌, ◌≤◌, ℕ, List, true, OnOk, IfOk, IfErr, IfSome};
 ghost use Rattle.mat_work.specs.Workers.{AreWorkers};
 ghost use Rattle.mat_cert.specs.{Certificates.{IsRanged}, Views.{certificate_of}};
-ghost use Rattle.mat_check.specs.{Fitting.{fits}, Right.{IsRight}};
+ghost use Rattle.mat_check.specs.Fitting.{fits};
 ghost use Rattle.mat_desc.specs.{Grammar.{IsValid}, Soundness.{IsSoundInstance}, Views.{instance_of}};
+ghost use Rattle.mat_right.specs.Right.{IsRight};
 ghost use Rattle.mat_judge.specs.declared.certified.Uncertified.TheVariants as uncertified;
 ghost use Rattle.mat_judge.specs.declared.certified.NotRight.TheVariants as not_right;
 ghost use Rattle.mat_judge.specs.{
@@ -134,6 +135,7 @@ pub fn right_answer_in<R: CheckWorkers, F: Shelf>(
     problem: &Problem,
     workers: u32,
 ) -> Result<Answer, NotRight>
+    // Other threads may be handed a reference to who works, which is so of every runtime and of a worker that starts no thread.
     requires shared { R.shared rt.now }
     requires valid { IsValid (instance_of problem.now) }
     requires sound { IsSoundInstance (instance_of problem.now) }
@@ -161,6 +163,7 @@ pub fn judge<R: CheckWorkers, F: Shelf>(
     problem: &Problem,
     workers: u32,
 ) -> Result<(), NotRight>
+    // Other threads may be handed a reference to who works, which is so of every runtime and of a worker that starts no thread.
     requires shared { R.shared rt.now }
     requires valid { IsValid (instance_of problem.now) }
     requires sound { IsSoundInstance (instance_of problem.now) }

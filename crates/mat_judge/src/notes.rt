@@ -1,7 +1,7 @@
 //! The note of a refusal.
 
 ghost use Rattle.std.specs.Prelude.{◌≤◌, flat_map, OnOk, OnErr};
-ghost use Rattle.mat_shelf.specs.{Faults.{Rose}, Writing.{Appended, AppendedPrefix}};
+ghost use Rattle.mat_shelf.specs.{Faults.{Rose}, Writing.{Appended, AppendedProperPrefix}};
 ghost use Rattle.mat_judge.specs.{Notes.{fault_note, note_of, note_of_denial, note_of_unread, IsNoted}, Texts.{piece_text}};
 
 use crate::reading::Unread;
@@ -19,11 +19,11 @@ enum Piece<'a> {
     Number(u32),
 }
 
-// Writes a piece, or a prefix of it where the sink fails.
+// Writes a piece, or a proper prefix of it where the sink fails.
 fn put_piece<N: Sink>(notes: &mut N, piece: Piece<'_>) -> Result<(), Failed>
     ensures grows { N.faults notes.old ≤ N.faults notes.new }
     ensures ok { OnOk result (Appended (N.written notes.old) (piece_text piece.entry) (N.written notes.new)) }
-    ensures err { OnErr result (AppendedPrefix (N.written notes.old) (piece_text piece.entry) (N.written notes.new)) }
+    ensures err { OnErr result (AppendedProperPrefix (N.written notes.old) (piece_text piece.entry) (N.written notes.new)) }
     ensures cause { OnErr result (Rose (N.faults notes.old) (N.faults notes.new)) }
 {
     match piece {
@@ -36,11 +36,11 @@ fn put_piece<N: Sink>(notes: &mut N, piece: Piece<'_>) -> Result<(), Failed>
     }
 }
 
-// Writes pieces one after the other, or a prefix of them where the sink fails.
+// Writes pieces one after the other, or a proper prefix of them where the sink fails.
 fn put_pieces<N: Sink>(notes: &mut N, pieces: &[Piece<'_>]) -> Result<(), Failed>
     ensures grows { N.faults notes.old ≤ N.faults notes.new }
     ensures ok { OnOk result (Appended (N.written notes.old) (flat_map piece_text pieces.now) (N.written notes.new)) }
-    ensures err { OnErr result (AppendedPrefix (N.written notes.old) (flat_map piece_text pieces.now) (N.written notes.new)) }
+    ensures err { OnErr result (AppendedProperPrefix (N.written notes.old) (flat_map piece_text pieces.now) (N.written notes.new)) }
     ensures cause { OnErr result (Rose (N.faults notes.old) (N.faults notes.new)) }
 {
     for piece in pieces {

@@ -1,5 +1,5 @@
 -- How a report ended, as each clause of its call says it: by cases on the refusal.
-use Rattle.std.proofs.Common.{◌≡◌, ℕ, List, Option, Some, Result, Ok, Err, refl, sym, subst}
+use Rattle.std.proofs.Common.{◌≡◌, ℕ, List, Option, Some, Ok, Err, refl, sym, subst}
 use Rattle.std.specs.Prelude.{IsErrAnd}
 use Rattle.mat_judge.specs.Statuses.{status_of_denial}
 use Rattle.mat_judge.specs.declared.reading.Unread.TheVariants as unread

@@ -1,18 +1,15 @@
 -- A report on a right answer may be written where the check of its certificate would be done; and where memory ran out there is none.
-use Rattle.std.proofs.Common.{◌≡◌, ℕ, List, Option, Some, Result, Ok, Err, refl, subst}
+use Rattle.std.proofs.Common.{◌≡◌, ℕ, List, Option, Result, Ok, Err, refl, subst}
 use Rattle.std.specs.Prelude.{IfSome, IfOk, IfErr, IsErrAnd}
 use Rattle.mat_command.specs.CommandLines.{check}
-use Rattle.mat_cert.specs.Certificates.{Certificate}
 use Rattle.mat_desc.specs.Instances.{Instance}
 use Rattle.mat_desc.specs.Notations.{NamedInstance}
 use Rattle.mat_judge.specs.Described.{IsDescribed, IsNamed}
-use Rattle.mat_judge.specs.Certified.{IsRightAnswer}
 use Rattle.mat_judge.specs.Statuses.{out_of_memory}
 use Rattle.mat_judge.specs.declared.certified.NotRight.TheVariants as not_right
 use Rattle.mat_judge.specs.declared.certified.Uncertified.TheVariants as uncertified
 use Rattle.mat_judge.specs.declared.reading.Unread.TheVariants as unread
 use Rattle.mat_judge.specs.declared.refusal.Refusal.{Refusal}
-use Rattle.mat_judge.specs.declared.status.Status.TheVariants as statuses
 use Rattle.mat_judge.proofs.Told.{if_told}
 use Rattle.mat_top.specs.Outcomes.{yes_text}
 use Rattle.mat_top.specs.Refusals.{HasText, HasNoText}

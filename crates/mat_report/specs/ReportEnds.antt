@@ -1,7 +1,7 @@
 -- How a report ends: why nothing is written, or what is.
 use Rattle.std.specs.Prelude.{◌≡◌, ℕ, List, Option, Some, Result, Ok, Err}
 use Rattle.mat_shelf.specs.Faults.{Rose}
-use Rattle.mat_shelf.specs.Writing.{Appended, AppendedPrefix}
+use Rattle.mat_shelf.specs.Writing.{Appended, AppendedProperPrefix}
 use Rattle.mat_judge.specs.declared.refusal.Refusal.{Refusal}
 use Rattle.mat_judge.specs.declared.refusal.Refusal.TheVariants as refusals
 use Rattle.mat_judge.specs.declared.status.Status.TheVariants as statuses
@@ -21,6 +21,6 @@ abbrev pub IsReportEnded : Saying → (List ℕ → Option (List ℕ)) → List 
 IsReportEnded says held description certificate before now old out_before new out_now (Ok done) =
     (text : List ℕ) × MayBeReported says held description certificate text × Appended old text new
 IsReportEnded says held description certificate before now old out_before new out_now (Err refusals.WriteFault) =
-    (text : List ℕ) × MayBeReported says held description certificate text × AppendedPrefix old text new × Rose out_before out_now
+    (text : List ℕ) × MayBeReported says held description certificate text × AppendedProperPrefix old text new × Rose out_before out_now
 IsReportEnded says held description certificate before now old out_before new out_now (Err refusal) =
     IsRefusal held (check_of description certificate) before now refusal × (new ≡ old)

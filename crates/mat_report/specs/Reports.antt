@@ -1,8 +1,8 @@
 -- What is written of the right answer that a certificate has to the problem of a description.
-use Rattle.std.specs.Prelude.{◌≡◌, ℕ, List, Option, Some, IfSome}
-use Rattle.mat_shelf.specs.Writing.{Appended, AppendedPrefix}
+use Rattle.std.specs.Prelude.{◌≡◌, ℕ, List, Option, IfSome}
+use Rattle.mat_shelf.specs.Writing.{Appended, AppendedProperPrefix}
 use Rattle.mat_cert.specs.Certificates.{Certificate}
-use Rattle.mat_check.specs.Right.{IsRight}
+use Rattle.mat_right.specs.Right.{IsRight}
 use Rattle.mat_command.specs.CommandLines.{Task, about, check}
 use Rattle.mat_desc.specs.Notations.{NamedInstance}
 use Rattle.mat_judge.specs.Certified.{IsRightAnswer}
@@ -31,10 +31,10 @@ pub record IsReport (says : Saying) (held : List ℕ → Option (List ℕ)) (des
   pub named : IfSome (held description) (λ bytes. IsNamed bytes problem)
   pub reported : IsAnswerReport says (held certificate) problem text
 
--- what was appended to the output: on Done the whole text, on a fault of writing a prefix of such a text, and else nothing
+-- what was appended to the output: on Done the whole text, on a fault of writing a proper prefix of such a text, and else nothing
 abbrev pub IsReportWritten : Saying → (List ℕ → Option (List ℕ)) → List ℕ → List ℕ → Option (List ℕ) → Option (List ℕ) → Status → Type 0
 IsReportWritten says held description certificate old new statuses.Done =
     (text : List ℕ) × IsReport says held description certificate text × Appended old text new
 IsReportWritten says held description certificate old new statuses.WriteFault =
-    (text : List ℕ) × IsReport says held description certificate text × AppendedPrefix old text new
+    (text : List ℕ) × IsReport says held description certificate text × AppendedProperPrefix old text new
 IsReportWritten says held description certificate old new status = new ≡ old

@@ -2,13 +2,13 @@
 
 ghost use Rattle.std.specs.Prelude.{ℕ, List, IfOk};
 ghost use Rattle.mat_cert.specs.{Certificates.{Certificate, IsRanged}, Views.{certificate_of}};
-ghost use Rattle.mat_check.specs.Right.{IsRight};
 ghost use Rattle.mat_desc.specs.{
   Grammar.{IsValid},
   Notations.{NamedInstance},
   Soundness.{IsSoundInstance},
   Views.{instance_of, named_instance},
 };
+ghost use Rattle.mat_right.specs.Right.{IsRight};
 
 use mat_cert::Answer;
 use mat_desc::Named;

@@ -4,6 +4,7 @@ use crate::answer_text::AnswerText;
 use mat_cert::Answer;
 use mat_desc::Named;
 use mat_picture::picture;
+use mat_tell::told_text;
 use std::alloc::{AllocError, Global};
 
 /// Draws an answer as an SVG that needs no other file.
@@ -16,6 +17,7 @@ impl AnswerText for AsPicture {
     ghost says = { is_picture };
 
     fn text(&self, alloc: Global, named: &Named, answer: &Answer) -> Result<Vec<u8>, AllocError> {
-        picture(alloc, named, answer)
+        let told = told_text(alloc, named, answer)?;
+        picture(alloc, named, answer, &told)
     }
 }

@@ -94,7 +94,7 @@ fn perform<T: AnswerText, R: CheckWorkers, F: Shelf, O: Sink>(
 /// writes the reporter's text on its answer to `out` where it is right, else a note to `notes`, and answers how that ended. The status, the
 /// note and what comes of failing reads and writes are those of the top call for `check FILE CERT`.
 ///
-/// Nothing is written to `out` but on Done, when it is the whole text, and on WriteFault, when it is a prefix of it.
+/// Nothing is written to `out` but on Done, when it is the whole text, and on WriteFault, when it is a proper prefix of it.
 pub fn report<T: AnswerText, R: CheckWorkers, F: Shelf, O: Sink, N: Sink>(
     reporter: &T,
     rt: &R,
@@ -105,7 +105,7 @@ pub fn report<T: AnswerText, R: CheckWorkers, F: Shelf, O: Sink, N: Sink>(
     out: &mut O,
     notes: &mut N,
 ) -> Status
-    // Other threads may be handed a reference to who works, which is so of every runtime and of `OneWorker`.
+    // Other threads may be handed a reference to who works, which is so of every runtime and of a worker that starts no thread.
     requires shared { R.shared rt.now }
 
     // What the shelf holds is unchanged, and no count falls.
@@ -126,7 +126,7 @@ pub fn report<T: AnswerText, R: CheckWorkers, F: Shelf, O: Sink, N: Sink>(
     ensures status { Tells (F.held files.old) (Some (check_of description.now certificate.now))
         → IsStatus (F.held files.old) (Some (check_of description.now certificate.now)) result }
 
-    // The text on the answer is written whole, or a prefix of it, or nothing.
+    // The text on the answer is written whole, or a proper prefix of it, or nothing.
     ensures written { IsReportWritten T.says (F.held files.old) description.now certificate.now (O.written out.old) (O.written out.new) result }
 
     // The note of the status is written, or a prefix of it where the sink fails.

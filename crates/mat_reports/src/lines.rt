@@ -28,5 +28,5 @@ fn called(alloc: Global, line: &str, certificate: &[u8]) -> Result<Called, Alloc
 /// What `check` says of the answer that `intersect` gives to a pair.
 pub(crate) fn judged_answer(alloc: Global) -> Result<Called, AllocError> {
     let solved = called(alloc, "intersect f", &[])?;
-    called(alloc, "check f c", solved.output.bytes())
+    called(alloc, "check f c", &solved.output)
 }

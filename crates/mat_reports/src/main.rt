@@ -84,8 +84,8 @@ fn print_judged(rt: &HostRuntime) -> io::Result<()> {
         rt,
         "an answer by a line is judged by a line",
         called.status,
-        called.output.bytes(),
-        called.note.bytes(),
+        &called.output,
+        &called.note,
     )
 }
 

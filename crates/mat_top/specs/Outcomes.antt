@@ -1,7 +1,7 @@
 -- What a call does, where the shelf tells the files that it needs.
 use Rattle.std.specs.Prelude.{◌≡◌, ◌≢◌, ℕ, ◌<◌, ◌≤◌, ◌⊎◌, true, false, List, [], ◌∷◌, ◌++◌, length, codes}
 use Rattle.std.specs.Prelude.{Option, Some, None, IsSome, IfSome, IsSomeAnd, All}
-use Rattle.mat_shelf.specs.Writing.{Appended, AppendedPrefix}
+use Rattle.mat_shelf.specs.Writing.{Appended, AppendedProperPrefix}
 use Rattle.mat_desc.specs.Faults.{Fault}
 use Rattle.mat_desc.specs.Instances.{Instance}
 use Rattle.mat_desc.specs.Notations.{NamedInstance}
@@ -10,8 +10,8 @@ use Rattle.mat_desc.specs.Limits.{description_limit}
 use Rattle.mat_cert.specs.Certificates.{Certificate}
 use Rattle.mat_cert.specs.Faults as certificate_faults
 use Rattle.mat_cert.specs.Limits.{certificate_limit}
+use Rattle.mat_right.specs.Right.{IsRight}
 use Rattle.mat_check.specs.Fitting.{fits, is_rooted}
-use Rattle.mat_check.specs.Right.{IsRight}
 use Rattle.mat_check.specs.declared.reason.Reason.{Reason}
 use Rattle.mat_witness.specs.Kinds.{is_witnessed_pair}
 use Rattle.mat_witness.specs.Lines.{witness_limit}
@@ -257,10 +257,10 @@ IsStatus held asked statuses.Memory = Unit {0}
 IsStatus held asked statuses.WriteFault = IsOutcome held asked statuses.Done
 IsStatus held asked status = IsOutcome held asked status
 
--- what was appended to the output: on Done the whole text, on a fault of writing a prefix of such a text, and else nothing
+-- what was appended to the output: on Done the whole text, on a fault of writing a proper prefix of such a text, and else nothing
 abbrev pub IsWritten : (List ℕ → Option (List ℕ)) → Option Task → Option (List ℕ) → Option (List ℕ) → Status → Type 0
 IsWritten held asked old new statuses.Done = (text : List ℕ) × IsOutput held asked text × Appended old text new
-IsWritten held asked old new statuses.WriteFault = (text : List ℕ) × IsOutput held asked text × AppendedPrefix old text new
+IsWritten held asked old new statuses.WriteFault = (text : List ℕ) × IsOutput held asked text × AppendedProperPrefix old text new
 IsWritten held asked old new status = new ≡ old
 
 -- the first clause that fails of the answer in the certificate, over the problem in the description, tells this reason and these two places

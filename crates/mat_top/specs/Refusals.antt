@@ -1,7 +1,7 @@
 -- How a call ends: why it writes nothing, or what it writes.
 use Rattle.std.specs.Prelude.{◌≡◌, ℕ, ◌≤◌, ◌⊎◌, true, List, length, Option, IfSome, Some, Result, Ok, Err}
 use Rattle.mat_shelf.specs.Faults.{Rose}
-use Rattle.mat_shelf.specs.Writing.{Appended, AppendedPrefix}
+use Rattle.mat_shelf.specs.Writing.{Appended, AppendedProperPrefix}
 use Rattle.mat_desc.specs.Instances.{Instance}
 use Rattle.mat_cert.specs.Limits.{certificate_limit}
 use Rattle.mat_command.specs.CommandLines.{Request, show, solve, cuts, check, witness, verify, Task}
@@ -84,7 +84,7 @@ IsRefusal held task before now (refusals.Denied denial) =
 -- how the writing of a text ended: with what is told and the count of faults before and after
 abbrev pub IsPut : List ℕ → Option (List ℕ) → ℕ → Option (List ℕ) → ℕ → Result (Unit {0}) Refusal → Type 0
 IsPut text old before new now (Ok done) = Appended old text new
-IsPut text old before new now (Err refusals.WriteFault) = AppendedPrefix old text new × Rose before now
+IsPut text old before new now (Err refusals.WriteFault) = AppendedProperPrefix old text new × Rose before now
 IsPut text old before new now (Err refusal) = ⊥
 
 -- how a command ended: with the counts of the shelf's faults, and what the output tells and its count of faults, before and after
@@ -93,5 +93,5 @@ abbrev pub IsEnded : (List ℕ → Option (List ℕ)) → Task → (List ℕ →
     → Result (Unit {0}) Refusal → Type 0
 IsEnded held task before now old out_before new out_now (Ok done) = (text : List ℕ) × MayBeWritten held task text × Appended old text new
 IsEnded held task before now old out_before new out_now (Err refusals.WriteFault) =
-    (text : List ℕ) × MayBeWritten held task text × AppendedPrefix old text new × Rose out_before out_now
+    (text : List ℕ) × MayBeWritten held task text × AppendedProperPrefix old text new × Rose out_before out_now
 IsEnded held task before now old out_before new out_now (Err refusal) = IsRefusal held task before now refusal × (new ≡ old)

@@ -87,7 +87,7 @@ fn perform<R: TopWorkers, F: Shelf, O: Sink>(
 /// Usage comes exactly where the words are no command, ReadFault only where the shelf's count of faults rose for a file of the call, and
 /// WriteFault only where the count of `out` rose. Where the shelf tells the files, each other status but Memory is the one of the
 /// table in docs/DEFINITIONS.md: TooLong, BadList, BadDescription, BadCertificate, WrongShape, BadCost, Unwitnessed, BadWitness, No or
-/// Done. Nothing is written to `out` but on Done, when it is the whole answer, and on WriteFault, when it is a prefix of it.
+/// Done. Nothing is written to `out` but on Done, when it is the whole answer, and on WriteFault, when it is a proper prefix of it.
 pub fn run<R: TopWorkers, F: Shelf, O: Sink, N: Sink>(
     rt: &R,
     alloc: Global,
@@ -96,7 +96,7 @@ pub fn run<R: TopWorkers, F: Shelf, O: Sink, N: Sink>(
     out: &mut O,
     notes: &mut N,
 ) -> Status
-    // Other threads may be handed a reference to who works, which is so of every runtime and of `OneWorker`.
+    // Other threads may be handed a reference to who works, which is so of every runtime and of a worker that starts no thread.
     requires shared { R.shared rt.now }
 
     // What the shelf holds is unchanged, and no count falls.
@@ -118,7 +118,7 @@ pub fn run<R: TopWorkers, F: Shelf, O: Sink, N: Sink>(
     ensures status { Tells (F.held files.old) (asked_by (map string_bytes words.now))
         → IsStatus (F.held files.old) (asked_by (map string_bytes words.now)) result }
 
-    // The answer is written whole, or a prefix of it, or nothing.
+    // The answer is written whole, or a proper prefix of it, or nothing.
     ensures written { IsWritten (F.held files.old) (asked_by (map string_bytes words.now)) (O.written out.old) (O.written out.new) result }
 
     // The note of the status is written, or a prefix of it where the sink fails.

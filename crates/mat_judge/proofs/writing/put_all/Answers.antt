@@ -1,7 +1,7 @@
 use Rattle.std.proofs.Common.{arith}
 use Rattle.std.proofs.lemmas.Grind.{common_steps}
 use Rattle.std.proofs.lemmas.List.{take_rest}
-use Rattle.mat_shelf.proofs.WritingLemmas.{Appended-take, AppendedPrefix-take}
+use Rattle.mat_shelf.proofs.WritingLemmas.{Appended-take, AppendedProperPrefix-take}
 use Rattle.mat_judge.proofs.writing.put_all.Goals as goal
 
 pub loop-at-preserved : goal.loop-at-preserved
@@ -15,5 +15,5 @@ loop-at-preserved g c = record {
 
 pub returns-in-Err-clause-err : goal.returns-in-Err-clause-err
 returns-in-Err-clause-err g c =
-    rw c.in-Err.ensures.unchanged (AppendedPrefix-take (g.O.Sink.written c.args.sink.now) (g.O.Sink.written c.loop-at.sink) c.args.text.now
-    c.loop-at.at c.loop-at.invariant.appended)
+    rw c.in-Err.ensures.unchanged (AppendedProperPrefix-take (g.O.Sink.written c.args.sink.now) (g.O.Sink.written c.loop-at.sink) c.args.text.now
+    c.loop-at.at c.loop-at-test.true c.loop-at.invariant.appended)

@@ -1,6 +1,6 @@
 use Rattle.std.proofs.Common.{ℕ, subst}
 use Rattle.std.specs.Global.{Vec}
-use Rattle.mat_shelf.specs.Writing.{AppendedPrefix}
+use Rattle.mat_shelf.specs.Writing.{AppendedProperPrefix}
 use Rattle.mat_judge.proofs.Pieces.{pieces_prefix}
 use Rattle.mat_judge.proofs.writing.put_texts.Goals as goal
 
@@ -11,4 +11,4 @@ returns-in-Err-clause-err g c =
     let new = g.O.Sink.written c.put_all.new.sink in
     pieces_prefix (λ (text : Vec ℕ). text.items) old between new c.args.texts.now c.loop-text.text-index c.text-item.result c.loop-text-test.true
     c.loop-text.invariant.appended
-    (subst (λ (text : Vec ℕ). AppendedPrefix between text.items new) c.text-item.is (rw c.deref.ensures.value at c.in-Err.ensures.err))
+    (subst (λ (text : Vec ℕ). AppendedProperPrefix between text.items new) c.text-item.is (rw c.deref.ensures.value at c.in-Err.ensures.err))
