@@ -14,7 +14,7 @@ trap 'exit 1' HUP INT TERM
 wrongs=0
 answer="an answer to intersect file"
 
-# Makes the stand-in: `rt doc`, and `rt ci`, to which each crate takes STAND_IN_SECONDS. A crate with the word WRONG is not proved, and
+# Makes the stand-in: `rt doc`, and `rt ci`, of all or of a crate that stands on none, to which each crate takes STAND_IN_SECONDS. A crate with the word WRONG is not proved, and
 # one with SLOW takes half a minute; the run of a program with FAILS goes wrong.
 make_stand_in() {
     mkdir -p "$work/kit/bin" "$work/rattle-kept"
@@ -23,7 +23,9 @@ make_stand_in() {
 kit=$(dirname "$(dirname "$(readlink -f "$0")")")
 kept=$kit/../rattle-kept
 [ "$1" = doc ] && echo "${STAND_IN_DOC:-$kit/START-HERE.md}" && exit
-[ "$*" = ci ] || exit 2
+{ [ "$1" = ci ] && [ "$#" -le 2 ]; } || exit 2
+echo "$*" >>"$kit/calls"
+rm -rf failed crates/*/out
 prove() {
     for below in $2; do
         [ -d "crates/$below" ] || continue
@@ -51,8 +53,11 @@ prove() {
     [ "$1" != mat_main ] || { printf '#!/bin/sh\necho "an answer to $*"\nexit 3\n' >crates/mat_main/out/mat_main && chmod 755 crates/mat_main/out/mat_main; }
     touch "crates/$1/out/proved"
 }
-while IFS=: read -r name uses; do prove "${name%% *}" "$uses" & done <crates.txt
+while IFS=: read -r name uses; do
+    [ "${2:-${name%% *}}" != "${name%% *}" ] || prove "${name%% *}" "$uses" &
+done <crates.txt
 wait
+[ "$#" = 1 ] || { [ ! -e failed ] && echo "1 passed, 0 failed" && exit 0; exit 1; }
 if grep -q FAILS crates/mat_main/src/lib.rt; then
     printf 'rt: mat_main: the program ended with status 1, and not 0\nrt: mat_main: its tests passed\nrt: FAILED: mat_main (run)\n5 passed, 1 failed\n'
     exit 1
@@ -64,7 +69,7 @@ END
 
 # Makes a checkout of the launcher and seven small crates, nothing of which is built or kept.
 make_checkout() {
-    rm -rf "$work/checkout" "$work/kit/proved" "$work/tmp" "$work/rattle-kept" "$work"/err* "$work"/out*
+    rm -rf "$work/checkout" "$work/kit/proved" "$work/kit/calls" "$work/tmp" "$work/rattle-kept" "$work"/err* "$work"/out*
     mkdir -p "$work/checkout/docs" "$work/tmp" "$work/rattle-kept"
     ln -sfn tmp "$work/link"
     cp "$top/matbench" "$work/checkout/"
@@ -144,6 +149,7 @@ try_first_build() {
     run intersect file
     tell "a first build: status and answer" "$status $(cat "$work/out")" "3 $answer"
     tell "its crates, without those that the program does not stand on" "$(proved)" "mat_laws mat_main mat_sets mat_top mat_words mat_work "
+    tell "the lowest crate is proved before the others" "$(tr '\n' ' ' <"$work/kit/calls")" "ci mat_sets ci "
     tell "it says how long that takes, by the longest chain of the table" "$(grep -c 'takes about 14 minutes' "$work/err")" 1
     tell "no terminal: plain lines, none of them written over" "$(grep -c "^matbench: [0-6] of 6 crates proved; 0 min so far, about" "$work/err" | sed 's/^[1-9][0-9]*$/some/') $(tr -dc '\r\033' <"$work/err" | wc -c)" "some 0"
     tell "left behind" "$(left_behind)" "0 processes, 0 folders"
@@ -179,6 +185,7 @@ try_lacking() {
     export STAND_IN_DOC
     run intersect file
     unset STAND_IN_DOC
+    tell "what cannot be kept is not proved before the others" "$(cat "$work/kit/calls")" "ci"
     tell "nothing can be kept" "$status $(grep 'begins anew' "$work/err")" "3 matbench: nothing can be kept in $work/nowhere/rattle-kept: a build that is broken off begins anew"
 }
 
