@@ -1,8 +1,8 @@
 #!/usr/bin/env python3
 """Runs the worst inputs at each limit: `worst.py [PROGRAM]`, at the top of the repository.
 
-Prints for each a line of a table: the command, how it ended, the seconds on the clock and the peak memory. The aims are ten seconds and a
-gigabyte. The program is crates/mat_main/out/mat_main where none is named.
+Prints for each a line of a table: the command, how it ended, the seconds on the clock and the peak memory. The aims are five seconds and
+200 MB. The program is crates/mat_main/out/mat_main where none is named.
 """
 import os
 import random
@@ -92,6 +92,8 @@ def solved():
     yield 'the union of two gammoids, against a partition', 'intersect', pair(union(2, gammoid), partition)
     yield 'the dual of a union of four graphs, against a graph', 'intersect', pair(lambda numbers: ['dual'] + union(4, graphic)(numbers), graphic)
     yield 'the union of 64 unions of 64 uniform matroids, against a partition', 'intersect', pair(union(64, union(64, uniform(1))), partition)
+    crowded = union(64, lambda numbers: ['partition 1', line('class', 1, *range(300))])
+    yield 'the union of 64 partitions with a class of 300 in common, against a free matroid', 'intersect', pair(crowded, uniform(N))
     yield 'two free matroids, 501 rungs of weights of 13 digits', 'intersect', pair(uniform(N), uniform(N))
     yield '64 gammoids of 500 arcs', 'union', listed([lambda numbers: ['gammoid 500 500', line('sources', *range(250)), line('targets', *range(500))]
                                                    + [line('arc', numbers.randrange(N), numbers.randrange(N)) for _ in range(500)]] * 64)
