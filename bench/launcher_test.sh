@@ -1,6 +1,7 @@
 #!/bin/sh
 # Tries the launcher on a small checkout, with a stand-in for rt that sleeps, writes the lines that the launcher reads and makes a
-# program. Nothing is proved, and nothing outside a temporary folder is written. Needs Linux with setsid, flock, script and timeout.
+# program. Nothing is proved, and nothing outside a temporary folder is written. Needs Linux with setsid, flock, script and timeout, and to be
+# started with Ctrl-C not ignored, as it is behind an & of a script: a shell cannot trap what was ignored when it began.
 #
 #     bench/launcher_test.sh [SHELL..]
 #
