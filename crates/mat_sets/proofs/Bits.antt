@@ -1,17 +1,17 @@
 -- Words of 64 bits seen as sets: a number is a member exactly where its bit is set, so each change of a word is proved
 -- bit by bit, and two lists of words with the same bits are one set.
-use Rattle.std.proofs.Common.{List, [], ap, arith, bit_and, bit_or, cond, eqb, false, get_or, inl, inr, length, ltb, max, not, refl, replicate, set, subst, suc, sym, w64, zero, ℕ, ◌+◌, ◌&&◌, ◌++◌, ◌-◌, ◌*◌, ◌/◌, ◌%◌, ◌^◌, ◌<◌, ◌||◌, ◌∙◌, ◌∷◌, ◌≡◌, ◌≤◌}
+use Rattle.std.proofs.Common.{List, [], ap, arith, bit_and, bit_or, cond, eqb, false, get_or, inl, inr, length, ltb, max, min, not, refl, replicate, set, subst, suc, sym, w64, zero, ℕ, ◌+◌, ◌&&◌, ◌++◌, ◌-◌, ◌*◌, ◌/◌, ◌%◌, ◌^◌, ◌<◌, ◌||◌, ◌∙◌, ◌∷◌, ◌≡◌, ◌≤◌}
 use Rattle.std.specs.Int.{bit_at, bit_not}
 use Rattle.std.specs.Int.Bits.{or_zero_r}
 use Rattle.std.proofs.lemmas.Bool.{and_right, cases_eq, cases_lt, cond-false, cond-true, eq-eqb, le-ltb, lt-ltb, ne_eqb}
 use Rattle.std.proofs.lemmas.List.{get_or-append_right, get_or_append_left, get_or-replicate, get_or-set_other, get_or-set_same, get_or_past, get_or_read, length-replicate}
-use Rattle.std.proofs.lemmas.Nat.Bits.{bit_at-lt, bit_at-zero, bit_at_or, bit_at_clear_other, bit_at_clear_same, bit_at_ones, bit_at_ones_above, bit_at_set_other, bit_at_set_same, shr_and_one}
+use Rattle.std.proofs.lemmas.Nat.Bits.{bit_at-lt, bit_at-zero, bit_at_and, bit_at_not, bit_at_or, bit_at_clear_other, bit_at_clear_same, bit_at_ones, bit_at_ones_above, bit_at_set_other, bit_at_set_same, shr_and_one}
 use Rattle.mat_sets.specs.Bits.{bits_of, has_bit}
 use Rattle.mat_sets.specs.Sets.{IsRising, all_below, is_member, with_one, without_one}
 use Rattle.mat_sets.proofs.Ground.{IsRising-all_below, is_member-all_below}
 use Rattle.mat_sets.proofs.Members.{IsRising-nil, IsRising-with_one, IsRising-without_one, is_member-with_one, is_member-without_one, same_members, without_one-missing}
 use Rattle.mat_sets.proofs.Search.{IsSet-those_below, is_member-those_below}
-use Rattle.mat_sets.proofs.Truths.{and_all}
+use Rattle.mat_sets.proofs.Truths.{and_all, ltb-other}
 
 -- ---- the members
 
@@ -187,6 +187,28 @@ none_past words from past x l = is_member-bits_of x words ∙ has_bit_past words
 pub bits_of-cut_past : (words : List ℕ) (x : ℕ) → length words ≤ x / 64 → bits_of words ≡ without_one (bits_of words) x
 bits_of-cut_past words x h = sym (without_one-missing (bits_of words) x (IsRising-bits_of words) (is_member-bits_of x words ∙ has_bit_past words x h))
 
+-- ---- the words before a place are changed by others
+
+-- the words before a place are changed by the others, and the rest are as they were
+abbrev pub AreChanged : (ℕ → ℕ → ℕ) → List ℕ → List ℕ → ℕ → List ℕ → Type 0
+AreChanged change old others at words =
+    (i : ℕ) → get_or words i 0 ≡ cond (ltb i at) (change (get_or old i 0) (get_or others i 0)) (get_or old i 0)
+
+pub changed_none : (change : ℕ → ℕ → ℕ) (old others : List ℕ) → AreChanged change old others 0 old
+changed_none change old others i = sym (cond-false (ltb i 0) _ _ (le-ltb i 0 (omega arith)))
+
+pub changed_next : (change : ℕ → ℕ → ℕ) (old others words : List ℕ) (at : ℕ) → at < length words → AreChanged change old others at words
+    → AreChanged change old others (at + 1) (set words at (change (get_or words at 0) (get_or others at 0)))
+changed_next change old others words at l h i = elim (cases_eq i at) [
+  | inl s ↦ (let word = change (get_or words at 0) (get_or others at 0) in
+      let here = h at ∙ cond-false (ltb at at) _ _ (le-ltb at at (omega arith)) in
+      subst (λ k. get_or (set words at word) k 0 ≡ cond (ltb k (at + 1)) (change (get_or old k 0) (get_or others k 0)) (get_or old k 0)) (sym s)
+      (get_or-set_same words at word 0 l ∙ ap (λ w. change w (get_or others at 0)) here
+      ∙ sym (cond-true (ltb at (at + 1)) _ _ (lt-ltb at (at + 1) (omega arith)))))
+  | inr d ↦ get_or-set_other words at i _ 0 d ∙ h i
+      ∙ ap (λ b. cond b (change (get_or old i 0) (get_or others i 0)) (get_or old i 0)) (ltb-other i at d)
+]
+
 -- ---- all bits of other words
 
 either_bit : (a b : ℕ) → a < 2 → b < 2 → eqb (max a b) 1 ≡ (eqb a 1 || eqb b 1)
@@ -200,29 +222,7 @@ either_bit (suc (suc a)) b h k = absurd (omega arith)
 
 -- the words before a place have the bits of the others too
 abbrev pub AreUnited : List ℕ → List ℕ → ℕ → List ℕ → Type 0
-AreUnited old others at words =
-    (i : ℕ) → get_or words i 0 ≡ cond (ltb i at) (bit_or (get_or old i 0) (get_or others i 0)) (get_or old i 0)
-
-pub united_none : (old others : List ℕ) → AreUnited old others 0 old
-united_none old others i = sym (cond-false (ltb i 0) _ _ (le-ltb i 0 (omega arith)))
-
-pub united_next : (old others words : List ℕ) (at : ℕ) → at < length words → AreUnited old others at words
-    → AreUnited old others (at + 1) (set words at (bit_or (get_or words at 0) (get_or others at 0)))
-united_next old others words at l h i = elim (cases_eq i at) [
-  | inl s ↦ (let word = bit_or (get_or words at 0) (get_or others at 0) in
-      let here = h at ∙ cond-false (ltb at at) _ _ (le-ltb at at (omega arith)) in
-      subst (λ k. get_or (set words at word) k 0 ≡ cond (ltb k (at + 1)) (bit_or (get_or old k 0) (get_or others k 0)) (get_or old k 0)) (sym s)
-      (get_or-set_same words at word 0 l ∙ ap (λ w. bit_or w (get_or others at 0)) here
-      ∙ sym (cond-true (ltb at (at + 1)) _ _ (lt-ltb at (at + 1) (omega arith)))))
-  | inr d ↦ get_or-set_other words at i _ 0 d ∙ h i
-      ∙ ap (λ b. cond b (bit_or (get_or old i 0) (get_or others i 0)) (get_or old i 0)) (same d)
-]
-  where
-    same : (i ≡ at → ⊥) → ltb i at ≡ ltb i (at + 1)
-    same d = elim (cases_lt i at) [
-      | inl b ↦ lt-ltb i at b ∙ sym (lt-ltb i (at + 1) (omega arith))
-      | inr c ↦ le-ltb i at c ∙ sym (le-ltb i (at + 1) (omega arith))
-    ]
+AreUnited = AreChanged bit_or
 
 pub united_all : (old others words : List ℕ) (at : ℕ) → length others ≤ at → AreUnited old others at words
     → (x : ℕ) → is_member x (bits_of words) ≡ (is_member x (bits_of old) || is_member x (bits_of others))
@@ -239,4 +239,51 @@ united_all old others words at past h x =
       | inl l ↦ h i ∙ cond-true (ltb i at) _ _ (lt-ltb i at l)
       | inr g ↦ h i ∙ cond-false (ltb i at) _ _ (le-ltb i at g)
           ∙ sym (ap (bit_or (get_or old i 0)) (get_or_past others i 0 (omega arith)) ∙ or_zero_r (get_or old i 0))
+    ]
+
+-- ---- no bits of other words
+
+-- a word without the bits of another
+abbrev pub without_bits : ℕ → ℕ → ℕ
+without_bits word other = bit_and word (bit_not w64 other)
+
+-- the words before a place have none of the bits of the others
+abbrev pub AreCleared : List ℕ → List ℕ → ℕ → List ℕ → Type 0
+AreCleared = AreChanged without_bits
+
+left_bit : (a b : ℕ) → a < 2 → b < 2 → eqb (min a (1 - b)) 1 ≡ (eqb a 1 && not (eqb b 1))
+left_bit zero zero h k = refl
+left_bit zero (suc zero) h k = refl
+left_bit (suc zero) zero h k = refl
+left_bit (suc zero) (suc zero) h k = refl
+left_bit zero (suc (suc b)) h k = absurd (omega arith)
+left_bit (suc zero) (suc (suc b)) h k = absurd (omega arith)
+left_bit (suc (suc a)) b h k = absurd (omega arith)
+
+-- a bit is left where the other word has none
+bit_left : (a b i : ℕ) → b < 2 ^ 64 → i < 64 → eqb (bit_at (without_bits a b) i) 1 ≡ (eqb (bit_at a i) 1 && not (eqb (bit_at b i) 1))
+bit_left a b i small within = ap (λ k. eqb k 1) (bit_at_and a (bit_not w64 b) i ∙ ap (min (bit_at a i)) (bit_at_not w64 b i small within))
+    ∙ left_bit (bit_at a i) (bit_at b i) (bit_at-lt a i) (bit_at-lt b i)
+
+-- past the place there is no old word, or none of the others
+pub cleared_all : (old others words : List ℕ) (at : ℕ) → min (length old) (length others) ≤ at → ((i : ℕ) → get_or others i 0 < 2 ^ 64)
+    → AreCleared old others at words → (x : ℕ) → is_member x (bits_of words) ≡ (is_member x (bits_of old) && not (is_member x (bits_of others)))
+cleared_all old others words at past small h x =
+    is_member-bits_of x words ∙ has_bit_is words x ∙ each (x / 64) (x % 64) (omega arith)
+    ∙ ap (λ b. b && not (eqb (bit_at (get_or others (x / 64) 0) (x % 64)) 1)) (sym (is_member-bits_of x old ∙ has_bit_is old x))
+    ∙ ap (λ b. is_member x (bits_of old) && not b) (sym (is_member-bits_of x others ∙ has_bit_is others x))
+  where
+    none : (list : List ℕ) (i k : ℕ) → length list ≤ i → eqb (bit_at (get_or list i 0) k) 1 ≡ false
+    none list i k g = ap (λ w. eqb (bit_at w k) 1) (get_or_past list i 0 g) ∙ ap (λ b. eqb b 1) (bit_at-zero k)
+
+    each : (i k : ℕ) → k < 64
+        → eqb (bit_at (get_or words i 0) k) 1 ≡ (eqb (bit_at (get_or old i 0) k) 1 && not (eqb (bit_at (get_or others i 0) k) 1))
+    each i k within = elim (cases_lt i at) [
+      | inl l ↦ ap (λ w. eqb (bit_at w k) 1) (h i ∙ cond-true (ltb i at) _ _ (lt-ltb i at l))
+          ∙ bit_left (get_or old i 0) (get_or others i 0) k (small i) within
+      | inr g ↦ ap (λ w. eqb (bit_at w k) 1) (h i ∙ cond-false (ltb i at) _ _ (le-ltb i at g)) ∙ elim (cases_lt i (length old)) [
+        | inl l ↦ sym (ap (λ b. eqb (bit_at (get_or old i 0) k) 1 && not b) (none others i k (omega arith))
+            ∙ and_all (eqb (bit_at (get_or old i 0) k) 1))
+        | inr m ↦ none old i k m ∙ sym (ap (λ b. b && not (eqb (bit_at (get_or others i 0) k) 1)) (none old i k m))
+      ]
     ]

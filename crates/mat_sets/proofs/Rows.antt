@@ -1,12 +1,14 @@
--- Numbers are put into the rows at several places of a list, one place after the other: the rows at the first places have them.
-use Rattle.std.proofs.Common.{◌≡◌, ℕ, ◌+◌, ◌<◌, Bool, true, false, ◌&&◌, ◌||◌, eqb, List, [], length, get_or, set, take}
+-- Numbers are put into the rows at several places of a list, or taken out of each row, one place after the other: it is done to the rows
+-- at the first places.
+use Rattle.std.proofs.Common.{◌≡◌, ℕ, ◌+◌, ◌<◌, ◌≤◌, Bool, true, false, not, ◌&&◌, ◌||◌, eqb, ltb, List, [], length, get_or, set, take}
 use Rattle.std.proofs.Common.{inl, inr, sym, ap, ◌∙◌, arith, get_or-set_other, get_or-set_same, length-set}
-use Rattle.std.proofs.lemmas.Bool.{cases_eq, eq-eqb, ne_eqb}
-use Rattle.mat_sets.specs.Rows.{row_at, IsEntered}
+use Rattle.std.proofs.lemmas.Bool.{cases_eq, cases_lt, eq-eqb, le-ltb, lt-ltb, ne_eqb}
+use Rattle.std.proofs.lemmas.List.{get_or_past}
+use Rattle.mat_sets.specs.Rows.{row_at, AreRemoved, IsEntered}
 use Rattle.mat_sets.specs.Sets.{is_member, with_one}
 use Rattle.mat_sets.proofs.Members.{is_member-with_one}
 use Rattle.mat_sets.proofs.Steps.{is_member-take_more}
-use Rattle.mat_sets.proofs.Truths.{or_commute}
+use Rattle.mat_sets.proofs.Truths.{and_all, ltb-other, or_commute}
 
 put_here : (old now own before more row : Bool) → now ≡ (old || (own && before)) → row ≡ (now || own) → more ≡ (before || true)
     → row ≡ (old || (own && more))
@@ -63,3 +65,39 @@ is_member-inserted rows i k u v within = elim (cases_eq u i) [
 
     elsewhere : (u v : ℕ) (old : Bool) → (u ≡ i → ⊥) → old ≡ (old || (eqb i u && eqb k v))
     elsewhere u v old differ = grind arith
+
+-- the numbers are taken out of the rows before a place
+abbrev pub AreRemovedBelow : ℕ → List ℕ → List (List ℕ) → List (List ℕ) → Type 0
+AreRemovedBelow at gone rows rows' =
+    (i x : ℕ) → is_member x (row_at rows' i) ≡ (is_member x (row_at rows i) && not (ltb i at && is_member x gone))
+
+left_out : (old now gone more : Bool) → now ≡ (old && not (false && gone)) → more ≡ (now && not gone) → more ≡ (old && not (true && gone))
+left_out old now gone more e f = grind arith
+
+pub removed_none : (gone : List ℕ) (rows : List (List ℕ)) → AreRemovedBelow 0 gone rows rows
+removed_none gone rows i x = sym (ap (λ b. is_member x (row_at rows i) && not (b && is_member x gone)) (le-ltb i 0 (omega arith))
+    ∙ and_all (is_member x (row_at rows i)))
+
+pub removed_next : (gone : List ℕ) (rows rows' : List (List ℕ)) (at : ℕ) (row : List ℕ) → at < length rows'
+    → ((x : ℕ) → is_member x row ≡ (is_member x (row_at rows' at) && not (is_member x gone))) → AreRemovedBelow at gone rows rows'
+    → AreRemovedBelow (at + 1) gone rows (set rows' at row)
+removed_next gone rows rows' at row l out h i x = elim (cases_eq i at) [
+  | inl s ↦ ap (λ k. is_member x (row_at (set rows' at row) k)) s ∙ ap (is_member x) (get_or-set_same rows' at row [] l)
+      ∙ left_out (is_member x (row_at rows at)) (is_member x (row_at rows' at)) (is_member x gone) (is_member x row)
+      (h at x ∙ ap (λ b. is_member x (row_at rows at) && not (b && is_member x gone)) (le-ltb at at (omega arith))) (out x)
+      ∙ ap (λ b. is_member x (row_at rows at) && not (b && is_member x gone)) (sym (lt-ltb at (at + 1) (omega arith)))
+      ∙ ap (λ k. is_member x (row_at rows k) && not (ltb k (at + 1) && is_member x gone)) (sym s)
+  | inr d ↦ ap (is_member x) (get_or-set_other rows' at i row [] d) ∙ h i x
+      ∙ ap (λ b. is_member x (row_at rows i) && not (b && is_member x gone)) (ltb-other i at d)
+]
+
+pub removed_all : (gone : List ℕ) (rows rows' : List (List ℕ)) (at : ℕ) → length rows' ≡ length rows → length rows ≤ at
+    → AreRemovedBelow at gone rows rows' → AreRemoved gone rows rows'
+removed_all gone rows rows' at long past h = record {
+  count = long;
+  members = λ i x. elim (cases_lt i at) [
+    | inl l ↦ h i x ∙ ap (λ b. is_member x (row_at rows i) && not (b && is_member x gone)) (lt-ltb i at l)
+    | inr g ↦ let none = get_or_past rows i [] (omega arith) in
+        ap (is_member x) (get_or_past rows' i [] (omega arith)) ∙ sym (ap (λ r. is_member x r && not (is_member x gone)) none)
+  ];
+}

@@ -1,5 +1,5 @@
--- Equations between tests: what holds of `and`, `or` and the equality of numbers for every value.
-use Rattle.std.proofs.Common.{◌≡◌, ℕ, Bool, true, false, not, ◌&&◌, ◌||◌, eqb, refl, sym, ap}
+-- Equations between tests: what holds of `and`, `or` and the equality and order of numbers for every value.
+use Rattle.std.proofs.Common.{◌≡◌, ℕ, ◌+◌, Bool, true, false, not, ◌&&◌, ◌||◌, eqb, ltb, arith, refl, sym, ap}
 use Rattle.std.proofs.lemmas.Bool.{and_right, eq-eqb, eqb-true, false≢true}
 
 pub or_none : (a : Bool) → (a || false) ≡ a
@@ -48,3 +48,7 @@ same_truth false false there back = refl
 
 pub eqb-turned : (x y : ℕ) → eqb x y ≡ eqb y x
 eqb-turned x y = same_truth (eqb x y) (eqb y x) (λ h. eq-eqb y x (sym (eqb-true x y h))) (λ h. eq-eqb x y (sym (eqb-true y x h)))
+
+-- any other number is before a place where it is before the next
+pub ltb-other : (i at : ℕ) → (i ≡ at → ⊥) → ltb i at ≡ ltb i (at + 1)
+ltb-other i at d = grind arith

@@ -1,5 +1,5 @@
 -- Rows of sets: a set of numbers at each place of a list.
-use Rattle.std.specs.Prelude.{◌≡◌, ℕ, ◌<◌, ◌&&◌, ◌||◌, ◌==◌, List, [], length, slice_index_or}
+use Rattle.std.specs.Prelude.{◌≡◌, ℕ, ◌<◌, not, ◌&&◌, ◌||◌, ◌==◌, List, [], length, slice_index_or}
 use Rattle.mat_sets.specs.Sets.{is_member}
 
 -- the row at a place, or none
@@ -11,3 +11,8 @@ pub record IsEntered (k : ℕ) (places : List ℕ) (before after : List (List �
   pub count : length after ≡ length before
   pub members : (j i : ℕ) → i < length before
       → is_member j (row_at after i) ≡ (is_member j (row_at before i) || (j == k && is_member i places))
+
+-- these numbers are taken out of each row
+pub record AreRemoved (gone : List ℕ) (rows rows' : List (List ℕ)) : Type 0 where
+  pub count : length rows' ≡ length rows
+  pub members : (i x : ℕ) → is_member x (row_at rows' i) ≡ (is_member x (row_at rows i) && not (is_member x gone))

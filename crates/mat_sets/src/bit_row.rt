@@ -1,7 +1,8 @@
 //! A set of numbers below 512, kept as bits in place.
-ghost use Rattle.std.specs.Prelude.{◌≡◌, ◌<◌, ◌≤◌, [], length};
+ghost use Rattle.std.specs.Prelude.{◌≡◌, ℕ, ◌<◌, ◌≤◌, not, ◌&&◌, [], length};
 ghost use Rattle.mat_sets.specs.{Bits.{bits_of}, Sets.{is_member, with_one}};
 
+use crate::bit_set::{BitSet, clear_all};
 use std::marker::Model;
 
 /// A set of numbers below 512, one bit for each. Its words lie in the value itself, so that a list of such sets takes memory once.
@@ -41,6 +42,13 @@ impl BitRow {
         ensures { self.new ≡ with_one self.old x }
     {
         self.words[(x / 64) as usize] |= 1 << (x % 64);
+    }
+
+    /// Takes the members of another set out.
+    pub(crate) fn remove_all(&mut self, gone: &BitSet)
+        ensures { (x : ℕ) → is_member x self.new ≡ (is_member x self.old && not (is_member x gone.now)) }
+    {
+        clear_all(&mut self.words, gone.as_words());
     }
 
     /// The words, of which each has the bits of 64 numbers.

@@ -1,5 +1,5 @@
 //! A set of numbers kept as bits, seen as a strictly rising list.
-ghost use Rattle.std.specs.Prelude.{◌≡◌, ℕ, ◌+◌, ◌&&◌, ◌||◌, ◌≤◌, ◌^◌, List, [], length, max, IfOk, OnOk, OnErr};
+ghost use Rattle.std.specs.Prelude.{◌≡◌, ℕ, ◌+◌, not, ◌&&◌, ◌||◌, ◌≤◌, ◌^◌, List, [], length, max, IfOk, OnOk, OnErr};
 ghost use Rattle.mat_sets.specs.{
   Bits.{AreMembersBelow, IsWordOf, bits_of},
   Search.{IsNextFrom},
@@ -186,6 +186,16 @@ fn set_all(words: &mut [u64], others: &[u64])
 {
     for at in 0..others.len() {
         words[at] |= others[at];
+    }
+}
+
+/// Clears in the words all bits of the others.
+pub(crate) fn clear_all(words: &mut [u64], others: &[u64])
+    ensures length { length words.new ≡ length words.old }
+    ensures bits { (x : ℕ) → is_member x (bits_of words.new) ≡ (is_member x (bits_of words.old) && not (is_member x (bits_of others.now))) }
+{
+    for at in 0..words.len().min(others.len()) {
+        words[at] &= !others[at];
     }
 }
 

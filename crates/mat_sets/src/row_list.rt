@@ -1,8 +1,9 @@
 //! A list of rows: a set of numbers below 512 at each place of a list.
 ghost use Rattle.std.specs.Prelude.{◌≡◌, ◌<◌, [], length, replicate, slice_set, IfOk};
-ghost use Rattle.mat_sets.specs.{Rows.{row_at, IsEntered}, Sets.{with_one, AllBelow}};
+ghost use Rattle.mat_sets.specs.{Rows.{row_at, AreRemoved, IsEntered}, Sets.{with_one, AllBelow}};
 
 use crate::bit_row::BitRow;
+use crate::bit_set::BitSet;
 use std::alloc::{AllocError, Global};
 use std::marker::Model;
 
@@ -64,6 +65,15 @@ impl RowList {
     {
         for i in places {
             self.insert(*i, k);
+        }
+    }
+
+    /// Takes the members of a set out of each row. It takes no memory.
+    pub fn remove_from_each(&mut self, gone: &BitSet)
+        ensures { AreRemoved gone.now self.old self.new }
+    {
+        for at in 0..self.rows.len() {
+            self.rows[at].remove_all(gone);
         }
     }
 

@@ -1,10 +1,10 @@
-use Rattle.std.proofs.Common.{arith, refl, ◌∙◌}
+use Rattle.std.proofs.Common.{arith, bit_or, refl, ◌∙◌}
 use Rattle.std.proofs.lemmas.List.{length-set}
-use Rattle.mat_sets.proofs.Bits.{united_none, united_next, united_all}
+use Rattle.mat_sets.proofs.Bits.{changed_none, changed_next, united_all}
 use Rattle.mat_sets.proofs.bit_set.set_all.Goals as goal
 
 pub loop-at-init : goal.loop-at-init
-loop-at-init c = record { length = refl; words = united_none c.args.words.now c.args.others.now }
+loop-at-init c = record { length = refl; words = changed_none bit_or c.args.words.now c.args.others.now }
 
 pub loop-at-preserved : goal.loop-at-preserved
 loop-at-preserved c =
@@ -12,7 +12,7 @@ loop-at-preserved c =
     let long = now.length in
     record {
       length = length-set c.loop-at.words c.loop-at.at _ ∙ long;
-      words = united_next c.args.words.now c.args.others.now c.loop-at.words c.loop-at.at (omega arith) now.words;
+      words = changed_next bit_or c.args.words.now c.args.others.now c.loop-at.words c.loop-at.at (omega arith) now.words;
     }
 
 pub returns : goal.returns
