@@ -16,3 +16,4 @@ pub mod GreedyRunSets
 pub mod GreedyRunTraces
 pub mod ColumnSteps
 pub mod TightArcs
+pub mod KeptCircuits
