@@ -26,7 +26,7 @@ use mat_union::{
 use std::alloc::{AllocError, Global};
 
 /// The greedy run along an order in which no element stands twice. A dual, a truncation, a restriction or a contraction is one
-/// run of the matroid within it; a union searches for moves once for each element. The only error is want of memory.
+/// run of the matroid within it; a union searches for moves at most once for each element. The only error is want of memory.
 #[cycle(running)]
 pub(crate) fn run(alloc: Global, matroid: &AnyMatroid, order: &[u32]) -> Result<ElemSet, AllocError>
     requires sound { IsSound (tree_of matroid.now) }
@@ -298,7 +298,7 @@ fn keep_each(
 }
 
 /// What is kept of an independent set. A truncation or a restriction keeps what the matroid within it keeps; the dual of a dual what the
-/// matroid within both keeps, and another dual makes one run of its matroid, and asks it for the exchanges of each element outside; a
+/// matroid within both keeps, and another dual makes one run of its matroid, and asks it for the columns at the base that the run gives; a
 /// contraction makes one run; a union makes parts of the set. The only error is want of memory.
 #[cycle(running)]
 pub(crate) fn keep(

@@ -3,7 +3,7 @@
 use Rattle.std.proofs.Common.{◌≡◌, ℕ, ◌<◌, ◌≢◌, max, true, false, ◌||◌, eqb, List, [], ◌∷◌, ◌++◌, length, get_or, Option, ◌⊎◌, inl, inr, refl, sym, ap, ◌∙◌, subst, arith, append_assoc}
 use Rattle.std.proofs.lemmas.Bool.{cases_lt, eqb-true, or_cases, or_parts, false≢true, false_from_ne_true, or_from}
 use Rattle.std.proofs.lemmas.Bool.Decides.{nat_tests}
-use Rattle.mat_sets.specs.Sets.{is_member, AreDistinct, IsSubset, with_one}
+use Rattle.mat_sets.specs.Sets.{is_member, AreDistinct, with_one}
 use Rattle.mat_sets.specs.Graphs.{Joins, Walk}
 use Rattle.mat_sets.proofs.Members.{is_member-append, is_member-with_one}
 use Rattle.mat_sets.proofs.Truths.{eqb-turned, or_swap}

@@ -57,11 +57,11 @@ module _ {n : ℕ} {p : List ℕ → Bool} (laws : IsMatroid n p) where
       let g = grow_to_size laws D J d j (omega (arith, length-exchange_one C x y r y_in x_out, length-subset C J r rj held)) in
       let S = g.0 in
       let y_out : is_member y S ≡ false = false_from_ne_true _ (λ m.
-          let whole : IsSubset (with_one C x) S = record { inside = λ k h. circuit_closed k x y C S h m (g.1.holds.inside k) } in
-          both_ways _ full (laws.subsets _ S (IsRising-with_one C x r) whole g.1.passes)) in
+      let whole : IsSubset (with_one C x) S = record { inside = λ k h. circuit_closed k x y C S h m (g.1.holds.inside k) } in
+      both_ways _ full (laws.subsets _ S (IsRising-with_one C x r) whole g.1.passes)) in
       let sub : IsSubset S target = record { inside = λ k m. grown_in_target k x y C J S m y_out (g.1.inside k m) (held.inside k) } in
       let same : S ≡ target = same_size_subset S target (rising laws S g.1.passes) (IsRising-exchange J x y rj) sub
-          (omega (arith, length-exchange_one J x y rj y_in_J out, g.1.size)) in
+      (omega (arith, length-exchange_one J x y rj y_in_J out, g.1.size)) in
       ap p (sym same) ∙ g.1.passes
 
   -- the exchanges of x at I, where x cannot be added, are those at each independent J that holds the members of I that x can be exchanged for
@@ -69,7 +69,7 @@ module _ {n : ℕ} {p : List ℕ → Bool} (laws : IsMatroid n p) where
       → p (with_one I x) ≡ false → IsSubset (row_of p I x).with J → row_of p J x ≡ row_of p I x
   row_kept I J x i j out_I out_J none held =
       row_outside p I x (row_of p J x) out_I (row-addable p J x _ out_J refl ∙ full_in_larger laws C J x rc in_J full ∙ sym none)
-        (row-with p J x _ out_J refl ∙ subsets_equal _ _ (rises J j) (rises I i) (record { inside = first }) (record { inside = second }))
+      (row-with p J x _ out_J refl ∙ subsets_equal _ _ (rises J j) (rises I i) (record { inside = first }) (record { inside = second }))
     where
       C : List ℕ
       C = replaceable_by p I x

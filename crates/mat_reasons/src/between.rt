@@ -1,4 +1,4 @@
-//! Edges between classes of vertices, and arcs into a set of them.
+//! Edges between classes of vertices, and arcs into a set of vertices.
 
 ghost use Rattle.std.specs.Prelude.{◌≡◌, ◌<◌, ◌^◌, not, length, IfOk};
 ghost use Rattle.mat_sets.specs.{Graphs.{ends_of, enters}, Search.{those_below}};

@@ -51,7 +51,8 @@ fn groups_by(alloc: Global, least: &[u32]) -> Result<Vec<ElemSet>, AllocError>
     Ok(groups)
 }
 
-/// The groups of vertices that the edges join whose colour is none of these, by their least vertices. The only error is want of memory.
+/// The groups of vertices that are joined by edges of other colours than these, in the order of their least vertices. The only error is want
+/// of memory.
 pub fn left_groups(
     alloc: Global,
     graph: &Graphic,
