@@ -2,14 +2,15 @@
 //! its own type where it is made of no others, and by those of a matroid of any kind. `kinds.py` finds what is printed by trying all sets.
 
 ghost use Rattle.std.specs.Prelude.{◌≡◌, All};
-ghost use Rattle.mat_desc.specs.{Soundness.{IsSoundInstance}, Views.{instance_of}};
+ghost use Rattle.mat_problem.specs.{Soundness.{IsSoundInstance}, Views.{instance_of}};
 ghost use Rattle.mat_any.specs.{Trees.{element_count, IsSound}, Views.{tree_of}};
 
 use crate::DESCRIPTION_LIMIT;
 use crate::known::told;
 use mat_any::AnyMatroid;
-use mat_desc::{Problem, read_problem};
+use mat_desc::read_problem;
 use mat_laws::Matroid;
+use mat_problem::Problem;
 use std::alloc::{AllocError, Global};
 
 // What is told of a matroid of four elements.

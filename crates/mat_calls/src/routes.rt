@@ -1,17 +1,18 @@
 //! Disjoint paths in graphs of some hundred vertices, which descriptions give as gammoids.
 
 ghost use Rattle.std.specs.Prelude.{IfOk, IfSome};
-ghost use Rattle.mat_desc.specs.{Soundness.{IsSoundInstance}, Views.{instance_of}};
+ghost use Rattle.mat_problem.specs.{Soundness.{IsSoundInstance}, Views.{instance_of}};
 ghost use Rattle.mat_sets.specs.Sets.{AllBelow};
 ghost use Rattle.mat_linked.specs.Gammoids.{IsGammoid};
 ghost use Rattle.mat_any.specs.{Trees.{IsSound}, Views.{tree_of}};
 
 use crate::DESCRIPTION_LIMIT;
 use mat_any::AnyMatroid;
-use mat_desc::{Problem, read_problem};
+use mat_desc::read_problem;
 use mat_flow::linked;
 use mat_laws::{Matroid, rank_of};
 use mat_linked::Gammoid;
+use mat_problem::Problem;
 use mat_sets::ElemSet;
 use std::alloc::{AllocError, Global};
 

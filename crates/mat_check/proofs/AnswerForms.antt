@@ -3,9 +3,9 @@ use Rattle.std.proofs.Common.{◌≡◌, ◌↔◌, ℕ, true, List, [], ◌∷�
 use Rattle.std.proofs.lemmas.Bool.{eqb-true, false≢true}
 use Rattle.mat_sets.specs.declared.weight.Weight.{Weight}
 use Rattle.mat_any.specs.Trees.{Tree}
-use Rattle.mat_desc.specs.Grammar.{IsValid}
-use Rattle.mat_desc.specs.Instances.{Instance, pair, list, graph, rooted, coloured, table}
-use Rattle.mat_desc.specs.Soundness.{IsSoundInstance}
+use Rattle.mat_problem.specs.Validity.{IsValid}
+use Rattle.mat_problem.specs.Instances.{Instance, pair, list, graph, rooted, coloured, table}
+use Rattle.mat_problem.specs.Soundness.{IsSoundInstance}
 use Rattle.mat_cert.specs.Certificates.{Certificate, IsRanged, intersect, best, union_of, pack_any, pack, cover_never, cover, trees, trees_none}
 use Rattle.mat_cert.specs.Certificates.{arbor, unreached, disjoint, disjoint_none, rainbow, assign}
 use Rattle.mat_cert.specs.declared.answer.LevelLine.{LevelLine}

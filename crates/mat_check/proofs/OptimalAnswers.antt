@@ -1,7 +1,7 @@
 -- No better answer exists than a right one: form by form.
-use Rattle.mat_desc.specs.Grammar.{IsValid}
-use Rattle.mat_desc.specs.Instances.{Instance}
-use Rattle.mat_desc.specs.Soundness.{IsSoundInstance}
+use Rattle.mat_problem.specs.Validity.{IsValid}
+use Rattle.mat_problem.specs.Instances.{Instance}
+use Rattle.mat_problem.specs.Soundness.{IsSoundInstance}
 use Rattle.mat_cert.specs.Certificates.{Certificate}
 use Rattle.mat_right.specs.Right.{IsRight}
 use Rattle.mat_check.specs.Optimal.{IsOptimal}

@@ -11,7 +11,7 @@ use Rattle.mat_fronts.specs.Rainbow.{IsMissingColours, IsRainbowTree}
 use Rattle.mat_fronts.proofs.Ladders.{missing_colours_exclude}
 use Rattle.mat_fronts.proofs.OnceEach.{once_laws}
 use Rattle.mat_graphic.specs.ForestLaws.{graphic_laws}
-use Rattle.mat_desc.specs.Instances.{rooted, coloured, table}
+use Rattle.mat_problem.specs.Instances.{rooted, coloured, table}
 use Rattle.mat_cert.specs.Certificates.{arbor, rainbow, assign}
 use Rattle.mat_cert.specs.declared.answer.PricedRung.{PricedRung}
 use Rattle.mat_right.specs.Right.{IsRightRainbow}

@@ -6,7 +6,7 @@ use Rattle.mat_laws.specs.Matroids.{IsMatroid}
 use Rattle.mat_laws.proofs.BestLadders.{rung_is_heaviest, cut_bounds}
 use Rattle.mat_laws.proofs.Maximal.{base_largest}
 use Rattle.mat_any.specs.Trees.{Tree, is_independent}
-use Rattle.mat_desc.specs.Instances.{pair, list}
+use Rattle.mat_problem.specs.Instances.{pair, list}
 use Rattle.mat_cert.specs.Certificates.{intersect, best, last_rung}
 use Rattle.mat_cert.specs.declared.answer.PlainRung.{PlainRung}
 use Rattle.mat_cert.specs.declared.answer.PricedRung.{PricedRung}

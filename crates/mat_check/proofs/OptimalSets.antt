@@ -10,8 +10,8 @@ use Rattle.mat_union.proofs.LevelsShow.{right_is_best}
 use Rattle.mat_packing.specs.Packings.{IsRightCovering}
 use Rattle.mat_packing.proofs.Copies.{covering_is_least, loop_has_no_cover, packing_is_most, rank_none}
 use Rattle.mat_any.specs.Trees.{Tree, element_count, is_independent, IsSound}
-use Rattle.mat_desc.specs.Instances.{list}
-use Rattle.mat_desc.specs.Soundness.{IsSoundInstance}
+use Rattle.mat_problem.specs.Instances.{list}
+use Rattle.mat_problem.specs.Soundness.{IsSoundInstance}
 use Rattle.mat_cert.specs.Certificates.{union_of, pack_any, pack, cover_never, cover}
 use Rattle.mat_cert.specs.declared.answer.LevelLine.{LevelLine}
 use Rattle.mat_right.specs.Right.{level_of}

@@ -8,7 +8,7 @@ use Rattle.mat_packing.specs.Trees.{AreTrees, IsRightPartition}
 use Rattle.mat_packing.proofs.Partitions.{few_trees}
 use Rattle.mat_branch.specs.Arborescences.{AreDisjointArborescences, IsSeldomEntered}
 use Rattle.mat_branch.proofs.Packing.{seldom_entered_has_none}
-use Rattle.mat_desc.specs.Instances.{graph, rooted}
+use Rattle.mat_problem.specs.Instances.{graph, rooted}
 use Rattle.mat_cert.specs.Certificates.{disjoint, disjoint_none, trees, trees_none, unreached}
 use Rattle.mat_check.proofs.AnswerForms.{RightIsOptimal}
 use Rattle.mat_check.proofs.ValidGraphs.{graph_is_graph}

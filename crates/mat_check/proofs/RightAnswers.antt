@@ -1,8 +1,8 @@
 -- An answer in range that fits is right exactly where none of its clauses fails: form by form.
 use Rattle.std.proofs.Common.{◌≡◌, ◌↔◌, true, None}
-use Rattle.mat_desc.specs.Grammar.{IsValid}
-use Rattle.mat_desc.specs.Instances.{Instance}
-use Rattle.mat_desc.specs.Soundness.{IsSoundInstance}
+use Rattle.mat_problem.specs.Validity.{IsValid}
+use Rattle.mat_problem.specs.Instances.{Instance}
+use Rattle.mat_problem.specs.Soundness.{IsSoundInstance}
 use Rattle.mat_cert.specs.Certificates.{Certificate, IsRanged}
 use Rattle.mat_right.specs.Right.{IsRight}
 use Rattle.mat_check.specs.AnswerClauses.{failure_of}

@@ -22,7 +22,7 @@ use Rattle.mat_fronts.specs.Assignments.{column_at, row_at}
 use Rattle.mat_fronts.specs.Once.{is_once}
 use Rattle.mat_fronts.specs.Rainbow.{IsMissingColours, edges_without}
 use Rattle.mat_fronts.proofs.OnceEach.{once_laws}
-use Rattle.mat_desc.specs.Instances.{rooted, coloured, table}
+use Rattle.mat_problem.specs.Instances.{rooted, coloured, table}
 use Rattle.mat_cert.specs.Certificates.{IsRangedArborescence, IsRangedOption, is_short_of_tree, arbor, rainbow, assign, last_rung}
 use Rattle.mat_cert.specs.declared.answer.PricedRung.{PricedRung}
 use Rattle.mat_check.specs.AnswerClauses.{clauses_of}

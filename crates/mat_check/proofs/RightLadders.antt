@@ -9,8 +9,8 @@ use Rattle.mat_laws.specs.Matroids.{IsMatroid, IsBase}
 use Rattle.mat_laws.proofs.Searches.{IsBase-not_addable, not_addable-IsBase}
 use Rattle.mat_any.specs.Trees.{Tree, is_independent, element_count, IsSound}
 use Rattle.mat_any.specs.TreeLaws.{tree_laws}
-use Rattle.mat_desc.specs.Instances.{pair, list}
-use Rattle.mat_desc.specs.Soundness.{IsSoundInstance}
+use Rattle.mat_problem.specs.Instances.{pair, list}
+use Rattle.mat_problem.specs.Soundness.{IsSoundInstance}
 use Rattle.mat_cert.specs.Certificates.{AreRangedRungs, IsRangedLadder, IsRangedPlainRung, intersect, best, last_rung}
 use Rattle.mat_cert.specs.declared.answer.PlainRung.{PlainRung}
 use Rattle.mat_cert.specs.declared.answer.PricedRung.{PricedRung}

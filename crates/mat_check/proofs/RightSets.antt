@@ -4,7 +4,7 @@ use Rattle.std.proofs.lemmas.Bool.{and_from, and_parts, eq-eqb, eqb-true, not-tr
 use Rattle.std.proofs.lemmas.List.{length-map}
 use Rattle.mat_sets.specs.declared.weight.Weight.{Weight}
 use Rattle.mat_any.specs.Trees.{Tree, is_independent}
-use Rattle.mat_desc.specs.Instances.{list}
+use Rattle.mat_problem.specs.Instances.{list}
 use Rattle.mat_cert.specs.Certificates.{IsRangedUnion, union_of, pack_any, pack, cover_never, cover}
 use Rattle.mat_cert.specs.declared.answer.LevelLine.{LevelLine}
 use Rattle.mat_right.specs.Right.{IsRightUnionAnswer}

@@ -17,7 +17,7 @@ use Rattle.mat_packing.specs.Trees.{crossing, AreTrees, IsRightPartition}
 use Rattle.mat_packing.proofs.SpanningTrees.{spanning_tree_from, spanning_tree_gives}
 use Rattle.mat_branch.specs.Arborescences.{AreDisjointArborescences, IsSeldomEntered}
 use Rattle.mat_branch.proofs.SpanningTests.{spanning_is_told}
-use Rattle.mat_desc.specs.Instances.{graph, rooted}
+use Rattle.mat_problem.specs.Instances.{graph, rooted}
 use Rattle.mat_cert.specs.Certificates.{disjoint, disjoint_none, trees, trees_none, unreached}
 use Rattle.mat_check.specs.AnswerClauses.{clauses_of}
 use Rattle.mat_check.specs.Clauses.{Clause, numbered_clauses}

@@ -5,9 +5,9 @@ use Rattle.mat_sets.specs.Graphs.{IsGraph}
 use Rattle.mat_sets.specs.declared.weight.Weight.{Weight}
 use Rattle.mat_fronts.specs.Assignments.{AreCells}
 use Rattle.mat_fronts.specs.Rainbow.{IsColouring}
-use Rattle.mat_desc.specs.Grammar.{ArePairs, IsValid}
-use Rattle.mat_desc.specs.Instances.{graph, rooted, coloured, table}
-use Rattle.mat_desc.proofs.ItemLaws.{IsGraph-pairs}
+use Rattle.mat_problem.specs.Validity.{ArePairs, IsValid}
+use Rattle.mat_problem.specs.Instances.{graph, rooted, coloured, table}
+use Rattle.mat_problem.proofs.SoundProblems.{IsGraph-pairs}
 
 -- few pairs with both numbers below that of the vertices
 graph_of_pairs : (vertices : ℕ) (edges : List (ℕ × ℕ)) → ArePairs vertices vertices edges → IsGraph vertices edges

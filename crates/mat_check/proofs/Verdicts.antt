@@ -1,9 +1,9 @@
 -- A verdict that tells the first clause that fails is Yes exactly where the answer is right.
 use Rattle.std.proofs.Common.{◌≡◌, ◌↔◌, true, refl, sym, ap, ◌∙◌}
 use Rattle.std.proofs.lemmas.Option.{none-some}
-use Rattle.mat_desc.specs.Grammar.{IsValid}
-use Rattle.mat_desc.specs.Instances.{Instance}
-use Rattle.mat_desc.specs.Soundness.{IsSoundInstance}
+use Rattle.mat_problem.specs.Validity.{IsValid}
+use Rattle.mat_problem.specs.Instances.{Instance}
+use Rattle.mat_problem.specs.Soundness.{IsSoundInstance}
 use Rattle.mat_cert.specs.Certificates.{Certificate, IsRanged}
 use Rattle.mat_right.specs.Right.{IsRight}
 use Rattle.mat_check.specs.AnswerClauses.{failure_of}

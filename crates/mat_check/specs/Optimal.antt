@@ -15,7 +15,7 @@ use Rattle.mat_fronts.specs.Assignments.{column_at, row_at}
 use Rattle.mat_fronts.specs.Once.{is_once}
 use Rattle.mat_fronts.specs.Rainbow.{IsRainbowTree}
 use Rattle.mat_any.specs.Trees.{is_independent}
-use Rattle.mat_desc.specs.Instances.{Instance, pair, list, graph, rooted, coloured, table}
+use Rattle.mat_problem.specs.Instances.{Instance, pair, list, graph, rooted, coloured, table}
 use Rattle.mat_cert.specs.Certificates.{Certificate, intersect, best, union_of, pack_any, pack, cover_never, cover, trees, trees_none}
 use Rattle.mat_cert.specs.Certificates.{arbor, unreached, disjoint, disjoint_none, rainbow, assign}
 use Rattle.mat_cert.specs.declared.answer.PlainRung.{PlainRung}

@@ -10,7 +10,7 @@ ghost use Rattle.mat_check.specs.{
   Views.{failure_in},
   declared.verdict.Verdict.TheVariants.{Yes},
 };
-ghost use Rattle.mat_desc.specs.{Grammar.{IsValid}, Soundness.{IsSoundInstance}, Views.{instance_of}};
+ghost use Rattle.mat_problem.specs.{Validity.{IsValid}, Soundness.{IsSoundInstance}, Views.{instance_of}};
 ghost use Rattle.mat_right.specs.Right.{IsRight};
 
 use crate::graph_answers::{coloured_failure, graph_failure, rooted_failure, table_failure};
@@ -21,7 +21,7 @@ use crate::reason::{Failure, Reason};
 use crate::verdict::Verdict;
 use crate::workers::CheckWorkers;
 use mat_cert::Answer;
-use mat_desc::Problem;
+use mat_problem::Problem;
 use std::alloc::{AllocError, Global};
 
 // The first clause behind the header of an answer that fails.

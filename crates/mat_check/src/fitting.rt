@@ -3,10 +3,10 @@
 ghost use Rattle.std.specs.Prelude.{◌≡◌};
 ghost use Rattle.mat_cert.specs.Views.{certificate_of};
 ghost use Rattle.mat_check.specs.Fitting.{fits, is_single};
-ghost use Rattle.mat_desc.specs.Views.{instance_of};
+ghost use Rattle.mat_problem.specs.Views.{instance_of};
 
 use mat_cert::Answer;
-use mat_desc::Problem;
+use mat_problem::Problem;
 
 /// Whether the form of the problem is the one that the answer's command takes.
 pub fn fits(problem: &Problem, answer: &Answer) -> bool

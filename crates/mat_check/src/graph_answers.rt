@@ -4,7 +4,7 @@ ghost use Rattle.std.specs.Prelude.{◌≡◌, true, IfOk};
 ghost use Rattle.mat_work.specs.Workers.{AreWorkers};
 ghost use Rattle.mat_cert.specs.{Certificates.{IsRanged}, Views.{certificate_of}};
 ghost use Rattle.mat_check.specs.{AnswerClauses.{answer_clauses, has_header}, Clauses.{first_failure}};
-ghost use Rattle.mat_desc.specs.{Grammar.{IsValid}, Instances.{coloured, graph, rooted, table}};
+ghost use Rattle.mat_problem.specs.{Validity.{IsValid}, Instances.{coloured, graph, rooted, table}};
 
 use crate::graphs::arborescence::least_failure;
 use crate::graphs::disjoint_arborescences::{disjoint_failure, seldom_entered_failure};

@@ -5,11 +5,11 @@ ghost use Rattle.mat_sets.specs.declared.weight.Weight.{Weight};
 ghost use Rattle.mat_any.specs.Views.{tree_of};
 ghost use Rattle.mat_cert.specs.Views.{certificate_of};
 ghost use Rattle.mat_check.specs.AnswerClauses.{has_header};
-ghost use Rattle.mat_desc.specs.{Instances.{list, graph, rooted}, Views.{instance_of}};
+ghost use Rattle.mat_problem.specs.{Instances.{list, graph, rooted}, Views.{instance_of}};
 
 use mat_any::AnyMatroid;
 use mat_cert::Answer;
-use mat_desc::Problem;
+use mat_problem::Problem;
 use mat_sets::{Weight, falling_weights};
 use std::alloc::{AllocError, Global};
 

@@ -3,7 +3,7 @@
 ghost use Rattle.std.specs.Prelude.{◌≡◌, ◌↔◌, true, None};
 ghost use Rattle.mat_cert.specs.Certificates.{Certificate, IsRanged};
 ghost use Rattle.mat_check.specs.{AnswerClauses.{failure_of}, Fitting.{fits}, Optimal.{IsOptimal}};
-ghost use Rattle.mat_desc.specs.{Grammar.{IsValid}, Instances.{Instance}, Soundness.{IsSoundInstance}};
+ghost use Rattle.mat_problem.specs.{Validity.{IsValid}, Instances.{Instance}, Soundness.{IsSoundInstance}};
 ghost use Rattle.mat_right.specs.Right.{IsRight};
 
 /// An answer in range to a problem that it fits is right exactly where none of its clauses fails.

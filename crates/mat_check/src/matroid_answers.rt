@@ -5,7 +5,7 @@ ghost use Rattle.mat_any.specs.Views.{tree_of};
 ghost use Rattle.mat_work.specs.Workers.{AreWorkers};
 ghost use Rattle.mat_cert.specs.{Certificates.{IsRanged}, Views.{certificate_of}};
 ghost use Rattle.mat_check.specs.{AnswerClauses.{answer_clauses, has_header}, Clauses.{first_failure}, Fitting.{is_union}};
-ghost use Rattle.mat_desc.specs.{Grammar.{IsValid}, Instances.{pair, list}, Soundness.{IsSoundInstance}};
+ghost use Rattle.mat_problem.specs.{Validity.{IsValid}, Instances.{pair, list}, Soundness.{IsSoundInstance}};
 
 use crate::ladder::rung::WeightedPair;
 use crate::ladder::{best_failure, ladder_failure};

@@ -8,12 +8,13 @@ use Rattle.mat_sets.specs.Sets.{is_member, AllBelow, IsSet}
 use Rattle.mat_sets.specs.Families.{indicator, multiplicity, AreDisjoint}
 use Rattle.mat_count.specs.Partitions.{IsPartition}
 use Rattle.mat_words.specs.Lines.{Line}
-use Rattle.mat_desc.specs.Limits.{most_sets}
+use Rattle.mat_problem.specs.Limits.{most_sets}
 use Rattle.mat_sets.specs.Limits.{most_elements}
 use Rattle.mat_words.specs.Cursors.{LinesLeft}
 use Rattle.mat_desc.specs.Notations.{Naming, IsNaming}
 use Rattle.mat_desc.specs.Reading.{class_at, classes_at}
-use Rattle.mat_desc.specs.Grammar.{Lists, CappedLines, AreClasses}
+use Rattle.mat_desc.specs.Grammar.{Lists, CappedLines}
+use Rattle.mat_problem.specs.Validity.{AreClasses}
 use Rattle.mat_words.proofs.ReadingSteps.{found-same, bind_found}
 use Rattle.mat_words.proofs.LineReading.{AreLeft}
 use Rattle.mat_desc.proofs.CappedLineLaws.{listed_line, IsCappedRead, capped_read, capped_again}

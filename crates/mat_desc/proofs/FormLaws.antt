@@ -11,7 +11,7 @@ use Rattle.mat_words.specs.Numbers.{numeral}
 use Rattle.mat_words.specs.Weights.{weight_word}
 use Rattle.mat_words.specs.Lines.{Line}
 use Rattle.mat_sets.specs.declared.weight.Weight.{Weight}
-use Rattle.mat_desc.specs.Limits.{most_sets}
+use Rattle.mat_problem.specs.Limits.{most_sets}
 use Rattle.mat_sets.specs.Limits.{largest_weight, most_vertices, most_elements, most_matroids}
 use Rattle.mat_desc.specs.declared.read.keywords.Form.{Form}
 use Rattle.mat_desc.specs.declared.read.keywords.Form.TheVariants as forms
@@ -25,10 +25,12 @@ use Rattle.mat_desc.specs.Reading.{header_root_at, root_at}
 use Rattle.mat_desc.specs.Reading.{ends_line_at, weighted_at, coloured_edge_at, matroid_at, two_matroids_at, pair_at, list_at}
 use Rattle.mat_any.specs.Trees.{Tree}
 use Rattle.mat_desc.specs.Reading.{graph_at, rooted_at, coloured_at, table_at, form_of, form_at}
-use Rattle.mat_desc.specs.Instances.{Instance, pair, list, graph, rooted, coloured, table}
+use Rattle.mat_problem.specs.Instances.{Instance, pair, list, graph, rooted, coloured, table}
 use Rattle.mat_words.specs.Writing.{end_line}
-use Rattle.mat_desc.specs.Grammar.{version_line, name_lines, root_words, root_lines, ends_line, weighted_line, coloured_edge_line, IsPairBelow}
-use Rattle.mat_desc.specs.Grammar.{IsWeight, AreWeights, IsValid, InstanceLines}
+use Rattle.mat_desc.specs.Grammar.{version_line, name_lines, root_words, root_lines, ends_line, weighted_line, coloured_edge_line}
+use Rattle.mat_problem.specs.Validity.{IsPairBelow}
+use Rattle.mat_problem.specs.Validity.{IsWeight, AreWeights, IsValid}
+use Rattle.mat_desc.specs.Grammar.{InstanceLines}
 use Rattle.mat_words.proofs.ReadingSteps.{found-same, bind_found}
 use Rattle.mat_words.proofs.NumberLemmas.{numeral_word}
 use Rattle.mat_words.proofs.WordReading.{numerals_words, size_again, below_again, weights_again, weights_words}

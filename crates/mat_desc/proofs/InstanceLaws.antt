@@ -17,10 +17,11 @@ use Rattle.mat_words.specs.Steps.{◌>>=◌}
 use Rattle.mat_desc.specs.Faults.{Fault}
 use Rattle.mat_desc.specs.Reading.{WrittenInstance, line_at, word_at, ended_at, keyed_at, version_of, version_named, version_at, end_at}
 use Rattle.mat_desc.specs.Reading.{closed_at, ending_at, form_of, form_at, instance_at, description_at, written_of, read_of, named_of}
-use Rattle.mat_desc.specs.Instances.{Instance}
+use Rattle.mat_problem.specs.Instances.{Instance}
 use Rattle.mat_desc.specs.Notations.{Notation, numbers, names, IsNotationFor, NamedInstance, named_by}
 use Rattle.mat_words.specs.Writing.{end_line}
-use Rattle.mat_desc.specs.Grammar.{version_line, IsValid, InstanceLines, Spells, SpellsNamed}
+use Rattle.mat_desc.specs.Grammar.{version_line, InstanceLines, Spells, SpellsNamed}
+use Rattle.mat_problem.specs.Validity.{IsValid}
 use Rattle.mat_words.proofs.ReadingSteps.{found, found-same, bind_found, test_found}
 use Rattle.mat_words.proofs.LineLemmas.{same_text}
 use Rattle.mat_words.proofs.LineReading.{AreLeft, line_again, keyed_again, known_line, closed_left}

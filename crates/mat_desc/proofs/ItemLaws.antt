@@ -14,13 +14,14 @@ use Rattle.mat_words.specs.Lines.{Line}
 use Rattle.mat_words.specs.Steps.{repeat_at}
 use Rattle.mat_words.specs.Cursors.{WordsLeft, LinesLeft}
 use Rattle.mat_sets.specs.declared.weight.Weight.{Weight}
-use Rattle.mat_desc.specs.Limits.{most_digits}
+use Rattle.mat_problem.specs.Limits.{most_digits}
 use Rattle.mat_sets.specs.Limits.{largest_weight}
 use Rattle.mat_desc.specs.Notations.{Naming, word_for, IsNaming}
 use Rattle.mat_desc.specs.Reading.{keyed_at, below_at, weight_at, ended_at, ends_at, member_at}
 use Rattle.mat_desc.specs.Reading.{ends_line_at, column_at, binary_at, weighted_at, coloured_edge_at}
 use Rattle.mat_words.specs.Binary.{binary}
-use Rattle.mat_desc.specs.Grammar.{IsWeight, IsPairBelow, ends_line, column_line, weighted_line, coloured_edge_line}
+use Rattle.mat_problem.specs.Validity.{IsWeight, IsPairBelow}
+use Rattle.mat_desc.specs.Grammar.{ends_line, column_line, weighted_line, coloured_edge_line}
 use Rattle.mat_words.proofs.ReadingSteps.{found-same, bind_found}
 use Rattle.mat_words.proofs.WordReading.{below_again, weight_at_again}
 use Rattle.mat_words.proofs.BinaryLaws.{binary_word, binary_again}
@@ -28,6 +29,7 @@ use Rattle.mat_words.proofs.LineReading.{AreLeft, keyed_again}
 use Rattle.mat_words.proofs.ItemLines.{IsItemRead, items_found}
 use Rattle.mat_desc.proofs.Told.{cut_then, below_found, binary_found, weight_found, ended_found, ended_again, keyed_found}
 use Rattle.mat_desc.proofs.NotationLaws.{member_found, member_again, word_for-word}
+use Rattle.mat_problem.proofs.SoundProblems.{IsGraph-pairs, IsColumn, IsBinaryMatrix-columns}
 use Rattle.mat_sets.specs.Graphs.{IsGraph}
 use Rattle.mat_gf2.specs.Columns.{IsBinaryMatrix}
 
@@ -97,20 +99,12 @@ ends_line_again naming key v named keyword p ends rest valid left =
     (ends_words naming v v named named ends [] valid refl) left in
     (line.0, rw (line.1, ends_again naming v v named named p.line ends [] valid, ended_again p.line) refl, line.2)
 
--- edges or arcs with both ends among the vertices are those of a graph
-pub IsGraph-pairs : (v : ℕ) (edges : List (ℕ × ℕ)) → length edges < 2 ^ 32 → All (IsPairBelow v v) edges → IsGraph v edges
-IsGraph-pairs v edges few each = record { first = λ e lt. (each e (0, 0) lt).0; second = λ e lt. (each e (0, 0) lt).1; few = few }
-
 -- edges or arcs that are read are those of a graph
 pub ends_lines_sound : (key : List ℕ) (v many : ℕ) (p : LinesLeft) (edges : List (ℕ × ℕ)) (q : LinesLeft) → many < 2 ^ 32
     → repeat_at (ends_line_at None key v) many p ≡ Ok (edges, q) → IsGraph v edges
 ends_lines_sound key v many p edges q few e =
     let read = items_found (ends_line_at None key v) (ends_line None key) (IsPairBelow v v) (ends_line_found None key v tt) many p edges q e in
     IsGraph-pairs v edges (omega (arith, read.count, few)) read.each
-
--- a column of so many entries
-abbrev pub IsColumn : ℕ → ℕ → Type 0
-IsColumn dim column = column < 2 ^ dim
 
 pub column_found : (dim : ℕ) (p : LinesLeft) (column : ℕ) (q : LinesLeft) → column_at dim p ≡ Ok (column, q)
     → IsItemRead (column_line dim) (IsColumn dim) p column q
@@ -138,11 +132,6 @@ column_again dim some p column rest valid left =
     and_from (is_word (binary dim column)) true (binary_word dim column some) refl in
     let line = keyed_again (codes "column") p (binary dim column ∷ []) rest refl word left in
     (line.0, rw (line.1, binary_again dim p.line column [] valid, ended_again p.line) refl, line.2)
-
--- columns of so many entries are those of a matrix
-pub IsBinaryMatrix-columns : (dim : ℕ) (columns : List ℕ) → 1 ≤ dim → dim ≤ most_digits → length columns < 2 ^ 32
-    → All (IsColumn dim) columns → IsBinaryMatrix dim columns
-IsBinaryMatrix-columns dim columns some most few each = record { some = some; most = most; below = λ e lt. each e 0 lt; few = few }
 
 -- columns that are read meet the conditions of a matroid of columns
 pub columns_sound : (dim many : ℕ) (p : LinesLeft) (columns : List ℕ) (q : LinesLeft) → 1 ≤ dim → dim ≤ most_digits → many < 2 ^ 32

@@ -8,7 +8,7 @@ use Rattle.mat_words.specs.Numbers.{numeral}
 use Rattle.mat_words.specs.Lines.{Line}
 use Rattle.mat_any.specs.Trees.{Tree, uniform, partition, laminar, graphic, gf2, depth}
 use Rattle.mat_desc.specs.Notations.{Naming, IsNaming}
-use Rattle.mat_desc.specs.Limits.{most_sets, most_digits}
+use Rattle.mat_problem.specs.Limits.{most_sets, most_digits}
 use Rattle.mat_sets.specs.Limits.{most_vertices, most_elements}
 use Rattle.mat_desc.specs.declared.read.keywords.Keyword.{Keyword}
 use Rattle.mat_desc.specs.declared.read.keywords.Keyword.TheVariants as keywords
@@ -16,14 +16,16 @@ use Rattle.mat_words.specs.Cursors.{WordsLeft, LinesLeft}
 use Rattle.mat_words.specs.Steps.{repeat_at}
 use Rattle.mat_desc.specs.Reading.{size_at, ended_at, classes_at, nested_sets_at, uniform_at, partition_at}
 use Rattle.mat_desc.specs.Reading.{laminar_at, ends_line_at, graphic_at, column_at, gf2_at, keyword_of}
-use Rattle.mat_desc.specs.Grammar.{IsPairBelow, IsValidTree, MatroidLines, ends_line, column_line}
+use Rattle.mat_problem.specs.Validity.{IsPairBelow, IsValidTree}
+use Rattle.mat_desc.specs.Grammar.{MatroidLines, ends_line, column_line}
 use Rattle.mat_words.proofs.ReadingSteps.{found-same, bind_found}
 use Rattle.mat_words.proofs.LineReading.{AreLeft}
 use Rattle.mat_desc.proofs.Told.{cut_then, count_line, ended_found, size_found}
 use Rattle.mat_desc.proofs.ClassLaws.{classes_read, classes_valid}
 use Rattle.mat_desc.proofs.NestedSetLaws.{nested_sets_read, nested_sets_valid}
 use Rattle.mat_words.proofs.ItemLines.{items_found}
-use Rattle.mat_desc.proofs.ItemLaws.{ends_line_found, IsColumn, column_found}
+use Rattle.mat_desc.proofs.ItemLaws.{ends_line_found, column_found}
+use Rattle.mat_problem.proofs.SoundProblems.{IsColumn}
 
 -- ---- keywords
 

@@ -28,4 +28,3 @@ pub mod Writing
 pub mod UnionLines
 pub mod Rooms
 pub mod CanonicalLaws
-pub mod ListedMatroids

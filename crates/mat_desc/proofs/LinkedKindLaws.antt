@@ -6,13 +6,14 @@ use Rattle.mat_words.specs.Numbers.{numeral, numerals}
 use Rattle.mat_words.specs.Lines.{Line}
 use Rattle.mat_any.specs.Trees.{Tree, transversal, gammoid}
 use Rattle.mat_desc.specs.Notations.{Naming, IsNaming}
-use Rattle.mat_desc.specs.Limits.{most_sets, most_arcs}
+use Rattle.mat_problem.specs.Limits.{most_sets, most_arcs}
 use Rattle.mat_sets.specs.Limits.{most_vertices}
 use Rattle.mat_desc.specs.declared.read.keywords.Keyword.TheVariants as keywords
 use Rattle.mat_words.specs.Cursors.{WordsLeft, LinesLeft}
 use Rattle.mat_words.specs.Steps.{repeat_at}
 use Rattle.mat_desc.specs.Reading.{size_at, ended_at, set_line_at, transversal_at, targets_at, ends_line_at, gammoid_at}
-use Rattle.mat_desc.specs.Grammar.{IsPairBelow, IsValidTree, Lists, FamilyLines, ends_line}
+use Rattle.mat_problem.specs.Validity.{IsPairBelow, IsValidTree}
+use Rattle.mat_desc.specs.Grammar.{Lists, FamilyLines, ends_line}
 use Rattle.mat_words.proofs.ReadingSteps.{found-same, bind_found}
 use Rattle.mat_words.proofs.WordReading.{size_again}
 use Rattle.mat_words.proofs.LineReading.{AreLeft}

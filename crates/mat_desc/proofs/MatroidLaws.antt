@@ -12,7 +12,7 @@ use Rattle.mat_words.proofs.NumberLemmas.{numeral_word}
 use Rattle.mat_any.specs.Trees.{Tree, Trees, uniform, partition, laminar, graphic, transversal, gammoid, gf2, dual, truncate, restrict, contract, union, no_trees, more_trees, tree_count, trees_from, depth, greatest_depth}
 use Rattle.mat_words.specs.Lines.{Line}
 use Rattle.mat_desc.specs.Notations.{Naming, words_for, IsNaming}
-use Rattle.mat_desc.specs.Limits.{most_sets, most_digits, deepest}
+use Rattle.mat_problem.specs.Limits.{most_sets, most_digits, deepest}
 use Rattle.mat_sets.specs.Limits.{most_vertices, most_elements, most_matroids}
 use Rattle.mat_desc.specs.declared.read.keywords.Keyword.{Keyword}
 use Rattle.mat_desc.specs.declared.read.keywords.Keyword.TheVariants as keywords
@@ -23,7 +23,8 @@ use Rattle.mat_desc.specs.Faults.{Fault}
 use Rattle.mat_desc.specs.Reading.{line_at, word_at, size_at, ended_at, elements_at, uniform_at, partition_at}
 use Rattle.mat_desc.specs.Reading.{laminar_at, ends_line_at, graphic_at, column_at, gf2_at, TreeReader, dual_at}
 use Rattle.mat_desc.specs.Reading.{truncate_at, restrict_at, contract_at, union_at, keyword_of, kind_at, matroid_within, matroid_at}
-use Rattle.mat_desc.specs.Grammar.{IsPairBelow, IsValidTree, IsValidMatroid, AreClasses, AreNestedSets, AreValidTrees, MatroidLines, TreeLines, ends_line, column_line}
+use Rattle.mat_problem.specs.Validity.{IsPairBelow, IsValidTree, IsValidMatroid, AreClasses, AreNestedSets, AreValidTrees}
+use Rattle.mat_desc.specs.Grammar.{MatroidLines, TreeLines, ends_line, column_line}
 use Rattle.mat_words.proofs.ReadingSteps.{found-same, bind_found}
 use Rattle.mat_words.proofs.WordReading.{size_again, numerals_words}
 use Rattle.mat_words.proofs.LineReading.{AreLeft, line_again}
@@ -33,7 +34,8 @@ use Rattle.mat_desc.proofs.ElementLaws.{elements_found, Lists-read, IsSet-read, 
 use Rattle.mat_desc.proofs.ClassLaws.{classes_again}
 use Rattle.mat_desc.proofs.NestedSetLaws.{nested_sets_again}
 use Rattle.mat_words.proofs.ItemLines.{items_again}
-use Rattle.mat_desc.proofs.ItemLaws.{ends_line_again, IsColumn, column_again}
+use Rattle.mat_desc.proofs.ItemLaws.{ends_line_again, column_again}
+use Rattle.mat_problem.proofs.SoundProblems.{IsColumn}
 use Rattle.mat_desc.proofs.KindLaws.{spelling_of, keyword_found, IsKindRead, uniform_found, partition_found, laminar_found, graphic_found, gf2_found}
 use Rattle.mat_desc.proofs.LinkedKindLaws.{transversal_found, transversal_again, gammoid_found, gammoid_again}
 

@@ -8,7 +8,8 @@ use Rattle.mat_desc.specs.Notations.{Naming, IsNaming}
 use Rattle.mat_words.specs.Cursors.{LinesLeft}
 use Rattle.mat_words.specs.Steps.{repeat_at}
 use Rattle.mat_desc.specs.Reading.{matroid_at}
-use Rattle.mat_desc.specs.Grammar.{IsValidMatroid, MatroidsLines}
+use Rattle.mat_problem.specs.Validity.{IsValidMatroid}
+use Rattle.mat_desc.specs.Grammar.{MatroidsLines}
 use Rattle.mat_words.proofs.ReadingSteps.{found-same, bind_found}
 use Rattle.mat_words.proofs.LineReading.{AreLeft}
 use Rattle.mat_desc.proofs.MatroidLaws.{matroid_found, matroid_again}

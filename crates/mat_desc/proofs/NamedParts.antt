@@ -6,7 +6,7 @@ use Rattle.std.proofs.lemmas.List.Elements.{All-nil, All-cons}
 use Rattle.mat_any.specs.Trees.{Tree, trees_from}
 use Rattle.mat_any.specs.Views.{tree_of}
 use Rattle.mat_any.specs.declared.any.AnyMatroid.{AnyMatroid}
-use Rattle.mat_desc.specs.Grammar.{IsValidTree, AreValidTrees}
+use Rattle.mat_problem.specs.Validity.{IsValidTree, AreValidTrees}
 use Rattle.mat_desc.specs.Notations.{Naming}
 
 -- what follows from a fact of the number of the names

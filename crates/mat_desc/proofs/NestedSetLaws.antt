@@ -11,13 +11,14 @@ use Rattle.mat_words.specs.Lines.{Line}
 use Rattle.mat_count.specs.Laminar.{is_crossed, IsLaminarFamily}
 use Rattle.mat_count.specs.LaminarMatroids.{IsLaminar}
 use Rattle.mat_count.proofs.CrossedSets.{IsLaminarFamily-nil, IsLaminarFamily-more, IsLaminarFamily-free}
-use Rattle.mat_desc.specs.Limits.{most_sets}
+use Rattle.mat_problem.specs.Limits.{most_sets}
 use Rattle.mat_sets.specs.Limits.{most_elements}
 use Rattle.mat_desc.specs.declared.refusal.DescKind.TheVariants.{Crossing}
 use Rattle.mat_words.specs.Cursors.{WordsLeft, LinesLeft}
 use Rattle.mat_desc.specs.Notations.{Naming, IsNaming}
 use Rattle.mat_desc.specs.Reading.{keyed_at, size_at, elements_at, nested_set_at, nested_sets_at}
-use Rattle.mat_desc.specs.Grammar.{Lists, CappedLines, AreNestedSets}
+use Rattle.mat_desc.specs.Grammar.{Lists, CappedLines}
+use Rattle.mat_problem.specs.Validity.{AreNestedSets}
 use Rattle.mat_words.proofs.ReadingSteps.{found-same, bind_found, refused_found}
 use Rattle.mat_words.proofs.LineReading.{AreLeft}
 use Rattle.mat_desc.proofs.CappedLineLaws.{listed_line, capped_at, capped_steps, capped_read, capped_again}

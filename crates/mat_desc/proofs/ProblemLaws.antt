@@ -1,106 +1,22 @@
 -- What is known of a problem that was read.
-use Rattle.std.proofs.Common.{◌≡◌, ◌≤◌, ◌<◌, ◌^◌, ℕ, true, List, [], ◌∷◌, length, Some, ◌⊎◌, inl, inr, Result, Ok, Err, IfOk, refl, sym, ap, subst, ◌∙◌, arith}
+use Rattle.std.proofs.Common.{◌≡◌, ◌<◌, ◌^◌, ℕ, true, List, [], ◌∷◌, Some, ◌⊎◌, inl, inr, Result, Ok, Err, IfOk, refl, sym, ap, subst, ◌∙◌}
 use Rattle.std.specs.Prelude.{◌↔◌}
-use Rattle.std.specs.List.{All}
-use Rattle.std.proofs.lemmas.List.Elements.{All-weaker}
-use Rattle.mat_sets.specs.Sets.{IsSet, AllBelow}
-use Rattle.mat_any.specs.Trees.{Tree, Trees, uniform, partition, laminar, graphic, transversal, gammoid}
-use Rattle.mat_any.specs.Trees.{gf2, dual, truncate, restrict, contract, union, no_trees, more_trees, tree_count, element_count, first_count, IsSound, AreSoundOn}
-use Rattle.mat_sets.specs.Limits.{most_elements}
 use Rattle.mat_words.specs.Words.{is_letter}
 use Rattle.mat_words.specs.Steps.{◌>>=◌}
 use Rattle.mat_words.specs.declared.refusal.Refusal.TheVariants as refusals
 use Rattle.mat_words.specs.Reading.{Gives}
 use Rattle.mat_desc.specs.Faults.{DescRefusal, Fault}
-use Rattle.mat_desc.specs.Grammar.{IsValidTree, IsValidMatroid, AreValidTrees, IsValid, Spells, SpellsNamed}
-use Rattle.mat_desc.specs.Instances.{Instance, pair, list, graph, rooted, coloured, table}
+use Rattle.mat_problem.specs.Validity.{IsValid}
+use Rattle.mat_desc.specs.Grammar.{Spells, SpellsNamed}
+use Rattle.mat_problem.specs.Instances.{Instance}
 use Rattle.mat_desc.specs.Notations.{Notation, numbers, names, IsNaming, IsNotationFor, NamedInstance, named_by, numbered}
 use Rattle.mat_desc.specs.Notations.{count_of_elements, count_of_vertices}
 use Rattle.mat_desc.specs.Reading.{WrittenInstance, written_of, read_of, named_of}
-use Rattle.mat_desc.specs.Soundness.{IsSoundInstance}
-use Rattle.mat_desc.proofs.ItemLaws.{IsGraph-pairs, IsBinaryMatrix-columns}
+use Rattle.mat_problem.specs.Soundness.{IsSoundInstance}
+use Rattle.mat_problem.proofs.SoundProblems.{IsSoundInstance-valid}
 use Rattle.mat_desc.proofs.NumberedNames.{AreNames-numbered, length-numbered}
 use Rattle.mat_desc.proofs.InstanceLaws.{description_found, read_found, read_again, named_found, named_again}
 use Rattle.mat_desc.proofs.NamedCounts.{few_elements, few_vertices}
-
--- the first of matroids on n elements has n
-first_of : (n : ℕ) (ts : Trees) → 1 ≤ tree_count ts → AreSoundOn n ts → first_count ts ≡ n
-first_of n no_trees some sound = absurd (omega arith)
-first_of n (more_trees t ts) some sound = sound.1
-
-mutual
-  -- a matroid in range is sound
-  IsSound-valid : (n : ℕ) (tree : Tree) → n ≤ most_elements → IsValidTree n tree → IsSound tree × (element_count tree ≡ n)
-  IsSound-valid n (uniform m cap) few valid = (tt, valid.0)
-  IsSound-valid n (partition m classes caps) few valid = (
-    record {
-      capped = valid.1.as_many;
-      inside = subst (λ (k : ℕ). All (AllBelow k) classes) (sym valid.0)
-          (All-weaker (IsSet n) (AllBelow n) (λ class set. set.below) classes valid.1.sets);
-      disjoint = valid.1.disjoint;
-    },
-    valid.0,
-  )
-  IsSound-valid n (laminar m sets caps) few valid = (
-    record {
-      capped = valid.1.as_many;
-      inside = subst (λ (k : ℕ). All (AllBelow k) sets) (sym valid.0)
-          (All-weaker (IsSet n) (AllBelow n) (λ set is. is.below) sets valid.1.sets_inside);
-      family = valid.1.family;
-    },
-    valid.0,
-  )
-  IsSound-valid n (graphic vertices edges) few valid = (IsGraph-pairs vertices edges (omega (arith, valid.0, few)) valid.3, valid.0)
-  IsSound-valid n (transversal m family) few valid = (
-    record {
-      inside = subst (λ (k : ℕ). All (AllBelow k) family) (sym valid.0) (All-weaker (IsSet n) (AllBelow n) (λ set is. is.below) family valid.2);
-      few = omega (arith, valid.1);
-    },
-    valid.0,
-  )
-  IsSound-valid n (gammoid vertices arcs sources targets) few valid = (
-    record {
-      graph = IsGraph-pairs vertices arcs (omega (arith, valid.3)) valid.4;
-      sources_inside = valid.5;
-      targets_inside = valid.6;
-      distinct = valid.7;
-      few = omega (arith, valid.0, few);
-    },
-    valid.0,
-  )
-  IsSound-valid n (gf2 dim columns) few valid = (IsBinaryMatrix-columns dim columns valid.1 valid.2 (omega (arith, valid.0, few)) valid.3, valid.0)
-  IsSound-valid n (dual t) few valid = IsSound-valid n t few valid
-  IsSound-valid n (truncate cap t) few valid = IsSound-valid n t few valid.1
-  IsSound-valid n (restrict kept t) few valid =
-      let within = IsSound-valid n t few valid.1 in
-      ((subst (λ (k : ℕ). IsSet k kept) (sym within.1) valid.0, within.0), within.1)
-  IsSound-valid n (contract away t) few valid =
-      let within = IsSound-valid n t few valid.1 in
-      ((subst (λ (k : ℕ). IsSet k away) (sym within.1) valid.0, within.0), within.1)
-  IsSound-valid n (union ts) few valid =
-      let sound = AreSound-valid n ts few valid.2 in
-      let first = first_of n ts valid.0 sound in
-      ((omega (arith, valid.0), omega (arith, valid.1), subst (λ (k : ℕ). AreSoundOn k ts) (sym first) sound), first)
-
-  AreSound-valid : (n : ℕ) (ts : Trees) → n ≤ most_elements → AreValidTrees n ts → AreSoundOn n ts
-  AreSound-valid n no_trees few valid = tt
-  AreSound-valid n (more_trees t ts) few valid =
-      let here = IsSound-valid n t few valid.0 in
-      (here.0, here.1, AreSound-valid n ts few valid.1)
-
--- each matroid of a problem in range is sound
-pub IsSoundInstance-valid : (instance : Instance) → IsValid instance → IsSoundInstance instance
-IsSoundInstance-valid (pair weights first second) valid =
-    let one = IsSound-valid (length weights) first valid.0.0 valid.1.0 in
-    let two = IsSound-valid (length weights) second valid.0.0 valid.2.0 in
-    (one.0, one.1, two.0, two.1)
-IsSoundInstance-valid (list weights matroids) valid =
-    All-weaker (IsValidMatroid (length weights)) (λ tree. IsSound tree × (element_count tree ≡ length weights))
-    (λ tree tree_valid. IsSound-valid (length weights) tree valid.0.0 tree_valid.0) matroids valid.3
-IsSoundInstance-valid (graph vertices edges) valid = tt
-IsSoundInstance-valid (rooted vertices root arcs costs) valid = tt
-IsSoundInstance-valid (coloured vertices colours edges colour_of weights) valid = tt
-IsSoundInstance-valid (table rows columns cells weights) valid = tt
 
 abbrev problem : Instance → Result Instance Fault
 problem instance = Ok instance

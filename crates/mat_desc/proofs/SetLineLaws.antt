@@ -6,7 +6,7 @@ use Rattle.std.proofs.lemmas.List.Elements.{All-nil, All-cons, All-head, All-tai
 use Rattle.mat_sets.specs.Sets.{AllBelow, IsSet}
 use Rattle.mat_words.specs.Words.{is_word}
 use Rattle.mat_words.specs.Lines.{Line}
-use Rattle.mat_desc.specs.Limits.{most_sets}
+use Rattle.mat_problem.specs.Limits.{most_sets}
 use Rattle.mat_words.specs.Cursors.{LinesLeft}
 use Rattle.mat_words.specs.Steps.{repeat_at}
 use Rattle.mat_desc.specs.Notations.{Naming, words_for, IsNaming}

@@ -11,7 +11,7 @@ use Rattle.mat_words.specs.Writing.{end_line, spaced}
 use Rattle.mat_words.proofs.LineLemmas.{text_of-append}
 use Rattle.mat_words.proofs.WrittenLines.{item_written, words_written}
 use Rattle.mat_desc.specs.Grammar.{version_line, name_lines}
-use Rattle.mat_desc.specs.Instances.{Instance}
+use Rattle.mat_problem.specs.Instances.{Instance}
 use Rattle.mat_desc.specs.Notations.{Notation}
 use Rattle.mat_desc.specs.Canonical.{header, body_lines, canonical_lines}
 

@@ -6,9 +6,10 @@ use Rattle.mat_words.specs.Lines.{Line, text_of}
 use Rattle.mat_any.specs.Trees.{Tree, Trees, uniform, partition, laminar, graphic, transversal, gammoid, gf2, dual, truncate, restrict, contract, union, no_trees, more_trees, tree_count}
 use Rattle.mat_words.specs.Writing.{end_line, members_line, weights_line}
 use Rattle.mat_desc.specs.Grammar.{listing_line, ends_line, column_line, weighted_line, coloured_edge_line}
-use Rattle.mat_desc.specs.Grammar.{version_line, name_lines, root_lines, IsValid}
+use Rattle.mat_desc.specs.Grammar.{version_line, name_lines, root_lines}
+use Rattle.mat_problem.specs.Validity.{IsValid}
 use Rattle.mat_desc.specs.Grammar.{pair_header, list_header, graph_header, rooted_header, coloured_header, table_header}
-use Rattle.mat_desc.specs.Instances.{Instance, pair, list, graph, rooted, coloured, table}
+use Rattle.mat_problem.specs.Instances.{Instance, pair, list, graph, rooted, coloured, table}
 use Rattle.mat_desc.specs.Notations.{Naming, words_for, Notation, numbers, names, element_naming, vertex_naming, IsNotationFor, NamedInstance}
 
 -- the line of this keyword with a set and its cap

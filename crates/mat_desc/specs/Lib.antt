@@ -1,11 +1,9 @@
 pub mod Limits
-pub mod Instances
 pub mod Notations
 pub mod Grammar
 pub mod EarlierSets
 pub mod Faults
 pub mod Reading
 pub mod Views
-pub mod Soundness
 pub mod Kinds
 pub mod Canonical

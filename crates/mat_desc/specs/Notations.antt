@@ -4,7 +4,7 @@ use Rattle.mat_sets.specs.Sets.{all_below}
 use Rattle.mat_words.specs.Numbers.{numeral}
 use Rattle.mat_words.specs.Lines.{Line}
 use Rattle.mat_words.specs.Names.{AreNames}
-use Rattle.mat_desc.specs.Instances.{Instance, pair, list, graph, rooted, coloured, table}
+use Rattle.mat_problem.specs.Instances.{Instance, pair, list, graph, rooted, coloured, table}
 
 -- the names of numbers from 0 on, where numbers are written by names
 abbrev pub Naming : Type 0

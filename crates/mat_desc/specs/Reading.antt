@@ -20,9 +20,9 @@ use Rattle.mat_words.specs.Cursors.{WordsLeft, LinesLeft}
 use Rattle.mat_words.specs.Names.{longest_name, name_index, is_among}
 use Rattle.mat_words.specs.Steps.{◌>>=◌, repeat_at}
 use Rattle.mat_desc.specs.Faults.{Fault, told}
-use Rattle.mat_desc.specs.Limits.{most_sets, most_arcs, most_digits, deepest}
+use Rattle.mat_problem.specs.Limits.{most_sets, most_arcs, most_digits, deepest}
 use Rattle.mat_sets.specs.Limits.{largest_weight, most_vertices, most_elements, most_matroids}
-use Rattle.mat_desc.specs.Instances.{Instance, pair, list, graph, rooted, coloured, table}
+use Rattle.mat_problem.specs.Instances.{Instance, pair, list, graph, rooted, coloured, table}
 use Rattle.mat_desc.specs.Notations.{Naming, Notation, numbers, names, element_naming, vertex_naming, NamedInstance, named_by}
 
 -- ---- lines and words

@@ -1,27 +1,17 @@
--- What contracts see of problems.
-use Rattle.std.specs.Prelude.{map, Option, Some, None}
+-- What contracts see of how problems are written, and of problems with names.
+use Rattle.std.specs.Prelude.{Option, Some, None}
 use Rattle.std.specs.Borrow.{Bor}
 use Rattle.mat_words.specs.NameLists.{names_of}
 use Rattle.mat_words.specs.declared.names.Names.{Names}
 use Rattle.mat_desc.specs.declared.read.notation.Notation as declared
 use Rattle.mat_desc.specs.declared.read.notation.Notation.TheVariants as notations
-use Rattle.mat_desc.specs.declared.named.Named.{Named}
+use Rattle.mat_problem.specs.declared.named.Named.{Named}
 use Rattle.mat_desc.specs.declared.write.problem.Lists.{Lists}
 use Rattle.mat_desc.specs.Notations.{Naming, Notation, numbers, names, NamedInstance}
 use Rattle.mat_desc.specs.Reading.{WrittenInstance}
-use Rattle.mat_desc.specs.declared.problem.Problem.{Problem}
-use Rattle.mat_desc.specs.declared.problem.Problem.TheVariants as problems
-use Rattle.mat_any.specs.Views.{tree_of}
-use Rattle.mat_desc.specs.Instances.{Instance, pair, list, graph, rooted, coloured, table}
-
--- the problem as plain data
-abbrev pub instance_of : Problem → Instance
-instance_of (problems.Pair weights first second) = pair weights (tree_of first) (tree_of second)
-instance_of (problems.List weights matroids) = list weights (map tree_of matroids.items)
-instance_of (problems.Graph vertices edges) = graph vertices edges
-instance_of (problems.Rooted vertices root arcs costs) = rooted vertices root arcs costs
-instance_of (problems.Coloured vertices colours edges colour_of weights) = coloured vertices colours edges colour_of.items weights
-instance_of (problems.Table rows columns cells weights) = table rows columns cells weights
+use Rattle.mat_problem.specs.declared.problem.Problem.{Problem}
+use Rattle.mat_problem.specs.Instances.{Instance}
+use Rattle.mat_problem.specs.Views.{instance_of}
 
 -- what lent names stand for
 abbrev pub naming : Option (Bor Names) → Naming

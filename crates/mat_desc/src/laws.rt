@@ -1,14 +1,13 @@
 //! What holds of every text, and of every text that is written.
 
 ghost use Rattle.std.specs.Prelude.{◌≡◌, ◌↔◌, ◌⊎◌, ℕ, List, Ok, Err};
+ghost use Rattle.mat_problem.specs.{Validity.{IsValid}, Instances.{Instance}};
 ghost use Rattle.mat_desc.specs.{
   Canonical.{canonical_text, named_text},
   Faults.{Fault},
-  Grammar.{IsValid, Spells, SpellsNamed},
-  Instances.{Instance},
+  Grammar.{Spells, SpellsNamed},
   Notations.{NamedInstance, IsNotationFor, names},
   Reading.{read_of, named_of},
-  Soundness.{IsSoundInstance},
 };
 
 /// The reading of a text gives exactly the problem that the text spells. So a text spells at most one problem, and it spells one or has
@@ -32,9 +31,4 @@ pub fn writing_laws()
     // With a name for each element and each vertex it spells the problem with these names.
     ensures named { (problem : NamedInstance) → IsValid problem.instance → IsNotationFor problem.instance (names problem.elements problem.vertices)
         → SpellsNamed (named_text problem) problem }
-{}
-
-/// Each matroid of a problem in range is sound, and on as many elements as the problem has weights.
-pub fn soundness_laws()
-    ensures { (instance : Instance) → IsValid instance → IsSoundInstance instance }
 {}

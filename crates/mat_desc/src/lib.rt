@@ -4,14 +4,12 @@
 mod laws;
 mod limits;
 mod named;
-mod problem;
 mod read;
 mod refusal;
 mod write;
 
 // Problems, and why a text is none.
-pub use named::Named;
-pub use problem::Problem;
+pub use mat_problem::{Named, Problem};
 pub use refusal::{DescKind, DescRefusal};
 
 // Reading a problem.
@@ -22,4 +20,4 @@ pub use read::read_problem;
 pub use write::{write_named, write_problem};
 
 // What holds of every text, and of every text that is written.
-pub use laws::{reading_laws, soundness_laws, writing_laws};
+pub use laws::{reading_laws, writing_laws};

@@ -1,32 +1,21 @@
 //! Problems with names for their elements and their vertices.
 
 ghost use Rattle.std.specs.Prelude.{◌≡◌, ◌<◌, ◌≤◌, ◌^◌, true, [], ◌∷◌, length, IfOk};
+ghost use Rattle.mat_problem.specs.{Validity.{IsValid}, Soundness.{IsSoundInstance}, Views.{instance_of}};
 ghost use Rattle.mat_desc.specs.{
-  Grammar.{IsValid, SpellsNamed},
+  Grammar.{SpellsNamed},
   Limits.{description_limit},
-  Notations.{IsNotationFor, NamedInstance, named_by, names, numbered, numbers},
+  Notations.{IsNotationFor, NamedInstance, count_of_elements, count_of_vertices, named_by, names, numbered, numbers},
   Reading.{named_of},
-  Soundness.{IsSoundInstance},
-  Views.{instance_of, notation_of, named_instance, named_with},
+  Views.{notation_of, named_instance, named_with},
 };
 ghost use Rattle.mat_words.specs.{NameLists.{names_of}, Words.{is_letter}, Reading.{Gives}};
 
-use crate::problem::Problem;
 use crate::read::{Notation, read_description};
 use crate::refusal::DescRefusal;
+use mat_problem::{Named, Problem};
 use mat_words::{Names, put_number};
 use std::alloc::{AllocError, Global};
-
-/// A problem, and the names of its elements and of its vertices.
-#[derive(Drop)]
-pub struct Named {
-    /// The problem.
-    pub problem: Problem,
-    /// The name of each element.
-    pub elements: Names,
-    /// The name of each vertex: none where the form of the problem has no vertices.
-    pub vertices: Names,
-}
 
 /// A letter with each number below `count`, as `e0`, `e1` and so on. The only error is want of memory.
 fn numbered_names(alloc: Global, letter: u8, count: usize) -> Result<Names, AllocError>
@@ -44,32 +33,27 @@ fn numbered_names(alloc: Global, letter: u8, count: usize) -> Result<Names, Allo
     Ok(names)
 }
 
-impl Problem {
-    ghost use Rattle.std.specs.Prelude.{◌≡◌};
-    ghost use Rattle.mat_desc.specs.{Notations.{count_of_elements, count_of_vertices}, Views.{instance_of}};
-
-    /// How many elements the problem has: edges, arcs or cells where its form has these.
-    fn element_count(&self) -> usize
-        ensures { result ≡ count_of_elements (instance_of self.now) }
-    {
-        match self {
-            Problem::Pair { weights, .. } | Problem::List { weights, .. } => weights.len(),
-            Problem::Graph { edges, .. } | Problem::Coloured { edges, .. } => edges.len(),
-            Problem::Rooted { arcs, .. } => arcs.len(),
-            Problem::Table { cells, .. } => cells.len(),
-        }
+/// How many elements a problem has: edges, arcs or cells where its form has these.
+fn element_count(problem: &Problem) -> usize
+    ensures { result ≡ count_of_elements (instance_of problem.now) }
+{
+    match problem {
+        Problem::Pair { weights, .. } | Problem::List { weights, .. } => weights.len(),
+        Problem::Graph { edges, .. } | Problem::Coloured { edges, .. } => edges.len(),
+        Problem::Rooted { arcs, .. } => arcs.len(),
+        Problem::Table { cells, .. } => cells.len(),
     }
+}
 
-    /// How many vertices the form of the problem has: 0 where it has none.
-    fn vertex_count(&self) -> usize
-        ensures { result ≡ count_of_vertices (instance_of self.now) }
-    {
-        match self {
-            Problem::Graph { vertices, .. }
-            | Problem::Rooted { vertices, .. }
-            | Problem::Coloured { vertices, .. } => *vertices as usize,
-            Problem::Pair { .. } | Problem::List { .. } | Problem::Table { .. } => 0,
-        }
+/// How many vertices the form of a problem has: 0 where it has none.
+fn vertex_count(problem: &Problem) -> usize
+    ensures { result ≡ count_of_vertices (instance_of problem.now) }
+{
+    match problem {
+        Problem::Graph { vertices, .. }
+        | Problem::Rooted { vertices, .. }
+        | Problem::Coloured { vertices, .. } => *vertices as usize,
+        Problem::Pair { .. } | Problem::List { .. } | Problem::Table { .. } => 0,
     }
 }
 
@@ -79,8 +63,8 @@ fn all_numbered_names(alloc: Global, problem: &Problem) -> Result<(Names, Names)
     requires { IsValid (instance_of problem.now) }
     ensures { IfOk result (λ listed. named_with listed (instance_of problem.now) ≡ named_by numbers (instance_of problem.now)) }
 {
-    let elements = numbered_names(alloc, b'e', problem.element_count())?;
-    match numbered_names(alloc, b'v', problem.vertex_count()) {
+    let elements = numbered_names(alloc, b'e', element_count(problem))?;
+    match numbered_names(alloc, b'v', vertex_count(problem)) {
         Ok(vertices) => Ok((elements, vertices)),
         Err(error) => {
             drop(elements);

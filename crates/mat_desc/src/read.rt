@@ -10,9 +10,9 @@ mod linked;
 mod matroids;
 mod notation;
 
-use crate::problem::Problem;
 use crate::refusal::DescRefusal;
 use mat_any::AnyMatroid;
+use mat_problem::Problem;
 use mat_words::LineCursor;
 
 /// What was read, with the lines behind it.

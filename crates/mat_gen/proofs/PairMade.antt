@@ -8,7 +8,7 @@ use Rattle.mat_count.specs.Labels.{classes_by}
 use Rattle.mat_count.specs.Partitions.{CappedClasses}
 use Rattle.mat_graphic.specs.declared.graphic.Graphic.{Graphic}
 use Rattle.mat_any.specs.Trees.{graphic, partition}
-use Rattle.mat_desc.specs.Instances.{pair}
+use Rattle.mat_problem.specs.Instances.{pair}
 use Rattle.mat_gen.specs.Draws.{draw}
 use Rattle.mat_gen.specs.Samples.{class_drawn, pairs_drawn, weights_drawn, sample_of}
 use Rattle.mat_gen.specs.declared.kind.SampleKind.TheVariants as kinds

@@ -15,12 +15,12 @@ use Rattle.mat_sets.proofs.Search.{IsSet-those_below}
 use Rattle.mat_count.specs.Labels.{classes_by}
 use Rattle.mat_count.proofs.LabelClasses.{IsPartition-classes_by}
 use Rattle.mat_any.specs.Trees.{Tree, graphic, partition}
-use Rattle.mat_desc.specs.Instances.{Instance}
+use Rattle.mat_problem.specs.Instances.{Instance}
 use Rattle.mat_sets.specs.Limits.{largest_weight, most_elements}
-use Rattle.mat_desc.specs.Grammar.{AreClasses, IsPairBelow, IsValidMatroid, IsWeight, IsValid}
-use Rattle.mat_desc.specs.Soundness.{IsSoundInstance}
-use Rattle.mat_desc.proofs.ItemLaws.{IsGraph-pairs}
-use Rattle.mat_desc.proofs.ProblemLaws.{IsSoundInstance-valid}
+use Rattle.mat_problem.specs.Validity.{AreClasses, IsPairBelow, IsValidMatroid, IsWeight, IsValid}
+use Rattle.mat_problem.specs.Soundness.{IsSoundInstance}
+use Rattle.mat_problem.proofs.SoundProblems.{IsGraph-pairs}
+use Rattle.mat_problem.proofs.SoundProblems.{IsSoundInstance-valid}
 use Rattle.mat_gen.specs.Draws.{state_after, draw}
 use Rattle.mat_gen.specs.Samples.{class_drawn, pair_drawn, pairs_drawn, sample_of, weight_from, weights_from}
 use Rattle.mat_gen.specs.declared.kind.SampleKind.{SampleKind}

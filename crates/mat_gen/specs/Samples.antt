@@ -4,7 +4,7 @@ use Rattle.mat_sets.specs.Search.{those_below}
 use Rattle.mat_sets.specs.Sets.{all_below}
 use Rattle.mat_sets.specs.declared.weight.Weight.{Weight}
 use Rattle.mat_any.specs.Trees.{graphic, partition}
-use Rattle.mat_desc.specs.Instances.{Instance, pair, list, graph, rooted, table}
+use Rattle.mat_problem.specs.Instances.{Instance, pair, list, graph, rooted, table}
 use Rattle.mat_gen.specs.Draws.{draw}
 use Rattle.mat_gen.specs.declared.kind.SampleKind.{SampleKind}
 use Rattle.mat_gen.specs.declared.kind.SampleKind.TheVariants as kinds

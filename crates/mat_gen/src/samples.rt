@@ -3,7 +3,7 @@
 ghost use Rattle.std.specs.Prelude.{◌≡◌, ◌<◌, ◌≤◌, ◌∷◌, [], map, IfOk};
 ghost use Rattle.mat_sets.specs.{Limits.{most_elements}, Graphs.{IsGraph}};
 ghost use Rattle.mat_any.specs.{Trees.{graphic}, Views.{tree_of}};
-ghost use Rattle.mat_desc.specs.{Grammar.{IsValid}, Soundness.{IsSoundInstance}, Views.{instance_of}};
+ghost use Rattle.mat_problem.specs.{Validity.{IsValid}, Soundness.{IsSoundInstance}, Views.{instance_of}};
 ghost use Rattle.mat_gen.specs.Samples.{sample_of};
 ghost use Rattle.mat_gen.specs.declared.kind.SampleKind.TheVariants as kinds;
 
@@ -11,8 +11,8 @@ use crate::generator::{COSTS, NO_WEIGHT, WEIGHTS, numbers, pairs, weights};
 use crate::kind::SampleKind;
 use mat_any::AnyMatroid;
 use mat_count::Partition;
-use mat_desc::Problem;
 use mat_graphic::Graphic;
+use mat_problem::Problem;
 use mat_sets::Pairs;
 use std::alloc::{AllocError, Global};
 

@@ -4,7 +4,7 @@ use Rattle.std.proofs.lemmas.Option.{none-some}
 use Rattle.std.specs.Prelude.{IfErr, IfSome}
 use Rattle.std.specs.Result.{result_and}
 use Rattle.mat_cert.specs.Certificates.{Certificate}
-use Rattle.mat_desc.specs.Instances.{Instance}
+use Rattle.mat_problem.specs.Instances.{Instance}
 use Rattle.mat_check.specs.Clauses.{failure_at}
 use Rattle.mat_check.specs.Views.{failure_in}
 use Rattle.mat_check.specs.declared.reason.Reason.{Reason}

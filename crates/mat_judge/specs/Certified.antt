@@ -1,6 +1,6 @@
 -- What the bytes of a certificate say, and why a file has no right answer to a problem.
 use Rattle.std.specs.Prelude.{◌≡◌, ℕ, ◌≤◌, true, false, List, length, Option, IfSome, Some, Err}
-use Rattle.mat_desc.specs.Instances.{Instance}
+use Rattle.mat_problem.specs.Instances.{Instance}
 use Rattle.mat_cert.specs.Certificates.{Certificate, certificate_text, IsRanged}
 use Rattle.mat_cert.specs.Faults.{CertRefusal, Fault}
 use Rattle.mat_cert.specs.Limits.{certificate_limit}

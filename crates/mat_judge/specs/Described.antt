@@ -1,7 +1,7 @@
 -- What the bytes of a description say, and why a file describes no problem.
 use Rattle.std.specs.Prelude.{◌≡◌, ℕ, ◌≤◌, List, length, Option, IfSome, Err}
 use Rattle.mat_desc.specs.Faults.{DescRefusal, Fault}
-use Rattle.mat_desc.specs.Instances.{Instance}
+use Rattle.mat_problem.specs.Instances.{Instance}
 use Rattle.mat_desc.specs.Grammar.{Spells, SpellsNamed}
 use Rattle.mat_desc.specs.Limits.{description_limit}
 use Rattle.mat_desc.specs.Notations.{NamedInstance}

@@ -4,7 +4,7 @@ ghost use Rattle.std.specs.Prelude.{◌≡◌, ◌≤◌, ℕ, List, true, OnOk,
 ghost use Rattle.mat_work.specs.Workers.{AreWorkers};
 ghost use Rattle.mat_cert.specs.{Certificates.{IsRanged}, Views.{certificate_of}};
 ghost use Rattle.mat_check.specs.Fitting.{fits};
-ghost use Rattle.mat_desc.specs.{Grammar.{IsValid}, Soundness.{IsSoundInstance}, Views.{instance_of}};
+ghost use Rattle.mat_problem.specs.{Validity.{IsValid}, Soundness.{IsSoundInstance}, Views.{instance_of}};
 ghost use Rattle.mat_right.specs.Right.{IsRight};
 ghost use Rattle.mat_judge.specs.declared.certified.Uncertified.TheVariants as uncertified;
 ghost use Rattle.mat_judge.specs.declared.certified.NotRight.TheVariants as not_right;
@@ -16,7 +16,7 @@ ghost use Rattle.mat_judge.specs.{
 use crate::reading::{Unread, read_all};
 use mat_cert::{Answer, CertKind, CertRefusal, read_answer};
 use mat_check::{CheckWorkers, Reason, Verdict, check, fits};
-use mat_desc::Problem;
+use mat_problem::Problem;
 use mat_shelf::Shelf;
 use std::alloc::{AllocError, Global};
 use thiserror::Error;

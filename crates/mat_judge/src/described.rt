@@ -1,18 +1,15 @@
 //! The problem that a file describes.
 
 ghost use Rattle.std.specs.Prelude.{◌≡◌, ◌≤◌, ℕ, List, IfOk, IfErr, IfSome};
-ghost use Rattle.mat_desc.specs.{
-  Grammar.{IsValid},
-  Notations.{IsNotationFor, names},
-  Soundness.{IsSoundInstance},
-  Views.{instance_of, named_instance},
-};
+ghost use Rattle.mat_problem.specs.{Validity.{IsValid}, Soundness.{IsSoundInstance}, Views.{instance_of}};
+ghost use Rattle.mat_desc.specs.{Notations.{IsNotationFor, names}, Views.{named_instance}};
 ghost use Rattle.mat_words.specs.NameLists.{names_of};
 ghost use Rattle.mat_judge.specs.declared.described.Undescribed.TheVariants as undescribed;
 ghost use Rattle.mat_judge.specs.Described.{IsDescribed, IsNamed, IsUndescribed, undescribed_by};
 
 use crate::reading::{Unread, read_all};
-use mat_desc::{DescKind, DescRefusal, Named, Problem, read_named, read_problem};
+use mat_desc::{DescKind, DescRefusal, read_named, read_problem};
+use mat_problem::{Named, Problem};
 use mat_shelf::Shelf;
 use std::alloc::Global;
 use thiserror::Error;

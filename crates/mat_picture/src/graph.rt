@@ -1,9 +1,9 @@
 //! Graphs as they are drawn: their edges, and what is told of each.
 
 ghost use Rattle.std.specs.Prelude.{◌<◌, ◌^◌, length, IfSome};
-ghost use Rattle.mat_desc.specs.{Grammar.{IsValid}, Views.{instance_of}};
+ghost use Rattle.mat_problem.specs.{Validity.{IsValid}, Views.{instance_of}};
 
-use mat_desc::Problem;
+use mat_problem::Problem;
 use mat_sets::Weight;
 use mat_text::{Called, Ends, Noun, Spelled};
 use std::alloc::{AllocError, Global};

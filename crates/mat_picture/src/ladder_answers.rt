@@ -1,7 +1,7 @@
 //! Answers with ladders.
 
 ghost use Rattle.std.specs.Prelude.{◌≡◌, ◌<◌, ◌^◌, length, IfOk};
-ghost use Rattle.mat_desc.specs.{Grammar.{IsValid}, Views.{instance_of}};
+ghost use Rattle.mat_problem.specs.{Validity.{IsValid}, Views.{instance_of}};
 ghost use Rattle.mat_sets.specs.Graphs.{IsGraph};
 
 use crate::drawn_graph::draw_graph;

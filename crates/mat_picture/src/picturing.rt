@@ -2,7 +2,7 @@
 
 ghost use Rattle.std.specs.Prelude.{◌<◌, ◌^◌, length, IfOk};
 ghost use Rattle.mat_cert.specs.{Certificates.{IsRanged}, Views.{certificate_of}};
-ghost use Rattle.mat_desc.specs.{Grammar.{IsValid}, Soundness.{IsSoundInstance}, Views.{instance_of}};
+ghost use Rattle.mat_problem.specs.{Validity.{IsValid}, Soundness.{IsSoundInstance}, Views.{instance_of}};
 ghost use Rattle.mat_drawing.specs.Markup.{IsPicture};
 ghost use Rattle.mat_right.specs.Right.{IsRight};
 ghost use Rattle.mat_text.specs.Texts.{IsPrintable};
@@ -17,7 +17,7 @@ use crate::scene::Scene;
 use crate::trees::{arranged_classes, arranged_trees};
 use mat_cert::Answer;
 use mat_charts::Canvas;
-use mat_desc::{Named, Problem};
+use mat_problem::{Named, Problem};
 use mat_text::{Called, Noun, Text};
 use std::alloc::{AllocError, Global};
 

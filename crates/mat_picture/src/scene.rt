@@ -1,10 +1,10 @@
 //! What a picture is drawn of.
 
 ghost use Rattle.std.specs.Prelude.{◌<◌, ◌^◌, length, IfSome};
-ghost use Rattle.mat_desc.specs.{Grammar.{IsValid}, Views.{instance_of}};
+ghost use Rattle.mat_problem.specs.{Validity.{IsValid}, Views.{instance_of}};
 
 use crate::graph::Graph;
-use mat_desc::Problem;
+use mat_problem::Problem;
 use mat_sets::Weight;
 use mat_text::{Called, Text};
 

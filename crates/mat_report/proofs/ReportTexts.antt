@@ -2,7 +2,7 @@
 use Rattle.std.proofs.Common.{◌≡◌, ℕ, List, Option, Result, Ok, Err, refl, subst}
 use Rattle.std.specs.Prelude.{IfSome, IfOk, IfErr, IsErrAnd}
 use Rattle.mat_command.specs.CommandLines.{check}
-use Rattle.mat_desc.specs.Instances.{Instance}
+use Rattle.mat_problem.specs.Instances.{Instance}
 use Rattle.mat_desc.specs.Notations.{NamedInstance}
 use Rattle.mat_judge.specs.Described.{IsDescribed, IsNamed}
 use Rattle.mat_judge.specs.Statuses.{out_of_memory}

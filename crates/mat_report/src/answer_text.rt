@@ -2,16 +2,12 @@
 
 ghost use Rattle.std.specs.Prelude.{ℕ, List, IfOk};
 ghost use Rattle.mat_cert.specs.{Certificates.{Certificate, IsRanged}, Views.{certificate_of}};
-ghost use Rattle.mat_desc.specs.{
-  Grammar.{IsValid},
-  Notations.{NamedInstance},
-  Soundness.{IsSoundInstance},
-  Views.{instance_of, named_instance},
-};
+ghost use Rattle.mat_problem.specs.{Validity.{IsValid}, Soundness.{IsSoundInstance}, Views.{instance_of}};
+ghost use Rattle.mat_desc.specs.{Notations.{NamedInstance}, Views.{named_instance}};
 ghost use Rattle.mat_right.specs.Right.{IsRight};
 
 use mat_cert::Answer;
-use mat_desc::Named;
+use mat_problem::Named;
 use std::alloc::{AllocError, Global};
 
 /// A way to write of right answers.

@@ -2,8 +2,8 @@
 
 use crate::answer_text::AnswerText;
 use mat_cert::Answer;
-use mat_desc::Named;
 use mat_picture::picture;
+use mat_problem::Named;
 use mat_tell::told_text;
 use std::alloc::{AllocError, Global};
 

@@ -2,7 +2,7 @@
 
 use crate::answer_text::AnswerText;
 use mat_cert::Answer;
-use mat_desc::Named;
+use mat_problem::Named;
 use mat_tell::told;
 use std::alloc::{AllocError, Global};
 

@@ -3,15 +3,16 @@
 ghost use Rattle.std.specs.Prelude.{◌≡◌, ◌≢◌, ◌≤◌, ◌<◌, ◌⊎◌, ℕ, List, IfOk, IfErr, Some};
 ghost use Rattle.mat_shelf.specs.Faults.{Rose};
 ghost use Rattle.mat_command.specs.CommandLines.{check};
-ghost use Rattle.mat_desc.specs.{Grammar.{IsValid}, Soundness.{IsSoundInstance}, Views.{instance_of, named_instance}};
+ghost use Rattle.mat_problem.specs.{Validity.{IsValid}, Soundness.{IsSoundInstance}, Views.{instance_of}};
+ghost use Rattle.mat_desc.specs.Views.{named_instance};
 ghost use Rattle.mat_judge.specs.Notes.{IsNoted};
 ghost use Rattle.mat_top.specs.{Outcomes.{Tells, IsStatus, IsOutcome, CallReaches, IsNote}, Refusals.{HasNoText, IsRefusal, IsPut}};
 ghost use Rattle.mat_report.specs.{ReportEnds.{MayBeReported, IsReportEnded}, Reports.{check_of, IsAnswerReport, IsReportWritten}};
 
 use crate::answer_text::AnswerText;
 use mat_check::CheckWorkers;
-use mat_desc::Named;
 use mat_judge::{Refusal, Status, named_in, put_note, put_texts, right_answer_in};
+use mat_problem::Named;
 use mat_shelf::{Shelf, Sink};
 use std::alloc::Global;
 

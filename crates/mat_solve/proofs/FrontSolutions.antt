@@ -14,8 +14,8 @@ use Rattle.mat_fronts.specs.Assignments.{row_at, IsAssignmentLadder}
 use Rattle.mat_fronts.specs.Once.{is_once}
 use Rattle.mat_fronts.specs.Rainbow.{IsMissingColours, IsRainbowLadder}
 use Rattle.mat_fronts.proofs.OnceEach.{once_laws}
-use Rattle.mat_desc.specs.Grammar.{IsValid}
-use Rattle.mat_desc.specs.Instances.{coloured, table}
+use Rattle.mat_problem.specs.Validity.{IsValid}
+use Rattle.mat_problem.specs.Instances.{coloured, table}
 use Rattle.mat_cert.specs.Certificates.{rainbow, assign, last_rung, is_short_of_tree, IsRangedOption}
 use Rattle.mat_solve.specs.Answers.{IsSolution}
 use Rattle.mat_solve.specs.PricedRungs.{priced_rung, HaveFewElements}

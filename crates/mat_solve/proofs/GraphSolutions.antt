@@ -15,8 +15,8 @@ use Rattle.mat_sets.proofs.Members.{member_from_some}
 use Rattle.mat_graphic.specs.ForestLaws.{graphic_laws}
 use Rattle.mat_union.specs.Unions.{part_at}
 use Rattle.mat_packing.specs.Trees.{AreTrees, IsRightPartition}
-use Rattle.mat_desc.specs.Grammar.{IsValid}
-use Rattle.mat_desc.specs.Instances.{graph}
+use Rattle.mat_problem.specs.Validity.{IsValid}
+use Rattle.mat_problem.specs.Instances.{graph}
 use Rattle.mat_cert.specs.Certificates.{trees, trees_none}
 use Rattle.mat_solve.specs.Answers.{IsSolution}
 

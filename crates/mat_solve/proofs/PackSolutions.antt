@@ -19,9 +19,9 @@ use Rattle.mat_packing.specs.Answers.{HasNoLoop}
 use Rattle.mat_packing.specs.Packings.{IsCoverCut, IsRightCovering, IsRightPacking}
 use Rattle.mat_packing.proofs.Copies.{bases_count}
 use Rattle.mat_any.specs.Trees.{Tree, is_independent}
-use Rattle.mat_desc.specs.Grammar.{IsValid}
-use Rattle.mat_desc.specs.Instances.{list}
-use Rattle.mat_desc.specs.Soundness.{IsSoundInstance}
+use Rattle.mat_problem.specs.Validity.{IsValid}
+use Rattle.mat_problem.specs.Instances.{list}
+use Rattle.mat_problem.specs.Soundness.{IsSoundInstance}
 use Rattle.mat_cert.specs.Certificates.{pack_any, pack, cover_never, cover, IsRangedOption}
 use Rattle.mat_check.proofs.RightLadders.{laws_of_one}
 use Rattle.mat_solve.specs.Answers.{IsSolution}

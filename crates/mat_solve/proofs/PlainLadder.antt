@@ -14,9 +14,9 @@ use Rattle.mat_laws.proofs.Maximal.{IsBase-size, IsBase-maximal}
 use Rattle.mat_laws.proofs.RankLaws.{maximal_in, rank-maximal}
 use Rattle.mat_any.specs.Trees.{Tree, is_independent}
 use Rattle.mat_greedy.specs.Greedy.{AreHeaviestEach}
-use Rattle.mat_desc.specs.Grammar.{IsValid}
-use Rattle.mat_desc.specs.Instances.{list}
-use Rattle.mat_desc.specs.Soundness.{IsSoundInstance}
+use Rattle.mat_problem.specs.Validity.{IsValid}
+use Rattle.mat_problem.specs.Instances.{list}
+use Rattle.mat_problem.specs.Soundness.{IsSoundInstance}
 use Rattle.mat_cert.specs.Certificates.{best, last_rung}
 use Rattle.mat_cert.specs.declared.answer.PlainRung.{PlainRung}
 use Rattle.mat_check.proofs.RightLadders.{laws_of_one}

@@ -15,9 +15,9 @@ use Rattle.mat_laws.specs.Ladders.{IsCut, split_bound}
 use Rattle.mat_any.specs.Trees.{Tree, is_independent}
 use Rattle.mat_split.specs.declared.ladder.Rung.{Rung}
 use Rattle.mat_split.specs.Ladders.{IsBoundedRung, IsLadder}
-use Rattle.mat_desc.specs.Grammar.{IsValid}
-use Rattle.mat_desc.specs.Instances.{pair}
-use Rattle.mat_desc.specs.Soundness.{IsSoundInstance}
+use Rattle.mat_problem.specs.Validity.{IsValid}
+use Rattle.mat_problem.specs.Instances.{pair}
+use Rattle.mat_problem.specs.Soundness.{IsSoundInstance}
 use Rattle.mat_cert.specs.Certificates.{IsRangedPart, IsRangedPricedRung, IsRangedLadder, intersect, last_rung}
 use Rattle.mat_right.specs.Right.{IsRightLadder}
 use Rattle.mat_check.proofs.RightLadders.{laws_on_weights}

@@ -19,8 +19,8 @@ use Rattle.mat_union.specs.RightUnions.{AreFalling, level_at}
 use Rattle.mat_fronts.specs.Assignments.{row_at, column_at}
 use Rattle.mat_fronts.specs.Once.{is_once}
 use Rattle.mat_any.specs.Trees.{is_independent}
-use Rattle.mat_desc.specs.Grammar.{IsValid}
-use Rattle.mat_desc.specs.Instances.{Instance}
+use Rattle.mat_problem.specs.Validity.{IsValid}
+use Rattle.mat_problem.specs.Instances.{Instance}
 use Rattle.mat_cert.specs.Certificates.{Certificate, best, certificate_text, IsRanged, IsRangedLadder, IsPrinted, IsPrintedRung, IsPrintedWeight}
 use Rattle.mat_cert.specs.declared.answer.LevelLine.{LevelLine}
 use Rattle.mat_cert.specs.declared.answer.PlainRung.{PlainRung}

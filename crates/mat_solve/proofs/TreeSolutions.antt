@@ -9,8 +9,8 @@ use Rattle.mat_sets.proofs.Ground.{IsSet-length}
 use Rattle.mat_arbor.specs.Arborescences.{IsRightArbor}
 use Rattle.mat_arbor.specs.declared.arbor.Arbor.TheVariants.{Tree}
 use Rattle.mat_branch.specs.Arborescences.{AreDisjointArborescences, IsSeldomEntered}
-use Rattle.mat_desc.specs.Grammar.{IsValid}
-use Rattle.mat_desc.specs.Instances.{rooted}
+use Rattle.mat_problem.specs.Validity.{IsValid}
+use Rattle.mat_problem.specs.Instances.{rooted}
 use Rattle.mat_cert.specs.Certificates.{arbor, unreached, disjoint, disjoint_none}
 use Rattle.mat_solve.specs.Answers.{IsSolution}
 use Rattle.mat_solve.proofs.PricedLadder.{ranged_part}

@@ -21,9 +21,9 @@ use Rattle.mat_union.specs.RightUnions.{AreFalling, IsRightUnion, level_at}
 use Rattle.mat_union.specs.Unions.{AreMatroids, AreParts}
 use Rattle.mat_union.specs.declared.best.Level.{Level}
 use Rattle.mat_any.specs.Trees.{Tree, uniform, is_independent}
-use Rattle.mat_desc.specs.Grammar.{IsValid}
-use Rattle.mat_desc.specs.Instances.{list}
-use Rattle.mat_desc.specs.Soundness.{IsSoundInstance}
+use Rattle.mat_problem.specs.Validity.{IsValid}
+use Rattle.mat_problem.specs.Instances.{list}
+use Rattle.mat_problem.specs.Soundness.{IsSoundInstance}
 use Rattle.mat_cert.specs.Certificates.{union_of, IsCertificateWeight, IsRangedLevel}
 use Rattle.mat_cert.specs.declared.answer.LevelLine.{LevelLine}
 use Rattle.mat_right.specs.Right.{level_of}

@@ -2,7 +2,7 @@
 use Rattle.std.specs.Coded.{×_prop, Unit-prop, le_prop}
 use Rattle.std.specs.Prelude.{◌≡◌, ◌≤◌, Bool, length}
 use Rattle.mat_sets.specs.Limits.{most_trees}
-use Rattle.mat_desc.specs.Instances.{Instance}
+use Rattle.mat_problem.specs.Instances.{Instance}
 use Rattle.mat_cert.specs.Certificates as certificates
 use Rattle.mat_cert.specs.Certificates.{Certificate}
 use Rattle.mat_check.specs.Fitting.{is_pair, is_list, is_single, is_graph, is_rooted, is_coloured, is_table}

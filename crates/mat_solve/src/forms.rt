@@ -3,13 +3,13 @@
 ghost use Rattle.std.specs.Prelude.{◌≡◌, ◌∷◌, [], true};
 ghost use Rattle.mat_any.specs.Views.{tree_of};
 ghost use Rattle.mat_check.specs.Fitting.{is_single};
-ghost use Rattle.mat_desc.specs.{Instances.{list}, Views.{instance_of}};
+ghost use Rattle.mat_problem.specs.{Instances.{list}, Views.{instance_of}};
 ghost use Rattle.mat_solve.specs.Queries.{has_form};
 
 use crate::query::Query;
 use mat_any::AnyMatroid;
 use mat_check::is_single_list;
-use mat_desc::Problem;
+use mat_problem::Problem;
 use mat_sets::PairWeights;
 
 /// Whether the form of the problem is that of the query. It takes no memory.

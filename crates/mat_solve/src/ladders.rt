@@ -4,7 +4,7 @@ ghost use Rattle.std.specs.Prelude.{◌≡◌, ◌≤◌, true, length, map, IfO
 ghost use Rattle.mat_sets.specs.{Limits.{most_elements, largest_number}, Sets.{AllBelow}, Weights.{AreWeightsWithin}};
 ghost use Rattle.mat_work.specs.Workers.{AreWorkers};
 ghost use Rattle.mat_check.specs.Fitting.{is_single, is_pair, is_coloured, is_table};
-ghost use Rattle.mat_desc.specs.{Views.{instance_of}, Grammar.{IsValid}, Soundness.{IsSoundInstance}};
+ghost use Rattle.mat_problem.specs.{Views.{instance_of}, Validity.{IsValid}, Soundness.{IsSoundInstance}};
 ghost use Rattle.mat_cert.specs.Views.{certificate_of};
 ghost use Rattle.mat_solve.specs.{
   Answers.{IsSolution},
@@ -16,9 +16,9 @@ use crate::forms::only_matroid;
 use crate::query::Query;
 use crate::workers::SolveWorkers;
 use mat_cert::{Answer, PlainRung, PricedRung};
-use mat_desc::Problem;
 use mat_greedy::heaviest_each;
 use mat_laws::Matroid;
+use mat_problem::Problem;
 use mat_sets::{ElemSet, Weight, weigh};
 use mat_split::Rung;
 use std::alloc::{AllocError, Global};

@@ -1,7 +1,7 @@
 //! Disjoint and covering sets: unions, packings and coverings.
 
 ghost use Rattle.std.specs.Prelude.{◌≡◌, true, map, IfOk};
-ghost use Rattle.mat_desc.specs.{Views.{instance_of}, Grammar.{IsValid}, Soundness.{IsSoundInstance}};
+ghost use Rattle.mat_problem.specs.{Views.{instance_of}, Validity.{IsValid}, Soundness.{IsSoundInstance}};
 ghost use Rattle.mat_cert.specs.Views.{certificate_of};
 ghost use Rattle.mat_right.specs.Right.{level_of};
 ghost use Rattle.mat_check.specs.Fitting.{is_list, is_single};
@@ -10,8 +10,8 @@ ghost use Rattle.mat_solve.specs.{Answers.{IsSolution}, Queries.{IsAnswerOf}};
 use crate::forms::only_matroid;
 use crate::query::Query;
 use mat_cert::{Answer, LevelLine};
-use mat_desc::Problem;
 use mat_packing::{Covering, Packing, pack_bases};
+use mat_problem::Problem;
 use mat_sets::weigh;
 use mat_union::{Level, best_union, members_of};
 use std::alloc::{AllocError, Global};

@@ -3,7 +3,7 @@
 ghost use Rattle.std.specs.Prelude.{◌≡◌, true, IfOk};
 ghost use Rattle.mat_work.specs.Workers.{AreWorkers};
 ghost use Rattle.mat_cert.specs.Views.{certificate_of};
-ghost use Rattle.mat_desc.specs.{Grammar.{IsValid}, Soundness.{IsSoundInstance}, Views.{instance_of}};
+ghost use Rattle.mat_problem.specs.{Validity.{IsValid}, Soundness.{IsSoundInstance}, Views.{instance_of}};
 ghost use Rattle.mat_solve.specs.{Answers.{IsSolution}, Queries.{has_form, IsAnswerOf, IsQueryInRange}};
 
 use crate::ladders::{assign, best, intersect, rainbow};
@@ -13,7 +13,7 @@ use crate::trees::{arborescence, disjoint, trees};
 use crate::workers::SolveWorkers;
 use mat_any::has_union;
 use mat_cert::Answer;
-use mat_desc::Problem;
+use mat_problem::Problem;
 use std::alloc::{AllocError, Global};
 
 /// A right answer to the query about a problem of its form, found by so many workers. The only error is want of memory.

@@ -3,7 +3,7 @@
 ghost use Rattle.std.specs.Prelude.{◌≡◌, ◌≤◌, true, IfOk};
 ghost use Rattle.mat_sets.specs.Limits.{most_trees};
 ghost use Rattle.mat_work.specs.Workers.{AreWorkers};
-ghost use Rattle.mat_desc.specs.{Views.{instance_of}, Grammar.{IsValid}};
+ghost use Rattle.mat_problem.specs.{Views.{instance_of}, Validity.{IsValid}};
 ghost use Rattle.mat_cert.specs.Views.{certificate_of};
 ghost use Rattle.mat_check.specs.Fitting.{is_graph, is_rooted};
 ghost use Rattle.mat_solve.specs.{Answers.{IsSolution}, Queries.{IsAnswerOf}};
@@ -12,9 +12,9 @@ use crate::query::Query;
 use mat_arbor::{Arbor, least_arborescence};
 use mat_branch::Branch;
 use mat_cert::Answer;
-use mat_desc::Problem;
 use mat_flow::Digraph;
 use mat_packing::pack_trees;
+use mat_problem::Problem;
 use mat_sets::weigh;
 use std::alloc::{AllocError, Global};
 

@@ -9,9 +9,9 @@ use Rattle.mat_words.specs.Numbers.{numeral}
 use Rattle.mat_any.specs.Trees.{Tree, is_independent}
 use Rattle.mat_fronts.specs.Assignments.{column_at, row_at}
 use Rattle.mat_fronts.specs.Once.{is_once}
-use Rattle.mat_desc.specs.Grammar.{IsValid}
-use Rattle.mat_desc.specs.Instances.{Instance, pair, list, graph, rooted, table}
-use Rattle.mat_desc.proofs.ProblemLaws.{IsSoundInstance-valid}
+use Rattle.mat_problem.specs.Validity.{IsValid}
+use Rattle.mat_problem.specs.Instances.{Instance, pair, list, graph, rooted, table}
+use Rattle.mat_problem.proofs.SoundProblems.{IsSoundInstance-valid}
 use Rattle.mat_cert.specs.Certificates.{Certificate, intersect, union_of, trees, trees_none, arbor, unreached, assign}
 use Rattle.mat_cert.specs.declared.answer.LevelLine.{LevelLine}
 use Rattle.mat_cert.specs.declared.answer.PricedRung.{PricedRung}

@@ -3,7 +3,7 @@
 ghost use Rattle.std.specs.Prelude.{◌≡◌, ◌≤◌, true, IfOk};
 ghost use Rattle.mat_sets.specs.Limits.{most_elements};
 ghost use Rattle.mat_work.specs.Workers.{AreWorkers};
-ghost use Rattle.mat_desc.specs.{Grammar.{IsValid}, Soundness.{IsSoundInstance}, Views.{instance_of}};
+ghost use Rattle.mat_problem.specs.{Validity.{IsValid}, Soundness.{IsSoundInstance}, Views.{instance_of}};
 ghost use Rattle.mat_cert.specs.{Certificates.{IsRanged}, Views.{certificate_of}};
 ghost use Rattle.mat_right.specs.Right.{IsRight};
 ghost use Rattle.mat_gen.specs.Samples.{sample_of};
@@ -13,8 +13,8 @@ ghost use Rattle.mat_summary.specs.Summaries.{query_of_kind, IsSummary};
 use crate::summary::summary_text;
 use mat_cert::Answer;
 use mat_check::{CheckWorkers, Verdict, check};
-use mat_desc::Problem;
 use mat_gen::{SampleKind, sample};
+use mat_problem::Problem;
 use mat_solve::{Query, SolveWorkers, solve};
 use std::alloc::{AllocError, Global};
 

@@ -1,7 +1,7 @@
 //! Answers about graphs and tables.
 
 ghost use Rattle.mat_cert.specs.{Certificates.{IsRanged}, Views.{certificate_of}};
-ghost use Rattle.mat_desc.specs.{Grammar.{IsValid}, Instances.{coloured, graph, rooted, table}};
+ghost use Rattle.mat_problem.specs.{Validity.{IsValid}, Instances.{coloured, graph, rooted, table}};
 ghost use Rattle.mat_right.specs.Right.{IsRight};
 
 use crate::arborescences::{

@@ -2,7 +2,7 @@
 
 ghost use Rattle.std.specs.Prelude.{◌≡◌, IfOk};
 ghost use Rattle.mat_cert.specs.{Certificates.{IsRanged}, Views.{certificate_of}};
-ghost use Rattle.mat_desc.specs.{Grammar.{IsValid}, Soundness.{IsSoundInstance}, Views.{instance_of}};
+ghost use Rattle.mat_problem.specs.{Validity.{IsValid}, Soundness.{IsSoundInstance}, Views.{instance_of}};
 ghost use Rattle.mat_right.specs.Right.{IsRight};
 ghost use Rattle.mat_text.specs.{Paragraphs.{AreShallow}, Texts.{IsPrintable}};
 
@@ -14,7 +14,7 @@ use crate::matroid_answers::{tell_list, tell_pair};
 use crate::rainbow::Coloured;
 use crate::unions::Rules;
 use mat_cert::Answer;
-use mat_desc::{Named, Problem};
+use mat_problem::{Named, Problem};
 use mat_text::{Called, Ends, Text};
 use std::alloc::{AllocError, Global};
 

@@ -1,6 +1,6 @@
 -- What a solving command printed is accepted: the text of a solution is that of an answer in range which fits the problem and is right.
 use Rattle.std.proofs.Common.{◌≡◌, ℕ, List, Option, Some, refl, inr}
-use Rattle.mat_desc.specs.Instances.{Instance}
+use Rattle.mat_problem.specs.Instances.{Instance}
 use Rattle.mat_cert.specs.Certificates.{Certificate, certificate_text}
 use Rattle.mat_cert.proofs.Lengths.{length-certificate_text}
 use Rattle.mat_check.proofs.AnswerForms.{right_fits}

@@ -4,7 +4,7 @@ use Rattle.std.specs.Global.{Vec}
 use Rattle.std.specs.Prelude.{◌≢◌, length, map, All, IfSome, IsSome}
 use Rattle.std.proofs.lemmas.List.Elements.{All-nil, All-cons}
 use Rattle.mat_shelf.specs.Faults.{Rose}
-use Rattle.mat_desc.specs.Views.{instance_of}
+use Rattle.mat_problem.specs.Views.{instance_of}
 use Rattle.mat_desc.specs.declared.refusal.DescKind.{DescKind}
 use Rattle.mat_cert.specs.Limits.{certificate_limit}
 use Rattle.mat_top.specs.declared.loaded_job.LoadedJob.{LoadedJob}

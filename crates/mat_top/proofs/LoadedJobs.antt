@@ -4,8 +4,8 @@ use Rattle.std.proofs.Common.{◌≡◌, ℕ, ◌+◌, ◌<◌, ◌≤◌, Bool,
 use Rattle.std.specs.Prelude.{map, length, drop, get_or, IfSome}
 use Rattle.std.proofs.lemmas.List.{append_assoc, append-nil, drop_more, drop_all}
 use Rattle.std.proofs.lemmas.List.Elements.{All-push}
-use Rattle.mat_desc.specs.Instances.{Instance}
-use Rattle.mat_desc.specs.Views.{instance_of}
+use Rattle.mat_problem.specs.Instances.{Instance}
+use Rattle.mat_problem.specs.Views.{instance_of}
 use Rattle.mat_top.specs.declared.loaded_job.LoadedJob.{LoadedJob}
 use Rattle.mat_command.specs.declared.job.Job as declared
 use Rattle.mat_judge.specs.declared.status.Status.TheVariants as statuses

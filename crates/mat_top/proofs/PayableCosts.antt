@@ -2,7 +2,7 @@
 use Rattle.std.proofs.Common.{List, All}
 use Rattle.std.proofs.lemmas.List.Elements.{All-map}
 use Rattle.mat_sets.specs.declared.weight.Weight.{Weight}
-use Rattle.mat_desc.specs.Grammar.{IsWeight}
+use Rattle.mat_problem.specs.Validity.{IsWeight}
 use Rattle.mat_cuts.specs.Costs.{IsCost}
 use Rattle.mat_top.specs.CutTexts.{mains, IsPayable}
 

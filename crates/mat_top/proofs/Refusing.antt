@@ -2,7 +2,7 @@
 use Rattle.std.proofs.Common.{◌≡◌, ◌⊎◌, ℕ, ◌<◌, ◌≤◌, List, length, Option, Some, None, Result, Ok, Err, true, refl, inl, inr, subst}
 use Rattle.std.proofs.lemmas.Bool.{and_parts}
 use Rattle.std.specs.Prelude.{IfSome, IsSome, IsSomeAnd, IfOk, IfErr}
-use Rattle.mat_desc.specs.Instances.{Instance, rooted}
+use Rattle.mat_problem.specs.Instances.{Instance, rooted}
 use Rattle.mat_cert.specs.Certificates.{Certificate}
 use Rattle.mat_cert.specs.Limits.{certificate_limit}
 use Rattle.mat_cert.specs.declared.refusal.CertKind.{CertKind}

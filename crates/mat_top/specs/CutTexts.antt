@@ -4,7 +4,7 @@ use Rattle.mat_sets.specs.declared.weight.Weight.{Weight}
 use Rattle.mat_words.specs.Lines.{Line, text_of}
 use Rattle.mat_words.specs.Numbers.{numeral, numerals}
 use Rattle.mat_words.specs.Writing.{end_line, members_line}
-use Rattle.mat_desc.specs.Instances.{Instance, rooted}
+use Rattle.mat_problem.specs.Instances.{Instance, rooted}
 use Rattle.mat_cert.specs.Certificates.{version_line, header_line}
 use Rattle.mat_cuts.specs.Answers.{AreRight, AreInRange}
 use Rattle.mat_cuts.specs.Costs.{cost_of}

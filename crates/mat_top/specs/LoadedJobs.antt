@@ -1,10 +1,10 @@
 -- Jobs whose problems are read, and their texts.
 use Rattle.std.specs.Global.{Vec}
 use Rattle.std.specs.Prelude.{◌≡◌, ℕ, ◌⊎◌, true, List, [], ◌∷◌, ◌++◌, slice_get, Option, IfSome, Some, All}
-use Rattle.mat_desc.specs.Grammar.{IsValid}
-use Rattle.mat_desc.specs.Instances.{Instance}
-use Rattle.mat_desc.specs.Soundness.{IsSoundInstance}
-use Rattle.mat_desc.specs.Views.{instance_of}
+use Rattle.mat_problem.specs.Validity.{IsValid}
+use Rattle.mat_problem.specs.Instances.{Instance}
+use Rattle.mat_problem.specs.Soundness.{IsSoundInstance}
+use Rattle.mat_problem.specs.Views.{instance_of}
 use Rattle.mat_top.specs.declared.loaded_job.LoadedJob.{LoadedJob}
 use Rattle.mat_command.specs.JobLists.{Job, IsMislisted}
 use Rattle.mat_desc.specs.Limits.{description_limit}

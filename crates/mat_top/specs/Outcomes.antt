@@ -3,7 +3,7 @@ use Rattle.std.specs.Prelude.{◌≡◌, ◌≢◌, ℕ, ◌<◌, ◌≤◌, ◌
 use Rattle.std.specs.Prelude.{Option, Some, None, IsSome, IfSome, IsSomeAnd, All}
 use Rattle.mat_shelf.specs.Writing.{Appended, AppendedProperPrefix}
 use Rattle.mat_desc.specs.Faults.{Fault}
-use Rattle.mat_desc.specs.Instances.{Instance}
+use Rattle.mat_problem.specs.Instances.{Instance}
 use Rattle.mat_desc.specs.Notations.{NamedInstance}
 use Rattle.mat_desc.specs.Canonical.{canonical_text, named_text}
 use Rattle.mat_desc.specs.Limits.{description_limit}

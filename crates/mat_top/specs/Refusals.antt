@@ -2,7 +2,7 @@
 use Rattle.std.specs.Prelude.{◌≡◌, ℕ, ◌≤◌, ◌⊎◌, true, List, length, Option, IfSome, Some, Result, Ok, Err}
 use Rattle.mat_shelf.specs.Faults.{Rose}
 use Rattle.mat_shelf.specs.Writing.{Appended, AppendedProperPrefix}
-use Rattle.mat_desc.specs.Instances.{Instance}
+use Rattle.mat_problem.specs.Instances.{Instance}
 use Rattle.mat_cert.specs.Limits.{certificate_limit}
 use Rattle.mat_command.specs.CommandLines.{Request, show, solve, cuts, check, witness, verify, Task}
 use Rattle.mat_command.specs.JobLists.{Job}

@@ -2,7 +2,7 @@
 
 ghost use Rattle.std.specs.Prelude.{◌≡◌, ◌≤◌, ℕ, List, true, IfOk, IfErr};
 ghost use Rattle.mat_work.specs.Workers.{AreWorkers};
-ghost use Rattle.mat_desc.specs.{Grammar.{IsValid}, Soundness.{IsSoundInstance}, Views.{instance_of}};
+ghost use Rattle.mat_problem.specs.{Validity.{IsValid}, Soundness.{IsSoundInstance}, Views.{instance_of}};
 ghost use Rattle.mat_command.specs.{CommandLines.{about}, Commands.{request_of, IsRequestInRange}};
 ghost use Rattle.mat_top.specs.{Outcomes.{yes_text}, Refusals.{HasText, HasNoText, HasSolutionText, MayBeWritten, IsRefusal}};
 ghost use Rattle.mat_solve.specs.Queries.{has_form, IsQueryInRange};
@@ -11,8 +11,9 @@ use crate::cuts_text::{cuts_text, has_payable_costs};
 use mat_cert::write_answer;
 use mat_check::CheckWorkers;
 use mat_command::Request;
-use mat_desc::{Problem, write_problem};
+use mat_desc::write_problem;
 use mat_judge::{Denial, Refusal, judge, problem_in};
+use mat_problem::Problem;
 use mat_shelf::Shelf;
 use mat_solve::{Query, SolveWorkers, has_form, solve};
 use mat_verify::{verify_in, witness_text};

@@ -2,12 +2,12 @@
 
 ghost use Rattle.std.specs.Prelude.{◌≡◌, ◌↔◌, true, All, IfOk, IsTrue};
 ghost use Rattle.mat_check.specs.Fitting.{is_rooted};
-ghost use Rattle.mat_desc.specs.{Grammar.{IsValid}, Instances.{rooted}, Views.{instance_of}};
+ghost use Rattle.mat_problem.specs.{Validity.{IsValid}, Instances.{rooted}, Views.{instance_of}};
 ghost use Rattle.mat_top.specs.CutTexts.{mains, HasPayableCosts, IsCutsText, IsPayable};
 
 use crate::cut_lines::{tree_text, unreached_text};
 use mat_cuts::{Cuts, cheapest, total_cost};
-use mat_desc::Problem;
+use mat_problem::Problem;
 use mat_sets::{Pairs, Weight};
 use std::alloc::{AllocError, Global};
 

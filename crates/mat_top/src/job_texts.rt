@@ -2,7 +2,7 @@
 
 ghost use Rattle.std.specs.Prelude.{◌≤◌, length, IfOk, All};
 ghost use Rattle.mat_work.specs.Workers.{AreWorkers};
-ghost use Rattle.mat_desc.specs.Views.{instance_of};
+ghost use Rattle.mat_problem.specs.Views.{instance_of};
 ghost use Rattle.mat_command.specs.JobLists.{most_jobs};
 ghost use Rattle.mat_top.specs.{LoadedJobs.{IsAnswerable, HaveTexts}, Refusals.{HasSolutionText}};
 

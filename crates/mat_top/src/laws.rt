@@ -1,7 +1,7 @@
 //! What holds of every solution.
 
 ghost use Rattle.std.specs.Prelude.{◌≡◌, ◌<◌, ℕ, List, length, Option, Some};
-ghost use Rattle.mat_desc.specs.{Grammar.{IsValid}, Instances.{Instance}};
+ghost use Rattle.mat_problem.specs.{Validity.{IsValid}, Instances.{Instance}};
 ghost use Rattle.mat_cert.specs.Certificates.{Certificate, certificate_text};
 ghost use Rattle.mat_solve.specs.Answers.{IsSolution, IsSolutionText};
 ghost use Rattle.mat_command.specs.CommandLines.{about, check};

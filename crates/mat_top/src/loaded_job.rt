@@ -1,6 +1,6 @@
 //! Queries about problems.
 
-use mat_desc::Problem;
+use mat_problem::Problem;
 use mat_solve::Query;
 
 /// A query about a problem.

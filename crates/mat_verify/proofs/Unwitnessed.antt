@@ -2,7 +2,7 @@
 -- held; and what is said of an answer as what is said of the file that it was read from.
 use Rattle.std.proofs.Common.{◌≡◌, ℕ, ◌≤◌, true, List, Option, inl, inr, subst}
 use Rattle.std.specs.Prelude.{IfSome}
-use Rattle.mat_desc.specs.Instances.{Instance}
+use Rattle.mat_problem.specs.Instances.{Instance}
 use Rattle.mat_cert.specs.Certificates.{Certificate}
 use Rattle.mat_cert.specs.Limits.{certificate_limit}
 use Rattle.mat_witness.specs.Kinds.{is_witnessed_pair}

@@ -1,6 +1,6 @@
 -- Which row of the table of outcomes applies to the bytes of a certificate and of a witness, and when a witness was found.
 use Rattle.std.specs.Prelude.{◌≡◌, ℕ, ◌<◌, true, false, List, length}
-use Rattle.mat_desc.specs.Instances.{Instance}
+use Rattle.mat_problem.specs.Instances.{Instance}
 use Rattle.mat_cert.specs.Certificates.{Certificate}
 use Rattle.mat_cert.specs.Faults.{Fault}
 use Rattle.mat_cert.specs.Limits.{certificate_limit}

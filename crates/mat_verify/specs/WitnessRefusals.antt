@@ -1,6 +1,6 @@
 -- Why a rung of a certificate has no witness, or is not verified.
 use Rattle.std.specs.Prelude.{◌≡◌, ℕ, ◌⊎◌, true, false, List, Option, IfSome, Some}
-use Rattle.mat_desc.specs.Instances.{Instance}
+use Rattle.mat_problem.specs.Instances.{Instance}
 use Rattle.mat_cert.specs.Faults.{CertRefusal}
 use Rattle.mat_cert.specs.Certificates.{Certificate}
 use Rattle.mat_words.specs.declared.refusal.Refusal.TheVariants as cert_refusals

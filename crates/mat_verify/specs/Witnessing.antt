@@ -1,6 +1,6 @@
 -- Rungs of certificates that witnesses show: which answers have them, and what the bytes of a certificate and of a witness say.
 use Rattle.std.specs.Prelude.{◌≡◌, ℕ, ◌≤◌, Bool, true, ◌&&◌, List, length, Some, Err}
-use Rattle.mat_desc.specs.Instances.{Instance}
+use Rattle.mat_problem.specs.Instances.{Instance}
 use Rattle.mat_cert.specs.Certificates.{Certificate}
 use Rattle.mat_cert.specs.Faults.{Fault}
 use Rattle.mat_check.specs.Fitting.{fits}

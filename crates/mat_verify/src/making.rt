@@ -2,7 +2,7 @@
 
 ghost use Rattle.std.specs.Prelude.{◌≡◌, ◌≤◌, ℕ, List, true, length, IfOk, IfErr, IfSome};
 ghost use Rattle.mat_cert.specs.{Certificates.{IsRanged}, Views.{certificate_of}};
-ghost use Rattle.mat_desc.specs.{Grammar.{IsValid}, Soundness.{IsSoundInstance}, Views.{instance_of}};
+ghost use Rattle.mat_problem.specs.{Validity.{IsValid}, Soundness.{IsSoundInstance}, Views.{instance_of}};
 ghost use Rattle.mat_right.specs.Right.{IsRight};
 ghost use Rattle.mat_witness.specs.{Kinds.{is_witnessed_pair}, Lines.{witness_limit}};
 ghost use Rattle.mat_verify.specs.{
@@ -14,8 +14,8 @@ ghost use Rattle.mat_verify.specs.{
 use crate::rung_answer::rung_answer_in;
 use mat_cert::Answer;
 use mat_check::{CheckWorkers, Verdict, check};
-use mat_desc::Problem;
 use mat_judge::{Denial, Refusal};
+use mat_problem::Problem;
 use mat_shelf::Shelf;
 use mat_witness::{make_witness, write_witness};
 use std::alloc::{AllocError, Global};

@@ -2,15 +2,15 @@
 
 ghost use Rattle.std.specs.Prelude.{◌≡◌, ◌≤◌, ℕ, List, true, OnOk, IfOk, IfErr, IfSome};
 ghost use Rattle.mat_cert.specs.{Certificates.{IsRanged}, Views.{certificate_of}};
-ghost use Rattle.mat_desc.specs.Views.{instance_of};
+ghost use Rattle.mat_problem.specs.Views.{instance_of};
 ghost use Rattle.mat_witness.specs.Kinds.{is_witnessed_pair};
 ghost use Rattle.mat_verify.specs.{WitnessRefusals.{HasNoRung, IsUnwitnessable}, Witnessing.{IsRungAnswer, fits_rung}};
 
 use crate::refusals::NoRung;
 use mat_cert::Answer;
 use mat_check::fits;
-use mat_desc::Problem;
 use mat_judge::answer_in;
+use mat_problem::Problem;
 use mat_shelf::Shelf;
 use mat_witness::{are_witnessed, has_rung};
 use std::alloc::Global;

@@ -2,15 +2,15 @@
 
 ghost use Rattle.std.specs.Prelude.{◌≡◌, ◌≤◌, ℕ, List, true, length, Some, OnOk, IfErr, IfSome};
 ghost use Rattle.mat_cert.specs.{Certificates.{Certificate, IsRanged}, Views.{certificate_of}};
-ghost use Rattle.mat_desc.specs.{Grammar.{IsValid}, Soundness.{IsSoundInstance}, Views.{instance_of}};
+ghost use Rattle.mat_problem.specs.{Validity.{IsValid}, Soundness.{IsSoundInstance}, Views.{instance_of}};
 ghost use Rattle.mat_witness.specs.{Kinds.{has_rung, is_witnessed_pair}, Lines.{witness_limit}};
 ghost use Rattle.mat_verify.specs.{WitnessOutcomes.{IsVerifyOutcome}, WitnessRefusals.{IsUnshown, IsUnverified}, Witnessing.{IsRungAnswer}};
 
 use crate::refusals::Unshown;
 use crate::rung_answer::rung_answer_in;
 use mat_cert::Answer;
-use mat_desc::Problem;
 use mat_judge::{Refusal, Status, read_all};
+use mat_problem::Problem;
 use mat_shelf::Shelf;
 use mat_witness::{read_witness, verify};
 use std::alloc::Global;

@@ -8,7 +8,7 @@ use Rattle.std.specs.List.{All}
 use Rattle.mat_sets.specs.Limits.{most_elements}
 use Rattle.mat_sets.specs.Sets.{IsSet}
 use Rattle.mat_sets.proofs.Ground.{IsSet-length}
-use Rattle.mat_desc.specs.Limits.{most_sets}
+use Rattle.mat_problem.specs.Limits.{most_sets}
 use Rattle.mat_witness.specs.BoundParts.{caps_sum}
 
 -- one more set

@@ -21,8 +21,8 @@ use Rattle.mat_any.specs.Trees.{Tree, element_count, is_independent}
 use Rattle.mat_any.specs.TreeLaws.{tree_laws}
 use Rattle.mat_cert.specs.Certificates.{IsRanged, intersect, last_rung}
 use Rattle.mat_cert.specs.declared.answer.PricedRung.{PricedRung}
-use Rattle.mat_desc.specs.Instances.{pair}
-use Rattle.mat_desc.specs.Soundness.{IsSoundInstance}
+use Rattle.mat_problem.specs.Instances.{pair}
+use Rattle.mat_problem.specs.Soundness.{IsSoundInstance}
 use Rattle.mat_witness.specs.declared.demands.Demand.{Demand as Asked}
 use Rattle.mat_witness.specs.declared.witness.Most.{Most}
 use Rattle.mat_witness.specs.Demands.{demand_for}

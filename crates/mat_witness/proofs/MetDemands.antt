@@ -19,7 +19,7 @@ use Rattle.mat_union.proofs.Dominated.{dominated, weighs}
 use Rattle.mat_sets.proofs.FallingWeights.{IsIn, falling_weights-holds, heavy_members, place-IsIn}
 use Rattle.mat_any.specs.Trees.{Tree, element_count, is_independent, IsSound}
 use Rattle.mat_any.specs.TreeLaws.{tree_laws}
-use Rattle.mat_desc.specs.Grammar.{IsValidTree}
+use Rattle.mat_problem.specs.Validity.{IsValidTree}
 use Rattle.mat_witness.specs.BoundParts.{bound_of, shows_bound}
 use Rattle.mat_witness.specs.Parts.{BoundPart}
 use Rattle.mat_witness.specs.Shown.{AreBoundsFor, Demand, are_met, demand_at, demands_under, meets}

@@ -22,9 +22,9 @@ use Rattle.mat_cert.specs.Certificates.{Certificate, IsRanged, IsRangedLadder, I
 use Rattle.mat_cert.specs.Certificates.{intersect, best, union_of, pack_any, pack, cover_never, cover, trees, trees_none}
 use Rattle.mat_cert.specs.Certificates.{arbor, unreached, disjoint, disjoint_none, rainbow, assign}
 use Rattle.mat_cert.specs.declared.answer.PricedRung.{PricedRung}
-use Rattle.mat_desc.specs.Grammar.{IsValid, IsValidTree}
-use Rattle.mat_desc.specs.Instances.{Instance, pair, list, graph, rooted, coloured, table}
-use Rattle.mat_desc.specs.Soundness.{IsSoundInstance}
+use Rattle.mat_problem.specs.Validity.{IsValid, IsValidTree}
+use Rattle.mat_problem.specs.Instances.{Instance, pair, list, graph, rooted, coloured, table}
+use Rattle.mat_problem.specs.Soundness.{IsSoundInstance}
 use Rattle.mat_witness.specs.BoundParts.{bound_of, shows_bound}
 use Rattle.mat_witness.specs.FreeParts.{shows_free}
 use Rattle.mat_witness.specs.Kinds.{has_rung, is_witnessed_pair}

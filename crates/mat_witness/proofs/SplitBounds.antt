@@ -11,7 +11,7 @@ use Rattle.mat_sets.specs.declared.weight.Weight.{Weight}
 use Rattle.mat_sets.specs.FallingWeights.{falling_weights}
 use Rattle.mat_any.specs.Trees.{Tree, IsSound}
 use Rattle.mat_cert.specs.declared.answer.PricedRung.{PricedRung}
-use Rattle.mat_desc.specs.Grammar.{IsValidTree}
+use Rattle.mat_problem.specs.Validity.{IsValidTree}
 use Rattle.mat_witness.specs.Demands.{demand_for}
 use Rattle.mat_witness.specs.Parts.{BoundPart, IsBoundFor}
 use Rattle.mat_witness.specs.Shown.{AreBoundsFor, Demand, are_met, bounded_trees, bounds_common_sets, demand_at, demands_under, meets}

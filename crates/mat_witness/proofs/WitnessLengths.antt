@@ -23,9 +23,9 @@ use Rattle.mat_words.specs.Writing.{end_line, members_line}
 use Rattle.mat_words.proofs.BinaryLaws.{length-binary}
 use Rattle.mat_words.proofs.LineLemmas.{text_of-append}
 use Rattle.mat_any.specs.Trees.{Tree, uniform, partition, laminar, graphic, transversal, gammoid, gf2, dual, truncate, restrict, contract, union}
-use Rattle.mat_desc.specs.Grammar.{IsValid, IsValidTree}
-use Rattle.mat_desc.specs.Instances as instances
-use Rattle.mat_desc.specs.Instances.{Instance, pair}
+use Rattle.mat_problem.specs.Validity.{IsValid, IsValidTree}
+use Rattle.mat_problem.specs.Instances as instances
+use Rattle.mat_problem.specs.Instances.{Instance, pair}
 use Rattle.mat_cert.specs.Certificates as certificates
 use Rattle.mat_cert.specs.Certificates.{Certificate, IsRanged, intersect}
 use Rattle.mat_cert.specs.declared.answer.PricedRung.{PricedRung}

@@ -2,7 +2,7 @@
 use Rattle.std.specs.Prelude.{ℕ, Bool, true, false, ◌&&◌, nat_lt, List, [], ◌∷◌, length}
 use Rattle.mat_sets.specs.Sets.{all_below}
 use Rattle.mat_any.specs.Trees.{Tree, uniform, partition, laminar, graphic, gammoid, gf2}
-use Rattle.mat_desc.specs.Instances.{Instance, pair}
+use Rattle.mat_problem.specs.Instances.{Instance, pair}
 use Rattle.mat_cert.specs.Certificates.{Certificate, intersect}
 
 -- whether a matroid is of a witnessed kind: uniform, partition, laminar, graphic, gammoid or linear over the field of two elements

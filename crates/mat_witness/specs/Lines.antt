@@ -6,7 +6,7 @@ use Rattle.mat_words.specs.Lines.{Line, text_of}
 use Rattle.mat_words.specs.Numbers.{numeral}
 use Rattle.mat_words.specs.Writing.{end_line, members_line}
 use Rattle.mat_any.specs.Trees.{Tree, gf2}
-use Rattle.mat_desc.specs.Instances.{Instance, pair}
+use Rattle.mat_problem.specs.Instances.{Instance, pair}
 use Rattle.mat_cert.specs.Certificates.{Certificate, intersect}
 use Rattle.mat_witness.specs.Parts.{BoundPart, FreePart, WitnessParts, count, forest, paths, probes, spent, labels, gate, zeros}
 use Rattle.mat_witness.specs.Shown.{bounded_trees, rung_at}

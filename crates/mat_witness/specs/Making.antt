@@ -7,7 +7,7 @@ use Rattle.mat_laws.specs.Heaviest.{IsHeaviest}
 use Rattle.mat_laws.specs.Matroids.{IsMaximal}
 use Rattle.mat_any.specs.Trees.{Tree, IsSound, element_count, is_independent}
 use Rattle.mat_cert.specs.declared.answer.PricedRung.{PricedRung}
-use Rattle.mat_desc.specs.Grammar.{IsValidTree}
+use Rattle.mat_problem.specs.Validity.{IsValidTree}
 use Rattle.mat_witness.specs.Kinds.{is_witnessed}
 use Rattle.mat_witness.specs.Parts.{BoundPart, IsBoundFor, WitnessParts}
 use Rattle.mat_witness.specs.Shown.{AreBoundsFor, Demand, IsWitness, are_met, bounded_trees, bounds_common_sets, demands_of, shows_common_set, meets}

@@ -6,7 +6,7 @@ use Rattle.mat_words.specs.Lines.{lines_of}
 use Rattle.mat_words.specs.Reading as any_text
 use Rattle.mat_words.specs.Steps.{◌>>=◌, repeat_at}
 use Rattle.mat_any.specs.Trees.{Tree, graphic, gammoid, gf2}
-use Rattle.mat_desc.specs.Instances.{Instance, pair}
+use Rattle.mat_problem.specs.Instances.{Instance, pair}
 use Rattle.mat_cert.specs.Certificates.{Certificate, intersect}
 use Rattle.mat_cert.specs.declared.refusal.CertKind.TheVariants as kinds
 use Rattle.mat_cert.specs.Faults.{Fault, told}

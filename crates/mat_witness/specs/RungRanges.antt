@@ -3,7 +3,7 @@ use Rattle.std.specs.Prelude.{ℕ, ◌≤◌, length}
 use Rattle.mat_sets.specs.Limits.{most_elements}
 use Rattle.mat_any.specs.Trees.{Tree}
 use Rattle.mat_cert.specs.declared.answer.PricedRung.{PricedRung}
-use Rattle.mat_desc.specs.Grammar.{IsValidTree}
+use Rattle.mat_problem.specs.Validity.{IsValidTree}
 
 -- two matroids on n elements, and rung k with its halves
 pub record AreRungRanges (n k : ℕ) (first second : Tree) (rung : PricedRung) : Type 0 where

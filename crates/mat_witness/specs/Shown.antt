@@ -10,7 +10,7 @@ use Rattle.mat_laws.specs.CommonSets.{IsHeaviestCommon}
 use Rattle.mat_laws.specs.Ladders.{IsCut, IsRung}
 use Rattle.mat_sets.specs.FallingWeights.{falling_weights, heavy}
 use Rattle.mat_any.specs.Trees.{Tree, is_independent}
-use Rattle.mat_desc.specs.Instances.{Instance, pair}
+use Rattle.mat_problem.specs.Instances.{Instance, pair}
 use Rattle.mat_cert.specs.Certificates.{Certificate, intersect, last_rung}
 use Rattle.mat_cert.specs.declared.answer.PricedRung.{PricedRung}
 use Rattle.mat_witness.specs.BoundParts.{bound_of, shows_bound}

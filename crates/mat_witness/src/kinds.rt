@@ -3,12 +3,12 @@
 ghost use Rattle.std.specs.Prelude.{◌≡◌};
 ghost use Rattle.mat_any.specs.Views.{tree_of};
 ghost use Rattle.mat_cert.specs.Views.{certificate_of};
-ghost use Rattle.mat_desc.specs.Views.{instance_of};
+ghost use Rattle.mat_problem.specs.Views.{instance_of};
 ghost use Rattle.mat_witness.specs.Kinds.{has_rung, is_witnessed, is_witnessed_pair};
 
 use mat_any::AnyMatroid;
 use mat_cert::Answer;
-use mat_desc::Problem;
+use mat_problem::Problem;
 
 // Whether a matroid is of a witnessed kind.
 fn is_witnessed(matroid: &AnyMatroid) -> bool

@@ -2,7 +2,7 @@
 
 ghost use Rattle.std.specs.Prelude.{◌≡◌, ℕ, true};
 ghost use Rattle.mat_cert.specs.Certificates.{Certificate, IsRanged};
-ghost use Rattle.mat_desc.specs.{Grammar.{IsValid}, Instances.{Instance}, Soundness.{IsSoundInstance}};
+ghost use Rattle.mat_problem.specs.{Validity.{IsValid}, Instances.{Instance}, Soundness.{IsSoundInstance}};
 ghost use Rattle.mat_witness.specs.{Kinds.{has_rung, is_witnessed_pair}, Parts.{WitnessParts}, Shown.{IsProvedRung, IsShown, IsWitnessFor}};
 
 /// Where a witness shows rung k, the weight of the rung is that of its set, its halves add up to the weights and its set is heaviest of its

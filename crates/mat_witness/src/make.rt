@@ -5,7 +5,7 @@ ghost use Rattle.mat_sets.specs.{Sets.{IsSet, all_below, minus}, Weights.{weight
 ghost use Rattle.mat_laws.specs.{Heaviest.{IsHeaviest}, Ranks.{rank}};
 ghost use Rattle.mat_any.specs.{Trees.{element_count, is_independent}, Views.{tree_of}};
 ghost use Rattle.mat_cert.specs.{Certificates.{IsRanged}, Views.{certificate_of}};
-ghost use Rattle.mat_desc.specs.{Grammar.{IsValid}, Soundness.{IsSoundInstance}, Views.{instance_of}};
+ghost use Rattle.mat_problem.specs.{Validity.{IsValid}, Soundness.{IsSoundInstance}, Views.{instance_of}};
 ghost use Rattle.mat_witness.specs.{
   BoundParts.{bound_of, shows_bound},
   Demands.{demand_for},
@@ -21,8 +21,8 @@ use crate::parts::{bound_for, free_of};
 use crate::witness::{Most, Witness};
 use mat_any::AnyMatroid;
 use mat_cert::{Answer, PricedRung};
-use mat_desc::Problem;
 use mat_laws::Matroid;
+use mat_problem::Problem;
 use mat_sets::{ElemSet, Weight};
 use std::alloc::{AllocError, Global};
 

@@ -4,7 +4,7 @@ ghost use Rattle.std.specs.Prelude.{◌≡◌, ◌≤◌, not, if◌then◌else�
 ghost use Rattle.mat_sets.specs.{Limits.{most_elements}, Sets.{IsSet}};
 ghost use Rattle.mat_any.specs.{Trees.{element_count, IsSound}, Views.{tree_of}};
 ghost use Rattle.mat_cert.specs.{Certificates.{intersect, IsRanged, IsRangedLadder}, Views.{certificate_of}};
-ghost use Rattle.mat_desc.specs.{Grammar.{IsValid, IsValidTree}, Instances.{pair}, Soundness.{IsSoundInstance}, Views.{instance_of}};
+ghost use Rattle.mat_problem.specs.{Validity.{IsValid, IsValidTree}, Instances.{pair}, Soundness.{IsSoundInstance}, Views.{instance_of}};
 ghost use Rattle.mat_witness.specs.{
   Kinds.{has_rung, is_witnessed_pair},
   Parts.{IsFreeFor},
@@ -22,7 +22,7 @@ use crate::witness::{Most, Witness};
 use free::shows_free;
 use mat_any::AnyMatroid;
 use mat_cert::{Answer, PricedRung};
-use mat_desc::Problem;
+use mat_problem::Problem;
 use mat_sets::{ElemSet, Weight};
 use met::{bounds_common_sets, met_under};
 use priced::is_priced;

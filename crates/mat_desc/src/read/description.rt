@@ -1,23 +1,22 @@
 //! Reading a description: its version, the problem of its form, and its end.
 
 ghost use Rattle.std.specs.Prelude.{◌≤◌, length, IfOk};
+ghost use Rattle.mat_problem.specs.{Validity.{IsValid}, Instances.{Instance}, Soundness.{IsSoundInstance}, Views.{instance_of}};
 ghost use Rattle.mat_desc.specs.{
-  Grammar.{IsValid, Spells},
-  Instances.{Instance},
+  Grammar.{Spells},
   Limits.{description_limit},
   Reading.{version_at, end_at, closed_at, ending_at, instance_at, description_at, written_of, read_of},
-  Soundness.{IsSoundInstance},
-  Views.{instance_of, written_instance},
+  Views.{written_instance},
 };
 ghost use Rattle.mat_words.specs.{Cursors.{lines_left}, Reading.{Gives}};
 
-use crate::problem::Problem;
 use crate::read::forms::{coloured, graph, list, pair, rooted, table};
 use crate::read::keywords::{Form, Version, form_from, version_from};
 use crate::read::lines::ended;
 use crate::read::notation::Notation;
 use crate::read::{Read, Written};
 use crate::refusal::{DescKind, DescRefusal};
+use mat_problem::Problem;
 use mat_words::{LineCursor, fault, keyed_line, next_word, nothing_left, words_line};
 use std::alloc::Global;
 

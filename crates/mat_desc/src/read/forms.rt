@@ -7,13 +7,13 @@ ghost use Rattle.mat_desc.specs.{
 ghost use Rattle.mat_words.specs.{Cursors.{lines_left, words_left}, Reading.{Gives}};
 
 use crate::limits::{MOST_ELEMENTS, MOST_MATROIDS, MOST_SETS, MOST_VERTICES};
-use crate::problem::Problem;
 use crate::read::Written;
 use crate::read::items::{coloured_edge_lines, ends_lines, weighted_lines};
 use crate::read::keywords::Version;
 use crate::read::lines::{ended, weights_line};
 use crate::read::matroids::{next_matroids, two_matroids};
 use crate::read::notation::{Notation, header_root, read_notation, root_line};
+use mat_problem::Problem;
 use mat_words::{LineCursor, WordCursor, next_size};
 use std::alloc::Global;
 

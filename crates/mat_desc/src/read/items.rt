@@ -1,11 +1,8 @@
 //! Reading a line for each edge, arc, cell or column.
 
 ghost use Rattle.std.specs.{Prelude.{◌≡◌, ◌≤◌, length, IfOk}, List.{zip}};
-ghost use Rattle.mat_desc.specs.{
-  Limits.{most_digits},
-  Reading.{ends_at, ends_line_at, column_at, weighted_at, coloured_edge_at},
-  Views.{naming},
-};
+ghost use Rattle.mat_problem.specs.Limits.{most_digits};
+ghost use Rattle.mat_desc.specs.{Reading.{ends_at, ends_line_at, column_at, weighted_at, coloured_edge_at}, Views.{naming}};
 ghost use Rattle.mat_words.specs.{Steps.{repeat_at}, Cursors.{lines_left, words_left}, Reading.{Gives}};
 
 use crate::limits::{LARGEST_WEIGHT, SMALLEST_WEIGHT};

@@ -2,8 +2,8 @@
 
 ghost use Rattle.std.specs.Prelude.{◌≡◌, ◌<◌, ◌≤◌, ◌++◌, ◌∷◌, [], length, map, IfOk};
 ghost use Rattle.mat_any.specs.{Trees.{trees_from, union}, Views.{tree_of}};
+ghost use Rattle.mat_problem.specs.Limits.{most_sets};
 ghost use Rattle.mat_desc.specs.{
-  Limits.{most_sets},
   Notations.{IsNaming},
   Views.{naming},
   Reading.{class_at, classes_at, nested_set_at, nested_sets_at, uniform_at, partition_at, laminar_at, graphic_at, gf2_at, dual_at, truncate_at, restrict_at, contract_at, union_at, matroid_within, matroid_at, two_matroids_at},

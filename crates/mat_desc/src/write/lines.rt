@@ -3,9 +3,10 @@
 ghost use Rattle.std.specs.{Prelude.{◌≡◌, ◌++◌, ◌∷◌, ◌<◌, [], codes, length, map, All, IfSome, OnOk}, List.{zip}};
 ghost use Rattle.mat_sets.specs.Sets.{AllBelow, IsSet};
 ghost use Rattle.mat_words.specs.{Lines.{text_of}, NameLists.{names_of}, Writing.{spaced}};
+ghost use Rattle.mat_problem.specs.Validity.{IsPairBelow};
 ghost use Rattle.mat_desc.specs.{
   Canonical.{capped_line, capped_lines},
-  Grammar.{listing_line, ends_line, weighted_line, coloured_edge_line, IsPairBelow},
+  Grammar.{listing_line, ends_line, weighted_line, coloured_edge_line},
   Notations.{word_for, words_for},
   Views.{naming},
 };

@@ -3,7 +3,8 @@
 ghost use Rattle.std.specs.{Prelude.{◌≡◌, ◌++◌, ◌∷◌, None, [], length, map, All, IfSome, OnOk}, List.{flat_map}};
 ghost use Rattle.mat_words.specs.Lines.{text_of};
 ghost use Rattle.mat_any.specs.{Trees.{partition, laminar, graphic, transversal, gammoid, gf2}, Views.{tree_of}};
-ghost use Rattle.mat_desc.specs.{Canonical.{matroid_lines}, Grammar.{column_line, IsValidTree}, Views.{naming}};
+ghost use Rattle.mat_problem.specs.Validity.{IsValidTree};
+ghost use Rattle.mat_desc.specs.{Canonical.{matroid_lines}, Grammar.{column_line}, Views.{naming}};
 
 use crate::write::lines::{put_capped_lines, put_ends_lines, put_family_lines, put_listing_line};
 use mat_any::AnyMatroid;

@@ -3,20 +3,20 @@
 ghost use Rattle.std.specs.Prelude.{◌≡◌, ◌++◌, ◌∷◌, ◌<◌, [], codes, length, IfOk, IfSome, OnOk};
 ghost use Rattle.mat_words.specs.{Lines.{text_of}, NameLists.{names_of}, Writing.{weights_line}};
 ghost use Rattle.mat_any.specs.Views.{tree_of};
+ghost use Rattle.mat_problem.specs.{Validity.{IsValid, IsValidTree}, Views.{instance_of}};
 ghost use Rattle.mat_desc.specs.{
-  Grammar.{rooted_header, version_line, vertex_name_lines, name_lines, root_lines, IsValid, IsValidTree},
+  Grammar.{rooted_header, version_line, vertex_name_lines, name_lines, root_lines},
   Notations.{names, element_naming, vertex_naming, IsNotationFor},
   Canonical.{matroid_lines, header, body_lines, canonical_lines, canonical_text, named_text, MayBeWritten},
-  Views.{instance_of, naming, named_instance, written_notation},
+  Views.{naming, named_instance, written_notation},
 };
 
-use crate::named::Named;
-use crate::problem::Problem;
 use crate::write::lines::{
     put_coloured_edge_lines, put_ends_lines, put_member_word, put_names_line, put_weighted_lines,
 };
 use crate::write::matroids::{put_matroid, put_matroids};
 use mat_any::AnyMatroid;
+use mat_problem::{Named, Problem};
 use mat_sets::Weight;
 use mat_words::{Names, put_numbers_line, put_weights_line};
 use std::alloc::{AllocError, Global};

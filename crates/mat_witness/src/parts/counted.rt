@@ -8,7 +8,7 @@ ghost use Rattle.mat_sets.specs.{Limits.{most_elements}, Sets.{AllBelow, IsRisin
 ghost use Rattle.mat_laws.specs.Matroids.{IsMaximal};
 ghost use Rattle.mat_count.specs.{Counts.{is_counted, is_uniform}, LaminarMatroids.{IsLaminar}};
 ghost use Rattle.mat_any.specs.Trees.{laminar, uniform};
-ghost use Rattle.mat_desc.specs.Limits.{most_sets};
+ghost use Rattle.mat_problem.specs.Limits.{most_sets};
 ghost use Rattle.mat_witness.specs.{
   BoundParts.{are_covered, bound_of, caps_sum, is_in_chosen, shows_bound},
   FilledSets.{AreLargerNamed, AreLargestNamed, AreListed, AreNamed, is_unnamed, size_named},

@@ -2,7 +2,7 @@
 
 ghost use Rattle.std.specs.Prelude.{◌≡◌, ◌≤◌, ◌↔◌, ℕ, List, true, length, Ok};
 ghost use Rattle.mat_cert.specs.Certificates.{Certificate, IsRanged};
-ghost use Rattle.mat_desc.specs.{Grammar.{IsValid}, Instances.{Instance}};
+ghost use Rattle.mat_problem.specs.{Validity.{IsValid}, Instances.{Instance}};
 ghost use Rattle.mat_witness.specs.{
   Kinds.{has_rung, is_witnessed_pair},
   Lines.{witness_limit, witness_text},

@@ -4,7 +4,7 @@ ghost use Rattle.std.specs.Prelude.{◌≡◌, ◌<◌, ◌≤◌, true, length,
 ghost use Rattle.mat_words.specs.{Cursors.{lines_left}, Reading.{Gives}};
 ghost use Rattle.mat_any.specs.Views.{tree_of};
 ghost use Rattle.mat_cert.specs.{Certificates.{IsRanged}, Views.{certificate_of}};
-ghost use Rattle.mat_desc.specs.{Grammar.{IsValid, IsValidTree}, Soundness.{IsSoundInstance}, Views.{instance_of}};
+ghost use Rattle.mat_problem.specs.{Validity.{IsValid, IsValidTree}, Soundness.{IsSoundInstance}, Views.{instance_of}};
 ghost use Rattle.mat_witness.specs.{
   BoundRows.{row_at},
   Kinds.{has_rung, is_witnessed_pair},
@@ -23,7 +23,7 @@ use mat_any::AnyMatroid;
 use mat_cert::{
     Answer, CertKind, CertRefusal, PricedRung, closed, counted_line, fixed_word, last_line,
 };
-use mat_desc::Problem;
+use mat_problem::Problem;
 use mat_words::{LineCursor, fault, next_number};
 use std::alloc::Global;
 

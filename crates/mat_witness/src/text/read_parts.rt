@@ -11,7 +11,7 @@ ghost use Rattle.mat_witness.specs.{
 };
 ghost use Rattle.mat_any.specs.Views.{tree_of};
 ghost use Rattle.mat_cert.specs.LineReading.{below_at};
-ghost use Rattle.mat_desc.specs.Grammar.{IsValidTree};
+ghost use Rattle.mat_problem.specs.Validity.{IsValidTree};
 
 use crate::witness::{Free, Most};
 use mat_any::AnyMatroid;

@@ -5,7 +5,7 @@ ghost use Rattle.mat_sets.specs.Limits.{most_elements};
 ghost use Rattle.mat_words.specs.Lines.{text_of};
 ghost use Rattle.mat_any.specs.Views.{tree_of};
 ghost use Rattle.mat_cert.specs.{Certificates.{IsRanged}, Views.{certificate_of}};
-ghost use Rattle.mat_desc.specs.{Grammar.{IsValid}, Soundness.{IsSoundInstance}, Views.{instance_of}};
+ghost use Rattle.mat_problem.specs.{Validity.{IsValid}, Soundness.{IsSoundInstance}, Views.{instance_of}};
 ghost use Rattle.mat_witness.specs.{
   Kinds.{has_rung, is_witnessed_pair},
   Lines.{bounds_lines, witness_lines, witness_text},
@@ -18,7 +18,7 @@ use crate::bound_rows::bound_counts;
 use crate::witness::{Most, Witness};
 use mat_any::AnyMatroid;
 use mat_cert::{Answer, PricedRung, put_end_line};
-use mat_desc::Problem;
+use mat_problem::Problem;
 use mat_words::put_numbers_line;
 use std::alloc::{AllocError, Global};
 

@@ -3,7 +3,7 @@
 ghost use Rattle.std.specs.Prelude.{◌≡◌, ◌≤◌, if◌then◌else◌, IfOk, Some, None};
 ghost use Rattle.mat_sets.specs.{Limits.{most_elements}, Sets.{IsSet}};
 ghost use Rattle.mat_any.specs.{Trees.{element_count, IsSound}, Views.{tree_of}};
-ghost use Rattle.mat_desc.specs.Grammar.{IsValidTree};
+ghost use Rattle.mat_problem.specs.Validity.{IsValidTree};
 ghost use Rattle.mat_witness.specs.{BoundParts.{bound_of, shows_bound}, Parts.{IsBoundFor}, Views.{bound_part}};
 
 use crate::parts::{closing_bound, labels_bound, listed_bound, uniform_bound, zeros_bound};

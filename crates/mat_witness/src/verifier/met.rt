@@ -3,7 +3,7 @@
 ghost use Rattle.std.specs.Prelude.{◌≡◌, ℕ, ◌<◌, ◌≤◌, if◌then◌else◌, [], ◌∷◌, length, map, slice_index_or, All, IfOk, Some, None};
 ghost use Rattle.mat_sets.specs.{Limits.{most_elements}, Sets.{IsSet}};
 ghost use Rattle.mat_any.specs.{Trees.{element_count, IsSound}, Views.{tree_of}};
-ghost use Rattle.mat_desc.specs.Grammar.{IsValidTree};
+ghost use Rattle.mat_problem.specs.Validity.{IsValidTree};
 ghost use Rattle.mat_witness.specs.{
   Demands.{demand_for},
   Parts.{IsBoundFor},

@@ -3,7 +3,7 @@ use Rattle.std.specs.Prelude.{IfOk, map}
 use Rattle.std.proofs.lemmas.Bool.{and_parts, eqb-true}
 use Rattle.mat_any.specs.Trees.{is_independent}
 use Rattle.mat_any.specs.Views.{tree_of}
-use Rattle.mat_desc.proofs.ListedMatroids.{all_sound, tests_of_trees}
+use Rattle.mat_problem.proofs.ListedMatroids.{all_sound, tests_of_trees}
 use Rattle.mat_check.specs.Clauses.{first_failure}
 use Rattle.mat_check.specs.SetClauses.{union_clauses}
 use Rattle.mat_check.proofs.matroid_answers.list_failure.Goals as goal

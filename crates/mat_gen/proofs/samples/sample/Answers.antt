@@ -1,4 +1,4 @@
-use Rattle.mat_desc.specs.Views.{instance_of}
+use Rattle.mat_problem.specs.Views.{instance_of}
 use Rattle.mat_gen.proofs.Validity.{answer_valid, answer_sound}
 use Rattle.mat_gen.proofs.samples.sample.Goals as goal
 

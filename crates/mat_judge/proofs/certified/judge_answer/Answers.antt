@@ -1,6 +1,6 @@
 use Rattle.std.proofs.Common.{◌≡◌, true, rules, sym, ap, ◌∙◌}
 use Rattle.mat_cert.specs.Views.{certificate_of}
-use Rattle.mat_desc.specs.Views.{instance_of}
+use Rattle.mat_problem.specs.Views.{instance_of}
 use Rattle.mat_check.specs.Fitting.{fits}
 use Rattle.mat_check.specs.Views.{failure_in}
 use Rattle.mat_judge.proofs.Judging.{yes_or_no}

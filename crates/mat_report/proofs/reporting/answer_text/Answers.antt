@@ -1,4 +1,4 @@
-use Rattle.mat_desc.specs.Views.{instance_of}
+use Rattle.mat_problem.specs.Views.{instance_of}
 use Rattle.mat_report.proofs.ReportTexts.{memory_found}
 use Rattle.mat_report.proofs.reporting.answer_text.Goals as goal
 

@@ -1,5 +1,6 @@
 use Rattle.mat_command.specs.CommandLines.{check}
-use Rattle.mat_desc.specs.Views.{named_instance, instance_of}
+use Rattle.mat_desc.specs.Views.{named_instance}
+use Rattle.mat_problem.specs.Views.{instance_of}
 use Rattle.mat_top.proofs.Refusing.{none_found}
 use Rattle.mat_report.proofs.ReportTexts.{described_there, report_found}
 use Rattle.mat_report.proofs.reporting.report_text.Goals as goal

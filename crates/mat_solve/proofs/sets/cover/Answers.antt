@@ -3,8 +3,8 @@ use Rattle.mat_packing.specs.Answers.{IsRightCoveringAnswer}
 use Rattle.mat_packing.specs.declared.covering.Covering.TheVariants.{Never, Least}
 use Rattle.mat_any.specs.Trees.{is_independent}
 use Rattle.mat_any.specs.Views.{tree_of}
-use Rattle.mat_desc.specs.Instances.{list}
-use Rattle.mat_desc.specs.Soundness.{IsSoundInstance}
+use Rattle.mat_problem.specs.Instances.{list}
+use Rattle.mat_problem.specs.Soundness.{IsSoundInstance}
 use Rattle.mat_solve.proofs.PackSolutions.{never_solution, cover_solution}
 use Rattle.mat_solve.proofs.sets.cover.Goals as goal
 

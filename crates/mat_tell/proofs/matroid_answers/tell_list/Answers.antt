@@ -1,4 +1,4 @@
-use Rattle.mat_desc.proofs.ListedMatroids.{all_sound}
+use Rattle.mat_problem.proofs.ListedMatroids.{all_sound}
 use Rattle.mat_tell.proofs.matroid_answers.tell_list.Goals as goal
 
 pub tell_union-requires-clause-sound : goal.tell_union-requires-clause-sound

@@ -1,5 +1,5 @@
 use Rattle.std.proofs.lemmas.Result.{IfOk-weaker}
-use Rattle.mat_desc.specs.Views.{instance_of}
+use Rattle.mat_problem.specs.Views.{instance_of}
 use Rattle.mat_cert.specs.Views.{certificate_of}
 use Rattle.mat_cert.proofs.Lengths.{length-certificate_text}
 use Rattle.mat_top.specs.Refusals.{HasSolutionText}

@@ -1,7 +1,7 @@
 use Rattle.std.proofs.lemmas.Result.{IfErr-weaker, IfOk-weaker}
 use Rattle.std.specs.Prelude.{IfSome}
 use Rattle.mat_cert.specs.Views.{certificate_of}
-use Rattle.mat_desc.specs.Views.{instance_of}
+use Rattle.mat_problem.specs.Views.{instance_of}
 use Rattle.mat_judge.proofs.Told.{if_told}
 use Rattle.mat_verify.proofs.Unwitnessed.{refused_by}
 use Rattle.mat_verify.specs.WitnessOutcomes.{IsWitnessFound}

@@ -1,6 +1,6 @@
 use Rattle.std.proofs.lemmas.Result.{IfErr-weaker}
 use Rattle.mat_cert.specs.Views.{certificate_of}
-use Rattle.mat_desc.specs.Views.{instance_of}
+use Rattle.mat_problem.specs.Views.{instance_of}
 use Rattle.mat_judge.proofs.Judging.{test_fails}
 use Rattle.mat_verify.specs.WitnessRefusals.{HasNoRung}
 use Rattle.mat_verify.proofs.Unwitnessed.{unwitnessable_there}

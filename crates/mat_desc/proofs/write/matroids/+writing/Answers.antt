@@ -14,7 +14,7 @@ use Rattle.mat_any.specs.Views.{tree_of}
 use Rattle.mat_any.specs.declared.any.AnyMatroid.{the_lemmas}
 use Rattle.mat_any.proofs.JoinedMatroids.{node}
 use Rattle.mat_desc.specs.Canonical.{matroid_lines}
-use Rattle.mat_desc.specs.Grammar.{IsValidTree}
+use Rattle.mat_problem.specs.Validity.{IsValidTree}
 use Rattle.mat_desc.specs.Views.{naming}
 use Rattle.mat_desc.proofs.NamedParts.{where_named, part_valid, parts_valid}
 use Rattle.mat_desc.proofs.UnionLines.{union_lines}

@@ -1,7 +1,7 @@
 -- Problems whose matroids are sound.
 use Rattle.std.specs.Prelude.{◌≡◌, length, All}
 use Rattle.mat_any.specs.Trees.{element_count, IsSound}
-use Rattle.mat_desc.specs.Instances.{Instance, pair, list, graph, rooted, coloured, table}
+use Rattle.mat_problem.specs.Instances.{Instance, pair, list, graph, rooted, coloured, table}
 
 -- each matroid is sound, and has as many elements as there are weights
 abbrev pub IsSoundInstance : Instance → Type 0

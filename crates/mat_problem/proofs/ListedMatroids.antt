@@ -8,8 +8,8 @@ use Rattle.mat_union.specs.GrownParts.{AreSound}
 use Rattle.mat_any.specs.Trees.{element_count, is_independent, IsSound}
 use Rattle.mat_any.specs.Views.{tree_of}
 use Rattle.mat_any.specs.declared.any.AnyMatroid.{AnyMatroid}
-use Rattle.mat_desc.specs.Instances.{list}
-use Rattle.mat_desc.specs.Soundness.{IsSoundInstance}
+use Rattle.mat_problem.specs.Instances.{list}
+use Rattle.mat_problem.specs.Soundness.{IsSoundInstance}
 
 pub all_sound : (w : List Weight) (matroids : List AnyMatroid) → IsSoundInstance (list w (map tree_of matroids))
     → AreSound (λ m. element_count (tree_of m)) (λ m. IsSound (tree_of m)) (length w) matroids

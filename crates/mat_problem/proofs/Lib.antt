@@ -1,0 +1,2 @@
+pub mod SoundProblems
+pub mod ListedMatroids

@@ -1,0 +1,5 @@
+pub mod Limits
+pub mod Instances
+pub mod Validity
+pub mod Soundness
+pub mod Views
