@@ -6,6 +6,10 @@ pub mod RowExchanges
 mod ComputedRows
 pub mod RowTables
 pub mod TableSteps
+mod EmptiedRows
+mod PutElements
+mod UnitedColumns
+mod MissingElements
 pub mod HeaviestAddable
 pub mod SlackParts
 pub mod WeightBounds

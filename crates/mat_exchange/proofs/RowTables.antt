@@ -6,7 +6,7 @@ use Rattle.mat_sets.specs.Sets.{is_member, all_below}
 use Rattle.mat_sets.proofs.Ground.{get_or-all_below, length-all_below}
 use Rattle.mat_laws.specs.declared.exchange.Exchange.{Exchange}
 use Rattle.mat_laws.specs.TightPaths.{row_in, exchanges_in}
-use Rattle.mat_exchange.specs.RowTables.{AreTransposed, row_from, table_of}
+use Rattle.mat_exchange.specs.RowTables.{AreTransposed, row_from, table_of, written}
 use Rattle.mat_sets.specs.Rows.{row_at}
 
 pub length-table_of : (base addable : List ℕ) (rows : List (List ℕ)) → length (table_of base addable rows) ≡ length rows
@@ -57,6 +57,14 @@ module _ (base : List ℕ) {addable : List ℕ} {rows columns : List (List ℕ)}
 
   pub row_tells : (y x : ℕ) → is_member x addable ≡ false → is_member y (row_at rows x) ≡ (exchanges_in table).trades y x
   row_tells y x out = sym (ap (is_member y) (without x out)) ∙ ap (λ r. (exchanges_in r).trades y x) is
+
+  -- what is written down
+  pub written_row : (x : ℕ) → row_at rows x ≡ written (row_in table x)
+  written_row x = elim (cases_Bool (is_member x addable)) [
+    | inl here ↦ t.bare x here ∙ sym (cond-true (row_in table x).addable [] (row_in table x).with (sym (addable_tells x) ∙ here))
+    | inr out ↦ sym (without x out) ∙ ap (λ r. (row_in r x).with) is
+        ∙ sym (cond-false (row_in table x).addable [] (row_in table x).with (sym (addable_tells x) ∙ out))
+  ]
 
   pub base_tells : (y x : ℕ) → is_member x addable ≡ true → is_member y base ≡ (exchanges_in table).trades y x
   base_tells y x here = sym (ap (is_member y) (with_all x here)) ∙ ap (λ r. (exchanges_in r).trades y x) is

@@ -1,6 +1,6 @@
 -- Tables of rows that are kept as sets, with the columns beside them. The row of an element that can be added is the whole base, and is not
 -- written down.
-use Rattle.std.specs.Prelude.{◌≡◌, ℕ, ◌<◌, ◌≤◌, true, not, nat_lt, ◌&&◌, if◌then◌else◌, List, [], length, map}
+use Rattle.std.specs.Prelude.{◌≡◌, ℕ, ◌<◌, Bool, true, false, not, nat_lt, ◌&&◌, ◌||◌, if◌then◌else◌, List, [], length, map}
 use Rattle.mat_sets.specs.Rows.{row_at}
 use Rattle.mat_sets.specs.Sets.{is_member, all_below}
 use Rattle.mat_laws.specs.declared.exchange.Exchange.{Exchange}
@@ -25,15 +25,23 @@ pub record AreTransposed (addable : List ℕ) (rows columns : List (List ℕ)) :
 abbrev pub written : Exchange → List ℕ
 written row = if row.addable then [] else row.with
 
--- the rows of the elements below x are entered
-pub record IsFilledTable (exchanges : List Exchange) (x : ℕ) (addable : List ℕ) (rows columns : List (List ℕ)) : Type 0 where
+-- the elements below x, and those whose rows were not missing at the beginning
+abbrev pub entered_to : List ℕ → ℕ → ℕ → Bool
+entered_to missing x k = nat_lt k x || not (is_member k missing)
+
+-- the rows of these elements are entered, and of no others
+pub record IsFilledTable (exchanges : List Exchange) (entered : ℕ → Bool) (addable : List ℕ) (rows columns : List (List ℕ)) : Type 0 where
   pub count : length rows ≡ length exchanges
-  pub adds : (k : ℕ) → is_member k addable ≡ (nat_lt k x && (row_in exchanges k).addable)
-  pub same : (k : ℕ) → k < x → row_at rows k ≡ written (row_in exchanges k)
-  pub open_yet : (k : ℕ) → x ≤ k → row_at rows k ≡ []
+  pub adds : (k : ℕ) → is_member k addable ≡ (entered k && (row_in exchanges k).addable)
+  pub same : (k : ℕ) → entered k ≡ true → row_at rows k ≡ written (row_in exchanges k)
+  pub missing_yet : (k : ℕ) → entered k ≡ false → row_at rows k ≡ []
   pub columns_count : length columns ≡ length exchanges
   pub transposed : (k y : ℕ) → y < length exchanges → is_member k (row_at columns y)
-      ≡ (nat_lt k x && (not (row_in exchanges k).addable && is_member y (row_in exchanges k).with))
+      ≡ (entered k && (not (row_in exchanges k).addable && is_member y (row_in exchanges k).with))
+
+-- two lists of rows have the same ones of these elements
+abbrev pub AgreeOn : List ℕ → List Exchange → List Exchange → Type 0
+AgreeOn elements some rows = (x : ℕ) → x < length rows → is_member x elements ≡ true → row_in some x ≡ row_in rows x
 
 -- the row of each addable element is the whole base
 pub record AreWhole (base : List ℕ) (exchanges : List Exchange) : Type 0 where
@@ -42,3 +50,9 @@ pub record AreWhole (base : List ℕ) (exchanges : List Exchange) : Type 0 where
 -- all elements that can be added can be exchanged for the same members
 abbrev pub AreAlike : Exchanges → Type 0
 AreAlike exchanges = (y x z : ℕ) → exchanges.adds x ≡ true → exchanges.adds z ≡ true → exchanges.trades y x ≡ exchanges.trades y z
+
+-- When some elements come to a set and some members leave it, these elements may lose their written rows: of those that could not be added the ones
+-- that come, and those that could be exchanged for a member that leaves.
+pub record AreLost (before : Exchanges) (came left lost : List ℕ) : Type 0 where
+  pub entered : (x : ℕ) → is_member x came ≡ true → before.adds x ≡ false → is_member x lost ≡ true
+  pub opened : (y x : ℕ) → is_member y left ≡ true → before.adds x ≡ false → before.trades y x ≡ true → is_member x lost ≡ true

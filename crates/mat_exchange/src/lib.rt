@@ -1,6 +1,7 @@
 //! The exchanges of a matroid at an independent set, the search for a tight path of two matroids, and their laws.
 #![tactic(auto)]
 
+mod at_set;
 mod exchanges;
 mod found;
 mod fringe;
@@ -15,8 +16,11 @@ mod row_table;
 mod slack;
 mod steps;
 mod tight_arcs;
+mod unfinished_table;
 
-pub use exchanges::{rows, rows_from_kept, table_in_turn};
+pub use at_set::{
+    ExchangesAt, exchanges_at, exchanges_in_turn, next_exchanges, next_in_turn, rows,
+};
 pub use found::Found;
 pub use grown::Grown;
 pub use growth::grow;

@@ -1,8 +1,8 @@
 //! The exchanges of all elements at an independent set, as rows of bits.
-ghost use Rattle.std.specs.Prelude.{◌≡◌, ℕ, ◌<◌, ◌&&◌, not, true, false, if◌then◌else◌, length, IfOk};
-ghost use Rattle.mat_sets.specs.{Bits.{bits_of}, Sets.{is_member}};
-ghost use Rattle.mat_laws.specs.TightPaths.{exchanges_in};
-ghost use Rattle.mat_exchange.specs.RowTables.{AreAlike, AreTransposed, table_of};
+ghost use Rattle.std.specs.Prelude.{◌≡◌, ℕ, ◌<◌, ◌&&◌, not, true, false, if◌then◌else◌, length, IfOk, OnOk};
+ghost use Rattle.mat_sets.specs.{Bits.{bits_of}, Rows.{row_at}, Sets.{is_member, AllBelow}};
+ghost use Rattle.mat_laws.specs.TightPaths.{exchanges_in, row_in};
+ghost use Rattle.mat_exchange.specs.RowTables.{AreAlike, AreTransposed, table_of, written};
 
 use mat_sets::{BitSet, RowList};
 use std::alloc::{AllocError, Global};
@@ -53,6 +53,18 @@ impl RowTable {
             rows,
             columns,
         }
+    }
+
+    /// The rows and columns of the elements that cannot be added.
+    pub(crate) fn into_rows(self) -> (RowList, RowList)
+        ensures count { length result.0 ≡ length self }
+        ensures columns { length result.1 ≡ length self }
+        ensures rows { (x : ℕ) → row_at result.0 x ≡ written (row_in self x) }
+        ensures transposed { (y x : ℕ) → y < length self
+            → is_member x (row_at result.1 y) ≡ (not ((exchanges_in self).adds x) && (exchanges_in self).trades y x) }
+    {
+        let RowTable { rows, columns, .. } = self;
+        (rows, columns)
     }
 
     /// Whether x can be added. It takes constant time and no memory.
@@ -119,5 +131,36 @@ impl RowTable {
         let mut column = addable_for(alloc, &self.base, &self.addable, y)?;
         column.unite_row(self.columns.row(y))?;
         Ok(column)
+    }
+
+    /// Puts those of these elements that cannot be added into a set. The only error is want of memory.
+    pub(crate) fn unite_unaddable(
+        &self,
+        elements: &[u32],
+        into: &mut BitSet,
+    ) -> Result<(), AllocError>
+        requires { AllBelow (length self.now) elements.now }
+        ensures holds { OnOk result ((x : ℕ) → is_member x into.old ≡ true → is_member x into.new ≡ true) }
+        ensures puts { OnOk result ((x : ℕ) → is_member x elements.now ≡ true → (exchanges_in self.now).adds x ≡ false → is_member x into.new ≡ true) }
+    {
+        for x in elements {
+            if !self.addable(*x) {
+                into.insert(*x)?;
+            }
+        }
+        Ok(())
+    }
+
+    /// Puts the elements that cannot be added and can be exchanged for one of these members into a set. The only error is want of memory.
+    pub(crate) fn unite_columns(&self, members: &[u32], into: &mut BitSet) -> Result<(), AllocError>
+        requires { AllBelow (length self.now) members.now }
+        ensures holds { OnOk result ((x : ℕ) → is_member x into.old ≡ true → is_member x into.new ≡ true) }
+        ensures columns { OnOk result ((y x : ℕ) → is_member y members.now ≡ true → (exchanges_in self.now).adds x ≡ false
+            → (exchanges_in self.now).trades y x ≡ true → is_member x into.new ≡ true) }
+    {
+        for y in members {
+            into.unite_row(self.columns.row(*y))?;
+        }
+        Ok(())
     }
 }

@@ -9,7 +9,7 @@ ghost use Rattle.mat_split.specs.Ladders.{IsLadder};
 use crate::augment::augment;
 use crate::augmented::Augmented;
 use crate::ladder::{Ladder, Rung};
-use mat_exchange::{RowTable, rows_from_kept, table_in_turn};
+use mat_exchange::{ExchangesAt, exchanges_at, exchanges_in_turn, next_exchanges, next_in_turn};
 use mat_laws::Matroid;
 use mat_sets::{ElemSet, PairWeights, Weight};
 use std::alloc::{AllocError, Global};
@@ -30,19 +30,22 @@ fn first_rung(alloc: Global, weights: &[Weight]) -> Result<Rung, AllocError>
     })
 }
 
-// A heaviest common independent set for each size, from the rows of each matroid that these calls make.
+// A heaviest common independent set for each size, from what each matroid keeps of the empty set with the exchanges at it, which these calls
+// hand on from one set to the next.
 fn ladder_by<
     A: Matroid,
     B: Matroid,
-    F: Fn(&ElemSet, &A::Kept) -> Result<RowTable, AllocError>,
-    G: Fn(&ElemSet, &B::Kept) -> Result<RowTable, AllocError>,
+    F: Fn(&ElemSet, ExchangesAt<A::Kept>, &ElemSet) -> Result<ExchangesAt<A::Kept>, AllocError>,
+    G: Fn(&ElemSet, ExchangesAt<B::Kept>, &ElemSet) -> Result<ExchangesAt<B::Kept>, AllocError>,
 >(
     alloc: Global,
     a: &A,
     b: &B,
     weights: &[Weight],
-    first_table: &F,
-    second_table: &G,
+    first_at: ExchangesAt<A::Kept>,
+    second_at: ExchangesAt<B::Kept>,
+    first_next: &F,
+    second_next: &G,
 ) -> Result<Ladder, AllocError>
     requires first_sound { A.sound a.now }
     requires second_sound { B.sound b.now }
@@ -50,34 +53,31 @@ fn ladder_by<
     requires few { A.ground_size a.now ≤ most_elements }
     requires lengths { length weights.now ≡ A.ground_size a.now }
     requires small { AreWeightsWithin largest_weight weights.now }
-    requires first_asked { (set : _) (kept : _) → A.indep a.now set.now ≡ true → A.keeps a.now set.now kept.now → F.pre first_table.now set kept }
-    requires second_asked { (set : _) (kept : _) → B.indep b.now set.now ≡ true → B.keeps b.now set.now kept.now → G.pre second_table.now set kept }
-    requires first_made { (set : _) (kept : _) (table : _) → F.post first_table.now set kept table
-        → IfOk table (λ t. t ≡ rows_of (A.ground_size a.now) (A.indep a.now) set.now) }
-    requires second_made { (set : _) (kept : _) (table : _) → G.post second_table.now set kept table
-        → IfOk table (λ t. t ≡ rows_of (B.ground_size b.now) (B.indep b.now) set.now) }
+    requires first_kept { A.keeps a.now [] first_at.kept }
+    requires first_table { first_at.table ≡ rows_of (A.ground_size a.now) (A.indep a.now) [] }
+    requires second_kept { B.keeps b.now [] second_at.kept }
+    requires second_table { second_at.table ≡ rows_of (B.ground_size b.now) (B.indep b.now) [] }
+    requires first_asked { (set : _) (at : _) (next : _) → A.indep a.now set.now ≡ true → A.keeps a.now set.now at.kept
+        → at.table ≡ rows_of (A.ground_size a.now) (A.indep a.now) set.now → A.indep a.now next.now ≡ true → F.pre first_next.now set at next }
+    requires second_asked { (set : _) (at : _) (next : _) → B.indep b.now set.now ≡ true → B.keeps b.now set.now at.kept
+        → at.table ≡ rows_of (B.ground_size b.now) (B.indep b.now) set.now → B.indep b.now next.now ≡ true → G.pre second_next.now set at next }
+    requires first_made { (set : _) (at : _) (next : _) (made : _) → F.post first_next.now set at next made
+        → IfOk made (λ at. A.keeps a.now next.now at.kept × (at.table ≡ rows_of (A.ground_size a.now) (A.indep a.now) next.now)) }
+    requires second_made { (set : _) (at : _) (next : _) (made : _) → G.post second_next.now set at next made
+        → IfOk made (λ at. B.keeps b.now next.now at.kept × (at.table ≡ rows_of (B.ground_size b.now) (B.indep b.now) next.now)) }
     ensures { IfOk result (λ l. IsLadder (A.ground_size a.now) (A.indep a.now) (B.indep b.now) weights.now l.rungs.items l.cut) }
 {
     a.lawful();
     b.lawful();
     let mut rungs = Vec::new(alloc);
     let mut rung = first_rung(alloc, weights)?;
-    let mut first_kept = a.keep(alloc, &rung.set)?;
-    let mut second_kept = b.keep(alloc, &rung.set)?;
+    let mut first = first_at;
+    let mut second = second_at;
     loop {
-        match augment(
-            alloc,
-            a,
-            b,
-            &rung,
-            &first_kept,
-            &second_kept,
-            first_table,
-            second_table,
-        )? {
+        match augment(alloc, a, b, &rung, &first.table, &second.table)? {
             Augmented::Larger(larger) => {
-                first_kept = a.keep_next(alloc, &rung.set, &first_kept, &larger.set)?;
-                second_kept = b.keep_next(alloc, &rung.set, &second_kept, &larger.set)?;
+                first = first_next(&rung.set, first, &larger.set)?;
+                second = second_next(&rung.set, second, &larger.set)?;
                 rungs.push(rung)?;
                 rung = larger;
             }
@@ -93,8 +93,8 @@ fn ladder_by<
 /// proves it, and a set that proves that there is no larger one, by weight splitting (Frank 1981; Schrijver, chapter 41). Both
 /// matroids have the same elements, at most 500; both numbers of each weight are at least -10^12 and at most 10^12; there are 1 to 16
 /// workers, who share the rows of each matroid: more than one pay where a row takes longer than a thread takes to start. For n elements
-/// the rows of each matroid are made at most n + 1 times, and as many reached sets grow; what each matroid keeps of a set is made from what
-/// it kept of the one before. The only error is want of memory.
+/// at most n + 1 reached sets grow; what each matroid keeps of a set, and the rows at it, are made from those of the set before. The only error
+/// is want of memory.
 pub fn intersect_all<R: Threads + Sync, A: Matroid, B: Matroid>(
     rt: &R,
     alloc: Global,
@@ -112,17 +112,39 @@ pub fn intersect_all<R: Threads + Sync, A: Matroid, B: Matroid>(
     requires small { AreWeightsWithin largest_weight weights.now }
     ensures { IfOk result (λ l. IsLadder (A.ground_size a.now) (A.indep a.now) (B.indep b.now) weights.now l.rungs.items l.cut) }
 {
-    let first = |set: &ElemSet, kept: &A::Kept| -> Result<RowTable, AllocError>
-        requires { A.sound a.now × (A.indep a.now set.now ≡ true) × (A.ground_size a.now ≤ most_elements)
-            × A.keeps a.now set.now kept.now × AreWorkers workers }
-        ensures { IfOk result (λ t. t ≡ rows_of (A.ground_size a.entry.now) (A.indep a.entry.now) set.now) }
-    { rows_from_kept(rt, alloc, a, set, kept, workers) };
-    let second = |set: &ElemSet, kept: &B::Kept| -> Result<RowTable, AllocError>
-        requires { B.sound b.now × (B.indep b.now set.now ≡ true) × (B.ground_size b.now ≤ most_elements)
-            × B.keeps b.now set.now kept.now × AreWorkers workers }
-        ensures { IfOk result (λ t. t ≡ rows_of (B.ground_size b.entry.now) (B.indep b.entry.now) set.now) }
-    { rows_from_kept(rt, alloc, b, set, kept, workers) };
-    ladder_by(alloc, a, b, weights, &first, &second)
+    a.lawful();
+    b.lawful();
+    let empty = ElemSet::new(alloc);
+    let first_at = exchanges_at(rt, alloc, a, &empty, workers)?;
+    let second_at = exchanges_at(rt, alloc, b, &empty, workers)?;
+    let first_next = |set: &ElemSet, at: ExchangesAt<A::Kept>, next: &ElemSet| -> Result<
+        ExchangesAt<A::Kept>,
+        AllocError,
+    >
+        requires { A.sound a.now × (A.indep a.now set.now ≡ true) × (A.ground_size a.now ≤ most_elements) × A.keeps a.now set.now at.kept
+            × (at.table ≡ rows_of (A.ground_size a.now) (A.indep a.now) set.now) × (A.indep a.now next.now ≡ true) × AreWorkers workers }
+        ensures { IfOk result (λ at. A.keeps a.entry.now next.now at.kept
+            × (at.table ≡ rows_of (A.ground_size a.entry.now) (A.indep a.entry.now) next.now)) }
+    { next_exchanges(rt, alloc, a, set, at, next, workers) };
+    let second_next = |set: &ElemSet, at: ExchangesAt<B::Kept>, next: &ElemSet| -> Result<
+        ExchangesAt<B::Kept>,
+        AllocError,
+    >
+        requires { B.sound b.now × (B.indep b.now set.now ≡ true) × (B.ground_size b.now ≤ most_elements) × B.keeps b.now set.now at.kept
+            × (at.table ≡ rows_of (B.ground_size b.now) (B.indep b.now) set.now) × (B.indep b.now next.now ≡ true) × AreWorkers workers }
+        ensures { IfOk result (λ at. B.keeps b.entry.now next.now at.kept
+            × (at.table ≡ rows_of (B.ground_size b.entry.now) (B.indep b.entry.now) next.now)) }
+    { next_exchanges(rt, alloc, b, set, at, next, workers) };
+    ladder_by(
+        alloc,
+        a,
+        b,
+        weights,
+        first_at,
+        second_at,
+        &first_next,
+        &second_next,
+    )
 }
 
 /// What [`intersect_all`] says, by one worker, who starts no thread.
@@ -140,13 +162,37 @@ pub fn intersect_in_turn<A: Matroid, B: Matroid>(
     requires small { AreWeightsWithin largest_weight weights.now }
     ensures { IfOk result (λ l. IsLadder (A.ground_size a.now) (A.indep a.now) (B.indep b.now) weights.now l.rungs.items l.cut) }
 {
-    let first = |set: &ElemSet, kept: &A::Kept| -> Result<RowTable, AllocError>
-        requires { A.sound a.now × (A.indep a.now set.now ≡ true) × (A.ground_size a.now ≤ most_elements) × A.keeps a.now set.now kept.now }
-        ensures { IfOk result (λ t. t ≡ rows_of (A.ground_size a.entry.now) (A.indep a.entry.now) set.now) }
-    { table_in_turn(alloc, a, set, kept) };
-    let second = |set: &ElemSet, kept: &B::Kept| -> Result<RowTable, AllocError>
-        requires { B.sound b.now × (B.indep b.now set.now ≡ true) × (B.ground_size b.now ≤ most_elements) × B.keeps b.now set.now kept.now }
-        ensures { IfOk result (λ t. t ≡ rows_of (B.ground_size b.entry.now) (B.indep b.entry.now) set.now) }
-    { table_in_turn(alloc, b, set, kept) };
-    ladder_by(alloc, a, b, weights, &first, &second)
+    a.lawful();
+    b.lawful();
+    let empty = ElemSet::new(alloc);
+    let first_at = exchanges_in_turn(alloc, a, &empty)?;
+    let second_at = exchanges_in_turn(alloc, b, &empty)?;
+    let first_next = |set: &ElemSet, at: ExchangesAt<A::Kept>, next: &ElemSet| -> Result<
+        ExchangesAt<A::Kept>,
+        AllocError,
+    >
+        requires { A.sound a.now × (A.indep a.now set.now ≡ true) × (A.ground_size a.now ≤ most_elements) × A.keeps a.now set.now at.kept
+            × (at.table ≡ rows_of (A.ground_size a.now) (A.indep a.now) set.now) × (A.indep a.now next.now ≡ true) }
+        ensures { IfOk result (λ at. A.keeps a.entry.now next.now at.kept
+            × (at.table ≡ rows_of (A.ground_size a.entry.now) (A.indep a.entry.now) next.now)) }
+    { next_in_turn(alloc, a, set, at, next) };
+    let second_next = |set: &ElemSet, at: ExchangesAt<B::Kept>, next: &ElemSet| -> Result<
+        ExchangesAt<B::Kept>,
+        AllocError,
+    >
+        requires { B.sound b.now × (B.indep b.now set.now ≡ true) × (B.ground_size b.now ≤ most_elements) × B.keeps b.now set.now at.kept
+            × (at.table ≡ rows_of (B.ground_size b.now) (B.indep b.now) set.now) × (B.indep b.now next.now ≡ true) }
+        ensures { IfOk result (λ at. B.keeps b.entry.now next.now at.kept
+            × (at.table ≡ rows_of (B.ground_size b.entry.now) (B.indep b.entry.now) next.now)) }
+    { next_in_turn(alloc, b, set, at, next) };
+    ladder_by(
+        alloc,
+        a,
+        b,
+        weights,
+        first_at,
+        second_at,
+        &first_next,
+        &second_next,
+    )
 }

@@ -11,7 +11,7 @@ pub to_row-requires : goal.to_row-requires
 to_row-requires c = still_below (length c.args.self.now.rows) 512 c.args.with.now (omega (arith, c.requires.few)) c.requires.below
 
 pub returns : goal.returns
-returns c = λ exchanges is filled.
-    IsFilledTable-enter exchanges c.args.x c.args.self.now.addable c.args.with.now c.args.self.now.rows _ c.args.self.now.columns _
-    c.requires.place filled is (c.replace.ensures ∙ ap (λ r. set c.args.self.now.rows c.args.x r) c.to_row.ensures.members)
+returns c = λ exchanges missing is filled.
+    IsFilledTable-enter exchanges missing c.args.x c.args.self.now.addable c.args.self.now.rows c.args.self.now.columns filled c.args.with.now _ _
+    c.requires.place is (c.replace.ensures ∙ ap (λ r. set c.args.self.now.rows c.args.x r) c.to_row.ensures.members)
     (rw c.as_slice.ensures.items at c.insert_each.ensures)

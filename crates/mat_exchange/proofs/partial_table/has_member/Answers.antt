@@ -1,0 +1,13 @@
+use Rattle.std.proofs.Common.{◌≡◌, ℕ, Bool, true, false, Option, None, Some, sym, ◌∙◌, arith}
+use Rattle.std.specs.Option.{is_some}
+use Rattle.std.proofs.lemmas.Bool.{false≢true}
+use Rattle.mat_sets.specs.Sets.{is_member}
+use Rattle.mat_sets.specs.Search.{IsNextFrom}
+use Rattle.mat_exchange.proofs.partial_table.has_member.Goals as goal
+
+none_passes : (test : ℕ → Bool) (found : Option ℕ) → IsNextFrom test 0 found → is_some found ≡ false → (x : ℕ) → test x ≡ false
+none_passes test None none h x = none x (omega arith)
+none_passes test (Some v) first h x = absurd (false≢true (sym h))
+
+pub returns : goal.returns
+returns c = λ none. none_passes (λ x. is_member x c.args.set.now) c.next_from.result c.next_from.ensures (sym c.is_some.ensures ∙ none)

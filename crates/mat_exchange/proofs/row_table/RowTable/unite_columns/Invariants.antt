@@ -1,0 +1,7 @@
+use Rattle.std.proofs.Common.{take}
+use Rattle.mat_exchange.proofs.UnitedColumns.{AreUnited}
+use Rattle.mat_laws.specs.TightPaths.{exchanges_in}
+use Rattle.mat_exchange.proofs.row_table.RowTable.unite_columns.Given as goal
+
+abbrev pub invariant-loop-y : goal.invariant-loop-y
+invariant-loop-y l = AreUnited (exchanges_in l.self) (take l.y-index l.members) l.fn.into l.into

@@ -1,0 +1,57 @@
+use Rattle.std.proofs.Common.{length, ap, sym, subst, ◌∙◌, arith}
+use Rattle.mat_sets.specs.Sets.{AllBelow, minus}
+use Rattle.mat_sets.proofs.Ground.{AllBelow-subset}
+use Rattle.mat_sets.proofs.Subsets.{minus-IsSubset}
+use Rattle.mat_laws.specs.Exchanges.{rows_of}
+use Rattle.mat_exchange.proofs.MissingElements.{rows_reopened}
+use Rattle.mat_exchange.proofs.RowExchanges.{length-rows_of}
+use Rattle.mat_laws.proofs.Independent.{below}
+use Rattle.mat_exchange.proofs.unfinished_table.reopened.Goals as goal
+
+pub lost_rows-requires-clause-came : goal.lost_rows-requires-clause-came
+lost_rows-requires-clause-came g c =
+    let n = g.M.Matroid.ground_size c.args.m.now in
+    let p = g.M.Matroid.indep c.args.m.now in
+    subst (λ k. AllBelow k c.in_ok-came.came) (sym (ap length c.requires.table ∙ length-rows_of n p c.args.set.now))
+    (subst (AllBelow n) (sym c.in_ok-came.ensures.members) (AllBelow-subset n (minus c.args.next.now c.args.set.now) c.args.next.now
+    (minus-IsSubset c.args.next.now c.args.set.now) (below c.lawful.ensures c.args.next.now c.requires.next)))
+
+pub lost_rows-requires-clause-left : goal.lost_rows-requires-clause-left
+lost_rows-requires-clause-left g c =
+    let n = g.M.Matroid.ground_size c.args.m.now in
+    let p = g.M.Matroid.indep c.args.m.now in
+    subst (λ k. AllBelow k c.in_ok-left.left) (sym (ap length c.requires.table ∙ length-rows_of n p c.args.set.now))
+    (subst (AllBelow n) (sym c.in_ok-left.ensures.members) (AllBelow-subset n (minus c.args.set.now c.args.next.now) c.args.set.now
+    (minus-IsSubset c.args.set.now c.args.next.now) (below c.lawful.ensures c.args.set.now c.requires.independent)))
+
+pub reopened-table-requires-clause-few : goal.reopened-table-requires-clause-few
+reopened-table-requires-clause-few g c =
+    omega (arith, ap length c.requires.table, length-rows_of (g.M.Matroid.ground_size c.args.m.now) (g.M.Matroid.indep c.args.m.now) c.args.set.now, c.requires.few)
+
+pub reopened-table-requires-clause-lost : goal.reopened-table-requires-clause-lost
+reopened-table-requires-clause-lost g c =
+    (rows_reopened c.lawful.ensures c.args.set.now c.args.next.now c.in_ok-lost.lost c.in_ok-missing.missing c.in_ok-came.came c.in_ok-left.left c.args.at.table
+    c.requires.independent c.requires.next c.requires.table c.in_ok-came.ensures.members c.in_ok-left.ensures.members c.in_ok-lost.ensures
+    c.in_ok-missing.ensures).lost_missing
+
+pub reopened-table-requires-clause-bare : goal.reopened-table-requires-clause-bare
+reopened-table-requires-clause-bare g c =
+    (rows_reopened c.lawful.ensures c.args.set.now c.args.next.now c.in_ok-lost.lost c.in_ok-missing.missing c.in_ok-came.came c.in_ok-left.left c.args.at.table
+    c.requires.independent c.requires.next c.requires.table c.in_ok-came.ensures.members c.in_ok-left.ensures.members c.in_ok-lost.ensures
+    c.in_ok-missing.ensures).others_bare
+
+pub reopened-table-requires-clause-added : goal.reopened-table-requires-clause-added
+reopened-table-requires-clause-added g c =
+    (rows_reopened c.lawful.ensures c.args.set.now c.args.next.now c.in_ok-lost.lost c.in_ok-missing.missing c.in_ok-came.came c.in_ok-left.left c.args.at.table
+    c.requires.independent c.requires.next c.requires.table c.in_ok-came.ensures.members c.in_ok-left.ensures.members c.in_ok-lost.ensures
+    c.in_ok-missing.ensures).added_missing
+
+pub returns-clause-filled : goal.returns-clause-filled
+returns-clause-filled g c =
+    let n = g.M.Matroid.ground_size c.args.m.now in
+    let p = g.M.Matroid.indep c.args.m.now in
+    c.reopened-table.ensures (rows_of n p c.args.next.now)
+    (length-rows_of n p c.args.next.now ∙ sym (ap length c.requires.table ∙ length-rows_of n p c.args.set.now))
+    (rows_reopened c.lawful.ensures c.args.set.now c.args.next.now c.in_ok-lost.lost c.in_ok-missing.missing c.in_ok-came.came c.in_ok-left.left c.args.at.table
+    c.requires.independent c.requires.next c.requires.table c.in_ok-came.ensures.members c.in_ok-left.ensures.members c.in_ok-lost.ensures
+    c.in_ok-missing.ensures).rows_stay
