@@ -11,6 +11,8 @@ set -eu
 top=$(dirname -- "$(dirname -- "$(readlink -f -- "$0")")")
 kit=$(dirname "$(rt doc)")
 work=$(mktemp -d "${TMPDIR:-/var/tmp}/launcher-XXXXXX")
+# (rt that is run by root runs the tests as nobody, who has to reach the kit and the folder for temporary files)
+chmod 711 "$work"
 trap 'rm -rf "$work"' EXIT
 trap 'exit 1' HUP INT TERM
 
