@@ -151,7 +151,7 @@ try_first_build() {
     tell "a first build: status and answer" "$status $(cat "$work/out")" "3 $answer"
     tell "its crates, without those that the program does not stand on" "$(proved)" "mat_laws mat_main mat_sets mat_top mat_words mat_work "
     tell "the lowest crate is proved before the others" "$(tr '\n' ' ' <"$work/kit/calls")" "ci mat_sets ci "
-    tell "it says how long that takes, by the longest chain of the table" "$(grep -c 'takes about 14 minutes' "$work/err")" 1
+    tell "it says how long that takes, by the longest chain of the table" "$(grep -c 'takes about 14 to 28 minutes' "$work/err")" 1
     tell "no terminal: plain lines, none of them written over" "$(grep -c "^matbench: [0-6] of 6 crates proved; 0 min so far, about" "$work/err" | sed 's/^[1-9][0-9]*$/some/') $(tr -dc '\r\033' <"$work/err" | wc -c)" "some 0"
     tell "left behind" "$(left_behind)" "0 processes, 0 folders"
     run intersect file
