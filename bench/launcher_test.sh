@@ -1,6 +1,6 @@
 #!/bin/sh
-# Tries the launcher on a small checkout, with a stand-in for rt that sleeps, writes the lines that the launcher reads and makes a
-# program. Nothing is proved, and nothing outside a temporary folder is written. Needs Linux with setsid, flock, script and timeout, and to be
+# Tries the launcher on a small checkout, with stand-ins for rt, which sleeps, writes the lines that the launcher reads and makes a
+# program, and for df. Nothing is proved, and nothing outside a temporary folder is written. Needs Linux with setsid, flock, script and timeout, and to be
 # started with Ctrl-C not ignored, as it is behind an & of a script: a shell cannot trap what was ignored when it began.
 #
 #     bench/launcher_test.sh [SHELL..]
@@ -26,6 +26,11 @@ kept=$kit/../rattle-kept
 [ "$1" = doc ] && echo "${STAND_IN_DOC:-$kit/START-HERE.md}" && exit
 { [ "$1" = ci ] && [ "$#" -le 2 ]; } || exit 2
 echo "$*" >>"$kit/calls"
+if [ "$#" = 2 ]; then
+    [ "${CI:-}" != true ] || { echo "rt: rt ci with names is not the gate: run it with none in .ci/run" && exit 2; }
+    # (as rt, which leaves its copy where a signal ends it)
+    copy=$(mktemp -d "${TMPDIR:-/tmp}/rt-copy-XXXXXX") && cp -R crates crates.txt "$copy/" && cd "$copy" || exit 2
+fi
 rm -rf failed crates/*/out
 prove() {
     for below in $2; do
@@ -58,14 +63,20 @@ while IFS=: read -r name uses; do
     [ "${2:-${name%% *}}" != "${name%% *}" ] || prove "${name%% *}" "$uses" &
 done <crates.txt
 wait
-[ "$#" = 1 ] || { [ ! -e failed ] && echo "1 passed, 0 failed" && exit 0; exit 1; }
+if [ "$#" = 2 ]; then
+    [ ! -e failed ] && echo "1 passed, 0 failed"
+    result=$?
+    rm -rf "$copy"
+    exit "$result"
+fi
 if grep -q FAILS crates/mat_main/src/lib.rt; then
     printf 'rt: mat_main: the program ended with status 1, and not 0\nrt: mat_main: its tests passed\nrt: FAILED: mat_main (run)\n5 passed, 1 failed\n'
     exit 1
 fi
 [ ! -e failed ] && echo "$(grep -c . crates.txt) passed, 0 failed" || { echo "rt: FAILED: some"; echo "0 passed, 1 failed"; exit 1; }
 END
-    chmod 755 "$work/kit/bin/rt"
+    printf '#!/bin/sh\necho "Filesystem 1048576-blocks Used Available Capacity Mounted on"\necho "disk 90000 85000 ${STAND_IN_FREE:-5000} 95%% /"\n' >"$work/kit/bin/df"
+    chmod 755 "$work/kit/bin/rt" "$work/kit/bin/df"
 }
 
 # Makes a checkout of the launcher and seven small crates, nothing of which is built or kept.
@@ -92,8 +103,8 @@ make_checkout() {
 
 | crate | proof | tests | edits | crate | proof | tests | edits |
 |---|---|---|---|---|---|---|---|
-| `mat_sets` | 126 | | 161 | `mat_work` | 27 | 45 | 74 |
-| `mat_laws` | 48 | | 80 | `mat_words` | 107 | | 174 |
+| `mat_sets` | 126 | | 161 | `mat_work` | 5 | 45 | 74 |
+| `mat_laws` | 10 | | 80 | `mat_words` | 107 | | 174 |
 | `mat_top` | 522 | | 714 | `mat_main` | 71 | 59 | |
 END
 }
@@ -151,7 +162,7 @@ try_first_build() {
     tell "a first build: status and answer" "$status $(cat "$work/out")" "3 $answer"
     tell "its crates, without those that the program does not stand on" "$(proved)" "mat_laws mat_main mat_sets mat_top mat_words mat_work "
     tell "the lowest crate is proved before the others" "$(tr '\n' ' ' <"$work/kit/calls")" "ci mat_sets ci "
-    tell "it says how long that takes, by the longest chain of the table" "$(grep -c 'takes about 14 to 28 minutes' "$work/err")" 1
+    tell "it says how long that takes, by the longest chain of the table" "$(grep -c 'takes about 28 minutes' "$work/err")" 1
     tell "no terminal: plain lines, none of them written over" "$(grep -c "^matbench: [0-6] of 6 crates proved; 0 min so far, about" "$work/err" | sed 's/^[1-9][0-9]*$/some/') $(tr -dc '\r\033' <"$work/err" | wc -c)" "some 0"
     tell "left behind" "$(left_behind)" "0 processes, 0 folders"
     run intersect file
@@ -169,7 +180,7 @@ try_without_tool() {
     tell "the help without a program" "$status $(cat "$work/out")" "0 The help."
     # shellcheck disable=SC2086
     seen=$(PATH=/usr/bin:/bin $shell "$work/checkout/matbench" --version 2>&1 </dev/null)
-    tell "no tool on the path" "$? $seen" "70 matbench: the program is not built, and there is no command rt to build it"
+    tell "no tool on the path" "$? $seen" "70 matbench: the program is missing, or older than a source; building it needs rt, which is not on the search path: see README.md, Install"
 }
 
 try_lacking() {
@@ -177,17 +188,34 @@ try_lacking() {
     mkdir -p "$work/few" && ln -sf /usr/bin/* "$work/few/" && rm "$work/few/flock"
     # shellcheck disable=SC2086
     seen=$(PATH=$work/kit/bin:$work/few $shell "$work/checkout/matbench" --version 2>&1 </dev/null)
-    tell "no flock on the path" "$? $seen" "70 matbench: the program is not built, and there is no command flock to build it"
+    tell "no flock on the path" "$? $seen" "70 matbench: the program is missing, or older than a source; building it needs flock, which is not on the search path: see README.md, Install"
     touch "$work/checkout/crates/mat_main/out"
     run --version
-    tell "out/ cannot be written" "$status $(cat "$work/err")" "70 matbench: the program is not built, and $work/checkout/crates/mat_main/out cannot be written"
+    tell "out/ cannot be written" "$status $(cat "$work/err")" "70 matbench: the program is missing, or older than a source; it cannot be built, since $work/checkout/crates/mat_main/out cannot be written to"
     rm "$work/checkout/crates/mat_main/out"
     STAND_IN_DOC=$work/nowhere/kit/START-HERE.md
     export STAND_IN_DOC
     run intersect file
     unset STAND_IN_DOC
     tell "what cannot be kept is not proved before the others" "$(cat "$work/kit/calls")" "ci"
-    tell "nothing can be kept" "$status $(grep 'begins anew' "$work/err")" "3 matbench: nothing can be kept in $work/nowhere/rattle-kept: a build that is broken off begins anew"
+    tell "nothing more can be kept" "$status $(grep 'nothing more' "$work/err")" "3 matbench: nothing more can be kept in $work/nowhere/rattle-kept: an interrupted build proves again what is not kept there"
+    make_checkout
+    STAND_IN_FREE=4999
+    export STAND_IN_FREE
+    run intersect file
+    unset STAND_IN_FREE
+    tell "a full disk: nothing more can be kept" "$status $(grep -c 'nothing more can be kept' "$work/err") $(cat "$work/kit/calls")" "3 1 ci"
+    make_checkout
+    mv "$work/rattle-kept" "$work/elsewhere" && ln -s elsewhere "$work/rattle-kept"
+    run intersect file
+    rm -rf "$work/rattle-kept" "$work/elsewhere"
+    tell "a link in place of the folder: nothing more can be kept" "$status $(grep -c 'nothing more can be kept' "$work/err") $(cat "$work/kit/calls")" "3 1 ci"
+    make_checkout
+    CI=true
+    export CI
+    run intersect file
+    unset CI
+    tell "with CI=true in the environment" "$status $(cat "$work/out")" "3 $answer"
 }
 
 try_failure() {
@@ -219,6 +247,7 @@ try_broken_off() {
     kill "-$1" "$launcher"
     wait "$launcher" 2>/dev/null
     tell "broken off by $1: status and answer" "$? $(cat "$work/out1")" "$2 "
+    tell "the lowest crate is under way first" "$(grep -c '^matbench: 0 of 6 crates proved; .*under way: mat_sets$' "$work/err1")" 1
     [ "$1" = KILL ] && sleep 3
     tell "left behind" "$(left_behind)" "0 processes, 0 folders"
     run intersect file
@@ -237,7 +266,7 @@ try_two_at_once() {
     tell "two at once: the first" "$? $(cat "$work/out1")" "3 $answer"
     wait "$second"
     tell "the second" "$? $(cat "$work/out2")" "3 $answer"
-    tell "what the second says" "$(cat "$work/err2")" "matbench: another launcher builds the program here; waiting for it to end"
+    tell "what the second says" "$(cat "$work/err2")" "matbench: another ./matbench is building the program in this checkout; waiting for it"
     tell "each crate is proved once" "$(proved)" "mat_laws mat_main mat_sets mat_top mat_words mat_work "
     make_checkout
     pause=1.5 start 1 intersect file
@@ -260,7 +289,7 @@ try_change() {
     touch "$work/checkout/crates/mat_words/src/lib.rt"
     wait "$launcher"
     tell "a source is touched during the build: status and answer" "$? $(cat "$work/out1")" "70 "
-    tell "what it says last" "$(tail -n 1 "$work/err1")" "matbench: a source was changed while the program was built; start it again"
+    tell "what it says last" "$(tail -n 1 "$work/err1")" "matbench: a source changed during the build; run the command again"
     tell "left behind" "$(left_behind)" "0 processes, 0 folders"
     run intersect file
     tell "started again" "$status $(cat "$work/out")" "3 $answer"
@@ -289,7 +318,7 @@ try_terminal() {
     make_checkout
     { wait_for "$work/kit/proved" mat_sets; printf '\003'; sleep 5; } | on_terminal 1.5 80
     tell "Ctrl-C on a terminal: status" "$(cat "$work/status")" 130
-    tell "what it says last" "$(tr '\r' '\n' <"$work/typescript" | grep -a '^.\[Kmatbench' | tail -n 1 | tr -d '\033')" "[Kmatbench: the build is broken off"
+    tell "what it says last" "$(tr '\r' '\n' <"$work/typescript" | grep -a '^.\[Kmatbench' | tail -n 1 | tr -d '\033')" "[Kmatbench: the build was interrupted"
     tell "left behind" "$(left_behind)" "0 processes, 0 folders"
 }
 
