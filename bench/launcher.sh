@@ -1,12 +1,15 @@
 #!/bin/sh
-# Times a first build from nothing by ./matbench: of another revision, where BEFORE names one, and then of this one.
+# Times how long ./matbench takes from a fresh clone to the answer to --version: at the revision BEFORE, if it is set; at HEAD by the
+# launcher of the revision LAUNCHER, if it is set; and then at HEAD.
 #
-#     [BEFORE=REVISION] [CPUS=0,1] bench/launcher.sh
+#     [BEFORE=REVISION] [LAUNCHER=REVISION] [CPUS=0,1] bench/launcher.sh
 #
-# Each revision is cloned into a fresh folder, and builds with a kit, a home and a folder for temporary files of its own. The kit has
-# links to the installed one: rt keeps what passed in a folder rattle-kept beside its kit, and finds the kit by where its own two
-# files lie, which are copied. So nothing is kept, and nothing is left in the installed kit's folder. CPUS are the processors to use,
-# as taskset -c takes them; without it all are. What is not committed is left out. The disk wants 15 GB below TMPDIR, or /var/tmp.
+# Each time the revision is cloned into a fresh folder, and builds with a kit, a home and a folder for temporary files of its own. That kit
+# consists of links to the installed one, but for bin/rt and bin/rtlib.py, which are copied: rt looks for its kit where these lie, and
+# keeps what passed in rattle-kept beside it. So no build finds anything kept, and the installed kit's folder stays as it is. CPUS is a
+# list for taskset -c; without it all processors are used. Changes that are not committed are left out. It needs 15 GB of free disk in
+# TMPDIR, or in /var/tmp, of which 5 GB stay free: with less, rt keeps nothing. Where a build fails, the script ends with its status and
+# prints no time.
 set -eu
 top=$(dirname -- "$(dirname -- "$(readlink -f -- "$0")")")
 kit=$(dirname "$(rt doc)")
@@ -35,14 +38,15 @@ processor_seconds() {
     awk 'NR == 2 { split($1 "m" $2, it, /[ms]+/); print int(60 * (it[1] + it[3]) + it[2] + it[4] + 0.5) }'
 }
 
-# Builds one revision from nothing, and prints its time.
+# Builds one revision from nothing, by the launcher of another where one is given, and prints its time.
 time_of() {
     place=$work/$2
     mkdir -p "$place/home" "$place/tmp"
     make_kit "$place/kit/rattle"
     git clone -q "$top" "$place/checkout"
     git -C "$place/checkout" checkout -q --detach "$1"
-    echo "$2: $(git -C "$place/checkout" log -1 --format='%h %s'), load before $(cut -d ' ' -f 1-3 /proc/loadavg)"
+    [ -z "${3:-}" ] || git -C "$top" show "$3:matbench" >"$place/checkout/matbench"
+    echo "$2: $(git -C "$place/checkout" log -1 --format='%h %s')${3:+, by the launcher of $3}, load before $(cut -d ' ' -f 1-3 /proc/loadavg)"
     begun=$(date +%s)
     (
         # shellcheck disable=SC2086
@@ -56,4 +60,5 @@ time_of() {
 
 git -C "$top" diff --quiet HEAD || echo "note: what is not committed is left out" >&2
 [ -z "${BEFORE:-}" ] || time_of "$(git -C "$top" rev-parse "$BEFORE")" before
+[ -z "${LAUNCHER:-}" ] || time_of "$(git -C "$top" rev-parse HEAD)" by_launcher "$LAUNCHER"
 time_of "$(git -C "$top" rev-parse HEAD)" this
