@@ -25,7 +25,7 @@ use crate::sizes::common_size_of;
 use mat_laws::{Exchange, Matroid};
 use mat_minors::{DualKept, dual_row};
 use mat_sets::{BitSet, ElemSet, SetList};
-use mat_union::{MoveSearch, PlaceSearch, found_place, parts_with, row_by_search};
+use mat_union::{MoveSearch, PlaceSearch, found_place, move_into, row_by_search};
 use std::alloc::{AllocError, Global};
 
 /// The exchanges of an element x outside an independent set, by what is kept of it. A truncation, a restriction, a contraction or the
@@ -470,7 +470,7 @@ pub(crate) fn place_for(
     ensures { IfOk result (IsPlaceSearch (size_in matroids.now) (map test_in matroids.now) parts.now among.now x) }
 {
     if let Some(q) = part_that_takes(alloc, matroids, parts, kept, x)? {
-        return Ok(PlaceSearch::Placed(parts_with(alloc, parts, x, q)?));
+        return Ok(PlaceSearch::Placed(move_into(alloc, x, q)?));
     }
     let search = search_from(alloc, matroids, parts, kept, among, x)?;
     found_place(alloc, parts, search)

@@ -4,7 +4,7 @@ ghost use Rattle.std.specs.Prelude.{◌≡◌, ◌<◌, ℕ, true, List, [], map
 ghost use Rattle.mat_sets.specs.{Families.{family_union}, Sets.{AllBelow, AreDistinct, IsSet, IsSubset, union}};
 ghost use Rattle.mat_laws.specs.{GreedyRuns.{grown_along, grown_by}, Matroids.{IsMaximal}};
 ghost use Rattle.mat_minors.specs.{DualRows.{IsDualKept}, Minors.{is_contracted, is_dual, is_restricted, is_truncated}};
-ghost use Rattle.mat_union.specs.{GrownParts.{AreGrowing, AreKept}, Unions.{test_at, AreParts}, UnionsOf.{AreJoined}};
+ghost use Rattle.mat_union.specs.{GrownParts.{AreGrowing, AreKept}, Moves.{all_moved}, Unions.{test_at, AreParts}, UnionsOf.{AreJoined}};
 ghost use Rattle.mat_any.specs.{
   AnyKeeps.{KeepsAny, KeepsDual},
   Joined.{elements_in, size_in, test_in, union_in, IsSoundOne, KeepsOne, KeepsUnion},
@@ -21,7 +21,7 @@ use mat_laws::Matroid;
 use mat_minors::{DualKept, first_taken, items_in, members_first, others_first};
 use mat_sets::{BitSet, ElemSet, SetList};
 use mat_union::{
-    Growth, PlaceSearch, first_parts, is_changed, mark_spanned, members_of, put_kept, stands,
+    Growth, Move, PlaceSearch, first_parts, is_entered_or_left, mark_spanned, members_of, moved_part, put_kept, stands,
 };
 use std::alloc::{AllocError, Global};
 
@@ -238,9 +238,8 @@ fn take_turn(
     }
     let kept = growth.kept.as_slice();
     match place_for(alloc, matroids, &growth.parts, kept, &growth.unspanned, x)? {
-        PlaceSearch::Placed(new) => {
-            keep_changed(alloc, matroids, &growth.parts, &new, &mut growth.kept)?;
-            growth.parts = new;
+        PlaceSearch::Placed(moves) => {
+            make_moves(alloc, matroids, &mut growth.parts, &mut growth.kept, &moves)?;
             Ok(())
         }
         PlaceSearch::Stuck(search) => {
@@ -255,25 +254,30 @@ fn take_turn(
     }
 }
 
-// What each matroid keeps of its new part: where that is another one than before, from what it kept of the old one.
+// Makes moves. A part that one of them enters or leaves becomes the one after all of them, and what its matroid keeps of it is made from
+// what it kept before.
 #[cycle(running)]
-fn keep_changed(
+fn make_moves(
     alloc: Global,
     matroids: &[AnyMatroid],
-    old: &SetList,
-    new: &SetList,
+    parts: &mut SetList,
     kept: &mut Vec<AnyKept>,
+    moves: &[Move],
 ) -> Result<(), AllocError>
     requires joined { AreJoined elements_in IsSoundOne matroids.now }
-    requires before { AreParts (map test_in matroids.now) old.now }
-    requires parts { AreParts (map test_in matroids.now) new.now }
-    requires kept { AreKept KeepsOne matroids.now old.now kept.old.items }
-    ensures { OnOk result (AreKept KeepsOne matroids.now new.now kept.new.items) }
+    requires before { AreParts (map test_in matroids.now) parts.old }
+    requires after { AreParts (map test_in matroids.now) (all_moved parts.old moves.now) }
+    requires kept { AreKept KeepsOne matroids.now parts.old kept.old.items }
+    ensures parts { OnOk result (parts.new ≡ all_moved parts.old moves.now) }
+    ensures kept { OnOk result (AreKept KeepsOne matroids.now parts.new kept.new.items) }
 {
     for i in 0..matroids.len() {
-        if is_changed(old, new, i) {
-            let one = keep_next(alloc, &matroids[i], old.get(i), &kept[i], new.get(i))?;
+        let part = parts.get(i);
+        if is_entered_or_left(part, moves, i as u32) {
+            let next = moved_part(alloc, part, moves, i as u32)?;
+            let one = keep_next(alloc, &matroids[i], part, &kept[i], &next)?;
             put_kept(kept, i, one);
+            parts.replace(i, next);
         }
     }
     Ok(())

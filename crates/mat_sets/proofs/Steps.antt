@@ -1,5 +1,5 @@
 -- Steps of loops over the members of a set or the sets of a family, for `using(..)`, and what a loop over a lent slice leaves.
-use Rattle.std.proofs.Common.{Bool, List, [], ap, arith, cond, drop, drop-cons, eqb, false, get_or, length, length-append, refl, suc, sym, take, true, zero, ℕ, ◌++◌, ◌+◌, ◌<◌, ◌||◌, ◌∙◌, ◌∷◌, ◌≡◌, ◌≤◌}
+use Rattle.std.proofs.Common.{Bool, List, [], ap, arith, cond, drop, drop-cons, eqb, false, get_or, length, length-append, refl, set, suc, sym, take, true, zero, ℕ, ◌++◌, ◌+◌, ◌<◌, ◌||◌, ◌∙◌, ◌∷◌, ◌≡◌, ◌≤◌}
 use Rattle.std.proofs.Math.Numerals.{add-one}
 use Rattle.std.proofs.Math.Seq.{take-append_seam}
 use Rattle.std.proofs.lemmas.Bool.{both_ways, eqb-false, ne_eqb, or_from, or_parts}
@@ -179,7 +179,12 @@ pub AllRising-append : (sets others : List (List ℕ)) → AllRising sets → Al
 AllRising-append [] others r s = s
 AllRising-append (a ∷ sets) others r s = (r.0, AllRising-append sets others r.1 s)
 
-pub ruleset family_steps = (AllRising-none, AllRising-more, AllRising-at, AllRising-append)
+pub AllRising-set : (sets : List (List ℕ)) (i : ℕ) (a : List ℕ) → AllRising sets → IsRising a → AllRising (set sets i a)
+AllRising-set [] i a r s = tt
+AllRising-set (b ∷ t) zero a r s = (s, r.1)
+AllRising-set (b ∷ t) (suc i) a r s = (r.0, AllRising-set t i a r.1 s)
+
+pub ruleset family_steps = (AllRising-none, AllRising-more, AllRising-at, AllRising-append, AllRising-set)
 
 -- ---- a slice that was lent whole, after it is written back
 

@@ -1,6 +1,6 @@
 //! Lists of pairs and of sets, seen as the list of their items.
 ghost use Rattle.std.specs.{
-  Prelude.{◌≡◌, ◌==◌, ◌<◌, length, map, slice_index_or, IfOk, []},
+  Prelude.{◌≡◌, ◌==◌, ◌<◌, length, map, slice_index_or, slice_set, IfOk, []},
   Cmp.Lexicographic.{pointwise},
   Cmp.Rules.{comparing},
   Ordering.{eq_of_both, on},
@@ -155,6 +155,17 @@ impl SetList {
         ensures rise { AllRising self.now }
     {
         &self.items[i]
+    }
+
+    /// Puts another set at place i. It takes no memory.
+    #[tactic(auto, using(crate::proofs::Steps::family_steps))]
+    pub fn replace(&mut self, i: usize, set: ElemSet)
+        requires { i < length self.old }
+        ensures items { self.new ≡ slice_set self.old i set }
+        ensures rise { AllRising self.new }
+    {
+        set.rises();
+        self.items[i] = set;
     }
 
     /// The sets in order.

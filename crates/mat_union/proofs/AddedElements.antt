@@ -1,10 +1,10 @@
 -- An element that can be added to a part comes into the parts by one move, and no other element moves.
-use Rattle.std.proofs.Common.{◌≡◌, ℕ, suc, zero, ◌<◌, Bool, true, false, not, ◌||◌, ◌&&◌, eqb, List, [], ◌∷◌, length, map, refl, sym, ap, ◌∙◌, subst, arith}
+use Rattle.std.proofs.Common.{◌≡◌, ℕ, suc, zero, ◌<◌, Bool, true, false, not, ◌||◌, ◌&&◌, eqb, List, [], ◌∷◌, length, refl, sym, ap, ◌∙◌, subst, arith}
 use Rattle.std.proofs.lemmas.Bool.{both_ways, false_from_ne_true}
 use Rattle.mat_sets.specs.Families.{family_union}
-use Rattle.mat_sets.specs.Sets.{all_below, is_member, minus}
+use Rattle.mat_sets.specs.Sets.{is_member, minus}
 use Rattle.mat_sets.proofs.Members.{is_member-minus, is_member-union}
-use Rattle.mat_union.specs.Moves.{elements, entering, exchanges_with, moved, place_at, AreMoved}
+use Rattle.mat_union.specs.Moves.{all_moved, elements, entering, exchanges_with, moved, place_at, AreMoved}
 use Rattle.mat_union.specs.Placings.{ArePlaced}
 use Rattle.mat_union.specs.UnionLaws.{chordless_moves}
 use Rattle.mat_union.specs.Unions.{part_at, AreMatroids, AreParts}
@@ -37,9 +37,9 @@ module _ {n : ℕ} {tests : List (List ℕ → Bool)} {parts : List (List ℕ)} 
       unmoved i e true f g = rw (f, g) refl
       unmoved i e false f g = rw f refl
 
-  pub move_places : (among : List ℕ) (new : List (List ℕ)) → new ≡ map (moved parts move) (all_below (length parts)) → ArePlaced tests parts among x new
-  move_places among new made =
-      let is : one_move.0 ≡ new = sym (made ∙ moved_list tests parts move one_move.0 are one_move.1) in
+  pub move_places : (among : List ℕ) → ArePlaced tests parts among x (all_moved parts move)
+  move_places among =
+      let is : one_move.0 ≡ all_moved parts move = sym (moved_list tests parts move one_move.0 are one_move.1) in
       subst (ArePlaced tests parts among x) is (record {
         are = one_move.1.are;
         together = one_move.1.together;

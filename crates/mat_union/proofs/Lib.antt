@@ -14,6 +14,7 @@ pub mod PlacedElements
 pub mod GrowingParts
 pub mod GrowingSteps
 pub mod SoundMatroids
+pub mod MadeMoves
 pub mod Dominated
 pub mod LevelsShow
 pub mod FallingLevels

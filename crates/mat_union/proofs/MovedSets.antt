@@ -1,15 +1,16 @@
 -- Steps of the loops that make the parts after moves.
-use Rattle.std.proofs.Common.{◌≡◌, ℕ, ◌+◌, ◌<◌, Bool, true, false, not, ◌||◌, ◌&&◌, cond, eqb, List, [], ◌∷◌, ◌++◌, length, get_or, map, take, refl, sym, ap, ◌∙◌, inl, inr}
+use Rattle.std.proofs.Common.{◌≡◌, ℕ, ◌+◌, ◌<◌, Bool, true, false, not, ◌||◌, ◌&&◌, cond, eqb, List, [], ◌∷◌, ◌++◌, length, get_or, map, take, refl, sym, ap, ◌∙◌, inl, inr, arith}
 use Rattle.std.proofs.lemmas.Bool.{cases_Bool}
-use Rattle.std.proofs.lemmas.List.{map_more, map-append}
+use Rattle.std.proofs.lemmas.List.{get_or-map, length-map, map_more, map-append}
 use Rattle.std.proofs.lemmas.List.Elements.{filter_more}
 use Rattle.std.specs.List.{filter}
 use Rattle.mat_sets.specs.Sets.{all_below, is_member, minus, union, with_one, without_one, IsRising}
 use Rattle.mat_sets.proofs.Members.{same_members, is_member-minus, is_member-union, is_member-with_one, is_member-without_one, IsRising-minus, IsRising-union, IsRising-with_one, IsRising-without_one}
 use Rattle.mat_sets.proofs.ListParts.{is_member-push}
-use Rattle.mat_sets.proofs.Ground.{all_below-more, all_below-none}
+use Rattle.mat_sets.proofs.Ground.{get_or-all_below, length-all_below}
 use Rattle.mat_sets.proofs.Truths.{and_neither}
-use Rattle.mat_union.specs.Moves.{elements, entering, no_move}
+use Rattle.mat_union.specs.Moves.{all_moved, elements, entering, moved, no_move}
+use Rattle.mat_union.specs.Unions.{part_at}
 use Rattle.mat_union.specs.declared.moves.Move.{Move}
 
 pub elements-more : (moves : List Move) (i : ℕ) → i < length moves → elements (take (i + 1) moves) ≡ elements (take i moves) ++ (get_or moves i no_move).element ∷ []
@@ -63,12 +64,6 @@ entering-passed moves q i l other = entering-more moves q i l ∙ rw other (noth
     nothing [] = refl
     nothing (x ∷ xs) = ap (λ t. x ∷ t) (nothing xs)
 
-pub all-more : (f : ℕ → List ℕ) (n : ℕ) (sets : List (List ℕ)) (set : List ℕ) → sets ≡ map f (all_below n) → set ≡ f n → sets ++ set ∷ [] ≡ map f (all_below (n + 1))
-all-more f n sets set e h = ap (λ s. s ++ set ∷ []) e ∙ ap (λ s. map f (all_below n) ++ s ∷ []) h ∙ sym (ap (map f) (all_below-more n) ∙ map-append f (all_below n) (n ∷ []))
-
-pub all-none : (f : ℕ → List ℕ) → [] ≡ map f (all_below 0)
-all-none f = sym (ap (map f) all_below-none)
-
 pub entering-step : (start set set' : List ℕ) (moves : List Move) (q i : ℕ) → IsRising start → i < length moves
     → set ≡ union (entering (take i moves) q) start → set' ≡ cond (eqb (get_or moves i no_move).part q) (with_one set (get_or moves i no_move).element) set
     → set' ≡ union (entering (take (i + 1) moves) q) start
@@ -87,3 +82,15 @@ without-none part r = same_members part (minus part []) r (IsRising-minus part [
     keeps : (a : Bool) → (a && not false) ≡ a
     keeps true = refl
     keeps false = refl
+
+-- ---- all parts after the moves
+
+module _ (parts : List (List ℕ)) (moves : List Move) where
+  pub length-all_moved : length (all_moved parts moves) ≡ length parts
+  length-all_moved = length-map (all_below (length parts)) (moved parts moves) ∙ length-all_below (length parts)
+
+  -- each part stands at its place
+  pub all_moved_at : (i : ℕ) → i < length parts → part_at (all_moved parts moves) i ≡ moved parts moves i
+  all_moved_at i l =
+      get_or-map (moved parts moves) (all_below (length parts)) i 0 [] (let e = length-all_below (length parts) in omega arith)
+      ∙ ap (moved parts moves) (get_or-all_below (length parts) i 0 l)

@@ -3,19 +3,21 @@ use Rattle.std.proofs.Common.{Global, Vec, None, Some, Option, ◌≡◌, ℕ, �
 use Rattle.std.specs.Prelude.{MatchOption}
 use Rattle.std.proofs.Math.Seq.{ext_get_or}
 use Rattle.std.proofs.lemmas.Bool.{both_ways, false_from_ne_true, false≢true}
-use Rattle.std.proofs.lemmas.List.{get_or-map, length-map}
+use Rattle.std.proofs.lemmas.List.{length-map}
 use Rattle.mat_sets.specs.Families.{family_union}
-use Rattle.mat_sets.specs.Sets.{all_below, is_member, minus, with_one}
-use Rattle.mat_sets.proofs.Ground.{get_or-all_below, length-all_below}
+use Rattle.mat_sets.specs.Sets.{is_member, minus, with_one}
 use Rattle.mat_sets.proofs.Members.{is_member-get_or, is_member-minus, is_member-union}
 use Rattle.mat_union.specs.EndedSearches.{IsEnded}
-use Rattle.mat_union.specs.Moves.{elements, entering, exchanges_with, moved, AreMoved}
+use Rattle.mat_union.specs.Moves.{all_moved, elements, entering, exchanges_with, AreMoved}
 use Rattle.mat_union.specs.MoveSearches.{AreFoundMoves, IsQuestion, IsReaching}
 use Rattle.mat_union.specs.MoveWalkLaws.{element_of_list, entering_gives}
-use Rattle.mat_union.specs.Placings.{ArePlaced, IsStuckSearch}
+use Rattle.mat_union.specs.Placings.{ArePlaced, IsPlaceSearch, IsStuckSearch}
 use Rattle.mat_union.specs.Unions.{part_at, AreMatroids, AreParts}
+use Rattle.mat_union.specs.declared.ended.PlaceSearch.{PlaceSearch}
+use Rattle.mat_union.specs.declared.ended.PlaceSearch.TheVariants.{Placed}
 use Rattle.mat_union.specs.declared.move_search.MoveSearch.{MoveSearch}
 use Rattle.mat_union.specs.declared.moves.Move.{Move}
+use Rattle.mat_union.proofs.MovedSets.{all_moved_at, length-all_moved}
 
 pub entering_elements : (moves : List Move) (q z : ℕ) → is_member z (entering moves q) ≡ true → is_member z (elements moves) ≡ true
 entering_elements moves q z h =
@@ -25,20 +27,17 @@ entering_elements moves q z h =
 
 -- the parts that were made are those that the law tells
 pub moved_list : (tests : List (List ℕ → Bool)) (parts : List (List ℕ)) (moves : List Move) (new : List (List ℕ)) → AreParts tests parts → AreMoved tests parts moves new
-    → map (moved parts moves) (all_below (length parts)) ≡ new
+    → all_moved parts moves ≡ new
 moved_list tests parts moves new are m =
-    let count : length (map (moved parts moves) (all_below (length parts))) ≡ length parts = length-map (all_below (length parts)) (moved parts moves) ∙ length-all_below (length parts) in
+    let count = length-all_moved parts moves in
     let a = m.are.one_each in
     let b = are.one_each in
-    ext_get_or [] _ new (omega arith) (λ i l.
-    get_or-map (moved parts moves) (all_below (length parts)) i 0 [] (let e = length-all_below (length parts) in omega arith)
-    ∙ ap (moved parts moves) (get_or-all_below (length parts) i 0 (omega arith)) ∙ sym (m.each i (omega arith)))
+    ext_get_or [] _ new (omega arith) (λ i l. all_moved_at parts moves i (omega arith) ∙ sym (m.each i (omega arith)))
 
 module _ {n : ℕ} {tests : List (List ℕ → Bool)} {parts : List (List ℕ)} {among : List ℕ} {start : ℕ} {s : MoveSearch} (are : AreParts tests parts)
-    (reaching : IsReaching n (length parts) (exchanges_with tests parts) among start s) (moves : List Move) (found : AreFoundMoves tests parts s moves) (new : List (List ℕ))
-    (made : new ≡ map (moved parts moves) (all_below (length parts))) where
-  is_new : found.new ≡ new
-  is_new = sym (made ∙ moved_list tests parts moves found.new are found.moved)
+    (reaching : IsReaching n (length parts) (exchanges_with tests parts) among start s) (moves : List Move) (found : AreFoundMoves tests parts s moves) where
+  is_new : found.new ≡ all_moved parts moves
+  is_new = sym (moved_list tests parts moves found.new are found.moved)
 
   -- what was not reached does not move
   stays : (z : ℕ) → (eqb z start || is_member z among) ≡ false → is_member z (elements moves) ≡ false
@@ -56,7 +55,7 @@ module _ {n : ℕ} {tests : List (List ℕ → Bool)} {parts : List (List ℕ)} 
       unmoved false false true a b = refl
       unmoved false false false a b = refl
 
-  pub moves_place : ArePlaced tests parts among start new
+  pub moves_place : ArePlaced tests parts among start (all_moved parts moves)
   moves_place = subst (ArePlaced tests parts among start) is_new (record {
     are = found.moved.are;
     together = found.moved.together ∙ ap (with_one (family_union parts)) (found.first ∙ reaching.from_start);
@@ -81,13 +80,18 @@ moves_told {n} {tests} {parts} {among} {x} {s} e p same found told =
 module _ {n : ℕ} {tests : List (List ℕ → Bool)} {parts : List (List ℕ)} {among : List ℕ} {start : ℕ} {s : MoveSearch} (are : AreParts tests parts)
     (reaching : IsReaching n (length parts) (exchanges_with tests parts) among start s) (found : Option (Vec Move Global))
     (told : MatchOption found (s.entered ≡ false) (λ (m : Vec Move Global). AreFoundMoves tests parts s m.items)) where
-  pub told_place : (moves : Vec Move Global) → found ≡ Some moves → (items : List Move) → items ≡ moves.items → (new : List (List ℕ))
-      → new ≡ map (moved parts items) (all_below (length parts)) → ArePlaced tests parts among start new
-  told_place moves is items e new made = moves_place are reaching moves.items
-      (subst (λ f. MatchOption f (s.entered ≡ false) (λ (m : Vec Move Global). AreFoundMoves tests parts s m.items)) is told) new (made ∙ ap (λ m. map (moved parts m) (all_below (length parts))) e)
+  pub told_place : (moves : Vec Move Global) → found ≡ Some moves → ArePlaced tests parts among start (all_moved parts moves.items)
+  told_place moves is = moves_place are reaching moves.items (subst (λ f. MatchOption f (s.entered ≡ false) (λ (m : Vec Move Global). AreFoundMoves tests parts s m.items)) is told)
 
   pub told_stuck : found ≡ None → IsQuestion s None → IsStuckSearch n tests parts among start s
   told_stuck is end = record {
     reaching = reaching;
     end = end (subst (λ f. MatchOption f (s.entered ≡ false) (λ (m : Vec Move Global). AreFoundMoves tests parts s m.items)) is told);
   }
+
+-- ---- the moves that a search found
+
+pub search_places : {n : ℕ} {tests : List (List ℕ → Bool)} {parts : List (List ℕ)} {among : List ℕ} {x : ℕ} {found : PlaceSearch} {moves : Vec Move Global} → found ≡ Placed moves
+    → IsPlaceSearch n tests parts among x found → (items : List Move) → items ≡ moves.items → ArePlaced tests parts among x (all_moved parts items)
+search_places {n} {tests} {parts} {among} {x} is told items same =
+    subst (λ m. ArePlaced tests parts among x (all_moved parts m)) (sym same) (subst (IsPlaceSearch n tests parts among x) is told)

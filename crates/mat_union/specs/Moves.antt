@@ -1,6 +1,6 @@
 -- Moves of elements between parts (Schrijver, chapter 42; Knuth 1973).
-use Rattle.std.specs.Prelude.{◌≡◌, ℕ, suc, ◌<◌, ◌≤◌, Bool, true, false, not, ◌&&◌, ◌==◌, List, [], length, map, filter, slice_index_or}
-use Rattle.mat_sets.specs.Sets.{is_member, intersection, minus, union, with_one}
+use Rattle.std.specs.Prelude.{◌≡◌, ℕ, suc, ◌<◌, ◌≤◌, Bool, true, false, not, ◌||◌, ◌&&◌, ◌==◌, List, [], length, map, filter, slice_index_or}
+use Rattle.mat_sets.specs.Sets.{all_below, is_member, intersection, minus, union, with_one}
 use Rattle.mat_sets.specs.Families.{family_union}
 use Rattle.mat_sets.specs.Search.{some_below}
 use Rattle.mat_sets.specs.Walks.{IsReachedSet}
@@ -79,6 +79,14 @@ entering moves q = map (λ m. m.element) (filter (λ m. m.part == q) moves)
 -- part q after all moves at once: it loses what moves, and gains what moves into it
 abbrev pub moved : List (List ℕ) → List Move → ℕ → List ℕ
 moved parts moves q = union (entering moves q) (minus (part_at parts q) (elements moves))
+
+-- all parts after all moves at once
+abbrev pub all_moved : List (List ℕ) → List Move → List (List ℕ)
+all_moved parts moves = map (moved parts moves) (all_below (length parts))
+
+-- whether one of these moves leads into part q, or takes an element of this set away
+abbrev pub is_entered_or_left : List Move → ℕ → List ℕ → Bool
+is_entered_or_left moves q part = some_below (length moves) (λ i. place_at moves i == q || is_member (element_at moves i) part)
 
 -- new parts, which together hold what the old ones held and one element more
 pub record AreMoved (tests : List (List ℕ → Bool)) (parts : List (List ℕ)) (moves : List Move) (new : List (List ℕ)) : Type 0 where

@@ -2,7 +2,7 @@
 use Rattle.std.specs.Prelude.{◌≡◌, ℕ, ◌<◌, ◌≤◌, Bool, true, false, ◌||◌, ◌==◌, List, length, Option, None, Some}
 use Rattle.mat_sets.specs.Families.{family_union}
 use Rattle.mat_sets.specs.Sets.{is_member, with_one}
-use Rattle.mat_union.specs.Moves.{exchanges_with}
+use Rattle.mat_union.specs.Moves.{all_moved, exchanges_with}
 use Rattle.mat_union.specs.MoveSearches.{IsReaching}
 use Rattle.mat_union.specs.Unions.{part_at, union_test, AreParts}
 use Rattle.mat_union.specs.declared.move_search.MoveSearch.{MoveSearch}
@@ -20,9 +20,9 @@ pub record IsStuckSearch (n : ℕ) (tests : List (List ℕ → Bool)) (parts : L
   pub reaching : IsReaching n (length parts) (exchanges_with tests parts) among x s
   pub end : length s.queue.items ≤ s.head
 
--- new parts that hold x too, or a search from x that is stuck
+-- moves after which the parts hold x too, or a search from x that is stuck
 abbrev pub IsPlaceSearch : ℕ → List (List ℕ → Bool) → List (List ℕ) → List ℕ → ℕ → PlaceSearch → Type 0
-IsPlaceSearch n tests parts among x (Placed new) = ArePlaced tests parts among x new
+IsPlaceSearch n tests parts among x (Placed moves) = ArePlaced tests parts among x (all_moved parts moves.items)
 IsPlaceSearch n tests parts among x (Stuck s) = IsStuckSearch n tests parts among x s
 
 -- x has come into the parts, or they are as they were and a search from x is stuck

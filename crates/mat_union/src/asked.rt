@@ -63,6 +63,21 @@ pub(crate) trait Asked {
         requires next { indep self.now next.now ≡ true }
         ensures { IfOk result (λ kept. keeps self.now next.now kept) };
 
+    /// Whether an element outside an independent set of which something is kept can be added to it.
+    fn adds_from(
+        &self,
+        alloc: Global,
+        base: &ElemSet,
+        kept: &Self::Kept,
+        x: u32,
+    ) -> Result<bool, AllocError>
+        requires sound { sound self.now }
+        requires base { indep self.now base.now ≡ true }
+        requires kept { keeps self.now base.now kept.now }
+        requires below { x < ground_size self.now }
+        requires outside { is_member x base.now ≡ false }
+        ensures { IfOk result (λ added. added ≡ (row_of (indep self.now) base.now x).addable) };
+
     /// The exchanges of an element outside an independent set of which something is kept.
     fn row_from(
         &self,
@@ -115,6 +130,16 @@ impl<M: Matroid> Asked for M {
         next: &ElemSet,
     ) -> Result<M::Kept, AllocError> {
         self.keep_next(alloc, base, kept, next)
+    }
+
+    fn adds_from(
+        &self,
+        alloc: Global,
+        base: &ElemSet,
+        kept: &M::Kept,
+        x: u32,
+    ) -> Result<bool, AllocError> {
+        self.adds(alloc, base, kept, x)
     }
 
     fn row_from(

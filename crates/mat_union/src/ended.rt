@@ -6,7 +6,7 @@ ghost use Rattle.mat_union.specs.{EndedSearches.{IsEnded, IsReady}, Placings.{Is
 
 use crate::move_graph::insert_all;
 use crate::move_search::MoveSearch;
-use crate::moved_sets::moved_parts;
+use crate::moves::Move;
 use mat_laws::Exchange;
 use mat_sets::{BitSet, ElemSet, SetList};
 use std::alloc::{AllocError, Global};
@@ -14,13 +14,13 @@ use std::alloc::{AllocError, Global};
 /// A place for an element among the parts.
 #[derive(Debug, Drop)]
 pub enum PlaceSearch {
-    /// New parts, which hold the element too.
-    Placed(SetList),
+    /// Moves after which the parts hold the element too.
+    Placed(Vec<Move>),
     /// A search from the element that found no moves.
     Stuck(MoveSearch),
 }
 
-/// The parts after the moves that the search found, which hold its first element too; else the search itself. The only error is want of
+/// The moves that the search found, after which the parts hold its first element too; else the search itself. The only error is want of
 /// memory.
 pub fn found_place(
     alloc: Global,
@@ -33,7 +33,7 @@ pub fn found_place(
         → IsEnded n tests parts.now among x search → IsPlaceSearch n tests parts.now among x found) }
 {
     match search.moves(alloc, parts.as_slice())? {
-        Some(moves) => Ok(PlaceSearch::Placed(moved_parts(alloc, parts, &moves)?)),
+        Some(moves) => Ok(PlaceSearch::Placed(moves)),
         None => Ok(PlaceSearch::Stuck(search)),
     }
 }

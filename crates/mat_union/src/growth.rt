@@ -19,22 +19,22 @@ ghost use Rattle.std.specs.Prelude.{
   IfSome,
   OnErr,
   OnOk,
-  ◌≢◌,
 };
 ghost use Rattle.mat_sets.specs.{Families.{family_union}, Sets.{is_member, IsRising, IsSubset}};
 ghost use Rattle.mat_laws.specs.{Exchanges.{row_of}, GreedyRuns.{grown_by}};
 ghost use Rattle.mat_union.specs.{
   GrownParts.{AreDone, AreGrowing, AreKept, AreSound},
-  Moves.{exchanges_with},
+  Moves.{all_moved, exchanges_with},
   MoveSearches.{IsQuestion, IsReaching},
   Placings.{IsPlaceSearch, IsPlacing},
-  Unions.{part_at, union_test, AreMatroids, AreParts},
+  Unions.{union_test, AreMatroids, AreParts},
 };
 
 use crate::asked::Asked;
 use crate::ended::{PlaceSearch, found_place};
 use crate::move_search::MoveSearch;
-use crate::moved_sets::parts_with;
+use crate::moved_sets::{is_entered_or_left, move_into, moved_part};
+use crate::moves::Move;
 use mat_laws::Exchange;
 use mat_sets::{BitSet, ElemSet, SetList};
 use std::alloc::{AllocError, Global};
@@ -83,6 +83,26 @@ fn row_at<M: Asked>(
         });
     }
     m.row_from(alloc, part, kept, x)
+}
+
+/// Whether x can be added to a part, by what is kept of it: a member cannot.
+fn adds_at<M: Asked>(
+    alloc: Global,
+    m: &M,
+    part: &ElemSet,
+    kept: &M::Kept,
+    x: u32,
+) -> Result<bool, AllocError>
+    requires sound { M.sound m.now }
+    requires independent { M.indep m.now part.now ≡ true }
+    requires kept { M.keeps m.now part.now kept.now }
+    requires below { x < M.ground_size m.now }
+    ensures { IfOk result (λ added. added ≡ (row_of (M.indep m.now) part.now x).addable) }
+{
+    if part.contains(x) {
+        return Ok(false);
+    }
+    m.adds_from(alloc, part, kept, x)
 }
 
 /// What each matroid keeps of its part.
@@ -156,16 +176,6 @@ pub(crate) fn search_from<M: Asked>(
     Ok(search)
 }
 
-/// Whether part i is another one than before.
-pub fn is_changed(old: &SetList, new: &SetList, i: usize) -> bool
-    requires old { i < length old.now }
-    requires new { i < length new.now }
-    ensures same { result ≡ false → part_at new.now i ≡ part_at old.now i }
-    ensures changed { result ≡ true → part_at new.now i ≢ part_at old.now i }
-{
-    new.get(i) != old.get(i)
-}
-
 /// This is kept of part i.
 pub fn put_kept<K: Drop>(kept: &mut Vec<K>, i: usize, one: K)
     requires { i < length kept.old.items }
@@ -174,25 +184,31 @@ pub fn put_kept<K: Drop>(kept: &mut Vec<K>, i: usize, one: K)
     kept[i] = one;
 }
 
-/// What each matroid keeps of its new part: where that is another one than before, from what it kept of the old one.
-fn keep_changed<M: Asked>(
+/// Makes moves. A part that one of them enters or leaves becomes the one after all of them, and what its matroid keeps of it is made from
+/// what it kept before.
+fn make_moves<M: Asked>(
     alloc: Global,
     matroids: &[M],
-    old: &SetList,
-    new: &SetList,
+    parts: &mut SetList,
     kept: &mut Vec<M::Kept>,
+    moves: &[Move],
     _n: u32,
 ) -> Result<(), AllocError>
+    requires few { length matroids.now < 2 ^ 32 }
     requires sound { AreSound M.ground_size M.sound _n matroids.now }
-    requires before { AreParts (map M.indep matroids.now) old.now }
-    requires parts { AreParts (map M.indep matroids.now) new.now }
-    requires kept { AreKept M.keeps matroids.now old.now kept.old.items }
-    ensures { OnOk result (AreKept M.keeps matroids.now new.now kept.new.items) }
+    requires before { AreParts (map M.indep matroids.now) parts.old }
+    requires after { AreParts (map M.indep matroids.now) (all_moved parts.old moves.now) }
+    requires kept { AreKept M.keeps matroids.now parts.old kept.old.items }
+    ensures parts { OnOk result (parts.new ≡ all_moved parts.old moves.now) }
+    ensures kept { OnOk result (AreKept M.keeps matroids.now parts.new kept.new.items) }
 {
     for i in 0..matroids.len() {
-        if is_changed(old, new, i) {
-            let one = matroids[i].keep_next_of(alloc, old.get(i), &kept[i], new.get(i))?;
+        let part = parts.get(i);
+        if is_entered_or_left(part, moves, i as u32) {
+            let next = moved_part(alloc, part, moves, i as u32)?;
+            let one = matroids[i].keep_next_of(alloc, part, &kept[i], &next)?;
             put_kept(kept, i, one);
+            parts.replace(i, next);
         }
     }
     Ok(())
@@ -216,8 +232,7 @@ fn part_that_takes<M: Asked>(
     ensures takes { IfOk result (λ found. IfSome found (λ q. (exchanges_with (map M.indep matroids.now) parts.now q).adds x ≡ true)) }
 {
     for i in 0..matroids.len() {
-        let row = row_at(alloc, &matroids[i], parts.get(i), &kept[i], x)?;
-        if row.addable {
+        if adds_at(alloc, &matroids[i], parts.get(i), &kept[i], x)? {
             return Ok(Some(i as u32));
         }
     }
@@ -247,7 +262,7 @@ fn place_for<M: Asked>(
 {
     all_lawful(matroids, n);
     if let Some(q) = part_that_takes(alloc, matroids, parts, kept, n, x)? {
-        return Ok(PlaceSearch::Placed(parts_with(alloc, parts, x, q)?));
+        return Ok(PlaceSearch::Placed(move_into(alloc, x, q)?));
     }
     let search = search_from(alloc, matroids, parts, kept, among, n, x)?;
     found_place(alloc, parts, search)
@@ -276,9 +291,8 @@ pub(crate) fn place<M: Asked>(
     ensures kept { OnOk result (AreKept M.keeps matroids.now parts.new kept.new.items) }
 {
     match place_for(alloc, matroids, parts, kept.as_slice(), among, n, x)? {
-        PlaceSearch::Placed(new) => {
-            keep_changed(alloc, matroids, parts, &new, kept, n)?;
-            *parts = new;
+        PlaceSearch::Placed(moves) => {
+            make_moves(alloc, matroids, parts, kept, &moves, n)?;
             Ok(None)
         }
         PlaceSearch::Stuck(search) => Ok(Some(search)),

@@ -26,15 +26,14 @@ pub use union_of::UnionOf;
 
 // The search for moves over rows that are all at hand.
 pub use exchange_list::ExchangeList;
-pub use moved_sets::moved_parts;
 pub use moves::{Move, Moves};
 pub use search::union_search;
 
 // Steps of runs and rows, for a crate whose matroids are a tree of kinds.
 pub use empty::first_parts;
 pub use ended::{PlaceSearch, found_place, row_by_search};
-pub use growth::{Growth, is_changed, mark_spanned, put_kept};
+pub use growth::{Growth, mark_spanned, put_kept};
 pub use kept_parts::KeptParts;
 pub use move_graph::stands;
 pub use move_search::{MoveSearch, Question};
-pub use moved_sets::parts_with;
+pub use moved_sets::{is_entered_or_left, move_into, moved_part};

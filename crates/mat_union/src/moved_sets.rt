@@ -1,10 +1,10 @@
-//! The parts after moves.
-ghost use Rattle.std.specs.Prelude.{◌≡◌, ◌<◌, ◌^◌, ℕ, List, Bool, true, false, length, map, IfOk};
-ghost use Rattle.mat_sets.specs.{Families.{family_union}, Sets.{all_below, is_member, minus, union, IsRising}};
-ghost use Rattle.mat_union.specs.{Moves.{elements, entering, exchanges_with, moved}, Placings.{ArePlaced}, Unions.{AreMatroids, AreParts}};
+//! Parts after moves, and the moves that bring an element into them.
+ghost use Rattle.std.specs.Prelude.{◌≡◌, ◌<◌, ◌∷◌, ℕ, List, [], Bool, true, false, length, IfOk};
+ghost use Rattle.mat_sets.specs.{Families.{family_union}, Sets.{is_member, minus, union, IsRising}};
+ghost use Rattle.mat_union.specs.{Moves.{all_moved, elements, entering, exchanges_with, is_entered_or_left}, Placings.{ArePlaced}, Unions.{AreMatroids, AreParts}};
 
 use crate::moves::Move;
-use mat_sets::{ElemSet, SetList};
+use mat_sets::ElemSet;
 use std::alloc::{AllocError, Global};
 
 /// The part without the elements of these moves.
@@ -19,8 +19,8 @@ fn without_moved(alloc: Global, part: &ElemSet, moves: &[Move]) -> Result<ElemSe
     Ok(set)
 }
 
-/// Part q after all moves.
-fn moved_part(alloc: Global, part: &ElemSet, moves: &[Move], q: u32) -> Result<ElemSet, AllocError>
+/// Part q after all moves: it loses the elements that move, and gains those that move into it. The only error is want of memory.
+pub fn moved_part(alloc: Global, part: &ElemSet, moves: &[Move], q: u32) -> Result<ElemSet, AllocError>
     ensures set { IfOk result (λ s. s ≡ union (entering moves.now q) (minus part.now (elements moves.now))) }
     ensures rises { IfOk result (λ s. IsRising s) }
 {
@@ -31,31 +31,31 @@ fn moved_part(alloc: Global, part: &ElemSet, moves: &[Move], q: u32) -> Result<E
     Ok(set)
 }
 
-/// All parts after all moves: each loses the elements that move, and gains those that move into it. For each part its copy is made, and all
-/// moves are gone through. The only error is want of memory.
-pub fn moved_parts(alloc: Global, parts: &SetList, moves: &[Move]) -> Result<SetList, AllocError>
-    requires { length parts.now < 2 ^ 32 }
-    ensures { IfOk result (λ new. new ≡ map (moved parts.now moves.now) (all_below (length parts.now))) }
+/// Whether one of these moves leads into part q or takes an element of it away: if not, it is the same part after all of them.
+pub fn is_entered_or_left(part: &ElemSet, moves: &[Move], q: u32) -> bool
+    ensures { result ≡ is_entered_or_left moves.now q part.now }
 {
-    let mut sets = Vec::new(alloc);
-    for q in 0..parts.len() {
-        sets.push(moved_part(alloc, parts.get(q), moves, q as u32)?)?;
+    for i in 0..moves.len() {
+        if moves[i].part == q || part.contains(moves[i].element) {
+            return true;
+        }
     }
-    Ok(SetList::new(sets))
+    false
 }
 
-/// The parts with one element more, which can be added to part q. The only error is want of memory.
-pub fn parts_with(alloc: Global, parts: &SetList, x: u32, q: u32) -> Result<SetList, AllocError>
-    requires { length parts.now < 2 ^ 32 }
-    ensures { IfOk result (λ new. (n : ℕ) (tests : List (List ℕ → Bool)) (among : List ℕ) → AreMatroids n tests
-        → AreParts tests parts.now → is_member x (family_union parts.now) ≡ false → q < length parts.now → (exchanges_with tests parts.now q).adds x ≡ true
-        → ArePlaced tests parts.now among x new) }
+/// The one move of an element into a part to which it can be added. The only error is want of memory.
+pub fn move_into(alloc: Global, x: u32, q: u32) -> Result<Vec<Move>, AllocError>
+    ensures move { IfOk result (λ moves. moves.items ≡ record { element = x; part = q } ∷ []) }
+    ensures placed { IfOk result (λ moves. (n : ℕ) (tests : List (List ℕ → Bool)) (parts : List (List ℕ)) (among : List ℕ) → AreMatroids n tests
+        → AreParts tests parts → is_member x (family_union parts) ≡ false → q < length parts → (exchanges_with tests parts q).adds x ≡ true
+        → ArePlaced tests parts among x (all_moved parts moves.items)) }
 {
-    let moves = [Move {
+    let mut moves = Vec::new(alloc);
+    moves.push(Move {
         element: x,
         part: q,
-    }];
-    moved_parts(alloc, parts, &moves)
+    })?;
+    Ok(moves)
 }
 
 /// The members of any of these sets. The only error is want of memory.

@@ -9,6 +9,6 @@ pub returns-in-Some : goal.returns-in-Some
 returns-in-Some c =
     let ms = c.args.matroids.now in
     let parts = c.args.parts.now in
-    c.in_ok-parts_with.ensures (size_in ms) (map test_in ms) c.args.among.now (each_lawful ms c.requires.joined) c.requires.parts c.requires.fresh
+    c.in_ok-move_into.ensures.placed (size_in ms) (map test_in ms) parts c.args.among.now (each_lawful ms c.requires.joined) c.requires.parts c.requires.fresh
     (subst (λ f. IfSome f (λ q. q < length parts)) c.in-Some.is c.in_ok-q.ensures.below)
     (subst (λ f. IfSome f (λ q. (exchanges_with (map test_in ms) parts q).adds c.args.x ≡ true)) c.in-Some.is c.in_ok-q.ensures.takes)

@@ -6,7 +6,7 @@ use Rattle.std.proofs.lemmas.Result.{IfOk-weaker}
 use Rattle.std.proofs.lemmas.Bool.{or_right}
 use Rattle.std.proofs.lemmas.List.{length-map}
 use Rattle.mat_sets.specs.Families.{family_union}
-use Rattle.mat_sets.specs.Sets.{is_member, AllBelow, AreDistinct, IsSubset, minus, all_below, union}
+use Rattle.mat_sets.specs.Sets.{is_member, AllBelow, AreDistinct, IsRising, IsSubset, minus, all_below, union}
 use Rattle.mat_sets.proofs.DistinctLists.{AreDistinct-filter}
 use Rattle.mat_sets.proofs.Ground.{AllBelow-filter, AreDistinct-rising, IsSet-minus, IsSet-all_below}
 use Rattle.mat_sets.proofs.Sums.{AllBelow-at}
@@ -25,11 +25,15 @@ use Rattle.mat_union.proofs.FillingParts.{start_growing}
 use Rattle.mat_union.proofs.GrowingParts.{placed_grow}
 use Rattle.mat_union.proofs.GrowingSteps.{spanned_grown}
 use Rattle.mat_union.proofs.GrowthLoops.{is_spanned}
+use Rattle.mat_union.proofs.MadeMoves.{anew_end, anew_none, made_end, made_none, made_same, made_set, other_part_stays, AreMadeSo}
+use Rattle.mat_union.proofs.MovedSets.{all_moved_at}
+use Rattle.mat_union.proofs.PlacedElements.{search_places}
 use Rattle.mat_union.proofs.PartsOfSets.{rest_below, taken_are, taken_inside, taken_more, taken_none}
 use Rattle.mat_union.proofs.SoundMatroids.{anew_same, anew_set, kept_more, sound_at, test_is, AreKeptAnew, AreKeptSo}
 use Rattle.mat_union.proofs.StuckParts.{next_below}
 use Rattle.mat_union.proofs.UnionRuns.{spanned_turn, first_run_are, first_run_holds, placed_turn, running_first, running_more, turn_stands}
 use Rattle.mat_union.specs.GrownParts.{AreGrowing}
+use Rattle.mat_union.specs.Moves.{all_moved, elements, entering, is_entered_or_left, moved}
 use Rattle.mat_union.specs.PartListLaws.{parts_pass}
 use Rattle.mat_union.specs.Placings.{ArePlaced, IsPlaceSearch, IsStuckSearch}
 use Rattle.mat_union.specs.Unions.{part_at, AreParts}
@@ -44,7 +48,7 @@ use Rattle.mat_any.specs.Trees.{dual, element_count, is_independent}
 use Rattle.mat_any.specs.TreeLaws.{tree_laws}
 use Rattle.mat_any.specs.Views.{tree_of}
 use Rattle.mat_any.proofs.runs.+running.Goals as goal
-use Rattle.mat_any.proofs.runs.+running.Goals.{keep_changed-then-is_changed+in_ok-one, keep_changed-else-is_changed, take_turn-then-stands-via-then-stands, take_turn-then-stands-via-else-stands+then-not-contains}
+use Rattle.mat_any.proofs.runs.+running.Goals.{make_moves-then-is_entered_or_left+in_ok-one, make_moves-else-is_entered_or_left, take_turn-then-stands-via-then-stands, take_turn-then-stands-via-else-stands+then-not-contains}
 
 pub dual_run-run-requires : goal.dual_run-run-requires
 dual_run-run-requires t c =
@@ -428,20 +432,27 @@ take_turn-returns-then-stands-clause-step t c =
           (is_spanned c.requires.growing x c.requires.below (sym w.contains.ensures ∙ w.if-not-contains.true))
     ]
 
-pub take_turn-returns-in_ok-keep_changed-in-Placed-clause-growing : goal.take_turn-returns-in_ok-keep_changed-in-Placed-clause-growing
-take_turn-returns-in_ok-keep_changed-in-Placed-clause-growing t c =
+pub take_turn-make_moves-requires-clause-after : goal.take_turn-make_moves-requires-clause-after
+take_turn-make_moves-requires-clause-after t c =
+    let placed = search_places c.in-Placed.is c.in_ok-moves.ensures c.deref.result.now c.deref.ensures.value in
+    placed.are
+
+pub take_turn-returns-in_ok-make_moves-in-Placed-clause-growing : goal.take_turn-returns-in_ok-make_moves-in-Placed-clause-growing
+take_turn-returns-in_ok-make_moves-in-Placed-clause-growing t c =
     let ms = c.args.matroids.now in
     let old = c.args.growth.now in
-    let placed : ArePlaced (map test_in ms) old.parts old.unspanned c.args.x c.in-Placed.new =
-    subst (IsPlaceSearch (size_in ms) (map test_in ms) old.parts old.unspanned c.args.x) c.in-Placed.is c.in_ok-new.ensures in
+    let placed : ArePlaced (map test_in ms) old.parts old.unspanned c.args.x c.make_moves.new.parts =
+    subst (ArePlaced (map test_in ms) old.parts old.unspanned c.args.x) (sym c.in_ok-make_moves.ensures.parts)
+    (search_places c.in-Placed.is c.in_ok-moves.ensures c.deref.result.now c.deref.ensures.value) in
     placed_grow (each_lawful ms c.requires.joined) c.requires.growing placed (sym c.contains.ensures ∙ c.if-not-contains.false)
 
-pub take_turn-returns-in_ok-keep_changed-in-Placed-clause-step : goal.take_turn-returns-in_ok-keep_changed-in-Placed-clause-step
-take_turn-returns-in_ok-keep_changed-in-Placed-clause-step t c =
+pub take_turn-returns-in_ok-make_moves-in-Placed-clause-step : goal.take_turn-returns-in_ok-make_moves-in-Placed-clause-step
+take_turn-returns-in_ok-make_moves-in-Placed-clause-step t c =
     let ms = c.args.matroids.now in
     let old = c.args.growth.now in
-    let placed : ArePlaced (map test_in ms) old.parts old.unspanned c.args.x c.in-Placed.new =
-    subst (IsPlaceSearch (size_in ms) (map test_in ms) old.parts old.unspanned c.args.x) c.in-Placed.is c.in_ok-new.ensures in
+    let placed : ArePlaced (map test_in ms) old.parts old.unspanned c.args.x c.make_moves.new.parts =
+    subst (ArePlaced (map test_in ms) old.parts old.unspanned c.args.x) (sym c.in_ok-make_moves.ensures.parts)
+    (search_places c.in-Placed.is c.in_ok-moves.ensures c.deref.result.now c.deref.ensures.value) in
     placed_turn (each_lawful ms c.requires.joined) c.args.x (sym c.stands.ensures ∙ c.if-stands.false) placed
 
 pub take_turn-returns-in_ok-mark_spanned-in-Stuck-clause-growing : goal.take_turn-returns-in_ok-mark_spanned-in-Stuck-clause-growing
@@ -449,7 +460,7 @@ take_turn-returns-in_ok-mark_spanned-in-Stuck-clause-growing t c =
     let ms = c.args.matroids.now in
     let old = c.args.growth.now in
     let stuck : IsStuckSearch (size_in ms) (map test_in ms) old.parts old.unspanned c.args.x c.in-Stuck.search =
-    subst (IsPlaceSearch (size_in ms) (map test_in ms) old.parts old.unspanned c.args.x) c.in-Stuck.is c.in_ok-new.ensures in
+    subst (IsPlaceSearch (size_in ms) (map test_in ms) old.parts old.unspanned c.args.x) c.in-Stuck.is c.in_ok-moves.ensures in
     spanned_grown (each_lawful ms c.requires.joined) c.requires.growing stuck.reaching stuck.end c.mark_spanned.new.spanned c.mark_spanned.new.unspanned c.reached.result.now c.reached.ensures
     c.mark_spanned.ensures.rises c.in_ok-mark_spanned-in-Stuck.ensures.spanned c.in_ok-mark_spanned-in-Stuck.ensures.unspanned
 
@@ -459,22 +470,42 @@ take_turn-returns-in_ok-mark_spanned-in-Stuck-clause-step t c =
     let old = c.args.growth.now in
     let x = c.args.x in
     let stuck : IsStuckSearch (size_in ms) (map test_in ms) old.parts old.unspanned x c.in-Stuck.search =
-    subst (IsPlaceSearch (size_in ms) (map test_in ms) old.parts old.unspanned x) c.in-Stuck.is c.in_ok-new.ensures in
+    subst (IsPlaceSearch (size_in ms) (map test_in ms) old.parts old.unspanned x) c.in-Stuck.is c.in_ok-moves.ensures in
     let grown = spanned_grown (each_lawful ms c.requires.joined) c.requires.growing stuck.reaching stuck.end c.mark_spanned.new.spanned c.mark_spanned.new.unspanned c.reached.result.now c.reached.ensures
     c.mark_spanned.ensures.rises c.in_ok-mark_spanned-in-Stuck.ensures.spanned c.in_ok-mark_spanned-in-Stuck.ensures.unspanned in
     spanned_turn (each_lawful ms c.requires.joined) x (sym c.stands.ensures ∙ c.if-stands.false) grown
     (c.in_ok-mark_spanned-in-Stuck.ensures.spanned x ∙ or_right (is_member x old.spanned) (is_member x c.reached.result.now) (ap (is_member x) c.reached.ensures ∙ stuck.reaching.so_far.first))
 
-pub keep_changed-loop-i-preserved : goal.keep_changed-loop-i-preserved
-keep_changed-loop-i-preserved t c =
+pub make_moves-loop-i-init : goal.make_moves-loop-i-init
+make_moves-loop-i-init t c =
     let ms = c.args.matroids.now in
-    let old = c.args.old.now in
-    let new = c.args.new.now in
+    let parts = c.args.parts.now in
+    let moves = c.args.moves.now in
+    record { parts = made_none parts moves; kept = anew_none KeepsOne ms parts (all_moved parts moves) c.args.kept.now.items c.requires.kept }
+
+pub make_moves-loop-i-preserved : goal.make_moves-loop-i-preserved
+make_moves-loop-i-preserved t c =
+    let ms = c.args.matroids.now in
+    let parts = c.args.parts.now in
+    let moves = c.args.moves.now in
+    let new = all_moved parts moves in
     let i = c.loop-i.i in
-    elim c.if-is_changed.branch [
-      | keep_changed-then-is_changed+in_ok-one w ↦ rw w.kept-is (subst (AreKeptAnew KeepsOne ms old new (i + 1)) (sym w.put_kept.ensures)
-          (anew_set KeepsOne ms old new i c.loop-i.kept.items w.index-matroids-i.result w.get-then-is_changed.result.now w.in_ok-one.one c.loop-i.invariant c.loop-i-test.true w.index-matroids-i.is
-          w.get-then-is_changed.ensures.item w.in_ok-one.ensures))
-      | keep_changed-else-is_changed w ↦ rw w.kept-is (anew_same KeepsOne ms old new i c.loop-i.kept.items (part_at new i) (part_at old i) c.loop-i.invariant refl refl
-          (c.is_changed.ensures.same w.if-is_changed.false))
+    let now = c.loop-i.parts in
+    let so = c.loop-i.invariant.parts in
+    let old : part_at now i ≡ part_at parts i = so.left i (omega arith) in
+    elim c.if-is_entered_or_left.branch [
+      | make_moves-then-is_entered_or_left+in_ok-one w ↦ rw (w.kept-is, w.parts-is) (record {
+          parts = subst (AreMadeSo parts moves (i + 1)) (sym w.replace.ensures.items) (made_set parts moves i now w.in_ok-next.next so (omega (arith, c.loop-i-test.true))
+              (w.in_ok-next.ensures.set ∙ ap (λ p. union (entering moves i) (minus p (elements moves))) (c.get.ensures.item ∙ old)));
+          kept = subst (AreKeptAnew KeepsOne ms parts new (i + 1)) (sym w.put_kept.ensures)
+              (anew_set KeepsOne ms parts new i c.loop-i.kept.items w.index-matroids-i.result w.in_ok-next.next w.in_ok-one.one c.loop-i.invariant.kept c.loop-i-test.true w.index-matroids-i.is
+              (w.in_ok-next.ensures.set ∙ ap (λ p. union (entering moves i) (minus p (elements moves))) (c.get.ensures.item ∙ old) ∙ sym (all_moved_at parts moves i (omega arith))) w.in_ok-one.ensures);
+        })
+      | make_moves-else-is_entered_or_left w ↦
+          (let stays : moved parts moves i ≡ part_at parts i = other_part_stays parts moves i (subst IsRising old c.get.ensures.rises)
+          (ap (is_entered_or_left moves i) (sym (c.get.ensures.item ∙ old)) ∙ sym c.is_entered_or_left.ensures ∙ w.if-is_entered_or_left.false) in
+          rw (w.kept-is, w.parts-is) (record {
+          parts = made_same parts moves i now so stays;
+          kept = anew_same KeepsOne ms parts new i c.loop-i.kept.items (part_at new i) (part_at parts i) c.loop-i.invariant.kept refl refl (all_moved_at parts moves i (omega arith) ∙ stays);
+        }))
     ]

@@ -1,9 +1,11 @@
 use Rattle.std.proofs.Common.{map}
 use Rattle.mat_sets.specs.Families.{family_union}
 use Rattle.mat_laws.proofs.GreedyRunSteps.{IsRunning}
+use Rattle.mat_union.proofs.MadeMoves.{AreMadeSo}
 use Rattle.mat_union.proofs.PartsOfSets.{AreTakenSo}
 use Rattle.mat_union.proofs.SoundMatroids.{AreKeptAnew, AreKeptSo}
 use Rattle.mat_union.specs.GrownParts.{AreGrowing, AreKept}
+use Rattle.mat_union.specs.Moves.{all_moved}
 use Rattle.mat_any.specs.Joined.{size_in, test_in, union_in, KeepsOne}
 use Rattle.mat_any.proofs.runs.+running.Given as goal
 
@@ -17,8 +19,11 @@ invariant-grown_parts-loop-x l = record {
 abbrev pub invariant-keep_each-loop-i : goal.invariant-keep_each-loop-i
 invariant-keep_each-loop-i l = AreKeptSo KeepsOne l.matroids l.parts l.i l.kept.items
 
-abbrev pub invariant-keep_changed-loop-i : goal.invariant-keep_changed-loop-i
-invariant-keep_changed-loop-i l = AreKeptAnew KeepsOne l.matroids l.old l.new l.i l.kept.items
+abbrev pub invariant-make_moves-loop-i : goal.invariant-make_moves-loop-i
+invariant-make_moves-loop-i l = record {
+  parts : AreMadeSo l.fn.parts l.moves l.i l.parts;
+  kept : AreKeptAnew KeepsOne l.matroids l.fn.parts (all_moved l.fn.parts l.moves) l.i l.kept.items;
+}
 
 abbrev pub invariant-greedy_parts-loop-i : goal.invariant-greedy_parts-loop-i
 invariant-greedy_parts-loop-i l = AreTakenSo (map test_in l.matroids) l.set l.i l.parts.items l.rest

@@ -1,20 +1,20 @@
-use Rattle.std.proofs.Common.{map, refl, subst}
+use Rattle.std.proofs.Common.{map, refl, subst, sym}
 use Rattle.mat_union.specs.Placings.{ArePlaced, IsPlaceSearch}
+use Rattle.mat_union.proofs.PlacedElements.{search_places}
 use Rattle.mat_union.proofs.growth.place.Goals as goal
 
-pub keep_changed-requires-clause-parts : goal.keep_changed-requires-clause-parts
-keep_changed-requires-clause-parts g c =
-    let tests = map g.M.Asked.indep c.args.matroids.now in
-    let placed : ArePlaced tests c.args.parts.now c.args.among.now c.args.x c.in-Placed.new =
-    subst (IsPlaceSearch c.args.n tests c.args.parts.now c.args.among.now c.args.x) c.in-Placed.is c.in_ok-new.ensures in
+pub make_moves-requires-clause-after : goal.make_moves-requires-clause-after
+make_moves-requires-clause-after g c =
+    let placed = search_places c.in-Placed.is c.in_ok-moves.ensures c.deref.result.now c.deref.ensures.value in
     placed.are
 
-pub returns-in_ok-keep_changed-in-Placed-clause-placed : goal.returns-in_ok-keep_changed-in-Placed-clause-placed
-returns-in_ok-keep_changed-in-Placed-clause-placed g c =
+pub returns-in_ok-make_moves-in-Placed-clause-placed : goal.returns-in_ok-make_moves-in-Placed-clause-placed
+returns-in_ok-make_moves-in-Placed-clause-placed g c =
     let tests = map g.M.Asked.indep c.args.matroids.now in
-    subst (IsPlaceSearch c.args.n tests c.args.parts.now c.args.among.now c.args.x) c.in-Placed.is c.in_ok-new.ensures
+    subst (ArePlaced tests c.args.parts.now c.args.among.now c.args.x) (sym c.in_ok-make_moves.ensures.parts)
+    (search_places c.in-Placed.is c.in_ok-moves.ensures c.deref.result.now c.deref.ensures.value)
 
 pub returns-in-Stuck-clause-placed : goal.returns-in-Stuck-clause-placed
 returns-in-Stuck-clause-placed g c =
     let tests = map g.M.Asked.indep c.args.matroids.now in
-    (refl, subst (IsPlaceSearch c.args.n tests c.args.parts.now c.args.among.now c.args.x) c.in-Stuck.is c.in_ok-new.ensures)
+    (refl, subst (IsPlaceSearch c.args.n tests c.args.parts.now c.args.among.now c.args.x) c.in-Stuck.is c.in_ok-moves.ensures)

@@ -8,7 +8,7 @@ pub returns-in-Some : goal.returns-in-Some
 returns-in-Some g c =
     let tests = map g.M.Asked.indep c.args.matroids.now in
     let parts = c.args.parts.now in
-    c.in_ok-parts_with.ensures c.args.n tests c.args.among.now c.all_lawful.ensures c.requires.parts c.requires.fresh
+    c.in_ok-move_into.ensures.placed c.args.n tests parts c.args.among.now c.all_lawful.ensures c.requires.parts c.requires.fresh
     (subst (λ f. IfSome f (λ q. q < length parts)) c.in-Some.is c.in_ok-q.ensures.below)
     (subst (λ f. IfSome f (λ q. (exchanges_with tests parts q).adds c.args.x ≡ true)) c.in-Some.is c.in_ok-q.ensures.takes)
 

@@ -1,0 +1,9 @@
+use Rattle.std.proofs.Common.{◌≡◌, ◌||◌, ◌==◌, false}
+use Rattle.mat_sets.specs.Sets.{is_member}
+use Rattle.mat_sets.specs.Search.{some_below}
+use Rattle.mat_union.specs.Moves.{element_at, place_at}
+use Rattle.mat_union.proofs.moved_sets.is_entered_or_left.Given as goal
+
+-- none of the first moves does
+abbrev pub invariant-loop-i : goal.invariant-loop-i
+invariant-loop-i l = some_below l.i (λ i. place_at l.moves i == l.q || is_member (element_at l.moves i) l.part) ≡ false

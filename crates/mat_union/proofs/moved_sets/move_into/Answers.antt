@@ -1,0 +1,9 @@
+use Rattle.std.proofs.Common.{sym, ap, subst, ◌∙◌}
+use Rattle.mat_union.specs.Moves.{all_moved}
+use Rattle.mat_union.specs.Placings.{ArePlaced}
+use Rattle.mat_union.proofs.AddedElements.{move_places}
+use Rattle.mat_union.proofs.moved_sets.move_into.Goals as goal
+
+pub returns-clause-placed : goal.returns-clause-placed
+returns-clause-placed c = λ n tests parts among laws are fresh l adds.
+    subst (λ moves. ArePlaced tests parts among c.args.x (all_moved parts moves)) (sym c.in_ok-push.ensures.items) (move_places laws are c.args.x c.args.q fresh l adds among)
