@@ -1,4 +1,4 @@
-//! What a matroid keeps of an independent set, with the exchanges at it, and how both move from one set to the next.
+//! What a matroid keeps of an independent set, with the exchanges at it: made for one set, or for the next from those at a set before.
 ghost use Rattle.std.specs.Prelude.{◌≡◌, ◌≤◌, true, IfOk};
 ghost use Rattle.mat_sets.specs.Limits.{most_elements};
 ghost use Rattle.mat_laws.specs.Exchanges.{rows_of};
@@ -41,7 +41,7 @@ pub fn exchanges_at<R: Threads + Sync, M: Matroid>(
     filled(rt, alloc, m, set, unfilled, workers)
 }
 
-/// What [`exchanges_at`] says, by one worker, who starts no thread.
+/// Makes the same as [`exchanges_at`] by one worker, and starts no thread.
 pub fn exchanges_in_turn<M: Matroid>(
     alloc: Global,
     m: &M,
@@ -57,8 +57,8 @@ pub fn exchanges_in_turn<M: Matroid>(
     filled_in_turn(alloc, m, set, unfilled)
 }
 
-/// The exchanges of all elements at the next independent set, from those at a set before, by 1 to 16 workers. The rows that are the same at
-/// both are not made again. The only error is want of memory.
+/// The exchanges of all elements at the next independent set, from those at a set before, by 1 to 16 workers. Rows are made again only of
+/// elements that could be added, that come or leave, or whose circuit loses a member. The only error is want of memory.
 pub fn next_exchanges<R: Threads + Sync, M: Matroid>(
     rt: &R,
     alloc: Global,
@@ -82,7 +82,7 @@ pub fn next_exchanges<R: Threads + Sync, M: Matroid>(
     filled(rt, alloc, m, next, unfilled, workers)
 }
 
-/// What [`next_exchanges`] says, by one worker, who starts no thread.
+/// Makes the same as [`next_exchanges`] by one worker, and starts no thread.
 pub fn next_in_turn<M: Matroid>(
     alloc: Global,
     m: &M,

@@ -1,4 +1,4 @@
-//! The exchanges of all elements at an independent set of a matroid.
+//! How the missing rows of a table of exchanges are made and entered.
 ghost use Rattle.std.specs.Prelude.{◌≡◌, ℕ, ◌<◌, ◌≤◌, ◌+◌, true, false, [], List, length, IfOk, OnOk};
 ghost use Rattle.mat_sets.specs.{Limits.{most_elements}, Sets.{AllBelow, is_member}};
 ghost use Rattle.mat_laws.specs.{Exchanges.{rows_of}, TightPaths.{row_in}, declared.exchange.Exchange.{Exchange}};
@@ -16,8 +16,8 @@ use std::alloc::{AllocError, Global};
 use std::marker::Model;
 use std::thread::Threads;
 
-/// The missing rows of a table of exchanges at an independent set of a matroid, by what the matroid keeps of the set. It is seen as the list of
-/// the rows of all elements, and the elements whose rows are missing.
+/// The job that makes the missing rows of a table of exchanges at an independent set of a matroid, by what the matroid keeps of the set. It is
+/// seen as the list of the rows of all elements, and the elements whose rows are missing.
 #[derive(Drop)]
 struct MissingRows<'a, M: Matroid> {
     alloc: Global,
@@ -70,8 +70,8 @@ fn no_exchanges(alloc: Global) -> Exchange
     }
 }
 
-/// Enters the row of x, which is missing, by what the matroid keeps of the set: a member has no exchanges, and no row is made for what can
-/// be added.
+/// Enters the missing row of x, by what the matroid keeps of the set: a member has no exchanges, and no row is made for an element that can be
+/// added.
 fn enter_missing<M: Matroid>(
     alloc: Global,
     m: &M,
@@ -135,7 +135,7 @@ fn enter_in_turn<M: Matroid>(
     Ok(())
 }
 
-/// Enters all missing rows, which stand in a list at their elements.
+/// Enters all missing rows, which stand in a list at the places of their elements.
 fn enter_rows(
     exchanges: &[Exchange],
     missing: &BitSet,
@@ -219,8 +219,8 @@ pub(crate) fn filled_in_turn<M: Matroid>(
     Ok(ExchangesAt { kept, table })
 }
 
-/// The same by 1 to 16 workers. One worker alone enters each row as it comes, and makes none for what can be added; of more, each computes
-/// rows, one after the other, and the caller puts them into the table.
+/// The same by 1 to 16 workers. One worker alone enters each row as soon as it is made, and makes none for an element that can be added; of
+/// more, each computes rows, one after the other, and the caller enters them into the table.
 pub(crate) fn filled<R: Threads + Sync, M: Matroid>(
     rt: &R,
     alloc: Global,

@@ -11,8 +11,8 @@ pub enum Found {
     Stuck {
         /// The elements that tight arcs reach from the sources.
         reach: ElemSet,
-        /// The least slack: by how much the weights of the reached set must change until a further element is reached or one of
-        /// them becomes a sink; none where no change does that.
+        /// The least slack: by how much the weights of the reached set must change until a further element is reached or a reached
+        /// one becomes a sink; none where no change does that.
         slack: Option<Weight>,
     },
 }

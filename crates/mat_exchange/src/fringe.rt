@@ -15,7 +15,7 @@ use crate::slack::excess;
 use mat_sets::{BitSet, ElemSet, Weight};
 use std::alloc::AllocError;
 
-/// By how much z weighs more than x, or the other way round.
+/// By how much z weighs more than x if `inside`, and x more than z if not.
 fn gain_of(weights: &[Weight], x: u32, z: u32, inside: bool) -> Weight
     requires small { AreWeightsWithin largest_number weights.now }
     requires from_below { x < length weights.now }
@@ -49,7 +49,7 @@ fn offer_one(
     Ok(())
 }
 
-/// Offers to each candidate outside the reached set its gain from x, so that the arcs from x are relaxed. The candidates are bits.
+/// Offers to each candidate outside the reached set its gain from x, so that the arcs from x are relaxed. The candidates are given as bits.
 pub(crate) fn offer(
     candidates: &[u64],
     others: &BitSet,
@@ -77,8 +77,8 @@ pub(crate) fn offer(
     Ok(())
 }
 
-/// Offers to each element outside the reached set to which an arc can lead from x its gain. One that can be added in the first matroid gains
-/// as much by that, and is passed over.
+/// Offers its gain to each element outside the reached set to which an arc from x can lead. Where x is a member, elements that can be added in
+/// the first matroid are passed over: their gain by that is at least as great.
 pub(crate) fn offer_exchanges(
     first: &RowTable,
     second: &RowTable,
@@ -126,7 +126,7 @@ fn raise_on(weights: &mut [Weight], members: &BitSet, step: Weight)
     }
 }
 
-/// Puts x back by the change so far, so that x can change together with the set that it enters.
+/// Adds the change so far to the first weight of x and takes it off the second, so that x can change together with the set that it enters.
 pub(crate) fn put_back(w1: &mut [Weight], w2: &mut [Weight], x: u32, total: Weight)
     requires lengths { length w2.old ≡ length w1.old }
     requires below { x < length w1.old }

@@ -42,7 +42,7 @@ struct GrownHalves {
     heaviest: GreatestWeights,
 }
 
-/// The root alone is reached, and offers their gains to the elements that can be added and to those that its arcs can lead to.
+/// The root alone is reached, and the elements that can be added and those that its arcs can lead to are offered their gains.
 fn reach_root(
     alloc: Global,
     first: &RowTable,
@@ -102,8 +102,8 @@ fn reach_root(
 }
 
 /// Lets the reached set grow from one source, and changes the weights as it needs, until it holds a sink or nothing can enter it. The
-/// change is one number, which is put on the weights of the whole set only at the end; so an element that enters is first put back by
-/// the change so far, and the gains of the fringe are less by it. The source stays a heaviest addable element of the first matroid, and the
+/// change is one number, which is put on the weights of the whole set only at the end; so the change so far is first undone at an element
+/// that enters, and the gains of the fringe are less by it. The source stays a heaviest addable element of the first matroid, and the
 /// answer is the greatest weight of what can be added in the second.
 fn grow_from(
     alloc: Global,
@@ -236,7 +236,7 @@ fn grown_halves(
     })
 }
 
-/// Changes the two weights until a tight path with fewest vertices is found, or nothing is left to change and no tight path is there
+/// Changes the two weights until a tight path with fewest vertices is found, or there is none and the reached set has no slack
 /// (Frank 1981; Schrijver, chapter 41). One reached set grows, and a table has the least change after which each element outside enters it, as in the
 /// Hungarian method; so the time is that of the pairs of elements, and of one search. The only error is want of memory.
 pub fn grow(

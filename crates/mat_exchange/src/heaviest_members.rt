@@ -6,7 +6,7 @@ ghost use Rattle.mat_exchange.specs.HeaviestMembers.{IsAtBound, IsHeaviestToOrNo
 
 use mat_sets::{BitSet, Weight};
 
-/// Of two elements the heavier one.
+/// The heavier of x and the heaviest element so far, if there is one.
 fn heavier(heaviest: Option<u32>, x: u32, weights: &[Weight]) -> Option<u32>
     requires below { x < length weights.now }
     requires heaviest { IfSome heaviest (λ y. y < length weights.now) }
@@ -69,7 +69,7 @@ fn heaviest_to_word(
     heaviest
 }
 
-/// A heaviest member; none where the set is empty. Where no member weighs more than a bound, the search ends with the 64 numbers among which one
+/// A heaviest member; none where the set is empty. Where no member weighs more than a bound, the search ends after the 64 numbers among which one
 /// weighs as much. The time is at most that of the members and of the words of the set.
 pub(crate) fn heaviest_member(
     members: &BitSet,

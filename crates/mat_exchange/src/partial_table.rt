@@ -17,7 +17,7 @@ pub(crate) struct PartialTable {
     pub(crate) columns: RowList,
 }
 
-/// Whether a set has a member.
+/// Whether a set has a member; if not, the set is empty.
 fn has_member(set: &BitSet) -> bool
     ensures { result ≡ false → (x : ℕ) → is_member x set.now ≡ false }
 {

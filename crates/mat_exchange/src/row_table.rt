@@ -13,8 +13,8 @@ use std::marker::Model;
 pub struct RowTable {
     base: BitSet,
     addable: BitSet,
-    // At x, where it cannot be added, the members that it can be exchanged for, and at y those of these elements that can be exchanged
-    // for y. What can be added can be exchanged for the whole base.
+    // The rows have at x, where it cannot be added, the members that it can be exchanged for, and the columns at y those of these elements
+    // that can be exchanged for y. What can be added can be exchanged for each member of the base.
     rows: RowList,
     columns: RowList,
 }
@@ -31,7 +31,7 @@ impl Model for RowTable {
     ghost invariant = { λ t. AreTransposed t.addable t.rows t.columns };
 }
 
-/// Those that can be added, where y is in the base; else none.
+/// The elements that can be added, where y is in the base; else none.
 fn addable_for(alloc: Global, base: &BitSet, addable: &BitSet, y: u32) -> Result<BitSet, AllocError>
     ensures { IfOk result (λ s. (x : ℕ) → is_member x s ≡ (if is_member y base.now then is_member x addable.now else false)) }
 {

@@ -120,7 +120,7 @@ fn bits_of_others(alloc: Global, n: u32, set: &ElemSet) -> Result<BitSet, AllocE
 }
 
 /// The least slack of a reached set, or none (Frank 1981; Schrijver, chapter 41). An exchange in the first matroid leads from a
-/// reached element to another, and one in the second from another to a reached one. The time is at most that of the pairs of
+/// reached element to one that is not, and one in the second from one that is not to a reached one. The time is at most that of the pairs of
 /// elements. The only error is want of memory.
 pub(crate) fn least_slack(
     alloc: Global,

@@ -10,18 +10,18 @@ ghost use Rattle.mat_exchange.specs.Growing.{IsNextStep, IsBefore};
 use crate::heaviest_members::heaviest_member;
 use mat_sets::{BitSet, Weight};
 
-/// The next element that a change of the weights lets into the reached set.
+/// What the next change of the weights does to the reached set.
 #[derive(Drop)]
 pub(crate) enum NextStep {
     /// This element enters once the weights have changed by this number in all.
     Enter(u32, Weight),
-    /// An element of the reached set is a sink once they have changed by this number in all.
+    /// An element of the reached set is a sink once the weights have changed by this number in all.
     Sink(Weight),
-    /// No change does either.
+    /// No change lets an element enter or makes one a sink.
     Nothing,
 }
 
-/// Whether a sink comes before a change by `step`.
+/// The slack of a sink, where it is at most `step`; else none.
 fn is_before(slack: Option<Weight>, step: Weight) -> Option<Weight>
     ensures { IsBefore slack step result }
 {
@@ -31,8 +31,8 @@ fn is_before(slack: Option<Weight>, step: Weight) -> Option<Weight>
     }
 }
 
-/// The step of least change after the change so far: an element of the fringe, which enters where its gain is used up, or a sink of this slack.
-/// So Dijkstra's algorithm takes the vertex of least key out of its frontier.
+/// The step of least change after the change so far: an element of the fringe, which enters once its gain has risen to 0, or a sink of this
+/// slack. So Dijkstra's algorithm takes the vertex of least key out of its frontier.
 pub(crate) fn next_step(
     fringe: &BitSet,
     gains: &[Weight],

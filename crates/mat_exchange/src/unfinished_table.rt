@@ -79,9 +79,9 @@ fn missing_rows(
     Ok(missing)
 }
 
-/// The table at the next independent set in which the rows stay that are the same at both, and what the matroid keeps of it. The row of an
-/// element that could not be added stays as it is where no member of its circuit leaves (Oxley, Proposition 1.1.6: there is one circuit alone).
-/// The only error is want of memory.
+/// What the matroid keeps of the next independent set, and the table at it with rows that are the same at both. The row of an element that could
+/// not be added stays as it is where no member of its circuit leaves (Oxley, Proposition 1.1.6: there is one circuit alone). The only error is
+/// want of memory.
 pub(crate) fn reopened<M: Matroid>(
     alloc: Global,
     m: &M,
