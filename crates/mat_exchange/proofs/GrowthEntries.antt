@@ -175,7 +175,7 @@ fringe_entered {n} {I} {a} {b} {w1} {w2} {root} {R} {O} {F} {F'} {g} {g'} x on_a
     under : (c d r e : Weight) → e ≡ c ⊖ d → r ≼ d → e ≼ (c ⊖ r)
     under c d r e v le = omega (arith, ints, pairs)
 
-    -- what can be added gains as much by that
+    -- what can be added gains at least as much by that
     by_new : (z : ℕ) (e : Weight) → is_member z O ≡ true → a.trades x z ≡ true → e ≡ w1 z ⊖ w1 x
         → ((e0 : Weight) × (IsEntry a b w1 w2 root R z e0 × (e ≼ e0)))
         ⊎ (((leads a b I x z && is_member z O) ≡ true) × (e ≡ entry_gain w1 w2 I x z))

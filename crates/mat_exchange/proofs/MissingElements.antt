@@ -1,5 +1,6 @@
--- Which rows are missing from one independent set to the next, and that all others stay: a member of both has none, and what could not be added
--- and could be exchanged for members of the next set alone is exchanged for these there. Of the missing ones only the lost rows were written down.
+-- Which rows are missing from one independent set to the next, and that all others stay: a member of both has no exchanges at either, and an element
+-- that could not be added and could be exchanged only for members of the next set can be exchanged for the same ones there. Of the missing ones only
+-- the lost rows were written down.
 use Rattle.std.proofs.Common.{◌≡◌, ℕ, ◌<◌, Bool, true, false, ◌||◌, List, [], inl, inr, subst, sym, ap, ◌∙◌, arith}
 use Rattle.std.proofs.lemmas.Bool.{cases_Bool, cases_lt, both_ways, cond-false, cond-true, false_from_ne_true, true_from_ne_false}
 use Rattle.mat_sets.specs.Sets.{is_member, minus, with_one}
@@ -72,7 +73,7 @@ module _ {n : ℕ} {p : List ℕ → Bool} (laws : IsMatroid n p) (I J lost miss
     | inr g ↦ row_in-past n p J x g ∙ sym (row_in-past n p I x g)
   ]
 
-  -- a member of the set has no row
+  -- nothing is written down of the row of a member
   member_bare : (x : ℕ) → is_member x I ≡ true → written (row_in (rows_of n p I) x) ≡ []
   member_bare x m =
       let same = row_in-rows_of n p I x (below_member (laws.sets I i) m) ∙ cond-true (is_member x I) _ _ m in

@@ -91,11 +91,11 @@ pub record IsOffered (test : ℕ → Bool) (f : ℕ → Weight) (F : List ℕ) (
   pub met : (x : ℕ) → test x ≡ true → IsMet (f x) x F g F' g'
   pub kept : (x : ℕ) → test x ≡ false → (is_member x F' ≡ is_member x F) × (g' x ≡ g x)
 
--- by how much z weighs more than x, or the other way round
+-- by how much z weighs more than x if `inside`, and x more than z if not
 abbrev pub gain_at : Bool → (ℕ → Weight) → ℕ → ℕ → Weight
 gain_at inside w x z = if inside then w z ⊖ w x else w x ⊖ w z
 
--- an exchange that an arc from x to z stands for, unless z can be added: then its gain by that is as great
+-- an exchange that an arc from x to z stands for; where x is a member, not for z that can be added, whose gain by that is at least as great
 abbrev pub leads : Exchanges → Exchanges → List ℕ → ℕ → ℕ → Bool
 leads first second I x z = if is_member x I then (not (first.adds z) && first.trades x z) else second.trades z x
 

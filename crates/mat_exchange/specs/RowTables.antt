@@ -25,11 +25,11 @@ pub record AreTransposed (addable : List ℕ) (rows columns : List (List ℕ)) :
 abbrev pub written : Exchange → List ℕ
 written row = if row.addable then [] else row.with
 
--- the elements below x, and those whose rows were not missing at the beginning
+-- whether k is below x or its row was not missing at the beginning
 abbrev pub entered_to : List ℕ → ℕ → ℕ → Bool
 entered_to missing x k = nat_lt k x || not (is_member k missing)
 
--- the rows of these elements are entered, and of no others
+-- the rows of these elements are entered, and no others are
 pub record IsFilledTable (exchanges : List Exchange) (entered : ℕ → Bool) (addable : List ℕ) (rows columns : List (List ℕ)) : Type 0 where
   pub count : length rows ≡ length exchanges
   pub adds : (k : ℕ) → is_member k addable ≡ (entered k && (row_in exchanges k).addable)
@@ -39,7 +39,7 @@ pub record IsFilledTable (exchanges : List Exchange) (entered : ℕ → Bool) (a
   pub transposed : (k y : ℕ) → y < length exchanges → is_member k (row_at columns y)
       ≡ (entered k && (not (row_in exchanges k).addable && is_member y (row_in exchanges k).with))
 
--- two lists of rows have the same ones of these elements
+-- two lists have the same rows of these elements
 abbrev pub AgreeOn : List ℕ → List Exchange → List Exchange → Type 0
 AgreeOn elements some rows = (x : ℕ) → x < length rows → is_member x elements ≡ true → row_in some x ≡ row_in rows x
 
@@ -51,8 +51,8 @@ pub record AreWhole (base : List ℕ) (exchanges : List Exchange) : Type 0 where
 abbrev pub AreAlike : Exchanges → Type 0
 AreAlike exchanges = (y x z : ℕ) → exchanges.adds x ≡ true → exchanges.adds z ≡ true → exchanges.trades y x ≡ exchanges.trades y z
 
--- When some elements come to a set and some members leave it, these elements may lose their written rows: of those that could not be added the ones
--- that come, and those that could be exchanged for a member that leaves.
+-- when some elements come to a set and some members leave it, the lost ones, whose written rows may change, are at least these of the elements that
+-- could not be added: the ones that come, and those that could be exchanged for a member that leaves
 pub record AreLost (before : Exchanges) (came left lost : List ℕ) : Type 0 where
   pub entered : (x : ℕ) → is_member x came ≡ true → before.adds x ≡ false → is_member x lost ≡ true
   pub opened : (y x : ℕ) → is_member y left ≡ true → before.adds x ≡ false → before.trades y x ≡ true → is_member x lost ≡ true
