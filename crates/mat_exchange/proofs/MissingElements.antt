@@ -63,7 +63,7 @@ module _ {n : ℕ} {p : List ℕ → Bool} (laws : IsMatroid n p) (I J lost miss
           inside = λ y m.
               let trades : is_member y (row_in (rows_of n p I) x).with ≡ true = ap (λ (r : Exchange). is_member y r.with) told ∙ m in
               true_from_ne_false _ (λ gone. both_ways _ out
-              (lost_missing x (loses.opened y x (has_left y I J ((IsTableAt-rows_of laws I i).member y x trades) gone) none trades)));
+              (lost_missing x (loses.left_lost y x (has_left y I J ((IsTableAt-rows_of laws I i).member y x trades) gone) none trades)));
         }))
   ]
 
@@ -86,7 +86,7 @@ module _ {n : ℕ} {p : List ℕ → Bool} (laws : IsMatroid n p) (I J lost miss
       | inl left ↦ member_bare x (was_member x I J left)
       | inr stays ↦ (let a = all x in
           let came : is_member x (minus J I) ≡ true = grind arith in
-          absurd (both_ways _ out (loses.entered x came none)))
+          absurd (both_ways _ out (loses.came_lost x came none)))
     ]
   ]
 

@@ -41,7 +41,7 @@ pub record IsFilledTable (exchanges : List Exchange) (entered : ℕ → Bool) (a
 
 -- two lists have the same rows of these elements
 abbrev pub AgreeOn : List ℕ → List Exchange → List Exchange → Type 0
-AgreeOn elements some rows = (x : ℕ) → x < length rows → is_member x elements ≡ true → row_in some x ≡ row_in rows x
+AgreeOn elements first second = (x : ℕ) → x < length second → is_member x elements ≡ true → row_in first x ≡ row_in second x
 
 -- the row of each addable element is the whole base
 pub record AreWhole (base : List ℕ) (exchanges : List Exchange) : Type 0 where
@@ -54,5 +54,5 @@ AreAlike exchanges = (y x z : ℕ) → exchanges.adds x ≡ true → exchanges.a
 -- when some elements come to a set and some members leave it, the lost ones, whose written rows may change, are at least these of the elements that
 -- could not be added: the ones that come, and those that could be exchanged for a member that leaves
 pub record AreLost (before : Exchanges) (came left lost : List ℕ) : Type 0 where
-  pub entered : (x : ℕ) → is_member x came ≡ true → before.adds x ≡ false → is_member x lost ≡ true
-  pub opened : (y x : ℕ) → is_member y left ≡ true → before.adds x ≡ false → before.trades y x ≡ true → is_member x lost ≡ true
+  pub came_lost : (x : ℕ) → is_member x came ≡ true → before.adds x ≡ false → is_member x lost ≡ true
+  pub left_lost : (y x : ℕ) → is_member y left ≡ true → before.adds x ≡ false → before.trades y x ≡ true → is_member x lost ≡ true

@@ -13,6 +13,6 @@ pub record IsEntered (k : ℕ) (places : List ℕ) (before after : List (List �
       → is_member j (row_at after i) ≡ (is_member j (row_at before i) || (j == k && is_member i places))
 
 -- these numbers are taken out of each row
-pub record AreRemoved (gone : List ℕ) (rows rows' : List (List ℕ)) : Type 0 where
-  pub count : length rows' ≡ length rows
-  pub members : (i x : ℕ) → is_member x (row_at rows' i) ≡ (is_member x (row_at rows i) && not (is_member x gone))
+pub record AreRemoved (gone : List ℕ) (before after : List (List ℕ)) : Type 0 where
+  pub count : length after ≡ length before
+  pub members : (i x : ℕ) → is_member x (row_at after i) ≡ (is_member x (row_at before i) && not (is_member x gone))

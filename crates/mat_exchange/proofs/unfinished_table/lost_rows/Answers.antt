@@ -10,6 +10,6 @@ unite_columns-requires c = subst (AllBelow (length c.args.table.now)) (sym c.as_
 
 pub returns : goal.returns
 returns c = record {
-  entered = λ x m none. c.in_ok-unite_columns.ensures.holds x (c.in_ok-unite_unaddable.ensures.puts x (ap (is_member x) c.as_slice.ensures.items ∙ m) none);
-  opened = λ y x m none trades. c.in_ok-unite_columns.ensures.columns y x (ap (is_member y) c.as_slice-2.ensures.items ∙ m) none trades;
+  came_lost = λ x m none. c.in_ok-unite_columns.ensures.holds x (c.in_ok-unite_unaddable.ensures.puts x (ap (is_member x) c.as_slice.ensures.items ∙ m) none);
+  left_lost = λ y x m none trades. c.in_ok-unite_columns.ensures.columns y x (ap (is_member y) c.as_slice-2.ensures.items ∙ m) none trades;
 }
