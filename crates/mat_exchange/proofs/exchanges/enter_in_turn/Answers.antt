@@ -1,4 +1,4 @@
-use Rattle.std.proofs.Common.{◌≡◌, ◌∙◌, length, sym, subst, arith}
+use Rattle.std.proofs.Common.{◌≡◌, ◌∙◌, sym, subst, arith}
 use Rattle.mat_laws.specs.Exchanges.{rows_of}
 use Rattle.mat_exchange.specs.RowTables.{IsFilledTable, entered_to}
 use Rattle.mat_exchange.proofs.RowExchanges.{length-rows_of}

@@ -1,4 +1,4 @@
-use Rattle.std.proofs.Common.{length, sym, ap, ◌∙◌}
+use Rattle.std.proofs.Common.{sym, ap, ◌∙◌}
 use Rattle.mat_sets.specs.Sets.{is_member}
 use Rattle.mat_sets.proofs.Ground.{is_member-all_below}
 use Rattle.mat_laws.specs.Exchanges.{rows_of}

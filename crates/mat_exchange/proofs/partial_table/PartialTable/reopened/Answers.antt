@@ -1,4 +1,4 @@
-use Rattle.std.proofs.Common.{◌≡◌, ℕ, ◌≤◌, ◌&&◌, not, Bool, false, [], List, ◌∙◌, length, refl, subst, sym, arith}
+use Rattle.std.proofs.Common.{◌≡◌, ℕ, ◌≤◌, ◌&&◌, not, Bool, false, [], List, refl, subst, sym, arith}
 use Rattle.std.proofs.lemmas.Bool.{cond-false}
 use Rattle.mat_sets.specs.Limits.{most_elements}
 use Rattle.mat_sets.specs.Rows.{row_at, AreRemoved}
