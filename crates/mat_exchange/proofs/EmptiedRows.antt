@@ -1,10 +1,10 @@
 -- Rows are emptied one place after the other: those of these elements below x are empty, and all others are as they were.
 use Rattle.std.proofs.Common.{◌≡◌, ℕ, ◌+◌, ◌<◌, ◌≤◌, Bool, true, false, ◌&&◌, cond, ltb, List, [], length, set, inl, inr, refl, sym, ap, ◌∙◌, arith, get_or-set_other, get_or-set_same, length-set}
 use Rattle.std.proofs.lemmas.Bool.{cases_eq, cases_lt, cond-false, cond-true, lt-ltb, le-ltb}
-use Rattle.std.proofs.lemmas.Bool.Decides.{nat_tests}
 use Rattle.std.proofs.lemmas.List.{get_or_past}
 use Rattle.mat_sets.specs.Rows.{row_at}
 use Rattle.mat_sets.specs.Sets.{is_member}
+use Rattle.mat_sets.proofs.Truths.{ltb-other}
 
 pub record AreEmptiedTo (elements : List ℕ) (x : ℕ) (before after : List (List ℕ)) : Type 0 where
   pub count : length after ≡ length before
@@ -18,12 +18,6 @@ none_emptied elements rows = record {
 }
 
 module _ (elements : List ℕ) (x : ℕ) (before rows : List (List ℕ)) (so_far : AreEmptiedTo elements x before rows) where
-  other : (k : ℕ) → (k ≡ x → is_member k elements ≡ false) → (ltb k x && is_member k elements) ≡ (ltb k (x + 1) && is_member k elements)
-  other k out = elim (cases_eq k x) [
-    | inl e ↦ (let none = out e in grind arith)
-    | inr d ↦ ap (λ b. b && is_member k elements) (grind (arith, nat_tests))
-  ]
-
   pub one_emptied : (rows' : List (List ℕ)) → x < length rows → is_member x elements ≡ true → rows' ≡ set rows x [] → AreEmptiedTo elements (x + 1) before rows'
   one_emptied rows' within here put = record {
     count = ap length put ∙ length-set rows x [] ∙ so_far.count;
@@ -32,15 +26,21 @@ module _ (elements : List ℕ) (x : ℕ) (before rows : List (List ℕ)) (so_far
           ∙ sym (cond-true (ltb k (x + 1) && is_member k elements) [] (row_at before k)
           (let l = lt-ltb k (x + 1) (omega arith) in let m = ap (λ z. is_member z elements) e ∙ here in grind arith))
       | inr d ↦ get_or-set_other rows x k [] [] d ∙ so_far.emptied k
-          ∙ ap (λ b. cond b [] (row_at before k)) (other k (λ e. absurd (d e)))
+          ∙ ap (λ b. cond (b && is_member k elements) [] (row_at before k)) (ltb-other k x d)
     ];
   }
 
   pub one_kept : is_member x elements ≡ false → AreEmptiedTo elements (x + 1) before rows
   one_kept out = record {
     count = so_far.count;
-    emptied = λ k. so_far.emptied k ∙ ap (λ b. cond b [] (row_at before k)) (other k (λ e. ap (λ z. is_member z elements) e ∙ out));
+    emptied = λ k. so_far.emptied k ∙ ap (λ b. cond b [] (row_at before k)) (same_test k);
   }
+    where
+      same_test : (k : ℕ) → (ltb k x && is_member k elements) ≡ (ltb k (x + 1) && is_member k elements)
+      same_test k = elim (cases_eq k x) [
+        | inl e ↦ (let none = ap (λ z. is_member z elements) e ∙ out in grind arith)
+        | inr d ↦ ap (λ b. b && is_member k elements) (ltb-other k x d)
+      ]
 
   pub all_emptied : length rows ≤ x → (k : ℕ) → row_at rows k ≡ cond (is_member k elements) [] (row_at before k)
   all_emptied all k = so_far.emptied k ∙ elim (cases_lt k x) [
