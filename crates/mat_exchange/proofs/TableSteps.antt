@@ -58,18 +58,13 @@ none_at n k = elim (cases_lt k n) [
 ]
 
 -- past the last row
-no_row : Exchange
-no_row = record { addable = false; with = [] }
-
-past : (exchanges : List Exchange) (k : ℕ) → length exchanges ≤ k → row_in exchanges k ≡ no_row
-unfolding no_row
+past : (exchanges : List Exchange) (k : ℕ) → length exchanges ≤ k → row_in exchanges k ≡ record { addable = false; with = [] }
 past exchanges k g = get_or_past exchanges k (record { addable = false; with = [] }) g
 
 -- nothing is entered, and all elements are missing
 pub IsFilledTable-none : (exchanges : List Exchange) (missing : List ℕ) (n : ℕ) (addable : List ℕ) (rows columns : List (List ℕ)) → length exchanges ≡ n
     → ((k : ℕ) → is_member k missing ≡ ltb k n)
     → addable ≡ [] → rows ≡ replicate n [] → columns ≡ replicate n [] → IsFilledTable exchanges (entered_to missing 0) addable rows columns
-unfolding no_row
 IsFilledTable-none exchanges missing n addable rows columns long all no_adds no_rows empty = record {
   count = ap length no_rows ∙ length-replicate n [] ∙ sym long;
   adds = λ k. ap (is_member k) no_adds ∙ sym (none_entered k (row_in exchanges k).addable (λ g. ap (λ (r : Exchange). r.addable) (past exchanges k g)));
@@ -271,22 +266,21 @@ module _ (exchanges : List Exchange) (missing addable : List ℕ) (rows columns 
   adds : (x : ℕ) → is_member x addable ≡ (row_in exchanges x).addable
   adds k = elim (cases_lt k (length exchanges)) [
     | inl l ↦ f.adds k ∙ ap (λ b. b && (row_in exchanges k).addable) (all_entered k l)
-    | inr g ↦ (let none = ap (λ (r : Exchange). r.addable) (get_or_past exchanges k (record { addable = false; with = [] }) g) in
+    | inr g ↦ (let none = ap (λ (r : Exchange). r.addable) (past exchanges k g) in
         f.adds k ∙ and_right _ _ none ∙ sym none)
   ]
 
   has_row_here : (x : ℕ) → is_member x addable ≡ true → x < length exchanges
   has_row_here x m = elim (cases_lt x (length exchanges)) [
     | inl l ↦ l
-    | inr g ↦ absurd (both_ways (is_member x addable)
-        (adds x ∙ ap (λ (r : Exchange). r.addable) (get_or_past exchanges x (record { addable = false; with = [] }) g)) m)
+    | inr g ↦ absurd (both_ways (is_member x addable) (adds x ∙ ap (λ (r : Exchange). r.addable) (past exchanges x g)) m)
   ]
 
   in_column : (x y : ℕ) → y < length exchanges → is_member x (row_at columns y) ≡ is_member y (row_at rows x)
   in_column x y h = f.transposed x y h ∙ elim (cases_lt x (length exchanges)) [
     | inl l ↦ ap (λ b. b && (not (row_in exchanges x).addable && is_member y (row_in exchanges x).with)) (all_entered x l)
         ∙ has_written y (row_in exchanges x) ∙ sym (ap (is_member y) (f.same x (all_entered x l)))
-    | inr g ↦ and_right _ _ (ap (λ (r : Exchange). not r.addable && is_member y r.with) (get_or_past exchanges x (record { addable = false; with = [] }) g))
+    | inr g ↦ and_right _ _ (ap (λ (r : Exchange). not r.addable && is_member y r.with) (past exchanges x g))
         ∙ sym (ap (is_member y) (get_or_past rows x [] (subst (λ m. m ≤ x) (sym f.count) g)))
   ]
 
