@@ -25,6 +25,13 @@ row_in-table_past base addable rows x h =
     get_or_past (table_of base addable rows) x (record { addable = false; with = [] })
     (subst (λ l. l ≤ x) (sym (length-table_of base addable rows)) h)
 
+-- what is written down of a row
+pub has_written : (y : ℕ) (row : Exchange) → (not row.addable && is_member y row.with) ≡ is_member y (written row)
+has_written y row = elim (cases_Bool row.addable) [
+  | inl h ↦ ap (λ b. not b && is_member y row.with) h ∙ sym (ap (is_member y) (cond-true row.addable [] row.with h))
+  | inr h ↦ ap (λ b. not b && is_member y row.with) h ∙ sym (ap (is_member y) (cond-false row.addable [] row.with h))
+]
+
 module _ (base : List ℕ) {addable : List ℕ} {rows columns : List (List ℕ)} (t : AreTransposed addable rows columns) (table : List Exchange)
     (is : table_of base addable rows ≡ table) where
   -- an element has a row where the table has
@@ -70,11 +77,7 @@ module _ (base : List ℕ) {addable : List ℕ} {rows columns : List (List ℕ)}
   base_tells y x here = sym (ap (is_member y) (with_all x here)) ∙ ap (λ r. (exchanges_in r).trades y x) is
 
   pub written_tells : (y x : ℕ) → is_member y (row_at rows x) ≡ (not ((exchanges_in table).adds x) && (exchanges_in table).trades y x)
-  written_tells y x = elim (cases_Bool (is_member x addable)) [
-    | inl here ↦ ap (is_member y) (t.bare x here)
-        ∙ sym (ap (λ b. not b && (exchanges_in table).trades y x) (sym (addable_tells x) ∙ here))
-    | inr out ↦ row_tells y x out ∙ sym (ap (λ b. not b && (exchanges_in table).trades y x) (sym (addable_tells x) ∙ out))
-  ]
+  written_tells y x = ap (is_member y) (written_row x) ∙ sym (has_written y (row_in table x))
 
   pub column_tells : (y x : ℕ) → y < length table
       → is_member x (row_at columns y) ≡ (not ((exchanges_in table).adds x) && (exchanges_in table).trades y x)

@@ -14,7 +14,7 @@ use Rattle.mat_laws.specs.TightPaths.{exchanges_in, row_in}
 use Rattle.mat_laws.proofs.Rows.{same_row}
 use Rattle.mat_exchange.specs.RowTables.{AreTransposed, AreWhole, IsFilledTable, entered_to, row_from, table_of, written}
 use Rattle.mat_sets.specs.Rows.{row_at, AreRemoved, IsEntered}
-use Rattle.mat_exchange.proofs.RowTables.{length-table_of, row_in-table_of}
+use Rattle.mat_exchange.proofs.RowTables.{has_written, length-table_of, row_in-table_of}
 use mathlib.Core.Path.{fun_ext}
 
 -- ---- which elements are entered
@@ -186,13 +186,6 @@ module _ (exchanges : List Exchange) (missing : List ℕ) (x : ℕ) (addable : L
     transposed = λ k y l. f.transposed k y l ∙ same_flag (λ z. not (row_in exchanges z).addable && is_member y (row_in exchanges z).with)
         (ap (λ (r : Exchange). not r.addable && is_member y r.with) is) k;
   }
-
--- what is written down of a row
-has_written : (y : ℕ) (row : Exchange) → (not row.addable && is_member y row.with) ≡ is_member y (written row)
-has_written y row = elim (cases_Bool row.addable) [
-  | inl h ↦ ap (λ b. not b && is_member y row.with) h ∙ sym (ap (is_member y) (cond-true row.addable [] row.with h))
-  | inr h ↦ ap (λ b. not b && is_member y row.with) h ∙ sym (ap (is_member y) (cond-false row.addable [] row.with h))
-]
 
 -- ---- the rows that stay
 
