@@ -7,14 +7,13 @@ mod ComputedRows
 pub mod RowTables
 pub mod TableSteps
 mod EmptiedRows
-mod PutElements
-mod UnitedColumns
 mod MissingElements
 pub mod HeaviestAddable
 pub mod SlackParts
 pub mod WeightBounds
 pub mod Fringes
 pub mod NewMembers
+mod PutElements
 pub mod Growing
 pub mod GrowthChanges
 pub mod GrowthEntries

@@ -3,7 +3,7 @@ use Rattle.mat_sets.specs.Sets.{is_member}
 use Rattle.mat_sets.proofs.Sums.{AllBelow-at}
 use Rattle.mat_laws.specs.TightPaths.{exchanges_in}
 use Rattle.mat_exchange.proofs.RowTables.{column_tells, has_column}
-use Rattle.mat_exchange.proofs.UnitedColumns.{AreUnited-none, AreUnited-more}
+use Rattle.mat_exchange.proofs.PutElements.{AreUnited-none, AreUnited-more}
 use Rattle.mat_exchange.proofs.row_table.RowTable.unite_columns.Goals as goal
 
 pub loop-y-init : goal.loop-y-init
