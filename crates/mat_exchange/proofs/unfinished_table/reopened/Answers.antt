@@ -24,27 +24,17 @@ lost_rows-requires-clause-left g c =
     (subst (AllBelow n) (sym c.in_ok-left.ensures.members) (AllBelow-subset n (minus c.args.set.now c.args.next.now) c.args.set.now
     (minus-IsSubset c.args.set.now c.args.next.now) (below c.lawful.ensures c.args.set.now c.requires.independent)))
 
-pub reopened-table-requires-clause-few : goal.reopened-table-requires-clause-few
-reopened-table-requires-clause-few g c =
-    omega (arith, ap length c.requires.table, length-rows_of (g.M.Matroid.ground_size c.args.m.now) (g.M.Matroid.indep c.args.m.now) c.args.set.now, c.requires.few)
-
-pub reopened-table-requires-clause-lost : goal.reopened-table-requires-clause-lost
-reopened-table-requires-clause-lost g c =
-    (rows_reopened c.lawful.ensures c.args.set.now c.args.next.now c.in_ok-lost.lost c.in_ok-missing.missing c.in_ok-came.came c.in_ok-left.left c.args.at.table
+pub reopened-table-requires : goal.reopened-table-requires
+reopened-table-requires g c =
+    let known = rows_reopened c.lawful.ensures c.args.set.now c.args.next.now c.in_ok-lost.lost c.in_ok-missing.missing c.in_ok-came.came c.in_ok-left.left c.args.at.table
     c.requires.independent c.requires.next c.requires.table c.in_ok-came.ensures.members c.in_ok-left.ensures.members c.in_ok-lost.ensures
-    c.in_ok-missing.ensures).lost_missing
-
-pub reopened-table-requires-clause-bare : goal.reopened-table-requires-clause-bare
-reopened-table-requires-clause-bare g c =
-    (rows_reopened c.lawful.ensures c.args.set.now c.args.next.now c.in_ok-lost.lost c.in_ok-missing.missing c.in_ok-came.came c.in_ok-left.left c.args.at.table
-    c.requires.independent c.requires.next c.requires.table c.in_ok-came.ensures.members c.in_ok-left.ensures.members c.in_ok-lost.ensures
-    c.in_ok-missing.ensures).others_bare
-
-pub reopened-table-requires-clause-added : goal.reopened-table-requires-clause-added
-reopened-table-requires-clause-added g c =
-    (rows_reopened c.lawful.ensures c.args.set.now c.args.next.now c.in_ok-lost.lost c.in_ok-missing.missing c.in_ok-came.came c.in_ok-left.left c.args.at.table
-    c.requires.independent c.requires.next c.requires.table c.in_ok-came.ensures.members c.in_ok-left.ensures.members c.in_ok-lost.ensures
-    c.in_ok-missing.ensures).added_missing
+    c.in_ok-missing.ensures in
+    record {
+      few = omega (arith, ap length c.requires.table, length-rows_of (g.M.Matroid.ground_size c.args.m.now) (g.M.Matroid.indep c.args.m.now) c.args.set.now, c.requires.few);
+      lost = known.lost_missing;
+      bare = known.others_bare;
+      added = known.added_missing;
+    }
 
 pub returns-clause-filled : goal.returns-clause-filled
 returns-clause-filled g c =
