@@ -14,7 +14,7 @@ use Rattle.mat_laws.specs.Exchanges.{circuit_members, row_of, rows_of}
 use Rattle.mat_laws.specs.Matroids.{IsMatroid}
 use Rattle.mat_laws.proofs.Rows.{row_of-adds, row_of-trades}
 use Rattle.mat_laws.specs.TightPaths.{Exchanges, exchanges_at, exchanges_in, row_in}
-use Rattle.mat_exchange.specs.RowTables.{AreWhole}
+use Rattle.mat_exchange.specs.RowTables.{AreWhole, IsFilledTable, entered_to}
 use Rattle.mat_exchange.specs.Tables.{IsTableAt}
 use mathlib.Core.Path.{fun_ext}
 
@@ -29,6 +29,13 @@ row_in-rows_of n p I x h = get_or-map_all_below (row_of p I) n x (record { addab
 pub row_in-past : (n : ℕ) (p : List ℕ → Bool) (I : List ℕ) (x : ℕ) → n ≤ x
     → row_in (rows_of n p I) x ≡ record { addable = false; with = [] }
 row_in-past n p I x h = get_or_past (rows_of n p I) x (record { addable = false; with = [] }) (subst (λ l. l ≤ x) (sym (length-rows_of n p I)) h)
+
+-- where the rows up to n are entered, all are
+pub all_filled : (n : ℕ) (p : List ℕ → Bool) (I missing addable : List ℕ) (rows columns : List (List ℕ))
+    → IsFilledTable (rows_of n p I) (entered_to missing n) addable rows columns
+    → IsFilledTable (rows_of n p I) (entered_to missing (length (rows_of n p I))) addable rows columns
+all_filled n p I missing addable rows columns f =
+    subst (λ k. IsFilledTable (rows_of n p I) (entered_to missing k) addable rows columns) (sym (length-rows_of n p I)) f
 
 -- ---- one row
 

@@ -1,7 +1,7 @@
 use Rattle.std.proofs.Common.{sym, subst}
 use Rattle.mat_laws.specs.Exchanges.{rows_of}
-use Rattle.mat_exchange.specs.RowTables.{AreWhole, IsFilledTable, entered_to}
-use Rattle.mat_exchange.proofs.RowExchanges.{length-rows_of, AreWhole-rows_of}
+use Rattle.mat_exchange.specs.RowTables.{AreWhole}
+use Rattle.mat_exchange.proofs.RowExchanges.{all_filled, AreWhole-rows_of}
 use Rattle.mat_exchange.proofs.exchanges.filled_in_turn.Goals as goal
 
 pub finish-table-requires : goal.finish-table-requires
@@ -13,8 +13,8 @@ finish-table-requires g c =
       filled = (
         rows_of n p I,
         c.args.unfilled.missing,
-        subst (λ k. IsFilledTable (rows_of n p I) (entered_to c.args.unfilled.missing k)
-            c.enter_in_turn.new.table.addable c.enter_in_turn.new.table.rows c.enter_in_turn.new.table.columns) (sym (length-rows_of n p I)) c.in_ok-enter_in_turn.ensures,
+        all_filled n p I c.args.unfilled.missing
+            c.enter_in_turn.new.table.addable c.enter_in_turn.new.table.rows c.enter_in_turn.new.table.columns c.in_ok-enter_in_turn.ensures,
       );
     }
 
@@ -24,6 +24,6 @@ returns-clause-table g c =
     let p = g.M.Matroid.indep c.args.m.now in
     let I = c.args.set.now in
     c.finish-table.ensures (rows_of n p I) c.args.unfilled.missing
-    (subst (λ k. IsFilledTable (rows_of n p I) (entered_to c.args.unfilled.missing k)
-    c.enter_in_turn.new.table.addable c.enter_in_turn.new.table.rows c.enter_in_turn.new.table.columns) (sym (length-rows_of n p I)) c.in_ok-enter_in_turn.ensures)
+    (all_filled n p I c.args.unfilled.missing
+    c.enter_in_turn.new.table.addable c.enter_in_turn.new.table.rows c.enter_in_turn.new.table.columns c.in_ok-enter_in_turn.ensures)
     (subst (λ b. AreWhole b (rows_of n p I)) (sym c.in_ok-base.ensures.members) (AreWhole-rows_of c.lawful.ensures I c.requires.independent))
