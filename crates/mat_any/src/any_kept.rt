@@ -1,7 +1,7 @@
 //! What a matroid of any kind keeps.
 
 use mat_count::FullSets;
-use mat_gf2::TaggedBasis;
+use mat_gf2::KeptBasis;
 use mat_graphic::RootedForest;
 use mat_linked::{KeptLinking, KeptMatching};
 use mat_minors::DualKept;
@@ -23,8 +23,8 @@ pub enum AnyKept {
     Transversal(KeptMatching),
     /// Disjoint paths from the sources to the vertices of the members.
     Gammoid(KeptLinking),
-    /// A basis of the columns of the members, each with the members of which it is the sum.
-    Gf2(TaggedBasis),
+    /// A basis of the columns of the members, each with the members of which it is the sum, and parity checks of its span.
+    Gf2(KeptBasis),
     /// A base of the matroid within the dual that is disjoint from the set, and the columns at it.
     Dual(DualKept),
     /// By the dual of a dual: what the matroid within both keeps.

@@ -3,5 +3,7 @@ pub mod Dimensions
 pub mod Eliminating
 pub mod Exchanges
 pub mod GrowingBasis
+pub mod InnerProducts
 pub mod Markings
+pub mod ParityChecks
 pub mod Tags

@@ -127,7 +127,7 @@ module _ (column : ℕ → ℕ) where
 
 -- ---- the basis
 
-reduced_tagged-column : (v b : TaggedColumn) → (reduced_tagged v b).column ≡ reduced v.column b.column
+pub reduced_tagged-column : (v b : TaggedColumn) → (reduced_tagged v b).column ≡ reduced v.column b.column
 reduced_tagged-column v b = elim (cases_Bool (ltb (bit_xor v.column b.column) v.column)) [ inl e ↦ rw e refl | inr e ↦ rw e refl ]
 
 -- reducing by a column that its tag tells

@@ -107,12 +107,12 @@ reduced-left v b l = elim (cases_Bool (ltb (bit_xor v b) v)) [
   | inr e ↦ rw e refl
 ]
 
-reduced-set : (v b p : ℕ) → IsLeadingBit b p → bit_at v p ≡ 1 → reduced v b ≡ bit_xor v b
+pub reduced-set : (v b p : ℕ) → IsLeadingBit b p → bit_at v p ≡ 1 → reduced v b ≡ bit_xor v b
 reduced-set v b p t h =
     let a = sum_quotient v b p t in
     reduced-taken v b (smaller_by_quotient (bit_xor v b) v (2 ^ p) (omega arith) (pow_positive p))
 
-reduced-clear : (v b p : ℕ) → IsLeadingBit b p → bit_at v p ≡ 0 → reduced v b ≡ v
+pub reduced-clear : (v b p : ℕ) → IsLeadingBit b p → bit_at v p ≡ 0 → reduced v b ≡ v
 reduced-clear v b p t h =
     let a = sum_quotient v b p t in
     let more : v < bit_xor v b = smaller_by_quotient v (bit_xor v b) (2 ^ p) (omega arith) (pow_positive p) in

@@ -1,6 +1,8 @@
 pub mod Columns
 pub mod Eliminations
+pub mod InnerProducts
 pub mod TaggedColumns
+pub mod ParityChecks
 pub mod KeptBases
 pub mod LeadingBitLaws
 pub mod SpanLaws

@@ -5,7 +5,8 @@ ghost use Rattle.mat_gf2.specs.{Columns.{IsBinaryMatrix, column_of, is_gf2}, Gf2
 use crate::elimination::{
     TaggedColumn, are_independent, marked_members, reduce_tagged, run_along, tagged_basis,
 };
-use crate::kept_basis::TaggedBasis;
+use crate::kept_basis::KeptBasis;
+use crate::parity::{fails_check, parity_checks};
 use mat_laws::{Exchange, Matroid};
 use mat_sets::ElemSet;
 use std::alloc::{AllocError, Global};
@@ -60,7 +61,7 @@ impl Matroid for Gf2 {
 
     ghost indep = { λ m. is_gf2 (length m.columns) (column_of m.columns) };
 
-    type Kept = TaggedBasis;
+    type Kept = KeptBasis;
 
     ghost keeps = { λ m base kept. IsKeptBasis (column_of m.columns) base kept };
 
@@ -88,11 +89,12 @@ impl Matroid for Gf2 {
         self.row(alloc, base, &kept, x)
     }
 
-    /// A basis of the columns of the set, by one elimination: an exclusive-or for each two members. The only error is want of
-    /// memory.
-    fn keep(&self, alloc: Global, base: &ElemSet) -> Result<TaggedBasis, AllocError> {
+    /// A basis of the columns of the set, by one elimination: an exclusive-or for each two members; and eight parity checks of
+    /// its span, by an inner product for each of them and each member. The only error is want of memory.
+    fn keep(&self, alloc: Global, base: &ElemSet) -> Result<KeptBasis, AllocError> {
         let rows = tagged_basis(alloc, &self.columns, base)?;
-        Ok(TaggedBasis { rows })
+        let checks = parity_checks(alloc, &rows)?;
+        Ok(KeptBasis { rows, checks })
     }
 
     /// The exchanges of x: where its column is a sum of columns of the set, it can be exchanged for the members of that
@@ -102,7 +104,7 @@ impl Matroid for Gf2 {
         &self,
         alloc: Global,
         base: &ElemSet,
-        kept: &TaggedBasis,
+        kept: &KeptBasis,
         x: u32,
     ) -> Result<Exchange, AllocError> {
         let column = TaggedColumn {
@@ -124,18 +126,22 @@ impl Matroid for Gf2 {
         })
     }
 
-    /// Whether the column of x is no sum of columns of the set, by an exclusive-or for each member. It takes no memory.
+    /// Whether the column of x is no sum of columns of the set: it is none where it fails a parity check, and where it passes
+    /// all of them an exclusive-or for each member tells. It takes no memory.
     fn adds(
         &self,
         _alloc: Global,
         _base: &ElemSet,
-        kept: &TaggedBasis,
+        kept: &KeptBasis,
         x: u32,
     ) -> Result<bool, AllocError> {
         let column = TaggedColumn {
             column: self.columns[x as usize],
             tag: 0,
         };
+        if fails_check(&kept.checks, column.column) {
+            return Ok(true);
+        }
         let left = reduce_tagged(&kept.rows, column);
         Ok(left.column != 0)
     }

@@ -19,10 +19,11 @@ use Rattle.mat_gf2.specs.Eliminations.{remainder}
 use Rattle.mat_gf2.specs.LeadingBitLaws.{leading_bit, leading_bit-is, leading_bit-set, reduced-keeps_clear}
 use Rattle.mat_gf2.specs.PivotLaws.{pivots, no_pivot, IsRising-pivots, pivot-cases, length-pivots}
 use Rattle.mat_gf2.specs.SpanLaws.{in_span-from_remainder, IsLinearlyIndependent-more, IsLinearlyIndependent-from_test, test_from-IsLinearlyIndependent}
-use Rattle.mat_witness.specs.FreeParts.{inner_product_is_one, shows_probes}
+use Rattle.mat_gf2.specs.InnerProducts.{inner_product_is_one}
+use Rattle.mat_gf2.proofs.InnerProducts.{differ, inner_product_is_one-xor_right, inner_product_is_one-zero_right, inner_product_is_one-power, inner_product_is_one-turned, meet_sum_evenly}
+use Rattle.mat_witness.specs.FreeParts.{shows_probes}
 use Rattle.mat_witness.specs.BoundParts.{are_zeros, has_own_one}
 use Rattle.mat_witness.proofs.PassingLists.{all_below_pass, member_passes}
-use Rattle.mat_witness.proofs.InnerProducts.{differ, inner_product_is_one-xor_right, inner_product_is_one-zero_right, inner_product_is_one-power, inner_product_is_one-turned, meet_sum_evenly}
 
 -- ---- probes
 

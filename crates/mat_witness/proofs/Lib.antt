@@ -9,7 +9,6 @@ pub mod HeavyMembers
 pub mod MadeWitnesses
 pub mod CountedParts
 pub mod PassingLists
-pub mod InnerProducts
 pub mod RowSteps
 pub mod ReducedRows
 pub mod TellingRows

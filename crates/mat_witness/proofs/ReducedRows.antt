@@ -14,11 +14,11 @@ use Rattle.mat_laws.specs.Matroids.{IsMaximal}
 use Rattle.mat_gf2.specs.Columns.{is_linearly_independent, is_gf2}
 use Rattle.mat_gf2.specs.Eliminations.{remainder}
 use Rattle.mat_gf2.specs.SpanLaws.{in_span-from_remainder, test_with_one}
-use Rattle.mat_witness.specs.FreeParts.{inner_product_is_one}
+use Rattle.mat_gf2.specs.InnerProducts.{inner_product_is_one}
+use Rattle.mat_gf2.proofs.InnerProducts.{meet_sum_evenly}
 use Rattle.mat_witness.specs.BoundParts.{are_zeros, has_own_one}
 use Rattle.mat_witness.specs.Rows.{IsTaken}
 use Rattle.mat_witness.proofs.PassingLists.{passes_each, passes_below}
-use Rattle.mat_witness.proofs.InnerProducts.{meet_sum_evenly}
 use Rattle.mat_witness.proofs.ColumnParts.{IsOwnPlace}
 use Rattle.mat_witness.proofs.RowSteps.{EachRow, AreEven, HaveOwnPlaces, length-taken, stay_even, become_even, stay_below, keep_own_places, length-units, units_below, units_have_own_places}
 

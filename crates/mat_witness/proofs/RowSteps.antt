@@ -13,9 +13,9 @@ use Rattle.std.proofs.lemmas.Nat.{xor_lt}
 use Rattle.std.proofs.lemmas.Nat.Bits.{bit_at_xor, bit_at-lt, bit_at-pow_same, bit_at-pow_other}
 use Rattle.mat_sets.specs.Sets.{all_below}
 use Rattle.mat_sets.proofs.Ground.{length-map_all_below, get_or-map_all_below}
-use Rattle.mat_witness.specs.FreeParts.{inner_product_is_one}
+use Rattle.mat_gf2.specs.InnerProducts.{inner_product_is_one}
+use Rattle.mat_gf2.proofs.InnerProducts.{differ, inner_product_is_one-xor}
 use Rattle.mat_witness.specs.Rows.{evened, IsTaken}
-use Rattle.mat_witness.proofs.InnerProducts.{differ, inner_product_is_one-xor}
 use Rattle.mat_witness.proofs.ColumnParts.{IsOwnPlace}
 
 -- ---- one row

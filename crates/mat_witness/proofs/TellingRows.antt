@@ -16,10 +16,11 @@ use Rattle.mat_sets.proofs.Subsets.{without_one-IsSubset}
 use Rattle.mat_gf2.specs.Columns.{IsBinaryMatrix, IsLinearlyIndependent, is_linearly_independent, column_of, is_gf2}
 use Rattle.mat_gf2.specs.SpanLaws.{InSpan, in_span-column, dependent-with_sum, IsLinearlyIndependent-from_test}
 use Rattle.mat_gf2.specs.LeadingBitLaws.{xor_cancel}
-use Rattle.mat_witness.specs.FreeParts.{inner_product_is_one, shows_probes}
+use Rattle.mat_gf2.specs.InnerProducts.{inner_product_is_one}
+use Rattle.mat_gf2.proofs.InnerProducts.{differ, inner_product_is_one-xor_right, inner_product_is_one-zero_right, zero_from_powers}
+use Rattle.mat_witness.specs.FreeParts.{shows_probes}
 use Rattle.mat_witness.specs.Rows.{evened, IsTaken}
 use Rattle.mat_witness.proofs.PassingLists.{passes_below}
-use Rattle.mat_witness.proofs.InnerProducts.{differ, inner_product_is_one-xor_right, inner_product_is_one-zero_right, zero_from_powers}
 use Rattle.mat_witness.proofs.RowSteps.{EachRow, AreEven, evened-below, evened-keeps, evened-even, taken-even, taken-below, were_even, length-units, unit_row}
 use Rattle.mat_witness.proofs.ReducedRows.{AreReduced, AreReduced-start, AreReduced-taken}
 

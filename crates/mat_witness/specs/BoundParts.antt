@@ -6,9 +6,9 @@ use Rattle.mat_sets.specs.Graphs.{ends_of}
 use Rattle.mat_sets.specs.Search.{some_below}
 use Rattle.mat_sets.specs.Sets.{all_below, is_member, union}
 use Rattle.mat_gf2.specs.Columns.{column_of}
+use Rattle.mat_gf2.specs.InnerProducts.{inner_product_is_one}
 use Rattle.mat_linked.specs.Gammoids.{vertices_of}
 use Rattle.mat_any.specs.Trees.{Tree, uniform, partition, laminar, graphic, gammoid, gf2}
-use Rattle.mat_witness.specs.FreeParts.{inner_product_is_one}
 use Rattle.mat_witness.specs.Kinds.{listed_caps, listed_sets}
 use Rattle.mat_witness.specs.Parts.{BoundPart, spent, labels, gate, zeros}
 

@@ -1,6 +1,6 @@
 -- What shows that a set is independent, without a search (Schrijver, chapters 9 and 39).
-use Rattle.std.specs.Prelude.{ℕ, ◌%◌, Bool, true, false, not, ◌&&◌, ◌||◌, ◌==◌, if◌then◌else◌, List, [], ◌∷◌, length, map}
-use Rattle.std.specs.Prelude.{bit_and, bytes_eq, count_ones, slice_index_or}
+use Rattle.std.specs.Prelude.{ℕ, Bool, true, false, not, ◌&&◌, ◌||◌, ◌==◌, if◌then◌else◌, List, [], ◌∷◌, length, map}
+use Rattle.std.specs.Prelude.{bytes_eq, slice_index_or}
 use Rattle.std.specs.List.{concat, list_all, list_any}
 use Rattle.mat_sets.specs.Graphs.{ends_of}
 use Rattle.mat_sets.specs.Sets.{all_below, is_member}
@@ -8,6 +8,7 @@ use Rattle.mat_sets.specs.SetTests.{are_distinct}
 use Rattle.mat_count.specs.Counts.{is_counted, is_uniform}
 use Rattle.mat_flow.specs.Paths.{first_of, last_of}
 use Rattle.mat_gf2.specs.Columns.{column_of}
+use Rattle.mat_gf2.specs.InnerProducts.{inner_product_is_one}
 use Rattle.mat_linked.specs.Gammoids.{is_path, vertices_of}
 use Rattle.mat_any.specs.Trees.{Tree, uniform, partition, laminar, graphic, gammoid, gf2}
 use Rattle.mat_witness.specs.Parts.{FreePart, count, forest, paths, probes}
@@ -46,10 +47,6 @@ shows_paths arcs sources targets lists X =
     && (bytes_eq (map last_of lists) (vertices_of targets X) && are_distinct (concat lists))
 
 -- ---- columns over the field of two elements: each probe tells its own column from the others
-
--- whether two numbers, as columns over the field of two elements, have the inner product one: an odd number of binary ones in common
-abbrev pub inner_product_is_one : ℕ → ℕ → Bool
-inner_product_is_one a b = count_ones (bit_and a b) % 2 == 1
 
 -- whether the i-th probe has an odd number of ones in common with the column of the i-th member of X, and an even number with the others
 abbrev pub shows_probes : (ℕ → ℕ) → List ℕ → List ℕ → Bool

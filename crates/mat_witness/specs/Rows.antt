@@ -3,7 +3,7 @@
 use Rattle.std.specs.Prelude.{◌≡◌, ◌≢◌, ℕ, ◌<◌, true, if◌then◌else◌, List, length, map, slice_index_or, remove}
 use Rattle.std.specs.Int.{bit_at}
 use Rattle.std.specs.Int.Bits.{bit_xor}
-use Rattle.mat_witness.specs.FreeParts.{inner_product_is_one}
+use Rattle.mat_gf2.specs.InnerProducts.{inner_product_is_one}
 
 -- the number, with the row added where it meets the column oddly
 abbrev pub evened : ℕ → ℕ → ℕ → ℕ

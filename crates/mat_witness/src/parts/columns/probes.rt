@@ -2,12 +2,12 @@
 
 ghost use Rattle.std.specs.{Prelude.{◌≡◌, ◌<◌, true, not, ◌==◌, if◌then◌else◌, length, slice_index_or, IfOk}, List.{list_all}};
 ghost use Rattle.mat_sets.specs.Sets.{AllBelow, IsSet, all_below};
-ghost use Rattle.mat_gf2.specs.Columns.{IsBinaryMatrix, column_of, is_gf2};
+ghost use Rattle.mat_gf2.specs.{Columns.{IsBinaryMatrix, column_of, is_gf2}, InnerProducts.{inner_product_is_one}};
 ghost use Rattle.mat_any.specs.Trees.{gf2};
-ghost use Rattle.mat_witness.specs.{FreeParts.{inner_product_is_one, shows_free, shows_probes}, Parts.{IsFreeFor, probes}};
+ghost use Rattle.mat_witness.specs.{FreeParts.{shows_free, shows_probes}, Parts.{IsFreeFor, probes}};
 
-use super::rows::{inner_product_is_one, make_even, take_odd_row, unit_rows};
-use mat_gf2::Gf2;
+use super::rows::{make_even, take_odd_row, unit_rows};
+use mat_gf2::{Gf2, inner_product_is_one};
 use mat_sets::ElemSet;
 use std::alloc::{AllocError, Global};
 

@@ -2,16 +2,11 @@
 
 ghost use Rattle.std.specs.Prelude.{◌≡◌, ℕ, ◌<◌, ◌≤◌, ◌^◌, true, false, length, map, slice_index_or, IfOk, IfSome, IfNone};
 ghost use Rattle.mat_sets.specs.Sets.{all_below};
-ghost use Rattle.mat_witness.specs.{FreeParts.{inner_product_is_one}, Rows.{evened, IsTaken}};
+ghost use Rattle.mat_gf2.specs.InnerProducts.{inner_product_is_one};
+ghost use Rattle.mat_witness.specs.Rows.{evened, IsTaken};
 
+use mat_gf2::inner_product_is_one;
 use std::alloc::{AllocError, Global};
-
-/// Whether two numbers have an odd number of binary ones in common.
-pub(crate) fn inner_product_is_one(a: u128, b: u128) -> bool
-    ensures { result ≡ inner_product_is_one a b }
-{
-    (a & b).count_ones() % 2 == 1
-}
 
 // The place of the first row that meets the column oddly.
 fn odd_row(rows: &[u128], column: u128) -> Option<usize>

@@ -6,17 +6,16 @@ ghost use Rattle.std.specs.{
 };
 ghost use Rattle.mat_sets.specs.Sets.{AllBelow, IsSet, all_below};
 ghost use Rattle.mat_laws.specs.Matroids.{IsMaximal};
-ghost use Rattle.mat_gf2.specs.Columns.{IsBinaryMatrix, column_of, is_gf2};
+ghost use Rattle.mat_gf2.specs.{Columns.{IsBinaryMatrix, column_of, is_gf2}, InnerProducts.{inner_product_is_one}};
 ghost use Rattle.mat_any.specs.Trees.{gf2};
 ghost use Rattle.mat_witness.specs.{
   BoundParts.{are_zeros, bound_of, has_own_one, shows_bound},
-  FreeParts.{inner_product_is_one},
   Parts.{IsBoundFor, zeros},
   Rows.{AreOnesOfOthers},
 };
 
-use super::rows::{inner_product_is_one, take_odd_row, unit_rows};
-use mat_gf2::Gf2;
+use super::rows::{take_odd_row, unit_rows};
+use mat_gf2::{Gf2, inner_product_is_one};
 use mat_sets::ElemSet;
 use std::alloc::{AllocError, Global};
 

@@ -1,9 +1,10 @@
-use Rattle.std.proofs.Common.{◌≡◌, ◌∙◌, sym, ap, subst, length}
+use Rattle.std.proofs.Common.{◌≡◌, ◌∙◌, All, sym, ap, subst, length}
 use Rattle.std.proofs.lemmas.Bool.{and_parts}
 use Rattle.mat_sets.specs.Sets.{AllBelow}
 use Rattle.mat_sets.specs.SetTests.{is_set}
 use Rattle.mat_sets.proofs.SetTests.{IsSet-from_test}
 use Rattle.mat_gf2.specs.Columns.{column_of, is_linearly_independent}
+use Rattle.mat_gf2.specs.ParityChecks.{IsParityCheck}
 use Rattle.mat_gf2.specs.TaggedColumns.{IsTaggedBasis}
 use Rattle.mat_gf2.proofs.Dimensions.{independent-few}
 use Rattle.mat_gf2.proofs.gf2.Gf2Matroid.keep.Goals as goal
@@ -24,4 +25,7 @@ pub returns : goal.returns
 returns c =
     let base = c.args.base.now in
     let same : c.deref.result.now ≡ c.args.self.now.columns = c.deref.ensures.value ∙ ap (λ m. m.columns) c.self.view_is in
-    record { tagged = subst (λ s. IsTaggedBasis (column_of s) base base c.in_ok-rows.rows.items) same c.in_ok-rows.ensures.basis }
+    record {
+      tagged = subst (λ s. IsTaggedBasis (column_of s) base base c.in_ok-rows.rows.items) same c.in_ok-rows.ensures.basis;
+      checks = subst (λ rows. All (IsParityCheck rows) c.in_ok-checks.checks.items) c.deref-2.ensures.value c.in_ok-checks.ensures;
+    }

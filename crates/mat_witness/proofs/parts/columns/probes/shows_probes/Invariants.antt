@@ -3,7 +3,7 @@ use Rattle.std.proofs.Common.{◌≡◌, ℕ, ◌<◌, true, not, eqb, cond, len
 use Rattle.std.specs.List.{list_all}
 use Rattle.mat_sets.specs.Sets.{all_below}
 use Rattle.mat_gf2.specs.Columns.{column_of}
-use Rattle.mat_witness.specs.FreeParts.{inner_product_is_one}
+use Rattle.mat_gf2.specs.InnerProducts.{inner_product_is_one}
 use Rattle.mat_witness.proofs.parts.columns.probes.shows_probes.Given as goal
 
 abbrev pub invariant-loop-i : goal.invariant-loop-i

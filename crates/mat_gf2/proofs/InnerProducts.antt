@@ -12,8 +12,8 @@ use lib.Count.{ones_step, ones_cat}
 use Rattle.mat_sets.specs.Sets.{is_member}
 use Rattle.mat_sets.proofs.Members.{is_member-head}
 use Rattle.mat_gf2.specs.Columns.{xor_of}
+use Rattle.mat_gf2.specs.InnerProducts.{inner_product_is_one}
 use Rattle.mat_gf2.specs.LeadingBitLaws.{bit_cases}
-use Rattle.mat_witness.specs.FreeParts.{inner_product_is_one}
 
 -- whether one of two holds alone
 abbrev pub differ : Bool → Bool → Bool

@@ -1,0 +1,7 @@
+-- The numbers so far are parity checks of the span of the basis.
+use Rattle.std.specs.Prelude.{All}
+use Rattle.mat_gf2.specs.ParityChecks.{IsParityCheck}
+use Rattle.mat_gf2.proofs.parity.parity_checks.Given as goal
+
+abbrev pub invariant-loop-start : goal.invariant-loop-start
+invariant-loop-start l = All (IsParityCheck l.basis) l.checks.items

@@ -1,0 +1,10 @@
+-- Parity checks of the span of a basis, as those of a linear code over the field of two elements. No public contract but that of what is kept
+-- rests on them.
+use Rattle.std.specs.Prelude.{◌≡◌, ℕ, false, List}
+use Rattle.mat_gf2.specs.declared.elimination.TaggedColumn.{TaggedColumn}
+use Rattle.mat_gf2.specs.InnerProducts.{inner_product_is_one}
+use Rattle.mat_gf2.specs.TaggedColumns.{reduced_tagged_by}
+
+-- the inner product of the check with each column of which the basis leaves nothing is zero
+pub record IsParityCheck (basis : List TaggedColumn) (check : ℕ) : Type 0 where
+  pub passes : (v : TaggedColumn) → (reduced_tagged_by basis v).column ≡ 0 → inner_product_is_one check v.column ≡ false
