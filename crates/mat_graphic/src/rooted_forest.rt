@@ -66,17 +66,21 @@ pub struct RootedForest {
     before: Vec<usize>,
 }
 
-// The search that has found no vertex.
+// The search that has found no vertex, with room for all.
 fn begin(alloc: Global, vertices: u32) -> Result<RootedForest, AllocError>
     ensures long { IfOk result (λ f. length f.place.items ≡ vertices) }
     ensures exploring { IfOk result (λ f. (firsts seconds set : List ℕ)
         → IsExploring firsts seconds set vertices (length f.order.items) f.place.items f.order.items f.through.items f.before.items) }
 {
+    let place = vec![in alloc; None; vertices as usize]?;
+    let order = Vec::with_capacity(alloc, vertices as usize)?;
+    let through = Vec::with_capacity(alloc, vertices as usize)?;
+    let before = Vec::with_capacity(alloc, vertices as usize)?;
     Ok(RootedForest {
-        place: vec![in alloc; None; vertices as usize]?,
-        order: Vec::new(alloc),
-        through: Vec::new(alloc),
-        before: Vec::new(alloc),
+        place,
+        order,
+        through,
+        before,
     })
 }
 
