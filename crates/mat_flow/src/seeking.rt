@@ -23,10 +23,11 @@ impl SearchRoom {
         ensures all { IfOk result (λ room. live_in room ≡ all_below n) }
     {
         let live = BitSet::all_below(alloc, n)?;
+        let found = Vec::with_capacity(alloc, n as usize)?;
         let before = vec![in alloc; 0u32; n as usize]?;
         Ok(SearchRoom {
             live,
-            found: Vec::new(alloc),
+            found,
             before,
         })
     }

@@ -10,7 +10,7 @@ pub fn empty_columns(alloc: Global, count: u32) -> Result<Vec<ElemSet>, AllocErr
     ensures long { IfOk result (λ columns. length columns.items ≡ count) }
     ensures empty { IfOk result (λ columns. (y : ℕ) → row_at columns.items y ≡ []) }
 {
-    let mut columns = Vec::new(alloc);
+    let mut columns = Vec::with_capacity(alloc, count as usize)?;
     for _ in 0..count {
         columns.push(ElemSet::new(alloc))?;
     }

@@ -11,7 +11,7 @@ use std::alloc::{AllocError, Global};
 pub fn items_in(alloc: Global, order: &[u32], set: &ElemSet) -> Result<Vec<u32>, AllocError>
     ensures { IfOk result (λ v. v.items ≡ filter (λ x. is_member x set.now) order.now) }
 {
-    let mut items = Vec::new(alloc);
+    let mut items = Vec::with_capacity(alloc, order.len())?;
     for x in order {
         if set.contains(*x) {
             items.push(*x)?;
@@ -24,7 +24,7 @@ pub fn items_in(alloc: Global, order: &[u32], set: &ElemSet) -> Result<Vec<u32>,
 fn items_outside(alloc: Global, order: &[u32], set: &ElemSet) -> Result<Vec<u32>, AllocError>
     ensures { IfOk result (λ v. v.items ≡ filter (λ x. not (is_member x set.now)) order.now) }
 {
-    let mut items = Vec::new(alloc);
+    let mut items = Vec::with_capacity(alloc, order.len())?;
     for x in order {
         if !set.contains(*x) {
             items.push(*x)?;

@@ -328,7 +328,7 @@ impl ElemSet {
         ensures members { IfOk result (λ s. s ≡ all_below n) }
         ensures set { IfOk result (λ s. IsSet n s) }
     {
-        let mut items = Vec::new(alloc);
+        let mut items = Vec::with_capacity(alloc, n as usize)?;
         for x in 0..n {
             items.push(x)?;
         }

@@ -56,7 +56,7 @@ pub(crate) fn merged(alloc: Global, a: &[u32], b: &[u32]) -> Result<Vec<u32>, Al
     requires b_rises { IsRising b.now }
     ensures { IfOk result (λ v. v.items ≡ union a.now b.now) }
 {
-    let mut all = Vec::new(alloc);
+    let mut all = Vec::with_capacity(alloc, a.len().saturating_add(b.len()))?;
     let mut i = 0;
     let mut j = 0;
     while i < a.len() && j < b.len() {

@@ -78,7 +78,7 @@ impl MoveSearch {
     {
         let mut unreached = among.copy(alloc)?;
         unreached.remove(start);
-        let mut queue = Vec::new(alloc);
+        let mut queue = Vec::with_capacity(alloc, n as usize)?;
         queue.push(start)?;
         let told = Vec::new(alloc);
         Ok(MoveSearch {

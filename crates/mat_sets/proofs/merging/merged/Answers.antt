@@ -9,7 +9,7 @@ pub loop-i-init : goal.loop-i-init
 loop-i-init c = record {
   inside = omega arith;
   others_inside = omega arith;
-  so_far = IsMerging-start c.args.a.now c.args.b.now c.new-all.result.items c.new-all.ensures.items;
+  so_far = IsMerging-start c.args.a.now c.args.b.now c.in_ok-all.all.items c.in_ok-all.ensures.items;
 }
 
 pub loop-i-preserved-then-x-y-2 : goal.loop-i-preserved-then-x-y-2

@@ -12,6 +12,6 @@ returns c = λ exchanges. record {
   here = c.requires.some;
   so_far = search_begins c.args.n c.args.count exchanges c.args.among.now _ _ _ _ c.args.start c.requires.below c.requires.among
       (c.remove.ensures ∙ ap (λ s. without_one s c.args.start) c.in_ok-unreached.ensures)
-      (c.in_ok-push.ensures.items ∙ ap (λ l. l ++ c.args.start ∷ []) c.new-queue.ensures.items) c.new.ensures c.new-told.ensures.items;
+      (c.in_ok-push.ensures.items ∙ ap (λ l. l ++ c.args.start ∷ []) c.in_ok-queue.ensures.items) c.new.ensures c.new-told.ensures.items;
   enters = λ e. absurd (false≢true e);
 }
