@@ -21,7 +21,8 @@ use mat_laws::Matroid;
 use mat_minors::{DualKept, first_taken, items_in, members_first, others_first};
 use mat_sets::{BitSet, ElemSet, SetList};
 use mat_union::{
-    Growth, Move, PlaceSearch, first_parts, is_entered_or_left, mark_spanned, members_of, moved_part, put_kept, stands,
+    Growth, Move, PlaceSearch, first_parts, is_entered_or_left, mark_spanned, members_of,
+    moved_part, put_kept, stands,
 };
 use std::alloc::{AllocError, Global};
 

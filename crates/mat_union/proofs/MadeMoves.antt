@@ -1,5 +1,5 @@
 -- Moves made part by part: a part that one of them enters or leaves becomes the one after all of them, and another is the same after them.
-use Rattle.std.proofs.Common.{◌≡◌, ℕ, ◌+◌, ◌<◌, ◌≤◌, Bool, true, false, not, ◌||◌, ◌&&◌, eqb, List, [], length, get_or, map, set, inl, inr, refl, sym, ap, ◌∙◌, arith}
+use Rattle.std.proofs.Common.{◌≡◌, ℕ, ◌+◌, ◌<◌, ◌≤◌, Bool, true, false, not, ◌||◌, ◌&&◌, eqb, List, [], length, get_or, set, inl, inr, refl, sym, ap, ◌∙◌, subst, arith}
 use Rattle.std.proofs.Math.Seq.{ext_get_or}
 use Rattle.std.proofs.lemmas.Bool.{both_ways, cases_eq, eq-eqb, false_from_ne_true, or_left, or_right}
 use Rattle.std.proofs.lemmas.List.{get_or-set_other, get_or-set_same, length-map, length-set}
@@ -76,6 +76,18 @@ module _ (parts : List (List ℕ)) (moves : List Move) where
     left = λ j h. get_or-set_other now i j part [] (λ w. let no : ⊥ = omega arith in no) ∙ all.left j (omega arith);
   }
 
+  -- the part that is made for place i of what stands there
+  pub made_part : (i : ℕ) (now : List (List ℕ)) (part next : List ℕ) → AreMadeSo i now → part ≡ part_at now i → next ≡ union (entering moves i) (minus part (elements moves))
+      → next ≡ moved parts moves i
+  made_part i now part next all e is = is ∙ ap (λ p. union (entering moves i) (minus p (elements moves))) (e ∙ all.left i (omega arith))
+
+  -- what stands at place i is the same after the moves, where none enters or leaves it
+  pub part_stays : (i : ℕ) (now : List (List ℕ)) (part : List ℕ) → AreMadeSo i now → part ≡ part_at now i → IsRising (part_at now i) → is_entered_or_left moves i part ≡ false
+      → moved parts moves i ≡ part_at parts i
+  part_stays i now part all e r none =
+      let same : part_at now i ≡ part_at parts i = all.left i (omega arith) in
+      other_part_stays parts moves i (subst IsRising same r) (ap (is_entered_or_left moves i) (sym (e ∙ same)) ∙ none)
+
   pub made_end : (i : ℕ) (now : List (List ℕ)) → length parts ≤ i → AreMadeSo i now → now ≡ all_moved parts moves
   made_end i now l all = ext_get_or [] now (all_moved parts moves) (all.long ∙ sym (length-all_moved parts moves)) (λ j h.
       (let b : j < length parts = (let n = all.long in omega arith) in
@@ -84,6 +96,14 @@ module _ (parts : List (List ℕ)) (moves : List Move) where
 module _ {M K : Type 0} (keeps : M → List ℕ → K → Type 0) (matroids : List M) (parts new : List (List ℕ)) where
   pub anew_none : (kept : List K) → AreKept keeps matroids parts kept → AreKeptAnew keeps matroids parts new 0 kept
   anew_none kept all = record { long = all.one_each; anew = λ j m k l. absurd (omega arith); left = λ j m k l h. all.each j m k h }
+
+  -- what is kept of part i so far
+  pub anew_at : (i : ℕ) (kept : List K) (m : M) (part : List ℕ) (k : K) → AreKeptAnew keeps matroids parts new i kept → i < length matroids → m ≡ get_or matroids i m → part ≡ part_at parts i
+      → k ≡ get_or kept i k → keeps m part k
+  anew_at i kept m part k all l e p q = three m (get_or matroids i m) part (part_at parts i) k (get_or kept i k) e p q (all.left i m k (omega arith) l)
+    where
+      three : (m m' : M) (p p' : List ℕ) (k k' : K) → m ≡ m' → p ≡ p' → k ≡ k' → keeps m' p' k' → keeps m p k
+      three m m' p p' k k' a b c h = rw (a, b, c) h
 
   pub anew_end : (i : ℕ) (kept : List K) → length matroids ≤ i → AreKeptAnew keeps matroids parts new i kept → AreKept keeps matroids new kept
   anew_end i kept l all = record { one_each = all.long; each = λ j m k h. all.anew j m k (omega arith) h }

@@ -1,5 +1,5 @@
 -- Moves along a path bring their first element into the parts, and no element moves that the search did not reach.
-use Rattle.std.proofs.Common.{Global, Vec, None, Some, Option, ◌≡◌, ℕ, ◌<◌, Bool, true, false, not, ◌||◌, ◌&&◌, eqb, List, [], length, map, refl, sym, ap, ◌∙◌, subst, arith}
+use Rattle.std.proofs.Common.{Global, Vec, None, Some, Option, ◌≡◌, ℕ, ◌<◌, Bool, true, false, not, ◌||◌, ◌&&◌, eqb, List, [], length, refl, sym, ap, ◌∙◌, subst, arith}
 use Rattle.std.specs.Prelude.{MatchOption}
 use Rattle.std.proofs.Math.Seq.{ext_get_or}
 use Rattle.std.proofs.lemmas.Bool.{both_ways, false_from_ne_true, false≢true}
@@ -32,7 +32,7 @@ moved_list tests parts moves new are m =
     let count = length-all_moved parts moves in
     let a = m.are.one_each in
     let b = are.one_each in
-    ext_get_or [] _ new (omega arith) (λ i l. all_moved_at parts moves i (omega arith) ∙ sym (m.each i (omega arith)))
+    ext_get_or [] (all_moved parts moves) new (omega arith) (λ i l. all_moved_at parts moves i (omega arith) ∙ sym (m.each i (omega arith)))
 
 module _ {n : ℕ} {tests : List (List ℕ → Bool)} {parts : List (List ℕ)} {among : List ℕ} {start : ℕ} {s : MoveSearch} (are : AreParts tests parts)
     (reaching : IsReaching n (length parts) (exchanges_with tests parts) among start s) (moves : List Move) (found : AreFoundMoves tests parts s moves) where
@@ -91,7 +91,7 @@ module _ {n : ℕ} {tests : List (List ℕ → Bool)} {parts : List (List ℕ)} 
 
 -- ---- the moves that a search found
 
-pub search_places : {n : ℕ} {tests : List (List ℕ → Bool)} {parts : List (List ℕ)} {among : List ℕ} {x : ℕ} {found : PlaceSearch} {moves : Vec Move Global} → found ≡ Placed moves
+pub search_places : (n : ℕ) (tests : List (List ℕ → Bool)) (parts : List (List ℕ)) (among : List ℕ) (x : ℕ) {found : PlaceSearch} {moves : Vec Move Global} → found ≡ Placed moves
     → IsPlaceSearch n tests parts among x found → (items : List Move) → items ≡ moves.items → ArePlaced tests parts among x (all_moved parts items)
-search_places {n} {tests} {parts} {among} {x} is told items same =
+search_places n tests parts among x is told items same =
     subst (λ m. ArePlaced tests parts among x (all_moved parts m)) (sym same) (subst (IsPlaceSearch n tests parts among x) is told)

@@ -6,7 +6,7 @@ use Rattle.std.proofs.lemmas.Result.{IfOk-weaker}
 use Rattle.std.proofs.lemmas.Bool.{or_right}
 use Rattle.std.proofs.lemmas.List.{length-map}
 use Rattle.mat_sets.specs.Families.{family_union}
-use Rattle.mat_sets.specs.Sets.{is_member, AllBelow, AreDistinct, IsRising, IsSubset, minus, all_below, union}
+use Rattle.mat_sets.specs.Sets.{is_member, AllBelow, AreDistinct, IsSubset, minus, all_below, union}
 use Rattle.mat_sets.proofs.DistinctLists.{AreDistinct-filter}
 use Rattle.mat_sets.proofs.Ground.{AllBelow-filter, AreDistinct-rising, IsSet-minus, IsSet-all_below}
 use Rattle.mat_sets.proofs.Sums.{AllBelow-at}
@@ -25,15 +25,15 @@ use Rattle.mat_union.proofs.FillingParts.{start_growing}
 use Rattle.mat_union.proofs.GrowingParts.{placed_grow}
 use Rattle.mat_union.proofs.GrowingSteps.{spanned_grown}
 use Rattle.mat_union.proofs.GrowthLoops.{is_spanned}
-use Rattle.mat_union.proofs.MadeMoves.{anew_end, anew_none, made_end, made_none, made_same, made_set, other_part_stays, AreMadeSo}
+use Rattle.mat_union.proofs.MadeMoves.{anew_at, anew_end, anew_none, made_end, made_none, made_part, made_same, made_set, part_stays, AreMadeSo}
 use Rattle.mat_union.proofs.MovedSets.{all_moved_at}
 use Rattle.mat_union.proofs.PlacedElements.{search_places}
 use Rattle.mat_union.proofs.PartsOfSets.{rest_below, taken_are, taken_inside, taken_more, taken_none}
-use Rattle.mat_union.proofs.SoundMatroids.{anew_same, anew_set, kept_more, sound_at, test_is, AreKeptAnew, AreKeptSo}
+use Rattle.mat_union.proofs.SoundMatroids.{anew_same, anew_set, kept_more, part_passes, parts_count, sound_at, test_is, AreKeptAnew, AreKeptSo}
 use Rattle.mat_union.proofs.StuckParts.{next_below}
 use Rattle.mat_union.proofs.UnionRuns.{spanned_turn, first_run_are, first_run_holds, placed_turn, running_first, running_more, turn_stands}
-use Rattle.mat_union.specs.GrownParts.{AreGrowing}
-use Rattle.mat_union.specs.Moves.{all_moved, elements, entering, is_entered_or_left, moved}
+use Rattle.mat_union.specs.GrownParts.{AreGrowing, AreKept}
+use Rattle.mat_union.specs.Moves.{all_moved}
 use Rattle.mat_union.specs.PartListLaws.{parts_pass}
 use Rattle.mat_union.specs.Placings.{ArePlaced, IsPlaceSearch, IsStuckSearch}
 use Rattle.mat_union.specs.Unions.{part_at, AreParts}
@@ -48,7 +48,7 @@ use Rattle.mat_any.specs.Trees.{dual, element_count, is_independent}
 use Rattle.mat_any.specs.TreeLaws.{tree_laws}
 use Rattle.mat_any.specs.Views.{tree_of}
 use Rattle.mat_any.proofs.runs.+running.Goals as goal
-use Rattle.mat_any.proofs.runs.+running.Goals.{make_moves-then-is_entered_or_left+in_ok-one, make_moves-else-is_entered_or_left, take_turn-then-stands-via-then-stands, take_turn-then-stands-via-else-stands+then-not-contains}
+use Rattle.mat_any.proofs.runs.+running.Goals.{make_moves-then-is_entered_or_left+in_ok-next+in_ok-one, make_moves-else-is_entered_or_left, take_turn-then-stands-via-then-stands, take_turn-then-stands-via-else-stands+then-not-contains}
 
 pub dual_run-run-requires : goal.dual_run-run-requires
 dual_run-run-requires t c =
@@ -432,18 +432,20 @@ take_turn-returns-then-stands-clause-step t c =
           (is_spanned c.requires.growing x c.requires.below (sym w.contains.ensures ∙ w.if-not-contains.true))
     ]
 
-pub take_turn-make_moves-requires-clause-after : goal.take_turn-make_moves-requires-clause-after
-take_turn-make_moves-requires-clause-after t c =
-    let placed = search_places c.in-Placed.is c.in_ok-moves.ensures c.deref.result.now c.deref.ensures.value in
-    placed.are
+pub take_turn-make_moves-requires : goal.take_turn-make_moves-requires
+take_turn-make_moves-requires t c =
+    let ms = c.args.matroids.now in
+    let old = c.args.growth.now in
+    let placed = search_places (size_in ms) (map test_in ms) old.parts old.unspanned c.args.x c.in-Placed.is c.in_ok-moves.ensures c.deref.result.now c.deref.ensures.value in
+    (search rules, (c.requires.joined, (c.requires.growing.are, (placed.are, c.requires.kept))))
 
 pub take_turn-returns-in_ok-make_moves-in-Placed-clause-growing : goal.take_turn-returns-in_ok-make_moves-in-Placed-clause-growing
 take_turn-returns-in_ok-make_moves-in-Placed-clause-growing t c =
     let ms = c.args.matroids.now in
     let old = c.args.growth.now in
     let placed : ArePlaced (map test_in ms) old.parts old.unspanned c.args.x c.make_moves.new.parts =
-    subst (ArePlaced (map test_in ms) old.parts old.unspanned c.args.x) (sym c.in_ok-make_moves.ensures.parts)
-    (search_places c.in-Placed.is c.in_ok-moves.ensures c.deref.result.now c.deref.ensures.value) in
+    subst (ArePlaced (map test_in ms) old.parts old.unspanned c.args.x) (sym c.in_ok-make_moves-in-Placed.ensures.parts)
+    (search_places (size_in ms) (map test_in ms) old.parts old.unspanned c.args.x c.in-Placed.is c.in_ok-moves.ensures c.deref.result.now c.deref.ensures.value) in
     placed_grow (each_lawful ms c.requires.joined) c.requires.growing placed (sym c.contains.ensures ∙ c.if-not-contains.false)
 
 pub take_turn-returns-in_ok-make_moves-in-Placed-clause-step : goal.take_turn-returns-in_ok-make_moves-in-Placed-clause-step
@@ -451,8 +453,8 @@ take_turn-returns-in_ok-make_moves-in-Placed-clause-step t c =
     let ms = c.args.matroids.now in
     let old = c.args.growth.now in
     let placed : ArePlaced (map test_in ms) old.parts old.unspanned c.args.x c.make_moves.new.parts =
-    subst (ArePlaced (map test_in ms) old.parts old.unspanned c.args.x) (sym c.in_ok-make_moves.ensures.parts)
-    (search_places c.in-Placed.is c.in_ok-moves.ensures c.deref.result.now c.deref.ensures.value) in
+    subst (ArePlaced (map test_in ms) old.parts old.unspanned c.args.x) (sym c.in_ok-make_moves-in-Placed.ensures.parts)
+    (search_places (size_in ms) (map test_in ms) old.parts old.unspanned c.args.x c.in-Placed.is c.in_ok-moves.ensures c.deref.result.now c.deref.ensures.value) in
     placed_turn (each_lawful ms c.requires.joined) c.args.x (sym c.stands.ensures ∙ c.if-stands.false) placed
 
 pub take_turn-returns-in_ok-mark_spanned-in-Stuck-clause-growing : goal.take_turn-returns-in_ok-mark_spanned-in-Stuck-clause-growing
@@ -483,6 +485,45 @@ make_moves-loop-i-init t c =
     let moves = c.args.moves.now in
     record { parts = made_none parts moves; kept = anew_none KeepsOne ms parts (all_moved parts moves) c.args.kept.now.items c.requires.kept }
 
+pub make_moves-get-part-requires : goal.make_moves-get-part-requires
+make_moves-get-part-requires t c =
+    let e = parts_count test_in c.args.matroids.now c.args.parts.now c.requires.before in
+    let n = c.loop-i.invariant.parts.long in
+    omega (arith, c.loop-i-test.true)
+
+pub make_moves-keep_next-requires : goal.make_moves-keep_next-requires
+make_moves-keep_next-requires t c =
+    let ms = c.args.matroids.now in
+    let parts = c.args.parts.now in
+    let moves = c.args.moves.now in
+    let new = all_moved parts moves in
+    let i = c.loop-i.i in
+    let m = c.index-matroids-i.result in
+    let part = c.get-part.result.now in
+    let within = c.loop-i-test.true in
+    let so = c.loop-i.invariant.parts in
+    let l : i < length parts = (let e = parts_count test_in ms parts c.requires.before in omega (arith, within)) in
+    let old = c.get-part.ensures.item ∙ so.left i (omega arith) in
+    let next = made_part parts moves i c.loop-i.parts part c.in_ok-next.next so c.get-part.ensures.item c.in_ok-next.ensures.set ∙ sym (all_moved_at parts moves i l) in (
+      search (rules, the_lemmas),
+      (
+        (sound_at elements_in IsSoundOne (size_in ms) ms c.requires.joined.each i m within c.index-matroids-i.is).0,
+        (
+          part_passes test_in ms parts c.requires.before i m part within c.index-matroids-i.is old,
+          (
+            anew_at KeepsOne ms parts new i c.loop-i.kept.items m part c.index.result.now c.loop-i.invariant.kept within c.index-matroids-i.is old c.index.ensures,
+            part_passes test_in ms new c.requires.after i m c.in_ok-next.next within c.index-matroids-i.is next,
+          ),
+        ),
+      ),
+    )
+
+pub make_moves-replace-requires : goal.make_moves-replace-requires
+make_moves-replace-requires t c =
+    let e = parts_count test_in c.args.matroids.now c.args.parts.now c.requires.before in
+    let n = c.loop-i.invariant.parts.long in
+    omega (arith, c.loop-i-test.true)
+
 pub make_moves-loop-i-preserved : goal.make_moves-loop-i-preserved
 make_moves-loop-i-preserved t c =
     let ms = c.args.matroids.now in
@@ -492,20 +533,34 @@ make_moves-loop-i-preserved t c =
     let i = c.loop-i.i in
     let now = c.loop-i.parts in
     let so = c.loop-i.invariant.parts in
-    let old : part_at now i ≡ part_at parts i = so.left i (omega arith) in
+    let l : i < length parts = (let e = parts_count test_in ms parts c.requires.before in omega (arith, c.loop-i-test.true)) in
+    let at = all_moved_at parts moves i l in
     elim c.if-is_entered_or_left.branch [
-      | make_moves-then-is_entered_or_left+in_ok-one w ↦ rw (w.kept-is, w.parts-is) (record {
-          parts = subst (AreMadeSo parts moves (i + 1)) (sym w.replace.ensures.items) (made_set parts moves i now w.in_ok-next.next so (omega (arith, c.loop-i-test.true))
-              (w.in_ok-next.ensures.set ∙ ap (λ p. union (entering moves i) (minus p (elements moves))) (c.get.ensures.item ∙ old)));
-          kept = subst (AreKeptAnew KeepsOne ms parts new (i + 1)) (sym w.put_kept.ensures)
-              (anew_set KeepsOne ms parts new i c.loop-i.kept.items w.index-matroids-i.result w.in_ok-next.next w.in_ok-one.one c.loop-i.invariant.kept c.loop-i-test.true w.index-matroids-i.is
-              (w.in_ok-next.ensures.set ∙ ap (λ p. union (entering moves i) (minus p (elements moves))) (c.get.ensures.item ∙ old) ∙ sym (all_moved_at parts moves i (omega arith))) w.in_ok-one.ensures);
-        })
+      | make_moves-then-is_entered_or_left+in_ok-next+in_ok-one w ↦
+          (let next = made_part parts moves i now c.get-part.result.now w.in_ok-next.next so c.get-part.ensures.item w.in_ok-next.ensures.set in
+          record {
+            parts = subst (AreMadeSo parts moves (i + 1)) (sym (w.parts-is ∙ w.replace.ensures.items)) (made_set parts moves i now w.in_ok-next.next so l next);
+            kept = rw w.kept-is (subst (AreKeptAnew KeepsOne ms parts new (i + 1)) (sym w.put_kept.ensures)
+                (anew_set KeepsOne ms parts new i c.loop-i.kept.items w.index-matroids-i.result w.in_ok-next.next w.in_ok-one.one c.loop-i.invariant.kept c.loop-i-test.true w.index-matroids-i.is (next ∙ sym at) w.in_ok-one.ensures));
+          })
       | make_moves-else-is_entered_or_left w ↦
-          (let stays : moved parts moves i ≡ part_at parts i = other_part_stays parts moves i (subst IsRising old c.get.ensures.rises)
-          (ap (is_entered_or_left moves i) (sym (c.get.ensures.item ∙ old)) ∙ sym c.is_entered_or_left.ensures ∙ w.if-is_entered_or_left.false) in
-          rw (w.kept-is, w.parts-is) (record {
-          parts = made_same parts moves i now so stays;
-          kept = anew_same KeepsOne ms parts new i c.loop-i.kept.items (part_at new i) (part_at parts i) c.loop-i.invariant.kept refl refl (all_moved_at parts moves i (omega arith) ∙ stays);
-        }))
+          (let stays = part_stays parts moves i now c.get-part.result.now so c.get-part.ensures.item c.get-part.ensures.rises (sym c.is_entered_or_left.ensures ∙ w.if-is_entered_or_left.false) in
+          record {
+            parts = subst (AreMadeSo parts moves (i + 1)) (sym w.parts-is) (made_same parts moves i now so stays);
+            kept = rw w.kept-is (anew_same KeepsOne ms parts new i c.loop-i.kept.items (part_at new i) (part_at parts i) c.loop-i.invariant.kept refl refl (at ∙ stays));
+          })
     ]
+
+pub make_moves-returns-clause-parts : goal.make_moves-returns-clause-parts
+make_moves-returns-clause-parts t c =
+    let e = parts_count test_in c.args.matroids.now c.args.parts.now c.requires.before in
+    made_end c.args.parts.now c.args.moves.now c.loop-i.i c.loop-i.parts (omega (arith, c.loop-i-test.false)) c.loop-i.invariant.parts
+
+pub make_moves-returns-clause-kept : goal.make_moves-returns-clause-kept
+make_moves-returns-clause-kept t c =
+    let ms = c.args.matroids.now in
+    let parts = c.args.parts.now in
+    let moves = c.args.moves.now in
+    let e = parts_count test_in ms parts c.requires.before in
+    subst (λ now. AreKept KeepsOne ms now c.loop-i.kept.items) (sym (made_end parts moves c.loop-i.i c.loop-i.parts (omega (arith, c.loop-i-test.false)) c.loop-i.invariant.parts))
+    (anew_end KeepsOne ms parts (all_moved parts moves) c.loop-i.i c.loop-i.kept.items (omega (arith, c.loop-i-test.false)) c.loop-i.invariant.kept)

@@ -6,4 +6,4 @@ use Rattle.mat_union.proofs.moved_sets.is_entered_or_left.Given as goal
 
 -- none of the first moves does
 abbrev pub invariant-loop-i : goal.invariant-loop-i
-invariant-loop-i l = some_below l.i (λ i. place_at l.moves i == l.q || is_member (element_at l.moves i) l.part) ≡ false
+invariant-loop-i l = some_below l.i (λ k. place_at l.moves k == l.q || is_member (element_at l.moves k) l.part) ≡ false
