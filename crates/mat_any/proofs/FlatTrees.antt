@@ -16,10 +16,6 @@ pub map_append : {A B : Type 0} (f : A → B) (xs ys : List A) → map f (xs ++ 
 map_append f [] ys = refl
 map_append f (x ∷ xs) ys = ap (λ l. f x ∷ l) (map_append f xs ys)
 
--- a sound matroid on n elements
-IsOn : ℕ → Tree → Type 0
-IsOn n t = IsSound t × (element_count t ≡ n)
-
 mutual
   all_flat : (n : ℕ) (ts : Trees) → AreSoundOn n ts → All (λ t. IsSound t × (element_count t ≡ n)) (flat_trees ts)
   all_flat n no_trees h = All-nil (λ t. IsSound t × (element_count t ≡ n))

@@ -133,8 +133,3 @@ alike_test n us vs a X = elim (cases_Bool (is_set n X)) [
 -- so the two unions have one test
 pub alike_tests : (n : ℕ) (us vs : List (List ℕ → Bool)) → DivideAlike n us vs → union_test n us ≡ union_test n vs
 alike_tests n us vs a = fun_ext (alike_test n us vs a)
-
--- a union that stands anywhere in a list
-pub union_of_unions : (n : ℕ) (us vs ts : List (List ℕ → Bool)) (X : List ℕ) → union_test n (us ++ union_test n vs ∷ ts) X ≡ union_test n (us ++ (vs ++ ts)) X
-union_of_unions n us vs ts = alike_test n (us ++ union_test n vs ∷ ts) (us ++ (vs ++ ts))
-    (alike_append us us (union_test n vs ∷ ts) (vs ++ ts) (alike_same n us) (alike_nested n vs ts))

@@ -1,13 +1,11 @@
--- A word is text, and a line that is not empty has its parts as words.
-use Rattle.std.proofs.Common.{◌≡◌, ℕ, ◌<◌, true, List, [], ◌∷◌, length, leb, ◌≤◌, refl, arith}
+-- A word is text.
+use Rattle.std.proofs.Common.{◌≡◌, ℕ, true, List, [], ◌∷◌, leb, ◌≤◌, arith}
 use Rattle.std.specs.Prelude.{IsUtf8, IsAscii}
 use Rattle.std.specs.List.{list_all}
 use Rattle.std.proofs.lemmas.Bool.{and_parts, leb-true}
 use Rattle.std.proofs.lemmas.Str.{IsUtf8-from_ascii}
 use Rattle.std.proofs.lemmas.Str.Ascii.{IsAscii-nil, IsAscii-cons}
-use Rattle.mat_words.specs.Words.{is_letter, is_word, words_of, parts_of}
-
--- ---- the words of a line
+use Rattle.mat_words.specs.Words.{is_letter, is_word}
 
 letters_ascii : (bs : List ℕ) → list_all is_letter bs ≡ true → IsAscii bs
 letters_ascii [] h = IsAscii-nil
@@ -21,8 +19,3 @@ letters_ascii (b ∷ bs) h =
 pub word_utf8 : (word : List ℕ) → is_word word ≡ true → IsUtf8 word
 word_utf8 [] h = absurd cc
 word_utf8 (b ∷ bs) h = IsUtf8-from_ascii (b ∷ bs) (letters_ascii (b ∷ bs) h)
-
--- the words of a line that is not empty are its parts
-pub parts_are_words : (line : List ℕ) → 0 < length line → words_of line ≡ parts_of line
-parts_are_words [] h = absurd (omega arith)
-parts_are_words (b ∷ bs) h = refl

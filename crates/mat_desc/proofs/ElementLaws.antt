@@ -1,10 +1,10 @@
 -- Lists of elements: what is read is spelled so, and what is spelled so is read.
-use Rattle.std.proofs.Common.{◌≡◌, ℕ, Bool, true, false, ◌&&◌, ◌||◌, eqb, ltb, List, [], ◌∷◌}
+use Rattle.std.proofs.Common.{◌≡◌, ℕ, Bool, true, false, ◌||◌, eqb, List, [], ◌∷◌}
 use Rattle.std.proofs.Common.{Ok, refl, sym, ap, subst, ◌∙◌, inl, inr}
-use Rattle.std.proofs.lemmas.Bool.{and_right, cases_Bool, eq-eqb, eqb-true, lt-ltb, or_parts}
-use Rattle.mat_sets.specs.Sets.{is_member, IsRising, AllBelow, IsSet, AreDistinct, all_below, intersection, with_one}
-use Rattle.mat_sets.proofs.Members.{is_member-intersection, is_member-with_one, IsRising-intersection, IsRising-with_one, IsRising-nil, same_members}
-use Rattle.mat_sets.proofs.Ground.{AllBelow-member, AllBelow-from_members, IsRising-all_below, IsSet-from, is_member-all_below}
+use Rattle.std.proofs.lemmas.Bool.{cases_Bool, eq-eqb, eqb-true, or_parts}
+use Rattle.mat_sets.specs.Sets.{is_member, IsRising, AllBelow, IsSet, AreDistinct, with_one}
+use Rattle.mat_sets.proofs.Members.{is_member-with_one, IsRising-with_one, IsRising-nil, same_members}
+use Rattle.mat_sets.proofs.Ground.{AllBelow-member, AllBelow-from_members, IsSet-from}
 use Rattle.mat_sets.proofs.Truths.{or_none}
 use Rattle.mat_desc.specs.declared.refusal.DescKind.TheVariants.{Repeated}
 use Rattle.mat_desc.specs.Notations.{Naming, word_for, words_for, IsNaming}
@@ -165,17 +165,6 @@ set_again naming n named line taken set xs in_range lists fresh =
     let below = listed_below n xs set in_range lists in
     elements_again naming n named line taken [] xs lists.distinct below (λ x h. fresh x (sym (lists.members x) ∙ h)) ∙ rw
     (made-listed n xs set in_range lists) refl
-
--- what was read is what it has of all elements
-pub all-IsSet : (n : ℕ) (set : List ℕ) → IsSet n set → intersection (all_below n) set ≡ set
-all-IsSet n set is = same_members (intersection (all_below n) set) set (IsRising-intersection (all_below n) set (IsRising-all_below n)) is.rising
-    (λ k. is_member-intersection k (all_below n) set ∙ ap (λ b. b && is_member k set) (is_member-all_below k n) ∙ inside k)
-  where
-    inside : (k : ℕ) → (ltb k n && is_member k set) ≡ is_member k set
-    inside k = elim (cases_Bool (is_member k set)) [
-      | inl member ↦ rw (member, lt-ltb k n (AllBelow-member n set k is.below member)) refl
-      | inr none ↦ and_right (ltb k n) (is_member k set) none ∙ sym none
-    ]
 
 -- what was read is a set of elements
 pub IsSet-elements : (naming : Naming) (n : ℕ) → IsNaming n naming → (w : WordsLeft) (set left : List ℕ)

@@ -5,7 +5,7 @@ use Rattle.std.proofs.lemmas.Bool.{and_from}
 use Rattle.std.proofs.lemmas.Grind.{flat_map-append}
 use Rattle.std.proofs.lemmas.List.Folds.{list_all-append}
 use Rattle.mat_drawing.specs.Escaping.{entity, escaped}
-use Rattle.mat_drawing.specs.Markup.{nothing, words, empty_element, element, beside, is_attribute, is_well_formed, opening, spelled, spelled_attribute, AddsAttributes, AddsMarkup, IsDocument, IsElement, IsMarkup}
+use Rattle.mat_drawing.specs.Markup.{nothing, words, empty_element, element, beside, is_attribute, is_well_formed, opening, spelled, spelled_attribute, AddsAttributes, AddsMarkup, IsElement, IsMarkup}
 use Rattle.mat_drawing.specs.Names.{is_name, printed}
 use Rattle.mat_text.specs.Texts.{is_text_byte}
 
@@ -55,9 +55,6 @@ attribute_added old new name value h e =
       told = e ∙ simp append_assoc;
     }
 
-pub none_added : (old : List ℕ) → AddsAttributes old old
-none_added old = record { attributes = []; well_formed = refl; told = simp append-nil }
-
 pub more_added : (first second third : List ℕ) → AddsAttributes first second → AddsAttributes second third → AddsAttributes first third
 more_added first second third f g = record {
   attributes = f.attributes ++ g.attributes;
@@ -92,9 +89,6 @@ element_spelled name tag inside text h a m e = record {
 
 pub element_markup : (name text : List ℕ) → IsElement name text → IsMarkup text
 element_markup name text e = record { tree = element name e.attributes e.inside; well_formed = e.well_formed; told = e.told }
-
-pub document_markup : (name text : List ℕ) → IsDocument name text → IsMarkup text
-document_markup name text d = subst IsMarkup (sym d.told) (beside_markup d.root (10 ∷ []) (element_markup name d.root d.is_element) line_feed_markup)
 
 pub line_added : (old markup middle new : List ℕ) → IsMarkup markup → middle ≡ old ++ markup → new ≡ middle ++ 10 ∷ [] → AddsMarkup old new
 line_added old markup middle new m e f = record {

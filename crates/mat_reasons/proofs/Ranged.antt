@@ -1,5 +1,5 @@
 -- The rungs of a certificate in range: their shares may be summed, and their sets are sets of elements.
-use Rattle.std.proofs.Common.{ℕ, ◌≤◌, List, length, get_or, subst, sym, arith}
+use Rattle.std.proofs.Common.{ℕ, ◌≤◌, List, get_or, subst, sym, arith}
 use Rattle.std.specs.Prelude.{All}
 use Rattle.std.proofs.lemmas.Option.{slice_get-get_or}
 use Rattle.mat_sets.specs.Limits.{most_elements}

@@ -2,7 +2,7 @@
 
 ghost use Rattle.std.specs.Prelude.{◌≤◌, ◌∷◌, [], length, map};
 ghost use Rattle.mat_sets.specs.Limits.{most_elements};
-ghost use Rattle.mat_any.specs.{Trees.{IsSound}, Views.{tree_of}};
+ghost use Rattle.mat_any.specs.{Views.{tree_of}};
 ghost use Rattle.mat_cert.specs.{Certificates.{IsRanged}, Views.{certificate_of}};
 ghost use Rattle.mat_problem.specs.{Instances.{pair, list}, Soundness.{IsSoundInstance}};
 ghost use Rattle.mat_right.specs.Right.{IsRight};

@@ -12,7 +12,7 @@ use crate::read::items::{coloured_edge_lines, ends_lines, weighted_lines};
 use crate::read::keywords::Version;
 use crate::read::lines::{ended, weights_line};
 use crate::read::matroids::{next_matroids, two_matroids};
-use crate::read::notation::{Notation, header_root, read_notation, root_line};
+use crate::read::notation::{header_root, read_notation, root_line};
 use mat_problem::Problem;
 use mat_words::{LineCursor, WordCursor, next_size};
 use std::alloc::Global;

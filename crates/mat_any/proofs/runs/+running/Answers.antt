@@ -32,7 +32,7 @@ use Rattle.mat_union.proofs.PartsOfSets.{rest_below, taken_are, taken_inside, ta
 use Rattle.mat_union.proofs.SoundMatroids.{anew_same, anew_set, kept_more, part_passes, parts_count, sound_at, test_is, AreKeptAnew, AreKeptSo}
 use Rattle.mat_union.proofs.StuckParts.{next_below}
 use Rattle.mat_union.proofs.UnionRuns.{spanned_turn, first_run_are, first_run_holds, placed_turn, running_first, running_more, turn_stands}
-use Rattle.mat_union.specs.GrownParts.{AreGrowing, AreKept}
+use Rattle.mat_union.specs.GrownParts.{AreKept}
 use Rattle.mat_union.specs.Moves.{all_moved}
 use Rattle.mat_union.specs.PartListLaws.{parts_pass}
 use Rattle.mat_union.specs.Placings.{ArePlaced, IsPlaceSearch, IsStuckSearch}
