@@ -8,7 +8,8 @@ abbrev pub is_next : (ℕ → ℕ → Bool) → List ℕ → ℕ → Bool
 is_next arc [] v = false
 is_next arc (u ∷ us) v = arc u v || is_next arc us v
 
--- the unreached vertices that pass are found, and u comes before each of them; `rest` is unreached then
+-- the unreached vertices that pass are found: `more` has them beside those of `found`, `rest` is what stays unreached, and in `after`, the table of the
+-- vertex before each vertex, u stands before each of them
 pub record AreTaken (test : ℕ → Bool) (u : ℕ) (unreached found before rest more after : List ℕ) : Type 0 where
   pub rest_is : (v : ℕ) → is_member v rest ≡ (is_member v unreached && not (test v))
   pub more_is : (v : ℕ) → is_member v more ≡ (is_member v found || (is_member v unreached && test v))

@@ -60,7 +60,7 @@ unfoldable pub union : List ℕ → List ℕ → List ℕ
 union [] b = b
 union (x ∷ xs) b = rising_insert x (union xs b)
 
--- as many numbers from `lo` on, one after the other
+-- the n numbers from `lo` on, one after the other
 abbrev pub counted_from : ℕ → ℕ → List ℕ
 counted_from lo zero = []
 counted_from lo (suc n) = lo ∷ counted_from (suc lo) n
