@@ -6,10 +6,10 @@ use Rattle.mat_sets.specs.Weights.{◌⊖◌, ◌≼◌}
 use Rattle.mat_sets.specs.declared.weight.Weight.{Weight}
 use Rattle.mat_laws.specs.TightPaths.{Exchanges, is_heaviest_addable}
 
--- d is a slack of the set R: by how much, under the first weight, a heaviest addable element of the first matroid outweighs an
--- addable one outside R, or a member in R an element outside R that can take its place in the first; or, under the second weight,
--- a member outside R an element in R that can take its place in the second, or a heaviest addable element of the second matroid
--- an addable one in R
+-- d is a slack of the set R, for the exchanges of two matroids at a set I: the difference of two weights. Under the first weight it is by how
+-- much a heaviest addable element of the first matroid outweighs an addable one outside R, or a member of I in R outweighs an element outside
+-- R that can take its place in the first matroid. Under the second weight it is by how much a member of I outside R outweighs an element of R
+-- that can take its place in the second matroid, or a heaviest addable element of the second matroid outweighs an addable one in R
 pub data IsSlack (n : ℕ) (first second : Exchanges) (w1 w2 : ℕ → Weight) (R : List ℕ) (d : Weight) : Type 0 where
   first_addition : (top x : ℕ) → top < n → x < n → is_heaviest_addable n first w1 top ≡ true → first.adds x ≡ true
       → is_member x R ≡ false → d ≡ w1 top ⊖ w1 x → IsSlack n first second w1 w2 R d

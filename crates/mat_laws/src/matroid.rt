@@ -222,8 +222,8 @@ pub trait Matroid: Sync + Drop {
     }
 
     /// The members of an independent set, of which something is kept, that stand in the fundamental circuit of an element x outside it: all of
-    /// the circuit but x, none for a loop; None where x can be added (Oxley, Proposition 1.1.6; section 1.2 for a base). This body makes no row
-    /// for what can be added where `adds` makes none; a kind whose `adds` makes the row has a body that makes it once. The only error is want of
+    /// the circuit but x, none for a loop; None where x can be added (Oxley, Proposition 1.1.6; section 1.2 for a base). This body asks `adds`, and
+    /// then `row` where x cannot be added; a kind whose `adds` makes the row may have a body that makes it only once. The only error is want of
     /// memory.
     fn circuit_members(
         &self,
