@@ -18,11 +18,12 @@ use Rattle.mat_count.specs.Laminar.{crosses, Crosses, IsLaminarFamily}
 
 -- ---- the tests and their sentences
 
--- a list is not empty where it has a member
+-- a list that is not empty has a member
 some_member : (X : List ℕ) → ltb 0 (length X) ≡ true → (x : ℕ) × (is_member x X ≡ true)
 some_member [] h = absurd (let l = ltb-true 0 0 h in omega arith)
 some_member (x ∷ X) h = (x, is_member-head x X)
 
+-- a list that has a member is not empty
 has_some : (X : List ℕ) (x : ℕ) → is_member x X ≡ true → ltb 0 (length X) ≡ true
 has_some [] x h = absurd (both_ways false refl h)
 has_some (y ∷ X) x h = lt-ltb 0 (suc (length X)) (omega arith)
@@ -258,7 +259,7 @@ within-subset (S ∷ sets) (cap ∷ caps) I J r s inside h =
     and_from (leb (length (intersection I S)) cap) (is_within_caps sets caps I) (le-leb (length (intersection I S)) cap (omega arith))
     (within-subset sets caps I J r s inside parts.1)
 
--- how many members of S there are after one more element, which stands in S, or does not
+-- how many members of X stand in S when x comes to X: one more where x stands in S, and otherwise as many as before
 pub counted_more : (S X : List ℕ) (x : ℕ) → IsRising X → is_member x X ≡ false → is_member x S ≡ true
     → length (intersection (with_one X x) S) ≡ suc (length (intersection X S))
 counted_more S X x rising out inside =
@@ -317,7 +318,7 @@ rest_inside : (I J U : List ℕ) → ((k : ℕ) → is_member k J ≡ true → (
     → IsSubset (minus J U) (minus I U)
 rest_inside I J U all = record { inside = λ k h. let a = all k in grind (arith, set_members) }
 
--- two sets of which the second is the larger: some of its elements stands outside the first and outside U
+-- where J is larger than I, but has at most as many members in U as I, some element of J stands outside I and outside U
 free_element : (I J U : List ℕ) → IsRising I → IsRising J → length I < length J → AtMost I J U
     → (x : ℕ) × (is_member x J ≡ true) × (is_member x I ≡ false) × (is_member x U ≡ false)
 free_element I J U r s less most = elim (find_member (λ x. not (is_member x I) && not (is_member x U)) J) [

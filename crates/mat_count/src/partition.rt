@@ -158,8 +158,8 @@ impl Partition {
         })
     }
 
-    /// The partition matroid with one class for each label: element e has the e-th label, and the class of a label has the cap at its
-    /// place. The only error is want of memory.
+    /// The partition matroid with one class for each label below the number of caps: element e has the label `labels[e]`, and the class of
+    /// a label has the cap at the label's place. An element with any other label is free. The only error is want of memory.
     pub fn by_labels(alloc: Global, labels: &[u32], caps: Vec<u32>) -> Result<Partition, AllocError>
         requires few { length labels.now < 2 ^ 32 }
         requires capped { length caps.items < 2 ^ 32 }
@@ -174,8 +174,8 @@ impl Partition {
         Partition::new(alloc, labels.len() as u32, classes, caps)
     }
 
-    /// The partition matroid with one class for each label below their count, and the cap 1 for each: element e has the e-th label. The
-    /// only error is want of memory.
+    /// The partition matroid with one class for each label below `count`, and the cap 1 for each: element e has the label `labels[e]`. An
+    /// element with any other label is free. The only error is want of memory.
     pub fn one_for_each_label(
         alloc: Global,
         labels: &[u32],
