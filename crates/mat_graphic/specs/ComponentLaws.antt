@@ -116,7 +116,7 @@ module _ (ends : ℕ → ℕ × ℕ) where
       merged-fixed (least_merged ends X) (ends e).0 (ends e).1 v (least_merged-fixed X (ends e).0) (least_merged-fixed X (ends e).1)
       (least_merged-fixed X v)
 
-  -- it is the same at both ends of an edge
+  -- edge e lies within a component of X: the least vertex is the same at both of its ends
   abbrev pub IsWithin : List ℕ → ℕ → Type 0
   IsWithin X e = least_merged ends X (ends e).0 ≡ least_merged ends X (ends e).1
 

@@ -98,8 +98,8 @@ fn forest_along(
 
 impl Graphic {
     /// The graphic matroid of the graph with this many vertices and these edges, each the pair of its ends: element e is
-    /// the e-th edge. An edge whose ends are one vertex is a loop, and edges with the same ends are parallel. The only
-    /// error is want of memory.
+    /// the edge at place e, counted from 0. An edge whose ends are one vertex is a loop, and edges with the same ends are
+    /// parallel. The only error is want of memory; as the edges are taken as they stand, none comes.
     pub fn new(_alloc: Global, vertices: u32, edges: Pairs) -> Result<Graphic, AllocError>
         requires { IsGraph vertices edges }
         ensures value { IfOk result (λ g. g ≡ record { vertices = vertices; edges = edges }) }
@@ -195,7 +195,8 @@ impl Matroid for Graphic {
 
     /// The greedy run along an order, by one union-find: an edge enters where its ends are in two components of those
     /// before it, as in Kruskal's algorithm (Schrijver, chapter 50). The time is nearly linear in the number of vertices and
-    /// of edges, but for putting the edges in order. The only error is want of memory.
+    /// the length of the order, but for a shift of the set's later members where one is put in before them. The only error is
+    /// want of memory.
     fn run(&self, alloc: Global, order: &[u32]) -> Result<ElemSet, AllocError> {
         let mut parent = singletons(alloc, self.vertices)?;
         forest_along(alloc, &mut parent, self.edges.as_slice(), order)

@@ -55,9 +55,10 @@ fn ends_in(alloc: Global, edges: &[(u32, u32)], set: &[u32]) -> Result<Ends, All
     Ok(Ends { firsts, seconds })
 }
 
-/// A forest of a graph of which each tree has a root: all vertices in an order in which each tree stands from its root on,
-/// and nearer vertices before farther ones, with the place of each; and for each the edge that leads towards the root and
-/// the place of the vertex at its other end, which for a root is its own.
+/// A forest of a graph in which each tree has a root: all vertices in an order in which the vertices of each tree follow its
+/// root, the nearer ones first; the place of each vertex in this order; and for each place the edge that leads from its
+/// vertex towards the root, and the place of the vertex at the other end of this edge. A root has its own place there, and
+/// 0 for the edge, which says nothing.
 #[derive(Debug, Drop)]
 pub struct RootedForest {
     place: Vec<Option<usize>>,
