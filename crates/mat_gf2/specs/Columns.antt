@@ -11,7 +11,8 @@ abbrev pub xor_of : (ℕ → ℕ) → List ℕ → ℕ
 xor_of column [] = 0
 xor_of column (x ∷ X) = bit_xor (column x) (xor_of column X)
 
--- the same in words: no subset of X that is not empty has columns whose exclusive-or is zero
+-- the columns of X are linearly independent: no subset of X that is not empty has columns whose exclusive-or is zero
+-- (Schrijver, chapter 39)
 pub record IsLinearlyIndependent (column : ℕ → ℕ) (X : List ℕ) : Type 0 where
   pub nonzero : (s : List ℕ) → IsRising s → IsSubset s X → s ≢ [] → xor_of column s ≢ 0
 

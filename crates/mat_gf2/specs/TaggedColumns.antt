@@ -26,7 +26,8 @@ abbrev pub reduced_tagged_by : List TaggedColumn → TaggedColumn → TaggedColu
 reduced_tagged_by [] v = v
 reduced_tagged_by (b ∷ basis) v = reduced_tagged_by basis (reduced_tagged v b)
 
--- the basis reduces as elimination with the columns of Y does; and a column changes by as much as the sum of the members of X that its tag marks
+-- the basis reduces as elimination with the columns of Y does; and where it reduces a column, the sum of this column and of the columns of the
+-- members of X that its tag marks stays the same
 pub record IsTaggedBasis (column : ℕ → ℕ) (X Y : List ℕ) (basis : List TaggedColumn) : Type 0 where
   pub reduces : (v : TaggedColumn) → (reduced_tagged_by basis v).column ≡ remainder column Y v.column
   pub tags : (v : TaggedColumn) → bit_xor (xor_of column (marked (reduced_tagged_by basis v).tag X)) (reduced_tagged_by basis v).column
