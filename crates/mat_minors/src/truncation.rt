@@ -31,7 +31,7 @@ impl<M: Matroid> Truncation<M> {
         &self.inner
     }
 
-    /// The largest size of an independent set.
+    /// How many elements an independent set may have, as it was handed in: the rank of the inner matroid may be smaller.
     pub fn cap(&self) -> u32
         ensures { result ≡ self.now.cap }
     {
