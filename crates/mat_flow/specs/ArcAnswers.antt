@@ -13,7 +13,7 @@ IsArcAnswer vertices ends live from to want (Cut cut) = IsArcCut vertices ends l
 abbrev pub HasNoArcPaths : (ends : ℕ → ℕ × ℕ) (live : List ℕ) (from to want : ℕ) → Type 0
 HasNoArcPaths ends live from to want = (paths : List (List ℕ)) → ¬ AreArcPaths ends live from to want paths
 
--- whether the answer is that there are none
+-- whether the answer is a cut, and so that there are not so many paths
 abbrev pub is_arc_cut : ArcAnswer → Bool
 is_arc_cut (Paths paths) = false
 is_arc_cut (Cut cut) = true

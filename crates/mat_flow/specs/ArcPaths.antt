@@ -16,7 +16,7 @@ pub record AreArcPaths (ends : ℕ → ℕ × ℕ) (live : List ℕ) (from to wa
   pub each : All (IsArcPath ends live from to) paths
   pub distinct : AreDistinct (concat paths)
 
--- a vertex set with the one vertex and without the other, that fewer live arcs enter
+-- a vertex set with `to` and without `from` that fewer than `want` live arcs enter
 pub record IsArcCut (vertices : ℕ) (ends : ℕ → ℕ × ℕ) (live : List ℕ) (from to want : ℕ) (cut : List ℕ) : Type 0 where
   pub set : IsSet vertices cut
   pub holds : is_member to cut ≡ true

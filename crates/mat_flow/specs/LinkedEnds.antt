@@ -11,7 +11,8 @@ use Rattle.mat_flow.specs.declared.link_table.LinkTable.{LinkTable}
 abbrev pub IsLinkedTo : (vertices : ℕ) (arcs : List (ℕ × ℕ)) (sources ends : List ℕ) (links : LinkTable) → Type 0
 IsLinkedTo vertices arcs sources ends links = HasEnds vertices arcs sources ends links.before.items
 
--- the same of a table of the vertex after each vertex; and what no search may come to any more holds no source's place, and leads to nothing else
+-- the same of a table of the vertex after each vertex; and of the vertices to which no search may come any more none is a goal of the residual
+-- graph that is read from the ends, and no arc of it leads from them to another vertex
 pub record IsLinker (vertices : ℕ) (arcs : List (ℕ × ℕ)) (sources ends : List ℕ) (linker : Linker) : Type 0 where
   pub before : List (Option ℕ)
   pub table : HasEnds vertices arcs sources ends before

@@ -62,12 +62,14 @@ pub record IsFollowed (live found more : List ℕ) : Type 0 where
   pub same : (i : ℕ) → i < length found → slice_index more i ≡ slice_index found i
   pub distinct : AreDistinct found → ((v : ℕ) → is_member v live ≡ true → is_member v found ≡ false) → AreDistinct more
 
--- a vertex that was found is a start, or an arc leads to it from the one before it, which was found, in one step less
+-- a vertex that was found is a start, with n in place of a vertex before it and the depth 0; or an arc leads to it from the vertex before it, which
+-- was found too, and has a depth less by one
 abbrev pub Comes : (n : ℕ) (arc : ℕ → ℕ → Bool) (start : ℕ → Bool) (found before : List ℕ) (depth : ℕ → ℕ) (v : ℕ) → Type 0
 Comes n arc start found before depth v = ((slice_index before v ≡ n) × (start v ≡ true) × (depth v ≡ 0))
     ⊎ ((is_member (slice_index before v) found ≡ true) × (arc (slice_index before v) v ≡ true) × (depth v ≡ suc (depth (slice_index before v))))
 
--- the vertices that were found so far, among the live ones, in some number of steps
+-- each vertex that was found so far is one of the live ones, and is reached from a start along found vertices, in as many steps as its depth; `rest`
+-- has the live vertices that were not found
 pub record IsChain (n : ℕ) (arc : ℕ → ℕ → Bool) (start : ℕ → Bool) (live rest found before : List ℕ) : Type 0 where
   pub depth : ℕ → ℕ
   pub below : (v : ℕ) → is_member v live ≡ true → v < n

@@ -66,10 +66,11 @@ fn left_out(
     Ok(cut)
 }
 
-/// `want` paths from one vertex to another over live arcs that share no arc, by shortest augmenting walks from arc to arc; or a vertex
-/// set with the end and without the start that fewer than `want` live arcs enter (Menger's theorem for arcs; Schrijver, chapter 9): the
-/// set comes exactly where there are not so many paths.
-/// There is one search for each path, and each looks at an arc once. The only error is want of memory.
+/// `want` paths along live arcs from one vertex to another, of which no two share an arc, by shortest augmenting walks from arc to arc; or a
+/// vertex set with the end and without the start that fewer than `want` live arcs enter (Menger's theorem for arcs; Schrijver, chapter 9):
+/// the set comes exactly where there are not so many paths.
+/// There is one search for each path that is found, and one more where the set comes; each asks an arc at most once for the arcs that follow
+/// it. The only error is want of memory.
 pub fn arc_paths(
     alloc: Global,
     graph: &Digraph,

@@ -6,8 +6,8 @@ ghost use Rattle.mat_flow.specs.{
   Paths.{AreDisjointPaths, ArePathsApart, HasOnePathMore, HasSeparatorOf, IsLinking, IsSeparator},
 };
 
-/// Where paths from sources to targets share no vertex with each other, there is one disjoint path more, at all their ends and
-/// one further target, or some separator has just as many vertices as they are many (Schrijver, chapter 9; Diestel, chapter 3).
+/// Where paths from sources to targets share no vertex with each other, there are disjoint paths, one more than these, to all their ends
+/// and to one further target; or some separator has as many vertices as there are paths (Schrijver, chapter 9; Diestel, chapter 3).
 pub fn one_path_more()
     ensures { (arcs : List (ℕ × ℕ)) (sources targets : List ℕ) (paths : List (List ℕ))
         → ArePathsApart arcs sources targets paths

@@ -20,7 +20,7 @@ impl LinkTable {
         LinkTable { before }
     }
 
-    /// Takes the path to an end out, which is an end no more. It takes no memory.
+    /// Takes out the path that ends at v, so that v is no end any more. It takes no memory.
     pub fn unlink(&mut self, v: u32)
         requires { (vertices : ℕ) × (arcs : List (ℕ × ℕ)) × (sources : List ℕ) × (ends : List ℕ)
             × (is_member v ends ≡ true) × IsLinkedTo vertices arcs sources ends self.old }
