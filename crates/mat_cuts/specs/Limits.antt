@@ -13,6 +13,6 @@ arc_bound = 20000
 abbrev pub cut_bound : ℕ
 cut_bound = 4000
 
--- a time that does not come, and the place of a vertex that is not seen: above the number of all vertex sets
+-- a time that does not come, and the place of a vertex that is not seen: above the most weighted vertex sets and the most vertices
 abbrev pub never : ℕ
 never = 1000000

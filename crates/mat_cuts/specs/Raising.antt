@@ -30,7 +30,7 @@ abbrev pub AreNested : (count : ℕ) (ends : ℕ → ℕ × ℕ) (since : List �
 AreNested count ends since i [] = Unit {0}
 AreNested count ends since i (c ∷ cuts) = IsNested count ends since i c.set × AreNested count ends since (suc i) cuts
 
--- the weights are paid by the costs; what is left is spent exactly at the arcs with a time
+-- the weights are paid by the costs, and nothing is left of the cost of an arc exactly where it has a time
 pub record IsRaised (vertices : ℕ) (arcs : List (ℕ × ℕ)) (costs : List ℤ) (root : ℕ)
     (reduced : List ℤ) (since : List ℕ) (cuts : List CutWeight) : Type 0 where
   pub reduced_long : length reduced ≡ length arcs

@@ -1,8 +1,9 @@
 //! A cheapest spanning arborescence with the cuts that prove it.
 //!
-//! A path of vertex sets grows backwards from a vertex that the root does not reach. Its last set is listed with the least cost that is
-//! left at an arc that enters it, and this weight is taken from each arc that enters it. So one of them is spent; its tail comes to the
-//! end of the path, or closes up all sets from its place on. When an arc is spent it gets a time: how many sets were listed.
+//! A path of vertex sets grows backwards from a vertex that the root does not reach. Where something is left of the cost of each arc that
+//! enters its last set, this set is listed with the least that is left, and this weight is taken from each of these arcs. So one of them is
+//! spent: nothing is left of its cost. If its tail was not seen, it comes to the end of the path, and else all sets from its place on are
+//! joined. When an arc is spent it gets a time: how many sets were listed.
 //! At the end a tree grows from the root, always by the arc with the earliest time, and enters each listed set once.
 ghost use Rattle.std.specs.Prelude.{◌≡◌, ◌≤◌, ◌<◌, ◌+◌, ◌≤ℤ◌, ◌<ℤ◌, ℕ, length, true, pos, All, IfOk, OnOk};
 ghost use Rattle.mat_cuts.specs.{
@@ -75,8 +76,8 @@ fn pay(
     Ok(())
 }
 
-/// Lists the set at the last place of the path, so that nothing is left at an arc that enters it, and gives that arc. None where no arc
-/// enters it.
+/// Gives an arc that enters the set at the last place of the path, with nothing left of its cost: where something is left at each such arc,
+/// the set is listed first. None where no arc enters it.
 fn spend(
     alloc: Global,
     arcs: &[(u32, u32)],
@@ -101,7 +102,7 @@ fn spend(
     Ok(Some(a))
 }
 
-/// Begins a path at an unseen vertex, where there is none. False where all vertices are seen.
+/// Begins a path at an unseen vertex, where there is no path. False where there is no path and all vertices are seen.
 fn begin(path: &mut Path) -> bool
     requires below { AllBelow (length path.old.place.items) path.old.fresh }
     requires few { path.old.last + 1 < never }

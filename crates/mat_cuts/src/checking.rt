@@ -227,8 +227,8 @@ fn is_unreached(
 
 /// Whether an answer is right: a spanning arborescence with weighted vertex sets that prove that none costs less, or a vertex set that
 /// proves that there is none (Fulkerson 1974; Schrijver, chapter 52). There are at most 2,000 vertices and 20,000 arcs, each with a cost
-/// from 0 to 10^12; the sets hold vertices, and their weights are at least -10^30 and at most 10^30. The time is that of the arcs once for
-/// each listed set. The only error is want of memory.
+/// from 0 to 10^12; there are at most twice as many sets as vertices, the sets hold vertices, and their weights are at least -10^30 and at
+/// most 10^30. The time is that of the arcs once for each set, and of the arborescence once for each vertex. The only error is want of memory.
 pub fn right_cuts(
     alloc: Global,
     vertices: u32,

@@ -66,7 +66,7 @@ pub(crate) fn earliest(
 pub(crate) struct Raised {
     /// What is left of the cost of each arc.
     pub(crate) reduced: Vec<i128>,
-    /// When nothing was left of it.
+    /// For each arc how many cuts were listed when nothing was left of its cost, or `NEVER` where something is left.
     pub(crate) since: Vec<u32>,
     /// The cuts.
     pub(crate) cuts: Vec<CutWeight>,
