@@ -31,6 +31,7 @@ found_passes (suc m) test h = elim (cases_Bool (test m)) [
 abbrev pub walk_place : ℕ → (ℕ → Exchanges) → ℕ → (ℕ → ℕ) → ℕ → ℕ
 walk_place m exchanges k e i = cond (ltb i k) (found_below m (λ q. (exchanges q).trades (e (suc i)) (e i))) (found_below m (λ q. (exchanges q).adds (e i)))
 
+-- the moves of the k + 1 elements of a walk to these places
 abbrev pub walk_moves : ℕ → (ℕ → Exchanges) → ℕ → (ℕ → ℕ) → List Move
 walk_moves m exchanges k e = map (λ i. record { element = e i; part = walk_place m exchanges k e i }) (all_below (suc k))
 

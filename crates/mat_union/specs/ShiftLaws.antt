@@ -66,6 +66,7 @@ joins_exchanged {n} {p} laws I ys xs s ok t s_out s_new adds blocked J rj member
 abbrev pub indices_into : ℕ → (ℕ → ℕ) → ℕ → List ℕ
 indices_into c t q = filter (λ i. eqb (t i) q) (all_below c)
 
+-- the elements with these indices
 abbrev pub elements_into : ℕ → (ℕ → ℕ) → (ℕ → ℕ) → ℕ → List ℕ
 elements_into c e t q = map e (indices_into c t q)
 
@@ -77,6 +78,7 @@ elements_on k e = map e (all_below (suc k))
 abbrev pub shifted : List (List ℕ) → ℕ → ℕ → (ℕ → ℕ) → (ℕ → ℕ) → ℕ → List ℕ
 shifted parts k c e t q = union (elements_into c e t q) (minus (part_at parts q) (elements_on k e))
 
+-- all parts after the first c elements moved
 abbrev pub all_shifted : List (List ℕ) → ℕ → ℕ → (ℕ → ℕ) → (ℕ → ℕ) → List (List ℕ)
 all_shifted parts k c e t = map (shifted parts k c e t) (all_below (length parts))
 

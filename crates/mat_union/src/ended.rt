@@ -11,7 +11,7 @@ use mat_laws::Exchange;
 use mat_sets::{BitSet, ElemSet, SetList};
 use std::alloc::{AllocError, Global};
 
-/// A place for an element among the parts.
+/// What a search for moves that bring an element into the parts ends with.
 #[derive(Debug, Drop)]
 pub enum PlaceSearch {
     /// Moves after which the parts hold the element too.

@@ -24,7 +24,8 @@ pub fn union_means_parts()
     ensures only { (n : ℕ) (tests : List (List ℕ → Bool)) → AreMatroids n tests → (X : List ℕ) → union_test n tests X ≡ true → IsInUnion tests X }
 {}
 
-/// No disjoint independent sets hold more members of a set F than a cut A of F allows (Schrijver, chapter 42).
+/// No disjoint independent sets, one for each matroid, hold more members of a set F than a cut of F allows. A cut is a subset A of F: it allows
+/// as many members as F has outside A, and as many more as the ranks of A in all matroids add up to (Schrijver, chapter 42).
 pub fn cut_bounds_parts()
     ensures { (n : ℕ) (tests : List (List ℕ → Bool)) → AreMatroids n tests → (parts : List (List ℕ)) → AreParts tests parts
         → (F A : List ℕ) → IsRising F → IsRising A → IsSubset A F

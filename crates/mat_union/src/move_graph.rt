@@ -7,8 +7,8 @@ use crate::exchange_list::ExchangeList;
 use mat_sets::{BitRows, BitSet, ElemSet, Relation, SetList};
 use std::alloc::{AllocError, Global};
 
-/// An arc leads from an element to each whose place it can take in some part; starts are the elements in no part, and goals those that
-/// can be added to some part (Schrijver, chapter 42).
+/// An arc leads from an element to each whose place it can take in some part; starts are the elements of `within` that are in no part, and
+/// goals the elements that can be added to some part (Schrijver, chapter 42).
 #[derive(Drop)]
 pub(crate) struct MoveGraph<'a> {
     pub(crate) rows: &'a [ExchangeList],

@@ -36,11 +36,12 @@ pub struct MoveSearch {
     // The elements that were reached, in the order in which they were; the exchanges of the first `head` are told.
     pub(crate) queue: Vec<u32>,
     pub(crate) head: usize,
-    // Of the next one they are told at so many parts, and there it can take the place of these.
+    // Of the next element of the queue the exchanges at the first `part` parts are told: there it can take the place of those in `pushes`.
     pub(crate) part: u32,
     pub(crate) pushes: BitSet,
-    // It can be added to the next part.
+    // Whether that element can be added to the part after these: then nothing more is asked for.
     pub(crate) entered: bool,
+    // The elements that may be reached and were not yet.
     pub(crate) unreached: BitSet,
     // For each of the first `head` elements of the queue, those whose place it can take.
     pub(crate) told: Vec<BitSet>,

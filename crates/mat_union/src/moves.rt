@@ -16,6 +16,6 @@ pub struct Move {
 pub enum Moves {
     /// Moves that add an element, with fewest moves.
     Path(Vec<Move>),
-    /// There are no such moves; all that is reached.
+    /// There are no such moves; all elements that the search reached from those in no part, with these.
     Stuck(ElemSet),
 }

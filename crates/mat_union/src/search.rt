@@ -29,8 +29,9 @@ fn entered_part(rows: &[ExchangeList], u: u32) -> u32
     0
 }
 
-/// A move path with fewest moves, or all that the elements in no part reach (Schrijver, chapter 42). Each list has a row for each element, at
-/// the part of its number; the arcs of all rows are gone through once, and then those that are reached. The only error is want of memory.
+/// A move path with fewest moves from an element of `within` that is in no part, or, where there is none, all that these elements reach
+/// (Schrijver, chapter 42). List i of `rows` has a row for each element, its exchanges at part i. The arcs of all rows are gone through once, to
+/// make a table of them, and then those from the elements that are reached. The only error is want of memory.
 pub fn union_search(
     alloc: Global,
     rows: &[ExchangeList],
