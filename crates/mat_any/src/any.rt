@@ -23,12 +23,19 @@ use std::alloc::{AllocError, Global};
 /// A matroid of any kind. Contracts see the tree of its kinds.
 #[derive(Debug, Drop)]
 pub enum AnyMatroid {
+    /// The sets of at most so many elements.
     Uniform(Uniform),
+    /// The sets with at most so many elements of each class.
     Partition(Partition),
+    /// The sets with at most so many elements of each set of a laminar family.
     Laminar(Laminar),
+    /// The forests of a graph, by their edges.
     Graphic(Graphic),
+    /// The partial transversals of a family of sets.
     Transversal(Transversal),
+    /// The sets to whose vertices disjoint paths lead from the sources of a directed graph.
     Gammoid(Gammoid),
+    /// The sets of linearly independent columns over the field of two elements.
     Gf2(Gf2),
     /// The dual of a matroid.
     Dual(Box<AnyMatroid>),

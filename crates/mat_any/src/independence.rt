@@ -17,7 +17,8 @@ use mat_sets::ElemSet;
 use std::alloc::{AllocError, Global};
 
 /// Whether a set of elements below the size is independent. A truncation or a restriction asks the matroid within it at
-/// most once; a dual runs it once, a contraction runs it once and asks it once, and a union makes one run. The only error is want of memory.
+/// most once; a dual makes one run of it, and the dual of a dual one run of the matroid within both; a contraction makes at most one run of the
+/// matroid within it and asks it at most once; a union makes one run of its own. The only error is want of memory.
 #[cycle(asking)]
 pub(crate) fn independent(
     alloc: Global,

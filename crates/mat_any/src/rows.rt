@@ -28,9 +28,9 @@ use mat_sets::{BitSet, ElemSet, SetList};
 use mat_union::{MoveSearch, PlaceSearch, found_place, move_into, row_by_search};
 use std::alloc::{AllocError, Global};
 
-/// The exchanges of an element x outside an independent set, by what is kept of it. A truncation, a restriction, a contraction or the
-/// dual of a dual asks the matroid within it at most once, and another dual none; a union makes one search for moves. The only error is want
-/// of memory.
+/// The exchanges of an element x outside an independent set, by what is kept of the set. A truncation, a restriction or a contraction asks the
+/// matroid within it at most once, and the dual of a dual asks the matroid within both once; any other dual asks no matroid, and a union makes
+/// one search for moves. The only error is want of memory.
 #[cycle(rows)]
 pub(crate) fn row(
     alloc: Global,
@@ -275,7 +275,7 @@ fn truncation_row(
     })
 }
 
-// The exchanges of the matroid that is restricted for an element to which it is, and none for another.
+// For an element to which the matroid is restricted, its exchanges in the matroid within the restriction; for any other element none.
 #[cycle(rows)]
 fn restriction_row(
     alloc: Global,
@@ -299,8 +299,8 @@ fn restriction_row(
     row(alloc, inner, base, kept, x)
 }
 
-// The exchanges of the matroid that is contracted, at the set together with what was chosen of the contracted elements and
-// without the members of that; none for a contracted element.
+// For an element that is not contracted, its exchanges in the matroid within the contraction, at the set together with `chosen`, but without the
+// members of `chosen`; for a contracted element none.
 #[cycle(rows)]
 fn contraction_row(
     alloc: Global,

@@ -69,7 +69,8 @@ pub(crate) fn dual_run(
     }
 }
 
-// What a run leaves that goes through all other elements first, and then through the order from its end.
+// The elements of the order that a run of the matroid within the dual leaves: it goes through all other elements first, and then through the
+// order from its end.
 #[cycle(running)]
 fn reversed_run(alloc: Global, inner: &AnyMatroid, order: &[u32]) -> Result<ElemSet, AllocError>
     requires sound { IsSound (tree_of inner.now) }
