@@ -69,8 +69,8 @@ pub(crate) fn are_matchable(
     Ok(true)
 }
 
-/// Matches the members of a set that another one has not, beside those of both, which are matched: one search of the bits of the rows
-/// for each new member. The only error is want of memory.
+/// A matching of the members of `next`, made from `common`, which matches those that are in `base` too: one search of the bits of the rows
+/// for each other member. The only error is want of memory.
 pub(crate) fn matched_with_new(
     alloc: Global,
     rows: &BitRows,
