@@ -29,7 +29,7 @@ IsRefused vertices root ends live m a = AreEntered vertices root ends (without_o
 pub record AreRefused (vertices root : ℕ) (ends : ℕ → ℕ × ℕ) (live : List ℕ) (m : ℕ) (refused : List ℕ) : Type 0 where
   pub each : (a : ℕ) → is_member a refused ≡ true → IsRefused vertices root ends live m a
 
--- whether an arc can be taken without need of it, as a test tells
+-- whether an arc can be spared, as a test tells: without it each root-free set is still entered by at least m live arcs; if not, it is refused
 pub record TellsSpare (vertices root : ℕ) (ends : ℕ → ℕ × ℕ) (live : List ℕ) (m a : ℕ) (spare : Bool) : Type 0 where
   pub yes_means : spare ≡ true → AreEntered vertices root ends (without_one live a) m
   pub no_means : spare ≡ false → IsRefused vertices root ends live m a

@@ -7,8 +7,9 @@ use mat_flow::{ArcAnswer, Digraph, arc_paths};
 use mat_sets::ElemSet;
 use std::alloc::{AllocError, Global};
 
-/// A vertex set that is not empty, does not hold the root and is entered by fewer than k live arcs, if there is one: then one cuts some
-/// vertex off the root. At most k paths are sought to each vertex. The only error is want of memory.
+/// A vertex set that is not empty, does not hold the root and is entered by fewer than k live arcs, if there is one. There is one exactly
+/// where fewer than k paths that share no live arc lead from the root to some other vertex (Menger), so at most k paths are sought to each
+/// vertex. The only error is want of memory.
 pub(crate) fn seldom_entered(
     alloc: Global,
     graph: &Digraph,
@@ -31,8 +32,8 @@ pub(crate) fn seldom_entered(
     Ok(None)
 }
 
-/// Whether without the arc each non-empty vertex set without the root is still entered by at least m live arcs: that is so where
-/// m paths lead from the root to its head. The only error is want of memory.
+/// Whether without the arc each non-empty vertex set without the root is still entered by at least m live arcs: that is so exactly where
+/// m paths that share no arc lead from the root to the head of the arc along the other live arcs (Menger). The only error is want of memory.
 pub(crate) fn can_spare(
     alloc: Global,
     graph: &Digraph,
