@@ -28,7 +28,7 @@ IsRightCoveringAnswer n independent (Never loop_at) = IsLoop n independent loop_
 IsRightCoveringAnswer n independent (Least sets cut) =
     HasNoLoop n independent × IsRightCovering n independent sets cut × MatchOption cut (n ≡ 0) (λ A. 0 < n)
 
--- k disjoint spanning trees, or a partition of the vertices that allows no k of them
+-- k disjoint spanning trees, or a partition of the vertices that does not allow k of them
 abbrev pub IsRightTreesAnswer : ℕ → List (ℕ × ℕ) → ℕ → Trees → Type 0
 IsRightTreesAnswer vertices edges k (AllTrees trees) = AreTrees vertices (length edges) (ends_of edges) trees × (length trees ≡ k)
 IsRightTreesAnswer vertices edges k (Partition classes) = IsRightPartition vertices (length edges) (ends_of edges) k classes

@@ -32,7 +32,8 @@ pub fn loop_has_no_cover()
         → (sets : List (List ℕ)) → IsCover n independent sets → ⊥ }
 {}
 
-/// Fewer disjoint spanning trees are in a graph than a right partition of its vertices is for (Tutte; Nash-Williams; Schrijver, chapter 51).
+/// Where fewer edges run between the classes of a partition of the vertices than k disjoint spanning trees need, there are fewer than k of
+/// these (Tutte; Nash-Williams; Schrijver, chapter 51).
 pub fn partition_has_few_trees()
     ensures { (vertices count k : ℕ) (ends : ℕ → ℕ × ℕ) (classes : List (List ℕ))
         → ((e : ℕ) → e < count → ((ends e).0 < vertices) × ((ends e).1 < vertices)) → IsRightPartition vertices count ends k classes

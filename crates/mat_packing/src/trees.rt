@@ -8,7 +8,7 @@ use mat_graphic::{Graphic, least_vertices};
 use mat_sets::{ElemSet, Pairs, SetList};
 use std::alloc::{AllocError, Global};
 
-/// Disjoint spanning trees of a graph, or a partition of its vertices that allows no so many of them.
+/// Disjoint spanning trees of a graph, or a partition of its vertices that does not allow so many of them.
 #[derive(Debug, Drop)]
 pub enum Trees {
     /// The trees, by their edges.
@@ -17,7 +17,7 @@ pub enum Trees {
     Partition(SetList),
 }
 
-// The vertices whose least vertex is this one.
+// The vertices v for which `least[v]`, the least vertex of the component of v, is this one.
 fn members_with(alloc: Global, least: &[u32], root: u32) -> Result<ElemSet, AllocError>
     requires few { length least.now < 2 ^ 32 }
     ensures { IfOk result (λ s. s ≡ class_of (length least.now) (slice_index least.now) root) }
