@@ -31,8 +31,8 @@ EndsSearch n first second w1 w2 = (S : List ℕ) → IsStuckReach n first second
 abbrev pub sum_at : (ℕ → Weight) → (ℕ → Weight) → ℕ → Weight
 sum_at w1 w2 x = w1 x ⊕ w2 x
 
--- new halves of the weights w, the second of which was `old` before: no exchange gains, and both numbers of the second differ little from
--- numbers that they had
+-- new halves of the weights w, the second of which was `old` before: no exchange gains; where both numbers of each weight in `old` are from -h to
+-- h, those of each new second weight are from -(h + 4 * 10^12 * n) to h + 4 * 10^12 * n; and a search under the new halves finds a path or has no slack
 pub record IsGrownSplit (n : ℕ) (first second : Exchanges) (w old w1 w2 : ℕ → Weight) : Type 0 where
   pub first_gains : NoExchangeGains first w1
   pub second_gains : NoExchangeGains second w2
@@ -66,7 +66,7 @@ StaysHeaviest n first second I w1 w2 grown =
 -- ---- the fringe
 
 -- x outside R enters R where the weights of R have changed by -g: as a heaviest addable element, as heavy as the root; by an exchange for
--- a member in R; or as a member in whose place an element of R can be taken
+-- a member in R; or as a member whose place an element of R can take
 pub data IsEntry (first second : Exchanges) (w1 w2 : ℕ → Weight) (root : ℕ) (R : List ℕ) (x : ℕ) (g : Weight) : Type 0 where
   as_source : first.adds x ≡ true → g ≡ w1 x ⊖ w1 root → IsEntry first second w1 w2 root R x g
   from_member : (y : ℕ) → is_member y R ≡ true → first.trades y x ≡ true → g ≡ w1 x ⊖ w1 y → IsEntry first second w1 w2 root R x g
@@ -99,7 +99,7 @@ gain_at inside w x z = if inside then w z ⊖ w x else w x ⊖ w z
 abbrev pub leads : Exchanges → Exchanges → List ℕ → ℕ → ℕ → Bool
 leads first second I x z = if is_member x I then (not (first.adds z) && first.trades x z) else second.trades z x
 
--- the entry of z by that exchange
+-- the gain at which z enters by that exchange
 abbrev pub entry_gain : (ℕ → Weight) → (ℕ → Weight) → List ℕ → ℕ → ℕ → Weight
 entry_gain w1 w2 I x z = if is_member x I then w1 z ⊖ w1 x else w2 x ⊖ w2 z
 

@@ -12,7 +12,7 @@ abbrev pub IsFound : ℕ → Exchanges → Exchanges → (ℕ → Weight) → (�
 IsFound n first second w1 w2 (Path path) = IsTightPath n first second w1 w2 path.items
 IsFound n first second w1 w2 (Stuck reach slack) = IsStuckReach n first second w1 w2 reach × IsLeastSlackOrNone n first second w1 w2 reach slack
 
--- there is no tight path, also no longer one
+-- no walk along tight arcs leads from a source to a sink, whatever its length
 abbrev pub HasNoTightPath : ℕ → Exchanges → Exchanges → (ℕ → Weight) → (ℕ → Weight) → Type 0
 HasNoTightPath n first second w1 w2 = (path : List ℕ)
     → ¬ IsWalk n (is_tight first second w1 w2) (is_heaviest_addable n first w1) (is_heaviest_addable n second w2) path

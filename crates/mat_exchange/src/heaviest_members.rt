@@ -44,7 +44,7 @@ fn ends_search(heaviest: Option<u32>, weights: &[Weight], bound: Option<Weight>)
     }
 }
 
-/// Of the heaviest member before a word and the members in it a heaviest. The time is that of these members.
+/// A heaviest one of the members in a word and the heaviest member before that word. The time is that of the members in the word.
 fn heaviest_to_word(
     words: &[u64],
     at: usize,
@@ -69,8 +69,9 @@ fn heaviest_to_word(
     heaviest
 }
 
-/// A heaviest member; none where the set is empty. Where no member weighs more than a bound, the search ends after the 64 numbers among which one
-/// weighs as much. The time is at most that of the members and of the words of the set.
+/// A heaviest member; none where the set is empty. A bound, where one is given, is a weight that no member exceeds: the search then ends after
+/// the first 64 numbers, a word of the set, among which a member weighs as much. The time is at most that of the members and of the words of the
+/// set.
 pub(crate) fn heaviest_member(
     members: &BitSet,
     weights: &[Weight],

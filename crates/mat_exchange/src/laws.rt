@@ -21,7 +21,7 @@ pub fn exchange_along_tight_path()
         × IsHeaviest p w1 (exchanged_along I path) × IsHeaviest q w2 (exchanged_along I path) }
 {}
 
-/// Where no sink is among what the sources reach, there is no tight path, also no longer one (Frank 1981).
+/// Where no sink is among what the sources reach, no walk along tight arcs leads from a source to a sink, whatever its length (Frank 1981).
 pub fn stuck_reach_has_no_path()
     ensures { (n : ℕ) (first second : Exchanges) (w1 w2 : ℕ → Weight) (R path : List ℕ) → IsStuckReach n first second w1 w2 R
         → ¬ IsWalk n (is_tight first second w1 w2) (is_heaviest_addable n first w1) (is_heaviest_addable n second w2) path }

@@ -83,7 +83,7 @@ fn weighs(weights: &[Weight], x: u32, weight: Weight) -> bool
     weight == weights[x as usize]
 }
 
-/// The first element from `from` on in a set that can be exchanged for u and weighs as much.
+/// The first element from `from` on that is in `among`, can be exchanged for u, and weighs as much as u.
 fn next_in_column(
     table: &RowTable,
     among: &BitSet,
@@ -132,7 +132,7 @@ fn earlier(a: Option<u32>, b: Option<u32>) -> Option<u32>
     }
 }
 
-/// The first number from `from` on among these bits and in a set that weighs as much as u.
+/// The first element from `from` on that is among these bits and in `among`, and weighs as much as u.
 fn next_equal(
     candidates: &[u64],
     among: &BitSet,
