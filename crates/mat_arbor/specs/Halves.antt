@@ -20,11 +20,11 @@ value unit w = pos unit *ℤ w.main +ℤ w.tie
 abbrev pub raised_value : ℕ → Weight → ℤ
 raised_value unit w = value unit w +ℤ pos (unit * (largest_weight + 1))
 
--- in which gap of the unit the rest of the number lies
+-- in which gap of the unit, counted from 0, the remainder of the number after division by the unit lies
 abbrev pub gap_at : ℕ → ℕ → ℕ
 gap_at unit x = x % unit / tie_gap
 
--- a shift below the unit: with it added, no number has a rest in the last gap of the unit
+-- a shift below the unit: with it added, no number has a remainder in the last gap of the unit
 pub record IsFreeShift (unit : ℕ) (held : List ℕ) (shift : ℕ) : Type 0 where
   pub below : shift < unit
   pub free : (a : ℕ) → a < length held → (slice_index_or held a 0 + shift) % unit + tie_gap < unit

@@ -34,8 +34,8 @@ fn weights_around(alloc: Global, vertices: u32, cuts: &[CutWeight]) -> Result<Ve
     Ok(sums)
 }
 
-/// The weights of the sets that hold both ends of an arc, added: those of the sets around its head but for those that it enters, which are
-/// what is not left of its cost.
+/// The weights of the sets that hold both ends of an arc, added: those of the sets that hold its head, less those of the sets that it enters,
+/// which together are its cost less what is left of it.
 fn held_weight(around: i128, cost: i128, left: i128) -> u128
     requires around { IsWithin (10 ^ 36) around }
     requires cost { IsWithin (10 ^ 36) cost }

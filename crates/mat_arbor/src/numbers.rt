@@ -13,7 +13,7 @@ use std::alloc::{AllocError, Global};
 /// More than the ties of two costs differ.
 const TIE_GAP: u128 = 2_000_000_000_001;
 
-/// By how much each number of a cost is raised, so that it is above 0.
+/// By how much the main of each cost is raised, so that it is above 0.
 const RAISE: i128 = 1_000_000_000_001;
 
 /// What a main of 1 counts in a single number.
@@ -50,7 +50,7 @@ pub(crate) fn raised_values(
     Ok(all)
 }
 
-/// The gaps of the unit in which rests of the numbers lie.
+/// The gaps of the unit in which the remainders of the numbers lie.
 fn taken_gaps(alloc: Global, unit: u128, held: &[u128]) -> Result<ElemSet, AllocError>
     requires few { length held.now ≤ most_elements }
     requires unit { unit ≡ unit_of (length held.now) }
@@ -65,7 +65,7 @@ fn taken_gaps(alloc: Global, unit: u128, held: &[u128]) -> Result<ElemSet, Alloc
     Ok(taken)
 }
 
-/// A number that, added to each of these, leaves no rest in the last gap of the unit: there is one more gap than there are numbers.
+/// A number that, added to each of these, leaves no remainder in the last gap of the unit: there is one more gap than there are numbers.
 pub(crate) fn free_shift(alloc: Global, unit: u128, held: &[u128]) -> Result<u128, AllocError>
     requires few { length held.now ≤ most_elements }
     requires unit { unit ≡ unit_of (length held.now) }
