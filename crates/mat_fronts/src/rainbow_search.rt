@@ -30,10 +30,11 @@ fn colours_on(alloc: Global, colour_of: &[u32], set: &ElemSet) -> Result<ElemSet
 }
 
 /// A heaviest forest of pairwise different colours for each size, each with a split of the weights that proves it; and where none is a
-/// spanning tree, colours that show that there is none (Schrijver, chapter 41). These are the colours on the cut of the ladder. There
-/// are 1 to 500 vertices and at most 500 edges; both numbers of each weight are at least -10^12 and at most 10^12; there are 1 to 16
-/// workers, for which no thread is started, since a row takes less time than a thread takes to start. The time is that of the intersection of
-/// the graphic matroid and the partition matroid of the colours. The only error is want of memory.
+/// spanning tree, colours that show that there is none (Schrijver, chapter 41). These are the colours on the cut of the ladder. Edge e, counted
+/// from 0, has the colour `colour_of[e]`, a number below `colours`, and the e-th weight. There are 1 to 500 vertices and at most 500 edges; both
+/// numbers of each weight are at least -10^12 and at most 10^12; there are 1 to 16 workers, for which no thread is started, since a row takes
+/// less time than a thread takes to start. The time is that of the intersection of the graphic matroid and the partition matroid of the
+/// colours. The only error is want of memory.
 pub fn rainbow(
     alloc: Global,
     vertices: u32,
