@@ -1,7 +1,7 @@
 //! The ticket word: the number that is drawn next, and what each seat at it holds.
 //!
-//! Who draws needs a share for each number from the count on that it holds, and there are 16 shares in all. So the word stays within the
-//! count and 16, and no draw can run over. Who has all 16 shares holds all that was drawn.
+//! A seat needs a share for each number from the count on that it holds, and there are 16 shares in all. So the word is never above the count
+//! plus 16, and no draw can overflow it. A seat that has all 16 shares holds all that was drawn.
 
 use atomic_table::{Join, Play, Split, Table, TableRule};
 use std::alloc::Global;
