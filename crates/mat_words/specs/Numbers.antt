@@ -45,11 +45,11 @@ number_of (c ∷ cs) = if c == 45 then (if is_counting cs then Some (neg_ℤ (po
 abbrev pub IsBetween : ℤ → ℤ → ℤ → Type 0
 IsBetween low high z = (low ≤ℤ z) × (z ≤ℤ high)
 
--- whether it is
+-- whether the number is in low..high
 abbrev pub is_between : ℤ → ℤ → ℤ → Bool
 is_between low high z = int_le low z && int_le z high
 
--- what is needed where it has to pass the test of a range; nothing at all is misspelled
+-- what a word spells, where it has to pass the test of a range: a fault of range where it fails, and of spelling where the word spells nothing
 abbrev pub ranged : {A : Type 0} → (A → Bool) → Option A → Result A NumberFault
 ranged test None = Err Spelling
 ranged test (Some x) = if test x then Ok x else Err Range

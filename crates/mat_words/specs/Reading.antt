@@ -39,7 +39,7 @@ abbrev pub refusal_by : {K L : Type 0} → (K → L) → Refusal K → Refusal L
 refusal_by kind_of refusals.Memory = refusals.Memory
 refusal_by kind_of (refusals.Fault kind line) = refusals.Fault (kind_of kind) line
 
--- what a call returned that takes no memory is no want of memory
+-- the call did not end for want of memory, which is so of each call that takes no memory
 abbrev pub IsTold : {K X : Type 0} → Result X (Refusal K) → Type 0
 IsTold (Ok x) = Unit {0}
 IsTold (Err refusals.Memory) = ⊥

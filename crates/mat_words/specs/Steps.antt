@@ -7,7 +7,7 @@ abbrev pub ◌>>=◌ : {A B F : Type 0} → Result A F → (A → Result B F) �
 (Ok x) >>= f = f x
 (Err fault) >>= f = Err fault
 
--- as many items, one after the other
+-- so many items, which the reader reads one after the other, each from what the one before left
 unfoldable pub repeat_at : {A S F : Type 0} → (S → Result (A × S) F) → ℕ → S → Result (List A × S) F
 repeat_at reader zero s = Ok ([], s)
 repeat_at reader (suc n) s = do

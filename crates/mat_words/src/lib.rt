@@ -1,4 +1,4 @@
-//! The lines of a text, the words of a line, and words as numbers and weights: what every text format of the workbench is made of.
+//! The lines of a text, the words of a line, and words as numbers and weights: what every text format of matbench is made of.
 //!
 //! A line ends with byte 10. A well spaced line has words of printable bytes with one space between them. A number has one spelling:
 //! `0`, or digits of which the first isn't `0`, or such digits behind a `-`. So has a weight: a number, or two numbers with a `:` between

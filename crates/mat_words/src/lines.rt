@@ -33,7 +33,8 @@ pub(crate) fn split_line(text: &[u8]) -> Option<(&[u8], &[u8])>
     }
 }
 
-/// What holds of every text: it has no byte 10 or is cut behind its first line, and the lines of a text that was written are those again.
+/// What holds of every text: it has no byte 10, or it can be cut behind its first line. A text that was written has the lines that
+/// were written.
 pub fn line_laws()
     // A line that stands in front of a text is its first line.
     ensures first { (line : List ℕ) (rest : List ℕ) → HasNoNewline line

@@ -179,8 +179,8 @@ pub fn next_weights<'a>(
     Ok((weights, rest))
 }
 
-/// The words of the next line behind its first, which has to be this one, and the lines behind it. [`ReadingFault::UnknownWord`] where it
-/// is another, and the faults of [`words_line`].
+/// The words of the next line that follow its first word, which has to be `key`, and the lines behind that line.
+/// [`ReadingFault::UnknownWord`] where the first word is another; the other faults are those of [`words_line`].
 #[tactic(auto, unfolding(crate::specs::Reading::keyed_at))]
 pub fn keyed_line<'a>(
     lines: LineCursor<'a>,

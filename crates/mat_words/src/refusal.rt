@@ -16,7 +16,7 @@ use thiserror::Error;
 pub enum ReadingFault {
     /// A line is needed, and no byte 10 is left.
     EndsEarly,
-    /// The line isn't well spaced: a byte outside 32..126, or a space that doesn't stand alone between two words.
+    /// The line isn't well spaced: a byte outside `32..=126`, or a space that doesn't stand alone between two words.
     BadByte,
     /// A needed word is missing. So it is on an empty line.
     NoWord,

@@ -72,7 +72,8 @@ pub fn word_at(line: &[u8], i: usize) -> Option<&[u8]>
     Some(split_word(rest).0)
 }
 
-/// What holds of every line: the test of a well spaced line says what the sentence says, and words that are joined are those of the line.
+/// What holds of every line: the test `is_well_spaced` is true exactly where the statement `IsWellSpaced` holds, a well spaced line is its
+/// words joined by single spaces, and one or more words that are joined so are the words of that line.
 pub fn word_laws()
     ensures sentence { (line : List ℕ) → IsTrue (is_well_spaced line) ↔ IsWellSpaced line }
     // A well spaced line is its words, joined.
