@@ -13,6 +13,6 @@ most_arcs = 20000
 abbrev pub most_digits : ℕ
 most_digits = 128
 
--- the most matroids that stand within one another
+-- the most matroids that may stand within one another, the outermost one counted
 abbrev pub deepest : ℕ
 deepest = 16

@@ -26,7 +26,7 @@ pub record AreNestedSets (n : ℕ) (sets : List (List ℕ)) (caps : List ℕ) : 
   pub sets_inside : All (IsSet n) sets
   pub family : IsLaminarFamily sets
 
--- one number is below each bound
+-- the first number of the pair is below the first bound, and the second below the second
 abbrev pub IsPairBelow : ℕ → ℕ → ℕ × ℕ → Type 0
 IsPairBelow first_bound second_bound ends = (ends.0 < first_bound) × (ends.1 < second_bound)
 
@@ -53,7 +53,7 @@ abbrev mutual
   AreValidTrees n no_trees = Unit {0}
   AreValidTrees n (more_trees t ts) = IsValidTree n t × AreValidTrees n ts
 
--- a matroid of a form: no more matroids than may stand within one another do
+-- a matroid of a problem with n elements: it is in range, and at most 16 matroids stand within one another, the outermost one counted
 abbrev pub IsValidMatroid : ℕ → Tree → Type 0
 IsValidMatroid n tree = IsValidTree n tree × (depth tree ≤ deepest)
 
@@ -65,7 +65,7 @@ IsWeight w = IsWeightWithin largest_weight w
 abbrev pub AreWeights : List Weight → Type 0
 AreWeights weights = (length weights ≤ most_elements) × All IsWeight weights
 
--- no more edges, arcs or cells than there may be
+-- at most 500 edges, arcs or cells, the two numbers of each below the two bounds
 abbrev pub ArePairs : ℕ → ℕ → List (ℕ × ℕ) → Type 0
 ArePairs first_bound second_bound pairs = (length pairs ≤ most_elements) × All (IsPairBelow first_bound second_bound) pairs
 
