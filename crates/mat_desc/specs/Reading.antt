@@ -77,8 +77,8 @@ unfoldable pub member_at : Naming → ℕ → WordsLeft → Result (ℕ × Words
 member_at None bound p = below_at bound p
 member_at (Some listed) bound p = word_at p >>= λ word. named_as word.1 (name_index listed word.0)
 
--- The set that the words left of line number `line` list, of elements below n, and `taken` with these elements added. An element that
--- is in `taken` already is repeated.
+-- The set of elements below n that the words left of line number `line` list, added to `set`, and `taken` with the same elements added. An
+-- element that is in `taken` already is the fault `Repeated`.
 unfoldable pub elements_from : Naming → ℕ → ℕ → List ℕ → List ℕ → List (List ℕ) → Result (List ℕ × List ℕ) Fault
 elements_from naming n line taken set [] = Ok (set, taken)
 elements_from naming n line taken set (word ∷ words) = do
@@ -215,7 +215,7 @@ laminar_at naming n words lines = do
   sets ← nested_sets_at naming n many.0 [] lines
   Ok (laminar n sets.0 sets.1, sets.2)
 
--- the words for two numbers, one below each bound
+-- the words for two numbers, the first below the first bound and the second below the second
 unfoldable pub ends_at : Naming → ℕ → ℕ → WordsLeft → Result ((ℕ × ℕ) × WordsLeft) Fault
 ends_at naming first_bound second_bound words = do
   first ← member_at naming first_bound words
@@ -445,7 +445,7 @@ graph_at version words lines = do
   edges ← repeat_at (ends_line_at (vertex_naming notation.0) (codes "edge") vertices.0) many.0 notation.1
   Ok (record { instance = graph vertices.0 edges.0; notation = notation.0 }, edges.1)
 
--- the root in the form line, where it stands in version 1
+-- the root, which stands in the form line in version 1; in version 2 it doesn't, and this is None
 unfoldable pub header_root_at : Version → ℕ → WordsLeft → Result (Option ℕ × WordsLeft) Fault
 header_root_at versions.One vertices words = below_at vertices words >>= λ root. Ok (Some root.0, root.1)
 header_root_at versions.Two vertices words = Ok (None, words)

@@ -18,7 +18,7 @@ pub(crate) const MOST_DIGITS: u32 = 128;
 /// The most matroids of a list or of a union.
 pub(crate) const MOST_MATROIDS: u32 = 64;
 
-/// The most matroids that stand within one another.
+/// The most matroids that may stand within one another, the outermost one counted.
 pub(crate) const DEEPEST: u32 = 16;
 
 /// The largest number of a weight or cost.

@@ -41,7 +41,8 @@ impl EarlierSets {
         })
     }
 
-    /// The places of the sets that share a member with the next. The time is that of its members. The only error is want of memory.
+    /// The places of the sets that share a member with the next. The call goes over the members of the next
+    /// once, and not over the sets. The only error is want of memory.
     fn meeting(&self, alloc: Global, next: &ElemSet) -> Result<BitSet, AllocError>
         requires { AllBelow self.now.count next.now }
         ensures { IfOk result (λ places. AreMeeting self.now.sets next.now places) }

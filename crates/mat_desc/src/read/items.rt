@@ -54,7 +54,7 @@ pub(crate) struct ColouredEdges {
     pub(crate) weights: PairWeights,
 }
 
-/// Two numbers, one below each bound.
+/// The words for two numbers, the first below the first bound and the second below the second.
 #[tactic(auto, unfolding(crate::specs::Reading::ends_at))]
 fn next_ends<'a>(
     words: WordCursor<'a>,

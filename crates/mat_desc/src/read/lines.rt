@@ -37,7 +37,8 @@ pub(crate) fn weights_line<'a>(
     ended(words).and(Ok((PairWeights::new(weights), rest)))
 }
 
-/// The set of the elements below `count` that are left of a line, each put among the taken ones. One that is taken already is repeated.
+/// The set of the elements below `count` that are left of a line, each put among the taken ones. [`DescKind::Repeated`] where one is taken
+/// already.
 pub(crate) fn elements_line(
     alloc: Global,
     words: WordCursor<'_>,
@@ -60,8 +61,8 @@ pub(crate) fn elements_line(
     Ok(set)
 }
 
-/// The set of the elements below `count` that are left of a line, as bits: each is found and put in at once. One that stands twice is
-/// repeated.
+/// The set of the elements below `count` that are left of a line, as bits, so that an element is looked up and put in without a search.
+/// [`DescKind::Repeated`] where one stands twice.
 pub(crate) fn element_bits(
     alloc: Global,
     words: WordCursor<'_>,

@@ -203,7 +203,8 @@ fn gf2<'a>(alloc: Global, count: u32, words: WordCursor<'a>, lines: LineCursor<'
     Ok((AnyMatroid::Gf2(matroid), rest))
 }
 
-/// The dual of a matroid, from the words behind its keyword on. In the matroid within it there is room for `room` matroids within one another.
+/// The dual of a matroid, from the words behind its keyword on. In the matroid within it at most `room` matroids may stand within one
+/// another, itself counted.
 #[cycle(reading)]
 #[tactic(auto, unfolding(crate::specs::Reading::dual_at))]
 fn dual<'a>(
@@ -224,7 +225,7 @@ fn dual<'a>(
     Ok((AnyMatroid::Dual(inner), rest))
 }
 
-/// A truncation, from the words behind its keyword on, with `room` as of a dual.
+/// A truncation, from the words behind its keyword on, with `room` as for [`dual`].
 #[cycle(reading)]
 #[tactic(auto, unfolding(crate::specs::Reading::truncate_at))]
 fn truncation<'a>(
@@ -246,7 +247,7 @@ fn truncation<'a>(
     Ok((AnyMatroid::Truncate { cap, inner }, rest))
 }
 
-/// A restriction, from the words behind its keyword on, with `room` as of a dual.
+/// A restriction, from the words behind its keyword on, with `room` as for [`dual`].
 #[cycle(reading)]
 #[tactic(auto, unfolding(crate::specs::Reading::restrict_at))]
 fn restriction<'a>(
@@ -267,7 +268,7 @@ fn restriction<'a>(
     Ok((AnyMatroid::Restrict { kept, inner }, rest))
 }
 
-/// A contraction, from the words behind its keyword on, with `room` as of a dual.
+/// A contraction, from the words behind its keyword on, with `room` as for [`dual`].
 #[cycle(reading)]
 #[tactic(auto, unfolding(crate::specs::Reading::contract_at))]
 fn contraction<'a>(
@@ -288,7 +289,7 @@ fn contraction<'a>(
     Ok((AnyMatroid::Contract { away, inner }, rest))
 }
 
-/// A union, from the words behind its keyword on, with `room` as of a dual.
+/// A union, from the words behind its keyword on, with `room` as for [`dual`].
 #[cycle(reading)]
 #[tactic(auto, unfolding(crate::specs::Reading::union_at))]
 fn union_of<'a>(
@@ -316,7 +317,7 @@ fn joined(parts: Vec<AnyMatroid>) -> AnyMatroid
     AnyMatroid::Union { parts }
 }
 
-/// As many matroids, with `room` as of a dual.
+/// The next `many` matroids, on `count` elements each, with `room` as for [`next_matroid_within`].
 #[cycle(reading)]
 fn matroids_within<'a>(
     alloc: Global,
@@ -340,7 +341,8 @@ fn matroids_within<'a>(
     Ok((matroids, rest))
 }
 
-/// The next matroid, on `count` elements, in which at most `room` matroids stand within one another. The recursion goes no deeper than that.
+/// The next matroid, on `count` elements, in which at most `room` matroids stand within one another, itself counted. The recursion goes
+/// no deeper than that. [`DescKind::TooDeep`] where `room` is 0 and the next line is well spaced and has words.
 #[cycle(reading)]
 #[tactic(auto, unfolding(crate::specs::Reading::matroid_within))]
 fn next_matroid_within<'a>(

@@ -144,7 +144,7 @@ pub(crate) fn read_notation<'a>(
     }
 }
 
-/// The root in the form line, where it stands in version 1.
+/// The root, which stands in the form line in version 1. In version 2 it doesn't, and this is None.
 #[tactic(auto, unfolding(crate::specs::Reading::header_root_at))]
 pub(crate) fn header_root<'a>(
     version: Version,

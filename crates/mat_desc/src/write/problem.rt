@@ -60,7 +60,7 @@ fn put_version_line(out: &mut Vec<u8>, lists: Option<Lists<'_>>) -> Result<(), A
     }
 }
 
-/// Appends the form line of a directed graph with a root, which stands in it where vertices have no names.
+/// Appends the form line of a directed graph with a root. The root stands in this line only where vertices have no names.
 fn put_rooted_header(
     out: &mut Vec<u8>,
     lists: Option<Lists<'_>>,
