@@ -195,7 +195,7 @@ pub record IsRangedPacking (n : ℕ) (bases : List (List ℕ)) (cut : List ℕ) 
   pub bases_in_range : AreRangedSets n 0 n bases
   pub cut_in_range : IsSet n cut
 
--- at most n sets that cover n elements are in range, and so is the cut, which is there exactly where there are any
+-- at most n sets that cover n elements are in range, and so is the cut, which is there exactly where there is at least one set
 pub record IsRangedCover (n : ℕ) (sets : List (List ℕ)) (cut : Option (List ℕ)) : Type 0 where
   pub few : n ≤ most_elements
   pub sets_in_range : AreRangedSets n 0 n sets
@@ -211,7 +211,7 @@ pub record IsVertexCount (vertices : ℕ) : Type 0 where
   pub some : 1 ≤ vertices
   pub few : vertices ≤ most_vertices
 
--- from 1 to 64 trees that are not there on n edges or arcs and these vertices are in range
+-- where k disjoint trees do not exist: k is from 1 to 64, and the numbers of edges or arcs and of vertices are in range
 pub record AreRangedNone (n k vertices : ℕ) : Type 0 where
   pub few : n ≤ most_elements
   pub some_trees : 1 ≤ k
@@ -270,17 +270,17 @@ IsRanged (assign n rows columns rungs cut) = IsRangedAssignment n rows columns r
 
 -- ---- what the program prints
 
--- a weight that the program may print: within the bound on a split of 500 elements
+-- a weight that the program may print: its numbers are from -3 * 10^20 to 3 * 10^20, and the bound on a split of 500 elements is smaller
 abbrev pub IsPrintedWeight : Weight → Type 0
 IsPrintedWeight w = IsWeightWithin (3 * 10 ^ 20) w
 
--- the weights of a rung are such
+-- each weight of the rung is one that the program may print
 pub record IsPrintedRung (rung : PricedRung) : Type 0 where
   pub weight : IsPrintedWeight rung.weight
   pub first : All IsPrintedWeight rung.first
   pub second : All IsPrintedWeight rung.second
 
--- and so are all weights of a certificate
+-- each weight of the certificate is one that the program may print
 abbrev pub IsPrinted : Certificate → Type 0
 IsPrinted (intersect n rungs cut) = All IsPrintedRung rungs
 IsPrinted (best n rungs) = All (λ rung. IsPrintedWeight rung.weight) rungs

@@ -47,7 +47,7 @@ trees_header_at words = do
   trees ← size_at 1 most_trees count.1
   Ok (count.0, trees.0)
 
--- the elements, how many trees are not there, and the vertices, with the words behind these
+-- the elements, a number k where k disjoint trees do not exist, and the vertices, with the words behind these
 unfoldable pub none_at : WordsLeft → Result (ℕ × ℕ × ℕ × WordsLeft) Fault
 none_at words = do
   count ← count_at words
@@ -56,7 +56,7 @@ none_at words = do
   vertices ← size_at 1 most_vertices rest
   Ok (count.0, trees.0, vertices.0, vertices.1)
 
--- the elements, how many trees are not there, the vertices and their classes
+-- the elements, a number k where k disjoint trees do not exist, the vertices and their classes
 unfoldable pub classes_header_at : WordsLeft → Result (ℕ × ℕ × ℕ × ℕ) Fault
 classes_header_at words = do
   counted ← has_words 5 words
@@ -64,7 +64,7 @@ classes_header_at words = do
   classes ← size_at 1 none.2 none.3
   Ok (none.0, none.1, none.2, classes.0)
 
--- the elements, how many arborescences are not there, and the vertices
+-- the elements, a number k where k disjoint arborescences do not exist, and the vertices
 unfoldable pub entered_header_at : WordsLeft → Result (ℕ × ℕ × ℕ) Fault
 entered_header_at words = do
   counted ← has_words 4 words

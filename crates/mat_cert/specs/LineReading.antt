@@ -61,7 +61,7 @@ members_from n line least (word ∷ words) = do
 abbrev pub keyed_at : List ℕ → LinesLeft → Result (WordsLeft × LinesLeft) Fault
 keyed_at key p = told (any_text.keyed_at key p)
 
--- a line of this word and as many others
+-- a line of this word and so many others: the words behind it, and the lines behind the line
 unfoldable pub counted_at : List ℕ → ℕ → LinesLeft → Result (WordsLeft × LinesLeft) Fault
 counted_at key many p = do
   line ← keyed_at key p

@@ -1,7 +1,10 @@
 //! Answers, by the command that gives them.
+//!
+//! The answer for one size is called a rung: rung k has a set of k elements. The rungs of all sizes from 0 on, with the cut where there is
+//! one, are called a ladder.
 use mat_sets::{ElemSet, PairWeights, SetList, Weight};
 
-/// A heaviest common independent set of its size, with a split of the weights that proves it.
+/// A heaviest common independent set of its size, with a split of the weights that proves it (Frank 1981).
 #[derive(Debug, Drop)]
 pub struct PricedRung {
     /// The weight of the set.
@@ -23,19 +26,21 @@ pub struct PlainRung {
     pub set: ElemSet,
 }
 
-/// A weight, and a set of elements of at least that weight, by which no parts hold more of these elements.
+/// A weight t, and a set of elements that weigh at least t. The set shows that of all elements that weigh at least t, no disjoint sets, one
+/// for each matroid and independent in it, hold more than the parts of the union do.
 #[derive(Debug, Drop)]
 pub struct LevelLine {
     /// The weight.
     pub at: Weight,
-    /// The set.
+    /// The set that shows it.
     pub cut: ElemSet,
 }
 
-/// An answer with what proves it, by its command. `count` is the number of elements.
+/// An answer with what proves it, by its command. `count` is the number of elements, or of edges, arcs or cells where the problem has these.
 #[derive(Debug, Drop)]
 pub enum Answer {
-    /// A heaviest common independent set of two matroids for each size from 0 on, and a set whose ranks show that none is larger.
+    /// A heaviest common independent set of two matroids for each size from 0 on, and a cut: its rank in the second matroid and that of its
+    /// complement in the first add up to the last size, so that no common independent set is larger (Edmonds 1970).
     Intersect {
         count: u32,
         rungs: Vec<PricedRung>,
@@ -68,7 +73,7 @@ pub enum Answer {
         count: u32,
         loop_at: u32,
     },
-    /// As few independent sets that cover all elements as there are, and a cut where there are any.
+    /// As few independent sets as cover all elements, and where there is at least one set, a cut that shows that fewer do not.
     Cover {
         count: u32,
         sets: SetList,

@@ -9,8 +9,9 @@ ghost use Rattle.mat_cert.specs.{
   Reading.{read_of},
 };
 
-/// What holds of every certificate in range: its text has at most 2^26 bytes, no other certificate in range has that text, and it has less
-/// than 24,000,000 bytes where its weights are no larger than those that are printed, whose words have at most 45 bytes.
+/// What holds of every certificate in range: its text has at most 2^26 bytes, and no other certificate in range has that text. The text has
+/// fewer than 24,000,000 bytes where each number of each weight is from -3 * 10^20 to 3 * 10^20, as in all that the program prints: the word
+/// of such a weight has at most 45 bytes.
 pub fn certificate_laws()
     ensures short { (c : Certificate) → IsRanged c → length (certificate_text c) ≤ certificate_limit }
     ensures one_certificate { (first second : Certificate) → IsRanged first → IsRanged second

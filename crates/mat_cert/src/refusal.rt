@@ -8,7 +8,7 @@ use mat_words::{FaultKind, NumberFault, ReadingFault, Refusal};
 /// What is wrong with a line.
 #[derive(Clone, Copy, Debug, PartialEq, Eq)]
 pub enum CertKind {
-    /// The line isn't well spaced: a byte outside 32..126, or a space that doesn't stand alone between two words.
+    /// The line isn't well spaced: a byte outside `32..=126`, or a space that doesn't stand alone between two words.
     BadByte,
     /// A word isn't one of those that may stand here.
     UnknownWord,

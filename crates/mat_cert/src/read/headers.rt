@@ -72,7 +72,7 @@ pub(crate) fn trees_header(words: WordCursor<'_>) -> Result<(u32, u32), CertRefu
     Ok((count, trees))
 }
 
-/// The elements, how many trees are not there, and the vertices, with the words behind these.
+/// The elements, a number k where k disjoint trees do not exist, and the vertices, with the words behind these.
 #[tactic(auto, unfolding(crate::specs::HeaderReading::none_at))]
 fn none_words<'a>(words: WordCursor<'a>) -> Result<(u32, u32, u32, WordCursor<'a>), CertRefusal>
     ensures { Gives (λ x. (x.0, x.1, x.2, words_left x.3)) result (none_at (words_left words.entry)) }
@@ -84,7 +84,7 @@ fn none_words<'a>(words: WordCursor<'a>) -> Result<(u32, u32, u32, WordCursor<'a
     Ok((count, trees, vertices, words))
 }
 
-/// The elements, how many trees are not there, the vertices and their classes.
+/// The elements, a number k where k disjoint trees do not exist, the vertices and their classes.
 #[tactic(auto, unfolding(crate::specs::HeaderReading::classes_header_at))]
 pub(crate) fn classes_header(words: WordCursor<'_>) -> Result<(u32, u32, u32, u32), CertRefusal>
     ensures { Gives (λ x. x) result (classes_header_at (words_left words.entry)) }
@@ -95,7 +95,7 @@ pub(crate) fn classes_header(words: WordCursor<'_>) -> Result<(u32, u32, u32, u3
     Ok((count, trees, vertices, classes))
 }
 
-/// The elements, how many arborescences are not there, and the vertices.
+/// The elements, a number k where k disjoint arborescences do not exist, and the vertices.
 #[tactic(auto, unfolding(crate::specs::HeaderReading::entered_header_at))]
 pub(crate) fn entered_header(words: WordCursor<'_>) -> Result<(u32, u32, u32), CertRefusal>
     ensures { Gives (λ x. x) result (entered_header_at (words_left words.entry)) }

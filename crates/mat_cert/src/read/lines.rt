@@ -11,7 +11,8 @@ use mat_sets::PairWeights;
 use mat_words::{LineCursor, WordCursor, fault, keyed_line, next_weights, nothing_left};
 use std::alloc::Global;
 
-/// The next line, which has to be of this word and as many others.
+/// The words of the next line that follow its first word, and the lines behind that line. The first word has to be `key`, and `many` others
+/// have to follow it.
 ///
 /// [`CertKind::EndsEarly`] where no byte 10 is left, [`CertKind::BadByte`] where the line isn't well spaced, [`CertKind::UnknownWord`]
 /// where its first word is another, and [`CertKind::WrongCount`] where it has another number of words.
