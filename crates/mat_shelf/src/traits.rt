@@ -7,18 +7,21 @@ ghost use Rattle.mat_shelf.specs.{Faults.{Rose}, Reading.{Gave}, Writing.{Append
 #[derive(Clone, Copy, Debug, PartialEq, Eq)]
 pub struct Failed;
 
-/// Files by name, of which one is read at a time. In the meanings a name is the list of its bytes.
+/// Files by name, of which one is read at a time. In the contracts a name is the list of its bytes.
 pub trait Shelf {
-    /// What the file of this name holds, where that is told.
+    /// What the file of this name holds: `None` where the contracts say nothing of it, as of real
+    /// files.
     ghost held: { Self → List ℕ → Option (List ℕ) };
 
-    /// What is left of the file that was opened last, where that is told.
+    /// What is left of the file that was opened last: `None` where nothing is open, or the
+    /// contracts say nothing of it.
     ghost left: { Self → Option (List ℕ) };
 
     /// The file of this name may be read.
     ghost reading: { Self → List ℕ → Type 0 };
 
-    /// How often a call for this name failed. It never falls.
+    /// How often a call for this name failed. It never falls, and stays at the last value of a
+    /// `u64`: a count that stands there is said to rise at each failure.
     ghost faults: { Self → List ℕ → ℕ };
 
     /// Opens the file of this name at its start. `Failed` comes only where the count of this name
@@ -45,10 +48,11 @@ pub trait Shelf {
 
 /// A sink, to which bytes are put.
 pub trait Sink {
-    /// What was put so far, where that is told.
+    /// What was put so far: `None` where the contracts say nothing of it, as of real streams.
     ghost written: { Self → Option (List ℕ) };
 
-    /// How often a call failed. It never falls.
+    /// How often a call failed. It never falls, and stays at the last value of a `u64`: a count
+    /// that stands there is said to rise at each failure.
     ghost faults: { Self → ℕ };
 
     /// Appends a front of the piece and gives its length, which is not 0 where the piece is not
