@@ -1,4 +1,4 @@
--- The draws of a multiplicative congruential generator (Lehmer; Park and Miller 1988).
+-- The draws of a multiplicative congruential generator (Lehmer; Park and Miller 1988, with the multiplier of Park, Miller and Stockmeyer 1993).
 use Rattle.std.specs.Prelude.{ℕ, zero, suc, ◌*◌, ◌%◌}
 
 -- the state after one step
