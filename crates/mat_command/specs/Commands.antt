@@ -41,9 +41,9 @@ IsTaskInRange (sample kind size seed) = IsSampleInRange size seed
 IsTaskInRange (batch list) = Unit {0}
 IsTaskInRange (convert file) = Unit {0}
 
--- ---- each has at most one proof
+-- ---- at most one proof of each range
 
--- that the numbers of a request are
+-- there is at most one proof that the numbers of a request are in range
 pub IsRequestInRange-prop : (request : Request) → IsProp (IsRequestInRange request)
 IsRequestInRange-prop show = Unit-prop
 IsRequestInRange-prop (solve query) = IsQueryInRange-prop query
@@ -52,7 +52,7 @@ IsRequestInRange-prop (check certificate) = Unit-prop
 IsRequestInRange-prop (witness rung certificate) = Unit-prop
 IsRequestInRange-prop (verify rung certificate shown) = Unit-prop
 
--- that the numbers of a task are
+-- there is at most one proof that the numbers of a task are in range
 pub IsTaskInRange-prop : (task : Task) → IsProp (IsTaskInRange task)
 IsTaskInRange-prop (about file request) = IsRequestInRange-prop request
 IsTaskInRange-prop (sample kind size seed) = ×_prop (×_prop le_prop le_prop) (×_prop le_prop le_prop)

@@ -164,7 +164,7 @@ fn sample_for<'a>(first: &str, second: &str, third: &str) -> Option<Command<'a>>
     Some(Command::Sample { kind, size, seed })
 }
 
-// The witness that is asked for of a rung of a certificate.
+// The command that asks for a witness of this rung of a certificate.
 fn witness_of<'a>(rung: &str, file: &'a str, certificate: &'a str) -> Option<Command<'a>>
     ensures task { option_map task_of result ≡ witness_of rung.now file.now certificate.now }
     ensures range { IfSome result (λ c. IsTaskInRange (task_of c)) }

@@ -66,7 +66,7 @@ fn next_words<'a>(
     }
 }
 
-// Whether the words of a line are those of the head.
+// Whether the words of a line are `jobs 1`, the head of a list.
 fn is_head(words: &[String]) -> bool
     ensures { result ≡ is_head (map string_bytes words.now) }
 {
@@ -76,7 +76,7 @@ fn is_head(words: &[String]) -> bool
     }
 }
 
-// Whether the words of a line are the one of the last.
+// Whether the words of a line are the one word `end`, the last line of a list.
 fn is_end(words: &[String]) -> bool
     ensures { result ≡ is_end (map string_bytes words.now) }
 {
@@ -182,8 +182,8 @@ fn job_lines(alloc: Global, lines: LineCursor<'_>) -> Result<Vec<Job>, ListRefus
     }
 }
 
-/// The jobs of a list of at most 4,194,304 bytes, at most 32. `Line` comes exactly where a line is not the needed one, with the number of the first such line, and
-/// `Memory` is want of memory.
+/// The jobs of a list of at most 4,194,304 bytes. `Line` comes exactly where the bytes are no list of at most 32 jobs, with the number,
+/// counted from 1, of the first line that is not the needed one. `Memory` is want of memory.
 pub fn read_jobs(alloc: Global, bytes: &[u8]) -> Result<Vec<Job>, ListRefusal>
     requires within { length bytes.now ≤ description_limit }
     ensures jobs { IfOk result (λ v. jobs_of bytes.now ≡ Ok (map job_of v.items)) }
