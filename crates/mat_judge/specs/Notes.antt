@@ -19,7 +19,7 @@ abbrev pub fault_note : List ℕ → ℕ → List ℕ → ℕ → List ℕ
 fault_note file number name line =
     joined (file ∷ numeral (pos number) ∷ codes " " ∷ name ∷ codes " line " ∷ numeral (pos line) ∷ (10 ∷ []) ∷ [])
 
--- the note of what its files say against a call
+-- the note of what the files of a call say against it
 abbrev pub note_of_denial : Denial → List ℕ
 note_of_denial (denials.No reason first second) =
     joined (codes "no " ∷ reason_word reason ∷ codes " " ∷ numeral (pos first) ∷ codes " " ∷ numeral (pos second) ∷ (10 ∷ []) ∷ [])

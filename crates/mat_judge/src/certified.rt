@@ -44,7 +44,7 @@ pub enum NotRight {
     /// The form of the problem is not that of the answer.
     #[error("the form of the problem is not the certificate's")]
     WrongShape,
-    /// The first clause of the answer that fails, and its two places.
+    /// The first clause of the answer that fails, and its two places: two numbers, whose meaning [`Reason`] gives.
     #[error("the answer isn't right: {0:?} {1} {2}")]
     No(Reason, u32, u32),
 }

@@ -93,7 +93,7 @@ fn put_unread<N: Sink>(notes: &mut N, unread: Unread)
     }
 }
 
-// Writes the note of what its files say against a call.
+// Writes the note of what the files of a call say against it.
 fn put_denial<N: Sink>(notes: &mut N, denial: Denial)
     ensures { IsNoted (note_of_denial denial) (N.written notes.old) (N.faults notes.old) (N.written notes.new) (N.faults notes.new) }
 {

@@ -22,13 +22,13 @@ use mat_desc::DescKind;
 use std::alloc::AllocError;
 use thiserror::Error;
 
-/// What its files say against a call.
+/// What the files of a call say against it.
 #[derive(Clone, Copy, Debug, Error)]
 pub enum Denial {
-    /// The first clause of the answer that fails, and its two places.
+    /// The first clause of the answer that fails, and its two places: two numbers, whose meaning [`Reason`] gives.
     #[error("the answer isn't right: {0:?} {1} {2}")]
     No(Reason, u32, u32),
-    /// The first part of the witness that fails.
+    /// The first part of the witness that fails, by its number, counted from 1.
     #[error("part {0} of the witness does not hold")]
     NotShown(u32),
     /// The description's first fault, and the number of its line.
@@ -66,7 +66,7 @@ pub enum Refusal {
     /// A file was not read, or memory ran out.
     #[error("{0}")]
     Unread(Unread),
-    /// What the files say.
+    /// The files of the call say something against it.
     #[error("{0}")]
     Denied(Denial),
 }
