@@ -7,11 +7,11 @@ use Rattle.mat_cert.specs.Faults.{Fault}
 use Rattle.mat_witness.specs.Parts.{BoundPart}
 use Rattle.mat_witness.specs.Reading.{bound_at}
 
--- their matroids
+-- the matroids of bounds in a row
 abbrev pub row_trees : Tree → Tree → ℕ → ℕ → List Tree
 row_trees first second firsts seconds = replicate firsts first ++ (replicate seconds second ++ first ∷ second ∷ [])
 
--- what is read behind the items of a list, with these in front
+-- a reading of more items of a list, with the items that are already there in front
 abbrev pub behind : {A S : Type 0} → List A → Result (List A × S) Fault → Result (List A × S) Fault
 behind front reading = reading >>= λ x. Ok (front ++ x.0, x.1)
 

@@ -1,5 +1,4 @@
--- The algorithm's own notions, by which the private functions on forests are told: what edges add up to at each vertex. No public contract
--- rests on them.
+-- What only contracts of private functions on forests cite: what edges add up to at each vertex.
 use Rattle.std.specs.Prelude.{◌≡◌, ℕ, ◌+◌, ◌<◌, if◌then◌else◌, ◌==◌, List, [], ◌∷◌, length, slice_index}
 
 -- what an edge with these ends adds at v: the amount where one end is v, and twice the amount where both are

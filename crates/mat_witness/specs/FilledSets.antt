@@ -12,11 +12,11 @@ abbrev pub size_named : List (List ℕ) → Option ℕ → ℕ
 size_named sets None = 0
 size_named sets (Some i) = length (slice_index_or sets i [])
 
--- what is named of a set and the one at this place: that of more members, and of equally many the one that is named
+-- which is named of the set that was named before and the one at this place: the one with more members, and the former where they have equally many
 abbrev pub larger_named : List (List ℕ) → Option ℕ → ℕ → Option ℕ
 larger_named sets entry i = if nat_lt (size_named sets entry) (length (slice_index_or sets i [])) then Some i else entry
 
--- of the first sets, of those of them that I fills and that hold x, the first of the largest
+-- of the sets at places below a number, the first of the largest of those that I fills and that hold x
 unfoldable pub largest_filled : List (List ℕ) → List ℕ → List ℕ → ℕ → ℕ → Option ℕ
 largest_filled sets caps I zero x = None
 largest_filled sets caps I (suc i) x =
@@ -32,7 +32,7 @@ pub record AreLargerNamed (sets : List (List ℕ)) (place : ℕ) (members : List
   pub at : (x : ℕ) → x < length before → slice_index_or after x None
       ≡ (if is_member x members then larger_named sets (slice_index_or before x None) place else slice_index_or before x None)
 
--- for each element the first of the largest of the first sets that I fills and that hold it is named
+-- for each element below `count`, of the first `many` sets the first of the largest of those that I fills and that hold it is named
 pub record AreLargestNamed (sets : List (List ℕ)) (caps I : List ℕ) (many count : ℕ) (table : List (Option ℕ)) : Type 0 where
   pub at : (x : ℕ) → x < count → slice_index_or table x None ≡ largest_filled sets caps I many x
 

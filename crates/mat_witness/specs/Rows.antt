@@ -1,5 +1,5 @@
--- The algorithm's own notions, by which its private functions are told: a list of binary numbers that is changed until all meet a column evenly.
--- No public contract rests on them.
+-- What only contracts of private functions cite: a list of binary numbers that is changed until all meet a column evenly. A number meets a column
+-- evenly where the two have an even number of binary ones in common, and else oddly.
 use Rattle.std.specs.Prelude.{◌≡◌, ◌≢◌, ℕ, ◌<◌, true, if◌then◌else◌, List, length, map, slice_index_or, remove}
 use Rattle.std.specs.Int.{bit_at}
 use Rattle.std.specs.Int.Bits.{bit_xor}

@@ -27,11 +27,11 @@ pub record Demand : Type 0 where
 abbrev pub demand_at : Tree → List ℕ → List Weight → Weight → Demand
 demand_at tree set half t = record { tree = tree; set = heavy (length half) half t; most = length (intersection set (heavy (length half) half t)) }
 
--- those of a half: one for each of its different values, falling, at or above which fewer than k members of the set weigh
+-- the demands of a half: one for each of its different values, falling, at or above which fewer than k members of the set weigh
 abbrev pub demands_under : Tree → ℕ → List ℕ → List Weight → List Demand
 demands_under tree k set half = filter (λ demand. nat_lt demand.most k) (map (demand_at tree set half) (falling_weights half))
 
--- those of rung k: of its first half in the first matroid, and of its second in the second
+-- the demands of rung k: those of its first half in the first matroid, and those of its second half in the second
 abbrev pub demands_of : Tree → Tree → ℕ → PricedRung → List Demand
 demands_of first second k rung = demands_under first k rung.set rung.first ++ demands_under second k rung.set rung.second
 

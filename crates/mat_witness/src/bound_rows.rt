@@ -10,7 +10,7 @@ use crate::witness::Most;
 use mat_cert::PricedRung;
 use std::alloc::{AllocError, Global};
 
-/// The bounds behind so many.
+/// The bounds behind the first `count`.
 pub(crate) fn bounds_behind(bounds: &[Most], count: usize) -> &[Most]
     requires { count ≤ length bounds.now }
     ensures rest { result.now ≡ drop count bounds.now }

@@ -17,7 +17,7 @@ pub(crate) struct Demand {
     pub(crate) most: usize,
 }
 
-// The elements that weigh at least as much under a half, with how many members of the set do.
+// The elements whose weight in a half is at least `at`, with the number of members of the set among them.
 fn demand_at(
     alloc: Global,
     set: &ElemSet,

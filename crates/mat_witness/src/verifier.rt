@@ -50,8 +50,9 @@ fn shows_common_set(
     shows_free(alloc, second, &witness.second, set)
 }
 
-// The number of the part that fails, of the two that bound ranks: the bounds meet what is demanded for both halves of the rung, and the two
-// behind them show that no common independent set has more than `last` elements.
+// Of the two parts that bound ranks, the number of the first that fails, and None where both hold: 3 where a bound doesn't meet what is
+// demanded for a half of the rung, and 4 where the two bounds behind those don't show that no common independent set has more than `last`
+// elements.
 fn failing_bounds(
     alloc: Global,
     first: &AnyMatroid,

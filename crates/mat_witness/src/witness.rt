@@ -19,8 +19,8 @@ pub enum Free {
 /// What shows that the rank of a set is at most a number, by the kind of the matroid.
 #[derive(Debug, Drop)]
 pub enum Most {
-    /// In a uniform, partition or laminar matroid, elements that count themselves, and the numbers of listed sets that hold all others: the
-    /// number is that of the elements and the caps of these sets. A uniform matroid lists the set of all elements.
+    /// In a uniform, partition or laminar matroid, elements that count themselves, and the numbers, from 0 on, of listed sets that hold all other
+    /// members of the set: the number is 1 for each of these elements plus the caps of these sets. A uniform matroid lists the set of all elements.
     Spent {
         /// The elements that count themselves.
         spent: ElemSet,
@@ -52,7 +52,8 @@ pub struct Witness {
     pub first: Free,
     /// What shows that the rung's set is independent in the second matroid.
     pub second: Free,
-    /// What bounds the ranks of the elements that weigh at least as much as each value of each half, where fewer than `k` members of the
-    /// set do, and then those of the elements outside the cut in the first matroid and of the cut in the second.
+    /// Bounds of ranks. First, for each half and for each of its different values, falling, at or above which fewer than `k` members of the set
+    /// weigh: of the elements that weigh at least as much. Then two for the cut: of the elements outside the cut in the first matroid, and of the cut in
+    /// the second.
     pub bounds: Vec<Most>,
 }

@@ -69,8 +69,8 @@ fn sum_caps(caps: &[u32], chosen: &ElemSet) -> u32
     sum
 }
 
-/// The number of the elements that count themselves and of the caps of the chosen sets, and None where a member of the set is in none of
-/// them. The only error is want of memory.
+/// The number of the elements that count themselves plus the caps of the chosen sets, and None where a member of the set is neither such an
+/// element nor in a chosen set. The only error is want of memory.
 pub(crate) fn listed_bound(
     alloc: Global,
     sets: &SetList,
@@ -216,8 +216,9 @@ fn unnamed_members(
     Ok(members)
 }
 
-/// The listed sets that a maximal independent subset of a set fills, of those that lie in one another the largest, and its members in none
-/// of them: their number is that of the subset. The only error is want of memory.
+/// A bound of the rank of a set by the size of `inside`, a maximal independent subset, which fills a listed set where it has as many members
+/// in it as the cap. For each member of the set that is in a filled set, the largest such set is chosen; the elements that count themselves
+/// are the members of `inside` that are in no filled set. The only error is want of memory.
 pub(crate) fn filled_bound(
     alloc: Global,
     count: u32,

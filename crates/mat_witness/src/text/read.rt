@@ -137,7 +137,7 @@ fn witness_lines(
     Ok(witness)
 }
 
-/// The same of a problem and an answer: by their matroids and by the rung.
+/// A whole witness for rung k of an answer to a problem.
 #[tactic(auto, unfolding(crate::specs::Reading::read_of))]
 fn witness_of(
     alloc: Global,

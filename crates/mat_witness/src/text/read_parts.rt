@@ -38,7 +38,7 @@ fn binary_line<'a>(
     Ok((number, rest))
 }
 
-/// As many of these lines.
+/// `many` lines, each of this word and a number of so many binary digits.
 fn binary_lines<'a>(
     alloc: Global,
     lines: LineCursor<'a>,
@@ -150,7 +150,7 @@ fn path_line<'a>(
     Ok((Walk::new(path), rest))
 }
 
-/// As many of these lines.
+/// `many` lines of at least one vertex each.
 fn path_lines<'a>(
     alloc: Global,
     lines: LineCursor<'a>,
@@ -255,7 +255,7 @@ pub(crate) fn bound_lines<'a>(
     }
 }
 
-/// As many bounds of ranks in a matroid on `count` elements, behind those of a list.
+/// `many` bounds of ranks in a matroid on `count` elements, behind those of `front`.
 pub(crate) fn more_bounds<'a>(
     alloc: Global,
     front: Vec<Most>,

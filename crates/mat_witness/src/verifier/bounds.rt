@@ -12,7 +12,7 @@ use mat_any::AnyMatroid;
 use mat_sets::ElemSet;
 use std::alloc::{AllocError, Global};
 
-/// The number of the part where it shows that the rank of the set is at most this, and else None. The only error is want of memory.
+/// The bound that the part shows for the rank of the set, and None where it shows none. The only error is want of memory.
 pub(crate) fn bound_shown(
     alloc: Global,
     matroid: &AnyMatroid,

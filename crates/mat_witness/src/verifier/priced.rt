@@ -20,8 +20,8 @@ fn all_add_up(weights: &[Weight], first: &[Weight], second: &[Weight]) -> bool
     first_unsplit(weights, first, second).is_none()
 }
 
-/// Whether a rung of an answer on so many elements has as many as there are weights, the weight of its set, and halves that add up to the
-/// weights.
+/// Whether `count`, the number of elements that the answer states, is the number of weights, the weight of the rung is that of its set, and
+/// its halves add up to the weights.
 pub(crate) fn is_priced(weights: &[Weight], count: u32, rung: &PricedRung) -> bool
     requires few { length weights.now ≤ most_elements }
     requires small { AreWeightsWithin largest_number weights.now }

@@ -51,8 +51,9 @@ pub(crate) fn shows_probes(matroid: &Gf2, numbers: &[u128], set: &ElemSet) -> bo
     true
 }
 
-/// Such numbers for an independent set, by elimination: at first there is a row for each entry, and each column takes one that meets it oddly
-/// out of the rows as its probe, which is then added to the other rows and probes that meet it so. The only error is want of memory.
+/// Such numbers for an independent set, by elimination: at first there is a row for each entry of a column, with a one there alone. Each column
+/// in turn takes a row with which it has an odd number of ones in common out of the rows, as its probe, and the probe is added to the other
+/// rows and to the earlier probes with which the column has an odd number of ones in common. The only error is want of memory.
 pub(crate) fn probes_of(
     alloc: Global,
     matroid: &Gf2,

@@ -179,9 +179,9 @@ pub(crate) fn closing_bound(
     }
 }
 
-/// The vertices that are reached from the sources without a separator, and the separator: as many vertices as there are disjoint paths to
-/// those of the set, and as a maximal independent subset has members (Menger's theorem; Schrijver, chapter 9). The only error is want of
-/// memory.
+/// For a smallest separator of the vertices of the set from the sources: the vertices that the sources reach by paths that avoid it, and those of
+/// its vertices that the sources reach, which are at most as many as a maximal independent subset of the set has members (Menger's theorem;
+/// Schrijver, chapter 9). The only error is want of memory.
 pub(crate) fn closing_sets(
     alloc: Global,
     matroid: &Gammoid,
