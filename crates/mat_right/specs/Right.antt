@@ -62,7 +62,8 @@ pub record IsRightUnionAnswer (n : ℕ) (tests : List (List ℕ → Bool)) (w : 
   pub priced : printed ≡ weight w (family_union parts)
   pub right : IsRightUnion n tests w parts (map level_of levels)
 
--- a ladder, and where its last set is no spanning tree, and there alone, colours that show that there is none
+-- a right ladder, and where its last set is no spanning tree, and there alone, colours that show that no spanning tree has pairwise different
+-- colours
 pub record IsRightRainbow (vertices n : ℕ) (ends : ℕ → ℕ × ℕ) (colours : ℕ) (colour : ℕ → ℕ) (w : List Weight) (rungs : List PricedRung)
     (cut : List ℕ) (missing : Option (List ℕ)) : Type 0 where
   pub ladder : IsRightLadder n (is_graphic n ends) (is_once n colours colour) w rungs cut
