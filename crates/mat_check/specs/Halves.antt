@@ -23,7 +23,7 @@ halves_of side rungs = map (half_of side) rungs
 abbrev pub half_at : List (List Weight) → ℕ → List Weight
 half_at halves k = slice_index_or halves k []
 
--- the listed halves are given by places where they stand; for each of the first halves the number of an equal one that is listed
+-- `listed` has places of halves; `own` has, for each of the first halves, the number of an entry of `listed` at whose place an equal half stands
 pub record AreListed (halves : List (List Weight)) (listed own : List ℕ) : Type 0 where
   pub inside : (j : ℕ) → j < length listed → slice_index_or listed j 0 < length halves
   pub own_inside : (k : ℕ) → k < length own → slice_index_or own k 0 < length listed

@@ -81,15 +81,16 @@ fn answer_failure<R: CheckWorkers>(
     }
 }
 
-/// Whether an answer that fits a problem is right, and if not, the first of its clauses that fails, with its places. The clauses are
-/// those of docs/FORMATS.md in the order told there: first the numbers of the header; then those of sizes, independence, weights, sums and trees;
-/// that nothing is heavier; and at last what a cut, a level, a class of vertices or a set of colours shows (Schrijver, chapters 40 to
-/// 42 and 51 to 53).
+/// Whether an answer that fits a problem is right, and if not, the first of its clauses that fails, with its places. The clauses and their
+/// order are those of docs/FORMATS.md, What is wrong with an answer: first come the numbers of the header, and last what a cut, a level, classes
+/// of vertices, a vertex set or a set of colours shows (Schrijver, chapters 40 to 42 and 51 to 53).
 ///
-/// Nothing is solved. For n elements there is a question of independence for the set of each rung, part or base, at most n more
-/// for each cut or last set, and one run of the greedy algorithm, of at most n questions, for each part of a split that isn't
-/// that of the rung before. The workers, from 1 to 16, share the runs and then the rungs of a ladder: all rungs are judged, each from its
-/// own data, and the first failure in their order is told. The only error is want of memory.
+/// Nothing is solved. For n elements there is one question of independence for each part, base, tree or set of a covering, and for the set of
+/// each rung one in each matroid; there are at most n more for each base and for the last set of one matroid, to which no element can be added,
+/// and for each rank that a cut, a level or a claim asks for; and there is one run of the greedy algorithm, of at most n questions, for the
+/// weights of one matroid, and for each part of a split that isn't that of the rung before. The workers, from 1 to 16, share the runs and then
+/// the rungs of a ladder: all rungs are judged, each from its own data, and the first failure in their order is told. The only error is want
+/// of memory.
 pub fn check<R: CheckWorkers>(
     rt: &R,
     alloc: Global,
@@ -97,7 +98,7 @@ pub fn check<R: CheckWorkers>(
     answer: &Answer,
     workers: u32,
 ) -> Result<Verdict, AllocError>
-    // Other threads may be handed a reference to who works, which is so of every runtime and of a worker that starts no thread.
+    // `rt` may be shared with other threads. This holds of every runtime, and of a worker that starts no thread.
     requires shared { R.shared rt.now }
     requires fits { fits (instance_of problem.now) (certificate_of answer.now) ≡ true }
     requires valid { IsValid (instance_of problem.now) }

@@ -39,7 +39,7 @@ pub enum Reason {
     Outside,
     /// Of a covering: element `a` stands in no set. Of classes: vertex `a` stands in none.
     Missed,
-    /// Of the answer that there are bases in every number: the rank isn't 0. Of the answer that an element is in no independent set: it is
+    /// Of the answer that any number of disjoint bases exists: the rank isn't 0. Of the answer that an element is in no independent set: it is
     /// independent alone.
     Claim,
     /// Of classes: class `a` is empty. Of vertices that too few arcs enter: there are none.
@@ -51,8 +51,8 @@ pub enum Reason {
     /// Of spanning trees: set `a` is none. Of an arborescence, for which `a` is 0, and of disjoint ones: set `a` is no spanning
     /// arborescence from the root.
     Tree,
-    /// Of a rainbow ladder that ends below a spanning tree: without the edges of these colours there are at most as many components as one
-    /// more than there are such colours.
+    /// Of a rainbow ladder that ends below a spanning tree: without the edges of the listed colours the number of components is at most the
+    /// number of these colours plus one.
     Colours,
 }
 

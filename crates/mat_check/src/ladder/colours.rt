@@ -43,8 +43,8 @@ fn component_count(
     Ok(roots.len())
 }
 
-/// The clause of missing colours, where it fails: without the edges of these colours there are no more components than one more than there
-/// are such colours (Schrijver, chapter 41). The time is nearly linear in the number of vertices and of edges. The only error is want of
+/// The clause of missing colours, where it fails: without the edges of these colours the number of components is at most the number of these
+/// colours plus one (Schrijver, chapter 41). The time is nearly linear in the number of vertices and of edges. The only error is want of
 /// memory.
 pub(crate) fn colours_failure(
     alloc: Global,
