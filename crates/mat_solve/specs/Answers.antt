@@ -15,11 +15,11 @@ use Rattle.mat_solve.specs.declared.query.Query.{Query}
 abbrev pub IsBoundedSplit : ℕ → List Weight → List Weight → Type 0
 IsBoundedSplit n first second = AreWeightsWithin (split_bound n) first × AreWeightsWithin (split_bound n) second
 
--- those of each rung are
+-- so are those of the split of each rung
 abbrev pub HaveBoundedSplits : ℕ → List PricedRung → Type 0
 HaveBoundedSplits n rungs = (k : ℕ) (rung : PricedRung) → slice_get rungs k ≡ Some rung → IsBoundedSplit n rung.first rung.second
 
--- and those of an answer are
+-- so are those of each split of an answer
 abbrev pub HasBoundedSplits : Certificate → Type 0
 HasBoundedSplits (certificates.intersect n rungs cut) = HaveBoundedSplits n rungs
 HasBoundedSplits (certificates.arbor n cost arcs first second) = IsBoundedSplit n first second

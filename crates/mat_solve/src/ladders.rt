@@ -126,8 +126,8 @@ pub(crate) fn intersect<R: SolveWorkers>(
     })
 }
 
-/// A heaviest forest with pairwise different colours for each size. The workers are handed on, and none is needed. The only error is want of
-/// memory.
+/// A heaviest forest for each size, of edges with pairwise different colours. No thread is started, whatever the number of workers. The only
+/// error is want of memory.
 pub(crate) fn rainbow(alloc: Global, problem: &Problem, workers: u32) -> Result<Answer, AllocError>
     requires valid { IsValid (instance_of problem.now) }
     requires form { is_coloured (instance_of problem.now) ≡ true }
@@ -166,7 +166,7 @@ pub(crate) fn rainbow(alloc: Global, problem: &Problem, workers: u32) -> Result<
     })
 }
 
-/// A heaviest assignment in a table for each size. The workers are handed on, and none is needed. The only error is want of memory.
+/// A heaviest assignment in a table for each size. No thread is started, whatever the number of workers. The only error is want of memory.
 pub(crate) fn assign(alloc: Global, problem: &Problem, workers: u32) -> Result<Answer, AllocError>
     requires valid { IsValid (instance_of problem.now) }
     requires form { is_table (instance_of problem.now) ≡ true }

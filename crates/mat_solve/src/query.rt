@@ -9,17 +9,17 @@ pub enum Query {
     Intersect,
     /// Disjoint sets, one for each matroid of a list and independent in it, that hold the most elements and then weigh the most.
     Union,
-    /// As many disjoint bases of one matroid as there are.
+    /// The largest number of disjoint bases of one matroid.
     Pack,
-    /// As few independent sets of one matroid that cover its elements as there are.
+    /// The smallest number of independent sets of one matroid that cover its elements.
     Cover,
-    /// So many disjoint spanning trees of a graph.
+    /// This number of disjoint spanning trees of a graph, from 1 to 64.
     Trees(u32),
     /// A cheapest spanning arborescence of a directed graph.
     Arborescence,
-    /// So many disjoint spanning arborescences of a directed graph.
+    /// This number of disjoint spanning arborescences of a directed graph, from 1 to 64.
     Disjoint(u32),
-    /// A heaviest forest with pairwise different colours for each size.
+    /// A heaviest forest for each size, of edges with pairwise different colours.
     Rainbow,
     /// A heaviest assignment in a table for each size.
     Assign,

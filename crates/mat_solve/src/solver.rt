@@ -16,7 +16,7 @@ use mat_cert::Answer;
 use mat_problem::Problem;
 use std::alloc::{AllocError, Global};
 
-/// A right answer to the query about a problem of its form, found by so many workers. The only error is want of memory.
+/// A right answer to the query about a problem of its form, found by at most `workers` workers, from 1 to 16. The only error is want of memory.
 pub fn solve<R: SolveWorkers>(
     rt: &R,
     alloc: Global,
@@ -24,7 +24,7 @@ pub fn solve<R: SolveWorkers>(
     query: Query,
     workers: u32,
 ) -> Result<Answer, AllocError>
-    // Other threads may be handed a reference to who works, which is so of every runtime and of a worker that starts no thread.
+    // `rt` may be shared with other threads. This holds of every runtime, and of a worker that starts no thread.
     requires shared { R.shared rt.now }
     requires valid { IsValid (instance_of problem.now) }
     requires sound { IsSoundInstance (instance_of problem.now) }

@@ -46,8 +46,8 @@ pub(crate) fn trees(alloc: Global, problem: &Problem, k: u32) -> Result<Answer, 
     }
 }
 
-/// A cheapest spanning arborescence with its cost, or the vertices that the root does not reach. The workers are handed on, and none is
-/// needed. The only error is want of memory.
+/// A cheapest spanning arborescence with its cost, or the vertices that the root does not reach. No thread is started, whatever the number of
+/// workers. The only error is want of memory.
 pub(crate) fn arborescence(
     alloc: Global,
     problem: &Problem,
