@@ -107,7 +107,7 @@ pub fn sample_text<R: SolveWorkers + CheckWorkers>(
     seed: u64,
     workers: u32,
 ) -> Result<Vec<u8>, AllocError>
-    // Other threads may be handed a reference to who works, which is so of every runtime and of a worker that starts no thread.
+    // `rt` may be shared with other threads. This holds of every runtime, and of a worker that starts no thread.
     requires shared { R.shared rt.now }
     requires some { 1 ≤ size }
     requires few { size ≤ most_elements }
