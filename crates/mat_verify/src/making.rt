@@ -78,7 +78,7 @@ pub fn witness_text<R: CheckWorkers, F: Shelf>(
     problem: &Problem,
     k: u32,
 ) -> Result<Vec<u8>, Refusal>
-    // Other threads may be handed a reference to who works, which is so of every runtime and of a worker that starts no thread.
+    // `rt` may be shared with other threads. This holds of every runtime, and of a worker that starts no thread.
     requires shared { R.shared rt.now }
     requires valid { IsValid (instance_of problem.now) }
     requires sound { IsSoundInstance (instance_of problem.now) }

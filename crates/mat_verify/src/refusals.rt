@@ -14,7 +14,7 @@ use thiserror::Error;
 /// Why a file has no answer of which a rung can be witnessed.
 #[derive(Clone, Copy, Debug, Error)]
 pub enum NoRung {
-    /// It is no certificate, or memory ran out.
+    /// It was not read, is no certificate, or memory ran out.
     #[error("{0}")]
     Uncertified(Uncertified),
     /// The form of the problem is not that of the answer, or the answer has no such rung.

@@ -32,8 +32,8 @@ fn witnessable(problem: &Problem, answer: &Answer, k: u32) -> Result<(), NoRung>
 }
 
 /// The answer in the certificate of this name, which fits the problem and has rung k, over matroids of witnessed kinds. `Uncertified` comes
-/// where the file is no certificate or memory ran out, `WrongShape` where the answer is to another form of problem or has no such rung, and
-/// `Unwitnessed` where a matroid is of another kind.
+/// where the file was not read, is no certificate, or memory ran out, `WrongShape` where the answer is to another form of problem or has no
+/// such rung, and `Unwitnessed` where a matroid is of another kind.
 pub(crate) fn rung_answer_in<F: Shelf>(
     alloc: Global,
     files: &mut F,
