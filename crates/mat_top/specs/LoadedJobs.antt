@@ -81,7 +81,8 @@ AreUnloaded held before now [] why = why ≡ unloaded.Undescribed (undescribed.U
 AreUnloaded held before now (job ∷ jobs) why =
     IsUnloaded held job before now why ⊎ (MayBeSolved held job × AreUnloaded held before now jobs why)
 
--- the first of the jobs have these problems: what is so of the jobs that are left is so of all of them
+-- the jobs before those that are left are loaded: where the jobs that are left are loaded behind them, all jobs are, and why those that are left
+-- can't be loaded is why all can't
 pub record IsLoading (held : List ℕ → Option (List ℕ)) (jobs left : List Job) (loaded : List LoadedJob) : Type 0 where
   pub answerable : All IsAnswerable loaded
   pub all_loaded : (others : List LoadedJob) → AreLoaded held left others → AreLoaded held jobs (loaded ++ others)

@@ -19,7 +19,7 @@ use std::alloc::{AllocError, Global};
 
 /// Why a job has no problem of its query's form.
 pub(crate) enum Unloaded {
-    /// Its file describes none, or memory ran out.
+    /// Its file was not read or describes none, or memory ran out.
     Undescribed(Undescribed),
     /// The problem has another form.
     WrongShape,

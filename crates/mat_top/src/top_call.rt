@@ -80,8 +80,8 @@ fn perform<R: TopWorkers, F: Shelf, O: Sink>(
 }
 
 /// Does what the words ask for: reads its files from the shelf, writes the answer to `out` and, where it is refused, a note to
-/// `notes`, and answers how it ended. The words are those after the program's name. Up to as many workers as they name, from 1 to 16 and
-/// 1 where they name none, compute the rows of tables or answer the jobs of a list side by side; what is right doesn't depend on how many.
+/// `notes`, and returns how it ended. The words are those after the program's name. At most as many workers as they name, from 1 to 16 and
+/// 1 where they name none, share the work on an answer or the jobs of a list; what is right doesn't depend on how many.
 /// Threads are started by `rt` where it is a runtime, and each has ended when the call returns; [`OneWorker`](crate::OneWorker) starts none.
 ///
 /// Usage comes exactly where the words are no command, ReadFault only where the shelf's count of faults rose for a file of the call, and
@@ -96,7 +96,7 @@ pub fn run<R: TopWorkers, F: Shelf, O: Sink, N: Sink>(
     out: &mut O,
     notes: &mut N,
 ) -> Status
-    // Other threads may be handed a reference to who works, which is so of every runtime and of a worker that starts no thread.
+    // `rt` may be shared with other threads. This holds of every runtime, and of a worker that starts no thread.
     requires shared { R.shared rt.now }
 
     // What the shelf holds is unchanged, and no count falls.
