@@ -10,7 +10,7 @@ use Rattle.mat_judge.specs.Described.{IsNamed}
 use Rattle.mat_judge.specs.declared.status.Status.{Status}
 use Rattle.mat_judge.specs.declared.status.Status.TheVariants as statuses
 
--- what a text is for a problem with its names and for an answer
+-- what is proved of a text about a problem with its names and an answer
 abbrev pub Saying : Type 1
 Saying = NamedInstance → Certificate → List ℕ → Type 0
 
@@ -18,14 +18,14 @@ Saying = NamedInstance → Certificate → List ℕ → Type 0
 abbrev pub check_of : List ℕ → List ℕ → Task
 check_of description certificate = about description (check certificate)
 
--- the text is this for a right answer to the problem: for that of the certificate, where it is told
+-- `says` holds of the text for a right answer to the problem: for that of the certificate, where it is told
 pub record IsAnswerReport (says : Saying) (held : Option (List ℕ)) (problem : NamedInstance) (text : List ℕ) : Type 0 where
   pub answer : Certificate
   pub answered : IfSome held (λ bytes. IsRightAnswer problem.instance bytes answer)
   pub right : IsRight problem.instance answer
   pub said : says problem answer text
 
--- the text is this for a problem with its names, and for a right answer to it: for those of the files, where they are told
+-- `says` holds of the text for a problem with its names, and for a right answer to it: for those of the files, where they are told
 pub record IsReport (says : Saying) (held : List ℕ → Option (List ℕ)) (description certificate text : List ℕ) : Type 0 where
   pub problem : NamedInstance
   pub named : IfSome (held description) (λ bytes. IsNamed bytes problem)

@@ -10,9 +10,9 @@ use mat_cert::Answer;
 use mat_problem::Named;
 use std::alloc::{AllocError, Global};
 
-/// A way to write of right answers.
+/// A way to write texts about right answers.
 pub trait AnswerText {
-    /// What the text is for the problem with its names and for its answer.
+    /// What is proved of the text that is written about a problem with its names and an answer to it.
     ghost says: { NamedInstance → Certificate → List ℕ → Type 0 };
 
     /// The text of a right answer. The only error is want of memory.

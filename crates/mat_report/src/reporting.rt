@@ -106,7 +106,7 @@ pub fn report<T: AnswerText, R: CheckWorkers, F: Shelf, O: Sink, N: Sink>(
     out: &mut O,
     notes: &mut N,
 ) -> Status
-    // Other threads may be handed a reference to who works, which is so of every runtime and of a worker that starts no thread.
+    // `rt` may be shared with other threads. This holds of every runtime, and of a worker that starts no thread.
     requires shared { R.shared rt.now }
 
     // What the shelf holds is unchanged, and no count falls.
@@ -114,7 +114,7 @@ pub fn report<T: AnswerText, R: CheckWorkers, F: Shelf, O: Sink, N: Sink>(
     ensures grows { (name : List ℕ) → F.faults files.old name ≤ F.faults files.new name }
     ensures out_grows { O.faults out.old ≤ O.faults out.new }
 
-    // The two names are always a call.
+    // Two names are always a command.
     ensures usage { result ≢ Status.Usage }
 
     // Faults have a cause: a count that rose.
