@@ -59,7 +59,7 @@ pub fn call<R: TopWorkers>(
     room: usize,
     note_room: usize,
 ) -> Result<Called, AllocError>
-    // Other threads may be handed a reference to who works, which is so of every runtime and of a worker that starts no thread.
+    // `rt` may be shared with other threads. This holds of every runtime, and of a worker that starts no thread.
     requires shared { R.shared rt.now }
     requires different { HaveDifferentNames files.items }
     ensures bounds { IfOk result (λ c. (length c.output.items ≤ room) × (length c.note.items ≤ note_room)) }
