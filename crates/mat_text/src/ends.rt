@@ -93,7 +93,8 @@ pub fn tell_none(text: &mut Text) -> Result<(), AllocError>
     text.say("Why not:")
 }
 
-/// Tells how many sets there are, and how many edges each has. The only error is want of memory.
+/// Tells how many sets there are, and that each has one edge or arc fewer than there are vertices. `noun` is the word for a set, and `each` the
+/// word for an edge or an arc. The only error is want of memory.
 pub fn tell_found(
     text: &mut Text,
     count: usize,
