@@ -92,7 +92,7 @@ pub fn values_at(
     Ok(values)
 }
 
-// How many values are better than which, from the best value on: values that are the same make one step.
+// For each different one of the values, which are sorted with the best first: how many values are better than it.
 fn steps(alloc: Global, bounded: &Bounded<'_>, values: &[Weight]) -> Result<String, AllocError> {
     let side = bounded.aim.side();
     let mut words = String::new(alloc);
@@ -121,7 +121,8 @@ fn terms(alloc: Global, values: &[Weight], sum: Weight) -> Result<String, AllocE
     Ok(words)
 }
 
-/// Tells that things come to no better sum than these values, in any order, which have this sum. The only error is want of memory.
+/// Tells that the things that are bounded come to no better sum than `sum`, which is the sum of these values, in any order. Of more than [`FEW`]
+/// values only the sum is told. The only error is want of memory.
 pub fn tell_bound(
     text: &mut Text,
     bounded: &Bounded<'_>,

@@ -73,8 +73,8 @@ fn tell_reasons<T: Things>(
     Ok(())
 }
 
-/// Tells the heaviest set of a ladder and the largest, the greatest weight of each size, and why there is none greater. The only error is
-/// want of memory.
+/// Tells the heaviest set of a ladder and the largest, the greatest weight of each size, and of both sets why none of their size weighs more
+/// (Frank 1981). The only error is want of memory.
 pub fn tell_ladder<T: Things>(
     text: &mut Text,
     called: &Called<'_>,

@@ -104,7 +104,8 @@ fn tell_divisions(
     Ok(())
 }
 
-// Tells that all of each weight is for the rule of this number, but of those elements that have a share in the list of the other rule.
+// Tells that the rule of this number has the whole weight of each element, except of those elements that have a share in `other`, the list of the
+// other rule; and tells both shares of the first few of these.
 fn tell_divided(
     text: &mut Text,
     called: &Called<'_>,
@@ -130,7 +131,7 @@ fn tell_divided(
     ))
 }
 
-// Tells which elements have a share of both rules.
+// Tells how the weights are split, by the elements that have a share for one of the rules: the rule for which these are fewer.
 fn tell_split(
     text: &mut Text,
     called: &Called<'_>,
@@ -146,7 +147,8 @@ fn tell_split(
     }
 }
 
-// Tells that the rule of this number allows no better sum of these weights, of which a thing has so much.
+// Tells that as many things as the claim has come to no better sum of these weights than `sum`, where the rule of this number allows them. `has`
+// is the verb for what one thing has of the weights.
 fn tell_rule(
     text: &mut Text,
     rule: u32,
