@@ -201,7 +201,8 @@ pub(crate) fn tell_disjoint(
     ))
 }
 
-/// Tells that so many sets of arcs are not there, since too few arcs enter these vertices. The only error is want of memory.
+/// Tells that there are not so many disjoint sets of arcs along each of which the root reaches all vertices, since too few arcs enter these
+/// vertices (Edmonds 1973; Schrijver, chapter 53). The only error is want of memory.
 pub(crate) fn tell_not_disjoint(
     text: &mut Text,
     network: &Network<'_>,

@@ -88,7 +88,9 @@ fn tell_largest(
     }
 }
 
-/// Tells the heaviest sets of each size of cells, no two in one row or in one column. The only error is want of memory.
+/// Tells for each size a heaviest set of cells of which no two share a row or a column. Where the largest set leaves cells out, rows and columns
+/// show that none is larger: they hold all cells, and are as many as that set has cells (König; Schrijver, chapter 16). The only error is want of
+/// memory.
 pub(crate) fn tell_assignment(
     text: &mut Text,
     table: &Table<'_>,

@@ -81,7 +81,8 @@ fn tell_missing(
     ))
 }
 
-/// Tells that so many spanning trees are not there, since too few edges join these classes of vertices. The only error is want of memory.
+/// Tells that there are not so many disjoint spanning trees, since too few edges join these classes of vertices (Tutte; Nash-Williams; Schrijver,
+/// chapter 51). The only error is want of memory.
 pub(crate) fn tell_no_trees(
     text: &mut Text,
     ends: &Ends<'_>,

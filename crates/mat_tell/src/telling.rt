@@ -18,7 +18,7 @@ use mat_problem::{Named, Problem};
 use mat_text::{Called, Ends, Text};
 use std::alloc::{AllocError, Global};
 
-// The most bytes of a line, where a word has room in it.
+// The most bytes of a line, except where its first word and the spaces in front of it have more.
 const LINE: usize = 96;
 
 // Tells a right answer to a problem whose edges or cells have weights: a graph with colours, or a table.
@@ -166,8 +166,8 @@ pub fn told_text(alloc: Global, named: &Named, answer: &Answer) -> Result<Text, 
     Ok(text)
 }
 
-/// A right answer to a problem in words, paragraph by paragraph as [`told_text`] has them. Its lines have at most 96 bytes, but for a first
-/// word that is longer. The only error is want of memory.
+/// A right answer to a problem in words, paragraph by paragraph as [`told_text`] has them. A line has at most 96 bytes, except where its first
+/// word and the spaces in front of it have more. The only error is want of memory.
 pub fn told(alloc: Global, named: &Named, answer: &Answer) -> Result<Vec<u8>, AllocError>
     requires valid { IsValid (instance_of named.now.problem) }
     requires sound { IsSoundInstance (instance_of named.now.problem) }
