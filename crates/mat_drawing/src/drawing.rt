@@ -205,8 +205,8 @@ impl Drawing {
         self.add(&definitions)
     }
 
-    /// Adds the arrow head of this number, which is 12 units wide and 10 high: a path of one colour, with its point before the middle of
-    /// its right side. The only error is want of memory.
+    /// Adds the arrow head of this number, which is 12 units wide and 10 high: a path of one colour. Its right side stands 6 units before the end
+    /// of the line that it is put on. The only error is want of memory.
     pub fn arrow_head(&mut self, number: usize, data: &str, fill: Colour) -> Result<(), AllocError>
         ensures { OnOk result (AddsMarkup self.old.markup self.new.markup) }
     {
