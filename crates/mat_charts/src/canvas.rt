@@ -8,7 +8,7 @@ use mat_text::Text;
 use std::alloc::{AllocError, Global};
 use std::str;
 
-/// The most bytes of a line of words, where a word has room in it.
+/// The most bytes of a line of words, except where its first word and the spaces in front of it have more.
 pub const LINE: usize = 72;
 
 /// How far all that is drawn is from the edges.
@@ -19,7 +19,7 @@ pub const MARGIN: Units = Units(20);
 pub struct Canvas {
     // What is drawn so far.
     drawing: Drawing,
-    // How wide the widest part is.
+    // How wide the drawing is, without the margins.
     width: Units,
     // Where the next part begins.
     top: Units,
@@ -62,7 +62,7 @@ impl Canvas {
         &self.drawing
     }
 
-    /// How wide the widest part is, without the margins.
+    /// How wide the drawing is, without the margins: as wide as it was at first, or as its widest part or line of notes.
     pub fn width(&self) -> Units
         ensures { result ≡ self.now.width }
     {

@@ -42,7 +42,8 @@ pub(crate) fn weight_at(weights: &[Weight], e: u32) -> Weight {
 // The distances of numbers on a scale.
 const STEPS: [usize; 8] = [1, 2, 5, 10, 20, 50, 100, 200];
 
-/// Of 1, 2, 5, 10, 20, 50, 100 and 200 the first number so many columns of which are as wide as is needed, and otherwise 500.
+/// The first of the numbers 1, 2, 5, 10, 20, 50, 100 and 200 for which that many columns together are as wide as is needed, and 500 where none is
+/// enough.
 pub(crate) fn step(column: Units, needed: i64) -> usize
     ensures { 0 < result }
 {
