@@ -12,7 +12,8 @@ use std::alloc::{AllocError, Global};
 /// The most vertices whose names stand upright.
 pub(crate) const FEW: usize = 24;
 
-/// How an edge between two vertices runs: from the vertex of the lower place by a point that draws it to the other vertex.
+/// How an edge between two vertices runs: along the quadratic Bézier curve from the vertex of the lower place to the other one, with the control
+/// point `by`.
 #[derive(Clone, Copy)]
 pub(crate) struct Bend {
     from: Point,
@@ -21,14 +22,15 @@ pub(crate) struct Bend {
 }
 
 impl Bend {
-    // The number so many parts of all the way along, of the numbers at the two ends and at the point that draws the edge.
+    // A coordinate of the point of the curve at the parameter `part` / `parts`, rounded down, from the same coordinate of the two ends and of the
+    // control point.
     fn mix(from: Units, by: Units, to: Units, part: Units, parts: Units) -> Units {
         let rest = parts - part;
         let sum = rest * rest * from + part * rest * 2 * by + part * part * to;
         sum.over(parts * parts)
     }
 
-    /// The point so many parts of all the way along.
+    /// The point of the curve at the parameter `part` / `parts`.
     pub(crate) fn along(&self, part: Units, parts: Units) -> Point {
         Point {
             x: Bend::mix(self.from.x, self.by.x, self.to.x, part, parts),
@@ -207,7 +209,8 @@ impl<'a> Layout<'a> {
         self.outside(v, far)
     }
 
-    /// Where the far side of a loop is, by its place among the loops of its vertex, and how wide it is.
+    /// The point of a loop that is farthest from its vertex, and the radius of the loop. Both depend on the place of the loop among those of the
+    /// vertex.
     pub(crate) fn loop_end(&self, strand: &Strand) -> (Point, Units) {
         let radius = Units::of(strand.place) * 3 + 10;
         (self.outside(strand.tail, radius * 2), radius)

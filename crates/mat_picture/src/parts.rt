@@ -6,7 +6,7 @@ use mat_sets::{ElemSet, Weight};
 use mat_text::{Called, Noun, Text, many, outside};
 use std::alloc::{AllocError, Global};
 
-// The set where it is shaded: it is not where it has all of so many elements.
+// The elements that are shaded: those of the set, but none where there is no set or it has all of the `count` elements.
 fn shaded(alloc: Global, set: Option<&ElemSet>, count: usize) -> Result<ElemSet, AllocError> {
     match set {
         Some(set) if set.len() < count => set.copy(alloc),
@@ -72,8 +72,8 @@ fn add_reason(notes: &mut Text, told: &Text) -> Result<(), AllocError> {
     Ok(())
 }
 
-/// Draws sets of so many elements, with a cut that shows that there are not more or fewer of them and with the told reason. The only error
-/// is want of memory.
+/// Draws disjoint bases, or sets that cover all elements, of a matroid on `count` elements. A cut is shaded that shows that there are no more
+/// bases, or that no fewer sets cover them, and the told reason stands beneath. The only error is want of memory.
 pub(crate) fn draw_sets(
     canvas: &mut Canvas,
     called: &Called<'_>,

@@ -89,8 +89,9 @@ fn notes(
     Ok(notes)
 }
 
-/// How a best set of edges of different colours is drawn: along it from the first vertex on, or where it joins too little by the groups that
-/// are left without some colours. The only error is want of memory.
+/// How a best set of edges of different colours is drawn. The vertices stand along the set from vertex 0 on. But where `missing` has colours,
+/// which show that no such set joins all vertices, they stand by the groups `left` that are left without the edges of these colours. The only
+/// error is want of memory.
 pub(crate) fn arranged_rainbow(
     alloc: Global,
     graph: &Graph<'_>,

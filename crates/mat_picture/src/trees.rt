@@ -12,8 +12,8 @@ use mat_sets::ElemSet;
 use mat_text::{Noun, Text, many};
 use std::alloc::{AllocError, Global};
 
-/// How sets of edges are drawn, each of which joins all vertices: along the first of them from a vertex on, which may be marked. The only
-/// error is want of memory.
+/// How sets of edges are drawn, each of which joins all vertices: the vertices stand along the first set, from the vertex `from` on, and the
+/// vertex `marked` is filled, if there is one. The only error is want of memory.
 pub(crate) fn arranged_trees(
     alloc: Global,
     graph: &Graph<'_>,

@@ -1,4 +1,4 @@
-//! Orders of vertices along a forest, in which it is drawn without crossings.
+//! Orders of vertices along a forest. On a circle in such an order, the tree of the first vertex is drawn without crossings.
 
 use mat_sets::{ElemSet, Pairs};
 use std::alloc::{AllocError, Global};
@@ -27,8 +27,8 @@ fn next_along(edges: &Pairs, forest: &ElemSet, listed: &ElemSet, v: u32) -> Opti
     None
 }
 
-// The vertices that the forest joins to this one: it first, and then again and again the end of the first edge that leads from the vertex
-// that was listed last of those from which an edge leads on.
+// The vertices that the forest joins to `from`, in the order in which a depth-first search from there finds them (Schrijver, chapter 6). Of the
+// edges that lead on from a vertex the search takes the one with the least number first.
 fn joined(
     alloc: Global,
     vertices: u32,
