@@ -83,8 +83,8 @@ fn told_exchanges(
     format!(in alloc; "{x} {addable} {with} {same}")
 }
 
-// The exchanges of an element outside an independent set, by what is kept of it, and whether those that are asked for by themselves, what is
-// answered of adding alone, and the members of its circuit are the same.
+// The row of an element outside an independent set, from what is kept of the set, and whether `circuit`, `adds` and `circuit_members` answer the
+// same of the element.
 fn told_row<M: Matroid>(
     alloc: Global,
     m: &M,
@@ -273,7 +273,7 @@ fn told_linking(alloc: Global) -> Result<String, AllocError> {
     format!(in alloc; "linking {paths} {separator}\n")
 }
 
-// The least vertex that each of six vertices reaches along three edges that join four of them.
+// The least vertex that each of six vertices reaches along three edges: one between 1 and 2, one between 0 and 3, and a loop at 4.
 fn told_components(alloc: Global) -> Result<String, AllocError> {
     let edges = vec![in alloc; (0, 1), (1, 2), (2, 3), (3, 0), (4, 4), (0, 2), (4, 5)]?;
     let graph = Graphic::new(alloc, 6, Pairs::new(edges))?;
