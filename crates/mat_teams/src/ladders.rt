@@ -16,7 +16,8 @@ use mat_split::{Ladder, intersect_all};
 use std::alloc::{AllocError, Global};
 use std::thread::Threads;
 
-/// A heaviest team of each size, but not the circuit, which went last. The only error is want of memory.
+/// A heaviest team of each size among those that may go: teams of at most as many people as the circuit, other than the circuit itself, which
+/// went last. The only error is want of memory.
 pub(crate) fn best_teams(
     alloc: Global,
     last: &UniformExcept,
