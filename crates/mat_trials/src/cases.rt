@@ -4,7 +4,7 @@
 //! of the file `f`, those below a line that is `--` alone the text of the file `c`, and those below another such line the text of the file
 //! `w`; where there are three texts and the command is `batch`, the second is that of the file `l` and the third that of the file `g`. A last
 //! line of a text that is `<` alone is no part of it, and says that the line above it has no end. Where a second `>` stands behind the first,
-//! what is written is told with all that one right answer has.
+//! only one answer is right, but for its lines `first`, `second` and `cut`, and all its other lines are told.
 
 use std::alloc::{AllocError, Global};
 

@@ -351,8 +351,8 @@ fn add_case<R: Threads + Sync>(
     add_rest(rt, alloc, report, words, texts, ended.out.taken())
 }
 
-// What is told of a case: of its words, how many calls of the shelf and bytes of the output there are and whether each fault is told, and
-// whether each part of its texts and each byte behind them are.
+// What is told of a case: its words; how many calls of the shelf there are, how many bytes of the output, and whether each fault of these is
+// told; and whether each text is refused that ends early or that has a byte behind its end.
 fn told_case<R: Threads + Sync>(rt: &R, alloc: Global, case: &Case) -> Result<Vec<u8>, AllocError> {
     let mut report = heading_of(alloc, &case.words)?;
     let texts = texts_of(alloc, case)?;

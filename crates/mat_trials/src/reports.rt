@@ -76,7 +76,7 @@ fn told_line(line: &[u8]) -> &[u8] {
     }
 }
 
-// Whether right answers may have different lines here even where there is one set that is right: the halves of the weights, and cuts.
+// Whether right answers may differ in this line even where only one set is right: the line has a part of the split weights, or a cut.
 fn is_open(line: &[u8]) -> bool {
     line.starts_with(b"first") || line.starts_with(b"second") || line.starts_with(b"cut")
 }
