@@ -1,5 +1,6 @@
-//! The program `mat_reports`, a test: it tells the answers of the file `told.txt` and some more, judges one by a line, draws those of the file
-//! `drawn.txt`, and prints each behind its name, with the status and the note where it is refused. What it has to print was worked out without it.
+//! The program `mat_reports`, a test: it tells the answers of the file `told.txt`, reports over objects that fail and over files that are too
+//! long, solves a pair and judges its answer by calls whose words stand in one line, and draws the answers of the file `drawn.txt`. It prints
+//! what came of each behind its name, with the status and the note where it was refused. What it has to print was worked out without it.
 //!
 //! A line of the files that begins with `> ` begins a case, and names it. The lines below it are the text of the description, and those below a
 //! line that is `--` alone the text of the certificate; where there is no such line, there is no file of the certificate. A last line of a text
