@@ -34,4 +34,5 @@ pub mod Crossings
 pub mod OneToOne
 pub mod Rows
 pub mod Counting
+pub mod Values
 pub mod EachItem

@@ -1,6 +1,7 @@
 -- Tests that look through finitely many numbers, lists or subsets: where the test holds there is one that passes, and
 -- where it fails none does. The set of the numbers below n that pass.
 use Rattle.std.proofs.Common.{Bool, List, None, Option, Some, [], ap, arith, eqb, false, inl, inr, length, ltb, refl, subst, suc, sym, true, zero, ℕ, ◌&&◌, ◌+◌, ◌||◌, ◌<◌, ◌∙◌, ◌∷◌, ◌≡◌, ◌≤◌}
+use Rattle.std.proofs.Math.Numerals.{add-one}
 use Rattle.std.proofs.lemmas.Bool.{and_from, and_parts, and_right, both_ways, cases_eq, cases_lt, false_from_ne_true, false≢true, le-ltb, lt-ltb, ltb-true, ne_eqb, or_cases, or_left, or_right}
 use Rattle.std.proofs.lemmas.Bool.Decides.{nat_tests}
 use Rattle.mat_sets.specs.Search.{IsNextFrom, some_below, some_list, some_subset, those_below}
@@ -31,6 +32,11 @@ some_below_none n x test h l = false_from_ne_true (test x) (λ p. both_ways _ h 
 pub some_below-zero : (test : ℕ → Bool) → some_below 0 test ≡ false
 unfolding some_below
 some_below-zero test = refl
+
+-- one number more
+pub some_below-more : (n : ℕ) (test : ℕ → Bool) → some_below (n + 1) test ≡ (test n || some_below n test)
+unfolding some_below
+some_below-more n test = rw (add-one n) refl
 
 one_more : (n : ℕ) (test : ℕ → Bool) → test n ≡ false → some_below n test ≡ false → some_below (suc n) test ≡ false
 unfolding some_below

@@ -1,24 +1,19 @@
 -- Steps of the loops that read rows and parts.
 use Rattle.std.proofs.Common.{◌≡◌, ℕ, ◌+◌, ◌<◌, ◌≤◌, Bool, true, false, ◌||◌, eqb, List, [], ◌∷◌, ◌++◌, length, get_or, take, refl, sym, ap, ◌∙◌, inl, inr, arith, length-append}
-use Rattle.std.proofs.Math.Numerals.{add-one}
 use Rattle.std.proofs.lemmas.Bool.{cases_eq, both_ways, false_from_ne_true}
 use Rattle.std.proofs.lemmas.List.{get_or_default, get_or_append_left}
 use Rattle.std.proofs.Math.Seq.{get_or-append_seam}
 use Rattle.mat_sets.specs.Families.{family_union}
-use Rattle.mat_sets.specs.Search.{some_below}
 use Rattle.mat_sets.specs.Sets.{is_member, with_one}
 use Rattle.mat_sets.proofs.Families.{family_union-gives, family_union-from}
 use Rattle.mat_sets.proofs.Members.{is_member-with_one}
+use Rattle.mat_sets.proofs.Search.{some_below-more}
 use Rattle.mat_sets.proofs.Steps.{is_member-take_more}
 use Rattle.mat_laws.specs.declared.exchange.Exchange.{Exchange}
 use Rattle.mat_laws.specs.TightPaths.{row_in}
 use Rattle.mat_union.specs.Unions.{part_at}
 use Rattle.mat_union.specs.Moves.{can_push, exchanges_of}
 use Rattle.mat_union.specs.MoveGraphs.{IsPushTable}
-
-some_below-more : (i : ℕ) (test : ℕ → Bool) → some_below (i + 1) test ≡ (test i || some_below i test)
-unfolding some_below
-some_below-more i test = rw (add-one i) refl
 
 pub adds_at : (rows : List (List Exchange)) (row : List Exchange) (x : Exchange) (i u : ℕ) (b : Bool) → row ≡ get_or rows i row → i < length rows → x ≡ row_in row u → x.addable ≡ b
     → (exchanges_of rows i).adds u ≡ b
