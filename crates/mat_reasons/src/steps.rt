@@ -55,7 +55,9 @@ pub(crate) fn priced_steps<'a>(
     rungs: &'a [PricedRung],
 ) -> Result<Vec<Step<'a>>, AllocError>
     requires { All HasSummableShares rungs.now }
-    ensures { IfOk result (λ steps. length steps.items ≡ length rungs.now) }
+    ensures long { IfOk result (λ steps. length steps.items ≡ length rungs.now) }
+    ensures weights { IfOk result (λ steps. map (λ s. s.weight) steps.items ≡ map (λ r. r.weight) rungs.now) }
+    ensures sets { IfOk result (λ steps. map (λ s. s.set.now) steps.items ≡ map (λ r. r.set) rungs.now) }
 {
     let mut steps = Vec::new(alloc);
     for k in 0..rungs.len() {

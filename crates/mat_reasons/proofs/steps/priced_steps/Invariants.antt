@@ -1,6 +1,8 @@
--- There is a step for each rung so far.
-use Rattle.std.proofs.Common.{◌≡◌, length}
+-- Each rung so far has its step.
+use Rattle.std.proofs.Common.{◌≡◌, length, map, take}
 use Rattle.mat_reasons.proofs.steps.priced_steps.Given as goal
 
 abbrev pub invariant-loop-k : goal.invariant-loop-k
-invariant-loop-k l = length l.steps.items ≡ l.k
+invariant-loop-k l = (length l.steps.items ≡ l.k)
+    × (map (λ s. s.weight) l.steps.items ≡ map (λ r. r.weight) (take l.k l.rungs))
+    × (map (λ s. s.set.now) l.steps.items ≡ map (λ r. r.set) (take l.k l.rungs))
